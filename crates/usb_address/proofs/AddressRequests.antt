@@ -1,6 +1,10 @@
 -- Which requests ask a device to take an address.
-use Rattle.std.proofs.Common.{◌≡◌, ℕ, ◌/◌, ◌%◌, ◌==◌, ◌&&◌, not, nat_le, if◌then◌else◌, Bool, true, false, List, [], ◌∷◌, Option, None, Some, slice_get, refl}
-use Rattle.usb_request.specs.Codes.{DEVICE, CONFIGURATION, STRING, HUB, GET_STATUS, CLEAR_FEATURE, SET_FEATURE, SET_ADDRESS, GET_DESCRIPTOR, GET_CONFIGURATION, SET_CONFIGURATION, DEVICE_IN, DEVICE_OUT, ENDPOINT_OUT, HUB_IN, PORT_IN, PORT_OUT}
+use Rattle.std.proofs.Common.{◌≡◌, ℕ, ◌/◌, ◌%◌, ◌==◌, ◌&&◌, not, nat_le, if◌then◌else◌, Bool, true}
+use Rattle.std.proofs.Common.{false, List, [], ◌∷◌, Option, None, Some, slice_get, refl}
+use Rattle.usb_request.specs.Codes.{DEVICE, CONFIGURATION, STRING, HUB, GET_STATUS, CLEAR_FEATURE}
+use Rattle.usb_request.specs.Codes.{SET_FEATURE, SET_ADDRESS, GET_DESCRIPTOR, GET_CONFIGURATION}
+use Rattle.usb_request.specs.Codes.{SET_CONFIGURATION, DEVICE_IN, DEVICE_OUT, ENDPOINT_OUT, HUB_IN}
+use Rattle.usb_request.specs.Codes.{PORT_IN, PORT_OUT}
 use Rattle.usb_request.specs.Requests.{descriptor_value}
 use Rattle.usb_port.specs.PortState.{PortState}
 use Rattle.usb_request.specs.declared.setup.Setup.{Setup}
@@ -9,12 +13,18 @@ use Rattle.usb_port.specs.declared.call.PortCall.{PortCall}
 use Rattle.usb_device.specs.declared.request.Registers.{Registers}
 use Rattle.usb_port.specs.Calls.{set_call, clear_call}
 use Rattle.usb_device.specs.Spec.{Spec, Hub}
-use Rattle.usb_device.specs.Request.{Outcome, stalled, answers, takes_address, takes_configuration, halts, unhalts, tells_port, calls_port, Is, unless, text_asked, asked_descriptor, asked_status, asked_address, is_value, asked_configuration, endpoint_of, on_endpoint, asked_hub_descriptor, port_named, told_port, called_at, asked_port_status, port_feature, outcome}
+use Rattle.usb_device.specs.Request.{Outcome, stalled, answers, takes_address, takes_configuration}
+use Rattle.usb_device.specs.Request.{halts, unhalts, tells_port, calls_port, Is, unless, text_asked}
+use Rattle.usb_device.specs.Request.{asked_descriptor, asked_status, asked_address, is_value}
+use Rattle.usb_device.specs.Request.{asked_configuration, endpoint_of, on_endpoint}
+use Rattle.usb_device.specs.Request.{asked_hub_descriptor, port_named, told_port, called_at}
+use Rattle.usb_device.specs.Request.{asked_port_status, port_feature, outcome}
 use Rattle.usb_device.specs.Transfer.{reading, ending, reads, reads_port, first_stage}
 use Rattle.usb_address.specs.Aims.{Aims, TakesOnly}
 
 module _ (Q : ℕ → Type 0) where
-  only_if : (b : Bool) (x y : Outcome) → TakesOnly Q x → TakesOnly Q y → TakesOnly Q (if b then x else y)
+  only_if : (b : Bool) (x y : Outcome) → TakesOnly Q x → TakesOnly Q y
+      → TakesOnly Q (if b then x else y)
   only_if true x y h g = h
   only_if false x y h g = g
 
@@ -24,23 +34,32 @@ module _ (Q : ℕ → Type 0) where
   text_only : (texts : List (List ℕ)) (i : ℕ) → TakesOnly Q (text_asked texts i)
   text_only texts i = split (slice_get texts i)
     where
-      split : (o : Option (List ℕ)) → TakesOnly Q (elim o as (λ _. Outcome) [ None ↦ stalled | Some text ↦ answers text ])
+      split : (o : Option (List ℕ)) → TakesOnly Q (elim o
+          as (λ _. Outcome) [ None ↦ stalled | Some text ↦ answers text ])
       split None = tt
       split (Some text) = tt
 
   descriptor_only : (s : Spec) (value : ℕ) → TakesOnly Q (asked_descriptor s value)
   descriptor_only s value =
-      only_if (value == descriptor_value DEVICE 0) (unless s.stalls.device (answers s.descriptor)) _ (only_unless s.stalls.device (answers s.descriptor) tt)
-      (only_if (value / 256 == CONFIGURATION) (unless s.stalls.config (text_asked s.configs (value % 256))) _ (only_unless s.stalls.config (text_asked s.configs (value % 256)) (text_only s.configs (value % 256)))
-      (only_if (value / 256 == STRING) (unless s.stalls.string (text_asked s.strings (value % 256))) stalled (only_unless s.stalls.string (text_asked s.strings (value % 256)) (text_only s.strings (value % 256))) tt))
+      only_if (value == descriptor_value DEVICE 0) (unless s.stalls.device (answers s.descriptor)) _
+      (only_unless s.stalls.device (answers s.descriptor) tt)
+      (only_if (value / 256 == CONFIGURATION)
+      (unless s.stalls.config (text_asked s.configs (value % 256))) _
+      (only_unless s.stalls.config (text_asked s.configs (value % 256))
+      (text_only s.configs (value % 256)))
+      (only_if (value / 256 == STRING) (unless s.stalls.string (text_asked s.strings (value % 256)))
+      stalled (only_unless s.stalls.string (text_asked s.strings (value % 256))
+      (text_only s.strings (value % 256))) tt))
 
-  endpoint_only : (f : ServedEndpoint → Outcome) → ((x : ServedEndpoint) → TakesOnly Q (f x)) → (o : Option ServedEndpoint) → TakesOnly Q (on_endpoint f o)
+  endpoint_only : (f : ServedEndpoint → Outcome) → ((x : ServedEndpoint) → TakesOnly Q (f x))
+      → (o : Option ServedEndpoint) → TakesOnly Q (on_endpoint f o)
   endpoint_only f h None = tt
   endpoint_only f h (Some x) = h x
 
   hub_only : (o : Option Hub) (r : Setup) → TakesOnly Q (asked_hub_descriptor o r)
   hub_only None r = tt
-  hub_only (Some hub) r = only_if (r.value == descriptor_value HUB 0) (answers hub.descriptor) stalled tt tt
+  hub_only (Some hub) r = only_if (r.value == descriptor_value HUB 0) (answers hub.descriptor)
+      stalled tt tt
 
   told_only : (o : Option ℕ) → TakesOnly Q (told_port o)
   told_only None = tt
@@ -51,25 +70,46 @@ module _ (Q : ℕ → Type 0) where
   called_only (Some c) None = tt
   called_only (Some c) (Some i) = tt
 
-  address_only : (b : Bool) (x y : Outcome) → (b ≡ true → TakesOnly Q x) → TakesOnly Q y → TakesOnly Q (if b then x else y)
+  address_only : (b : Bool) (x y : Outcome) → (b ≡ true → TakesOnly Q x) → TakesOnly Q y
+      → TakesOnly Q (if b then x else y)
   address_only true x y h g = h refl
   address_only false x y h g = g
 
   -- only SET_ADDRESS asks for an address, its own
-  pub outcome_only : (s : Spec) (g : Registers) (r : Setup) → (Is r DEVICE_OUT SET_ADDRESS ≡ true → Q r.value) → TakesOnly Q (outcome s g r)
+  pub outcome_only : (s : Spec) (g : Registers) (r : Setup)
+      → (Is r DEVICE_OUT SET_ADDRESS ≡ true → Q r.value) → TakesOnly Q (outcome s g r)
   unfolding outcome
   outcome_only s g r h =
-      only_if (Is r DEVICE_IN GET_DESCRIPTOR) (asked_descriptor s r.value) _ (descriptor_only s r.value)
-      (only_if (Is r DEVICE_IN GET_STATUS) (unless s.stalls.status (asked_status s r)) _ (only_unless s.stalls.status (asked_status s r) (only_if (r.value == 0 && r.index == 0) _ stalled tt tt))
+      only_if (Is r DEVICE_IN GET_DESCRIPTOR) (asked_descriptor s r.value) _
+      (descriptor_only s r.value)
+      (only_if (Is r DEVICE_IN GET_STATUS) (unless s.stalls.status (asked_status s r)) _
+      (only_unless s.stalls.status (asked_status s r)
+      (only_if (r.value == 0 && r.index == 0) _ stalled tt tt))
       (only_if (Is r DEVICE_IN GET_CONFIGURATION) (answers (g.configuration ∷ [])) _ tt
-      (address_only (Is r DEVICE_OUT SET_ADDRESS) (unless s.stalls.address (asked_address r)) _ (λ e. only_unless s.stalls.address (asked_address r) (only_if (nat_le r.value 127 && r.length == 0) (takes_address r.value) stalled (h e) tt))
-      (only_if (Is r DEVICE_OUT SET_CONFIGURATION) (unless s.stalls.set_config (asked_configuration s g r)) _ (only_unless s.stalls.set_config (asked_configuration s g r) (only_if (not (g.address == 0) && is_value s.configs r.value && r.length == 0) (takes_configuration r.value) stalled tt tt))
-      (only_if (Is r ENDPOINT_OUT CLEAR_FEATURE) (on_endpoint unhalts (endpoint_of s g r)) _ (endpoint_only unhalts (λ x. tt) (endpoint_of s g r))
-      (only_if (Is r ENDPOINT_OUT SET_FEATURE) (on_endpoint halts (endpoint_of s g r)) _ (endpoint_only halts (λ x. tt) (endpoint_of s g r))
-      (only_if (Is r HUB_IN GET_DESCRIPTOR) (unless s.stalls.hub (asked_hub_descriptor s.hub r)) _ (only_unless s.stalls.hub (asked_hub_descriptor s.hub r) (hub_only s.hub r))
-      (only_if (Is r PORT_IN GET_STATUS) (asked_port_status s g r) _ (told_only (port_named s.hub g r.index))
-      (only_if (Is r PORT_OUT SET_FEATURE) (port_feature (set_call r.value) s g r) _ (only_if (r.length == 0) (called_at (set_call r.value) (port_named s.hub g r.index)) stalled (called_only (set_call r.value) (port_named s.hub g r.index)) tt)
-      (only_if (Is r PORT_OUT CLEAR_FEATURE) (port_feature (clear_call r.value) s g r) stalled (only_if (r.length == 0) (called_at (clear_call r.value) (port_named s.hub g r.index)) stalled (called_only (clear_call r.value) (port_named s.hub g r.index)) tt) tt))))))))))
+      (address_only (Is r DEVICE_OUT SET_ADDRESS) (unless s.stalls.address (asked_address r)) _
+      (λ e. only_unless s.stalls.address (asked_address r)
+      (only_if (nat_le r.value 127 && r.length == 0) (takes_address r.value) stalled (h e)
+      tt))
+      (only_if (Is r DEVICE_OUT SET_CONFIGURATION)
+      (unless s.stalls.set_config (asked_configuration s g r)) _
+      (only_unless s.stalls.set_config (asked_configuration s g r)
+      (only_if (not (g.address == 0) && is_value s.configs r.value && r.length == 0)
+      (takes_configuration r.value) stalled tt tt))
+      (only_if (Is r ENDPOINT_OUT CLEAR_FEATURE) (on_endpoint unhalts (endpoint_of s g r)) _
+      (endpoint_only unhalts (λ x. tt) (endpoint_of s g r))
+      (only_if (Is r ENDPOINT_OUT SET_FEATURE) (on_endpoint halts (endpoint_of s g r)) _
+      (endpoint_only halts (λ x. tt) (endpoint_of s g r))
+      (only_if (Is r HUB_IN GET_DESCRIPTOR) (unless s.stalls.hub (asked_hub_descriptor s.hub r)) _
+      (only_unless s.stalls.hub (asked_hub_descriptor s.hub r) (hub_only s.hub r))
+      (only_if (Is r PORT_IN GET_STATUS) (asked_port_status s g r) _
+      (told_only (port_named s.hub g r.index))
+      (only_if (Is r PORT_OUT SET_FEATURE) (port_feature (set_call r.value) s g r) _
+      (only_if (r.length == 0) (called_at (set_call r.value) (port_named s.hub g r.index))
+      stalled (called_only (set_call r.value) (port_named s.hub g r.index)) tt)
+      (only_if (Is r PORT_OUT CLEAR_FEATURE) (port_feature (clear_call r.value) s g r) stalled
+      (only_if (r.length == 0) (called_at (clear_call r.value) (port_named s.hub g r.index))
+      stalled (called_only (clear_call r.value) (port_named s.hub g r.index)) tt)
+      tt))))))))))
 
   reads_aim : (wanted : ℕ) (bytes : List ℕ) → Aims Q (reads wanted bytes)
   reads_aim wanted bytes = split (wanted == 0)
@@ -82,7 +122,8 @@ module _ (Q : ℕ → Type 0) where
   port_aims wanted None = tt
   port_aims wanted (Some p) = reads_aim wanted _
 
-  pub first_aims : (row : List PortState) (wanted : ℕ) (o : Outcome) → TakesOnly Q o → Aims Q (first_stage row wanted o)
+  pub first_aims : (row : List PortState) (wanted : ℕ) (o : Outcome) → TakesOnly Q o
+      → Aims Q (first_stage row wanted o)
   first_aims row wanted stalled h = tt
   first_aims row wanted (answers bytes) h = reads_aim wanted bytes
   first_aims row wanted (takes_address a) h = h

@@ -1,5 +1,6 @@
 -- The ports of a hub: which one a request names, and what stands at a place.
-use Rattle.std.proofs.Common.{◌≡◌, ℕ, suc, ◌-◌, ◌==◌, ◌&&◌, nat_le, not, ◌⊎◌, inl, inr, Bool, true, false, Option, None, Some, option_map, if◌then◌else◌, refl, arith}
+use Rattle.std.proofs.Common.{◌≡◌, ℕ, suc, ◌-◌, ◌==◌, ◌&&◌, nat_le, not, ◌⊎◌, inl, inr, Bool, true}
+use Rattle.std.proofs.Common.{false, Option, None, Some, option_map, if◌then◌else◌, refl, arith}
 use Rattle.std.proofs.lemmas.Option.{same_Some}
 use Rattle.usb_device.specs.declared.request.Registers.{Registers}
 use Rattle.usb_device.specs.Spec.{Hub}
@@ -16,14 +17,17 @@ place_ports (Some (full b s a)) = a
 
 -- What the hub is asked
 
-pub port_named-cases : (h : Option Hub) (g : Registers) (n : ℕ) → (port_named h g n ≡ None) ⊎ (port_named h g n ≡ Some (n - 1))
+pub port_named-cases : (h : Option Hub) (g : Registers) (n : ℕ) → (port_named h g n ≡ None)
+    ⊎ (port_named h g n ≡ Some (n - 1))
 port_named-cases None g n = inl refl
-port_named-cases (Some hub) g n = split (not (g.configuration == 0) && nat_le 1 n && nat_le n hub.ports)
+port_named-cases (Some hub) g n = split (not (g.configuration == 0) && nat_le 1 n &&
+    nat_le n hub.ports)
   where
     pick : Bool → Option ℕ
     pick b = if b then Some (n - 1) else None
 
-    split : (b : Bool) → ((if b then Some (n - 1) else None) ≡ None) ⊎ ((if b then Some (n - 1) else None) ≡ Some (n - 1))
+    split : (b : Bool) → ((if b then Some (n - 1) else None) ≡ None)
+        ⊎ ((if b then Some (n - 1) else None) ≡ Some (n - 1))
     split true = inr refl
     split false = inl refl
 
@@ -32,6 +36,7 @@ less_one i = omega arith
 
 -- The port
 
-pub held_of : (o : Option State) (n : ℕ) → option_map address_of o ≡ Some n → (v : State) × (o ≡ Some v) × (address_of v ≡ n)
+pub held_of : (o : Option State) (n : ℕ) → option_map address_of o ≡ Some n → (v : State)
+    × (o ≡ Some v) × (address_of v ≡ n)
 held_of None n h = absurd (cc h)
 held_of (Some v) n h = (v, refl, same_Some (address_of v) n h)

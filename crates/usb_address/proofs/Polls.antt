@@ -1,5 +1,7 @@
 -- Endpoints other than 0 take no part in who has which address, whatever is lost.
-use Rattle.std.proofs.Common.{◌≡◌, ◌≢◌, ℕ, zero, suc, ◌==◌, ◌&&◌, nat_lt, if◌then◌else◌, Bool, true, false, List, [], ◌∷◌, length, Option, None, Some, option_map, Result, Ok, Err, refl, ap, sym, subst, ◌∙◌}
+use Rattle.std.proofs.Common.{◌≡◌, ◌≢◌, ℕ, zero, suc, ◌==◌, ◌&&◌, nat_lt, if◌then◌else◌, Bool, true}
+use Rattle.std.proofs.Common.{false, List, [], ◌∷◌, length, Option, None, Some, option_map, Result}
+use Rattle.std.proofs.Common.{Ok, Err, refl, ap, sym, subst, ◌∙◌}
 use Rattle.arrayvec.specs.ArrayVec.{ArrayVec}
 use Rattle.usb_packet.specs.declared.Toggle.{Toggle}
 use Rattle.usb_packet.specs.declared.Toggle.TheVariants.{Zero, One as Data1}
@@ -7,7 +9,8 @@ use Rattle.usb_port.specs.PortState.{PortState}
 use Rattle.usb_device.specs.declared.answer.Answer.TheVariants as answer
 use Rattle.usb_packet.specs.Toggles.{is_same}
 use Rattle.usb_device.specs.Transfer.{Stage, idle, refused, reading, read, ending}
-use Rattle.usb_device.specs.Rows.{State, Reply, forgotten, is_busy, nak_row, unless_busy, out_row, status_row, sink_row, sunk, out_bulk_row, bulk_of, data_row}
+use Rattle.usb_device.specs.Rows.{State, Reply, forgotten, is_busy, nak_row, unless_busy, out_row}
+use Rattle.usb_device.specs.Rows.{status_row, sink_row, sunk, out_bulk_row, bulk_of, data_row}
 use Rattle.usb_device.specs.Attempt.{Way, is_whole, heard, in_law, out_law}
 use Rattle.usb_device.specs.Tree.{Ports, ended, vacant, taken, row_of, reach_at, state_at, Location}
 use Rattle.usb_device.specs.declared.request.Registers.{Registers}
@@ -22,7 +25,8 @@ use Rattle.usb_world.specs.OneHolder.{IsOut, IsIn, IsMade}
 use Rattle.usb_world.proofs.Interface.{each_in, each_out, made_of}
 use Rattle.usb_tree.proofs.Interface.{both, false_true, unequal}
 use Rattle.usb_transaction.specs.declared.fault.TransFault.{TransFault}
-use Rattle.usb_transaction.specs.declared.fault.TransFault.TheVariants.{Stalled, Busy, NoAnswer, Bus}
+use Rattle.usb_transaction.specs.declared.fault.TransFault.TheVariants.{Stalled, Busy, NoAnswer}
+use Rattle.usb_transaction.specs.declared.fault.TransFault.TheVariants.{Bus}
 use Rattle.usb_transaction.specs.Transactions.{in_attempt}
 use Rattle.usb_transaction.specs.HeardOutcomes.{polled_as}
 use Rattle.usb_transaction.specs.AttemptLog.{AttemptLog, start, next, Transacted, Polled}
@@ -43,7 +47,8 @@ module _ (s : State) where
   kept_if true x y h g = h
   kept_if false x y h g = g
 
-  in_far : (row : List PortState) (e max : ℕ) (z x y : Way) → (e == 0) ≡ false → Kept (in_law s row e max z x y)
+  in_far : (row : List PortState) (e max : ℕ) (z x y : Way) → (e == 0) ≡ false
+      → Kept (in_law s row e max z x y)
   in_far row e max z x y far = ap (λ (g : Registers). g.address) (in_kept s row e max z x y far).1
 
   module _ (t : Toggle) (bytes : List ℕ) where
@@ -63,19 +68,26 @@ module _ (s : State) where
     sink_keeps max =
         kept_if s.bulk_out.halted (Some answer.Stall, s) _ refl
         (kept_if (nat_lt max (length bytes)) (None, s) _ refl
-        (kept_if (is_same t s.bulk_out.toggle) (Some answer.Ack, sunk s bytes) (Some answer.Ack, s) refl refl))
+        (kept_if (is_same t s.bulk_out.toggle) (Some answer.Ack, sunk s bytes) (Some answer.Ack, s)
+        refl refl))
 
     out_bulk_keeps : (e : ℕ) (o : Option (ℕ × ℕ)) → Kept (out_bulk_row s e o t bytes)
     out_bulk_keeps e None = refl
-    out_bulk_keeps e (Some end) = kept_if (end.0 == e) (sink_row s end.1 t bytes) (None, s) (sink_keeps end.1) refl
+    out_bulk_keeps e (Some end) = kept_if (end.0 == e) (sink_row s end.1 t bytes) (None, s)
+        (sink_keeps end.1) refl
 
     data_keeps : (e : ℕ) → Kept (data_row s e t bytes)
     data_keeps e =
-        kept_if (e == 0) (unless_busy s (out_row s s.stage t bytes)) (out_bulk_row s e (bulk_of s false) t bytes)
-        (kept_if (is_busy s) (nak_row s) (out_row s s.stage t bytes) refl (out_row_keeps s.stage)) (out_bulk_keeps e (bulk_of s false))
+        kept_if (e == 0) (unless_busy s (out_row s s.stage t bytes))
+        (out_bulk_row s e (bulk_of s false) t bytes)
+        (kept_if (is_busy s) (nak_row s) (out_row s s.stage t bytes) refl (out_row_keeps s.stage))
+        (out_bulk_keeps e (bulk_of s false))
 
     out_far : (e : ℕ) (x y z : Way) → Kept (out_law s e t bytes x y z)
-    out_far e x y z = kept_if (is_whole x && is_whole y) (heard z (data_row s e t bytes).0, forgotten (data_row s e t bytes).1) (None, s) (data_keeps e) refl
+    out_far e x y z = kept_if (is_whole x && is_whole y) (
+      heard z (data_row s e t bytes).0,
+      forgotten (data_row s e t bytes).1,
+    ) (None, s) (data_keeps e) refl
 
 -- Attempts
 
@@ -84,55 +96,83 @@ pub data IsOffEndpointZero (a : Attempt) : Type 0 where
   into : IsIn a → (a.ep == 0) ≡ false → IsOffEndpointZero a
   out : (t : Toggle) (bytes : List ℕ) → IsOut a t bytes → IsOffEndpointZero a
 
-in_address : (a : Attempt) (w : World) (i : Location) (s v : State) → (a.ep == 0) ≡ false → DidIn a w i s v → address_of v ≡ address_of s
+in_address : (a : Attempt) (w : World) (i : Location) (s v : State) → (a.ep == 0) ≡ false
+    → DidIn a w i s v → address_of v ≡ address_of s
 in_address a w i s v far (DidIn.other d same) = ap address_of same
 in_address a w i s v far (DidIn.silent d q o same) = ap address_of same
-in_address a w i s v far (DidIn.asked d q b below p x o same) = ap address_of same ∙ in_far s (row_of below) a.ep a.max x.first x.second x.third far
+in_address a w i s v far (DidIn.asked d q b below p x o same) = ap address_of same
+    ∙ in_far s (row_of below) a.ep a.max x.first x.second x.third far
 
-out_address : (a : Attempt) (t : Toggle) (bytes : List ℕ) (w : World) (i : Location) (s v : State) → DidOut a t bytes w i s v → address_of v ≡ address_of s
+out_address : (a : Attempt) (t : Toggle) (bytes : List ℕ) (w : World) (i : Location) (s v : State)
+    → DidOut a t bytes w i s v → address_of v ≡ address_of s
 out_address a t bytes w i s v (DidOut.other d same) = ap address_of same
 out_address a t bytes w i s v (DidOut.silent d q o same) = ap address_of same
-out_address a t bytes w i s v (DidOut.asked d q x o same) = ap address_of same ∙ out_far s t bytes a.ep x.first x.second x.third
+out_address a t bytes w i s v (DidOut.asked d q x o same) = ap address_of same
+    ∙ out_far s t bytes a.ep x.first x.second x.third
 
 -- a device stands where one is reached
-pub reach_stands : (k : Ports) (i : ℕ) (e : List ℕ) → reach_at k i e ≡ true → state_at k i e ≡ None → ⊥
+pub reach_stands : (k : Ports) (i : ℕ) (e : List ℕ) → reach_at k i e ≡ true → state_at k i e ≡ None
+    → ⊥
 unfolding reach_at state_at
 reach_stands ended i e on h = cc on
 reach_stands (vacant b k) zero e on h = cc on
 reach_stands (vacant b k) (suc i) e on h = reach_stands k i e on h
 reach_stands (taken b s a k) zero [] on h = cc h
 reach_stands (taken b s a k) zero (zero ∷ e) on h = cc on
-reach_stands (taken b s a k) zero (suc j ∷ e) on h = reach_stands a j e (both b.enable (reach_at a j e) on).1 h
+reach_stands (taken b s a k) zero (suc j ∷ e) on h =
+    reach_stands a j e (both b.enable (reach_at a j e) on).1 h
 reach_stands (taken b s a k) (suc i) e on h = reach_stands k i e on h
 
 -- what an attempt leaves each device's address as, where it keeps it
-keeps_own : (R : Location → State → State → Type 0) → ((i : Location) (s v : State) → R i s v → address_of v ≡ address_of s) → (f : List ℕ → Option ℕ) (w u : World) → EachWas R w u → HoldsMapped f w → HoldsMapped f u
+keeps_own : (R : Location → State → State → Type 0)
+    → ((i : Location) (s v : State) → R i s v → address_of v ≡ address_of s)
+    → (f : List ℕ → Option ℕ) (w u : World) → EachWas R w u → HoldsMapped f w → HoldsMapped f u
 keeps_own R same f w u each own [] on = false_true on
 keeps_own R same f w u each own (zero ∷ e) on = false_true on
 keeps_own R same f w u each own (suc i ∷ e) on = go (state_at u.roots i e) refl
   where
-    go : (o : Option State) → state_at u.roots i e ≡ o → option_map address_of (state_at u.roots i e) ≡ f (suc i ∷ e)
+    go : (o : Option State) → state_at u.roots i e ≡ o
+        → option_map address_of (state_at u.roots i e) ≡ f (suc i ∷ e)
     go None h = elim (reach_stands u.roots i e on h) [ ]
     go (Some v) h =
-        let x : Was R w (record { row = i; rest = e }) v = each (record { row = i; rest = e }) v on h in
-        ap (option_map address_of) h ∙ ap (λ n. Some n) (same (record { row = i; rest = e }) x.before v x.so) ∙ sym (ap (option_map address_of) x.stands) ∙ own (suc i ∷ e) x.on
+        let x : Was R w (record { row = i; rest = e }) v =
+        each (record { row = i; rest = e }) v on h in
+        ap (option_map address_of) h ∙ ap (λ n. Some n)
+        (same (record { row = i; rest = e }) x.before v x.so)
+        ∙ sym (ap (option_map address_of) x.stands) ∙ own (suc i ∷ e) x.on
 
-far_own : (f : List ℕ → Option ℕ) (a : Attempt) (w : World) → IsOffEndpointZero a → IsMade a w → (after (attempt a) w).shared ≡ false → HoldsMapped f w → HoldsMapped f (after (attempt a) w)
-far_own f a w (into is far) m u own = keeps_own (DidIn a w) (λ i s v x. in_address a w i s v far x) f w (after (attempt a) w) (each_in a w m is u) own
-far_own f a w (out t bytes is) m u own = keeps_own (DidOut a t bytes w) (λ i s v x. out_address a t bytes w i s v x) f w (after (attempt a) w) (each_out a w t bytes m is u) own
+far_own : (f : List ℕ → Option ℕ) (a : Attempt) (w : World) → IsOffEndpointZero a → IsMade a w
+    → (after (attempt a) w).shared ≡ false → HoldsMapped f w → HoldsMapped f (after (attempt a) w)
+far_own f a w (into is far) m u own = keeps_own (DidIn a w) (λ i s v x. in_address a w i s v far x)
+    f w (after (attempt a) w) (each_in a w m is u) own
+far_own f a w (out t bytes is) m u own =
+    keeps_own (DidOut a t bytes w) (λ i s v x. out_address a t bytes w i s v x) f w
+    (after (attempt a) w) (each_out a w t bytes m is u) own
 
-pub trail_far : (f : List ℕ → Option ℕ) (a : Attempt) → IsOffEndpointZero a → {old new : World} {outcomes : List Outcome} → AttemptLog a old outcomes new → MapHolds f old → MapHolds f new
+pub trail_far : (f : List ℕ → Option ℕ) (a : Attempt) → IsOffEndpointZero a
+    → {old new : World} {outcomes : List Outcome} → AttemptLog a old outcomes new → MapHolds f old
+    → MapHolds f new
 trail_far f a far start o = o
 trail_far f a far (next w t made) o =
     let x : MapHolds f w = trail_far f a far t o in
-    record { distinct = x.distinct; own = far_own f a w far (made_of a w x.settled made) (unshared_after f a w x) x.own; single = unshared_after f a w x; settled = settled_attempt a w x.settled }
+    record {
+      distinct = x.distinct;
+      own = far_own f a w far (made_of a w x.settled made)
+          (unshared_after f a w x) x.own;
+      single = unshared_after f a w x;
+      settled =
+          settled_attempt a w x.settled;
+    }
 
-pub far_transacted : (f : List ℕ → Option ℕ) (a : Attempt) → IsOffEndpointZero a → (hear : _) (old : World) (answer : Result (List ℕ) TransFault) (new : World) → Transacted hear a old answer new → MapHolds f old → LeavesTrans (MapHolds f) answer new
+pub far_transacted : (f : List ℕ → Option ℕ) (a : Attempt) → IsOffEndpointZero a
+    → (hear : _) (old : World) (answer : Result (List ℕ) TransFault) (new : World)
+    → Transacted hear a old answer new → MapHolds f old → LeavesTrans (MapHolds f) answer new
 far_transacted f a far hear old (Ok bytes) new e o = trail_far f a far e.trail o
 far_transacted f a far hear old (Err Stalled) new e o = trail_far f a far e.trail o
 far_transacted f a far hear old (Err Busy) new e o = trail_far f a far e.trail o
 far_transacted f a far hear old (Err NoAnswer) new e o = trail_far f a far e.trail o
-far_transacted f a far hear old (Err (Bus fault)) new c o = cut_off_unshared f a hear old fault new c (trail_far f a far c.trail o)
+far_transacted f a far hear old (Err (Bus fault)) new c o =
+    cut_off_unshared f a hear old fault new c (trail_far f a far c.trail o)
 
 -- Polls
 
@@ -143,19 +183,31 @@ module _ (f : List ℕ → Option ℕ) (p : Interrupt) (far : p.ep ≢ 0) where
   is_far : IsOffEndpointZero ask
   is_far = into (record { kind = refl; payload = refl }) (unequal p.ep 0 far)
 
-  failed : (old : World) (fault : TransFault) (new : World) → Polled p.toggle ask old (Err fault) new → MapHolds f old → LeavesTrans {A = List ℕ} (MapHolds f) (Err fault) new
-  failed old fault new e o = far_transacted f ask is_far (polled_as p.toggle) old (Err fault) new e o
+  failed : (old : World) (fault : TransFault) (new : World)
+      → Polled p.toggle ask old (Err fault) new → MapHolds f old
+      → LeavesTrans {A = List ℕ} (MapHolds f) (Err fault) new
+  failed old fault new e o = far_transacted f ask is_far (polled_as p.toggle) old (Err fault) new e
+      o
 
-  told : (fault : TransFault) (why : PipeFault) (new : World) → why ≡ as_pipe_fault fault → LeavesTrans {A = List ℕ} (MapHolds f) (Err fault) new → LeavesPipe {A = Option (ArrayVec ℕ)} (MapHolds f) (Err why) new
-  told Stalled why new e h = subst (λ x. LeavesPipe {A = Option (ArrayVec ℕ)} (MapHolds f) (Err x) new) (sym e) h
-  told Busy why new e h = subst (λ x. LeavesPipe {A = Option (ArrayVec ℕ)} (MapHolds f) (Err x) new) (sym e) h
-  told NoAnswer why new e h = subst (λ x. LeavesPipe {A = Option (ArrayVec ℕ)} (MapHolds f) (Err x) new) (sym e) h
-  told (Bus fault) why new e h = subst (λ x. LeavesPipe {A = Option (ArrayVec ℕ)} (MapHolds f) (Err x) new) (sym e) h
+  told : (fault : TransFault) (why : PipeFault) (new : World) → why ≡ as_pipe_fault fault
+      → LeavesTrans {A = List ℕ} (MapHolds f) (Err fault) new
+      → LeavesPipe {A = Option (ArrayVec ℕ)} (MapHolds f) (Err why) new
+  told Stalled why new e h = subst (λ x. LeavesPipe {A = Option (ArrayVec ℕ)} (MapHolds f) (Err x)
+      new) (sym e) h
+  told Busy why new e h = subst (λ x. LeavesPipe {A = Option (ArrayVec ℕ)} (MapHolds f) (Err x) new)
+      (sym e) h
+  told NoAnswer why new e h = subst (λ x. LeavesPipe {A = Option (ArrayVec ℕ)} (MapHolds f) (Err x)
+      new) (sym e) h
+  told (Bus fault) why new e h = subst (λ x. LeavesPipe {A = Option (ArrayVec ℕ)} (MapHolds f)
+      (Err x) new) (sym e) h
 
-  asked : (old : World) (result : Result (Option (ArrayVec ℕ)) PipeFault) (new : World) → PollAsked p old result new → MapHolds f old → LeavesPipe (MapHolds f) result new
+  asked : (old : World) (result : Result (Option (ArrayVec ℕ)) PipeFault) (new : World)
+      → PollAsked p old result new → MapHolds f old → LeavesPipe (MapHolds f) result new
   asked old (Ok None) new x o = trail_far f ask is_far x.trail o
   asked old (Ok (Some packet)) new x o = trail_far f ask is_far x.trail o
   asked old (Err why) new x o = told x.fault why new x.told (failed old x.fault new x.polled o)
 
-  pub polls_leave : (old : World) (result : Result (Option (ArrayVec ℕ)) PipeFault) (left : Interrupt) (new : World) → Polls p old result left new → MapHolds f old → LeavesPipe (MapHolds f) result new
+  pub polls_leave : (old : World) (result : Result (Option (ArrayVec ℕ)) PipeFault)
+      (left : Interrupt) (new : World) → Polls p old result left new → MapHolds f old
+      → LeavesPipe (MapHolds f) result new
   polls_leave old result left new x o = asked old result new x.asked o

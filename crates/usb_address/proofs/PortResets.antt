@@ -1,5 +1,8 @@
--- PORT_RESET of a hub's port: the device there has address 0, or everything is as it was, whatever is lost.
-use Rattle.std.proofs.Common.{◌≡◌, ℕ, zero, ◌⊎◌, inl, inr, Bool, true, false, List, [], ◌∷◌, ◌++◌, Option, None, Some, option_map, if◌then◌else◌, Result, Ok, Err, refl, ap, sym, subst, ◌∙◌}
+-- PORT_RESET of a hub's port: the device there has address 0, or everything is as it was, whatever
+-- is lost.
+use Rattle.std.proofs.Common.{◌≡◌, ℕ, zero, ◌⊎◌, inl, inr, Bool, true, false, List, [], ◌∷◌, ◌++◌}
+use Rattle.std.proofs.Common.{Option, None, Some, option_map, if◌then◌else◌, Result, Ok, Err, refl}
+use Rattle.std.proofs.Common.{ap, sym, subst, ◌∙◌}
 use Rattle.std.proofs.lemmas.Option.{same_Some}
 use Rattle.usb_packet.specs.declared.Toggle.TheVariants.{One}
 use Rattle.usb_request.specs.Codes.{SET_ADDRESS, DEVICE_OUT}
@@ -7,7 +10,8 @@ use Rattle.usb_request.specs.Layout.{setup_of, bytes_of}
 use Rattle.usb_request.specs.declared.setup.Setup.{Setup}
 use Rattle.usb_device.specs.Request.{outcome, Is}
 use Rattle.usb_device.specs.Rows.{State}
-use Rattle.usb_device.specs.Tree.{Place, empty, full, reach, Location, path_to, reach_on, state_on, place_on}
+use Rattle.usb_device.specs.Tree.{Place, empty, full, reach, Location, path_to, reach_on, state_on}
+use Rattle.usb_device.specs.Tree.{place_on}
 use Rattle.usb_world.specs.declared.types.Attempt.{Attempt}
 use Rattle.usb_world.specs.declared.types.BusFault.{BusFault}
 use Rattle.usb_world.specs.declared.types.Outcome.{Outcome}
@@ -20,11 +24,13 @@ use Rattle.usb_world.specs.Steps.{at_attempt, attempt, after, outcome_in}
 use Rattle.usb_world.specs.Courses.{HoldsMapped, resets, address_at}
 use Rattle.usb_world.specs.OneHolder.{IsSetup, IsMade, HolderIn}
 use Rattle.usb_world.specs.Addresses.{after_reset}
-use Rattle.usb_world.proofs.Interface.{holder_or_nobody, hub_reset, hub_rest, made_of, nobody_in, ready_own, reset_distinct, stands, state_stands, step_new}
+use Rattle.usb_world.proofs.Interface.{holder_or_nobody, hub_reset, hub_rest, made_of, nobody_in}
+use Rattle.usb_world.proofs.Interface.{ready_own, reset_distinct, stands, state_stands, step_new}
 use Rattle.usb_tree.proofs.Interface.{and_of, both, decided, false_true}
 use Rattle.usb_transaction.specs.declared.target.Target.{Target}
 use Rattle.usb_transaction.specs.declared.fault.TransFault.{TransFault}
-use Rattle.usb_transaction.specs.declared.fault.TransFault.TheVariants.{Stalled, Busy, NoAnswer, Bus}
+use Rattle.usb_transaction.specs.declared.fault.TransFault.TheVariants.{Stalled, Busy, NoAnswer}
+use Rattle.usb_transaction.specs.declared.fault.TransFault.TheVariants.{Bus}
 use Rattle.usb_transaction.specs.HeardOutcomes.{set_up_as}
 use Rattle.usb_transaction.specs.Transactions.{setup_attempt}
 use Rattle.usb_transaction.specs.AttemptLog.{AttemptLog, start, next, BusFailed}
@@ -44,14 +50,17 @@ pub is_way-same_path : (p x : List ℕ) → same_path p x ≡ true → is_way p 
 unfolding is_way
 is_way-same_path [] x h = refl
 is_way-same_path (m ∷ p) [] h = false_true h
-is_way-same_path (m ∷ p) (k ∷ x) h = let z : _ = both (same_number m k) (same_path p x) h in and_of (same_number m k) (is_way p x) z.0 (is_way-same_path p x z.1)
+is_way-same_path (m ∷ p) (k ∷ x) h = let z : _ = both (same_number m k) (same_path p x) h in
+    and_of (same_number m k) (is_way p x) z.0 (is_way-same_path p x z.1)
 
-new_place_address : (o : Option Place) → IsNew o → (v : State) → stands o ≡ Some v → address_of v ≡ 0
+new_place_address : (o : Option Place) → IsNew o → (v : State) → stands o ≡ Some v
+    → address_of v ≡ 0
 new_place_address None h v e = elim h [ ]
 new_place_address (Some (empty b)) h v e = elim h [ ]
 new_place_address (Some (full b s a)) h v e = ap address_of (sym (same_Some s v e)) ∙ h.0
 
-pub owned_as : (f g : List ℕ → Option ℕ) (w : World) → ((x : List ℕ) → f x ≡ g x) → MapHolds f w → MapHolds g w
+pub owned_as : (f g : List ℕ → Option ℕ) (w : World) → ((x : List ℕ) → f x ≡ g x) → MapHolds f w
+    → MapHolds g w
 owned_as f g w c o = record {
   distinct = λ x y a h k. o.distinct x y a (c x ∙ h) (c y ∙ k);
   own = λ x on. o.own x on ∙ c x;
@@ -59,7 +68,8 @@ owned_as f g w c o = record {
   settled = o.settled;
 }
 
-module _ (q : List ℕ) (n : ℕ) (t : Target) (request : Setup) (same : setup_of (bytes_of request) ≡ request) (names : request.index ≡ n) (some : t.addr ≡ 0 → ⊥) where
+module _ (q : List ℕ) (n : ℕ) (t : Target) (request : Setup) (same : setup_of (bytes_of request)
+    ≡ request) (names : request.index ≡ n) (some : t.addr ≡ 0 → ⊥) where
   abbrev p : List ℕ
   p = q ++ (n ∷ [])
 
@@ -70,15 +80,19 @@ module _ (q : List ℕ) (n : ℕ) (t : Target) (request : Setup) (same : setup_o
   unfolding bytes_of
   is = record { kind = refl; ep = refl; payload = refl; whole = refl }
 
-  -- at each attempt: only the hub has the target's address, and only what is at the port or below it may have address 0
+  -- at each attempt: only the hub has the target's address, and only what is at the port or below
+  -- it may have address 0
   pub record Fits (h : List ℕ → Option ℕ) : Type 0 where
     pub at : (x : List ℕ) → h x ≡ Some t.addr → x ≡ q
     pub only : (x : List ℕ) → h x ≡ Some 0 → is_way p x ≡ true
 
-  reset_of : (h : List ℕ → Option ℕ) (x : List ℕ) (m : ℕ) → after_reset h p x ≡ Some m → ((is_way p x ≡ true) × (m ≡ 0)) ⊎ (h x ≡ Some m)
+  reset_of : (h : List ℕ → Option ℕ) (x : List ℕ) (m : ℕ) → after_reset h p x ≡ Some m
+      → ((is_way p x ≡ true) × (m ≡ 0)) ⊎ (h x ≡ Some m)
   reset_of h x m e = split (same_path p x) (is_way p x) refl refl e
     where
-      split : (y z : Bool) → same_path p x ≡ y → is_way p x ≡ z → (if y then Some 0 else if z then None else h x) ≡ Some m → ((is_way p x ≡ true) × (m ≡ 0)) ⊎ (h x ≡ Some m)
+      split : (y z : Bool) → same_path p x ≡ y → is_way p x ≡ z
+          → (if y then Some 0 else if z then None else h x) ≡ Some m
+          → ((is_way p x ≡ true) × (m ≡ 0)) ⊎ (h x ≡ Some m)
       split true z s w e = inl (is_way-same_path p x s, cc)
       split false true s w e = cc
       split false false s w e = inr e
@@ -93,14 +107,18 @@ module _ (q : List ℕ) (n : ℕ) (t : Target) (request : Setup) (same : setup_o
       at x (inl z) = elim (some z.1) [ ]
       at x (inr z) = y.at x z
 
-      only : (x : List ℕ) → ((is_way p x ≡ true) × (zero ≡ zero)) ⊎ (h x ≡ Some zero) → is_way p x ≡ true
+      only : (x : List ℕ) → ((is_way p x ≡ true) × (zero ≡ zero)) ⊎ (h x ≡ Some zero)
+          → is_way p x ≡ true
       only x (inl z) = z.0
       only x (inr z) = y.only x z
 
-  twice : (h : List ℕ → Option ℕ) (x : List ℕ) → after_reset (after_reset h p) p x ≡ after_reset h p x
+  twice : (h : List ℕ → Option ℕ) (x : List ℕ) → after_reset (after_reset h p) p x
+      ≡ after_reset h p x
   twice h x = split (same_path p x) (is_way p x)
     where
-      split : (y z : Bool) → (if y then Some 0 else if z then None else (if y then Some 0 else if z then None else h x)) ≡ (if y then Some 0 else if z then None else h x)
+      split : (y z : Bool) → (if y then Some 0 else if z then None
+          else (if y then Some 0 else if z then None else h x))
+          ≡ (if y then Some 0 else if z then None else h x)
       split true z = refl
       split false true = refl
       split false false = refl
@@ -108,7 +126,8 @@ module _ (q : List ℕ) (n : ℕ) (t : Target) (request : Setup) (same : setup_o
   Step : (List ℕ → Option ℕ) → World → Type 0
   Step h w = MapHolds h w ⊎ MapHolds (after_reset h p) w
 
-  one_step : (h : List ℕ → Option ℕ) → Fits h → (w : World) → Made w (after (attempt a) w) → MapHolds h w → Step h (after (attempt a) w)
+  one_step : (h : List ℕ → Option ℕ) → Fits h → (w : World) → Made w (after (attempt a) w)
+      → MapHolds h w → Step h (after (attempt a) w)
   unfolding Step
   one_step h y w made o = pick (holder_or_nobody a w m u)
     where
@@ -119,48 +138,72 @@ module _ (q : List ℕ) (n : ℕ) (t : Target) (request : Setup) (same : setup_o
       u = unshared_after h a w o
 
       stays : HoldsMapped h (after (attempt a) w) → Step h (after (attempt a) w)
-      stays own = inl (record { distinct = o.distinct; own = own; single = u; settled = settled_attempt a w o.settled })
+      stays own = inl (record {
+        distinct = o.distinct;
+        own = own;
+        single = u;
+        settled =
+            settled_attempt a w o.settled;
+      })
 
       moves : HoldsMapped (after_reset h p) (after (attempt a) w) → Step h (after (attempt a) w)
-      moves own = inr (record { distinct = reset_distinct h p o.distinct y.only; own = own; single = u; settled = settled_attempt a w o.settled })
+      moves own = inr (record {
+        distinct = reset_distinct h p o.distinct y.only;
+        own = own;
+        single =
+            u;
+        settled = settled_attempt a w o.settled;
+      })
 
       nobody : NobodyHolds a.addr (at_attempt w).roots → HoldsMapped h (after (attempt a) w)
-      nobody x path on = ap (λ k. address_at k path) (nobody_in a w m x).1 ∙ ready_own h w o.own path (ap (λ k. reach k path) (sym (nobody_in a w m x).1) ∙ on)
+      nobody x path on = ap (λ k. address_at k path) (nobody_in a w m x).1
+          ∙ ready_own h w o.own path (ap (λ k. reach k path) (sym (nobody_in a w m x).1) ∙ on)
 
       held : HolderIn a w → Step h (after (attempt a) w)
       held x = reset_or (decided (resets (attempt a) w (path_to x.spot ++ (n ∷ []))))
         where
           there : state_on (at_attempt w).roots x.spot ≡ Some x.own
-          there = sym (state_stands (at_attempt w).roots x.spot.row x.spot.rest) ∙ ap stands x.stands
+          there = sym (state_stands (at_attempt w).roots x.spot.row x.spot.rest)
+              ∙ ap stands x.stands
 
           path : path_to x.spot ≡ q
-          path = y.at (path_to x.spot) (sym (ready_own h w o.own (path_to x.spot) x.on) ∙ ap (option_map address_of) there ∙ ap (λ z. Some z) x.at)
+          path = y.at (path_to x.spot) (sym (ready_own h w o.own (path_to x.spot) x.on)
+              ∙ ap (option_map address_of) there ∙ ap (λ z. Some z) x.at)
 
-          reset_or : (resets (attempt a) w (path_to x.spot ++ (n ∷ [])) ≡ true) ⊎ (resets (attempt a) w (path_to x.spot ++ (n ∷ [])) ≡ false) → Step h (after (attempt a) w)
-          reset_or (inl z) = moves (subst (λ r. HoldsMapped (after_reset h (r ++ (n ∷ []))) (after (attempt a) w)) path (hub_reset a w x (bytes_of request) is n (ap (λ r. r.index) same ∙ names) h z o.own))
-          reset_or (inr z) = stays (hub_rest a w x (bytes_of request) is n (ap (λ r. r.index) same ∙ names) h z o.own)
+          reset_or : (resets (attempt a) w (path_to x.spot ++ (n ∷ [])) ≡ true)
+              ⊎ (resets (attempt a) w (path_to x.spot ++ (n ∷ [])) ≡ false)
+              → Step h (after (attempt a) w)
+          reset_or (inl z) = moves (subst (λ r. HoldsMapped (after_reset h (r ++ (n ∷ [])))
+              (after (attempt a) w)) path (hub_reset a w x (bytes_of request) is n
+              (ap (λ r. r.index) same ∙ names) h z o.own))
+          reset_or (inr z) = stays (hub_rest a w x (bytes_of request) is n (ap (λ r. r.index) same
+              ∙ names) h z o.own)
 
       pick : HolderIn a w ⊎ NobodyHolds a.addr (at_attempt w).roots → Step h (after (attempt a) w)
       pick (inl x) = held x
       pick (inr x) = stays (nobody x)
 
-  module _ (f : List ℕ → Option ℕ) (fits : Fits f) (other : Is request DEVICE_OUT SET_ADDRESS ≡ false) where
+  module _ (f : List ℕ → Option ℕ) (fits : Fits f) (other : Is request DEVICE_OUT SET_ADDRESS
+      ≡ false) where
     abbrev r : List ℕ → Option ℕ
     r = after_reset f p
 
     abbrev pub Resets : World → Type 0
     Resets w = MapHolds f w ⊎ MapHolds r w
 
-    pub step_on : (w : World) → Made w (after (attempt a) w) → Resets w → Resets (after (attempt a) w)
+    pub step_on : (w : World) → Made w (after (attempt a) w) → Resets w
+        → Resets (after (attempt a) w)
     unfolding Step
     step_on w made (inl o) = one_step f fits w made o
     step_on w made (inr o) = again (one_step r (fits_reset f fits) w made o)
       where
-        again : MapHolds r (after (attempt a) w) ⊎ MapHolds (after_reset r p) (after (attempt a) w) → Resets (after (attempt a) w)
+        again : MapHolds r (after (attempt a) w) ⊎ MapHolds (after_reset r p) (after (attempt a) w)
+            → Resets (after (attempt a) w)
         again (inl x) = inr x
         again (inr x) = inr (owned_as (after_reset r p) r (after (attempt a) w) (twice f) x)
 
-    trail_on : {old new : World} {outcomes : List Outcome} → AttemptLog a old outcomes new → Resets old → Resets new
+    trail_on : {old new : World} {outcomes : List Outcome} → AttemptLog a old outcomes new
+        → Resets old → Resets new
     trail_on start x = x
     trail_on (next w t made) x = step_on w made (trail_on t x)
 
@@ -173,26 +216,38 @@ module _ (q : List ℕ) (n : ℕ) (t : Target) (request : Setup) (same : setup_o
     made_in w made (inr o) = made_of a w o.settled made
 
     -- the hub, which accepted the request, is to take no address
-    last_aims : {old new : World} {last : Outcome} {outcomes : List Outcome} → AttemptLog a old (last ∷ outcomes) new → last ≡ Ack → Resets old → AllAim Never t.addr new
+    last_aims : {old new : World} {last : Outcome} {outcomes : List Outcome}
+        → AttemptLog a old (last ∷ outcomes) new → last ≡ Ack → Resets old → AllAim Never t.addr new
     last_aims (next w tr made) ack x =
         let y : Resets w = trail_on tr x in
-        λ i v on there at. rested w (made_in w made y) (settled_of w y) ack i v on there at (decided (resets (attempt a) w (path_to i)))
+        λ i v on there at. rested w (made_in w made y) (settled_of w y) ack i v on there at
+        (decided (resets (attempt a) w (path_to i)))
       where
-        rested : (w : World) → IsMade a w → (after (attempt a) w).shared ≡ false → outcome_in a w ≡ Ack → (i : Location) (v : State)
-            → reach_on (after (attempt a) w).roots i ≡ true → state_on (after (attempt a) w).roots i ≡ Some v → address_of v ≡ t.addr
-            → (resets (attempt a) w (path_to i) ≡ true) ⊎ (resets (attempt a) w (path_to i) ≡ false) → Aims Never v.stage
+        rested : (w : World) → IsMade a w → (after (attempt a) w).shared ≡ false
+            → outcome_in a w ≡ Ack → (i : Location) (v : State)
+            → reach_on (after (attempt a) w).roots i ≡ true → state_on (after (attempt a) w).roots i
+            ≡ Some v → address_of v ≡ t.addr
+            → (resets (attempt a) w (path_to i) ≡ true) ⊎ (resets (attempt a) w (path_to i) ≡ false)
+            → Aims Never v.stage
         rested w m u ack i v on there at (inl z) =
-            elim (some (sym at ∙ new_place_address (place_on (after (attempt a) w).roots i) (step_new (attempt a) w (path_to i) z) v (state_stands (after (attempt a) w).roots i.row i.rest ∙ there))) [ ]
+            elim (some (sym at ∙ new_place_address (place_on (after (attempt a) w).roots i)
+            (step_new (attempt a) w (path_to i) z) v
+            (state_stands (after (attempt a) w).roots i.row i.rest ∙ there))) [ ]
         rested w m u ack i v on there at (inr z) =
-            set_up_aims Never a (bytes_of request) w m is u (λ s. subst (λ x. TakesOnly Never (outcome s.spec s.registers x)) (sym same) (outcome_only Never s.spec s.registers request (λ h. cc (other, h)))) ack i v z on there at
+            set_up_aims Never a (bytes_of request) w m is u
+            (λ s. subst (λ x. TakesOnly Never (outcome s.spec s.registers x)) (sym same)
+            (outcome_only Never s.spec s.registers request (λ h. cc (other, h)))) ack i v z on
+            there at
 
     abbrev Calms : World → Type 0
     Calms w = Resets w × AllAim Never t.addr w
 
-    status : (old : World) (answer : Result (List ℕ) TransFault) (new : World) → Asks t One old answer new → Calms old → LeavesTrans Resets answer new
+    status : (old : World) (answer : Result (List ℕ) TransFault) (new : World)
+        → Asks t One old answer new → Calms old → LeavesTrans Resets answer new
     status old answer new e (inl o, h) = wider answer (asks_leaves f t One old answer new e (o, h))
       where
-        wider : (answer : Result (List ℕ) TransFault) → LeavesTrans (Calm f t) answer new → LeavesTrans Resets answer new
+        wider : (answer : Result (List ℕ) TransFault) → LeavesTrans (Calm f t) answer new
+            → LeavesTrans Resets answer new
         wider (Ok bytes) x = inl x.0
         wider (Err Stalled) x = inl x.0
         wider (Err Busy) x = inl x.0
@@ -200,30 +255,42 @@ module _ (q : List ℕ) (n : ℕ) (t : Target) (request : Setup) (same : setup_o
         wider (Err (Bus fault)) x = x
     status old answer new e (inr o, h) = wider answer (asks_leaves r t One old answer new e (o, h))
       where
-        wider : (answer : Result (List ℕ) TransFault) → LeavesTrans (Calm r t) answer new → LeavesTrans Resets answer new
+        wider : (answer : Result (List ℕ) TransFault) → LeavesTrans (Calm r t) answer new
+            → LeavesTrans Resets answer new
         wider (Ok bytes) x = inr x.0
         wider (Err Stalled) x = inr x.0
         wider (Err Busy) x = inr x.0
         wider (Err NoAnswer) x = inr x.0
         wider (Err (Bus fault)) x = x
 
-    cut : (old : World) (fault : BusFault) (new : World) → BusFailed set_up_as a old fault new → Resets old → new.shared ≡ false
+    cut : (old : World) (fault : BusFault) (new : World) → BusFailed set_up_as a old fault new
+        → Resets old → new.shared ≡ false
     cut old fault new c x = split (trail_on c.trail x)
       where
         split : Resets c.mid → new.shared ≡ false
         split (inl y) = cut_off_unshared f a set_up_as old fault new c y
         split (inr y) = cut_off_unshared r a set_up_as old fault new c y
 
-    no_set_up : (old : World) (fault : TransFault) (new : World) → SetUp t request old (Err fault) new → Resets old → FaultLeaves Resets fault new
+    no_set_up : (old : World) (fault : TransFault) (new : World)
+        → SetUp t request old (Err fault) new → Resets old → FaultLeaves Resets fault new
     no_set_up old Stalled new e x = trail_on e.trail x
     no_set_up old Busy new e x = trail_on e.trail x
     no_set_up old NoAnswer new e x = trail_on e.trail x
     no_set_up old (Bus fault) new c x = cut old fault new c x
 
     done : (old mid : World) → SetUp t request old (Ok []) mid → Resets old → Calms mid
-    done old mid e x = (trail_on e.trail x, last_aims e.trail (setup_acked e.last [] e.outcomes e.tells) x)
+    done old mid e x = (
+      trail_on e.trail x,
+      last_aims e.trail (setup_acked e.last [] e.outcomes e.tells) x,
+    )
 
-    pub resets_leave : (old : World) (result : Result (Unit {0}) PipeFault) (new : World) → Writes t request old result new → MapHolds f old → LeavesPipe Resets result new
-    resets_leave old (Ok u) new x o = status x.mid (Ok x.given) new x.status (done old x.mid x.set_up (inl o))
-    resets_leave old (Err why) new (inl n) o = of_fault Resets Resets new (λ x. x) n.fault why n.told (no_set_up old n.fault new n.set_up (inl o))
-    resets_leave old (Err why) new (inr n) o = of_fault Resets Resets new (λ x. x) n.fault why n.told (status n.mid (Err n.fault) new n.status (done old n.mid n.set_up (inl o)))
+    pub resets_leave : (old : World) (result : Result (Unit {0}) PipeFault) (new : World)
+        → Writes t request old result new → MapHolds f old → LeavesPipe Resets result new
+    resets_leave old (Ok u) new x o = status x.mid (Ok x.given) new x.status
+        (done old x.mid x.set_up (inl o))
+    resets_leave old (Err why) new (inl n) o =
+        of_fault Resets Resets new (λ x. x) n.fault why n.told
+        (no_set_up old n.fault new n.set_up (inl o))
+    resets_leave old (Err why) new (inr n) o =
+        of_fault Resets Resets new (λ x. x) n.fault why n.told
+        (status n.mid (Err n.fault) new n.status (done old n.mid n.set_up (inl o)))

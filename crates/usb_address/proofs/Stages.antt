@@ -1,5 +1,6 @@
 -- A device's status stage after an attempt: the one it had, or none that ends with an address.
-use Rattle.std.proofs.Common.{◌≡◌, ℕ, ◌+◌, ◌==◌, ◌&&◌, nat_lt, nat_le, if◌then◌else◌, Bool, true, false, List, [], ◌∷◌, length, take, Option, None, Some, is_some, refl}
+use Rattle.std.proofs.Common.{◌≡◌, ℕ, ◌+◌, ◌==◌, ◌&&◌, nat_lt, nat_le, if◌then◌else◌, Bool, true}
+use Rattle.std.proofs.Common.{false, List, [], ◌∷◌, length, take, Option, None, Some, is_some, refl}
 use Rattle.usb_packet.specs.declared.Toggle.{Toggle}
 use Rattle.usb_packet.specs.declared.Toggle.TheVariants.{Zero, One as Data1}
 use Rattle.usb_port.specs.PortState.{PortState}
@@ -8,9 +9,14 @@ use Rattle.usb_device.specs.declared.transfer.InEndpoint.{InEndpoint}
 use Rattle.usb_device.specs.declared.transfer.InEndpoint.TheVariants as by
 use Rattle.usb_packet.specs.Toggles.{is_same}
 use Rattle.usb_device.specs.Bulk.{tells_changes, change_bits}
-use Rattle.usb_device.specs.Transfer.{Stage, idle, refused, reading, read, ending, max_packet, packet_at, toggle_at}
-use Rattle.usb_device.specs.Rows.{State, Reply, forgotten, is_busy, nak_row, unless_busy, out_row, status_row, ack_row, sink_row, sunk, out_bulk_row, bulk_ack_row, bulk_of, rest_of, data_row, acknowledged, ends_with_address}
-use Rattle.usb_device.specs.Attempt.{Way, is_whole, heard, gave, in_stage_law, source_law, held_law, changes_law, in_bulk_law, in_other_law, in_control_law, in_law, out_law}
+use Rattle.usb_device.specs.Transfer.{Stage, idle, refused, reading, read, ending, max_packet}
+use Rattle.usb_device.specs.Transfer.{packet_at, toggle_at}
+use Rattle.usb_device.specs.Rows.{State, Reply, forgotten, is_busy, nak_row, unless_busy, out_row}
+use Rattle.usb_device.specs.Rows.{status_row, ack_row, sink_row, sunk, out_bulk_row, bulk_ack_row}
+use Rattle.usb_device.specs.Rows.{bulk_of, rest_of, data_row, acknowledged, ends_with_address}
+use Rattle.usb_device.specs.Attempt.{Way, is_whole, heard, gave, in_stage_law, source_law, held_law}
+use Rattle.usb_device.specs.Attempt.{changes_law, in_bulk_law, in_other_law, in_control_law, in_law}
+use Rattle.usb_device.specs.Attempt.{out_law}
 use Rattle.usb_address.specs.Aims.{Aims, Never}
 
 pub none_takes : (g : Stage) → Aims Never g → ends_with_address g ≡ false
@@ -45,12 +51,14 @@ module _ (Q : ℕ → Type 0) where
   bulk_acked s None h = h
   bulk_acked s (Some end) h = h
 
-  acknowledges : (s : State) (giver : InEndpoint) → Aims Q s.stage → Aims Q (acknowledged s giver).stage
+  acknowledges : (s : State) (giver : InEndpoint) → Aims Q s.stage
+      → Aims Q (acknowledged s giver).stage
   acknowledges s by.Control h = acked s s.stage h
   acknowledges s by.Bulk h = bulk_acked s (bulk_of s true) h
   acknowledges s by.Changes h = h
 
-  gives : (s : State) (giver : InEndpoint) (max : ℕ) (t : Toggle) (bytes : List ℕ) (x y : Way) → Aims Q s.stage → Keeps (gave s giver max t bytes x y)
+  gives : (s : State) (giver : InEndpoint) (max : ℕ) (t : Toggle) (bytes : List ℕ) (x y : Way)
+      → Aims Q s.stage → Keeps (gave s giver max t bytes x y)
   gives s giver max t bytes x y h = split (is_whole x && nat_le (length bytes) max && is_whole y)
     where
       split : (b : Bool) → Aims Q (if b then forgotten (acknowledged s giver) else s).stage
@@ -65,7 +73,12 @@ module _ (Q : ℕ → Type 0) where
     in_stage refused = h
     in_stage (reading a w k) = split (packet_at (max_packet s.spec) w a k)
       where
-        split : (o : Option (List ℕ)) → Keeps (elim o as (λ _. Reply) [ None ↦ (None, s) | Some bytes ↦ gave s by.Control max (toggle_at k) bytes x y ])
+        split : (o : Option (List ℕ)) → Keeps (elim o
+            as (λ _. Reply) [
+              | None ↦ (None, s)
+              | Some bytes ↦
+                  gave s by.Control max (toggle_at k) bytes x y
+            ])
         split None = h
         split (Some bytes) = gives s by.Control max (toggle_at k) bytes x y h
     in_stage read = h
@@ -74,32 +87,43 @@ module _ (Q : ℕ → Type 0) where
     source_keeps : (most : ℕ) → Keeps (source_law s most max x y)
     source_keeps most =
         keeps_if s.bulk_in.halted (heard x (Some answer.Stall), s) _ h
-        (keeps_if (length (rest_of s) == 0) (heard x (Some answer.Nak), s) (gave s by.Bulk max s.bulk_in.toggle (take most (rest_of s)) x y) h
+        (keeps_if (length (rest_of s) == 0) (heard x (Some answer.Nak), s)
+        (gave s by.Bulk max s.bulk_in.toggle (take most (rest_of s)) x y) h
         (gives s by.Bulk max s.bulk_in.toggle (take most (rest_of s)) x y h))
 
     bulk_keeps : (e : ℕ) (o : Option (ℕ × ℕ)) → Keeps (in_bulk_law s e o max x y)
     bulk_keeps e None = h
-    bulk_keeps e (Some end) = keeps_if (end.0 == e) (source_law s end.1 max x y) (None, s) (source_keeps end.1) h
+    bulk_keeps e (Some end) = keeps_if (end.0 == e) (source_law s end.1 max x y) (None, s)
+        (source_keeps end.1) h
 
     held_keeps : (row : List PortState) (o : Option ℕ) → Keeps (held_law s row o max x y)
     held_keeps row None =
-        keeps_if (change_bits row == 0) (heard x (Some answer.Nak), s) (gave (record s { held = Some (change_bits row) }) by.Changes max s.changes.toggle (change_bits row ∷ []) x y) h
-        (gives (record s { held = Some (change_bits row) }) by.Changes max s.changes.toggle (change_bits row ∷ []) x y h)
+        keeps_if (change_bits row == 0) (heard x (Some answer.Nak), s)
+        (gave (record s { held = Some (change_bits row) }) by.Changes max s.changes.toggle
+        (change_bits row ∷ []) x y) h
+        (gives (record s { held = Some (change_bits row) }) by.Changes max s.changes.toggle
+        (change_bits row ∷ []) x y h)
     held_keeps row (Some bits) = gives s by.Changes max s.changes.toggle (bits ∷ []) x y h
 
     other_keeps : (row : List PortState) (e : ℕ) → Keeps (in_other_law s row e max x y)
     other_keeps row e =
-        keeps_if (e == 1 && tells_changes s.spec s.registers) (changes_law s row max x y) (in_bulk_law s e (bulk_of s true) max x y)
-        (keeps_if s.changes.halted (heard x (Some answer.Stall), s) (held_law s row s.held max x y) h (held_keeps row s.held))
+        keeps_if (e == 1 && tells_changes s.spec s.registers) (changes_law s row max x y)
+        (in_bulk_law s e (bulk_of s true) max x y)
+        (keeps_if s.changes.halted (heard x (Some answer.Stall), s) (held_law s row s.held max x y)
+        h (held_keeps row s.held))
         (bulk_keeps e (bulk_of s true))
 
     control_keeps : Keeps (in_control_law s max x y)
-    control_keeps = keeps_if (is_busy s) (heard x (Some answer.Nak), (nak_row s).1) (in_stage_law s s.stage max x y) h (in_stage s.stage)
+    control_keeps = keeps_if (is_busy s) (heard x (Some answer.Nak), (nak_row s).1)
+        (in_stage_law s s.stage max x y) h (in_stage s.stage)
 
-  pub in_keeps : (s : State) (row : List PortState) (e max : ℕ) (z x y : Way) → Aims Q s.stage → Aims Q (in_law s row e max z x y).1.stage
+  pub in_keeps : (s : State) (row : List PortState) (e max : ℕ) (z x y : Way) → Aims Q s.stage
+      → Aims Q (in_law s row e max z x y).1.stage
   in_keeps s row e max z x y h =
-      keeps_if (is_whole z) (if e == 0 then in_control_law s max x y else in_other_law s row e max x y) (None, s)
-      (keeps_if (e == 0) (in_control_law s max x y) (in_other_law s row e max x y) (control_keeps s max x y h) (other_keeps s max x y h row e)) h
+      keeps_if (is_whole z) (if e == 0 then in_control_law s max x y else in_other_law s row e max x
+      y) (None, s)
+      (keeps_if (e == 0) (in_control_law s max x y) (in_other_law s row e max x y)
+      (control_keeps s max x y h) (other_keeps s max x y h row e)) h
 
   -- OUT
 
@@ -120,17 +144,25 @@ module _ (Q : ℕ → Type 0) where
     sink_keeps max =
         keeps_if s.bulk_out.halted (Some answer.Stall, s) _ h
         (keeps_if (nat_lt max (length bytes)) (None, s) _ h
-        (keeps_if (is_same t s.bulk_out.toggle) (Some answer.Ack, sunk s bytes) (Some answer.Ack, s) h h))
+        (keeps_if (is_same t s.bulk_out.toggle) (Some answer.Ack, sunk s bytes) (Some answer.Ack, s)
+        h h))
 
     out_bulk_keeps : (e : ℕ) (o : Option (ℕ × ℕ)) → Keeps (out_bulk_row s e o t bytes)
     out_bulk_keeps e None = h
-    out_bulk_keeps e (Some end) = keeps_if (end.0 == e) (sink_row s end.1 t bytes) (None, s) (sink_keeps end.1) h
+    out_bulk_keeps e (Some end) = keeps_if (end.0 == e) (sink_row s end.1 t bytes) (None, s)
+        (sink_keeps end.1) h
 
     data_keeps : (e : ℕ) → Keeps (data_row s e t bytes)
     data_keeps e =
-        keeps_if (e == 0) (unless_busy s (out_row s s.stage t bytes)) (out_bulk_row s e (bulk_of s false) t bytes)
-        (keeps_if (is_busy s) (nak_row s) (out_row s s.stage t bytes) h (out_row_keeps s.stage)) (out_bulk_keeps e (bulk_of s false))
+        keeps_if (e == 0) (unless_busy s (out_row s s.stage t bytes))
+        (out_bulk_row s e (bulk_of s false) t bytes)
+        (keeps_if (is_busy s) (nak_row s) (out_row s s.stage t bytes) h (out_row_keeps s.stage))
+        (out_bulk_keeps e (bulk_of s false))
 
-  pub out_keeps : (s : State) (e : ℕ) (t : Toggle) (bytes : List ℕ) (x y z : Way) → Aims Q s.stage → Aims Q (out_law s e t bytes x y z).1.stage
+  pub out_keeps : (s : State) (e : ℕ) (t : Toggle) (bytes : List ℕ) (x y z : Way) → Aims Q s.stage
+      → Aims Q (out_law s e t bytes x y z).1.stage
   out_keeps s e t bytes x y z h =
-      keeps_if (is_whole x && is_whole y) (heard z (data_row s e t bytes).0, forgotten (data_row s e t bytes).1) (None, s) (data_keeps s t bytes h e) h
+      keeps_if (is_whole x && is_whole y) (
+        heard z (data_row s e t bytes).0,
+        forgotten (data_row s e t bytes).1,
+      ) (None, s) (data_keeps s t bytes h e) h

@@ -1,5 +1,7 @@
--- Control transfers, one after the other, whatever their answers are: what is so as long as the bus is at work.
-use Rattle.std.proofs.Common.{◌≡◌, ℕ, ◌⊎◌, inl, inr, true, false, List, [], ◌∷◌, Option, None, Some, Result, Ok, Err, refl, ap, sym, ◌∙◌}
+-- Control transfers, one after the other, whatever their answers are: what is so as long as the bus
+-- is at work.
+use Rattle.std.proofs.Common.{◌≡◌, ℕ, ◌⊎◌, inl, inr, true, false, List, [], ◌∷◌, Option, None, Some}
+use Rattle.std.proofs.Common.{Result, Ok, Err, refl, ap, sym, ◌∙◌}
 use Rattle.std.specs.Prelude.{MatchResult}
 use Rattle.std.specs.Global.{Vec}
 use Rattle.usb_request.specs.Codes.{SET_ADDRESS, DEVICE_OUT}
@@ -17,7 +19,8 @@ use Rattle.usb_transaction.specs.declared.fault.TransFault.TheVariants as trans
 use Rattle.usb_transaction.specs.Transactions.{setup_attempt, AttemptsMade}
 use Rattle.usb_transaction.specs.AttemptLog.{AttemptLog, start, next}
 use Rattle.usb_pipe.specs.declared.fault.PipeFault.{PipeFault}
-use Rattle.usb_pipe.specs.declared.fault.PipeFault.TheVariants.{Stalled, Busy, NoAnswer, Broken, Bus, Memory}
+use Rattle.usb_pipe.specs.declared.fault.PipeFault.TheVariants.{Stalled, Busy, NoAnswer, Broken}
+use Rattle.usb_pipe.specs.declared.fault.PipeFault.TheVariants.{Bus, Memory}
 use Rattle.usb_pipe.specs.Control.{FaultAfter}
 use Rattle.usb_pipe.specs.Stages.{SetUp, NoSetUp, NoStatus, NoData, NotConfirmed, Reads, Writes}
 use Rattle.usb_address.specs.Claims.{AddressMap}
@@ -33,55 +36,73 @@ keeps_then a b c p q = record { kept = λ f o. q.kept f (p.kept f o) }
 
 -- An attempt is made only where the bus is at work
 
-pub trail_sound : {a : Attempt} {old new : World} {o : Outcome} {os : List Outcome} → AttemptLog a old (o ∷ os) new → old.fault ≡ None
+pub trail_sound : {a : Attempt} {old new : World} {o : Outcome} {os : List Outcome}
+    → AttemptLog a old (o ∷ os) new → old.fault ≡ None
 trail_sound (next w start made) = made.sound
 trail_sound (next w (next v t m) made) = trail_sound (next v t m)
 
-module _ (t : Target) (request : Setup) (old new : World) (g : BusFault) (e : old.fault ≡ Some g) where
-  set_up_nothing : (fault : TransFault) → SetUp t request old (Err fault) new → new ≡ old
-  set_up_nothing trans.Stalled x = absurd (cc (e, trail_sound x.trail))
-  set_up_nothing trans.Busy x = absurd (cc (e, trail_sound x.trail))
-  set_up_nothing trans.NoAnswer x = absurd (cc (e, trail_sound x.trail))
-  set_up_nothing (trans.Bus fault) x = cut x.outcomes x.mid x.trail (λ h. (x.refused.again g h).1)
-    where
-      cut : (os : List Outcome) (mid : World) → AttemptLog (setup_attempt t (bytes_of request)) old os mid → (mid.fault ≡ Some g → new ≡ mid) → new ≡ old
-      cut [] mid start again = again e
-      cut (o ∷ os) mid made again = absurd (cc (e, trail_sound made))
+module _ (t : Target) (request : Setup) (old new : World) (g : BusFault) (e : old.fault ≡ Some g)
+  where
+    set_up_nothing : (fault : TransFault) → SetUp t request old (Err fault) new → new ≡ old
+    set_up_nothing trans.Stalled x = absurd (cc (e, trail_sound x.trail))
+    set_up_nothing trans.Busy x = absurd (cc (e, trail_sound x.trail))
+    set_up_nothing trans.NoAnswer x = absurd (cc (e, trail_sound x.trail))
+    set_up_nothing (trans.Bus fault) x = cut x.outcomes x.mid x.trail (λ h. (x.refused.again g h).1)
+      where
+        cut : (os : List Outcome) (mid : World)
+            → AttemptLog (setup_attempt t (bytes_of request)) old os mid
+            → (mid.fault ≡ Some g → new ≡ mid) → new ≡ old
+        cut [] mid start again = again e
+        cut (o ∷ os) mid made again = absurd (cc (e, trail_sound made))
 
-  read_nothing : (result : Result (Vec ℕ) PipeFault) → Reads t request old result new → new ≡ old
-  read_nothing (Ok bytes) x = absurd (cc (e, trail_sound x.set_up.trail))
-  read_nothing (Err why) x = failed x
-    where
-      failed : NoSetUp t request old why new ⊎ NoData t request old why new ⊎ NotConfirmed t request old why new → new ≡ old
-      failed (inl x) = set_up_nothing x.fault x.set_up
-      failed (inr (inl x)) = absurd (cc (e, trail_sound x.set_up.trail))
-      failed (inr (inr x)) = absurd (cc (e, trail_sound x.set_up.trail))
+    read_nothing : (result : Result (Vec ℕ) PipeFault) → Reads t request old result new → new ≡ old
+    read_nothing (Ok bytes) x = absurd (cc (e, trail_sound x.set_up.trail))
+    read_nothing (Err why) x = failed x
+      where
+        failed : NoSetUp t request old why new ⊎ NoData t request old why new
+            ⊎ NotConfirmed t request old why new → new ≡ old
+        failed (inl x) = set_up_nothing x.fault x.set_up
+        failed (inr (inl x)) = absurd (cc (e, trail_sound x.set_up.trail))
+        failed (inr (inr x)) = absurd (cc (e, trail_sound x.set_up.trail))
 
-  write_nothing : (result : Result (Unit {0}) PipeFault) → Writes t request old result new → new ≡ old
-  write_nothing (Ok done) x = absurd (cc (e, trail_sound x.set_up.trail))
-  write_nothing (Err why) x = failed x
-    where
-      failed : NoSetUp t request old why new ⊎ NoStatus t request old why new → new ≡ old
-      failed (inl x) = set_up_nothing x.fault x.set_up
-      failed (inr x) = absurd (cc (e, trail_sound x.set_up.trail))
+    write_nothing : (result : Result (Unit {0}) PipeFault) → Writes t request old result new
+        → new ≡ old
+    write_nothing (Ok done) x = absurd (cc (e, trail_sound x.set_up.trail))
+    write_nothing (Err why) x = failed x
+      where
+        failed : NoSetUp t request old why new ⊎ NoStatus t request old why new → new ≡ old
+        failed (inl x) = set_up_nothing x.fault x.set_up
+        failed (inr x) = absurd (cc (e, trail_sound x.set_up.trail))
 
 -- A fault of the bus is told
 
 module _ (P : World → Type 0) (alone : (w : World) → P w → w.shared ≡ false) (old new : World) where
-  pub till : {A : Type 0} (k n : ℕ) (result : Result A PipeFault) → MatchResult result (λ _. AttemptsMade k old new) (λ fault. FaultAfter n old fault new) → LeavesPipe P result new → WhileBusWorks P new
+  pub till : {A : Type 0} (k n : ℕ) (result : Result A PipeFault)
+      → MatchResult result (λ _. AttemptsMade k old new) (λ fault. FaultAfter n old fault new)
+      → LeavesPipe P result new → WhileBusWorks P new
   till k n (Ok x) ends p = record { so = λ h. p; single = alone new p }
   till k n (Err Stalled) ends p = record { so = λ h. p; single = alone new p }
   till k n (Err Busy) ends p = record { so = λ h. p; single = alone new p }
   till k n (Err NoAnswer) ends p = record { so = λ h. p; single = alone new p }
   till k n (Err Broken) ends p = record { so = λ h. p; single = alone new p }
-  till k n (Err (Bus fault)) ends single = record { so = λ h. absurd (cc (h, ends.told)); single = single }
+  till k n (Err (Bus fault)) ends single = record {
+    so = λ h. absurd (cc (h, ends.told));
+    single =
+        single;
+  }
   till k n (Err Memory) ends p = record { so = λ h. p; single = alone new p }
 
-  pub still : (g : BusFault) → old.fault ≡ Some g → old.shared ≡ false → new ≡ old → WhileBusWorks P new
-  still g e single same = record { so = λ h. absurd (cc (e, ap (λ w. w.fault) (sym same) ∙ h)); single = ap (λ w. w.shared) same ∙ single }
+  pub still : (g : BusFault) → old.fault ≡ Some g → old.shared ≡ false → new ≡ old
+      → WhileBusWorks P new
+  still g e single same = record {
+    so = λ h. absurd (cc (e, ap (λ w. w.fault) (sym same) ∙ h));
+    single = ap (λ w. w.shared) same ∙ single;
+  }
 
   module _ (k n : ℕ) (t : Target) (request : Setup) (single : old.shared ≡ false) where
-    pub read_till : (result : Result (Vec ℕ) PipeFault) → MatchResult result (λ _. AttemptsMade k old new) (λ fault. FaultAfter n old fault new) → Reads t request old result new
+    pub read_till : (result : Result (Vec ℕ) PipeFault)
+        → MatchResult result (λ _. AttemptsMade k old new) (λ fault. FaultAfter n old fault new)
+        → Reads t request old result new
         → (old.fault ≡ None → LeavesPipe P result new) → WhileBusWorks P new
     read_till result ends reads leaves = split old.fault refl
       where
@@ -89,7 +110,9 @@ module _ (P : World → Type 0) (alone : (w : World) → P w → w.shared ≡ fa
         split None e = till k n result ends (leaves e)
         split (Some g) e = still g e single (read_nothing t request old new g e result reads)
 
-    pub write_till : (result : Result (Unit {0}) PipeFault) → MatchResult result (λ _. AttemptsMade k old new) (λ fault. FaultAfter n old fault new) → Writes t request old result new
+    pub write_till : (result : Result (Unit {0}) PipeFault)
+        → MatchResult result (λ _. AttemptsMade k old new) (λ fault. FaultAfter n old fault new)
+        → Writes t request old result new
         → (old.fault ≡ None → LeavesPipe P result new) → WhileBusWorks P new
     write_till result ends writes leaves = split old.fault refl
       where
@@ -106,13 +129,21 @@ either_alone f g w (inr o) = o.single
 
 -- A request that neither resets a port nor gives an address
 
-module _ (t : Target) (request : Setup) (same : setup_of (bytes_of request) ≡ request) (harmless : is_harmless request ≡ true) (other : Is request DEVICE_OUT SET_ADDRESS ≡ false) (k n : ℕ) (old new : World) where
-  pub read_keeps : (result : Result (Vec ℕ) PipeFault) → MatchResult result (λ _. AttemptsMade k old new) (λ fault. FaultAfter n old fault new) → Reads t request old result new → KeepsAddresses old new
+module _ (t : Target) (request : Setup) (same : setup_of (bytes_of request) ≡ request)
+    (harmless : is_harmless request ≡ true) (other : Is request DEVICE_OUT SET_ADDRESS ≡ false)
+    (k n : ℕ) (old new : World) where
+  pub read_keeps : (result : Result (Vec ℕ) PipeFault)
+      → MatchResult result (λ _. AttemptsMade k old new) (λ fault. FaultAfter n old fault new)
+      → Reads t request old result new → KeepsAddresses old new
   read_keeps result ends reads = record {
-    kept = λ f o. read_till (MapHolds f) (owned_alone f) old new k n t request o.single result ends reads (λ e. reads_leave f t request same harmless other old result new reads (o.so e));
+    kept = λ f o. read_till (MapHolds f) (owned_alone f) old new k n t request o.single result ends
+        reads (λ e. reads_leave f t request same harmless other old result new reads (o.so e));
   }
 
-  pub write_keeps : (result : Result (Unit {0}) PipeFault) → MatchResult result (λ _. AttemptsMade k old new) (λ fault. FaultAfter n old fault new) → Writes t request old result new → KeepsAddresses old new
+  pub write_keeps : (result : Result (Unit {0}) PipeFault)
+      → MatchResult result (λ _. AttemptsMade k old new) (λ fault. FaultAfter n old fault new)
+      → Writes t request old result new → KeepsAddresses old new
   write_keeps result ends writes = record {
-    kept = λ f o. write_till (MapHolds f) (owned_alone f) old new k n t request o.single result ends writes (λ e. writes_leave f t request same harmless other old result new writes (o.so e));
+    kept = λ f o. write_till (MapHolds f) (owned_alone f) old new k n t request o.single result ends
+        writes (λ e. writes_leave f t request same harmless other old result new writes (o.so e));
   }

@@ -1,16 +1,20 @@
--- A port without power, of which nothing is asked, stays without power, whatever is plugged or unplugged.
-use Rattle.std.proofs.Common.{◌≡◌, ℕ, zero, suc, false, List, [], ◌∷◌, Option, None, Some, ap, sym, subst, ◌∙◌, refl}
+-- A port without power, of which nothing is asked, stays without power, whatever is plugged or
+-- unplugged.
+use Rattle.std.proofs.Common.{◌≡◌, ℕ, zero, suc, false, List, [], ◌∷◌, Option, None, Some, ap, sym}
+use Rattle.std.proofs.Common.{subst, ◌∙◌, refl}
 use Rattle.std.proofs.lemmas.Option.{same_Some}
 use Rattle.usb_port.specs.PortState.{PortState, plugged, unplugged, off}
 use Rattle.usb_device.specs.Rows.{fresh}
 use Rattle.usb_device.specs.Spec.{Spec, Hub}
-use Rattle.usb_device.specs.Tree.{Ports, ended, vacant, taken, new_ports, first_ports, replaced, changed, changed_at, port_at}
+use Rattle.usb_device.specs.Tree.{Ports, ended, vacant, taken, new_ports, first_ports, replaced}
+use Rattle.usb_device.specs.Tree.{changed, changed_at, port_at}
 use Rattle.usb_device.specs.View.{port_there}
 use Rattle.usb_world.specs.declared.event.Action.{Action}
 use Rattle.usb_world.specs.PortRequests.{leaves_step, LeavesPort}
 use Rattle.usb_world.specs.Steps.{after_change, after_event, at_attempt, Course}
 use Rattle.usb_world.specs.World.{World}
-use Rattle.usb_world.proofs.Interface.{Keeps, OverSteps, happened_by, keeps_events, made_port, over_course, over_ready, root_port}
+use Rattle.usb_world.proofs.Interface.{Keeps, OverSteps, happened_by, keeps_events, made_port}
+use Rattle.usb_world.proofs.Interface.{over_course, over_ready, root_port}
 
 -- the port that stands there, if any, has no power
 abbrev pub NoPower : Option PortState → Type 0
@@ -36,12 +40,14 @@ unfolding port_at
 first_unpowered None j p = no_power_none
 first_unpowered (Some hub) j p = new_unpowered hub.ports j p
 
-event_unpowered : (o : Option Spec) (k : Ports) (i : ℕ) (e : List ℕ) (j : ℕ) (p : List ℕ) → NoPower (port_at k j p) → NoPower (port_at (changed_at (replaced o) k i e) j p)
+event_unpowered : (o : Option Spec) (k : Ports) (i : ℕ) (e : List ℕ) (j : ℕ) (p : List ℕ)
+    → NoPower (port_at k j p) → NoPower (port_at (changed_at (replaced o) k i e) j p)
 unfolding changed_at port_at fresh
 event_unpowered o ended i e j p h = h
 event_unpowered None (vacant c k) zero [] zero [] h = as_unpowered c (unplugged c) refl h
 event_unpowered None (vacant c k) zero [] zero (m ∷ p) h = h
-event_unpowered (Some s) (vacant c k) zero [] zero [] h = as_unpowered c (plugged s.low (unplugged c)) refl h
+event_unpowered (Some s) (vacant c k) zero [] zero [] h =
+    as_unpowered c (plugged s.low (unplugged c)) refl h
 event_unpowered (Some s) (vacant c k) zero [] zero (zero ∷ p) h = h
 event_unpowered (Some s) (vacant c k) zero [] zero (suc m ∷ p) h = first_unpowered s.hub m p
 event_unpowered None (vacant c k) zero [] (suc j) p h = h
@@ -52,7 +58,8 @@ event_unpowered o (vacant c k) (suc i) e zero (m ∷ p) h = h
 event_unpowered o (vacant c k) (suc i) e (suc j) p h = event_unpowered o k i e j p h
 event_unpowered None (taken c s a k) zero [] zero [] h = as_unpowered c (unplugged c) refl h
 event_unpowered None (taken c s a k) zero [] zero (m ∷ p) h = no_power_none
-event_unpowered (Some t) (taken c s a k) zero [] zero [] h = as_unpowered c (plugged t.low (unplugged c)) refl h
+event_unpowered (Some t) (taken c s a k) zero [] zero [] h =
+    as_unpowered c (plugged t.low (unplugged c)) refl h
 event_unpowered (Some t) (taken c s a k) zero [] zero (zero ∷ p) h = no_power_none
 event_unpowered (Some t) (taken c s a k) zero [] zero (suc m ∷ p) h = first_unpowered t.hub m p
 event_unpowered None (taken c s a k) zero [] (suc j) p h = h
@@ -60,14 +67,16 @@ event_unpowered (Some t) (taken c s a k) zero [] (suc j) p h = h
 event_unpowered o (taken c s a k) zero (zero ∷ e) j p h = h
 event_unpowered o (taken c s a k) zero (suc m ∷ e) zero [] h = h
 event_unpowered o (taken c s a k) zero (suc m ∷ e) zero (zero ∷ p) h = h
-event_unpowered o (taken c s a k) zero (suc m ∷ e) zero (suc n ∷ p) h = event_unpowered o a m e n p h
+event_unpowered o (taken c s a k) zero (suc m ∷ e) zero (suc n ∷ p) h =
+    event_unpowered o a m e n p h
 event_unpowered o (taken c s a k) zero (suc m ∷ e) (suc j) p h = h
 event_unpowered o (taken c s a k) (suc i) e zero [] h = h
 event_unpowered o (taken c s a k) (suc i) e zero (zero ∷ p) h = h
 event_unpowered o (taken c s a k) (suc i) e zero (suc n ∷ p) h = h
 event_unpowered o (taken c s a k) (suc i) e (suc j) p h = event_unpowered o k i e j p h
 
-replaced_unpowered : (o : Option Spec) (k : Ports) (x p : List ℕ) → NoPower (port_there k p) → NoPower (port_there (changed (replaced o) k x) p)
+replaced_unpowered : (o : Option Spec) (k : Ports) (x p : List ℕ) → NoPower (port_there k p)
+    → NoPower (port_there (changed (replaced o) k x) p)
 replaced_unpowered o k [] p h = h
 replaced_unpowered o k (zero ∷ x) p h = h
 replaced_unpowered o k (suc i ∷ x) [] h = h
@@ -92,8 +101,10 @@ unpowered_steps p = record {
   refused = λ w h. h;
 }
 
-pub ready_unpowered : (w : World) (p : List ℕ) → NoPower (port_there w.roots p) → NoPower (port_there (at_attempt w).roots p)
+pub ready_unpowered : (w : World) (p : List ℕ) → NoPower (port_there w.roots p)
+    → NoPower (port_there (at_attempt w).roots p)
 ready_unpowered w p = over_ready (unpowered_steps p).events w
 
-pub stays_unpowered : (p : List ℕ) {w v : World} → Course (LeavesPort p) w v → NoPower (port_there w.roots p) → NoPower (port_there v.roots p)
+pub stays_unpowered : (p : List ℕ) {w v : World} → Course (LeavesPort p) w v
+    → NoPower (port_there w.roots p) → NoPower (port_there v.roots p)
 stays_unpowered p c = over_course (unpowered_steps p) c

@@ -1,6 +1,7 @@
 -- Which addresses status stages end with (9.4.6).
 use Rattle.std.specs.Prelude.{◌≡◌, ℕ, true, None, Some, ⊤}
-use Rattle.usb_device.specs.Request.{Outcome, stalled, answers, takes_address, takes_configuration, halts, unhalts, tells_port, calls_port}
+use Rattle.usb_device.specs.Request.{Outcome, stalled, answers, takes_address, takes_configuration}
+use Rattle.usb_device.specs.Request.{halts, unhalts, tells_port, calls_port}
 use Rattle.usb_device.specs.Rows.{State}
 use Rattle.usb_device.specs.Transfer.{Stage, idle, refused, reading, read, ending}
 use Rattle.usb_device.specs.Tree.{Location, reach_on, state_on}
@@ -18,7 +19,8 @@ Aims Q (ending (Some a)) = Q a
 
 -- so it is of each reachable device at an address
 abbrev pub AllAim : (ℕ → Type 0) → ℕ → World → Type 0
-AllAim Q n w = (i : Location) (s : State) → reach_on w.roots i ≡ true → state_on w.roots i ≡ Some s → address_of s ≡ n → Aims Q s.stage
+AllAim Q n w = (i : Location) (s : State) → reach_on w.roots i ≡ true → state_on w.roots i ≡ Some s
+    → address_of s ≡ n → Aims Q s.stage
 
 -- a request that asks for an address asks for such a one
 abbrev pub TakesOnly : (ℕ → Type 0) → Outcome → Type 0

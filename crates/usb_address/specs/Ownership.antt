@@ -7,7 +7,8 @@ use Rattle.usb_tree.specs.AttemptPackets.{IsSettled}
 use Rattle.usb_world.specs.World.{World}
 use Rattle.usb_address.specs.Claims.{AddressMap}
 
--- each reachable device holds the address that its path claims; what claims one need not be reachable
+-- each reachable device holds the address that its path claims; what claims one need not be
+-- reachable
 pub record MapHolds (f : AddressMap) (w : World) : Type 0 where
   pub distinct : Injective f
   pub own : HoldsMapped f w
@@ -20,13 +21,15 @@ pub record MapHoldsExcept (p : List ℕ) (f : AddressMap) (w : World) : Type 0 w
   pub owned : MapHolds claims w
   pub others : (x : List ℕ) → is_way p x ≡ false → claims x ≡ f x
 
--- the device at a path that is being enumerated, where one is reached, has address 0 or the one that is set aside for it
+-- the device at a path that is being enumerated, where one is reached, has address 0 or the one
+-- that is set aside for it
 pub record Enumerating (f : AddressMap) (p : List ℕ) (address : ℕ) (w : World) : Type 0 where
   pub has : ℕ
   pub is : (has ≡ 0) ⊎ (has ≡ address)
   pub owned : MapHolds (after_taking f p has) w
 
--- so it is as long as the bus is at work; no address was ever held twice, also where it has given up
+-- so it is as long as the bus is at work; no address was ever held twice, also where it has given
+-- up
 pub record WhileBusWorks (P : World → Type 0) (w : World) : Type 0 where
   pub so : w.fault ≡ None → P w
   pub single : w.shared ≡ false

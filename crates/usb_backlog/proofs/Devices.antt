@@ -1,8 +1,10 @@
 -- How many devices stand at ports, over calls, plugs and unplugs.
-use Rattle.std.proofs.Common.{◌≡◌, ◌≤◌, ℕ, zero, suc, ◌+◌, Bool, true, false, List, [], ◌∷◌, Option, None, Some, refl, arith}
+use Rattle.std.proofs.Common.{◌≡◌, ◌≤◌, ℕ, zero, suc, ◌+◌, Bool, true, false, List, [], ◌∷◌, Option}
+use Rattle.std.proofs.Common.{None, Some, refl, arith}
 use Rattle.usb_device.specs.Rows.{fresh}
 use Rattle.usb_device.specs.Spec.{Spec, Hub}
-use Rattle.usb_device.specs.Tree.{Ports, ended, vacant, taken, new_ports, first_ports, replaced, changed_at}
+use Rattle.usb_device.specs.Tree.{Ports, ended, vacant, taken, new_ports, first_ports, replaced}
+use Rattle.usb_device.specs.Tree.{changed_at}
 use Rattle.usb_backlog.specs.Marks.{charged, devices_in}
 
 pub charged-rises : (x : Bool) (m n : ℕ) → m ≤ n → charged x m ≤ charged x n
@@ -36,7 +38,8 @@ own-most x o = omega (arith, charged-most x (1 + devices_in (first_ports o)), de
 
 -- A plug
 
-pub devices_in-plugged : (s : Spec) (k : Ports) (i : ℕ) (p : List ℕ) → devices_in (changed_at (replaced (Some s)) k i p) ≤ devices_in k + 1
+pub devices_in-plugged : (s : Spec) (k : Ports) (i : ℕ) (p : List ℕ)
+    → devices_in (changed_at (replaced (Some s)) k i p) ≤ devices_in k + 1
 unfolding devices_in changed_at fresh
 devices_in-plugged s ended i p = omega arith
 devices_in-plugged s (vacant b k) zero [] = omega (arith, devices_in-first s.hub)
@@ -49,7 +52,8 @@ devices_in-plugged s (taken b t a k) (suc i) p = omega (arith, devices_in-plugge
 
 -- An unplug
 
-pub devices_in-unplugged : (k : Ports) (i : ℕ) (p : List ℕ) → devices_in (changed_at (replaced None) k i p) ≤ devices_in k
+pub devices_in-unplugged : (k : Ports) (i : ℕ) (p : List ℕ)
+    → devices_in (changed_at (replaced None) k i p) ≤ devices_in k
 unfolding devices_in changed_at
 devices_in-unplugged ended i p = omega arith
 devices_in-unplugged (vacant b k) zero [] = omega arith

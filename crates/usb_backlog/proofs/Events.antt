@@ -1,10 +1,12 @@
 -- What events add to what is left to do, where ports are marked.
-use Rattle.std.proofs.Common.{◌≡◌, ◌≤◌, ℕ, zero, suc, ◌+◌, ◌||◌, Bool, true, false, List, [], ◌∷◌, length, slice_get, Option, None, Some, refl, subst, ◌∙◌, arith}
+use Rattle.std.proofs.Common.{◌≡◌, ◌≤◌, ℕ, zero, suc, ◌+◌, ◌||◌, Bool, true, false, List, [], ◌∷◌}
+use Rattle.std.proofs.Common.{length, slice_get, Option, None, Some, refl, subst, ◌∙◌, arith}
 use Rattle.std.proofs.lemmas.List.Elements.{All-head, All-tail}
 use Rattle.usb_port.specs.PortState.{bit}
 use Rattle.usb_device.specs.Rows.{fresh}
 use Rattle.usb_device.specs.Spec.{Spec, Hub}
-use Rattle.usb_device.specs.Tree.{Ports, ended, vacant, taken, new_ports, first_ports, replaced, changed_at}
+use Rattle.usb_device.specs.Tree.{Ports, ended, vacant, taken, new_ports, first_ports, replaced}
+use Rattle.usb_device.specs.Tree.{changed_at}
 use Rattle.usb_world.specs.declared.event.Action.{Action}
 use Rattle.usb_world.specs.declared.event.Action.TheVariants.{Change, Ask}
 use Rattle.usb_world.specs.declared.event.Change.TheVariants.{Plug, Unplug}
@@ -13,7 +15,8 @@ use Rattle.usb_world.specs.PlanCourses.{AtPorts, PlugsAtPort}
 use Rattle.usb_world.specs.Steps.{after, event, after_change, at_attempt, after_event, with_plugged}
 use Rattle.usb_world.specs.World.{World}
 use Rattle.usb_world.proofs.Interface.{OverEvents, over_ready, over_taken}
-use Rattle.usb_backlog.specs.Marks.{charged, devices_in, Few, KeepsBy, PortMark, after_first, below_first, devices_by, looks_by, strays_by}
+use Rattle.usb_backlog.specs.Marks.{charged, devices_in, Few, KeepsBy, PortMark, after_first}
+use Rattle.usb_backlog.specs.Marks.{below_first, devices_by, looks_by, strays_by}
 use Rattle.usb_backlog.proofs.Devices.{charged-rises, charged-more, charged-most}
 use Rattle.usb_backlog.proofs.Devices.{devices_in-plugged, devices_in-unplugged, own-most}
 
@@ -39,52 +42,93 @@ unfolding devices_by
 devices_by-first m None = refl
 devices_by-first m (Some hub) = devices_by-new m hub.ports
 
-strays_by-first : (v r : PortMark) → ((n : ℕ) → strays_by v r (new_ports n) ≤ 1) → (o : Option Hub) → strays_by v r (first_ports o) ≤ 1
+strays_by-first : (v r : PortMark) → ((n : ℕ) → strays_by v r (new_ports n) ≤ 1) → (o : Option Hub)
+    → strays_by v r (first_ports o) ≤ 1
 unfolding strays_by
 strays_by-first v r h None = omega arith
 strays_by-first v r h (Some hub) = h hub.ports
 
 -- A plug
 
-looks_by-plugged : (m : PortMark) (s : Spec) (k : Ports) (i : ℕ) (p : List ℕ) → looks_by m (changed_at (replaced (Some s)) k i p) ≤ looks_by m k + 1 + length p
+looks_by-plugged : (m : PortMark) (s : Spec) (k : Ports) (i : ℕ) (p : List ℕ)
+    → looks_by m (changed_at (replaced (Some s)) k i p) ≤ looks_by m k + 1 + length p
 unfolding looks_by changed_at fresh
 looks_by-plugged m s ended i p = omega arith
-looks_by-plugged m s (vacant b k) zero [] = omega (arith, looks_by-first (below_first m) s.hub, own-most (m zero [] || (b.power || (b.power || b.connection_changed))) s.hub)
+looks_by-plugged m s (vacant b k) zero [] =
+    omega (
+      arith,
+      looks_by-first (below_first m) s.hub,
+      own-most (m zero [] || (b.power || (b.power || b.connection_changed))) s.hub,
+    )
 looks_by-plugged m s (vacant b k) zero (n ∷ p) = omega arith
 looks_by-plugged m s (vacant b k) (suc i) p = looks_by-plugged (after_first m) s k i p
-looks_by-plugged m s (taken b t a k) zero [] = omega (arith, looks_by-first (below_first m) s.hub, own-most (m zero [] || (b.power || (b.power || b.connection_changed))) s.hub)
+looks_by-plugged m s (taken b t a k) zero [] =
+    omega (
+      arith,
+      looks_by-first (below_first m) s.hub,
+      own-most (m zero [] || (b.power || (b.power || b.connection_changed))) s.hub,
+    )
 looks_by-plugged m s (taken b t a k) zero (zero ∷ p) = omega arith
 looks_by-plugged m s (taken b t a k) zero (suc j ∷ p) =
-    let one : charged (m zero [] || b.connection_changed) (1 + devices_in (changed_at (replaced (Some s)) a j p)) ≤ charged (m zero [] || b.connection_changed) (1 + devices_in a) + 1 =
-    charged-more (m zero [] || b.connection_changed) (1 + devices_in (changed_at (replaced (Some s)) a j p)) (1 + devices_in a) (omega (arith, devices_in-plugged s a j p)) in
+    let one : charged (m zero [] || b.connection_changed)
+    (1 + devices_in (changed_at (replaced (Some s)) a j p))
+    ≤ charged (m zero [] || b.connection_changed) (1 + devices_in a) + 1 =
+    charged-more (m zero [] || b.connection_changed)
+    (1 + devices_in (changed_at (replaced (Some s)) a j p)) (1 + devices_in a)
+    (omega (arith, devices_in-plugged s a j p)) in
     omega (arith, looks_by-plugged (below_first m) s a j p, one)
-looks_by-plugged m s (taken b t a k) (suc i) p = omega (arith, looks_by-plugged (after_first m) s k i p)
+looks_by-plugged m s (taken b t a k) (suc i) p =
+    omega (arith, looks_by-plugged (after_first m) s k i p)
 
-devices_by-plugged : (m : PortMark) (s : Spec) (k : Ports) (i : ℕ) (p : List ℕ) → devices_by m (changed_at (replaced (Some s)) k i p) ≤ devices_by m k + 1
+devices_by-plugged : (m : PortMark) (s : Spec) (k : Ports) (i : ℕ) (p : List ℕ)
+    → devices_by m (changed_at (replaced (Some s)) k i p) ≤ devices_by m k + 1
 unfolding devices_by changed_at fresh
 devices_by-plugged m s ended i p = omega arith
-devices_by-plugged m s (vacant b k) zero [] = omega (arith, devices_by-first (below_first m) s.hub, charged-most (m zero []) 1)
+devices_by-plugged m s (vacant b k) zero [] =
+    omega (arith, devices_by-first (below_first m) s.hub, charged-most (m zero []) 1)
 devices_by-plugged m s (vacant b k) zero (n ∷ p) = omega arith
 devices_by-plugged m s (vacant b k) (suc i) p = devices_by-plugged (after_first m) s k i p
-devices_by-plugged m s (taken b t a k) zero [] = omega (arith, devices_by-first (below_first m) s.hub)
+devices_by-plugged m s (taken b t a k) zero [] =
+    omega (arith, devices_by-first (below_first m) s.hub)
 devices_by-plugged m s (taken b t a k) zero (zero ∷ p) = omega arith
-devices_by-plugged m s (taken b t a k) zero (suc j ∷ p) = omega (arith, devices_by-plugged (below_first m) s a j p)
-devices_by-plugged m s (taken b t a k) (suc i) p = omega (arith, devices_by-plugged (after_first m) s k i p)
+devices_by-plugged m s (taken b t a k) zero (suc j ∷ p) =
+    omega (arith, devices_by-plugged (below_first m) s a j p)
+devices_by-plugged m s (taken b t a k) (suc i) p =
+    omega (arith, devices_by-plugged (after_first m) s k i p)
 
-strays_by-plugged : (v r : PortMark) → Few v r → (s : Spec) (k : Ports) (i : ℕ) (p : List ℕ) → strays_by v r (changed_at (replaced (Some s)) k i p) ≤ strays_by v r k + 1
+strays_by-plugged : (v r : PortMark) → Few v r → (s : Spec) (k : Ports) (i : ℕ) (p : List ℕ)
+    → strays_by v r (changed_at (replaced (Some s)) k i p) ≤ strays_by v r k + 1
 unfolding strays_by changed_at fresh
 strays_by-plugged v r h s ended i p = omega arith
-strays_by-plugged v r h s (vacant b k) zero [] = omega (arith, strays_by-first (below_first v) (below_first r) (h zero []) s.hub)
+strays_by-plugged v r h s (vacant b k) zero [] =
+    omega (arith, strays_by-first (below_first v) (below_first r) (h zero []) s.hub)
 strays_by-plugged v r h s (vacant b k) zero (n ∷ p) = omega arith
-strays_by-plugged v r h s (vacant b k) (suc i) p = omega (arith, strays_by-plugged (after_first v) (after_first r) (λ i p n. h (suc i) p n) s k i p)
-strays_by-plugged v r h s (taken b t a k) zero [] = omega (arith, strays_by-first (below_first v) (below_first r) (h zero []) s.hub)
+strays_by-plugged v r h s (vacant b k) (suc i) p =
+    omega (
+      arith,
+      strays_by-plugged (after_first v) (after_first r) (λ i p n. h (suc i) p n) s k i
+          p,
+    )
+strays_by-plugged v r h s (taken b t a k) zero [] =
+    omega (arith, strays_by-first (below_first v) (below_first r) (h zero []) s.hub)
 strays_by-plugged v r h s (taken b t a k) zero (zero ∷ p) = omega arith
-strays_by-plugged v r h s (taken b t a k) zero (suc j ∷ p) = omega (arith, strays_by-plugged (below_first v) (below_first r) (λ i p n. h zero (suc i ∷ p) n) s a j p)
-strays_by-plugged v r h s (taken b t a k) (suc i) p = omega (arith, strays_by-plugged (after_first v) (after_first r) (λ i p n. h (suc i) p n) s k i p)
+strays_by-plugged v r h s (taken b t a k) zero (suc j ∷ p) =
+    omega (
+      arith,
+      strays_by-plugged (below_first v) (below_first r) (λ i p n. h zero (suc i ∷ p) n)
+          s a j p,
+    )
+strays_by-plugged v r h s (taken b t a k) (suc i) p =
+    omega (
+      arith,
+      strays_by-plugged (after_first v) (after_first r) (λ i p n. h (suc i) p n) s k i
+          p,
+    )
 
 -- An unplug
 
-looks_by-unplugged : (m : PortMark) (k : Ports) (i : ℕ) (p : List ℕ) → looks_by m (changed_at (replaced None) k i p) ≤ looks_by m k
+looks_by-unplugged : (m : PortMark) (k : Ports) (i : ℕ) (p : List ℕ)
+    → looks_by m (changed_at (replaced None) k i p) ≤ looks_by m k
 unfolding looks_by changed_at
 looks_by-unplugged m ended i p = omega arith
 looks_by-unplugged m (vacant b k) zero [] = omega arith
@@ -93,12 +137,18 @@ looks_by-unplugged m (vacant b k) (suc i) p = looks_by-unplugged (after_first m)
 looks_by-unplugged m (taken b t a k) zero [] = omega arith
 looks_by-unplugged m (taken b t a k) zero (zero ∷ p) = omega arith
 looks_by-unplugged m (taken b t a k) zero (suc j ∷ p) =
-    let less : charged (m zero [] || b.connection_changed) (1 + devices_in (changed_at (replaced None) a j p)) ≤ charged (m zero [] || b.connection_changed) (1 + devices_in a) =
-    charged-rises (m zero [] || b.connection_changed) (1 + devices_in (changed_at (replaced None) a j p)) (1 + devices_in a) (omega (arith, devices_in-unplugged a j p)) in
+    let less : charged (m zero [] || b.connection_changed)
+    (1 + devices_in (changed_at (replaced None) a j p))
+    ≤ charged (m zero [] || b.connection_changed) (1 + devices_in a) =
+    charged-rises (m zero [] || b.connection_changed)
+    (1 + devices_in (changed_at (replaced None) a j p)) (1 + devices_in a)
+    (omega (arith, devices_in-unplugged a j p)) in
     omega (arith, looks_by-unplugged (below_first m) a j p, less)
-looks_by-unplugged m (taken b t a k) (suc i) p = omega (arith, looks_by-unplugged (after_first m) k i p)
+looks_by-unplugged m (taken b t a k) (suc i) p =
+    omega (arith, looks_by-unplugged (after_first m) k i p)
 
-devices_by-unplugged : (m : PortMark) (k : Ports) (i : ℕ) (p : List ℕ) → devices_by m (changed_at (replaced None) k i p) ≤ devices_by m k
+devices_by-unplugged : (m : PortMark) (k : Ports) (i : ℕ) (p : List ℕ)
+    → devices_by m (changed_at (replaced None) k i p) ≤ devices_by m k
 unfolding devices_by changed_at
 devices_by-unplugged m ended i p = omega arith
 devices_by-unplugged m (vacant b k) zero [] = omega arith
@@ -106,23 +156,31 @@ devices_by-unplugged m (vacant b k) zero (n ∷ p) = omega arith
 devices_by-unplugged m (vacant b k) (suc i) p = devices_by-unplugged (after_first m) k i p
 devices_by-unplugged m (taken b t a k) zero [] = omega arith
 devices_by-unplugged m (taken b t a k) zero (zero ∷ p) = omega arith
-devices_by-unplugged m (taken b t a k) zero (suc j ∷ p) = omega (arith, devices_by-unplugged (below_first m) a j p)
-devices_by-unplugged m (taken b t a k) (suc i) p = omega (arith, devices_by-unplugged (after_first m) k i p)
+devices_by-unplugged m (taken b t a k) zero (suc j ∷ p) =
+    omega (arith, devices_by-unplugged (below_first m) a j p)
+devices_by-unplugged m (taken b t a k) (suc i) p =
+    omega (arith, devices_by-unplugged (after_first m) k i p)
 
 bit-one : (x : Bool) → bit x ≤ 1
 bit-one true = omega arith
 bit-one false = omega arith
 
-strays_by-unplugged : (v r : PortMark) (k : Ports) (i : ℕ) (p : List ℕ) → strays_by v r (changed_at (replaced None) k i p) ≤ strays_by v r k + 1
+strays_by-unplugged : (v r : PortMark) (k : Ports) (i : ℕ) (p : List ℕ)
+    → strays_by v r (changed_at (replaced None) k i p) ≤ strays_by v r k + 1
 unfolding strays_by changed_at
 strays_by-unplugged v r ended i p = omega arith
-strays_by-unplugged v r (vacant b k) zero [] = omega (arith, bit-one (v zero [] || (b.power || b.connection_changed)))
+strays_by-unplugged v r (vacant b k) zero [] =
+    omega (arith, bit-one (v zero [] || (b.power || b.connection_changed)))
 strays_by-unplugged v r (vacant b k) zero (n ∷ p) = omega arith
-strays_by-unplugged v r (vacant b k) (suc i) p = omega (arith, strays_by-unplugged (after_first v) (after_first r) k i p)
-strays_by-unplugged v r (taken b t a k) zero [] = omega (arith, bit-one (v zero [] || (b.power || b.connection_changed)))
+strays_by-unplugged v r (vacant b k) (suc i) p =
+    omega (arith, strays_by-unplugged (after_first v) (after_first r) k i p)
+strays_by-unplugged v r (taken b t a k) zero [] =
+    omega (arith, bit-one (v zero [] || (b.power || b.connection_changed)))
 strays_by-unplugged v r (taken b t a k) zero (zero ∷ p) = omega arith
-strays_by-unplugged v r (taken b t a k) zero (suc j ∷ p) = omega (arith, strays_by-unplugged (below_first v) (below_first r) a j p)
-strays_by-unplugged v r (taken b t a k) (suc i) p = omega (arith, strays_by-unplugged (after_first v) (after_first r) k i p)
+strays_by-unplugged v r (taken b t a k) zero (suc j ∷ p) =
+    omega (arith, strays_by-unplugged (below_first v) (below_first r) a j p)
+strays_by-unplugged v r (taken b t a k) (suc i) p =
+    omega (arith, strays_by-unplugged (after_first v) (after_first r) k i p)
 
 -- An event
 
@@ -136,7 +194,8 @@ module _ (m v r : PortMark) (few : Few v r) where
   adds-none : (k : Ports) → Adds k k
   adds-none k = record { looks = omega arith; strays = omega arith; devices = λ d. omega arith }
 
-  adds-plugged : (o : Option Spec) (path : List ℕ) (k : Ports) → length path ≤ 7 → Adds k (with_plugged o path k)
+  adds-plugged : (o : Option Spec) (path : List ℕ) (k : Ports) → length path ≤ 7
+      → Adds k (with_plugged o path k)
   adds-plugged None path k h = adds-none k
   adds-plugged (Some s) [] k h = adds-none k
   adds-plugged (Some s) (zero ∷ p) k h = adds-none k
@@ -146,7 +205,8 @@ module _ (m v r : PortMark) (few : Few v r) where
     devices = λ d. devices_by-plugged d s k i p;
   }
 
-  adds-unplugged : (path : List ℕ) (devices : List Spec) (k : Ports) → Adds k (after_change (Change (Unplug path)) devices k)
+  adds-unplugged : (path : List ℕ) (devices : List Spec) (k : Ports)
+      → Adds k (after_change (Change (Unplug path)) devices k)
   adds-unplugged [] devices k = adds-none k
   adds-unplugged (zero ∷ p) devices k = adds-none k
   adds-unplugged (suc i ∷ p) devices k = record {
@@ -155,13 +215,22 @@ module _ (m v r : PortMark) (few : Few v r) where
     devices = λ d. omega (arith, devices_by-unplugged d k i p);
   }
 
-  adds-happened : (action : Action) (devices : List Spec) (k : Ports) → PlugsAtPort action → Adds k (after_change action devices k)
-  adds-happened (Change (Plug path device)) devices k h = adds-plugged (slice_get devices device) path k h.1
+  adds-happened : (action : Action) (devices : List Spec) (k : Ports) → PlugsAtPort action
+      → Adds k (after_change action devices k)
+  adds-happened (Change (Plug path device)) devices k h =
+      adds-plugged (slice_get devices device) path k h.1
   adds-happened (Change (Unplug path)) devices k h = adds-unplugged path devices k
   adds-happened (Ask ask) devices k h = adds-none k
 
   pub keeps-none : (w : World) → AtPorts w.left → KeepsBy m v r w w
-  keeps-none w h = record { looks = omega arith; strays = omega arith; devices = λ d. omega arith; left = h; onward = omega arith; still = λ e d. refl }
+  keeps-none w h = record {
+    looks = omega arith;
+    strays = omega arith;
+    devices = λ d. omega arith;
+    left = h;
+    onward = omega arith;
+    still = λ e d. refl;
+  }
 
   pub keeps-then : {w x y : World} → KeepsBy m v r w x → KeepsBy m v r x y → KeepsBy m v r w y
   keeps-then one two = record {
@@ -170,13 +239,17 @@ module _ (m v r : PortMark) (few : Few v r) where
     devices = λ d. omega (arith, one.devices d, two.devices d);
     left = two.left;
     onward = omega (arith, one.onward, two.onward);
-    still = λ e d. two.still (omega (arith, one.onward, two.onward, e)) d ∙ one.still (omega (arith, one.onward, two.onward, e)) d;
+    still = λ e d. two.still (omega (arith, one.onward, two.onward, e)) d
+        ∙ one.still (omega (arith, one.onward, two.onward, e)) d;
   }
 
-  keeps-took : (e : Event) (events : List Event) (w : World) → AtPorts (e ∷ events) → KeepsBy m v r w (after_event e events w)
+  keeps-took : (e : Event) (events : List Event) (w : World) → AtPorts (e ∷ events)
+      → KeepsBy m v r w (after_event e events w)
   unfolding after_event
   keeps-took e events w h =
-      let adds : Adds w.roots (after_change e.action w.devices w.roots) = adds-happened e.action w.devices w.roots (All-head (λ x. PlugsAtPort x.action) e events h) in
+      let adds : Adds w.roots (after_change e.action w.devices w.roots) =
+      adds-happened e.action w.devices w.roots (All-head (λ x. PlugsAtPort x.action) e events h)
+      in
       record {
         looks = omega (arith, adds.looks);
         strays = omega (arith, adds.strays);

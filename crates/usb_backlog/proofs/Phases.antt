@@ -3,7 +3,8 @@ use Rattle.std.proofs.Common.{◌≡◌, ℕ, zero, suc, true, false, List, [], 
 use Rattle.usb_port.specs.declared.call.PortCall.{PortCall}
 use Rattle.usb_device.specs.Tree.{Location, path_to}
 use Rattle.usb_world.specs.World.{World}
-use Rattle.usb_backlog.specs.Marks.{Few, KeepsAll, KeepsBy, KeepsCall, KeepsFound, is_marked, only, ports_at, unmarked}
+use Rattle.usb_backlog.specs.Marks.{Few, KeepsAll, KeepsBy, KeepsCall, KeepsFound, is_marked, only}
+use Rattle.usb_backlog.specs.Marks.{ports_at, unmarked}
 use Rattle.usb_backlog.specs.PortSettings.{gives_power}
 use Rattle.usb_backlog.proofs.Events.{keeps-none, keeps-then}
 use Rattle.usb_backlog.proofs.Places.{few-none, few-reset, few-vacant, just_covers, ports_cover}
@@ -27,18 +28,33 @@ pub all_none : (w : World) → KeepsAll w w
 all_none w = record { all = λ ports m v r few. keeps-none m v r few w ports }
 
 pub all_then : {a b c : World} → KeepsAll a b → KeepsAll b c → KeepsAll a c
-all_then {a} {b} x y = record { all = λ ports m v r few. let one : KeepsBy m v r a b = x.all ports m v r few in keeps-then m v r few one (y.all one.left m v r few) }
+all_then {a} {b} x y = record {
+  all = λ ports m v r few. let one : KeepsBy m v r a b =
+      x.all ports m v r few in keeps-then m v r few one (y.all one.left m v r few);
+}
 
 pub found_all : (p : List ℕ) {a b : World} → KeepsAll a b → KeepsFound p a b
 found_all p x = record { found = λ ports. x.all ports (ports_at p) unmarked (only p) (few-only p) }
 
-pub found_then : (p : List ℕ) {a b c : World} → KeepsFound p a b → KeepsFound p b c → KeepsFound p a c
-found_then p {a} {b} x y = record { found = λ ports. let one : KeepsBy (ports_at p) unmarked (only p) a b = x.found ports in keeps-then (ports_at p) unmarked (only p) (few-only p) one (y.found one.left) }
+pub found_then : (p : List ℕ) {a b c : World} → KeepsFound p a b → KeepsFound p b c
+    → KeepsFound p a c
+found_then p {a} {b} x y = record {
+  found =
+      λ ports. let one : KeepsBy (ports_at p) unmarked (only p) a b = x.found ports in
+      keeps-then (ports_at p) unmarked (only p) (few-only p) one (y.found one.left);
+}
 
 -- a call at the port itself that gives it no power
-pub found_called : (p : List ℕ) (c : PortCall) {a b : World} → gives_power c ≡ false → KeepsCall p c a b → KeepsFound p a b
-found_called p c quiet x = record { found = λ ports. x.covered ports (ports_at p) unmarked (only p) (few-only p) (record { power = λ g. absurd (cc (quiet, g)); reset = λ g. is_itself p }) }
+pub found_called : (p : List ℕ) (c : PortCall) {a b : World} → gives_power c ≡ false
+    → KeepsCall p c a b → KeepsFound p a b
+found_called p c quiet x = record {
+  found =
+      λ ports. x.covered ports (ports_at p) unmarked (only p) (few-only p)
+      (record { power = λ g. absurd (cc (quiet, g)); reset = λ g. is_itself p });
+}
 
 -- and one that gives power to a port of the device there
-pub ports_covered : (p : List ℕ) (x : Location) (n : ℕ) → path_to x ≡ p → ports_at p x.row (x.rest ++ (suc n ∷ [])) ≡ true
-ports_covered p x n same = subst (λ q. ports_at q x.row (x.rest ++ (suc n ∷ [])) ≡ true) same (ports_cover x.row x.rest n)
+pub ports_covered : (p : List ℕ) (x : Location) (n : ℕ) → path_to x ≡ p
+    → ports_at p x.row (x.rest ++ (suc n ∷ [])) ≡ true
+ports_covered p x n same = subst (λ q. ports_at q x.row (x.rest ++ (suc n ∷ [])) ≡ true) same
+    (ports_cover x.row x.rest n)

@@ -1,5 +1,6 @@
 -- What a handling pays: a look, a change that asks for none, or an event that came.
-use Rattle.std.proofs.Common.{◌≡◌, ◌≤◌, ◌⊎◌, inl, inr, ℕ, suc, ◌+◌, ◌*◌, ◌==◌, true, false, List, ◌∷◌, Option, None, Some, refl, arith}
+use Rattle.std.proofs.Common.{◌≡◌, ◌≤◌, ◌⊎◌, inl, inr, ℕ, suc, ◌+◌, ◌*◌, ◌==◌, true, false, List}
+use Rattle.std.proofs.Common.{◌∷◌, Option, None, Some, refl, arith}
 use Rattle.std.proofs.lemmas.Bool.Decides.{nat_tests}
 use Rattle.usb_tree.proofs.Interface.{decided, equal_same}
 use Rattle.usb_port.specs.PortState.{PortState, is_attached}
@@ -7,9 +8,14 @@ use Rattle.usb_device.specs.Rows.{State}
 use Rattle.usb_device.specs.Tree.{Ports, Place, empty, full, port_of, place_at}
 use Rattle.usb_world.specs.World.{World}
 use Rattle.usb_world.specs.PlanCourses.{AtPorts}
-use Rattle.usb_backlog.specs.Marks.{KeepsAll, KeepsBy, KeepsFound, devices_by, just, looks_by, only, ports_at, ports_by, strays_by, unmarked}
+use Rattle.usb_backlog.specs.Marks.{KeepsAll, KeepsBy, KeepsFound, devices_by, just, looks_by, only}
+use Rattle.usb_backlog.specs.Marks.{ports_at, ports_by, strays_by, unmarked}
 use Rattle.usb_backlog.specs.Units.{PaysBare, PaysLook, PaysStray}
-use Rattle.usb_backlog.proofs.Places.{devices_by-empty, devices_by-nowhere, devices_by-there, few-none, looks_by-found, looks_by-less, looks_by-nowhere, looks_by-set, ports_by-nowhere, ports_by-there, strays_by-cleared, strays_by-less, strays_by-reset, strays_by-set, strays_by-tidied, strays_by-told}
+use Rattle.usb_backlog.proofs.Places.{devices_by-empty, devices_by-nowhere, devices_by-there}
+use Rattle.usb_backlog.proofs.Places.{few-none, looks_by-found, looks_by-less, looks_by-nowhere}
+use Rattle.usb_backlog.proofs.Places.{looks_by-set, ports_by-nowhere, ports_by-there}
+use Rattle.usb_backlog.proofs.Places.{strays_by-cleared, strays_by-less, strays_by-reset}
+use Rattle.usb_backlog.proofs.Places.{strays_by-set, strays_by-tidied, strays_by-told}
 
 module _ (j : ℕ) (e : List ℕ) where
   abbrev p : List ℕ
@@ -18,15 +24,26 @@ module _ (j : ℕ) (e : List ℕ) where
   -- what the clearing of a change of connection at the port leaves, at the moment of it
   pub record ClearedAt (old mid : World) : Type 0 where
     pub onward : old.taken ≤ mid.taken
-    pub looks : looks_by (ports_at p) mid.roots + 7 * old.taken ≤ looks_by unmarked old.roots + 7 * mid.taken
-    pub strays : strays_by unmarked unmarked mid.roots + old.taken ≤ strays_by unmarked unmarked old.roots + mid.taken
-    -- a device stood there, and a look is paid; or none did, and a change is paid that asks for none, or an event came
-    pub paid : (looks_by (ports_at p) mid.roots + 1 + 7 * old.taken ≤ looks_by unmarked old.roots + 7 * mid.taken)
-        ⊎ ((devices_by (only p) mid.roots ≡ 0) × ((strays_by unmarked unmarked mid.roots + 1 + old.taken ≤ strays_by unmarked unmarked old.roots + mid.taken) ⊎ (old.taken + 1 ≤ mid.taken)))
+    pub looks : looks_by (ports_at p) mid.roots + 7 * old.taken ≤ looks_by unmarked old.roots + 7 *
+        mid.taken
+    pub strays : strays_by unmarked unmarked mid.roots + old.taken ≤ strays_by unmarked unmarked
+        old.roots + mid.taken
+    -- a device stood there, and a look is paid; or none did, and a change is paid that asks for
+    -- none, or an event came
+    pub paid : (looks_by (ports_at p) mid.roots + 1 + 7 * old.taken ≤ looks_by unmarked old.roots +
+        7 * mid.taken)
+        ⊎ ((devices_by (only p) mid.roots ≡ 0)
+        × ((strays_by unmarked unmarked mid.roots + 1 + old.taken
+        ≤ strays_by unmarked unmarked old.roots + mid.taken)
+        ⊎ (old.taken + 1 ≤ mid.taken)))
 
-  -- the change was set there; no more was left to do but by events, where the port is marked; and in the end it is cleared
-  pub cleared_at : (old mid : World) (q : Place) → place_at old.roots j e ≡ Some q → (port_of q).connection_changed ≡ true → KeepsBy (only p) (only p) unmarked old mid
-      → ((o : Place) → place_at mid.roots j e ≡ Some o → (port_of o).connection_changed ≡ false) → ((b : PortState) → place_at mid.roots j e ≡ Some (empty b) → is_attached b.attached ≡ false) → ClearedAt old mid
+  -- the change was set there; no more was left to do but by events, where the port is marked; and
+  -- in the end it is cleared
+  pub cleared_at : (old mid : World) (q : Place) → place_at old.roots j e ≡ Some q
+      → (port_of q).connection_changed ≡ true → KeepsBy (only p) (only p) unmarked old mid
+      → ((o : Place) → place_at mid.roots j e ≡ Some o → (port_of o).connection_changed ≡ false)
+      → ((b : PortState) → place_at mid.roots j e ≡ Some (empty b)
+      → is_attached b.attached ≡ false) → ClearedAt old mid
   cleared_at old mid q was set keeps cleared bare = pick (place_at mid.roots j e) refl
     where
       looks_set : looks_by (just j e) old.roots ≡ looks_by unmarked old.roots
@@ -36,11 +53,18 @@ module _ (j : ℕ) (e : List ℕ) where
       strays_set = strays_by-set old.roots j e q was set
 
       -- a port that is gone went by an event
-      came : place_at mid.roots j e ≡ None → ((mid.taken == old.taken) ≡ true) ⊎ ((mid.taken == old.taken) ≡ false) → old.taken + 1 ≤ mid.taken
+      came : place_at mid.roots j e ≡ None → ((mid.taken == old.taken) ≡ true)
+          ⊎ ((mid.taken == old.taken) ≡ false) → old.taken + 1 ≤ mid.taken
       came at (inl same) =
           let there : ports_by (just j e) old.roots ≡ 1 = ports_by-there old.roots j e q was in
           let none : ports_by (just j e) mid.roots ≡ 0 = ports_by-nowhere mid.roots j e at in
-          absurd (omega (arith, there, none, keeps.still (equal_same mid.taken old.taken same) (just j e)))
+          absurd (omega (
+            arith,
+            there,
+            none,
+            keeps.still (equal_same mid.taken old.taken same)
+                (just j e),
+          ))
       came at (inr apart) = grind (arith, nat_tests, apart, keeps.onward)
 
       pick : (o : Option Place) → place_at mid.roots j e ≡ o → ClearedAt old mid
@@ -48,27 +72,80 @@ module _ (j : ℕ) (e : List ℕ) where
           let gone : devices_by (just j e) mid.roots ≡ 0 = devices_by-nowhere mid.roots j e at in
           record {
             onward = keeps.onward;
-            looks = omega (arith, keeps.looks, looks_set, looks_by-nowhere mid.roots j e gone, looks_by-less (just j e) mid.roots);
-            strays = omega (arith, keeps.strays, strays_set, strays_by-less (just j e) unmarked mid.roots);
+            looks = omega (
+              arith,
+              keeps.looks,
+              looks_set,
+              looks_by-nowhere mid.roots j e gone,
+              looks_by-less (just j e) mid.roots,
+            );
+            strays = omega (
+              arith,
+              keeps.strays,
+              strays_set,
+              strays_by-less (just j e) unmarked
+                  mid.roots,
+            );
             paid = inr (gone, inr (came at (decided (mid.taken == old.taken))));
           }
       pick (Some (empty b)) at =
           let gone : devices_by (just j e) mid.roots ≡ 0 = devices_by-empty mid.roots j e b at in
           record {
             onward = keeps.onward;
-            looks = omega (arith, keeps.looks, looks_set, looks_by-nowhere mid.roots j e gone, looks_by-less (just j e) mid.roots);
-            strays = omega (arith, keeps.strays, strays_set, strays_by-less (just j e) unmarked mid.roots);
-            paid = inr (gone, inl (omega (arith, keeps.strays, strays_set, strays_by-cleared mid.roots j e b at (bare b at) (cleared (empty b) at))));
+            looks = omega (
+              arith,
+              keeps.looks,
+              looks_set,
+              looks_by-nowhere mid.roots j e gone,
+              looks_by-less (just j e) mid.roots,
+            );
+            strays = omega (
+              arith,
+              keeps.strays,
+              strays_set,
+              strays_by-less (just j e) unmarked
+                  mid.roots,
+            );
+            paid = inr (
+              gone,
+              inl (omega (
+                arith,
+                keeps.strays,
+                strays_set,
+                strays_by-cleared mid.roots j e b at (bare b at) (cleared (empty b) at),
+              )),
+            );
           }
       pick (Some (full b s a)) at = record {
         onward = keeps.onward;
-        looks = omega (arith, keeps.looks, looks_set, looks_by-found mid.roots j e b s a at (cleared (full b s a) at));
-        strays = omega (arith, keeps.strays, strays_set, strays_by-less (just j e) unmarked mid.roots);
-        paid = inl (omega (arith, keeps.looks, looks_set, looks_by-found mid.roots j e b s a at (cleared (full b s a) at)));
+        looks = omega (
+          arith,
+          keeps.looks,
+          looks_set,
+          looks_by-found mid.roots j e b s a at
+              (cleared (full b s a) at),
+        );
+        strays = omega (
+          arith,
+          keeps.strays,
+          strays_set,
+          strays_by-less (just j e) unmarked
+              mid.roots,
+        );
+        paid = inl (omega (
+          arith,
+          keeps.looks,
+          looks_set,
+          looks_by-found mid.roots j e b s a at
+              (cleared (full b s a) at),
+        ));
       }
 
-  -- the look that follows: a device was seen at the port, and is entered or refused; the marks are dropped
-  pub found_pays : (old mid seen new : World) → ClearedAt old mid → KeepsFound p mid seen → KeepsFound p seen new → AtPorts mid.left → (b : PortState) (s : State) (a : Ports) → place_at seen.roots j e ≡ Some (full b s a) → PaysLook old new
+  -- the look that follows: a device was seen at the port, and is entered or refused; the marks are
+  -- dropped
+  pub found_pays : (old mid seen new : World) → ClearedAt old mid → KeepsFound p mid seen
+      → KeepsFound p seen new → AtPorts mid.left → (b : PortState) (s : State) (a : Ports)
+      → place_at seen.roots j e ≡ Some (full b s a) → PaysLook old new
   found_pays old mid seen new x y z ports b s a at = pick x.paid
     where
       first : KeepsBy (ports_at p) unmarked (only p) mid seen
@@ -77,19 +154,62 @@ module _ (j : ℕ) (e : List ℕ) where
       second : KeepsBy (ports_at p) unmarked (only p) seen new
       second = z.found first.left
 
-      strays : strays_by unmarked unmarked new.roots + old.taken ≤ strays_by unmarked unmarked old.roots + 1 + new.taken
-      strays = omega (arith, x.strays, first.strays, second.strays, strays_by-reset mid.roots j e, strays_by-less unmarked (just j e) new.roots)
+      strays : strays_by unmarked unmarked new.roots + old.taken ≤ strays_by unmarked unmarked
+          old.roots + 1 + new.taken
+      strays = omega (
+        arith,
+        x.strays,
+        first.strays,
+        second.strays,
+        strays_by-reset mid.roots j e,
+        strays_by-less unmarked (just j e) new.roots,
+      )
 
       there : devices_by (just j e) seen.roots ≡ 1
       there = devices_by-there seen.roots j e b s a at
 
-      pick : (looks_by (ports_at p) mid.roots + 1 + 7 * old.taken ≤ looks_by unmarked old.roots + 7 * mid.taken)
-          ⊎ ((devices_by (only p) mid.roots ≡ 0) × ((strays_by unmarked unmarked mid.roots + 1 + old.taken ≤ strays_by unmarked unmarked old.roots + mid.taken) ⊎ (old.taken + 1 ≤ mid.taken))) → PaysLook old new
-      pick (inl paid) = record { looks = omega (arith, paid, first.looks, second.looks, first.onward, second.onward, looks_by-less (ports_at p) new.roots, x.onward); strays = strays }
-      pick (inr (none, some)) = record { looks = omega (arith, none, there, first.devices (just j e), x.looks, first.looks, second.looks, first.onward, second.onward, looks_by-less (ports_at p) new.roots, x.onward); strays = strays }
+      pick : (looks_by (ports_at p) mid.roots + 1 + 7 * old.taken ≤ looks_by unmarked old.roots +
+          7 * mid.taken)
+          ⊎ ((devices_by (only p) mid.roots ≡ 0)
+          × ((strays_by unmarked unmarked mid.roots + 1 + old.taken
+          ≤ strays_by unmarked unmarked old.roots + mid.taken)
+          ⊎ (old.taken + 1 ≤ mid.taken))) → PaysLook old new
+      pick (inl paid) = record {
+        looks =
+            omega (
+              arith,
+              paid,
+              first.looks,
+              second.looks,
+              first.onward,
+              second.onward,
+              looks_by-less (ports_at p) new.roots,
+              x.onward,
+            );
+        strays = strays;
+      }
+      pick (inr (none, some)) = record {
+        looks =
+            omega (
+              arith,
+              none,
+              there,
+              first.devices (just j e),
+              x.looks,
+              first.looks,
+              second.looks,
+              first.onward,
+              second.onward,
+              looks_by-less (ports_at p) new.roots,
+              x.onward,
+            );
+        strays =
+            strays;
+      }
 
   -- no device was seen at the port, and nothing else was done there
-  pub bare_pays : (old mid new : World) → ClearedAt old mid → KeepsAll mid new → AtPorts mid.left → PaysBare old new
+  pub bare_pays : (old mid new : World) → ClearedAt old mid → KeepsAll mid new → AtPorts mid.left
+      → PaysBare old new
   bare_pays old mid new x y ports = record {
     looks = omega (arith, x.looks, all.looks, looks_by-less (ports_at p) new.roots);
     strays = omega (arith, x.strays, all.strays);
@@ -99,33 +219,64 @@ module _ (j : ℕ) (e : List ℕ) where
       all : KeepsBy (ports_at p) unmarked unmarked mid new
       all = y.all ports (ports_at p) unmarked unmarked few-none
 
-      pick : (looks_by (ports_at p) mid.roots + 1 + 7 * old.taken ≤ looks_by unmarked old.roots + 7 * mid.taken)
-          ⊎ ((devices_by (only p) mid.roots ≡ 0) × ((strays_by unmarked unmarked mid.roots + 1 + old.taken ≤ strays_by unmarked unmarked old.roots + mid.taken) ⊎ (old.taken + 1 ≤ mid.taken)))
-          → (looks_by unmarked new.roots + 1 + 7 * old.taken ≤ looks_by unmarked old.roots + 7 * new.taken)
-          ⊎ (strays_by unmarked unmarked new.roots + 1 + old.taken ≤ strays_by unmarked unmarked old.roots + new.taken) ⊎ (old.taken + 1 ≤ new.taken)
+      pick : (looks_by (ports_at p) mid.roots + 1 + 7 * old.taken ≤ looks_by unmarked old.roots +
+          7 * mid.taken)
+          ⊎ ((devices_by (only p) mid.roots ≡ 0)
+          × ((strays_by unmarked unmarked mid.roots + 1 + old.taken
+          ≤ strays_by unmarked unmarked old.roots + mid.taken)
+          ⊎ (old.taken + 1 ≤ mid.taken)))
+          → (looks_by unmarked new.roots + 1 + 7 * old.taken ≤ looks_by unmarked old.roots + 7 *
+          new.taken)
+          ⊎ (strays_by unmarked unmarked new.roots + 1 + old.taken ≤ strays_by unmarked unmarked
+          old.roots + new.taken) ⊎ (old.taken + 1 ≤ new.taken)
       pick (inl paid) = inl (omega (arith, paid, all.looks, looks_by-less (ports_at p) new.roots))
       pick (inr (none, inl paid)) = inr (inl (omega (arith, paid, all.strays)))
       pick (inr (none, inr came)) = inr (inr (omega (arith, came, all.onward)))
 
   -- C_PORT_RESET was told set and is cleared
-  pub tidied_pays : (old mid new : World) (q : Place) → place_at old.roots j e ≡ Some q → (port_of q).reset_changed ≡ true → KeepsBy unmarked unmarked (only p) old mid
-      → ((o : Place) → place_at mid.roots j e ≡ Some o → (port_of o).reset_changed ≡ false) → KeepsBy unmarked unmarked unmarked mid new → PaysStray old new
+  pub tidied_pays : (old mid new : World) (q : Place) → place_at old.roots j e ≡ Some q
+      → (port_of q).reset_changed ≡ true → KeepsBy unmarked unmarked (only p) old mid
+      → ((o : Place) → place_at mid.roots j e ≡ Some o → (port_of o).reset_changed ≡ false)
+      → KeepsBy unmarked unmarked unmarked mid new → PaysStray old new
   tidied_pays old mid new q was set keeps cleared since = record {
     looks = omega (arith, keeps.looks, since.looks);
-    strays = omega (arith, keeps.strays, since.strays, told, strays_by-less unmarked (just j e) mid.roots);
+    strays = omega (
+      arith,
+      keeps.strays,
+      since.strays,
+      told,
+      strays_by-less unmarked (just j e)
+          mid.roots,
+    );
     paid = pick (place_at mid.roots j e) refl;
   }
     where
       told : strays_by unmarked (just j e) old.roots ≡ strays_by unmarked unmarked old.roots
       told = strays_by-told old.roots j e q was set
 
-      came : place_at mid.roots j e ≡ None → ((mid.taken == old.taken) ≡ true) ⊎ ((mid.taken == old.taken) ≡ false) → old.taken + 1 ≤ new.taken
+      came : place_at mid.roots j e ≡ None → ((mid.taken == old.taken) ≡ true)
+          ⊎ ((mid.taken == old.taken) ≡ false) → old.taken + 1 ≤ new.taken
       came at (inl same) =
           let there : ports_by (just j e) old.roots ≡ 1 = ports_by-there old.roots j e q was in
           let none : ports_by (just j e) mid.roots ≡ 0 = ports_by-nowhere mid.roots j e at in
-          absurd (omega (arith, there, none, keeps.still (equal_same mid.taken old.taken same) (just j e)))
-      came at (inr apart) = let later : old.taken + 1 ≤ mid.taken = grind (arith, nat_tests, apart, keeps.onward) in omega (arith, later, since.onward)
+          absurd (omega (
+            arith,
+            there,
+            none,
+            keeps.still (equal_same mid.taken old.taken same)
+                (just j e),
+          ))
+      came at (inr apart) = let later : old.taken + 1 ≤ mid.taken =
+          grind (arith, nat_tests, apart, keeps.onward) in omega (arith, later, since.onward)
 
-      pick : (o : Option Place) → place_at mid.roots j e ≡ o → (strays_by unmarked unmarked new.roots + 1 + old.taken ≤ strays_by unmarked unmarked old.roots + new.taken) ⊎ (old.taken + 1 ≤ new.taken)
+      pick : (o : Option Place) → place_at mid.roots j e ≡ o
+          → (strays_by unmarked unmarked new.roots + 1 + old.taken ≤ strays_by unmarked unmarked
+          old.roots + new.taken) ⊎ (old.taken + 1 ≤ new.taken)
       pick None at = inr (came at (decided (mid.taken == old.taken)))
-      pick (Some o) at = inl (omega (arith, keeps.strays, since.strays, told, strays_by-tidied mid.roots j e o at (cleared o at)))
+      pick (Some o) at = inl (omega (
+        arith,
+        keeps.strays,
+        since.strays,
+        told,
+        strays_by-tidied mid.roots j e o at (cleared o at),
+      ))

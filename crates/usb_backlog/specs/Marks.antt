@@ -1,5 +1,6 @@
 -- What is left to do at the ports of a tree, where some ports count as if a change were set there.
-use Rattle.std.specs.Prelude.{◌≡◌, ◌≤◌, ℕ, zero, suc, ◌+◌, ◌*◌, ◌&&◌, ◌||◌, not, Bool, true, false, List, [], ◌∷◌, ◌++◌, Some}
+use Rattle.std.specs.Prelude.{◌≡◌, ◌≤◌, ℕ, zero, suc, ◌+◌, ◌*◌, ◌&&◌, ◌||◌, not, Bool, true, false}
+use Rattle.std.specs.Prelude.{List, [], ◌∷◌, ◌++◌, Some}
 use Rattle.usb_port.specs.PortState.{is_attached, bit}
 use Rattle.usb_port.specs.declared.call.PortCall.{PortCall}
 use Rattle.usb_port.specs.Calls.{is_reset}
@@ -61,25 +62,32 @@ devices_in (taken b s a k) = 1 + devices_in a + devices_in k
 unfoldable pub devices_by : PortMark → Ports → ℕ
 devices_by m ended = 0
 devices_by m (vacant b k) = devices_by (after_first m) k
-devices_by m (taken b s a k) = charged (m zero []) 1 + devices_by (below_first m) a + devices_by (after_first m) k
+devices_by m (taken b s a k) = charged (m zero []) 1 + devices_by (below_first m) a + devices_by
+    (after_first m) k
 
 -- the marked ports that there are
 unfoldable pub ports_by : PortMark → Ports → ℕ
 ports_by m ended = 0
 ports_by m (vacant b k) = charged (m zero []) 1 + ports_by (after_first m) k
-ports_by m (taken b s a k) = charged (m zero []) 1 + ports_by (below_first m) a + ports_by (after_first m) k
+ports_by m (taken b s a k) = charged (m zero []) 1 + ports_by (below_first m) a + ports_by
+    (after_first m) k
 
 -- the looks that are owed, where marked ports count as if their connection had changed
 unfoldable pub looks_by : PortMark → Ports → ℕ
 looks_by m ended = 0
 looks_by m (vacant b k) = looks_by (after_first m) k
-looks_by m (taken b s a k) = charged (m zero [] || b.connection_changed) (1 + devices_in a) + looks_by (below_first m) a + looks_by (after_first m) k
+looks_by m (taken b s a k) = charged (m zero [] || b.connection_changed) (1 + devices_in a) +
+    looks_by (below_first m) a + looks_by (after_first m) k
 
--- the changes that ask for no look, where empty ports and resets are marked; an empty port that sees something counts as if its connection had changed
+-- the changes that ask for no look, where empty ports and resets are marked; an empty port that
+-- sees something counts as if its connection had changed
 unfoldable pub strays_by : PortMark → PortMark → Ports → ℕ
 strays_by v r ended = 0
-strays_by v r (vacant b k) = bit (v zero [] || (is_attached b.attached || b.connection_changed)) + bit b.enable_changed + bit (r zero [] || b.reset_changed) + strays_by (after_first v) (after_first r) k
-strays_by v r (taken b s a k) = bit b.enable_changed + bit (r zero [] || b.reset_changed) + strays_by (below_first v) (below_first r) a + strays_by (after_first v) (after_first r) k
+strays_by v r (vacant b k) = bit (v zero [] || (is_attached b.attached || b.connection_changed)) +
+    bit b.enable_changed + bit (r zero [] || b.reset_changed) + strays_by (after_first v)
+    (after_first r) k
+strays_by v r (taken b s a k) = bit b.enable_changed + bit (r zero [] || b.reset_changed) +
+    strays_by (below_first v) (below_first r) a + strays_by (after_first v) (after_first r) k
 
 -- whether what a device asks gives power to marked ports alone, and resets marked ports alone
 abbrev pub allowed : (ℕ → Bool) → (ℕ → Bool) → Effect → Bool
@@ -89,7 +97,9 @@ allowed m r PortsOff = true
 
 -- so it is of each device at a packet
 abbrev pub AllowsMarks : PortMark → PortMark → Sent → Ports → Type 0
-AllowsMarks m r q k = (j : ℕ) (e : List ℕ) (t : State) → state_at k j e ≡ Some t → (deep : Bool) → allowed (λ i. m j (e ++ (suc i ∷ []))) (λ i. r j (e ++ (suc i ∷ []))) (effect_of q deep t) ≡ true
+AllowsMarks m r q k = (j : ℕ) (e : List ℕ) (t : State) → state_at k j e ≡ Some t → (deep : Bool)
+    → allowed (λ i. m j (e ++ (suc i ∷ []))) (λ i. r j (e ++ (suc i ∷ []))) (effect_of q deep t)
+    ≡ true
 
 -- the ports of a device to be plugged at a path
 abbrev pub shifted : PortMark → ℕ → List ℕ → PortMark
@@ -99,11 +109,13 @@ shifted m i p j q = m i (p ++ (suc j ∷ q))
 abbrev pub Few : PortMark → PortMark → Type 0
 Few v r = (i : ℕ) (p : List ℕ) (n : ℕ) → strays_by (shifted v i p) (shifted r i p) (new_ports n) ≤ 1
 
--- no more is left to do than before, but by events: seven looks, one device and one change that asks for no look for each
+-- no more is left to do than before, but by events: seven looks, one device and one change that
+-- asks for no look for each
 pub record KeepsBy (m v r : PortMark) (old new : World) : Type 0 where
   pub looks : looks_by m new.roots + 7 * old.taken ≤ looks_by m old.roots + 7 * new.taken
   pub strays : strays_by v r new.roots + old.taken ≤ strays_by v r old.roots + new.taken
-  pub devices : (d : PortMark) → devices_by d new.roots + old.taken ≤ devices_by d old.roots + new.taken
+  pub devices : (d : PortMark) → devices_by d new.roots + old.taken ≤ devices_by d old.roots +
+      new.taken
   pub left : AtPorts new.left
   pub onward : old.taken ≤ new.taken
   -- where no event came, the same ports are there
@@ -138,8 +150,10 @@ pub record KeepsAll (old new : World) : Type 0 where
 
 -- the same where the marks cover a call at a port
 pub record KeepsCall (p : List ℕ) (c : PortCall) (old new : World) : Type 0 where
-  pub covered : AtPorts old.left → (m v r : PortMark) → Few v r → CoversCall m r p c → KeepsBy m v r old new
+  pub covered : AtPorts old.left → (m v r : PortMark) → Few v r → CoversCall m r p c
+      → KeepsBy m v r old new
 
--- the same from the clearing of a port's change to the end of an enumeration there: the ports of the device that stands there are marked, and the port's own reset
+-- the same from the clearing of a port's change to the end of an enumeration there: the ports of
+-- the device that stands there are marked, and the port's own reset
 pub record KeepsFound (p : List ℕ) (old new : World) : Type 0 where
   pub found : AtPorts old.left → KeepsBy (ports_at p) unmarked (only p) old new

@@ -1,5 +1,6 @@
 -- The lines of the trace that steps write, and what an event asks of the host.
-use Rattle.std.specs.Prelude.{ℕ, ◌+◌, ◌-◌, ◌==◌, if◌then◌else◌, List, [], ◌∷◌, ◌++◌, take, flat_map, map, slice_get, Option, Some, None}
+use Rattle.std.specs.Prelude.{ℕ, ◌+◌, ◌-◌, ◌==◌, if◌then◌else◌, List, [], ◌∷◌, ◌++◌, take, flat_map}
+use Rattle.std.specs.Prelude.{map, slice_get, Option, Some, None}
 use Rattle.usb_device.specs.Spec.{Spec}
 use Rattle.usb_world.specs.declared.event.Action.{Action}
 use Rattle.usb_world.specs.declared.event.Action.TheVariants.{Change, Ask}
@@ -17,7 +18,8 @@ shown_names devices = map (λ (d : Spec). shown_name d.name) devices
 
 -- the line of an event, by those names
 unfoldable pub event_line : Action → List (List ℕ) → List ℕ
-event_line (Change (Plug path device)) names = elim (slice_get names device) [ None ↦ [] | Some shown ↦ plug_line path shown ++ 10 ∷ [] ]
+event_line (Change (Plug path device)) names =
+    elim (slice_get names device) [ None ↦ [] | Some shown ↦ plug_line path shown ++ 10 ∷ [] ]
 event_line (Change (Unplug path)) names = unplug_line path ++ 10 ∷ []
 event_line (Ask ask) names = []
 
@@ -35,6 +37,8 @@ lines_between w v = flat_map (λ e. action_line e.action w.devices) (take (v.tak
 abbrev pub made_line : Attempt → World → List ℕ
 made_line a w = attempt_line (w.attempts + 1) a.pre (made_in a w) ++ 10 ∷ []
 
--- the lines of a step that may have made an attempt: those of the events that came, and the attempt's where it was made
+-- the lines of a step that may have made an attempt: those of the events that came, and the
+-- attempt's where it was made
 unfoldable pub step_lines : Attempt → World → World → List ℕ
-step_lines a w v = lines_between w v ++ (if v.attempts == w.attempts then [] else made_line a (at_attempt w))
+step_lines a w v = lines_between w v ++ (if v.attempts == w.attempts then [] else made_line a
+    (at_attempt w))

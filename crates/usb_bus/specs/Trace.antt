@@ -1,5 +1,6 @@
 -- The text of the trace.
-use Rattle.std.specs.Prelude.{ℕ, Bool, true, false, List, [], ◌++◌, codes, decimal, Option, Some, None}
+use Rattle.std.specs.Prelude.{ℕ, Bool, true, false, List, [], ◌++◌, codes, decimal, Option, Some}
+use Rattle.std.specs.Prelude.{None}
 use Rattle.usb_packet.specs.Text.{text_of}
 use Rattle.usb_port.specs.Path.{path_text}
 use Rattle.usb_world.specs.declared.exchange.Exchange.{Exchange}
@@ -37,7 +38,9 @@ answer_text (One p) = text_of p
 
 -- an attempt's number and its packets
 abbrev pub attempt_line : ℕ → Bool → Exchange → List ℕ
-attempt_line number pre x = decimal number ++ codes " " ++ host_text pre x.token ++ next_text pre x.payload ++ codes " / " ++ answer_text x.answer ++ mark_text x.answer_mark ++ next_text pre x.reply
+attempt_line number pre x = decimal number ++ codes " " ++ host_text pre x.token ++ next_text pre
+    x.payload ++ codes " / " ++ answer_text x.answer ++ mark_text x.answer_mark ++ next_text pre
+    x.reply
 
 -- a plug, by its path and the device's name as it is shown
 abbrev pub plug_line : List ℕ → List ℕ → List ℕ

@@ -7,36 +7,46 @@ use Rattle.usb_world.specs.declared.types.BusFault.{BusFault}
 use Rattle.usb_world.specs.declared.types.BusFault.TheVariants.{LimitReached, Memory, TraceFailed}
 use Rattle.usb_world.specs.declared.types.Outcome.{Outcome}
 use Rattle.usb_world.specs.World.{World, IsAttempt, Attempted, AttemptsWithin}
-use Rattle.usb_world.specs.Steps.{AttemptFails, TookEvent, after, attempt, event, outcome_in, root_call}
+use Rattle.usb_world.specs.Steps.{AttemptFails, TookEvent, after, attempt, event, outcome_in}
+use Rattle.usb_world.specs.Steps.{root_call}
 use Rattle.usb_bus.specs.Lines.{lines_between, next_due, step_lines}
 use Rattle.usb_bus.specs.Watch.{WritesText}
 
--- an attempt was made, or the bus gave it up: what is so of the world then, what the host got, and what was written
-pub record Attempts (a : Attempt) (old : World) (before : Option (List ℕ)) (result : Result Outcome BusFault) (new : World) (now : Option (List ℕ)) : Type 0 where
+-- an attempt was made, or the bus gave it up: what is so of the world then, what the host got, and
+-- what was written
+pub record Attempts (a : Attempt) (old : World) (before : Option (List ℕ))
+    (result : Result Outcome BusFault) (new : World) (now : Option (List ℕ)) : Type 0 where
   pub counts : Attempted a old result new
   pub exact : OnOk result (new ≡ after (attempt a) old)
   pub outcome : IfOk result (λ outcome. outcome ≡ outcome_in a old)
   pub fails : old.fault ≡ None → AttemptFails a old result new
   pub text : WritesText result before now (step_lines a old new)
 
--- the next event came at once, or the bus told its fault: what is so of the world then, and what was written
-pub record TakesEvent (old : World) (before : Option (List ℕ)) (result : Result (Option (Option Ask)) BusFault) (new : World) (now : Option (List ℕ)) : Type 0 where
-  pub took : TookEvent old result new
-  pub asked : IfOk result (λ due. due ≡ next_due old)
-  pub exact : OnOk result (new ≡ after event old)
-  pub kept : result ≡ Err Memory → old.fault ≡ None → new ≡ record old { fault = Some Memory }
-  pub cut : result ≡ Err TraceFailed → old.fault ≡ None → new ≡ record (after event old) { fault = Some TraceFailed }
-  pub limit : result ≡ Err LimitReached → IsSome old.fault
-  pub text : WritesText result before now (lines_between old new)
+-- the next event came at once, or the bus told its fault: what is so of the world then, and what
+-- was written
+pub record TakesEvent (old : World) (before : Option (List ℕ))
+    (result : Result (Option (Option Ask)) BusFault) (new : World) (now : Option (List ℕ)) : Type 0
+  where
+    pub took : TookEvent old result new
+    pub asked : IfOk result (λ due. due ≡ next_due old)
+    pub exact : OnOk result (new ≡ after event old)
+    pub kept : result ≡ Err Memory → old.fault ≡ None → new ≡ record old { fault = Some Memory }
+    pub cut : result ≡ Err TraceFailed → old.fault ≡ None
+        → new ≡ record (after event old) { fault = Some TraceFailed }
+    pub limit : result ≡ Err LimitReached → IsSome old.fault
+    pub text : WritesText result before now (lines_between old new)
 
 -- attempts and root calls, one after the other, and no line but theirs was written
 pub data Traced (old : World) (before : Option (List ℕ)) : World → Option (List ℕ) → Type 0 where
   still : Traced old before old before
-  attempted : {w v : World} {t s : Option (List ℕ)} (a : Attempt) (result : Result Outcome BusFault) → IsAttempt a → Traced old before w t → Attempts a w t result v s → Traced old before v s
-  called : {w : World} {t : Option (List ℕ)} (c : PortCall) (port : ℕ) → Traced old before w t → Traced old before (after (root_call c port) w) t
+  attempted : {w v : World} {t s : Option (List ℕ)} (a : Attempt) (result : Result Outcome BusFault)
+      → IsAttempt a → Traced old before w t → Attempts a w t result v s → Traced old before v s
+  called : {w : World} {t : Option (List ℕ)} (c : PortCall) (port : ℕ) → Traced old before w t
+      → Traced old before (after (root_call c port) w) t
 
 -- at most n attempts were made, and what was written is the text of the steps
-pub record StepRun (n : ℕ) (old : World) (before : Option (List ℕ)) (new : World) (now : Option (List ℕ)) : Type 0 where
+pub record StepRun (n : ℕ) (old : World) (before : Option (List ℕ)) (new : World)
+    (now : Option (List ℕ)) : Type 0 where
   pub spends : AttemptsWithin n old new
   pub traced : Traced old before new now
 

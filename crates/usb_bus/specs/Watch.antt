@@ -1,5 +1,6 @@
 -- What a failed write is, and what of a piece has gone out.
-use Rattle.std.specs.Prelude.{◌≡◌, ℕ, Bool, true, false, ◌&&◌, not, ◌==◌, List, ◌++◌, length, Result, Ok, Err, Option, None, Some, OnOk, OnErr}
+use Rattle.std.specs.Prelude.{◌≡◌, ℕ, Bool, true, false, ◌&&◌, not, ◌==◌, List, ◌++◌, length}
+use Rattle.std.specs.Prelude.{Result, Ok, Err, Option, None, Some, OnOk, OnErr}
 use Rattle.std.specs.Io.KnownBytes.{Appends}
 use Rattle.usb_bus.specs.declared.watched.Watched.{Watched}
 use Rattle.usb_world.specs.declared.types.BusFault.{BusFault}
@@ -32,14 +33,17 @@ abbrev pub known_text : {W : Type 0} → (W → Option (List ℕ)) → Watched W
 known_text contents w = contents (inner_of w)
 
 -- a call put a text: all of it has gone out, or a front of it where that failed in the call
-pub record PutsText {T A E : Type 0} (text : T → Option (List ℕ)) (failed : T → Bool) (old : T) (result : Result A E) (new : T) (put : List ℕ) : Type 0 where
+pub record PutsText {T A E : Type 0} (text : T → Option (List ℕ)) (failed : T → Bool) (old : T)
+    (result : Result A E) (new : T) (put : List ℕ) : Type 0 where
   pub front : AppendsFront (text old) (text new) put
   pub ok : OnOk result (Appends (text old) (text new) put)
   pub unmarked : OnOk result (failed new ≡ failed old)
   pub marked : OnErr result (failed new ≡ true)
 
--- how a call ends that writes a text: all of it has gone out, or a front of it where the writer failed
-abbrev pub WritesText : {A : Type 0} → Result A BusFault → Option (List ℕ) → Option (List ℕ) → List ℕ → Type 0
+-- how a call ends that writes a text: all of it has gone out, or a front of it where the writer
+-- failed
+abbrev pub WritesText : {A : Type 0} → Result A BusFault → Option (List ℕ) → Option (List ℕ)
+    → List ℕ → Type 0
 WritesText (Ok x) old new text = Appends old new text
 WritesText (Err LimitReached) old new text = Appends old new text
 WritesText (Err Memory) old new text = Appends old new text

@@ -19,8 +19,8 @@ pub trait Bus {
     /// The world that the bus stands for.
     ghost world: { Self → World };
 
-    /// The text that its trace has, where that is known. Each attempt that is made, and each plug and unplug that comes,
-    /// is a line; nothing else is written by these calls.
+    /// The text that its trace has, where that is known. Each attempt that is made, and each plug and unplug that
+    /// comes, is a line; nothing else is written by these calls.
     ghost trace: { Self → Option (List ℕ) };
 
     /// Applies the events that are due, and then makes one attempt.
@@ -62,9 +62,9 @@ pub trait Bus {
     /// A law: between two calls no device of the world remembers a packet.
     ghost settled: { modelled ≡ true → (s : Self) → IsSettled (world s).roots };
 
-    /// A law: as long as no fault was told, each port is sane besides: what is attached is what is plugged there, an
-    /// enabled port is powered and has something attached, and only a powered port tells of a change (11.5); and each
-    /// device is as the rules say.
+    /// A law: as long as no fault was told, each port is consistent besides: what is attached is what is plugged there,
+    /// an enabled port is powered and has something attached, and only a powered port tells of a change (11.5); and
+    /// each device is as the rules say.
     ghost between: { modelled ≡ true → (s : Self) → (world s).fault ≡ None
         → WorldInvariant (world s) };
 }

@@ -159,10 +159,7 @@ pub fn put_piece<W: Write>(writer: &mut Watched<W>, piece: &[u8]) -> Result<(), 
 /// # Errors
 ///
 /// A write failed: the writer is marked, and what went out is a front of all of them.
-pub fn put_pieces<W: Write>(
-    writer: &mut Watched<W>,
-    pieces: &[&[u8]],
-) -> Result<(), WriteFailed>
+pub fn put_pieces<W: Write>(writer: &mut Watched<W>, pieces: &[&[u8]]) -> Result<(), WriteFailed>
     ensures { PutsText (known_text W.contents) has_failed writer.old result writer.new
         (flat_map (λ p. p.now) pieces.now) }
 {

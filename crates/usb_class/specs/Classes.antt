@@ -1,5 +1,6 @@
 -- What a device or an interface says it is, in words (9.6.1, 9.6.5).
-use Rattle.std.specs.Prelude.{ℕ, ◌==◌, ◌&&◌, List, [], ◌∷◌, ◌++◌, Option, None, Some, Result, Ok, Err, codes, if◌then◌else◌, slice_index}
+use Rattle.std.specs.Prelude.{ℕ, ◌==◌, ◌&&◌, List, [], ◌∷◌, ◌++◌, Option, None, Some, Result, Ok}
+use Rattle.std.specs.Prelude.{Err, codes, if◌then◌else◌, slice_index}
 use Rattle.hex.specs.Hex.{encode_lower}
 use Rattle.usb_descriptor.specs.declared.fault.DescriptorFault.{DescriptorFault}
 use Rattle.usb_descriptor.specs.declared.item.Item.{Item}
@@ -11,11 +12,20 @@ use Rattle.usb_class.specs.declared.class.ClassCodes.{ClassCodes}
 
 -- bDeviceClass, bDeviceSubClass and bDeviceProtocol
 abbrev pub device_codes : List ℕ → ClassCodes
-device_codes bytes = record { class = device_class bytes; subclass = slice_index bytes 5; protocol = slice_index bytes 6 }
+device_codes bytes = record {
+  class = device_class bytes;
+  subclass = slice_index bytes 5;
+  protocol =
+      slice_index bytes 6;
+}
 
 -- bInterfaceClass, bInterfaceSubClass and bInterfaceProtocol
 abbrev pub interface_codes : List ℕ → ClassCodes
-interface_codes bytes = record { class = slice_index bytes 5; subclass = slice_index bytes 6; protocol = slice_index bytes 7 }
+interface_codes bytes = record {
+  class = slice_index bytes 5;
+  subclass = slice_index bytes 6;
+  protocol = slice_index bytes 7;
+}
 
 abbrev pub no_codes : ClassCodes
 no_codes = record { class = 0; subclass = 0; protocol = 0 }

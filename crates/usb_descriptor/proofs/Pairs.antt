@@ -1,5 +1,6 @@
 -- Two bytes more of a string.
-use Rattle.std.proofs.Common.{◌≡◌, ℕ, ◌+◌, ◌*◌, ◌%◌, ◌≤◌, ◌<◌, List, [], ◌∷◌, length, take, drop, refl, arith}
+use Rattle.std.proofs.Common.{◌≡◌, ℕ, ◌+◌, ◌*◌, ◌%◌, ◌≤◌, ◌<◌, List, [], ◌∷◌, length, take, drop}
+use Rattle.std.proofs.Common.{refl, arith}
 use Rattle.std.proofs.lemmas.List.{length-drop}
 use Rattle.std.specs.Int.{from_le_bytes, w16}
 use Rattle.usb_descriptor.specs.Words.{words_of}
@@ -16,10 +17,18 @@ length-words_of [] = refl
 length-words_of (low ∷ []) = refl
 length-words_of (low ∷ high ∷ bytes) = omega (arith, length-words_of bytes)
 
-pub words_of_drop : (bytes : List ℕ) → 2 ≤ length bytes → length bytes % 2 ≡ 0 → 2 + 2 * length (words_of (drop 2 bytes)) ≡ length bytes
-words_of_drop bytes long even = omega (arith, length-words_of (drop 2 bytes), length-drop 2 bytes, long, even)
+pub words_of_drop : (bytes : List ℕ) → 2 ≤ length bytes → length bytes % 2 ≡ 0
+    → 2 + 2 * length (words_of (drop 2 bytes)) ≡ length bytes
+words_of_drop bytes long even = omega (
+  arith,
+  length-words_of (drop 2 bytes),
+  length-drop 2 bytes,
+  long,
+  even,
+)
 
-pub words_of-two : (bytes : List ℕ) → 2 ≤ length bytes → words_of bytes ≡ from_le_bytes w16 (take 2 bytes) ∷ words_of (drop 2 bytes)
+pub words_of-two : (bytes : List ℕ) → 2 ≤ length bytes
+    → words_of bytes ≡ from_le_bytes w16 (take 2 bytes) ∷ words_of (drop 2 bytes)
 unfolding words_of
 words_of-two [] h = absurd (omega arith)
 words_of-two (low ∷ []) h = absurd (omega arith)

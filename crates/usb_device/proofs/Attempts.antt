@@ -1,5 +1,6 @@
 -- A whole attempt with one device.
-use Rattle.std.proofs.Common.{◌≡◌, ℕ, ◌==◌, nat_le, if◌then◌else◌, ◌&&◌, Bool, true, false, List, [], ◌∷◌, length, Option, None, Some, take, refl, ap, ◌∙◌, arith}
+use Rattle.std.proofs.Common.{◌≡◌, ℕ, ◌==◌, nat_le, if◌then◌else◌, ◌&&◌, Bool, true, false, List}
+use Rattle.std.proofs.Common.{[], ◌∷◌, length, Option, None, Some, take, refl, ap, ◌∙◌, arith}
 use Rattle.std.proofs.lemmas.Bool.Decides.{nat_tests}
 use Rattle.usb_packet.specs.declared.TokenKind.TheVariants.{OutTok, InTok, SetupTok}
 use Rattle.usb_packet.specs.declared.Toggle.{Toggle}
@@ -11,16 +12,25 @@ use Rattle.usb_request.specs.Layout.{setup_of}
 use Rattle.usb_device.specs.declared.answer.Answer.{Answer}
 use Rattle.usb_device.specs.declared.answer.Answer.TheVariants.{Ack, Nak, Stall}
 use Rattle.usb_device.specs.declared.transfer.RememberedPacket.{RememberedPacket}
-use Rattle.usb_device.specs.declared.transfer.RememberedPacket.TheVariants.{Nothing, SetupSeen, OutSeen, AckAwaited}
+use Rattle.usb_device.specs.declared.transfer.RememberedPacket.TheVariants.{Nothing, SetupSeen}
+use Rattle.usb_device.specs.declared.transfer.RememberedPacket.TheVariants.{OutSeen, AckAwaited}
 use Rattle.usb_device.specs.declared.transfer.InEndpoint.{InEndpoint}
 use Rattle.usb_device.specs.declared.transfer.InEndpoint.TheVariants as by
 use Rattle.usb_device.specs.declared.bulk.ServedEndpoint.TheVariants.{BulkOut, BulkIn, Changes}
 use Rattle.usb_port.specs.PortState.{PortState}
 use Rattle.usb_device.specs.Bulk.{tells_changes, change_bits}
-use Rattle.usb_device.specs.Request.{Outcome, stalled, answers, takes_address, takes_configuration, halts, unhalts, tells_port, calls_port, outcome}
-use Rattle.usb_device.specs.Transfer.{Stage, idle, refused, reading, read, ending, max_packet, packet_at, toggle_at}
-use Rattle.usb_device.specs.Rows.{State, Reply, received, answered, unread, forgotten, accepted, payload, is_busy, nak_row, unless_busy, gives, in_row, begun, data_row, token_row, source_row, changes_row, held_row, in_other_row, in_bulk_row, acknowledged, bulk_of, rest_of}
-use Rattle.usb_device.specs.Attempt.{Way, whole, broken, lost, heard, acked, setup_exchange, out_exchange, in_exchange, setup_law, out_law, gave, in_stage_law, source_law, changes_law, held_law, in_other_law, in_bulk_law, in_control_law, in_law, is_own}
+use Rattle.usb_device.specs.Request.{Outcome, stalled, answers, takes_address, takes_configuration}
+use Rattle.usb_device.specs.Request.{halts, unhalts, tells_port, calls_port, outcome}
+use Rattle.usb_device.specs.Transfer.{Stage, idle, refused, reading, read, ending, max_packet}
+use Rattle.usb_device.specs.Transfer.{packet_at, toggle_at}
+use Rattle.usb_device.specs.Rows.{State, Reply, received, answered, unread, forgotten, accepted}
+use Rattle.usb_device.specs.Rows.{payload, is_busy, nak_row, unless_busy, gives, in_row, begun}
+use Rattle.usb_device.specs.Rows.{data_row, token_row, source_row, changes_row, held_row}
+use Rattle.usb_device.specs.Rows.{in_other_row, in_bulk_row, acknowledged, bulk_of, rest_of}
+use Rattle.usb_device.specs.Attempt.{Way, whole, broken, lost, heard, acked, setup_exchange}
+use Rattle.usb_device.specs.Attempt.{out_exchange, in_exchange, setup_law, out_law, gave}
+use Rattle.usb_device.specs.Attempt.{in_stage_law, source_law, changes_law, held_law, in_other_law}
+use Rattle.usb_device.specs.Attempt.{in_bulk_law, in_control_law, in_law, is_own}
 
 pub same_number : (n : ℕ) → (n == n) ≡ true
 same_number n = grind (arith, nat_tests)
@@ -33,15 +43,22 @@ remembering d m = record d { memory = m }
 
 -- ---- packets one by one
 
-unread-is : (d : State) (m : RememberedPacket) → d.spec.silent ≡ false → unread (remembering d m) ≡ forgotten d
+unread-is : (d : State) (m : RememberedPacket) → d.spec.silent ≡ false
+    → unread (remembering d m) ≡ forgotten d
 unfolding unread
 unread-is d m loud = rw loud refl
 
 pub unread-rested : (d : State) → unread (forgotten d) ≡ forgotten d
 unfolding unread
-unread-rested d = elim d.spec.silent as (λ s. ◌≡◌ {A = State} (if s then forgotten d else forgotten d) (forgotten d)) [ true ↦ refl | false ↦ refl ]
+unread-rested d = elim d.spec.silent
+    as (λ s. ◌≡◌ {A = State} (if s then forgotten d else forgotten d) (forgotten d)) [
+      | true ↦
+          refl
+      | false ↦ refl
+    ]
 
-pub silent-stays : (d : State) (row : List PortState) (p : Packet) → d.spec.silent ≡ true → received d row p ≡ (None, d)
+pub silent-stays : (d : State) (row : List PortState) (p : Packet) → d.spec.silent ≡ true
+    → received d row p ≡ (None, d)
 unfolding received
 silent-stays d row p silent = rw silent refl
 
@@ -49,11 +66,13 @@ pub silent-unread : (d : State) → d.spec.silent ≡ true → unread d ≡ d
 unfolding unread
 silent-unread d silent = rw silent refl
 
-silent_or_row : (d : State) (silent : Bool) (row : Reply) → row ≡ (None, forgotten d) → (if silent then attempt_reply None (forgotten d) else row) ≡ attempt_reply None (forgotten d)
+silent_or_row : (d : State) (silent : Bool) (row : Reply) → row ≡ (None, forgotten d)
+    → (if silent then attempt_reply None (forgotten d) else row) ≡ attempt_reply None (forgotten d)
 silent_or_row d true row h = refl
 silent_or_row d false row h = h
 
-rested-row : (d : State) (row : List PortState) (p : Packet) → is_own d p ≡ false → answered (forgotten d) row Nothing p ≡ (None, forgotten d)
+rested-row : (d : State) (row : List PortState) (p : Packet) → is_own d p ≡ false
+    → answered (forgotten d) row Nothing p ≡ (None, forgotten d)
 rested-row d row (Token kind a e) h = rw h refl
 rested-row d row (Payload t b) h = refl
 rested-row d row packet.Ack h = refl
@@ -62,22 +81,29 @@ rested-row d row packet.Nak h = refl
 rested-row d row packet.Stall h = refl
 rested-row d row packet.Pre h = refl
 
-pub received-not_own : (d : State) (row : List PortState) (p : Packet) → is_own d p ≡ false → received (forgotten d) row p ≡ (None, forgotten d)
+pub received-not_own : (d : State) (row : List PortState) (p : Packet) → is_own d p ≡ false
+    → received (forgotten d) row p ≡ (None, forgotten d)
 unfolding received
-received-not_own d row p h = silent_or_row d d.spec.silent (answered (forgotten d) row Nothing p) (rested-row d row p h)
+received-not_own d row p h = silent_or_row d d.spec.silent (answered (forgotten d) row Nothing p)
+    (rested-row d row p h)
 
 -- ---- SETUP
 
-setup_token : (d : State) (row : List PortState) → d.spec.silent ≡ false → received (forgotten d) row (Token SetupTok d.registers.address 0) ≡ (None, remembering d SetupSeen)
+setup_token : (d : State) (row : List PortState) → d.spec.silent ≡ false
+    → received (forgotten d) row (Token SetupTok d.registers.address 0)
+    ≡ (None, remembering d SetupSeen)
 unfolding received
 setup_token d row loud = rw (loud, same_number d.registers.address) refl
 
-setup_data : (d : State) (row : List PortState) (s : List ℕ) → d.spec.silent ≡ false → length s ≡ 8 → received (remembering d SetupSeen) row (Payload Zero (record { items = s })) ≡ (Some Ack, accepted (forgotten d) row (setup_of s))
+setup_data : (d : State) (row : List PortState) (s : List ℕ) → d.spec.silent ≡ false → length s ≡ 8
+    → received (remembering d SetupSeen) row (Payload Zero (record { items = s }))
+    ≡ (Some Ack, accepted (forgotten d) row (setup_of s))
 unfolding received
 setup_data d row s loud len = rw (loud, len) refl
 
 -- the end where nothing was answered
-forgotten_none : (t : Way) (d : State) → attempt_reply (heard t None) (forgotten d) ≡ (None, forgotten d)
+forgotten_none : (t : Way) (d : State) → attempt_reply (heard t None) (forgotten d)
+    ≡ (None, forgotten d)
 forgotten_none whole d = refl
 forgotten_none broken d = refl
 forgotten_none lost d = refl
@@ -85,11 +111,13 @@ forgotten_none lost d = refl
 abbrev finished : Way → Reply → Reply
 finished t reply = (heard t reply.0, forgotten reply.1)
 
-rested_data : (d : State) (row : List PortState) (t : Toggle) (b : List ℕ) → received (forgotten d) row (Payload t (record { items = b })) ≡ (None, forgotten d)
+rested_data : (d : State) (row : List PortState) (t : Toggle) (b : List ℕ)
+    → received (forgotten d) row (Payload t (record { items = b })) ≡ (None, forgotten d)
 rested_data d row t b = received-not_own d row (Payload t (record { items = b })) refl
 
 -- a request leaves nothing remembered
-begun-rests : (d : State) (row : List PortState) (n : ℕ) (o : Outcome) → forgotten (begun (forgotten d) row n o) ≡ begun (forgotten d) row n o
+begun-rests : (d : State) (row : List PortState) (n : ℕ) (o : Outcome)
+    → forgotten (begun (forgotten d) row n o) ≡ begun (forgotten d) row n o
 begun-rests d row n stalled = refl
 begun-rests d row n (answers bytes) = refl
 begun-rests d row n (takes_address a) = refl
@@ -103,162 +131,272 @@ begun-rests d row n (unhalts Changes) = refl
 begun-rests d row n (tells_port i) = refl
 begun-rests d row n (calls_port c i) = refl
 
-pub setup_is : (d : State) (row : List PortState) (s : List ℕ) → d.spec.silent ≡ false → length s ≡ 8 → (t1 t2 t3 : Way) → setup_exchange (forgotten d) row d.registers.address s t1 t2 t3 ≡ setup_law (forgotten d) row s t1 t2 t3
+pub setup_is : (d : State) (row : List PortState) (s : List ℕ) → d.spec.silent ≡ false
+    → length s ≡ 8 → (t1 t2 t3 : Way) → setup_exchange (forgotten d) row d.registers.address s t1 t2
+    t3 ≡ setup_law (forgotten d) row s t1 t2 t3
 setup_is d row s loud len whole whole t3 =
-    ap (λ r. finished t3 (received r.1 row (Payload Zero (record { items = s })))) (setup_token d row loud) ∙ ap (finished t3) (setup_data d row s loud len)
-    ∙ ap (attempt_reply (heard t3 (Some Ack))) (begun-rests d row (setup_of s).length (outcome d.spec d.registers (setup_of s)))
+    ap (λ r. finished t3 (received r.1 row (Payload Zero (record { items = s }))))
+    (setup_token d row loud) ∙ ap (finished t3) (setup_data d row s loud len)
+    ∙ ap (attempt_reply (heard t3 (Some Ack)))
+    (begun-rests d row (setup_of s).length (outcome d.spec d.registers (setup_of s)))
 setup_is d row s loud len whole broken t3 =
-    ap (λ r. finished t3 (attempt_reply None (unread r.1))) (setup_token d row loud) ∙ ap (λ x. finished t3 (attempt_reply None x)) (unread-is d SetupSeen loud) ∙ forgotten_none t3 d
-setup_is d row s loud len whole lost t3 = ap (λ r. finished t3 (attempt_reply None r.1)) (setup_token d row loud) ∙ forgotten_none t3 d
+    ap (λ r. finished t3 (attempt_reply None (unread r.1))) (setup_token d row loud)
+    ∙ ap (λ x. finished t3 (attempt_reply None x)) (unread-is d SetupSeen loud)
+    ∙ forgotten_none t3 d
+setup_is d row s loud len whole lost t3 =
+    ap (λ r. finished t3 (attempt_reply None r.1)) (setup_token d row loud) ∙ forgotten_none t3 d
 setup_is d row s loud len broken whole t3 =
-    ap (λ x. finished t3 (received x row (Payload Zero (record { items = s })))) (unread-rested d) ∙ ap (finished t3) (rested_data d row Zero s) ∙ forgotten_none t3 d
+    ap (λ x. finished t3 (received x row (Payload Zero (record { items = s })))) (unread-rested d)
+    ∙ ap (finished t3) (rested_data d row Zero s) ∙ forgotten_none t3 d
 setup_is d row s loud len broken broken t3 =
-    ap (λ x. finished t3 (attempt_reply None (unread x))) (unread-rested d) ∙ ap (λ x. finished t3 (attempt_reply None x)) (unread-rested d) ∙ forgotten_none t3 d
-setup_is d row s loud len broken lost t3 = ap (λ x. finished t3 (attempt_reply None x)) (unread-rested d) ∙ forgotten_none t3 d
-setup_is d row s loud len lost whole t3 = ap (finished t3) (rested_data d row Zero s) ∙ forgotten_none t3 d
-setup_is d row s loud len lost broken t3 = ap (λ x. finished t3 (attempt_reply None x)) (unread-rested d) ∙ forgotten_none t3 d
+    ap (λ x. finished t3 (attempt_reply None (unread x))) (unread-rested d)
+    ∙ ap (λ x. finished t3 (attempt_reply None x)) (unread-rested d) ∙ forgotten_none t3 d
+setup_is d row s loud len broken lost t3 =
+    ap (λ x. finished t3 (attempt_reply None x)) (unread-rested d) ∙ forgotten_none t3 d
+setup_is d row s loud len lost whole t3 = ap (finished t3) (rested_data d row Zero s)
+    ∙ forgotten_none t3 d
+setup_is d row s loud len lost broken t3 =
+    ap (λ x. finished t3 (attempt_reply None x)) (unread-rested d) ∙ forgotten_none t3 d
 setup_is d row s loud len lost lost t3 = forgotten_none t3 d
 
 -- ---- OUT
 
-out_token : (d : State) (row : List PortState) (e : ℕ) → d.spec.silent ≡ false → received (forgotten d) row (Token OutTok d.registers.address e) ≡ (None, remembering d (OutSeen e))
+out_token : (d : State) (row : List PortState) (e : ℕ) → d.spec.silent ≡ false
+    → received (forgotten d) row (Token OutTok d.registers.address e)
+    ≡ (None, remembering d (OutSeen e))
 unfolding received
 out_token d row e loud = rw (loud, same_number d.registers.address) refl
 
-out_data : (d : State) (row : List PortState) (e : ℕ) (t : Toggle) (b : List ℕ) → d.spec.silent ≡ false → received (remembering d (OutSeen e)) row (Payload t (record { items = b })) ≡ data_row (forgotten d) e t b
+out_data : (d : State) (row : List PortState) (e : ℕ) (t : Toggle) (b : List ℕ)
+    → d.spec.silent ≡ false → received (remembering d (OutSeen e)) row
+    (Payload t (record { items = b })) ≡ data_row (forgotten d) e t b
 unfolding received
 out_data d row e t b loud = rw loud refl
 
-pub out_is : (d : State) (row : List PortState) (e : ℕ) (t : Toggle) (b : List ℕ) → d.spec.silent ≡ false → (t1 t2 t3 : Way) → out_exchange (forgotten d) row d.registers.address e t b t1 t2 t3 ≡ out_law (forgotten d) e t b t1 t2 t3
+pub out_is : (d : State) (row : List PortState) (e : ℕ) (t : Toggle) (b : List ℕ)
+    → d.spec.silent ≡ false → (t1 t2 t3 : Way)
+    → out_exchange (forgotten d) row d.registers.address e t b t1 t2 t3 ≡ out_law (forgotten d) e t
+    b t1 t2 t3
 out_is d row e t b loud whole whole t3 =
-    ap (λ r. finished t3 (received r.1 row (Payload t (record { items = b })))) (out_token d row e loud)
+    ap (λ r. finished t3 (received r.1 row (Payload t (record { items = b }))))
+    (out_token d row e loud)
     ∙ ap (finished t3) (out_data d row e t b loud)
 out_is d row e t b loud whole broken t3 =
-    ap (λ r. finished t3 (attempt_reply None (unread r.1))) (out_token d row e loud) ∙ ap (λ x. finished t3 (attempt_reply None x)) (unread-is d (OutSeen e) loud) ∙ forgotten_none t3 d
-out_is d row e t b loud whole lost t3 = ap (λ r. finished t3 (attempt_reply None r.1)) (out_token d row e loud) ∙ forgotten_none t3 d
+    ap (λ r. finished t3 (attempt_reply None (unread r.1))) (out_token d row e loud)
+    ∙ ap (λ x. finished t3 (attempt_reply None x)) (unread-is d (OutSeen e) loud)
+    ∙ forgotten_none t3 d
+out_is d row e t b loud whole lost t3 = ap (λ r. finished t3 (attempt_reply None r.1))
+    (out_token d row e loud) ∙ forgotten_none t3 d
 out_is d row e t b loud broken whole t3 =
-    ap (λ x. finished t3 (received x row (Payload t (record { items = b })))) (unread-rested d) ∙ ap (finished t3) (rested_data d row t b) ∙ forgotten_none t3 d
+    ap (λ x. finished t3 (received x row (Payload t (record { items = b })))) (unread-rested d)
+    ∙ ap (finished t3) (rested_data d row t b) ∙ forgotten_none t3 d
 out_is d row e t b loud broken broken t3 =
-    ap (λ x. finished t3 (attempt_reply None (unread x))) (unread-rested d) ∙ ap (λ x. finished t3 (attempt_reply None x)) (unread-rested d) ∙ forgotten_none t3 d
-out_is d row e t b loud broken lost t3 = ap (λ x. finished t3 (attempt_reply None x)) (unread-rested d) ∙ forgotten_none t3 d
-out_is d row e t b loud lost whole t3 = ap (finished t3) (rested_data d row t b) ∙ forgotten_none t3 d
-out_is d row e t b loud lost broken t3 = ap (λ x. finished t3 (attempt_reply None x)) (unread-rested d) ∙ forgotten_none t3 d
+    ap (λ x. finished t3 (attempt_reply None (unread x))) (unread-rested d)
+    ∙ ap (λ x. finished t3 (attempt_reply None x)) (unread-rested d) ∙ forgotten_none t3 d
+out_is d row e t b loud broken lost t3 =
+    ap (λ x. finished t3 (attempt_reply None x)) (unread-rested d) ∙ forgotten_none t3 d
+out_is d row e t b loud lost whole t3 = ap (finished t3) (rested_data d row t b)
+    ∙ forgotten_none t3 d
+out_is d row e t b loud lost broken t3 =
+    ap (λ x. finished t3 (attempt_reply None x)) (unread-rested d) ∙ forgotten_none t3 d
 out_is d row e t b loud lost lost t3 = forgotten_none t3 d
 
 -- ---- IN
 
-in_token : (d : State) (row : List PortState) (e : ℕ) → d.spec.silent ≡ false → received (forgotten d) row (Token InTok d.registers.address e) ≡ token_row (forgotten d) row InTok e
+in_token : (d : State) (row : List PortState) (e : ℕ) → d.spec.silent ≡ false
+    → received (forgotten d) row (Token InTok d.registers.address e) ≡ token_row (forgotten d) row
+    InTok e
 unfolding received
 in_token d row e loud = rw (loud, same_number d.registers.address) refl
 
-acked-none : (row : List PortState) (max : ℕ) (t2 t3 : Way) (d : State) → acked row max t2 t3 (None, d) ≡ (None, forgotten d)
+acked-none : (row : List PortState) (max : ℕ) (t2 t3 : Way) (d : State)
+    → acked row max t2 t3 (None, d) ≡ (None, forgotten d)
 acked-none row max whole t3 d = refl
 acked-none row max broken t3 d = refl
 acked-none row max lost t3 d = refl
 
-stalls : (row : List PortState) (max : ℕ) (t2 t3 : Way) (d : State) → acked row max t2 t3 (attempt_reply (Some Stall) (forgotten d)) ≡ attempt_reply (heard t2 (Some Stall)) (forgotten d)
+stalls : (row : List PortState) (max : ℕ) (t2 t3 : Way) (d : State)
+    → acked row max t2 t3 (attempt_reply (Some Stall) (forgotten d))
+    ≡ attempt_reply (heard t2 (Some Stall)) (forgotten d)
 stalls row max whole t3 d = refl
 stalls row max broken t3 d = refl
 stalls row max lost t3 d = refl
 
-acked-nak : (row : List PortState) (max : ℕ) (t2 t3 : Way) (d : State) → acked row max t2 t3 (attempt_reply (Some Nak) (forgotten d)) ≡ attempt_reply (heard t2 (Some Nak)) (forgotten d)
+acked-nak : (row : List PortState) (max : ℕ) (t2 t3 : Way) (d : State)
+    → acked row max t2 t3 (attempt_reply (Some Nak) (forgotten d))
+    ≡ attempt_reply (heard t2 (Some Nak)) (forgotten d)
 acked-nak row max whole t3 d = refl
 acked-nak row max broken t3 d = refl
 acked-nak row max lost t3 d = refl
 
-naks : (row : List PortState) (max : ℕ) (t2 t3 : Way) (d : State) → acked row max t2 t3 (nak_row (forgotten d)) ≡ attempt_reply (heard t2 (Some Nak)) (nak_row (forgotten d)).1
+naks : (row : List PortState) (max : ℕ) (t2 t3 : Way) (d : State)
+    → acked row max t2 t3 (nak_row (forgotten d)) ≡ attempt_reply (heard t2 (Some Nak))
+    (nak_row (forgotten d)).1
 naks row max whole t3 d = refl
 naks row max broken t3 d = refl
 naks row max lost t3 d = refl
 
-ack_came : (d : State) (row : List PortState) (giver : InEndpoint) → d.spec.silent ≡ false → received (remembering d (AckAwaited giver)) row packet.Ack ≡ (None, acknowledged (forgotten d) giver)
+ack_came : (d : State) (row : List PortState) (giver : InEndpoint) → d.spec.silent ≡ false
+    → received (remembering d (AckAwaited giver)) row packet.Ack
+    ≡ (None, acknowledged (forgotten d) giver)
 unfolding received
 ack_came d row giver loud = rw loud refl
 
-gave_is : (d : State) (row : List PortState) (giver : InEndpoint) (t : Toggle) (bytes : List ℕ) (max : ℕ) → d.spec.silent ≡ false → (t2 t3 : Way) → acked row max t2 t3 (gives (forgotten d) giver t bytes) ≡ gave (forgotten d) giver max t bytes t2 t3
+gave_is : (d : State) (row : List PortState) (giver : InEndpoint) (t : Toggle) (bytes : List ℕ)
+    (max : ℕ) → d.spec.silent ≡ false → (t2 t3 : Way)
+    → acked row max t2 t3 (gives (forgotten d) giver t bytes) ≡ gave (forgotten d) giver max t bytes
+    t2 t3
 gave_is d row giver t bytes max loud broken t3 = refl
 gave_is d row giver t bytes max loud lost t3 = refl
 gave_is d row giver t bytes max loud whole whole =
-    elim (nat_le (length bytes) max) as (λ b. attempt_reply (Some (payload t bytes)) (forgotten (if b then (received (remembering d (AckAwaited giver)) row packet.Ack).1 else remembering d (AckAwaited giver))) ≡ attempt_reply (Some (payload t bytes)) (if b && true then forgotten (acknowledged (forgotten d) giver) else forgotten d)) [
-      | true ↦ ap (λ r. attempt_reply (Some (payload t bytes)) (forgotten r.1)) (ack_came d row giver loud)
+    elim (nat_le (length bytes) max)
+    as (λ b. attempt_reply (Some (payload t bytes))
+    (forgotten (if b then (received (remembering d (AckAwaited giver)) row packet.Ack).1
+    else remembering d (AckAwaited giver))) ≡ attempt_reply (Some (payload t bytes))
+    (if b && true then forgotten (acknowledged (forgotten d) giver) else forgotten d)) [
+      | true ↦ ap (λ r. attempt_reply (Some (payload t bytes)) (forgotten r.1))
+          (ack_came d row giver loud)
       | false ↦ refl
     ]
 gave_is d row giver t bytes max loud whole broken =
-    elim (nat_le (length bytes) max) as (λ b. attempt_reply (Some (payload t bytes)) (forgotten (if b then unread (remembering d (AckAwaited giver)) else remembering d (AckAwaited giver))) ≡ attempt_reply (Some (payload t bytes)) (if b && false then forgotten (acknowledged (forgotten d) giver) else forgotten d)) [
-      | true ↦ ap (λ x. attempt_reply (Some (payload t bytes)) (forgotten x)) (unread-is d (AckAwaited giver) loud)
+    elim (nat_le (length bytes) max)
+    as (λ b. attempt_reply (Some (payload t bytes))
+    (forgotten (if b then unread (remembering d (AckAwaited giver)) else remembering d
+    (AckAwaited giver))) ≡ attempt_reply (Some (payload t bytes))
+    (if b && false then forgotten (acknowledged (forgotten d) giver) else forgotten d)) [
+      | true ↦ ap (λ x. attempt_reply (Some (payload t bytes)) (forgotten x))
+          (unread-is d (AckAwaited giver) loud)
       | false ↦ refl
     ]
 gave_is d row giver t bytes max loud whole lost =
-    elim (nat_le (length bytes) max) as (λ b. attempt_reply (Some (payload t bytes)) (forgotten (if b then remembering d (AckAwaited giver) else remembering d (AckAwaited giver))) ≡ attempt_reply (Some (payload t bytes)) (if b && false then forgotten (acknowledged (forgotten d) giver) else forgotten d)) [ true ↦ refl | false ↦ refl ]
+    elim (nat_le (length bytes) max)
+    as (λ b. attempt_reply (Some (payload t bytes))
+    (forgotten (if b then remembering d (AckAwaited giver) else remembering d
+    (AckAwaited giver))) ≡ attempt_reply (Some (payload t bytes))
+    (if b && false then forgotten (acknowledged (forgotten d) giver) else forgotten d))
+    [ true ↦ refl | false ↦ refl ]
 
 abbrev with_stage : State → Stage → State
 with_stage d s = record (forgotten d) { stage = s }
 
-in_stage_is : (d : State) (row : List PortState) (max : ℕ) → d.spec.silent ≡ false → (t2 t3 : Way) (s : Stage) → acked row max t2 t3 (in_row (with_stage d s) s) ≡ in_stage_law (with_stage d s) s max t2 t3
+in_stage_is : (d : State) (row : List PortState) (max : ℕ) → d.spec.silent ≡ false
+    → (t2 t3 : Way) (s : Stage) → acked row max t2 t3 (in_row (with_stage d s) s)
+    ≡ in_stage_law (with_stage d s) s max t2 t3
 in_stage_is d row max loud t2 t3 idle = acked-none row max t2 t3 (with_stage d idle)
 in_stage_is d row max loud t2 t3 refused = stalls row max t2 t3 (with_stage d refused)
 in_stage_is d row max loud t2 t3 read = acked-none row max t2 t3 (with_stage d read)
-in_stage_is d row max loud t2 t3 (ending a) = gave_is (with_stage d (ending a)) row by.Control One [] max loud t2 t3
+in_stage_is d row max loud t2 t3 (ending a) = gave_is (with_stage d (ending a)) row by.Control One
+    [] max loud t2 t3
 in_stage_is d row max loud t2 t3 (reading answer wanted k) =
     let D = with_stage d (reading answer wanted k) in
-    elim (packet_at (max_packet d.spec) wanted answer k) as (λ o. acked row max t2 t3 (elim o [ None ↦ attempt_reply None D | Some bytes ↦ gives D by.Control (toggle_at k) bytes ]) ≡ (elim o [ None ↦ attempt_reply None D | Some bytes ↦ gave D by.Control max (toggle_at k) bytes t2 t3 ])) [
+    elim (packet_at (max_packet d.spec) wanted answer k)
+    as (λ o. acked row max t2 t3 (elim o [
+      | None ↦ attempt_reply None D
+      | Some bytes ↦
+          gives D by.Control (toggle_at k) bytes
+    ])
+    ≡ (elim o [
+      | None ↦ attempt_reply None D
+      | Some bytes ↦
+          gave D by.Control max (toggle_at k) bytes t2 t3
+    ])) [
       | None ↦ acked-none row max t2 t3 D
       | Some bytes ↦ gave_is D row by.Control (toggle_at k) bytes max loud t2 t3
     ]
 
-in_whole : (d : State) (row : List PortState) (max : ℕ) → d.spec.silent ≡ false → (t2 t3 : Way) (busy : Bool) → acked row max t2 t3 (if busy then nak_row (forgotten d) else in_row (forgotten d) d.stage) ≡ (if busy then attempt_reply (heard t2 (Some Nak)) (nak_row (forgotten d)).1 else in_stage_law (forgotten d) d.stage max t2 t3)
+in_whole : (d : State) (row : List PortState) (max : ℕ) → d.spec.silent ≡ false
+    → (t2 t3 : Way) (busy : Bool) → acked row max t2 t3
+    (if busy then nak_row (forgotten d) else in_row (forgotten d) d.stage)
+    ≡ (if busy then attempt_reply (heard t2 (Some Nak)) (nak_row (forgotten d)).1 else in_stage_law
+    (forgotten d) d.stage max t2 t3)
 in_whole d row max loud t2 t3 true = naks row max t2 t3 d
 in_whole d row max loud t2 t3 false = in_stage_is d row max loud t2 t3 d.stage
 
 -- ---- IN of the bulk IN endpoint
 
-source_is : (d : State) (row : List PortState) (most max : ℕ) → d.spec.silent ≡ false → (t2 t3 : Way) (halted empty : Bool)
-    → acked row max t2 t3 (if halted then (Some Stall, forgotten d) else if empty then (Some Nak, forgotten d) else gives (forgotten d) by.Bulk d.bulk_in.toggle (take most (rest_of d)))
-    ≡ (if halted then attempt_reply (heard t2 (Some Stall)) (forgotten d) else if empty then attempt_reply (heard t2 (Some Nak)) (forgotten d) else gave (forgotten d) by.Bulk max d.bulk_in.toggle (take most (rest_of d)) t2 t3)
+source_is : (d : State) (row : List PortState) (most max : ℕ) → d.spec.silent ≡ false
+    → (t2 t3 : Way) (halted empty : Bool)
+    → acked row max t2 t3 (if halted then (Some Stall, forgotten d) else if empty
+    then (Some Nak, forgotten d) else gives (forgotten d) by.Bulk d.bulk_in.toggle
+    (take most (rest_of d)))
+    ≡ (if halted then attempt_reply (heard t2 (Some Stall)) (forgotten d) else if empty
+    then attempt_reply (heard t2 (Some Nak)) (forgotten d) else gave (forgotten d) by.Bulk max
+    d.bulk_in.toggle (take most (rest_of d)) t2 t3)
 source_is d row most max loud t2 t3 true empty = stalls row max t2 t3 d
 source_is d row most max loud t2 t3 false true = acked-nak row max t2 t3 d
-source_is d row most max loud t2 t3 false false = gave_is d row by.Bulk d.bulk_in.toggle (take most (rest_of d)) max loud t2 t3
+source_is d row most max loud t2 t3 false false =
+    gave_is d row by.Bulk d.bulk_in.toggle (take most (rest_of d)) max loud t2 t3
 
-at_endpoint : (d : State) (row : List PortState) (most max : ℕ) → d.spec.silent ≡ false → (t2 t3 : Way) (here : Bool)
-    → acked row max t2 t3 (if here then source_row (forgotten d) most else (None, forgotten d)) ≡ (if here then source_law (forgotten d) most max t2 t3 else attempt_reply None (forgotten d))
-at_endpoint d row most max loud t2 t3 true = source_is d row most max loud t2 t3 d.bulk_in.halted (length (rest_of d) == 0)
+at_endpoint : (d : State) (row : List PortState) (most max : ℕ) → d.spec.silent ≡ false
+    → (t2 t3 : Way) (here : Bool)
+    → acked row max t2 t3 (if here then source_row (forgotten d) most else (None, forgotten d))
+    ≡ (if here then source_law (forgotten d) most max t2 t3 else attempt_reply None
+    (forgotten d))
+at_endpoint d row most max loud t2 t3 true = source_is d row most max loud t2 t3 d.bulk_in.halted
+    (length (rest_of d) == 0)
 at_endpoint d row most max loud t2 t3 false = acked-none row max t2 t3 (forgotten d)
 
-in_bulk_is : (d : State) (row : List PortState) (e max : ℕ) → d.spec.silent ≡ false → (t2 t3 : Way) (end : Option (ℕ × ℕ)) → acked row max t2 t3 (in_bulk_row (forgotten d) e end) ≡ in_bulk_law (forgotten d) e end max t2 t3
+in_bulk_is : (d : State) (row : List PortState) (e max : ℕ) → d.spec.silent ≡ false
+    → (t2 t3 : Way) (end : Option (ℕ × ℕ)) → acked row max t2 t3 (in_bulk_row (forgotten d) e end)
+    ≡ in_bulk_law (forgotten d) e end max t2 t3
 in_bulk_is d row e max loud t2 t3 None = acked-none row max t2 t3 (forgotten d)
 in_bulk_is d row e max loud t2 t3 (Some end) = at_endpoint d row end.1 max loud t2 t3 (end.0 == e)
 
 -- ---- IN 1 of a hub
 
-new_changes_is : (d : State) (row : List PortState) (bits max : ℕ) → d.spec.silent ≡ false → (t2 t3 : Way) (none : Bool)
-    → acked row max t2 t3 (if none then (Some Nak, forgotten d) else gives (record (forgotten d) { held = Some bits }) by.Changes d.changes.toggle (bits ∷ []))
-    ≡ (if none then attempt_reply (heard t2 (Some Nak)) (forgotten d) else gave (record (forgotten d) { held = Some bits }) by.Changes max d.changes.toggle (bits ∷ []) t2 t3)
+new_changes_is : (d : State) (row : List PortState) (bits max : ℕ) → d.spec.silent ≡ false
+    → (t2 t3 : Way) (none : Bool)
+    → acked row max t2 t3 (if none then (Some Nak, forgotten d) else gives
+    (record (forgotten d) { held = Some bits }) by.Changes d.changes.toggle (bits ∷ []))
+    ≡ (if none then attempt_reply (heard t2 (Some Nak)) (forgotten d) else gave
+    (record (forgotten d) { held = Some bits }) by.Changes max d.changes.toggle (bits ∷ []) t2
+    t3)
 new_changes_is d row bits max loud t2 t3 true = acked-nak row max t2 t3 d
-new_changes_is d row bits max loud t2 t3 false = gave_is (record d { held = Some bits }) row by.Changes d.changes.toggle (bits ∷ []) max loud t2 t3
+new_changes_is d row bits max loud t2 t3 false =
+    gave_is (record d { held = Some bits }) row by.Changes d.changes.toggle (bits ∷ []) max loud t2
+    t3
 
-held_is : (d : State) (row : List PortState) (max : ℕ) → d.spec.silent ≡ false → (t2 t3 : Way) (h : Option ℕ) → acked row max t2 t3 (held_row (forgotten d) row h) ≡ held_law (forgotten d) row h max t2 t3
-held_is d row max loud t2 t3 None = new_changes_is d row (change_bits row) max loud t2 t3 (change_bits row == 0)
-held_is d row max loud t2 t3 (Some bits) = gave_is d row by.Changes d.changes.toggle (bits ∷ []) max loud t2 t3
+held_is : (d : State) (row : List PortState) (max : ℕ) → d.spec.silent ≡ false
+    → (t2 t3 : Way) (h : Option ℕ) → acked row max t2 t3 (held_row (forgotten d) row h)
+    ≡ held_law (forgotten d) row h max t2 t3
+held_is d row max loud t2 t3 None = new_changes_is d row (change_bits row) max loud t2 t3
+    (change_bits row == 0)
+held_is d row max loud t2 t3 (Some bits) = gave_is d row by.Changes d.changes.toggle (bits ∷ []) max
+    loud t2 t3
 
-changes_is : (d : State) (row : List PortState) (max : ℕ) → d.spec.silent ≡ false → (t2 t3 : Way) (halted : Bool)
-    → acked row max t2 t3 (if halted then (Some Stall, forgotten d) else held_row (forgotten d) row d.held) ≡ (if halted then attempt_reply (heard t2 (Some Stall)) (forgotten d) else held_law (forgotten d) row d.held max t2 t3)
+changes_is : (d : State) (row : List PortState) (max : ℕ) → d.spec.silent ≡ false
+    → (t2 t3 : Way) (halted : Bool)
+    → acked row max t2 t3 (if halted then (Some Stall, forgotten d) else held_row (forgotten d) row
+    d.held) ≡ (if halted then attempt_reply (heard t2 (Some Stall)) (forgotten d)
+    else held_law (forgotten d) row d.held max t2 t3)
 changes_is d row max loud t2 t3 true = stalls row max t2 t3 d
 changes_is d row max loud t2 t3 false = held_is d row max loud t2 t3 d.held
 
-in_other_is : (d : State) (row : List PortState) (e max : ℕ) → d.spec.silent ≡ false → (t2 t3 : Way) (hub : Bool)
-    → acked row max t2 t3 (if hub then changes_row (forgotten d) row else in_bulk_row (forgotten d) e (bulk_of d true)) ≡ (if hub then changes_law (forgotten d) row max t2 t3 else in_bulk_law (forgotten d) e (bulk_of d true) max t2 t3)
+in_other_is : (d : State) (row : List PortState) (e max : ℕ) → d.spec.silent ≡ false
+    → (t2 t3 : Way) (hub : Bool)
+    → acked row max t2 t3 (if hub then changes_row (forgotten d) row else in_bulk_row (forgotten d)
+    e (bulk_of d true)) ≡ (if hub then changes_law (forgotten d) row max t2 t3
+    else in_bulk_law (forgotten d) e (bulk_of d true) max t2 t3)
 in_other_is d row e max loud t2 t3 true = changes_is d row max loud t2 t3 d.changes.halted
 in_other_is d row e max loud t2 t3 false = in_bulk_is d row e max loud t2 t3 (bulk_of d true)
 
-acked-endpoint : (d : State) (row : List PortState) (e max : ℕ) → d.spec.silent ≡ false → (t2 t3 : Way) (zero : Bool)
-    → acked row max t2 t3 (if zero then unless_busy (forgotten d) (in_row (forgotten d) d.stage) else in_other_row (forgotten d) row e)
-    ≡ (if zero then in_control_law (forgotten d) max t2 t3 else in_other_law (forgotten d) row e max t2 t3)
+acked-endpoint : (d : State) (row : List PortState) (e max : ℕ) → d.spec.silent ≡ false
+    → (t2 t3 : Way) (zero : Bool)
+    → acked row max t2 t3 (if zero then unless_busy (forgotten d) (in_row (forgotten d) d.stage)
+    else in_other_row (forgotten d) row e)
+    ≡ (if zero then in_control_law (forgotten d) max t2 t3 else in_other_law (forgotten d) row e max
+    t2 t3)
 acked-endpoint d row e max loud t2 t3 true = in_whole d row max loud t2 t3 (is_busy d)
-acked-endpoint d row e max loud t2 t3 false = in_other_is d row e max loud t2 t3 (e == 1 && tells_changes d.spec d.registers)
+acked-endpoint d row e max loud t2 t3 false =
+    in_other_is d row e max loud t2 t3 (e == 1 && tells_changes d.spec d.registers)
 
-pub in_is : (d : State) (row : List PortState) (e max : ℕ) → d.spec.silent ≡ false → (t1 t2 t3 : Way) → in_exchange (forgotten d) row d.registers.address e max t1 t2 t3 ≡ in_law (forgotten d) row e max t1 t2 t3
-in_is d row e max loud whole t2 t3 = ap (acked row max t2 t3) (in_token d row e loud) ∙ acked-endpoint d row e max loud t2 t3 (e == 0)
-in_is d row e max loud broken t2 t3 = ap (λ x. acked row max t2 t3 (attempt_reply None x)) (unread-rested d) ∙ acked-none row max t2 t3 (forgotten d)
+pub in_is : (d : State) (row : List PortState) (e max : ℕ) → d.spec.silent ≡ false
+    → (t1 t2 t3 : Way) → in_exchange (forgotten d) row d.registers.address e max t1 t2 t3
+    ≡ in_law (forgotten d) row e max t1 t2 t3
+in_is d row e max loud whole t2 t3 = ap (acked row max t2 t3) (in_token d row e loud)
+    ∙ acked-endpoint d row e max loud t2 t3 (e == 0)
+in_is d row e max loud broken t2 t3 = ap (λ x. acked row max t2 t3 (attempt_reply None x))
+    (unread-rested d) ∙ acked-none row max t2 t3 (forgotten d)
 in_is d row e max loud lost t2 t3 = acked-none row max t2 t3 (forgotten d)
 
 pub ruleset attempts = (setup_is, out_is, in_is)

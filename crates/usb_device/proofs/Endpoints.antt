@@ -4,11 +4,13 @@ use Rattle.usb_descriptor.specs.declared.fault.DescriptorFault.{DescriptorFault}
 use Rattle.usb_descriptor.specs.Config.{config_of}
 use Rattle.usb_descriptor.specs.Choice.{in_config, bulk_in_of, bulk_out_of, bulk_in_at, bulk_out_at}
 
-pub no_bulk_in : (bytes : List ℕ) (fault : DescriptorFault) → config_of bytes ≡ Err fault → bulk_in_of bytes ≡ None
+pub no_bulk_in : (bytes : List ℕ) (fault : DescriptorFault) → config_of bytes ≡ Err fault
+    → bulk_in_of bytes ≡ None
 unfolding bulk_in_of
 no_bulk_in bytes fault h = ap (in_config bulk_in_at) h
 
-pub no_bulk_out : (bytes : List ℕ) (fault : DescriptorFault) → config_of bytes ≡ Err fault → bulk_out_of bytes ≡ None
+pub no_bulk_out : (bytes : List ℕ) (fault : DescriptorFault) → config_of bytes ≡ Err fault
+    → bulk_out_of bytes ≡ None
 unfolding bulk_out_of
 no_bulk_out bytes fault h = ap (in_config bulk_out_at) h
 

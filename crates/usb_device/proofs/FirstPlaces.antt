@@ -1,7 +1,10 @@
 -- A row of ports that begins with a place.
-use Rattle.std.proofs.Common.{◌≡◌, ℕ, zero, suc, ◌+◌, ◌-◌, List, [], ◌∷◌, ◌++◌, Option, None, Some, length, slice_get, refl, ap, sym, ◌∙◌, add-one, arith}
+use Rattle.std.proofs.Common.{◌≡◌, ℕ, zero, suc, ◌+◌, ◌-◌, List, [], ◌∷◌, ◌++◌, Option, None, Some}
+use Rattle.std.proofs.Common.{length, slice_get, refl, ap, sym, ◌∙◌, add-one, arith}
 use Rattle.usb_port.specs.PortState.{PortState, off, powered_off}
-use Rattle.usb_device.specs.Tree.{Ports, ended, vacant, taken, Plugged, Place, empty, full, before, new_ports, all_off, row_of, changed_at, changed_in, changed, plugged_at, plugged_in, device_there}
+use Rattle.usb_device.specs.Tree.{Ports, ended, vacant, taken, Plugged, Place, empty, full, before}
+use Rattle.usb_device.specs.Tree.{new_ports, all_off, row_of, changed_at, changed_in, changed}
+use Rattle.usb_device.specs.Tree.{plugged_at, plugged_in, device_there}
 use Rattle.usb_device.specs.Places.{standing, stood, ports_kept}
 use Rattle.usb_device.specs.declared.ports.Place.{Place as Kept}
 use Rattle.usb_device.proofs.Rows.{row_of-before}
@@ -13,7 +16,8 @@ one_less i h = omega (arith, h)
 
 -- ---- the place at the head, and those behind it
 
-pub changed_at-head : (f : Place → Place) (q : Place) (k : Ports) (p : List ℕ) → changed_at f (before q k) 0 p ≡ before (changed_in f q p) k
+pub changed_at-head : (f : Place → Place) (q : Place) (k : Ports) (p : List ℕ)
+    → changed_at f (before q k) 0 p ≡ before (changed_in f q p) k
 unfolding changed_at
 changed_at-head f (empty b) k [] = refl
 changed_at-head f (empty b) k (n ∷ p) = refl
@@ -21,18 +25,23 @@ changed_at-head f (full b s a) k [] = refl
 changed_at-head f (full b s a) k (zero ∷ p) = refl
 changed_at-head f (full b s a) k (suc j ∷ p) = refl
 
-pub changed_at-tail : (f : Place → Place) (q : Place) (k : Ports) (i : ℕ) (p : List ℕ) → changed_at f (before q k) (suc i) p ≡ before q (changed_at f k i p)
+pub changed_at-tail : (f : Place → Place) (q : Place) (k : Ports) (i : ℕ) (p : List ℕ)
+    → changed_at f (before q k) (suc i) p ≡ before q (changed_at f k i p)
 unfolding changed_at
 changed_at-tail f (empty b) k i p = refl
 changed_at-tail f (full b s a) k i p = refl
 
-pub changed_at-first : (f : Place → Place) (q : Place) (k : Ports) (i : ℕ) (p : List ℕ) → i ≡ 0 → changed_at f (before q k) i p ≡ before (changed_in f q p) k
+pub changed_at-first : (f : Place → Place) (q : Place) (k : Ports) (i : ℕ) (p : List ℕ) → i ≡ 0
+    → changed_at f (before q k) i p ≡ before (changed_in f q p) k
 changed_at-first f q k i p h = rw h (changed_at-head f q k p)
 
-pub changed_at-later : (f : Place → Place) (q : Place) (k : Ports) (i : ℕ) (p : List ℕ) → (i ≡ 0 → ⊥) → changed_at f (before q k) i p ≡ before q (changed_at f k (i - 1) p)
-changed_at-later f q k i p h = ap (λ n. changed_at f (before q k) n p) (one_less i h) ∙ changed_at-tail f q k (i - 1) p
+pub changed_at-later : (f : Place → Place) (q : Place) (k : Ports) (i : ℕ) (p : List ℕ)
+    → (i ≡ 0 → ⊥) → changed_at f (before q k) i p ≡ before q (changed_at f k (i - 1) p)
+changed_at-later f q k i p h = ap (λ n. changed_at f (before q k) n p) (one_less i h)
+    ∙ changed_at-tail f q k (i - 1) p
 
-pub changed_at-none : (f : Place → Place) (ps : List Kept) (i : ℕ) (p : List ℕ) → length ps ≡ 0 → changed_at f (ports_kept ps) i p ≡ ports_kept ps
+pub changed_at-none : (f : Place → Place) (ps : List Kept) (i : ℕ) (p : List ℕ) → length ps ≡ 0
+    → changed_at f (ports_kept ps) i p ≡ ports_kept ps
 unfolding changed_at
 changed_at-none f [] i p h = refl
 changed_at-none f (q ∷ ps) i p h = absurd (omega (arith, h))
@@ -90,38 +99,48 @@ changed_at-zero f (taken b s a k) zero (suc j ∷ p) =
     ap (λ x. taken b s x k) (changed_at-zero f a j p)
 changed_at-zero f (taken b s a k) (suc j) p = ap (taken b s a) (changed_at-zero f k j p)
 
-pub plugged_at-head : (q : Place) (k : Ports) (p : List ℕ) → plugged_at (before q k) 0 p ≡ plugged_in q p
+pub plugged_at-head : (q : Place) (k : Ports) (p : List ℕ) → plugged_at (before q k) 0 p
+    ≡ plugged_in q p
 unfolding plugged_at
 plugged_at-head (empty b) k p = refl
 plugged_at-head (full b s a) k [] = refl
 plugged_at-head (full b s a) k (zero ∷ p) = refl
 plugged_at-head (full b s a) k (suc j ∷ p) = refl
 
-pub plugged_at-tail : (q : Place) (k : Ports) (i : ℕ) (p : List ℕ) → plugged_at (before q k) (suc i) p ≡ plugged_at k i p
+pub plugged_at-tail : (q : Place) (k : Ports) (i : ℕ) (p : List ℕ)
+    → plugged_at (before q k) (suc i) p ≡ plugged_at k i p
 unfolding plugged_at
 plugged_at-tail (empty b) k i p = refl
 plugged_at-tail (full b s a) k i p = refl
 
-pub plugged_at-first : (q : Place) (k : Ports) (i : ℕ) (p : List ℕ) → i ≡ 0 → plugged_at (before q k) i p ≡ plugged_in q p
+pub plugged_at-first : (q : Place) (k : Ports) (i : ℕ) (p : List ℕ) → i ≡ 0
+    → plugged_at (before q k) i p ≡ plugged_in q p
 plugged_at-first q k i p h = rw h (plugged_at-head q k p)
 
-pub plugged_at-later : (q : Place) (k : Ports) (i : ℕ) (p : List ℕ) → (i ≡ 0 → ⊥) → plugged_at (before q k) i p ≡ plugged_at k (i - 1) p
-plugged_at-later q k i p h = ap (λ n. plugged_at (before q k) n p) (one_less i h) ∙ plugged_at-tail q k (i - 1) p
+pub plugged_at-later : (q : Place) (k : Ports) (i : ℕ) (p : List ℕ) → (i ≡ 0 → ⊥)
+    → plugged_at (before q k) i p ≡ plugged_at k (i - 1) p
+plugged_at-later q k i p h = ap (λ n. plugged_at (before q k) n p) (one_less i h)
+    ∙ plugged_at-tail q k (i - 1) p
 
-pub plugged_at-none : (ps : List Kept) (i : ℕ) (p : List ℕ) → length ps ≡ 0 → plugged_at (ports_kept ps) i p ≡ None
+pub plugged_at-none : (ps : List Kept) (i : ℕ) (p : List ℕ) → length ps ≡ 0
+    → plugged_at (ports_kept ps) i p ≡ None
 unfolding plugged_at
 plugged_at-none [] i p h = refl
 plugged_at-none (q ∷ ps) i p h = absurd (omega (arith, h))
 
 -- ---- the ports without what is on them
 
-pub port-first : (b : PortState) (d : Option Plugged) (k : Ports) (i : ℕ) → i ≡ 0 → slice_get (row_of (before (standing b d) k)) i ≡ Some b
+pub port-first : (b : PortState) (d : Option Plugged) (k : Ports) (i : ℕ) → i ≡ 0
+    → slice_get (row_of (before (standing b d) k)) i ≡ Some b
 port-first b d k i h = rw (row_of-before b d k, h) refl
 
-pub port-later : (b : PortState) (d : Option Plugged) (k : Ports) (i : ℕ) → (i ≡ 0 → ⊥) → slice_get (row_of (before (standing b d) k)) i ≡ slice_get (row_of k) (i - 1)
-port-later b d k i h = rw (row_of-before b d k) (ap (λ n. slice_get (b ∷ row_of k) n) (one_less i h))
+pub port-later : (b : PortState) (d : Option Plugged) (k : Ports) (i : ℕ) → (i ≡ 0 → ⊥)
+    → slice_get (row_of (before (standing b d) k)) i ≡ slice_get (row_of k) (i - 1)
+port-later b d k i h = rw (row_of-before b d k)
+    (ap (λ n. slice_get (b ∷ row_of k) n) (one_less i h))
 
-pub port-none : (ps : List Kept) (i : ℕ) → length ps ≡ 0 → slice_get (row_of (ports_kept ps)) i ≡ None
+pub port-none : (ps : List Kept) (i : ℕ) → length ps ≡ 0 → slice_get (row_of (ports_kept ps)) i
+    ≡ None
 unfolding row_of
 port-none [] i h = refl
 port-none (q ∷ ps) i h = absurd (omega (arith, h))
@@ -129,11 +148,13 @@ port-none (q ∷ ps) i h = absurd (omega (arith, h))
 pub length-row : (ps : List Kept) → length (row_of (ports_kept ps)) ≡ length ps
 unfolding row_of
 length-row [] = refl
-length-row (p ∷ ps) = ap length (row_of-before p.port p.device (ports_kept ps)) ∙ ap suc (length-row ps)
+length-row (p ∷ ps) = ap length (row_of-before p.port p.device (ports_kept ps))
+    ∙ ap suc (length-row ps)
 
 -- ---- no power
 
-pub all_off-before : (b : PortState) (d : Option Plugged) (k : Ports) → all_off (before (standing b d) k) ≡ before (standing (powered_off b) d) (all_off k)
+pub all_off-before : (b : PortState) (d : Option Plugged) (k : Ports)
+    → all_off (before (standing b d) k) ≡ before (standing (powered_off b) d) (all_off k)
 unfolding all_off
 all_off-before b None k = refl
 all_off-before b (Some t) k = refl
@@ -143,17 +164,33 @@ unfolding all_off
 all_off-none [] h = refl
 all_off-none (q ∷ ps) h = absurd (omega (arith, h))
 
-pub ruleset placing = (changed_at-first, changed_at-later, changed_at-none, plugged_at-first, plugged_at-later, plugged_at-none, port-first, port-later, port-none, length-row, all_off-before, all_off-none)
+pub ruleset placing = (
+  changed_at-first,
+  changed_at-later,
+  changed_at-none,
+  plugged_at-first,
+  plugged_at-later,
+  plugged_at-none,
+  port-first,
+  port-later,
+  port-none,
+  length-row,
+  all_off-before,
+  all_off-none,
+)
 
 -- ---- paths
 
-pub changed-path : (f : Place → Place) (k : Ports) (n : ℕ) (p : List ℕ) → (n ≡ 0 → ⊥) → changed f k (n ∷ p) ≡ changed_at f k (n - 1) p
+pub changed-path : (f : Place → Place) (k : Ports) (n : ℕ) (p : List ℕ) → (n ≡ 0 → ⊥)
+    → changed f k (n ∷ p) ≡ changed_at f k (n - 1) p
 changed-path f k n p h = ap (λ m. changed f k (m ∷ p)) (one_less n h)
 
-pub changed-none : (f : Place → Place) (k : Ports) (n : ℕ) (p : List ℕ) → n ≡ 0 → changed f k (n ∷ p) ≡ k
+pub changed-none : (f : Place → Place) (k : Ports) (n : ℕ) (p : List ℕ) → n ≡ 0
+    → changed f k (n ∷ p) ≡ k
 changed-none f k n p h = rw h refl
 
-pub device-path : (k : Ports) (n : ℕ) (p : List ℕ) → (n ≡ 0 → ⊥) → device_there k (n ∷ p) ≡ plugged_at k (n - 1) p
+pub device-path : (k : Ports) (n : ℕ) (p : List ℕ) → (n ≡ 0 → ⊥)
+    → device_there k (n ∷ p) ≡ plugged_at k (n - 1) p
 device-path k n p h = ap (λ m. device_there k (m ∷ p)) (one_less n h)
 
 pub device-none : (k : Ports) (n : ℕ) (p : List ℕ) → n ≡ 0 → device_there k (n ∷ p) ≡ None
@@ -175,16 +212,19 @@ most_more-before (full b s a) k = refl
 abbrev empty_place : Kept
 empty_place = record { port = off; device = None }
 
-ports_kept-pushed : (ps : List Kept) → ports_kept (ps ++ empty_place ∷ []) ≡ one_port_more (ports_kept ps)
+ports_kept-pushed : (ps : List Kept) → ports_kept (ps ++ empty_place ∷ [])
+    ≡ one_port_more (ports_kept ps)
 ports_kept-pushed [] = refl
-ports_kept-pushed (p ∷ ps) = ap (before (stood p)) (ports_kept-pushed ps) ∙ sym (most_more-before (stood p) (ports_kept ps))
+ports_kept-pushed (p ∷ ps) = ap (before (stood p)) (ports_kept-pushed ps)
+    ∙ sym (most_more-before (stood p) (ports_kept ps))
 
 most_more-new : (n : ℕ) → one_port_more (new_ports n) ≡ new_ports (suc n)
 unfolding new_ports
 most_more-new zero = refl
 most_more-new (suc n) = ap (vacant off) (most_more-new n)
 
-pub empty_pushed : (ps : List Kept) (n : ℕ) → ports_kept ps ≡ new_ports n → ports_kept (ps ++ empty_place ∷ []) ≡ new_ports (n + 1)
+pub empty_pushed : (ps : List Kept) (n : ℕ) → ports_kept ps ≡ new_ports n
+    → ports_kept (ps ++ empty_place ∷ []) ≡ new_ports (n + 1)
 empty_pushed ps n h = rw add-one (ports_kept-pushed ps ∙ ap one_port_more h ∙ most_more-new n)
 
 pub new_ports-none : new_ports 0 ≡ ended

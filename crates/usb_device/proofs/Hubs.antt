@@ -12,11 +12,13 @@ at_least_one n h = grind (arith, nat_tests, h)
 at_most_seven : (n : ℕ) → n ≤ 7 → nat_le n 7 ≡ true
 at_most_seven n h = grind (arith, nat_tests, h)
 
-usual_bytes : (n : ℕ) → 1 ≤ n → n ≤ 7 → hub_spelled (usual_hub n).descriptor ≡ Ok (usual_hub n).descriptor
+usual_bytes : (n : ℕ) → 1 ≤ n → n ≤ 7 → hub_spelled (usual_hub n).descriptor
+    ≡ Ok (usual_hub n).descriptor
 unfolding hub_spelled
 usual_bytes n least most = rw (at_least_one n least, at_most_seven n most) refl
 
-pub agrees-usual : (n : ℕ) → 1 ≤ n → n ≤ 7 → agrees n (9 ∷ HUB ∷ n ∷ 1 ∷ 0 ∷ 0 ∷ 0 ∷ 0 ∷ 255 ∷ []) ≡ true
+pub agrees-usual : (n : ℕ) → 1 ≤ n → n ≤ 7 → agrees n (9 ∷ HUB ∷ n ∷ 1 ∷ 0 ∷ 0 ∷ 0 ∷ 0 ∷ 255 ∷ [])
+    ≡ true
 agrees-usual n least most = rw (agrees, usual_bytes n least most) (same_number n)
 
 pub ruleset usual = agrees-usual

@@ -1,5 +1,7 @@
 -- Marks tell which addresses stand twice.
-use Rattle.std.proofs.Common.{◌≡◌, ◌<◌, ℕ, zero, suc, ◌==◌, ◌||◌, if◌then◌else◌, Bool, true, false, List, [], ◌∷◌, ◌++◌, Option, None, Some, length, slice_set, slice_index_or, refl, ap, ap₂, sym, ◌∙◌, arith}
+use Rattle.std.proofs.Common.{◌≡◌, ◌<◌, ℕ, zero, suc, ◌==◌, ◌||◌, if◌then◌else◌, Bool, true, false}
+use Rattle.std.proofs.Common.{List, [], ◌∷◌, ◌++◌, Option, None, Some, length, slice_set}
+use Rattle.std.proofs.Common.{slice_index_or, refl, ap, ap₂, sym, ◌∙◌, arith}
 use Rattle.std.proofs.lemmas.Bool.Decides.{nat_tests}
 use Rattle.usb_port.specs.PortState.{PortState}
 use Rattle.usb_device.specs.declared.ports.Place.{Place as Kept}
@@ -21,7 +23,8 @@ length-set (x ∷ m) (suc i) b = ap suc (length-set m i b)
 
 -- ---- the addresses of a row of ports that begins with a place
 
-address_if_enabled : (x : ℕ) (a k : List ℕ) (e : Bool) → (if e then x ∷ (a ++ k) else k) ≡ (if e then x ∷ a else []) ++ k
+address_if_enabled : (x : ℕ) (a k : List ℕ) (e : Bool) → (if e then x ∷ (a ++ k) else k)
+    ≡ (if e then x ∷ a else []) ++ k
 address_if_enabled x a k true = refl
 address_if_enabled x a k false = refl
 
@@ -29,13 +32,15 @@ pub held-before : (b : PortState) (d : Option Plugged) (k : Ports)
     → held_addresses (before (standing b d) k) ≡ held_in b d ++ held_addresses k
 unfolding held_addresses
 held-before b None k = refl
-held-before b (Some t) k = address_if_enabled t.own.registers.address (held_addresses t.ports) (held_addresses k) b.enable
+held-before b (Some t) k = address_if_enabled t.own.registers.address (held_addresses t.ports)
+    (held_addresses k) b.enable
 
 all_append : (xs ys : List ℕ) → AreBytes xs → AreBytes ys → AreBytes (xs ++ ys)
 all_append [] ys h g = g
 all_append (x ∷ xs) ys h g = (h.0, all_append xs ys h.1 g)
 
-pub bytes-before : (b : PortState) (d : Option Plugged) (k : Ports) → AreBytes (held_in b d) → AreBytes (held_addresses k) → AreBytes (held_addresses (before (standing b d) k))
+pub bytes-before : (b : PortState) (d : Option Plugged) (k : Ports) → AreBytes (held_in b d)
+    → AreBytes (held_addresses k) → AreBytes (held_addresses (before (standing b d) k))
 bytes-before b d k h g = rw (held-before b d k) (all_append (held_in b d) (held_addresses k) h g)
 
 pub bytes-none : (ps : List Kept) → length ps ≡ 0 → AreBytes (held_addresses (ports_kept ps))
@@ -95,7 +100,8 @@ shuffle false false false d = refl
 share-more : (xs ys : List ℕ) (x : ℕ) → share xs (x ∷ ys) ≡ (has x xs || share xs ys)
 share-more [] ys x = refl
 share-more (z ∷ zs) ys x =
-    ap (λ b. ((z == x) || has z ys) || b) (share-more zs ys x) ∙ shuffle (z == x) (has z ys) (has x zs) (share zs ys)
+    ap (λ b. ((z == x) || has z ys) || b) (share-more zs ys x)
+    ∙ shuffle (z == x) (has z ys) (has x zs) (share zs ys)
     ∙ ap (λ b. (b || has x zs) || (has z ys || share zs ys)) (nat_eq-sym z x)
 
 rest_of_it : (h s t u : Bool) → (h || ((t || s) || u)) ≡ ((h || s) || (t || u))
@@ -105,12 +111,16 @@ rest_of_it false true false u = refl
 rest_of_it false false true u = refl
 rest_of_it false false false u = refl
 
-index-set : (m : List Bool) (i n : ℕ) → i < length m → slice_index_or (slice_set m i true) n false ≡ ((n == i) || slice_index_or m n false)
+index-set : (m : List Bool) (i n : ℕ) → i < length m → slice_index_or (slice_set m i true) n false
+    ≡ ((n == i) || slice_index_or m n false)
 index-set [] i n h = absurd (omega (arith, h))
 index-set (b ∷ m) zero zero h = refl
-index-set (b ∷ m) zero (suc n) h = let e : (suc n == 0) ≡ false = grind (arith, nat_tests) in rw e refl
-index-set (b ∷ m) (suc i) zero h = let e : (0 == suc i) ≡ false = grind (arith, nat_tests) in rw e refl
-index-set (b ∷ m) (suc i) (suc n) h = let e : (suc n == suc i) ≡ (n == i) = grind (arith, nat_tests) in rw e (index-set m i n (omega (arith, h)))
+index-set (b ∷ m) zero (suc n) h = let e : (suc n == 0) ≡ false = grind (arith, nat_tests) in
+    rw e refl
+index-set (b ∷ m) (suc i) zero h = let e : (0 == suc i) ≡ false = grind (arith, nat_tests) in
+    rw e refl
+index-set (b ∷ m) (suc i) (suc n) h = let e : (suc n == suc i) ≡ (n == i) =
+    grind (arith, nat_tests) in rw e (index-set m i n (omega (arith, h)))
 
 -- the marks are those of the numbers met before, as far as these are bytes
 abbrev pub Marks : List Bool → List ℕ → Type 0
@@ -134,7 +144,8 @@ share-none [] = refl
 share-none (x ∷ xs) = share-none xs
 
 -- where no mark is set
-pub met_none_of : (xs : List ℕ) (m : List Bool) → length m ≡ 256 → AreBytes xs → ((n : ℕ) → slice_index_or m n false ≡ false) → meets xs m ≡ repeats xs
+pub met_none_of : (xs : List ℕ) (m : List Bool) → length m ≡ 256 → AreBytes xs
+    → ((n : ℕ) → slice_index_or m n false ≡ false) → meets xs m ≡ repeats xs
 met_none_of xs m len small none =
     meets-is xs [] m len small (λ n below. none n) ∙ ap (λ b. b || repeats xs) (share-none xs)
 

@@ -1,13 +1,24 @@
 -- An index without what stands at one path, and with it again.
-use Rattle.std.proofs.Common.{◌≡◌, ◌+◌, ◌<◌, ℕ, zero, suc, ◌==◌, ◌&&◌, ◌||◌, if◌then◌else◌, Bool, true, false, List, [], ◌∷◌, ◌++◌, Option, None, Some, length, slice_index_or, slice_set, append_assoc, refl, ap, sym, subst, ◌∙◌, arith}
+use Rattle.std.proofs.Common.{◌≡◌, ◌+◌, ◌<◌, ℕ, zero, suc, ◌==◌, ◌&&◌, ◌||◌, if◌then◌else◌, Bool}
+use Rattle.std.proofs.Common.{true, false, List, [], ◌∷◌, ◌++◌, Option, None, Some, length}
+use Rattle.std.proofs.Common.{slice_index_or, slice_set, append_assoc, refl, ap, sym, subst, ◌∙◌}
+use Rattle.std.proofs.Common.{arith}
 use Rattle.arrayvec.specs.ArrayVec.{ArrayVec}
 use Rattle.usb_device.specs.declared.holders.Holder.{Holder}
 use Rattle.usb_device.specs.declared.holders.Holder.TheVariants.{Nobody, One, Several}
-use Rattle.usb_device.specs.Tree.{Ports, ended, vacant, taken, Plugged, put, changed, changed_at, plugged_at, reach_at}
+use Rattle.usb_device.specs.Tree.{Ports, ended, vacant, taken, Plugged, put, changed, changed_at}
+use Rattle.usb_device.specs.Tree.{plugged_at, reach_at}
 use Rattle.usb_device.specs.Delivery.{held_addresses, has, repeats}
-use Rattle.usb_device.specs.Holders.{AreBytes, path_below, path_further, reached, reached_from, reached_there, reached_at_path, all_reached, paths_at, holder_among, IsIndex, is_known, joined_holder, noted, meets_again, held_from, released}
-use Rattle.usb_device.proofs.MarkedAddresses.{share, Marks, meets-is, twice-middle, or-false, unshared, nat_eq-sym}
-use Rattle.usb_device.proofs.HolderIndexes.{length-put, length-noted, length-released, slice_set-at, all_joined, all_among, noted_at, way_addresses, addresses-append, held-reached, marks_of, known_at, length-marks, met_marks}
+use Rattle.usb_device.specs.Holders.{AreBytes, path_below, path_further, reached, reached_from}
+use Rattle.usb_device.specs.Holders.{reached_there, reached_at_path, all_reached, paths_at}
+use Rattle.usb_device.specs.Holders.{holder_among, IsIndex, is_known, joined_holder, noted}
+use Rattle.usb_device.specs.Holders.{meets_again, held_from, released}
+use Rattle.usb_device.proofs.MarkedAddresses.{share, Marks, meets-is, twice-middle, or-false}
+use Rattle.usb_device.proofs.MarkedAddresses.{unshared, nat_eq-sym}
+use Rattle.usb_device.proofs.HolderIndexes.{length-put, length-noted, length-released, slice_set-at}
+use Rattle.usb_device.proofs.HolderIndexes.{all_joined, all_among, noted_at, way_addresses}
+use Rattle.usb_device.proofs.HolderIndexes.{addresses-append, held-reached, marks_of, known_at}
+use Rattle.usb_device.proofs.HolderIndexes.{length-marks, met_marks}
 
 abbrev PlacedWay : Type 0
 PlacedWay = Option (ArrayVec ℕ)
@@ -27,7 +38,8 @@ record Parted (whole there without : PlacedWays) : Type 0 where
 abbrev from : Bool → PlacedWay → Option Plugged → PlacedWays
 from r w o = reached_from w (if r then o else None)
 
-parted_as : (xs there other ys : PlacedWays) → there ≡ other → Parted xs there ys → Parted xs other ys
+parted_as : (xs there other ys : PlacedWays) → there ≡ other → Parted xs there ys
+    → Parted xs other ys
 parted_as xs there other ys e h = subst (λ t. Parted xs t ys) e h
 
 parted_none : (xs there : PlacedWays) → there ≡ [] → Parted xs there xs
@@ -45,7 +57,8 @@ parted_here : (e : Bool) (w : PlacedWay) (t : Plugged) (xs : PlacedWays)
 parted_here true w t xs = record { front = []; behind = xs; whole_is = refl; without_is = refl }
 parted_here false w t xs = record { front = []; behind = xs; whole_is = refl; without_is = refl }
 
-parted_below : (e r : Bool) (x : ℕ × PlacedWay) (v : PlacedWay) (o : Option Plugged) (below left xs : PlacedWays)
+parted_below : (e r : Bool) (x : ℕ × PlacedWay) (v : PlacedWay) (o : Option Plugged)
+    (below left xs : PlacedWays)
     → Parted below (from r v o) left
     → Parted (if e then x ∷ (below ++ xs) else xs) (from (e && r) v o)
     (if e then x ∷ (left ++ xs) else xs)
@@ -112,7 +125,8 @@ parted_at_path : (k : Ports) (p : List ℕ)
     → Parted (all_reached k) (reached_at_path k p) (all_reached (changed (put None) k p))
 parted_at_path k [] = parted_none (all_reached k) [] refl
 parted_at_path k (zero ∷ p) = parted_none (all_reached k) [] refl
-parted_at_path k (suc i ∷ p) = parted_at (Some (record { items = [] })) 1 k i p (suc i) (omega arith)
+parted_at_path k (suc i ∷ p) = parted_at (Some (record { items = [] })) 1 k i p (suc i)
+    (omega arith)
 
 -- ---- who holds an address, along a list with another one in its middle
 
@@ -213,7 +227,8 @@ released_at (m ∷ ns) h n small =
 
 -- without those in the middle, where no address stands twice
 released_middle : (h : List Holder) (xs ys zs : PlacedWays) → length h ≡ 256
-    → share (way_addresses ys) (way_addresses xs ++ way_addresses zs) ≡ false → IndexesList h (xs ++ (ys ++ zs))
+    → share (way_addresses ys) (way_addresses xs ++ way_addresses zs) ≡ false
+    → IndexesList h (xs ++ (ys ++ zs))
     → IndexesList (released (way_addresses ys) h) (xs ++ zs)
 released_middle h xs ys zs all apart is n small =
     released_at (way_addresses ys) h n (subst (λ m. n < m) (sym all) small)
@@ -251,7 +266,8 @@ has-paths n (x ∷ xs) =
     split (x.0 == n) (has-paths n xs) ∙ ap (λ b. b || has n (way_addresses xs)) (nat_eq-sym x.0 n)
   where
     split : (b : Bool) → has_ways (paths_at n xs) ≡ has n (way_addresses xs)
-        → has_ways (if b then x.1 ∷ paths_at n xs else paths_at n xs) ≡ (b || has n (way_addresses xs))
+        → has_ways (if b then x.1 ∷ paths_at n xs else paths_at n xs)
+        ≡ (b || has n (way_addresses xs))
     split true e = refl
     split false e = e
 
@@ -268,14 +284,16 @@ last_first false true c = refl
 last_first false false true = refl
 last_first false false false = refl
 
-met_middle : (h : List Holder) (xs ys zs : PlacedWays) → length h ≡ 256 → AreBytes (way_addresses ys)
+met_middle : (h : List Holder) (xs ys zs : PlacedWays) → length h ≡ 256
+    → AreBytes (way_addresses ys)
     → IndexesList h (xs ++ zs)
     → (repeats (way_addresses (xs ++ zs)) || meets_again ys h)
     ≡ repeats (way_addresses (xs ++ (ys ++ zs)))
 met_middle h xs ys zs all bytes is =
     ap (λ b. repeats (way_addresses (xs ++ zs)) || b)
     (met_marks ys h
-    ∙ meets-is (way_addresses ys) (way_addresses (xs ++ zs)) (marks_of h) (length-marks h ∙ all) bytes
+    ∙ meets-is (way_addresses ys) (way_addresses (xs ++ zs)) (marks_of h) (length-marks h ∙ all)
+    bytes
     (marks_index h (xs ++ zs) is)
     ∙ ap (λ l. share (way_addresses ys) l || repeats (way_addresses ys)) (addresses-append xs zs))
     ∙ ap (λ l. repeats l
@@ -288,7 +306,8 @@ met_middle h xs ys zs all bytes is =
 
 -- ---- the index of a tree
 
-addresses_from : (w : PlacedWay) (o : Option Plugged) → way_addresses (reached_from w o) ≡ held_from o
+addresses_from : (w : PlacedWay) (o : Option Plugged) → way_addresses (reached_from w o)
+    ≡ held_from o
 addresses_from w None = refl
 addresses_from w (Some t) = ap (λ l. t.own.registers.address ∷ l) (held-reached w 1 t.ports)
 
@@ -316,7 +335,8 @@ twice-parted : (k : Ports) (p : List ℕ)
 twice-parted k p x =
     ap repeats (held_all k ∙ ap way_addresses x.whole_is
     ∙ addresses-middle x.front (reached_at_path k p) x.behind)
-    ∙ twice-middle (way_addresses x.front) (way_addresses (reached_at_path k p)) (way_addresses x.behind)
+    ∙ twice-middle (way_addresses x.front) (way_addresses (reached_at_path k p))
+    (way_addresses x.behind)
 
 module _ (k : Ports) (p : List ℕ) (single : repeats (held_addresses k) ≡ false) where
   abbrev part : Parted (all_reached k) (reached_at_path k p) (all_reached (changed (put None) k p))
@@ -325,8 +345,10 @@ module _ (k : Ports) (p : List ℕ) (single : repeats (held_addresses k) ≡ fal
   abbrev there : PlacedWays
   there = reached_at_path k p
 
-  apart : (share (way_addresses there) (way_addresses part.front ++ way_addresses part.behind) ≡ false) ×
-      ((repeats (way_addresses there) || repeats (way_addresses part.front ++ way_addresses part.behind))
+  apart : (share (way_addresses there) (way_addresses part.front ++ way_addresses part.behind)
+      ≡ false) ×
+      ((repeats (way_addresses there) || repeats
+      (way_addresses part.front ++ way_addresses part.behind))
       ≡ false)
   apart = or-false _ _ (sym (twice-parted k p part) ∙ single)
 
@@ -364,7 +386,8 @@ module _ (k : Ports) (p : List ℕ) (h : List Holder) (all : length h ≡ 256)
       (noted_middle h with_part.front noted_there with_part.behind all others))
 
   pub noted_shared : AreBytes (held_from (reached_there k p))
-      → (repeats (held_addresses (changed (put None) k p)) || meets_again noted_there h) ≡ repeats (held_addresses k)
+      → (repeats (held_addresses (changed (put None) k p)) || meets_again noted_there h)
+      ≡ repeats (held_addresses k)
   noted_shared bytes =
       ap (λ l. repeats l || meets_again noted_there h)
       (held_all (changed (put None) k p) ∙ ap way_addresses with_part.without_is)
@@ -372,4 +395,11 @@ module _ (k : Ports) (p : List ℕ) (h : List Holder) (all : length h ≡ 256)
       (subst AreBytes (sym (addresses_path k p)) bytes) others
       ∙ ap repeats (ap way_addresses (sym with_part.whole_is) ∙ sym (held_all k))
 
-pub ruleset parting = (length-released, length-noted, single_without, released_index, noted_index, noted_shared)
+pub ruleset parting = (
+  length-released,
+  length-noted,
+  single_without,
+  released_index,
+  noted_index,
+  noted_shared,
+)

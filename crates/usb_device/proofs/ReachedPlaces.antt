@@ -1,30 +1,42 @@
 -- What changes at one place, and keeps which devices are reached.
-use Rattle.std.proofs.Common.{◌≡◌, ℕ, zero, suc, ◌+◌, ◌-◌, ◌==◌, ◌&&◌, not, ◌⊎◌, inl, inr, arith, ◌||◌, if◌then◌else◌, Bool, true, false, List, [], ◌∷◌, ◌++◌, Option, None, Some, append-nil, refl, ap, sym, ◌∙◌}
+use Rattle.std.proofs.Common.{◌≡◌, ℕ, zero, suc, ◌+◌, ◌-◌, ◌==◌, ◌&&◌, not, ◌⊎◌, inl, inr, arith}
+use Rattle.std.proofs.Common.{◌||◌, if◌then◌else◌, Bool, true, false, List, [], ◌∷◌, ◌++◌, Option}
+use Rattle.std.proofs.Common.{None, Some, append-nil, refl, ap, sym, ◌∙◌}
 use Rattle.std.proofs.lemmas.Bool.Decides.{nat_tests}
 use Rattle.arrayvec.specs.ArrayVec.{ArrayVec}
 use Rattle.usb_port.specs.PortState.{PortState, is_attached, powered_on, unplugged}
 use Rattle.usb_port.specs.declared.call.PortCall.{PortCall}
-use Rattle.usb_port.specs.declared.call.PortCall.TheVariants.{SetPower, SetReset, ClearEnable, ClearPower, ClearConnectionChange, ClearEnableChange, ClearResetChange}
-use Rattle.usb_device.specs.Tree.{Ports, ended, vacant, taken, Plugged, Place, empty, full, port_of, before, acted, called, put, changed, changed_at, place_at}
+use Rattle.usb_port.specs.declared.call.PortCall.TheVariants.{SetPower, SetReset, ClearEnable}
+use Rattle.usb_port.specs.declared.call.PortCall.TheVariants.{ClearPower, ClearConnectionChange}
+use Rattle.usb_port.specs.declared.call.PortCall.TheVariants.{ClearEnableChange, ClearResetChange}
+use Rattle.usb_device.specs.Tree.{Ports, ended, vacant, taken, Plugged, Place, empty, full, port_of}
+use Rattle.usb_device.specs.Tree.{before, acted, called, put, changed, changed_at, place_at}
 use Rattle.usb_device.specs.declared.effect.Effect.{Effect}
 use Rattle.usb_device.specs.declared.effect.Effect.TheVariants.{Leaves, Calls, PortsOff}
 use Rattle.usb_device.specs.declared.holders.Holders.{Holders}
 use Rattle.usb_device.specs.HolderIndex.{IsIndexOf, IsIndexWithout}
-use Rattle.usb_device.specs.Holders.{path_below, reached, all_reached, ReachedSame, keeps_enable, keeps_others}
-use Rattle.usb_device.proofs.FirstPlaces.{changed_at-head, changed_at-tail, changed_at-same, changed_at-twice}
+use Rattle.usb_device.specs.Holders.{path_below, reached, all_reached, ReachedSame, keeps_enable}
+use Rattle.usb_device.specs.Holders.{keeps_others}
+use Rattle.usb_device.proofs.FirstPlaces.{changed_at-head, changed_at-tail, changed_at-same}
+use Rattle.usb_device.proofs.FirstPlaces.{changed_at-twice}
 use Rattle.usb_device.proofs.HolderIndexes.{same_index}
 
-place_if_enabled : (x : ℕ × Option (ArrayVec ℕ)) (a k : List (ℕ × Option (ArrayVec ℕ))) (e : Bool) → (if e then x ∷ (a ++ k) else k) ≡ (if e then x ∷ (a ++ []) else []) ++ k
+place_if_enabled : (x : ℕ × Option (ArrayVec ℕ)) (a k : List (ℕ × Option (ArrayVec ℕ))) (e : Bool)
+    → (if e then x ∷ (a ++ k) else k) ≡ (if e then x ∷ (a ++ []) else []) ++ k
 place_if_enabled x a k true = ap (λ l. x ∷ (l ++ k)) (sym (append-nil a))
 place_if_enabled x a k false = refl
 
-reached-head : (w : Option (ArrayVec ℕ)) (n : ℕ) (q : Place) (k : Ports) → reached w n (before q k) ≡ reached w n (before q ended) ++ reached w (n + 1) k
+reached-head : (w : Option (ArrayVec ℕ)) (n : ℕ) (q : Place) (k : Ports)
+    → reached w n (before q k) ≡ reached w n (before q ended) ++ reached w (n + 1) k
 unfolding reached
 reached-head w n (empty b) k = refl
-reached-head w n (full b s a) k = place_if_enabled (s.registers.address, path_below w n) (reached (path_below w n) 1 a) (reached w (n + 1) k) b.enable
+reached-head w n (full b s a) k = place_if_enabled (s.registers.address, path_below w n)
+    (reached (path_below w n) 1 a) (reached w (n + 1) k) b.enable
 
-reached-same_head : (w : Option (ArrayVec ℕ)) (n : ℕ) (q r : Place) (k : Ports) → ReachedSame q r → reached w n (before q k) ≡ reached w n (before r k)
-reached-same_head w n q r k h = reached-head w n q k ∙ ap (λ l. l ++ reached w (n + 1) k) (h w n) ∙ sym (reached-head w n r k)
+reached-same_head : (w : Option (ArrayVec ℕ)) (n : ℕ) (q r : Place) (k : Ports) → ReachedSame q r
+    → reached w n (before q k) ≡ reached w n (before r k)
+reached-same_head w n q r k h = reached-head w n q k ∙ ap (λ l. l ++ reached w (n + 1) k) (h w n)
+    ∙ sym (reached-head w n r k)
 
 -- two changes of one place
 pub reached-both : (f g : Place → Place) (w : Option (ArrayVec ℕ)) (n : ℕ) (k : Ports) (j : ℕ)
@@ -60,14 +72,20 @@ reached-changed f w n k j p h =
 pub power_enable : (b : PortState) → (powered_on b).enable ≡ b.enable
 power_enable b = split b.power
   where
-    split : (x : Bool) → (if x then b else record b { power = true; connection_changed = is_attached b.attached || b.connection_changed }).enable ≡ b.enable
+    split : (x : Bool) → (if x then b else record b {
+      power = true;
+      connection_changed =
+          is_attached b.attached || b.connection_changed;
+    }).enable ≡ b.enable
     split true = refl
     split false = refl
 
 called-same : (c : PortCall) (q : Place) → keeps_enable c ≡ true → ReachedSame (called c q) q
 unfolding reached
 called-same c (empty b) h w n = refl
-called-same SetPower (full b s a) h w n = ap (λ e. if e then (s.registers.address, path_below w n) ∷ (reached (path_below w n) 1 a ++ []) else []) (power_enable b)
+called-same SetPower (full b s a) h w n =
+    ap (λ e. if e then (s.registers.address, path_below w n) ∷ (reached (path_below w n) 1 a ++ [])
+    else []) (power_enable b)
 called-same SetReset (full b s a) h w n = cc
 called-same ClearEnable (full b s a) h w n = cc
 called-same ClearPower (full b s a) h w n = cc
@@ -158,14 +176,17 @@ reached-acted (Calls c i) (suc m) a h w n =
     split false e h = inl (one_port m i h)
 reached-acted PortsOff port a h w n = cc
 
-pub reached-called : (c : PortCall) (k : Ports) (port : ℕ) → keeps_enable c ≡ true → all_reached (changed (called c) k (port ∷ [])) ≡ all_reached k
+pub reached-called : (c : PortCall) (k : Ports) (port : ℕ) → keeps_enable c ≡ true
+    → all_reached (changed (called c) k (port ∷ [])) ≡ all_reached k
 reached-called c k zero h = refl
 reached-called c k (suc i) h = reached-changed (called c) _ 1 k i [] (λ q at. called-same c q h)
 
 -- ---- the index then
 
-pub index_called : (h : Holders) (c : PortCall) (k m : Ports) (port : ℕ) → keeps_enable c ≡ true → m ≡ changed (called c) k (port ∷ []) → IsIndexOf h k → IsIndexOf h m
-index_called h c k m port e is x = same_index h k m (ap all_reached is ∙ reached-called c k port e) x
+pub index_called : (h : Holders) (c : PortCall) (k m : Ports) (port : ℕ) → keeps_enable c ≡ true
+    → m ≡ changed (called c) k (port ∷ []) → IsIndexOf h k → IsIndexOf h m
+index_called h c k m port e is x = same_index h k m (ap all_reached is ∙ reached-called c k port e)
+    x
 
 -- ---- the index without what stands at a path
 

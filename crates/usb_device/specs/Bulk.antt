@@ -1,5 +1,8 @@
--- The endpoints of a device besides endpoint 0: which ones there are, their toggles and their halts (5.8, 8.6, 11.12).
-use Rattle.std.specs.Prelude.{ℕ, ◌+◌, ◌-◌, ◌==◌, nat_lt, nat_le, min, if◌then◌else◌, ◌||◌, ◌&&◌, Bool, true, false, List, [], ◌∷◌, length, take, slice_get, not, Option, None, Some, is_some}
+-- The endpoints of a device besides endpoint 0: which ones there are, their toggles and their halts
+-- (5.8, 8.6, 11.12).
+use Rattle.std.specs.Prelude.{ℕ, ◌+◌, ◌-◌, ◌==◌, nat_lt, nat_le, min, if◌then◌else◌, ◌||◌, ◌&&◌}
+use Rattle.std.specs.Prelude.{Bool, true, false, List, [], ◌∷◌, length, take, slice_get, not}
+use Rattle.std.specs.Prelude.{Option, None, Some, is_some}
 use Rattle.usb_packet.specs.Toggles.{other}
 use Rattle.usb_request.specs.Codes.{DIRECTION_IN, STATUS_ENDPOINT}
 use Rattle.usb_packet.specs.declared.Toggle.TheVariants.{Zero}
@@ -50,11 +53,13 @@ abbrev pub bulk_in : Bool → List ℕ → Option (ℕ × ℕ)
 bulk_in true text = bulk_in_of text
 bulk_in false text = bulk_out_of text
 
--- number and maximum of the bulk endpoint of a direction; a device of low speed or without a configuration has none
+-- number and maximum of the bulk endpoint of a direction; a device of low speed or without a
+-- configuration has none
 abbrev pub bulk_at : Spec → Registers → Bool → Option (ℕ × ℕ)
 bulk_at s g is_in =
     if s.low || g.configuration == 0 then None
-    else (let text = text_with g.configuration s.configs in bulk_in is_in (take (min (total_of text) (length text)) text))
+    else (let text = text_with g.configuration s.configs in
+    bulk_in is_in (take (min (total_of text) (length text)) text))
 
 abbrev pub is_end : ℕ → ℕ → Option (ℕ × ℕ) → Bool
 is_end index offset None = false
@@ -78,9 +83,14 @@ advanced place max len = place + min max (len - place)
 
 -- the weight of a port, where it has a change bit set
 abbrev pub changed_bit : List PortState → ℕ → ℕ → ℕ
-changed_bit row i weight = elim (slice_get row i) [ None ↦ 0 | Some p ↦ if has_change p then weight else 0 ]
+changed_bit row i weight = elim (slice_get row i) [
+  | None ↦ 0
+  | Some p ↦
+      if has_change p then weight else 0
+]
 
 -- bit N is set where port N, counted from 1, has a change bit set (11.12.4)
 unfoldable pub change_bits : List PortState → ℕ
 change_bits row =
-    changed_bit row 0 2 + changed_bit row 1 4 + changed_bit row 2 8 + changed_bit row 3 16 + changed_bit row 4 32 + changed_bit row 5 64 + changed_bit row 6 128
+    changed_bit row 0 2 + changed_bit row 1 4 + changed_bit row 2 8 + changed_bit row 3 16 +
+    changed_bit row 4 32 + changed_bit row 5 64 + changed_bit row 6 128

@@ -1,14 +1,19 @@
 -- What the code keeps of an answer, and what it stands for.
 use Rattle.std.specs.Prelude.{ℕ, List, [], ◌∷◌, slice_get, unwrap_or, Option, None, Some}
 use Rattle.usb_device.specs.Spec.{Spec, Hub as HubText}
-use Rattle.usb_device.specs.Request.{Outcome, stalled, answers, takes_address, takes_configuration, halts, unhalts, tells_port, calls_port, status_bytes}
+use Rattle.usb_device.specs.Request.{Outcome, stalled, answers, takes_address, takes_configuration}
+use Rattle.usb_device.specs.Request.{halts, unhalts, tells_port, calls_port, status_bytes}
 use Rattle.usb_device.specs.Transfer.{Stage, idle, refused, reading, read, ending}
 use Rattle.usb_device.specs.declared.request.Source.{Source}
-use Rattle.usb_device.specs.declared.request.Source.TheVariants.{Descriptor, Config, Text, Hub, Status, Configuration, Port}
+use Rattle.usb_device.specs.declared.request.Source.TheVariants.{Descriptor, Config, Text, Hub}
+use Rattle.usb_device.specs.declared.request.Source.TheVariants.{Status, Configuration, Port}
 use Rattle.usb_device.specs.declared.request.Reaction.{Reaction}
-use Rattle.usb_device.specs.declared.request.Reaction.TheVariants.{Refuse, Answer, TakeAddress, TakeConfiguration, Halt, Unhalt, TellPort, CallPort}
+use Rattle.usb_device.specs.declared.request.Reaction.TheVariants.{Refuse, Answer, TakeAddress}
+use Rattle.usb_device.specs.declared.request.Reaction.TheVariants.{TakeConfiguration, Halt, Unhalt}
+use Rattle.usb_device.specs.declared.request.Reaction.TheVariants.{TellPort, CallPort}
 use Rattle.usb_device.specs.declared.transfer.Progress.{Progress}
-use Rattle.usb_device.specs.declared.transfer.Progress.TheVariants.{Idle, Refused, Reading, Read, Ending}
+use Rattle.usb_device.specs.declared.transfer.Progress.TheVariants.{Idle, Refused, Reading, Read}
+use Rattle.usb_device.specs.declared.transfer.Progress.TheVariants.{Ending}
 
 -- a text by its index
 abbrev pub text_at : List (List ℕ) → ℕ → List ℕ

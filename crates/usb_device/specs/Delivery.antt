@@ -1,5 +1,6 @@
 -- A packet goes down the tree, through the enabled ports (8.6.5, 11.8.4).
-use Rattle.std.specs.Prelude.{◌≡◌, ℕ, ◌&&◌, ◌||◌, ◌==◌, not, if◌then◌else◌, Bool, true, false, List, [], ◌∷◌, ◌++◌, Option, None, Some}
+use Rattle.std.specs.Prelude.{◌≡◌, ℕ, ◌&&◌, ◌||◌, ◌==◌, not, if◌then◌else◌, Bool, true, false, List}
+use Rattle.std.specs.Prelude.{[], ◌∷◌, ◌++◌, Option, None, Some}
 use Rattle.usb_packet.specs.Spelling.{Spells}
 use Rattle.usb_packet.specs.declared.Packet.{Packet}
 use Rattle.usb_port.specs.PortState.{PortState}
@@ -15,14 +16,16 @@ use Rattle.usb_device.specs.Rows.{State, Reply, received, unread, forgotten, awa
 use Rattle.usb_device.specs.Effect.{asks}
 use Rattle.usb_device.specs.declared.delivery.Heard.{Heard}
 use Rattle.usb_device.specs.declared.delivery.Heard.TheVariants.{NoAnswer, One, Collision}
-use Rattle.usb_device.specs.Tree.{Ports, ended, vacant, taken, Place, empty, full, Plugged, acted, row_of}
+use Rattle.usb_device.specs.Tree.{Ports, ended, vacant, taken, Place, empty, full, Plugged, acted}
+use Rattle.usb_device.specs.Tree.{row_of}
 
 -- what bytes carry
 pub record Carries (bytes : List ℕ) (content : Content) : Type 0 where
   pub whole : (p : Packet) → Spells bytes p → content ≡ Whole p
   pub broken : ((p : Packet) → Spells bytes p → ⊥) → content ≡ Broken
 
--- whether a device of a speed hears a packet, which is `deep` where it stands on a hub's port: at low speed only with PRE there
+-- whether a device of a speed hears a packet, which is `deep` where it stands on a hub's port: at
+-- low speed only with PRE there
 abbrev pub is_heard : Sent → Bool → Bool → Bool
 is_heard q deep low = if q.low then low && (not deep || q.pre) else not low
 
@@ -44,12 +47,14 @@ answer_of q deep s a = if hears q deep s then reply_to q.content s (row_of a) el
 unfoldable pub effect_of : Sent → Bool → State → Effect
 effect_of q deep s = if hears q deep s then asked_by q.content s else Leaves
 
--- the ports after a packet: those below a device first, by the enables as they stood, and then what the device asks of them
+-- the ports after a packet: those below a device first, by the enables as they stood, and then what
+-- the device asks of them
 unfoldable pub after_packet : Sent → Bool → Ports → Ports
 after_packet q deep ended = ended
 after_packet q deep (vacant b k) = vacant b (after_packet q deep k)
 after_packet q deep (taken b s a k) =
-    if b.enable then taken b (answer_of q deep s a).1 (acted (effect_of q deep s) (after_packet q true a)) (after_packet q deep k)
+    if b.enable then taken b (answer_of q deep s a).1
+    (acted (effect_of q deep s) (after_packet q true a)) (after_packet q deep k)
     else taken b s a (after_packet q deep k)
 
 -- a change of connection at a port is cleared (11.24.2.2)
@@ -63,7 +68,8 @@ unfoldable pub clears_change : Sent → Bool → Ports → Bool
 clears_change q deep ended = false
 clears_change q deep (vacant b k) = clears_change q deep k
 clears_change q deep (taken b s a k) =
-    (b.enable && (asks_clearing (effect_of q deep s) || clears_change q true a)) || clears_change q deep k
+    (b.enable && (asks_clearing (effect_of q deep s) || clears_change q true a)) ||
+    clears_change q deep k
 
 -- the same, of a device and all below it, and of the device on a port
 abbrev pub clears_whole : Sent → Bool → Plugged → Bool
@@ -82,7 +88,8 @@ unfoldable pub answers : Sent → Bool → Ports → List Answer
 answers q deep ended = []
 answers q deep (vacant b k) = answers q deep k
 answers q deep (taken b s a k) =
-    if b.enable then listed (answer_of q deep s a).0 (answers q true a ++ answers q deep k) else answers q deep k
+    if b.enable then listed (answer_of q deep s a).0 (answers q true a ++ answers q deep k)
+    else answers q deep k
 
 abbrev pub heard_from : Option Answer → Heard
 heard_from None = NoAnswer
@@ -116,17 +123,35 @@ delivered q deep k = (heard_of (answers q deep k), after_packet q deep k)
 
 -- a packet at a device itself
 abbrev pub taken_content : Content → Plugged → Option Answer × Plugged
-taken_content c t = ((reply_to c t.own (row_of t.ports)).0, record { own = (reply_to c t.own (row_of t.ports)).1; ports = acted (asked_by c t.own) t.ports })
+taken_content c t = (
+  (reply_to c t.own (row_of t.ports)).0,
+  record {
+    own = (reply_to c t.own (row_of t.ports)).1;
+    ports =
+        acted (asked_by c t.own) t.ports;
+  },
+)
 
 -- the same, where the device hears it
 abbrev pub taken_sent : Sent → Bool → Plugged → Option Answer × Plugged
-taken_sent q deep t = ((answer_of q deep t.own t.ports).0, record { own = (answer_of q deep t.own t.ports).1; ports = acted (effect_of q deep t.own) t.ports })
+taken_sent q deep t = (
+  (answer_of q deep t.own t.ports).0,
+  record {
+    own = (answer_of q deep t.own t.ports).1;
+    ports =
+        acted (effect_of q deep t.own) t.ports;
+  },
+)
 
 -- the same, and the devices below
 abbrev pub delivered_device : Sent → Bool → Plugged → Heard × Plugged
 delivered_device q deep t = (
   both (heard_from (answer_of q deep t.own t.ports).0) (heard_of (answers q true t.ports)),
-  record { own = (answer_of q deep t.own t.ports).1; ports = acted (effect_of q deep t.own) (after_packet q true t.ports) },
+  record {
+    own = (answer_of q deep t.own t.ports).1;
+    ports =
+        acted (effect_of q deep t.own) (after_packet q true t.ports);
+  },
 )
 
 abbrev pub on_port : PortState → Heard × Plugged → Heard × Place
@@ -134,7 +159,9 @@ on_port b x = (x.0, full b x.1.own x.1.ports)
 
 abbrev pub delivered_place : Sent → Bool → Place → Heard × Place
 delivered_place q deep (empty b) = (NoAnswer, empty b)
-delivered_place q deep (full b s a) = if b.enable then on_port b (delivered_device q deep (record { own = s; ports = a })) else (NoAnswer, full b s a)
+delivered_place q deep (full b s a) =
+    if b.enable then on_port b (delivered_device q deep (record { own = s; ports = a }))
+    else (NoAnswer, full b s a)
 
 -- between attempts no device remembers a token or an awaited ACK
 unfoldable pub all_forgotten : Ports → Ports
@@ -146,7 +173,8 @@ all_forgotten (taken b s a k) = taken b (forgotten s) (all_forgotten a) (all_for
 unfoldable pub held_addresses : Ports → List ℕ
 held_addresses ended = []
 held_addresses (vacant b k) = held_addresses k
-held_addresses (taken b s a k) = if b.enable then s.registers.address ∷ (held_addresses a ++ held_addresses k) else held_addresses k
+held_addresses (taken b s a k) = if b.enable then s.registers.address ∷
+    (held_addresses a ++ held_addresses k) else held_addresses k
 
 abbrev pub has : ℕ → List ℕ → Bool
 has a [] = false

@@ -24,7 +24,8 @@ asked_by_setup d r = effect_of_request (outcome d.spec d.registers r)
 
 -- setup data asks where it is accepted
 abbrev pub asked_by_data : State → RememberedPacket → Toggle → List ℕ → Effect
-asked_by_data d SetupSeen Zero bytes = if length bytes == 8 then asked_by_setup d (setup_of bytes) else Leaves
+asked_by_data d SetupSeen Zero bytes = if length bytes == 8 then asked_by_setup d (setup_of bytes)
+    else Leaves
 asked_by_data d m t bytes = Leaves
 
 abbrev pub asked_by_packet : State → Packet → Effect

@@ -1,40 +1,50 @@
 -- Which device holds which address, among those that packets reach.
-use Rattle.std.specs.Prelude.{◌≡◌, ℕ, ◌+◌, ◌-◌, ◌<◌, ◌==◌, ◌||◌, ◌&&◌, not, if◌then◌else◌, Bool, true, false, List, [], ◌∷◌, ◌++◌, length, nat_le, slice_index_or, slice_set, fold, Option, None, Some, ⊤}
+use Rattle.std.specs.Prelude.{◌≡◌, ℕ, ◌+◌, ◌-◌, ◌<◌, ◌==◌, ◌||◌, ◌&&◌, not, if◌then◌else◌, Bool}
+use Rattle.std.specs.Prelude.{true, false, List, [], ◌∷◌, ◌++◌, length, nat_le, slice_index_or}
+use Rattle.std.specs.Prelude.{slice_set, fold, Option, None, Some, ⊤}
 use Rattle.arrayvec.specs.ArrayVec.{ArrayVec}
 use Rattle.usb_device.specs.declared.holders.Holder.{Holder}
 use Rattle.usb_device.specs.declared.holders.Holder.TheVariants.{Nobody, One, Several}
 use Rattle.usb_port.specs.PortState.{PortState}
 use Rattle.usb_port.specs.declared.call.PortCall.{PortCall}
-use Rattle.usb_port.specs.declared.call.PortCall.TheVariants.{SetPower, SetReset, ClearEnable, ClearPower, ClearConnectionChange, ClearEnableChange, ClearResetChange}
+use Rattle.usb_port.specs.declared.call.PortCall.TheVariants.{SetPower, SetReset, ClearEnable}
+use Rattle.usb_port.specs.declared.call.PortCall.TheVariants.{ClearPower, ClearConnectionChange}
+use Rattle.usb_port.specs.declared.call.PortCall.TheVariants.{ClearEnableChange, ClearResetChange}
 use Rattle.usb_device.specs.declared.effect.Effect.{Effect}
 use Rattle.usb_device.specs.declared.effect.Effect.TheVariants.{Leaves, Calls, PortsOff}
-use Rattle.usb_device.specs.Tree.{Ports, ended, vacant, taken, Plugged, Place, empty, full, before, reach, plugged_in, device_there}
+use Rattle.usb_device.specs.Tree.{Ports, ended, vacant, taken, Plugged, Place, empty, full, before}
+use Rattle.usb_device.specs.Tree.{reach, plugged_in, device_there}
 use Rattle.usb_device.specs.Delivery.{held_addresses}
 
 -- the path of a port on a row below another path, where it is at most eight numbers long
 abbrev pub path_below : Option (ArrayVec ℕ) → ℕ → Option (ArrayVec ℕ)
 path_below None n = None
-path_below (Some p) n = if nat_le 8 (length p.items) || nat_le 256 n then None else Some (record { items = p.items ++ n ∷ [] })
+path_below (Some p) n = if nat_le 8 (length p.items) || nat_le 256 n then None else Some
+    (record { items = p.items ++ n ∷ [] })
 
--- the devices that packets reach, from a row whose first port has the number n: the address of each, and its path
+-- the devices that packets reach, from a row whose first port has the number n: the address of
+-- each, and its path
 unfoldable pub reached : Option (ArrayVec ℕ) → ℕ → Ports → List (ℕ × Option (ArrayVec ℕ))
 reached above n ended = []
 reached above n (vacant b k) = reached above (n + 1) k
 reached above n (taken b s a k) =
-    if b.enable then (s.registers.address, path_below above n) ∷ (reached (path_below above n) 1 a ++ reached above (n + 1) k) else reached above (n + 1) k
+    if b.enable then (s.registers.address, path_below above n) ∷
+    (reached (path_below above n) 1 a ++ reached above (n + 1) k) else reached above (n + 1) k
 
 -- a device by its path, and those that packets reach below it
 abbrev pub reached_whole : Option (ArrayVec ℕ) → Plugged → List (ℕ × Option (ArrayVec ℕ))
 reached_whole path t = (t.own.registers.address, path) ∷ reached path 1 t.ports
 
 -- the same on a port of that number and below it
-abbrev pub reached_in : Option (ArrayVec ℕ) → ℕ → PortState → Option Plugged → List (ℕ × Option (ArrayVec ℕ))
+abbrev pub reached_in : Option (ArrayVec ℕ) → ℕ → PortState → Option Plugged
+    → List (ℕ × Option (ArrayVec ℕ))
 reached_in above n b None = []
 reached_in above n b (Some t) = if b.enable then reached_whole (path_below above n) t else []
 
 -- the same devices at two places and below them, wherever these stand
 abbrev pub ReachedSame : Place → Place → Type 0
-ReachedSame q r = (above : Option (ArrayVec ℕ)) (n : ℕ) → reached above n (before q ended) ≡ reached above n (before r ended)
+ReachedSame q r = (above : Option (ArrayVec ℕ)) (n : ℕ) → reached above n (before q ended)
+    ≡ reached above n (before r ended)
 
 abbrev pub all_reached : Ports → List (ℕ × Option (ArrayVec ℕ))
 all_reached k = reached (Some (record { items = [] })) 1 k
@@ -124,12 +134,14 @@ joined_holder Several q = Several
 
 abbrev pub noted : List (ℕ × Option (ArrayVec ℕ)) → List Holder → List Holder
 noted [] holders = holders
-noted (x ∷ xs) holders = noted xs (slice_set holders x.0 (joined_holder (slice_index_or holders x.0 Nobody) x.1))
+noted (x ∷ xs) holders = noted xs (slice_set holders x.0
+    (joined_holder (slice_index_or holders x.0 Nobody) x.1))
 
 -- some address is met twice
 abbrev pub meets_again : List (ℕ × Option (ArrayVec ℕ)) → List Holder → Bool
 meets_again [] holders = false
-meets_again (x ∷ xs) holders = is_known (slice_index_or holders x.0 Nobody) || meets_again xs (slice_set holders x.0 (joined_holder (slice_index_or holders x.0 Nobody) x.1))
+meets_again (x ∷ xs) holders = is_known (slice_index_or holders x.0 Nobody) ||
+    meets_again xs (slice_set holders x.0 (joined_holder (slice_index_or holders x.0 Nobody) x.1))
 
 -- How those at a path and below it are taken out of an index: nobody holds their addresses any
 -- more.

@@ -12,7 +12,8 @@ abbrev pub is_ack : Packet → Bool
 is_ack Ack = true
 is_ack p = false
 
--- a packet changes no description; only an ACK changes the address or moves on in the source, and only data change the
+-- a packet changes no description; only an ACK changes the address or moves on in the source, and
+-- only data change the
 -- configuration, join the sink or count down to the halt
 pub record Keeps (p : Packet) (old new : State) : Type 0 where
   pub spec : new.spec ≡ old.spec

@@ -1,6 +1,9 @@
--- How far a transfer is, as the host's end and the device's end see it: level, or the host one packet ahead where the device did
+-- How far a transfer is, as the host's end and the device's end see it: level, or the host one
+-- packet ahead where the device did
 -- not see its last ACK, or the device one ahead where the host did not see its own (8.6).
-use Rattle.std.specs.Prelude.{◌≡◌, ◌≢◌, ◌⊎◌, ℕ, ◌+◌, ◌<◌, ◌==◌, nat_le, ◌&&◌, true, false, if◌then◌else◌, List, [], ◌∷◌, ◌++◌, length, take, drop, Option, None, Some, is_some}
+use Rattle.std.specs.Prelude.{◌≡◌, ◌≢◌, ◌⊎◌, ℕ, ◌+◌, ◌<◌, ◌==◌, nat_le, ◌&&◌, true, false}
+use Rattle.std.specs.Prelude.{if◌then◌else◌, List, [], ◌∷◌, ◌++◌, length, take, drop, Option, None}
+use Rattle.std.specs.Prelude.{Some, is_some}
 use Rattle.usb_packet.specs.declared.Toggle.{Toggle}
 use Rattle.usb_device.specs.declared.answer.Answer.{Answer}
 use Rattle.usb_device.specs.declared.answer.Answer.TheVariants.{Ack, Nak, Stall, Data}
@@ -9,10 +12,12 @@ use Rattle.usb_device.specs.Bulk.{advanced, tells_changes}
 use Rattle.usb_device.specs.Transfer.{reading, read, ending, idle, max_packet, packet_at}
 use Rattle.usb_device.specs.Rows.{State, bulk_of}
 
--- what a host that awaits a toggle takes of an answer: its bytes, where they have the toggle and are at most max
+-- what a host that awaits a toggle takes of an answer: its bytes, where they have the toggle and
+-- are at most max
 abbrev pub taken_of : Toggle → ℕ → Option Answer → Option (List ℕ)
 taken_of t max None = None
-taken_of t max (Some (Data given bytes)) = if is_same t given && nat_le (length bytes.items) max then Some bytes.items else None
+taken_of t max (Some (Data given bytes)) = if is_same t given && nat_le (length bytes.items) max
+    then Some bytes.items else None
 taken_of t max (Some answer) = None
 
 -- A control read (8.5.3)
@@ -21,14 +26,18 @@ taken_of t max (Some answer) = None
 pub record ReadingAt (answer : List ℕ) (wanted n : ℕ) (s : State) : Type 0 where
   pub known : ℕ
   pub stage : s.stage ≡ reading answer wanted known
-  pub near : (n ≡ known) ⊎ ((n ≡ known + 1) × (is_some (packet_at (max_packet s.spec) wanted answer known) ≡ true))
+  pub near : (n ≡ known) ⊎ ((n ≡ known + 1)
+      × (is_some (packet_at (max_packet s.spec) wanted answer known) ≡ true))
 
 -- after one more IN: the packet of this number came, or none did
 abbrev pub ReadOn : List ℕ → ℕ → ℕ → State → Option (List ℕ) → State → Type 0
 ReadOn answer wanted n s None s' = ReadingAt answer wanted n s'
-ReadOn answer wanted n s (Some bytes) s' = (packet_at (max_packet s.spec) wanted answer n ≡ Some bytes) × ReadingAt answer wanted (n + 1) s'
+ReadOn answer wanted n s (Some bytes) s' =
+    (packet_at (max_packet s.spec) wanted answer n ≡ Some bytes)
+    × ReadingAt answer wanted (n + 1) s'
 
--- The status stage of a request without data (8.5.3): the packet has no bytes, and the transfer is over where the device saw the host's ACK,
+-- The status stage of a request without data (8.5.3): the packet has no bytes, and the transfer is
+-- over where the device saw the host's ACK,
 -- which gives it the address that it was asked to take (9.4.6)
 
 abbrev pub address_then : ℕ → Option ℕ → ℕ
@@ -36,7 +45,10 @@ address_then old None = old
 address_then old (Some n) = n
 
 pub data StatusGiven (a : Option ℕ) (s s' : State) : Type 0 where
-  seen : s'.stage ≡ idle → s'.registers ≡ record s.registers { address = address_then s.registers.address a } → StatusGiven a s s'
+  seen : s'.stage ≡ idle → s'.registers ≡ record s.registers {
+    address =
+        address_then s.registers.address a;
+  } → StatusGiven a s s'
   unseen : s'.stage ≡ ending a → s'.registers ≡ s.registers → StatusGiven a s s'
 
 abbrev pub StatusOn : Option ℕ → State → Option (List ℕ) → State → Type 0
@@ -59,11 +71,13 @@ pub record IsSource (e most : ℕ) (s : State) : Type 0 where
 -- the host has got this many bytes of the source, and awaits a toggle
 pub data SourceAt (most : ℕ) (got : ℕ) (t : Toggle) (s : State) : Type 0 where
   level : s.place ≡ got → s.bulk_in.toggle ≡ t → SourceAt most got t s
-  ahead : got ≡ advanced s.place most (length s.spec.source) → s.place < length s.spec.source → s.bulk_in.toggle ≡ other t → SourceAt most got t s
+  ahead : got ≡ advanced s.place most (length s.spec.source) → s.place < length s.spec.source
+      → s.bulk_in.toggle ≡ other t → SourceAt most got t s
 
 abbrev pub SourceOn : ℕ → ℕ → Toggle → State → Option (List ℕ) → State → Type 0
 SourceOn most got t s None s' = SourceAt most got t s'
-SourceOn most got t s (Some bytes) s' = (bytes ≡ take most (drop got s.spec.source)) × (bytes ≢ []) × SourceAt most (advanced got most (length s.spec.source)) (other t) s'
+SourceOn most got t s (Some bytes) s' = (bytes ≡ take most (drop got s.spec.source)) × (bytes ≢ [])
+    × SourceAt most (advanced got most (length s.spec.source)) (other t) s'
 
 -- The bulk OUT endpoint (5.8)
 
@@ -71,7 +85,8 @@ pub record IsSink (e most : ℕ) (s : State) : Type 0 where
   pub endpoint : bulk_of s false ≡ Some (e, most)
   pub not_zero : (e == 0) ≡ false
 
--- a packet is being sent with a toggle to a device that had taken these bytes before: it has not joined them, or it has, and the
+-- a packet is being sent with a toggle to a device that had taken these bytes before: it has not
+-- joined them, or it has, and the
 -- host has not seen the ACK
 pub data SinkAt (before bytes : List ℕ) (t : Toggle) (s : State) : Type 0 where
   level : s.sink ≡ before → s.bulk_out.toggle ≡ t → SinkAt before bytes t s
@@ -91,7 +106,8 @@ SinkOn before bytes t (Some (Data u b)) s' = ⊥
 
 -- IN 1 of a configured hub (11.12.3)
 
--- The host awaits a toggle: nothing is held back; or a byte was given that did not come, and this is so of it; or a byte came, and its
+-- The host awaits a toggle: nothing is held back; or a byte was given that did not come, and this
+-- is so of it; or a byte came, and its
 -- ACK was not seen.
 pub data PollAt (Told : ℕ → Type 0) (t : Toggle) (s : State) : Type 0 where
   level : s.held ≡ None → s.changes.toggle ≡ t → PollAt Told t s
@@ -115,13 +131,21 @@ PollOn Told bits t None s' = PollAt Told t s'
 PollOn Told bits t (Some Ack) s' = ⊥
 PollOn Told bits t (Some Nak) s' = (bits ≡ 0) × PollAt NeverTold t s'
 PollOn Told bits t (Some Stall) s' = PollAt Told t s' × (s'.changes.halted ≡ true)
-PollOn Told bits t (Some (Data given bytes)) s' = (is_same t given ≡ true → ToldByte Told t bytes.items s') × (is_same t given ≡ false → PollAt Told t s')
+PollOn Told bits t (Some (Data given bytes)) s' =
+    (is_same t given ≡ true → ToldByte Told t bytes.items s')
+    × (is_same t given ≡ false → PollAt Told t s')
 
 -- What each exchange leaves as it is
 
 -- IN of endpoint 0: only a status stage changes the registers
 abbrev pub OnlyControl : State → State → Type 0
-OnlyControl s s' = s' ≡ record s { memory = s'.memory; naks = s'.naks; stage = s'.stage; registers = s'.registers }
+OnlyControl s s' = s' ≡ record s {
+  memory = s'.memory;
+  naks = s'.naks;
+  stage = s'.stage;
+  registers =
+      s'.registers;
+}
 
 -- OUT of endpoint 0
 abbrev pub OnlyStage : State → State → Type 0
@@ -131,7 +155,12 @@ abbrev pub OnlySource : State → State → Type 0
 OnlySource s s' = s' ≡ record s { memory = s'.memory; bulk_in = s'.bulk_in; place = s'.place }
 
 abbrev pub OnlySink : State → State → Type 0
-OnlySink s s' = s' ≡ record s { memory = s'.memory; bulk_out = s'.bulk_out; sink = s'.sink; until_halt = s'.until_halt }
+OnlySink s s' = s' ≡ record s {
+  memory = s'.memory;
+  bulk_out = s'.bulk_out;
+  sink = s'.sink;
+  until_halt = s'.until_halt;
+}
 
 abbrev pub OnlyChanges : State → State → Type 0
 OnlyChanges s s' = s' ≡ record s { memory = s'.memory; changes = s'.changes; held = s'.held }

@@ -23,20 +23,28 @@ Answers (Some bytes) (Some answer) = Spells bytes.items (packet_of answer)
 Answers None (Some answer) = ⊥
 Answers (Some bytes) None = ⊥
 
--- a packet at a device that has no other above or below it: its answer, what it is then, and what its ports are
+-- a packet at a device that has no other above or below it: its answer, what it is then, and what
+-- its ports are
 abbrev pub answer_to : Plugged → Packet → Option Answer
 answer_to t p = (received t.own (row_of t.ports) p).0
 
 abbrev pub after_receiving : Plugged → Packet → Plugged
-after_receiving t p = record { own = (received t.own (row_of t.ports) p).1; ports = acted (asks t.own p) t.ports }
+after_receiving t p = record {
+  own = (received t.own (row_of t.ports) p).1;
+  ports =
+      acted (asks t.own p) t.ports;
+}
 
 abbrev pub received_by : Plugged → Packet → Option Answer × Plugged
 received_by t p = (answer_to t p, after_receiving t p)
 
 -- the packet that the bytes spell is answered; where they spell none, nothing is
-pub record AnswersPacket (bytes : List ℕ) (old : Plugged) (answer : Option (ArrayVec ℕ)) (new : Plugged) : Type 0 where
-  pub whole : (p : Packet) → Spells bytes p → Answers answer (answer_to old p) × (new ≡ after_receiving old p)
-  pub broken : ((p : Packet) → Spells bytes p → ⊥) → (answer ≡ None) × (new ≡ record old { own = unread old.own })
+pub record AnswersPacket (bytes : List ℕ) (old : Plugged) (answer : Option (ArrayVec ℕ))
+    (new : Plugged) : Type 0 where
+  pub whole : (p : Packet) → Spells bytes p → Answers answer (answer_to old p)
+      × (new ≡ after_receiving old p)
+  pub broken : ((p : Packet) → Spells bytes p → ⊥) → (answer ≡ None)
+      × (new ≡ record old { own = unread old.own })
 
 -- the bytes spell a packet that makes the sink grow
 abbrev pub GrowsBy : List ℕ → Plugged → Type 0

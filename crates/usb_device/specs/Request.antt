@@ -1,7 +1,12 @@
--- What each request asks of a device: bytes, a change of the device or of one of its ports, or a refusal (9.4, 11.24).
-use Rattle.std.specs.Prelude.{ℕ, ◌-◌, ◌/◌, ◌%◌, ◌==◌, nat_lt, nat_le, if◌then◌else◌, ◌&&◌, ◌||◌, not, Bool, List, [], ◌∷◌, slice_get, Option, None, Some}
+-- What each request asks of a device: bytes, a change of the device or of one of its ports, or a
+-- refusal (9.4, 11.24).
+use Rattle.std.specs.Prelude.{ℕ, ◌-◌, ◌/◌, ◌%◌, ◌==◌, nat_lt, nat_le, if◌then◌else◌, ◌&&◌, ◌||◌}
+use Rattle.std.specs.Prelude.{not, Bool, List, [], ◌∷◌, slice_get, Option, None, Some}
 use Rattle.std.specs.List.{list_any}
-use Rattle.usb_request.specs.Codes.{DEVICE, CONFIGURATION, STRING, HUB, GET_STATUS, CLEAR_FEATURE, SET_FEATURE, SET_ADDRESS, GET_DESCRIPTOR, GET_CONFIGURATION, SET_CONFIGURATION, DEVICE_IN, DEVICE_OUT, ENDPOINT_OUT, HUB_IN, PORT_IN, PORT_OUT}
+use Rattle.usb_request.specs.Codes.{DEVICE, CONFIGURATION, STRING, HUB, GET_STATUS, CLEAR_FEATURE}
+use Rattle.usb_request.specs.Codes.{SET_FEATURE, SET_ADDRESS, GET_DESCRIPTOR, GET_CONFIGURATION}
+use Rattle.usb_request.specs.Codes.{SET_CONFIGURATION, DEVICE_IN, DEVICE_OUT, ENDPOINT_OUT, HUB_IN}
+use Rattle.usb_request.specs.Codes.{PORT_IN, PORT_OUT}
 use Rattle.usb_request.specs.Features.{ENDPOINT_HALT}
 use Rattle.usb_request.specs.Requests.{descriptor_value}
 use Rattle.usb_request.specs.declared.setup.Setup.{Setup}
@@ -44,7 +49,8 @@ text_asked texts i = elim (slice_get texts i) [ None ↦ stalled | Some text ↦
 abbrev pub asked_descriptor : Spec → ℕ → Outcome
 asked_descriptor s value =
     if value == descriptor_value DEVICE 0 then unless s.stalls.device (answers s.descriptor)
-    else if value / 256 == CONFIGURATION then unless s.stalls.config (text_asked s.configs (value % 256))
+    else if value / 256 == CONFIGURATION then unless s.stalls.config
+    (text_asked s.configs (value % 256))
     else if value / 256 == STRING then unless s.stalls.string (text_asked s.strings (value % 256))
     else stalled
 
@@ -65,7 +71,8 @@ is_value configs value = nat_lt value 256 && (value == 0 || list_any (has_value 
 
 -- 9.4.7: a device without an address cannot be configured
 abbrev pub asked_configuration : Spec → Registers → Setup → Outcome
-asked_configuration s g r = if not (g.address == 0) && is_value s.configs r.value && r.length == 0 then takes_configuration r.value else stalled
+asked_configuration s g r = if not (g.address == 0) && is_value s.configs r.value &&
+    r.length == 0 then takes_configuration r.value else stalled
 
 -- 9.4.1, 9.4.9: ENDPOINT_HALT of an endpoint that is served
 abbrev pub endpoint_of : Spec → Registers → Setup → Option ServedEndpoint
@@ -78,12 +85,14 @@ on_endpoint f (Some endpoint) = f endpoint
 -- 11.24.2.5
 abbrev pub asked_hub_descriptor : Option Hub → Setup → Outcome
 asked_hub_descriptor None r = stalled
-asked_hub_descriptor (Some hub) r = if r.value == descriptor_value HUB 0 then answers hub.descriptor else stalled
+asked_hub_descriptor (Some hub) r = if r.value == descriptor_value HUB 0 then answers hub.descriptor
+    else stalled
 
 -- the port of a configured hub that wIndex names, counted from 0
 abbrev pub port_named : Option Hub → Registers → ℕ → Option ℕ
 port_named None g index = None
-port_named (Some hub) g index = if not (g.configuration == 0) && nat_le 1 index && nat_le index hub.ports then Some (index - 1) else None
+port_named (Some hub) g index = if not (g.configuration == 0) && nat_le 1 index &&
+    nat_le index hub.ports then Some (index - 1) else None
 
 abbrev pub told_port : Option ℕ → Outcome
 told_port None = stalled
@@ -100,7 +109,8 @@ asked_port_status s g r = told_port (port_named s.hub g r.index)
 
 -- 11.24.2.13, 11.24.2.2: the feature of wValue of the port of wIndex
 abbrev pub port_feature : Option PortCall → Spec → Registers → Setup → Outcome
-port_feature call s g r = if r.length == 0 then called_at call (port_named s.hub g r.index) else stalled
+port_feature call s g r = if r.length == 0 then called_at call (port_named s.hub g r.index)
+    else stalled
 
 -- what each request asks
 unfoldable pub outcome : Spec → Registers → Setup → Outcome
@@ -109,7 +119,8 @@ outcome s g r =
     else if Is r DEVICE_IN GET_STATUS then unless s.stalls.status (asked_status s r)
     else if Is r DEVICE_IN GET_CONFIGURATION then answers (g.configuration ∷ [])
     else if Is r DEVICE_OUT SET_ADDRESS then unless s.stalls.address (asked_address r)
-    else if Is r DEVICE_OUT SET_CONFIGURATION then unless s.stalls.set_config (asked_configuration s g r)
+    else if Is r DEVICE_OUT SET_CONFIGURATION then unless s.stalls.set_config
+    (asked_configuration s g r)
     else if Is r ENDPOINT_OUT CLEAR_FEATURE then on_endpoint unhalts (endpoint_of s g r)
     else if Is r ENDPOINT_OUT SET_FEATURE then on_endpoint halts (endpoint_of s g r)
     else if Is r HUB_IN GET_DESCRIPTOR then unless s.stalls.hub (asked_hub_descriptor s.hub r)

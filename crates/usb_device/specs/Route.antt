@@ -1,4 +1,5 @@
--- A packet that goes straight to the device at a path, which is `deep` where it stands on a hub's port.
+-- A packet that goes straight to the device at a path, which is `deep` where it stands on a hub's
+-- port.
 use Rattle.std.specs.Prelude.{ℕ, ◌==◌, ◌&&◌, Bool, false, List, Option, None, Some}
 use Rattle.usb_device.specs.declared.answer.Answer.{Answer}
 use Rattle.usb_device.specs.declared.delivery.Sent.{Sent}

@@ -1,5 +1,7 @@
 -- What a device answers to each packet, and what it is then (8.5).
-use Rattle.std.specs.Prelude.{ℕ, true, false, ◌+◌, ◌-◌, ◌==◌, nat_lt, not, ◌++◌, take, drop, if◌then◌else◌, ◌&&◌, ◌||◌, Bool, List, [], ◌∷◌, length, Option, None, Some, is_some}
+use Rattle.std.specs.Prelude.{ℕ, true, false, ◌+◌, ◌-◌, ◌==◌, nat_lt, not, ◌++◌, take, drop}
+use Rattle.std.specs.Prelude.{if◌then◌else◌, ◌&&◌, ◌||◌, Bool, List, [], ◌∷◌, length, Option, None}
+use Rattle.std.specs.Prelude.{Some, is_some}
 use Rattle.usb_packet.specs.declared.TokenKind.{TokenKind}
 use Rattle.usb_packet.specs.declared.TokenKind.TheVariants.{OutTok, InTok, SetupTok}
 use Rattle.usb_packet.specs.declared.Toggle.{Toggle}
@@ -13,7 +15,8 @@ use Rattle.usb_device.specs.declared.answer.Answer.{Answer}
 use Rattle.usb_device.specs.declared.answer.Answer.TheVariants.{Ack, Nak, Stall, Data}
 use Rattle.usb_device.specs.declared.request.Registers.{Registers}
 use Rattle.usb_device.specs.declared.transfer.RememberedPacket.{RememberedPacket}
-use Rattle.usb_device.specs.declared.transfer.RememberedPacket.TheVariants.{Nothing, SetupSeen, OutSeen, AckAwaited}
+use Rattle.usb_device.specs.declared.transfer.RememberedPacket.TheVariants.{Nothing, SetupSeen}
+use Rattle.usb_device.specs.declared.transfer.RememberedPacket.TheVariants.{OutSeen, AckAwaited}
 use Rattle.usb_device.specs.declared.transfer.InEndpoint.{InEndpoint}
 use Rattle.usb_device.specs.declared.transfer.InEndpoint.TheVariants as by
 use Rattle.usb_device.specs.declared.bulk.EndpointState.{EndpointState}
@@ -22,9 +25,13 @@ use Rattle.usb_device.specs.declared.bulk.ServedEndpoint.TheVariants.{BulkOut, B
 use Rattle.usb_port.specs.PortState.{PortState}
 use Rattle.usb_device.specs.Spec.{Spec}
 use Rattle.usb_packet.specs.Toggles.{other, is_same}
-use Rattle.usb_device.specs.Bulk.{rested, turned, halted, count_down, is_last, bulk_at, advanced, tells_changes, change_bits}
-use Rattle.usb_device.specs.Request.{Outcome, stalled, answers, takes_address, takes_configuration, halts, unhalts, tells_port, calls_port, outcome, registers_at_setup}
-use Rattle.usb_device.specs.Transfer.{Stage, idle, refused, reading, read, ending, first_stage, max_packet, packet_at, toggle_at}
+use Rattle.usb_device.specs.Bulk.{rested, turned, halted, count_down, is_last, bulk_at, advanced}
+use Rattle.usb_device.specs.Bulk.{tells_changes, change_bits}
+use Rattle.usb_device.specs.Request.{Outcome, stalled, answers, takes_address, takes_configuration}
+use Rattle.usb_device.specs.Request.{halts, unhalts, tells_port, calls_port, outcome}
+use Rattle.usb_device.specs.Request.{registers_at_setup}
+use Rattle.usb_device.specs.Transfer.{Stage, idle, refused, reading, read, ending, first_stage}
+use Rattle.usb_device.specs.Transfer.{max_packet, packet_at, toggle_at}
 
 pub record State : Type 0 where
   pub spec : Spec
@@ -71,8 +78,15 @@ abbrev pub with_endpoints : State → Outcome → State
 with_endpoints d stalled = d
 with_endpoints d (answers bytes) = d
 with_endpoints d (takes_address a) = d
-with_endpoints d (takes_configuration c) = record d { bulk_out = rested; bulk_in = rested; changes = rested; held = None }
-with_endpoints d (halts endpoint) = with_endpoint_state d endpoint (halted (endpoint_state d endpoint))
+with_endpoints d (takes_configuration c) = record d {
+  bulk_out = rested;
+  bulk_in = rested;
+  changes =
+      rested;
+  held = None;
+}
+with_endpoints d (halts endpoint) = with_endpoint_state d endpoint
+    (halted (endpoint_state d endpoint))
 with_endpoints d (unhalts endpoint) = with_endpoint_state d endpoint rested
 with_endpoints d (tells_port i) = d
 with_endpoints d (calls_port c i) = d
@@ -83,7 +97,11 @@ configured d c = record d { registers = record d.registers { configuration = c }
 
 -- a request begins a transfer, and ends the one before
 abbrev pub begun : State → List PortState → ℕ → Outcome → State
-begun d row wanted o = record (with_endpoints d o) { registers = registers_at_setup d.registers o; naks = d.spec.naks; stage = first_stage row wanted o }
+begun d row wanted o = record (with_endpoints d o) {
+  registers = registers_at_setup d.registers o;
+  naks = d.spec.naks;
+  stage = first_stage row wanted o;
+}
 
 -- the setup data is accepted
 abbrev pub accepted : State → List PortState → Setup → State
@@ -108,7 +126,11 @@ gives d endpoint t bytes = (Some (payload t bytes), record d { memory = AckAwait
 abbrev pub in_row : State → Stage → Reply
 in_row d idle = (None, d)
 in_row d refused = (Some Stall, d)
-in_row d (reading answer wanted k) = elim (packet_at (max_packet d.spec) wanted answer k) [ None ↦ (None, d) | Some bytes ↦ gives d by.Control (toggle_at k) bytes ]
+in_row d (reading answer wanted k) = elim (packet_at (max_packet d.spec) wanted answer k) [
+  | None ↦
+      (None, d)
+  | Some bytes ↦ gives d by.Control (toggle_at k) bytes
+]
 in_row d read = (None, d)
 in_row d (ending a) = gives d by.Control One []
 
@@ -129,9 +151,16 @@ out_row d (ending a) t bytes = (None, d)
 -- the host's ACK of what was given on endpoint 0
 abbrev pub ack_row : State → Stage → State
 ack_row d (reading answer wanted k) =
-    if is_some (packet_at (max_packet d.spec) wanted answer k) then record d { stage = reading answer wanted (k + 1) } else d
+    if is_some (packet_at (max_packet d.spec) wanted answer k) then record d {
+      stage =
+          reading answer wanted (k + 1);
+    } else d
 ack_row d (ending None) = record d { stage = idle }
-ack_row d (ending (Some a)) = record d { registers = record d.registers { address = a }; stage = idle }
+ack_row d (ending (Some a)) = record d {
+  registers = record d.registers { address = a };
+  stage =
+      idle;
+}
 ack_row d stage = d
 
 -- the bulk endpoint of a direction
@@ -152,11 +181,15 @@ source_row d max =
 -- the host's ACK of what bulk IN gave
 abbrev pub bulk_ack_row : State → Option (ℕ × ℕ) → State
 bulk_ack_row d None = d
-bulk_ack_row d (Some end) = record d { place = advanced d.place end.1 (length d.spec.source); bulk_in = turned d.bulk_in }
+bulk_ack_row d (Some end) = record d {
+  place = advanced d.place end.1 (length d.spec.source);
+  bulk_in = turned d.bulk_in;
+}
 
 -- IN 1 of a configured hub with no byte that is still to be acknowledged: the ports with a change
 abbrev pub new_changes_row : State → ℕ → Reply
-new_changes_row d bits = if bits == 0 then (Some Nak, d) else gives (record d { held = Some bits }) by.Changes d.changes.toggle (bits ∷ [])
+new_changes_row d bits = if bits == 0 then (Some Nak, d) else gives (record d { held = Some bits })
+    by.Changes d.changes.toggle (bits ∷ [])
 
 -- IN 1 of a configured hub: the byte that was given before, until the host's ACK of it is seen
 abbrev pub held_row : State → List PortState → Option ℕ → Reply
@@ -191,7 +224,8 @@ sink_row d max t bytes =
 
 -- the packet makes the sink grow
 abbrev pub sinks : State → ℕ → Toggle → List ℕ → Bool
-sinks d max t bytes = not d.bulk_out.halted && not (nat_lt max (length bytes)) && is_same t d.bulk_out.toggle
+sinks d max t bytes = not d.bulk_out.halted && not (nat_lt max (length bytes)) &&
+    is_same t d.bulk_out.toggle
 
 -- IN of an endpoint that is neither endpoint 0 nor a hub's endpoint 1
 abbrev pub in_bulk_row : State → ℕ → Option (ℕ × ℕ) → Reply
@@ -209,7 +243,8 @@ bulk_sinks d e (Some end) t bytes = end.0 == e && sinks d end.1 t bytes
 
 -- IN of an endpoint that is not endpoint 0
 abbrev pub in_other_row : State → List PortState → ℕ → Reply
-in_other_row d row e = if e == 1 && tells_changes d.spec d.registers then changes_row d row else in_bulk_row d e (bulk_of d true)
+in_other_row d row e = if e == 1 && tells_changes d.spec d.registers then changes_row d row
+    else in_bulk_row d e (bulk_of d true)
 
 -- a token for this device
 abbrev pub token_row : State → List PortState → TokenKind → ℕ → Reply
@@ -219,11 +254,13 @@ token_row d row InTok e = if e == 0 then unless_busy d (in_row d d.stage) else i
 
 -- data after an OUT token
 abbrev pub data_row : State → ℕ → Toggle → List ℕ → Reply
-data_row d e t bytes = if e == 0 then unless_busy d (out_row d d.stage t bytes) else out_bulk_row d e (bulk_of d false) t bytes
+data_row d e t bytes = if e == 0 then unless_busy d (out_row d d.stage t bytes) else out_bulk_row d
+    e (bulk_of d false) t bytes
 
 -- setup data
 abbrev pub setup_row : State → List PortState → List ℕ → Reply
-setup_row d row bytes = if length bytes == 8 then (Some Ack, accepted d row (setup_of bytes)) else (None, d)
+setup_row d row bytes = if length bytes == 8 then (Some Ack, accepted d row (setup_of bytes))
+    else (None, d)
 
 -- data, by what the packet before left
 abbrev pub payload_row : State → List PortState → RememberedPacket → Toggle → List ℕ → Reply
@@ -248,7 +285,8 @@ after_memory d m = d
 
 -- any packet, by what the packet before left
 abbrev pub answered : State → List PortState → RememberedPacket → Packet → Reply
-answered d row m (Token kind a e) = if a == d.registers.address then token_row d row kind e else (None, d)
+answered d row m (Token kind a e) = if a == d.registers.address then token_row d row kind e
+    else (None, d)
 answered d row m (Payload t bytes) = payload_row d row m t bytes.items
 answered d row m packet.Ack = (None, after_memory d m)
 answered d row m p = (None, d)
@@ -271,11 +309,33 @@ unread d = if d.spec.silent then d else forgotten d
 
 -- a device that was just plugged
 unfoldable pub fresh : Spec → State
-fresh s = record { spec = s; registers = record { address = 0; configuration = 0 }; memory = Nothing; naks = 0; stage = idle; bulk_out = rested; bulk_in = rested; changes = rested; held = None; sink = []; until_halt = s.halt_after; place = 0 }
+fresh s = record {
+  spec = s;
+  registers = record { address = 0; configuration = 0 };
+  memory =
+      Nothing;
+  naks = 0;
+  stage = idle;
+  bulk_out = rested;
+  bulk_in = rested;
+  changes = rested;
+  held =
+      None;
+  sink = [];
+  until_halt = s.halt_after;
+  place = 0;
+}
 
--- a bus reset (9.1.1.3); what bulk OUT has taken, what is left of the source and the count until the halt stay
+-- a bus reset (9.1.1.3); what bulk OUT has taken, what is left of the source and the count until
+-- the halt stay
 unfoldable pub reset_state : State → State
-reset_state d = record d { registers = record { address = 0; configuration = 0 }; memory = Nothing; naks = 0; stage = idle; held = None }
+reset_state d = record d {
+  registers = record { address = 0; configuration = 0 };
+  memory = Nothing;
+  naks = 0;
+  stage = idle;
+  held = None;
+}
 
 -- an ACK of what endpoint 0 gave is awaited
 abbrev pub awaits_control : RememberedPacket → Bool

@@ -7,7 +7,8 @@ use Rattle.usb_device.specs.declared.request.Registers.{Registers}
 use Rattle.usb_device.specs.Spec.{Spec}
 use Rattle.usb_device.specs.Bulk.{bulk_at}
 
--- they are those that the text of the configuration describes, and pipes may have their numbers and maximums
+-- they are those that the text of the configuration describes, and pipes may have their numbers and
+-- maximums
 pub record AreServed (s : Spec) (g : Registers) (kept : BulkEndpoints) : Type 0 where
   pub out_is : kept.bulk_out ≡ bulk_at s g false
   pub in_is : kept.bulk_in ≡ bulk_at s g true

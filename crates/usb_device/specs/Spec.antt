@@ -1,5 +1,6 @@
 -- A device as a plan describes it.
-use Rattle.std.specs.Prelude.{◌≡◌, ◌≤◌, ℕ, List, [], ◌∷◌, length, take, nat_lt, ◌==◌, Bool, true, false, ◌&&◌, not, Option, None, Some, Ok, Err, All}
+use Rattle.std.specs.Prelude.{◌≡◌, ◌≤◌, ℕ, List, [], ◌∷◌, length, take, nat_lt, ◌==◌, Bool, true}
+use Rattle.std.specs.Prelude.{false, ◌&&◌, not, Option, None, Some, Ok, Err, All}
 use Rattle.std.specs.Option.{IfSome}
 use Rattle.std.specs.List.{list_any}
 use Rattle.std.specs.Str.{bytes_eq}
@@ -45,7 +46,10 @@ hub_fits low descriptor (Some hub) = not low && has_hub_class descriptor
 
 -- where the first bytes are the descriptor of a hub, it has so many ports
 abbrev pub agrees : ℕ → List ℕ → Bool
-agrees ports bytes = elim (hub_spelled (take HUB_LENGTH bytes)) [ Ok hub ↦ port_count hub == ports | Err fault ↦ true ]
+agrees ports bytes = elim (hub_spelled (take HUB_LENGTH bytes)) [
+  | Ok hub ↦ port_count hub == ports
+  | Err fault ↦ true
+]
 
 -- the rules of a hub
 pub record IsHub (h : Hub) : Type 0 where
@@ -65,10 +69,23 @@ pub record IsSpec (s : Spec) : Type 0 where
 
 -- a hub whose ports are switched one by one
 abbrev pub usual_hub : ℕ → Hub
-usual_hub ports = record { ports = ports; descriptor = HUB_LENGTH ∷ HUB ∷ ports ∷ 1 ∷ 0 ∷ 0 ∷ 0 ∷ 0 ∷ 0xff ∷ [] }
+usual_hub ports = record {
+  ports = ports;
+  descriptor =
+      HUB_LENGTH ∷ HUB ∷ ports ∷ 1 ∷ 0 ∷ 0 ∷ 0 ∷ 0 ∷ 0xff ∷ [];
+}
 
 abbrev pub no_stalls : Stalls
-no_stalls = record { device = false; address = false; config = false; set_config = false; status = false; hub = false; string = false }
+no_stalls = record {
+  device = false;
+  address = false;
+  config = false;
+  set_config = false;
+  status =
+      false;
+  hub = false;
+  string = false;
+}
 
 -- a full-speed function without strings that does nothing special
 abbrev pub function : List ℕ → List ℕ → List (List ℕ) → Spec

@@ -3,7 +3,8 @@ use Rattle.std.specs.Prelude.{◌==◌, ◌&&◌, ◌||◌, Bool, true, false}
 use Rattle.usb_packet.specs.declared.Packet.{Packet}
 use Rattle.usb_packet.specs.declared.Packet.TheVariants.{Token, Payload, Ack}
 use Rattle.usb_device.specs.declared.transfer.RememberedPacket.{RememberedPacket}
-use Rattle.usb_device.specs.declared.transfer.RememberedPacket.TheVariants.{Nothing, SetupSeen, OutSeen, AckAwaited}
+use Rattle.usb_device.specs.declared.transfer.RememberedPacket.TheVariants.{Nothing, SetupSeen}
+use Rattle.usb_device.specs.declared.transfer.RememberedPacket.TheVariants.{OutSeen, AckAwaited}
 use Rattle.usb_device.specs.declared.delivery.Content.{Content}
 use Rattle.usb_device.specs.declared.delivery.Content.TheVariants.{Whole, Broken}
 use Rattle.usb_device.specs.Rows.{State}
@@ -19,7 +20,8 @@ abbrev pub awaits_ack : RememberedPacket → Bool
 awaits_ack (AckAwaited endpoint) = true
 awaits_ack m = false
 
--- a packet is for a device with such a memory: a token with its address, data behind such a token, the ACK of what it gave
+-- a packet is for a device with such a memory: a token with its address, data behind such a token,
+-- the ACK of what it gave
 abbrev pub is_for : State → RememberedPacket → Packet → Bool
 is_for d m (Token kind a e) = a == d.registers.address
 is_for d m (Payload t bytes) = awaits_data m
@@ -39,4 +41,5 @@ concerns Broken s = false
 unfoldable pub concerns_some : Content → Ports → Bool
 concerns_some c ended = false
 concerns_some c (vacant b k) = concerns_some c k
-concerns_some c (taken b s a k) = (b.enable && (concerns c s || concerns_some c a)) || concerns_some c k
+concerns_some c (taken b s a k) = (b.enable && (concerns c s || concerns_some c a)) ||
+    concerns_some c k

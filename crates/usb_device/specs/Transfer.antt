@@ -1,5 +1,7 @@
 -- Where a control transfer stands, and the packets of an answer (8.5.3).
-use Rattle.std.specs.Prelude.{ℕ, zero, suc, ◌+◌, ◌*◌, ◌/◌, ◌%◌, ◌==◌, nat_lt, if◌then◌else◌, ◌&&◌, ◌||◌, not, Bool, true, false, List, [], ◌++◌, length, take, drop, slice_get, Option, None, Some, unwrap_or}
+use Rattle.std.specs.Prelude.{ℕ, zero, suc, ◌+◌, ◌*◌, ◌/◌, ◌%◌, ◌==◌, nat_lt, if◌then◌else◌, ◌&&◌}
+use Rattle.std.specs.Prelude.{◌||◌, not, Bool, true, false, List, [], ◌++◌, length, take, drop}
+use Rattle.std.specs.Prelude.{slice_get, Option, None, Some, unwrap_or}
 use Rattle.arrayvec.specs.ArrayVec.{ArrayVec}
 use Rattle.usb_packet.specs.declared.Toggle.{Toggle}
 use Rattle.usb_packet.specs.declared.Toggle.TheVariants.{Zero, One}
@@ -13,7 +15,8 @@ pub data Stage : Type 0 where
   idle : Stage
   -- the request is refused
   refused : Stage
-  -- a control read: the whole answer, how many bytes the host wants, and how many packets it acknowledged
+  -- a control read: the whole answer, how many bytes the host wants, and how many packets it
+  -- acknowledged
   reading : List ℕ → ℕ → ℕ → Stage
   -- a control read that is over
   read : Stage
@@ -36,21 +39,25 @@ first_stage row wanted (answers bytes) = reads wanted bytes
 first_stage row wanted (tells_port i) = reads_port wanted (slice_get row i)
 first_stage row wanted o = ending (address_at_end o)
 
--- the most data bytes of a packet on endpoint 0 (5.5.3): what the device descriptor says, where the speed allows it
+-- the most data bytes of a packet on endpoint 0 (5.5.3): what the device descriptor says, where the
+-- speed allows it
 abbrev pub max_packet : Spec → ℕ
 max_packet s =
     let m = max_packet_0 s.descriptor in
     if not s.low && (m == 16 || m == 32 || m == 64) then m else 8
 
--- how many packets carry len bytes (5.5.3): full ones and what is left; where len is less than wanted, the last is not full, so perhaps empty
+-- how many packets carry len bytes (5.5.3): full ones and what is left; where len is less than
+-- wanted, the last is not full, so perhaps empty
 abbrev pub packet_count : ℕ → ℕ → ℕ → ℕ
-packet_count max wanted len = len / max + (if len % max == 0 && not (nat_lt len wanted) then 0 else 1)
+packet_count max wanted len = len / max +
+    (if len % max == 0 && not (nat_lt len wanted) then 0 else 1)
 
 -- the bytes of packet k of an answer, counted from 0
 abbrev pub packet_at : ℕ → ℕ → List ℕ → ℕ → Option (List ℕ)
 packet_at max wanted answer k =
     let bytes = take wanted answer in
-    if nat_lt k (packet_count max wanted (length bytes)) then Some (take max (drop (k * max) bytes)) else None
+    if nat_lt k (packet_count max wanted (length bytes)) then Some (take max (drop (k * max) bytes))
+    else None
 
 -- what is in the room, where a packet was put there
 abbrev pub put_if : Bool → ArrayVec ℕ → Option (List ℕ)
@@ -60,7 +67,8 @@ put_if false room = None
 -- the first k packets of an answer, end to end
 abbrev pub packets_joined : ℕ → ℕ → List ℕ → ℕ → List ℕ
 packets_joined max wanted answer zero = []
-packets_joined max wanted answer (suc k) = packets_joined max wanted answer k ++ unwrap_or (packet_at max wanted answer k) []
+packets_joined max wanted answer (suc k) =
+    packets_joined max wanted answer k ++ unwrap_or (packet_at max wanted answer k) []
 
 -- the data stage begins with DATA1 (8.6.1)
 abbrev pub toggle_at : ℕ → Toggle

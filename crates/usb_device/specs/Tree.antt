@@ -1,5 +1,7 @@
--- The devices that are plugged, as a tree: a row of ports, and below each device a row of ports again (4.1.1).
-use Rattle.std.specs.Prelude.{ℕ, zero, suc, ◌-◌, ◌==◌, ◌&&◌, if◌then◌else◌, Bool, true, false, List, [], ◌∷◌, slice_get, Option, None, Some, is_some}
+-- The devices that are plugged, as a tree: a row of ports, and below each device a row of ports
+-- again (4.1.1).
+use Rattle.std.specs.Prelude.{ℕ, zero, suc, ◌-◌, ◌==◌, ◌&&◌, if◌then◌else◌, Bool, true, false, List}
+use Rattle.std.specs.Prelude.{[], ◌∷◌, slice_get, Option, None, Some, is_some}
 use Rattle.usb_port.specs.PortState.{PortState, off, plugged, unplugged, powered_off, is_attached}
 use Rattle.usb_device.specs.Spec.{Spec, Hub}
 use Rattle.usb_port.specs.declared.call.PortCall.{PortCall}
@@ -8,7 +10,8 @@ use Rattle.usb_device.specs.declared.effect.Effect.TheVariants.{Leaves, Calls, P
 use Rattle.usb_port.specs.Calls.{called_port, is_reset}
 use Rattle.usb_device.specs.Rows.{State, fresh, reset_state}
 
--- a row of ports, the first one first: no port more, an empty port, or a port with a device and that device's ports
+-- a row of ports, the first one first: no port more, an empty port, or a port with a device and
+-- that device's ports
 pub data Ports : Type 0 where
   ended : Ports
   vacant : PortState → Ports → Ports
@@ -65,7 +68,8 @@ reset_where false b s a = full b s a
 -- a call at a port: PORT_RESET of a powered port with something attached resets the device on it
 abbrev pub called : PortCall → Place → Place
 called c (empty b) = empty (called_port c b)
-called c (full b s a) = reset_where (is_reset c && (b.power && is_attached b.attached)) (called_port c b) s a
+called c (full b s a) = reset_where (is_reset c && (b.power && is_attached b.attached))
+    (called_port c b) s a
 
 -- a device as it is plugged
 abbrev pub new_device : Spec → Plugged
@@ -81,7 +85,8 @@ abbrev pub replaced : Option Spec → Place → Place
 replaced None q = put None q
 replaced (Some s) q = put (Some (new_device s)) q
 
--- A port is named by its number on the row it stands in, counted from 0, and the rest of its path: on each device on
+-- A port is named by its number on the row it stands in, counted from 0, and the rest of its path:
+-- on each device on
 -- the way the number of a port, counted from 1.
 
 -- the ports with one of them changed, wherever it is
@@ -187,13 +192,17 @@ with_child t n c = record t { ports = changed (put (Some c)) t.ports (n ∷ []) 
 
 -- none on that port; where none was there, nothing changes
 abbrev pub without_child : Plugged → ℕ → Plugged
-without_child t n = if is_some (child_of t n) then record t { ports = changed (put None) t.ports (n ∷ []) } else t
+without_child t n = if is_some (child_of t n) then record t {
+  ports =
+      changed (put None) t.ports (n ∷ []);
+} else t
 
 -- a port by its number, counted from 1
 abbrev pub numbered : List PortState → ℕ → Option PortState
 numbered row n = if n == 0 then None else slice_get row (n - 1)
 
--- whether a device stands at a path and each port on its way is enabled: so it is powered, and something is attached
+-- whether a device stands at a path and each port on its way is enabled: so it is powered, and
+-- something is attached
 unfoldable pub reach_at : Ports → ℕ → List ℕ → Bool
 reach_at ended i p = false
 reach_at (vacant b k) zero p = false
@@ -208,7 +217,8 @@ reach k [] = false
 reach k (zero ∷ p) = false
 reach k (suc i ∷ p) = reach_at k i p
 
--- Where something stands in a tree: the number of its port on the root row, counted from 0, and the rest of its path, on each device on
+-- Where something stands in a tree: the number of its port on the root row, counted from 0, and the
+-- rest of its path, on each device on
 -- the way the number of a port, counted from 1.
 pub record Location : Type 0 where
   pub row : ℕ

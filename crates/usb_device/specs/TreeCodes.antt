@@ -46,17 +46,21 @@ abbrev top : List Ports → Ports
 top [] = ended
 top (k ∷ ks) = k
 
-pub read_back-spelled : (k : Ports) (after : List Mark) → read_back (spelled k after) ≡ k ∷ read_back after
+pub read_back-spelled : (k : Ports) (after : List Mark) → read_back (spelled k after)
+    ≡ k ∷ read_back after
 read_back-spelled ended after = refl
 read_back-spelled (vacant b k) after = ap (vacant_top b) (read_back-spelled k after)
 read_back-spelled (taken b s a k) after =
-    ap (taken_top b s) (read_back-spelled a (spelled k after) ∙ ap (λ ks. a ∷ ks) (read_back-spelled k after))
+    ap (taken_top b s) (read_back-spelled a (spelled k after)
+    ∙ ap (λ ks. a ∷ ks) (read_back-spelled k after))
 
 abbrev pub ports_code : Coded Ports
-ports_code = code_by (List Mark) (coded_list mark_code) (λ k. spelled k []) (λ ms. top (read_back ms)) (λ k. ap top (read_back-spelled k []))
+ports_code = code_by (List Mark) (coded_list mark_code) (λ k. spelled k [])
+    (λ ms. top (read_back ms)) (λ k. ap top (read_back-spelled k []))
 
 abbrev pub plugged_code : Coded Plugged
-plugged_code = code_by (State × Ports) (coded× own_row.coded ports_code) (λ t. (t.own, t.ports)) (λ p. record { own = p.0; ports = p.1 }) (λ _. refl)
+plugged_code = code_by (State × Ports) (coded× own_row.coded ports_code) (λ t. (t.own, t.ports))
+    (λ p. record { own = p.0; ports = p.1 }) (λ _. refl)
 
 -- a device counts one more than its row of ports
 abbrev pub weight : Ports → ℕ

@@ -1,4 +1,5 @@
--- A tree of devices, seen place by place: what stands at a path is told by the place at its first number.
+-- A tree of devices, seen place by place: what stands at a path is told by the place at its first
+-- number.
 use Rattle.std.specs.Prelude.{ℕ, zero, suc, List, [], ◌∷◌, Option, None}
 use Rattle.usb_port.specs.PortState.{PortState}
 use Rattle.usb_device.specs.Rows.{State, forgotten}

@@ -7,6 +7,7 @@ use Rattle.usb_diagnosis.specs.declared.key.PlanKey.{PlanKey}
 use Rattle.usb_diagnosis.specs.Key.{key_name}
 
 -- a name among those of keys
-pub known_names : (name : List ℕ) (keys : List PlanKey) → list_any (bytes_eq name) (map key_name keys) ≡ list_any (λ k. bytes_eq name (key_name k)) keys
+pub known_names : (name : List ℕ) (keys : List PlanKey)
+    → list_any (bytes_eq name) (map key_name keys) ≡ list_any (λ k. bytes_eq name (key_name k)) keys
 known_names name [] = refl
 known_names name (key ∷ keys) = ap (λ b. bytes_eq name (key_name key) || b) (known_names name keys)

@@ -51,8 +51,12 @@ abbrev pub TellsVerdict : List ℕ → List ℕ → Verdict → List ℕ → Typ
 TellsVerdict file text Plan lines = TellsPlan text lines
 TellsVerdict file text (Refused fault) lines = TellsFault file text fault lines
 
--- what is told of the text is written, a front of it where the writer failed, and nothing where memory was refused
-abbrev pub WritesVerdict : List ℕ → List ℕ → Option (List ℕ) → Result Verdict CheckFault → Option (List ℕ) → Type 0
-WritesVerdict file text before (Ok verdict) now = (lines : List ℕ) × TellsVerdict file text verdict lines × Appends before now lines
-WritesVerdict file text before (Err Write) now = (verdict : Verdict) × (lines : List ℕ) × TellsVerdict file text verdict lines × AppendsFront before now lines
+-- what is told of the text is written, a front of it where the writer failed, and nothing where
+-- memory was refused
+abbrev pub WritesVerdict : List ℕ → List ℕ → Option (List ℕ) → Result Verdict CheckFault
+    → Option (List ℕ) → Type 0
+WritesVerdict file text before (Ok verdict) now = (lines : List ℕ)
+    × TellsVerdict file text verdict lines × Appends before now lines
+WritesVerdict file text before (Err Write) now = (verdict : Verdict) × (lines : List ℕ)
+    × TellsVerdict file text verdict lines × AppendsFront before now lines
 WritesVerdict file text before (Err Memory) now = now ≡ before

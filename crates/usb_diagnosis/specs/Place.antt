@@ -1,9 +1,11 @@
 -- Where in a file something stands.
-use Rattle.std.specs.Prelude.{◌≡◌, ⊤, ℕ, ◌+◌, ◌≤◌, ◌==◌, length, take, codes, List, [], ◌++◌, decimal, Option, Some, None, fold, bit_and, if◌then◌else◌}
+use Rattle.std.specs.Prelude.{◌≡◌, ⊤, ℕ, ◌+◌, ◌≤◌, ◌==◌, length, take, codes, List, [], ◌++◌}
+use Rattle.std.specs.Prelude.{decimal, Option, Some, None, fold, bit_and, if◌then◌else◌}
 use Rattle.usb_diagnosis.specs.declared.place.Spot.{Spot}
 use Rattle.usb_diagnosis.specs.declared.place.Spot.TheVariants as spot
 
--- the line and the column behind one more byte: a column is a character, whose bytes behind the first begin with the bits 10
+-- the line and the column behind one more byte: a column is a character, whose bytes behind the
+-- first begin with the bits 10
 abbrev pub behind : ℕ × ℕ → ℕ → ℕ × ℕ
 behind at byte =
     if byte == 10 then (at.0 + 1, 1)

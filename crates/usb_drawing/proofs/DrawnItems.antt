@@ -1,5 +1,7 @@
 -- What drawing a plan's run writes, item by item.
-use Rattle.std.proofs.Common.{◌≡◌, ◌≢◌, ◌∙◌, refl, sym, ap, subst, inl, inr, ℕ, ◌+◌, ◌≤◌, ◌<◌, List, [], ◌∷◌, map, flat_map, Bool, false, Option, None, Some, Result, Ok, Err, IsErrAnd}
+use Rattle.std.proofs.Common.{◌≡◌, ◌≢◌, ◌∙◌, refl, sym, ap, subst, inl, inr, ℕ, ◌+◌, ◌≤◌, ◌<◌, List}
+use Rattle.std.proofs.Common.{[], ◌∷◌, map, flat_map, Bool, false, Option, None, Some, Result, Ok}
+use Rattle.std.proofs.Common.{Err, IsErrAnd}
 use Rattle.std.specs.Global.{Vec}
 use Rattle.std.specs.List.{concat}
 use Rattle.std.specs.Prelude.{IfErr}
@@ -21,15 +23,20 @@ use Rattle.usb_run.specs.RunSegments.{Knows}
 use Rattle.usb_run.specs.Reports.{Opens}
 use Rattle.usb_serve.specs.ServeResults.{IsCausedInTree}
 use Rattle.usb_run.specs.ItemLines.{number_of}
-use Rattle.usb_run.specs.Transcript.{Next, RunsTo, StoppedRun, Transcript, begun, behind, listings, never}
+use Rattle.usb_run.specs.Transcript.{Next, RunsTo, StoppedRun, Transcript, begun, behind, listings}
+use Rattle.usb_run.specs.Transcript.{never}
 use Rattle.usb_serve.specs.ServedTranscripts.{of_run}
-use Rattle.usb_serve.proofs.Interface.{ItemsNumbered, few_left, joined_lines, number_next, numbered_next}
-use Rattle.usb_run.proofs.Interface.{at_fault, knows_opened, limit_opened, makes_knows, over_next, appends_no_text, run_limit, run_lists_right, stopped_next, told_next, traced_runs_onward, unwritten_next}
+use Rattle.usb_serve.proofs.Interface.{ItemsNumbered, few_left, joined_lines, number_next}
+use Rattle.usb_serve.proofs.Interface.{numbered_next}
+use Rattle.usb_run.proofs.Interface.{at_fault, knows_opened, limit_opened, makes_knows, over_next}
+use Rattle.usb_run.proofs.Interface.{appends_no_text, run_limit, run_lists_right, stopped_next}
+use Rattle.usb_run.proofs.Interface.{told_next, traced_runs_onward, unwritten_next}
 use Rattle.usb_drawing.specs.declared.art.Style.{Style}
 use Rattle.usb_drawing.specs.DrawnRuns.{DrawnText, RunDrawn, drawn_item, drawn_items, drawn_lines}
 
 -- the run so far, from its host's first call on, and the drawings of its items
-pub record DrawnSoFar (style : Style) (plan : PlanData) (before : Option (List ℕ)) (number : ℕ) (over : Bool) (new : HostState) (now : Option (List ℕ)) : Type 0 where
+pub record DrawnSoFar (style : Style) (plan : PlanData) (before : Option (List ℕ)) (number : ℕ)
+    (over : Bool) (new : HostState) (now : Option (List ℕ)) : Type 0 where
   pub items : List Item
   pub thrown : Option (List ℕ)
   pub first : HostState
@@ -39,7 +46,8 @@ pub record DrawnSoFar (style : Style) (plan : PlanData) (before : Option (List �
   pub numbered : ItemsNumbered items number over new.world
   pub text : Appends before now (drawn_items style items)
 
-pub drawn_begun : (style : Style) (plan : PlanData) (before thrown : Option (List ℕ)) (over : Bool) (h : HostState) → Opens plan thrown h → over ≡ false → h.world.taken + to_come h.world ≤ 10000
+pub drawn_begun : (style : Style) (plan : PlanData) (before thrown : Option (List ℕ)) (over : Bool)
+    (h : HostState) → Opens plan thrown h → over ≡ false → h.world.taken + to_come h.world ≤ 10000
     → DrawnSoFar style plan before 0 over h before
 unfolding listings drawn_items
 drawn_begun style plan before thrown over h opens at_work few = record {
@@ -54,31 +62,47 @@ drawn_begun style plan before thrown over h opens at_work few = record {
 }
 
 -- the text of an item's lines
-drawn_next : (style : Style) (items : List Item) (next : ℕ) (item : Item) (vs : List (Vec ℕ)) → map (λ v. v.items) vs ≡ drawn_lines style next item → next ≡ number_of item (listings items)
+drawn_next : (style : Style) (items : List Item) (next : ℕ) (item : Item) (vs : List (Vec ℕ))
+    → map (λ v. v.items) vs ≡ drawn_lines style next item → next ≡ number_of item (listings items)
     → flat_map (λ v. v.items) vs ≡ drawn_item style items item
-drawn_next style items next item vs lines is = joined_lines vs ∙ ap concat lines ∙ ap (λ n. concat (drawn_lines style n item)) is
+drawn_next style items next item vs lines is = joined_lines vs ∙ ap concat lines
+    ∙ ap (λ n. concat (drawn_lines style n item)) is
 
-pub drawn_told : {style : Style} {plan : PlanData} {before : Option (List ℕ)} {number : ℕ} {over : Bool} {h : HostState} {now : Option (List ℕ)} (r : DrawnSoFar style plan before number over h now)
-    (next : ℕ) (item : Item) (on : Bool) (k : HostState) (vs : List (Vec ℕ)) (s : Option (List ℕ)) → (number < 18446744073709551615 → next ≡ number_of item number) → Next over h (Ok (Some item)) on k
-    → items_left on k.world < items_left over h.world → map (λ v. v.items) vs ≡ drawn_lines style next item → Appends now s (flat_map (λ v. v.items) vs) → DrawnSoFar style plan before next on k s
+pub drawn_told : {style : Style} {plan : PlanData} {before : Option (List ℕ)} {number : ℕ}
+    {over : Bool} {h : HostState} {now : Option (List ℕ)}
+    (r : DrawnSoFar style plan before number over h now)
+    (next : ℕ) (item : Item) (on : Bool) (k : HostState) (vs : List (Vec ℕ)) (s : Option (List ℕ))
+    → (number < 18446744073709551615 → next ≡ number_of item number)
+    → Next over h (Ok (Some item)) on k
+    → items_left on k.world < items_left over h.world
+    → map (λ v. v.items) vs ≡ drawn_lines style next item
+    → Appends now s (flat_map (λ v. v.items) vs) → DrawnSoFar style plan before next on k s
 unfolding drawn_items
-drawn_told {style = style} {before = before} {now = now} r next item on k vs s counted makes fewer lines appends = record {
-  items = item ∷ r.items;
-  thrown = r.thrown;
-  first = r.first;
-  opens = r.opens;
-  so_far = told_next r.so_far makes (appends_no_text k);
-  knows = λ _. makes_knows makes.1;
-  numbered = numbered_next r.numbered next item on k.world k.world counted fewer refl;
-  text = Appends-trans before now s (drawn_items style r.items) (drawn_item style r.items item) r.text (subst (λ t. Appends now s t) (drawn_next style r.items next item vs lines (number_next r.numbered next item counted)) appends);
-}
+drawn_told {style = style} {before = before} {now = now} r next item on k vs s counted makes fewer
+    lines appends = record {
+      items = item ∷ r.items;
+      thrown = r.thrown;
+      first = r.first;
+      opens = r.opens;
+      so_far = told_next r.so_far makes (appends_no_text k);
+      knows = λ _. makes_knows makes.1;
+      numbered = numbered_next r.numbered next item on k.world k.world counted fewer refl;
+      text = Appends-trans before now s (drawn_items style r.items) (drawn_item style r.items item)
+          r.text (subst (λ t. Appends now s t) (drawn_next style r.items next item vs lines
+          (number_next r.numbered next item counted)) appends);
+    }
 
-pub drawn_unopened : (style : Style) (plan : PlanData) (before : Option (List ℕ)) → RunDrawn style plan before (Err (serve.Run run.Memory)) before
+pub drawn_unopened : (style : Style) (plan : PlanData) (before : Option (List ℕ))
+    → RunDrawn style plan before (Err (serve.Run run.Memory)) before
 drawn_unopened style plan before = inl (record { refused = refl; nothing = refl })
 
 -- what is drawn of a run that has come so far
-run_drawn : (style : Style) (plan : PlanData) (before thrown : Option (List ℕ)) (first : HostState) → Opens plan thrown first → (items : List Item) (k : HostState) (result : Result (Unit {0}) ServeFault) (now : Option (List ℕ))
-    → RunsTo Tree of_run never false first items result k → IfErr result (λ f. IsCausedInTree f k.world) → k.world.shared ≡ false → DrawnText style items before result now → RunDrawn style plan before result now
+run_drawn : (style : Style) (plan : PlanData) (before thrown : Option (List ℕ)) (first : HostState)
+    → Opens plan thrown first → (items : List Item) (k : HostState)
+    (result : Result (Unit {0}) ServeFault) (now : Option (List ℕ))
+    → RunsTo Tree of_run never false first items result k
+    → IfErr result (λ f. IsCausedInTree f k.world) → k.world.shared ≡ false
+    → DrawnText style items before result now → RunDrawn style plan before result now
 run_drawn style plan before thrown first opens items k result now ends caused single text =
     inr (record {
       thrown = thrown;
@@ -88,42 +112,79 @@ run_drawn style plan before thrown first opens items k result now ends caused si
       last = k;
       ends = ends;
       caused = caused;
-      limit = run_limit Tree of_run never false first items result k ends ∙ limit_opened plan first opens;
+      limit = run_limit Tree of_run never false first items result k ends
+          ∙ limit_opened plan first opens;
       single = single;
-      lists = run_lists_right plan opens.rules opens.paths Tree of_run never false first items k result (traced_runs_onward opens.traced) ends;
+      lists = run_lists_right plan opens.rules opens.paths Tree of_run never false first items k
+          result (traced_runs_onward opens.traced) ends;
       text = text;
     })
 
 -- and so where it stopped
-drawn_ended : (style : Style) (plan : PlanData) (before thrown : Option (List ℕ)) (first : HostState) → Opens plan thrown first → (items : List Item) (k : HostState) (result : Result (Unit {0}) ServeFault) (now : Option (List ℕ)) (said : ServeFault)
-    → IsErrAnd result (λ e. e ≡ said) → StoppedRun Tree (λ why. said ≡ of_run why) ⊥ false first items k → IsCausedInTree said k.world → k.world.shared ≡ false → DrawnText style items before (Err said) now → RunDrawn style plan before result now
-drawn_ended style plan before thrown first opens items k result now said is stopped caused single text =
-    at_fault (λ x. RunDrawn style plan before x now) result said is (run_drawn style plan before thrown first opens items k (Err said) now stopped caused single text)
+drawn_ended : (style : Style) (plan : PlanData) (before thrown : Option (List ℕ))
+    (first : HostState) → Opens plan thrown first
+    → (items : List Item) (k : HostState) (result : Result (Unit {0}) ServeFault)
+    (now : Option (List ℕ)) (said : ServeFault)
+    → IsErrAnd result (λ e. e ≡ said) → StoppedRun Tree (λ why. said ≡ of_run why) ⊥ false first
+    items k → IsCausedInTree said k.world → k.world.shared ≡ false
+    → DrawnText style items before (Err said) now → RunDrawn style plan before result now
+drawn_ended style plan before thrown first opens items k result now said is stopped caused single
+    text =
+    at_fault (λ x. RunDrawn style plan before x now) result said is
+    (run_drawn style plan before thrown first opens items k (Err said) now stopped caused single
+    text)
 
 -- all drawings were written of a run that stopped
-pub drawn_stopped : {style : Style} {plan : PlanData} {before : Option (List ℕ)} {number : ℕ} {over : Bool} {h : HostState} {now : Option (List ℕ)} (r : DrawnSoFar style plan before number over h now) (on : Bool) (k : HostState) (fault : RunFault)
-    (result : Result (Unit {0}) ServeFault) → IsErrAnd result (λ e. e ≡ serve.Run fault) → Next over h (Err fault) on k → fault ≢ run.TraceFailed → IsCaused fault k.world → k.world.shared ≡ false → RunDrawn style plan before result now
-drawn_stopped {style} {plan} {before} {now = now} r on k fault result is next untraced caused single =
-    drawn_ended style plan before r.thrown r.first r.opens r.items k result now (serve.Run fault) is (stopped_next on fault refl r.so_far next) (untraced, caused) single r.text
+pub drawn_stopped : {style : Style} {plan : PlanData} {before : Option (List ℕ)} {number : ℕ}
+    {over : Bool} {h : HostState} {now : Option (List ℕ)}
+    (r : DrawnSoFar style plan before number over h now) (on : Bool) (k : HostState)
+    (fault : RunFault)
+    (result : Result (Unit {0}) ServeFault) → IsErrAnd result (λ e. e ≡ serve.Run fault)
+    → Next over h (Err fault) on k → fault ≢ run.TraceFailed → IsCaused fault k.world
+    → k.world.shared ≡ false → RunDrawn style plan before result now
+drawn_stopped {style} {plan} {before} {now = now} r on k fault result is next untraced caused
+    single =
+    drawn_ended style plan before r.thrown r.first r.opens r.items k result now (serve.Run fault) is
+    (stopped_next on fault refl r.so_far next) (untraced, caused) single r.text
 
 -- and where memory was refused for the lines of an item
-pub drawn_unlined : {style : Style} {plan : PlanData} {before : Option (List ℕ)} {number : ℕ} {over : Bool} {h : HostState} {now : Option (List ℕ)} (r : DrawnSoFar style plan before number over h now) (item : Item) (on : Bool) (k : HostState)
-    (result : Result (Unit {0}) ServeFault) → IsErrAnd result (λ e. e ≡ serve.Memory) → Next over h (Ok (Some item)) on k → k.world.shared ≡ false → RunDrawn style plan before result now
+pub drawn_unlined : {style : Style} {plan : PlanData} {before : Option (List ℕ)} {number : ℕ}
+    {over : Bool} {h : HostState} {now : Option (List ℕ)}
+    (r : DrawnSoFar style plan before number over h now) (item : Item) (on : Bool) (k : HostState)
+    (result : Result (Unit {0}) ServeFault) → IsErrAnd result (λ e. e ≡ serve.Memory)
+    → Next over h (Ok (Some item)) on k → k.world.shared ≡ false
+    → RunDrawn style plan before result now
 drawn_unlined {style} {plan} {before} {now = now} r item on k result is next single =
-    drawn_ended style plan before r.thrown r.first r.opens r.items k result now serve.Memory is (unwritten_next (λ cut. cut) r.so_far next) tt single r.text
+    drawn_ended style plan before r.thrown r.first r.opens r.items k result now serve.Memory is
+    (unwritten_next (λ cut. cut) r.so_far next) tt single r.text
 
 -- the writer failed in the lines of an item
-pub drawn_cut : {style : Style} {plan : PlanData} {before : Option (List ℕ)} {number : ℕ} {over : Bool} {h : HostState} {now : Option (List ℕ)} (r : DrawnSoFar style plan before number over h now) (next : ℕ) (item : Item) (on : Bool) (k : HostState)
-    (vs : List (Vec ℕ)) (result : Result (Unit {0}) ServeFault) (s : Option (List ℕ)) → IsErrAnd result (λ e. e ≡ serve.Write) → (number < 18446744073709551615 → next ≡ number_of item number) → Next over h (Ok (Some item)) on k
-    → map (λ v. v.items) vs ≡ drawn_lines style next item → k.world.shared ≡ false → AppendsFront now s (flat_map (λ v. v.items) vs) → RunDrawn style plan before result s
+pub drawn_cut : {style : Style} {plan : PlanData} {before : Option (List ℕ)} {number : ℕ}
+    {over : Bool} {h : HostState} {now : Option (List ℕ)}
+    (r : DrawnSoFar style plan before number over h now) (next : ℕ) (item : Item) (on : Bool)
+    (k : HostState)
+    (vs : List (Vec ℕ)) (result : Result (Unit {0}) ServeFault) (s : Option (List ℕ))
+    → IsErrAnd result (λ e. e ≡ serve.Write)
+    → (number < 18446744073709551615 → next ≡ number_of item number)
+    → Next over h (Ok (Some item)) on k
+    → map (λ v. v.items) vs ≡ drawn_lines style next item → k.world.shared ≡ false
+    → AppendsFront now s (flat_map (λ v. v.items) vs) → RunDrawn style plan before result s
 unfolding drawn_items
-drawn_cut {style} {plan} {before} {now = now} r next item on k vs result s is counted makes lines single front =
-    let part = subst (λ t. AppendsFront now s t) (drawn_next style r.items next item vs lines (number_next r.numbered next item counted)) front in
-    drawn_ended style plan before r.thrown r.first r.opens (item ∷ r.items) k result s serve.Write is (behind (λ cut. cut) (told_next r.so_far makes (appends_no_text k))) tt single
-    (front_after_first before now s (drawn_items style r.items) (drawn_item style r.items item) r.text part)
+drawn_cut {style} {plan} {before} {now = now} r next item on k vs result s is counted makes lines
+    single front =
+    let part = subst (λ t. AppendsFront now s t)
+    (drawn_next style r.items next item vs lines (number_next r.numbered next item counted))
+    front in
+    drawn_ended style plan before r.thrown r.first r.opens (item ∷ r.items) k result s serve.Write
+    is (behind (λ cut. cut) (told_next r.so_far makes (appends_no_text k))) tt single
+    (front_after_first before now s (drawn_items style r.items) (drawn_item style r.items item)
+    r.text part)
 
 -- a run that is over
-pub drawn_over : {style : Style} {plan : PlanData} {before : Option (List ℕ)} {number : ℕ} {over : Bool} {h : HostState} {now : Option (List ℕ)} (r : DrawnSoFar style plan before number over h now) (on : Bool) (k : HostState)
+pub drawn_over : {style : Style} {plan : PlanData} {before : Option (List ℕ)} {number : ℕ}
+    {over : Bool} {h : HostState} {now : Option (List ℕ)}
+    (r : DrawnSoFar style plan before number over h now) (on : Bool) (k : HostState)
     → Next over h (Ok None) on k → k.world.shared ≡ false → RunDrawn style plan before (Ok tt) now
 drawn_over {style} {plan} {before} {h = h} {now = now} r on k next single =
-    run_drawn style plan before r.thrown r.first r.opens r.items k (Ok tt) now (over_next h k r.so_far next) tt single r.text
+    run_drawn style plan before r.thrown r.first r.opens r.items k (Ok tt) now
+    (over_next h k r.so_far next) tt single r.text

@@ -1,6 +1,9 @@
 -- No line of a drawing has a newline but at its end.
-use Rattle.std.proofs.Common.{◌≡◌, ◌≢◌, ◌∙◌, refl, sym, ap, ap₂, subst, arith, ℕ, zero, suc, ◌+◌, ◌-◌, ◌/◌, ◌%◌, Bool, true, false, List, [], ◌∷◌, ◌++◌, append_assoc, append-nil, flat_map, get_or, length, ◌<◌, Option, None, Some}
-use Rattle.std.specs.Prelude.{◌==◌, ◌&&◌, not, nat_lt, cond, slice_index, codes, decimal, encode_utf8, All, if◌then◌else◌}
+use Rattle.std.proofs.Common.{◌≡◌, ◌≢◌, ◌∙◌, refl, sym, ap, ap₂, subst, arith, ℕ, zero, suc, ◌+◌}
+use Rattle.std.proofs.Common.{◌-◌, ◌/◌, ◌%◌, Bool, true, false, List, [], ◌∷◌, ◌++◌, append_assoc}
+use Rattle.std.proofs.Common.{append-nil, flat_map, get_or, length, ◌<◌, Option, None, Some}
+use Rattle.std.specs.Prelude.{◌==◌, ◌&&◌, not, nat_lt, cond, slice_index, codes, decimal}
+use Rattle.std.specs.Prelude.{encode_utf8, All, if◌then◌else◌}
 use Rattle.std.specs.Char.Utf16.{lone_unit_char, surrogate_pair_char}
 use Rattle.std.specs.Fmt.{digit_glyph, digits, digits_onto}
 use Rattle.std.specs.List.{AllByRecursion}
@@ -11,7 +14,9 @@ use Rattle.std.proofs.lemmas.Str.{inside_one}
 use Rattle.hex.specs.Hex.{encode_with, lower_digits, upper_digits}
 use Rattle.usb_port.specs.Path.{path_text}
 use Rattle.usb_enum.specs.declared.cause.Cause.{Cause}
-use Rattle.usb_enum.specs.declared.cause.Cause.TheVariants.{Silent, Busy, Stalled, BadDevice, TooDeep, BadConfiguration, NoPower, BadHub, Lost, NoAddress}
+use Rattle.usb_enum.specs.declared.cause.Cause.TheVariants.{Silent, Busy, Stalled, BadDevice}
+use Rattle.usb_enum.specs.declared.cause.Cause.TheVariants.{TooDeep, BadConfiguration, NoPower}
+use Rattle.usb_enum.specs.declared.cause.Cause.TheVariants.{BadHub, Lost, NoAddress}
 use Rattle.usb_enum.specs.declared.cause.Request.{Request}
 use Rattle.usb_enum.specs.declared.cause.Request.TheVariants as request
 use Rattle.usb_enum.specs.declared.finding.Accepted.{Accepted}
@@ -29,16 +34,23 @@ use Rattle.usb_drawing.specs.Art.{art, branch, goes_on, trunk, trunks}
 use Rattle.usb_class.specs.declared.class.ClassCodes.{ClassCodes}
 use Rattle.usb_class.specs.Classes.{class_text, class_word, hid_word, word_or_number}
 use Rattle.usb_drawing.specs.Classes.{codes_of, ports_text}
-use Rattle.usb_drawing.specs.Devices.{address_column, cause_number, cause_words, device_text, finding_text, identity_text, ids_text, power_text, speed_column, stall_words, strings_text, supply_text, word_digits}
-use Rattle.usb_drawing.specs.Drawings.{IsOneLine, deepest, drawing_lines, entry_line, drawn_entries, gap, granted_at, heading, is_unbroken}
-use Rattle.usb_drawing.specs.Texts.{is_pair, is_shown, labelled_text, shown_or_escaped, shown_unit, shown_units, string_text}
+use Rattle.usb_drawing.specs.Devices.{address_column, cause_number, cause_words, device_text}
+use Rattle.usb_drawing.specs.Devices.{finding_text, identity_text, ids_text, power_text}
+use Rattle.usb_drawing.specs.Devices.{speed_column, stall_words, strings_text, supply_text}
+use Rattle.usb_drawing.specs.Devices.{word_digits}
+use Rattle.usb_drawing.specs.Drawings.{IsOneLine, deepest, drawing_lines, entry_line, drawn_entries}
+use Rattle.usb_drawing.specs.Drawings.{gap, granted_at, heading, is_unbroken}
+use Rattle.usb_drawing.specs.Texts.{is_pair, is_shown, labelled_text, shown_or_escaped, shown_unit}
+use Rattle.usb_drawing.specs.Texts.{shown_units, string_text}
 
 abbrev HasNoLineFeed : List ℕ → Type 0
 HasNoLineFeed bytes = is_unbroken bytes ≡ true
 
 -- one after the other
-no_line_feed-append : (xs ys : List ℕ) → HasNoLineFeed xs → HasNoLineFeed ys → HasNoLineFeed (xs ++ ys)
-no_line_feed-append xs ys p q = list_all-append (λ (byte : ℕ). not (byte == 10)) xs ys ∙ ap₂ (λ (a b : Bool). a && b) p q
+no_line_feed-append : (xs ys : List ℕ) → HasNoLineFeed xs → HasNoLineFeed ys
+    → HasNoLineFeed (xs ++ ys)
+no_line_feed-append xs ys p q = list_all-append (λ (byte : ℕ). not (byte == 10)) xs ys
+    ∙ ap₂ (λ (a b : Bool). a && b) p q
 
 other : (x : ℕ) → x ≢ 10 → not (x == 10) ≡ true
 other x differs = grind (arith, nat_tests)
@@ -49,7 +61,8 @@ one_no_line_feed x differs = ap (λ b. b && true) (other x differs)
 no_line_feed-cons : (x : ℕ) (xs : List ℕ) → x ≢ 10 → HasNoLineFeed xs → HasNoLineFeed (x ∷ xs)
 no_line_feed-cons x xs differs rest = ap₂ (λ (a b : Bool). a && b) (other x differs) rest
 
-choice : (b : Bool) (xs ys : List ℕ) → HasNoLineFeed xs → HasNoLineFeed ys → HasNoLineFeed (if b then xs else ys)
+choice : (b : Bool) (xs ys : List ℕ) → HasNoLineFeed xs → HasNoLineFeed ys
+    → HasNoLineFeed (if b then xs else ys)
 choice true xs ys p q = p
 choice false xs ys p q = q
 
@@ -62,25 +75,29 @@ glyph_other d = split (nat_lt d 10)
     split true e = omega (arith, e)
     split false e = omega (arith, e)
 
-digits_onto-no_line_feed : (k n : ℕ) (acc : List ℕ) → HasNoLineFeed acc → HasNoLineFeed (digits_onto k 10 false n acc)
+digits_onto-no_line_feed : (k n : ℕ) (acc : List ℕ) → HasNoLineFeed acc
+    → HasNoLineFeed (digits_onto k 10 false n acc)
 digits_onto-no_line_feed zero n acc p = p
 digits_onto-no_line_feed (suc k) n acc p =
     let more = no_line_feed-cons (digit_glyph false (n % 10)) acc (glyph_other (n % 10)) p in
-    choice (n / 10 == 0) _ _ more (digits_onto-no_line_feed k (n / 10) (digit_glyph false (n % 10) ∷ acc) more)
+    choice (n / 10 == 0) _ _ more (digits_onto-no_line_feed k (n / 10)
+    (digit_glyph false (n % 10) ∷ acc) more)
 
 number : (n : ℕ) → HasNoLineFeed (decimal n)
 unfolding digits
 number n = digits_onto-no_line_feed 64 n [] refl
 
 -- no item of such bytes is a newline, nor is what stands for none
-slice_index-no_line_feed : (xs : List ℕ) (i : ℕ) → HasNoLineFeed xs → not (slice_index xs i == 10) ≡ true
+slice_index-no_line_feed : (xs : List ℕ) (i : ℕ) → HasNoLineFeed xs → not (slice_index xs i == 10)
+    ≡ true
 slice_index-no_line_feed [] i p = refl
 slice_index-no_line_feed (x ∷ xs) zero p = first (not (x == 10)) (is_unbroken xs) p
   where
     first : (a b : Bool) → (a && b) ≡ true → a ≡ true
     first true b e = refl
     first false b e = e
-slice_index-no_line_feed (x ∷ xs) (suc i) p = slice_index-no_line_feed xs i (rest (not (x == 10)) (is_unbroken xs) p)
+slice_index-no_line_feed (x ∷ xs) (suc i) p =
+    slice_index-no_line_feed xs i (rest (not (x == 10)) (is_unbroken xs) p)
   where
     rest : (a b : Bool) → (a && b) ≡ true → b ≡ true
     rest true b e = e
@@ -89,7 +106,10 @@ slice_index-no_line_feed (x ∷ xs) (suc i) p = slice_index-no_line_feed xs i (r
 encoded : (table bytes : List ℕ) → HasNoLineFeed table → HasNoLineFeed (encode_with table bytes)
 unfolding encode_with
 encoded table [] p = refl
-encoded table (b ∷ bytes) p = ap₂ (λ (x y : Bool). x && y) (slice_index-no_line_feed table (b / 16) p) (ap₂ (λ (x y : Bool). x && y) (slice_index-no_line_feed table (b % 16) p) (encoded table bytes p))
+encoded table (b ∷ bytes) p = ap₂ (λ (x y : Bool). x && y)
+    (slice_index-no_line_feed table (b / 16) p)
+    (ap₂ (λ (x y : Bool). x && y) (slice_index-no_line_feed table (b % 16) p)
+    (encoded table bytes p))
 
 lower : (bytes : List ℕ) → HasNoLineFeed (encode_with lower_digits bytes)
 lower bytes = encoded lower_digits bytes refl
@@ -101,7 +121,8 @@ path : (numbers : List ℕ) → HasNoLineFeed (path_text numbers)
 unfolding path_text
 path [] = refl
 path (n ∷ []) = one_no_line_feed (48 + n) (λ e. omega (arith, e))
-path (n ∷ m ∷ ns) = no_line_feed-cons (48 + n) (46 ∷ path_text (m ∷ ns)) (λ e. omega (arith, e)) (path (m ∷ ns))
+path (n ∷ m ∷ ns) = no_line_feed-cons (48 + n) (46 ∷ path_text (m ∷ ns)) (λ e. omega (arith, e))
+    (path (m ∷ ns))
 
 -- Art
 
@@ -117,36 +138,50 @@ branch_unbroken Lines false = refl
 branch_unbroken Ascii true = refl
 branch_unbroken Ascii false = refl
 
-trunks_unbroken : (style : Style) (path : List ℕ) (behind : Entries) (levels : ℕ) → HasNoLineFeed (trunks style path behind levels)
+trunks_unbroken : (style : Style) (path : List ℕ) (behind : Entries) (levels : ℕ)
+    → HasNoLineFeed (trunks style path behind levels)
 trunks_unbroken style path behind zero = refl
-trunks_unbroken style path behind (suc level) = no_line_feed-append (trunks style path behind level) _ (trunks_unbroken style path behind level) (trunk_unbroken style (goes_on path level behind))
+trunks_unbroken style path behind (suc level) = no_line_feed-append (trunks style path behind level)
+    _ (trunks_unbroken style path behind level) (trunk_unbroken style (goes_on path level behind))
 
-art_unbroken : (style : Style) (path : List ℕ) (behind : Entries) → HasNoLineFeed (art style path behind)
+art_unbroken : (style : Style) (path : List ℕ) (behind : Entries)
+    → HasNoLineFeed (art style path behind)
 unfolding art
 art_unbroken style path behind =
     let level = length path - 1 in
-    no_line_feed-append (trunks style path behind level) (branch style (goes_on path level behind)) (trunks_unbroken style path behind level) (branch_unbroken style (goes_on path level behind))
+    no_line_feed-append (trunks style path behind level) (branch style (goes_on path level behind))
+    (trunks_unbroken style path behind level)
+    (branch_unbroken style (goes_on path level behind))
 
 gap_unbroken : (levels : ℕ) → HasNoLineFeed (gap levels)
 gap_unbroken zero = refl
-gap_unbroken (suc levels) = no_line_feed-append (gap levels) (codes "     ") (gap_unbroken levels) refl
+gap_unbroken (suc levels) = no_line_feed-append (gap levels) (codes "     ") (gap_unbroken levels)
+    refl
 
 -- Strings
 
-branches : (b : Bool) (xs ys : List ℕ) → HasNoLineFeed xs → HasNoLineFeed ys → HasNoLineFeed (cond b xs ys)
+branches : (b : Bool) (xs ys : List ℕ) → HasNoLineFeed xs → HasNoLineFeed ys
+    → HasNoLineFeed (cond b xs ys)
 branches true xs ys p q = p
 branches false xs ys p q = q
 
-no_line_feed_each : (xs : List ℕ) → ((k : ℕ) → k < length xs → get_or xs k 0 ≢ 10) → HasNoLineFeed xs
+no_line_feed_each : (xs : List ℕ) → ((k : ℕ) → k < length xs → get_or xs k 0 ≢ 10)
+    → HasNoLineFeed xs
 no_line_feed_each [] h = refl
-no_line_feed_each (x ∷ xs) h = no_line_feed-cons x xs (h 0 (omega arith)) (no_line_feed_each xs (λ k lt. h (suc k) (omega (arith, lt))))
+no_line_feed_each (x ∷ xs) h = no_line_feed-cons x xs (h 0 (omega arith))
+    (no_line_feed_each xs (λ k lt. h (suc k) (omega (arith, lt))))
 
 -- a byte below 128 is a character of its own
 utf8 : (c : ℕ) → c ≢ 10 → HasNoLineFeed (encode_utf8 c)
-utf8 c differs = no_line_feed_each (encode_utf8 c) (λ k lt e. differs (inside_one c [] (encode_utf8 c) k (sym (append-nil (encode_utf8 c))) lt (omega (arith, e)) ∙ e))
+utf8 c differs = no_line_feed_each (encode_utf8 c)
+    (λ k lt e. differs (inside_one c [] (encode_utf8 c) k (sym (append-nil (encode_utf8 c))) lt
+    (omega (arith, e)) ∙ e))
 
 escaped : (high low : ℕ) → HasNoLineFeed (escaped_text high low)
-escaped high low = no_line_feed-append (codes "\\u" ++ encode_with upper_digits (high ∷ [])) (encode_with upper_digits (low ∷ [])) (no_line_feed-append (codes "\\u") (encode_with upper_digits (high ∷ [])) refl (upper (high ∷ []))) (upper (low ∷ []))
+escaped high low = no_line_feed-append (codes "\\u" ++ encode_with upper_digits (high ∷ []))
+    (encode_with upper_digits (low ∷ []))
+    (no_line_feed-append (codes "\\u") (encode_with upper_digits (high ∷ [])) refl
+    (upper (high ∷ []))) (upper (low ∷ []))
 
 shown_other : (c : ℕ) → is_shown c ≡ true → c ≢ 10
 shown_other c p e = cc (subst (λ x. is_shown x ≡ true) e p)
@@ -158,7 +193,8 @@ char_or_escaped : (o : Option ℕ) (u : ℕ) → HasNoLineFeed (shown_or_escaped
 char_or_escaped None u = escaped (u / 256) (u % 256)
 char_or_escaped (Some c) u = split (is_shown c) refl
   where
-    split : (b : Bool) → is_shown c ≡ b → HasNoLineFeed (if b then encode_utf8 c else escaped_text (u / 256) (u % 256))
+    split : (b : Bool) → is_shown c ≡ b
+        → HasNoLineFeed (if b then encode_utf8 c else escaped_text (u / 256) (u % 256))
     split true e = utf8 c (shown_other c e)
     split false e = escaped (u / 256) (u % 256)
 
@@ -168,29 +204,35 @@ units_unbroken [] = refl
 units_unbroken (u ∷ []) = char_or_escaped (lone_unit_char u) u
 units_unbroken (u ∷ v ∷ us) =
     branches (is_pair u v) _ _
-    (no_line_feed-append (encode_utf8 (surrogate_pair_char u v)) (shown_units us) (utf8 (surrogate_pair_char u v) (λ e. omega (arith, e))) (units_unbroken us))
-    (no_line_feed-append (shown_unit u) (shown_units (v ∷ us)) (char_or_escaped (lone_unit_char u) u) (units_unbroken (v ∷ us)))
+    (no_line_feed-append (encode_utf8 (surrogate_pair_char u v)) (shown_units us)
+    (utf8 (surrogate_pair_char u v) (λ e. omega (arith, e))) (units_unbroken us))
+    (no_line_feed-append (shown_unit u) (shown_units (v ∷ us))
+    (char_or_escaped (lone_unit_char u) u) (units_unbroken (v ∷ us)))
 
 plain_unit : (u : ℕ) → HasNoLineFeed (unit_text u)
 plain_unit u = split (is_plain_unit u) refl
   where
-    split : (b : Bool) → is_plain_unit u ≡ b → HasNoLineFeed (if b then u ∷ [] else escaped_text (u / 256) (u % 256))
+    split : (b : Bool) → is_plain_unit u ≡ b
+        → HasNoLineFeed (if b then u ∷ [] else escaped_text (u / 256) (u % 256))
     split true e = one_no_line_feed u (plain_other u e)
     split false e = escaped (u / 256) (u % 256)
 
 plain_units : (units : List ℕ) → HasNoLineFeed (flat_map unit_text units)
 plain_units [] = refl
-plain_units (u ∷ us) = no_line_feed-append (unit_text u) (flat_map unit_text us) (plain_unit u) (plain_units us)
+plain_units (u ∷ us) = no_line_feed-append (unit_text u) (flat_map unit_text us) (plain_unit u)
+    (plain_units us)
 
 string : (style : Style) (units : List ℕ) → HasNoLineFeed (string_text style units)
 string Lines units = units_unbroken units
 string Ascii units = plain_units units
 
-labelled : (style : Style) (label : List ℕ) (units : Option (List ℕ)) → HasNoLineFeed label → HasNoLineFeed (labelled_text style label units)
+labelled : (style : Style) (label : List ℕ) (units : Option (List ℕ)) → HasNoLineFeed label
+    → HasNoLineFeed (labelled_text style label units)
 labelled style label None p = refl
 labelled style label (Some units) p =
     no_line_feed-append (label ++ codes "\"" ++ string_text style units) (codes "\"")
-    (no_line_feed-append (label ++ codes "\"") (string_text style units) (no_line_feed-append label (codes "\"") p refl) (string style units)) refl
+    (no_line_feed-append (label ++ codes "\"") (string_text style units)
+    (no_line_feed-append label (codes "\"") p refl) (string style units)) refl
 
 -- Classes
 
@@ -198,50 +240,69 @@ abbrev IsWordOrNone : Option (List ℕ) → Type 0
 IsWordOrNone None = Unit {0}
 IsWordOrNone (Some word) = HasNoLineFeed word
 
-words : (b : Bool) (x y : Option (List ℕ)) → IsWordOrNone x → IsWordOrNone y → IsWordOrNone (cond b x y)
+words : (b : Bool) (x y : Option (List ℕ)) → IsWordOrNone x → IsWordOrNone y
+    → IsWordOrNone (cond b x y)
 words true x y p q = p
 words false x y p q = q
 
 hid : (c : ClassCodes) → HasNoLineFeed (hid_word c)
-hid c = branches (c.subclass == 1 && c.protocol == 1) _ _ refl (branches (c.subclass == 1 && c.protocol == 2) _ _ refl refl)
+hid c = branches (c.subclass == 1 && c.protocol == 1) _ _ refl
+    (branches (c.subclass == 1 && c.protocol == 2) _ _ refl refl)
 
 class_is_word : (c : ClassCodes) → IsWordOrNone (class_word c)
 unfolding class_word
 class_is_word c =
-    words (c.class == 0x01) _ _ refl (words (c.class == 0x02) _ _ refl (words (c.class == 0x03) _ _ (hid c) (words (c.class == 0x05) _ _ refl (words (c.class == 0x06) _ _ refl
-    (words (c.class == 0x07) _ _ refl (words (c.class == 0x08) _ _ refl (words (c.class == 0x09) _ _ refl (words (c.class == 0x0A) _ _ refl (words (c.class == 0x0B) _ _ refl
-    (words (c.class == 0x0D) _ _ refl (words (c.class == 0x0E) _ _ refl (words (c.class == 0x0F) _ _ refl (words (c.class == 0xDC) _ _ refl (words (c.class == 0xE0) _ _ refl
-    (words (c.class == 0xEF) _ _ refl (words (c.class == 0xFE) _ _ refl (words (c.class == 0xFF) _ _ refl tt)))))))))))))))))
+    words (c.class == 0x01) _ _ refl (words (c.class == 0x02) _ _ refl
+    (words (c.class == 0x03) _ _ (hid c)
+    (words (c.class == 0x05) _ _ refl (words (c.class == 0x06) _ _ refl
+    (words (c.class == 0x07) _ _ refl (words (c.class == 0x08) _ _ refl
+    (words (c.class == 0x09) _ _ refl
+    (words (c.class == 0x0A) _ _ refl (words (c.class == 0x0B) _ _ refl
+    (words (c.class == 0x0D) _ _ refl (words (c.class == 0x0E) _ _ refl
+    (words (c.class == 0x0F) _ _ refl
+    (words (c.class == 0xDC) _ _ refl (words (c.class == 0xE0) _ _ refl
+    (words (c.class == 0xEF) _ _ refl (words (c.class == 0xFE) _ _ refl
+    (words (c.class == 0xFF) _ _ refl tt)))))))))))))))))
 
-word_unbroken : (word : Option (List ℕ)) (class : ℕ) → IsWordOrNone word → HasNoLineFeed (word_or_number word class)
+word_unbroken : (word : Option (List ℕ)) (class : ℕ) → IsWordOrNone word
+    → HasNoLineFeed (word_or_number word class)
 word_unbroken (Some word) class p = p
-word_unbroken None class p = no_line_feed-append (codes "class ") (encode_with lower_digits (class ∷ [])) refl (lower (class ∷ []))
+word_unbroken None class p = no_line_feed-append (codes "class ")
+    (encode_with lower_digits (class ∷ [])) refl (lower (class ∷ []))
 
 class_unbroken : (c : ClassCodes) → HasNoLineFeed (class_text c)
 class_unbroken c = word_unbroken (class_word c) c.class (class_is_word c)
 
 ports : (hub : Option HubFacts) → HasNoLineFeed (ports_text hub)
 ports None = refl
-ports (Some facts) = branches (facts.ports == 1) _ _ refl (no_line_feed-append (codes ", " ++ decimal facts.ports) (codes " ports") (no_line_feed-append (codes ", ") (decimal facts.ports) refl (number facts.ports)) refl)
+ports (Some facts) = branches (facts.ports == 1) _ _ refl
+    (no_line_feed-append (codes ", " ++ decimal facts.ports) (codes " ports")
+    (no_line_feed-append (codes ", ") (decimal facts.ports) refl (number facts.ports)) refl)
 
 -- What was found
 
 address_unbroken : (address : ℕ) → HasNoLineFeed (address_column address)
 address_unbroken address =
-    no_line_feed-append (codes "address " ++ decimal address) _ (no_line_feed-append (codes "address ") (decimal address) refl (number address))
+    no_line_feed-append (codes "address " ++ decimal address) _
+    (no_line_feed-append (codes "address ") (decimal address) refl (number address))
     (branches (nat_lt address 10) _ _ refl (branches (nat_lt address 100) _ _ refl refl))
 
 ids_unbroken : (bytes : List ℕ) → HasNoLineFeed (ids_text bytes)
 ids_unbroken bytes =
     no_line_feed-append (word_digits bytes 8 ++ codes ":" ++ word_digits bytes 10) (codes " ")
-    (no_line_feed-append (word_digits bytes 8 ++ codes ":") (word_digits bytes 10) (no_line_feed-append (word_digits bytes 8) (codes ":") (lower _) refl) (lower _)) refl
+    (no_line_feed-append (word_digits bytes 8 ++ codes ":") (word_digits bytes 10)
+    (no_line_feed-append (word_digits bytes 8) (codes ":") (lower _) refl) (lower _)) refl
 
 power_unbroken : (granted : Option ℕ) (drawn : ℕ) → HasNoLineFeed (power_text granted drawn)
-power_unbroken None drawn = no_line_feed-append (codes "  " ++ decimal drawn) (codes " mA") (no_line_feed-append (codes "  ") (decimal drawn) refl (number drawn)) refl
+power_unbroken None drawn = no_line_feed-append (codes "  " ++ decimal drawn) (codes " mA")
+    (no_line_feed-append (codes "  ") (decimal drawn) refl (number drawn)) refl
 power_unbroken (Some granted) drawn =
-    no_line_feed-append (codes "  " ++ decimal drawn ++ codes " of " ++ decimal granted) (codes " mA")
+    no_line_feed-append (codes "  " ++ decimal drawn ++ codes " of " ++ decimal granted)
+    (codes " mA")
     (no_line_feed-append (codes "  " ++ decimal drawn ++ codes " of ") (decimal granted)
-    (no_line_feed-append (codes "  " ++ decimal drawn) (codes " of ") (no_line_feed-append (codes "  ") (decimal drawn) refl (number drawn)) refl) (number granted)) refl
+    (no_line_feed-append (codes "  " ++ decimal drawn) (codes " of ")
+    (no_line_feed-append (codes "  ") (decimal drawn) refl (number drawn)) refl)
+    (number granted)) refl
 
 identity_unbroken : (d : Accepted) → HasNoLineFeed (identity_text d)
 unfolding identity_text
@@ -253,7 +314,8 @@ identity_unbroken d =
     no_line_feed-append (address ++ speed ++ ids ++ class) (ports_text d.hub)
     (no_line_feed-append (address ++ speed ++ ids) class
     (no_line_feed-append (address ++ speed) ids
-    (no_line_feed-append address speed (address_unbroken d.address) (branches d.low (codes "low   ") (codes "full  ") refl refl))
+    (no_line_feed-append address speed (address_unbroken d.address)
+    (branches d.low (codes "low   ") (codes "full  ") refl refl))
     (ids_unbroken d.bytes))
     (class_unbroken (codes_of d)))
     (ports d.hub)
@@ -263,14 +325,20 @@ unfolding strings_text
 strings_unbroken style strings =
     let product = labelled_text style (codes " ") strings.product in
     let maker = labelled_text style (codes " by ") strings.manufacturer in
-    no_line_feed-append (product ++ maker) (labelled_text style (codes " serial ") strings.serial_number)
-    (no_line_feed-append product maker (labelled style (codes " ") strings.product refl) (labelled style (codes " by ") strings.manufacturer refl))
+    no_line_feed-append (product ++ maker)
+    (labelled_text style (codes " serial ") strings.serial_number)
+    (no_line_feed-append product maker (labelled style (codes " ") strings.product refl)
+    (labelled style (codes " by ") strings.manufacturer refl))
     (labelled style (codes " serial ") strings.serial_number refl)
 
-device_unbroken : (style : Style) (granted : Option ℕ) (d : Accepted) → HasNoLineFeed (device_text style granted d)
+device_unbroken : (style : Style) (granted : Option ℕ) (d : Accepted)
+    → HasNoLineFeed (device_text style granted d)
 device_unbroken style granted d =
-    no_line_feed-append (identity_text d ++ strings_text style d.strings) (power_text granted (need_of (configuration_of d)))
-    (no_line_feed-append (identity_text d) (strings_text style d.strings) (identity_unbroken d) (strings_unbroken style d.strings)) (power_unbroken granted (need_of (configuration_of d)))
+    no_line_feed-append (identity_text d ++ strings_text style d.strings)
+    (power_text granted (need_of (configuration_of d)))
+    (no_line_feed-append (identity_text d) (strings_text style d.strings) (identity_unbroken d)
+    (strings_unbroken style d.strings))
+    (power_unbroken granted (need_of (configuration_of d)))
 
 stall_unbroken : (r : Request) → HasNoLineFeed (stall_words r)
 stall_unbroken request.Device = refl
@@ -292,7 +360,8 @@ words_unbroken NoAddress = refl
 
 supply_unbroken : (granted : Option ℕ) → HasNoLineFeed (supply_text granted)
 supply_unbroken None = refl
-supply_unbroken (Some granted) = no_line_feed-append (codes ", " ++ decimal granted) (codes " mA") (no_line_feed-append (codes ", ") (decimal granted) refl (number granted)) refl
+supply_unbroken (Some granted) = no_line_feed-append (codes ", " ++ decimal granted) (codes " mA")
+    (no_line_feed-append (codes ", ") (decimal granted) refl (number granted)) refl
 
 number_unbroken : (granted : Option ℕ) (cause : Cause) → HasNoLineFeed (cause_number granted cause)
 number_unbroken granted Silent = refl
@@ -306,14 +375,18 @@ number_unbroken granted BadHub = refl
 number_unbroken granted Lost = refl
 number_unbroken granted NoAddress = refl
 
-finding_unbroken : (style : Style) (granted : Option ℕ) (finding : Finding) → HasNoLineFeed (finding_text style granted finding)
+finding_unbroken : (style : Style) (granted : Option ℕ) (finding : Finding)
+    → HasNoLineFeed (finding_text style granted finding)
 finding_unbroken style granted (Device d) = device_unbroken style granted d
 finding_unbroken style granted (Refused cause) =
-    no_line_feed-append (codes "refused: " ++ cause_words cause) (cause_number granted cause) (no_line_feed-append (codes "refused: ") (cause_words cause) refl (words_unbroken cause)) (number_unbroken granted cause)
+    no_line_feed-append (codes "refused: " ++ cause_words cause) (cause_number granted cause)
+    (no_line_feed-append (codes "refused: ") (cause_words cause) refl (words_unbroken cause))
+    (number_unbroken granted cause)
 
 -- Lines
 
-entry_one_line : (style : Style) (most : ℕ) (granted : Option ℕ) (e : List ℕ × Finding) (behind : Entries) → IsOneLine (entry_line style most granted e behind)
+entry_one_line : (style : Style) (most : ℕ) (granted : Option ℕ) (e : List ℕ × Finding)
+    (behind : Entries) → IsOneLine (entry_line style most granted e behind)
 unfolding entry_line
 entry_one_line style most granted e behind =
     let a = art style e.0 behind in
@@ -323,22 +396,43 @@ entry_one_line style most granted e behind =
     record {
       front = a ++ p ++ g ++ codes "  " ++ f;
       ends = refl;
-      whole = no_line_feed-append (a ++ p ++ g ++ codes "  ") f (no_line_feed-append (a ++ p ++ g) (codes "  ") (no_line_feed-append (a ++ p) g (no_line_feed-append a p (art_unbroken style e.0 behind) (path e.0)) (gap_unbroken (most - length e.0))) refl) (finding_unbroken style granted e.1);
+      whole = no_line_feed-append (a ++ p ++ g ++ codes "  ") f
+          (no_line_feed-append (a ++ p ++ g) (codes "  ")
+          (no_line_feed-append (a ++ p) g (no_line_feed-append a p (art_unbroken style e.0 behind)
+          (path e.0)) (gap_unbroken (most - length e.0))) refl)
+          (finding_unbroken style granted e.1);
     }
 
-entries_one_line : (style : Style) (most : ℕ) (all entries : Entries) → AllByRecursion IsOneLine (drawn_entries style most all entries)
+entries_one_line : (style : Style) (most : ℕ) (all entries : Entries)
+    → AllByRecursion IsOneLine (drawn_entries style most all entries)
 entries_one_line style most all [] = tt
-entries_one_line style most all (e ∷ behind) = (entry_one_line style most (granted_at e.0 all) e behind, entries_one_line style most all behind)
+entries_one_line style most all (e ∷ behind) = (
+  entry_one_line style most (granted_at e.0 all) e behind,
+  entries_one_line style most all
+      behind,
+)
 
 heading_one_line : (n : ℕ) (entries : Entries) → IsOneLine (heading n entries)
 unfolding heading
 heading_one_line n [] = record {
   front = codes "listing " ++ decimal n ++ codes ": no devices";
   ends = sym (append_assoc (codes "listing " ++ decimal n) (codes ": no devices") (10 ∷ []));
-  whole = no_line_feed-append (codes "listing " ++ decimal n) (codes ": no devices") (no_line_feed-append (codes "listing ") (decimal n) refl (number n)) refl;
+  whole = no_line_feed-append (codes "listing " ++ decimal n) (codes ": no devices")
+      (no_line_feed-append (codes "listing ") (decimal n) refl (number n)) refl;
 }
-heading_one_line n (e ∷ entries) = record { front = codes "listing " ++ decimal n; ends = refl; whole = no_line_feed-append (codes "listing ") (decimal n) refl (number n) }
+heading_one_line n (e ∷ entries) = record {
+  front = codes "listing " ++ decimal n;
+  ends = refl;
+  whole = no_line_feed-append (codes "listing ") (decimal n) refl (number n);
+}
 
-pub drawing_lines-one_line : (style : Style) (n : ℕ) (entries : Entries) → All IsOneLine (drawing_lines style n entries)
+pub drawing_lines-one_line : (style : Style) (n : ℕ) (entries : Entries)
+    → All IsOneLine (drawing_lines style n entries)
 unfolding drawing_lines
-drawing_lines-one_line style n entries = All-from_recursion IsOneLine (heading n entries ∷ drawn_entries style (deepest entries) entries entries) (heading_one_line n entries, entries_one_line style (deepest entries) entries entries)
+drawing_lines-one_line style n entries =
+    All-from_recursion IsOneLine (heading n entries ∷ drawn_entries style (deepest entries) entries
+    entries) (
+      heading_one_line n entries,
+      entries_one_line style (deepest entries) entries
+          entries,
+    )

@@ -1,8 +1,11 @@
 -- What the line of an entry says of what was found there.
-use Rattle.std.specs.Prelude.{ℕ, List, [], ◌∷◌, ◌++◌, Bool, Option, None, Some, nat_lt, codes, decimal, if◌then◌else◌, slice_index, ◌+◌}
+use Rattle.std.specs.Prelude.{ℕ, List, [], ◌∷◌, ◌++◌, Bool, Option, None, Some, nat_lt, codes}
+use Rattle.std.specs.Prelude.{decimal, if◌then◌else◌, slice_index, ◌+◌}
 use Rattle.hex.specs.Hex.{encode_lower}
 use Rattle.usb_enum.specs.declared.cause.Cause.{Cause}
-use Rattle.usb_enum.specs.declared.cause.Cause.TheVariants.{Silent, Busy, Stalled, BadDevice, TooDeep, BadConfiguration, NoPower, BadHub, Lost, NoAddress}
+use Rattle.usb_enum.specs.declared.cause.Cause.TheVariants.{Silent, Busy, Stalled, BadDevice}
+use Rattle.usb_enum.specs.declared.cause.Cause.TheVariants.{TooDeep, BadConfiguration, NoPower}
+use Rattle.usb_enum.specs.declared.cause.Cause.TheVariants.{BadHub, Lost, NoAddress}
 use Rattle.usb_enum.specs.declared.cause.Request.{Request}
 use Rattle.usb_enum.specs.declared.cause.Request.TheVariants as request
 use Rattle.usb_enum.specs.declared.finding.Accepted.{Accepted}
@@ -18,7 +21,9 @@ use Rattle.usb_drawing.specs.Texts.{labelled_text}
 
 -- an address, with blanks up to three digits
 abbrev pub address_column : ℕ → List ℕ
-address_column address = codes "address " ++ decimal address ++ (if nat_lt address 10 then codes "    " else if nat_lt address 100 then codes "   " else codes "  ")
+address_column address = codes "address " ++ decimal address ++
+    (if nat_lt address 10 then codes "    " else if nat_lt address 100 then codes "   " else codes
+    "  ")
 
 abbrev pub speed_column : Bool → List ℕ
 speed_column low = if low then codes "low   " else codes "full  "
@@ -34,11 +39,13 @@ ids_text bytes = word_digits bytes 8 ++ codes ":" ++ word_digits bytes 10 ++ cod
 -- what the chosen configuration draws, of what the port gives where that is known
 abbrev pub power_text : Option ℕ → ℕ → List ℕ
 power_text None drawn = codes "  " ++ decimal drawn ++ codes " mA"
-power_text (Some granted) drawn = codes "  " ++ decimal drawn ++ codes " of " ++ decimal granted ++ codes " mA"
+power_text (Some granted) drawn = codes "  " ++ decimal drawn ++ codes " of " ++ decimal granted ++
+    codes " mA"
 
 -- address, speed, vendor and product, class
 unfoldable pub identity_text : Accepted → List ℕ
-identity_text d = address_column d.address ++ speed_column d.low ++ ids_text d.bytes ++ class_text (codes_of d) ++ ports_text d.hub
+identity_text d = address_column d.address ++ speed_column d.low ++ ids_text d.bytes ++ class_text
+    (codes_of d) ++ ports_text d.hub
 
 -- the strings that there are, each behind its label
 unfoldable pub strings_text : Style → Strings → List ℕ
@@ -48,7 +55,8 @@ strings_text style strings =
     ++ labelled_text style (codes " serial ") strings.serial_number
 
 abbrev pub device_text : Style → Option ℕ → Accepted → List ℕ
-device_text style granted d = identity_text d ++ strings_text style d.strings ++ power_text granted (need_of (configuration_of d))
+device_text style granted d = identity_text d ++ strings_text style d.strings ++ power_text granted
+    (need_of (configuration_of d))
 
 abbrev pub stall_words : Request → List ℕ
 stall_words request.Device = codes "stalls the request for its device descriptor"

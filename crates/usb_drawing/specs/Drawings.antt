@@ -1,5 +1,7 @@
 -- The lines of a drawn listing, each with its newline: one for each entry.
-use Rattle.std.specs.Prelude.{◌≡◌, ℕ, zero, suc, ◌-◌, Bool, true, false, not, ◌==◌, max, List, [], ◌∷◌, ◌++◌, length, Option, None, Some, codes, decimal, nat_eq, if◌then◌else◌}
+use Rattle.std.specs.Prelude.{◌≡◌, ℕ, zero, suc, ◌-◌, Bool, true, false, not, ◌==◌, max, List, []}
+use Rattle.std.specs.Prelude.{◌∷◌, ◌++◌, length, Option, None, Some, codes, decimal, nat_eq}
+use Rattle.std.specs.Prelude.{if◌then◌else◌}
 use Rattle.std.specs.List.{list_all}
 use Rattle.std.specs.Cmp.Lexicographic.{pointwise}
 use Rattle.usb_port.specs.Order.{parent_of}
@@ -25,7 +27,8 @@ finding_supply (Refused cause) = None
 -- what each port of the hub at a path gives
 abbrev pub listed_supply : List ℕ → Entries → Option ℕ
 listed_supply hub [] = None
-listed_supply hub (entry ∷ entries) = if pointwise nat_eq entry.0 hub then finding_supply entry.1 else listed_supply hub entries
+listed_supply hub (entry ∷ entries) = if pointwise nat_eq entry.0 hub then finding_supply entry.1
+    else listed_supply hub entries
 
 abbrev pub supply_from : Option (List ℕ) → Entries → Option ℕ
 supply_from None entries = Some (supply_of true false)
@@ -40,7 +43,8 @@ abbrev pub deepest : Entries → ℕ
 deepest [] = 0
 deepest (entry ∷ entries) = max (length entry.0) (deepest entries)
 
--- the blanks behind the path of an entry that stands so many levels above the deepest: three of art, a dot and a digit each
+-- the blanks behind the path of an entry that stands so many levels above the deepest: three of
+-- art, a dot and a digit each
 abbrev pub gap : ℕ → List ℕ
 gap zero = []
 gap (suc levels) = gap levels ++ codes "     "
@@ -48,12 +52,14 @@ gap (suc levels) = gap levels ++ codes "     "
 -- art, path, and what was found there; the entries behind it are given
 unfoldable pub entry_line : Style → ℕ → Option ℕ → List ℕ × Finding → Entries → List ℕ
 entry_line style most granted entry behind =
-    art style entry.0 behind ++ path_text entry.0 ++ gap (most - length entry.0) ++ codes "  " ++ finding_text style granted entry.1 ++ codes "\n"
+    art style entry.0 behind ++ path_text entry.0 ++ gap (most - length entry.0) ++ codes "  " ++
+    finding_text style granted entry.1 ++ codes "\n"
 
 -- a line for each of the entries, which are the last ones of a listing
 abbrev pub drawn_entries : Style → ℕ → Entries → Entries → List (List ℕ)
 drawn_entries style most all [] = []
-drawn_entries style most all (entry ∷ behind) = entry_line style most (granted_at entry.0 all) entry behind ∷ drawn_entries style most all behind
+drawn_entries style most all (entry ∷ behind) = entry_line style most (granted_at entry.0 all) entry
+    behind ∷ drawn_entries style most all behind
 
 -- what stands behind the number of a listing
 abbrev pub heading_end : Entries → List ℕ
@@ -65,7 +71,8 @@ heading number entries = codes "listing " ++ decimal number ++ heading_end entri
 
 -- the heading, and a line for each entry by rising path
 unfoldable pub drawing_lines : Style → ℕ → Entries → List (List ℕ)
-drawing_lines style number entries = heading number entries ∷ drawn_entries style (deepest entries) entries entries
+drawing_lines style number entries = heading number entries ∷ drawn_entries style (deepest entries)
+    entries entries
 
 -- bytes among which is no newline
 abbrev pub is_unbroken : List ℕ → Bool

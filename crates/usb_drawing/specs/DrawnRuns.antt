@@ -1,5 +1,6 @@
 -- What drawing a plan's run wrote.
-use Rattle.std.specs.Prelude.{◌≡◌, ◌≢◌, ◌⊎◌, ℕ, List, [], ◌∷◌, ◌++◌, Option, Bool, true, false, Result, Ok, Err, IfErr, IfSome, IsErrOf}
+use Rattle.std.specs.Prelude.{◌≡◌, ◌≢◌, ◌⊎◌, ℕ, List, [], ◌∷◌, ◌++◌, Option, Bool, true, false}
+use Rattle.std.specs.Prelude.{Result, Ok, Err, IfErr, IfSome, IsErrOf}
 use Rattle.std.specs.Io.KnownBytes.{Appends}
 use Rattle.std.specs.List.{concat}
 use Rattle.usb_world.specs.PlanData.{PlanData}
@@ -37,18 +38,24 @@ unfoldable pub drawn_items : Style → List Item → List ℕ
 drawn_items style [] = []
 drawn_items style (item ∷ items) = drawn_items style items ++ drawn_item style items item
 
--- all items that were made are drawn, but for the last one where memory was refused for it; a front of that where the writer failed
-abbrev pub DrawnText : Style → List Item → Option (List ℕ) → Result (Unit {0}) ServeFault → Option (List ℕ) → Type 0
+-- all items that were made are drawn, but for the last one where memory was refused for it; a front
+-- of that where the writer failed
+abbrev pub DrawnText : Style → List Item → Option (List ℕ) → Result (Unit {0}) ServeFault
+    → Option (List ℕ) → Type 0
 DrawnText style items before (Ok done) now = Appends before now (drawn_items style items)
 DrawnText style items before (Err serve.Read) now = ⊥
 DrawnText style items before (Err serve.TooLong) now = ⊥
 DrawnText style items before (Err (serve.Plan fault)) now = ⊥
-DrawnText style items before (Err (serve.Run fault)) now = Appends before now (drawn_items style items)
-DrawnText style items before (Err serve.Write) now = AppendsFront before now (drawn_items style items)
+DrawnText style items before (Err (serve.Run fault)) now =
+    Appends before now (drawn_items style items)
+DrawnText style items before (Err serve.Write) now =
+    AppendsFront before now (drawn_items style items)
 DrawnText style items before (Err serve.Memory) now = Appends before now (drawn_items style items)
 
--- the drawings of a run of a plan, whose trace is thrown away; each of its items is right when it is made
-pub record Drawn (style : Style) (plan : PlanData) (before : Option (List ℕ)) (result : Result (Unit {0}) ServeFault) (now : Option (List ℕ)) : Type 0 where
+-- the drawings of a run of a plan, whose trace is thrown away; each of its items is right when it
+-- is made
+pub record Drawn (style : Style) (plan : PlanData) (before : Option (List ℕ))
+    (result : Result (Unit {0}) ServeFault) (now : Option (List ℕ)) : Type 0 where
   pub thrown : Option (List ℕ)  -- where the trace goes
   pub first : HostState
   pub opens : Opens plan thrown first
@@ -61,13 +68,19 @@ pub record Drawn (style : Style) (plan : PlanData) (before : Option (List ℕ)) 
   pub lists : ListsRight plan items last.world
   pub text : DrawnText style items before result now
 
-abbrev pub RunDrawn : Style → PlanData → Option (List ℕ) → Result (Unit {0}) ServeFault → Option (List ℕ) → Type 0
-RunDrawn style plan before result now = IsUnopened before result now ⊎ Drawn style plan before result now
+abbrev pub RunDrawn : Style → PlanData → Option (List ℕ) → Result (Unit {0}) ServeFault
+    → Option (List ℕ) → Type 0
+RunDrawn style plan before result now = IsUnopened before result now
+    ⊎ Drawn style plan before result now
 
--- what drawing a text wrote: nothing, where no plan was read; else the drawings of a run of the plan that the text spells, and then no fault is the text's or the reader's
-pub data IsDrawn (style : Style) (text before : Option (List ℕ)) (result : Result (Unit {0}) ServeFault) (now : Option (List ℕ)) : Type 0 where
-  unread : (fault : ServeFault) → result ≡ Err fault → IsUnread text fault → now ≡ before → IsDrawn style text before result now
-  of_plan : (plan : PlanData) → IfSome text (λ t. spelled_plan t ≡ Ok plan) → IsOfRun result → RunDrawn style plan before result now → IsDrawn style text before result now
+-- what drawing a text wrote: nothing, where no plan was read; else the drawings of a run of the
+-- plan that the text spells, and then no fault is the text's or the reader's
+pub data IsDrawn (style : Style) (text before : Option (List ℕ))
+    (result : Result (Unit {0}) ServeFault) (now : Option (List ℕ)) : Type 0 where
+  unread : (fault : ServeFault) → result ≡ Err fault → IsUnread text fault → now ≡ before
+      → IsDrawn style text before result now
+  of_plan : (plan : PlanData) → IfSome text (λ t. spelled_plan t ≡ Ok plan) → IsOfRun result
+      → RunDrawn style plan before result now → IsDrawn style text before result now
 
 -- where a writer is told to have failed it has, and else its mark is as it was
 pub record MarksDrawing (result : Result (Unit {0}) ServeFault) (before now : Bool) : Type 0 where

@@ -14,7 +14,8 @@ use usb_serve::{ServeFault, item_lines, next_untraced, number_of, plan_of, write
 use usb_sim::Plan;
 use usb_text::Lines;
 
-/// Reads a plan, runs it, and writes each listing as a tree when it is made, and the line of each transfer between them.
+/// Reads a plan, runs it, and writes each listing as a tree when it is made, and the line of each transfer between
+/// them.
 ///
 /// What is written is the drawings of the items of a run of the plan. Where the run ended early it is all that the run
 /// made so far; where the writer failed it is a front of that.

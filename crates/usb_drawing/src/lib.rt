@@ -1,6 +1,7 @@
 //! Listings drawn as trees, one device a line: what `usbplan draw` writes of a plan's run.
 //!
-//! `draw` reads a plan, runs it, and draws each listing when it is made; `drawing_lines` gives the lines of one listing.
+//! `draw` reads a plan, runs it, and draws each listing when it is made; `drawing_lines` gives the lines of one
+//! listing.
 //!
 //! # What is proved
 //!

@@ -1,12 +1,15 @@
 -- A device as Linux hands it out: its device descriptor, then each configuration whole.
-use Rattle.std.specs.Prelude.{◌≡◌, ◌≢◌, ℕ, ◌+◌, ◌<◌, ◌≤◌, List, [], ◌++◌, length, take, Ok, Err, false, MatchResult}
+use Rattle.std.specs.Prelude.{◌≡◌, ◌≢◌, ℕ, ◌+◌, ◌<◌, ◌≤◌, List, [], ◌++◌, length, take, Ok, Err}
+use Rattle.std.specs.Prelude.{false, MatchResult}
 use Rattle.std.specs.List.{AllByRecursion}
 use Rattle.usb_request.specs.Codes.{DEVICE_LENGTH}
 use Rattle.usb_descriptor.specs.declared.fault.DescriptorFault.{DescriptorFault}
 use Rattle.usb_descriptor.specs.Config.{config_head_of, config_of, joined}
 use Rattle.usb_descriptor.specs.Device.{device_spelled, configuration_count}
 use Rattle.usb_entry.specs.declared.fault.EntryFault.{EntryFault}
-use Rattle.usb_entry.specs.declared.fault.EntryFault.TheVariants.{NoName, Empty, Device, TooMany, Configuration, Missing, LeftOver, Write, Memory}
+use Rattle.usb_entry.specs.declared.fault.EntryFault.TheVariants.{NoName, Empty, Device, TooMany}
+use Rattle.usb_entry.specs.declared.fault.EntryFault.TheVariants.{Configuration, Missing, LeftOver}
+use Rattle.usb_entry.specs.declared.fault.EntryFault.TheVariants.{Write, Memory}
 
 -- the device descriptor, and the configurations by their index
 pub record EntryData : Type 0 where
@@ -43,11 +46,14 @@ pub record FrontConfig (bytes config : List ℕ) : Type 0 where
   pub rest : List ℕ
   pub text : bytes ≡ config ++ rest
 
--- the bytes begin with a configuration that has this fault: of as many bytes as it says, or of all that there are
+-- the bytes begin with a configuration that has this fault: of as many bytes as it says, or of all
+-- that there are
 abbrev pub HasFrontFault : List ℕ → DescriptorFault → Type 0
-HasFrontFault bytes fault = MatchResult (config_head_of bytes) (λ total. config_of (take total bytes) ≡ Err fault) (λ f. fault ≡ f)
+HasFrontFault bytes fault = MatchResult (config_head_of bytes)
+    (λ total. config_of (take total bytes) ≡ Err fault) (λ f. fault ≡ f)
 
--- behind the device descriptor and some of its configurations, up to the offset, the rest does not go on: so many
+-- behind the device descriptor and some of its configurations, up to the offset, the rest does not
+-- go on: so many
 -- configurations are left to come
 pub record BreaksAt (bytes : List ℕ) (offset : ℕ) (Why : ℕ → List ℕ → Type 0) : Type 0 where
   pub device : List ℕ
@@ -66,17 +72,22 @@ pub record BreaksAt (bytes : List ℕ) (offset : ℕ) (Why : ℕ → List ℕ �
 abbrev pub HasEntryFault : List ℕ → EntryFault → Type 0
 HasEntryFault bytes NoName = ⊥
 HasEntryFault bytes Empty = bytes ≡ []
-HasEntryFault bytes (Device fault) = (bytes ≢ []) × (device_spelled false (take DEVICE_LENGTH bytes) ≡ Err fault)
-HasEntryFault bytes TooMany = (device : List ℕ) × (rest : List ℕ) × (bytes ≡ device ++ rest) × IsDescriptor device × (8 < configuration_count device)
-HasEntryFault bytes (Configuration offset fault) = BreaksAt bytes offset (λ left rest. (0 < left) × (rest ≢ []) × HasFrontFault rest fault)
+HasEntryFault bytes (Device fault) = (bytes ≢ [])
+    × (device_spelled false (take DEVICE_LENGTH bytes) ≡ Err fault)
+HasEntryFault bytes TooMany = (device : List ℕ) × (rest : List ℕ) × (bytes ≡ device ++ rest)
+    × IsDescriptor device × (8 < configuration_count device)
+HasEntryFault bytes (Configuration offset fault) = BreaksAt bytes offset (λ left rest. (0 < left)
+    × (rest ≢ []) × HasFrontFault rest fault)
 HasEntryFault bytes (Missing offset) = BreaksAt bytes offset (λ left rest. (0 < left) × (rest ≡ []))
-HasEntryFault bytes (LeftOver offset) = BreaksAt bytes offset (λ left rest. (left ≡ 0) × (rest ≢ []))
+HasEntryFault bytes (LeftOver offset) = BreaksAt bytes offset (λ left rest. (left ≡ 0)
+    × (rest ≢ []))
 HasEntryFault bytes Write = ⊥
 HasEntryFault bytes Memory = Unit {0}
 
 -- why the bytes left at an offset do not begin with a configuration
 abbrev pub NextFault : List ℕ → ℕ → EntryFault → Type 0
-NextFault rest offset (Configuration at fault) = (at ≡ offset) × (rest ≢ []) × HasFrontFault rest fault
+NextFault rest offset (Configuration at fault) = (at ≡ offset) × (rest ≢ [])
+    × HasFrontFault rest fault
 NextFault rest offset (Missing at) = (at ≡ offset) × (rest ≡ [])
 NextFault rest offset NoName = ⊥
 NextFault rest offset Empty = ⊥

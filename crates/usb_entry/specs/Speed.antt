@@ -5,7 +5,8 @@ use Rattle.usb_request.specs.Codes.{HUB_CLASS}
 use Rattle.usb_descriptor.specs.declared.item.Item.{Item}
 use Rattle.usb_descriptor.specs.declared.item.Item.TheVariants.{Interface, Endpoint, Other}
 use Rattle.usb_descriptor.specs.declared.item.TransferType.{TransferType}
-use Rattle.usb_descriptor.specs.declared.item.TransferType.TheVariants.{Control, Isochronous, Bulk, Interrupt}
+use Rattle.usb_descriptor.specs.declared.item.TransferType.TheVariants.{Control, Isochronous, Bulk}
+use Rattle.usb_descriptor.specs.declared.item.TransferType.TheVariants.{Interrupt}
 use Rattle.usb_descriptor.specs.Device.{device_class, max_packet_0}
 use Rattle.usb_descriptor.specs.Item.{items_of, max_packet_size, transfer_of}
 use Rattle.usb_entry.specs.EntryData.{EntryData}
@@ -19,7 +20,8 @@ has_low_speed Interrupt = true
 
 -- and packets of at most 8 bytes (5.5.3, 5.7.3)
 abbrev pub fits_low_speed : List ℕ → Bool
-fits_low_speed endpoint = has_low_speed (transfer_of endpoint) && nat_le (max_packet_size endpoint) 8
+fits_low_speed endpoint = has_low_speed (transfer_of endpoint) && nat_le (max_packet_size endpoint)
+    8
 
 abbrev pub item_fits : Item → Bool
 item_fits (Interface bytes) = true
@@ -34,4 +36,5 @@ configs_fit configs = list_all (λ config. items_fit (items_of config)) configs
 
 -- a device is of low speed where all that it has fits it, and it is no hub (11.1)
 unfoldable pub is_taken_low : EntryData → Bool
-is_taken_low e = max_packet_0 e.device == 8 && not (device_class e.device == HUB_CLASS) && configs_fit e.configs
+is_taken_low e = max_packet_0 e.device == 8 && not (device_class e.device == HUB_CLASS) &&
+    configs_fit e.configs

@@ -1,5 +1,7 @@
 -- The `[[device]]` table of a plan that a device makes, with comments on what its bytes say.
-use Rattle.std.specs.Prelude.{ℕ, ◌+◌, ◌*◌, ◌%◌, ◌==◌, ◌||◌, not, nat_le, nat_lt, Bool, false, List, [], ◌∷◌, ◌++◌, codes, decimal, encode_utf8, flat_map, if◌then◌else◌, slice_index}
+use Rattle.std.specs.Prelude.{ℕ, ◌+◌, ◌*◌, ◌%◌, ◌==◌, ◌||◌, not, nat_le, nat_lt, Bool, false, List}
+use Rattle.std.specs.Prelude.{[], ◌∷◌, ◌++◌, codes, decimal, encode_utf8, flat_map, if◌then◌else◌}
+use Rattle.std.specs.Prelude.{slice_index}
 use Rattle.std.specs.Char.{is_control}
 use Rattle.std.specs.Str.{chars}
 use Rattle.hex.specs.Hex.{encode_lower, encode_upper}
@@ -7,20 +9,25 @@ use Rattle.usb_request.specs.Codes.{HUB_CLASS}
 use Rattle.usb_descriptor.specs.declared.item.Item.{Item}
 use Rattle.usb_descriptor.specs.declared.item.Item.TheVariants.{Interface, Endpoint, Other}
 use Rattle.usb_descriptor.specs.declared.item.TransferType.{TransferType}
-use Rattle.usb_descriptor.specs.declared.item.TransferType.TheVariants.{Control, Isochronous, Bulk, Interrupt}
+use Rattle.usb_descriptor.specs.declared.item.TransferType.TheVariants.{Control, Isochronous, Bulk}
+use Rattle.usb_descriptor.specs.declared.item.TransferType.TheVariants.{Interrupt}
 use Rattle.usb_descriptor.specs.Choice.{is_bulk_size, packet_size}
 use Rattle.usb_descriptor.specs.Config.{configuration_value, max_power_of}
 use Rattle.usb_descriptor.specs.Device.{device_class}
-use Rattle.usb_descriptor.specs.Item.{endpoint_number, is_in, items_of, max_packet_size, transfer_of}
+use Rattle.usb_descriptor.specs.Item.{endpoint_number, is_in, items_of, max_packet_size}
+use Rattle.usb_descriptor.specs.Item.{transfer_of}
 use Rattle.usb_class.specs.declared.class.ClassCodes.{ClassCodes}
-use Rattle.usb_class.specs.Classes.{class_text, device_codes, first_codes, interface_codes, no_codes}
+use Rattle.usb_class.specs.Classes.{class_text, device_codes, first_codes, interface_codes}
+use Rattle.usb_class.specs.Classes.{no_codes}
 use Rattle.usb_entry.specs.EntryData.{EntryData}
 use Rattle.usb_entry.specs.Speed.{is_taken_low}
 
--- a character of a basic string of TOML 1.0: a quotation mark and a backslash behind a backslash, a control character as
+-- a character of a basic string of TOML 1.0: a quotation mark and a backslash behind a backslash, a
+-- control character as
 -- \u and its number, any other as it is
 abbrev pub char_text : ℕ → List ℕ
-char_text c = if c == 34 || c == 92 then 92 ∷ c ∷ [] else if is_control c then codes "\\u00" ++ encode_upper (c ∷ []) else encode_utf8 c
+char_text c = if c == 34 || c == 92 then 92 ∷ c ∷ [] else if is_control c then codes "\\u00" ++
+    encode_upper (c ∷ []) else encode_utf8 c
 
 -- a text as a basic string
 abbrev pub basic_string : List ℕ → List ℕ
@@ -44,22 +51,26 @@ first_config_codes (config ∷ configs) = first_codes (items_of config)
 
 -- the device's own, or where its class is 0 those of its first interface
 abbrev pub entry_codes : EntryData → ClassCodes
-entry_codes e = if device_class e.device == 0 then first_config_codes e.configs else device_codes e.device
+entry_codes e = if device_class e.device == 0 then first_config_codes e.configs else device_codes
+    e.device
 
 -- idVendor, idProduct and class
 unfoldable pub head_line : EntryData → List ℕ
-head_line e = codes "# " ++ word_digits e.device 8 ++ codes ":" ++ word_digits e.device 10 ++ codes " " ++ class_text (entry_codes e) ++ codes "\n"
+head_line e = codes "# " ++ word_digits e.device 8 ++ codes ":" ++ word_digits e.device 10 ++
+    codes " " ++ class_text (entry_codes e) ++ codes "\n"
 
 unfoldable pub name_line : List ℕ → List ℕ
 name_line name = key_text (codes "name") ++ basic_string name ++ codes "\n"
 
 unfoldable pub speed_line : Bool → List ℕ
 speed_line low =
-    if low then codes "speed = \"low\" # no packet has more than 8 bytes; \"full\" if the device is of full speed\n"
+    if low then codes
+    "speed = \"low\" # no packet has more than 8 bytes; \"full\" if the device is of full speed\n"
     else codes "speed = \"full\"\n"
 
 unfoldable pub descriptor_line : List ℕ → List ℕ
-descriptor_line device = key_text (codes "descriptor") ++ codes "\"" ++ encode_upper device ++ codes "\"\n"
+descriptor_line device = key_text (codes "descriptor") ++ codes "\"" ++ encode_upper device ++
+    codes "\"\n"
 
 unfoldable pub setting_text : ℕ → List ℕ
 setting_text setting = if setting == 0 then [] else codes ", setting " ++ decimal setting
@@ -67,7 +78,8 @@ setting_text setting = if setting == 0 then [] else codes ", setting " ++ decima
 -- number, alternate setting and class of an interface
 unfoldable pub interface_line : List ℕ → List ℕ
 interface_line bytes =
-    comment_text (codes "interface ") ++ decimal (slice_index bytes 2) ++ setting_text (slice_index bytes 3) ++ codes ": "
+    comment_text (codes "interface ") ++ decimal (slice_index bytes 2) ++ setting_text
+    (slice_index bytes 3) ++ codes ": "
     ++ class_text (interface_codes bytes) ++ codes "\n"
 
 abbrev pub direction_word : Bool → List ℕ
@@ -79,7 +91,8 @@ transfer_word Isochronous = codes "isochronous"
 transfer_word Bulk = codes "bulk"
 transfer_word Interrupt = codes "interrupt"
 
--- full speed has no packets of this size (5.5.3, 5.6.3, 5.7.3, 5.8.3); all of wMaxPacketSize tells it for bulk
+-- full speed has no packets of this size (5.5.3, 5.6.3, 5.7.3, 5.8.3); all of wMaxPacketSize tells
+-- it for bulk
 -- transfers, as it does to the host, and else the low eleven bits
 abbrev pub is_misfit : TransferType → List ℕ → Bool
 is_misfit Control endpoint = nat_lt 64 (packet_size endpoint)
@@ -88,13 +101,16 @@ is_misfit Bulk endpoint = not (is_bulk_size (max_packet_size endpoint))
 is_misfit Interrupt endpoint = nat_lt 64 (packet_size endpoint)
 
 abbrev pub misfit_text : Bool → List ℕ
-misfit_text misfit = if misfit then codes ", no size of full speed: the host leaves it unused" else []
+misfit_text misfit = if misfit then codes ", no size of full speed: the host leaves it unused"
+    else []
 
 -- number, direction, transfers and packet size of an endpoint
 unfoldable pub endpoint_line : List ℕ → List ℕ
 endpoint_line bytes =
-    comment_text (codes "endpoint ") ++ decimal (endpoint_number bytes) ++ direction_word (is_in bytes)
-    ++ transfer_word (transfer_of bytes) ++ codes ", " ++ decimal (packet_size bytes) ++ codes " bytes"
+    comment_text (codes "endpoint ") ++ decimal (endpoint_number bytes) ++ direction_word
+    (is_in bytes)
+    ++ transfer_word (transfer_of bytes) ++ codes ", " ++ decimal (packet_size bytes) ++
+    codes " bytes"
     ++ misfit_text (is_misfit (transfer_of bytes) bytes) ++ codes "\n"
 
 abbrev pub item_line : Item → List ℕ
@@ -105,14 +121,17 @@ item_line (Other bytes) = []
 -- a configuration's number, what it draws in mA, its interfaces and endpoints, and all its bytes
 unfoldable pub configuration_lines : List ℕ → List ℕ
 configuration_lines config =
-    comment_text (codes "configuration ") ++ decimal (configuration_value config) ++ codes ": " ++ decimal (2 * max_power_of config)
-    ++ codes " mA\n" ++ flat_map item_line (items_of config) ++ codes "  \"" ++ encode_upper config ++ codes "\",\n"
+    comment_text (codes "configuration ") ++ decimal (configuration_value config) ++ codes ": " ++
+    decimal (2 * max_power_of config)
+    ++ codes " mA\n" ++ flat_map item_line (items_of config) ++ codes "  \"" ++ encode_upper config
+    ++ codes "\",\n"
 
 -- a hub has a number of ports
 unfoldable pub ports_line : List ℕ → ℕ → List ℕ
 ports_line device ports =
     if device_class device == HUB_CLASS
-    then key_text (codes "ports") ++ decimal ports ++ codes " # how many it has is not in these descriptors\n"
+    then key_text (codes "ports") ++ decimal ports ++
+    codes " # how many it has is not in these descriptors\n"
     else []
 
 -- bit 6 of bmAttributes of the first configuration: the device has power of its own (9.6.3)
@@ -125,10 +144,12 @@ power_line self_powered = if self_powered then codes "self_powered = true\n" els
 
 -- what the device is: its name, its speed, its descriptor
 unfoldable pub identity_lines : List ℕ → EntryData → List ℕ
-identity_lines name e = head_line e ++ codes "[[device]]\n" ++ name_line name ++ speed_line (is_taken_low e) ++ descriptor_line e.device
+identity_lines name e = head_line e ++ codes "[[device]]\n" ++ name_line name ++ speed_line
+    (is_taken_low e) ++ descriptor_line e.device
 
 -- the whole table
 unfoldable pub entry_text : List ℕ → ℕ → EntryData → List ℕ
 entry_text name ports e =
-    identity_lines name e ++ codes "configs = [\n" ++ flat_map configuration_lines e.configs ++ codes "]\n"
+    identity_lines name e ++ codes "configs = [\n" ++ flat_map configuration_lines e.configs ++
+    codes "]\n"
     ++ ports_line e.device ports ++ power_line (is_self_powered e.configs)

@@ -1,7 +1,8 @@
 //! A device as Linux hands it out, and the entry of a plan that it makes.
 //!
-//! The file `descriptors` of a device in sysfs has the 18 bytes of its device descriptor, then each configuration whole.
-//! `entry_of` reads such bytes, `entry_text` makes the `[[device]]` table, `write_entry` does both and writes the table.
+//! The file `descriptors` of a device in sysfs has the 18 bytes of its device descriptor, then each configuration
+//! whole. `entry_of` reads such bytes, `entry_text` makes the `[[device]]` table, `write_entry` does both and writes
+//! the table.
 //!
 //! # What is proved
 //!

@@ -10,8 +10,8 @@ use std::alloc::Global;
 use std::io::Write;
 use usb_bus::{Watched, put_piece};
 
-/// Writes the `[[device]]` table of a plan whose device has this name and these bytes, and this number of ports, 1 to 7,
-/// where it is a hub.
+/// Writes the `[[device]]` table of a plan whose device has this name and these bytes, and this number of ports, 1 to
+/// 7, where it is a hub.
 ///
 /// # Errors
 ///

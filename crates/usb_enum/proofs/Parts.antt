@@ -23,7 +23,9 @@ use Rattle.usb_enum.specs.Bounds.{read_bound}
 use Rattle.usb_enum.specs.Frames.{OnlyAsks, OnlySets, OnlyTells}
 use Rattle.usb_enum.specs.Parts.{Ending, KeepingSteps}
 use Rattle.usb_enum.proofs.courses.Counts.{read_went, went_again, went_times}
-use Rattle.usb_enum.proofs.devices.Frames.{asks_none, asks_then, at_addressed, at_port_none, at_port_then, configuration_sets, sets_asked, sets_then, tells_none, tells_then, text_asks}
+use Rattle.usb_enum.proofs.devices.Frames.{asks_none, asks_then, at_addressed, at_port_none}
+use Rattle.usb_enum.proofs.devices.Frames.{at_port_then, configuration_sets, sets_asked, sets_then}
+use Rattle.usb_enum.proofs.devices.Frames.{tells_none, tells_then, text_asks}
 use Rattle.usb_enum.proofs.refusals.Refusals.{handed_match}
 
 -- What is kept where nothing went, and from one part to the next
@@ -46,7 +48,11 @@ setting address = record {
 }
 
 pub enumerating : (port : HubPort) (address : ℕ) → Keeping (AtPort port address)
-enumerating port address = record { none = at_port_none port address; joined = at_port_then port address }
+enumerating port address = record {
+  none = at_port_none port address;
+  joined =
+      at_port_then port address;
+}
 
 -- Steps
 
@@ -58,7 +64,8 @@ steps_none n w keeping = record {
 }
 
 pub steps_joined : {K : World → World → Type 0} {m n : ℕ} {old mid new : World}
-    {a b c : Option (List ℕ)} → Keeping K → KeepingSteps K m old a mid b → KeepingSteps K n mid b new c
+    {a b c : Option (List ℕ)} → Keeping K → KeepingSteps K m old a mid b
+    → KeepingSteps K n mid b new c
     → KeepingSteps K (m + n) old a new c
 steps_joined {K} {m} {n} {old} {mid} {new} keeping first next = record {
   went = went_then m n first.went next.went;
@@ -71,13 +78,15 @@ steps_wider {K} {m} {n} steps le =
     record { went = went_wider m n steps.went le; keeps = steps.keeps }
 
 pub steps_then : {K : World → World → Type 0} {m n k : ℕ} {old mid new : World}
-    {a b c : Option (List ℕ)} → Keeping K → KeepingSteps K m old a mid b → KeepingSteps K n mid b new c
+    {a b c : Option (List ℕ)} → Keeping K → KeepingSteps K m old a mid b
+    → KeepingSteps K n mid b new c
     → m + n ≤ k → KeepingSteps K k old a new c
 steps_then keeping first next le = steps_wider (steps_joined keeping first next) le
 
 -- so many times the same, once more, and no more than there may be
 pub steps_again : {K : World → World → Type 0} (k n : ℕ) {old mid new : World}
-    {a b c : Option (List ℕ)} → Keeping K → KeepingSteps K (k * n) old a mid b → KeepingSteps K n mid b new c
+    {a b c : Option (List ℕ)} → Keeping K → KeepingSteps K (k * n) old a mid b
+    → KeepingSteps K n mid b new c
     → KeepingSteps K ((k + 1) * n) old a new c
 steps_again {K} k n {old} {mid} {new} keeping first next = record {
   went = went_again k n old mid new first.went next.went;
@@ -92,7 +101,8 @@ steps_times {K} k m n {old} {new} steps le = record {
 }
 
 pub steps_more : {K : World → World → Type 0} (k m n : ℕ) {old mid new : World}
-    {a b c : Option (List ℕ)} → Keeping K → KeepingSteps K (k * n) old a mid b → KeepingSteps K n mid b new c
+    {a b c : Option (List ℕ)} → Keeping K → KeepingSteps K (k * n) old a mid b
+    → KeepingSteps K n mid b new c
     → k < m → KeepingSteps K (m * n) old a new c
 steps_more k m n keeping first next less =
     steps_times (k + 1) m n (steps_again k n keeping first next) (omega (arith, less))

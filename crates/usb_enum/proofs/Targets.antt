@@ -1,11 +1,13 @@
 -- Endpoint 0 of a device that was enumerated, and the most attempts of an enumeration.
 use Rattle.std.proofs.Common.{◌≡◌, refl, arith}
 use Rattle.std.proofs.lemmas.Bool.Decides.{nat_tests}
-use Rattle.std.specs.Prelude.{ℕ, ◌≤◌, ◌+◌, ◌*◌, ◌==◌, List, length, nat_lt, Bool, true, false, ◌&&◌, not, Result, Ok, Err, is_ok, if◌then◌else◌, slice_index}
+use Rattle.std.specs.Prelude.{ℕ, ◌≤◌, ◌+◌, ◌*◌, ◌==◌, List, length, nat_lt, Bool, true, false, ◌&&◌}
+use Rattle.std.specs.Prelude.{not, Result, Ok, Err, is_ok, if◌then◌else◌, slice_index}
 use Rattle.usb_request.specs.Codes.{DEVICE}
 use Rattle.usb_transaction.specs.Transactions.{IsTarget}
 use Rattle.usb_descriptor.specs.declared.fault.DescriptorFault.{DescriptorFault}
-use Rattle.usb_descriptor.specs.declared.fault.DescriptorFault.TheVariants.{Short, WrongType, Length, MaxPacket}
+use Rattle.usb_descriptor.specs.declared.fault.DescriptorFault.TheVariants.{Short, WrongType}
+use Rattle.usb_descriptor.specs.declared.fault.DescriptorFault.TheVariants.{Length, MaxPacket}
 use Rattle.usb_descriptor.specs.Device.{is_max_packet, device_after, device_head_of, device_spelled}
 use Rattle.usb_hub.specs.declared.port.HubPort.{HubPort}
 use Rattle.usb_hub.specs.declared.port.HubPort.TheVariants.{Root, External}
@@ -13,41 +15,53 @@ use Rattle.usb_hub.specs.Port.{status_bound, order_bound}
 use Rattle.usb_pipe.proofs.Interface.{bound_wide}
 use Rattle.usb_pipe.specs.Control.{write_bound}
 use Rattle.usb_enum.specs.declared.finding.Accepted.{Accepted}
-use Rattle.usb_enum.specs.Bounds.{IsWide, read_bound, enumeration_bound, examined_by, widest_enumeration}
+use Rattle.usb_enum.specs.Bounds.{IsWide, read_bound, enumeration_bound, examined_by}
+use Rattle.usb_enum.specs.Bounds.{widest_enumeration}
 use Rattle.usb_enum.specs.Device.{is_device, target_of}
 use Rattle.usb_enum.specs.Findings.{IsWhole}
 
-head_ok : (a b c good : Bool) (n : ℕ) → is_ok (if a then Err Short else (if b then Err WrongType else (if c then Err Length else (if not good then Err MaxPacket else Ok n)))) ≡ true → good ≡ true
+head_ok : (a b c good : Bool) (n : ℕ)
+    → is_ok (if a then Err Short else (if b then Err WrongType
+    else (if c then Err Length else (if not good then Err MaxPacket else Ok n)))) ≡ true
+    → good ≡ true
 head_ok true b c good n h = absurd cc
 head_ok false true c good n h = absurd cc
 head_ok false false true good n h = absurd cc
 head_ok false false false true n h = refl
 head_ok false false false false n h = absurd cc
 
-pub head_maximum : (low : Bool) (bytes : List ℕ) → is_ok (device_head_of low bytes) ≡ true → is_max_packet low (slice_index bytes 7) ≡ true
+pub head_maximum : (low : Bool) (bytes : List ℕ) → is_ok (device_head_of low bytes) ≡ true
+    → is_max_packet low (slice_index bytes 7) ≡ true
 unfolding device_head_of
-head_maximum low bytes h = head_ok (nat_lt (length bytes) 8) (not (slice_index bytes 1 == DEVICE)) (not (slice_index bytes 0 == 18)) (is_max_packet low (slice_index bytes 7)) (slice_index bytes 7) h
+head_maximum low bytes h = head_ok (nat_lt (length bytes) 8) (not (slice_index bytes 1 == DEVICE))
+    (not (slice_index bytes 0 == 18)) (is_max_packet low (slice_index bytes 7))
+    (slice_index bytes 7) h
 
-ok_long : (short : Bool) (rest : Result (List ℕ) DescriptorFault) → is_ok (if short then Err Short else rest) ≡ true → is_ok rest ≡ true
+ok_long : (short : Bool) (rest : Result (List ℕ) DescriptorFault)
+    → is_ok (if short then Err Short else rest) ≡ true → is_ok rest ≡ true
 ok_long true rest h = absurd cc
 ok_long false rest h = h
 
-ok_after : (head : Result ℕ DescriptorFault) (bytes : List ℕ) → is_ok (device_after head bytes) ≡ true → is_ok head ≡ true
+ok_after : (head : Result ℕ DescriptorFault) (bytes : List ℕ) → is_ok (device_after head bytes)
+    ≡ true → is_ok head ≡ true
 ok_after (Ok max) bytes h = refl
 ok_after (Err why) bytes h = absurd cc
 
-device_maximum : (low : Bool) (bytes : List ℕ) → is_device low bytes ≡ true → is_max_packet low (slice_index bytes 7) ≡ true
+device_maximum : (low : Bool) (bytes : List ℕ) → is_device low bytes ≡ true
+    → is_max_packet low (slice_index bytes 7) ≡ true
 unfolding device_spelled
 device_maximum low bytes h =
     let head = device_head_of low bytes in
-    head_maximum low bytes (ok_after head bytes (ok_long (nat_lt (length bytes) 18) (device_after head bytes) h))
+    head_maximum low bytes (ok_after head bytes
+    (ok_long (nat_lt (length bytes) 18) (device_after head bytes) h))
 
 maximum_fits : (low : Bool) (n : ℕ) → is_max_packet low n ≡ true → (8 ≤ n) × (n ≤ 64)
 maximum_fits true n h = grind (arith, nat_tests, h)
 maximum_fits false n h = grind (arith, nat_tests, h)
 
 -- bMaxPacketSize0 of a device
-pub device_fits : (low : Bool) (bytes : List ℕ) → is_device low bytes ≡ true → (8 ≤ slice_index bytes 7) × (slice_index bytes 7 ≤ 64)
+pub device_fits : (low : Bool) (bytes : List ℕ) → is_device low bytes ≡ true
+    → (8 ≤ slice_index bytes 7) × (slice_index bytes 7 ≤ 64)
 device_fits low bytes h = maximum_fits low (slice_index bytes 7) (device_maximum low bytes h)
 
 both_first : (a b : Bool) → a && b ≡ true → a ≡ true
@@ -55,7 +69,8 @@ both_first true b h = refl
 both_first false b h = absurd cc
 
 -- an enumerated device can be spoken to, and in packets of 8 bytes or more
-pub whole_target_fits : (supply : ℕ) (device : Accepted) (below_hub : Bool) → IsWhole supply device → IsTarget (target_of device below_hub)
+pub whole_target_fits : (supply : ℕ) (device : Accepted) (below_hub : Bool) → IsWhole supply device
+    → IsTarget (target_of device below_hub)
 whole_target_fits supply device below_hub whole =
     let fits = device_fits device.low device.bytes whole.head in
     record {
@@ -65,7 +80,8 @@ whole_target_fits supply device below_hub whole =
       pre_low = both_first device.low below_hub;
     }
 
-pub whole_target_wide : (supply : ℕ) (device : Accepted) (below_hub : Bool) → IsWhole supply device → 8 ≤ (target_of device below_hub).max
+pub whole_target_wide : (supply : ℕ) (device : Accepted) (below_hub : Bool) → IsWhole supply device
+    → 8 ≤ (target_of device below_hub).max
 whole_target_wide supply device below_hub whole = (device_fits device.low device.bytes whole.head).0
 
 -- a status, an order and an enumeration take no more
@@ -82,6 +98,7 @@ enumeration_most (Root number) wide = omega arith
 enumeration_most (External hub port) wide = rw (bound_wide hub.max 4 wide) (omega arith)
 
 -- where no text says more
-pub examined_most : (port : HubPort) (most : ℕ) → IsWide port → examined_by port most + order_bound port ≤ 250000 + 100 * most
+pub examined_most : (port : HubPort) (most : ℕ) → IsWide port
+    → examined_by port most + order_bound port ≤ 250000 + 100 * most
 examined_most (Root number) most wide = omega arith
 examined_most (External hub port) most wide = rw (bound_wide hub.max 4 wide) (omega arith)

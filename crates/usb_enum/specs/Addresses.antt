@@ -20,17 +20,22 @@ pub record IsSpare (f : AddressMap) (port : HubPort) (p : List ℕ) (address : �
   pub none : Unused f 0
   pub spare : Unused f address
 
--- the device at the port, where one is reachable, has address 0 or the one that is set aside for it; every other has its own
+-- the device at the port, where one is reachable, has address 0 or the one that is set aside for
+-- it; every other has its own
 pub record Within (port : HubPort) (address : ℕ) (old new : World) : Type 0 where
-  pub stays : (f : AddressMap) (p : List ℕ) → IsSpare f port p address → WhileBusWorks (Enumerating f p address) old → WhileBusWorks (Enumerating f p address) new
+  pub stays : (f : AddressMap) (p : List ℕ) → IsSpare f port p address
+      → WhileBusWorks (Enumerating f p address) old → WhileBusWorks (Enumerating f p address) new
 
 -- the device at the port, where one is reachable, took the address
 pub record TakesAddress (port : HubPort) (address : ℕ) (old new : World) : Type 0 where
-  pub took : (f : AddressMap) (p : List ℕ) → IsSpare f port p address → WhileBusWorks (Enumerating f p address) old → WhileBusWorks (MapHolds (after_taking f p address)) new
+  pub took : (f : AddressMap) (p : List ℕ) → IsSpare f port p address
+      → WhileBusWorks (Enumerating f p address) old
+      → WhileBusWorks (MapHolds (after_taking f p address)) new
 
 -- the calls were about the port alone, as long as the bus is at work
 pub record OnlyCalls (port : HubPort) (address : ℕ) (old new : World) : Type 0 where
-  pub at : (f : AddressMap) (p : List ℕ) → IsSpare f port p address → WhileBusWorks (Enumerating f p address) old → new.fault ≡ None → OnlyAt p old new
+  pub at : (f : AddressMap) (p : List ℕ) → IsSpare f port p address
+      → WhileBusWorks (Enumerating f p address) old → new.fault ≡ None → OnlyAt p old new
 
 -- the device at the port is in the midst of its enumeration, and no other was changed
 pub record AtPort (port : HubPort) (address : ℕ) (old new : World) : Type 0 where
@@ -45,12 +50,19 @@ EndsOwned f p (Err ParentLost) w = WhileBusWorks (MapHoldsExcept p f) w
 EndsOwned f p (Err (Bus fault)) w = w.shared ≡ false
 EndsOwned f p (Err Memory) w = w.shared ≡ false
 
--- where the device at the port, if one is reachable, has address 0 or the one that is set aside for it
-pub record EndsEnumeration (port : HubPort) (address : ℕ) (old : World) (result : Result Finding EnumFault) (new : World) : Type 0 where
-  pub ends : (f : AddressMap) (p : List ℕ) → IsSpare f port p address → WhileBusWorks (Enumerating f p address) old → EndsOwned f p result new
+-- where the device at the port, if one is reachable, has address 0 or the one that is set aside for
+-- it
+pub record EndsEnumeration (port : HubPort) (address : ℕ) (old : World)
+    (result : Result Finding EnumFault) (new : World) : Type 0 where
+  pub ends : (f : AddressMap) (p : List ℕ) → IsSpare f port p address
+      → WhileBusWorks (Enumerating f p address) old → EndsOwned f p result new
 
 -- where nothing is claimed at the port, and only addresses that are taken are claimed
-pub record KeepsEnumerated (port : HubPort) (addresses : Addresses) (old : World) (result : Result Finding EnumFault) (new : World) : Type 0 where
-  pub ends : (f : AddressMap) (p : List ℕ) → IsAt f port p → Free f p → ((x : List ℕ) (a : ℕ) → f x ≡ Some a → IsTaken addresses a) → WhileBusWorks (MapHolds f) old → EndsOwned f p result new
-  pub only : (f : AddressMap) (p : List ℕ) → IsAt f port p → Free f p → ((x : List ℕ) (a : ℕ) → f x ≡ Some a → IsTaken addresses a) → WhileBusWorks (MapHolds f) old
+pub record KeepsEnumerated (port : HubPort) (addresses : Addresses) (old : World)
+    (result : Result Finding EnumFault) (new : World) : Type 0 where
+  pub ends : (f : AddressMap) (p : List ℕ) → IsAt f port p → Free f p
+      → ((x : List ℕ) (a : ℕ) → f x ≡ Some a → IsTaken addresses a) → WhileBusWorks (MapHolds f) old
+      → EndsOwned f p result new
+  pub only : (f : AddressMap) (p : List ℕ) → IsAt f port p → Free f p
+      → ((x : List ℕ) (a : ℕ) → f x ≡ Some a → IsTaken addresses a) → WhileBusWorks (MapHolds f) old
       → new.fault ≡ None → OnlyAt p old new

@@ -1,6 +1,7 @@
 -- How many attempts each part of an enumeration may take.
 use Rattle.std.specs.Prelude.{ℕ, ◌+◌, ◌*◌, ◌≤◌, ⊤}
-use Rattle.usb_request.specs.Codes.{CONFIGURATION_LENGTH, DEVICE_HEAD_LENGTH, DEVICE_LENGTH, HUB_LENGTH}
+use Rattle.usb_request.specs.Codes.{CONFIGURATION_LENGTH, DEVICE_HEAD_LENGTH, DEVICE_LENGTH}
+use Rattle.usb_request.specs.Codes.{HUB_LENGTH}
 use Rattle.usb_pipe.specs.Control.{write_bound}
 use Rattle.usb_hub.specs.declared.port.HubPort.{HubPort}
 use Rattle.usb_hub.specs.declared.port.HubPort.TheVariants.{Root, External}
@@ -77,7 +78,8 @@ IsWide (External hub port) = 8 ≤ hub.max
 
 -- a pass and an enumeration
 abbrev pub widest_pass : ℕ
-widest_pass = 2 * write_bound + read_bound 4 + read_bound DEVICE_HEAD_LENGTH + write_bound + read_bound DEVICE_LENGTH
+widest_pass = 2 * write_bound + read_bound 4 + read_bound DEVICE_HEAD_LENGTH + write_bound +
+    read_bound DEVICE_LENGTH
 
 abbrev pub widest_enumeration : ℕ
 widest_enumeration = PASSES * widest_pass + configured_bound + write_bound

@@ -1,5 +1,7 @@
 -- Device descriptors, as they are read of a device.
-use Rattle.std.specs.Prelude.{◌≡◌, ◌⊎◌, ◌≤◌, ⊤, ℕ, ◌==◌, true, false, List, [], Bool, ◌&&◌, Option, Some, None, is_some, slice_index_or, Result, Ok, Err, is_ok, if◌then◌else◌}
+use Rattle.std.specs.Prelude.{◌≡◌, ◌⊎◌, ◌≤◌, ⊤, ℕ, ◌==◌, true, false, List, [], Bool, ◌&&◌, Option}
+use Rattle.std.specs.Prelude.{Some, None, is_some, slice_index_or, Result, Ok, Err, is_ok}
+use Rattle.std.specs.Prelude.{if◌then◌else◌}
 use Rattle.usb_request.specs.Codes.{HUB_CLASS}
 use Rattle.usb_hub.specs.declared.port.HubPort.{HubPort}
 use Rattle.usb_hub.specs.declared.port.HubPort.TheVariants.{Root, External}
@@ -8,7 +10,8 @@ use Rattle.usb_port.specs.Path.{IsPortNumber}
 use Rattle.usb_transaction.specs.declared.target.Target.{Target}
 use Rattle.usb_transaction.specs.Transactions.{IsTarget}
 use Rattle.usb_descriptor.specs.Choice.{status_endpoint_of}
-use Rattle.usb_descriptor.specs.Device.{device_spelled, device_class, manufacturer_index, product_index, serial_index, max_packet_0}
+use Rattle.usb_descriptor.specs.Device.{device_spelled, device_class, manufacturer_index}
+use Rattle.usb_descriptor.specs.Device.{product_index, serial_index, max_packet_0}
 use Rattle.usb_enum.specs.declared.cause.Cause.TheVariants.{BadDevice, TooDeep}
 use Rattle.usb_enum.specs.declared.finding.Accepted.{Accepted}
 use Rattle.usb_enum.specs.declared.hub.HubFacts.{HubFacts}
@@ -25,7 +28,12 @@ abbrev pub device_bytes : Bool → List ℕ → Result (Option (List ℕ)) Stop
 device_bytes low bytes = if is_device low bytes then Ok (Some bytes) else Err (Refused BadDevice)
 
 abbrev pub string_indexes : List ℕ → StringIndexes
-string_indexes bytes = record { manufacturer = manufacturer_index bytes; product = product_index bytes; serial_number = serial_index bytes }
+string_indexes bytes = record {
+  manufacturer = manufacturer_index bytes;
+  product =
+      product_index bytes;
+  serial_number = serial_index bytes;
+}
 
 -- PRE goes before packets to a low-speed device below an external hub, and nowhere else
 abbrev pub needs_pre : HubPort → Bool
@@ -34,7 +42,12 @@ needs_pre (External hub port) = true
 
 -- endpoint 0 of a device that has its address
 abbrev pub target_of : Accepted → Bool → Target
-target_of device below_hub = record { addr = device.address; max = max_packet_0 device.bytes; low = device.low; pre = device.low && below_hub }
+target_of device below_hub = record {
+  addr = device.address;
+  max = max_packet_0 device.bytes;
+  low = device.low;
+  pre = device.low && below_hub;
+}
 
 -- the configuration that the device was set to
 abbrev pub configuration_of : Accepted → List ℕ
@@ -50,7 +63,8 @@ LAST_TIER = 7
 
 -- a hub may not stand in the last tier
 abbrev pub fits_tier : ℕ → List ℕ → Result (Unit {0}) Stop
-fits_tier tier bytes = if is_hub_device bytes && tier == LAST_TIER then Err (Refused TooDeep) else Ok tt
+fits_tier tier bytes = if is_hub_device bytes && tier == LAST_TIER then Err (Refused TooDeep)
+    else Ok tt
 
 -- the facts are what the hub with this address told
 pub record HasStarted (address : ℕ) (facts : HubFacts) : Type 0 where
@@ -76,7 +90,8 @@ pub record CanServe (text : List ℕ) (told : HubFacts) : Type 0 where
 
 -- a hub, and nothing else, has facts and a status endpoint
 abbrev pub HasFacts : List ℕ → List ℕ → Option HubFacts → Type 0
-HasFacts bytes text (Some facts) = (is_hub_device bytes ≡ true) × AreFacts facts × (is_some (status_endpoint_of text) ≡ true)
+HasFacts bytes text (Some facts) = (is_hub_device bytes ≡ true) × AreFacts facts
+    × (is_some (status_endpoint_of text) ≡ true)
 HasFacts bytes text None = is_hub_device bytes ≡ false
 
 -- endpoint 0 of a device at a port that was reset, before it has its address

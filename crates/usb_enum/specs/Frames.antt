@@ -16,25 +16,30 @@ use Rattle.usb_hub.specs.Requests.{TouchesNoPort, TouchesPortsBelow}
 
 -- On a device
 
--- a device was asked for data: each device stays as it was, and as long as the bus is at work nothing was asked of any port
+-- a device was asked for data: each device stays as it was, and as long as the bus is at work
+-- nothing was asked of any port
 pub record OnlyAsks (old new : World) : Type 0 where
   pub addresses : KeepsAddresses old new
   pub devices : KeepsDevices old new
   pub ports : new.fault ≡ None → TouchesNoPort old new
   pub backlog : new.fault ≡ None → KeepsAll old new
 
--- no more is left to do than before, but by events, where the ports of the device whose path claims the address are marked
+-- no more is left to do than before, but by events, where the ports of the device whose path claims
+-- the address are marked
 abbrev pub FoundAt : ℕ → World → World → Type 0
-FoundAt address w v = (f : AddressMap) (q : List ℕ) → f q ≡ Some address → MapHolds f w → KeepsFound q w v
+FoundAt address w v = (f : AddressMap) (q : List ℕ) → f q ≡ Some address → MapHolds f w
+    → KeepsFound q w v
 
--- a hub at an address was told about its ports: nothing was asked of the ports that are not below it
+-- a hub at an address was told about its ports: nothing was asked of the ports that are not below
+-- it
 pub record OnlyTells (address : ℕ) (old new : World) : Type 0 where
   pub addresses : KeepsAddresses old new
   pub devices : KeepsDevices old new
   pub ports : new.fault ≡ None → TouchesPortsBelow address old new
   pub backlog : new.fault ≡ None → FoundAt address old new
 
--- a device has the description and the address that it had, and elsewhere than at this address it stays as it was
+-- a device has the description and the address that it had, and elsewhere than at this address it
+-- stays as it was
 pub record StaysBut (address : ℕ) (x : Location) (s v : State) : Type 0 where
   pub spec : v.spec ≡ s.spec
   pub same : address_of v ≡ address_of s
@@ -49,7 +54,8 @@ pub record OnlySets (address : ℕ) (old new : World) : Type 0 where
 
 -- At a port
 
--- nothing was asked of the ports that are not at a path nor below it, what is pending there stays, and devices elsewhere stay as they were
+-- nothing was asked of the ports that are not at a path nor below it, what is pending there stays,
+-- and devices elsewhere stay as they were
 pub record OnlyAt (p : List ℕ) (old new : World) : Type 0 where
   pub others : (x : List ℕ) → is_way p x ≡ false → Course (LeavesPortAlone x) old new
   pub spares : Course (KeepsPendingAt p) old new

@@ -31,7 +31,8 @@ IsPowered hub port old new = Commanded hub (set_port_feature PORT_POWER port) ol
 -- its ports were given power up to this number, one by one
 abbrev pub Powered : Target → ℕ → World → World → Type 0
 Powered hub zero old new = new ≡ old
-Powered hub (suc n) old new = (between : World) × (Powered hub n old between × IsPowered hub (suc n) between new)
+Powered hub (suc n) old new = (between : World)
+    × (Powered hub n old between × IsPowered hub (suc n) between new)
 
 -- it told its facts, and then its ports were given power
 pub record Started (hub : Target) (old new : World) (facts : HubFacts) : Type 0 where

@@ -33,16 +33,20 @@ pub record HearsSet (t : Target) (x : Location) (s : State) : Type 0 where
   pub addressed : t.addr ≢ 0
   pub configured : s.registers.configuration ≢ 0
 
--- a device has the description and the address that it had; where the target's device hears the host so, and keeps the rules of devices, this is so of it
-pub record Explained (Heard : Target → Location → State → Type 0) (So : Spec → Type 0) (t : Target) (x : Location) (s v : State) : Type 0 where
+-- a device has the description and the address that it had; where the target's device hears the
+-- host so, and keeps the rules of devices, this is so of it
+pub record Explained (Heard : Target → Location → State → Type 0) (So : Spec → Type 0) (t : Target)
+    (x : Location) (s v : State) : Type 0 where
   pub spec : v.spec ≡ s.spec
   pub address : address_of v ≡ address_of s
   pub so : Heard t x s → IsSpec s.spec → So s.spec
 
 -- where no three attempts running are damaged
 abbrev pub FailureReason : (Spec → Type 0) → Target → World → World → Type 0
-FailureReason So t old new = NoThreeDamaged old → new.shared ≡ false → EachWas (Explained Hears So t) old new
+FailureReason So t old new = NoThreeDamaged old → new.shared ≡ false
+    → EachWas (Explained Hears So t) old new
 
 -- the same of a device that is configured
 abbrev pub ExplainsSet : (Spec → Type 0) → Target → World → World → Type 0
-ExplainsSet So t old new = NoThreeDamaged old → new.shared ≡ false → EachWas (Explained HearsSet So t) old new
+ExplainsSet So t old new = NoThreeDamaged old → new.shared ≡ false
+    → EachWas (Explained HearsSet So t) old new

@@ -15,8 +15,12 @@ use Rattle.usb_enum.specs.Frames.{OnlyAsks}
 use Rattle.usb_enum.specs.LearnedFacts.{FailureReason, ExplainsSet, DeviceFact}
 use Rattle.usb_enum.specs.PresentDevices.{HasTaken}
 use Rattle.usb_enum.specs.Readings.{AtMaximum}
-use Rattle.usb_enum.specs.Reasons.{DescriptorRead, FaultBy, CauseAllowed, CauseAllowedAt, StoppedWithout, StopsAtPort, StopsDevice, CauseAllowedAtStart, CauseAllowedOfHub}
-use Rattle.usb_enum.specs.Refusals.{IsRefusedFor, Refuses, RefusesDescriptor, RefusesNoPort, configured_fault, head_fault, hub_fault, start_fault, unaddressed_fault, whole_fault}
+use Rattle.usb_enum.specs.Reasons.{DescriptorRead, FaultBy, CauseAllowed, CauseAllowedAt}
+use Rattle.usb_enum.specs.Reasons.{StoppedWithout, StopsAtPort, StopsDevice, CauseAllowedAtStart}
+use Rattle.usb_enum.specs.Reasons.{CauseAllowedOfHub}
+use Rattle.usb_enum.specs.Refusals.{IsRefusedFor, Refuses, RefusesDescriptor, RefusesNoPort}
+use Rattle.usb_enum.specs.Refusals.{configured_fault, head_fault, hub_fault, start_fault}
+use Rattle.usb_enum.specs.Refusals.{unaddressed_fault, whole_fault}
 
 -- at most so many attempts were made, and this was kept
 pub record KeepingSteps (Keeps : World → World → Type 0) (most : ℕ) (old : World)

@@ -1,5 +1,6 @@
 -- What is so of the device at a port that is being enumerated, where one is reachable there.
-use Rattle.std.specs.Prelude.{◌≡◌, ◌&&◌, ℕ, List, Bool, true, false, take, Option, None, Some, Ok, ⊤}
+use Rattle.std.specs.Prelude.{◌≡◌, ◌&&◌, ℕ, List, Bool, true, false, take, Option, None, Some, Ok}
+use Rattle.std.specs.Prelude.{⊤}
 use Rattle.usb_device.specs.Spec.{Spec}
 use Rattle.usb_device.specs.Rows.{State}
 use Rattle.usb_device.specs.Tree.{reach, Location}
@@ -31,7 +32,8 @@ use Rattle.usb_enum.specs.Readings.{AtMaximum, HasConfigurations, IsGoodHub, Rul
 
 -- Of whoever answers
 
--- the target answered, so it was there and the bus is at work, and of the device that has its address this was learned
+-- the target answered, so it was there and the bus is at work, and of the device that has its
+-- address this was learned
 pub record AnswersSo (So : Spec → Type 0) (t : Target) (old new : World) : Type 0 where
   pub who : IsClaimed t.addr old
   pub still : new.fault ≡ None
@@ -66,13 +68,19 @@ IsInOrder w = w.fault ≡ None → IsOrderly w
 abbrev pub AtPath : (State → Type 0) → List ℕ → World → Type 0
 AtPath So p w = (s : State) → reach w.roots p ≡ true → state_there w.roots p ≡ Some s → So s
 
--- where nothing is claimed at the port, and the address is spare, the device at the port, where one is reachable, is so in the end
-pub record Finds (So : State → Type 0) (port : HubPort) (address : ℕ) (old new : World) : Type 0 where
-  pub found : (f : AddressMap) (p : List ℕ) → IsSpare f port p address → WhileBusWorks (Enumerating f p address) old → IsRegular old → AtPath So p new
+-- where nothing is claimed at the port, and the address is spare, the device at the port, where one
+-- is reachable, is so in the end
+pub record Finds (So : State → Type 0) (port : HubPort) (address : ℕ) (old new : World) : Type 0
+  where
+    pub found : (f : AddressMap) (p : List ℕ) → IsSpare f port p address
+        → WhileBusWorks (Enumerating f p address) old → IsRegular old → AtPath So p new
 
--- so it is where the port is occupied: as long as the bus is at work, the device there is reached in the end, or a change of connection is pending
+-- so it is where the port is occupied: as long as the bus is at work, the device there is reached
+-- in the end, or a change of connection is pending
 pub record ReachesDevice (port : HubPort) (address : ℕ) (old new : World) : Type 0 where
-  pub reached : (f : AddressMap) (p : List ℕ) → IsSpare f port p address → WhileBusWorks (Enumerating f p address) old → IsInOrder old → IsOccupied old p → new.fault ≡ None → IsReachedAt new p
+  pub reached : (f : AddressMap) (p : List ℕ) → IsSpare f port p address
+      → WhileBusWorks (Enumerating f p address) old → IsInOrder old → IsOccupied old p
+      → new.fault ≡ None → IsReachedAt new p
 
 -- it has this speed
 abbrev pub HasSpeed : Bool → State → Type 0
@@ -105,13 +113,14 @@ pub record IsAddressed (device : Addressed) (s : State) : Type 0 where
   pub address : address_of s ≡ device.target.addr
 
 -- the device at the port, where one is reachable, took the address, and was read at it
-pub record HasTaken (port : HubPort) (given : ℕ) (old new : World) (device : Addressed) : Type 0 where
-  pub address : device.target.addr ≡ given
-  pub pre : device.target.pre ≡ (device.target.low && needs_pre port)
-  pub takes : TakesAddress port given old new
-  pub still : new.fault ≡ None
-  pub found : Finds (IsAddressed device) port given old new
-  pub reaches : ReachesDevice port given old new
+pub record HasTaken (port : HubPort) (given : ℕ) (old new : World) (device : Addressed) : Type 0
+  where
+    pub address : device.target.addr ≡ given
+    pub pre : device.target.pre ≡ (device.target.low && needs_pre port)
+    pub takes : TakesAddress port given old new
+    pub still : new.fault ≡ None
+    pub found : Finds (IsAddressed device) port given old new
+    pub reaches : ReachesDevice port given old new
 
 -- Of a device that is read and configured
 
@@ -121,7 +130,8 @@ TellsPorts text (Some facts) spec = Ruled (IsGoodHub text facts) spec
 TellsPorts text None spec = ⊤
 
 -- what a device told of its ports, what was learned of it, and how they were given power
-pub record LearnsPorts (device : Addressed) (text : List ℕ) (old new : World) (told : Option HubFacts) : Type 0 where
+pub record LearnsPorts (device : Addressed) (text : List ℕ) (old new : World)
+    (told : Option HubFacts) : Type 0 where
   pub served : IsStarted device.target.addr told
   pub learned : DeviceFact (AtMaximum device.target (TellsPorts text told)) device.target old new
   pub started : (facts : HubFacts) → told ≡ Some facts → Started device.target old new facts
@@ -133,8 +143,10 @@ pub record HasReadings (bytes : List ℕ) (device : Accepted) (spec : Spec) : Ty
   pub ports : TellsPorts (configuration_of device) device.hub spec
   pub strings : device.strings ≡ strings_by spec (string_indexes bytes)
 
--- a device has the description and the address that it had; of the target's device this is so, it has this configuration, and its endpoints began again
-pub record LearnedSet (So : Spec → Type 0) (t : Target) (value : ℕ) (x : Location) (s v : State) : Type 0 where
+-- a device has the description and the address that it had; of the target's device this is so, it
+-- has this configuration, and its endpoints began again
+pub record LearnedSet (So : Spec → Type 0) (t : Target) (value : ℕ) (x : Location) (s v : State) :
+    Type 0 where
   pub spec : v.spec ≡ s.spec
   pub address : address_of v ≡ address_of s
   pub so : is_at s t ≡ true → So s.spec × (v.registers.configuration ≡ value) × IsFresh v

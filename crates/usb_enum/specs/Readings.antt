@@ -1,5 +1,6 @@
 -- What was read of a device, said of its description (9.4, 9.6, 11.24.2).
-use Rattle.std.specs.Prelude.{◌≡◌, ℕ, ◌==◌, true, false, if◌then◌else◌, List, take, Option, None, Some, option_map, option_and_then, Ok}
+use Rattle.std.specs.Prelude.{◌≡◌, ℕ, ◌==◌, true, false, if◌then◌else◌, List, take, Option, None}
+use Rattle.std.specs.Prelude.{Some, option_map, option_and_then, Ok}
 use Rattle.std.specs.Global.{Vec}
 use Rattle.usb_resources.specs.Power.{supply_of}
 use Rattle.usb_request.specs.Codes.{CONFIGURATION_LENGTH, HUB_LENGTH}
@@ -11,7 +12,8 @@ use Rattle.usb_transaction.specs.declared.target.Target.{Target}
 use Rattle.usb_hub.specs.GivenAnswers.{config_given, hub_given}
 use Rattle.usb_enum.specs.declared.hub.HubFacts.{HubFacts}
 use Rattle.usb_enum.specs.declared.strings.Strings.{Strings}
-use Rattle.usb_enum.specs.Verdicts.{text_read, is_good_text, texts_below, first_fault, string_read, is_good_hub, facts_of}
+use Rattle.usb_enum.specs.Verdicts.{text_read, is_good_text, texts_below, first_fault, string_read}
+use Rattle.usb_enum.specs.Verdicts.{is_good_hub, facts_of}
 use Rattle.usb_enum.specs.Text.{string_units, first_language_of}
 
 -- so it is of a description with the target's maximum packet
@@ -53,7 +55,8 @@ language_of spec = option_and_then first_language_of (string_read spec 0)
 
 -- the string of an index in a language that the device has
 abbrev pub string_in : Spec → ℕ → Option (List ℕ)
-string_in spec index = if index == 0 then None else option_and_then string_units (string_read spec index)
+string_in spec index = if index == 0 then None else option_and_then string_units
+    (string_read spec index)
 
 abbrev pub no_strings : Strings
 no_strings = record { manufacturer = None; product = None; serial_number = None }

@@ -1,10 +1,13 @@
 -- Why an enumeration stops: the last request, and what was answered to it (9.1.2, 9.4, 11.24.2).
-use Rattle.std.specs.Prelude.{◌≡◌, ◌⊎◌, ◌&&◌, ℕ, List, [], ◌∷◌, ◌++◌, length, take, true, false, slice_index_or, Option, None, Some, Result, Ok, Err, ⊤}
+use Rattle.std.specs.Prelude.{◌≡◌, ◌⊎◌, ◌&&◌, ℕ, List, [], ◌∷◌, ◌++◌, length, take, true, false}
+use Rattle.std.specs.Prelude.{slice_index_or, Option, None, Some, Result, Ok, Err, ⊤}
 use Rattle.std.specs.Global.{Vec}
 use Rattle.usb_request.specs.declared.setup.Setup.{Setup}
 use Rattle.usb_request.specs.Codes.{CONFIGURATION_LENGTH, DEVICE_HEAD_LENGTH, DEVICE_LENGTH}
 use Rattle.usb_request.specs.Features.{PORT_POWER}
-use Rattle.usb_request.specs.Requests.{get_device_descriptor, get_configuration_descriptor, get_hub_descriptor, get_status, set_address, set_configuration, set_port_feature}
+use Rattle.usb_request.specs.Requests.{get_device_descriptor, get_configuration_descriptor}
+use Rattle.usb_request.specs.Requests.{get_hub_descriptor, get_status, set_address}
+use Rattle.usb_request.specs.Requests.{set_configuration, set_port_feature}
 use Rattle.usb_port.specs.declared.status.PortStatus.{PortStatus}
 use Rattle.usb_descriptor.specs.declared.fault.DescriptorFault.{DescriptorFault}
 use Rattle.usb_descriptor.specs.Choice.{status_endpoint_of}
@@ -43,7 +46,8 @@ abbrev pub FailsAs : Target → Setup → PipeFault → World → World → Type
 FailsAs t setup why old new = Reads t setup old (Err why) new ⊎ Writes t setup old (Err why) new
 
 -- a request of a kind failed so
-pub record EndsFailing (t : Target) (Is : Setup → Type 0) (why : PipeFault) (old new : World) : Type 0 where
+pub record EndsFailing (t : Target) (Is : Setup → Type 0) (why : PipeFault) (old new : World) :
+    Type 0 where
   pub before : World
   pub led : Leads old before
   pub setup : Setup
@@ -51,10 +55,11 @@ pub record EndsFailing (t : Target) (Is : Setup → Type 0) (why : PipeFault) (o
   pub failed : FailsAs t setup why before new
 
 -- a request was answered by these bytes
-pub record EndsReading (t : Target) (setup : Setup) (bytes : List ℕ) (old new : World) : Type 0 where
-  pub before : World
-  pub led : Leads old before
-  pub read : WasRead t setup before bytes new
+pub record EndsReading (t : Target) (setup : Setup) (bytes : List ℕ) (old new : World) : Type 0
+  where
+    pub before : World
+    pub led : Leads old before
+    pub read : WasRead t setup before bytes new
 
 -- any request
 abbrev pub IsAny : Setup → Type 0
@@ -64,7 +69,8 @@ IsAny setup = ⊤
 abbrev pub IsNamed : Request → Setup → Type 0
 IsNamed request.Device setup = (size : ℕ) × (setup ≡ get_device_descriptor size)
 IsNamed request.Address setup = (address : ℕ) × (setup ≡ set_address address)
-IsNamed request.Config setup = (index : ℕ) × ((size : ℕ) × (setup ≡ get_configuration_descriptor index size))
+IsNamed request.Config setup = (index : ℕ)
+    × ((size : ℕ) × (setup ≡ get_configuration_descriptor index size))
 IsNamed request.SetConfig setup = (value : ℕ) × (setup ≡ set_configuration value)
 
 -- What was read of a device
@@ -83,20 +89,28 @@ pub record TextRead (t : Target) (index : ℕ) (text : List ℕ) (old new : Worl
 -- these are its configurations' texts, read one after the other
 pub data TextsAsked (t : Target) (old : World) : List (List ℕ) → World → Type 0 where
   none_yet : TextsAsked t old [] old
-  one_more : {texts : List (List ℕ)} {mid new : World} (text : List ℕ) → TextsAsked t old texts mid → TextRead t (length texts) text mid new → TextsAsked t old (texts ++ (text ∷ [])) new
+  one_more : {texts : List (List ℕ)} {mid new : World} (text : List ℕ) → TextsAsked t old texts mid
+      → TextRead t (length texts) text mid new → TextsAsked t old (texts ++ (text ∷ [])) new
 
 -- Why a device is refused
 
 -- its device descriptor is bad: its head, or what is read at its address
 pub data BadDescriptor (t : Target) (old new : World) : Type 0 where
-  bad_head : (bytes : List ℕ) (why : DescriptorFault) → EndsReading t (get_device_descriptor DEVICE_HEAD_LENGTH) bytes old new → device_head_of t.low bytes ≡ Err why → BadDescriptor t old new
-  bad_front : (bytes : List ℕ) → DescriptorRead t bytes old new → is_device t.low bytes ≡ false → BadDescriptor t old new
+  bad_head : (bytes : List ℕ) (why : DescriptorFault)
+      → EndsReading t (get_device_descriptor DEVICE_HEAD_LENGTH) bytes old new
+      → device_head_of t.low bytes ≡ Err why → BadDescriptor t old new
+  bad_front : (bytes : List ℕ) → DescriptorRead t bytes old new → is_device t.low bytes ≡ false
+      → BadDescriptor t old new
 
 -- the text of an index is bad: its head, or what is read; or an earlier one has its value
 pub data BadText (t : Target) (index : ℕ) (old new : World) : Type 0 where
-  bad_total : (bytes : List ℕ) (why : DescriptorFault) → EndsReading t (get_configuration_descriptor index CONFIGURATION_LENGTH) bytes old new → config_head_of bytes ≡ Err why → BadText t index old new
-  bad_text : (text : List ℕ) → TextRead t index text old new → config_text_of text ≡ None → BadText t index old new
-  repeated : (begun mid : World) (texts : List (List ℕ)) (text : List ℕ) → Leads old begun → TextsAsked t begun texts mid → length texts ≡ index → TextRead t index text mid new
+  bad_total : (bytes : List ℕ) (why : DescriptorFault)
+      → EndsReading t (get_configuration_descriptor index CONFIGURATION_LENGTH) bytes old new
+      → config_head_of bytes ≡ Err why → BadText t index old new
+  bad_text : (text : List ℕ) → TextRead t index text old new → config_text_of text ≡ None
+      → BadText t index old new
+  repeated : (begun mid : World) (texts : List (List ℕ)) (text : List ℕ) → Leads old begun
+      → TextsAsked t begun texts mid → length texts ≡ index → TextRead t index text mid new
       → any_has_value (configuration_value text) texts ≡ true → BadText t index old new
 
 -- by the answer to a request
@@ -119,31 +133,42 @@ CauseAllowed t (Fault why) old new = FaultAllowed why new
 
 -- Why a hub is bad
 
--- it refuses its descriptor, or gives a bad one; it refuses its status, or gives one of another length; or it refuses power to a port
+-- it refuses its descriptor, or gives a bad one; it refuses its status, or gives one of another
+-- length; or it refuses power to a port
 pub data HubFails (t : Target) (old new : World) : Type 0 where
-  no_descriptor : EndsFailing t (λ setup. setup ≡ get_hub_descriptor) pipe.Stalled old new → HubFails t old new
-  bad_descriptor : (bytes : List ℕ) (why : DescriptorFault) → EndsReading t get_hub_descriptor bytes old new → hub_spelled bytes ≡ Err why → HubFails t old new
-  no_status : (before : World) (answer : Result (Vec ℕ) PipeFault) → Leads old before → Reads t get_status before answer new → said_in device_status get_status.length answer ≡ Err pipe.Stalled → HubFails t old new
-  no_power : (port : ℕ) → EndsFailing t (λ setup. setup ≡ set_port_feature PORT_POWER port) pipe.Stalled old new → HubFails t old new
+  no_descriptor : EndsFailing t (λ setup. setup ≡ get_hub_descriptor) pipe.Stalled old new
+      → HubFails t old new
+  bad_descriptor : (bytes : List ℕ) (why : DescriptorFault)
+      → EndsReading t get_hub_descriptor bytes old new → hub_spelled bytes ≡ Err why
+      → HubFails t old new
+  no_status : (before : World) (answer : Result (Vec ℕ) PipeFault) → Leads old before
+      → Reads t get_status before answer new → said_in device_status get_status.length answer
+      ≡ Err pipe.Stalled → HubFails t old new
+  no_power : (port : ℕ) → EndsFailing t (λ setup. setup ≡ set_port_feature PORT_POWER port)
+      pipe.Stalled old new → HubFails t old new
 
--- so it is of a hub that is asked, or one that is started with a configuration text, which may have no endpoint for its changes
+-- so it is of a hub that is asked, or one that is started with a configuration text, which may have
+-- no endpoint for its changes
 abbrev pub CauseAllowedOfHub : Target → Stop → World → World → Type 0
-CauseAllowedOfHub t (Refused why) old new = (why ≡ cause.BadHub × HubFails t old new) ⊎ Because t old new why
+CauseAllowedOfHub t (Refused why) old new = (why ≡ cause.BadHub × HubFails t old new)
+    ⊎ Because t old new why
 CauseAllowedOfHub t (Fault why) old new = FaultAllowed why new
 
 abbrev pub CannotStart : Target → List ℕ → World → World → Type 0
 CannotStart t text old new = (status_endpoint_of text ≡ None × new ≡ old) ⊎ HubFails t old new
 
 abbrev pub CauseAllowedAtStart : Target → List ℕ → Stop → World → World → Type 0
-CauseAllowedAtStart t text (Refused why) old new = (why ≡ cause.BadHub × CannotStart t text old new) ⊎ Because t old new why
+CauseAllowedAtStart t text (Refused why) old new = (why ≡ cause.BadHub × CannotStart t text old new)
+    ⊎ Because t old new why
 CauseAllowedAtStart t text (Fault why) old new = FaultAllowed why new
 
 -- Why a device of this device descriptor is refused
 
 -- all its configurations were read
-pub record AllTexts (t : Target) (bytes : List ℕ) (texts : List (List ℕ)) (old new : World) : Type 0 where
-  pub asked : TextsAsked t old texts new
-  pub all : length texts ≡ configuration_count bytes
+pub record AllTexts (t : Target) (bytes : List ℕ) (texts : List (List ℕ)) (old new : World) : Type 0
+  where
+    pub asked : TextsAsked t old texts new
+    pub all : length texts ≡ configuration_count bytes
 
 -- it is a hub, one of them is chosen, and with it the hub cannot be started
 pub record BadChosen (t : Target) (bytes : List ℕ) (supply : ℕ) (old new : World) : Type 0 where
@@ -157,11 +182,15 @@ pub record BadChosen (t : Target) (bytes : List ℕ) (supply : ℕ) (old new : W
   pub led : Leads read set
   pub fails : CannotStart t (slice_index_or texts chosen []) set new
 
--- by an answer; as a hub in the last tier; since no configuration needs as little power as the port gives; or as a hub that is bad
-pub data RefusedAs (t : Target) (bytes : List ℕ) (tier supply : ℕ) (old new : World) : Cause → Type 0 where
+-- by an answer; as a hub in the last tier; since no configuration needs as little power as the port
+-- gives; or as a hub that is bad
+pub data RefusedAs (t : Target) (bytes : List ℕ) (tier supply : ℕ) (old new : World) : Cause
+    → Type 0 where
   by_answer : {why : Cause} → Because t old new why → RefusedAs t bytes tier supply old new why
-  too_deep : tier ≡ LAST_TIER → is_hub_device bytes ≡ true → new ≡ old → RefusedAs t bytes tier supply old new cause.TooDeep
-  lacks_power : (texts : List (List ℕ)) → AllTexts t bytes texts old new → choice_of supply texts ≡ None → RefusedAs t bytes tier supply old new cause.NoPower
+  too_deep : tier ≡ LAST_TIER → is_hub_device bytes ≡ true → new ≡ old
+      → RefusedAs t bytes tier supply old new cause.TooDeep
+  lacks_power : (texts : List (List ℕ)) → AllTexts t bytes texts old new
+      → choice_of supply texts ≡ None → RefusedAs t bytes tier supply old new cause.NoPower
   bad_hub : BadChosen t bytes supply old new → RefusedAs t bytes tier supply old new cause.BadHub
 
 -- so it is at a stop, which fits the tier
@@ -169,7 +198,8 @@ abbrev pub StoppedAs : Target → List ℕ → ℕ → ℕ → Stop → World �
 StoppedAs t bytes tier supply (Refused why) old new = RefusedAs t bytes tier supply old new why
 StoppedAs t bytes tier supply (Fault why) old new = FaultAllowed why new
 
-pub record StopsDevice (t : Target) (bytes : List ℕ) (tier supply : ℕ) (old new : World) (stop : Stop) : Type 0 where
+pub record StopsDevice (t : Target) (bytes : List ℕ) (tier supply : ℕ) (old new : World)
+    (stop : Stop) : Type 0 where
   pub fits : CauseAllowedOfDevice tier stop new
   pub because : StoppedAs t bytes tier supply stop old new
 
@@ -181,7 +211,9 @@ pub record PortFails (port : HubPort) (old new : World) : Type 0 where
   pub led : Leads old before
   pub why : PipeFault
   pub lost : fault_at_port why ≡ fault.ParentLost
-  pub failed : PortRead port before (Err why) new ⊎ ((feature : ℕ) × (PortSet port feature before (Err why) new ⊎ PortCleared port feature before (Err why) new))
+  pub failed : PortRead port before (Err why) new
+      ⊎ ((feature : ℕ) × (PortSet port feature before (Err why) new
+      ⊎ PortCleared port feature before (Err why) new))
 
 -- why there is no finding
 abbrev pub FaultBy : HubPort → EnumFault → World → World → Type 0
@@ -204,7 +236,8 @@ pub record IsSpokenTo (port : HubPort) (address : ℕ) (t : Target) : Type 0 whe
 
 -- a device that is not read yet is refused: by an answer, or since the port is not enabled
 pub data RefusedEarly (port : HubPort) (address : ℕ) (old new : World) : Cause → Type 0 where
-  answered : {why : Cause} (t : Target) → IsSpokenTo port address t → Because t old new why → RefusedEarly port address old new why
+  answered : {why : Cause} (t : Target) → IsSpokenTo port address t → Because t old new why
+      → RefusedEarly port address old new why
   not_enabled : NotEnabled port old new → RefusedEarly port address old new cause.Lost
 
 abbrev pub CauseAllowedAt : HubPort → ℕ → Stop → World → World → Type 0
@@ -226,31 +259,43 @@ DescriptorTold t old new (Some bytes) = DescriptorRead t bytes old new
 DescriptorTold t old new None = EndsFailing t IsAny pipe.NoAnswer old new
 
 -- whenever it is refused
-pub data RefusedFor (port : HubPort) (address tier supply : ℕ) (old new : World) : Cause → Type 0 where
-  early : {why : Cause} → RefusedEarly port address old new why → RefusedFor port address tier supply old new why
-  late : {why : Cause} (t : Target) (bytes : List ℕ) (mid : World) → IsSpokenTo port address t → DescriptorRead t bytes old mid → RefusedAs t bytes tier supply mid new why → RefusedFor port address tier supply old new why
+pub data RefusedFor (port : HubPort) (address tier supply : ℕ) (old new : World) : Cause
+    → Type 0 where
+  early : {why : Cause} → RefusedEarly port address old new why
+      → RefusedFor port address tier supply old new why
+  late : {why : Cause} (t : Target) (bytes : List ℕ) (mid : World) → IsSpokenTo port address t
+      → DescriptorRead t bytes old mid → RefusedAs t bytes tier supply mid new why
+      → RefusedFor port address tier supply old new why
 
 abbrev pub StoppedFor : HubPort → ℕ → ℕ → ℕ → Stop → World → World → Type 0
-StoppedFor port address tier supply (Refused why) old new = RefusedFor port address tier supply old new why
+StoppedFor port address tier supply (Refused why) old new =
+    RefusedFor port address tier supply old new why
 StoppedFor port address tier supply (Fault why) old new = FaultBy port why old new
 
-pub record StopsAtPort (port : HubPort) (address tier supply : ℕ) (old new : World) (stop : Stop) : Type 0 where
+pub record StopsAtPort (port : HubPort) (address tier supply : ℕ) (old new : World) (stop : Stop) :
+    Type 0 where
   pub fits : CauseAllowedIn port tier stop new
   pub because : StoppedFor port address tier supply stop old new
 
 -- where no address was free
 abbrev pub StoppedWithout : HubPort → Stop → World → World → Type 0
-StoppedWithout port stop old new = (stop ≡ Refused cause.NoAddress) ⊎ CauseAllowedAt port 0 stop old new
+StoppedWithout port stop old new = (stop ≡ Refused cause.NoAddress)
+    ⊎ CauseAllowedAt port 0 stop old new
 
 -- Of a whole enumeration
 
 -- the cause was found at a moment, at an address that is free; or none is
-pub data HasReason (port : HubPort) (addresses : Addresses) (tier supply : ℕ) (old new : World) : Cause → Type 0 where
-  refused_for : {why : Cause} (address : ℕ) → IsFree addresses address → RefusedFor port address tier supply old new why → HasReason port addresses tier supply old new why
-  refused_early : {why : Cause} → IsFull addresses → RefusedEarly port 0 old new why → HasReason port addresses tier supply old new why
+pub data HasReason (port : HubPort) (addresses : Addresses) (tier supply : ℕ) (old new : World) :
+    Cause → Type 0 where
+  refused_for : {why : Cause} (address : ℕ) → IsFree addresses address
+      → RefusedFor port address tier supply old new why
+      → HasReason port addresses tier supply old new why
+  refused_early : {why : Cause} → IsFull addresses → RefusedEarly port 0 old new why
+      → HasReason port addresses tier supply old new why
   none_free : IsFull addresses → HasReason port addresses tier supply old new cause.NoAddress
 
-pub record RefusedBefore (port : HubPort) (addresses : Addresses) (tier supply : ℕ) (old new : World) (why : Cause) : Type 0 where
+pub record RefusedBefore (port : HubPort) (addresses : Addresses) (tier supply : ℕ)
+    (old new : World) (why : Cause) : Type 0 where
   pub moment : World
   pub reason : HasReason port addresses tier supply old moment why
   pub led : Leads moment new
@@ -258,5 +303,6 @@ pub record RefusedBefore (port : HubPort) (addresses : Addresses) (tier supply :
 -- a refusal names what ended it, and a hub is lost where a request about the port failed
 abbrev pub EndsFor : HubPort → Addresses → ℕ → ℕ → World → Result Finding EnumFault → World → Type 0
 EndsFor port addresses tier supply old (Ok (finding.Device device)) new = ⊤
-EndsFor port addresses tier supply old (Ok (finding.Refused why)) new = RefusedBefore port addresses tier supply old new why
+EndsFor port addresses tier supply old (Ok (finding.Refused why)) new =
+    RefusedBefore port addresses tier supply old new why
 EndsFor port addresses tier supply old (Err why) new = FaultBy port why old new

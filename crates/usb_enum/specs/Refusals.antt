@@ -1,5 +1,6 @@
 -- Why a device is refused, said of its description (9.4, 9.6, 11.24.2).
-use Rattle.std.specs.Prelude.{◌≡◌, ℕ, ◌==◌, ◌&&◌, Bool, false, if◌then◌else◌, List, [], take, slice_index_or, Option, None, Some, Result, Ok, Err, is_ok, ⊤}
+use Rattle.std.specs.Prelude.{◌≡◌, ℕ, ◌==◌, ◌&&◌, Bool, false, if◌then◌else◌, List, [], take}
+use Rattle.std.specs.Prelude.{slice_index_or, Option, None, Some, Result, Ok, Err, is_ok, ⊤}
 use Rattle.std.specs.Option.{option_or}
 use Rattle.usb_request.specs.Codes.{DEVICE_HEAD_LENGTH, DEVICE_LENGTH}
 use Rattle.usb_descriptor.specs.Device.{device_head_of, configuration_count}
@@ -10,7 +11,8 @@ use Rattle.usb_transaction.specs.declared.target.Target.{Target}
 use Rattle.usb_hub.specs.Addresses.{IsClaimed}
 use Rattle.usb_hub.specs.CallFailures.{HasPort}
 use Rattle.usb_enum.specs.declared.cause.Cause.{Cause}
-use Rattle.usb_enum.specs.declared.cause.Cause.TheVariants.{Silent, Busy, Stalled, BadDevice, TooDeep, NoPower, BadHub, NoAddress}
+use Rattle.usb_enum.specs.declared.cause.Cause.TheVariants.{Silent, Busy, Stalled, BadDevice}
+use Rattle.usb_enum.specs.declared.cause.Cause.TheVariants.{TooDeep, NoPower, BadHub, NoAddress}
 use Rattle.usb_enum.specs.declared.cause.Request.TheVariants as request
 use Rattle.usb_enum.specs.declared.stop.Stop.{Stop}
 use Rattle.usb_enum.specs.declared.stop.Stop.TheVariants.{Refused, Fault}
@@ -69,7 +71,8 @@ address_fault spec = if spec.stalls.address then Some (Stalled request.Address) 
 
 -- up to its whole device descriptor
 unfoldable pub addressed_fault : Spec → Option Cause
-addressed_fault spec = option_or (early_fault spec) (option_or (address_fault spec) (device_fault spec.low spec))
+addressed_fault spec = option_or (early_fault spec)
+    (option_or (address_fault spec) (device_fault spec.low spec))
 
 -- where it is to be given an address, and none is free
 abbrev pub unaddressed_fault : Spec → Option Cause
@@ -99,7 +102,9 @@ setting_fault spec = if spec.stalls.set_config then Some (Stalled request.SetCon
 -- with a device, a hub or none, that is to be set to one of these configurations
 abbrev pub chosen_fault : Bool → List (List ℕ) → Option ℕ → Spec → Option Cause
 chosen_fault hub texts None spec = Some NoPower
-chosen_fault hub texts (Some chosen) spec = option_or (setting_fault spec) (if hub then start_fault (slice_index_or texts chosen []) spec else None)
+chosen_fault hub texts (Some chosen) spec =
+    option_or (setting_fault spec) (if hub then start_fault (slice_index_or texts chosen []) spec
+    else None)
 
 -- behind its device descriptor, which is this, in a tier and at a port that gives so many mA
 unfoldable pub configured_fault : ℕ → ℕ → List ℕ → Spec → Option Cause
@@ -107,7 +112,8 @@ configured_fault tier supply bytes spec =
     let count = configuration_count bytes in
     let texts = texts_below spec count in
     if is_hub_device bytes && tier == LAST_TIER then Some TooDeep
-    else option_or (first_fault spec count) (chosen_fault (is_hub_device bytes) texts (choice_of supply texts) spec)
+    else option_or (first_fault spec count)
+    (chosen_fault (is_hub_device bytes) texts (choice_of supply texts) spec)
 
 -- Of the head of the device descriptor
 
@@ -137,4 +143,5 @@ pub record RefusesDescriptor (t : Target) (stop : Stop) (old new : World) : Type
 
 -- a responsive hub that has the port is not refused for it
 abbrev pub RefusesNoPort : Target → ℕ → Stop → Spec → Type 0
-RefusesNoPort t port stop spec = IsResponsive t spec → HasPort spec port → IsRefusedFor no_fault stop spec
+RefusesNoPort t port stop spec = IsResponsive t spec → HasPort spec port
+    → IsRefusedFor no_fault stop spec

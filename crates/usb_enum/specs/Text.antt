@@ -1,5 +1,7 @@
 -- What a device's configuration texts say together.
-use Rattle.std.specs.Prelude.{◌≡◌, ⊤, position, nat_le, slice_get, ℕ, ◌*◌, List, [], ◌∷◌, map, Bool, false, ◌||◌, ◌==◌, Option, Some, None, Result, Ok, Err, is_ok, if◌then◌else◌}
+use Rattle.std.specs.Prelude.{◌≡◌, ⊤, position, nat_le, slice_get, ℕ, ◌*◌, List, [], ◌∷◌, map, Bool}
+use Rattle.std.specs.Prelude.{false, ◌||◌, ◌==◌, Option, Some, None, Result, Ok, Err, is_ok}
+use Rattle.std.specs.Prelude.{if◌then◌else◌}
 use Rattle.usb_descriptor.specs.declared.fault.DescriptorFault.{DescriptorFault}
 use Rattle.usb_descriptor.specs.Text.{string_of}
 use Rattle.usb_descriptor.specs.Config.{config_of, configuration_value, max_power_of}
@@ -27,7 +29,8 @@ choice_of supply texts = position (λ need. nat_le need supply) (needs_of texts)
 -- no two texts have the same bConfigurationValue
 abbrev pub ValuesDiffer : List (List ℕ) → Type 0
 ValuesDiffer [] = ⊤
-ValuesDiffer (text ∷ texts) = (any_has_value (configuration_value text) texts ≡ false) × ValuesDiffer texts
+ValuesDiffer (text ∷ texts) = (any_has_value (configuration_value text) texts ≡ false)
+    × ValuesDiffer texts
 
 abbrev pub if_read : Result (List ℕ) DescriptorFault → Option (List ℕ)
 if_read (Ok units) = Some units

@@ -1,5 +1,6 @@
 -- How few attempts an enumeration makes, by the lengths that the devices' configuration texts say.
-use Rattle.std.specs.Prelude.{◌≡◌, ◌⊎◌, ◌≤◌, ℕ, ◌+◌, ◌*◌, List, length, slice_get, true, false, None, Some, Result, OnOk, IfSome, All, ⊤}
+use Rattle.std.specs.Prelude.{◌≡◌, ◌⊎◌, ◌≤◌, ℕ, ◌+◌, ◌*◌, List, length, slice_get, true, false}
+use Rattle.std.specs.Prelude.{None, Some, Result, OnOk, IfSome, All, ⊤}
 use Rattle.usb_device.specs.Spec.{Spec}
 use Rattle.usb_device.specs.Rows.{State}
 use Rattle.usb_device.specs.SaidLengths.{said_lengths}
@@ -37,7 +38,8 @@ pub record SaysWithin (t : Target) (most : ℕ) (spec : Spec) : Type 0 where
 
 -- no device is plugged whose texts say more
 abbrev pub PlugsWithin : ℕ → List Spec → Action → Type 0
-PlugsWithin most devices (Change (Plug path device)) = IfSome (slice_get devices device) (λ spec. said_lengths spec ≤ most)
+PlugsWithin most devices (Change (Plug path device)) =
+    IfSome (slice_get devices device) (λ spec. said_lengths spec ≤ most)
 PlugsWithin most devices (Change (Unplug path)) = ⊤
 PlugsWithin most devices (Ask ask) = ⊤
 
@@ -57,7 +59,8 @@ pub record HasPlanWithin (most : ℕ) (w : World) : Type 0 where
 
 -- each reachable device that has it is so
 abbrev pub EachAt : (Spec → Type 0) → Target → World → Type 0
-EachAt So t w = (x : Location) (s : State) → reach_on w.roots x ≡ true → state_on w.roots x ≡ Some s → is_at s t ≡ true → So s.spec
+EachAt So t w = (x : Location) (s : State) → reach_on w.roots x ≡ true → state_on w.roots x ≡ Some s
+    → is_at s t ≡ true → So s.spec
 
 -- some reachable device has it, and is so
 pub record SomeAt (So : Spec → Type 0) (t : Target) (w : World) : Type 0 where
@@ -74,18 +77,26 @@ IsAnswered t w = w.shared ≡ false → HadOne t w
 
 -- Of calls
 
--- a text was read, or not: so few attempts were made, by the length that its head said; and where one was said, a device said it
-pub record ReadsText (t : Target) (index : ℕ) (old : World) (result : Result (List ℕ) Stop) (new : World) : Type 0 where
+-- a text was read, or not: so few attempts were made, by the length that its head said; and where
+-- one was said, a device said it
+pub record ReadsText (t : Target) (index : ℕ) (old : World) (result : Result (List ℕ) Stop)
+    (new : World) : Type 0 where
   pub total : ℕ
   pub count : new.attempts ≤ old.attempts + (text_bound + 100 * total)
   pub said : (total ≡ 0) ⊎ (new.shared ≡ false → SomeAt (AtMaximum t (HasTotal index total)) t old)
-  pub read : OnOk result (DeviceFact (AtMaximum t (HasTotal index total)) t old new × IsAnswered t new)
+  pub read : OnOk result (DeviceFact (AtMaximum t (HasTotal index total)) t old new
+      × IsAnswered t new)
 
--- where no address was ever held twice, and the texts of whoever has the target's address say so little, so few attempts were made
+-- where no address was ever held twice, and the texts of whoever has the target's address say so
+-- little, so few attempts were made
 pub record FewFor (bound : ℕ → ℕ) (t : Target) (old new : World) : Type 0 where
-  pub few : (most : ℕ) → new.shared ≡ false → EachAt (SaysWithin t most) t old → new.attempts ≤ old.attempts + bound most
+  pub few : (most : ℕ) → new.shared ≡ false → EachAt (SaysWithin t most) t old
+      → new.attempts ≤ old.attempts + bound most
 
--- where nothing is claimed at the port, and the address is spare, so few attempts were made, by what the plan's devices say
+-- where nothing is claimed at the port, and the address is spare, so few attempts were made, by
+-- what the plan's devices say
 pub record FewFrom (port : HubPort) (address : ℕ) (old new : World) : Type 0 where
-  pub few : (f : AddressMap) (p : List ℕ) → IsSpare f port p address → WhileBusWorks (Enumerating f p address) old → IsRegular old
-      → (most : ℕ) → (old.fault ≡ None → HasPlanWithin most old) → new.attempts ≤ old.attempts + examined_by port most
+  pub few : (f : AddressMap) (p : List ℕ) → IsSpare f port p address
+      → WhileBusWorks (Enumerating f p address) old → IsRegular old
+      → (most : ℕ) → (old.fault ≡ None → HasPlanWithin most old)
+      → new.attempts ≤ old.attempts + examined_by port most

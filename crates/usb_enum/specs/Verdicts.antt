@@ -1,8 +1,13 @@
--- What a host finds in a device of a description (9.1.2, 9.4, 9.6): the first row of a table that holds.
-use Rattle.std.specs.Prelude.{◌≡◌, ◌⊎◌, ℕ, zero, suc, ◌==◌, ◌&&◌, ◌||◌, not, Bool, true, false, List, [], map, take, slice_get, slice_index_or, Option, None, Some, is_some, option_map, option_and_then, Result, Ok, Err, is_ok, if◌then◌else◌}
+-- What a host finds in a device of a description (9.1.2, 9.4, 9.6): the first row of a table that
+-- holds.
+use Rattle.std.specs.Prelude.{◌≡◌, ◌⊎◌, ℕ, zero, suc, ◌==◌, ◌&&◌, ◌||◌, not, Bool, true, false}
+use Rattle.std.specs.Prelude.{List, [], map, take, slice_get, slice_index_or, Option, None, Some}
+use Rattle.std.specs.Prelude.{is_some, option_map, option_and_then, Result, Ok, Err, is_ok}
+use Rattle.std.specs.Prelude.{if◌then◌else◌}
 use Rattle.std.specs.Option.{option_or}
 use Rattle.usb_resources.specs.Power.{supply_of}
-use Rattle.usb_request.specs.Codes.{CONFIGURATION_LENGTH, DEVICE_HEAD_LENGTH, DEVICE_LENGTH, HUB_LENGTH}
+use Rattle.usb_request.specs.Codes.{CONFIGURATION_LENGTH, DEVICE_HEAD_LENGTH, DEVICE_LENGTH}
+use Rattle.usb_request.specs.Codes.{HUB_LENGTH}
 use Rattle.usb_descriptor.specs.Device.{device_head_of, configuration_count}
 use Rattle.usb_descriptor.specs.Config.{config_head_of, config_of, configuration_value, total_in}
 use Rattle.usb_descriptor.specs.Choice.{status_endpoint_of}
@@ -11,7 +16,9 @@ use Rattle.usb_device.specs.Spec.{Spec, Hub}
 use Rattle.usb_device.specs.Rows.{State}
 use Rattle.usb_world.specs.PluggedDevices.{hub_ports}
 use Rattle.usb_enum.specs.declared.cause.Cause.{Cause}
-use Rattle.usb_enum.specs.declared.cause.Cause.TheVariants.{Silent, Busy, Stalled, BadDevice, TooDeep, BadConfiguration, NoPower, BadHub, NoAddress}
+use Rattle.usb_enum.specs.declared.cause.Cause.TheVariants.{Silent, Busy, Stalled, BadDevice}
+use Rattle.usb_enum.specs.declared.cause.Cause.TheVariants.{TooDeep, BadConfiguration, NoPower}
+use Rattle.usb_enum.specs.declared.cause.Cause.TheVariants.{BadHub, NoAddress}
 use Rattle.usb_enum.specs.declared.cause.Request.TheVariants as request
 use Rattle.usb_enum.specs.declared.strings.StringIndexes.{StringIndexes}
 use Rattle.usb_enum.specs.declared.strings.Strings.{Strings}
@@ -19,7 +26,8 @@ use Rattle.usb_enum.specs.declared.finding.Accepted.{Accepted}
 use Rattle.usb_enum.specs.declared.finding.Finding.{Finding}
 use Rattle.usb_enum.specs.declared.finding.Finding.TheVariants.{Device, Refused}
 use Rattle.usb_enum.specs.declared.hub.HubFacts.{HubFacts}
-use Rattle.usb_enum.specs.Device.{is_device, is_hub_device, string_indexes, configuration_of, LAST_TIER}
+use Rattle.usb_enum.specs.Device.{is_device, is_hub_device, string_indexes, configuration_of}
+use Rattle.usb_enum.specs.Device.{LAST_TIER}
 use Rattle.usb_enum.specs.Text.{any_has_value, choice_of, string_units, first_language_of}
 
 -- Configurations
@@ -30,13 +38,16 @@ text_read text = take (total_in (config_head_of (take CONFIGURATION_LENGTH text)
 
 -- the first nine bytes are a configuration descriptor, and what is read is a configuration text
 abbrev pub is_good_text : List ℕ → Bool
-is_good_text text = is_ok (config_head_of (take CONFIGURATION_LENGTH text)) && is_ok (config_of (text_read text))
+is_good_text text = is_ok (config_head_of (take CONFIGURATION_LENGTH text)) &&
+    is_ok (config_of (text_read text))
 
--- what is wrong with the text of an index: there is none, it is malformed, or its value is that of an earlier one
+-- what is wrong with the text of an index: there is none, it is malformed, or its value is that of
+-- an earlier one
 abbrev pub text_fault : ℕ → List (List ℕ) → Option (List ℕ) → Option Cause
 text_fault index earlier None = Some (Stalled request.Config)
 text_fault index earlier (Some text) =
-    if is_good_text text && not (any_has_value (configuration_value (text_read text)) earlier) then None else Some (BadConfiguration index)
+    if is_good_text text && not (any_has_value (configuration_value (text_read text)) earlier)
+    then None else Some (BadConfiguration index)
 
 -- what is read of the first so many configurations
 abbrev pub texts_below : Spec → ℕ → List (List ℕ)
@@ -44,7 +55,8 @@ texts_below spec count = map text_read (take count spec.configs)
 
 -- what is wrong with the configuration of an index
 unfoldable pub config_fault : Spec → ℕ → Option Cause
-config_fault spec index = if spec.stalls.config then Some (Stalled request.Config) else text_fault index (texts_below spec index) (slice_get spec.configs index)
+config_fault spec index = if spec.stalls.config then Some (Stalled request.Config) else text_fault
+    index (texts_below spec index) (slice_get spec.configs index)
 
 -- what is wrong with the first bad one of so many configurations
 unfoldable pub first_fault : Spec → ℕ → Option Cause
@@ -60,7 +72,8 @@ texts_of spec = texts_below spec (configuration_count spec.descriptor)
 -- it has ports, gives its hub descriptor and its status, and its descriptor is one
 abbrev pub gives_hub : Spec → Option Hub → Bool
 gives_hub spec None = false
-gives_hub spec (Some hub) = not spec.stalls.hub && not spec.stalls.status && is_ok (hub_spelled (take HUB_LENGTH hub.descriptor))
+gives_hub spec (Some hub) = not spec.stalls.hub && not spec.stalls.status &&
+    is_ok (hub_spelled (take HUB_LENGTH hub.descriptor))
 
 -- a hub that a host can use, with this configuration text
 abbrev pub is_good_hub : Spec → List ℕ → Bool
@@ -68,7 +81,8 @@ is_good_hub spec text = is_some (status_endpoint_of text) && gives_hub spec spec
 
 -- what a hub says of its ports
 abbrev pub facts_of : Spec → Option HubFacts
-facts_of spec = if is_hub_device spec.descriptor then Some (record { ports = hub_ports spec.hub; supply = supply_of false spec.self_powered }) else None
+facts_of spec = if is_hub_device spec.descriptor then Some
+    (record { ports = hub_ports spec.hub; supply = supply_of false spec.self_powered }) else None
 
 -- The rows
 
@@ -77,7 +91,8 @@ abbrev pub set_verdict : Spec → List (List ℕ) → Option ℕ → Result ℕ 
 set_verdict spec texts None = Err NoPower
 set_verdict spec texts (Some chosen) =
     if spec.stalls.set_config then Err (Stalled request.SetConfig)
-    else if is_hub_device spec.descriptor && not (is_good_hub spec (slice_index_or texts chosen [])) then Err BadHub
+    else if is_hub_device spec.descriptor && not (is_good_hub spec (slice_index_or texts chosen []))
+    then Err BadHub
     else Ok chosen
 
 -- of a device whose configurations are to be read
@@ -85,13 +100,15 @@ abbrev pub read_verdict : Spec → ℕ → Option Cause → Result ℕ Cause
 read_verdict spec supply (Some cause) = Err cause
 read_verdict spec supply None = set_verdict spec (texts_of spec) (choice_of supply (texts_of spec))
 
--- the index of the configuration that the device is set to, or why it is refused, in a tier and at a port that gives so many mA
+-- the index of the configuration that the device is set to, or why it is refused, in a tier and at
+-- a port that gives so many mA
 unfoldable pub verdict : Spec → ℕ → ℕ → Result ℕ Cause
 verdict spec tier supply =
     if spec.silent then Err Silent
     else if spec.busy then Err Busy
     else if spec.stalls.device then Err (Stalled request.Device)
-    else if not (is_ok (device_head_of spec.low (take DEVICE_HEAD_LENGTH spec.descriptor))) then Err BadDevice
+    else if not (is_ok (device_head_of spec.low (take DEVICE_HEAD_LENGTH spec.descriptor))) then Err
+    BadDevice
     else if spec.stalls.address then Err (Stalled request.Address)
     else if not (is_device spec.low (take DEVICE_LENGTH spec.descriptor)) then Err BadDevice
     else if is_hub_device spec.descriptor && tier == LAST_TIER then Err TooDeep
@@ -99,18 +116,21 @@ verdict spec tier supply =
 
 -- it answers with the head of a device descriptor: none of the rows before the address holds
 abbrev pub gives_head : Spec → Bool
-gives_head spec = not spec.silent && not spec.busy && not spec.stalls.device && is_ok (device_head_of spec.low (take DEVICE_HEAD_LENGTH spec.descriptor))
+gives_head spec = not spec.silent && not spec.busy && not spec.stalls.device &&
+    is_ok (device_head_of spec.low (take DEVICE_HEAD_LENGTH spec.descriptor))
 
 -- Strings
 
 -- what a host reads of a string's text: 255 bytes at most
 abbrev pub string_read : Spec → ℕ → Option (List ℕ)
-string_read spec index = if spec.stalls.string then None else option_map (take 255) (slice_get spec.strings index)
+string_read spec index = if spec.stalls.string then None else option_map (take 255)
+    (slice_get spec.strings index)
 
 -- the string of an index: index 0 names none, and without a first language none is read
 unfoldable pub string_at : Spec → ℕ → Option (List ℕ)
 string_at spec index =
-    if index == 0 || not (is_some (option_and_then first_language_of (string_read spec 0))) then None
+    if index == 0 || not (is_some (option_and_then first_language_of (string_read spec 0)))
+    then None
     else option_and_then string_units (string_read spec index)
 
 abbrev pub strings_by : Spec → StringIndexes → Strings
@@ -133,9 +153,11 @@ pub record IsAs (spec : Spec) (device : Accepted) : Type 0 where
   pub strings : device.strings ≡ strings_of spec
   pub hub : device.hub ≡ facts_of spec
 
--- what a host finds in a device: accepted as it is, set to the configuration that the rows say; or refused with its cause
+-- what a host finds in a device: accepted as it is, set to the configuration that the rows say; or
+-- refused with its cause
 abbrev pub IsFindingOf : Spec → ℕ → ℕ → Finding → Type 0
-IsFindingOf spec tier supply (Device device) = (verdict spec tier supply ≡ Ok device.chosen) × IsAs spec device
+IsFindingOf spec tier supply (Device device) = (verdict spec tier supply ≡ Ok device.chosen)
+    × IsAs spec device
 IsFindingOf spec tier supply (Refused cause) = verdict spec tier supply ≡ Err cause
 
 -- a device that would have been given an address, where each is taken
@@ -146,7 +168,8 @@ pub record IsWithout (full : Type 0) (spec : Spec) (finding : Finding) : Type 0 
 
 -- what is found in a device: what its description says, or that no address is free
 abbrev pub IsRight : Type 0 → Spec → ℕ → ℕ → Finding → Type 0
-IsRight full spec tier supply finding = IsFindingOf spec tier supply finding ⊎ IsWithout full spec finding
+IsRight full spec tier supply finding = IsFindingOf spec tier supply finding
+    ⊎ IsWithout full spec finding
 
 -- a device has the address and the configuration that are listed
 pub record IsSet (device : Accepted) (s : State) : Type 0 where

@@ -3,8 +3,8 @@
 //!
 //! # What is proved
 //!
-//! What names a world or a trace is said of a bus that does what its world does (`modelled` of `usb_bus::Bus`). Over any
-//! bus: what a finding says of itself (`IsFound`, `usb_enum/specs/Findings.antt`) and which address it takes.
+//! What names a world or a trace is said of a bus that does what its world does (`modelled` of `usb_bus::Bus`). Over
+//! any bus: what a finding says of itself (`IsFound`, `usb_enum/specs/Findings.antt`) and which address it takes.
 //!
 //! `enumerate` takes the least free address exactly where it accepts; a refused device leaves the pool as it was, and
 //! its port was disabled last of all; an accepted one has a good descriptor, as many configurations as it says, with
@@ -24,9 +24,9 @@
 //!   told, then the head that was read and no address, then the address that was given and the descriptor that was read
 //!   (`Finds`, `usb_enum/specs/PresentDevices.antt`).
 //! - `enumerate`: where each reachable device holds the address that its path claims, nothing is claimed at the port,
-//!   only addresses that are taken are claimed, and ports are sane and devices as the rules say when it begins (which
-//!   every course of a plan keeps), the device at the port, where it is reachable in the end, is as it is listed:
-//!   `verdict` of its description, at this tier and supply, is the configuration that was chosen, its speed,
+//!   only addresses that are taken are claimed, and ports are consistent and devices as the rules say when it begins
+//!   (which every course of a plan keeps), the device at the port, where it is reachable in the end, is as it is
+//!   listed: `verdict` of its description, at this tier and supply, is the configuration that was chosen, its speed,
 //!   descriptor, configurations, strings and hub facts are the description's, and it holds the address and the
 //!   configuration that are listed (`FindingIsTrue`, `usb_enum/specs/Findings.antt`). No premise on damage, plugs or
 //!   losses. Its endpoints but for 0 begin again.
@@ -34,14 +34,15 @@
 //!   connection that is pending at the port stays so, and each device elsewhere stays as it was (`OnlyAt`,
 //!   `specs/Frames.antt`).
 //! - At an *occupied* port (a change of connection is pending there, or it is powered on its whole way and a device
-//!   stands there) of a world whose ports are sane, what is found is there in the end, as long as the bus is at work:
-//!   an accepted device is reached, a refused one stands behind a disabled port, the ports of an accepted hub are
-//!   powered and nothing is known at them, or a change is pending (`FindingStands`, `specs/Findings.antt`, `Places.antt`).
+//!   stands there) of a world whose ports are consistent, what is found is there in the end, as long as the bus is at
+//!   work: an accepted device is reached, a refused one stands behind a disabled port, the ports of an accepted hub are
+//!   powered and nothing is known at them, or a change is pending (`FindingStands`, `specs/Findings.antt`,
+//!   `Places.antt`).
 //! - Where no three attempts running are damaged, no address is lost three times, and the port's hub serves it or a
 //!   change is pending there (`IsFair`): a refusal has its cause, the first of the twelve rows that holds, or there is
-//!   no address left; and the parent is lost only where a change is pending there (`JustifiesRefusal`). Each read says so of
-//!   what it refuses for (`FailureReason`, `specs/LearnedFacts.antt`, `Refusals.antt`), each pass of the address that was
-//!   missed (`Misses`, `specs/FairEnumerations.antt`).
+//!   no address left; and the parent is lost only where a change is pending there (`JustifiesRefusal`). Each read says
+//!   so of what it refuses for (`FailureReason`, `specs/LearnedFacts.antt`, `Refusals.antt`), each pass of the address
+//!   that was missed (`Misses`, `specs/FairEnumerations.antt`).
 //! - The strings of an accepted device are the last that it was asked for: string 0 in language 0, and each string that
 //!   its descriptor names in the first language that string 0 lists (`AsksStrings`, `specs/StringRequests.antt`).
 //! - Whatever is damaged, each cause names what ended the enumeration: the last request and what was answered to it, or

@@ -1,5 +1,6 @@
 -- What is done at a question, from what the bus did.
-use Rattle.std.proofs.Common.{◌≡◌, ◌∙◌, ℕ, ◌+◌, ◌<◌, Bool, true, false, List, [], ◌∷◌, ◌++◌, length, map, take, Option, Some, None, Ok, refl, sym, ap, ap₂, subst}
+use Rattle.std.proofs.Common.{◌≡◌, ◌∙◌, ℕ, ◌+◌, ◌<◌, Bool, true, false, List, [], ◌∷◌, ◌++◌, length}
+use Rattle.std.proofs.Common.{map, take, Option, Some, None, Ok, refl, sym, ap, ap₂, subst}
 use Rattle.std.specs.Prelude.{slice_index_or}
 use Rattle.std.proofs.KnownBytes.{Appends-nil}
 use Rattle.std.proofs.lemmas.Bool.{false≢true}
@@ -19,12 +20,16 @@ use Rattle.usb_wire.specs.declared.answer.Answer.TheVariants.{Done, Roots}
 use Rattle.usb_wire.specs.declared.question.Question.{Question}
 use Rattle.usb_wire.specs.declared.question.Question.TheVariants.{Hello}
 use Rattle.usb_far.specs.declared.fault.FarFault.TheVariants.{LongSend}
-use Rattle.usb_far.specs.FarEnd.{Far, IsDone, Played, SendsTooMuch, attempt_done, call_done, came_in, done, due_answer, hello_done, is_poll, outcome_answer, wait_done}
+use Rattle.usb_far.specs.FarEnd.{Far, IsDone, Played, SendsTooMuch, attempt_done, call_done}
+use Rattle.usb_far.specs.FarEnd.{came_in, done, due_answer, hello_done, is_poll, outcome_answer}
+use Rattle.usb_far.specs.FarEnd.{wait_done}
 
-pub played_attempt : (a : Attempt) (old new : Played) (o : Outcome) (answer : Answer) (poll came : Bool) (before now : ℕ)
+pub played_attempt : (a : Attempt) (old new : Played) (o : Outcome) (answer : Answer)
+    (poll came : Bool) (before now : ℕ)
     → Attempts a old.far.world old.trace.bytes (Ok o) new.far.world new.trace.bytes
     → answer ≡ outcome_answer o → poll ≡ is_poll a.kind o
-    → before ≡ old.far.world.taken → now ≡ new.far.world.taken → came ≡ came_in poll old.far.came before now
+    → before ≡ old.far.world.taken → now ≡ new.far.world.taken
+    → came ≡ came_in poll old.far.came before now
     → new.far ≡ record old.far { world = new.far.world; came = came }
     → IsDone (attempt_done a old.far) old answer new
 unfolding attempt_done
@@ -32,9 +37,11 @@ played_attempt a old new o answer poll came before now made told polled then lat
     let f = old.far in
     let world : new.far.world ≡ after (attempt a) f.world = made.exact in
     let heard : o ≡ outcome_in a f.world = made.outcome in
-    let polled_in : poll ≡ is_poll a.kind (outcome_in a f.world) = polled ∙ ap (is_poll a.kind) heard in
+    let polled_in : poll ≡ is_poll a.kind (outcome_in a f.world) = polled
+    ∙ ap (is_poll a.kind) heard in
     let taken : now ≡ (after (attempt a) f.world).taken = later ∙ ap (λ v. v.taken) world in
-    let same : came ≡ came_in (is_poll a.kind (outcome_in a f.world)) f.came f.world.taken (after (attempt a) f.world).taken =
+    let same : came ≡ came_in (is_poll a.kind (outcome_in a f.world)) f.came f.world.taken
+    (after (attempt a) f.world).taken =
     is ∙ ap (λ p. came_in p f.came before now) polled_in
     ∙ ap (λ t. came_in (is_poll a.kind (outcome_in a f.world)) f.came t now) then
     ∙ ap (λ t. came_in (is_poll a.kind (outcome_in a f.world)) f.came f.world.taken t) taken in
@@ -42,10 +49,12 @@ played_attempt a old new o answer poll came before now made told polled then lat
       answered = sym (ap Some (told ∙ ap outcome_answer heard));
       made = λ _. sym (ap (λ v. v.fault) world) ∙ made.counts.ends.still;
       far = far ∙ ap₂ (λ v b. record f { world = v; came = b }) world same;
-      traced = subst (λ v. Appends old.trace.bytes new.trace.bytes (step_lines a f.world v)) world made.text;
+      traced = subst (λ v. Appends old.trace.bytes new.trace.bytes (step_lines a f.world v)) world
+          made.text;
     }
 
-pub nothing_wanted : (old new : Played) → old.far.came ≡ true → new.far ≡ record old.far { came = false } → new.trace ≡ old.trace
+pub nothing_wanted : (old new : Played) → old.far.came ≡ true
+    → new.far ≡ record old.far { came = false } → new.trace ≡ old.trace
     → IsDone (wait_done old.far) old Done new
 unfolding wait_done
 nothing_wanted old new came far same = rw came (record {
@@ -56,39 +65,56 @@ nothing_wanted old new came far same = rw came (record {
 })
 
 event_due : (f : Far) → f.came ≡ false
-    → wait_done f ≡ record { answer = due_answer (next_due f.world); world = after event f.world; came = false; traced = lines_between f.world (after event f.world); by_bus = true }
+    → wait_done f ≡ record {
+      answer = due_answer (next_due f.world);
+      world = after event f.world;
+      came = false;
+      traced = lines_between f.world (after event f.world);
+      by_bus = true;
+    }
 unfolding wait_done
 event_due f came = rw came refl
 
-event_ends-no_fault : (w v : World) (due : Option (Option Ask)) → EventEnds w (Ok due) v → v.fault ≡ None
+event_ends-no_fault : (w v : World) (due : Option (Option Ask)) → EventEnds w (Ok due) v
+    → v.fault ≡ None
 event_ends-no_fault w v None ends = ap (λ u. u.fault) ends.same ∙ ends.sound
 event_ends-no_fault w v (Some due) ends = ends.still
 
-pub event_wanted : (old new : Played) (due : Option (Option Ask)) (answer : Answer) → old.far.came ≡ false
+pub event_wanted : (old new : Played) (due : Option (Option Ask)) (answer : Answer)
+    → old.far.came ≡ false
     → TakesEvent old.far.world old.trace.bytes (Ok due) new.far.world new.trace.bytes
-    → due_answer due ≡ Some answer → new.far ≡ record old.far { world = new.far.world } → IsDone (wait_done old.far) old answer new
-event_wanted old new due answer came takes told far = subst (λ d. IsDone d old answer new) (sym (event_due old.far came)) (record {
-  answered = sym (ap due_answer takes.asked) ∙ told;
-  made = λ _. sym (ap (λ v. v.fault) takes.exact) ∙ event_ends-no_fault old.far.world new.far.world due takes.took.ends;
-  far = far ∙ ap₂ (λ v b. record old.far { world = v; came = b }) takes.exact came;
-  traced = subst (λ v. Appends old.trace.bytes new.trace.bytes (lines_between old.far.world v)) takes.exact takes.text;
-})
+    → due_answer due ≡ Some answer → new.far ≡ record old.far { world = new.far.world }
+    → IsDone (wait_done old.far) old answer new
+event_wanted old new due answer came takes told far =
+    subst (λ d. IsDone d old answer new) (sym (event_due old.far came)) (record {
+      answered = sym (ap due_answer takes.asked) ∙ told;
+      made = λ _. sym (ap (λ v. v.fault) takes.exact)
+          ∙ event_ends-no_fault old.far.world new.far.world due takes.took.ends;
+      far = far ∙ ap₂ (λ v b. record old.far { world = v; came = b }) takes.exact came;
+      traced = subst (λ v. Appends old.trace.bytes new.trace.bytes (lines_between old.far.world v))
+          takes.exact takes.text;
+    })
 
 pub too_much_wanted : (old new : Played) (due : Option (Option Ask)) → old.far.came ≡ false
     → TakesEvent old.far.world old.trace.bytes (Ok due) new.far.world new.trace.bytes
-    → due_answer due ≡ None → new.far ≡ record old.far { world = new.far.world } → SendsTooMuch old LongSend new
+    → due_answer due ≡ None → new.far ≡ record old.far { world = new.far.world }
+    → SendsTooMuch old LongSend new
 too_much_wanted old new due came takes told far =
     let is = event_due old.far came in record {
       is = refl;
-      made = λ _. ap (λ d. d.world.fault) is ∙ sym (ap (λ v. v.fault) takes.exact) ∙ event_ends-no_fault old.far.world new.far.world due takes.took.ends;
+      made = λ _. ap (λ d. d.world.fault) is ∙ sym (ap (λ v. v.fault) takes.exact)
+          ∙ event_ends-no_fault old.far.world new.far.world due takes.took.ends;
       none = ap (λ d. d.answer) is ∙ sym (ap due_answer takes.asked) ∙ told;
       far = far ∙ ap (λ v. record old.far { world = v }) (takes.exact ∙ sym (ap (λ d. d.world) is));
       traced = subst (λ t. Appends old.trace.bytes new.trace.bytes t) (sym (ap (λ d. d.traced) is))
-          (subst (λ v. Appends old.trace.bytes new.trace.bytes (lines_between old.far.world v)) takes.exact takes.text);
+          (subst (λ v. Appends old.trace.bytes new.trace.bytes (lines_between old.far.world v))
+          takes.exact takes.text);
     }
 
-pub port_called : (number : ℕ) (call : PortCall) (old new : Played) → new.far.world ≡ after (root_call call number) old.far.world
-    → new.far ≡ record old.far { world = new.far.world; came = false } → new.trace.bytes ≡ old.trace.bytes
+pub port_called : (number : ℕ) (call : PortCall) (old new : Played)
+    → new.far.world ≡ after (root_call call number) old.far.world
+    → new.far ≡ record old.far { world = new.far.world; came = false }
+    → new.trace.bytes ≡ old.trace.bytes
     → IsDone (call_done number call old.far) old Done new
 unfolding call_done
 port_called number call old new world far same = record {
@@ -98,7 +124,8 @@ port_called number call old new world far same = record {
   traced = subst (λ t. Appends old.trace.bytes t []) (sym same) (Appends-nil old.trace.bytes);
 }
 
-pub hello_answered : (f : Played) (q : Question) (roots : ℕ) → q ≡ Hello → roots ≡ roots_of f.far.world → IsDone (done q f.far) f (Roots roots) f
+pub hello_answered : (f : Played) (q : Question) (roots : ℕ) → q ≡ Hello
+    → roots ≡ roots_of f.far.world → IsDone (done q f.far) f (Roots roots) f
 unfolding hello_done
 hello_answered f q roots is count =
     subst (λ r. IsDone (done r f.far) f (Roots roots) f) (sym is) (record {
@@ -109,7 +136,10 @@ hello_answered f q roots is count =
     })
 
 -- the statuses of one port more
-pub status_more : (row : List PortState) (k : ℕ) (all : List (List ℕ)) (status : List ℕ) → k < length row → all ≡ map status_of (take k row)
-    → status ≡ status_of (slice_index_or row k off) → all ++ status ∷ [] ≡ map status_of (take (k + 1) row)
+pub status_more : (row : List PortState) (k : ℕ) (all : List (List ℕ)) (status : List ℕ)
+    → k < length row → all ≡ map status_of (take k row)
+    → status ≡ status_of (slice_index_or row k off)
+    → all ++ status ∷ [] ≡ map status_of (take (k + 1) row)
 status_more row k all status h so is =
-    ap₂ (λ l s. l ++ s ∷ []) so is ∙ sym (ap (map status_of) (take_more row k off h) ∙ map-append status_of (take k row) (slice_index_or row k off ∷ []))
+    ap₂ (λ l s. l ++ s ∷ []) so is ∙ sym (ap (map status_of) (take_more row k off h)
+    ∙ map-append status_of (take k row) (slice_index_or row k off ∷ []))

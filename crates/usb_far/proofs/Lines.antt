@@ -1,5 +1,8 @@
 -- How lines and their replies follow each other, and what stops them.
-use Rattle.std.proofs.Common.{◌≡◌, ◌≢◌, ◌⊎◌, inl, inr, ◌∙◌, ℕ, ◌+◌, ◌<◌, ◌≤◌, Bool, true, false, if◌then◌else◌, List, [], ◌∷◌, ◌++◌, length, take, Option, Ok, Err, Some, refl, sym, ap, subst, arith, append_assoc, append-nil, length-append}
+use Rattle.std.proofs.Common.{◌≡◌, ◌≢◌, ◌⊎◌, inl, inr, ◌∙◌, ℕ, ◌+◌, ◌<◌, ◌≤◌, Bool, true, false}
+use Rattle.std.proofs.Common.{if◌then◌else◌, List, [], ◌∷◌, ◌++◌, length, take, Option, Ok, Err}
+use Rattle.std.proofs.Common.{Some, refl, sym, ap, subst, arith, append_assoc, append-nil}
+use Rattle.std.proofs.Common.{length-append}
 use Rattle.std.proofs.KnownBytes.{Appends-nil, Appends-trans, Consumes-nil, Consumes-trans}
 use Rattle.std.proofs.lemmas.Bool.{false≢true}
 use Rattle.std.proofs.lemmas.List.{take-append-le, take_all}
@@ -15,8 +18,13 @@ use Rattle.usb_wire.specs.declared.question.Question.{Question}
 use Rattle.usb_far.specs.declared.far_end.Phase.{Phase}
 use Rattle.usb_far.specs.declared.fault.FarFault.{FarFault}
 use Rattle.usb_far.specs.declared.fault.FarFault.TheVariants as fault
-use Rattle.usb_far.specs.FarEnd.{Far, HasNoReply, IsReplied, Played, Replies, done, may_ask, reading_fault}
-use Rattle.usb_far.specs.Serving.{AllReplied, HasNoQuestion, HasQuestion, IsLastLine, MayGoOn, OnlyReads, OnlyReadsLine, Passed, Passes, ReadsOn, ReadsQuestion, Replied, Scene, ServedAll, ServedNone, ServedOne, ServedSome, ServedUpTo, ServesNext, CauseOf, and_then, is_told, passed, phase_behind}
+use Rattle.usb_far.specs.FarEnd.{Far, HasNoReply, IsReplied, Played, Replies, done, may_ask}
+use Rattle.usb_far.specs.FarEnd.{reading_fault}
+use Rattle.usb_far.specs.Serving.{AllReplied, HasNoQuestion, HasQuestion, IsLastLine, MayGoOn}
+use Rattle.usb_far.specs.Serving.{OnlyReads, OnlyReadsLine, Passed, Passes, ReadsOn, ReadsQuestion}
+use Rattle.usb_far.specs.Serving.{Replied, Scene, ServedAll, ServedNone, ServedOne, ServedSome}
+use Rattle.usb_far.specs.Serving.{ServedUpTo, ServesNext, CauseOf, and_then, is_told, passed}
+use Rattle.usb_far.specs.Serving.{phase_behind}
 
 -- ---- bytes that were read
 
@@ -24,10 +32,12 @@ abbrev pub in_scene : Played → Pipe → Pipe → Scene
 in_scene played reader writer = record { played = played; reader = reader; writer = writer }
 
 -- the first of bytes that were read behind others
-first_of_long : (front rest : List ℕ) (more : ℕ) → length front ≡ 1024 → take 1024 ((front ++ more ∷ []) ++ rest) ≡ front
+first_of_long : (front rest : List ℕ) (more : ℕ) → length front ≡ 1024
+    → take 1024 ((front ++ more ∷ []) ++ rest) ≡ front
 first_of_long front rest more full =
     ap (take 1024) (append_assoc front (more ∷ []) rest)
-    ∙ take-append-le 1024 front (more ∷ [] ++ rest) (omega arith) ∙ take_all 1024 front (omega arith)
+    ∙ take-append-le 1024 front (more ∷ [] ++ rest) (omega arith)
+    ∙ take_all 1024 front (omega arith)
 
 not_nil : (bytes rest : List ℕ) → 0 < length bytes → bytes ++ rest ≢ []
 not_nil [] rest some none = absurd (omega (arith, some))
@@ -35,32 +45,42 @@ not_nil (c ∷ bytes) rest some none = cc
 
 -- ---- what is told
 
-behind_told : (f : Far) (line : List ℕ) (p : Phase) → IsUnbroken line → is_told f.phase (take 1024 line) ≡ true → p ≡ phase_behind f.phase (take 1024 line)
+behind_told : (f : Far) (line : List ℕ) (p : Phase) → IsUnbroken line
+    → is_told f.phase (take 1024 line) ≡ true → p ≡ phase_behind f.phase (take 1024 line)
     → Replied f (passed (line ++ 10 ∷ []) [] []) (record f { phase = p })
 behind_told f line p one told next =
-    subst (λ q. Replied f (passed (line ++ 10 ∷ []) [] []) (record f { phase = q })) (sym next) (Replied.told line one told)
+    subst (λ q. Replied f (passed (line ++ 10 ∷ []) [] []) (record f { phase = q })) (sym next)
+    (Replied.told line one told)
 
-told_line : (old new : Scene) (line : List ℕ) (p : Phase) → IsUnbroken line → Consumes old.reader.bytes new.reader.bytes (line ++ 10 ∷ [])
-    → is_told old.played.far.phase (take 1024 line) ≡ true → p ≡ phase_behind old.played.far.phase (take 1024 line)
-    → new.played.far ≡ record old.played.far { phase = p } → new.played.trace ≡ old.played.trace → ReadsOn old new → new.writer ≡ old.writer
+told_line : (old new : Scene) (line : List ℕ) (p : Phase) → IsUnbroken line
+    → Consumes old.reader.bytes new.reader.bytes (line ++ 10 ∷ [])
+    → is_told old.played.far.phase (take 1024 line) ≡ true
+    → p ≡ phase_behind old.played.far.phase (take 1024 line)
+    → new.played.far ≡ record old.played.far { phase = p } → new.played.trace ≡ old.played.trace
+    → ReadsOn old new → new.writer ≡ old.writer
     → ServedOne old new
 told_line old new line p one read told next far trace reads writer = record {
   passed = passed (line ++ 10 ∷ []) [] [];
-  replied = subst (Replied old.played.far (passed (line ++ 10 ∷ []) [] [])) (sym far) (behind_told old.played.far line p one told next);
+  replied = subst (Replied old.played.far (passed (line ++ 10 ∷ []) [] [])) (sym far)
+      (behind_told old.played.far line p one told next);
   passes = record {
     read = read;
-    written = subst (λ w. Appends old.writer.bytes w.bytes []) (sym writer) (Appends-nil old.writer.bytes);
-    traced = subst (λ t. Appends old.played.trace.bytes t.bytes []) (sym trace) (Appends-nil old.played.trace.bytes);
+    written = subst (λ w. Appends old.writer.bytes w.bytes []) (sym writer)
+        (Appends-nil old.writer.bytes);
+    traced = subst (λ t. Appends old.played.trace.bytes t.bytes []) (sym trace)
+        (Appends-nil old.played.trace.bytes);
     reads = reads;
     writes = ap (λ w. w.failed) writer;
   };
 }
 
 -- a line that tells something
-pub told_whole : (old new : Scene) (line : List ℕ) (p : Phase) → IsUnbroken line → length line ≤ 1024
+pub told_whole : (old new : Scene) (line : List ℕ) (p : Phase) → IsUnbroken line
+    → length line ≤ 1024
     → Consumes old.reader.bytes new.reader.bytes (line ++ 10 ∷ []) → ReadsOn old new
     → is_told old.played.far.phase line ≡ true → p ≡ phase_behind old.played.far.phase line
-    → new.played.far ≡ record old.played.far { phase = p } → new.played.trace ≡ old.played.trace → new.writer ≡ old.writer
+    → new.played.far ≡ record old.played.far { phase = p } → new.played.trace ≡ old.played.trace
+    → new.writer ≡ old.writer
     → ServedOne old new
 told_whole old new line p one short read reads told next far trace writer =
     let all : line ≡ take 1024 line = sym (take_all 1024 line short) in
@@ -68,33 +88,51 @@ told_whole old new line p one short read reads told next far trace writer =
     (next ∙ ap (phase_behind old.played.far.phase) all) far trace reads writer
 
 -- a long one, of which the front was read first
-pub told_long : (old new : Scene) (mid : Pipe) (front rest : List ℕ) (more : ℕ) (p : Phase) → length front ≡ 1024 → IsUnbroken (front ++ more ∷ [])
-    → Consumes old.reader.bytes mid.bytes (front ++ more ∷ []) → IsUnbroken rest → Consumes mid.bytes new.reader.bytes (rest ++ 10 ∷ [])
-    → ReadsOn old new → is_told old.played.far.phase front ≡ true → p ≡ phase_behind old.played.far.phase front
-    → new.played.far ≡ record old.played.far { phase = p } → new.played.trace ≡ old.played.trace → new.writer ≡ old.writer
+pub told_long : (old new : Scene) (mid : Pipe) (front rest : List ℕ) (more : ℕ) (p : Phase)
+    → length front ≡ 1024 → IsUnbroken (front ++ more ∷ [])
+    → Consumes old.reader.bytes mid.bytes (front ++ more ∷ []) → IsUnbroken rest
+    → Consumes mid.bytes new.reader.bytes (rest ++ 10 ∷ [])
+    → ReadsOn old new → is_told old.played.far.phase front ≡ true
+    → p ≡ phase_behind old.played.far.phase front
+    → new.played.far ≡ record old.played.far { phase = p } → new.played.trace ≡ old.played.trace
+    → new.writer ≡ old.writer
     → ServedOne old new
 told_long old new mid front rest more p full one read last ended reads told next far trace writer =
     let line = (front ++ more ∷ []) ++ rest in
     let is : front ≡ take 1024 line = sym (first_of_long front rest more full) in
     told_line old new line p (All-append (λ c. c ≢ 10) (front ++ more ∷ []) rest one last)
-    (subst (Consumes old.reader.bytes new.reader.bytes) (sym (append_assoc (front ++ more ∷ []) rest (10 ∷ [])))
-    (Consumes-trans old.reader.bytes mid.bytes new.reader.bytes (front ++ more ∷ []) (rest ++ 10 ∷ []) read ended))
-    (subst (λ l. is_told old.played.far.phase l ≡ true) is told) (next ∙ ap (phase_behind old.played.far.phase) is) far trace reads writer
+    (subst (Consumes old.reader.bytes new.reader.bytes)
+    (sym (append_assoc (front ++ more ∷ []) rest (10 ∷ [])))
+    (Consumes-trans old.reader.bytes mid.bytes new.reader.bytes (front ++ more ∷ [])
+    (rest ++ 10 ∷ []) read ended))
+    (subst (λ l. is_told old.played.far.phase l ≡ true) is told) (next
+    ∙ ap (phase_behind old.played.far.phase) is) far trace reads writer
 
 -- ---- questions
 
 -- a question that was answered
-pub asked_line : (old new : Scene) (line reply : List ℕ) (q : Question) → IsUnbroken line → Consumes old.reader.bytes new.reader.bytes (line ++ 10 ∷ [])
+pub asked_line : (old new : Scene) (line reply : List ℕ) (q : Question) → IsUnbroken line
+    → Consumes old.reader.bytes new.reader.bytes (line ++ 10 ∷ [])
     → ReadsOn old new → HasQuestion line q → Replies q old.played new.played reply
-    → Appends old.writer.bytes new.writer.bytes reply → new.writer.failed ≡ old.writer.failed → ServedOne old new
+    → Appends old.writer.bytes new.writer.bytes reply → new.writer.failed ≡ old.writer.failed
+    → ServedOne old new
 asked_line old new line reply q one read reads there replied gone writes = record {
   passed = passed (line ++ 10 ∷ []) reply (done q old.played.far).traced;
   replied = Replied.asked line q one there.is there.asks replied.replied;
-  passes = record { read = read; written = gone; traced = replied.traced; reads = reads; writes = writes };
+  passes = record {
+    read = read;
+    written = gone;
+    traced = replied.traced;
+    reads = reads;
+    writes =
+        writes;
+  };
 }
 
-reads_question : (old new : Scene) (line : List ℕ) (q : Question) → IsUnbroken line → Consumes old.reader.bytes new.reader.bytes (line ++ 10 ∷ [])
-    → ReadsOn old new → IsQuestion q → IsQuestionLine line q → may_ask old.played.far.phase q ≡ true → ReadsQuestion old q new
+reads_question : (old new : Scene) (line : List ℕ) (q : Question) → IsUnbroken line
+    → Consumes old.reader.bytes new.reader.bytes (line ++ 10 ∷ [])
+    → ReadsOn old new → IsQuestion q → IsQuestionLine line q → may_ask old.played.far.phase q ≡ true
+    → ReadsQuestion old q new
 reads_question old new line q one read reads is asks may = record {
   line = line;
   unbroken = one;
@@ -106,12 +144,15 @@ reads_question old new line q one read reads is asks may = record {
 }
 
 -- one whose reply was not written to its end
-pub asked_torn : (old new : Scene) (line reply : List ℕ) (q : Question) → IsUnbroken line → Consumes old.reader.bytes new.reader.bytes (line ++ 10 ∷ [])
+pub asked_torn : (old new : Scene) (line reply : List ℕ) (q : Question) → IsUnbroken line
+    → Consumes old.reader.bytes new.reader.bytes (line ++ 10 ∷ [])
     → ReadsOn old new → HasQuestion line q → Replies q old.played new.played reply
-    → AppendsFront old.writer.bytes new.writer.bytes reply → (new.writer.failed ≡ true) ⊎ Appends old.writer.bytes new.writer.bytes reply
+    → AppendsFront old.writer.bytes new.writer.bytes reply → (new.writer.failed ≡ true)
+    ⊎ Appends old.writer.bytes new.writer.bytes reply
     → CauseOf old new fault.Write
 asked_torn old new line reply q one read reads there replied front (inl failed) =
-    CauseOf.unwritten q (reads_question old new line q one read reads there.is there.asks replied.replied.asks) (record {
+    CauseOf.unwritten q (reads_question old new line q one read reads there.is there.asks
+    replied.replied.asks) (record {
       gone = front.gone;
       rest = front.rest;
       replied = subst (IsReplied q old.played.far new.played.far) front.split replied.replied;
@@ -120,10 +161,12 @@ asked_torn old new line reply q one read reads there replied front (inl failed) 
       failed = inl failed;
     })
 asked_torn old new line reply q one read reads there replied front (inr whole) =
-    CauseOf.unwritten q (reads_question old new line q one read reads there.is there.asks replied.replied.asks) (record {
+    CauseOf.unwritten q (reads_question old new line q one read reads there.is there.asks
+    replied.replied.asks) (record {
       gone = reply;
       rest = [];
-      replied = subst (IsReplied q old.played.far new.played.far) (sym (append-nil reply)) replied.replied;
+      replied = subst (IsReplied q old.played.far new.played.far) (sym (append-nil reply))
+          replied.replied;
       written = whole;
       traced = replied.traced;
       failed = inr refl;
@@ -131,8 +174,10 @@ asked_torn old new line reply q one read reads there replied front (inr whole) =
 
 -- ---- lines that are not answered
 
-only_line : (old new : Scene) (line : List ℕ) → IsUnbroken line → length line ≤ 1024 → is_told old.played.far.phase line ≡ false
-    → Consumes old.reader.bytes new.reader.bytes (line ++ 10 ∷ []) → ReadsOn old new → new.played ≡ old.played → new.writer ≡ old.writer
+only_line : (old new : Scene) (line : List ℕ) → IsUnbroken line → length line ≤ 1024
+    → is_told old.played.far.phase line ≡ false
+    → Consumes old.reader.bytes new.reader.bytes (line ++ 10 ∷ []) → ReadsOn old new
+    → new.played ≡ old.played → new.writer ≡ old.writer
     → OnlyReadsLine old line new
 only_line old new line one short other read reads played writer = record {
   unbroken = one;
@@ -145,55 +190,80 @@ only_line old new line one short other read reads played writer = record {
 }
 
 -- one that asks nothing
-pub no_question_there : (old new : Scene) (line : List ℕ) (f : FarFault) → HasNoQuestion line f → IsUnbroken line → length line ≤ 1024
-    → is_told old.played.far.phase line ≡ false → Consumes old.reader.bytes new.reader.bytes (line ++ 10 ∷ []) → ReadsOn old new
+pub no_question_there : (old new : Scene) (line : List ℕ) (f : FarFault) → HasNoQuestion line f
+    → IsUnbroken line → length line ≤ 1024
+    → is_told old.played.far.phase line ≡ false
+    → Consumes old.reader.bytes new.reader.bytes (line ++ 10 ∷ []) → ReadsOn old new
     → new.played ≡ old.played → new.writer ≡ old.writer → CauseOf old new f
 no_question_there old new line f (inl bad) one short other read reads played writer =
-    subst (CauseOf old new) (sym bad.0) (CauseOf.unprintable line (only_line old new line one short other read reads played writer) bad.1)
+    subst (CauseOf old new) (sym bad.0)
+    (CauseOf.unprintable line (only_line old new line one short other read reads played writer)
+    bad.1)
 no_question_there old new line f (inr none) one short other read reads played writer =
-    subst (CauseOf old new) (sym none.0) (CauseOf.no_question line (only_line old new line one short other read reads played writer) none.1
+    subst (CauseOf old new) (sym none.0)
+    (CauseOf.no_question line (only_line old new line one short other read reads played writer)
+    none.1
     (λ q is asks. absurd (none.2 q is asks)))
 
 -- one whose question has no reply
-pub no_reply_there : (old new : Scene) (line : List ℕ) (q : Question) (f : FarFault) → HasNoReply q old.played f new.played
-    → HasQuestion line q → IsUnbroken line → length line ≤ 1024 → is_told old.played.far.phase line ≡ false
-    → Consumes old.reader.bytes new.reader.bytes (line ++ 10 ∷ []) → ReadsOn old new → new.writer ≡ old.writer → CauseOf old new f
+pub no_reply_there : (old new : Scene) (line : List ℕ) (q : Question) (f : FarFault)
+    → HasNoReply q old.played f new.played
+    → HasQuestion line q → IsUnbroken line → length line ≤ 1024 → is_told old.played.far.phase line
+    ≡ false
+    → Consumes old.reader.bytes new.reader.bytes (line ++ 10 ∷ []) → ReadsOn old new
+    → new.writer ≡ old.writer → CauseOf old new f
 no_reply_there old new line q f (inl none) there one short other read reads writer =
-    subst (CauseOf old new) (sym none.0) (CauseOf.no_question line (only_line old new line one short other read reads none.2 writer) there.printable
+    subst (CauseOf old new) (sym none.0)
+    (CauseOf.no_question line (only_line old new line one short other read reads none.2 writer)
+    there.printable
     (λ p may at. ap (may_ask old.played.far.phase) (there.only p may at) ∙ none.1))
 no_reply_there old new line q f (inr un) there one short other read reads writer =
-    CauseOf.unanswered f q (reads_question old new line q one read reads there.is there.asks un.0) un.1 writer
+    CauseOf.unanswered f q (reads_question old new line q one read reads there.is there.asks un.0)
+    un.1 writer
 
 -- the front of a line
-only_bytes : (old new : Scene) (bytes : List ℕ) → IsUnbroken bytes → Consumes old.reader.bytes new.reader.bytes bytes
+only_bytes : (old new : Scene) (bytes : List ℕ) → IsUnbroken bytes
+    → Consumes old.reader.bytes new.reader.bytes bytes
     → new.played ≡ old.played → new.writer ≡ old.writer → OnlyReads old bytes new
-only_bytes old new bytes one read played writer = record { unbroken = one; read = read; played = played; writer = writer }
+only_bytes old new bytes one read played writer =
+    record { unbroken = one; read = read; played = played; writer = writer }
 
 -- in a line of at most 1,024 bytes the reader failed, or the input ended
-pub not_read : (played : Played) (before behind writer : Pipe) (e : LineFault) (f : FarFault) → f ≡ reading_fault e
-    → IsNextLine before.bytes behind.bytes (Err e) → (e ≡ Read → behind.failed ≡ true) → (e ≢ Read → behind.failed ≡ before.failed)
+pub not_read : (played : Played) (before behind writer : Pipe) (e : LineFault) (f : FarFault)
+    → f ≡ reading_fault e
+    → IsNextLine before.bytes behind.bytes (Err e) → (e ≡ Read → behind.failed ≡ true)
+    → (e ≢ Read → behind.failed ≡ before.failed)
     → CauseOf (in_scene played before writer) (in_scene played behind writer) f
 not_read played before behind writer Read f is front failed still =
     subst (CauseOf (in_scene played before writer) (in_scene played behind writer)) (sym is)
-    (CauseOf.unread front.bytes (only_bytes _ _ front.bytes front.unbroken front.read refl refl) (λ _. front.few) (failed refl))
+    (CauseOf.unread front.bytes (only_bytes _ _ front.bytes front.unbroken front.read refl refl)
+    (λ _. front.few) (failed refl))
 not_read played before behind writer Cut f is front failed still =
     subst (CauseOf (in_scene played before writer) (in_scene played behind writer)) (sym is)
-    (CauseOf.cut_off front.bytes front.some (only_bytes _ _ front.bytes front.unbroken front.read refl refl) (λ _. front.few)
+    (CauseOf.cut_off front.bytes front.some (only_bytes _ _ front.bytes front.unbroken front.read
+    refl refl) (λ _. front.few)
     (still (λ (same : Cut ≡ Read). cc)) (inl front.ended))
 
 -- a long line that tells nothing
-pub too_long : (played : Played) (before behind writer : Pipe) (front : List ℕ) (more : ℕ) → length front ≡ 1024 → IsUnbroken (front ++ more ∷ [])
-    → Consumes before.bytes behind.bytes (front ++ more ∷ []) → behind.failed ≡ before.failed → is_told played.far.phase front ≡ false
+pub too_long : (played : Played) (before behind writer : Pipe) (front : List ℕ) (more : ℕ)
+    → length front ≡ 1024 → IsUnbroken (front ++ more ∷ [])
+    → Consumes before.bytes behind.bytes (front ++ more ∷ []) → behind.failed ≡ before.failed
+    → is_told played.far.phase front ≡ false
     → CauseOf (in_scene played before writer) (in_scene played behind writer) fault.LineTooLong
 too_long played before behind writer front more full one read still other =
-    let first : take 1024 (front ++ more ∷ []) ≡ front = take-append-le 1024 front (more ∷ []) (omega arith) ∙ take_all 1024 front (omega arith) in
-    CauseOf.too_long (front ++ more ∷ []) (only_bytes _ _ (front ++ more ∷ []) one read refl refl) (omega (arith, length-append front (more ∷ [])))
+    let first : take 1024 (front ++ more ∷ []) ≡ front =
+    take-append-le 1024 front (more ∷ []) (omega arith) ∙ take_all 1024 front (omega arith) in
+    CauseOf.too_long (front ++ more ∷ []) (only_bytes _ _ (front ++ more ∷ []) one read refl refl)
+    (omega (arith, length-append front (more ∷ [])))
     (ap (is_told played.far.phase) first ∙ other) still
 
 -- one that tells something, of which the rest was not read
-pub long_front : (played : Played) (before mid behind writer : Pipe) (front rest : List ℕ) (more : ℕ) → length front ≡ 1024 → IsUnbroken (front ++ more ∷ [])
-    → IsUnbroken rest → Consumes before.bytes mid.bytes (front ++ more ∷ []) → Consumes mid.bytes behind.bytes rest
-    → OnlyReads (in_scene played before writer) ((front ++ more ∷ []) ++ rest) (in_scene played behind writer)
+pub long_front : (played : Played) (before mid behind writer : Pipe) (front rest : List ℕ)
+    (more : ℕ) → length front ≡ 1024 → IsUnbroken (front ++ more ∷ [])
+    → IsUnbroken rest → Consumes before.bytes mid.bytes (front ++ more ∷ [])
+    → Consumes mid.bytes behind.bytes rest
+    → OnlyReads (in_scene played before writer) ((front ++ more ∷ []) ++ rest)
+    (in_scene played behind writer)
 long_front played before mid behind writer front rest more full one last read ended = record {
   unbroken = All-append (λ c. c ≢ 10) (front ++ more ∷ []) rest one last;
   read = Consumes-trans before.bytes mid.bytes behind.bytes (front ++ more ∷ []) rest read ended;
@@ -201,27 +271,43 @@ long_front played before mid behind writer front rest more full one last read en
   writer = refl;
 }
 
-may_go_on_longer : (phase : Phase) (front rest : List ℕ) (more : ℕ) → length front ≡ 1024 → is_told phase front ≡ true → MayGoOn phase ((front ++ more ∷ []) ++ rest)
+may_go_on_longer : (phase : Phase) (front rest : List ℕ) (more : ℕ) → length front ≡ 1024
+    → is_told phase front ≡ true → MayGoOn phase ((front ++ more ∷ []) ++ rest)
 may_go_on_longer phase front rest more full told other =
     absurd (false≢true (sym other ∙ ap (is_told phase) (first_of_long front rest more full) ∙ told))
 
-pub not_skipped : (played : Played) (before mid behind writer : Pipe) (front : List ℕ) (more : ℕ) (e : LineFault) (f : FarFault) → f ≡ reading_fault e
-    → length front ≡ 1024 → IsUnbroken (front ++ more ∷ []) → Consumes before.bytes mid.bytes (front ++ more ∷ []) → mid.failed ≡ before.failed
+pub not_skipped : (played : Played) (before mid behind writer : Pipe) (front : List ℕ) (more : ℕ)
+    (e : LineFault) (f : FarFault) → f ≡ reading_fault e
+    → length front ≡ 1024 → IsUnbroken (front ++ more ∷ [])
+    → Consumes before.bytes mid.bytes (front ++ more ∷ []) → mid.failed ≡ before.failed
     → is_told played.far.phase front ≡ true → EndsLine mid.bytes behind.bytes (Err e)
     → (e ≡ Read → behind.failed ≡ true) → (e ≢ Read → behind.failed ≡ mid.failed)
     → CauseOf (in_scene played before writer) (in_scene played behind writer) f
-not_skipped played before mid behind writer front more Read f is full one read on told rest failed still =
+not_skipped played before mid behind writer front more Read f is full one read on told rest failed
+    still =
     subst (CauseOf (in_scene played before writer) (in_scene played behind writer)) (sym is)
-    (CauseOf.unread ((front ++ more ∷ []) ++ rest.bytes) (long_front played before mid behind writer front rest.bytes more full one rest.unbroken read rest.read)
+    (CauseOf.unread ((front ++ more ∷ []) ++ rest.bytes)
+    (long_front played before mid behind writer front rest.bytes more full one rest.unbroken
+    read rest.read)
     (may_go_on_longer played.far.phase front rest.bytes more full told) (failed refl))
-not_skipped played before mid behind writer front more Cut f is full one read on told rest failed still =
+not_skipped played before mid behind writer front more Cut f is full one read on told rest failed
+    still =
     subst (CauseOf (in_scene played before writer) (in_scene played behind writer)) (sym is)
-    (CauseOf.cut_off ((front ++ more ∷ []) ++ rest.bytes) (λ none. not_nil (front ++ more ∷ []) rest.bytes (omega (arith, length-append front (more ∷ []))) none)
-    (long_front played before mid behind writer front rest.bytes more full one rest.unbroken read rest.read)
-    (may_go_on_longer played.far.phase front rest.bytes more full told) (still (λ (same : Cut ≡ Read). cc) ∙ on)
+    (CauseOf.cut_off ((front ++ more ∷ []) ++ rest.bytes)
+    (λ none. not_nil (front ++ more ∷ []) rest.bytes
+    (omega (arith, length-append front (more ∷ []))) none)
+    (long_front played before mid behind writer front rest.bytes more full one rest.unbroken read
+    rest.read)
+    (may_go_on_longer played.far.phase front rest.bytes more full told)
+    (still (λ (same : Cut ≡ Read). cc) ∙ on)
     (elim rest.ended [
       | inl ended ↦ inl ended
-      | inr many ↦ inr (omega (arith, many, length-append (front ++ more ∷ []) rest.bytes, length-append front (more ∷ [])))
+      | inr many ↦ inr (omega (
+        arith,
+        many,
+        length-append (front ++ more ∷ []) rest.bytes,
+        length-append front (more ∷ []),
+      ))
     ]))
 
 -- ---- line after line
@@ -239,19 +325,25 @@ served_none s = record {
   };
 }
 
-passes_then : (a b c : Scene) (p q : Passed) → Passes a p b → Passes b q c → Passes a (and_then p q) c
+passes_then : (a b c : Scene) (p q : Passed) → Passes a p b → Passes b q c
+    → Passes a (and_then p q) c
 passes_then a b c p q first second = record {
-  read = Consumes-trans a.reader.bytes b.reader.bytes c.reader.bytes p.asked q.asked first.read second.read;
-  written = Appends-trans a.writer.bytes b.writer.bytes c.writer.bytes p.said q.said first.written second.written;
-  traced = Appends-trans a.played.trace.bytes b.played.trace.bytes c.played.trace.bytes p.traced q.traced first.traced second.traced;
+  read = Consumes-trans a.reader.bytes b.reader.bytes c.reader.bytes p.asked q.asked first.read
+      second.read;
+  written = Appends-trans a.writer.bytes b.writer.bytes c.writer.bytes p.said q.said first.written
+      second.written;
+  traced = Appends-trans a.played.trace.bytes b.played.trace.bytes c.played.trace.bytes p.traced
+      q.traced first.traced second.traced;
   reads = second.reads ∙ first.reads;
   writes = second.writes ∙ first.writes;
 }
 
-pub served_more : (a b c : Scene) (count more : ℕ) → more ≡ count + 1 → ServedSome a count b → ServedOne b c → ServedSome a more c
+pub served_more : (a b c : Scene) (count more : ℕ) → more ≡ count + 1 → ServedSome a count b
+    → ServedOne b c → ServedSome a more c
 served_more a b c count more is so one = record {
   passed = and_then so.passed one.passed;
-  replies = subst (λ n. AllReplied a.played.far n (and_then so.passed one.passed) c.played.far) (sym is) (AllReplied.next so.replies one.replied);
+  replies = subst (λ n. AllReplied a.played.far n (and_then so.passed one.passed) c.played.far)
+      (sym is) (AllReplied.next so.replies one.replied);
   passes = passes_then a b c so.passed one.passed so.passes one.passes;
 }
 
@@ -260,12 +352,14 @@ served_all a b c count so none = record {
   count = count;
   passed = so.passed;
   replies = subst (AllReplied a.played.far count so.passed) (sym none.same) so.replies;
-  passes = rw (append-nil so.passed.asked, append-nil so.passed.said, append-nil so.passed.traced) at
+  passes = rw (append-nil so.passed.asked, append-nil so.passed.said, append-nil so.passed.traced)
+      at
       (passes_then a b c so.passed (passed [] [] []) so.passes none.passes);
   ended = none.ended;
 }
 
-pub served_up_to : (a b c : Scene) (count number : ℕ) (f : FarFault) → ServedSome a count b → number ≡ count + 1
+pub served_up_to : (a b c : Scene) (count number : ℕ) (f : FarFault) → ServedSome a count b
+    → number ≡ count + 1
     → CauseOf b c f ⊎ IsLastLine b number f c → ServedUpTo a number f c
 served_up_to a b c count number f so is stops = record {
   count = count;
@@ -281,8 +375,10 @@ pub only_one : (p q : Question) → ◌≡◌ {A = Option Question} (Some q) (So
 only_one p q found = cc
 
 -- the first three tests fail
-pub last_of_four : (a b c d r : Bool) → a ≡ false → b ≡ false → c ≡ false → r ≡ d → r ≡ (if a then true else if b then true else if c then true else d)
+pub last_of_four : (a b c d r : Bool) → a ≡ false → b ≡ false → c ≡ false → r ≡ d
+    → r ≡ (if a then true else if b then true else if c then true else d)
 last_of_four a b c d r first second third is = rw (first, second, third) is
 
-pub served_one : (a b : Scene) (more : Bool) → more ≡ true → ServesNext a (Ok more) b → ServedOne a b
+pub served_one : (a b : Scene) (more : Bool) → more ≡ true → ServesNext a (Ok more) b
+    → ServedOne a b
 served_one a b more is h = let P : Bool → Type 0 = λ v. ServesNext a (Ok v) b in subst P is h

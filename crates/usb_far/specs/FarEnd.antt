@@ -1,5 +1,6 @@
 -- The far end as plain data, what it does at each question, and the lines that go out behind it.
-use Rattle.std.specs.Prelude.{◌≡◌, ◌⊎◌, ℕ, ◌+◌, ◌==◌, nat_lt, Bool, true, false, not, if◌then◌else◌, List, [], ◌∷◌, ◌++◌, length, map, Option, Some, None, Err}
+use Rattle.std.specs.Prelude.{◌≡◌, ◌⊎◌, ℕ, ◌+◌, ◌==◌, nat_lt, Bool, true, false, not, if◌then◌else◌}
+use Rattle.std.specs.Prelude.{List, [], ◌∷◌, ◌++◌, length, map, Option, Some, None, Err}
 use Rattle.std.specs.Io.KnownBytes.{Appends}
 use Rattle.std.specs.Str.{bytes_eq}
 use Rattle.usb_packet.specs.declared.TokenKind.{TokenKind}
@@ -28,7 +29,8 @@ use Rattle.usb_lines.specs.declared.line.LineFault.TheVariants as line
 use Rattle.usb_wire.specs.Answers.{said_line, send_limit}
 use Rattle.usb_wire.specs.Questions.{kind_asked}
 use Rattle.usb_wire.specs.declared.answer.Answer.{Answer}
-use Rattle.usb_wire.specs.declared.answer.Answer.TheVariants.{Roots, Ack, Nak, Stall, Nothing, Data, Done, Show, End, Send, Receive, Clear}
+use Rattle.usb_wire.specs.declared.answer.Answer.TheVariants.{Roots, Ack, Nak, Stall, Nothing, Data}
+use Rattle.usb_wire.specs.declared.answer.Answer.TheVariants.{Done, Show, End, Send, Receive, Clear}
 use Rattle.usb_wire.specs.declared.answer.Said.{Said}
 use Rattle.usb_wire.specs.declared.answer.Said.TheVariants.{Changed, Answered}
 use Rattle.usb_wire.specs.declared.question.Asked.{Asked}
@@ -45,7 +47,8 @@ use Rattle.usb_far.specs.declared.far_end.Phase.TheVariants.{New, Asks, Tells}
 use Rattle.usb_far.specs.declared.fault.FarFault.{FarFault}
 use Rattle.usb_far.specs.declared.fault.FarFault.TheVariants as fault
 
--- the far end: the world of its bus, the statuses of root ports as they were told last, whether an event came in the INs
+-- the far end: the world of its bus, the statuses of root ports as they were told last, whether an
+-- event came in the INs
 -- answered by NAK since the last other question, and what the host does
 pub record Far : Type 0 where
   pub world : World
@@ -143,7 +146,8 @@ is_poll SetupTok o = false
 
 -- ---- what is done at a question
 
--- the answer, where a line has room for it; the world behind it, and whether an event came that the host may not have seen;
+-- the answer, where a line has room for it; the world behind it, and whether an event came that the
+-- host may not have seen;
 -- the lines of the trace, and whether the bus makes an attempt or lets an event come
 pub record Deed : Type 0 where
   pub answer : Option Answer
@@ -166,7 +170,8 @@ unfoldable pub attempt_done : Attempt → Far → Deed
 attempt_done a f = record {
   answer = Some (outcome_answer (outcome_in a f.world));
   world = after (attempt a) f.world;
-  came = came_in (is_poll a.kind (outcome_in a f.world)) f.came f.world.taken (after (attempt a) f.world).taken;
+  came = came_in (is_poll a.kind (outcome_in a f.world)) f.came f.world.taken
+      (after (attempt a) f.world).taken;
   traced = step_lines a f.world (after (attempt a) f.world);
   by_bus = true;
 }
@@ -182,7 +187,8 @@ call_done number call f = record {
 
 -- as many bytes as a line has room for
 unfoldable pub send_wanted : List ℕ → List ℕ → Option Answer
-send_wanted path bytes = if nat_lt send_limit (length bytes) then None else Some (Send path (record { items = bytes }))
+send_wanted path bytes = if nat_lt send_limit (length bytes) then None else Some
+    (Send path (record { items = bytes }))
 
 abbrev pub asked_answer : Ask → Option Answer
 asked_answer ask.Show = Some Show
@@ -198,7 +204,14 @@ due_answer (Some (Some asked)) = asked_answer asked
 
 unfoldable pub wait_done : Far → Deed
 wait_done f =
-    if f.came then record { answer = Some Done; world = f.world; came = false; traced = []; by_bus = false }
+    if f.came then record {
+      answer = Some Done;
+      world = f.world;
+      came = false;
+      traced = [];
+      by_bus =
+          false;
+    }
     else record {
       answer = due_answer (next_due f.world);
       world = after event f.world;
@@ -266,9 +279,12 @@ pub record SendsTooMuch (old : Played) (f : FarFault) (new : Played) : Type 0 wh
 
 abbrev pub IsUnanswered : Question → Played → FarFault → Played → Type 0
 IsUnanswered Hello old f new = ⊥
-IsUnanswered (Setup speed endpoint setup) old f new = IsGivenUp (attempt_of_setup speed endpoint setup) old f new
-IsUnanswered (Out speed endpoint sent) old f new = IsGivenUp (attempt_of_out speed endpoint sent) old f new
-IsUnanswered (In speed endpoint most) old f new = IsGivenUp (attempt_of_in speed endpoint most) old f new
+IsUnanswered (Setup speed endpoint setup) old f new =
+    IsGivenUp (attempt_of_setup speed endpoint setup) old f new
+IsUnanswered (Out speed endpoint sent) old f new =
+    IsGivenUp (attempt_of_out speed endpoint sent) old f new
+IsUnanswered (In speed endpoint most) old f new =
+    IsGivenUp (attempt_of_in speed endpoint most) old f new
 IsUnanswered (Port number call) old f new = HasNoPort number old f new
 IsUnanswered Wait old f new = IsEventGivenUp old f new ⊎ SendsTooMuch old f new
 
@@ -291,7 +307,8 @@ push_of number told status = if is_first told status then [] else line_of (Chang
 -- a line for each status that is not what was told, of the ports from a number on
 unfoldable pub pushes : ℕ → List (List ℕ) → List (List ℕ) → List ℕ
 pushes number told [] = []
-pushes number told (status ∷ more) = push_of number told status ++ pushes (number + 1) (behind_first told) more
+pushes number told (status ∷ more) = push_of number told status ++ pushes (number + 1)
+    (behind_first told) more
 
 -- the hello is told no status
 abbrev pub status_lines : Asked → Far → List ℕ
@@ -330,9 +347,14 @@ abbrev pub far_done : Question → Far → Far
 far_done q f = record f { world = (done q f).world; came = (done q f).came }
 
 abbrev pub far_after : Question → Far → Far
-far_after q f = record (far_done q f) { told = told_behind (kind_asked q) (far_done q f); phase = Asks }
+far_after q f = record (far_done q f) {
+  told = told_behind (kind_asked q) (far_done q f);
+  phase =
+      Asks;
+}
 
--- what was asked was done and told: a line for each status that is not what was told, and that of the answer
+-- what was asked was done and told: a line for each status that is not what was told, and that of
+-- the answer
 pub record IsReplied (q : Question) (old new : Far) (lines : List ℕ) : Type 0 where
   pub asks : may_ask old.phase q ≡ true
   pub answer : Answer

@@ -1,5 +1,7 @@
 -- What is read and what goes out, line by line, and why it ends.
-use Rattle.std.specs.Prelude.{◌≡◌, ◌≢◌, ◌⊎◌, ℕ, ◌+◌, ◌-◌, ◌^◌, ◌≤◌, Bool, true, false, if◌then◌else◌, List, [], ◌∷◌, ◌++◌, take, codes, length, nat_eq, Option, Result, Ok, Err}
+use Rattle.std.specs.Prelude.{◌≡◌, ◌≢◌, ◌⊎◌, ℕ, ◌+◌, ◌-◌, ◌^◌, ◌≤◌, Bool, true, false}
+use Rattle.std.specs.Prelude.{if◌then◌else◌, List, [], ◌∷◌, ◌++◌, take, codes, length, nat_eq}
+use Rattle.std.specs.Prelude.{Option, Result, Ok, Err}
 use Rattle.std.specs.List.{starts_with}
 use Rattle.std.specs.Str.{bytes_eq}
 use Rattle.std.specs.Io.KnownBytes.{Appends, Consumes, IsAtEnd}
@@ -51,14 +53,16 @@ passed asked said traced = record { asked = asked; said = said; traced = traced 
 abbrev pub and_then : Passed → Passed → Passed
 and_then p q = passed (p.asked ++ q.asked) (p.said ++ q.said) (p.traced ++ q.traced)
 
--- a line was read, and its reply is this: of a question its lines, of what is told none. Of a told line
+-- a line was read, and its reply is this: of a question its lines, of what is told none. Of a told
+-- line
 -- of more than 1,024 bytes the first 1,024 count
 pub data Replied (old : Far) : Passed → Far → Type 0 where
   asked : {new : Far} {reply : List ℕ} (line : List ℕ) (q : Question)
       → IsUnbroken line → IsQuestion q → IsQuestionLine line q → IsReplied q old new reply
       → Replied old (passed (line ++ 10 ∷ []) reply (done q old).traced) new
   told : (line : List ℕ) → IsUnbroken line → is_told old.phase (take 1024 line) ≡ true
-      → Replied old (passed (line ++ 10 ∷ []) [] []) (record old { phase = phase_behind old.phase (take 1024 line) })
+      → Replied old (passed (line ++ 10 ∷ []) [] [])
+      (record old { phase = phase_behind old.phase (take 1024 line) })
 
 -- so many lines were read, one after the other, and their replies are these
 pub data AllReplied (old : Far) : ℕ → Passed → Far → Type 0 where
@@ -127,7 +131,8 @@ pub record ReadsQuestion (old : Scene) (q : Question) (new : Scene) : Type 0 whe
   pub read : Consumes old.reader.bytes new.reader.bytes (line ++ 10 ∷ [])
   pub reads : ReadsOn old new
 
--- the reply was made and traced, and a front of it has gone out: a write failed; or all of it, and the flush failed
+-- the reply was made and traced, and a front of it has gone out: a write failed; or all of it, and
+-- the flush failed
 pub record IsUnwritten (q : Question) (old new : Scene) : Type 0 where
   pub gone : List ℕ
   pub rest : List ℕ
@@ -140,7 +145,8 @@ pub record IsUnwritten (q : Question) (old new : Scene) : Type 0 where
 pub data CauseOf (old new : Scene) : FarFault → Type 0 where
   unread : (bytes : List ℕ) → OnlyReads old bytes new → MayGoOn old.played.far.phase bytes
       → new.reader.failed ≡ true → CauseOf old new fault.Read
-  cut_off : (bytes : List ℕ) → bytes ≢ [] → OnlyReads old bytes new → MayGoOn old.played.far.phase bytes
+  cut_off : (bytes : List ℕ) → bytes ≢ [] → OnlyReads old bytes new
+      → MayGoOn old.played.far.phase bytes
       → ReadsOn old new → IsAtEnd new.reader.bytes ⊎ (2 ^ 64 ≤ length bytes)
       → CauseOf old new fault.HostGone
   too_long : (bytes : List ℕ) → OnlyReads old bytes new → length bytes ≡ 1025
@@ -149,7 +155,8 @@ pub data CauseOf (old new : Scene) : FarFault → Type 0 where
   unprintable : (line : List ℕ) → OnlyReadsLine old line new → all_printable line ≡ false
       → CauseOf old new fault.BadCharacter
   no_question : (line : List ℕ) → OnlyReadsLine old line new → all_printable line ≡ true
-      → ((q : Question) → IsQuestion q → IsQuestionLine line q → may_ask old.played.far.phase q ≡ false)
+      → ((q : Question) → IsQuestion q → IsQuestionLine line q → may_ask old.played.far.phase q
+      ≡ false)
       → CauseOf old new fault.NoQuestion
   unanswered : (f : FarFault) (q : Question) → ReadsQuestion old q new
       → IsUnanswered q old.played f new.played → new.writer ≡ old.writer → CauseOf old new f

@@ -140,7 +140,8 @@ impl<T: Trace> FarEnd<T> {
         Ok(Answer::Done)
     }
 
-    /// Tells what is wanted: nothing where an event came that the host may not have seen, else what the next event asks.
+    /// Tells what is wanted: nothing where an event came that the host may not have seen, else what the next event
+    /// asks.
     fn wait(&mut self) -> Result<Answer, FarFault>
         ensures done { IfOk result (λ answer.
             IsDone (wait_done (far_of self.old)) (played_of self.old) answer (played_of self.new)) }

@@ -7,8 +7,8 @@ use usb_bus::{BusFault, Watched};
 use usb_far::{FarEnd, FarFault, serve};
 use usb_plan::read_plan;
 
-/// A disk that is plugged, pulled out in the fourth attempt and plugged elsewhere, and what its user wants then; the last of
-/// that is to send 501 bytes.
+/// A disk that is plugged, pulled out in the fourth attempt and plugged elsewhere, and what its user wants then; the
+/// last of that is to send 501 bytes.
 const PLAN: &str = r#"
 limit = 8
 roots = 2

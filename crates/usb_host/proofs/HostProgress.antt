@@ -1,5 +1,6 @@
 -- That the host gets on by a look at a port.
-use Rattle.std.proofs.Common.{◌≡◌, ◌∙◌, refl, sym, ap, subst, arith, inl, inr, true, false, Bool, ℕ, ◌+◌, ◌≤◌, ◌⊎◌, List, Some, Ok, Err, Result}
+use Rattle.std.proofs.Common.{◌≡◌, ◌∙◌, refl, sym, ap, subst, arith, inl, inr, true, false, Bool, ℕ}
+use Rattle.std.proofs.Common.{◌+◌, ◌≤◌, ◌⊎◌, List, Some, Ok, Err, Result}
 use Rattle.std.specs.BTreeMap.{insert_entry, is_at}
 use Rattle.std.specs.Prelude.{OnOk}
 use Rattle.std.specs.Map.{lookup}
@@ -17,7 +18,8 @@ use Rattle.usb_host.specs.declared.fault.HostFault.{HostFault}
 use Rattle.usb_host.specs.Ports.{Waits, Gained, ProgressOrLost, EndsAs, EntersOne}
 use Rattle.usb_host.specs.Progress.{HostRuns, OnlyBusSteps, AddsNoWork, HostProgress, waiting}
 use Rattle.usb_host.proofs.StepSums.{advances_then}
-use Rattle.usb_host.proofs.entries.WaitingDevices.{waiting-without, waiting-without_one, waiting-entered, waiting-entered_other}
+use Rattle.usb_host.proofs.entries.WaitingDevices.{waiting-without, waiting-without_one}
+use Rattle.usb_host.proofs.entries.WaitingDevices.{waiting-entered, waiting-entered_other}
 
 waiting_is : (f : Finding) → is_waiting f ≡ true → f ≡ Refused cause.NoAddress
 waiting_is (Device device) h = absurd (cc h)
@@ -32,71 +34,119 @@ waiting_is (Refused cause.BadHub) h = absurd (cc h)
 waiting_is (Refused cause.Lost) h = absurd (cc h)
 waiting_is (Refused cause.NoAddress) h = refl
 
-other_by : (path : List ℕ) (c d : HostState) (e : EntersOne path c d) → (IsFull c.addresses → ⊥) → (b : Bool) → is_waiting e.finding ≡ b → waiting d.entries ≤ waiting c.entries
+other_by : (path : List ℕ) (c d : HostState) (e : EntersOne path c d) → (IsFull c.addresses → ⊥)
+    → (b : Bool) → is_waiting e.finding ≡ b → waiting d.entries ≤ waiting c.entries
 other_by path c d e free true h = absurd (free (e.waits (waiting_is e.finding h)))
 other_by path c d e free false h =
     let left = ap waiting e.entries in
     omega (arith, left, waiting-entered_other path e.finding c.entries h)
 
 -- where an address is free, what is entered does not wait
-pub enters_other : (path : List ℕ) (c d : HostState) → EntersOne path c d → (IsFull c.addresses → ⊥) → waiting d.entries ≤ waiting c.entries
+pub enters_other : (path : List ℕ) (c d : HostState) → EntersOne path c d → (IsFull c.addresses → ⊥)
+    → waiting d.entries ≤ waiting c.entries
 enters_other path c d e free = other_by path c d e free (is_waiting e.finding) refl
 
-pub enters_few : (path : List ℕ) (c d : HostState) → EntersOne path c d → waiting d.entries ≤ waiting c.entries + 1
+pub enters_few : (path : List ℕ) (c d : HostState) → EntersOne path c d
+    → waiting d.entries ≤ waiting c.entries + 1
 enters_few path c d e =
     let left = ap waiting e.entries in
     omega (arith, left, waiting-entered path e.finding c.entries)
 
-module _ (path : List ℕ) (m n : ℕ) (a b c d : HostState) (g : HostRuns m a b) (r : OnlyBusSteps a b) (others : c ≡ record b { entries = c.entries; pipes = c.pipes; addresses = c.addresses })
+module _ (path : List ℕ) (m n : ℕ) (a b c d : HostState) (g : HostRuns m a b) (r : OnlyBusSteps a b)
+    (others : c ≡ record b { entries = c.entries; pipes = c.pipes; addresses = c.addresses })
     (rest : c.entries ≡ without path b.entries) (h : HostRuns n c d) where
   world_is : c.world ≡ b.world
   world_is = ap (λ (x : HostState). x.world) others
 
   looks_due : Gained a.world b.world → waiting d.entries ≤ waiting c.entries + 1 → HostProgress a d
   looks_due gained few =
-      let same : waiting b.entries ≡ waiting a.entries = ap (λ (x : HostState). waiting x.entries) r in
+      let same : waiting b.entries ≡ waiting a.entries =
+      ap (λ (x : HostState). waiting x.entries) r in
       let left : waiting c.entries ≡ waiting (without path b.entries) = ap waiting rest in
       let done : work c.world ≡ work b.world = ap work world_is in
-      let made : c.world.attempts ≡ b.world.attempts = ap (λ (x : HostState). x.world.attempts) others in
-      omega (arith, gained, few, same, left, done, made, waiting-without path b.entries, h.went.spends.served, h.went.spends.later)
+      let made : c.world.attempts ≡ b.world.attempts =
+      ap (λ (x : HostState). x.world.attempts) others in
+      omega (
+        arith,
+        gained,
+        few,
+        same,
+        left,
+        done,
+        made,
+        waiting-without path b.entries,
+        h.went.spends.served,
+        h.went.spends.later,
+      )
 
   looks_waits : Waits path a → waiting d.entries ≤ waiting c.entries → HostProgress a d
   looks_waits w fewer =
-      let same : waiting b.entries ≡ waiting a.entries = ap (λ (x : HostState). waiting x.entries) r in
-      let found = subst (λ (es : Entries). lookup (is_at (path_cmp path)) es ≡ Some (Refused cause.NoAddress)) (sym (ap (λ (x : HostState). x.entries) r)) w.entry in
+      let same : waiting b.entries ≡ waiting a.entries =
+      ap (λ (x : HostState). waiting x.entries) r in
+      let found = subst (λ (es : Entries). lookup (is_at (path_cmp path)) es
+      ≡ Some (Refused cause.NoAddress)) (sym (ap (λ (x : HostState). x.entries) r)) w.entry in
       let left : waiting c.entries ≡ waiting (without path b.entries) = ap waiting rest in
       let done : work c.world ≡ work b.world = ap work world_is in
-      let made : c.world.attempts ≡ b.world.attempts = ap (λ (x : HostState). x.world.attempts) others in
+      let made : c.world.attempts ≡ b.world.attempts =
+      ap (λ (x : HostState). x.world.attempts) others in
       let gone = waiting-without_one path (Refused cause.NoAddress) b.entries refl found in
-      omega (arith, fewer, same, left, done, made, gone, h.went.spends.served, h.went.spends.later, g.went.spends.served, g.went.spends.later)
+      omega (
+        arith,
+        fewer,
+        same,
+        left,
+        done,
+        made,
+        gone,
+        h.went.spends.served,
+        h.went.spends.later,
+        g.went.spends.served,
+        g.went.spends.later,
+      )
 
   -- a change was to be served, or a device waits for an address and one is free
-  pub looks : {Due : Type 0} → (Due → Gained a.world b.world) → (IsFull c.addresses → IsFull b.addresses) → waiting d.entries ≤ waiting c.entries + 1
-      → ((IsFull c.addresses → ⊥) → waiting d.entries ≤ waiting c.entries) → Due ⊎ Waits path a → HostProgress a d
+  pub looks : {Due : Type 0} → (Due → Gained a.world b.world)
+      → (IsFull c.addresses → IsFull b.addresses) → waiting d.entries ≤ waiting c.entries + 1
+      → ((IsFull c.addresses → ⊥) → waiting d.entries ≤ waiting c.entries) → Due ⊎ Waits path a
+      → HostProgress a d
   looks gains freed few other (inl due) = looks_due (gains due) few
   looks gains freed few other (inr w) =
-      looks_waits w (other (λ full. w.free (subst (λ (x : HostState). IsFull x.addresses) r (freed full))))
+      looks_waits w (other (λ full. w.free (subst (λ (x : HostState). IsFull x.addresses) r
+      (freed full))))
 
-pub served_any : (result : Result (Unit {0}) EnumFault) (a d : HostState) → HostProgress a d → ProgressOrLost result a d
+pub served_any : (result : Result (Unit {0}) EnumFault) (a d : HostState) → HostProgress a d
+    → ProgressOrLost result a d
 served_any (Ok done) a d on = on
 served_any (Err ParentLost) a d on = on
 served_any (Err (Bus fault)) a d on = tt
 served_any (Err Memory) a d on = tt
 
-pub served_on : (served : Result (Unit {0}) EnumFault) (done : Unit {0}) (a b : HostState) → EndsAs served (Ok done) → ProgressOrLost served a b → HostProgress a b
+pub served_on : (served : Result (Unit {0}) EnumFault) (done : Unit {0}) (a b : HostState)
+    → EndsAs served (Ok done) → ProgressOrLost served a b → HostProgress a b
 served_on (Ok _) done a b ends s = s
 served_on (Err ParentLost) done a b ends s = s
 served_on (Err (Bus fault)) done a b ends s = absurd (cc ends)
 served_on (Err Memory) done a b ends s = absurd (cc ends)
 
 -- a port was served, and the rest of its handling took nothing back
-pub handled : {Due : Type 0} (result : Result (Unit {0}) HostFault) (served : Result (Unit {0}) EnumFault) (a b c : HostState) → EndsAs served result → AddsNoWork b c → (Due → ProgressOrLost served a b) → OnOk result (Due → HostProgress a c)
-handled (Ok done) served a b c ends holds s = λ due. advances_then a b c (served_on served done a b ends (s due)) holds
+pub handled : {Due : Type 0} (result : Result (Unit {0}) HostFault)
+    (served : Result (Unit {0}) EnumFault) (a b c : HostState) → EndsAs served result
+    → AddsNoWork b c → (Due → ProgressOrLost served a b) → OnOk result (Due → HostProgress a c)
+handled (Ok done) served a b c ends holds s =
+    λ due. advances_then a b c (served_on served done a b ends (s due)) holds
 handled (Err fault) served a b c ends holds s = tt
 
 -- what stood at the port and below it is forgotten
-pub without_rests : (path : List ℕ) (a b c : HostState) → OnlyBusSteps a b → c.entries ≡ without path b.entries → c.entries ≡ without path a.entries
+pub without_rests : (path : List ℕ) (a b c : HostState) → OnlyBusSteps a b
+    → c.entries ≡ without path b.entries → c.entries ≡ without path a.entries
 without_rests path a b c r rest = rest ∙ ap (λ (x : HostState). without path x.entries) r
 
-pub renews : (path : List ℕ) (a b c d : HostState) → OnlyBusSteps a b → c.entries ≡ without path b.entries → EntersOne path c d → Replaced path (without path a.entries) d.entries
-renews path a b c d r rest one = inr (one.finding, one.entries ∙ ap (λ (es : Entries). insert_entry path_cmp es path one.finding) (without_rests path a b c r rest))
+pub renews : (path : List ℕ) (a b c d : HostState) → OnlyBusSteps a b
+    → c.entries ≡ without path b.entries → EntersOne path c d
+    → Replaced path (without path a.entries) d.entries
+renews path a b c d r rest one = inr (
+  one.finding,
+  one.entries
+      ∙ ap (λ (es : Entries). insert_entry path_cmp es path one.finding)
+      (without_rests path a b c r rest),
+)

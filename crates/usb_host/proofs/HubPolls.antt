@@ -1,5 +1,6 @@
 -- What the poll of a hub leaves, and what follows it.
-use Rattle.std.proofs.Common.{◌≡◌, ◌+◌, ◌≤◌, arith, refl, sym, subst, ℕ, List, Option, None, Some, Result, Ok, Err}
+use Rattle.std.proofs.Common.{◌≡◌, ◌+◌, ◌≤◌, arith, refl, sym, subst, ℕ, List, Option, None, Some}
+use Rattle.std.proofs.Common.{Result, Ok, Err}
 use Rattle.std.specs.Prelude.{IsErr, IsSome, ◌≢◌}
 use Rattle.arrayvec.specs.ArrayVec.{ArrayVec}
 use Rattle.usb_pipe.specs.declared.fault.PipeFault.{PipeFault}
@@ -22,11 +23,14 @@ use Rattle.usb_host.specs.declared.fault.HostFault.{HostFault}
 use Rattle.usb_host.specs.declared.host.Round.{Round}
 use Rattle.usb_host.specs.declared.host.Round.TheVariants.{Quiet, Worked}
 use Rattle.usb_host.proofs.OwnedPorts.{dropped_hub_owned}
-use Rattle.usb_host.proofs.payments.HubPayments.{drop_paid_fails, drop_pays, poll_fails, poll_none, tells_shows, told_fails, told_pays}
-use Rattle.usb_host.proofs.services.HubServices.{hub_tells, polls_lost, polls_quiet, polls_told, told_of_ports}
+use Rattle.usb_host.proofs.payments.HubPayments.{drop_paid_fails, drop_pays, poll_fails, poll_none}
+use Rattle.usb_host.proofs.payments.HubPayments.{tells_shows, told_fails, told_pays}
+use Rattle.usb_host.proofs.services.HubServices.{hub_tells, polls_lost, polls_quiet, polls_told}
+use Rattle.usb_host.proofs.services.HubServices.{told_of_ports}
 use Rattle.usb_host.proofs.StepSums.{host_goes_then, goes_wider}
 use Rattle.usb_host.proofs.devices.Owners.{single_kept, single_then, stays_kept}
-use Rattle.usb_host.proofs.RoundParts.{hub_fails, hub_gone, hub_listed, hub_quiet, hub_told, part-fails, polled_hub_not_failed}
+use Rattle.usb_host.proofs.RoundParts.{hub_fails, hub_gone, hub_listed, hub_quiet, hub_told}
+use Rattle.usb_host.proofs.RoundParts.{part-fails, polled_hub_not_failed}
 use Rattle.usb_host.proofs.payments.Payments.{is_err-if_ok, pays_where}
 use Rattle.usb_host.proofs.knowledge.Soundness.{sound_kept}
 
@@ -101,7 +105,8 @@ module _ (hub : List ℕ) (a b : HostState) (agrees : Agrees a.entries a.address
       poll_unserved fault other e y = record {
         keeps = hub_fails other a d e hub (part-fails {A = Unit {0}} hub_poll_bound hub_poll_bound
             a d fault other (record {
-              goes = host_goes_then hub_poll_bound 768 told_bound a b d poll_goes y.goes (omega arith);
+              goes = host_goes_then hub_poll_bound 768 told_bound a b d poll_goes y.goes
+                  (omega arith);
               owned = single_then a b d told_owned y.owned;
               sound = tt;
             }) e (omega arith));
@@ -119,7 +124,8 @@ module _ (hub : List ℕ) (a b : HostState) (agrees : Agrees a.entries a.address
       (d : HostState) where
     not_served : b.world.fault ≡ None → NoHubFailed {A = Option (ArrayVec ℕ)} (Err why) → ⊥
     not_served =
-        polled_hub_not_failed (pipes_at hub (table_in a)) (pipes_at hub (table_in b)) why a.world b.world asks
+        polled_hub_not_failed (pipes_at hub (table_in a)) (pipes_at hub (table_in b)) why a.world
+        b.world asks
 
     -- and was dropped
     pub poll_lost : a.world.attempts + 1 ≤ b.world.attempts → DropsOne hub b (Ok tt) d

@@ -1,5 +1,6 @@
 -- The way up from a port.
-use Rattle.std.proofs.Common.{◌≡◌, ◌∙◌, ap, arith, length-append, ℕ, ◌+◌, ◌≤◌, List, [], ◌∷◌, length, Some}
+use Rattle.std.proofs.Common.{◌≡◌, ◌∙◌, ap, arith, length-append, ℕ, ◌+◌, ◌≤◌, List, [], ◌∷◌}
+use Rattle.std.proofs.Common.{length, Some}
 use Rattle.usb_port.specs.Order.{parent_of, port_on_hub}
 use Rattle.usb_port.proofs.Interface.{rejoined}
 
@@ -10,7 +11,9 @@ long (n ∷ []) hub is = absurd (cc is)
 long (n ∷ m ∷ rest) hub is = omega arith
 
 -- a parent is one number shorter
-pub parent_length : (path hub : List ℕ) → parent_of path ≡ Some hub → (length path ≡ length hub + 1) × (1 ≤ length hub)
+pub parent_length : (path hub : List ℕ) → parent_of path ≡ Some hub → (length path ≡ length hub + 1)
+    × (1 ≤ length hub)
 parent_length path hub is =
-    let e : length path ≡ length hub + 1 = ap length (rejoined path hub is) ∙ length-append hub (port_on_hub path ∷ []) in
+    let e : length path ≡ length hub + 1 = ap length (rejoined path hub is)
+    ∙ length-append hub (port_on_hub path ∷ []) in
     (e, omega (arith, e, long path hub is))

@@ -1,5 +1,6 @@
 -- What is left where a hub is dropped.
-use Rattle.std.proofs.Common.{◌≡◌, ◌∙◌, ◌-◌, ◌*◌, ◌≤◌, arith, refl, ap, subst, true, false, Bool, ℕ, List, length, Option, None, Some, Result, Ok, Err}
+use Rattle.std.proofs.Common.{◌≡◌, ◌∙◌, ◌-◌, ◌*◌, ◌≤◌, arith, refl, ap, subst, true, false, Bool, ℕ}
+use Rattle.std.proofs.Common.{List, length, Option, None, Some, Result, Ok, Err}
 use Rattle.std.specs.Prelude.{IsErr, IsSome, IsSomeAnd}
 use Rattle.std.specs.BTreeMap.{insert_entry}
 use Rattle.usb_port.specs.Order.{parent_of, path_cmp}
@@ -32,9 +33,11 @@ use Rattle.usb_host.specs.declared.fault.HostFault.{HostFault}
 use Rattle.usb_host.proofs.devices.BulkPipes.{bulk_none}
 use Rattle.usb_host.proofs.devices.Causes.{lost_drops}
 use Rattle.usb_host.proofs.ParentPaths.{parent_length}
-use Rattle.usb_host.proofs.knowledge.DroppedHubs.{climb_caused, climb_sound, done_caused, if_err, top_absurd}
+use Rattle.usb_host.proofs.knowledge.DroppedHubs.{climb_caused, climb_sound, done_caused, if_err}
+use Rattle.usb_host.proofs.knowledge.DroppedHubs.{top_absurd}
 use Rattle.usb_host.proofs.payments.HandlingPayments.{hubs_dropped}
-use Rattle.usb_host.proofs.OwnedPorts.{bares_above, drop_ends, drop_not_done, hub_dropped, match_err}
+use Rattle.usb_host.proofs.OwnedPorts.{bares_above, drop_ends, drop_not_done, hub_dropped}
+use Rattle.usb_host.proofs.OwnedPorts.{match_err}
 use Rattle.usb_host.proofs.entries.HubCounts.{hubs-dropped}
 use Rattle.usb_host.proofs.StepSums.{goes_forgotten, host_goes_none, host_goes_then}
 use Rattle.usb_host.proofs.devices.Plugs.{plugs_none}
@@ -159,7 +162,8 @@ drop_untold hub fault a b r x = record {
   sound = not_dropped hub fault a b;
 }
 
-module _ (hub lost : List ℕ) (a b c d : HostState) (r : OnlyBusSteps a b) (x : Climbs hub a (Ok lost) b)
+module _ (hub lost : List ℕ) (a b c d : HostState) (r : OnlyBusSteps a b)
+    (x : Climbs hub a (Ok lost) b)
     (f : Forgets lost b c)
     (others : d ≡ record c { entries = d.entries; pipes = d.pipes; addresses = d.addresses }) where
   drop_world : d.world ≡ c.world

@@ -1,5 +1,7 @@
 -- Where the ports stand that the table knows, and which the root has not.
-use Rattle.std.proofs.Common.{◌≡◌, ◌∙◌, refl, sym, ap, subst, arith, suc, zero, Bool, true, false, ℕ, ◌<◌, ◌≤◌, List, [], ◌∷◌, ◌++◌, length, Option, Some, None, Result, Ok, Err}
+use Rattle.std.proofs.Common.{◌≡◌, ◌∙◌, refl, sym, ap, subst, arith, suc, zero, Bool, true, false}
+use Rattle.std.proofs.Common.{ℕ, ◌<◌, ◌≤◌, List, [], ◌∷◌, ◌++◌, length, Option, Some, None, Result}
+use Rattle.std.proofs.Common.{Ok, Err}
 use Rattle.std.specs.Prelude.{nat_lt, IsSome, IfErr}
 use Rattle.std.proofs.lemmas.Bool.{lt-ltb}
 use Rattle.std.specs.Map.{lookup}
@@ -21,7 +23,8 @@ use Rattle.usb_enum.specs.Stop.{FaultAllowedAt}
 use Rattle.usb_table.specs.declared.known.KnownPort.{KnownPort}
 use Rattle.usb_table.specs.Entries.{Entries}
 use Rattle.usb_table.specs.Keys.{address_in}
-use Rattle.usb_table.specs.KnownPorts.{known_port, root_port, port_below, port_found, is_below_hub, IsAskable}
+use Rattle.usb_table.specs.KnownPorts.{known_port, root_port, port_below, port_found, is_below_hub}
+use Rattle.usb_table.specs.KnownPorts.{IsAskable}
 use Rattle.usb_table.proofs.Interface.{FoundPort, port_found-some}
 use Rattle.usb_host.specs.Agreement.{Agrees}
 use Rattle.usb_host.specs.HostState.{HostState}
@@ -29,33 +32,51 @@ use Rattle.usb_host.specs.Ownership.{claims}
 use Rattle.usb_host.specs.Ports.{IsPortAt, StandsAt, StandsNowhere, Broke}
 use Rattle.usb_host.specs.Progress.{HostSteps, OnlyBusSteps}
 
-pub root_alone : (path : List ℕ) → 1 ≤ length path → parent_of path ≡ None → path ≡ port_on_hub path ∷ []
+pub root_alone : (path : List ℕ) → 1 ≤ length path → parent_of path ≡ None
+    → path ≡ port_on_hub path ∷ []
 unfolding parent_of port_on_hub
 root_alone [] some none = absurd (omega (arith, some))
 root_alone (n ∷ []) some none = refl
 root_alone (n ∷ m ∷ rest) some none =
-    let long : nat_lt 1 (length (n ∷ m ∷ rest)) ≡ true = lt-ltb 1 (length (n ∷ m ∷ rest)) (omega arith) in
+    let long : nat_lt 1 (length (n ∷ m ∷ rest)) ≡ true =
+    lt-ltb 1 (length (n ∷ m ∷ rest)) (omega arith) in
     let wrong = rw long at none in
     absurd (cc wrong)
 
 -- The table's ports
 
-at_found : (f : AddressMap) (hub path : List ℕ) (n : ℕ) → IsPath hub → path ≡ hub ++ n ∷ [] → (port : KnownPort) → IsAskable port.port → (found : Option Finding) (below_hub : Bool) → f hub ≡ address_in found
+at_found : (f : AddressMap) (hub path : List ℕ) (n : ℕ) → IsPath hub → path ≡ hub ++ n ∷ []
+    → (port : KnownPort) → IsAskable port.port → (found : Option Finding) (below_hub : Bool)
+    → f hub ≡ address_in found
     → port_found found below_hub n ≡ Some port → IsAt f port.port path
 at_found f hub path n is joined port askable found below_hub held e =
     let x : FoundPort found below_hub n port = port_found-some found below_hub n port e in
     let asked = subst (λ (p : KnownPort). IsAskable p.port) x.is askable in
-    subst (λ (p : KnownPort). IsAt f p.port path) (sym x.is) (record { hub = hub; is_path = is; number = asked.number; path = joined; held = held ∙ ap address_in x.stands })
+    subst (λ (p : KnownPort). IsAt f p.port path) (sym x.is)
+    (record {
+      hub = hub;
+      is_path = is;
+      number = asked.number;
+      path = joined;
+      held = held
+          ∙ ap address_in x.stands;
+    })
 
-at_known : (path : List ℕ) (es : Entries) (port : KnownPort) → IsPath path → IsAskable port.port → (above : Option (List ℕ)) → parent_of path ≡ above → port_below above (port_on_hub path) es ≡ Some port → IsAt (claims es) port.port path
+at_known : (path : List ℕ) (es : Entries) (port : KnownPort) → IsPath path → IsAskable port.port
+    → (above : Option (List ℕ)) → parent_of path ≡ above → port_below above (port_on_hub path) es
+    ≡ Some port → IsAt (claims es) port.port path
 at_known path es port is askable None above e =
     let same : root_port (port_on_hub path) ≡ port = cc e in
     subst (λ (p : KnownPort). IsAt (claims es) p.port path) same (root_alone path is.0 above)
 at_known path es port is askable (Some hub) above e =
-    at_found (claims es) hub path (port_on_hub path) (is_path path hub is above) (rejoined path hub above) port askable (lookup (is_at (path_cmp hub)) es) (is_below_hub hub) refl e
+    at_found (claims es) hub path (port_on_hub path) (is_path path hub is above)
+    (rejoined path hub above) port askable (lookup (is_at (path_cmp hub)) es) (is_below_hub hub)
+    refl e
 
-pub stands_at-claim : (path : List ℕ) (port : KnownPort) (h : HostState) → StandsAt path port h → IsAt (claims h.entries) port.port path
-stands_at-claim path port h s = at_known path h.entries port s.is s.askable (parent_of path) refl s.known
+pub stands_at-claim : (path : List ℕ) (port : KnownPort) (h : HostState) → StandsAt path port h
+    → IsAt (claims h.entries) port.port path
+stands_at-claim path port h s = at_known path h.entries port s.is s.askable (parent_of path) refl
+    s.known
 
 -- a port that is known stands where the bus does what its world does
 pub placed : {modelled : Bool} {path : List ℕ} {port : KnownPort} {h : HostState} → modelled ≡ true
@@ -75,24 +96,32 @@ pub placed_on : (modelled : Bool) (n : ℕ) (path : List ℕ) (port : KnownPort)
 placed_on modelled n path port a b r went s = record {
   is = s.is;
   known = ap (λ (h : HostState). known_port path h.entries) r ∙ s.known;
-  asked = is_asked_stays modelled n port.port a.world b.world (λ known. (went known).spends) s.asked;
+  asked = is_asked_stays modelled n port.port a.world b.world (λ known. (went known).spends)
+      s.asked;
   askable = s.askable;
   agrees = subst (λ (h : HostState). Agrees h.entries h.addresses) (sym r) s.agrees;
 }
 
 -- a root port is a register, and never fails
-pub lost_above : (path : List ℕ) (es : Entries) (port : KnownPort) (w : World) → FaultAllowedAt port.port ParentLost w → (above : Option (List ℕ)) → parent_of path ≡ above → port_below above (port_on_hub path) es ≡ Some port → IsSome above
+pub lost_above : (path : List ℕ) (es : Entries) (port : KnownPort) (w : World)
+    → FaultAllowedAt port.port ParentLost w → (above : Option (List ℕ)) → parent_of path ≡ above
+    → port_below above (port_on_hub path) es ≡ Some port → IsSome above
 lost_above path es port w lost None above e =
     let same : root_port (port_on_hub path) ≡ port = cc e in
     absurd (subst (λ (p : KnownPort). FaultAllowedAt p.port ParentLost w) (sym same) lost)
 lost_above path es port w lost (Some hub) above e = refl
 
-pub broke : (path : List ℕ) (port : KnownPort) (h : HostState) (fault : EnumFault) (w : World) → StandsAt path port h → FaultAllowedAt port.port fault w → Broke path fault w
-broke path port h ParentLost w s told = lost_above path h.entries port w told (parent_of path) refl s.known
+pub broke : (path : List ℕ) (port : KnownPort) (h : HostState) (fault : EnumFault) (w : World)
+    → StandsAt path port h → FaultAllowedAt port.port fault w → Broke path fault w
+broke path port h ParentLost w s told = lost_above path h.entries port w told (parent_of path) refl
+    s.known
 broke path port h (Bus fault) w s told = told
 broke path port h Memory w s told = told
 
-pub breaks : (path : List ℕ) (port : KnownPort) (h : HostState) (served : Result (Unit {0}) EnumFault) (w : World) → StandsAt path port h → IfErr served (λ fault. FaultAllowedAt port.port fault w) → IfErr served (λ fault. Broke path fault w)
+pub breaks : (path : List ℕ) (port : KnownPort) (h : HostState)
+    (served : Result (Unit {0}) EnumFault) (w : World) → StandsAt path port h
+    → IfErr served (λ fault. FaultAllowedAt port.port fault w)
+    → IfErr served (λ fault. Broke path fault w)
 breaks path port h (Ok done) w s told = tt
 breaks path port h (Err fault) w s told = broke path port h fault w s told
 
@@ -110,8 +139,11 @@ beyond_path : (k : Ports) (n : ℕ) (r : List ℕ) → length (row_of k) < n →
 beyond_path k zero r lt = refl
 beyond_path k (suc i) r lt = beyond_reach k i r (omega (arith, lt))
 
-pub nowhere_reached : (path : List ℕ) (h : HostState) → StandsNowhere path h → parent_of path ≡ None → (x : List ℕ) → is_way path x ≡ true → reach h.world.roots x ≡ false
+pub nowhere_reached : (path : List ℕ) (h : HostState) → StandsNowhere path h → parent_of path ≡ None
+    → (x : List ℕ) → is_way path x ≡ true → reach h.world.roots x ≡ false
 nowhere_reached path h s none x way =
     let rest = way_rest path x way in
-    let whole : x ≡ port_on_hub path ∷ rest.0 = rest.1 ∙ ap (λ (l : List ℕ). l ++ rest.0) (root_alone path s.is.0 none) in
-    subst (λ (l : List ℕ). reach h.world.roots l ≡ false) (sym whole) (beyond_path h.world.roots (port_on_hub path) rest.0 (s.beyond none))
+    let whole : x ≡ port_on_hub path ∷ rest.0 = rest.1
+    ∙ ap (λ (l : List ℕ). l ++ rest.0) (root_alone path s.is.0 none) in
+    subst (λ (l : List ℕ). reach h.world.roots l ≡ false) (sym whole)
+    (beyond_path h.world.roots (port_on_hub path) rest.0 (s.beyond none))

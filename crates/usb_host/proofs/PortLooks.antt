@@ -1,5 +1,6 @@
 -- What a look at a port leaves.
-use Rattle.std.proofs.Common.{◌≡◌, ◌∙◌, ◌⊎◌, ◌+◌, ◌≤◌, arith, inl, inr, sym, ap, subst, true, false, Bool, ℕ, List, None, Result, Ok, Err}
+use Rattle.std.proofs.Common.{◌≡◌, ◌∙◌, ◌⊎◌, ◌+◌, ◌≤◌, arith, inl, inr, sym, ap, subst, true, false}
+use Rattle.std.proofs.Common.{Bool, ℕ, List, None, Result, Ok, Err}
 use Rattle.std.specs.Prelude.{OnOk}
 use Rattle.usb_port.specs.declared.status.PortStatus.{PortStatus}
 use Rattle.usb_tree.proofs.Interface.{decided}
@@ -26,24 +27,30 @@ use Rattle.usb_host.specs.HostState.{HostState}
 use Rattle.usb_host.specs.Ownership.{IsOwned, KeepsPort, StaysOwned, claims}
 use Rattle.usb_host.specs.PortHandling.{IsOpen, ServesSound}
 use Rattle.usb_host.specs.Plugs.{KeepsPlugs}
-use Rattle.usb_host.specs.Ports.{Entered, Forgets, Gained, IsPortAt, Requested, ProgressOrLost, StandsAt, Waits}
+use Rattle.usb_host.specs.Ports.{Entered, Forgets, Gained, IsPortAt, Requested, ProgressOrLost}
+use Rattle.usb_host.specs.Ports.{StandsAt, Waits}
 use Rattle.usb_host.specs.Progress.{HostRuns, HostSteps, OnlyBusSteps, waiting}
 use Rattle.usb_host.specs.Requests.{ClearsError, ClearsPort}
 use Rattle.usb_host.specs.Service.{Discovers, LookedOrLost, LooksAfterError, LooksAt, RenewsPort}
 use Rattle.usb_host.specs.Soundness.{HostInvariant}
 use Rattle.usb_host.specs.Transfers.{table_in}
 use Rattle.usb_host.proofs.devices.BulkPipes.{bulk_stays, bulk_then}
-use Rattle.usb_host.proofs.devices.Causes.{cleared_caused, entered_finds, forgot_caused, fault_none_back, unentered_finds, unfound_finds}
+use Rattle.usb_host.proofs.devices.Causes.{cleared_caused, entered_finds, forgot_caused}
+use Rattle.usb_host.proofs.devices.Causes.{fault_none_back, unentered_finds, unfound_finds}
 use Rattle.usb_host.proofs.devices.Enumerations.{enumeration_goes}
 use Rattle.usb_host.proofs.devices.Fairness.{fair_after, fair_before}
-use Rattle.usb_host.proofs.OwnedPorts.{found_ends, found_fails, found_lost, rests_keeps_port, stays_keeps_port, port_then, stays_bare}
+use Rattle.usb_host.proofs.OwnedPorts.{found_ends, found_fails, found_lost, rests_keeps_port}
+use Rattle.usb_host.proofs.OwnedPorts.{stays_keeps_port, port_then, stays_bare}
 use Rattle.usb_host.proofs.entries.HubCounts.{hubs-found, hubs-gone, hubs-rest, none_rests}
 use Rattle.usb_host.proofs.StepSums.{goes_forgotten, host_goes_none, goes_wider}
 use Rattle.usb_host.proofs.payments.LookPayments.{look_bare, look_lost, look_pays, plan_within-went}
-use Rattle.usb_host.proofs.HostProgress.{enters_few, enters_other, without_rests, looks, renews, served_any}
-use Rattle.usb_host.proofs.devices.Plugs.{plugs_forgot, plugs_found, plugs_kept, plugs_rests, plugs_then}
+use Rattle.usb_host.proofs.HostProgress.{enters_few, enters_other, without_rests, looks, renews}
+use Rattle.usb_host.proofs.HostProgress.{served_any}
+use Rattle.usb_host.proofs.devices.Plugs.{plugs_forgot, plugs_found, plugs_kept, plugs_rests}
+use Rattle.usb_host.proofs.devices.Plugs.{plugs_then}
 use Rattle.usb_host.proofs.PortRequests.{requested-fails, requested-then}
-use Rattle.usb_host.proofs.knowledge.ServedPorts.{cleared_lost, cleared_stay, forgot_open, forgot_sound, forgot_stay}
+use Rattle.usb_host.proofs.knowledge.ServedPorts.{cleared_lost, cleared_stay, forgot_open}
+use Rattle.usb_host.proofs.knowledge.ServedPorts.{forgot_sound, forgot_stay}
 use Rattle.usb_host.proofs.services.ServedWork.{failed_on_way, lost_on}
 use Rattle.usb_host.proofs.services.Services.{cleared_failed, found_failed, renews_by, renews_one}
 use Rattle.usb_host.proofs.PortLocations.{stands_at-claim}

@@ -1,10 +1,12 @@
 -- What requests at a port leave, one after the other.
-use Rattle.std.proofs.Common.{◌≡◌, ◌∙◌, ◌⊎◌, ◌+◌, ◌*◌, ◌≤◌, arith, inl, inr, refl, sym, ap, subst, true, false, Bool, ℕ, List, Some, Result, Ok, Err}
+use Rattle.std.proofs.Common.{◌≡◌, ◌∙◌, ◌⊎◌, ◌+◌, ◌*◌, ◌≤◌, arith, inl, inr, refl, sym, ap, subst}
+use Rattle.std.proofs.Common.{true, false, Bool, ℕ, List, Some, Result, Ok, Err}
 use Rattle.std.specs.Prelude.{IfErr, IfOk, OnOk, IsOk}
 use Rattle.usb_request.specs.Features.{PORT_ENABLE, C_PORT_CONNECTION, C_PORT_ENABLE, C_PORT_RESET}
 use Rattle.usb_port.specs.Calls.{clear_call, is_reset}
 use Rattle.usb_port.specs.declared.call.PortCall.{PortCall}
-use Rattle.usb_port.specs.declared.call.PortCall.TheVariants.{ClearEnable, ClearConnectionChange, ClearEnableChange, ClearResetChange}
+use Rattle.usb_port.specs.declared.call.PortCall.TheVariants.{ClearEnable, ClearConnectionChange}
+use Rattle.usb_port.specs.declared.call.PortCall.TheVariants.{ClearEnableChange, ClearResetChange}
 use Rattle.usb_port.specs.declared.status.PortStatus.{PortStatus}
 use Rattle.usb_world.specs.World.{World, Failed, AttemptsWithin}
 use Rattle.usb_tree.proofs.Interface.{decided}
@@ -38,13 +40,18 @@ use Rattle.usb_host.specs.Ownership.{BaresPort}
 use Rattle.usb_host.specs.PortHandling.{ClearsChange, LetsGoOn, Tidies, Watches}
 use Rattle.usb_host.specs.Ports.{Gained, ProgressOnOk, IsDue, Requested, Shown}
 use Rattle.usb_host.specs.Progress.{HostRuns, HostSteps}
-use Rattle.usb_host.specs.Requests.{ClearsError, ClearsFeature, ClearsOthers, ClearsOwn, ClearsPort, ClearsWhere, SettlesPort, ShowsPort, TidiesPort}
+use Rattle.usb_host.specs.Requests.{ClearsError, ClearsFeature, ClearsOthers, ClearsOwn, ClearsPort}
+use Rattle.usb_host.specs.Requests.{ClearsWhere, SettlesPort, ShowsPort, TidiesPort}
 use Rattle.usb_host.specs.Service.{ClearsAndReads, ClearsTold, DoneWhere}
 use Rattle.usb_host.proofs.devices.Enumerations.{status_read_goes}
 use Rattle.usb_host.proofs.OwnedPorts.{bares_after}
 use Rattle.usb_host.proofs.StepSums.{goes_by, host_goes_none, host_goes_then, goes_wider}
 use Rattle.usb_host.proofs.rests.OtherChanges.{bares_kept, keeps_each_none, keeps_each_then}
-use Rattle.usb_host.proofs.devices.Requests.{call_tidies, changes_disabled, changes_done, clears_after, clears_disabled, clears_enable_change, clears_failed, clears_reset_change, tells_keeps_asked, clears_untold, disabled_so, ok_at_port, resets_done, tidies_none, tidies_then, watched}
+use Rattle.usb_host.proofs.devices.Requests.{call_tidies, changes_disabled, changes_done}
+use Rattle.usb_host.proofs.devices.Requests.{clears_after, clears_disabled, clears_enable_change}
+use Rattle.usb_host.proofs.devices.Requests.{clears_failed, clears_reset_change, tells_keeps_asked}
+use Rattle.usb_host.proofs.devices.Requests.{clears_untold, disabled_so, ok_at_port, resets_done}
+use Rattle.usb_host.proofs.devices.Requests.{tidies_none, tidies_then, watched}
 use Rattle.usb_host.proofs.services.Services.{call_done, done_not, done_so}
 use Rattle.usb_host.proofs.knowledge.TidiedPorts.{Tidy, enable, reset, tidy_call}
 
@@ -266,7 +273,8 @@ change_gains (Root number) n old answer new due s x goes =
 change_gains (External hub number) n old answer new due s x goes =
     order_gains (External hub number) C_PORT_CONNECTION n old answer new tt s x goes
 
-gained_then : (n : ℕ) (old mid new : World) → Gained old mid → AttemptsWithin n mid new → Gained old new
+gained_then : (n : ℕ) (old mid new : World) → Gained old mid → AttemptsWithin n mid new
+    → Gained old new
 gained_then n old mid new g s = omega (arith, g, s.served, s.later)
 
 -- A status

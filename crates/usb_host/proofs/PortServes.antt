@@ -1,5 +1,6 @@
 -- What the serving and the handling of a port leave.
-use Rattle.std.proofs.Common.{◌≡◌, ◌∙◌, ◌+◌, ◌*◌, ◌≤◌, arith, inr, refl, true, false, ℕ, List, Option, Result, Ok, Err}
+use Rattle.std.proofs.Common.{◌≡◌, ◌∙◌, ◌+◌, ◌*◌, ◌≤◌, arith, inr, refl, true, false, ℕ, List}
+use Rattle.std.proofs.Common.{Option, Result, Ok, Err}
 use Rattle.std.specs.Prelude.{IsErr}
 use Rattle.usb_port.specs.declared.status.PortStatus.{PortStatus}
 use Rattle.usb_address.proofs.Interface.{keeps_then}
@@ -19,7 +20,8 @@ use Rattle.usb_host.specs.PortHandling.{ServesSound, Watches}
 use Rattle.usb_host.specs.Ports.{EndsAs, IsDue, StandsAt, StandsNowhere, Waits}
 use Rattle.usb_host.specs.Progress.{HostSteps, OnlyBusSteps}
 use Rattle.usb_host.specs.Requests.{ClearsOwn, SettlesPort, ShowsPort, TidiesPort}
-use Rattle.usb_host.specs.Service.{EndsAt, FinishesAt, HandlesPort, LooksAfterError, LooksAt, LooksOnceMore, ServesOwn, ServesPort}
+use Rattle.usb_host.specs.Service.{EndsAt, FinishesAt, HandlesPort, LooksAfterError, LooksAt}
+use Rattle.usb_host.specs.Service.{LooksOnceMore, ServesOwn, ServesPort}
 use Rattle.usb_host.specs.Soundness.{HostInvariant, Part}
 use Rattle.usb_host.specs.declared.fault.HostFault.{HostFault}
 use Rattle.usb_host.specs.declared.host.Round.{Round}
@@ -31,7 +33,8 @@ use Rattle.usb_host.proofs.knowledge.FinishedPorts.{finished_sound}
 use Rattle.usb_host.proofs.payments.HandlingPayments.{handling_pays}
 use Rattle.usb_host.proofs.OwnedPorts.{port_finished, rests_keeps_port, port_then, stays_rests}
 use Rattle.usb_host.proofs.entries.HubCounts.{hubs-rest, none_rests}
-use Rattle.usb_host.proofs.StepSums.{advances_then, host_goes_none, host_goes_then, no_work_then, host_rests_then}
+use Rattle.usb_host.proofs.StepSums.{advances_then, host_goes_none, host_goes_then, no_work_then}
+use Rattle.usb_host.proofs.StepSums.{host_rests_then}
 use Rattle.usb_host.proofs.payments.LookPayments.{plan_within-went}
 use Rattle.usb_host.proofs.HostProgress.{handled, served_on}
 use Rattle.usb_host.proofs.rests.OtherChanges.{failed_served, none_failed, watched_plain}
@@ -39,11 +42,14 @@ use Rattle.usb_host.proofs.devices.Plugs.{plugs_rests, plugs_then}
 use Rattle.usb_host.proofs.RoundParts.{part-fails, part-none, part-wider}
 use Rattle.usb_host.proofs.payments.Payments.{is_err-if_ok}
 use Rattle.usb_host.proofs.entries.Roots.{waits_somewhere}
-use Rattle.usb_host.proofs.PortRequests.{requested-fails, requested-then, shows_shown, shows_watches}
-use Rattle.usb_host.proofs.knowledge.ServedPorts.{rests_stands, tidied_port, tidied_stay, watched_lost, watched_sound, watched_stay}
+use Rattle.usb_host.proofs.PortRequests.{requested-fails, requested-then, shows_shown}
+use Rattle.usb_host.proofs.PortRequests.{shows_watches}
+use Rattle.usb_host.proofs.knowledge.ServedPorts.{rests_stands, tidied_port, tidied_stay}
+use Rattle.usb_host.proofs.knowledge.ServedPorts.{watched_lost, watched_sound, watched_stay}
 use Rattle.usb_host.proofs.services.ServedWork.{looked_on, rests_holds, status_lost_on, tidied_on}
 use Rattle.usb_host.proofs.payments.ServePayments.{after_look, after_tidy, status_lost, told_there}
-use Rattle.usb_host.proofs.services.Services.{handled_at, handled_once, handles_at, serves_looked, serves_tidied, status_failed}
+use Rattle.usb_host.proofs.services.Services.{handled_at, handled_once, handles_at, serves_looked}
+use Rattle.usb_host.proofs.services.Services.{serves_tidied, status_failed}
 
 -- A port is served
 
@@ -212,7 +218,8 @@ module _ (path : List ℕ) (port : KnownPort) (a b : HostState) (s : StandsAt pa
       requested = requested-then port.port serving_bound (read_bound 4) look_bound a b d status
           result x.requested y.requested (omega arith);
       on = λ due.
-          failed_served (read_bound 4) port.port a b d result status r x.requested.goes device failed
+          failed_served (read_bound 4) port.port a b d result status r x.requested.goes device
+          failed
           y.on;
       owned = port_then path a b result d
           (stays_rests a b r shown_went.spends.roots shown_watches.addresses) y.owned;

@@ -1,5 +1,7 @@
 -- What the loops of a round leave, one turn after the other.
-use Rattle.std.proofs.Common.{◌≡◌, ◌∙◌, ◌⊎◌, ◌+◌, ◌-◌, ◌*◌, ◌≤◌, ◌<◌, arith, below_more, refl, sym, ap, subst, true, false, ℕ, List, Option, [], ◌∷◌, None, Some, Result, Ok, Err}
+use Rattle.std.proofs.Common.{◌≡◌, ◌∙◌, ◌⊎◌, ◌+◌, ◌-◌, ◌*◌, ◌≤◌, ◌<◌, arith, below_more, refl, sym}
+use Rattle.std.proofs.Common.{ap, subst, true, false, ℕ, List, Option, [], ◌∷◌, None, Some, Result}
+use Rattle.std.proofs.Common.{Ok, Err}
 use Rattle.std.specs.Prelude.{IfSome, IsErr}
 use Rattle.usb_port.specs.Path.{IsPath}
 use Rattle.usb_port.specs.Status.{has_bit}
@@ -11,29 +13,40 @@ use Rattle.usb_enum.proofs.Interface.{went_sound}
 use Rattle.usb_table.specs.Findings.{is_hub, is_waiting}
 use Rattle.usb_table.specs.NextEntries.{ComesAfter, IsLast, IsNext}
 use Rattle.usb_host.specs.Agreement.{Agrees}
-use Rattle.usb_host.specs.Bounds.{handling_bound, hub_poll_bound, hubs_bound, looks_bound, roots_bound, told_bound}
+use Rattle.usb_host.specs.Bounds.{handling_bound, hub_poll_bound, hubs_bound, looks_bound}
+use Rattle.usb_host.specs.Bounds.{roots_bound, told_bound}
 use Rattle.usb_host.specs.Budget.{RootsPaid, RoundPaid, ToldPaid, Weights}
 use Rattle.usb_host.specs.HostState.{HostState}
 use Rattle.usb_host.specs.Ownership.{IsRooted}
 use Rattle.usb_host.specs.Ports.{Waits}
 use Rattle.usb_host.specs.Progress.{AddsNoWork, Did, either}
-use Rattle.usb_host.specs.Service.{HandlesNumber, HandlesPort, HubsPolled, LookedAgain, LooksAgain, LooksOnceMore, RootsServed, ServedTold, ServesEach, ServesHub, ServesHubs, ServesPorts, ServesRoots, bit_clear, bit_set, next_hub, no_device, no_hub, no_root, none_yet, root_changed, root_steady}
+use Rattle.usb_host.specs.Service.{HandlesNumber, HandlesPort, HubsPolled, LookedAgain, LooksAgain}
+use Rattle.usb_host.specs.Service.{LooksOnceMore, RootsServed, ServedTold, ServesEach, ServesHub}
+use Rattle.usb_host.specs.Service.{ServesHubs, ServesPorts, ServesRoots, bit_clear, bit_set}
+use Rattle.usb_host.specs.Service.{next_hub, no_device, no_hub, no_root, none_yet, root_changed}
+use Rattle.usb_host.specs.Service.{root_steady}
 use Rattle.usb_host.specs.Soundness.{HostInvariant, NoneWait, Part}
 use Rattle.usb_host.specs.declared.fault.HostFault.{HostFault}
 use Rattle.usb_host.specs.declared.host.Round.{Round}
 use Rattle.usb_host.specs.declared.host.Round.TheVariants.{Quiet, Worked}
-use Rattle.usb_host.proofs.payments.HubPayments.{HubsSoFar, hubs_all, hubs_failed, hubs_next, hubs_none, rank_before}
+use Rattle.usb_host.proofs.payments.HubPayments.{HubsSoFar, hubs_all, hubs_failed, hubs_next}
+use Rattle.usb_host.proofs.payments.HubPayments.{hubs_none, rank_before}
 use Rattle.usb_host.proofs.rests.IdleRounds.{none_next, none_shows}
 use Rattle.usb_host.proofs.StepSums.{did_holds, did_then, no_work_then, worked_after}
-use Rattle.usb_host.proofs.RoundParts.{hubs_fail, looks_fail, part-fails, part-none, part-then, part-wider}
+use Rattle.usb_host.proofs.RoundParts.{hubs_fail, looks_fail, part-fails, part-none, part-then}
+use Rattle.usb_host.proofs.RoundParts.{part-wider}
 use Rattle.usb_host.proofs.payments.Payments.{is_err-if_ok}
 use Rattle.usb_host.proofs.rests.QuietPorts.{none_changed}
-use Rattle.usb_host.proofs.entries.Ranks.{rank_after, rank_after_most, rank_more, rank_most, rank_within}
-use Rattle.usb_host.proofs.rests.RestingRounds.{Polled, calm_then, none_waits, ok_is, polled_all, polled_then, quiet_second}
+use Rattle.usb_host.proofs.entries.Ranks.{rank_after, rank_after_most, rank_more, rank_most}
+use Rattle.usb_host.proofs.entries.Ranks.{rank_within}
+use Rattle.usb_host.proofs.rests.RestingRounds.{Polled, calm_then, none_waits, ok_is, polled_all}
+use Rattle.usb_host.proofs.rests.RestingRounds.{polled_then, quiet_second}
 use Rattle.usb_host.proofs.entries.Roots.{on_failed}
 use Rattle.usb_host.proofs.payments.RoundPayments.{one_waits}
 use Rattle.usb_host.proofs.services.RoundServices.{looked_then}
-use Rattle.usb_host.proofs.payments.ToldPayments.{RootsSoFar, ToldSoFar, root_shows, roots_failed, roots_next, roots_none, told_all, told_clear, told_failed, told_next, told_so_far_none}
+use Rattle.usb_host.proofs.payments.ToldPayments.{RootsSoFar, ToldSoFar, root_shows, roots_failed}
+use Rattle.usb_host.proofs.payments.ToldPayments.{roots_next, roots_none, told_all, told_clear}
+use Rattle.usb_host.proofs.payments.ToldPayments.{told_failed, told_next, told_so_far_none}
 
 -- Root ports
 

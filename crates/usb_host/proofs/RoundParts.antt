@@ -1,12 +1,14 @@
 -- What the parts of a round keep.
-use Rattle.std.proofs.Common.{◌≡◌, ◌∙◌, ◌+◌, ◌≤◌, arith, refl, sym, ap, subst, ℕ, Bool, true, false, List, Option, None, Some, is_some, Result, Ok, Err}
+use Rattle.std.proofs.Common.{◌≡◌, ◌∙◌, ◌+◌, ◌≤◌, arith, refl, sym, ap, subst, ℕ, Bool, true, false}
+use Rattle.std.proofs.Common.{List, Option, None, Some, is_some, Result, Ok, Err}
 use Rattle.std.specs.Prelude.{IsErr, IsOk, IsSome}
 use Rattle.arrayvec.specs.ArrayVec.{ArrayVec}
 use Rattle.usb_tree.specs.Paths.{pending}
 use Rattle.usb_world.specs.World.{World}
 use Rattle.usb_transaction.specs.Failures.{NoThreeDamaged}
 use Rattle.usb_pipe.specs.declared.fault.PipeFault.{PipeFault}
-use Rattle.usb_pipe.specs.declared.fault.PipeFault.TheVariants.{Stalled, Busy, NoAnswer, Broken, Bus, Memory}
+use Rattle.usb_pipe.specs.declared.fault.PipeFault.TheVariants.{Stalled, Busy, NoAnswer, Broken}
+use Rattle.usb_pipe.specs.declared.fault.PipeFault.TheVariants.{Bus, Memory}
 use Rattle.usb_hub.specs.CallFailures.{NoHubFailed}
 use Rattle.usb_enum.proofs.Interface.{went_sound}
 use Rattle.usb_enum.specs.declared.finding.Finding.{Finding}
@@ -23,30 +25,40 @@ use Rattle.usb_table.specs.Pipes.{ArePipesIf}
 use Rattle.usb_table.specs.Table.{GoesThrough, pipes_at}
 use Rattle.usb_table.specs.Transfers.{PipesPolled}
 use Rattle.usb_host.specs.Agreement.{Agrees}
-use Rattle.usb_host.specs.Bounds.{drop_bound, hub_poll_bound, hubs_bound, looks_bound, round_bound, roots_bound, told_bound}
+use Rattle.usb_host.specs.Bounds.{drop_bound, hub_poll_bound, hubs_bound, looks_bound, round_bound}
+use Rattle.usb_host.specs.Bounds.{roots_bound, told_bound}
 use Rattle.usb_host.specs.BulkPipes.{KeepsBulk}
 use Rattle.usb_host.specs.HostState.{HostState}
 use Rattle.usb_host.specs.Ownership.{StaysOwned, DropsHub}
 use Rattle.usb_host.specs.Transfers.{table_in}
 use Rattle.usb_host.specs.Progress.{HostSteps, HostRuns, either}
-use Rattle.usb_host.specs.Soundness.{HostInvariant, KeepsInvariant, PartStays, DropsSound, Part, PartsKeep, RootsRest, HubKeeps, HubsKeep, LooksKeep, NoneWait}
+use Rattle.usb_host.specs.Soundness.{HostInvariant, KeepsInvariant, PartStays, DropsSound, Part}
+use Rattle.usb_host.specs.Soundness.{PartsKeep, RootsRest, HubKeeps, HubsKeep, LooksKeep, NoneWait}
 use Rattle.usb_host.specs.declared.fault.HostFault.{HostFault}
 use Rattle.usb_host.specs.declared.host.Round.{Round}
 use Rattle.usb_host.specs.declared.host.Round.TheVariants.{Worked, Quiet}
 use Rattle.usb_host.proofs.devices.BulkPipes.{bulk_stays, stay_polled}
 use Rattle.usb_host.proofs.devices.Plugs.{plugs_kept}
 use Rattle.usb_host.proofs.OwnedPorts.{dropped_hub_owned}
-use Rattle.usb_host.proofs.devices.Owners.{single_then, stays_kept, stays_owned_none, stays_owned_then}
+use Rattle.usb_host.proofs.devices.Owners.{single_then, stays_kept, stays_owned_none}
+use Rattle.usb_host.proofs.devices.Owners.{stays_owned_then}
 use Rattle.usb_host.proofs.rests.Polls.{HubThere, hub_there, reached_at, heard_at, poll_silent}
 use Rattle.usb_host.proofs.rests.RestingRounds.{done, ok_is, quiet_first, quiet_second, at_rest}
 use Rattle.usb_host.proofs.StepSums.{host_goes_none, host_goes_then, goes_wider}
 use Rattle.usb_host.proofs.entries.Roots.{accounted, on_failed}
-use Rattle.usb_host.proofs.knowledge.Soundness.{part_none, part_then, sound_kept, but_kept, caused_kept, known_kept, truthful_kept, occupied_kept, sound_dropped}
+use Rattle.usb_host.proofs.knowledge.Soundness.{part_none, part_then, sound_kept, but_kept}
+use Rattle.usb_host.proofs.knowledge.Soundness.{caused_kept, known_kept, truthful_kept}
+use Rattle.usb_host.proofs.knowledge.Soundness.{occupied_kept, sound_dropped}
 
 -- One part after another
 
 pub part-none : {A : Type 0} (n : ℕ) (x : A) (h : HostState) → Part n h (Ok x) h
-part-none n x h = record { goes = host_goes_none n h; owned = stays_owned_none h; sound = part_none h }
+part-none n x h = record {
+  goes = host_goes_none n h;
+  owned = stays_owned_none h;
+  sound =
+      part_none h;
+}
 
 pub part-then : {A B : Type 0} (k m n : ℕ) (a b c : HostState) (x : A) (result : Result B HostFault)
     → Part m a (Ok x) b → Part n b result c → m + n ≤ k → Part k a result c
@@ -81,7 +93,8 @@ part-fails k m a b fault (Err why) p e le = record {
 
 -- Parts that failed
 
-not_done : {A : Type 0} (result : Result A HostFault) (x : A) {P : Type 0} → IsErr result → result ≡ Ok x → P
+not_done : {A : Type 0} (result : Result A HostFault) (x : A) {P : Type 0} → IsErr result
+    → result ≡ Ok x → P
 not_done (Ok y) x e is = absurd (cc e)
 not_done (Err fault) x e is = absurd (cc is)
 
@@ -114,12 +127,15 @@ module _ (result : Result Round HostFault) (a c : HostState) (e : IsErr result) 
 -- A hub is polled
 
 -- where the bus is at work, a poll that failed was not answered
-pub polled_hub_not_failed : (pipes left : Pipes) (fault : PipeFault) (old new : World) → PipesPolled pipes old (Err fault) left new → new.fault ≡ None → NoHubFailed {A = Option (ArrayVec ℕ)} (Err fault) → ⊥
+pub polled_hub_not_failed : (pipes left : Pipes) (fault : PipeFault) (old new : World)
+    → PipesPolled pipes old (Err fault) left new → new.fault ≡ None
+    → NoHubFailed {A = Option (ArrayVec ℕ)} (Err fault) → ⊥
 polled_hub_not_failed pipes left Stalled old new x still served = served
 polled_hub_not_failed pipes left Busy old new x still served = served
 polled_hub_not_failed pipes left NoAnswer old new x still served = served
 polled_hub_not_failed pipes left Broken old new x still served = served
-polled_hub_not_failed (HubPipe pipe) left (Bus fault) old new x still served = let told = x.2.polls.ends.told in cc (told, still)
+polled_hub_not_failed (HubPipe pipe) left (Bus fault) old new x still served = let told =
+    x.2.polls.ends.told in cc (told, still)
 polled_hub_not_failed (Function pipes) left (Bus fault) old new x still served = cc (x.0)
 polled_hub_not_failed Absent left (Bus fault) old new x still served = cc (x.0)
 polled_hub_not_failed (HubPipe pipe) left Memory old new x still served = x.2.polls.room refl
@@ -132,16 +148,25 @@ hub_listed (Some f) some = refl
 
 part_where : (a c : HostState) → (HostInvariant a → PartStays a c) → PartStays a c
 part_where a c f = record {
-  sound = record { sound = λ s. (f s).sound.sound s; caused = λ s fair q. (f s).sound.caused s fair q };
+  sound = record {
+    sound = λ s. (f s).sound.sound s;
+    caused =
+        λ s fair q. (f s).sound.caused s fair q;
+  };
   bulk = λ s still. (f s).bulk s still;
   plugs = λ s still. (f s).plugs s still;
 }
 
-module _ (hub : List ℕ) (answer : Result (Option (ArrayVec ℕ)) PipeFault) (a b : HostState) (agrees : Agrees a.entries a.addresses) (same : b.entries ≡ a.entries) (pool : b.addresses ≡ a.addresses) (stopped : b.stopped ≡ a.stopped)
-    (went : HostSteps 768 a b) (keeps : KeepsPolled hub (table_in a) a.world answer (table_in b) b.world) (through : GoesThrough hub (table_in a) (table_in b))
-    (asks : PipesPolled (pipes_at hub (table_in a)) a.world answer (pipes_at hub (table_in b)) b.world) where
+module _ (hub : List ℕ) (answer : Result (Option (ArrayVec ℕ)) PipeFault) (a b : HostState)
+    (agrees : Agrees a.entries a.addresses) (same : b.entries ≡ a.entries)
+    (pool : b.addresses ≡ a.addresses) (stopped : b.stopped ≡ a.stopped)
+    (went : HostSteps 768 a b) (keeps : KeepsPolled hub (table_in a) a.world answer (table_in b)
+    b.world) (through : GoesThrough hub (table_in a) (table_in b))
+    (asks : PipesPolled (pipes_at hub (table_in a)) a.world answer (pipes_at hub (table_in b))
+    b.world) where
   agrees_on : Agrees b.entries b.addresses
-  agrees_on = subst (λ (es : Entries). Agrees es b.addresses) (sym same) (subst (Agrees a.entries) (sym pool) agrees)
+  agrees_on = subst (λ (es : Entries). Agrees es b.addresses) (sym same)
+      (subst (Agrees a.entries) (sym pool) agrees)
 
   polled : StaysOwned a b
   polled = stays_kept a b same went.spends.roots keeps.levels.worlds.addresses
@@ -155,13 +180,21 @@ module _ (hub : List ℕ) (answer : Result (Option (ArrayVec ℕ)) PipeFault) (a
   bulk : HostInvariant a → b.world.fault ≡ None → KeepsBulk a b
   bulk s still =
       let before = went_sound 768 a.world b.world went still in
-      bulk_stays a b (stay_polled hub a b answer through asks (keeps.spares (s.owned.so before) (s.level before hub)))
+      bulk_stays a b (stay_polled hub a b answer through asks
+      (keeps.spares (s.owned.so before) (s.level before hub)))
 
   part : IsOk answer → PartStays a b
-  part ok = record { sound = sound ok; bulk = bulk; plugs = λ s still. plugs_kept a b went.spends.onward same }
+  part ok = record {
+    sound = sound ok;
+    bulk = bulk;
+    plugs =
+        λ s still. plugs_kept a b went.spends.onward same;
+  }
 
   -- it has nothing to tell
-  pub hub_quiet : (pipes left : Pipes) → IsOk answer → ArePipesIf (accepted_device_at hub a.entries) (is_below_hub hub) pipes → PipesPolled pipes a.world (Ok None) left b.world → HubKeeps hub a (Ok Quiet) b
+  pub hub_quiet : (pipes left : Pipes) → IsOk answer
+      → ArePipesIf (accepted_device_at hub a.entries) (is_below_hub hub) pipes
+      → PipesPolled pipes a.world (Ok None) left b.world → HubKeeps hub a (Ok Quiet) b
   hub_quiet pipes left ok are asked = record {
     part = record {
       goes = goes_wider 768 hub_poll_bound a b goes (omega arith);
@@ -170,7 +203,9 @@ module _ (hub : List ℕ) (answer : Result (Option (ArrayVec ℕ)) PipeFault) (a
     };
     calm = λ is still. keeps.levels.worlds.rests still;
     silent = λ s is still none.
-        poll_silent b agrees_on ((sound ok).sound s) still hub pipes left a.world (subst (λ (es : Entries). ArePipesIf (accepted_device_at hub es) (is_below_hub hub) pipes) (sym same) are) asked none;
+        poll_silent b agrees_on ((sound ok).sound s) still hub pipes left a.world
+        (subst (λ (es : Entries). ArePipesIf (accepted_device_at hub es) (is_below_hub hub)
+        pipes) (sym same) are) asked none;
   }
 
   -- it told of changes, and its ports were handled
@@ -188,33 +223,46 @@ module _ (hub : List ℕ) (answer : Result (Option (ArrayVec ℕ)) PipeFault) (a
   }
 
   -- a hub that does not answer is not reached, or a change is pending on the way to it
-  pends : (b.world.fault ≡ None → NoHubFailed answer → ⊥) → IsSome (hub_facts_at hub a.entries) → HostInvariant a → b.world.fault ≡ None → NoThreeDamaged a.world → pending b.world.roots hub ≡ true
-  pends failed listed s still few = pick (hub_facts_at hub a.entries) refl listed (pending b.world.roots hub) refl
+  pends : (b.world.fault ≡ None → NoHubFailed answer → ⊥) → IsSome (hub_facts_at hub a.entries)
+      → HostInvariant a → b.world.fault ≡ None → NoThreeDamaged a.world
+      → pending b.world.roots hub ≡ true
+  pends failed listed s still few = pick (hub_facts_at hub a.entries) refl listed
+      (pending b.world.roots hub) refl
     where
       held : IsHeld (table_in a) a.world
       held = s.owned.so (went_sound 768 a.world b.world went still)
 
-      heard : (facts : HubFacts) → HubThere hub a.entries facts → pending b.world.roots hub ≡ false → ⊥
+      heard : (facts : HubFacts) → HubThere hub a.entries facts → pending b.world.roots hub ≡ false
+          → ⊥
       heard facts there none =
           let rooted = polled.rooted s.rooted in
-          let found : finding_at hub b.entries ≡ Some (Device there.device) = ap (λ (es : Entries). finding_at hub es) same ∙ there.found in
+          let found : finding_at hub b.entries ≡ Some (Device there.device) =
+          ap (λ (es : Entries). finding_at hub es) same ∙ there.found in
           let known = known_kept 768 hub (IsOk answer) a b agrees same went keeps.levels s still in
-          let truthful = truthful_kept 768 hub (IsOk answer) a b agrees same went keeps.levels s still in
-          let on = reached_at b.world b.entries b.addresses (accounted b agrees_on rooted) known truthful hub there.device found none in
-          failed still (keeps.why held (s.level (went_sound 768 a.world b.world went still) hub) few there.device (ap accepted_device_of there.found) (ap is_some there.told)
-          (heard_at b.world b.entries b.addresses (accounted b agrees_on rooted) known truthful hub there.device found on))
+          let truthful = truthful_kept 768 hub (IsOk answer) a b agrees same went keeps.levels s
+          still in
+          let on = reached_at b.world b.entries b.addresses (accounted b agrees_on rooted) known
+          truthful hub there.device found none in
+          failed still (keeps.why held (s.level (went_sound 768 a.world b.world went still) hub) few
+          there.device (ap accepted_device_of there.found) (ap is_some there.told)
+          (heard_at b.world b.entries b.addresses (accounted b agrees_on rooted) known truthful hub
+          there.device found on))
 
-      pick : (o : Option HubFacts) → hub_facts_at hub a.entries ≡ o → IsSome o → (p : Bool) → pending b.world.roots hub ≡ p → p ≡ true
+      pick : (o : Option HubFacts) → hub_facts_at hub a.entries ≡ o → IsSome o → (p : Bool)
+          → pending b.world.roots hub ≡ p → p ≡ true
       pick None at some p is = absurd (cc some)
       pick (Some facts) at some true is = refl
-      pick (Some facts) at some false is = absurd (heard facts (hub_there hub a.entries facts at) is)
+      pick (Some facts) at some false is =
+          absurd (heard facts (hub_there hub a.entries facts at) is)
 
   -- it did not answer, and was dropped
   pub hub_gone : (c : HostState) → (b.world.fault ≡ None → NoHubFailed answer → ⊥)
       → IsSome (hub_facts_at hub a.entries) → HostRuns drop_bound b c → DropsHub hub b (Ok tt) c
       → DropsSound hub b (Ok tt) c → HubKeeps hub a (Ok Worked) c
   hub_gone c failed listed q drops dropped =
-      let there : IsSome (finding_at hub b.entries) = subst (λ (es : Entries). IsSome (finding_at hub es)) (sym same) (hub_listed (finding_at hub a.entries) listed) in
+      let there : IsSome (finding_at hub b.entries) =
+      subst (λ (es : Entries). IsSome (finding_at hub es)) (sym same)
+      (hub_listed (finding_at hub a.entries) listed) in
       record {
         part = record {
           goes = host_goes_then hub_poll_bound 768 drop_bound a b c goes q (omega arith);

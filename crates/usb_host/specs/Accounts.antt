@@ -8,4 +8,5 @@ use Rattle.usb_table.specs.Findings.{has_address}
 
 -- one entry has each address that is taken, and none has any other
 pub record Accounts (entries : Entries) (addresses : Addresses) : Type 0 where
-  pub each : (address : ℕ) → count_by (λ e. has_address address e.1) entries ≡ (if set.contains addresses address then 1 else 0)
+  pub each : (address : ℕ) → count_by (λ e. has_address address e.1) entries
+      ≡ (if set.contains addresses address then 1 else 0)

@@ -12,8 +12,10 @@ use Rattle.usb_host.specs.Accounts.{Accounts}
 
 -- each entry stands at a port of the root, or of a hub that is known
 pub record Nested (entries : Entries) : Type 0 where
-  pub path : (path : List ℕ) (finding : Finding) → lookup (is_at (path_cmp path)) entries ≡ Some finding → IsPath path
-  pub each : (path : List ℕ) (finding : Finding) → lookup (is_at (path_cmp path)) entries ≡ Some finding → IsSome (known_port path entries)
+  pub path : (path : List ℕ) (finding : Finding) → lookup (is_at (path_cmp path)) entries
+      ≡ Some finding → IsPath path
+  pub each : (path : List ℕ) (finding : Finding) → lookup (is_at (path_cmp path)) entries
+      ≡ Some finding → IsSome (known_port path entries)
 
 -- entries rise, each taken address is one entry's, and each entry stands at a port
 pub record Agrees (entries : Entries) (addresses : Addresses) : Type 0 where

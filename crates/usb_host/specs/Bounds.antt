@@ -38,7 +38,8 @@ told_bound = 7 * handling_bound
 abbrev pub hub_poll_bound : ℕ
 hub_poll_bound = transaction_bound + drop_bound + told_bound
 
--- there are fewer than 8 ^ 7 paths, and each is polled at most once, and looked at again at most once
+-- there are fewer than 8 ^ 7 paths, and each is polled at most once, and looked at again at most
+-- once
 abbrev pub hubs_bound : ℕ
 hubs_bound = 2097152 * hub_poll_bound
 

@@ -24,13 +24,16 @@ pub record SameBulk (pipes others : Pipes) : Type 0 where
 
 -- The endpoints of the device that is reached at a path
 
--- it was reached there before, and nothing of it changed but where its control transfer and its status endpoint stand
+-- it was reached there before, and nothing of it changed but where its control transfer and its
+-- status endpoint stand
 abbrev pub EndpointsStayed : List ℕ → World → World → Type 0
-EndpointsStayed path old new = (x : Location) (s : State) → path ≡ path_to x → reach_on new.roots x ≡ true → state_on new.roots x ≡ Some s → Was SparesBulk old x s
+EndpointsStayed path old new = (x : Location) (s : State) → path ≡ path_to x
+    → reach_on new.roots x ≡ true → state_on new.roots x ≡ Some s → Was SparesBulk old x s
 
 -- its bulk endpoints have begun again
 abbrev pub EndpointsBegan : List ℕ → World → Type 0
-EndpointsBegan path w = (x : Location) (s : State) → path ≡ path_to x → reach_on w.roots x ≡ true → state_on w.roots x ≡ Some s → (s.bulk_out ≡ rested) × (s.bulk_in ≡ rested)
+EndpointsBegan path w = (x : Location) (s : State) → path ≡ path_to x → reach_on w.roots x ≡ true
+    → state_on w.roots x ≡ Some s → (s.bulk_out ≡ rested) × (s.bulk_in ≡ rested)
 
 -- An accepted device that is listed at a path
 
@@ -40,7 +43,8 @@ pub record StayedAt (path : List ℕ) (device : Accepted) (old new : HostState) 
   pub pipes : SameBulk (pipes_at path (table_in old)) (pipes_at path (table_in new))
   pub endpoints : EndpointsStayed path old.world new.world
 
--- it was found anew: at a moment of the call none was reached there; its bulk pipes are new, and their endpoints have begun again
+-- it was found anew: at a moment of the call none was reached there; its bulk pipes are new, and
+-- their endpoints have begun again
 pub record RenewedAt (path : List ℕ) (device : Accepted) (old new : HostState) : Type 0 where
   pub moment : World
   pub before : Course AnyStep old.world moment
@@ -51,4 +55,5 @@ pub record RenewedAt (path : List ℕ) (device : Accepted) (old new : HostState)
 
 -- each accepted device has the bulk pipes and the endpoints that it had, or was found anew
 pub record KeepsBulk (old new : HostState) : Type 0 where
-  pub each : (path : List ℕ) (device : Accepted) → accepted_device_at path new.entries ≡ Some device → StayedAt path device old new ⊎ RenewedAt path device old new
+  pub each : (path : List ℕ) (device : Accepted) → accepted_device_at path new.entries ≡ Some device
+      → StayedAt path device old new ⊎ RenewedAt path device old new

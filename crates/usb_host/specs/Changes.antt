@@ -10,12 +10,15 @@ use Rattle.usb_enum.specs.declared.finding.Accepted.{Accepted}
 
 -- a status tells of no change of suspend nor of over-current, as that of a port of a world does
 abbrev pub HasOnlyWorldChanges : PortStatus → Type 0
-HasOnlyWorldChanges status = (status.suspend_changed ≡ false) × (status.over_current_changed ≡ false)
+HasOnlyWorldChanges status = (status.suspend_changed ≡ false)
+    × (status.over_current_changed ≡ false)
 
--- a hub has disabled the port of an accepted device on an error, with something still connected (11.8.1); no hub of a world does
+-- a hub has disabled the port of an accepted device on an error, with something still connected
+-- (11.8.1); no hub of a world does
 abbrev pub was_disabled : HubPort → PortStatus → Option Accepted → Bool
 was_disabled (Root number) status device = false
-was_disabled (External hub port) status device = status.enable_changed && (status.connected && (not status.enabled && is_some device))
+was_disabled (External hub port) status device =
+    status.enable_changed && (status.connected && (not status.enabled && is_some device))
 
 -- each reachable device keeps its address, and stays as it was
 pub record KeepsEach (old new : World) : Type 0 where

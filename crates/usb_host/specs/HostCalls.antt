@@ -11,7 +11,8 @@ use Rattle.usb_host.specs.Ownership.{IsUntouched, HostMapHolds}
 use Rattle.usb_host.specs.Progress.{HostSteps}
 use Rattle.usb_host.specs.Service.{DidParts}
 use Rattle.usb_host.specs.Soundness.{HostInvariant, IsUnpowered, TransferKeeps}
-use Rattle.usb_host.specs.ToldFaults.{RoundFaultAllowed, StopsAsRound, StopsAsTransfer, TransferFaultAllowed}
+use Rattle.usb_host.specs.ToldFaults.{RoundFaultAllowed, StopsAsRound, StopsAsTransfer}
+use Rattle.usb_host.specs.ToldFaults.{TransferFaultAllowed}
 use Rattle.usb_host.specs.Transfers.{ClearedAt, ReceivedAt, SentAt}
 use Rattle.usb_host.specs.declared.fault.HostFault.{HostFault}
 use Rattle.usb_host.specs.declared.host.Round.{Round}
@@ -42,7 +43,8 @@ pub record TransferTells {A : Type 0} (most : ℕ)
   pub did : Did old result new
   pub keeps : TransferKeeps old new
 
-abbrev pub SendTells : List ℕ → List ℕ → HostState → Result (Unit {0}) HostFault → HostState → Type 0
+abbrev pub SendTells : List ℕ → List ℕ → HostState → Result (Unit {0}) HostFault → HostState
+    → Type 0
 SendTells path bytes = TransferTells (transaction_bound * length bytes) (SentAt path bytes)
 
 abbrev pub ReceiveTells : List ℕ → ℕ → HostState → Result (Vec ℕ) HostFault → HostState → Type 0

@@ -26,7 +26,15 @@ with_power (taken b s a k) = taken (powered_on b) s a (with_power k)
 
 -- the root ports have power, and no device is known
 abbrev pub opening_host : World → Option (List ℕ) → HostState
-opening_host w t = record { world = record w { roots = with_power w.roots }; trace = t; entries = []; pipes = []; addresses = set.empty; stopped = false }
+opening_host w t = record {
+  world = record w { roots = with_power w.roots };
+  trace = t;
+  entries =
+      [];
+  pipes = [];
+  addresses = set.empty;
+  stopped = false;
+}
 
 -- the change bits that are set and the events to come
 abbrev pub work : World → ℕ

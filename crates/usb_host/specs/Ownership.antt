@@ -1,5 +1,6 @@
 -- That each reachable device holds the address that the host has for it.
-use Rattle.std.specs.Prelude.{◌≡◌, ◌≤◌, ℕ, List, [], ◌∷◌, Bool, false, true, None, IsSome, Result, Ok, Err, OnOk, MatchResult}
+use Rattle.std.specs.Prelude.{◌≡◌, ◌≤◌, ℕ, List, [], ◌∷◌, Bool, false, true, None, IsSome, Result}
+use Rattle.std.specs.Prelude.{Ok, Err, OnOk, MatchResult}
 use Rattle.std.specs.BTreeMap.{is_at, insert_entry}
 use Rattle.std.specs.Map.{lookup}
 use Rattle.usb_port.specs.Order.{path_cmp, parent_of}
@@ -26,7 +27,8 @@ use Rattle.usb_host.specs.HostState.{HostState}
 abbrev pub claims : Entries → AddressMap
 claims entries path = address_in (lookup (is_at (path_cmp path)) entries)
 
--- each reachable device stands at a path of the table and holds the address that it has there, as long as the bus is at work
+-- each reachable device stands at a path of the table and holds the address that it has there, as
+-- long as the bus is at work
 abbrev pub IsOwned : HostState → Type 0
 IsOwned h = WhileBusWorks (MapHolds (claims h.entries)) h.world
 
@@ -69,7 +71,8 @@ KeepsOwned old result new = MatchResult result (λ _. StaysOwned old new) (λ _.
 abbrev pub IsOwnedBut : List ℕ → HostState → Type 0
 IsOwnedBut path h = WhileBusWorks (MapHoldsExcept path (claims h.entries)) h.world
 
--- no device is reachable at the path or below it, and every other holds the address that it has in the table
+-- no device is reachable at the path or below it, and every other holds the address that it has in
+-- the table
 abbrev pub IsIsolated : List ℕ → HostState → Type 0
 IsIsolated path h = WhileBusWorks (MapHolds (map_without (claims h.entries) path)) h.world
 
@@ -81,22 +84,26 @@ PortOwned path (Err ParentLost) new = IsOwnedBut path new
 PortOwned path (Err (Bus fault)) new = new.world.shared ≡ false
 PortOwned path (Err Memory) new = new.world.shared ≡ false
 
-pub record KeepsPort (path : List ℕ) (old : HostState) (result : Result (Unit {0}) EnumFault) (new : HostState) : Type 0 where
+pub record KeepsPort (path : List ℕ) (old : HostState) (result : Result (Unit {0}) EnumFault)
+    (new : HostState) : Type 0 where
   pub ends : IsOwned old → PortOwned path result new
   pub rooted : IsRooted old → IsRooted new
 
 -- no device is reachable at the port or below it
 abbrev pub BaresPort : HubPort → World → Result PortStatus EnumFault → World → Type 0
-BaresPort port old result new = MatchResult result (λ _. Isolates port old new) (λ _. KeepsAddresses old new)
+BaresPort port old result new = MatchResult result (λ _. Isolates port old new)
+    (λ _. KeepsAddresses old new)
 
 -- Where a hub is dropped
 
 abbrev pub LeavesOwned : Result (Unit {0}) HostFault → HostState → Type 0
 LeavesOwned result new = MatchResult result (λ _. IsOwned new) (λ _. new.world.shared ≡ false)
 
-pub record FinishesPort (path : List ℕ) (served : Result (Unit {0}) EnumFault) (old : HostState) (result : Result (Unit {0}) HostFault) (new : HostState) : Type 0 where
+pub record FinishesPort (path : List ℕ) (served : Result (Unit {0}) EnumFault) (old : HostState)
+    (result : Result (Unit {0}) HostFault) (new : HostState) : Type 0 where
   pub ends : PortOwned path served old → LeavesOwned result new
-  pub rooted : IsRooted old → (served ≡ Err ParentLost → root_of path ≤ roots_of old.world) → OnOk result (IsRooted new)
+  pub rooted : IsRooted old → (served ≡ Err ParentLost → root_of path ≤ roots_of old.world)
+      → OnOk result (IsRooted new)
 
 -- a hub, or one above it, is listed as lost, and nothing stands below that
 pub record HasLost (hub : List ℕ) (old new : Entries) : Type 0 where
@@ -104,21 +111,25 @@ pub record HasLost (hub : List ℕ) (old new : Entries) : Type 0 where
   pub above : is_way path hub ≡ true
   pub entries : new ≡ insert_entry path_cmp (without path old) path (Refused Lost)
 
-pub record DropsHub (hub : List ℕ) (old : HostState) (result : Result (Unit {0}) HostFault) (new : HostState) : Type 0 where
+pub record DropsHub (hub : List ℕ) (old : HostState) (result : Result (Unit {0}) HostFault)
+    (new : HostState) : Type 0 where
   pub lost : OnOk result (HasLost hub old.entries new.entries)
   pub ends : IsOwnedBut hub old → LeavesOwned result new
   pub rooted : IsRooted old → root_of hub ≤ roots_of old.world → OnOk result (IsRooted new)
 
--- the other path is on the way to the first; whatever is at the first and below it, none is reachable at the other
+-- the other path is on the way to the first; whatever is at the first and below it, none is
+-- reachable at the other
 pub record BaresAbove (first path : List ℕ) (old new : HostState) : Type 0 where
   pub on : is_way path first ≡ true
   pub bares : IsOwnedBut first old → IsIsolated path new
 
 abbrev pub BaresUpward : List ℕ → HostState → Result (List ℕ) HostFault → HostState → Type 0
-BaresUpward first old result new = MatchResult result (λ path. BaresAbove first path old new) (λ _. KeepsAddresses old.world new.world)
+BaresUpward first old result new = MatchResult result (λ path. BaresAbove first path old new)
+    (λ _. KeepsAddresses old.world new.world)
 
 -- a port that is disabled has none reachable, nor has one that the root has not
-pub record KeepsDisabled (path : List ℕ) (old : HostState) (result : Result Bool HostFault) (new : HostState) : Type 0 where
+pub record KeepsDisabled (path : List ℕ) (old : HostState) (result : Result Bool HostFault)
+    (new : HostState) : Type 0 where
   pub keeps : KeepsAddresses old.world new.world
   pub done : result ≡ Ok true → BaresAbove path path old new
   pub none : result ≡ Ok false → parent_of path ≡ None → BaresAbove path path old new

@@ -34,12 +34,16 @@ plug_events events = count_by (λ e. is_plug e.action) events
 abbrev pub WasPlugged : List Event → ℕ → List ℕ → Type 0
 WasPlugged events came path = Any (λ e. PlugsAt path e.action) (take came events)
 
--- each accepted device stands where one was plugged; and where at most 127 are plugged, none waits for an address
+-- each accepted device stands where one was plugged; and where at most 127 are plugged, none waits
+-- for an address
 pub record HasPlugs (events : List Event) (h : HostState) : Type 0 where
-  pub each : (path : List ℕ) (device : Accepted) → accepted_device_at path h.entries ≡ Some device → WasPlugged events h.world.taken path
-  pub none_waits : plug_events events ≤ 127 → (path : List ℕ) → finding_at path h.entries ≢ Some (Refused NoAddress)
+  pub each : (path : List ℕ) (device : Accepted) → accepted_device_at path h.entries ≡ Some device
+      → WasPlugged events h.world.taken path
+  pub none_waits : plug_events events ≤ 127 → (path : List ℕ)
+      → finding_at path h.entries ≢ Some (Refused NoAddress)
 
 -- so it stays, in a course of a plan
 abbrev pub KeepsPlugs : HostState → HostState → Type 0
-KeepsPlugs old new = (plan : PlanData) → IsPlan plan → AtPorts plan.events → Course AnyStep (opening plan) old.world
+KeepsPlugs old new = (plan : PlanData) → IsPlan plan → AtPorts plan.events
+    → Course AnyStep (opening plan) old.world
     → HasPlugs plan.events old → HasPlugs plan.events new

@@ -1,5 +1,6 @@
 -- What the host does at a port.
-use Rattle.std.specs.Prelude.{◌≡◌, ◌≢◌, ◌+◌, ◌<◌, ⊤, ℕ, Bool, List, true, false, None, Some, IsSome, Result, Ok, Err, IfErr, MatchResult}
+use Rattle.std.specs.Prelude.{◌≡◌, ◌≢◌, ◌+◌, ◌<◌, ⊤, ℕ, Bool, List, true, false, None, Some, IsSome}
+use Rattle.std.specs.Prelude.{Result, Ok, Err, IfErr, MatchResult}
 use Rattle.std.specs.Map.{lookup}
 use Rattle.std.specs.BTreeMap.{is_at, insert_entry}
 use Rattle.usb_port.specs.Order.{path_cmp, parent_of, port_on_hub}
@@ -41,14 +42,16 @@ pub record StandsAt (path : List ℕ) (port : KnownPort) (h : HostState) : Type 
   pub agrees : Agrees h.entries h.addresses
 
 -- the same, where what the bus has is said of one that does what its world does
-pub record IsPortAt (modelled : Bool) (path : List ℕ) (port : KnownPort) (h : HostState) : Type 0 where
-  pub is : IsPath path
-  pub known : known_port path h.entries ≡ Some port
-  pub asked : IsAsked modelled h.world port.port
-  pub askable : IsAskable port.port
-  pub agrees : Agrees h.entries h.addresses
+pub record IsPortAt (modelled : Bool) (path : List ℕ) (port : KnownPort) (h : HostState) : Type 0
+  where
+    pub is : IsPath path
+    pub known : known_port path h.entries ≡ Some port
+    pub asked : IsAsked modelled h.world port.port
+    pub askable : IsAskable port.port
+    pub agrees : Agrees h.entries h.addresses
 
--- a path of no port: of a hub that is not known to have it, or of a root port that the root has not; the table agrees with the pool
+-- a path of no port: of a hub that is not known to have it, or of a root port that the root has
+-- not; the table agrees with the pool
 pub record StandsNowhere (path : List ℕ) (h : HostState) : Type 0 where
   pub is : IsPath path
   pub beyond : parent_of path ≡ None → roots_of h.world < port_on_hub path
@@ -119,7 +122,8 @@ Broke path ParentLost w = IsSome (parent_of path)
 Broke path (Bus fault) w = Failed fault w
 Broke path Memory w = ⊤
 
--- how a call ends after a port was served: a fault of the bus and want of memory are told as they are
+-- how a call ends after a port was served: a fault of the bus and want of memory are told as they
+-- are
 abbrev pub EndsAs : Result (Unit {0}) EnumFault → Result (Unit {0}) HostFault → Type 0
 EndsAs (Ok done) result = result ≡ Ok tt
 EndsAs (Err ParentLost) result = ⊤
@@ -133,4 +137,5 @@ pub record EntersOne (path : List ℕ) (old new : HostState) : Type 0 where
   pub waits : finding ≡ Refused NoAddress → IsFull old.addresses
 
 abbrev pub Entered : List ℕ → HostState → Result (Unit {0}) EnumFault → HostState → Type 0
-Entered path old result new = MatchResult result (λ _. EntersOne path old new) (λ _. new.entries ≡ old.entries)
+Entered path old result new = MatchResult result (λ _. EntersOne path old new)
+    (λ _. new.entries ≡ old.entries)

@@ -14,7 +14,8 @@ use Rattle.usb_host.specs.declared.host.Round.TheVariants.{Worked, Quiet}
 abbrev pub waiting : Entries → ℕ
 waiting entries = count_by (λ e. is_waiting e.1) entries
 
--- what is left to do without an attempt; a change that is served may leave one device more that waits
+-- what is left to do without an attempt; a change that is served may leave one device more that
+-- waits
 abbrev pub idle_work : HostState → ℕ
 idle_work h = 2 * work h.world + waiting h.entries
 
@@ -24,7 +25,8 @@ AddsNoWork old new = idle_work new + 2 * old.world.attempts ≤ idle_work old + 
 
 -- the same, and something was done: an attempt was made, or less is left to do
 abbrev pub HostProgress : HostState → HostState → Type 0
-HostProgress old new = idle_work new + 2 * old.world.attempts < idle_work old + 2 * new.world.attempts
+HostProgress old new = idle_work new + 2 * old.world.attempts < idle_work old + 2 *
+    new.world.attempts
 
 -- nothing that the host keeps has changed
 abbrev pub OnlyBusSteps : HostState → HostState → Type 0
@@ -52,7 +54,8 @@ abbrev pub either : Round → Round → Round
 either Worked other = Worked
 either Quiet other = other
 
--- what a round did: it got on, or no port had changed; and entries still stand below the ports of the root
+-- what a round did: it got on, or no port had changed; and entries still stand below the ports of
+-- the root
 pub record DidRound (round : Round) (old new : HostState) : Type 0 where
   pub worked : round ≡ Worked → HostProgress old new
   pub quiet : round ≡ Quiet → Remains old new × (changes (root_row old.world) ≡ 0)

@@ -1,12 +1,15 @@
--- What a round does, part by part (11.12): how each port was served, how each hub was polled, and in which order.
-use Rattle.std.specs.Prelude.{◌≡◌, ◌≢◌, ◌⊎◌, ◌≤◌, ◌+◌, ⊤, ℕ, List, [], ◌∷◌, ◌++◌, Bool, true, false, Option, None, Some, Result, Ok, Err, OnOk, IfOk, IsSome, IsSomeAnd}
+-- What a round does, part by part (11.12): how each port was served, how each hub was polled, and
+-- in which order.
+use Rattle.std.specs.Prelude.{◌≡◌, ◌≢◌, ◌⊎◌, ◌≤◌, ◌+◌, ⊤, ℕ, List, [], ◌∷◌, ◌++◌, Bool, true, false}
+use Rattle.std.specs.Prelude.{Option, None, Some, Result, Ok, Err, OnOk, IfOk, IsSome, IsSomeAnd}
 use Rattle.std.specs.BTreeMap.{insert_entry}
 use Rattle.arrayvec.specs.ArrayVec.{ArrayVec}
 use Rattle.usb_port.specs.Order.{path_cmp, parent_of}
 use Rattle.usb_port.specs.Path.{IsPath}
 use Rattle.usb_port.specs.Status.{has_bit}
 use Rattle.usb_port.specs.declared.call.PortCall.{PortCall}
-use Rattle.usb_port.specs.declared.call.PortCall.TheVariants.{ClearEnable, ClearConnectionChange, ClearEnableChange, ClearResetChange}
+use Rattle.usb_port.specs.declared.call.PortCall.TheVariants.{ClearEnable, ClearConnectionChange}
+use Rattle.usb_port.specs.declared.call.PortCall.TheVariants.{ClearEnableChange, ClearResetChange}
 use Rattle.usb_port.specs.declared.status.PortStatus.{PortStatus}
 use Rattle.usb_world.specs.PlanData.{PlanData}
 use Rattle.usb_world.specs.World.{World, changes, root_port_at, root_row, roots_of}
@@ -35,14 +38,19 @@ use Rattle.usb_table.specs.Table.{pipes_at}
 use Rattle.usb_table.specs.Transfers.{PipesPolled}
 use Rattle.usb_resources.specs.Pool.{IsFull}
 use Rattle.usb_host.specs.Backlog.{hubs, ClearsReset, PaysAtLook, PaysAtServe, RestsCalm}
-use Rattle.usb_host.specs.Bounds.{drop_bound, handling_bound, look_bound, roots_bound, serving_bound, told_bound}
-use Rattle.usb_host.specs.Budget.{Affords, HubPaid, NumberPaid, PaysPart, PaysRound, PortPaid, RootsPaid, RoundPaid, ToldPaid, Weights, handling_most, hubs_most, poll_most, told_most}
+use Rattle.usb_host.specs.Bounds.{drop_bound, handling_bound, look_bound, roots_bound}
+use Rattle.usb_host.specs.Bounds.{serving_bound, told_bound}
+use Rattle.usb_host.specs.Budget.{Affords, HubPaid, NumberPaid, PaysPart, PaysRound, PortPaid}
+use Rattle.usb_host.specs.Budget.{RootsPaid, RoundPaid, ToldPaid, Weights, handling_most, hubs_most}
+use Rattle.usb_host.specs.Budget.{poll_most, told_most}
 use Rattle.usb_host.specs.HostState.{HostState}
 use Rattle.usb_host.specs.Ownership.{DropsHub, HasLost, IsOwned, KeepsOwned, KeepsPort}
 use Rattle.usb_host.specs.PortHandling.{DropsLost, FindsSound, ServesSound}
 use Rattle.usb_host.specs.Ports.{Entered, Forgets, IsDue, Looked, Requested, ProgressOrLost, Waits}
-use Rattle.usb_host.specs.Progress.{AddsNoWork, HostProgress, Did, DidRound, HostRuns, Remains, OnlyBusSteps, either}
-use Rattle.usb_host.specs.Soundness.{DropsSound, HubKeeps, HubsKeep, HostInvariant, LooksKeep, Part, PartsKeep, RootsRest}
+use Rattle.usb_host.specs.Progress.{AddsNoWork, HostProgress, Did, DidRound, HostRuns, Remains}
+use Rattle.usb_host.specs.Progress.{OnlyBusSteps, either}
+use Rattle.usb_host.specs.Soundness.{DropsSound, HubKeeps, HubsKeep, HostInvariant, LooksKeep, Part}
+use Rattle.usb_host.specs.Soundness.{PartsKeep, RootsRest}
 use Rattle.usb_host.specs.Transfers.{table_in}
 use Rattle.usb_host.specs.declared.fault.HostFault.{HostFault}
 use Rattle.usb_host.specs.declared.host.Round.{Round}
@@ -55,13 +63,15 @@ abbrev pub DoneWhere : Bool → List ℕ → PortCall → World → World → Ty
 DoneWhere true path call old new = PortCallDone path call old new
 DoneWhere false path call old new = new ≡ old
 
--- ClearPortFeature (11.24.2.2) for each change of enable and of reset that a status told, and for no other
+-- ClearPortFeature (11.24.2.2) for each change of enable and of reset that a status told, and for
+-- no other
 pub record ClearsTold (path : List ℕ) (status : PortStatus) (old new : World) : Type 0 where
   pub mid : World
   pub enable : DoneWhere status.enable_changed path ClearEnableChange old mid
   pub reset : DoneWhere status.reset_changed path ClearResetChange mid new
 
--- the change of connection was cleared, then the status was read, and a port that was enabled was disabled
+-- the change of connection was cleared, then the status was read, and a port that was enabled was
+-- disabled
 pub record ClearsAndReads (path : List ℕ) (status : PortStatus) (old new : World) : Type 0 where
   pub mid : World
   pub cleared : PortCallDone path ClearConnectionChange old mid
@@ -71,7 +81,8 @@ pub record ClearsAndReads (path : List ℕ) (status : PortStatus) (old new : Wor
 
 -- A port
 
--- its status told of no change of connection: each other change that it told was cleared, and what is known of the ports stays
+-- its status told of no change of connection: each other change that it told was cleared, and what
+-- is known of the ports stays
 pub record Tidied (path : List ℕ) (old new : HostState) : Type 0 where
   pub status : PortStatus
   pub mid : World
@@ -80,9 +91,11 @@ pub record Tidied (path : List ℕ) (old new : HostState) : Type 0 where
   pub clears : ClearsTold path status mid new.world
   pub rests : OnlyBusSteps old new
 
--- what was found at a port and below it is forgotten; where a device is connected, one finding is entered
+-- what was found at a port and below it is forgotten; where a device is connected, one finding is
+-- entered
 abbrev pub Renews : Bool → List ℕ → Entries → Entries → Type 0
-Renews true path old new = (finding : Finding) × (new ≡ insert_entry path_cmp (without path old) path finding)
+Renews true path old new = (finding : Finding)
+    × (new ≡ insert_entry path_cmp (without path old) path finding)
 Renews false path old new = new ≡ without path old
 
 -- its change of connection was cleared, and what a status then showed was found
@@ -98,10 +111,13 @@ pub record LosesParent (path : List ℕ) (old new : Entries) : Type 0 where
   pub parent : parent_of path ≡ Some hub
   pub loses : HasLost hub old new
 
--- a port was served: tidied, looked at where its status told of a change of connection, or its hub was lost
+-- a port was served: tidied, looked at where its status told of a change of connection, or its hub
+-- was lost
 pub data ServedAt (path : List ℕ) (old new : HostState) : Type 0 where
   was_tidied : Tidied path old new → ServedAt path old new
-  was_looked_at : (status : PortStatus) (mid : HostState) → PortStatusAt path status old.world mid.world → status.connection_changed ≡ true → OnlyBusSteps old mid → LookedAt path mid new → ServedAt path old new
+  was_looked_at : (status : PortStatus) (mid : HostState)
+      → PortStatusAt path status old.world mid.world → status.connection_changed ≡ true
+      → OnlyBusSteps old mid → LookedAt path mid new → ServedAt path old new
   was_lost : LosesParent path old.entries new.entries → ServedAt path old new
 
 -- a device that waits was looked at again, or its hub was lost
@@ -119,47 +135,68 @@ first_byte (byte ∷ rest) = byte
 -- a port of a hub was served, where one that is known has that path; else nothing was done
 pub data ServedBelow (hub : List ℕ) (number : ℕ) (old new : HostState) : Type 0 where
   port_known : ServedAt (hub ++ (number ∷ [])) old new → ServedBelow hub number old new
-  port_unknown : (IsPath (hub ++ (number ∷ [])) → known_port (hub ++ (number ∷ [])) old.entries ≡ None) → new ≡ old → ServedBelow hub number old new
+  port_unknown : (IsPath (hub ++ (number ∷ [])) → known_port (hub ++ (number ∷ [])) old.entries
+      ≡ None) → new ≡ old → ServedBelow hub number old new
 
 -- by rising number, each port of a hub below a number whose bit is set was served, and no other
 pub data ServedTold (hub : List ℕ) (bits : ℕ) : ℕ → HostState → HostState → Type 0 where
   none_yet : (h : HostState) → ServedTold hub bits 1 h h
-  bit_set : (n : ℕ) {old mid new : HostState} → ServedTold hub bits n old mid → has_bit bits n ≡ true → ServedBelow hub n mid new → ServedTold hub bits (n + 1) old new
-  bit_clear : (n : ℕ) {old new : HostState} → ServedTold hub bits n old new → has_bit bits n ≡ false → ServedTold hub bits (n + 1) old new
+  bit_set : (n : ℕ) {old mid new : HostState} → ServedTold hub bits n old mid
+      → has_bit bits n ≡ true → ServedBelow hub n mid new → ServedTold hub bits (n + 1) old new
+  bit_clear : (n : ℕ) {old new : HostState} → ServedTold hub bits n old new → has_bit bits n ≡ false
+      → ServedTold hub bits (n + 1) old new
 
 -- where no three attempts running are damaged, no accepted device at the path heard the poll
 abbrev pub NoneHears : List ℕ → HostState → World → Type 0
-NoneHears hub old mid = NoThreeDamaged old.world → (device : Accepted) → accepted_device_at hub old.entries ≡ Some device → IsListening hub device mid → ⊥
+NoneHears hub old mid = NoThreeDamaged old.world → (device : Accepted)
+    → accepted_device_at hub old.entries ≡ Some device → IsListening hub device mid → ⊥
 
 -- one poll of the hub through its status pipe, with its answer; nothing else that is known changed
-pub record PolledOnce (hub : List ℕ) (old : HostState) (answer : Result (Option (ArrayVec ℕ)) PipeFault) (new : HostState) : Type 0 where
-  pub through : PipesPolled (pipes_at hub (table_in old)) old.world answer (pipes_at hub (table_in new)) new.world
+pub record PolledOnce (hub : List ℕ) (old : HostState)
+    (answer : Result (Option (ArrayVec ℕ)) PipeFault) (new : HostState) : Type 0 where
+  pub through : PipesPolled (pipes_at hub (table_in old)) old.world answer
+      (pipes_at hub (table_in new)) new.world
   pub remains : Remains old new
 
--- a hub was polled: none of its ports had changed; or they told these bits, of which one at least is set, and each port of which they tell was served;
+-- a hub was polled: none of its ports had changed; or they told these bits, of which one at least
+-- is set, and each port of which they tell was served;
 -- or it did not answer, and was dropped
 pub data HubPolled (hub : List ℕ) (old new : HostState) : Round → Type 0 where
-  told_none : PolledOnce hub old (Ok None) new → BitsOf hub old.world new.world 0 → HubPolled hub old new Quiet
-  told_some : (packet : ArrayVec ℕ) (mid : HostState) → PolledOnce hub old (Ok (Some packet)) mid → (byte : ByteTold (BitsOf hub old.world mid.world) packet.items) → ServedTold hub byte.bits 8 mid new → HubPolled hub old new Worked
-  not_heard : (fault : PipeFault) (mid : HostState) → PolledOnce hub old (Err fault) mid → NoneHears hub old mid.world → HasLost hub mid.entries new.entries → HubPolled hub old new Worked
+  told_none : PolledOnce hub old (Ok None) new → BitsOf hub old.world new.world 0
+      → HubPolled hub old new Quiet
+  told_some : (packet : ArrayVec ℕ) (mid : HostState) → PolledOnce hub old (Ok (Some packet)) mid
+      → (byte : ByteTold (BitsOf hub old.world mid.world) packet.items)
+      → ServedTold hub byte.bits 8 mid new → HubPolled hub old new Worked
+  not_heard : (fault : PipeFault) (mid : HostState) → PolledOnce hub old (Err fault) mid
+      → NoneHears hub old mid.world → HasLost hub mid.entries new.entries
+      → HubPolled hub old new Worked
 
 -- A round
 
--- by rising number, each root port below a number whose connection had changed was served, and no other
+-- by rising number, each root port below a number whose connection had changed was served, and no
+-- other
 pub data RootsServed : ℕ → Round → HostState → HostState → Type 0 where
   no_root : (h : HostState) → RootsServed 1 Quiet h h
-  root_changed : (n : ℕ) (round : Round) {old mid new : HostState} → RootsServed n round old mid → (root_port_at mid.world n).connection_changed ≡ true → ServedAt (n ∷ []) mid new → RootsServed (n + 1) Worked old new
-  root_steady : (n : ℕ) (round : Round) {old new : HostState} → RootsServed n round old new → (root_port_at new.world n).connection_changed ≡ false → RootsServed (n + 1) round old new
+  root_changed : (n : ℕ) (round : Round) {old mid new : HostState} → RootsServed n round old mid
+      → (root_port_at mid.world n).connection_changed ≡ true → ServedAt (n ∷ []) mid new
+      → RootsServed (n + 1) Worked old new
+  root_steady : (n : ℕ) (round : Round) {old new : HostState} → RootsServed n round old new
+      → (root_port_at new.world n).connection_changed ≡ false → RootsServed (n + 1) round old new
 
 -- hubs were polled up to a path, each the next one that was known, by rising path
 pub data HubsPolled : Option (List ℕ) → Round → HostState → HostState → Type 0 where
   no_hub : (h : HostState) → HubsPolled None Quiet h h
-  next_hub : (last : Option (List ℕ)) (hub : List ℕ) (before round : Round) {old mid new : HostState} → HubsPolled last before old mid → IsNext is_hub last mid.entries hub → HubPolled hub mid new round → HubsPolled (Some hub) (either before round) old new
+  next_hub : (last : Option (List ℕ)) (hub : List ℕ) (before round : Round)
+      {old mid new : HostState} → HubsPolled last before old mid
+      → IsNext is_hub last mid.entries hub → HubPolled hub mid new round
+      → HubsPolled (Some hub) (either before round) old new
 
 -- devices that wait were looked at up to a path, by rising path
 pub data LookedAgain : Option (List ℕ) → Round → HostState → HostState → Type 0 where
   no_device : (h : HostState) → LookedAgain None Quiet h h
-  next_device : (last : Option (List ℕ)) (path : List ℕ) (before : Round) {old mid new : HostState} → LookedAgain last before old mid → Waits path mid → ComesAfter last path → LookedOnce path mid new → LookedAgain (Some path) Worked old new
+  next_device : (last : Option (List ℕ)) (path : List ℕ) (before : Round) {old mid new : HostState}
+      → LookedAgain last before old mid → Waits path mid → ComesAfter last path
+      → LookedOnce path mid new → LookedAgain (Some path) Worked old new
 
 -- each hub that is known, once
 pub record EachPolled (round : Round) (old new : HostState) : Type 0 where
@@ -188,10 +225,12 @@ pub record RoundParts (round : Round) (old new : HostState) : Type 0 where
 -- What the calls of a host tell of it, where it is as it knows
 
 -- the changes of a port that a status told were cleared
-pub record TidiesTold (port : HubPort) (status : PortStatus) (old : HostState) (result : Result (Unit {0}) EnumFault) (new : HostState) : Type 0 where
+pub record TidiesTold (port : HubPort) (status : PortStatus) (old : HostState)
+    (result : Result (Unit {0}) EnumFault) (new : HostState) : Type 0 where
   pub reset : OnOk result (status.reset_changed ≡ true → ClearsReset port old.world new.world)
   pub calm : RestsCalm status old result new
-  pub clears : (f : AddressMap) (p : List ℕ) → IsAt f port p → WhileBusWorks (MapHolds f) old.world → OnOk result (ClearsTold p status old.world new.world)
+  pub clears : (f : AddressMap) (p : List ℕ) → IsAt f port p → WhileBusWorks (MapHolds f) old.world
+      → OnOk result (ClearsTold p status old.world new.world)
 
 -- what is known stays, or what was found at the port and below it is forgotten
 abbrev pub StaysOrForgets : List ℕ → Entries → Entries → Type 0
@@ -212,7 +251,8 @@ ServedOrLost path old (Err (Bus fault)) new = ⊤
 ServedOrLost path old (Err Memory) new = ⊤
 
 -- after a port was served nothing more is done, but where its hub is lost
-abbrev pub EndsAt : List ℕ → Result (Unit {0}) EnumFault → HostState → Result (Unit {0}) HostFault → HostState → Type 0
+abbrev pub EndsAt : List ℕ → Result (Unit {0}) EnumFault → HostState → Result (Unit {0}) HostFault
+    → HostState → Type 0
 EndsAt path (Ok done) old result new = new ≡ old
 EndsAt path (Err ParentLost) old result new = OnOk result (LosesParent path old.entries new.entries)
 EndsAt path (Err (Bus fault)) old result new = ⊤
@@ -276,18 +316,22 @@ abbrev pub HasHub : List ℕ → Entries → Type 0
 HasHub path entries = IsSomeAnd (parent_of path) (λ hub. IsSome (hub_facts_at hub entries))
 
 -- how the handling of a port ends; where its hub was lost, one hub fewer is listed
-pub record FinishesAt (path : List ℕ) (served : Result (Unit {0}) EnumFault) (old : HostState) (result : Result (Unit {0}) HostFault) (new : HostState) : Type 0 where
+pub record FinishesAt (path : List ℕ) (served : Result (Unit {0}) EnumFault) (old : HostState)
+    (result : Result (Unit {0}) HostFault) (new : HostState) : Type 0 where
   pub goes : HostRuns drop_bound old new
   pub holds : AddsNoWork old new
   pub drops : DropsLost path served old result new
   pub left : EndsAt path served old result new
-  pub fewer : served ≡ Err ParentLost → HasHub path old.entries → OnOk result (hubs new.entries + 1 ≤ hubs old.entries)
+  pub fewer : served ≡ Err ParentLost → HasHub path old.entries
+      → OnOk result (hubs new.entries + 1 ≤ hubs old.entries)
 
 -- a hub is dropped: no more is left to do, and where it was listed, one hub fewer is
-pub record DropsOne (hub : List ℕ) (old : HostState) (result : Result (Unit {0}) HostFault) (new : HostState) : Type 0 where
+pub record DropsOne (hub : List ℕ) (old : HostState) (result : Result (Unit {0}) HostFault)
+    (new : HostState) : Type 0 where
   pub goes : HostRuns drop_bound old new
   pub holds : AddsNoWork old new
-  pub hubs : OnOk result (IsSome (hub_facts_at hub old.entries) → hubs new.entries + 1 ≤ hubs old.entries)
+  pub hubs : OnOk result (IsSome (hub_facts_at hub old.entries)
+      → hubs new.entries + 1 ≤ hubs old.entries)
   pub owned : DropsHub hub old result new
   pub sound : DropsSound hub old result new
 
@@ -297,18 +341,21 @@ pub record HandlesAt (path : List ℕ) (due : Type 0) (old new : HostState) : Ty
   pub served : HostInvariant old → ServedAt path old new
 
 -- and what that cost
-pub record HandlesPort (path : List ℕ) (due : Type 0) (old : HostState) (result : Result (Unit {0}) HostFault) (new : HostState) : Type 0 where
+pub record HandlesPort (path : List ℕ) (due : Type 0) (old : HostState)
+    (result : Result (Unit {0}) HostFault) (new : HostState) : Type 0 where
   pub part : Part handling_bound old result new
   pub handled : OnOk result (HandlesAt path due old new)
   pub pays : PaysPart handling_most (λ c done. PortPaid c path) old result new
 
 -- a port of a hub was handled
-pub record HandlesBelow (hub : List ℕ) (number : ℕ) (round : Round) (old new : HostState) : Type 0 where
-  pub did : Did round old new
-  pub served : HostInvariant old → ServedBelow hub number old new
+pub record HandlesBelow (hub : List ℕ) (number : ℕ) (round : Round) (old new : HostState) : Type 0
+  where
+    pub did : Did round old new
+    pub served : HostInvariant old → ServedBelow hub number old new
 
 -- and what that cost
-pub record HandlesNumber (hub : List ℕ) (number : ℕ) (old : HostState) (result : Result Round HostFault) (new : HostState) : Type 0 where
+pub record HandlesNumber (hub : List ℕ) (number : ℕ) (old : HostState)
+    (result : Result Round HostFault) (new : HostState) : Type 0 where
   pub part : Part handling_bound old result new
   pub handled : IfOk result (λ round. HandlesBelow hub number round old new)
   pub pays : PaysPart handling_most (λ c. NumberPaid c hub number) old result new
@@ -349,26 +396,31 @@ pub record PollsHub (hub : List ℕ) (round : Round) (old new : HostState) : Typ
   pub polled : HostInvariant old → new.world.fault ≡ None → HubPolled hub old new round
 
 -- and what that cost
-pub record ServesHub (hub : List ℕ) (old : HostState) (result : Result Round HostFault) (new : HostState) : Type 0 where
+pub record ServesHub (hub : List ℕ) (old : HostState) (result : Result Round HostFault)
+    (new : HostState) : Type 0 where
   pub keeps : HubKeeps hub old result new
   pub polls : IfOk result (λ round. PollsHub hub round old new)
   pub pays : PaysPart poll_most (HubPaid hub) old result new
 
 -- each hub that is known was polled
-pub record ServesHubs (old : HostState) (result : Result Round HostFault) (new : HostState) : Type 0 where
-  pub keeps : HubsKeep old result new
-  pub did : IfOk result (λ round. Did round old new)
-  pub polls : IfOk result (λ round. HostInvariant old → new.world.fault ≡ None → EachPolled round old new)
-  pub pays : PaysPart hubs_most RoundPaid old result new
-  -- where nothing is listed, nothing is done
-  pub idle : old.entries ≡ [] → (result ≡ Ok Quiet) × (new ≡ old)
+pub record ServesHubs (old : HostState) (result : Result Round HostFault) (new : HostState) : Type 0
+  where
+    pub keeps : HubsKeep old result new
+    pub did : IfOk result (λ round. Did round old new)
+    pub polls : IfOk result (λ round. HostInvariant old → new.world.fault ≡ None
+        → EachPolled round old new)
+    pub pays : PaysPart hubs_most RoundPaid old result new
+    -- where nothing is listed, nothing is done
+    pub idle : old.entries ≡ [] → (result ≡ Ok Quiet) × (new ≡ old)
 
 -- the parts of a round; where it is quiet no root port had changed
-pub record WentByParts (old : HostState) (result : Result Round HostFault) (new : HostState) : Type 0 where
+pub record WentByParts (old : HostState) (result : Result Round HostFault) (new : HostState) :
+    Type 0 where
   pub keeps : PartsKeep old result new
   pub did : IfOk result (λ round. Did round old new)
   pub none : result ≡ Ok Quiet → changes (root_row old.world) ≡ 0
-  pub parts : IfOk result (λ round. HostInvariant old → new.world.fault ≡ None → RoundParts round old new)
+  pub parts : IfOk result (λ round. HostInvariant old → new.world.fault ≡ None
+      → RoundParts round old new)
   pub pays : (c : Weights) (plan : PlanData) → Affords c plan old → PaysRound c plan old result new
   -- where nothing is listed, and no root port had changed, nothing is done
   pub idle : old.entries ≡ [] → changes (root_row old.world) ≡ 0 → (result ≡ Ok Quiet) × (new ≡ old)
@@ -380,12 +432,13 @@ pub record ServesRoots (round : Round) (old new : HostState) : Type 0 where
   pub served : HostInvariant old → RootsServed (roots_of old.world + 1) round old new
 
 -- and what that cost
-pub record ServesEach (old : HostState) (result : Result Round HostFault) (new : HostState) : Type 0 where
-  pub part : Part roots_bound old result new
-  pub serves : IfOk result (λ round. ServesRoots round old new)
-  pub pays : PaysPart handling_most RootsPaid old result new
-  -- where none had changed, nothing is done
-  pub idle : changes (root_row old.world) ≡ 0 → (result ≡ Ok Quiet) × (new ≡ old)
+pub record ServesEach (old : HostState) (result : Result Round HostFault) (new : HostState) : Type 0
+  where
+    pub part : Part roots_bound old result new
+    pub serves : IfOk result (λ round. ServesRoots round old new)
+    pub pays : PaysPart handling_most RootsPaid old result new
+    -- where none had changed, nothing is done
+    pub idle : changes (root_row old.world) ≡ 0 → (result ≡ Ok Quiet) × (new ≡ old)
 
 -- what a round did, part by part
 pub record DidParts (round : Round) (old new : HostState) : Type 0 where

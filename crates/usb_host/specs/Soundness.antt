@@ -1,5 +1,6 @@
 -- When what a host knows of its ports is so.
-use Rattle.std.specs.Prelude.{◌≡◌, ◌≢◌, ◌⊎◌, ◌≤◌, ℕ, List, [], ◌∷◌, ◌++◌, None, Some, IsSome, IfSome, unwrap_or, option_map, true, false, ⊤, Result, Ok, OnOk, All}
+use Rattle.std.specs.Prelude.{◌≡◌, ◌≢◌, ◌⊎◌, ◌≤◌, ℕ, List, [], ◌∷◌, ◌++◌, None, Some, IsSome}
+use Rattle.std.specs.Prelude.{IfSome, unwrap_or, option_map, true, false, ⊤, Result, Ok, OnOk, All}
 use Rattle.usb_port.specs.Order.{parent_of, port_on_hub}
 use Rattle.usb_resources.specs.Pool.{Addresses}
 use Rattle.usb_device.specs.Rows.{State}
@@ -44,32 +45,40 @@ use Rattle.usb_host.specs.declared.host.Round.TheVariants.{Quiet}
 
 -- so it is at each port of the root, and of each hub that is known
 abbrev pub PortsListed : World → Entries → Type 0
-PortsListed w entries = (path : List ℕ) → IsListedPort (roots_of w) entries path → IsKnownAs w path (finding_at path entries)
+PortsListed w entries = (path : List ℕ) → IsListedPort (roots_of w) entries path
+    → IsKnownAs w path (finding_at path entries)
 
 -- Devices
 
 -- what the port at a path gives, as the host knows it
 abbrev pub known_supply : List ℕ → Entries → ℕ
-known_supply path entries = unwrap_or (option_map (λ (known : KnownPort). known.supply) (known_port path entries)) 0
+known_supply path entries = unwrap_or (option_map (λ (known : KnownPort). known.supply)
+    (known_port path entries)) 0
 
 -- what is known of an accepted device is so
-pub record IsTruthOf (entries : Entries) (path : List ℕ) (device : Accepted) (s : State) : Type 0 where
-  pub found : IsFindingOf s.spec (tier_of path) (known_supply path entries) (Device device)
-  pub set : IsSet device s
+pub record IsTruthOf (entries : Entries) (path : List ℕ) (device : Accepted) (s : State) : Type 0
+  where
+    pub found : IsFindingOf s.spec (tier_of path) (known_supply path entries) (Device device)
+    pub set : IsSet device s
 
--- what is known of the accepted device at a path is so where it is reached, whatever is damaged or pending
+-- what is known of the accepted device at a path is so where it is reached, whatever is damaged or
+-- pending
 abbrev pub IsAccurateAt : World → Entries → List ℕ → Type 0
-IsAccurateAt w entries path = (device : Accepted) (s : State) → accepted_device_at path entries ≡ Some device → reach w.roots path ≡ true → state_there w.roots path ≡ Some s
+IsAccurateAt w entries path = (device : Accepted) (s : State) → accepted_device_at path entries
+    ≡ Some device → reach w.roots path ≡ true → state_there w.roots path ≡ Some s
     → IsTruthOf entries path device s
 
 -- so it is of each
 abbrev pub DevicesAccurate : World → Entries → Type 0
 DevicesAccurate w entries = (path : List ℕ) → IsAccurateAt w entries path
 
--- the refused device at a path has its cause, or a change of connection is pending at its port; one that waits for an address may have waited too long
+-- the refused device at a path has its cause, or a change of connection is pending at its port; one
+-- that waits for an address may have waited too long
 abbrev pub IsJustifiedAt : World → Entries → List ℕ → Type 0
-IsJustifiedAt w entries path = (cause : Cause) (s : State) → finding_at path entries ≡ Some (Refused cause) → state_there w.roots path ≡ Some s
-    → (pending w.roots path ≡ true) ⊎ IsRight ⊤ s.spec (tier_of path) (known_supply path entries) (Refused cause)
+IsJustifiedAt w entries path = (cause : Cause) (s : State)
+    → finding_at path entries ≡ Some (Refused cause) → state_there w.roots path ≡ Some s
+    → (pending w.roots path ≡ true) ⊎ IsRight ⊤ s.spec (tier_of path) (known_supply path entries)
+    (Refused cause)
 
 -- so it is of each
 abbrev pub RefusalsJustified : World → Entries → Type 0
@@ -81,7 +90,8 @@ abbrev pub Elsewhere : List ℕ → (List ℕ → Type 0) → Type 0
 Elsewhere path So = (other : List ℕ) → is_way path other ≡ false → So other
 
 abbrev pub KnownBut : List ℕ → World → Entries → Type 0
-KnownBut path w entries = Elsewhere path (λ other. IsListedPort (roots_of w) entries other → IsKnownAs w other (finding_at other entries))
+KnownBut path w entries = Elsewhere path (λ other. IsListedPort (roots_of w) entries other
+    → IsKnownAs w other (finding_at other entries))
 
 abbrev pub TruthfulBut : List ℕ → World → Entries → Type 0
 TruthfulBut path w entries = Elsewhere path (IsAccurateAt w entries)
@@ -91,7 +101,8 @@ CausesBut path w entries = Elsewhere path (IsJustifiedAt w entries)
 
 -- Between two worlds
 
--- each device that is reached keeps its description and its registers, and each that is reached elsewhere
+-- each device that is reached keeps its description and its registers, and each that is reached
+-- elsewhere
 abbrev pub EachStill : World → World → Type 0
 EachStill = EachWas SameSettings
 
@@ -100,10 +111,12 @@ EachStillBut path = EachElsewhere path SameSettings
 
 -- Entries
 
--- entries agree with the addresses that are taken, and one without a hub stands at a port that the root has
+-- entries agree with the addresses that are taken, and one without a hub stands at a port that the
+-- root has
 pub record Accounted (roots : ℕ) (entries : Entries) (addresses : Addresses) : Type 0 where
   pub agrees : Agrees entries addresses
-  pub root : (path : List ℕ) → IsSome (finding_at path entries) → parent_of path ≡ None → port_on_hub path ≤ roots
+  pub root : (path : List ℕ) → IsSome (finding_at path entries) → parent_of path ≡ None
+      → port_on_hub path ≤ roots
 
 -- no device waits for an address
 abbrev pub NoneWait : Entries → Type 0
@@ -111,16 +124,20 @@ NoneWait entries = (path : List ℕ) → finding_at path entries ≢ Some (Refus
 
 -- one does only where each is listed
 abbrev pub NoneWaiting : Entries → Type 0
-NoneWaiting entries = (path : List ℕ) → finding_at path entries ≡ Some (Refused NoAddress) → ListsEach entries
+NoneWaiting entries = (path : List ℕ) → finding_at path entries ≡ Some (Refused NoAddress)
+    → ListsEach entries
 
--- nothing is left to do: no change of connection is pending at a known port, and a device waits for an address only where each is listed
+-- nothing is left to do: no change of connection is pending at a known port, and a device waits for
+-- an address only where each is listed
 pub record IsAtRest (w : World) (entries : Entries) : Type 0 where
-  pub none_pending : (path : List ℕ) → IsListedPort (roots_of w) entries path → pending w.roots path ≡ false
+  pub none_pending : (path : List ℕ) → IsListedPort (roots_of w) entries path
+      → pending w.roots path ≡ false
   pub none_waiting : NoneWaiting entries
 
 -- Between two calls of a host
 
--- each reachable device holds the address that the host has for it; as long as the bus is at work ports are in order, and what is known of ports and
+-- each reachable device holds the address that the host has for it; as long as the bus is at work
+-- ports are in order, and what is known of ports and
 -- devices is so
 pub record HostInvariant (h : HostState) : Type 0 where
   pub owned : IsOwned h
@@ -139,7 +156,8 @@ pub record IsSoundBut (path : List ℕ) (h : HostState) : Type 0 where
   pub truthful : h.world.fault ≡ None → TruthfulBut path h.world h.entries
   pub level : h.world.fault ≡ None → Elsewhere path (λ other. InSyncAt other (table_in h) h.world)
 
--- the bus is at work, no three attempts running are damaged, and up to the new world no address is lost three times
+-- the bus is at work, no three attempts running are damaged, and up to the new world no address is
+-- lost three times
 pub record IsFairTo (old new : World) : Type 0 where
   pub still : new.fault ≡ None
   pub few : NoThreeDamaged old
@@ -148,9 +166,11 @@ pub record IsFairTo (old new : World) : Type 0 where
 -- what is known stays so, and where damage is fair each refused device still has its cause
 pub record KeepsInvariant (old new : HostState) : Type 0 where
   pub sound : HostInvariant old → HostInvariant new
-  pub caused : HostInvariant old → IsFairTo old.world new.world → RefusalsJustified old.world old.entries → RefusalsJustified new.world new.entries
+  pub caused : HostInvariant old → IsFairTo old.world new.world
+      → RefusalsJustified old.world old.entries → RefusalsJustified new.world new.entries
 
--- the same over a part of a round, which leaves bulk pipes and their endpoints alone, but where a device is found anew; devices stand where one was
+-- the same over a part of a round, which leaves bulk pipes and their endpoints alone, but where a
+-- device is found anew; devices stand where one was
 -- plugged, and with few plugs none waits
 pub record PartStays (old new : HostState) : Type 0 where
   pub sound : KeepsInvariant old new
@@ -160,25 +180,34 @@ pub record PartStays (old new : HostState) : Type 0 where
 abbrev pub PartKeepsInvariant : {A : Type 0} → HostState → Result A HostFault → HostState → Type 0
 PartKeepsInvariant old result new = OnOk result (PartStays old new)
 
--- a hub that is listed may be dropped: what is known elsewhere is so, and a device stands at its port, or a change is pending there
+-- a hub that is listed may be dropped: what is known elsewhere is so, and a device stands at its
+-- port, or a change is pending there
 pub record IsDroppable (hub : List ℕ) (h : HostState) : Type 0 where
   pub listed : IsSome (finding_at hub h.entries)
   pub but : IsSoundBut hub h
   pub there : h.world.fault ≡ None → IsOccupied h.world hub
 
--- a hub that failed is dropped: what is known elsewhere is known, and so is what is at the port now; where damage is fair, a change was pending there
-pub record DropsSound (hub : List ℕ) (old : HostState) (result : Result (Unit {0}) HostFault) (new : HostState) : Type 0 where
+-- a hub that failed is dropped: what is known elsewhere is known, and so is what is at the port
+-- now; where damage is fair, a change was pending there
+pub record DropsSound (hub : List ℕ) (old : HostState) (result : Result (Unit {0}) HostFault)
+    (new : HostState) : Type 0 where
   pub sound : IsDroppable hub old → OnOk result (HostInvariant new)
   -- no more is left to do, but by events
-  pub backlog : IsDroppable hub old → OnOk result (new.world.fault ≡ None → KeepsAll old.world new.world)
+  pub backlog : IsDroppable hub old → OnOk result (new.world.fault ≡ None
+      → KeepsAll old.world new.world)
   pub bulk : IsDroppable hub old → OnOk result (new.world.fault ≡ None → KeepsBulk old new)
   pub plugs : OnOk result (KeepsPlugs old new)
-  pub caused : IsDroppable hub old → IsFairTo old.world new.world → pending old.world.roots hub ≡ true → CausesBut hub old.world old.entries → OnOk result (RefusalsJustified new.world new.entries)
+  pub caused : IsDroppable hub old → IsFairTo old.world new.world → pending old.world.roots hub
+      ≡ true → CausesBut hub old.world old.entries
+      → OnOk result (RefusalsJustified new.world new.entries)
 
--- a round keeps what is known; a quiet one in which no event came leaves nothing to do, as long as the bus is at work
-pub record RoundsSound (old : HostState) (result : Result Round HostFault) (new : HostState) : Type 0 where
+-- a round keeps what is known; a quiet one in which no event came leaves nothing to do, as long as
+-- the bus is at work
+pub record RoundsSound (old : HostState) (result : Result Round HostFault) (new : HostState) :
+    Type 0 where
   pub keeps : PartKeepsInvariant old result new
-  pub rest : HostInvariant old → result ≡ Ok Quiet → new.world.taken ≡ old.world.taken → new.world.fault ≡ None → IsAtRest new.world new.entries
+  pub rest : HostInvariant old → result ≡ Ok Quiet → new.world.taken ≡ old.world.taken
+      → new.world.fault ≡ None → IsAtRest new.world new.entries
 
 -- Parts of a round
 
@@ -197,27 +226,36 @@ pub record RootsRest (old new : HostState) : Type 0 where
 
 -- no port of the hub that is listed at a path tells of a change of connection
 abbrev pub IsSilent : List ℕ → HostState → Type 0
-IsSilent hub h = (facts : HubFacts) (number : ℕ) → hub_facts_at hub h.entries ≡ Some facts → 1 ≤ number → number ≤ facts.ports
+IsSilent hub h = (facts : HubFacts) (number : ℕ) → hub_facts_at hub h.entries ≡ Some facts
+    → 1 ≤ number → number ≤ facts.ports
     → IfSome (port_there h.world.roots (hub ++ (number ∷ []))) (λ b. b.connection_changed ≡ false)
 
--- a hub was polled; where it told of no change, nothing was asked of any port, and where no change is pending at it, none was told at its ports
-pub record HubKeeps (hub : List ℕ) (old : HostState) (result : Result Round HostFault) (new : HostState) : Type 0 where
+-- a hub was polled; where it told of no change, nothing was asked of any port, and where no change
+-- is pending at it, none was told at its ports
+pub record HubKeeps (hub : List ℕ) (old : HostState) (result : Result Round HostFault)
+    (new : HostState) : Type 0 where
   pub part : Part hub_poll_bound old result new
   pub calm : result ≡ Ok Quiet → new.world.fault ≡ None → TouchesNoPort old.world new.world
-  pub silent : HostInvariant old → result ≡ Ok Quiet → new.world.fault ≡ None → pending new.world.roots hub ≡ false → IsSilent hub new
+  pub silent : HostInvariant old → result ≡ Ok Quiet → new.world.fault ≡ None
+      → pending new.world.roots hub ≡ false → IsSilent hub new
 
--- so was each hub; where none told of a change and no event came, none is told at the ports of any at which none is pending
-pub record HubsKeep (old : HostState) (result : Result Round HostFault) (new : HostState) : Type 0 where
-  pub part : Part hubs_bound old result new
-  pub calm : result ≡ Ok Quiet → new.world.fault ≡ None → TouchesNoPort old.world new.world
-  pub silent : HostInvariant old → result ≡ Ok Quiet → new.world.fault ≡ None → new.world.taken ≡ old.world.taken → (hub : List ℕ) → pending new.world.roots hub ≡ false → IsSilent hub new
-  pub agrees : OnOk result (Agrees new.entries new.addresses)
+-- so was each hub; where none told of a change and no event came, none is told at the ports of any
+-- at which none is pending
+pub record HubsKeep (old : HostState) (result : Result Round HostFault) (new : HostState) : Type 0
+  where
+    pub part : Part hubs_bound old result new
+    pub calm : result ≡ Ok Quiet → new.world.fault ≡ None → TouchesNoPort old.world new.world
+    pub silent : HostInvariant old → result ≡ Ok Quiet → new.world.fault ≡ None
+        → new.world.taken ≡ old.world.taken → (hub : List ℕ) → pending new.world.roots hub ≡ false
+        → IsSilent hub new
+    pub agrees : OnOk result (Agrees new.entries new.addresses)
 
 -- devices that wait were looked at again; where none was, none need be
-pub record LooksKeep (old : HostState) (result : Result Round HostFault) (new : HostState) : Type 0 where
-  pub part : Part looks_bound old result new
-  pub rest : IsRooted old → result ≡ Ok Quiet → (new ≡ old) × NoneWaiting new.entries
-  pub idle : NoneWait old.entries → (result ≡ Ok Quiet) × (new ≡ old)
+pub record LooksKeep (old : HostState) (result : Result Round HostFault) (new : HostState) : Type 0
+  where
+    pub part : Part looks_bound old result new
+    pub rest : IsRooted old → result ≡ Ok Quiet → (new ≡ old) × NoneWaiting new.entries
+    pub idle : NoneWait old.entries → (result ≡ Ok Quiet) × (new ≡ old)
 
 -- all of them; quiet ones in which no event came leave nothing to do, as long as the bus is at work
 pub record PartsKeep (old : HostState) (result : Result Round HostFault) (new : HostState)

@@ -1,12 +1,14 @@
 -- What a fault of the host says of the bus, and when the host stops.
-use Rattle.std.specs.Prelude.{◌≡◌, ◌↔◌, ⊤, Bool, true, false, IsTrue, IsErrOf, IsErr, Result, Ok, Err}
+use Rattle.std.specs.Prelude.{◌≡◌, ◌↔◌, ⊤, Bool, true, false, IsTrue, IsErrOf, IsErr, Result, Ok}
+use Rattle.std.specs.Prelude.{Err}
 use Rattle.usb_world.specs.World.{World, Failed}
 use Rattle.usb_pipe.specs.declared.fault.PipeFault.{PipeFault}
 use Rattle.usb_pipe.specs.declared.fault.PipeFault.TheVariants as pipe
 use Rattle.usb_table.specs.declared.fault.EndpointFault.{EndpointFault}
 use Rattle.usb_table.specs.declared.fault.EndpointFault.TheVariants as endpoint
 use Rattle.usb_host.specs.declared.fault.HostFault.{HostFault}
-use Rattle.usb_host.specs.declared.fault.HostFault.TheVariants.{Stopped, NoDevice, NoEndpoint, Pipe, Bus, Memory}
+use Rattle.usb_host.specs.declared.fault.HostFault.TheVariants.{Stopped, NoDevice, NoEndpoint, Pipe}
+use Rattle.usb_host.specs.declared.fault.HostFault.TheVariants.{Bus, Memory}
 use Rattle.usb_host.specs.HostState.{HostState}
 
 -- a pipe's fault as the host's
@@ -27,7 +29,8 @@ abbrev pub host_told : {A : Type 0} → Result A EndpointFault → Result A Host
 host_told (Ok done) = Ok done
 host_told (Err fault) = Err (endpoint_fault fault)
 
--- a fault that ends a part of a round: of the bus, which tells it where it does what its world does, or of memory
+-- a fault that ends a part of a round: of the bus, which tells it where it does what its world
+-- does, or of memory
 abbrev pub PartFaultAllowed : Bool → HostFault → World → Type 0
 PartFaultAllowed modelled Stopped w = ⊥
 PartFaultAllowed modelled NoDevice w = ⊥
@@ -77,13 +80,16 @@ is_final (Ok done) = false
 is_final (Err fault) = is_last_fault fault
 
 -- a stopped host changes nothing and says so; another stops where the round fails
-pub record StopsAsRound {A : Type 0} (old : HostState) (result : Result A HostFault) (new : HostState) : Type 0 where
+pub record StopsAsRound {A : Type 0} (old : HostState) (result : Result A HostFault)
+    (new : HostState) : Type 0 where
   pub said : IsErrOf result Stopped ↔ IsTrue old.stopped
   pub nothing : IsTrue old.stopped → new ≡ old
   pub stops : IsTrue new.stopped ↔ IsErr result
 
--- a stopped host changes nothing and says so; another stops at a fault of the bus and for want of memory. No entry changes
-pub record StopsAsTransfer {A : Type 0} (old : HostState) (result : Result A HostFault) (new : HostState) : Type 0 where
+-- a stopped host changes nothing and says so; another stops at a fault of the bus and for want of
+-- memory. No entry changes
+pub record StopsAsTransfer {A : Type 0} (old : HostState) (result : Result A HostFault)
+    (new : HostState) : Type 0 where
   pub said : IsErrOf result Stopped ↔ IsTrue old.stopped
   pub nothing : IsTrue old.stopped → new ≡ old
   pub stops : old.stopped ≡ false → new.stopped ≡ is_final result

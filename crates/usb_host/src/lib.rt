@@ -3,9 +3,9 @@
 //!
 //! # What is proved
 //!
-//! What names a world or a trace is said of a bus that does what its world does (`modelled` of `usb_bus::Bus`): all that
-//! one call tells stands in `usb_host/specs/HostCalls.antt`. What names none is said over any bus: when a host stops, that
-//! a stopped one changes nothing, that its entries rise and agree with its addresses.
+//! What names a world or a trace is said of a bus that does what its world does (`modelled` of `usb_bus::Bus`): all
+//! that one call tells stands in `usb_host/specs/HostCalls.antt`. What names none is said over any bus: when a host
+//! stops, that a stopped one changes nothing, that its entries rise and agree with its addresses.
 //!
 //! Each round that worked made an attempt or left less to do, a quiet one changed nothing that is known and found no
 //! change at a root port; at most so many attempts; a hub that is dropped is listed as lost with nothing below it;
@@ -41,9 +41,9 @@
 //!   was reached there, its pipes are new, and its bulk endpoints have begun again (`KeepsBulk`,
 //!   `specs/BulkPipes.antt`). That nothing moved between that beginning and the end of the same round is not said, nor
 //!   that no hub is polled within an enumeration.
-//! - What hubs tell and those of a world do not (`specs/Changes.antt`): a change of a port's suspend or over-current, or
-//!   of the hub itself, is cleared, and an accepted device whose port its hub has disabled on an error is found anew.
-//!   Over a world a host that knows what is so does none of it; what it does over such a hub is tested
+//! - What hubs tell and those of a world do not (`specs/Changes.antt`): a change of a port's suspend or over-current,
+//!   or of the hub itself, is cleared, and an accepted device whose port its hub has disabled on an error is found
+//!   anew. Over a world a host that knows what is so does none of it; what it does over such a hub is tested
 //!   (`usb_quirk_tests`).
 //! - An event that comes through `bus_mut` leaves what the host knows so (`known_stays_at_events`).
 #![tactic(auto)]

@@ -163,7 +163,11 @@ impl<B: Bus> Host<B> {
     }
 
     /// Drops the hub of a port, where a request to it failed.
-    fn drop_lost_parent(&mut self, path: &PortPath, served: Result<(), EnumFault>) -> Result<(), HostFault>
+    fn drop_lost_parent(
+        &mut self,
+        path: &PortPath,
+        served: Result<(), EnumFault>,
+    ) -> Result<(), HostFault>
         requires { B.modelled ≡ true → IfErr served (λ fault. Broke path.now fault self.old.world) }
         ensures told { IfErr result (λ fault. PartFaultAllowed B.modelled fault self.new.world) }
         ensures ends { EndsAs served result }

@@ -1,4 +1,5 @@
-//! One module a crate, and one for a port that is disabled behind the host. A test is a loop over rows of worked values.
+//! One module a crate, and one for a port that is disabled behind the host. A test is a loop over rows of worked
+//! values.
 mod disabled;
 mod enumeration;
 mod external;

@@ -1,5 +1,7 @@
 -- What the calls at a port ask of ports, and that they act there.
-use Rattle.std.proofs.Common.{◌≡◌, ℕ, zero, suc, ◌&&◌, ◌⊎◌, inl, inr, not, Bool, true, false, List, [], ◌∷◌, ◌++◌, Option, None, Some, option_map, if◌then◌else◌, refl, ap, sym, subst, ◌∙◌}
+use Rattle.std.proofs.Common.{◌≡◌, ℕ, zero, suc, ◌&&◌, ◌⊎◌, inl, inr, not, Bool, true, false, List}
+use Rattle.std.proofs.Common.{[], ◌∷◌, ◌++◌, Option, None, Some, option_map, if◌then◌else◌, refl}
+use Rattle.std.proofs.Common.{ap, sym, subst, ◌∙◌}
 use Rattle.std.proofs.lemmas.Option.{same_Some}
 use Rattle.usb_port.specs.PortState.{is_attached}
 use Rattle.usb_request.specs.Codes.{SET_ADDRESS, SET_FEATURE, DEVICE_OUT, PORT_OUT}
@@ -13,27 +15,32 @@ use Rattle.usb_port.specs.Calls.{is_reset, called_port, set_call}
 use Rattle.usb_device.specs.Effect.{effect_of_request, asked_by_setup}
 use Rattle.usb_device.specs.Request.{outcome, port_named, called_at, Is}
 use Rattle.usb_device.specs.Spec.{Spec}
-use Rattle.usb_device.specs.Tree.{Ports, ended, vacant, taken, before, reset_where, called, changed_at, acted, place, place_at, Location, path_to}
+use Rattle.usb_device.specs.Tree.{Ports, ended, vacant, taken, before, reset_where, called}
+use Rattle.usb_device.specs.Tree.{changed_at, acted, place, place_at, Location, path_to}
 use Rattle.usb_world.specs.declared.types.Attempt.{Attempt}
 use Rattle.usb_world.specs.Courses.{is_harmless, resets, step_keeps_pending}
 use Rattle.usb_tree.specs.Paths.{is_way, same_number}
-use Rattle.usb_world.specs.OneHolder.{IsMade, IsSetup, HolderIn, setup_asked, token_way, payload_way}
+use Rattle.usb_world.specs.OneHolder.{IsMade, IsSetup, HolderIn, setup_asked, token_way}
+use Rattle.usb_world.specs.OneHolder.{payload_way}
 use Rattle.usb_tree.specs.AttemptPackets.{NobodyHolds, deep_at}
 use Rattle.usb_world.specs.PortRequests.{AsksNothing, is_port_request, is_sparing, leaves_step}
 use Rattle.usb_world.specs.Steps.{attempt, root_call, after, at_attempt, damage_in}
 use Rattle.usb_tree.specs.WayEffects.{keeps_pending}
 use Rattle.usb_world.specs.World.{World}
-use Rattle.usb_world.proofs.Interface.{holder_or_nobody, nobody_in, others_asked_nothing, self_asked, setup_place_in, silent_place_in}
+use Rattle.usb_world.proofs.Interface.{holder_or_nobody, nobody_in, others_asked_nothing}
+use Rattle.usb_world.proofs.Interface.{self_asked, setup_place_in, silent_place_in}
 use Rattle.usb_tree.proofs.Interface.{and_false, decided, false_true, or_right}
 use Rattle.usb_transaction.specs.declared.target.Target.{Target}
 use Rattle.usb_transaction.specs.Transactions.{setup_attempt}
-use Rattle.usb_address.proofs.Interface.{ClaimedAt, place_ports, claimed_holder, less_one, port_named-cases, nobody_asks_nothing, unshared_after}
+use Rattle.usb_address.proofs.Interface.{ClaimedAt, place_ports, claimed_holder, less_one}
+use Rattle.usb_address.proofs.Interface.{port_named-cases, nobody_asks_nothing, unshared_after}
 use Rattle.usb_hub.specs.Moments.{ActsAt}
 
 -- Trees
 
 -- what stands below a device, by the number of its port there
-pub place_below : (k : Ports) (j : ℕ) (e : List ℕ) (m : ℕ) (r : List ℕ) → place_at k j (e ++ (suc m ∷ r)) ≡ place_at (place_ports (place_at k j e)) m r
+pub place_below : (k : Ports) (j : ℕ) (e : List ℕ) (m : ℕ) (r : List ℕ)
+    → place_at k j (e ++ (suc m ∷ r)) ≡ place_at (place_ports (place_at k j e)) m r
 unfolding place_at
 place_below ended j e m r = refl
 place_below (vacant b k) zero [] m r = refl
@@ -44,48 +51,64 @@ place_below (taken b s a k) zero (zero ∷ e) m r = refl
 place_below (taken b s a k) zero (suc i ∷ e) m r = place_below a i e m r
 place_below (taken b s a k) (suc j) e m r = place_below k j e m r
 
-pub place_called : (c : PortCall) (k : Ports) (i : ℕ) → place_at (changed_at (called c) k i []) i [] ≡ option_map (called c) (place_at k i [])
+pub place_called : (c : PortCall) (k : Ports) (i : ℕ) → place_at (changed_at (called c) k i []) i []
+    ≡ option_map (called c) (place_at k i [])
 unfolding place_at changed_at
 place_called c ended i = refl
 place_called c (vacant b k) zero = refl
 place_called c (vacant b k) (suc i) = place_called c k i
 place_called c (taken b s a k) zero = split (is_reset c && (b.power && is_attached b.attached))
   where
-    split : (x : Bool) → place_at (before (reset_where x (called_port c b) s a) k) zero [] ≡ Some (reset_where x (called_port c b) s a)
+    split : (x : Bool) → place_at (before (reset_where x (called_port c b) s a) k) zero []
+        ≡ Some (reset_where x (called_port c b) s a)
     split true = refl
     split false = refl
 place_called c (taken b s a k) (suc i) = place_called c k i
 
 -- A call at a root port
 
-root_others : (c : PortCall) (n : ℕ) (w : World) (x : List ℕ) → is_way (n ∷ []) x ≡ false → AsksNothing (root_call c n) w x
+root_others : (c : PortCall) (n : ℕ) (w : World) (x : List ℕ) → is_way (n ∷ []) x ≡ false
+    → AsksNothing (root_call c n) w x
 unfolding is_way step_keeps_pending resets leaves_step
 root_others c zero w x d = record { spares = refl; rests = refl; leaves = refl }
 root_others c (suc i) w [] d = record { spares = refl; rests = refl; leaves = refl }
 root_others c (suc i) w (zero ∷ x) d = record { spares = refl; rests = refl; leaves = refl }
 root_others c (suc i) w (suc m ∷ []) d = split (same_number i m) refl d
   where
-    split : (b : Bool) → same_number i m ≡ b → (b && true) ≡ false → AsksNothing (root_call c (suc i)) w (suc m ∷ [])
+    split : (b : Bool) → same_number i m ≡ b → (b && true) ≡ false
+        → AsksNothing (root_call c (suc i)) w (suc m ∷ [])
     split true e d = false_true (sym d)
-    split false e d = record { spares = rw e refl; rests = rw e (and_false (is_reset c)); leaves = rw e refl }
+    split false e d = record {
+      spares = rw e refl;
+      rests = rw e (and_false (is_reset c));
+      leaves =
+          rw e refl;
+    }
 root_others c (suc i) w (suc m ∷ n ∷ x) d = split (same_number i m) refl d
   where
-    split : (b : Bool) → same_number i m ≡ b → (b && true) ≡ false → AsksNothing (root_call c (suc i)) w (suc m ∷ n ∷ x)
+    split : (b : Bool) → same_number i m ≡ b → (b && true) ≡ false
+        → AsksNothing (root_call c (suc i)) w (suc m ∷ n ∷ x)
     split true e d = false_true (sym d)
     split false e d = record { spares = rw e refl; rests = refl; leaves = rw e refl }
 
-root_spared : (c : PortCall) (n : ℕ) (w : World) → keeps_pending c [] ≡ true → step_keeps_pending (root_call c n) w (n ∷ []) ≡ true
+root_spared : (c : PortCall) (n : ℕ) (w : World) → keeps_pending c [] ≡ true
+    → step_keeps_pending (root_call c n) w (n ∷ []) ≡ true
 unfolding step_keeps_pending
 root_spared c zero w h = refl
 root_spared c (suc i) w h = or_right (not (same_number i i)) (keeps_pending c []) h
 
-pub root_acted : (c : PortCall) (n : ℕ) (w : World) → place (after (root_call c n) w).roots (n ∷ []) ≡ option_map (called c) (place w.roots (n ∷ []))
+pub root_acted : (c : PortCall) (n : ℕ) (w : World) → place (after (root_call c n) w).roots (n ∷ [])
+    ≡ option_map (called c) (place w.roots (n ∷ []))
 unfolding after
 root_acted c zero w = refl
 root_acted c (suc i) w = place_called c w.roots i
 
 pub root_acts : (c : PortCall) (n : ℕ) (w : World) → ActsAt (n ∷ []) c (root_call c n) w
-root_acts c n w = record { port = inr (root_acted c n w); about = record { others = root_others c n w; spares = root_spared c n w } }
+root_acts c n w = record {
+  port = inr (root_acted c n w);
+  about =
+      record { others = root_others c n w; spares = root_spared c n w };
+}
 
 -- A request for a call at the port of a number
 
@@ -95,7 +118,8 @@ pub record AsksFor (request : Setup) (c : PortCall) (n : ℕ) : Type 0 where
   pub same : setup_of (bytes_of request) ≡ request
   pub asks : is_port_request request ≡ true
   pub sparing : keeps_pending c [] ≡ true → is_sparing request ≡ true
-  pub calls : (spec : Spec) (g : Registers) → outcome spec g request ≡ called_at (Some c) (port_named spec.hub g n)
+  pub calls : (spec : Spec) (g : Registers)
+      → outcome spec g request ≡ called_at (Some c) (port_named spec.hub g n)
   pub other : Is request DEVICE_OUT SET_ADDRESS ≡ false
   pub harmless : is_reset c ≡ false → is_harmless request ≡ true
   pub sets : Is request PORT_OUT SET_FEATURE ≡ true → set_call request.value ≡ Some c
@@ -104,12 +128,17 @@ pub record AsksFor (request : Setup) (c : PortCall) (n : ℕ) : Type 0 where
 
 -- what the hub asks of its port
 effect_there : (c : PortCall) (i : ℕ) (below : Ports) (o : Option ℕ) → (o ≡ None) ⊎ (o ≡ Some i)
-    → (place_at (acted (effect_of_request (called_at (Some c) o)) below) i [] ≡ place_at below i []) ⊎ (place_at (acted (effect_of_request (called_at (Some c) o)) below) i [] ≡ option_map (called c) (place_at below i []))
+    → (place_at (acted (effect_of_request (called_at (Some c) o)) below) i [] ≡ place_at below i [])
+    ⊎ (place_at (acted (effect_of_request (called_at (Some c) o)) below) i []
+    ≡ option_map (called c) (place_at below i []))
 effect_there c i below None x = inl refl
 effect_there c i below (Some m) (inl x) = absurd cc
-effect_there c i below (Some m) (inr x) = inr (ap (λ n. place_at (changed_at (called c) below n []) i []) (same_Some m i x) ∙ place_called c below i)
+effect_there c i below (Some m) (inr x) =
+    inr (ap (λ n. place_at (changed_at (called c) below n []) i []) (same_Some m i x)
+    ∙ place_called c below i)
 
-module _ (t : Target) (j : Location) (i : ℕ) (request : Setup) (c : PortCall) (asked : AsksFor request c (suc i)) where
+module _ (t : Target) (j : Location) (i : ℕ) (request : Setup) (c : PortCall)
+    (asked : AsksFor request c (suc i)) where
   abbrev a : Attempt
   a = setup_attempt t (bytes_of request)
 
@@ -128,7 +157,11 @@ module _ (t : Target) (j : Location) (i : ℕ) (request : Setup) (c : PortCall) 
     nobody_acts : NobodyHolds a.addr (at_attempt w).roots → ActsAt p c (attempt a) w
     nobody_acts x = record {
       port = inl (ap (λ k. place k p) (nobody_in a w made x).1);
-      about = record { others = λ y d. nobody_asks_nothing a w y x made.settled; spares = λ s. (nobody_asks_nothing a w p x made.settled).spares };
+      about = record {
+        others = λ y d. nobody_asks_nothing a w y x made.settled;
+        spares =
+            λ s. (nobody_asks_nothing a w p x made.settled).spares;
+      };
     }
 
     -- the hub may have
@@ -140,41 +173,68 @@ module _ (t : Target) (j : Location) (i : ℕ) (request : Setup) (c : PortCall) 
       port = path_to holder.spot ++ (suc i ∷ [])
 
       stood : place (at_attempt w).roots port ≡ place_at below i []
-      stood = place_below (at_attempt w).roots holder.spot.row holder.spot.rest i [] ∙ ap (λ o. place_at (place_ports o) i []) holder.stands
+      stood = place_below (at_attempt w).roots holder.spot.row holder.spot.rest i []
+          ∙ ap (λ o. place_at (place_ports o) i []) holder.stands
 
-      silent_port : s.spec.silent ≡ true → place (after (attempt a) w).roots port ≡ place (at_attempt w).roots port
-      silent_port h = place_below (after (attempt a) w).roots holder.spot.row holder.spot.rest i [] ∙ ap (λ o. place_at (place_ports o) i []) (silent_place_in a w holder h) ∙ sym stood
+      silent_port : s.spec.silent ≡ true → place (after (attempt a) w).roots port
+          ≡ place (at_attempt w).roots port
+      silent_port h = place_below (after (attempt a) w).roots holder.spot.row holder.spot.rest i []
+          ∙ ap (λ o. place_at (place_ports o) i []) (silent_place_in a w holder h) ∙ sym stood
 
       abbrev Called : Ports → Type 0
-      Called left = (place_at left i [] ≡ place_at below i []) ⊎ (place_at left i [] ≡ option_map (called c) (place_at below i []))
+      Called left = (place_at left i [] ≡ place_at below i [])
+          ⊎ (place_at left i [] ≡ option_map (called c) (place_at below i []))
 
       request_there : Called (acted (asked_by_setup s (setup_of (bytes_of request))) below)
       request_there =
-          subst (λ o. Called (acted (effect_of_request o) below)) (sym (ap (outcome s.spec s.registers) asked.same ∙ asked.calls s.spec s.registers))
-          (effect_there c i below (port_named s.spec.hub s.registers (suc i)) (subst (λ m. (port_named s.spec.hub s.registers (suc i) ≡ None) ⊎ (port_named s.spec.hub s.registers (suc i) ≡ Some m)) (less_one i) (port_named-cases s.spec.hub s.registers (suc i))))
+          subst (λ o. Called (acted (effect_of_request o) below))
+          (sym (ap (outcome s.spec s.registers) asked.same ∙ asked.calls s.spec s.registers))
+          (effect_there c i below (port_named s.spec.hub s.registers (suc i))
+          (subst (λ m. (port_named s.spec.hub s.registers (suc i) ≡ None)
+          ⊎ (port_named s.spec.hub s.registers (suc i) ≡ Some m)) (less_one i)
+          (port_named-cases s.spec.hub s.registers (suc i))))
 
-      asked_there : Called (acted (setup_asked a (damage_in (at_attempt w)) (deep_at false holder.spot.rest) s (bytes_of request)) below)
-      asked_there = split (is_whole (token_way a (damage_in (at_attempt w)) (deep_at false holder.spot.rest) s) && is_whole (payload_way a (damage_in (at_attempt w)) (deep_at false holder.spot.rest) s))
+      asked_there : Called (acted (setup_asked a (damage_in (at_attempt w))
+          (deep_at false holder.spot.rest) s (bytes_of request)) below)
+      asked_there = split (is_whole (token_way a (damage_in (at_attempt w))
+          (deep_at false holder.spot.rest) s) &&
+          is_whole (payload_way a (damage_in (at_attempt w)) (deep_at false holder.spot.rest) s))
         where
-          split : (x : Bool) → Called (acted (if x then asked_by_setup s (setup_of (bytes_of request)) else Leaves) below)
+          split : (x : Bool) → Called (acted
+              (if x then asked_by_setup s (setup_of (bytes_of request)) else Leaves) below)
           split true = request_there
           split false = inl refl
 
-      loud_port : s.spec.silent ≡ false → (place (after (attempt a) w).roots port ≡ place (at_attempt w).roots port) ⊎ (place (after (attempt a) w).roots port ≡ option_map (called c) (place (at_attempt w).roots port))
+      loud_port : s.spec.silent ≡ false
+          → (place (after (attempt a) w).roots port ≡ place (at_attempt w).roots port)
+          ⊎ (place (after (attempt a) w).roots port
+          ≡ option_map (called c) (place (at_attempt w).roots port))
       loud_port h = pick asked_there
         where
-          left : place (after (attempt a) w).roots port ≡ place_at (acted (setup_asked a (damage_in (at_attempt w)) (deep_at false holder.spot.rest) s (bytes_of request)) below) i []
-          left = place_below (after (attempt a) w).roots holder.spot.row holder.spot.rest i [] ∙ ap (λ o. place_at (place_ports o) i []) (setup_place_in a w holder h (bytes_of request) is)
+          left : place (after (attempt a) w).roots port
+              ≡ place_at (acted (setup_asked a (damage_in (at_attempt w))
+              (deep_at false holder.spot.rest) s (bytes_of request)) below) i []
+          left = place_below (after (attempt a) w).roots holder.spot.row holder.spot.rest i []
+              ∙ ap (λ o. place_at (place_ports o) i [])
+              (setup_place_in a w holder h (bytes_of request) is)
 
-          pick : Called (acted (setup_asked a (damage_in (at_attempt w)) (deep_at false holder.spot.rest) s (bytes_of request)) below)
-              → (place (after (attempt a) w).roots port ≡ place (at_attempt w).roots port) ⊎ (place (after (attempt a) w).roots port ≡ option_map (called c) (place (at_attempt w).roots port))
+          pick : Called (acted (setup_asked a (damage_in (at_attempt w))
+              (deep_at false holder.spot.rest) s (bytes_of request)) below)
+              → (place (after (attempt a) w).roots port ≡ place (at_attempt w).roots port)
+              ⊎ (place (after (attempt a) w).roots port
+              ≡ option_map (called c) (place (at_attempt w).roots port))
           pick (inl x) = inl (left ∙ x ∙ sym stood)
           pick (inr x) = inr (left ∙ x ∙ ap (option_map (called c)) (sym stood))
 
-      port_acted : (place (after (attempt a) w).roots port ≡ place (at_attempt w).roots port) ⊎ (place (after (attempt a) w).roots port ≡ option_map (called c) (place (at_attempt w).roots port))
+      port_acted : (place (after (attempt a) w).roots port ≡ place (at_attempt w).roots port)
+          ⊎ (place (after (attempt a) w).roots port
+          ≡ option_map (called c) (place (at_attempt w).roots port))
       port_acted = pick (decided s.spec.silent)
         where
-          pick : (s.spec.silent ≡ true) ⊎ (s.spec.silent ≡ false) → (place (after (attempt a) w).roots port ≡ place (at_attempt w).roots port) ⊎ (place (after (attempt a) w).roots port ≡ option_map (called c) (place (at_attempt w).roots port))
+          pick : (s.spec.silent ≡ true) ⊎ (s.spec.silent ≡ false)
+              → (place (after (attempt a) w).roots port ≡ place (at_attempt w).roots port)
+              ⊎ (place (after (attempt a) w).roots port
+              ≡ option_map (called c) (place (at_attempt w).roots port))
           pick (inl h) = inl (silent_port h)
           pick (inr h) = loud_port h
 
@@ -182,14 +242,18 @@ module _ (t : Target) (j : Location) (i : ℕ) (request : Setup) (c : PortCall) 
       hub_acts = record {
         port = port_acted;
         about = record {
-          others = λ x d. others_asked_nothing a w holder (bytes_of request) is (suc i) index (ap is_port_request asked.same ∙ asked.asks) x d;
-          spares = λ h. self_asked a w holder (bytes_of request) is (suc i) index (ap is_sparing asked.same ∙ asked.sparing h);
+          others = λ x d. others_asked_nothing a w holder (bytes_of request) is (suc i) index
+              (ap is_port_request asked.same ∙ asked.asks) x d;
+          spares = λ h. self_asked a w holder (bytes_of request) is (suc i) index
+              (ap is_sparing asked.same ∙ asked.sparing h);
         };
       }
 
     pub attempt_acts : ClaimedAt (path_to j) t.addr w → ActsAt p c (attempt a) w
-    attempt_acts claimed = pick (holder_or_nobody a w made (unshared_after claimed.claims a w claimed.owned))
+    attempt_acts claimed = pick (holder_or_nobody a w made
+        (unshared_after claimed.claims a w claimed.owned))
       where
         pick : HolderIn a w ⊎ NobodyHolds a.addr (at_attempt w).roots → ActsAt p c (attempt a) w
-        pick (inl x) = subst (λ q. ActsAt (q ++ (suc i ∷ [])) c (attempt a) w) (claimed_holder (path_to j) t.addr w claimed a refl x) (hub_acts x)
+        pick (inl x) = subst (λ q. ActsAt (q ++ (suc i ∷ [])) c (attempt a) w)
+            (claimed_holder (path_to j) t.addr w claimed a refl x) (hub_acts x)
         pick (inr x) = nobody_acts x

@@ -1,5 +1,6 @@
 -- What the calls on devices and ports do to the addresses that devices hold.
-use Rattle.std.proofs.Common.{◌≡◌, ◌≢◌, ◌⊎◌, inl, inr, ◌∙◌, refl, sym, ap, subst, Bool, true, false, if◌then◌else◌}
+use Rattle.std.proofs.Common.{◌≡◌, ◌≢◌, ◌⊎◌, inl, inr, ◌∙◌, refl, sym, ap, subst, Bool, true, false}
+use Rattle.std.proofs.Common.{if◌then◌else◌}
 use Rattle.std.specs.Prelude.{ℕ, List, None, Some, option_map, Result, Ok, Err, OnOk}
 use Rattle.std.specs.Global.{Vec}
 use Rattle.usb_request.specs.Features.{PORT_ENABLE, PORT_RESET, PORT_POWER}
@@ -9,7 +10,8 @@ use Rattle.usb_port.specs.declared.status.PortStatus.{PortStatus}
 use Rattle.usb_request.specs.Layout.{IsToHost}
 use Rattle.usb_request.specs.HubRequests.{clear_hub_feature}
 use Rattle.usb_request.specs.declared.setup.Setup.{Setup}
-use Rattle.usb_request.specs.Requests.{get_port_status, set_port_feature, clear_port_feature, set_address, set_configuration}
+use Rattle.usb_request.specs.Requests.{get_port_status, set_port_feature, clear_port_feature}
+use Rattle.usb_request.specs.Requests.{set_address, set_configuration}
 use Rattle.usb_port.specs.declared.call.PortCall.{PortCall}
 use Rattle.usb_port.specs.declared.call.PortCall.TheVariants.{SetPower, SetReset}
 use Rattle.usb_port.proofs.Interface.{call_is, clear_no-reset}
@@ -30,99 +32,163 @@ use Rattle.usb_pipe.specs.Stages.{Reads}
 use Rattle.usb_pipe.proofs.Interface.{host_harmless}
 use Rattle.usb_address.specs.Claims.{AddressMap, map_without}
 use Rattle.usb_address.specs.Ownership.{MapHolds, WhileBusWorks, KeepsAddresses}
-use Rattle.usb_address.proofs.Interface.{answerer_claims, either_alone, gives_address, keeps_none, not_way, read_keeps, reads_other, reset_till, root_keeps, root_resets, root_shut, same_setup, is_way-same_path, write_keeps, write_till}
+use Rattle.usb_address.proofs.Interface.{answerer_claims, either_alone, gives_address, keeps_none}
+use Rattle.usb_address.proofs.Interface.{not_way, read_keeps, reads_other, reset_till, root_keeps}
+use Rattle.usb_address.proofs.Interface.{root_resets, root_shut, same_setup, is_way-same_path}
+use Rattle.usb_address.proofs.Interface.{write_keeps, write_till}
 use Rattle.usb_hub.specs.declared.port.HubPort.{HubPort}
 use Rattle.usb_hub.specs.declared.port.HubPort.TheVariants.{Root, External}
-use Rattle.usb_hub.specs.Addresses.{StaysAs, EachElsewhere, KeepsDevices, IsBelow, IsClaimed, Resets, GivesAddress, KeepsAnswered, KeepsAsked, KeepsSet, KeepsCleared}
+use Rattle.usb_hub.specs.Addresses.{StaysAs, EachElsewhere, KeepsDevices, IsBelow, IsClaimed}
+use Rattle.usb_hub.specs.Addresses.{Resets, GivesAddress, KeepsAnswered, KeepsAsked, KeepsSet}
+use Rattle.usb_hub.specs.Addresses.{KeepsCleared}
 use Rattle.usb_hub.specs.Port.{PortRead}
 use Rattle.usb_hub.specs.Requests.{EndsAfter, ReadAs, Commanded}
-use Rattle.usb_hub.proofs.Devices.{not_reset, keeps_devices_none, port_status_keeps, clear_feature_keeps, set_stays, reset_stays, root_stays, root_elsewhere}
+use Rattle.usb_hub.proofs.Devices.{not_reset, keeps_devices_none, port_status_keeps}
+use Rattle.usb_hub.proofs.Devices.{clear_feature_keeps, set_stays, reset_stays, root_stays}
+use Rattle.usb_hub.proofs.Devices.{root_elsewhere}
 use Rattle.usb_hub.proofs.BaredPorts.{port_told_bares, done_bares}
 use Rattle.usb_hub.proofs.Calls.{hub_clears, root_clears}
 use Rattle.usb_hub.proofs.Moments.{hub_tells}
 
-told_same : (seen status : PortStatus) (result : Result PortStatus PipeFault) → result ≡ Ok seen → result ≡ Ok status → seen ≡ status
+told_same : (seen status : PortStatus) (result : Result PortStatus PipeFault) → result ≡ Ok seen
+    → result ≡ Ok status → seen ≡ status
 told_same seen status result a b = cc (a, b)
 
 -- Requests to a device
 
-pub reads_keeps_addresses : (target : Target) (request : Setup) (old : World) (result : Result (Vec ℕ) PipeFault) (new : World) → IsToHost request → EndsAfter 3 old result new → Reads target request old result new
-    → OnOk result (new.shared ≡ false → Answerer target old new) → KeepsAnswered target.addr old result new
+pub reads_keeps_addresses : (target : Target) (request : Setup) (old : World)
+    (result : Result (Vec ℕ) PipeFault) (new : World) → IsToHost request
+    → EndsAfter 3 old result new → Reads target request old result new
+    → OnOk result (new.shared ≡ false → Answerer target old new)
+    → KeepsAnswered target.addr old result new
 reads_keeps_addresses target request old result new reads ends stages who =
-    let keeps = read_keeps target request (same_setup request) (host_harmless request reads) (reads_other request reads) 3 1 old new result ends stages in
+    let keeps = read_keeps target request (same_setup request) (host_harmless request reads)
+    (reads_other request reads) 3 1 old new result ends stages in
     record { keeps = keeps; who = told result ends who keeps }
   where
-    told : (result : Result (Vec ℕ) PipeFault) → EndsAfter 3 old result new → OnOk result (new.shared ≡ false → Answerer target old new) → KeepsAddresses old new → OnOk result (IsClaimed target.addr old)
-    told (Ok bytes) ends who keeps = record { held = λ f o. answerer_claims f target old new (o.so ends.sound) (who (keeps.kept f o).single) }
+    told : (result : Result (Vec ℕ) PipeFault) → EndsAfter 3 old result new
+        → OnOk result (new.shared ≡ false → Answerer target old new) → KeepsAddresses old new
+        → OnOk result (IsClaimed target.addr old)
+    told (Ok bytes) ends who keeps = record {
+      held =
+          λ f o. answerer_claims f target old new (o.so ends.sound) (who (keeps.kept f o).single);
+    }
     told (Err fault) ends who keeps = tt
 
-pub ordered_keeps : (target : Target) (request : Setup) (old : World) (result : Result (Unit {0}) PipeFault) (new : World) → is_harmless request ≡ true → Is request DEVICE_OUT SET_ADDRESS ≡ false → Commanded target request old result new → KeepsAddresses old new
+pub ordered_keeps : (target : Target) (request : Setup) (old : World)
+    (result : Result (Unit {0}) PipeFault) (new : World) → is_harmless request ≡ true
+    → Is request DEVICE_OUT SET_ADDRESS ≡ false → Commanded target request old result new
+    → KeepsAddresses old new
 ordered_keeps target request old result new harmless other ordered =
-    write_keeps target request (same_setup request) harmless other 2 1 old new result ordered.ends ordered.stages
+    write_keeps target request (same_setup request) harmless other 2 1 old new result ordered.ends
+    ordered.stages
 
-pub configured : (target : Target) (value : ℕ) (old : World) (result : Result (Unit {0}) PipeFault) (new : World) → Commanded target (set_configuration value) old result new → KeepsAddresses old new
+pub configured : (target : Target) (value : ℕ) (old : World) (result : Result (Unit {0}) PipeFault)
+    (new : World) → Commanded target (set_configuration value) old result new
+    → KeepsAddresses old new
 unfolding set_configuration
-configured target value old result new = ordered_keeps target (set_configuration value) old result new refl refl
+configured target value old result new = ordered_keeps target (set_configuration value) old result
+    new refl refl
 
-pub address_given : (target : Target) (address : ℕ) (old : World) (result : Result (Unit {0}) PipeFault) (new : World) → Commanded target (set_address address) old result new → GivesAddress target.addr address old new
+pub address_given : (target : Target) (address : ℕ) (old : World)
+    (result : Result (Unit {0}) PipeFault) (new : World)
+    → Commanded target (set_address address) old result new
+    → GivesAddress target.addr address old new
 unfolding set_address
 address_given target address old result new ordered = record {
   gives = λ f p at spare differ o.
-      write_till (λ w. MapHolds f w ⊎ MapHolds (after_taking f p address) w) (either_alone f (after_taking f p address)) old new 2 1 target (set_address address) o.single result ordered.ends ordered.stages
-      (λ sound. gives_address f target (set_address address) (same_setup (set_address address)) refl p at spare differ old result new ordered.stages (o.so sound));
+      write_till (λ w. MapHolds f w ⊎ MapHolds (after_taking f p address) w)
+      (either_alone f (after_taking f p address)) old new 2 1 target (set_address address)
+      o.single result ordered.ends ordered.stages
+      (λ sound. gives_address f target (set_address address) (same_setup (set_address address)) refl
+      p at spare differ old result new ordered.stages (o.so sound));
 }
 
 -- Requests to a hub
 
-pub hub_feature_keeps : (hub : Target) (feature : ℕ) (old : World) (result : Result (Unit {0}) PipeFault) (new : World) → Commanded hub (clear_hub_feature feature) old result new → KeepsAddresses old new
+pub hub_feature_keeps : (hub : Target) (feature : ℕ) (old : World)
+    (result : Result (Unit {0}) PipeFault) (new : World)
+    → Commanded hub (clear_hub_feature feature) old result new → KeepsAddresses old new
 unfolding clear_hub_feature
-hub_feature_keeps hub feature old result new = ordered_keeps hub (clear_hub_feature feature) old result new refl refl
+hub_feature_keeps hub feature old result new =
+    ordered_keeps hub (clear_hub_feature feature) old result new refl refl
 
 -- Requests to a port of a hub
 
-pub cleared_keeps : (hub : Target) (feature port : ℕ) (old : World) (result : Result (Unit {0}) PipeFault) (new : World) → Commanded hub (clear_port_feature feature port) old result new → KeepsAddresses old new
+pub cleared_keeps : (hub : Target) (feature port : ℕ) (old : World)
+    (result : Result (Unit {0}) PipeFault) (new : World)
+    → Commanded hub (clear_port_feature feature port) old result new → KeepsAddresses old new
 unfolding clear_port_feature
-cleared_keeps hub feature port old result new = ordered_keeps hub (clear_port_feature feature port) old result new refl refl
+cleared_keeps hub feature port old result new = ordered_keeps hub (clear_port_feature feature port)
+    old result new refl refl
 
-pub set_keeps : (hub : Target) (feature port : ℕ) (old : World) (result : Result (Unit {0}) PipeFault) (new : World) → feature ≢ PORT_RESET → Commanded hub (set_port_feature feature port) old result new → KeepsAddresses old new
+pub set_keeps : (hub : Target) (feature port : ℕ) (old : World)
+    (result : Result (Unit {0}) PipeFault) (new : World) → feature ≢ PORT_RESET
+    → Commanded hub (set_port_feature feature port) old result new → KeepsAddresses old new
 unfolding set_port_feature
-set_keeps hub feature port old result new other = ordered_keeps hub (set_port_feature feature port) old result new (rw (not_reset feature other) refl) refl
+set_keeps hub feature port old result new other =
+    ordered_keeps hub (set_port_feature feature port) old result new
+    (rw (not_reset feature other) refl) refl
 
 -- what is not at a path nor below it is not claimed at 0, where 0 is claimed there alone
-reset_elsewhere : (f : AddressMap) (p : List ℕ) (w : World) → ((x : List ℕ) → f x ≡ Some 0 → is_way p x ≡ true) → MapHolds f w ⊎ MapHolds (after_reset f p) w
-    → (j : Location) (s : State) → is_way p (path_to j) ≡ false → reach_on w.roots j ≡ true → state_on w.roots j ≡ Some s → address_of s ≢ 0
-reset_elsewhere f p w only (inl o) j s apart on there zero_is = false_true (sym apart ∙ only (path_to j) (sym (o.own (path_to j) on) ∙ ap (option_map address_of) there ∙ ap Some zero_is))
-reset_elsewhere f p w only (inr o) j s apart on there zero_is = false_true (sym apart ∙ only (path_to j) (sym (claim (same_path p (path_to j)) refl) ∙ sym (o.own (path_to j) on) ∙ ap (option_map address_of) there ∙ ap Some zero_is))
+reset_elsewhere : (f : AddressMap) (p : List ℕ) (w : World)
+    → ((x : List ℕ) → f x ≡ Some 0 → is_way p x ≡ true) → MapHolds f w
+    ⊎ MapHolds (after_reset f p) w
+    → (j : Location) (s : State) → is_way p (path_to j) ≡ false → reach_on w.roots j ≡ true
+    → state_on w.roots j ≡ Some s → address_of s ≢ 0
+reset_elsewhere f p w only (inl o) j s apart on there zero_is =
+    false_true (sym apart ∙ only (path_to j) (sym (o.own (path_to j) on)
+    ∙ ap (option_map address_of) there ∙ ap Some zero_is))
+reset_elsewhere f p w only (inr o) j s apart on there zero_is =
+    false_true (sym apart ∙ only (path_to j) (sym (claim (same_path p (path_to j)) refl)
+    ∙ sym (o.own (path_to j) on) ∙ ap (option_map address_of) there ∙ ap Some zero_is))
   where
-    claim : (b : Bool) → same_path p (path_to j) ≡ b → (if b then Some 0 else if is_way p (path_to j) then None else f (path_to j)) ≡ f (path_to j)
+    claim : (b : Bool) → same_path p (path_to j) ≡ b
+        → (if b then Some 0 else if is_way p (path_to j) then None else f (path_to j))
+        ≡ f (path_to j)
     claim true e = false_true (sym apart ∙ is_way-same_path p (path_to j) e)
     claim false e = ap (λ b. if b then None else f (path_to j)) apart
 
-hub_resets : (hub : Target) (port : ℕ) (old : World) (result : Result (Unit {0}) PipeFault) (new : World) → Commanded hub (set_port_feature PORT_RESET port) old result new → Resets (External hub port) old new
+hub_resets : (hub : Target) (port : ℕ) (old : World) (result : Result (Unit {0}) PipeFault)
+    (new : World) → Commanded hub (set_port_feature PORT_RESET port) old result new
+    → Resets (External hub port) old new
 hub_resets hub port old result new ordered = record { resets = resets; others = others }
   where
-    resets : (f : AddressMap) (p : List ℕ) → IsBelow f hub.addr port p → ((x : List ℕ) → f x ≡ Some 0 → is_way p x ≡ true) → WhileBusWorks (MapHolds f) old → WhileBusWorks (λ w. MapHolds f w ⊎ MapHolds (after_reset f p) w) new
+    resets : (f : AddressMap) (p : List ℕ) → IsBelow f hub.addr port p
+        → ((x : List ℕ) → f x ≡ Some 0 → is_way p x ≡ true) → WhileBusWorks (MapHolds f) old
+        → WhileBusWorks (λ w. MapHolds f w ⊎ MapHolds (after_reset f p) w) new
     resets f p at only o =
-        subst (λ p. WhileBusWorks (λ w. MapHolds f w ⊎ MapHolds (after_reset f p) w) new) (sym at.path)
-        (reset_till hub 2 1 old new f at.hub port result at.held ordered.ends ordered.stages (λ x e. subst (λ p. is_way p x ≡ true) at.path (only x e)) o)
+        subst (λ p. WhileBusWorks (λ w. MapHolds f w ⊎ MapHolds (after_reset f p) w) new)
+        (sym at.path)
+        (reset_till hub 2 1 old new f at.hub port result at.held ordered.ends ordered.stages
+        (λ x e. subst (λ p. is_way p x ≡ true) at.path (only x e)) o)
 
     -- the hub is above its port
-    named : (f : AddressMap) (p : List ℕ) → IsBelow f hub.addr port p → ((x : List ℕ) → f x ≡ Some 0 → is_way p x ≡ true) → hub.addr ≢ 0
-    named f p at only zero_is = false_true (sym (not_way at.hub port) ∙ subst (λ y. is_way y at.hub ≡ true) at.path (only at.hub (at.held ∙ ap Some zero_is)))
+    named : (f : AddressMap) (p : List ℕ) → IsBelow f hub.addr port p
+        → ((x : List ℕ) → f x ≡ Some 0 → is_way p x ≡ true) → hub.addr ≢ 0
+    named f p at only zero_is = false_true (sym (not_way at.hub port)
+        ∙ subst (λ y. is_way y at.hub ≡ true) at.path (only at.hub (at.held ∙ ap Some zero_is)))
 
-    others : (f : AddressMap) (p : List ℕ) → IsBelow f hub.addr port p → ((x : List ℕ) → f x ≡ Some 0 → is_way p x ≡ true) → WhileBusWorks (MapHolds f) old → new.fault ≡ None → EachElsewhere p StaysAs old new
+    others : (f : AddressMap) (p : List ℕ) → IsBelow f hub.addr port p
+        → ((x : List ℕ) → f x ≡ Some 0 → is_way p x ≡ true) → WhileBusWorks (MapHolds f) old
+        → new.fault ≡ None → EachElsewhere p StaysAs old new
     others f p at only o none j s apart on there =
         let after_it = resets f p at only o in
-        reset_stays hub port old result new (named f p at only) ordered after_it.single j s on there (reset_elsewhere f p new only (after_it.so none) j s apart on there)
+        reset_stays hub port old result new (named f p at only) ordered after_it.single j s on there
+        (reset_elsewhere f p new only (after_it.so none) j s apart on there)
 
 -- Root ports
 
 -- each call that sets or clears is one of these
-root_set_is : (number feature : ℕ) (old new : World) → SetsRoot number feature old new → feature ≡ PORT_POWER → new ≡ after (root_call SetPower number) old
-root_set_is number feature old new sets e = (subst (λ n. SetsRoot number n old new) e sets).step SetPower refl
+root_set_is : (number feature : ℕ) (old new : World) → SetsRoot number feature old new
+    → feature ≡ PORT_POWER → new ≡ after (root_call SetPower number) old
+root_set_is number feature old new sets e = (subst (λ n. SetsRoot number n old new) e sets).step
+    SetPower refl
 
-root_reset_is : (number feature : ℕ) (old new : World) → SetsRoot number feature old new → feature ≡ PORT_RESET → new ≡ after (root_call SetReset number) old
-root_reset_is number feature old new sets e = (subst (λ n. SetsRoot number n old new) e sets).step SetReset refl
+root_reset_is : (number feature : ℕ) (old new : World) → SetsRoot number feature old new
+    → feature ≡ PORT_RESET → new ≡ after (root_call SetReset number) old
+root_reset_is number feature old new sets e = (subst (λ n. SetsRoot number n old new) e sets).step
+    SetReset refl
 
 -- a call that resets none
 pub record CalledQuietly (number : ℕ) (old new : World) : Type 0 where
@@ -130,23 +196,31 @@ pub record CalledQuietly (number : ℕ) (old new : World) : Type 0 where
   pub quiet : is_reset call ≡ false
   pub is : new ≡ after (root_call call number) old
 
-power_is_quiet : (number feature : ℕ) (old new : World) → SetsRoot number feature old new → feature ≡ PORT_POWER → CalledQuietly number old new
-power_is_quiet number feature old new sets e = record { call = SetPower; quiet = refl; is = root_set_is number feature old new sets e }
+power_is_quiet : (number feature : ℕ) (old new : World) → SetsRoot number feature old new
+    → feature ≡ PORT_POWER → CalledQuietly number old new
+power_is_quiet number feature old new sets e =
+    record { call = SetPower; quiet = refl; is = root_set_is number feature old new sets e }
 
-clear_is_quiet : (number feature : ℕ) (old new : World) → IsClearFeature feature → ClearsRoot number feature old new → CalledQuietly number old new
+clear_is_quiet : (number feature : ℕ) (old new : World) → IsClearFeature feature
+    → ClearsRoot number feature old new → CalledQuietly number old new
 clear_is_quiet number feature old new named clears =
     let (call, found) = call_is (clear_call feature) named in
     record { call = call; quiet = clear_no-reset feature call found; is = clears.step call found }
 
-keeps_quietly : (number : ℕ) (old new : World) → CalledQuietly number old new → KeepsAddresses old new
-keeps_quietly number old new x = subst (λ w. KeepsAddresses old w) (sym x.is) (root_keeps x.call number old x.quiet)
+keeps_quietly : (number : ℕ) (old new : World) → CalledQuietly number old new
+    → KeepsAddresses old new
+keeps_quietly number old new x = subst (λ w. KeepsAddresses old w) (sym x.is)
+    (root_keeps x.call number old x.quiet)
 
 stays_quietly : (number : ℕ) (old new : World) → CalledQuietly number old new → KeepsDevices old new
-stays_quietly number old new x = subst (λ w. KeepsDevices old w) (sym x.is) (root_stays x.call number old x.quiet)
+stays_quietly number old new x = subst (λ w. KeepsDevices old w) (sym x.is)
+    (root_stays x.call number old x.quiet)
 
 -- Any port
 
-pub status_keeps : (port : HubPort) (old : World) (result : Result PortStatus PipeFault) (new : World) → (number : ℕ) → port ≡ Root number → PortRead port old result new → KeepsAsked port old result new
+pub status_keeps : (port : HubPort) (old : World) (result : Result PortStatus PipeFault)
+    (new : World) → (number : ℕ) → port ≡ Root number → PortRead port old result new
+    → KeepsAsked port old result new
 status_keeps port old result new number e read = rw e (root (rw e at read))
   where
     root : PortRead (Root number) old result new → KeepsAsked (Root number) old result new
@@ -155,58 +229,82 @@ status_keeps port old result new number e read = rw e (root (rw e at read))
       devices = subst (λ w. KeepsDevices old w) (sym r.same) (keeps_devices_none old);
       bare = λ status told off. record {
         bares = λ f p at o. subst (λ w. WhileBusWorks (MapHolds (map_without f p)) w) (sym r.same)
-            (subst (λ p. WhileBusWorks (MapHolds (map_without f p)) old) (sym at) (root_shut f number old (ap (λ s. s.enabled) (told_same (seen (root_port_at old number)) status result r.status told) ∙ off) o));
+            (subst (λ p. WhileBusWorks (MapHolds (map_without f p)) old) (sym at)
+            (root_shut f number old (ap (λ s. s.enabled)
+            (told_same (seen (root_port_at old number)) status result r.status told)
+            ∙ off) o));
       };
     }
 
-pub hub_status_keeps : (port : HubPort) (hub : Target) (number : ℕ) (old : World) (result : Result PortStatus PipeFault) (new : World) → port ≡ External hub number → ReadAs status_in hub (get_port_status number) old result new → KeepsAddresses old new → KeepsAsked port old result new
+pub hub_status_keeps : (port : HubPort) (hub : Target) (number : ℕ) (old : World)
+    (result : Result PortStatus PipeFault) (new : World) → port ≡ External hub number
+    → ReadAs status_in hub (get_port_status number) old result new → KeepsAddresses old new
+    → KeepsAsked port old result new
 hub_status_keeps port hub number old result new e told keeps = rw e (record {
   keeps = keeps;
   devices = port_status_keeps hub number old result new told;
   bare = λ status is off.
       port_told_bares (External hub number) status old new keeps
-      (hub_tells (External hub number) hub number old (Ok status) new refl (subst (λ r. ReadAs status_in hub (get_port_status number) old r new) is told)) off;
+      (hub_tells (External hub number) hub number old (Ok status) new refl
+      (subst (λ r. ReadAs status_in hub (get_port_status number) old r new) is told)) off;
 })
 
-pub root_set_keeps : (port : HubPort) (number feature : ℕ) (old new : World) → port ≡ Root number → SetsRoot number feature old new → KeepsSet port feature old new
+pub root_set_keeps : (port : HubPort) (number feature : ℕ) (old new : World) → port ≡ Root number
+    → SetsRoot number feature old new → KeepsSet port feature old new
 root_set_keeps port number feature old new e sets = rw e (record {
   keeps = λ is. keeps_quietly number old new (power_is_quiet number feature old new sets is);
   devices = λ is. stays_quietly number old new (power_is_quiet number feature old new sets is);
   resets = λ is. record {
     resets = λ f p at only o.
-        subst (λ w. WhileBusWorks (λ w. MapHolds f w ⊎ MapHolds (after_reset f p) w) w) (sym (root_reset_is number feature old new sets is))
-        (subst (λ p. WhileBusWorks (λ w. MapHolds f w ⊎ MapHolds (after_reset f p) w) (after (root_call SetReset number) old)) (sym at)
+        subst (λ w. WhileBusWorks (λ w. MapHolds f w ⊎ MapHolds (after_reset f p) w) w)
+        (sym (root_reset_is number feature old new sets is))
+        (subst (λ p. WhileBusWorks (λ w. MapHolds f w ⊎ MapHolds (after_reset f p) w)
+        (after (root_call SetReset number) old)) (sym at)
         (root_resets number old f (λ x h. subst (λ p. is_way p x ≡ true) at (only x h)) o));
     others = λ f p at only o none.
-        subst (λ w. EachElsewhere p StaysAs old w) (sym (root_reset_is number feature old new sets is))
-        (subst (λ p. EachElsewhere p StaysAs old (after (root_call SetReset number) old)) (sym at) (root_elsewhere SetReset number old));
+        subst (λ w. EachElsewhere p StaysAs old w)
+        (sym (root_reset_is number feature old new sets is))
+        (subst (λ p. EachElsewhere p StaysAs old (after (root_call SetReset number) old)) (sym at)
+        (root_elsewhere SetReset number old));
   };
 })
 
-pub hub_set_keeps : (port : HubPort) (hub : Target) (number feature : ℕ) (old : World) (result : Result (Unit {0}) PipeFault) (new : World) → port ≡ External hub number
+pub hub_set_keeps : (port : HubPort) (hub : Target) (number feature : ℕ) (old : World)
+    (result : Result (Unit {0}) PipeFault) (new : World) → port ≡ External hub number
     → Commanded hub (set_port_feature feature number) old result new → KeepsSet port feature old new
 hub_set_keeps port hub number feature old result new e ordered = rw e (record {
-  keeps = λ is. set_keeps hub feature number old result new (λ four. absurd (cc (is, four))) ordered;
-  devices = λ is. set_stays hub feature number old result new (λ four. absurd (cc (is, four))) ordered;
-  resets = λ is. hub_resets hub number old result new (subst (λ n. Commanded hub (set_port_feature n number) old result new) is ordered);
+  keeps = λ is. set_keeps hub feature number old result new (λ four. absurd (cc (is, four)))
+      ordered;
+  devices = λ is. set_stays hub feature number old result new (λ four. absurd (cc (is, four)))
+      ordered;
+  resets = λ is. hub_resets hub number old result new
+      (subst (λ n. Commanded hub (set_port_feature n number) old result new) is ordered);
 })
 
-pub root_clear_keeps_port : (port : HubPort) (number feature : ℕ) (old new : World) → port ≡ Root number → IsClearFeature feature → ClearsRoot number feature old new → KeepsCleared port feature old (Ok tt) new
+pub root_clear_keeps_port : (port : HubPort) (number feature : ℕ) (old new : World)
+    → port ≡ Root number → IsClearFeature feature → ClearsRoot number feature old new
+    → KeepsCleared port feature old (Ok tt) new
 root_clear_keeps_port port number feature old new e named clears = rw e (record {
   keeps = keeps_quietly number old new (clear_is_quiet number feature old new named clears);
   devices = stays_quietly number old new (clear_is_quiet number feature old new named clears);
   bare = λ is done.
-      done_bares (Root number) old new (keeps_quietly number old new (clear_is_quiet number feature old new named clears))
-      (root_clears (Root number) number PORT_ENABLE old new refl (subst (λ n. ClearsRoot number n old new) is clears));
+      done_bares (Root number) old new (keeps_quietly number old new
+      (clear_is_quiet number feature old new named clears))
+      (root_clears (Root number) number PORT_ENABLE old new refl
+      (subst (λ n. ClearsRoot number n old new) is clears));
 })
 
-pub hub_clear_keeps : (port : HubPort) (hub : Target) (number feature : ℕ) (old : World) (result : Result (Unit {0}) PipeFault) (new : World) → port ≡ External hub number
-    → Commanded hub (clear_port_feature feature number) old result new → KeepsCleared port feature old result new
+pub hub_clear_keeps : (port : HubPort) (hub : Target) (number feature : ℕ) (old : World)
+    (result : Result (Unit {0}) PipeFault) (new : World) → port ≡ External hub number
+    → Commanded hub (clear_port_feature feature number) old result new
+    → KeepsCleared port feature old result new
 hub_clear_keeps port hub number feature old result new e ordered = rw e (record {
   keeps = cleared_keeps hub feature number old result new ordered;
   devices = clear_feature_keeps hub feature number old result new ordered;
   bare = λ is done.
-      done_bares (External hub number) old new (cleared_keeps hub feature number old result new ordered)
+      done_bares (External hub number) old new
+      (cleared_keeps hub feature number old result new ordered)
       (hub_clears (External hub number) hub number PORT_ENABLE old (Ok tt) new refl refl
-      (subst (λ r. Commanded hub (clear_port_feature PORT_ENABLE number) old r new) done (subst (λ n. Commanded hub (clear_port_feature n number) old result new) is ordered)));
+      (subst (λ r. Commanded hub (clear_port_feature PORT_ENABLE number) old r new) done
+      (subst (λ n. Commanded hub (clear_port_feature n number) old result new) is ordered)));
 })

@@ -1,5 +1,6 @@
 -- What calls on devices and at ports add to what is left to do.
-use Rattle.std.proofs.Common.{◌≡◌, ℕ, suc, ◌⊎◌, inl, inr, true, false, List, [], ◌∷◌, ◌++◌, Result, refl, ap, sym, subst, ◌∙◌, arith}
+use Rattle.std.proofs.Common.{◌≡◌, ℕ, suc, ◌⊎◌, inl, inr, true, false, List, [], ◌∷◌, ◌++◌, Result}
+use Rattle.std.proofs.Common.{refl, ap, sym, subst, ◌∙◌, arith}
 use Rattle.std.proofs.lemmas.Bool.Decides.{nat_tests}
 use Rattle.std.proofs.Common.{◌≤◌, ◌==◌}
 use Rattle.std.specs.Global.{Vec}
@@ -16,12 +17,16 @@ use Rattle.usb_world.specs.Addresses.{is_setup}
 use Rattle.usb_tree.specs.AttemptPackets.{IsSettled, NobodyHolds}
 use Rattle.usb_world.specs.OneHolder.{HolderIn, IsMade, IsSetup}
 use Rattle.usb_world.specs.PlanCourses.{AtPorts}
-use Rattle.usb_world.specs.Steps.{Course, Step, after, attempt, event, at_attempt, report, root_call}
+use Rattle.usb_world.specs.Steps.{Course, Step, after, attempt, event, at_attempt, report}
+use Rattle.usb_world.specs.Steps.{root_call}
 use Rattle.usb_world.specs.World.{World}
-use Rattle.usb_world.proofs.Interface.{Allows, course_joined, course_then, holder_or_nobody, made_of, settled_wider}
+use Rattle.usb_world.proofs.Interface.{Allows, course_joined, course_then, holder_or_nobody}
+use Rattle.usb_world.proofs.Interface.{made_of, settled_wider}
 use Rattle.usb_tree.proofs.Interface.{decided}
 use Rattle.usb_backlog.specs.Marks.{CoversCall, Few, KeepsAll, KeepsBy, PortMark, is_marked}
-use Rattle.usb_backlog.proofs.Interface.{AttemptAllows, Covers, KeepsStep, data_allows, holder_allows, keeps-attempt, keeps-chain, keeps-unheard, payload_sets_none, request_sets_none, sets_none}
+use Rattle.usb_backlog.proofs.Interface.{AttemptAllows, Covers, KeepsStep, data_allows}
+use Rattle.usb_backlog.proofs.Interface.{holder_allows, keeps-attempt, keeps-chain, keeps-unheard}
+use Rattle.usb_backlog.proofs.Interface.{payload_sets_none, request_sets_none, sets_none}
 use Rattle.usb_transaction.specs.declared.target.Target.{Target}
 use Rattle.usb_transaction.specs.Leaves.{AcceptedAt}
 use Rattle.usb_transaction.specs.AttemptLog.{AttemptLog}
@@ -33,10 +38,12 @@ use Rattle.usb_pipe.specs.Attempts.{IsOfTransfer}
 use Rattle.usb_pipe.specs.Leaves.{IsBehind, IsNoBusFault}
 use Rattle.usb_pipe.specs.Stages.{Reads, Writes}
 use Rattle.usb_pipe.proofs.Interface.{read_attempts, write_attempts}
-use Rattle.usb_address.proofs.Interface.{ClaimedAt, KeepsClaim, claimed_holder, same_setup, trail_with, unshared_after}
+use Rattle.usb_address.proofs.Interface.{ClaimedAt, KeepsClaim, claimed_holder, same_setup}
+use Rattle.usb_address.proofs.Interface.{trail_with, unshared_after}
 use Rattle.usb_hub.proofs.ActingCalls.{AsksFor}
 
-is_set_up : (t : Target) (request : Setup) → IsSetup (setup_attempt t (bytes_of request)) (bytes_of request)
+is_set_up : (t : Target) (request : Setup)
+    → IsSetup (setup_attempt t (bytes_of request)) (bytes_of request)
 unfolding bytes_of
 is_set_up t request = record { kind = refl; ep = refl; payload = refl; whole = refl }
 
@@ -47,14 +54,16 @@ module _ (m v r : PortMark) (few : Few v r) where
   behind_step t (attempt a) w k h =
       λ ports. keeps-attempt m v r few a w ports (data_allows m r a w (kind k refl refl) h)
     where
-      kind : {b d : Attempt} → (a ≡ b) ⊎ (a ≡ d) → is_setup b.kind ≡ false → is_setup d.kind ≡ false → is_setup a.kind ≡ false
+      kind : {b d : Attempt} → (a ≡ b) ⊎ (a ≡ d) → is_setup b.kind ≡ false → is_setup d.kind ≡ false
+          → is_setup a.kind ≡ false
       kind (inl e) f g = ap (λ y. is_setup y.kind) e ∙ f
       kind (inr e) f g = ap (λ y. is_setup y.kind) e ∙ g
   behind_step t (root_call c n) w k h = elim k [ ]
   behind_step t event w k h = elim k [ ]
   behind_step t (report l) w k h = elim k [ ]
 
-  pub behind_keeps : (t : Target) {w x : World} → Course (IsBehind t) w x → IsSettled w.roots → Course (KeepsStep m v r few) w x
+  pub behind_keeps : (t : Target) {w x : World} → Course (IsBehind t) w x → IsSettled w.roots
+      → Course (KeepsStep m v r few) w x
   behind_keeps t c = settled_wider (behind_step t) c
 
   -- a transfer of a request that sets no feature of a port, whoever hears it
@@ -68,55 +77,83 @@ module _ (m v r : PortMark) (few : Few v r) where
         (subst (Allows sets_none) (sym (same_setup request)) plain)))
     request_step s w (inr k) h = behind_step t s w k h
 
-    pub request_keeps : {w x : World} → Course (IsOfTransfer t request) w x → IsSettled w.roots → Course (KeepsStep m v r few) w x
+    pub request_keeps : {w x : World} → Course (IsOfTransfer t request) w x → IsSettled w.roots
+        → Course (KeepsStep m v r few) w x
     request_keeps c = settled_wider request_step c
 
   -- a call at a port of the hub that holds the address
-  module _ (t : Target) (q : List ℕ) (i : ℕ) (request : Setup) (c : PortCall) (asked : AsksFor request c (suc i)) (covers : (x : Location) → path_to x ≡ q → Covers m r x.row x.rest i c) where
+  module _ (t : Target) (q : List ℕ) (i : ℕ) (request : Setup) (c : PortCall)
+      (asked : AsksFor request c (suc i)) (covers : (x : Location) → path_to x ≡ q
+      → Covers m r x.row x.rest i c) where
     abbrev a : Attempt
     a = setup_attempt t (bytes_of request)
 
-    holder_keeps : (w : World) (x : HolderIn a w) → path_to x.spot ≡ q → KeepsStep m v r few (attempt a) w
-    holder_keeps w x same ports = keeps-attempt m v r few a w ports (pick (decided (Is request PORT_OUT SET_FEATURE)))
+    holder_keeps : (w : World) (x : HolderIn a w) → path_to x.spot ≡ q
+        → KeepsStep m v r few (attempt a) w
+    holder_keeps w x same ports = keeps-attempt m v r few a w ports
+        (pick (decided (Is request PORT_OUT SET_FEATURE)))
       where
-        pick : (Is request PORT_OUT SET_FEATURE ≡ true) ⊎ (Is request PORT_OUT SET_FEATURE ≡ false) → AttemptAllows m r a w
+        pick : (Is request PORT_OUT SET_FEATURE ≡ true) ⊎ (Is request PORT_OUT SET_FEATURE ≡ false)
+            → AttemptAllows m r a w
         pick (inl h) =
-            holder_allows m r a w x (bytes_of request) (is_set_up t request) (ap (λ q. Is q PORT_OUT SET_FEATURE) (same_setup request) ∙ h)
-            i (ap (λ q. q.index) (same_setup request) ∙ asked.names) c (ap (λ q. set_call q.value) (same_setup request) ∙ asked.sets h) (covers x.spot same)
-        pick (inr h) = payload_sets_none m r a w (subst (Allows sets_none) (sym (same_setup request)) (request_sets_none request h))
+            holder_allows m r a w x (bytes_of request) (is_set_up t request)
+            (ap (λ q. Is q PORT_OUT SET_FEATURE) (same_setup request) ∙ h)
+            i (ap (λ q. q.index) (same_setup request) ∙ asked.names) c
+            (ap (λ q. set_call q.value) (same_setup request) ∙ asked.sets h)
+            (covers x.spot same)
+        pick (inr h) = payload_sets_none m r a w
+            (subst (Allows sets_none) (sym (same_setup request)) (request_sets_none request h))
 
     call_step : (w : World) → IsMade a w → ClaimedAt q t.addr w → KeepsStep m v r few (attempt a) w
-    call_step w made claimed = pick (holder_or_nobody a w made (unshared_after claimed.claims a w claimed.owned))
+    call_step w made claimed = pick (holder_or_nobody a w made
+        (unshared_after claimed.claims a w claimed.owned))
       where
-        pick : HolderIn a w ⊎ NobodyHolds a.addr (at_attempt w).roots → KeepsStep m v r few (attempt a) w
+        pick : HolderIn a w ⊎ NobodyHolds a.addr (at_attempt w).roots
+            → KeepsStep m v r few (attempt a) w
         pick (inl x) = holder_keeps w x (claimed_holder q t.addr w claimed a refl x)
         pick (inr x) = λ ports. keeps-unheard m v r few a w ports made x
 
     module _ (P : World → Type 0) (follows : KeepsClaim t request q P) where
-      pub call_keeps : {old mid new : World} {outcomes : List Outcome} → AttemptLog a old outcomes mid → Course (IsBehind t) mid new → P old → AtPorts old.left → KeepsBy m v r old new
+      pub call_keeps : {old mid new : World} {outcomes : List Outcome}
+          → AttemptLog a old outcomes mid → Course (IsBehind t) mid new → P old → AtPorts old.left
+          → KeepsBy m v r old new
       call_keeps {old} {mid} tr behind first ports =
-          let x : P mid × Course (KeepsStep m v r few) old mid = trail_with P follows.onward (λ w made x. let k : ClaimedAt q t.addr w = follows.claimed w x in call_step w (made_of a w k.owned.settled made) k) tr first in
-          keeps-chain m v r few ports (course_joined x.1 (behind_keeps t behind (follows.claimed mid x.0).owned.settled))
+          let x : P mid × Course (KeepsStep m v r few) old mid =
+          trail_with P follows.onward (λ w made x. let k : ClaimedAt q t.addr w =
+          follows.claimed w x in call_step w (made_of a w k.owned.settled made) k) tr first in
+          keeps-chain m v r few ports (course_joined x.1
+          (behind_keeps t behind (follows.claimed mid x.0).owned.settled))
 
-      pub acted_keeps : {old mid : World} {outcomes : List Outcome} → AttemptLog a old outcomes mid → IsMade a mid → P old → AtPorts old.left → KeepsBy m v r old (after (attempt a) mid)
+      pub acted_keeps : {old mid : World} {outcomes : List Outcome} → AttemptLog a old outcomes mid
+          → IsMade a mid → P old → AtPorts old.left → KeepsBy m v r old (after (attempt a) mid)
       acted_keeps {old} {mid} tr there first ports =
-          let x : P mid × Course (KeepsStep m v r few) old mid = trail_with P follows.onward (λ w made x. let k : ClaimedAt q t.addr w = follows.claimed w x in call_step w (made_of a w k.owned.settled made) k) tr first in
-          keeps-chain m v r few ports (course_then (attempt a) x.1 (call_step mid there (follows.claimed mid x.0)))
+          let x : P mid × Course (KeepsStep m v r few) old mid =
+          trail_with P follows.onward (λ w made x. let k : ClaimedAt q t.addr w =
+          follows.claimed w x in call_step w (made_of a w k.owned.settled made) k) tr first in
+          keeps-chain m v r few ports (course_then (attempt a) x.1
+          (call_step mid there (follows.claimed mid x.0)))
 
 -- A call that was done: up to the attempt that did it, and since
 
-pub rests_backlog : (t : Target) {w x : World} → Course (IsBehind t) w x → IsSettled w.roots → KeepsAll w x
-rests_backlog t c settled = record { all = λ ports m v r few. keeps-chain m v r few ports (behind_keeps m v r few t c settled) }
+pub rests_backlog : (t : Target) {w x : World} → Course (IsBehind t) w x → IsSettled w.roots
+    → KeepsAll w x
+rests_backlog t c settled = record {
+  all =
+      λ ports m v r few. keeps-chain m v r few ports (behind_keeps m v r few t c settled);
+}
 
 -- up to the moment at which a request was accepted that sets no feature of a port
-pub asked_backlog : (t : Target) (request : Setup) → Is request PORT_OUT SET_FEATURE ≡ false → {j : Location} {s v : State} {old now : World} → AcceptedAt t (bytes_of request) old now j s v → IsSettled old.roots → KeepsAll old now
+pub asked_backlog : (t : Target) (request : Setup) → Is request PORT_OUT SET_FEATURE ≡ false
+    → {j : Location} {s v : State} {old now : World} → AcceptedAt t (bytes_of request) old now j s v
+    → IsSettled old.roots → KeepsAll old now
 asked_backlog t request plain {old} {now} at settled =
     subst (KeepsAll old) (sym at.last)
     (record {
       all = λ ports m v r few.
           keeps-chain m v r few ports
           (request_keeps m v r few t request (request_sets_none request plain)
-          (course_then {K = IsOfTransfer t request} (attempt (setup_attempt t (bytes_of request))) (trail_course (λ w made. inl refl) at.trail) (inl refl)) settled);
+          (course_then {K = IsOfTransfer t request} (attempt (setup_attempt t (bytes_of request)))
+          (trail_course (λ w made. inl refl) at.trail) (inl refl)) settled);
     })
 
 -- Whole transfers
@@ -127,16 +164,30 @@ read_plain request host = rw (other request.request_type PORT_OUT host (omega ar
     other : (n m : ℕ) → 128 ≤ n → m ≤ 127 → (n == m) ≡ false
     other n m far near = grind (arith, nat_tests, far, near)
 
-pub reads_backlog : (t : Target) (request : Setup) (result : Result (Vec ℕ) PipeFault) (old new : World) → IsToHost request → IsSettled old.roots → Reads t request old result new → IsNoBusFault result → KeepsAll old new
+pub reads_backlog : (t : Target) (request : Setup) (result : Result (Vec ℕ) PipeFault)
+    (old new : World) → IsToHost request → IsSettled old.roots → Reads t request old result new
+    → IsNoBusFault result → KeepsAll old new
 reads_backlog t request result old new host settled reads sound =
-    record { all = λ ports m v r few. keeps-chain m v r few ports (request_keeps m v r few t request (request_sets_none request (read_plain request host)) ((read_attempts t request result old new reads).whole sound) settled) }
+    record {
+      all = λ ports m v r few. keeps-chain m v r few ports
+          (request_keeps m v r few t request (request_sets_none request (read_plain request host))
+          ((read_attempts t request result old new reads).whole sound) settled);
+    }
 
-pub write_backlog : (t : Target) (request : Setup) (result : Result (Unit {0}) PipeFault) (old new : World) → IsSettled old.roots → Writes t request old result new → Is request PORT_OUT SET_FEATURE ≡ false → IsNoBusFault result → KeepsAll old new
+pub write_backlog : (t : Target) (request : Setup) (result : Result (Unit {0}) PipeFault)
+    (old new : World) → IsSettled old.roots → Writes t request old result new
+    → Is request PORT_OUT SET_FEATURE ≡ false → IsNoBusFault result → KeepsAll old new
 write_backlog t request result old new settled writes plain sound =
-    record { all = λ ports m v r few. keeps-chain m v r few ports (request_keeps m v r few t request (request_sets_none request plain) ((write_attempts t request result old new writes).whole sound) settled) }
+    record {
+      all = λ ports m v r few. keeps-chain m v r few ports
+          (request_keeps m v r few t request (request_sets_none request plain)
+          ((write_attempts t request result old new writes).whole sound) settled);
+    }
 
 -- the covers of a call at a port, for whoever stands there
-pub holder_covers : (m r : PortMark) (q : List ℕ) (i : ℕ) (c : PortCall) → CoversCall m r (q ++ (suc i ∷ [])) c → (x : Location) → path_to x ≡ q → Covers m r x.row x.rest i c
+pub holder_covers : (m r : PortMark) (q : List ℕ) (i : ℕ) (c : PortCall)
+    → CoversCall m r (q ++ (suc i ∷ [])) c → (x : Location) → path_to x ≡ q
+    → Covers m r x.row x.rest i c
 holder_covers m r q i c covers x same = record {
   power = λ g. subst (λ q. is_marked m (q ++ (suc i ∷ [])) ≡ true) (sym same) (covers.power g);
   reset = λ g. subst (λ q. is_marked r (q ++ (suc i ∷ [])) ≡ true) (sym same) (covers.reset g);

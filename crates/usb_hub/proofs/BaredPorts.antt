@@ -1,12 +1,14 @@
 -- Nothing is reached at a port that is not enabled, nor below it.
-use Rattle.std.proofs.Common.{◌≡◌, ◌&&◌, ℕ, zero, suc, Bool, true, false, List, [], ◌∷◌, ◌++◌, Option, None, Some, option_map, Ok, refl, ap, sym, subst, ◌∙◌}
+use Rattle.std.proofs.Common.{◌≡◌, ◌&&◌, ℕ, zero, suc, Bool, true, false, List, [], ◌∷◌, ◌++◌}
+use Rattle.std.proofs.Common.{Option, None, Some, option_map, Ok, refl, ap, sym, subst, ◌∙◌}
 use Rattle.std.specs.Prelude.{IfSome}
 use Rattle.usb_request.specs.Features.{PORT_ENABLE}
 use Rattle.usb_port.specs.PortState.{PortState}
 use Rattle.usb_port.specs.declared.status.PortStatus.{PortStatus}
 use Rattle.usb_port.specs.declared.call.PortCall.TheVariants.{ClearEnable}
 use Rattle.usb_port.specs.Calls.{clear_call, called_port}
-use Rattle.usb_device.specs.Tree.{Ports, ended, vacant, taken, port_of, place, port_at, reach, reach_at}
+use Rattle.usb_device.specs.Tree.{Ports, ended, vacant, taken, port_of, place, port_at, reach}
+use Rattle.usb_device.specs.Tree.{reach_at}
 use Rattle.usb_device.specs.View.{port_there}
 use Rattle.usb_tree.specs.Paths.{is_way}
 use Rattle.usb_world.specs.Steps.{after}
@@ -18,7 +20,8 @@ use Rattle.usb_address.specs.Ownership.{MapHolds, WhileBusWorks, KeepsAddresses}
 use Rattle.usb_address.proofs.Interface.{bared}
 use Rattle.usb_hub.specs.declared.port.HubPort.{HubPort}
 use Rattle.usb_hub.specs.Addresses.{Isolates}
-use Rattle.usb_hub.specs.Moments.{OnReachedRow, PortStatusAt, ReadsPort, ports_at_step, PortCallDone, CommandsPort}
+use Rattle.usb_hub.specs.Moments.{OnReachedRow, PortStatusAt, ReadsPort, ports_at_step}
+use Rattle.usb_hub.specs.Moments.{PortCallDone, CommandsPort}
 use Rattle.usb_hub.specs.Requests.{TouchesNoPort}
 use Rattle.usb_hub.proofs.CalledPorts.{port_of_place, port_of_called}
 
@@ -26,7 +29,8 @@ use Rattle.usb_hub.proofs.CalledPorts.{port_of_place, port_of_called}
 abbrev pub Shut : Ports → List ℕ → Type 0
 Shut k p = IfSome (port_there k p) (λ b. b.enable ≡ false)
 
-reach_at-disabled : (k : Ports) (i : ℕ) (e r : List ℕ) → IfSome (port_at k i e) (λ b. b.enable ≡ false) → reach_at k i (e ++ r) ≡ false
+reach_at-disabled : (k : Ports) (i : ℕ) (e r : List ℕ)
+    → IfSome (port_at k i e) (λ b. b.enable ≡ false) → reach_at k i (e ++ r) ≡ false
 unfolding port_at reach_at
 reach_at-disabled ended i e r off = refl
 reach_at-disabled (vacant b k) zero e r off = refl
@@ -35,21 +39,26 @@ reach_at-disabled (taken b s a k) zero [] [] off = off
 reach_at-disabled (taken b s a k) zero [] (zero ∷ r) off = refl
 reach_at-disabled (taken b s a k) zero [] (suc m ∷ r) off = ap (λ x. x && reach_at a m r) off
 reach_at-disabled (taken b s a k) zero (zero ∷ e) r off = refl
-reach_at-disabled (taken b s a k) zero (suc m ∷ e) r off = ap (λ x. b.enable && x) (reach_at-disabled a m e r off) ∙ and_false b.enable
+reach_at-disabled (taken b s a k) zero (suc m ∷ e) r off =
+    ap (λ x. b.enable && x) (reach_at-disabled a m e r off) ∙ and_false b.enable
 reach_at-disabled (taken b s a k) (suc i) e r off = reach_at-disabled k i e r off
 
-shut_rest : (w : World) (q : List ℕ) (n : ℕ) (r : List ℕ) → Shut w.roots (q ++ (n ∷ [])) → reach w.roots ((q ++ (n ∷ [])) ++ r) ≡ false
+shut_rest : (w : World) (q : List ℕ) (n : ℕ) (r : List ℕ) → Shut w.roots (q ++ (n ∷ []))
+    → reach w.roots ((q ++ (n ∷ [])) ++ r) ≡ false
 shut_rest w [] zero r off = refl
 shut_rest w [] (suc i) r off = reach_at-disabled w.roots i [] r off
 shut_rest w (zero ∷ e) n r off = refl
 shut_rest w (suc j ∷ e) n r off = reach_at-disabled w.roots j (e ++ (n ∷ [])) r off
 
 -- it passes nothing on
-pub shut_reach : (w : World) (q : List ℕ) (n : ℕ) → Shut w.roots (q ++ (n ∷ [])) → (x : List ℕ) → is_way (q ++ (n ∷ [])) x ≡ true → reach w.roots x ≡ false
-shut_reach w q n off x way = let rest = way_rest (q ++ (n ∷ [])) x way in ap (reach w.roots) rest.1 ∙ shut_rest w q n rest.0 off
+pub shut_reach : (w : World) (q : List ℕ) (n : ℕ) → Shut w.roots (q ++ (n ∷ [])) → (x : List ℕ)
+    → is_way (q ++ (n ∷ [])) x ≡ true → reach w.roots x ≡ false
+shut_reach w q n off x way = let rest = way_rest (q ++ (n ∷ [])) x way in ap (reach w.roots) rest.1
+    ∙ shut_rest w q n rest.0 off
 
 -- nor does it where nothing was asked of any port since
-shut_since : (mid new : World) (p : List ℕ) → OnReachedRow new p → Shut mid.roots p → TouchesNoPort mid new → (x : List ℕ) → is_way p x ≡ true → reach new.roots x ≡ false
+shut_since : (mid new : World) (p : List ℕ) → OnReachedRow new p → Shut mid.roots p
+    → TouchesNoPort mid new → (x : List ℕ) → is_way p x ≡ true → reach new.roots x ≡ false
 shut_since mid new p row off since x way = pick (reach new.roots x) refl
   where
     before : reach mid.roots x ≡ false
@@ -58,35 +67,57 @@ shut_since mid new p row off since x way = pick (reach new.roots x) refl
         (subst (λ q. is_way q x ≡ true) row.is way)
 
     pick : (on : Bool) → reach new.roots x ≡ on → reach new.roots x ≡ false
-    pick true e = false_true (sym before ∙ (same_device x (course_wider (λ s w k. k.rests) (since x)) e).0)
+    pick true e = false_true (sym before
+        ∙ (same_device x (course_wider (λ s w k. k.rests) (since x)) e).0)
     pick false e = e
 
-pub till_bared : (f : AddressMap) (p : List ℕ) (new : World) → WhileBusWorks (MapHolds f) new → ((x : List ℕ) → is_way p x ≡ true → reach new.roots x ≡ false) → WhileBusWorks (MapHolds (map_without f p)) new
-till_bared f p new kept bare = record { so = λ none. bared f p new bare (kept.so none); single = kept.single }
+pub till_bared : (f : AddressMap) (p : List ℕ) (new : World) → WhileBusWorks (MapHolds f) new
+    → ((x : List ℕ) → is_way p x ≡ true → reach new.roots x ≡ false)
+    → WhileBusWorks (MapHolds (map_without f p)) new
+till_bared f p new kept bare = record {
+  so = λ none. bared f p new bare (kept.so none);
+  single =
+      kept.single;
+}
 
 -- its status was told, and it is not enabled
-pub port_told_bares : (port : HubPort) (status : PortStatus) (old new : World) → KeepsAddresses old new → ReadsPort port old (Ok status) new → status.enabled ≡ false → Isolates port old new
+pub port_told_bares : (port : HubPort) (status : PortStatus) (old new : World)
+    → KeepsAddresses old new → ReadsPort port old (Ok status) new → status.enabled ≡ false
+    → Isolates port old new
 port_told_bares port status old new keeps tells off = record {
   bares = λ f p at o.
       let told : PortStatusAt p status old new = tells.tells f p at o status refl in
       till_bared f p new (keeps.kept f o)
-      (shut_since told.now new p told.row (subst (λ x. IfSome x (λ b. b.enable ≡ false)) (sym told.stood) (sym (ap (λ s. s.enabled) told.is) ∙ off)) told.since);
+      (shut_since told.now new p told.row (subst (λ x. IfSome x (λ b. b.enable ≡ false))
+      (sym told.stood) (sym (ap (λ s. s.enabled) told.is) ∙ off)) told.since);
 }
 
 -- PORT_ENABLE was cleared
-pub disabled_port : (o : Option PortState) → IfSome (option_map (called_port ClearEnable) o) (λ b. b.enable ≡ false)
+pub disabled_port : (o : Option PortState)
+    → IfSome (option_map (called_port ClearEnable) o) (λ b. b.enable ≡ false)
 disabled_port None = tt
 disabled_port (Some b) = refl
 
-done_shut : (p : List ℕ) (old new : World) (x : PortCallDone p ClearEnable old new) → Shut (after x.last x.before).roots p
+done_shut : (p : List ℕ) (old new : World) (x : PortCallDone p ClearEnable old new)
+    → Shut (after x.last x.before).roots p
 done_shut p old new x =
     subst (λ o. IfSome o (λ b. b.enable ≡ false))
-    (sym (port_of_place (after x.last x.before).roots p ∙ ap (option_map port_of) x.done ∙ port_of_called ClearEnable (place (ports_at_step x.last x.before) p)))
+    (sym (port_of_place (after x.last x.before).roots p ∙ ap (option_map port_of) x.done
+    ∙ port_of_called ClearEnable (place (ports_at_step x.last x.before) p)))
     (disabled_port (option_map port_of (place (ports_at_step x.last x.before) p)))
 
-pub done_bares : (port : HubPort) (old new : World) → KeepsAddresses old new → CommandsPort port (clear_call PORT_ENABLE) old (Ok tt) new → Isolates port old new
+pub done_bares : (port : HubPort) (old new : World) → KeepsAddresses old new
+    → CommandsPort port (clear_call PORT_ENABLE) old (Ok tt) new → Isolates port old new
 done_bares port old new keeps calls = record {
   bares = λ f p at o.
-      let done : PortCallDone p ClearEnable old new = calls.done f p ClearEnable (record { at = at; is = refl; alone = λ resets. absurd (cc resets); owned = o }) refl in
-      till_bared f p new (keeps.kept f o) (shut_since (after done.last done.before) new p done.row (done_shut p old new done) done.since);
+      let done : PortCallDone p ClearEnable old new =
+      calls.done f p ClearEnable (record {
+        at = at;
+        is = refl;
+        alone =
+            λ resets. absurd (cc resets);
+        owned = o;
+      }) refl in
+      till_bared f p new (keeps.kept f o) (shut_since (after done.last done.before) new p done.row
+      (done_shut p old new done) done.since);
 }

@@ -1,12 +1,19 @@
--- What a port is after a call that was done there: what the call makes of what it was, or what was told of it; or a change of connection is pending.
-use Rattle.std.proofs.Common.{◌≡◌, ℕ, zero, suc, ◌&&◌, ◌⊎◌, inl, inr, if◌then◌else◌, Bool, true, false, List, [], ◌∷◌, ◌++◌, Option, None, Some, option_map, refl, ap, sym, subst, ◌∙◌}
+-- What a port is after a call that was done there: what the call makes of what it was, or what was
+-- told of it; or a change of connection is pending.
+use Rattle.std.proofs.Common.{◌≡◌, ℕ, zero, suc, ◌&&◌, ◌⊎◌, inl, inr, if◌then◌else◌, Bool, true}
+use Rattle.std.proofs.Common.{false, List, [], ◌∷◌, ◌++◌, Option, None, Some, option_map, refl, ap}
+use Rattle.std.proofs.Common.{sym, subst, ◌∙◌}
 use Rattle.std.proofs.lemmas.Option.{same_Some}
 use Rattle.usb_port.specs.PortState.{PortState, is_attached, powered_on, reset}
 use Rattle.usb_port.specs.declared.status.PortStatus.{PortStatus}
 use Rattle.usb_port.specs.declared.call.PortCall.{PortCall}
-use Rattle.usb_port.specs.declared.call.PortCall.TheVariants.{SetPower, SetReset, ClearEnable, ClearPower, ClearConnectionChange, ClearEnableChange, ClearResetChange}
+use Rattle.usb_port.specs.declared.call.PortCall.TheVariants.{SetPower, SetReset, ClearEnable}
+use Rattle.usb_port.specs.declared.call.PortCall.TheVariants.{ClearPower, ClearConnectionChange}
+use Rattle.usb_port.specs.declared.call.PortCall.TheVariants.{ClearEnableChange, ClearResetChange}
 use Rattle.usb_port.specs.Calls.{is_reset, called_port}
-use Rattle.usb_device.specs.Tree.{Ports, ended, vacant, taken, Place, empty, full, port_of, reset_where, called, place, place_at, port_at, reach, reach_at, state_at}
+use Rattle.usb_device.specs.Tree.{Ports, ended, vacant, taken, Place, empty, full, port_of}
+use Rattle.usb_device.specs.Tree.{reset_where, called, place, place_at, port_at, reach, reach_at}
+use Rattle.usb_device.specs.Tree.{state_at}
 use Rattle.usb_device.specs.Rows.{State}
 use Rattle.usb_device.specs.View.{port_there, state_there}
 use Rattle.usb_world.specs.declared.event.Event.{Event}
@@ -15,17 +22,23 @@ use Rattle.usb_world.specs.Courses.{step_keeps_pending, resets}
 use Rattle.usb_tree.specs.Paths.{has_power, pending}
 use Rattle.usb_world.specs.PlanCourses.{spec_of}
 use Rattle.usb_world.specs.PortRequests.{AsksNothing, leaves_step, row_reached}
-use Rattle.usb_world.specs.RestingPorts.{LeavesPortAlone, SameAt, UnchangedOrPending, SameDeviceOrPending}
-use Rattle.usb_world.specs.Steps.{Step, attempt, root_call, event, report, after, with_attempt, at_attempt, after_due_events, after_event, is_due, Course, here, step}
+use Rattle.usb_world.specs.RestingPorts.{LeavesPortAlone, SameAt, UnchangedOrPending}
+use Rattle.usb_world.specs.RestingPorts.{SameDeviceOrPending}
+use Rattle.usb_world.specs.Steps.{Step, attempt, root_call, event, report, after, with_attempt}
+use Rattle.usb_world.specs.Steps.{at_attempt, after_due_events, after_event, is_due, Course, here}
+use Rattle.usb_world.specs.Steps.{step}
 use Rattle.usb_tree.specs.WayEffects.{keeps_pending}
 use Rattle.usb_world.specs.World.{World}
-use Rattle.usb_world.proofs.Interface.{MadeOrNot, attempt_cases, course_wider, made_pend, made_sound, pending_persists, rests_or_pends, stands_or_pends}
+use Rattle.usb_world.proofs.Interface.{MadeOrNot, attempt_cases, course_wider, made_pend}
+use Rattle.usb_world.proofs.Interface.{made_sound, pending_persists, rests_or_pends}
+use Rattle.usb_world.proofs.Interface.{stands_or_pends}
 use Rattle.usb_tree.proofs.Interface.{and_of, both, false_true}
 use Rattle.usb_hub.specs.Moments.{OnReachedRow, PortStatusAt, ports_at_step, ActsAt, PortCallDone}
 
 -- The port of a place
 
-port_at_place : (k : Ports) (j : ℕ) (p : List ℕ) → port_at k j p ≡ option_map port_of (place_at k j p)
+port_at_place : (k : Ports) (j : ℕ) (p : List ℕ)
+    → port_at k j p ≡ option_map port_of (place_at k j p)
 unfolding port_at place_at
 port_at_place ended j p = refl
 port_at_place (vacant b k) zero [] = refl
@@ -41,12 +54,15 @@ port_of_place k [] = refl
 port_of_place k (zero ∷ p) = refl
 port_of_place k (suc j ∷ p) = port_at_place k j p
 
-pub port_of_called : (c : PortCall) (o : Option Place) → option_map port_of (option_map (called c) o) ≡ option_map (called_port c) (option_map port_of o)
+pub port_of_called : (c : PortCall) (o : Option Place)
+    → option_map port_of (option_map (called c) o) ≡ option_map (called_port c)
+    (option_map port_of o)
 port_of_called c None = refl
 port_of_called c (Some (empty b)) = refl
 port_of_called c (Some (full b s a)) = split (is_reset c && (b.power && is_attached b.attached))
   where
-    split : (x : Bool) → Some (port_of (reset_where x (called_port c b) s a)) ≡ Some (called_port c b)
+    split : (x : Bool) → Some (port_of (reset_where x (called_port c b) s a))
+        ≡ Some (called_port c b)
     split true = refl
     split false = refl
 
@@ -68,7 +84,8 @@ called_twice ClearConnectionChange b = refl
 called_twice ClearEnableChange b = refl
 called_twice ClearResetChange b = refl
 
-some_twice : (c : PortCall) (o : Option PortState) → option_map (called_port c) (option_map (called_port c) o) ≡ option_map (called_port c) o
+some_twice : (c : PortCall) (o : Option PortState)
+    → option_map (called_port c) (option_map (called_port c) o) ≡ option_map (called_port c) o
 some_twice c None = refl
 some_twice c (Some b) = ap (λ x. Some x) (called_twice c b)
 
@@ -78,12 +95,16 @@ event_asks_nothing : (p : List ℕ) (w : World) → AsksNothing event w p
 unfolding step_keeps_pending resets leaves_step
 event_asks_nothing p w = record { spares = refl; rests = refl; leaves = refl }
 
-pub due_course : (p : List ℕ) (es : List Event) (w : World) → w.left ≡ es → w.fault ≡ None → Course (LeavesPortAlone p) w (after_due_events es w)
+pub due_course : (p : List ℕ) (es : List Event) (w : World) → w.left ≡ es → w.fault ≡ None
+    → Course (LeavesPortAlone p) w (after_due_events es w)
 unfolding after_due_events after_event after
 due_course p [] w l f = here w
 due_course p (e ∷ es) w l f =
-    elim (is_due e w) as (λ b. Course (LeavesPortAlone p) w (if b then after_due_events es (after_event e es w) else w)) [
-      | true ↦ step event (event_asks_nothing p w) (subst (λ v. Course (LeavesPortAlone p) v (after_due_events es (after_event e es w))) (sym comes) (due_course p es (after_event e es w) refl f))
+    elim (is_due e w) as (λ b. Course (LeavesPortAlone p) w
+    (if b then after_due_events es (after_event e es w) else w)) [
+      | true ↦ step event (event_asks_nothing p w)
+          (subst (λ v. Course (LeavesPortAlone p) v (after_due_events es (after_event e es w)))
+          (sym comes) (due_course p es (after_event e es w) refl f))
       | false ↦ here w
     ]
   where
@@ -95,11 +116,14 @@ due_course p (e ∷ es) w l f =
 module _ (p : List ℕ) (c : PortCall) where
   -- the port as it was, or called
   abbrev pub KeptOrCalled : World → World → Type 0
-  KeptOrCalled w v = (port_there v.roots p ≡ port_there w.roots p) ⊎ (port_there v.roots p ≡ option_map (called_port c) (port_there w.roots p))
+  KeptOrCalled w v = (port_there v.roots p ≡ port_there w.roots p)
+      ⊎ (port_there v.roots p ≡ option_map (called_port c) (port_there w.roots p))
 
   -- powered on its whole way, with the same device or none, and so of its port; or pending
   abbrev pub StandsSo : (World → World → Type 0) → World → World → Type 0
-  StandsSo K w v = ((has_power v.roots p ≡ true) × K w v × (option_map spec_of (state_there v.roots p) ≡ option_map spec_of (state_there w.roots p))) ⊎ (pending v.roots p ≡ true)
+  StandsSo K w v = ((has_power v.roots p ≡ true) × K w v
+      × (option_map spec_of (state_there v.roots p) ≡ option_map spec_of (state_there w.roots p)))
+      ⊎ (pending v.roots p ≡ true)
 
   abbrev pub Called : World → World → Type 0
   Called w v = port_there v.roots p ≡ option_map (called_port c) (port_there w.roots p)
@@ -108,14 +132,18 @@ module _ (p : List ℕ) (c : PortCall) where
   kept_then w m v (inl a) (inl b) = inl (b ∙ a)
   kept_then w m v (inl a) (inr b) = inr (b ∙ ap (option_map (called_port c)) a)
   kept_then w m v (inr a) (inl b) = inr (b ∙ a)
-  kept_then w m v (inr a) (inr b) = inr (b ∙ ap (option_map (called_port c)) a ∙ some_twice c (port_there w.roots p))
+  kept_then w m v (inr a) (inr b) = inr (b ∙ ap (option_map (called_port c)) a
+      ∙ some_twice c (port_there w.roots p))
 
   called_then : (w m v : World) → KeptOrCalled w m → Called m v → Called w v
   called_then w m v (inl a) b = b ∙ ap (option_map (called_port c)) a
-  called_then w m v (inr a) b = b ∙ ap (option_map (called_port c)) a ∙ some_twice c (port_there w.roots p)
+  called_then w m v (inr a) b = b ∙ ap (option_map (called_port c)) a
+      ∙ some_twice c (port_there w.roots p)
 
   -- two worlds on
-  then_so : (K L M : World → World → Type 0) (w m v : World) → (K w m → L m v → M w v) → StandsSo K w m → (has_power m.roots p ≡ true → StandsSo L m v) → (pending m.roots p ≡ true → pending v.roots p ≡ true) → StandsSo M w v
+  then_so : (K L M : World → World → Type 0) (w m v : World) → (K w m → L m v → M w v)
+      → StandsSo K w m → (has_power m.roots p ≡ true → StandsSo L m v)
+      → (pending m.roots p ≡ true → pending v.roots p ≡ true) → StandsSo M w v
   then_so K L M w m v joins (inl x) on pending = pick (on x.0)
     where
       pick : StandsSo L m v → StandsSo M w v
@@ -123,51 +151,66 @@ module _ (p : List ℕ) (c : PortCall) where
       pick (inr y) = inr y
   then_so K L M w m v joins (inr x) on pending = inr (pending x)
 
-  -- the port that a step's own change comes to is as it was; or a change is pending after the step; or it came to nothing
+  -- the port that a step's own change comes to is as it was; or a change is pending after the step;
+  -- or it came to nothing
   data Met (s : Step) (w : World) : Type 0 where
     same : port_there (ports_at_step s w) p ≡ port_there w.roots p → Met s w
     pends : pending (after s w).roots p ≡ true → Met s w
     nothing : (after s w).roots ≡ w.roots → Met s w
 
-  attempt_met : (a : Attempt) (w : World) → step_keeps_pending (attempt a) w p ≡ true → has_power w.roots p ≡ true → Met (attempt a) w
+  attempt_met : (a : Attempt) (w : World) → step_keeps_pending (attempt a) w p ≡ true
+      → has_power w.roots p ≡ true → Met (attempt a) w
   unfolding after step_keeps_pending at_attempt
   attempt_met a w sp on = cases (attempt_cases a w)
     where
-      made : w.fault ≡ None → after (attempt a) w ≡ with_attempt a (at_attempt w) → Met (attempt a) w
+      made : w.fault ≡ None → after (attempt a) w ≡ with_attempt a (at_attempt w)
+          → Met (attempt a) w
       made sound is = pick (rests_or_pends p (due_course p w.left w refl sound) on)
         where
           pick : UnchangedOrPending w (at_attempt w) p → Met (attempt a) w
           pick (inl y) = same y.1.port
-          pick (inr y) = pends (subst (λ v. pending v.roots p ≡ true) (sym is) (made_pend a (at_attempt w) p sp y))
+          pick (inr y) = pends (subst (λ v. pending v.roots p ≡ true) (sym is)
+              (made_pend a (at_attempt w) p sp y))
 
       cases : MadeOrNot a w (after (attempt a) w) → Met (attempt a) w
       cases (inl e) = nothing (ap (λ v. v.roots) e)
       cases (inr m) = made (made_sound w m.0) m.1
 
-  step_met : (s : Step) (w : World) → step_keeps_pending s w p ≡ true → has_power w.roots p ≡ true → Met s w
+  step_met : (s : Step) (w : World) → step_keeps_pending s w p ≡ true → has_power w.roots p ≡ true
+      → Met s w
   step_met (attempt a) w sp on = attempt_met a w sp on
   step_met (root_call d n) w sp on = same refl
   step_met event w sp on = same refl
   step_met (report line) w sp on = same refl
 
   -- the port after a step, by what stands there
-  port_after : (s : Step) (w : World) (o : Option Place) → place (after s w).roots p ≡ o → port_there (after s w).roots p ≡ option_map port_of o
+  port_after : (s : Step) (w : World) (o : Option Place) → place (after s w).roots p ≡ o
+      → port_there (after s w).roots p ≡ option_map port_of o
   port_after s w o e = port_of_place (after s w).roots p ∙ ap (option_map port_of) e
 
-  port_kept : (s : Step) (w : World) → ActsAt p c s w → port_there (ports_at_step s w) p ≡ port_there w.roots p → KeptOrCalled w (after s w)
+  port_kept : (s : Step) (w : World) → ActsAt p c s w → port_there (ports_at_step s w) p
+      ≡ port_there w.roots p → KeptOrCalled w (after s w)
   port_kept s w k e = pick k.port
     where
-      pick : (place (after s w).roots p ≡ place (ports_at_step s w) p) ⊎ (place (after s w).roots p ≡ option_map (called c) (place (ports_at_step s w) p)) → KeptOrCalled w (after s w)
+      pick : (place (after s w).roots p ≡ place (ports_at_step s w) p)
+          ⊎ (place (after s w).roots p ≡ option_map (called c) (place (ports_at_step s w) p))
+          → KeptOrCalled w (after s w)
       pick (inl x) = inl (port_after s w _ x ∙ sym (port_of_place (ports_at_step s w) p) ∙ e)
-      pick (inr x) = inr (port_after s w _ x ∙ port_of_called c (place (ports_at_step s w) p) ∙ ap (option_map (called_port c)) (sym (port_of_place (ports_at_step s w) p) ∙ e))
+      pick (inr x) = inr (port_after s w _ x ∙ port_of_called c (place (ports_at_step s w) p)
+          ∙ ap (option_map (called_port c)) (sym (port_of_place (ports_at_step s w) p) ∙ e))
 
   module _ (keeps : keeps_pending c [] ≡ true) where
     -- what one step leaves, where it says so of the port that it comes to
-    step_so : (K : World → World → Type 0) (s : Step) (w : World) → ActsAt p c s w → (port_there (ports_at_step s w) p ≡ port_there w.roots p → K w (after s w)) → ((after s w).roots ≡ w.roots → K w (after s w))
+    step_so : (K : World → World → Type 0) (s : Step) (w : World) → ActsAt p c s w
+        → (port_there (ports_at_step s w) p ≡ port_there w.roots p → K w (after s w))
+        → ((after s w).roots ≡ w.roots → K w (after s w))
         → has_power w.roots p ≡ true → StandsSo K w (after s w)
-    step_so K s w k there idle on = pick (stands_or_pends p (step s (k.about.spares keeps) (here (after s w))) on)
+    step_so K s w k there idle on =
+        pick (stands_or_pends p (step s (k.about.spares keeps) (here (after s w))) on)
       where
-        by_met : has_power (after s w).roots p ≡ true → option_map spec_of (state_there (after s w).roots p) ≡ option_map spec_of (state_there w.roots p) → Met s w → StandsSo K w (after s w)
+        by_met : has_power (after s w).roots p ≡ true
+            → option_map spec_of (state_there (after s w).roots p)
+            ≡ option_map spec_of (state_there w.roots p) → Met s w → StandsSo K w (after s w)
         by_met l what (same e) = inl (l, there e, what)
         by_met l what (pends e) = inr e
         by_met l what (nothing e) = inl (l, idle e, what)
@@ -176,7 +219,8 @@ module _ (p : List ℕ) (c : PortCall) where
         pick (inl x) = by_met x.0 x.1 (step_met s w (k.about.spares keeps) on)
         pick (inr x) = inr x
 
-    steps_so : {w v : World} → Course (ActsAt p c) w v → has_power w.roots p ≡ true → StandsSo KeptOrCalled w v
+    steps_so : {w v : World} → Course (ActsAt p c) w v → has_power w.roots p ≡ true
+        → StandsSo KeptOrCalled w v
     steps_so (here w) on = inl (on, inl refl, refl)
     steps_so (step s {w} {v} k more) on =
         then_so KeptOrCalled KeptOrCalled KeptOrCalled w (after s w) v (kept_then w (after s w) v)
@@ -185,48 +229,66 @@ module _ (p : List ℕ) (c : PortCall) where
 
     module _ (old new : World) (x : PortCallDone p c old new) where
       -- the step that called it
-      last_called : port_there (after x.last x.before).roots p ≡ option_map (called_port c) (port_there (ports_at_step x.last x.before) p)
-      last_called = port_after x.last x.before _ x.done ∙ port_of_called c (place (ports_at_step x.last x.before) p) ∙ ap (option_map (called_port c)) (sym (port_of_place (ports_at_step x.last x.before) p))
+      last_called : port_there (after x.last x.before).roots p ≡ option_map (called_port c)
+          (port_there (ports_at_step x.last x.before) p)
+      last_called = port_after x.last x.before _ x.done
+          ∙ port_of_called c (place (ports_at_step x.last x.before) p)
+          ∙ ap (option_map (called_port c)) (sym (port_of_place (ports_at_step x.last x.before) p))
 
       -- where it came to nothing, it was called already
-      idle_called : (after x.last x.before).roots ≡ x.before.roots → Called x.before (after x.last x.before)
+      idle_called : (after x.last x.before).roots ≡ x.before.roots
+          → Called x.before (after x.last x.before)
       idle_called e =
           last_called ∙ sym (some_twice c (port_there (ports_at_step x.last x.before) p))
           ∙ ap (option_map (called_port c)) (sym last_called ∙ ap (λ t. port_there t p) e)
 
       last_so : has_power x.before.roots p ≡ true → StandsSo Called x.before (after x.last x.before)
-      last_so on = step_so Called x.last x.before x.acts (λ e. last_called ∙ ap (option_map (called_port c)) e) idle_called on
+      last_so on = step_so Called x.last x.before x.acts (λ e. last_called
+          ∙ ap (option_map (called_port c)) e) idle_called on
 
-      since_so : has_power (after x.last x.before).roots p ≡ true → StandsSo KeptOrCalled (after x.last x.before) new
+      since_so : has_power (after x.last x.before).roots p ≡ true
+          → StandsSo KeptOrCalled (after x.last x.before) new
       since_so on = pick (rests_or_pends p (x.since p) on)
         where
-          pick : UnchangedOrPending (after x.last x.before) new p → StandsSo KeptOrCalled (after x.last x.before) new
+          pick : UnchangedOrPending (after x.last x.before) new p
+              → StandsSo KeptOrCalled (after x.last x.before) new
           pick (inl y) = inl (y.0, inl y.1.port, y.1.what)
           pick (inr y) = inr y
 
       now_called : has_power old.roots p ≡ true → StandsSo Called old (after x.last x.before)
       now_called on =
-          then_so KeptOrCalled Called Called old x.before (after x.last x.before) (called_then old x.before (after x.last x.before))
-          (steps_so x.repeats on) last_so (pending_persists p (step x.last (x.acts.about.spares keeps) (here (after x.last x.before))))
+          then_so KeptOrCalled Called Called old x.before (after x.last x.before)
+          (called_then old x.before (after x.last x.before))
+          (steps_so x.repeats on) last_so (pending_persists p
+          (step x.last (x.acts.about.spares keeps) (here (after x.last x.before))))
 
-      -- a port that was powered on its whole way is so still, with the same device or none, and is what the call makes of it; or a change is pending
+      -- a port that was powered on its whole way is so still, with the same device or none, and is
+      -- what the call makes of it; or a change is pending
       pub done_stands : has_power old.roots p ≡ true → StandsSo Called old new
       done_stands on =
           then_so Called KeptOrCalled Called old (after x.last x.before) new called_on
-          (now_called on) since_so (pending_persists p (course_wider (λ s w y. y.spares) (x.since p)))
+          (now_called on) since_so (pending_persists p
+          (course_wider (λ s w y. y.spares) (x.since p)))
         where
-          called_on : Called old (after x.last x.before) → KeptOrCalled (after x.last x.before) new → Called old new
+          called_on : Called old (after x.last x.before) → KeptOrCalled (after x.last x.before) new
+              → Called old new
           called_on a (inl b) = b ∙ a
-          called_on a (inr b) = b ∙ ap (option_map (called_port c)) a ∙ some_twice c (port_there old.roots p)
+          called_on a (inr b) = b ∙ ap (option_map (called_port c)) a
+              ∙ some_twice c (port_there old.roots p)
 
--- A port whose status was told: it is powered on its whole way, with the same device or none, and as it was told; or a change is pending
+-- A port whose status was told: it is powered on its whole way, with the same device or none, and
+-- as it was told; or a change is pending
 abbrev pub StandsTold : List ℕ → PortState → World → World → Type 0
-StandsTold p b w v = ((has_power v.roots p ≡ true) × (port_there v.roots p ≡ Some b) × (option_map spec_of (state_there v.roots p) ≡ option_map spec_of (state_there w.roots p))) ⊎ (pending v.roots p ≡ true)
+StandsTold p b w v = ((has_power v.roots p ≡ true) × (port_there v.roots p ≡ Some b)
+    × (option_map spec_of (state_there v.roots p) ≡ option_map spec_of (state_there w.roots p)))
+    ⊎ (pending v.roots p ≡ true)
 
-pub told_stands : (p : List ℕ) (status : PortStatus) (old new : World) (x : PortStatusAt p status old new) → has_power old.roots p ≡ true → StandsTold p x.port old new
+pub told_stands : (p : List ℕ) (status : PortStatus) (old new : World)
+    (x : PortStatusAt p status old new) → has_power old.roots p ≡ true → StandsTold p x.port old new
 told_stands p status old new x on = first (rests_or_pends p (x.before p) on)
   where
-    second : SameAt old.roots x.now.roots p → UnchangedOrPending x.now new p → StandsTold p x.port old new
+    second : SameAt old.roots x.now.roots p → UnchangedOrPending x.now new p
+        → StandsTold p x.port old new
     second a (inl y) = inl (y.0, y.1.port ∙ x.stood, y.1.what ∙ a.what)
     second a (inr y) = inr y
 
@@ -236,7 +298,8 @@ told_stands p status old new x on = first (rests_or_pends p (x.before p) on)
 
 -- A device on an enabled port of the host, or of a device that is reached, is reached
 
-enabled_row : (k : Ports) (m : ℕ) (b : PortState) (s : State) → port_at k m [] ≡ Some b → b.enable ≡ true → state_at k m [] ≡ Some s → reach_at k m [] ≡ true
+enabled_row : (k : Ports) (m : ℕ) (b : PortState) (s : State) → port_at k m [] ≡ Some b
+    → b.enable ≡ true → state_at k m [] ≡ Some s → reach_at k m [] ≡ true
 unfolding port_at state_at reach_at
 enabled_row ended m b s there e at = absurd (cc at)
 enabled_row (vacant c k) zero b s there e at = absurd (cc at)
@@ -244,25 +307,36 @@ enabled_row (vacant c k) (suc m) b s there e at = enabled_row k m b s there e at
 enabled_row (taken c t a k) zero b s there e at = ap (λ y. y.enable) (same_Some c b there) ∙ e
 enabled_row (taken c t a k) (suc m) b s there e at = enabled_row k m b s there e at
 
-enabled_below : (k : Ports) (j : ℕ) (e : List ℕ) (n : ℕ) (b : PortState) (s : State) → reach_at k j e ≡ true → port_at k j (e ++ (n ∷ [])) ≡ Some b → b.enable ≡ true → state_at k j (e ++ (n ∷ [])) ≡ Some s
+enabled_below : (k : Ports) (j : ℕ) (e : List ℕ) (n : ℕ) (b : PortState) (s : State)
+    → reach_at k j e ≡ true → port_at k j (e ++ (n ∷ [])) ≡ Some b → b.enable ≡ true
+    → state_at k j (e ++ (n ∷ [])) ≡ Some s
     → reach_at k j (e ++ (n ∷ [])) ≡ true
 unfolding port_at state_at reach_at
 enabled_below ended j e n b s on there h at = false_true on
 enabled_below (vacant c k) zero e n b s on there h at = false_true on
 enabled_below (vacant c k) (suc j) e n b s on there h at = enabled_below k j e n b s on there h at
 enabled_below (taken c t a k) zero [] zero b s on there h at = absurd (cc at)
-enabled_below (taken c t a k) zero [] (suc m) b s on there h at = and_of c.enable (reach_at a m []) on (enabled_row a m b s there h at)
+enabled_below (taken c t a k) zero [] (suc m) b s on there h at =
+    and_of c.enable (reach_at a m []) on (enabled_row a m b s there h at)
 enabled_below (taken c t a k) zero (zero ∷ e) n b s on there h at = false_true on
 enabled_below (taken c t a k) zero (suc i ∷ e) n b s on there h at =
-    let x : _ = both c.enable (reach_at a i e) on in and_of c.enable (reach_at a i (e ++ (n ∷ []))) x.0 (enabled_below a i e n b s x.1 there h at)
-enabled_below (taken c t a k) (suc j) e n b s on there h at = enabled_below k j e n b s on there h at
+    let x : _ = both c.enable (reach_at a i e) on in
+    and_of c.enable (reach_at a i (e ++ (n ∷ []))) x.0
+    (enabled_below a i e n b s x.1 there h at)
+enabled_below (taken c t a k) (suc j) e n b s on there h at =
+    enabled_below k j e n b s on there h at
 
-pub enabled_reach : (w : World) (p : List ℕ) → OnReachedRow w p → (b : PortState) → port_there w.roots p ≡ Some b → b.enable ≡ true → (s : State) → state_there w.roots p ≡ Some s → reach w.roots p ≡ true
+pub enabled_reach : (w : World) (p : List ℕ) → OnReachedRow w p → (b : PortState)
+    → port_there w.roots p ≡ Some b → b.enable ≡ true → (s : State) → state_there w.roots p ≡ Some s
+    → reach w.roots p ≡ true
 enabled_reach w p row b there h s at =
     subst (λ x. reach w.roots x ≡ true) (sym row.is)
-    (by_row row.parent row.number row.reached (subst (λ x. port_there w.roots x ≡ Some b) row.is there) (subst (λ x. state_there w.roots x ≡ Some s) row.is at))
+    (by_row row.parent row.number row.reached (subst (λ x. port_there w.roots x ≡ Some b) row.is
+    there) (subst (λ x. state_there w.roots x ≡ Some s) row.is at))
   where
-    by_row : (q : List ℕ) (n : ℕ) → row_reached w.roots q ≡ true → port_there w.roots (q ++ (n ∷ [])) ≡ Some b → state_there w.roots (q ++ (n ∷ [])) ≡ Some s → reach w.roots (q ++ (n ∷ [])) ≡ true
+    by_row : (q : List ℕ) (n : ℕ) → row_reached w.roots q ≡ true
+        → port_there w.roots (q ++ (n ∷ [])) ≡ Some b → state_there w.roots (q ++ (n ∷ [])) ≡ Some s
+        → reach w.roots (q ++ (n ∷ [])) ≡ true
     by_row [] zero on there at = absurd (cc at)
     by_row [] (suc i) on there at = enabled_row w.roots i b s there h at
     by_row (zero ∷ e) n on there at = false_true on

@@ -1,5 +1,8 @@
--- That a call at a port acts there where it is done, and what it asks of ports whatever its answer is.
-use Rattle.std.proofs.Common.{◌≡◌, ◌≢◌, ℕ, zero, suc, ◌⊎◌, ◌||◌, inl, inr, not, Bool, true, false, List, [], ◌∷◌, ◌++◌, Option, None, Some, option_map, Result, Ok, Err, refl, ap, sym, subst, ◌∙◌, arith}
+-- That a call at a port acts there where it is done, and what it asks of ports whatever its answer
+-- is.
+use Rattle.std.proofs.Common.{◌≡◌, ◌≢◌, ℕ, zero, suc, ◌⊎◌, ◌||◌, inl, inr, not, Bool, true, false}
+use Rattle.std.proofs.Common.{List, [], ◌∷◌, ◌++◌, Option, None, Some, option_map, Result, Ok, Err}
+use Rattle.std.proofs.Common.{refl, ap, sym, subst, ◌∙◌, arith}
 use Rattle.std.proofs.lemmas.Option.{same_Some}
 use Rattle.std.specs.Prelude.{MatchResult}
 use Rattle.usb_port.specs.Path.{IsPath, IsPortNumber}
@@ -14,7 +17,8 @@ use Rattle.usb_device.specs.Effect.{effect_of_request, asked_by_setup}
 use Rattle.usb_device.specs.Request.{outcome, port_named, called_at}
 use Rattle.usb_device.specs.Rows.{State}
 use Rattle.usb_device.specs.Transfer.{first_stage, ending}
-use Rattle.usb_device.specs.Tree.{called, acted, place, place_at, reach, Location, path_to, reach_on, state_on, place_on}
+use Rattle.usb_device.specs.Tree.{called, acted, place, place_at, reach, Location, path_to}
+use Rattle.usb_device.specs.Tree.{reach_on, state_on, place_on}
 use Rattle.usb_device.specs.View.{state_there}
 use Rattle.usb_world.specs.declared.types.Attempt.{Attempt}
 use Rattle.usb_world.specs.declared.types.BusFault.{BusFault}
@@ -25,7 +29,8 @@ use Rattle.usb_tree.specs.Paths.{address_of, is_way}
 use Rattle.usb_tree.specs.AttemptPackets.{IsSettled}
 use Rattle.usb_world.specs.PortRequests.{is_sparing}
 use Rattle.usb_world.specs.RestingPorts.{LeavesPortAlone}
-use Rattle.usb_world.specs.Steps.{Step, attempt, root_call, after, at_attempt, Course, here, step as step_then, AttemptFails, SetsRoot, ClearsRoot}
+use Rattle.usb_world.specs.Steps.{Step, attempt, root_call, after, at_attempt, Course, here}
+use Rattle.usb_world.specs.Steps.{step as step_then, AttemptFails, SetsRoot, ClearsRoot}
 use Rattle.usb_tree.specs.WayEffects.{keeps_pending}
 use Rattle.usb_world.specs.World.{World, Attempted}
 use Rattle.usb_world.proofs.Interface.{course_joined, course_wider, made_of, same_is, settled_wider}
@@ -39,7 +44,8 @@ use Rattle.usb_transaction.specs.AttemptLog.{AttemptLog, start, Transacted}
 use Rattle.usb_transaction.specs.Transactions.{in_attempt, setup_attempt, AttemptsMade}
 use Rattle.usb_transaction.proofs.Interface.{trail_course}
 use Rattle.usb_pipe.specs.declared.fault.PipeFault.{PipeFault}
-use Rattle.usb_pipe.specs.declared.fault.PipeFault.TheVariants.{Stalled, Busy, NoAnswer, Broken, Bus, Memory}
+use Rattle.usb_pipe.specs.declared.fault.PipeFault.TheVariants.{Stalled, Busy, NoAnswer, Broken}
+use Rattle.usb_pipe.specs.declared.fault.PipeFault.TheVariants.{Bus, Memory}
 use Rattle.usb_pipe.specs.Control.{as_pipe_fault, FaultAfter}
 use Rattle.usb_pipe.specs.Stages.{SetUp, Writes}
 use Rattle.usb_pipe.specs.Leaves.{IsBehind, IsNoBusFault, EffectDone, WriteLeaves}
@@ -47,26 +53,35 @@ use Rattle.usb_pipe.proofs.Interface.{who_writes, write_attempts, write_leaves}
 use Rattle.usb_address.specs.Claims.{AddressMap}
 use Rattle.usb_address.specs.Leaves.{LeavesPipe}
 use Rattle.usb_address.specs.Ownership.{MapHolds, WhileBusWorks}
-use Rattle.usb_address.proofs.Interface.{ClaimedAt, Fits, KeepsClaim, Resets, settled_attempt, place_ports, claimed_path, held_of, less_one, port_named-cases, is_path-empty, no_root, quiet_follows, reset_follows, resets_leave, same_setup, some, trail_sound, trail_with, writes_leave}
+use Rattle.usb_address.proofs.Interface.{ClaimedAt, Fits, KeepsClaim, Resets, settled_attempt}
+use Rattle.usb_address.proofs.Interface.{place_ports, claimed_path, held_of, less_one}
+use Rattle.usb_address.proofs.Interface.{port_named-cases, is_path-empty, no_root, quiet_follows}
+use Rattle.usb_address.proofs.Interface.{reset_follows, resets_leave, same_setup, some, trail_sound}
+use Rattle.usb_address.proofs.Interface.{trail_with, writes_leave}
 use Rattle.usb_hub.specs.Addresses.{IsBelow}
 use Rattle.usb_hub.specs.Moments.{IsAbout, UpToFault, ActsAt, PortCallDone, CommandsPort}
 use Rattle.usb_hub.specs.Requests.{TouchesNoPort, Commanded}
 use Rattle.usb_hub.specs.CallFailures.{HubServes}
 use Rattle.usb_hub.specs.declared.port.HubPort.{HubPort}
 use Rattle.usb_hub.specs.declared.port.HubPort.TheVariants.{Root, External}
-use Rattle.usb_hub.proofs.ActingCalls.{place_below, place_called, AsksFor, attempt_acts, root_acts, root_acted}
+use Rattle.usb_hub.proofs.ActingCalls.{place_below, place_called, AsksFor, attempt_acts, root_acts}
+use Rattle.usb_hub.proofs.ActingCalls.{root_acted}
 use Rattle.usb_hub.proofs.RestingRequests.{behind_rests, behind_asks_nothing}
-use Rattle.usb_hub.proofs.Backlogs.{acted_keeps, call_keeps, holder_covers, request_keeps, rests_backlog}
-use Rattle.usb_backlog.specs.Marks.{CoversCall, KeepsAll, KeepsBy, KeepsCall, KeepsFound, PortMark, only, ports_at, unmarked}
+use Rattle.usb_hub.proofs.Backlogs.{acted_keeps, call_keeps, holder_covers, request_keeps}
+use Rattle.usb_hub.proofs.Backlogs.{rests_backlog}
+use Rattle.usb_backlog.specs.Marks.{CoversCall, KeepsAll, KeepsBy, KeepsCall, KeepsFound, PortMark}
+use Rattle.usb_backlog.specs.Marks.{only, ports_at, unmarked}
 use Rattle.usb_backlog.specs.PortSettings.{gives_power}
-use Rattle.usb_backlog.proofs.Interface.{all_none, few-only, keeps-chain, keeps-root, ports_covered, root_allowed, sets_none}
+use Rattle.usb_backlog.proofs.Interface.{all_none, few-only, keeps-chain, keeps-root, ports_covered}
+use Rattle.usb_backlog.proofs.Interface.{root_allowed, sets_none}
 use Rattle.usb_request.specs.Features.{PORT_POWER}
 use Rattle.usb_port.specs.declared.call.PortCall.TheVariants.{SetPower}
 use Rattle.usb_world.proofs.Interface.{Allows}
 use Rattle.usb_hub.proofs.CallFailures.{same_port, call_served}
 use Rattle.usb_port.proofs.Interface.{call_is}
 
--- The attempts of a request without data: its setup data again and again, and what comes behind them
+-- The attempts of a request without data: its setup data again and again, and what comes behind
+-- them
 
 pub record Sent (t : Target) (request : Setup) (old new : World) : Type 0 where
   pub mid : World
@@ -74,25 +89,60 @@ pub record Sent (t : Target) (request : Setup) (old new : World) : Type 0 where
   pub trail : AttemptLog (setup_attempt t (bytes_of request)) old outcomes mid
   pub behind : Course (IsBehind t) mid new
 
-pub writes_sent : (t : Target) (request : Setup) (old : World) (result : Result (Unit {0}) PipeFault) (new : World) → IsNoBusFault result → Writes t request old result new → Sent t request old new
-writes_sent t request old (Ok u) new n x = record { mid = x.mid; outcomes = x.set_up.last ∷ x.set_up.outcomes; trail = x.set_up.trail; behind = trail_course (λ w made. inl refl) x.status.trail }
+pub writes_sent : (t : Target) (request : Setup) (old : World)
+    (result : Result (Unit {0}) PipeFault) (new : World) → IsNoBusFault result
+    → Writes t request old result new → Sent t request old new
+writes_sent t request old (Ok u) new n x =
+    record {
+      mid = x.mid;
+      outcomes = x.set_up.last ∷ x.set_up.outcomes;
+      trail = x.set_up.trail;
+      behind = trail_course (λ w made. inl refl) x.status.trail;
+    }
 writes_sent t request old (Err why) new n (inl x) = no_set_up x.fault x.told x.set_up
   where
-    no_set_up : (fault : TransFault) → why ≡ as_pipe_fault fault → SetUp t request old (Err fault) new → Sent t request old new
-    no_set_up trans.Stalled e x = record { mid = new; outcomes = x.last ∷ x.outcomes; trail = x.trail; behind = here new }
-    no_set_up trans.Busy e x = record { mid = new; outcomes = x.last ∷ x.outcomes; trail = x.trail; behind = here new }
-    no_set_up trans.NoAnswer e x = record { mid = new; outcomes = x.last ∷ x.outcomes; trail = x.trail; behind = here new }
+    no_set_up : (fault : TransFault) → why ≡ as_pipe_fault fault
+        → SetUp t request old (Err fault) new → Sent t request old new
+    no_set_up trans.Stalled e x = record {
+      mid = new;
+      outcomes = x.last ∷ x.outcomes;
+      trail =
+          x.trail;
+      behind = here new;
+    }
+    no_set_up trans.Busy e x = record {
+      mid = new;
+      outcomes = x.last ∷ x.outcomes;
+      trail = x.trail;
+      behind = here new;
+    }
+    no_set_up trans.NoAnswer e x = record {
+      mid = new;
+      outcomes = x.last ∷ x.outcomes;
+      trail =
+          x.trail;
+      behind = here new;
+    }
     no_set_up (trans.Bus fault) e x = absurd (subst (λ y. IsNoBusFault {A = Unit {0}} (Err y)) e n)
-writes_sent t request old (Err why) new n (inr x) = record { mid = x.mid; outcomes = x.set_up.last ∷ x.set_up.outcomes; trail = x.set_up.trail; behind = no_status _ x.fault x.told x.status }
+writes_sent t request old (Err why) new n (inr x) =
+    record {
+      mid = x.mid;
+      outcomes = x.set_up.last ∷ x.set_up.outcomes;
+      trail = x.set_up.trail;
+      behind = no_status _ x.fault x.told x.status;
+    }
   where
-    no_status : (hear : _) (fault : TransFault) → why ≡ as_pipe_fault fault → Transacted hear (in_attempt t 0) x.mid (Err fault) new → Course (IsBehind t) x.mid new
+    no_status : (hear : _) (fault : TransFault) → why ≡ as_pipe_fault fault
+        → Transacted hear (in_attempt t 0) x.mid (Err fault) new → Course (IsBehind t) x.mid new
     no_status hear trans.Stalled e x = trail_course (λ w made. inl refl) x.trail
     no_status hear trans.Busy e x = trail_course (λ w made. inl refl) x.trail
     no_status hear trans.NoAnswer e x = trail_course (λ w made. inl refl) x.trail
-    no_status hear (trans.Bus fault) e x = absurd (subst (λ y. IsNoBusFault {A = Unit {0}} (Err y)) e n)
+    no_status hear (trans.Bus fault) e x =
+        absurd (subst (λ y. IsNoBusFault {A = Unit {0}} (Err y)) e n)
 
 -- where the bus gave up, up to the attempt that it refused
-record SentUpTo (t : Target) (request : Setup) (old : World) (fault : BusFault) (new : World) : Type 0 where
+record SentUpTo (t : Target) (request : Setup) (old : World) (fault : BusFault) (new : World) :
+    Type 0 where
   mid : World
   outcomes : List Outcome
   trail : AttemptLog (setup_attempt t (bytes_of request)) old outcomes mid
@@ -105,19 +155,33 @@ record SentUpTo (t : Target) (request : Setup) (old : World) (fault : BusFault) 
 bus_fault_is : (f g : BusFault) → Bus f ≡ as_pipe_fault (trans.Bus g) → g ≡ f
 bus_fault_is f g e = cc e
 
-sent_up_to : (t : Target) (request : Setup) (old : World) (fault : BusFault) (new : World) → Writes t request old (Err (Bus fault)) new → SentUpTo t request old fault new
+sent_up_to : (t : Target) (request : Setup) (old : World) (fault : BusFault) (new : World)
+    → Writes t request old (Err (Bus fault)) new → SentUpTo t request old fault new
 sent_up_to t request old fault new (inl x) = no_set_up x.fault x.told x.set_up
   where
-    no_set_up : (f : TransFault) → Bus fault ≡ as_pipe_fault f → SetUp t request old (Err f) new → SentUpTo t request old fault new
+    no_set_up : (f : TransFault) → Bus fault ≡ as_pipe_fault f → SetUp t request old (Err f) new
+        → SentUpTo t request old fault new
     no_set_up trans.Stalled e x = absurd (cc e)
     no_set_up trans.Busy e x = absurd (cc e)
     no_set_up trans.NoAnswer e x = absurd (cc e)
     no_set_up (trans.Bus g) e x =
         subst (λ f. SentUpTo t request old f new) (bus_fault_is fault g e)
-        (record { mid = x.mid; outcomes = x.outcomes; trail = x.trail; cut = x.mid; behind = here x.mid; last = setup_attempt t (bytes_of request); refused = x.refused; fails = x.fails })
+        (record {
+          mid = x.mid;
+          outcomes = x.outcomes;
+          trail = x.trail;
+          cut = x.mid;
+          behind =
+              here x.mid;
+          last = setup_attempt t (bytes_of request);
+          refused = x.refused;
+          fails =
+              x.fails;
+        })
 sent_up_to t request old fault new (inr x) = no_status _ x.fault x.told x.status
   where
-    no_status : (hear : _) (f : TransFault) → Bus fault ≡ as_pipe_fault f → Transacted hear (in_attempt t 0) x.mid (Err f) new → SentUpTo t request old fault new
+    no_status : (hear : _) (f : TransFault) → Bus fault ≡ as_pipe_fault f
+        → Transacted hear (in_attempt t 0) x.mid (Err f) new → SentUpTo t request old fault new
     no_status hear trans.Stalled e y = absurd (cc e)
     no_status hear trans.Busy e y = absurd (cc e)
     no_status hear trans.NoAnswer e y = absurd (cc e)
@@ -135,7 +199,8 @@ sent_up_to t request old fault new (inr x) = no_status _ x.fault x.told x.status
         })
 
 -- what comes behind is about each port
-behind_about : (t : Target) (p : List ℕ) (c : PortCall) {w v : World} → Course (IsBehind t) w v → IsSettled w.roots → Course (IsAbout p c) w v
+behind_about : (t : Target) (p : List ℕ) (c : PortCall) {w v : World} → Course (IsBehind t) w v
+    → IsSettled w.roots → Course (IsAbout p c) w v
 behind_about t p c course =
     settled_wider (λ s w k h. record {
       others = λ x d. behind_rests t x s w k h;
@@ -145,23 +210,31 @@ behind_about t p c course =
 -- A call at a hub's port
 
 -- where something was done, a port was named
-port_is_named : (c : PortCall) (o : Option ℕ) (n : ℕ) (row : List PortState) (address : Option ℕ) → (o ≡ None) ⊎ (o ≡ Some n) → first_stage row 0 (called_at (Some c) o) ≡ ending address → o ≡ Some n
+port_is_named : (c : PortCall) (o : Option ℕ) (n : ℕ) (row : List PortState) (address : Option ℕ)
+    → (o ≡ None) ⊎ (o ≡ Some n) → first_stage row 0 (called_at (Some c) o) ≡ ending address
+    → o ≡ Some n
 port_is_named c None n row address x h = absurd (cc h)
 port_is_named c (Some m) n row address (inl x) h = absurd (cc x)
 port_is_named c (Some m) n row address (inr x) h = x
 
-module _ (t : Target) (j : Location) (i : ℕ) (request : Setup) (c : PortCall) (asked : AsksFor request c (suc i)) (P : World → Type 0) (follows : KeepsClaim t request (path_to j) P) where
+module _ (t : Target) (j : Location) (i : ℕ) (request : Setup) (c : PortCall)
+    (asked : AsksFor request c (suc i)) (P : World → Type 0)
+    (follows : KeepsClaim t request (path_to j) P) where
   abbrev a : Attempt
   a = setup_attempt t (bytes_of request)
 
   abbrev p : List ℕ
   p = path_to j ++ (suc i ∷ [])
 
-  acting : {old new : World} {outcomes : List Outcome} → AttemptLog a old outcomes new → P old → P new × Course (ActsAt p c) old new
+  acting : {old new : World} {outcomes : List Outcome} → AttemptLog a old outcomes new → P old
+      → P new × Course (ActsAt p c) old new
   acting tr first =
-      trail_with P follows.onward (λ w made x. let k : ClaimedAt (path_to j) t.addr w = follows.claimed w x in attempt_acts t j i request c asked w (made_of a w k.owned.settled made) k) tr first
+      trail_with P follows.onward (λ w made x. let k : ClaimedAt (path_to j) t.addr w =
+      follows.claimed w x in attempt_acts t j i request c asked w
+      (made_of a w k.owned.settled made) k) tr first
 
-  module _ (old : World) (result : Result (Unit {0}) PipeFault) (new : World) (n : IsNoBusFault result) (stages : Writes t request old result new) (first : P old) where
+  module _ (old : World) (result : Result (Unit {0}) PipeFault) (new : World)
+      (n : IsNoBusFault result) (stages : Writes t request old result new) (first : P old) where
     sent : Sent t request old new
     sent = writes_sent t request old result new n stages
 
@@ -169,20 +242,26 @@ module _ (t : Target) (j : Location) (i : ℕ) (request : Setup) (c : PortCall) 
     at_work = acting sent.trail first
 
     rests_behind : TouchesNoPort sent.mid new
-    rests_behind x = behind_asks_nothing t x sent.behind (follows.claimed sent.mid at_work.0).owned.settled
+    rests_behind x = behind_asks_nothing t x sent.behind
+        (follows.claimed sent.mid at_work.0).owned.settled
 
     pub hub_rests : (x : List ℕ) → is_way p x ≡ false → Course (LeavesPortAlone x) old new
-    hub_rests x d = course_joined (course_wider (λ s w k. k.about.others x d) at_work.1) (rests_behind x)
+    hub_rests x d = course_joined (course_wider (λ s w k. k.about.others x d) at_work.1)
+        (rests_behind x)
 
     pub hub_spares : keeps_pending c [] ≡ true → Course (KeepsPendingAt p) old new
-    hub_spares h = course_joined (course_wider (λ s w k. k.about.spares h) at_work.1) (course_wider (λ s w k. k.spares) (rests_behind p))
+    hub_spares h = course_joined (course_wider (λ s w k. k.about.spares h) at_work.1)
+        (course_wider (λ s w k. k.spares) (rests_behind p))
 
-  pub hub_about : {old mid cut : World} {outcomes : List Outcome} → AttemptLog a old outcomes mid → Course (IsBehind t) mid cut → P old → Course (IsAbout p c) old cut
+  pub hub_about : {old mid cut : World} {outcomes : List Outcome} → AttemptLog a old outcomes mid
+      → Course (IsBehind t) mid cut → P old → Course (IsAbout p c) old cut
   hub_about {old} {mid} {cut} tr behind first =
       let x : P mid × Course (ActsAt p c) old mid = acting tr first in
-      course_joined (course_wider (λ s w k. k.about) x.1) (behind_about t p c behind (follows.claimed mid x.0).owned.settled)
+      course_joined (course_wider (λ s w k. k.about) x.1)
+      (behind_about t p c behind (follows.claimed mid x.0).owned.settled)
 
-  module _ (old new : World) (ordered : Commanded t request old (Ok tt) new) (first : P old) (last : P new) (addressed : is_harmless request ≡ false → t.addr ≢ 0) where
+  module _ (old new : World) (ordered : Commanded t request old (Ok tt) new) (first : P old)
+      (last : P new) (addressed : is_harmless request ≡ false → t.addr ≢ 0) where
     before : ClaimedAt (path_to j) t.addr old
     before = follows.claimed old first
 
@@ -190,10 +269,12 @@ module _ (t : Target) (j : Location) (i : ℕ) (request : Setup) (c : PortCall) 
     behind = follows.claimed new last
 
     who : Answerer t old new
-    who = who_writes t request tt old new asked.same addressed ordered.settled ordered.stages behind.owned.single
+    who = who_writes t request tt old new asked.same addressed ordered.settled ordered.stages
+        behind.owned.single
 
     path : path_to who.spot ≡ path_to j
-    path = claimed_path (path_to j) t.addr old before who.spot who.before who.was_on who.stood (equal_same (address_of who.before) t.addr who.at)
+    path = claimed_path (path_to j) t.addr old before who.spot who.before who.was_on who.stood
+        (equal_same (address_of who.before) t.addr who.at)
 
     on : reach_on new.roots j ≡ true
     on = subst (λ x. reach new.roots x ≡ true) path who.on
@@ -203,11 +284,13 @@ module _ (t : Target) (j : Location) (i : ℕ) (request : Setup) (c : PortCall) 
 
     was : Was (WriteLeaves t request (Ok tt) old new) old j there.0
     was =
-        write_leaves t request (Ok tt) old new asked.nothing asked.same ordered.settled ordered.stages behind.owned.single j there.0 on there.1
+        write_leaves t request (Ok tt) old new asked.nothing asked.same ordered.settled
+        ordered.stages behind.owned.single j there.0 on there.1
         (λ h. (addressed h, λ z. addressed h (sym there.2 ∙ z)))
 
     asked_it : is_at was.before t ≡ true
-    asked_it = ap (λ s. is_at s t) (same_Some was.before who.before (sym was.stands ∙ subst (λ x. state_there old.roots x ≡ Some who.before) path who.stood)) ∙ who.at
+    asked_it = ap (λ s. is_at s t) (same_Some was.before who.before (sym was.stands
+        ∙ subst (λ x. state_there old.roots x ≡ Some who.before) path who.stood)) ∙ who.at
 
     done : EffectDone t request old new j was.before there.0
     done = was.so.done asked_it tt refl
@@ -223,61 +306,87 @@ module _ (t : Target) (j : Location) (i : ℕ) (request : Setup) (c : PortCall) 
 
     is_named : port_named was.before.spec.hub was.before.registers (suc i) ≡ Some i
     is_named =
-        port_is_named c (port_named was.before.spec.hub was.before.registers (suc i)) i done.row done.address
-        (subst (λ m. (port_named was.before.spec.hub was.before.registers (suc i) ≡ None) ⊎ (port_named was.before.spec.hub was.before.registers (suc i) ≡ Some m)) (less_one i) (port_named-cases was.before.spec.hub was.before.registers (suc i)))
-        (subst (λ o. first_stage done.row 0 o ≡ ending done.address) (asked.calls was.before.spec was.before.registers)
-        (subst (λ n. first_stage done.row n (outcome was.before.spec was.before.registers request) ≡ ending done.address) asked.nothing done.is))
+        port_is_named c (port_named was.before.spec.hub was.before.registers (suc i)) i done.row
+        done.address
+        (subst (λ m. (port_named was.before.spec.hub was.before.registers (suc i) ≡ None)
+        ⊎ (port_named was.before.spec.hub was.before.registers (suc i) ≡ Some m))
+        (less_one i) (port_named-cases was.before.spec.hub was.before.registers (suc i)))
+        (subst (λ o. first_stage done.row 0 o ≡ ending done.address)
+        (asked.calls was.before.spec was.before.registers)
+        (subst (λ n. first_stage done.row n (outcome was.before.spec was.before.registers request)
+        ≡ ending done.address) asked.nothing done.is))
 
     -- the hub, which stood there, has the port
-    pub hub_named : (s : State) × ((state_on old.roots j ≡ Some s) × (port_named s.spec.hub s.registers (suc i) ≡ Some i))
+    pub hub_named : (s : State) × ((state_on old.roots j ≡ Some s)
+        × (port_named s.spec.hub s.registers (suc i) ≡ Some i))
     hub_named = (was.before, (was.stands, is_named))
 
     effect : asked_by_setup was.before (setup_of (bytes_of request)) ≡ Calls c i
-    effect = ap effect_of_request outcome_is ∙ ap (λ o. effect_of_request (called_at (Some c) o)) is_named
+    effect = ap effect_of_request outcome_is
+        ∙ ap (λ o. effect_of_request (called_at (Some c) o)) is_named
       where
-        outcome_is : outcome was.before.spec was.before.registers (setup_of (bytes_of request)) ≡ called_at (Some c) (port_named was.before.spec.hub was.before.registers (suc i))
-        outcome_is = ap (outcome was.before.spec was.before.registers) asked.same ∙ asked.calls was.before.spec was.before.registers
+        outcome_is : outcome was.before.spec was.before.registers (setup_of (bytes_of request))
+            ≡ called_at (Some c) (port_named was.before.spec.hub was.before.registers (suc i))
+        outcome_is = ap (outcome was.before.spec was.before.registers) asked.same
+            ∙ asked.calls was.before.spec was.before.registers
 
     repeated : P mid × Course (ActsAt p c) old mid
     repeated = acting accepted_there.trail first
 
-    acted_there : place (after (attempt a) mid).roots p ≡ option_map (called c) (place (at_attempt mid).roots p)
+    acted_there : place (after (attempt a) mid).roots p
+        ≡ option_map (called c) (place (at_attempt mid).roots p)
     acted_there =
         ap (λ w. place w.roots p) (sym accepted_there.last)
         ∙ place_below now.roots j.row j.rest i []
         ∙ ap (λ o. place_at (place_ports o) i []) accepted_there.left
         ∙ ap (λ x. place_at (acted x accepted_there.holder.below) i []) effect
         ∙ place_called c accepted_there.holder.below i
-        ∙ ap (option_map (called c)) (sym (place_below (at_attempt mid).roots j.row j.rest i [] ∙ ap (λ o. place_at (place_ports o) i []) (ap (place_on (at_attempt mid).roots) (sym accepted_there.there) ∙ accepted_there.holder.stands)))
+        ∙ ap (option_map (called c)) (sym (place_below (at_attempt mid).roots j.row j.rest i []
+        ∙ ap (λ o. place_at (place_ports o) i [])
+        (ap (place_on (at_attempt mid).roots) (sym accepted_there.there)
+        ∙ accepted_there.holder.stands)))
 
     pub hub_done : PortCallDone p c old new
     hub_done = record {
       before = mid;
       repeats = repeated.1;
       last = attempt a;
-      acts = attempt_acts t j i request c asked mid accepted_there.holder.made (follows.claimed mid repeated.0);
+      acts = attempt_acts t j i request c asked mid accepted_there.holder.made
+          (follows.claimed mid repeated.0);
       done = acted_there;
       since = λ x.
           subst (λ w. Course (LeavesPortAlone x) w new) accepted_there.last
-          (behind_asks_nothing t x done.moment.since (subst (λ w. IsSettled w.roots) (sym accepted_there.last) (settled_attempt a mid accepted_there.holder.made.settled)));
+          (behind_asks_nothing t x done.moment.since
+          (subst (λ w. IsSettled w.roots) (sym accepted_there.last)
+          (settled_attempt a mid accepted_there.holder.made.settled)));
       row = record { parent = path_to j; number = suc i; is = refl; reached = on };
-      acted = record { covered = λ ports m v r few covers. acted_keeps m v r few t (path_to j) i request c asked (holder_covers m r (path_to j) i c covers) P follows accepted_there.trail accepted_there.holder.made first ports };
-      rested = subst (λ w. KeepsAll w new) accepted_there.last (rests_backlog t done.moment.since (subst (λ w. IsSettled w.roots) (sym accepted_there.last) (settled_attempt a mid accepted_there.holder.made.settled)));
+      acted = record {
+        covered = λ ports m v r few covers. acted_keeps m v r few t (path_to j) i
+            request c asked (holder_covers m r (path_to j) i c covers) P follows
+            accepted_there.trail accepted_there.holder.made first ports;
+      };
+      rested = subst (λ w. KeepsAll w new) accepted_there.last
+          (rests_backlog t done.moment.since
+          (subst (λ w. IsSettled w.roots) (sym accepted_there.last)
+          (settled_attempt a mid accepted_there.holder.made.settled)));
     }
 
 -- Which requests these are
 
 module _ (n : ℕ) (c : PortCall) where
-  set_sparing : (feature : ℕ) → IsSetFeature feature → is_sparing (set_port_feature feature n) ≡ true
+  set_sparing : (feature : ℕ) → IsSetFeature feature → is_sparing (set_port_feature feature n)
+      ≡ true
   unfolding set_port_feature
   set_sparing feature named = grind arith
 
   -- PORT_RESET alone resets
-  set_harmless : (feature : ℕ) → IsSetFeature feature → set_call feature ≡ Some c → is_reset c ≡ false → is_harmless (set_port_feature feature n) ≡ true
+  set_harmless : (feature : ℕ) → IsSetFeature feature → set_call feature ≡ Some c
+      → is_reset c ≡ false → is_harmless (set_port_feature feature n) ≡ true
   unfolding set_port_feature
   set_harmless feature named is quiet = grind arith
 
-  pub set_asks : (feature : ℕ) → IsSetFeature feature → set_call feature ≡ Some c → AsksFor (set_port_feature feature n) c n
+  pub set_asks : (feature : ℕ) → IsSetFeature feature → set_call feature ≡ Some c
+      → AsksFor (set_port_feature feature n) c n
   unfolding set_port_feature outcome
   set_asks feature named is = record {
     names = refl;
@@ -291,11 +400,13 @@ module _ (n : ℕ) (c : PortCall) where
     sets = λ h. is;
   }
 
-  clear_sparing : (feature : ℕ) → IsClearFeature feature → clear_call feature ≡ Some c → keeps_pending c [] ≡ true → is_sparing (clear_port_feature feature n) ≡ true
+  clear_sparing : (feature : ℕ) → IsClearFeature feature → clear_call feature ≡ Some c
+      → keeps_pending c [] ≡ true → is_sparing (clear_port_feature feature n) ≡ true
   unfolding clear_port_feature
   clear_sparing feature named is h = grind arith
 
-  pub clear_asks : (feature : ℕ) → IsClearFeature feature → clear_call feature ≡ Some c → AsksFor (clear_port_feature feature n) c n
+  pub clear_asks : (feature : ℕ) → IsClearFeature feature → clear_call feature ≡ Some c
+      → AsksFor (clear_port_feature feature n) c n
   unfolding clear_port_feature outcome
   clear_asks feature named is = record {
     names = refl;
@@ -315,11 +426,14 @@ record Route (t : Target) (request : Setup) (q : List ℕ) (old : World) : Type 
   P : World → Type 0
   follows : KeepsClaim t request q P
   first : P old
-  leaves : (result : Result (Unit {0}) PipeFault) (new : World) → Writes t request old result new → LeavesPipe P result new
+  leaves : (result : Result (Unit {0}) PipeFault) (new : World) → Writes t request old result new
+      → LeavesPipe P result new
   addressed : is_harmless request ≡ false → t.addr ≢ 0
 
-route : (f : AddressMap) (t : Target) (q : List ℕ) (n : ℕ) (request : Setup) (c : PortCall) (asked : AsksFor request c n) (old : World) → f q ≡ Some t.addr
-    → (is_reset c ≡ true → (x : List ℕ) → f x ≡ Some 0 → is_way (q ++ (n ∷ [])) x ≡ true) → MapHolds f old → Route t request q old
+route : (f : AddressMap) (t : Target) (q : List ℕ) (n : ℕ) (request : Setup) (c : PortCall)
+    (asked : AsksFor request c n) (old : World) → f q ≡ Some t.addr
+    → (is_reset c ≡ true → (x : List ℕ) → f x ≡ Some 0 → is_way (q ++ (n ∷ [])) x ≡ true)
+    → MapHolds f old → Route t request q old
 route f t q n request c asked old held alone own = pick (decided (is_reset c))
   where
     pick : (is_reset c ≡ true) ⊎ (is_reset c ≡ false) → Route t request q old
@@ -327,24 +441,32 @@ route f t q n request c asked old held alone own = pick (decided (is_reset c))
       P = MapHolds f;
       follows = quiet_follows t request asked.same f q (asked.harmless quiet) held;
       first = own;
-      leaves = λ result new writes. writes_leave f t request asked.same (asked.harmless quiet) asked.other old result new writes own;
+      leaves = λ result new writes. writes_leave f t request asked.same (asked.harmless quiet)
+          asked.other old result new writes own;
       addressed = λ h. false_true (sym h ∙ asked.harmless quiet);
     }
     pick (inl reset) =
-        let distinct : (x : List ℕ) → f x ≡ Some t.addr → x ≡ q = λ x h. same_is q x (own.distinct q x t.addr held h) in
-        let away : t.addr ≡ 0 → ⊥ = some t request asked.same f q n asked.names asked.other held distinct (alone reset) in
-        let fit : Fits q n t request asked.same asked.names away f = record { at = distinct; only = alone reset } in
+        let distinct : (x : List ℕ) → f x ≡ Some t.addr → x ≡ q =
+        λ x h. same_is q x (own.distinct q x t.addr held h) in
+        let away : t.addr ≡ 0 → ⊥ = some t request asked.same f q n asked.names asked.other held
+        distinct (alone reset) in
+        let fit : Fits q n t request asked.same asked.names away f =
+        record { at = distinct; only = alone reset } in
         record {
           P = Resets q n t request asked.same asked.names away f fit asked.other;
-          follows = reset_follows t request asked.same f q n asked.names asked.other held distinct (alone reset);
+          follows = reset_follows t request asked.same f q n asked.names asked.other held distinct
+              (alone reset);
           first = inl own;
-          leaves = λ result new writes. resets_leave q n t request asked.same asked.names away f fit asked.other old result new writes own;
+          leaves = λ result new writes. resets_leave q n t request asked.same asked.names away f fit
+              asked.other old result new writes own;
           addressed = λ h. away;
         }
 
 -- Any port of a hub
 
-sound_of : (k n : ℕ) (old new : World) (result : Result (Unit {0}) PipeFault) → IsNoBusFault result → MatchResult result (λ done. AttemptsMade k old new) (λ fault. FaultAfter n old fault new) → old.fault ≡ None
+sound_of : (k n : ℕ) (old new : World) (result : Result (Unit {0}) PipeFault) → IsNoBusFault result
+    → MatchResult result (λ done. AttemptsMade k old new) (λ fault. FaultAfter n old fault new)
+    → old.fault ≡ None
 sound_of k n old new (Ok u) s x = x.sound
 sound_of k n old new (Err Stalled) s x = x.sound
 sound_of k n old new (Err Busy) s x = x.sound
@@ -353,105 +475,172 @@ sound_of k n old new (Err Broken) s x = elim x [ ]
 sound_of k n old new (Err (Bus fault)) s x = elim s [ ]
 sound_of k n old new (Err Memory) s x = x.sound
 
-module _ (t : Target) (c : PortCall) (request : Setup) (f : AddressMap) (old : World) (result : Result (Unit {0}) PipeFault) (new : World) (ordered : Commanded t request old result new) (own : MapHolds f old) where
+module _ (t : Target) (c : PortCall) (request : Setup) (f : AddressMap) (old : World)
+    (result : Result (Unit {0}) PipeFault) (new : World)
+    (ordered : Commanded t request old result new) (own : MapHolds f old) where
   -- what is so at the port's path, as it is at one that is written out
-  module _ (Q : List ℕ → Type 0) (there : (j : Location) (i : ℕ) (asked : AsksFor request c (suc i)) → Route t request (path_to j) old → Q (path_to j ++ (suc i ∷ []))) where
-    at_path : (q : List ℕ) (n : ℕ) → AsksFor request c n → IsPath q → IsPortNumber n → f q ≡ Some t.addr → (is_reset c ≡ true → (x : List ℕ) → f x ≡ Some 0 → is_way (q ++ (n ∷ [])) x ≡ true) → Q (q ++ (n ∷ []))
+  module _ (Q : List ℕ → Type 0) (there : (j : Location) (i : ℕ) (asked : AsksFor request c (suc i))
+      → Route t request (path_to j) old → Q (path_to j ++ (suc i ∷ []))) where
+    at_path : (q : List ℕ) (n : ℕ) → AsksFor request c n → IsPath q → IsPortNumber n
+        → f q ≡ Some t.addr → (is_reset c ≡ true → (x : List ℕ) → f x ≡ Some 0
+        → is_way (q ++ (n ∷ [])) x ≡ true) → Q (q ++ (n ∷ []))
     at_path [] n asked is number held alone = absurd (is_path-empty is)
     at_path (zero ∷ e) n asked is number held alone = absurd (no_root e is)
     at_path (suc j ∷ e) zero asked is number held alone = absurd (omega (arith, number.0))
-    at_path (suc j ∷ e) (suc i) asked is number held alone = there (record { row = j; rest = e }) i asked (route f t (suc j ∷ e) (suc i) request c asked old held alone own)
+    at_path (suc j ∷ e) (suc i) asked is number held alone =
+        there (record { row = j; rest = e }) i asked
+        (route f t (suc j ∷ e) (suc i) request c asked old held alone own)
 
-    below : (n : ℕ) → AsksFor request c n → (p : List ℕ) → IsBelow f t.addr n p → (is_reset c ≡ true → (x : List ℕ) → f x ≡ Some 0 → is_way p x ≡ true) → Q p
-    below n asked p at alone = subst Q (sym at.path) (at_path at.hub n asked at.is_path at.number at.held (λ h x z. subst (λ y. is_way y x ≡ true) at.path (alone h x z)))
+    below : (n : ℕ) → AsksFor request c n → (p : List ℕ) → IsBelow f t.addr n p
+        → (is_reset c ≡ true → (x : List ℕ) → f x ≡ Some 0 → is_way p x ≡ true) → Q p
+    below n asked p at alone = subst Q (sym at.path)
+        (at_path at.hub n asked at.is_path at.number at.held
+        (λ h x z. subst (λ y. is_way y x ≡ true) at.path (alone h x z)))
 
-  pub done_below : (n : ℕ) → AsksFor request c n → (p : List ℕ) → IsBelow f t.addr n p → (is_reset c ≡ true → (x : List ℕ) → f x ≡ Some 0 → is_way p x ≡ true) → result ≡ Ok tt → PortCallDone p c old new
+  pub done_below : (n : ℕ) → AsksFor request c n → (p : List ℕ) → IsBelow f t.addr n p
+      → (is_reset c ≡ true → (x : List ℕ) → f x ≡ Some 0 → is_way p x ≡ true) → result ≡ Ok tt
+      → PortCallDone p c old new
   done_below n asked p at alone is = below (λ p. PortCallDone p c old new) there n asked p at alone
     where
       ordered_so : Commanded t request old (Ok tt) new
       ordered_so = subst (λ r. Commanded t request old r new) is ordered
 
-      there : (j : Location) (i : ℕ) (asked : AsksFor request c (suc i)) → Route t request (path_to j) old → PortCallDone (path_to j ++ (suc i ∷ [])) c old new
-      there j i asked r = hub_done t j i request c asked r.P r.follows old new ordered_so r.first (r.leaves (Ok tt) new ordered_so.stages) r.addressed
+      there : (j : Location) (i : ℕ) (asked : AsksFor request c (suc i))
+          → Route t request (path_to j) old → PortCallDone (path_to j ++ (suc i ∷ [])) c old new
+      there j i asked r = hub_done t j i request c asked r.P r.follows old new ordered_so r.first
+          (r.leaves (Ok tt) new ordered_so.stages) r.addressed
 
-  pub rests_below : IsNoBusFault result → (n : ℕ) → AsksFor request c n → (p : List ℕ) → IsBelow f t.addr n p → (is_reset c ≡ true → (x : List ℕ) → f x ≡ Some 0 → is_way p x ≡ true)
+  pub rests_below : IsNoBusFault result → (n : ℕ) → AsksFor request c n → (p : List ℕ)
+      → IsBelow f t.addr n p → (is_reset c ≡ true → (x : List ℕ) → f x ≡ Some 0 → is_way p x ≡ true)
       → (x : List ℕ) → is_way p x ≡ false → Course (LeavesPortAlone x) old new
   rests_below sound n asked p at alone =
       below (λ p. (x : List ℕ) → is_way p x ≡ false → Course (LeavesPortAlone x) old new)
-      (λ j i asked r. hub_rests t j i request c asked r.P r.follows old result new sound ordered.stages r.first) n asked p at alone
+      (λ j i asked r. hub_rests t j i request c asked r.P r.follows old result new sound
+      ordered.stages r.first) n asked p at alone
 
-  pub backlog_below : IsNoBusFault result → (n : ℕ) → AsksFor request c n → (p : List ℕ) → IsBelow f t.addr n p → (is_reset c ≡ true → (x : List ℕ) → f x ≡ Some 0 → is_way p x ≡ true) → KeepsCall p c old new
+  pub backlog_below : IsNoBusFault result → (n : ℕ) → AsksFor request c n → (p : List ℕ)
+      → IsBelow f t.addr n p → (is_reset c ≡ true → (x : List ℕ) → f x ≡ Some 0 → is_way p x ≡ true)
+      → KeepsCall p c old new
   backlog_below sound n asked p at alone =
       below (λ p. KeepsCall p c old new)
-      (λ j i asked r. let s : Sent t request old new = writes_sent t request old result new sound ordered.stages in
-      record { covered = λ ports m v r0 few covers. call_keeps m v r0 few t (path_to j) i request c asked (holder_covers m r0 (path_to j) i c covers) r.P r.follows s.trail s.behind r.first ports }) n asked p at alone
+      (λ j i asked r. let s : Sent t request old new =
+      writes_sent t request old result new sound ordered.stages in
+      record {
+        covered = λ ports m v r0 few covers. call_keeps m v r0 few t (path_to j) i request c
+            asked (holder_covers m r0 (path_to j) i c covers) r.P r.follows s.trail s.behind r.first
+            ports;
+      }) n asked p at alone
 
-  pub spares_below : IsNoBusFault result → (n : ℕ) → AsksFor request c n → (p : List ℕ) → IsBelow f t.addr n p → (is_reset c ≡ true → (x : List ℕ) → f x ≡ Some 0 → is_way p x ≡ true)
+  pub spares_below : IsNoBusFault result → (n : ℕ) → AsksFor request c n → (p : List ℕ)
+      → IsBelow f t.addr n p → (is_reset c ≡ true → (x : List ℕ) → f x ≡ Some 0 → is_way p x ≡ true)
       → keeps_pending c [] ≡ true → Course (KeepsPendingAt p) old new
   spares_below sound n asked p at alone =
       below (λ p. keeps_pending c [] ≡ true → Course (KeepsPendingAt p) old new)
-      (λ j i asked r. hub_spares t j i request c asked r.P r.follows old result new sound ordered.stages r.first) n asked p at alone
+      (λ j i asked r. hub_spares t j i request c asked r.P r.follows old result new sound
+      ordered.stages r.first) n asked p at alone
 
 -- up to a fault of the bus
-module _ (t : Target) (c : PortCall) (request : Setup) (f : AddressMap) (old : World) (fault : BusFault) (new : World) (ordered : Commanded t request old (Err (Bus fault)) new) (till : WhileBusWorks (MapHolds f) old) where
+module _ (t : Target) (c : PortCall) (request : Setup) (f : AddressMap) (old : World)
+    (fault : BusFault) (new : World) (ordered : Commanded t request old (Err (Bus fault)) new)
+    (till : WhileBusWorks (MapHolds f) old) where
   cut_there : SentUpTo t request old fault new
   cut_there = sent_up_to t request old fault new ordered.stages
 
-  about_below : (n : ℕ) → AsksFor request c n → (p : List ℕ) → IsBelow f t.addr n p → (is_reset c ≡ true → (x : List ℕ) → f x ≡ Some 0 → is_way p x ≡ true)
-      → (outcomes : List Outcome) (mid cut : World) → AttemptLog (setup_attempt t (bytes_of request)) old outcomes mid → Course (IsBehind t) mid cut → Course (IsAbout p c) old cut
+  about_below : (n : ℕ) → AsksFor request c n → (p : List ℕ) → IsBelow f t.addr n p
+      → (is_reset c ≡ true → (x : List ℕ) → f x ≡ Some 0 → is_way p x ≡ true)
+      → (outcomes : List Outcome) (mid cut : World)
+      → AttemptLog (setup_attempt t (bytes_of request)) old outcomes mid
+      → Course (IsBehind t) mid cut → Course (IsAbout p c) old cut
   about_below n asked p at alone [] w cut start behind = behind_about t p c behind ordered.settled
   about_below n asked p at alone (o ∷ outcomes) w cut tr behind =
-      below t c request f old (Err (Bus fault)) new ordered (till.so (trail_sound tr)) (λ p. Course (IsAbout p c) old cut)
-      (λ j i asked r. hub_about t j i request c asked r.P r.follows tr behind r.first) n asked p at alone
+      below t c request f old (Err (Bus fault)) new ordered (till.so (trail_sound tr))
+      (λ p. Course (IsAbout p c) old cut)
+      (λ j i asked r. hub_about t j i request c asked r.P r.follows tr behind r.first) n asked p at
+      alone
 
-  pub cut_below : (n : ℕ) → AsksFor request c n → (p : List ℕ) → IsBelow f t.addr n p → (is_reset c ≡ true → (x : List ℕ) → f x ≡ Some 0 → is_way p x ≡ true) → UpToFault (IsAbout p c) old fault new
+  pub cut_below : (n : ℕ) → AsksFor request c n → (p : List ℕ) → IsBelow f t.addr n p
+      → (is_reset c ≡ true → (x : List ℕ) → f x ≡ Some 0 → is_way p x ≡ true)
+      → UpToFault (IsAbout p c) old fault new
   cut_below n asked p at alone = record {
     mid = cut_there.cut;
-    course = about_below n asked p at alone cut_there.outcomes cut_there.mid cut_there.cut cut_there.trail cut_there.behind;
+    course = about_below n asked p at alone cut_there.outcomes cut_there.mid cut_there.cut
+        cut_there.trail cut_there.behind;
     last = cut_there.last;
     refused = cut_there.refused;
     fails = cut_there.fails;
   }
 
-module _ (port : HubPort) (hub : Target) (number : ℕ) (call : Option PortCall) (request : Setup) (some_call : (c : PortCall) × (call ≡ Some c)) (asks : (c : PortCall) → call ≡ Some c → AsksFor request c number)
-    (old : World) (result : Result (Unit {0}) PipeFault) (new : World) (e : port ≡ External hub number) (ordered : Commanded hub request old result new) where
+module _ (port : HubPort) (hub : Target) (number : ℕ) (call : Option PortCall) (request : Setup)
+    (some_call : (c : PortCall) × (call ≡ Some c)) (asks : (c : PortCall) → call ≡ Some c
+    → AsksFor request c number)
+    (old : World) (result : Result (Unit {0}) PipeFault) (new : World)
+    (e : port ≡ External hub number) (ordered : Commanded hub request old result new) where
   of_hub : CommandsPort (External hub number) call old result new
   of_hub = record {
-    done = λ f p c x is. done_below hub c request f old result new ordered (x.owned.so (sound_of 2 1 old new result (subst IsNoBusFault (sym is) tt) ordered.ends)) number (asks c x.is) p x.at x.alone is;
-    rests = λ f p c x sound. rests_below hub c request f old result new ordered (x.owned.so (sound_of 2 1 old new result sound ordered.ends)) sound number (asks c x.is) p x.at x.alone;
-    spares = λ f p c x sound. spares_below hub c request f old result new ordered (x.owned.so (sound_of 2 1 old new result sound ordered.ends)) sound number (asks c x.is) p x.at x.alone;
-    backlog = λ f p c x sound. backlog_below hub c request f old result new ordered (x.owned.so (sound_of 2 1 old new result sound ordered.ends)) sound number (asks c x.is) p x.at x.alone;
-    cut = λ f p c x fault is. cut_below hub c request f old fault new (subst (λ r. Commanded hub request old r new) is ordered) x.owned number (asks c x.is) p x.at x.alone;
+    done = λ f p c x is. done_below hub c request f old result new ordered
+        (x.owned.so (sound_of 2 1 old new result (subst IsNoBusFault (sym is) tt) ordered.ends))
+        number (asks c x.is) p x.at x.alone is;
+    rests = λ f p c x sound. rests_below hub c request f old result new ordered
+        (x.owned.so (sound_of 2 1 old new result sound ordered.ends)) sound number (asks c x.is) p
+        x.at x.alone;
+    spares = λ f p c x sound. spares_below hub c request f old result new ordered
+        (x.owned.so (sound_of 2 1 old new result sound ordered.ends)) sound number (asks c x.is) p
+        x.at x.alone;
+    backlog = λ f p c x sound. backlog_below hub c request f old result new ordered
+        (x.owned.so (sound_of 2 1 old new result sound ordered.ends)) sound number (asks c x.is) p
+        x.at x.alone;
+    cut = λ f p c x fault is. cut_below hub c request f old fault new
+        (subst (λ r. Commanded hub request old r new) is ordered) x.owned number (asks c x.is) p
+        x.at x.alone;
     why = λ t n same three single serves.
         let ends : _ = same_port hub t number n same in
-        call_served hub number request some_call.0 (asks some_call.0 some_call.1) old new three single (subst (λ m. HubServes hub m new) ends.1 (subst (λ t. HubServes t n new) ends.0 serves)) result ordered;
+        call_served hub number request some_call.0 (asks some_call.0 some_call.1) old new three
+        single (subst (λ m. HubServes hub m new) ends.1
+        (subst (λ t. HubServes t n new) ends.0 serves)) result ordered;
   }
 
   hub_calls : CommandsPort port call old result new
   hub_calls = rw e of_hub
 
-pub hub_sets : (port : HubPort) (hub : Target) (number feature : ℕ) (old : World) (result : Result (Unit {0}) PipeFault) (new : World) → port ≡ External hub number → IsSetFeature feature
-    → Commanded hub (set_port_feature feature number) old result new → CommandsPort port (set_call feature) old result new
-hub_sets port hub number feature old result new e named = hub_calls port hub number (set_call feature) (set_port_feature feature number) (call_is (set_call feature) named) (λ c is. set_asks number c feature named is) old result new e
+pub hub_sets : (port : HubPort) (hub : Target) (number feature : ℕ) (old : World)
+    (result : Result (Unit {0}) PipeFault) (new : World) → port ≡ External hub number
+    → IsSetFeature feature
+    → Commanded hub (set_port_feature feature number) old result new
+    → CommandsPort port (set_call feature) old result new
+hub_sets port hub number feature old result new e named =
+    hub_calls port hub number (set_call feature) (set_port_feature feature number)
+    (call_is (set_call feature) named) (λ c is. set_asks number c feature named is) old result new e
 
-pub hub_clears : (port : HubPort) (hub : Target) (number feature : ℕ) (old : World) (result : Result (Unit {0}) PipeFault) (new : World) → port ≡ External hub number → IsClearFeature feature
-    → Commanded hub (clear_port_feature feature number) old result new → CommandsPort port (clear_call feature) old result new
-hub_clears port hub number feature old result new e named = hub_calls port hub number (clear_call feature) (clear_port_feature feature number) (call_is (clear_call feature) named) (λ c is. clear_asks number c feature named is) old result new e
+pub hub_clears : (port : HubPort) (hub : Target) (number feature : ℕ) (old : World)
+    (result : Result (Unit {0}) PipeFault) (new : World) → port ≡ External hub number
+    → IsClearFeature feature
+    → Commanded hub (clear_port_feature feature number) old result new
+    → CommandsPort port (clear_call feature) old result new
+hub_clears port hub number feature old result new e named =
+    hub_calls port hub number (clear_call feature) (clear_port_feature feature number)
+    (call_is (clear_call feature) named) (λ c is. clear_asks number c feature named is) old result
+    new e
 
 -- A root port
 
-root_covers : (m r : PortMark) (c : PortCall) (n : ℕ) → CoversCall m r (n ∷ []) c → root_allowed m r c n ≡ true
+root_covers : (m r : PortMark) (c : PortCall) (n : ℕ) → CoversCall m r (n ∷ []) c
+    → root_allowed m r c n ≡ true
 root_covers m r c zero covers = refl
 root_covers m r c (suc i) covers =
-    and_of (m i [] || not (gives_power c)) (r i [] || not (is_reset c)) (pick (gives_power c) (m i []) covers.power) (pick (is_reset c) (r i []) covers.reset)
+    and_of (m i [] || not (gives_power c)) (r i [] || not (is_reset c))
+    (pick (gives_power c) (m i []) covers.power) (pick (is_reset c) (r i []) covers.reset)
   where
     pick : (x y : Bool) → (x ≡ true → y ≡ true) → (y || not x) ≡ true
     pick true y f = subst (λ u. (u || false) ≡ true) (sym (f refl)) refl
     pick false y f = or_right y true refl
 
-module _ (port : HubPort) (number : ℕ) (call : Option PortCall) (old new : World) (e : port ≡ Root number) (step : (c : PortCall) → call ≡ Some c → new ≡ after (root_call c number) old) where
-  one_step : (K : Step → World → Type 0) (c : PortCall) → call ≡ Some c → K (root_call c number) old → Course K old new
-  one_step K c is k = subst (λ w. Course K old w) (sym (step c is)) (step_then (root_call c number) k (here (after (root_call c number) old)))
+module _ (port : HubPort) (number : ℕ) (call : Option PortCall) (old new : World)
+    (e : port ≡ Root number) (step : (c : PortCall) → call ≡ Some c
+    → new ≡ after (root_call c number) old) where
+  one_step : (K : Step → World → Type 0) (c : PortCall) → call ≡ Some c → K (root_call c number) old
+      → Course K old new
+  one_step K c is k = subst (λ w. Course K old w) (sym (step c is))
+      (step_then (root_call c number) k (here (after (root_call c number) old)))
 
   of_root : CommandsPort (Root number) call old (Ok tt) new
   of_root = record {
@@ -461,14 +650,25 @@ module _ (port : HubPort) (number : ℕ) (call : Option PortCall) (old new : Wor
       last = root_call c number;
       acts = root_acts c number old;
       done = root_acted c number old;
-      since = λ y. subst (λ w. Course (LeavesPortAlone y) (after (root_call c number) old) w) (sym (step c x.is)) (here (after (root_call c number) old));
+      since = λ y. subst (λ w. Course (LeavesPortAlone y) (after (root_call c number) old) w)
+          (sym (step c x.is)) (here (after (root_call c number) old));
       row = record { parent = []; number = number; is = refl; reached = refl };
-      acted = record { covered = λ ports m v r few covers. keeps-root m v r few c number old ports (root_covers m r c number covers) };
-      rested = subst (KeepsAll (after (root_call c number) old)) (sym (step c x.is)) (all_none (after (root_call c number) old));
+      acted = record {
+        covered = λ ports m v r few covers. keeps-root m v r few c number old ports
+            (root_covers m r c number covers);
+      };
+      rested = subst (KeepsAll (after (root_call c number) old)) (sym (step c x.is))
+          (all_none (after (root_call c number) old));
     });
-    rests = λ f p c x sound y d. one_step (LeavesPortAlone y) c x.is ((root_acts c number old).about.others y (subst (λ p. is_way p y ≡ false) x.at d));
-    spares = λ f p c x sound h. subst (λ p. Course (KeepsPendingAt p) old new) (sym x.at) (one_step (KeepsPendingAt (number ∷ [])) c x.is ((root_acts c number old).about.spares h));
-    backlog = λ f p c x sound. subst (λ p. KeepsCall p c old new) (sym x.at) (record { covered = λ ports m v r few covers. subst (KeepsBy m v r old) (sym (step c x.is)) (keeps-root m v r few c number old ports (root_covers m r c number covers)) });
+    rests = λ f p c x sound y d. one_step (LeavesPortAlone y) c x.is
+        ((root_acts c number old).about.others y (subst (λ p. is_way p y ≡ false) x.at d));
+    spares = λ f p c x sound h. subst (λ p. Course (KeepsPendingAt p) old new) (sym x.at)
+        (one_step (KeepsPendingAt (number ∷ [])) c x.is ((root_acts c number old).about.spares h));
+    backlog = λ f p c x sound. subst (λ p. KeepsCall p c old new) (sym x.at)
+        (record {
+          covered = λ ports m v r few covers. subst (KeepsBy m v r old) (sym (step c x.is))
+              (keeps-root m v r few c number old ports (root_covers m r c number covers));
+        });
     cut = λ f p c x fault is. absurd (cc is);
     why = λ t n same. absurd (cc same);
   }
@@ -476,28 +676,48 @@ module _ (port : HubPort) (number : ℕ) (call : Option PortCall) (old new : Wor
   root_calls : CommandsPort port call old (Ok tt) new
   root_calls = rw e of_root
 
-pub root_sets : (port : HubPort) (number feature : ℕ) (old new : World) → port ≡ Root number → SetsRoot number feature old new → CommandsPort port (set_call feature) old (Ok tt) new
-root_sets port number feature old new e sets = root_calls port number (set_call feature) old new e sets.step
+pub root_sets : (port : HubPort) (number feature : ℕ) (old new : World) → port ≡ Root number
+    → SetsRoot number feature old new → CommandsPort port (set_call feature) old (Ok tt) new
+root_sets port number feature old new e sets = root_calls port number (set_call feature) old new e
+    sets.step
 
-pub root_clears : (port : HubPort) (number feature : ℕ) (old new : World) → port ≡ Root number → ClearsRoot number feature old new → CommandsPort port (clear_call feature) old (Ok tt) new
-root_clears port number feature old new e clears = root_calls port number (clear_call feature) old new e clears.step
+pub root_clears : (port : HubPort) (number feature : ℕ) (old new : World) → port ≡ Root number
+    → ClearsRoot number feature old new → CommandsPort port (clear_call feature) old (Ok tt) new
+root_clears port number feature old new e clears =
+    root_calls port number (clear_call feature) old new e clears.step
 
 -- PORT_POWER at a port of the device that a path claims the address for
 
 zero_power : Allows sets_none (set_port_feature PORT_POWER 0)
 unfolding set_port_feature
-zero_power = record { rests = refl; off = λ e. absurd (cc e); set = λ e c i x y. absurd (cc y); clear = λ e c i x y. absurd (cc e) }
+zero_power = record {
+  rests = refl;
+  off = λ e. absurd (cc e);
+  set = λ e c i x y. absurd (cc y);
+  clear = λ e c i x y. absurd (cc e);
+}
 
-module _ (t : Target) (f : AddressMap) (q : List ℕ) (old : World) (result : Result (Unit {0}) PipeFault) (new : World) (sound : IsNoBusFault result) (held : f q ≡ Some t.addr) (own : MapHolds f old) where
-  pub power_backlog : (n : ℕ) → Commanded t (set_port_feature PORT_POWER n) old result new → KeepsFound q old new
-  power_backlog zero ordered = record { found = λ ports. keeps-chain (ports_at q) unmarked (only q) (few-only q) ports (request_keeps (ports_at q) unmarked (only q) (few-only q) t (set_port_feature PORT_POWER 0) zero_power ((write_attempts t (set_port_feature PORT_POWER 0) result old new ordered.stages).whole sound) ordered.settled) }
+module _ (t : Target) (f : AddressMap) (q : List ℕ) (old : World)
+    (result : Result (Unit {0}) PipeFault) (new : World) (sound : IsNoBusFault result)
+    (held : f q ≡ Some t.addr) (own : MapHolds f old) where
+  pub power_backlog : (n : ℕ) → Commanded t (set_port_feature PORT_POWER n) old result new
+      → KeepsFound q old new
+  power_backlog zero ordered = record {
+    found =
+        λ ports. keeps-chain (ports_at q) unmarked (only q) (few-only q) ports
+        (request_keeps (ports_at q) unmarked (only q) (few-only q) t (set_port_feature PORT_POWER 0)
+        zero_power ((write_attempts t (set_port_feature PORT_POWER 0) result old new
+        ordered.stages).whole sound) ordered.settled);
+  }
   power_backlog (suc i) ordered =
       let request : Setup = set_port_feature PORT_POWER (suc i) in
-      let asked : AsksFor request SetPower (suc i) = set_asks (suc i) SetPower PORT_POWER refl refl in
+      let asked : AsksFor request SetPower (suc i) =
+      set_asks (suc i) SetPower PORT_POWER refl refl in
       let s : Sent t request old new = writes_sent t request old result new sound ordered.stages in
       record {
         found = λ ports.
             call_keeps (ports_at q) unmarked (only q) (few-only q) t q i request SetPower asked
             (λ x same. record { power = λ g. ports_covered q x i same; reset = λ g. absurd (cc g) })
-            (MapHolds f) (quiet_follows t request asked.same f q (asked.harmless refl) held) s.trail s.behind own ports;
+            (MapHolds f) (quiet_follows t request asked.same f q (asked.harmless refl) held) s.trail
+            s.behind own ports;
       }

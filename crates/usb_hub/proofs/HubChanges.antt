@@ -5,12 +5,15 @@ use Rattle.usb_world.specs.declared.types.BusFault.{BusFault}
 use Rattle.usb_world.specs.World.{World, Failed}
 use Rattle.usb_pipe.specs.Control.{FaultAfter}
 use Rattle.usb_pipe.specs.declared.fault.PipeFault.{PipeFault}
-use Rattle.usb_pipe.specs.declared.fault.PipeFault.TheVariants.{Stalled, Busy, NoAnswer, Broken, Bus, Memory}
+use Rattle.usb_pipe.specs.declared.fault.PipeFault.TheVariants.{Stalled, Busy, NoAnswer, Broken}
+use Rattle.usb_pipe.specs.declared.fault.PipeFault.TheVariants.{Bus, Memory}
 use Rattle.usb_hub.specs.Changes.{ToldBus, done_or_unknown}
 use Rattle.usb_hub.specs.Requests.{EndsAfter}
 
 -- where the bus gave up, it tells its fault
-pub told_bus : {A : Type 0} (least : ℕ) (old : World) (answer : Result A PipeFault) (fault : PipeFault) (new : World) → EndsAfter least old answer new → answer ≡ Err fault → ToldBus (done_or_unknown (Err fault)) new
+pub told_bus : {A : Type 0} (least : ℕ) (old : World) (answer : Result A PipeFault)
+    (fault : PipeFault) (new : World) → EndsAfter least old answer new → answer ≡ Err fault
+    → ToldBus (done_or_unknown (Err fault)) new
 told_bus least old (Ok x) fault new ends is told e = absurd (cc is)
 told_bus least old (Err why) Stalled new ends is told e = absurd (cc e)
 told_bus least old (Err why) Busy new ends is told e = absurd (cc e)
@@ -19,15 +22,20 @@ told_bus least old (Err why) Broken new ends is told e = absurd (cc e)
 told_bus least old (Err why) (Bus given) new ends is told e =
     let same : why ≡ Bus given = cc is in
     let as_told : given ≡ told = cc e in
-    subst (λ (f : BusFault). Failed f new) as_told (subst (λ (f : PipeFault). FaultAfter 1 old f new) same ends)
+    subst (λ (f : BusFault). Failed f new) as_told
+    (subst (λ (f : PipeFault). FaultAfter 1 old f new) same ends)
 told_bus least old (Err why) Memory new ends is told e = absurd (cc e)
 
-pub told_done : (least : ℕ) (old : World) (answer : Result (Unit {0}) PipeFault) (new : World) → EndsAfter least old answer new → ToldBus (done_or_unknown answer) new
+pub told_done : (least : ℕ) (old : World) (answer : Result (Unit {0}) PipeFault) (new : World)
+    → EndsAfter least old answer new → ToldBus (done_or_unknown answer) new
 told_done least old (Ok done) new ends told e = absurd (cc e)
-told_done least old (Err fault) new ends told e = told_bus {A = Unit {0}} least old (Err fault) fault new ends refl told e
+told_done least old (Err fault) new ends told e =
+    told_bus {A = Unit {0}} least old (Err fault) fault new ends refl told e
 
 -- and any other fault came after as many attempts
-pub done_fault_after : (least : ℕ) (old : World) (answer : Result (Unit {0}) PipeFault) (new : World) → EndsAfter least old answer new → IfErr (done_or_unknown answer) (λ fault. FaultAfter 1 old fault new)
+pub done_fault_after : (least : ℕ) (old : World) (answer : Result (Unit {0}) PipeFault)
+    (new : World) → EndsAfter least old answer new
+    → IfErr (done_or_unknown answer) (λ fault. FaultAfter 1 old fault new)
 done_fault_after least old (Ok done) new ends = tt
 done_fault_after least old (Err Stalled) new ends = tt
 done_fault_after least old (Err Busy) new ends = ends

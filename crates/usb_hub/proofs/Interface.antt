@@ -1,14 +1,18 @@
 -- The lemmas that crates above cite. All others are for this crate alone.
 pub use Rattle.usb_hub.proofs.ActingCalls.{AsksFor, place_below}
 pub use Rattle.usb_hub.proofs.BaredPorts.{disabled_port}
-pub use Rattle.usb_hub.proofs.Calls.{hub_done, hub_named, hub_rests, hub_sets, power_backlog, set_asks}
-pub use Rattle.usb_hub.proofs.Devices.{stays_as_same, stays-registers, stays-spec, stays_itself, stays_joined, keeps_devices_none}
+pub use Rattle.usb_hub.proofs.Calls.{hub_done, hub_named, hub_rests, hub_sets, power_backlog}
+pub use Rattle.usb_hub.proofs.Calls.{set_asks}
+pub use Rattle.usb_hub.proofs.Devices.{stays_as_same, stays-registers, stays-spec, stays_itself}
+pub use Rattle.usb_hub.proofs.Devices.{stays_joined, keeps_devices_none}
 pub use Rattle.usb_hub.proofs.AddressesKept.{set_keeps}
 pub use Rattle.usb_hub.proofs.Backlogs.{write_backlog}
 pub use Rattle.usb_hub.proofs.Orders.{order_elsewhere}
 pub use Rattle.usb_hub.proofs.Ports.{asked_port, is_asked_stays, is_port-spends, reset_went}
-pub use Rattle.usb_hub.proofs.PoweredPorts.{spec_of-none, powered_stands, row_reached-back, sane_there, state_of_place}
+pub use Rattle.usb_hub.proofs.PoweredPorts.{spec_of-none, powered_stands, row_reached-back}
+pub use Rattle.usb_hub.proofs.PoweredPorts.{sane_there, state_of_place}
 pub use Rattle.usb_hub.proofs.RestingRequests.{write_rests}
 pub use Rattle.usb_hub.proofs.Settings.{each_leaves, write_so}
-pub use Rattle.usb_hub.proofs.CalledPorts.{Called, StandsSo, StandsTold, done_stands, due_course, enabled_reach, port_of_place, told_stands}
+pub use Rattle.usb_hub.proofs.CalledPorts.{Called, StandsSo, StandsTold, done_stands, due_course}
+pub use Rattle.usb_hub.proofs.CalledPorts.{enabled_reach, port_of_place, told_stands}
 pub use Rattle.usb_hub.proofs.Statuses.{row_port}

@@ -1,5 +1,7 @@
 -- What was so of a port at a moment of a call on it.
-use Rattle.std.proofs.Common.{◌≡◌, ℕ, zero, suc, ◌-◌, ◌≤◌, inr, true, false, List, [], ◌∷◌, ◌++◌, take, slice_get, slice_index_or, Some, option_map, Result, Ok, refl, ap, sym, subst, ◌∙◌, arith}
+use Rattle.std.proofs.Common.{◌≡◌, ℕ, zero, suc, ◌-◌, ◌≤◌, inr, true, false, List, [], ◌∷◌, ◌++◌}
+use Rattle.std.proofs.Common.{take, slice_get, slice_index_or, Some, option_map, Result, Ok, refl}
+use Rattle.std.proofs.Common.{ap, sym, subst, ◌∙◌, arith}
 use Rattle.std.proofs.lemmas.Option.{same_Some, slice_get-get_or}
 use Rattle.std.specs.Global.{Vec}
 use Rattle.usb_port.specs.Path.{IsPath, IsPortNumber}
@@ -36,7 +38,8 @@ use Rattle.usb_pipe.specs.Leaves.{AnswerRead, ReadLeaves}
 use Rattle.usb_pipe.proofs.Interface.{read_leaves, who_reads}
 use Rattle.usb_address.specs.Claims.{AddressMap}
 use Rattle.usb_address.specs.Ownership.{MapHolds, WhileBusWorks}
-use Rattle.usb_address.proofs.Interface.{settled_attempt, place_ports, less_one, is_path-empty, no_root, port_below_at, reads_leave, same_setup}
+use Rattle.usb_address.proofs.Interface.{settled_attempt, place_ports, less_one, is_path-empty}
+use Rattle.usb_address.proofs.Interface.{no_root, port_below_at, reads_leave, same_setup}
 use Rattle.usb_hub.specs.Addresses.{IsBelow}
 use Rattle.usb_hub.specs.declared.port.HubPort.{HubPort}
 use Rattle.usb_hub.specs.declared.port.HubPort.TheVariants.{Root, External}
@@ -64,7 +67,8 @@ record Answered (t : Target) (old new : World) (j : Location) : Type 0 where
   at : is_at before t ≡ true
 
 -- it is at the path that claims the target's address
-answered_at : (f : AddressMap) (t : Target) (old new : World) (j : Location) → MapHolds f old → f (path_to j) ≡ Some t.addr → Answerer t old new → Answered t old new j
+answered_at : (f : AddressMap) (t : Target) (old new : World) (j : Location) → MapHolds f old
+    → f (path_to j) ≡ Some t.addr → Answerer t old new → Answered t old new j
 answered_at f t old new j o held a = record {
   now = a.now;
   on = subst (λ x. reach new.roots x ≡ true) same a.on;
@@ -75,14 +79,18 @@ answered_at f t old new j o held a = record {
 }
   where
     claims : f (path_to a.spot) ≡ Some t.addr
-    claims = sym (o.own (path_to a.spot) a.was_on) ∙ ap (option_map address_of) a.stood ∙ ap (λ n. Some n) (equal_same (address_of a.before) t.addr a.at)
+    claims = sym (o.own (path_to a.spot) a.was_on) ∙ ap (option_map address_of) a.stood
+        ∙ ap (λ n. Some n) (equal_same (address_of a.before) t.addr a.at)
 
     same : (path_to a.spot) ≡ (path_to j)
-    same = same_is (path_to j) (path_to a.spot) (o.distinct (path_to j) (path_to a.spot) t.addr held claims)
+    same = same_is (path_to j) (path_to a.spot) (o.distinct (path_to j) (path_to a.spot) t.addr held
+        claims)
 
 -- The status of a port of a hub
 
-module _ (t : Target) (j : Location) (i : ℕ) (old new : World) (bytes : Vec ℕ) (told : Queried t (get_port_status (suc i)) old (Ok bytes) new) (single : new.shared ≡ false) (a : Answered t old new j) where
+module _ (t : Target) (j : Location) (i : ℕ) (old new : World) (bytes : Vec ℕ)
+    (told : Queried t (get_port_status (suc i)) old (Ok bytes) new) (single : new.shared ≡ false)
+    (a : Answered t old new j) where
   abbrev request : Setup
   request = get_port_status (suc i)
 
@@ -103,10 +111,13 @@ module _ (t : Target) (j : Location) (i : ℕ) (old new : World) (bytes : Vec �
   sets_no_port = refl
 
   was : Was (ReadLeaves t request (Ok bytes) old new) old j a.now
-  was = read_leaves t request (Ok bytes) old new host (subst (λ n. 1 ≤ n) (sym length_is) (omega arith)) (same_setup request) told.settled told.stages single j a.now a.on a.stands
+  was = read_leaves t request (Ok bytes) old new host
+      (subst (λ n. 1 ≤ n) (sym length_is) (omega arith)) (same_setup request) told.settled
+      told.stages single j a.now a.on a.stands
 
   asked_it : is_at was.before t ≡ true
-  asked_it = subst (λ s. is_at s t ≡ true) (same_Some a.before was.before (sym a.stood ∙ was.stands)) a.at
+  asked_it = subst (λ s. is_at s t ≡ true) (same_Some a.before was.before (sym a.stood
+      ∙ was.stands)) a.at
 
   done : AnswerRead t request bytes.items old new j was.before a.now
   done = was.so.done asked_it bytes refl
@@ -117,22 +128,29 @@ module _ (t : Target) (j : Location) (i : ℕ) (old new : World) (bytes : Vec �
   accepted_there : AcceptedAt t (bytes_of request) old now j was.before done.moment.accepts.state
   accepted_there = done.moment.accepts.at
 
-  status : StatusOf done.row (suc i - 1) done.answer (effect_of_request (outcome was.before.spec was.before.registers request))
+  status : StatusOf done.row (suc i - 1) done.answer
+      (effect_of_request (outcome was.before.spec was.before.registers request))
   status = get_port_status-outcome was.before.spec was.before.registers done.row (suc i) done.answer
-      (subst (λ n. first_stage done.row n (outcome was.before.spec was.before.registers request) ≡ reading done.answer n 0) length_is done.is)
+      (subst (λ n. first_stage done.row n (outcome was.before.spec was.before.registers request)
+      ≡ reading done.answer n 0) length_is done.is)
 
   effect : asked_by_setup was.before (setup_of (bytes_of request)) ≡ Leaves
   effect = ap (asked_by_setup was.before) (same_setup request) ∙ status.nothing
 
   came : bytes.items ≡ status_of status.port
-  came = done.came (inr (subst (λ n. n ≤ 8) (sym length_is) (omega arith))) ∙ ap (λ n. take n done.answer) length_is ∙ ap (take 4) status.told ∙ whole_status status.port
+  came = done.came (inr (subst (λ n. n ≤ 8) (sym length_is) (omega arith)))
+      ∙ ap (λ n. take n done.answer) length_is ∙ ap (take 4) status.told ∙ whole_status status.port
 
   in_row : port_at accepted_there.holder.below i [] ≡ Some status.port
   unfolding accepted_there
-  in_row = row_port accepted_there.holder.below i ∙ ap (λ x. slice_get x i) (sym done.moment.accepts.had) ∙ ap (slice_get done.row) (sym (less_one i)) ∙ status.stands
+  in_row = row_port accepted_there.holder.below i
+      ∙ ap (λ x. slice_get x i) (sym done.moment.accepts.had)
+      ∙ ap (slice_get done.row) (sym (less_one i)) ∙ status.stands
 
   stood : port_at now.roots j.row (j.rest ++ (suc i ∷ [])) ≡ Some status.port
-  stood = port_below_at now.roots j.row j.rest (suc i) [] ∙ ap (λ x. port_at (place_ports x) i []) accepted_there.left ∙ ap (λ x. port_at (acted x accepted_there.holder.below) i []) effect ∙ in_row
+  stood = port_below_at now.roots j.row j.rest (suc i) []
+      ∙ ap (λ x. port_at (place_ports x) i []) accepted_there.left
+      ∙ ap (λ x. port_at (acted x accepted_there.holder.below) i []) effect ∙ in_row
 
   told_there : PortStatusAt ((path_to j) ++ (suc i ∷ [])) (status_in bytes.items) old new
   told_there = record {
@@ -141,13 +159,19 @@ module _ (t : Target) (j : Location) (i : ℕ) (old new : World) (bytes : Vec �
     stood = stood;
     is = ap status_in came ∙ status_seen status.port;
     before = resting_course t request plain old now accepted_there;
-    since = λ x. behind_asks_nothing t x done.moment.since (subst (λ w. IsSettled w.roots) (sym accepted_there.last) (settled_attempt _ accepted_there.mid accepted_there.holder.made.settled));
+    since = λ x. behind_asks_nothing t x done.moment.since
+        (subst (λ w. IsSettled w.roots) (sym accepted_there.last)
+        (settled_attempt _ accepted_there.mid accepted_there.holder.made.settled));
     row = record { parent = path_to j; number = suc i; is = refl; reached = a.on };
     untold = asked_backlog t request sets_no_port accepted_there told.settled;
-    rested = rests_backlog t done.moment.since (subst (λ w. IsSettled w.roots) (sym accepted_there.last) (settled_attempt _ accepted_there.mid accepted_there.holder.made.settled));
+    rested = rests_backlog t done.moment.since
+        (subst (λ w. IsSettled w.roots) (sym accepted_there.last)
+        (settled_attempt _ accepted_there.mid accepted_there.holder.made.settled));
   }
 
-at_hub : (t : Target) (f : AddressMap) (hub : List ℕ) (port : ℕ) (old new : World) (bytes : Vec ℕ) → IsPath hub → IsPortNumber port → f hub ≡ Some t.addr → MapHolds f old → Queried t (get_port_status port) old (Ok bytes) new
+at_hub : (t : Target) (f : AddressMap) (hub : List ℕ) (port : ℕ) (old new : World) (bytes : Vec ℕ)
+    → IsPath hub → IsPortNumber port → f hub ≡ Some t.addr → MapHolds f old
+    → Queried t (get_port_status port) old (Ok bytes) new
     → PortStatusAt (hub ++ (port ∷ [])) (status_in bytes.items) old new
 unfolding get_port_status
 at_hub t f [] port old new bytes is number held own told = absurd (is_path-empty is)
@@ -155,45 +179,80 @@ at_hub t f (zero ∷ e) port old new bytes is number held own told = absurd (no_
 at_hub t f (suc j ∷ e) zero old new bytes is number held own told = absurd (omega (arith, number.0))
 at_hub t f (suc j ∷ e) (suc i) old new bytes is number held own told =
     told_there t (record { row = j; rest = e }) i old new bytes told after.single
-    (answered_at f t old new (record { row = j; rest = e }) own held (who_reads t (get_port_status (suc i)) bytes old new (omega arith) (same_setup (get_port_status (suc i))) told.settled told.stages after.single))
+    (answered_at f t old new (record { row = j; rest = e }) own held
+    (who_reads t (get_port_status (suc i)) bytes old new (omega arith)
+    (same_setup (get_port_status (suc i))) told.settled told.stages after.single))
   where
     after : MapHolds f new
-    after = reads_leave f t (get_port_status (suc i)) (same_setup (get_port_status (suc i))) refl refl old (Ok bytes) new told.stages own
+    after = reads_leave f t (get_port_status (suc i)) (same_setup (get_port_status (suc i))) refl
+        refl old (Ok bytes) new told.stages own
 
 -- why it is not told
-told_served : (t : Target) (n : ℕ) (old : World) (result : Result PortStatus PipeFault) (new : World) → ReadAs status_in t (get_port_status n) old result new → NoThreeDamaged old → new.shared ≡ false → 8 ≤ t.max
-    → (x : HubServes t n new) → (b : PortState) → port_there old.roots (path_to x.spot ++ (n ∷ [])) ≡ Some b → NoHubFailed result
-told_served t zero old result new told three single most x b stood = absurd (omega (arith, x.has.least))
-told_served t (suc i) old result new told three single most x b stood = status_served t i old new three single most x b stood status_in result told
+told_served : (t : Target) (n : ℕ) (old : World) (result : Result PortStatus PipeFault)
+    (new : World) → ReadAs status_in t (get_port_status n) old result new → NoThreeDamaged old
+    → new.shared ≡ false → 8 ≤ t.max
+    → (x : HubServes t n new) → (b : PortState) → port_there old.roots (path_to x.spot ++ (n ∷ []))
+    ≡ Some b → NoHubFailed result
+told_served t zero old result new told three single most x b stood =
+    absurd (omega (arith, x.has.least))
+told_served t (suc i) old result new told three single most x b stood =
+    status_served t i old new three single most x b stood status_in result told
 
-port_status_why : (hub : Target) (port : ℕ) (old : World) (result : Result PortStatus PipeFault) (new : World) → ReadAs status_in hub (get_port_status port) old result new
-    → (h : Target) (n : ℕ) → External hub port ≡ External h n → NoThreeDamaged old → new.shared ≡ false → 8 ≤ h.max → (x : HubServes h n new)
-    → (b : PortState) → port_there old.roots (path_to x.spot ++ (n ∷ [])) ≡ Some b → NoHubFailed result
+port_status_why : (hub : Target) (port : ℕ) (old : World) (result : Result PortStatus PipeFault)
+    (new : World) → ReadAs status_in hub (get_port_status port) old result new
+    → (h : Target) (n : ℕ) → External hub port ≡ External h n → NoThreeDamaged old
+    → new.shared ≡ false → 8 ≤ h.max → (x : HubServes h n new)
+    → (b : PortState) → port_there old.roots (path_to x.spot ++ (n ∷ [])) ≡ Some b
+    → NoHubFailed result
 port_status_why hub port old result new told h n same =
     let ends : _ = same_port hub h port n same in
-    told_served h n old result new (subst (λ t. ReadAs status_in t (get_port_status n) old result new) (sym ends.0) (subst (λ m. ReadAs status_in hub (get_port_status m) old result new) (sym ends.1) told))
+    told_served h n old result new (subst (λ t. ReadAs status_in t (get_port_status n) old result
+    new) (sym ends.0) (subst (λ m. ReadAs status_in hub (get_port_status m) old result new)
+    (sym ends.1) told))
 
-pub hub_tells : (hub_port : HubPort) (hub : Target) (port : ℕ) (old : World) (result : Result PortStatus PipeFault) (new : World) → hub_port ≡ External hub port → ReadAs status_in hub (get_port_status port) old result new → ReadsPort hub_port old result new
-hub_tells hub_port hub port old result new is told = rw is (record { tells = λ f p at o status e. tells f p at o status (subst (λ r. ReadAs status_in hub (get_port_status port) old r new) e told); why = λ h n same three single most serves b stood. port_status_why hub port old result new told h n same three single most serves b stood })
+pub hub_tells : (hub_port : HubPort) (hub : Target) (port : ℕ) (old : World)
+    (result : Result PortStatus PipeFault) (new : World) → hub_port ≡ External hub port
+    → ReadAs status_in hub (get_port_status port) old result new → ReadsPort hub_port old result new
+hub_tells hub_port hub port old result new is told =
+    rw is (record {
+      tells = λ f p at o status e. tells f p at o status
+          (subst (λ r. ReadAs status_in hub (get_port_status port) old r new) e told);
+      why =
+          λ h n same three single most serves b stood. port_status_why hub port old result new told
+          h
+          n same three single most serves b stood;
+    })
   where
-    tells : (f : AddressMap) (p : List ℕ) → IsBelow f hub.addr port p → WhileBusWorks (MapHolds f) old → (status : PortStatus) → ReadAs status_in hub (get_port_status port) old (Ok status) new → PortStatusAt p status old new
+    tells : (f : AddressMap) (p : List ℕ) → IsBelow f hub.addr port p
+        → WhileBusWorks (MapHolds f) old → (status : PortStatus)
+        → ReadAs status_in hub (get_port_status port) old (Ok status) new
+        → PortStatusAt p status old new
     tells f p at o status told =
-        let read : IsReadFrom status_in told.answer status = said status_in (get_port_status port).length told.answer status told.told in
+        let read : IsReadFrom status_in told.answer status =
+        said status_in (get_port_status port).length told.answer status told.told in
         subst (λ p. PortStatusAt p status old new) (sym at.path)
         (subst (λ s. PortStatusAt (at.hub ++ (port ∷ [])) s old new) (sym read.read_so)
-        (at_hub hub f at.hub port old new read.bytes at.is_path at.number at.held (o.so told.ends.sound) (subst (λ r. Queried hub (get_port_status port) old r new) read.is told.asked)))
+        (at_hub hub f at.hub port old new read.bytes at.is_path at.number at.held
+        (o.so told.ends.sound) (subst (λ r. Queried hub (get_port_status port) old r new)
+        read.is told.asked)))
 
 -- The status of a root port
 
-root_stood : (number : ℕ) (w : World) → IsRootPort w number → port_there w.roots (number ∷ []) ≡ Some (root_port w number)
+root_stood : (number : ℕ) (w : World) → IsRootPort w number → port_there w.roots (number ∷ [])
+    ≡ Some (root_port w number)
 unfolding root_port
 root_stood zero w is = absurd (omega (arith, is.0))
-root_stood (suc i) w is = row_port w.roots i ∙ slice_get-get_or (root_row w) i off (omega (arith, is.1)) ∙ ap (λ n. Some (slice_index_or (root_row w) n off)) (sym (less_one i))
+root_stood (suc i) w is = row_port w.roots i
+    ∙ slice_get-get_or (root_row w) i off (omega (arith, is.1))
+    ∙ ap (λ n. Some (slice_index_or (root_row w) n off)) (sym (less_one i))
 
-pub root_tells : (port : HubPort) (number : ℕ) (old : World) (result : Result PortStatus PipeFault) (new : World) → port ≡ Root number → IsPort old port → PortRead port old result new → ReadsPort port old result new
+pub root_tells : (port : HubPort) (number : ℕ) (old : World) (result : Result PortStatus PipeFault)
+    (new : World) → port ≡ Root number → IsPort old port → PortRead port old result new
+    → ReadsPort port old result new
 root_tells port number old result new e is read = rw e (root (rw e at is) (rw e at read))
   where
-    root : IsRootPort old number → RootRead number old result new → ReadsPort (Root number) old result new
+    root : IsRootPort old number → RootRead number old result new
+        → ReadsPort (Root number) old result new
     root is r = record {
       tells = λ f p at o status told. record {
         now = old;
@@ -209,5 +268,6 @@ root_tells port number old result new e is read = rw e (root (rw e at is) (rw e 
       why = λ hub n same. absurd (cc same);
     }
       where
-        same_status : (status : PortStatus) → (let a : Result PortStatus PipeFault = Ok status in a ≡ Ok (seen (root_port old number))) → status ≡ seen (root_port old number)
+        same_status : (status : PortStatus) → (let a : Result PortStatus PipeFault = Ok status in
+            a ≡ Ok (seen (root_port old number))) → status ≡ seen (root_port old number)
         same_status status h = cc

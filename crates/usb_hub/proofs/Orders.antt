@@ -1,4 +1,5 @@
--- A request without data that resets no port asks nothing but of ports below the device that has its address.
+-- A request without data that resets no port asks nothing but of ports below the device that has
+-- its address.
 use Rattle.std.proofs.Common.{◌≡◌, ℕ, ◌⊎◌, inl, inr, true, false, List, Result, refl, ap, ◌∙◌}
 use Rattle.usb_request.specs.Layout.{bytes_of}
 use Rattle.usb_request.specs.declared.setup.Setup.{Setup}
@@ -17,21 +18,29 @@ use Rattle.usb_pipe.specs.declared.fault.PipeFault.{PipeFault}
 use Rattle.usb_pipe.specs.Stages.{Writes}
 use Rattle.usb_pipe.specs.Leaves.{IsNoBusFault}
 use Rattle.usb_address.specs.Ownership.{MapHolds}
-use Rattle.usb_address.proofs.Interface.{ClaimedAt, KeepsClaim, claimed_holder, nobody_asks_nothing, quiet_follows, same_setup, trail_with, unshared_after}
+use Rattle.usb_address.proofs.Interface.{ClaimedAt, KeepsClaim, claimed_holder, nobody_asks_nothing}
+use Rattle.usb_address.proofs.Interface.{quiet_follows, same_setup, trail_with, unshared_after}
 use Rattle.usb_hub.specs.Requests.{TouchesPortsBelow}
 use Rattle.usb_hub.proofs.Calls.{Sent, writes_sent}
 use Rattle.usb_hub.proofs.RestingRequests.{behind_asks_nothing}
 
 -- an attempt for an address that a path claims
-attempt_elsewhere : (a : Attempt) (w : World) (q x : List ℕ) → ClaimedAt q a.addr w → Made w (after (attempt a) w) → is_above q x ≡ false → AsksNothing (attempt a) w x
-attempt_elsewhere a w q x claimed made apart = pick (holder_or_nobody a w (made_of a w claimed.owned.settled made) (unshared_after claimed.claims a w claimed.owned))
+attempt_elsewhere : (a : Attempt) (w : World) (q x : List ℕ) → ClaimedAt q a.addr w
+    → Made w (after (attempt a) w) → is_above q x ≡ false → AsksNothing (attempt a) w x
+attempt_elsewhere a w q x claimed made apart =
+    pick (holder_or_nobody a w (made_of a w claimed.owned.settled made)
+    (unshared_after claimed.claims a w claimed.owned))
   where
     pick : HolderIn a w ⊎ NobodyHolds a.addr (at_attempt w).roots → AsksNothing (attempt a) w x
-    pick (inl h) = elsewhere a w h x (ap (λ y. is_above y x) (claimed_holder q a.addr w claimed a refl h) ∙ apart)
+    pick (inl h) = elsewhere a w h x (ap (λ y. is_above y x)
+        (claimed_holder q a.addr w claimed a refl h) ∙ apart)
     pick (inr h) = nobody_asks_nothing a w x h claimed.owned.settled
 
-pub order_elsewhere : (t : Target) (request : Setup) (result : Result (Unit {0}) PipeFault) (old new : World) → Writes t request old result new → is_harmless request ≡ true → IsNoBusFault result → TouchesPortsBelow t.addr old new
-order_elsewhere t request result old new writes harmless sound f q held own x apart = course_joined trail.1 (behind_asks_nothing t x sent.behind trail.0.settled)
+pub order_elsewhere : (t : Target) (request : Setup) (result : Result (Unit {0}) PipeFault)
+    (old new : World) → Writes t request old result new → is_harmless request ≡ true
+    → IsNoBusFault result → TouchesPortsBelow t.addr old new
+order_elsewhere t request result old new writes harmless sound f q held own x apart =
+    course_joined trail.1 (behind_asks_nothing t x sent.behind trail.0.settled)
   where
     sent : Sent t request old new
     sent = writes_sent t request old result new sound writes
@@ -40,4 +49,6 @@ order_elsewhere t request result old new writes harmless sound f q held own x ap
     follows = quiet_follows t request (same_setup request) f q harmless held
 
     trail : MapHolds f sent.mid × Course (LeavesPortAlone x) old sent.mid
-    trail = trail_with (MapHolds f) follows.onward (λ w made o. attempt_elsewhere (setup_attempt t (bytes_of request)) w q x (follows.claimed w o) made apart) sent.trail own
+    trail = trail_with (MapHolds f) follows.onward
+        (λ w made o. attempt_elsewhere (setup_attempt t (bytes_of request)) w q x
+        (follows.claimed w o) made apart) sent.trail own

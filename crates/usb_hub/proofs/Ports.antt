@@ -6,13 +6,16 @@ use Rattle.usb_port.specs.PortState.{PortState}
 use Rattle.usb_port.specs.Calls.{set_call, clear_call, IsSetFeature, IsClearFeature}
 use Rattle.usb_world.specs.World.{World, AttemptsWithin, IsRootPort, root_row, changes}
 use Rattle.usb_world.specs.Steps.{SetsRoot, ClearsRoot}
-use Rattle.usb_world.proofs.Interface.{RootCalled, change_most, changes-set, clears_change, clears_spend, resets_spend, root_called}
+use Rattle.usb_world.proofs.Interface.{RootCalled, change_most, changes-set, clears_change}
+use Rattle.usb_world.proofs.Interface.{clears_spend, resets_spend, root_called}
 use Rattle.usb_bus.specs.Traces.{Traced, StepRun}
 use Rattle.usb_hub.specs.declared.port.HubPort.{HubPort}
 use Rattle.usb_hub.specs.declared.port.HubPort.TheVariants.{Root, External}
-use Rattle.usb_hub.specs.Port.{IsAsked, IsPort, order_bound, TakesNoTime, RootSet, RootCleared, SetSteps, PortSet, PortCleared}
+use Rattle.usb_hub.specs.Port.{IsAsked, IsPort, order_bound, TakesNoTime, RootSet, RootCleared}
+use Rattle.usb_hub.specs.Port.{SetSteps, PortSet, PortCleared}
 
-root_call_takes_no_time : (number : ℕ) (p : PortState) (old new : World) → RootCalled number p old new → TakesNoTime old new
+root_call_takes_no_time : (number : ℕ) (p : PortState) (old new : World)
+    → RootCalled number p old new → TakesNoTime old new
 root_call_takes_no_time number p old new c = record {
   attempts = c.attempts;
   limit = c.limit;
@@ -26,12 +29,18 @@ if_one-most : (b : Bool) → (if b then 1 else 0) ≤ 1
 if_one-most true = omega arith
 if_one-most false = omega arith
 
-changes_written : (number : ℕ) (p : PortState) (old new : World) → IsRootPort old number → RootCalled number p old new → changes (root_row new) ≤ changes (root_row old) + 1
+changes_written : (number : ℕ) (p : PortState) (old new : World) → IsRootPort old number
+    → RootCalled number p old new → changes (root_row new) ≤ changes (root_row old) + 1
 changes_written number p old new is c =
     subst (λ row. changes row ≤ changes (root_row old) + 1) (sym c.row)
-    (omega (arith, changes-set (root_row old) (number - 1) p (omega (arith, is.0, is.1)), change_most p))
+    (omega (
+      arith,
+      changes-set (root_row old) (number - 1) p (omega (arith, is.0, is.1)),
+      change_most p,
+    ))
 
-pub root_set : (number feature : ℕ) (old new : World) → IsRootPort old number → IsSetFeature feature → SetsRoot number feature old new → RootSet number feature old (Ok tt) new
+pub root_set : (number feature : ℕ) (old new : World) → IsRootPort old number → IsSetFeature feature
+    → SetsRoot number feature old new → RootSet number feature old (Ok tt) new
 root_set number feature old new is named row =
     let called = root_called number (set_call feature) old new is named row.step in
     record {
@@ -42,43 +51,64 @@ root_set number feature old new is named row =
       powers = changes_written number _ old new is called;
     }
 
-pub root_cleared : (number feature : ℕ) (old new : World) → IsRootPort old number → IsClearFeature feature → ClearsRoot number feature old new → RootCleared number feature old (Ok tt) new
+pub root_cleared : (number feature : ℕ) (old new : World) → IsRootPort old number
+    → IsClearFeature feature → ClearsRoot number feature old new
+    → RootCleared number feature old (Ok tt) new
 root_cleared number feature old new is named row = record {
   done = refl;
   row = row;
-  quiet = root_call_takes_no_time number _ old new (root_called number (clear_call feature) old new is named row.step);
+  quiet = root_call_takes_no_time number _ old new
+      (root_called number (clear_call feature) old new is named row.step);
   count = clears_spend number feature old new is named row;
-  served = λ e set. clears_change number old new is set (subst (λ f. ClearsRoot number f old new) e row);
+  served = λ e set. clears_change number old new is set
+      (subst (λ f. ClearsRoot number f old new) e row);
 }
 
 -- a port stays one while the bus has as many root ports
-pub is_port-spends : (n : ℕ) (port : HubPort) (old new : World) → AttemptsWithin n old new → IsPort old port → IsPort new port
+pub is_port-spends : (n : ℕ) (port : HubPort) (old new : World) → AttemptsWithin n old new
+    → IsPort old port → IsPort new port
 is_port-spends n (Root number) old new s is = (is.0, omega (arith, is.1, s.roots))
 is_port-spends n (External hub port) old new s is = is
 
-pub asked_port : (modelled : Bool) (w : World) (port : HubPort) → modelled ≡ true → IsAsked modelled w port → IsPort w port
+pub asked_port : (modelled : Bool) (w : World) (port : HubPort) → modelled ≡ true
+    → IsAsked modelled w port → IsPort w port
 asked_port modelled w (Root number) known asked = asked known
 asked_port modelled w (External hub port) known asked = asked
 
-pub is_asked_stays : (modelled : Bool) (n : ℕ) (port : HubPort) (old new : World) → (modelled ≡ true → AttemptsWithin n old new) → IsAsked modelled old port → IsAsked modelled new port
-is_asked_stays modelled n (Root number) old new s asked = λ known. is_port-spends n (Root number) old new (s known) (asked known)
+pub is_asked_stays : (modelled : Bool) (n : ℕ) (port : HubPort) (old new : World)
+    → (modelled ≡ true → AttemptsWithin n old new) → IsAsked modelled old port
+    → IsAsked modelled new port
+is_asked_stays modelled n (Root number) old new s asked =
+    λ known. is_port-spends n (Root number) old new (s known) (asked known)
 is_asked_stays modelled n (External hub port) old new s asked = asked
 
 -- the same of a port that is one of the root
-pub port_set-root : (port : HubPort) (number feature : ℕ) (old new : World) → port ≡ Root number → IsPort old port → IsSetFeature feature → SetsRoot number feature old new → PortSet port feature old (Ok tt) new
-port_set-root port number feature old new e is named row = rw e (root_set number feature old new (rw e at is) named row)
+pub port_set-root : (port : HubPort) (number feature : ℕ) (old new : World) → port ≡ Root number
+    → IsPort old port → IsSetFeature feature → SetsRoot number feature old new
+    → PortSet port feature old (Ok tt) new
+port_set-root port number feature old new e is named row =
+    rw e (root_set number feature old new (rw e at is) named row)
 
-pub port_cleared-root : (port : HubPort) (number feature : ℕ) (old new : World) → port ≡ Root number → IsPort old port → IsClearFeature feature → ClearsRoot number feature old new → PortCleared port feature old (Ok tt) new
-port_cleared-root port number feature old new e is named row = rw e (root_cleared number feature old new (rw e at is) named row)
+pub port_cleared-root : (port : HubPort) (number feature : ℕ) (old new : World) → port ≡ Root number
+    → IsPort old port → IsClearFeature feature → ClearsRoot number feature old new
+    → PortCleared port feature old (Ok tt) new
+port_cleared-root port number feature old new e is named row =
+    rw e (root_cleared number feature old new (rw e at is) named row)
 
 -- and the course that such a call is
-pub set_went-root : (port : HubPort) (number feature : ℕ) (old new : World) (before now : Option (List ℕ)) → port ≡ Root number → PortSet port feature old (Ok tt) new → Traced old before new now → SetSteps port feature old before new now
-set_went-root port number feature old new before now e set traced = rw e (traced, (rw e at set).resets)
+pub set_went-root : (port : HubPort) (number feature : ℕ) (old new : World)
+    (before now : Option (List ℕ)) → port ≡ Root number → PortSet port feature old (Ok tt) new
+    → Traced old before new now → SetSteps port feature old before new now
+set_went-root port number feature old new before now e set traced =
+    rw e (traced, (rw e at set).resets)
 
 -- PORT_RESET's attempts, at each port
-pub reset_went : (port : HubPort) {old new : World} {before now : Option (List ℕ)} → SetSteps port PORT_RESET old before new now → StepRun (order_bound port) old before new now
+pub reset_went : (port : HubPort) {old new : World} {before now : Option (List ℕ)}
+    → SetSteps port PORT_RESET old before new now → StepRun (order_bound port) old before new now
 reset_went (Root number) p = record { spends = p.1 refl; traced = p.0 }
 reset_went (External hub port) p = p
 
-pub cleared_spends-root : (port : HubPort) (number feature : ℕ) (old new : World) → port ≡ Root number → PortCleared port feature old (Ok tt) new → AttemptsWithin (order_bound port) old new
+pub cleared_spends-root : (port : HubPort) (number feature : ℕ) (old new : World)
+    → port ≡ Root number → PortCleared port feature old (Ok tt) new
+    → AttemptsWithin (order_bound port) old new
 cleared_spends-root port number feature old new e cleared = rw e ((rw e at cleared).count)

@@ -1,10 +1,13 @@
--- A port that had no power, after a call that powered it: a change of connection is pending, or nothing is plugged there.
-use Rattle.std.proofs.Common.{◌≡◌, ℕ, zero, suc, ◌&&◌, ◌⊎◌, inl, inr, Bool, true, false, List, [], ◌∷◌, ◌++◌, Option, None, Some, option_map, refl, ap, sym, subst, ◌∙◌}
+-- A port that had no power, after a call that powered it: a change of connection is pending, or
+-- nothing is plugged there.
+use Rattle.std.proofs.Common.{◌≡◌, ℕ, zero, suc, ◌&&◌, ◌⊎◌, inl, inr, Bool, true, false, List, []}
+use Rattle.std.proofs.Common.{◌∷◌, ◌++◌, Option, None, Some, option_map, refl, ap, sym, subst, ◌∙◌}
 use Rattle.std.proofs.lemmas.Option.{same_Some}
 use Rattle.usb_port.specs.PortState.{PortState, is_attached, speed_of, powered_on}
 use Rattle.usb_port.specs.declared.call.PortCall.TheVariants.{SetPower}
 use Rattle.usb_device.specs.Rows.{State}
-use Rattle.usb_device.specs.Tree.{Ports, ended, vacant, taken, Place, empty, full, port_of, called, place, place_at}
+use Rattle.usb_device.specs.Tree.{Ports, ended, vacant, taken, Place, empty, full, port_of, called}
+use Rattle.usb_device.specs.Tree.{place, place_at}
 use Rattle.usb_device.specs.View.{port_there, state_there}
 use Rattle.usb_world.specs.declared.types.Attempt.{Attempt}
 use Rattle.usb_world.specs.Courses.{NoReset, is_made, made_resets, resets}
@@ -13,28 +16,37 @@ use Rattle.usb_world.specs.PlanCourses.{spec_of}
 use Rattle.usb_world.specs.PortRequests.{row_reached, StillSet}
 use Rattle.usb_world.specs.RestingPorts.{UnchangedOrPending, SameDeviceOrPending}
 use Rattle.usb_world.specs.SanePorts.{Consistent, ConsistentPlace}
-use Rattle.usb_world.specs.Steps.{Step, attempt, root_call, event, report, after, with_attempt, at_attempt, Course, here, step, WorldInvariant}
+use Rattle.usb_world.specs.Steps.{Step, attempt, root_call, event, report, after, with_attempt}
+use Rattle.usb_world.specs.Steps.{at_attempt, Course, here, step, WorldInvariant}
 use Rattle.usb_world.specs.World.{World}
-use Rattle.usb_world.proofs.Interface.{MadeOrNot, attempt_cases, between_after, between_course, between_ready, course_bits, course_wider, made_reach, made_sound, pending_persists, reach_live, rests_or_pends, same_device, stands, stands_or_pends, state_stands, step_pend}
+use Rattle.usb_world.proofs.Interface.{MadeOrNot, attempt_cases, between_after, between_course}
+use Rattle.usb_world.proofs.Interface.{between_ready, course_bits, course_wider, made_reach}
+use Rattle.usb_world.proofs.Interface.{made_sound, pending_persists, reach_live, rests_or_pends}
+use Rattle.usb_world.proofs.Interface.{same_device, stands, stands_or_pends, state_stands}
+use Rattle.usb_world.proofs.Interface.{step_pend}
 use Rattle.usb_tree.proofs.Interface.{false_true}
-use Rattle.usb_address.proofs.Interface.{IsUp, NoPower, live_of_up, not_way, pend_of_up, ready_unpowered}
+use Rattle.usb_address.proofs.Interface.{IsUp, NoPower, live_of_up, not_way, pend_of_up}
+use Rattle.usb_address.proofs.Interface.{ready_unpowered}
 use Rattle.usb_hub.specs.Moments.{ports_at_step, ActsAt, PortCallDone}
 use Rattle.usb_hub.proofs.CalledPorts.{port_of_place, due_course}
 
 -- Trees
 
-sane_place : (k : Ports) (j : ℕ) (p : List ℕ) (x : Place) → Consistent k → place_at k j p ≡ Some x → ConsistentPlace x
+sane_place : (k : Ports) (j : ℕ) (p : List ℕ) (x : Place) → Consistent k → place_at k j p ≡ Some x
+    → ConsistentPlace x
 unfolding Consistent ConsistentPlace place_at
 sane_place ended j p x h e = absurd (cc e)
 sane_place (vacant b k) zero [] x h e = subst ConsistentPlace (same_Some (empty b) x e) (h.0, h.1)
 sane_place (vacant b k) zero (n ∷ p) x h e = absurd (cc e)
 sane_place (vacant b k) (suc j) p x h e = sane_place k j p x h.2 e
-sane_place (taken b s a k) zero [] x h e = subst ConsistentPlace (same_Some (full b s a) x e) (h.0, h.1, h.2, h.4, h.5)
+sane_place (taken b s a k) zero [] x h e = subst ConsistentPlace (same_Some (full b s a) x e)
+    (h.0, h.1, h.2, h.4, h.5)
 sane_place (taken b s a k) zero (zero ∷ p) x h e = absurd (cc e)
 sane_place (taken b s a k) zero (suc i ∷ p) x h e = sane_place a i p x h.2 e
 sane_place (taken b s a k) (suc j) p x h e = sane_place k j p x h.3 e
 
-pub sane_there : (k : Ports) (p : List ℕ) (x : Place) → Consistent k → place k p ≡ Some x → ConsistentPlace x
+pub sane_there : (k : Ports) (p : List ℕ) (x : Place) → Consistent k → place k p ≡ Some x
+    → ConsistentPlace x
 sane_there k [] x h e = absurd (cc e)
 sane_there k (zero ∷ p) x h e = absurd (cc e)
 sane_there k (suc j ∷ p) x h e = sane_place k j p x h e
@@ -46,9 +58,12 @@ state_of_place k (suc j ∷ p) = sym (state_stands k j p)
 
 -- a powered port of a row that is live is live, and its change of connection is pending
 
-live_there : (k : Ports) (q : List ℕ) (n : ℕ) (b : PortState) → Consistent k → row_reached k q ≡ true → port_there k (q ++ (n ∷ [])) ≡ Some b → b.power ≡ true
-    → (has_power k (q ++ (n ∷ [])) ≡ true) × (b.connection_changed ≡ true → pending k (q ++ (n ∷ [])) ≡ true)
-live_there k q n b sane on there h = (live_of_up k q n b (up q on) there h, λ changed. pend_of_up k q n b (up q on) there h changed)
+live_there : (k : Ports) (q : List ℕ) (n : ℕ) (b : PortState) → Consistent k
+    → row_reached k q ≡ true → port_there k (q ++ (n ∷ [])) ≡ Some b → b.power ≡ true
+    → (has_power k (q ++ (n ∷ [])) ≡ true)
+    × (b.connection_changed ≡ true → pending k (q ++ (n ∷ [])) ≡ true)
+live_there k q n b sane on there h =
+    (live_of_up k q n b (up q on) there h, λ changed. pend_of_up k q n b (up q on) there h changed)
   where
     up : (q : List ℕ) → row_reached k q ≡ true → IsUp k q
     up [] on = tt
@@ -57,13 +72,15 @@ live_there k q n b sane on there h = (live_of_up k q n b (up q on) there h, λ c
 
 -- Steps about the port
 
-pub spec_of-none : (o v : Option State) → option_map spec_of o ≡ option_map spec_of v → v ≡ None → o ≡ None
+pub spec_of-none : (o v : Option State) → option_map spec_of o ≡ option_map spec_of v → v ≡ None
+    → o ≡ None
 spec_of-none None v e h = refl
 spec_of-none (Some s) None e h = absurd (cc e)
 spec_of-none (Some s) (Some t) e h = absurd (cc h)
 
 -- a row of ports that is reached was so before, where nothing on its way was reset
-pub row_reached-back : (q : List ℕ) {w v : World} → Course (NoReset q) w v → row_reached v.roots q ≡ true → row_reached w.roots q ≡ true
+pub row_reached-back : (q : List ℕ) {w v : World} → Course (NoReset q) w v
+    → row_reached v.roots q ≡ true → row_reached w.roots q ≡ true
 row_reached-back [] c on = refl
 row_reached-back (m ∷ e) c on = (same_device (m ∷ e) c on).0
 
@@ -79,37 +96,50 @@ module _ (q : List ℕ) (n : ℕ) where
 
   -- a change is pending there; or it is powered on its whole way, and nothing is plugged
   abbrev pub PendsOrVacant : World → Type 0
-  PendsOrVacant w = (pending w.roots p ≡ true) ⊎ ((has_power w.roots p ≡ true) × (state_there w.roots p ≡ None))
+  PendsOrVacant w = (pending w.roots p ≡ true)
+      ⊎ ((has_power w.roots p ≡ true) × (state_there w.roots p ≡ None))
 
   abbrev SoFar : World → Type 0
   SoFar w = Off w.roots ⊎ PendsOrVacant w
 
   -- a port that is powered now
-  powers : (m : Ports) (v : World) → Consistent m → Off m → place v.roots p ≡ option_map (called SetPower) (place m p) → Consistent v.roots → row_reached v.roots q ≡ true → PendsOrVacant v
+  powers : (m : Ports) (v : World) → Consistent m → Off m
+      → place v.roots p ≡ option_map (called SetPower) (place m p) → Consistent v.roots
+      → row_reached v.roots q ≡ true → PendsOrVacant v
   unfolding ConsistentPlace
   powers m v sane o e sane_after on = pick (place m p) refl
     where
       pick : (x : Option Place) → place m p ≡ x → PendsOrVacant v
       pick None s = absurd (cc (sym o.there ∙ port_of_place m p ∙ ap (option_map port_of) s))
-      pick (Some (empty c)) s = inr (alive.0, state_of_place v.roots p ∙ ap stands (e ∙ ap (option_map (called SetPower)) s))
+      pick (Some (empty c)) s = inr (
+        alive.0,
+        state_of_place v.roots p
+            ∙ ap stands (e ∙ ap (option_map (called SetPower)) s),
+      )
         where
           unpowered : c.power ≡ false
-          unpowered = ap (λ b. b.power) (same_Some c o.port (sym (port_of_place m p ∙ ap (option_map port_of) s) ∙ o.there)) ∙ o.off
+          unpowered = ap (λ b. b.power) (same_Some c o.port
+              (sym (port_of_place m p ∙ ap (option_map port_of) s) ∙ o.there)) ∙ o.off
 
           after_port : port_there v.roots p ≡ Some (powered_on c)
-          after_port = port_of_place v.roots p ∙ ap (option_map port_of) (e ∙ ap (option_map (called SetPower)) s)
+          after_port = port_of_place v.roots p
+              ∙ ap (option_map port_of) (e ∙ ap (option_map (called SetPower)) s)
 
-          alive : (has_power v.roots p ≡ true) × ((powered_on c).connection_changed ≡ true → pending v.roots p ≡ true)
+          alive : (has_power v.roots p ≡ true)
+              × ((powered_on c).connection_changed ≡ true → pending v.roots p ≡ true)
           alive = live_there v.roots q n (powered_on c) sane_after on after_port (rw unpowered refl)
       pick (Some (full c t a)) s = inl (alive.1 changed)
         where
           unpowered : c.power ≡ false
-          unpowered = ap (λ b. b.power) (same_Some c o.port (sym (port_of_place m p ∙ ap (option_map port_of) s) ∙ o.there)) ∙ o.off
+          unpowered = ap (λ b. b.power) (same_Some c o.port
+              (sym (port_of_place m p ∙ ap (option_map port_of) s) ∙ o.there)) ∙ o.off
 
           after_port : port_there v.roots p ≡ Some (powered_on c)
-          after_port = port_of_place v.roots p ∙ ap (option_map port_of) (e ∙ ap (option_map (called SetPower)) s)
+          after_port = port_of_place v.roots p
+              ∙ ap (option_map port_of) (e ∙ ap (option_map (called SetPower)) s)
 
-          alive : (has_power v.roots p ≡ true) × ((powered_on c).connection_changed ≡ true → pending v.roots p ≡ true)
+          alive : (has_power v.roots p ≡ true)
+              × ((powered_on c).connection_changed ≡ true → pending v.roots p ≡ true)
           alive = live_there v.roots q n (powered_on c) sane_after on after_port (rw unpowered refl)
 
           seen : (low : Bool) → is_attached (speed_of low) ≡ true
@@ -127,31 +157,43 @@ module _ (q : List ℕ) (n : ℕ) where
     finds : Off (ports_at_step s w) → Consistent (ports_at_step s w) → Finds s w
     nothing_done : (after s w).roots ≡ w.roots → Finds s w
 
-  attempt_finds : (a : Attempt) (w : World) → WorldInvariant w → resets (attempt a) w q ≡ false → row_reached (after (attempt a) w).roots q ≡ true → Off w.roots → Finds (attempt a) w
+  attempt_finds : (a : Attempt) (w : World) → WorldInvariant w → resets (attempt a) w q ≡ false
+      → row_reached (after (attempt a) w).roots q ≡ true → Off w.roots → Finds (attempt a) w
   unfolding after resets at_attempt
   attempt_finds a w between rests on o = cases (attempt_cases a w)
     where
-      row_ready : (q : List ℕ) → made_resets a (at_attempt w) q ≡ false → row_reached (with_attempt a (at_attempt w)).roots q ≡ true → row_reached (at_attempt w).roots q ≡ true
+      row_ready : (q : List ℕ) → made_resets a (at_attempt w) q ≡ false
+          → row_reached (with_attempt a (at_attempt w)).roots q ≡ true
+          → row_reached (at_attempt w).roots q ≡ true
       row_ready [] r h = refl
       row_ready (m ∷ e) r h = made_reach a (at_attempt w) (m ∷ e) r h
 
-      made : w.fault ≡ None → is_made w.fault w ≡ true → after (attempt a) w ≡ with_attempt a (at_attempt w) → Finds (attempt a) w
-      made sound so is = finds (record { port = still.now; there = still.stands; off = ready_unpowered w p none still.now still.stands }) (between_ready w between).sane
+      made : w.fault ≡ None → is_made w.fault w ≡ true
+          → after (attempt a) w ≡ with_attempt a (at_attempt w) → Finds (attempt a) w
+      made sound so is = finds (record {
+        port = still.now;
+        there = still.stands;
+        off = ready_unpowered w p none still.now still.stands;
+      })
+          (between_ready w between).sane
         where
           none : NoPower (port_there w.roots p)
           none b h = ap (λ x. x.power) (same_Some b o.port (sym h ∙ o.there)) ∙ o.off
 
           reached : row_reached (at_attempt w).roots q ≡ true
-          reached = row_ready q (sym (ap (λ x. x && made_resets a (at_attempt w) q) so) ∙ rests) (subst (λ v. row_reached v.roots q ≡ true) is on)
+          reached = row_ready q (sym (ap (λ x. x && made_resets a (at_attempt w) q) so) ∙ rests)
+              (subst (λ v. row_reached v.roots q ≡ true) is on)
 
           still : StillSet o.port (port_there (at_attempt w).roots p)
-          still = course_bits q n (course_wider (λ s w k. k.leaves) (due_course p w.left w refl sound)) reached o.port o.there
+          still = course_bits q n (course_wider (λ s w k. k.leaves)
+              (due_course p w.left w refl sound)) reached o.port o.there
 
       cases : MadeOrNot a w (after (attempt a) w) → Finds (attempt a) w
       cases (inl e) = nothing_done (ap (λ v. v.roots) e)
       cases (inr m) = made (made_sound w m.0) m.0 m.1
 
-  step_finds : (s : Step) (w : World) → WorldInvariant w → resets s w q ≡ false → row_reached (after s w).roots q ≡ true → Off w.roots → Finds s w
+  step_finds : (s : Step) (w : World) → WorldInvariant w → resets s w q ≡ false
+      → row_reached (after s w).roots q ≡ true → Off w.roots → Finds s w
   step_finds (attempt a) w between rests on o = attempt_finds a w between rests on o
   step_finds (root_call c m) w between rests on o = finds o between.sane
   step_finds event w between rests on o = finds o between.sane
@@ -164,19 +206,29 @@ module _ (q : List ℕ) (n : ℕ) where
   no_reset s w k = (k.about.others q (not_way q n)).rests
 
   -- a step about the port that had no power
-  off_step : (s : Step) (w : World) → ActsAt p SetPower s w → WorldInvariant w → row_reached (after s w).roots q ≡ true → Off w.roots → SoFar (after s w)
+  off_step : (s : Step) (w : World) → ActsAt p SetPower s w → WorldInvariant w
+      → row_reached (after s w).roots q ≡ true → Off w.roots → SoFar (after s w)
   off_step s w k between on o = by_found (step_finds s w between (no_reset s w k) on o)
     where
-      by_port : Off (ports_at_step s w) → Consistent (ports_at_step s w) → (place (after s w).roots p ≡ place (ports_at_step s w) p) ⊎ (place (after s w).roots p ≡ option_map (called SetPower) (place (ports_at_step s w) p)) → SoFar (after s w)
-      by_port m sane (inl e) = inl (off_as (ports_at_step s w) (after s w).roots (port_of_place (after s w).roots p ∙ ap (option_map port_of) e ∙ sym (port_of_place (ports_at_step s w) p)) m)
-      by_port m sane (inr e) = inr (powers (ports_at_step s w) (after s w) sane m e (between_after s w between).sane on)
+      by_port : Off (ports_at_step s w) → Consistent (ports_at_step s w)
+          → (place (after s w).roots p ≡ place (ports_at_step s w) p)
+          ⊎ (place (after s w).roots p ≡ option_map (called SetPower) (place (ports_at_step s w) p))
+          → SoFar (after s w)
+      by_port m sane (inl e) = inl (off_as (ports_at_step s w) (after s w).roots
+          (port_of_place (after s w).roots p ∙ ap (option_map port_of) e
+          ∙ sym (port_of_place (ports_at_step s w) p)) m)
+      by_port m sane (inr e) = inr (powers (ports_at_step s w) (after s w) sane m e
+          (between_after s w between).sane on)
 
       by_found : Finds s w → SoFar (after s w)
       by_found (finds m sane) = by_port m sane k.port
-      by_found (nothing_done e) = inl (off_as w.roots (after s w).roots (ap (λ t. port_there t p) e) o)
+      by_found (nothing_done e) = inl (off_as w.roots (after s w).roots (ap (λ t. port_there t p) e)
+          o)
 
   -- and at a moment when it was called
-  off_called : (s : Step) (w : World) → ActsAt p SetPower s w → place (after s w).roots p ≡ option_map (called SetPower) (place (ports_at_step s w) p) → WorldInvariant w → row_reached (after s w).roots q ≡ true → Off w.roots
+  off_called : (s : Step) (w : World) → ActsAt p SetPower s w
+      → place (after s w).roots p ≡ option_map (called SetPower) (place (ports_at_step s w) p)
+      → WorldInvariant w → row_reached (after s w).roots q ≡ true → Off w.roots
       → PendsOrVacant (after s w)
   off_called s w k e between on o = by_found (step_finds s w between (no_reset s w k) on o)
     where
@@ -187,61 +239,93 @@ module _ (q : List ℕ) (n : ℕ) where
           split true h = rw h refl
           split false h = rw h refl
 
-      stays_off : (x : Option Place) → option_map port_of (option_map (called SetPower) x) ≡ Some o.port → ⊥
+      stays_off : (x : Option Place) → option_map port_of (option_map (called SetPower) x)
+          ≡ Some o.port → ⊥
       stays_off None h = absurd (cc h)
-      stays_off (Some (empty c)) h = false_true (sym o.off ∙ ap (λ b. b.power) (sym (same_Some (powered_on c) o.port h)) ∙ powered c)
-      stays_off (Some (full c t a)) h = false_true (sym o.off ∙ ap (λ b. b.power) (sym (same_Some (powered_on c) o.port h)) ∙ powered c)
+      stays_off (Some (empty c)) h = false_true (sym o.off
+          ∙ ap (λ b. b.power) (sym (same_Some (powered_on c) o.port h)) ∙ powered c)
+      stays_off (Some (full c t a)) h = false_true (sym o.off
+          ∙ ap (λ b. b.power) (sym (same_Some (powered_on c) o.port h)) ∙ powered c)
 
       by_found : Finds s w → PendsOrVacant (after s w)
-      by_found (finds m sane) = powers (ports_at_step s w) (after s w) sane m e (between_after s w between).sane on
+      by_found (finds m sane) = powers (ports_at_step s w) (after s w) sane m e
+          (between_after s w between).sane on
       by_found (nothing_done h) =
-          elim (stays_off (place (ports_at_step s w) p) (ap (option_map port_of) (sym e) ∙ sym (port_of_place (after s w).roots p) ∙ ap (λ t. port_there t p) h ∙ o.there)) [ ]
+          elim (stays_off (place (ports_at_step s w) p) (ap (option_map port_of) (sym e)
+          ∙ sym (port_of_place (after s w).roots p) ∙ ap (λ t. port_there t p) h ∙ o.there))
+          [ ]
 
   -- what pends or is vacant stays so
-  vacant_step : (s : Step) (w : World) → ActsAt p SetPower s w → PendsOrVacant w → PendsOrVacant (after s w)
+  vacant_step : (s : Step) (w : World) → ActsAt p SetPower s w → PendsOrVacant w
+      → PendsOrVacant (after s w)
   vacant_step s w k (inl x) = inl (step_pend s w p (k.about.spares refl) x)
-  vacant_step s w k (inr x) = pick (stands_or_pends p (step s (k.about.spares refl) (here (after s w))) x.0)
+  vacant_step s w k (inr x) = pick (stands_or_pends p
+      (step s (k.about.spares refl) (here (after s w))) x.0)
     where
       pick : SameDeviceOrPending w (after s w) p → PendsOrVacant (after s w)
-      pick (inl y) = inr (y.0, spec_of-none (state_there (after s w).roots p) (state_there w.roots p) y.1 x.1)
+      pick (inl y) = inr (
+        y.0,
+        spec_of-none (state_there (after s w).roots p)
+            (state_there w.roots p) y.1 x.1,
+      )
       pick (inr y) = inl y
 
-  acts_row : {w v : World} → Course (ActsAt p SetPower) w v → row_reached v.roots q ≡ true → row_reached w.roots q ≡ true
+  acts_row : {w v : World} → Course (ActsAt p SetPower) w v → row_reached v.roots q ≡ true
+      → row_reached w.roots q ≡ true
   acts_row c on = row_reached-back q (course_wider (λ s w k. no_reset s w k) c) on
 
-  so_far : {w v : World} → Course (ActsAt p SetPower) w v → WorldInvariant w → row_reached v.roots q ≡ true → SoFar w → SoFar v
+  so_far : {w v : World} → Course (ActsAt p SetPower) w v → WorldInvariant w
+      → row_reached v.roots q ≡ true → SoFar w → SoFar v
   so_far (here w) between on x = x
-  so_far (step s {w} {v} k more) between on (inl o) = so_far more (between_after s w between) on (off_step s w k between (acts_row more on) o)
-  so_far (step s {w} {v} k more) between on (inr x) = so_far more (between_after s w between) on (inr (vacant_step s w k x))
+  so_far (step s {w} {v} k more) between on (inl o) =
+      so_far more (between_after s w between) on (off_step s w k between (acts_row more on) o)
+  so_far (step s {w} {v} k more) between on (inr x) =
+      so_far more (between_after s w between) on (inr (vacant_step s w k x))
 
-  module _ (old new : World) (x : PortCallDone p SetPower old new) (between : WorldInvariant old) (on : row_reached new.roots q ≡ true) (o : Off old.roots) where
+  module _ (old new : World) (x : PortCallDone p SetPower old new) (between : WorldInvariant old)
+      (on : row_reached new.roots q ≡ true) (o : Off old.roots) where
     row_now : row_reached (after x.last x.before).roots q ≡ true
     row_now = row_reached-back q (course_wider (λ s w k. k.rests) (x.since q)) on
 
     row_before : row_reached x.before.roots q ≡ true
-    row_before = row_reached-back q (step x.last (no_reset x.last x.before x.acts) (here (after x.last x.before))) row_now
+    row_before = row_reached-back q (step x.last (no_reset x.last x.before x.acts)
+        (here (after x.last x.before))) row_now
 
     now_vacant : PendsOrVacant (after x.last x.before)
     now_vacant = pick (so_far x.repeats between row_before (inl o))
       where
         pick : SoFar x.before → PendsOrVacant (after x.last x.before)
-        pick (inl y) = off_called x.last x.before x.acts x.done (between_course x.repeats between) row_now y
+        pick (inl y) = off_called x.last x.before x.acts x.done (between_course x.repeats between)
+            row_now y
         pick (inr y) = vacant_step x.last x.before x.acts y
 
     since_vacant : PendsOrVacant new
     since_vacant = pick now_vacant
       where
-        later : state_there (after x.last x.before).roots p ≡ None → UnchangedOrPending (after x.last x.before) new p → PendsOrVacant new
-        later h (inl z) = inr (z.0, spec_of-none (state_there new.roots p) (state_there (after x.last x.before).roots p) z.1.what h)
+        later : state_there (after x.last x.before).roots p ≡ None
+            → UnchangedOrPending (after x.last x.before) new p → PendsOrVacant new
+        later h (inl z) = inr (
+          z.0,
+          spec_of-none (state_there new.roots p)
+              (state_there (after x.last x.before).roots p) z.1.what h,
+        )
         later h (inr z) = inl z
 
         pick : PendsOrVacant (after x.last x.before) → PendsOrVacant new
         pick (inl y) = inl (pending_persists p (course_wider (λ s w k. k.spares) (x.since p)) y)
         pick (inr y) = later y.1 (rests_or_pends p (x.since p) y.0)
 
-pub powered_stands : (p : List ℕ) (old new : World) → PortCallDone p SetPower old new → WorldInvariant old → (b : PortState) → port_there old.roots p ≡ Some b → b.power ≡ false
-    → (pending new.roots p ≡ true) ⊎ ((has_power new.roots p ≡ true) × (state_there new.roots p ≡ None))
+pub powered_stands : (p : List ℕ) (old new : World) → PortCallDone p SetPower old new
+    → WorldInvariant old → (b : PortState) → port_there old.roots p ≡ Some b → b.power ≡ false
+    → (pending new.roots p ≡ true) ⊎ ((has_power new.roots p ≡ true)
+    × (state_there new.roots p ≡ None))
 powered_stands p old new x between b there off =
-    subst (λ p. (pending new.roots p ≡ true) ⊎ ((has_power new.roots p ≡ true) × (state_there new.roots p ≡ None))) (sym x.row.is)
-    (since_vacant x.row.parent x.row.number old new (subst (λ p. PortCallDone p SetPower old new) x.row.is x) between x.row.reached
-    (record { port = b; there = subst (λ p. port_there old.roots p ≡ Some b) x.row.is there; off = off }))
+    subst (λ p. (pending new.roots p ≡ true)
+    ⊎ ((has_power new.roots p ≡ true) × (state_there new.roots p ≡ None))) (sym x.row.is)
+    (since_vacant x.row.parent x.row.number old new
+    (subst (λ p. PortCallDone p SetPower old new) x.row.is x) between x.row.reached
+    (record {
+      port = b;
+      there = subst (λ p. port_there old.roots p ≡ Some b) x.row.is there;
+      off = off;
+    }))

@@ -1,6 +1,7 @@
 -- Requests that ask nothing of any port.
 use Rattle.usb_device.specs.Tree.{Location}
-use Rattle.std.proofs.Common.{◌≡◌, ℕ, ◌≤◌, ◌==◌, ◌⊎◌, inl, inr, true, false, List, Result, refl, ap, sym, subst, ◌∙◌, arith}
+use Rattle.std.proofs.Common.{◌≡◌, ℕ, ◌≤◌, ◌==◌, ◌⊎◌, inl, inr, true, false, List, Result, refl, ap}
+use Rattle.std.proofs.Common.{sym, subst, ◌∙◌, arith}
 use Rattle.std.proofs.lemmas.Bool.Decides.{nat_tests}
 use Rattle.std.specs.Global.{Vec}
 use Rattle.usb_request.specs.Codes.{DEVICE_OUT, PORT_OUT}
@@ -14,7 +15,8 @@ use Rattle.usb_world.specs.PortRequests.{asks_no_port}
 use Rattle.usb_world.specs.RestingPorts.{LeavesPortAlone}
 use Rattle.usb_world.specs.World.{World}
 use Rattle.usb_world.specs.Steps.{Step, attempt, root_call, event, report, Course}
-use Rattle.usb_world.proofs.Interface.{course_then, data_asks_nothing, payload_asks_nothing, settled_wider}
+use Rattle.usb_world.proofs.Interface.{course_then, data_asks_nothing, payload_asks_nothing}
+use Rattle.usb_world.proofs.Interface.{settled_wider}
 use Rattle.usb_transaction.specs.declared.target.Target.{Target}
 use Rattle.usb_transaction.specs.Leaves.{AcceptedAt}
 use Rattle.usb_transaction.specs.Transactions.{setup_attempt}
@@ -32,24 +34,30 @@ pub behind_rests : (t : Target) (x : List ℕ) (s : Step) (w : World) → IsBehi
     → IsSettled w.roots → LeavesPortAlone x s w
 behind_rests t x (attempt a) w k h = data_asks_nothing a w x (kind k refl refl) h
   where
-    kind : {b d : Attempt} → (a ≡ b) ⊎ (a ≡ d) → is_setup b.kind ≡ false → is_setup d.kind ≡ false → is_setup a.kind ≡ false
+    kind : {b d : Attempt} → (a ≡ b) ⊎ (a ≡ d) → is_setup b.kind ≡ false → is_setup d.kind ≡ false
+        → is_setup a.kind ≡ false
     kind (inl e) f g = ap (λ y. is_setup y.kind) e ∙ f
     kind (inr e) f g = ap (λ y. is_setup y.kind) e ∙ g
 behind_rests t x (root_call c n) w k h = elim k [ ]
 behind_rests t x event w k h = elim k [ ]
 behind_rests t x (report l) w k h = elim k [ ]
 
-pub behind_asks_nothing : (t : Target) (x : List ℕ) {w v : World} → Course (IsBehind t) w v → IsSettled w.roots → Course (LeavesPortAlone x) w v
+pub behind_asks_nothing : (t : Target) (x : List ℕ) {w v : World} → Course (IsBehind t) w v
+    → IsSettled w.roots → Course (LeavesPortAlone x) w v
 behind_asks_nothing t x c = settled_wider (behind_rests t x) c
 
 -- a course of setup data that ask nothing of ports
-pub resting_course : (t : Target) (request : Setup) → asks_no_port request ≡ true → {j : Location} {s v : State} (old now : World) → AcceptedAt t (bytes_of request) old now j s v → TouchesNoPort old now
+pub resting_course : (t : Target) (request : Setup) → asks_no_port request ≡ true
+    → {j : Location} {s v : State} (old now : World) → AcceptedAt t (bytes_of request) old now j s v
+    → TouchesNoPort old now
 resting_course t request plain old now at x =
     subst (λ w. Course (LeavesPortAlone x) old w) (sym at.last)
-    (course_then (attempt (setup_attempt t (bytes_of request))) (trail_course (λ w made. asks w) at.trail) (asks at.mid))
+    (course_then (attempt (setup_attempt t (bytes_of request)))
+    (trail_course (λ w made. asks w) at.trail) (asks at.mid))
   where
     asks : (w : World) → LeavesPortAlone x (attempt (setup_attempt t (bytes_of request))) w
-    asks w = payload_asks_nothing (setup_attempt t (bytes_of request)) w x (ap asks_no_port (same_setup request) ∙ plain)
+    asks w = payload_asks_nothing (setup_attempt t (bytes_of request)) w x
+        (ap asks_no_port (same_setup request) ∙ plain)
 
 -- a whole transfer of such a request
 module _ (t : Target) (request : Setup) (plain : asks_no_port request ≡ true) where
@@ -61,17 +69,29 @@ module _ (t : Target) (request : Setup) (plain : asks_no_port request ≡ true) 
       (ap asks_no_port (same_setup request) ∙ plain))
   step_rests x s w (inr k) h = behind_rests t x s w k h
 
-  transfer_rests : (x : List ℕ) {w v : World} → Course (IsOfTransfer t request) w v → IsSettled w.roots → Course (LeavesPortAlone x) w v
+  transfer_rests : (x : List ℕ) {w v : World} → Course (IsOfTransfer t request) w v
+      → IsSettled w.roots → Course (LeavesPortAlone x) w v
   transfer_rests x c = settled_wider (step_rests x) c
 
 read_asks_no_port : (request : Setup) → IsToHost request → asks_no_port request ≡ true
-read_asks_no_port request host = rw (other request.request_type PORT_OUT host (omega arith), other request.request_type DEVICE_OUT host (omega arith)) refl
+read_asks_no_port request host = rw (
+  other request.request_type PORT_OUT host (omega arith),
+  other request.request_type DEVICE_OUT host (omega arith),
+) refl
   where
     other : (n m : ℕ) → 128 ≤ n → m ≤ 127 → (n == m) ≡ false
     other n m far near = grind (arith, nat_tests, far, near)
 
-pub reads_rests : (t : Target) (request : Setup) (result : Result (Vec ℕ) PipeFault) (old new : World) → IsToHost request → IsSettled old.roots → Reads t request old result new → IsNoBusFault result → TouchesNoPort old new
-reads_rests t request result old new host settled reads sound x = transfer_rests t request (read_asks_no_port request host) x ((read_attempts t request result old new reads).whole sound) settled
+pub reads_rests : (t : Target) (request : Setup) (result : Result (Vec ℕ) PipeFault)
+    (old new : World) → IsToHost request → IsSettled old.roots → Reads t request old result new
+    → IsNoBusFault result → TouchesNoPort old new
+reads_rests t request result old new host settled reads sound x =
+    transfer_rests t request (read_asks_no_port request host) x
+    ((read_attempts t request result old new reads).whole sound) settled
 
-pub write_rests : (t : Target) (request : Setup) (result : Result (Unit {0}) PipeFault) (old new : World) → IsSettled old.roots → Writes t request old result new → asks_no_port request ≡ true → IsNoBusFault result → TouchesNoPort old new
-write_rests t request result old new settled writes plain sound x = transfer_rests t request plain x ((write_attempts t request result old new writes).whole sound) settled
+pub write_rests : (t : Target) (request : Setup) (result : Result (Unit {0}) PipeFault)
+    (old new : World) → IsSettled old.roots → Writes t request old result new
+    → asks_no_port request ≡ true → IsNoBusFault result → TouchesNoPort old new
+write_rests t request result old new settled writes plain sound x =
+    transfer_rests t request plain x ((write_attempts t request result old new writes).whole sound)
+    settled

@@ -1,5 +1,6 @@
 -- What a hub tells of its ports (11.24.2.7).
-use Rattle.std.proofs.Common.{◌≡◌, ℕ, zero, suc, ◌-◌, ◌⊎◌, inl, inr, List, [], slice_get, Option, None, Some, refl, sym, subst, take, ap}
+use Rattle.std.proofs.Common.{◌≡◌, ℕ, zero, suc, ◌-◌, ◌⊎◌, inl, inr, List, [], slice_get, Option}
+use Rattle.std.proofs.Common.{None, Some, refl, sym, subst, take, ap}
 use Rattle.std.proofs.lemmas.Option.{same_Some}
 use Rattle.usb_port.specs.PortState.{PortState, status_of}
 use Rattle.usb_request.specs.Requests.{get_port_status}
@@ -39,16 +40,27 @@ pub record StatusOf (row : List PortState) (i : ℕ) (answer : List ℕ) (o : Ef
   pub told : answer ≡ status_of port
   pub nothing : o ≡ Leaves
 
-pub get_port_status-outcome : (sp : Spec) (g : Registers) (row : List PortState) (n : ℕ) (answer : List ℕ) → first_stage row 4 (outcome sp g (get_port_status n)) ≡ reading answer 4 0
+pub get_port_status-outcome : (sp : Spec) (g : Registers) (row : List PortState) (n : ℕ)
+    (answer : List ℕ) → first_stage row 4 (outcome sp g (get_port_status n)) ≡ reading answer 4 0
     → StatusOf row (n - 1) answer (effect_of_request (outcome sp g (get_port_status n)))
 unfolding outcome get_port_status
-get_port_status-outcome sp g row n answer h = by_port (port_named sp.hub g n) (port_named-cases sp.hub g n) h
+get_port_status-outcome sp g row n answer h =
+    by_port (port_named sp.hub g n) (port_named-cases sp.hub g n) h
   where
-    by_row : (i : ℕ) (o : Option PortState) → slice_get row i ≡ o → reads_port 4 o ≡ reading answer 4 0 → StatusOf row i answer Leaves
+    by_row : (i : ℕ) (o : Option PortState) → slice_get row i ≡ o
+        → reads_port 4 o ≡ reading answer 4 0 → StatusOf row i answer Leaves
     by_row i None e h = absurd (cc h)
-    by_row i (Some b) e h = record { port = b; stands = e; told = sym (same_reading (status_of b) answer 4 4 0 0 h); nothing = refl }
+    by_row i (Some b) e h = record {
+      port = b;
+      stands = e;
+      told =
+          sym (same_reading (status_of b) answer 4 4 0 0 h);
+      nothing = refl;
+    }
 
-    by_port : (o : Option ℕ) → (o ≡ None) ⊎ (o ≡ Some (n - 1)) → first_stage row 4 (told_port o) ≡ reading answer 4 0 → StatusOf row (n - 1) answer (effect_of_request (told_port o))
+    by_port : (o : Option ℕ) → (o ≡ None) ⊎ (o ≡ Some (n - 1)) → first_stage row 4 (told_port o)
+        ≡ reading answer 4 0 → StatusOf row (n - 1) answer (effect_of_request (told_port o))
     by_port None x h = absurd (cc h)
     by_port (Some i) (inl x) h = absurd (cc x)
-    by_port (Some i) (inr x) h = subst (λ i. StatusOf row i answer Leaves) (same_Some i (n - 1) x) (by_row i (slice_get row i) refl h)
+    by_port (Some i) (inr x) h = subst (λ i. StatusOf row i answer Leaves) (same_Some i (n - 1) x)
+        (by_row i (slice_get row i) refl h)

@@ -1,6 +1,8 @@
--- What clears changes that ask for nothing else. A hub that does not know a feature answers STALL, and has no such change.
+-- What clears changes that ask for nothing else. A hub that does not know a feature answers STALL,
+-- and has no such change.
 use Rattle.std.specs.Prelude.{◌≡◌, ℕ, List, Bool, true, false, slice_index, Result, Ok, Err}
-use Rattle.usb_request.specs.declared.hub_feature.TheConstants.{C_HUB_LOCAL_POWER, C_HUB_OVER_CURRENT}
+use Rattle.usb_request.specs.declared.hub_feature.TheConstants.{C_HUB_LOCAL_POWER}
+use Rattle.usb_request.specs.declared.hub_feature.TheConstants.{C_HUB_OVER_CURRENT}
 use Rattle.usb_request.specs.declared.setup.Setup.{Setup}
 use Rattle.usb_request.specs.HubRequests.{get_hub_status, clear_hub_feature}
 use Rattle.usb_request.specs.Requests.{clear_port_feature}
@@ -9,7 +11,8 @@ use Rattle.usb_world.specs.declared.types.BusFault.{BusFault}
 use Rattle.usb_world.specs.World.{World, Failed}
 use Rattle.usb_transaction.specs.declared.target.Target.{Target}
 use Rattle.usb_pipe.specs.declared.fault.PipeFault.{PipeFault}
-use Rattle.usb_pipe.specs.declared.fault.PipeFault.TheVariants.{Stalled, Busy, NoAnswer, Broken, Bus, Memory}
+use Rattle.usb_pipe.specs.declared.fault.PipeFault.TheVariants.{Stalled, Busy, NoAnswer, Broken}
+use Rattle.usb_pipe.specs.declared.fault.PipeFault.TheVariants.{Bus, Memory}
 use Rattle.usb_hub.specs.declared.port.HubPort.{HubPort}
 use Rattle.usb_hub.specs.declared.port.HubPort.TheVariants.{Root, External}
 use Rattle.usb_hub.specs.declared.status.HubStatus.{HubStatus}
@@ -30,7 +33,8 @@ done_or_unknown (Err (Bus fault)) = Err (Bus fault)
 done_or_unknown (Err Memory) = Err Memory
 
 -- a hub was ordered to clear a change
-pub record ClearsHubChange (hub : Target) (request : Setup) (old : World) (result : Result (Unit {0}) PipeFault) (new : World) : Type 0 where
+pub record ClearsHubChange (hub : Target) (request : Setup) (old : World)
+    (result : Result (Unit {0}) PipeFault) (new : World) : Type 0 where
   pub answer : Result (Unit {0}) PipeFault
   pub ordered : Commanded hub request old answer new
   pub is : result ≡ done_or_unknown answer
@@ -38,11 +42,14 @@ pub record ClearsHubChange (hub : Target) (request : Setup) (old : World) (resul
 -- a change of a port; those of the root have none
 abbrev pub ClearsOfPort : HubPort → ℕ → World → Result (Unit {0}) PipeFault → World → Type 0
 ClearsOfPort (Root number) feature old result new = (result ≡ Ok tt) × (new ≡ old)
-ClearsOfPort (External hub port) feature old result new = ClearsHubChange hub (clear_port_feature feature port) old result new
+ClearsOfPort (External hub port) feature old result new =
+    ClearsHubChange hub (clear_port_feature feature port) old result new
 
 -- a change of a hub, where it was told
-abbrev pub ClearsIfReported : Bool → Target → ℕ → World → Result (Unit {0}) PipeFault → World → Type 0
-ClearsIfReported true hub feature old result new = ClearsHubChange hub (clear_hub_feature feature) old result new
+abbrev pub ClearsIfReported : Bool → Target → ℕ → World → Result (Unit {0}) PipeFault → World
+    → Type 0
+ClearsIfReported true hub feature old result new =
+    ClearsHubChange hub (clear_hub_feature feature) old result new
 ClearsIfReported false hub feature old result new = (result ≡ Ok tt) × (new ≡ old)
 
 -- wHubChange, of which the low byte is the third of four (11.24.2.6)
@@ -53,11 +60,19 @@ hub_status bytes = record {
 }
 
 -- each change that was told was cleared, up to a request that failed
-pub data ClearsEach (status : HubStatus) (hub : Target) (old : World) (result : Result (Unit {0}) PipeFault) (new : World) : Type 0 where
-  first_failed : (fault : PipeFault) → ClearsIfReported status.power_changed hub C_HUB_LOCAL_POWER old (Err fault) new → result ≡ Err fault → ClearsEach status hub old result new
-  both : (mid : World) → ClearsIfReported status.power_changed hub C_HUB_LOCAL_POWER old (Ok tt) mid → ClearsIfReported status.over_current_changed hub C_HUB_OVER_CURRENT mid result new → ClearsEach status hub old result new
+pub data ClearsEach (status : HubStatus) (hub : Target) (old : World)
+    (result : Result (Unit {0}) PipeFault) (new : World) : Type 0 where
+  first_failed : (fault : PipeFault) → ClearsIfReported status.power_changed hub C_HUB_LOCAL_POWER
+      old (Err fault) new → result ≡ Err fault → ClearsEach status hub old result new
+  both : (mid : World) → ClearsIfReported status.power_changed hub C_HUB_LOCAL_POWER old (Ok tt) mid
+      → ClearsIfReported status.over_current_changed hub C_HUB_OVER_CURRENT mid result new
+      → ClearsEach status hub old result new
 
 -- a hub was asked for its status, and each change that it told was cleared
-pub data ClearsOfHub (hub : Target) (old : World) (result : Result (Unit {0}) PipeFault) (new : World) : Type 0 where
-  not_told : (fault : PipeFault) → ReadAs hub_status hub get_hub_status old (Err fault) new → result ≡ done_or_unknown (Err fault) → ClearsOfHub hub old result new
-  told : (status : HubStatus) (mid : World) → ReadAs hub_status hub get_hub_status old (Ok status) mid → ClearsEach status hub mid result new → ClearsOfHub hub old result new
+pub data ClearsOfHub (hub : Target) (old : World) (result : Result (Unit {0}) PipeFault)
+    (new : World) : Type 0 where
+  not_told : (fault : PipeFault) → ReadAs hub_status hub get_hub_status old (Err fault) new
+      → result ≡ done_or_unknown (Err fault) → ClearsOfHub hub old result new
+  told : (status : HubStatus) (mid : World)
+      → ReadAs hub_status hub get_hub_status old (Ok status) mid
+      → ClearsEach status hub mid result new → ClearsOfHub hub old result new

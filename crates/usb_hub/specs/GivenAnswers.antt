@@ -1,6 +1,8 @@
--- What a device of a description answers to requests for data (9.4, 11.24.2), seen from where it is reachable after them.
+-- What a device of a description answers to requests for data (9.4, 11.24.2), seen from where it is
+-- reachable after them.
 use Rattle.usb_device.specs.Tree.{Location}
-use Rattle.std.specs.Prelude.{◌≡◌, ◌≢◌, ℕ, ◌≤◌, Bool, true, false, if◌then◌else◌, List, take, slice_get, Option, None, Some, option_map, Result, Ok, Err}
+use Rattle.std.specs.Prelude.{◌≡◌, ◌≢◌, ℕ, ◌≤◌, Bool, true, false, if◌then◌else◌, List, take}
+use Rattle.std.specs.Prelude.{slice_get, Option, None, Some, option_map, Result, Ok, Err}
 use Rattle.std.specs.Global.{Vec}
 use Rattle.usb_device.specs.Spec.{Spec, Hub}
 use Rattle.usb_device.specs.Rows.{State}
@@ -29,37 +31,46 @@ abbrev pub string_given : ℕ → Spec → Option (List ℕ)
 string_given index spec = unless_refused spec.stalls.string (slice_get spec.strings index)
 
 abbrev pub hub_given : Spec → Option (List ℕ)
-hub_given spec = unless_refused spec.stalls.hub (option_map (λ (hub : Hub). hub.descriptor) spec.hub)
+hub_given spec = unless_refused spec.stalls.hub
+    (option_map (λ (hub : Hub). hub.descriptor) spec.hub)
 
 abbrev pub status_given : Spec → Option DeviceStatus
-status_given spec = unless_refused spec.stalls.status (Some (record { self_powered = spec.self_powered; remote_wakeup = false }))
+status_given spec = unless_refused spec.stalls.status
+    (Some (record { self_powered = spec.self_powered; remote_wakeup = false }))
 
 -- What was read
 
--- the bytes are the first of a text of the device, as many as were wanted or all, where the target's maximum is the device's
-pub record HasText (given : Option (List ℕ)) (t : Target) (wanted : ℕ) (s : State) (bytes : List ℕ) : Type 0 where
+-- the bytes are the first of a text of the device, as many as were wanted or all, where the
+-- target's maximum is the device's
+pub record HasText (given : Option (List ℕ)) (t : Target) (wanted : ℕ) (s : State)
+    (bytes : List ℕ) : Type 0 where
   pub text : List ℕ
   pub is : given ≡ Some text
   pub first : IsMaximum t wanted s → bytes ≡ take wanted text
 
--- A device was asked for something: nothing of it changed but where its transfer stands; what was read is so of it, and it refused
+-- A device was asked for something: nothing of it changed but where its transfer stands; what was
+-- read is so of it, and it refused
 -- only what it does not give.
-pub record ReadAsked {A X : Type 0} (given : Spec → Option X) (Has : State → A → Type 0) (t : Target) (result : Result A PipeFault) (x : Location) (s v : State) : Type 0 where
+pub record ReadAsked {A X : Type 0} (given : Spec → Option X) (Has : State → A → Type 0)
+    (t : Target) (result : Result A PipeFault) (x : Location) (s v : State) : Type 0 where
   pub others : is_at s t ≡ false → v ≡ s
   pub frame : OnlyStage s v
   pub done : is_at s t ≡ true → (read : A) → result ≡ Ok read → Has s read
   pub stalled : is_at s t ≡ true → result ≡ Err Stalled → given s.spec ≡ None
   pub could : is_at s t ≡ true → CanEnd s.spec result
 
-abbrev pub TextAsked : (Spec → Option (List ℕ)) → Target → ℕ → Result (Vec ℕ) PipeFault → Location → State → State → Type 0
-TextAsked given t wanted result = ReadAsked given (λ s bytes. HasText (given s.spec) t wanted s bytes.items) t result
+abbrev pub TextAsked : (Spec → Option (List ℕ)) → Target → ℕ → Result (Vec ℕ) PipeFault → Location
+    → State → State → Type 0
+TextAsked given t wanted result = ReadAsked given
+    (λ s bytes. HasText (given s.spec) t wanted s bytes.items) t result
 
 -- the first bytes of the device descriptor (9.4.3)
 abbrev pub DeviceAsked : Target → ℕ → Result (Vec ℕ) PipeFault → Location → State → State → Type 0
 DeviceAsked = TextAsked device_given
 
 -- the first bytes of a configuration's text (9.4.3)
-abbrev pub ConfigAsked : Target → ℕ → ℕ → Result (Vec ℕ) PipeFault → Location → State → State → Type 0
+abbrev pub ConfigAsked : Target → ℕ → ℕ → Result (Vec ℕ) PipeFault → Location → State → State
+    → Type 0
 ConfigAsked t index = TextAsked (config_given index) t
 
 -- a string descriptor (9.4.3)
@@ -74,8 +85,11 @@ HubAsked t = TextAsked hub_given t HUB_LENGTH
 abbrev pub StatusAsked : Target → Result DeviceStatus PipeFault → Location → State → State → Type 0
 StatusAsked t = ReadAsked status_given (λ s status. status_given s.spec ≡ Some status) t
 
--- Why nothing was read, where no three attempts running are damaged: a device that hears its target answers, and only one that is always
+-- Why nothing was read, where no three attempts running are damaged: a device that hears its target
+-- answers, and only one that is always
 -- busy keeps the host waiting.
-pub record ReadFailure {A : Type 0} (t : Target) (wanted : ℕ) (result : Result A PipeFault) (x : Location) (s v : State) : Type 0 where
+pub record ReadFailure {A : Type 0} (t : Target) (wanted : ℕ) (result : Result A PipeFault)
+    (x : Location) (s v : State) : Type 0 where
   pub answered : Listens t x s → IsMaximum t wanted s → result ≢ Err NoAnswer
-  pub waited : Listens t x s → IsMaximum t wanted s → s.spec.busy ≡ false → s.spec.naks ≤ 200 → result ≢ Err Busy
+  pub waited : Listens t x s → IsMaximum t wanted s → s.spec.busy ≡ false → s.spec.naks ≤ 200
+      → result ≢ Err Busy

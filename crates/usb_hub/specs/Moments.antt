@@ -1,5 +1,6 @@
 -- What was so of a port at a moment of a call on it (11.24.2), and what the call asked of ports.
-use Rattle.std.specs.Prelude.{◌≡◌, ◌⊎◌, ◌≤◌, ℕ, List, [], ◌∷◌, ◌++◌, true, false, Option, None, Some, option_map, Result, Ok, Err}
+use Rattle.std.specs.Prelude.{◌≡◌, ◌⊎◌, ◌≤◌, ℕ, List, [], ◌∷◌, ◌++◌, true, false, Option, None}
+use Rattle.std.specs.Prelude.{Some, option_map, Result, Ok, Err}
 use Rattle.usb_port.specs.PortState.{PortState}
 use Rattle.usb_port.specs.Status.{seen}
 use Rattle.usb_port.specs.declared.status.PortStatus.{PortStatus}
@@ -13,7 +14,8 @@ use Rattle.usb_world.specs.Courses.{KeepsPendingAt, step_keeps_pending}
 use Rattle.usb_tree.specs.Paths.{is_way}
 use Rattle.usb_world.specs.PortRequests.{AsksNothing, row_reached}
 use Rattle.usb_world.specs.RestingPorts.{LeavesPortAlone}
-use Rattle.usb_world.specs.Steps.{Step, attempt, root_call, event, report, after, at_attempt, Course, AttemptFails}
+use Rattle.usb_world.specs.Steps.{Step, attempt, root_call, event, report, after, at_attempt}
+use Rattle.usb_world.specs.Steps.{Course, AttemptFails}
 use Rattle.usb_tree.specs.WayEffects.{keeps_pending}
 use Rattle.usb_world.specs.World.{World, Attempted}
 use Rattle.usb_address.specs.Claims.{AddressMap}
@@ -52,12 +54,18 @@ pub record PortStatusAt (p : List ℕ) (status : PortStatus) (old new : World) :
   pub untold : KeepsAll old now
   pub rested : KeepsAll now new
 
--- So it is of the port at a path, which a hub's port is by what the hub's path claims. Where no three attempts running are damaged, and no address was
--- held twice, a hub that is reached in the end and serves the port, which stood there, tells its status.
-pub record ReadsPort (port : HubPort) (old : World) (result : Result PortStatus PipeFault) (new : World) : Type 0 where
-  pub tells : (f : AddressMap) (p : List ℕ) → IsAt f port p → WhileBusWorks (MapHolds f) old → (status : PortStatus) → result ≡ Ok status → PortStatusAt p status old new
-  pub why : (hub : Target) (number : ℕ) → port ≡ External hub number → NoThreeDamaged old → new.shared ≡ false → 8 ≤ hub.max → (serves : HubServes hub number new)
-      → (b : PortState) → port_there old.roots (path_to serves.spot ++ (number ∷ [])) ≡ Some b → NoHubFailed result
+-- So it is of the port at a path, which a hub's port is by what the hub's path claims. Where no
+-- three attempts running are damaged, and no address was
+-- held twice, a hub that is reached in the end and serves the port, which stood there, tells its
+-- status.
+pub record ReadsPort (port : HubPort) (old : World) (result : Result PortStatus PipeFault)
+    (new : World) : Type 0 where
+  pub tells : (f : AddressMap) (p : List ℕ) → IsAt f port p → WhileBusWorks (MapHolds f) old
+      → (status : PortStatus) → result ≡ Ok status → PortStatusAt p status old new
+  pub why : (hub : Target) (number : ℕ) → port ≡ External hub number → NoThreeDamaged old
+      → new.shared ≡ false → 8 ≤ hub.max → (serves : HubServes hub number new)
+      → (b : PortState) → port_there old.roots (path_to serves.spot ++ (number ∷ [])) ≡ Some b
+      → NoHubFailed result
 
 -- A call at a port
 
@@ -68,23 +76,27 @@ ports_at_step (root_call c n) w = w.roots
 ports_at_step event w = w.roots
 ports_at_step (report line) w = w.roots
 
--- a step that is about a port: it asks nothing of the ports that are not at or below it, and clears what is pending there only where the call does
+-- a step that is about a port: it asks nothing of the ports that are not at or below it, and clears
+-- what is pending there only where the call does
 pub record IsAbout (p : List ℕ) (c : PortCall) (s : Step) (w : World) : Type 0 where
   pub others : (x : List ℕ) → is_way p x ≡ false → AsksNothing s w x
   pub spares : keeps_pending c [] ≡ true → step_keeps_pending s w p ≡ true
 
 -- besides, it leaves the port itself, or makes the call there
 pub record ActsAt (p : List ℕ) (c : PortCall) (s : Step) (w : World) : Type 0 where
-  pub port : (place (after s w).roots p ≡ place (ports_at_step s w) p) ⊎ (place (after s w).roots p ≡ option_map (called c) (place (ports_at_step s w) p))
+  pub port : (place (after s w).roots p ≡ place (ports_at_step s w) p)
+      ⊎ (place (after s w).roots p ≡ option_map (called c) (place (ports_at_step s w) p))
   pub about : IsAbout p c s w
 
--- the port was called at a moment, with nothing before it but steps that are about this port; since then nothing was asked of any port
+-- the port was called at a moment, with nothing before it but steps that are about this port; since
+-- then nothing was asked of any port
 pub record PortCallDone (p : List ℕ) (c : PortCall) (old new : World) : Type 0 where
   pub before : World
   pub repeats : Course (ActsAt p c) old before
   pub last : Step
   pub acts : ActsAt p c last before
-  pub done : place (after last before).roots p ≡ option_map (called c) (place (ports_at_step last before) p)
+  pub done : place (after last before).roots p
+      ≡ option_map (called c) (place (ports_at_step last before) p)
   pub since : TouchesNoPort (after last before) new
   pub row : OnReachedRow new p
   -- what is left to do, up to then and since
@@ -92,27 +104,39 @@ pub record PortCallDone (p : List ℕ) (c : PortCall) (old new : World) : Type 0
   pub rested : KeepsAll (after last before) new
 
 -- where the bus gave up: these steps, and one more attempt, which it refused
-pub record UpToFault (K : Step → World → Type 0) (old : World) (fault : BusFault) (new : World) : Type 0 where
+pub record UpToFault (K : Step → World → Type 0) (old : World) (fault : BusFault) (new : World) :
+    Type 0 where
   pub mid : World
   pub course : Course K old mid
   pub last : Attempt
   pub refused : Attempted last mid (Err fault) new
   pub fails : mid.fault ≡ None → AttemptFails last mid (Err fault) new
 
--- a call at the port of a path; where it is PORT_RESET, no path but this and those below it claims address 0
-pub record IsCall (f : AddressMap) (port : HubPort) (p : List ℕ) (call : Option PortCall) (c : PortCall) (old : World) : Type 0 where
+-- a call at the port of a path; where it is PORT_RESET, no path but this and those below it claims
+-- address 0
+pub record IsCall (f : AddressMap) (port : HubPort) (p : List ℕ) (call : Option PortCall)
+    (c : PortCall) (old : World) : Type 0 where
   pub at : IsAt f port p
   pub is : call ≡ Some c
   pub alone : is_reset c ≡ true → (x : List ℕ) → f x ≡ Some 0 → is_way p x ≡ true
   pub owned : WhileBusWorks (MapHolds f) old
 
--- It acts where it is done. Whatever its answer is, it asks nothing of the ports that are not at or below its own, and what is pending there
--- stays, where the call itself does not clear it. Where no three attempts running are damaged, and no address was held twice, it is done at a hub
+-- It acts where it is done. Whatever its answer is, it asks nothing of the ports that are not at or
+-- below its own, and what is pending there
+-- stays, where the call itself does not clear it. Where no three attempts running are damaged, and
+-- no address was held twice, it is done at a hub
 -- that is reached in the end and serves the port.
-pub record CommandsPort (port : HubPort) (call : Option PortCall) (old : World) (result : Result (Unit {0}) PipeFault) (new : World) : Type 0 where
-  pub done : (f : AddressMap) (p : List ℕ) (c : PortCall) → IsCall f port p call c old → result ≡ Ok tt → PortCallDone p c old new
-  pub rests : (f : AddressMap) (p : List ℕ) (c : PortCall) → IsCall f port p call c old → IsNoBusFault result → (x : List ℕ) → is_way p x ≡ false → Course (LeavesPortAlone x) old new
-  pub spares : (f : AddressMap) (p : List ℕ) (c : PortCall) → IsCall f port p call c old → IsNoBusFault result → keeps_pending c [] ≡ true → Course (KeepsPendingAt p) old new
-  pub backlog : (f : AddressMap) (p : List ℕ) (c : PortCall) → IsCall f port p call c old → IsNoBusFault result → KeepsCall p c old new
-  pub cut : (f : AddressMap) (p : List ℕ) (c : PortCall) → IsCall f port p call c old → (fault : BusFault) → result ≡ Err (Bus fault) → UpToFault (IsAbout p c) old fault new
-  pub why : (hub : Target) (number : ℕ) → port ≡ External hub number → NoThreeDamaged old → new.shared ≡ false → HubServes hub number new → NoHubFailed result
+pub record CommandsPort (port : HubPort) (call : Option PortCall) (old : World)
+    (result : Result (Unit {0}) PipeFault) (new : World) : Type 0 where
+  pub done : (f : AddressMap) (p : List ℕ) (c : PortCall) → IsCall f port p call c old
+      → result ≡ Ok tt → PortCallDone p c old new
+  pub rests : (f : AddressMap) (p : List ℕ) (c : PortCall) → IsCall f port p call c old
+      → IsNoBusFault result → (x : List ℕ) → is_way p x ≡ false → Course (LeavesPortAlone x) old new
+  pub spares : (f : AddressMap) (p : List ℕ) (c : PortCall) → IsCall f port p call c old
+      → IsNoBusFault result → keeps_pending c [] ≡ true → Course (KeepsPendingAt p) old new
+  pub backlog : (f : AddressMap) (p : List ℕ) (c : PortCall) → IsCall f port p call c old
+      → IsNoBusFault result → KeepsCall p c old new
+  pub cut : (f : AddressMap) (p : List ℕ) (c : PortCall) → IsCall f port p call c old
+      → (fault : BusFault) → result ≡ Err (Bus fault) → UpToFault (IsAbout p c) old fault new
+  pub why : (hub : Target) (number : ℕ) → port ≡ External hub number → NoThreeDamaged old
+      → new.shared ≡ false → HubServes hub number new → NoHubFailed result

@@ -4,7 +4,8 @@ use Rattle.usb_request.specs.Features.{PORT_RESET, C_PORT_CONNECTION}
 use Rattle.usb_port.specs.Path.{IsPortNumber}
 use Rattle.usb_port.specs.Status.{seen, status_in}
 use Rattle.usb_port.specs.declared.status.PortStatus.{PortStatus}
-use Rattle.usb_world.specs.World.{World, IsRootPort, AttemptsWithin, root_row, roots_of, to_come, root_port_at, changes}
+use Rattle.usb_world.specs.World.{World, IsRootPort, AttemptsWithin, root_row, roots_of, to_come}
+use Rattle.usb_world.specs.World.{root_port_at, changes}
 use Rattle.usb_world.specs.Steps.{SetsRoot, ClearsRoot}
 use Rattle.usb_bus.specs.Traces.{Traced, StepRun}
 use Rattle.usb_request.specs.Requests.{get_port_status, set_port_feature, clear_port_feature}
@@ -35,7 +36,8 @@ order_bound (Root number) = 0
 order_bound (External hub port) = write_bound
 
 -- the answer is what the port's status says of it, and nothing has changed
-pub record RootRead (number : ℕ) (old : World) (result : Result PortStatus PipeFault) (new : World) : Type 0 where
+pub record RootRead (number : ℕ) (old : World) (result : Result PortStatus PipeFault)
+    (new : World) : Type 0 where
   pub status : result ≡ Ok (seen (root_port_at old number))
   pub same : new ≡ old
 
@@ -48,7 +50,8 @@ pub record TakesNoTime (old new : World) : Type 0 where
   pub fault : new.fault ≡ old.fault
   pub roots : roots_of new ≡ roots_of old
 
-pub record RootSet (number feature : ℕ) (old : World) (result : Result (Unit {0}) PipeFault) (new : World) : Type 0 where
+pub record RootSet (number feature : ℕ) (old : World) (result : Result (Unit {0}) PipeFault)
+    (new : World) : Type 0 where
   pub done : IsOk result
   pub row : SetsRoot number feature old new
   pub quiet : TakesNoTime old new
@@ -56,27 +59,34 @@ pub record RootSet (number feature : ℕ) (old : World) (result : Result (Unit {
   pub resets : feature ≡ PORT_RESET → AttemptsWithin 0 old new
   pub powers : changes (root_row new) ≤ changes (root_row old) + 1
 
-pub record RootCleared (number feature : ℕ) (old : World) (result : Result (Unit {0}) PipeFault) (new : World) : Type 0 where
+pub record RootCleared (number feature : ℕ) (old : World) (result : Result (Unit {0}) PipeFault)
+    (new : World) : Type 0 where
   pub done : IsOk result
   pub row : ClearsRoot number feature old new
   pub quiet : TakesNoTime old new
   pub count : AttemptsWithin 0 old new
   -- a set C_PORT_CONNECTION that is cleared is one less
-  pub served : feature ≡ C_PORT_CONNECTION → (root_port_at old number).connection_changed ≡ true → changes (root_row new) + to_come new + 1 ≡ changes (root_row old) + to_come old
+  pub served : feature ≡ C_PORT_CONNECTION → (root_port_at old number).connection_changed ≡ true
+      → changes (root_row new) + to_come new + 1 ≡ changes (root_row old) + to_come old
 
--- the set of a port's feature as a course of the bus: PORT_RESET sets no C_PORT_CONNECTION of the root, PORT_POWER may
+-- the set of a port's feature as a course of the bus: PORT_RESET sets no C_PORT_CONNECTION of the
+-- root, PORT_POWER may
 abbrev pub SetSteps : HubPort → ℕ → World → Option (List ℕ) → World → Option (List ℕ) → Type 0
-SetSteps (Root number) feature old before new now = Traced old before new now × (feature ≡ PORT_RESET → AttemptsWithin 0 old new)
+SetSteps (Root number) feature old before new now = Traced old before new now
+    × (feature ≡ PORT_RESET → AttemptsWithin 0 old new)
 SetSteps (External hub port) feature old before new now = StepRun write_bound old before new now
 
 abbrev pub PortRead : HubPort → World → Result PortStatus PipeFault → World → Type 0
 PortRead (Root number) old result new = RootRead number old result new
-PortRead (External hub port) old result new = ReadAs status_in hub (get_port_status port) old result new
+PortRead (External hub port) old result new = ReadAs status_in hub (get_port_status port) old result
+    new
 
 abbrev pub PortSet : HubPort → ℕ → World → Result (Unit {0}) PipeFault → World → Type 0
 PortSet (Root number) feature old result new = RootSet number feature old result new
-PortSet (External hub port) feature old result new = Commanded hub (set_port_feature feature port) old result new
+PortSet (External hub port) feature old result new =
+    Commanded hub (set_port_feature feature port) old result new
 
 abbrev pub PortCleared : HubPort → ℕ → World → Result (Unit {0}) PipeFault → World → Type 0
 PortCleared (Root number) feature old result new = RootCleared number feature old result new
-PortCleared (External hub port) feature old result new = Commanded hub (clear_port_feature feature port) old result new
+PortCleared (External hub port) feature old result new =
+    Commanded hub (clear_port_feature feature port) old result new

@@ -1,5 +1,7 @@
--- What a device makes of a new address and of a configuration (9.4.6, 9.4.7), seen from where it is reachable after them.
-use Rattle.std.specs.Prelude.{◌≡◌, ◌⊎◌, ℕ, ◌==◌, ◌&&◌, not, Bool, true, false, List, None, Some, Result, Ok, Err}
+-- What a device makes of a new address and of a configuration (9.4.6, 9.4.7), seen from where it is
+-- reachable after them.
+use Rattle.std.specs.Prelude.{◌≡◌, ◌⊎◌, ℕ, ◌==◌, ◌&&◌, not, Bool, true, false, List, None, Some}
+use Rattle.std.specs.Prelude.{Result, Ok, Err}
 use Rattle.usb_port.specs.PortState.{PortState}
 use Rattle.usb_device.specs.Request.{is_value}
 use Rattle.usb_device.specs.Rows.{State}
@@ -15,15 +17,20 @@ use Rattle.usb_pipe.specs.declared.fault.PipeFault.{PipeFault}
 use Rattle.usb_pipe.specs.declared.fault.PipeFault.TheVariants.{Stalled}
 use Rattle.usb_pipe.specs.Leaves.{CanEnd, IsNoBusFault, TookItOrLost}
 
--- A device was asked to take an address: nothing of it changed but where its transfer stands, and its address to this one. Where that is done, it
+-- A device was asked to take an address: nothing of it changed but where its transfer stands, and
+-- its address to this one. Where that is done, it
 -- took it at the host's ACK, or one loss more is counted; where it failed, neither.
-pub record AddressAsked (t : Target) (address : ℕ) (result : Result (Unit {0}) PipeFault) (old new : World) (x : Location) (s v : State) : Type 0 where
+pub record AddressAsked (t : Target) (address : ℕ) (result : Result (Unit {0}) PipeFault)
+    (old new : World) (x : Location) (s v : State) : Type 0 where
   pub others : is_at s t ≡ false → v ≡ s
   pub frame : OnlyControl s v
-  pub either : (v.registers ≡ s.registers) ⊎ (v.registers ≡ record s.registers { address = address })
-  pub done : is_at s t ≡ true → result ≡ Ok tt → (s.spec.stalls.address ≡ false) × TookItOrLost address old new s v
+  pub either : (v.registers ≡ s.registers)
+      ⊎ (v.registers ≡ record s.registers { address = address })
+  pub done : is_at s t ≡ true → result ≡ Ok tt → (s.spec.stalls.address ≡ false)
+      × TookItOrLost address old new s v
   pub stalled : is_at s t ≡ true → result ≡ Err Stalled → s.spec.stalls.address ≡ true
-  pub failed : is_at s t ≡ true → (why : PipeFault) → result ≡ Err why → IsNoBusFault result → (v.registers ≡ s.registers) × (new.losses ≡ old.losses)
+  pub failed : is_at s t ≡ true → (why : PipeFault) → result ≡ Err why → IsNoBusFault result
+      → (v.registers ≡ s.registers) × (new.losses ≡ old.losses)
   pub could : is_at s t ≡ true → CanEnd s.spec result
 
 -- it has an address, and the value is 0 or that of one of its configurations
@@ -42,7 +49,8 @@ pub record IsConfigured (value : ℕ) (s v : State) : Type 0 where
   pub registers : v.registers ≡ record s.registers { configuration = value }
   pub fresh : IsFresh v
 
--- at a moment of the call all ports of the device there were off, and nothing was asked of any port since
+-- at a moment of the call all ports of the device there were off, and nothing was asked of any port
+-- since
 pub record WentOff (new : World) (x : Location) : Type 0 where
   pub now : World
   pub b : PortState
@@ -65,11 +73,15 @@ OnlySet s v =
       held = v.held;
     }
 
--- A device was asked to take a configuration. Where that is done, it has it, and its ports went off; where it failed, it has it or has what it had.
-pub record ConfigurationAsked (t : Target) (value : ℕ) (result : Result (Unit {0}) PipeFault) (new : World) (x : Location) (s v : State) : Type 0 where
+-- A device was asked to take a configuration. Where that is done, it has it, and its ports went
+-- off; where it failed, it has it or has what it had.
+pub record ConfigurationAsked (t : Target) (value : ℕ) (result : Result (Unit {0}) PipeFault)
+    (new : World) (x : Location) (s v : State) : Type 0 where
   pub others : is_at s t ≡ false → v ≡ s
   pub frame : OnlySet s v
   pub either : (v.registers ≡ s.registers) ⊎ IsConfigured value s v
-  pub done : is_at s t ≡ true → result ≡ Ok tt → (s.spec.stalls.set_config ≡ false) × (takes_value s value ≡ true) × IsConfigured value s v × WentOff new x
-  pub stalled : is_at s t ≡ true → result ≡ Err Stalled → (s.spec.stalls.set_config ≡ true) ⊎ (takes_value s value ≡ false)
+  pub done : is_at s t ≡ true → result ≡ Ok tt → (s.spec.stalls.set_config ≡ false)
+      × (takes_value s value ≡ true) × IsConfigured value s v × WentOff new x
+  pub stalled : is_at s t ≡ true → result ≡ Err Stalled → (s.spec.stalls.set_config ≡ true)
+      ⊎ (takes_value s value ≡ false)
   pub could : is_at s t ≡ true → CanEnd s.spec result

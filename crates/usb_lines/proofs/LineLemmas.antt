@@ -4,5 +4,6 @@ use Rattle.std.proofs.lemmas.List.Elements.{All-push}
 use Rattle.usb_lines.specs.Lines.{IsUnbroken}
 
 -- a byte more that is no newline
-pub unbroken_more : (line : List ℕ) (byte : ℕ) → IsUnbroken line → byte ≢ 10 → IsUnbroken (line ++ byte ∷ [])
+pub unbroken_more : (line : List ℕ) (byte : ℕ) → IsUnbroken line → byte ≢ 10
+    → IsUnbroken (line ++ byte ∷ [])
 unbroken_more line byte h other = All-push (λ c. c ≢ 10) line byte h other

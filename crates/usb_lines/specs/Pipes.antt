@@ -3,7 +3,8 @@ use Rattle.std.specs.Prelude.{ℕ, Bool, List, Option}
 use Rattle.usb_bus.specs.declared.watched.Watched.{Watched}
 use Rattle.usb_bus.specs.Watch.{has_failed, inner_of}
 
--- the bytes that a reader has left, or that a writer has, where they are known, and whether it failed
+-- the bytes that a reader has left, or that a writer has, where they are known, and whether it
+-- failed
 pub record Pipe : Type 0 where
   pub bytes : Option (List ℕ)
   pub failed : Bool

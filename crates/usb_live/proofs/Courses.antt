@@ -1,5 +1,6 @@
 -- How a course goes on at each call.
-use Rattle.std.proofs.Common.{◌≡◌, ◌≢◌, ◌∙◌, ℕ, zero, suc, ◌+◌, ◌≤◌, ◌<◌, ◌⊎◌, inl, inr, List, Option, Some, None, Result, Ok, Err, refl, sym, ap, subst, arith}
+use Rattle.std.proofs.Common.{◌≡◌, ◌≢◌, ◌∙◌, ℕ, zero, suc, ◌+◌, ◌≤◌, ◌<◌, ◌⊎◌, inl, inr, List}
+use Rattle.std.proofs.Common.{Option, Some, None, Result, Ok, Err, refl, sym, ap, subst, arith}
 use Rattle.std.specs.Prelude.{Bool, is_ok, true, false, nat_lt, if◌then◌else◌}
 use Rattle.std.proofs.lemmas.Bool.{cases_lt}
 use Rattle.arrayvec.specs.ArrayVec.{ArrayVec}
@@ -21,10 +22,15 @@ use Rattle.usb_wire.specs.declared.question.Question.{Question}
 use Rattle.usb_wire.specs.declared.question.Question.TheVariants.{Hello, Wait, Port}
 use Rattle.usb_run.specs.declared.runs.Item.{Item}
 use Rattle.usb_run.specs.declared.runs.Item.TheVariants.{Listing, Sent, Received, Cleared}
-use Rattle.usb_stream.specs.Stream.{AsksNoQuestion, AsksOnce, AttemptsByLine, AttemptsBy, Calls, Kept, SaysHello, WritesLines, bus_fault, greeted, kept_of, question_by, question_for, roots_if, setup_with, line_speed, streams, unasked, unread_of, written_of}
+use Rattle.usb_stream.specs.Stream.{AsksNoQuestion, AsksOnce, AttemptsByLine, AttemptsBy, Calls}
+use Rattle.usb_stream.specs.Stream.{Kept, SaysHello, WritesLines, bus_fault, greeted, kept_of}
+use Rattle.usb_stream.specs.Stream.{question_by, question_for, roots_if, setup_with, line_speed}
+use Rattle.usb_stream.specs.Stream.{streams, unasked, unread_of, written_of}
 use Rattle.usb_stream.specs.declared.bus.StreamBus.{StreamBus}
 use Rattle.usb_stream.specs.declared.fault.LiveFault.{LiveFault}
-use Rattle.usb_live.specs.Course.{LiveCourse, CourseTo, EndsBy, StandsAtStage, Lives, is_nothing, is_wait, owed_by, owed_left, questions_in, settles, stage_behind, stage_behind_answer, told_text}
+use Rattle.usb_live.specs.Course.{LiveCourse, CourseTo, EndsBy, StandsAtStage, Lives, is_nothing}
+use Rattle.usb_live.specs.Course.{is_wait, owed_by, owed_left, questions_in, settles, stage_behind}
+use Rattle.usb_live.specs.Course.{stage_behind_answer, told_text}
 use Rattle.usb_live.specs.declared.end.LiveEnd.{LiveEnd}
 use Rattle.usb_live.specs.declared.end.LiveEnd.TheVariants.{Line, Memory, Rounds}
 use Rattle.usb_live.specs.declared.owed.Owed.{Owed}
@@ -34,49 +40,77 @@ use Rattle.usb_live.specs.declared.stage.Stage.TheVariants.{Asks, EndWanted, Ove
 
 -- ---- how many questions are left
 
-left_behind : (q : Question) (r0 r1 w0 w1 : Option (List ℕ)) (j : Kept) (result : Result Answer LiveFault) (k : Kept) → AsksOnce q (streams r0 r1 w0 w1) j result k
+left_behind : (q : Question) (r0 r1 w0 w1 : Option (List ℕ)) (j : Kept)
+    (result : Result Answer LiveFault) (k : Kept) → AsksOnce q (streams r0 r1 w0 w1) j result k
     → k.left + questions_in result ≡ j.left
 left_behind q r0 r1 w0 w1 j (Ok got) k h = h.one
 left_behind q r0 r1 w0 w1 j (Err f) k h = h.spent
 
 -- ---- one step
 
-pub on_asks : {st : Stage} {o : Owed} {limit : ℕ} {u b r w : Option (List ℕ)} {k : Kept} → CourseTo st o limit u b r w k → CourseTo Asks o limit u b r w k
+pub on_asks : {st : Stage} {o : Owed} {limit : ℕ} {u b r w : Option (List ℕ)} {k : Kept}
+    → CourseTo st o limit u b r w k → CourseTo Asks o limit u b r w k
 on_asks c = record { asked = c.asked; course = c.course; few = c.few; at = tt }
 
-asked_on : {st : Stage} {o : Owed} {limit : ℕ} {u b : Option (List ℕ)} (r0 r1 w0 w1 : Option (List ℕ)) (j k : Kept) (q : Question)
-    (result : Result Answer LiveFault) → CourseTo st o limit u b r0 w0 j → j.fault ≡ None → is_wait q ≡ false
+asked_on : {st : Stage} {o : Owed} {limit : ℕ} {u b : Option (List ℕ)}
+    (r0 r1 w0 w1 : Option (List ℕ)) (j k : Kept) (q : Question)
+    (result : Result Answer LiveFault) → CourseTo st o limit u b r0 w0 j → j.fault ≡ None
+    → is_wait q ≡ false
     → AsksOnce q (streams r0 r1 w0 w1) j result k → CourseTo Asks o limit u b r1 w1 k
 asked_on r0 r1 w0 w1 j k q result c sound plain h =
     let fewer = left_behind q r0 r1 w0 w1 j result k h in
     let few = c.few in
-    record { asked = c.asked + questions_in result; course = LiveCourse.asked q result c.course sound plain h; few = omega (arith, fewer, few); at = tt }
+    record {
+      asked = c.asked + questions_in result;
+      course =
+          LiveCourse.asked q result c.course sound plain h;
+      few = omega (arith, fewer, few);
+      at = tt;
+    }
 
 -- what is wanted was asked
-wanted_on : {st : Stage} {limit : ℕ} {u b : Option (List ℕ)} (r0 r1 w0 w1 : Option (List ℕ)) (j k : Kept)
+wanted_on : {st : Stage} {limit : ℕ} {u b : Option (List ℕ)} (r0 r1 w0 w1 : Option (List ℕ))
+    (j k : Kept)
     (result : Result Answer LiveFault) → CourseTo st owed.Nothing limit u b r0 w0 j → j.fault ≡ None
-    → AsksOnce Wait (streams r0 r1 w0 w1) j result k → CourseTo Asks (owed_by result) limit u b r1 w1 k
+    → AsksOnce Wait (streams r0 r1 w0 w1) j result k
+    → CourseTo Asks (owed_by result) limit u b r1 w1 k
 wanted_on r0 r1 w0 w1 j k result c sound h =
     let fewer = left_behind Wait r0 r1 w0 w1 j result k h in
     let few = c.few in
-    record { asked = c.asked + questions_in result; course = LiveCourse.wanted result c.course sound h; few = omega (arith, fewer, few); at = tt }
+    record {
+      asked = c.asked + questions_in result;
+      course =
+          LiveCourse.wanted result c.course sound h;
+      few = omega (arith, fewer, few);
+      at = tt;
+    }
 
-course_nothing_asked : {st : Stage} {o : Owed} {limit : ℕ} {u b : Option (List ℕ)} (r0 r1 w0 w1 : Option (List ℕ)) (j k : Kept) → CourseTo st o limit u b r0 w0 j
+course_nothing_asked : {st : Stage} {o : Owed} {limit : ℕ} {u b : Option (List ℕ)}
+    (r0 r1 w0 w1 : Option (List ℕ)) (j k : Kept) → CourseTo st o limit u b r0 w0 j
     → AsksNoQuestion (streams r0 r1 w0 w1) j k → CourseTo Asks o limit u b r1 w1 k
-course_nothing_asked r0 r1 w0 w1 j k c h = record { asked = c.asked; course = LiveCourse.still c.course h; few = ap (λ (x : Kept). c.asked + x.left) h.same ∙ c.few; at = tt }
+course_nothing_asked r0 r1 w0 w1 j k c h =
+    record {
+      asked = c.asked;
+      course = LiveCourse.still c.course h;
+      few = ap (λ (x : Kept). c.asked + x.left) h.same ∙ c.few;
+      at = tt;
+    }
 
 -- an attempt does not ask what is wanted
 abbrev asks_wait : Option Question → Bool
 asks_wait (Some q) = is_wait q
 asks_wait None = false
 
-setup_plain : (speed : Speed) (e : Endpoint) (setup : Option SetupData) → asks_wait (setup_with speed e setup) ≡ false
+setup_plain : (speed : Speed) (e : Endpoint) (setup : Option SetupData)
+    → asks_wait (setup_with speed e setup) ≡ false
 setup_plain speed e (Some setup) = refl
 setup_plain speed e None = refl
 
-by_plain : (kind : TokenKind) (speed : Speed) (e : Endpoint) (most : ℕ) (payload : Option (Toggle × ArrayVec ℕ))
+by_plain : (kind : TokenKind) (speed : Speed) (e : Endpoint) (most : ℕ)
+    (payload : Option (Toggle × ArrayVec ℕ))
     → asks_wait (question_by kind speed e most payload) ≡ false
-by_plain SetupTok speed e most (Some (Zero, bytes)) = setup_plain speed e (setup_by Zero bytes.items)
+by_plain SetupTok speed e most (Some (Zero, bytes)) =
+    setup_plain speed e (setup_by Zero bytes.items)
 by_plain SetupTok speed e most (Some (One, bytes)) = refl
 by_plain SetupTok speed e most None = refl
 by_plain OutTok speed e most (Some (toggle, bytes)) = refl
@@ -84,69 +118,96 @@ by_plain OutTok speed e most None = refl
 by_plain InTok speed e most payload = refl
 
 attempt_plain : (a : Attempt) → asks_wait (question_for a) ≡ false
-attempt_plain a = by_plain a.kind (line_speed a.low a.pre) (record { address = a.addr; number = a.ep }) a.max a.payload
+attempt_plain a = by_plain a.kind (line_speed a.low a.pre)
+    (record { address = a.addr; number = a.ep }) a.max a.payload
 
-attempts_on : {st : Stage} {o : Owed} {limit : ℕ} {u b : Option (List ℕ)} (r0 r1 w0 w1 : Option (List ℕ)) (j k : Kept) (q : Option Question)
+attempts_on : {st : Stage} {o : Owed} {limit : ℕ} {u b : Option (List ℕ)}
+    (r0 r1 w0 w1 : Option (List ℕ)) (j k : Kept) (q : Option Question)
     (most : ℕ) (result : Result Outcome BusFault) → asks_wait q ≡ false
-    → CourseTo st o limit u b r0 w0 j → j.fault ≡ None → AttemptsBy q most (streams r0 r1 w0 w1) j result k → CourseTo Asks o limit u b r1 w1 k
-attempts_on r0 r1 w0 w1 j k (Some q) most (Ok outcome) plain c sound h = asked_on r0 r1 w0 w1 j k q (Ok h.got) c sound plain h.asked
-attempts_on r0 r1 w0 w1 j k (Some q) most (Err told) plain c sound h = asked_on r0 r1 w0 w1 j k q (Err h.f) c sound plain h.asked
-attempts_on r0 r1 w0 w1 j k None most result plain c sound h = course_nothing_asked r0 r1 w0 w1 j k c h.0
+    → CourseTo st o limit u b r0 w0 j → j.fault ≡ None
+    → AttemptsBy q most (streams r0 r1 w0 w1) j result k → CourseTo Asks o limit u b r1 w1 k
+attempts_on r0 r1 w0 w1 j k (Some q) most (Ok outcome) plain c sound h =
+    asked_on r0 r1 w0 w1 j k q (Ok h.got) c sound plain h.asked
+attempts_on r0 r1 w0 w1 j k (Some q) most (Err told) plain c sound h =
+    asked_on r0 r1 w0 w1 j k q (Err h.f) c sound plain h.asked
+attempts_on r0 r1 w0 w1 j k None most result plain c sound h =
+    course_nothing_asked r0 r1 w0 w1 j k c h.0
 
 -- ---- one call, of a bus that may have a fault
 
 -- behind a fault nothing goes on
-by_fault : {R W : Type 0} (rem : R → Option (List ℕ)) (con : W → Option (List ℕ)) (limit : ℕ) (u b : Option (List ℕ)) (old new : StreamBus R W) (st : Stage)
-    (ow : Owed) (o : Option LiveFault) → (kept_of old).fault ≡ o → ((f : LiveFault) → (kept_of old).fault ≡ Some f → new ≡ old)
-    → ((kept_of old).fault ≡ None → CourseTo Asks ow limit u b (unread_of rem new) (written_of con new) (kept_of new))
+by_fault : {R W : Type 0} (rem : R → Option (List ℕ)) (con : W → Option (List ℕ)) (limit : ℕ)
+    (u b : Option (List ℕ)) (old new : StreamBus R W) (st : Stage)
+    (ow : Owed) (o : Option LiveFault) → (kept_of old).fault ≡ o
+    → ((f : LiveFault) → (kept_of old).fault ≡ Some f → new ≡ old)
+    → ((kept_of old).fault ≡ None → CourseTo Asks ow limit u b (unread_of rem new)
+    (written_of con new) (kept_of new))
     → CourseTo st ow limit u b (unread_of rem old) (written_of con old) (kept_of old)
     → CourseTo Asks ow limit u b (unread_of rem new) (written_of con new) (kept_of new)
 by_fault {R} {W} rem con limit u b old new st ow (Some f) is same on c =
-    subst (λ (x : StreamBus R W). CourseTo Asks ow limit u b (unread_of rem x) (written_of con x) (kept_of x)) (sym (same f is)) (on_asks c)
+    subst (λ (x : StreamBus R W). CourseTo Asks ow limit u b (unread_of rem x) (written_of con x)
+    (kept_of x)) (sym (same f is)) (on_asks c)
 by_fault rem con limit u b old new st ow None is same on c = on is
 
-pub attempt_on : {R W : Type 0} (rem : R → Option (List ℕ)) (con : W → Option (List ℕ)) (limit : ℕ) (u b : Option (List ℕ)) (old new : StreamBus R W) (st : Stage)
+pub attempt_on : {R W : Type 0} (rem : R → Option (List ℕ)) (con : W → Option (List ℕ)) (limit : ℕ)
+    (u b : Option (List ℕ)) (old new : StreamBus R W) (st : Stage)
     (ow : Owed) (a : Attempt) (result : Result Outcome BusFault)
     → ((f : LiveFault) → (kept_of old).fault ≡ Some f → (result ≡ Err (bus_fault f)) × (new ≡ old))
-    → ((kept_of old).fault ≡ None → AttemptsByLine a (streams (unread_of rem old) (unread_of rem new) (written_of con old) (written_of con new)) (kept_of old) result (kept_of new))
+    → ((kept_of old).fault ≡ None → AttemptsByLine a
+    (streams (unread_of rem old) (unread_of rem new) (written_of con old)
+    (written_of con new)) (kept_of old) result (kept_of new))
     → CourseTo st ow limit u b (unread_of rem old) (written_of con old) (kept_of old)
     → CourseTo Asks ow limit u b (unread_of rem new) (written_of con new) (kept_of new)
 attempt_on rem con limit u b old new st ow a result again asks c =
     by_fault rem con limit u b old new st ow (kept_of old).fault refl (λ f e. (again f e).1)
-    (λ e. attempts_on (unread_of rem old) (unread_of rem new) (written_of con old) (written_of con new) (kept_of old) (kept_of new) (question_for a) a.max result
+    (λ e. attempts_on (unread_of rem old) (unread_of rem new) (written_of con old)
+    (written_of con new) (kept_of old) (kept_of new) (question_for a) a.max result
     (attempt_plain a) c e (asks e)) c
 
-beyond_or : (p roots : ℕ) {T : Type 0} → (1 ≤ suc p → suc p ≤ roots → T) → (roots < suc p → T) → (roots < suc p) ⊎ (suc p ≤ roots) → T
+beyond_or : (p roots : ℕ) {T : Type 0} → (1 ≤ suc p → suc p ≤ roots → T) → (roots < suc p → T)
+    → (roots < suc p) ⊎ (suc p ≤ roots) → T
 beyond_or p roots one beyond (inl more) = beyond more
 beyond_or p roots one beyond (inr most) = one (omega arith) most
 
 -- a port is none, or one that there is, or none again
-port_within_roots : (port roots : ℕ) {T : Type 0} → (port ≡ 0 → T) → (1 ≤ port → port ≤ roots → T) → (roots < port → T) → T
+port_within_roots : (port roots : ℕ) {T : Type 0} → (port ≡ 0 → T) → (1 ≤ port → port ≤ roots → T)
+    → (roots < port → T) → T
 port_within_roots zero roots none one beyond = none refl
-port_within_roots (suc p) roots none one beyond = beyond_or p roots one beyond (cases_lt roots (suc p))
+port_within_roots (suc p) roots none one beyond =
+    beyond_or p roots one beyond (cases_lt roots (suc p))
 
-calls_by : {st : Stage} {o : Owed} {limit : ℕ} {u b : Option (List ℕ)} (r0 r1 w0 w1 : Option (List ℕ)) (j k : Kept) (port : ℕ) (call : Option PortCall)
-    → CourseTo st o limit u b r0 w0 j → j.fault ≡ None → Calls port call (streams r0 r1 w0 w1) j k → CourseTo Asks o limit u b r1 w1 k
+calls_by : {st : Stage} {o : Owed} {limit : ℕ} {u b : Option (List ℕ)}
+    (r0 r1 w0 w1 : Option (List ℕ)) (j k : Kept) (port : ℕ) (call : Option PortCall)
+    → CourseTo st o limit u b r0 w0 j → j.fault ≡ None → Calls port call (streams r0 r1 w0 w1) j k
+    → CourseTo Asks o limit u b r1 w1 k
 calls_by r0 r1 w0 w1 j k port None c sound h = course_nothing_asked r0 r1 w0 w1 j k c h
 calls_by r0 r1 w0 w1 j k port (Some call) c sound h =
     port_within_roots port j.roots (λ e. course_nothing_asked r0 r1 w0 w1 j k c (h.1 e))
-    (λ least most. let one = h.0 least most in asked_on r0 r1 w0 w1 j k (Port port call) one.result c sound refl one.asked)
+    (λ least most. let one = h.0 least most in asked_on r0 r1 w0 w1 j k (Port port call) one.result
+    c sound refl one.asked)
     (λ beyond. course_nothing_asked r0 r1 w0 w1 j k c (h.2 beyond))
 
-pub call_on : {R W : Type 0} (rem : R → Option (List ℕ)) (con : W → Option (List ℕ)) (limit : ℕ) (u b : Option (List ℕ)) (old new : StreamBus R W) (st : Stage)
+pub call_on : {R W : Type 0} (rem : R → Option (List ℕ)) (con : W → Option (List ℕ)) (limit : ℕ)
+    (u b : Option (List ℕ)) (old new : StreamBus R W) (st : Stage)
     (ow : Owed) (port : ℕ) (call : Option PortCall)
     → ((kept_of old).fault ≢ None → new ≡ old)
-    → ((kept_of old).fault ≡ None → Calls port call (streams (unread_of rem old) (unread_of rem new) (written_of con old) (written_of con new)) (kept_of old) (kept_of new))
+    → ((kept_of old).fault ≡ None → Calls port call
+    (streams (unread_of rem old) (unread_of rem new) (written_of con old)
+    (written_of con new)) (kept_of old) (kept_of new))
     → CourseTo st ow limit u b (unread_of rem old) (written_of con old) (kept_of old)
     → CourseTo Asks ow limit u b (unread_of rem new) (written_of con new) (kept_of new)
 call_on rem con limit u b old new st ow port call again asks c =
-    by_fault rem con limit u b old new st ow (kept_of old).fault refl (λ f e. again (λ none. let clash : Some f ≡ None = sym e ∙ none in cc))
-    (λ e. calls_by (unread_of rem old) (unread_of rem new) (written_of con old) (written_of con new) (kept_of old) (kept_of new) port call c e (asks e)) c
+    by_fault rem con limit u b old new st ow (kept_of old).fault refl
+    (λ f e. again (λ none. let clash : Some f ≡ None = sym e ∙ none in cc))
+    (λ e. calls_by (unread_of rem old) (unread_of rem new) (written_of con old) (written_of con new)
+    (kept_of old) (kept_of new) port call c e (asks e)) c
 
 -- ---- what is wanted, and what is told
 
-waits_by : {st : Stage} {limit : ℕ} {u b : Option (List ℕ)} (r0 r1 w0 w1 : Option (List ℕ)) (j k : Kept) (result : Result Answer LiveFault)
-    → CourseTo st owed.Nothing limit u b r0 w0 j → j.fault ≡ None → AsksOnce Wait (streams r0 r1 w0 w1) j result k
+waits_by : {st : Stage} {limit : ℕ} {u b : Option (List ℕ)} (r0 r1 w0 w1 : Option (List ℕ))
+    (j k : Kept) (result : Result Answer LiveFault)
+    → CourseTo st owed.Nothing limit u b r0 w0 j → j.fault ≡ None
+    → AsksOnce Wait (streams r0 r1 w0 w1) j result k
     → CourseTo (stage_behind_answer result) (owed_by result) limit u b r1 w1 k
 unfolding wanted_on
 waits_by r0 r1 w0 w1 j k (Ok answer.End) c sound h =
@@ -155,19 +216,39 @@ waits_by r0 r1 w0 w1 j k (Ok answer.End) c sound h =
       asked = on.asked;
       course = on.course;
       few = on.few;
-      at = record { r = r0; w = w0; j = j; m = c.asked; course = c.course; sound = sound; ended = h; one = refl };
+      at = record {
+        r = r0;
+        w = w0;
+        j = j;
+        m = c.asked;
+        course = c.course;
+        sound = sound;
+        ended = h;
+        one = refl;
+      };
     }
-waits_by r0 r1 w0 w1 j k (Ok (answer.Roots roots)) c sound h = wanted_on r0 r1 w0 w1 j k (Ok (answer.Roots roots)) c sound h
-waits_by r0 r1 w0 w1 j k (Ok answer.Ack) c sound h = wanted_on r0 r1 w0 w1 j k (Ok answer.Ack) c sound h
-waits_by r0 r1 w0 w1 j k (Ok answer.Nak) c sound h = wanted_on r0 r1 w0 w1 j k (Ok answer.Nak) c sound h
-waits_by r0 r1 w0 w1 j k (Ok answer.Stall) c sound h = wanted_on r0 r1 w0 w1 j k (Ok answer.Stall) c sound h
-waits_by r0 r1 w0 w1 j k (Ok answer.Nothing) c sound h = wanted_on r0 r1 w0 w1 j k (Ok answer.Nothing) c sound h
-waits_by r0 r1 w0 w1 j k (Ok (answer.Data sent)) c sound h = wanted_on r0 r1 w0 w1 j k (Ok (answer.Data sent)) c sound h
-waits_by r0 r1 w0 w1 j k (Ok answer.Done) c sound h = wanted_on r0 r1 w0 w1 j k (Ok answer.Done) c sound h
-waits_by r0 r1 w0 w1 j k (Ok answer.Show) c sound h = wanted_on r0 r1 w0 w1 j k (Ok answer.Show) c sound h
-waits_by r0 r1 w0 w1 j k (Ok (answer.Send path bytes)) c sound h = wanted_on r0 r1 w0 w1 j k (Ok (answer.Send path bytes)) c sound h
-waits_by r0 r1 w0 w1 j k (Ok (answer.Receive path packets)) c sound h = wanted_on r0 r1 w0 w1 j k (Ok (answer.Receive path packets)) c sound h
-waits_by r0 r1 w0 w1 j k (Ok (answer.Clear path)) c sound h = wanted_on r0 r1 w0 w1 j k (Ok (answer.Clear path)) c sound h
+waits_by r0 r1 w0 w1 j k (Ok (answer.Roots roots)) c sound h =
+    wanted_on r0 r1 w0 w1 j k (Ok (answer.Roots roots)) c sound h
+waits_by r0 r1 w0 w1 j k (Ok answer.Ack) c sound h =
+    wanted_on r0 r1 w0 w1 j k (Ok answer.Ack) c sound h
+waits_by r0 r1 w0 w1 j k (Ok answer.Nak) c sound h =
+    wanted_on r0 r1 w0 w1 j k (Ok answer.Nak) c sound h
+waits_by r0 r1 w0 w1 j k (Ok answer.Stall) c sound h =
+    wanted_on r0 r1 w0 w1 j k (Ok answer.Stall) c sound h
+waits_by r0 r1 w0 w1 j k (Ok answer.Nothing) c sound h =
+    wanted_on r0 r1 w0 w1 j k (Ok answer.Nothing) c sound h
+waits_by r0 r1 w0 w1 j k (Ok (answer.Data sent)) c sound h =
+    wanted_on r0 r1 w0 w1 j k (Ok (answer.Data sent)) c sound h
+waits_by r0 r1 w0 w1 j k (Ok answer.Done) c sound h =
+    wanted_on r0 r1 w0 w1 j k (Ok answer.Done) c sound h
+waits_by r0 r1 w0 w1 j k (Ok answer.Show) c sound h =
+    wanted_on r0 r1 w0 w1 j k (Ok answer.Show) c sound h
+waits_by r0 r1 w0 w1 j k (Ok (answer.Send path bytes)) c sound h =
+    wanted_on r0 r1 w0 w1 j k (Ok (answer.Send path bytes)) c sound h
+waits_by r0 r1 w0 w1 j k (Ok (answer.Receive path packets)) c sound h =
+    wanted_on r0 r1 w0 w1 j k (Ok (answer.Receive path packets)) c sound h
+waits_by r0 r1 w0 w1 j k (Ok (answer.Clear path)) c sound h =
+    wanted_on r0 r1 w0 w1 j k (Ok (answer.Clear path)) c sound h
 waits_by r0 r1 w0 w1 j k (Err f) c sound h = wanted_on r0 r1 w0 w1 j k (Err f) c sound h
 
 pub nothing_is : (o : Owed) → is_nothing o ≡ true → o ≡ owed.Nothing
@@ -178,22 +259,32 @@ nothing_is (owed.Receive path) h = cc
 nothing_is (owed.Clear path) h = cc
 
 -- behind a fault it is told again, and the stage is as at any other answer
-pub wait_on : {R W : Type 0} (rem : R → Option (List ℕ)) (con : W → Option (List ℕ)) (limit : ℕ) (u b : Option (List ℕ)) (old new : StreamBus R W) (st : Stage)
+pub wait_on : {R W : Type 0} (rem : R → Option (List ℕ)) (con : W → Option (List ℕ)) (limit : ℕ)
+    (u b : Option (List ℕ)) (old new : StreamBus R W) (st : Stage)
     (result : Result Answer LiveFault) (o : Option LiveFault) → (kept_of old).fault ≡ o
     → ((f : LiveFault) → (kept_of old).fault ≡ Some f → (result ≡ Err f) × (new ≡ old))
-    → ((kept_of old).fault ≡ None → AsksOnce Wait (streams (unread_of rem old) (unread_of rem new) (written_of con old) (written_of con new)) (kept_of old) result (kept_of new))
+    → ((kept_of old).fault ≡ None → AsksOnce Wait
+    (streams (unread_of rem old) (unread_of rem new) (written_of con old)
+    (written_of con new)) (kept_of old) result (kept_of new))
     → CourseTo st owed.Nothing limit u b (unread_of rem old) (written_of con old) (kept_of old)
-    → CourseTo (stage_behind_answer result) (owed_by result) limit u b (unread_of rem new) (written_of con new) (kept_of new)
+    → CourseTo (stage_behind_answer result) (owed_by result) limit u b (unread_of rem new)
+    (written_of con new) (kept_of new)
 wait_on {R} {W} rem con limit u b old new st result (Some f) is again asks c =
     let (told, same) = again f is in
-    subst (λ (a : Result Answer LiveFault). CourseTo (stage_behind_answer a) (owed_by a) limit u b (unread_of rem new) (written_of con new) (kept_of new)) (sym told)
-    (subst (λ (x : StreamBus R W). CourseTo Asks owed.Nothing limit u b (unread_of rem x) (written_of con x) (kept_of x)) (sym same) (on_asks c))
+    subst (λ (a : Result Answer LiveFault). CourseTo (stage_behind_answer a) (owed_by a) limit u b
+    (unread_of rem new) (written_of con new) (kept_of new)) (sym told)
+    (subst (λ (x : StreamBus R W). CourseTo Asks owed.Nothing limit u b (unread_of rem x)
+    (written_of con x) (kept_of x)) (sym same) (on_asks c))
 wait_on rem con limit u b old new st result None is again asks c =
-    waits_by (unread_of rem old) (unread_of rem new) (written_of con old) (written_of con new) (kept_of old) (kept_of new) result c is (asks is)
+    waits_by (unread_of rem old) (unread_of rem new) (written_of con old) (written_of con new)
+    (kept_of old) (kept_of new) result c is (asks is)
 
-told_on : {st : Stage} {o : Owed} {limit : ℕ} {u b : Option (List ℕ)} (r w0 w1 : Option (List ℕ)) (j k : Kept) (number : ℕ) (item : Item)
-    (result : Result (Unit {0}) LiveFault) → CourseTo st o limit u b r w0 j → j.fault ≡ None → k.left ≡ j.left → settles o item ≡ true
-    → WritesLines (told_text number item) w0 w1 j result k → CourseTo Asks (owed_left o result) limit u b r w1 k
+told_on : {st : Stage} {o : Owed} {limit : ℕ} {u b : Option (List ℕ)} (r w0 w1 : Option (List ℕ))
+    (j k : Kept) (number : ℕ) (item : Item)
+    (result : Result (Unit {0}) LiveFault) → CourseTo st o limit u b r w0 j → j.fault ≡ None
+    → k.left ≡ j.left → settles o item ≡ true
+    → WritesLines (told_text number item) w0 w1 j result k
+    → CourseTo Asks (owed_left o result) limit u b r w1 k
 told_on r w0 w1 j k number item result c sound same fits h = record {
   asked = c.asked;
   course = LiveCourse.told number item result c.course sound fits h;
@@ -202,12 +293,16 @@ told_on r w0 w1 j k number item result c sound same fits h = record {
 }
 
 -- none of the questions is used
-same_left : (lines : List ℕ) (w0 w1 : Option (List ℕ)) (j : Kept) (result : Result (Unit {0}) LiveFault) (k : Kept) → WritesLines lines w0 w1 j result k → k.left ≡ j.left
+same_left : (lines : List ℕ) (w0 w1 : Option (List ℕ)) (j : Kept)
+    (result : Result (Unit {0}) LiveFault) (k : Kept) → WritesLines lines w0 w1 j result k
+    → k.left ≡ j.left
 same_left lines w0 w1 j (Ok done) k h = ap (λ (x : Kept). x.left) h.1
 same_left lines w0 w1 j (Err f) k h = ap (λ (x : Kept). x.left) h.2
 
-course_tells : {o : Owed} {limit : ℕ} {u b : Option (List ℕ)} (st : Stage) (r w0 w1 : Option (List ℕ)) (j k : Kept) (number : ℕ) (item : Item) (done : Unit {0})
-    → CourseTo st o limit u b r w0 j → j.fault ≡ None → settles o item ≡ true → WritesLines (told_text number item) w0 w1 j (Ok done) k
+course_tells : {o : Owed} {limit : ℕ} {u b : Option (List ℕ)} (st : Stage)
+    (r w0 w1 : Option (List ℕ)) (j k : Kept) (number : ℕ) (item : Item) (done : Unit {0})
+    → CourseTo st o limit u b r w0 j → j.fault ≡ None → settles o item ≡ true
+    → WritesLines (told_text number item) w0 w1 j (Ok done) k
     → CourseTo (stage_behind st item) owed.Nothing limit u b r w1 k
 unfolding told_on
 course_tells Asks r w0 w1 j k number item done c sound fits h =
@@ -219,7 +314,20 @@ course_tells Over r w0 w1 j k number item done c sound fits h =
 course_tells EndWanted r w0 w1 j k number (Listing entries taken) done c sound fits h =
     let same = same_left (told_text number (Listing entries taken)) w0 w1 j (Ok done) k h in
     let on = told_on r w0 w1 j k number (Listing entries taken) (Ok done) c sound same fits h in
-    record { asked = on.asked; course = on.course; few = on.few; at = record { w = w0; j = j; wanted = c.at; number = number; entries = entries; listed = h } }
+    record {
+      asked = on.asked;
+      course = on.course;
+      few = on.few;
+      at = record {
+        w = w0;
+        j = j;
+        wanted = c.at;
+        number = number;
+        entries = entries;
+        listed =
+            h;
+      };
+    }
 course_tells EndWanted r w0 w1 j k number (Sent path sent) done c sound fits h =
     told_on r w0 w1 j k number (Sent path sent) (Ok done) c sound
     (same_left (told_text number (Sent path sent)) w0 w1 j (Ok done) k h) fits h
@@ -231,46 +339,70 @@ course_tells EndWanted r w0 w1 j k number (Cleared path all) done c sound fits h
     (same_left (told_text number (Cleared path all)) w0 w1 j (Ok done) k h) fits h
 
 -- an item was told well; the reader stays
-pub tell_on : {R W : Type 0} (rem : R → Option (List ℕ)) (con : W → Option (List ℕ)) (limit : ℕ) (u b : Option (List ℕ)) (old new : StreamBus R W) (st : Stage)
-    (ow : Owed) (number : ℕ) (item : Item) (text : List ℕ) (result : Result (Unit {0}) LiveFault) (o : Option LiveFault)
-    → is_ok result ≡ true → text ≡ told_text number item → settles ow item ≡ true → (kept_of old).fault ≡ o
-    → ((f : LiveFault) → (kept_of old).fault ≡ Some f → (result ≡ Err f) × (new ≡ old)) → unread_of rem new ≡ unread_of rem old
-    → ((kept_of old).fault ≡ None → WritesLines text (written_of con old) (written_of con new) (kept_of old) result (kept_of new))
+pub tell_on : {R W : Type 0} (rem : R → Option (List ℕ)) (con : W → Option (List ℕ)) (limit : ℕ)
+    (u b : Option (List ℕ)) (old new : StreamBus R W) (st : Stage)
+    (ow : Owed) (number : ℕ) (item : Item) (text : List ℕ) (result : Result (Unit {0}) LiveFault)
+    (o : Option LiveFault)
+    → is_ok result ≡ true → text ≡ told_text number item → settles ow item ≡ true
+    → (kept_of old).fault ≡ o
+    → ((f : LiveFault) → (kept_of old).fault ≡ Some f → (result ≡ Err f) × (new ≡ old))
+    → unread_of rem new ≡ unread_of rem old
+    → ((kept_of old).fault ≡ None → WritesLines text (written_of con old) (written_of con new)
+    (kept_of old) result (kept_of new))
     → CourseTo st ow limit u b (unread_of rem old) (written_of con old) (kept_of old)
-    → CourseTo (stage_behind st item) owed.Nothing limit u b (unread_of rem new) (written_of con new) (kept_of new)
-tell_on rem con limit u b old new st ow number item text (Err e) o ok spelled fits is again reader told c = cc
-tell_on rem con limit u b old new st ow number item text (Ok done) (Some f) ok spelled fits is again reader told c = let (clash, same) = again f is in cc
-tell_on rem con limit u b old new st ow number item text (Ok done) None ok spelled fits is again reader told c =
-    let so = subst (λ (t : List ℕ). WritesLines t (written_of con old) (written_of con new) (kept_of old) (Ok done) (kept_of new)) spelled (told is) in
-    subst (λ (r : Option (List ℕ)). CourseTo (stage_behind st item) owed.Nothing limit u b r (written_of con new) (kept_of new)) (sym reader)
-    (course_tells st (unread_of rem old) (written_of con old) (written_of con new) (kept_of old) (kept_of new) number item done c is fits so)
+    → CourseTo (stage_behind st item) owed.Nothing limit u b (unread_of rem new)
+    (written_of con new) (kept_of new)
+tell_on rem con limit u b old new st ow number item text (Err e) o ok spelled fits is again reader
+    told c = cc
+tell_on rem con limit u b old new st ow number item text (Ok done) (Some f) ok spelled fits is again
+    reader told c = let (clash, same) = again f is in cc
+tell_on rem con limit u b old new st ow number item text (Ok done) None ok spelled fits is again
+    reader told c =
+    let so = subst (λ (t : List ℕ). WritesLines t (written_of con old) (written_of con new)
+    (kept_of old) (Ok done) (kept_of new)) spelled (told is) in
+    subst (λ (r : Option (List ℕ)). CourseTo (stage_behind st item) owed.Nothing limit u b r
+    (written_of con new) (kept_of new)) (sym reader)
+    (course_tells st (unread_of rem old) (written_of con old) (written_of con new) (kept_of old)
+    (kept_of new) number item done c is fits so)
 
 -- the writer failed, and what is owed is owed still
-tells_off : {st : Stage} {o : Owed} {limit : ℕ} {u b : Option (List ℕ)} (r w0 w1 : Option (List ℕ)) (j k : Kept) (number : ℕ) (item : Item)
-    (result : Result (Unit {0}) LiveFault) → is_ok result ≡ false → CourseTo st o limit u b r w0 j → j.fault ≡ None → settles o item ≡ true
+tells_off : {st : Stage} {o : Owed} {limit : ℕ} {u b : Option (List ℕ)} (r w0 w1 : Option (List ℕ))
+    (j k : Kept) (number : ℕ) (item : Item)
+    (result : Result (Unit {0}) LiveFault) → is_ok result ≡ false → CourseTo st o limit u b r w0 j
+    → j.fault ≡ None → settles o item ≡ true
     → WritesLines (told_text number item) w0 w1 j result k → CourseTo Asks o limit u b r w1 k
 tells_off r w0 w1 j k number item (Ok done) bad c sound fits h = cc
 tells_off r w0 w1 j k number item (Err f) bad c sound fits h =
-    told_on r w0 w1 j k number item (Err f) c sound (same_left (told_text number item) w0 w1 j (Err f) k h) fits h
+    told_on r w0 w1 j k number item (Err f) c sound
+    (same_left (told_text number item) w0 w1 j (Err f) k h) fits h
 
 -- an item was told, or a front of it
-pub tell_off : {R W : Type 0} (rem : R → Option (List ℕ)) (con : W → Option (List ℕ)) (limit : ℕ) (u b : Option (List ℕ)) (old new : StreamBus R W) (st : Stage)
-    (ow : Owed) (number : ℕ) (item : Item) (text : List ℕ) (result : Result (Unit {0}) LiveFault) → is_ok result ≡ false
+pub tell_off : {R W : Type 0} (rem : R → Option (List ℕ)) (con : W → Option (List ℕ)) (limit : ℕ)
+    (u b : Option (List ℕ)) (old new : StreamBus R W) (st : Stage)
+    (ow : Owed) (number : ℕ) (item : Item) (text : List ℕ) (result : Result (Unit {0}) LiveFault)
+    → is_ok result ≡ false
     → text ≡ told_text number item → settles ow item ≡ true
-    → ((f : LiveFault) → (kept_of old).fault ≡ Some f → (result ≡ Err f) × (new ≡ old)) → unread_of rem new ≡ unread_of rem old
-    → ((kept_of old).fault ≡ None → WritesLines text (written_of con old) (written_of con new) (kept_of old) result (kept_of new))
+    → ((f : LiveFault) → (kept_of old).fault ≡ Some f → (result ≡ Err f) × (new ≡ old))
+    → unread_of rem new ≡ unread_of rem old
+    → ((kept_of old).fault ≡ None → WritesLines text (written_of con old) (written_of con new)
+    (kept_of old) result (kept_of new))
     → CourseTo st ow limit u b (unread_of rem old) (written_of con old) (kept_of old)
     → CourseTo Asks ow limit u b (unread_of rem new) (written_of con new) (kept_of new)
-tell_off rem con limit u b old new st ow number item text result bad spelled fits again reader told c =
+tell_off rem con limit u b old new st ow number item text result bad spelled fits again reader told
+    c =
     by_fault rem con limit u b old new st ow (kept_of old).fault refl (λ f is. (again f is).1)
-    (λ is. let so = subst (λ (t : List ℕ). WritesLines t (written_of con old) (written_of con new) (kept_of old) result (kept_of new)) spelled (told is) in
-    subst (λ (r : Option (List ℕ)). CourseTo Asks ow limit u b r (written_of con new) (kept_of new)) (sym reader)
-    (tells_off (unread_of rem old) (written_of con old) (written_of con new) (kept_of old) (kept_of new) number item result bad c is fits so)) c
+    (λ is. let so = subst (λ (t : List ℕ). WritesLines t (written_of con old) (written_of con new)
+    (kept_of old) result (kept_of new)) spelled (told is) in
+    subst (λ (r : Option (List ℕ)). CourseTo Asks ow limit u b r (written_of con new) (kept_of new))
+    (sym reader)
+    (tells_off (unread_of rem old) (written_of con old) (written_of con new) (kept_of old)
+    (kept_of new) number item result bad c is fits so)) c
 
 -- ---- the hello
 
 -- it uses none of the questions
-left_if : (few many : Bool) (k new : Kept) → new.left ≡ k.left → (if few then k else if many then k else new).left ≡ k.left
+left_if : (few many : Bool) (k new : Kept) → new.left ≡ k.left
+    → (if few then k else if many then k else new).left ≡ k.left
 left_if true many k new same = refl
 left_if false true k new same = refl
 left_if false false k new same = same
@@ -293,31 +425,69 @@ left_greeted (Ok (answer.Receive path packets)) k = refl
 left_greeted (Ok (answer.Clear path)) k = refl
 left_greeted (Err f) k = refl
 
-greeted_course : {limit : ℕ} (u r b w : Option (List ℕ)) (mid : Kept) (result : Result Answer LiveFault) → AsksOnce Hello (streams u r b w) (unasked limit) result mid
+greeted_course : {limit : ℕ} (u r b w : Option (List ℕ)) (mid : Kept)
+    (result : Result Answer LiveFault) → AsksOnce Hello (streams u r b w) (unasked limit) result mid
     → CourseTo Asks owed.Nothing limit u b r w (greeted result mid)
 greeted_course {limit} u r b w mid result h =
     let fewer = left_behind Hello u r b w (unasked limit) result mid h in
     let same = left_greeted result mid in
-    record { asked = questions_in result; course = LiveCourse.opened mid result h; few = omega (arith, fewer, same); at = tt }
+    record {
+      asked = questions_in result;
+      course = LiveCourse.opened mid result h;
+      few = omega (arith, fewer, same);
+      at = tt;
+    }
 
-pub opens : {limit : ℕ} (u r b w : Option (List ℕ)) (k : Kept) → SaysHello limit (streams u r b w) k → CourseTo Asks owed.Nothing limit u b r w k
-opens {limit} u r b w k h = subst (λ (x : Kept). CourseTo Asks owed.Nothing limit u b r w x) (sym h.kept) (greeted_course u r b w h.mid h.result h.asked)
+pub opens : {limit : ℕ} (u r b w : Option (List ℕ)) (k : Kept) → SaysHello limit (streams u r b w) k
+    → CourseTo Asks owed.Nothing limit u b r w k
+opens {limit} u r b w k h = subst (λ (x : Kept). CourseTo Asks owed.Nothing limit u b r w x)
+    (sym h.kept) (greeted_course u r b w h.mid h.result h.asked)
 
 -- ---- the end
 
-pub lives : {st : Stage} {o : Owed} {limit : ℕ} {u b r w : Option (List ℕ)} {k : Kept} (fault : Option LiveFault) (lines : ℕ)
-    (ended : Result (Unit {0}) LiveEnd) → fault ≡ k.fault → lines ≡ k.lines → EndsBy fault lines st ended
+pub lives : {st : Stage} {o : Owed} {limit : ℕ} {u b r w : Option (List ℕ)} {k : Kept}
+    (fault : Option LiveFault) (lines : ℕ)
+    (ended : Result (Unit {0}) LiveEnd) → fault ≡ k.fault → lines ≡ k.lines
+    → EndsBy fault lines st ended
     → CourseTo st o limit u b r w k → Lives limit u r b w ended
 lives {st} {o} {limit} {u} {b} {r} {w} {k} fault lines (Ok done) is same by c =
     let few = c.few in
     let over = subst (λ (s : Stage). StandsAtStage s limit u b r w k c.asked) by.1 c.at in
-    record { asked = c.asked; kept = k; owes = o; course = c.course; few = omega (arith, few); ends = over }
+    record {
+      asked = c.asked;
+      kept = k;
+      owes = o;
+      course = c.course;
+      few = omega (arith, few);
+      ends = over;
+    }
 lives {st} {o} {limit} {u} {b} {r} {w} {k} fault lines (Err (Line number f)) is same by c =
     let few = c.few in
-    record { asked = c.asked; kept = k; owes = o; course = c.course; few = omega (arith, few); ends = (sym is ∙ by.0, by.1 ∙ same) }
+    record {
+      asked = c.asked;
+      kept = k;
+      owes = o;
+      course = c.course;
+      few = omega (arith, few);
+      ends = (sym is ∙ by.0, by.1 ∙ same);
+    }
 lives {st} {o} {limit} {u} {b} {r} {w} {k} fault lines (Err (Rounds number)) is same by c =
     let few = c.few in
-    record { asked = c.asked; kept = k; owes = o; course = c.course; few = omega (arith, few); ends = (sym is ∙ by.0, by.1 ∙ same) }
+    record {
+      asked = c.asked;
+      kept = k;
+      owes = o;
+      course = c.course;
+      few = omega (arith, few);
+      ends = (sym is ∙ by.0, by.1 ∙ same);
+    }
 lives {st} {o} {limit} {u} {b} {r} {w} {k} fault lines (Err Memory) is same by c =
     let few = c.few in
-    record { asked = c.asked; kept = k; owes = o; course = c.course; few = omega (arith, few); ends = sym is ∙ by }
+    record {
+      asked = c.asked;
+      kept = k;
+      owes = o;
+      course = c.course;
+      few = omega (arith, few);
+      ends = sym is ∙ by;
+    }

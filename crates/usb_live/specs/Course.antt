@@ -1,5 +1,6 @@
 -- What a host and a far end say to each other, from the hello on.
-use Rattle.std.specs.Prelude.{◌≡◌, ⊤, ℕ, ◌+◌, ◌≤◌, ◌==◌, ◌&&◌, Bool, true, false, List, length, flat_map, Option, Some, None, Result, Ok, Err}
+use Rattle.std.specs.Prelude.{◌≡◌, ⊤, ℕ, ◌+◌, ◌≤◌, ◌==◌, ◌&&◌, Bool, true, false, List, length}
+use Rattle.std.specs.Prelude.{flat_map, Option, Some, None, Result, Ok, Err}
 use Rattle.std.specs.Str.{bytes_eq}
 use Rattle.usb_table.specs.Entries.{Entries}
 use Rattle.usb_text.specs.ListingLines.{listing_lines}
@@ -11,7 +12,8 @@ use Rattle.usb_run.specs.declared.runs.Item.{Item}
 use Rattle.usb_run.specs.declared.runs.Item.TheVariants.{Listing, Sent, Received, Cleared}
 use Rattle.usb_run.specs.declared.transfer.TransferFault.{TransferFault}
 use Rattle.usb_run.specs.ItemLines.{item_lines}
-use Rattle.usb_stream.specs.Stream.{AskedWell, AsksNoQuestion, AsksOnce, Kept, WritesLines, greeted, questions, streams, unasked}
+use Rattle.usb_stream.specs.Stream.{AskedWell, AsksNoQuestion, AsksOnce, Kept, WritesLines, greeted}
+use Rattle.usb_stream.specs.Stream.{questions, streams, unasked}
 use Rattle.usb_stream.specs.declared.fault.LiveFault.{LiveFault}
 use Rattle.usb_live.specs.declared.end.LiveEnd.{LiveEnd}
 use Rattle.usb_live.specs.declared.end.LiveEnd.TheVariants.{Line, Memory, Rounds}
@@ -41,7 +43,8 @@ abbrev pub is_count : ℕ → Result ℕ TransferFault → Bool
 is_count count (Ok all) = all == count
 is_count count (Err fault) = true
 
--- the item is the one that is owed: a listing; or that transfer at that path, of which all bytes were sent if it is a send
+-- the item is the one that is owed: a listing; or that transfer at that path, of which all bytes
+-- were sent if it is a send
 -- that did not fail
 abbrev pub settles : Owed → Item → Bool
 settles owed.Listing (Listing entries taken) = true
@@ -70,28 +73,38 @@ abbrev pub questions_in : Result Answer LiveFault → ℕ
 questions_in (Ok got) = 1
 questions_in (Err f) = questions f
 
--- so many questions were asked, from the hello on, each was answered by the lines that were read next or left a fault,
--- and items were told between them: behind what was wanted the one that this owes, once, and before it is asked again what
+-- so many questions were asked, from the hello on, each was answered by the lines that were read
+-- next or left a fault,
+-- and items were told between them: behind what was wanted the one that this owes, once, and before
+-- it is asked again what
 -- is wanted; behind a fault nothing was asked or told
-pub data LiveCourse (limit : ℕ) (unread before : Option (List ℕ)) : Owed → Option (List ℕ) → Option (List ℕ) → Kept → ℕ → Type 0 where
+pub data LiveCourse (limit : ℕ) (unread before : Option (List ℕ)) : Owed → Option (List ℕ)
+    → Option (List ℕ) → Kept → ℕ → Type 0 where
   opened : {left now : Option (List ℕ)} (k : Kept) (result : Result Answer LiveFault)
       → AsksOnce Hello (streams unread left before now) (unasked limit) result k
-      → LiveCourse limit unread before owed.Nothing left now (greeted result k) (questions_in result)
-  asked : {o : Owed} {r left w now : Option (List ℕ)} {j k : Kept} {n : ℕ} (q : Question) (result : Result Answer LiveFault)
+      → LiveCourse limit unread before owed.Nothing left now (greeted result k)
+      (questions_in result)
+  asked : {o : Owed} {r left w now : Option (List ℕ)} {j k : Kept} {n : ℕ} (q : Question)
+      (result : Result Answer LiveFault)
       → LiveCourse limit unread before o r w j n → j.fault ≡ None → is_wait q ≡ false
-      → AsksOnce q (streams r left w now) j result k → LiveCourse limit unread before o left now k (n + questions_in result)
+      → AsksOnce q (streams r left w now) j result k
+      → LiveCourse limit unread before o left now k (n + questions_in result)
   wanted : {r left w now : Option (List ℕ)} {j k : Kept} {n : ℕ} (result : Result Answer LiveFault)
       → LiveCourse limit unread before owed.Nothing r w j n → j.fault ≡ None
       → AsksOnce Wait (streams r left w now) j result k
       → LiveCourse limit unread before (owed_by result) left now k (n + questions_in result)
-  told : {o : Owed} {left w now : Option (List ℕ)} {j k : Kept} {n : ℕ} (number : ℕ) (item : Item) (result : Result (Unit {0}) LiveFault)
+  told : {o : Owed} {left w now : Option (List ℕ)} {j k : Kept} {n : ℕ} (number : ℕ) (item : Item)
+      (result : Result (Unit {0}) LiveFault)
       → LiveCourse limit unread before o left w j n → j.fault ≡ None → settles o item ≡ true
-      → WritesLines (told_text number item) w now j result k → LiveCourse limit unread before (owed_left o result) left now k n
-  still : {o : Owed} {r left w now : Option (List ℕ)} {j k : Kept} {n : ℕ} → LiveCourse limit unread before o r w j n
+      → WritesLines (told_text number item) w now j result k
+      → LiveCourse limit unread before (owed_left o result) left now k n
+  still : {o : Owed} {r left w now : Option (List ℕ)} {j k : Kept} {n : ℕ}
+      → LiveCourse limit unread before o r w j n
       → AsksNoQuestion (streams r left w now) j k → LiveCourse limit unread before o left now k n
 
 -- the host asked last what is wanted, and that was the end
-pub record WantsEnd (limit : ℕ) (unread before left now : Option (List ℕ)) (k : Kept) (n : ℕ) : Type 0 where
+pub record WantsEnd (limit : ℕ) (unread before left now : Option (List ℕ)) (k : Kept) (n : ℕ) :
+    Type 0 where
   pub r : Option (List ℕ)
   pub w : Option (List ℕ)
   pub j : Kept
@@ -102,13 +115,16 @@ pub record WantsEnd (limit : ℕ) (unread before left now : Option (List ℕ)) (
   pub one : n ≡ m + 1
 
 -- behind that it told a listing, and nothing more
-pub record IsOver (limit : ℕ) (unread before left now : Option (List ℕ)) (k : Kept) (n : ℕ) : Type 0 where
-  pub w : Option (List ℕ)
-  pub j : Kept
-  pub wanted : WantsEnd limit unread before left w j n
-  pub number : ℕ
-  pub entries : Entries
-  pub listed : WritesLines (flat_map (λ line. line) (listing_lines number entries)) w now j (Ok tt) k
+pub record IsOver (limit : ℕ) (unread before left now : Option (List ℕ)) (k : Kept) (n : ℕ) : Type 0
+  where
+    pub w : Option (List ℕ)
+    pub j : Kept
+    pub wanted : WantsEnd limit unread before left w j n
+    pub number : ℕ
+    pub entries : Entries
+    pub listed : WritesLines (flat_map (λ line. line) (listing_lines number entries)) w now j
+        (Ok tt)
+        k
 
 -- how far it is behind an answer to what is wanted, and behind an item that was told
 abbrev pub stage_behind_answer : Result Answer LiveFault → Stage
@@ -119,27 +135,34 @@ abbrev pub stage_behind : Stage → Item → Stage
 stage_behind EndWanted (Listing entries taken) = Over
 stage_behind stage item = Asks
 
-abbrev pub StandsAtStage : Stage → ℕ → Option (List ℕ) → Option (List ℕ) → Option (List ℕ) → Option (List ℕ) → Kept → ℕ → Type 0
+abbrev pub StandsAtStage : Stage → ℕ → Option (List ℕ) → Option (List ℕ) → Option (List ℕ)
+    → Option (List ℕ) → Kept → ℕ → Type 0
 StandsAtStage Asks limit unread before left now k n = ⊤
 StandsAtStage EndWanted limit unread before left now k n = WantsEnd limit unread before left now k n
 StandsAtStage Over limit unread before left now k n = IsOver limit unread before left now k n
 
 -- a course of at most so many questions
-pub record CourseTo (stage : Stage) (o : Owed) (limit : ℕ) (unread before left now : Option (List ℕ)) (k : Kept) : Type 0 where
+pub record CourseTo (stage : Stage) (o : Owed) (limit : ℕ)
+    (unread before left now : Option (List ℕ)) (k : Kept) : Type 0 where
   pub asked : ℕ
   pub course : LiveCourse limit unread before o left now k asked
   pub few : asked + k.left ≡ limit
   pub at : StandsAtStage stage limit unread before left now k asked
 
--- it ended because the end was wanted, or because of a fault, which is told with the number of lines that were read; the
+-- it ended because the end was wanted, or because of a fault, which is told with the number of
+-- lines that were read; the
 -- limit is also told behind as many rounds with no fault
-abbrev pub EndsLiveAs : Result (Unit {0}) LiveEnd → ℕ → Option (List ℕ) → Option (List ℕ) → Option (List ℕ) → Option (List ℕ) → Kept → ℕ → Type 0
+abbrev pub EndsLiveAs : Result (Unit {0}) LiveEnd → ℕ → Option (List ℕ) → Option (List ℕ)
+    → Option (List ℕ) → Option (List ℕ) → Kept → ℕ → Type 0
 EndsLiveAs (Ok done) limit unread before left now k n = IsOver limit unread before left now k n
-EndsLiveAs (Err (Line number f)) limit unread before left now k n = (k.fault ≡ Some f) × (number ≡ k.lines)
-EndsLiveAs (Err (Rounds number)) limit unread before left now k n = (k.fault ≡ None) × (number ≡ k.lines)
+EndsLiveAs (Err (Line number f)) limit unread before left now k n = (k.fault ≡ Some f)
+    × (number ≡ k.lines)
+EndsLiveAs (Err (Rounds number)) limit unread before left now k n = (k.fault ≡ None)
+    × (number ≡ k.lines)
 EndsLiveAs (Err Memory) limit unread before left now k n = k.fault ≡ None
 
--- of a private function: why it ended, by the fault that is kept and the number of lines that were read
+-- of a private function: why it ended, by the fault that is kept and the number of lines that were
+-- read
 abbrev pub EndsBy : Option LiveFault → ℕ → Stage → Result (Unit {0}) LiveEnd → Type 0
 EndsBy fault lines stage (Ok done) = (fault ≡ None) × (stage ≡ Over)
 EndsBy fault lines stage (Err (Line number f)) = (fault ≡ Some f) × (number ≡ lines)
@@ -147,7 +170,8 @@ EndsBy fault lines stage (Err (Rounds number)) = (fault ≡ None) × (number ≡
 EndsBy fault lines stage (Err Memory) = fault ≡ None
 
 -- a whole course: at most so many questions were asked
-pub record Lives (limit : ℕ) (unread left before now : Option (List ℕ)) (ended : Result (Unit {0}) LiveEnd) : Type 0 where
+pub record Lives (limit : ℕ) (unread left before now : Option (List ℕ))
+    (ended : Result (Unit {0}) LiveEnd) : Type 0 where
   pub asked : ℕ
   pub kept : Kept
   pub owes : Owed

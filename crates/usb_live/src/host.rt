@@ -21,8 +21,8 @@ type LiveHost<R, W, B> = Host<CourseBus<R, W, B>>;
 /// is told in the lines of `usbplan tree`. At most so many questions are asked. Hands the reader and the writer back.
 ///
 /// # Errors
-/// Line with the bus's fault, behind which nothing is told; Memory where memory was refused; Rounds behind as many rounds
-/// as questions, which no far end has brought about.
+/// Line with the bus's fault, behind which nothing is told; Memory where memory was refused; Rounds behind as many
+/// rounds as questions, which no far end has brought about.
 pub fn live<R: Read + Drop, W: Write + Drop>(
     alloc: Global,
     reader: Watched<R>,

@@ -7,14 +7,14 @@
 //!
 //! Of any far end `live` is safe, and returns. Of readers and writers whose bytes are known (*Lives*,
 //! `specs/Course.antt`): what was written is, one after the other, the lines of questions and of items, an item being a
-//! listing or how a transfer went; what was read is for each question the statuses that were pushed and one answer to it
-//! (*Course*, on *AsksOnce* of usb_stream). An item is told only where it is owed (*settles*): a listing where one was
-//! wanted or the end was, a transfer at the path where that one was wanted, and a `send` that is done tells as many bytes
-//! as were to be sent. It is told once, and it is not asked again what is wanted before. At most `limit` questions were
-//! asked. Behind a fault nothing was asked or told, and it is that fault that is told, with the number of lines that were
-//! read. An Ok is told only where the far end wanted the end, or its input ended in place of an answer to that, and a
-//! listing was told behind it and nothing more. The host asks over a bus that keeps its course in its type (`CourseBus`)
-//! and tells nothing that is not owed, so all of this holds whatever the host does.
+//! listing or how a transfer went; what was read is for each question the statuses that were pushed and one answer to
+//! it (*Course*, on *AsksOnce* of usb_stream). An item is told only where it is owed (*settles*): a listing where one
+//! was wanted or the end was, a transfer at the path where that one was wanted, and a `send` that is done tells as many
+//! bytes as were to be sent. It is told once, and it is not asked again what is wanted before. At most `limit`
+//! questions were asked. Behind a fault nothing was asked or told, and it is that fault that is told, with the number
+//! of lines that were read. An Ok is told only where the far end wanted the end, or its input ended in place of an
+//! answer to that, and a listing was told behind it and nothing more. The host asks over a bus that keeps its course in
+//! its type (`CourseBus`) and tells nothing that is not owed, so all of this holds whatever the host does.
 //!
 //! Of the private functions: the listing that is told is of the entries that the host has then (`item_of`).
 //!

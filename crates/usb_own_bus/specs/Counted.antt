@@ -11,7 +11,11 @@ count_with n = min (n + 1) (2 ^ 64 - 1)
 
 abbrev pub counts_with : Counts → Outcome → Counts
 counts_with c Nak = record c { attempts = count_with c.attempts; naks = count_with c.naks }
-counts_with c Nothing = record c { attempts = count_with c.attempts; unanswered = count_with c.unanswered }
+counts_with c Nothing = record c {
+  attempts = count_with c.attempts;
+  unanswered =
+      count_with c.unanswered;
+}
 counts_with c (Payload toggle bytes) = record c { attempts = count_with c.attempts }
 counts_with c Ack = record c { attempts = count_with c.attempts }
 counts_with c Stall = record c { attempts = count_with c.attempts }

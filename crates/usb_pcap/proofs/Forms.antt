@@ -1,11 +1,15 @@
 -- The forms of lines: a text fits a form where it is of that form.
-use Rattle.std.proofs.Common.{◌≡◌, ◌≢◌, ℕ, zero, suc, ◌+◌, ◌-◌, ◌≤◌, inl, inr, ◌&&◌, ◌||◌, Bool, true, false, List, [], ◌∷◌, ◌++◌, length, take, drop, Option, Some, None, refl, sym, ap, subst, ◌∙◌, arith, append_assoc, append-nil, length-append}
+use Rattle.std.proofs.Common.{◌≡◌, ◌≢◌, ℕ, zero, suc, ◌+◌, ◌-◌, ◌≤◌, inl, inr, ◌&&◌, ◌||◌, Bool}
+use Rattle.std.proofs.Common.{true, false, List, [], ◌∷◌, ◌++◌, length, take, drop, Option, Some}
+use Rattle.std.proofs.Common.{None, refl, sym, ap, subst, ◌∙◌, arith, append_assoc, append-nil}
+use Rattle.std.proofs.Common.{length-append}
 use Rattle.std.proofs.lemmas.Bool.{and_parts, eqb-true}
 use Rattle.std.proofs.lemmas.List.{length-take, take-append-drop}
 use Rattle.usb_pcap.specs.Grammar.{IsForm, IsOneOf, IsPiece, Piece, behind_piece, fits_form}
 use Rattle.usb_pcap.specs.Report.{HasForm, IsPlug, IsReport, has_form, plug_form, report_forms}
 use Rattle.usb_pcap.specs.Capture.{longest}
-use Rattle.usb_pcap.proofs.Items.{StopsAt, distinct, halts, no_length, piece-complete, piece-sound, ports_short}
+use Rattle.usb_pcap.proofs.Items.{StopsAt, distinct, halts, no_length, piece-complete, piece-sound}
+use Rattle.usb_pcap.proofs.Items.{ports_short}
 
 -- ---- a form in which each piece ends where the next one begins
 
@@ -54,17 +58,24 @@ free_stops Piece.bytes (c ∷ rest) h = absurd (cc)
 free_stops Piece.string (c ∷ rest) h = absurd (cc)
 free_stops Piece.name (c ∷ rest) h = absurd (cc)
 
-word_stops : (p : Piece) (w more rest : List ℕ) → first_stops p w ≡ true → rest ≡ w ++ more → StopsAt p rest
+word_stops : (p : Piece) (w more rest : List ℕ) → first_stops p w ≡ true → rest ≡ w ++ more
+    → StopsAt p rest
 word_stops p [] more rest h e = absurd (cc)
 word_stops p (c ∷ w) more rest h e = subst (StopsAt p) (sym e) h
 
-one_stops : (p : Piece) (ws : List (List ℕ)) (first more rest : List ℕ) → all_stop p ws ≡ true → IsOneOf ws first → rest ≡ first ++ more → StopsAt p rest
+one_stops : (p : Piece) (ws : List (List ℕ)) (first more rest : List ℕ) → all_stop p ws ≡ true
+    → IsOneOf ws first → rest ≡ first ++ more → StopsAt p rest
 one_stops p [] first more rest h is e = absurd is
-one_stops p (w ∷ ws) first more rest h (inl same) e = word_stops p w more rest (and_parts (first_stops p w) (all_stop p ws) h).0 (e ∙ ap (λ l. l ++ more) same)
-one_stops p (w ∷ ws) first more rest h (inr is) e = one_stops p ws first more rest (and_parts (first_stops p w) (all_stop p ws) h).1 is e
+one_stops p (w ∷ ws) first more rest h (inl same) e =
+    word_stops p w more rest (and_parts (first_stops p w) (all_stop p ws) h).0 (e
+    ∙ ap (λ l. l ++ more) same)
+one_stops p (w ∷ ws) first more rest h (inr is) e =
+    one_stops p ws first more rest (and_parts (first_stops p w) (all_stop p ws) h).1 is e
 
-next_stops : (p q : Piece) (first more rest : List ℕ) → stops_before p q ≡ true → IsPiece q first → rest ≡ first ++ more → StopsAt p rest
-next_stops p (Piece.word w) first more rest h is e = word_stops p w more rest h (e ∙ ap (λ l. l ++ more) is)
+next_stops : (p q : Piece) (first more rest : List ℕ) → stops_before p q ≡ true → IsPiece q first
+    → rest ≡ first ++ more → StopsAt p rest
+next_stops p (Piece.word w) first more rest h is e =
+    word_stops p w more rest h (e ∙ ap (λ l. l ++ more) is)
 next_stops p (Piece.one_of words) first more rest h is e = one_stops p words first more rest h is e
 next_stops p Piece.path first more rest h is e = absurd (cc)
 next_stops p Piece.number first more rest h is e = absurd (cc)
@@ -76,26 +87,33 @@ or_cases : {P : Type 0} (a b : Bool) → (a || b) ≡ true → (a ≡ true → P
 or_cases true b h k l = k refl
 or_cases false b h k l = l h
 
-ends : (p : Piece) (form : List Piece) (rest : List ℕ) → stopped_by p form ≡ true → IsForm form rest → StopsAt p rest
+ends : (p : Piece) (form : List Piece) (rest : List ℕ) → stopped_by p form ≡ true → IsForm form rest
+    → StopsAt p rest
 ends p [] rest h e = subst (StopsAt p) (sym e) tt
 ends p (q ∷ form) rest h (first, more, is, of, e) =
-    or_cases (is_free p) (stops_before p q) h (free_stops p rest) (λ stops. next_stops p q first more rest stops is e)
+    or_cases (is_free p) (stops_before p q) h (free_stops p rest)
+    (λ stops. next_stops p q first more rest stops is e)
 
 -- ---- fitting
 
-some_fits : {P : Type 0} (o : Option (List ℕ)) (f : List ℕ → Bool) → elim o [ None ↦ false | Some rest ↦ f rest ] ≡ true → ((rest : List ℕ) → o ≡ Some rest → f rest ≡ true → P) → P
+some_fits : {P : Type 0} (o : Option (List ℕ)) (f : List ℕ → Bool)
+    → elim o [ None ↦ false | Some rest ↦ f rest ] ≡ true
+    → ((rest : List ℕ) → o ≡ Some rest → f rest ≡ true → P) → P
 some_fits None f e k = absurd (cc)
 some_fits (Some rest) f e k = k rest refl e
 
-pub fits_form-sound : (form : List Piece) (text : List ℕ) → fits_form form text ≡ true → IsForm form text
+pub fits_form-sound : (form : List Piece) (text : List ℕ) → fits_form form text ≡ true
+    → IsForm form text
 unfolding fits_form
-fits_form-sound [] text e = let none = eqb-true (length text) 0 e in no_length text (omega (arith, none))
+fits_form-sound [] text e = let none = eqb-true (length text) 0 e in
+    no_length text (omega (arith, none))
 fits_form-sound (p ∷ form) text e =
     some_fits (behind_piece p text) (fits_form form) e (λ rest found more.
     let (first, is, split) = piece-sound p text rest found in
     (first, rest, is, fits_form-sound form rest more, split))
 
-fits_more : (p : Piece) (form : List Piece) (text rest : List ℕ) → behind_piece p text ≡ Some rest → fits_form (p ∷ form) text ≡ fits_form form rest
+fits_more : (p : Piece) (form : List Piece) (text rest : List ℕ) → behind_piece p text ≡ Some rest
+    → fits_form (p ∷ form) text ≡ fits_form form rest
 unfolding fits_form
 fits_more p form text rest e = rw (fits_form, e) refl
 
@@ -103,30 +121,39 @@ fits_none : (text : List ℕ) → text ≡ [] → fits_form [] text ≡ true
 unfolding fits_form
 fits_none text e = rw e refl
 
-pub fits_form-complete : (form : List Piece) (text : List ℕ) → has_pieces form ≡ true → IsForm form text → fits_form form text ≡ true
+pub fits_form-complete : (form : List Piece) (text : List ℕ) → has_pieces form ≡ true
+    → IsForm form text → fits_form form text ≡ true
 fits_form-complete [] text h e = fits_none text e
 fits_form-complete (p ∷ form) text h (first, more, is, of, e) =
     let one = and_parts (distinct p && stopped_by p form) (has_pieces form) h in
     let two = and_parts (distinct p) (stopped_by p form) one.0 in
     subst (λ t. fits_form (p ∷ form) t ≡ true) (sym e)
-    (fits_more p form (first ++ more) more (piece-complete p first more two.0 is (ends p form more two.1 of)) ∙ fits_form-complete form more one.1 of)
+    (fits_more p form (first ++ more) more
+    (piece-complete p first more two.0 is (ends p form more two.1 of))
+    ∙ fits_form-complete form more one.1 of)
 
 abbrev all_parted : List (List Piece) → Bool
 all_parted [] = true
 all_parted (form ∷ forms) = has_pieces form && all_parted forms
 
-has_form-sound : (forms : List (List Piece)) (line : List ℕ) → has_form forms line ≡ true → HasForm forms line
+has_form-sound : (forms : List (List Piece)) (line : List ℕ) → has_form forms line ≡ true
+    → HasForm forms line
 has_form-sound [] line e = absurd (cc)
-has_form-sound (form ∷ forms) line e = or_cases (fits_form form line) (has_form forms line) e (λ h. inl (fits_form-sound form line h)) (λ h. inr (has_form-sound forms line h))
+has_form-sound (form ∷ forms) line e = or_cases (fits_form form line) (has_form forms line) e
+    (λ h. inl (fits_form-sound form line h)) (λ h. inr (has_form-sound forms line h))
 
 or-true_right : (a : Bool) → (a || true) ≡ true
 or-true_right true = refl
 or-true_right false = refl
 
-has_form-complete : (forms : List (List Piece)) (line : List ℕ) → all_parted forms ≡ true → HasForm forms line → has_form forms line ≡ true
+has_form-complete : (forms : List (List Piece)) (line : List ℕ) → all_parted forms ≡ true
+    → HasForm forms line → has_form forms line ≡ true
 has_form-complete [] line h is = absurd is
-has_form-complete (form ∷ forms) line h (inl is) = rw (fits_form-complete form line (and_parts (has_pieces form) (all_parted forms) h).0 is) refl
-has_form-complete (form ∷ forms) line h (inr is) = rw (has_form-complete forms line (and_parts (has_pieces form) (all_parted forms) h).1 is) (or-true_right (fits_form form line))
+has_form-complete (form ∷ forms) line h (inl is) =
+    rw (fits_form-complete form line (and_parts (has_pieces form) (all_parted forms) h).0 is) refl
+has_form-complete (form ∷ forms) line h (inr is) =
+    rw (has_form-complete forms line (and_parts (has_pieces form) (all_parted forms) h).1 is)
+    (or-true_right (fits_form form line))
 
 pub is_report-sound : (line : List ℕ) → has_form report_forms line ≡ true → IsReport line
 is_report-sound line e = has_form-sound report_forms line e
@@ -141,19 +168,50 @@ some_more [] tail some e = some refl
 some_more (c ∷ name) tail some e = absurd (cc)
 
 plug_more : (line tail : List ℕ) → IsPlug line → IsPlug (line ++ tail)
-plug_more line tail (a, after, is_a, (p, behind, is_p, (b, last, is_b, (name, none, some, over, e4), e3), e2), e1) =
-    let four : last ++ tail ≡ (name ++ tail) ++ [] = ap (λ l. l ++ tail) (e4 ∙ ap (λ l. name ++ l) over ∙ append-nil name) ∙ sym (append-nil (name ++ tail)) in
-    let three : behind ++ tail ≡ b ++ (last ++ tail) = ap (λ l. l ++ tail) e3 ∙ append_assoc b last tail in
-    let two : after ++ tail ≡ p ++ (behind ++ tail) = ap (λ l. l ++ tail) e2 ∙ append_assoc p behind tail in
-    let one : line ++ tail ≡ a ++ (after ++ tail) = ap (λ l. l ++ tail) e1 ∙ append_assoc a after tail in
-    (a, after ++ tail, is_a, (p, behind ++ tail, is_p, (b, last ++ tail, is_b, (name ++ tail, [], some_more name tail some, refl, four), three), two), one)
+plug_more line tail (
+  a,
+  after,
+  is_a,
+  (p, behind, is_p, (b, last, is_b, (name, none, some, over, e4), e3), e2),
+  e1,
+) =
+    let four : last ++ tail ≡ (name ++ tail) ++ [] =
+    ap (λ l. l ++ tail) (e4 ∙ ap (λ l. name ++ l) over ∙ append-nil name)
+    ∙ sym (append-nil (name ++ tail)) in
+    let three : behind ++ tail ≡ b ++ (last ++ tail) = ap (λ l. l ++ tail) e3
+    ∙ append_assoc b last tail in
+    let two : after ++ tail ≡ p ++ (behind ++ tail) = ap (λ l. l ++ tail) e2
+    ∙ append_assoc p behind tail in
+    let one : line ++ tail ≡ a ++ (after ++ tail) = ap (λ l. l ++ tail) e1
+    ∙ append_assoc a after tail in (
+      a,
+      after ++ tail,
+      is_a,
+      (
+        p,
+        behind ++ tail,
+        is_p,
+        (
+          b,
+          last ++ tail,
+          is_b,
+          (name ++ tail, [], some_more name tail some, refl, four),
+          three,
+        ),
+        two,
+      ),
+      one,
+    )
 
-pub plug_taken : (front line : List ℕ) → front ≡ take longest line → fits_form plug_form front ≡ true → IsPlug line
+pub plug_taken : (front line : List ℕ) → front ≡ take longest line
+    → fits_form plug_form front ≡ true → IsPlug line
 plug_taken front line e fit =
-    let whole : front ++ drop longest line ≡ line = ap (λ l. l ++ drop longest line) e ∙ take-append-drop longest line in
+    let whole : front ++ drop longest line ≡ line = ap (λ l. l ++ drop longest line) e
+    ∙ take-append-drop longest line in
     subst IsPlug whole (plug_more front (drop longest line) (fits_form-sound plug_form front fit))
 
-take_past : (n : ℕ) (xs ys : List ℕ) → length xs ≤ n → take n (xs ++ ys) ≡ xs ++ take (n - length xs) ys
+take_past : (n : ℕ) (xs ys : List ℕ) → length xs ≤ n
+    → take n (xs ++ ys) ≡ xs ++ take (n - length xs) ys
 take_past n [] ys le = let same : n ≡ n - 0 = omega arith in ap (λ k. take k ys) same
 take_past zero (x ∷ xs) ys le = absurd (omega arith)
 take_past (suc m) (x ∷ xs) ys le =
@@ -168,21 +226,64 @@ take_some k (c ∷ name) some has e =
     absurd (omega (arith, long, none))
 
 plug_front : (line : List ℕ) → IsPlug line → IsPlug (take longest line)
-plug_front line (a, after, is_a, (p, behind, is_p, (b, last, is_b, (name, none, some, over, e4), e3), e2), e1) =
+plug_front line (
+  a,
+  after,
+  is_a,
+  (
+    p,
+    behind,
+    is_p,
+    (b, last, is_b, (name, none, some, over, e4), e3),
+    e2,
+  ),
+  e1,
+) =
     let (d, ports, digit, are, e) = is_p in
     let few = ports_short 6 ports are in
     let long_p : length p ≤ 13 = let n = ap length e in omega (arith, n, few) in
     let long_a : length a ≡ 5 = ap length is_a in
     let long_b : length b ≡ 1 = ap length is_b in
     let head : List ℕ = a ++ (p ++ b) in
-    let long : length head ≡ length a + (length p + length b) = length-append a (p ++ b) ∙ ap (λ n. length a + n) (length-append p b) in
+    let long : length head ≡ length a + (length p + length b) = length-append a (p ++ b)
+    ∙ ap (λ n. length a + n) (length-append p b) in
     let rest : List ℕ = take (longest - length head) name in
     let whole : line ≡ head ++ name =
-    e1 ∙ ap (λ l. a ++ l) (e2 ∙ ap (λ l. p ++ l) (e3 ∙ ap (λ l. b ++ l) (e4 ∙ ap (λ l. name ++ l) over ∙ append-nil name))) ∙ simp append_assoc in
-    let cut : take longest line ≡ head ++ rest = ap (take longest) whole ∙ take_past longest head name (omega (arith, long, long_p, long_a, long_b)) in
-    let again : take longest line ≡ a ++ (p ++ (b ++ (rest ++ []))) = cut ∙ simp (append_assoc, append-nil) in
-    (a, p ++ (b ++ (rest ++ [])), is_a, (p, b ++ (rest ++ []), is_p, (b, rest ++ [], is_b, (rest, [], take_some (longest - length head) name (omega (arith, long, long_p, long_a, long_b)) some, refl, refl), refl), refl), again)
+    e1 ∙ ap (λ l. a ++ l) (e2 ∙ ap (λ l. p ++ l) (e3
+    ∙ ap (λ l. b ++ l) (e4 ∙ ap (λ l. name ++ l) over ∙ append-nil name)))
+    ∙ simp append_assoc in
+    let cut : take longest line ≡ head ++ rest = ap (take longest) whole
+    ∙ take_past longest head name (omega (arith, long, long_p, long_a, long_b)) in
+    let again : take longest line ≡ a ++ (p ++ (b ++ (rest ++ []))) = cut
+    ∙ simp (append_assoc, append-nil) in (
+      a,
+      p ++ (b ++ (rest ++ [])),
+      is_a,
+      (
+        p,
+        b ++ (rest ++ []),
+        is_p,
+        (
+          b,
+          rest ++ [],
+          is_b,
+          (
+            rest,
+            [],
+            take_some (longest - length head) name
+                (omega (arith, long, long_p, long_a, long_b)) some,
+            refl,
+            refl,
+          ),
+          refl,
+        ),
+        refl,
+      ),
+      again,
+    )
 
-pub no_plug : (front line : List ℕ) → front ≡ take longest line → fits_form plug_form front ≡ false → IsPlug line → ⊥
+pub no_plug : (front line : List ℕ) → front ≡ take longest line → fits_form plug_form front ≡ false
+    → IsPlug line → ⊥
 no_plug front line e non is =
-    let fit = fits_form-complete plug_form front refl (subst IsPlug (sym e) (plug_front line is)) in absurd (cc)
+    let fit = fits_form-complete plug_form front refl (subst IsPlug (sym e) (plug_front line is)) in
+    absurd (cc)

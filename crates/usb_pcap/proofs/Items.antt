@@ -1,5 +1,10 @@
 -- The pieces of a line: what is read of a text is a piece at its front, and each piece is read.
-use Rattle.std.proofs.Common.{◌≡◌, ℕ, zero, suc, ◌+◌, ◌-◌, ◌*◌, ◌/◌, ◌%◌, ◌^◌, ◌<◌, ◌≤◌, inl, inr, ◌==◌, ◌&&◌, not, nat_lt, Bool, true, false, if◌then◌else◌, List, [], ◌∷◌, ◌++◌, length, Option, Some, None, option_map, codes, decimal, refl, sym, ap, subst, ◌∙◌, arith, append_assoc, append-nil, length-append, get_or, drop, drop-cons, drop_of_length-le, add-one, Bor}
+use Rattle.std.proofs.Common.{◌≡◌, ℕ, zero, suc, ◌+◌, ◌-◌, ◌*◌, ◌/◌, ◌%◌, ◌^◌, ◌<◌, ◌≤◌, inl, inr}
+use Rattle.std.proofs.Common.{◌==◌, ◌&&◌, not, nat_lt, Bool, true, false, if◌then◌else◌, List, []}
+use Rattle.std.proofs.Common.{◌∷◌, ◌++◌, length, Option, Some, None, option_map, codes, decimal}
+use Rattle.std.proofs.Common.{refl, sym, ap, subst, ◌∙◌, arith, append_assoc, append-nil}
+use Rattle.std.proofs.Common.{length-append, get_or, drop, drop-cons, drop_of_length-le, add-one}
+use Rattle.std.proofs.Common.{Bor}
 use Rattle.std.proofs.lemmas.Option.{same_Some}
 use Rattle.std.proofs.lemmas.Bool.{and_parts, eqb-true, lt-ltb}
 use Rattle.std.proofs.lemmas.Bool.Decides.{nat_tests}
@@ -8,10 +13,14 @@ use Rattle.std.specs.Char.{is_ascii_digit}
 use Rattle.std.specs.Option.{option_and_then}
 use Rattle.usb_pcap.specs.declared.item.Item.{Item}
 use Rattle.usb_pcap.specs.declared.item.Item.TheVariants.{Port, Byte, Letter}
-use Rattle.usb_pcap.specs.Text.{decimal_in, if_found, is_digit, number_on, strip, strip_any, with_digit}
+use Rattle.usb_pcap.specs.Text.{decimal_in, if_found, is_digit, number_on, strip, strip_any}
+use Rattle.usb_pcap.specs.Text.{with_digit}
 use Rattle.usb_port.specs.Path.{is_port_digit}
-use Rattle.usb_pcap.specs.Grammar.{AreUnits, IsUnit, IsOneOf, IsPiece, Piece, behind_bytes, behind_escape, behind_item, behind_items, behind_piece, is_escape, is_plain}
-use Rattle.usb_pcap.proofs.Reading.{decimal_in-some, found_some, if_either, if-some, map_some, strip-some}
+use Rattle.usb_pcap.specs.Grammar.{AreUnits, IsUnit, IsOneOf, IsPiece, Piece, behind_bytes}
+use Rattle.usb_pcap.specs.Grammar.{behind_escape, behind_item, behind_items, behind_piece}
+use Rattle.usb_pcap.specs.Grammar.{is_escape, is_plain}
+use Rattle.usb_pcap.proofs.Reading.{decimal_in-some, found_some, if_either, if-some, map_some}
+use Rattle.usb_pcap.proofs.Reading.{strip-some}
 use Rattle.usb_tree.proofs.Interface.{not-true}
 
 -- ---- words
@@ -19,7 +28,8 @@ use Rattle.usb_tree.proofs.Interface.{not-true}
 pub strip-append : (word rest : List ℕ) → strip word (word ++ rest) ≡ Some rest
 unfolding strip
 strip-append [] rest = refl
-strip-append (c ∷ word) rest = let same : (c == c) ≡ true = grind (arith, nat_tests) in rw same (strip-append word rest)
+strip-append (c ∷ word) rest = let same : (c == c) ≡ true = grind (arith, nat_tests) in
+    rw same (strip-append word rest)
 
 -- two words differ where both have a character
 abbrev pub differ_at_key : List ℕ → List ℕ → Bool
@@ -27,7 +37,8 @@ differ_at_key [] v = false
 differ_at_key (c ∷ w) [] = false
 differ_at_key (c ∷ w) (d ∷ v) = if d == c then differ_at_key w v else true
 
-if_none_or : (b x : Bool) (o : Option (List ℕ)) → (if b then x else true) ≡ true → (x ≡ true → o ≡ None) → (if b then o else None) ≡ None
+if_none_or : (b x : Bool) (o : Option (List ℕ)) → (if b then x else true) ≡ true
+    → (x ≡ true → o ≡ None) → (if b then o else None) ≡ None
 if_none_or true x o e k = k e
 if_none_or false x o e k = refl
 
@@ -35,7 +46,8 @@ apart-strip : (w v rest : List ℕ) → differ_at_key w v ≡ true → strip w (
 unfolding strip
 apart-strip [] v rest e = absurd (cc)
 apart-strip (c ∷ w) [] rest e = absurd (cc)
-apart-strip (c ∷ w) (d ∷ v) rest e = if_none_or (d == c) (differ_at_key w v) (strip w (v ++ rest)) e (apart-strip w v rest)
+apart-strip (c ∷ w) (d ∷ v) rest e = if_none_or (d == c) (differ_at_key w v) (strip w (v ++ rest)) e
+    (apart-strip w v rest)
 
 abbrev pub all_apart : List ℕ → List (List ℕ) → Bool
 all_apart w [] = true
@@ -45,39 +57,55 @@ abbrev pub distinct_words : List (List ℕ) → Bool
 distinct_words [] = true
 distinct_words (w ∷ ws) = all_apart w ws && distinct_words ws
 
-apart_each : (w : List ℕ) (ws : List (List ℕ)) (text rest : List ℕ) → all_apart w ws ≡ true → IsOneOf ws text → strip w (text ++ rest) ≡ None
+apart_each : (w : List ℕ) (ws : List (List ℕ)) (text rest : List ℕ) → all_apart w ws ≡ true
+    → IsOneOf ws text → strip w (text ++ rest) ≡ None
 apart_each w [] text rest e is = absurd is
-apart_each w (v ∷ vs) text rest e (inl same) = let both = and_parts (differ_at_key w v) (all_apart w vs) e in subst (λ t. strip w (t ++ rest) ≡ None) (sym same) (apart-strip w v rest both.0)
-apart_each w (v ∷ vs) text rest e (inr is) = let both = and_parts (differ_at_key w v) (all_apart w vs) e in apart_each w vs text rest both.1 is
+apart_each w (v ∷ vs) text rest e (inl same) = let both =
+    and_parts (differ_at_key w v) (all_apart w vs) e in
+    subst (λ t. strip w (t ++ rest) ≡ None) (sym same) (apart-strip w v rest both.0)
+apart_each w (v ∷ vs) text rest e (inr is) = let both =
+    and_parts (differ_at_key w v) (all_apart w vs) e in apart_each w vs text rest both.1 is
 
-if_found-none : {A B : Type 0} (o : Option A) (read : A → Option B) (other : Option B) → o ≡ None → if_found o read other ≡ other
+if_found-none : {A B : Type 0} (o : Option A) (read : A → Option B) (other : Option B) → o ≡ None
+    → if_found o read other ≡ other
 if_found-none None read other e = refl
 if_found-none (Some x) read other e = absurd (cc)
 
-if_found-some : {A B : Type 0} (o : Option A) (x : A) (read : A → Option B) (other : Option B) → o ≡ Some x → if_found o read other ≡ read x
+if_found-some : {A B : Type 0} (o : Option A) (x : A) (read : A → Option B) (other : Option B)
+    → o ≡ Some x → if_found o read other ≡ read x
 if_found-some None x read other e = absurd (cc)
 if_found-some (Some y) x read other e = ap read (same_Some y x e)
 
-strip_any-complete : (ws : List (List ℕ)) (text rest : List ℕ) → distinct_words ws ≡ true → IsOneOf ws text → strip_any ws (text ++ rest) ≡ Some rest
+strip_any-complete : (ws : List (List ℕ)) (text rest : List ℕ) → distinct_words ws ≡ true
+    → IsOneOf ws text → strip_any ws (text ++ rest) ≡ Some rest
 unfolding strip_any
 strip_any-complete [] text rest e is = absurd is
 strip_any-complete (w ∷ ws) text rest e (inl same) =
-    if_found-some (strip w (text ++ rest)) rest Some (strip_any ws (text ++ rest)) (subst (λ t. strip w (t ++ rest) ≡ Some rest) (sym same) (strip-append w rest))
+    if_found-some (strip w (text ++ rest)) rest Some (strip_any ws (text ++ rest))
+    (subst (λ t. strip w (t ++ rest) ≡ Some rest) (sym same) (strip-append w rest))
 strip_any-complete (w ∷ ws) text rest e (inr is) =
     let both = and_parts (all_apart w ws) (distinct_words ws) e in
-    if_found-none (strip w (text ++ rest)) Some (strip_any ws (text ++ rest)) (apart_each w ws text rest both.0 is) ∙ strip_any-complete ws text rest both.1 is
+    if_found-none (strip w (text ++ rest)) Some (strip_any ws (text ++ rest))
+    (apart_each w ws text rest both.0 is) ∙ strip_any-complete ws text rest both.1 is
 
-strip_any-sound : (ws : List (List ℕ)) (text rest : List ℕ) → strip_any ws text ≡ Some rest → (first : List ℕ) × IsOneOf ws first × (text ≡ first ++ rest)
+strip_any-sound : (ws : List (List ℕ)) (text rest : List ℕ) → strip_any ws text ≡ Some rest
+    → (first : List ℕ) × IsOneOf ws first × (text ≡ first ++ rest)
 unfolding strip_any
 strip_any-sound [] text rest e = absurd (cc)
 strip_any-sound (w ∷ ws) text rest e =
     found_some (strip w text) Some (strip_any ws text) rest e
-    (λ r found is. (w, inl refl, strip-some w text r found ∙ ap (λ l. w ++ l) (same_Some r rest is)))
+    (λ r found is. (
+      w,
+      inl refl,
+      strip-some w text r found
+          ∙ ap (λ l. w ++ l) (same_Some r rest is),
+    ))
     (λ more. let (first, one, split) = strip_any-sound ws text rest more in (first, inr one, split))
 
 -- ---- items
 
-escape-sound : (s : ℕ) (text rest : List ℕ) → s ≡ 92 → behind_escape text ≡ Some rest → (item : List ℕ) × IsUnit Letter item × (s ∷ text ≡ item ++ rest)
+escape-sound : (s : ℕ) (text rest : List ℕ) → s ≡ 92 → behind_escape text ≡ Some rest
+    → (item : List ℕ) × IsUnit Letter item × (s ∷ text ≡ item ++ rest)
 escape-sound s [] rest back e = absurd (cc)
 escape-sound s (u ∷ []) rest back e = absurd (cc)
 escape-sound s (u ∷ a ∷ []) rest back e = absurd (cc)
@@ -90,7 +118,8 @@ escape-sound s (u ∷ a ∷ b ∷ c ∷ d ∷ text) rest back e =
     let same = same_Some text rest is in
     (92 ∷ 117 ∷ a ∷ b ∷ c ∷ d ∷ [], inr (a, b, c, d, both.1, refl), cc))
 
-item-sound : (kind : Item) (text rest : List ℕ) → behind_item kind text ≡ Some rest → (item : List ℕ) × IsUnit kind item × (text ≡ item ++ rest)
+item-sound : (kind : Item) (text rest : List ℕ) → behind_item kind text ≡ Some rest
+    → (item : List ℕ) × IsUnit kind item × (text ≡ item ++ rest)
 unfolding behind_item
 item-sound Port [] rest e = absurd (cc)
 item-sound Port (c ∷ []) rest e = absurd (cc)
@@ -103,14 +132,17 @@ item-sound Port (c ∷ d ∷ text) rest e =
 item-sound Byte [] rest e = absurd (cc)
 item-sound Byte (h ∷ []) rest e = absurd (cc)
 item-sound Byte (h ∷ l ∷ text) rest e =
-    if-some (is_digit h && is_digit l) (Some text) rest e (λ fit is. (h ∷ l ∷ [], (h, l, fit, refl), ap (λ t. h ∷ l ∷ t) (same_Some text rest is)))
+    if-some (is_digit h && is_digit l) (Some text) rest e
+    (λ fit is. (h ∷ l ∷ [], (h, l, fit, refl), ap (λ t. h ∷ l ∷ t) (same_Some text rest is)))
 item-sound Letter [] rest e = absurd (cc)
 item-sound Letter (c ∷ text) rest e =
     if_either (is_plain c) (Some text) (if c == 92 then behind_escape text else None) rest e
     (λ fit is. (c ∷ [], inl (c, fit, refl), ap (λ t. c ∷ t) (same_Some text rest is)))
-    (λ non more. if-some (c == 92) (behind_escape text) rest more (λ back is. escape-sound c text rest (eqb-true c 92 back) is))
+    (λ non more. if-some (c == 92) (behind_escape text) rest more
+    (λ back is. escape-sound c text rest (eqb-true c 92 back) is))
 
-item-complete : (kind : Item) (item rest : List ℕ) → IsUnit kind item → behind_item kind (item ++ rest) ≡ Some rest
+item-complete : (kind : Item) (item rest : List ℕ) → IsUnit kind item
+    → behind_item kind (item ++ rest) ≡ Some rest
 unfolding behind_item
 item-complete Port item rest (d, fit, e) = rw (e, fit) refl
 item-complete Byte item rest (h, l, fit, e) = rw (e, fit) refl
@@ -123,52 +155,75 @@ item-some Byte item (h, l, fit, e) = rw e (omega arith)
 item-some Letter item (inl (c, fit, e)) = rw e (omega arith)
 item-some Letter item (inr (a, b, c, d, fit, e)) = rw e (omega arith)
 
-items_step : (kind : Item) (n : ℕ) (text : List ℕ) (found : Option (List ℕ)) → behind_item kind text ≡ found
-    → ((t : List ℕ) → (items : List ℕ) × AreUnits kind n items × (t ≡ items ++ behind_items kind n t))
-    → (items : List ℕ) × AreUnits kind (suc n) items × (text ≡ items ++ elim found [ None ↦ text | Some rest ↦ behind_items kind n rest ])
+items_step : (kind : Item) (n : ℕ) (text : List ℕ) (found : Option (List ℕ))
+    → behind_item kind text ≡ found
+    → ((t : List ℕ) → (items : List ℕ) × AreUnits kind n items
+    × (t ≡ items ++ behind_items kind n t))
+    → (items : List ℕ) × AreUnits kind (suc n) items
+    × (text ≡ items ++ elim found [ None ↦ text | Some rest ↦ behind_items kind n rest ])
 items_step kind n text None e more = ([], inl refl, refl)
 items_step kind n text (Some rest) e more =
     let (item, is, split) = item-sound kind text rest e in
-    let (items, are, whole) = more rest in
-    (item ++ items, inr (item, items, is, are, refl), split ∙ ap (λ l. item ++ l) whole ∙ sym (append_assoc item items (behind_items kind n rest)))
+    let (items, are, whole) = more rest in (
+      item ++ items,
+      inr (item, items, is, are, refl),
+      split ∙ ap (λ l. item ++ l) whole
+          ∙ sym (append_assoc item items (behind_items kind n rest)),
+    )
 
-pub items-sound : (kind : Item) (n : ℕ) (text : List ℕ) → (items : List ℕ) × AreUnits kind n items × (text ≡ items ++ behind_items kind n text)
+pub items-sound : (kind : Item) (n : ℕ) (text : List ℕ) → (items : List ℕ) × AreUnits kind n items
+    × (text ≡ items ++ behind_items kind n text)
 unfolding behind_items
 items-sound kind zero text = ([], refl, refl)
-items-sound kind (suc n) text = items_step kind n text (behind_item kind text) refl (λ t. items-sound kind n t)
+items-sound kind (suc n) text = items_step kind n text (behind_item kind text) refl
+    (λ t. items-sound kind n t)
 
-behind_more : (kind : Item) (m : ℕ) (text rest : List ℕ) → behind_item kind text ≡ Some rest → behind_items kind (suc m) text ≡ behind_items kind m rest
+behind_more : (kind : Item) (m : ℕ) (text rest : List ℕ) → behind_item kind text ≡ Some rest
+    → behind_items kind (suc m) text ≡ behind_items kind m rest
 unfolding behind_items
 behind_more kind m text rest e = rw (behind_items, e) refl
 
 -- one item more is behind
-pub items_goes : (kind : Item) (n i : ℕ) (start text : List ℕ) (found : Option (Bor (List ℕ))) (more : Bor (List ℕ)) → i < n
-    → behind_items kind n start ≡ behind_items kind (n - i) text → option_map (λ r. r.now) found ≡ behind_item kind text → found ≡ Some more
+pub items_goes : (kind : Item) (n i : ℕ) (start text : List ℕ) (found : Option (Bor (List ℕ)))
+    (more : Bor (List ℕ)) → i < n
+    → behind_items kind n start ≡ behind_items kind (n - i) text → option_map (λ r. r.now) found
+    ≡ behind_item kind text → found ≡ Some more
     → behind_items kind n start ≡ behind_items kind (n - (i + 1)) more.now
 items_goes kind n i start text found more below before e is =
-    let own : behind_item kind text ≡ Some more.now = sym e ∙ ap (option_map (λ (r : Bor (List ℕ)). r.now)) is in
+    let own : behind_item kind text ≡ Some more.now = sym e
+    ∙ ap (option_map (λ (r : Bor (List ℕ)). r.now)) is in
     let left : n - i ≡ suc (n - (i + 1)) = omega arith in
-    before ∙ ap (λ k. behind_items kind k text) left ∙ behind_more kind (n - (i + 1)) text more.now own
+    before ∙ ap (λ k. behind_items kind k text) left
+    ∙ behind_more kind (n - (i + 1)) text more.now own
 
-behind_end : (kind : Item) (m : ℕ) (text : List ℕ) → behind_item kind text ≡ None → behind_items kind m text ≡ text
+behind_end : (kind : Item) (m : ℕ) (text : List ℕ) → behind_item kind text ≡ None
+    → behind_items kind m text ≡ text
 unfolding behind_items
 behind_end kind zero text e = refl
 behind_end kind (suc m) text e = rw (behind_items, e) refl
 
-pub items-complete : (kind : Item) (n m : ℕ) (items rest : List ℕ) → n ≤ m → AreUnits kind n items → behind_item kind rest ≡ None → behind_items kind m (items ++ rest) ≡ rest
-items-complete kind zero m items rest le are end = subst (λ l. behind_items kind m (l ++ rest) ≡ rest) (sym are) (behind_end kind m rest end)
+pub items-complete : (kind : Item) (n m : ℕ) (items rest : List ℕ) → n ≤ m → AreUnits kind n items
+    → behind_item kind rest ≡ None → behind_items kind m (items ++ rest) ≡ rest
+items-complete kind zero m items rest le are end =
+    subst (λ l. behind_items kind m (l ++ rest) ≡ rest) (sym are) (behind_end kind m rest end)
 items-complete kind (suc n) zero items rest le are end = absurd (omega arith)
-items-complete kind (suc n) (suc m) items rest le (inl none) end = subst (λ l. behind_items kind (suc m) (l ++ rest) ≡ rest) (sym none) (behind_end kind (suc m) rest end)
+items-complete kind (suc n) (suc m) items rest le (inl none) end =
+    subst (λ l. behind_items kind (suc m) (l ++ rest) ≡ rest) (sym none)
+    (behind_end kind (suc m) rest end)
 items-complete kind (suc n) (suc m) items rest le (inr (item, more, is, are, e)) end =
-    subst (λ l. behind_items kind (suc m) l ≡ rest) (sym (ap (λ l. l ++ rest) e ∙ append_assoc item more rest))
-    (behind_more kind m (item ++ (more ++ rest)) (more ++ rest) (item-complete kind item (more ++ rest) is) ∙ items-complete kind n m more rest (omega arith) are end)
+    subst (λ l. behind_items kind (suc m) l ≡ rest)
+    (sym (ap (λ l. l ++ rest) e ∙ append_assoc item more rest))
+    (behind_more kind m (item ++ (more ++ rest)) (more ++ rest)
+    (item-complete kind item (more ++ rest) is)
+    ∙ items-complete kind n m more rest (omega arith) are end)
 
 pub no_length : (l : List ℕ) → length l ≤ 0 → l ≡ []
 no_length [] few = refl
 no_length (c ∷ l) few = absurd (omega arith)
 
 -- there are non more items than characters
-pub items_fewer : (kind : Item) (n m : ℕ) (items : List ℕ) → length items ≤ m → AreUnits kind n items → AreUnits kind m items
+pub items_fewer : (kind : Item) (n m : ℕ) (items : List ℕ) → length items ≤ m
+    → AreUnits kind n items → AreUnits kind m items
 items_fewer kind zero zero items few are = are
 items_fewer kind zero (suc m) items few are = inl are
 items_fewer kind (suc n) zero items few are = no_length items few
@@ -226,7 +281,8 @@ letter_end (c ∷ rest) h =
 
 -- ---- numbers
 
-number_digit : (value d : ℕ) (rest : List ℕ) → d < 10 → value * 10 + d < 2 ^ 64 → number_on value ((48 + d) ∷ rest) ≡ number_on (value * 10 + d) rest
+number_digit : (value d : ℕ) (rest : List ℕ) → d < 10 → value * 10 + d < 2 ^ 64
+    → number_on value ((48 + d) ∷ rest) ≡ number_on (value * 10 + d) rest
 unfolding number_on
 number_digit value d rest small few =
     let digit : is_ascii_digit (48 + d) ≡ true = grind (arith, nat_tests) in
@@ -237,52 +293,75 @@ abbrev ReadsAs : ℕ → List ℕ → Type 0
 ReadsAs n ds = n < 2 ^ 64 → (rest : List ℕ) → number_on 0 (ds ++ rest) ≡ number_on n rest
 
 reads_one : (n : ℕ) → n < 10 → ReadsAs n ((48 + n) ∷ [])
-reads_one n small few rest = let same : 0 * 10 + n ≡ n = omega arith in number_digit 0 n rest small (omega arith) ∙ ap (λ m. number_on m rest) same
+reads_one n small few rest = let same : 0 * 10 + n ≡ n = omega arith in
+    number_digit 0 n rest small (omega arith) ∙ ap (λ m. number_on m rest) same
 
-reads_more : (n : ℕ) (ds : List ℕ) → 10 ≤ n → ReadsAs (n / 10) ds → ReadsAs n (ds ++ ((48 + n % 10) ∷ []))
+reads_more : (n : ℕ) (ds : List ℕ) → 10 ≤ n → ReadsAs (n / 10) ds
+    → ReadsAs n (ds ++ ((48 + n % 10) ∷ []))
 reads_more n ds many before few rest =
     let small : n % 10 < 10 = omega arith in
     let whole : n / 10 * 10 + n % 10 ≡ n = omega arith in
-    ap (number_on 0) (append_assoc ds ((48 + n % 10) ∷ []) rest) ∙ before (omega arith) ((48 + n % 10) ∷ rest)
-    ∙ number_digit (n / 10) (n % 10) rest small (omega (arith, whole)) ∙ ap (λ m. number_on m rest) whole
+    ap (number_on 0) (append_assoc ds ((48 + n % 10) ∷ []) rest)
+    ∙ before (omega arith) ((48 + n % 10) ∷ rest)
+    ∙ number_digit (n / 10) (n % 10) rest small (omega (arith, whole))
+    ∙ ap (λ m. number_on m rest) whole
 
 -- ---- digit after digit
 
-digits_over : (i : ℕ) (text : List ℕ) → i < length text → drop i text ≡ get_or text i 0 ∷ drop (i + 1) text
+digits_over : (i : ℕ) (text : List ℕ) → i < length text
+    → drop i text ≡ get_or text i 0 ∷ drop (i + 1) text
 digits_over i text below = rw (add-one, drop-cons text i 0)
 
-number_at : (value i : ℕ) (text : List ℕ) → i < length text → number_on value (drop i text) ≡ number_on value (get_or text i 0 ∷ drop (i + 1) text)
+number_at : (value i : ℕ) (text : List ℕ) → i < length text → number_on value (drop i text)
+    ≡ number_on value (get_or text i 0 ∷ drop (i + 1) text)
 number_at value i text below = ap (number_on value) (digits_over i text below)
 
-other_next : (value c : ℕ) (rest : List ℕ) → is_ascii_digit c ≡ false → number_on value (c ∷ rest) ≡ Some value
+other_next : (value c : ℕ) (rest : List ℕ) → is_ascii_digit c ≡ false
+    → number_on value (c ∷ rest) ≡ Some value
 unfolding number_on
 other_next value c rest other = rw other refl
 
-pub number_halts : (value i : ℕ) (text : List ℕ) → i < length text → number_on 0 text ≡ number_on value (drop i text) → is_ascii_digit (get_or text i 0) ≡ false → Some value ≡ number_on 0 text
-number_halts value i text below before other = sym (before ∙ number_at value i text below ∙ other_next value (get_or text i 0) (drop (i + 1) text) other)
+pub number_halts : (value i : ℕ) (text : List ℕ) → i < length text
+    → number_on 0 text ≡ number_on value (drop i text) → is_ascii_digit (get_or text i 0) ≡ false
+    → Some value ≡ number_on 0 text
+number_halts value i text below before other =
+    sym (before ∙ number_at value i text below
+    ∙ other_next value (get_or text i 0) (drop (i + 1) text) other)
 
-pub number_on-end : (value i : ℕ) (text : List ℕ) → length text ≤ i → number_on 0 text ≡ number_on value (drop i text) → Some value ≡ number_on 0 text
+pub number_on-end : (value i : ℕ) (text : List ℕ) → length text ≤ i
+    → number_on 0 text ≡ number_on value (drop i text) → Some value ≡ number_on 0 text
 unfolding number_on
-number_on-end value i text over before = sym (before ∙ ap (number_on value) (drop_of_length-le text {i = i} over))
+number_on-end value i text over before =
+    sym (before ∙ ap (number_on value) (drop_of_length-le text {i = i} over))
 
-by_room : (b : Bool) (n : ℕ) (rest : List ℕ) → (if b then number_on n rest else None) ≡ option_and_then (λ more. number_on more rest) (if b then Some n else None)
+by_room : (b : Bool) (n : ℕ) (rest : List ℕ) → (if b then number_on n rest else None)
+    ≡ option_and_then (λ more. number_on more rest) (if b then Some n else None)
 by_room true n rest = refl
 by_room false n rest = refl
 
-digit_next : (value c : ℕ) (rest : List ℕ) → is_ascii_digit c ≡ true → number_on value (c ∷ rest) ≡ option_and_then (λ more. number_on more rest) (with_digit value c)
+digit_next : (value c : ℕ) (rest : List ℕ) → is_ascii_digit c ≡ true
+    → number_on value (c ∷ rest) ≡ option_and_then (λ more. number_on more rest)
+    (with_digit value c)
 unfolding number_on
-digit_next value c rest digit = rw digit (by_room (nat_lt (value * 10 + (c - 48)) (2 ^ 64)) (value * 10 + (c - 48)) rest)
+digit_next value c rest digit = rw digit (by_room (nat_lt (value * 10 + (c - 48)) (2 ^ 64))
+    (value * 10 + (c - 48)) rest)
 
-pub number_goes : (value i more : ℕ) (text : List ℕ) (found : Option ℕ) → i < length text → number_on 0 text ≡ number_on value (drop i text)
-    → is_ascii_digit (get_or text i 0) ≡ true → found ≡ with_digit value (get_or text i 0) → found ≡ Some more → number_on 0 text ≡ number_on more (drop (i + 1) text)
+pub number_goes : (value i more : ℕ) (text : List ℕ) (found : Option ℕ) → i < length text
+    → number_on 0 text ≡ number_on value (drop i text)
+    → is_ascii_digit (get_or text i 0) ≡ true → found ≡ with_digit value (get_or text i 0)
+    → found ≡ Some more → number_on 0 text ≡ number_on more (drop (i + 1) text)
 number_goes value i more text found below before digit e is =
-    before ∙ number_at value i text below ∙ digit_next value (get_or text i 0) (drop (i + 1) text) digit
+    before ∙ number_at value i text below ∙ digit_next value (get_or text i 0) (drop (i + 1) text)
+    digit
     ∙ ap (option_and_then (λ m. number_on m (drop (i + 1) text))) (sym e ∙ is)
 
-pub number_over : (value i : ℕ) (text : List ℕ) (found : Option ℕ) → i < length text → number_on 0 text ≡ number_on value (drop i text)
-    → is_ascii_digit (get_or text i 0) ≡ true → found ≡ with_digit value (get_or text i 0) → found ≡ None → None ≡ number_on 0 text
+pub number_over : (value i : ℕ) (text : List ℕ) (found : Option ℕ) → i < length text
+    → number_on 0 text ≡ number_on value (drop i text)
+    → is_ascii_digit (get_or text i 0) ≡ true → found ≡ with_digit value (get_or text i 0)
+    → found ≡ None → None ≡ number_on 0 text
 number_over value i text found below before digit e is =
-    sym (before ∙ number_at value i text below ∙ digit_next value (get_or text i 0) (drop (i + 1) text) digit
+    sym (before ∙ number_at value i text below
+    ∙ digit_next value (get_or text i 0) (drop (i + 1) text) digit
     ∙ ap (option_and_then (λ m. number_on m (drop (i + 1) text))) (sym e ∙ is))
 
 number_stop : (n : ℕ) (rest : List ℕ) → StopsAt Piece.number rest → number_on n rest ≡ Some n
@@ -290,46 +369,70 @@ unfolding number_on
 number_stop n [] h = refl
 number_stop n (c ∷ rest) h = let non = not-true (is_ascii_digit c) h in rw non refl
 
-pub decimal_in-complete : (n : ℕ) (rest : List ℕ) → n < 2 ^ 64 → StopsAt Piece.number rest → decimal_in (decimal n ++ rest) ≡ Some (n, rest)
+pub decimal_in-complete : (n : ℕ) (rest : List ℕ) → n < 2 ^ 64 → StopsAt Piece.number rest
+    → decimal_in (decimal n ++ rest) ≡ Some (n, rest)
 unfolding decimal_in
 decimal_in-complete n rest few stop =
-    let value : number_on 0 (decimal n ++ rest) ≡ Some n = decimal_by_steps ReadsAs reads_one reads_more n few few rest ∙ number_stop n rest stop in
+    let value : number_on 0 (decimal n ++ rest) ≡ Some n =
+    decimal_by_steps ReadsAs reads_one reads_more n few few rest ∙ number_stop n rest stop in
     rw (value, strip-append (decimal n) rest) refl
 
 -- ---- pieces
 
-piece_bytes-sound : (text rest : List ℕ) → behind_bytes text ≡ Some rest → (first : List ℕ) × IsPiece Piece.bytes first × (text ≡ first ++ rest)
+piece_bytes-sound : (text rest : List ℕ) → behind_bytes text ≡ Some rest → (first : List ℕ)
+    × IsPiece Piece.bytes first × (text ≡ first ++ rest)
 piece_bytes-sound text rest e =
-    found_some (strip (codes "-") text) Some (option_map (λ r. behind_items Byte (length r) r) (behind_item Byte text)) rest e
-    (λ r found is. (codes "-", inl refl, strip-some (codes "-") text r found ∙ ap (λ l. codes "-" ++ l) (same_Some r rest is)))
-    (λ more. map_some (λ r. behind_items Byte (length r) r) (behind_item Byte text) rest more (λ after found is.
+    found_some (strip (codes "-") text) Some (option_map (λ r. behind_items Byte (length r) r)
+    (behind_item Byte text)) rest e
+    (λ r found is. (
+      codes "-",
+      inl refl,
+      strip-some (codes "-") text r found
+          ∙ ap (λ l. codes "-" ++ l) (same_Some r rest is),
+    ))
+    (λ more. map_some (λ r. behind_items Byte (length r) r) (behind_item Byte text) rest more
+    (λ after found is.
     let (first, item, split) = item-sound Byte text after found in
     let (items, are, whole) = items-sound Byte (length after) after in (
       first ++ items,
       inr (length after, first, items, item, are, refl),
-      split ∙ ap (λ l. first ++ l) (whole ∙ ap (λ l. items ++ l) is) ∙ sym (append_assoc first items rest),
+      split ∙ ap (λ l. first ++ l) (whole ∙ ap (λ l. items ++ l) is)
+          ∙ sym (append_assoc first items rest),
     )))
 
-pub piece-sound : (piece : Piece) (text rest : List ℕ) → behind_piece piece text ≡ Some rest → (first : List ℕ) × IsPiece piece first × (text ≡ first ++ rest)
+pub piece-sound : (piece : Piece) (text rest : List ℕ) → behind_piece piece text ≡ Some rest
+    → (first : List ℕ) × IsPiece piece first × (text ≡ first ++ rest)
 unfolding behind_piece
 piece-sound (Piece.word w) text rest e = (w, refl, strip-some w text rest e)
 piece-sound (Piece.one_of words) text rest e = strip_any-sound words text rest e
 piece-sound Piece.path [] rest e = absurd (cc)
 piece-sound Piece.path (d ∷ text) rest e =
     if-some (is_port_digit d) (Some (behind_items Port 6 text)) rest e (λ fit is.
-    let (more, are, whole) = items-sound Port 6 text in
-    (d ∷ more, (d, more, fit, are, refl), ap (λ l. d ∷ l) (whole ∙ ap (λ l. more ++ l) (same_Some (behind_items Port 6 text) rest is))))
+    let (more, are, whole) = items-sound Port 6 text in (
+      d ∷ more,
+      (d, more, fit, are, refl),
+      ap (λ l. d ∷ l) (whole
+          ∙ ap (λ l. more ++ l) (same_Some (behind_items Port 6 text) rest is)),
+    ))
 piece-sound Piece.number text rest e =
     map_some (λ (n : ℕ × List ℕ). n.1) (decimal_in text) rest e (λ n found is.
     let own = decimal_in-some text n found in
     (decimal n.0, (n.0, own.1, refl), own.0 ∙ ap (λ l. decimal n.0 ++ l) is))
 piece-sound Piece.bytes text rest e = piece_bytes-sound text rest e
 piece-sound Piece.string text rest e =
-    let (items, are, whole) = items-sound Letter (length text) text in
-    (items, (length text, are), whole ∙ ap (λ l. items ++ l) (same_Some (behind_items Letter (length text) text) rest e))
+    let (items, are, whole) = items-sound Letter (length text) text in (
+      items,
+      (length text, are),
+      whole ∙ ap (λ l. items ++ l)
+          (same_Some (behind_items Letter (length text) text) rest e),
+    )
 piece-sound Piece.name [] rest e = absurd (cc)
-piece-sound Piece.name (c ∷ text) rest e =
-    (c ∷ text, (λ none. absurd (cc)), sym (ap (λ l. (c ∷ text) ++ l) (sym (same_Some [] rest e)) ∙ append-nil (c ∷ text)))
+piece-sound Piece.name (c ∷ text) rest e = (
+  c ∷ text,
+  (λ none. absurd (cc)),
+  sym (ap (λ l. (c ∷ text) ++ l) (sym (same_Some [] rest e))
+      ∙ append-nil (c ∷ text)),
+)
 
 pub dash_apart : (h : ℕ) → is_digit h ≡ true → (h == 45) ≡ false
 dash_apart h digit = grind (arith, nat_tests)
@@ -339,18 +442,26 @@ unfolding strip
 no_dash first rest (h, l, fit, e) =
     let other = dash_apart h (and_parts (is_digit h) (is_digit l) fit).0 in rw (e, other) refl
 
-piece_bytes-complete : (text rest : List ℕ) → IsPiece Piece.bytes text → StopsAt Piece.bytes rest → behind_bytes (text ++ rest) ≡ Some rest
+piece_bytes-complete : (text rest : List ℕ) → IsPiece Piece.bytes text → StopsAt Piece.bytes rest
+    → behind_bytes (text ++ rest) ≡ Some rest
 piece_bytes-complete text rest (inl dash) stop =
-    if_found-some (strip (codes "-") (text ++ rest)) rest Some (option_map (λ r. behind_items Byte (length r) r) (behind_item Byte (text ++ rest)))
-    (subst (λ t. strip (codes "-") (t ++ rest) ≡ Some rest) (sym dash) (strip-append (codes "-") rest))
+    if_found-some (strip (codes "-") (text ++ rest)) rest Some
+    (option_map (λ r. behind_items Byte (length r) r) (behind_item Byte (text ++ rest)))
+    (subst (λ t. strip (codes "-") (t ++ rest) ≡ Some rest) (sym dash)
+    (strip-append (codes "-") rest))
 piece_bytes-complete text rest (inr (n, first, more, is, are, e)) stop =
-    let own : text ++ rest ≡ first ++ (more ++ rest) = ap (λ l. l ++ rest) e ∙ append_assoc first more rest in
+    let own : text ++ rest ≡ first ++ (more ++ rest) = ap (λ l. l ++ rest) e
+    ∙ append_assoc first more rest in
     let long = length-append more rest in
     let all : behind_items Byte (length (more ++ rest)) (more ++ rest) ≡ rest =
-    items-complete Byte (length more) (length (more ++ rest)) more rest (omega (arith, long)) (items_fewer Byte n (length more) more (omega arith) are) (byte_end rest stop) in
+    items-complete Byte (length more) (length (more ++ rest)) more rest (omega (arith, long))
+    (items_fewer Byte n (length more) more (omega arith) are) (byte_end rest stop) in
     subst (λ t. behind_bytes t ≡ Some rest) (sym own)
-    (if_found-none (strip (codes "-") (first ++ (more ++ rest))) Some (option_map (λ r. behind_items Byte (length r) r) (behind_item Byte (first ++ (more ++ rest)))) (no_dash first (more ++ rest) is)
-    ∙ ap (option_map (λ r. behind_items Byte (length r) r)) (item-complete Byte first (more ++ rest) is) ∙ ap Some all)
+    (if_found-none (strip (codes "-") (first ++ (more ++ rest))) Some
+    (option_map (λ r. behind_items Byte (length r) r)
+    (behind_item Byte (first ++ (more ++ rest)))) (no_dash first (more ++ rest) is)
+    ∙ ap (option_map (λ r. behind_items Byte (length r) r))
+    (item-complete Byte first (more ++ rest) is) ∙ ap Some all)
 
 abbrev pub distinct : Piece → Bool
 distinct (Piece.word w) = true
@@ -361,17 +472,22 @@ distinct Piece.bytes = true
 distinct Piece.string = true
 distinct Piece.name = true
 
-pub piece-complete : (piece : Piece) (text rest : List ℕ) → distinct piece ≡ true → IsPiece piece text → StopsAt piece rest → behind_piece piece (text ++ rest) ≡ Some rest
+pub piece-complete : (piece : Piece) (text rest : List ℕ) → distinct piece ≡ true
+    → IsPiece piece text → StopsAt piece rest → behind_piece piece (text ++ rest) ≡ Some rest
 unfolding behind_piece
-piece-complete (Piece.word w) text rest h is stop = subst (λ t. strip w (t ++ rest) ≡ Some rest) (sym is) (strip-append w rest)
+piece-complete (Piece.word w) text rest h is stop =
+    subst (λ t. strip w (t ++ rest) ≡ Some rest) (sym is) (strip-append w rest)
 piece-complete (Piece.one_of words) text rest h is stop = strip_any-complete words text rest h is
 piece-complete Piece.path text rest h (d, more, fit, are, e) stop =
     rw (e, fit) (ap Some (items-complete Port 6 6 more rest (omega arith) are (port_end rest stop)))
-piece-complete Piece.number text rest h (n, few, e) stop = rw (e, decimal_in-complete n rest few stop) refl
+piece-complete Piece.number text rest h (n, few, e) stop =
+    rw (e, decimal_in-complete n rest few stop) refl
 piece-complete Piece.bytes text rest h is stop = piece_bytes-complete text rest is stop
 piece-complete Piece.string text rest h (n, are) stop =
     let long = length-append text rest in
-    ap Some (items-complete Letter (length text) (length (text ++ rest)) text rest (omega (arith, long)) (items_fewer Letter n (length text) text (omega arith) are) (letter_end rest stop))
+    ap Some (items-complete Letter (length text) (length (text ++ rest)) text rest
+    (omega (arith, long)) (items_fewer Letter n (length text) text (omega arith) are)
+    (letter_end rest stop))
 piece-complete Piece.name [] rest h is stop = absurd (is refl)
 piece-complete Piece.name (c ∷ text) [] h is stop = refl
 piece-complete Piece.name (c ∷ text) (d ∷ rest) h is stop = absurd (cc)

@@ -1,5 +1,9 @@
 -- What a run prints of an attempt is read as that attempt.
-use Rattle.std.proofs.Common.{◌≡◌, ◌⊎◌, ℕ, zero, suc, ◌+◌, ◌*◌, ◌/◌, ◌%◌, ◌<◌, ◌≤◌, inl, inr, ◌==◌, ◌&&◌, Bool, true, false, List, [], ◌∷◌, ◌++◌, length, slice_index, Option, Some, None, IfSome, is_some, option_map, codes, decimal, refl, sym, ap, ap₂, subst, ◌∙◌, arith, append_assoc, append-nil, length-append}
+use Rattle.std.proofs.Common.{◌≡◌, ◌⊎◌, ℕ, zero, suc, ◌+◌, ◌*◌, ◌/◌, ◌%◌, ◌<◌, ◌≤◌, inl, inr, ◌==◌}
+use Rattle.std.proofs.Common.{◌&&◌, Bool, true, false, List, [], ◌∷◌, ◌++◌, length, slice_index}
+use Rattle.std.proofs.Common.{Option, Some, None, IfSome, is_some, option_map, codes, decimal, refl}
+use Rattle.std.proofs.Common.{sym, ap, ap₂, subst, ◌∙◌, arith, append_assoc, append-nil}
+use Rattle.std.proofs.Common.{length-append}
 use Rattle.std.proofs.lemmas.Bool.{and_parts, cases_lt, eqb-true, lt-ltb, ltb-true}
 use Rattle.hex.specs.Hex.{encode_upper, encode_with, upper_digits}
 use Rattle.usb_packet.specs.declared.TokenKind.{TokenKind}
@@ -16,19 +20,26 @@ use Rattle.usb_world.specs.declared.wire.Mark.{Mark}
 use Rattle.usb_world.specs.declared.wire.Mark.TheVariants.{Whole, Lost, PreLost, Flipped}
 use Rattle.usb_world.specs.declared.wire.Outgoing.{Outgoing}
 use Rattle.usb_world.specs.Wire.{bit_count}
-use Rattle.usb_bus.specs.Trace.{answer_text, attempt_line, host_text, mark_text, next_text, pre_text}
+use Rattle.usb_bus.specs.Trace.{answer_text, attempt_line, host_text, mark_text, next_text}
+use Rattle.usb_bus.specs.Trace.{pre_text}
 use Rattle.usb_pcap.specs.declared.attempt.TracedAttempt.{TracedAttempt}
 use Rattle.usb_pcap.specs.Text.{bytes_on, is_digit, strip, value_of}
 use Rattle.usb_pcap.specs.Grammar.{Piece}
-use Rattle.usb_pcap.specs.Packet.{bit_in, data_in, handshake_in, packet_in, packet_mark_in, token_in}
-use Rattle.usb_pcap.specs.Attempt.{IsAttemptLine, IsMarkedAnswer, IsSent, IsTraced, answer_in, attempt_answered, attempt_begun, attempt_in, behind_pre, data_follow, host_ack_in, host_data_in, host_in, is_ack_packet, is_answer, is_data_packet, may_be_marked, next_in, no_time, payload_if, read_attempt, reply_if, traced}
+use Rattle.usb_pcap.specs.Packet.{bit_in, data_in, handshake_in, packet_in, packet_mark_in}
+use Rattle.usb_pcap.specs.Packet.{token_in}
+use Rattle.usb_pcap.specs.Attempt.{IsAttemptLine, IsMarkedAnswer, IsSent, IsTraced, answer_in}
+use Rattle.usb_pcap.specs.Attempt.{attempt_answered, attempt_begun, attempt_in, behind_pre}
+use Rattle.usb_pcap.specs.Attempt.{data_follow, host_ack_in, host_data_in, host_in, is_ack_packet}
+use Rattle.usb_pcap.specs.Attempt.{is_answer, is_data_packet, may_be_marked, next_in, no_time}
+use Rattle.usb_pcap.specs.Attempt.{payload_if, read_attempt, reply_if, traced}
 use Rattle.usb_pcap.proofs.Items.{StopsAt, decimal_in-complete, dash_apart}
 
 -- ---- bytes
 
 -- every value has its upper-case digit
 abbrev spelled_there : ℕ → Bool
-spelled_there v = is_digit (slice_index upper_digits v) && (value_of (slice_index upper_digits v) == v)
+spelled_there v = is_digit (slice_index upper_digits v) &&
+    (value_of (slice_index upper_digits v) == v)
 
 abbrev all_spelled : ℕ → Bool
 all_spelled zero = true
@@ -45,9 +56,11 @@ all_spelled-at (suc n) v h lt =
           rw e parts.0
     ]
 
-digit_spelled : (v : ℕ) → v < 16 → (is_digit (slice_index upper_digits v) ≡ true) × (value_of (slice_index upper_digits v) ≡ v)
+digit_spelled : (v : ℕ) → v < 16 → (is_digit (slice_index upper_digits v) ≡ true)
+    × (value_of (slice_index upper_digits v) ≡ v)
 digit_spelled v few =
-    let both = and_parts (is_digit (slice_index upper_digits v)) (value_of (slice_index upper_digits v) == v) (all_spelled-at 16 v refl few) in
+    let both = and_parts (is_digit (slice_index upper_digits v))
+    (value_of (slice_index upper_digits v) == v) (all_spelled-at 16 v refl few) in
     (both.0, eqb-true _ v both.1)
 
 -- a text that is at its end, or goes on with a blank
@@ -61,24 +74,30 @@ bytes_over done [] h = refl
 bytes_over done (c ∷ []) h = refl
 bytes_over done (c ∷ d ∷ rest) h = rw h refl
 
-bytes_pair : (h l : ℕ) (done text : List ℕ) → is_digit h ≡ true → is_digit l ≡ true → length done < 64 → bytes_on done (h ∷ l ∷ text) ≡ bytes_on (done ++ (value_of h * 16 + value_of l) ∷ []) text
+bytes_pair : (h l : ℕ) (done text : List ℕ) → is_digit h ≡ true → is_digit l ≡ true
+    → length done < 64 → bytes_on done (h ∷ l ∷ text)
+    ≡ bytes_on (done ++ (value_of h * 16 + value_of l) ∷ []) text
 unfolding bytes_on
 bytes_pair h l done text high low room = rw (high, low, lt-ltb (length done) 64 room) refl
 
-encode_step : (b : ℕ) (bytes : List ℕ) → encode_upper (b ∷ bytes) ≡ slice_index upper_digits (b / 16) ∷ slice_index upper_digits (b % 16) ∷ encode_upper bytes
+encode_step : (b : ℕ) (bytes : List ℕ) → encode_upper (b ∷ bytes) ≡ slice_index upper_digits
+    (b / 16) ∷ slice_index upper_digits (b % 16) ∷ encode_upper bytes
 unfolding encode_with
 encode_step b bytes = refl
 
-bytes_on-complete : (bytes done rest : List ℕ) → IsBytes bytes → length done + length bytes ≤ 64 → Blank rest → bytes_on done (encode_upper bytes ++ rest) ≡ Some (done ++ bytes, rest)
+bytes_on-complete : (bytes done rest : List ℕ) → IsBytes bytes → length done + length bytes ≤ 64
+    → Blank rest → bytes_on done (encode_upper bytes ++ rest) ≡ Some (done ++ bytes, rest)
 unfolding encode_with
-bytes_on-complete [] done rest small few end = bytes_over done rest end ∙ ap (λ (l : List ℕ). Some (l, rest)) (sym (append-nil done))
+bytes_on-complete [] done rest small few end = bytes_over done rest end
+    ∙ ap (λ (l : List ℕ). Some (l, rest)) (sym (append-nil done))
 bytes_on-complete (b ∷ bytes) done rest small few end =
     let byte : b < 256 = small 0 in
     let high = digit_spelled (b / 16) (omega arith) in
     let low = digit_spelled (b % 16) (omega arith) in
     let h : ℕ = slice_index upper_digits (b / 16) in
     let l : ℕ = slice_index upper_digits (b % 16) in
-    let value : value_of h * 16 + value_of l ≡ b = ap₂ (λ (x y : ℕ). x * 16 + y) high.1 low.1 ∙ omega arith in
+    let value : value_of h * 16 + value_of l ≡ b = ap₂ (λ (x y : ℕ). x * 16 + y) high.1 low.1
+    ∙ omega arith in
     let long = length-append done (b ∷ []) in
     bytes_pair h l done (encode_upper bytes ++ rest) high.0 low.0 (omega arith)
     ∙ ap (λ v. bytes_on (done ++ v ∷ []) (encode_upper bytes ++ rest)) value
@@ -91,7 +110,9 @@ blank_number : (rest : List ℕ) → Blank rest → StopsAt Piece.number rest
 blank_number [] h = tt
 blank_number (c ∷ rest) h = rw h refl
 
-token_in-complete : (kind : TokenKind) (addr ep : ℕ) (rest : List ℕ) → addr < 128 → ep < 16 → Blank rest → token_in kind (decimal addr ++ (codes "." ++ (decimal ep ++ rest))) ≡ Some (Token kind addr ep, rest)
+token_in-complete : (kind : TokenKind) (addr ep : ℕ) (rest : List ℕ) → addr < 128 → ep < 16
+    → Blank rest → token_in kind (decimal addr ++ (codes "." ++ (decimal ep ++ rest)))
+    ≡ Some (Token kind addr ep, rest)
 unfolding token_in strip
 token_in-complete kind addr ep rest few low end =
     let first = decimal_in-complete addr (codes "." ++ (decimal ep ++ rest)) (omega arith) refl in
@@ -102,16 +123,20 @@ strip-dash : (h : ℕ) (text : List ℕ) → (h == 45) ≡ false → strip (code
 unfolding strip
 strip-dash h text other = rw other refl
 
-data_behind : (toggle : Toggle) (b : ℕ) (bytes text rest : List ℕ) → strip (codes "-") text ≡ None → bytes_on [] text ≡ Some (b ∷ bytes, rest)
+data_behind : (toggle : Toggle) (b : ℕ) (bytes text rest : List ℕ) → strip (codes "-") text ≡ None
+    → bytes_on [] text ≡ Some (b ∷ bytes, rest)
     → data_in toggle text ≡ Some (Payload toggle (record { items = b ∷ bytes }), rest)
 unfolding data_in
 data_behind toggle b bytes text rest none found = rw (none, found) refl
 
-dash_read : (toggle : Toggle) (rest : List ℕ) → data_in toggle (codes "-" ++ rest) ≡ Some (Payload toggle (record { items = [] }), rest)
+dash_read : (toggle : Toggle) (rest : List ℕ) → data_in toggle (codes "-" ++ rest)
+    ≡ Some (Payload toggle (record { items = [] }), rest)
 unfolding data_in strip
 dash_read toggle rest = refl
 
-data_in-complete : (toggle : Toggle) (items rest : List ℕ) → IsBytes items → length items ≤ 64 → Blank rest → data_in toggle (hex_text items ++ rest) ≡ Some (Payload toggle (record { items = items }), rest)
+data_in-complete : (toggle : Toggle) (items rest : List ℕ) → IsBytes items → length items ≤ 64
+    → Blank rest → data_in toggle (hex_text items ++ rest)
+    ≡ Some (Payload toggle (record { items = items }), rest)
 data_in-complete toggle [] rest small few end = dash_read toggle rest
 data_in-complete toggle (b ∷ bytes) rest small few end =
     let byte : b < 256 = small 0 in
@@ -120,7 +145,8 @@ data_in-complete toggle (b ∷ bytes) rest small few end =
     let l : ℕ = slice_index upper_digits (b % 16) in
     let other = dash_apart h high.0 in
     data_behind toggle b bytes (encode_upper (b ∷ bytes) ++ rest) rest
-    (subst (λ t. strip (codes "-") (t ++ rest) ≡ None) (sym (encode_step b bytes)) (strip-dash h (l ∷ (encode_upper bytes ++ rest)) other))
+    (subst (λ t. strip (codes "-") (t ++ rest) ≡ None) (sym (encode_step b bytes))
+    (strip-dash h (l ∷ (encode_upper bytes ++ rest)) other))
     (bytes_on-complete (b ∷ bytes) [] rest small (omega (arith, few)) end)
 
 abbrev is_spoken : Packet → Bool
@@ -132,13 +158,15 @@ is_spoken Nak = true
 is_spoken Stall = true
 is_spoken Pre = false
 
-token_begun : (kind : TokenKind) (text : List ℕ) → packet_in (token_name kind ++ text) ≡ token_in kind text
+token_begun : (kind : TokenKind) (text : List ℕ) → packet_in (token_name kind ++ text)
+    ≡ token_in kind text
 unfolding packet_in strip
 token_begun OutTok text = refl
 token_begun InTok text = refl
 token_begun SetupTok text = refl
 
-data_begun : (toggle : Toggle) (text : List ℕ) → packet_in (data_name toggle ++ text) ≡ data_in toggle text
+data_begun : (toggle : Toggle) (text : List ℕ) → packet_in (data_name toggle ++ text)
+    ≡ data_in toggle text
 unfolding packet_in strip
 data_begun Zero text = refl
 data_begun One text = refl
@@ -155,13 +183,18 @@ stall_read : (rest : List ℕ) → packet_in (codes "STALL" ++ rest) ≡ Some (S
 unfolding packet_in handshake_in strip
 stall_read rest = refl
 
-packet_in-complete : (p : Packet) (rest : List ℕ) → is_spoken p ≡ true → HasFields p → HasData p → Blank rest → packet_in (text_of p ++ rest) ≡ Some (p, rest)
+packet_in-complete : (p : Packet) (rest : List ℕ) → is_spoken p ≡ true → HasFields p → HasData p
+    → Blank rest → packet_in (text_of p ++ rest) ≡ Some (p, rest)
 packet_in-complete (Token kind addr ep) rest h fields data_fits end =
-    let own : text_of (Token kind addr ep) ++ rest ≡ token_name kind ++ (decimal addr ++ (codes "." ++ (decimal ep ++ rest))) = simp append_assoc in
-    ap packet_in own ∙ token_begun kind (decimal addr ++ (codes "." ++ (decimal ep ++ rest))) ∙ token_in-complete kind addr ep rest fields.0 fields.1 end
+    let own : text_of (Token kind addr ep) ++ rest ≡ token_name kind ++
+    (decimal addr ++ (codes "." ++ (decimal ep ++ rest))) = simp append_assoc in
+    ap packet_in own ∙ token_begun kind (decimal addr ++ (codes "." ++ (decimal ep ++ rest)))
+    ∙ token_in-complete kind addr ep rest fields.0 fields.1 end
 packet_in-complete (Sof frame) rest h fields data_fits end = absurd (cc)
 packet_in-complete (Payload toggle bytes) rest h fields data_fits end =
-    ap packet_in (append_assoc (data_name toggle) (hex_text bytes.items) rest) ∙ data_begun toggle (hex_text bytes.items ++ rest) ∙ data_in-complete toggle bytes.items rest data_fits.1 data_fits.0 end
+    ap packet_in (append_assoc (data_name toggle) (hex_text bytes.items) rest)
+    ∙ data_begun toggle (hex_text bytes.items ++ rest)
+    ∙ data_in-complete toggle bytes.items rest data_fits.1 data_fits.0 end
 packet_in-complete Ack rest h fields data_fits end = ack_read rest
 packet_in-complete Nak rest h fields data_fits end = nak_read rest
 packet_in-complete Stall rest h fields data_fits end = stall_read rest
@@ -179,9 +212,13 @@ IsSmallMark Lost = Unit {0}
 IsSmallMark PreLost = Unit {0}
 IsSmallMark (Flipped bit) = bit < 65536
 
-bit_in-complete : (bit : ℕ) (rest : List ℕ) → bit < 65536 → bit_in (decimal bit ++ (codes "]" ++ rest)) ≡ Some (Flipped bit, rest)
+bit_in-complete : (bit : ℕ) (rest : List ℕ) → bit < 65536
+    → bit_in (decimal bit ++ (codes "]" ++ rest)) ≡ Some (Flipped bit, rest)
 unfolding bit_in strip
-bit_in-complete bit rest few = rw (decimal_in-complete bit (codes "]" ++ rest) (omega arith) refl, lt-ltb bit 65536 few) refl
+bit_in-complete bit rest few = rw (
+  decimal_in-complete bit (codes "]" ++ rest) (omega arith) refl,
+  lt-ltb bit 65536 few,
+) refl
 
 whole_read : (rest : List ℕ) → EndsWord rest → packet_mark_in rest ≡ Some (Whole, rest)
 unfolding packet_mark_in strip
@@ -196,15 +233,18 @@ lost_read : (rest : List ℕ) → packet_mark_in (codes " [lost]" ++ rest) ≡ S
 unfolding packet_mark_in strip
 lost_read rest = refl
 
-pre_lost_read : (rest : List ℕ) → packet_mark_in (codes " [pre lost]" ++ rest) ≡ Some (PreLost, rest)
+pre_lost_read : (rest : List ℕ) → packet_mark_in (codes " [pre lost]" ++ rest)
+    ≡ Some (PreLost, rest)
 unfolding packet_mark_in strip
 pre_lost_read rest = refl
 
-mark-complete : (m : Mark) (rest : List ℕ) → IsSmallMark m → EndsWord rest → packet_mark_in (mark_text m ++ rest) ≡ Some (m, rest)
+mark-complete : (m : Mark) (rest : List ℕ) → IsSmallMark m → EndsWord rest
+    → packet_mark_in (mark_text m ++ rest) ≡ Some (m, rest)
 mark-complete Whole rest small end = whole_read rest end
 mark-complete Lost rest small end = lost_read rest
 mark-complete PreLost rest small end = pre_lost_read rest
-mark-complete (Flipped bit) rest small end = flip_begun ((decimal bit ++ codes "]") ++ rest) ∙ ap bit_in (append_assoc (decimal bit) (codes "]") rest) ∙ bit_in-complete bit rest small
+mark-complete (Flipped bit) rest small end = flip_begun ((decimal bit ++ codes "]") ++ rest)
+    ∙ ap bit_in (append_assoc (decimal bit) (codes "]") rest) ∙ bit_in-complete bit rest small
 
 mark_blank : (m : Mark) (rest : List ℕ) → EndsWord rest → Blank (mark_text m ++ rest)
 mark_blank Whole rest (inl e) = subst Blank (sym e) tt
@@ -223,11 +263,13 @@ few_bits Nak fits_form = omega arith
 few_bits Stall fits_form = omega arith
 few_bits Pre fits_form = omega arith
 
-mark_small : (pre : Bool) (m : Mark) (p : Packet) → HasData p → may_be_marked pre m p ≡ true → IsSmallMark m
+mark_small : (pre : Bool) (m : Mark) (p : Packet) → HasData p → may_be_marked pre m p ≡ true
+    → IsSmallMark m
 mark_small pre Whole p fits_form h = tt
 mark_small pre Lost p fits_form h = tt
 mark_small pre PreLost p fits_form h = tt
-mark_small pre (Flipped bit) p fits_form h = let few = few_bits p fits_form in let below = ltb-true bit (bit_count p) h in omega (arith, few, below)
+mark_small pre (Flipped bit) p fits_form h = let few = few_bits p fits_form in let below =
+    ltb-true bit (bit_count p) h in omega (arith, few, below)
 
 -- ---- packets of the host
 
@@ -236,12 +278,16 @@ unfolding strip
 pre_behind false text = refl
 pre_behind true text = refl
 
-host_in-complete : (pre : Bool) (s : Outgoing) (rest : List ℕ) → IsSent pre s → is_spoken s.packet ≡ true → EndsWord rest → host_in pre (host_text pre s ++ rest) ≡ Some (s, rest)
+host_in-complete : (pre : Bool) (s : Outgoing) (rest : List ℕ) → IsSent pre s
+    → is_spoken s.packet ≡ true → EndsWord rest → host_in pre (host_text pre s ++ rest)
+    ≡ Some (s, rest)
 unfolding host_in
 host_in-complete pre s rest sends spoken end =
-    let whole : host_text pre s ++ rest ≡ pre_text pre ++ (text_of s.packet ++ (mark_text s.mark ++ rest)) = simp append_assoc in
+    let whole : host_text pre s ++ rest ≡ pre_text pre ++
+    (text_of s.packet ++ (mark_text s.mark ++ rest)) = simp append_assoc in
     let one = pre_behind pre (text_of s.packet ++ (mark_text s.mark ++ rest)) in
-    let two = packet_in-complete s.packet (mark_text s.mark ++ rest) spoken sends.0 sends.1 (mark_blank s.mark rest end) in
+    let two = packet_in-complete s.packet (mark_text s.mark ++ rest) spoken sends.0 sends.1
+    (mark_blank s.mark rest end) in
     let three = mark-complete s.mark rest (mark_small pre s.mark s.packet sends.1 sends.2) end in
     let four = sends.2 in
     subst (λ t. host_in pre t ≡ Some (s, rest)) (sym whole) (rw (one, two, three, four) refl)
@@ -250,9 +296,12 @@ next_begun : (pre : Bool) (text : List ℕ) → next_in pre (codes " / " ++ text
 unfolding next_in strip
 next_begun pre text = refl
 
-next_in-complete : (pre : Bool) (s : Outgoing) (rest : List ℕ) → IsSent pre s → is_spoken s.packet ≡ true → EndsWord rest → next_in pre (next_text pre (Some s) ++ rest) ≡ Some (s, rest)
+next_in-complete : (pre : Bool) (s : Outgoing) (rest : List ℕ) → IsSent pre s
+    → is_spoken s.packet ≡ true → EndsWord rest → next_in pre (next_text pre (Some s) ++ rest)
+    ≡ Some (s, rest)
 next_in-complete pre s rest sends spoken end =
-    ap (next_in pre) (append_assoc (codes " / ") (host_text pre s) rest) ∙ next_begun pre (host_text pre s ++ rest) ∙ host_in-complete pre s rest sends spoken end
+    ap (next_in pre) (append_assoc (codes " / ") (host_text pre s) rest)
+    ∙ next_begun pre (host_text pre s ++ rest) ∙ host_in-complete pre s rest sends spoken end
 
 data_spoken : (p : Packet) → is_data_packet p ≡ true → is_spoken p ≡ true
 data_spoken (Token kind addr ep) h = refl
@@ -290,20 +339,27 @@ token_spoken Nak b h = refl
 token_spoken Stall b h = refl
 token_spoken Pre b h = absurd (cc)
 
-host_data-complete : (pre : Bool) (s : Outgoing) (rest : List ℕ) → IsSent pre s → is_data_packet s.packet ≡ true → EndsWord rest → host_data_in pre (next_text pre (Some s) ++ rest) ≡ Some (s, rest)
+host_data-complete : (pre : Bool) (s : Outgoing) (rest : List ℕ) → IsSent pre s
+    → is_data_packet s.packet ≡ true → EndsWord rest
+    → host_data_in pre (next_text pre (Some s) ++ rest) ≡ Some (s, rest)
 unfolding host_data_in
-host_data-complete pre s rest sends is end = rw (next_in-complete pre s rest sends (data_spoken s.packet is) end, is) refl
+host_data-complete pre s rest sends is end =
+    rw (next_in-complete pre s rest sends (data_spoken s.packet is) end, is) refl
 
-host_ack-complete : (pre : Bool) (s : Outgoing) (rest : List ℕ) → IsSent pre s → is_ack_packet s.packet ≡ true → EndsWord rest → host_ack_in pre (next_text pre (Some s) ++ rest) ≡ Some (s, rest)
+host_ack-complete : (pre : Bool) (s : Outgoing) (rest : List ℕ) → IsSent pre s
+    → is_ack_packet s.packet ≡ true → EndsWord rest
+    → host_ack_in pre (next_text pre (Some s) ++ rest) ≡ Some (s, rest)
 unfolding host_ack_in
-host_ack-complete pre s rest sends is end = rw (next_in-complete pre s rest sends (ack_spoken s.packet is) end, is) refl
+host_ack-complete pre s rest sends is end =
+    rw (next_in-complete pre s rest sends (ack_spoken s.packet is) end, is) refl
 
 -- ---- answers
 
 abbrev HasNoWord : List ℕ → Type 0
 HasNoWord text = (strip (codes " / none") text ≡ None) × (strip (codes " / collision") text ≡ None)
 
-no_word : (p : Packet) (text : List ℕ) → is_answer p ≡ true → HasNoWord (codes " / " ++ (text_of p ++ text))
+no_word : (p : Packet) (text : List ℕ) → is_answer p ≡ true
+    → HasNoWord (codes " / " ++ (text_of p ++ text))
 unfolding strip
 no_word (Token kind addr ep) text h = absurd (cc)
 no_word (Sof frame) text h = absurd (cc)
@@ -314,31 +370,45 @@ no_word Nak text h = (refl, refl)
 no_word Stall text h = (refl, refl)
 no_word Pre text h = absurd (cc)
 
-answer_behind : (text rest : List ℕ) (p : Packet) (m : Mark) → HasNoWord text → next_in false text ≡ Some (record { packet = p; mark = m }, rest) → is_answer p ≡ true
+answer_behind : (text rest : List ℕ) (p : Packet) (m : Mark) → HasNoWord text
+    → next_in false text ≡ Some (record { packet = p; mark = m }, rest) → is_answer p ≡ true
     → answer_in text ≡ Some ((answer.One p, m), rest)
 unfolding answer_in
-answer_behind text rest p m none found is = let one = none.0 in let two = none.1 in rw (one, two, found, is) refl
+answer_behind text rest p m none found is = let one = none.0 in let two = none.1 in
+    rw (one, two, found, is) refl
 
-nothing_read : (rest : List ℕ) → answer_in (codes " / " ++ (codes "none" ++ rest)) ≡ Some ((answer.Nothing, Whole), rest)
+nothing_read : (rest : List ℕ) → answer_in (codes " / " ++ (codes "none" ++ rest))
+    ≡ Some ((answer.Nothing, Whole), rest)
 unfolding answer_in strip
 nothing_read rest = refl
 
-collision_read : (rest : List ℕ) → answer_in (codes " / " ++ (codes "collision" ++ rest)) ≡ Some ((answer.Collision, Whole), rest)
+collision_read : (rest : List ℕ) → answer_in (codes " / " ++ (codes "collision" ++ rest))
+    ≡ Some ((answer.Collision, Whole), rest)
 unfolding answer_in strip
 collision_read rest = refl
 
-answer_in-complete : (a : ExchangeAnswer) (m : Mark) (rest : List ℕ) → IsMarkedAnswer a m → EndsWord rest → answer_in (codes " / " ++ (answer_text a ++ (mark_text m ++ rest))) ≡ Some ((a, m), rest)
-answer_in-complete answer.Nothing m rest e end = subst (λ (n : Mark). answer_in (codes " / " ++ (codes "none" ++ (mark_text n ++ rest))) ≡ Some ((answer.Nothing, n), rest)) (sym e) (nothing_read rest)
-answer_in-complete answer.Collision m rest e end = subst (λ (n : Mark). answer_in (codes " / " ++ (codes "collision" ++ (mark_text n ++ rest))) ≡ Some ((answer.Collision, n), rest)) (sym e) (collision_read rest)
+answer_in-complete : (a : ExchangeAnswer) (m : Mark) (rest : List ℕ) → IsMarkedAnswer a m
+    → EndsWord rest → answer_in (codes " / " ++ (answer_text a ++ (mark_text m ++ rest)))
+    ≡ Some ((a, m), rest)
+answer_in-complete answer.Nothing m rest e end =
+    subst (λ (n : Mark). answer_in (codes " / " ++ (codes "none" ++ (mark_text n ++ rest)))
+    ≡ Some ((answer.Nothing, n), rest)) (sym e) (nothing_read rest)
+answer_in-complete answer.Collision m rest e end =
+    subst (λ (n : Mark). answer_in (codes " / " ++ (codes "collision" ++ (mark_text n ++ rest)))
+    ≡ Some ((answer.Collision, n), rest)) (sym e) (collision_read rest)
 answer_in-complete (answer.One p) m rest (is, sends) end =
     let s : Outgoing = record { packet = p; mark = m } in
-    let own : next_text false (Some s) ++ rest ≡ codes " / " ++ (text_of p ++ (mark_text m ++ rest)) = simp append_assoc in
-    answer_behind (codes " / " ++ (text_of p ++ (mark_text m ++ rest))) rest p m (no_word p (mark_text m ++ rest) is)
-    (subst (λ t. next_in false t ≡ Some (s, rest)) own (next_in-complete false s rest sends (answer_spoken p is) end)) is
+    let own : next_text false (Some s) ++ rest
+    ≡ codes " / " ++ (text_of p ++ (mark_text m ++ rest)) = simp append_assoc in
+    answer_behind (codes " / " ++ (text_of p ++ (mark_text m ++ rest))) rest p m
+    (no_word p (mark_text m ++ rest) is)
+    (subst (λ t. next_in false t ≡ Some (s, rest)) own
+    (next_in-complete false s rest sends (answer_spoken p is) end)) is
 
 -- ---- whole lines
 
-payload_if-complete : (pre : Bool) (payload : Option Outgoing) (rest : List ℕ) → IfSome payload (λ s. IsSent pre s × (is_data_packet s.packet ≡ true)) → EndsWord rest
+payload_if-complete : (pre : Bool) (payload : Option Outgoing) (rest : List ℕ)
+    → IfSome payload (λ s. IsSent pre s × (is_data_packet s.packet ≡ true)) → EndsWord rest
     → payload_if (is_some payload) pre (next_text pre payload ++ rest) ≡ Some (payload, rest)
 payload_if-complete pre None rest h end = refl
 payload_if-complete pre (Some s) rest h end = rw (host_data-complete pre s rest h.0 h.1 end) refl
@@ -347,14 +417,18 @@ reply_end : (pre : Bool) (reply : Option Outgoing) → EndsWord (next_text pre r
 reply_end pre None = inl refl
 reply_end pre (Some s) = inr (host_text pre s, refl)
 
-reply_if-complete : (pre : Bool) (reply : Option Outgoing) → IfSome reply (λ s. IsSent pre s × (is_ack_packet s.packet ≡ true)) → reply_if pre (next_text pre reply) ≡ Some (reply, [])
+reply_if-complete : (pre : Bool) (reply : Option Outgoing)
+    → IfSome reply (λ s. IsSent pre s × (is_ack_packet s.packet ≡ true))
+    → reply_if pre (next_text pre reply) ≡ Some (reply, [])
 reply_if-complete pre None h = refl
 reply_if-complete pre (Some s) h =
     let own : host_ack_in pre (next_text pre (Some s)) ≡ Some (s, []) =
-    subst (λ t. host_ack_in pre t ≡ Some (s, [])) (append-nil (next_text pre (Some s))) (host_ack-complete pre s [] h.0 h.1 (inl refl)) in
+    subst (λ t. host_ack_in pre t ≡ Some (s, [])) (append-nil (next_text pre (Some s)))
+    (host_ack-complete pre s [] h.0 h.1 (inl refl)) in
     ap (option_map (λ (r : Outgoing × List ℕ). (Some r.0, r.1))) own
 
-pre_read : (pre : Bool) (p : Packet) (m : Mark) (b : Bool) (text : List ℕ) → data_follow p ≡ Some b → is_some (strip (codes "PRE ") (host_text pre (record { packet = p; mark = m }) ++ text)) ≡ pre
+pre_read : (pre : Bool) (p : Packet) (m : Mark) (b : Bool) (text : List ℕ) → data_follow p ≡ Some b
+    → is_some (strip (codes "PRE ") (host_text pre (record { packet = p; mark = m }) ++ text)) ≡ pre
 unfolding strip
 pre_read true p m b text h = refl
 pre_read false (Token OutTok addr ep) m b text h = refl
@@ -369,7 +443,8 @@ pre_read false Pre m b text h = absurd (cc)
 
 -- from the answer, from the host's data and from the token on
 abbrev answer_on : TracedAttempt → List ℕ
-answer_on a = codes " / " ++ (answer_text a.exchange.answer ++ (mark_text a.exchange.answer_mark ++ next_text a.pre a.exchange.reply))
+answer_on a = codes " / " ++ (answer_text a.exchange.answer ++
+    (mark_text a.exchange.answer_mark ++ next_text a.pre a.exchange.reply))
 
 abbrev payload_on : TracedAttempt → List ℕ
 payload_on a = next_text a.pre a.exchange.payload ++ answer_on a
@@ -377,40 +452,66 @@ payload_on a = next_text a.pre a.exchange.payload ++ answer_on a
 abbrev token_on : TracedAttempt → List ℕ
 token_on a = host_text a.pre a.exchange.token ++ payload_on a
 
-payload_end : (pre : Bool) (payload : Option Outgoing) (more : List ℕ) → EndsWord (next_text pre payload ++ (codes " / " ++ more))
+payload_end : (pre : Bool) (payload : Option Outgoing) (more : List ℕ)
+    → EndsWord (next_text pre payload ++ (codes " / " ++ more))
 payload_end pre None more = inr (more, refl)
 payload_end pre (Some s) more = inr (host_text pre s ++ (codes " / " ++ more), refl)
 
 as_told : (a : TracedAttempt) → IsTraced a
-    → (traced a.number a.pre a.exchange.token a.exchange.payload (a.exchange.answer, a.exchange.answer_mark) (a.exchange.reply, [])).0 ≡ a
+    → (traced a.number a.pre a.exchange.token a.exchange.payload
+    (a.exchange.answer, a.exchange.answer_mark) (a.exchange.reply, [])).0 ≡ a
 as_told a h =
-    ap₂ (λ (lost cleared : Bool). record a { exchange = record a.exchange { address_lost = lost; change_cleared = cleared } }) (sym h.kept) (sym h.uncleared)
+    ap₂ (λ (lost cleared : Bool). record a {
+      exchange =
+          record a.exchange { address_lost = lost; change_cleared = cleared };
+    }) (sym h.kept)
+    (sym h.uncleared)
 
-answered-complete : (a : TracedAttempt) → IsTraced a → attempt_answered a.number a.pre a.exchange.token (a.exchange.payload, answer_on a) ≡ Some (a, [])
+answered-complete : (a : TracedAttempt) → IsTraced a
+    → attempt_answered a.number a.pre a.exchange.token (a.exchange.payload, answer_on a)
+    ≡ Some (a, [])
 answered-complete a h =
-    let one = answer_in-complete a.exchange.answer a.exchange.answer_mark (next_text a.pre a.exchange.reply) h.answer (reply_end a.pre a.exchange.reply) in
+    let one = answer_in-complete a.exchange.answer a.exchange.answer_mark
+    (next_text a.pre a.exchange.reply) h.answer (reply_end a.pre a.exchange.reply) in
     let two = reply_if-complete a.pre a.exchange.reply h.reply in
     rw (one, two) (ap (λ (b : TracedAttempt). Some (b, [])) (as_told a h))
 
-begun-complete : (a : TracedAttempt) → IsTraced a → attempt_begun a.number (token_on a) ≡ Some (a, [])
+begun-complete : (a : TracedAttempt) → IsTraced a → attempt_begun a.number (token_on a)
+    ≡ Some (a, [])
 begun-complete a h =
-    let one : is_some (strip (codes "PRE ") (token_on a)) ≡ a.pre = pre_read a.pre a.exchange.token.packet a.exchange.token.mark _ (payload_on a) h.sends in
-    let two = host_in-complete a.pre a.exchange.token (payload_on a) h.token (token_spoken a.exchange.token.packet _ h.sends) (payload_end a.pre a.exchange.payload (answer_text a.exchange.answer ++ (mark_text a.exchange.answer_mark ++ next_text a.pre a.exchange.reply))) in
+    let one : is_some (strip (codes "PRE ") (token_on a)) ≡ a.pre =
+    pre_read a.pre a.exchange.token.packet a.exchange.token.mark _ (payload_on a) h.sends in
+    let two = host_in-complete a.pre a.exchange.token (payload_on a) h.token
+    (token_spoken a.exchange.token.packet _ h.sends)
+    (payload_end a.pre a.exchange.payload
+    (answer_text a.exchange.answer ++ (mark_text a.exchange.answer_mark ++ next_text a.pre
+    a.exchange.reply))) in
     let three = h.sends in
-    let four = payload_if-complete a.pre a.exchange.payload (answer_on a) h.payload (inr (answer_text a.exchange.answer ++ (mark_text a.exchange.answer_mark ++ next_text a.pre a.exchange.reply), refl)) in
+    let four = payload_if-complete a.pre a.exchange.payload (answer_on a) h.payload
+    (inr (
+      answer_text a.exchange.answer ++
+          (mark_text a.exchange.answer_mark ++ next_text a.pre a.exchange.reply),
+      refl,
+    )) in
     rw (one, two, three, four) (answered-complete a h)
 
-attempt_in-complete : (a : TracedAttempt) → IsTraced a → attempt_in (decimal a.number ++ (codes " " ++ token_on a)) ≡ Some (a, [])
+attempt_in-complete : (a : TracedAttempt) → IsTraced a
+    → attempt_in (decimal a.number ++ (codes " " ++ token_on a)) ≡ Some (a, [])
 unfolding attempt_in strip
 attempt_in-complete a h =
     let timed = h.timed in
     let one = decimal_in-complete a.number (codes " " ++ token_on a) (omega (arith, timed)) refl in
     rw (one, lt-ltb a.number no_time timed) (begun-complete a h)
 
-pub read_attempt-each : (line : List ℕ) (a : TracedAttempt) → IsAttemptLine line a → read_attempt line ≡ Some a
+pub read_attempt-each : (line : List ℕ) (a : TracedAttempt) → IsAttemptLine line a
+    → read_attempt line ≡ Some a
 unfolding read_attempt
 read_attempt-each line a h =
     let whole : attempt_line a.number a.pre a.exchange
-    ≡ decimal a.number ++ (codes " " ++ (host_text a.pre a.exchange.token ++ (next_text a.pre a.exchange.payload
-    ++ (codes " / " ++ (answer_text a.exchange.answer ++ (mark_text a.exchange.answer_mark ++ next_text a.pre a.exchange.reply)))))) = simp append_assoc in
-    subst (λ l. read_attempt l ≡ Some a) (sym (h.printed ∙ whole)) (rw (attempt_in-complete a h.traced) refl)
+    ≡ decimal a.number ++ (codes " " ++ (host_text a.pre a.exchange.token ++
+    (next_text a.pre a.exchange.payload
+    ++ (codes " / " ++ (answer_text a.exchange.answer ++
+    (mark_text a.exchange.answer_mark ++ next_text a.pre a.exchange.reply)))))) =
+    simp append_assoc in
+    subst (λ l. read_attempt l ≡ Some a) (sym (h.printed ∙ whole))
+    (rw (attempt_in-complete a h.traced) refl)

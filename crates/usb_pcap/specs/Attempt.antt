@@ -1,5 +1,6 @@
 -- The line of an attempt, as it is read: from its number to the host's ACK.
-use Rattle.std.specs.Prelude.{◌≡◌, ◌<◌, IfSome, ℕ, nat_lt, Bool, true, false, List, [], ◌∷◌, Option, Some, None, is_some, codes, option_map, if◌then◌else◌}
+use Rattle.std.specs.Prelude.{◌≡◌, ◌<◌, IfSome, ℕ, nat_lt, Bool, true, false, List, [], ◌∷◌, Option}
+use Rattle.std.specs.Prelude.{Some, None, is_some, codes, option_map, if◌then◌else◌}
 use Rattle.std.specs.Option.{option_and_then}
 use Rattle.usb_packet.specs.declared.TokenKind.TheVariants.{OutTok, InTok, SetupTok}
 use Rattle.usb_packet.specs.declared.Packet.{Packet}
@@ -44,12 +45,15 @@ behind_pre false text = Some text
 behind_pre true text = strip (codes "PRE ") text
 
 abbrev pub outgoing_of : Bool → Packet → Mark × List ℕ → Option (Outgoing × List ℕ)
-outgoing_of pre packet mark = if may_be_marked pre mark.0 packet then Some (record { packet = packet; mark = mark.0 }, mark.1) else None
+outgoing_of pre packet mark = if may_be_marked pre mark.0 packet then Some
+    (record { packet = packet; mark = mark.0 }, mark.1) else None
 
 -- a packet of the host and its mark
 unfoldable pub host_in : Bool → List ℕ → Option (Outgoing × List ℕ)
 host_in pre text =
-    option_and_then (λ rest. option_and_then (λ packet. option_and_then (outgoing_of pre packet.0) (packet_mark_in packet.1)) (packet_in rest))
+    option_and_then (λ rest. option_and_then
+    (λ packet. option_and_then (outgoing_of pre packet.0) (packet_mark_in packet.1))
+    (packet_in rest))
     (behind_pre pre text)
 
 -- a further packet of the host
@@ -95,7 +99,8 @@ unfoldable pub host_ack_in : Bool → List ℕ → Option (Outgoing × List ℕ)
 host_ack_in pre text = option_and_then (kept_where is_ack_packet) (next_in pre text)
 
 abbrev pub one_answer : Outgoing × List ℕ → Option ((ExchangeAnswer × Mark) × List ℕ)
-one_answer sent = if is_answer sent.0.packet then Some ((One sent.0.packet, sent.0.mark), sent.1) else None
+one_answer sent = if is_answer sent.0.packet then Some ((One sent.0.packet, sent.0.mark), sent.1)
+    else None
 
 -- the devices' answer and its mark
 unfoldable pub answer_in : List ℕ → Option ((ExchangeAnswer × Mark) × List ℕ)
@@ -114,7 +119,8 @@ abbrev pub reply_if : Bool → List ℕ → Option (Option Outgoing × List ℕ)
 reply_if pre [] = Some (None, [])
 reply_if pre (c ∷ text) = option_map (λ s. (Some s.0, s.1)) (host_ack_in pre (c ∷ text))
 
-abbrev pub traced : ℕ → Bool → Outgoing → Option Outgoing → ExchangeAnswer × Mark → Option Outgoing × List ℕ → TracedAttempt × List ℕ
+abbrev pub traced : ℕ → Bool → Outgoing → Option Outgoing → ExchangeAnswer × Mark → Option Outgoing
+    × List ℕ → TracedAttempt × List ℕ
 traced number pre token payload answer reply = (
   record {
     number = number;
@@ -133,22 +139,27 @@ traced number pre token payload answer reply = (
 )
 
 -- from the answer on
-abbrev pub attempt_answered : ℕ → Bool → Outgoing → Option Outgoing × List ℕ → Option (TracedAttempt × List ℕ)
+abbrev pub attempt_answered : ℕ → Bool → Outgoing → Option Outgoing × List ℕ
+    → Option (TracedAttempt × List ℕ)
 attempt_answered number pre token payload =
-    option_and_then (λ answer. option_map (traced number pre token payload.0 answer.0) (reply_if pre answer.1)) (answer_in payload.1)
+    option_and_then (λ answer. option_map (traced number pre token payload.0 answer.0)
+    (reply_if pre answer.1)) (answer_in payload.1)
 
 -- from the host's data on
 abbrev pub sent : ℕ → Bool → Outgoing × List ℕ → Option (TracedAttempt × List ℕ)
 sent number pre token =
-    option_and_then (λ sends. option_and_then (attempt_answered number pre token.0) (payload_if sends pre token.1)) (data_follow token.0.packet)
+    option_and_then (λ sends. option_and_then (attempt_answered number pre token.0)
+    (payload_if sends pre token.1)) (data_follow token.0.packet)
 
 -- from the token on
 abbrev pub attempt_begun : ℕ → List ℕ → Option (TracedAttempt × List ℕ)
-attempt_begun number text = let pre = is_some (strip (codes "PRE ") text) in option_and_then (sent number pre) (host_in pre text)
+attempt_begun number text = let pre = is_some (strip (codes "PRE ") text) in
+    option_and_then (sent number pre) (host_in pre text)
 
 unfoldable pub attempt_in : List ℕ → Option (TracedAttempt × List ℕ)
 attempt_in text =
-    option_and_then (λ n. if nat_lt n.0 no_time then option_and_then (attempt_begun n.0) (strip (codes " ") n.1) else None) (decimal_in text)
+    option_and_then (λ n. if nat_lt n.0 no_time then option_and_then (attempt_begun n.0)
+    (strip (codes " ") n.1) else None) (decimal_in text)
 
 abbrev pub whole_line : TracedAttempt × List ℕ → Option TracedAttempt
 whole_line (a, []) = Some a
@@ -167,9 +178,11 @@ IsSent pre s = HasFields s.packet × HasData s.packet × (may_be_marked pre s.ma
 abbrev pub IsMarkedAnswer : ExchangeAnswer → Mark → Type 0
 IsMarkedAnswer Nothing mark = mark ≡ Whole
 IsMarkedAnswer Collision mark = mark ≡ Whole
-IsMarkedAnswer (One p) mark = (is_answer p ≡ true) × IsSent false (record { packet = p; mark = mark })
+IsMarkedAnswer (One p) mark = (is_answer p ≡ true)
+    × IsSent false (record { packet = p; mark = mark })
 
--- a number with a time, a token, the host's data behind SETUP and OUT, an answer, and maybe the host's ACK; what no line
+-- a number with a time, a token, the host's data behind SETUP and OUT, an answer, and maybe the
+-- host's ACK; what no line
 -- tells is false
 pub record IsTraced (a : TracedAttempt) : Type 0 where
   pub timed : a.number < no_time

@@ -1,17 +1,20 @@
 -- What a text's pcap file is: its header, and the records of each line in their order.
-use Rattle.std.specs.Prelude.{◌⊎◌, ◌≡◌, ◌≢◌, ℕ, ◌+◌, ◌-◌, ◌^◌, ◌≤◌, nat_lt, min, List, [], ◌∷◌, ◌++◌, length, take, All, Option, Some, None, Result, Ok, Err}
+use Rattle.std.specs.Prelude.{◌⊎◌, ◌≡◌, ◌≢◌, ℕ, ◌+◌, ◌-◌, ◌^◌, ◌≤◌, nat_lt, min, List, [], ◌∷◌}
+use Rattle.std.specs.Prelude.{◌++◌, length, take, All, Option, Some, None, Result, Ok, Err}
 use Rattle.arrayvec.specs.ArrayVec.{ArrayVec}
 use Rattle.std.specs.Io.KnownBytes.{Appends}
 use Rattle.usb_bus.specs.Watch.{AppendsFront}
 use Rattle.usb_pcap.specs.declared.attempt.TracedAttempt.{TracedAttempt}
 use Rattle.usb_pcap.specs.declared.capturing.OpenLine.{OpenLine}
 use Rattle.usb_pcap.specs.declared.capturing.PcapFault.{PcapFault}
-use Rattle.usb_pcap.specs.declared.capturing.PcapFault.TheVariants.{Read, Line as BadLine, TooLong, Write}
+use Rattle.usb_pcap.specs.declared.capturing.PcapFault.TheVariants.{Read, Line as BadLine, TooLong}
+use Rattle.usb_pcap.specs.declared.capturing.PcapFault.TheVariants.{Write}
 use Rattle.usb_pcap.specs.Attempt.{IsAttemptLine}
 use Rattle.usb_pcap.specs.Report.{IsPlug, IsReport}
 use Rattle.usb_pcap.specs.Record.{AreRecords, attempt_packets, header}
 
--- no line of a run is longer, but that of a plug: a configuration of 65535 bytes, and what stands beside it
+-- no line of a run is longer, but that of a plug: a configuration of 65535 bytes, and what stands
+-- beside it
 abbrev pub longest : ℕ
 longest = 131200
 
@@ -35,7 +38,8 @@ pub data LineRecords (line : List ℕ) : List ℕ → Type 0 where
 -- a text of n lines, and its file
 pub data IsCapture : ℕ → List ℕ → List ℕ → Type 0 where
   none : IsCapture 0 [] header
-  line : {n : ℕ} {text file : List ℕ} (line records : List ℕ) → All (λ c. c ≢ 10) line → LineRecords line records
+  line : {n : ℕ} {text file : List ℕ} (line records : List ℕ) → All (λ c. c ≢ 10) line
+      → LineRecords line records
       → IsCapture n text file → IsCapture (n + 1) (text ++ line ++ 10 ∷ []) (file ++ records)
 
 -- the number of the line behind n lines
@@ -84,28 +88,33 @@ pub record OpenEnd (old new : Option (List ℕ)) (text : List ℕ) (n : ℕ) : T
   pub gone : Appends old new file
 
 -- what went out of a text: its file, or that of the lines before the fault
-abbrev pub Captures : Option (List ℕ) → Option (List ℕ) → List ℕ → Result (Unit {0}) PcapFault → Type 0
-Captures old new text (Ok done) = (n : ℕ) × (file : List ℕ) × IsCapture n text file × Appends old new file
-Captures old new text (Err (BadLine number)) = (n : ℕ) × (number ≡ next_number n) × (RefusedLine old new text n ⊎ OpenEnd old new text n)
+abbrev pub Captures : Option (List ℕ) → Option (List ℕ) → List ℕ → Result (Unit {0}) PcapFault
+    → Type 0
+Captures old new text (Ok done) = (n : ℕ) × (file : List ℕ) × IsCapture n text file
+    × Appends old new file
+Captures old new text (Err (BadLine number)) = (n : ℕ) × (number ≡ next_number n)
+    × (RefusedLine old new text n ⊎ OpenEnd old new text n)
 Captures old new text (Err Write) = (n : ℕ) × WroteFront old new text n
 Captures old new text (Err Read) = (n : ℕ) × WroteLines old new text n
-Captures old new text (Err TooLong) = (n : ℕ) × WroteLines old new text n × (2 ^ 64 - 1 ≤ length text)
+Captures old new text (Err TooLong) = (n : ℕ) × WroteLines old new text n
+    × (2 ^ 64 - 1 ≤ length text)
 
 -- ---- of the private functions
 
 -- whole lines were captured, and their file has gone out; behind them a line has begun
-pub record StandsBehind (old new : Option (List ℕ)) (text : List ℕ) (state : OpenLine) : Type 0 where
-  pub n : ℕ
-  pub front : List ℕ
-  pub line : List ℕ
-  pub file : List ℕ
-  pub split : text ≡ front ++ line
-  pub captured : IsCapture n front file
-  pub gone : Appends old new file
-  pub one : All (λ c. c ≢ 10) line
-  pub begins : state.front.items ≡ take longest line
-  pub long : state.is_long ≡ nat_lt longest (length line)
-  pub number : state.number ≡ next_number n
+pub record StandsBehind (old new : Option (List ℕ)) (text : List ℕ) (state : OpenLine) : Type 0
+  where
+    pub n : ℕ
+    pub front : List ℕ
+    pub line : List ℕ
+    pub file : List ℕ
+    pub split : text ≡ front ++ line
+    pub captured : IsCapture n front file
+    pub gone : Appends old new file
+    pub one : All (λ c. c ≢ 10) line
+    pub begins : state.front.items ≡ take longest line
+    pub long : state.is_long ≡ nat_lt longest (length line)
+    pub number : state.number ≡ next_number n
 
 -- the records of a line, None where it is none of a run
 abbrev pub RecordsOf : List ℕ → Option (ArrayVec ℕ) → Type 0
@@ -113,9 +122,11 @@ RecordsOf text (Some records) = LineRecords text records.items
 RecordsOf text None = IsRunLine text → ⊥
 
 -- what came of the text so far
-abbrev pub ComesOf : Option (List ℕ) → Option (List ℕ) → List ℕ → Result (Unit {0}) PcapFault → OpenLine → Type 0
+abbrev pub ComesOf : Option (List ℕ) → Option (List ℕ) → List ℕ → Result (Unit {0}) PcapFault
+    → OpenLine → Type 0
 ComesOf old new text (Ok done) state = StandsBehind old new text state
-ComesOf old new text (Err (BadLine number)) state = (n : ℕ) × (number ≡ next_number n) × RefusedLine old new text n
+ComesOf old new text (Err (BadLine number)) state = (n : ℕ) × (number ≡ next_number n)
+    × RefusedLine old new text n
 ComesOf old new text (Err Write) state = (n : ℕ) × WroteFront old new text n
 ComesOf old new text (Err Read) state = ⊥
 ComesOf old new text (Err TooLong) state = ⊥

@@ -1,5 +1,7 @@
 -- What the lines of a run are made of, and how a text is read by it.
-use Rattle.std.specs.Prelude.{◌⊎◌, ◌≡◌, ◌≢◌, ℕ, ◌*◌, ◌+◌, ◌^◌, ◌<◌, zero, suc, ◌==◌, ◌&&◌, not, nat_le, Bool, true, false, List, [], ◌∷◌, ◌++◌, length, map, Option, Some, None, option_map, codes, decimal, if◌then◌else◌}
+use Rattle.std.specs.Prelude.{◌⊎◌, ◌≡◌, ◌≢◌, ℕ, ◌*◌, ◌+◌, ◌^◌, ◌<◌, zero, suc, ◌==◌, ◌&&◌, not}
+use Rattle.std.specs.Prelude.{nat_le, Bool, true, false, List, [], ◌∷◌, ◌++◌, length, map, Option}
+use Rattle.std.specs.Prelude.{Some, None, option_map, codes, decimal, if◌then◌else◌}
 use Rattle.usb_pcap.specs.declared.item.Item.{Item}
 use Rattle.usb_pcap.specs.declared.item.Item.TheVariants.{Port, Byte, Letter}
 use Rattle.usb_pcap.specs.declared.part.Part.{Part}
@@ -9,13 +11,15 @@ use Rattle.usb_pcap.specs.Text.{decimal_in, if_found, is_digit, strip, strip_any
 
 -- ---- the grammar
 
--- a character of a string that stands for itself: printable, and neither a quotation mark nor a backslash
+-- a character of a string that stands for itself: printable, and neither a quotation mark nor a
+-- backslash
 abbrev pub is_plain : ℕ → Bool
 is_plain c = nat_le 32 c && nat_le c 126 && not (c == 34) && not (c == 92)
 
 -- four digits of a unit that has no character of its own
 abbrev pub is_escape : ℕ → ℕ → ℕ → ℕ → Bool
-is_escape a b c d = is_digit a && is_digit b && is_digit c && is_digit d && not (a == 48 && b == 48 && is_plain (value_of c * 16 + value_of d))
+is_escape a b c d = is_digit a && is_digit b && is_digit c && is_digit d &&
+    not (a == 48 && b == 48 && is_plain (value_of c * 16 + value_of d))
 
 -- a dot and a port's number; two digits; a character of a string, or \uXXXX
 abbrev pub IsUnit : Item → List ℕ → Type 0
@@ -23,12 +27,14 @@ IsUnit Port item = (d : ℕ) × (is_port_digit d ≡ true) × (item ≡ 46 ∷ d
 IsUnit Byte item = (h : ℕ) × (l : ℕ) × ((is_digit h && is_digit l) ≡ true) × (item ≡ h ∷ l ∷ [])
 IsUnit Letter item =
     ((c : ℕ) × (is_plain c ≡ true) × (item ≡ c ∷ []))
-    ⊎ ((a : ℕ) × (b : ℕ) × (c : ℕ) × (d : ℕ) × (is_escape a b c d ≡ true) × (item ≡ 92 ∷ 117 ∷ a ∷ b ∷ c ∷ d ∷ []))
+    ⊎ ((a : ℕ) × (b : ℕ) × (c : ℕ) × (d : ℕ) × (is_escape a b c d ≡ true)
+    × (item ≡ 92 ∷ 117 ∷ a ∷ b ∷ c ∷ d ∷ []))
 
 -- at most n items, one behind the other
 abbrev pub AreUnits : Item → ℕ → List ℕ → Type 0
 AreUnits kind zero text = text ≡ []
-AreUnits kind (suc n) text = (text ≡ []) ⊎ ((item : List ℕ) × (more : List ℕ) × IsUnit kind item × AreUnits kind n more × (text ≡ item ++ more))
+AreUnits kind (suc n) text = (text ≡ []) ⊎ ((item : List ℕ) × (more : List ℕ) × IsUnit kind item
+    × AreUnits kind n more × (text ≡ item ++ more))
 
 abbrev pub IsOneOf : List (List ℕ) → List ℕ → Type 0
 IsOneOf [] text = ⊥
@@ -48,18 +54,21 @@ pub data Piece : Type 0 where
 abbrev pub IsPiece : Piece → List ℕ → Type 0
 IsPiece (Piece.word w) text = text ≡ w
 IsPiece (Piece.one_of words) text = IsOneOf words text
-IsPiece Piece.path text = (d : ℕ) × (more : List ℕ) × (is_port_digit d ≡ true) × AreUnits Port 6 more × (text ≡ d ∷ more)
+IsPiece Piece.path text = (d : ℕ) × (more : List ℕ) × (is_port_digit d ≡ true)
+    × AreUnits Port 6 more × (text ≡ d ∷ more)
 IsPiece Piece.number text = (n : ℕ) × (n < 2 ^ 64) × (text ≡ decimal n)
 IsPiece Piece.bytes text =
     (text ≡ codes "-")
-    ⊎ ((n : ℕ) × (first : List ℕ) × (more : List ℕ) × IsUnit Byte first × AreUnits Byte n more × (text ≡ first ++ more))
+    ⊎ ((n : ℕ) × (first : List ℕ) × (more : List ℕ) × IsUnit Byte first × AreUnits Byte n more
+    × (text ≡ first ++ more))
 IsPiece Piece.string text = (n : ℕ) × AreUnits Letter n text
 IsPiece Piece.name text = text ≢ []
 
 -- the texts of a row of pieces
 abbrev pub IsForm : List Piece → List ℕ → Type 0
 IsForm [] text = text ≡ []
-IsForm (piece ∷ form) text = (first : List ℕ) × (more : List ℕ) × IsPiece piece first × IsForm form more × (text ≡ first ++ more)
+IsForm (piece ∷ form) text = (first : List ℕ) × (more : List ℕ) × IsPiece piece first
+    × IsForm form more × (text ≡ first ++ more)
 
 -- ---- reading
 
@@ -79,7 +88,8 @@ behind_escape _ = None
 
 abbrev pub behind_letter : List ℕ → Option (List ℕ)
 behind_letter [] = None
-behind_letter (c ∷ text) = if is_plain c then Some text else if c == 92 then behind_escape text else None
+behind_letter (c ∷ text) = if is_plain c then Some text else if c == 92 then behind_escape text
+    else None
 
 -- what stands behind an item
 unfoldable pub behind_item : Item → List ℕ → Option (List ℕ)
@@ -90,14 +100,19 @@ behind_item Letter text = behind_letter text
 -- what stands behind as many items as there are, up to n
 unfoldable pub behind_items : Item → ℕ → List ℕ → List ℕ
 behind_items kind zero text = text
-behind_items kind (suc n) text = elim (behind_item kind text) [ None ↦ text | Some rest ↦ behind_items kind n rest ]
+behind_items kind (suc n) text = elim (behind_item kind text) [
+  | None ↦ text
+  | Some rest ↦
+      behind_items kind n rest
+]
 
 abbrev pub behind_path : List ℕ → Option (List ℕ)
 behind_path [] = None
 behind_path (d ∷ text) = if is_port_digit d then Some (behind_items Port 6 text) else None
 
 abbrev pub behind_bytes : List ℕ → Option (List ℕ)
-behind_bytes text = if_found (strip (codes "-") text) Some (option_map (λ rest. behind_items Byte (length rest) rest) (behind_item Byte text))
+behind_bytes text = if_found (strip (codes "-") text) Some
+    (option_map (λ rest. behind_items Byte (length rest) rest) (behind_item Byte text))
 
 abbrev pub behind_name : List ℕ → Option (List ℕ)
 behind_name [] = None
@@ -116,7 +131,11 @@ behind_piece Piece.name text = behind_name text
 -- whether a text is of a row of pieces
 unfoldable pub fits_form : List Piece → List ℕ → Bool
 fits_form [] text = length text == 0
-fits_form (piece ∷ form) text = elim (behind_piece piece text) [ None ↦ false | Some rest ↦ fits_form form rest ]
+fits_form (piece ∷ form) text = elim (behind_piece piece text) [
+  | None ↦ false
+  | Some rest ↦
+      fits_form form rest
+]
 
 -- a part, as the grammar has it
 abbrev pub piece_of : Part → Piece

@@ -1,5 +1,6 @@
 -- Packets and marks at the front of a text, as a trace prints them, with what stands behind them.
-use Rattle.std.specs.Prelude.{ℕ, ◌&&◌, nat_lt, List, [], ◌∷◌, Option, Some, None, codes, option_map, if◌then◌else◌}
+use Rattle.std.specs.Prelude.{ℕ, ◌&&◌, nat_lt, List, [], ◌∷◌, Option, Some, None, codes, option_map}
+use Rattle.std.specs.Prelude.{if◌then◌else◌}
 use Rattle.std.specs.Option.{option_and_then}
 use Rattle.usb_packet.specs.declared.TokenKind.{TokenKind}
 use Rattle.usb_packet.specs.declared.TokenKind.TheVariants.{OutTok, InTok, SetupTok}
@@ -13,12 +14,15 @@ use Rattle.usb_pcap.specs.Text.{bytes_on, decimal_in, if_found, strip}
 
 -- an address and an endpoint, where they fit a token
 abbrev pub fitting_token : TokenKind → ℕ → ℕ × List ℕ → Option (Packet × List ℕ)
-fitting_token kind addr ep = if nat_lt addr 128 && nat_lt ep.0 16 then Some (Token kind addr ep.0, ep.1) else None
+fitting_token kind addr ep = if nat_lt addr 128 && nat_lt ep.0 16 then Some
+    (Token kind addr ep.0, ep.1) else None
 
 -- ADDRESS.ENDPOINT
 unfoldable pub token_in : TokenKind → List ℕ → Option (Packet × List ℕ)
 token_in kind text =
-    option_and_then (λ addr. option_and_then (λ rest. option_and_then (fitting_token kind addr.0) (decimal_in rest)) (strip (codes ".") addr.1))
+    option_and_then (λ addr. option_and_then
+    (λ rest. option_and_then (fitting_token kind addr.0) (decimal_in rest))
+    (strip (codes ".") addr.1))
     (decimal_in text)
 
 abbrev pub data_of : Toggle → List ℕ × List ℕ → Option (Packet × List ℕ)
@@ -50,7 +54,8 @@ packet_in text =
 -- the number of a flipped bit
 unfoldable pub bit_in : List ℕ → Option (Mark × List ℕ)
 bit_in text =
-    option_and_then (λ bit. if nat_lt bit.0 65536 then option_map (λ rest. (Flipped bit.0, rest)) (strip (codes "]") bit.1) else None)
+    option_and_then (λ bit. if nat_lt bit.0 65536 then option_map (λ rest. (Flipped bit.0, rest))
+    (strip (codes "]") bit.1) else None)
     (decimal_in text)
 
 -- the mark behind a packet, none where damage did nothing to it

@@ -1,5 +1,6 @@
 -- The packets of an attempt as they went over the wire, and their records in a pcap file.
-use Rattle.std.specs.Prelude.{◌≡◌, ℕ, ◌-◌, ◌*◌, ◌/◌, ◌%◌, ◌<◌, Bool, true, false, List, [], ◌∷◌, ◌++◌, length, Option, Some, None, ⊤}
+use Rattle.std.specs.Prelude.{◌≡◌, ℕ, ◌-◌, ◌*◌, ◌/◌, ◌%◌, ◌<◌, Bool, true, false, List, [], ◌∷◌}
+use Rattle.std.specs.Prelude.{◌++◌, length, Option, Some, None, ⊤}
 use Rattle.std.specs.Int.{to_le_bytes, w32}
 use Rattle.usb_packet.specs.declared.Packet.{Packet}
 use Rattle.usb_packet.specs.declared.Packet.TheVariants.{Pre}
@@ -46,11 +47,13 @@ answer_packets (One p) mark = (p, mark) ∷ []
 
 -- the token, the host's data, the answer and the host's ACK
 abbrev pub attempt_packets : Bool → Exchange → List (Packet × Mark)
-attempt_packets pre x = host_packets pre x.token ++ next_packets pre x.payload ++ answer_packets x.answer x.answer_mark ++ next_packets pre x.reply
+attempt_packets pre x = host_packets pre x.token ++ next_packets pre x.payload ++ answer_packets
+    x.answer x.answer_mark ++ next_packets pre x.reply
 
 -- ---- their bytes
 
--- the bytes as damage leaves them; of a lost packet the last bit is flipped, which is one of its check
+-- the bytes as damage leaves them; of a lost packet the last bit is flipped, which is one of its
+-- check
 abbrev pub damaged : Mark → List ℕ → List ℕ
 damaged Whole bytes = bytes
 damaged PreLost bytes = bytes
@@ -66,14 +69,17 @@ HasBit (Flipped bit) bytes = bit < 8 * length bytes
 
 -- ---- the file
 
--- little endian, microseconds, version 2.4, at most 65535 bytes a packet, LINKTYPE_USB_2_0_FULL_SPEED
+-- little endian, microseconds, version 2.4, at most 65535 bytes a packet,
+-- LINKTYPE_USB_2_0_FULL_SPEED
 abbrev pub header : List ℕ
 header =
-    to_le_bytes w32 0xa1b2c3d4 ++ 2 ∷ 0 ∷ 4 ∷ 0 ∷ to_le_bytes w32 0 ++ to_le_bytes w32 0 ++ to_le_bytes w32 65535 ++ to_le_bytes w32 294
+    to_le_bytes w32 0xa1b2c3d4 ++ 2 ∷ 0 ∷ 4 ∷ 0 ∷ to_le_bytes w32 0 ++ to_le_bytes w32 0 ++
+    to_le_bytes w32 65535 ++ to_le_bytes w32 294
 
 -- a packet's time, that of its attempt's number in microseconds, and its length, twice
 abbrev pub record_head : ℕ → ℕ → List ℕ
-record_head number size = to_le_bytes w32 (number / 1000000) ++ to_le_bytes w32 (number % 1000000) ++ to_le_bytes w32 size ++ to_le_bytes w32 size
+record_head number size = to_le_bytes w32 (number / 1000000) ++ to_le_bytes w32 (number % 1000000)
+    ++ to_le_bytes w32 size ++ to_le_bytes w32 size
 
 -- the record of a packet in the attempt of this number
 pub record IsRecord (number : ℕ) (packet : Packet × Mark) (bytes : List ℕ) : Type 0 where
@@ -86,10 +92,12 @@ pub record IsRecord (number : ℕ) (packet : Packet × Mark) (bytes : List ℕ) 
 abbrev pub AreRecords : ℕ → List (Packet × Mark) → List ℕ → Type 0
 AreRecords number [] bytes = bytes ≡ []
 AreRecords number (packet ∷ packets) bytes =
-    (first : List ℕ) × (rest : List ℕ) × IsRecord number packet first × AreRecords number packets rest × (bytes ≡ first ++ rest)
+    (first : List ℕ) × (rest : List ℕ) × IsRecord number packet first
+    × AreRecords number packets rest × (bytes ≡ first ++ rest)
 
 -- behind the bytes stand the records of these packets
-pub record AppendsRecords (number : ℕ) (packets : List (Packet × Mark)) (before after : List ℕ) : Type 0 where
+pub record AppendsRecords (number : ℕ) (packets : List (Packet × Mark)) (before after : List ℕ) :
+    Type 0 where
   pub bytes : List ℕ
   pub records : AreRecords number packets bytes
   pub appended : after ≡ before ++ bytes

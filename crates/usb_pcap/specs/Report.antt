@@ -6,12 +6,15 @@ use Rattle.usb_pcap.specs.Grammar.Piece.{word, one_of, path, number, bytes, stri
 -- why a device was refused
 abbrev pub causes : List (List ℕ)
 causes =
-    codes "silent" ∷ codes "busy" ∷ codes "stalled device" ∷ codes "stalled address" ∷ codes "stalled config" ∷ codes "stalled set config"
-    ∷ codes "bad device" ∷ codes "too deep" ∷ codes "no power" ∷ codes "bad hub" ∷ codes "lost" ∷ codes "no address" ∷ []
+    codes "silent" ∷ codes "busy" ∷ codes "stalled device" ∷ codes "stalled address" ∷
+    codes "stalled config" ∷ codes "stalled set config"
+    ∷ codes "bad device" ∷ codes "too deep" ∷ codes "no power" ∷ codes "bad hub" ∷ codes "lost" ∷
+    codes "no address" ∷ []
 
 -- why a transfer was not done
 abbrev pub failures : List (List ℕ)
-failures = codes "no device" ∷ codes "no endpoint" ∷ codes "stalled" ∷ codes "busy" ∷ codes "no answer" ∷ codes "broken" ∷ []
+failures = codes "no device" ∷ codes "no endpoint" ∷ codes "stalled" ∷ codes "busy" ∷
+    codes "no answer" ∷ codes "broken" ∷ []
 
 -- plug PATH NAME
 abbrev pub plug_form : List Piece
@@ -23,17 +26,21 @@ report_forms =
     (word (codes "unplug ") ∷ path ∷ [])
     ∷ (word (codes "listing ") ∷ number ∷ [])
     ∷ (word (codes "end") ∷ [])
-    ∷ (path ∷ word (codes " address ") ∷ number ∷ one_of (codes " full " ∷ codes " low " ∷ []) ∷ bytes ∷ [])
+    ∷ (path ∷ word (codes " address ") ∷ number ∷ one_of (codes " full " ∷ codes " low " ∷ []) ∷
+    bytes ∷ [])
     ∷ (path ∷ word (codes " config ") ∷ number ∷ word (codes " ") ∷ bytes ∷ [])
     ∷ (path ∷ word (codes " config ") ∷ number ∷ word (codes " ") ∷ bytes ∷ word (codes " *") ∷ [])
-    ∷ (path ∷ word (codes " hub ") ∷ number ∷ word (codes " ports ") ∷ number ∷ word (codes " mA") ∷ [])
-    ∷ (path ∷ one_of (codes " manufacturer \"" ∷ codes " product \"" ∷ codes " serial \"" ∷ []) ∷ string ∷ word (codes "\"") ∷ [])
+    ∷ (path ∷ word (codes " hub ") ∷ number ∷ word (codes " ports ") ∷ number ∷ word (codes " mA") ∷
+    [])
+    ∷ (path ∷ one_of (codes " manufacturer \"" ∷ codes " product \"" ∷ codes " serial \"" ∷ []) ∷
+    string ∷ word (codes "\"") ∷ [])
     ∷ (path ∷ word (codes " refused ") ∷ one_of causes ∷ [])
     ∷ (path ∷ word (codes " refused bad configuration ") ∷ number ∷ [])
     ∷ (word (codes "send ") ∷ path ∷ word (codes " done ") ∷ number ∷ [])
     ∷ (word (codes "receive ") ∷ path ∷ word (codes " done ") ∷ bytes ∷ [])
     ∷ (word (codes "clear ") ∷ path ∷ word (codes " done") ∷ [])
-    ∷ (one_of (codes "send " ∷ codes "receive " ∷ codes "clear " ∷ []) ∷ path ∷ word (codes " failed ") ∷ one_of failures ∷ [])
+    ∷ (one_of (codes "send " ∷ codes "receive " ∷ codes "clear " ∷ []) ∷ path ∷
+    word (codes " failed ") ∷ one_of failures ∷ [])
     ∷ (word (codes "bound ") ∷ number ∷ [])
     ∷ []
 

@@ -45,9 +45,9 @@ pub(crate) struct OpenLine {
 /// Reads the text of a run, and writes the header of a pcap file and a record for each packet of its attempts.
 ///
 /// # Errors
-/// `Line(n)` where line n is the first that has the form of no line of a run, or the last and nothing ends it; `TooLong`
-/// where the text has 2 ^ 64 - 1 bytes or more, and as many reads did not come to its end; `Read` where the reader
-/// failed, `Write` where the writer failed. The records of the lines before have gone out.
+/// `Line(n)` where line n is the first that has the form of no line of a run, or the last and nothing ends it;
+/// `TooLong` where the text has 2 ^ 64 - 1 bytes or more, and as many reads did not come to its end; `Read` where the
+/// reader failed, `Write` where the writer failed. The records of the lines before have gone out.
 pub fn capture<R: Read, W: Write>(
     reader: &mut Watched<R>,
     writer: &mut Watched<W>,

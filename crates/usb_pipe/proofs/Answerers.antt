@@ -1,7 +1,9 @@
--- Who answered a transfer: a device that had the target's address all along, and is still reachable.
+-- Who answered a transfer: a device that had the target's address all along, and is still
+-- reachable.
 use Rattle.std.specs.Global.{Vec}
 use Rattle.std.specs.Prelude.{Result, Ok, Err}
-use Rattle.std.proofs.Common.{◌≡◌, ℕ, true, false, List, Option, None, Some, refl, sym, subst, ◌∙◌, ◌≢◌, ap, ◌⊎◌, inl, inr, [], take}
+use Rattle.std.proofs.Common.{◌≡◌, ℕ, true, false, List, Option, None, Some, refl, sym, subst, ◌∙◌}
+use Rattle.std.proofs.Common.{◌≢◌, ap, ◌⊎◌, inl, inr, [], take}
 use Rattle.arrayvec.specs.ArrayVec.{ArrayVec}
 use Rattle.usb_packet.specs.declared.Toggle.{Toggle}
 use Rattle.usb_packet.specs.declared.Toggle.TheVariants.{One}
@@ -25,7 +27,10 @@ use Rattle.usb_transaction.specs.Transactions.{in_attempt, out_attempt}
 use Rattle.usb_transaction.specs.declared.fault.TransFault.{TransFault}
 use Rattle.usb_transaction.specs.declared.fault.TransFault.TheVariants as trans
 use Rattle.usb_transaction.specs.declared.target.Target.{Target}
-use Rattle.usb_transaction.proofs.Interface.{transacted_unshared, control_in_leaves, had_address, had_one, poll_answered, poll_had, read_answered, read_had, set_up_had, sink_over, source_over, wait_answered, write_answered, write_had}
+use Rattle.usb_transaction.proofs.Interface.{transacted_unshared, control_in_leaves, had_address}
+use Rattle.usb_transaction.proofs.Interface.{had_one, poll_answered, poll_had, read_answered}
+use Rattle.usb_transaction.proofs.Interface.{read_had, set_up_had, sink_over, source_over}
+use Rattle.usb_transaction.proofs.Interface.{wait_answered, write_answered, write_had}
 use Rattle.usb_pipe.specs.Bulk.{Bulk, Sends, Receives}
 use Rattle.usb_pipe.specs.Control.{as_pipe_fault}
 use Rattle.usb_pipe.specs.End.{packet_target}
@@ -40,7 +45,8 @@ use Rattle.usb_pipe.specs.declared.condition.Condition.TheVariants.{Broken}
 use Rattle.usb_pipe.specs.declared.fault.PipeFault.{PipeFault}
 use Rattle.usb_pipe.specs.declared.fault.PipeFault.TheVariants as pipe_fault
 use Rattle.usb_pipe.proofs.BulkCalls.{send_by, receive_by}
-use Rattle.usb_pipe.proofs.ControlSteps.{ended_settled, ended_unshared, host_harmless, bytes_of-length, Requested, requested_leaves}
+use Rattle.usb_pipe.proofs.ControlSteps.{ended_settled, ended_unshared, host_harmless}
+use Rattle.usb_pipe.proofs.ControlSteps.{bytes_of-length, Requested, requested_leaves}
 
 -- Devices at the target's address
 
@@ -60,7 +66,8 @@ record Passed (t : Target) (old new : World) : Type 0 where
 passed_none : (t : Target) (w : World) → Passed t w w
 passed_none t w = record { settled = λ h. h; unshared = λ h. h; kept = λ h single j d. d }
 
-passed_then : {t : Target} {old mid new : World} → Passed t old mid → Passed t mid new → Passed t old new
+passed_then : {t : Target} {old mid new : World} → Passed t old mid → Passed t mid new
+    → Passed t old new
 passed_then x y = record {
   settled = λ h. y.settled (x.settled h);
   unshared = λ h. x.unshared (y.unshared h);
@@ -68,206 +75,327 @@ passed_then x y = record {
 }
 
 -- one that ended, where it changes no device with another address
-passed_one : {t : Target} {hear : _} {a : Attempt} {old new : World} {result : Result (List ℕ) TransFault} (R : Relation) → ((j : Location) (s v : State) → R j s v → is_at s t ≡ false → v ≡ s)
-    → (IsSettled old.roots → new.shared ≡ false → (j : Location) (s : State) → reach_on new.roots j ≡ true → state_on new.roots j ≡ Some s → is_at s t ≡ true → Was R old j s)
+passed_one : {t : Target} {hear : _} {a : Attempt} {old new : World}
+    {result : Result (List ℕ) TransFault} (R : Relation)
+    → ((j : Location) (s v : State) → R j s v → is_at s t ≡ false → v ≡ s)
+    → (IsSettled old.roots → new.shared ≡ false → (j : Location) (s : State)
+    → reach_on new.roots j ≡ true → state_on new.roots j ≡ Some s → is_at s t ≡ true
+    → Was R old j s)
     → TransactionDone hear a old result new → Passed t old new
 passed_one {t} {old = old} R others each e = record {
   settled = ended_settled e;
   unshared = ended_unshared e;
   kept = λ h single j d.
       let was : Was R old j d.state = each h single j d.state d.on d.stands d.at in
-      record { state = was.before; on = was.on; stands = was.stands; at = had_address t was.before d.state (others j was.before d.state was.so) d.at };
+      record {
+        state = was.before;
+        on = was.on;
+        stands = was.stands;
+        at = had_address t was.before d.state (others j was.before d.state was.so) d.at;
+      };
 }
 
 -- a device at an address that is not 0 was not reset
-spared_at : (t : Target) (request : Setup) (s : State) → (is_harmless request ≡ false → t.addr ≢ 0) → is_at s t ≡ true → IsSpared t request s
-spared_at t request s addressed at h = (addressed h, λ e. addressed h (sym (equal_same (address_of s) t.addr at) ∙ e))
+spared_at : (t : Target) (request : Setup) (s : State) → (is_harmless request ≡ false → t.addr ≢ 0)
+    → is_at s t ≡ true → IsSpared t request s
+spared_at t request s addressed at h =
+    (addressed h, λ e. addressed h (sym (equal_same (address_of s) t.addr at) ∙ e))
 
-set_up_passed : (t : Target) (request : Setup) {old new : World} → (is_harmless request ≡ false → t.addr ≢ 0) → setup_of (bytes_of request) ≡ request → SetUp t request old (Ok []) new → Passed t old new
+set_up_passed : (t : Target) (request : Setup) {old new : World}
+    → (is_harmless request ≡ false → t.addr ≢ 0) → setup_of (bytes_of request) ≡ request
+    → SetUp t request old (Ok []) new → Passed t old new
 set_up_passed t request {old} {new} addressed same e =
     passed_one (Requested t request (Ok []) old new) (λ j s v x. x.done.others)
-    (λ h single j s on there at. requested_leaves t request (Ok []) old new same h e single j s on there (spared_at t request s addressed at)) e
+    (λ h single j s on there at. requested_leaves t request (Ok []) old new same h e single j s on
+    there (spared_at t request s addressed at)) e
 
 -- an IN of endpoint 0, one of a bulk endpoint, and an OUT of one
-asked_passed : (t : Target) (awaited : Toggle) (bytes : List ℕ) {old new : World} → TransactionDone (heard_as awaited) (in_attempt t 0) old (Ok bytes) new → Passed t old new
+asked_passed : (t : Target) (awaited : Toggle) (bytes : List ℕ) {old new : World}
+    → TransactionDone (heard_as awaited) (in_attempt t 0) old (Ok bytes) new → Passed t old new
 asked_passed t awaited bytes {old} {new} e =
-    passed_one (ControlIn t awaited (Ok bytes)) (λ j s v x. x.others) (λ h single j s on there at. control_in_leaves t awaited (Ok bytes) old new h e single j s on there) e
+    passed_one (ControlIn t awaited (Ok bytes)) (λ j s v x. x.others)
+    (λ h single j s on there at. control_in_leaves t awaited (Ok bytes) old new h e single j s
+    on there) e
 
-fetched_passed : (t : Target) (ep : ℕ) (awaited : Toggle) (bytes : List ℕ) {old new : World} → TransactionDone (heard_as awaited) (in_attempt t ep) old (Ok bytes) new → Passed t old new
+fetched_passed : (t : Target) (ep : ℕ) (awaited : Toggle) (bytes : List ℕ) {old new : World}
+    → TransactionDone (heard_as awaited) (in_attempt t ep) old (Ok bytes) new → Passed t old new
 fetched_passed t ep awaited bytes {old} {new} e =
-    passed_one (SourceIn t ep awaited (Ok bytes)) (λ j s v x. x.others) (λ h single j s on there at. source_over t ep awaited (Ok bytes) old new h e single j s on there) e
+    passed_one (SourceIn t ep awaited (Ok bytes)) (λ j s v x. x.others)
+    (λ h single j s on there at. source_over t ep awaited (Ok bytes) old new h e single j s on
+    there) e
 
-put_passed : (t : Target) (ep : ℕ) (toggle : Toggle) (bytes : List ℕ) {old new : World} → TransactionDone heard_when_sent (out_attempt t ep toggle bytes) old (Ok []) new → Passed t old new
+put_passed : (t : Target) (ep : ℕ) (toggle : Toggle) (bytes : List ℕ) {old new : World}
+    → TransactionDone heard_when_sent (out_attempt t ep toggle bytes) old (Ok []) new
+    → Passed t old new
 put_passed t ep toggle bytes {old} {new} e =
-    passed_one (SinkOut t ep toggle bytes (Ok [])) (λ j s v x. x.others) (λ h single j s on there at. sink_over t ep toggle bytes (Ok []) old new h e single j s on there) e
+    passed_one (SinkOut t ep toggle bytes (Ok [])) (λ j s v x. x.others)
+    (λ h single j s on there at. sink_over t ep toggle bytes (Ok []) old new h e single j s on
+    there) e
 
 -- the packets of a transfer
 
-goes_passed : (t : Target) {wanted : ℕ} {old : World} {n : ℕ} {got : List ℕ} {new : World} → Goes t wanted old n got new → Passed t old new
+goes_passed : (t : Target) {wanted : ℕ} {old : World} {n : ℕ} {got : List ℕ} {new : World}
+    → Goes t wanted old n got new → Passed t old new
 goes_passed t {old} stages.start = passed_none t old
-goes_passed t (stages.packet {n} bytes g x l) = passed_then (goes_passed t g) (asked_passed t (flips n One) bytes x)
+goes_passed t (stages.packet {n} bytes g x l) =
+    passed_then (goes_passed t g) (asked_passed t (flips n One) bytes x)
 
-stage_passed : (t : Target) {wanted : ℕ} {bytes : List ℕ} {old new : World} → DataStage t wanted old bytes new → Passed t old new
-stage_passed t d = passed_then (goes_passed t d.before) (asked_passed t (flips d.packets One) d.last d.came)
+stage_passed : (t : Target) {wanted : ℕ} {bytes : List ℕ} {old new : World}
+    → DataStage t wanted old bytes new → Passed t old new
+stage_passed t d = passed_then (goes_passed t d.before)
+    (asked_passed t (flips d.packets One) d.last d.came)
 
-gave_passed : (t : Target) (ep : ℕ) (first : Toggle) {old : World} {n : ℕ} {sent : List ℕ} {new : World} → Gave t ep first old n sent new → Passed t old new
+gave_passed : (t : Target) (ep : ℕ) (first : Toggle) {old : World} {n : ℕ} {sent : List ℕ}
+    {new : World} → Gave t ep first old n sent new → Passed t old new
 gave_passed t ep first {old} moves.start = passed_none t old
-gave_passed t ep first (moves.packet {n} bytes g full some fits puts) = passed_then (gave_passed t ep first g) (put_passed t ep (flips n first) bytes puts)
+gave_passed t ep first (moves.packet {n} bytes g full some fits puts) =
+    passed_then (gave_passed t ep first g) (put_passed t ep (flips n first) bytes puts)
 
-came_passed : (t : Target) (ep : ℕ) (first : Toggle) {old : World} {n : ℕ} {got : List ℕ} {new : World} → Came t ep first old n got new → Passed t old new
+came_passed : (t : Target) (ep : ℕ) (first : Toggle) {old : World} {n : ℕ} {got : List ℕ}
+    {new : World} → Came t ep first old n got new → Passed t old new
 came_passed t ep first {old} moves.start = passed_none t old
-came_passed t ep first (moves.packet {n} bytes c fetches full) = passed_then (came_passed t ep first c) (fetched_passed t ep (flips n first) bytes fetches)
+came_passed t ep first (moves.packet {n} bytes c fetches full) =
+    passed_then (came_passed t ep first c) (fetched_passed t ep (flips n first) bytes fetches)
 
 -- The device that answered the last one
 
-answerer_after_passed : {t : Target} {old mid new : World} → Passed t old mid → IsSettled old.roots → mid.shared ≡ false → (IsSettled mid.roots → Answerer t mid new) → Answerer t old new
+answerer_after_passed : {t : Target} {old mid new : World} → Passed t old mid → IsSettled old.roots
+    → mid.shared ≡ false → (IsSettled mid.roots → Answerer t mid new) → Answerer t old new
 answerer_after_passed {t} {old} {mid} {new} x settled single last =
     let a : Answerer t mid new = last (x.settled settled) in
-    let had : HasIt t old a.spot = x.kept settled single a.spot (record { state = a.before; on = a.was_on; stands = a.stood; at = a.at }) in
-    record { spot = a.spot; now = a.now; on = a.on; stands = a.stands; before = had.state; was_on = had.on; stood = had.stands; at = had.at }
+    let had : HasIt t old a.spot = x.kept settled single a.spot
+    (record { state = a.before; on = a.was_on; stands = a.stood; at = a.at }) in
+    record {
+      spot = a.spot;
+      now = a.now;
+      on = a.on;
+      stands = a.stands;
+      before = had.state;
+      was_on =
+          had.on;
+      stood = had.stands;
+      at = had.at;
+    }
 
 -- it is the device of the pipe
-of_device : (t : Target) (max : ℕ) {old new : World} → Answerer (packet_target t max) old new → Answerer t old new
-of_device t max a = record { spot = a.spot; now = a.now; on = a.on; stands = a.stands; before = a.before; was_on = a.was_on; stood = a.stood; at = a.at }
+of_device : (t : Target) (max : ℕ) {old new : World} → Answerer (packet_target t max) old new
+    → Answerer t old new
+of_device t max a = record {
+  spot = a.spot;
+  now = a.now;
+  on = a.on;
+  stands = a.stands;
+  before =
+      a.before;
+  was_on = a.was_on;
+  stood = a.stood;
+  at = a.at;
+}
 
 -- Faults that are answers
 
 -- the transaction's is one, too
-trans_answer : (why : PipeFault) (fault : TransFault) → why ≡ as_pipe_fault fault → IsTransferAnswer why → TransIsAnswer fault
+trans_answer : (why : PipeFault) (fault : TransFault) → why ≡ as_pipe_fault fault
+    → IsTransferAnswer why → TransIsAnswer fault
 trans_answer why trans.Stalled e y = tt
 trans_answer why trans.Busy e y = tt
 trans_answer why trans.NoAnswer e y = absurd (subst IsTransferAnswer e y)
 trans_answer why (trans.Bus fault) e y = absurd (subst IsTransferAnswer e y)
 
 -- a last transaction that failed
-failed_had : {t : Target} (hear : _) (a : Attempt) {old mid : World} (new : World) (fault : TransFault) → Passed t old mid → IsSettled old.roots → Transacted hear a mid (Err fault) new → new.shared ≡ false
+failed_had : {t : Target} (hear : _) (a : Attempt) {old mid : World} (new : World)
+    (fault : TransFault) → Passed t old mid → IsSettled old.roots
+    → Transacted hear a mid (Err fault) new → new.shared ≡ false
     → (IsSettled mid.roots → HadOne t mid) → HadOne t old
 failed_had {t} hear a {old} {mid} new fault x settled lost single last =
     let later : IsSettled mid.roots = x.settled settled in
     let h : HadOne t mid = last later in
-    let had : HasIt t old h.spot = x.kept settled (transacted_unshared hear a mid new (Err fault) lost later single) h.spot (record { state = h.state; on = h.on; stands = h.stands; at = h.at }) in
+    let had : HasIt t old h.spot = x.kept settled
+    (transacted_unshared hear a mid new (Err fault) lost later single) h.spot
+    (record { state = h.state; on = h.on; stands = h.stands; at = h.at }) in
     record { spot = h.spot; state = had.state; on = had.on; stands = had.stands; at = had.at }
 
 -- the device of the pipe
 had_of_device : (t : Target) (max : ℕ) {w : World} → HadOne (packet_target t max) w → HadOne t w
-had_of_device t max h = record { spot = h.spot; state = h.state; on = h.on; stands = h.stands; at = h.at }
+had_of_device t max h = record {
+  spot = h.spot;
+  state = h.state;
+  on = h.on;
+  stands = h.stands;
+  at = h.at;
+}
 
 -- Control transfers
 
 -- a request for data resets none
-host_addressed : (t : Target) (request : Setup) → IsToHost request → is_harmless request ≡ false → t.addr ≢ 0
+host_addressed : (t : Target) (request : Setup) → IsToHost request → is_harmless request ≡ false
+    → t.addr ≢ 0
 host_addressed t request host h = absurd (cc (sym (host_harmless request host) ∙ h))
 
-pub who_reads : (t : Target) (request : Setup) (bytes : Vec ℕ) (old new : World) → IsToHost request → setup_of (bytes_of request) ≡ request
-    → IsSettled old.roots → Reads t request old (Ok bytes) new → new.shared ≡ false → Answerer t old new
+pub who_reads : (t : Target) (request : Setup) (bytes : Vec ℕ) (old new : World) → IsToHost request
+    → setup_of (bytes_of request) ≡ request
+    → IsSettled old.roots → Reads t request old (Ok bytes) new → new.shared ≡ false
+    → Answerer t old new
 who_reads t request bytes old new host same settled x single =
-    answerer_after_passed (passed_then (set_up_passed t request (host_addressed t request host) same x.set_up) (stage_passed t x.data_stage)) settled (ended_unshared x.status single)
+    answerer_after_passed (passed_then (set_up_passed t request (host_addressed t request host) same
+    x.set_up) (stage_passed t x.data_stage)) settled (ended_unshared x.status single)
     (λ h. write_answered t 0 One [] [] x.second new h x.status single)
 
-pub who_writes : (t : Target) (request : Setup) (u : Unit {0}) (old new : World) → setup_of (bytes_of request) ≡ request → (is_harmless request ≡ false → t.addr ≢ 0)
-    → IsSettled old.roots → Writes t request old (Ok u) new → new.shared ≡ false → Answerer t old new
+pub who_writes : (t : Target) (request : Setup) (u : Unit {0}) (old new : World)
+    → setup_of (bytes_of request) ≡ request → (is_harmless request ≡ false → t.addr ≢ 0)
+    → IsSettled old.roots → Writes t request old (Ok u) new → new.shared ≡ false
+    → Answerer t old new
 who_writes t request u old new same addressed settled x single =
-    answerer_after_passed (set_up_passed t request addressed same x.set_up) settled (ended_unshared x.status single) (λ h. read_answered t 0 One x.given x.mid new h x.status single)
+    answerer_after_passed (set_up_passed t request addressed same x.set_up) settled
+    (ended_unshared x.status single) (λ h. read_answered t 0 One x.given x.mid new h x.status
+    single)
 
-no_set_up_had : (t : Target) (request : Setup) (why : PipeFault) (old new : World) → setup_of (bytes_of request) ≡ request → (is_harmless request ≡ false → t.addr ≢ 0) → IsSettled old.roots
+no_set_up_had : (t : Target) (request : Setup) (why : PipeFault) (old new : World)
+    → setup_of (bytes_of request) ≡ request → (is_harmless request ≡ false → t.addr ≢ 0)
+    → IsSettled old.roots
     → IsTransferAnswer why → NoSetUp t request old why new → new.shared ≡ false → HadOne t old
 no_set_up_had t request why old new same addressed settled y x single =
-    set_up_had t (bytes_of request) x.fault old new (bytes_of-length request) (λ h. addressed (ap is_harmless (sym same) ∙ h)) settled (trans_answer why x.fault x.told y) x.set_up single
+    set_up_had t (bytes_of request) x.fault old new (bytes_of-length request)
+    (λ h. addressed (ap is_harmless (sym same) ∙ h)) settled (trans_answer why x.fault x.told y)
+    x.set_up single
 
-pub who_read_had : (t : Target) (request : Setup) (why : PipeFault) (old new : World) → IsToHost request → setup_of (bytes_of request) ≡ request
-    → IsSettled old.roots → IsTransferAnswer why → Reads t request old (Err why) new → new.shared ≡ false → HadOne t old
-who_read_had t request why old new host same settled y (inl x) single = no_set_up_had t request why old new same (host_addressed t request host) settled y x single
+pub who_read_had : (t : Target) (request : Setup) (why : PipeFault) (old new : World)
+    → IsToHost request → setup_of (bytes_of request) ≡ request
+    → IsSettled old.roots → IsTransferAnswer why → Reads t request old (Err why) new
+    → new.shared ≡ false → HadOne t old
+who_read_had t request why old new host same settled y (inl x) single =
+    no_set_up_had t request why old new same (host_addressed t request host) settled y x single
 who_read_had t request why old new host same settled y (inr (inl x)) single =
-    let set_up : Passed t old x.mid = set_up_passed t request (host_addressed t request host) same x.set_up in
+    let set_up : Passed t old x.mid = set_up_passed t request (host_addressed t request host) same
+    x.set_up in
     elim x.data_stage [
       | inl d ↦
-          failed_had (heard_as (flips d.packets One)) (in_attempt t 0) new d.fault (passed_then set_up (goes_passed t d.before)) settled d.lost single
-          (λ h. read_had t 0 (flips d.packets One) d.fault d.mid new h (trans_answer why d.fault d.told y) d.lost single)
+          failed_had (heard_as (flips d.packets One)) (in_attempt t 0) new d.fault
+          (passed_then set_up (goes_passed t d.before)) settled d.lost single
+          (λ h. read_had t 0 (flips d.packets One) d.fault d.mid new h
+          (trans_answer why d.fault d.told y) d.lost single)
       | inr d ↦
-          had_one (answerer_after_passed (passed_then set_up (goes_passed t d.before)) settled (ended_unshared d.came single) (λ h. read_answered t 0 (flips d.packets One) d.last d.mid new h d.came single))
+          had_one (answerer_after_passed (passed_then set_up (goes_passed t d.before)) settled
+          (ended_unshared d.came single) (λ h. read_answered t 0 (flips d.packets One) d.last
+          d.mid new h d.came single))
     ]
 who_read_had t request why old new host same settled y (inr (inr x)) single =
-    failed_had heard_when_sent (out_attempt t 0 One []) new x.fault (passed_then (set_up_passed t request (host_addressed t request host) same x.set_up) (stage_passed t x.data_stage)) settled x.status single
-    (λ h. write_had t 0 One [] x.fault x.second new h (trans_answer why x.fault x.told y) x.status single)
+    failed_had heard_when_sent (out_attempt t 0 One []) new x.fault
+    (passed_then (set_up_passed t request (host_addressed t request host) same x.set_up)
+    (stage_passed t x.data_stage)) settled x.status single
+    (λ h. write_had t 0 One [] x.fault x.second new h (trans_answer why x.fault x.told y) x.status
+    single)
 
-pub who_write_had : (t : Target) (request : Setup) (why : PipeFault) (old new : World) → setup_of (bytes_of request) ≡ request → (is_harmless request ≡ false → t.addr ≢ 0)
-    → IsSettled old.roots → IsTransferAnswer why → Writes t request old (Err why) new → new.shared ≡ false → HadOne t old
-who_write_had t request why old new same addressed settled y (inl x) single = no_set_up_had t request why old new same addressed settled y x single
+pub who_write_had : (t : Target) (request : Setup) (why : PipeFault) (old new : World)
+    → setup_of (bytes_of request) ≡ request → (is_harmless request ≡ false → t.addr ≢ 0)
+    → IsSettled old.roots → IsTransferAnswer why → Writes t request old (Err why) new
+    → new.shared ≡ false → HadOne t old
+who_write_had t request why old new same addressed settled y (inl x) single =
+    no_set_up_had t request why old new same addressed settled y x single
 who_write_had t request why old new same addressed settled y (inr x) single =
-    failed_had (heard_as One) (in_attempt t 0) new x.fault (set_up_passed t request addressed same x.set_up) settled x.status single
+    failed_had (heard_as One) (in_attempt t 0) new x.fault
+    (set_up_passed t request addressed same x.set_up) settled x.status single
     (λ h. read_had t 0 One x.fault x.mid new h (trans_answer why x.fault x.told y) x.status single)
 
 -- Bulk transfers
 
 -- where bytes went there is a last packet
-gone_answered : (t : Target) (ep : ℕ) (first : Toggle) {old : World} {n : ℕ} {sent : List ℕ} {new : World} → IsSettled old.roots → Gave t ep first old n sent new → sent ≢ [] → new.shared ≡ false
+gone_answered : (t : Target) (ep : ℕ) (first : Toggle) {old : World} {n : ℕ} {sent : List ℕ}
+    {new : World} → IsSettled old.roots → Gave t ep first old n sent new → sent ≢ []
+    → new.shared ≡ false
     → Answerer t old new
 gone_answered t ep first settled moves.start some single = absurd (some refl)
-gone_answered t ep first {new} settled (moves.packet {n} {mid} bytes g full more fits puts) some single =
-    answerer_after_passed (gave_passed t ep first g) settled (ended_unshared puts single) (λ h. write_answered t ep (flips n first) bytes [] mid new h puts single)
+gone_answered t ep first {new} settled (moves.packet {n} {mid} bytes g full more fits puts) some
+    single =
+    answerer_after_passed (gave_passed t ep first g) settled (ended_unshared puts single)
+    (λ h. write_answered t ep (flips n first) bytes [] mid new h puts single)
 
-pub who_sends : (bytes : List ℕ) (pipe : Bulk) (u : Unit {0}) (left : Bulk) (old new : World) → bytes ≢ []
+pub who_sends : (bytes : List ℕ) (pipe : Bulk) (u : Unit {0}) (left : Bulk) (old new : World)
+    → bytes ≢ []
     → Sends bytes pipe old (Ok u) left new → new.shared ≡ false → Answerer pipe.target old new
 who_sends bytes pipe u left old new some x single =
     let works : pipe.condition ≢ Broken = λ e. cc (x.broken e).answer in
     let s = x.moved works some in
-    of_device pipe.target pipe.max (gone_answered (packet_target pipe.target pipe.max) pipe.ep pipe.toggle s.settled s.went.gone some single)
+    of_device pipe.target pipe.max (gone_answered (packet_target pipe.target pipe.max) pipe.ep
+    pipe.toggle s.settled s.went.gone some single)
 
-pub who_receives : (wanted : ℕ) (pipe : Bulk) (bytes : Vec ℕ) (left : Bulk) (old new : World) → wanted ≢ 0
-    → Receives wanted pipe old (Ok bytes) left new → new.shared ≡ false → Answerer pipe.target old new
+pub who_receives : (wanted : ℕ) (pipe : Bulk) (bytes : Vec ℕ) (left : Bulk) (old new : World)
+    → wanted ≢ 0
+    → Receives wanted pipe old (Ok bytes) left new → new.shared ≡ false
+    → Answerer pipe.target old new
 who_receives wanted pipe bytes left old new some x single =
     let works : pipe.condition ≢ Broken = λ e. cc (x.broken e).0 in
     let r = x.moved works some in
     let t = packet_target pipe.target pipe.max in
     let c = r.came in
     of_device pipe.target pipe.max
-    (answerer_after_passed (came_passed t pipe.ep pipe.toggle c.before) r.settled (ended_unshared c.came single)
+    (answerer_after_passed (came_passed t pipe.ep pipe.toggle c.before) r.settled
+    (ended_unshared c.came single)
     (λ h. read_answered t pipe.ep (flips c.packets pipe.toggle) c.last c.mid new h c.came single))
 
-module _ (pipe : Bulk) (why : PipeFault) (old new : World) (settled : IsSettled old.roots) (y : IsTransferAnswer why) (single : new.shared ≡ false) where
+module _ (pipe : Bulk) (why : PipeFault) (old new : World) (settled : IsSettled old.roots)
+    (y : IsTransferAnswer why) (single : new.shared ≡ false) where
   abbrev Packets : Target
   Packets = packet_target pipe.target pipe.max
 
-  not_gone_had : (total : List ℕ) → NotGone Packets pipe.ep pipe.toggle total old why new → HadOne pipe.target old
+  not_gone_had : (total : List ℕ) → NotGone Packets pipe.ep pipe.toggle total old why new
+      → HadOne pipe.target old
   not_gone_had total x =
       had_of_device pipe.target pipe.max
-      (failed_had heard_when_sent (out_attempt Packets pipe.ep (flips x.packets pipe.toggle) (take pipe.max x.rest)) new x.fault (gave_passed Packets pipe.ep pipe.toggle x.before) settled x.lost single
-      (λ h. write_had Packets pipe.ep (flips x.packets pipe.toggle) (take pipe.max x.rest) x.fault x.mid new h (trans_answer why x.fault x.told y) x.lost single))
+      (failed_had heard_when_sent (out_attempt Packets pipe.ep (flips x.packets pipe.toggle)
+      (take pipe.max x.rest)) new x.fault (gave_passed Packets pipe.ep pipe.toggle x.before)
+      settled x.lost single
+      (λ h. write_had Packets pipe.ep (flips x.packets pipe.toggle) (take pipe.max x.rest) x.fault
+      x.mid new h (trans_answer why x.fault x.told y) x.lost single))
 
-  not_come_had : (wanted : ℕ) → NotCame Packets pipe.ep pipe.toggle wanted old why new ⊎ NoRoomLeft Packets pipe.ep pipe.toggle wanted old why new → HadOne pipe.target old
+  not_come_had : (wanted : ℕ) → NotCame Packets pipe.ep pipe.toggle wanted old why new
+      ⊎ NoRoomLeft Packets pipe.ep pipe.toggle wanted old why new → HadOne pipe.target old
   not_come_had wanted (inl x) =
       had_of_device pipe.target pipe.max
-      (failed_had (heard_as (flips x.packets pipe.toggle)) (in_attempt Packets pipe.ep) new x.fault (came_passed Packets pipe.ep pipe.toggle x.before) settled x.lost single
-      (λ h. read_had Packets pipe.ep (flips x.packets pipe.toggle) x.fault x.mid new h (trans_answer why x.fault x.told y) x.lost single))
+      (failed_had (heard_as (flips x.packets pipe.toggle)) (in_attempt Packets pipe.ep) new x.fault
+      (came_passed Packets pipe.ep pipe.toggle x.before) settled x.lost single
+      (λ h. read_had Packets pipe.ep (flips x.packets pipe.toggle) x.fault x.mid new h
+      (trans_answer why x.fault x.told y) x.lost single))
   not_come_had wanted (inr x) =
       had_of_device pipe.target pipe.max
-      (had_one (answerer_after_passed (came_passed Packets pipe.ep pipe.toggle x.before) settled (ended_unshared x.came single)
-      (λ h. read_answered Packets pipe.ep (flips x.packets pipe.toggle) x.last x.mid new h x.came single)))
+      (had_one (answerer_after_passed (came_passed Packets pipe.ep pipe.toggle x.before) settled
+      (ended_unshared x.came single)
+      (λ h. read_answered Packets pipe.ep (flips x.packets pipe.toggle) x.last x.mid new h x.came
+      single)))
 
 not_broken : (why : PipeFault) → IsTransferAnswer why → ◌≢◌ {A = PipeFault} why pipe_fault.Broken
 not_broken why y e = subst IsTransferAnswer e y
 
-pub who_send_had : (bytes : List ℕ) (pipe : Bulk) (why : PipeFault) (left : Bulk) (old new : World) → IsTransferAnswer why
+pub who_send_had : (bytes : List ℕ) (pipe : Bulk) (why : PipeFault) (left : Bulk) (old new : World)
+    → IsTransferAnswer why
     → Sends bytes pipe old (Err why) left new → new.shared ≡ false → HadOne pipe.target old
 who_send_had bytes pipe why left old new y x single =
-    send_by (HadOne pipe.target old) (λ i. absurd (not_broken why y (cc i.answer))) (λ none i. cc i.answer)
+    send_by (HadOne pipe.target old) (λ i. absurd (not_broken why y (cc i.answer)))
+    (λ none i. cc i.answer)
     (λ works some m. not_gone_had pipe why old new m.settled y single bytes m.went) x
 
-pub who_receive_had : (wanted : ℕ) (pipe : Bulk) (why : PipeFault) (left : Bulk) (old new : World) → IsTransferAnswer why
+pub who_receive_had : (wanted : ℕ) (pipe : Bulk) (why : PipeFault) (left : Bulk) (old new : World)
+    → IsTransferAnswer why
     → Receives wanted pipe old (Err why) left new → new.shared ≡ false → HadOne pipe.target old
 who_receive_had wanted pipe why left old new y x single =
-    receive_by (HadOne pipe.target old) (λ broken kept same. absurd (not_broken why y (cc broken))) (λ bytes is none kept same. cc is)
+    receive_by (HadOne pipe.target old) (λ broken kept same. absurd (not_broken why y (cc broken)))
+    (λ bytes is none kept same. cc is)
     (λ works some m. not_come_had pipe why old new m.settled y single wanted m.came) x
 
 -- Polls
 
-pub who_polls : (pipe : Interrupt) (got : Option (ArrayVec ℕ)) (left : Interrupt) (old new : World) → IsSettled old.roots
+pub who_polls : (pipe : Interrupt) (got : Option (ArrayVec ℕ)) (left : Interrupt) (old new : World)
+    → IsSettled old.roots
     → Polls pipe old (Ok got) left new → new.shared ≡ false → Answerer pipe.target old new
-who_polls pipe None left old new settled x single = wait_answered pipe.target pipe.ep pipe.toggle old new settled x.asked single
-who_polls pipe (Some packet) left old new settled x single = poll_answered pipe.target pipe.ep pipe.toggle packet.items old new settled x.asked single
+who_polls pipe None left old new settled x single =
+    wait_answered pipe.target pipe.ep pipe.toggle old new settled x.asked single
+who_polls pipe (Some packet) left old new settled x single =
+    poll_answered pipe.target pipe.ep pipe.toggle packet.items old new settled x.asked single
 
-pub who_poll_had : (pipe : Interrupt) (why : PipeFault) (left : Interrupt) (old new : World) → IsSettled old.roots → IsTransferAnswer why
+pub who_poll_had : (pipe : Interrupt) (why : PipeFault) (left : Interrupt) (old new : World)
+    → IsSettled old.roots → IsTransferAnswer why
     → Polls pipe old (Err why) left new → new.shared ≡ false → HadOne pipe.target old
 who_poll_had pipe why left old new settled y x single =
     let n = x.asked in
-    poll_had pipe.target pipe.ep pipe.toggle n.fault old new settled (trans_answer why n.fault n.told y) n.polled single
+    poll_had pipe.target pipe.ep pipe.toggle n.fault old new settled
+    (trans_answer why n.fault n.told y) n.polled single

@@ -1,5 +1,7 @@
 -- Which attempts a transfer made, as a course of the world.
-use Rattle.std.proofs.Common.{inl, inr, ℕ, List, [], ◌∷◌, ◌++◌, length, take, min, ◌*◌, ◌<◌, ◌≤◌, Option, None, Some, Result, Ok, Err, refl, ◌≡◌, ◌⊎◌, sym, subst, ◌∙◌, arith, append_assoc, append-nil, length-append}
+use Rattle.std.proofs.Common.{inl, inr, ℕ, List, [], ◌∷◌, ◌++◌, length, take, min, ◌*◌, ◌<◌, ◌≤◌}
+use Rattle.std.proofs.Common.{Option, None, Some, Result, Ok, Err, refl, ◌≡◌, ◌⊎◌, sym, subst, ◌∙◌}
+use Rattle.std.proofs.Common.{arith, append_assoc, append-nil, length-append}
 use Rattle.std.specs.Global.{Vec}
 use Rattle.std.proofs.lemmas.List.{take_min}
 use Rattle.std.proofs.Math.Seq.{take-append_seam, take-length}
@@ -20,7 +22,8 @@ use Rattle.usb_transaction.specs.declared.fault.TransFault.{TransFault}
 use Rattle.usb_transaction.specs.declared.fault.TransFault.TheVariants as trans
 use Rattle.usb_transaction.specs.Attempts.{IsOnly}
 use Rattle.usb_transaction.specs.HeardOutcomes.{heard_as, heard_when_sent, set_up_as}
-use Rattle.usb_transaction.specs.AttemptLog.{TransactionDone, BusFailed, AttemptLog, start as none_yet, next, KeepsTrying, Transacted}
+use Rattle.usb_transaction.specs.AttemptLog.{TransactionDone, BusFailed, AttemptLog}
+use Rattle.usb_transaction.specs.AttemptLog.{start as none_yet, next, KeepsTrying, Transacted}
 use Rattle.usb_transaction.specs.Transactions.{in_attempt, out_attempt, setup_attempt}
 use Rattle.usb_transaction.proofs.Interface.{polled_attempts, trail_course}
 use Rattle.usb_pipe.specs.Attempts.{IsOfTransfer, TransferAttempts}
@@ -40,44 +43,73 @@ use Rattle.usb_pipe.proofs.BulkCalls.{receive_by, clear_by, send_by}
 use Rattle.usb_pipe.proofs.ControlSteps.{transacted_ended}
 
 -- a transaction of IN, or of the OUT that ends a read
-pub in_behind : {t : Target} (awaited : Toggle) {old new : World} {result : Result (List ℕ) TransFault} → TransactionDone (heard_as awaited) (in_attempt t 0) old result new → Course (IsBehind t) old new
+pub in_behind : {t : Target} (awaited : Toggle) {old new : World}
+    {result : Result (List ℕ) TransFault} → TransactionDone (heard_as awaited) (in_attempt t 0) old
+    result new → Course (IsBehind t) old new
 in_behind awaited e = trail_course (λ w made. inl refl) e.trail
 
-pub out_behind : {t : Target} {old new : World} {result : Result (List ℕ) TransFault} → TransactionDone heard_when_sent (out_attempt t 0 One []) old result new → Course (IsBehind t) old new
+pub out_behind : {t : Target} {old new : World} {result : Result (List ℕ) TransFault}
+    → TransactionDone heard_when_sent (out_attempt t 0 One []) old result new
+    → Course (IsBehind t) old new
 out_behind e = trail_course (λ w made. inr refl) e.trail
 
-pub goes_behind : {t : Target} {wanted : ℕ} {old : World} {n : ℕ} {got : List ℕ} {new : World} → Goes t wanted old n got new → Course (IsBehind t) old new
+pub goes_behind : {t : Target} {wanted : ℕ} {old : World} {n : ℕ} {got : List ℕ} {new : World}
+    → Goes t wanted old n got new → Course (IsBehind t) old new
 goes_behind {old = old} stages.start = here old
-goes_behind (stages.packet {n} bytes g x l) = course_joined (goes_behind g) (in_behind (flips n One) x)
+goes_behind (stages.packet {n} bytes g x l) =
+    course_joined (goes_behind g) (in_behind (flips n One) x)
 
-pub stage_behind : {t : Target} {wanted : ℕ} {bytes : List ℕ} {old new : World} → DataStage t wanted old bytes new → Course (IsBehind t) old new
+pub stage_behind : {t : Target} {wanted : ℕ} {bytes : List ℕ} {old new : World}
+    → DataStage t wanted old bytes new → Course (IsBehind t) old new
 stage_behind d = course_joined (goes_behind d.before) (in_behind (flips d.packets One) d.came)
 
 -- Which attempts a transfer made
 
 -- the attempts of a transaction whose attempt is of a kind, while it goes on
-module _ (K : Step → World → Type 0) (hear : _) (a : Attempt) {mid : World} (kind : (outcomes : List Outcome) (w : World) → AttemptLog a mid outcomes w → KeepsTrying hear outcomes → K (attempt a) w) where
-  trail_kind : {outcomes : List Outcome} {now : World} → AttemptLog a mid outcomes now → KeepsTrying hear outcomes → Course K mid now
+module _ (K : Step → World → Type 0) (hear : _) (a : Attempt) {mid : World}
+    (kind : (outcomes : List Outcome) (w : World) → AttemptLog a mid outcomes w
+    → KeepsTrying hear outcomes → K (attempt a) w) where
+  trail_kind : {outcomes : List Outcome} {now : World} → AttemptLog a mid outcomes now
+      → KeepsTrying hear outcomes → Course K mid now
   unfolding KeepsTrying
   trail_kind none_yet on = here mid
   trail_kind (next w r made) on = course_then (attempt a) (trail_kind r on.3) (kind _ _ r on.3)
 
-  last_kind : {last : Outcome} {outcomes : List Outcome} {now : World} → AttemptLog a mid (last ∷ outcomes) now → KeepsTrying hear outcomes → Course K mid now
+  last_kind : {last : Outcome} {outcomes : List Outcome} {now : World}
+      → AttemptLog a mid (last ∷ outcomes) now → KeepsTrying hear outcomes → Course K mid now
   last_kind (next w r made) on = course_then (attempt a) (trail_kind r on) (kind _ _ r on)
 
   -- a transfer that failed as its last transaction did
-  lost_kind : {A : Type 0} {old new : World} (why : PipeFault) (fault : TransFault) → why ≡ as_pipe_fault fault → Course K old mid → Transacted hear a mid (Err fault) new → TransferAttempts {A = A} K old (Err why) new
+  lost_kind : {A : Type 0} {old new : World} (why : PipeFault) (fault : TransFault)
+      → why ≡ as_pipe_fault fault → Course K old mid → Transacted hear a mid (Err fault) new
+      → TransferAttempts {A = A} K old (Err why) new
   lost_kind {A} {old} {new} why fault told c x = record {
-    whole = λ n. let o = transacted_ended A why fault told n x in course_joined c (last_kind o.trail o.onward);
+    whole = λ n. let o = transacted_ended A why fault told n x in
+        course_joined c (last_kind o.trail o.onward);
     cut = λ f e.
         let same : fault ≡ trans.Bus f = grind arith in
-        let o : BusFailed hear a mid f new = subst (λ g. Transacted hear a mid (Err g) new) same x in
-        record { mid = o.mid; course = course_joined c (trail_kind o.trail o.onward); last = a; is = kind _ _ o.trail o.onward; fits = o.fits; refused = o.refused; fails = o.fails };
+        let o : BusFailed hear a mid f new = subst (λ g. Transacted hear a mid (Err g) new) same
+        x in
+        record {
+          mid = o.mid;
+          course = course_joined c (trail_kind o.trail o.onward);
+          last = a;
+          is = kind _ _ o.trail o.onward;
+          fits = o.fits;
+          refused = o.refused;
+          fails = o.fails;
+        };
   }
 
 -- a call that makes no attempt
-idle_kind : {A : Type 0} {K : Step → World → Type 0} {old new : World} {result : Result A PipeFault} → new ≡ old → ((fault : BusFault) → result ≡ Err (pipe_fault.Bus fault) → ⊥) → TransferAttempts K old result new
-idle_kind {K} {old} kept sound = record { whole = λ n. subst (λ w. Course K old w) (sym kept) (here old); cut = λ f e. absurd (sound f e) }
+idle_kind : {A : Type 0} {K : Step → World → Type 0} {old new : World} {result : Result A PipeFault}
+    → new ≡ old → ((fault : BusFault) → result ≡ Err (pipe_fault.Bus fault) → ⊥)
+    → TransferAttempts K old result new
+idle_kind {K} {old} kept sound = record {
+  whole =
+      λ n. subst (λ w. Course K old w) (sym kept) (here old);
+  cut = λ f e. absurd (sound f e);
+}
 
 -- Control transfers
 
@@ -91,91 +123,198 @@ module _ (t : Target) (request : Setup) where
   asked_first : {old new : World} → SetUp t request old (Ok []) new → Course K old new
   asked_first e = trail_course (λ w made. inl refl) e.trail
 
-  no_set_up : {A : Type 0} (why : PipeFault) (fault : TransFault) (old new : World) → why ≡ as_pipe_fault fault → SetUp t request old (Err fault) new → TransferAttempts {A = A} K old (Err why) new
-  no_set_up why fault old new told x = lost_kind K set_up_as (setup_attempt t (bytes_of request)) (λ o w r on. inl refl) why fault told (here old) x
+  no_set_up : {A : Type 0} (why : PipeFault) (fault : TransFault) (old new : World)
+      → why ≡ as_pipe_fault fault → SetUp t request old (Err fault) new
+      → TransferAttempts {A = A} K old (Err why) new
+  no_set_up why fault old new told x = lost_kind K set_up_as (setup_attempt t (bytes_of request))
+      (λ o w r on. inl refl) why fault told (here old) x
 
-  no_data : (why : PipeFault) (old mid new : World) → Course K old mid → DataLost t request.length mid why new ⊎ NoRoom t request.length mid why new → TransferAttempts {A = Vec ℕ} K old (Err why) new
-  no_data why old mid new c (inl d) = lost_kind K (heard_as (flips d.packets One)) (in_attempt t 0) (λ o w r on. inr (inl refl)) why d.fault d.told (course_joined c (behind (goes_behind d.before))) d.lost
-  no_data why old mid new c (inr d) = record { whole = λ n. course_joined c (behind (course_joined (goes_behind d.before) (in_behind (flips d.packets One) d.came))); cut = λ f e. cc (d.told, e) }
+  no_data : (why : PipeFault) (old mid new : World) → Course K old mid
+      → DataLost t request.length mid why new ⊎ NoRoom t request.length mid why new
+      → TransferAttempts {A = Vec ℕ} K old (Err why) new
+  no_data why old mid new c (inl d) = lost_kind K (heard_as (flips d.packets One)) (in_attempt t 0)
+      (λ o w r on. inr (inl refl)) why d.fault d.told
+      (course_joined c (behind (goes_behind d.before))) d.lost
+  no_data why old mid new c (inr d) = record {
+    whole =
+        λ n. course_joined c (behind (course_joined (goes_behind d.before)
+        (in_behind (flips d.packets One) d.came)));
+    cut = λ f e. cc (d.told, e);
+  }
 
-  pub read_attempts : (result : Result (Vec ℕ) PipeFault) (old new : World) → Reads t request old result new → TransferAttempts (IsOfTransfer t request) old result new
-  read_attempts (Ok bytes) old new x = record { whole = λ n. course_joined (asked_first x.set_up) (behind (course_joined (stage_behind x.data_stage) (out_behind x.status))); cut = λ f e. cc e }
+  pub read_attempts : (result : Result (Vec ℕ) PipeFault) (old new : World)
+      → Reads t request old result new → TransferAttempts (IsOfTransfer t request) old result new
+  read_attempts (Ok bytes) old new x =
+      record {
+        whole = λ n. course_joined (asked_first x.set_up)
+            (behind (course_joined (stage_behind x.data_stage) (out_behind x.status)));
+        cut =
+            λ f e. cc e;
+      }
   read_attempts (Err why) old new (inl x) = no_set_up why x.fault old new x.told x.set_up
-  read_attempts (Err why) old new (inr (inl x)) = no_data why old x.mid new (asked_first x.set_up) x.data_stage
+  read_attempts (Err why) old new (inr (inl x)) =
+      no_data why old x.mid new (asked_first x.set_up) x.data_stage
   read_attempts (Err why) old new (inr (inr x)) =
-      lost_kind K heard_when_sent (out_attempt t 0 One []) (λ o w r on. inr (inr refl)) why x.fault x.told (course_joined (asked_first x.set_up) (behind (stage_behind x.data_stage))) x.status
+      lost_kind K heard_when_sent (out_attempt t 0 One []) (λ o w r on. inr (inr refl)) why x.fault
+      x.told (course_joined (asked_first x.set_up) (behind (stage_behind x.data_stage)))
+      x.status
 
-  pub write_attempts : (result : Result (Unit {0}) PipeFault) (old new : World) → Writes t request old result new → TransferAttempts (IsOfTransfer t request) old result new
-  write_attempts (Ok u) old new x = record { whole = λ n. course_joined (asked_first x.set_up) (behind (in_behind One x.status)); cut = λ f e. cc e }
+  pub write_attempts : (result : Result (Unit {0}) PipeFault) (old new : World)
+      → Writes t request old result new → TransferAttempts (IsOfTransfer t request) old result new
+  write_attempts (Ok u) old new x = record {
+    whole =
+        λ n. course_joined (asked_first x.set_up) (behind (in_behind One x.status));
+    cut =
+        λ f e. cc e;
+  }
   write_attempts (Err why) old new (inl x) = no_set_up why x.fault old new x.told x.set_up
-  write_attempts (Err why) old new (inr x) = lost_kind K (heard_as One) (in_attempt t 0) (λ o w r on. inr (inl refl)) why x.fault x.told (asked_first x.set_up) x.status
+  write_attempts (Err why) old new (inr x) = lost_kind K (heard_as One) (in_attempt t 0)
+      (λ o w r on. inr (inl refl)) why x.fault x.told (asked_first x.set_up) x.status
 
-pub clear_attempts : (pipe : Bulk) (result : Result (Unit {0}) PipeFault) (left : Bulk) (old new : World)
-    → Clears pipe old result left new → TransferAttempts (IsOfTransfer pipe.target (clear_endpoint_halt (halt_address pipe.ep pipe.is_in))) old result new
-clear_attempts pipe result left old new x = clear_by _ (λ ready i. idle_kind i.world_kept (λ f e. cc (i.answer, e))) (λ unready y. write_attempts pipe.target _ result old new y.stages) x
+pub clear_attempts : (pipe : Bulk) (result : Result (Unit {0}) PipeFault) (left : Bulk)
+    (old new : World)
+    → Clears pipe old result left new
+    → TransferAttempts (IsOfTransfer pipe.target
+    (clear_endpoint_halt (halt_address pipe.ep pipe.is_in))) old result new
+clear_attempts pipe result left old new x =
+    clear_by _ (λ ready i. idle_kind i.world_kept (λ f e. cc (i.answer, e)))
+    (λ unready y. write_attempts pipe.target _ result old new y.stages) x
 
 -- Pipes to the host
 
-came_attempts : (t : Target) (ep : ℕ) (first : Toggle) {old : World} {n : ℕ} {got : List ℕ} {new : World} → Came t ep first old n got new → Course (IsOnly (in_attempt t ep)) old new
+came_attempts : (t : Target) (ep : ℕ) (first : Toggle) {old : World} {n : ℕ} {got : List ℕ}
+    {new : World} → Came t ep first old n got new → Course (IsOnly (in_attempt t ep)) old new
 came_attempts t ep first {old = old} moves.start = here old
-came_attempts t ep first (moves.packet bytes c x full) = course_joined (came_attempts t ep first c) (trail_course (λ w made. refl) x.trail)
+came_attempts t ep first (moves.packet bytes c x full) =
+    course_joined (came_attempts t ep first c) (trail_course (λ w made. refl) x.trail)
 
-moved_attempts : (t : Target) (ep : ℕ) (first : Toggle) (wanted : ℕ) (result : Result (Vec ℕ) PipeFault) (old new : World) → ReceiveEnds t ep first wanted old result new → TransferAttempts (IsOnly (in_attempt t ep)) old result new
-moved_attempts t ep first wanted (Ok bytes) old new x = record { whole = λ n. course_joined (came_attempts t ep first x.before) (trail_course (λ w made. refl) x.came.trail); cut = λ f e. cc e }
-moved_attempts t ep first wanted (Err why) old new (inl x) = lost_kind _ (heard_as (flips x.packets first)) (in_attempt t ep) (λ o w r on. refl) why x.fault x.told (came_attempts t ep first x.before) x.lost
-moved_attempts t ep first wanted (Err why) old new (inr x) = record { whole = λ n. course_joined (came_attempts t ep first x.before) (trail_course (λ w made. refl) x.came.trail); cut = λ f e. cc (x.told, e) }
+moved_attempts : (t : Target) (ep : ℕ) (first : Toggle) (wanted : ℕ)
+    (result : Result (Vec ℕ) PipeFault) (old new : World)
+    → ReceiveEnds t ep first wanted old result new
+    → TransferAttempts (IsOnly (in_attempt t ep)) old result new
+moved_attempts t ep first wanted (Ok bytes) old new x =
+    record {
+      whole = λ n. course_joined (came_attempts t ep first x.before)
+          (trail_course (λ w made. refl) x.came.trail);
+      cut = λ f e. cc e;
+    }
+moved_attempts t ep first wanted (Err why) old new (inl x) =
+    lost_kind _ (heard_as (flips x.packets first)) (in_attempt t ep) (λ o w r on. refl) why x.fault
+    x.told (came_attempts t ep first x.before) x.lost
+moved_attempts t ep first wanted (Err why) old new (inr x) =
+    record {
+      whole = λ n. course_joined (came_attempts t ep first x.before)
+          (trail_course (λ w made. refl) x.came.trail);
+      cut = λ f e. cc (x.told, e);
+    }
 
-pub receive_attempts : (wanted : ℕ) (pipe : Bulk) (result : Result (Vec ℕ) PipeFault) (left : Bulk) (old new : World)
-    → Receives wanted pipe old result left new → TransferAttempts (IsOnly (in_attempt (packet_target pipe.target pipe.max) pipe.ep)) old result new
+pub receive_attempts : (wanted : ℕ) (pipe : Bulk) (result : Result (Vec ℕ) PipeFault) (left : Bulk)
+    (old new : World)
+    → Receives wanted pipe old result left new
+    → TransferAttempts (IsOnly (in_attempt (packet_target pipe.target pipe.max) pipe.ep)) old
+    result new
 receive_attempts wanted pipe result left old new x =
-    receive_by _ (λ broken kept same. idle_kind same (λ f e. cc (broken, e))) (λ bytes is none kept same. idle_kind same (λ f e. cc (is, e)))
-    (λ works some y. moved_attempts (packet_target pipe.target pipe.max) pipe.ep pipe.toggle wanted result old new y.came) x
+    receive_by _ (λ broken kept same. idle_kind same (λ f e. cc (broken, e)))
+    (λ bytes is none kept same. idle_kind same (λ f e. cc (is, e)))
+    (λ works some y. moved_attempts (packet_target pipe.target pipe.max) pipe.ep pipe.toggle wanted
+    result old new y.came) x
 
 -- Polls
 
-asked_attempts : (pipe : Interrupt) (result : Result (Option (ArrayVec ℕ)) PipeFault) (old new : World) → PollAsked pipe old result new → TransferAttempts (IsOnly (in_attempt pipe.target pipe.ep)) old result new
-asked_attempts pipe (Ok None) old new x = record { whole = λ n. trail_course (λ w made. refl) x.trail; cut = λ f e. cc e }
-asked_attempts pipe (Ok (Some packet)) old new x = record { whole = λ n. trail_course (λ w made. refl) x.trail; cut = λ f e. cc e }
+asked_attempts : (pipe : Interrupt) (result : Result (Option (ArrayVec ℕ)) PipeFault)
+    (old new : World) → PollAsked pipe old result new
+    → TransferAttempts (IsOnly (in_attempt pipe.target pipe.ep)) old result new
+asked_attempts pipe (Ok None) old new x =
+    record { whole = λ n. trail_course (λ w made. refl) x.trail; cut = λ f e. cc e }
+asked_attempts pipe (Ok (Some packet)) old new x =
+    record { whole = λ n. trail_course (λ w made. refl) x.trail; cut = λ f e. cc e }
 asked_attempts pipe (Err why) old new x =
-    let y = polled_attempts pipe.toggle (in_attempt pipe.target pipe.ep) (Err x.fault) old new x.polled in record { whole = λ n. y.whole (grind arith); cut = λ f e. y.cut f (grind arith) }
+    let y = polled_attempts pipe.toggle (in_attempt pipe.target pipe.ep) (Err x.fault) old new
+    x.polled in record {
+      whole = λ n. y.whole (grind arith);
+      cut =
+          λ f e. y.cut f (grind arith);
+    }
 
-pub poll_attempts : (pipe : Interrupt) (result : Result (Option (ArrayVec ℕ)) PipeFault) (left : Interrupt) (old new : World)
-    → Polls pipe old result left new → TransferAttempts (IsOnly (in_attempt pipe.target pipe.ep)) old result new
+pub poll_attempts : (pipe : Interrupt) (result : Result (Option (ArrayVec ℕ)) PipeFault)
+    (left : Interrupt) (old new : World)
+    → Polls pipe old result left new → TransferAttempts (IsOnly (in_attempt pipe.target pipe.ep))
+    old result new
 poll_attempts pipe result left old new x = asked_attempts pipe result old new x.asked
 
 -- Sends, packet by packet
 
 -- a packet is as many of the bytes from it on as fit, where it is full or nothing is behind it
-take-packet : (max : ℕ) (bytes rest : List ℕ) → length bytes ≤ max → (0 < length rest → length bytes ≡ max) → take max (bytes ++ rest) ≡ bytes
-take-packet max bytes [] short full = let all : min max (length bytes) ≡ length bytes = omega (arith, short) in rw (append-nil bytes, ← take_min max bytes, all) (take-length bytes)
-take-packet max bytes (b ∷ rest) short full = let e : max ≡ length bytes = sym (full (omega arith)) in rw e (take-append_seam bytes (b ∷ rest))
+take-packet : (max : ℕ) (bytes rest : List ℕ) → length bytes ≤ max
+    → (0 < length rest → length bytes ≡ max) → take max (bytes ++ rest) ≡ bytes
+take-packet max bytes [] short full = let all : min max (length bytes) ≡ length bytes =
+    omega (arith, short) in rw (append-nil bytes, ← take_min max bytes, all) (take-length bytes)
+take-packet max bytes (b ∷ rest) short full = let e : max ≡ length bytes =
+    sym (full (omega arith)) in rw e (take-append_seam bytes (b ∷ rest))
 
 module _ (t : Target) (ep : ℕ) (first : Toggle) (total : List ℕ) (old : World) where
   abbrev Kind : Step → World → Type 0
   Kind = SendsAt t ep first total old
 
-  moment_is : {n : ℕ} {sent : List ℕ} {mid : World} (rest : List ℕ) → Gave t ep first old n sent mid → length sent ≡ n * t.max → total ≡ sent ++ rest → (outcomes : List Outcome) (w : World)
-      → AttemptLog (out_attempt t ep (flips n first) (take t.max rest)) mid outcomes w → KeepsTrying heard_when_sent outcomes → Kind (attempt (out_attempt t ep (flips n first) (take t.max rest))) w
+  moment_is : {n : ℕ} {sent : List ℕ} {mid : World} (rest : List ℕ) → Gave t ep first old n sent mid
+      → length sent ≡ n * t.max → total ≡ sent ++ rest → (outcomes : List Outcome) (w : World)
+      → AttemptLog (out_attempt t ep (flips n first) (take t.max rest)) mid outcomes w
+      → KeepsTrying heard_when_sent outcomes
+      → Kind (attempt (out_attempt t ep (flips n first) (take t.max rest))) w
   moment_is {n} {sent} {mid} rest g full split outcomes w r on =
-      record { moment = record { packets = n; sent = sent; rest = rest; mid = mid; before = g; full = full; split = split; outcomes = outcomes; trail = r; onward = on }; is = refl }
+      record {
+        moment = record {
+          packets = n;
+          sent = sent;
+          rest = rest;
+          mid = mid;
+          before = g;
+          full = full;
+          split = split;
+          outcomes = outcomes;
+          trail = r;
+          onward = on;
+        };
+        is = refl;
+      }
 
   -- packets that were acknowledged, with the rest behind them
-  gave_course : {n : ℕ} {sent : List ℕ} {now : World} → Gave t ep first old n sent now → (rest : List ℕ) → total ≡ sent ++ rest → (0 < length rest → length sent ≡ n * t.max) → Course Kind old now
+  gave_course : {n : ℕ} {sent : List ℕ} {now : World} → Gave t ep first old n sent now
+      → (rest : List ℕ) → total ≡ sent ++ rest → (0 < length rest → length sent ≡ n * t.max)
+      → Course Kind old now
   gave_course moves.start rest split full = here old
-  gave_course {now = now} (moves.packet {n} {sent} {mid} bytes g even some fits puts) rest split full =
+  gave_course {now = now} (moves.packet {n} {sent} {mid} bytes g even some fits puts) rest split
+      full =
       let j = length-append sent bytes in
-      let front : take t.max (bytes ++ rest) ≡ bytes = take-packet t.max bytes rest fits (λ lt. let f = full lt in omega (arith, j, f, even)) in
+      let front : take t.max (bytes ++ rest) ≡ bytes =
+      take-packet t.max bytes rest fits (λ lt. let f = full lt in omega (arith, j, f, even)) in
       let behind : total ≡ sent ++ (bytes ++ rest) = split ∙ append_assoc sent bytes rest in
-      let went : TransactionDone heard_when_sent (out_attempt t ep (flips n first) (take t.max (bytes ++ rest))) mid (Ok []) now = rw front puts in
-      course_joined (gave_course g (bytes ++ rest) behind (λ lt. even)) (last_kind Kind heard_when_sent _ (moment_is (bytes ++ rest) g even behind) went.trail went.onward)
+      let went : TransactionDone heard_when_sent
+      (out_attempt t ep (flips n first) (take t.max (bytes ++ rest))) mid (Ok []) now =
+      rw front puts in
+      course_joined (gave_course g (bytes ++ rest) behind (λ lt. even))
+      (last_kind Kind heard_when_sent _ (moment_is (bytes ++ rest) g even behind) went.trail
+      went.onward)
 
-  send_ends : (result : Result (Unit {0}) PipeFault) (new : World) → SendEnds t ep first total old result new → TransferAttempts Kind old result new
-  send_ends (Ok done) new x = record { whole = λ n. gave_course x.gone [] (sym (append-nil total)) (λ lt. absurd (omega (arith, lt))); cut = λ f e. cc e }
+  send_ends : (result : Result (Unit {0}) PipeFault) (new : World)
+      → SendEnds t ep first total old result new → TransferAttempts Kind old result new
+  send_ends (Ok done) new x = record {
+    whole = λ n. gave_course x.gone [] (sym (append-nil total))
+        (λ lt. absurd (omega (arith, lt)));
+    cut = λ f e. cc e;
+  }
   send_ends (Err why) new x =
-      lost_kind Kind heard_when_sent (out_attempt t ep (flips x.packets first) (take t.max x.rest)) (moment_is x.rest x.before x.full x.split) why x.fault x.told (gave_course x.before x.rest x.split (λ lt. x.full)) x.lost
+      lost_kind Kind heard_when_sent (out_attempt t ep (flips x.packets first) (take t.max x.rest))
+      (moment_is x.rest x.before x.full x.split) why x.fault x.told
+      (gave_course x.before x.rest x.split (λ lt. x.full)) x.lost
 
-pub send_attempts : (bytes : List ℕ) (pipe : Bulk) (result : Result (Unit {0}) PipeFault) (left : Bulk) (old new : World)
-    → Sends bytes pipe old result left new → TransferAttempts (SendsAt (packet_target pipe.target pipe.max) pipe.ep pipe.toggle bytes old) old result new
+pub send_attempts : (bytes : List ℕ) (pipe : Bulk) (result : Result (Unit {0}) PipeFault)
+    (left : Bulk) (old new : World)
+    → Sends bytes pipe old result left new
+    → TransferAttempts (SendsAt (packet_target pipe.target pipe.max) pipe.ep pipe.toggle bytes
+    old) old result new
 send_attempts bytes pipe result left old new x =
-    send_by _ (λ i. idle_kind i.world_kept (λ f e. cc (i.answer, e))) (λ none i. idle_kind i.world_kept (λ f e. cc (i.answer, e)))
-    (λ works some y. send_ends (packet_target pipe.target pipe.max) pipe.ep pipe.toggle bytes old result new y.went) x
+    send_by _ (λ i. idle_kind i.world_kept (λ f e. cc (i.answer, e)))
+    (λ none i. idle_kind i.world_kept (λ f e. cc (i.answer, e)))
+    (λ works some y. send_ends (packet_target pipe.target pipe.max) pipe.ep pipe.toggle bytes old
+    result new y.went) x

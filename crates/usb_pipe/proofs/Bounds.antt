@@ -1,5 +1,6 @@
 -- How many attempts a control transfer may take.
-use Rattle.std.proofs.Common.{◌≡◌, refl, arith, true, false, Bool, ℕ, ◌+◌, ◌*◌, ◌≤◌, nat_le, if◌then◌else◌, mul-le-mul_left}
+use Rattle.std.proofs.Common.{◌≡◌, refl, arith, true, false, Bool, ℕ, ◌+◌, ◌*◌, ◌≤◌, nat_le}
+use Rattle.std.proofs.Common.{if◌then◌else◌, mul-le-mul_left}
 use Rattle.std.proofs.lemmas.Bool.{le-leb, leb-true}
 use Rattle.usb_transaction.specs.Transactions.{transaction_bound}
 use Rattle.usb_pipe.specs.Control.{byte_bound, control_bound, write_bound}
@@ -12,11 +13,14 @@ bound_wide max length wide = rw (le-leb 8 max wide) refl
 pub bound_grows : (max m n : ℕ) → m ≤ n → byte_bound max * m ≤ byte_bound max * n
 bound_grows max m n le = mul-le-mul_left (byte_bound max) le
 
-full_packet_by : (b : Bool) (max m n : ℕ) → nat_le 8 max ≡ b → 1 ≤ max → m + max ≤ n → (if b then 100 else transaction_bound) * m + transaction_bound ≤ (if b then 100 else transaction_bound) * n
+full_packet_by : (b : Bool) (max m n : ℕ) → nat_le 8 max ≡ b → 1 ≤ max → m + max ≤ n
+    → (if b then 100 else transaction_bound) * m + transaction_bound
+    ≤ (if b then 100 else transaction_bound) * n
 full_packet_by true max m n is some le = let wide : 8 ≤ max = leb-true 8 max is in omega arith
 full_packet_by false max m n is some le = omega arith
 
 -- a packet of the maximum pays for its transaction
-pub full_packet : (max m n : ℕ) → 1 ≤ max → m + max ≤ n → byte_bound max * m + transaction_bound ≤ byte_bound max * n
+pub full_packet : (max m n : ℕ) → 1 ≤ max → m + max ≤ n → byte_bound max * m + transaction_bound
+    ≤ byte_bound max * n
 unfolding byte_bound
 full_packet max m n some le = full_packet_by (nat_le 8 max) max m n refl some le

@@ -1,5 +1,6 @@
 -- A call through a bulk pipe: it made no attempt, or its transfer.
-use Rattle.std.proofs.Common.{◌≡◌, ◌≢◌, ◌∙◌, ◌⊎◌, inl, inr, refl, sym, arith, eq-zero-or-pos, ℕ, List, [], ◌∷◌, length, Result, Ok, Err, MatchResult}
+use Rattle.std.proofs.Common.{◌≡◌, ◌≢◌, ◌∙◌, ◌⊎◌, inl, inr, refl, sym, arith, eq-zero-or-pos, ℕ}
+use Rattle.std.proofs.Common.{List, [], ◌∷◌, length, Result, Ok, Err, MatchResult}
 use Rattle.std.specs.Global.{Vec}
 use Rattle.std.specs.Int.{div_ceil}
 use Rattle.usb_packet.specs.declared.Toggle.{Toggle}
@@ -19,42 +20,70 @@ condition_decided : (c d : Condition) → (c ≡ d) ⊎ (c ≢ d)
 condition_decided c d = grind arith
 
 pub ready_or : (G : Type 0) (c : Condition) → c ≢ Broken → (c ≡ Ready → G) → (c ≡ Halted → G) → G
-ready_or G c works ready halted = elim (condition_decided c Ready) [ inl e ↦ ready e | inr n ↦ halted (grind arith) ]
+ready_or G c works ready halted = elim (condition_decided c Ready) [
+  | inl e ↦ ready e
+  | inr n ↦
+      halted (grind arith)
+]
 
-pub send_by : {bytes : List ℕ} {pipe : Bulk} {old : World} {result : Result (Unit {0}) PipeFault} {left : Bulk} {new : World} (G : Type 0)
-    → (Idle (Err pipe_fault.Broken) pipe old result left new → G) → (bytes ≡ [] → Idle (Ok tt) pipe old result left new → G)
-    → (pipe.condition ≢ Broken → bytes ≢ [] → MovedOut (div_ceil (length bytes) pipe.max) bytes pipe old result left new → G) → Sends bytes pipe old result left new → G
-send_by {bytes} {pipe} G broken nothing moved x = elim (condition_decided pipe.condition Broken) [ inl e ↦ broken (x.broken e) | inr works ↦ by_bytes works bytes refl ]
+pub send_by : {bytes : List ℕ} {pipe : Bulk} {old : World} {result : Result (Unit {0}) PipeFault}
+    {left : Bulk} {new : World} (G : Type 0)
+    → (Idle (Err pipe_fault.Broken) pipe old result left new → G)
+    → (bytes ≡ [] → Idle (Ok tt) pipe old result left new → G)
+    → (pipe.condition ≢ Broken → bytes ≢ [] → MovedOut (div_ceil (length bytes) pipe.max) bytes pipe
+    old result left new → G) → Sends bytes pipe old result left new → G
+send_by {bytes} {pipe} G broken nothing moved x =
+    elim (condition_decided pipe.condition Broken) [
+      | inl e ↦ broken (x.broken e)
+      | inr works ↦
+          by_bytes works bytes refl
+    ]
   where
     by_bytes : pipe.condition ≢ Broken → (b : List ℕ) → bytes ≡ b → G
     by_bytes works [] e = nothing e (x.nothing works e)
-    by_bytes works (b ∷ more) e = moved works (λ h. cc (sym e ∙ h)) (x.moved works (λ h. cc (sym e ∙ h)))
+    by_bytes works (b ∷ more) e = moved works (λ h. cc (sym e ∙ h))
+        (x.moved works (λ h. cc (sym e ∙ h)))
 
-pub receive_by : {wanted : ℕ} {pipe : Bulk} {old : World} {result : Result (Vec ℕ) PipeFault} {left : Bulk} {new : World} (G : Type 0)
-    → (result ≡ Err pipe_fault.Broken → left ≡ pipe → new ≡ old → G) → ((bytes : Vec ℕ) → result ≡ Ok bytes → bytes.items ≡ [] → left ≡ pipe → new ≡ old → G)
-    → (pipe.condition ≢ Broken → wanted ≢ 0 → MovedIn wanted pipe old result left new → G) → Receives wanted pipe old result left new → G
-receive_by {wanted} {pipe} {old} {result} {left} {new} G broken nothing moved x = elim (condition_decided pipe.condition Broken) [
-  | inl e ↦ (let b = x.broken e in broken b.0 b.1 b.2)
-  | inr works ↦ elim (eq-zero-or-pos wanted) [
-    | inl e ↦ (let n = x.nothing works e in by_answer result refl n.0 n.1 n.2)
-    | inr some ↦ moved works (λ e. absurd (omega (arith, some, e))) (x.moved works (λ e. absurd (omega (arith, some, e))))
-  ]
-]
+pub receive_by : {wanted : ℕ} {pipe : Bulk} {old : World} {result : Result (Vec ℕ) PipeFault}
+    {left : Bulk} {new : World} (G : Type 0)
+    → (result ≡ Err pipe_fault.Broken → left ≡ pipe → new ≡ old → G)
+    → ((bytes : Vec ℕ) → result ≡ Ok bytes → bytes.items ≡ [] → left ≡ pipe → new ≡ old → G)
+    → (pipe.condition ≢ Broken → wanted ≢ 0 → MovedIn wanted pipe old result left new → G)
+    → Receives wanted pipe old result left new → G
+receive_by {wanted} {pipe} {old} {result} {left} {new} G broken nothing moved x =
+    elim (condition_decided pipe.condition Broken) [
+      | inl e ↦ (let b = x.broken e in broken b.0 b.1 b.2)
+      | inr works ↦ elim (eq-zero-or-pos wanted) [
+        | inl e ↦ (let n = x.nothing works e in by_answer result refl n.0 n.1 n.2)
+        | inr some ↦ moved works (λ e. absurd (omega (arith, some, e)))
+            (x.moved works (λ e. absurd (omega (arith, some, e))))
+      ]
+    ]
   where
-    by_answer : (r : Result (Vec ℕ) PipeFault) → result ≡ r → MatchResult r (λ bytes. bytes.items ≡ []) (λ _. ⊥) → left ≡ pipe → new ≡ old → G
+    by_answer : (r : Result (Vec ℕ) PipeFault) → result ≡ r
+        → MatchResult r (λ bytes. bytes.items ≡ []) (λ _. ⊥) → left ≡ pipe → new ≡ old → G
     by_answer (Ok bytes) is none kept same = nothing bytes is none kept same
     by_answer (Err why) is none kept same = absurd none
 
-pub clear_by : {pipe : Bulk} {old : World} {result : Result (Unit {0}) PipeFault} {left : Bulk} {new : World} (G : Type 0)
-    → (pipe.condition ≡ Ready → Idle (Ok tt) pipe old result left new → G) → (pipe.condition ≢ Ready → Cleared pipe old result left new → G) → Clears pipe old result left new → G
-clear_by {pipe} G ready sent x = elim (condition_decided pipe.condition Ready) [ inl e ↦ ready e (x.ready e) | inr n ↦ sent n (x.sent n) ]
+pub clear_by : {pipe : Bulk} {old : World} {result : Result (Unit {0}) PipeFault} {left : Bulk}
+    {new : World} (G : Type 0)
+    → (pipe.condition ≡ Ready → Idle (Ok tt) pipe old result left new → G)
+    → (pipe.condition ≢ Ready → Cleared pipe old result left new → G)
+    → Clears pipe old result left new → G
+clear_by {pipe} G ready sent x = elim (condition_decided pipe.condition Ready) [
+  | inl e ↦
+      ready e (x.ready e)
+  | inr n ↦ sent n (x.sent n)
+]
 
 -- no device remembers a packet between two packets of a transfer
 
-pub gave_settled : {t : Target} {ep : ℕ} {first : Toggle} {old : World} {n : ℕ} {sent : List ℕ} {new : World} → Gave t ep first old n sent new → IsSettled old.roots → IsSettled new.roots
+pub gave_settled : {t : Target} {ep : ℕ} {first : Toggle} {old : World} {n : ℕ} {sent : List ℕ}
+    {new : World} → Gave t ep first old n sent new → IsSettled old.roots → IsSettled new.roots
 gave_settled start h = h
 gave_settled (packet bytes g full some fits puts) h = ended_settled puts (gave_settled g h)
 
-pub received_settled : {t : Target} {ep : ℕ} {first : Toggle} {old : World} {n : ℕ} {got : List ℕ} {new : World} → Came t ep first old n got new → IsSettled old.roots → IsSettled new.roots
+pub received_settled : {t : Target} {ep : ℕ} {first : Toggle} {old : World} {n : ℕ} {got : List ℕ}
+    {new : World} → Came t ep first old n got new → IsSettled old.roots → IsSettled new.roots
 received_settled start h = h
 received_settled (packet bytes c fetches full) h = ended_settled fetches (received_settled c h)

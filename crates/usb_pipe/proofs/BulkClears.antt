@@ -1,11 +1,14 @@
 -- What a clear of a halt leaves of each device, why it fails, and the record of a call.
 use Rattle.usb_device.specs.Tree.{Location}
-use Rattle.std.proofs.Common.{◌≡◌, ◌≢◌, ◌⊎◌, inl, inr, ◌∙◌, refl, sym, ap, subst, arith, false, true, Bool, ℕ, ◌+◌, ◌*◌, ◌/◌, ◌%◌, ◌<◌, ◌==◌, List, [], ◌∷◌, Option, None, Some, Result, Ok, Err, OnOk, MatchResult}
+use Rattle.std.proofs.Common.{◌≡◌, ◌≢◌, ◌⊎◌, inl, inr, ◌∙◌, refl, sym, ap, subst, arith, false}
+use Rattle.std.proofs.Common.{true, Bool, ℕ, ◌+◌, ◌*◌, ◌/◌, ◌%◌, ◌<◌, ◌==◌, List, [], ◌∷◌, Option}
+use Rattle.std.proofs.Common.{None, Some, Result, Ok, Err, OnOk, MatchResult}
 use Rattle.std.specs.Prelude.{⊤}
 use Rattle.std.proofs.lemmas.Bool.Decides.{nat_tests}
 use Rattle.usb_descriptor.specs.declared.fault.DescriptorFault.{DescriptorFault}
 use Rattle.usb_descriptor.specs.declared.item.Item.{Item}
-use Rattle.usb_descriptor.specs.Choice.{counts_after, picked, first_from, first_counting, in_config, bulk_out_at, bulk_out_of, bulk_described as bulk_in_text}
+use Rattle.usb_descriptor.specs.Choice.{counts_after, picked, first_from, first_counting, in_config}
+use Rattle.usb_descriptor.specs.Choice.{bulk_out_at, bulk_out_of, bulk_described as bulk_in_text}
 use Rattle.usb_request.specs.declared.setup.Setup.{Setup}
 use Rattle.usb_request.specs.Layout.{bytes_of, setup_of}
 use Rattle.usb_request.specs.Requests.{clear_endpoint_halt}
@@ -37,14 +40,17 @@ use Rattle.usb_pipe.specs.declared.fault.PipeFault.TheVariants as pipe_fault
 use Rattle.usb_pipe.specs.Bulk.{Bulk, is_ready, halt_address, cleared, Cleared, Clears}
 use Rattle.usb_pipe.specs.Control.{FaultAfter}
 use Rattle.usb_pipe.specs.Failures.{WriteFailure}
-use Rattle.usb_pipe.specs.Leaves.{EffectOrNone, none, some, whole, WasRefused, WriteLeaves, OutPipeInSync, InPipeInSync, ClearLeaves, IsNoBusFault, OnlyEndpoint}
+use Rattle.usb_pipe.specs.Leaves.{EffectOrNone, none, some, whole, WasRefused, WriteLeaves}
+use Rattle.usb_pipe.specs.Leaves.{OutPipeInSync, InPipeInSync, ClearLeaves, IsNoBusFault}
+use Rattle.usb_pipe.specs.Leaves.{OnlyEndpoint}
 use Rattle.usb_pipe.specs.Transfers.{BulkClear, Unshared}
 use Rattle.usb_pipe.proofs.Answerers.{who_writes}
 use Rattle.usb_pipe.proofs.BulkCalls.{clear_by}
 use Rattle.usb_pipe.proofs.ControlSteps.{only_stage}
 use Rattle.usb_pipe.proofs.ControlTransfers.{write_leaves, write_why}
 
--- The number of a bulk OUT endpoint, as it is read from the configuration (9.6.6): where there is one, it is below 16
+-- The number of a bulk OUT endpoint, as it is read from the configuration (9.6.6): where there is
+-- one, it is below 16
 
 abbrev IsSmallEndpoint : Option (ℕ × ℕ) → Type 0
 IsSmallEndpoint None = ⊤
@@ -57,11 +63,17 @@ small_out endpoint = grind arith
 small_picked : (counts : Bool) (item : Item) → IsSmallEndpoint (picked bulk_out_at counts item)
 small_picked counts item = grind (arith, small_out)
 
-small_first : (counts : Bool) (items : List Item) → IsSmallEndpoint (first_from bulk_out_at counts items)
+small_first : (counts : Bool) (items : List Item)
+    → IsSmallEndpoint (first_from bulk_out_at counts items)
 small_first counts [] = tt
-small_first counts (item ∷ items) = grind (arith, small_picked counts item, small_first (counts_after counts item) items)
+small_first counts (item ∷ items) = grind (
+  arith,
+  small_picked counts item,
+  small_first (counts_after counts item) items,
+)
 
-small_config : (text : Result (List ℕ) DescriptorFault) → IsSmallEndpoint (in_config bulk_out_at text)
+small_config : (text : Result (List ℕ) DescriptorFault)
+    → IsSmallEndpoint (in_config bulk_out_at text)
 unfolding first_counting
 small_config text = grind (arith, small_first)
 
@@ -82,15 +94,23 @@ names_out e most s i =
     let is_out : (e + 0 == e) ≡ true = grind (arith, nat_tests) in
     rw (not_status, i.endpoint, is_out)
 
-names_in : (e most : ℕ) (s : State) → IsSource e most s → served s.spec s.registers (128 + e) ≡ Some BulkIn
+names_in : (e most : ℕ) (s : State) → IsSource e most s → served s.spec s.registers (128 + e)
+    ≡ Some BulkIn
 names_in e most s i =
     let status : (128 + e == 129) ≡ (e == 1) = grind (arith, nat_tests) in
     let is_in : (e + 128 == 128 + e) ≡ true = grind (arith, nat_tests) in
-    rw (status, i.alone, far e (bulk_of s false) (small_out_end s.spec s.registers), i.endpoint, is_in)
+    rw (
+      status,
+      i.alone,
+      far e (bulk_of s false) (small_out_end s.spec s.registers),
+      i.endpoint,
+      is_in,
+    )
 
 -- The request
 
-outcome-clear_halt : (s : Spec) (g : Registers) (index : ℕ) → outcome s g (clear_endpoint_halt index) ≡ on_endpoint unhalts (served s g index)
+outcome-clear_halt : (s : Spec) (g : Registers) (index : ℕ)
+    → outcome s g (clear_endpoint_halt index) ≡ on_endpoint unhalts (served s g index)
 unfolding outcome clear_endpoint_halt
 outcome-clear_halt s g index = refl
 
@@ -105,7 +125,8 @@ harmless index = refl
 pub two_bytes_word : (n : ℕ) → n % 256 + 256 * (n / 256) ≡ n
 two_bytes_word n = omega arith
 
-same_request : (index : ℕ) → setup_of (bytes_of (clear_endpoint_halt index)) ≡ clear_endpoint_halt index
+same_request : (index : ℕ) → setup_of (bytes_of (clear_endpoint_halt index))
+    ≡ clear_endpoint_halt index
 unfolding clear_endpoint_halt bytes_of setup_of
 same_request index = rw (two_bytes_word index)
 
@@ -113,54 +134,101 @@ same_request index = rw (two_bytes_word index)
 abbrev pub clear_of : Bulk → Setup
 clear_of pipe = clear_endpoint_halt (halt_address pipe.ep pipe.is_in)
 
-pub asks_out : (pipe : Bulk) (s : State) → pipe.is_in ≡ false → IsSink pipe.ep pipe.max s → outcome s.spec s.registers (clear_of pipe) ≡ unhalts BulkOut
-asks_out pipe s out i = outcome-clear_halt s.spec s.registers (halt_address pipe.ep pipe.is_in) ∙ rw (out, names_out pipe.ep pipe.max s i)
+pub asks_out : (pipe : Bulk) (s : State) → pipe.is_in ≡ false → IsSink pipe.ep pipe.max s
+    → outcome s.spec s.registers (clear_of pipe) ≡ unhalts BulkOut
+asks_out pipe s out i = outcome-clear_halt s.spec s.registers (halt_address pipe.ep pipe.is_in)
+    ∙ rw (out, names_out pipe.ep pipe.max s i)
 
-pub clear_of-in : (pipe : Bulk) (s : State) → pipe.is_in ≡ true → IsSource pipe.ep pipe.max s → outcome s.spec s.registers (clear_of pipe) ≡ unhalts BulkIn
-clear_of-in pipe s is i = outcome-clear_halt s.spec s.registers (halt_address pipe.ep pipe.is_in) ∙ rw (is, names_in pipe.ep pipe.max s i)
+pub clear_of-in : (pipe : Bulk) (s : State) → pipe.is_in ≡ true → IsSource pipe.ep pipe.max s
+    → outcome s.spec s.registers (clear_of pipe) ≡ unhalts BulkIn
+clear_of-in pipe s is i = outcome-clear_halt s.spec s.registers (halt_address pipe.ep pipe.is_in)
+    ∙ rw (is, names_in pipe.ep pipe.max s i)
 
--- What the request leaves of a device that has the endpoint: only the endpoint began again, or nothing but the stage is another
+-- What the request leaves of a device that has the endpoint: only the endpoint began again, or
+-- nothing but the stage is another
 
 abbrev OnlyRested : ServedEndpoint → State → State → Type 0
 OnlyRested which s v = OnlyStage (with_endpoint_state s which rested) v
 
 only_kept : (which : ServedEndpoint) (s v : State) → OnlyStage s v → OnlyEndpoint which s v
-only_kept BulkOut s v o = o ∙ ap (λ (e : EndpointState). record s { bulk_out = e; memory = v.memory; naks = v.naks; stage = v.stage }) (sym (ap (λ (x : State). x.bulk_out) o))
-only_kept BulkIn s v o = o ∙ ap (λ (e : EndpointState). record s { bulk_in = e; memory = v.memory; naks = v.naks; stage = v.stage }) (sym (ap (λ (x : State). x.bulk_in) o))
-only_kept Changes s v o = o ∙ ap (λ (e : EndpointState). record s { changes = e; memory = v.memory; naks = v.naks; stage = v.stage }) (sym (ap (λ (x : State). x.changes) o))
+only_kept BulkOut s v o = o ∙ ap (λ (e : EndpointState). record s {
+  bulk_out = e;
+  memory = v.memory;
+  naks = v.naks;
+  stage = v.stage;
+}) (sym (ap (λ (x : State). x.bulk_out) o))
+only_kept BulkIn s v o = o ∙ ap (λ (e : EndpointState). record s {
+  bulk_in = e;
+  memory = v.memory;
+  naks = v.naks;
+  stage = v.stage;
+}) (sym (ap (λ (x : State). x.bulk_in) o))
+only_kept Changes s v o = o ∙ ap (λ (e : EndpointState). record s {
+  changes = e;
+  memory = v.memory;
+  naks = v.naks;
+  stage = v.stage;
+}) (sym (ap (λ (x : State). x.changes) o))
 
 only_rested : (which : ServedEndpoint) (s v : State) → OnlyRested which s v → OnlyEndpoint which s v
-only_rested BulkOut s v o = o ∙ ap (λ (e : EndpointState). record s { bulk_out = e; memory = v.memory; naks = v.naks; stage = v.stage }) (sym (ap (λ (x : State). x.bulk_out) o))
-only_rested BulkIn s v o = o ∙ ap (λ (e : EndpointState). record s { bulk_in = e; memory = v.memory; naks = v.naks; stage = v.stage }) (sym (ap (λ (x : State). x.bulk_in) o))
-only_rested Changes s v o = o ∙ ap (λ (e : EndpointState). record s { changes = e; memory = v.memory; naks = v.naks; stage = v.stage }) (sym (ap (λ (x : State). x.changes) o))
+only_rested BulkOut s v o = o ∙ ap (λ (e : EndpointState). record s {
+  bulk_out = e;
+  memory =
+      v.memory;
+  naks = v.naks;
+  stage = v.stage;
+}) (sym (ap (λ (x : State). x.bulk_out) o))
+only_rested BulkIn s v o = o ∙ ap (λ (e : EndpointState). record s {
+  bulk_in = e;
+  memory = v.memory;
+  naks = v.naks;
+  stage = v.stage;
+}) (sym (ap (λ (x : State). x.bulk_in) o))
+only_rested Changes s v o = o ∙ ap (λ (e : EndpointState). record s {
+  changes = e;
+  memory =
+      v.memory;
+  naks = v.naks;
+  stage = v.stage;
+}) (sym (ap (λ (x : State). x.changes) o))
 
-only_either : (which : ServedEndpoint) (s v : State) → OnlyStage s v ⊎ OnlyRested which s v → OnlyEndpoint which s v
+only_either : (which : ServedEndpoint) (s v : State) → OnlyStage s v ⊎ OnlyRested which s v
+    → OnlyEndpoint which s v
 only_either which s v (inl o) = only_kept which s v o
 only_either which s v (inr o) = only_rested which s v o
 
 -- a device that was asked, or any other
-only_by : (which : ServedEndpoint) (s v : State) (at : Bool) → (at ≡ false → v ≡ s) → (at ≡ true → OnlyEndpoint which s v) → OnlyEndpoint which s v
+only_by : (which : ServedEndpoint) (s v : State) (at : Bool) → (at ≡ false → v ≡ s)
+    → (at ≡ true → OnlyEndpoint which s v) → OnlyEndpoint which s v
 only_by which s v true others asked = asked refl
-only_by which s v false others asked = subst (OnlyEndpoint which s) (sym (others refl)) (only_kept which s s refl)
+only_by which s v false others asked = subst (OnlyEndpoint which s) (sym (others refl))
+    (only_kept which s s refl)
 
-registers_kept : (which : ServedEndpoint) (s : State) → (with_endpoint_state s which rested).registers ≡ s.registers
+registers_kept : (which : ServedEndpoint) (s : State)
+    → (with_endpoint_state s which rested).registers ≡ s.registers
 registers_kept which s = grind arith
 
 -- a status stage that gives no address leaves the registers
-pub given_registers : (address : Option ℕ) (s v : State) → address ≡ None → StatusGiven address s v → v.registers ≡ s.registers
+pub given_registers : (address : Option ℕ) (s v : State) → address ≡ None → StatusGiven address s v
+    → v.registers ≡ s.registers
 given_registers address s v e x = grind arith
 
-module _ (request : Setup) (which : ServedEndpoint) (s : State) (is : outcome s.spec s.registers request ≡ unhalts which) where
-  accepted_rests : (row : List PortState) (v : State) → OnlyControl (accepted s row request) v → v.registers ≡ (accepted s row request).registers → OnlyRested which s v
+module _ (request : Setup) (which : ServedEndpoint) (s : State)
+    (is : outcome s.spec s.registers request ≡ unhalts which) where
+  accepted_rests : (row : List PortState) (v : State) → OnlyControl (accepted s row request) v
+      → v.registers ≡ (accepted s row request).registers → OnlyRested which s v
   accepted_rests row v o e = grind (arith, only_stage, registers_kept)
 
-  ended_rests : (row : List PortState) (address : Option ℕ) (v : State) → first_stage row request.length (outcome s.spec s.registers request) ≡ ending address → StatusGiven address (accepted s row request) v
+  ended_rests : (row : List PortState) (address : Option ℕ) (v : State)
+      → first_stage row request.length (outcome s.spec s.registers request) ≡ ending address
+      → StatusGiven address (accepted s row request) v
       → OnlyControl (accepted s row request) v → OnlyRested which s v
   ended_rests row address v h g o =
       let none : address ≡ None = cc (sym (ap (first_stage row request.length) is) ∙ h) in
       accepted_rests row v o (given_registers address (accepted s row request) v none g)
 
-  failed_rests : {t : _} {fault : PipeFault} {old : World} {j : Location} (v : State) → EffectOrNone t request fault old j s v → OnlyStage s v ⊎ OnlyRested which s v
+  failed_rests : {t : _} {fault : PipeFault} {old : World} {j : Location} (v : State)
+      → EffectOrNone t request fault old j s v → OnlyStage s v ⊎ OnlyRested which s v
   failed_rests v (none o e) = inl (only_stage s v o e)
   failed_rests v (some row now m o e) = inr (accepted_rests row v o e)
   failed_rests v (whole why told row now m o a h g) = inr (ended_rests row a v h g o)
@@ -171,54 +239,106 @@ module _ (request : Setup) (which : ServedEndpoint) (s : State) (is : outcome s.
 -- One device and its pipe
 
 -- a clear that is done
-done_leaves : (pipe : Bulk) (done : Unit {0}) → is_ready pipe.condition ≡ false → {old new : World} (j : Location) (s v : State) → WriteLeaves pipe.target (clear_of pipe) (Ok done) old new j s v
+done_leaves : (pipe : Bulk) (done : Unit {0}) → is_ready pipe.condition ≡ false
+    → {old new : World} (j : Location) (s v : State)
+    → WriteLeaves pipe.target (clear_of pipe) (Ok done) old new j s v
     → ClearLeaves pipe (Ok done) (cleared pipe (Ok done)) j s v
 done_leaves pipe done unready j s v x = record {
   others = x.others;
   sink = λ at out f.
       let d = x.done at done refl in
-      let o = ended_rests (clear_of pipe) BulkOut s (asks_out pipe s out f.endpoint) d.row d.address v d.is d.given d.rest in
-      rw (unready, o) (record { endpoint = record { endpoint = f.endpoint.endpoint; not_zero = f.endpoint.not_zero }; level = λ r. refl; halted = λ r. cc r }, refl, refl);
+      let o = ended_rests (clear_of pipe) BulkOut s (asks_out pipe s out f.endpoint) d.row d.address
+      v d.is d.given d.rest in
+      rw (unready, o) (
+        record {
+          endpoint = record {
+            endpoint = f.endpoint.endpoint;
+            not_zero =
+                f.endpoint.not_zero;
+          };
+          level = λ r. refl;
+          halted = λ r. cc r;
+        },
+        refl,
+        refl,
+      );
   source = λ at is got f.
       let d = x.done at done refl in
-      let o = ended_rests (clear_of pipe) BulkIn s (clear_of-in pipe s is f.endpoint) d.row d.address v d.is d.given d.rest in
-      rw (unready, o) (record { endpoint = record { endpoint = f.endpoint.endpoint; not_zero = f.endpoint.not_zero; alone = f.endpoint.alone }; level = λ r. level refl refl; halted = λ r. cc r }, refl, refl);
+      let o = ended_rests (clear_of pipe) BulkIn s (clear_of-in pipe s is f.endpoint) d.row
+      d.address v d.is d.given d.rest in
+      rw (unready, o) (
+        record {
+          endpoint = record {
+            endpoint = f.endpoint.endpoint;
+            not_zero =
+                f.endpoint.not_zero;
+            alone = f.endpoint.alone;
+          };
+          level = λ r. level refl refl;
+          halted = λ r. cc r;
+        },
+        refl,
+        refl,
+      );
   only_sink = λ out i. only_by BulkOut s v (is_at s pipe.target) x.others (λ at.
       let d = x.done at done refl in
-      only_rested BulkOut s v (ended_rests (clear_of pipe) BulkOut s (asks_out pipe s out i) d.row d.address v d.is d.given d.rest));
+      only_rested BulkOut s v (ended_rests (clear_of pipe) BulkOut s (asks_out pipe s out i) d.row
+      d.address v d.is d.given d.rest));
   only_source = λ is i. only_by BulkIn s v (is_at s pipe.target) x.others (λ at.
       let d = x.done at done refl in
-      only_rested BulkIn s v (ended_rests (clear_of pipe) BulkIn s (clear_of-in pipe s is i) d.row d.address v d.is d.given d.rest));
+      only_rested BulkIn s v (ended_rests (clear_of pipe) BulkIn s (clear_of-in pipe s is i) d.row
+      d.address v d.is d.given d.rest));
 }
 
 -- one that failed
 
-failed_sink : (pipe : Bulk) (s v : State) → OutPipeInSync pipe s → OnlyStage s v ⊎ OnlyRested BulkOut s v
-    → OutPipeInSync (record pipe { condition = Broken }) v × (v.sink ≡ s.sink) × ((v.bulk_out ≡ s.bulk_out) ⊎ (v.bulk_out ≡ rested))
+failed_sink : (pipe : Bulk) (s v : State) → OutPipeInSync pipe s → OnlyStage s v
+    ⊎ OnlyRested BulkOut s v
+    → OutPipeInSync (record pipe { condition = Broken }) v × (v.sink ≡ s.sink)
+    × ((v.bulk_out ≡ s.bulk_out) ⊎ (v.bulk_out ≡ rested))
 failed_sink pipe s v f o = grind arith
 
-failed_source : (pipe : Bulk) (got : ℕ) (s v : State) → InPipeInSync pipe got s → OnlyStage s v ⊎ OnlyRested BulkIn s v
-    → InPipeInSync (record pipe { condition = Broken }) got v × (v.place ≡ s.place) × ((v.bulk_in ≡ s.bulk_in) ⊎ (v.bulk_in ≡ rested))
+failed_source : (pipe : Bulk) (got : ℕ) (s v : State) → InPipeInSync pipe got s → OnlyStage s v
+    ⊎ OnlyRested BulkIn s v
+    → InPipeInSync (record pipe { condition = Broken }) got v × (v.place ≡ s.place)
+    × ((v.bulk_in ≡ s.bulk_in) ⊎ (v.bulk_in ≡ rested))
 failed_source pipe got s v f o = grind arith
 
-failed_leaves : (pipe : Bulk) (why : PipeFault) (old new : World) → FaultAfter 1 old why new → (j : Location) (s v : State)
-    → WriteLeaves pipe.target (clear_of pipe) (Err why) old new j s v → ClearLeaves pipe (Err why) (cleared pipe (Err why)) j s v
+failed_leaves : (pipe : Bulk) (why : PipeFault) (old new : World) → FaultAfter 1 old why new
+    → (j : Location) (s v : State)
+    → WriteLeaves pipe.target (clear_of pipe) (Err why) old new j s v
+    → ClearLeaves pipe (Err why) (cleared pipe (Err why)) j s v
 failed_leaves pipe why old new ends j s v x = record {
   others = x.others;
   sink = λ at out f.
       let is = asks_out pipe s out f.endpoint in
-      let told : why ≢ pipe_fault.Stalled = λ e. not_refused (clear_of pipe) BulkOut s is (x.refused at (ap Err e)) in
-      grind (arith, ends, failed_sink pipe s v f (failed_rests (clear_of pipe) BulkOut s is v (x.failed why refl)));
+      let told : why ≢ pipe_fault.Stalled =
+      λ e. not_refused (clear_of pipe) BulkOut s is (x.refused at (ap Err e)) in
+      grind (
+        arith,
+        ends,
+        failed_sink pipe s v f
+            (failed_rests (clear_of pipe) BulkOut s is v (x.failed why refl)),
+      );
   source = λ at way got f.
       let is = clear_of-in pipe s way f.endpoint in
-      let told : why ≢ pipe_fault.Stalled = λ e. not_refused (clear_of pipe) BulkIn s is (x.refused at (ap Err e)) in
-      grind (arith, ends, failed_source pipe got s v f (failed_rests (clear_of pipe) BulkIn s is v (x.failed why refl)));
-  only_sink = λ out i. only_either BulkOut s v (failed_rests (clear_of pipe) BulkOut s (asks_out pipe s out i) v (x.failed why refl));
-  only_source = λ is i. only_either BulkIn s v (failed_rests (clear_of pipe) BulkIn s (clear_of-in pipe s is i) v (x.failed why refl));
+      let told : why ≢ pipe_fault.Stalled =
+      λ e. not_refused (clear_of pipe) BulkIn s is (x.refused at (ap Err e)) in
+      grind (
+        arith,
+        ends,
+        failed_source pipe got s v f
+            (failed_rests (clear_of pipe) BulkIn s is v (x.failed why refl)),
+      );
+  only_sink = λ out i. only_either BulkOut s v
+      (failed_rests (clear_of pipe) BulkOut s (asks_out pipe s out i) v (x.failed why refl));
+  only_source = λ is i. only_either BulkIn s v
+      (failed_rests (clear_of pipe) BulkIn s (clear_of-in pipe s is i) v (x.failed why refl));
 }
 
 -- one that makes no request
-ready_leaves : (pipe : Bulk) → is_ready pipe.condition ≡ true → (j : Location) (s : State) → ClearLeaves pipe (Ok tt) pipe j s s
+ready_leaves : (pipe : Bulk) → is_ready pipe.condition ≡ true → (j : Location) (s : State)
+    → ClearLeaves pipe (Ok tt) pipe j s s
 ready_leaves pipe ready j s = record {
   others = λ _. refl;
   sink = λ at out f. rw ready (f, refl, refl);
@@ -232,31 +352,57 @@ not_ready c n = grind arith
 
 -- A call
 
-pub clear_leaves : (pipe : Bulk) (result : Result (Unit {0}) PipeFault) (left : Bulk) (old new : World)
-    → Clears pipe old result left new → new.shared ≡ false → EachWas (ClearLeaves pipe result left) old new
+pub clear_leaves : (pipe : Bulk) (result : Result (Unit {0}) PipeFault) (left : Bulk)
+    (old new : World)
+    → Clears pipe old result left new → new.shared ≡ false
+    → EachWas (ClearLeaves pipe result left) old new
 clear_leaves pipe result left old new x single =
-    clear_by (EachWas (ClearLeaves pipe result left) old new) (λ ready i. rw (i.answer, i.pipe_kept, i.world_kept) (each_none _ (ready_leaves pipe (ap is_ready ready)) old)) (λ unready y. rw y.pipe_left (sent (not_ready pipe.condition unready) result y)) x
+    clear_by (EachWas (ClearLeaves pipe result left) old new)
+    (λ ready i. rw (i.answer, i.pipe_kept, i.world_kept)
+    (each_none _ (ready_leaves pipe (ap is_ready ready)) old))
+    (λ unready y. rw y.pipe_left (sent (not_ready pipe.condition unready) result y)) x
   where
-    sent : is_ready pipe.condition ≡ false → (r : Result (Unit {0}) PipeFault) → Cleared pipe old r left new → EachWas (ClearLeaves pipe r (cleared pipe r)) old new
-    sent unready r y = by_result r y.ends (spared_all pipe.target (clear_of pipe) _ old new (harmless _) (write_leaves pipe.target (clear_of pipe) r old new (clear_halt-length _) (same_request _) y.settled y.stages single))
+    sent : is_ready pipe.condition ≡ false → (r : Result (Unit {0}) PipeFault)
+        → Cleared pipe old r left new → EachWas (ClearLeaves pipe r (cleared pipe r)) old new
+    sent unready r y = by_result r y.ends (spared_all pipe.target (clear_of pipe) _ old new
+        (harmless _) (write_leaves pipe.target (clear_of pipe) r old new (clear_halt-length _)
+        (same_request _) y.settled y.stages single))
       where
-        by_result : (r : Result (Unit {0}) PipeFault) → MatchResult r (λ done. AttemptsMade 2 old new) (λ why. FaultAfter 1 old why new) → EachWas (WriteLeaves pipe.target (clear_of pipe) r old new) old new
+        by_result : (r : Result (Unit {0}) PipeFault)
+            → MatchResult r (λ done. AttemptsMade 2 old new) (λ why. FaultAfter 1 old why new)
+            → EachWas (WriteLeaves pipe.target (clear_of pipe) r old new) old new
             → EachWas (ClearLeaves pipe r (cleared pipe r)) old new
         by_result (Ok done) ends w = each_wider _ _ (done_leaves pipe done unready) old new w
         by_result (Err why) ends w = each_wider _ _ (failed_leaves pipe why old new ends) old new w
 
 clear_why : (pipe : Bulk) (result : Result (Unit {0}) PipeFault) (left : Bulk) (old new : World)
-    → NoThreeDamaged old → Clears pipe old result left new → IsNoBusFault result → new.shared ≡ false → EachWas (WriteFailure pipe.target result) old new
+    → NoThreeDamaged old → Clears pipe old result left new → IsNoBusFault result
+    → new.shared ≡ false → EachWas (WriteFailure pipe.target result) old new
 clear_why pipe result left old new three x sound single =
-    clear_by (EachWas (WriteFailure pipe.target result) old new) (λ ready i. rw (i.answer, i.world_kept) (each_none _ (λ j s. record { answered = λ l e. cc e; waited = λ l idle few e. cc e }) old))
-    (λ unready y. spared_all pipe.target (clear_of pipe) _ old new (harmless _) (write_why pipe.target (clear_of pipe) result old new (clear_halt-length _) (same_request _) y.settled three y.stages sound single)) x
+    clear_by (EachWas (WriteFailure pipe.target result) old new)
+    (λ ready i. rw (i.answer, i.world_kept)
+    (each_none _ (λ j s. record { answered = λ l e. cc e; waited = λ l idle few e. cc e })
+    old))
+    (λ unready y. spared_all pipe.target (clear_of pipe) _ old new (harmless _)
+    (write_why pipe.target (clear_of pipe) result old new (clear_halt-length _)
+    (same_request _) y.settled three y.stages sound single)) x
 
-clear_who : (pipe : Bulk) (result : Result (Unit {0}) PipeFault) (left : Bulk) (old new : World) → Clears pipe old result left new
+clear_who : (pipe : Bulk) (result : Result (Unit {0}) PipeFault) (left : Bulk) (old new : World)
+    → Clears pipe old result left new
     → OnOk result (pipe.condition ≢ Ready → Unshared new (Answerer pipe.target old new))
 clear_who pipe (Ok done) left old new x = λ unready.
     let c = x.sent unready in
-    who_writes pipe.target (clear_of pipe) done old new (same_request _) (λ h. cc (sym (harmless (halt_address pipe.ep pipe.is_in)) ∙ h)) c.settled c.stages
+    who_writes pipe.target (clear_of pipe) done old new (same_request _)
+    (λ h. cc (sym (harmless (halt_address pipe.ep pipe.is_in)) ∙ h)) c.settled c.stages
 clear_who pipe (Err why) left old new x = tt
 
-pub clear_told : (pipe : Bulk) (result : Result (Unit {0}) PipeFault) (left : Bulk) (old new : World) → Clears pipe old result left new → BulkClear pipe old result left new
-clear_told pipe result left old new x = record { clears = x; what = clear_leaves pipe result left old new x; why = λ three. clear_why pipe result left old new three x; who = clear_who pipe result left old new x }
+pub clear_told : (pipe : Bulk) (result : Result (Unit {0}) PipeFault) (left : Bulk)
+    (old new : World) → Clears pipe old result left new → BulkClear pipe old result left new
+clear_told pipe result left old new x =
+    record {
+      clears = x;
+      what = clear_leaves pipe result left old new x;
+      why =
+          λ three. clear_why pipe result left old new three x;
+      who = clear_who pipe result left old new x;
+    }

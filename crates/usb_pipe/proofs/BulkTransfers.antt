@@ -1,7 +1,11 @@
--- Bulk transfers: what sending and receiving leave of each device, in the end and at each moment, why they fail, and the record of a call.
+-- Bulk transfers: what sending and receiving leave of each device, in the end and at each moment,
+-- why they fail, and the record of a call.
 use Rattle.usb_device.specs.Tree.{Location}
-use Rattle.std.proofs.Common.{◌≡◌, ◌≢◌, ◌∙◌, ◌⊎◌, inl, inr, refl, sym, ap, subst, arith, false, true, ℕ, ◌+◌, ◌-◌, ◌*◌, ◌<◌, ◌≤◌, List, [], ◌++◌, length, take, drop, Result, Ok, Err, OnOk}
-use Rattle.std.proofs.Common.{append_assoc, append-nil, drop-drop, length-append, length-drop, length-take, mul-le-mul_right, take-add, take-append-drop}
+use Rattle.std.proofs.Common.{◌≡◌, ◌≢◌, ◌∙◌, ◌⊎◌, inl, inr, refl, sym, ap, subst, arith, false}
+use Rattle.std.proofs.Common.{true, ℕ, ◌+◌, ◌-◌, ◌*◌, ◌<◌, ◌≤◌, List, [], ◌++◌, length, take, drop}
+use Rattle.std.proofs.Common.{Result, Ok, Err, OnOk}
+use Rattle.std.proofs.Common.{append_assoc, append-nil, drop-drop, length-append, length-drop}
+use Rattle.std.proofs.Common.{length-take, mul-le-mul_right, take-add, take-append-drop}
 use Rattle.std.specs.Global.{Vec}
 use Rattle.std.specs.Int.{div_ceil}
 use Rattle.std.proofs.lemmas.List.{take_min}
@@ -9,7 +13,8 @@ use Rattle.usb_packet.specs.declared.Toggle.{Toggle}
 use Rattle.usb_packet.specs.Toggles.{other, flips}
 use Rattle.usb_device.specs.Bulk.{advanced}
 use Rattle.usb_device.specs.Rows.{State}
-use Rattle.usb_device.specs.Progress.{IsSink, SinkAt, level, ahead, Joined, OnlySink, IsSource, SourceAt, OnlySource}
+use Rattle.usb_device.specs.Progress.{IsSink, SinkAt, level, ahead, Joined, OnlySink, IsSource}
+use Rattle.usb_device.specs.Progress.{SourceAt, OnlySource}
 use Rattle.usb_tree.specs.AttemptPackets.{IsSettled}
 use Rattle.usb_world.specs.World.{World}
 use Rattle.usb_world.specs.Devices.{EachWas}
@@ -23,22 +28,29 @@ use Rattle.usb_transaction.specs.HeardOutcomes.{heard_as, heard_when_sent}
 use Rattle.usb_transaction.specs.Leaves.{is_at, SinkEnds, SinkOut, SinkBetween, SourceIn}
 use Rattle.usb_transaction.specs.AttemptLog.{TransactionDone}
 use Rattle.usb_transaction.specs.Transactions.{in_attempt, out_attempt}
-use Rattle.usb_transaction.proofs.Interface.{at_kept, listens_on, others_stay_then, sink_between, sink_kept, sink_leaves, sink_over, sink_why, trail_unshared, transacted_unshared}
-use Rattle.usb_transaction.proofs.Interface.{source_at_kept, source_kept, source_leaves, source_over, source_why}
+use Rattle.usb_transaction.proofs.Interface.{at_kept, listens_on, others_stay_then, sink_between}
+use Rattle.usb_transaction.proofs.Interface.{sink_kept, sink_leaves, sink_over, sink_why}
+use Rattle.usb_transaction.proofs.Interface.{trail_unshared, transacted_unshared}
+use Rattle.usb_transaction.proofs.Interface.{source_at_kept, source_kept, source_leaves}
+use Rattle.usb_transaction.proofs.Interface.{source_over, source_why}
 use Rattle.usb_pipe.specs.declared.condition.Condition.TheVariants.{Ready, Halted, Broken}
 use Rattle.usb_pipe.specs.declared.fault.PipeFault.{PipeFault}
 use Rattle.usb_pipe.specs.declared.fault.PipeFault.TheVariants as pipe_fault
-use Rattle.usb_pipe.specs.Bulk.{Bulk, after_fault, after_transfer, MovedOut, Sends, MovedIn, Receives}
+use Rattle.usb_pipe.specs.Bulk.{Bulk, after_fault, after_transfer, MovedOut, Sends, MovedIn}
+use Rattle.usb_pipe.specs.Bulk.{Receives}
 use Rattle.usb_pipe.specs.Packets.{PacketsSent, PacketsReceived}
 use Rattle.usb_pipe.specs.Control.{FaultAfter, as_pipe_fault}
 use Rattle.usb_pipe.specs.End.{packet_target}
 use Rattle.usb_pipe.specs.Failures.{SendFailure, ReceiveFailure}
-use Rattle.usb_pipe.specs.Leaves.{IsNoBusFault, pipe_known, came_with, OutPipeInSync, FrontTaken, SendLeaves, SendingLeaves, InPipeInSync, ReceiveLeaves}
-use Rattle.usb_pipe.specs.Moves.{Gave, Came, start, packet, NotGone, WhileSending, AllCame, NotCame, NoRoomLeft}
+use Rattle.usb_pipe.specs.Leaves.{IsNoBusFault, pipe_known, came_with, OutPipeInSync, FrontTaken}
+use Rattle.usb_pipe.specs.Leaves.{SendLeaves, SendingLeaves, InPipeInSync, ReceiveLeaves}
+use Rattle.usb_pipe.specs.Moves.{Gave, Came, start, packet, NotGone, WhileSending, AllCame, NotCame}
+use Rattle.usb_pipe.specs.Moves.{NoRoomLeft}
 use Rattle.usb_pipe.specs.Transfers.{Unshared, BulkSend, BulkReceive}
 use Rattle.usb_pipe.proofs.Answerers.{who_sends, who_receives}
 use Rattle.usb_pipe.proofs.BulkCalls.{ready_or, send_by, receive_by, gave_settled, received_settled}
-use Rattle.usb_pipe.proofs.ControlSteps.{ended_unshared, transacted_ended, ended_damages, never_three}
+use Rattle.usb_pipe.proofs.ControlSteps.{ended_unshared, transacted_ended, ended_damages}
+use Rattle.usb_pipe.proofs.ControlSteps.{never_three}
 use Rattle.usb_pipe.proofs.MovedPackets.{flips_more, gave_packets, all_packets, came_full}
 use Rattle.usb_pipe.proofs.TransactionFaults.{Fell, fell_same_fault}
 use Rattle.usb_pipe.proofs.TransferLosses.{send_losses, receive_losses}
@@ -48,80 +60,121 @@ abbrev end_of : Bulk → Target
 end_of pipe = packet_target pipe.target pipe.max
 
 -- the other toggle is that of the next packet
-turned_on : (n : ℕ) (first toggle : Toggle) → toggle ≡ other (flips n first) → toggle ≡ flips (n + 1) first
+turned_on : (n : ℕ) (first toggle : Toggle) → toggle ≡ other (flips n first)
+    → toggle ≡ flips (n + 1) first
 turned_on n first toggle e = flips_more n first (flips n first) toggle refl e
 
 -- the packets of an endpoint have a maximum of their own
-listens_packet : (t : Target) (max : ℕ) (place : Location) (s u : State) → u.spec ≡ s.spec → u.registers ≡ s.registers → Listens t place s → Listens (packet_target t max) place u
-listens_packet t max place s u e f l = let k = listens_on t place s u e f l in record { at = k.at; loud = k.loud; hears = k.hears }
+listens_packet : (t : Target) (max : ℕ) (place : Location) (s u : State) → u.spec ≡ s.spec
+    → u.registers ≡ s.registers → Listens t place s → Listens (packet_target t max) place u
+listens_packet t max place s u e f l = let k = listens_on t place s u e f l in
+    record { at = k.at; loud = k.loud; hears = k.hears }
 
 -- What packets that were acknowledged leave of one device
 
-record GaveLeaves (t : Target) (ep : ℕ) (first : Toggle) (n : ℕ) (sent : List ℕ) (j : Location) (s v : State) : Type 0 where
+record GaveLeaves (t : Target) (ep : ℕ) (first : Toggle) (n : ℕ) (sent : List ℕ) (j : Location)
+    (s v : State) : Type 0 where
   others : is_at s t ≡ false → v ≡ s
   frame : IsSink ep t.max s → OnlySink s v
-  sink : is_at s t ≡ true → IsSink ep t.max s → s.bulk_out.toggle ≡ first → (v.sink ≡ s.sink ++ sent) × (v.bulk_out.toggle ≡ flips n first)
+  sink : is_at s t ≡ true → IsSink ep t.max s → s.bulk_out.toggle ≡ first
+      → (v.sink ≡ s.sink ++ sent) × (v.bulk_out.toggle ≡ flips n first)
   halted : is_at s t ≡ true → IsSink ep t.max s → s.bulk_out.halted ≡ true → (v ≡ s) × (sent ≡ [])
 
 -- the endpoint behind them, which awaits the next one
-module _ {t : Target} {ep : ℕ} {first : Toggle} {n : ℕ} {sent : List ℕ} {j : Location} {s u : State} (x : GaveLeaves t ep first n sent j s u) (i : IsSink ep t.max s) where
+module _ {t : Target} {ep : ℕ} {first : Toggle} {n : ℕ} {sent : List ℕ} {j : Location} {s u : State}
+    (x : GaveLeaves t ep first n sent j s u) (i : IsSink ep t.max s) where
   sink_then : IsSink ep t.max u
   sink_then = sink_kept ep t.max s u (x.frame i) i
 
   sink_at : is_at s t ≡ true → is_at u t ≡ true
   sink_at h = at_kept t s u (x.frame i) h
 
-  sink_level : (bytes : List ℕ) → is_at s t ≡ true → s.bulk_out.toggle ≡ first → SinkAt (s.sink ++ sent) bytes (flips n first) u
+  sink_level : (bytes : List ℕ) → is_at s t ≡ true → s.bulk_out.toggle ≡ first
+      → SinkAt (s.sink ++ sent) bytes (flips n first) u
   sink_level bytes h e = level (x.sink h i e).0 (x.sink h i e).1
 
   sink_halted : is_at s t ≡ true → s.bulk_out.halted ≡ true → u.bulk_out.halted ≡ true
   sink_halted h c = ap (λ q. q.bulk_out.halted) (x.halted h i c).0 ∙ c
 
   sink_frame : (v : State) → ((most : ℕ) → IsSink ep most u → OnlySink u v) → OnlySink s v
-  sink_frame v f = f t.max sink_then ∙ ap {A = State} (λ q. record q { memory = v.memory; bulk_out = v.bulk_out; sink = v.sink; until_halt = v.until_halt }) (x.frame i)
+  sink_frame v f = f t.max sink_then ∙ ap {A = State}
+      (λ q. record q {
+        memory = v.memory;
+        bulk_out = v.bulk_out;
+        sink = v.sink;
+        until_halt =
+            v.until_halt;
+      }) (x.frame i)
 
-gave_no_packets : (t : Target) (ep : ℕ) (first : Toggle) (j : Location) (s : State) → GaveLeaves t ep first 0 [] j s s
+gave_no_packets : (t : Target) (ep : ℕ) (first : Toggle) (j : Location) (s : State)
+    → GaveLeaves t ep first 0 [] j s s
 unfolding flips
-gave_no_packets t ep first j s = record { others = λ h. refl; frame = λ i. refl; sink = λ h i e. (sym (append-nil s.sink), e); halted = λ h i c. (refl, refl) }
+gave_no_packets t ep first j s = record {
+  others = λ h. refl;
+  frame = λ i. refl;
+  sink =
+      λ h i e. (sym (append-nil s.sink), e);
+  halted = λ h i c. (refl, refl);
+}
 
-gave_packet_then : (t : Target) (ep : ℕ) (first : Toggle) (n : ℕ) (sent bytes : List ℕ) → length bytes ≤ t.max → (j : Location) (s u v : State)
-    → GaveLeaves t ep first n sent j s u → SinkOut t ep (flips n first) bytes (Ok []) j u v → GaveLeaves t ep first (n + 1) (sent ++ bytes) j s v
+gave_packet_then : (t : Target) (ep : ℕ) (first : Toggle) (n : ℕ) (sent bytes : List ℕ)
+    → length bytes ≤ t.max → (j : Location) (s u v : State)
+    → GaveLeaves t ep first n sent j s u → SinkOut t ep (flips n first) bytes (Ok []) j u v
+    → GaveLeaves t ep first (n + 1) (sent ++ bytes) j s v
 gave_packet_then t ep first n sent bytes fits j s u v x y = record {
   others = others_stay_then t s u v x.others y.others;
   frame = λ i. sink_frame x i v y.frame;
   sink = λ h i e.
-      let z : Joined (s.sink ++ sent) bytes (flips n first) v = y.sink (sink_at x i h) t.max (s.sink ++ sent) (sink_then x i) fits (sink_level x i bytes h e) in
+      let z : Joined (s.sink ++ sent) bytes (flips n first) v =
+      y.sink (sink_at x i h) t.max (s.sink ++ sent) (sink_then x i) fits
+      (sink_level x i bytes h e) in
       (z.sink ∙ append_assoc s.sink sent bytes, turned_on n first v.bulk_out.toggle z.toggle);
-  halted = λ h i c. absurd ((y.halted (sink_at x i h) t.max (sink_then x i) (sink_halted x i h c)).1 [] refl);
+  halted = λ h i c. absurd ((y.halted (sink_at x i h) t.max (sink_then x i) (sink_halted x i h c)).1
+      [] refl);
 }
 
-gave_leaves : (t : Target) (ep : ℕ) (first : Toggle) {old : World} {n : ℕ} {sent : List ℕ} {new : World} → IsSettled old.roots → Gave t ep first old n sent new → new.shared ≡ false
+gave_leaves : (t : Target) (ep : ℕ) (first : Toggle) {old : World} {n : ℕ} {sent : List ℕ}
+    {new : World} → IsSettled old.roots → Gave t ep first old n sent new → new.shared ≡ false
     → EachWas (GaveLeaves t ep first n sent) old new
 gave_leaves t ep first {old} settled start single = each_none _ (gave_no_packets t ep first) old
-gave_leaves t ep first {old} {new} settled (packet {n} {sent} {mid} bytes g full some fits puts) single =
+gave_leaves t ep first {old} {new} settled (packet {n} {sent} {mid} bytes g full some fits puts)
+    single =
     each_joined _ _ _ (gave_packet_then t ep first n sent bytes fits) old mid new
-    (gave_leaves t ep first settled g (ended_unshared puts single)) (sink_over t ep (flips n first) bytes (Ok []) mid new (gave_settled g settled) puts single)
+    (gave_leaves t ep first settled g (ended_unshared puts single))
+    (sink_over t ep (flips n first) bytes (Ok []) mid new (gave_settled g settled) puts single)
 
-gave_damages : {t : Target} {ep : ℕ} {first : Toggle} {old : World} {n : ℕ} {sent : List ℕ} {new : World} → Gave t ep first old n sent new → new.damages ≡ old.damages
+gave_damages : {t : Target} {ep : ℕ} {first : Toggle} {old : World} {n : ℕ} {sent : List ℕ}
+    {new : World} → Gave t ep first old n sent new → new.damages ≡ old.damages
 gave_damages start = refl
 gave_damages (packet bytes g full some fits puts) = ended_damages puts ∙ gave_damages g
 
 -- A packet that did not go
 
-lost_at : (before bytes : List ℕ) (t : Toggle) (why : PipeFault) (fault : TransFault) (v : State) → why ≡ as_pipe_fault fault → SinkEnds before bytes t (Err fault) v → SinkAt before bytes t v × (why ≡ pipe_fault.Stalled → v.bulk_out.halted ≡ true)
+lost_at : (before bytes : List ℕ) (t : Toggle) (why : PipeFault) (fault : TransFault) (v : State)
+    → why ≡ as_pipe_fault fault → SinkEnds before bytes t (Err fault) v → SinkAt before bytes t v
+    × (why ≡ pipe_fault.Stalled → v.bulk_out.halted ≡ true)
 lost_at before bytes t why fault v told x = grind arith
 
-sink_front_taken : (total sent rest : List ℕ) (k : ℕ) (t : Toggle) (s v : State) → total ≡ sent ++ rest → SinkAt (s.sink ++ sent) (take k rest) t v → FrontTaken total s v
-sink_front_taken total sent rest k t s v split (level a b) = record { front = sent; rest = rest; split = split; sink = a }
+sink_front_taken : (total sent rest : List ℕ) (k : ℕ) (t : Toggle) (s v : State)
+    → total ≡ sent ++ rest → SinkAt (s.sink ++ sent) (take k rest) t v → FrontTaken total s v
+sink_front_taken total sent rest k t s v split (level a b) =
+    record { front = sent; rest = rest; split = split; sink = a }
 sink_front_taken total sent rest k t s v split (ahead a b) = record {
   front = sent ++ take k rest;
   rest = drop k rest;
-  split = split ∙ ap (λ x. sent ++ x) (sym (take-append-drop k rest)) ∙ sym (append_assoc sent (take k rest) (drop k rest));
+  split = split ∙ ap (λ x. sent ++ x) (sym (take-append-drop k rest))
+      ∙ sym (append_assoc sent (take k rest) (drop k rest));
   sink = a ∙ append_assoc s.sink sent (take k rest);
 }
 
 none_taken : (total : List ℕ) (s v : State) → v ≡ s → FrontTaken total s v
-none_taken total s v e = record { front = []; rest = total; split = refl; sink = ap (λ x. x.sink) e ∙ sym (append-nil s.sink) }
+none_taken total s v e = record {
+  front = [];
+  rest = total;
+  split = refl;
+  sink = ap (λ x. x.sink) e
+      ∙ sym (append-nil s.sink);
+}
 
 fits_packet : (max : ℕ) (rest : List ℕ) → length (take max rest) ≤ max
 fits_packet max rest = let l = length-take max rest in omega (arith, l)
@@ -129,7 +182,9 @@ fits_packet max rest = let l = length-take max rest in omega (arith, l)
 -- One device and its pipe
 
 -- a call that makes no attempt
-idle_leaves : (bytes : List ℕ) (pipe : Bulk) (given : Result (Unit {0}) PipeFault) → pipe_known given pipe ≡ pipe → OnOk given (bytes ≡ []) → (j : Location) (s : State) → SendLeaves bytes pipe given pipe j s s
+idle_leaves : (bytes : List ℕ) (pipe : Bulk) (given : Result (Unit {0}) PipeFault)
+    → pipe_known given pipe ≡ pipe → OnOk given (bytes ≡ []) → (j : Location) (s : State)
+    → SendLeaves bytes pipe given pipe j s s
 idle_leaves bytes pipe given same none j s = grind (arith, none_taken, append-nil)
 
 module _ (bytes : List ℕ) (pipe left : Bulk) (n : ℕ) (works : pipe.condition ≢ Broken) where
@@ -137,117 +192,180 @@ module _ (bytes : List ℕ) (pipe left : Bulk) (n : ℕ) (works : pipe.condition
   Given sent = GaveLeaves (end_of pipe) pipe.ep pipe.toggle n sent
 
   -- all went
-  all_sent : (done : Unit {0}) → bytes ≢ [] → left ≡ record pipe { toggle = left.toggle; condition = Ready } → left.toggle ≡ flips n pipe.toggle
-      → (j : Location) (s v : State) → Given bytes j s v → SendLeaves bytes pipe (Ok done) left j s v
-  all_sent done some e turned j s v x = grind (arith, x.sink, x.halted, x.others, x.frame, sink_then)
+  all_sent : (done : Unit {0}) → bytes ≢ [] → left ≡ record pipe {
+    toggle = left.toggle;
+    condition =
+        Ready;
+  } → left.toggle ≡ flips n pipe.toggle
+      → (j : Location) (s v : State) → Given bytes j s v
+      → SendLeaves bytes pipe (Ok done) left j s v
+  all_sent done some e turned j s v x =
+      grind (arith, x.sink, x.halted, x.others, x.frame, sink_then)
 
   -- one did not go, behind others that did
-  lost_sent : (old new : World) (sent rest : List ℕ) (why : PipeFault) (fault : TransFault) → FaultAfter 0 old why new → bytes ≡ sent ++ rest → why ≡ as_pipe_fault fault → left ≡ record pipe { toggle = left.toggle; condition = after_fault pipe.condition why }
-      → (j : Location) (s u v : State) → Given sent j s u → SinkOut (end_of pipe) pipe.ep (flips n pipe.toggle) (take pipe.max rest) (Err fault) j u v → SendLeaves bytes pipe (Err why) left j s v
-  lost_sent old new sent rest why fault ends split told e j s u v x y = grind (arith, others_stay_then, frame, lost, sink_kept, x.others, y.others)
+  lost_sent : (old new : World) (sent rest : List ℕ) (why : PipeFault) (fault : TransFault)
+      → FaultAfter 0 old why new → bytes ≡ sent ++ rest → why ≡ as_pipe_fault fault
+      → left ≡ record pipe { toggle = left.toggle; condition = after_fault pipe.condition why }
+      → (j : Location) (s u v : State) → Given sent j s u
+      → SinkOut (end_of pipe) pipe.ep (flips n pipe.toggle) (take pipe.max rest) (Err fault) j u
+      v → SendLeaves bytes pipe (Err why) left j s v
+  lost_sent old new sent rest why fault ends split told e j s u v x y =
+      grind (arith, others_stay_then, frame, lost, sink_kept, x.others, y.others)
     where
       frame : IsSink pipe.ep pipe.max s → OnlySink s v
       frame i = sink_frame x i v y.frame
 
-      lost : is_at s pipe.target ≡ true → OutPipeInSync pipe s → FrontTaken bytes s v × (why ≡ pipe_fault.Stalled → v.bulk_out.halted ≡ true)
+      lost : is_at s pipe.target ≡ true → OutPipeInSync pipe s → FrontTaken bytes s v
+          × (why ≡ pipe_fault.Stalled → v.bulk_out.halted ≡ true)
       lost h f =
           let i = f.endpoint in ready_or _ pipe.condition works
           (λ r.
-          let z = lost_at (s.sink ++ sent) (take pipe.max rest) (flips n pipe.toggle) why fault v told
-          (y.sink (sink_at x i h) pipe.max (s.sink ++ sent) (sink_then x i) (fits_packet pipe.max rest) (sink_level x i (take pipe.max rest) h (f.level r))) in
+          let z = lost_at (s.sink ++ sent) (take pipe.max rest) (flips n pipe.toggle) why fault v
+          told
+          (y.sink (sink_at x i h) pipe.max (s.sink ++ sent) (sink_then x i)
+          (fits_packet pipe.max rest) (sink_level x i (take pipe.max rest) h (f.level r))) in
           (sink_front_taken bytes sent rest pipe.max (flips n pipe.toggle) s v split z.0, z.1))
           (λ r.
-          let same : v ≡ s = (y.halted (sink_at x i h) pipe.max (sink_then x i) (sink_halted x i h (f.halted r))).0 ∙ (x.halted h i (f.halted r)).0 in
+          let same : v ≡ s = (y.halted (sink_at x i h) pipe.max (sink_then x i)
+          (sink_halted x i h (f.halted r))).0 ∙ (x.halted h i (f.halted r)).0 in
           (none_taken bytes s v same, λ stalled. ap (λ q. q.bulk_out.halted) same ∙ f.halted r))
 
 -- A call that sends
 
-sent_leaves : (bytes : List ℕ) (pipe : Bulk) (result : Result (Unit {0}) PipeFault) (left : Bulk) (old new : World) → pipe.condition ≢ Broken → bytes ≢ []
-    → MovedOut (div_ceil (length bytes) pipe.max) bytes pipe old result left new → new.shared ≡ false → EachWas (SendLeaves bytes pipe result left) old new
+sent_leaves : (bytes : List ℕ) (pipe : Bulk) (result : Result (Unit {0}) PipeFault) (left : Bulk)
+    (old new : World) → pipe.condition ≢ Broken → bytes ≢ []
+    → MovedOut (div_ceil (length bytes) pipe.max) bytes pipe old result left new
+    → new.shared ≡ false → EachWas (SendLeaves bytes pipe result left) old new
 sent_leaves bytes pipe (Ok done) left old new works some x single =
-    let turned : left.toggle ≡ flips x.went.packets pipe.toggle = x.toggle ∙ ap (λ k. flips k pipe.toggle) (gave_packets (end_of pipe) pipe.ep pipe.toggle x.went.gone some) in
-    each_wider _ _ (all_sent bytes pipe left x.went.packets works done some x.pipe_left turned) old new (gave_leaves (end_of pipe) pipe.ep pipe.toggle x.settled x.went.gone single)
+    let turned : left.toggle ≡ flips x.went.packets pipe.toggle = x.toggle
+    ∙ ap (λ k. flips k pipe.toggle) (gave_packets (end_of pipe) pipe.ep pipe.toggle x.went.gone
+    some) in
+    each_wider _ _ (all_sent bytes pipe left x.went.packets works done some x.pipe_left turned) old
+    new (gave_leaves (end_of pipe) pipe.ep pipe.toggle x.settled x.went.gone single)
 sent_leaves bytes pipe (Err why) left old new works some x single =
     let g : NotGone (end_of pipe) pipe.ep pipe.toggle bytes old why new = x.went in
     let began : IsSettled g.mid.roots = gave_settled g.before x.settled in
-    each_joined _ _ _ (lost_sent bytes pipe left g.packets works old new g.sent g.rest why g.fault x.ends g.split g.told x.pipe_left) old g.mid new
-    (gave_leaves (end_of pipe) pipe.ep pipe.toggle x.settled g.before (transacted_unshared _ _ _ _ (Err g.fault) g.lost began single))
-    (sink_leaves (end_of pipe) pipe.ep (flips g.packets pipe.toggle) (take pipe.max g.rest) (Err g.fault) g.mid new began g.lost single)
+    each_joined _ _ _ (lost_sent bytes pipe left g.packets works old new g.sent g.rest why g.fault
+    x.ends g.split g.told x.pipe_left) old g.mid new
+    (gave_leaves (end_of pipe) pipe.ep pipe.toggle x.settled g.before
+    (transacted_unshared _ _ _ _ (Err g.fault) g.lost began single))
+    (sink_leaves (end_of pipe) pipe.ep (flips g.packets pipe.toggle) (take pipe.max g.rest)
+    (Err g.fault) g.mid new began g.lost single)
 
-pub send_leaves : (bytes : List ℕ) (pipe : Bulk) (result : Result (Unit {0}) PipeFault) (left : Bulk) (old new : World)
-    → Sends bytes pipe old result left new → new.shared ≡ false → EachWas (SendLeaves bytes pipe result left) old new
+pub send_leaves : (bytes : List ℕ) (pipe : Bulk) (result : Result (Unit {0}) PipeFault)
+    (left : Bulk) (old new : World)
+    → Sends bytes pipe old result left new → new.shared ≡ false
+    → EachWas (SendLeaves bytes pipe result left) old new
 send_leaves bytes pipe result left old new x single =
     send_by (EachWas (SendLeaves bytes pipe result left) old new)
-    (λ i. rw (i.answer, i.pipe_kept, i.world_kept) (each_none _ (idle_leaves bytes pipe (Err pipe_fault.Broken) refl tt) old))
-    (λ none i. rw (i.answer, i.pipe_kept, i.world_kept) (each_none _ (idle_leaves bytes pipe (Ok tt) refl none) old))
+    (λ i. rw (i.answer, i.pipe_kept, i.world_kept)
+    (each_none _ (idle_leaves bytes pipe (Err pipe_fault.Broken) refl tt) old))
+    (λ none i. rw (i.answer, i.pipe_kept, i.world_kept)
+    (each_none _ (idle_leaves bytes pipe (Ok tt) refl none) old))
     (λ works some y. sent_leaves bytes pipe result left old new works some y single) x
 
 -- why it fails
 
-lost_send : (pipe : Bulk) (n : ℕ) (sent rest : List ℕ) (why : PipeFault) (fault : TransFault) → why ≡ as_pipe_fault fault → (j : Location) (s u v : State)
-    → GaveLeaves (end_of pipe) pipe.ep pipe.toggle n sent j s u → SinkOutFailure (end_of pipe) pipe.ep (flips n pipe.toggle) (take pipe.max rest) (Err fault) j u v
+lost_send : (pipe : Bulk) (n : ℕ) (sent rest : List ℕ) (why : PipeFault) (fault : TransFault)
+    → why ≡ as_pipe_fault fault → (j : Location) (s u v : State)
+    → GaveLeaves (end_of pipe) pipe.ep pipe.toggle n sent j s u
+    → SinkOutFailure (end_of pipe) pipe.ep (flips n pipe.toggle) (take pipe.max rest)
+    (Err fault) j u v
     → SendFailure pipe (Err why) j s v
 lost_send pipe n sent rest why fault told j s u v x y = record {
-  answered = λ l i e. y.answered (hears l i) pipe.max (sink_then x i) (fits_packet pipe.max rest) (fell_same_fault (Unit {0}) why fault trans.NoAnswer told e);
-  waited = λ l i e. y.waited (hears l i) pipe.max (sink_then x i) (fell_same_fault (Unit {0}) why fault trans.Busy told e);
+  answered = λ l i e. y.answered (hears l i) pipe.max (sink_then x i) (fits_packet pipe.max rest)
+      (fell_same_fault (Unit {0}) why fault trans.NoAnswer told e);
+  waited = λ l i e. y.waited (hears l i) pipe.max (sink_then x i)
+      (fell_same_fault (Unit {0}) why fault trans.Busy told e);
 }
   where
     hears : Listens pipe.target j s → IsSink pipe.ep pipe.max s → Listens (end_of pipe) j u
-    hears l i = listens_packet pipe.target pipe.max j s u (ap (λ q. q.spec) (x.frame i)) (ap (λ q. q.registers) (x.frame i)) l
+    hears l i = listens_packet pipe.target pipe.max j s u (ap (λ q. q.spec) (x.frame i))
+        (ap (λ q. q.registers) (x.frame i)) l
 
 module _ (bytes : List ℕ) (pipe left : Bulk) (old new : World) (single : new.shared ≡ false) where
   -- an answer that is neither fault
-  never_sent : (result : Result (Unit {0}) PipeFault) → Sends bytes pipe old result left new → result ≢ Err pipe_fault.NoAnswer → result ≢ Err pipe_fault.Busy → EachWas (SendFailure pipe result) old new
+  never_sent : (result : Result (Unit {0}) PipeFault) → Sends bytes pipe old result left new
+      → result ≢ Err pipe_fault.NoAnswer → result ≢ Err pipe_fault.Busy
+      → EachWas (SendFailure pipe result) old new
   never_sent result x answered waited =
-      each_wider (SendLeaves bytes pipe result left) _ (λ j s v y. record { answered = λ l i. answered; waited = λ l i. waited }) old new (send_leaves bytes pipe result left old new x single)
+      each_wider (SendLeaves bytes pipe result left) _
+      (λ j s v y. record { answered = λ l i. answered; waited = λ l i. waited }) old new
+      (send_leaves bytes pipe result left old new x single)
 
-  send_why : (result : Result (Unit {0}) PipeFault) → NoThreeDamaged old → Sends bytes pipe old result left new → IsNoBusFault result → EachWas (SendFailure pipe result) old new
+  send_why : (result : Result (Unit {0}) PipeFault) → NoThreeDamaged old
+      → Sends bytes pipe old result left new → IsNoBusFault result
+      → EachWas (SendFailure pipe result) old new
   send_why (Ok done) three x sound = never_sent (Ok done) x (λ e. cc e) (λ e. cc e)
   send_why (Err why) three x sound =
-      send_by (EachWas (SendFailure pipe (Err why)) old new) (λ i. never_sent (Err why) x (λ e. cc (i.answer, e)) (λ e. cc (i.answer, e))) (λ none i. cc i.answer) (λ works some y.
+      send_by (EachWas (SendFailure pipe (Err why)) old new)
+      (λ i. never_sent (Err why) x (λ e. cc (i.answer, e)) (λ e. cc (i.answer, e)))
+      (λ none i. cc i.answer) (λ works some y.
       let g : NotGone (end_of pipe) pipe.ep pipe.toggle bytes old why new = y.went in
-      let over : TransactionDone heard_when_sent (out_attempt (end_of pipe) pipe.ep (flips g.packets pipe.toggle) (take pipe.max g.rest)) g.mid (Err g.fault) new = transacted_ended (Unit {0}) why g.fault g.told sound g.lost in
-      each_joined _ _ _ (lost_send pipe g.packets g.sent g.rest why g.fault g.told) old g.mid new (gave_leaves (end_of pipe) pipe.ep pipe.toggle y.settled g.before (ended_unshared over single))
-      (sink_why (end_of pipe) pipe.ep (flips g.packets pipe.toggle) (take pipe.max g.rest) (Err g.fault) g.mid new (gave_settled g.before y.settled) (never_three old g.mid (gave_damages g.before) three) over single)) x
+      let over : TransactionDone heard_when_sent
+      (out_attempt (end_of pipe) pipe.ep (flips g.packets pipe.toggle) (take pipe.max g.rest))
+      g.mid (Err g.fault) new = transacted_ended (Unit {0}) why g.fault g.told sound g.lost in
+      each_joined _ _ _ (lost_send pipe g.packets g.sent g.rest why g.fault g.told) old g.mid new
+      (gave_leaves (end_of pipe) pipe.ep pipe.toggle y.settled g.before
+      (ended_unshared over single))
+      (sink_why (end_of pipe) pipe.ep (flips g.packets pipe.toggle) (take pipe.max g.rest)
+      (Err g.fault) g.mid new (gave_settled g.before y.settled)
+      (never_three old g.mid (gave_damages g.before) three) over single)) x
 
--- At each moment: behind the packets before, the one that is being sent has joined what the device took, or not yet
+-- At each moment: behind the packets before, the one that is being sent has joined what the device
+-- took, or not yet
 
 sending_then : (sent rest : List ℕ) (pipe : Bulk) (n : ℕ) (j : Location) (s u v : State)
-    → GaveLeaves (end_of pipe) pipe.ep pipe.toggle n sent j s u → SinkBetween (end_of pipe) pipe.ep (flips n pipe.toggle) (take pipe.max rest) j u v
+    → GaveLeaves (end_of pipe) pipe.ep pipe.toggle n sent j s u
+    → SinkBetween (end_of pipe) pipe.ep (flips n pipe.toggle) (take pipe.max rest) j u v
     → SendingLeaves sent (take pipe.max rest) (flips n pipe.toggle) pipe j s v
 sending_then sent rest pipe n j s u v x y = record {
   others = others_stay_then pipe.target s u v x.others y.others;
   frame = λ i. sink_frame x i v y.frame;
-  way = λ h e f. let i = f.endpoint in y.sink (sink_at x i h) pipe.max (s.sink ++ sent) (sink_then x i) (fits_packet pipe.max rest) (sink_level x i (take pipe.max rest) h (f.level e));
+  way = λ h e f. let i = f.endpoint in y.sink (sink_at x i h) pipe.max (s.sink ++ sent)
+      (sink_then x i) (fits_packet pipe.max rest)
+      (sink_level x i (take pipe.max rest) h (f.level e));
 }
 
 pub sending_leaves : (bytes : List ℕ) (pipe : Bulk) (old now : World) → IsSettled old.roots
     → (g : WhileSending (end_of pipe) pipe.ep pipe.toggle bytes old now) → now.shared ≡ false
-    → EachWas (SendingLeaves g.sent (take pipe.max g.rest) (flips g.packets pipe.toggle) pipe) old now
+    → EachWas (SendingLeaves g.sent (take pipe.max g.rest) (flips g.packets pipe.toggle) pipe) old
+    now
 sending_leaves bytes pipe old now settled g single =
-    each_joined _ _ _ (sending_then g.sent g.rest pipe g.packets) old g.mid now (gave_leaves (end_of pipe) pipe.ep pipe.toggle settled g.before (trail_unshared g.trail single))
-    (sink_between (end_of pipe) pipe.ep (flips g.packets pipe.toggle) (take pipe.max g.rest) g.outcomes g.mid now (gave_settled g.before settled) g.trail g.onward single)
+    each_joined _ _ _ (sending_then g.sent g.rest pipe g.packets) old g.mid now
+    (gave_leaves (end_of pipe) pipe.ep pipe.toggle settled g.before
+    (trail_unshared g.trail single))
+    (sink_between (end_of pipe) pipe.ep (flips g.packets pipe.toggle) (take pipe.max g.rest)
+    g.outcomes g.mid now (gave_settled g.before settled) g.trail g.onward single)
 
 -- The next bytes of a list
 
-next_bytes : (got bytes xs : List ℕ) (place max : ℕ) → got ≡ take (length got) (drop place xs) → bytes ≡ take max (drop (place + length got) xs)
+next_bytes : (got bytes xs : List ℕ) (place max : ℕ) → got ≡ take (length got) (drop place xs)
+    → bytes ≡ take max (drop (place + length got) xs)
     → got ++ bytes ≡ take (length (got ++ bytes)) (drop place xs)
-next_bytes got bytes xs place max before now = grind (arith, take-add, take_min, drop-drop, length-append, length-take)
+next_bytes got bytes xs place max before now =
+    grind (arith, take-add, take_min, drop-drop, length-append, length-take)
 
-next_place : (got bytes xs : List ℕ) (place max : ℕ) → bytes ≡ take max (drop (place + length got) xs) → advanced (place + length got) max (length xs) ≡ place + length (got ++ bytes)
+next_place : (got bytes xs : List ℕ) (place max : ℕ)
+    → bytes ≡ take max (drop (place + length got) xs)
+    → advanced (place + length got) max (length xs) ≡ place + length (got ++ bytes)
 next_place got bytes xs place max now =
     grind (arith, length-append, length-take, length-drop)
 
 -- What packets that came leave of one device
 
-record CameLeaves (t : Target) (ep : ℕ) (first : Toggle) (n : ℕ) (got : List ℕ) (j : Location) (s v : State) : Type 0 where
+record CameLeaves (t : Target) (ep : ℕ) (first : Toggle) (n : ℕ) (got : List ℕ) (j : Location)
+    (s v : State) : Type 0 where
   others : is_at s t ≡ false → v ≡ s
   frame : IsSource ep t.max s → OnlySource s v
-  source : is_at s t ≡ true → IsSource ep t.max s → (place : ℕ) → SourceAt t.max place first s → (got ≡ take (length got) (drop place s.spec.source)) × SourceAt t.max (place + length got) (flips n first) v
+  source : is_at s t ≡ true → IsSource ep t.max s → (place : ℕ) → SourceAt t.max place first s
+      → (got ≡ take (length got) (drop place s.spec.source))
+      × SourceAt t.max (place + length got) (flips n first) v
   still : is_at s t ≡ true → IsSource ep t.max s → s.bulk_in.halted ≡ true → (v ≡ s) × (n ≡ 0)
 
 -- the endpoint behind them
-module _ {t : Target} {ep : ℕ} {first : Toggle} {n : ℕ} {got : List ℕ} {j : Location} {s u : State} (x : CameLeaves t ep first n got j s u) (i : IsSource ep t.max s) where
+module _ {t : Target} {ep : ℕ} {first : Toggle} {n : ℕ} {got : List ℕ} {j : Location} {s u : State}
+    (x : CameLeaves t ep first n got j s u) (i : IsSource ep t.max s) where
   source_then : IsSource ep t.max u
   source_then = source_kept ep t.max s u (x.frame i) i
 
@@ -258,182 +376,319 @@ module _ {t : Target} {ep : ℕ} {first : Toggle} {n : ℕ} {got : List ℕ} {j 
   source_halted h c = ap (λ q. q.bulk_in.halted) (x.still h i c).0 ∙ c
 
   source_frame : (v : State) → ((most : ℕ) → IsSource ep most u → OnlySource u v) → OnlySource s v
-  source_frame v f = f t.max source_then ∙ ap {A = State} (λ q. record q { memory = v.memory; bulk_in = v.bulk_in; place = v.place }) (x.frame i)
+  source_frame v f = f t.max source_then
+      ∙ ap {A = State} (λ q. record q { memory = v.memory; bulk_in = v.bulk_in; place = v.place })
+      (x.frame i)
 
-came_none : (t : Target) (ep : ℕ) (first : Toggle) (j : Location) (s : State) → CameLeaves t ep first 0 [] j s s
+came_none : (t : Target) (ep : ℕ) (first : Toggle) (j : Location) (s : State)
+    → CameLeaves t ep first 0 [] j s s
 unfolding flips
-came_none t ep first j s = record { others = λ h. refl; frame = λ i. refl; source = λ h i place at. (refl, subst (λ k. SourceAt t.max k first s) (omega arith) at); still = λ h i c. (refl, refl) }
+came_none t ep first j s = record {
+  others = λ h. refl;
+  frame = λ i. refl;
+  source =
+      λ h i place at. (refl, subst (λ k. SourceAt t.max k first s) (omega arith) at);
+  still =
+      λ h i c. (refl, refl);
+}
 
-came_then : (t : Target) (ep : ℕ) (first : Toggle) (n : ℕ) (got bytes : List ℕ) → 1 ≤ t.max → (j : Location) (s u v : State)
-    → CameLeaves t ep first n got j s u → SourceIn t ep (flips n first) (Ok bytes) j u v → CameLeaves t ep first (n + 1) (got ++ bytes) j s v
+came_then : (t : Target) (ep : ℕ) (first : Toggle) (n : ℕ) (got bytes : List ℕ) → 1 ≤ t.max
+    → (j : Location) (s u v : State)
+    → CameLeaves t ep first n got j s u → SourceIn t ep (flips n first) (Ok bytes) j u v
+    → CameLeaves t ep first (n + 1) (got ++ bytes) j s v
 came_then t ep first n got bytes least j s u v x y = record {
   others = others_stay_then t s u v x.others y.others;
   frame = λ i. source_frame x i v y.frame;
   source = λ h i place at.
       let before = x.source h i place at in
-      let now = rw (ap (λ q. q.spec.source) (x.frame i)) at (y.source (source_at x i h) t.max (place + length got) (source_then x i) least before.1) in (
+      let now = rw (ap (λ q. q.spec.source) (x.frame i)) at
+      (y.source (source_at x i h) t.max (place + length got) (source_then x i) least before.1)
+      in (
         next_bytes got bytes s.spec.source place t.max before.0 now.0,
-        rw (← next_place got bytes s.spec.source place t.max now.0, ← turned_on n first (other (flips n first)) refl) now.2,
+        rw (
+          ← next_place got bytes s.spec.source place t.max now.0,
+          ← turned_on n first (other (flips n first)) refl,
+        ) now.2,
       );
-  still = λ h i c. absurd ((y.halted (source_at x i h) t.max (source_then x i) (source_halted x i h c)).1 bytes refl);
+  still = λ h i c. absurd ((y.halted (source_at x i h) t.max (source_then x i)
+      (source_halted x i h c)).1 bytes refl);
 }
 
-module _ (t : Target) (ep : ℕ) (first : Toggle) (least : 1 ≤ t.max) {old : World} (settled : IsSettled old.roots) where
-  came_leaves : {n : ℕ} {got : List ℕ} {new : World} → Came t ep first old n got new → new.shared ≡ false → EachWas (CameLeaves t ep first n got) old new
+module _ (t : Target) (ep : ℕ) (first : Toggle) (least : 1 ≤ t.max) {old : World}
+    (settled : IsSettled old.roots) where
+  came_leaves : {n : ℕ} {got : List ℕ} {new : World} → Came t ep first old n got new
+      → new.shared ≡ false → EachWas (CameLeaves t ep first n got) old new
   came_leaves start single = each_none _ (came_none t ep first) old
   came_leaves {new = new} (packet {n} {got} {mid} bytes c fetches full) single =
       each_joined _ _ _ (came_then t ep first n got bytes least) old mid new
-      (came_leaves c (ended_unshared fetches single)) (source_over t ep (flips n first) (Ok bytes) mid new (received_settled c settled) fetches single)
+      (came_leaves c (ended_unshared fetches single))
+      (source_over t ep (flips n first) (Ok bytes) mid new (received_settled c settled) fetches
+      single)
 
   -- and one more, full or not
-  came_on : {n : ℕ} {got last : List ℕ} {mid new : World} → Came t ep first old n got mid → TransactionDone (heard_as (flips n first)) (in_attempt t ep) mid (Ok last) new → new.shared ≡ false
+  came_on : {n : ℕ} {got last : List ℕ} {mid new : World} → Came t ep first old n got mid
+      → TransactionDone (heard_as (flips n first)) (in_attempt t ep) mid (Ok last) new
+      → new.shared ≡ false
       → EachWas (CameLeaves t ep first (n + 1) (got ++ last)) old new
   came_on {n} {got} {last} {mid} {new} c fetches single =
       each_joined _ _ _ (came_then t ep first n got last least) old mid new
-      (came_leaves c (ended_unshared fetches single)) (source_over t ep (flips n first) (Ok last) mid new (received_settled c settled) fetches single)
+      (came_leaves c (ended_unshared fetches single))
+      (source_over t ep (flips n first) (Ok last) mid new (received_settled c settled) fetches
+      single)
 
-came_damages : {t : Target} {ep : ℕ} {first : Toggle} {old : World} {n : ℕ} {got : List ℕ} {new : World} → Came t ep first old n got new → new.damages ≡ old.damages
+came_damages : {t : Target} {ep : ℕ} {first : Toggle} {old : World} {n : ℕ} {got : List ℕ}
+    {new : World} → Came t ep first old n got new → new.damages ≡ old.damages
 came_damages start = refl
 came_damages (packet bytes c fetches full) = ended_damages fetches ∙ came_damages c
 
 -- One device and its pipe
 
 -- all came
-all_came : (pipe left : Bulk) (bytes : Vec ℕ) (n : ℕ) → pipe.condition ≢ Broken → left ≡ record pipe { toggle = left.toggle; condition = Ready } → left.toggle ≡ flips (n + 1) pipe.toggle
-    → (j : Location) (s v : State) → CameLeaves (end_of pipe) pipe.ep pipe.toggle (n + 1) bytes.items j s v → ReceiveLeaves pipe (Ok bytes) left j s v
+all_came : (pipe left : Bulk) (bytes : Vec ℕ) (n : ℕ) → pipe.condition ≢ Broken
+    → left ≡ record pipe { toggle = left.toggle; condition = Ready }
+    → left.toggle ≡ flips (n + 1) pipe.toggle
+    → (j : Location) (s v : State) → CameLeaves (end_of pipe) pipe.ep pipe.toggle (n + 1)
+    bytes.items j s v → ReceiveLeaves pipe (Ok bytes) left j s v
 all_came pipe left bytes n works e turned j s v x = record {
   others = x.others;
   frame = x.frame;
   fits = λ h place f. subst (λ l. InPipeInSync l (place + length bytes.items) v) (sym e) (record {
     endpoint = source_then x f.endpoint;
-    level = λ r. subst (λ k. SourceAt pipe.max (place + length bytes.items) k v) (sym turned) (came h place f).1;
+    level = λ r. subst (λ k. SourceAt pipe.max (place + length bytes.items) k v) (sym turned)
+        (came h place f).1;
     halted = λ r. cc r;
   });
-  done = λ h place f given r. let same : given ≡ bytes = cc r in subst (λ k. k.items ≡ take (length k.items) (drop place s.spec.source)) (sym same) (came h place f).0;
+  done = λ h place f given r. let same : given ≡ bytes = cc r in
+      subst (λ k. k.items ≡ take (length k.items) (drop place s.spec.source)) (sym same)
+      (came h place f).0;
 }
   where
     came : is_at s pipe.target ≡ true → (place : ℕ) → InPipeInSync pipe place s
-        → (bytes.items ≡ take (length bytes.items) (drop place s.spec.source)) × SourceAt pipe.max (place + length bytes.items) (flips (n + 1) pipe.toggle) v
-    came h place f = ready_or _ pipe.condition works (λ r. x.source h f.endpoint place (f.level r)) (λ r. let none = (x.still h f.endpoint (f.halted r)).1 in absurd (omega (arith, none)))
+        → (bytes.items ≡ take (length bytes.items) (drop place s.spec.source))
+        × SourceAt pipe.max (place + length bytes.items) (flips (n + 1) pipe.toggle) v
+    came h place f = ready_or _ pipe.condition works (λ r. x.source h f.endpoint place (f.level r))
+        (λ r. let none = (x.still h f.endpoint (f.halted r)).1 in absurd (omega (arith, none)))
 
--- where a call fails, no more is known of the endpoint than that it is the one it was, and that it is halted where it answered STALL
-lost_came : (old new : World) (pipe left : Bulk) (why : PipeFault) → FaultAfter 0 old why new → left ≡ record pipe { toggle = left.toggle; condition = after_fault pipe.condition why }
-    → (j : Location) (s v : State) → (is_at s pipe.target ≡ false → v ≡ s) → (IsSource pipe.ep pipe.max s → OnlySource s v)
-    → (why ≡ pipe_fault.Stalled → is_at s pipe.target ≡ true → IsSource pipe.ep pipe.max s → v.bulk_in.halted ≡ true) → ReceiveLeaves pipe (Err why) left j s v
-lost_came old new pipe left why ends e j s v others frame halted = grind (arith, source_kept, others, frame, halted)
+-- where a call fails, no more is known of the endpoint than that it is the one it was, and that it
+-- is halted where it answered STALL
+lost_came : (old new : World) (pipe left : Bulk) (why : PipeFault) → FaultAfter 0 old why new
+    → left ≡ record pipe { toggle = left.toggle; condition = after_fault pipe.condition why }
+    → (j : Location) (s v : State) → (is_at s pipe.target ≡ false → v ≡ s)
+    → (IsSource pipe.ep pipe.max s → OnlySource s v)
+    → (why ≡ pipe_fault.Stalled → is_at s pipe.target ≡ true → IsSource pipe.ep pipe.max s
+    → v.bulk_in.halted ≡ true) → ReceiveLeaves pipe (Err why) left j s v
+lost_came old new pipe left why ends e j s v others frame halted =
+    grind (arith, source_kept, others, frame, halted)
 
 -- a call that makes no attempt
-idle_came : (pipe : Bulk) (result : Result (Vec ℕ) PipeFault) → pipe_known result pipe ≡ pipe → came_with result ≡ 0 → ((bytes : Vec ℕ) → result ≡ Ok bytes → bytes.items ≡ []) → (j : Location) (s : State)
+idle_came : (pipe : Bulk) (result : Result (Vec ℕ) PipeFault) → pipe_known result pipe ≡ pipe
+    → came_with result ≡ 0 → ((bytes : Vec ℕ) → result ≡ Ok bytes → bytes.items ≡ [])
+    → (j : Location) (s : State)
     → ReceiveLeaves pipe result pipe j s s
 idle_came pipe result same size none j s = grind (arith, none)
 
 -- a packet that did not come, behind others that did
-module _ (wanted : ℕ) (pipe : Bulk) (n : ℕ) (got : List ℕ) (why : PipeFault) (fault : TransFault) (works : pipe.condition ≢ Broken) (least : 1 ≤ pipe.max) (told : why ≡ as_pipe_fault fault)
-    (few : n < wanted) (full : length got ≡ n * pipe.max) (j : Location) (s u v : State) (x : CameLeaves (end_of pipe) pipe.ep pipe.toggle n got j s u) where
-  lost_then : (old new : World) (left : Bulk) → FaultAfter 0 old why new → left ≡ record pipe { toggle = left.toggle; condition = after_fault pipe.condition why }
-      → SourceIn (end_of pipe) pipe.ep (flips n pipe.toggle) (Err fault) j u v → ReceiveLeaves pipe (Err why) left j s v
+module _ (wanted : ℕ) (pipe : Bulk) (n : ℕ) (got : List ℕ) (why : PipeFault) (fault : TransFault)
+    (works : pipe.condition ≢ Broken) (least : 1 ≤ pipe.max) (told : why ≡ as_pipe_fault fault)
+    (few : n < wanted) (full : length got ≡ n * pipe.max) (j : Location) (s u v : State)
+    (x : CameLeaves (end_of pipe) pipe.ep pipe.toggle n got j s u) where
+  lost_then : (old new : World) (left : Bulk) → FaultAfter 0 old why new
+      → left ≡ record pipe { toggle = left.toggle; condition = after_fault pipe.condition why }
+      → SourceIn (end_of pipe) pipe.ep (flips n pipe.toggle) (Err fault) j u v
+      → ReceiveLeaves pipe (Err why) left j s v
   lost_then old new left ends e y =
-      lost_came old new pipe left why ends e j s v (others_stay_then pipe.target s u v x.others y.others) (λ i. source_frame x i v y.frame) (λ stalled h i.
-      let z = y.stalled (source_at x i h) pipe.max (source_then x i) (fell_same_fault (Vec ℕ) why fault trans.Stalled told (ap Err stalled)) in ap (λ q. q.bulk_in.halted) z.1 ∙ z.0)
+      lost_came old new pipe left why ends e j s v
+      (others_stay_then pipe.target s u v x.others y.others) (λ i. source_frame x i v y.frame)
+      (λ stalled h i.
+      let z = y.stalled (source_at x i h) pipe.max (source_then x i)
+      (fell_same_fault (Vec ℕ) why fault trans.Stalled told (ap Err stalled)) in
+      ap (λ q. q.bulk_in.halted) z.1 ∙ z.0)
 
-  lost_why : SourceInFailure (end_of pipe) pipe.ep (flips n pipe.toggle) (Err fault) j u v → ReceiveFailure wanted pipe (Err why) j s v
+  lost_why : SourceInFailure (end_of pipe) pipe.ep (flips n pipe.toggle) (Err fault) j u v
+      → ReceiveFailure wanted pipe (Err why) j s v
   lost_why y = record {
     answered = λ l place f e.
-        let no : Fell fault trans.NoAnswer = fell_same_fault (Vec ℕ) why fault trans.NoAnswer told e in
-        ready_or ⊥ pipe.condition works (λ r. y.answered (hears l f) pipe.max (place + length got) (source_then x f.endpoint) (at l f r) (omega arith) no) (λ r. (halted l f r).0 no);
+        let no : Fell fault trans.NoAnswer = fell_same_fault (Vec ℕ) why fault trans.NoAnswer told
+        e in
+        ready_or ⊥ pipe.condition works (λ r. y.answered (hears l f) pipe.max (place + length got)
+        (source_then x f.endpoint) (at l f r) (omega arith) no) (λ r. (halted l f r).0 no);
     waited = λ l place f more e.
         let no : Fell fault trans.Busy = fell_same_fault (Vec ℕ) why fault trans.Busy told e in
-        ready_or ⊥ pipe.condition works (λ r. y.waited (hears l f) pipe.max (place + length got) (source_then x f.endpoint) least (at l f r) (omega arith) (rest f more) no) (λ r. (halted l f r).1 no);
+        ready_or ⊥ pipe.condition works (λ r. y.waited (hears l f) pipe.max (place + length got)
+        (source_then x f.endpoint) least (at l f r) (omega arith) (rest f more) no)
+        (λ r. (halted l f r).1 no);
   }
     where
-      hears : {place : ℕ} → Listens pipe.target j s → InPipeInSync pipe place s → Listens (end_of pipe) j u
-      hears l f = let only = x.frame f.endpoint in listens_packet pipe.target pipe.max j s u (ap (λ q. q.spec) only) (ap (λ q. q.registers) only) l
+      hears : {place : ℕ} → Listens pipe.target j s → InPipeInSync pipe place s
+          → Listens (end_of pipe) j u
+      hears l f = let only = x.frame f.endpoint in
+          listens_packet pipe.target pipe.max j s u (ap (λ q. q.spec) only)
+          (ap (λ q. q.registers) only) l
 
-      at : {place : ℕ} → Listens pipe.target j s → InPipeInSync pipe place s → pipe.condition ≡ Ready → SourceAt pipe.max (place + length got) (flips n pipe.toggle) u
+      at : {place : ℕ} → Listens pipe.target j s → InPipeInSync pipe place s
+          → pipe.condition ≡ Ready → SourceAt pipe.max (place + length got) (flips n pipe.toggle) u
       at {place} l f r = (x.source l.at f.endpoint place (f.level r)).1
 
-      halted : {place : ℕ} → Listens pipe.target j s → InPipeInSync pipe place s → pipe.condition ≡ Halted → (Fell fault trans.NoAnswer → ⊥) × (Fell fault trans.Busy → ⊥)
-      halted l f r = y.halted (hears l f) pipe.max (source_then x f.endpoint) (source_halted x f.endpoint l.at (f.halted r))
+      halted : {place : ℕ} → Listens pipe.target j s → InPipeInSync pipe place s
+          → pipe.condition ≡ Halted → (Fell fault trans.NoAnswer → ⊥) × (Fell fault trans.Busy → ⊥)
+      halted l f r = y.halted (hears l f) pipe.max (source_then x f.endpoint)
+          (source_halted x f.endpoint l.at (f.halted r))
 
-      rest : {place : ℕ} → InPipeInSync pipe place s → place + (wanted - 1) * pipe.max < length s.spec.source → place + length got < length u.spec.source
+      rest : {place : ℕ} → InPipeInSync pipe place s
+          → place + (wanted - 1) * pipe.max < length s.spec.source
+          → place + length got < length u.spec.source
       rest {place} f more =
-          let most : n * pipe.max ≤ (wanted - 1) * pipe.max = mul-le-mul_right pipe.max (omega (arith, few)) in
+          let most : n * pipe.max ≤ (wanted - 1) * pipe.max =
+          mul-le-mul_right pipe.max (omega (arith, few)) in
           rw (ap (λ q. q.spec.source) (x.frame f.endpoint)) (omega (arith, full, most, more))
 
 -- A call that receives
 
-module _ (wanted : ℕ) (pipe left : Bulk) (old new : World) (least : 1 ≤ pipe.max) (single : new.shared ≡ false) where
-  received_leaves : (result : Result (Vec ℕ) PipeFault) → pipe.condition ≢ Broken → MovedIn wanted pipe old result left new → EachWas (ReceiveLeaves pipe result left) old new
+module _ (wanted : ℕ) (pipe left : Bulk) (old new : World) (least : 1 ≤ pipe.max)
+    (single : new.shared ≡ false) where
+  received_leaves : (result : Result (Vec ℕ) PipeFault) → pipe.condition ≢ Broken
+      → MovedIn wanted pipe old result left new → EachWas (ReceiveLeaves pipe result left) old new
   received_leaves (Ok bytes) works x =
       let g : AllCame (end_of pipe) pipe.ep pipe.toggle wanted old bytes.items new = x.came in
-      let turned : left.toggle ≡ flips (g.packets + 1) pipe.toggle = x.toggle ∙ ap (λ k. flips k pipe.toggle) (all_packets g least) in
+      let turned : left.toggle ≡ flips (g.packets + 1) pipe.toggle = x.toggle
+      ∙ ap (λ k. flips k pipe.toggle) (all_packets g least) in
       each_wider _ _ (all_came pipe left bytes g.packets works x.pipe_left turned) old new
-      (subst (λ k. EachWas (CameLeaves (end_of pipe) pipe.ep pipe.toggle (g.packets + 1) k) old new) (sym g.kept) (came_on (end_of pipe) pipe.ep pipe.toggle least x.settled g.before g.came single))
+      (subst (λ k. EachWas (CameLeaves (end_of pipe) pipe.ep pipe.toggle (g.packets + 1) k) old new)
+      (sym g.kept) (came_on (end_of pipe) pipe.ep pipe.toggle least x.settled g.before g.came
+      single))
   received_leaves (Err why) works x = by_end x.came
     where
-      by_end : NotCame (end_of pipe) pipe.ep pipe.toggle wanted old why new ⊎ NoRoomLeft (end_of pipe) pipe.ep pipe.toggle wanted old why new → EachWas (ReceiveLeaves pipe (Err why) left) old new
+      by_end : NotCame (end_of pipe) pipe.ep pipe.toggle wanted old why new
+          ⊎ NoRoomLeft (end_of pipe) pipe.ep pipe.toggle wanted old why new
+          → EachWas (ReceiveLeaves pipe (Err why) left) old new
       by_end (inl g) =
           let began : IsSettled g.mid.roots = received_settled g.before x.settled in
-          each_joined _ _ _ (λ j s u v y. lost_then wanted pipe g.packets g.got why g.fault works least g.told g.few (came_full g.before) j s u v y old new left x.ends x.pipe_left) old g.mid new
-          (came_leaves (end_of pipe) pipe.ep pipe.toggle least x.settled g.before (transacted_unshared _ _ _ _ (Err g.fault) g.lost began single))
-          (source_leaves (end_of pipe) pipe.ep (flips g.packets pipe.toggle) (Err g.fault) g.mid new began g.lost single)
+          each_joined _ _ _ (λ j s u v y. lost_then wanted pipe g.packets g.got why g.fault works
+          least g.told g.few (came_full g.before) j s u v y old new left x.ends x.pipe_left)
+          old g.mid new
+          (came_leaves (end_of pipe) pipe.ep pipe.toggle least x.settled g.before
+          (transacted_unshared _ _ _ _ (Err g.fault) g.lost began single))
+          (source_leaves (end_of pipe) pipe.ep (flips g.packets pipe.toggle) (Err g.fault) g.mid new
+          began g.lost single)
       by_end (inr g) =
-          each_wider (CameLeaves (end_of pipe) pipe.ep pipe.toggle (g.packets + 1) (g.got ++ g.last)) _ (λ j s v y. lost_came old new pipe left why x.ends x.pipe_left j s v y.others y.frame (λ stalled h i. cc (g.told, stalled))) old new
+          each_wider (CameLeaves (end_of pipe) pipe.ep pipe.toggle (g.packets + 1)
+          (g.got ++ g.last)) _ (λ j s v y. lost_came old new pipe left why x.ends x.pipe_left
+          j s v y.others y.frame (λ stalled h i. cc (g.told, stalled))) old new
           (came_on (end_of pipe) pipe.ep pipe.toggle least x.settled g.before g.came single)
 
-pub receive_leaves : (wanted : ℕ) (pipe : Bulk) (result : Result (Vec ℕ) PipeFault) (left : Bulk) (old new : World) → 1 ≤ pipe.max
-    → Receives wanted pipe old result left new → new.shared ≡ false → EachWas (ReceiveLeaves pipe result left) old new
+pub receive_leaves : (wanted : ℕ) (pipe : Bulk) (result : Result (Vec ℕ) PipeFault) (left : Bulk)
+    (old new : World) → 1 ≤ pipe.max
+    → Receives wanted pipe old result left new → new.shared ≡ false
+    → EachWas (ReceiveLeaves pipe result left) old new
 receive_leaves wanted pipe result left old new least x single =
     receive_by (EachWas (ReceiveLeaves pipe result left) old new)
-    (λ broken kept same. rw (broken, kept, same) (each_none _ (idle_came pipe (Err pipe_fault.Broken) refl refl (λ given e. cc e)) old))
-    (λ bytes is none kept same. rw (is, kept, same) (each_none _ (idle_came pipe (Ok bytes) refl (ap length none) (λ given e. let k : given ≡ bytes = cc e in ap (λ q. q.items) k ∙ none)) old))
+    (λ broken kept same. rw (broken, kept, same)
+    (each_none _ (idle_came pipe (Err pipe_fault.Broken) refl refl (λ given e. cc e)) old))
+    (λ bytes is none kept same. rw (is, kept, same)
+    (each_none _ (idle_came pipe (Ok bytes) refl (ap length none)
+    (λ given e. let k : given ≡ bytes = cc e in ap (λ q. q.items) k ∙ none)) old))
     (λ works some y. received_leaves wanted pipe left old new least single result works y) x
 
 -- why it fails
-module _ (wanted : ℕ) (pipe left : Bulk) (old new : World) (least : 1 ≤ pipe.max) (single : new.shared ≡ false) where
-  never_received : (result : Result (Vec ℕ) PipeFault) → Receives wanted pipe old result left new → result ≢ Err pipe_fault.NoAnswer → result ≢ Err pipe_fault.Busy → EachWas (ReceiveFailure wanted pipe result) old new
+module _ (wanted : ℕ) (pipe left : Bulk) (old new : World) (least : 1 ≤ pipe.max)
+    (single : new.shared ≡ false) where
+  never_received : (result : Result (Vec ℕ) PipeFault) → Receives wanted pipe old result left new
+      → result ≢ Err pipe_fault.NoAnswer → result ≢ Err pipe_fault.Busy
+      → EachWas (ReceiveFailure wanted pipe result) old new
   never_received result x answered waited =
-      each_wider (ReceiveLeaves pipe result left) _ (λ j s v y. record { answered = λ l place f. answered; waited = λ l place f more. waited }) old new (receive_leaves wanted pipe result left old new least x single)
+      each_wider (ReceiveLeaves pipe result left) _
+      (λ j s v y. record {
+        answered = λ l place f. answered;
+        waited =
+            λ l place f more. waited;
+      }) old new
+      (receive_leaves wanted pipe result left old new least x single)
 
-  receive_why : (result : Result (Vec ℕ) PipeFault) → NoThreeDamaged old → Receives wanted pipe old result left new → IsNoBusFault result → EachWas (ReceiveFailure wanted pipe result) old new
+  receive_why : (result : Result (Vec ℕ) PipeFault) → NoThreeDamaged old
+      → Receives wanted pipe old result left new → IsNoBusFault result
+      → EachWas (ReceiveFailure wanted pipe result) old new
   receive_why (Ok bytes) three x sound = never_received (Ok bytes) x (λ e. cc e) (λ e. cc e)
   receive_why (Err why) three x sound =
-      receive_by (EachWas (ReceiveFailure wanted pipe (Err why)) old new) (λ broken kept same. never_received (Err why) x (λ e. cc (broken, e)) (λ e. cc (broken, e))) (λ bytes is none kept same. cc is)
+      receive_by (EachWas (ReceiveFailure wanted pipe (Err why)) old new)
+      (λ broken kept same. never_received (Err why) x (λ e. cc (broken, e))
+      (λ e. cc (broken, e))) (λ bytes is none kept same. cc is)
       (λ works some y. by_end works y.settled y.came) x
     where
-      by_end : pipe.condition ≢ Broken → IsSettled old.roots → NotCame (end_of pipe) pipe.ep pipe.toggle wanted old why new ⊎ NoRoomLeft (end_of pipe) pipe.ep pipe.toggle wanted old why new → EachWas (ReceiveFailure wanted pipe (Err why)) old new
+      by_end : pipe.condition ≢ Broken → IsSettled old.roots
+          → NotCame (end_of pipe) pipe.ep pipe.toggle wanted old why new
+          ⊎ NoRoomLeft (end_of pipe) pipe.ep pipe.toggle wanted old why new
+          → EachWas (ReceiveFailure wanted pipe (Err why)) old new
       by_end works settled (inl g) =
-          let over : TransactionDone (heard_as (flips g.packets pipe.toggle)) (in_attempt (end_of pipe) pipe.ep) g.mid (Err g.fault) new = transacted_ended (Vec ℕ) why g.fault g.told sound g.lost in
-          each_joined _ _ _ (lost_why wanted pipe g.packets g.got why g.fault works least g.told g.few (came_full g.before)) old g.mid new
-          (came_leaves (end_of pipe) pipe.ep pipe.toggle least settled g.before (ended_unshared over single))
-          (source_why (end_of pipe) pipe.ep (flips g.packets pipe.toggle) (Err g.fault) g.mid new (received_settled g.before settled) (never_three old g.mid (came_damages g.before) three) over single)
-      by_end works settled (inr g) = never_received (Err why) x (λ e. cc (g.told, e)) (λ e. cc (g.told, e))
+          let over : TransactionDone (heard_as (flips g.packets pipe.toggle))
+          (in_attempt (end_of pipe) pipe.ep) g.mid (Err g.fault) new =
+          transacted_ended (Vec ℕ) why g.fault g.told sound g.lost in
+          each_joined _ _ _ (lost_why wanted pipe g.packets g.got why g.fault works least g.told
+          g.few (came_full g.before)) old g.mid new
+          (came_leaves (end_of pipe) pipe.ep pipe.toggle least settled g.before
+          (ended_unshared over single))
+          (source_why (end_of pipe) pipe.ep (flips g.packets pipe.toggle) (Err g.fault) g.mid new
+          (received_settled g.before settled)
+          (never_three old g.mid (came_damages g.before) three) over single)
+      by_end works settled (inr g) = never_received (Err why) x (λ e. cc (g.told, e))
+          (λ e. cc (g.told, e))
 
 -- A call that moved packets, by what these tell
 
-pub sends_by : (bytes : List ℕ) (pipe : Bulk) (old : World) (result : Result (Unit {0}) PipeFault) (left : Bulk) (new : World) → pipe.condition ≢ Broken → bytes ≢ []
-    → PacketsSent (packet_target pipe.target pipe.max) pipe.ep pipe.toggle bytes old result left.toggle new → left ≡ record pipe { toggle = left.toggle; condition = after_transfer pipe.condition result }
+pub sends_by : (bytes : List ℕ) (pipe : Bulk) (old : World) (result : Result (Unit {0}) PipeFault)
+    (left : Bulk) (new : World) → pipe.condition ≢ Broken → bytes ≢ []
+    → PacketsSent (packet_target pipe.target pipe.max) pipe.ep pipe.toggle bytes old result
+    left.toggle new → left ≡ record pipe {
+      toggle = left.toggle;
+      condition =
+          after_transfer pipe.condition result;
+    }
     → IsSettled old.roots → Sends bytes pipe old result left new
 sends_by bytes pipe old result left new works some x is settled = record {
   broken = λ e. absurd (works e);
   nothing = λ w e. absurd (some e);
-  moved = λ w s. record { ends = x.ends; went = x.moves; behind = x.behind; settled = settled; room
-      = x.room; pipe_left = is; toggle = x.turned; halted = x.halted };
+  moved = λ w s. record {
+    ends = x.ends;
+    went = x.moves;
+    behind = x.behind;
+    settled = settled;
+    room
+        = x.room;
+    pipe_left = is;
+    toggle = x.turned;
+    halted = x.halted;
+  };
 }
 
-pub receives_by : (wanted : ℕ) (pipe : Bulk) (old : World) (result : Result (Vec ℕ) PipeFault) (left : Bulk) (new : World) → pipe.condition ≢ Broken → wanted ≢ 0
-    → PacketsReceived (packet_target pipe.target pipe.max) pipe.ep pipe.toggle wanted old result left.toggle new → left ≡ record pipe { toggle = left.toggle; condition = after_transfer pipe.condition result }
+pub receives_by : (wanted : ℕ) (pipe : Bulk) (old : World) (result : Result (Vec ℕ) PipeFault)
+    (left : Bulk) (new : World) → pipe.condition ≢ Broken → wanted ≢ 0
+    → PacketsReceived (packet_target pipe.target pipe.max) pipe.ep pipe.toggle wanted old result
+    left.toggle new → left ≡ record pipe {
+      toggle = left.toggle;
+      condition =
+          after_transfer pipe.condition result;
+    }
     → IsSettled old.roots → Receives wanted pipe old result left new
 receives_by wanted pipe old result left new works some x is settled = record {
   broken = λ e. absurd (works e);
   nothing = λ w e. absurd (some e);
-  moved = λ w s. record { ends = x.ends; came = x.moves; behind = x.behind; settled = settled; most
-      = x.most; pipe_left = is; toggle = x.turned; halted = x.halted };
+  moved = λ w s. record {
+    ends = x.ends;
+    came = x.moves;
+    behind = x.behind;
+    settled = settled;
+    most
+        = x.most;
+    pipe_left = is;
+    toggle = x.turned;
+    halted = x.halted;
+  };
 }
 
 -- The record of a call
 
-pub send_told : (bytes : List ℕ) (pipe : Bulk) (result : Result (Unit {0}) PipeFault) (left : Bulk) (old new : World) → Sends bytes pipe old result left new → BulkSend bytes pipe old result left new
+pub send_told : (bytes : List ℕ) (pipe : Bulk) (result : Result (Unit {0}) PipeFault) (left : Bulk)
+    (old new : World) → Sends bytes pipe old result left new
+    → BulkSend bytes pipe old result left new
 send_told bytes pipe result left old new x = record {
   sends = x;
   what = send_leaves bytes pipe result left old new x;
@@ -442,11 +697,14 @@ send_told bytes pipe result left old new x = record {
   losses = send_losses bytes pipe result left old new x;
 }
   where
-    who : (r : Result (Unit {0}) PipeFault) → Sends bytes pipe old r left new → OnOk r (bytes ≢ [] → Unshared new (Answerer pipe.target old new))
+    who : (r : Result (Unit {0}) PipeFault) → Sends bytes pipe old r left new
+        → OnOk r (bytes ≢ [] → Unshared new (Answerer pipe.target old new))
     who (Ok done) x = λ some. who_sends bytes pipe done left old new some x
     who (Err why) x = tt
 
-pub receive_told : (wanted : ℕ) (pipe : Bulk) (result : Result (Vec ℕ) PipeFault) (left : Bulk) (old new : World) → 1 ≤ pipe.max → Receives wanted pipe old result left new → BulkReceive wanted pipe old result left new
+pub receive_told : (wanted : ℕ) (pipe : Bulk) (result : Result (Vec ℕ) PipeFault) (left : Bulk)
+    (old new : World) → 1 ≤ pipe.max → Receives wanted pipe old result left new
+    → BulkReceive wanted pipe old result left new
 receive_told wanted pipe result left old new fits x = record {
   receives = x;
   what = receive_leaves wanted pipe result left old new fits x;
@@ -455,6 +713,7 @@ receive_told wanted pipe result left old new fits x = record {
   losses = λ bulk. receive_losses wanted pipe result left old new bulk x;
 }
   where
-    who : (r : Result (Vec ℕ) PipeFault) → Receives wanted pipe old r left new → OnOk r (wanted ≢ 0 → Unshared new (Answerer pipe.target old new))
+    who : (r : Result (Vec ℕ) PipeFault) → Receives wanted pipe old r left new
+        → OnOk r (wanted ≢ 0 → Unshared new (Answerer pipe.target old new))
     who (Ok bytes) x = λ some. who_receives wanted pipe bytes left old new some x
     who (Err why) x = tt

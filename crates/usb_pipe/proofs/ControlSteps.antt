@@ -1,6 +1,8 @@
 -- The transactions of a control transfer: what each leaves of each device, and how they join.
 use Rattle.std.specs.Prelude.{Result, Ok, Err}
-use Rattle.std.proofs.Common.{◌≡◌, ℕ, ◌+◌, nat_le, ◌&&◌, if◌then◌else◌, Bool, true, false, List, length, Option, None, Some, is_some, refl, sym, subst, ◌∙◌, ◌≢◌, zero, suc, ◌%◌, ◌==◌, not, ap, arith, ◌<◌, ◌≤◌, []}
+use Rattle.std.proofs.Common.{◌≡◌, ℕ, ◌+◌, nat_le, ◌&&◌, if◌then◌else◌, Bool, true, false, List}
+use Rattle.std.proofs.Common.{length, Option, None, Some, is_some, refl, sym, subst, ◌∙◌, ◌≢◌, zero}
+use Rattle.std.proofs.Common.{suc, ◌%◌, ◌==◌, not, ap, arith, ◌<◌, ◌≤◌, []}
 use Rattle.std.proofs.lemmas.Bool.Decides.{nat_tests}
 use Rattle.std.proofs.lemmas.Option.{same_Some}
 use Rattle.usb_packet.specs.declared.Toggle.{Toggle}
@@ -20,9 +22,11 @@ use Rattle.usb_tree.specs.AttemptPackets.{IsSettled}
 use Rattle.usb_world.specs.Wire.{damage_of}
 use Rattle.usb_world.specs.World.{World}
 use Rattle.usb_world.specs.declared.types.Attempt.{Attempt}
-use Rattle.usb_transaction.specs.Failures.{NoThreeDamaged, SetupFailure, ControlInFailure, StatusReadFailure}
+use Rattle.usb_transaction.specs.Failures.{NoThreeDamaged, SetupFailure, ControlInFailure}
+use Rattle.usb_transaction.specs.Failures.{StatusReadFailure}
 use Rattle.usb_transaction.specs.HeardOutcomes.{heard_as}
-use Rattle.usb_transaction.specs.Leaves.{ControlIn, SetupDone, is_at, ReadStatus, IsNotOfBus as TransNotOfBus}
+use Rattle.usb_transaction.specs.Leaves.{ControlIn, SetupDone, is_at, ReadStatus}
+use Rattle.usb_transaction.specs.Leaves.{IsNotOfBus as TransNotOfBus}
 use Rattle.usb_transaction.specs.Losses.{begins_no_stretch, LossesIn, LosesNone}
 use Rattle.usb_transaction.specs.SparedDevices.{EachSpared, IsSpared}
 use Rattle.usb_transaction.specs.AttemptLog.{TransactionDone, Transacted}
@@ -30,7 +34,12 @@ use Rattle.usb_transaction.specs.Transactions.{in_attempt}
 use Rattle.usb_transaction.specs.declared.fault.TransFault.{TransFault}
 use Rattle.usb_transaction.specs.declared.fault.TransFault.TheVariants as trans
 use Rattle.usb_transaction.specs.declared.target.Target.{Target}
-use Rattle.usb_transaction.proofs.Interface.{at_end, control_leaves, each_device, over_in, set_up_why, setup_leaves, trail_damages, trail_settled, trail_unshared, others_stay_then, status_leaves, transacted_unshared, control_in_why, in_losses, set_up_losses, spared_joined, spared_wider, read_status_why, out_losses, read_losses}
+use Rattle.usb_transaction.proofs.Interface.{at_end, control_leaves, each_device, over_in}
+use Rattle.usb_transaction.proofs.Interface.{set_up_why, setup_leaves, trail_damages, trail_settled}
+use Rattle.usb_transaction.proofs.Interface.{trail_unshared, others_stay_then, status_leaves}
+use Rattle.usb_transaction.proofs.Interface.{transacted_unshared, control_in_why, in_losses}
+use Rattle.usb_transaction.proofs.Interface.{set_up_losses, spared_joined, spared_wider}
+use Rattle.usb_transaction.proofs.Interface.{read_status_why, out_losses, read_losses}
 use Rattle.usb_pipe.specs.Control.{as_pipe_fault}
 use Rattle.usb_pipe.specs.Leaves.{IsNoBusFault}
 use Rattle.usb_pipe.specs.Stages.{SetUp, Asks, Confirms}
@@ -43,33 +52,47 @@ use Rattle.usb_pipe.proofs.TransactionFaults.{Fell}
 -- What a transaction's answer says of its worlds
 
 -- the fault is not of the bus: the transaction ended
-pub ended_by : {hear : _} {a : Attempt} {old new : World} (result : Result (List ℕ) TransFault) → TransNotOfBus result → Transacted hear a old result new → TransactionDone hear a old result new
+pub ended_by : {hear : _} {a : Attempt} {old new : World} (result : Result (List ℕ) TransFault)
+    → TransNotOfBus result → Transacted hear a old result new
+    → TransactionDone hear a old result new
 ended_by (Err (trans.Bus fault)) sound x = absurd sound
 ended_by result sound x = x
 
 -- the fault of the bus is the transaction's just where it is the transfer's
-pub sound_in : (A : Type 0) (fault : TransFault) → IsNoBusFault {A = A} (Err (as_pipe_fault fault)) → TransNotOfBus {A = List ℕ} (Err fault)
+pub sound_in : (A : Type 0) (fault : TransFault) → IsNoBusFault {A = A} (Err (as_pipe_fault fault))
+    → TransNotOfBus {A = List ℕ} (Err fault)
 sound_in A (trans.Bus fault) sound = sound
 sound_in A fault sound = tt
 
-pub transacted_ended : (A : Type 0) {hear : _} {a : Attempt} {old new : World} (why : PipeFault) (fault : TransFault) → why ≡ as_pipe_fault fault → IsNoBusFault {A = A} (Err why) → Transacted hear a old (Err fault) new → TransactionDone hear a old (Err fault) new
-transacted_ended A why fault told sound x = ended_by (Err fault) (sound_in A fault (subst (λ w. IsNoBusFault {A = A} (Err w)) told sound)) x
+pub transacted_ended : (A : Type 0) {hear : _} {a : Attempt} {old new : World} (why : PipeFault)
+    (fault : TransFault) → why ≡ as_pipe_fault fault → IsNoBusFault {A = A} (Err why)
+    → Transacted hear a old (Err fault) new → TransactionDone hear a old (Err fault) new
+transacted_ended A why fault told sound x =
+    ended_by (Err fault) (sound_in A fault (subst (λ w. IsNoBusFault {A = A} (Err w)) told sound)) x
 
 -- one that was refused ended
-pub ended_stalled : {hear : _} {a : Attempt} {old new : World} (fault : TransFault) → Transacted hear a old (Err fault) new → Fell fault trans.Stalled → TransactionDone hear a old (Err fault) new
+pub ended_stalled : {hear : _} {a : Attempt} {old new : World} (fault : TransFault)
+    → Transacted hear a old (Err fault) new → Fell fault trans.Stalled
+    → TransactionDone hear a old (Err fault) new
 ended_stalled fault x e = ended_by (Err fault) (subst (λ r. TransNotOfBus r) (sym e) tt) x
 
-pub ended_settled : {hear : _} {a : Attempt} {old new : World} {result : Result (List ℕ) TransFault} → TransactionDone hear a old result new → IsSettled old.roots → IsSettled new.roots
+pub ended_settled : {hear : _} {a : Attempt} {old new : World} {result : Result (List ℕ) TransFault}
+    → TransactionDone hear a old result new → IsSettled old.roots → IsSettled new.roots
 ended_settled x h = trail_settled x.trail h
 
-pub ended_unshared : {hear : _} {a : Attempt} {old new : World} {result : Result (List ℕ) TransFault} → TransactionDone hear a old result new → new.shared ≡ false → old.shared ≡ false
+pub ended_unshared : {hear : _} {a : Attempt} {old new : World}
+    {result : Result (List ℕ) TransFault} → TransactionDone hear a old result new
+    → new.shared ≡ false → old.shared ≡ false
 ended_unshared x h = trail_unshared x.trail h
 
-pub ended_damages : {hear : _} {a : Attempt} {old new : World} {result : Result (List ℕ) TransFault} → TransactionDone hear a old result new → new.damages ≡ old.damages
+pub ended_damages : {hear : _} {a : Attempt} {old new : World} {result : Result (List ℕ) TransFault}
+    → TransactionDone hear a old result new → new.damages ≡ old.damages
 ended_damages x = trail_damages x.trail
 
-pub never_three : (old new : World) → new.damages ≡ old.damages → NoThreeDamaged old → NoThreeDamaged new
-never_three old new e three = subst (λ d. (n : ℕ) → damage_of d n ≢ None → damage_of d (n + 1) ≢ None → damage_of d (n + 2) ≢ None → ⊥) (sym e) three
+pub never_three : (old new : World) → new.damages ≡ old.damages → NoThreeDamaged old
+    → NoThreeDamaged new
+never_three old new e three = subst (λ d. (n : ℕ) → damage_of d n ≢ None
+    → damage_of d (n + 1) ≢ None → damage_of d (n + 2) ≢ None → ⊥) (sym e) three
 
 -- One IN of endpoint 0 keeps the registers of a device in the data stage of a read
 
@@ -86,89 +109,136 @@ abbrev at_reading : List ℕ → ℕ → ℕ → State → State
 at_reading answer wanted known s = record s { stage = reading answer wanted known }
 
 -- each branch of a choice
-pub either_way : {A : Type 0} (P : A → Type 0) (b : Bool) (x y : A) → P x → P y → P (if b then x else y)
+pub either_way : {A : Type 0} (P : A → Type 0) (b : Bool) (x y : A) → P x → P y
+    → P (if b then x else y)
 either_way P true x y h g = h
 either_way P false x y h g = g
 
 -- the ACK of a packet came, or it did not; and there was a packet, or there was none
 reading_stays : (answer : List ℕ) (wanted k max : ℕ) (s : State) (t2 t3 : Way) (o : Option (List ℕ))
-    → StageStays (at_reading answer wanted k s) (elim o as (λ _. Reply) [ None ↦ (None, at_reading answer wanted k s) | Some bytes ↦ gave (at_reading answer wanted k s) by.Control max (toggle_at k) bytes t2 t3 ]).1
+    → StageStays (at_reading answer wanted k s) (elim o
+    as (λ _. Reply) [
+      | None ↦ (None, at_reading answer wanted k s)
+      | Some bytes ↦
+          gave (at_reading answer wanted k s) by.Control max (toggle_at k) bytes t2 t3
+    ]).1
 reading_stays answer wanted k max s t2 t3 None = (reads answer wanted k refl, refl)
 reading_stays answer wanted k max s t2 t3 (Some bytes) =
-    either_way (λ v. StageStays (at_reading answer wanted k s) v) (is_whole t2 && nat_le (length bytes) max && is_whole t3) _ _
-    (either_way (λ (v : State). StageStays (at_reading answer wanted k s) (forgotten v)) (is_some (packet_at (max_packet s.spec) wanted answer k)) (at_reading answer wanted (k + 1) s) (at_reading answer wanted k s)
-    (reads answer wanted (k + 1) refl, refl) (reads answer wanted k refl, refl)) (reads answer wanted k refl, refl)
+    either_way (λ v. StageStays (at_reading answer wanted k s) v)
+    (is_whole t2 && nat_le (length bytes) max && is_whole t3) _ _
+    (either_way (λ (v : State). StageStays (at_reading answer wanted k s) (forgotten v))
+    (is_some (packet_at (max_packet s.spec) wanted answer k))
+    (at_reading answer wanted (k + 1) s) (at_reading answer wanted k s)
+    (reads answer wanted (k + 1) refl, refl) (reads answer wanted k refl, refl))
+    (reads answer wanted k refl, refl)
 
 in_stays : (answer : List ℕ) (wanted k max : ℕ) (s : State) (row : List PortState) (t1 t2 t3 : Way)
-    → StageStays (at_reading answer wanted k s) (in_law (at_reading answer wanted k s) row 0 max t1 t2 t3).1
+    → StageStays (at_reading answer wanted k s) (in_law (at_reading answer wanted k s) row 0 max t1
+    t2 t3).1
 in_stays answer wanted k max s row t1 t2 t3 =
     let Q = λ (r : Reply). StageStays (at_reading answer wanted k s) r.1 in
-    either_way Q (is_whole t1) _ _ (either_way Q (is_busy s) _ _ (reads answer wanted k refl, refl) (reading_stays answer wanted k max s t2 t3 (packet_at (max_packet s.spec) wanted answer k))) (reads answer wanted k refl, refl)
+    either_way Q (is_whole t1) _ _ (either_way Q (is_busy s) _ _ (reads answer wanted k refl, refl)
+    (reading_stays answer wanted k max s t2 t3
+    (packet_at (max_packet s.spec) wanted answer k))) (reads answer wanted k refl, refl)
 
-steady_asked : (max : ℕ) (s : State) (row : List PortState) (t1 t2 t3 : Way) → IsReading s → StageStays s (in_law s row 0 max t1 t2 t3).1
+steady_asked : (max : ℕ) (s : State) (row : List PortState) (t1 t2 t3 : Way) → IsReading s
+    → StageStays s (in_law s row 0 max t1 t2 t3).1
 steady_asked max s row t1 t2 t3 (reads answer wanted k h) =
-    subst (λ st. StageStays (record s { stage = st }) (in_law (record s { stage = st }) row 0 max t1 t2 t3).1) (sym h) (in_stays answer wanted k max s row t1 t2 t3)
+    subst (λ st. StageStays (record s { stage = st })
+    (in_law (record s { stage = st }) row 0 max t1 t2 t3).1) (sym h)
+    (in_stays answer wanted k max s row t1 t2 t3)
 
-steady_did : (t : Target) (w : World) (j : Location) (s v : State) → DidIn (in_attempt t 0) w j s v → Steady j s v
+steady_did : (t : Target) (w : World) (j : Location) (s v : State) → DidIn (in_attempt t 0) w j s v
+    → Steady j s v
 steady_did t w j s v (DidIn.other d e) h = subst (λ x. StageStays s x) (sym e) (h, refl)
 steady_did t w j s v (DidIn.silent d q o e) h = subst (λ x. StageStays s x) (sym e) (h, refl)
-steady_did t w j s v (DidIn.asked d q b below f x o e) h = subst (λ y. StageStays s y) (sym e) (steady_asked t.max s (row_of below) x.first x.second x.third h)
+steady_did t w j s v (DidIn.asked d q b below f x o e) h =
+    subst (λ y. StageStays s y) (sym e) (steady_asked t.max s (row_of below) x.first x.second
+    x.third h)
 
-stage_stays_then : (t : Target) (w : World) (j : Location) (s u v : State) → StageStays s u → DidIn (in_attempt t 0) w j u v → StageStays s v
+stage_stays_then : (t : Target) (w : World) (j : Location) (s u v : State) → StageStays s u
+    → DidIn (in_attempt t 0) w j u v → StageStays s v
 stage_stays_then t w j s u v x d = let y = steady_did t w j u v d x.0 in (y.0, y.1 ∙ x.1)
 
-each_steady : (t : Target) (awaited : Toggle) (result : Result (List ℕ) TransFault) (old new : World) → IsSettled old.roots → Transacted (heard_as awaited) (in_attempt t 0) old result new → new.shared ≡ false → EachWas Steady old new
+each_steady : (t : Target) (awaited : Toggle) (result : Result (List ℕ) TransFault)
+    (old new : World) → IsSettled old.roots
+    → Transacted (heard_as awaited) (in_attempt t 0) old result new → new.shared ≡ false
+    → EachWas Steady old new
 each_steady t awaited result old new settled x single =
     each_device _ Steady old new
-    (λ j s v run h. at_end (heard_as awaited) (λ outcomes w u. StageStays s u) (h, refl) (λ outcomes w u y trail made is d n. stage_stays_then t w j s u y is d) (λ y. StageStays s y) v
-    (λ outcomes w u trail is d l told. stage_stays_then t w j s u v is d) (λ gave outcomes w is. is) run)
+    (λ j s v run h. at_end (heard_as awaited) (λ outcomes w u. StageStays s u) (h, refl)
+    (λ outcomes w u y trail made is d n. stage_stays_then t w j s u y is d)
+    (λ y. StageStays s y) v
+    (λ outcomes w u trail is d l told. stage_stays_then t w j s u v is d) (λ gave outcomes w is. is)
+    run)
     (over_in t 0 old new settled single (heard_as awaited) result x)
 
 -- What a transaction leaves of each device, with why it fails and what it loses
 
 -- another relation of the same device
-also : {R : Relation} (S : Relation) {w : World} {j : Location} {v : State} (a : Was R w j v) → Was S w j v → S j a.before v
-also S {j = j} {v} a b = subst (λ d. S j d v) (same_Some b.before a.before (sym b.stands ∙ a.stands)) b.so
+also : {R : Relation} (S : Relation) {w : World} {j : Location} {v : State} (a : Was R w j v)
+    → Was S w j v → S j a.before v
+also S {j = j} {v} a b = subst (λ d. S j d v)
+    (same_Some b.before a.before (sym b.stands ∙ a.stands)) b.so
 
-so_too : {R : Relation} (T : Relation) {w : World} {j : Location} {v : State} (a : Was R w j v) → T j a.before v → Was T w j v
+so_too : {R : Relation} (T : Relation) {w : World} {j : Location} {v : State} (a : Was R w j v)
+    → T j a.before v → Was T w j v
 so_too T a x = record { before = a.before; on = a.on; stands = a.stands; so = x }
 
 -- an IN of endpoint 0; with DATA1 it may end a request without data
-pub record ControlInAsked (t : Target) (awaited : Toggle) (result : Result (List ℕ) TransFault) (old new : World) (j : Location) (s v : State) : Type 0 where
+pub record ControlInAsked (t : Target) (awaited : Toggle) (result : Result (List ℕ) TransFault)
+    (old new : World) (j : Location) (s v : State) : Type 0 where
   pub leaves : ControlIn t awaited result j s v
   pub steady : Steady j s v
   pub why : NoThreeDamaged old → TransNotOfBus result → ControlInFailure t awaited result j s v
   pub kept : TransNotOfBus result → LosesNone t old new j s v
   pub losses : TransNotOfBus result → awaited ≡ One → LossesIn t result old new j s v
 
-pub asked_leaves : (t : Target) (awaited : Toggle) (result : Result (List ℕ) TransFault) (old new : World) → Asks t awaited old result new → IsSettled old.roots → new.shared ≡ false → EachWas (ControlInAsked t awaited result old new) old new
+pub asked_leaves : (t : Target) (awaited : Toggle) (result : Result (List ℕ) TransFault)
+    (old new : World) → Asks t awaited old result new → IsSettled old.roots → new.shared ≡ false
+    → EachWas (ControlInAsked t awaited result old new) old new
 asked_leaves t awaited result old new x settled single j v on there =
-    let a : Was (ControlIn t awaited result) old j v = control_leaves t awaited result old new settled x single j v on there in
+    let a : Was (ControlIn t awaited result) old j v =
+    control_leaves t awaited result old new settled x single j v on there in
     so_too (ControlInAsked t awaited result old new) a (record {
       leaves = a.so;
       steady = also Steady a (each_steady t awaited result old new settled x single j v on there);
-      why = λ three sound. also (ControlInFailure t awaited result) a (control_in_why t awaited result old new settled three (ended_by result sound x) single j v on there);
-      kept = λ sound. also (LosesNone t old new) a (read_losses t awaited result old new settled (ended_by result sound x) single j v on there);
-      losses = λ sound one. also (LossesIn t result old new) a (in_losses t result old new settled (subst (λ b. TransactionDone (heard_as b) (in_attempt t 0) old result new) one (ended_by result sound x)) single j v on there);
+      why = λ three sound. also (ControlInFailure t awaited result) a
+          (control_in_why t awaited result old new settled three (ended_by result sound x) single j
+          v on there);
+      kept = λ sound. also (LosesNone t old new) a
+          (read_losses t awaited result old new settled (ended_by result sound x) single j v on
+          there);
+      losses = λ sound one. also (LossesIn t result old new) a
+          (in_losses t result old new settled
+          (subst (λ b. TransactionDone (heard_as b) (in_attempt t 0) old result new) one
+          (ended_by result sound x)) single j v on there);
     })
 
 -- the OUT that ends a read
-pub record Confirmed (t : Target) (result : Result (List ℕ) TransFault) (old new : World) (j : Location) (s v : State) : Type 0 where
+pub record Confirmed (t : Target) (result : Result (List ℕ) TransFault) (old new : World)
+    (j : Location) (s v : State) : Type 0 where
   pub leaves : ReadStatus t result j s v
   pub why : NoThreeDamaged old → TransNotOfBus result → StatusReadFailure t result j s v
   pub kept : TransNotOfBus result → new.losses ≡ old.losses
 
-pub confirmed_leaves : (t : Target) (result : Result (List ℕ) TransFault) (old new : World) → Confirms t old result new → IsSettled old.roots → new.shared ≡ false → EachWas (Confirmed t result old new) old new
+pub confirmed_leaves : (t : Target) (result : Result (List ℕ) TransFault) (old new : World)
+    → Confirms t old result new → IsSettled old.roots → new.shared ≡ false
+    → EachWas (Confirmed t result old new) old new
 confirmed_leaves t result old new x settled single j v on there =
-    let a : Was (ReadStatus t result) old j v = status_leaves t result old new settled x single j v on there in
+    let a : Was (ReadStatus t result) old j v = status_leaves t result old new settled x single j v
+    on there in
     so_too (Confirmed t result old new) a (record {
       leaves = a.so;
-      why = λ three sound. also (StatusReadFailure t result) a (read_status_why t result old new settled three (ended_by result sound x) single j v on there);
+      why = λ three sound. also (StatusReadFailure t result) a
+          (read_status_why t result old new settled three (ended_by result sound x) single j v on
+          there);
       kept = λ sound. out_losses t 0 One [] old new settled (ended_by result sound x).trail;
     })
 
 -- a SETUP
-pub record Requested (t : Target) (request : Setup) (result : Result (List ℕ) TransFault) (old new : World) (j : Location) (s v : State) : Type 0 where
+pub record Requested (t : Target) (request : Setup) (result : Result (List ℕ) TransFault)
+    (old new : World) (j : Location) (s v : State) : Type 0 where
   pub done : SetupDone t (bytes_of request) result old new j s v
   pub why : NoThreeDamaged old → TransNotOfBus result → SetupFailure t result j s v
   pub kept : begins_no_stretch request ≡ true → TransNotOfBus result → new.losses ≡ old.losses
@@ -177,16 +247,23 @@ pub bytes_of-length : (request : Setup) → length (bytes_of request) ≡ 8
 unfolding bytes_of
 bytes_of-length request = refl
 
-pub requested_leaves : (t : Target) (request : Setup) (result : Result (List ℕ) TransFault) (old new : World) → setup_of (bytes_of request) ≡ request → IsSettled old.roots → SetUp t request old result new → new.shared ≡ false
+pub requested_leaves : (t : Target) (request : Setup) (result : Result (List ℕ) TransFault)
+    (old new : World) → setup_of (bytes_of request) ≡ request → IsSettled old.roots
+    → SetUp t request old result new → new.shared ≡ false
     → EachSpared t request (Requested t request result old new) old new
 requested_leaves t request result old new same settled x single j v on there spared =
     let bytes : List ℕ = bytes_of request in
     let is_spared : IsSpared t (setup_of bytes) v = subst (λ r. IsSpared t r v) (sym same) spared in
-    let a : Was (SetupDone t bytes result old new) old j v = setup_leaves t bytes result old new (bytes_of-length request) settled x single j v on there is_spared in
+    let a : Was (SetupDone t bytes result old new) old j v =
+    setup_leaves t bytes result old new (bytes_of-length request) settled x single j v on there
+    is_spared in
     so_too (Requested t request result old new) a (record {
       done = a.so;
-      why = λ three sound. also (SetupFailure t result) a (set_up_why t bytes result old new (bytes_of-length request) settled three (ended_by result sound x) single j v on there is_spared);
-      kept = λ plain sound. set_up_losses t bytes old new (ap begins_no_stretch same ∙ plain) settled (ended_by result sound x).trail;
+      why = λ three sound. also (SetupFailure t result) a
+          (set_up_why t bytes result old new (bytes_of-length request) settled three
+          (ended_by result sound x) single j v on there is_spared);
+      kept = λ plain sound. set_up_losses t bytes old new (ap begins_no_stretch same ∙ plain)
+          settled (ended_by result sound x).trail;
     })
 
 -- A transfer so far
@@ -196,34 +273,59 @@ pub record Only (t : Target) (P : Relation) (j : Location) (s v : State) : Type 
   pub others : is_at s t ≡ false → v ≡ s
   pub mine : is_at s t ≡ true → P j s v
 
-pub record RequestReached (t : Target) (request : Setup) (P : Relation) (old now : World) : Type 0 where
-  pub settled : IsSettled now.roots
-  pub damages : now.damages ≡ old.damages
-  pub each : now.shared ≡ false → EachSpared t request (Only t P) old now
+pub record RequestReached (t : Target) (request : Setup) (P : Relation) (old now : World) : Type 0
+  where
+    pub settled : IsSettled now.roots
+    pub damages : now.damages ≡ old.damages
+    pub each : now.shared ≡ false → EachSpared t request (Only t P) old now
 
 -- its SETUP
-pub only_first : (t : Target) (request : Setup) (Q : Relation) {old new : World} (result : Result (List ℕ) TransFault) → setup_of (bytes_of request) ≡ request → IsSettled old.roots → SetUp t request old result new
-    → ((j : Location) (s v : State) → is_at s t ≡ true → Requested t request result old new j s v → Q j s v) → new.shared ≡ false → EachSpared t request (Only t Q) old new
+pub only_first : (t : Target) (request : Setup) (Q : Relation) {old new : World}
+    (result : Result (List ℕ) TransFault) → setup_of (bytes_of request) ≡ request
+    → IsSettled old.roots → SetUp t request old result new
+    → ((j : Location) (s v : State) → is_at s t ≡ true → Requested t request result old new j s v
+    → Q j s v) → new.shared ≡ false → EachSpared t request (Only t Q) old new
 only_first t request Q {old} {new} result same settled x f single =
-    spared_wider t request (Requested t request result old new) (Only t Q) (λ j s v y. record { others = y.done.others; mine = λ at. f j s v at y }) old new (requested_leaves t request result old new same settled x single)
+    spared_wider t request (Requested t request result old new) (Only t Q)
+    (λ j s v y. record { others = y.done.others; mine = λ at. f j s v at y }) old new
+    (requested_leaves t request result old new same settled x single)
 
-pub reached_first : (t : Target) (request : Setup) (Q : Relation) {old now : World} → setup_of (bytes_of request) ≡ request → IsSettled old.roots → SetUp t request old (Ok []) now
-    → ((j : Location) (s v : State) → is_at s t ≡ true → Requested t request (Ok []) old now j s v → Q j s v) → RequestReached t request Q old now
-reached_first t request Q same settled x f = record { settled = ended_settled x settled; damages = ended_damages x; each = only_first t request Q (Ok []) same settled x f }
+pub reached_first : (t : Target) (request : Setup) (Q : Relation) {old now : World}
+    → setup_of (bytes_of request) ≡ request → IsSettled old.roots → SetUp t request old (Ok []) now
+    → ((j : Location) (s v : State) → is_at s t ≡ true → Requested t request (Ok []) old now j s v
+    → Q j s v) → RequestReached t request Q old now
+reached_first t request Q same settled x f = record {
+  settled = ended_settled x settled;
+  damages =
+      ended_damages x;
+  each = only_first t request Q (Ok []) same settled x f;
+}
 
 -- its last transaction
-pub reached_last : {t : Target} {request : Setup} {P : Relation} (S Q : Relation) {old mid : World} (hear : _) (a : Attempt) (new : World) (result : Result (List ℕ) TransFault)
-    → ((j : Location) (s v : State) → S j s v → is_at s t ≡ false → v ≡ s) → ((j : Location) (s u v : State) → is_at s t ≡ true → P j s u → S j u v → Q j s v)
-    → RequestReached t request P old mid → Transacted hear a mid result new → (IsSettled mid.roots → new.shared ≡ false → EachWas S mid new) → new.shared ≡ false → EachSpared t request (Only t Q) old new
+pub reached_last : {t : Target} {request : Setup} {P : Relation} (S Q : Relation) {old mid : World}
+    (hear : _) (a : Attempt) (new : World) (result : Result (List ℕ) TransFault)
+    → ((j : Location) (s v : State) → S j s v → is_at s t ≡ false → v ≡ s)
+    → ((j : Location) (s u v : State) → is_at s t ≡ true → P j s u → S j u v → Q j s v)
+    → RequestReached t request P old mid → Transacted hear a mid result new
+    → (IsSettled mid.roots → new.shared ≡ false → EachWas S mid new) → new.shared ≡ false
+    → EachSpared t request (Only t Q) old new
 reached_last {t} {request} {P} S Q {old} {mid} hear a new result others f r x each single =
     spared_joined t request (Only t P) S (Only t Q) others
-    (λ j s u v y z. record { others = others_stay_then t s u v y.others (others j u v z); mine = λ at. f j s u v at (y.mine at) z }) old mid new
+    (λ j s u v y z. record {
+      others = others_stay_then t s u v y.others (others j u v z);
+      mine =
+          λ at. f j s u v at (y.mine at) z;
+    }) old mid new
     (r.each (transacted_unshared hear a mid new result x r.settled single)) (each r.settled single)
 
 -- one transaction more
-pub reached_more : {t : Target} {request : Setup} {P : Relation} (S Q : Relation) {old mid new : World} {hear : _} {a : Attempt} (bytes : List ℕ)
-    → ((j : Location) (s v : State) → S j s v → is_at s t ≡ false → v ≡ s) → ((j : Location) (s u v : State) → is_at s t ≡ true → P j s u → S j u v → Q j s v)
-    → RequestReached t request P old mid → TransactionDone hear a mid (Ok bytes) new → (IsSettled mid.roots → new.shared ≡ false → EachWas S mid new) → RequestReached t request Q old new
+pub reached_more : {t : Target} {request : Setup} {P : Relation} (S Q : Relation)
+    {old mid new : World} {hear : _} {a : Attempt} (bytes : List ℕ)
+    → ((j : Location) (s v : State) → S j s v → is_at s t ≡ false → v ≡ s)
+    → ((j : Location) (s u v : State) → is_at s t ≡ true → P j s u → S j u v → Q j s v)
+    → RequestReached t request P old mid → TransactionDone hear a mid (Ok bytes) new
+    → (IsSettled mid.roots → new.shared ≡ false → EachWas S mid new)
+    → RequestReached t request Q old new
 reached_more S Q bytes others f r x each = record {
   settled = ended_settled x r.settled;
   damages = ended_damages x ∙ r.damages;
@@ -234,7 +336,12 @@ reached_more S Q bytes others f r x each = record {
 
 -- where the registers stay, only the stage changes
 pub only_stage : (s v : State) → OnlyControl s v → v.registers ≡ s.registers → OnlyStage s v
-only_stage s v f e = f ∙ ap {A = _} {B = State} (λ g. record s { memory = v.memory; naks = v.naks; stage = v.stage; registers = g }) e
+only_stage s v f e = f ∙ ap {A = _} {B = State} (λ g. record s {
+  memory = v.memory;
+  naks = v.naks;
+  stage = v.stage;
+  registers = g;
+}) e
 
 -- Requests for data
 
@@ -244,10 +351,12 @@ request_type-other n type b h g = grind (arith, nat_tests, h, g)
 -- one resets no port, and clears no change of connection
 
 pub host_harmless : (r : Setup) → IsToHost r → is_harmless r ≡ true
-host_harmless r h = ap (λ b. not (b && r.value == PORT_RESET)) (request_type-other r.request_type PORT_OUT (r.request == SET_FEATURE) h (omega arith))
+host_harmless r h = ap (λ b. not (b && r.value == PORT_RESET))
+    (request_type-other r.request_type PORT_OUT (r.request == SET_FEATURE) h (omega arith))
 
 pub host_stretch : (r : Setup) → IsToHost r → begins_no_stretch r ≡ true
-host_stretch r h = ap (λ b. not (b && r.value == C_PORT_CONNECTION)) (request_type-other r.request_type PORT_OUT (r.request == CLEAR_FEATURE) h (omega arith))
+host_stretch r h = ap (λ b. not (b && r.value == C_PORT_CONNECTION))
+    (request_type-other r.request_type PORT_OUT (r.request == CLEAR_FEATURE) h (omega arith))
 
 -- Toggles of a data stage
 
@@ -261,4 +370,5 @@ not_even-suc k = grind (arith, nat_tests)
 pub flips_at : (n : ℕ) → flips n One ≡ toggle_at n
 unfolding flips
 flips_at zero = refl
-flips_at (suc n) = ap other (flips_at n) ∙ other-if (n % 2 == 0) ∙ ap (λ b. if b then One else Zero) (not_even-suc n)
+flips_at (suc n) = ap other (flips_at n) ∙ other-if (n % 2 == 0)
+    ∙ ap (λ b. if b then One else Zero) (not_even-suc n)

@@ -1,8 +1,12 @@
--- Control transfers: what each leaves of each device, why it fails, which address losses it counts, and what its call tells.
+-- Control transfers: what each leaves of each device, why it fails, which address losses it counts,
+-- and what its call tells.
 use Rattle.std.specs.Global.{Vec}
 use Rattle.std.specs.Prelude.{Result, Ok, Err, slice_get, slice_index, ◌-◌, OnOk, IfOk, MatchResult}
 use Rattle.std.specs.Result.{IsErr, IsErrAnd}
-use Rattle.std.proofs.Common.{◌≡◌, ℕ, ◌+◌, nat_le, ◌&&◌, if◌then◌else◌, Bool, true, false, List, length, Option, None, Some, is_some, refl, sym, subst, ◌∙◌, ◌≢◌, suc, ◌%◌, ◌==◌, not, ap, arith, ◌⊎◌, inl, inr, ◌*◌, ◌/◌, ◌<◌, ◌≤◌, nat_lt, ◌||◌, [], ◌++◌, take, unwrap_or, drop, length-append, length-drop}
+use Rattle.std.proofs.Common.{◌≡◌, ℕ, ◌+◌, nat_le, ◌&&◌, if◌then◌else◌, Bool, true, false, List}
+use Rattle.std.proofs.Common.{length, Option, None, Some, is_some, refl, sym, subst, ◌∙◌, ◌≢◌, suc}
+use Rattle.std.proofs.Common.{◌%◌, ◌==◌, not, ap, arith, ◌⊎◌, inl, inr, ◌*◌, ◌/◌, ◌<◌, ◌≤◌, nat_lt}
+use Rattle.std.proofs.Common.{◌||◌, [], ◌++◌, take, unwrap_or, drop, length-append, length-drop}
 use Rattle.std.proofs.Math.Nat.{mul-le-mul_right}
 use Rattle.std.proofs.Math.Seq.{take-append-add}
 use Rattle.std.proofs.lemmas.Bool.{and_parts}
@@ -15,13 +19,17 @@ use Rattle.usb_request.specs.Layout.{bytes_of, setup_of, IsToHost}
 use Rattle.usb_request.specs.declared.setup.Setup.{Setup}
 use Rattle.usb_port.specs.PortState.{PortState, status_of}
 use Rattle.usb_device.specs.Progress.{OnlyControl, OnlyStage, ReadingAt, ReadOn, StatusGiven}
-use Rattle.usb_device.specs.Request.{Outcome, stalled, answers, tells_port, Is, asked_descriptor, asked_hub_descriptor, port_named, told_port, outcome, takes_address, registers_at_setup, address_at_end}
+use Rattle.usb_device.specs.Request.{Outcome, stalled, answers, tells_port, Is, asked_descriptor}
+use Rattle.usb_device.specs.Request.{asked_hub_descriptor, port_named, told_port, outcome}
+use Rattle.usb_device.specs.Request.{takes_address, registers_at_setup, address_at_end}
 use Rattle.usb_device.specs.Rows.{State, accepted, begun}
 use Rattle.usb_device.specs.Spec.{Spec}
-use Rattle.usb_device.specs.Transfer.{reading, max_packet, packet_at, Stage, ending, refused, packets_joined, first_stage, reads_port, packet_count}
+use Rattle.usb_device.specs.Transfer.{reading, max_packet, packet_at, Stage, ending, refused}
+use Rattle.usb_device.specs.Transfer.{packets_joined, first_stage, reads_port, packet_count}
 use Rattle.usb_device.specs.Tree.{row_of, Location}
 use Rattle.usb_device.specs.declared.request.Registers.{Registers}
-use Rattle.usb_device.proofs.Interface.{packets_joined-is, packets_joined-whole, packet-further, packet-fits}
+use Rattle.usb_device.proofs.Interface.{packets_joined-is, packets_joined-whole, packet-further}
+use Rattle.usb_device.proofs.Interface.{packet-fits}
 use Rattle.usb_world.specs.Courses.{is_harmless}
 use Rattle.usb_world.specs.Devices.{Relation, EachWas}
 use Rattle.usb_world.specs.Losses.{one_more}
@@ -29,14 +37,16 @@ use Rattle.usb_tree.specs.AttemptPackets.{IsSettled}
 use Rattle.usb_tree.specs.Paths.{address_of}
 use Rattle.usb_world.specs.Steps.{Course}
 use Rattle.usb_world.specs.World.{World, AttemptsWithin}
-use Rattle.usb_world.proofs.Interface.{course_joined, register_address, spends_none, spends_then, spends_wider}
+use Rattle.usb_world.proofs.Interface.{course_joined, register_address, spends_none, spends_then}
+use Rattle.usb_world.proofs.Interface.{spends_wider}
 use Rattle.usb_tree.proofs.Interface.{decided, either_of}
 use Rattle.usb_bus.specs.Traces.{Traced, StepRun, still}
 use Rattle.usb_bus.proofs.Interface.{traced_then}
 use Rattle.usb_transaction.specs.Answerer.{Answerer}
 use Rattle.usb_transaction.specs.Failures.{NoThreeDamaged, Listens, HasNext, Fits}
 use Rattle.usb_transaction.specs.HeardOutcomes.{set_up_as}
-use Rattle.usb_transaction.specs.Leaves.{ControlIn, AcceptedAt, is_at, CanAccept, CanAnswer, IsInRead, IsNotOfBus as TransNotOfBus}
+use Rattle.usb_transaction.specs.Leaves.{ControlIn, AcceptedAt, is_at, CanAccept, CanAnswer}
+use Rattle.usb_transaction.specs.Leaves.{IsInRead, IsNotOfBus as TransNotOfBus}
 use Rattle.usb_transaction.specs.Losses.{begins_no_stretch, LossesIn}
 use Rattle.usb_transaction.specs.Losses as transaction
 use Rattle.usb_transaction.specs.SparedDevices.{EachSpared}
@@ -45,13 +55,20 @@ use Rattle.usb_transaction.specs.Transactions.{setup_attempt, AttemptsMade, tran
 use Rattle.usb_transaction.specs.declared.fault.TransFault.{TransFault}
 use Rattle.usb_transaction.specs.declared.fault.TransFault.TheVariants as trans
 use Rattle.usb_transaction.specs.declared.target.Target.{Target}
-use Rattle.usb_transaction.proofs.Interface.{at_from, spared_all, listens_at, spared_wider, spec_stays, listens_on}
+use Rattle.usb_transaction.proofs.Interface.{at_from, spared_all, listens_at, spared_wider}
+use Rattle.usb_transaction.proofs.Interface.{spec_stays, listens_on}
 use Rattle.usb_pipe.specs.Control.{as_pipe_fault, ends_stage, byte_bound, FaultAfter}
 use Rattle.usb_pipe.specs.Failures.{WriteFailure, ControlReadFailure}
-use Rattle.usb_pipe.specs.Leaves.{IsNoBusFault, AcceptedIn, CanEnd, IsBehind, AnswerRead, ReadLeaves, WasRefused, EffectDone, EffectOrNone, WriteLeaves, TookItOrLost, LossesOf, IsMaximum, LossesKept}
-use Rattle.usb_pipe.specs.Stages.{SetUp, Goes, start, packet, DataStage, Reads, Writes, Asks, DataEnds, Confirms}
+use Rattle.usb_pipe.specs.Leaves.{IsNoBusFault, AcceptedIn, CanEnd, IsBehind, AnswerRead}
+use Rattle.usb_pipe.specs.Leaves.{ReadLeaves, WasRefused, EffectDone, EffectOrNone, WriteLeaves}
+use Rattle.usb_pipe.specs.Leaves.{TookItOrLost, LossesOf, IsMaximum, LossesKept}
+use Rattle.usb_pipe.specs.Stages.{SetUp, Goes, start, packet, DataStage, Reads, Writes, Asks}
+use Rattle.usb_pipe.specs.Stages.{DataEnds, Confirms}
 use Rattle.usb_packet.specs.Toggles.{other, flips}
-use Rattle.usb_request.specs.Codes.{DEVICE, CONFIGURATION, STRING, HUB, GET_STATUS, CLEAR_FEATURE, SET_FEATURE, SET_ADDRESS, GET_DESCRIPTOR, GET_CONFIGURATION, SET_CONFIGURATION, DEVICE_IN, DEVICE_OUT, ENDPOINT_OUT, HUB_IN, PORT_IN, PORT_OUT}
+use Rattle.usb_request.specs.Codes.{DEVICE, CONFIGURATION, STRING, HUB, GET_STATUS, CLEAR_FEATURE}
+use Rattle.usb_request.specs.Codes.{SET_FEATURE, SET_ADDRESS, GET_DESCRIPTOR, GET_CONFIGURATION}
+use Rattle.usb_request.specs.Codes.{SET_CONFIGURATION, DEVICE_IN, DEVICE_OUT, ENDPOINT_OUT, HUB_IN}
+use Rattle.usb_request.specs.Codes.{PORT_IN, PORT_OUT}
 use Rattle.usb_request.specs.Requests.{descriptor_value}
 use Rattle.usb_pipe.specs.Transfers.{Unshared, ControlRead, ControlWrite}
 use Rattle.usb_pipe.specs.declared.fault.PipeFault.{PipeFault}
@@ -59,7 +76,12 @@ use Rattle.usb_pipe.specs.declared.fault.PipeFault.TheVariants as pipe_fault
 use Rattle.usb_pipe.proofs.Answerers.{who_reads, who_writes}
 use Rattle.usb_pipe.proofs.Attempts.{in_behind, out_behind, goes_behind, stage_behind}
 use Rattle.usb_pipe.proofs.Bounds.{full_packet, bound_grows}
-use Rattle.usb_pipe.proofs.ControlSteps.{reads, ended_stalled, asked_leaves, only_stage, flips_at, ended_damages, never_three, host_harmless, request_type-other, sound_in, ControlInAsked, Confirmed, confirmed_leaves, Requested, Only, only_first, RequestReached, reached_first, reached_last, reached_more, either_way, host_stretch}
+use Rattle.usb_pipe.proofs.ControlSteps.{reads, ended_stalled, asked_leaves, only_stage, flips_at}
+use Rattle.usb_pipe.proofs.ControlSteps.{ended_damages, never_three, host_harmless}
+use Rattle.usb_pipe.proofs.ControlSteps.{request_type-other, sound_in, ControlInAsked, Confirmed}
+use Rattle.usb_pipe.proofs.ControlSteps.{confirmed_leaves, Requested, Only, only_first}
+use Rattle.usb_pipe.proofs.ControlSteps.{RequestReached, reached_first, reached_last, reached_more}
+use Rattle.usb_pipe.proofs.ControlSteps.{either_way, host_stretch}
 use Rattle.usb_pipe.proofs.MovedPackets.{flips_more}
 use Rattle.usb_pipe.proofs.TransactionFaults.{fell_same_fault, could_answer, could_accept, Fell}
 
@@ -71,37 +93,63 @@ IsReadingOutcome (answers bytes) = Unit {0}
 IsReadingOutcome (tells_port i) = Unit {0}
 IsReadingOutcome o = ⊥
 
-tells_not : (b : Bool) (x y : Outcome) → b ≡ false → IsReadingOutcome y → IsReadingOutcome (if b then x else y)
+tells_not : (b : Bool) (x y : Outcome) → b ≡ false → IsReadingOutcome y
+    → IsReadingOutcome (if b then x else y)
 tells_not true x y e g = cc e
 tells_not false x y e g = g
 
-tells_text : (o : Option (List ℕ)) → IsReadingOutcome (elim o as (λ _. Outcome) [ None ↦ stalled | Some text ↦ answers text ])
+tells_text : (o : Option (List ℕ)) → IsReadingOutcome (elim o
+    as (λ _. Outcome) [ None ↦ stalled | Some text ↦ answers text ])
 tells_text None = tt
 tells_text (Some text) = tt
 
 tells_descriptor : (s : Spec) (value : ℕ) → IsReadingOutcome (asked_descriptor s value)
 tells_descriptor s value =
-    either_way IsReadingOutcome (value == descriptor_value DEVICE 0) _ _ (either_way IsReadingOutcome s.stalls.device _ _ tt tt)
-    (either_way IsReadingOutcome (value / 256 == CONFIGURATION) _ _ (either_way IsReadingOutcome s.stalls.config _ _ tt (tells_text _))
-    (either_way IsReadingOutcome (value / 256 == STRING) _ _ (either_way IsReadingOutcome s.stalls.string _ _ tt (tells_text _)) tt))
+    either_way IsReadingOutcome (value == descriptor_value DEVICE 0) _ _
+    (either_way IsReadingOutcome s.stalls.device _ _ tt tt)
+    (either_way IsReadingOutcome (value / 256 == CONFIGURATION) _ _
+    (either_way IsReadingOutcome s.stalls.config _ _ tt (tells_text _))
+    (either_way IsReadingOutcome (value / 256 == STRING) _ _
+    (either_way IsReadingOutcome s.stalls.string _ _ tt (tells_text _)) tt))
 
-outcome-is_reading : (s : Spec) (g : Registers) (r : Setup) → IsToHost r → IsReadingOutcome (outcome s g r)
+outcome-is_reading : (s : Spec) (g : Registers) (r : Setup) → IsToHost r
+    → IsReadingOutcome (outcome s g r)
 unfolding outcome
 outcome-is_reading s g r h =
     either_way IsReadingOutcome (Is r DEVICE_IN GET_DESCRIPTOR) _ _ (tells_descriptor s r.value)
-    (either_way IsReadingOutcome (Is r DEVICE_IN GET_STATUS) _ _ (either_way IsReadingOutcome s.stalls.status _ _ tt (either_way IsReadingOutcome (r.value == 0 && r.index == 0) _ _ tt tt))
+    (either_way IsReadingOutcome (Is r DEVICE_IN GET_STATUS) _ _
+    (either_way IsReadingOutcome s.stalls.status _ _ tt
+    (either_way IsReadingOutcome (r.value == 0 && r.index == 0) _ _ tt tt))
     (either_way IsReadingOutcome (Is r DEVICE_IN GET_CONFIGURATION) _ _ tt
-    (tells_not (Is r DEVICE_OUT SET_ADDRESS) _ _ (request_type-other r.request_type DEVICE_OUT (r.request == SET_ADDRESS) h (omega arith))
-    (tells_not (Is r DEVICE_OUT SET_CONFIGURATION) _ _ (request_type-other r.request_type DEVICE_OUT (r.request == SET_CONFIGURATION) h (omega arith))
-    (tells_not (Is r ENDPOINT_OUT CLEAR_FEATURE) _ _ (request_type-other r.request_type ENDPOINT_OUT (r.request == CLEAR_FEATURE) h (omega arith))
-    (tells_not (Is r ENDPOINT_OUT SET_FEATURE) _ _ (request_type-other r.request_type ENDPOINT_OUT (r.request == SET_FEATURE) h (omega arith))
-    (either_way IsReadingOutcome (Is r HUB_IN GET_DESCRIPTOR) _ _ (either_way IsReadingOutcome s.stalls.hub _ _ tt (elim s.hub as (λ o. IsReadingOutcome (asked_hub_descriptor o r)) [ None ↦ tt | Some hub ↦ either_way IsReadingOutcome (r.value == descriptor_value HUB 0) _ _ tt tt ]))
-    (either_way IsReadingOutcome (Is r PORT_IN GET_STATUS) _ _ (elim (port_named s.hub g r.index) as (λ o. IsReadingOutcome (told_port o)) [ None ↦ tt | Some i ↦ tt ])
-    (tells_not (Is r PORT_OUT SET_FEATURE) _ _ (request_type-other r.request_type PORT_OUT (r.request == SET_FEATURE) h (omega arith))
-    (tells_not (Is r PORT_OUT CLEAR_FEATURE) _ _ (request_type-other r.request_type PORT_OUT (r.request == CLEAR_FEATURE) h (omega arith)) tt))))))))))
+    (tells_not (Is r DEVICE_OUT SET_ADDRESS) _ _
+    (request_type-other r.request_type DEVICE_OUT (r.request == SET_ADDRESS) h (omega arith))
+    (tells_not (Is r DEVICE_OUT SET_CONFIGURATION) _ _
+    (request_type-other r.request_type DEVICE_OUT (r.request == SET_CONFIGURATION) h
+    (omega arith))
+    (tells_not (Is r ENDPOINT_OUT CLEAR_FEATURE) _ _
+    (request_type-other r.request_type ENDPOINT_OUT (r.request == CLEAR_FEATURE) h
+    (omega arith))
+    (tells_not (Is r ENDPOINT_OUT SET_FEATURE) _ _
+    (request_type-other r.request_type ENDPOINT_OUT (r.request == SET_FEATURE) h
+    (omega arith))
+    (either_way IsReadingOutcome (Is r HUB_IN GET_DESCRIPTOR) _ _
+    (either_way IsReadingOutcome s.stalls.hub _ _ tt (elim s.hub
+    as (λ o. IsReadingOutcome (asked_hub_descriptor o r)) [
+      | None ↦ tt
+      | Some hub ↦
+          either_way IsReadingOutcome (r.value == descriptor_value HUB 0) _ _ tt tt
+    ]))
+    (either_way IsReadingOutcome (Is r PORT_IN GET_STATUS) _ _ (elim (port_named s.hub g r.index)
+    as (λ o. IsReadingOutcome (told_port o)) [ None ↦ tt | Some i ↦ tt ])
+    (tells_not (Is r PORT_OUT SET_FEATURE) _ _
+    (request_type-other r.request_type PORT_OUT (r.request == SET_FEATURE) h (omega arith))
+    (tells_not (Is r PORT_OUT CLEAR_FEATURE) _ _
+    (request_type-other r.request_type PORT_OUT (r.request == CLEAR_FEATURE) h (omega arith))
+    tt))))))))))
 
 -- nothing else comes of it
-asks_only : (s : State) (row : List PortState) (wanted : ℕ) (o : Outcome) → IsReadingOutcome o → begun s row wanted o ≡ record s { naks = s.spec.naks; stage = first_stage row wanted o }
+asks_only : (s : State) (row : List PortState) (wanted : ℕ) (o : Outcome) → IsReadingOutcome o
+    → begun s row wanted o ≡ record s { naks = s.spec.naks; stage = first_stage row wanted o }
 asks_only s row wanted stalled h = refl
 asks_only s row wanted (answers bytes) h = refl
 asks_only s row wanted (tells_port i) h = refl
@@ -111,20 +159,27 @@ asks_only s row wanted o h = absurd h
 
 data FirstStage (wanted : ℕ) (o : Outcome) (st : Stage) : Type 0 where
   refuses : st ≡ refused → FirstStage wanted o st
-  answers_with : (bytes : List ℕ) → (wanted == 0) ≡ false → st ≡ reading bytes wanted 0 → FirstStage wanted o st
-  ends : st ≡ ending (address_at_end o) → (IsReadingOutcome o → (wanted == 0) ≡ true) → FirstStage wanted o st
+  answers_with : (bytes : List ℕ) → (wanted == 0) ≡ false → st ≡ reading bytes wanted 0
+      → FirstStage wanted o st
+  ends : st ≡ ending (address_at_end o) → (IsReadingOutcome o → (wanted == 0) ≡ true)
+      → FirstStage wanted o st
 
-first_bytes : (wanted : ℕ) (o : Outcome) (bytes : List ℕ) (b : Bool) → (wanted == 0) ≡ b → address_at_end o ≡ None → FirstStage wanted o (if b then ending None else reading bytes wanted 0)
+first_bytes : (wanted : ℕ) (o : Outcome) (bytes : List ℕ) (b : Bool) → (wanted == 0) ≡ b
+    → address_at_end o ≡ None → FirstStage wanted o
+    (if b then ending None else reading bytes wanted 0)
 first_bytes wanted o bytes true e none = ends (ap ending (sym none)) (λ h. e)
 first_bytes wanted o bytes false e none = answers_with bytes e refl
 
-first_port : (wanted : ℕ) (o : Outcome) (port : Option PortState) → address_at_end o ≡ None → FirstStage wanted o (reads_port wanted port)
+first_port : (wanted : ℕ) (o : Outcome) (port : Option PortState) → address_at_end o ≡ None
+    → FirstStage wanted o (reads_port wanted port)
 first_port wanted o None none = refuses refl
 first_port wanted o (Some port) none = first_bytes wanted o (status_of port) (wanted == 0) refl none
 
-first_stage_of : (row : List PortState) (wanted : ℕ) (o : Outcome) → FirstStage wanted o (first_stage row wanted o)
+first_stage_of : (row : List PortState) (wanted : ℕ) (o : Outcome)
+    → FirstStage wanted o (first_stage row wanted o)
 first_stage_of row wanted stalled = refuses refl
-first_stage_of row wanted (answers bytes) = first_bytes wanted (answers bytes) bytes (wanted == 0) refl refl
+first_stage_of row wanted (answers bytes) = first_bytes wanted (answers bytes) bytes (wanted == 0)
+    refl refl
 first_stage_of row wanted (tells_port i) = first_port wanted (tells_port i) (slice_get row i) refl
 first_stage_of row wanted o = ends refl (λ h. absurd h)
 
@@ -132,16 +187,29 @@ pub is_some_byte : (wanted : ℕ) → 1 ≤ wanted → (wanted == 0) ≡ false
 is_some_byte wanted h = grind (arith, nat_tests, h)
 
 -- where no data are wanted, it refuses or ends
-closes : (row : List PortState) (wanted : ℕ) (o : Outcome) → wanted ≡ 0 → (first_stage row wanted o ≡ refused) ⊎ (first_stage row wanted o ≡ ending (address_at_end o))
-closes row wanted o e = elim (first_stage_of row wanted o) [ refuses h ↦ inl h | answers_with bytes f h ↦ cc (sym f ∙ ap (λ n. n == 0) e) | ends h g ↦ inr h ]
+closes : (row : List PortState) (wanted : ℕ) (o : Outcome) → wanted ≡ 0
+    → (first_stage row wanted o ≡ refused) ⊎ (first_stage row wanted o ≡ ending (address_at_end o))
+closes row wanted o e = elim (first_stage_of row wanted o) [
+  | refuses h ↦
+      inl h
+  | answers_with bytes f h ↦ cc (sym f ∙ ap (λ n. n == 0) e)
+  | ends h g ↦ inr h
+]
 
 -- it gives an address only where the request asks for one
 asks_for : (o : Outcome) (a : ℕ) → address_at_end o ≡ Some a → o ≡ takes_address a
 asks_for (takes_address b) a e = cc e
 asks_for o a e = cc e
 
-first_stage-address : (row : List PortState) (wanted : ℕ) (o : Outcome) (a : ℕ) → first_stage row wanted o ≡ ending (Some a) → o ≡ takes_address a
-first_stage-address row wanted o a e = elim (first_stage_of row wanted o) [ refuses h ↦ cc (sym h ∙ e) | answers_with bytes f h ↦ cc (sym h ∙ e) | ends h g ↦ asks_for o a (cc (sym h ∙ e)) ]
+first_stage-address : (row : List PortState) (wanted : ℕ) (o : Outcome) (a : ℕ)
+    → first_stage row wanted o ≡ ending (Some a) → o ≡ takes_address a
+first_stage-address row wanted o a e = elim (first_stage_of row wanted o) [
+  | refuses h ↦
+      cc (sym h ∙ e)
+  | answers_with bytes f h ↦ cc (sym h ∙ e)
+  | ends h g ↦
+      asks_for o a (cc (sym h ∙ e))
+]
 
 -- The packets of an answer
 
@@ -154,21 +222,35 @@ least_by true m h = h refl
 least_by false m h = omega arith
 
 at_least_8 : (s : Spec) → 8 ≤ max_packet s
-at_least_8 s = let m = slice_index s.descriptor 7 in least_by (not s.low && (m == 16 || m == 32 || m == 64)) m (λ e. grind (arith, nat_tests, (and_parts (not s.low) (m == 16 || m == 32 || m == 64) e).1))
+at_least_8 s = let m = slice_index s.descriptor 7 in
+    least_by (not s.low && (m == 16 || m == 32 || m == 64)) m
+    (λ e. grind (arith, nat_tests, (and_parts (not s.low) (m == 16 || m == 32 || m == 64) e).1))
 
 -- where some bytes are wanted, there is a first packet
-first_by : (q r wanted len whole : ℕ) → whole + r ≡ len → (q ≤ 0 → whole ≤ 0) → 1 ≤ wanted → (b : Bool) → (r == 0 && not (nat_lt len wanted)) ≡ b → nat_lt 0 (q + (if b then 0 else 1)) ≡ true
-first_by q r wanted len whole sum none some true e = let parts = and_parts (r == 0) (not (nat_lt len wanted)) e in grind (arith, nat_tests, sum, parts.0, parts.1, none, some)
+first_by : (q r wanted len whole : ℕ) → whole + r ≡ len → (q ≤ 0 → whole ≤ 0) → 1 ≤ wanted
+    → (b : Bool) → (r == 0 && not (nat_lt len wanted)) ≡ b → nat_lt 0 (q + (if b then 0 else 1))
+    ≡ true
+first_by q r wanted len whole sum none some true e = let parts =
+    and_parts (r == 0) (not (nat_lt len wanted)) e in
+    grind (arith, nat_tests, sum, parts.0, parts.1, none, some)
 first_by q r wanted len whole sum none some false e = grind (arith, nat_tests)
 
 -- whether a packet is behind one, by that one's size and by how many bytes came with it
-over_if : (size max came wanted : ℕ) → (nat_lt size max || nat_le wanted came) ≡ true → (size == max && nat_lt came wanted) ≡ false
-over_if size max came wanted h = grind (arith, nat_tests, either_of (nat_lt size max) (nat_le wanted came) h)
+over_if : (size max came wanted : ℕ) → (nat_lt size max || nat_le wanted came) ≡ true
+    → (size == max && nat_lt came wanted) ≡ false
+over_if size max came wanted h = grind (
+  arith,
+  nat_tests,
+  either_of (nat_lt size max)
+      (nat_le wanted came) h,
+)
 
-more_if : (size max came wanted : ℕ) → size ≤ max → (nat_lt size max || nat_le wanted came) ≡ false → (size == max && nat_lt came wanted) ≡ true
+more_if : (size max came wanted : ℕ) → size ≤ max → (nat_lt size max || nat_le wanted came) ≡ false
+    → (size == max && nat_lt came wanted) ≡ true
 more_if size max came wanted fits h = grind (arith, nat_tests, fits, h)
 
-over_soon : (size max came wanted : ℕ) → size ≤ came → 8 ≤ max → wanted ≤ 8 → (nat_lt size max || nat_le wanted came) ≡ false → ⊥
+over_soon : (size max came wanted : ℕ) → size ≤ came → 8 ≤ max → wanted ≤ 8
+    → (nat_lt size max || nat_le wanted came) ≡ false → ⊥
 over_soon size max came wanted part least few h = grind (arith, nat_tests, part, least, few, h)
 
 module _ (max wanted : ℕ) (answer : List ℕ) where
@@ -182,100 +264,155 @@ module _ (max wanted : ℕ) (answer : List ℕ) where
   first_packet some =
       let len : ℕ = length Wanted in
       ap (λ b. is_some (if b then Some (take max (drop (0 * max) Wanted)) else None))
-      (first_by (len / max) (len % max) wanted len (len / max * max) (div-add-mod' len max) (λ le. let m = mul-le-mul_right max le in omega (arith, m)) some (len % max == 0 && not (nat_lt len wanted)) refl)
+      (first_by (len / max) (len % max) wanted len (len / max * max) (div-add-mod' len max)
+      (λ le. let m = mul-le-mul_right max le in omega (arith, m)) some
+      (len % max == 0 && not (nat_lt len wanted)) refl)
 
   -- no packet has more than is wanted
-  few_bytes : (bytes : List ℕ) (k : ℕ) → packet_at max wanted answer k ≡ Some bytes → length bytes ≤ wanted
+  few_bytes : (bytes : List ℕ) (k : ℕ) → packet_at max wanted answer k ≡ Some bytes
+      → length bytes ≤ wanted
   few_bytes bytes k h =
-      let e : take max (drop (k * max) Wanted) ≡ bytes = packet_is (nat_lt k (packet_count max wanted (length Wanted))) (take max (drop (k * max) Wanted)) bytes h in
-      rw (← e, length-take max (drop (k * max) Wanted), length-drop (k * max) Wanted) (omega (arith, few_wanted))
+      let e : take max (drop (k * max) Wanted) ≡ bytes =
+      packet_is (nat_lt k (packet_count max wanted (length Wanted)))
+      (take max (drop (k * max) Wanted)) bytes h in
+      rw (← e, length-take max (drop (k * max) Wanted), length-drop (k * max) Wanted)
+      (omega (arith, few_wanted))
 
-  joined_more : (got bytes : List ℕ) (n : ℕ) → got ≡ packets_joined max wanted answer n → packet_at max wanted answer n ≡ Some bytes → got ++ bytes ≡ packets_joined max wanted answer (n + 1)
+  joined_more : (got bytes : List ℕ) (n : ℕ) → got ≡ packets_joined max wanted answer n
+      → packet_at max wanted answer n ≡ Some bytes
+      → got ++ bytes ≡ packets_joined max wanted answer (n + 1)
   joined_more got bytes n e h =
       let next : suc n ≡ n + 1 = omega arith in
-      ap (λ x. x ++ bytes) e ∙ ap (λ o. packets_joined max wanted answer n ++ unwrap_or o []) (sym h) ∙ ap (λ m. packets_joined max wanted answer m) next
+      ap (λ x. x ++ bytes) e ∙ ap (λ o. packets_joined max wanted answer n ++ unwrap_or o [])
+      (sym h) ∙ ap (λ m. packets_joined max wanted answer m) next
 
-  module _ (tmax n : ℕ) (got last : List ℕ) (least : 8 ≤ max) (h : packet_at max wanted answer n ≡ Some last) (e : got ++ last ≡ packets_joined max wanted answer (n + 1)) where
+  module _ (tmax n : ℕ) (got last : List ℕ) (least : 8 ≤ max) (h : packet_at max wanted answer n
+      ≡ Some last) (e : got ++ last ≡ packets_joined max wanted answer (n + 1)) where
     abbrev came : ℕ
     came = length (packets_joined max wanted answer (n + 1))
 
     -- behind a packet that was not the last, there is a next
-    next_packet : 8 ≤ tmax → ends_stage (length last) tmax (length (got ++ last)) wanted ≡ false → (max ≡ tmax) ⊎ (wanted ≤ 8) → is_some (packet_at max wanted answer (n + 1)) ≡ true
+    next_packet : 8 ≤ tmax → ends_stage (length last) tmax (length (got ++ last)) wanted ≡ false
+        → (max ≡ tmax) ⊎ (wanted ≤ 8) → is_some (packet_at max wanted answer (n + 1)) ≡ true
     next_packet most on (inl same) =
         packet-further max wanted answer last n (omega (arith, least)) h
-        ∙ more_if (length last) max came wanted (packet-fits max wanted answer last n h) (subst (λ b. ends_stage (length last) max (length b) wanted ≡ false) e (subst (λ m. ends_stage (length last) m (length (got ++ last)) wanted ≡ false) (sym same) on))
-    next_packet most on (inr few) = absurd (over_soon (length last) tmax (length (got ++ last)) wanted (rw (length-append got last) (omega arith)) most few on)
+        ∙ more_if (length last) max came wanted (packet-fits max wanted answer last n h)
+        (subst (λ b. ends_stage (length last) max (length b) wanted ≡ false) e
+        (subst (λ m. ends_stage (length last) m (length (got ++ last)) wanted ≡ false)
+        (sym same) on))
+    next_packet most on (inr few) = absurd (over_soon (length last) tmax (length (got ++ last))
+        wanted (rw (length-append got last) (omega arith)) most few on)
 
-    all_came : ends_stage (length last) tmax came wanted ≡ true → (max ≡ tmax) ⊎ (wanted ≤ 8) → packets_joined max wanted answer (n + 1) ≡ Wanted
+    all_came : ends_stage (length last) tmax came wanted ≡ true → (max ≡ tmax) ⊎ (wanted ≤ 8)
+        → packets_joined max wanted answer (n + 1) ≡ Wanted
     all_came was_last (inr few) =
         let next : (n + 1) * max ≡ n * max + max = omega arith in
-        packets_joined-is max wanted answer (n + 1) (omega (arith, least)) ∙ take_all ((n + 1) * max) Wanted (omega (arith, few_wanted, next, least, few))
+        packets_joined-is max wanted answer (n + 1) (omega (arith, least))
+        ∙ take_all ((n + 1) * max) Wanted (omega (arith, few_wanted, next, least, few))
     all_came was_last (inl same) =
         let pos : 0 < max = omega (arith, least) in
         packets_joined-whole max wanted answer (n + 1) pos
-        (elim (packet_at max wanted answer (n + 1)) as (λ o. is_some o ≡ false → o ≡ None) [ None ↦ λ e. refl | Some x ↦ λ e. cc e ]
-        (packet-further max wanted answer last n pos h ∙ over_if (length last) max came wanted (subst (λ m. ends_stage (length last) m came wanted ≡ true) (sym same) was_last)))
+        (elim (packet_at max wanted answer (n + 1))
+        as (λ o. is_some o ≡ false → o ≡ None) [ None ↦ λ e. refl | Some x ↦ λ e. cc e ]
+        (packet-further max wanted answer last n pos h
+        ∙ over_if (length last) max came wanted
+        (subst (λ m. ends_stage (length last) m came wanted ≡ true) (sym same) was_last)))
 
     -- the bytes that are kept are all that was wanted of the answer
-    bytes_are_all : (bytes : List ℕ) → bytes ≡ take wanted (got ++ last) → ends_stage (length last) tmax (length bytes) wanted ≡ true → (max ≡ tmax) ⊎ (wanted ≤ 8) → bytes ≡ Wanted
+    bytes_are_all : (bytes : List ℕ) → bytes ≡ take wanted (got ++ last)
+        → ends_stage (length last) tmax (length bytes) wanted ≡ true → (max ≡ tmax) ⊎ (wanted ≤ 8)
+        → bytes ≡ Wanted
     bytes_are_all bytes kept was_last same =
         let pos : 0 < max = omega (arith, least) in
-        let few : length (take ((n + 1) * max) Wanted) ≤ wanted = rw (length-take ((n + 1) * max) Wanted) (omega (arith, few_wanted)) in
-        let all : take wanted (packets_joined max wanted answer (n + 1)) ≡ packets_joined max wanted answer (n + 1) = rw (packets_joined-is max wanted answer (n + 1) pos) (take_all wanted (take ((n + 1) * max) Wanted) few) in
-        let is : bytes ≡ packets_joined max wanted answer (n + 1) = kept ∙ ap (take wanted) e ∙ all in
-        is ∙ all_came (subst (λ b. ends_stage (length last) tmax (length b) wanted ≡ true) is was_last) same
+        let few : length (take ((n + 1) * max) Wanted) ≤ wanted =
+        rw (length-take ((n + 1) * max) Wanted) (omega (arith, few_wanted)) in
+        let all : take wanted (packets_joined max wanted answer (n + 1)) ≡ packets_joined max wanted
+        answer (n + 1) = rw (packets_joined-is max wanted answer (n + 1) pos)
+        (take_all wanted (take ((n + 1) * max) Wanted) few) in
+        let is : bytes ≡ packets_joined max wanted answer (n + 1) = kept ∙ ap (take wanted) e
+        ∙ all in
+        is ∙ all_came (subst (λ b. ends_stage (length last) tmax (length b) wanted ≡ true) is
+        was_last) same
 
-all_fit : (t : Target) (most wanted : ℕ) (answer : List ℕ) → 8 ≤ t.max → (most ≡ t.max) ⊎ (wanted ≤ 8) → Fits t most wanted answer
-all_fit t most wanted answer least (inl same) k bytes h = omega (arith, packet-fits most wanted answer bytes k h, same)
-all_fit t most wanted answer least (inr few) k bytes h = omega (arith, few_bytes most wanted answer bytes k h, least, few)
+all_fit : (t : Target) (most wanted : ℕ) (answer : List ℕ) → 8 ≤ t.max → (most ≡ t.max)
+    ⊎ (wanted ≤ 8) → Fits t most wanted answer
+all_fit t most wanted answer least (inl same) k bytes h =
+    omega (arith, packet-fits most wanted answer bytes k h, same)
+all_fit t most wanted answer least (inr few) k bytes h =
+    omega (arith, few_bytes most wanted answer bytes k h, least, few)
 
 -- A device that accepted the request with these ports, as far as its transfer is
 
 -- it refused; or it answers, n packets of that came, and this is so of the answer
-data Far (wanted n : ℕ) (got : List ℕ) (So : List ℕ → Type 0) (first : Stage) (s v : State) : Type 0 where
-  refuses_at : first ≡ refused → v.stage ≡ refused → n ≡ 0 → Far wanted n got So first s v
-  answers_at : (answer : List ℕ) → first ≡ reading answer wanted 0 → ReadingAt answer wanted n v → got ≡ packets_joined (max_packet s.spec) wanted answer n → So answer → Far wanted n got So first s v
+data Far (wanted n : ℕ) (got : List ℕ) (So : List ℕ → Type 0) (first : Stage) (s v : State) : Type 0
+  where
+    refuses_at : first ≡ refused → v.stage ≡ refused → n ≡ 0 → Far wanted n got So first s v
+    answers_at : (answer : List ℕ) → first ≡ reading answer wanted 0 → ReadingAt answer wanted n v
+        → got ≡ packets_joined (max_packet s.spec) wanted answer n → So answer
+        → Far wanted n got So first s v
 
 -- there is a next packet
 abbrev Next : Target → ℕ → ℕ → State → List ℕ → Type 0
-Next t wanted n s answer = 8 ≤ t.max → IsMaximum t wanted s → is_some (packet_at (max_packet s.spec) wanted answer n) ≡ true
+Next t wanted n s answer = 8 ≤ t.max → IsMaximum t wanted s
+    → is_some (packet_at (max_packet s.spec) wanted answer n) ≡ true
 
 -- these are all the bytes that were wanted
 abbrev Came : Target → ℕ → List ℕ → State → List ℕ → Type 0
 Came t wanted bytes s answer = IsMaximum t wanted s → bytes ≡ take wanted answer
 
-record ReadTold (t : Target) (request : Setup) (n : ℕ) (got : List ℕ) (So : State → List ℕ → Type 0) (old first now : World) (j : Location) (s v : State) : Type 0 where
+record ReadTold (t : Target) (request : Setup) (n : ℕ) (got : List ℕ) (So : State → List ℕ → Type 0)
+    (old first now : World) (j : Location) (s v : State) : Type 0 where
   row : List PortState
   accepts : AcceptedIn t request old first j row s
   frame : OnlyStage s v
   naks : v.naks ≤ s.spec.naks
   losses : now.losses ≡ old.losses
-  far : Far request.length n got (So s) (first_stage row request.length (outcome s.spec s.registers request)) s v
+  far : Far request.length n got (So s)
+      (first_stage row request.length (outcome s.spec s.registers request)) s v
 
--- What a read tells of the device that it asked: what it leaves of it, why it fails, and what it loses
-record AskedRead (t : Target) (request : Setup) (result : Result (Vec ℕ) PipeFault) (old new : World) (j : Location) (s v : State) : Type 0 where
+-- What a read tells of the device that it asked: what it leaves of it, why it fails, and what it
+-- loses
+record AskedRead (t : Target) (request : Setup) (result : Result (Vec ℕ) PipeFault)
+    (old new : World) (j : Location) (s v : State) : Type 0 where
   frame : OnlyStage s v
   done : (bytes : Vec ℕ) → result ≡ Ok bytes → AnswerRead t request bytes.items old new j s v
   refused : result ≡ Err pipe_fault.Stalled → WasRefused t request old new j s
   could : CanEnd s.spec result
-  answered : 8 ≤ t.max → NoThreeDamaged old → IsNoBusFault result → Listens t j s → IsMaximum t request.length s → result ≢ Err pipe_fault.NoAnswer
-  waited : 8 ≤ t.max → NoThreeDamaged old → IsNoBusFault result → Listens t j s → IsMaximum t request.length s → s.spec.busy ≡ false → s.spec.naks ≤ 200 → result ≢ Err pipe_fault.Busy
+  answered : 8 ≤ t.max → NoThreeDamaged old → IsNoBusFault result → Listens t j s
+      → IsMaximum t request.length s → result ≢ Err pipe_fault.NoAnswer
+  waited : 8 ≤ t.max → NoThreeDamaged old → IsNoBusFault result → Listens t j s
+      → IsMaximum t request.length s → s.spec.busy ≡ false → s.spec.naks ≤ 200
+      → result ≢ Err pipe_fault.Busy
   losses : IsNoBusFault result → new.losses ≡ old.losses
 
-module _ (t : Target) (request : Setup) (host : IsToHost request) (some : 1 ≤ request.length) (same : setup_of (bytes_of request) ≡ request) where
+module _ (t : Target) (request : Setup) (host : IsToHost request) (some : 1 ≤ request.length)
+    (same : setup_of (bytes_of request) ≡ request) where
   abbrev Wants : ℕ
   Wants = request.length
 
   -- as it accepted it
-  accepted_is : {old now : World} {j : Location} (s u : State) (x : AcceptedAt t (bytes_of request) old now j s u)
-      → u ≡ record s { naks = s.spec.naks; stage = first_stage (row_of x.holder.below) Wants (outcome s.spec s.registers request) }
-  accepted_is s u x = x.is ∙ ap (λ r. accepted s (row_of x.holder.below) r) same ∙ asks_only s (row_of x.holder.below) Wants (outcome s.spec s.registers request) (outcome-is_reading s.spec s.registers request host)
+  accepted_is : {old now : World} {j : Location} (s u : State)
+      (x : AcceptedAt t (bytes_of request) old now j s u)
+      → u ≡ record s {
+        naks = s.spec.naks;
+        stage =
+            first_stage (row_of x.holder.below) Wants (outcome s.spec s.registers request);
+      }
+  accepted_is s u x = x.is ∙ ap (λ r. accepted s (row_of x.holder.below) r) same
+      ∙ asks_only s (row_of x.holder.below) Wants (outcome s.spec s.registers request)
+      (outcome-is_reading s.spec s.registers request host)
 
-  told_first : {old first : World} (j : Location) (s u : State) → is_at s t ≡ true → Requested t request (Ok []) old first j s u → ReadTold t request 0 [] (Next t Wants 0) old first first j s u
+  told_first : {old first : World} (j : Location) (s u : State) → is_at s t ≡ true
+      → Requested t request (Ok []) old first j s u
+      → ReadTold t request 0 [] (Next t Wants 0) old first first j s u
   told_first {old} {first} j s u at y =
       let x : AcceptedAt t (bytes_of request) old first j s u = y.done.done at [] refl in
       let o : Outcome = outcome s.spec s.registers request in
-      let e : u ≡ record s { naks = s.spec.naks; stage = first_stage (row_of x.holder.below) Wants o } = accepted_is s u x in
+      let e : u ≡ record s {
+        naks = s.spec.naks;
+        stage =
+            first_stage (row_of x.holder.below) Wants o;
+      } = accepted_is s u x in
       record {
         row = row_of x.holder.below;
         accepts = record { state = u; at = x; had = refl };
@@ -284,12 +421,17 @@ module _ (t : Target) (request : Setup) (host : IsToHost request) (some : 1 ≤ 
         losses = y.kept (host_stretch request host) tt;
         far = elim (first_stage_of (row_of x.holder.below) Wants o) [
           | refuses h ↦ refuses_at h (ap (λ d. d.stage) e ∙ h) refl
-          | answers_with answer f h ↦ answers_at answer h (record { known = 0; stage = ap (λ d. d.stage) e ∙ h; near = inl refl }) refl (λ least m. first_packet (max_packet s.spec) Wants answer some)
-          | ends h f ↦ cc (sym (is_some_byte Wants some) ∙ f (outcome-is_reading s.spec s.registers request host))
+          | answers_with answer f h ↦ answers_at answer h
+              (record { known = 0; stage = ap (λ d. d.stage) e ∙ h; near = inl refl }) refl
+              (λ least m. first_packet (max_packet s.spec) Wants answer some)
+          | ends h f ↦ cc (sym (is_some_byte Wants some)
+              ∙ f (outcome-is_reading s.spec s.registers request host))
         ];
       }
 
-  module _ {n : ℕ} {got : List ℕ} {So : State → List ℕ → Type 0} {old first mid : World} {j : Location} {s u : State} (at : is_at s t ≡ true) (x : ReadTold t request n got So old first mid j s u) where
+  module _ {n : ℕ} {got : List ℕ} {So : State → List ℕ → Type 0} {old first mid : World}
+      {j : Location} {s u : State} (at : is_at s t ≡ true)
+      (x : ReadTold t request n got So old first mid j s u) where
     told_at : is_at u t ≡ true
     told_at = at_from t s u (ap (λ d. d.registers) x.frame) at
 
@@ -303,22 +445,40 @@ module _ (t : Target) (request : Setup) (host : IsToHost request) (some : 1 ≤ 
     told_calm calm = ap (λ d. d.busy) told_spec ∙ calm
 
     told_frame : (v : State) → OnlyStage u v → OnlyStage s v
-    told_frame v f = f ∙ ap {A = State} (λ d. record d { memory = v.memory; naks = v.naks; stage = v.stage }) x.frame
+    told_frame v f = f ∙ ap {A = State} (λ d. record d {
+      memory = v.memory;
+      naks = v.naks;
+      stage =
+          v.stage;
+    }) x.frame
 
     -- one more IN
-    module _ {result : Result (List ℕ) TransFault} {new : World} {v : State} (y : ControlInAsked t (flips n One) result mid new j u v) where
+    module _ {result : Result (List ℕ) TransFault} {new : World} {v : State}
+        (y : ControlInAsked t (flips n One) result mid new j u v) where
       steady_on : v.registers ≡ u.registers
-      steady_on = elim x.far [ refuses_at f h none ↦ y.leaves.rests h | answers_at answer f r b so ↦ (y.steady (reads answer Wants r.known r.stage)).1 ]
+      steady_on = elim x.far [
+        | refuses_at f h none ↦ y.leaves.rests h
+        | answers_at answer f r b so ↦
+            (y.steady (reads answer Wants r.known r.stage)).1
+      ]
 
       frame_then : OnlyStage s v
       frame_then = told_frame v (only_stage u v y.leaves.frame steady_on)
 
       losses_then : TransNotOfBus result → new.losses ≡ old.losses
-      losses_then sound = y.kept sound told_at (λ a e. elim x.far [ refuses_at f h none ↦ cc (sym h ∙ e) | answers_at answer f r b so ↦ cc (sym r.stage ∙ e) ]) ∙ x.losses
+      losses_then sound = y.kept sound told_at
+          (λ a e. elim x.far [
+            | refuses_at f h none ↦ cc (sym h ∙ e)
+            | answers_at answer f r b so ↦
+                cc (sym r.stage ∙ e)
+          ]) ∙ x.losses
 
     -- a packet that came
-    told_more : {bytes : List ℕ} {new : World} {v : State} (Q : State → List ℕ → Type 0) → ControlInAsked t (flips n One) (Ok bytes) mid new j u v
-        → ((answer : List ℕ) → packet_at (max_packet s.spec) Wants answer n ≡ Some bytes → got ++ bytes ≡ packets_joined (max_packet s.spec) Wants answer (n + 1) → Q s answer) → ReadTold t request (n + 1) (got ++ bytes) Q old first new j s v
+    told_more : {bytes : List ℕ} {new : World} {v : State} (Q : State → List ℕ → Type 0)
+        → ControlInAsked t (flips n One) (Ok bytes) mid new j u v
+        → ((answer : List ℕ) → packet_at (max_packet s.spec) Wants answer n ≡ Some bytes
+        → got ++ bytes ≡ packets_joined (max_packet s.spec) Wants answer (n + 1) → Q s answer)
+        → ReadTold t request (n + 1) (got ++ bytes) Q old first new j s v
     told_more {bytes} {v = v} Q y q = record {
       row = x.row;
       accepts = x.accepts;
@@ -328,32 +488,55 @@ module _ (t : Target) (request : Setup) (host : IsToHost request) (some : 1 ≤ 
       far = elim x.far [
         | refuses_at f h none ↦ absurd ((y.leaves.refused h).1 told_at bytes refl)
         | answers_at answer f r b so ↦
-            let on : ReadOn answer Wants n u (Some bytes) v = y.leaves.reading told_at answer Wants n (flips_at n) r in
-            let came : packet_at (max_packet s.spec) Wants answer n ≡ Some bytes = ap (λ d. packet_at (max_packet d) Wants answer n) (sym told_spec) ∙ on.0 in
-            let all : got ++ bytes ≡ packets_joined (max_packet s.spec) Wants answer (n + 1) = joined_more (max_packet s.spec) Wants answer got bytes n b came in
+            let on : ReadOn answer Wants n u (Some bytes) v =
+            y.leaves.reading told_at answer Wants n (flips_at n) r in
+            let came : packet_at (max_packet s.spec) Wants answer n ≡ Some bytes =
+            ap (λ d. packet_at (max_packet d) Wants answer n) (sym told_spec) ∙ on.0 in
+            let all : got ++ bytes ≡ packets_joined (max_packet s.spec) Wants answer (n + 1) =
+            joined_more (max_packet s.spec) Wants answer got bytes n b came in
             answers_at answer f on.1 all (q answer came all)
       ];
     }
 
   -- a packet that did not come
-  read_lost : {n : ℕ} {got : List ℕ} {old first mid new : World} (fault : TransFault) → mid.damages ≡ old.damages → (Fell fault trans.Stalled → Course (IsBehind t) first new)
-      → (j : Location) (s u v : State) → is_at s t ≡ true → ReadTold t request n got (Next t Wants n) old first mid j s u → ControlInAsked t (flips n One) (Err fault) mid new j u v
+  read_lost : {n : ℕ} {got : List ℕ} {old first mid new : World} (fault : TransFault)
+      → mid.damages ≡ old.damages → (Fell fault trans.Stalled → Course (IsBehind t) first new)
+      → (j : Location) (s u v : State) → is_at s t ≡ true
+      → ReadTold t request n got (Next t Wants n) old first mid j s u
+      → ControlInAsked t (flips n One) (Err fault) mid new j u v
       → AskedRead t request (Err (as_pipe_fault fault)) old new j s v
   read_lost {n} {old = old} {first} {mid} fault undamaged since j s u v at x y = record {
     frame = frame_then at x y;
     done = λ b e. cc e;
     refused = λ e.
-        let fell : Fell fault trans.Stalled = fell_same_fault (Vec ℕ) (as_pipe_fault fault) fault trans.Stalled refl e in
-        let is_refused = elim x.far as (λ _. first_stage x.row Wants (outcome s.spec s.registers request) ≡ refused) [
+        let fell : Fell fault trans.Stalled = fell_same_fault (Vec ℕ) (as_pipe_fault fault) fault
+        trans.Stalled refl e in
+        let is_refused = elim x.far
+        as (λ _. first_stage x.row Wants (outcome s.spec s.registers request) ≡ refused) [
           | refuses_at f h none ↦ f
           | answers_at answer f r b so ↦ cc (sym r.stage ∙ y.leaves.stalled (told_at at x) fell)
         ] in
-        record { row = x.row; moment = record { now = first; accepts = x.accepts; since = since fell }; is = is_refused };
-    could = could_answer (Vec ℕ) s.spec (as_pipe_fault fault) fault refl (subst (λ d. CanAnswer {A = List ℕ} d (Err fault)) (told_spec at x) (y.leaves.could (told_at at x)));
+        record {
+          row = x.row;
+          moment = record {
+            now = first;
+            accepts = x.accepts;
+            since =
+                since fell;
+          };
+          is = is_refused;
+        };
+    could = could_answer (Vec ℕ) s.spec (as_pipe_fault fault) fault refl
+        (subst (λ d. CanAnswer {A = List ℕ} d (Err fault)) (told_spec at x)
+        (y.leaves.could (told_at at x)));
     answered = λ least three sound l m e.
-        (y.why (never_three old mid undamaged three) (sound_in (Vec ℕ) fault sound)).answered (told_listens at x l) (has_next least m) (fell_same_fault (Vec ℕ) (as_pipe_fault fault) fault trans.NoAnswer refl e);
+        (y.why (never_three old mid undamaged three) (sound_in (Vec ℕ) fault sound)).answered
+        (told_listens at x l) (has_next least m)
+        (fell_same_fault (Vec ℕ) (as_pipe_fault fault) fault trans.NoAnswer refl e);
     waited = λ least three sound l m calm few e.
-        (y.why (never_three old mid undamaged three) (sound_in (Vec ℕ) fault sound)).waited (told_listens at x l) (has_next least m) (told_calm at x calm) (omega (arith, x.naks, few))
+        (y.why (never_three old mid undamaged three) (sound_in (Vec ℕ) fault sound)).waited
+        (told_listens at x l) (has_next least m) (told_calm at x calm)
+        (omega (arith, x.naks, few))
         (fell_same_fault (Vec ℕ) (as_pipe_fault fault) fault trans.Busy refl e);
     losses = λ sound. losses_then at x y (sound_in (Vec ℕ) fault sound);
   }
@@ -362,70 +545,111 @@ module _ (t : Target) (request : Setup) (host : IsToHost request) (some : 1 ≤ 
       has_next least m = elim x.far [
         | refuses_at f h none ↦ HasNext.refusal h
         | answers_at answer f r b so ↦
-            HasNext.data_stage answer Wants n (flips_at n) r (subst (λ d. is_some (packet_at (max_packet d) Wants answer n) ≡ true) (sym (told_spec at x)) (so least m))
-            (subst (λ d. Fits t (max_packet d) Wants answer) (sym (told_spec at x)) (all_fit t (max_packet s.spec) Wants answer least m))
+            HasNext.data_stage answer Wants n (flips_at n) r
+            (subst (λ d. is_some (packet_at (max_packet d) Wants answer n) ≡ true)
+            (sym (told_spec at x)) (so least m))
+            (subst (λ d. Fits t (max_packet d) Wants answer) (sym (told_spec at x))
+            (all_fit t (max_packet s.spec) Wants answer least m))
       ]
 
   -- a packet for which there was no memory
-  read_full : {n : ℕ} {got last : List ℕ} {old first mid new : World} (j : Location) (s u v : State) → is_at s t ≡ true → ReadTold t request n got (Next t Wants n) old first mid j s u
-      → ControlInAsked t (flips n One) (Ok last) mid new j u v → AskedRead t request (Err pipe_fault.Memory) old new j s v
+  read_full : {n : ℕ} {got last : List ℕ} {old first mid new : World} (j : Location) (s u v : State)
+      → is_at s t ≡ true → ReadTold t request n got (Next t Wants n) old first mid j s u
+      → ControlInAsked t (flips n One) (Ok last) mid new j u v
+      → AskedRead t request (Err pipe_fault.Memory) old new j s v
   read_full {last = last} j s u v at x y = record {
     frame = frame_then at x y;
     done = λ b e. cc e;
     refused = λ e. cc e;
-    could = subst (λ d. CanAnswer {A = List ℕ} d (Ok last)) (told_spec at x) (y.leaves.could (told_at at x));
+    could = subst (λ d. CanAnswer {A = List ℕ} d (Ok last)) (told_spec at x)
+        (y.leaves.could (told_at at x));
     answered = λ least three sound l m e. cc e;
     waited = λ least three sound l m calm few e. cc e;
     losses = λ sound. losses_then at x y tt;
   }
 
   -- a status stage that did not end
-  read_unconfirmed : (n : ℕ) {got bytes : List ℕ} {old first mid new : World} (fault : TransFault) → mid.damages ≡ old.damages
-      → (j : Location) (s u v : State) → is_at s t ≡ true → ReadTold t request (n + 1) got (Came t Wants bytes) old first mid j s u → Confirmed t (Err fault) mid new j u v
+  read_unconfirmed : (n : ℕ) {got bytes : List ℕ} {old first mid new : World} (fault : TransFault)
+      → mid.damages ≡ old.damages
+      → (j : Location) (s u v : State) → is_at s t ≡ true
+      → ReadTold t request (n + 1) got (Came t Wants bytes) old first mid j s u
+      → Confirmed t (Err fault) mid new j u v
       → AskedRead t request (Err (as_pipe_fault fault)) old new j s v
   read_unconfirmed n {old = old} {mid = mid} fault undamaged j s u v at x y = record {
     frame = told_frame at x v y.leaves.frame;
     done = λ b e. cc e;
-    refused = λ e. absurd (y.leaves.stalled (told_at at x) in_read (fell_same_fault (Vec ℕ) (as_pipe_fault fault) fault trans.Stalled refl e));
-    could = could_answer (Vec ℕ) s.spec (as_pipe_fault fault) fault refl (subst (λ d. CanAnswer {A = List ℕ} d (Err fault)) (told_spec at x) (y.leaves.could (told_at at x)));
+    refused = λ e. absurd (y.leaves.stalled (told_at at x) in_read
+        (fell_same_fault (Vec ℕ) (as_pipe_fault fault) fault trans.Stalled refl e));
+    could = could_answer (Vec ℕ) s.spec (as_pipe_fault fault) fault refl
+        (subst (λ d. CanAnswer {A = List ℕ} d (Err fault)) (told_spec at x)
+        (y.leaves.could (told_at at x)));
     answered = λ least three sound l m e.
-        (y.why (never_three old mid undamaged three) (sound_in (Vec ℕ) fault sound)).answered (told_listens at x l) in_read (fell_same_fault (Vec ℕ) (as_pipe_fault fault) fault trans.NoAnswer refl e);
+        (y.why (never_three old mid undamaged three) (sound_in (Vec ℕ) fault sound)).answered
+        (told_listens at x l) in_read (fell_same_fault (Vec ℕ) (as_pipe_fault fault) fault
+        trans.NoAnswer refl e);
     waited = λ least three sound l m calm few e.
-        (y.why (never_three old mid undamaged three) (sound_in (Vec ℕ) fault sound)).waited (told_listens at x l) in_read (told_calm at x calm) (omega (arith, x.naks, few))
+        (y.why (never_three old mid undamaged three) (sound_in (Vec ℕ) fault sound)).waited
+        (told_listens at x l) in_read (told_calm at x calm) (omega (arith, x.naks, few))
         (fell_same_fault (Vec ℕ) (as_pipe_fault fault) fault trans.Busy refl e);
     losses = λ sound. y.kept (sound_in (Vec ℕ) fault sound) ∙ x.losses;
   }
     where
       in_read : IsInRead u
-      in_read = elim x.far [ refuses_at f h none ↦ absurd (omega (arith, none)) | answers_at answer f r b so ↦ IsInRead.data_stage answer Wants r.known r.stage ]
+      in_read = elim x.far [
+        | refuses_at f h none ↦ absurd (omega (arith, none))
+        | answers_at answer f r b so ↦ IsInRead.data_stage answer Wants r.known r.stage
+      ]
 
   -- one that did
-  read_whole : (n : ℕ) {got : List ℕ} {old first mid new : World} (whole : Vec ℕ) → Course (IsBehind t) first new
-      → (j : Location) (s u v : State) → is_at s t ≡ true → ReadTold t request (n + 1) got (Came t Wants whole.items) old first mid j s u → Confirmed t (Ok []) mid new j u v
+  read_whole : (n : ℕ) {got : List ℕ} {old first mid new : World} (whole : Vec ℕ)
+      → Course (IsBehind t) first new
+      → (j : Location) (s u v : State) → is_at s t ≡ true
+      → ReadTold t request (n + 1) got (Came t Wants whole.items) old first mid j s u
+      → Confirmed t (Ok []) mid new j u v
       → AskedRead t request (Ok whole) old new j s v
   read_whole n {old = old} {first} {new = new} whole since j s u v at x y = record {
     frame = told_frame at x v y.leaves.frame;
-    done = λ bytes e. let same : whole ≡ bytes = cc e in subst (λ (w : Vec ℕ). AnswerRead t request w.items old new j s v) same (elim x.far [
-      | refuses_at f h none ↦ absurd (omega (arith, none))
-      | answers_at answer f r b so ↦
-          record { row = x.row; moment = record { now = first; accepts = x.accepts; since = since }; answer = answer; is = f; came = so; over = (y.leaves.done (told_at at x) [] refl).0 }
-    ]);
+    done = λ bytes e. let same : whole ≡ bytes = cc e in
+        subst (λ (w : Vec ℕ). AnswerRead t request w.items old new j s v) same (elim x.far [
+          | refuses_at f h none ↦ absurd (omega (arith, none))
+          | answers_at answer f r b so ↦
+              record {
+                row = x.row;
+                moment = record { now = first; accepts = x.accepts; since = since };
+                answer = answer;
+                is = f;
+                came = so;
+                over =
+                    (y.leaves.done (told_at at x) [] refl).0;
+              }
+        ]);
     refused = λ e. cc e;
-    could = subst (λ d. CanAnswer {A = List ℕ} d (Ok [])) (told_spec at x) (y.leaves.could (told_at at x));
+    could = subst (λ d. CanAnswer {A = List ℕ} d (Ok [])) (told_spec at x)
+        (y.leaves.could (told_at at x));
     answered = λ least three sound l m e. cc e;
     waited = λ least three sound l m calm few e. cc e;
     losses = λ sound. y.kept tt ∙ x.losses;
   }
 
   -- setup data that were not acknowledged
-  read_no_set_up : {old new : World} (fault : TransFault) (j : Location) (s v : State) → is_at s t ≡ true → Requested t request (Err fault) old new j s v → AskedRead t request (Err (as_pipe_fault fault)) old new j s v
+  read_no_set_up : {old new : World} (fault : TransFault) (j : Location) (s v : State)
+      → is_at s t ≡ true → Requested t request (Err fault) old new j s v
+      → AskedRead t request (Err (as_pipe_fault fault)) old new j s v
   read_no_set_up fault j s v at x = record {
-    frame = elim x.done.kept [ inl e ↦ subst (λ d. OnlyStage s d) (sym e) refl | inr a ↦ subst (λ d. OnlyStage s d) (sym (accepted_is s v a.at)) refl ];
+    frame = elim x.done.kept [
+      | inl e ↦ subst (λ d. OnlyStage s d) (sym e) refl
+      | inr a ↦
+          subst (λ d. OnlyStage s d) (sym (accepted_is s v a.at)) refl
+    ];
     done = λ b e. cc e;
-    refused = λ e. absurd (subst (λ r. CanAccept {A = List ℕ} s.spec r) (fell_same_fault (Vec ℕ) (as_pipe_fault fault) fault trans.Stalled refl e) (x.done.could at));
+    refused = λ e. absurd (subst (λ r. CanAccept {A = List ℕ} s.spec r)
+        (fell_same_fault (Vec ℕ) (as_pipe_fault fault) fault trans.Stalled refl e)
+        (x.done.could at));
     could = could_accept (Vec ℕ) s.spec (as_pipe_fault fault) fault refl (x.done.could at);
-    answered = λ least three sound l m e. (x.why three (sound_in (Vec ℕ) fault sound)).answered l (fell_same_fault (Vec ℕ) (as_pipe_fault fault) fault trans.NoAnswer refl e);
-    waited = λ least three sound l m calm few e. subst (λ r. CanAccept {A = List ℕ} s.spec r) (fell_same_fault (Vec ℕ) (as_pipe_fault fault) fault trans.Busy refl e) (x.done.could at);
+    answered = λ least three sound l m e. (x.why three (sound_in (Vec ℕ) fault sound)).answered l
+        (fell_same_fault (Vec ℕ) (as_pipe_fault fault) fault trans.NoAnswer refl e);
+    waited = λ least three sound l m calm few e. subst (λ r. CanAccept {A = List ℕ} s.spec r)
+        (fell_same_fault (Vec ℕ) (as_pipe_fault fault) fault trans.Busy refl e) (x.done.could at);
     losses = λ sound. x.kept (host_stretch request host) (sound_in (Vec ℕ) fault sound);
   }
 
@@ -433,98 +657,153 @@ module _ (t : Target) (request : Setup) (host : IsToHost request) (some : 1 ≤ 
 
   module _ (old : World) (settled : IsSettled old.roots) where
     module _ {first : World} (x : SetUp t request old (Ok []) first) where
-      goes : {n : ℕ} {got : List ℕ} {mid : World} → Goes t Wants first n got mid → RequestReached t request (ReadTold t request n got (Next t Wants n) old first mid) old mid
-      goes start = reached_first t request (ReadTold t request 0 [] (Next t Wants 0) old first first) same settled x told_first
+      goes : {n : ℕ} {got : List ℕ} {mid : World} → Goes t Wants first n got mid
+          → RequestReached t request (ReadTold t request n got (Next t Wants n) old first mid) old
+          mid
+      goes start = reached_first t request (ReadTold t request 0 [] (Next t Wants 0) old first
+          first) same settled x told_first
       goes {mid = new} (packet {n} {got} {mid} bytes g asks on) =
-          reached_more (ControlInAsked t (flips n One) (Ok bytes) mid new) (ReadTold t request (n + 1) (got ++ bytes) (Next t Wants (n + 1)) old first new) bytes (λ j s v y. y.leaves.others)
-          (λ j s u v at y z. told_more at y (Next t Wants (n + 1)) z (λ answer came all least m. next_packet (max_packet s.spec) Wants answer t.max n got bytes (at_least_8 s.spec) came all least on m))
+          reached_more (ControlInAsked t (flips n One) (Ok bytes) mid new)
+          (ReadTold t request (n + 1) (got ++ bytes) (Next t Wants (n + 1)) old first new) bytes
+          (λ j s v y. y.leaves.others)
+          (λ j s u v at y z. told_more at y (Next t Wants (n + 1)) z
+          (λ answer came all least m. next_packet (max_packet s.spec) Wants answer t.max n got
+          bytes (at_least_8 s.spec) came all least on m))
           (goes g) asks (asked_leaves t (flips n One) (Ok bytes) mid new asks)
 
-      over : {bytes : List ℕ} {second : World} (d : DataStage t Wants first bytes second) → RequestReached t request (ReadTold t request (d.packets + 1) (d.got ++ d.last) (Came t Wants bytes) old first second) old second
+      over : {bytes : List ℕ} {second : World} (d : DataStage t Wants first bytes second)
+          → RequestReached t request (ReadTold t request (d.packets + 1) (d.got ++ d.last)
+          (Came t Wants bytes) old first second) old second
       over {bytes} {second} d =
-          reached_more (ControlInAsked t (flips d.packets One) (Ok d.last) d.mid second) (ReadTold t request (d.packets + 1) (d.got ++ d.last) (Came t Wants bytes) old first second) d.last (λ j s v y. y.leaves.others)
-          (λ j s u v at y z. told_more at y (Came t Wants bytes) z (λ answer came all m. bytes_are_all (max_packet s.spec) Wants answer t.max d.packets d.got d.last (at_least_8 s.spec) came all bytes d.kept d.ends m))
-          (goes d.before) d.came (asked_leaves t (flips d.packets One) (Ok d.last) d.mid second d.came)
+          reached_more (ControlInAsked t (flips d.packets One) (Ok d.last) d.mid second)
+          (ReadTold t request (d.packets + 1) (d.got ++ d.last) (Came t Wants bytes) old first
+          second) d.last (λ j s v y. y.leaves.others)
+          (λ j s u v at y z. told_more at y (Came t Wants bytes) z
+          (λ answer came all m. bytes_are_all (max_packet s.spec) Wants answer t.max d.packets
+          d.got d.last (at_least_8 s.spec) came all bytes d.kept d.ends m))
+          (goes d.before) d.came (asked_leaves t (flips d.packets One) (Ok d.last) d.mid second
+          d.came)
 
     module _ (new : World) (single : new.shared ≡ false) where
       abbrev ReadEnds : Result (Vec ℕ) PipeFault → Type 0
       ReadEnds result = EachSpared t request (Only t (AskedRead t request result old new)) old new
 
-      each_read : (result : Result (Vec ℕ) PipeFault) → Reads t request old result new → ReadEnds result
+      each_read : (result : Result (Vec ℕ) PipeFault) → Reads t request old result new
+          → ReadEnds result
       each_read (Ok bytes) x =
           let d = x.data_stage in
-          reached_last (Confirmed t (Ok []) x.second new) (AskedRead t request (Ok bytes) old new) _ _ _ (Ok []) (λ j s v y. y.leaves.others) (read_whole d.packets bytes (course_joined (stage_behind d) (out_behind x.status)))
+          reached_last (Confirmed t (Ok []) x.second new) (AskedRead t request (Ok bytes) old new) _
+          _ _ (Ok []) (λ j s v y. y.leaves.others)
+          (read_whole d.packets bytes (course_joined (stage_behind d) (out_behind x.status)))
           (over x.set_up d) x.status (confirmed_leaves t (Ok []) x.second new x.status) single
       each_read (Err why) (inl x) =
           subst (λ w. ReadEnds (Err w)) (sym x.told)
-          (only_first t request (AskedRead t request (Err (as_pipe_fault x.fault)) old new) (Err x.fault) same settled x.set_up (read_no_set_up x.fault) single)
+          (only_first t request (AskedRead t request (Err (as_pipe_fault x.fault)) old new)
+          (Err x.fault) same settled x.set_up (read_no_set_up x.fault) single)
       each_read (Err why) (inr (inl x)) = elim x.data_stage [
         | inl d ↦
             let r = goes x.set_up d.before in
             subst (λ w. ReadEnds (Err w)) (sym d.told)
-            (reached_last (ControlInAsked t (flips d.packets One) (Err d.fault) d.mid new) (AskedRead t request (Err (as_pipe_fault d.fault)) old new) _ _ _ (Err d.fault) (λ j s v y. y.leaves.others)
-            (read_lost d.fault r.damages (λ e. course_joined (goes_behind d.before) (in_behind (flips d.packets One) (ended_stalled d.fault d.lost e))))
+            (reached_last (ControlInAsked t (flips d.packets One) (Err d.fault) d.mid new)
+            (AskedRead t request (Err (as_pipe_fault d.fault)) old new) _ _ _ (Err d.fault)
+            (λ j s v y. y.leaves.others)
+            (read_lost d.fault r.damages (λ e. course_joined (goes_behind d.before)
+            (in_behind (flips d.packets One) (ended_stalled d.fault d.lost e))))
             r d.lost (asked_leaves t (flips d.packets One) (Err d.fault) d.mid new d.lost) single)
         | inr d ↦
             subst (λ w. ReadEnds (Err w)) (sym d.told)
-            (reached_last (ControlInAsked t (flips d.packets One) (Ok d.last) d.mid new) (AskedRead t request (Err pipe_fault.Memory) old new) _ _ _ (Ok d.last) (λ j s v y. y.leaves.others) read_full
-            (goes x.set_up d.before) d.came (asked_leaves t (flips d.packets One) (Ok d.last) d.mid new d.came) single)
+            (reached_last (ControlInAsked t (flips d.packets One) (Ok d.last) d.mid new)
+            (AskedRead t request (Err pipe_fault.Memory) old new) _ _ _ (Ok d.last)
+            (λ j s v y. y.leaves.others) read_full
+            (goes x.set_up d.before) d.came (asked_leaves t (flips d.packets One) (Ok d.last) d.mid
+            new d.came) single)
       ]
       each_read (Err why) (inr (inr x)) =
           let d = x.data_stage in
           let r = over x.set_up d in
           subst (λ w. ReadEnds (Err w)) (sym x.told)
-          (reached_last (Confirmed t (Err x.fault) x.second new) (AskedRead t request (Err (as_pipe_fault x.fault)) old new) _ _ _ (Err x.fault) (λ j s v y. y.leaves.others)
+          (reached_last (Confirmed t (Err x.fault) x.second new)
+          (AskedRead t request (Err (as_pipe_fault x.fault)) old new) _ _ _ (Err x.fault)
+          (λ j s v y. y.leaves.others)
           (read_unconfirmed d.packets x.fault r.damages)
           r x.status (confirmed_leaves t (Err x.fault) x.second new x.status) single)
 
 -- A whole read
 
 module _ (t : Target) (request : Setup) (result : Result (Vec ℕ) PipeFault) (old new : World) where
-  each_read_told : (R : Relation) → ((j : Location) (s v : State) → Only t (AskedRead t request result old new) j s v → R j s v) → IsToHost request → 1 ≤ request.length → setup_of (bytes_of request) ≡ request
-      → IsSettled old.roots → Reads t request old result new → new.shared ≡ false → EachWas R old new
+  each_read_told : (R : Relation) → ((j : Location) (s v : State)
+      → Only t (AskedRead t request result old new) j s v → R j s v) → IsToHost request
+      → 1 ≤ request.length → setup_of (bytes_of request) ≡ request
+      → IsSettled old.roots → Reads t request old result new → new.shared ≡ false
+      → EachWas R old new
   each_read_told R f host some same settled x single =
       spared_all t request R old new (host_harmless request host)
-      (spared_wider t request (Only t (AskedRead t request result old new)) R f old new (each_read t request host some same old settled new single result x))
+      (spared_wider t request (Only t (AskedRead t request result old new)) R f old new
+      (each_read t request host some same old settled new single result x))
 
   pub read_leaves : IsToHost request → 1 ≤ request.length → setup_of (bytes_of request) ≡ request
-      → IsSettled old.roots → Reads t request old result new → new.shared ≡ false → EachWas (ReadLeaves t request result old new) old new
+      → IsSettled old.roots → Reads t request old result new → new.shared ≡ false
+      → EachWas (ReadLeaves t request result old new) old new
   read_leaves = each_read_told (ReadLeaves t request result old new) (λ j s v y. record {
     others = y.others;
-    frame = elim (decided (is_at s t)) [ inl at ↦ (y.mine at).frame | inr off ↦ subst (λ d. OnlyStage s d) (sym (y.others off)) refl ];
+    frame = elim (decided (is_at s t)) [
+      | inl at ↦ (y.mine at).frame
+      | inr off ↦
+          subst (λ d. OnlyStage s d) (sym (y.others off)) refl
+    ];
     done = λ at. (y.mine at).done;
     refused = λ at. (y.mine at).refused;
     could = λ at. (y.mine at).could;
   })
 
-  pub read_why : 8 ≤ t.max → IsToHost request → 1 ≤ request.length → setup_of (bytes_of request) ≡ request
-      → IsSettled old.roots → NoThreeDamaged old → Reads t request old result new → IsNoBusFault result → new.shared ≡ false → EachWas (ControlReadFailure t request result) old new
+  pub read_why : 8 ≤ t.max → IsToHost request → 1 ≤ request.length
+      → setup_of (bytes_of request) ≡ request
+      → IsSettled old.roots → NoThreeDamaged old → Reads t request old result new
+      → IsNoBusFault result → new.shared ≡ false
+      → EachWas (ControlReadFailure t request result) old new
   read_why least host some same settled three x sound single =
-      each_read_told (ControlReadFailure t request result) (λ j s v y. record { answered = λ l. (y.mine l.at).answered least three sound l; waited = λ l. (y.mine l.at).waited least three sound l }) host some same settled x single
+      each_read_told (ControlReadFailure t request result)
+      (λ j s v y. record {
+        answered = λ l. (y.mine l.at).answered least three sound l;
+        waited =
+            λ l. (y.mine l.at).waited least three sound l;
+      }) host some same settled x single
 
   pub read_losses : IsToHost request → 1 ≤ request.length → setup_of (bytes_of request) ≡ request
-      → IsSettled old.roots → Reads t request old result new → IsNoBusFault result → new.shared ≡ false → EachWas (LossesKept t old new) old new
-  read_losses host some same settled x sound single = each_read_told (LossesKept t old new) (λ j s v y at. (y.mine at).losses sound) host some same settled x single
+      → IsSettled old.roots → Reads t request old result new → IsNoBusFault result
+      → new.shared ≡ false → EachWas (LossesKept t old new) old new
+  read_losses host some same settled x sound single =
+      each_read_told (LossesKept t old new) (λ j s v y at. (y.mine at).losses sound) host some same
+      settled x single
 
 -- What a request without data tells of the device that it asked
-record AskedWrite (t : Target) (request : Setup) (result : Result (Unit {0}) PipeFault) (old new : World) (j : Location) (s v : State) : Type 0 where
-  failed : request.length ≡ 0 → (fault : PipeFault) → result ≡ Err fault → EffectOrNone t request fault old j s v
+record AskedWrite (t : Target) (request : Setup) (result : Result (Unit {0}) PipeFault)
+    (old new : World) (j : Location) (s v : State) : Type 0 where
+  failed : request.length ≡ 0 → (fault : PipeFault) → result ≡ Err fault
+      → EffectOrNone t request fault old j s v
   done : request.length ≡ 0 → (u : Unit {0}) → result ≡ Ok u → EffectDone t request old new j s v
   refused : result ≡ Err pipe_fault.Stalled → WasRefused t request old new j s
   could : CanEnd s.spec result
-  answered : request.length ≡ 0 → NoThreeDamaged old → IsNoBusFault result → Listens t j s → result ≢ Err pipe_fault.NoAnswer
-  waited : request.length ≡ 0 → NoThreeDamaged old → IsNoBusFault result → Listens t j s → s.spec.busy ≡ false → s.spec.naks ≤ 200 → result ≢ Err pipe_fault.Busy
-  losses : begins_no_stretch request ≡ true → IsNoBusFault result → LossesOf t request result old new j s v
+  answered : request.length ≡ 0 → NoThreeDamaged old → IsNoBusFault result → Listens t j s
+      → result ≢ Err pipe_fault.NoAnswer
+  waited : request.length ≡ 0 → NoThreeDamaged old → IsNoBusFault result → Listens t j s
+      → s.spec.busy ≡ false → s.spec.naks ≤ 200 → result ≢ Err pipe_fault.Busy
+  losses : begins_no_stretch request ≡ true → IsNoBusFault result
+      → LossesOf t request result old new j s v
 
-effect_or_none_same : (t : Target) (request : Setup) (fault : PipeFault) (old : World) (j : Location) (s v : State) → v ≡ s → EffectOrNone t request fault old j s v
-effect_or_none_same t request fault old j s v e = EffectOrNone.none (subst (λ d. OnlyControl s d) (sym e) refl) (ap (λ d. d.registers) e)
+effect_or_none_same : (t : Target) (request : Setup) (fault : PipeFault) (old : World)
+    (j : Location) (s v : State) → v ≡ s → EffectOrNone t request fault old j s v
+effect_or_none_same t request fault old j s v e =
+    EffectOrNone.none (subst (λ d. OnlyControl s d) (sym e) refl) (ap (λ d. d.registers) e)
 
 module _ (t : Target) (request : Setup) (same : setup_of (bytes_of request) ≡ request) where
   abbrev Took : World → World → Relation
-  Took old now j s u = AcceptedAt t (bytes_of request) old now j s u × (begins_no_stretch request ≡ true → now.losses ≡ old.losses)
+  Took old now j s u = AcceptedAt t (bytes_of request) old now j s u
+      × (begins_no_stretch request ≡ true → now.losses ≡ old.losses)
 
   -- the device that accepted it
-  module _ {old mid : World} {j : Location} {s u : State} (at : is_at s t ≡ true) (x : AcceptedAt t (bytes_of request) old mid j s u) where
+  module _ {old mid : World} {j : Location} {s u : State} (at : is_at s t ≡ true)
+      (x : AcceptedAt t (bytes_of request) old mid j s u) where
     abbrev taken_asked : Outcome
     taken_asked = outcome s.spec s.registers request
 
@@ -548,99 +827,171 @@ module _ (t : Target) (request : Setup) (same : setup_of (bytes_of request) ≡ 
 
     -- a status stage or a refusal
     taken_next : request.length ≡ 0 → HasNext t One u
-    taken_next nothing = elim (closes (row_of x.holder.below) request.length taken_asked nothing) [ inl h ↦ HasNext.refusal (taken_stage ∙ h) | inr h ↦ HasNext.status (address_at_end taken_asked) (taken_stage ∙ h) refl ]
+    taken_next nothing = elim (closes (row_of x.holder.below) request.length taken_asked nothing) [
+      | inl h ↦ HasNext.refusal (taken_stage ∙ h)
+      | inr h ↦
+          HasNext.status (address_at_end taken_asked) (taken_stage ∙ h) refl
+    ]
 
     -- the registers are as the request left them
-    kept_then : (fault : PipeFault) (v : State) → OnlyControl u v → v.registers ≡ u.registers → EffectOrNone t request fault old j s v
-    kept_then fault v frame e = EffectOrNone.some (row_of x.holder.below) mid taken_accepts (subst (λ d. OnlyControl d v) taken_is frame) (e ∙ ap (λ d. d.registers) taken_is)
+    kept_then : (fault : PipeFault) (v : State) → OnlyControl u v → v.registers ≡ u.registers
+        → EffectOrNone t request fault old j s v
+    kept_then fault v frame e = EffectOrNone.some (row_of x.holder.below) mid taken_accepts
+        (subst (λ d. OnlyControl d v) taken_is frame) (e ∙ ap (λ d. d.registers) taken_is)
 
     -- or the bus gave up behind a status stage that was given
-    effect_then : request.length ≡ 0 → (fault : TransFault) (v : State) → ControlIn t One (Err fault) j u v → EffectOrNone t request (as_pipe_fault fault) old j s v
-    effect_then nothing (trans.Bus fault) v y = elim (closes (row_of x.holder.below) request.length taken_asked nothing) [
-      | inl h ↦ kept_then (pipe_fault.Bus fault) v y.frame (y.rests (taken_stage ∙ h))
-      | inr h ↦ EffectOrNone.whole fault refl (row_of x.holder.below) mid taken_accepts (subst (λ d. OnlyControl d v) taken_is y.frame) (address_at_end taken_asked) h (subst (λ d. StatusGiven (address_at_end taken_asked) d v) taken_is (y.status taken_at refl (address_at_end taken_asked) (taken_stage ∙ h)))
-    ]
-    effect_then nothing trans.Stalled v y = kept_then pipe_fault.Stalled v y.frame (y.failed refl trans.Stalled refl tt)
-    effect_then nothing trans.Busy v y = kept_then pipe_fault.Busy v y.frame (y.failed refl trans.Busy refl tt)
-    effect_then nothing trans.NoAnswer v y = kept_then pipe_fault.NoAnswer v y.frame (y.failed refl trans.NoAnswer refl tt)
+    effect_then : request.length ≡ 0 → (fault : TransFault) (v : State)
+        → ControlIn t One (Err fault) j u v → EffectOrNone t request (as_pipe_fault fault) old j s v
+    effect_then nothing (trans.Bus fault) v y =
+        elim (closes (row_of x.holder.below) request.length taken_asked nothing) [
+          | inl h ↦ kept_then (pipe_fault.Bus fault) v y.frame (y.rests (taken_stage ∙ h))
+          | inr h ↦ EffectOrNone.whole fault refl (row_of x.holder.below) mid taken_accepts
+              (subst (λ d. OnlyControl d v) taken_is y.frame) (address_at_end taken_asked) h
+              (subst (λ d. StatusGiven (address_at_end taken_asked) d v) taken_is
+              (y.status taken_at refl (address_at_end taken_asked) (taken_stage ∙ h)))
+        ]
+    effect_then nothing trans.Stalled v y =
+        kept_then pipe_fault.Stalled v y.frame (y.failed refl trans.Stalled refl tt)
+    effect_then nothing trans.Busy v y = kept_then pipe_fault.Busy v y.frame
+        (y.failed refl trans.Busy refl tt)
+    effect_then nothing trans.NoAnswer v y =
+        kept_then pipe_fault.NoAnswer v y.frame (y.failed refl trans.NoAnswer refl tt)
 
     module _ {new : World} (v : State) where
-      effect_done : (given : List ℕ) → Course (IsBehind t) mid new → request.length ≡ 0 → ControlIn t One (Ok given) j u v → EffectDone t request old new j s v
-      effect_done given since nothing y = elim (closes (row_of x.holder.below) request.length taken_asked nothing) [
-        | inl h ↦ absurd ((y.refused (taken_stage ∙ h)).1 taken_at given refl)
-        | inr h ↦ record {
-          row = row_of x.holder.below;
-          moment = record { now = mid; accepts = taken_accepts; since = since };
-          address = address_at_end taken_asked;
-          is = h;
-          given = subst (λ d. StatusGiven (address_at_end taken_asked) d v) taken_is (y.status taken_at refl (address_at_end taken_asked) (taken_stage ∙ h)).1;
-          rest = subst (λ d. OnlyControl d v) taken_is y.frame;
-        }
-      ]
+      effect_done : (given : List ℕ) → Course (IsBehind t) mid new → request.length ≡ 0
+          → ControlIn t One (Ok given) j u v → EffectDone t request old new j s v
+      effect_done given since nothing y =
+          elim (closes (row_of x.holder.below) request.length taken_asked nothing) [
+            | inl h ↦ absurd ((y.refused (taken_stage ∙ h)).1 taken_at given refl)
+            | inr h ↦ record {
+              row = row_of x.holder.below;
+              moment = record { now = mid; accepts = taken_accepts; since = since };
+              address = address_at_end taken_asked;
+              is = h;
+              given = subst (λ d. StatusGiven (address_at_end taken_asked) d v) taken_is
+                  (y.status taken_at refl (address_at_end taken_asked) (taken_stage ∙ h)).1;
+              rest = subst (λ d. OnlyControl d v) taken_is y.frame;
+            }
+          ]
 
       -- address losses, where none was counted before
       module _ (before : mid.losses ≡ old.losses) where
-        none_counted : {result : Result (List ℕ) TransFault} → LossesIn t result mid new j u v → ((n : ℕ) → taken_asked ≢ takes_address n) → new.losses ≡ old.losses
-        none_counted l unasked = l.none taken_at (λ n e. unasked n (first_stage-address (row_of x.holder.below) request.length taken_asked n (sym taken_stage ∙ e))) ∙ before
+        none_counted : {result : Result (List ℕ) TransFault} → LossesIn t result mid new j u v
+            → ((n : ℕ) → taken_asked ≢ takes_address n) → new.losses ≡ old.losses
+        none_counted l unasked = l.none taken_at
+            (λ n e. unasked n (first_stage-address (row_of x.holder.below) request.length
+            taken_asked n (sym taken_stage ∙ e))) ∙ before
 
-        failed_counted : {fault : TransFault} → LossesIn t (Err fault) mid new j u v → (st : Stage) → u.stage ≡ st → new.losses ≡ old.losses
+        failed_counted : {fault : TransFault} → LossesIn t (Err fault) mid new j u v → (st : Stage)
+            → u.stage ≡ st → new.losses ≡ old.losses
         failed_counted {fault} l (ending (Some n)) e = l.failed taken_at n e fault refl ∙ before
         failed_counted l st e = l.none taken_at (λ n f. cc (sym e ∙ f)) ∙ before
 
-        took_or_lost : {given : List ℕ} → LossesIn t (Ok given) mid new j u v → (n : ℕ) → taken_asked ≡ takes_address n → TookItOrLost n old new s v
+        took_or_lost : {given : List ℕ} → LossesIn t (Ok given) mid new j u v → (n : ℕ)
+            → taken_asked ≡ takes_address n → TookItOrLost n old new s v
         took_or_lost {given} l n o =
-            let kept : u.registers ≡ s.registers = ap (λ d. d.registers) taken_is ∙ ap (registers_at_setup s.registers) o in
-            elim (l.done taken_at n (taken_stage ∙ ap (first_stage (row_of x.holder.below) request.length) o) given refl) [
-              | transaction.took idles registers losses ↦ TookItOrLost.took (registers ∙ ap {A = Registers} (λ g. record g { address = n }) kept) (losses ∙ before)
-              | transaction.lost waits registers losses ↦ TookItOrLost.lost (registers ∙ kept) (losses ∙ ap one_more before)
+            let kept : u.registers ≡ s.registers = ap (λ d. d.registers) taken_is
+            ∙ ap (registers_at_setup s.registers) o in
+            elim (l.done taken_at n (taken_stage
+            ∙ ap (first_stage (row_of x.holder.below) request.length) o) given refl) [
+              | transaction.took idles registers losses ↦
+                  TookItOrLost.took (registers ∙ ap {A = Registers} (λ g. record g { address = n })
+                  kept) (losses ∙ before)
+              | transaction.lost waits registers losses ↦
+                  TookItOrLost.lost (registers ∙ kept) (losses ∙ ap one_more before)
             ]
 
   -- its status stage is done
-  write_whole : {given : List ℕ} (unit : Unit {0}) {old mid new : World} → Course (IsBehind t) mid new
-      → (j : Location) (s u v : State) → is_at s t ≡ true → Took old mid j s u → ControlInAsked t One (Ok given) mid new j u v → AskedWrite t request (Ok unit) old new j s v
+  write_whole : {given : List ℕ} (unit : Unit {0}) {old mid new : World}
+      → Course (IsBehind t) mid new
+      → (j : Location) (s u v : State) → is_at s t ≡ true → Took old mid j s u
+      → ControlInAsked t One (Ok given) mid new j u v
+      → AskedWrite t request (Ok unit) old new j s v
   write_whole {given} unit since j s u v at (x, before) y = record {
     failed = λ nothing fault e. cc e;
     done = λ nothing d e. effect_done at x v given since nothing y.leaves;
     refused = λ e. cc e;
-    could = subst (λ d. CanAnswer {A = List ℕ} d (Ok given)) (taken_spec at x) (y.leaves.could (taken_at at x));
+    could = subst (λ d. CanAnswer {A = List ℕ} d (Ok given)) (taken_spec at x)
+        (y.leaves.could (taken_at at x));
     answered = λ nothing three sound l e. cc e;
     waited = λ nothing three sound l calm few e. cc e;
-    losses = λ plain sound. record { done = λ at d e. took_or_lost at x v (before plain) (y.losses tt refl); failed = λ at why e. cc e; none = λ at. none_counted at x v (before plain) (y.losses tt refl) };
+    losses = λ plain sound. record {
+      done =
+          λ at d e. took_or_lost at x v (before plain) (y.losses tt refl);
+      failed =
+          λ at why e. cc e;
+      none = λ at. none_counted at x v (before plain) (y.losses tt refl);
+    };
   }
 
   -- it failed
-  write_failed : (fault : TransFault) {old mid new : World} → mid.damages ≡ old.damages → (Fell fault trans.Stalled → Course (IsBehind t) mid new)
-      → (j : Location) (s u v : State) → is_at s t ≡ true → Took old mid j s u → ControlInAsked t One (Err fault) mid new j u v → AskedWrite t request (Err (as_pipe_fault fault)) old new j s v
+  write_failed : (fault : TransFault) {old mid new : World} → mid.damages ≡ old.damages
+      → (Fell fault trans.Stalled → Course (IsBehind t) mid new)
+      → (j : Location) (s u v : State) → is_at s t ≡ true → Took old mid j s u
+      → ControlInAsked t One (Err fault) mid new j u v
+      → AskedWrite t request (Err (as_pipe_fault fault)) old new j s v
   write_failed fault {old} {mid} undamaged since j s u v at (x, before) y = record {
-    failed = λ nothing f e. subst (λ w. EffectOrNone t request w old j s v) (cc e) (effect_then at x nothing fault v y.leaves);
+    failed = λ nothing f e. subst (λ w. EffectOrNone t request w old j s v) (cc e)
+        (effect_then at x nothing fault v y.leaves);
     done = λ nothing d e. cc e;
     refused = λ e.
-        let fell : Fell fault trans.Stalled = fell_same_fault (Unit {0}) (as_pipe_fault fault) fault trans.Stalled refl e in
-        record { row = row_of x.holder.below; moment = record { now = mid; accepts = taken_accepts at x; since = since fell }; is = sym (taken_stage at x) ∙ y.leaves.stalled (taken_at at x) fell };
-    could = could_answer (Unit {0}) s.spec (as_pipe_fault fault) fault refl (subst (λ d. CanAnswer {A = List ℕ} d (Err fault)) (taken_spec at x) (y.leaves.could (taken_at at x)));
+        let fell : Fell fault trans.Stalled = fell_same_fault (Unit {0}) (as_pipe_fault fault) fault
+        trans.Stalled refl e in
+        record {
+          row = row_of x.holder.below;
+          moment =
+              record { now = mid; accepts = taken_accepts at x; since = since fell };
+          is = sym (taken_stage at x) ∙ y.leaves.stalled (taken_at at x) fell;
+        };
+    could = could_answer (Unit {0}) s.spec (as_pipe_fault fault) fault refl
+        (subst (λ d. CanAnswer {A = List ℕ} d (Err fault)) (taken_spec at x)
+        (y.leaves.could (taken_at at x)));
     answered = λ nothing three sound l e.
-        (y.why (never_three old mid undamaged three) (sound_in (Unit {0}) fault sound)).answered (listens l) (taken_next at x nothing) (fell_same_fault (Unit {0}) (as_pipe_fault fault) fault trans.NoAnswer refl e);
+        (y.why (never_three old mid undamaged three) (sound_in (Unit {0}) fault sound)).answered
+        (listens l) (taken_next at x nothing)
+        (fell_same_fault (Unit {0}) (as_pipe_fault fault) fault trans.NoAnswer refl e);
     waited = λ nothing three sound l calm few e.
-        (y.why (never_three old mid undamaged three) (sound_in (Unit {0}) fault sound)).waited (listens l) (taken_next at x nothing) (ap (λ d. d.busy) (taken_spec at x) ∙ calm)
-        (subst (λ n. n ≤ 200) (sym (ap (λ d. d.naks) (taken_is at x))) few) (fell_same_fault (Unit {0}) (as_pipe_fault fault) fault trans.Busy refl e);
+        (y.why (never_three old mid undamaged three) (sound_in (Unit {0}) fault sound)).waited
+        (listens l) (taken_next at x nothing) (ap (λ d. d.busy) (taken_spec at x) ∙ calm)
+        (subst (λ n. n ≤ 200) (sym (ap (λ d. d.naks) (taken_is at x))) few)
+        (fell_same_fault (Unit {0}) (as_pipe_fault fault) fault trans.Busy refl e);
     losses = λ plain sound.
         let l = y.losses (sound_in (Unit {0}) fault sound) refl in
-        record { done = λ at d e. cc e; failed = λ at why e. failed_counted at x v (before plain) l u.stage refl; none = λ at. none_counted at x v (before plain) l };
+        record {
+          done = λ at d e. cc e;
+          failed =
+              λ at why e. failed_counted at x v (before plain) l u.stage refl;
+          none =
+              λ at. none_counted at x v (before plain) l;
+        };
   }
     where
       listens : Listens t j s → Listens t j u
       listens l = listens_at t j s u (taken_spec at x) (taken_address at x) l
 
   -- setup data that were not acknowledged
-  write_no_set_up : (fault : TransFault) {old new : World} (j : Location) (s v : State) → is_at s t ≡ true → Requested t request (Err fault) old new j s v → AskedWrite t request (Err (as_pipe_fault fault)) old new j s v
+  write_no_set_up : (fault : TransFault) {old new : World} (j : Location) (s v : State)
+      → is_at s t ≡ true → Requested t request (Err fault) old new j s v
+      → AskedWrite t request (Err (as_pipe_fault fault)) old new j s v
   write_no_set_up fault {old} j s v at x = record {
-    failed = λ nothing f e. elim x.done.kept [ inl same_state ↦ effect_or_none_same t request f old j s v same_state | inr a ↦ kept_then at a.at f v refl refl ];
+    failed = λ nothing f e. elim x.done.kept [
+      | inl same_state ↦
+          effect_or_none_same t request f old j s v same_state
+      | inr a ↦
+          kept_then at a.at f v refl refl
+    ];
     done = λ nothing d e. cc e;
-    refused = λ e. absurd (subst (λ r. CanAccept {A = List ℕ} s.spec r) (fell_same_fault (Unit {0}) (as_pipe_fault fault) fault trans.Stalled refl e) (x.done.could at));
+    refused = λ e. absurd (subst (λ r. CanAccept {A = List ℕ} s.spec r)
+        (fell_same_fault (Unit {0}) (as_pipe_fault fault) fault trans.Stalled refl e)
+        (x.done.could at));
     could = could_accept (Unit {0}) s.spec (as_pipe_fault fault) fault refl (x.done.could at);
-    answered = λ nothing three sound l e. (x.why three (sound_in (Unit {0}) fault sound)).answered l (fell_same_fault (Unit {0}) (as_pipe_fault fault) fault trans.NoAnswer refl e);
-    waited = λ nothing three sound l calm few e. subst (λ r. CanAccept {A = List ℕ} s.spec r) (fell_same_fault (Unit {0}) (as_pipe_fault fault) fault trans.Busy refl e) (x.done.could at);
-    losses = λ plain sound. let kept = x.kept plain (sound_in (Unit {0}) fault sound) in record { done = λ at d e. cc e; failed = λ at why e. kept; none = λ at unasked. kept };
+    answered = λ nothing three sound l e. (x.why three (sound_in (Unit {0}) fault sound)).answered l
+        (fell_same_fault (Unit {0}) (as_pipe_fault fault) fault trans.NoAnswer refl e);
+    waited = λ nothing three sound l calm few e. subst (λ r. CanAccept {A = List ℕ} s.spec r)
+        (fell_same_fault (Unit {0}) (as_pipe_fault fault) fault trans.Busy refl e)
+        (x.done.could at);
+    losses = λ plain sound. let kept = x.kept plain (sound_in (Unit {0}) fault sound) in
+        record { done = λ at d e. cc e; failed = λ at why e. kept; none = λ at unasked. kept };
   }
 
   -- The worlds of a write
@@ -649,56 +1000,85 @@ module _ (t : Target) (request : Setup) (same : setup_of (bytes_of request) ≡ 
     abbrev WriteEnds : Result (Unit {0}) PipeFault → Type 0
     WriteEnds result = EachSpared t request (Only t (AskedWrite t request result old new)) old new
 
-    began : {mid : World} → SetUp t request old (Ok []) mid → RequestReached t request (Took old mid) old mid
-    began {mid} x = reached_first t request (Took old mid) same settled x (λ j s v at y. (y.done.done at [] refl, λ plain. y.kept plain tt))
+    began : {mid : World} → SetUp t request old (Ok []) mid
+        → RequestReached t request (Took old mid) old mid
+    began {mid} x = reached_first t request (Took old mid) same settled x
+        (λ j s v at y. (y.done.done at [] refl, λ plain. y.kept plain tt))
 
-    each_write : (result : Result (Unit {0}) PipeFault) → Writes t request old result new → WriteEnds result
+    each_write : (result : Result (Unit {0}) PipeFault) → Writes t request old result new
+        → WriteEnds result
     each_write (Ok unit) x =
-        reached_last (ControlInAsked t One (Ok x.given) x.mid new) (AskedWrite t request (Ok unit) old new) _ _ _ (Ok x.given) (λ j s v y. y.leaves.others)
-        (write_whole unit (in_behind One x.status)) (began x.set_up) x.status (asked_leaves t One (Ok x.given) x.mid new x.status) single
+        reached_last (ControlInAsked t One (Ok x.given) x.mid new)
+        (AskedWrite t request (Ok unit) old new) _ _ _ (Ok x.given) (λ j s v y. y.leaves.others)
+        (write_whole unit (in_behind One x.status)) (began x.set_up) x.status
+        (asked_leaves t One (Ok x.given) x.mid new x.status) single
     each_write (Err why) (inl x) =
         subst (λ w. WriteEnds (Err w)) (sym x.told)
-        (only_first t request (AskedWrite t request (Err (as_pipe_fault x.fault)) old new) (Err x.fault) same settled x.set_up (write_no_set_up x.fault) single)
+        (only_first t request (AskedWrite t request (Err (as_pipe_fault x.fault)) old new)
+        (Err x.fault) same settled x.set_up (write_no_set_up x.fault) single)
     each_write (Err why) (inr x) =
         subst (λ w. WriteEnds (Err w)) (sym x.told)
-        (reached_last (ControlInAsked t One (Err x.fault) x.mid new) (AskedWrite t request (Err (as_pipe_fault x.fault)) old new) _ _ _ (Err x.fault) (λ j s v y. y.leaves.others)
-        (write_failed x.fault (ended_damages x.set_up) (λ e. in_behind One (ended_stalled x.fault x.status e)))
+        (reached_last (ControlInAsked t One (Err x.fault) x.mid new)
+        (AskedWrite t request (Err (as_pipe_fault x.fault)) old new) _ _ _ (Err x.fault)
+        (λ j s v y. y.leaves.others)
+        (write_failed x.fault (ended_damages x.set_up)
+        (λ e. in_behind One (ended_stalled x.fault x.status e)))
         (began x.set_up) x.status (asked_leaves t One (Err x.fault) x.mid new x.status) single)
 
 -- A whole write
 
-module _ (t : Target) (request : Setup) (result : Result (Unit {0}) PipeFault) (old new : World) where
-  each_write_told : (R : Relation) → ((j : Location) (s v : State) → Only t (AskedWrite t request result old new) j s v → R j s v) → setup_of (bytes_of request) ≡ request
-      → IsSettled old.roots → Writes t request old result new → new.shared ≡ false → EachSpared t request R old new
-  each_write_told R f same settled x single = spared_wider t request (Only t (AskedWrite t request result old new)) R f old new (each_write t request same old new settled single result x)
+module _ (t : Target) (request : Setup) (result : Result (Unit {0}) PipeFault) (old new : World)
+  where
+    each_write_told : (R : Relation) → ((j : Location) (s v : State)
+        → Only t (AskedWrite t request result old new) j s v → R j s v)
+        → setup_of (bytes_of request) ≡ request
+        → IsSettled old.roots → Writes t request old result new → new.shared ≡ false
+        → EachSpared t request R old new
+    each_write_told R f same settled x single =
+        spared_wider t request (Only t (AskedWrite t request result old new)) R f old new
+        (each_write t request same old new settled single result x)
 
-  pub write_leaves : request.length ≡ 0 → setup_of (bytes_of request) ≡ request
-      → IsSettled old.roots → Writes t request old result new → new.shared ≡ false → EachSpared t request (WriteLeaves t request result old new) old new
-  write_leaves nothing = each_write_told (WriteLeaves t request result old new) (λ j s v y. record {
-    others = y.others;
-    failed = λ fault e. elim (decided (is_at s t)) [ inl at ↦ (y.mine at).failed nothing fault e | inr off ↦ effect_or_none_same t request fault old j s v (y.others off) ];
-    done = λ at. (y.mine at).done nothing;
-    refused = λ at. (y.mine at).refused;
-    could = λ at. (y.mine at).could;
-  })
+    pub write_leaves : request.length ≡ 0 → setup_of (bytes_of request) ≡ request
+        → IsSettled old.roots → Writes t request old result new → new.shared ≡ false
+        → EachSpared t request (WriteLeaves t request result old new) old new
+    write_leaves nothing = each_write_told (WriteLeaves t request result old new)
+        (λ j s v y. record {
+          others = y.others;
+          failed = λ fault e. elim (decided (is_at s t)) [
+            | inl at ↦ (y.mine at).failed nothing fault e
+            | inr off ↦ effect_or_none_same t request fault old j s v (y.others off)
+          ];
+          done = λ at. (y.mine at).done nothing;
+          refused = λ at. (y.mine at).refused;
+          could = λ at. (y.mine at).could;
+        })
 
-  pub write_why : request.length ≡ 0 → setup_of (bytes_of request) ≡ request
-      → IsSettled old.roots → NoThreeDamaged old → Writes t request old result new → IsNoBusFault result → new.shared ≡ false → EachSpared t request (WriteFailure t result) old new
-  write_why nothing same settled three x sound single =
-      each_write_told (WriteFailure t result) (λ j s v y. record { answered = λ l. (y.mine l.at).answered nothing three sound l; waited = λ l. (y.mine l.at).waited nothing three sound l }) same settled x single
+    pub write_why : request.length ≡ 0 → setup_of (bytes_of request) ≡ request
+        → IsSettled old.roots → NoThreeDamaged old → Writes t request old result new
+        → IsNoBusFault result → new.shared ≡ false
+        → EachSpared t request (WriteFailure t result) old new
+    write_why nothing same settled three x sound single =
+        each_write_told (WriteFailure t result)
+        (λ j s v y. record {
+          answered = λ l. (y.mine l.at).answered nothing three sound l;
+          waited = λ l. (y.mine l.at).waited nothing three sound l;
+        }) same settled x single
 
-  pub write_losses : setup_of (bytes_of request) ≡ request → begins_no_stretch request ≡ true
-      → IsSettled old.roots → Writes t request old result new → IsNoBusFault result → new.shared ≡ false → EachSpared t request (LossesOf t request result old new) old new
-  write_losses same plain settled x sound single = each_write_told (LossesOf t request result old new) (λ j s v y. record {
-    done = λ at. ((y.mine at).losses plain sound).done at;
-    failed = λ at. ((y.mine at).losses plain sound).failed at;
-    none = λ at. ((y.mine at).losses plain sound).none at;
-  }) same settled x single
+    pub write_losses : setup_of (bytes_of request) ≡ request → begins_no_stretch request ≡ true
+        → IsSettled old.roots → Writes t request old result new → IsNoBusFault result
+        → new.shared ≡ false → EachSpared t request (LossesOf t request result old new) old new
+    write_losses same plain settled x sound single =
+        each_write_told (LossesOf t request result old new) (λ j s v y. record {
+          done = λ at. ((y.mine at).losses plain sound).done at;
+          failed = λ at. ((y.mine at).losses plain sound).failed at;
+          none = λ at. ((y.mine at).losses plain sound).none at;
+        }) same settled x single
 
 -- A data stage, packet by packet, as its call makes it
 
 -- so far it goes on: these bytes came, and for each a bounded number of attempts was made
-pub record ReadProgress (t : Target) (wanted : ℕ) (old : World) (before : Option (List ℕ)) (got : List ℕ) (toggle : Toggle) (now : World) (trace : Option (List ℕ)) : Type 0 where
+pub record ReadProgress (t : Target) (wanted : ℕ) (old : World) (before : Option (List ℕ))
+    (got : List ℕ) (toggle : Toggle) (now : World) (trace : Option (List ℕ)) : Type 0 where
   pub packets : ℕ
   pub goes : Goes t wanted old packets got now
   pub turned : toggle ≡ flips packets One
@@ -707,7 +1087,9 @@ pub record ReadProgress (t : Target) (wanted : ℕ) (old : World) (before : Opti
   pub sound : now.fault ≡ None → old.fault ≡ None
   pub traced : Traced old before now trace
 
-pub read_progress_none : (t : Target) (wanted : ℕ) (got : List ℕ) (w : World) (trace : Option (List ℕ)) → 0 < wanted → got ≡ [] → ReadProgress t wanted w trace got One w trace
+pub read_progress_none : (t : Target) (wanted : ℕ) (got : List ℕ) (w : World)
+    (trace : Option (List ℕ)) → 0 < wanted → got ≡ []
+    → ReadProgress t wanted w trace got One w trace
 unfolding flips
 read_progress_none t wanted got w trace some none = rw none (record {
   packets = 0;
@@ -720,26 +1102,35 @@ read_progress_none t wanted got w trace some none = rw none (record {
 })
 
 -- one packet more, whatever it brings
-pub onward_went : {t : Target} {wanted : ℕ} {old mid new : World} {before r s : Option (List ℕ)} {got : List ℕ} {toggle : Toggle} → ReadProgress t wanted old before got toggle mid r → StepRun transaction_bound mid r new s
+pub onward_went : {t : Target} {wanted : ℕ} {old mid new : World} {before r s : Option (List ℕ)}
+    {got : List ℕ} {toggle : Toggle} → ReadProgress t wanted old before got toggle mid r
+    → StepRun transaction_bound mid r new s
     → StepRun (transaction_bound + byte_bound t.max * wanted) old before new s
 onward_went {t} {wanted} {old} {mid} {new} {got = got} o went = record {
-  spends = spends_wider (byte_bound t.max * length got + transaction_bound) _ old new (spends_then (byte_bound t.max * length got) transaction_bound old mid new o.spends went.spends)
+  spends = spends_wider (byte_bound t.max * length got + transaction_bound) _ old new
+      (spends_then (byte_bound t.max * length got) transaction_bound old mid new o.spends
+      went.spends)
       (omega (arith, bound_grows t.max (length got) wanted (omega (arith, o.few))));
   traced = traced_then o.traced went.traced;
 }
 
 -- what is kept is all that was wanted of what came
-kept_front : (wanted : ℕ) (got bytes : List ℕ) → length got < wanted → got ++ take (wanted - length got) bytes ≡ take wanted (got ++ bytes)
+kept_front : (wanted : ℕ) (got bytes : List ℕ) → length got < wanted
+    → got ++ take (wanted - length got) bytes ≡ take wanted (got ++ bytes)
 kept_front wanted got bytes few =
     let whole : length got + (wanted - length got) ≡ wanted = omega (arith, few) in
     sym (take-append-add got bytes (wanted - length got)) ∙ ap (λ n. take n (got ++ bytes)) whole
 
 -- a packet that leaves more wanted is full, and kept whole
-ends_stage-false : (size max got wanted : ℕ) → ends_stage size max got wanted ≡ false → (max ≤ size) × (got < wanted)
+ends_stage-false : (size max got wanted : ℕ) → ends_stage size max got wanted ≡ false → (max ≤ size)
+    × (got < wanted)
 ends_stage-false size max got wanted e = (grind (arith, nat_tests, e), grind (arith, nat_tests, e))
 
-pub onward_more : {t : Target} {wanted : ℕ} {old mid new : World} {before r s : Option (List ℕ)} {got kept : List ℕ} {toggle next : Toggle} (bytes : List ℕ) → 1 ≤ t.max → ReadProgress t wanted old before got toggle mid r
-    → Asks t toggle mid (Ok bytes) new → AttemptsMade 1 mid new → StepRun transaction_bound mid r new s
+pub onward_more : {t : Target} {wanted : ℕ} {old mid new : World} {before r s : Option (List ℕ)}
+    {got kept : List ℕ} {toggle next : Toggle} (bytes : List ℕ) → 1 ≤ t.max
+    → ReadProgress t wanted old before got toggle mid r
+    → Asks t toggle mid (Ok bytes) new → AttemptsMade 1 mid new
+    → StepRun transaction_bound mid r new s
     → kept ≡ got ++ take (wanted - length got) bytes
     → ends_stage (length bytes) t.max (length kept) wanted ≡ false → next ≡ other toggle
     → ReadProgress t wanted old before kept next new s
@@ -747,36 +1138,83 @@ onward_more {t} {wanted} {old} {mid} {new} {got = got} {kept} {toggle} {next} by
     worked went is more f =
     let on = ends_stage-false (length bytes) t.max (length kept) wanted more in
     let front : kept ≡ take wanted (got ++ bytes) = is ∙ kept_front wanted got bytes o.few in
-    let whole : kept ≡ got ++ bytes = front ∙ take_all wanted (got ++ bytes) (omega (arith, on.1, ap length front, length-take wanted (got ++ bytes))) in
-    let grown : length got + t.max ≤ length kept = omega (arith, on.0, ap length whole, length-append got bytes) in
+    let whole : kept ≡ got ++ bytes = front
+    ∙ take_all wanted (got ++ bytes)
+    (omega (arith, on.1, ap length front, length-take wanted (got ++ bytes))) in
+    let grown : length got + t.max ≤ length kept =
+    omega (arith, on.0, ap length whole, length-append got bytes) in
     record {
       packets = o.packets + 1;
-      goes = rw whole (packet bytes o.goes (subst (λ x. Asks t x mid (Ok bytes) new) o.turned asks) (subst (λ x. ends_stage (length bytes) t.max (length x) wanted ≡ false) whole more));
+      goes = rw whole (packet bytes o.goes (subst (λ x. Asks t x mid (Ok bytes) new) o.turned asks)
+          (subst (λ x. ends_stage (length bytes) t.max (length x) wanted ≡ false) whole more));
       turned = flips_more o.packets One toggle next o.turned f;
       few = on.1;
-      spends = spends_wider (byte_bound t.max * length got + transaction_bound) _ old new (spends_then (byte_bound t.max * length got) transaction_bound old mid new o.spends went.spends) (full_packet t.max (length got) (length kept) least grown);
+      spends = spends_wider (byte_bound t.max * length got + transaction_bound) _ old new
+          (spends_then (byte_bound t.max * length got) transaction_bound old mid new o.spends
+          went.spends) (full_packet t.max (length got) (length kept) least grown);
       sound = λ _. o.sound worked.sound;
       traced = traced_then o.traced went.traced;
     }
 
 -- the last packet
-pub data_ends : {t : Target} {wanted : ℕ} {old mid new : World} {before r : Option (List ℕ)} {got kept : List ℕ} {toggle : Toggle} (last : List ℕ) → ReadProgress t wanted old before got toggle mid r → Asks t toggle mid (Ok last) new
-    → kept ≡ got ++ take (wanted - length got) last → ends_stage (length last) t.max (length kept) wanted ≡ true → DataStage t wanted old kept new
+pub data_ends : {t : Target} {wanted : ℕ} {old mid new : World} {before r : Option (List ℕ)}
+    {got kept : List ℕ} {toggle : Toggle} (last : List ℕ)
+    → ReadProgress t wanted old before got toggle mid r → Asks t toggle mid (Ok last) new
+    → kept ≡ got ++ take (wanted - length got) last
+    → ends_stage (length last) t.max (length kept) wanted ≡ true
+    → DataStage t wanted old kept new
 data_ends {t} {wanted} {mid = mid} {new} {got = got} last o asks is over =
-    record { packets = o.packets; got = got; mid = mid; before = o.goes; last = last; came = subst (λ x. Asks t x mid (Ok last) new) o.turned asks; kept = is ∙ kept_front wanted got last o.few; ends = over }
+    record {
+      packets = o.packets;
+      got = got;
+      mid = mid;
+      before = o.goes;
+      last = last;
+      came =
+          subst (λ x. Asks t x mid (Ok last) new) o.turned asks;
+      kept = is
+          ∙ kept_front wanted got last o.few;
+      ends = over;
+    }
 
 -- one that does not come
-pub lost_ends : {t : Target} {wanted : ℕ} {old mid : World} (new : World) {before r : Option (List ℕ)} {got : List ℕ} {toggle : Toggle} (fault : TransFault) (result : Result (Vec ℕ) PipeFault) → IsErr result
-    → IsErrAnd result (λ why. why ≡ as_pipe_fault fault) → ReadProgress t wanted old before got toggle mid r → Asks t toggle mid (Err fault) new → DataEnds t wanted old result new
+pub lost_ends : {t : Target} {wanted : ℕ} {old mid : World} (new : World)
+    {before r : Option (List ℕ)} {got : List ℕ} {toggle : Toggle} (fault : TransFault)
+    (result : Result (Vec ℕ) PipeFault) → IsErr result
+    → IsErrAnd result (λ why. why ≡ as_pipe_fault fault)
+    → ReadProgress t wanted old before got toggle mid r → Asks t toggle mid (Err fault) new
+    → DataEnds t wanted old result new
 lost_ends {t} {mid = mid} new {got = got} fault (Err why) err said o asks =
-    inl (record { packets = o.packets; got = got; mid = mid; before = o.goes; fault = fault; told = said; lost = subst (λ x. Asks t x mid (Err fault) new) o.turned asks })
+    inl (record {
+      packets = o.packets;
+      got = got;
+      mid = mid;
+      before = o.goes;
+      fault = fault;
+      told =
+          said;
+      lost = subst (λ x. Asks t x mid (Err fault) new) o.turned asks;
+    })
 lost_ends new fault (Ok bytes) err said o asks = cc
 
 -- one for which there is no memory
-pub no_room_ends : {t : Target} {wanted : ℕ} {old mid new : World} {before r : Option (List ℕ)} {got : List ℕ} {toggle : Toggle} (last : List ℕ) (result : Result (Vec ℕ) PipeFault) → IsErr result
-    → IsErrAnd result (λ why. why ≡ pipe_fault.Memory) → ReadProgress t wanted old before got toggle mid r → Asks t toggle mid (Ok last) new → DataEnds t wanted old result new
+pub no_room_ends : {t : Target} {wanted : ℕ} {old mid new : World} {before r : Option (List ℕ)}
+    {got : List ℕ} {toggle : Toggle} (last : List ℕ) (result : Result (Vec ℕ) PipeFault)
+    → IsErr result
+    → IsErrAnd result (λ why. why ≡ pipe_fault.Memory)
+    → ReadProgress t wanted old before got toggle mid r → Asks t toggle mid (Ok last) new
+    → DataEnds t wanted old result new
 no_room_ends {t} {mid = mid} {new} {got = got} last (Err why) err said o asks =
-    inr (record { packets = o.packets; got = got; mid = mid; before = o.goes; last = last; told = said; came = subst (λ x. Asks t x mid (Ok last) new) o.turned asks })
+    inr (record {
+      packets = o.packets;
+      got = got;
+      mid = mid;
+      before = o.goes;
+      last = last;
+      told =
+          said;
+      came = subst (λ x. Asks t x mid (Ok last) new) o.turned asks;
+    })
 no_room_ends last (Ok bytes) err said o asks = cc
 
 -- What the calls of a control transfer tell, from what its stages' calls tell
@@ -785,47 +1223,106 @@ no_room_ends last (Ok bytes) err said o asks = cc
 abbrev SendsSetup : Target → List ℕ → World → Result (List ℕ) TransFault → World → Type 0
 SendsSetup t bytes old answer new = Transacted set_up_as (setup_attempt t bytes) old answer new
 
-taken_request : (t : Target) (request : Setup) {old new : World} (bytes given : List ℕ) → bytes ≡ bytes_of request → given ≡ [] → SendsSetup t bytes old (Ok given) new → SetUp t request old (Ok []) new
-taken_request t request {old} {new} bytes given is nothing x = subst (λ g. SetUp t request old (Ok g) new) nothing (subst (λ b. SendsSetup t b old (Ok given) new) is x)
+taken_request : (t : Target) (request : Setup) {old new : World} (bytes given : List ℕ)
+    → bytes ≡ bytes_of request → given ≡ [] → SendsSetup t bytes old (Ok given) new
+    → SetUp t request old (Ok []) new
+taken_request t request {old} {new} bytes given is nothing x =
+    subst (λ g. SetUp t request old (Ok g) new) nothing
+    (subst (λ b. SendsSetup t b old (Ok given) new) is x)
 
-pub read_at_status : (t : Target) (request : Setup) {old first second : World} (new : World) (fault : TransFault) (bytes given : List ℕ) (got : Vec ℕ) (result : Result (Vec ℕ) PipeFault) → bytes ≡ bytes_of request → given ≡ [] → IsErr result
-    → IsErrAnd result (λ why. why ≡ as_pipe_fault fault) → SendsSetup t bytes old (Ok given) first → DataEnds t request.length first (Ok got) second → Confirms t second (Err fault) new → Reads t request old result new
-read_at_status t request {old} {first} {second} new fault bytes given got (Err why) is nothing err told x y z =
-    inr (inr (record { first = first; set_up = taken_request t request bytes given is nothing x; second = second; bytes = got.items; data_stage = y; fault = fault; told = told; status = z }))
+pub read_at_status : (t : Target) (request : Setup) {old first second : World} (new : World)
+    (fault : TransFault) (bytes given : List ℕ) (got : Vec ℕ) (result : Result (Vec ℕ) PipeFault)
+    → bytes ≡ bytes_of request → given ≡ [] → IsErr result
+    → IsErrAnd result (λ why. why ≡ as_pipe_fault fault) → SendsSetup t bytes old (Ok given) first
+    → DataEnds t request.length first (Ok got) second → Confirms t second (Err fault) new
+    → Reads t request old result new
+read_at_status t request {old} {first} {second} new fault bytes given got (Err why) is nothing err
+    told x y z =
+    inr (inr (record {
+      first = first;
+      set_up = taken_request t request bytes given is nothing x;
+      second = second;
+      bytes = got.items;
+      data_stage = y;
+      fault = fault;
+      told = told;
+      status = z;
+    }))
 read_at_status t request new fault bytes given got (Ok other) is nothing err told x y z = cc
 
-pub control_read_done : (t : Target) (request : Setup) {old first second new : World} (bytes given confirmed : List ℕ) (got : Vec ℕ) → bytes ≡ bytes_of request → given ≡ [] → confirmed ≡ [] → SendsSetup t bytes old (Ok given) first
-    → DataEnds t request.length first (Ok got) second → Confirms t second (Ok confirmed) new → Reads t request old (Ok got) new
-control_read_done t request {old} {first} {second} {new} bytes given confirmed got is nothing none_came x y z =
-    record { first = first; set_up = taken_request t request bytes given is nothing x; second = second; data_stage = y; status = subst (λ b. Confirms t second (Ok b) new) none_came z }
+pub control_read_done : (t : Target) (request : Setup) {old first second new : World}
+    (bytes given confirmed : List ℕ) (got : Vec ℕ) → bytes ≡ bytes_of request → given ≡ []
+    → confirmed ≡ [] → SendsSetup t bytes old (Ok given) first
+    → DataEnds t request.length first (Ok got) second → Confirms t second (Ok confirmed) new
+    → Reads t request old (Ok got) new
+control_read_done t request {old} {first} {second} {new} bytes given confirmed got is nothing
+    none_came x y z =
+    record {
+      first = first;
+      set_up = taken_request t request bytes given is nothing x;
+      second =
+          second;
+      data_stage = y;
+      status = subst (λ b. Confirms t second (Ok b) new) none_came z;
+    }
 
-pub read_told : (t : Target) (request : Setup) {old : World} (new : World) (bytes : List ℕ) (result : Result (Vec ℕ) PipeFault) → IsToHost request → 1 ≤ request.length → bytes ≡ bytes_of request → setup_of bytes ≡ request → IsSettled old.roots
-    → MatchResult result (λ _. AttemptsMade 3 old new) (λ fault. FaultAfter 1 old fault new) → IfOk result (λ got. length got.items ≤ request.length) → Reads t request old result new → ControlRead t request old result new
-read_told t request {old} new bytes result host some is sent settled ended most x = let same : setup_of (bytes_of request) ≡ request = subst (λ b. setup_of b ≡ request) is sent in record {
-  ends = ended;
-  stages = x;
-  settled = settled;
-  most = most;
-  what = read_leaves t request result old new host some same settled x;
-  why = λ least three. read_why t request result old new least host some same settled three x;
-  who = elim result as (λ r. Reads t request old r new → OnOk r (Unshared new (Answerer t old new))) [ Ok got ↦ λ y. who_reads t request got old new host same settled y | Err why ↦ λ y. tt ] x;
-  losses = read_losses t request result old new host some same settled x;
-}
+pub read_told : (t : Target) (request : Setup) {old : World} (new : World) (bytes : List ℕ)
+    (result : Result (Vec ℕ) PipeFault) → IsToHost request → 1 ≤ request.length
+    → bytes ≡ bytes_of request → setup_of bytes ≡ request → IsSettled old.roots
+    → MatchResult result (λ _. AttemptsMade 3 old new) (λ fault. FaultAfter 1 old fault new)
+    → IfOk result (λ got. length got.items ≤ request.length) → Reads t request old result new
+    → ControlRead t request old result new
+read_told t request {old} new bytes result host some is sent settled ended most x =
+    let same : setup_of (bytes_of request) ≡ request = subst (λ b. setup_of b ≡ request) is sent in
+    record {
+      ends = ended;
+      stages = x;
+      settled = settled;
+      most = most;
+      what = read_leaves t request result old new host some same settled x;
+      why = λ least three. read_why t request result old new least host some same settled three x;
+      who = elim result as (λ r. Reads t request old r new
+          → OnOk r (Unshared new (Answerer t old new)))
+          [ Ok got ↦ λ y. who_reads t request got old new host same settled y | Err why ↦ λ y. tt ]
+          x;
+      losses = read_losses t request result old new host some same settled x;
+    }
 
-pub write_at_status : (t : Target) (request : Setup) {old mid : World} (new : World) (fault : TransFault) (bytes given : List ℕ) (result : Result (Unit {0}) PipeFault) → bytes ≡ bytes_of request → given ≡ [] → IsErr result
-    → IsErrAnd result (λ why. why ≡ as_pipe_fault fault) → SendsSetup t bytes old (Ok given) mid → Asks t One mid (Err fault) new → Writes t request old result new
-write_at_status t request {old} {mid} new fault bytes given (Err why) is nothing err told x y = inr (record { mid = mid; set_up = taken_request t request bytes given is nothing x; fault = fault; told = told; status = y })
+pub write_at_status : (t : Target) (request : Setup) {old mid : World} (new : World)
+    (fault : TransFault) (bytes given : List ℕ) (result : Result (Unit {0}) PipeFault)
+    → bytes ≡ bytes_of request → given ≡ [] → IsErr result
+    → IsErrAnd result (λ why. why ≡ as_pipe_fault fault) → SendsSetup t bytes old (Ok given) mid
+    → Asks t One mid (Err fault) new → Writes t request old result new
+write_at_status t request {old} {mid} new fault bytes given (Err why) is nothing err told x y =
+    inr (record {
+      mid = mid;
+      set_up = taken_request t request bytes given is nothing x;
+      fault =
+          fault;
+      told = told;
+      status = y;
+    })
 write_at_status t request new fault bytes given (Ok done) is nothing err told x y = cc
 
-pub write_told : (t : Target) (request : Setup) {old : World} (new : World) (bytes : List ℕ) (result : Result (Unit {0}) PipeFault) → request.length ≡ 0 → bytes ≡ bytes_of request → setup_of bytes ≡ request → IsSettled old.roots
-    → MatchResult result (λ _. AttemptsMade 2 old new) (λ fault. FaultAfter 1 old fault new) → result ≢ Err pipe_fault.Memory → Writes t request old result new → ControlWrite t request old result new
-write_told t request {old} new bytes result nothing is sent settled ended room x = let same : setup_of (bytes_of request) ≡ request = subst (λ b. setup_of b ≡ request) is sent in record {
-  ends = ended;
-  stages = x;
-  settled = settled;
-  room = room;
-  what = write_leaves t request result old new nothing same settled x;
-  why = λ three. write_why t request result old new nothing same settled three x;
-  who = elim result as (λ r. Writes t request old r new → OnOk r ((is_harmless request ≡ false → t.addr ≢ 0) → Unshared new (Answerer t old new))) [ Ok done ↦ λ y addressed. who_writes t request done old new same addressed settled y | Err why ↦ λ y. tt ] x;
-  losses = λ plain. write_losses t request result old new same plain settled x;
-}
+pub write_told : (t : Target) (request : Setup) {old : World} (new : World) (bytes : List ℕ)
+    (result : Result (Unit {0}) PipeFault) → request.length ≡ 0 → bytes ≡ bytes_of request
+    → setup_of bytes ≡ request → IsSettled old.roots
+    → MatchResult result (λ _. AttemptsMade 2 old new) (λ fault. FaultAfter 1 old fault new)
+    → result ≢ Err pipe_fault.Memory → Writes t request old result new
+    → ControlWrite t request old result new
+write_told t request {old} new bytes result nothing is sent settled ended room x =
+    let same : setup_of (bytes_of request) ≡ request = subst (λ b. setup_of b ≡ request) is sent in
+    record {
+      ends = ended;
+      stages = x;
+      settled = settled;
+      room = room;
+      what = write_leaves t request result old new nothing same settled x;
+      why = λ three. write_why t request result old new nothing same settled three x;
+      who = elim result as (λ r. Writes t request old r new
+          → OnOk r ((is_harmless request ≡ false → t.addr ≢ 0) → Unshared new (Answerer t old new))) [
+            | Ok done ↦ λ y addressed. who_writes t request done old new same addressed settled y
+            | Err why ↦ λ y. tt
+          ] x;
+      losses = λ plain. write_losses t request result old new same plain settled x;
+    }

@@ -1,10 +1,14 @@
 -- The lemmas that crates above cite. All others are for this crate alone.
-pub use Rattle.usb_pipe.proofs.Answerers.{who_polls, who_read_had, who_reads, who_receives, who_sends, who_writes}
-pub use Rattle.usb_pipe.proofs.Attempts.{poll_attempts, read_attempts, receive_attempts, send_attempts, write_attempts}
+pub use Rattle.usb_pipe.proofs.Answerers.{who_polls, who_read_had, who_reads, who_receives}
+pub use Rattle.usb_pipe.proofs.Answerers.{who_sends, who_writes}
+pub use Rattle.usb_pipe.proofs.Attempts.{poll_attempts, read_attempts, receive_attempts}
+pub use Rattle.usb_pipe.proofs.Attempts.{send_attempts, write_attempts}
 pub use Rattle.usb_pipe.proofs.Bounds.{bound_wide}
-pub use Rattle.usb_pipe.proofs.BulkClears.{clear_of-in, asks_out, clear_leaves, clear_of, given_registers, harmless, two_bytes_word}
+pub use Rattle.usb_pipe.proofs.BulkClears.{clear_of-in, asks_out, clear_leaves, clear_of}
+pub use Rattle.usb_pipe.proofs.BulkClears.{given_registers, harmless, two_bytes_word}
 pub use Rattle.usb_pipe.proofs.BulkTransfers.{receive_leaves, send_leaves}
 pub use Rattle.usb_pipe.proofs.ControlSteps.{never_three}
-pub use Rattle.usb_pipe.proofs.ControlTransfers.{is_some_byte, read_leaves, read_why, write_leaves, write_losses, write_why}
+pub use Rattle.usb_pipe.proofs.ControlTransfers.{is_some_byte, read_leaves, read_why, write_leaves}
+pub use Rattle.usb_pipe.proofs.ControlTransfers.{write_losses, write_why}
 pub use Rattle.usb_pipe.proofs.ControlSteps.{host_harmless}
 pub use Rattle.usb_pipe.proofs.InterruptPolls.{poll_tells, polling_why}

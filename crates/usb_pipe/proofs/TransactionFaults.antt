@@ -13,7 +13,8 @@ FailsWith A why fault = ◌≡◌ {A = Result A PipeFault} (Err why) (Err fault)
 abbrev pub Fell : TransFault → TransFault → Type 0
 Fell why fault = ◌≡◌ {A = Result (List ℕ) TransFault} (Err why) (Err fault)
 
-pub fell_same_fault : (A : Type 0) (why : PipeFault) (fault other : TransFault) → why ≡ as_pipe_fault fault → FailsWith A why (as_pipe_fault other) → Fell fault other
+pub fell_same_fault : (A : Type 0) (why : PipeFault) (fault other : TransFault)
+    → why ≡ as_pipe_fault fault → FailsWith A why (as_pipe_fault other) → Fell fault other
 fell_same_fault A why fault other told e = grind arith
 
 -- a device that can answer a transaction so can end the transfer so
@@ -21,8 +22,10 @@ fell_same_fault A why fault other told e = grind arith
 abbrev pub CanFail : (A : Type 0) → Spec → PipeFault → Type 0
 CanFail A spec why = CanEnd {A = A} spec (Err why)
 
-pub could_answer : (A : Type 0) (spec : Spec) (why : PipeFault) (fault : TransFault) → why ≡ as_pipe_fault fault → CanAnswer {A = List ℕ} spec (Err fault) → CanFail A spec why
+pub could_answer : (A : Type 0) (spec : Spec) (why : PipeFault) (fault : TransFault)
+    → why ≡ as_pipe_fault fault → CanAnswer {A = List ℕ} spec (Err fault) → CanFail A spec why
 could_answer A spec why fault told c = grind arith
 
-pub could_accept : (A : Type 0) (spec : Spec) (why : PipeFault) (fault : TransFault) → why ≡ as_pipe_fault fault → CanAccept {A = List ℕ} spec (Err fault) → CanFail A spec why
+pub could_accept : (A : Type 0) (spec : Spec) (why : PipeFault) (fault : TransFault)
+    → why ≡ as_pipe_fault fault → CanAccept {A = List ℕ} spec (Err fault) → CanFail A spec why
 could_accept A spec why fault told c = grind arith

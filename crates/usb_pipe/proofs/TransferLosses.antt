@@ -1,7 +1,8 @@
 -- The address losses that transfers of pipes count: none.
 use Rattle.std.specs.Global.{Vec}
 use Rattle.std.specs.Prelude.{Result, Ok, Err}
-use Rattle.std.proofs.Common.{◌≡◌, ℕ, List, Option, None, Some, refl, subst, ◌∙◌, ◌≢◌, ap, inl, inr, take}
+use Rattle.std.proofs.Common.{◌≡◌, ℕ, List, Option, None, Some, refl, subst, ◌∙◌, ◌≢◌, ap, inl, inr}
+use Rattle.std.proofs.Common.{take}
 use Rattle.arrayvec.specs.ArrayVec.{ArrayVec}
 use Rattle.usb_packet.specs.declared.Toggle.{Toggle}
 use Rattle.usb_tree.specs.AttemptPackets.{IsSettled}
@@ -27,63 +28,98 @@ use Rattle.usb_pipe.proofs.ControlSteps.{transacted_ended}
 
 -- Bulk transfers from the host
 
-gave_losses : (t : Target) (ep : ℕ) (first : Toggle) {old : World} {n : ℕ} {sent : List ℕ} {new : World} → IsSettled old.roots → Gave t ep first old n sent new → new.losses ≡ old.losses
+gave_losses : (t : Target) (ep : ℕ) (first : Toggle) {old : World} {n : ℕ} {sent : List ℕ}
+    {new : World} → IsSettled old.roots → Gave t ep first old n sent new → new.losses ≡ old.losses
 gave_losses t ep first settled moves.start = refl
-gave_losses t ep first {new = new} settled (moves.packet {n} {mid = mid} bytes g full some fits puts) =
-    out_losses t ep (flips n first) bytes mid new (gave_settled g settled) puts.trail ∙ gave_losses t ep first settled g
+gave_losses t ep first {new = new} settled (moves.packet {n} {mid = mid} bytes g full some fits
+    puts) =
+    out_losses t ep (flips n first) bytes mid new (gave_settled g settled) puts.trail
+    ∙ gave_losses t ep first settled g
 
-sent_losses : (t : Target) (ep : ℕ) (first : Toggle) (total : List ℕ) (result : Result (Unit {0}) PipeFault) (old new : World) → IsSettled old.roots → SendEnds t ep first total old result new → IsNoBusFault result
+sent_losses : (t : Target) (ep : ℕ) (first : Toggle) (total : List ℕ)
+    (result : Result (Unit {0}) PipeFault) (old new : World) → IsSettled old.roots
+    → SendEnds t ep first total old result new → IsNoBusFault result
     → new.losses ≡ old.losses
-sent_losses t ep first total (Ok done) old new settled x sound = gave_losses t ep first settled x.gone
+sent_losses t ep first total (Ok done) old new settled x sound =
+    gave_losses t ep first settled x.gone
 sent_losses t ep first total (Err why) old new settled x sound =
     let over = transacted_ended (Unit {0}) why x.fault x.told sound x.lost in
-    out_losses t ep (flips x.packets first) (take t.max x.rest) x.mid new (gave_settled x.before settled) over.trail ∙ gave_losses t ep first settled x.before
+    out_losses t ep (flips x.packets first) (take t.max x.rest) x.mid new
+    (gave_settled x.before settled) over.trail ∙ gave_losses t ep first settled x.before
 
 -- what leaves the world as it was counts nothing
 losses_same : {old new : World} → new ≡ old → new.losses ≡ old.losses
 losses_same e = ap (λ w. w.losses) e
 
-pub send_losses : (bytes : List ℕ) (pipe : Bulk) (result : Result (Unit {0}) PipeFault) (left : Bulk) (old new : World) → Sends bytes pipe old result left new → IsNoBusFault result → new.losses ≡ old.losses
+pub send_losses : (bytes : List ℕ) (pipe : Bulk) (result : Result (Unit {0}) PipeFault)
+    (left : Bulk) (old new : World) → Sends bytes pipe old result left new → IsNoBusFault result
+    → new.losses ≡ old.losses
 send_losses bytes pipe result left old new x sound =
-    send_by (new.losses ≡ old.losses) (λ i. losses_same i.world_kept) (λ none i. losses_same i.world_kept)
-    (λ works some y. sent_losses (packet_target pipe.target pipe.max) pipe.ep pipe.toggle bytes result old new y.settled y.went sound) x
+    send_by (new.losses ≡ old.losses) (λ i. losses_same i.world_kept)
+    (λ none i. losses_same i.world_kept)
+    (λ works some y. sent_losses (packet_target pipe.target pipe.max) pipe.ep pipe.toggle bytes
+    result old new y.settled y.went sound) x
 
 -- Bulk transfers to the host
 
-came_losses : (t : Target) (ep : ℕ) (first : Toggle) {old : World} {n : ℕ} {got : List ℕ} {new : World} → ep ≢ 0 → IsSettled old.roots → Came t ep first old n got new → new.losses ≡ old.losses
+came_losses : (t : Target) (ep : ℕ) (first : Toggle) {old : World} {n : ℕ} {got : List ℕ}
+    {new : World} → ep ≢ 0 → IsSettled old.roots → Came t ep first old n got new
+    → new.losses ≡ old.losses
 came_losses t ep first other settled moves.start = refl
-came_losses t ep first {new = new} other settled (moves.packet {n} {mid = mid} bytes c fetches full) =
-    other_losses t ep mid new other (received_settled c settled) fetches.trail ∙ came_losses t ep first other settled c
+came_losses t ep first {new = new} other settled (moves.packet {n} {mid = mid} bytes c fetches full)
+    =
+    other_losses t ep mid new other (received_settled c settled) fetches.trail
+    ∙ came_losses t ep first other settled c
 
-received_losses : (t : Target) (ep : ℕ) (first : Toggle) (wanted : ℕ) (result : Result (Vec ℕ) PipeFault) (old new : World) → ep ≢ 0 → IsSettled old.roots → ReceiveEnds t ep first wanted old result new → IsNoBusFault result
+received_losses : (t : Target) (ep : ℕ) (first : Toggle) (wanted : ℕ)
+    (result : Result (Vec ℕ) PipeFault) (old new : World) → ep ≢ 0 → IsSettled old.roots
+    → ReceiveEnds t ep first wanted old result new → IsNoBusFault result
     → new.losses ≡ old.losses
 received_losses t ep first wanted (Ok bytes) old new other settled x sound =
-    other_losses t ep x.mid new other (received_settled x.before settled) x.came.trail ∙ came_losses t ep first other settled x.before
+    other_losses t ep x.mid new other (received_settled x.before settled) x.came.trail
+    ∙ came_losses t ep first other settled x.before
 received_losses t ep first wanted (Err why) old new other settled (inl x) sound =
     let over = transacted_ended (Vec ℕ) why x.fault x.told sound x.lost in
-    other_losses t ep x.mid new other (received_settled x.before settled) over.trail ∙ came_losses t ep first other settled x.before
+    other_losses t ep x.mid new other (received_settled x.before settled) over.trail
+    ∙ came_losses t ep first other settled x.before
 received_losses t ep first wanted (Err why) old new other settled (inr x) sound =
-    other_losses t ep x.mid new other (received_settled x.before settled) x.came.trail ∙ came_losses t ep first other settled x.before
+    other_losses t ep x.mid new other (received_settled x.before settled) x.came.trail
+    ∙ came_losses t ep first other settled x.before
 
-pub receive_losses : (wanted : ℕ) (pipe : Bulk) (result : Result (Vec ℕ) PipeFault) (left : Bulk) (old new : World) → pipe.ep ≢ 0
+pub receive_losses : (wanted : ℕ) (pipe : Bulk) (result : Result (Vec ℕ) PipeFault) (left : Bulk)
+    (old new : World) → pipe.ep ≢ 0
     → Receives wanted pipe old result left new → IsNoBusFault result → new.losses ≡ old.losses
 receive_losses wanted pipe result left old new other x sound =
-    receive_by (new.losses ≡ old.losses) (λ broken kept same. losses_same same) (λ bytes is none kept same. losses_same same)
-    (λ works some y. received_losses (packet_target pipe.target pipe.max) pipe.ep pipe.toggle wanted result old new other y.settled y.came sound) x
+    receive_by (new.losses ≡ old.losses) (λ broken kept same. losses_same same)
+    (λ bytes is none kept same. losses_same same)
+    (λ works some y. received_losses (packet_target pipe.target pipe.max) pipe.ep pipe.toggle wanted
+    result old new other y.settled y.came sound) x
 
 -- Polls
 
 -- one that failed, but for the bus
-failed_losses : (pipe : Interrupt) (old new : World) (why : PipeFault) (fault : TransFault) → why ≡ as_pipe_fault fault → IsNoBusFault {A = Option (ArrayVec ℕ)} (Err why) → pipe.ep ≢ 0 → IsSettled old.roots
-    → Polled pipe.toggle (in_attempt pipe.target pipe.ep) old (Err fault) new → new.losses ≡ old.losses
-failed_losses pipe old new why (trans.Bus fault) e sound other settled x = absurd (subst (λ y. IsNoBusFault {A = Option (ArrayVec ℕ)} (Err y)) e sound)
-failed_losses pipe old new why fault e sound other settled x = other_losses pipe.target pipe.ep old new other settled x.trail
+failed_losses : (pipe : Interrupt) (old new : World) (why : PipeFault) (fault : TransFault)
+    → why ≡ as_pipe_fault fault → IsNoBusFault {A = Option (ArrayVec ℕ)} (Err why) → pipe.ep ≢ 0
+    → IsSettled old.roots
+    → Polled pipe.toggle (in_attempt pipe.target pipe.ep) old (Err fault) new
+    → new.losses ≡ old.losses
+failed_losses pipe old new why (trans.Bus fault) e sound other settled x =
+    absurd (subst (λ y. IsNoBusFault {A = Option (ArrayVec ℕ)} (Err y)) e sound)
+failed_losses pipe old new why fault e sound other settled x =
+    other_losses pipe.target pipe.ep old new other settled x.trail
 
-asked_losses : (pipe : Interrupt) (result : Result (Option (ArrayVec ℕ)) PipeFault) (old new : World) → pipe.ep ≢ 0 → IsSettled old.roots → PollAsked pipe old result new → IsNoBusFault result → new.losses ≡ old.losses
-asked_losses pipe (Ok None) old new other settled x sound = other_losses pipe.target pipe.ep old new other settled x.trail
-asked_losses pipe (Ok (Some packet)) old new other settled x sound = other_losses pipe.target pipe.ep old new other settled x.trail
-asked_losses pipe (Err why) old new other settled x sound = failed_losses pipe old new why x.fault x.told sound other settled x.polled
+asked_losses : (pipe : Interrupt) (result : Result (Option (ArrayVec ℕ)) PipeFault)
+    (old new : World) → pipe.ep ≢ 0 → IsSettled old.roots → PollAsked pipe old result new
+    → IsNoBusFault result → new.losses ≡ old.losses
+asked_losses pipe (Ok None) old new other settled x sound =
+    other_losses pipe.target pipe.ep old new other settled x.trail
+asked_losses pipe (Ok (Some packet)) old new other settled x sound =
+    other_losses pipe.target pipe.ep old new other settled x.trail
+asked_losses pipe (Err why) old new other settled x sound =
+    failed_losses pipe old new why x.fault x.told sound other settled x.polled
 
-pub poll_losses : (pipe : Interrupt) (result : Result (Option (ArrayVec ℕ)) PipeFault) (left : Interrupt) (old new : World) → pipe.ep ≢ 0 → IsSettled old.roots
+pub poll_losses : (pipe : Interrupt) (result : Result (Option (ArrayVec ℕ)) PipeFault)
+    (left : Interrupt) (old new : World) → pipe.ep ≢ 0 → IsSettled old.roots
     → Polls pipe old result left new → IsNoBusFault result → new.losses ≡ old.losses
-poll_losses pipe result left old new other settled x sound = asked_losses pipe result old new other settled x.asked sound
+poll_losses pipe result left old new other settled x sound =
+    asked_losses pipe result old new other settled x.asked sound

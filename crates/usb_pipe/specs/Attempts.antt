@@ -17,6 +17,7 @@ abbrev pub IsOfTransfer : Target → Setup → Step → World → Type 0
 IsOfTransfer t request s w = (s ≡ attempt (setup_attempt t (bytes_of request))) ⊎ IsBehind t s w
 
 -- each attempt of a transfer is of a kind; where the bus gave up, so is the one that it refused
-pub record TransferAttempts {A : Type 0} (K : Step → World → Type 0) (old : World) (result : Result A PipeFault) (new : World) : Type 0 where
+pub record TransferAttempts {A : Type 0} (K : Step → World → Type 0) (old : World)
+    (result : Result A PipeFault) (new : World) : Type 0 where
   pub whole : IsNoBusFault result → Course K old new
   pub cut : (fault : BusFault) → result ≡ Err (Bus fault) → GivenUp K old fault new

@@ -2,10 +2,15 @@
 use Rattle.std.specs.Prelude.{ℕ, ◌+◌, ◌*◌, Bool, ◌||◌, nat_lt, nat_le, if◌then◌else◌}
 use Rattle.usb_world.specs.World.{World, Failed}
 use Rattle.usb_transaction.specs.declared.fault.TransFault.{TransFault}
-use Rattle.usb_transaction.specs.declared.fault.TransFault.TheVariants.{Stalled as TransStalled, Busy as TransBusy, NoAnswer as TransNoAnswer, Bus as TransBus}
-use Rattle.usb_transaction.specs.Transactions.{AttemptsMade, error_limit, transaction_bound, wait_limit}
+use Rattle.usb_transaction.specs.declared.fault.TransFault.TheVariants.{Stalled as TransStalled}
+use Rattle.usb_transaction.specs.declared.fault.TransFault.TheVariants.{Busy as TransBusy}
+use Rattle.usb_transaction.specs.declared.fault.TransFault.TheVariants.{NoAnswer as TransNoAnswer}
+use Rattle.usb_transaction.specs.declared.fault.TransFault.TheVariants.{Bus as TransBus}
+use Rattle.usb_transaction.specs.Transactions.{AttemptsMade, error_limit, transaction_bound}
+use Rattle.usb_transaction.specs.Transactions.{wait_limit}
 use Rattle.usb_pipe.specs.declared.fault.PipeFault.{PipeFault}
-use Rattle.usb_pipe.specs.declared.fault.PipeFault.TheVariants.{Stalled, Busy, NoAnswer, Broken, Bus, Memory}
+use Rattle.usb_pipe.specs.declared.fault.PipeFault.TheVariants.{Stalled, Busy, NoAnswer, Broken}
+use Rattle.usb_pipe.specs.declared.fault.PipeFault.TheVariants.{Bus, Memory}
 
 -- a transaction's fault as a pipe's
 abbrev pub as_pipe_fault : TransFault → PipeFault
@@ -14,7 +19,8 @@ as_pipe_fault TransBusy = Busy
 as_pipe_fault TransNoAnswer = NoAnswer
 as_pipe_fault (TransBus fault) = Bus fault
 
--- how few attempts can have come before each fault, where at least n were made before the last transaction
+-- how few attempts can have come before each fault, where at least n were made before the last
+-- transaction
 abbrev pub FaultAfter : ℕ → World → PipeFault → World → Type 0
 FaultAfter n old Stalled new = AttemptsMade (n + 1) old new
 FaultAfter n old Busy new = AttemptsMade (n + wait_limit) old new

@@ -1,6 +1,8 @@
--- Why a whole transfer fails, where no three attempts running are damaged and the device stays reachable.
+-- Why a whole transfer fails, where no three attempts running are damaged and the device stays
+-- reachable.
 use Rattle.usb_device.specs.Tree.{Location}
-use Rattle.std.specs.Prelude.{◌≡◌, ◌≢◌, ℕ, ◌+◌, ◌-◌, ◌*◌, ◌<◌, ◌≤◌, length, true, false, Option, Result, Err}
+use Rattle.std.specs.Prelude.{◌≡◌, ◌≢◌, ℕ, ◌+◌, ◌-◌, ◌*◌, ◌<◌, ◌≤◌, length, true, false, Option}
+use Rattle.std.specs.Prelude.{Result, Err}
 use Rattle.arrayvec.specs.ArrayVec.{ArrayVec}
 use Rattle.std.specs.Global.{Vec}
 use Rattle.usb_request.specs.declared.setup.Setup.{Setup}
@@ -16,25 +18,36 @@ use Rattle.usb_pipe.specs.Interrupt.{Interrupt}
 use Rattle.usb_pipe.specs.Leaves.{IsMaximum, InPipeInSync}
 
 -- a request for data: a device that listens answers, and only a busy one lets the host wait in vain
-pub record ControlReadFailure (t : Target) (request : Setup) (result : Result (Vec ℕ) PipeFault) (x : Location) (s v : State) : Type 0 where
+pub record ControlReadFailure (t : Target) (request : Setup) (result : Result (Vec ℕ) PipeFault)
+    (x : Location) (s v : State) : Type 0 where
   pub answered : Listens t x s → IsMaximum t request.length s → result ≢ Err NoAnswer
-  pub waited : Listens t x s → IsMaximum t request.length s → s.spec.busy ≡ false → s.spec.naks ≤ 200 → result ≢ Err Busy
+  pub waited : Listens t x s → IsMaximum t request.length s → s.spec.busy ≡ false
+      → s.spec.naks ≤ 200 → result ≢ Err Busy
 
 -- a request without data
-pub record WriteFailure (t : Target) (result : Result (Unit {0}) PipeFault) (x : Location) (s v : State) : Type 0 where
+pub record WriteFailure (t : Target) (result : Result (Unit {0}) PipeFault) (x : Location)
+    (s v : State) : Type 0 where
   pub answered : Listens t x s → result ≢ Err NoAnswer
   pub waited : Listens t x s → s.spec.busy ≡ false → s.spec.naks ≤ 200 → result ≢ Err Busy
 
 -- an endpoint that takes bytes answers, and never keeps the host waiting
-pub record SendFailure (pipe : Bulk) (result : Result (Unit {0}) PipeFault) (x : Location) (s v : State) : Type 0 where
+pub record SendFailure (pipe : Bulk) (result : Result (Unit {0}) PipeFault) (x : Location)
+    (s v : State) : Type 0 where
   pub answered : Listens pipe.target x s → IsSink pipe.ep pipe.max s → result ≢ Err NoAnswer
   pub waited : Listens pipe.target x s → IsSink pipe.ep pipe.max s → result ≢ Err Busy
 
--- one that gives bytes answers, and where it has some for each packet, it does not keep the host waiting
-pub record ReceiveFailure (wanted : ℕ) (pipe : Bulk) (result : Result (Vec ℕ) PipeFault) (x : Location) (s v : State) : Type 0 where
-  pub answered : Listens pipe.target x s → (got : ℕ) → InPipeInSync pipe got s → result ≢ Err NoAnswer
-  pub waited : Listens pipe.target x s → (got : ℕ) → InPipeInSync pipe got s → got + (wanted - 1) * pipe.max < length s.spec.source → result ≢ Err Busy
+-- one that gives bytes answers, and where it has some for each packet, it does not keep the host
+-- waiting
+pub record ReceiveFailure (wanted : ℕ) (pipe : Bulk) (result : Result (Vec ℕ) PipeFault)
+    (x : Location) (s v : State) : Type 0 where
+  pub answered : Listens pipe.target x s → (got : ℕ) → InPipeInSync pipe got s
+      → result ≢ Err NoAnswer
+  pub waited : Listens pipe.target x s → (got : ℕ) → InPipeInSync pipe got s
+      → got + (wanted - 1) * pipe.max < length s.spec.source → result ≢ Err Busy
 
 -- a hub's status endpoint that is not halted tells its bits, or that there are none
-pub record PollingFailure (pipe : Interrupt) (result : Result (Option (ArrayVec ℕ)) PipeFault) (x : Location) (s v : State) : Type 0 where
-  pub answered : Listens pipe.target x s → tells_changes s.spec s.registers ≡ true → PollAt NeverTold pipe.toggle s → s.changes.halted ≡ false → (why : PipeFault) → result ≢ Err why
+pub record PollingFailure (pipe : Interrupt) (result : Result (Option (ArrayVec ℕ)) PipeFault)
+    (x : Location) (s v : State) : Type 0 where
+  pub answered : Listens pipe.target x s → tells_changes s.spec s.registers ≡ true
+      → PollAt NeverTold pipe.toggle s → s.changes.halted ≡ false → (why : PipeFault)
+      → result ≢ Err why

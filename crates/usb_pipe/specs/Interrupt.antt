@@ -1,5 +1,6 @@
 -- Interrupt pipes.
-use Rattle.std.specs.Prelude.{◌≡◌, ◌≢◌, ℕ, ◌≤◌, length, Option, Some, None, Result, Ok, Err, IfOk, IfSome, MatchResult}
+use Rattle.std.specs.Prelude.{◌≡◌, ◌≢◌, ℕ, ◌≤◌, length, Option, Some, None, Result, Ok, Err, IfOk}
+use Rattle.std.specs.Prelude.{IfSome, MatchResult}
 use Rattle.arrayvec.specs.ArrayVec.{ArrayVec}
 use Rattle.usb_packet.specs.declared.Toggle.{Toggle}
 use Rattle.usb_packet.specs.declared.Toggle.TheVariants.{Zero}
@@ -30,12 +31,15 @@ pub record NoPoll (pipe : Interrupt) (old : World) (why : PipeFault) (new : Worl
 
 -- what the attempts of a poll were, all INs of the endpoint, and what was heard of them
 abbrev pub PollAsked : Interrupt → World → Result (Option (ArrayVec ℕ)) PipeFault → World → Type 0
-PollAsked pipe old (Ok None) new = Polled pipe.toggle (in_attempt pipe.target pipe.ep) old (Ok None) new
-PollAsked pipe old (Ok (Some packet)) new = Polled pipe.toggle (in_attempt pipe.target pipe.ep) old (Ok (Some packet.items)) new
+PollAsked pipe old (Ok None) new = Polled pipe.toggle (in_attempt pipe.target pipe.ep) old (Ok None)
+    new
+PollAsked pipe old (Ok (Some packet)) new = Polled pipe.toggle (in_attempt pipe.target pipe.ep) old
+    (Ok (Some packet.items)) new
 PollAsked pipe old (Err why) new = NoPoll pipe old why new
 
 -- what a poll answers and leaves
-pub record Polls (pipe : Interrupt) (old : World) (result : Result (Option (ArrayVec ℕ)) PipeFault) (left : Interrupt) (new : World) : Type 0 where
+pub record Polls (pipe : Interrupt) (old : World) (result : Result (Option (ArrayVec ℕ)) PipeFault)
+    (left : Interrupt) (new : World) : Type 0 where
   pub ends : MatchResult result (λ _. AttemptsMade 1 old new) (λ fault. FaultAfter 0 old fault new)
   pub asked : PollAsked pipe old result new
   pub room : result ≢ Err Memory

@@ -1,5 +1,7 @@
--- One device over a whole control transfer (8.5.3): what it was before, seen from where it is reachable after it.
-use Rattle.std.specs.Prelude.{◌≡◌, ◌≢◌, ◌⊎◌, ◌≤◌, ℕ, ◌+◌, List, [], ◌∷◌, ◌++◌, length, take, drop, true, false, Option, None, Some, Result, Ok, Err, ⊤, if◌then◌else◌}
+-- One device over a whole control transfer (8.5.3): what it was before, seen from where it is
+-- reachable after it.
+use Rattle.std.specs.Prelude.{◌≡◌, ◌≢◌, ◌⊎◌, ◌≤◌, ℕ, ◌+◌, List, [], ◌∷◌, ◌++◌, length, take, drop}
+use Rattle.std.specs.Prelude.{true, false, Option, None, Some, Result, Ok, Err, ⊤, if◌then◌else◌}
 use Rattle.arrayvec.specs.ArrayVec.{ArrayVec}
 use Rattle.std.specs.Global.{Vec}
 use Rattle.usb_packet.specs.declared.Toggle.{Toggle}
@@ -12,11 +14,14 @@ use Rattle.usb_device.specs.declared.bulk.EndpointState.{EndpointState}
 use Rattle.usb_device.specs.declared.bulk.ServedEndpoint.{ServedEndpoint}
 use Rattle.usb_device.specs.declared.bulk.ServedEndpoint.TheVariants.{BulkOut, BulkIn}
 use Rattle.usb_device.specs.Request.{outcome, takes_address}
-use Rattle.usb_device.specs.Transfer.{first_stage, reading, ending, refused as stage_refused, max_packet}
+use Rattle.usb_device.specs.Transfer.{first_stage, reading, ending, refused as stage_refused}
+use Rattle.usb_device.specs.Transfer.{max_packet}
 use Rattle.usb_device.specs.Rows.{State, accepted, endpoint_state, with_endpoint_state}
 use Rattle.usb_device.specs.Bulk.{tells_changes, rested}
 use Rattle.usb_device.specs.Tree.{row_of, Location}
-use Rattle.usb_device.specs.Progress.{IsRead, StatusGiven, IsSink, SinkAt, IsSource, SourceAt, PollAt, NeverTold, OnlyControl, OnlyStage, OnlySink, OnlySource, OnlyChanges}
+use Rattle.usb_device.specs.Progress.{IsRead, StatusGiven, IsSink, SinkAt, IsSource, SourceAt}
+use Rattle.usb_device.specs.Progress.{PollAt, NeverTold, OnlyControl, OnlyStage, OnlySink}
+use Rattle.usb_device.specs.Progress.{OnlySource, OnlyChanges}
 use Rattle.usb_world.specs.declared.types.BusFault.{BusFault}
 use Rattle.usb_world.specs.Losses.{one_more}
 use Rattle.usb_world.specs.World.{World}
@@ -24,11 +29,13 @@ use Rattle.usb_world.specs.Steps.{Step, attempt, root_call, event, report, Cours
 use Rattle.usb_transaction.specs.declared.target.Target.{Target}
 use Rattle.usb_transaction.specs.Leaves.{is_at, ToldSince, AcceptedAt}
 use Rattle.usb_transaction.specs.Transactions.{in_attempt, out_attempt}
-use Rattle.usb_pipe.specs.declared.condition.Condition.TheVariants.{Ready, Halted, Broken as BrokenPipe}
+use Rattle.usb_pipe.specs.declared.condition.Condition.TheVariants.{Ready, Halted}
+use Rattle.usb_pipe.specs.declared.condition.Condition.TheVariants.{Broken as BrokenPipe}
 use Rattle.usb_pipe.specs.Bulk.{Bulk, is_ready}
 use Rattle.usb_pipe.specs.Interrupt.{Interrupt}
 use Rattle.usb_pipe.specs.declared.fault.PipeFault.{PipeFault}
-use Rattle.usb_pipe.specs.declared.fault.PipeFault.TheVariants.{Stalled, Busy, NoAnswer, Broken, Bus, Memory}
+use Rattle.usb_pipe.specs.declared.fault.PipeFault.TheVariants.{Stalled, Busy, NoAnswer, Broken}
+use Rattle.usb_pipe.specs.declared.fault.PipeFault.TheVariants.{Bus, Memory}
 
 -- the call did not end because the bus gave up
 abbrev pub IsNoBusFault : {A : Type 0} → Result A PipeFault → Type 0
@@ -40,7 +47,8 @@ IsNoBusFault (Err Broken) = ⊤
 IsNoBusFault (Err (Bus fault)) = ⊥
 IsNoBusFault (Err Memory) = ⊤
 
--- a fault that only the answers of a device make: STALL, too many NAKs and repeats, or data for which there is no memory
+-- a fault that only the answers of a device make: STALL, too many NAKs and repeats, or data for
+-- which there is no memory
 abbrev pub IsTransferAnswer : PipeFault → Type 0
 IsTransferAnswer Stalled = ⊤
 IsTransferAnswer Busy = ⊤
@@ -49,7 +57,8 @@ IsTransferAnswer Broken = ⊥
 IsTransferAnswer (Bus fault) = ⊥
 IsTransferAnswer Memory = ⊤
 
--- a device of this description may end a control transfer so: it is neither silent nor always busy where the transfer is done, is refused, or finds
+-- a device of this description may end a control transfer so: it is neither silent nor always busy
+-- where the transfer is done, is refused, or finds
 -- no memory, and not silent where the host waited in vain
 abbrev pub CanEnd : {A : Type 0} → Spec → Result A PipeFault → Type 0
 CanEnd spec (Ok x) = (spec.silent ≡ false) × (spec.busy ≡ false)
@@ -60,8 +69,10 @@ CanEnd spec (Err Broken) = ⊥
 CanEnd spec (Err (Bus fault)) = ⊤
 CanEnd spec (Err Memory) = (spec.silent ≡ false) × (spec.busy ≡ false)
 
--- the device at a place accepted the request in an attempt of the call that left this world; these were its ports then
-pub record AcceptedIn (t : Target) (request : Setup) (old now : World) (x : Location) (row : List PortState) (s : State) : Type 0 where
+-- the device at a place accepted the request in an attempt of the call that left this world; these
+-- were its ports then
+pub record AcceptedIn (t : Target) (request : Setup) (old now : World) (x : Location)
+    (row : List PortState) (s : State) : Type 0 where
   pub state : State
   pub at : AcceptedAt t (bytes_of request) old now x s state
   pub had : row ≡ row_of at.holder.below
@@ -74,13 +85,15 @@ IsBehind t event w = ⊥
 IsBehind t (report line) w = ⊥
 
 -- it did so at a moment of the call: nothing but the stages behind SETUP was attempted since
-pub record Moment (t : Target) (request : Setup) (old new : World) (x : Location) (row : List PortState) (s : State) : Type 0 where
+pub record Moment (t : Target) (request : Setup) (old new : World) (x : Location)
+    (row : List PortState) (s : State) : Type 0 where
   pub now : World
   pub accepts : AcceptedIn t request old now x row s
   pub since : Course (IsBehind t) now new
 
 -- the device refused the request, with its ports as they were when it accepted it
-pub record WasRefused (t : Target) (request : Setup) (old new : World) (x : Location) (s : State) : Type 0 where
+pub record WasRefused (t : Target) (request : Setup) (old new : World) (x : Location) (s : State) :
+    Type 0 where
   pub row : List PortState
   pub moment : Moment t request old new x row s
   pub is : first_stage row request.length (outcome s.spec s.registers request) ≡ stage_refused
@@ -89,26 +102,33 @@ pub record WasRefused (t : Target) (request : Setup) (old new : World) (x : Loca
 abbrev pub IsMaximum : Target → ℕ → State → Type 0
 IsMaximum t wanted s = (max_packet s.spec ≡ t.max) ⊎ (wanted ≤ 8)
 
--- the device answered a request for data, with its ports as they were when it accepted it; these bytes are of that answer, from its
+-- the device answered a request for data, with its ports as they were when it accepted it; these
+-- bytes are of that answer, from its
 -- first on, and the transfer is over
-pub record AnswerRead (t : Target) (request : Setup) (bytes : List ℕ) (old new : World) (x : Location) (s v : State) : Type 0 where
+pub record AnswerRead (t : Target) (request : Setup) (bytes : List ℕ) (old new : World)
+    (x : Location) (s v : State) : Type 0 where
   pub row : List PortState
   pub moment : Moment t request old new x row s
   pub answer : List ℕ
-  pub is : first_stage row request.length (outcome s.spec s.registers request) ≡ reading answer request.length 0
+  pub is : first_stage row request.length (outcome s.spec s.registers request)
+      ≡ reading answer request.length 0
   pub came : IsMaximum t request.length s → bytes ≡ take request.length answer
   pub over : IsRead v
 
 -- a control read
-pub record ReadLeaves (t : Target) (request : Setup) (result : Result (Vec ℕ) PipeFault) (old new : World) (x : Location) (s v : State) : Type 0 where
+pub record ReadLeaves (t : Target) (request : Setup) (result : Result (Vec ℕ) PipeFault)
+    (old new : World) (x : Location) (s v : State) : Type 0 where
   pub others : is_at s t ≡ false → v ≡ s
   pub frame : OnlyStage s v
-  pub done : is_at s t ≡ true → (bytes : Vec ℕ) → result ≡ Ok bytes → AnswerRead t request bytes.items old new x s v
+  pub done : is_at s t ≡ true → (bytes : Vec ℕ) → result ≡ Ok bytes
+      → AnswerRead t request bytes.items old new x s v
   pub refused : is_at s t ≡ true → result ≡ Err Stalled → WasRefused t request old new x s
   pub could : is_at s t ≡ true → CanEnd s.spec result
 
--- the device did what was asked when it accepted it, the last time with these ports, and its status stage was given
-pub record EffectDone (t : Target) (request : Setup) (old new : World) (x : Location) (s v : State) : Type 0 where
+-- the device did what was asked when it accepted it, the last time with these ports, and its status
+-- stage was given
+pub record EffectDone (t : Target) (request : Setup) (old new : World) (x : Location)
+    (s v : State) : Type 0 where
   pub row : List PortState
   pub moment : Moment t request old new x row s
   pub address : Option ℕ
@@ -116,17 +136,23 @@ pub record EffectDone (t : Target) (request : Setup) (old new : World) (x : Loca
   pub given : StatusGiven address (accepted s row request) v
   pub rest : OnlyControl (accepted s row request) v
 
--- the device did what was asked, or did not hear of it; where the bus gave up, its status stage may have been given, too
-pub data EffectOrNone (t : Target) (request : Setup) (fault : PipeFault) (old : World) (x : Location) (s v : State) : Type 0 where
+-- the device did what was asked, or did not hear of it; where the bus gave up, its status stage may
+-- have been given, too
+pub data EffectOrNone (t : Target) (request : Setup) (fault : PipeFault) (old : World)
+    (x : Location) (s v : State) : Type 0 where
   none : OnlyControl s v → v.registers ≡ s.registers → EffectOrNone t request fault old x s v
-  some : (row : List PortState) (now : World) → AcceptedIn t request old now x row s → OnlyControl (accepted s row request) v → v.registers ≡ (accepted s row request).registers
+  some : (row : List PortState) (now : World) → AcceptedIn t request old now x row s
+      → OnlyControl (accepted s row request) v → v.registers ≡ (accepted s row request).registers
       → EffectOrNone t request fault old x s v
-  whole : (why : BusFault) → fault ≡ Bus why → (row : List PortState) (now : World) → AcceptedIn t request old now x row s → OnlyControl (accepted s row request) v
-      → (address : Option ℕ) → first_stage row request.length (outcome s.spec s.registers request) ≡ ending address → StatusGiven address (accepted s row request) v
+  whole : (why : BusFault) → fault ≡ Bus why → (row : List PortState) (now : World)
+      → AcceptedIn t request old now x row s → OnlyControl (accepted s row request) v
+      → (address : Option ℕ) → first_stage row request.length (outcome s.spec s.registers request)
+      ≡ ending address → StatusGiven address (accepted s row request) v
       → EffectOrNone t request fault old x s v
 
 -- a request without data
-pub record WriteLeaves (t : Target) (request : Setup) (result : Result (Unit {0}) PipeFault) (old new : World) (x : Location) (s v : State) : Type 0 where
+pub record WriteLeaves (t : Target) (request : Setup) (result : Result (Unit {0}) PipeFault)
+    (old new : World) (x : Location) (s v : State) : Type 0 where
   pub others : is_at s t ≡ false → v ≡ s
   pub failed : (fault : PipeFault) → result ≡ Err fault → EffectOrNone t request fault old x s v
   pub done : is_at s t ≡ true → (u : Unit {0}) → result ≡ Ok u → EffectDone t request old new x s v
@@ -135,16 +161,22 @@ pub record WriteLeaves (t : Target) (request : Setup) (result : Result (Unit {0}
 
 -- Address losses (9.4.6)
 
--- a device has taken the address that it was asked to take; or it has not, and one loss more is counted
+-- a device has taken the address that it was asked to take; or it has not, and one loss more is
+-- counted
 pub data TookItOrLost (a : ℕ) (old new : World) (s v : State) : Type 0 where
-  took : v.registers ≡ record s.registers { address = a } → new.losses ≡ old.losses → TookItOrLost a old new s v
+  took : v.registers ≡ record s.registers { address = a } → new.losses ≡ old.losses
+      → TookItOrLost a old new s v
   lost : v.registers ≡ s.registers → new.losses ≡ one_more old.losses → TookItOrLost a old new s v
 
--- a request without data counts a loss exactly where it is done, asks for an address, and the device has not taken that
-pub record LossesOf (t : Target) (request : Setup) (result : Result (Unit {0}) PipeFault) (old new : World) (x : Location) (s v : State) : Type 0 where
-  pub done : is_at s t ≡ true → (u : Unit {0}) → result ≡ Ok u → (a : ℕ) → outcome s.spec s.registers request ≡ takes_address a → TookItOrLost a old new s v
+-- a request without data counts a loss exactly where it is done, asks for an address, and the
+-- device has not taken that
+pub record LossesOf (t : Target) (request : Setup) (result : Result (Unit {0}) PipeFault)
+    (old new : World) (x : Location) (s v : State) : Type 0 where
+  pub done : is_at s t ≡ true → (u : Unit {0}) → result ≡ Ok u → (a : ℕ)
+      → outcome s.spec s.registers request ≡ takes_address a → TookItOrLost a old new s v
   pub failed : is_at s t ≡ true → (why : PipeFault) → result ≡ Err why → new.losses ≡ old.losses
-  pub none : is_at s t ≡ true → ((a : ℕ) → outcome s.spec s.registers request ≢ takes_address a) → new.losses ≡ old.losses
+  pub none : is_at s t ≡ true → ((a : ℕ) → outcome s.spec s.registers request ≢ takes_address a)
+      → new.losses ≡ old.losses
 
 -- a control read counts none of a device that it asked
 abbrev pub LossesKept : Target → World → World → Location → State → State → Type 0
@@ -152,7 +184,8 @@ LossesKept t old new x s v = is_at s t ≡ true → new.losses ≡ old.losses
 
 -- Bulk pipes (5.8)
 
--- a bulk OUT pipe and the endpoint at its other end: a pipe that works awaits the same toggle as the endpoint, and one that was stalled
+-- a bulk OUT pipe and the endpoint at its other end: a pipe that works awaits the same toggle as
+-- the endpoint, and one that was stalled
 -- has an endpoint that is halted
 pub record OutPipeInSync (pipe : Bulk) (s : State) : Type 0 where
   pub endpoint : IsSink pipe.ep pipe.max s
@@ -176,18 +209,25 @@ pub record FrontTaken (bytes : List ℕ) (s v : State) : Type 0 where
   pub split : bytes ≡ front ++ rest
   pub sink : v.sink ≡ s.sink ++ front
 
--- at a moment of a send: the bytes before the packet that is on its way joined what the device took, and the packet joined them or did not yet
-pub record SendingLeaves (sent packet : List ℕ) (toggle : Toggle) (pipe : Bulk) (x : Location) (s v : State) : Type 0 where
+-- at a moment of a send: the bytes before the packet that is on its way joined what the device
+-- took, and the packet joined them or did not yet
+pub record SendingLeaves (sent packet : List ℕ) (toggle : Toggle) (pipe : Bulk) (x : Location)
+    (s v : State) : Type 0 where
   pub others : is_at s pipe.target ≡ false → v ≡ s
   pub frame : IsSink pipe.ep pipe.max s → OnlySink s v
-  pub way : is_at s pipe.target ≡ true → pipe.condition ≡ Ready → OutPipeInSync pipe s → SinkAt (s.sink ++ sent) packet toggle v
+  pub way : is_at s pipe.target ≡ true → pipe.condition ≡ Ready → OutPipeInSync pipe s
+      → SinkAt (s.sink ++ sent) packet toggle v
 
-pub record SendLeaves (bytes : List ℕ) (pipe : Bulk) (result : Result (Unit {0}) PipeFault) (left : Bulk) (x : Location) (s v : State) : Type 0 where
+pub record SendLeaves (bytes : List ℕ) (pipe : Bulk) (result : Result (Unit {0}) PipeFault)
+    (left : Bulk) (x : Location) (s v : State) : Type 0 where
   pub others : is_at s pipe.target ≡ false → v ≡ s
   pub frame : IsSink pipe.ep pipe.max s → OnlySink s v
-  pub fits : is_at s pipe.target ≡ true → OutPipeInSync pipe s → OutPipeInSync (pipe_known result left) v
-  pub done : is_at s pipe.target ≡ true → OutPipeInSync pipe s → (u : Unit {0}) → result ≡ Ok u → v.sink ≡ s.sink ++ bytes
-  pub failed : is_at s pipe.target ≡ true → OutPipeInSync pipe s → (fault : PipeFault) → result ≡ Err fault → FrontTaken bytes s v
+  pub fits : is_at s pipe.target ≡ true → OutPipeInSync pipe s
+      → OutPipeInSync (pipe_known result left) v
+  pub done : is_at s pipe.target ≡ true → OutPipeInSync pipe s → (u : Unit {0}) → result ≡ Ok u
+      → v.sink ≡ s.sink ++ bytes
+  pub failed : is_at s pipe.target ≡ true → OutPipeInSync pipe s → (fault : PipeFault)
+      → result ≡ Err fault → FrontTaken bytes s v
 
 -- a bulk IN pipe that has got so many bytes of the source, and the endpoint at its other end
 pub record InPipeInSync (pipe : Bulk) (got : ℕ) (s : State) : Type 0 where
@@ -200,33 +240,44 @@ abbrev pub came_with : Result (Vec ℕ) PipeFault → ℕ
 came_with (Ok bytes) = length bytes.items
 came_with (Err fault) = 0
 
-pub record ReceiveLeaves (pipe : Bulk) (result : Result (Vec ℕ) PipeFault) (left : Bulk) (x : Location) (s v : State) : Type 0 where
+pub record ReceiveLeaves (pipe : Bulk) (result : Result (Vec ℕ) PipeFault) (left : Bulk)
+    (x : Location) (s v : State) : Type 0 where
   pub others : is_at s pipe.target ≡ false → v ≡ s
   pub frame : IsSource pipe.ep pipe.max s → OnlySource s v
-  pub fits : is_at s pipe.target ≡ true → (got : ℕ) → InPipeInSync pipe got s → InPipeInSync (pipe_known result left) (got + came_with result) v
+  pub fits : is_at s pipe.target ≡ true → (got : ℕ) → InPipeInSync pipe got s
+      → InPipeInSync (pipe_known result left) (got + came_with result) v
   -- the bytes are the next ones of the source
-  pub done : is_at s pipe.target ≡ true → (got : ℕ) → InPipeInSync pipe got s → (bytes : Vec ℕ) → result ≡ Ok bytes → bytes.items ≡ take (length bytes.items) (drop got s.spec.source)
+  pub done : is_at s pipe.target ≡ true → (got : ℕ) → InPipeInSync pipe got s → (bytes : Vec ℕ)
+      → result ≡ Ok bytes → bytes.items ≡ take (length bytes.items) (drop got s.spec.source)
 
--- how many bytes of the source a pipe has got after a clear: where one was sent and is done, those that the device counts
+-- how many bytes of the source a pipe has got after a clear: where one was sent and is done, those
+-- that the device counts
 abbrev pub got_after : Bulk → ℕ → Result (Unit {0}) PipeFault → State → ℕ
 got_after pipe got (Ok done) s = if is_ready pipe.condition then got else s.place
 got_after pipe got (Err fault) s = got
 
--- an endpoint as it was, or begun again where a clear that was sent is done; where it failed, either
+-- an endpoint as it was, or begun again where a clear that was sent is done; where it failed,
+-- either
 abbrev pub BegunAgain : Bulk → Result (Unit {0}) PipeFault → EndpointState → EndpointState → Type 0
-BegunAgain pipe (Ok done) before after = after ≡ (if is_ready pipe.condition then before else rested)
+BegunAgain pipe (Ok done) before after =
+    after ≡ (if is_ready pipe.condition then before else rested)
 BegunAgain pipe (Err fault) before after = (after ≡ before) ⊎ (after ≡ rested)
 
 -- nothing but this endpoint and where the control transfer stands changed
 abbrev pub OnlyEndpoint : ServedEndpoint → State → State → Type 0
 OnlyEndpoint which s v = OnlyStage (with_endpoint_state s which (endpoint_state v which)) v
 
--- a clear of a halt (9.4.5) moves no bytes, and both ends begin again together; the other endpoint stays as it was
-pub record ClearLeaves (pipe : Bulk) (result : Result (Unit {0}) PipeFault) (left : Bulk) (x : Location) (s v : State) : Type 0 where
+-- a clear of a halt (9.4.5) moves no bytes, and both ends begin again together; the other endpoint
+-- stays as it was
+pub record ClearLeaves (pipe : Bulk) (result : Result (Unit {0}) PipeFault) (left : Bulk)
+    (x : Location) (s v : State) : Type 0 where
   pub others : is_at s pipe.target ≡ false → v ≡ s
-  pub sink : is_at s pipe.target ≡ true → pipe.is_in ≡ false → OutPipeInSync pipe s → OutPipeInSync (pipe_known result left) v × (v.sink ≡ s.sink) × BegunAgain pipe result s.bulk_out v.bulk_out
+  pub sink : is_at s pipe.target ≡ true → pipe.is_in ≡ false → OutPipeInSync pipe s
+      → OutPipeInSync (pipe_known result left) v × (v.sink ≡ s.sink)
+      × BegunAgain pipe result s.bulk_out v.bulk_out
   pub source : is_at s pipe.target ≡ true → pipe.is_in ≡ true → (got : ℕ) → InPipeInSync pipe got s
-      → InPipeInSync (pipe_known result left) (got_after pipe got result s) v × (v.place ≡ s.place) × BegunAgain pipe result s.bulk_in v.bulk_in
+      → InPipeInSync (pipe_known result left) (got_after pipe got result s) v × (v.place ≡ s.place)
+      × BegunAgain pipe result s.bulk_in v.bulk_in
   pub only_sink : pipe.is_in ≡ false → IsSink pipe.ep pipe.max s → OnlyEndpoint BulkOut s v
   pub only_source : pipe.is_in ≡ true → IsSource pipe.ep pipe.max s → OnlyEndpoint BulkIn s v
 
@@ -248,10 +299,15 @@ PollTells Told (Ok None) = Told 0
 PollTells Told (Ok (Some packet)) = ByteTold Told packet.items
 PollTells Told (Err fault) = ⊤
 
-pub record PollLeaves (pipe : Interrupt) (old : World) (result : Result (Option (ArrayVec ℕ)) PipeFault) (left : Interrupt) (new : World) (x : Location) (s v : State) : Type 0 where
+pub record PollLeaves (pipe : Interrupt) (old : World)
+    (result : Result (Option (ArrayVec ℕ)) PipeFault) (left : Interrupt) (new : World)
+    (x : Location) (s v : State) : Type 0 where
   pub others : is_at s pipe.target ≡ false → v ≡ s
   pub frame : tells_changes s.spec s.registers ≡ true → OnlyChanges s v
   -- the bits are the ports' own at a moment of the poll
-  pub tells : is_at s pipe.target ≡ true → tells_changes s.spec s.registers ≡ true → PollAt NeverTold pipe.toggle s → PollTells (ToldOf pipe old new x) result
+  pub tells : is_at s pipe.target ≡ true → tells_changes s.spec s.registers ≡ true
+      → PollAt NeverTold pipe.toggle s → PollTells (ToldOf pipe old new x) result
   -- both ends are as far, where it did not fail
-  pub level : is_at s pipe.target ≡ true → tells_changes s.spec s.registers ≡ true → PollAt NeverTold pipe.toggle s → (got : Option (ArrayVec ℕ)) → result ≡ Ok got → PollAt NeverTold left.toggle v
+  pub level : is_at s pipe.target ≡ true → tells_changes s.spec s.registers ≡ true
+      → PollAt NeverTold pipe.toggle s → (got : Option (ArrayVec ℕ)) → result ≡ Ok got
+      → PollAt NeverTold left.toggle v

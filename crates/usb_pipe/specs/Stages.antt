@@ -1,5 +1,6 @@
 -- The stages of a control transfer (8.5.3): which attempts were made, and what was heard of each.
-use Rattle.std.specs.Prelude.{◌≡◌, ℕ, ◌+◌, ◌⊎◌, List, [], ◌++◌, length, take, true, false, Result, Ok, Err}
+use Rattle.std.specs.Prelude.{◌≡◌, ℕ, ◌+◌, ◌⊎◌, List, [], ◌++◌, length, take, true, false, Result}
+use Rattle.std.specs.Prelude.{Ok, Err}
 use Rattle.std.specs.Global.{Vec}
 use Rattle.usb_packet.specs.declared.Toggle.{Toggle}
 use Rattle.usb_packet.specs.declared.Toggle.TheVariants.{One}
@@ -20,7 +21,8 @@ use Rattle.usb_packet.specs.Toggles.{flips}
 
 -- the eight bytes of the request are sent
 abbrev pub SetUp : Target → Setup → World → Result (List ℕ) TransFault → World → Type 0
-SetUp t request old answer new = Transacted set_up_as (setup_attempt t (bytes_of request)) old answer new
+SetUp t request old answer new = Transacted set_up_as (setup_attempt t (bytes_of request)) old
+    answer new
 
 -- a packet of this toggle is asked for
 abbrev pub Asks : Target → Toggle → World → Result (List ℕ) TransFault → World → Type 0
@@ -33,7 +35,8 @@ Confirms t old answer new = Transacted heard_when_sent (out_attempt t 0 One []) 
 -- How a transfer fails
 
 -- at its SETUP
-pub record NoSetUp (t : Target) (request : Setup) (old : World) (why : PipeFault) (new : World) : Type 0 where
+pub record NoSetUp (t : Target) (request : Setup) (old : World) (why : PipeFault) (new : World) :
+    Type 0 where
   pub fault : TransFault
   pub told : why ≡ as_pipe_fault fault
   pub set_up : SetUp t request old (Err fault) new
@@ -48,7 +51,8 @@ pub record Written (t : Target) (request : Setup) (old new : World) : Type 0 whe
   pub status : Asks t One mid (Ok given) new
 
 -- at its status stage
-pub record NoStatus (t : Target) (request : Setup) (old : World) (why : PipeFault) (new : World) : Type 0 where
+pub record NoStatus (t : Target) (request : Setup) (old : World) (why : PipeFault) (new : World) :
+    Type 0 where
   pub mid : World
   pub set_up : SetUp t request old (Ok []) mid
   pub fault : TransFault
@@ -61,49 +65,58 @@ Writes t request old (Err why) new = NoSetUp t request old why new ⊎ NoStatus 
 
 -- With data to the host
 
--- a data stage goes on over so many packets, DATA1 first and then by turns; these bytes came, and none of the packets was the last
+-- a data stage goes on over so many packets, DATA1 first and then by turns; these bytes came, and
+-- none of the packets was the last
 pub data Goes (t : Target) (wanted : ℕ) (old : World) : ℕ → List ℕ → World → Type 0 where
   start : Goes t wanted old 0 [] old
-  packet : {n : ℕ} {got : List ℕ} {mid new : World} (bytes : List ℕ) → Goes t wanted old n got mid → Asks t (flips n One) mid (Ok bytes) new
-      → ends_stage (length bytes) t.max (length (got ++ bytes)) wanted ≡ false → Goes t wanted old (n + 1) (got ++ bytes) new
+  packet : {n : ℕ} {got : List ℕ} {mid new : World} (bytes : List ℕ) → Goes t wanted old n got mid
+      → Asks t (flips n One) mid (Ok bytes) new
+      → ends_stage (length bytes) t.max (length (got ++ bytes)) wanted ≡ false
+      → Goes t wanted old (n + 1) (got ++ bytes) new
 
--- it ended with a packet that was short, or with all that was wanted; what came past that is dropped
-pub record DataStage (t : Target) (wanted : ℕ) (old : World) (bytes : List ℕ) (new : World) : Type 0 where
-  pub packets : ℕ
-  pub got : List ℕ
-  pub mid : World
-  pub before : Goes t wanted old packets got mid
-  pub last : List ℕ
-  pub came : Asks t (flips packets One) mid (Ok last) new
-  pub kept : bytes ≡ take wanted (got ++ last)
-  pub ends : ends_stage (length last) t.max (length bytes) wanted ≡ true
+-- it ended with a packet that was short, or with all that was wanted; what came past that is
+-- dropped
+pub record DataStage (t : Target) (wanted : ℕ) (old : World) (bytes : List ℕ) (new : World) : Type 0
+  where
+    pub packets : ℕ
+    pub got : List ℕ
+    pub mid : World
+    pub before : Goes t wanted old packets got mid
+    pub last : List ℕ
+    pub came : Asks t (flips packets One) mid (Ok last) new
+    pub kept : bytes ≡ take wanted (got ++ last)
+    pub ends : ends_stage (length last) t.max (length bytes) wanted ≡ true
 
 -- it ended with a packet that did not come
-pub record DataLost (t : Target) (wanted : ℕ) (old : World) (why : PipeFault) (new : World) : Type 0 where
-  pub packets : ℕ
-  pub got : List ℕ
-  pub mid : World
-  pub before : Goes t wanted old packets got mid
-  pub fault : TransFault
-  pub told : why ≡ as_pipe_fault fault
-  pub lost : Asks t (flips packets One) mid (Err fault) new
+pub record DataLost (t : Target) (wanted : ℕ) (old : World) (why : PipeFault) (new : World) : Type 0
+  where
+    pub packets : ℕ
+    pub got : List ℕ
+    pub mid : World
+    pub before : Goes t wanted old packets got mid
+    pub fault : TransFault
+    pub told : why ≡ as_pipe_fault fault
+    pub lost : Asks t (flips packets One) mid (Err fault) new
 
 -- it ended with a packet for which there was no memory
-pub record NoRoom (t : Target) (wanted : ℕ) (old : World) (why : PipeFault) (new : World) : Type 0 where
-  pub packets : ℕ
-  pub got : List ℕ
-  pub mid : World
-  pub before : Goes t wanted old packets got mid
-  pub last : List ℕ
-  pub told : why ≡ Memory
-  pub came : Asks t (flips packets One) mid (Ok last) new
+pub record NoRoom (t : Target) (wanted : ℕ) (old : World) (why : PipeFault) (new : World) : Type 0
+  where
+    pub packets : ℕ
+    pub got : List ℕ
+    pub mid : World
+    pub before : Goes t wanted old packets got mid
+    pub last : List ℕ
+    pub told : why ≡ Memory
+    pub came : Asks t (flips packets One) mid (Ok last) new
 
 abbrev pub DataEnds : Target → ℕ → World → Result (Vec ℕ) PipeFault → World → Type 0
 DataEnds t wanted old (Ok bytes) new = DataStage t wanted old bytes.items new
 DataEnds t wanted old (Err why) new = DataLost t wanted old why new ⊎ NoRoom t wanted old why new
 
--- a request for data: its SETUP was acknowledged, the data came, and so many bytes of them as were wanted; an OUT of no bytes with DATA1 was acknowledged
-pub record WasRead (t : Target) (request : Setup) (old : World) (bytes : List ℕ) (new : World) : Type 0 where
+-- a request for data: its SETUP was acknowledged, the data came, and so many bytes of them as were
+-- wanted; an OUT of no bytes with DATA1 was acknowledged
+pub record WasRead (t : Target) (request : Setup) (old : World) (bytes : List ℕ) (new : World) :
+    Type 0 where
   pub first : World
   pub set_up : SetUp t request old (Ok []) first
   pub second : World
@@ -111,13 +124,15 @@ pub record WasRead (t : Target) (request : Setup) (old : World) (bytes : List �
   pub status : Confirms t second (Ok []) new
 
 -- at its data stage
-pub record NoData (t : Target) (request : Setup) (old : World) (why : PipeFault) (new : World) : Type 0 where
+pub record NoData (t : Target) (request : Setup) (old : World) (why : PipeFault) (new : World) :
+    Type 0 where
   pub mid : World
   pub set_up : SetUp t request old (Ok []) mid
   pub data_stage : DataLost t request.length mid why new ⊎ NoRoom t request.length mid why new
 
 -- at its status stage
-pub record NotConfirmed (t : Target) (request : Setup) (old : World) (why : PipeFault) (new : World) : Type 0 where
+pub record NotConfirmed (t : Target) (request : Setup) (old : World) (why : PipeFault)
+    (new : World) : Type 0 where
   pub first : World
   pub set_up : SetUp t request old (Ok []) first
   pub second : World
@@ -129,4 +144,5 @@ pub record NotConfirmed (t : Target) (request : Setup) (old : World) (why : Pipe
 
 abbrev pub Reads : Target → Setup → World → Result (Vec ℕ) PipeFault → World → Type 0
 Reads t request old (Ok bytes) new = WasRead t request old bytes.items new
-Reads t request old (Err why) new = NoSetUp t request old why new ⊎ NoData t request old why new ⊎ NotConfirmed t request old why new
+Reads t request old (Err why) new = NoSetUp t request old why new ⊎ NoData t request old why new
+    ⊎ NotConfirmed t request old why new

@@ -1,5 +1,7 @@
--- What each call tells of its transfer: how few attempts were made, which they were and what was heard of each, and what that says of each device.
-use Rattle.std.specs.Prelude.{◌≡◌, ◌≢◌, ℕ, ◌≤◌, List, [], length, true, false, Option, Result, Err, OnOk, IfOk, MatchResult}
+-- What each call tells of its transfer: how few attempts were made, which they were and what was
+-- heard of each, and what that says of each device.
+use Rattle.std.specs.Prelude.{◌≡◌, ◌≢◌, ℕ, ◌≤◌, List, [], length, true, false, Option, Result, Err}
+use Rattle.std.specs.Prelude.{OnOk, IfOk, MatchResult}
 use Rattle.arrayvec.specs.ArrayVec.{ArrayVec}
 use Rattle.std.specs.Global.{Vec}
 use Rattle.usb_request.specs.declared.setup.Setup.{Setup}
@@ -20,8 +22,10 @@ use Rattle.usb_pipe.specs.Bulk.{Bulk, Sends, Receives, Clears}
 use Rattle.usb_pipe.specs.Control.{FaultAfter}
 use Rattle.usb_pipe.specs.Interrupt.{Interrupt, Polls}
 use Rattle.usb_pipe.specs.Stages.{Reads, Writes}
-use Rattle.usb_pipe.specs.Leaves.{IsNoBusFault, ReadLeaves, WriteLeaves, LossesOf, LossesKept, SendLeaves, ReceiveLeaves, ClearLeaves, PollLeaves}
-use Rattle.usb_pipe.specs.Failures.{ControlReadFailure, WriteFailure, SendFailure, ReceiveFailure, PollingFailure}
+use Rattle.usb_pipe.specs.Leaves.{IsNoBusFault, ReadLeaves, WriteLeaves, LossesOf, LossesKept}
+use Rattle.usb_pipe.specs.Leaves.{SendLeaves, ReceiveLeaves, ClearLeaves, PollLeaves}
+use Rattle.usb_pipe.specs.Failures.{ControlReadFailure, WriteFailure, SendFailure, ReceiveFailure}
+use Rattle.usb_pipe.specs.Failures.{PollingFailure}
 
 -- When it is so
 
@@ -39,53 +43,67 @@ Undamaged old result new F = NoThreeDamaged old → IsNoBusFault result → new.
 
 -- Control transfers (8.5.3)
 
--- a control read: if it is done, it gave the bytes that the device answers the request with, as many as were wanted; whatever its
+-- a control read: if it is done, it gave the bytes that the device answers the request with, as
+-- many as were wanted; whatever its
 -- answer is, nothing of any device changed but where its own transfer stands
-pub record ControlRead (t : Target) (request : Setup) (old : World) (result : Result (Vec ℕ) PipeFault) (new : World) : Type 0 where
+pub record ControlRead (t : Target) (request : Setup) (old : World)
+    (result : Result (Vec ℕ) PipeFault) (new : World) : Type 0 where
   pub ends : MatchResult result (λ _. AttemptsMade 3 old new) (λ fault. FaultAfter 1 old fault new)
   pub stages : Reads t request old result new
   pub settled : IsSettled old.roots
   pub most : IfOk result (λ bytes. length bytes.items ≤ request.length)
   pub what : Unshared new (EachWas (ReadLeaves t request result old new) old new)
-  pub why : 8 ≤ t.max → Undamaged old result new (EachWas (ControlReadFailure t request result) old new)
+  pub why : 8 ≤ t.max → Undamaged old result new (EachWas (ControlReadFailure t request result) old
+      new)
   pub who : OnOk result (Unshared new (Answerer t old new))
   pub losses : Completed result new (EachWas (LossesKept t old new) old new)
 
--- a request without data: if it is done, it had its effect in the device, as it was last accepted; SET_ADDRESS has it where the device
--- saw the last ACK (9.4.6). One that failed had it or not, and nothing else changed. Of a device that the reset of a port may have
--- reached nothing is said; a request that clears a change of connection begins another stretch of losses
-pub record ControlWrite (t : Target) (request : Setup) (old : World) (result : Result (Unit {0}) PipeFault) (new : World) : Type 0 where
+-- a request without data: if it is done, it had its effect in the device, as it was last accepted;
+-- SET_ADDRESS has it where the device
+-- saw the last ACK (9.4.6). One that failed had it or not, and nothing else changed. Of a device
+-- that the reset of a port may have
+-- reached nothing is said; a request that clears a change of connection begins another stretch of
+-- losses
+pub record ControlWrite (t : Target) (request : Setup) (old : World)
+    (result : Result (Unit {0}) PipeFault) (new : World) : Type 0 where
   pub ends : MatchResult result (λ _. AttemptsMade 2 old new) (λ fault. FaultAfter 1 old fault new)
   pub stages : Writes t request old result new
   pub settled : IsSettled old.roots
   pub room : result ≢ Err Memory
   pub what : Unshared new (EachSpared t request (WriteLeaves t request result old new) old new)
   pub why : Undamaged old result new (EachSpared t request (WriteFailure t result) old new)
-  pub who : OnOk result ((is_harmless request ≡ false → t.addr ≢ 0) → Unshared new (Answerer t old new))
+  pub who : OnOk result ((is_harmless request ≡ false → t.addr ≢ 0)
+      → Unshared new (Answerer t old new))
   pub losses : begins_no_stretch request ≡ true
       → Completed result new (EachSpared t request (LossesOf t request result old new) old new)
 
 -- Bulk pipes (5.8)
 
--- bytes that were sent joined what the device took, all of them, in order and once; of a transfer that failed a front did
-pub record BulkSend (bytes : List ℕ) (pipe : Bulk) (old : World) (result : Result (Unit {0}) PipeFault) (left : Bulk) (new : World) : Type 0 where
+-- bytes that were sent joined what the device took, all of them, in order and once; of a transfer
+-- that failed a front did
+pub record BulkSend (bytes : List ℕ) (pipe : Bulk) (old : World)
+    (result : Result (Unit {0}) PipeFault) (left : Bulk) (new : World) : Type 0 where
   pub sends : Sends bytes pipe old result left new
   pub what : Unshared new (EachWas (SendLeaves bytes pipe result left) old new)
   pub why : Undamaged old result new (EachWas (SendFailure pipe result) old new)
   pub who : OnOk result (bytes ≢ [] → Unshared new (Answerer pipe.target old new))
   pub losses : IsNoBusFault result → new.losses ≡ old.losses
 
--- bytes that were received are the next ones of the device's source, in order, none twice and none left out
-pub record BulkReceive (wanted : ℕ) (pipe : Bulk) (old : World) (result : Result (Vec ℕ) PipeFault) (left : Bulk) (new : World) : Type 0 where
+-- bytes that were received are the next ones of the device's source, in order, none twice and none
+-- left out
+pub record BulkReceive (wanted : ℕ) (pipe : Bulk) (old : World) (result : Result (Vec ℕ) PipeFault)
+    (left : Bulk) (new : World) : Type 0 where
   pub receives : Receives wanted pipe old result left new
   pub what : Unshared new (EachWas (ReceiveLeaves pipe result left) old new)
   pub why : Undamaged old result new (EachWas (ReceiveFailure wanted pipe result) old new)
   pub who : OnOk result (wanted ≢ 0 → Unshared new (Answerer pipe.target old new))
   pub losses : pipe.ep ≢ 0 → IsNoBusFault result → new.losses ≡ old.losses
 
--- a clear of a halt moves no bytes (9.4.5); one that is done lets both ends begin again at DATA0, and a device that gives bytes goes on
+-- a clear of a halt moves no bytes (9.4.5); one that is done lets both ends begin again at DATA0,
+-- and a device that gives bytes goes on
 -- with the first that it has not seen acknowledged
-pub record BulkClear (pipe : Bulk) (old : World) (result : Result (Unit {0}) PipeFault) (left : Bulk) (new : World) : Type 0 where
+pub record BulkClear (pipe : Bulk) (old : World) (result : Result (Unit {0}) PipeFault)
+    (left : Bulk) (new : World) : Type 0 where
   pub clears : Clears pipe old result left new
   pub what : Unshared new (EachWas (ClearLeaves pipe result left) old new)
   pub why : Undamaged old result new (EachWas (WriteFailure pipe.target result) old new)
@@ -93,12 +111,15 @@ pub record BulkClear (pipe : Bulk) (old : World) (result : Result (Unit {0}) Pip
 
 -- Interrupt pipes (5.7)
 
--- a byte of a hub's status endpoint is the bits of its ports at a moment of the poll, and where there is none, no port told of a change
+-- a byte of a hub's status endpoint is the bits of its ports at a moment of the poll, and where
+-- there is none, no port told of a change
 -- then (11.12.3)
-pub record InterruptPoll (pipe : Interrupt) (old : World) (result : Result (Option (ArrayVec ℕ)) PipeFault) (left : Interrupt) (new : World) : Type 0 where
-  pub polls : Polls pipe old result left new
-  pub settled : IsSettled old.roots
-  pub what : pipe.ep ≡ 1 → Unshared new (EachWas (PollLeaves pipe old result left new) old new)
-  pub why : pipe.ep ≡ 1 → Undamaged old result new (EachWas (PollingFailure pipe result) old new)
-  pub who : OnOk result (Unshared new (Answerer pipe.target old new))
-  pub losses : pipe.ep ≢ 0 → IsNoBusFault result → new.losses ≡ old.losses
+pub record InterruptPoll (pipe : Interrupt) (old : World)
+    (result : Result (Option (ArrayVec ℕ)) PipeFault) (left : Interrupt) (new : World) : Type 0
+  where
+    pub polls : Polls pipe old result left new
+    pub settled : IsSettled old.roots
+    pub what : pipe.ep ≡ 1 → Unshared new (EachWas (PollLeaves pipe old result left new) old new)
+    pub why : pipe.ep ≡ 1 → Undamaged old result new (EachWas (PollingFailure pipe result) old new)
+    pub who : OnOk result (Unshared new (Answerer pipe.target old new))
+    pub losses : pipe.ep ≢ 0 → IsNoBusFault result → new.losses ≡ old.losses

@@ -1,5 +1,7 @@
 -- The values at the keys of an event by one walk over its entries, and its keys by them.
-use Rattle.std.proofs.Common.{◌≡◌, ℕ, List, [], ◌∷◌, Bool, true, false, not, ◌&&◌, ◌||◌, Option, Some, None, String, Global, Ordering, Less, Equal, Greater, string_bytes, nat_cmp, is_eq, refl, sym, ap, ap₂, ◌∙◌}
+use Rattle.std.proofs.Common.{◌≡◌, ℕ, List, [], ◌∷◌, Bool, true, false, not, ◌&&◌, ◌||◌, Option}
+use Rattle.std.proofs.Common.{Some, None, String, Global, Ordering, Less, Equal, Greater}
+use Rattle.std.proofs.Common.{string_bytes, nat_cmp, is_eq, refl, sym, ap, ap₂, ◌∙◌}
 use Rattle.std.specs.Prelude.{codes, if◌then◌else◌}
 use Rattle.std.specs.Str.{bytes_eq}
 use Rattle.std.specs.List.{list_any, AllByRecursion}
@@ -38,24 +40,30 @@ pub same_text : (k l : List ℕ) → bytes_eq k l ≡ true → l ≡ k
 same_text k l h = sym ((bytes_eq-Decides k l).0 h)
 
 -- a key at the first of the members, and one that is not there
-first_member : (k l : List ℕ) (d : Data) (ms : Members) (o : Ordering) → o ≡ slice_cmp nat_cmp k l → is_eq o ≡ true → get_member k (member l d ms) ≡ Some d
+first_member : (k l : List ℕ) (d : Data) (ms : Members) (o : Ordering) → o ≡ slice_cmp nat_cmp k l
+    → is_eq o ≡ true → get_member k (member l d ms) ≡ Some d
 first_member k l d ms Less is h = cc
 first_member k l d ms Equal is h = rw (← is) refl
 first_member k l d ms Greater is h = cc
 
-later_member : (k l : List ℕ) (d : Data) (ms : Members) (o : Ordering) → o ≡ slice_cmp nat_cmp k l → is_eq o ≡ false → get_member k (member l d ms) ≡ get_member k ms
+later_member : (k l : List ℕ) (d : Data) (ms : Members) (o : Ordering) → o ≡ slice_cmp nat_cmp k l
+    → is_eq o ≡ false → get_member k (member l d ms) ≡ get_member k ms
 later_member k l d ms Less is h = rw (← is) refl
 later_member k l d ms Equal is h = cc
 later_member k l d ms Greater is h = rw (← is) refl
 
-pub at_first : (k l : List ℕ) (d : Data) (ms : Members) → bytes_eq k l ≡ true → get_member k (member l d ms) ≡ Some d
+pub at_first : (k l : List ℕ) (d : Data) (ms : Members) → bytes_eq k l ≡ true
+    → get_member k (member l d ms) ≡ Some d
 at_first k l d ms h = first_member k l d ms _ refl (is_eq-slice_cmp k l ∙ h)
 
-pub at_later : (k l : List ℕ) (d : Data) (ms : Members) → bytes_eq k l ≡ false → get_member k (member l d ms) ≡ get_member k ms
+pub at_later : (k l : List ℕ) (d : Data) (ms : Members) → bytes_eq k l ≡ false
+    → get_member k (member l d ms) ≡ get_member k ms
 at_later k l d ms h = later_member k l d ms _ refl (is_eq-slice_cmp k l ∙ h)
 
 -- a key before all others is none of them
-absent_before : (k : String Global) (es : List Entry) → AllByRecursion (λ y. string_cmp k y ≡ Less) (keys_of es) → get_member (string_bytes k) (members_view es) ≡ None
+absent_before : (k : String Global) (es : List Entry)
+    → AllByRecursion (λ y. string_cmp k y ≡ Less) (keys_of es)
+    → get_member (string_bytes k) (members_view es) ≡ None
 absent_before k [] h = refl
 absent_before k (e ∷ es) h = rw h.0 (absent_before k es h.1)
 
@@ -64,26 +72,35 @@ absent_before k (e ∷ es) h = rw h.0 (absent_before k es h.1)
 -- where a key's value is kept
 record IsKept (k : List ℕ) (at : EventValues → Option Data) : Type 0 where
   here : (d : Data) (v : EventValues) → at (with_value k d v) ≡ Some d
-  apart : (l : List ℕ) (d : Data) (v : EventValues) → bytes_eq l k ≡ false → at (with_value l d v) ≡ at v
+  apart : (l : List ℕ) (d : Data) (v : EventValues) → bytes_eq l k ≡ false
+      → at (with_value l d v) ≡ at v
 
 -- what is found, else what was kept
 abbrev kept_or : Option Data → Option Data → Option Data
 kept_or (Some d) kept = Some d
 kept_or None kept = kept
 
-walked_step : (k : List ℕ) (at : EventValues → Option Data) → IsKept k at → (l : String Global) (d : Data) (v : EventValues) (es : List Entry) → get_member (string_bytes l) (members_view es) ≡ None
+walked_step : (k : List ℕ) (at : EventValues → Option Data) → IsKept k at
+    → (l : String Global) (d : Data) (v : EventValues) (es : List Entry)
+    → get_member (string_bytes l) (members_view es) ≡ None
     → (b : Bool) → bytes_eq k (string_bytes l) ≡ b
-    → kept_or (get_member k (members_view es)) (at (with_value (string_bytes l) d v)) ≡ kept_or (get_member k (member (string_bytes l) d (members_view es))) (at v)
+    → kept_or (get_member k (members_view es)) (at (with_value (string_bytes l) d v))
+    ≡ kept_or (get_member k (member (string_bytes l) d (members_view es))) (at v)
 walked_step k at kept l d v es none true same =
     let text : string_bytes l ≡ k = same_text k (string_bytes l) same in
-    let gone : get_member k (members_view es) ≡ None = ap (λ x. get_member x (members_view es)) (sym text) ∙ none in
-    let put : at (with_value (string_bytes l) d v) ≡ Some d = ap (λ x. at (with_value x d v)) text ∙ kept.here d v in
-    ap₂ kept_or gone put ∙ sym (ap (λ x. kept_or x (at v)) (at_first k (string_bytes l) d (members_view es) same))
+    let gone : get_member k (members_view es) ≡ None =
+    ap (λ x. get_member x (members_view es)) (sym text) ∙ none in
+    let put : at (with_value (string_bytes l) d v) ≡ Some d = ap (λ x. at (with_value x d v)) text
+    ∙ kept.here d v in
+    ap₂ kept_or gone put ∙ sym (ap (λ x. kept_or x (at v))
+    (at_first k (string_bytes l) d (members_view es) same))
 walked_step k at kept l d v es none false other =
     let put = kept.apart (string_bytes l) d v (bytes_eq-sym k (string_bytes l) other) in
-    ap (kept_or (get_member k (members_view es))) put ∙ sym (ap (λ x. kept_or x (at v)) (at_later k (string_bytes l) d (members_view es) other))
+    ap (kept_or (get_member k (members_view es))) put
+    ∙ sym (ap (λ x. kept_or x (at v)) (at_later k (string_bytes l) d (members_view es) other))
 
-walked_at : (k : List ℕ) (at : EventValues → Option Data) → IsKept k at → (v : EventValues) (es : List Entry) → IsStrictlySortedBy string_cmp (keys_of es)
+walked_at : (k : List ℕ) (at : EventValues → Option Data) → IsKept k at
+    → (v : EventValues) (es : List Entry) → IsStrictlySortedBy string_cmp (keys_of es)
     → at (walked v (members_view es)) ≡ kept_or (get_member k (members_view es)) (at v)
 unfolding IsStrictlySortedBy
 walked_at k at kept v [] sorted = refl
@@ -106,7 +123,8 @@ values_with_key a b c d e f x v =
     else if f then record v { packets = Some x }
     else record v { has_others = true }
 
-verb_spared : (b c d e f : Bool) (x : Data) (v : EventValues) → (values_with_key false b c d e f x v).verb ≡ v.verb
+verb_spared : (b c d e f : Bool) (x : Data) (v : EventValues)
+    → (values_with_key false b c d e f x v).verb ≡ v.verb
 verb_spared true c d e f x v = refl
 verb_spared false true d e f x v = refl
 verb_spared false false true e f x v = refl
@@ -118,7 +136,8 @@ verb_kept : IsKept (codes "do") (λ v. v.verb)
 unfolding with_value
 verb_kept = record { here = λ d v. refl; apart = λ l d v h. rw h (verb_spared _ _ _ _ _ d v) }
 
-after_spared : (a c d e f : Bool) (x : Data) (v : EventValues) → (values_with_key a false c d e f x v).after ≡ v.after
+after_spared : (a c d e f : Bool) (x : Data) (v : EventValues)
+    → (values_with_key a false c d e f x v).after ≡ v.after
 after_spared true c d e f x v = refl
 after_spared false true d e f x v = refl
 after_spared false false true e f x v = refl
@@ -130,7 +149,8 @@ after_kept : IsKept (codes "after") (λ v. v.after)
 unfolding with_value
 after_kept = record { here = λ d v. refl; apart = λ l d v h. rw h (after_spared _ _ _ _ _ d v) }
 
-path_spared : (a b d e f : Bool) (x : Data) (v : EventValues) → (values_with_key a b false d e f x v).path ≡ v.path
+path_spared : (a b d e f : Bool) (x : Data) (v : EventValues)
+    → (values_with_key a b false d e f x v).path ≡ v.path
 path_spared true b d e f x v = refl
 path_spared false true d e f x v = refl
 path_spared false false true e f x v = refl
@@ -142,7 +162,8 @@ path_key_kept : IsKept (codes "path") (λ v. v.path)
 unfolding with_value
 path_key_kept = record { here = λ d v. refl; apart = λ l d v h. rw h (path_spared _ _ _ _ _ d v) }
 
-device_spared : (a b c e f : Bool) (x : Data) (v : EventValues) → (values_with_key a b c false e f x v).device ≡ v.device
+device_spared : (a b c e f : Bool) (x : Data) (v : EventValues)
+    → (values_with_key a b c false e f x v).device ≡ v.device
 device_spared true b c e f x v = refl
 device_spared false true c e f x v = refl
 device_spared false false true e f x v = refl
@@ -154,7 +175,8 @@ device_kept : IsKept (codes "device") (λ v. v.device)
 unfolding with_value
 device_kept = record { here = λ d v. refl; apart = λ l d v h. rw h (device_spared _ _ _ _ _ d v) }
 
-bytes_spared : (a b c d f : Bool) (x : Data) (v : EventValues) → (values_with_key a b c d false f x v).bytes ≡ v.bytes
+bytes_spared : (a b c d f : Bool) (x : Data) (v : EventValues)
+    → (values_with_key a b c d false f x v).bytes ≡ v.bytes
 bytes_spared true b c d f x v = refl
 bytes_spared false true c d f x v = refl
 bytes_spared false false true d f x v = refl
@@ -166,7 +188,8 @@ bytes_kept : IsKept (codes "bytes") (λ v. v.bytes)
 unfolding with_value
 bytes_kept = record { here = λ d v. refl; apart = λ l d v h. rw h (bytes_spared _ _ _ _ _ d v) }
 
-packets_spared : (a b c d e : Bool) (x : Data) (v : EventValues) → (values_with_key a b c d e false x v).packets ≡ v.packets
+packets_spared : (a b c d e : Bool) (x : Data) (v : EventValues)
+    → (values_with_key a b c d e false x v).packets ≡ v.packets
 packets_spared true b c d e x v = refl
 packets_spared false true c d e x v = refl
 packets_spared false false true d e x v = refl
@@ -188,7 +211,8 @@ or_not_false false = refl
 
 -- whether there was another key, by which of the six it is
 others_chosen : (a b c d e f : Bool) (x : Data) (v : EventValues)
-    → (values_with_key a b c d e f x v).has_others ≡ v.has_others || not (a || (b || (c || (d || (e || (f || false))))))
+    → (values_with_key a b c d e f x v).has_others ≡ v.has_others ||
+    not (a || (b || (c || (d || (e || (f || false))))))
 others_chosen true b c d e f x v = or_not_true v.has_others
 others_chosen false true c d e f x v = or_not_true v.has_others
 others_chosen false false true d e f x v = or_not_true v.has_others
@@ -197,7 +221,8 @@ others_chosen false false false false true f x v = or_not_true v.has_others
 others_chosen false false false false false true x v = or_not_true v.has_others
 others_chosen false false false false false false x v = or_not_false v.has_others
 
-others_step : (l : List ℕ) (d : Data) (v : EventValues) → (with_value l d v).has_others ≡ v.has_others || not (list_any (bytes_eq l) all_event_keys)
+others_step : (l : List ℕ) (d : Data) (v : EventValues) → (with_value l d v).has_others
+    ≡ v.has_others || not (list_any (bytes_eq l) all_event_keys)
 unfolding with_value
 others_step l d v = others_chosen _ _ _ _ _ _ d v
 
@@ -206,15 +231,19 @@ either_other true a b = refl
 either_other false true b = refl
 either_other false false b = refl
 
-others_walked : (v : EventValues) (ms : Members) → (walked v ms).has_others ≡ v.has_others || not (only_named all_event_keys ms)
+others_walked : (v : EventValues) (ms : Members) → (walked v ms).has_others ≡ v.has_others ||
+    not (only_named all_event_keys ms)
 unfolding only_named
 others_walked v no_members = or_not_true v.has_others
 others_walked v (member l d ms) =
-    others_walked (with_value l d v) ms ∙ ap (λ x. x || not (only_named all_event_keys ms)) (others_step l d v)
-    ∙ either_other v.has_others (list_any (bytes_eq l) all_event_keys) (only_named all_event_keys ms)
+    others_walked (with_value l d v) ms ∙ ap (λ x. x || not (only_named all_event_keys ms))
+    (others_step l d v)
+    ∙ either_other v.has_others (list_any (bytes_eq l) all_event_keys)
+    (only_named all_event_keys ms)
 
 -- the walk finds what look-ups find
-pub walked_is : (es : List Entry) → IsStrictlySortedBy string_cmp (keys_of es) → walked no_values (members_view es) ≡ event_values (members_view es)
+pub walked_is : (es : List Entry) → IsStrictlySortedBy string_cmp (keys_of es)
+    → walked no_values (members_view es) ≡ event_values (members_view es)
 unfolding event_values
 walked_is es sorted =
     let ms : Members = members_view es in

@@ -1,5 +1,6 @@
 -- The keys of an event by the values that stand at them.
-use Rattle.std.proofs.Common.{◌≡◌, ℕ, List, [], ◌∷◌, ◌++◌, Bool, true, false, not, ◌&&◌, ◌||◌, Some, Result, Ok, Err, refl, sym, ap, ap₂, ◌∙◌}
+use Rattle.std.proofs.Common.{◌≡◌, ℕ, List, [], ◌∷◌, ◌++◌, Bool, true, false, not, ◌&&◌, ◌||◌, Some}
+use Rattle.std.proofs.Common.{Result, Ok, Err, refl, sym, ap, ap₂, ◌∙◌}
 use Rattle.std.specs.Prelude.{codes, is_none, if◌then◌else◌}
 use Rattle.std.specs.Str.{bytes_eq}
 use Rattle.std.specs.List.{list_any}
@@ -8,7 +9,8 @@ use Rattle.usb_plan.specs.declared.entry_fault.EntryFault.{EntryFault}
 use Rattle.usb_plan.specs.declared.entry_fault.EntryFault.TheVariants.{BadValue}
 use Rattle.usb_plan.specs.declared.verb.Verb.{Verb}
 use Rattle.usb_plan.specs.declared.action.OtherKeys.{OtherKeys}
-use Rattle.usb_plan.specs.declared.action.OtherKeys.TheVariants.{Alone, Path, PathDevice, PathBytes, PathPackets}
+use Rattle.usb_plan.specs.declared.action.OtherKeys.TheVariants.{Alone, Path, PathDevice, PathBytes}
+use Rattle.usb_plan.specs.declared.action.OtherKeys.TheVariants.{PathPackets}
 use Rattle.usb_plan.specs.Keys.{only_named, keys_at}
 use Rattle.usb_plan.specs.EventMembers.{EventValues, event_values, all_event_keys}
 use Rattle.usb_plan.specs.Verb.{verb_at, action_of, other_keys}
@@ -18,7 +20,8 @@ use Rattle.usb_plan.specs.Event.{after_at, event_room, event_with, event_given, 
 use Rattle.usb_plan.proofs.EventWalks.{same_text, at_first, at_later}
 use Rattle.usb_device.proofs.Interface.{bytes_eq-sym}
 
-any_without : (front back : List (List ℕ)) (k l : List ℕ) → bytes_eq l k ≡ false → list_any (bytes_eq l) (front ++ back) ≡ list_any (bytes_eq l) (front ++ k ∷ back)
+any_without : (front back : List (List ℕ)) (k l : List ℕ) → bytes_eq l k ≡ false
+    → list_any (bytes_eq l) (front ++ back) ≡ list_any (bytes_eq l) (front ++ k ∷ back)
 any_without [] back k l h = rw h refl
 any_without (x ∷ front) back k l h = ap (λ b. bytes_eq l x || b) (any_without front back k l h)
 
@@ -34,14 +37,20 @@ not_not : (b : Bool) → b ≡ not (not b)
 not_not true = refl
 not_not false = refl
 
-narrowed_step : (front back : List (List ℕ)) (k l : List ℕ) (d : Data) (ms : Members) → list_any (bytes_eq k) (front ++ back) ≡ false
+narrowed_step : (front back : List (List ℕ)) (k l : List ℕ) (d : Data) (ms : Members)
+    → list_any (bytes_eq k) (front ++ back) ≡ false
     → only_named (front ++ back) ms ≡ only_named (front ++ k ∷ back) ms && is_none (get_member k ms)
     → (b : Bool) → bytes_eq k l ≡ b
-    → list_any (bytes_eq l) (front ++ back) && only_named (front ++ back) ms ≡ (list_any (bytes_eq l) (front ++ k ∷ back) && only_named (front ++ k ∷ back) ms) && is_none (get_member k (member l d ms))
+    → list_any (bytes_eq l) (front ++ back) && only_named (front ++ back) ms
+    ≡ (list_any (bytes_eq l) (front ++ k ∷ back) && only_named (front ++ k ∷ back) ms) &&
+    is_none (get_member k (member l d ms))
 narrowed_step front back k l d ms none rest true same =
-    let gone : list_any (bytes_eq l) (front ++ back) ≡ false = ap (λ x. list_any (bytes_eq x) (front ++ back)) (same_text k l same) ∙ none in
-    let all : Bool = list_any (bytes_eq l) (front ++ k ∷ back) && only_named (front ++ k ∷ back) ms in
-    ap (λ b. b && only_named (front ++ back) ms) gone ∙ and_no all ∙ ap (λ x. all && is_none x) (sym (at_first k l d ms same))
+    let gone : list_any (bytes_eq l) (front ++ back) ≡ false =
+    ap (λ x. list_any (bytes_eq x) (front ++ back)) (same_text k l same) ∙ none in
+    let all : Bool = list_any (bytes_eq l) (front ++ k ∷ back) && only_named (front ++ k ∷ back)
+    ms in
+    ap (λ b. b && only_named (front ++ back) ms) gone ∙ and_no all
+    ∙ ap (λ x. all && is_none x) (sym (at_first k l d ms same))
 narrowed_step front back k l d ms none rest false other =
     let here : Bool = list_any (bytes_eq l) (front ++ k ∷ back) in
     let later : Bool = only_named (front ++ k ∷ back) ms in
@@ -50,32 +59,45 @@ narrowed_step front back k l d ms none rest false other =
     ∙ ap (λ x. (here && later) && is_none x) (sym (at_later k l d ms other))
 
 -- one name fewer
-narrowed : (front back : List (List ℕ)) (k : List ℕ) (ms : Members) → list_any (bytes_eq k) (front ++ back) ≡ false
+narrowed : (front back : List (List ℕ)) (k : List ℕ) (ms : Members)
+    → list_any (bytes_eq k) (front ++ back) ≡ false
     → only_named (front ++ back) ms ≡ only_named (front ++ k ∷ back) ms && is_none (get_member k ms)
 unfolding only_named
 narrowed front back k no_members none = refl
-narrowed front back k (member l d ms) none = narrowed_step front back k l d ms none (narrowed front back k ms none) _ refl
+narrowed front back k (member l d ms) none =
+    narrowed_step front back k l d ms none (narrowed front back k ms none) _ refl
 
 -- the keys of one table
-without_packets : (ms : Members) → only_named (codes "do" ∷ codes "after" ∷ codes "path" ∷ codes "device" ∷ codes "bytes" ∷ []) ms ≡ not (event_values ms).has_others && is_none (event_values ms).packets
+without_packets : (ms : Members) → only_named (codes "do" ∷ codes "after" ∷ codes "path" ∷
+    codes "device" ∷ codes "bytes" ∷ []) ms ≡ not (event_values ms).has_others &&
+    is_none (event_values ms).packets
 unfolding event_values
 without_packets ms =
-    narrowed (codes "do" ∷ codes "after" ∷ codes "path" ∷ codes "device" ∷ codes "bytes" ∷ []) [] (codes "packets") ms refl
-    ∙ ap (λ b. b && is_none (get_member (codes "packets") ms)) (not_not (only_named all_event_keys ms))
+    narrowed (codes "do" ∷ codes "after" ∷ codes "path" ∷ codes "device" ∷ codes "bytes" ∷ []) []
+    (codes "packets") ms refl
+    ∙ ap (λ b. b && is_none (get_member (codes "packets") ms))
+    (not_not (only_named all_event_keys ms))
 
-without_bytes : (ms : Members) → only_named (codes "do" ∷ codes "after" ∷ codes "path" ∷ codes "device" ∷ codes "packets" ∷ []) ms ≡ not (event_values ms).has_others && is_none (event_values ms).bytes
+without_bytes : (ms : Members) → only_named (codes "do" ∷ codes "after" ∷ codes "path" ∷
+    codes "device" ∷ codes "packets" ∷ []) ms ≡ not (event_values ms).has_others &&
+    is_none (event_values ms).bytes
 unfolding event_values
 without_bytes ms =
-    narrowed (codes "do" ∷ codes "after" ∷ codes "path" ∷ codes "device" ∷ []) (codes "packets" ∷ []) (codes "bytes") ms refl
-    ∙ ap (λ b. b && is_none (get_member (codes "bytes") ms)) (not_not (only_named all_event_keys ms))
+    narrowed (codes "do" ∷ codes "after" ∷ codes "path" ∷ codes "device" ∷ [])
+    (codes "packets" ∷ []) (codes "bytes") ms refl
+    ∙ ap (λ b. b && is_none (get_member (codes "bytes") ms))
+    (not_not (only_named all_event_keys ms))
 
-path_device_keys : (ms : Members) → only_named (event_keys (codes "path" ∷ codes "device" ∷ [])) ms ≡ verb_fits PathDevice (event_values ms)
+path_device_keys : (ms : Members) → only_named (event_keys (codes "path" ∷ codes "device" ∷ [])) ms
+    ≡ verb_fits PathDevice (event_values ms)
 unfolding event_values verb_fits
 path_device_keys ms =
-    narrowed (codes "do" ∷ codes "after" ∷ codes "path" ∷ codes "device" ∷ []) [] (codes "bytes") ms refl
+    narrowed (codes "do" ∷ codes "after" ∷ codes "path" ∷ codes "device" ∷ []) [] (codes "bytes") ms
+    refl
     ∙ ap (λ b. b && is_none (get_member (codes "bytes") ms)) (without_packets ms)
 
-path_fits : (ms : Members) → only_named (event_keys (codes "path" ∷ [])) ms ≡ verb_fits Path (event_values ms)
+path_fits : (ms : Members) → only_named (event_keys (codes "path" ∷ [])) ms
+    ≡ verb_fits Path (event_values ms)
 unfolding event_values verb_fits
 path_fits ms =
     narrowed (codes "do" ∷ codes "after" ∷ codes "path" ∷ []) [] (codes "device") ms refl
@@ -87,22 +109,27 @@ alone_fits ms =
     narrowed (codes "do" ∷ codes "after" ∷ []) [] (codes "path") ms refl
     ∙ ap (λ b. b && is_none (get_member (codes "path") ms)) (path_fits ms)
 
-bytes_fits : (ms : Members) → only_named (event_keys (codes "path" ∷ codes "bytes" ∷ [])) ms ≡ verb_fits PathBytes (event_values ms)
+bytes_fits : (ms : Members) → only_named (event_keys (codes "path" ∷ codes "bytes" ∷ [])) ms
+    ≡ verb_fits PathBytes (event_values ms)
 unfolding event_values verb_fits
 bytes_fits ms =
-    narrowed (codes "do" ∷ codes "after" ∷ codes "path" ∷ []) (codes "bytes" ∷ []) (codes "device") ms refl
+    narrowed (codes "do" ∷ codes "after" ∷ codes "path" ∷ []) (codes "bytes" ∷ []) (codes "device")
+    ms refl
     ∙ ap (λ b. b && is_none (get_member (codes "device") ms)) (without_packets ms)
 
-packets_fits : (ms : Members) → only_named (event_keys (codes "path" ∷ codes "packets" ∷ [])) ms ≡ verb_fits PathPackets (event_values ms)
+packets_fits : (ms : Members) → only_named (event_keys (codes "path" ∷ codes "packets" ∷ [])) ms
+    ≡ verb_fits PathPackets (event_values ms)
 unfolding event_values verb_fits
 packets_fits ms =
-    narrowed (codes "do" ∷ codes "after" ∷ codes "path" ∷ []) (codes "packets" ∷ []) (codes "device") ms refl
+    narrowed (codes "do" ∷ codes "after" ∷ codes "path" ∷ []) (codes "packets" ∷ [])
+    (codes "device") ms refl
     ∙ ap (λ b. b && is_none (get_member (codes "device") ms)) (without_bytes ms)
 
 answer : Bool → Result (Unit {0}) EntryFault
 answer b = if b then Ok tt else Err BadValue
 
-pub keys_given-event_values : (keys : OtherKeys) (ms : Members) → keys_given keys (event_values ms) ≡ keys_of keys ms
+pub keys_given-event_values : (keys : OtherKeys) (ms : Members) → keys_given keys (event_values ms)
+    ≡ keys_of keys ms
 unfolding keys_given keys_of keys_at answer
 keys_given-event_values Alone ms = ap answer (sym (alone_fits ms))
 keys_given-event_values Path ms = ap answer (sym (path_fits ms))
@@ -111,18 +138,24 @@ keys_given-event_values PathBytes ms = ap answer (sym (bytes_fits ms))
 keys_given-event_values PathPackets ms = ap answer (sym (packets_fits ms))
 
 -- an event by the values of its table
-pub event_in_refused : (scene : SceneData) (count : ℕ) (ms : Members) (v : EventValues) (fault : EntryFault) → v ≡ event_values ms
+pub event_in_refused : (scene : SceneData) (count : ℕ) (ms : Members) (v : EventValues)
+    (fault : EntryFault) → v ≡ event_values ms
     → verb_at v.verb ≡ Err fault → event_in scene count (Some ms) ≡ Err fault
 unfolding event_in event_values
 event_in_refused scene count ms v fault same is =
-    let told : verb_at (get_member (codes "do") ms) ≡ Err fault = ap (λ x. verb_at x.verb) (sym same) ∙ is in
+    let told : verb_at (get_member (codes "do") ms) ≡ Err fault =
+    ap (λ x. verb_at x.verb) (sym same) ∙ is in
     rw told refl
 
-pub event_in_given : (scene : SceneData) (count : ℕ) (ms : Members) (v : EventValues) (verb : Verb) → v ≡ event_values ms
+pub event_in_given : (scene : SceneData) (count : ℕ) (ms : Members) (v : EventValues) (verb : Verb)
+    → v ≡ event_values ms
     → verb_at v.verb ≡ Ok verb → event_in scene count (Some ms) ≡ event_given verb scene count v
 unfolding event_in event_of event_given event_values
 event_in_given scene count ms v verb same is =
-    let told : verb_at (get_member (codes "do") ms) ≡ Ok verb = ap (λ x. verb_at x.verb) (sym same) ∙ is in
+    let told : verb_at (get_member (codes "do") ms) ≡ Ok verb = ap (λ x. verb_at x.verb) (sym same)
+    ∙ is in
     let of : event_of verb scene count ms ≡ event_given verb scene count (event_values ms) =
-    ap (λ keys. event_with (action_of verb scene (event_values ms)) (after_at (get_member (codes "after") ms)) keys (event_room count)) (sym (keys_given-event_values (other_keys verb) ms)) in
+    ap (λ keys. event_with (action_of verb scene (event_values ms))
+    (after_at (get_member (codes "after") ms)) keys (event_room count))
+    (sym (keys_given-event_values (other_keys verb) ms)) in
     rw told (of ∙ ap (event_given verb scene count) (sym same))

@@ -1,8 +1,12 @@
 -- What was read is what is spelled, but where memory was refused.
-use Rattle.std.proofs.Common.{◌≡◌, ◌≢◌, ℕ, List, [], ◌∷◌, ◌++◌, Bool, Option, Some, None, Result, Ok, Err, refl, ap, sym, ◌∙◌, IsErrAnd}
+use Rattle.std.proofs.Common.{◌≡◌, ◌≢◌, ℕ, List, [], ◌∷◌, ◌++◌, Bool, Option, Some, None, Result}
+use Rattle.std.proofs.Common.{Ok, Err, refl, ap, sym, ◌∙◌, IsErrAnd}
 use Rattle.usb_device.specs.Spec.{Hub}
 use Rattle.usb_plan.specs.declared.entry_fault.EntryFault.{EntryFault}
-use Rattle.usb_plan.specs.declared.entry_fault.EntryFault.TheVariants.{Memory, MissingKey, BadValue, BadHex, UnknownDevice, BadPath, PortTaken, PortEmpty}
+use Rattle.usb_plan.specs.declared.entry_fault.EntryFault.TheVariants.{Memory, MissingKey, BadValue}
+use Rattle.usb_plan.specs.declared.entry_fault.EntryFault.TheVariants.{BadHex, UnknownDevice}
+use Rattle.usb_plan.specs.declared.entry_fault.EntryFault.TheVariants.{BadPath, PortTaken}
+use Rattle.usb_plan.specs.declared.entry_fault.EntryFault.TheVariants.{PortEmpty}
 use Rattle.usb_plan.specs.declared.fault.Place.{Place}
 use Rattle.usb_plan.specs.declared.fault.PlanFault.{PlanFault}
 use Rattle.usb_plan.specs.declared.fault.PlanFault.TheVariants as fault
@@ -12,7 +16,8 @@ use Rattle.usb_plan.specs.declared.quirks.Quirks.{Quirks}
 use Rattle.usb_plan.specs.declared.bulk.Bulk.{Bulk}
 use Rattle.usb_world.specs.declared.event.Action.{Action}
 use Rattle.toml.specs.Data.{Data}
-use Rattle.usb_plan.specs.EntryFault.{fault_in_part, sooner, least_fault, least, at, entry_at, ◌>>=◌, EqualUnless}
+use Rattle.usb_plan.specs.EntryFault.{fault_in_part, sooner, least_fault, least, at, entry_at}
+use Rattle.usb_plan.specs.EntryFault.{◌>>=◌, EqualUnless}
 use Rattle.usb_plan.specs.Action.{send}
 use Rattle.usb_plan.specs.Event.{event_with}
 use Rattle.usb_plan.specs.Bulk.{bulk_with}
@@ -24,26 +29,34 @@ pub equal_unless : {A E : Type 0} (m : E) (r s : Result A E) → EqualUnless m r
 equal_unless m (Ok x) s h ne = sym h
 equal_unless m (Err e) s h ne = sym (h (λ same. ne (ap Err same)))
 
-pub unless_equal : {A E : Type 0} (m : E) (r s : Result A E) → (r ≢ Err m → r ≡ s) → EqualUnless m r s
+pub unless_equal : {A E : Type 0} (m : E) (r s : Result A E) → (r ≢ Err m → r ≡ s)
+    → EqualUnless m r s
 unless_equal m (Ok x) s h = sym (h (λ e. cc e))
 unless_equal m (Err e) s h = λ ne. sym (h (λ same. ne (cc same)))
 
-pub unless_ok : {A E : Type 0} (m : E) (r s : Result A E) (x : A) → EqualUnless m r s → r ≡ Ok x → s ≡ Ok x
+pub unless_ok : {A E : Type 0} (m : E) (r s : Result A E) (x : A) → EqualUnless m r s → r ≡ Ok x
+    → s ≡ Ok x
 unless_ok m (Ok y) s x h e = h ∙ e
 unless_ok m (Err k) s x h e = cc
 
-pub unless_err : {A E : Type 0} (m : E) (r s : Result A E) (k : E) → EqualUnless m r s → r ≡ Err k → k ≢ m → s ≡ Err k
+pub unless_err : {A E : Type 0} (m : E) (r s : Result A E) (k : E) → EqualUnless m r s → r ≡ Err k
+    → k ≢ m → s ≡ Err k
 unless_err m (Ok y) s k h e = cc
 unless_err m (Err l) s k h e = let same : l ≡ k = cc e in rw (← same) h
 
-pub unless_then : {A E : Type 0} (m : E) (r t s : Result A E) → EqualUnless m r t → EqualUnless m t s → EqualUnless m r s
-unless_then m r t s h g = unless_equal m r s (λ ne. let first = equal_unless m r t h ne in first ∙ equal_unless m t s g (λ e. ne (first ∙ e)))
+pub unless_then : {A E : Type 0} (m : E) (r t s : Result A E) → EqualUnless m r t
+    → EqualUnless m t s → EqualUnless m r s
+unless_then m r t s h g = unless_equal m r s (λ ne. let first = equal_unless m r t h ne in first
+    ∙ equal_unless m t s g (λ e. ne (first ∙ e)))
 
 -- what takes refused memory on
-pub unless_through : {A B E F : Type 0} (m : E) (n : F) (f : Result A E → Result B F) (r s : Result A E) → f (Err m) ≡ Err n → EqualUnless m r s → EqualUnless n (f r) (f s)
-unless_through m n f r s keeps h = unless_equal n (f r) (f s) (λ ne. ap f (equal_unless m r s h (λ e. ne (ap f e ∙ keeps))))
+pub unless_through : {A B E F : Type 0} (m : E) (n : F) (f : Result A E → Result B F)
+    (r s : Result A E) → f (Err m) ≡ Err n → EqualUnless m r s → EqualUnless n (f r) (f s)
+unless_through m n f r s keeps h = unless_equal n (f r) (f s)
+    (λ ne. ap f (equal_unless m r s h (λ e. ne (ap f e ∙ keeps))))
 
-bind_err : {A B E : Type 0} (r : Result A E) (f : A → Result B E) (e : E) → r ≡ Err e → r >>= f ≡ Err e
+bind_err : {A B E : Type 0} (r : Result A E) (f : A → Result B E) (e : E) → r ≡ Err e
+    → r >>= f ≡ Err e
 bind_err (Ok x) f e h = cc
 bind_err (Err k) f e h = cc
 
@@ -80,91 +93,155 @@ memory-sooner (Ok u) = refl
 memory-sooner (Err k) = ap Err (memory-least k)
 
 -- refused memory is told before all
-pub least_fault-memory : (before after : List (Option EntryFault)) → least_fault (before ++ Some Memory ∷ after) ≡ Err Memory
+pub least_fault-memory : (before after : List (Option EntryFault))
+    → least_fault (before ++ Some Memory ∷ after) ≡ Err Memory
 unfolding least_fault
 least_fault-memory [] after = memory-sooner (least_fault after)
-least_fault-memory (f ∷ before) after = ap (sooner f) (least_fault-memory before after) ∙ sooner-memory f
+least_fault-memory (f ∷ before) after = ap (sooner f) (least_fault-memory before after)
+    ∙ sooner-memory f
 
-pub hub_with_unless : (ports : ℕ) (read spelled : Result (List ℕ) EntryFault) → EqualUnless Memory read spelled → EqualUnless Memory (hub_with ports read) (hub_with ports spelled)
+pub hub_with_unless : (ports : ℕ) (read spelled : Result (List ℕ) EntryFault)
+    → EqualUnless Memory read spelled → EqualUnless Memory (hub_with ports read)
+    (hub_with ports spelled)
 unfolding hub_with
-hub_with_unless ports read spelled h = unless_through Memory Memory (hub_with ports) read spelled refl h
+hub_with_unless ports read spelled h = unless_through Memory Memory (hub_with ports) read spelled
+    refl h
 
 send-memory : (path : Result (List ℕ) EntryFault) → send path (Err Memory) ≡ Err Memory
 unfolding send fault_in_part
 send-memory path = bind_err _ _ Memory (least_fault-memory (fault_in_part path ∷ []) [])
 
-pub send_unless : (path bytes b : Result (List ℕ) EntryFault) → EqualUnless Memory bytes b → EqualUnless Memory (send path bytes) (send path b)
+pub send_unless : (path bytes b : Result (List ℕ) EntryFault) → EqualUnless Memory bytes b
+    → EqualUnless Memory (send path bytes) (send path b)
 send_unless path bytes b h = unless_through Memory Memory (send path) bytes b (send-memory path) h
 
-event_with-memory : (after : Result ℕ EntryFault) (keys room : Result (Unit {0}) EntryFault) → event_with (Err Memory) after keys room ≡ Err Memory
+event_with-memory : (after : Result ℕ EntryFault) (keys room : Result (Unit {0}) EntryFault)
+    → event_with (Err Memory) after keys room ≡ Err Memory
 unfolding event_with fault_in_part
-event_with-memory after keys room = bind_err _ _ Memory (least_fault-memory [] (fault_in_part after ∷ fault_in_part keys ∷ fault_in_part room ∷ []))
+event_with-memory after keys room = bind_err _ _ Memory
+    (least_fault-memory [] (fault_in_part after ∷ fault_in_part keys ∷ fault_in_part room ∷ []))
 
-pub event_unless : (action a : Result Action EntryFault) (after : Result ℕ EntryFault) (keys room : Result (Unit {0}) EntryFault) → EqualUnless Memory action a → EqualUnless Memory (event_with action after keys room) (event_with a after keys room)
-event_unless action a after keys room h = unless_through Memory Memory (λ x. event_with x after keys room) action a (event_with-memory after keys room) h
+pub event_unless : (action a : Result Action EntryFault) (after : Result ℕ EntryFault)
+    (keys room : Result (Unit {0}) EntryFault) → EqualUnless Memory action a
+    → EqualUnless Memory (event_with action after keys room) (event_with a after keys room)
+event_unless action a after keys room h =
+    unless_through Memory Memory (λ x. event_with x after keys room) action a
+    (event_with-memory after keys room) h
 
-bulk_with-memory : (halt_after : Result (Option ℕ) EntryFault) → bulk_with (Err Memory) halt_after ≡ Err Memory
+bulk_with-memory : (halt_after : Result (Option ℕ) EntryFault) → bulk_with (Err Memory) halt_after
+    ≡ Err Memory
 unfolding bulk_with fault_in_part
-bulk_with-memory halt_after = bind_err _ _ Memory (least_fault-memory [] (fault_in_part halt_after ∷ []))
+bulk_with-memory halt_after = bind_err _ _ Memory
+    (least_fault-memory [] (fault_in_part halt_after ∷ []))
 
-pub bulk_unless : (source s : Result (List ℕ) EntryFault) (halt_after : Result (Option ℕ) EntryFault) → EqualUnless Memory source s → EqualUnless Memory (bulk_with source halt_after) (bulk_with s halt_after)
-bulk_unless source s halt_after h = unless_through Memory Memory (λ x. bulk_with x halt_after) source s (bulk_with-memory halt_after) h
+pub bulk_unless : (source s : Result (List ℕ) EntryFault)
+    (halt_after : Result (Option ℕ) EntryFault) → EqualUnless Memory source s
+    → EqualUnless Memory (bulk_with source halt_after) (bulk_with s halt_after)
+bulk_unless source s halt_after h = unless_through Memory Memory (λ x. bulk_with x halt_after)
+    source s (bulk_with-memory halt_after) h
 
-device_texts-configs : (strings : Result Texts EntryFault) → device_texts_with (Err Memory) strings ≡ Err Memory
+device_texts-configs : (strings : Result Texts EntryFault) → device_texts_with (Err Memory) strings
+    ≡ Err Memory
 unfolding device_texts_with fault_in_part
-device_texts-configs strings = bind_err _ _ Memory (least_fault-memory [] (fault_in_part strings ∷ []))
+device_texts-configs strings = bind_err _ _ Memory
+    (least_fault-memory [] (fault_in_part strings ∷ []))
 
-device_texts-strings : (configs : Result Texts EntryFault) → device_texts_with configs (Err Memory) ≡ Err Memory
+device_texts-strings : (configs : Result Texts EntryFault) → device_texts_with configs (Err Memory)
+    ≡ Err Memory
 unfolding device_texts_with fault_in_part
-device_texts-strings configs = bind_err _ _ Memory (least_fault-memory (fault_in_part configs ∷ []) [])
+device_texts-strings configs = bind_err _ _ Memory
+    (least_fault-memory (fault_in_part configs ∷ []) [])
 
-pub device_texts_unless : (configs c strings s : Result Texts EntryFault) → EqualUnless Memory configs c → EqualUnless Memory strings s → EqualUnless Memory (device_texts_with configs strings) (device_texts_with c s)
+pub device_texts_unless : (configs c strings s : Result Texts EntryFault)
+    → EqualUnless Memory configs c → EqualUnless Memory strings s
+    → EqualUnless Memory (device_texts_with configs strings) (device_texts_with c s)
 device_texts_unless configs c strings s h g =
-    unless_then Memory _ (device_texts_with c strings) _ (unless_through Memory Memory (λ x. device_texts_with x strings) configs c (device_texts-configs strings) h)
+    unless_then Memory _ (device_texts_with c strings) _
+    (unless_through Memory Memory (λ x. device_texts_with x strings) configs c
+    (device_texts-configs strings) h)
     (unless_through Memory Memory (device_texts_with c) strings s (device_texts-strings c) g)
 
-identity-name : (low : Result Bool EntryFault) (descriptor : Result (List ℕ) EntryFault) (class : Result (Unit {0}) EntryFault) (hub : Result (Option Hub) EntryFault) → identity_with (Err Memory) low descriptor class hub ≡ Err Memory
+identity-name : (low : Result Bool EntryFault) (descriptor : Result (List ℕ) EntryFault)
+    (class : Result (Unit {0}) EntryFault) (hub : Result (Option Hub) EntryFault)
+    → identity_with (Err Memory) low descriptor class hub ≡ Err Memory
 unfolding identity_with fault_in_part
-identity-name low descriptor class hub = bind_err _ _ Memory (least_fault-memory [] (fault_in_part low ∷ fault_in_part descriptor ∷ fault_in_part class ∷ fault_in_part hub ∷ []))
+identity-name low descriptor class hub =
+    bind_err _ _ Memory (least_fault-memory [] (fault_in_part low ∷ fault_in_part descriptor ∷
+    fault_in_part class ∷ fault_in_part hub ∷ []))
 
-identity-descriptor : (name : Result (List ℕ) EntryFault) (low : Result Bool EntryFault) (class : Result (Unit {0}) EntryFault) (hub : Result (Option Hub) EntryFault) → identity_with name low (Err Memory) class hub ≡ Err Memory
+identity-descriptor : (name : Result (List ℕ) EntryFault) (low : Result Bool EntryFault)
+    (class : Result (Unit {0}) EntryFault) (hub : Result (Option Hub) EntryFault)
+    → identity_with name low (Err Memory) class hub ≡ Err Memory
 unfolding identity_with fault_in_part
-identity-descriptor name low class hub = bind_err _ _ Memory (least_fault-memory (fault_in_part name ∷ fault_in_part low ∷ []) (fault_in_part class ∷ fault_in_part hub ∷ []))
+identity-descriptor name low class hub =
+    bind_err _ _ Memory (least_fault-memory (fault_in_part name ∷ fault_in_part low ∷ [])
+    (fault_in_part class ∷ fault_in_part hub ∷ []))
 
-identity-hub : (name : Result (List ℕ) EntryFault) (low : Result Bool EntryFault) (descriptor : Result (List ℕ) EntryFault) (class : Result (Unit {0}) EntryFault) → identity_with name low descriptor class (Err Memory) ≡ Err Memory
+identity-hub : (name : Result (List ℕ) EntryFault) (low : Result Bool EntryFault)
+    (descriptor : Result (List ℕ) EntryFault) (class : Result (Unit {0}) EntryFault)
+    → identity_with name low descriptor class (Err Memory) ≡ Err Memory
 unfolding identity_with fault_in_part
-identity-hub name low descriptor class = bind_err _ _ Memory (least_fault-memory (fault_in_part name ∷ fault_in_part low ∷ fault_in_part descriptor ∷ fault_in_part class ∷ []) [])
+identity-hub name low descriptor class =
+    bind_err _ _ Memory (least_fault-memory (fault_in_part name ∷ fault_in_part low ∷ fault_in_part
+    descriptor ∷ fault_in_part class ∷ []) [])
 
 -- the class is asked of the descriptor that was read
-pub identity_unless : (name n : Result (List ℕ) EntryFault) (low : Result Bool EntryFault) (descriptor d : Result (List ℕ) EntryFault) (ports : Option Data) (hub h : Result (Option Hub) EntryFault) → EqualUnless Memory name n → EqualUnless Memory descriptor d → EqualUnless Memory hub h
-    → EqualUnless Memory (identity_with name low descriptor (class_at ports low descriptor) hub) (identity_with n low d (class_at ports low d) h)
+pub identity_unless : (name n : Result (List ℕ) EntryFault) (low : Result Bool EntryFault)
+    (descriptor d : Result (List ℕ) EntryFault) (ports : Option Data)
+    (hub h : Result (Option Hub) EntryFault) → EqualUnless Memory name n
+    → EqualUnless Memory descriptor d → EqualUnless Memory hub h
+    → EqualUnless Memory (identity_with name low descriptor (class_at ports low descriptor) hub)
+    (identity_with n low d (class_at ports low d) h)
 identity_unless name n low descriptor d ports hub h name_is descriptor_is hub_is =
     unless_then Memory _ (identity_with n low descriptor (class_at ports low descriptor) hub) _
-    (unless_through Memory Memory (λ x. identity_with x low descriptor (class_at ports low descriptor) hub) name n (identity-name low descriptor (class_at ports low descriptor) hub) name_is)
+    (unless_through Memory Memory (λ x. identity_with x low descriptor
+    (class_at ports low descriptor) hub) name n
+    (identity-name low descriptor (class_at ports low descriptor) hub) name_is)
     (unless_then Memory _ (identity_with n low d (class_at ports low d) hub) _
-    (unless_through Memory Memory (λ x. identity_with n low x (class_at ports low x) hub) descriptor d (identity-descriptor n low (class_at ports low (Err Memory)) hub) descriptor_is)
-    (unless_through Memory Memory (identity_with n low d (class_at ports low d)) hub h (identity-hub n low d (class_at ports low d)) hub_is))
+    (unless_through Memory Memory (λ x. identity_with n low x (class_at ports low x) hub) descriptor
+    d (identity-descriptor n low (class_at ports low (Err Memory)) hub) descriptor_is)
+    (unless_through Memory Memory (identity_with n low d (class_at ports low d)) hub h
+    (identity-hub n low d (class_at ports low d)) hub_is))
 
-device-identity : (texts : Result DeviceTexts EntryFault) (quirks : Result Quirks EntryFault) (bulk : Result Bulk EntryFault) (keys room : Result (Unit {0}) EntryFault) → device_with (Err Memory) texts quirks bulk keys room ≡ Err Memory
+device-identity : (texts : Result DeviceTexts EntryFault) (quirks : Result Quirks EntryFault)
+    (bulk : Result Bulk EntryFault) (keys room : Result (Unit {0}) EntryFault)
+    → device_with (Err Memory) texts quirks bulk keys room ≡ Err Memory
 unfolding device_with fault_in_part
-device-identity texts quirks bulk keys room = bind_err _ _ Memory (least_fault-memory [] (fault_in_part texts ∷ fault_in_part quirks ∷ fault_in_part bulk ∷ fault_in_part keys ∷ fault_in_part room ∷ []))
+device-identity texts quirks bulk keys room =
+    bind_err _ _ Memory (least_fault-memory [] (fault_in_part texts ∷ fault_in_part quirks ∷
+    fault_in_part bulk ∷ fault_in_part keys ∷ fault_in_part room ∷ []))
 
-device-texts : (identity : Result Identity EntryFault) (quirks : Result Quirks EntryFault) (bulk : Result Bulk EntryFault) (keys room : Result (Unit {0}) EntryFault) → device_with identity (Err Memory) quirks bulk keys room ≡ Err Memory
+device-texts : (identity : Result Identity EntryFault) (quirks : Result Quirks EntryFault)
+    (bulk : Result Bulk EntryFault) (keys room : Result (Unit {0}) EntryFault)
+    → device_with identity (Err Memory) quirks bulk keys room ≡ Err Memory
 unfolding device_with fault_in_part
-device-texts identity quirks bulk keys room = bind_err _ _ Memory (least_fault-memory (fault_in_part identity ∷ []) (fault_in_part quirks ∷ fault_in_part bulk ∷ fault_in_part keys ∷ fault_in_part room ∷ []))
+device-texts identity quirks bulk keys room =
+    bind_err _ _ Memory (least_fault-memory (fault_in_part identity ∷ [])
+    (fault_in_part quirks ∷ fault_in_part bulk ∷ fault_in_part keys ∷ fault_in_part room ∷ []))
 
-device-bulk : (identity : Result Identity EntryFault) (texts : Result DeviceTexts EntryFault) (quirks : Result Quirks EntryFault) (keys room : Result (Unit {0}) EntryFault) → device_with identity texts quirks (Err Memory) keys room ≡ Err Memory
+device-bulk : (identity : Result Identity EntryFault) (texts : Result DeviceTexts EntryFault)
+    (quirks : Result Quirks EntryFault) (keys room : Result (Unit {0}) EntryFault)
+    → device_with identity texts quirks (Err Memory) keys room ≡ Err Memory
 unfolding device_with fault_in_part
-device-bulk identity texts quirks keys room = bind_err _ _ Memory (least_fault-memory (fault_in_part identity ∷ fault_in_part texts ∷ fault_in_part quirks ∷ []) (fault_in_part keys ∷ fault_in_part room ∷ []))
+device-bulk identity texts quirks keys room =
+    bind_err _ _ Memory (least_fault-memory (fault_in_part identity ∷ fault_in_part texts ∷
+    fault_in_part quirks ∷ []) (fault_in_part keys ∷ fault_in_part room ∷ []))
 
-pub device_unless : (identity i : Result Identity EntryFault) (texts c : Result DeviceTexts EntryFault) (quirks : Result Quirks EntryFault) (bulk b : Result Bulk EntryFault) (keys room : Result (Unit {0}) EntryFault) → EqualUnless Memory identity i → EqualUnless Memory texts c → EqualUnless Memory bulk b
-    → EqualUnless Memory (device_with identity texts quirks bulk keys room) (device_with i c quirks b keys room)
+pub device_unless : (identity i : Result Identity EntryFault)
+    (texts c : Result DeviceTexts EntryFault) (quirks : Result Quirks EntryFault)
+    (bulk b : Result Bulk EntryFault) (keys room : Result (Unit {0}) EntryFault)
+    → EqualUnless Memory identity i → EqualUnless Memory texts c → EqualUnless Memory bulk b
+    → EqualUnless Memory (device_with identity texts quirks bulk keys room)
+    (device_with i c quirks b keys room)
 device_unless identity i texts c quirks bulk b keys room identity_is texts_is bulk_is =
     unless_then Memory _ (device_with i texts quirks bulk keys room) _
-    (unless_through Memory Memory (λ x. device_with x texts quirks bulk keys room) identity i (device-identity texts quirks bulk keys room) identity_is)
+    (unless_through Memory Memory (λ x. device_with x texts quirks bulk keys room) identity i
+    (device-identity texts quirks bulk keys room) identity_is)
     (unless_then Memory _ (device_with i c quirks bulk keys room) _
-    (unless_through Memory Memory (λ x. device_with i x quirks bulk keys room) texts c (device-texts i quirks bulk keys room) texts_is)
-    (unless_through Memory Memory (λ x. device_with i c quirks x keys room) bulk b (device-bulk i c quirks keys room) bulk_is))
+    (unless_through Memory Memory (λ x. device_with i x quirks bulk keys room) texts c
+    (device-texts i quirks bulk keys room) texts_is)
+    (unless_through Memory Memory (λ x. device_with i c quirks x keys room) bulk b
+    (device-bulk i c quirks keys room) bulk_is))
 
 texts-memory : (text : Result (List ℕ) EntryFault) → with_text (Err Memory) text ≡ Err Memory
 unfolding with_text fault_in_part
@@ -175,15 +252,19 @@ unfolding with_text fault_in_part
 text-memory texts = bind_err _ _ Memory (least_fault-memory (fault_in_part texts ∷ []) [])
 
 -- one text more, where neither was refused memory
-pub record WithTextIs (texts read : Result Texts EntryFault) (text t : Result (List ℕ) EntryFault) : Type 0 where
+pub record WithTextIs (texts read : Result Texts EntryFault) (text t : Result (List ℕ) EntryFault) :
+    Type 0 where
   pub with_text_is : read ≡ with_text texts t
   pub text_is : text ≡ t
   pub texts_read : texts ≢ Err Memory
 
-pub with_text_is : (texts read : Result Texts EntryFault) (text t : Result (List ℕ) EntryFault) → EqualUnless Memory read (with_text texts text) → EqualUnless Memory text t → read ≢ Err Memory → WithTextIs texts read text t
+pub with_text_is : (texts read : Result Texts EntryFault) (text t : Result (List ℕ) EntryFault)
+    → EqualUnless Memory read (with_text texts text) → EqualUnless Memory text t → read ≢ Err Memory
+    → WithTextIs texts read text t
 with_text_is texts read text t h g ne =
     let same = equal_unless Memory read (with_text texts text) h ne in
-    let is = equal_unless Memory text t g (λ e. ne (same ∙ (ap (with_text texts) e ∙ text-memory texts))) in
+    let is = equal_unless Memory text t g
+    (λ e. ne (same ∙ (ap (with_text texts) e ∙ text-memory texts))) in
     record {
       with_text_is = same ∙ ap (with_text texts) is;
       text_is = is;
@@ -191,17 +272,30 @@ with_text_is texts read text t h g ne =
     }
 
 -- a place is told of faults alone
-pub entry_at_unless : {A : Type 0} (place : Place) (read spelled : Result A EntryFault) → EqualUnless Memory read spelled → EqualUnless fault.Memory (entry_at place read) (entry_at place spelled)
+pub entry_at_unless : {A : Type 0} (place : Place) (read spelled : Result A EntryFault)
+    → EqualUnless Memory read spelled → EqualUnless fault.Memory (entry_at place read)
+    (entry_at place spelled)
 unfolding entry_at at
-entry_at_unless place read spelled h = unless_through Memory fault.Memory (entry_at place) read spelled refl h
+entry_at_unless place read spelled h = unless_through Memory fault.Memory (entry_at place) read
+    spelled refl h
 
-pub entry_at_told : {A : Type 0} (place : Place) (read spelled : Result A EntryFault) (answer : Result A PlanFault) (why : PlanFault) → EqualUnless Memory read spelled → answer ≡ entry_at place read → answer ≡ Err why → why ≢ fault.Memory → entry_at place spelled ≡ Err why
-entry_at_told place read spelled answer why same is err ne = unless_err fault.Memory (entry_at place read) (entry_at place spelled) why (entry_at_unless place read spelled same) (sym is ∙ err) ne
+pub entry_at_told : {A : Type 0} (place : Place) (read spelled : Result A EntryFault)
+    (answer : Result A PlanFault) (why : PlanFault) → EqualUnless Memory read spelled
+    → answer ≡ entry_at place read → answer ≡ Err why → why ≢ fault.Memory
+    → entry_at place spelled ≡ Err why
+entry_at_told place read spelled answer why same is err ne =
+    unless_err fault.Memory (entry_at place read) (entry_at place spelled) why
+    (entry_at_unless place read spelled same) (sym is ∙ err) ne
 
-pub entry_at_read : {A : Type 0} (place : Place) (read spelled : Result A EntryFault) (answer : Result A PlanFault) (x : A) → EqualUnless Memory read spelled → answer ≡ entry_at place read → answer ≡ Ok x → entry_at place spelled ≡ Ok x
-entry_at_read place read spelled answer x same is ok = unless_ok fault.Memory (entry_at place read) (entry_at place spelled) x (entry_at_unless place read spelled same) (sym is ∙ ok)
+pub entry_at_read : {A : Type 0} (place : Place) (read spelled : Result A EntryFault)
+    (answer : Result A PlanFault) (x : A) → EqualUnless Memory read spelled
+    → answer ≡ entry_at place read → answer ≡ Ok x → entry_at place spelled ≡ Ok x
+entry_at_read place read spelled answer x same is ok =
+    unless_ok fault.Memory (entry_at place read) (entry_at place spelled) x
+    (entry_at_unless place read spelled same) (sym is ∙ ok)
 
 -- an error that `?` hands on
-pub unless_handed : {A E : Type 0} (m : E) (r total : Result A E) (why : E) → IsErrAnd r (λ e. e ≡ why) → (why ≢ m → total ≡ Err why) → EqualUnless m r total
+pub unless_handed : {A E : Type 0} (m : E) (r total : Result A E) (why : E)
+    → IsErrAnd r (λ e. e ≡ why) → (why ≢ m → total ≡ Err why) → EqualUnless m r total
 unless_handed m (Ok x) total why same is = absurd same
 unless_handed m (Err e) total why same is = λ ne. is (λ h. ne (same ∙ h)) ∙ ap Err (sym same)

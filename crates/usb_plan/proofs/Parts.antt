@@ -1,12 +1,18 @@
 -- What follows where the parts of an entry are good.
-use Rattle.std.proofs.Common.{◌≡◌, ◌+◌, ◌-◌, ◌^◌, ℕ, ℤ, pos, negsuc, ◌<◌, ◌≤◌, List, [], ◌∷◌, length, Bool, true, false, ◌&&◌, ◌||◌, cond, Option, Some, None, ok_or, Result, Ok, Err, refl, ap, sym, subst, ◌∙◌, not, IfOk, IfSome, arith, codes, nat_le, nat_lt, ◌==◌, inl, inr, ◌⊎◌, slice_get, zero, suc}
+use Rattle.std.proofs.Common.{◌≡◌, ◌+◌, ◌-◌, ◌^◌, ℕ, ℤ, pos, negsuc, ◌<◌, ◌≤◌, List, [], ◌∷◌}
+use Rattle.std.proofs.Common.{length, Bool, true, false, ◌&&◌, ◌||◌, cond, Option, Some, None}
+use Rattle.std.proofs.Common.{ok_or, Result, Ok, Err, refl, ap, sym, subst, ◌∙◌, not, IfOk, IfSome}
+use Rattle.std.proofs.Common.{arith, codes, nat_le, nat_lt, ◌==◌, inl, inr, ◌⊎◌, slice_get, zero}
+use Rattle.std.proofs.Common.{suc}
 use Rattle.std.proofs.lemmas.Bool.{and_parts, or_parts, leb-true, ltb-true, lt-ltb, le-leb}
 use Rattle.std.proofs.lemmas.List.Quantifiers.{position-Some}
 use Rattle.std.specs.Str.{bytes_eq}
 use Rattle.toml.specs.Data.{Data, Members, get_member, as_integer}
 use Rattle.usb_port.specs.Path.{path_of}
 use Rattle.usb_plan.specs.declared.entry_fault.EntryFault.{EntryFault}
-use Rattle.usb_plan.specs.declared.entry_fault.EntryFault.TheVariants.{MissingKey, BadValue, UnknownDevice, BadPath, PortTaken, PortEmpty}
+use Rattle.usb_plan.specs.declared.entry_fault.EntryFault.TheVariants.{MissingKey, BadValue}
+use Rattle.usb_plan.specs.declared.entry_fault.EntryFault.TheVariants.{UnknownDevice, BadPath}
+use Rattle.usb_plan.specs.declared.entry_fault.EntryFault.TheVariants.{PortTaken, PortEmpty}
 use Rattle.usb_plan.specs.declared.plan.Top.{Top}
 use Rattle.usb_plan.specs.declared.device.Identity.{Identity}
 use Rattle.usb_plan.specs.declared.device.DeviceTexts.{DeviceTexts}
@@ -36,15 +42,20 @@ use Rattle.usb_plan.specs.Quirks.{quirks_with, quirks_of, naks_at}
 use Rattle.usb_plan.specs.Bulk.{bulk_with, read_bulk, halt_at, halt_in}
 use Rattle.usb_world.specs.PlanData.{is_taken, action_fits, event_fits, harm_fits, damage_fits}
 use Rattle.usb_plan.specs.Device as device
-use Rattle.usb_plan.specs.Device.{name_in, name_at, speed_at, descriptor_at, with_quirks, with_halt, with_hub, named_device, HubFits, FewNaks, HaltsLater, identity_with, identity_of, device_of_parts, device_with, read_device, device_in}
+use Rattle.usb_plan.specs.Device.{name_in, name_at, speed_at, descriptor_at, with_quirks, with_halt}
+use Rattle.usb_plan.specs.Device.{with_hub, named_device, HubFits, FewNaks, HaltsLater}
+use Rattle.usb_plan.specs.Device.{identity_with, identity_of, device_of_parts, device_with}
+use Rattle.usb_plan.specs.Device.{read_device, device_in}
 use Rattle.usb_plan.specs.Path.{read_path, free_path, taken_path}
 use Rattle.usb_plan.specs.Verb.{verb_at, other_keys, action_of}
 use Rattle.usb_plan.specs.EventMembers.{EventValues, event_values}
 use Rattle.usb_plan.specs.Action as action
-use Rattle.usb_plan.specs.Action.{device_index_at, bytes_at, packets_at, plug_of, unplug_of, send_of, receive_of, clear_of, keys_of}
+use Rattle.usb_plan.specs.Action.{device_index_at, bytes_at, packets_at, plug_of, unplug_of}
+use Rattle.usb_plan.specs.Action.{send_of, receive_of, clear_of, keys_of}
 use Rattle.usb_plan.specs.Event.{after_at, event_room, event_with, event_of, event_in}
 use Rattle.usb_plan.specs.Damage as damage
-use Rattle.usb_plan.specs.Damage.{attempt_at, packet_number, way_at, no_bit, flip_at, harm_of, harm_by, damage_with, read_damage, damage_entry}
+use Rattle.usb_plan.specs.Damage.{attempt_at, packet_number, way_at, no_bit, flip_at, harm_of}
+use Rattle.usb_plan.specs.Damage.{harm_by, damage_with, read_damage, damage_entry}
 use Rattle.usb_plan.specs.Plan.{limit_at, roots_at, top_with, top_of, TopFits}
 
 -- a value was good, and what was asked for after it
@@ -53,7 +64,8 @@ pub record IsGoodThen {A B E : Type 0} (r : Result A E) (f : A → Result B E) (
   pub good : r ≡ Ok value
   pub rest : f value ≡ Ok y
 
-pub bind_good : {A B E : Type 0} (r : Result A E) (f : A → Result B E) (y : B) → r >>= f ≡ Ok y → IsGoodThen r f y
+pub bind_good : {A B E : Type 0} (r : Result A E) (f : A → Result B E) (y : B) → r >>= f ≡ Ok y
+    → IsGoodThen r f y
 bind_good (Ok x) f y h = record { value = x; good = refl; rest = h }
 bind_good (Err e) f y h = cc
 
@@ -61,58 +73,73 @@ ok_or_some : {A : Type 0} (o : Option A) (k : EntryFault) (x : A) → ok_or o k 
 ok_or_some None k x h = cc
 ok_or_some (Some a) k x h = cc
 
-fault_in_part-none : {A : Type 0} (r : Result A EntryFault) → fault_in_part r ≡ None → (x : A) × (r ≡ Ok x)
+fault_in_part-none : {A : Type 0} (r : Result A EntryFault) → fault_in_part r ≡ None → (x : A)
+    × (r ≡ Ok x)
 unfolding fault_in_part
 fault_in_part-none (Ok x) h = (x, refl)
 fault_in_part-none (Err k) h = cc
 
-sooner_ok : (f : Option EntryFault) (others : Result (Unit {0}) EntryFault) (u : Unit {0}) → sooner f others ≡ Ok u → (f ≡ None) × (others ≡ Ok u)
+sooner_ok : (f : Option EntryFault) (others : Result (Unit {0}) EntryFault) (u : Unit {0})
+    → sooner f others ≡ Ok u → (f ≡ None) × (others ≡ Ok u)
 unfolding sooner
 sooner_ok None others u h = (refl, h)
 sooner_ok (Some k) (Ok v) u h = cc
 sooner_ok (Some k) (Err l) u h = cc
 
 -- where nothing is told, the part at an index is good
-good_part : {A : Type 0} (fs : List (Option EntryFault)) (u : Unit {0}) (i : ℕ) (r : Result A EntryFault) → least_fault fs ≡ Ok u → slice_get fs i ≡ Some (fault_in_part r) → (x : A) × (r ≡ Ok x)
+good_part : {A : Type 0} (fs : List (Option EntryFault)) (u : Unit {0}) (i : ℕ)
+    (r : Result A EntryFault) → least_fault fs ≡ Ok u → slice_get fs i ≡ Some (fault_in_part r)
+    → (x : A) × (r ≡ Ok x)
 unfolding least_fault
 good_part [] u i r h at = cc
-good_part (f ∷ fs) u zero r h at = let same : f ≡ fault_in_part r = cc at in fault_in_part-none r (sym same ∙ (sooner_ok f (least_fault fs) u h).0)
+good_part (f ∷ fs) u zero r h at = let same : f ≡ fault_in_part r = cc at in
+    fault_in_part-none r (sym same ∙ (sooner_ok f (least_fault fs) u h).0)
 good_part (f ∷ fs) u (suc i) r h at = good_part fs u i r (sooner_ok f (least_fault fs) u h).1 at
 
-pub entry_at_ok : {A : Type 0} (p : Place) (r : Result A EntryFault) (x : A) → entry_at p r ≡ Ok x → r ≡ Ok x
+pub entry_at_ok : {A : Type 0} (p : Place) (r : Result A EntryFault) (x : A) → entry_at p r ≡ Ok x
+    → r ≡ Ok x
 unfolding entry_at
 entry_at_ok p (Ok a) x h = cc
 entry_at_ok p (Err k) x h = cc
 
 -- which way a test went
-pub cond_cases : {X : Type 0} (b : Bool) (x y z : X) → cond b x y ≡ z → ((b ≡ true) × (x ≡ z)) ⊎ ((b ≡ false) × (y ≡ z))
+pub cond_cases : {X : Type 0} (b : Bool) (x y z : X) → cond b x y ≡ z → ((b ≡ true) × (x ≡ z))
+    ⊎ ((b ≡ false) × (y ≡ z))
 cond_cases true x y z h = inl (refl, h)
 cond_cases false x y z h = inr (refl, h)
 
-ok_if : {A : Type 0} (b : Bool) (x : Result A EntryFault) (k : EntryFault) (y : A) → cond b x (Err k) ≡ Ok y → (b ≡ true) × (x ≡ Ok y)
+ok_if : {A : Type 0} (b : Bool) (x : Result A EntryFault) (k : EntryFault) (y : A)
+    → cond b x (Err k) ≡ Ok y → (b ≡ true) × (x ≡ Ok y)
 ok_if true x k y h = (refl, h)
 ok_if false x k y h = cc
 
-ok_unless : {A : Type 0} (b : Bool) (x : Result A EntryFault) (k : EntryFault) (y : A) → cond b (Err k) x ≡ Ok y → (b ≡ false) × (x ≡ Ok y)
+ok_unless : {A : Type 0} (b : Bool) (x : Result A EntryFault) (k : EntryFault) (y : A)
+    → cond b (Err k) x ≡ Ok y → (b ≡ false) × (x ≡ Ok y)
 ok_unless false x k y h = (refl, h)
 ok_unless true x k y h = cc
 
-name_in_ok : (earlier : List Spec) (text n : List ℕ) → name_in earlier text ≡ Ok n → is_named earlier n ≡ false
+name_in_ok : (earlier : List Spec) (text n : List ℕ) → name_in earlier text ≡ Ok n
+    → is_named earlier n ≡ false
 unfolding name_in
 name_in_ok earlier text n h =
     let test = ok_unless (length text == 0 || is_named earlier text) (Ok text) BadValue n h in
     let same : text ≡ n = cc test.1 in
     rw (← same) ((or_parts (length text == 0) (is_named earlier text) test.0).1)
 
-name_at_ok : (earlier : List Spec) (o : Option Data) (n : List ℕ) → name_at earlier o ≡ Ok n → is_named earlier n ≡ false
+name_at_ok : (earlier : List Spec) (o : Option Data) (n : List ℕ) → name_at earlier o ≡ Ok n
+    → is_named earlier n ≡ false
 unfolding name_at
-name_at_ok earlier o n h = let text = bind_good (read_text o) _ n h in name_in_ok earlier text.value n text.rest
+name_at_ok earlier o n h = let text = bind_good (read_text o) _ n h in
+    name_in_ok earlier text.value n text.rest
 
-device_room_ok : (earlier : List Spec) (u : Unit {0}) → device.device_room earlier ≡ Ok u → length earlier < 127
+device_room_ok : (earlier : List Spec) (u : Unit {0}) → device.device_room earlier ≡ Ok u
+    → length earlier < 127
 unfolding device.device_room
-device_room_ok earlier u h = ltb-true (length earlier) 127 (ok_if (nat_lt (length earlier) 127) (Ok tt) BadValue u h).0
+device_room_ok earlier u h = ltb-true (length earlier) 127
+    (ok_if (nat_lt (length earlier) 127) (Ok tt) BadValue u h).0
 
-number_in_ok : (low high : ℕ) (o : Option ℤ) (n : ℕ) → number_in low high o ≡ Ok n → (low ≤ n) × (n ≤ high)
+number_in_ok : (low high : ℕ) (o : Option ℤ) (n : ℕ) → number_in low high o ≡ Ok n → (low ≤ n)
+    × (n ≤ high)
 unfolding number_in
 number_in_ok low high None n h = cc
 number_in_ok low high (Some (negsuc m)) n h = cc
@@ -122,11 +149,14 @@ number_in_ok low high (Some (pos m)) n h =
     let same : m ≡ n = cc test.1 in
     rw (← same) (leb-true low m parts.0, leb-true m high parts.1)
 
-pub number_at_ok : (low high : ℕ) (o : Option Data) (n : ℕ) → number_at low high o ≡ Ok n → (low ≤ n) × (n ≤ high)
+pub number_at_ok : (low high : ℕ) (o : Option Data) (n : ℕ) → number_at low high o ≡ Ok n
+    → (low ≤ n) × (n ≤ high)
 unfolding number_at
-number_at_ok low high o n h = let d = bind_good (ok_or o MissingKey) _ n h in number_in_ok low high (as_integer d.value) n d.rest
+number_at_ok low high o n h = let d = bind_good (ok_or o MissingKey) _ n h in
+    number_in_ok low high (as_integer d.value) n d.rest
 
-pub number_or_ok : (absent low high : ℕ) (o : Option Data) (n : ℕ) → absent ≤ high → number_or absent low high o ≡ Ok n → n ≤ high
+pub number_or_ok : (absent low high : ℕ) (o : Option Data) (n : ℕ) → absent ≤ high
+    → number_or absent low high o ≡ Ok n → n ≤ high
 unfolding number_or
 number_or_ok absent low high None n le h = let same : absent ≡ n = cc in rw (← same) le
 number_or_ok absent low high (Some d) n le h = (number_in_ok low high (as_integer d) n h).1
@@ -141,7 +171,8 @@ unfolding with_halt
 halt_name None s = refl
 halt_name (Some packets) s = refl
 
-device_of_parts_name : (i : Identity) (c : DeviceTexts) (q : Quirks) (b : Bulk) → (device_of_parts i c q b).name ≡ i.name
+device_of_parts_name : (i : Identity) (c : DeviceTexts) (q : Quirks) (b : Bulk)
+    → (device_of_parts i c q b).name ≡ i.name
 unfolding device_of_parts with_quirks
 device_of_parts_name i c q b = halt_name b.halt_after _ ∙ hub_name i.hub (named_device i c)
 
@@ -154,7 +185,8 @@ naks_at_ok : (o : Option Data) (n : ℕ) → naks_at o ≡ Ok n → n ≤ 200
 unfolding naks_at
 naks_at_ok o n h = number_or_ok 0 0 200 o n (omega arith) h
 
-quirks_with_ok : (a b c : Result Bool EntryFault) (n : Result ℕ EntryFault) (s : Result Stalls EntryFault) (q : Quirks) → quirks_with a b c n s ≡ Ok q → n ≡ Ok q.naks
+quirks_with_ok : (a b c : Result Bool EntryFault) (n : Result ℕ EntryFault)
+    (s : Result Stalls EntryFault) (q : Quirks) → quirks_with a b c n s ≡ Ok q → n ≡ Ok q.naks
 unfolding quirks_with
 quirks_with_ok a b c n s q h =
     let e0 = bind_good (least_fault _) _ q h in
@@ -168,22 +200,27 @@ quirks_with_ok a b c n s q h =
 
 pub quirks_of_ok : (ms : Members) (q : Quirks) → quirks_of ms ≡ Ok q → FewNaks q
 unfolding quirks_of
-quirks_of_ok ms q h = naks_at_ok (get_member (codes "naks") ms) q.naks (quirks_with_ok _ _ _ _ _ q h)
+quirks_of_ok ms q h = naks_at_ok (get_member (codes "naks") ms) q.naks
+    (quirks_with_ok _ _ _ _ _ q h)
 
-number_in_least : (low high : ℕ) (r : Result ℕ EntryFault) (o : Option ℤ) → r ≡ number_in low high o → IfOk r (λ n. low ≤ n)
+number_in_least : (low high : ℕ) (r : Result ℕ EntryFault) (o : Option ℤ) → r ≡ number_in low high o
+    → IfOk r (λ n. low ≤ n)
 number_in_least low high (Ok n) o h = (number_in_ok low high o n (sym h)).0
 number_in_least low high (Err k) o h = tt
 
-halt_in_ok : (r : Result ℕ EntryFault) (h : Option ℕ) → r >>= (λ n. Ok (Some n)) ≡ Ok h → IfOk r (λ n. 1 ≤ n) → IfSome h (λ n. 1 ≤ n)
+halt_in_ok : (r : Result ℕ EntryFault) (h : Option ℕ) → r >>= (λ n. Ok (Some n)) ≡ Ok h
+    → IfOk r (λ n. 1 ≤ n) → IfSome h (λ n. 1 ≤ n)
 halt_in_ok (Ok n) h e one = let same : Some n ≡ h = cc in rw (← same) one
 halt_in_ok (Err k) h e one = cc
 
 halt_at_ok : (o : Option Data) (h : Option ℕ) → halt_at o ≡ Ok h → IfSome h (λ n. 1 ≤ n)
 unfolding halt_at halt_in
 halt_at_ok None h e = let same : None ≡ h = cc in rw (← same) tt
-halt_at_ok (Some d) h e = halt_in_ok (number_in 1 65535 (as_integer d)) h e (number_in_least 1 65535 _ (as_integer d) refl)
+halt_at_ok (Some d) h e = halt_in_ok (number_in 1 65535 (as_integer d)) h e
+    (number_in_least 1 65535 _ (as_integer d) refl)
 
-bulk_with_ok : (s : Result (List ℕ) EntryFault) (p : Result (Option ℕ) EntryFault) (b : Bulk) → bulk_with s p ≡ Ok b → p ≡ Ok b.halt_after
+bulk_with_ok : (s : Result (List ℕ) EntryFault) (p : Result (Option ℕ) EntryFault) (b : Bulk)
+    → bulk_with s p ≡ Ok b → p ≡ Ok b.halt_after
 unfolding bulk_with
 bulk_with_ok s p b h =
     let e0 = bind_good (least_fault _) _ b h in
@@ -194,9 +231,12 @@ bulk_with_ok s p b h =
 
 pub read_bulk_ok : (ms : Members) (b : Bulk) → read_bulk ms ≡ Ok b → HaltsLater b
 unfolding read_bulk
-read_bulk_ok ms b h = halt_at_ok (get_member (codes "halt_after") ms) b.halt_after (bulk_with_ok _ _ b h)
+read_bulk_ok ms b h = halt_at_ok (get_member (codes "halt_after") ms) b.halt_after
+    (bulk_with_ok _ _ b h)
 
-class_at_ok : (ports descriptor : Option Data) (low : Bool) (bytes : List ℕ) (u : Unit {0}) (hub : Option Hub) → class_at ports (Ok low) (Ok bytes) ≡ Ok u → hub_at ports descriptor ≡ Ok hub → hub_fits low bytes hub ≡ true
+class_at_ok : (ports descriptor : Option Data) (low : Bool) (bytes : List ℕ) (u : Unit {0})
+    (hub : Option Hub) → class_at ports (Ok low) (Ok bytes) ≡ Ok u
+    → hub_at ports descriptor ≡ Ok hub → hub_fits low bytes hub ≡ true
 unfolding class_at hub_at no_hub is_low_speed is_other
 class_at_ok None None low bytes u hub c h = let same : None ≡ hub = cc h in rw (← same) refl
 class_at_ok None (Some d) low bytes u hub c h = cc h
@@ -210,14 +250,20 @@ class_at_ok (Some p) descriptor low bytes u (Some hub) c h =
     fits false false e = cc
     fits true b e = cc
 
-record IdentityIs (name : Result (List ℕ) EntryFault) (low : Result Bool EntryFault) (descriptor : Result (List ℕ) EntryFault) (class : Result (Unit {0}) EntryFault) (hub : Result (Option Hub) EntryFault) (i : Identity) : Type 0 where
+record IdentityIs (name : Result (List ℕ) EntryFault) (low : Result Bool EntryFault)
+    (descriptor : Result (List ℕ) EntryFault) (class : Result (Unit {0}) EntryFault)
+    (hub : Result (Option Hub) EntryFault) (i : Identity) : Type 0 where
   name_is : name ≡ Ok i.name
   low_is : low ≡ Ok i.low
   descriptor_is : descriptor ≡ Ok i.descriptor
   class_is : class ≡ Ok tt
   hub_is : hub ≡ Ok i.hub
 
-identity_with_ok : (name : Result (List ℕ) EntryFault) (low : Result Bool EntryFault) (descriptor : Result (List ℕ) EntryFault) (class : Result (Unit {0}) EntryFault) (hub : Result (Option Hub) EntryFault) (i : Identity) → identity_with name low descriptor class hub ≡ Ok i → IdentityIs name low descriptor class hub i
+identity_with_ok : (name : Result (List ℕ) EntryFault) (low : Result Bool EntryFault)
+    (descriptor : Result (List ℕ) EntryFault) (class : Result (Unit {0}) EntryFault)
+    (hub : Result (Option Hub) EntryFault) (i : Identity)
+    → identity_with name low descriptor class hub ≡ Ok i
+    → IdentityIs name low descriptor class hub i
 unfolding identity_with
 identity_with_ok name low descriptor class hub i h =
     let e0 = bind_good (least_fault _) _ i h in
@@ -234,18 +280,29 @@ identity_with_ok name low descriptor class hub i h =
       hub_is = e4.good ∙ (let same : e4.value ≡ i.hub = cc e4.rest in ap Ok same);
     }
 
-identity_is : (earlier : List Spec) (ms : Members) (i : Identity) → identity_of earlier ms ≡ Ok i → IdentityIs (name_at earlier (get_member (codes "name") ms)) (speed_at (get_member (codes "speed") ms)) (descriptor_at (get_member (codes "descriptor") ms)) (class_at (get_member (codes "ports") ms) (speed_at (get_member (codes "speed") ms)) (descriptor_at (get_member (codes "descriptor") ms))) (hub_at (get_member (codes "ports") ms) (get_member (codes "hub_descriptor") ms)) i
+identity_is : (earlier : List Spec) (ms : Members) (i : Identity) → identity_of earlier ms ≡ Ok i
+    → IdentityIs (name_at earlier (get_member (codes "name") ms))
+    (speed_at (get_member (codes "speed") ms)) (descriptor_at (get_member (codes "descriptor") ms))
+    (class_at (get_member (codes "ports") ms) (speed_at (get_member (codes "speed") ms))
+    (descriptor_at (get_member (codes "descriptor") ms)))
+    (hub_at (get_member (codes "ports") ms) (get_member (codes "hub_descriptor") ms)) i
 unfolding identity_of
 identity_is earlier ms i h = identity_with_ok _ _ _ _ _ i h
 
-pub identity_of_ok : (earlier : List Spec) (ms : Members) (i : Identity) → identity_of earlier ms ≡ Ok i → HubFits i
+pub identity_of_ok : (earlier : List Spec) (ms : Members) (i : Identity)
+    → identity_of earlier ms ≡ Ok i → HubFits i
 identity_of_ok earlier ms i h =
     let is = identity_is earlier ms i h in
     let ports = get_member (codes "ports") ms in
-    let good : class_at ports (Ok i.low) (Ok i.descriptor) ≡ Ok tt = rw (← is.low_is, ← is.descriptor_is) is.class_is in
-    class_at_ok ports (get_member (codes "hub_descriptor") ms) i.low i.descriptor tt i.hub good is.hub_is
+    let good : class_at ports (Ok i.low) (Ok i.descriptor) ≡ Ok tt =
+    rw (← is.low_is, ← is.descriptor_is) is.class_is in
+    class_at_ok ports (get_member (codes "hub_descriptor") ms) i.low i.descriptor tt i.hub good
+    is.hub_is
 
-device_with_ok : (earlier : List Spec) (ms : Members) (i : Result Identity EntryFault) (c : Result DeviceTexts EntryFault) (q : Result Quirks EntryFault) (b : Result Bulk EntryFault) (keys left : Result (Unit {0}) EntryFault) (s : Spec) → i ≡ identity_of earlier ms → left ≡ device.device_room earlier → device_with i c q b keys left ≡ Ok s → Joins earlier s
+device_with_ok : (earlier : List Spec) (ms : Members) (i : Result Identity EntryFault)
+    (c : Result DeviceTexts EntryFault) (q : Result Quirks EntryFault) (b : Result Bulk EntryFault)
+    (keys left : Result (Unit {0}) EntryFault) (s : Spec) → i ≡ identity_of earlier ms
+    → left ≡ device.device_room earlier → device_with i c q b keys left ≡ Ok s → Joins earlier s
 unfolding device_with
 device_with_ok earlier ms i c q b keys left s i_is room_is h =
     let e0 = bind_good (least_fault _) _ s h in
@@ -256,21 +313,27 @@ device_with_ok earlier ms i c q b keys left s i_is room_is h =
     let left_good = good_part _ e0.value 5 left e0.good refl in
     let is = identity_is earlier ms e1.value (sym i_is ∙ e1.good) in
     let same : device_of_parts e1.value e2.value e3.value e4.value ≡ s = cc e4.rest in
-    let name : e1.value.name ≡ s.name = sym (device_of_parts_name e1.value e2.value e3.value e4.value) ∙ ap (λ t. t.name) same in
+    let name : e1.value.name ≡ s.name =
+    sym (device_of_parts_name e1.value e2.value e3.value e4.value) ∙ ap (λ t. t.name) same in
     record {
       room = device_room_ok earlier left_good.0 (sym room_is ∙ left_good.1);
-      new = rw (← name) (name_at_ok earlier (get_member (codes "name") ms) e1.value.name is.name_is);
+      new = rw (← name) (name_at_ok earlier (get_member (codes "name") ms) e1.value.name
+          is.name_is);
     }
 
-read_device_ok : (earlier : List Spec) (ms : Members) (s : Spec) → read_device earlier ms ≡ Ok s → Joins earlier s
+read_device_ok : (earlier : List Spec) (ms : Members) (s : Spec) → read_device earlier ms ≡ Ok s
+    → Joins earlier s
 unfolding read_device
 read_device_ok earlier ms s h = device_with_ok earlier ms _ _ _ _ _ _ s refl refl h
 
-pub device_in_ok : (earlier : List Spec) (o : Option Members) (s : Spec) → device_in earlier o ≡ Ok s → Joins earlier s
+pub device_in_ok : (earlier : List Spec) (o : Option Members) (s : Spec)
+    → device_in earlier o ≡ Ok s → Joins earlier s
 unfolding device_in
-device_in_ok earlier o s h = let ms = bind_good (ok_or o BadValue) _ s h in read_device_ok earlier ms.value s ms.rest
+device_in_ok earlier o s h = let ms = bind_good (ok_or o BadValue) _ s h in
+    read_device_ok earlier ms.value s ms.rest
 
-read_path_ok : (scene : SceneData) (o : Option Data) (p : List ℕ) → read_path scene o ≡ Ok p → is_rooted scene.roots p ≡ true
+read_path_ok : (scene : SceneData) (o : Option Data) (p : List ℕ) → read_path scene o ≡ Ok p
+    → is_rooted scene.roots p ≡ true
 unfolding read_path
 read_path_ok scene o p h =
     let text = bind_good (read_text o) _ p h in
@@ -283,20 +346,27 @@ record FreePath (scene : SceneData) (p : List ℕ) : Type 0 where
   port : has_port scene.roots scene.devices scene.plugged p ≡ true
   free : is_taken scene.plugged p ≡ false
 
-free_path_ok : (scene : SceneData) (r : Result (List ℕ) EntryFault) (p : List ℕ) → free_path scene r ≡ Ok p → FreePath scene p
+free_path_ok : (scene : SceneData) (r : Result (List ℕ) EntryFault) (p : List ℕ)
+    → free_path scene r ≡ Ok p → FreePath scene p
 unfolding free_path
 free_path_ok scene (Err k) p h = cc
 free_path_ok scene (Ok path) p h =
-    let test = ok_unless (not (has_port scene.roots scene.devices scene.plugged path)) _ BadPath p h in
+    let test = ok_unless (not (has_port scene.roots scene.devices scene.plugged path)) _ BadPath p
+    h in
     let empty = ok_unless (is_taken scene.plugged path) (Ok path) PortTaken p test.1 in
     let same : path ≡ p = cc empty.1 in
-    rw (← same) (record { port = not_false (has_port scene.roots scene.devices scene.plugged path) test.0; free = empty.0 })
+    rw (← same) (record {
+      port = not_false (has_port scene.roots scene.devices scene.plugged path)
+          test.0;
+      free = empty.0;
+    })
   where
     not_false : (b : Bool) → not b ≡ false → b ≡ true
     not_false true e = refl
     not_false false e = cc
 
-taken_path_ok : (scene : SceneData) (r : Result (List ℕ) EntryFault) (p : List ℕ) → taken_path scene r ≡ Ok p → (r ≡ Ok p) × (is_taken scene.plugged p ≡ true)
+taken_path_ok : (scene : SceneData) (r : Result (List ℕ) EntryFault) (p : List ℕ)
+    → taken_path scene r ≡ Ok p → (r ≡ Ok p) × (is_taken scene.plugged p ≡ true)
 unfolding taken_path
 taken_path_ok scene (Err k) p h = cc
 taken_path_ok scene (Ok path) p h =
@@ -304,12 +374,14 @@ taken_path_ok scene (Ok path) p h =
     let same : path ≡ p = cc test.1 in
     rw (← same) (refl, test.0)
 
-device_index_at_ok : (scene : SceneData) (o : Option Data) (i : ℕ) → device_index_at scene o ≡ Ok i → i < length scene.devices
+device_index_at_ok : (scene : SceneData) (o : Option Data) (i : ℕ) → device_index_at scene o ≡ Ok i
+    → i < length scene.devices
 unfolding device_index_at
 device_index_at_ok scene o i h =
     let name = bind_good (read_text o) _ i h in
     let none : Spec = function [] [] [] in
-    (position-Some (λ s. bytes_eq s.name name.value) scene.devices i none (ok_or_some _ UnknownDevice i name.rest)).0
+    (position-Some (λ s. bytes_eq s.name name.value) scene.devices i none
+    (ok_or_some _ UnknownDevice i name.rest)).0
 
 event_room_ok : (count : ℕ) (u : Unit {0}) → event_room count ≡ Ok u → count < 10000
 unfolding event_room
@@ -327,30 +399,43 @@ packets_at_ok o n h = (number_at_ok 0 1000 o n h).1
 abbrev pub FitsScene : SceneData → Action → Type 0
 FitsScene scene a = action_fits scene.roots scene.devices scene.plugged a ≡ true
 
-record PlugIs (path : Result (List ℕ) EntryFault) (device : Result ℕ EntryFault) (a : Action) : Type 0 where
+record PlugIs (path : Result (List ℕ) EntryFault) (device : Result ℕ EntryFault) (a : Action) :
+    Type 0 where
   at : List ℕ
   index : ℕ
   path_is : path ≡ Ok at
   device_is : device ≡ Ok index
   action_is : Change (Plug at index) ≡ a
 
-plug_ok : (path : Result (List ℕ) EntryFault) (device : Result ℕ EntryFault) (a : Action) → action.plug path device ≡ Ok a → PlugIs path device a
+plug_ok : (path : Result (List ℕ) EntryFault) (device : Result ℕ EntryFault) (a : Action)
+    → action.plug path device ≡ Ok a → PlugIs path device a
 unfolding action.plug
 plug_ok path device a h =
     let e0 = bind_good (least_fault _) _ a h in
     let e1 = bind_good path _ a e0.rest in
     let e2 = bind_good device _ a e1.rest in
-    record { at = e1.value; index = e2.value; path_is = e1.good; device_is = e2.good; action_is = cc e2.rest }
+    record {
+      at = e1.value;
+      index = e2.value;
+      path_is = e1.good;
+      device_is = e2.good;
+      action_is =
+          cc e2.rest;
+    }
 
-plug_of_ok : (scene : SceneData) (v : EventValues) (a : Action) → plug_of scene v ≡ Ok a → FitsScene scene a
+plug_of_ok : (scene : SceneData) (v : EventValues) (a : Action) → plug_of scene v ≡ Ok a
+    → FitsScene scene a
 unfolding plug_of
 plug_of_ok scene v a h =
-    let plug = plug_ok (free_path scene (read_path scene v.path)) (device_index_at scene v.device) a h in
+    let plug = plug_ok (free_path scene (read_path scene v.path)) (device_index_at scene v.device) a
+    h in
     let path = free_path_ok scene (read_path scene v.path) plug.at plug.path_is in
-    let device = lt-ltb plug.index (length scene.devices) (device_index_at_ok scene v.device plug.index plug.device_is) in
+    let device = lt-ltb plug.index (length scene.devices)
+    (device_index_at_ok scene v.device plug.index plug.device_is) in
     rw (← plug.action_is) (rw (path.port, path.free, device))
 
-unplug_of_ok : (scene : SceneData) (v : EventValues) (a : Action) → unplug_of scene v ≡ Ok a → FitsScene scene a
+unplug_of_ok : (scene : SceneData) (v : EventValues) (a : Action) → unplug_of scene v ≡ Ok a
+    → FitsScene scene a
 unfolding unplug_of
 unplug_of_ok scene v a h =
     let path = bind_good (taken_path scene (read_path scene v.path)) _ a h in
@@ -364,7 +449,8 @@ record SendIs (path : Result (List ℕ) EntryFault) (a : Action) : Type 0 where
   path_is : path ≡ Ok at
   action_is : Ask (Send at sent) ≡ a
 
-send_ok : (path bytes : Result (List ℕ) EntryFault) (a : Action) → action.send path bytes ≡ Ok a → SendIs path a
+send_ok : (path bytes : Result (List ℕ) EntryFault) (a : Action) → action.send path bytes ≡ Ok a
+    → SendIs path a
 unfolding action.send
 send_ok path bytes a h =
     let e0 = bind_good (least_fault _) _ a h in
@@ -372,42 +458,56 @@ send_ok path bytes a h =
     let e2 = bind_good bytes _ a e1.rest in
     record { at = e1.value; sent = e2.value; path_is = e1.good; action_is = cc e2.rest }
 
-send_of_ok : (scene : SceneData) (v : EventValues) (a : Action) → send_of scene v ≡ Ok a → FitsScene scene a
+send_of_ok : (scene : SceneData) (v : EventValues) (a : Action) → send_of scene v ≡ Ok a
+    → FitsScene scene a
 unfolding send_of
 send_of_ok scene v a h =
     let send = send_ok (read_path scene v.path) (bytes_at v.bytes) a h in
     rw (← send.action_is) (read_path_ok scene v.path send.at send.path_is)
 
-record ReceiveIs (path : Result (List ℕ) EntryFault) (packets : Result ℕ EntryFault) (a : Action) : Type 0 where
+record ReceiveIs (path : Result (List ℕ) EntryFault) (packets : Result ℕ EntryFault) (a : Action) :
+    Type 0 where
   at : List ℕ
   count : ℕ
   path_is : path ≡ Ok at
   packets_is : packets ≡ Ok count
   action_is : Ask (Receive at count) ≡ a
 
-receive_ok : (path : Result (List ℕ) EntryFault) (packets : Result ℕ EntryFault) (a : Action) → action.receive path packets ≡ Ok a → ReceiveIs path packets a
+receive_ok : (path : Result (List ℕ) EntryFault) (packets : Result ℕ EntryFault) (a : Action)
+    → action.receive path packets ≡ Ok a → ReceiveIs path packets a
 unfolding action.receive
 receive_ok path packets a h =
     let e0 = bind_good (least_fault _) _ a h in
     let e1 = bind_good path _ a e0.rest in
     let e2 = bind_good packets _ a e1.rest in
-    record { at = e1.value; count = e2.value; path_is = e1.good; packets_is = e2.good; action_is = cc e2.rest }
+    record {
+      at = e1.value;
+      count = e2.value;
+      path_is = e1.good;
+      packets_is = e2.good;
+      action_is =
+          cc e2.rest;
+    }
 
-receive_of_ok : (scene : SceneData) (v : EventValues) (a : Action) → receive_of scene v ≡ Ok a → FitsScene scene a
+receive_of_ok : (scene : SceneData) (v : EventValues) (a : Action) → receive_of scene v ≡ Ok a
+    → FitsScene scene a
 unfolding receive_of
 receive_of_ok scene v a h =
     let receive = receive_ok (read_path scene v.path) (packets_at v.packets) a h in
-    let few = le-leb receive.count 1000 (packets_at_ok v.packets receive.count receive.packets_is) in
+    let few = le-leb receive.count 1000 (packets_at_ok v.packets receive.count receive.packets_is)
+    in
     rw (← receive.action_is) (rw (read_path_ok scene v.path receive.at receive.path_is, few))
 
-clear_of_ok : (scene : SceneData) (v : EventValues) (a : Action) → clear_of scene v ≡ Ok a → FitsScene scene a
+clear_of_ok : (scene : SceneData) (v : EventValues) (a : Action) → clear_of scene v ≡ Ok a
+    → FitsScene scene a
 unfolding clear_of
 clear_of_ok scene v a h =
     let path = bind_good (read_path scene v.path) _ a h in
     let same : Ask (Clear path.value) ≡ a = cc path.rest in
     rw (← same) (read_path_ok scene v.path path.value path.good)
 
-action_of_ok : (verb : Verb) (scene : SceneData) (v : EventValues) (a : Action) → action_of verb scene v ≡ Ok a → FitsScene scene a
+action_of_ok : (verb : Verb) (scene : SceneData) (v : EventValues) (a : Action)
+    → action_of verb scene v ≡ Ok a → FitsScene scene a
 unfolding action_of
 action_of_ok verb.Plug scene v a h = plug_of_ok scene v a h
 action_of_ok verb.Unplug scene v a h = unplug_of_ok scene v a h
@@ -416,12 +516,15 @@ action_of_ok verb.Receive scene v a h = receive_of_ok scene v a h
 action_of_ok verb.Clear scene v a h = clear_of_ok scene v a h
 action_of_ok _ scene v a h = subst (λ r. IfOk r (FitsScene scene)) h refl
 
-record EventIs (action : Result Action EntryFault) (after : Result ℕ EntryFault) (room : Result (Unit {0}) EntryFault) (e : Event) : Type 0 where
+record EventIs (action : Result Action EntryFault) (after : Result ℕ EntryFault)
+    (room : Result (Unit {0}) EntryFault) (e : Event) : Type 0 where
   action_is : action ≡ Ok e.action
   after_is : after ≡ Ok e.after
   room_is : room ≡ Ok tt
 
-event_with_ok : (action : Result Action EntryFault) (after : Result ℕ EntryFault) (keys left : Result (Unit {0}) EntryFault) (e : Event) → event_with action after keys left ≡ Ok e → EventIs action after left e
+event_with_ok : (action : Result Action EntryFault) (after : Result ℕ EntryFault)
+    (keys left : Result (Unit {0}) EntryFault) (e : Event) → event_with action after keys left
+    ≡ Ok e → EventIs action after left e
 unfolding event_with
 event_with_ok action after keys left e h =
     let e0 = bind_good (least_fault _) _ e h in
@@ -439,32 +542,40 @@ pub record EventFits (scene : SceneData) (count : ℕ) (e : Event) : Type 0 wher
   pub room : count < 10000
   pub fits : event_fits scene.roots scene.devices scene.plugged e ≡ true
 
-event_of_ok : (v : Verb) (scene : SceneData) (count : ℕ) (ms : Members) (e : Event) → event_of v scene count ms ≡ Ok e → EventFits scene count e
+event_of_ok : (v : Verb) (scene : SceneData) (count : ℕ) (ms : Members) (e : Event)
+    → event_of v scene count ms ≡ Ok e → EventFits scene count e
 unfolding event_of
 event_of_ok v scene count ms e h =
-    let is = event_with_ok (action_of v scene (event_values ms)) (after_at (get_member (codes "after") ms)) (keys_of (other_keys v) ms) (event_room count) e h in
-    let after = le-leb e.after 1000000000 (after_at_ok (get_member (codes "after") ms) e.after is.after_is) in
+    let is = event_with_ok (action_of v scene (event_values ms))
+    (after_at (get_member (codes "after") ms)) (keys_of (other_keys v) ms) (event_room count) e
+    h in
+    let after = le-leb e.after 1000000000 (after_at_ok (get_member (codes "after") ms) e.after
+    is.after_is) in
     record {
       room = event_room_ok count tt is.room_is;
       fits = rw (after, action_of_ok v scene (event_values ms) e.action is.action_is);
     }
 
-pub event_in_ok : (scene : SceneData) (count : ℕ) (o : Option Members) (e : Event) → event_in scene count o ≡ Ok e → EventFits scene count e
+pub event_in_ok : (scene : SceneData) (count : ℕ) (o : Option Members) (e : Event)
+    → event_in scene count o ≡ Ok e → EventFits scene count e
 unfolding event_in
 event_in_ok scene count o e h =
     let ms = bind_good (ok_or o BadValue) _ e h in
     let verb = bind_good (verb_at (get_member (codes "do") ms.value)) _ e ms.rest in
     event_of_ok verb.value scene count ms.value e verb.rest
 
-attempt_at_ok : (last : ℕ) (o : Option Data) (n : ℕ) → attempt_at last o ≡ Ok n → (last < n) × (n < 2 ^ 63)
+attempt_at_ok : (last : ℕ) (o : Option Data) (n : ℕ) → attempt_at last o ≡ Ok n → (last < n)
+    × (n < 2 ^ 63)
 unfolding attempt_at
-attempt_at_ok last o n h = let range = number_at_ok (last + 1) (2 ^ 63 - 1) o n h in (omega (arith, range.0), omega (arith, range.1))
+attempt_at_ok last o n h = let range = number_at_ok (last + 1) (2 ^ 63 - 1) o n h in
+    (omega (arith, range.0), omega (arith, range.1))
 
 packet_number_ok : (o : Option Data) (n : ℕ) → packet_number o ≡ Ok n → (1 ≤ n) × (n ≤ 3)
 unfolding packet_number
 packet_number_ok o n h = number_at_ok 1 3 o n h
 
-no_bit_ok : (harm : Harm) (o : Option Data) (x : Harm) → harm_fits harm ≡ true → no_bit harm o ≡ Ok x → harm_fits x ≡ true
+no_bit_ok : (harm : Harm) (o : Option Data) (x : Harm) → harm_fits harm ≡ true
+    → no_bit harm o ≡ Ok x → harm_fits x ≡ true
 unfolding no_bit
 no_bit_ok harm None x fits h = let same : harm ≡ x = cc h in rw (← same) fits
 no_bit_ok harm (Some d) x fits h = cc h
@@ -482,7 +593,8 @@ harm_of_ok way.Lose o x h = no_bit_ok Lose o x refl h
 harm_of_ok way.LosePre o x h = no_bit_ok LosePre o x refl h
 harm_of_ok way.Flip o x h = flip_at_ok o x h
 
-harm_by_ok : (r : Result Way EntryFault) (o : Option Data) (x : Harm) → harm_by r o ≡ Ok x → harm_fits x ≡ true
+harm_by_ok : (r : Result Way EntryFault) (o : Option Data) (x : Harm) → harm_by r o ≡ Ok x
+    → harm_fits x ≡ true
 unfolding harm_by
 harm_by_ok r o x h = let way = bind_good r _ x h in harm_of_ok way.value o x way.rest
 
@@ -490,13 +602,16 @@ damage_room_ok : (count : ℕ) (u : Unit {0}) → damage.damage_room count ≡ O
 unfolding damage.damage_room
 damage_room_ok count u h = ltb-true count 10000 (ok_if (nat_lt count 10000) (Ok tt) BadValue u h).0
 
-record DamageIs (attempt packet : Result ℕ EntryFault) (harm : Result Harm EntryFault) (room : Result (Unit {0}) EntryFault) (d : Damage) : Type 0 where
+record DamageIs (attempt packet : Result ℕ EntryFault) (harm : Result Harm EntryFault)
+    (room : Result (Unit {0}) EntryFault) (d : Damage) : Type 0 where
   attempt_is : attempt ≡ Ok d.attempt
   packet_is : packet ≡ Ok d.packet
   harm_is : harm ≡ Ok d.harm
   room_is : room ≡ Ok tt
 
-damage_with_ok : (attempt packet : Result ℕ EntryFault) (harm : Result Harm EntryFault) (keys left : Result (Unit {0}) EntryFault) (d : Damage) → damage_with attempt packet harm keys left ≡ Ok d → DamageIs attempt packet harm left d
+damage_with_ok : (attempt packet : Result ℕ EntryFault) (harm : Result Harm EntryFault)
+    (keys left : Result (Unit {0}) EntryFault) (d : Damage)
+    → damage_with attempt packet harm keys left ≡ Ok d → DamageIs attempt packet harm left d
 unfolding damage_with
 damage_with_ok attempt packet harm keys left d h =
     let e0 = bind_good (least_fault _) _ d h in
@@ -517,22 +632,31 @@ pub record Comes (last count : ℕ) (d : Damage) : Type 0 where
   pub fits : damage_fits last d ≡ true
   pub most : d.attempt < 2 ^ 63
 
-read_damage_ok : (last count : ℕ) (ms : Members) (d : Damage) → read_damage last count ms ≡ Ok d → Comes last count d
+read_damage_ok : (last count : ℕ) (ms : Members) (d : Damage) → read_damage last count ms ≡ Ok d
+    → Comes last count d
 unfolding read_damage
 read_damage_ok last count ms d h =
     let is = damage_with_ok _ _ _ _ (damage.damage_room count) d h in
     let attempt = attempt_at_ok last (get_member (codes "attempt") ms) d.attempt is.attempt_is in
     let packet = packet_number_ok (get_member (codes "packet") ms) d.packet is.packet_is in
-    let harm = harm_by_ok (way_at (get_member (codes "how") ms)) (get_member (codes "bit") ms) d.harm is.harm_is in
+    let harm = harm_by_ok (way_at (get_member (codes "how") ms)) (get_member (codes "bit") ms)
+    d.harm is.harm_is in
     record {
       room = damage_room_ok count tt is.room_is;
-      fits = rw (lt-ltb last d.attempt attempt.0, le-leb 1 d.packet packet.0, le-leb d.packet 3 packet.1, harm);
+      fits = rw (
+        lt-ltb last d.attempt attempt.0,
+        le-leb 1 d.packet packet.0,
+        le-leb d.packet 3 packet.1,
+        harm,
+      );
       most = attempt.1;
     }
 
-pub damage_entry_ok : (last count : ℕ) (o : Option Members) (d : Damage) → damage_entry last count o ≡ Ok d → Comes last count d
+pub damage_entry_ok : (last count : ℕ) (o : Option Members) (d : Damage)
+    → damage_entry last count o ≡ Ok d → Comes last count d
 unfolding damage_entry
-damage_entry_ok last count o d h = let ms = bind_good (ok_or o BadValue) _ d h in read_damage_ok last count ms.value d ms.rest
+damage_entry_ok last count o d h = let ms = bind_good (ok_or o BadValue) _ d h in
+    read_damage_ok last count ms.value d ms.rest
 
 limit_at_ok : (o : Option Data) (n : ℕ) → limit_at o ≡ Ok n → n ≤ 10 ^ 14
 unfolding limit_at
@@ -542,7 +666,10 @@ roots_at_ok : (o : Option Data) (n : ℕ) → roots_at o ≡ Ok n → (1 ≤ n) 
 unfolding roots_at
 roots_at_ok o n h = number_at_ok 1 7 o n h
 
-top_with_ok : (limit roots : Result ℕ EntryFault) (devices events damages keys : Result (Unit {0}) EntryFault) (top : Top) → top_with limit roots devices events damages keys ≡ Ok top → (limit ≡ Ok top.limit) × (roots ≡ Ok top.roots)
+top_with_ok : (limit roots : Result ℕ EntryFault)
+    (devices events damages keys : Result (Unit {0}) EntryFault) (top : Top)
+    → top_with limit roots devices events damages keys ≡ Ok top → (limit ≡ Ok top.limit)
+    × (roots ≡ Ok top.roots)
 unfolding top_with
 top_with_ok limit roots devices events damages keys top h =
     let e0 = bind_good (least_fault _) _ top h in
@@ -557,4 +684,9 @@ unfolding top_of
 top_of_ok ms top h =
     let is = top_with_ok _ _ _ _ _ _ top h in
     let roots = roots_at_ok (get_member (codes "roots") ms) top.roots is.1 in
-    record { limit = limit_at_ok (get_member (codes "limit") ms) top.limit is.0; some_root = roots.0; few_roots = roots.1 }
+    record {
+      limit = limit_at_ok (get_member (codes "limit") ms) top.limit is.0;
+      some_root =
+          roots.0;
+      few_roots = roots.1;
+    }

@@ -1,11 +1,14 @@
 -- What an event does, by the keys that go with its `do`.
-use Rattle.std.specs.Prelude.{ℕ, codes, List, [], ◌∷◌, Bool, not, ◌&&◌, Option, is_none, ok_or, Result, Ok, Err, position, if◌then◌else◌}
+use Rattle.std.specs.Prelude.{ℕ, codes, List, [], ◌∷◌, Bool, not, ◌&&◌, Option, is_none, ok_or}
+use Rattle.std.specs.Prelude.{Result, Ok, Err, position, if◌then◌else◌}
 use Rattle.std.specs.Str.{bytes_eq}
 use Rattle.toml.specs.Data.{Data, Members}
 use Rattle.usb_plan.specs.declared.entry_fault.EntryFault.{EntryFault}
-use Rattle.usb_plan.specs.declared.entry_fault.EntryFault.TheVariants.{MissingKey, BadValue, UnknownDevice}
+use Rattle.usb_plan.specs.declared.entry_fault.EntryFault.TheVariants.{MissingKey, BadValue}
+use Rattle.usb_plan.specs.declared.entry_fault.EntryFault.TheVariants.{UnknownDevice}
 use Rattle.usb_plan.specs.declared.action.OtherKeys.{OtherKeys}
-use Rattle.usb_plan.specs.declared.action.OtherKeys.TheVariants.{Alone, Path, PathDevice, PathBytes, PathPackets}
+use Rattle.usb_plan.specs.declared.action.OtherKeys.TheVariants.{Alone, Path, PathDevice, PathBytes}
+use Rattle.usb_plan.specs.declared.action.OtherKeys.TheVariants.{PathPackets}
 use Rattle.usb_plan.specs.EntryFault.{fault_in_part, least_fault, ◌>>=◌}
 use Rattle.usb_plan.specs.EventMembers.{EventValues}
 use Rattle.usb_plan.specs.Keys.{keys_at}
@@ -37,7 +40,8 @@ plug path device = do
   d ← device
   Ok (Change (Plug p d))
 
-unfoldable pub send : Result (List ℕ) EntryFault → Result (List ℕ) EntryFault → Result Action EntryFault
+unfoldable pub send : Result (List ℕ) EntryFault → Result (List ℕ) EntryFault
+    → Result Action EntryFault
 send path bytes = do
   u ← least_fault (fault_in_part path ∷ fault_in_part bytes ∷ [])
   p ← path

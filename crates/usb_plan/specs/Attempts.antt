@@ -1,5 +1,6 @@
 -- How many attempts are enough for a plan.
-use Rattle.std.specs.Prelude.{ℕ, ◌+◌, ◌*◌, List, [], ◌∷◌, length, Option, Some, None, slice_get, max, min, ◌^◌, ◌-◌}
+use Rattle.std.specs.Prelude.{ℕ, ◌+◌, ◌*◌, List, [], ◌∷◌, length, Option, Some, None, slice_get}
+use Rattle.std.specs.Prelude.{max, min, ◌^◌, ◌-◌}
 use Rattle.std.specs.List.{sum_by}
 use Rattle.usb_world.specs.declared.event.Action.{Action}
 use Rattle.usb_world.specs.declared.event.Action.TheVariants.{Change, Ask}
@@ -37,10 +38,12 @@ moved_in _ = 0
 unfoldable pub moved : Event → ℕ
 moved e = moved_in e.action
 
--- enough attempts for v events, where no plugged device has more than w bytes of configurations, and m bytes and packets are moved
+-- enough attempts for v events, where no plugged device has more than w bytes of configurations,
+-- and m bytes and packets are moved
 abbrev pub enough_for : ℕ → ℕ → ℕ → ℕ
 enough_for v w m = 200 * v * (30000 + 10 * w) + 50000 * v * v + 1000 * m + 2
 
 -- the greatest number of 64 bits where it is more
 unfoldable pub bound_of : PlanData → ℕ
-bound_of p = min (enough_for (length p.events) (greatest_total p.devices p.events) (sum_by moved p.events)) (2 ^ 64 - 1)
+bound_of p = min (enough_for (length p.events) (greatest_total p.devices p.events)
+    (sum_by moved p.events)) (2 ^ 64 - 1)

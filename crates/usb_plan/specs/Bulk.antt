@@ -19,7 +19,8 @@ unfoldable pub halt_at : Option Data → Result (Option ℕ) EntryFault
 halt_at None = Ok None
 halt_at (Some d) = halt_in (as_integer d)
 
-unfoldable pub bulk_with : Result (List ℕ) EntryFault → Result (Option ℕ) EntryFault → Result Bulk EntryFault
+unfoldable pub bulk_with : Result (List ℕ) EntryFault → Result (Option ℕ) EntryFault
+    → Result Bulk EntryFault
 bulk_with source halt_after = do
   u ← least_fault (fault_in_part source ∷ fault_in_part halt_after ∷ [])
   bytes ← source

@@ -1,5 +1,6 @@
 -- The `damage` entries of the document.
-use Rattle.std.specs.Prelude.{ℕ, codes, List, [], ◌∷◌, ◌++◌, ◌+◌, ◌-◌, ◌^◌, length, Option, Some, None, ok_or, Result, Ok, Err, nat_lt, if◌then◌else◌}
+use Rattle.std.specs.Prelude.{ℕ, codes, List, [], ◌∷◌, ◌++◌, ◌+◌, ◌-◌, ◌^◌, length, Option, Some}
+use Rattle.std.specs.Prelude.{None, ok_or, Result, Ok, Err, nat_lt, if◌then◌else◌}
 use Rattle.std.specs.Str.{bytes_eq}
 use Rattle.toml.specs.Data.{Data, Members, get_member, as_table}
 use Rattle.usb_plan.specs.declared.entry_fault.EntryFault.{EntryFault}
@@ -57,10 +58,12 @@ unfoldable pub damage_room : ℕ → Result (Unit {0}) EntryFault
 damage_room count = if nat_lt count 10000 then Ok tt else Err BadValue
 
 unfoldable pub damage_with :
-    Result ℕ EntryFault → Result ℕ EntryFault → Result Harm EntryFault → Result (Unit {0}) EntryFault
+    Result ℕ EntryFault → Result ℕ EntryFault → Result Harm EntryFault
+    → Result (Unit {0}) EntryFault
     → Result (Unit {0}) EntryFault → Result Damage EntryFault
 damage_with attempt packet harm keys room = do
-  u ← least_fault (fault_in_part attempt ∷ fault_in_part packet ∷ fault_in_part harm ∷ fault_in_part keys ∷ fault_in_part room ∷ [])
+  u ← least_fault (fault_in_part attempt ∷ fault_in_part packet ∷ fault_in_part harm ∷ fault_in_part
+      keys ∷ fault_in_part room ∷ [])
   n ← attempt
   p ← packet
   h ← harm

@@ -1,5 +1,7 @@
 -- The `device` entries of the document.
-use Rattle.std.specs.Prelude.{◌≡◌, ◌≤◌, ℕ, codes, List, [], ◌∷◌, ◌++◌, length, Bool, true, false, ◌||◌, ◌==◌, Option, Some, None, IfSome, ok_or, Result, Ok, Err, nat_lt, if◌then◌else◌, ◌+◌}
+use Rattle.std.specs.Prelude.{◌≡◌, ◌≤◌, ℕ, codes, List, [], ◌∷◌, ◌++◌, length, Bool, true, false}
+use Rattle.std.specs.Prelude.{◌||◌, ◌==◌, Option, Some, None, IfSome, ok_or, Result, Ok, Err}
+use Rattle.std.specs.Prelude.{nat_lt, if◌then◌else◌, ◌+◌}
 use Rattle.std.specs.Str.{bytes_eq}
 use Rattle.toml.specs.Data.{Data, Members, get_member, as_table}
 use Rattle.usb_plan.specs.declared.entry_fault.EntryFault.{EntryFault}
@@ -49,8 +51,10 @@ strings_at (Some d) = texts_in 256 255 d
 
 abbrev pub device_keys : List (List ℕ)
 device_keys =
-    codes "name" ∷ codes "speed" ∷ codes "descriptor" ∷ codes "configs" ∷ codes "strings" ∷ codes "ports" ∷ codes "hub_descriptor"
-    ∷ codes "self_powered" ∷ codes "busy" ∷ codes "silent" ∷ codes "naks" ∷ codes "stalls" ∷ codes "source" ∷ codes "halt_after" ∷ []
+    codes "name" ∷ codes "speed" ∷ codes "descriptor" ∷ codes "configs" ∷ codes "strings" ∷
+    codes "ports" ∷ codes "hub_descriptor"
+    ∷ codes "self_powered" ∷ codes "busy" ∷ codes "silent" ∷ codes "naks" ∷ codes "stalls" ∷
+    codes "source" ∷ codes "halt_after" ∷ []
 
 -- at most 127 devices
 unfoldable pub device_room : List Spec → Result (Unit {0}) EntryFault
@@ -87,10 +91,12 @@ abbrev pub HaltsLater : Bulk → Type 0
 HaltsLater bulk = IfSome bulk.halt_after (λ n. 1 ≤ n)
 
 unfoldable pub identity_with :
-    Result (List ℕ) EntryFault → Result Bool EntryFault → Result (List ℕ) EntryFault → Result (Unit {0}) EntryFault
+    Result (List ℕ) EntryFault → Result Bool EntryFault → Result (List ℕ) EntryFault
+    → Result (Unit {0}) EntryFault
     → Result (Option Hub) EntryFault → Result Identity EntryFault
 identity_with name low descriptor class hub = do
-  u ← least_fault (fault_in_part name ∷ fault_in_part low ∷ fault_in_part descriptor ∷ fault_in_part class ∷ fault_in_part hub ∷ [])
+  u ← least_fault (fault_in_part name ∷ fault_in_part low ∷ fault_in_part descriptor ∷ fault_in_part
+      class ∷ fault_in_part hub ∷ [])
   n ← name
   l ← low
   d ← descriptor
@@ -107,7 +113,8 @@ identity_of earlier ms =
     (descriptor_at (get_member (codes "descriptor") ms)))
     (hub_at (get_member (codes "ports") ms) (get_member (codes "hub_descriptor") ms))
 
-unfoldable pub device_texts_with : Result Texts EntryFault → Result Texts EntryFault → Result DeviceTexts EntryFault
+unfoldable pub device_texts_with : Result Texts EntryFault → Result Texts EntryFault
+    → Result DeviceTexts EntryFault
 device_texts_with configs strings = do
   u ← least_fault (fault_in_part configs ∷ fault_in_part strings ∷ [])
   c ← configs
@@ -132,10 +139,12 @@ device_of_parts identity texts quirks bulk =
     (outer_of texts.strings bulk.source (with_hub identity.hub (named_device identity texts))))
 
 unfoldable pub device_with :
-    Result Identity EntryFault → Result DeviceTexts EntryFault → Result Quirks EntryFault → Result Bulk EntryFault
+    Result Identity EntryFault → Result DeviceTexts EntryFault → Result Quirks EntryFault
+    → Result Bulk EntryFault
     → Result (Unit {0}) EntryFault → Result (Unit {0}) EntryFault → Result Spec EntryFault
 device_with identity texts quirks bulk keys room = do
-  u ← least_fault (fault_in_part identity ∷ fault_in_part texts ∷ fault_in_part quirks ∷ fault_in_part bulk
+  u ← least_fault (fault_in_part identity ∷ fault_in_part texts ∷ fault_in_part quirks ∷
+      fault_in_part bulk
       ∷ fault_in_part keys ∷ fault_in_part room ∷ [])
   i ← identity
   c ← texts

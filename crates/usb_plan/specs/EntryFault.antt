@@ -1,12 +1,17 @@
 -- The fault of an entry is the one of least number.
-use Rattle.std.specs.Prelude.{◌≡◌, ◌≢◌, ℕ, List, [], ◌∷◌, Option, Some, None, Result, Ok, Err, nat_le, if◌then◌else◌}
+use Rattle.std.specs.Prelude.{◌≡◌, ◌≢◌, ℕ, List, [], ◌∷◌, Option, Some, None, Result, Ok, Err}
+use Rattle.std.specs.Prelude.{nat_le, if◌then◌else◌}
 use Rattle.hex.specs.declared.error.FromHexError.{FromHexError}
-use Rattle.hex.specs.declared.error.FromHexError.TheVariants.{InvalidHexCharacter, OddLength, InvalidStringLength, OutOfMemory}
+use Rattle.hex.specs.declared.error.FromHexError.TheVariants.{InvalidHexCharacter, OddLength}
+use Rattle.hex.specs.declared.error.FromHexError.TheVariants.{InvalidStringLength, OutOfMemory}
 use Rattle.usb_plan.specs.declared.fault.Place.{Place}
 use Rattle.usb_plan.specs.declared.fault.PlanFault.{PlanFault}
 use Rattle.usb_plan.specs.declared.fault.PlanFault.TheVariants as fault
 use Rattle.usb_plan.specs.declared.entry_fault.EntryFault.{EntryFault}
-use Rattle.usb_plan.specs.declared.entry_fault.EntryFault.TheVariants.{Memory, MissingKey, BadValue, BadHex, UnknownDevice, BadPath, PortTaken, PortEmpty}
+use Rattle.usb_plan.specs.declared.entry_fault.EntryFault.TheVariants.{Memory, MissingKey, BadValue}
+use Rattle.usb_plan.specs.declared.entry_fault.EntryFault.TheVariants.{BadHex, UnknownDevice}
+use Rattle.usb_plan.specs.declared.entry_fault.EntryFault.TheVariants.{BadPath, PortTaken}
+use Rattle.usb_plan.specs.declared.entry_fault.EntryFault.TheVariants.{PortEmpty}
 
 -- the number of a fault; refused memory comes before all
 abbrev pub rank : EntryFault → ℕ
@@ -35,7 +40,8 @@ fault_in_part (Ok a) = None
 fault_in_part (Err k) = Some k
 
 -- a fault beside what is told of others
-unfoldable pub sooner : Option EntryFault → Result (Unit {0}) EntryFault → Result (Unit {0}) EntryFault
+unfoldable pub sooner : Option EntryFault → Result (Unit {0}) EntryFault
+    → Result (Unit {0}) EntryFault
 sooner None others = others
 sooner (Some k) (Ok u) = Err k
 sooner (Some k) (Err l) = Err (least k l)

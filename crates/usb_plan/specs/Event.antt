@@ -1,5 +1,6 @@
 -- The `event` entries of the document.
-use Rattle.std.specs.Prelude.{ℕ, codes, List, [], ◌∷◌, ◌++◌, ◌+◌, length, Option, ok_or, Result, Ok, Err, nat_lt, if◌then◌else◌}
+use Rattle.std.specs.Prelude.{ℕ, codes, List, [], ◌∷◌, ◌++◌, ◌+◌, length, Option, ok_or, Result, Ok}
+use Rattle.std.specs.Prelude.{Err, nat_lt, if◌then◌else◌}
 use Rattle.toml.specs.Data.{Data, Members, get_member, as_table}
 use Rattle.usb_plan.specs.declared.entry_fault.EntryFault.{EntryFault}
 use Rattle.usb_plan.specs.declared.entry_fault.EntryFault.TheVariants.{BadValue}
@@ -25,10 +26,12 @@ unfoldable pub event_room : ℕ → Result (Unit {0}) EntryFault
 event_room count = if nat_lt count 10000 then Ok tt else Err BadValue
 
 unfoldable pub event_with :
-    Result Action EntryFault → Result ℕ EntryFault → Result (Unit {0}) EntryFault → Result (Unit {0}) EntryFault
+    Result Action EntryFault → Result ℕ EntryFault → Result (Unit {0}) EntryFault
+    → Result (Unit {0}) EntryFault
     → Result Event EntryFault
 event_with action after keys room = do
-  u ← least_fault (fault_in_part action ∷ fault_in_part after ∷ fault_in_part keys ∷ fault_in_part room ∷ [])
+  u ← least_fault (fault_in_part action ∷ fault_in_part after ∷ fault_in_part keys ∷ fault_in_part
+      room ∷ [])
   n ← after
   a ← action
   Ok (record { after = n; action = a })
@@ -36,7 +39,8 @@ event_with action after keys room = do
 -- the event of these values, whose `do` is that verb, in the scene, after so many others
 unfoldable pub event_given : Verb → SceneData → ℕ → EventValues → Result Event EntryFault
 event_given verb scene count v =
-    event_with (action_of verb scene v) (after_at v.after) (keys_given (other_keys verb) v) (event_room count)
+    event_with (action_of verb scene v) (after_at v.after) (keys_given (other_keys verb) v)
+    (event_room count)
 
 -- the event of a table whose `do` is that verb, in the scene, after so many others
 unfoldable pub event_of : Verb → SceneData → ℕ → Members → Result Event EntryFault
@@ -52,7 +56,8 @@ event_in scene count table = do
   event_of verb scene count ms
 
 -- the events so far and those of the values; the first is number n
-unfoldable pub events_from : ℕ → List Spec → ℕ → List Event → List Data → Result (List Event) PlanFault
+unfoldable pub events_from : ℕ → List Spec → ℕ → List Event → List Data
+    → Result (List Event) PlanFault
 events_from roots devices n done [] = Ok done
 events_from roots devices n done (d ∷ ds) =
     entry_at (place.Event n) (event_in (scene_after roots devices done) (length done) (as_table d))

@@ -1,5 +1,6 @@
 -- What the table of an event has at the keys that events may have.
-use Rattle.std.specs.Prelude.{ℕ, codes, List, [], ◌∷◌, Bool, true, not, Option, Some, option_map, if◌then◌else◌}
+use Rattle.std.specs.Prelude.{ℕ, codes, List, [], ◌∷◌, Bool, true, not, Option, Some, option_map}
+use Rattle.std.specs.Prelude.{if◌then◌else◌}
 use Rattle.std.specs.Str.{bytes_eq}
 use Rattle.toml.specs.Data.{Data, Members, get_member}
 use Rattle.toml.specs.View.{view}
@@ -18,7 +19,8 @@ pub record EventValues : Type 0 where
 
 abbrev pub all_event_keys : List (List ℕ)
 all_event_keys =
-    codes "do" ∷ codes "after" ∷ codes "path" ∷ codes "device" ∷ codes "bytes" ∷ codes "packets" ∷ []
+    codes "do" ∷ codes "after" ∷ codes "path" ∷ codes "device" ∷ codes "bytes" ∷ codes "packets" ∷
+    []
 
 -- those of a table
 unfoldable pub event_values : Members → EventValues

@@ -1,5 +1,6 @@
 -- The keys `ports` and `hub_descriptor` of a device.
-use Rattle.std.specs.Prelude.{ℕ, ℤ, List, Bool, false, not, ◌||◌, Option, Some, None, Result, Ok, Err, if◌then◌else◌}
+use Rattle.std.specs.Prelude.{ℕ, ℤ, List, Bool, false, not, ◌||◌, Option, Some, None, Result, Ok}
+use Rattle.std.specs.Prelude.{Err, if◌then◌else◌}
 use Rattle.toml.specs.Data.{Data, as_integer}
 use Rattle.usb_plan.specs.declared.entry_fault.EntryFault.{EntryFault}
 use Rattle.usb_plan.specs.declared.entry_fault.EntryFault.TheVariants.{BadValue}
@@ -12,10 +13,12 @@ unfoldable pub no_hub : Option Data → Result (Option Hub) EntryFault
 no_hub None = Ok None
 no_hub (Some d) = Err BadValue
 
--- the hub with so many ports and this hub descriptor, which may not speak of another number of ports
+-- the hub with so many ports and this hub descriptor, which may not speak of another number of
+-- ports
 unfoldable pub hub_with : ℕ → Result (List ℕ) EntryFault → Result (Option Hub) EntryFault
 hub_with ports descriptor =
-    descriptor >>= λ bytes. if agrees ports bytes then Ok (Some (record { ports = ports; descriptor = bytes })) else Err BadValue
+    descriptor >>= λ bytes. if agrees ports bytes then Ok
+    (Some (record { ports = ports; descriptor = bytes })) else Err BadValue
 
 unfoldable pub hub_of : ℕ → Option Data → Result (Option Hub) EntryFault
 hub_of ports None = Ok (Some (usual_hub ports))
@@ -39,6 +42,8 @@ is_other (Ok descriptor) = not (has_hub_class descriptor)
 is_other (Err k) = false
 
 -- the key `ports` goes with full speed and the class of hubs alone
-unfoldable pub class_at : Option Data → Result Bool EntryFault → Result (List ℕ) EntryFault → Result (Unit {0}) EntryFault
+unfoldable pub class_at : Option Data → Result Bool EntryFault → Result (List ℕ) EntryFault
+    → Result (Unit {0}) EntryFault
 class_at None low descriptor = Ok tt
-class_at (Some d) low descriptor = if is_low_speed low || is_other descriptor then Err BadValue else Ok tt
+class_at (Some d) low descriptor = if is_low_speed low || is_other descriptor then Err BadValue
+    else Ok tt

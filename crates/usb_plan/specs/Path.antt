@@ -3,7 +3,8 @@ use Rattle.std.specs.Prelude.{ℕ, List, not, Option, ok_or, Result, Ok, Err, if
 use Rattle.toml.specs.Data.{Data}
 use Rattle.usb_port.specs.Path.{path_of}
 use Rattle.usb_plan.specs.declared.entry_fault.EntryFault.{EntryFault}
-use Rattle.usb_plan.specs.declared.entry_fault.EntryFault.TheVariants.{BadPath, PortTaken, PortEmpty}
+use Rattle.usb_plan.specs.declared.entry_fault.EntryFault.TheVariants.{BadPath, PortTaken}
+use Rattle.usb_plan.specs.declared.entry_fault.EntryFault.TheVariants.{PortEmpty}
 use Rattle.usb_plan.specs.EntryFault.{◌>>=◌}
 use Rattle.usb_plan.specs.Value.{read_text}
 use Rattle.usb_plan.specs.Scene.{SceneData}

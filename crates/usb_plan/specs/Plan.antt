@@ -1,5 +1,6 @@
 -- The plan that a text spells, or its first fault.
-use Rattle.std.specs.Prelude.{◌≤◌, ℕ, ◌^◌, codes, List, [], ◌∷◌, Bool, Option, Some, None, Result, Ok, Err, if◌then◌else◌, is_some}
+use Rattle.std.specs.Prelude.{◌≤◌, ℕ, ◌^◌, codes, List, [], ◌∷◌, Bool, Option, Some, None, Result}
+use Rattle.std.specs.Prelude.{Ok, Err, if◌then◌else◌, is_some}
 use Rattle.std.specs.List.{list_all}
 use Rattle.toml.specs.Data.{Data, Items, Members, get_member, as_array, as_table}
 use Rattle.toml.specs.Parse.{parse_document}
@@ -49,10 +50,12 @@ abbrev pub top_keys : List (List ℕ)
 top_keys = codes "limit" ∷ codes "roots" ∷ codes "device" ∷ codes "event" ∷ codes "damage" ∷ []
 
 unfoldable pub top_with :
-    Result ℕ EntryFault → Result ℕ EntryFault → Result (Unit {0}) EntryFault → Result (Unit {0}) EntryFault
+    Result ℕ EntryFault → Result ℕ EntryFault → Result (Unit {0}) EntryFault
+    → Result (Unit {0}) EntryFault
     → Result (Unit {0}) EntryFault → Result (Unit {0}) EntryFault → Result Top EntryFault
 top_with limit roots devices events damages keys = do
-  u ← least_fault (fault_in_part limit ∷ fault_in_part roots ∷ fault_in_part devices ∷ fault_in_part events
+  u ← least_fault (fault_in_part limit ∷ fault_in_part roots ∷ fault_in_part devices ∷ fault_in_part
+      events
       ∷ fault_in_part damages ∷ fault_in_part keys ∷ [])
   l ← limit
   r ← roots
@@ -80,7 +83,14 @@ plan_with top devices events damages = do
   specs ← devices_from 1 [] devices
   done ← events_from top.roots specs 1 [] events
   harms ← damages_from 1 [] damages
-  Ok (record { limit = top.limit; roots = top.roots; devices = specs; events = done; damages = harms })
+  Ok (record {
+    limit = top.limit;
+    roots = top.roots;
+    devices = specs;
+    events = done;
+    damages =
+        harms;
+  })
 
 -- the plan that a table describes: top, devices, events, damages
 unfoldable pub plan_of : Members → Result PlanData PlanFault

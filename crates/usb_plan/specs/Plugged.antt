@@ -6,4 +6,5 @@ use Rattle.usb_world.specs.PluggedDevices.{PluggedMap}
 -- the first place at the path or below it
 unfoldable pub first_through : List ℕ → PluggedMap → Option (List ℕ)
 first_through path [] = None
-first_through path (place ∷ tree) = if starts_with nat_eq place.0 path then Some place.0 else first_through path tree
+first_through path (place ∷ tree) = if starts_with nat_eq place.0 path then Some place.0
+    else first_through path tree

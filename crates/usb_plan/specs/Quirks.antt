@@ -1,5 +1,6 @@
 -- The keys of what a device does otherwise than others.
-use Rattle.std.specs.Prelude.{ℕ, codes, List, [], ◌∷◌, Bool, false, ◌||◌, Option, Some, None, ok_or, Result, Ok, Err, if◌then◌else◌}
+use Rattle.std.specs.Prelude.{ℕ, codes, List, [], ◌∷◌, Bool, false, ◌||◌, Option, Some, None, ok_or}
+use Rattle.std.specs.Prelude.{Result, Ok, Err, if◌then◌else◌}
 use Rattle.std.specs.List.{list_any, list_all}
 use Rattle.std.specs.Str.{bytes_eq}
 use Rattle.toml.specs.Data.{Data, Members, get_member, as_bool, as_str}
@@ -31,7 +32,8 @@ names word d = is_word word (as_str d)
 -- the value names a request that can be refused
 unfoldable pub is_stall : Data → Bool
 is_stall d =
-    names (codes "device") d || names (codes "address") d || names (codes "config") d || names (codes "set_config") d
+    names (codes "device") d || names (codes "address") d || names (codes "config") d ||
+    names (codes "set_config") d
     || names (codes "status") d || names (codes "hub") d || names (codes "string") d
 
 -- the requests that the values name
@@ -47,7 +49,8 @@ stalls_named ds = record {
 }
 
 unfoldable pub stalls_in : Data → Result Stalls EntryFault
-stalls_in d = read_items d >>= λ ds. if list_all is_stall ds then Ok (stalls_named ds) else Err BadValue
+stalls_in d = read_items d >>= λ ds. if list_all is_stall ds then Ok (stalls_named ds) else Err
+    BadValue
 
 -- the key `stalls`; absent nothing is refused
 unfoldable pub stalls_at : Option Data → Result Stalls EntryFault
@@ -55,17 +58,26 @@ stalls_at None = Ok no_stalls
 stalls_at (Some d) = stalls_in d
 
 unfoldable pub quirks_with :
-    Result Bool EntryFault → Result Bool EntryFault → Result Bool EntryFault → Result ℕ EntryFault → Result Stalls EntryFault
+    Result Bool EntryFault → Result Bool EntryFault → Result Bool EntryFault → Result ℕ EntryFault
+    → Result Stalls EntryFault
     → Result Quirks EntryFault
 quirks_with self_powered busy silent naks stalls = do
-  u ← least_fault (fault_in_part self_powered ∷ fault_in_part busy ∷ fault_in_part silent ∷ fault_in_part naks
+  u ← least_fault (fault_in_part self_powered ∷ fault_in_part busy ∷ fault_in_part silent ∷
+      fault_in_part naks
       ∷ fault_in_part stalls ∷ [])
   powered ← self_powered
   is_busy ← busy
   is_silent ← silent
   count ← naks
   refused ← stalls
-  Ok (record { self_powered = powered; busy = is_busy; silent = is_silent; naks = count; stalls = refused })
+  Ok (record {
+    self_powered = powered;
+    busy = is_busy;
+    silent = is_silent;
+    naks = count;
+    stalls =
+        refused;
+  })
 
 -- the keys of what a device does otherwise than others
 unfoldable pub quirks_of : Members → Result Quirks EntryFault

@@ -12,4 +12,9 @@ pub record SceneData : Type 0 where
 
 -- after these events, with nothing plugged before them
 abbrev pub scene_after : ℕ → List Spec → List Event → SceneData
-scene_after roots devices events = record { roots = roots; devices = devices; plugged = plugged_by [] events }
+scene_after roots devices events = record {
+  roots = roots;
+  devices = devices;
+  plugged =
+      plugged_by [] events;
+}

@@ -1,5 +1,6 @@
 -- What single values stand for.
-use Rattle.std.specs.Prelude.{ℕ, ℤ, pos, negsuc, List, [], ◌∷◌, length, ◌&&◌, Option, Some, None, ok_or, Result, Ok, Err, nat_le, if◌then◌else◌}
+use Rattle.std.specs.Prelude.{ℕ, ℤ, pos, negsuc, List, [], ◌∷◌, length, ◌&&◌, Option, Some, None}
+use Rattle.std.specs.Prelude.{ok_or, Result, Ok, Err, nat_le, if◌then◌else◌}
 use Rattle.hex.specs.Hex.{decode_of}
 use Rattle.hex.specs.declared.error.FromHexError.{FromHexError}
 use Rattle.toml.specs.Data.{Data, Items, no_items, item, as_integer, as_str, as_array}
@@ -50,4 +51,5 @@ hex_bytes d = text_in d >>= λ text. hex_read (decode_of text)
 
 -- the bytes of a hex text, at most so many
 unfoldable pub hex_in : ℕ → Data → Result (List ℕ) EntryFault
-hex_in most d = hex_bytes d >>= λ bytes. if nat_le (length bytes) most then Ok bytes else Err BadValue
+hex_in most d = hex_bytes d >>= λ bytes. if nat_le (length bytes) most then Ok bytes else Err
+    BadValue

@@ -3,7 +3,8 @@ use Rattle.std.specs.Prelude.{ℕ, codes, List, Option, Result, Ok, Err, if◌th
 use Rattle.std.specs.Str.{bytes_eq}
 use Rattle.toml.specs.Data.{Data}
 use Rattle.usb_plan.specs.declared.action.OtherKeys.{OtherKeys}
-use Rattle.usb_plan.specs.declared.action.OtherKeys.TheVariants.{Alone, Path, PathDevice, PathBytes, PathPackets}
+use Rattle.usb_plan.specs.declared.action.OtherKeys.TheVariants.{Alone, Path, PathDevice, PathBytes}
+use Rattle.usb_plan.specs.declared.action.OtherKeys.TheVariants.{PathPackets}
 use Rattle.usb_plan.specs.declared.entry_fault.EntryFault.{EntryFault}
 use Rattle.usb_plan.specs.declared.entry_fault.EntryFault.TheVariants.{BadValue}
 use Rattle.usb_plan.specs.declared.verb.Verb.{Verb}

@@ -1,5 +1,7 @@
 -- Below, parent, order and rank.
-use Rattle.std.proofs.Common.{◌≡◌, ℕ, zero, suc, ◌+◌, ◌-◌, ◌*◌, ◌^◌, ◌≤◌, ◌<◌, Bool, true, false, cond, List, [], ◌∷◌, ◌++◌, length, take, drop, Option, Some, None, All, refl, sym, ap, ◌∙◌, arith, length-append, nat_lt, inl, inr}
+use Rattle.std.proofs.Common.{◌≡◌, ℕ, zero, suc, ◌+◌, ◌-◌, ◌*◌, ◌^◌, ◌≤◌, ◌<◌, Bool, true, false}
+use Rattle.std.proofs.Common.{cond, List, [], ◌∷◌, ◌++◌, length, take, drop, Option, Some, None}
+use Rattle.std.proofs.Common.{All, refl, sym, ap, ◌∙◌, arith, length-append, nat_lt, inl, inr}
 use Rattle.std.specs.Prelude.{IsTrue, nat_eq, ◌↔◌}
 use Rattle.std.specs.Ordering.{nat_cmp}
 use Rattle.std.specs.Cmp.{nat_cmp_is}
@@ -13,7 +15,8 @@ use Rattle.std.proofs.Math.Nat.{mul-le-mul_right, pow-suc}
 use Rattle.usb_port.specs.Path.{IsPath, IsPortNumber}
 use Rattle.usb_port.specs.Order.{path_cmp, is_below, parent_of, port_on_hub, digits_worth, rank_of}
 
-pub taken_if : {X : Type 0} (b : Bool) (x : Option X) (y : X) → cond b x None ≡ Some y → (b ≡ true) × (x ≡ Some y)
+pub taken_if : {X : Type 0} (b : Bool) (x : Option X) (y : X) → cond b x None ≡ Some y → (b ≡ true)
+    × (x ≡ Some y)
 taken_if true x y h = (refl, h)
 taken_if false x y h = cc
 
@@ -27,8 +30,10 @@ below_extends p q h =
     let parts = and_parts (nat_lt (length q) (length p)) _ h in
     let shorter : length q < length p = ltb-true (length q) (length p) parts.0 in
     let front : q ≡ take (length q) p = same_text q (take (length q) p) (sym parts.1) in
-    let whole : p ≡ q ++ drop (length q) p = sym (take-append-drop (length q) p) ∙ ap (λ l. l ++ drop (length q) p) (sym front) in
-    let size : length p ≡ length q + length (drop (length q) p) = ap length whole ∙ length-append q (drop (length q) p) in
+    let whole : p ≡ q ++ drop (length q) p = sym (take-append-drop (length q) p)
+    ∙ ap (λ l. l ++ drop (length q) p) (sym front) in
+    let size : length p ≡ length q + length (drop (length q) p) = ap length whole
+    ∙ length-append q (drop (length q) p) in
     (drop (length q) p, whole, omega (arith, size, shorter))
 
 same_test : (q : List ℕ) (r : Bool) → r ≡ pointwise nat_eq q q → r ≡ true
@@ -62,7 +67,8 @@ pub parent : (p : List ℕ) (n : ℕ) → 1 ≤ length p → parent_of (p ++ n �
 unfolding parent_of
 parent p n some =
     let size : length (p ++ n ∷ []) ≡ length p + 1 = length-append p (n ∷ []) in
-    let long : nat_lt 1 (length (p ++ n ∷ [])) ≡ true = lt-ltb 1 (length (p ++ n ∷ [])) (omega (arith, size, some)) in
+    let long : nat_lt 1 (length (p ++ n ∷ [])) ≡ true =
+    lt-ltb 1 (length (p ++ n ∷ [])) (omega (arith, size, some)) in
     let less : length (p ++ n ∷ []) - 1 ≡ length p = omega (arith, size) in
     rw (long, less) (ap Some (take-append_seam p (n ∷ [])))
 
@@ -98,8 +104,11 @@ is_path p q h e =
     let long = c.long in
     let again = rejoined p q e in
     let size : length p ≡ length q + 1 = ap length again ∙ length-append q (port_on_hub p ∷ []) in
-    let most = h.1 in
-    (omega (arith, size, long), omega (arith, size, most), rw c.front (All-take IsPortNumber (length p - 1) p h.2))
+    let most = h.1 in (
+      omega (arith, size, long),
+      omega (arith, size, most),
+      rw c.front (All-take IsPortNumber (length p - 1) p h.2),
+    )
 
 power_pos : (k : ℕ) → 1 ≤ 8 ^ k
 power_pos zero = omega arith
@@ -119,7 +128,8 @@ pub bound : (p : List ℕ) → IsPath p → rank_of p < 8 ^ 7
 unfolding rank_of
 bound p h = worth_below 7 p h.2
 
-worth_rises : (k : ℕ) (p q : List ℕ) → All IsPortNumber p → All IsPortNumber q → length p ≤ k → length q ≤ k → path_cmp p q ≡ Less → digits_worth k p < digits_worth k q
+worth_rises : (k : ℕ) (p q : List ℕ) → All IsPortNumber p → All IsPortNumber q → length p ≤ k
+    → length q ≤ k → path_cmp p q ≡ Less → digits_worth k p < digits_worth k q
 unfolding digits_worth
 worth_rises k [] [] all_p all_q short_p short_q less = cc
 worth_rises k (x ∷ p) [] all_p all_q short_p short_q less = cc
@@ -134,12 +144,15 @@ worth_rises (suc k) (x ∷ p) (y ∷ q) all_p all_q short_p short_q less =
     elim (cases_order x y) [
       | inl same ↦
           let tied : nat_cmp x y ≡ Equal = sym (nat_cmp_is x y Equal same) in
-          let rest = worth_rises k p q (All-tail IsPortNumber x p all_p) (All-tail IsPortNumber y q all_q) (omega (arith, short_p)) (omega (arith, short_q)) (rw tied at less) in
+          let rest = worth_rises k p q (All-tail IsPortNumber x p all_p)
+          (All-tail IsPortNumber y q all_q) (omega (arith, short_p)) (omega (arith, short_q))
+          (rw tied at less) in
           let first : x * 8 ^ k ≡ y * 8 ^ k = ap (λ n. n * 8 ^ k) same in
           omega (arith, rest, first)
       | inr other ↦ elim other [
         | inl lower ↦
-            let first : (x + 1) * 8 ^ k ≤ y * 8 ^ k = mul-le-mul_right (8 ^ k) (omega (arith, lower)) in
+            let first : (x + 1) * 8 ^ k ≤ y * 8 ^ k =
+            mul-le-mul_right (8 ^ k) (omega (arith, lower)) in
             let rest = worth_below k p (All-tail IsPortNumber x p all_p) in
             omega (arith, first, rest)
         | inr higher ↦
@@ -149,6 +162,7 @@ worth_rises (suc k) (x ∷ p) (y ∷ q) all_p all_q short_p short_q less =
       ]
     ]
 
-pub rank_of-less : (p q : List ℕ) → IsPath p → IsPath q → path_cmp p q ≡ Less → rank_of p < rank_of q
+pub rank_of-less : (p q : List ℕ) → IsPath p → IsPath q → path_cmp p q ≡ Less
+    → rank_of p < rank_of q
 unfolding rank_of
 rank_of-less p q h i less = worth_rises 7 p q h.2 i.2 h.1 i.1 less

@@ -26,14 +26,62 @@ record Changes (b c d : Bool) : Type 0 where
 
 change_bits : (b c d : Bool) → Changes b c d
 unfolding has_bit
-change_bits true true true = record { first = refl; second = refl; third = refl; fourth = refl; fifth = refl }
-change_bits true true false = record { first = refl; second = refl; third = refl; fourth = refl; fifth = refl }
-change_bits true false true = record { first = refl; second = refl; third = refl; fourth = refl; fifth = refl }
-change_bits true false false = record { first = refl; second = refl; third = refl; fourth = refl; fifth = refl }
-change_bits false true true = record { first = refl; second = refl; third = refl; fourth = refl; fifth = refl }
-change_bits false true false = record { first = refl; second = refl; third = refl; fourth = refl; fifth = refl }
-change_bits false false true = record { first = refl; second = refl; third = refl; fourth = refl; fifth = refl }
-change_bits false false false = record { first = refl; second = refl; third = refl; fourth = refl; fifth = refl }
+change_bits true true true = record {
+  first = refl;
+  second = refl;
+  third = refl;
+  fourth = refl;
+  fifth = refl;
+}
+change_bits true true false = record {
+  first = refl;
+  second = refl;
+  third = refl;
+  fourth = refl;
+  fifth = refl;
+}
+change_bits true false true = record {
+  first = refl;
+  second = refl;
+  third = refl;
+  fourth = refl;
+  fifth = refl;
+}
+change_bits true false false = record {
+  first = refl;
+  second = refl;
+  third = refl;
+  fourth = refl;
+  fifth = refl;
+}
+change_bits false true true = record {
+  first = refl;
+  second = refl;
+  third = refl;
+  fourth = refl;
+  fifth = refl;
+}
+change_bits false true false = record {
+  first = refl;
+  second = refl;
+  third = refl;
+  fourth = refl;
+  fifth = refl;
+}
+change_bits false false true = record {
+  first = refl;
+  second = refl;
+  third = refl;
+  fourth = refl;
+  fifth = refl;
+}
+change_bits false false false = record {
+  first = refl;
+  second = refl;
+  third = refl;
+  fourth = refl;
+  fifth = refl;
+}
 
 pub status_seen : (p : PortState) → status_in (status_of p) ≡ seen p
 unfolding status_in status_of

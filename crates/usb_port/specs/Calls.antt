@@ -1,13 +1,20 @@
--- The calls of a port, each by its feature, and what each makes of the port: the port table (11.24).
-use Rattle.std.specs.Prelude.{◌≡◌, ℕ, Bool, true, false, ◌==◌, if◌then◌else◌, Option, None, Some, is_some}
-use Rattle.usb_request.specs.Features.{PORT_ENABLE, PORT_RESET, PORT_POWER, C_PORT_CONNECTION, C_PORT_ENABLE, C_PORT_RESET}
-use Rattle.usb_port.specs.PortState.{PortState, powered_on, reset, disabled, powered_off, connection_cleared, enable_cleared, reset_cleared}
+-- The calls of a port, each by its feature, and what each makes of the port: the port table
+-- (11.24).
+use Rattle.std.specs.Prelude.{◌≡◌, ℕ, Bool, true, false, ◌==◌, if◌then◌else◌, Option, None, Some}
+use Rattle.std.specs.Prelude.{is_some}
+use Rattle.usb_request.specs.Features.{PORT_ENABLE, PORT_RESET, PORT_POWER, C_PORT_CONNECTION}
+use Rattle.usb_request.specs.Features.{C_PORT_ENABLE, C_PORT_RESET}
+use Rattle.usb_port.specs.PortState.{PortState, powered_on, reset, disabled, powered_off}
+use Rattle.usb_port.specs.PortState.{connection_cleared, enable_cleared, reset_cleared}
 use Rattle.usb_port.specs.declared.call.PortCall.{PortCall}
-use Rattle.usb_port.specs.declared.call.PortCall.TheVariants.{SetPower, SetReset, ClearEnable, ClearPower, ClearConnectionChange, ClearEnableChange, ClearResetChange}
+use Rattle.usb_port.specs.declared.call.PortCall.TheVariants.{SetPower, SetReset, ClearEnable}
+use Rattle.usb_port.specs.declared.call.PortCall.TheVariants.{ClearPower, ClearConnectionChange}
+use Rattle.usb_port.specs.declared.call.PortCall.TheVariants.{ClearEnableChange, ClearResetChange}
 
 -- SetPortFeature, by its feature (11.24.2.13)
 abbrev pub set_call : ℕ → Option PortCall
-set_call feature = if feature == PORT_POWER then Some SetPower else if feature == PORT_RESET then Some SetReset else None
+set_call feature = if feature == PORT_POWER then Some SetPower else if feature == PORT_RESET
+    then Some SetReset else None
 
 -- ClearPortFeature, by its feature (11.24.2.2)
 abbrev pub clear_call : ℕ → Option PortCall

@@ -1,5 +1,6 @@
 -- How paths lie to one another: below, parent, and a number that rises with their order.
-use Rattle.std.specs.Prelude.{ℕ, zero, suc, ◌+◌, ◌-◌, ◌*◌, ◌^◌, List, [], ◌∷◌, length, take, Option, Some, None, Bool, ◌&&◌, nat_lt, nat_eq, if◌then◌else◌, slice_index}
+use Rattle.std.specs.Prelude.{ℕ, zero, suc, ◌+◌, ◌-◌, ◌*◌, ◌^◌, List, [], ◌∷◌, length, take, Option}
+use Rattle.std.specs.Prelude.{Some, None, Bool, ◌&&◌, nat_lt, nat_eq, if◌then◌else◌, slice_index}
 use Rattle.std.specs.List.{starts_with}
 use Rattle.std.specs.declared.cmp.Ordering.{Ordering}
 use Rattle.std.specs.Ordering.{nat_cmp}

@@ -19,7 +19,8 @@ status_in bytes = record {
   reset_changed = has_bit (slice_index bytes 2) 4;
 }
 
--- what a port's status says of it: what is attached is seen with power only, and neither suspended nor over-current ports are played
+-- what a port's status says of it: what is attached is seen with power only, and neither suspended
+-- nor over-current ports are played
 abbrev pub seen : PortState → PortStatus
 seen p = record {
   connected = p.power && is_attached p.attached;

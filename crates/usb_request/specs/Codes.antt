@@ -61,7 +61,8 @@ ENDPOINT = 5
 abbrev pub HUB : ℕ
 HUB = 0x29
 
--- how many bytes the descriptor of each has (9.6, 11.23.2.1), a hub's where it has at most seven ports; the head of a device's ends
+-- how many bytes the descriptor of each has (9.6, 11.23.2.1), a hub's where it has at most seven
+-- ports; the head of a device's ends
 -- with bMaxPacketSize0
 abbrev pub DEVICE_LENGTH : ℕ
 DEVICE_LENGTH = 18
@@ -81,7 +82,8 @@ ENDPOINT_LENGTH = 7
 abbrev pub HUB_LENGTH : ℕ
 HUB_LENGTH = 9
 
--- bEndpointAddress (9.6.6): bit 7, which is set where data go to the host, as in bmRequestType, and the interrupt endpoint of a
+-- bEndpointAddress (9.6.6): bit 7, which is set where data go to the host, as in bmRequestType, and
+-- the interrupt endpoint of a
 -- hub (11.12.1)
 abbrev pub DIRECTION_IN : ℕ
 DIRECTION_IN = 0x80

@@ -8,7 +8,20 @@ abbrev pub HUB_OUT : ℕ
 HUB_OUT = 0x20
 
 unfoldable pub get_hub_status : Setup
-get_hub_status = record { request_type = HUB_IN; request = GET_STATUS; value = 0; index = 0; length = 4 }
+get_hub_status = record {
+  request_type = HUB_IN;
+  request = GET_STATUS;
+  value = 0;
+  index = 0;
+  length = 4;
+}
 
 unfoldable pub clear_hub_feature : ℕ → Setup
-clear_hub_feature feature = record { request_type = HUB_OUT; request = CLEAR_FEATURE; value = feature; index = 0; length = 0 }
+clear_hub_feature feature = record {
+  request_type = HUB_OUT;
+  request = CLEAR_FEATURE;
+  value =
+      feature;
+  index = 0;
+  length = 0;
+}

@@ -1,5 +1,5 @@
-//! Serves the rows of `data/`: plans, each in both modes and by a host before a far end, and packets in digits. Prints a
-//! line for each that is not as wanted, and how many rows there are and how many of them differ.
+//! Serves the rows of `data/`: plans, each in both modes and by a host before a far end, and packets in digits. Prints
+//! a line for each that is not as wanted, and how many rows there are and how many of them differ.
 #![tactic(auto)]
 
 mod live;

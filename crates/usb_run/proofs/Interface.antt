@@ -1,11 +1,18 @@
 -- The lemmas that crates above cite. All others are for this crate alone.
-pub use Rattle.usb_run.proofs.AskedCalls.{AskAnswered, silent, listed, sent, received, cleared, answered}
+pub use Rattle.usb_run.proofs.AskedCalls.{AskAnswered, silent, listed, sent, received, cleared}
+pub use Rattle.usb_run.proofs.AskedCalls.{answered}
 pub use Rattle.usb_run.proofs.endings.Causes.{at_fault, run_limit, untold_fault}
 pub use Rattle.usb_run.proofs.endings.Ends.{knows_opened, limit_opened}
-pub use Rattle.usb_run.proofs.courses.KnowledgeKept.{arrival_knows, came_running, came_still, item_keeps_sound, knows_then, makes_knows, puts_knows}
+pub use Rattle.usb_run.proofs.courses.KnowledgeKept.{arrival_knows, came_running, came_still}
+pub use Rattle.usb_run.proofs.courses.KnowledgeKept.{item_keeps_sound, knows_then, makes_knows}
+pub use Rattle.usb_run.proofs.courses.KnowledgeKept.{puts_knows}
 pub use Rattle.usb_run.proofs.items.Moments.{run_lists_right}
-pub use Rattle.usb_run.proofs.courses.RunCourses.{RunsOnward, called_onward, comes_onward, puts_onward, traced_runs_onward}
+pub use Rattle.usb_run.proofs.courses.RunCourses.{RunsOnward, called_onward, comes_onward}
+pub use Rattle.usb_run.proofs.courses.RunCourses.{puts_onward, traced_runs_onward}
 pub use Rattle.usb_run.proofs.courses.RunParts.{item_called, round_called}
-pub use Rattle.usb_run.proofs.items.ToldTransfers.{count_done, told_cleared, told_received, told_sent, no_bus_fault}
-pub use Rattle.usb_run.proofs.items.Transcripts.{appends_no_text, cut_next, cuts_line, ends_failed, flat_map-take, over_next, puts_line, stopped_next, texts_split, told_next, unwritten_next}
+pub use Rattle.usb_run.proofs.items.ToldTransfers.{count_done, told_cleared, told_received}
+pub use Rattle.usb_run.proofs.items.ToldTransfers.{told_sent, no_bus_fault}
+pub use Rattle.usb_run.proofs.items.Transcripts.{appends_no_text, cut_next, cuts_line, ends_failed}
+pub use Rattle.usb_run.proofs.items.Transcripts.{flat_map-take, over_next, puts_line, stopped_next}
+pub use Rattle.usb_run.proofs.items.Transcripts.{texts_split, told_next, unwritten_next}
 pub use Rattle.usb_run.proofs.ledgers.Enough.{not_limited}

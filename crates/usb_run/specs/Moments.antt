@@ -16,14 +16,16 @@ use Rattle.usb_run.specs.declared.runs.Item.{Item}
 use Rattle.usb_run.specs.declared.runs.Item.TheVariants.{Listing, Sent, Received, Cleared}
 use Rattle.usb_run.specs.declared.runs.Report.{Report}
 
--- what an item tells of the event that asked for it is so: of a listing the host had settled; the device at the path took the bytes that were to be sent,
+-- what an item tells of the event that asked for it is so: of a listing the host had settled; the
+-- device at the path took the bytes that were to be sent,
 -- gave those that are told, or had its halts cleared
 abbrev pub TellsRight : Option Ask → Item → HostState → HostState → Type 0
 TellsRight (Some Show) item old new = Settled new
 TellsRight (Some (Send path bytes)) (Sent to told) old new =
     Delivered path (is_ok told) bytes (table_in old) old.world (table_in new) new.world
 TellsRight (Some (Receive path packets)) (Received from told) old new =
-    Collected path (is_ok told) packets (bytes_in told) (table_in old) old.world (table_in new) new.world
+    Collected path (is_ok told) packets (bytes_in told) (table_in old) old.world (table_in new)
+    new.world
 TellsRight (Some (Clear path)) (Cleared at told) old new =
     Restarted path (is_ok told) (table_in old) old.world (table_in new) new.world
 TellsRight due item old new = ⊥
@@ -43,6 +45,7 @@ ListsRight plan items last = IsFairTo (opening plan) last → AllByRecursion (Is
 
 -- Without a world
 
--- where no address was lost three times running, each listing of a report is what is plugged when it is made
+-- where no address was lost three times running, each listing of a report is what is plugged when
+-- it is made
 abbrev pub ListsPlugged : PlanData → Report → Type 0
 ListsPlugged plan report = report.worst_address_run ≤ 2 → All (IsListingOf plan) report.items.items

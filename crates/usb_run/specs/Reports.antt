@@ -1,5 +1,6 @@
 -- Where a plan's run begins, and where it ends, with its report.
-use Rattle.std.specs.Prelude.{◌≡◌, ◌≢◌, ◌⊎◌, ℕ, List, reverse, Option, Bool, false, Result, Err, IfOk, IfErr}
+use Rattle.std.specs.Prelude.{◌≡◌, ◌≢◌, ◌⊎◌, ℕ, List, reverse, Option, Bool, false, Result, Err}
+use Rattle.std.specs.Prelude.{IfOk, IfErr}
 use Rattle.usb_world.specs.PlanData.{PlanData, IsPlan}
 use Rattle.usb_world.specs.PlanCourses.{AtPorts}
 use Rattle.usb_world.specs.Steps.{opening}
@@ -17,7 +18,8 @@ use Rattle.usb_run.specs.Moments.{ListsRight}
 use Rattle.usb_run.specs.Run.{IsCaused}
 use Rattle.usb_run.specs.Transcript.{RunsTo, itself, never}
 
--- a host of a plan's bus, whose root ports were given power in silence: it knows of no device, and that is so
+-- a host of a plan's bus, whose root ports were given power in silence: it knows of no device, and
+-- that is so
 pub record Opens (plan : PlanData) (before : Option (List ℕ)) (h : HostState) : Type 0 where
   pub is : h ≡ host_opening (opening plan) before
   pub traced : Traced (opening plan) before h.world h.trace
@@ -33,13 +35,16 @@ pub record Reports (items : List Item) (w : World) (report : Report) : Type 0 wh
   pub worst : report.worst_address_run ≡ w.losses.worst
 
 -- a run to its end, and its report
-pub record Finishes (was : Bool) (old : HostState) (result : Result Report RunFault) (new : HostState) : Type 0 where
+pub record Finishes (was : Bool) (old : HostState) (result : Result Report RunFault)
+    (new : HostState) : Type 0 where
   pub items : List Item
   pub ends : RunsTo Tree itself never was old items result new
   pub report : IfOk result (Reports items new.world)
   pub caused : IfErr result (λ fault. IsCaused fault new.world)
 
--- a plan's run to where it ends, with or without a fault: at no attempt so far did two reachable devices hold one address, and what it tells is right; a fault has its cause, and it is none of a trace
+-- a plan's run to where it ends, with or without a fault: at no attempt so far did two reachable
+-- devices hold one address, and what it tells is right; a fault has its cause, and it is none of a
+-- trace
 pub record RunsWell (plan : PlanData) (result : Result Report RunFault) : Type 0 where
   pub before : Option (List ℕ)
   pub first : HostState

@@ -32,14 +32,16 @@ round_fault (host.Pipe fault) = Memory
 round_fault (host.Bus fault) = run_fault fault
 round_fault host.Memory = Memory
 
--- a fault of a run is told only where its cause stands: the limit where the attempts equal it and the bus gave one up for it, the trace where the bus could not write it
+-- a fault of a run is told only where its cause stands: the limit where the attempts equal it and
+-- the bus gave one up for it, the trace where the bus could not write it
 abbrev pub IsCaused : RunFault → World → Type 0
 IsCaused LimitReached w = (w.attempts ≡ w.limit) × (w.fault ≡ Some bus.LimitReached)
 IsCaused Memory w = Unit {0}
 IsCaused TraceFailed w = w.fault ≡ Some bus.TraceFailed
 
 -- a part of a run that goes so: its host goes on where no fault is told, and a fault has its cause
-pub record RunsOn {A : Type 0} (Goes : HostState → Result A RunFault → HostState → Type 0) (old : HostState) (result : Result A RunFault) (new : HostState) : Type 0 where
+pub record RunsOn {A : Type 0} (Goes : HostState → Result A RunFault → HostState → Type 0)
+    (old : HostState) (result : Result A RunFault) (new : HostState) : Type 0 where
   pub goes : Goes old result new
   pub running : OnOk result (new.stopped ≡ false)
   pub caused : IfErr result (λ fault. IsCaused fault new.world)

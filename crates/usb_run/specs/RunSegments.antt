@@ -18,12 +18,14 @@ use Rattle.usb_run.specs.Transfers.{IsItemOf}
 
 -- A host
 
--- what a host knows of its ports and devices is so; and where damage was fair, each refused device has its cause
+-- what a host knows of its ports and devices is so; and where damage was fair, each refused device
+-- has its cause
 pub record Knows (h : HostState) : Type 0 where
   pub sound : HostInvariant h
   pub causes : IsFairTo h.world h.world → RefusalsJustified h.world h.entries
 
--- a host has settled: it goes on, and what it knows is so; as long as the bus is at work nothing is left to do, and where damage was fair it lists what is plugged
+-- a host has settled: it goes on, and what it knows is so; as long as the bus is at work nothing is
+-- left to do, and where damage was fair it lists what is plugged
 pub record Settled (h : HostState) : Type 0 where
   pub running : h.stopped ≡ false
   pub knows : Knows h
@@ -51,7 +53,8 @@ pub record EndsSettling (round : Round) (old new : HostState) : Type 0 where
 -- rounds one after the other, none of which ends settling
 pub data Rounds (old : HostState) : HostState → Type 0 where
   none : Rounds old old
-  more : {h k : HostState} (round : Round) → Rounds old h → RoundTells h (Ok round) k → (EndsSettling round h k → ⊥) → Rounds old k
+  more : {h k : HostState} (round : Round) → Rounds old h → RoundTells h (Ok round) k
+      → (EndsSettling round h k → ⊥) → Rounds old k
 
 -- a host settled: rounds, of which the last alone ends settling
 pub record Settles (old new : HostState) : Type 0 where
@@ -72,21 +75,25 @@ abbrev pub Settling : HostState → Result (Unit {0}) RunFault → HostState →
 Settling old (Ok done) new = Settles old new
 Settling old (Err fault) new = Unsettled old fault new
 
--- what settling leaves of a host, by what was so before; that its table agrees with its addresses is so of every host, as `tree` tells
+-- what settling leaves of a host, by what was so before; that its table agrees with its addresses
+-- is so of every host, as `tree` tells
 pub record LeavesSettled (old new : HostState) : Type 0 where
   pub rest : HostInvariant old → new.world.fault ≡ None → IsAtRest new.world new.entries
   pub settled : Agrees new.entries new.addresses → Knows old → Settled new
 
 -- Events
 
--- the next event came, or none was left, or the bus told its fault; no line but the event's was written, and the host keeps what it had
-pub record Comes (old : HostState) (result : Result (Option (Option Ask)) BusFault) (new : HostState) : Type 0 where
+-- the next event came, or none was left, or the bus told its fault; no line but the event's was
+-- written, and the host keeps what it had
+pub record Comes (old : HostState) (result : Result (Option (Option Ask)) BusFault)
+    (new : HostState) : Type 0 where
   pub takes : TakesEvent old.world old.trace result new.world new.trace
   pub rests : OnlyBusSteps old new
   pub agrees : Agrees old.entries old.addresses
 
 -- the host settled, and then the next event came, or none was left, or the bus told its fault
-pub record Arrives (old : HostState) (result : Result (Option (Option Ask)) BusFault) (new : HostState) : Type 0 where
+pub record Arrives (old : HostState) (result : Result (Option (Option Ask)) BusFault)
+    (new : HostState) : Type 0 where
   pub mid : HostState
   pub settles : Settles old mid
   pub settled : Settled mid
@@ -99,11 +106,13 @@ pub data Ran (old : HostState) : HostState → Type 0 where
       → IsItemOf due None k k → Ran old k
 
 -- such events, and then one more, or none that was left, or the bus's fault
-pub record Reaches (old : HostState) (result : Result (Option (Option Ask)) BusFault) (new : HostState) : Type 0 where
+pub record Reaches (old : HostState) (result : Result (Option (Option Ask)) BusFault)
+    (new : HostState) : Type 0 where
   pub behind : HostState
   pub ran : Ran old behind
   pub arrives : Arrives behind result new
 
 -- a part of a run that goes so where what its host knew was so
-abbrev pub Knowing : {A : Type 0} (Goes : HostState → Result A RunFault → HostState → Type 0) → HostState → Result A RunFault → HostState → Type 0
+abbrev pub Knowing : {A : Type 0} (Goes : HostState → Result A RunFault → HostState → Type 0)
+    → HostState → Result A RunFault → HostState → Type 0
 Knowing Goes old result new = Knows old → Goes old result new

@@ -4,7 +4,10 @@ use Rattle.std.specs.Global.{Vec}
 use Rattle.usb_packet.specs.Text.{hex_text}
 use Rattle.usb_port.specs.Path.{path_text}
 use Rattle.usb_run.specs.declared.transfer.TransferFault.{TransferFault}
-use Rattle.usb_run.specs.declared.transfer.TransferFault.TheVariants.{NoDevice, NoEndpoint, Stalled as EndpointStalled, Busy as EndpointBusy, NoAnswer, Broken}
+use Rattle.usb_run.specs.declared.transfer.TransferFault.TheVariants.{NoDevice, NoEndpoint}
+use Rattle.usb_run.specs.declared.transfer.TransferFault.TheVariants.{Stalled as EndpointStalled}
+use Rattle.usb_run.specs.declared.transfer.TransferFault.TheVariants.{Busy as EndpointBusy}
+use Rattle.usb_run.specs.declared.transfer.TransferFault.TheVariants.{NoAnswer, Broken}
 
 -- why a transfer was not done
 abbrev pub fault_word : TransferFault → List ℕ
@@ -38,7 +41,8 @@ sent_line path sent = codes "send " ++ path_text path ++ sent_end sent ++ codes 
 
 -- receive PATH done HEX, or receive PATH failed WORDS
 unfoldable pub received_line : List ℕ → Result (Vec ℕ) TransferFault → List ℕ
-received_line path received = codes "receive " ++ path_text path ++ received_end received ++ codes "\n"
+received_line path received = codes "receive " ++ path_text path ++ received_end received ++
+    codes "\n"
 
 -- clear PATH done, or clear PATH failed WORDS
 unfoldable pub cleared_line : List ℕ → Result (Unit {0}) TransferFault → List ℕ

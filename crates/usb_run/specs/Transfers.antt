@@ -34,12 +34,14 @@ fault_in_run (host.Pipe fault) = answer_of_pipe fault
 fault_in_run (host.Bus fault) = Err (run_fault fault)
 fault_in_run host.Memory = Err Memory
 
-abbrev pub failed : {A : Type 0} → Result TransferFault RunFault → Result (Result A TransferFault) RunFault
+abbrev pub failed : {A : Type 0} → Result TransferFault RunFault
+    → Result (Result A TransferFault) RunFault
 failed (Ok fault) = Ok (Err fault)
 failed (Err fault) = Err fault
 
 -- what a transfer came to, where it did not end the run
-abbrev pub transfer_ended : {A : Type 0} → Result A HostFault → Result (Result A TransferFault) RunFault
+abbrev pub transfer_ended : {A : Type 0} → Result A HostFault
+    → Result (Result A TransferFault) RunFault
 transfer_ended (Ok done) = Ok (Ok done)
 transfer_ended (Err fault) = failed (fault_in_run fault)
 
@@ -51,25 +53,29 @@ sent_count count (Err fault) = Err fault
 -- One call
 
 -- the host made one call, and this is told of it
-pub record Transfers {A : Type 0} (Tells : HostState → Result A HostFault → HostState → Type 0) (old : HostState) (told : Result A TransferFault) (new : HostState) : Type 0 where
+pub record Transfers {A : Type 0} (Tells : HostState → Result A HostFault → HostState → Type 0)
+    (old : HostState) (told : Result A TransferFault) (new : HostState) : Type 0 where
   pub answer : Result A HostFault
   pub call : Tells old answer new
   pub tells : transfer_ended answer ≡ Ok told
 
 -- the host made one call, and its fault ends the run
-pub record TransferStops {A : Type 0} (Tells : HostState → Result A HostFault → HostState → Type 0) (old : HostState) (fault : RunFault) (new : HostState) : Type 0 where
+pub record TransferStops {A : Type 0} (Tells : HostState → Result A HostFault → HostState → Type 0)
+    (old : HostState) (fault : RunFault) (new : HostState) : Type 0 where
   pub answer : Result A HostFault
   pub call : Tells old answer new
   pub tells : transfer_ended answer ≡ Err fault
 
 -- What a run makes of an event
 
--- nothing of a change, a listing at once where the host is to list, and of a transfer to the device at a path what it came to
+-- nothing of a change, a listing at once where the host is to list, and of a transfer to the device
+-- at a path what it came to
 abbrev pub IsItemOf : Option Ask → Option Item → HostState → HostState → Type 0
 IsItemOf None item old new = (item ≡ None) × (new ≡ old)
 IsItemOf (Some Show) item old new = (item ≡ Some (listing_of new)) × (new ≡ old)
 IsItemOf (Some (Send path bytes)) item old new =
-    (told : Result (Unit {0}) TransferFault) × (item ≡ Some (Sent path (sent_count (length bytes) told)))
+    (told : Result (Unit {0}) TransferFault)
+    × (item ≡ Some (Sent path (sent_count (length bytes) told)))
     × Transfers (SendTells path bytes) old told new
 IsItemOf (Some (Receive path packets)) item old new =
     (told : Result (Vec ℕ) TransferFault) × (item ≡ Some (Received path told))
@@ -83,7 +89,8 @@ abbrev pub StopsAt : Option Ask → RunFault → HostState → HostState → Typ
 StopsAt None fault old new = ⊥
 StopsAt (Some Show) fault old new = (fault ≡ Memory) × (new ≡ old)
 StopsAt (Some (Send path bytes)) fault old new = TransferStops (SendTells path bytes) old fault new
-StopsAt (Some (Receive path packets)) fault old new = TransferStops (ReceiveTells path packets) old fault new
+StopsAt (Some (Receive path packets)) fault old new =
+    TransferStops (ReceiveTells path packets) old fault new
 StopsAt (Some (Clear path)) fault old new = TransferStops (ClearTells path) old fault new
 
 abbrev pub Does : Option Ask → HostState → Result (Option Item) RunFault → HostState → Type 0

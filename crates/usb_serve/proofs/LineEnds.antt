@@ -1,5 +1,6 @@
 -- Each line of report ends in its newline.
-use Rattle.std.proofs.Common.{◌≡◌, ◌∙◌, refl, sym, ap, subst, append_assoc, ℕ, ◌+◌, List, [], ◌∷◌, ◌++◌, map, flat_map, Bool, Option, None, Some, Result}
+use Rattle.std.proofs.Common.{◌≡◌, ◌∙◌, refl, sym, ap, subst, append_assoc, ℕ, ◌+◌, List, [], ◌∷◌}
+use Rattle.std.proofs.Common.{◌++◌, map, flat_map, Bool, Option, None, Some, Result}
 use Rattle.std.proofs.lemmas.List.Elements.{All-from_recursion}
 use Rattle.std.specs.Global.{Vec}
 use Rattle.std.specs.List.{concat, AllByRecursion}
@@ -14,8 +15,12 @@ use Rattle.usb_table.specs.Entries.{Entries}
 use Rattle.usb_run.specs.declared.runs.Item.{Item}
 use Rattle.usb_run.specs.declared.runs.Item.TheVariants.{Listing, Sent, Received, Cleared}
 use Rattle.usb_run.specs.declared.transfer.TransferFault.{TransferFault}
-use Rattle.usb_run.specs.TransferLines.{sent_line, received_line, cleared_line, sent_end, received_end, cleared_end}
-use Rattle.usb_text.specs.ListingLines.{address_line, config_line, config_lines, hub_line, hub_lines, string_line, string_lines, device_lines, refused_line, finding_lines, entry_lines, listing_line, listing_lines}
+use Rattle.usb_run.specs.TransferLines.{sent_line, received_line, cleared_line, sent_end}
+use Rattle.usb_run.specs.TransferLines.{received_end, cleared_end}
+use Rattle.usb_text.specs.ListingLines.{address_line, config_line, config_lines, hub_line}
+use Rattle.usb_text.specs.ListingLines.{hub_lines, string_line, string_lines, device_lines}
+use Rattle.usb_text.specs.ListingLines.{refused_line, finding_lines, entry_lines, listing_line}
+use Rattle.usb_text.specs.ListingLines.{listing_lines}
 use Rattle.usb_run.specs.ItemLines.{IsLine, item_lines}
 
 -- a newline behind any bytes, or an end that has one
@@ -32,18 +37,22 @@ lines_then : (xs ys : List (List ℕ)) → AreLines xs → AreLines ys → AreLi
 lines_then [] ys p q = q
 lines_then (x ∷ xs) ys (p, ps) q = (p, lines_then xs ys ps q)
 
-address_ends : (path : List ℕ) (address : ℕ) (low : Bool) (bytes : List ℕ) → IsLine (address_line path address low bytes)
+address_ends : (path : List ℕ) (address : ℕ) (low : Bool) (bytes : List ℕ)
+    → IsLine (address_line path address low bytes)
 unfolding address_line
 address_ends path address low bytes = line_end _
 
-config_ends : (path : List ℕ) (index : ℕ) (text : List ℕ) (chosen : Bool) → IsLine (config_line path index text chosen)
+config_ends : (path : List ℕ) (index : ℕ) (text : List ℕ) (chosen : Bool)
+    → IsLine (config_line path index text chosen)
 unfolding config_line
 config_ends path index text chosen = line_end _
 
-configs_end : (path : List ℕ) (index chosen : ℕ) (texts : List (List ℕ)) → AreLines (config_lines path index chosen texts)
+configs_end : (path : List ℕ) (index chosen : ℕ) (texts : List (List ℕ))
+    → AreLines (config_lines path index chosen texts)
 unfolding config_lines
 configs_end path index chosen [] = tt
-configs_end path index chosen (text ∷ texts) = (config_ends path index text (index == chosen), configs_end path (index + 1) chosen texts)
+configs_end path index chosen (text ∷ texts) =
+    (config_ends path index text (index == chosen), configs_end path (index + 1) chosen texts)
 
 hub_ends : (path : List ℕ) (ports supply : ℕ) → IsLine (hub_line path ports supply)
 unfolding hub_line
@@ -57,7 +66,8 @@ string_ends : (path label units : List ℕ) → IsLine (string_line path label u
 unfolding string_line
 string_ends path label units = ends_line _ (codes "\"")
 
-strings_end : (path label : List ℕ) (units : Option (List ℕ)) → AreLines (string_lines path label units)
+strings_end : (path label : List ℕ) (units : Option (List ℕ))
+    → AreLines (string_lines path label units)
 strings_end path label None = tt
 strings_end path label (Some units) = (string_ends path label units, tt)
 
@@ -74,7 +84,8 @@ device_ends path d =
     (lines_then (address ++ configs ++ hubs ++ makers) products
     (lines_then (address ++ configs ++ hubs) makers
     (lines_then (address ++ configs) hubs
-    (lines_then address configs (address_ends path d.address d.low d.bytes, tt) (configs_end path 0 d.chosen d.configs))
+    (lines_then address configs (address_ends path d.address d.low d.bytes, tt)
+    (configs_end path 0 d.chosen d.configs))
     (hubs_end path d.hub))
     (strings_end path (codes "manufacturer") d.strings.manufacturer))
     (strings_end path (codes "product") d.strings.product))
@@ -90,7 +101,8 @@ finding_ends path (Refused cause) = (refused_ends path cause, tt)
 
 entries_end : (entries : Entries) → AreLines (flat_map entry_lines entries)
 entries_end [] = tt
-entries_end (entry ∷ entries) = lines_then (entry_lines entry) _ (finding_ends entry.0 entry.1) (entries_end entries)
+entries_end (entry ∷ entries) = lines_then (entry_lines entry) _ (finding_ends entry.0 entry.1)
+    (entries_end entries)
 
 listing_line-is_line : (number : ℕ) → IsLine (listing_line number)
 unfolding listing_line
@@ -101,17 +113,21 @@ unfolding listing_lines
 listing_ends number entries =
     let first = listing_line number ∷ [] in
     let all = flat_map entry_lines entries in
-    lines_then (first ++ all) (codes "end\n" ∷ []) (lines_then first all (listing_line-is_line number, tt) (entries_end entries)) (ends_line [] (codes "end"), tt)
+    lines_then (first ++ all) (codes "end\n" ∷ [])
+    (lines_then first all (listing_line-is_line number, tt) (entries_end entries))
+    (ends_line [] (codes "end"), tt)
 
 sent_ends : (path : List ℕ) (sent : Result ℕ TransferFault) → IsLine (sent_line path sent)
 unfolding sent_line
 sent_ends path sent = line_end (codes "send " ++ path_text path ++ sent_end sent)
 
-received_ends : (path : List ℕ) (received : Result (Vec ℕ) TransferFault) → IsLine (received_line path received)
+received_ends : (path : List ℕ) (received : Result (Vec ℕ) TransferFault)
+    → IsLine (received_line path received)
 unfolding received_line
 received_ends path received = line_end (codes "receive " ++ path_text path ++ received_end received)
 
-cleared_ends : (path : List ℕ) (cleared : Result (Unit {0}) TransferFault) → IsLine (cleared_line path cleared)
+cleared_ends : (path : List ℕ) (cleared : Result (Unit {0}) TransferFault)
+    → IsLine (cleared_line path cleared)
 unfolding cleared_line
 cleared_ends path cleared = line_end (codes "clear " ++ path_text path ++ cleared_end cleared)
 
@@ -123,17 +139,22 @@ item_ends number (Cleared path cleared) = (cleared_ends path cleared, tt)
 
 -- Lines in vectors
 
-each_line : (vs : List (Vec ℕ)) → AreLines (map (λ v. v.items) vs) → AllByRecursion (λ (v : Vec ℕ). IsLine v.items) vs
+each_line : (vs : List (Vec ℕ)) → AreLines (map (λ v. v.items) vs)
+    → AllByRecursion (λ (v : Vec ℕ). IsLine v.items) vs
 each_line [] p = tt
 each_line (v ∷ vs) (p, ps) = (p, each_line vs ps)
 
-pub item_lines_end : (number : ℕ) (item : Item) (vs : List (Vec ℕ)) → map (λ v. v.items) vs ≡ item_lines number item → All (λ (v : Vec ℕ). IsLine v.items) vs
-item_lines_end number item vs is = All-from_recursion (λ (v : Vec ℕ). IsLine v.items) vs (each_line vs (subst AreLines (sym is) (item_ends number item)))
+pub item_lines_end : (number : ℕ) (item : Item) (vs : List (Vec ℕ))
+    → map (λ v. v.items) vs ≡ item_lines number item → All (λ (v : Vec ℕ). IsLine v.items) vs
+item_lines_end number item vs is = All-from_recursion (λ (v : Vec ℕ). IsLine v.items) vs
+    (each_line vs (subst AreLines (sym is) (item_ends number item)))
 
 -- their text
 pub joined_lines : (vs : List (Vec ℕ)) → flat_map (λ v. v.items) vs ≡ concat (map (λ v. v.items) vs)
 joined_lines [] = refl
 joined_lines (v ∷ vs) = ap (λ l. v.items ++ l) (joined_lines vs)
 
-pub item_lines_text : (number : ℕ) (item : Item) (vs : List (Vec ℕ)) → map (λ v. v.items) vs ≡ item_lines number item → flat_map (λ v. v.items) vs ≡ concat (item_lines number item)
+pub item_lines_text : (number : ℕ) (item : Item) (vs : List (Vec ℕ))
+    → map (λ v. v.items) vs ≡ item_lines number item
+    → flat_map (λ v. v.items) vs ≡ concat (item_lines number item)
 item_lines_text number item vs is = joined_lines vs ∙ ap concat is

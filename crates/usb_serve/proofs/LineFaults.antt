@@ -18,13 +18,18 @@ is_write (serve.Run fault) = inr (λ e. cc e)
 is_write serve.Write = inl refl
 is_write serve.Memory = inr (λ e. cc e)
 
--- where another fault is told of lines, none of them was written: the bus had told its fault before the first one
-pub line_kept : (fault : BusFault) (said : ServeFault) (first h l : HostState) → PutLine h.world (Err fault) l.world → (IsSome h.world.fault → l ≡ h) → (h ≡ first) ⊎ (h.world.fault ≡ None) → said ≡ report_fault fault → said ≢ serve.Write → l ≡ first
+-- where another fault is told of lines, none of them was written: the bus had told its fault before
+-- the first one
+pub line_kept : (fault : BusFault) (said : ServeFault) (first h l : HostState)
+    → PutLine h.world (Err fault) l.world → (IsSome h.world.fault → l ≡ h) → (h ≡ first)
+    ⊎ (h.world.fault ≡ None) → said ≡ report_fault fault → said ≢ serve.Write → l ≡ first
 line_kept fault said first h l step again calm is other = split h.world.fault refl
   where
     split : (x : Option BusFault) → h.world.fault ≡ x → l ≡ first
     split None e = absurd (other (is ∙ ap report_fault (step.told e)))
-    split (Some before) e = again (ap is_some e) ∙ elim calm [ inl same ↦ same | inr none ↦ absurd (cc (sym none ∙ e)) ]
+    split (Some before) e = again (ap is_some e)
+        ∙ elim calm [ inl same ↦ same | inr none ↦ absurd (cc (sym none ∙ e)) ]
 
-pub line_calm : (first h l : HostState) → LineEnds h.world (Ok tt) l.world → (l ≡ first) ⊎ (l.world.fault ≡ None)
+pub line_calm : (first h l : HostState) → LineEnds h.world (Ok tt) l.world → (l ≡ first)
+    ⊎ (l.world.fault ≡ None)
 line_calm first h l (none, same) = inr (ap (λ (w : World). w.fault) same ∙ none)

@@ -10,7 +10,8 @@ front_of_all (Some whole) None kept = absurd kept
 front_of_all (Some whole) (Some gone) kept = ([], sym kept ∙ sym (append-nil gone))
 
 -- bytes wait still
-pub front_of_some : (held : Option (List ℕ)) (out : Option (List ℕ)) (waits : List ℕ) → Keeps held (append_known out waits) → LeavesFront held out
+pub front_of_some : (held : Option (List ℕ)) (out : Option (List ℕ)) (waits : List ℕ)
+    → Keeps held (append_known out waits) → LeavesFront held out
 front_of_some None out waits kept = tt
 front_of_some (Some whole) None waits kept = absurd kept
 front_of_some (Some whole) (Some gone) waits kept = (waits, sym kept)

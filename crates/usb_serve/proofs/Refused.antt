@@ -1,5 +1,6 @@
 -- Runs that are none: what the clauses of a run refuse.
-use Rattle.std.proofs.Common.{◌≡◌, ◌≢◌, ◌∙◌, refl, ap, subst, arith, inl, inr, ℕ, ◌≤◌, List, [], ◌∷◌, Option, None, Some, Result, Ok, Err}
+use Rattle.std.proofs.Common.{◌≡◌, ◌≢◌, ◌∙◌, refl, ap, subst, arith, inl, inr, ℕ, ◌≤◌, List, []}
+use Rattle.std.proofs.Common.{◌∷◌, Option, None, Some, Result, Ok, Err}
 use Rattle.std.specs.Prelude.{IsUtf8}
 use Rattle.usb_device.specs.Spec.{function}
 use Rattle.usb_device.specs.Rows.{fresh}
@@ -25,8 +26,10 @@ use Rattle.usb_run.specs.Reports.{EndsWell}
 
 -- Events before their time
 
--- behind an event at most one root port has its change of connection set, since the host had served all others
-pub arrives_one : {a b : HostState} {due : Option Ask} → Arrives a (Ok (Some due)) b → changes (root_row b.world) ≤ 1
+-- behind an event at most one root port has its change of connection set, since the host had served
+-- all others
+pub arrives_one : {a b : HostState} {due : Option Ask} → Arrives a (Ok (Some due)) b
+    → changes (root_row b.world) ≤ 1
 arrives_one {a} {b} {due} arrives =
     let settles = arrives.settles in
     let quiet = settles.last.did.did.quiet settles.ends.quiet in
@@ -43,7 +46,10 @@ two_plugs = record {
   limit = 10000;
   roots = 2;
   devices = function (0x66 ∷ []) [] [] ∷ [];
-  events = record { after = 4; action = act.Change (change.Plug (1 ∷ []) 0) } ∷ record { after = 4; action = act.Change (change.Plug (2 ∷ []) 0) } ∷ [];
+  events = record { after = 4; action = act.Change (change.Plug (1 ∷ []) 0) } ∷ record {
+    after = 4;
+    action = act.Change (change.Plug (2 ∷ []) 0);
+  } ∷ [];
   damages = [];
 }
 
@@ -62,19 +68,34 @@ both_came : refused_world.taken ≡ 2
 unfolding after after_event new_ports with_power changed_at fresh row_of
 both_came = refl
 
--- both plugs at once are no part of a run: the second comes only once the host has settled behind the first
+-- both plugs at once are no part of a run: the second comes only once the host has settled behind
+-- the first
 pub both_at_once : (k : HostState) → k.world ≡ refused_world → Ran refused_host k → ⊥
 both_at_once k is idle = absurd (omega (arith, ap (λ (w : World). w.taken) is ∙ both_came))
-both_at_once k is (silent due before arrives none) = absurd (omega (arith, arrives_one arrives, ap (λ (w : World). changes (root_row w)) is ∙ both_set))
+both_at_once k is (silent due before arrives none) =
+    absurd (omega (
+      arith,
+      arrives_one arrives,
+      ap (λ (w : World). changes (root_row w)) is
+          ∙ both_set,
+    ))
 
 -- nor do they come before an event that asks for an item
-pub both_before : (due : Option Ask) (k : HostState) → k.world ≡ refused_world → Reaches refused_host (Ok (Some due)) k → ⊥
-both_before due k is reaches = absurd (omega (arith, arrives_one reaches.arrives, ap (λ (w : World). changes (root_row w)) is ∙ both_set))
+pub both_before : (due : Option Ask) (k : HostState) → k.world ≡ refused_world
+    → Reaches refused_host (Ok (Some due)) k → ⊥
+both_before due k is reaches = absurd
+    (omega (
+      arith,
+      arrives_one reaches.arrives,
+      ap (λ (w : World). changes (root_row w)) is
+          ∙ both_set,
+    ))
 
 -- Faults without a cause
 
 -- the limit is told only where a run of the plan made so many attempts
-pub limit_reached : (plan : PlanData) → EndsWell plan (Err LimitReached) → (last : World) × (last.attempts ≡ plan.limit)
+pub limit_reached : (plan : PlanData) → EndsWell plan (Err LimitReached) → (last : World)
+    × (last.attempts ≡ plan.limit)
 limit_reached plan (inl refused) = absurd (cc refused)
 limit_reached plan (inr runs) = (runs.last.world, runs.finishes.caused.0 ∙ runs.limit)
 
@@ -85,15 +106,18 @@ failed-injective : (f g : ServeFault) → failed f ≡ failed g → g ≡ f
 failed-injective f g e = cc e
 
 -- of a text that is a plan no fault of a text is told, but for memory
-pub no_text_fault : (mode : Mode) (t : List ℕ) (plan : PlanData) (fault : PlanFault) (before now : Option (List ℕ)) → IsUtf8 t → spelled_plan t ≡ Ok plan → fault ≢ plan_fault.Memory
+pub no_text_fault : (mode : Mode) (t : List ℕ) (plan : PlanData) (fault : PlanFault)
+    (before now : Option (List ℕ)) → IsUtf8 t → spelled_plan t ≡ Ok plan → fault ≢ plan_fault.Memory
     → IsServed mode (Some t) before (Err (serve.Plan fault)) now → ⊥
 no_text_fault mode t plan fault before now utf8 good other (unread f is why same) =
     let no = subst (IsUnread (Some t)) (failed-injective (serve.Plan fault) f is) why in
     cc (good, no.spelled utf8 other)
-no_text_fault mode t plan fault before now utf8 good other (of_plan p spelled of_run written enough) = of_run
+no_text_fault mode t plan fault before now utf8 good other
+    (of_plan p spelled of_run written enough) = of_run
 
 -- no trace fails where none is made
-pub no_tree_trace : (plan : PlanData) (before now : Option (List ℕ)) → IsWritten Tree plan before (Err (serve.Run TraceFailed)) now → ⊥
+pub no_tree_trace : (plan : PlanData) (before now : Option (List ℕ))
+    → IsWritten Tree plan before (Err (serve.Run TraceFailed)) now → ⊥
 no_tree_trace plan before now (inl none) = cc none.refused
 no_tree_trace plan before now (inr tree) = tree.caused.0 refl
 

@@ -8,7 +8,8 @@ use Rattle.usb_serve.specs.declared.input.InputFault.TheVariants as input
 use Rattle.usb_run.specs.declared.runs.RunFault.TheVariants as run
 use Rattle.usb_run.specs.Run.{IsCaused}
 use Rattle.usb_serve.specs.declared.serving.ServeFault.{ServeFault}
-use Rattle.usb_serve.specs.declared.serving.ServeFault.TheVariants.{Read, TooLong, Run, Write, Memory}
+use Rattle.usb_serve.specs.declared.serving.ServeFault.TheVariants.{Read, TooLong, Run, Write}
+use Rattle.usb_serve.specs.declared.serving.ServeFault.TheVariants.{Memory}
 use Rattle.usb_serve.specs.declared.serving.ServeFault.TheVariants as serve
 
 abbrev pub input_fault : InputFault → ServeFault

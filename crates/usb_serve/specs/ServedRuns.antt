@@ -1,5 +1,6 @@
 -- Where a plan's run ends, and what serving a plan wrote of it.
-use Rattle.std.specs.Prelude.{◌≡◌, ◌≢◌, ◌≤◌, ⊤, ◌⊎◌, ℕ, List, ◌++◌, Option, true, false, Result, Ok, Err, IfErr, IfSome, IsUtf8}
+use Rattle.std.specs.Prelude.{◌≡◌, ◌≢◌, ◌≤◌, ⊤, ◌⊎◌, ℕ, List, ◌++◌, Option, true, false, Result, Ok}
+use Rattle.std.specs.Prelude.{Err, IfErr, IfSome, IsUtf8}
 use Rattle.std.specs.Io.KnownBytes.{Appends, Keeps}
 use Rattle.usb_world.specs.PlanData.{PlanData}
 use Rattle.usb_bus.specs.Watch.{AppendsFront}
@@ -23,8 +24,10 @@ use Rattle.usb_run.specs.Transcript.{RunsTo, Transcript, items_text, never}
 use Rattle.usb_serve.specs.ServedTranscripts.{at_write, of_run}
 use Rattle.usb_run.specs.Reports.{Opens}
 
--- what is written in mode Run: the text of a run of the plan, at no attempt of which two reachable devices held one address, and which tells what is right
-pub record RunWritten (plan : PlanData) (before : Option (List ℕ)) (result : Result (Unit {0}) ServeFault) (now : Option (List ℕ)) : Type 0 where
+-- what is written in mode Run: the text of a run of the plan, at no attempt of which two reachable
+-- devices held one address, and which tells what is right
+pub record RunWritten (plan : PlanData) (before : Option (List ℕ))
+    (result : Result (Unit {0}) ServeFault) (now : Option (List ℕ)) : Type 0 where
   pub first : HostState
   pub opens : Opens plan before first
   pub items : List Item
@@ -36,18 +39,24 @@ pub record RunWritten (plan : PlanData) (before : Option (List ℕ)) (result : R
   pub lists : ListsRight plan items last.world
   pub text : now ≡ last.trace
 
--- the text of mode Tree: the lines of all items that were made, and behind a run that is over the plan's bound; a front of that only where the writer failed
-abbrev pub TreeText : PlanData → List Item → Type 0 → Option (List ℕ) → Result (Unit {0}) ServeFault → Option (List ℕ) → Type 0
-TreeText plan items IsOver before (Ok done) now = Appends before now (items_text items ++ bound_line (bound_of plan))
+-- the text of mode Tree: the lines of all items that were made, and behind a run that is over the
+-- plan's bound; a front of that only where the writer failed
+abbrev pub TreeText : PlanData → List Item → Type 0 → Option (List ℕ) → Result (Unit {0}) ServeFault
+    → Option (List ℕ) → Type 0
+TreeText plan items IsOver before (Ok done) now =
+    Appends before now (items_text items ++ bound_line (bound_of plan))
 TreeText plan items IsOver before (Err serve.Read) now = ⊥
 TreeText plan items IsOver before (Err serve.TooLong) now = ⊥
 TreeText plan items IsOver before (Err (serve.Plan fault)) now = ⊥
-TreeText plan items IsOver before (Err (serve.Run fault)) now = Appends before now (items_text items)
-TreeText plan items IsOver before (Err serve.Write) now = AppendsFront before now (items_text items) ⊎ (IsOver × AppendsFront before now (items_text items ++ bound_line (bound_of plan)))
+TreeText plan items IsOver before (Err (serve.Run fault)) now =
+    Appends before now (items_text items)
+TreeText plan items IsOver before (Err serve.Write) now = AppendsFront before now (items_text items)
+    ⊎ (IsOver × AppendsFront before now (items_text items ++ bound_line (bound_of plan)))
 TreeText plan items IsOver before (Err serve.Memory) now = Appends before now (items_text items)
 
 -- what is written in mode Tree: the text of the items of such a run, whose trace is thrown away
-pub record TreeWritten (plan : PlanData) (before : Option (List ℕ)) (result : Result (Unit {0}) ServeFault) (now : Option (List ℕ)) : Type 0 where
+pub record TreeWritten (plan : PlanData) (before : Option (List ℕ))
+    (result : Result (Unit {0}) ServeFault) (now : Option (List ℕ)) : Type 0 where
   pub thrown : Option (List ℕ)  -- where the trace goes
   pub first : HostState
   pub opens : Opens plan thrown first
@@ -61,15 +70,20 @@ pub record TreeWritten (plan : PlanData) (before : Option (List ℕ)) (result : 
   pub text : TreeText plan items (Transcript Tree false first items true last) before result now
 
 -- memory was refused for the bus of a run, and nothing was done
-pub record IsUnopened (before : Option (List ℕ)) (result : Result (Unit {0}) ServeFault) (now : Option (List ℕ)) : Type 0 where
+pub record IsUnopened (before : Option (List ℕ)) (result : Result (Unit {0}) ServeFault)
+    (now : Option (List ℕ)) : Type 0 where
   pub refused : result ≡ Err (serve.Run Memory)
   pub nothing : now ≡ before
 
-abbrev pub IsWritten : Mode → PlanData → Option (List ℕ) → Result (Unit {0}) ServeFault → Option (List ℕ) → Type 0
-IsWritten Tree plan before result now = IsUnopened before result now ⊎ TreeWritten plan before result now
-IsWritten Run plan before result now = IsUnopened before result now ⊎ RunWritten plan before result now
+abbrev pub IsWritten : Mode → PlanData → Option (List ℕ) → Result (Unit {0}) ServeFault
+    → Option (List ℕ) → Type 0
+IsWritten Tree plan before result now = IsUnopened before result now
+    ⊎ TreeWritten plan before result now
+IsWritten Run plan before result now = IsUnopened before result now
+    ⊎ RunWritten plan before result now
 
--- why a text is no plan: what is no UTF-8 has no syntax; in what is, the fault that it has, where memory was not refused
+-- why a text is no plan: what is no UTF-8 has no syntax; in what is, the fault that it has, where
+-- memory was not refused
 pub record IsNoPlan (text : List ℕ) (fault : PlanFault) : Type 0 where
   pub spelled : IsUtf8 text → fault ≢ plan.Memory → spelled_plan text ≡ Err fault
   pub garbled : (IsUtf8 text → ⊥) → fault ≡ plan.Syntax
@@ -85,20 +99,27 @@ IsUnread text serve.Memory = ⊤
 
 -- a plan of at most 127 plugs whose limit is its bound never comes to its limit
 abbrev pub NeverAtLimit : PlanData → Result (Unit {0}) ServeFault → Type 0
-NeverAtLimit plan result = plug_events plan.events ≤ 127 → bound_of plan ≤ plan.limit → result ≢ Err (serve.Run LimitReached)
+NeverAtLimit plan result = plug_events plan.events ≤ 127 → bound_of plan ≤ plan.limit
+    → result ≢ Err (serve.Run LimitReached)
 
--- what serving a text wrote: nothing, where no plan was read; else what the mode asks for, of a run of the plan that the text spells, and then no fault is the text's or the reader's
-pub data IsServed (mode : Mode) (text before : Option (List ℕ)) (result : Result (Unit {0}) ServeFault) (now : Option (List ℕ)) : Type 0 where
-  unread : (fault : ServeFault) → result ≡ Err fault → IsUnread text fault → now ≡ before → IsServed mode text before result now
-  of_plan : (plan : PlanData) → IfSome text (λ t. spelled_plan t ≡ Ok plan) → IsOfRun result → IsWritten mode plan before result now → NeverAtLimit plan result
+-- what serving a text wrote: nothing, where no plan was read; else what the mode asks for, of a run
+-- of the plan that the text spells, and then no fault is the text's or the reader's
+pub data IsServed (mode : Mode) (text before : Option (List ℕ))
+    (result : Result (Unit {0}) ServeFault) (now : Option (List ℕ)) : Type 0 where
+  unread : (fault : ServeFault) → result ≡ Err fault → IsUnread text fault → now ≡ before
+      → IsServed mode text before result now
+  of_plan : (plan : PlanData) → IfSome text (λ t. spelled_plan t ≡ Ok plan) → IsOfRun result
+      → IsWritten mode plan before result now → NeverAtLimit plan result
       → IsServed mode text before result now
 
 -- a writer that failed is told
 abbrev pub TellsWriter : Result (Unit {0}) ServeFault → Type 0
 TellsWriter result = (result ≡ Err serve.Write) ⊎ (result ≡ Err (serve.Run TraceFailed))
 
--- what serving through a buffer wrote: all that serving wrote into it, or a front of that, and then a writer that failed is told
-pub record IsServedThrough (mode : Mode) (text before : Option (List ℕ)) (result : Result (Unit {0}) ServeFault) (now : Option (List ℕ)) : Type 0 where
+-- what serving through a buffer wrote: all that serving wrote into it, or a front of that, and then
+-- a writer that failed is told
+pub record IsServedThrough (mode : Mode) (text before : Option (List ℕ))
+    (result : Result (Unit {0}) ServeFault) (now : Option (List ℕ)) : Type 0 where
   pub told : Result (Unit {0}) ServeFault
   pub written : Option (List ℕ)
   pub served : IsServed mode text before told written

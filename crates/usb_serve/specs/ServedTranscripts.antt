@@ -18,6 +18,7 @@ abbrev pub at_write : ServeFault → Type 0
 at_write fault = fault ≡ Write
 
 -- how a run with its text ends, with the items that it made
-pub record RunEnds (was : Bool) (old : HostState) (result : Result (Unit {0}) ServeFault) (new : HostState) : Type 0 where
+pub record RunEnds (was : Bool) (old : HostState) (result : Result (Unit {0}) ServeFault)
+    (new : HostState) : Type 0 where
   pub items : List Item
   pub ends : RunsTo Run of_run at_write was old items result new

@@ -85,7 +85,8 @@ impl From<WriteFailed> for ServeFault {
     }
 }
 
-/// Reads a plan, runs it, and writes what the mode asks for, to a writer that has not failed yet. Hands the writer back.
+/// Reads a plan, runs it, and writes what the mode asks for, to a writer that has not failed yet. Hands the writer
+/// back.
 ///
 /// In mode Run that is the text of a run of the plan: the line of each attempt and event in their order, and the lines
 /// of each listing and transfer behind the attempts that it took. In mode Tree it is the lines of the listings and
@@ -96,7 +97,8 @@ impl From<WriteFailed> for ServeFault {
 /// # Errors
 /// Read where the reader failed, TooLong for a text over the limit, Plan for a text that is no plan,
 /// Run where the run ended early: LimitReached where the attempts made equal the plan's limit, TraceFailed where the
-/// writer failed in a line of trace; Write where the writer failed in a line of report, Memory where memory was refused.
+/// writer failed in a line of trace; Write where the writer failed in a line of report, Memory where memory was
+/// refused.
 pub fn serve<R: Read, W: Write>(
     alloc: Global,
     mode: Mode,
@@ -161,8 +163,8 @@ fn ended(told: Result<(), ServeFault>, out: Result<(), WriteFailed>) -> Result<(
 /// The plan that a reader's text spells.
 ///
 /// # Errors
-/// Read where the reader failed, TooLong for a text over the limit, Plan for a text that is no plan, Memory where memory
-/// was refused.
+/// Read where the reader failed, TooLong for a text over the limit, Plan for a text that is no plan, Memory where
+/// memory was refused.
 pub fn plan_of<R: Read>(alloc: Global, reader: &mut Watched<R>) -> Result<Plan, ServeFault>
     ensures calls { calls_of reader.new ≤ calls_of reader.old + 1048577 }
     ensures read { IsErrOf result ServeFault.Read → has_failed reader.new ≡ true }

@@ -1,5 +1,8 @@
 -- How events come, and what an attempt makes of the world.
-use Rattle.std.proofs.Common.{◌≡◌, ℕ, ◌+◌, List, [], ◌∷◌, ◌++◌, length, true, false, ◌||◌, Option, Some, None, Result, Ok, Err, IfErr, OnErr, ◌≢◌, refl, sym, ap, ap₂, ◌∙◌, subst, arith, get_or, append_assoc, append-nil, zero, suc, take, drop, flat_map, ◌-◌, ◌≤◌, ◌==◌, IsErrAnd}
+use Rattle.std.proofs.Common.{◌≡◌, ℕ, ◌+◌, List, [], ◌∷◌, ◌++◌, length, true, false, ◌||◌, Option}
+use Rattle.std.proofs.Common.{Some, None, Result, Ok, Err, IfErr, OnErr, ◌≢◌, refl, sym, ap, ap₂}
+use Rattle.std.proofs.Common.{◌∙◌, subst, arith, get_or, append_assoc, append-nil, zero, suc, take}
+use Rattle.std.proofs.Common.{drop, flat_map, ◌-◌, ◌≤◌, ◌==◌, IsErrAnd}
 use Rattle.std.specs.Io.KnownBytes.{Appends}
 use Rattle.std.specs.Option.{option_to_list}
 use Rattle.std.proofs.KnownBytes.{Appends-trans, Appends-nil}
@@ -14,7 +17,9 @@ use Rattle.usb_world.specs.declared.types.Attempt.{Attempt}
 use Rattle.usb_world.specs.Exchange.{exchange_in, ports_in}
 use Rattle.usb_world.specs.Losses.{counted, after_clearing}
 use Rattle.usb_world.specs.World.{World}
-use Rattle.usb_world.specs.Steps.{Coming, next_came, after_change, is_due, has_due, after_event, after_first_event, after_due_events, at_attempt, damage_in, made_in, with_attempt, outcome_made, outcome_in, ask_of}
+use Rattle.usb_world.specs.Steps.{Coming, next_came, after_change, is_due, has_due, after_event}
+use Rattle.usb_world.specs.Steps.{after_first_event, after_due_events, at_attempt, damage_in}
+use Rattle.usb_world.specs.Steps.{made_in, with_attempt, outcome_made, outcome_in, ask_of}
 use Rattle.usb_bus.specs.Lines.{action_line, next_due, lines_between, made_line, step_lines}
 use Rattle.usb_bus.specs.Watch.{AppendsFront, WritesText}
 use Rattle.usb_bus.proofs.Interface.{appends_front, front_after_first}
@@ -24,8 +29,10 @@ use Rattle.usb_world.proofs.Interface.{first_fault}
 use Rattle.usb_tree.proofs.Interface.{if-false, if-true, unequal}
 
 -- the next event came
-pub took_first-arrival : (w : World) (e : Event) (events left : List Event) (roots : Ports) → w.left ≡ e ∷ events → left ≡ events → roots ≡ after_change e.action w.devices w.roots
-    → record w { roots = roots; left = left; taken = w.taken + 1; attempts_then = w.attempts } ≡ after_first_event w.left w
+pub took_first-arrival : (w : World) (e : Event) (events left : List Event) (roots : Ports)
+    → w.left ≡ e ∷ events → left ≡ events → roots ≡ after_change e.action w.devices w.roots
+    → record w { roots = roots; left = left; taken = w.taken + 1; attempts_then = w.attempts }
+    ≡ after_first_event w.left w
 unfolding after_event
 took_first-arrival w e events left roots split rest h =
     let made : Ports → List Event → World
@@ -33,35 +40,58 @@ took_first-arrival w e events left roots split rest h =
     rw split (ap₂ made h rest)
 
 -- the same with a fault
-pub came_faulted : (w : World) (e : Event) (events left : List Event) (roots : Ports) (f : Option BusFault) → w.left ≡ e ∷ events → left ≡ events
+pub came_faulted : (w : World) (e : Event) (events left : List Event) (roots : Ports)
+    (f : Option BusFault) → w.left ≡ e ∷ events → left ≡ events
     → roots ≡ after_change e.action w.devices w.roots
-    → record w { roots = roots; left = left; taken = w.taken + 1; attempts_then = w.attempts; fault = f } ≡ record (after_first_event w.left w) { fault = f }
+    → record w {
+      roots = roots;
+      left = left;
+      taken = w.taken + 1;
+      attempts_then = w.attempts;
+      fault = f;
+    } ≡ record (after_first_event w.left w) { fault = f }
 came_faulted w e events left roots f split rest h =
     let faulted : World → World = λ x. record x { fault = f } in
     ap faulted (took_first-arrival w e events left roots split rest h)
 
-pub came_sound : (w : World) (e : Event) (events left : List Event) (roots : Ports) → w.fault ≡ None → w.left ≡ e ∷ events → left ≡ events
+pub came_sound : (w : World) (e : Event) (events left : List Event) (roots : Ports) → w.fault ≡ None
+    → w.left ≡ e ∷ events → left ≡ events
     → roots ≡ after_change e.action w.devices w.roots
-    → record w { roots = roots; left = left; taken = w.taken + 1; attempts_then = w.attempts; fault = None } ≡ after_first_event w.left w
+    → record w {
+      roots = roots;
+      left = left;
+      taken = w.taken + 1;
+      attempts_then = w.attempts;
+      fault = None;
+    } ≡ after_first_event w.left w
 came_sound w e events left roots sound split rest h =
-    let faulted : Option BusFault → World = λ o. record (after_first_event w.left w) { fault = o } in
-    came_faulted w e events left roots None split rest h ∙ ap faulted (sym (first_fault w.left w ∙ sound))
+    let faulted : Option BusFault → World =
+    λ o. record (after_first_event w.left w) { fault = o } in
+    came_faulted w e events left roots None split rest h
+    ∙ ap faulted (sym (first_fault w.left w ∙ sound))
 
-pub due_next : (w : World) (e : Event) (events : List Event) → w.left ≡ e ∷ events → Some (ask_of e.action) ≡ next_due w
+pub due_next : (w : World) (e : Event) (events : List Event) → w.left ≡ e ∷ events
+    → Some (ask_of e.action) ≡ next_due w
 unfolding next_due
 due_next w e events split = rw split refl
 
-step_at : (w : World) (left : List Event) → w.left ≡ left → (elim left [ [] ↦ false | e ∷ events ↦ is_due e w ]) ≡ true → after_due_events w.left w ≡ after_due_events (after_first_event w.left w).left (after_first_event w.left w)
+step_at : (w : World) (left : List Event) → w.left ≡ left
+    → (elim left [ [] ↦ false | e ∷ events ↦ is_due e w ]) ≡ true
+    → after_due_events w.left w ≡ after_due_events (after_first_event w.left w).left
+    (after_first_event w.left w)
 unfolding after_due_events after_event
 step_at w [] e h = cc
 step_at w (x ∷ events) e h = rw e (if-true (is_due x w) _ _ h)
 
-due_step : (w : World) → has_due w ≡ true → after_due_events w.left w ≡ after_due_events (after_first_event w.left w).left (after_first_event w.left w)
+due_step : (w : World) → has_due w ≡ true
+    → after_due_events w.left w ≡ after_due_events (after_first_event w.left w).left
+    (after_first_event w.left w)
 unfolding has_due
 due_step w h = step_at w w.left refl h
 
 -- nothing is due
-end_at : (w : World) (left : List Event) → w.left ≡ left → (elim left [ [] ↦ false | e ∷ events ↦ is_due e w ]) ≡ false → after_due_events w.left w ≡ w
+end_at : (w : World) (left : List Event) → w.left ≡ left
+    → (elim left [ [] ↦ false | e ∷ events ↦ is_due e w ]) ≡ false → after_due_events w.left w ≡ w
 unfolding after_due_events
 end_at w [] e h = rw e refl
 end_at w (x ∷ events) e h = rw e (if-false (is_due x w) _ _ h)
@@ -73,11 +103,13 @@ due_end w h = end_at w w.left refl h
 -- The lines of the events that came
 
 -- the first lines, and the next one
-line_at : (f : Event → List ℕ) (n : ℕ) (l rest : List Event) (e : Event) → drop n l ≡ e ∷ rest → flat_map f (take (suc n) l) ≡ flat_map f (take n l) ++ f e
+line_at : (f : Event → List ℕ) (n : ℕ) (l rest : List Event) (e : Event) → drop n l ≡ e ∷ rest
+    → flat_map f (take (suc n) l) ≡ flat_map f (take n l) ++ f e
 line_at f zero [] rest e h = cc h
 line_at f zero (x ∷ l) rest e h = append-nil (f x) ∙ cc h
 line_at f (suc n) [] rest e h = cc h
-line_at f (suc n) (x ∷ l) rest e h = ap (λ t. f x ++ t) (line_at f n l rest e h) ∙ sym (append_assoc (f x) (flat_map f (take n l)) (f e))
+line_at f (suc n) (x ∷ l) rest e h = ap (λ t. f x ++ t) (line_at f n l rest e h)
+    ∙ sym (append_assoc (f x) (flat_map f (take n l)) (f e))
 
 rest_at : (n : ℕ) (l rest : List Event) (e : Event) → drop n l ≡ e ∷ rest → drop (suc n) l ≡ rest
 rest_at zero [] rest e h = cc h
@@ -98,48 +130,72 @@ minus_next : (m n : ℕ) → m ≤ n → suc (n - m) ≡ n + 1 - m
 minus_next m n le = omega (arith, le)
 
 later_none : (w : World) → Later w w
-later_none w = record { onward = omega arith; left = ap (λ n. drop n w.left) (sym (minus_same w.taken)); devices = refl }
+later_none w = record {
+  onward = omega arith;
+  left =
+      ap (λ n. drop n w.left) (sym (minus_same w.taken));
+  devices = refl;
+}
 
 -- one event more, whatever came of the rest of the world
-later_next : (first w v : World) (e : Event) (events : List Event) → Later first w → w.left ≡ e ∷ events → v.taken ≡ w.taken + 1 → v.left ≡ events → v.devices ≡ w.devices → Later first v
+later_next : (first w v : World) (e : Event) (events : List Event) → Later first w
+    → w.left ≡ e ∷ events → v.taken ≡ w.taken + 1 → v.left ≡ events → v.devices ≡ w.devices
+    → Later first v
 later_next first w v e events so split one rest same = record {
   onward = omega (arith, so.onward, one);
-  left = ap (λ n. drop n first.left) (ap (λ n. n - first.taken) one ∙ sym (minus_next first.taken w.taken so.onward)) ∙ rest_at (w.taken - first.taken) first.left events e (so.left ∙ split) ∙ sym rest;
+  left = ap (λ n. drop n first.left) (ap (λ n. n - first.taken) one
+      ∙ sym (minus_next first.taken w.taken so.onward))
+      ∙ rest_at (w.taken - first.taken) first.left events e (so.left ∙ split) ∙ sym rest;
   devices = same ∙ so.devices;
 }
 
 pub no_lines : (w v : World) → v.taken ≡ w.taken → [] ≡ lines_between w v
 unfolding lines_between
-no_lines w v e = ap (λ n. flat_map (λ x. action_line x.action w.devices) (take n w.left)) (minus_same w.taken ∙ ap (λ n. n - w.taken) (sym e))
+no_lines w v e = ap (λ n. flat_map (λ x. action_line x.action w.devices) (take n w.left))
+    (minus_same w.taken ∙ ap (λ n. n - w.taken) (sym e))
 
-more_lines : (first w v : World) (e : Event) (events : List Event) → Later first w → w.left ≡ e ∷ events → v.taken ≡ w.taken + 1 → lines_between first w ++ action_line e.action w.devices ≡ lines_between first v
+more_lines : (first w v : World) (e : Event) (events : List Event) → Later first w
+    → w.left ≡ e ∷ events → v.taken ≡ w.taken + 1
+    → lines_between first w ++ action_line e.action w.devices ≡ lines_between first v
 unfolding lines_between
 more_lines first w v e events so split one =
     let f : Event → List ℕ = λ x. action_line x.action first.devices in
-    ap (λ d. flat_map f (take (w.taken - first.taken) first.left) ++ action_line e.action d) so.devices
+    ap (λ d. flat_map f (take (w.taken - first.taken) first.left) ++ action_line e.action d)
+    so.devices
     ∙ sym (line_at f (w.taken - first.taken) first.left events e (so.left ∙ split))
-    ∙ ap (λ n. flat_map f (take n first.left)) (minus_next first.taken w.taken so.onward ∙ ap (λ n. n - first.taken) (sym one))
+    ∙ ap (λ n. flat_map f (take n first.left)) (minus_next first.taken w.taken so.onward
+    ∙ ap (λ n. n - first.taken) (sym one))
 
 -- only how many events came is told
 pub lines_same : (w u v : World) → v.taken ≡ u.taken → lines_between w u ≡ lines_between w v
 unfolding lines_between
-lines_same w u v e = ap (λ n. flat_map (λ x. action_line x.action w.devices) (take (n - w.taken) w.left)) (sym e)
+lines_same w u v e = ap (λ n. flat_map (λ x. action_line x.action w.devices)
+    (take (n - w.taken) w.left)) (sym e)
 
 -- the line of one event
-pub one_line : (w v : World) (e : Event) (events : List Event) → w.left ≡ e ∷ events → v.taken ≡ w.taken + 1 → action_line e.action w.devices ≡ lines_between w v
-one_line w v e events split one = ap (λ l. l ++ action_line e.action w.devices) (no_lines w w refl) ∙ more_lines w w v e events (later_none w) split one
+pub one_line : (w v : World) (e : Event) (events : List Event) → w.left ≡ e ∷ events
+    → v.taken ≡ w.taken + 1 → action_line e.action w.devices ≡ lines_between w v
+one_line w v e events split one = ap (λ l. l ++ action_line e.action w.devices) (no_lines w w refl)
+    ∙ more_lines w w v e events (later_none w) split one
 
 -- the lines of one event more are those of all
-pub lines_on : (first w v : World) (e : Event) (events : List Event) → Later first w → w.left ≡ e ∷ events → v.taken ≡ w.taken + 1 → lines_between first w ++ lines_between w v ≡ lines_between first v
-lines_on first w v e events so split one = ap (λ l. lines_between first w ++ l) (sym (one_line w v e events split one)) ∙ more_lines first w v e events so split one
+pub lines_on : (first w v : World) (e : Event) (events : List Event) → Later first w
+    → w.left ≡ e ∷ events → v.taken ≡ w.taken + 1 → lines_between first w ++ lines_between w v
+    ≡ lines_between first v
+lines_on first w v e events so split one =
+    ap (λ l. lines_between first w ++ l) (sym (one_line w v e events split one))
+    ∙ more_lines first w v e events so split one
 
 -- What is due, event by event
 
-next_at : (w : World) (left : List Event) → w.left ≡ left → (elim left [ [] ↦ false | e ∷ events ↦ is_due e w ]) ≡ true → (e : Event) × (events : List Event) × (w.left ≡ e ∷ events)
+next_at : (w : World) (left : List Event) → w.left ≡ left
+    → (elim left [ [] ↦ false | e ∷ events ↦ is_due e w ]) ≡ true → (e : Event)
+    × (events : List Event) × (w.left ≡ e ∷ events)
 next_at w [] e h = cc h
 next_at w (x ∷ events) e h = (x, events, e)
 
-pub next_due_event : (w : World) → has_due w ≡ true → (e : Event) × (events : List Event) × (w.left ≡ e ∷ events)
+pub next_due_event : (w : World) → has_due w ≡ true → (e : Event) × (events : List Event)
+    × (w.left ≡ e ∷ events)
 unfolding has_due
 next_due_event w h = next_at w w.left refl h
 
@@ -150,26 +206,38 @@ pub record DueSoFar (first now : World) (had has : Option (List ℕ)) : Type 0 w
   pub written : Appends had has (lines_between first now)
 
 pub due_begins : (w : World) (had : Option (List ℕ)) → DueSoFar w w had had
-due_begins w had = record { after = refl; later = later_none w; written = subst (Appends had had) (no_lines w w refl) (Appends-nil had) }
+due_begins w had = record {
+  after = refl;
+  later = later_none w;
+  written =
+      subst (Appends had had) (no_lines w w refl) (Appends-nil had);
+}
 
-took_is : (w v : World) (e : Event) (events : List Event) → w.left ≡ e ∷ events → v ≡ after_first_event w.left w → (v.taken ≡ w.taken + 1) × (v.left ≡ events) × (v.devices ≡ w.devices)
+took_is : (w v : World) (e : Event) (events : List Event) → w.left ≡ e ∷ events
+    → v ≡ after_first_event w.left w → (v.taken ≡ w.taken + 1) × (v.left ≡ events)
+    × (v.devices ≡ w.devices)
 unfolding after_event
 took_is w v e events split is =
     let same = is ∙ ap (λ l. after_first_event l w) split in
     (ap (λ x. x.taken) same, ap (λ x. x.left) same, ap (λ x. x.devices) same)
 
-pub due_goes_on : (first w v : World) (had has now : Option (List ℕ)) → DueSoFar first w had has → has_due w ≡ true → v ≡ after_first_event w.left w → Appends has now (lines_between w v) → DueSoFar first v had now
+pub due_goes_on : (first w v : World) (had has now : Option (List ℕ)) → DueSoFar first w had has
+    → has_due w ≡ true → v ≡ after_first_event w.left w → Appends has now (lines_between w v)
+    → DueSoFar first v had now
 due_goes_on first w v had has now d h is line =
     let (e, events, split) = next_due_event w h in
     let t = took_is w v e events split is in
     record {
       after = d.after ∙ due_step w h ∙ ap (λ x. after_due_events x.left x) (sym is);
       later = later_next first w v e events d.later split t.0 t.1 t.2;
-      written = subst (Appends had now) (lines_on first w v e events d.later split t.0) (Appends-trans had has now _ _ d.written line);
+      written = subst (Appends had now) (lines_on first w v e events d.later split t.0)
+          (Appends-trans had has now _ _ d.written line);
     }
 
 -- the same fault, told by another call
-pub writes_told : {A B : Type 0} (r : Result A BusFault) (q : Result B BusFault) (a b : Option (List ℕ)) (text : List ℕ) → (f : BusFault) → r ≡ Err f → IsErrAnd q (λ x. x ≡ f) → WritesText r a b text → WritesText q a b text
+pub writes_told : {A B : Type 0} (r : Result A BusFault) (q : Result B BusFault)
+    (a b : Option (List ℕ)) (text : List ℕ) → (f : BusFault) → r ≡ Err f → IsErrAnd q (λ x. x ≡ f)
+    → WritesText r a b text → WritesText q a b text
 writes_told r (Ok x) a b text f e is w = absurd is
 writes_told (Ok y) (Err x) a b text f e is w = cc e
 writes_told (Err LimitReached) (Err LimitReached) a b text f e is w = w
@@ -183,73 +251,102 @@ writes_told (Err TraceFailed) (Err LimitReached) a b text f e is w = cc (e, is)
 writes_told (Err TraceFailed) (Err Memory) a b text f e is w = cc (e, is)
 
 -- where no event came nothing is written
-pub writes_none : {A : Type 0} (r : Result A BusFault) (w v : World) (t : Option (List ℕ)) → v.taken ≡ w.taken → WritesText r t t (lines_between w v)
+pub writes_none : {A : Type 0} (r : Result A BusFault) (w v : World) (t : Option (List ℕ))
+    → v.taken ≡ w.taken → WritesText r t t (lines_between w v)
 writes_none (Ok x) w v t e = subst (Appends t t) (no_lines w v e) (Appends-nil t)
 writes_none (Err LimitReached) w v t e = subst (Appends t t) (no_lines w v e) (Appends-nil t)
 writes_none (Err Memory) w v t e = subst (Appends t t) (no_lines w v e) (Appends-nil t)
-writes_none (Err TraceFailed) w v t e = appends_front t t [] (lines_between w v) (lines_between w v) refl (Appends-nil t)
+writes_none (Err TraceFailed) w v t e = appends_front t t [] (lines_between w v) (lines_between w v)
+    refl (Appends-nil t)
 
 -- one event came: its line, or a front of it
-pub appends_event : (w v : World) (e : Event) (events : List Event) (t s : Option (List ℕ)) → w.left ≡ e ∷ events → v.taken ≡ w.taken + 1 → Appends t s (action_line e.action w.devices) → Appends t s (lines_between w v)
+pub appends_event : (w v : World) (e : Event) (events : List Event) (t s : Option (List ℕ))
+    → w.left ≡ e ∷ events → v.taken ≡ w.taken + 1 → Appends t s (action_line e.action w.devices)
+    → Appends t s (lines_between w v)
 appends_event w v e events t s split one h = subst (Appends t s) (one_line w v e events split one) h
 
-pub writes_event : {A : Type 0} (r : Result A BusFault) (w v : World) (e : Event) (events : List Event) (t s : Option (List ℕ)) → w.left ≡ e ∷ events → v.taken ≡ w.taken + 1 → IsErrAnd r (λ x. x ≡ TraceFailed)
+pub writes_event : {A : Type 0} (r : Result A BusFault) (w v : World) (e : Event)
+    (events : List Event) (t s : Option (List ℕ)) → w.left ≡ e ∷ events → v.taken ≡ w.taken + 1
+    → IsErrAnd r (λ x. x ≡ TraceFailed)
     → AppendsFront t s (action_line e.action w.devices) → WritesText r t s (lines_between w v)
 writes_event (Ok x) w v e events t s split one is h = absurd is
 writes_event (Err LimitReached) w v e events t s split one is h = cc is
 writes_event (Err Memory) w v e events t s split one is h = cc is
-writes_event (Err TraceFailed) w v e events t s split one is h = subst (AppendsFront t s) (one_line w v e events split one) h
+writes_event (Err TraceFailed) w v e events t s split one is h =
+    subst (AppendsFront t s) (one_line w v e events split one) h
 
-pub writes_line : {A : Type 0} (r : Result A BusFault) (t s : Option (List ℕ)) (text : List ℕ) → IsErrAnd r (λ x. x ≡ TraceFailed) → AppendsFront t s text → WritesText r t s text
+pub writes_line : {A : Type 0} (r : Result A BusFault) (t s : Option (List ℕ)) (text : List ℕ)
+    → IsErrAnd r (λ x. x ≡ TraceFailed) → AppendsFront t s text → WritesText r t s text
 writes_line (Ok x) t s text is h = absurd is
 writes_line (Err LimitReached) t s text is h = cc is
 writes_line (Err Memory) t s text is h = cc is
 writes_line (Err TraceFailed) t s text is h = h
 
-pub writes_memory : {A : Type 0} (r : Result A BusFault) (t s : Option (List ℕ)) (text : List ℕ) → IsErrAnd r (λ x. x ≡ Memory) → Appends t s text → WritesText r t s text
+pub writes_memory : {A : Type 0} (r : Result A BusFault) (t s : Option (List ℕ)) (text : List ℕ)
+    → IsErrAnd r (λ x. x ≡ Memory) → Appends t s text → WritesText r t s text
 writes_memory (Ok x) t s text is h = absurd is
 writes_memory (Err LimitReached) t s text is h = h
 writes_memory (Err Memory) t s text is h = h
 writes_memory (Err TraceFailed) t s text is h = cc is
 
 -- an event that was due did not come whole
-pub due_cut : (r : Result (Option (Option Ask)) BusFault) (f : BusFault) (first w v : World) (had has now : Option (List ℕ)) → r ≡ Err f → DueSoFar first w had has → has_due w ≡ true
-    → IfErr r (λ x. x ≢ LimitReached) → (r ≡ Err Memory → v ≡ record w { fault = Some Memory }) → (r ≡ Err TraceFailed → v ≡ record (after_first_event w.left w) { fault = Some TraceFailed })
+pub due_cut : (r : Result (Option (Option Ask)) BusFault) (f : BusFault) (first w v : World)
+    (had has now : Option (List ℕ)) → r ≡ Err f → DueSoFar first w had has → has_due w ≡ true
+    → IfErr r (λ x. x ≢ LimitReached) → (r ≡ Err Memory → v ≡ record w { fault = Some Memory })
+    → (r ≡ Err TraceFailed → v ≡ record (after_first_event w.left w) {
+      fault =
+          Some TraceFailed;
+    })
     → WritesText r has now (lines_between w v) → WritesText r had now (lines_between first v)
 due_cut (Ok x) f first w v had has now is d h other kept cut text = cc is
 due_cut (Err LimitReached) f first w v had has now is d h other kept cut text = absurd (other refl)
 due_cut (Err Memory) f first w v had has now is d h other kept cut text =
     let same : v.taken ≡ w.taken = ap (λ (x : World). x.taken) (kept refl) in
     subst (Appends had now) (append-nil (lines_between first w) ∙ lines_same first w v same)
-    (Appends-trans had has now (lines_between first w) [] d.written (subst (Appends has now) (sym (no_lines w v same)) text))
+    (Appends-trans had has now (lines_between first w) [] d.written
+    (subst (Appends has now) (sym (no_lines w v same)) text))
 due_cut (Err TraceFailed) f first w v had has now is d h other kept cut text =
     let (e, events, split) = next_due_event w h in
-    let one : v.taken ≡ w.taken + 1 = ap (λ (x : World). x.taken) (cut refl) ∙ (took_is w (after_first_event w.left w) e events split refl).0 in
-    subst (AppendsFront had now) (lines_on first w v e events d.later split one) (front_after_first had has now _ _ d.written text)
+    let one : v.taken ≡ w.taken + 1 = ap (λ (x : World). x.taken) (cut refl)
+    ∙ (took_is w (after_first_event w.left w) e events split refl).0 in
+    subst (AppendsFront had now) (lines_on first w v e events d.later split one)
+    (front_after_first had has now _ _ d.written text)
 
-pub came_next : (first w v : World) → Coming first w → has_due w ≡ true → v ≡ after_first_event w.left w → Coming first v
+pub came_next : (first w v : World) → Coming first w → has_due w ≡ true
+    → v ≡ after_first_event w.left w → Coming first v
 came_next first w v c h e = subst (Coming first) (sym e) (next_came c h)
 
-unfaulted : (w v : World) (f : BusFault) → w.fault ≡ None → v ≡ record w { fault = Some f } → record v { fault = None } ≡ w
+unfaulted : (w v : World) (f : BusFault) → w.fault ≡ None → v ≡ record w { fault = Some f }
+    → record v { fault = None } ≡ w
 unfaulted w v f sound e =
     let faulted : Option BusFault → World → World = λ o x. record x { fault = o } in
     ap (faulted None) e ∙ ap (λ o. faulted o w) (sym sound)
 
 -- an event that was cut came, or it did not
-pub coming_cut : (r : Result (Option (Option Ask)) BusFault) (f : BusFault) (first w v : World) → r ≡ Err f → Coming first w → has_due w ≡ true → w.fault ≡ None → IfErr r (λ x. x ≢ LimitReached)
-    → (r ≡ Err Memory → v ≡ record w { fault = Some Memory }) → (r ≡ Err TraceFailed → v ≡ record (after_first_event w.left w) { fault = Some TraceFailed })
+pub coming_cut : (r : Result (Option (Option Ask)) BusFault) (f : BusFault) (first w v : World)
+    → r ≡ Err f → Coming first w → has_due w ≡ true → w.fault ≡ None
+    → IfErr r (λ x. x ≢ LimitReached)
+    → (r ≡ Err Memory → v ≡ record w { fault = Some Memory })
+    → (r ≡ Err TraceFailed → v ≡ record (after_first_event w.left w) {
+      fault =
+          Some TraceFailed;
+    })
     → Coming first (record v { fault = None })
 coming_cut (Ok x) f first w v is c h sound other kept cut = cc is
 coming_cut (Err LimitReached) f first w v is c h sound other kept cut = absurd (other refl)
-coming_cut (Err Memory) f first w v is c h sound other kept cut = subst (Coming first) (sym (unfaulted w v Memory sound (kept refl))) c
+coming_cut (Err Memory) f first w v is c h sound other kept cut =
+    subst (Coming first) (sym (unfaulted w v Memory sound (kept refl))) c
 coming_cut (Err TraceFailed) f first w v is c h sound other kept cut =
-    came_next first w (record v { fault = None }) c h (unfaulted (after_first_event w.left w) v TraceFailed (first_fault w.left w ∙ sound) (cut refl))
+    came_next first w (record v { fault = None }) c h
+    (unfaulted (after_first_event w.left w) v TraceFailed (first_fault w.left w ∙ sound)
+    (cut refl))
 
 pub on_err_holds : {A E : Type 0} {P : Type 0} (r : Result A E) → P → OnErr r P
 on_err_holds (Ok x) h = tt
 on_err_holds (Err x) h = h
 
-pub due_ends : (first w : World) (had has : Option (List ℕ)) → DueSoFar first w had has → has_due w ≡ false → w ≡ at_attempt first
+pub due_ends : (first w : World) (had has : Option (List ℕ)) → DueSoFar first w had has
+    → has_due w ≡ false → w ≡ at_attempt first
 unfolding at_attempt
 due_ends first w had has d h = sym (d.after ∙ due_end w h)
 
@@ -266,37 +363,68 @@ unfolding next_due
 due_none w h = rw (length-no_events w.left h) refl
 
 -- the first event leaves
-pub popped : (left rest : List Event) (o : Option Event) (e : Event) → left ≡ option_to_list o ++ rest → o ≡ Some e → left ≡ e ∷ rest
+pub popped : (left rest : List Event) (o : Option Event) (e : Event)
+    → left ≡ option_to_list o ++ rest → o ≡ Some e → left ≡ e ∷ rest
 popped left rest o e h is = h ∙ ap (λ (x : Option Event). option_to_list x ++ rest) is
 
-pub get_or-head : (left rest : List Event) (e f : Event) → left ≡ e ∷ rest → f ≡ get_or left 0 f → f ≡ e
+pub get_or-head : (left rest : List Event) (e f : Event) → left ≡ e ∷ rest → f ≡ get_or left 0 f
+    → f ≡ e
 get_or-head left rest e f split h = h ∙ ap (λ (l : List Event). get_or l 0 f) split
 
 -- the lines of a step in which no attempt was made, and of one in which one was made
-pub lines_alone : (a : Attempt) (w v : World) → v.attempts ≡ w.attempts → lines_between w v ≡ step_lines a w v
+pub lines_alone : (a : Attempt) (w v : World) → v.attempts ≡ w.attempts
+    → lines_between w v ≡ step_lines a w v
 unfolding step_lines
-lines_alone a w v e = sym (append-nil (lines_between w v)) ∙ ap (λ l. lines_between w v ++ l) (sym (if-true (v.attempts == w.attempts) [] (made_line a (at_attempt w)) (eq-eqb v.attempts w.attempts e)))
+lines_alone a w v e = sym (append-nil (lines_between w v))
+    ∙ ap (λ l. lines_between w v ++ l)
+    (sym (if-true (v.attempts == w.attempts) [] (made_line a (at_attempt w))
+    (eq-eqb v.attempts w.attempts e)))
 
-pub writes_alone : {A : Type 0} (r : Result A BusFault) (a : Attempt) (w v : World) (t s : Option (List ℕ)) → v.attempts ≡ w.attempts → WritesText r t s (lines_between w v) → WritesText r t s (step_lines a w v)
+pub writes_alone : {A : Type 0} (r : Result A BusFault) (a : Attempt) (w v : World)
+    (t s : Option (List ℕ)) → v.attempts ≡ w.attempts → WritesText r t s (lines_between w v)
+    → WritesText r t s (step_lines a w v)
 writes_alone r a w v t s e h = subst (WritesText r t s) (lines_alone a w v e) h
 
-pub lines_made : (a : Attempt) (w mid v : World) (n : ℕ) (x : Exchange) → mid ≡ at_attempt w → n ≡ mid.attempts + 1 → mid.attempts ≡ w.attempts → v.attempts ≡ w.attempts + 1 → v.taken ≡ mid.taken
-    → x ≡ made_in a mid → lines_between w mid ++ (attempt_line n a.pre x ++ 10 ∷ []) ≡ step_lines a w v
+pub lines_made : (a : Attempt) (w mid v : World) (n : ℕ) (x : Exchange) → mid ≡ at_attempt w
+    → n ≡ mid.attempts + 1 → mid.attempts ≡ w.attempts → v.attempts ≡ w.attempts + 1
+    → v.taken ≡ mid.taken
+    → x ≡ made_in a mid → lines_between w mid ++ (attempt_line n a.pre x ++ 10 ∷ [])
+    ≡ step_lines a w v
 unfolding step_lines
 lines_made a w mid v n x em en same one taken ex =
     let line : attempt_line n a.pre x ++ 10 ∷ [] ≡ made_line a (at_attempt w) =
-    ap₂ (λ (m : ℕ) (y : Exchange). attempt_line m a.pre y ++ 10 ∷ []) (en ∙ ap (λ (u : World). u.attempts + 1) em) (ex ∙ ap (λ (u : World). made_in a u) em) in
-    ap₂ (λ l r. l ++ r) (lines_same w mid v taken) (line ∙ sym (if-false (v.attempts == w.attempts) [] (made_line a (at_attempt w)) (unequal v.attempts w.attempts (λ e. absurd (omega (arith, e, one))))))
+    ap₂ (λ (m : ℕ) (y : Exchange). attempt_line m a.pre y ++ 10 ∷ []) (en
+    ∙ ap (λ (u : World). u.attempts + 1) em) (ex ∙ ap (λ (u : World). made_in a u) em) in
+    ap₂ (λ l r. l ++ r) (lines_same w mid v taken) (line
+    ∙ sym (if-false (v.attempts == w.attempts) [] (made_line a (at_attempt w))
+    (unequal v.attempts w.attempts (λ e. absurd (omega (arith, e, one))))))
 
 -- the attempt is made where the due events came
-pub made_in-attempt : (a : Attempt) (w mid : World) (x : Exchange) (roots : Ports) → mid ≡ at_attempt w → x ≡ made_in a mid → roots ≡ ports_in a (damage_in mid) mid.roots
-    → record mid { roots = roots; attempts = mid.attempts + 1; losses = counted x.address_lost (after_clearing x.change_cleared mid.losses); shared = mid.shared || repeats (held_addresses mid.roots) } ≡ with_attempt a (at_attempt w)
+pub made_in-attempt : (a : Attempt) (w mid : World) (x : Exchange) (roots : Ports)
+    → mid ≡ at_attempt w → x ≡ made_in a mid → roots ≡ ports_in a (damage_in mid) mid.roots
+    → record mid {
+      roots = roots;
+      attempts = mid.attempts + 1;
+      losses =
+          counted x.address_lost (after_clearing x.change_cleared mid.losses);
+      shared =
+          mid.shared || repeats (held_addresses mid.roots);
+    } ≡ with_attempt a (at_attempt w)
 unfolding with_attempt exchange_in
 made_in-attempt a w mid x roots em ex er =
     let made : Exchange → Ports → World
-    = λ y r. record mid { roots = r; attempts = mid.attempts + 1; losses = counted y.address_lost (after_clearing y.change_cleared mid.losses); shared = mid.shared || repeats (held_addresses mid.roots) } in
+    = λ y r. record mid {
+      roots = r;
+      attempts = mid.attempts + 1;
+      losses =
+          counted y.address_lost (after_clearing y.change_cleared mid.losses);
+      shared =
+          mid.shared || repeats (held_addresses mid.roots);
+    } in
     ap₂ made ex er ∙ ap (λ (v : World). with_attempt a v) em
 
-pub outcome_made_in : (a : Attempt) (w mid : World) (x : Exchange) → mid ≡ at_attempt w → x ≡ made_in a mid → outcome_made a x ≡ outcome_in a w
+pub outcome_made_in : (a : Attempt) (w mid : World) (x : Exchange) → mid ≡ at_attempt w
+    → x ≡ made_in a mid → outcome_made a x ≡ outcome_in a w
 unfolding outcome_in exchange_in
-outcome_made_in a w mid x em ex = ap (λ (y : Exchange). outcome_made a y) (ex ∙ ap (λ (v : World). made_in a v) em)
+outcome_made_in a w mid x em ex = ap (λ (y : Exchange). outcome_made a y) (ex
+    ∙ ap (λ (v : World). made_in a v) em)

@@ -1,5 +1,6 @@
 -- How an attempt or an event ends that a fault may cut.
-use Rattle.std.proofs.Common.{◌≡◌, Bool, true, false, if◌then◌else◌, Option, Some, None, Result, Ok, Err, OnOk, IfErr, IsErrAnd, ◌≢◌, ◌||◌, refl, sym, subst, ap, ◌∙◌}
+use Rattle.std.proofs.Common.{◌≡◌, Bool, true, false, if◌then◌else◌, Option, Some, None, Result, Ok}
+use Rattle.std.proofs.Common.{Err, OnOk, IfErr, IsErrAnd, ◌≢◌, ◌||◌, refl, sym, subst, ap, ◌∙◌}
 use Rattle.std.specs.Prelude.{◌==◌}
 use Rattle.std.proofs.lemmas.Bool.{eq-eqb}
 use Rattle.std.proofs.Common.{arith, ℕ}
@@ -9,7 +10,9 @@ use Rattle.usb_world.specs.declared.types.Outcome.{Outcome}
 use Rattle.usb_world.specs.declared.types.BusFault.{BusFault}
 use Rattle.usb_world.specs.declared.types.BusFault.TheVariants.{LimitReached, Memory, TraceFailed}
 use Rattle.usb_world.specs.World.{World}
-use Rattle.usb_world.specs.Steps.{at_attempt, with_attempt, attempted, attempt, event, event_taken, after_first_event, after, fault_of, Left, Coming, at_event, at_packet, at_line, AttemptFails, IsCut, damage_in}
+use Rattle.usb_world.specs.Steps.{at_attempt, with_attempt, attempted, attempt, event, event_taken}
+use Rattle.usb_world.specs.Steps.{after_first_event, after, fault_of, Left, Coming, at_event}
+use Rattle.usb_world.specs.Steps.{at_packet, at_line, AttemptFails, IsCut, damage_in}
 use Rattle.usb_device.specs.Tree.{Ports}
 use Rattle.std.specs.Prelude.{List, IfOk, IsSome, is_some, ◌+◌}
 use Rattle.usb_world.specs.World.{AttemptEnds, AttemptsWithin, to_come}
@@ -23,7 +26,8 @@ use Rattle.usb_bus.specs.Traces.{Attempts, TakesEvent}
 use Rattle.usb_sim.proofs.Arrivals.{writes_none, writes_alone}
 use Rattle.usb_device.specs.Delivery.{held_addresses, repeats}
 
-pub after_fault : (a : Attempt) (w : World) (f : BusFault) → w.fault ≡ Some f → w ≡ after (attempt a) w
+pub after_fault : (a : Attempt) (w : World) (f : BusFault) → w.fault ≡ Some f
+    → w ≡ after (attempt a) w
 unfolding after
 after_fault a w f e = ap (λ o. attempted a o w) (sym e)
 
@@ -36,57 +40,93 @@ if_false_is false x y h = refl
 if_false_is true x y h = cc
 
 -- nothing is applied where the attempts equal the limit
-pub after-limit : (a : Attempt) (w : World) → w.fault ≡ None → w.attempts ≡ w.limit → record w { fault = Some LimitReached } ≡ after (attempt a) w
+pub after-limit : (a : Attempt) (w : World) → w.fault ≡ None → w.attempts ≡ w.limit
+    → record w { fault = Some LimitReached } ≡ after (attempt a) w
 unfolding after
-after-limit a w sound e = if_true_is (w.attempts == w.limit) (record w { fault = Some LimitReached }) (with_attempt a (at_attempt w)) (eq-eqb w.attempts w.limit e) ∙ ap (λ o. attempted a o w) (sym sound)
+after-limit a w sound e = if_true_is (w.attempts == w.limit)
+    (record w { fault = Some LimitReached }) (with_attempt a (at_attempt w))
+    (eq-eqb w.attempts w.limit e) ∙ ap (λ o. attempted a o w) (sym sound)
 
 -- else the attempt is made
-pub made : (a : Attempt) (w : World) → w.fault ≡ None → (w.attempts ≡ w.limit → ⊥) → with_attempt a (at_attempt w) ≡ after (attempt a) w
+pub made : (a : Attempt) (w : World) → w.fault ≡ None → (w.attempts ≡ w.limit → ⊥)
+    → with_attempt a (at_attempt w) ≡ after (attempt a) w
 unfolding after
-made a w sound e = if_false_is (w.attempts == w.limit) (record w { fault = Some LimitReached }) (with_attempt a (at_attempt w)) (unequal w.attempts w.limit e) ∙ ap (λ o. attempted a o w) (sym sound)
+made a w sound e = if_false_is (w.attempts == w.limit) (record w { fault = Some LimitReached })
+    (with_attempt a (at_attempt w)) (unequal w.attempts w.limit e)
+    ∙ ap (λ o. attempted a o w) (sym sound)
 
-pub without_fault : (w v : World) (f : Option BusFault) → w ≡ v → w.fault ≡ None → f ≡ None → record w { fault = f } ≡ v
+pub without_fault : (w v : World) (f : Option BusFault) → w ≡ v → w.fault ≡ None → f ≡ None
+    → record w { fault = f } ≡ v
 without_fault w v f e sound is = ap (λ x. record w { fault = x }) (is ∙ sym sound) ∙ e
 
-pub made_exact : (r : Result Outcome BusFault) (a : Attempt) (w m : World) → w.fault ≡ None → (w.attempts ≡ w.limit → ⊥)
+pub made_exact : (r : Result Outcome BusFault) (a : Attempt) (w m : World) → w.fault ≡ None
+    → (w.attempts ≡ w.limit → ⊥)
     → OnOk r (m ≡ with_attempt a (at_attempt w)) → OnOk r (m ≡ after (attempt a) w)
 made_exact (Ok o) a w m sound below e = e ∙ made a w sound below
 made_exact (Err x) a w m sound below e = e
 
-pub event_exact : (r : Result (Option (Option Ask)) BusFault) (w m : World) → w.fault ≡ None → OnOk r (m ≡ after_first_event w.left w) → OnOk r (m ≡ after event w)
+pub event_exact : (r : Result (Option (Option Ask)) BusFault) (w m : World) → w.fault ≡ None
+    → OnOk r (m ≡ after_first_event w.left w) → OnOk r (m ≡ after event w)
 unfolding after
 event_exact (Ok o) w m sound e = e ∙ ap (λ o. event_taken o w) (sym sound)
 event_exact (Err x) w m sound e = e
 
-pub event_cut : (w m : World) → w.fault ≡ None → m ≡ record (after_first_event w.left w) { fault = Some TraceFailed } → m ≡ record (after event w) { fault = Some TraceFailed }
+pub event_cut : (w m : World) → w.fault ≡ None
+    → m ≡ record (after_first_event w.left w) { fault = Some TraceFailed }
+    → m ≡ record (after event w) { fault = Some TraceFailed }
 unfolding after
-event_cut w m sound e = e ∙ ap (λ o. record (event_taken o w) { fault = Some TraceFailed }) (sym sound)
+event_cut w m sound e = e ∙ ap (λ o. record (event_taken o w) { fault = Some TraceFailed })
+    (sym sound)
 
 -- an event that was due could not come
-pub left_at_event : {T : Type 0} (r : Result T BusFault) (a : Attempt) (w m : World) → Coming w m → IfErr r (λ f. Left a w f m)
+pub left_at_event : {T : Type 0} (r : Result T BusFault) (a : Attempt) (w m : World) → Coming w m
+    → IfErr r (λ f. Left a w f m)
 left_at_event (Ok x) a w m c = tt
 left_at_event (Err f) a w m c = at_event c
 
 -- memory was refused while the host's data went
-pub left_at_packet : {T : Type 0} (r : Result T BusFault) (a : Attempt) (w m v : World) (k : Ports) → IsErrAnd r (λ f. f ≡ Memory) → m ≡ at_attempt w → IsCut a (damage_in m) m.roots k
-    → v ≡ record m { roots = k; shared = m.shared || repeats (held_addresses m.roots) } → IfErr r (λ f. Left a w f v)
+pub left_at_packet : {T : Type 0} (r : Result T BusFault) (a : Attempt) (w m v : World) (k : Ports)
+    → IsErrAnd r (λ f. f ≡ Memory) → m ≡ at_attempt w → IsCut a (damage_in m) m.roots k
+    → v ≡ record m { roots = k; shared = m.shared || repeats (held_addresses m.roots) }
+    → IfErr r (λ f. Left a w f v)
 left_at_packet (Ok x) a w m v k is e cut made = tt
 left_at_packet (Err f) a w m v k is e cut made =
     let P : World → Type 0 = λ x. IsCut a (damage_in x) x.roots k in
-    let left : World → World = λ x. record x { roots = k; shared = x.shared || repeats (held_addresses x.roots) } in
+    let left : World → World = λ x. record x {
+      roots = k;
+      shared =
+          x.shared || repeats (held_addresses x.roots);
+    } in
     at_packet k is (subst P e cut) (made ∙ ap left e)
 
 -- only the line was not written
-pub left_at_line : {T : Type 0} (r : Result T BusFault) (a : Attempt) (w v : World) → IsErrAnd r (λ f. f ≡ TraceFailed) → v ≡ with_attempt a (at_attempt w) → IfErr r (λ f. Left a w f v)
+pub left_at_line : {T : Type 0} (r : Result T BusFault) (a : Attempt) (w v : World)
+    → IsErrAnd r (λ f. f ≡ TraceFailed) → v ≡ with_attempt a (at_attempt w)
+    → IfErr r (λ f. Left a w f v)
 left_at_line (Ok x) a w v is e = tt
 left_at_line (Err f) a w v is e = at_line is e
 
-pub fails_at : (r : Result Outcome BusFault) (a : Attempt) (w m : World) → m.fault ≡ fault_of r → (w.attempts ≡ w.limit → ⊥) → IfErr r (λ x. x ≢ LimitReached)
+pub fails_at : (r : Result Outcome BusFault) (a : Attempt) (w m : World) → m.fault ≡ fault_of r
+    → (w.attempts ≡ w.limit → ⊥) → IfErr r (λ x. x ≢ LimitReached)
     → IfErr r (λ x. Left a w x (record m { fault = None })) → AttemptFails a w r m
 fails_at (Ok o) a w m is below other left = tt
 fails_at (Err LimitReached) a w m is below other left = absurd (other refl)
-fails_at (Err Memory) a w m is below other left = record { below = below; left = record m { fault = None }; so_far = left; told = ap (λ x. record m { fault = x }) is }
-fails_at (Err TraceFailed) a w m is below other left = record { below = below; left = record m { fault = None }; so_far = left; told = ap (λ x. record m { fault = x }) is }
+fails_at (Err Memory) a w m is below other left =
+    record {
+      below = below;
+      left = record m { fault = None };
+      so_far = left;
+      told =
+          ap (λ x. record m { fault = x }) is;
+    }
+fails_at (Err TraceFailed) a w m is below other left =
+    record {
+      below = below;
+      left = record m { fault = None };
+      so_far = left;
+      told =
+          ap (λ x. record m { fault = x }) is;
+    }
 
 -- What an attempt is, at each of its ends
 
@@ -108,11 +148,16 @@ at_limit_spends w = record {
 same_err : (f x : BusFault) → Some f ≡ Some x → fault_result f ≡ fault_result x
 same_err f x e = cc e
 
-nothing_written : (f : BusFault) (a : Attempt) (w v : World) (t : Option (List ℕ)) → v.taken ≡ w.taken → v.attempts ≡ w.attempts → WritesText (fault_result f) t t (step_lines a w v)
-nothing_written f a w v t e same = writes_alone (fault_result f) a w v t t same (writes_none (fault_result f) w v t e)
+nothing_written : (f : BusFault) (a : Attempt) (w v : World) (t : Option (List ℕ))
+    → v.taken ≡ w.taken → v.attempts ≡ w.attempts
+    → WritesText (fault_result f) t t (step_lines a w v)
+nothing_written f a w v t e same = writes_alone (fault_result f) a w v t t same
+    (writes_none (fault_result f) w v t e)
 
 -- a fault was told before
-pub again_attempts : (a : Attempt) (w : World) (t : Option (List ℕ)) (f : BusFault) → Some f ≡ w.fault → (w.fault ≡ Some LimitReached → w.attempts ≡ w.limit) → Attempts a w t (Err f) w t
+pub again_attempts : (a : Attempt) (w : World) (t : Option (List ℕ)) (f : BusFault)
+    → Some f ≡ w.fault → (w.fault ≡ Some LimitReached → w.attempts ≡ w.limit)
+    → Attempts a w t (Err f) w t
 again_attempts a w t f told limit = record {
   counts = record {
     spends = spends_wider 0 1 w w (spends_none w) (omega arith);
@@ -127,7 +172,9 @@ again_attempts a w t f told limit = record {
 }
 
 -- the attempts equal the limit
-pub limit_attempts : (a : Attempt) (w : World) (t : Option (List ℕ)) → w.fault ≡ None → w.attempts ≡ w.limit → Attempts a w t (Err LimitReached) (record w { fault = Some LimitReached }) t
+pub limit_attempts : (a : Attempt) (w : World) (t : Option (List ℕ)) → w.fault ≡ None
+    → w.attempts ≡ w.limit → Attempts a w t (Err LimitReached)
+    (record w { fault = Some LimitReached }) t
 limit_attempts a w t sound e = record {
   counts = record {
     spends = at_limit_spends w;
@@ -141,12 +188,16 @@ limit_attempts a w t sound e = record {
   text = nothing_written LimitReached a w (record w { fault = Some LimitReached }) t refl refl;
 }
 
-ends_as : (r : Result Outcome BusFault) (w v : World) → w.fault ≡ None → OnOk r (v.attempts ≡ w.attempts + 1) → v.fault ≡ fault_of r → IfErr r (λ x. x ≢ LimitReached) → AttemptEnds w r v
+ends_as : (r : Result Outcome BusFault) (w v : World) → w.fault ≡ None
+    → OnOk r (v.attempts ≡ w.attempts + 1) → v.fault ≡ fault_of r → IfErr r (λ x. x ≢ LimitReached)
+    → AttemptEnds w r v
 ends_as (Ok o) w v sound one told other = record { sound = sound; one = one; still = told }
 ends_as (Err f) w v sound one told other = record { told = told; at_limit = λ e. absurd (other e) }
 
 -- it was made, or given up
-pub made_attempts : (r : Result Outcome BusFault) (a : Attempt) (w v : World) (t s : Option (List ℕ)) → w.fault ≡ None → (w.attempts ≡ w.limit → ⊥) → AttemptMade a w t r v s → Attempts a w t r v s
+pub made_attempts : (r : Result Outcome BusFault) (a : Attempt) (w v : World)
+    (t s : Option (List ℕ)) → w.fault ≡ None → (w.attempts ≡ w.limit → ⊥) → AttemptMade a w t r v s
+    → Attempts a w t r v s
 made_attempts r a w v t s sound below made = record {
   counts = record {
     spends = made.spends;
@@ -168,7 +219,8 @@ due_result f = Err f
 fault_untaken : (f x : BusFault) → Some f ≡ Some x → due_result f ≡ due_result x
 fault_untaken f x e = cc e
 
-pub again_takes : (w : World) (t : Option (List ℕ)) (f : BusFault) → Some f ≡ w.fault → (w.fault ≡ Some LimitReached → w.attempts ≡ w.limit) → TakesEvent w t (Err f) w t
+pub again_takes : (w : World) (t : Option (List ℕ)) (f : BusFault) → Some f ≡ w.fault
+    → (w.fault ≡ Some LimitReached → w.attempts ≡ w.limit) → TakesEvent w t (Err f) w t
 again_takes w t f told limit = record {
   took = record {
     spends = spends_none w;
@@ -183,21 +235,37 @@ again_takes w t f told limit = record {
   text = writes_none (due_result f) w w t refl;
 }
 
-event_ends : (r : Result (Option (Option Ask)) BusFault) (w v : World) → w.fault ≡ None → v.fault ≡ fault_of r → (r ≡ Ok None → (to_come w ≡ 0) × (v ≡ w)) → IfOk r (λ due. IsSome due → v.taken ≡ w.taken + 1) → IfErr r (λ x. x ≢ LimitReached) → EventEnds w r v
-event_ends (Ok None) w v sound told none one other = record { sound = sound; none = (none refl).0; same = (none refl).1 }
-event_ends (Ok (Some due)) w v sound told none one other = record { sound = sound; one = one refl; still = told }
-event_ends (Err f) w v sound told none one other = record { told = told; at_limit = λ e. absurd (other e) }
+event_ends : (r : Result (Option (Option Ask)) BusFault) (w v : World) → w.fault ≡ None
+    → v.fault ≡ fault_of r → (r ≡ Ok None → (to_come w ≡ 0) × (v ≡ w))
+    → IfOk r (λ due. IsSome due → v.taken ≡ w.taken + 1) → IfErr r (λ x. x ≢ LimitReached)
+    → EventEnds w r v
+event_ends (Ok None) w v sound told none one other = record {
+  sound = sound;
+  none = (none refl).0;
+  same = (none refl).1;
+}
+event_ends (Ok (Some due)) w v sound told none one other =
+    record { sound = sound; one = one refl; still = told }
+event_ends (Err f) w v sound told none one other =
+    record { told = told; at_limit = λ e. absurd (other e) }
 
 -- the limit is told of no event, and of no attempt below it
-pub never_limit : {A : Type 0} (r : Result A BusFault) {P : Type 0} → IfErr r (λ x. x ≢ LimitReached) → r ≡ Err LimitReached → P
+pub never_limit : {A : Type 0} (r : Result A BusFault) {P : Type 0}
+    → IfErr r (λ x. x ≢ LimitReached) → r ≡ Err LimitReached → P
 never_limit (Ok x) other e = cc e
 never_limit (Err LimitReached) other e = absurd (other refl)
 never_limit (Err Memory) other e = cc e
 never_limit (Err TraceFailed) other e = cc e
 
-pub taken_takes : (r : Result (Option (Option Ask)) BusFault) (w v : World) (t s : Option (List ℕ)) → w.fault ≡ None → OneEventCame w t r v s → TakesEvent w t r v s
+pub taken_takes : (r : Result (Option (Option Ask)) BusFault) (w v : World) (t s : Option (List ℕ))
+    → w.fault ≡ None → OneEventCame w t r v s → TakesEvent w t r v s
 taken_takes r w v t s sound came = record {
-  took = record { spends = came.spends; ends = event_ends r w v sound came.told came.none came.one came.other; again = λ x h. absurd (cc (sound, h)) };
+  took = record {
+    spends = came.spends;
+    ends = event_ends r w v sound came.told came.none came.one
+        came.other;
+    again = λ x h. absurd (cc (sound, h));
+  };
   asked = came.asked;
   exact = event_exact r w v sound came.exact;
   kept = λ e _. came.kept e;

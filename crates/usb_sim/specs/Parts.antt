@@ -1,33 +1,43 @@
--- The parts of an attempt of a simulated bus: each event that is due, all of them, and the attempt behind them.
-use Rattle.std.specs.Prelude.{◌≡◌, ◌≢◌, ℕ, ◌+◌, List, Option, None, Some, Result, Ok, Err, OnOk, OnErr, IfOk, IfErr, IsSome}
+-- The parts of an attempt of a simulated bus: each event that is due, all of them, and the attempt
+-- behind them.
+use Rattle.std.specs.Prelude.{◌≡◌, ◌≢◌, ℕ, ◌+◌, List, Option, None, Some, Result, Ok, Err, OnOk}
+use Rattle.std.specs.Prelude.{OnErr, IfOk, IfErr, IsSome}
 use Rattle.usb_world.specs.declared.types.Attempt.{Attempt}
 use Rattle.usb_world.specs.declared.event.Ask.{Ask}
 use Rattle.usb_world.specs.declared.types.BusFault.{BusFault}
 use Rattle.usb_world.specs.declared.types.BusFault.TheVariants.{LimitReached, Memory, TraceFailed}
 use Rattle.usb_world.specs.declared.types.Outcome.{Outcome}
 use Rattle.usb_world.specs.World.{World, AnswerFits, AttemptsWithin, to_come}
-use Rattle.usb_world.specs.Steps.{Coming, Left, after, attempt, fault_of, outcome_in, at_attempt, after_first_event, with_attempt}
+use Rattle.usb_world.specs.Steps.{Coming, Left, after, attempt, fault_of, outcome_in, at_attempt}
+use Rattle.usb_world.specs.Steps.{after_first_event, with_attempt}
 use Rattle.usb_sim.specs.declared.sim.SimBus.{SimBus}
 use Rattle.usb_sim.specs.declared.tracer.Trace.{Ghosts}
 use Rattle.usb_bus.specs.Lines.{lines_between, next_due, step_lines}
 use Rattle.usb_sim.specs.Sim.{world_of, tracer_of}
 use Rattle.usb_bus.specs.Watch.{WritesText}
 
--- the next event came, if one was left; or memory was refused and it did not come, or its line was not written
-pub record OneEventCame (old : World) (before : Option (List ℕ)) (result : Result (Option (Option Ask)) BusFault) (new : World) (now : Option (List ℕ)) : Type 0 where
-  pub spends : AttemptsWithin 0 old new
-  pub told : new.fault ≡ fault_of result
-  pub none : result ≡ Ok None → (to_come old ≡ 0) × (new ≡ old)
-  pub one : IfOk result (λ due. IsSome due → new.taken ≡ old.taken + 1)
-  pub asked : IfOk result (λ due. due ≡ next_due old)
-  pub exact : OnOk result (new ≡ after_first_event old.left old)
-  pub kept : result ≡ Err Memory → new ≡ record old { fault = Some Memory }
-  pub cut : result ≡ Err TraceFailed → new ≡ record (after_first_event old.left old) { fault = Some TraceFailed }
-  pub other : IfErr result (λ f. f ≢ LimitReached)
-  pub text : WritesText result before now (lines_between old new)
+-- the next event came, if one was left; or memory was refused and it did not come, or its line was
+-- not written
+pub record OneEventCame (old : World) (before : Option (List ℕ))
+    (result : Result (Option (Option Ask)) BusFault) (new : World) (now : Option (List ℕ)) : Type 0
+  where
+    pub spends : AttemptsWithin 0 old new
+    pub told : new.fault ≡ fault_of result
+    pub none : result ≡ Ok None → (to_come old ≡ 0) × (new ≡ old)
+    pub one : IfOk result (λ due. IsSome due → new.taken ≡ old.taken + 1)
+    pub asked : IfOk result (λ due. due ≡ next_due old)
+    pub exact : OnOk result (new ≡ after_first_event old.left old)
+    pub kept : result ≡ Err Memory → new ≡ record old { fault = Some Memory }
+    pub cut : result ≡ Err TraceFailed → new ≡ record (after_first_event old.left old) {
+      fault =
+          Some TraceFailed;
+    }
+    pub other : IfErr result (λ f. f ≢ LimitReached)
+    pub text : WritesText result before now (lines_between old new)
 
 -- the events that are due came, or one of them was refused
-pub record EventsCame {A : Type 0} (old : World) (before : Option (List ℕ)) (result : Result A BusFault) (new : World) (now : Option (List ℕ)) : Type 0 where
+pub record EventsCame {A : Type 0} (old : World) (before : Option (List ℕ))
+    (result : Result A BusFault) (new : World) (now : Option (List ℕ)) : Type 0 where
   pub spends : AttemptsWithin 0 old new
   pub told : new.fault ≡ fault_of result
   pub exact : OnOk result (new ≡ at_attempt old)
@@ -36,7 +46,8 @@ pub record EventsCame {A : Type 0} (old : World) (before : Option (List ℕ)) (r
   pub text : WritesText result before now (lines_between old new)
 
 -- the attempt was made behind the events that are due, or the bus gave it up
-pub record AttemptMade (a : Attempt) (old : World) (before : Option (List ℕ)) (result : Result Outcome BusFault) (new : World) (now : Option (List ℕ)) : Type 0 where
+pub record AttemptMade (a : Attempt) (old : World) (before : Option (List ℕ))
+    (result : Result Outcome BusFault) (new : World) (now : Option (List ℕ)) : Type 0 where
   pub spends : AttemptsWithin 1 old new
   pub one : OnOk result (new.attempts ≡ old.attempts + 1)
   pub fits : AnswerFits a.max result
@@ -47,7 +58,10 @@ pub record AttemptMade (a : Attempt) (old : World) (before : Option (List ℕ)) 
   pub other : IfErr result (λ f. f ≢ LimitReached)
   pub text : WritesText result before now (step_lines a old new)
 
--- an attempt that was refused at the limit left the trace as it was, and one behind a fault left all
-pub record RefusesAttempt {T : Type 0} {g : Ghosts T} (a : Attempt) (old : SimBus T g) (result : Result Outcome BusFault) (new : SimBus T g) : Type 0 where
-  pub limit : result ≡ Err LimitReached → (world_of new ≡ after (attempt a) (world_of old)) × (tracer_of new ≡ tracer_of old)
+-- an attempt that was refused at the limit left the trace as it was, and one behind a fault left
+-- all
+pub record RefusesAttempt {T : Type 0} {g : Ghosts T} (a : Attempt) (old : SimBus T g)
+    (result : Result Outcome BusFault) (new : SimBus T g) : Type 0 where
+  pub limit : result ≡ Err LimitReached → (world_of new ≡ after (attempt a) (world_of old))
+      × (tracer_of new ≡ tracer_of old)
   pub again : IsSome (world_of old).fault → new ≡ old

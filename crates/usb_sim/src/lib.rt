@@ -10,7 +10,7 @@
 //!   its address, configuration and ports, and nothing at all changed where no address is held twice
 //!   (`CutPackets.cut_stand`, `UnsharedRefusals.cut_alone` of usb_world). A fault is told again and changes nothing, an
 //!   attempt tells LimitReached exactly where attempts equal the limit (`RefusedAttempts.limit_told` of usb_world), a
-//!   line of report tells nothing but TraceFailed, and as long as none was told each port is *sane*.
+//!   line of report tells nothing but TraceFailed, and as long as none was told each port is *consistent*.
 //! - A bus that makes no line of its trace (`SimBus::untraced`) meets all of this too, and its type says that it never
 //!   tells TraceFailed (`untraced_fault`).
 //! - The trace of a `SimBus` has failed exactly where TraceFailed was told, whatever was called on it, so each

@@ -34,8 +34,8 @@ use usb_world::{BusFault, Exchange, Losses, event_copies};
 /// A bus that a plan describes. Each attempt, plug and unplug is a line of the trace, which goes to a writer at once
 /// where the bus is `Tracer`.
 ///
-/// After a fault every later attempt, event and line of report tells the same fault again and changes nothing. Its trace
-/// has failed exactly where `TraceFailed` was told; so that is never told of a bus that is `Untraced`.
+/// After a fault every later attempt, event and line of report tells the same fault again and changes nothing. Its
+/// trace has failed exactly where `TraceFailed` was told; so that is never told of a bus that is `Untraced`.
 #[derive(Debug, Drop)]
 pub struct SimBus<T: Trace> {
     alloc: Global,
@@ -219,7 +219,8 @@ impl<T: Trace> SimBus<T> {
         Some((device.address(), device.configuration()))
     }
 
-    /// All bytes that the bulk OUT endpoint of the device at the path has taken since its plug; None where none is there.
+    /// All bytes that the bulk OUT endpoint of the device at the path has taken since its plug; None where none is
+    /// there.
     pub fn sink(&self, path: &PortPath) -> Option<&[u8]>
         ensures { option_map (λ s. s.now) result
             ≡ option_map (λ d. d.own.sink) (device_at self.now path.now) }

@@ -1,5 +1,8 @@
 -- A bus behind a stream of lines: what a question reads and writes, and what is kept of that.
-use Rattle.std.specs.Prelude.{◌≡◌, ◌⊎◌, ℕ, zero, suc, ◌+◌, ◌-◌, ◌^◌, min, ◌<◌, ◌≤◌, ◌&&◌, nat_le, nat_lt, Bool, true, false, if◌then◌else◌, List, [], ◌∷◌, ◌++◌, length, replicate, slice_index_or, slice_set, Option, Some, None, Result, Ok, Err}
+use Rattle.std.specs.Prelude.{◌≡◌, ◌⊎◌, ℕ, zero, suc, ◌+◌, ◌-◌, ◌^◌, min, ◌<◌, ◌≤◌, ◌&&◌, nat_le}
+use Rattle.std.specs.Prelude.{nat_lt, Bool, true, false, if◌then◌else◌, List, [], ◌∷◌, ◌++◌, length}
+use Rattle.std.specs.Prelude.{replicate, slice_index_or, slice_set, Option, Some, None, Result, Ok}
+use Rattle.std.specs.Prelude.{Err}
 use Rattle.std.specs.Io.KnownBytes.{Appends, Consumes, IsAtEnd}
 use Rattle.arrayvec.specs.ArrayVec.{ArrayVec}
 use Rattle.usb_packet.specs.declared.Toggle.{Toggle}
@@ -57,20 +60,24 @@ question_of_setup speed e (Some (One, bytes)) = None
 
 abbrev pub question_of_out : Speed → Endpoint → Option (Toggle × ArrayVec ℕ) → Option Question
 question_of_out speed e None = None
-question_of_out speed e (Some (toggle, bytes)) = Some (Out speed e (record { toggle = toggle; bytes = bytes }))
+question_of_out speed e (Some (toggle, bytes)) =
+    Some (Out speed e (record { toggle = toggle; bytes = bytes }))
 
-abbrev pub question_by : TokenKind → Speed → Endpoint → ℕ → Option (Toggle × ArrayVec ℕ) → Option Question
+abbrev pub question_by : TokenKind → Speed → Endpoint → ℕ → Option (Toggle × ArrayVec ℕ)
+    → Option Question
 question_by SetupTok speed e most payload = question_of_setup speed e payload
 question_by OutTok speed e most payload = question_of_out speed e payload
 question_by InTok speed e most payload = Some (In speed e most)
 
 -- the question for an attempt, where there is a line for it
 abbrev pub question_for : Attempt → Option Question
-question_for a = question_by a.kind (line_speed a.low a.pre) (record { address = a.addr; number = a.ep }) a.max a.payload
+question_for a = question_by a.kind (line_speed a.low a.pre)
+    (record { address = a.addr; number = a.ep }) a.max a.payload
 
 -- more data than the endpoint's maximum packet are none (8.7.4)
 abbrev pub data_for : ℕ → DataPacket → Outcome
-data_for most sent = if nat_lt most (length sent.bytes.items) then Nothing else Payload sent.toggle sent.bytes
+data_for most sent = if nat_lt most (length sent.bytes.items) then Nothing else Payload sent.toggle
+    sent.bytes
 
 abbrev pub outcome_for : ℕ → Answer → Outcome
 outcome_for most (answer.Data sent) = data_for most sent
@@ -88,7 +95,8 @@ outcome_for most (answer.Clear path) = Nothing
 
 -- ---- what is kept
 
--- how many root ports there are, their statuses as they were told last, how many more questions may be asked, how many
+-- how many root ports there are, their statuses as they were told last, how many more questions may
+-- be asked, how many
 -- lines were read, and why nothing is asked any more
 pub record Kept : Type 0 where
   pub roots : ℕ
@@ -98,7 +106,14 @@ pub record Kept : Type 0 where
   pub fault : Option LiveFault
 
 abbrev pub kept_of : {R W : Type 0} → StreamBus R W → Kept
-kept_of b = record { roots = b.roots; statuses = b.statuses; left = b.left; lines = b.lines; fault = b.fault }
+kept_of b = record {
+  roots = b.roots;
+  statuses = b.statuses;
+  left = b.left;
+  lines = b.lines;
+  fault =
+      b.fault;
+}
 
 -- the bytes that the reader of a bus has left, and those that its writer has, where they are known
 abbrev pub unread_of : {R W : Type 0} → (R → Option (List ℕ)) → StreamBus R W → Option (List ℕ)
@@ -109,14 +124,16 @@ written_of contents b = contents (inner_of b.writer)
 
 -- ---- what is read and written
 
--- the bytes that the reader has left and those that the writer has, before and after, where they are known
+-- the bytes that the reader has left and those that the writer has, before and after, where they
+-- are known
 pub record StreamTexts : Type 0 where
   pub unread : Option (List ℕ)
   pub left : Option (List ℕ)
   pub before : Option (List ℕ)
   pub now : Option (List ℕ)
 
-abbrev pub streams : Option (List ℕ) → Option (List ℕ) → Option (List ℕ) → Option (List ℕ) → StreamTexts
+abbrev pub streams : Option (List ℕ) → Option (List ℕ) → Option (List ℕ) → Option (List ℕ)
+    → StreamTexts
 streams unread left before now = record { unread = unread; left = left; before = before; now = now }
 
 -- so many lines more are counted, up to the greatest u64
@@ -131,20 +148,24 @@ pub data WholeLines : ℕ → List ℕ → Type 0 where
       → WholeLines (n + 1) (text ++ (line ++ 10 ∷ []))
 
 -- so many lines that tell statuses of root ports were read, each is kept
-pub data StatusesRead (a : Asked) (roots : ℕ) (old : List (List ℕ)) : ℕ → List ℕ → List (List ℕ) → Type 0 where
+pub data StatusesRead (a : Asked) (roots : ℕ) (old : List (List ℕ)) : ℕ → List ℕ → List (List ℕ)
+    → Type 0 where
   none : StatusesRead a roots old 0 [] old
-  next : {n : ℕ} {text : List ℕ} {mid : List (List ℕ)} (line : List ℕ) (number : ℕ) (status : List ℕ)
+  next : {n : ℕ} {text : List ℕ} {mid : List (List ℕ)} (line : List ℕ) (number : ℕ)
+      (status : List ℕ)
       → StatusesRead a roots old n text mid → IsUnbroken line
       → MaySay a roots (Changed number status) → IsSaidLine line (Changed number status)
-      → StatusesRead a roots old (n + 1) (text ++ (line ++ 10 ∷ [])) (slice_set mid (number - 1) status)
+      → StatusesRead a roots old (n + 1) (text ++ (line ++ 10 ∷ []))
+      (slice_set mid (number - 1) status)
 
 -- a line was read that says this
-pub record SaidLine (a : Asked) (roots : ℕ) (unread left : Option (List ℕ)) (said : Said) : Type 0 where
-  pub line : List ℕ
-  pub unbroken : IsUnbroken line
-  pub may : MaySay a roots said
-  pub says : IsSaidLine line said
-  pub read : Consumes unread left (line ++ 10 ∷ [])
+pub record SaidLine (a : Asked) (roots : ℕ) (unread left : Option (List ℕ)) (said : Said) : Type 0
+  where
+    pub line : List ℕ
+    pub unbroken : IsUnbroken line
+    pub may : MaySay a roots said
+    pub says : IsSaidLine line said
+    pub read : Consumes unread left (line ++ 10 ∷ [])
 
 -- the input has ended in place of what is wanted
 pub record SaidEnd (a : Asked) (unread left : Option (List ℕ)) (said : Said) : Type 0 where
@@ -157,7 +178,8 @@ abbrev pub Says : Asked → ℕ → Option (List ℕ) → Option (List ℕ) → 
 Says a roots unread left said = SaidLine a roots unread left said ⊎ SaidEnd a unread left said
 
 -- statuses, and then the answer: each is a line, and is counted
-pub record AnswerLinesRead (a : Asked) (roots : ℕ) (unread left : Option (List ℕ)) (old : List (List ℕ)) (before : ℕ) (got : Answer)
+pub record AnswerLinesRead (a : Asked) (roots : ℕ) (unread left : Option (List ℕ))
+    (old : List (List ℕ)) (before : ℕ) (got : Answer)
     (new : List (List ℕ)) (after : ℕ) : Type 0 where
   pub pushed : ℕ
   pub text : List ℕ
@@ -184,9 +206,11 @@ pub record ReadOne (unread left : Option (List ℕ)) : Type 0 where
   pub read : Consumes unread left (line ++ 10 ∷ []) ⊎ Consumes unread left line
 
 -- a question went out as one line, one question less is left, and its answer was heard
-pub record AskedWell (q : Question) (s : StreamTexts) (old : Kept) (got : Answer) (new : Kept) : Type 0 where
+pub record AskedWell (q : Question) (s : StreamTexts) (old : Kept) (got : Answer) (new : Kept) :
+    Type 0 where
   pub written : Appends s.before s.now (question_line q ++ 10 ∷ [])
-  pub heard : AnswerLinesRead (kind_asked q) old.roots s.unread s.left old.statuses old.lines got new.statuses new.lines
+  pub heard : AnswerLinesRead (kind_asked q) old.roots s.unread s.left old.statuses old.lines got
+      new.statuses new.lines
   pub one : new.left + 1 ≡ old.left
   pub roots : new.roots ≡ old.roots
   pub sound : new.fault ≡ None
@@ -200,12 +224,15 @@ questions fault.Gone = 1
 questions fault.Write = 1
 questions fault.LimitReached = 0
 
--- a fault is kept; at most one question went out, or a front of it, and one less is left; at the limit nothing did
-pub record AsksNoMore (q : Question) (s : StreamTexts) (old : Kept) (f : LiveFault) (new : Kept) : Type 0 where
+-- a fault is kept; at most one question went out, or a front of it, and one less is left; at the
+-- limit nothing did
+pub record AsksNoMore (q : Question) (s : StreamTexts) (old : Kept) (f : LiveFault) (new : Kept) :
+    Type 0 where
   pub kept : new.fault ≡ Some f
   pub written : AppendsFront s.before s.now (question_line q ++ 10 ∷ [])
   pub read : ReadLines s.unread s.left old.lines new.lines
-  pub limit : f ≡ LimitReached → (old.left ≡ 0) × Consumes s.unread s.left [] × Appends s.before s.now []
+  pub limit : f ≡ LimitReached → (old.left ≡ 0) × Consumes s.unread s.left []
+      × Appends s.before s.now []
   pub spent : new.left + questions f ≡ old.left
   pub roots : new.roots ≡ old.roots
 
@@ -225,7 +252,8 @@ pub record AsksNoQuestion (s : StreamTexts) (old new : Kept) : Type 0 where
   pub written : Appends s.before s.now []
 
 -- an attempt was asked for, and this is what its answer gives
-pub record GivesAs (q : Question) (most : ℕ) (s : StreamTexts) (old : Kept) (outcome : Outcome) (new : Kept) : Type 0 where
+pub record GivesAs (q : Question) (most : ℕ) (s : StreamTexts) (old : Kept) (outcome : Outcome)
+    (new : Kept) : Type 0 where
   pub got : Answer
   pub asked : AskedWell q s old got new
   pub is : outcome ≡ outcome_for most got
@@ -240,12 +268,14 @@ bus_fault fault.Write = bus.TraceFailed
 bus_fault fault.LimitReached = bus.LimitReached
 
 -- an attempt was asked for, and a fault is kept, which is told as it is to a host
-pub record FailsByLine (q : Question) (s : StreamTexts) (old : Kept) (told : BusFault) (new : Kept) : Type 0 where
+pub record FailsByLine (q : Question) (s : StreamTexts) (old : Kept) (told : BusFault)
+    (new : Kept) : Type 0 where
   pub f : LiveFault
   pub asked : AsksNoMore q s old f new
   pub is : told ≡ bus_fault f
 
-abbrev pub AttemptsBy : Option Question → ℕ → StreamTexts → Kept → Result Outcome BusFault → Kept → Type 0
+abbrev pub AttemptsBy : Option Question → ℕ → StreamTexts → Kept → Result Outcome BusFault → Kept
+    → Type 0
 AttemptsBy (Some q) most s old (Ok outcome) new = GivesAs q most s old outcome new
 AttemptsBy (Some q) most s old (Err told) new = FailsByLine q s old told new
 AttemptsBy None most s old result new = AsksNoQuestion s old new × (result ≡ Ok Nothing)
@@ -265,22 +295,33 @@ Calls port (Some c) s old new = (1 ≤ port → port ≤ old.roots → AsksCall 
     × (port ≡ 0 → AsksNoQuestion s old new) × (old.roots < port → AsksNoQuestion s old new)
 
 -- lines were told, or a front of them where the writer failed, and that is kept
-abbrev pub WritesLines : List ℕ → Option (List ℕ) → Option (List ℕ) → Kept → Result (Unit {0}) LiveFault → Kept → Type 0
+abbrev pub WritesLines : List ℕ → Option (List ℕ) → Option (List ℕ) → Kept
+    → Result (Unit {0}) LiveFault → Kept → Type 0
 WritesLines lines before now old (Ok done) new = Appends before now lines × (new ≡ old)
 WritesLines lines before now old (Err f) new =
     AppendsFront before now lines × (f ≡ Write) × (new ≡ record old { fault = Some Write })
 
 -- as it was told last, 0 where there is no such port
 abbrev pub kept_status : Kept → ℕ → List ℕ
-kept_status k port = if nat_lt 0 port && nat_le port 7 then slice_index_or k.statuses (port - 1) [] else 0 ∷ 0 ∷ 0 ∷ 0 ∷ []
+kept_status k port = if nat_lt 0 port && nat_le port 7 then slice_index_or k.statuses (port - 1) []
+    else 0 ∷ 0 ∷ 0 ∷ 0 ∷ []
 
 -- before the hello all statuses are 0
 abbrev pub unasked : ℕ → Kept
-unasked limit = record { roots = 1; statuses = replicate 7 (replicate 4 0); left = limit; lines = 0; fault = None }
+unasked limit = record {
+  roots = 1;
+  statuses = replicate 7 (replicate 4 0);
+  left = limit;
+  lines = 0;
+  fault = None;
+}
 
 -- the answer to the hello is how many root ports there are, 1 to 7
 abbrev pub roots_if : ℕ → Kept → Kept
-roots_if roots k = if nat_lt roots 1 then k else if nat_lt 7 roots then k else record k { roots = roots }
+roots_if roots k = if nat_lt roots 1 then k else if nat_lt 7 roots then k else record k {
+  roots =
+      roots;
+}
 
 abbrev pub greeted_by : Answer → Kept → Kept
 greeted_by (answer.Roots roots) k = roots_if roots k

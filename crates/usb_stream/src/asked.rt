@@ -12,8 +12,8 @@ use usb_packet::{Toggle, TokenKind};
 use usb_request::Setup;
 use usb_wire::{Answer, DataPacket, Endpoint, Question, Speed};
 
-/// The question for an attempt; None where it sends setup data that are not 8 bytes in DATA0 (8.5.3), for which there is
-/// no line.
+/// The question for an attempt; None where it sends setup data that are not 8 bytes in DATA0 (8.5.3), for which there
+/// is no line.
 pub(crate) fn question_for(attempt: &Attempt) -> Option<Question>
     requires { IsAttempt attempt.now }
     ensures value { result ≡ question_for attempt.now }

@@ -1,5 +1,7 @@
 -- Bytes join end to end.
-use Rattle.std.proofs.Common.{◌≡◌, ◌⊎◌, inl, inr, ◌∙◌, refl, sym, ap, subst, Bool, true, false, ℕ, ◌+◌, List, [], ◌∷◌, ◌++◌, length, take, drop, Option, None, Some, append-nil, append_assoc, length-append}
+use Rattle.std.proofs.Common.{◌≡◌, ◌⊎◌, inl, inr, ◌∙◌, refl, sym, ap, subst, Bool, true, false, ℕ}
+use Rattle.std.proofs.Common.{◌+◌, List, [], ◌∷◌, ◌++◌, length, take, drop, Option, None, Some}
+use Rattle.std.proofs.Common.{append-nil, append_assoc, length-append}
 use Rattle.std.proofs.Math.Seq.{take-add}
 use Rattle.std.proofs.lemmas.List.{drop-drop}
 use Rattle.std.specs.Prelude.{if◌then◌else◌}
@@ -8,41 +10,62 @@ use Rattle.usb_pipe.specs.declared.condition.Condition.{Condition}
 use Rattle.usb_pipe.specs.declared.condition.Condition.TheVariants.{Ready, Halted, Broken}
 use Rattle.usb_pipe.specs.Bulk.{Bulk}
 use Rattle.usb_streams.specs.Stretches.{ToldItem}
-use Rattle.usb_streams.specs.Streams.{IsAtWork, IsFailedFront, Joins, TookSent, bytes_for, is_done, sent_to}
+use Rattle.usb_streams.specs.Streams.{IsAtWork, IsFailedFront, Joins, TookSent, bytes_for, is_done}
+use Rattle.usb_streams.specs.Streams.{sent_to}
 
 -- the next bytes, and the next ones behind them
-pub next_joined : (a b source : List ℕ) (got : ℕ) → a ≡ take (length a) (drop got source) → b ≡ take (length b) (drop (got + length a) source) → a ++ b ≡ take (length (a ++ b)) (drop got source)
+pub next_joined : (a b source : List ℕ) (got : ℕ) → a ≡ take (length a) (drop got source)
+    → b ≡ take (length b) (drop (got + length a) source)
+    → a ++ b ≡ take (length (a ++ b)) (drop got source)
 next_joined a b source got x y =
     let rest : List ℕ = drop got source in
-    ap (λ l. l ++ b) x ∙ ap (λ l. take (length a) rest ++ l) (y ∙ ap (take (length b)) (sym (drop-drop (length a) got source)))
+    ap (λ l. l ++ b) x ∙ ap (λ l. take (length a) rest ++ l) (y
+    ∙ ap (take (length b)) (sym (drop-drop (length a) got source)))
     ∙ sym (take-add (length a) (length b) rest) ∙ ap (λ n. take n rest) (sym (length-append a b))
 
 -- what joins a sink joins what was taken before
-pub joins_behind : (done : Bool) (bytes first taken old new : List ℕ) → old ≡ first ++ taken → Joins done bytes old new → (more : List ℕ) × Joins done bytes taken more × (new ≡ first ++ more)
-joins_behind true bytes first taken old new is e = (taken ++ bytes, refl, e ∙ ap (λ l. l ++ bytes) is ∙ append_assoc first taken bytes)
-joins_behind false bytes first taken old new is e = (taken ++ e.0, (e.0, e.1, e.2, refl), e.3 ∙ ap (λ l. l ++ e.0) is ∙ append_assoc first taken e.0)
+pub joins_behind : (done : Bool) (bytes first taken old new : List ℕ) → old ≡ first ++ taken
+    → Joins done bytes old new → (more : List ℕ) × Joins done bytes taken more
+    × (new ≡ first ++ more)
+joins_behind true bytes first taken old new is e =
+    (taken ++ bytes, refl, e ∙ ap (λ l. l ++ bytes) is ∙ append_assoc first taken bytes)
+joins_behind false bytes first taken old new is e = (
+  taken ++ e.0,
+  (e.0, e.1, e.2, refl),
+  e.3 ∙ ap (λ l. l ++ e.0) is
+      ∙ append_assoc first taken e.0,
+)
 
 -- where there is nothing to join nothing joins
-pub joins_none : (done : Bool) (bytes old new : List ℕ) → bytes ≡ [] → new ≡ old → Joins done bytes old new
-joins_none true bytes old new none same = same ∙ sym (append-nil old) ∙ ap (λ l. old ++ l) (sym none)
+pub joins_none : (done : Bool) (bytes old new : List ℕ) → bytes ≡ [] → new ≡ old
+    → Joins done bytes old new
+joins_none true bytes old new none same = same ∙ sym (append-nil old)
+    ∙ ap (λ l. old ++ l) (sym none)
 joins_none false bytes old new none same = ([], [], none, same ∙ sym (append-nil old))
 
 -- Sends
 
 -- what joins a sink behind what was sent, and a front of a failed send behind it
-front_joined : (first sent front bytes old new : List ℕ) → old ≡ first ++ (sent ++ front) → front ≡ [] → new ≡ old ++ bytes → new ≡ first ++ (sent ++ bytes)
+front_joined : (first sent front bytes old new : List ℕ) → old ≡ first ++ (sent ++ front)
+    → front ≡ [] → new ≡ old ++ bytes → new ≡ first ++ (sent ++ bytes)
 front_joined first sent front bytes old new is none e =
-    e ∙ ap (λ l. l ++ bytes) (is ∙ ap (λ l. first ++ (sent ++ l)) none ∙ ap (λ l. first ++ l) (append-nil sent)) ∙ append_assoc first sent bytes
+    e ∙ ap (λ l. l ++ bytes) (is ∙ ap (λ l. first ++ (sent ++ l)) none
+    ∙ ap (λ l. first ++ l) (append-nil sent)) ∙ append_assoc first sent bytes
 
--- what a send does to the sink of a device: all bytes join it where it is told done, and a front where it failed, which leaves no pipe that works; through a
+-- what a send does to the sink of a device: all bytes join it where it is told done, and a front
+-- where it failed, which leaves no pipe that works; through a
 -- pipe that does not work nothing goes, and such a pipe stays so
-pub record SinkStep (done : Bool) (bytes : List ℕ) (pipe left : Option Bulk) (s v : State) : Type 0 where
-  pub whole : done ≡ true → IsAtWork pipe → v.sink ≡ s.sink ++ bytes
-  pub cut : done ≡ false → IsAtWork pipe → (front : List ℕ) × (rest : List ℕ) × (bytes ≡ front ++ rest) × (v.sink ≡ s.sink ++ front) × (IsAtWork left → front ≡ [])
-  pub stuck : (IsAtWork pipe → ⊥) → (v.sink ≡ s.sink) × (done ≡ true → bytes ≡ []) × (IsAtWork left → ⊥)
+pub record SinkStep (done : Bool) (bytes : List ℕ) (pipe left : Option Bulk) (s v : State) : Type 0
+  where
+    pub whole : done ≡ true → IsAtWork pipe → v.sink ≡ s.sink ++ bytes
+    pub cut : done ≡ false → IsAtWork pipe → (front : List ℕ) × (rest : List ℕ)
+        × (bytes ≡ front ++ rest) × (v.sink ≡ s.sink ++ front) × (IsAtWork left → front ≡ [])
+    pub stuck : (IsAtWork pipe → ⊥) → (v.sink ≡ s.sink) × (done ≡ true → bytes ≡ [])
+        × (IsAtWork left → ⊥)
 
 -- what sends nothing
-pub sink_step_none : (done : Bool) (pipe left : Option Bulk) (s v : State) → left ≡ pipe → v.sink ≡ s.sink → SinkStep done [] pipe left s v
+pub sink_step_none : (done : Bool) (pipe left : Option Bulk) (s v : State) → left ≡ pipe
+    → v.sink ≡ s.sink → SinkStep done [] pipe left s v
 sink_step_none done pipe left s v kept same = record {
   whole = λ told works. same ∙ sym (append-nil s.sink);
   cut = λ told works. ([], [], refl, same ∙ sym (append-nil s.sink), λ works. refl);
@@ -53,24 +76,40 @@ pub works_or_not : (pipe : Option Bulk) → IsAtWork pipe ⊎ (IsAtWork pipe →
 works_or_not None = inl tt
 works_or_not (Some pipe) = by_condition pipe.condition refl
   where
-    by_condition : (c : Condition) → pipe.condition ≡ c → (pipe.condition ≡ Ready) ⊎ (pipe.condition ≡ Ready → ⊥)
+    by_condition : (c : Condition) → pipe.condition ≡ c → (pipe.condition ≡ Ready)
+        ⊎ (pipe.condition ≡ Ready → ⊥)
     by_condition Ready e = inl e
     by_condition Halted e = inr (λ ready. cc (e, ready))
     by_condition Broken e = inr (λ ready. cc (e, ready))
 
-none_done : (done : Bool) (bytes : List ℕ) → (done ≡ true → bytes ≡ []) → (if done then bytes else []) ≡ []
+none_done : (done : Bool) (bytes : List ℕ) → (done ≡ true → bytes ≡ [])
+    → (if done then bytes else []) ≡ []
 none_done true bytes empty = empty refl
 none_done false bytes empty = refl
 
 pub took_none : (path : List ℕ) (left : Option Bulk) (s : State) → TookSent path [] left s s
 unfolding sent_to IsFailedFront
-took_none path left s = record { front = []; failed = refl; sink = sym (append-nil s.sink); works = λ works. refl }
+took_none path left s = record {
+  front = [];
+  failed = refl;
+  sink = sym (append-nil s.sink);
+  works =
+      λ works. refl;
+}
 
 -- the pipe stays
-pub took_stay : (path : List ℕ) (told : List ToldItem) (pipe left : Option Bulk) (s u v : State) → left ≡ pipe → v.sink ≡ u.sink → TookSent path told pipe s u → TookSent path told left s v
-took_stay path told pipe left s u v kept same x = record { front = x.front; failed = x.failed; sink = same ∙ x.sink; works = λ works. x.works (subst IsAtWork kept works) }
+pub took_stay : (path : List ℕ) (told : List ToldItem) (pipe left : Option Bulk) (s u v : State)
+    → left ≡ pipe → v.sink ≡ u.sink → TookSent path told pipe s u → TookSent path told left s v
+took_stay path told pipe left s u v kept same x = record {
+  front = x.front;
+  failed = x.failed;
+  sink = same ∙ x.sink;
+  works = λ works. x.works (subst IsAtWork kept works);
+}
 
-pub took_then : (path : List ℕ) (t : ToldItem) (told : List ToldItem) (pipe left : Option Bulk) (s u v : State) → TookSent path told pipe s u → SinkStep (is_done t.item) (bytes_for path t.due) pipe left u v
+pub took_then : (path : List ℕ) (t : ToldItem) (told : List ToldItem) (pipe left : Option Bulk)
+    (s u v : State) → TookSent path told pipe s u
+    → SinkStep (is_done t.item) (bytes_for path t.due) pipe left u v
     → TookSent path (t ∷ told) left s v
 unfolding sent_to IsFailedFront
 took_then path t told pipe left s u v x y = by_work (works_or_not pipe)
@@ -81,12 +120,16 @@ took_then path t told pipe left s u v x y = by_work (works_or_not pipe)
     sent : List ℕ
     sent = sent_to path told
 
-    by_done : (done : Bool) → is_done t.item ≡ done → IsAtWork pipe → TookSent path (t ∷ told) left s v
+    by_done : (done : Bool) → is_done t.item ≡ done → IsAtWork pipe
+        → TookSent path (t ∷ told) left s v
     by_done true e works = record {
       front = [];
       failed = inr (subst (IsFailedFront path told) (x.works works) x.failed);
-      sink = front_joined s.sink sent x.front bytes u.sink v.sink x.sink (x.works works) (y.whole e works)
-          ∙ ap (λ (d : Bool). s.sink ++ (sent ++ (if d then bytes else []))) (sym e) ∙ ap (λ l. s.sink ++ l) (sym (append-nil (sent ++ (if is_done t.item then bytes else []))));
+      sink = front_joined s.sink sent x.front bytes u.sink v.sink x.sink (x.works works)
+          (y.whole e works)
+          ∙ ap (λ (d : Bool). s.sink ++ (sent ++ (if d then bytes else []))) (sym e)
+          ∙ ap (λ l. s.sink ++ l)
+          (sym (append-nil (sent ++ (if is_done t.item then bytes else []))));
       works = λ works. refl;
     }
     by_done false e works =
@@ -95,7 +138,9 @@ took_then path t told pipe left s u v x y = by_work (works_or_not pipe)
           front = c.0;
           failed = inl (e, (c.1, c.2));
           sink = front_joined s.sink sent x.front c.0 u.sink v.sink x.sink (x.works works) c.3
-              ∙ ap (λ l. s.sink ++ (l ++ c.0)) (sym (append-nil sent)) ∙ ap (λ (d : Bool). s.sink ++ ((sent ++ (if d then bytes else [])) ++ c.0)) (sym e);
+              ∙ ap (λ l. s.sink ++ (l ++ c.0)) (sym (append-nil sent))
+              ∙ ap (λ (d : Bool). s.sink ++ ((sent ++ (if d then bytes else [])) ++ c.0))
+              (sym e);
           works = c.4;
         }
 
@@ -106,6 +151,7 @@ took_then path t told pipe left s u v x y = by_work (works_or_not pipe)
         record {
           front = x.front;
           failed = inr x.failed;
-          sink = n.0 ∙ x.sink ∙ ap (λ l. s.sink ++ (l ++ x.front)) (sym (append-nil sent) ∙ ap (λ l. sent ++ l) (sym (none_done (is_done t.item) bytes n.1)));
+          sink = n.0 ∙ x.sink ∙ ap (λ l. s.sink ++ (l ++ x.front)) (sym (append-nil sent)
+              ∙ ap (λ l. sent ++ l) (sym (none_done (is_done t.item) bytes n.1)));
           works = λ works. absurd (n.2 works);
         }

@@ -1,5 +1,6 @@
 -- One device over the parts of a stretch, one after the other.
-use Rattle.std.proofs.Common.{◌≡◌, ◌∙◌, refl, sym, ap, subst, ℕ, ◌+◌, List, [], ◌∷◌, ◌++◌, length, drop, take, Option, None, Some, append-nil, length-append, arith}
+use Rattle.std.proofs.Common.{◌≡◌, ◌∙◌, refl, sym, ap, subst, ℕ, ◌+◌, List, [], ◌∷◌, ◌++◌, length}
+use Rattle.std.proofs.Common.{drop, take, Option, None, Some, append-nil, length-append, arith}
 use Rattle.usb_device.specs.Rows.{State}
 use Rattle.usb_device.specs.Spec.{Spec}
 use Rattle.usb_device.specs.Tree.{Location}
@@ -14,21 +15,28 @@ use Rattle.usb_table.proofs.Interface.{still_source}
 use Rattle.usb_host.specs.BulkPipes.{SameBulk}
 use Rattle.usb_host.specs.HostState.{HostState}
 use Rattle.usb_streams.specs.Stretches.{ToldItem}
-use Rattle.usb_streams.specs.Streams.{AreTaken, ClearsNoIn, ClearsNoOut, GaveNextBy, Joins, Streams, StreamsAt, bytes_for, bytes_from, is_done, received_from}
-use Rattle.usb_streams.proofs.Bytes.{SinkStep, joins_behind, next_joined, took_none, took_stay, took_then}
+use Rattle.usb_streams.specs.Streams.{AreTaken, ClearsNoIn, ClearsNoOut, GaveNextBy, Joins, Streams}
+use Rattle.usb_streams.specs.Streams.{StreamsAt, bytes_for, bytes_from, is_done, received_from}
+use Rattle.usb_streams.proofs.Bytes.{SinkStep, joins_behind, next_joined, took_none, took_stay}
+use Rattle.usb_streams.proofs.Bytes.{took_then}
 
 -- Sources
 
 -- an IN pipe that stays, with its endpoint, gives nothing
-pub gave_no_bytes : (pipe left : Option Bulk) (x : Location) (s v : State) → left ≡ pipe → SameSettings x s v → v.place ≡ s.place → v.bulk_in ≡ s.bulk_in → GaveNextBy [] pipe left s v
+pub gave_no_bytes : (pipe left : Option Bulk) (x : Location) (s v : State) → left ≡ pipe
+    → SameSettings x s v → v.place ≡ s.place → v.bulk_in ≡ s.bulk_in → GaveNextBy [] pipe left s v
 gave_no_bytes None left x s v kept same place end = (refl, kept)
-gave_no_bytes (Some pipe) left x s v kept same place end = subst (λ l. GaveNextBy [] (Some pipe) l s v) (sym kept) (record { next = λ got f. refl; has = has })
+gave_no_bytes (Some pipe) left x s v kept same place end =
+    subst (λ l. GaveNextBy [] (Some pipe) l s v) (sym kept)
+    (record { next = λ got f. refl; has = has })
   where
     has : (got : ℕ) → InPipeInSync pipe got s → InPipeInSync pipe (got + 0) v
-    has got f = let same_got : got ≡ got + 0 = omega arith in subst (λ n. InPipeInSync pipe n v) same_got (still_source pipe got s v same place end f)
+    has got f = let same_got : got ≡ got + 0 = omega arith in
+        subst (λ n. InPipeInSync pipe n v) same_got (still_source pipe got s v same place end f)
 
 -- what comes next, and what comes next behind it
-pub gave_bytes_then : (a b : List ℕ) (p q r : Option Bulk) (s u v : State) → u.spec ≡ s.spec → GaveNextBy a p q s u → GaveNextBy b q r u v → GaveNextBy (a ++ b) p r s v
+pub gave_bytes_then : (a b : List ℕ) (p q r : Option Bulk) (s u v : State) → u.spec ≡ s.spec
+    → GaveNextBy a p q s u → GaveNextBy b q r u v → GaveNextBy (a ++ b) p r s v
 gave_bytes_then a b None None r s u v same x y = (ap (λ l. l ++ b) x.0 ∙ y.0, y.1)
 gave_bytes_then a b None (Some q) r s u v same x y = absurd (cc x.1)
 gave_bytes_then a b (Some p) None r s u v same x y = absurd x
@@ -36,9 +44,11 @@ gave_bytes_then a b (Some p) (Some q) None s u v same x y = absurd y
 gave_bytes_then a b (Some p) (Some q) (Some r) s u v same x y = record {
   next = λ got f.
       next_joined a b s.spec.source got (x.next got f)
-      (subst (λ (k : Spec). b ≡ take (length b) (drop (got + length a) k.source)) same (y.next (got + length a) (x.has got f)));
+      (subst (λ (k : Spec). b ≡ take (length b) (drop (got + length a) k.source)) same
+      (y.next (got + length a) (x.has got f)));
   has = λ got f.
-      let same_got : (got + length a) + length b ≡ got + length (a ++ b) = omega (arith, length-append a b) in
+      let same_got : (got + length a) + length b ≡ got + length (a ++ b) =
+      omega (arith, length-append a b) in
       subst (λ n. InPipeInSync r n v) same_got (y.has (got + length a) (x.has got f));
 }
 
@@ -52,25 +62,34 @@ pub record DeviceStays (pipes left : Pipes) (s v : State) : Type 0 where
   pub spec : v.spec ≡ s.spec
 
 -- an item moves the bytes that it tells
-pub record DeviceMoves (path : List ℕ) (t : ToldItem) (pipes left : Pipes) (s v : State) : Type 0 where
-  pub sink : Joins (is_done t.item) (bytes_for path t.due) s.sink v.sink
-  pub took : ClearsNoOut path t → SinkStep (is_done t.item) (bytes_for path t.due) (pipe_out pipes) (pipe_out left) s v
-  pub gave : ClearsNoIn path t → GaveNextBy (bytes_from path t.item) (pipe_in pipes) (pipe_in left) s v
-  pub spec : v.spec ≡ s.spec
+pub record DeviceMoves (path : List ℕ) (t : ToldItem) (pipes left : Pipes) (s v : State) : Type 0
+  where
+    pub sink : Joins (is_done t.item) (bytes_for path t.due) s.sink v.sink
+    pub took : ClearsNoOut path t → SinkStep (is_done t.item) (bytes_for path t.due)
+        (pipe_out pipes)
+        (pipe_out left) s v
+    pub gave : ClearsNoIn path t → GaveNextBy (bytes_from path t.item) (pipe_in pipes)
+        (pipe_in left)
+        s v
+    pub spec : v.spec ≡ s.spec
 
-pub spares_stays : (pipes left : Pipes) (x : Location) (s v : State) → SameBulk pipes left → SparesBulk x s v → DeviceStays pipes left s v
+pub spares_stays : (pipes left : Pipes) (x : Location) (s v : State) → SameBulk pipes left
+    → SparesBulk x s v → DeviceStays pipes left s v
 spares_stays pipes left x s v same spares =
     let spec : v.spec ≡ s.spec = ap (λ (d : State). d.spec) spares in
     record {
       sink = ap (λ (d : State). d.sink) spares;
       out = same.out;
-      gave = gave_no_bytes (pipe_in pipes) (pipe_in left) x s v same.into (spec, ap (λ (d : State). d.registers) spares) (ap (λ (d : State). d.place) spares) (ap (λ (d : State). d.bulk_in) spares);
+      gave = gave_no_bytes (pipe_in pipes) (pipe_in left) x s v same.into
+          (spec, ap (λ (d : State). d.registers) spares) (ap (λ (d : State). d.place) spares)
+          (ap (λ (d : State). d.bulk_in) spares);
       spec = spec;
     }
 
 -- Joins
 
-pub streams_none : (path : List ℕ) (pipes : Pipes) (x : Location) (s : State) → FitsIn (pipe_in pipes) s → Streams path [] pipes pipes s s
+pub streams_none : (path : List ℕ) (pipes : Pipes) (x : Location) (s : State)
+    → FitsIn (pipe_in pipes) s → Streams path [] pipes pipes s s
 unfolding AreTaken received_from
 streams_none path pipes x s had = record {
   took = λ all. took_none path (pipe_out pipes) s;
@@ -80,34 +99,49 @@ streams_none path pipes x s had = record {
   spec = refl;
 }
 
-pub streams_stay : (path : List ℕ) (told : List ToldItem) (p q r : Pipes) (s u v : State) → Streams path told p q s u → DeviceStays q r u v → Streams path told p r s v
+pub streams_stay : (path : List ℕ) (told : List ToldItem) (p q r : Pipes) (s u v : State)
+    → Streams path told p q s u → DeviceStays q r u v → Streams path told p r s v
 streams_stay path told p q r s u v x y = record {
   took = λ all. took_stay path told (pipe_out q) (pipe_out r) s u v y.out y.sink (x.took all);
   sink = (x.sink.0, x.sink.1, y.sink ∙ x.sink.2);
   had = x.had;
   gave = λ all.
       subst (λ l. GaveNextBy l (pipe_in p) (pipe_in r) s v) (append-nil (received_from path told))
-      (gave_bytes_then (received_from path told) [] (pipe_in p) (pipe_in q) (pipe_in r) s u v x.spec (x.gave all) y.gave);
+      (gave_bytes_then (received_from path told) [] (pipe_in p) (pipe_in q) (pipe_in r) s u v x.spec
+      (x.gave all) y.gave);
   spec = y.spec ∙ x.spec;
 }
 
-pub streams_move : (path : List ℕ) (t : ToldItem) (told : List ToldItem) (p q r : Pipes) (s u v : State) → Streams path told p q s u → DeviceMoves path t q r u v → Streams path (t ∷ told) p r s v
+pub streams_move : (path : List ℕ) (t : ToldItem) (told : List ToldItem) (p q r : Pipes)
+    (s u v : State) → Streams path told p q s u → DeviceMoves path t q r u v
+    → Streams path (t ∷ told) p r s v
 unfolding AreTaken received_from
 streams_move path t told p q r s u v x y =
-    let went = joins_behind (is_done t.item) (bytes_for path t.due) s.sink x.sink.0 u.sink v.sink x.sink.2 y.sink in
+    let went = joins_behind (is_done t.item) (bytes_for path t.due) s.sink x.sink.0 u.sink v.sink
+    x.sink.2 y.sink in
     let taken : AreTaken path (t ∷ told) went.0 = (x.sink.0, x.sink.1, went.1) in
     record {
-      took = λ all. took_then path t told (pipe_out q) (pipe_out r) s u v (x.took all.1) (y.took all.0);
+      took = λ all. took_then path t told (pipe_out q) (pipe_out r) s u v (x.took all.1)
+          (y.took all.0);
       sink = (went.0, taken, went.2);
       had = x.had;
-      gave = λ all. gave_bytes_then (received_from path told) (bytes_from path t.item) (pipe_in p) (pipe_in q) (pipe_in r) s u v x.spec (x.gave all.1) (y.gave all.0);
+      gave = λ all. gave_bytes_then (received_from path told) (bytes_from path t.item) (pipe_in p)
+          (pipe_in q) (pipe_in r) s u v x.spec (x.gave all.1) (y.gave all.0);
       spec = y.spec ∙ x.spec;
     }
 
 -- At a path
 
-pub streams_at_then : (path : List ℕ) (R S T : State → State → Type 0) → ((s u v : State) → R s u → S u v → T s v) → (a b c : HostState) → StreamsAt path R a b → StreamsAt path S b c → StreamsAt path T a c
+pub streams_at_then : (path : List ℕ) (R S T : State → State → Type 0)
+    → ((s u v : State) → R s u → S u v → T s v) → (a b c : HostState) → StreamsAt path R a b
+    → StreamsAt path S b c → StreamsAt path T a c
 streams_at_then path R S T join a b c first second x v is on stands =
     let late : Was (λ y s v. S s v) b.world x v = second x v is on stands in
-    let early : Was (λ y s v. R s v) a.world x late.before = first x late.before is late.on late.stands in
-    record { before = early.before; on = early.on; stands = early.stands; so = join early.before late.before v early.so late.so }
+    let early : Was (λ y s v. R s v) a.world x late.before =
+    first x late.before is late.on late.stands in
+    record {
+      before = early.before;
+      on = early.on;
+      stands = early.stands;
+      so = join early.before late.before v early.so late.so;
+    }

@@ -1,5 +1,6 @@
 -- What an item moves at a path.
-use Rattle.std.proofs.Common.{◌≡◌, ◌≢◌, ◌∙◌, refl, sym, ap, subst, Bool, true, false, ◌||◌, ℕ, List, [], length, Option, None, Some, Result, Ok, Err, append-nil, eq-eqb}
+use Rattle.std.proofs.Common.{◌≡◌, ◌≢◌, ◌∙◌, refl, sym, ap, subst, Bool, true, false, ◌||◌, ℕ, List}
+use Rattle.std.proofs.Common.{[], length, Option, None, Some, Result, Ok, Err, append-nil, eq-eqb}
 use Rattle.std.specs.BTreeMap.{is_at as ties}
 use Rattle.std.specs.Global.{Vec}
 use Rattle.std.specs.Prelude.{is_ok, is_some, if◌then◌else◌}
@@ -27,14 +28,17 @@ use Rattle.usb_table.specs.declared.fault.EndpointFault.TheVariants.{Pipe}
 use Rattle.usb_table.specs.declared.pipes.BulkPipes.{BulkPipes}
 use Rattle.usb_table.specs.declared.pipes.Pipes.{Pipes}
 use Rattle.usb_table.specs.declared.pipes.Pipes.TheVariants.{Hub, Function, Absent}
-use Rattle.usb_table.specs.Deliveries.{ChangesAt, GaveBy, HaltClearedBy, HaltsCleared, JoinsSink, TookBytes, bytes_in, pipe_in, pipe_out}
+use Rattle.usb_table.specs.Deliveries.{ChangesAt, GaveBy, HaltClearedBy, HaltsCleared, JoinsSink}
+use Rattle.usb_table.specs.Deliveries.{TookBytes, bytes_in, pipe_in, pipe_out}
 use Rattle.usb_table.specs.Entries.{Entries}
 use Rattle.usb_table.specs.Findings.{accepted_device_at, out_endpoint}
 use Rattle.usb_table.specs.KnownPorts.{is_below_hub}
 use Rattle.usb_table.specs.Levels.{PipesInSync, FitsOut}
 use Rattle.usb_table.specs.Pipes.{ArePipesIf, ArePipesTo, IsPipe}
 use Rattle.usb_table.specs.Table.{GoesThrough, pipes_at}
-use Rattle.usb_table.specs.Transfers.{ClearedAfter, ClearedBy, ClearedIf, PipesCleared, PipesReceived, PipesSent, ReceivedBy, SameSettings, SentBy, endpoint_answer}
+use Rattle.usb_table.specs.Transfers.{ClearedAfter, ClearedBy, ClearedIf, PipesCleared}
+use Rattle.usb_table.specs.Transfers.{PipesReceived, PipesSent, ReceivedBy, SameSettings, SentBy}
+use Rattle.usb_table.specs.Transfers.{endpoint_answer}
 use Rattle.usb_table.proofs.Interface.{held_address, path_itself, path_tied, done_through}
 use Rattle.usb_host.specs.HostState.{HostState}
 use Rattle.usb_host.specs.Ownership.{claims}
@@ -47,9 +51,12 @@ use Rattle.usb_run.specs.declared.transfer.TransferFault.{TransferFault}
 use Rattle.usb_run.specs.RunSegments.{Knows}
 use Rattle.usb_host.specs.HostCalls.{ClearTells, ReceiveTells, SendTells}
 use Rattle.usb_run.specs.Transfers.{IsItemOf, Transfers, failed, sent_count, transfer_ended}
-use Rattle.usb_run.proofs.Interface.{AskAnswered, silent, listed, sent, received, cleared, answered, count_done, told_cleared, told_received, told_sent, no_bus_fault}
+use Rattle.usb_run.proofs.Interface.{AskAnswered, silent, listed, sent, received, cleared, answered}
+use Rattle.usb_run.proofs.Interface.{count_done, told_cleared, told_received, told_sent}
+use Rattle.usb_run.proofs.Interface.{no_bus_fault}
 use Rattle.usb_streams.specs.Stretches.{ToldItem}
-use Rattle.usb_streams.specs.Streams.{ClearsNoIn, ClearsNoOut, GaveNextBy, IsAtWork, Joins, StreamsAt, bytes_for, bytes_from, is_done}
+use Rattle.usb_streams.specs.Streams.{ClearsNoIn, ClearsNoOut, GaveNextBy, IsAtWork, Joins}
+use Rattle.usb_streams.specs.Streams.{StreamsAt, bytes_for, bytes_from, is_done}
 use Rattle.usb_streams.proofs.Bytes.{SinkStep, joins_none, sink_step_none}
 use Rattle.usb_streams.proofs.Devices.{DeviceMoves, gave_no_bytes}
 use Rattle.usb_streams.proofs.HaltedSends.{NoneSent, empty_stuck, failed_stuck, none_sent}
@@ -57,332 +64,515 @@ use Rattle.usb_streams.proofs.HaltedSends.{NoneSent, empty_stuck, failed_stuck, 
 -- The pipes over a call
 
 -- a send leaves the IN pipe
-sent_in : (pipes left : Pipes) (bytes : List ℕ) (old new : World) (result : Result (Unit {0}) EndpointFault) → PipesSent pipes bytes old result left new → pipe_in left ≡ pipe_in pipes
+sent_in : (pipes left : Pipes) (bytes : List ℕ) (old new : World)
+    (result : Result (Unit {0}) EndpointFault) → PipesSent pipes bytes old result left new
+    → pipe_in left ≡ pipe_in pipes
 sent_in (Hub pipe) left bytes old new result x = ap pipe_in x.1
 sent_in (Function pipes) left bytes old new result x = ap pipe_in x.1
 sent_in Absent left bytes old new result x = ap pipe_in x.1
 
 -- a receive leaves the OUT pipe
-received_out : (pipes left : Pipes) (packets : ℕ) (old new : World) (result : Result (Vec ℕ) EndpointFault) → PipesReceived pipes packets old result left new → pipe_out left ≡ pipe_out pipes
+received_out : (pipes left : Pipes) (packets : ℕ) (old new : World)
+    (result : Result (Vec ℕ) EndpointFault) → PipesReceived pipes packets old result left new
+    → pipe_out left ≡ pipe_out pipes
 received_out (Hub pipe) left packets old new result x = ap pipe_out x.1
 received_out (Function pipes) left packets old new result x = ap pipe_out x.1
 received_out Absent left packets old new result x = ap pipe_out x.1
 
 -- where there was no pipe there is none
 
-none_received : (into left : Option Bulk) (packets : ℕ) (old new : World) (result : Result (Vec ℕ) EndpointFault) → into ≡ None → ReceivedBy into packets old result left new → left ≡ None
+none_received : (into left : Option Bulk) (packets : ℕ) (old new : World)
+    (result : Result (Vec ℕ) EndpointFault) → into ≡ None
+    → ReceivedBy into packets old result left new → left ≡ None
 none_received None left packets old new result none x = x.1
 none_received (Some pipe) left packets old new result none x = absurd (cc none)
 
-received_in : (pipes left : Pipes) (packets : ℕ) (old new : World) (result : Result (Vec ℕ) EndpointFault) → PipesReceived pipes packets old result left new → pipe_in pipes ≡ None → pipe_in left ≡ None
+received_in : (pipes left : Pipes) (packets : ℕ) (old new : World)
+    (result : Result (Vec ℕ) EndpointFault) → PipesReceived pipes packets old result left new
+    → pipe_in pipes ≡ None → pipe_in left ≡ None
 received_in (Hub pipe) left packets old new result x none = ap pipe_in x.1
-received_in (Function pipes) left packets old new result x none = ap pipe_in x.1 ∙ none_received pipes.into x.0 packets old new result none x.2
+received_in (Function pipes) left packets old new result x none = ap pipe_in x.1
+    ∙ none_received pipes.into x.0 packets old new result none x.2
 received_in Absent left packets old new result x none = ap pipe_in x.1
 
-none_cleared : (pipe left : Option Bulk) (old new : World) (answer : Result (Unit {0}) PipeFault) → pipe ≡ None → ClearedBy pipe old answer left new → left ≡ None
+none_cleared : (pipe left : Option Bulk) (old new : World) (answer : Result (Unit {0}) PipeFault)
+    → pipe ≡ None → ClearedBy pipe old answer left new → left ≡ None
 none_cleared None left old new answer none x = x.1
 none_cleared (Some pipe) left old new answer none x = absurd (cc none)
 
-after_cleared : (first : Result (Unit {0}) PipeFault) (into left : Option Bulk) (mid new : World) (result : Result (Unit {0}) EndpointFault) → into ≡ None → ClearedAfter first into mid result left new → left ≡ None
-after_cleared (Ok done) into left mid new result none x = none_cleared into left mid new x.0 none x.2
+after_cleared : (first : Result (Unit {0}) PipeFault) (into left : Option Bulk) (mid new : World)
+    (result : Result (Unit {0}) EndpointFault) → into ≡ None
+    → ClearedAfter first into mid result left new → left ≡ None
+after_cleared (Ok done) into left mid new result none x =
+    none_cleared into left mid new x.0 none x.2
 after_cleared (Err fault) into left mid new result none x = x.1 ∙ none
 
-in_cleared : (some : Bool) (pipes left : BulkPipes) (old new : World) (result : Result (Unit {0}) EndpointFault) → pipes.into ≡ None → ClearedIf some pipes old result left new → left.into ≡ None
+in_cleared : (some : Bool) (pipes left : BulkPipes) (old new : World)
+    (result : Result (Unit {0}) EndpointFault) → pipes.into ≡ None
+    → ClearedIf some pipes old result left new → left.into ≡ None
 in_cleared false pipes left old new result none x = ap (λ (p : BulkPipes). p.into) x.1 ∙ none
-in_cleared true pipes left old new result none x = after_cleared x.first pipes.into left.into x.mid new result none x.into
+in_cleared true pipes left old new result none x =
+    after_cleared x.first pipes.into left.into x.mid new result none x.into
 
-out_cleared : (some : Bool) (pipes left : BulkPipes) (old new : World) (result : Result (Unit {0}) EndpointFault) → pipes.out ≡ None → ClearedIf some pipes old result left new → left.out ≡ None
+out_cleared : (some : Bool) (pipes left : BulkPipes) (old new : World)
+    (result : Result (Unit {0}) EndpointFault) → pipes.out ≡ None
+    → ClearedIf some pipes old result left new → left.out ≡ None
 out_cleared false pipes left old new result none x = ap (λ (p : BulkPipes). p.out) x.1 ∙ none
-out_cleared true pipes left old new result none x = none_cleared pipes.out left.out old x.mid x.first none x.out
+out_cleared true pipes left old new result none x =
+    none_cleared pipes.out left.out old x.mid x.first none x.out
 
-cleared_in : (pipes left : Pipes) (old new : World) (result : Result (Unit {0}) EndpointFault) → PipesCleared pipes old result left new → pipe_in pipes ≡ None → pipe_in left ≡ None
+cleared_in : (pipes left : Pipes) (old new : World) (result : Result (Unit {0}) EndpointFault)
+    → PipesCleared pipes old result left new → pipe_in pipes ≡ None → pipe_in left ≡ None
 cleared_in (Hub pipe) left old new result x none = ap pipe_in x.1
-cleared_in (Function pipes) left old new result x none = ap pipe_in x.1 ∙ in_cleared (is_some pipes.out || is_some pipes.into) pipes x.0 old new result none x.2
+cleared_in (Function pipes) left old new result x none = ap pipe_in x.1
+    ∙ in_cleared (is_some pipes.out || is_some pipes.into) pipes x.0 old new result none x.2
 cleared_in Absent left old new result x none = ap pipe_in x.1
 
-cleared_out : (pipes left : Pipes) (old new : World) (result : Result (Unit {0}) EndpointFault) → PipesCleared pipes old result left new → pipe_out pipes ≡ None → pipe_out left ≡ None
+cleared_out : (pipes left : Pipes) (old new : World) (result : Result (Unit {0}) EndpointFault)
+    → PipesCleared pipes old result left new → pipe_out pipes ≡ None → pipe_out left ≡ None
 cleared_out (Hub pipe) left old new result x none = ap pipe_out x.1
-cleared_out (Function pipes) left old new result x none = ap pipe_out x.1 ∙ out_cleared (is_some pipes.out || is_some pipes.into) pipes x.0 old new result none x.2
+cleared_out (Function pipes) left old new result x none = ap pipe_out x.1
+    ∙ out_cleared (is_some pipes.out || is_some pipes.into) pipes x.0 old new result none x.2
 cleared_out Absent left old new result x none = ap pipe_out x.1
 
 -- a pipe that works, or none, is left alone by a clear
-clears_alone : (done : Bool) (pipe left : Option Bulk) (before after : EndpointState) → HaltClearedBy done pipe left before after → IsAtWork pipe → (pipe ≡ None → left ≡ None) → (left ≡ pipe) × (after ≡ before)
+clears_alone : (done : Bool) (pipe left : Option Bulk) (before after : EndpointState)
+    → HaltClearedBy done pipe left before after → IsAtWork pipe → (pipe ≡ None → left ≡ None)
+    → (left ≡ pipe) × (after ≡ before)
 clears_alone done None left before after end works none = (none refl, end)
 clears_alone done (Some pipe) None before after end works none = absurd end
-clears_alone done (Some pipe) (Some left) before after end works none = let e = end.works works in (ap Some e.0, e.1)
+clears_alone done (Some pipe) (Some left) before after end works none = let e = end.works works in
+    (ap Some e.0, e.1)
 
 -- What is told
 
-fault_done : {A : Type 0} (fault : Result TransferFault RunFault) (told : Result A TransferFault) → failed fault ≡ Ok told → is_ok told ≡ false
+fault_done : {A : Type 0} (fault : Result TransferFault RunFault) (told : Result A TransferFault)
+    → failed fault ≡ Ok told → is_ok told ≡ false
 fault_done (Ok why) told e = let is : told ≡ Err why = cc e in ap is_ok is
 fault_done (Err fault) told e = absurd (cc e)
 
 -- an item tells of a fault just where the table did
-ended_done : {A : Type 0} (result : Result A EndpointFault) (told : Result A TransferFault) → transfer_ended (host_told result) ≡ Ok told → is_ok result ≡ is_ok told
+ended_done : {A : Type 0} (result : Result A EndpointFault) (told : Result A TransferFault)
+    → transfer_ended (host_told result) ≡ Ok told → is_ok result ≡ is_ok told
 ended_done (Ok x) told e = let is : told ≡ Ok x = cc e in sym (ap is_ok is)
 ended_done (Err fault) told e = sym (fault_done _ told e)
 
-pipe_address : (device : Accepted) (is_in : Bool) (endpoint : Option (ℕ × ℕ)) (pipe : Bulk) → IsPipe device is_in endpoint (Some pipe) → pipe.target.addr ≡ device.address
+pipe_address : (device : Accepted) (is_in : Bool) (endpoint : Option (ℕ × ℕ)) (pipe : Bulk)
+    → IsPipe device is_in endpoint (Some pipe) → pipe.target.addr ≡ device.address
 pipe_address device is_in None pipe is = absurd is
 pipe_address device is_in (Some endpoint) pipe is = ap (λ (t : Target). t.addr) is.target
 
 -- The device over a call
 
 -- what a send brings joins the sink
-joins_sink : (done : Bool) (bytes : List ℕ) (s v : State) → JoinsSink done bytes s v → Joins done bytes s.sink v.sink
+joins_sink : (done : Bool) (bytes : List ℕ) (s v : State) → JoinsSink done bytes s v
+    → Joins done bytes s.sink v.sink
 joins_sink true bytes s v x = x
 joins_sink false bytes s v x = (x.front, x.rest, x.split, x.sink)
 
-gave_by : (bytes : List ℕ) (pipe left : Option Bulk) (s v : State) → GaveBy bytes pipe left s v → (pipe ≡ None → left ≡ None) → GaveNextBy bytes pipe left s v
+gave_by : (bytes : List ℕ) (pipe left : Option Bulk) (s v : State) → GaveBy bytes pipe left s v
+    → (pipe ≡ None → left ≡ None) → GaveNextBy bytes pipe left s v
 gave_by bytes None left s v x none = (x.0, none refl)
 gave_by bytes (Some pipe) None s v x none = absurd x
 gave_by bytes (Some pipe) (Some left) s v x none = record { next = x.next; has = x.has }
 
-gave_sink : (bytes : List ℕ) (pipe left : Option Bulk) (s v : State) → GaveBy bytes pipe left s v → (v.sink ≡ s.sink) × (v.spec ≡ s.spec)
+gave_sink : (bytes : List ℕ) (pipe left : Option Bulk) (s v : State) → GaveBy bytes pipe left s v
+    → (v.sink ≡ s.sink) × (v.spec ≡ s.spec)
 gave_sink bytes None left s v x = (ap (λ (d : State). d.sink) x.1, ap (λ (d : State). d.spec) x.1)
 gave_sink bytes (Some pipe) None s v x = absurd x
-gave_sink bytes (Some pipe) (Some left) s v x = (ap (λ (d : State). d.sink) x.rest, ap (λ (d : State). d.spec) x.rest)
+gave_sink bytes (Some pipe) (Some left) s v x =
+    (ap (λ (d : State). d.sink) x.rest, ap (λ (d : State). d.spec) x.rest)
 
 -- A send through the OUT pipe
 
 -- one state stands at a place
-one_stands : (w : World) (x : Location) (s u : State) → state_on w.roots x ≡ Some s → state_on w.roots x ≡ Some u → u ≡ s
+one_stands : (w : World) (x : Location) (s u : State) → state_on w.roots x ≡ Some s
+    → state_on w.roots x ≡ Some u → u ≡ s
 one_stands w x s u e f = cc (e, f)
 
 -- the device that is reached before and after it
-module _ (bytes : List ℕ) (old new : World) (x : Location) (s v : State) (on : reach_on new.roots x ≡ true) (stands : state_on new.roots x ≡ Some v) (stood : state_on old.roots x ≡ Some s) where
-  untried : (done : Bool) (pipe left : Option Bulk) → done ≡ false → pipe ≡ None → new ≡ old → SinkStep done bytes pipe left s v
+module _ (bytes : List ℕ) (old new : World) (x : Location) (s v : State) (on : reach_on new.roots x
+    ≡ true) (stands : state_on new.roots x ≡ Some v) (stood : state_on old.roots x ≡ Some s) where
+  untried : (done : Bool) (pipe left : Option Bulk) → done ≡ false → pipe ≡ None → new ≡ old
+      → SinkStep done bytes pipe left s v
   untried done pipe left failed none same =
-      let still : v.sink ≡ s.sink = ap (λ (d : State). d.sink) (one_stands old x s v stood (sym (ap (λ (w : World). state_on w.roots x) same) ∙ stands)) in
+      let still : v.sink ≡ s.sink = ap (λ (d : State). d.sink)
+      (one_stands old x s v stood (sym (ap (λ (w : World). state_on w.roots x) same) ∙ stands))
+      in
       record {
         whole = λ told works. absurd (cc (told, failed));
         cut = λ told works. ([], bytes, refl, still ∙ sym (append-nil s.sink), λ works. refl);
         stuck = λ stuck. absurd (stuck (subst IsAtWork (sym none) tt));
       }
 
-  module _ (pipe left : Bulk) (at : is_at s pipe.target ≡ true) (fits : OutPipeInSync pipe s) (single : new.shared ≡ false) where
-    nothing_sent : (answer : Result (Unit {0}) PipeFault) → Sends bytes pipe old answer left new → pipe.condition ≢ Ready → (v.sink ≡ s.sink) × (is_ok answer ≡ true → bytes ≡ [])
+  module _ (pipe left : Bulk) (at : is_at s pipe.target ≡ true) (fits : OutPipeInSync pipe s)
+      (single : new.shared ≡ false) where
+    nothing_sent : (answer : Result (Unit {0}) PipeFault) → Sends bytes pipe old answer left new
+        → pipe.condition ≢ Ready → (v.sink ≡ s.sink) × (is_ok answer ≡ true → bytes ≡ [])
     nothing_sent answer sends stuck =
-        let was : Was (NoneSent bytes pipe answer) old x v = none_sent bytes pipe answer left old new stuck single sends x v on stands in
+        let was : Was (NoneSent bytes pipe answer) old x v =
+        none_sent bytes pipe answer left old new stuck single sends x v on stands in
         let same : was.before ≡ s = one_stands old x s was.before stood was.stands in
-        let none = was.so.none (ap (λ q. is_at q pipe.target) same ∙ at) (subst (OutPipeInSync pipe) (sym same) fits) in
+        let none = was.so.none (ap (λ q. is_at q pipe.target) same
+        ∙ at) (subst (OutPipeInSync pipe) (sym same) fits) in
         (none.0 ∙ ap (λ (d : State). d.sink) same, none.1)
 
     -- by what the pipe answered
-    through : (answer : Result (Unit {0}) PipeFault) → ((why : BusFault) → answer ≢ Err (pipe_fault.Bus why)) → Sends bytes pipe old answer left new → JoinsSink (is_ok answer) bytes s v
+    through : (answer : Result (Unit {0}) PipeFault)
+        → ((why : BusFault) → answer ≢ Err (pipe_fault.Bus why))
+        → Sends bytes pipe old answer left new → JoinsSink (is_ok answer) bytes s v
         → SinkStep (is_ok answer) bytes (Some pipe) (Some left) s v
     through (Ok done) other sends joins = record {
       whole = λ told works. joins;
       cut = λ told works. absurd (cc told);
-      stuck = λ stuck. let none = nothing_sent (Ok done) sends stuck in (none.0, none.1, empty_stuck bytes pipe done left old new (none.1 refl) stuck sends);
+      stuck = λ stuck. let none = nothing_sent (Ok done) sends stuck in
+          (none.0, none.1, empty_stuck bytes pipe done left old new (none.1 refl) stuck sends);
     }
     through (Err why) other sends joins =
-        let never : left.condition ≢ Ready = failed_stuck bytes pipe why left old new (λ fault e. other fault (ap Err e)) sends in
+        let never : left.condition ≢ Ready = failed_stuck bytes pipe why left old new
+        (λ fault e. other fault (ap Err e)) sends in
         record {
           whole = λ told works. absurd (cc told);
-          cut = λ told works. (joins.front, joins.rest, joins.split, joins.sink, λ works. absurd (never works));
+          cut = λ told works. (
+            joins.front,
+            joins.rest,
+            joins.split,
+            joins.sink,
+            λ works. absurd (never works),
+          );
           stuck = λ stuck. let none = nothing_sent (Err why) sends stuck in (none.0, none.1, never);
         }
 
-  by_pipe : (out left : Option Bulk) (result : Result (Unit {0}) EndpointFault) → ((why : BusFault) → result ≢ Err (Pipe (pipe_fault.Bus why))) → new.shared ≡ false
-      → ((pipe : Bulk) → out ≡ Some pipe → (is_at s pipe.target ≡ true) × OutPipeInSync pipe s) → SentBy out bytes old result left new → JoinsSink (is_ok result) bytes s v → SinkStep (is_ok result) bytes out left s v
-  by_pipe None left result other single fits x joins = untried (is_ok result) None left (ap is_ok x.0) refl x.2
+  by_pipe : (out left : Option Bulk) (result : Result (Unit {0}) EndpointFault)
+      → ((why : BusFault) → result ≢ Err (Pipe (pipe_fault.Bus why))) → new.shared ≡ false
+      → ((pipe : Bulk) → out ≡ Some pipe → (is_at s pipe.target ≡ true) × OutPipeInSync pipe s)
+      → SentBy out bytes old result left new → JoinsSink (is_ok result) bytes s v
+      → SinkStep (is_ok result) bytes out left s v
+  by_pipe None left result other single fits x joins =
+      untried (is_ok result) None left (ap is_ok x.0) refl x.2
   by_pipe (Some pipe) None result other single fits x joins = absurd x
   by_pipe (Some pipe) (Some left) result other single fits x joins =
       let same : is_ok x.answer ≡ is_ok result = done_through x.answer result x.told in
       subst (λ d. SinkStep d bytes (Some pipe) (Some left) s v) same
-      (through pipe left (fits pipe refl).0 (fits pipe refl).1 single x.answer (λ why e. other why (x.told ∙ ap endpoint_answer e)) x.sends (subst (λ d. JoinsSink d bytes s v) (sym same) joins))
+      (through pipe left (fits pipe refl).0 (fits pipe refl).1 single x.answer
+      (λ why e. other why (x.told ∙ ap endpoint_answer e)) x.sends
+      (subst (λ d. JoinsSink d bytes s v) (sym same) joins))
 
-  by_pipes : (pipes left : Pipes) (result : Result (Unit {0}) EndpointFault) → ((why : BusFault) → result ≢ Err (Pipe (pipe_fault.Bus why))) → new.shared ≡ false
-      → ((pipe : Bulk) → pipe_out pipes ≡ Some pipe → (is_at s pipe.target ≡ true) × OutPipeInSync pipe s) → PipesSent pipes bytes old result left new → JoinsSink (is_ok result) bytes s v
+  by_pipes : (pipes left : Pipes) (result : Result (Unit {0}) EndpointFault)
+      → ((why : BusFault) → result ≢ Err (Pipe (pipe_fault.Bus why))) → new.shared ≡ false
+      → ((pipe : Bulk) → pipe_out pipes ≡ Some pipe → (is_at s pipe.target ≡ true)
+      × OutPipeInSync pipe s) → PipesSent pipes bytes old result left new
+      → JoinsSink (is_ok result) bytes s v
       → SinkStep (is_ok result) bytes (pipe_out pipes) (pipe_out left) s v
-  by_pipes (Hub pipe) left result other single fits x joins = untried (is_ok result) None (pipe_out left) (ap is_ok x.0) refl x.2
+  by_pipes (Hub pipe) left result other single fits x joins =
+      untried (is_ok result) None (pipe_out left) (ap is_ok x.0) refl x.2
   by_pipes (Function pipes) left result other single fits x joins =
-      subst (λ (p : Pipes). SinkStep (is_ok result) bytes pipes.out (pipe_out p) s v) (sym x.1) (by_pipe pipes.out x.0 result other single fits x.2 joins)
-  by_pipes Absent left result other single fits x joins = untried (is_ok result) None (pipe_out left) (ap is_ok x.0) refl x.2
+      subst (λ (p : Pipes). SinkStep (is_ok result) bytes pipes.out (pipe_out p) s v) (sym x.1)
+      (by_pipe pipes.out x.0 result other single fits x.2 joins)
+  by_pipes Absent left result other single fits x joins =
+      untried (is_ok result) None (pipe_out left) (ap is_ok x.0) refl x.2
 
 -- what an item moves, by the bytes that it has for the path
 module _ (path : List ℕ) (t : ToldItem) (pipes left : Pipes) (s v : State) where
-  moved : (to from : List ℕ) → bytes_for path t.due ≡ to → bytes_from path t.item ≡ from → Joins (is_done t.item) to s.sink v.sink → (ClearsNoOut path t → SinkStep (is_done t.item) to (pipe_out pipes) (pipe_out left) s v)
-      → (ClearsNoIn path t → GaveNextBy from (pipe_in pipes) (pipe_in left) s v) → v.spec ≡ s.spec → DeviceMoves path t pipes left s v
+  moved : (to from : List ℕ) → bytes_for path t.due ≡ to → bytes_from path t.item ≡ from
+      → Joins (is_done t.item) to s.sink v.sink
+      → (ClearsNoOut path t → SinkStep (is_done t.item) to (pipe_out pipes) (pipe_out left) s v)
+      → (ClearsNoIn path t → GaveNextBy from (pipe_in pipes) (pipe_in left) s v) → v.spec ≡ s.spec
+      → DeviceMoves path t pipes left s v
   moved to from e f sink took gave spec = record {
     sink = subst (λ l. Joins (is_done t.item) l s.sink v.sink) (sym e) sink;
-    took = λ none. subst (λ l. SinkStep (is_done t.item) l (pipe_out pipes) (pipe_out left) s v) (sym e) (took none);
+    took = λ none. subst (λ l. SinkStep (is_done t.item) l (pipe_out pipes) (pipe_out left) s v)
+        (sym e) (took none);
     gave = λ none. subst (λ l. GaveNextBy l (pipe_in pipes) (pipe_in left) s v) (sym f) (gave none);
     spec = spec;
   }
 
   -- nothing there
-  unmoved : bytes_for path t.due ≡ [] → bytes_from path t.item ≡ [] → left ≡ pipes → v ≡ s → DeviceMoves path t pipes left s v
+  unmoved : bytes_for path t.due ≡ [] → bytes_from path t.item ≡ [] → left ≡ pipes → v ≡ s
+      → DeviceMoves path t pipes left s v
   unmoved e f kept same =
-      moved [] [] e f (joins_none (is_done t.item) [] s.sink v.sink refl (ap (λ (d : State). d.sink) same))
-      (λ none. sink_step_none (is_done t.item) (pipe_out pipes) (pipe_out left) s v (ap pipe_out kept) (ap (λ (d : State). d.sink) same))
-      (λ none. gave_no_bytes (pipe_in pipes) (pipe_in left) (record { row = 0; rest = [] }) s v (ap pipe_in kept) (ap (λ (d : State). d.spec) same, ap (λ (d : State). d.registers) same)
+      moved [] [] e f (joins_none (is_done t.item) [] s.sink v.sink refl
+      (ap (λ (d : State). d.sink) same))
+      (λ none. sink_step_none (is_done t.item) (pipe_out pipes) (pipe_out left) s v
+      (ap pipe_out kept) (ap (λ (d : State). d.sink) same))
+      (λ none. gave_no_bytes (pipe_in pipes) (pipe_in left) (record { row = 0; rest = [] }) s v
+      (ap pipe_in kept) (
+        ap (λ (d : State). d.spec) same,
+        ap (λ (d : State). d.registers)
+            same,
+      )
       (ap (λ (d : State). d.place) same) (ap (λ (d : State). d.bulk_in) same))
       (ap (λ (d : State). d.spec) same)
 
 -- Hosts
 
 -- the accepted device at a path was listed there before an item, and moved what the item tells
-pub record MovesAt (path : List ℕ) (device : Accepted) (due : Option Ask) (item : Item) (old new : HostState) : Type 0 where
+pub record MovesAt (path : List ℕ) (device : Accepted) (due : Option Ask) (item : Item)
+    (old new : HostState) : Type 0 where
   pub listed : accepted_device_at path old.entries ≡ Some device
-  pub moves : StreamsAt path (DeviceMoves path (record { due = due; asked = old; item = item }) (pipes_at path (table_in old)) (pipes_at path (table_in new))) old new
+  pub moves : StreamsAt path (DeviceMoves path (record { due = due; asked = old; item = item })
+      (pipes_at path (table_in old)) (pipes_at path (table_in new))) old new
 
-module _ (path : List ℕ) (device : Accepted) (old new : HostState) (at : accepted_device_at path new.entries ≡ Some device) where
+module _ (path : List ℕ) (device : Accepted) (old new : HostState)
+    (at : accepted_device_at path new.entries ≡ Some device) where
   -- a listing
-  shown : (item : Item) → bytes_from path item ≡ [] → new ≡ old → MovesAt path device (Some Show) item old new
+  shown : (item : Item) → bytes_from path item ≡ [] → new ≡ old
+      → MovesAt path device (Some Show) item old new
   shown item none same = record {
     listed = ap (λ (h : HostState). accepted_device_at path h.entries) (sym same) ∙ at;
     moves = λ x v is on stands. record {
       before = v;
       on = ap (λ (h : HostState). reach_on h.world.roots x) (sym same) ∙ on;
       stands = ap (λ (h : HostState). state_on h.world.roots x) (sym same) ∙ stands;
-      so = unmoved path (record { due = Some Show; asked = old; item = item }) (pipes_at path (table_in old)) (pipes_at path (table_in new)) v v refl none
+      so = unmoved path (record { due = Some Show; asked = old; item = item })
+          (pipes_at path (table_in old)) (pipes_at path (table_in new)) v v refl none
           (ap (λ (h : HostState). pipes_at path (table_in h)) same) refl;
     };
   }
 
-  listed_before : (to : List ℕ) → GoesThrough to (table_in old) (table_in new) → accepted_device_at path old.entries ≡ Some device
-  listed_before to through = ap (λ (es : Entries). accepted_device_at path es) (sym through.entries) ∙ at
+  listed_before : (to : List ℕ) → GoesThrough to (table_in old) (table_in new)
+      → accepted_device_at path old.entries ≡ Some device
+  listed_before to through = ap (λ (es : Entries). accepted_device_at path es) (sym through.entries)
+      ∙ at
 
   -- a transfer to another path
-  apart : (to : List ℕ) (due : Option Ask) (item : Item) (So : State → State → Type 0) → ties (path_cmp to) path ≡ false → bytes_for path due ≡ [] → bytes_from path item ≡ [] → GoesThrough to (table_in old) (table_in new)
+  apart : (to : List ℕ) (due : Option Ask) (item : Item) (So : State → State → Type 0)
+      → ties (path_cmp to) path ≡ false → bytes_for path due ≡ [] → bytes_from path item ≡ []
+      → GoesThrough to (table_in old) (table_in new)
       → EachWas (ChangesAt to So) old.world new.world → MovesAt path device due item old new
   apart to due item So away e f through each = record {
     listed = listed_before to through;
     moves = λ x v is on stands.
         let was : Was (ChangesAt to So) old.world x v = each x v on stands in
-        let far : to ≢ path_to x = λ there. let tie : true ≡ false = sym (path_itself to) ∙ ap (ties (path_cmp to)) (there ∙ sym is) ∙ away in cc tie in
+        let far : to ≢ path_to x = λ there. let tie : true ≡ false = sym (path_itself to)
+        ∙ ap (ties (path_cmp to)) (there ∙ sym is) ∙ away in cc tie in
         record {
           before = was.before;
           on = was.on;
           stands = was.stands;
-          so = unmoved path (record { due = due; asked = old; item = item }) (pipes_at path (table_in old)) (pipes_at path (table_in new)) was.before v e f (through.others path away) (was.so.others far);
+          so = unmoved path (record { due = due; asked = old; item = item })
+              (pipes_at path (table_in old)) (pipes_at path (table_in new)) was.before v e f
+              (through.others path away) (was.so.others far);
         };
   }
 
   -- to the path itself
-  here : (due : Option Ask) (item : Item) (So : State → State → Type 0) → GoesThrough path (table_in old) (table_in new) → EachWas (ChangesAt path So) old.world new.world
-      → ((x : Location) (s v : State) → path ≡ path_to x → reach_on old.world.roots x ≡ true → reach_on new.world.roots x ≡ true → state_on new.world.roots x ≡ Some v → state_on old.world.roots x ≡ Some s → So s v
-      → DeviceMoves path (record { due = due; asked = old; item = item }) (pipes_at path (table_in old)) (pipes_at path (table_in new)) s v)
+  here : (due : Option Ask) (item : Item) (So : State → State → Type 0)
+      → GoesThrough path (table_in old) (table_in new)
+      → EachWas (ChangesAt path So) old.world new.world
+      → ((x : Location) (s v : State) → path ≡ path_to x → reach_on old.world.roots x ≡ true
+      → reach_on new.world.roots x ≡ true → state_on new.world.roots x ≡ Some v
+      → state_on old.world.roots x ≡ Some s → So s v
+      → DeviceMoves path (record { due = due; asked = old; item = item })
+      (pipes_at path (table_in old)) (pipes_at path (table_in new)) s v)
       → MovesAt path device due item old new
   here due item So through each so = record {
     listed = listed_before path through;
     moves = λ x v is on stands.
         let was : Was (ChangesAt path So) old.world x v = each x v on stands in
-        record { before = was.before; on = was.on; stands = was.stands; so = so x was.before v is was.on on stands was.stands (was.so.itself is) };
+        record {
+          before = was.before;
+          on = was.on;
+          stands = was.stands;
+          so = so x was.before v is was.on on stands was.stands (was.so.itself is);
+        };
   }
 
-  module _ (knows : Knows old) (still : old.world.fault ≡ None) (running : old.stopped ≡ false) where
-    -- the OUT pipe is to the device that is reached at the path
-    fits_out : (pipes : Pipes) (s : State) → ArePipesTo device (is_below_hub path) pipes → address_of s ≡ device.address → PipesInSync pipes s → (pipe : Bulk) → pipe_out pipes ≡ Some pipe → (is_at s pipe.target ≡ true) × OutPipeInSync pipe s
-    fits_out (Hub status) s are has level pipe e = absurd (cc e)
-    fits_out (Function pipes) s are has level pipe e =
-        let is : IsPipe device false (out_endpoint device) (Some pipe) = subst (IsPipe device false (out_endpoint device)) e are.1 in
-        (eq-eqb (address_of s) pipe.target.addr (has ∙ sym (pipe_address device false (out_endpoint device) pipe is)), subst (λ p. FitsOut p s) e level.0)
-    fits_out Absent s are has level pipe e = absurd are
+  module _ (knows : Knows old) (still : old.world.fault ≡ None) (running : old.stopped ≡ false)
+    where
+      -- the OUT pipe is to the device that is reached at the path
+      fits_out : (pipes : Pipes) (s : State) → ArePipesTo device (is_below_hub path) pipes
+          → address_of s ≡ device.address → PipesInSync pipes s → (pipe : Bulk)
+          → pipe_out pipes ≡ Some pipe → (is_at s pipe.target ≡ true) × OutPipeInSync pipe s
+      fits_out (Hub status) s are has level pipe e = absurd (cc e)
+      fits_out (Function pipes) s are has level pipe e =
+          let is : IsPipe device false (out_endpoint device) (Some pipe) =
+          subst (IsPipe device false (out_endpoint device)) e are.1 in (
+            eq-eqb (address_of s) pipe.target.addr (has
+                ∙ sym (pipe_address device false (out_endpoint device) pipe is)),
+            subst (λ p. FitsOut p s) e level.0,
+          )
+      fits_out Absent s are has level pipe e = absurd are
 
-    sent_here : (bytes : List ℕ) (told : Result (Unit {0}) TransferFault) → Transfers (SendTells path bytes) old told new → MovesAt path device (Some (Send path bytes)) (item.Sent path (sent_count (length bytes) told)) old new
-    sent_here bytes told is =
-        let hands = is.call.did running in
-        let made : Item = item.Sent path (sent_count (length bytes) told) in
-        let before : Pipes = pipes_at path (table_in old) in
-        let left : Pipes = pipes_at path (table_in new) in
-        let single : new.world.shared ≡ false = (hands.keeps.worlds.addresses.kept (claims old.entries) knows.sound.owned).single in
-        let listed : accepted_device_at path old.entries ≡ Some device = listed_before path hands.through in
-        let tells : transfer_ended (host_told hands.answer) ≡ Ok told = sym (ap transfer_ended hands.told) ∙ is.tells in
-        let done : is_ok hands.answer ≡ is_ok (sent_count (length bytes) told) = ended_done hands.answer told tells ∙ count_done (length bytes) told in
-        here (Some (Send path bytes)) made (TookBytes (is_ok told) bytes) hands.through (told_sent path old new knows.sound still running bytes told is).took.each
-        (λ x s v is_path was_on on stands stood took.
-        let spec : v.spec ≡ s.spec = ap (λ (d : State). d.spec) took.rest in
-        let reached : reach old.world.roots path ≡ true = ap (reach old.world.roots) is_path ∙ was_on in
-        let there : state_there old.world.roots path ≡ Some s = ap (state_there old.world.roots) is_path ∙ stood in
-        let has : address_of s ≡ device.address = held_address (table_in old) old.world path device s (knows.sound.owned.so still) listed reached there in
-        let level : PipesInSync before s = (knows.sound.level still path).level device s listed reached there in
-        let are : ArePipesTo device (is_below_hub path) before = subst (λ f. ArePipesIf f (is_below_hub path) before) listed hands.through.fits in
-        moved path (record { due = Some (Send path bytes); asked = old; item = made }) before left s v bytes [] (ap (λ (b : Bool). if b then bytes else []) (path_itself path)) refl
-        (subst (λ d. Joins d bytes s.sink v.sink) (count_done (length bytes) told) (joins_sink (is_ok told) bytes s v took.joins))
-        (λ none. subst (λ d. SinkStep d bytes (pipe_out before) (pipe_out left) s v) done
-        (by_pipes bytes old.world new.world x s v on stands stood before left hands.answer (no_bus_fault hands.answer told tells) single (fits_out before s are has level) hands.moves
-        (subst (λ d. JoinsSink d bytes s v) (sym (ended_done hands.answer told tells)) took.joins)))
-        (λ none. gave_no_bytes (pipe_in before) (pipe_in left) x s v (sent_in before left bytes old.world new.world hands.answer hands.moves) (spec, ap (λ (d : State). d.registers) took.rest)
-        (ap (λ (d : State). d.place) took.rest) (ap (λ (d : State). d.bulk_in) took.rest))
-        spec)
+      sent_here : (bytes : List ℕ) (told : Result (Unit {0}) TransferFault)
+          → Transfers (SendTells path bytes) old told new
+          → MovesAt path device (Some (Send path bytes))
+          (item.Sent path (sent_count (length bytes) told)) old new
+      sent_here bytes told is =
+          let hands = is.call.did running in
+          let made : Item = item.Sent path (sent_count (length bytes) told) in
+          let before : Pipes = pipes_at path (table_in old) in
+          let left : Pipes = pipes_at path (table_in new) in
+          let single : new.world.shared ≡ false =
+          (hands.keeps.worlds.addresses.kept (claims old.entries) knows.sound.owned).single in
+          let listed : accepted_device_at path old.entries ≡ Some device =
+          listed_before path hands.through in
+          let tells : transfer_ended (host_told hands.answer) ≡ Ok told =
+          sym (ap transfer_ended hands.told) ∙ is.tells in
+          let done : is_ok hands.answer ≡ is_ok (sent_count (length bytes) told) =
+          ended_done hands.answer told tells ∙ count_done (length bytes) told in
+          here (Some (Send path bytes)) made (TookBytes (is_ok told) bytes) hands.through
+          (told_sent path old new knows.sound still running bytes told is).took.each
+          (λ x s v is_path was_on on stands stood took.
+          let spec : v.spec ≡ s.spec = ap (λ (d : State). d.spec) took.rest in
+          let reached : reach old.world.roots path ≡ true = ap (reach old.world.roots) is_path
+          ∙ was_on in
+          let there : state_there old.world.roots path ≡ Some s =
+          ap (state_there old.world.roots) is_path ∙ stood in
+          let has : address_of s ≡ device.address =
+          held_address (table_in old) old.world path device s (knows.sound.owned.so still) listed
+          reached there in
+          let level : PipesInSync before s = (knows.sound.level still path).level device s listed
+          reached there in
+          let are : ArePipesTo device (is_below_hub path) before =
+          subst (λ f. ArePipesIf f (is_below_hub path) before) listed hands.through.fits in
+          moved path (record { due = Some (Send path bytes); asked = old; item = made }) before left
+          s
+          v bytes [] (ap (λ (b : Bool). if b then bytes else []) (path_itself path)) refl
+          (subst (λ d. Joins d bytes s.sink v.sink) (count_done (length bytes) told)
+          (joins_sink (is_ok told) bytes s v took.joins))
+          (λ none. subst (λ d. SinkStep d bytes (pipe_out before) (pipe_out left) s v) done
+          (by_pipes bytes old.world new.world x s v on stands stood before left hands.answer
+          (no_bus_fault hands.answer told tells) single (fits_out before s are has level)
+          hands.moves
+          (subst (λ d. JoinsSink d bytes s v) (sym (ended_done hands.answer told tells))
+          took.joins)))
+          (λ none. gave_no_bytes (pipe_in before) (pipe_in left) x s v
+          (sent_in before left bytes old.world new.world hands.answer hands.moves)
+          (spec, ap (λ (d : State). d.registers) took.rest)
+          (ap (λ (d : State). d.place) took.rest) (ap (λ (d : State). d.bulk_in) took.rest))
+          spec)
 
-    received_here : (packets : ℕ) (told : Result (Vec ℕ) TransferFault) → Transfers (ReceiveTells path packets) old told new → MovesAt path device (Some (Receive path packets)) (item.Received path told) old new
-    received_here packets told is =
-        let hands = is.call.did running in
-        let before : Pipes = pipes_at path (table_in old) in
-        let left : Pipes = pipes_at path (table_in new) in
-        here (Some (Receive path packets)) (item.Received path told) (GaveBy (bytes_in told) (pipe_in before) (pipe_in left)) hands.through (told_received path old new knows.sound still running packets told is).gave.each
-        (λ x s v is_path was_on on stands stood gave.
-        let kept = gave_sink (bytes_in told) (pipe_in before) (pipe_in left) s v gave in
-        moved path (record { due = Some (Receive path packets); asked = old; item = item.Received path told }) before left s v [] (bytes_in told) refl (ap (λ (b : Bool). if b then bytes_in told else []) (path_itself path))
-        (joins_none (is_ok told) [] s.sink v.sink refl kept.0)
-        (λ none. sink_step_none (is_ok told) (pipe_out before) (pipe_out left) s v (received_out before left packets old.world new.world hands.answer hands.moves) kept.0)
-        (λ none. gave_by (bytes_in told) (pipe_in before) (pipe_in left) s v gave (received_in before left packets old.world new.world hands.answer hands.moves)) kept.1)
+      received_here : (packets : ℕ) (told : Result (Vec ℕ) TransferFault)
+          → Transfers (ReceiveTells path packets) old told new
+          → MovesAt path device (Some (Receive path packets)) (item.Received path told) old new
+      received_here packets told is =
+          let hands = is.call.did running in
+          let before : Pipes = pipes_at path (table_in old) in
+          let left : Pipes = pipes_at path (table_in new) in
+          here (Some (Receive path packets)) (item.Received path told)
+          (GaveBy (bytes_in told) (pipe_in before) (pipe_in left)) hands.through
+          (told_received path old new knows.sound still running packets told is).gave.each
+          (λ x s v is_path was_on on stands stood gave.
+          let kept = gave_sink (bytes_in told) (pipe_in before) (pipe_in left) s v gave in
+          moved path (record {
+            due = Some (Receive path packets);
+            asked = old;
+            item =
+                item.Received path told;
+          }) before left s v [] (bytes_in told) refl
+          (ap (λ (b : Bool). if b then bytes_in told else []) (path_itself path))
+          (joins_none (is_ok told) [] s.sink v.sink refl kept.0)
+          (λ none. sink_step_none (is_ok told) (pipe_out before) (pipe_out left) s v
+          (received_out before left packets old.world new.world hands.answer hands.moves)
+          kept.0)
+          (λ none. gave_by (bytes_in told) (pipe_in before) (pipe_in left) s v gave
+          (received_in before left packets old.world new.world hands.answer hands.moves))
+          kept.1)
 
-    cleared_here : (told : Result (Unit {0}) TransferFault) → Transfers (ClearTells path) old told new → MovesAt path device (Some (Clear path)) (item.Cleared path told) old new
-    cleared_here told is =
-        let hands = is.call.did running in
-        let single : new.world.shared ≡ false = (hands.keeps.worlds.addresses.kept (claims old.entries) knows.sound.owned).single in
-        let before : Pipes = pipes_at path (table_in old) in
-        let left : Pipes = pipes_at path (table_in new) in
-        here (Some (Clear path)) (item.Cleared path told) (HaltsCleared (is_ok told) before left) hands.through (told_cleared path old new knows.sound still running told is).each
-        (λ x s v is_path was_on on stands stood cleared.
-        let was : Was SameSettings old.world x v = hands.keeps.worlds.devices.same single x v on stands in
-        let same : SameSettings x s v = subst (λ (d : State). SameSettings x d v) (one_stands old.world x s was.before stood was.stands) was.so in
-        moved path (record { due = Some (Clear path); asked = old; item = item.Cleared path told }) before left s v [] [] refl refl
-        (joins_none (is_ok told) [] s.sink v.sink refl cleared.sink)
-        (λ works. sink_step_none (is_ok told) (pipe_out before) (pipe_out left) s v
-        (clears_alone (is_ok told) (pipe_out before) (pipe_out left) s.bulk_out v.bulk_out cleared.out (works refl) (cleared_out before left old.world new.world hands.answer hands.moves)).0 cleared.sink)
-        (λ works.
-        let alone = clears_alone (is_ok told) (pipe_in before) (pipe_in left) s.bulk_in v.bulk_in cleared.into (works refl) (cleared_in before left old.world new.world hands.answer hands.moves) in
-        gave_no_bytes (pipe_in before) (pipe_in left) x s v alone.0 same cleared.place alone.1)
-        same.0)
+      cleared_here : (told : Result (Unit {0}) TransferFault)
+          → Transfers (ClearTells path) old told new
+          → MovesAt path device (Some (Clear path)) (item.Cleared path told) old new
+      cleared_here told is =
+          let hands = is.call.did running in
+          let single : new.world.shared ≡ false =
+          (hands.keeps.worlds.addresses.kept (claims old.entries) knows.sound.owned).single in
+          let before : Pipes = pipes_at path (table_in old) in
+          let left : Pipes = pipes_at path (table_in new) in
+          here (Some (Clear path)) (item.Cleared path told) (HaltsCleared (is_ok told) before left)
+          hands.through (told_cleared path old new knows.sound still running told is).each
+          (λ x s v is_path was_on on stands stood cleared.
+          let was : Was SameSettings old.world x v =
+          hands.keeps.worlds.devices.same single x v on stands in
+          let same : SameSettings x s v = subst (λ (d : State). SameSettings x d v)
+          (one_stands old.world x s was.before stood was.stands) was.so in
+          moved path (record {
+            due = Some (Clear path);
+            asked = old;
+            item =
+                item.Cleared path told;
+          })
+          before left s v [] [] refl refl
+          (joins_none (is_ok told) [] s.sink v.sink refl cleared.sink)
+          (λ works. sink_step_none (is_ok told) (pipe_out before) (pipe_out left) s v
+          (clears_alone (is_ok told) (pipe_out before) (pipe_out left) s.bulk_out v.bulk_out
+          cleared.out (works refl) (cleared_out before left old.world new.world hands.answer
+          hands.moves)).0 cleared.sink)
+          (λ works.
+          let alone = clears_alone (is_ok told) (pipe_in before) (pipe_in left) s.bulk_in v.bulk_in
+          cleared.into (works refl) (cleared_in before left old.world new.world hands.answer
+          hands.moves) in
+          gave_no_bytes (pipe_in before) (pipe_in left) x s v alone.0 same cleared.place alone.1)
+          same.0)
 
-    -- whether it is to the path or to another
-    sent_item : (to bytes : List ℕ) (told : Result (Unit {0}) TransferFault) → Transfers (SendTells to bytes) old told new → (tied : Bool) → ties (path_cmp to) path ≡ tied
-        → MovesAt path device (Some (Send to bytes)) (item.Sent to (sent_count (length bytes) told)) old new
-    sent_item to bytes told is true tie =
-        subst (λ p. Transfers (SendTells p bytes) old told new → MovesAt path device (Some (Send p bytes)) (item.Sent p (sent_count (length bytes) told)) old new) (sym (path_tied to path tie)) (sent_here bytes told) is
-    sent_item to bytes told is false away =
-        apart to (Some (Send to bytes)) (item.Sent to (sent_count (length bytes) told)) (TookBytes (is_ok told) bytes) away (ap (λ (b : Bool). if b then bytes else []) away) refl (is.call.did running).through
-        (told_sent to old new knows.sound still running bytes told is).took.each
+      -- whether it is to the path or to another
+      sent_item : (to bytes : List ℕ) (told : Result (Unit {0}) TransferFault)
+          → Transfers (SendTells to bytes) old told new → (tied : Bool)
+          → ties (path_cmp to) path ≡ tied
+          → MovesAt path device (Some (Send to bytes))
+          (item.Sent to (sent_count (length bytes) told))
+          old new
+      sent_item to bytes told is true tie =
+          subst (λ p. Transfers (SendTells p bytes) old told new
+          → MovesAt path device (Some (Send p bytes))
+          (item.Sent p (sent_count (length bytes) told)) old new) (sym (path_tied to path tie))
+          (sent_here bytes told) is
+      sent_item to bytes told is false away =
+          apart to (Some (Send to bytes)) (item.Sent to (sent_count (length bytes) told))
+          (TookBytes (is_ok told) bytes) away (ap (λ (b : Bool). if b then bytes else []) away)
+          refl (is.call.did running).through
+          (told_sent to old new knows.sound still running bytes told is).took.each
 
-    received_item : (from : List ℕ) (packets : ℕ) (told : Result (Vec ℕ) TransferFault) → Transfers (ReceiveTells from packets) old told new → (tied : Bool) → ties (path_cmp from) path ≡ tied
-        → MovesAt path device (Some (Receive from packets)) (item.Received from told) old new
-    received_item from packets told is true tie =
-        subst (λ p. Transfers (ReceiveTells p packets) old told new → MovesAt path device (Some (Receive p packets)) (item.Received p told) old new) (sym (path_tied from path tie)) (received_here packets told) is
-    received_item from packets told is false away =
-        apart from (Some (Receive from packets)) (item.Received from told) (GaveBy (bytes_in told) (pipe_in (pipes_at from (table_in old))) (pipe_in (pipes_at from (table_in new)))) away refl
-        (ap (λ (b : Bool). if b then bytes_in told else []) away) (is.call.did running).through (told_received from old new knows.sound still running packets told is).gave.each
+      received_item : (from : List ℕ) (packets : ℕ) (told : Result (Vec ℕ) TransferFault)
+          → Transfers (ReceiveTells from packets) old told new → (tied : Bool)
+          → ties (path_cmp from) path ≡ tied
+          → MovesAt path device (Some (Receive from packets)) (item.Received from told) old new
+      received_item from packets told is true tie =
+          subst (λ p. Transfers (ReceiveTells p packets) old told new
+          → MovesAt path device (Some (Receive p packets)) (item.Received p told) old new)
+          (sym (path_tied from path tie)) (received_here packets told) is
+      received_item from packets told is false away =
+          apart from (Some (Receive from packets)) (item.Received from told)
+          (GaveBy (bytes_in told) (pipe_in (pipes_at from (table_in old)))
+          (pipe_in (pipes_at from (table_in new)))) away refl
+          (ap (λ (b : Bool). if b then bytes_in told else []) away) (is.call.did running).through
+          (told_received from old new knows.sound still running packets told is).gave.each
 
-    cleared_item : (to : List ℕ) (told : Result (Unit {0}) TransferFault) → Transfers (ClearTells to) old told new → (tied : Bool) → ties (path_cmp to) path ≡ tied → MovesAt path device (Some (Clear to)) (item.Cleared to told) old new
-    cleared_item to told is true tie = subst (λ p. Transfers (ClearTells p) old told new → MovesAt path device (Some (Clear p)) (item.Cleared p told) old new) (sym (path_tied to path tie)) (cleared_here told) is
-    cleared_item to told is false away =
-        apart to (Some (Clear to)) (item.Cleared to told) (HaltsCleared (is_ok told) (pipes_at to (table_in old)) (pipes_at to (table_in new))) away refl refl (is.call.did running).through
-        (told_cleared to old new knows.sound still running told is).each
+      cleared_item : (to : List ℕ) (told : Result (Unit {0}) TransferFault)
+          → Transfers (ClearTells to) old told new → (tied : Bool) → ties (path_cmp to) path ≡ tied
+          → MovesAt path device (Some (Clear to)) (item.Cleared to told) old new
+      cleared_item to told is true tie = subst (λ p. Transfers (ClearTells p) old told new
+          → MovesAt path device (Some (Clear p)) (item.Cleared p told) old new)
+          (sym (path_tied to path tie)) (cleared_here told) is
+      cleared_item to told is false away =
+          apart to (Some (Clear to)) (item.Cleared to told)
+          (HaltsCleared (is_ok told) (pipes_at to (table_in old)) (pipes_at to (table_in new)))
+          away refl refl (is.call.did running).through
+          (told_cleared to old new knows.sound still running told is).each
 
-    pub item_moves : (due : Option Ask) (made : Item) → IsItemOf due (Some made) old new
-        → MovesAt path device due made old new
-    item_moves due made is = moves_as (answered due (Some made) old new is)
-      where
-        told_as : (asked : Option Ask) (told : Item) → due ≡ asked → Some made ≡ Some told
-            → MovesAt path device asked told old new → MovesAt path device due made old new
-        told_as asked told asks e so =
-            let same : made ≡ told = cc e in
-            subst (λ d. MovesAt path device d made old new) (sym asks)
-            (subst (λ (i : Item). MovesAt path device asked i old new) (sym same) so)
+      pub item_moves : (due : Option Ask) (made : Item) → IsItemOf due (Some made) old new
+          → MovesAt path device due made old new
+      item_moves due made is = moves_as (answered due (Some made) old new is)
+        where
+          told_as : (asked : Option Ask) (told : Item) → due ≡ asked → Some made ≡ Some told
+              → MovesAt path device asked told old new → MovesAt path device due made old new
+          told_as asked told asks e so =
+              let same : made ≡ told = cc e in
+              subst (λ d. MovesAt path device d made old new) (sym asks)
+              (subst (λ (i : Item). MovesAt path device asked i old new) (sym same) so)
 
-        moves_as : AskAnswered due (Some made) old new → MovesAt path device due made old new
-        moves_as (silent none same) = absurd (cc none)
-        moves_as (listed asks e same) =
-            let listing : Item = item.Listing new.entries new.world.taken in
-            told_as (Some Show) listing asks e (shown listing refl same)
-        moves_as (sent to bytes told asks e came) =
-            told_as (Some (Send to bytes)) _ asks e (sent_item to bytes told came (ties (path_cmp to) path) refl)
-        moves_as (received from packets told asks e came) = told_as (Some (Receive from packets)) _ asks e
-            (received_item from packets told came (ties (path_cmp from) path) refl)
-        moves_as (cleared to told asks e came) =
-            told_as (Some (Clear to)) _ asks e (cleared_item to told came (ties (path_cmp to) path) refl)
+          moves_as : AskAnswered due (Some made) old new → MovesAt path device due made old new
+          moves_as (silent none same) = absurd (cc none)
+          moves_as (listed asks e same) =
+              let listing : Item = item.Listing new.entries new.world.taken in
+              told_as (Some Show) listing asks e (shown listing refl same)
+          moves_as (sent to bytes told asks e came) =
+              told_as (Some (Send to bytes)) _ asks e
+              (sent_item to bytes told came (ties (path_cmp to) path) refl)
+          moves_as (received from packets told asks e came) =
+              told_as (Some (Receive from packets)) _ asks e
+              (received_item from packets told came (ties (path_cmp from) path) refl)
+          moves_as (cleared to told asks e came) =
+              told_as (Some (Clear to)) _ asks e
+              (cleared_item to told came (ties (path_cmp to) path)
+              refl)

@@ -1,5 +1,6 @@
 -- With which byte of its source a device begins that was found anew.
-use Rattle.std.proofs.Common.{◌≡◌, ◌∙◌, refl, sym, ap, subst, Bool, true, false, ℕ, Option, None, Some, option_map}
+use Rattle.std.proofs.Common.{◌≡◌, ◌∙◌, refl, sym, ap, subst, Bool, true, false, ℕ, Option, None}
+use Rattle.std.proofs.Common.{Some, option_map}
 use Rattle.std.specs.Prelude.{is_some, if◌then◌else◌}
 use Rattle.usb_packet.specs.declared.Toggle.TheVariants.{Zero}
 use Rattle.usb_packet.specs.Toggles.{other}
@@ -20,11 +21,13 @@ use Rattle.usb_table.specs.Pipes.{new_bulk, new_pipes_to, new_status}
 
 -- new pipes
 
-none_of_hub : (device : Accepted) (below : Bool) (endpoint : Option (ℕ × ℕ)) → pipe_in (new_status device below endpoint) ≡ None
+none_of_hub : (device : Accepted) (below : Bool) (endpoint : Option (ℕ × ℕ))
+    → pipe_in (new_status device below endpoint) ≡ None
 none_of_hub device below None = refl
 none_of_hub device below (Some endpoint) = refl
 
-new_end : (device : Accepted) (endpoint : Option (ℕ × ℕ)) (pipe : Bulk) → new_bulk device true endpoint ≡ Some pipe → (pipe.condition ≡ Ready) × (pipe.toggle ≡ Zero)
+new_end : (device : Accepted) (endpoint : Option (ℕ × ℕ)) (pipe : Bulk)
+    → new_bulk device true endpoint ≡ Some pipe → (pipe.condition ≡ Ready) × (pipe.toggle ≡ Zero)
 new_end device None pipe e = absurd (cc e)
 new_end device (Some endpoint) pipe e =
     let works : Some Ready ≡ Some pipe.condition = ap (option_map (λ (p : Bulk). p.condition)) e in
@@ -32,25 +35,45 @@ new_end device (Some endpoint) pipe e =
     (cc works, cc first)
 
 -- an IN pipe that was just made works, and awaits DATA0
-pub new_in : (device : Accepted) (below : Bool) (pipe : Bulk) → pipe_in (new_pipes_to device below) ≡ Some pipe → (pipe.condition ≡ Ready) × (pipe.toggle ≡ Zero)
+pub new_in : (device : Accepted) (below : Bool) (pipe : Bulk) → pipe_in (new_pipes_to device below)
+    ≡ Some pipe → (pipe.condition ≡ Ready) × (pipe.toggle ≡ Zero)
 new_in device below pipe e = by_hub (is_some device.hub) refl
   where
-    by_hub : (hub : Bool) → is_some device.hub ≡ hub → (pipe.condition ≡ Ready) × (pipe.toggle ≡ Zero)
+    by_hub : (hub : Bool) → is_some device.hub ≡ hub → (pipe.condition ≡ Ready)
+        × (pipe.toggle ≡ Zero)
     by_hub true is =
         let status = status_endpoint_of (configuration_of device) in
-        let there : new_pipes_to device below ≡ new_status device below status = ap (λ (b : Bool). if b then new_status device below status
-        else Function (record { out = new_bulk device false (out_endpoint device); into = new_bulk device true (in_endpoint device) })) is in
+        let there : new_pipes_to device below ≡ new_status device below status =
+        ap (λ (b : Bool). if b then new_status device below status
+        else Function (record {
+          out = new_bulk device false (out_endpoint device);
+          into =
+              new_bulk device true (in_endpoint device);
+        })) is in
         absurd (cc (sym (ap pipe_in there) ∙ e, none_of_hub device below status))
     by_hub false is =
-        let there : new_pipes_to device below ≡ Function (record { out = new_bulk device false (out_endpoint device); into = new_bulk device true (in_endpoint device) }) =
-        ap (λ (b : Bool). if b then new_status device below (status_endpoint_of (configuration_of device))
-        else Function (record { out = new_bulk device false (out_endpoint device); into = new_bulk device true (in_endpoint device) })) is in
+        let there : new_pipes_to device below
+        ≡ Function (record {
+          out = new_bulk device false (out_endpoint device);
+          into =
+              new_bulk device true (in_endpoint device);
+        }) =
+        ap (λ (b : Bool). if b then new_status device below
+        (status_endpoint_of (configuration_of device))
+        else Function (record {
+          out = new_bulk device false (out_endpoint device);
+          into =
+              new_bulk device true (in_endpoint device);
+        })) is in
         new_end device (in_endpoint device) pipe (sym (ap pipe_in there) ∙ e)
 
--- through such a pipe to an endpoint that has begun again, the host has got as many bytes as the device counts
-pub begun_place : (pipe : Bulk) (got : ℕ) (s : State) → pipe.condition ≡ Ready → pipe.toggle ≡ Zero → s.bulk_in ≡ rested → InPipeInSync pipe got s → InPipeInSync pipe s.place s
+-- through such a pipe to an endpoint that has begun again, the host has got as many bytes as the
+-- device counts
+pub begun_place : (pipe : Bulk) (got : ℕ) (s : State) → pipe.condition ≡ Ready → pipe.toggle ≡ Zero
+    → s.bulk_in ≡ rested → InPipeInSync pipe got s → InPipeInSync pipe s.place s
 begun_place pipe got s works first begun fits = by_source (fits.level works)
   where
     by_source : SourceAt pipe.max got pipe.toggle s → InPipeInSync pipe s.place s
     by_source (SourceAt.level place toggle) = subst (λ n. InPipeInSync pipe n s) (sym place) fits
-    by_source (SourceAt.ahead place more toggle) = absurd (cc (sym (ap (λ (x : EndpointState). x.toggle) begun) ∙ toggle ∙ ap other first))
+    by_source (SourceAt.ahead place more toggle) =
+        absurd (cc (sym (ap (λ (x : EndpointState). x.toggle) begun) ∙ toggle ∙ ap other first))

@@ -1,5 +1,6 @@
 -- Over a stretch of a run transfers join end to end.
-use Rattle.std.proofs.Common.{◌≡◌, ◌⊎◌, inl, inr, ◌∙◌, refl, sym, ap, subst, true, ℕ, List, [], ◌∷◌, Option, None, Some, Ok}
+use Rattle.std.proofs.Common.{◌≡◌, ◌⊎◌, inl, inr, ◌∙◌, refl, sym, ap, subst, true, ℕ, List, [], ◌∷◌}
+use Rattle.std.proofs.Common.{Option, None, Some, Ok}
 use Rattle.usb_device.specs.Rows.{State}
 use Rattle.usb_device.specs.Tree.{Location, path_to, reach, reach_on, state_on}
 use Rattle.usb_device.specs.View.{state_there}
@@ -26,9 +27,11 @@ use Rattle.usb_run.specs.RunSegments.{Comes, Knows, Settled}
 use Rattle.usb_run.specs.Transcript.{AppendsText}
 use Rattle.usb_run.specs.Transfers.{IsItemOf}
 use Rattle.usb_run.proofs.Interface.{arrival_knows, came_running, came_still, comes_onward}
-use Rattle.usb_streams.specs.Stretches.{LiesBetween, round, silent, last, wrote, Stretch, begun, further, more, ToldItem}
+use Rattle.usb_streams.specs.Stretches.{LiesBetween, round, silent, last, wrote, Stretch, begun}
+use Rattle.usb_streams.specs.Stretches.{further, more, ToldItem}
 use Rattle.usb_streams.specs.Streams.{StartsAt, StoodAt, StoodOrFound, Streams, StreamsAt}
-use Rattle.usb_streams.proofs.Devices.{DeviceMoves, DeviceStays, streams_at_then, spares_stays, streams_move, streams_none, streams_stay}
+use Rattle.usb_streams.proofs.Devices.{DeviceMoves, DeviceStays, streams_at_then, spares_stays}
+use Rattle.usb_streams.proofs.Devices.{streams_move, streams_none, streams_stay}
 use Rattle.usb_streams.proofs.Items.{MovesAt, item_moves}
 use Rattle.usb_streams.proofs.Starts.{begun_place, new_in}
 use Rattle.usb_streams.proofs.Stretches.{between_knows, between_onward, item_onward, stretch_knows}
@@ -40,63 +43,103 @@ level_in (Hub pipe) s level = tt
 level_in (Function pipes) s level = level.1
 level_in Absent s level = tt
 
-level_at : (path : List ℕ) (device : Accepted) (h : HostState) → Knows h → h.world.fault ≡ None → accepted_device_at path h.entries ≡ Some device
-    → (x : Location) (s : State) → path ≡ path_to x → reach_on h.world.roots x ≡ true → state_on h.world.roots x ≡ Some s → PipesInSync (pipes_at path (table_in h)) s
-level_at path device h knows still at x s is on stands = (knows.sound.level still path).level device s at (ap (reach h.world.roots) is ∙ on) (ap (state_there h.world.roots) is ∙ stands)
+level_at : (path : List ℕ) (device : Accepted) (h : HostState) → Knows h → h.world.fault ≡ None
+    → accepted_device_at path h.entries ≡ Some device
+    → (x : Location) (s : State) → path ≡ path_to x → reach_on h.world.roots x ≡ true
+    → state_on h.world.roots x ≡ Some s → PipesInSync (pipes_at path (table_in h)) s
+level_at path device h knows still at x s is on stands =
+    (knows.sound.level still path).level device s at (ap (reach h.world.roots) is
+    ∙ on) (ap (state_there h.world.roots) is ∙ stands)
 
 -- at the beginning of a stretch
-stood_none : (path : List ℕ) (device : Accepted) (h : HostState) → Knows h → h.world.fault ≡ None → accepted_device_at path h.entries ≡ Some device → StoodAt path device [] h h
+stood_none : (path : List ℕ) (device : Accepted) (h : HostState) → Knows h → h.world.fault ≡ None
+    → accepted_device_at path h.entries ≡ Some device → StoodAt path device [] h h
 stood_none path device h knows still at = record {
   listed = at;
   streams = λ x v is on stands.
-      let level : PipesInSync (pipes_at path (table_in h)) v = level_at path device h knows still at x v is on stands in
-      record { before = v; on = on; stands = stands; so = streams_none path (pipes_at path (table_in h)) x v (level_in (pipes_at path (table_in h)) v level) };
+      let level : PipesInSync (pipes_at path (table_in h)) v =
+      level_at path device h knows still at x v is on stands in
+      record {
+        before = v;
+        on = on;
+        stands = stands;
+        so = streams_none path (pipes_at path (table_in h)) x v
+            (level_in (pipes_at path (table_in h)) v level);
+      };
 }
 
 -- where it was found anew
-renewed_starts : (path : List ℕ) (device : Accepted) (a b : HostState) → RenewedAt path device a b → Knows b → b.world.fault ≡ None → accepted_device_at path b.entries ≡ Some device → StartsAt path b
+renewed_starts : (path : List ℕ) (device : Accepted) (a b : HostState) → RenewedAt path device a b
+    → Knows b → b.world.fault ≡ None → accepted_device_at path b.entries ≡ Some device
+    → StartsAt path b
 renewed_starts path device a b renewed knows still at x s pipe is on stands e =
     let new = new_in device (is_below_hub path) pipe (sym renewed.pipes.into ∙ e) in
-    let fits : FitsIn (Some pipe) s = subst (λ p. FitsIn p s) e (level_in (pipes_at path (table_in b)) s (level_at path device b knows still at x s is on stands)) in
+    let fits : FitsIn (Some pipe) s = subst (λ p. FitsIn p s) e
+    (level_in (pipes_at path (table_in b)) s
+    (level_at path device b knows still at x s is on stands)) in
     begun_place pipe fits.0 s new.0 new.1 (renewed.endpoints x s is on stands).1 fits.1
 
 -- what lies between two items leaves it, with its bulk endpoints
-stayed_stands : (path : List ℕ) (device : Accepted) (told : List ToldItem) (a b c : HostState) → StoodAt path device told a b → StayedAt path device b c → StoodAt path device told a c
+stayed_stands : (path : List ℕ) (device : Accepted) (told : List ToldItem) (a b c : HostState)
+    → StoodAt path device told a b → StayedAt path device b c → StoodAt path device told a c
 stayed_stands path device told a b c stood stayed = record {
   listed = stood.listed;
-  streams = streams_at_then path (Streams path told (pipes_at path (table_in a)) (pipes_at path (table_in b))) (DeviceStays (pipes_at path (table_in b)) (pipes_at path (table_in c)))
+  streams = streams_at_then path (Streams path told (pipes_at path (table_in a))
+      (pipes_at path (table_in b))) (DeviceStays (pipes_at path (table_in b))
+      (pipes_at path (table_in c)))
       (Streams path told (pipes_at path (table_in a)) (pipes_at path (table_in c)))
-      (streams_stay path told (pipes_at path (table_in a)) (pipes_at path (table_in b)) (pipes_at path (table_in c))) a b c stood.streams later;
+      (streams_stay path told (pipes_at path (table_in a)) (pipes_at path (table_in b))
+      (pipes_at path (table_in c))) a b c stood.streams later;
 }
   where
-    later : StreamsAt path (DeviceStays (pipes_at path (table_in b)) (pipes_at path (table_in c))) b c
+    later : StreamsAt path (DeviceStays (pipes_at path (table_in b)) (pipes_at path (table_in c))) b
+        c
     later x v is on stands =
         let was : Was SparesBulk b.world x v = stayed.endpoints x v is on stands in
-        record { before = was.before; on = was.on; stands = was.stands; so = spares_stays (pipes_at path (table_in b)) (pipes_at path (table_in c)) x was.before v stayed.pipes was.so }
+        record {
+          before = was.before;
+          on = was.on;
+          stands = was.stands;
+          so = spares_stays (pipes_at path (table_in b)) (pipes_at path (table_in c)) x
+              was.before v stayed.pipes was.so;
+        }
 
 -- so does an item, by the bytes that it tells
-moved_stands : (path : List ℕ) (device : Accepted) (told : List ToldItem) (due : Option Ask) (item : Item) (a b c : HostState) → StoodAt path device told a b → MovesAt path device due item b c
+moved_stands : (path : List ℕ) (device : Accepted) (told : List ToldItem) (due : Option Ask)
+    (item : Item) (a b c : HostState) → StoodAt path device told a b
+    → MovesAt path device due item b c
     → StoodAt path device (record { due = due; asked = b; item = item } ∷ told) a c
 moved_stands path device told due item a b c stood moves =
     let t : ToldItem = record { due = due; asked = b; item = item } in
     record {
       listed = stood.listed;
-      streams = streams_at_then path (Streams path told (pipes_at path (table_in a)) (pipes_at path (table_in b))) (DeviceMoves path t (pipes_at path (table_in b)) (pipes_at path (table_in c)))
+      streams = streams_at_then path (Streams path told (pipes_at path (table_in a))
+          (pipes_at path (table_in b))) (DeviceMoves path t (pipes_at path (table_in b))
+          (pipes_at path (table_in c)))
           (Streams path (t ∷ told) (pipes_at path (table_in a)) (pipes_at path (table_in c)))
-          (streams_move path t told (pipes_at path (table_in a)) (pipes_at path (table_in b)) (pipes_at path (table_in c))) a b c stood.streams moves.moves;
+          (streams_move path t told (pipes_at path (table_in a)) (pipes_at path (table_in b))
+          (pipes_at path (table_in c))) a b c stood.streams moves.moves;
     }
 
 -- Parts
 
 -- an event that comes leaves each device
-stayed_came : (due : Option (Option Ask)) (a b : HostState) → Comes a (Ok due) b → (path : List ℕ) (device : Accepted) → accepted_device_at path b.entries ≡ Some device → StayedAt path device a b
-stayed_came due a b comes = (stay_event a b (ap (λ (h : HostState). h.entries) comes.rests) (ap (λ (h : HostState). h.pipes) comes.rests) comes.takes.exact).each
+stayed_came : (due : Option (Option Ask)) (a b : HostState) → Comes a (Ok due) b
+    → (path : List ℕ) (device : Accepted) → accepted_device_at path b.entries ≡ Some device
+    → StayedAt path device a b
+stayed_came due a b comes = (stay_event a b (ap (λ (h : HostState). h.entries) comes.rests)
+    (ap (λ (h : HostState). h.pipes) comes.rests) comes.takes.exact).each
 
 -- and so does text that is written
-wrote_stays : (text : List ℕ) (a b : HostState) → AppendsText text a b → (path : List ℕ) (device : Accepted) → accepted_device_at path b.entries ≡ Some device → StayedAt path device a b
+wrote_stays : (text : List ℕ) (a b : HostState) → AppendsText text a b
+    → (path : List ℕ) (device : Accepted) → accepted_device_at path b.entries ≡ Some device
+    → StayedAt path device a b
 wrote_stays text a b puts path device at = record {
   listed = ap (λ (h : HostState). accepted_device_at path h.entries) (sym puts.rest) ∙ at;
-  pipes = record { out = ap (λ (h : HostState). pipe_out (pipes_at path (table_in h))) puts.rest; into = ap (λ (h : HostState). pipe_in (pipes_at path (table_in h))) puts.rest };
+  pipes = record {
+    out = ap (λ (h : HostState). pipe_out (pipes_at path (table_in h))) puts.rest;
+    into = ap (λ (h : HostState). pipe_in (pipes_at path (table_in h))) puts.rest;
+  };
   endpoints = λ x s is on stands.
       let same : b.world ≡ a.world = ap (λ (h : HostState). h.world) puts.rest in
       record {
@@ -108,26 +151,36 @@ wrote_stays text a b puts path device at = record {
 }
 
 -- a round leaves it, or finds it anew
-between_bulk : {a b : HostState} → LiesBetween a b → Knows a → b.world.fault ≡ None → (path : List ℕ) (device : Accepted) → accepted_device_at path b.entries ≡ Some device
-    → StayedAt path device a b ⊎ ((done : Round) × RoundTells a (Ok done) b × RenewedAt path device a b)
-between_bulk {a} {b} (round done tells) knows still path device at = pick ((tells.keeps.sound.keeps.bulk knows.sound still).each path device at)
+between_bulk : {a b : HostState} → LiesBetween a b → Knows a → b.world.fault ≡ None
+    → (path : List ℕ) (device : Accepted) → accepted_device_at path b.entries ≡ Some device
+    → StayedAt path device a b ⊎ ((done : Round) × RoundTells a (Ok done) b
+    × RenewedAt path device a b)
+between_bulk {a} {b} (round done tells) knows still path device at =
+    pick ((tells.keeps.sound.keeps.bulk knows.sound still).each path device at)
   where
-    pick : StayedAt path device a b ⊎ RenewedAt path device a b → StayedAt path device a b ⊎ ((done : Round) × RoundTells a (Ok done) b × RenewedAt path device a b)
+    pick : StayedAt path device a b ⊎ RenewedAt path device a b → StayedAt path device a b
+        ⊎ ((done : Round) × RoundTells a (Ok done) b × RenewedAt path device a b)
     pick (inl stayed) = inl stayed
     pick (inr renewed) = inr (done, tells, renewed)
 between_bulk {a} {b} (silent due comes is) knows still path device at =
     inl (stayed_came (Some due) a b comes path device at)
-between_bulk {a} {b} (last comes) knows still path device at = inl (stayed_came None a b comes path device at)
-between_bulk {a} {b} (wrote text puts) knows still path device at = inl (wrote_stays text a b puts path device at)
+between_bulk {a} {b} (last comes) knows still path device at =
+    inl (stayed_came None a b comes path device at)
+between_bulk {a} {b} (wrote text puts) knows still path device at =
+    inl (wrote_stays text a b puts path device at)
 
 -- A stretch
 
 module _ (path : List ℕ) (device : Accepted) where
-  stood_on : {old h new : HostState} {told : List ToldItem} → Stretch old told h → LiesBetween h new → Knows h → new.world.fault ≡ None → accepted_device_at path new.entries ≡ Some device
-      → (accepted_device_at path h.entries ≡ Some device → StoodOrFound path device told old h) → StoodOrFound path device told old new
-  stood_on {old} {h} {new} {told} before between knows still at earlier = pick (between_bulk between knows still path device at)
+  stood_on : {old h new : HostState} {told : List ToldItem} → Stretch old told h → LiesBetween h new
+      → Knows h → new.world.fault ≡ None → accepted_device_at path new.entries ≡ Some device
+      → (accepted_device_at path h.entries ≡ Some device → StoodOrFound path device told old h)
+      → StoodOrFound path device told old new
+  stood_on {old} {h} {new} {told} before between knows still at earlier =
+      pick (between_bulk between knows still path device at)
     where
-      later : StayedAt path device h new → StoodOrFound path device told old h → StoodOrFound path device told old new
+      later : StayedAt path device h new → StoodOrFound path device told old h
+          → StoodOrFound path device told old new
       later stayed (inl stood) = inl (stayed_stands path device told old h new stood stayed)
       later stayed (inr f) = inr (record {
         earlier = f.earlier;
@@ -144,7 +197,8 @@ module _ (path : List ℕ) (device : Accepted) where
         all = f.all;
       })
 
-      pick : StayedAt path device h new ⊎ ((done : Round) × RoundTells h (Ok done) new × RenewedAt path device h new) → StoodOrFound path device told old new
+      pick : StayedAt path device h new ⊎ ((done : Round) × RoundTells h (Ok done) new
+          × RenewedAt path device h new) → StoodOrFound path device told old new
       pick (inl stayed) = later stayed (earlier stayed.listed)
       pick (inr anew) = inr (record {
         earlier = told;
@@ -161,20 +215,29 @@ module _ (path : List ℕ) (device : Accepted) where
         all = refl;
       })
 
-  stood_more : {old h mid new : HostState} {told : List ToldItem} (due : Option Ask) (item : Item) → Settled h → Comes h (Ok (Some due)) mid → IsItemOf due (Some item) mid new → accepted_device_at path new.entries ≡ Some device
-      → (accepted_device_at path h.entries ≡ Some device → StoodOrFound path device told old h) → StoodOrFound path device (record { due = due; asked = mid; item = item } ∷ told) old new
-  stood_more {old} {h} {mid} {new} {told} due item settled comes is at earlier = later (earlier stayed.listed)
+  stood_more : {old h mid new : HostState} {told : List ToldItem} (due : Option Ask) (item : Item)
+      → Settled h → Comes h (Ok (Some due)) mid → IsItemOf due (Some item) mid new
+      → accepted_device_at path new.entries ≡ Some device
+      → (accepted_device_at path h.entries ≡ Some device → StoodOrFound path device told old h)
+      → StoodOrFound path device (record { due = due; asked = mid; item = item } ∷ told) old new
+  stood_more {old} {h} {mid} {new} {told} due item settled comes is at earlier =
+      later (earlier stayed.listed)
     where
       moves : MovesAt path device due item mid new
-      moves = item_moves path device mid new at (arrival_knows h mid (Some due) comes settled.knows) (came_still (Some due) h.world mid.world comes.takes.took.ends) (came_running h mid (Some due) comes ∙ settled.running) due item is
+      moves = item_moves path device mid new at (arrival_knows h mid (Some due) comes settled.knows)
+          (came_still (Some due) h.world mid.world comes.takes.took.ends)
+          (came_running h mid (Some due) comes ∙ settled.running) due item is
 
       stayed : StayedAt path device h mid
       stayed = stayed_came (Some due) h mid comes path device moves.listed
 
-      on_to : (since : List ToldItem) (from : HostState) → StoodAt path device since from h → StoodAt path device (record { due = due; asked = mid; item = item } ∷ since) from new
-      on_to since from stood = moved_stands path device since due item from mid new (stayed_stands path device since from h mid stood stayed) moves
+      on_to : (since : List ToldItem) (from : HostState) → StoodAt path device since from h
+          → StoodAt path device (record { due = due; asked = mid; item = item } ∷ since) from new
+      on_to since from stood = moved_stands path device since due item from mid new
+          (stayed_stands path device since from h mid stood stayed) moves
 
-      later : StoodOrFound path device told old h → StoodOrFound path device (record { due = due; asked = mid; item = item } ∷ told) old new
+      later : StoodOrFound path device told old h
+          → StoodOrFound path device (record { due = due; asked = mid; item = item } ∷ told) old new
       later (inl stood) = inl (on_to told old stood)
       later (inr f) = inr (record {
         earlier = f.earlier;
@@ -191,14 +254,20 @@ module _ (path : List ℕ) (device : Accepted) where
         all = ap (λ l. record { due = due; asked = mid; item = item } ∷ l) f.all;
       })
 
-  stood : {old new : HostState} {told : List ToldItem} → Stretch old told new → Knows old → new.world.fault ≡ None → accepted_device_at path new.entries ≡ Some device → StoodOrFound path device told old new
+  stood : {old new : HostState} {told : List ToldItem} → Stretch old told new → Knows old
+      → new.world.fault ≡ None → accepted_device_at path new.entries ≡ Some device
+      → StoodOrFound path device told old new
   stood {old} begun knows still at = inl (stood_none path device old knows still at)
   stood (further {h = h} {new = new} before between) knows still at =
-      stood_on before between (stretch_knows before knows) still at (stood before knows ((between_onward between) still).sound)
+      stood_on before between (stretch_knows before knows) still at
+      (stood before knows ((between_onward between) still).sound)
   stood (more {h = h} {mid = mid} {new = new} due item before settled comes is) knows still at =
       let mid_still = (item_onward due (Some item) mid new is still).sound in
-      stood_more due item settled comes is at (stood before knows (comes_onward comes mid_still).sound)
+      stood_more due item settled comes is at
+      (stood before knows (comes_onward comes mid_still).sound)
 
-pub stood_or_found : (old new : HostState) (told : List ToldItem) → Stretch old told new → Knows old → new.world.fault ≡ None → (path : List ℕ) (device : Accepted) → accepted_device_at path new.entries ≡ Some device
+pub stood_or_found : (old new : HostState) (told : List ToldItem) → Stretch old told new → Knows old
+    → new.world.fault ≡ None → (path : List ℕ) (device : Accepted)
+    → accepted_device_at path new.entries ≡ Some device
     → StoodOrFound path device told old new
 stood_or_found old new told t knows still path device at = stood path device t knows still at

@@ -1,5 +1,7 @@
--- What the device at a path takes and gives over a stretch of a run: transfers join end to end (5.8).
-use Rattle.std.specs.Prelude.{◌≡◌, ◌⊎◌, ⊤, ℕ, ◌+◌, List, [], ◌∷◌, ◌++◌, length, take, drop, Bool, true, false, if◌then◌else◌, Option, None, Some, Ok, is_ok}
+-- What the device at a path takes and gives over a stretch of a run: transfers join end to end
+-- (5.8).
+use Rattle.std.specs.Prelude.{◌≡◌, ◌⊎◌, ⊤, ℕ, ◌+◌, List, [], ◌∷◌, ◌++◌, length, take, drop, Bool}
+use Rattle.std.specs.Prelude.{true, false, if◌then◌else◌, Option, None, Some, Ok, is_ok}
 use Rattle.std.specs.BTreeMap.{is_at}
 use Rattle.std.specs.List.{AllByRecursion}
 use Rattle.usb_port.specs.Order.{path_cmp}
@@ -67,24 +69,31 @@ IsAtWork (Some pipe) = pipe.condition ≡ Ready
 -- these bytes joined what went before, or a front of them
 abbrev pub Joins : Bool → List ℕ → List ℕ → List ℕ → Type 0
 Joins true bytes before after = after ≡ before ++ bytes
-Joins false bytes before after = (front : List ℕ) × (rest : List ℕ) × (bytes ≡ front ++ rest) × (after ≡ before ++ front)
+Joins false bytes before after = (front : List ℕ) × (rest : List ℕ) × (bytes ≡ front ++ rest)
+    × (after ≡ before ++ front)
 
--- these bytes of the sends to a path were taken, end to end: all bytes of each that is told done, and a front of those of each that failed
+-- these bytes of the sends to a path were taken, end to end: all bytes of each that is told done,
+-- and a front of those of each that failed
 unfoldable pub AreTaken : List ℕ → List ToldItem → List ℕ → Type 0
 AreTaken path [] taken = taken ≡ []
-AreTaken path (t ∷ told) taken = (before : List ℕ) × AreTaken path told before × Joins (is_done t.item) (bytes_for path t.due) before taken
+AreTaken path (t ∷ told) taken = (before : List ℕ) × AreTaken path told before
+    × Joins (is_done t.item) (bytes_for path t.due) before taken
 
 -- none, or a front of the bytes of a send to the path that failed
 unfoldable pub IsFailedFront : List ℕ → List ToldItem → List ℕ → Type 0
 IsFailedFront path [] front = front ≡ []
-IsFailedFront path (t ∷ told) front = ((is_done t.item ≡ false) × ((rest : List ℕ) × (bytes_for path t.due ≡ front ++ rest))) ⊎ IsFailedFront path told front
+IsFailedFront path (t ∷ told) front = ((is_done t.item ≡ false)
+    × ((rest : List ℕ) × (bytes_for path t.due ≡ front ++ rest))) ⊎ IsFailedFront path told front
 
 -- a clear of the path found its OUT pipe at work, if there was one, and left it alone
 abbrev pub ClearsNoOut : List ℕ → ToldItem → Type 0
-ClearsNoOut path t = t.due ≡ Some (Clear path) → IsAtWork (pipe_out (pipes_at path (table_in t.asked)))
+ClearsNoOut path t = t.due ≡ Some (Clear path)
+    → IsAtWork (pipe_out (pipes_at path (table_in t.asked)))
 
--- the sends that are told done are, end to end, what the sink got, with at most a front of a failed one behind them, and none where the pipe works still
-pub record TookSent (path : List ℕ) (told : List ToldItem) (left : Option Bulk) (s v : State) : Type 0 where
+-- the sends that are told done are, end to end, what the sink got, with at most a front of a failed
+-- one behind them, and none where the pipe works still
+pub record TookSent (path : List ℕ) (told : List ToldItem) (left : Option Bulk) (s v : State) :
+    Type 0 where
   pub front : List ℕ
   pub failed : IsFailedFront path told front
   pub sink : v.sink ≡ s.sink ++ (sent_to path told ++ front)
@@ -94,11 +103,14 @@ pub record TookSent (path : List ℕ) (told : List ToldItem) (left : Option Bulk
 
 -- a clear of the path found its IN pipe at work, if there was one, and left it alone
 abbrev pub ClearsNoIn : List ℕ → ToldItem → Type 0
-ClearsNoIn path t = t.due ≡ Some (Clear path) → IsAtWork (pipe_in (pipes_at path (table_in t.asked)))
+ClearsNoIn path t = t.due ≡ Some (Clear path)
+    → IsAtWork (pipe_in (pipes_at path (table_in t.asked)))
 
--- through a pipe that had got some number of bytes of the device's source these came, which are the next ones; the pipe has got so many more
+-- through a pipe that had got some number of bytes of the device's source these came, which are the
+-- next ones; the pipe has got so many more
 pub record GaveNext (bytes : List ℕ) (pipe left : Bulk) (s v : State) : Type 0 where
-  pub next : (got : ℕ) → InPipeInSync pipe got s → bytes ≡ take (length bytes) (drop got s.spec.source)
+  pub next : (got : ℕ) → InPipeInSync pipe got s
+      → bytes ≡ take (length bytes) (drop got s.spec.source)
   pub has : (got : ℕ) → InPipeInSync pipe got s → InPipeInSync left (got + length bytes) v
 
 -- without a pipe none came
@@ -109,32 +121,43 @@ GaveNextBy bytes (Some pipe) (Some left) s v = GaveNext bytes pipe left s v
 
 -- A device over a stretch
 
--- the device at a path took what was sent and gave the next bytes of its source, as long as no halt of the endpoint is cleared; over clears too each send
--- that is told done was taken whole, and of each that failed a front; its IN pipe had got some number of bytes, and its description stays
-pub record Streams (path : List ℕ) (told : List ToldItem) (pipes left : Pipes) (s v : State) : Type 0 where
+-- the device at a path took what was sent and gave the next bytes of its source, as long as no halt
+-- of the endpoint is cleared; over clears too each send
+-- that is told done was taken whole, and of each that failed a front; its IN pipe had got some
+-- number of bytes, and its description stays
+pub record Streams (path : List ℕ) (told : List ToldItem) (pipes left : Pipes) (s v : State) :
+    Type 0 where
   pub took : AllByRecursion (ClearsNoOut path) told → TookSent path told (pipe_out left) s v
   pub sink : (taken : List ℕ) × AreTaken path told taken × (v.sink ≡ s.sink ++ taken)
   pub had : FitsIn (pipe_in pipes) s
-  pub gave : AllByRecursion (ClearsNoIn path) told → GaveNextBy (received_from path told) (pipe_in pipes) (pipe_in left) s v
+  pub gave : AllByRecursion (ClearsNoIn path) told
+      → GaveNextBy (received_from path told) (pipe_in pipes) (pipe_in left) s v
   pub spec : v.spec ≡ s.spec
 
--- so it is of the device that is reached at a path in the new world, which was reached there in the old one
+-- so it is of the device that is reached at a path in the new world, which was reached there in the
+-- old one
 abbrev pub StreamsAt : List ℕ → (State → State → Type 0) → HostState → HostState → Type 0
-StreamsAt path So old new = (x : Location) (v : State) → path ≡ path_to x → reach_on new.world.roots x ≡ true → state_on new.world.roots x ≡ Some v
+StreamsAt path So old new = (x : Location) (v : State) → path ≡ path_to x
+    → reach_on new.world.roots x ≡ true → state_on new.world.roots x ≡ Some v
     → Was (λ y s v. So s v) old.world x v
 
 -- the accepted device at a path stood there from the beginning of a stretch
-pub record StoodAt (path : List ℕ) (device : Accepted) (told : List ToldItem) (old new : HostState) : Type 0 where
+pub record StoodAt (path : List ℕ) (device : Accepted) (told : List ToldItem)
+    (old new : HostState) : Type 0 where
   pub listed : accepted_device_at path old.entries ≡ Some device
-  pub streams : StreamsAt path (Streams path told (pipes_at path (table_in old)) (pipes_at path (table_in new))) old new
+  pub streams : StreamsAt path (Streams path told (pipes_at path (table_in old))
+      (pipes_at path (table_in new))) old new
 
--- the IN pipe to the device that is reached at a path has got as many bytes of its source as the device counts
+-- the IN pipe to the device that is reached at a path has got as many bytes of its source as the
+-- device counts
 abbrev pub StartsAt : List ℕ → HostState → Type 0
-StartsAt path h = (x : Location) (s : State) (pipe : Bulk) → path ≡ path_to x → reach_on h.world.roots x ≡ true → state_on h.world.roots x ≡ Some s
+StartsAt path h = (x : Location) (s : State) (pipe : Bulk) → path ≡ path_to x
+    → reach_on h.world.roots x ≡ true → state_on h.world.roots x ≡ Some s
     → pipe_in (pipes_at path (table_in h)) ≡ Some pipe → InPipeInSync pipe s.place s
 
 -- it was found anew in a round of the stretch, and stood there since
-pub record FoundSince (path : List ℕ) (device : Accepted) (told : List ToldItem) (old new : HostState) : Type 0 where
+pub record FoundSince (path : List ℕ) (device : Accepted) (told : List ToldItem)
+    (old new : HostState) : Type 0 where
   pub earlier : List ToldItem
   pub before : HostState
   pub up_to : Stretch old earlier before
@@ -149,4 +172,5 @@ pub record FoundSince (path : List ℕ) (device : Accepted) (told : List ToldIte
   pub all : since ++ earlier ≡ told
 
 abbrev pub StoodOrFound : List ℕ → Accepted → List ToldItem → HostState → HostState → Type 0
-StoodOrFound path device told old new = StoodAt path device told old new ⊎ FoundSince path device told old new
+StoodOrFound path device told old new = StoodAt path device told old new
+    ⊎ FoundSince path device told old new

@@ -24,8 +24,8 @@ pub fn transfers_join()
         → StoodOrFound path device told old new }
 {}
 
-/// A run is a stretch, in which the items that events asked for are told; where it is over, its last listing stands behind
-/// them.
+/// A run is a stretch, in which the items that events asked for are told; where it is over, its last listing stands
+/// behind them.
 pub fn runs_are_stretches()
     ensures { (mode : Mode) (old new : HostState) (items : List Item) (over : Bool)
         → Transcript mode false old items over new → IsStretch items over old new }

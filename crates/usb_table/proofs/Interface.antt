@@ -2,9 +2,12 @@
 pub use Rattle.usb_table.proofs.transfers.Collections.{received_collects}
 pub use Rattle.usb_table.proofs.transfers.Deliveries.{sent_delivers}
 pub use Rattle.usb_table.proofs.entries.NewEntries.{has_its}
-pub use Rattle.usb_table.proofs.entries.EnteredFindings.{level_beside, level_entered, pipes_at-entered, pipes_at-entered_elsewhere}
+pub use Rattle.usb_table.proofs.entries.EnteredFindings.{level_beside, level_entered}
+pub use Rattle.usb_table.proofs.entries.EnteredFindings.{pipes_at-entered}
+pub use Rattle.usb_table.proofs.entries.EnteredFindings.{pipes_at-entered_elsewhere}
 pub use Rattle.usb_table.proofs.levels.FittingPipes.{still_source}
-pub use Rattle.usb_table.proofs.levels.Levels.{address_found, all_kept, held_address, level_elsewhere, level_stays, entry_address-one_path}
+pub use Rattle.usb_table.proofs.levels.Levels.{address_found, all_kept, held_address}
+pub use Rattle.usb_table.proofs.levels.Levels.{level_elsewhere, level_stays, entry_address-one_path}
 pub use Rattle.usb_table.proofs.entries.Paths.{path_itself, path_tied}
 pub use Rattle.usb_table.proofs.listings.PlannedListing.{lists_of_plan}
 pub use Rattle.usb_table.proofs.entries.Ports.{FoundPort, known_port-without, port_found-some}

@@ -1,5 +1,6 @@
 -- A call one way tries nothing, or goes through the pipe of that way to the device that was found.
-use Rattle.std.proofs.Common.{◌≡◌, refl, sym, ap, subst, ◌||◌, Bool, true, false, ℕ, Option, None, Some, Result, Err}
+use Rattle.std.proofs.Common.{◌≡◌, refl, sym, ap, subst, ◌||◌, Bool, true, false, ℕ, Option, None}
+use Rattle.std.proofs.Common.{Some, Result, Err}
 use Rattle.std.specs.Prelude.{not, is_some, IfSome}
 use Rattle.usb_world.specs.World.{World}
 use Rattle.usb_pipe.specs.Bulk.{Bulk}
@@ -15,7 +16,9 @@ use Rattle.usb_table.specs.declared.pipes.Pipes.TheVariants.{Hub, Function, Abse
 use Rattle.usb_table.specs.Deliveries.{pipe_in, pipe_out}
 use Rattle.usb_table.specs.Findings.{out_endpoint, in_endpoint}
 use Rattle.usb_table.specs.Pipes.{IsBulkPipe, IsPipe, ArePipesIf, ArePipesOf, ArePipesTo}
-use Rattle.usb_table.specs.Transfers.{ClearedIf, ClearedInOrder, EndpointFaultAllowed, NotTried, PipeDid, PipesCleared, PipesThrough, ThroughIf, both_sides, one_side}
+use Rattle.usb_table.specs.Transfers.{ClearedIf, ClearedInOrder, EndpointFaultAllowed, NotTried}
+use Rattle.usb_table.specs.Transfers.{PipeDid, PipesCleared, PipesThrough, ThroughIf, both_sides}
+use Rattle.usb_table.specs.Transfers.{one_side}
 
 -- The pipe of one way
 
@@ -88,7 +91,8 @@ if_found P R (Some device) below_hub absent there pipes left are x =
 -- The two cases of a call one way
 
 module _ {A : Type 0} (is_in : Bool) (So : PipeDid A) (old : World)
-    (result : Result A EndpointFault) (new : World) (found : Option Accepted) (below_hub : Bool) (R : Pipes → Pipes → Type 0)
+    (result : Result A EndpointFault) (new : World) (found : Option Accepted) (below_hub : Bool)
+    (R : Pipes → Pipes → Type 0)
     (idle : (pipes : Pipes) (fault : EndpointFault) → pipe_by is_in pipes ≡ None
     → ((w : World) → EndpointFaultAllowed fault w) → result ≡ Err fault → new ≡ old → R pipes pipes)
     (went : (device : Accepted) (endpoint : ℕ × ℕ) (pipe left : Bulk) (other : Option Bulk)
@@ -143,7 +147,8 @@ module _ (old : World) (result : Result (Unit {0}) EndpointFault) (new : World)
     → IsPipe device false (out_endpoint device) pipes.out
     → IsPipe device true (in_endpoint device) pipes.into
     → ClearedInOrder pipes old result left new → R (Function pipes) (Function left)) where
-  both_idle : (pipes left : Pipes) (fault : EndpointFault) → ((w : World) → EndpointFaultAllowed fault w)
+  both_idle : (pipes left : Pipes) (fault : EndpointFault)
+      → ((w : World) → EndpointFaultAllowed fault w)
       → NotTried fault pipes old result left new → R pipes left
   both_idle pipes left fault told x = subst (R pipes) (sym x.1) (idle pipes fault told x.0 x.2)
 

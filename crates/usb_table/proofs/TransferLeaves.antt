@@ -1,5 +1,7 @@
 -- What a transfer through the pipes to what was found at a path leaves.
-use Rattle.std.proofs.Common.{◌≡◌, ◌≢◌, ◌⊎◌, ◌∙◌, inl, inr, refl, sym, ap, subst, arith, ℕ, ◌*◌, ◌≤◌, List, length, Bool, true, false, Option, Some, None, Result, Ok, Err}
+use Rattle.std.proofs.Common.{◌≡◌, ◌≢◌, ◌⊎◌, ◌∙◌, inl, inr, refl, sym, ap, subst, arith, ℕ, ◌*◌}
+use Rattle.std.proofs.Common.{◌≤◌, List, length, Bool, true, false, Option, Some, None, Result, Ok}
+use Rattle.std.proofs.Common.{Err}
 use Rattle.std.proofs.lemmas.Grind.{common_steps}
 use Rattle.std.specs.Global.{Vec}
 use Rattle.std.specs.Int.{div_ceil}
@@ -25,11 +27,16 @@ use Rattle.usb_table.specs.KnownPorts.{is_below_hub}
 use Rattle.usb_table.specs.Levels.{TableClears, TableReceives, TableSends, Transferred}
 use Rattle.usb_table.specs.Pipes.{IsBulkPipe, ArePipesIf}
 use Rattle.usb_table.specs.Table.{Table, GoesThrough, pipes_at}
-use Rattle.usb_table.specs.Transfers.{ClearedAfter, ClearedBy, EndpointFaultAllowed, OnlyTransfers, PipeFaultAllowed, PipeDid, PipesCleared, PipesReceived, PipesSent, PipesThrough, ReceivedThrough, SameSettings, SentThrough, both_sides, endpoint_answer}
-use Rattle.usb_table.proofs.transfers.DevicesKept.{PipeKeeps, clear_keeps, receive_keeps, same_spares, send_keeps}
+use Rattle.usb_table.specs.Transfers.{ClearedAfter, ClearedBy, EndpointFaultAllowed, OnlyTransfers}
+use Rattle.usb_table.specs.Transfers.{PipeFaultAllowed, PipeDid, PipesCleared, PipesReceived}
+use Rattle.usb_table.specs.Transfers.{PipesSent, PipesThrough, ReceivedThrough, SameSettings}
+use Rattle.usb_table.specs.Transfers.{SentThrough, both_sides, endpoint_answer}
+use Rattle.usb_table.proofs.transfers.DevicesKept.{PipeKeeps, clear_keeps, receive_keeps}
+use Rattle.usb_table.proofs.transfers.DevicesKept.{same_spares, send_keeps}
 use Rattle.usb_table.proofs.levels.KeptPipes.{ready_or_not}
 use Rattle.usb_table.proofs.levels.Levels.{moved_levels, still_levels}
-use Rattle.usb_table.proofs.levels.MovedPipes.{EachMoves, far_end, receive_each, send_each, some_bytes}
+use Rattle.usb_table.proofs.levels.MovedPipes.{EachMoves, far_end, receive_each, send_each}
+use Rattle.usb_table.proofs.levels.MovedPipes.{some_bytes}
 use Rattle.usb_table.proofs.transfers.Restarts.{cleared_single, in_turn_moves}
 use Rattle.usb_table.proofs.ThroughPipes.{through_both, through_pipes}
 
@@ -173,7 +180,8 @@ done_or_same (Some pipe) (Some left) old done new x = elim (ready_or_not pipe.co
 
 -- what is so of the worlds, and of the fault
 abbrev LeftAndTold : World → Result (Unit {0}) EndpointFault → World → Type 0
-LeftAndTold old result new = OnlyTransfers old new × IfErr result (λ fault. EndpointFaultAllowed fault new)
+LeftAndTold old result new = OnlyTransfers old new
+    × IfErr result (λ fault. EndpointFaultAllowed fault new)
 
 cleared_in_order : (first : Result (Unit {0}) PipeFault) (out out_left into into_left : Option Bulk)
     (old mid : World) (result : Result (Unit {0}) EndpointFault) (new : World)
@@ -209,7 +217,8 @@ clears_leave : (old : World) (result : Result (Unit {0}) EndpointFault) (new : W
 clears_leave old result new found few below_hub =
     through_both old result new found below_hub
     (λ p l. LeavesTransfer (2 * write_bound) found p old result l new)
-    (λ pipes fault told. idle_transfer_leaves (2 * write_bound) found pipes old result new fault told)
+    (λ pipes fault told. idle_transfer_leaves (2 * write_bound) found pipes old result new fault
+    told)
     (λ device pipes left e out into x.
     let so =
     cleared_in_order x.first pipes.out left.out pipes.into left.into old x.mid result new x.out

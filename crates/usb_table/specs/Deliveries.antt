@@ -1,5 +1,6 @@
 -- What transfers to the device at a path leave of the devices (5.8).
-use Rattle.std.specs.Prelude.{◌≡◌, ◌≢◌, ◌⊎◌, ℕ, ◌+◌, List, [], ◌++◌, length, take, drop, Bool, true, false, Option, Some, None, Result, Ok, Err, IsSome}
+use Rattle.std.specs.Prelude.{◌≡◌, ◌≢◌, ◌⊎◌, ℕ, ◌+◌, List, [], ◌++◌, length, take, drop, Bool, true}
+use Rattle.std.specs.Prelude.{false, Option, Some, None, Result, Ok, Err, IsSome}
 use Rattle.std.specs.Global.{Vec}
 use Rattle.usb_device.specs.declared.bulk.EndpointState.{EndpointState}
 use Rattle.usb_device.specs.Bulk.{rested}
@@ -30,7 +31,8 @@ pipe_in Absent = None
 
 -- The device at the path
 
--- these bytes joined what it had taken, each once and in order; where the transfer failed, a front of them
+-- these bytes joined what it had taken, each once and in order; where the transfer failed, a front
+-- of them
 abbrev pub JoinsSink : Bool → List ℕ → State → State → Type 0
 JoinsSink true bytes s v = v.sink ≡ s.sink ++ bytes
 JoinsSink false bytes s v = FrontTaken bytes s v
@@ -40,11 +42,13 @@ pub record TookBytes (done : Bool) (bytes : List ℕ) (s v : State) : Type 0 whe
   pub joins : JoinsSink done bytes s v
   pub rest : OnlySink s v
 
--- through a pipe that had got some number of bytes of its source it gave these, which are the next ones; the pipe that is left has got so many more, and
+-- through a pipe that had got some number of bytes of its source it gave these, which are the next
+-- ones; the pipe that is left has got so many more, and
 -- nothing else of the device changed
 pub record GaveBytes (bytes : List ℕ) (pipe left : Bulk) (s v : State) : Type 0 where
   pub had : FitsIn (Some pipe) s
-  pub next : (got : ℕ) → InPipeInSync pipe got s → bytes ≡ take (length bytes) (drop got s.spec.source)
+  pub next : (got : ℕ) → InPipeInSync pipe got s
+      → bytes ≡ take (length bytes) (drop got s.spec.source)
   pub has : (got : ℕ) → InPipeInSync pipe got s → InPipeInSync left (got + length bytes) v
   pub rest : OnlySource s v
 
@@ -59,12 +63,15 @@ GaveBy bytes None left s v = (bytes ≡ []) × (v ≡ s)
 GaveBy bytes (Some pipe) None s v = ⊥
 GaveBy bytes (Some pipe) (Some left) s v = GaveBytes bytes pipe left s v
 
--- the halt of a pipe was cleared: a pipe that works is left alone, and so is its endpoint; where the clear is done, both ends of any other pipe begin
+-- the halt of a pipe was cleared: a pipe that works is left alone, and so is its endpoint; where
+-- the clear is done, both ends of any other pipe begin
 -- again together; where it failed, the endpoint is as it was or has begun again
-pub record HaltCleared (done : Bool) (pipe left : Bulk) (before after : EndpointState) : Type 0 where
-  pub works : pipe.condition ≡ Ready → (left ≡ pipe) × (after ≡ before)
-  pub begun : done ≡ true → pipe.condition ≢ Ready → (left ≡ cleared pipe (Ok tt)) × (after ≡ rested)
-  pub either : (after ≡ before) ⊎ (after ≡ rested)
+pub record HaltCleared (done : Bool) (pipe left : Bulk) (before after : EndpointState) : Type 0
+  where
+    pub works : pipe.condition ≡ Ready → (left ≡ pipe) × (after ≡ before)
+    pub begun : done ≡ true → pipe.condition ≢ Ready → (left ≡ cleared pipe (Ok tt))
+        × (after ≡ rested)
+    pub either : (after ≡ before) ⊎ (after ≡ rested)
 
 -- the endpoint stays where there is no pipe
 abbrev pub HaltClearedBy : Bool → Option Bulk → Option Bulk → EndpointState → EndpointState → Type 0
@@ -72,7 +79,8 @@ HaltClearedBy done None left before after = after ≡ before
 HaltClearedBy done (Some pipe) None before after = ⊥
 HaltClearedBy done (Some pipe) (Some left) before after = HaltCleared done pipe left before after
 
--- so it is of the pipe of each direction, and no byte moved; the pipes that are left are as far as their endpoints
+-- so it is of the pipe of each direction, and no byte moved; the pipes that are left are as far as
+-- their endpoints
 pub record HaltsCleared (done : Bool) (pipes left : Pipes) (s v : State) : Type 0 where
   pub sink : v.sink ≡ s.sink
   pub place : v.place ≡ s.place
@@ -83,25 +91,35 @@ pub record HaltsCleared (done : Bool) (pipes left : Pipes) (s v : State) : Type 
 -- All devices
 
 -- so it is of the one at the path, and any other is as it was
-pub record ChangesAt (path : List ℕ) (So : State → State → Type 0) (x : Location) (s v : State) : Type 0 where
+pub record ChangesAt (path : List ℕ) (So : State → State → Type 0) (x : Location) (s v : State) :
+    Type 0 where
   pub itself : path ≡ path_to x → So s v
   pub others : path ≢ path_to x → v ≡ s
 
--- each that is reached was reached before; a transfer did so much to the one at the path, and is done only where a device is known there
-pub record TransfersAt (path : List ℕ) (done : Bool) (So : State → State → Type 0) (old : Table) (before after : World) : Type 0 where
+-- each that is reached was reached before; a transfer did so much to the one at the path, and is
+-- done only where a device is known there
+pub record TransfersAt (path : List ℕ) (done : Bool) (So : State → State → Type 0) (old : Table)
+    (before after : World) : Type 0 where
   pub each : EachWas (ChangesAt path So) before after
   pub known : done ≡ true → IsSome (accepted_device_at path old.entries)
 
--- bytes were sent to the path: the device there took them, and where some are told done, one is reached there
-pub record Delivered (path : List ℕ) (done : Bool) (bytes : List ℕ) (old : Table) (before : World) (new : Table) (after : World) : Type 0 where
+-- bytes were sent to the path: the device there took them, and where some are told done, one is
+-- reached there
+pub record Delivered (path : List ℕ) (done : Bool) (bytes : List ℕ) (old : Table) (before : World)
+    (new : Table) (after : World) : Type 0 where
   pub took : TransfersAt path done (TookBytes done bytes) old before after
   pub there : done ≡ true → bytes ≢ [] → reach after.roots path ≡ true
 
--- so many packets were asked for, and these bytes came: the device there gave them, and where some packets are told done, one is reached there
-pub record Collected (path : List ℕ) (done : Bool) (packets : ℕ) (bytes : List ℕ) (old : Table) (before : World) (new : Table) (after : World) : Type 0 where
-  pub gave : TransfersAt path done (GaveBy bytes (pipe_in (pipes_at path old)) (pipe_in (pipes_at path new))) old before after
+-- so many packets were asked for, and these bytes came: the device there gave them, and where some
+-- packets are told done, one is reached there
+pub record Collected (path : List ℕ) (done : Bool) (packets : ℕ) (bytes : List ℕ) (old : Table)
+    (before : World) (new : Table) (after : World) : Type 0 where
+  pub gave : TransfersAt path done (GaveBy bytes (pipe_in (pipes_at path old))
+      (pipe_in (pipes_at path new))) old before after
   pub there : done ≡ true → packets ≢ 0 → reach after.roots path ≡ true
 
 -- the halts of the device there were cleared
 abbrev pub Restarted : List ℕ → Bool → Table → World → Table → World → Type 0
-Restarted path done old before new after = TransfersAt path done (HaltsCleared done (pipes_at path old) (pipes_at path new)) old before after
+Restarted path done old before new after =
+    TransfersAt path done (HaltsCleared done (pipes_at path old) (pipes_at path new)) old before
+    after

@@ -24,7 +24,8 @@ without path entries = filter (λ e. not (is_at_or_below e.0 path)) entries
 
 -- at most one entry is new, at the path
 abbrev pub Replaced : List ℕ → Entries → Entries → Type 0
-Replaced path old new = (new ≡ old) ⊎ ((finding : Finding) × (new ≡ insert_entry path_cmp old path finding))
+Replaced path old new = (new ≡ old) ⊎ ((finding : Finding)
+    × (new ≡ insert_entry path_cmp old path finding))
 
 -- the paths rise
 abbrev pub Rises : Entries → Type 0

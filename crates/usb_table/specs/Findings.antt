@@ -1,5 +1,6 @@
 -- What was found at a port, as the table needs it.
-use Rattle.std.specs.Prelude.{◌≡◌, ◌≢◌, ⊤, ℕ, List, Bool, true, false, nat_eq, Option, Some, None, is_some, if◌then◌else◌}
+use Rattle.std.specs.Prelude.{◌≡◌, ◌≢◌, ⊤, ℕ, List, Bool, true, false, nat_eq, Option, Some, None}
+use Rattle.std.specs.Prelude.{is_some, if◌then◌else◌}
 use Rattle.std.specs.BTreeMap.{is_at}
 use Rattle.std.specs.List.{count_by}
 use Rattle.std.specs.Map.{lookup}
@@ -45,7 +46,8 @@ pub record HasDevice (address : ℕ) (finding : Finding) (entries : Entries) : T
 
 -- and at none
 abbrev pub HasNoDevice : ℕ → Entries → Type 0
-HasNoDevice address entries = (path : List ℕ) (finding : Finding) → lookup (is_at (path_cmp path)) entries ≡ Some finding → address_found finding ≢ Some address
+HasNoDevice address entries = (path : List ℕ) (finding : Finding)
+    → lookup (is_at (path_cmp path)) entries ≡ Some finding → address_found finding ≢ Some address
 
 -- an accepted hub
 abbrev pub is_hub : Finding → Bool
@@ -81,10 +83,12 @@ at_full_speed low endpoint = if low then None else endpoint
 
 -- number and maximum of the bulk endpoints of a function
 abbrev pub out_endpoint : Accepted → Option (ℕ × ℕ)
-out_endpoint device = if is_some device.hub then None else at_full_speed device.low (bulk_out_of (configuration_of device))
+out_endpoint device = if is_some device.hub then None else at_full_speed device.low
+    (bulk_out_of (configuration_of device))
 
 abbrev pub in_endpoint : Accepted → Option (ℕ × ℕ)
-in_endpoint device = if is_some device.hub then None else at_full_speed device.low (bulk_in_of (configuration_of device))
+in_endpoint device = if is_some device.hub then None else at_full_speed device.low
+    (bulk_in_of (configuration_of device))
 
 -- the accepted device at a path, if there is one
 abbrev pub accepted_device_at : List ℕ → Entries → Option Accepted

@@ -1,5 +1,6 @@
 -- The keys under which entries are kept, and the two indexes of them.
-use Rattle.std.specs.Prelude.{◌≡◌, ◌↔◌, ℕ, List, map, Option, Some, None, IsSome, unwrap_or, option_map, if◌then◌else◌}
+use Rattle.std.specs.Prelude.{◌≡◌, ◌↔◌, ℕ, List, map, Option, Some, None, IsSome, unwrap_or}
+use Rattle.std.specs.Prelude.{option_map, if◌then◌else◌}
 use Rattle.std.specs.BTreeMap.{is_at, insert_entry}
 use Rattle.std.specs.List.Sorted.{IsStrictlySortedBy}
 use Rattle.std.specs.Map.{keys_of, lookup, remove_entry}
@@ -60,7 +61,11 @@ abbrev pub entries_of : Slots → PathKeys → Entries
 entries_of found paths = values_by_path (Refused Silent) found paths
 
 abbrev pub table_of : TableSlots → PathKeys → Table
-table_of standings paths = record { entries = entries_of (findings standings) paths; pipes = values_by_path Absent (pipings standings) paths }
+table_of standings paths = record {
+  entries = entries_of (findings standings) paths;
+  pipes =
+      values_by_path Absent (pipings standings) paths;
+}
 
 abbrev pub address_in : Option Finding → Option ℕ
 address_in None = None
@@ -69,9 +74,11 @@ address_in (Some finding) = address_found finding
 -- the paths name each entry once, and the addresses each entry that has one
 pub record AreIndexes (found : Slots) (paths : PathKeys) (addresses : AddressKeys) : Type 0 where
   pub stands : (path : List ℕ) (key : ℕ) → key_of_path paths path ≡ Some key → IsSome (found key)
-  pub once : (path other : List ℕ) (key : ℕ) → key_of_path paths path ≡ Some key → key_of_path paths other ≡ Some key → other ≡ path
+  pub once : (path other : List ℕ) (key : ℕ) → key_of_path paths path ≡ Some key
+      → key_of_path paths other ≡ Some key → other ≡ path
   pub named : (key : ℕ) → IsSome (found key) → (path : List ℕ) × (key_of_path paths path ≡ Some key)
-  pub addressed : (address key : ℕ) → (key_of_address addresses address ≡ Some key) ↔ (address_in (found key) ≡ Some address)
+  pub addressed : (address key : ℕ) → (key_of_address addresses address ≡ Some key) ↔
+      (address_in (found key) ≡ Some address)
 
 -- an entry at a path: a finding such as an enumeration gives, and the pipes to it
 abbrev pub IsPiped : List ℕ → Entry → Type 0
@@ -96,11 +103,14 @@ without_address (Some address) addresses = remove_entry (is_at (nat_cmp address)
 -- the key of this address, where there is one, is now this, and every other is as it was
 abbrev pub UpdatesAddress : Option ℕ → Option ℕ → AddressKeys → AddressKeys → Type 0
 UpdatesAddress None slot old new = (other : ℕ) → key_of_address new other ≡ key_of_address old other
-UpdatesAddress (Some address) slot old new = (other : ℕ) → key_of_address new other ≡ (if is_at (nat_cmp address) other then slot else key_of_address old other)
+UpdatesAddress (Some address) slot old new = (other : ℕ)
+    → key_of_address new other ≡ (if is_at (nat_cmp address) other then slot else key_of_address old
+    other)
 
 -- a key is entered under a path and an address
 pub record Enters (path : List ℕ) (address : Option ℕ) (key : ℕ) (old new : Indexes) : Type 0 where
   pub paths : new.by_path.entries ≡ insert_entry path_cmp old.by_path.entries path key
-  pub path_keys : (other : List ℕ) → key_of_path new.by_path.entries other ≡ (if is_at (path_cmp path) other then Some key else key_of_path old.by_path.entries other)
+  pub path_keys : (other : List ℕ) → key_of_path new.by_path.entries other
+      ≡ (if is_at (path_cmp path) other then Some key else key_of_path old.by_path.entries other)
   pub address_keys : UpdatesAddress address (Some key) old.by_address.entries new.by_address.entries
   pub rises : IsStrictlySortedBy path_cmp (keys_of old.by_path.entries)

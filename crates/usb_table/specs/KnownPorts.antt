@@ -1,5 +1,6 @@
 -- How the ports that the table knows are asked.
-use Rattle.std.specs.Prelude.{ℕ, ◌≤◌, List, length, Bool, true, false, Option, Some, None, nat_lt, nat_le, if◌then◌else◌}
+use Rattle.std.specs.Prelude.{ℕ, ◌≤◌, List, length, Bool, true, false, Option, Some, None, nat_lt}
+use Rattle.std.specs.Prelude.{nat_le, if◌then◌else◌}
 use Rattle.std.specs.BTreeMap.{is_at}
 use Rattle.std.specs.Map.{lookup}
 use Rattle.usb_port.specs.Order.{path_cmp, parent_of, port_on_hub}
@@ -29,7 +30,9 @@ root_port number = record { port = Root number; supply = supply_of true false }
 abbrev pub port_of_hub : Accepted → Option HubFacts → Bool → ℕ → Option KnownPort
 port_of_hub device None below_hub number = None
 port_of_hub device (Some facts) below_hub number =
-    if nat_le number facts.ports then Some (record { port = External (target_of device below_hub) number; supply = facts.supply }) else None
+    if nat_le number facts.ports then Some
+    (record { port = External (target_of device below_hub) number; supply = facts.supply })
+    else None
 
 abbrev pub port_of_finding : Finding → Bool → ℕ → Option KnownPort
 port_of_finding (Device device) below_hub number = port_of_hub device device.hub below_hub number
@@ -42,7 +45,8 @@ port_found (Some finding) below_hub number = port_of_finding finding below_hub n
 -- a port below another stands on the hub that was found there
 abbrev pub port_below : Option (List ℕ) → ℕ → Entries → Option KnownPort
 port_below None number entries = Some (root_port number)
-port_below (Some hub) number entries = port_found (lookup (is_at (path_cmp hub)) entries) (is_below_hub hub) number
+port_below (Some hub) number entries = port_found (lookup (is_at (path_cmp hub)) entries)
+    (is_below_hub hub) number
 
 -- how the port at a path is asked, and what it gives
 abbrev pub known_port : List ℕ → Entries → Option KnownPort

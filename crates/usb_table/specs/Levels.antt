@@ -1,5 +1,6 @@
 -- That the pipes to a device are as far as the endpoints at their other ends.
-use Rattle.std.specs.Prelude.{◌≡◌, ◌≤◌, ⊤, ℕ, ◌*◌, List, length, true, false, Option, Some, None, is_some, Result, IsOk, IfErr}
+use Rattle.std.specs.Prelude.{◌≡◌, ◌≤◌, ⊤, ℕ, ◌*◌, List, length, true, false, Option, Some, None}
+use Rattle.std.specs.Prelude.{is_some, Result, IsOk, IfErr}
 use Rattle.std.specs.Global.{Vec}
 use Rattle.std.specs.BTreeMap.{is_at}
 use Rattle.arrayvec.specs.ArrayVec.{ArrayVec}
@@ -8,7 +9,8 @@ use Rattle.usb_port.specs.PortState.{PortState}
 use Rattle.usb_device.specs.Bulk.{tells_changes, change_bits}
 use Rattle.usb_device.specs.Progress.{PollAt, NeverTold}
 use Rattle.usb_device.specs.Rows.{State}
-use Rattle.usb_device.specs.Tree.{Ports, full, row_of, place, reach, Location, path_to, reach_on, state_on}
+use Rattle.usb_device.specs.Tree.{Ports, full, row_of, place, reach, Location, path_to, reach_on}
+use Rattle.usb_device.specs.Tree.{state_on}
 use Rattle.usb_device.specs.View.{state_there}
 use Rattle.usb_world.specs.Devices.{EachWas}
 use Rattle.usb_world.specs.Steps.{at_attempt}
@@ -33,11 +35,13 @@ use Rattle.usb_table.specs.KnownPorts.{is_below_hub}
 use Rattle.usb_table.specs.Listing.{entry_address}
 use Rattle.usb_table.specs.Table.{Table, pipes_at}
 use Rattle.usb_table.specs.declared.fault.EndpointFault.{EndpointFault}
-use Rattle.usb_table.specs.Transfers.{EndpointFaultAllowed, OnlyTransfers, PipesCleared, PipesPolled, PipesReceived, PipesSent, PollTook}
+use Rattle.usb_table.specs.Transfers.{EndpointFaultAllowed, OnlyTransfers, PipesCleared}
+use Rattle.usb_table.specs.Transfers.{PipesPolled, PipesReceived, PipesSent, PollTook}
 
 -- The pipes to one device
 
--- a hub's status pipe, of which no poll failed: the endpoint tells of changes, awaits the pipe's toggle, and is not halted
+-- a hub's status pipe, of which no poll failed: the endpoint tells of changes, awaits the pipe's
+-- toggle, and is not halted
 pub record StatusPipeInSync (pipe : Interrupt) (s : State) : Type 0 where
   pub tells : tells_changes s.spec s.registers ≡ true
   pub level : PollAt NeverTold pipe.toggle s
@@ -62,7 +66,9 @@ PipesInSync Absent s = ⊤
 
 -- those to the accepted device at a path, where that is reachable
 pub record InSyncAt (path : List ℕ) (table : Table) (w : World) : Type 0 where
-  pub level : (device : Accepted) (s : State) → accepted_device_at path table.entries ≡ Some device → reach w.roots path ≡ true → state_there w.roots path ≡ Some s → PipesInSync (pipes_at path table) s
+  pub level : (device : Accepted) (s : State) → accepted_device_at path table.entries ≡ Some device
+      → reach w.roots path ≡ true → state_there w.roots path ≡ Some s
+      → PipesInSync (pipes_at path table) s
 
 -- all pipes
 abbrev pub AllInSync : Table → World → Type 0
@@ -72,10 +78,13 @@ AllInSync table w = (path : List ℕ) → InSyncAt path table w
 abbrev pub IsHeld : Table → World → Type 0
 IsHeld table w = MapHolds (λ path. entry_address path table.entries) w
 
--- What a call through the pipes at a path leaves: those to other devices stay level in any case, and those at the path where it ends so
-pub record KeepsInSync (path : List ℕ) (ends : Type 0) (old : Table) (before : World) (new : Table) (after : World) : Type 0 where
+-- What a call through the pipes at a path leaves: those to other devices stay level in any case,
+-- and those at the path where it ends so
+pub record KeepsInSync (path : List ℕ) (ends : Type 0) (old : Table) (before : World) (new : Table)
+    (after : World) : Type 0 where
   pub worlds : OnlyTransfers before after
-  pub others : IsHeld old before → (x : List ℕ) → is_at (path_cmp path) x ≡ false → InSyncAt x old before → InSyncAt x new after
+  pub others : IsHeld old before → (x : List ℕ) → is_at (path_cmp path) x ≡ false
+      → InSyncAt x old before → InSyncAt x new after
   pub itself : IsHeld old before → ends → InSyncAt path old before → InSyncAt path new after
 
 -- as long as the bus is at work
@@ -84,7 +93,8 @@ KeepsMoved path old before new after = KeepsInSync path (after.fault ≡ None) o
 
 -- A poll of the hub at a path
 
--- the ports of the device at the path told these bits when an attempt was made, before and since which nothing was asked of any port
+-- the ports of the device at the path told these bits when an attempt was made, before and since
+-- which nothing was asked of any port
 pub record BitsOf (path : List ℕ) (old new : World) (bits : ℕ) : Type 0 where
   pub mid : World
   pub rests : TouchesNoPort old mid
@@ -97,7 +107,8 @@ pub record BitsOf (path : List ℕ) (old new : World) (bits : ℕ) : Type 0 wher
   pub came : (at_attempt mid).taken ≤ new.taken  -- the events that were due then have come
 
 -- the hub is reached in the end, and its ports told what came
-pub record HubTold (path : List ℕ) (old : World) (result : Result (Option (ArrayVec ℕ)) PipeFault) (new : World) : Type 0 where
+pub record HubTold (path : List ℕ) (old : World) (result : Result (Option (ArrayVec ℕ)) PipeFault)
+    (new : World) : Type 0 where
   pub reached : reach new.roots path ≡ true
   pub tells : PollTells (BitsOf path old new) result
 
@@ -110,17 +121,31 @@ pub record IsListening (path : List ℕ) (device : Accepted) (w : World) : Type 
   pub stands : state_on w.roots spot ≡ Some state
   pub listens : Listens (target_of device (is_below_hub path)) spot state
 
--- nothing of a device changed but where its control transfer and its status endpoint stand: its description, its registers, and its bulk endpoints with
+-- nothing of a device changed but where its control transfer and its status endpoint stand: its
+-- description, its registers, and its bulk endpoints with
 -- what they took and gave are as they were
 abbrev pub SparesBulk : Location → State → State → Type 0
-SparesBulk x s v = v ≡ record s { memory = v.memory; naks = v.naks; stage = v.stage; changes = v.changes; held = v.held }
+SparesBulk x s v = v ≡ record s {
+  memory = v.memory;
+  naks = v.naks;
+  stage = v.stage;
+  changes =
+      v.changes;
+  held = v.held;
+}
 
--- A poll that is done leaves the hub's pipe level, and tells of its ports. Where no three attempts running are damaged, a hub that is reached in the
+-- A poll that is done leaves the hub's pipe level, and tells of its ports. Where no three attempts
+-- running are damaged, a hub that is reached in the
 -- end is polled. Bulk endpoints are as they were.
-pub record KeepsPolled (path : List ℕ) (old : Table) (before : World) (result : Result (Option (ArrayVec ℕ)) PipeFault) (new : Table) (after : World) : Type 0 where
+pub record KeepsPolled (path : List ℕ) (old : Table) (before : World)
+    (result : Result (Option (ArrayVec ℕ)) PipeFault) (new : Table) (after : World) : Type 0 where
   pub levels : KeepsInSync path (IsOk result) old before new after
-  pub told : IsHeld old before → InSyncAt path old before → (device : Accepted) → accepted_device_at path old.entries ≡ Some device → is_some device.hub ≡ true → IsOk result → HubTold path before result after
-  pub why : IsHeld old before → InSyncAt path old before → NoThreeDamaged before → (device : Accepted) → accepted_device_at path old.entries ≡ Some device → is_some device.hub ≡ true → IsListening path device after → NoHubFailed result
+  pub told : IsHeld old before → InSyncAt path old before → (device : Accepted)
+      → accepted_device_at path old.entries ≡ Some device → is_some device.hub ≡ true → IsOk result
+      → HubTold path before result after
+  pub why : IsHeld old before → InSyncAt path old before → NoThreeDamaged before
+      → (device : Accepted) → accepted_device_at path old.entries ≡ Some device
+      → is_some device.hub ≡ true → IsListening path device after → NoHubFailed result
   pub spares : IsHeld old before → InSyncAt path old before → EachWas SparesBulk before after
 
 -- What one call of the table is, over a bus that does what its world does

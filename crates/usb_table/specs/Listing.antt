@@ -1,5 +1,7 @@
 -- What a right listing of what is plugged is (4.1.1, 7.2.1).
-use Rattle.std.specs.Prelude.{◌≡◌, ◌≢◌, ◌≤◌, ℕ, ◌+◌, List, [], length, take, Option, None, Some, IsSome, IfSome, IsSomeAnd, unwrap_or, option_map, option_and_then, true, false}
+use Rattle.std.specs.Prelude.{◌≡◌, ◌≢◌, ◌≤◌, ℕ, ◌+◌, List, [], length, take, Option, None, Some}
+use Rattle.std.specs.Prelude.{IsSome, IfSome, IsSomeAnd, unwrap_or, option_map, option_and_then}
+use Rattle.std.specs.Prelude.{true, false}
 use Rattle.std.specs.Map.{lookup}
 use Rattle.std.specs.BTreeMap.{is_at}
 use Rattle.usb_port.specs.Order.{path_cmp, parent_of, port_on_hub}
@@ -31,7 +33,8 @@ SpecTree = List ℕ → Option Spec
 
 -- what a plan's first events leave plugged
 abbrev pub tree_after : PlanData → ℕ → SpecTree
-tree_after plan taken path = device_indexed plan.devices (index_at (plugged_by [] (take taken plan.events)) path)
+tree_after plan taken path = device_indexed plan.devices
+    (index_at (plugged_by [] (take taken plan.events)) path)
 
 -- what is plugged in a world
 abbrev pub tree_in : World → SpecTree
@@ -57,7 +60,8 @@ hub_facts_at path entries = hub_facts_in (finding_at path entries)
 -- a number of a port of the root, or of the hub at a path
 abbrev pub IsPortBelow : ℕ → Entries → Option (List ℕ) → ℕ → Type 0
 IsPortBelow roots entries None number = (1 ≤ number) × (number ≤ roots)
-IsPortBelow roots entries (Some hub) number = IsSomeAnd (hub_facts_at hub entries) (λ facts. (1 ≤ number) × (number ≤ facts.ports))
+IsPortBelow roots entries (Some hub) number =
+    IsSomeAnd (hub_facts_at hub entries) (λ facts. (1 ≤ number) × (number ≤ facts.ports))
 
 -- a path of a port of the root, or of a hub that is listed
 pub record IsListedPort (roots : ℕ) (entries : Entries) (path : List ℕ) : Type 0 where
@@ -73,7 +77,8 @@ tier_of path = length path + 1
 -- what a port of the root gives, or one of the hub at a path
 abbrev pub supply_below : SpecTree → Option (List ℕ) → ℕ
 supply_below tree None = supply_of true false
-supply_below tree (Some hub) = supply_of false (unwrap_or (option_map (λ (spec : Spec). spec.self_powered) (tree hub)) false)
+supply_below tree (Some hub) = supply_of false
+    (unwrap_or (option_map (λ (spec : Spec). spec.self_powered) (tree hub)) false)
 
 -- what the port at a path gives, in mA (7.2.1)
 abbrev pub supply_at : SpecTree → List ℕ → ℕ
@@ -83,24 +88,36 @@ supply_at tree path = supply_below tree (parent_of path)
 
 -- each address is listed
 abbrev pub ListsEach : Entries → Type 0
-ListsEach entries = (address : ℕ) → IsAddress address → (path : List ℕ) × (entry_address path entries ≡ Some address)
+ListsEach entries = (address : ℕ) → IsAddress address → (path : List ℕ)
+    × (entry_address path entries ≡ Some address)
 
--- The listing is what is plugged. At each port of the root and of each listed hub the device that is plugged there is listed with its own
--- descriptors and the first configuration within its port's power, or refused with its cause. Nothing else is listed. No two devices have one address.
+-- The listing is what is plugged. At each port of the root and of each listed hub the device that
+-- is plugged there is listed with its own
+-- descriptors and the first configuration within its port's power, or refused with its cause.
+-- Nothing else is listed. No two devices have one address.
 pub record Lists (roots : ℕ) (tree : SpecTree) (entries : Entries) : Type 0 where
   pub rises : Rises entries
-  pub there : (path : List ℕ) (spec : Spec) → IsListedPort roots entries path → tree path ≡ Some spec
-      → IsSomeAnd (finding_at path entries) (IsRight (ListsEach entries) spec (tier_of path) (supply_at tree path))
-  pub nothing_else : (path : List ℕ) (finding : Finding) → finding_at path entries ≡ Some finding → IsListedPort roots entries path × IsSome (tree path)
-  pub addresses : (path : List ℕ) (address : ℕ) → entry_address path entries ≡ Some address → IsAddress address
-  pub differ : (path other : List ℕ) (address : ℕ) → entry_address path entries ≡ Some address → entry_address other entries ≡ Some address → path ≡ other
+  pub there : (path : List ℕ) (spec : Spec) → IsListedPort roots entries path
+      → tree path ≡ Some spec
+      → IsSomeAnd (finding_at path entries) (IsRight (ListsEach entries) spec (tier_of path)
+      (supply_at tree path))
+  pub nothing_else : (path : List ℕ) (finding : Finding) → finding_at path entries ≡ Some finding
+      → IsListedPort roots entries path × IsSome (tree path)
+  pub addresses : (path : List ℕ) (address : ℕ) → entry_address path entries ≡ Some address
+      → IsAddress address
+  pub differ : (path other : List ℕ) (address : ℕ) → entry_address path entries ≡ Some address
+      → entry_address other entries ≡ Some address → path ≡ other
 
--- the listing is what is plugged in a world; each accepted device is reached and set as is listed, and the port of each refused one is disabled
+-- the listing is what is plugged in a world; each accepted device is reached and set as is listed,
+-- and the port of each refused one is disabled
 pub record Matches (w : World) (entries : Entries) : Type 0 where
   pub lists : Lists (roots_of w) (tree_in w) entries
-  pub reached : (path : List ℕ) (device : Accepted) → accepted_device_at path entries ≡ Some device → reach w.roots path ≡ true
-  pub set : (path : List ℕ) (device : Accepted) → accepted_device_at path entries ≡ Some device → IfSome (state_there w.roots path) (IsSet device)
-  pub disabled : (path : List ℕ) (cause : Cause) → finding_at path entries ≡ Some (Refused cause) → IsDisabledAt w.roots path
+  pub reached : (path : List ℕ) (device : Accepted) → accepted_device_at path entries ≡ Some device
+      → reach w.roots path ≡ true
+  pub set : (path : List ℕ) (device : Accepted) → accepted_device_at path entries ≡ Some device
+      → IfSome (state_there w.roots path) (IsSet device)
+  pub disabled : (path : List ℕ) (cause : Cause) → finding_at path entries ≡ Some (Refused cause)
+      → IsDisabledAt w.roots path
 
 -- Two listings
 
@@ -126,4 +143,6 @@ IsFoundLike (Refused b) (Refused c) = b ≡ c
 
 -- what one lists the other lists too, but for addresses
 abbrev pub ListsLike : Entries → Entries → Type 0
-ListsLike entries others = (path : List ℕ) (finding : Finding) → finding_at path entries ≡ Some finding → IsSomeAnd (finding_at path others) (IsFoundLike finding)
+ListsLike entries others = (path : List ℕ) (finding : Finding)
+    → finding_at path entries ≡ Some finding
+    → IsSomeAnd (finding_at path others) (IsFoundLike finding)

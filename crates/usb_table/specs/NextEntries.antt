@@ -13,14 +13,16 @@ ComesAfter None path = ⊤
 ComesAfter (Some last) path = path_cmp last path ≡ Less
 
 -- a finding of the kind stands at the path, which comes after the last one
-pub record Stands (kind : Finding → Bool) (last : Option (List ℕ)) (entries : Entries) (path : List ℕ) : Type 0 where
+pub record Stands (kind : Finding → Bool) (last : Option (List ℕ)) (entries : Entries)
+    (path : List ℕ) : Type 0 where
   pub finding : Finding
   pub found : lookup (is_at (path_cmp path)) entries ≡ Some finding
   pub fits : kind finding ≡ true
   pub after : ComesAfter last path
 
 -- and at no such path before it
-pub record IsNext (kind : Finding → Bool) (last : Option (List ℕ)) (entries : Entries) (path : List ℕ) : Type 0 where
+pub record IsNext (kind : Finding → Bool) (last : Option (List ℕ)) (entries : Entries)
+    (path : List ℕ) : Type 0 where
   pub stands : Stands kind last entries path
   pub least : (other : List ℕ) → Stands kind last entries other → path_cmp other path ≢ Less
 

@@ -1,5 +1,6 @@
 -- The pipes to a device.
-use Rattle.std.specs.Prelude.{◌≡◌, ⊤, ℕ, ◌≤◌, Bool, true, false, Option, Some, None, is_some, if◌then◌else◌}
+use Rattle.std.specs.Prelude.{◌≡◌, ⊤, ℕ, ◌≤◌, Bool, true, false, Option, Some, None, is_some}
+use Rattle.std.specs.Prelude.{if◌then◌else◌}
 use Rattle.usb_descriptor.specs.Choice.{status_endpoint_of}
 use Rattle.usb_packet.specs.declared.Toggle.TheVariants.{Zero}
 use Rattle.usb_pipe.specs.Bulk.{Bulk, bulk_made}
@@ -23,13 +24,14 @@ pub record IsStatusPipe (device : Accepted) (below_hub : Bool) (pipe : Interrupt
   pub other : 1 ≤ pipe.ep  -- not endpoint 0
 
 -- a pipe to a bulk endpoint of a function, which is at full speed
-pub record IsBulkPipe (device : Accepted) (is_in : Bool) (endpoint : ℕ × ℕ) (pipe : Bulk) : Type 0 where
-  pub target : pipe.target ≡ target_of device false
-  pub number : pipe.ep ≡ endpoint.0
-  pub other : 1 ≤ endpoint.0  -- not endpoint 0
-  pub max : pipe.max ≡ endpoint.1
-  pub least : 1 ≤ endpoint.1
-  pub way : pipe.is_in ≡ is_in
+pub record IsBulkPipe (device : Accepted) (is_in : Bool) (endpoint : ℕ × ℕ) (pipe : Bulk) : Type 0
+  where
+    pub target : pipe.target ≡ target_of device false
+    pub number : pipe.ep ≡ endpoint.0
+    pub other : 1 ≤ endpoint.0  -- not endpoint 0
+    pub max : pipe.max ≡ endpoint.1
+    pub least : 1 ≤ endpoint.1
+    pub way : pipe.is_in ≡ is_in
 
 -- a pipe where there is an endpoint
 abbrev pub IsPipe : Accepted → Bool → Option (ℕ × ℕ) → Option Bulk → Type 0
@@ -39,9 +41,11 @@ IsPipe device is_in (Some endpoint) None = ⊥
 IsPipe device is_in (Some endpoint) (Some pipe) = IsBulkPipe device is_in endpoint pipe
 
 abbrev pub ArePipesTo : Accepted → Bool → Pipes → Type 0
-ArePipesTo device below_hub (Hub pipe) = (is_some device.hub ≡ true) × IsStatusPipe device below_hub pipe
+ArePipesTo device below_hub (Hub pipe) = (is_some device.hub ≡ true)
+    × IsStatusPipe device below_hub pipe
 ArePipesTo device below_hub (Function pipes) =
-    (is_some device.hub ≡ false) × IsPipe device false (out_endpoint device) pipes.out × IsPipe device true (in_endpoint device) pipes.into
+    (is_some device.hub ≡ false) × IsPipe device false (out_endpoint device) pipes.out
+    × IsPipe device true (in_endpoint device) pipes.into
 ArePipesTo device below_hub Absent = ⊥
 
 -- the pipes to an accepted device, and none where there is none
@@ -56,7 +60,11 @@ ArePipesOf finding = ArePipesIf (accepted_device_of (Some finding))
 -- Pipes as they were made
 
 abbrev pub both_made : BulkPipes → BulkPipes
-both_made pipes = record { out = option_map bulk_made pipes.out; into = option_map bulk_made pipes.into }
+both_made pipes = record {
+  out = option_map bulk_made pipes.out;
+  into =
+      option_map bulk_made pipes.into;
+}
 
 abbrev pub pipes_made : Pipes → Pipes
 pipes_made (Hub pipe) = Hub (interrupt_made pipe)
@@ -69,18 +77,34 @@ pipes_made Absent = Absent
 abbrev pub new_status : Accepted → Bool → Option (ℕ × ℕ) → Pipes
 new_status device below_hub None = Absent
 new_status device below_hub (Some endpoint) =
-    Hub (record { target = packet_target (target_of device below_hub) endpoint.1; ep = endpoint.0; toggle = Zero })
+    Hub (record {
+      target = packet_target (target_of device below_hub) endpoint.1;
+      ep = endpoint.0;
+      toggle = Zero;
+    })
 
 abbrev pub new_bulk : Accepted → Bool → Option (ℕ × ℕ) → Option Bulk
 new_bulk device is_in None = None
 new_bulk device is_in (Some endpoint) =
-    Some (record { target = target_of device false; ep = endpoint.0; max = endpoint.1; is_in = is_in; toggle = Zero; condition = Ready })
+    Some (record {
+      target = target_of device false;
+      ep = endpoint.0;
+      max = endpoint.1;
+      is_in =
+          is_in;
+      toggle = Zero;
+      condition = Ready;
+    })
 
 abbrev pub new_pipes_to : Accepted → Bool → Pipes
 new_pipes_to device below_hub =
     if is_some device.hub
     then new_status device below_hub (status_endpoint_of (configuration_of device))
-    else Function (record { out = new_bulk device false (out_endpoint device); into = new_bulk device true (in_endpoint device) })
+    else Function (record {
+      out = new_bulk device false (out_endpoint device);
+      into =
+          new_bulk device true (in_endpoint device);
+    })
 
 abbrev pub new_pipes : Finding → Bool → Pipes
 new_pipes (Device device) below_hub = new_pipes_to device below_hub

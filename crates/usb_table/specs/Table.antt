@@ -23,9 +23,11 @@ empty = record { entries = []; pipes = [] }
 abbrev pub pipes_at : List ℕ → Table → Pipes
 pipes_at path table = unwrap_or (lookup (is_at (path_cmp path)) table.pipes) Absent
 
--- those to the accepted device there, and none where none is known; PRE goes before each packet to a device at low speed whose path is below a hub
+-- those to the accepted device there, and none where none is known; PRE goes before each packet to
+-- a device at low speed whose path is below a hub
 abbrev pub ArePipesAt : List ℕ → Table → Type 0
-ArePipesAt path table = ArePipesIf (accepted_device_at path table.entries) (is_below_hub path) (pipes_at path table)
+ArePipesAt path table = ArePipesIf (accepted_device_at path table.entries) (is_below_hub path)
+    (pipes_at path table)
 
 -- what was just found is entered at a path, with new pipes
 abbrev pub entered : List ℕ → Finding → Table → Table
@@ -47,8 +49,10 @@ pub record TakesOut (path : List ℕ) (finding : Finding) (old new : Table) : Ty
   pub found : lookup (is_at (path_cmp first)) old.entries ≡ Some finding
   pub rest : new ≡ removed first old
 
--- a call through the pipes at a path: they are to the device that is known there, and nothing but them changes
+-- a call through the pipes at a path: they are to the device that is known there, and nothing but
+-- them changes
 pub record GoesThrough (path : List ℕ) (old new : Table) : Type 0 where
   pub fits : ArePipesAt path old
   pub entries : new.entries ≡ old.entries
-  pub others : (other : List ℕ) → is_at (path_cmp path) other ≡ false → pipes_at other new ≡ pipes_at other old
+  pub others : (other : List ℕ) → is_at (path_cmp path) other ≡ false
+      → pipes_at other new ≡ pipes_at other old

@@ -1,6 +1,7 @@
 -- What transfers to the devices of the table leave.
 use Rattle.usb_device.specs.Tree.{Location}
-use Rattle.std.specs.Prelude.{◌≡◌, ⊤, ℕ, ◌*◌, List, length, Bool, true, false, not, ◌||◌, Option, Some, None, is_some, Result, Ok, Err, IfSome, MatchResult}
+use Rattle.std.specs.Prelude.{◌≡◌, ⊤, ℕ, ◌*◌, List, length, Bool, true, false, not, ◌||◌, Option}
+use Rattle.std.specs.Prelude.{Some, None, is_some, Result, Ok, Err, IfSome, MatchResult}
 use Rattle.std.specs.Global.{Vec}
 use Rattle.std.specs.Int.{div_ceil}
 use Rattle.arrayvec.specs.ArrayVec.{ArrayVec}
@@ -29,7 +30,8 @@ endpoint_answer (Ok answer) = Ok answer
 endpoint_answer (Err fault) = Err (Pipe fault)
 
 -- nothing was tried, and the pipe or the pipes are as they were
-abbrev pub NotTried : {A P : Type 0} → EndpointFault → P → World → Result A EndpointFault → P → World → Type 0
+abbrev pub NotTried : {A P : Type 0} → EndpointFault → P → World → Result A EndpointFault → P
+    → World → Type 0
 NotTried fault pipe old result left new = (result ≡ Err fault) × (left ≡ pipe) × (new ≡ old)
 
 -- the bus tells its fault
@@ -48,23 +50,27 @@ EndpointFaultAllowed (Pipe fault) w = PipeFaultAllowed fault w
 
 -- a packet that came took an attempt, and so did each fault but the bus's own
 abbrev pub PollTook : World → Result (Option (ArrayVec ℕ)) PipeFault → World → Type 0
-PollTook old result new = MatchResult result (λ got. IfSome got (λ packet. AttemptsMade 1 old new)) (λ fault. FaultAfter 0 old fault new)
+PollTook old result new = MatchResult result (λ got. IfSome got (λ packet. AttemptsMade 1 old new))
+    (λ fault. FaultAfter 0 old fault new)
 
 -- Through one pipe
 
-pub record SentThrough (pipe : Bulk) (bytes : List ℕ) (old : World) (result : Result (Unit {0}) EndpointFault) (left : Bulk) (new : World) : Type 0 where
+pub record SentThrough (pipe : Bulk) (bytes : List ℕ) (old : World)
+    (result : Result (Unit {0}) EndpointFault) (left : Bulk) (new : World) : Type 0 where
   pub answer : Result (Unit {0}) PipeFault
   pub told : result ≡ endpoint_answer answer
   pub count : AttemptsWithin (transaction_bound * div_ceil (length bytes) pipe.max) old new
   pub sends : Sends bytes pipe old answer left new
 
-pub record ReceivedThrough (pipe : Bulk) (packets : ℕ) (old : World) (result : Result (Vec ℕ) EndpointFault) (left : Bulk) (new : World) : Type 0 where
+pub record ReceivedThrough (pipe : Bulk) (packets : ℕ) (old : World)
+    (result : Result (Vec ℕ) EndpointFault) (left : Bulk) (new : World) : Type 0 where
   pub answer : Result (Vec ℕ) PipeFault
   pub told : result ≡ endpoint_answer answer
   pub count : AttemptsWithin (transaction_bound * packets) old new
   pub receives : Receives packets pipe old answer left new
 
-pub record ClearedThrough (pipe : Bulk) (old : World) (answer : Result (Unit {0}) PipeFault) (left : Bulk) (new : World) : Type 0 where
+pub record ClearedThrough (pipe : Bulk) (old : World) (answer : Result (Unit {0}) PipeFault)
+    (left : Bulk) (new : World) : Type 0 where
   pub count : AttemptsWithin write_bound old new
   pub clears : Clears pipe old answer left new
 
@@ -89,43 +95,56 @@ abbrev pub ReceivedBy : Option Bulk → ℕ → World → Result (Vec ℕ) Endpo
 ReceivedBy pipe packets = ThroughIf (λ p. ReceivedThrough p packets) pipe
 
 -- no pipe needs no clearing
-abbrev pub ClearedBy : Option Bulk → World → Result (Unit {0}) PipeFault → Option Bulk → World → Type 0
+abbrev pub ClearedBy : Option Bulk → World → Result (Unit {0}) PipeFault → Option Bulk → World
+    → Type 0
 ClearedBy None old answer left new = (answer ≡ Ok tt) × (left ≡ None) × (new ≡ old)
 ClearedBy (Some pipe) old answer None new = ⊥
 ClearedBy (Some pipe) old answer (Some left) new = ClearedThrough pipe old answer left new
 
 -- the second pipe is cleared where the first one was
-abbrev pub ClearedAfter : Result (Unit {0}) PipeFault → Option Bulk → World → Result (Unit {0}) EndpointFault → Option Bulk → World → Type 0
-ClearedAfter (Ok done) pipe mid result left new = (answer : Result (Unit {0}) PipeFault) × (result ≡ endpoint_answer answer) × ClearedBy pipe mid answer left new
-ClearedAfter (Err fault) pipe mid result left new = (result ≡ Err (Pipe fault)) × (left ≡ pipe) × (new ≡ mid)
+abbrev pub ClearedAfter : Result (Unit {0}) PipeFault → Option Bulk → World
+    → Result (Unit {0}) EndpointFault → Option Bulk → World → Type 0
+ClearedAfter (Ok done) pipe mid result left new = (answer : Result (Unit {0}) PipeFault)
+    × (result ≡ endpoint_answer answer) × ClearedBy pipe mid answer left new
+ClearedAfter (Err fault) pipe mid result left new = (result ≡ Err (Pipe fault)) × (left ≡ pipe)
+    × (new ≡ mid)
 
-pub record ClearedInOrder (pipes : BulkPipes) (old : World) (result : Result (Unit {0}) EndpointFault) (left : BulkPipes) (new : World) : Type 0 where
+pub record ClearedInOrder (pipes : BulkPipes) (old : World)
+    (result : Result (Unit {0}) EndpointFault) (left : BulkPipes) (new : World) : Type 0 where
   pub first : Result (Unit {0}) PipeFault
   pub mid : World
   pub out : ClearedBy pipes.out old first left.out mid
   pub into : ClearedAfter first pipes.into mid result left.into new
 
-abbrev pub ClearedIf : Bool → BulkPipes → World → Result (Unit {0}) EndpointFault → BulkPipes → World → Type 0
+abbrev pub ClearedIf : Bool → BulkPipes → World → Result (Unit {0}) EndpointFault → BulkPipes
+    → World → Type 0
 ClearedIf false pipes old result left new = NotTried NoEndpoint pipes old result left new
 ClearedIf true pipes old result left new = ClearedInOrder pipes old result left new
 
 -- the halt of the OUT endpoint, then of the IN endpoint; the first fault ends it
-abbrev pub ClearedInTurn : BulkPipes → World → Result (Unit {0}) EndpointFault → BulkPipes → World → Type 0
-ClearedInTurn pipes old result left new = ClearedIf (is_some pipes.out || is_some pipes.into) pipes old result left new
+abbrev pub ClearedInTurn : BulkPipes → World → Result (Unit {0}) EndpointFault → BulkPipes → World
+    → Type 0
+ClearedInTurn pipes old result left new = ClearedIf (is_some pipes.out || is_some pipes.into) pipes
+    old result left new
 
 -- Through the pipes to what stands at a port
 
 -- so it is of whatever is no hub
-abbrev pub NotPolled : Pipes → World → Result (Option (ArrayVec ℕ)) PipeFault → Pipes → World → Type 0
+abbrev pub NotPolled : Pipes → World → Result (Option (ArrayVec ℕ)) PipeFault → Pipes → World
+    → Type 0
 NotPolled pipes old result left new = (result ≡ Ok None) × (left ≡ pipes) × (new ≡ old)
 
-pub record PolledThrough (pipe : Interrupt) (old : World) (result : Result (Option (ArrayVec ℕ)) PipeFault) (left : Interrupt) (new : World) : Type 0 where
-  pub settled : IsSettled old.roots
-  pub polls : Polls pipe old result left new
+pub record PolledThrough (pipe : Interrupt) (old : World)
+    (result : Result (Option (ArrayVec ℕ)) PipeFault) (left : Interrupt) (new : World) : Type 0
+  where
+    pub settled : IsSettled old.roots
+    pub polls : Polls pipe old result left new
 
 -- a hub's status endpoint is asked, and nothing else
-abbrev pub PipesPolled : Pipes → World → Result (Option (ArrayVec ℕ)) PipeFault → Pipes → World → Type 0
-PipesPolled (Hub pipe) old result left new = (rest : Interrupt) × (left ≡ Hub rest) × PolledThrough pipe old result rest new
+abbrev pub PipesPolled : Pipes → World → Result (Option (ArrayVec ℕ)) PipeFault → Pipes → World
+    → Type 0
+PipesPolled (Hub pipe) old result left new = (rest : Interrupt) × (left ≡ Hub rest)
+    × PolledThrough pipe old result rest new
 PipesPolled (Function pipes) old result left new = NotPolled (Function pipes) old result left new
 PipesPolled Absent old result left new = NotPolled Absent old result left new
 
@@ -149,7 +168,8 @@ PipesThrough is_in So (Function pipes) old result left new =
 PipesThrough is_in So Absent old result left new = NotTried NoDevice Absent old result left new
 
 -- bytes are sent to its bulk OUT endpoint
-abbrev pub PipesSent : Pipes → List ℕ → World → Result (Unit {0}) EndpointFault → Pipes → World → Type 0
+abbrev pub PipesSent : Pipes → List ℕ → World → Result (Unit {0}) EndpointFault → Pipes → World
+    → Type 0
 PipesSent pipes bytes = PipesThrough false (λ p. SentThrough p bytes) pipes
 
 -- packets are received from its bulk IN endpoint
@@ -159,18 +179,21 @@ PipesReceived pipes packets = PipesThrough true (λ p. ReceivedThrough p packets
 -- the halts of a function's bulk endpoints are cleared
 abbrev pub PipesCleared : Pipes → World → Result (Unit {0}) EndpointFault → Pipes → World → Type 0
 PipesCleared (Hub pipe) old result left new = NotTried NoEndpoint (Hub pipe) old result left new
-PipesCleared (Function pipes) old result left new = (rest : BulkPipes) × (left ≡ Function rest) × ClearedInTurn pipes old result rest new
+PipesCleared (Function pipes) old result left new = (rest : BulkPipes) × (left ≡ Function rest)
+    × ClearedInTurn pipes old result rest new
 PipesCleared Absent old result left new = NotTried NoDevice Absent old result left new
 
 -- a device has the description and the registers that it had
 abbrev pub SameSettings : Location → State → State → Type 0
 SameSettings x s v = (v.spec ≡ s.spec) × (v.registers ≡ s.registers)
 
--- where no address was held twice, so it is of each device that is reachable, and each was reachable before
+-- where no address was held twice, so it is of each device that is reachable, and each was
+-- reachable before
 pub record KeepsSettings (old new : World) : Type 0 where
   pub same : new.shared ≡ false → EachWas SameSettings old new
 
--- What each leaves of the devices and ports: addresses, descriptions and registers are kept, and as long as the bus is at work, nothing is
+-- What each leaves of the devices and ports: addresses, descriptions and registers are kept, and as
+-- long as the bus is at work, nothing is
 -- asked of any port, and no more is left to do than before, but by events
 pub record OnlyTransfers (old new : World) : Type 0 where
   pub addresses : KeepsAddresses old new

@@ -91,8 +91,8 @@ pub fn bus_of(alloc: Global, text: &str) -> Result<SimBus<Tracer<Vec<u8>>>, Test
     bus_on(alloc, text, Watched::new(Vec::new(alloc)))
 }
 
-/// The bus of a plan's text whose first event came: root port 1 has power, what is plugged there was reset, and no change
-/// is left there.
+/// The bus of a plan's text whose first event came: root port 1 has power, what is plugged there was reset, and no
+/// change is left there.
 ///
 /// # Errors
 ///

@@ -1,23 +1,30 @@
 -- Digits of bytes, piece by piece.
-use Rattle.std.proofs.Common.{◌≡◌, ◌<◌, ◌/◌, ◌%◌, ◌∙◌, ℕ, List, [], ◌∷◌, ◌++◌, length, slice_index, refl, ap, sym, arith, append_assoc, append-nil}
+use Rattle.std.proofs.Common.{◌≡◌, ◌<◌, ◌/◌, ◌%◌, ◌∙◌, ℕ, List, [], ◌∷◌, ◌++◌, length, slice_index}
+use Rattle.std.proofs.Common.{refl, ap, sym, arith, append_assoc, append-nil}
 use Rattle.hex.specs.Hex.{encode_with, encode_upper, upper_digits}
 use Rattle.usb_packet.specs.Text.{hex_text}
 
-encode_upper-append : (xs ys : List ℕ) → encode_upper (xs ++ ys) ≡ encode_upper xs ++ encode_upper ys
+encode_upper-append : (xs ys : List ℕ) → encode_upper (xs ++ ys) ≡ encode_upper xs ++ encode_upper
+    ys
 unfolding encode_with
 encode_upper-append [] ys = refl
 encode_upper-append (x ∷ xs) ys =
-    ap (λ (l : List ℕ). slice_index upper_digits (x / 16) ∷ slice_index upper_digits (x % 16) ∷ l) (encode_upper-append xs ys)
+    ap (λ (l : List ℕ). slice_index upper_digits (x / 16) ∷ slice_index upper_digits (x % 16) ∷ l)
+    (encode_upper-append xs ys)
 
 -- a piece more
-pub encode_upper-piece : (rest piece behind line line' whole : List ℕ) → rest ≡ piece ++ behind → line' ≡ line ++ encode_upper piece
+pub encode_upper-piece : (rest piece behind line line' whole : List ℕ) → rest ≡ piece ++ behind
+    → line' ≡ line ++ encode_upper piece
     → line ++ encode_upper rest ≡ whole → line' ++ encode_upper behind ≡ whole
 encode_upper-piece rest piece behind line line' whole parts put e =
-    ap (λ (l : List ℕ). l ++ encode_upper behind) put ∙ append_assoc line (encode_upper piece) (encode_upper behind)
-    ∙ ap (λ (l : List ℕ). line ++ l) (sym (encode_upper-append piece behind)) ∙ ap (λ (l : List ℕ). line ++ encode_upper l) (sym parts) ∙ e
+    ap (λ (l : List ℕ). l ++ encode_upper behind) put
+    ∙ append_assoc line (encode_upper piece) (encode_upper behind)
+    ∙ ap (λ (l : List ℕ). line ++ l) (sym (encode_upper-append piece behind))
+    ∙ ap (λ (l : List ℕ). line ++ encode_upper l) (sym parts) ∙ e
 
 -- nothing is left
-pub digits_all : (rest line whole : List ℕ) → length rest ≡ 0 → line ++ encode_upper rest ≡ whole → line ≡ whole
+pub digits_all : (rest line whole : List ℕ) → length rest ≡ 0 → line ++ encode_upper rest ≡ whole
+    → line ≡ whole
 unfolding encode_with
 digits_all [] line whole none e = sym (append-nil line) ∙ e
 digits_all (x ∷ rest) line whole none e = absurd (omega (arith, none))

@@ -5,7 +5,8 @@ use Rattle.usb_packet.specs.declared.Packet.{Packet}
 use Rattle.usb_packet.specs.Spelling.{Spells, Faults}
 use Rattle.usb_packet.specs.Text.{text_of}
 use Rattle.usb_text.specs.declared.line.LineFault.{LineFault}
-use Rattle.usb_text.specs.declared.line.LineFault.TheVariants.{BadHex, Packet as PacketRefused, Memory}
+use Rattle.usb_text.specs.declared.line.LineFault.TheVariants.{BadHex, Packet as PacketRefused}
+use Rattle.usb_text.specs.declared.line.LineFault.TheVariants.{Memory}
 
 -- the two lines of a packet: its text, and its bytes in upper-case digits
 abbrev pub lines_of : Packet → List ℕ → List ℕ
@@ -22,5 +23,6 @@ pub record IsLineOf (text line : List ℕ) : Type 0 where
 -- what is wrong with a text that has no line
 abbrev pub HasFault : List ℕ → LineFault → Type 0
 HasFault text BadHex = is_err (decode_of text) ≡ true
-HasFault text (PacketRefused fault) = (bytes : List ℕ) × (decode_of text ≡ Ok bytes) × Faults bytes fault
+HasFault text (PacketRefused fault) = (bytes : List ℕ) × (decode_of text ≡ Ok bytes)
+    × Faults bytes fault
 HasFault text Memory = Unit {0}

@@ -1,10 +1,13 @@
 -- The printed lines of a listing and of a bound, each with its newline.
-use Rattle.std.specs.Prelude.{ℕ, ◌+◌, ◌/◌, ◌%◌, ◌==◌, ◌&&◌, not, nat_le, Bool, List, [], ◌∷◌, ◌++◌, Option, None, Some, codes, decimal, flat_map, if◌then◌else◌}
+use Rattle.std.specs.Prelude.{ℕ, ◌+◌, ◌/◌, ◌%◌, ◌==◌, ◌&&◌, not, nat_le, Bool, List, [], ◌∷◌, ◌++◌}
+use Rattle.std.specs.Prelude.{Option, None, Some, codes, decimal, flat_map, if◌then◌else◌}
 use Rattle.hex.specs.Hex.{encode_upper}
 use Rattle.usb_packet.specs.Text.{hex_text}
 use Rattle.usb_port.specs.Path.{path_text}
 use Rattle.usb_enum.specs.declared.cause.Cause.{Cause}
-use Rattle.usb_enum.specs.declared.cause.Cause.TheVariants.{Silent, Busy, Stalled, BadDevice, TooDeep, BadConfiguration, NoPower, BadHub, Lost, NoAddress}
+use Rattle.usb_enum.specs.declared.cause.Cause.TheVariants.{Silent, Busy, Stalled, BadDevice}
+use Rattle.usb_enum.specs.declared.cause.Cause.TheVariants.{TooDeep, BadConfiguration, NoPower}
+use Rattle.usb_enum.specs.declared.cause.Cause.TheVariants.{BadHub, Lost, NoAddress}
 use Rattle.usb_enum.specs.declared.cause.Request.{Request}
 use Rattle.usb_enum.specs.declared.cause.Request.TheVariants as request
 use Rattle.usb_enum.specs.declared.finding.Accepted.{Accepted}
@@ -28,23 +31,27 @@ unit_text u = if is_plain_unit u then u ∷ [] else escaped_text (u / 256) (u % 
 
 -- PATH address A full|low HEX
 unfoldable pub address_line : List ℕ → ℕ → Bool → List ℕ → List ℕ
-address_line path address low bytes = path_text path ++ codes " address " ++ decimal address ++ codes " " ++ speed_word low ++ codes " " ++ hex_text bytes ++ codes "\n"
+address_line path address low bytes = path_text path ++ codes " address " ++ decimal address ++
+    codes " " ++ speed_word low ++ codes " " ++ hex_text bytes ++ codes "\n"
 
 abbrev pub star : Bool → List ℕ
 star chosen = if chosen then codes " *" else []
 
 -- PATH config I HEX, and a star behind the chosen one
 unfoldable pub config_line : List ℕ → ℕ → List ℕ → Bool → List ℕ
-config_line path index text chosen = path_text path ++ codes " config " ++ decimal index ++ codes " " ++ hex_text text ++ star chosen ++ codes "\n"
+config_line path index text chosen = path_text path ++ codes " config " ++ decimal index ++
+    codes " " ++ hex_text text ++ star chosen ++ codes "\n"
 
 -- a line for each configuration, the first one of this index
 unfoldable pub config_lines : List ℕ → ℕ → ℕ → List (List ℕ) → List (List ℕ)
 config_lines path index chosen [] = []
-config_lines path index chosen (text ∷ texts) = config_line path index text (index == chosen) ∷ config_lines path (index + 1) chosen texts
+config_lines path index chosen (text ∷ texts) = config_line path index text (index == chosen) ∷
+    config_lines path (index + 1) chosen texts
 
 -- PATH hub N ports S mA
 unfoldable pub hub_line : List ℕ → ℕ → ℕ → List ℕ
-hub_line path ports supply = path_text path ++ codes " hub " ++ decimal ports ++ codes " ports " ++ decimal supply ++ codes " mA\n"
+hub_line path ports supply = path_text path ++ codes " hub " ++ decimal ports ++ codes " ports " ++
+    decimal supply ++ codes " mA\n"
 
 abbrev pub hub_lines : List ℕ → Option HubFacts → List (List ℕ)
 hub_lines path None = []
@@ -52,7 +59,8 @@ hub_lines path (Some hub) = hub_line path hub.ports hub.supply ∷ []
 
 -- PATH LABEL "TEXT"
 unfoldable pub string_line : List ℕ → List ℕ → List ℕ → List ℕ
-string_line path label units = path_text path ++ codes " " ++ label ++ codes " \"" ++ flat_map unit_text units ++ codes "\"\n"
+string_line path label units = path_text path ++ codes " " ++ label ++ codes " \"" ++ flat_map
+    unit_text units ++ codes "\"\n"
 
 abbrev pub string_lines : List ℕ → List ℕ → Option (List ℕ) → List (List ℕ)
 string_lines path label None = []
@@ -92,7 +100,8 @@ cause_index cause = []
 
 -- PATH refused CAUSE
 unfoldable pub refused_line : List ℕ → Cause → List ℕ
-refused_line path cause = path_text path ++ codes " refused " ++ cause_word cause ++ cause_index cause ++ codes "\n"
+refused_line path cause = path_text path ++ codes " refused " ++ cause_word cause ++ cause_index
+    cause ++ codes "\n"
 
 abbrev pub finding_lines : List ℕ → Finding → List (List ℕ)
 finding_lines path (Device device) = device_lines path device
@@ -106,7 +115,8 @@ listing_line number = codes "listing " ++ decimal number ++ codes "\n"
 
 -- listing N, the lines of each entry, end
 unfoldable pub listing_lines : ℕ → List (List ℕ × Finding) → List (List ℕ)
-listing_lines number entries = listing_line number ∷ [] ++ flat_map entry_lines entries ++ codes "end\n" ∷ []
+listing_lines number entries = listing_line number ∷ [] ++ flat_map entry_lines entries ++
+    codes "end\n" ∷ []
 
 unfoldable pub bound_line : ℕ → List ℕ
 bound_line bound = codes "bound " ++ decimal bound ++ codes "\n"

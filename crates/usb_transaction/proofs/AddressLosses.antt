@@ -1,6 +1,7 @@
 -- Address losses over a transaction, seen from the device at the target's address.
 use Rattle.usb_device.specs.Tree.{Location}
-use Rattle.std.proofs.Common.{◌≡◌, ◌≢◌, ℕ, true, false, List, [], Some, Result, Ok, Err, refl, sym, subst, ap, ◌∙◌}
+use Rattle.std.proofs.Common.{◌≡◌, ◌≢◌, ℕ, true, false, List, [], Some, Result, Ok, Err, refl, sym}
+use Rattle.std.proofs.Common.{subst, ap, ◌∙◌}
 use Rattle.usb_packet.specs.declared.Toggle.{Toggle}
 use Rattle.usb_packet.specs.declared.Toggle.TheVariants.{One}
 use Rattle.usb_request.specs.Layout.{setup_of}
@@ -17,64 +18,96 @@ use Rattle.usb_world.specs.OneHolder.{IsMade}
 use Rattle.usb_world.specs.World.{World}
 use Rattle.usb_world.specs.Steps.{attempt, after, outcome_in}
 use Rattle.usb_world.specs.Devices.{Relation, EachWas}
-use Rattle.usb_world.proofs.Interface.{CountsNone, Counts, EndsWithAddress, StaysEndless, brings, each_counts, got_it, got_none, in_counts, made_of, out_counts, set_up_counts}
+use Rattle.usb_world.proofs.Interface.{CountsNone, Counts, EndsWithAddress, StaysEndless, brings}
+use Rattle.usb_world.proofs.Interface.{each_counts, got_it, got_none, in_counts, made_of}
+use Rattle.usb_world.proofs.Interface.{out_counts, set_up_counts}
 use Rattle.usb_tree.proofs.Interface.{false_true, not-true}
 use Rattle.usb_transaction.specs.declared.target.Target.{Target}
 use Rattle.usb_transaction.specs.declared.fault.TransFault.{TransFault}
-use Rattle.usb_transaction.specs.declared.fault.TransFault.TheVariants.{Stalled, Busy, NoAnswer, Bus}
+use Rattle.usb_transaction.specs.declared.fault.TransFault.TheVariants.{Stalled, Busy, NoAnswer}
+use Rattle.usb_transaction.specs.declared.fault.TransFault.TheVariants.{Bus}
 use Rattle.usb_transaction.specs.HeardOutcomes.{heard_as}
 use Rattle.usb_transaction.specs.Leaves.{is_at}
 use Rattle.usb_transaction.specs.Losses.{begins_no_stretch, LossesIn, LosesNone}
-use Rattle.usb_transaction.specs.AttemptLog.{AttemptLog, start, next, IsNoEnd, LastOutcome, TransactionDone}
+use Rattle.usb_transaction.specs.AttemptLog.{AttemptLog, start, next, IsNoEnd, LastOutcome}
+use Rattle.usb_transaction.specs.AttemptLog.{TransactionDone}
 use Rattle.usb_transaction.specs.Transactions.{packed, setup_attempt, in_attempt, out_attempt}
-use Rattle.usb_transaction.proofs.DeviceRuns.{Any, EachIf, IsEnd, RunThrough, at_end, at_from, each_device, over_last, tells_end}
+use Rattle.usb_transaction.proofs.DeviceRuns.{Any, EachIf, IsEnd, RunThrough, at_end, at_from}
+use Rattle.usb_transaction.proofs.DeviceRuns.{each_device, over_last, tells_end}
 use Rattle.usb_transaction.proofs.LastOutcomes.{read_last}
 use Rattle.usb_transaction.proofs.Trails.{trail_settled}
 
 -- Attempts that count nothing
 
-trail_counts : {a : Attempt} {old new : World} {outcomes : List Outcome} → ((w : World) → IsMade a w → CountsNone a w) → IsSettled old.roots → AttemptLog a old outcomes new → new.losses ≡ old.losses
+trail_counts : {a : Attempt} {old new : World} {outcomes : List Outcome}
+    → ((w : World) → IsMade a w → CountsNone a w) → IsSettled old.roots
+    → AttemptLog a old outcomes new → new.losses ≡ old.losses
 trail_counts each settled start = refl
-trail_counts {a} each settled (next w t made) = each w (made_of a w (trail_settled t settled) made) ∙ trail_counts each settled t
+trail_counts {a} each settled (next w t made) = each w (made_of a w (trail_settled t settled) made)
+    ∙ trail_counts each settled t
 
-pub set_up_losses : (t : Target) (bytes : List ℕ) (old new : World) {outcomes : List Outcome} → begins_no_stretch (setup_of bytes) ≡ true → IsSettled old.roots → AttemptLog (setup_attempt t bytes) old outcomes new → new.losses ≡ old.losses
-set_up_losses t bytes old new h = trail_counts (set_up_counts (setup_attempt t bytes) bytes refl refl (not-true _ h))
+pub set_up_losses : (t : Target) (bytes : List ℕ) (old new : World) {outcomes : List Outcome}
+    → begins_no_stretch (setup_of bytes) ≡ true → IsSettled old.roots
+    → AttemptLog (setup_attempt t bytes) old outcomes new → new.losses ≡ old.losses
+set_up_losses t bytes old new h = trail_counts (set_up_counts (setup_attempt t bytes) bytes refl
+    refl (not-true _ h))
 
-pub out_losses : (t : Target) (ep : ℕ) (toggle : Toggle) (bytes : List ℕ) (old new : World) {outcomes : List Outcome} → IsSettled old.roots → AttemptLog (out_attempt t ep toggle bytes) old outcomes new → new.losses ≡ old.losses
-out_losses t ep toggle bytes old new = trail_counts (out_counts (out_attempt t ep toggle bytes) bytes (record { kind = refl; payload = refl }))
+pub out_losses : (t : Target) (ep : ℕ) (toggle : Toggle) (bytes : List ℕ) (old new : World)
+    {outcomes : List Outcome} → IsSettled old.roots
+    → AttemptLog (out_attempt t ep toggle bytes) old outcomes new → new.losses ≡ old.losses
+out_losses t ep toggle bytes old new =
+    trail_counts (out_counts (out_attempt t ep toggle bytes) bytes
+    (record { kind = refl; payload = refl }))
 
-pub other_losses : (t : Target) (ep : ℕ) (old new : World) {outcomes : List Outcome} → ep ≢ 0 → IsSettled old.roots → AttemptLog (in_attempt t ep) old outcomes new → new.losses ≡ old.losses
-other_losses t ep old new other = trail_counts (in_counts (in_attempt t ep) (record { kind = refl; payload = refl }) other)
+pub other_losses : (t : Target) (ep : ℕ) (old new : World) {outcomes : List Outcome} → ep ≢ 0
+    → IsSettled old.roots → AttemptLog (in_attempt t ep) old outcomes new → new.losses ≡ old.losses
+other_losses t ep old new other = trail_counts
+    (in_counts (in_attempt t ep) (record { kind = refl; payload = refl }) other)
 
 -- IN of endpoint 0
 
 abbrev Did : Target → World → Relation
 Did t w j s v = is_at s t ≡ true → Counts (in_attempt t 0) w s v
 
-module _ (t : Target) (old : World) (settled : IsSettled old.roots) {new : World} (single : new.shared ≡ false) where
+module _ (t : Target) (old : World) (settled : IsSettled old.roots) {new : World}
+    (single : new.shared ≡ false) where
   -- each device at the target's address over it
-  over : {hear : _} (Last : Outcome → List Outcome → Type 0) → {result : Result (List ℕ) TransFault} (e : TransactionDone hear (in_attempt t 0) old result new) → Last e.last e.outcomes → EachIf Any (RunThrough (Did t) (in_attempt t 0) hear Last ⊥ old new) old new
+  over : {hear : _} (Last : Outcome → List Outcome → Type 0)
+      → {result : Result (List ℕ) TransFault} (e : TransactionDone hear (in_attempt t 0) old result
+      new) → Last e.last e.outcomes → EachIf Any
+      (RunThrough (Did t) (in_attempt t 0) hear Last ⊥ old new) old new
   over {hear} Last e is =
-      over_last (Did t) (in_attempt t 0) Any (λ w j u v d h. tt) (λ w m u j v on there h. each_counts (in_attempt t 0) w m (record { kind = refl; payload = refl }) refl u j v on there)
+      over_last (Did t) (in_attempt t 0) Any (λ w j u v d h. tt)
+      (λ w m u j v on there h. each_counts (in_attempt t 0) w m
+      (record { kind = refl; payload = refl }) refl u j v on there)
       old settled hear Last ⊥ single e.trail e.onward is
 
-module _ (t : Target) {hear : _} {Last : Outcome → List Outcome → Type 0} {old new : World} {j : Location} {s v : State} (x : RunThrough (Did t) (in_attempt t 0) hear Last ⊥ old new j s v) (at : is_at s t ≡ true) where
+module _ (t : Target) {hear : _} {Last : Outcome → List Outcome → Type 0} {old new : World}
+    {j : Location} {s v : State} (x : RunThrough (Did t) (in_attempt t 0) hear Last ⊥ old new j s v)
+    (at : is_at s t ≡ true) where
   -- a device that is to take no address loses none
   none_lost : ((n : ℕ) → s.stage ≢ ending (Some n)) → new.losses ≡ old.losses
   none_lost f =
-      at_end hear (λ outcomes w u. StaysEndless s u × (w.losses ≡ old.losses)) ((endless s.stage f, refl), refl)
-      (λ outcomes w u y trail made i d n. let c : _ = (d (at_from t s u i.0.1 at)).none i.0.0 in ((c.0.0, c.0.1 ∙ i.0.1), c.1 ∙ i.1)) (λ y. new.losses ≡ old.losses) v
-      (λ outcomes w u trail i d is told. ap (λ y. y.losses) (told (λ z. z)).1 ∙ ((d (at_from t s u i.0.1 at)).none i.0.0).1 ∙ i.1) (λ gave outcomes w i. absurd gave) x
+      at_end hear (λ outcomes w u. StaysEndless s u × (w.losses ≡ old.losses))
+      ((endless s.stage f, refl), refl)
+      (λ outcomes w u y trail made i d n. let c : _ = (d (at_from t s u i.0.1 at)).none i.0.0 in
+      ((c.0.0, c.0.1 ∙ i.0.1), c.1 ∙ i.1)) (λ y. new.losses ≡ old.losses) v
+      (λ outcomes w u trail i d is told. ap (λ y. y.losses) (told (λ z. z)).1
+      ∙ ((d (at_from t s u i.0.1 at)).none i.0.0).1 ∙ i.1) (λ gave outcomes w i. absurd gave)
+      x
     where
       endless : (g : Stage) → ((n : ℕ) → g ≢ ending (Some n)) → ends_with_address g ≡ false
       endless (ending (Some n)) f = absurd (f n refl)
       endless g f = refl
 
 abbrev Answers : Result (List ℕ) TransFault → Outcome → List Outcome → Type 0
-Answers result o outcomes = IsEnd (heard_as One) result o outcomes × LastOutcome (heard_as One) result o outcomes
+Answers result o outcomes = IsEnd (heard_as One) result o outcomes
+    × LastOutcome (heard_as One) result o outcomes
 
 -- one that is to take one does so or loses it where the host gets its packet
-module _ (t : Target) (result : Result (List ℕ) TransFault) {old new : World} {j : Location} {s v : State} (x : RunThrough (Did t) (in_attempt t 0) (heard_as One) (Answers result) ⊥ old new j s v) (at : is_at s t ≡ true)
+module _ (t : Target) (result : Result (List ℕ) TransFault) {old new : World} {j : Location}
+    {s v : State} (x : RunThrough (Did t) (in_attempt t 0) (heard_as One) (Answers result) ⊥ old new
+    j s v) (at : is_at s t ≡ true)
     (n : ℕ) (stage : s.stage ≡ ending (Some n)) where
   abbrev a : Attempt
   a = in_attempt t 0
@@ -83,39 +116,70 @@ module _ (t : Target) (result : Result (List ℕ) TransFault) {old new : World} 
   Stays w u = (u.stage ≡ s.stage) × (u.registers ≡ s.registers) × (w.losses ≡ old.losses)
 
   abbrev Fits : State → Type 0
-  Fits y = ((bytes : List ℕ) → result ≡ Ok bytes → TookOrLost n old new s y) × ((fault : TransFault) → result ≡ Err fault → new.losses ≡ old.losses)
+  Fits y = ((bytes : List ℕ) → result ≡ Ok bytes → TookOrLost n old new s y)
+      × ((fault : TransFault) → result ≡ Err fault → new.losses ≡ old.losses)
 
-  stays_on : (w : World) (u y : State) → Stays w u → EndsWithAddress a w n u y → IsNoEnd (heard_as One (outcome_in a w)) → Stays (after (attempt a) w) y
+  stays_on : (w : World) (u y : State) → Stays w u → EndsWithAddress a w n u y
+      → IsNoEnd (heard_as One (outcome_in a w)) → Stays (after (attempt a) w) y
   stays_on w u y i (got_it o e) c = elim (subst (λ z. IsNoEnd (heard_as One z)) o c) [ ]
   stays_on w u y i (got_none o g r l) c = (g ∙ i.0, r ∙ i.1, l ∙ i.2)
 
-  took_from : (w : World) (u : State) → Stays w u → new ≡ after (attempt a) w → TookOrLost n w (after (attempt a) w) u v → TookOrLost n old new s v
-  took_from w u i e (took g r l) = took g (r ∙ ap {A = Registers} (λ y. record y { address = n }) i.1) (ap (λ y. y.losses) e ∙ l ∙ i.2)
-  took_from w u i e (lost_it g r l) = lost_it (g ∙ i.0) (r ∙ i.1) (ap (λ y. y.losses) e ∙ l ∙ ap one_more i.2)
+  took_from : (w : World) (u : State) → Stays w u → new ≡ after (attempt a) w
+      → TookOrLost n w (after (attempt a) w) u v → TookOrLost n old new s v
+  took_from w u i e (took g r l) = took g (r
+      ∙ ap {A = Registers} (λ y. record y { address = n }) i.1) (ap (λ y. y.losses) e ∙ l ∙ i.2)
+  took_from w u i e (lost_it g r l) = lost_it (g ∙ i.0) (r ∙ i.1) (ap (λ y. y.losses) e ∙ l
+      ∙ ap one_more i.2)
 
-  unended : (fault : TransFault) (outcomes : List Outcome) → Answers (Err fault) (Payload One (packed [])) outcomes → ⊥
+  unended : (fault : TransFault) (outcomes : List Outcome)
+      → Answers (Err fault) (Payload One (packed [])) outcomes → ⊥
   unended Stalled outcomes c = cc c.0
   unended Busy outcomes c = c.0.0
   unended NoAnswer outcomes c = c.0.0
   unended (Bus fault) outcomes c = c.1
 
-  fits : (outcomes : List Outcome) (w : World) (u : State) → Stays w u → EndsWithAddress a w n u v → Answers result (outcome_in a w) outcomes → new ≡ after (attempt a) w → Fits v
-  fits outcomes w u i (got_it o e) c is = (λ bytes r. took_from w u i is e, λ fault r. absurd (unended fault outcomes (rw (r, o) at c)))
-  fits outcomes w u i (got_none o g r l) c is = (λ bytes q. false_true (sym o ∙ ap brings (read_last One (outcome_in a w) bytes (rw q at c).0)), λ fault q. ap (λ y. y.losses) is ∙ l ∙ i.2)
+  fits : (outcomes : List Outcome) (w : World) (u : State) → Stays w u → EndsWithAddress a w n u v
+      → Answers result (outcome_in a w) outcomes → new ≡ after (attempt a) w → Fits v
+  fits outcomes w u i (got_it o e) c is =
+      (λ bytes r. took_from w u i is e, λ fault r. absurd (unended fault outcomes (rw (r, o) at c)))
+  fits outcomes w u i (got_none o g r l) c is = (
+    λ bytes q. false_true (sym o ∙ ap brings
+        (read_last One (outcome_in a w) bytes (rw q at c).0)),
+    λ fault q. ap (λ y. y.losses) is
+        ∙ l ∙ i.2,
+  )
 
   ends_lost : Fits v
   ends_lost =
       at_end (heard_as One) (λ outcomes w u. Stays w u) (refl, refl, refl)
-      (λ outcomes w u y trail made i d c. stays_on w u y i ((d (at_from t s u i.1 at)).ends n (i.0 ∙ stage)) c) Fits v
-      (λ outcomes w u trail i d is told. fits outcomes w u i ((d (at_from t s u i.1 at)).ends n (i.0 ∙ stage)) is (told (λ z. z)).1) (λ gave outcomes w i. absurd gave) x
+      (λ outcomes w u y trail made i d c. stays_on w u y i
+      ((d (at_from t s u i.1 at)).ends n (i.0 ∙ stage)) c) Fits v
+      (λ outcomes w u trail i d is told. fits outcomes w u i
+      ((d (at_from t s u i.1 at)).ends n (i.0 ∙ stage)) is (told (λ z. z)).1)
+      (λ gave outcomes w i. absurd gave) x
 
-pub in_losses : (t : Target) (result : Result (List ℕ) TransFault) (old new : World) → IsSettled old.roots → TransactionDone (heard_as One) (in_attempt t 0) old result new → new.shared ≡ false → EachWas (LossesIn t result old new) old new
+pub in_losses : (t : Target) (result : Result (List ℕ) TransFault) (old new : World)
+    → IsSettled old.roots → TransactionDone (heard_as One) (in_attempt t 0) old result new
+    → new.shared ≡ false → EachWas (LossesIn t result old new) old new
 in_losses t result old new settled e single =
-    each_device _ (LossesIn t result old new) old new (λ j s v x. record { done = λ at n stage. (ends_lost t result x at n stage).0; failed = λ at n stage. (ends_lost t result x at n stage).1; none = none_lost t x })
-    (over t old settled single (Answers result) e (tells_end (heard_as One) result e.last e.outcomes e.onward e.tells, e.tells))
+    each_device _ (LossesIn t result old new) old new
+    (λ j s v x. record {
+      done = λ at n stage. (ends_lost t result x at n stage).0;
+      failed =
+          λ at n stage. (ends_lost t result x at n stage).1;
+      none = none_lost t x;
+    })
+    (over t old settled single (Answers result) e (
+      tells_end (heard_as One) result e.last e.outcomes
+          e.onward e.tells,
+      e.tells,
+    ))
 
 -- in a read a device that is to take no address loses none
-pub read_losses : (t : Target) (awaited : Toggle) (result : Result (List ℕ) TransFault) (old new : World) → IsSettled old.roots → TransactionDone (heard_as awaited) (in_attempt t 0) old result new → new.shared ≡ false
+pub read_losses : (t : Target) (awaited : Toggle) (result : Result (List ℕ) TransFault)
+    (old new : World) → IsSettled old.roots
+    → TransactionDone (heard_as awaited) (in_attempt t 0) old result new → new.shared ≡ false
     → EachWas (LosesNone t old new) old new
 read_losses t awaited result old new settled e single =
-    each_device _ (LosesNone t old new) old new (λ j s v x. none_lost t x) (over t old settled single (λ o outcomes. Unit {0}) e tt)
+    each_device _ (LosesNone t old new) old new (λ j s v x. none_lost t x)
+    (over t old settled single (λ o outcomes. Unit {0}) e tt)

@@ -1,5 +1,8 @@
--- What each call tells, by what was heard: who answered, and what its answer says of that device; what it leaves of each device; why it failed.
-use Rattle.std.proofs.Common.{◌≡◌, ◌≢◌, ◌⊎◌, inl, inr, ℕ, Bool, true, false, ◌&&◌, List, ◌∷◌, length, None, Some, Ok, Err, if◌then◌else◌, refl, sym, subst, ap, ◌∙◌, arith, ◌≤◌, [], Option, Result}
+-- What each call tells, by what was heard: who answered, and what its answer says of that device;
+-- what it leaves of each device; why it failed.
+use Rattle.std.proofs.Common.{◌≡◌, ◌≢◌, ◌⊎◌, inl, inr, ℕ, Bool, true, false, ◌&&◌, List, ◌∷◌}
+use Rattle.std.proofs.Common.{length, None, Some, Ok, Err, if◌then◌else◌, refl, sym, subst, ap, ◌∙◌}
+use Rattle.std.proofs.Common.{arith, ◌≤◌, [], Option, Result}
 use Rattle.usb_packet.specs.declared.Toggle.{Toggle}
 use Rattle.usb_request.specs.Layout.{setup_of}
 use Rattle.usb_device.specs.declared.answer.Answer.{Answer}
@@ -13,33 +16,50 @@ use Rattle.usb_world.specs.declared.types.Outcome.TheVariants as outcome
 use Rattle.usb_tree.specs.Paths.{address_of}
 use Rattle.usb_tree.specs.AttemptPackets.{IsSettled, deep_at}
 use Rattle.usb_world.specs.Courses.{is_harmless}
-use Rattle.usb_world.specs.OneHolder.{IsMade, AttemptAnswerer, IsSetup, got, hears_attempt, token_way, payload_way, answer_way}
+use Rattle.usb_world.specs.OneHolder.{IsMade, AttemptAnswerer, IsSetup, got, hears_attempt}
+use Rattle.usb_world.specs.OneHolder.{token_way, payload_way, answer_way}
 use Rattle.usb_world.specs.World.{World}
-use Rattle.usb_world.specs.Steps.{at_attempt, damage_in, outcome_in, with_attempt, attempt, after, Course, here}
+use Rattle.usb_world.specs.Steps.{at_attempt, damage_in, outcome_in, with_attempt, attempt, after}
+use Rattle.usb_world.specs.Steps.{Course, here}
 use Rattle.usb_world.specs.Devices.{Was, DidIn, DidOut, EachWas}
-use Rattle.usb_world.proofs.Interface.{course_then, due_back, each_in, each_out, given_by, got_given, holder_in, in_in, is_state, made_is, made_of, made_unshared, one_answers, out_in, setup_in, setup_sound_in, stands, state_stands, stays_reachable_in, third, each_beside}
+use Rattle.usb_world.proofs.Interface.{course_then, due_back, each_in, each_out, given_by}
+use Rattle.usb_world.proofs.Interface.{got_given, holder_in, in_in, is_state, made_is, made_of}
+use Rattle.usb_world.proofs.Interface.{made_unshared, one_answers, out_in, setup_in, setup_sound_in}
+use Rattle.usb_world.proofs.Interface.{stands, state_stands, stays_reachable_in, third, each_beside}
 use Rattle.usb_tree.proofs.Interface.{decided, equal_same, same_equal}
 use Rattle.usb_transaction.specs.declared.target.Target.{Target}
 use Rattle.usb_transaction.specs.declared.fault.TransFault.{TransFault}
-use Rattle.usb_transaction.specs.declared.fault.TransFault.TheVariants.{Stalled, Busy, NoAnswer, Bus}
+use Rattle.usb_transaction.specs.declared.fault.TransFault.TheVariants.{Stalled, Busy, NoAnswer}
+use Rattle.usb_transaction.specs.declared.fault.TransFault.TheVariants.{Bus}
 use Rattle.usb_transaction.specs.declared.heard_outcome.HeardOutcome.{HeardOutcome}
 use Rattle.usb_transaction.specs.declared.heard_outcome.HeardOutcome.TheVariants.{Lost, Moved}
 use Rattle.usb_transaction.specs.Answerer.{Answerer, HadOne, IsAnswer}
 use Rattle.usb_transaction.specs.HeardOutcomes.{heard_as, polled_as, heard_when_sent, set_up_as}
 use Rattle.usb_transaction.specs.Leaves.{is_at, ControlIn, ReadStatus, SourceIn, SinkOut, ChangesIn}
 use Rattle.usb_transaction.specs.AskedDevices.{AskedLast, SetupAccepted, Answered, Took, IsUnheard}
-use Rattle.usb_transaction.specs.AttemptLog.{AttemptLog, start, next, waits_with, waits_in, IsNoEnd, KeepsTrying, TransactionDone, Transacted, Waiting, Polled}
-use Rattle.usb_transaction.specs.Transactions.{packed, setup_attempt, in_attempt, out_attempt, SetupEnds}
-use Rattle.usb_transaction.proofs.DeviceRuns.{Deeds, EachIf, Run, had_address, in_others, more, none, out_others, over_trail}
-use Rattle.usb_transaction.proofs.LastOutcomes.{read_last, sent_last, set_up_last, sent_empty, set_up_empty}
-use Rattle.usb_transaction.proofs.SetupTransactions.{SetupResult, accepting, set_up_why, setup_leaves}
+use Rattle.usb_transaction.specs.AttemptLog.{AttemptLog, start, next, waits_with, waits_in, IsNoEnd}
+use Rattle.usb_transaction.specs.AttemptLog.{KeepsTrying, TransactionDone, Transacted, Waiting}
+use Rattle.usb_transaction.specs.AttemptLog.{Polled}
+use Rattle.usb_transaction.specs.Transactions.{packed, setup_attempt, in_attempt, out_attempt}
+use Rattle.usb_transaction.specs.Transactions.{SetupEnds}
+use Rattle.usb_transaction.proofs.DeviceRuns.{Deeds, EachIf, Run, had_address, in_others, more}
+use Rattle.usb_transaction.proofs.DeviceRuns.{none, out_others, over_trail}
+use Rattle.usb_transaction.proofs.LastOutcomes.{read_last, sent_last, set_up_last, sent_empty}
+use Rattle.usb_transaction.proofs.LastOutcomes.{set_up_empty}
+use Rattle.usb_transaction.proofs.SetupTransactions.{SetupResult, accepting, set_up_why}
+use Rattle.usb_transaction.proofs.SetupTransactions.{setup_leaves}
 use Rattle.usb_transaction.proofs.Trails.{few_waits, last_erred, trail_settled, ended_of}
 use Rattle.std.specs.Prelude.{IfOk, IfSome, OnOk}
 use Rattle.usb_packet.specs.declared.Toggle.TheVariants.{One}
-use Rattle.usb_transaction.specs.Calls.{IsUnhindered, MeansOfSetup, SetsUp, InLeaves, InFailure, MeansOfIn, AsksIn, OutLeaves, OutFailure, MeansOfOut, SendsOut, PollsIn}
-use Rattle.usb_transaction.specs.Failures.{ControlInFailure, StatusReadFailure, SourceInFailure, SinkOutFailure}
-use Rattle.usb_transaction.proofs.BulkTransactions.{sink_leaves, sink_why, source_leaves, source_why}
-use Rattle.usb_transaction.proofs.ControlTransactions.{control_in_why, control_leaves, read_status_why, status_leaves}
+use Rattle.usb_transaction.specs.Calls.{IsUnhindered, MeansOfSetup, SetsUp, InLeaves, InFailure}
+use Rattle.usb_transaction.specs.Calls.{MeansOfIn, AsksIn, OutLeaves, OutFailure, MeansOfOut}
+use Rattle.usb_transaction.specs.Calls.{SendsOut, PollsIn}
+use Rattle.usb_transaction.specs.Failures.{ControlInFailure, StatusReadFailure, SourceInFailure}
+use Rattle.usb_transaction.specs.Failures.{SinkOutFailure}
+use Rattle.usb_transaction.proofs.BulkTransactions.{sink_leaves, sink_why, source_leaves}
+use Rattle.usb_transaction.proofs.BulkTransactions.{source_why}
+use Rattle.usb_transaction.proofs.ControlTransactions.{control_in_why, control_leaves}
+use Rattle.usb_transaction.proofs.ControlTransactions.{read_status_why, status_leaves}
 use Rattle.usb_transaction.proofs.Polls.{poll_leaves, poll_why}
 use Rattle.usb_transaction.proofs.TransactionTries.{ends_of, poll_ends}
 
@@ -54,15 +74,28 @@ record LastAttempt (a : Attempt) (old new : World) (last : Outcome) : Type 0 whe
   made : IsMade a mid
   single : (after (attempt a) mid).shared ≡ false
 
-last_attempt : {a : Attempt} {old new : World} {last : Outcome} {outcomes : List Outcome} → IsSettled old.roots → AttemptLog a old (last ∷ outcomes) new → new.shared ≡ false → LastAttempt a old new last
+last_attempt : {a : Attempt} {old new : World} {last : Outcome} {outcomes : List Outcome}
+    → IsSettled old.roots → AttemptLog a old (last ∷ outcomes) new → new.shared ≡ false
+    → LastAttempt a old new last
 last_attempt {a} {old} settled (next {outcomes = os} w t made) h =
-    record { outcomes = os; mid = w; before = t; is_last = refl; came = refl; made = made_of a w (trail_settled t settled) made; single = h }
+    record {
+      outcomes = os;
+      mid = w;
+      before = t;
+      is_last = refl;
+      came = refl;
+      made =
+          made_of a w (trail_settled t settled) made;
+      single = h;
+    }
 
 -- it was answered
-answerer : {a : Attempt} {old new : World} {last : Outcome} (l : LastAttempt a old new last) → last ≢ outcome.Nothing → AttemptAnswerer a l.mid
+answerer : {a : Attempt} {old new : World} {last : Outcome} (l : LastAttempt a old new last)
+    → last ≢ outcome.Nothing → AttemptAnswerer a l.mid
 answerer {a} l loud = one_answers a l.mid l.made l.single (λ e. loud (sym l.came ∙ e))
 
-abbrev asked_last : {a : Attempt} {old new : World} {last : Outcome} (l : LastAttempt a old new last) → AttemptAnswerer a l.mid → AskedLast a old new
+abbrev asked_last : {a : Attempt} {old new : World} {last : Outcome}
+    (l : LastAttempt a old new last) → AttemptAnswerer a l.mid → AskedLast a old new
 asked_last l y = record {
   outcomes = l.outcomes;
   mid = l.mid;
@@ -73,15 +106,19 @@ asked_last l y = record {
 }
 
 -- the device that was asked is still reachable
-asked_last-reach : {a : Attempt} {old new : World} (q : AskedLast a old new) → reach_on new.roots q.holder.spot ≡ true
-asked_last-reach {a} q = ap (λ w. reach_on w.roots q.holder.spot) q.last ∙ stays_reachable_in a q.mid q.holder
+asked_last-reach : {a : Attempt} {old new : World} (q : AskedLast a old new)
+    → reach_on new.roots q.holder.spot ≡ true
+asked_last-reach {a} q = ap (λ w. reach_on w.roots q.holder.spot) q.last
+    ∙ stays_reachable_in a q.mid q.holder
 
 -- What was answered
 
 given_loud : {last : Outcome} {g : Answer} → given_by last ≡ Some g → last ≢ outcome.Nothing
 given_loud is n = cc (sym (ap given_by n) ∙ is)
 
-trail_answered : (t : Target) (ep : ℕ) (g : Answer) (old new : World) {last : Outcome} {outcomes : List Outcome} → IsSettled old.roots → AttemptLog (in_attempt t ep) old (last ∷ outcomes) new → given_by last ≡ Some g
+trail_answered : (t : Target) (ep : ℕ) (g : Answer) (old new : World) {last : Outcome}
+    {outcomes : List Outcome} → IsSettled old.roots
+    → AttemptLog (in_attempt t ep) old (last ∷ outcomes) new → given_by last ≡ Some g
     → new.shared ≡ false → Answered t ep g old new
 trail_answered t ep g old new {last} settled trail is h =
     let l = last_attempt settled trail h in
@@ -95,13 +132,16 @@ trail_answered t ep g old new {last} settled trail is h =
       state = ap (λ w. state_on w.roots q.spot) l.is_last ∙ x.state;
     }
 
-took : (t : Target) (ep : ℕ) (toggle : Toggle) (bytes : List ℕ) (g : Answer) (old new : World) {last : Outcome} {outcomes : List Outcome} → IsSettled old.roots
-    → AttemptLog (out_attempt t ep toggle bytes) old (last ∷ outcomes) new → given_by last ≡ Some g → new.shared ≡ false → Took t ep toggle bytes g old new
+took : (t : Target) (ep : ℕ) (toggle : Toggle) (bytes : List ℕ) (g : Answer) (old new : World)
+    {last : Outcome} {outcomes : List Outcome} → IsSettled old.roots
+    → AttemptLog (out_attempt t ep toggle bytes) old (last ∷ outcomes) new → given_by last ≡ Some g
+    → new.shared ≡ false → Took t ep toggle bytes g old new
 took t ep toggle bytes g old new {last} settled trail is h =
     let l = last_attempt settled trail h in
     let y = answerer l (given_loud is) in
     let q = y.holder in
-    let x = out_in (out_attempt t ep toggle bytes) l.mid q y.loud toggle bytes (record { kind = refl; payload = refl }) in
+    let x = out_in (out_attempt t ep toggle bytes) l.mid q y.loud toggle bytes
+    (record { kind = refl; payload = refl }) in
     record {
       asked = asked_last l y;
       gave = got_given t.max _ last (sym x.outcome ∙ l.came) (given_loud is) ∙ is;
@@ -109,30 +149,46 @@ took t ep toggle bytes g old new {last} settled trail is h =
       state = ap (λ w. state_on w.roots q.spot) l.is_last ∙ x.state;
     }
 
-pub in_answered : (t : Target) (ep : ℕ) (toggle : Toggle) (bytes : List ℕ) (old new : World) → IsSettled old.roots
-    → Transacted (heard_as toggle) (in_attempt t ep) old (Ok bytes) new → new.shared ≡ false → Answered t ep (answer.Data toggle (packed bytes)) old new
-in_answered t ep toggle bytes old new settled e = trail_answered t ep (answer.Data toggle (packed bytes)) old new settled e.trail (ap given_by (read_last toggle e.last bytes e.tells))
+pub in_answered : (t : Target) (ep : ℕ) (toggle : Toggle) (bytes : List ℕ) (old new : World)
+    → IsSettled old.roots
+    → Transacted (heard_as toggle) (in_attempt t ep) old (Ok bytes) new → new.shared ≡ false
+    → Answered t ep (answer.Data toggle (packed bytes)) old new
+in_answered t ep toggle bytes old new settled e =
+    trail_answered t ep (answer.Data toggle (packed bytes)) old new settled e.trail
+    (ap given_by (read_last toggle e.last bytes e.tells))
 
 pub read_stalled : (t : Target) (ep : ℕ) (toggle : Toggle) (old new : World) → IsSettled old.roots
-    → Transacted (heard_as toggle) (in_attempt t ep) old (Err Stalled) new → new.shared ≡ false → Answered t ep answer.Stall old new
-read_stalled t ep toggle old new settled e = trail_answered t ep answer.Stall old new settled e.trail (ap given_by e.tells)
+    → Transacted (heard_as toggle) (in_attempt t ep) old (Err Stalled) new → new.shared ≡ false
+    → Answered t ep answer.Stall old new
+read_stalled t ep toggle old new settled e =
+    trail_answered t ep answer.Stall old new settled e.trail (ap given_by e.tells)
 
-pub write_done : (t : Target) (ep : ℕ) (toggle : Toggle) (bytes done : List ℕ) (old new : World) → IsSettled old.roots
-    → Transacted heard_when_sent (out_attempt t ep toggle bytes) old (Ok done) new → new.shared ≡ false → Took t ep toggle bytes answer.Ack old new
-write_done t ep toggle bytes done old new settled e = took t ep toggle bytes answer.Ack old new settled e.trail (ap given_by (sent_last e.last (packed done) e.tells))
+pub write_done : (t : Target) (ep : ℕ) (toggle : Toggle) (bytes done : List ℕ) (old new : World)
+    → IsSettled old.roots
+    → Transacted heard_when_sent (out_attempt t ep toggle bytes) old (Ok done) new
+    → new.shared ≡ false → Took t ep toggle bytes answer.Ack old new
+write_done t ep toggle bytes done old new settled e =
+    took t ep toggle bytes answer.Ack old new settled e.trail
+    (ap given_by (sent_last e.last (packed done) e.tells))
 
-pub write_stalled : (t : Target) (ep : ℕ) (toggle : Toggle) (bytes : List ℕ) (old new : World) → IsSettled old.roots
-    → Transacted heard_when_sent (out_attempt t ep toggle bytes) old (Err Stalled) new → new.shared ≡ false → Took t ep toggle bytes answer.Stall old new
-write_stalled t ep toggle bytes old new settled e = took t ep toggle bytes answer.Stall old new settled e.trail (ap given_by e.tells)
+pub write_stalled : (t : Target) (ep : ℕ) (toggle : Toggle) (bytes : List ℕ) (old new : World)
+    → IsSettled old.roots
+    → Transacted heard_when_sent (out_attempt t ep toggle bytes) old (Err Stalled) new
+    → new.shared ≡ false → Took t ep toggle bytes answer.Stall old new
+write_stalled t ep toggle bytes old new settled e =
+    took t ep toggle bytes answer.Stall old new settled e.trail (ap given_by e.tells)
 
 -- setup data that were answered were accepted
-pub taken_up : (x : Bool) (t : Way) (s v : State) (max : ℕ) → got max (if◌then◌else◌ {A = Reply} x (heard t (Some answer.Ack), v) (None, s)).0 ≡ outcome.Ack
+pub taken_up : (x : Bool) (t : Way) (s v : State) (max : ℕ)
+    → got max (if◌then◌else◌ {A = Reply} x (heard t (Some answer.Ack), v) (None, s)).0 ≡ outcome.Ack
     → (if◌then◌else◌ {A = Reply} x (heard t (Some answer.Ack), v) (None, s)).1 ≡ v
 taken_up true t s v max e = refl
 taken_up false t s v max e = cc e
 
-pub set_up_done : (t : Target) (bytes done : List ℕ) (old new : World) → length bytes ≡ 8 → IsSettled old.roots
-    → Transacted set_up_as (setup_attempt t bytes) old (Ok done) new → new.shared ≡ false → SetupAccepted t bytes old new
+pub set_up_done : (t : Target) (bytes done : List ℕ) (old new : World) → length bytes ≡ 8
+    → IsSettled old.roots
+    → Transacted set_up_as (setup_attempt t bytes) old (Ok done) new → new.shared ≡ false
+    → SetupAccepted t bytes old new
 set_up_done t bytes done old new eight settled e h =
     let a = setup_attempt t bytes in
     let last : e.last ≡ outcome.Ack = set_up_last e.last (packed done) e.tells in
@@ -141,50 +197,76 @@ set_up_done t bytes done old new eight settled e h =
     let q = y.holder in
     let k = (at_attempt l.mid).roots in
     let d = damage_in (at_attempt l.mid) in
-    let x = setup_in a l.mid q y.loud bytes (record { kind = refl; ep = refl; payload = refl; whole = eight }) in
-    let whole : Bool = is_whole (token_way a d (deep_at false q.spot.rest) q.own) && is_whole (payload_way a d (deep_at false q.spot.rest) q.own) in
+    let x = setup_in a l.mid q y.loud bytes (record {
+      kind = refl;
+      ep = refl;
+      payload = refl;
+      whole = eight;
+    }) in
+    let whole : Bool = is_whole (token_way a d (deep_at false q.spot.rest) q.own) &&
+    is_whole (payload_way a d (deep_at false q.spot.rest) q.own) in
     record {
       asked = asked_last l y;
       on = asked_last-reach (asked_last l y);
       state = ap (λ w. state_on w.roots q.spot) l.is_last ∙ x.state
-          ∙ ap (λ v. Some v) (taken_up whole (answer_way a d k) q.own (accepted q.own (row_of q.below) (setup_of bytes)) a.max (sym x.outcome ∙ l.came ∙ last));
+          ∙ ap (λ v. Some v) (taken_up whole (answer_way a d k) q.own
+          (accepted q.own (row_of q.below) (setup_of bytes)) a.max (sym x.outcome ∙ l.came
+          ∙ last));
     }
 
 -- Why no setup data were acknowledged
 
-unheard_at : (a : Attempt) (w : World) (bytes : List ℕ) → IsSetup a bytes → outcome_in a w ≢ outcome.Ack → IsUnheard (attempt a) w
-unheard_at a w bytes i c h = pick (decided h.own.spec.silent) (decided (hears_attempt a (deep_at false h.spot.rest) h.own))
+unheard_at : (a : Attempt) (w : World) (bytes : List ℕ) → IsSetup a bytes
+    → outcome_in a w ≢ outcome.Ack → IsUnheard (attempt a) w
+unheard_at a w bytes i c h = pick (decided h.own.spec.silent)
+    (decided (hears_attempt a (deep_at false h.spot.rest) h.own))
   where
-    pick : (h.own.spec.silent ≡ true) ⊎ (h.own.spec.silent ≡ false) → (hears_attempt a (deep_at false h.spot.rest) h.own ≡ true) ⊎ (hears_attempt a (deep_at false h.spot.rest) h.own ≡ false)
-        → (h.own.spec.silent ≡ true) ⊎ (hears_attempt a (deep_at false h.spot.rest) h.own ≡ false) ⊎ (damage_in w ≢ None)
+    pick : (h.own.spec.silent ≡ true) ⊎ (h.own.spec.silent ≡ false)
+        → (hears_attempt a (deep_at false h.spot.rest) h.own ≡ true)
+        ⊎ (hears_attempt a (deep_at false h.spot.rest) h.own ≡ false)
+        → (h.own.spec.silent ≡ true) ⊎ (hears_attempt a (deep_at false h.spot.rest) h.own ≡ false)
+        ⊎ (damage_in w ≢ None)
     pick (inl silent) x = inl silent
-    pick (inr loud) (inl hears) = inr (inr (λ none. c (setup_sound_in a w h loud hears none bytes i).outcome))
+    pick (inr loud) (inl hears) =
+        inr (inr (λ none. c (setup_sound_in a w h loud hears none bytes i).outcome))
     pick (inr loud) (inr deaf) = inr (inl deaf)
 
 -- while it goes on, and at its last error
 no_ack : (o : Outcome) → IsNoEnd (set_up_as o) → o ≢ outcome.Ack
 no_ack o h e = subst (λ x. IsNoEnd (set_up_as x)) e h
 
-unheard_course : {a : Attempt} {old new : World} {outcomes : List Outcome} (bytes : List ℕ) → IsSetup a bytes → AttemptLog a old outcomes new → KeepsTrying set_up_as outcomes → Course IsUnheard old new
+unheard_course : {a : Attempt} {old new : World} {outcomes : List Outcome} (bytes : List ℕ)
+    → IsSetup a bytes → AttemptLog a old outcomes new → KeepsTrying set_up_as outcomes
+    → Course IsUnheard old new
 unfolding KeepsTrying
 unheard_course {a} {old} bytes i start g = here old
-unheard_course {a} bytes i (next w t made) g = course_then (attempt a) (unheard_course bytes i t g.3) (unheard_at a w bytes i (no_ack (outcome_in a w) g.0))
+unheard_course {a} bytes i (next w t made) g =
+    course_then (attempt a) (unheard_course bytes i t g.3)
+    (unheard_at a w bytes i (no_ack (outcome_in a w) g.0))
 
 pub set_up_unheard : (t : Target) (bytes : List ℕ) (old new : World) → length bytes ≡ 8
     → Transacted set_up_as (setup_attempt t bytes) old (Err NoAnswer) new → Course IsUnheard old new
-set_up_unheard t bytes old new eight e = at_last e.trail (last_erred set_up_as e.last e.outcomes e.tells)
+set_up_unheard t bytes old new eight e =
+    at_last e.trail (last_erred set_up_as e.last e.outcomes e.tells)
   where
     kind : IsSetup (setup_attempt t bytes) bytes
     kind = record { kind = refl; ep = refl; payload = refl; whole = eight }
 
-    at_last : {o : Outcome} {now : World} → AttemptLog (setup_attempt t bytes) old (o ∷ e.outcomes) now → IsNoEnd (set_up_as o) → Course IsUnheard old now
-    at_last (next w r made) on = course_then (attempt (setup_attempt t bytes)) (unheard_course bytes kind r e.onward) (unheard_at (setup_attempt t bytes) w bytes kind (no_ack (outcome_in (setup_attempt t bytes) w) on))
+    at_last : {o : Outcome} {now : World} → AttemptLog (setup_attempt t bytes) old (o ∷ e.outcomes)
+        now → IsNoEnd (set_up_as o) → Course IsUnheard old now
+    at_last (next w r made) on = course_then (attempt (setup_attempt t bytes))
+        (unheard_course bytes kind r e.onward)
+        (unheard_at (setup_attempt t bytes) w bytes kind
+        (no_ack (outcome_in (setup_attempt t bytes) w) on))
 
 -- Who answered
 
--- what is so at the end, and of a device before each attempt where it is so after it, was so at first
-was_so : {Did : Deeds} {a : Attempt} {old : World} {j : Location} {s : State} {outcomes : List Outcome} {w : World} {v : State} (P : State → Type 0)
-    → ((w : World) (i : Location) (u x : State) → Did w i u x → P x → P u) → Run Did a old j s outcomes w v → P v → P s
+-- what is so at the end, and of a device before each attempt where it is so after it, was so at
+-- first
+was_so : {Did : Deeds} {a : Attempt} {old : World} {j : Location} {s : State}
+    {outcomes : List Outcome} {w : World} {v : State} (P : State → Type 0)
+    → ((w : World) (i : Location) (u x : State) → Did w i u x → P x → P u)
+    → Run Did a old j s outcomes w v → P v → P s
 was_so P back none h = h
 was_so {j = j} P back (more w u x t made r d) h = was_so P back r (back w j u x d h)
 
@@ -194,13 +276,17 @@ had_one a = record { spot = a.spot; state = a.before; on = a.was_on; stands = a.
 abbrev IsThere : Target → State → Type 0
 IsThere t s = is_at s t ≡ true
 
-module _ (t : Target) (a : Attempt) (its : a.addr ≡ t.addr) (Did : Deeds) (others : (w : World) (j : Location) (s v : State) → Did w j s v → is_at s t ≡ false → v ≡ s)
-    (does : (w : World) → IsMade a w → (after (attempt a) w).shared ≡ false → EachIf (IsThere t) (Did w) w (after (attempt a) w)) (old : World) (settled : IsSettled old.roots) where
+module _ (t : Target) (a : Attempt) (its : a.addr ≡ t.addr) (Did : Deeds)
+    (others : (w : World) (j : Location) (s v : State) → Did w j s v → is_at s t ≡ false → v ≡ s)
+    (does : (w : World) → IsMade a w → (after (attempt a) w).shared ≡ false
+    → EachIf (IsThere t) (Did w) w (after (attempt a) w)) (old : World)
+    (settled : IsSettled old.roots) where
   back : (w : World) (j : Location) (s v : State) → Did w j s v → IsThere t v → IsThere t s
   back w j s v d = had_address t s v (others w j s v d)
 
   -- what was heard at last came from it
-  who : {new : World} {last : Outcome} {outcomes : List Outcome} → new.shared ≡ false → AttemptLog a old (last ∷ outcomes) new → last ≢ outcome.Nothing → Answerer t old new
+  who : {new : World} {last : Outcome} {outcomes : List Outcome} → new.shared ≡ false
+      → AttemptLog a old (last ∷ outcomes) new → last ≢ outcome.Nothing → Answerer t old new
   unfolding with_attempt
   who single (next {outcomes} w r made) loud =
       let x = (one_answers a w (made_of a w (trail_settled r settled) made) single loud).holder in
@@ -208,170 +294,270 @@ module _ (t : Target) (a : Attempt) (its : a.addr ≡ t.addr) (Did : Deeds) (oth
       let there : _ = due_back w x.spot x.on in
       let at : IsThere t x.own = same_equal (address_of x.own) t.addr (x.at ∙ its) in
       let was : Was (λ j s v. Run Did a old j s outcomes w v) old x.spot x.own =
-      over_trail Did a (IsThere t) back does old settled r (made_unshared a w made single).before x.spot x.own there.0 (sym there.1 ∙ sym (state_stands (at_attempt w).roots x.spot.row x.spot.rest) ∙ ap stands x.stands) at in
+      over_trail Did a (IsThere t) back does old settled r (made_unshared a w made single).before
+      x.spot x.own there.0 (sym there.1
+      ∙ sym (state_stands (at_attempt w).roots x.spot.row x.spot.rest) ∙ ap stands x.stands)
+      at in
       record {
         spot = x.spot;
         now = forgotten (third a (damage_in (at_attempt w)) (at_attempt w).roots h).1;
         on = stays_reachable_in a w x;
-        stands = ap (λ v. state_on v.roots x.spot) (made_is a w x.made) ∙ is_state a (damage_in (at_attempt w)) (at_attempt w).roots h;
+        stands = ap (λ v. state_on v.roots x.spot) (made_is a w x.made)
+            ∙ is_state a (damage_in (at_attempt w)) (at_attempt w).roots h;
         before = was.before;
         was_on = was.on;
         stood = was.stands;
         at = was_so (IsThere t) back was.so at;
       }
 
-  module _ (new : World) (single : new.shared ≡ false) (hear : Outcome → HeardOutcome) (lost : hear outcome.Nothing ≡ Lost) where
+  module _ (new : World) (single : new.shared ≡ false) (hear : Outcome → HeardOutcome)
+      (lost : hear outcome.Nothing ≡ Lost) where
     moved_who : (bytes : List ℕ) → TransactionDone hear a old (Ok bytes) new → Answerer t old new
     moved_who bytes e = who single e.trail (λ n. cc (sym lost ∙ sym (ap hear n) ∙ e.tells))
 
     -- the last of too many waits was heard
-    fault_had : (fault : TransFault) → IsAnswer fault → Transacted hear a old (Err fault) new → HadOne t old
+    fault_had : (fault : TransFault) → IsAnswer fault → Transacted hear a old (Err fault) new
+        → HadOne t old
     unfolding waits_in
     fault_had Stalled y e = had_one (who single e.trail (λ n. cc (sym e.tells ∙ n)))
     fault_had Busy y e =
         had_one (who single e.trail (λ n.
-        omega (arith, few_waits hear e.outcomes e.onward, sym (ap (λ h. waits_with h (waits_in hear e.outcomes)) (ap hear n ∙ lost)) ∙ e.tells)))
+        omega (
+          arith,
+          few_waits hear e.outcomes e.onward,
+          sym (ap (λ h. waits_with h (waits_in hear e.outcomes)) (ap hear n ∙ lost))
+              ∙ e.tells,
+        )))
     fault_had NoAnswer y e = absurd y
     fault_had (Bus fault) y e = absurd y
 
 -- The three kinds
 
 -- one at an address that is not 0 was not reset
-does_setup : (t : Target) (bytes : List ℕ) → length bytes ≡ 8 → (is_harmless (setup_of bytes) ≡ false → t.addr ≢ 0) → (w : World) → IsMade (setup_attempt t bytes) w → (after (attempt (setup_attempt t bytes)) w).shared ≡ false
+does_setup : (t : Target) (bytes : List ℕ) → length bytes ≡ 8
+    → (is_harmless (setup_of bytes) ≡ false → t.addr ≢ 0) → (w : World)
+    → IsMade (setup_attempt t bytes) w → (after (attempt (setup_attempt t bytes)) w).shared ≡ false
     → EachIf (IsThere t) (SetupResult t bytes w) w (after (attempt (setup_attempt t bytes)) w)
-does_setup t bytes eight addressed w made u j v on there at = accepting t bytes eight w made u j v on there (λ h. (addressed h, λ e. addressed h (sym (equal_same (address_of v) t.addr at) ∙ e)))
+does_setup t bytes eight addressed w made u j v on there at =
+    accepting t bytes eight w made u j v on there
+    (λ h. (addressed h, λ e. addressed h (sym (equal_same (address_of v) t.addr at) ∙ e)))
 
-pub set_up_answered : (t : Target) (bytes done : List ℕ) (old new : World) → length bytes ≡ 8 → (is_harmless (setup_of bytes) ≡ false → t.addr ≢ 0) → IsSettled old.roots
-    → TransactionDone set_up_as (setup_attempt t bytes) old (Ok done) new → new.shared ≡ false → Answerer t old new
+pub set_up_answered : (t : Target) (bytes done : List ℕ) (old new : World) → length bytes ≡ 8
+    → (is_harmless (setup_of bytes) ≡ false → t.addr ≢ 0) → IsSettled old.roots
+    → TransactionDone set_up_as (setup_attempt t bytes) old (Ok done) new → new.shared ≡ false
+    → Answerer t old new
 set_up_answered t bytes done old new eight addressed settled e single =
-    moved_who t (setup_attempt t bytes) refl (SetupResult t bytes) (λ w j s v d. d.others) (does_setup t bytes eight addressed) old settled new single set_up_as refl done e
+    moved_who t (setup_attempt t bytes) refl (SetupResult t bytes) (λ w j s v d. d.others)
+    (does_setup t bytes eight addressed) old settled new single set_up_as refl done e
 
-pub set_up_had : (t : Target) (bytes : List ℕ) (fault : TransFault) (old new : World) → length bytes ≡ 8 → (is_harmless (setup_of bytes) ≡ false → t.addr ≢ 0) → IsSettled old.roots
-    → IsAnswer fault → Transacted set_up_as (setup_attempt t bytes) old (Err fault) new → new.shared ≡ false → HadOne t old
+pub set_up_had : (t : Target) (bytes : List ℕ) (fault : TransFault) (old new : World)
+    → length bytes ≡ 8 → (is_harmless (setup_of bytes) ≡ false → t.addr ≢ 0) → IsSettled old.roots
+    → IsAnswer fault → Transacted set_up_as (setup_attempt t bytes) old (Err fault) new
+    → new.shared ≡ false → HadOne t old
 set_up_had t bytes fault old new eight addressed settled y e single =
-    fault_had t (setup_attempt t bytes) refl (SetupResult t bytes) (λ w j s v d. d.others) (does_setup t bytes eight addressed) old settled new single set_up_as refl fault y e
+    fault_had t (setup_attempt t bytes) refl (SetupResult t bytes) (λ w j s v d. d.others)
+    (does_setup t bytes eight addressed) old settled new single set_up_as refl fault y e
 
-module _ (t : Target) (ep : ℕ) (old new : World) (settled : IsSettled old.roots) (single : new.shared ≡ false) where
-  does_in : (w : World) → IsMade (in_attempt t ep) w → (after (attempt (in_attempt t ep)) w).shared ≡ false → EachIf (IsThere t) (DidIn (in_attempt t ep) w) w (after (attempt (in_attempt t ep)) w)
-  does_in w made u j v on there at = each_in (in_attempt t ep) w made (record { kind = refl; payload = refl }) u j v on there
+module _ (t : Target) (ep : ℕ) (old new : World) (settled : IsSettled old.roots)
+    (single : new.shared ≡ false) where
+  does_in : (w : World) → IsMade (in_attempt t ep) w → (after (attempt (in_attempt t ep)) w).shared
+      ≡ false → EachIf (IsThere t) (DidIn (in_attempt t ep) w) w
+      (after (attempt (in_attempt t ep)) w)
+  does_in w made u j v on there at = each_in (in_attempt t ep) w made
+      (record { kind = refl; payload = refl }) u j v on there
 
-  who_read : {last : Outcome} {outcomes : List Outcome} → AttemptLog (in_attempt t ep) old (last ∷ outcomes) new → last ≢ outcome.Nothing → Answerer t old new
-  who_read = who t (in_attempt t ep) refl (DidIn (in_attempt t ep)) (in_others t ep) does_in old settled single
+  who_read : {last : Outcome} {outcomes : List Outcome}
+      → AttemptLog (in_attempt t ep) old (last ∷ outcomes) new → last ≢ outcome.Nothing
+      → Answerer t old new
+  who_read = who t (in_attempt t ep) refl (DidIn (in_attempt t ep)) (in_others t ep) does_in old
+      settled single
 
-  moved_in : (hear : Outcome → HeardOutcome) → hear outcome.Nothing ≡ Lost → (bytes : List ℕ) → TransactionDone hear (in_attempt t ep) old (Ok bytes) new → Answerer t old new
-  moved_in = moved_who t (in_attempt t ep) refl (DidIn (in_attempt t ep)) (in_others t ep) does_in old settled new single
+  moved_in : (hear : Outcome → HeardOutcome) → hear outcome.Nothing ≡ Lost → (bytes : List ℕ)
+      → TransactionDone hear (in_attempt t ep) old (Ok bytes) new → Answerer t old new
+  moved_in = moved_who t (in_attempt t ep) refl (DidIn (in_attempt t ep)) (in_others t ep) does_in
+      old settled new single
 
-  had_in : (hear : Outcome → HeardOutcome) → hear outcome.Nothing ≡ Lost → (fault : TransFault) → IsAnswer fault → Transacted hear (in_attempt t ep) old (Err fault) new → HadOne t old
-  had_in = fault_had t (in_attempt t ep) refl (DidIn (in_attempt t ep)) (in_others t ep) does_in old settled new single
+  had_in : (hear : Outcome → HeardOutcome) → hear outcome.Nothing ≡ Lost → (fault : TransFault)
+      → IsAnswer fault → Transacted hear (in_attempt t ep) old (Err fault) new → HadOne t old
+  had_in = fault_had t (in_attempt t ep) refl (DidIn (in_attempt t ep)) (in_others t ep) does_in old
+      settled new single
 
-pub read_answered : (t : Target) (ep : ℕ) (awaited : Toggle) (bytes : List ℕ) (old new : World) → IsSettled old.roots
-    → TransactionDone (heard_as awaited) (in_attempt t ep) old (Ok bytes) new → new.shared ≡ false → Answerer t old new
-read_answered t ep awaited bytes old new settled e single = moved_in t ep old new settled single (heard_as awaited) refl bytes e
+pub read_answered : (t : Target) (ep : ℕ) (awaited : Toggle) (bytes : List ℕ) (old new : World)
+    → IsSettled old.roots
+    → TransactionDone (heard_as awaited) (in_attempt t ep) old (Ok bytes) new → new.shared ≡ false
+    → Answerer t old new
+read_answered t ep awaited bytes old new settled e single =
+    moved_in t ep old new settled single (heard_as awaited) refl bytes e
 
-pub poll_answered : (t : Target) (ep : ℕ) (toggle : Toggle) (bytes : List ℕ) (old new : World) → IsSettled old.roots
-    → Transacted (polled_as toggle) (in_attempt t ep) old (Ok bytes) new → new.shared ≡ false → Answerer t old new
-poll_answered t ep toggle bytes old new settled e single = moved_in t ep old new settled single (polled_as toggle) refl bytes e
+pub poll_answered : (t : Target) (ep : ℕ) (toggle : Toggle) (bytes : List ℕ) (old new : World)
+    → IsSettled old.roots
+    → Transacted (polled_as toggle) (in_attempt t ep) old (Ok bytes) new → new.shared ≡ false
+    → Answerer t old new
+poll_answered t ep toggle bytes old new settled e single =
+    moved_in t ep old new settled single (polled_as toggle) refl bytes e
 
-pub wait_answered : (t : Target) (ep : ℕ) (toggle : Toggle) (old new : World) → IsSettled old.roots → Waiting toggle (in_attempt t ep) old new → new.shared ≡ false → Answerer t old new
-wait_answered t ep toggle old new settled e single = who_read t ep old new settled single e.trail (λ n. cc n)
+pub wait_answered : (t : Target) (ep : ℕ) (toggle : Toggle) (old new : World) → IsSettled old.roots
+    → Waiting toggle (in_attempt t ep) old new → new.shared ≡ false → Answerer t old new
+wait_answered t ep toggle old new settled e single = who_read t ep old new settled single e.trail
+    (λ n. cc n)
 
-pub read_had : (t : Target) (ep : ℕ) (awaited : Toggle) (fault : TransFault) (old new : World) → IsSettled old.roots
-    → IsAnswer fault → Transacted (heard_as awaited) (in_attempt t ep) old (Err fault) new → new.shared ≡ false → HadOne t old
-read_had t ep awaited fault old new settled y e single = had_in t ep old new settled single (heard_as awaited) refl fault y e
+pub read_had : (t : Target) (ep : ℕ) (awaited : Toggle) (fault : TransFault) (old new : World)
+    → IsSettled old.roots
+    → IsAnswer fault → Transacted (heard_as awaited) (in_attempt t ep) old (Err fault) new
+    → new.shared ≡ false → HadOne t old
+read_had t ep awaited fault old new settled y e single =
+    had_in t ep old new settled single (heard_as awaited) refl fault y e
 
-pub poll_had : (t : Target) (ep : ℕ) (toggle : Toggle) (fault : TransFault) (old new : World) → IsSettled old.roots
-    → IsAnswer fault → Polled toggle (in_attempt t ep) old (Err fault) new → new.shared ≡ false → HadOne t old
-poll_had t ep toggle fault old new settled y e single = had_in t ep old new settled single (polled_as toggle) refl fault y e
+pub poll_had : (t : Target) (ep : ℕ) (toggle : Toggle) (fault : TransFault) (old new : World)
+    → IsSettled old.roots
+    → IsAnswer fault → Polled toggle (in_attempt t ep) old (Err fault) new → new.shared ≡ false
+    → HadOne t old
+poll_had t ep toggle fault old new settled y e single =
+    had_in t ep old new settled single (polled_as toggle) refl fault y e
 
 module _ (t : Target) (ep : ℕ) (toggle : Toggle) (bytes : List ℕ) where
-  does_out : (w : World) → IsMade (out_attempt t ep toggle bytes) w → (after (attempt (out_attempt t ep toggle bytes)) w).shared ≡ false
-      → EachIf (IsThere t) (DidOut (out_attempt t ep toggle bytes) toggle bytes w) w (after (attempt (out_attempt t ep toggle bytes)) w)
-  does_out w made u j v on there at = each_out (out_attempt t ep toggle bytes) w toggle bytes made (record { kind = refl; payload = refl }) u j v on there
+  does_out : (w : World) → IsMade (out_attempt t ep toggle bytes) w
+      → (after (attempt (out_attempt t ep toggle bytes)) w).shared ≡ false
+      → EachIf (IsThere t) (DidOut (out_attempt t ep toggle bytes) toggle bytes w) w
+      (after (attempt (out_attempt t ep toggle bytes)) w)
+  does_out w made u j v on there at = each_out (out_attempt t ep toggle bytes) w toggle bytes made
+      (record { kind = refl; payload = refl }) u j v on there
 
-  pub write_answered : (done : List ℕ) (old new : World) → IsSettled old.roots → TransactionDone heard_when_sent (out_attempt t ep toggle bytes) old (Ok done) new → new.shared ≡ false → Answerer t old new
+  pub write_answered : (done : List ℕ) (old new : World) → IsSettled old.roots
+      → TransactionDone heard_when_sent (out_attempt t ep toggle bytes) old (Ok done) new
+      → new.shared ≡ false → Answerer t old new
   write_answered done old new settled e single =
-      moved_who t (out_attempt t ep toggle bytes) refl (DidOut (out_attempt t ep toggle bytes) toggle bytes) (out_others t ep toggle bytes) does_out old settled new single heard_when_sent refl done e
+      moved_who t (out_attempt t ep toggle bytes) refl
+      (DidOut (out_attempt t ep toggle bytes) toggle bytes) (out_others t ep toggle bytes)
+      does_out old settled new single heard_when_sent refl done e
 
-  pub write_had : (fault : TransFault) (old new : World) → IsSettled old.roots → IsAnswer fault → Transacted heard_when_sent (out_attempt t ep toggle bytes) old (Err fault) new → new.shared ≡ false → HadOne t old
+  pub write_had : (fault : TransFault) (old new : World) → IsSettled old.roots → IsAnswer fault
+      → Transacted heard_when_sent (out_attempt t ep toggle bytes) old (Err fault) new
+      → new.shared ≡ false → HadOne t old
   write_had fault old new settled y e single =
-      fault_had t (out_attempt t ep toggle bytes) refl (DidOut (out_attempt t ep toggle bytes) toggle bytes) (out_others t ep toggle bytes) does_out old settled new single heard_when_sent refl fault y e
+      fault_had t (out_attempt t ep toggle bytes) refl
+      (DidOut (out_attempt t ep toggle bytes) toggle bytes) (out_others t ep toggle bytes)
+      does_out old settled new single heard_when_sent refl fault y e
 
-brings_nothing : (hear : Outcome → HeardOutcome) (a : Attempt) → ((o : Outcome) (bytes : List ℕ) → hear o ≡ Moved (packed bytes) → bytes ≡ []) → (old new : World) (result : Result (List ℕ) TransFault) → Transacted hear a old result new
+brings_nothing : (hear : Outcome → HeardOutcome) (a : Attempt)
+    → ((o : Outcome) (bytes : List ℕ) → hear o ≡ Moved (packed bytes) → bytes ≡ [])
+    → (old new : World) (result : Result (List ℕ) TransFault) → Transacted hear a old result new
     → IfOk result (λ done. done ≡ [])
 brings_nothing hear a empty old new (Ok bytes) x = empty x.last bytes x.tells
 brings_nothing hear a empty old new (Err fault) x = tt
 
 -- IN
 
-module _ (t : Target) (ep : ℕ) (awaited : Toggle) (old new : World) (settled : IsSettled old.roots) where
-  what_in : (result : Result (List ℕ) TransFault) → Transacted (heard_as awaited) (in_attempt t ep) old result new → new.shared ≡ false → EachWas (InLeaves t ep awaited result) old new
-  what_in result x single =
-      each_beside (SourceIn t ep awaited result) (ControlIn t awaited result) (InLeaves t ep awaited result) (ep ≡ 0) (λ j s v b c. record { control = c; bulk = b }) old new (source_leaves t ep awaited result old new settled x single)
-      (λ z. control_leaves t awaited result old new settled (subst (λ k. Transacted (heard_as awaited) (in_attempt t k) old result new) z x) single)
+module _ (t : Target) (ep : ℕ) (awaited : Toggle) (old new : World) (settled : IsSettled old.roots)
+  where
+    what_in : (result : Result (List ℕ) TransFault)
+        → Transacted (heard_as awaited) (in_attempt t ep) old result new → new.shared ≡ false
+        → EachWas (InLeaves t ep awaited result) old new
+    what_in result x single =
+        each_beside (SourceIn t ep awaited result) (ControlIn t awaited result)
+        (InLeaves t ep awaited result) (ep ≡ 0) (λ j s v b c. record { control = c; bulk = b })
+        old new (source_leaves t ep awaited result old new settled x single)
+        (λ z. control_leaves t awaited result old new settled
+        (subst (λ k. Transacted (heard_as awaited) (in_attempt t k) old result new) z x) single)
 
-  why_in : (result : Result (List ℕ) TransFault) → Transacted (heard_as awaited) (in_attempt t ep) old result new → IsUnhindered old result new → EachWas (InFailure t ep awaited result) old new
-  why_in result x u =
-      let e = ended_of result x u.whole in
-      each_beside (SourceInFailure t ep awaited result) (ControlInFailure t awaited result) (InFailure t ep awaited result) (ep ≡ 0) (λ j s v b c. record { control = c; bulk = b }) old new (source_why t ep awaited result old new settled u.few e u.single)
-      (λ z. control_in_why t awaited result old new settled u.few (subst (λ k. TransactionDone (heard_as awaited) (in_attempt t k) old result new) z e) u.single)
+    why_in : (result : Result (List ℕ) TransFault)
+        → Transacted (heard_as awaited) (in_attempt t ep) old result new
+        → IsUnhindered old result new
+        → EachWas (InFailure t ep awaited result) old new
+    why_in result x u =
+        let e = ended_of result x u.whole in
+        each_beside (SourceInFailure t ep awaited result) (ControlInFailure t awaited result)
+        (InFailure t ep awaited result) (ep ≡ 0) (λ j s v b c. record { control = c; bulk = b })
+        old new (source_why t ep awaited result old new settled u.few e u.single)
+        (λ z. control_in_why t awaited result old new settled u.few
+        (subst (λ k. TransactionDone (heard_as awaited) (in_attempt t k) old result new) z e)
+        u.single)
 
-  who_in : (result : Result (List ℕ) TransFault) → Transacted (heard_as awaited) (in_attempt t ep) old result new → OnOk result (new.shared ≡ false → Answerer t old new)
-  who_in (Ok bytes) x = read_answered t ep awaited bytes old new settled x
-  who_in (Err fault) x = tt
+    who_in : (result : Result (List ℕ) TransFault)
+        → Transacted (heard_as awaited) (in_attempt t ep) old result new
+        → OnOk result (new.shared ≡ false → Answerer t old new)
+    who_in (Ok bytes) x = read_answered t ep awaited bytes old new settled x
+    who_in (Err fault) x = tt
 
-  means_in : (result : Result (List ℕ) TransFault) → Transacted (heard_as awaited) (in_attempt t ep) old result new → MeansOfIn t ep awaited old result new
-  means_in (Ok bytes) x = in_answered t ep awaited bytes old new settled x
-  means_in (Err Stalled) x = read_stalled t ep awaited old new settled x
-  means_in result x = tt
+    means_in : (result : Result (List ℕ) TransFault)
+        → Transacted (heard_as awaited) (in_attempt t ep) old result new
+        → MeansOfIn t ep awaited old result new
+    means_in (Ok bytes) x = in_answered t ep awaited bytes old new settled x
+    means_in (Err Stalled) x = read_stalled t ep awaited old new settled x
+    means_in result x = tt
 
-  pub asks_in : (result : Result (List ℕ) TransFault) → Transacted (heard_as awaited) (in_attempt t ep) old result new → IfOk result (λ bytes. length bytes ≤ t.max) → AsksIn t ep awaited old result new
-  asks_in result x short = record {
-    heard = x;
-    ends = ends_of (heard_as awaited) (in_attempt t ep) old new result x;
-    short = short;
-    what = what_in result x;
-    why = why_in result x;
-    who = who_in result x;
-    means = means_in result x;
-  }
+    pub asks_in : (result : Result (List ℕ) TransFault)
+        → Transacted (heard_as awaited) (in_attempt t ep) old result new
+        → IfOk result (λ bytes. length bytes ≤ t.max) → AsksIn t ep awaited old result new
+    asks_in result x short = record {
+      heard = x;
+      ends = ends_of (heard_as awaited) (in_attempt t ep) old new result x;
+      short = short;
+      what = what_in result x;
+      why = why_in result x;
+      who = who_in result x;
+      means = means_in result x;
+    }
 
 -- OUT
 
 abbrev EndsRead : ℕ → Toggle → List ℕ → Type 0
 EndsRead ep toggle bytes = (ep ≡ 0) × (toggle ≡ One) × (bytes ≡ [])
 
-module _ (t : Target) (ep : ℕ) (toggle : Toggle) (bytes : List ℕ) (old new : World) (settled : IsSettled old.roots) where
-  status_out : (result : Result (List ℕ) TransFault) → Transacted heard_when_sent (out_attempt t ep toggle bytes) old result new → EndsRead ep toggle bytes → Transacted heard_when_sent (out_attempt t 0 One []) old result new
+module _ (t : Target) (ep : ℕ) (toggle : Toggle) (bytes : List ℕ) (old new : World)
+    (settled : IsSettled old.roots) where
+  status_out : (result : Result (List ℕ) TransFault)
+      → Transacted heard_when_sent (out_attempt t ep toggle bytes) old result new
+      → EndsRead ep toggle bytes → Transacted heard_when_sent (out_attempt t 0 One []) old result
+      new
   status_out result x z =
       subst (λ l. Transacted heard_when_sent (out_attempt t 0 One l) old result new) z.2
-      (subst (λ g. Transacted heard_when_sent (out_attempt t 0 g bytes) old result new) z.1 (subst (λ k. Transacted heard_when_sent (out_attempt t k toggle bytes) old result new) z.0 x))
+      (subst (λ g. Transacted heard_when_sent (out_attempt t 0 g bytes) old result new) z.1
+      (subst (λ k. Transacted heard_when_sent (out_attempt t k toggle bytes) old result new)
+      z.0 x))
 
-  what_out : (result : Result (List ℕ) TransFault) → Transacted heard_when_sent (out_attempt t ep toggle bytes) old result new → new.shared ≡ false → EachWas (OutLeaves t ep toggle bytes result) old new
+  what_out : (result : Result (List ℕ) TransFault)
+      → Transacted heard_when_sent (out_attempt t ep toggle bytes) old result new
+      → new.shared ≡ false → EachWas (OutLeaves t ep toggle bytes result) old new
   what_out result x single =
-      each_beside (SinkOut t ep toggle bytes result) (ReadStatus t result) (OutLeaves t ep toggle bytes result) (EndsRead ep toggle bytes) (λ j s v b c. record { control = λ f g h. c (f, g, h); bulk = b }) old new
+      each_beside (SinkOut t ep toggle bytes result) (ReadStatus t result)
+      (OutLeaves t ep toggle bytes result) (EndsRead ep toggle bytes)
+      (λ j s v b c. record { control = λ f g h. c (f, g, h); bulk = b }) old new
       (sink_leaves t ep toggle bytes result old new settled x single)
       (λ z. status_leaves t result old new settled (status_out result x z) single)
 
-  why_out : (result : Result (List ℕ) TransFault) → Transacted heard_when_sent (out_attempt t ep toggle bytes) old result new → IsUnhindered old result new → EachWas (OutFailure t ep toggle bytes result) old new
+  why_out : (result : Result (List ℕ) TransFault)
+      → Transacted heard_when_sent (out_attempt t ep toggle bytes) old result new
+      → IsUnhindered old result new → EachWas (OutFailure t ep toggle bytes result) old new
   why_out result x u =
-      each_beside (SinkOutFailure t ep toggle bytes result) (StatusReadFailure t result) (OutFailure t ep toggle bytes result) (EndsRead ep toggle bytes) (λ j s v b c. record { control = λ f g h. c (f, g, h); bulk = b }) old new
+      each_beside (SinkOutFailure t ep toggle bytes result) (StatusReadFailure t result)
+      (OutFailure t ep toggle bytes result) (EndsRead ep toggle bytes)
+      (λ j s v b c. record { control = λ f g h. c (f, g, h); bulk = b }) old new
       (sink_why t ep toggle bytes result old new settled u.few (ended_of result x u.whole) u.single)
-      (λ z. read_status_why t result old new settled u.few (ended_of result (status_out result x z) u.whole) u.single)
+      (λ z. read_status_why t result old new settled u.few
+      (ended_of result (status_out result x z) u.whole) u.single)
 
-  who_out : (result : Result (List ℕ) TransFault) → Transacted heard_when_sent (out_attempt t ep toggle bytes) old result new → OnOk result (new.shared ≡ false → Answerer t old new)
+  who_out : (result : Result (List ℕ) TransFault)
+      → Transacted heard_when_sent (out_attempt t ep toggle bytes) old result new
+      → OnOk result (new.shared ≡ false → Answerer t old new)
   who_out (Ok got) x = write_answered t ep toggle bytes got old new settled x
   who_out (Err fault) x = tt
 
-  means_out : (result : Result (List ℕ) TransFault) → Transacted heard_when_sent (out_attempt t ep toggle bytes) old result new → MeansOfOut t ep toggle bytes old result new
+  means_out : (result : Result (List ℕ) TransFault)
+      → Transacted heard_when_sent (out_attempt t ep toggle bytes) old result new
+      → MeansOfOut t ep toggle bytes old result new
   means_out (Ok got) x = write_done t ep toggle bytes got old new settled x
   means_out (Err Stalled) x = write_stalled t ep toggle bytes old new settled x
   means_out result x = tt
 
-  pub sends_out : (result : Result (List ℕ) TransFault) → Transacted heard_when_sent (out_attempt t ep toggle bytes) old result new → SendsOut t ep toggle bytes old result new
+  pub sends_out : (result : Result (List ℕ) TransFault)
+      → Transacted heard_when_sent (out_attempt t ep toggle bytes) old result new
+      → SendsOut t ep toggle bytes old result new
   sends_out result x = record {
     heard = x;
     ends = ends_of heard_when_sent (out_attempt t ep toggle bytes) old new result x;
-    nothing = brings_nothing heard_when_sent (out_attempt t ep toggle bytes) sent_empty old new result x;
+    nothing = brings_nothing heard_when_sent (out_attempt t ep toggle bytes) sent_empty old new
+        result x;
     what = what_out result x;
     why = why_out result x;
     who = who_out result x;
@@ -380,45 +566,63 @@ module _ (t : Target) (ep : ℕ) (toggle : Toggle) (bytes : List ℕ) (old new :
 
 -- SETUP
 
-module _ (t : Target) (bytes : List ℕ) (old new : World) (eight : length bytes ≡ 8) (settled : IsSettled old.roots) where
-  who_setup : (result : Result (List ℕ) TransFault) → Transacted set_up_as (setup_attempt t bytes) old result new
-      → OnOk result ((is_harmless (setup_of bytes) ≡ false → t.addr ≢ 0) → new.shared ≡ false → Answerer t old new)
+module _ (t : Target) (bytes : List ℕ) (old new : World) (eight : length bytes ≡ 8)
+    (settled : IsSettled old.roots) where
+  who_setup : (result : Result (List ℕ) TransFault)
+      → Transacted set_up_as (setup_attempt t bytes) old result new
+      → OnOk result ((is_harmless (setup_of bytes) ≡ false → t.addr ≢ 0) → new.shared ≡ false
+      → Answerer t old new)
   who_setup (Ok got) x = λ addressed. set_up_answered t bytes got old new eight addressed settled x
   who_setup (Err fault) x = tt
 
-  means_setup : (result : Result (List ℕ) TransFault) → Transacted set_up_as (setup_attempt t bytes) old result new → MeansOfSetup t bytes old result new
+  means_setup : (result : Result (List ℕ) TransFault)
+      → Transacted set_up_as (setup_attempt t bytes) old result new
+      → MeansOfSetup t bytes old result new
   means_setup (Ok got) x = set_up_done t bytes got old new eight settled x
   means_setup (Err NoAnswer) x = set_up_unheard t bytes old new eight x
   means_setup result x = tt
 
-  pub sets_up : (result : Result (List ℕ) TransFault) → Transacted set_up_as (setup_attempt t bytes) old result new → SetupEnds old result new → SetsUp t bytes old result new
+  pub sets_up : (result : Result (List ℕ) TransFault)
+      → Transacted set_up_as (setup_attempt t bytes) old result new → SetupEnds old result new
+      → SetsUp t bytes old result new
   sets_up result x ends = record {
     heard = x;
     ends = ends;
     nothing = brings_nothing set_up_as (setup_attempt t bytes) set_up_empty old new result x;
     what = setup_leaves t bytes result old new eight settled x;
-    why = λ u. set_up_why t bytes result old new eight settled u.few (ended_of result x u.whole) u.single;
+    why = λ u. set_up_why t bytes result old new eight settled u.few (ended_of result x u.whole)
+        u.single;
     who = who_setup result x;
     means = means_setup result x;
   }
 
 -- Polls
 
-module _ (t : Target) (ep : ℕ) (toggle : Toggle) (old new : World) (least : 1 ≤ t.max) (settled : IsSettled old.roots) where
-  pub what_poll : (result : Result (Option (List ℕ)) TransFault) → Polled toggle (in_attempt t ep) old result new → ep ≡ 1 → new.shared ≡ false → EachWas (ChangesIn t toggle old result new) old new
-  what_poll result x one = poll_leaves t toggle result old new least settled (subst (λ k. Polled toggle (in_attempt t k) old result new) one x)
+module _ (t : Target) (ep : ℕ) (toggle : Toggle) (old new : World) (least : 1 ≤ t.max)
+    (settled : IsSettled old.roots) where
+  pub what_poll : (result : Result (Option (List ℕ)) TransFault)
+      → Polled toggle (in_attempt t ep) old result new → ep ≡ 1 → new.shared ≡ false
+      → EachWas (ChangesIn t toggle old result new) old new
+  what_poll result x one = poll_leaves t toggle result old new least settled
+      (subst (λ k. Polled toggle (in_attempt t k) old result new) one x)
 
-  who_poll : (result : Result (Option (List ℕ)) TransFault) → Polled toggle (in_attempt t ep) old result new → OnOk result (new.shared ≡ false → Answerer t old new)
+  who_poll : (result : Result (Option (List ℕ)) TransFault)
+      → Polled toggle (in_attempt t ep) old result new
+      → OnOk result (new.shared ≡ false → Answerer t old new)
   who_poll (Ok None) x = wait_answered t ep toggle old new settled x
   who_poll (Ok (Some bytes)) x = poll_answered t ep toggle bytes old new settled x
   who_poll (Err fault) x = tt
 
-  pub polls_in : (result : Result (Option (List ℕ)) TransFault) → Polled toggle (in_attempt t ep) old result new → IfOk result (λ got. IfSome got (λ bytes. length bytes ≤ t.max)) → PollsIn t ep toggle old result new
+  pub polls_in : (result : Result (Option (List ℕ)) TransFault)
+      → Polled toggle (in_attempt t ep) old result new
+      → IfOk result (λ got. IfSome got (λ bytes. length bytes ≤ t.max))
+      → PollsIn t ep toggle old result new
   polls_in result x short = record {
     heard = x;
     ends = poll_ends toggle (in_attempt t ep) old new result x;
     short = short;
     what = what_poll result x;
-    why = λ one u. poll_why t toggle result old new least settled u.few (subst (λ k. Polled toggle (in_attempt t k) old result new) one x) u.whole u.single;
+    why = λ one u. poll_why t toggle result old new least settled u.few
+        (subst (λ k. Polled toggle (in_attempt t k) old result new) one x) u.whole u.single;
     who = who_poll result x;
   }

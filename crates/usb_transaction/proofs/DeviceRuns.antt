@@ -1,6 +1,9 @@
--- One device over the attempts of a transaction: what it was, what each attempt did to it, and what it is.
+-- One device over the attempts of a transaction: what it was, what each attempt did to it, and what
+-- it is.
 use Rattle.std.proofs.lemmas.Bool.Decides.{nat_tests}
-use Rattle.std.proofs.Common.{◌≡◌, ◌≢◌, inl, inr, ◌&&◌, ◌||◌, not, nat_lt, if◌then◌else◌, ℕ, ◌+◌, ◌<◌, ◌≤◌, ◌==◌, List, [], ◌∷◌, true, false, Option, None, Some, Result, Ok, Err, refl, sym, subst, ap, ◌∙◌, arith}
+use Rattle.std.proofs.Common.{◌≡◌, ◌≢◌, inl, inr, ◌&&◌, ◌||◌, not, nat_lt, if◌then◌else◌, ℕ, ◌+◌}
+use Rattle.std.proofs.Common.{◌<◌, ◌≤◌, ◌==◌, List, [], ◌∷◌, true, false, Option, None, Some}
+use Rattle.std.proofs.Common.{Result, Ok, Err, refl, sym, subst, ap, ◌∙◌, arith}
 use Rattle.usb_packet.specs.declared.Toggle.{Toggle}
 use Rattle.usb_device.specs.Rows.{State, Reply, is_busy}
 use Rattle.usb_device.specs.Attempt.{Way, whole, broken, in_law, out_law}
@@ -16,19 +19,24 @@ use Rattle.usb_world.specs.OneHolder.{IsMade, got}
 use Rattle.usb_world.specs.World.{World, Made}
 use Rattle.usb_world.specs.Steps.{attempt, after, outcome_in, damage_in}
 use Rattle.usb_world.specs.Devices.{Relation, Was, EachWas, DidIn, DidOut}
-use Rattle.usb_world.proofs.Interface.{AttemptCut, cut_or_same, each_in, each_out, made_of, made_unshared, made_whole, unmade}
+use Rattle.usb_world.proofs.Interface.{AttemptCut, cut_or_same, each_in, each_out, made_of}
+use Rattle.usb_world.proofs.Interface.{made_unshared, made_whole, unmade}
 use Rattle.usb_tree.proofs.Interface.{decided, neither, false_true}
 use Rattle.usb_transaction.specs.declared.target.Target.{Target}
 use Rattle.usb_transaction.specs.declared.heard_outcome.HeardOutcome.{HeardOutcome}
 use Rattle.usb_transaction.specs.declared.heard_outcome.HeardOutcome.TheVariants.{Moved, Lost}
 use Rattle.usb_transaction.specs.declared.fault.TransFault.{TransFault}
-use Rattle.usb_transaction.specs.declared.fault.TransFault.TheVariants.{Stalled, Busy, NoAnswer, Bus}
+use Rattle.usb_transaction.specs.declared.fault.TransFault.TheVariants.{Stalled, Busy, NoAnswer}
+use Rattle.usb_transaction.specs.declared.fault.TransFault.TheVariants.{Bus}
 use Rattle.usb_transaction.specs.HeardOutcomes.{polled_as}
 use Rattle.usb_transaction.specs.Failures.{NoThreeDamaged, Listens}
 use Rattle.usb_transaction.specs.Leaves.{IsNotOfBus, is_at}
-use Rattle.usb_transaction.specs.AttemptLog.{AttemptLog, start, next, waits_with, errors_running, waits_in, IsNoEnd, KeepsTrying, LastOutcome, TransactionDone, BusFailed, Transacted, Polled}
+use Rattle.usb_transaction.specs.AttemptLog.{AttemptLog, start, next, waits_with, errors_running}
+use Rattle.usb_transaction.specs.AttemptLog.{waits_in, IsNoEnd, KeepsTrying, LastOutcome}
+use Rattle.usb_transaction.specs.AttemptLog.{TransactionDone, BusFailed, Transacted, Polled}
 use Rattle.usb_transaction.specs.Transactions.{packed, in_attempt, out_attempt}
-use Rattle.usb_transaction.proofs.Trails.{LostRun, last_erred, last_waited, lost_more, lost_run_none, run_short, trail_settled}
+use Rattle.usb_transaction.proofs.Trails.{LostRun, last_erred, last_waited, lost_more}
+use Rattle.usb_transaction.proofs.Trails.{lost_run_none, run_short, trail_settled}
 
 -- what each attempt does to a device
 abbrev pub Deeds : Type 1
@@ -36,34 +44,46 @@ Deeds = World → Relation
 
 -- what is so of each device that is reachable in the new world, if this is so of it there
 abbrev pub EachIf : (State → Type 0) → Relation → World → World → Type 0
-EachIf P R old new = (j : Location) (s : State) → reach_on new.roots j ≡ true → state_on new.roots j ≡ Some s → P s → Was R old j s
+EachIf P R old new = (j : Location) (s : State) → reach_on new.roots j ≡ true
+    → state_on new.roots j ≡ Some s → P s → Was R old j s
 
 abbrev pub Any : State → Type 0
 Any s = Unit {0}
 
-pub each_device : (R S : Relation) (old new : World) → ((j : Location) (s v : State) → R j s v → S j s v) → EachIf Any R old new → EachWas S old new
+pub each_device : (R S : Relation) (old new : World)
+    → ((j : Location) (s v : State) → R j s v → S j s v) → EachIf Any R old new → EachWas S old new
 each_device R S old new f x j v on there =
     let was : Was R old j v = x j v on there tt in
     record { before = was.before; on = was.on; stands = was.stands; so = f j was.before v was.so }
 
 -- the device over the attempts of a trail: it was s, and each attempt did something to it
-pub data Run (Did : Deeds) (a : Attempt) (old : World) (j : Location) (s : State) : List Outcome → World → State → Type 0 where
+pub data Run (Did : Deeds) (a : Attempt) (old : World) (j : Location) (s : State) : List Outcome
+    → World → State → Type 0 where
   none : Run Did a old j s [] old s
-  more : {outcomes : List Outcome} (w : World) (u v : State) → AttemptLog a old outcomes w → Made w (after (attempt a) w) → Run Did a old j s outcomes w u → Did w j u v
+  more : {outcomes : List Outcome} (w : World) (u v : State) → AttemptLog a old outcomes w
+      → Made w (after (attempt a) w) → Run Did a old j s outcomes w u → Did w j u v
       → Run Did a old j s (outcome_in a w ∷ outcomes) (after (attempt a) w) v
 
 -- what is so of the world after an attempt that was made and told
 abbrev pub AttemptLeft : Attempt → World → World → Type 0
 AttemptLeft a w new = Made w (after (attempt a) w) × (new ≡ after (attempt a) w)
 
--- the device over a transaction: the attempts that went on, and the last, of which this is so; or those alone, where the bus gave up
-pub data RunThrough (Did : Deeds) (a : Attempt) (hear : Outcome → HeardOutcome) (Last : Outcome → List Outcome → Type 0) (GaveUp : Type 0) (old new : World) (j : Location) (s v : State) : Type 0 where
-  last : {outcomes : List Outcome} (w : World) (u : State) → AttemptLog a old outcomes w → Run Did a old j s outcomes w u → KeepsTrying hear outcomes → Did w j u v → Last (outcome_in a w) outcomes
+-- the device over a transaction: the attempts that went on, and the last, of which this is so; or
+-- those alone, where the bus gave up
+pub data RunThrough (Did : Deeds) (a : Attempt) (hear : Outcome → HeardOutcome) (Last : Outcome
+    → List Outcome → Type 0) (GaveUp : Type 0) (old new : World) (j : Location) (s v : State) :
+    Type 0 where
+  last : {outcomes : List Outcome} (w : World) (u : State) → AttemptLog a old outcomes w
+      → Run Did a old j s outcomes w u → KeepsTrying hear outcomes → Did w j u v
+      → Last (outcome_in a w) outcomes
       → ((GaveUp → ⊥) → AttemptLeft a w new) → RunThrough Did a hear Last GaveUp old new j s v
-  stopped : {outcomes : List Outcome} {w : World} → GaveUp → Run Did a old j s outcomes w v → KeepsTrying hear outcomes → RunThrough Did a hear Last GaveUp old new j s v
+  stopped : {outcomes : List Outcome} {w : World} → GaveUp → Run Did a old j s outcomes w v
+      → KeepsTrying hear outcomes → RunThrough Did a hear Last GaveUp old new j s v
 
--- what an answer says of the last outcome and those before it; of the attempt that the bus gave up nothing is known
-abbrev pub IsEnd : (Outcome → HeardOutcome) → Result (List ℕ) TransFault → Outcome → List Outcome → Type 0
+-- what an answer says of the last outcome and those before it; of the attempt that the bus gave up
+-- nothing is known
+abbrev pub IsEnd : (Outcome → HeardOutcome) → Result (List ℕ) TransFault → Outcome → List Outcome
+    → Type 0
 IsEnd hear (Ok bytes) o outcomes = hear o ≡ Moved (packed bytes)
 IsEnd hear (Err Stalled) o outcomes = o ≡ Stall
 IsEnd hear (Err Busy) o outcomes = IsNoEnd (hear o) × (waits_in hear (o ∷ outcomes) ≡ 256)
@@ -71,7 +91,8 @@ IsEnd hear (Err NoAnswer) o outcomes = IsNoEnd (hear o) × (errors_running hear 
 IsEnd hear (Err (Bus fault)) o outcomes = Unit {0}
 
 -- a poll's, of which a NAK is one
-abbrev pub IsPollEnd : Toggle → Result (Option (List ℕ)) TransFault → Outcome → List Outcome → Type 0
+abbrev pub IsPollEnd : Toggle → Result (Option (List ℕ)) TransFault → Outcome → List Outcome
+    → Type 0
 IsPollEnd toggle (Ok None) o outcomes = o ≡ Nak
 IsPollEnd toggle (Ok (Some bytes)) o outcomes = IsEnd (polled_as toggle) (Ok bytes) o outcomes
 IsPollEnd toggle (Err fault) o outcomes = IsEnd (polled_as toggle) (Err fault) o outcomes
@@ -79,12 +100,16 @@ IsPollEnd toggle (Err fault) o outcomes = IsEnd (polled_as toggle) (Err fault) o
 abbrev pub IsOfBus : {A : Type 0} → Result A TransFault → Type 0
 IsOfBus result = IsNotOfBus result → ⊥
 
-pub of_bus : {A : Type 0} (P : Result A TransFault → Type 0) → ((fault : BusFault) → P (Err (Bus fault))) → (result : Result A TransFault) → IsOfBus result → P result
+pub of_bus : {A : Type 0} (P : Result A TransFault → Type 0)
+    → ((fault : BusFault) → P (Err (Bus fault))) → (result : Result A TransFault) → IsOfBus result
+    → P result
 of_bus P f (Ok x) gave = absurd (gave tt)
 of_bus P f (Err (Bus fault)) gave = f fault
 of_bus P f (Err fault) gave = absurd (gave tt)
 
-pub tells_end : (hear : Outcome → HeardOutcome) (result : Result (List ℕ) TransFault) (o : Outcome) (outcomes : List Outcome) → KeepsTrying hear outcomes → LastOutcome hear result o outcomes → IsEnd hear result o outcomes
+pub tells_end : (hear : Outcome → HeardOutcome) (result : Result (List ℕ) TransFault) (o : Outcome)
+    (outcomes : List Outcome) → KeepsTrying hear outcomes → LastOutcome hear result o outcomes
+    → IsEnd hear result o outcomes
 tells_end hear (Ok bytes) o outcomes g t = t
 tells_end hear (Err Stalled) o outcomes g t = t
 tells_end hear (Err Busy) o outcomes g t = (last_waited hear o outcomes g t, t)
@@ -93,75 +118,136 @@ tells_end hear (Err (Bus fault)) o outcomes g t = tt
 
 -- Each device has such a run
 
-module _ (Did : Deeds) (a : Attempt) (P : State → Type 0) (back : (w : World) (j : Location) (u v : State) → Did w j u v → P v → P u)
-    (does : (w : World) → IsMade a w → (after (attempt a) w).shared ≡ false → EachIf P (Did w) w (after (attempt a) w)) (old : World) (settled : IsSettled old.roots) where
-  pub over_trail : {new : World} {outcomes : List Outcome} → AttemptLog a old outcomes new → new.shared ≡ false → EachIf P (λ j s v. Run Did a old j s outcomes new v) old new
-  over_trail start single j v on there h = record { before = v; on = on; stands = there; so = none }
-  over_trail (next w t made) single j v on there h =
-      let later : Was (Did w) w j v = does w (made_of a w (trail_settled t settled) made) single j v on there h in
-      let sooner : _ = over_trail t (made_unshared a w made single).before j later.before later.on later.stands (back w j later.before v later.so h) in
-      record { before = sooner.before; on = sooner.on; stands = sooner.stands; so = more w later.before v t made sooner.so later.so }
+module _ (Did : Deeds) (a : Attempt) (P : State → Type 0)
+    (back : (w : World) (j : Location) (u v : State) → Did w j u v → P v → P u)
+    (does : (w : World) → IsMade a w → (after (attempt a) w).shared ≡ false
+    → EachIf P (Did w) w (after (attempt a) w)) (old : World) (settled : IsSettled old.roots)
+  where
+    pub over_trail : {new : World} {outcomes : List Outcome} → AttemptLog a old outcomes new
+        → new.shared ≡ false → EachIf P (λ j s v. Run Did a old j s outcomes new v) old new
+    over_trail start single j v on there h = record {
+      before = v;
+      on = on;
+      stands = there;
+      so = none;
+    }
+    over_trail (next w t made) single j v on there h =
+        let later : Was (Did w) w j v = does w (made_of a w (trail_settled t settled) made) single j
+        v
+        on there h in
+        let sooner : _ = over_trail t (made_unshared a w made single).before j later.before later.on
+        later.stands (back w j later.before v later.so h) in
+        record {
+          before = sooner.before;
+          on = sooner.on;
+          stands = sooner.stands;
+          so = more w later.before v t made sooner.so later.so;
+        }
 
-  pub over_last : (hear : Outcome → HeardOutcome) (Last : Outcome → List Outcome → Type 0) (GaveUp : Type 0) {new : World} {o : Outcome} {outcomes : List Outcome} → new.shared ≡ false → AttemptLog a old (o ∷ outcomes) new
-      → KeepsTrying hear outcomes → Last o outcomes → EachIf P (RunThrough Did a hear Last GaveUp old new) old new
-  over_last hear Last GaveUp single (next w t made) onward is j v on there h =
-      let later : Was (Did w) w j v = does w (made_of a w (trail_settled t settled) made) single j v on there h in
-      let sooner : _ = over_trail t (made_unshared a w made single).before j later.before later.on later.stands (back w j later.before v later.so h) in
-      record { before = sooner.before; on = sooner.on; stands = sooner.stands; so = last w later.before t sooner.so onward later.so is (λ n. (made, refl)) }
-
-  module _ (hear : Outcome → HeardOutcome) (new : World) (single : new.shared ≡ false) where
-    -- the attempt that the bus gave up was made all the same, or not
-    pub over_cut : (Last : Outcome → List Outcome → Type 0) (GaveUp : Type 0) (fault : BusFault) → GaveUp → ((o : Outcome) (outcomes : List Outcome) → Last o outcomes) → BusFailed hear a old fault new
+    pub over_last : (hear : Outcome → HeardOutcome) (Last : Outcome → List Outcome → Type 0)
+        (GaveUp : Type 0) {new : World} {o : Outcome} {outcomes : List Outcome} → new.shared ≡ false
+        → AttemptLog a old (o ∷ outcomes) new
+        → KeepsTrying hear outcomes → Last o outcomes
         → EachIf P (RunThrough Did a hear Last GaveUp old new) old new
-    over_cut Last GaveUp fault gave is c j v on there h = pick (cut_or_same a c.mid fault new c.fits (trail_settled c.trail settled) c.refused c.fails single)
-      where
-        pick : AttemptCut a c.mid new → Was (RunThrough Did a hear Last GaveUp old new) old j v
-        pick (unmade u each) =
-            let later : Was (λ j s x. x ≡ s) c.mid j v = each j v on there in
-            let sooner : _ = over_trail c.trail u j later.before later.on later.stands (subst P later.so h) in
-            record {
-              before = sooner.before;
-              on = sooner.on;
-              stands = sooner.stands;
-              so = stopped gave (subst (λ x. Run Did a old j sooner.before c.outcomes c.mid x) (sym later.so) sooner.so) c.onward;
-            }
-        pick (made_whole u m x r) =
-            let later : Was (Did c.mid) c.mid j v = does c.mid m x j v (ap (λ k. reach_on k j) r ∙ on) (ap (λ k. state_on k j) r ∙ there) h in
-            let sooner : _ = over_trail c.trail u j later.before later.on later.stands (back c.mid j later.before v later.so h) in
-            record {
-              before = sooner.before;
-              on = sooner.on;
-              stands = sooner.stands;
-              so = last c.mid later.before c.trail sooner.so c.onward later.so (is (outcome_in a c.mid) c.outcomes) (λ n. absurd (n gave));
-            }
+    over_last hear Last GaveUp single (next w t made) onward is j v on there h =
+        let later : Was (Did w) w j v = does w (made_of a w (trail_settled t settled) made) single j
+        v
+        on there h in
+        let sooner : _ = over_trail t (made_unshared a w made single).before j later.before later.on
+        later.stands (back w j later.before v later.so h) in
+        record {
+          before = sooner.before;
+          on = sooner.on;
+          stands = sooner.stands;
+          so = last w later.before t sooner.so onward later.so is (λ n. (made, refl));
+        }
 
-    pub over_end : (result : Result (List ℕ) TransFault) → TransactionDone hear a old result new → EachIf P (RunThrough Did a hear (IsEnd hear result) (IsOfBus result) old new) old new
-    over_end result e = over_last hear (IsEnd hear result) (IsOfBus result) single e.trail e.onward (tells_end hear result e.last e.outcomes e.onward e.tells)
+    module _ (hear : Outcome → HeardOutcome) (new : World) (single : new.shared ≡ false) where
+      -- the attempt that the bus gave up was made all the same, or not
+      pub over_cut : (Last : Outcome → List Outcome → Type 0) (GaveUp : Type 0) (fault : BusFault)
+          → GaveUp → ((o : Outcome) (outcomes : List Outcome) → Last o outcomes)
+          → BusFailed hear a old fault new
+          → EachIf P (RunThrough Did a hear Last GaveUp old new) old new
+      over_cut Last GaveUp fault gave is c j v on there h =
+          pick (cut_or_same a c.mid fault new c.fits (trail_settled c.trail settled) c.refused
+          c.fails
+          single)
+        where
+          pick : AttemptCut a c.mid new → Was (RunThrough Did a hear Last GaveUp old new) old j v
+          pick (unmade u each) =
+              let later : Was (λ j s x. x ≡ s) c.mid j v = each j v on there in
+              let sooner : _ = over_trail c.trail u j later.before later.on later.stands
+              (subst P later.so h) in
+              record {
+                before = sooner.before;
+                on = sooner.on;
+                stands = sooner.stands;
+                so = stopped gave (subst (λ x. Run Did a old j sooner.before c.outcomes c.mid x)
+                    (sym later.so) sooner.so) c.onward;
+              }
+          pick (made_whole u m x r) =
+              let later : Was (Did c.mid) c.mid j v = does c.mid m x j v (ap (λ k. reach_on k j) r
+              ∙ on) (ap (λ k. state_on k j) r ∙ there) h in
+              let sooner : _ = over_trail c.trail u j later.before later.on later.stands
+              (back c.mid j later.before v later.so h) in
+              record {
+                before = sooner.before;
+                on = sooner.on;
+                stands = sooner.stands;
+                so = last c.mid later.before c.trail sooner.so c.onward later.so
+                    (is (outcome_in a c.mid) c.outcomes) (λ n. absurd (n gave));
+              }
 
-    pub over_transaction : (result : Result (List ℕ) TransFault) → Transacted hear a old result new → EachIf P (RunThrough Did a hear (IsEnd hear result) (IsOfBus result) old new) old new
-    over_transaction (Err (Bus fault)) x = over_cut (IsEnd hear (Err (Bus fault))) (IsOfBus {A = List ℕ} (Err (Bus fault))) fault (λ n. n) (λ o outcomes. tt) x
-    over_transaction result x = over_end result x
+      pub over_end : (result : Result (List ℕ) TransFault) → TransactionDone hear a old result new
+          → EachIf P (RunThrough Did a hear (IsEnd hear result) (IsOfBus result) old new) old new
+      over_end result e = over_last hear (IsEnd hear result) (IsOfBus result) single e.trail
+          e.onward
+          (tells_end hear result e.last e.outcomes e.onward e.tells)
 
-  pub over_poll : (toggle : Toggle) (new : World) → new.shared ≡ false → (result : Result (Option (List ℕ)) TransFault) → Polled toggle a old result new
-      → EachIf P (RunThrough Did a (polled_as toggle) (IsPollEnd toggle result) (IsOfBus result) old new) old new
-  over_poll toggle new single (Ok None) x = over_last (polled_as toggle) (IsPollEnd toggle (Ok None)) (IsOfBus {A = Option (List ℕ)} (Ok None)) single x.trail x.onward refl
-  over_poll toggle new single (Ok (Some bytes)) x = over_transaction (polled_as toggle) new single (Ok bytes) x
-  over_poll toggle new single (Err fault) x = over_transaction (polled_as toggle) new single (Err fault) x
+      pub over_transaction : (result : Result (List ℕ) TransFault)
+          → Transacted hear a old result new
+          → EachIf P (RunThrough Did a hear (IsEnd hear result) (IsOfBus result) old new) old new
+      over_transaction (Err (Bus fault)) x =
+          over_cut (IsEnd hear (Err (Bus fault))) (IsOfBus {A = List ℕ} (Err (Bus fault))) fault
+          (λ n. n) (λ o outcomes. tt) x
+      over_transaction result x = over_end result x
+
+    pub over_poll : (toggle : Toggle) (new : World) → new.shared ≡ false
+        → (result : Result (Option (List ℕ)) TransFault) → Polled toggle a old result new
+        → EachIf P (RunThrough Did a (polled_as toggle) (IsPollEnd toggle result) (IsOfBus result)
+        old
+        new) old new
+    over_poll toggle new single (Ok None) x =
+        over_last (polled_as toggle) (IsPollEnd toggle (Ok None))
+        (IsOfBus {A = Option (List ℕ)} (Ok None)) single x.trail x.onward refl
+    over_poll toggle new single (Ok (Some bytes)) x =
+        over_transaction (polled_as toggle) new single (Ok bytes) x
+    over_poll toggle new single (Err fault) x =
+        over_transaction (polled_as toggle) new single (Err fault) x
 
 -- What is so of one device after the attempts that went on, and at the end
 
-module _ {Did : Deeds} {a : Attempt} {old : World} {j : Location} {s : State} (hear : Outcome → HeardOutcome) (I : List Outcome → World → State → Type 0) (first : I [] old s)
-    (onward : (outcomes : List Outcome) (w : World) (u v : State) → AttemptLog a old outcomes w → Made w (after (attempt a) w) → I outcomes w u → Did w j u v → IsNoEnd (hear (outcome_in a w))
+module _ {Did : Deeds} {a : Attempt} {old : World} {j : Location} {s : State} (hear : Outcome
+    → HeardOutcome) (I : List Outcome → World → State → Type 0) (first : I [] old s)
+    (onward : (outcomes : List Outcome) (w : World) (u v : State) → AttemptLog a old outcomes w
+    → Made w (after (attempt a) w) → I outcomes w u → Did w j u v
+    → IsNoEnd (hear (outcome_in a w))
     → I (outcome_in a w ∷ outcomes) (after (attempt a) w) v) where
-  pub along : {outcomes : List Outcome} {w : World} {v : State} → Run Did a old j s outcomes w v → KeepsTrying hear outcomes → I outcomes w v
+  pub along : {outcomes : List Outcome} {w : World} {v : State} → Run Did a old j s outcomes w v
+      → KeepsTrying hear outcomes → I outcomes w v
   unfolding KeepsTrying
   along none g = first
   along (more {outcomes} w u v t made r d) g = onward outcomes w u v t made (along r g.3) d g.0
 
-  pub at_end : {Last : Outcome → List Outcome → Type 0} {GaveUp : Type 0} {new : World} (E : State → Type 0) (v : State)
-      → ((outcomes : List Outcome) (w : World) (u : State) → AttemptLog a old outcomes w → I outcomes w u → Did w j u v → Last (outcome_in a w) outcomes → ((GaveUp → ⊥) → AttemptLeft a w new) → E v)
-      → (GaveUp → (outcomes : List Outcome) (w : World) → I outcomes w v → E v) → RunThrough Did a hear Last GaveUp old new j s v → E v
-  at_end E v final cut (last {outcomes} w u t r g d is told) = final outcomes w u t (along r g) d is told
+  pub at_end : {Last : Outcome → List Outcome → Type 0} {GaveUp : Type 0} {new : World} (E : State
+      → Type 0) (v : State)
+      → ((outcomes : List Outcome) (w : World) (u : State) → AttemptLog a old outcomes w
+      → I outcomes w u → Did w j u v → Last (outcome_in a w) outcomes
+      → ((GaveUp → ⊥) → AttemptLeft a w new) → E v)
+      → (GaveUp → (outcomes : List Outcome) (w : World) → I outcomes w v → E v)
+      → RunThrough Did a hear Last GaveUp old new j s v → E v
+  at_end E v final cut (last {outcomes} w u t r g d is told) =
+      final outcomes w u t (along r g) d is told
   at_end E v final cut (stopped {outcomes} {w} gave r g) = cut gave outcomes w (along r g)
 
 -- A device is at the target's address, or not
@@ -170,22 +256,31 @@ pub mine : (t : Target) (s : State) {P : Type 0} → is_at s t ≡ true → is_a
 mine t s h g = false_true (sym g ∙ h)
 
 -- it stays there with its registers
-pub at_from : (t : Target) (s u : State) → u.registers ≡ s.registers → is_at s t ≡ true → is_at u t ≡ true
+pub at_from : (t : Target) (s u : State) → u.registers ≡ s.registers → is_at s t ≡ true
+    → is_at u t ≡ true
 at_from t s u e h = ap (λ x. x.address == t.addr) e ∙ h
 
 -- one that is there had the address before
-pub had_address : (t : Target) (s v : State) → (is_at s t ≡ false → v ≡ s) → is_at v t ≡ true → is_at s t ≡ true
-had_address t s v f h = elim (decided (is_at s t)) [ inl y ↦ y | inr y ↦ ap (λ x. is_at x t) (sym (f y)) ∙ h ]
+pub had_address : (t : Target) (s v : State) → (is_at s t ≡ false → v ≡ s) → is_at v t ≡ true
+    → is_at s t ≡ true
+had_address t s v f h = elim (decided (is_at s t)) [
+  | inl y ↦ y
+  | inr y ↦
+      ap (λ x. is_at x t) (sym (f y)) ∙ h
+]
 
 -- it goes on listening where its description and its address stay
-pub listens_at : (t : Target) (place : Location) (s v : State) → v.spec ≡ s.spec → address_of v ≡ address_of s → Listens t place s → Listens t place v
+pub listens_at : (t : Target) (place : Location) (s v : State) → v.spec ≡ s.spec
+    → address_of v ≡ address_of s → Listens t place s → Listens t place v
 listens_at t place s v e f l = record {
   at = ap (λ n. n == t.addr) f ∙ l.at;
   loud = ap (λ x. x.silent) e ∙ l.loud;
-  hears = ap (λ x. if t.low then x.low && (not (deep_at false place.rest) || t.pre) else not x.low) e ∙ l.hears;
+  hears = ap (λ x. if t.low then x.low && (not (deep_at false place.rest) || t.pre) else not x.low)
+      e ∙ l.hears;
 }
 
-pub listens_on : (t : Target) (place : Location) (s v : State) → v.spec ≡ s.spec → v.registers ≡ s.registers → Listens t place s → Listens t place v
+pub listens_on : (t : Target) (place : Location) (s v : State) → v.spec ≡ s.spec
+    → v.registers ≡ s.registers → Listens t place s → Listens t place v
 listens_on t place s v e f l = listens_at t place s v e (ap (λ x. x.address) f) l
 
 -- one that is busy, and not by its description, has a NAK left to give
@@ -197,47 +292,104 @@ not_busy s e = (neither s.spec.busy (nat_lt 0 s.naks) e).0
 
 -- Devices that the attempts are not for
 
-pub others_stay_then : (t : Target) (s u v : State) → (is_at s t ≡ false → u ≡ s) → (is_at u t ≡ false → v ≡ u) → is_at s t ≡ false → v ≡ s
+pub others_stay_then : (t : Target) (s u v : State) → (is_at s t ≡ false → u ≡ s)
+    → (is_at u t ≡ false → v ≡ u) → is_at s t ≡ false → v ≡ s
 others_stay_then t s u v f g h = g (ap (λ x. is_at x t) (f h) ∙ h) ∙ f h
 
-pub stays_away : {Did : Deeds} {a : Attempt} {hear : Outcome → HeardOutcome} {Last : Outcome → List Outcome → Type 0} {GaveUp : Type 0} {old new : World} {j : Location} {s v : State} (t : Target)
-    → ((w : World) (u x : State) → Did w j u x → is_at u t ≡ false → x ≡ u) → RunThrough Did a hear Last GaveUp old new j s v → is_at s t ≡ false → v ≡ s
+pub stays_away : {Did : Deeds} {a : Attempt} {hear : Outcome → HeardOutcome} {Last : Outcome
+    → List Outcome → Type 0} {GaveUp : Type 0} {old new : World} {j : Location} {s v : State}
+    (t : Target)
+    → ((w : World) (u x : State) → Did w j u x → is_at u t ≡ false → x ≡ u)
+    → RunThrough Did a hear Last GaveUp old new j s v → is_at s t ≡ false → v ≡ s
 stays_away {hear = hear} {s = s} {v = v} t others x away =
-    at_end hear (λ outcomes w u. u ≡ s) refl (λ outcomes w u y trail made e d n. others w u y d (ap (λ z. is_at z t) e ∙ away) ∙ e) (λ y. y ≡ s) v
-    (λ outcomes w u trail e d l told. others w u v d (ap (λ z. is_at z t) e ∙ away) ∙ e) (λ gave outcomes w e. e) x
+    at_end hear (λ outcomes w u. u ≡ s) refl
+    (λ outcomes w u y trail made e d n. others w u y d (ap (λ z. is_at z t) e ∙ away) ∙ e)
+    (λ y. y ≡ s) v
+    (λ outcomes w u trail e d l told. others w u v d (ap (λ z. is_at z t) e ∙ away) ∙ e)
+    (λ gave outcomes w e. e) x
 
 -- Devices that they are for: IN and OUT
 
 -- it answered by its law; a silent one as if no packet came to it
-pub record AttemptDelivered (t : Target) (a : Attempt) (law : Way → Way → Way → Reply) (w : World) (place : Location) (u v : State) : Type 0 where
+pub record AttemptDelivered (t : Target) (a : Attempt) (law : Way → Way → Way → Reply) (w : World)
+    (place : Location) (u v : State) : Type 0 where
   pub first : Way
   pub second : Way
   pub third : Way
-  pub heard : damage_in w ≡ None → Listens t place u → (first ≡ whole) × (second ≡ whole) × (third ≡ whole)
+  pub heard : damage_in w ≡ None → Listens t place u → (first ≡ whole) × (second ≡ whole)
+      × (third ≡ whole)
   pub gave : outcome_in a w ≡ got t.max (law first second third).0
   pub is : v ≡ (law first second third).1
 
 -- by what its packets came to, where all came whole
-pub as_whole : {t : Target} {a : Attempt} {law : Way → Way → Way → Reply} {w : World} {place : Location} {u v : State} (x : AttemptDelivered t a law w place u v) → damage_in w ≡ None → Listens t place u → {A : Type 0} (f : Way → Way → Way → A) → f x.first x.second x.third ≡ f whole whole whole
+pub as_whole : {t : Target} {a : Attempt} {law : Way → Way → Way → Reply} {w : World}
+    {place : Location} {u v : State} (x : AttemptDelivered t a law w place u v) → damage_in w ≡ None
+    → Listens t place u → {A : Type 0} (f : Way → Way → Way → A)
+    → f x.first x.second x.third ≡ f whole whole whole
 as_whole x n l f = let y = x.heard n l in rw (y.0, y.1, y.2) refl
 
-pub asked_in : (t : Target) (ep : ℕ) (w : World) (j : Location) (u v : State) → DidIn (in_attempt t ep) w j u v → is_at u t ≡ true → (row : List PortState) × AttemptDelivered t (in_attempt t ep) (in_law u row ep t.max) w j u v
+pub asked_in : (t : Target) (ep : ℕ) (w : World) (j : Location) (u v : State)
+    → DidIn (in_attempt t ep) w j u v → is_at u t ≡ true → (row : List PortState)
+    × AttemptDelivered t (in_attempt t ep) (in_law u row ep t.max) w j u v
 asked_in t ep w j u v (DidIn.other d e) at = false_true (sym d ∙ at)
-asked_in t ep w j u v (DidIn.silent d q o e) at = ([], record { first = broken; second = broken; third = broken; heard = λ n l. false_true (sym l.loud ∙ q); gave = o; is = e })
-asked_in t ep w j u v (DidIn.asked d q b below stood x o e) at = (row_of below, record { first = x.first; second = x.second; third = x.third; heard = λ n l. x.heard n l.hears; gave = o; is = e })
+asked_in t ep w j u v (DidIn.silent d q o e) at = (
+  [],
+  record {
+    first = broken;
+    second = broken;
+    third = broken;
+    heard =
+        λ n l. false_true (sym l.loud ∙ q);
+    gave = o;
+    is = e;
+  },
+)
+asked_in t ep w j u v (DidIn.asked d q b below stood x o e) at = (
+  row_of below,
+  record {
+    first = x.first;
+    second = x.second;
+    third = x.third;
+    heard =
+        λ n l. x.heard n l.hears;
+    gave = o;
+    is = e;
+  },
+)
 
-pub in_others : (t : Target) (ep : ℕ) (w : World) (j : Location) (u v : State) → DidIn (in_attempt t ep) w j u v → is_at u t ≡ false → v ≡ u
+pub in_others : (t : Target) (ep : ℕ) (w : World) (j : Location) (u v : State)
+    → DidIn (in_attempt t ep) w j u v → is_at u t ≡ false → v ≡ u
 in_others t ep w j u v (DidIn.other d e) away = e
 in_others t ep w j u v (DidIn.silent d q o e) away = e
 in_others t ep w j u v (DidIn.asked d q b below stood x o e) away = false_true (sym away ∙ d)
 
-pub delivered_out : (t : Target) (ep : ℕ) (toggle : Toggle) (bytes : List ℕ) (w : World) (j : Location) (u v : State) → DidOut (out_attempt t ep toggle bytes) toggle bytes w j u v
-    → is_at u t ≡ true → AttemptDelivered t (out_attempt t ep toggle bytes) (out_law u ep toggle bytes) w j u v
+pub delivered_out : (t : Target) (ep : ℕ) (toggle : Toggle) (bytes : List ℕ) (w : World)
+    (j : Location) (u v : State) → DidOut (out_attempt t ep toggle bytes) toggle bytes w j u v
+    → is_at u t ≡ true → AttemptDelivered t (out_attempt t ep toggle bytes)
+    (out_law u ep toggle bytes) w j u v
 delivered_out t ep toggle bytes w j u v (DidOut.other d e) at = false_true (sym d ∙ at)
-delivered_out t ep toggle bytes w j u v (DidOut.silent d q o e) at = record { first = broken; second = broken; third = broken; heard = λ n l. false_true (sym l.loud ∙ q); gave = o; is = e }
-delivered_out t ep toggle bytes w j u v (DidOut.asked d q x o e) at = record { first = x.first; second = x.second; third = x.third; heard = λ n l. x.heard n l.hears; gave = o; is = e }
+delivered_out t ep toggle bytes w j u v (DidOut.silent d q o e) at =
+    record {
+      first = broken;
+      second = broken;
+      third = broken;
+      heard =
+          λ n l. false_true (sym l.loud ∙ q);
+      gave = o;
+      is = e;
+    }
+delivered_out t ep toggle bytes w j u v (DidOut.asked d q x o e) at =
+    record {
+      first = x.first;
+      second = x.second;
+      third = x.third;
+      heard = λ n l. x.heard n l.hears;
+      gave = o;
+      is = e;
+    }
 
-pub out_others : (t : Target) (ep : ℕ) (toggle : Toggle) (bytes : List ℕ) (w : World) (j : Location) (u v : State) → DidOut (out_attempt t ep toggle bytes) toggle bytes w j u v
+pub out_others : (t : Target) (ep : ℕ) (toggle : Toggle) (bytes : List ℕ) (w : World) (j : Location)
+    (u v : State) → DidOut (out_attempt t ep toggle bytes) toggle bytes w j u v
     → is_at u t ≡ false → v ≡ u
 out_others t ep toggle bytes w j u v (DidOut.other d e) away = e
 out_others t ep toggle bytes w j u v (DidOut.silent d q o e) away = e
@@ -245,72 +397,122 @@ out_others t ep toggle bytes w j u v (DidOut.asked d q x o e) away = false_true 
 
 -- each device over a transaction of IN, of OUT, over a poll, and over attempts of IN or OUT
 
-module _ (t : Target) (ep : ℕ) (old new : World) (settled : IsSettled old.roots) (single : new.shared ≡ false) where
+module _ (t : Target) (ep : ℕ) (old new : World) (settled : IsSettled old.roots)
+    (single : new.shared ≡ false) where
   abbrev a_in : Attempt
   a_in = in_attempt t ep
 
-  does_in : (w : World) → IsMade a_in w → (after (attempt a_in) w).shared ≡ false → EachIf Any (DidIn a_in w) w (after (attempt a_in) w)
-  does_in w made u j v on there h = each_in a_in w made (record { kind = refl; payload = refl }) u j v on there
+  does_in : (w : World) → IsMade a_in w → (after (attempt a_in) w).shared ≡ false
+      → EachIf Any (DidIn a_in w) w (after (attempt a_in) w)
+  does_in w made u j v on there h = each_in a_in w made (record { kind = refl; payload = refl }) u j
+      v on there
 
-  pub over_in : (hear : Outcome → HeardOutcome) (result : Result (List ℕ) TransFault) → Transacted hear a_in old result new → EachIf Any (RunThrough (DidIn a_in) a_in hear (IsEnd hear result) (IsOfBus result) old new) old new
-  over_in hear result x = over_transaction (DidIn a_in) a_in Any (λ w j u v d h. tt) does_in old settled hear new single result x
+  pub over_in : (hear : Outcome → HeardOutcome) (result : Result (List ℕ) TransFault)
+      → Transacted hear a_in old result new
+      → EachIf Any (RunThrough (DidIn a_in) a_in hear (IsEnd hear result) (IsOfBus result) old new)
+      old new
+  over_in hear result x = over_transaction (DidIn a_in) a_in Any (λ w j u v d h. tt) does_in old
+      settled hear new single result x
 
-  pub over_polled : (toggle : Toggle) (result : Result (Option (List ℕ)) TransFault) → Polled toggle a_in old result new
-      → EachIf Any (RunThrough (DidIn a_in) a_in (polled_as toggle) (IsPollEnd toggle result) (IsOfBus result) old new) old new
-  over_polled toggle result x = over_poll (DidIn a_in) a_in Any (λ w j u v d h. tt) does_in old settled toggle new single result x
+  pub over_polled : (toggle : Toggle) (result : Result (Option (List ℕ)) TransFault)
+      → Polled toggle a_in old result new
+      → EachIf Any (RunThrough (DidIn a_in) a_in (polled_as toggle) (IsPollEnd toggle result)
+      (IsOfBus result) old new) old new
+  over_polled toggle result x = over_poll (DidIn a_in) a_in Any (λ w j u v d h. tt) does_in old
+      settled toggle new single result x
 
-  pub over_in_trail : {outcomes : List Outcome} → AttemptLog a_in old outcomes new → EachIf Any (λ j s v. Run (DidIn a_in) a_in old j s outcomes new v) old new
-  over_in_trail x = over_trail (DidIn a_in) a_in Any (λ w j u v d h. tt) does_in old settled x single
+  pub over_in_trail : {outcomes : List Outcome} → AttemptLog a_in old outcomes new
+      → EachIf Any (λ j s v. Run (DidIn a_in) a_in old j s outcomes new v) old new
+  over_in_trail x = over_trail (DidIn a_in) a_in Any (λ w j u v d h. tt) does_in old settled x
+      single
 
-module _ (t : Target) (ep : ℕ) (toggle : Toggle) (bytes : List ℕ) (old new : World) (settled : IsSettled old.roots) (single : new.shared ≡ false) where
+module _ (t : Target) (ep : ℕ) (toggle : Toggle) (bytes : List ℕ) (old new : World)
+    (settled : IsSettled old.roots) (single : new.shared ≡ false) where
   abbrev a_out : Attempt
   a_out = out_attempt t ep toggle bytes
 
-  does_out : (w : World) → IsMade a_out w → (after (attempt a_out) w).shared ≡ false → EachIf Any (DidOut a_out toggle bytes w) w (after (attempt a_out) w)
-  does_out w made u j v on there h = each_out a_out w toggle bytes made (record { kind = refl; payload = refl }) u j v on there
+  does_out : (w : World) → IsMade a_out w → (after (attempt a_out) w).shared ≡ false
+      → EachIf Any (DidOut a_out toggle bytes w) w (after (attempt a_out) w)
+  does_out w made u j v on there h = each_out a_out w toggle bytes made
+      (record { kind = refl; payload = refl }) u j v on there
 
-  pub over_out : (hear : Outcome → HeardOutcome) (result : Result (List ℕ) TransFault) → Transacted hear a_out old result new
-      → EachIf Any (RunThrough (DidOut a_out toggle bytes) a_out hear (IsEnd hear result) (IsOfBus result) old new) old new
-  over_out hear result x = over_transaction (DidOut a_out toggle bytes) a_out Any (λ w j u v d h. tt) does_out old settled hear new single result x
+  pub over_out : (hear : Outcome → HeardOutcome) (result : Result (List ℕ) TransFault)
+      → Transacted hear a_out old result new
+      → EachIf Any (RunThrough (DidOut a_out toggle bytes) a_out hear (IsEnd hear result)
+      (IsOfBus result) old new) old new
+  over_out hear result x = over_transaction (DidOut a_out toggle bytes) a_out Any
+      (λ w j u v d h. tt) does_out old settled hear new single result x
 
-  pub over_out_trail : {outcomes : List Outcome} → AttemptLog a_out old outcomes new → EachIf Any (λ j s v. Run (DidOut a_out toggle bytes) a_out old j s outcomes new v) old new
-  over_out_trail x = over_trail (DidOut a_out toggle bytes) a_out Any (λ w j u v d h. tt) does_out old settled x single
+  pub over_out_trail : {outcomes : List Outcome} → AttemptLog a_out old outcomes new
+      → EachIf Any (λ j s v. Run (DidOut a_out toggle bytes) a_out old j s outcomes new v) old new
+  over_out_trail x = over_trail (DidOut a_out toggle bytes) a_out Any (λ w j u v d h. tt) does_out
+      old settled x single
 
 pub one_wait : (h : HeardOutcome) (n : ℕ) → waits_with h n ≤ n + 1
 one_wait h n = grind arith
 
--- Why a transaction with a device of a kind fails: what is of the kind stays so over attempts that go on
+-- Why a transaction with a device of a kind fails: what is of the kind stays so over attempts that
+-- go on
 
-module _ {Did : Deeds} {a : Attempt} {hear : Outcome → HeardOutcome} {old new : World} {j : Location} {s v : State} (Is : State → Type 0)
-    (stays : (w : World) (u x : State) → Did w j u x → IsNoEnd (hear (outcome_in a w)) → Is u → Is x) (is : Is s) where
-  -- where an attempt that is not damaged is no error, three errors run only over three damaged attempts
-  pub heeded : NoThreeDamaged old → ((w : World) (u x : State) → Did w j u x → Is u → damage_in w ≡ None → hear (outcome_in a w) ≢ Lost)
-      → RunThrough Did a hear (IsEnd hear (Err NoAnswer)) (IsOfBus {A = List ℕ} (Err NoAnswer)) old new j s v → ⊥
+module _ {Did : Deeds} {a : Attempt} {hear : Outcome → HeardOutcome} {old new : World}
+    {j : Location} {s v : State} (Is : State → Type 0)
+    (stays : (w : World) (u x : State) → Did w j u x → IsNoEnd (hear (outcome_in a w)) → Is u
+    → Is x) (is : Is s) where
+  -- where an attempt that is not damaged is no error, three errors run only over three damaged
+  -- attempts
+  pub heeded : NoThreeDamaged old → ((w : World) (u x : State) → Did w j u x → Is u
+      → damage_in w ≡ None → hear (outcome_in a w) ≢ Lost)
+      → RunThrough Did a hear (IsEnd hear (Err NoAnswer)) (IsOfBus {A = List ℕ} (Err NoAnswer)) old
+      new j s v → ⊥
   unfolding errors_running
   heeded three heeds x =
-      at_end hear (λ outcomes w u. Is u × LostRun old.damages (errors_running hear outcomes) w.attempts) (is, none_lost)
-      (λ outcomes w u y t made i d n. (stays w u y d n i.0, lost_more t made hear (heeds w u y d i.0) i.1)) (λ y. ⊥) v
+      at_end hear (λ outcomes w u. Is u × LostRun old.damages (errors_running hear outcomes)
+      w.attempts) (is, none_lost)
+      (λ outcomes w u y t made i d n. (
+        stays w u y d n i.0,
+        lost_more t made hear (heeds w u y d i.0) i.1,
+      )) (λ y. ⊥) v
       (λ outcomes w u t i d end told.
       let run : _ = lost_more t (told (λ g. g tt)).0 hear (heeds w u v d i.0) i.1 in
-      omega (arith, end.1, run_short old (errors_running hear (outcome_in a w ∷ outcomes)) (after (attempt a) w).attempts three run))
+      omega (
+        arith,
+        end.1,
+        run_short old (errors_running hear (outcome_in a w ∷ outcomes))
+            (after (attempt a) w).attempts three run,
+      ))
       (λ gave outcomes w i. gave tt) x
     where
       none_lost : LostRun old.damages (errors_running hear []) old.attempts
       none_lost = lost_run_none old.damages old.attempts
 
   -- where each wait is one fewer of those it has left, there are no more
-  pub spared : (left : State → ℕ) → ((w : World) (u x : State) → Did w j u x → Is u → (n : ℕ) → waits_with (hear (outcome_in a w)) n + left x ≤ n + left u) → left s < 256
-      → RunThrough Did a hear (IsEnd hear (Err Busy)) (IsOfBus {A = List ℕ} (Err Busy)) old new j s v → ⊥
+  pub spared : (left : State → ℕ) → ((w : World) (u x : State) → Did w j u x → Is u → (n : ℕ)
+      → waits_with (hear (outcome_in a w)) n + left x ≤ n + left u) → left s < 256
+      → RunThrough Did a hear (IsEnd hear (Err Busy)) (IsOfBus {A = List ℕ} (Err Busy)) old new j s
+      v → ⊥
   unfolding waits_in
   spared left spares few x =
-      at_end hear (λ outcomes w u. Is u × (waits_in hear outcomes + left u ≤ left s)) (is, none_left)
-      (λ outcomes w u y t made i d n. (stays w u y d n i.0, one_left outcomes (outcome_in a w) (left u) (left y) i.1 (spares w u y d i.0 (waits_in hear outcomes)))) (λ y. ⊥) v
-      (λ outcomes w u t i d end told. omega (arith, end.1, few, one_left outcomes (outcome_in a w) (left u) (left v) i.1 (spares w u v d i.0 (waits_in hear outcomes))))
+      at_end hear (λ outcomes w u. Is u × (waits_in hear outcomes + left u ≤ left s))
+      (is, none_left)
+      (λ outcomes w u y t made i d n. (
+        stays w u y d n i.0,
+        one_left outcomes (outcome_in a w)
+            (left u) (left y) i.1 (spares w u y d i.0 (waits_in hear outcomes)),
+      )) (λ y. ⊥) v
+      (λ outcomes w u t i d end told. omega (
+        arith,
+        end.1,
+        few,
+        one_left outcomes (outcome_in a w)
+            (left u) (left v) i.1 (spares w u v d i.0 (waits_in hear outcomes)),
+      ))
       (λ gave outcomes w i. gave tt) x
     where
       none_left : waits_in hear [] + left s ≤ left s
       none_left = omega arith
 
-      one_left : (outcomes : List Outcome) (o : Outcome) (m n : ℕ) → waits_in hear outcomes + m ≤ left s → waits_with (hear o) (waits_in hear outcomes) + n ≤ waits_in hear outcomes + m
+      one_left : (outcomes : List Outcome) (o : Outcome) (m n : ℕ)
+          → waits_in hear outcomes + m ≤ left s → waits_with (hear o) (waits_in hear outcomes) + n
+          ≤ waits_in hear outcomes + m
           → waits_in hear (o ∷ outcomes) + n ≤ left s
       one_left outcomes o m n x y = omega (arith, x, y)

@@ -1,5 +1,6 @@
 -- What outcomes are by how they are heard, and by what was answered.
-use Rattle.std.proofs.Common.{◌≡◌, refl, sym, ℕ, List, [], Option, None, Some, Result, Ok, Err, arith}
+use Rattle.std.proofs.Common.{◌≡◌, refl, sym, ℕ, List, [], Option, None, Some, Result, Ok, Err}
+use Rattle.std.proofs.Common.{arith}
 use Rattle.arrayvec.specs.ArrayVec.{ArrayVec}
 use Rattle.usb_packet.specs.declared.Toggle.{Toggle}
 use Rattle.usb_device.specs.declared.answer.Answer.{Answer}
@@ -8,7 +9,8 @@ use Rattle.usb_world.specs.declared.types.Outcome.{Outcome}
 use Rattle.usb_world.specs.declared.types.Outcome.TheVariants.{Payload, Ack, Nak, Stall}
 use Rattle.usb_world.specs.OneHolder.{got}
 use Rattle.usb_transaction.specs.declared.heard_outcome.HeardOutcome.{HeardOutcome}
-use Rattle.usb_transaction.specs.declared.heard_outcome.HeardOutcome.TheVariants.{Moved, NotReady, Refused}
+use Rattle.usb_transaction.specs.declared.heard_outcome.HeardOutcome.TheVariants.{Moved, NotReady}
+use Rattle.usb_transaction.specs.declared.heard_outcome.HeardOutcome.TheVariants.{Refused}
 use Rattle.usb_transaction.specs.declared.fault.TransFault.{TransFault}
 use Rattle.usb_transaction.specs.HeardOutcomes.{heard_as, polled_as, heard_when_sent, set_up_as}
 use Rattle.usb_transaction.specs.Transactions.{packed}
@@ -16,7 +18,8 @@ use Rattle.usb_transaction.specs.AttemptLog.{IsNoEnd}
 
 -- What an outcome is by how it is heard
 
-pub heard_moved : (t : Toggle) (o : Outcome) (bytes : ArrayVec ℕ) → Moved bytes ≡ heard_as t o → o ≡ Payload t bytes
+pub heard_moved : (t : Toggle) (o : Outcome) (bytes : ArrayVec ℕ) → Moved bytes ≡ heard_as t o
+    → o ≡ Payload t bytes
 heard_moved t o bytes e = grind arith
 
 pub heard_as-nak : (t : Toggle) (o : Outcome) → NotReady ≡ heard_as t o → o ≡ Nak
@@ -29,10 +32,12 @@ pub sent_stall : (o : Outcome) → Refused ≡ heard_when_sent o → o ≡ Stall
 sent_stall o e = grind arith
 
 -- a read is done by the awaited packet with just these bytes, and so is a poll
-pub read_last : (toggle : Toggle) (o : Outcome) (bytes : List ℕ) → heard_as toggle o ≡ Moved (packed bytes) → o ≡ Payload toggle (packed bytes)
+pub read_last : (toggle : Toggle) (o : Outcome) (bytes : List ℕ)
+    → heard_as toggle o ≡ Moved (packed bytes) → o ≡ Payload toggle (packed bytes)
 read_last toggle o bytes e = heard_moved toggle o (packed bytes) (sym e)
 
-pub polled_last : (toggle : Toggle) (o : Outcome) (bytes : List ℕ) → polled_as toggle o ≡ Moved (packed bytes) → o ≡ Payload toggle (packed bytes)
+pub polled_last : (toggle : Toggle) (o : Outcome) (bytes : List ℕ)
+    → polled_as toggle o ≡ Moved (packed bytes) → o ≡ Payload toggle (packed bytes)
 polled_last toggle o bytes e = grind arith
 
 -- what was sent is done by ACK, and so are setup data
@@ -43,7 +48,8 @@ pub set_up_last : (o : Outcome) (bytes : ArrayVec ℕ) → set_up_as o ≡ Moved
 set_up_last o bytes e = grind arith
 
 -- and brings no data
-pub sent_empty : (o : Outcome) (bytes : List ℕ) → heard_when_sent o ≡ Moved (packed bytes) → bytes ≡ []
+pub sent_empty : (o : Outcome) (bytes : List ℕ) → heard_when_sent o ≡ Moved (packed bytes)
+    → bytes ≡ []
 sent_empty o bytes e = grind arith
 
 pub set_up_empty : (o : Outcome) (bytes : List ℕ) → set_up_as o ≡ Moved (packed bytes) → bytes ≡ []
@@ -55,7 +61,8 @@ abbrev pub packet_heard : HeardOutcome → Option (List ℕ)
 packet_heard (Moved b) = Some b.items
 packet_heard h = None
 
-pub heard_taken : (awaited : Toggle) (max : ℕ) (o : Option Answer) → packet_heard (heard_as awaited (got max o)) ≡ taken_of awaited max o
+pub heard_taken : (awaited : Toggle) (max : ℕ) (o : Option Answer)
+    → packet_heard (heard_as awaited (got max o)) ≡ taken_of awaited max o
 heard_taken awaited max o = grind arith
 
 pub no_packet : (h : HeardOutcome) → IsNoEnd h → packet_heard h ≡ None

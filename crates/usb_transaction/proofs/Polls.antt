@@ -1,5 +1,7 @@
 -- A poll of a hub's status endpoint (11.12.3): what it leaves of each device, and why it fails.
-use Rattle.std.proofs.Common.{◌≡◌, ◌≢◌, ◌+◌, ◌≤◌, ◌⊎◌, inl, inr, ℕ, ◌==◌, nat_le, ◌&&◌, if◌then◌else◌, Bool, true, false, List, [], ◌∷◌, length, Option, None, Some, Result, Ok, Err, refl, sym, subst, ap, ◌∙◌, arith}
+use Rattle.std.proofs.Common.{◌≡◌, ◌≢◌, ◌+◌, ◌≤◌, ◌⊎◌, inl, inr, ℕ, ◌==◌, nat_le, ◌&&◌}
+use Rattle.std.proofs.Common.{if◌then◌else◌, Bool, true, false, List, [], ◌∷◌, length, Option, None}
+use Rattle.std.proofs.Common.{Some, Result, Ok, Err, refl, sym, subst, ap, ◌∙◌, arith}
 use Rattle.arrayvec.specs.ArrayVec.{ArrayVec}
 use Rattle.usb_packet.specs.declared.Toggle.{Toggle}
 use Rattle.usb_port.specs.PortState.{PortState}
@@ -24,49 +26,75 @@ use Rattle.usb_world.specs.World.{World, Made}
 use Rattle.usb_world.proofs.Interface.{got_nak, got_payload, got_stall, made_step, ready_taken}
 use Rattle.usb_tree.proofs.Interface.{decided, false_true}
 use Rattle.usb_transaction.specs.declared.fault.TransFault.{TransFault}
-use Rattle.usb_transaction.specs.declared.fault.TransFault.TheVariants.{Stalled, Busy, NoAnswer, Bus}
+use Rattle.usb_transaction.specs.declared.fault.TransFault.TheVariants.{Stalled, Busy, NoAnswer}
+use Rattle.usb_transaction.specs.declared.fault.TransFault.TheVariants.{Bus}
 use Rattle.usb_transaction.specs.declared.heard_outcome.HeardOutcome.{HeardOutcome}
-use Rattle.usb_transaction.specs.declared.heard_outcome.HeardOutcome.TheVariants.{Moved, Repeat, Lost}
+use Rattle.usb_transaction.specs.declared.heard_outcome.HeardOutcome.TheVariants.{Moved, Repeat}
+use Rattle.usb_transaction.specs.declared.heard_outcome.HeardOutcome.TheVariants.{Lost}
 use Rattle.usb_transaction.specs.declared.target.Target.{Target}
 use Rattle.usb_transaction.specs.Failures.{NoThreeDamaged, Listens, PollFailure}
 use Rattle.usb_transaction.specs.HeardOutcomes.{polled, polled_as}
-use Rattle.usb_transaction.specs.Leaves.{IsNotOfBus, is_at, ToldIn, ToldSince, ToldBy, ToldSome, none_came, one_came, PollEnds, ChangesIn}
-use Rattle.usb_transaction.specs.AttemptLog.{AttemptLog, IsNoEnd, Polled, waits_with, waits_in, errors_running}
+use Rattle.usb_transaction.specs.Leaves.{IsNotOfBus, is_at, ToldIn, ToldSince, ToldBy, ToldSome}
+use Rattle.usb_transaction.specs.Leaves.{none_came, one_came, PollEnds, ChangesIn}
+use Rattle.usb_transaction.specs.AttemptLog.{AttemptLog, IsNoEnd, Polled, waits_with, waits_in}
+use Rattle.usb_transaction.specs.AttemptLog.{errors_running}
 use Rattle.usb_transaction.specs.Transactions.{packed, in_attempt}
-use Rattle.usb_transaction.proofs.DeviceRuns.{AttemptDelivered, IsOfBus, IsPollEnd, RunThrough, AttemptLeft, as_whole, asked_in, at_end, each_device, in_others, listens_on, of_bus, one_wait, over_polled, stays_away}
+use Rattle.usb_transaction.proofs.DeviceRuns.{AttemptDelivered, IsOfBus, IsPollEnd, RunThrough}
+use Rattle.usb_transaction.proofs.DeviceRuns.{AttemptLeft, as_whole, asked_in, at_end, each_device}
+use Rattle.usb_transaction.proofs.DeviceRuns.{in_others, listens_on, of_bus, one_wait, over_polled}
+use Rattle.usb_transaction.proofs.DeviceRuns.{stays_away}
 use Rattle.usb_transaction.proofs.LastOutcomes.{polled_last}
-use Rattle.usb_transaction.proofs.Trails.{LostRun, damaged_more, lost_more, lost_run_none, run_short}
+use Rattle.usb_transaction.proofs.Trails.{LostRun, damaged_more, lost_more, lost_run_none}
+use Rattle.usb_transaction.proofs.Trails.{run_short}
 
 -- The replies to IN 1 of a configured hub, by whether all packets came whole
 
 abbrev poll_byte_state : State → Option ℕ → Bool → State
-poll_byte_state s held came = if came then forgotten (acknowledged (record s { held = held }) by.Changes) else record s { held = held }
+poll_byte_state s held came = if came then forgotten
+    (acknowledged (record s { held = held }) by.Changes) else record s { held = held }
 
-module _ (s : State) (P : Bool → Reply → Type 0) (silent : (held : Option ℕ) → P false (None, record s { held = held })) (stalls : (clear : Bool) → s.changes.halted ≡ true → P clear (Some answer.Stall, s))
-    (waits : (clear : Bool) → P clear (Some answer.Nak, s)) (gives : (clear : Bool) (held : Option ℕ) (bits : ℕ) → P clear (Some (payload s.changes.toggle (bits ∷ [])), poll_byte_state s held clear)) where
-  by_heard : (t2 t3 : Way) (x : Option Answer) → P (is_whole t3) (x, s) → P (is_whole t2 && is_whole t3) (heard t2 x, s)
-  by_heard whole t3 x h = h
-  by_heard t2 t3 x h = silent s.held
+module _ (s : State) (P : Bool → Reply → Type 0) (silent : (held : Option ℕ)
+    → P false (None, record s { held = held })) (stalls : (clear : Bool) → s.changes.halted ≡ true
+    → P clear (Some answer.Stall, s))
+    (waits : (clear : Bool) → P clear (Some answer.Nak, s))
+    (gives : (clear : Bool) (held : Option ℕ) (bits : ℕ)
+    → P clear (Some (payload s.changes.toggle (bits ∷ [])), poll_byte_state s held clear))
+  where
+    by_heard : (t2 t3 : Way) (x : Option Answer) → P (is_whole t3) (x, s)
+        → P (is_whole t2 && is_whole t3) (heard t2 x, s)
+    by_heard whole t3 x h = h
+    by_heard t2 t3 x h = silent s.held
 
-  by_byte : (max : ℕ) → nat_le 1 max ≡ true → (t2 t3 : Way) (held : Option ℕ) (bits : ℕ) → P (is_whole t2 && is_whole t3) (gave (record s { held = held }) by.Changes max s.changes.toggle (bits ∷ []) t2 t3)
-  by_byte max m whole t3 held bits = rw m (gives (is_whole t3) held bits)
-  by_byte max m t2 t3 held bits = silent held
+    by_byte : (max : ℕ) → nat_le 1 max ≡ true → (t2 t3 : Way) (held : Option ℕ) (bits : ℕ)
+        → P (is_whole t2 && is_whole t3) (gave (record s { held = held }) by.Changes max
+        s.changes.toggle (bits ∷ []) t2 t3)
+    by_byte max m whole t3 held bits = rw m (gives (is_whole t3) held bits)
+    by_byte max m t2 t3 held bits = silent held
 
-  by_held : (row : List PortState) (max : ℕ) → nat_le 1 max ≡ true → (t2 t3 : Way) (held : Option ℕ) → P (is_whole t2 && is_whole t3) (held_law s row held max t2 t3)
-  by_held row max m t2 t3 (Some bits) = by_byte max m t2 t3 s.held bits
-  by_held row max m t2 t3 None = new (change_bits row == 0)
-    where
-      new : (none : Bool) → P (is_whole t2 && is_whole t3) (if none then (heard t2 (Some answer.Nak), s) else gave (record s { held = Some (change_bits row) }) by.Changes max s.changes.toggle (change_bits row ∷ []) t2 t3)
-      new true = by_heard t2 t3 (Some answer.Nak) (waits (is_whole t3))
-      new false = by_byte max m t2 t3 (Some (change_bits row)) (change_bits row)
+    by_held : (row : List PortState) (max : ℕ) → nat_le 1 max ≡ true
+        → (t2 t3 : Way) (held : Option ℕ)
+        → P (is_whole t2 && is_whole t3) (held_law s row held max t2 t3)
+    by_held row max m t2 t3 (Some bits) = by_byte max m t2 t3 s.held bits
+    by_held row max m t2 t3 None = new (change_bits row == 0)
+      where
+        new : (none : Bool) → P (is_whole t2 && is_whole t3)
+            (if none then (heard t2 (Some answer.Nak), s) else gave
+            (record s { held = Some (change_bits row) }) by.Changes max s.changes.toggle
+            (change_bits row ∷ []) t2 t3)
+        new true = by_heard t2 t3 (Some answer.Nak) (waits (is_whole t3))
+        new false = by_byte max m t2 t3 (Some (change_bits row)) (change_bits row)
 
-  by_reply : tells_changes s.spec s.registers ≡ true → (row : List PortState) (max : ℕ) → 1 ≤ max → (t1 t2 t3 : Way) → P (is_whole t1 && is_whole t2 && is_whole t3) (in_law s row 1 max t1 t2 t3)
-  by_reply h row max m whole t2 t3 = rw (law_is s h row max t2 t3) (halt s.changes.halted refl)
-    where
-      halt : (halted : Bool) → s.changes.halted ≡ halted → P (is_whole t2 && is_whole t3) (if halted then (heard t2 (Some answer.Stall), s) else held_law s row s.held max t2 t3)
-      halt true q = by_heard t2 t3 (Some answer.Stall) (stalls (is_whole t3) q)
-      halt false q = by_held row max (at_least_one max m) t2 t3 s.held
-  by_reply h row max m t1 t2 t3 = silent s.held
+    by_reply : tells_changes s.spec s.registers ≡ true → (row : List PortState) (max : ℕ) → 1 ≤ max
+        → (t1 t2 t3 : Way) → P (is_whole t1 && is_whole t2 && is_whole t3)
+        (in_law s row 1 max t1 t2 t3)
+    by_reply h row max m whole t2 t3 = rw (law_is s h row max t2 t3) (halt s.changes.halted refl)
+      where
+        halt : (halted : Bool) → s.changes.halted ≡ halted
+            → P (is_whole t2 && is_whole t3) (if halted then (heard t2 (Some answer.Stall), s)
+            else held_law s row s.held max t2 t3)
+        halt true q = by_heard t2 t3 (Some answer.Stall) (stalls (is_whole t3) q)
+        halt false q = by_held row max (at_least_one max m) t2 t3 s.held
+    by_reply h row max m t1 t2 t3 = silent s.held
 
 -- what one attempt leaves of the endpoint
 record PollStep (t : Toggle) (s : State) (clear : Bool) (o : Outcome) (v : State) : Type 0 where
@@ -74,32 +102,78 @@ record PollStep (t : Toggle) (s : State) (clear : Bool) (o : Outcome) (v : State
   quiet : v.changes.halted ≡ s.changes.halted
   heeds : clear ≡ true → polled_as t o ≢ Lost
   unstalled : s.changes.halted ≡ false → o ≢ Stall
-  even : s.changes.toggle ≡ t → IsNoEnd (polled_as t o) → (v.changes.toggle ≡ t) × (polled_as t o ≡ Lost)
-  behind : s.changes.toggle ≡ other t → IsNoEnd (polled_as t o) → (v.changes.toggle ≡ t) ⊎ ((v.changes.toggle ≡ other t) × (clear ≡ false))
+  even : s.changes.toggle ≡ t → IsNoEnd (polled_as t o) → (v.changes.toggle ≡ t)
+      × (polled_as t o ≡ Lost)
+  behind : s.changes.toggle ≡ other t → IsNoEnd (polled_as t o) → (v.changes.toggle ≡ t)
+      ⊎ ((v.changes.toggle ≡ other t) × (clear ≡ false))
 
 -- a byte that comes to the host
 never_lost : (b : ArrayVec ℕ) (x : Bool) → polled (if x then Moved b else Repeat) ≢ Lost
 never_lost b true e = cc e
 never_lost b false e = cc e
 
-step_byte : (t : Toggle) (s : State) (clear : Bool) (held : Option ℕ) (b : ArrayVec ℕ) → PollStep t s clear (Payload s.changes.toggle b) (poll_byte_state s held clear)
+step_byte : (t : Toggle) (s : State) (clear : Bool) (held : Option ℕ) (b : ArrayVec ℕ)
+    → PollStep t s clear (Payload s.changes.toggle b) (poll_byte_state s held clear)
 step_byte t s true held b =
-    record { frame = refl; quiet = refl; heeds = λ c. never_lost b (is_same t s.changes.toggle); unstalled = λ q e. cc e; even = λ q n. elim (rw (q, is_same-refl t) at n) [ ]; behind = λ q n. inl (ap other q ∙ other-other t) }
+    record {
+      frame = refl;
+      quiet = refl;
+      heeds = λ c. never_lost b (is_same t s.changes.toggle);
+      unstalled = λ q e. cc e;
+      even = λ q n. elim (rw (q, is_same-refl t) at n) [ ];
+      behind =
+          λ q n. inl (ap other q ∙ other-other t);
+    }
 step_byte t s false held b =
-    record { frame = refl; quiet = refl; heeds = λ c. never_lost b (is_same t s.changes.toggle); unstalled = λ q e. cc e; even = λ q n. elim (rw (q, is_same-refl t) at n) [ ]; behind = λ q n. inr (q, refl) }
+    record {
+      frame = refl;
+      quiet = refl;
+      heeds = λ c. never_lost b (is_same t s.changes.toggle);
+      unstalled = λ q e. cc e;
+      even = λ q n. elim (rw (q, is_same-refl t) at n) [ ];
+      behind =
+          λ q n. inr (q, refl);
+    }
 
-poll_step : (t : Toggle) (s : State) → tells_changes s.spec s.registers ≡ true → (row : List PortState) (max : ℕ) → 1 ≤ max → (t1 t2 t3 : Way) (o : Outcome) (v : State)
-    → o ≡ got max (in_law s row 1 max t1 t2 t3).0 → v ≡ (in_law s row 1 max t1 t2 t3).1 → PollStep t s (is_whole t1 && is_whole t2 && is_whole t3) o v
+poll_step : (t : Toggle) (s : State) → tells_changes s.spec s.registers ≡ true
+    → (row : List PortState) (max : ℕ) → 1 ≤ max → (t1 t2 t3 : Way) (o : Outcome) (v : State)
+    → o ≡ got max (in_law s row 1 max t1 t2 t3).0 → v ≡ (in_law s row 1 max t1 t2 t3).1
+    → PollStep t s (is_whole t1 && is_whole t2 && is_whole t3) o v
 poll_step t s h row max m t1 t2 t3 o v e f =
     rw (e, f) (by_reply s (λ clear r. PollStep t s clear (got max r.0) r.1)
-    (λ held. record { frame = refl; quiet = refl; heeds = λ c. false_true c; unstalled = λ q e. cc e; even = λ q n. (q, refl); behind = λ q n. inr (q, refl) })
-    (λ clear e. record { frame = refl; quiet = refl; heeds = λ c l. cc l; unstalled = λ q. false_true (sym q ∙ e); even = λ q n. elim n [ ]; behind = λ q n. elim n [ ] })
-    (λ clear. record { frame = refl; quiet = refl; heeds = λ c l. cc l; unstalled = λ q e. cc e; even = λ q n. elim n [ ]; behind = λ q n. elim n [ ] })
-    (λ clear held bits. rw (at_least_one max m) (step_byte t s clear held (record { items = bits ∷ [] }))) h row max m t1 t2 t3)
+    (λ held. record {
+      frame = refl;
+      quiet = refl;
+      heeds = λ c. false_true c;
+      unstalled =
+          λ q e. cc e;
+      even = λ q n. (q, refl);
+      behind = λ q n. inr (q, refl);
+    })
+    (λ clear e. record {
+      frame = refl;
+      quiet = refl;
+      heeds = λ c l. cc l;
+      unstalled =
+          λ q. false_true (sym q ∙ e);
+      even = λ q n. elim n [ ];
+      behind = λ q n. elim n [ ];
+    })
+    (λ clear. record {
+      frame = refl;
+      quiet = refl;
+      heeds = λ c l. cc l;
+      unstalled = λ q e. cc e;
+      even = λ q n. elim n [ ];
+      behind = λ q n. elim n [ ];
+    })
+    (λ clear held bits. rw (at_least_one max m)
+    (step_byte t s clear held (record { items = bits ∷ [] }))) h row max m t1 t2 t3)
 
 -- What the host hears of an answer
 
-poll_at-wider : (Told So : ℕ → Type 0) → ((bits : ℕ) → Told bits → So bits) → (t : Toggle) (s : State) → PollAt Told t s → PollAt So t s
+poll_at-wider : (Told So : ℕ → Type 0) → ((bits : ℕ) → Told bits → So bits)
+    → (t : Toggle) (s : State) → PollAt Told t s → PollAt So t s
 poll_at-wider Told So f t s (level h q) = level h q
 poll_at-wider Told So f t s (told bits so h q) = told bits (f bits so) h q
 poll_at-wider Told So f t s (ahead bits h q) = ahead bits h q
@@ -109,45 +183,73 @@ never_told Told t s = poll_at-wider NeverTold Told (λ bits so. elim so [ ]) t s
 
 module _ (Told : ℕ → Type 0) (bits : ℕ) (t : Toggle) (max : ℕ) (m : 1 ≤ max) (v : State) where
   -- no byte came, or one that ends the poll
-  came : (o : Option Answer) → PollOn (ToldSome Told) bits t o v → PollAt (ToldSome Told) t v ⊎ (PollAt NeverTold (other t) v × (IsNoEnd (polled_as t (got max o)) → ⊥))
+  came : (o : Option Answer) → PollOn (ToldSome Told) bits t o v → PollAt (ToldSome Told) t v
+      ⊎ (PollAt NeverTold (other t) v × (IsNoEnd (polled_as t (got max o)) → ⊥))
   came None on = inl on
   came (Some answer.Ack) on = elim on [ ]
   came (Some answer.Nak) on = inl (never_told (ToldSome Told) t v on.1)
   came (Some answer.Stall) on = inl on.0
   came (Some (answer.Data given b)) on =
-      elim (decided (is_same t given)) [ inl h ↦ inr ((on.0 h).between, λ n. rw (ap {B = ℕ} length (on.0 h).came, at_least_one max m, h) at n) | inr h ↦ inl (on.1 h) ]
+      elim (decided (is_same t given)) [
+        | inl h ↦
+            inr (
+              (on.0 h).between,
+              λ n. rw (ap {B = ℕ} length (on.0 h).came, at_least_one max m, h)
+                  at n,
+            )
+        | inr h ↦ inl (on.1 h)
+      ]
 
-  goes_on : (o : Option Answer) → PollOn (ToldSome Told) bits t o v → IsNoEnd (polled_as t (got max o)) → PollAt (ToldSome Told) t v
+  goes_on : (o : Option Answer) → PollOn (ToldSome Told) bits t o v
+      → IsNoEnd (polled_as t (got max o)) → PollAt (ToldSome Told) t v
   goes_on o on n = elim (came o on) [ inl x ↦ x | inr y ↦ absurd (y.1 n) ]
 
   -- bits are what the ports told, where NAK was answered
-  ends : (result : Result (Option (List ℕ)) TransFault) (o : Option Answer) (outcomes : List Outcome) → (o ≡ Some answer.Nak → Told bits) → PollOn (ToldSome Told) bits t o v → IsPollEnd t result (got max o) outcomes
+  ends : (result : Result (Option (List ℕ)) TransFault) (o : Option Answer)
+      (outcomes : List Outcome) → (o ≡ Some answer.Nak → Told bits)
+      → PollOn (ToldSome Told) bits t o v → IsPollEnd t result (got max o) outcomes
       → PollEnds Told t result v
   ends (Ok None) o outcomes so on e =
       let nak : o ≡ Some answer.Nak = got_nak max o e in
-      let x : (bits ≡ 0) × PollAt NeverTold t v = subst (λ y. PollOn (ToldSome Told) bits t y v) nak on in
+      let x : (bits ≡ 0) × PollAt NeverTold t v = subst (λ y. PollOn (ToldSome Told) bits t y v) nak
+      on in
       (subst Told x.0 (so nak), x.1)
-  ends (Ok (Some bytes)) o outcomes so on e = (subst (λ y. PollOn (ToldSome Told) bits t y v) (got_payload max o t (packed bytes) (polled_last t (got max o) bytes e)) on).0 (is_same-refl t)
-  ends (Err Stalled) o outcomes so on e = subst (λ y. PollOn (ToldSome Told) bits t y v) (got_stall max o e) on
-  ends (Err (Bus fault)) o outcomes so on e = elim (came o on) [ inl x ↦ none_came x | inr y ↦ one_came y.0 ]
+  ends (Ok (Some bytes)) o outcomes so on e =
+      (subst (λ y. PollOn (ToldSome Told) bits t y v)
+      (got_payload max o t (packed bytes) (polled_last t (got max o) bytes e)) on).0
+      (is_same-refl t)
+  ends (Err Stalled) o outcomes so on e =
+      subst (λ y. PollOn (ToldSome Told) bits t y v) (got_stall max o e) on
+  ends (Err (Bus fault)) o outcomes so on e =
+      elim (came o on) [ inl x ↦ none_came x | inr y ↦ one_came y.0 ]
   ends (Err fault) o outcomes so on e = goes_on o on e.0
 
   -- what an outcome says of the endpoint, where the poll goes on and where it ends
   abbrev Says : Outcome → Type 0
-  Says o = (IsNoEnd (polled_as t o) → PollAt (ToldSome Told) t v) × ((result : Result (Option (List ℕ)) TransFault) (outcomes : List Outcome) → IsPollEnd t result o outcomes → PollEnds Told t result v)
+  Says o = (IsNoEnd (polled_as t o) → PollAt (ToldSome Told) t v)
+      × ((result : Result (Option (List ℕ)) TransFault) (outcomes : List Outcome)
+      → IsPollEnd t result o outcomes → PollEnds Told t result v)
 
-  says : (o : Outcome) (x : Option Answer) → o ≡ got max x → (x ≡ Some answer.Nak → Told bits) → PollOn (ToldSome Told) bits t x v → Says o
-  says o x e so on = rw e (λ n. goes_on x on n, λ result outcomes is. ends result x outcomes so on is)
+  says : (o : Outcome) (x : Option Answer) → o ≡ got max x → (x ≡ Some answer.Nak → Told bits)
+      → PollOn (ToldSome Told) bits t x v → Says o
+  says o x e so on = rw e (
+    λ n. goes_on x on n,
+    λ result outcomes is. ends result x outcomes so on
+        is,
+  )
 
 -- The events that are due come with an attempt
 
-due_came : (a : Attempt) (w : World) → Made w (after (attempt a) w) → (at_attempt w).taken ≤ (after (attempt a) w).taken
+due_came : (a : Attempt) (w : World) → Made w (after (attempt a) w)
+    → (at_attempt w).taken ≤ (after (attempt a) w).taken
 unfolding with_attempt
-due_came a w made = let same : (after (attempt a) w).taken ≡ (at_attempt w).taken = ap (λ (v : World). v.taken) (made_step a w made) in omega (arith, same)
+due_came a w made = let same : (after (attempt a) w).taken ≡ (at_attempt w).taken =
+    ap (λ (v : World). v.taken) (made_step a w made) in omega (arith, same)
 
 -- A hub that tells of changes, at the target
 
-module _ (t : Target) (toggle : Toggle) (old : World) (m : 1 ≤ t.max) (j : Location) (s : State) (at : is_at s t ≡ true) (h : tells_changes s.spec s.registers ≡ true) where
+module _ (t : Target) (toggle : Toggle) (old : World) (m : 1 ≤ t.max) (j : Location) (s : State)
+    (at : is_at s t ≡ true) (h : tells_changes s.spec s.registers ≡ true) where
   abbrev a : Attempt
   a = in_attempt t 1
 
@@ -155,7 +257,8 @@ module _ (t : Target) (toggle : Toggle) (old : World) (m : 1 ≤ t.max) (j : Loc
   hear o = polled_as toggle o
 
   -- one attempt
-  module _ (outcomes : List Outcome) (w : World) (trail : AttemptLog a old outcomes w) (u v : State) (x : OnlyChanges s u) (d : DidIn a w j u v) where
+  module _ (outcomes : List Outcome) (w : World) (trail : AttemptLog a old outcomes w) (u v : State)
+      (x : OnlyChanges s u) (d : DidIn a w j u v) where
     still_at : is_at u t ≡ true
     still_at = ap (λ y. is_at y t) x ∙ at
 
@@ -170,48 +273,89 @@ module _ (t : Target) (toggle : Toggle) (old : World) (m : 1 ≤ t.max) (j : Loc
 
     is_clear : Listens t j s → damage_in w ≡ None → clear ≡ true
     is_clear l none =
-        as_whole asked.1 none (listens_on t j s u (ap (λ z. z.spec) x) (ap (λ z. z.registers) x) l) (λ x y z. is_whole x && is_whole y && is_whole z)
+        as_whole asked.1 none (listens_on t j s u (ap (λ z. z.spec) x) (ap (λ z. z.registers) x) l)
+        (λ x y z. is_whole x && is_whole y && is_whole z)
 
     step : PollStep toggle u clear (outcome_in a w) v
-    step = poll_step toggle u tells asked.0 t.max m asked.1.first asked.1.second asked.1.third (outcome_in a w) v asked.1.gave asked.1.is
+    step = poll_step toggle u tells asked.0 t.max m asked.1.first asked.1.second asked.1.third
+        (outcome_in a w) v asked.1.gave asked.1.is
 
     frame : OnlyChanges s v
-    frame = step.frame ∙ ap {A = State} (λ y. record y { memory = v.memory; changes = v.changes; held = v.held }) x
+    frame = step.frame ∙ ap {A = State} (λ y. record y {
+      memory = v.memory;
+      changes = v.changes;
+      held = v.held;
+    }) x
 
     -- what its ports tell now, by any world that more of the same attempts lead to
-    told_here : (b : PortState) (below : Ports) → place_on (at_attempt w).roots j ≡ Some (full b u below) → (now : World) (later : List Outcome) → AttemptLog a w later now → ToldIn a old now j (change_bits (row_of below))
+    told_here : (b : PortState) (below : Ports) → place_on (at_attempt w).roots j
+        ≡ Some (full b u below) → (now : World) (later : List Outcome) → AttemptLog a w later now
+        → ToldIn a old now j (change_bits (row_of below))
     told_here b below stood now later since =
-        record { outcomes = outcomes; mid = w; trail = trail; b = b; s = u; below = below; stood = stood; told = refl; later = later; since = since }
+        record {
+          outcomes = outcomes;
+          mid = w;
+          trail = trail;
+          b = b;
+          s = u;
+          below = below;
+          stood =
+              stood;
+          told = refl;
+          later = later;
+          since = since;
+        }
 
     -- of anything that is so of the bits that its ports tell now
-    gave_it : (Told : ℕ → Type 0) → ((b : PortState) (below : Ports) → place_on (at_attempt w).roots j ≡ Some (full b u below) → Told (change_bits (row_of below))) → DidIn a w j u v → PollAt (ToldSome Told) toggle u
+    gave_it : (Told : ℕ → Type 0) → ((b : PortState) (below : Ports)
+        → place_on (at_attempt w).roots j ≡ Some (full b u below)
+        → Told (change_bits (row_of below))) → DidIn a w j u v → PollAt (ToldSome Told) toggle u
         → Says Told 0 toggle t.max m v (outcome_in a w)
     gave_it Told tells_now (DidIn.other e same) before = false_true (sym e ∙ still_at)
-    gave_it Told tells_now (DidIn.silent e q o is) before = says Told 0 toggle t.max m v (outcome_in a w) None o (λ n. absurd (cc n)) (subst (PollAt (ToldSome Told) toggle) (sym is) before)
+    gave_it Told tells_now (DidIn.silent e q o is) before =
+        says Told 0 toggle t.max m v (outcome_in a w) None o (λ n. absurd (cc n))
+        (subst (PollAt (ToldSome Told) toggle) (sym is) before)
     gave_it Told tells_now (DidIn.asked e q b below stood y o is) before =
         let bits : ℕ = change_bits (row_of below) in
         let so : Told bits = tells_now b below stood in
-        says Told bits toggle t.max m v (outcome_in a w) (in_law u (row_of below) 1 t.max y.first y.second y.third).0 o (λ n. so)
-        (subst (PollOn (ToldSome Told) bits toggle (in_law u (row_of below) 1 t.max y.first y.second y.third).0) (sym is)
-        (poll_on (ToldSome Told) toggle u tells (row_of below) (λ some. (some, so)) before t.max m y.first y.second y.third))
+        says Told bits toggle t.max m v (outcome_in a w)
+        (in_law u (row_of below) 1 t.max y.first y.second y.third).0 o (λ n. so)
+        (subst (PollOn (ToldSome Told) bits toggle (in_law u (row_of below) 1 t.max y.first y.second
+        y.third).0) (sym is)
+        (poll_on (ToldSome Told) toggle u tells (row_of below) (λ some. (some, so)) before t.max m
+        y.first y.second y.third))
 
     -- up to the attempt, or where it was made past it
     abbrev Ever : ℕ → Type 0
     Ever bits = (now : World) × ToldIn a old now j bits
 
     by_then : PollAt (ToldSome (ToldSince a old w j)) toggle u → PollAt (ToldSome Ever) toggle u
-    by_then = poll_at-wider (ToldSome (ToldSince a old w j)) (ToldSome Ever) (λ bits x. (x.0, (w, x.1.told))) toggle u
+    by_then = poll_at-wider (ToldSome (ToldSince a old w j)) (ToldSome Ever)
+        (λ bits x. (x.0, (w, x.1.told))) toggle u
 
-    gave_then : DidIn a w j u v → PollAt (ToldSome (ToldSince a old w j)) toggle u → Says Ever 0 toggle t.max m v (outcome_in a w)
-    gave_then d before = gave_it Ever (λ b below stood. (w, told_here b below stood w [] AttemptLog.start)) d (by_then before)
+    gave_then : DidIn a w j u v → PollAt (ToldSome (ToldSince a old w j)) toggle u
+        → Says Ever 0 toggle t.max m v (outcome_in a w)
+    gave_then d before = gave_it Ever
+        (λ b below stood. (w, told_here b below stood w [] AttemptLog.start)) d (by_then before)
 
-    gave_since : Made w (after (attempt a) w) → DidIn a w j u v → PollAt (ToldSome (ToldSince a old w j)) toggle u → Says (ToldSince a old (after (attempt a) w) j) 0 toggle t.max m v (outcome_in a w)
+    gave_since : Made w (after (attempt a) w) → DidIn a w j u v
+        → PollAt (ToldSome (ToldSince a old w j)) toggle u
+        → Says (ToldSince a old (after (attempt a) w) j) 0 toggle t.max m v (outcome_in a w)
     unfolding told_here
     gave_since made d before =
-        gave_it (ToldSince a old (after (attempt a) w) j) (λ b below stood. record { told = told_here b below stood (after (attempt a) w) (outcome_in a w ∷ []) (AttemptLog.next w AttemptLog.start made); came = due_came a w made }) d
-        (poll_at-wider (ToldSome (ToldSince a old w j)) (ToldSome (ToldSince a old (after (attempt a) w) j)) (λ bits x. (x.0, told_on bits x.1)) toggle u before)
+        gave_it (ToldSince a old (after (attempt a) w) j)
+        (λ b below stood. record {
+          told = told_here b below stood (after (attempt a) w)
+              (outcome_in a w ∷ []) (AttemptLog.next w AttemptLog.start made);
+          came =
+              due_came a w made;
+        }) d
+        (poll_at-wider (ToldSome (ToldSince a old w j))
+        (ToldSome (ToldSince a old (after (attempt a) w) j))
+        (λ bits x. (x.0, told_on bits x.1)) toggle u before)
       where
-        told_on : (bits : ℕ) → ToldSince a old w j bits → ToldSince a old (after (attempt a) w) j bits
+        told_on : (bits : ℕ) → ToldSince a old w j bits
+            → ToldSince a old (after (attempt a) w) j bits
         told_on bits x = record {
           told = record {
             outcomes = x.told.outcomes;
@@ -228,92 +372,174 @@ module _ (t : Target) (toggle : Toggle) (old : World) (m : 1 ≤ t.max) (j : Loc
           came = omega (arith, x.came, ready_taken w, due_came a w made);
         }
 
-    ended : (result : Result (Option (List ℕ)) TransFault) (new : World) → DidIn a w j u v → PollAt (ToldSome (ToldSince a old w j)) toggle u → IsPollEnd toggle result (outcome_in a w) outcomes → ((IsOfBus result → ⊥) → AttemptLeft a w new)
+    ended : (result : Result (Option (List ℕ)) TransFault) (new : World) → DidIn a w j u v
+        → PollAt (ToldSome (ToldSince a old w j)) toggle u
+        → IsPollEnd toggle result (outcome_in a w) outcomes
+        → ((IsOfBus result → ⊥) → AttemptLeft a w new)
         → PollEnds (ToldBy a old result new j) toggle result v
     ended (Ok got) new d before end made =
         let m : AttemptLeft a w new = made (λ g. g tt) in
-        subst (λ n. PollEnds (ToldSince a old n j) toggle (Ok got) v) (sym m.1) ((gave_since m.0 d before).1 (Ok got) outcomes end)
+        subst (λ n. PollEnds (ToldSince a old n j) toggle (Ok got) v) (sym m.1)
+        ((gave_since m.0 d before).1 (Ok got) outcomes end)
     ended (Err fault) new d before end made = (gave_then d before).1 (Err fault) outcomes end
 
-  left : (result : Result (Option (List ℕ)) TransFault) (new : World) (v : State) → RunThrough (DidIn a) a hear (IsPollEnd toggle result) (IsOfBus result) old new j s v
-      → OnlyChanges s v × (PollAt NeverTold toggle s → PollEnds (ToldBy a old result new j) toggle result v)
+  left : (result : Result (Option (List ℕ)) TransFault) (new : World) (v : State)
+      → RunThrough (DidIn a) a hear (IsPollEnd toggle result) (IsOfBus result) old new j s v
+      → OnlyChanges s v × (PollAt NeverTold toggle s
+      → PollEnds (ToldBy a old result new j) toggle result v)
   left result new v run =
-      at_end hear (λ outcomes w u. OnlyChanges s u × (PollAt NeverTold toggle s → PollAt (ToldSome (ToldSince a old w j)) toggle u)) (refl, never_told (ToldSome (ToldSince a old old j)) toggle s)
-      (λ outcomes w u x r made i d n. (frame outcomes w r u x i.0 d, λ k. (gave_since outcomes w r u x i.0 d made d (i.1 k)).0 n))
-      (λ x. OnlyChanges s x × (PollAt NeverTold toggle s → PollEnds (ToldBy a old result new j) toggle result x)) v
-      (λ outcomes w u r i d end made. (frame outcomes w r u v i.0 d, λ k. ended outcomes w r u v i.0 d result new d (i.1 k) end made))
-      (λ gave outcomes w i. (i.0, λ k. of_bus (λ x. PollEnds (ToldBy a old x new j) toggle x v) (λ fault. none_came (poll_at-wider (ToldSome (ToldSince a old w j)) (ToldSome (λ bits. (now : World) × ToldIn a old now j bits)) (λ bits x. (x.0, (w, x.1.told))) toggle v (i.1 k))) result gave)) run
+      at_end hear (λ outcomes w u. OnlyChanges s u
+      × (PollAt NeverTold toggle s → PollAt (ToldSome (ToldSince a old w j)) toggle u))
+      (refl, never_told (ToldSome (ToldSince a old old j)) toggle s)
+      (λ outcomes w u x r made i d n. (
+        frame outcomes w r u x i.0 d,
+        λ k. (gave_since outcomes w r u x i.0 d made d (i.1 k)).0 n,
+      ))
+      (λ x. OnlyChanges s x × (PollAt NeverTold toggle s
+      → PollEnds (ToldBy a old result new j) toggle result x)) v
+      (λ outcomes w u r i d end made. (
+        frame outcomes w r u v i.0 d,
+        λ k. ended outcomes w r u v i.0 d result new d (i.1 k) end made,
+      ))
+      (λ gave outcomes w i. (
+        i.0,
+        λ k. of_bus (λ x. PollEnds (ToldBy a old x new j) toggle x v)
+            (λ fault. none_came (poll_at-wider (ToldSome (ToldSince a old w j))
+            (ToldSome (λ bits. (now : World) × ToldIn a old now j bits))
+            (λ bits x. (x.0, (w, x.1.told))) toggle v (i.1 k))) result gave,
+      )) run
 
-  -- the endpoint is level, and no attempt is a wait; or it is behind, and as many as there were waits were damaged
+  -- the endpoint is level, and no attempt is a wait; or it is behind, and as many as there were
+  -- waits were damaged
   abbrev Stands : ℕ → World → State → Type 0
-  Stands n w u = ((u.changes.toggle ≡ toggle) × (n ≤ 3)) ⊎ ((u.changes.toggle ≡ other toggle) × ((k : ℕ) × LostRun old.damages k w.attempts × (n ≤ k)))
+  Stands n w u = ((u.changes.toggle ≡ toggle) × (n ≤ 3))
+      ⊎ ((u.changes.toggle ≡ other toggle) × ((k : ℕ) × LostRun old.damages k w.attempts × (n ≤ k)))
 
   module _ (three : NoThreeDamaged old) where
     few : (n : ℕ) (w : World) (u : State) → Stands n w u → n ≤ 3
     few n w u (inl y) = y.1
     few n w u (inr y) = omega (arith, y.1.2, run_short old y.1.0 w.attempts three y.1.1)
 
-    stands_on : {outcomes : List Outcome} (n : ℕ) (w : World) (u v : State) (clear : Bool) → AttemptLog a old outcomes w → Made w (after (attempt a) w) → (damage_in w ≡ None → clear ≡ true)
-        → PollStep toggle u clear (outcome_in a w) v → IsNoEnd (hear (outcome_in a w)) → Stands n w u → Stands (waits_with (hear (outcome_in a w)) n) (after (attempt a) w) v
-    stands_on n w u v clear trail made came_whole x z (inl y) = inl ((x.even y.0 z).0, rw (x.even y.0 z).1 y.1)
+    stands_on : {outcomes : List Outcome} (n : ℕ) (w : World) (u v : State) (clear : Bool)
+        → AttemptLog a old outcomes w → Made w (after (attempt a) w)
+        → (damage_in w ≡ None → clear ≡ true)
+        → PollStep toggle u clear (outcome_in a w) v → IsNoEnd (hear (outcome_in a w))
+        → Stands n w u → Stands (waits_with (hear (outcome_in a w)) n) (after (attempt a) w) v
+    stands_on n w u v clear trail made came_whole x z (inl y) =
+        inl ((x.even y.0 z).0, rw (x.even y.0 z).1 y.1)
     stands_on n w u v clear trail made came_whole x z (inr y) =
-        let one : waits_with (hear (outcome_in a w)) n ≤ n + 1 = one_wait (hear (outcome_in a w)) n in
+        let one : waits_with (hear (outcome_in a w)) n ≤ n + 1 =
+        one_wait (hear (outcome_in a w)) n in
         elim (x.behind y.0 z) [
           | inl e ↦ inl (e, omega (arith, one, y.1.2, run_short old y.1.0 w.attempts three y.1.1))
-          | inr e ↦ inr (e.0, (y.1.0 + 1, damaged_more trail made y.1.0 (λ none. false_true (sym e.1 ∙ came_whole none)) y.1.1, omega (arith, one, y.1.2)))
+          | inr e ↦ inr (
+            e.0,
+            (
+              y.1.0 + 1,
+              damaged_more trail made y.1.0
+                  (λ none. false_true (sym e.1 ∙ came_whole none)) y.1.1,
+              omega (arith, one, y.1.2),
+            ),
+          )
         ]
 
     abbrev Runs : List Outcome → World → State → Type 0
-    Runs outcomes w u = OnlyChanges s u × (u.changes.halted ≡ false) × LostRun old.damages (errors_running hear outcomes) w.attempts × Stands (waits_in hear outcomes) w u
+    Runs outcomes w u = OnlyChanges s u × (u.changes.halted ≡ false)
+        × LostRun old.damages (errors_running hear outcomes) w.attempts
+        × Stands (waits_in hear outcomes) w u
 
-    answers : Listens t j s → PollAt NeverTold toggle s → s.changes.halted ≡ false → (fault : TransFault) → IsNotOfBus {A = Option (List ℕ)} (Err fault) → (new : World) (v : State)
-        → RunThrough (DidIn a) a hear (IsPollEnd toggle (Err fault)) (IsOfBus {A = Option (List ℕ)} (Err fault)) old new j s v → ⊥
+    answers : Listens t j s → PollAt NeverTold toggle s → s.changes.halted ≡ false
+        → (fault : TransFault) → IsNotOfBus {A = Option (List ℕ)} (Err fault)
+        → (new : World) (v : State)
+        → RunThrough (DidIn a) a hear (IsPollEnd toggle (Err fault))
+        (IsOfBus {A = Option (List ℕ)} (Err fault)) old new j s v → ⊥
     unfolding waits_in errors_running
     answers l start quiet fault sound new v run =
-        at_end hear Runs (refl, quiet, lost_run_none old.damages old.attempts, begins start) (λ outcomes w u x r made i d n. one_more outcomes w u x r made i d n) (λ x. ⊥) v
-        (λ outcomes w u r i d end made. never fault sound outcomes w ((step outcomes w r u v i.0 d).unstalled i.1) (λ n g. one_more outcomes w u v r (made g).0 i d n) end) (λ gave outcomes w i. gave sound) run
+        at_end hear Runs (refl, quiet, lost_run_none old.damages old.attempts, begins start)
+        (λ outcomes w u x r made i d n. one_more outcomes w u x r made i d n) (λ x. ⊥) v
+        (λ outcomes w u r i d end made. never fault sound outcomes w
+        ((step outcomes w r u v i.0 d).unstalled i.1)
+        (λ n g. one_more outcomes w u v r (made g).0 i d n) end)
+        (λ gave outcomes w i. gave sound) run
       where
         begins : PollAt NeverTold toggle s → Stands 0 old s
         begins (level q e) = inl (e, omega arith)
         begins (told bits so q e) = elim so [ ]
         begins (ahead bits q e) = inr (e, (0, lost_run_none old.damages old.attempts, omega arith))
 
-        one_more : (outcomes : List Outcome) (w : World) (u x : State) → AttemptLog a old outcomes w → Made w (after (attempt a) w) → Runs outcomes w u → DidIn a w j u x → IsNoEnd (hear (outcome_in a w))
+        one_more : (outcomes : List Outcome) (w : World) (u x : State) → AttemptLog a old outcomes w
+            → Made w (after (attempt a) w) → Runs outcomes w u → DidIn a w j u x
+            → IsNoEnd (hear (outcome_in a w))
             → Runs (outcome_in a w ∷ outcomes) (after (attempt a) w) x
         one_more outcomes w u x r made i d n =
             let y : _ = step outcomes w r u x i.0 d in
-            let whole_then : _ = is_clear outcomes w r u x i.0 d l in
-            (frame outcomes w r u x i.0 d, y.quiet ∙ i.1, lost_more r made hear (λ none. y.heeds (whole_then none)) i.2, stands_on (waits_in hear outcomes) w u x _ r made whole_then y n i.3)
+            let whole_then : _ = is_clear outcomes w r u x i.0 d l in (
+              frame outcomes w r u x i.0 d,
+              y.quiet
+                  ∙ i.1,
+              lost_more r made hear (λ none. y.heeds (whole_then none)) i.2,
+              stands_on (waits_in hear outcomes) w u x _ r made whole_then y n i.3,
+            )
 
-        never : (fault : TransFault) → IsNotOfBus {A = Option (List ℕ)} (Err fault) → (outcomes : List Outcome) (w : World) → outcome_in a w ≢ Stall
-            → (IsNoEnd (hear (outcome_in a w)) → (IsOfBus {A = Option (List ℕ)} (Err fault) → ⊥) → Runs (outcome_in a w ∷ outcomes) (after (attempt a) w) v) → IsPollEnd toggle (Err fault) (outcome_in a w) outcomes → ⊥
+        never : (fault : TransFault) → IsNotOfBus {A = Option (List ℕ)} (Err fault)
+            → (outcomes : List Outcome) (w : World) → outcome_in a w ≢ Stall
+            → (IsNoEnd (hear (outcome_in a w)) → (IsOfBus {A = Option (List ℕ)} (Err fault) → ⊥)
+            → Runs (outcome_in a w ∷ outcomes) (after (attempt a) w) v)
+            → IsPollEnd toggle (Err fault) (outcome_in a w) outcomes → ⊥
         never Stalled sound outcomes w loud runs end = loud end
-        never Busy sound outcomes w loud runs end = absurd (omega (arith, end.1, few (waits_in hear (outcome_in a w ∷ outcomes)) (after (attempt a) w) v (runs end.0 (λ g. g tt)).3))
-        never NoAnswer sound outcomes w loud runs end = absurd (omega (arith, end.1, run_short old (errors_running hear (outcome_in a w ∷ outcomes)) (after (attempt a) w).attempts three (runs end.0 (λ g. g tt)).2))
+        never Busy sound outcomes w loud runs end =
+            absurd (omega (
+              arith,
+              end.1,
+              few (waits_in hear (outcome_in a w ∷ outcomes))
+                  (after (attempt a) w) v (runs end.0 (λ g. g tt)).3,
+            ))
+        never NoAnswer sound outcomes w loud runs end =
+            absurd (omega (
+              arith,
+              end.1,
+              run_short old
+                  (errors_running hear (outcome_in a w ∷ outcomes)) (after (attempt a) w).attempts
+                  three (runs end.0 (λ g. g tt)).2,
+            ))
         never (Bus f) sound outcomes w loud runs end = sound
 
 -- Each device
 
-pub poll_leaves : (t : Target) (toggle : Toggle) (result : Result (Option (List ℕ)) TransFault) (old new : World) → 1 ≤ t.max → IsSettled old.roots → Polled toggle (in_attempt t 1) old result new → new.shared ≡ false
+pub poll_leaves : (t : Target) (toggle : Toggle) (result : Result (Option (List ℕ)) TransFault)
+    (old new : World) → 1 ≤ t.max → IsSettled old.roots
+    → Polled toggle (in_attempt t 1) old result new → new.shared ≡ false
     → EachWas (ChangesIn t toggle old result new) old new
 poll_leaves t toggle result old new m settled x single =
-    each_device (RunThrough (DidIn (in_attempt t 1)) (in_attempt t 1) (polled_as toggle) (IsPollEnd toggle result) (IsOfBus result) old new) (ChangesIn t toggle old result new) old new
+    each_device (RunThrough (DidIn (in_attempt t 1)) (in_attempt t 1) (polled_as toggle)
+    (IsPollEnd toggle result) (IsOfBus result) old new) (ChangesIn t toggle old result new)
+    old new
     (λ j s v run.
     let away : (is_at s t ≡ false → v ≡ s) = stays_away t (λ w u x. in_others t 1 w j u x) run in
     record {
       others = away;
-      frame = λ h. elim (decided (is_at s t)) [ inl at ↦ (left t toggle old m j s at h result new v run).0 | inr y ↦ subst (OnlyChanges s) (sym (away y)) refl ];
+      frame = λ h. elim (decided (is_at s t)) [
+        | inl at ↦
+            (left t toggle old m j s at h result new v run).0
+        | inr y ↦
+            subst (OnlyChanges s) (sym (away y)) refl
+      ];
       poll = λ at h. (left t toggle old m j s at h result new v run).1;
     })
     (over_polled t 1 old new settled single toggle result x)
 
-pub poll_why : (t : Target) (toggle : Toggle) (result : Result (Option (List ℕ)) TransFault) (old new : World) → 1 ≤ t.max → IsSettled old.roots → NoThreeDamaged old
-    → Polled toggle (in_attempt t 1) old result new → IsNotOfBus result → new.shared ≡ false → EachWas (PollFailure t toggle result) old new
+pub poll_why : (t : Target) (toggle : Toggle) (result : Result (Option (List ℕ)) TransFault)
+    (old new : World) → 1 ≤ t.max → IsSettled old.roots → NoThreeDamaged old
+    → Polled toggle (in_attempt t 1) old result new → IsNotOfBus result → new.shared ≡ false
+    → EachWas (PollFailure t toggle result) old new
 poll_why t toggle result old new m settled three x sound single =
-    each_device (RunThrough (DidIn (in_attempt t 1)) (in_attempt t 1) (polled_as toggle) (IsPollEnd toggle result) (IsOfBus result) old new) (PollFailure t toggle result) old new
+    each_device (RunThrough (DidIn (in_attempt t 1)) (in_attempt t 1) (polled_as toggle)
+    (IsPollEnd toggle result) (IsOfBus result) old new) (PollFailure t toggle result) old new
     (λ j s v run. record {
       answered = λ l h start quiet fault e.
-          answers t toggle old m j s l.at h three l start quiet fault (subst IsNotOfBus e sound) new v
-          (subst (λ r. RunThrough (DidIn (in_attempt t 1)) (in_attempt t 1) (polled_as toggle) (IsPollEnd toggle r) (IsOfBus r) old new j s v) e run);
+          answers t toggle old m j s l.at h three l start quiet fault (subst IsNotOfBus e sound) new
+          v
+          (subst (λ r. RunThrough (DidIn (in_attempt t 1)) (in_attempt t 1) (polled_as toggle)
+          (IsPollEnd toggle r) (IsOfBus r) old new j s v) e run);
     })
     (over_polled t 1 old new settled single toggle result x)

@@ -1,7 +1,12 @@
--- SETUP: setup data that were accepted more than once are as if they were accepted once, the last time; and who is not reset by them.
-use Rattle.std.proofs.Common.{◌≡◌, ◌⊎◌, inl, inr, ℕ, ◌==◌, ◌&&◌, if◌then◌else◌, Bool, true, false, List, [], ◌∷◌, length, Option, None, Some, Result, Ok, Err, refl, sym, subst, ap, ◌∙◌, arith}
+-- SETUP: setup data that were accepted more than once are as if they were accepted once, the last
+-- time; and who is not reset by them.
+use Rattle.std.proofs.Common.{◌≡◌, ◌⊎◌, inl, inr, ℕ, ◌==◌, ◌&&◌, if◌then◌else◌, Bool, true, false}
+use Rattle.std.proofs.Common.{List, [], ◌∷◌, length, Option, None, Some, Result, Ok, Err, refl, sym}
+use Rattle.std.proofs.Common.{subst, ap, ◌∙◌, arith}
 use Rattle.std.proofs.lemmas.Option.{same_Some}
-use Rattle.usb_request.specs.Codes.{GET_STATUS, CLEAR_FEATURE, SET_FEATURE, SET_ADDRESS, GET_DESCRIPTOR, GET_CONFIGURATION, SET_CONFIGURATION, DEVICE_IN, DEVICE_OUT, ENDPOINT_OUT, HUB_IN, PORT_IN, PORT_OUT}
+use Rattle.usb_request.specs.Codes.{GET_STATUS, CLEAR_FEATURE, SET_FEATURE, SET_ADDRESS}
+use Rattle.usb_request.specs.Codes.{GET_DESCRIPTOR, GET_CONFIGURATION, SET_CONFIGURATION, DEVICE_IN}
+use Rattle.usb_request.specs.Codes.{DEVICE_OUT, ENDPOINT_OUT, HUB_IN, PORT_IN, PORT_OUT}
 use Rattle.usb_port.specs.PortState.{PortState}
 use Rattle.usb_request.specs.declared.setup.Setup.{Setup}
 use Rattle.usb_request.specs.Layout.{setup_of}
@@ -10,23 +15,28 @@ use Rattle.usb_port.specs.Calls.{set_call, clear_call}
 use Rattle.usb_device.specs.declared.effect.Effect.TheVariants.{Leaves}
 use Rattle.usb_device.specs.declared.request.Registers.{Registers}
 use Rattle.usb_device.specs.Spec.{Spec}
-use Rattle.usb_device.specs.Request.{Outcome, takes_configuration, Is, outcome, registers_at_setup, port_feature}
+use Rattle.usb_device.specs.Request.{Outcome, takes_configuration, Is, outcome, registers_at_setup}
+use Rattle.usb_device.specs.Request.{port_feature}
 use Rattle.usb_device.specs.Rows.{State, with_endpoints, begun, accepted}
 use Rattle.usb_device.specs.Effect.{effect_of_request, asked_by_setup}
 use Rattle.usb_device.specs.Attempt.{Way, whole, is_whole, setup_law}
-use Rattle.usb_device.specs.Tree.{Place, Ports, full, acted, row_of, Location, path_to, reach_on, state_on, place_on}
+use Rattle.usb_device.specs.Tree.{Place, Ports, full, acted, row_of, Location, path_to, reach_on}
+use Rattle.usb_device.specs.Tree.{state_on, place_on}
 use Rattle.usb_world.specs.declared.types.Attempt.{Attempt}
 use Rattle.usb_world.specs.declared.types.Outcome as bus
 use Rattle.usb_world.specs.declared.types.Outcome.TheVariants.{Ack, Nothing}
 use Rattle.usb_world.specs.Courses.{is_harmless, resets}
 use Rattle.usb_world.specs.Devices.{Relation, Was, EachWas, DidSetup}
-use Rattle.usb_world.specs.OneHolder.{IsMade, IsSetup, HolderIn, got, token_way, payload_way, answer_way}
+use Rattle.usb_world.specs.OneHolder.{IsMade, IsSetup, HolderIn, got, token_way, payload_way}
+use Rattle.usb_world.specs.OneHolder.{answer_way}
 use Rattle.usb_tree.specs.AttemptPackets.{IsSettled, deep_at}
 use Rattle.usb_tree.specs.Paths.{address_of}
 use Rattle.usb_world.specs.Steps.{at_attempt, damage_in, outcome_in, attempt, after}
 use Rattle.usb_tree.specs.WayEffects.{IsNew}
 use Rattle.usb_world.specs.World.{World}
-use Rattle.usb_world.proofs.Interface.{each_setup, made_is, made_reach, made_true, quiet_resets, register_address, setup_in, setup_place_in, setup_sound_in, stands, state_stands, step_new}
+use Rattle.usb_world.proofs.Interface.{each_setup, made_is, made_reach, made_true, quiet_resets}
+use Rattle.usb_world.proofs.Interface.{register_address, setup_in, setup_place_in, setup_sound_in}
+use Rattle.usb_world.proofs.Interface.{stands, state_stands, step_new}
 use Rattle.usb_tree.proofs.Interface.{decided, equal_same, false_true}
 use Rattle.usb_transaction.specs.declared.fault.TransFault.{TransFault}
 use Rattle.usb_transaction.specs.declared.fault.TransFault.TheVariants.{Stalled, Busy}
@@ -37,7 +47,9 @@ use Rattle.usb_transaction.specs.Leaves.{is_at, CanAccept, AcceptedAt, AcceptedS
 use Rattle.usb_transaction.specs.SparedDevices.{IsSpared, EachSpared}
 use Rattle.usb_transaction.specs.AttemptLog.{AttemptLog, TransactionDone, Transacted, waits_in}
 use Rattle.usb_transaction.specs.Transactions.{setup_attempt}
-use Rattle.usb_transaction.proofs.DeviceRuns.{IsEnd, IsOfBus, RunThrough, AttemptLeft, at_end, heeded, listens_at, of_bus, over_end, over_transaction, stays_away}
+use Rattle.usb_transaction.proofs.DeviceRuns.{IsEnd, IsOfBus, RunThrough, AttemptLeft, at_end}
+use Rattle.usb_transaction.proofs.DeviceRuns.{heeded, listens_at, of_bus, over_end}
+use Rattle.usb_transaction.proofs.DeviceRuns.{over_transaction, stays_away}
 
 -- A request asks the same once it was accepted
 
@@ -45,16 +57,19 @@ use Rattle.usb_transaction.proofs.DeviceRuns.{IsEnd, IsOfBus, RunThrough, Attemp
 abbrev Again : Registers → Outcome → Outcome → Type 0
 Again g x y = (y ≡ x) ⊎ (registers_at_setup g x ≡ g)
 
-again_if : (g : Registers) (b : Bool) (x y u v : Outcome) → Again g x u → Again g y v → Again g (if b then x else y) (if b then u else v)
+again_if : (g : Registers) (b : Bool) (x y u v : Outcome) → Again g x u → Again g y v
+    → Again g (if b then x else y) (if b then u else v)
 again_if g true x y u v h k = h
 again_if g false x y u v h k = k
 
 -- a call at a port changes none
-call_changes-none : (call : Option PortCall) (s : Spec) (g : Registers) (r : Setup) → registers_at_setup g (port_feature call s g r) ≡ g
+call_changes-none : (call : Option PortCall) (s : Spec) (g : Registers) (r : Setup)
+    → registers_at_setup g (port_feature call s g r) ≡ g
 call_changes-none call s g r = grind arith
 
 -- SET_CONFIGURATION looks at the address and not at the configuration (9.4.7)
-configured_again : (s : Spec) (g : Registers) (r : Setup) (c : ℕ) → Again g (outcome s g r) (outcome s (record g { configuration = c }) r)
+configured_again : (s : Spec) (g : Registers) (r : Setup) (c : ℕ)
+    → Again g (outcome s g r) (outcome s (record g { configuration = c }) r)
 unfolding outcome
 configured_again s g r c =
     again_if g (Is r DEVICE_IN GET_DESCRIPTOR) _ _ _ _ (inl refl)
@@ -66,24 +81,35 @@ configured_again s g r c =
     (again_if g (Is r ENDPOINT_OUT SET_FEATURE) _ _ _ _ (inr (grind arith))
     (again_if g (Is r HUB_IN GET_DESCRIPTOR) _ _ _ _ (inl refl)
     (again_if g (Is r PORT_IN GET_STATUS) _ _ _ _ (inr (grind arith))
-    (again_if g (Is r PORT_OUT SET_FEATURE) _ _ _ _ (inr (call_changes-none (set_call r.value) s g r))
-    (again_if g (Is r PORT_OUT CLEAR_FEATURE) _ _ _ _ (inr (call_changes-none (clear_call r.value) s g r)) (inl refl)))))))))))
+    (again_if g (Is r PORT_OUT SET_FEATURE) _ _ _ _
+    (inr (call_changes-none (set_call r.value) s g r))
+    (again_if g (Is r PORT_OUT CLEAR_FEATURE) _ _ _ _
+    (inr (call_changes-none (clear_call r.value) s g r)) (inl refl)))))))))))
 
 -- only a configuration that was taken changes a register
-asks_again : (s : Spec) (g : Registers) (r : Setup) (o : Outcome) → outcome s g r ≡ o → outcome s (registers_at_setup g o) r ≡ o
-asks_again s g r (takes_configuration c) e = elim (configured_again s g r c) [ inl h ↦ h ∙ e | inr h ↦ ap (λ k. outcome s k r) (rw e at h) ∙ e ]
+asks_again : (s : Spec) (g : Registers) (r : Setup) (o : Outcome) → outcome s g r ≡ o
+    → outcome s (registers_at_setup g o) r ≡ o
+asks_again s g r (takes_configuration c) e = elim (configured_again s g r c) [
+  | inl h ↦ h
+      ∙ e
+  | inr h ↦ ap (λ k. outcome s k r) (rw e at h) ∙ e
+]
 asks_again s g r o e = e
 
 pub spec_stays : (d : State) (o : Outcome) → (with_endpoints d o).spec ≡ d.spec
 spec_stays d o = grind arith
 
-begun_twice : (d : State) (first row : List PortState) (wanted : ℕ) (o : Outcome) → begun (begun d first wanted o) row wanted o ≡ begun d row wanted o
+begun_twice : (d : State) (first row : List PortState) (wanted : ℕ) (o : Outcome)
+    → begun (begun d first wanted o) row wanted o ≡ begun d row wanted o
 begun_twice d first row n o = grind arith
 
-asked_twice : (d : State) (first : List PortState) (r : Setup) → outcome (accepted d first r).spec (accepted d first r).registers r ≡ outcome d.spec d.registers r
+asked_twice : (d : State) (first : List PortState) (r : Setup)
+    → outcome (accepted d first r).spec (accepted d first r).registers r
+    ≡ outcome d.spec d.registers r
 asked_twice d first r =
     let o : Outcome = outcome d.spec d.registers r in
-    ap (λ s. outcome s (registers_at_setup d.registers o) r) (spec_stays d o) ∙ asks_again d.spec d.registers r o refl
+    ap (λ s. outcome s (registers_at_setup d.registers o) r) (spec_stays d o)
+    ∙ asks_again d.spec d.registers r o refl
 
 -- a device is as after setup data that it accepted with these ports
 pub record AcceptedWith (bytes : List ℕ) (s v : State) : Type 0 where
@@ -100,8 +126,10 @@ record AsBefore (r : Setup) (s v : State) : Type 0 where
   again : (row : List PortState) → accepted v row r ≡ accepted s row r
   asks : asked_by_setup v r ≡ asked_by_setup s r
 
-kept_as_before : (bytes : List ℕ) (s v : State) → SetupKept bytes s v → AsBefore (setup_of bytes) s v
-kept_as_before bytes s v (inl e) = subst (AsBefore (setup_of bytes) s) (sym e) (record { spec = refl; address = refl; again = λ row. refl; asks = refl })
+kept_as_before : (bytes : List ℕ) (s v : State) → SetupKept bytes s v
+    → AsBefore (setup_of bytes) s v
+kept_as_before bytes s v (inl e) = subst (AsBefore (setup_of bytes) s) (sym e)
+    (record { spec = refl; address = refl; again = λ row. refl; asks = refl })
 kept_as_before bytes s v (inr y) =
     let r : Setup = setup_of bytes in
     let o : Outcome = outcome s.spec s.registers r in
@@ -109,7 +137,8 @@ kept_as_before bytes s v (inr y) =
     subst (AsBefore r s) (sym y.is) (record {
       spec = spec_stays s o;
       address = register_address s.registers o;
-      again = λ row. ap (begun (accepted s y.row r) row r.length) again ∙ begun_twice s y.row row r.length o;
+      again = λ row. ap (begun (accepted s y.row r) row r.length) again
+          ∙ begun_twice s y.row row r.length o;
       asks = ap effect_of_request again;
     })
 
@@ -120,25 +149,44 @@ abbrev pub LeavesOthers : Target → Relation → Type 0
 LeavesOthers t R = (j : Location) (s v : State) → R j s v → is_at s t ≡ false → v ≡ s
 
 module _ (t : Target) (request : Setup) where
-  pub spared_wider : (R S : Relation) → ((j : Location) (s v : State) → R j s v → S j s v) → (old new : World) → EachSpared t request R old new → EachSpared t request S old new
+  pub spared_wider : (R S : Relation) → ((j : Location) (s v : State) → R j s v → S j s v)
+      → (old new : World) → EachSpared t request R old new → EachSpared t request S old new
   spared_wider R S f old new e j s on there x =
       let was : Was R old j s = e j s on there x in
       record { before = was.before; on = was.on; stands = was.stands; so = f j was.before s was.so }
 
   -- of a request that resets none it is so of each device
-  pub spared_all : (R : Relation) (old new : World) → is_harmless request ≡ true → EachSpared t request R old new → EachWas R old new
+  pub spared_all : (R : Relation) (old new : World) → is_harmless request ≡ true
+      → EachSpared t request R old new → EachWas R old new
   spared_all R old new harmless e j s on there = e j s on there (λ h. false_true (sym h ∙ harmless))
 
   -- a device that has an address now had one before: it was at the target, or is the same
-  was_spared : (s v : State) → (is_at s t ≡ false → v ≡ s) → IsSpared t request v → IsSpared t request s
-  was_spared s v f x h = ((x h).0, λ none. elim (decided (is_at s t)) [ inl y ↦ (x h).0 (sym (equal_same (address_of s) t.addr y) ∙ none) | inr y ↦ (x h).1 (ap (λ d. address_of d) (f y) ∙ none) ])
+  was_spared : (s v : State) → (is_at s t ≡ false → v ≡ s) → IsSpared t request v
+      → IsSpared t request s
+  was_spared s v f x h = (
+    (x h).0,
+    λ none. elim (decided (is_at s t)) [
+      | inl y ↦
+          (x h).0 (sym (equal_same (address_of s) t.addr y) ∙ none)
+      | inr y ↦
+          (x h).1 (ap (λ d. address_of d) (f y) ∙ none)
+    ],
+  )
 
-  pub spared_joined : (R S T : Relation) → LeavesOthers t S → ((j : Location) (s u v : State) → R j s u → S j u v → T j s v) → (old mid new : World)
+  pub spared_joined : (R S T : Relation) → LeavesOthers t S
+      → ((j : Location) (s u v : State) → R j s u → S j u v → T j s v) → (old mid new : World)
       → EachSpared t request R old mid → EachWas S mid new → EachSpared t request T old new
   spared_joined R S T others f old mid new e g j s on there x =
       let later : Was S mid j s = g j s on there in
-      let sooner : Was R old j later.before = e j later.before later.on later.stands (was_spared later.before s (others j later.before s later.so) x) in
-      record { before = sooner.before; on = sooner.on; stands = sooner.stands; so = f j sooner.before later.before s sooner.so later.so }
+      let sooner : Was R old j later.before =
+      e j later.before later.on later.stands
+      (was_spared later.before s (others j later.before s later.so) x) in
+      record {
+        before = sooner.before;
+        on = sooner.on;
+        stands = sooner.stands;
+        so = f j sooner.before later.before s sooner.so later.so;
+      }
 
 -- One attempt
 
@@ -148,22 +196,30 @@ new_at_0 (Some (full b s a)) v n e = ap (λ d. address_of d) (same_Some v s (sym
 new_at_0 _ v n e = elim n [ ]
 
 -- the device accepted them in this attempt
-pub record AcceptedNow (t : Target) (bytes : List ℕ) (w : World) (j : Location) (s v : State) : Type 0 where
+pub record AcceptedNow (t : Target) (bytes : List ℕ) (w : World) (j : Location) (s v : State) :
+    Type 0 where
   pub holder : HolderIn (setup_attempt t bytes) w
   pub there : holder.spot ≡ j
   pub is : v ≡ accepted s (row_of holder.below) (setup_of bytes)
-  pub left : place_on (after (attempt (setup_attempt t bytes)) w).roots j ≡ Some (full holder.port v (acted (asked_by_setup s (setup_of bytes)) holder.below))
+  pub left : place_on (after (attempt (setup_attempt t bytes)) w).roots j
+      ≡ Some (full holder.port v (acted (asked_by_setup s (setup_of bytes)) holder.below))
 
 -- it did or did not, and did where the host got ACK
-pub record SetupResult (t : Target) (bytes : List ℕ) (w : World) (j : Location) (s v : State) : Type 0 where
+pub record SetupResult (t : Target) (bytes : List ℕ) (w : World) (j : Location) (s v : State) :
+    Type 0 where
   pub others : is_at s t ≡ false → v ≡ s
   same : AsBefore (setup_of bytes) s v
   kept : (v ≡ s) ⊎ AcceptedNow t bytes w j s v
-  answered : is_at s t ≡ true → (outcome_in (setup_attempt t bytes) w ≡ Nothing) ⊎ ((outcome_in (setup_attempt t bytes) w ≡ Ack) × (s.spec.silent ≡ false) × AcceptedNow t bytes w j s v)
+  answered : is_at s t ≡ true → (outcome_in (setup_attempt t bytes) w ≡ Nothing)
+      ⊎ ((outcome_in (setup_attempt t bytes) w ≡ Ack) × (s.spec.silent ≡ false)
+      × AcceptedNow t bytes w j s v)
   heeds : Listens t j s → damage_in w ≡ None → outcome_in (setup_attempt t bytes) w ≡ Ack
 
-module _ (t : Target) (bytes : List ℕ) (eight : length bytes ≡ 8) (w : World) (m : IsMade (setup_attempt t bytes) w) (u : (after (attempt (setup_attempt t bytes)) w).shared ≡ false) (j : Location) (v : State)
-    (on : reach_on (after (attempt (setup_attempt t bytes)) w).roots j ≡ true) (there : state_on (after (attempt (setup_attempt t bytes)) w).roots j ≡ Some v) where
+module _ (t : Target) (bytes : List ℕ) (eight : length bytes ≡ 8) (w : World)
+    (m : IsMade (setup_attempt t bytes) w) (u : (after (attempt (setup_attempt t bytes)) w).shared
+    ≡ false) (j : Location) (v : State)
+    (on : reach_on (after (attempt (setup_attempt t bytes)) w).roots j ≡ true)
+    (there : state_on (after (attempt (setup_attempt t bytes)) w).roots j ≡ Some v) where
   abbrev a : Attempt
   a = setup_attempt t bytes
 
@@ -179,18 +235,42 @@ module _ (t : Target) (bytes : List ℕ) (eight : length bytes ≡ 8) (w : World
         | inl h ↦ quiet_resets (attempt a) w (path_to j) h
         | inr h ↦
             elim (decided (resets (attempt a) w (path_to j))) [
-              | inl y ↦ absurd ((x h).1 (new_at_0 (place_on new.roots j) v (step_new (attempt a) w (path_to j) y) (state_stands new.roots j.row j.rest ∙ there)))
+              | inl y ↦ absurd ((x h).1 (new_at_0 (place_on new.roots j) v
+                  (step_new (attempt a) w (path_to j) y) (state_stands new.roots j.row j.rest
+                  ∙ there)))
               | inr y ↦ y
             ]
       ]
 
-  unmoved : (s : State) → v ≡ s → (is_at s t ≡ true → outcome_in a w ≡ Nothing) → (Listens t j s → damage_in w ≡ None → outcome_in a w ≡ Ack) → SetupResult t bytes w j s v
-  unmoved s e n h = record { others = λ away. e; same = kept_as_before bytes s v (inl e); kept = inl e; answered = λ at. inl (n at); heeds = h }
+  unmoved : (s : State) → v ≡ s → (is_at s t ≡ true → outcome_in a w ≡ Nothing)
+      → (Listens t j s → damage_in w ≡ None → outcome_in a w ≡ Ack) → SetupResult t bytes w j s v
+  unmoved s e n h = record {
+    others = λ away. e;
+    same = kept_as_before bytes s v (inl e);
+    kept =
+        inl e;
+    answered = λ at. inl (n at);
+    heeds = h;
+  }
 
   -- the device that holds the address, by how the packets came
-  module _ (s : State) (at : is_at s t ≡ true) (loud : s.spec.silent ≡ false) (b : PortState) (below : Ports) (on_then : reach_on (at_attempt w).roots j ≡ true) (stood : place_on (at_attempt w).roots j ≡ Some (full b s below)) where
+  module _ (s : State) (at : is_at s t ≡ true) (loud : s.spec.silent ≡ false) (b : PortState)
+      (below : Ports) (on_then : reach_on (at_attempt w).roots j ≡ true)
+      (stood : place_on (at_attempt w).roots j ≡ Some (full b s below)) where
     abbrev h : HolderIn a w
-    h = record { made = m; single = u; found = record { spot = j; port = b; own = s; below = below; on = on_then; stands = stood; at = equal_same (address_of s) t.addr at } }
+    h = record {
+      made = m;
+      single = u;
+      found = record {
+        spot = j;
+        port = b;
+        own = s;
+        below = below;
+        on = on_then;
+        stands = stood;
+        at = equal_same (address_of s) t.addr at;
+      };
+    }
 
     heard_whole : Listens t j s → damage_in w ≡ None → outcome_in a w ≡ Ack
     heard_whole l none = (setup_sound_in a w h loud l.hears none bytes is_setup).outcome
@@ -198,9 +278,18 @@ module _ (t : Target) (bytes : List ℕ) (eight : length bytes ≡ 8) (w : World
     abbrev made : State
     made = accepted s (row_of below) (setup_of bytes)
 
-    taken : v ≡ made → (outcome_in a w ≡ Nothing) ⊎ (outcome_in a w ≡ Ack) → place_on new.roots j ≡ Some (full b made (acted (asked_by_setup s (setup_of bytes)) below)) → SetupResult t bytes w j s v
+    taken : v ≡ made → (outcome_in a w ≡ Nothing) ⊎ (outcome_in a w ≡ Ack)
+        → place_on new.roots j ≡ Some (full b made
+        (acted (asked_by_setup s (setup_of bytes)) below)) → SetupResult t bytes w j s v
     taken e o l =
-        let now : AcceptedNow t bytes w j s v = record { holder = h; there = refl; is = e; left = l ∙ ap (λ d. Some (full b d (acted (asked_by_setup s (setup_of bytes)) below))) (sym e) } in
+        let now : AcceptedNow t bytes w j s v = record {
+          holder = h;
+          there = refl;
+          is = e;
+          left = l
+              ∙ ap (λ d. Some (full b d (acted (asked_by_setup s (setup_of bytes)) below)))
+              (sym e);
+        } in
         record {
           others = λ away. false_true (sym away ∙ at);
           same = kept_as_before bytes s v (inr (record { row = row_of below; is = e }));
@@ -209,8 +298,11 @@ module _ (t : Target) (bytes : List ℕ) (eight : length bytes ≡ 8) (w : World
           heeds = heard_whole;
         }
 
-    by_ways : (t1 t2 t3 : Way) → v ≡ (setup_law s (row_of below) bytes t1 t2 t3).1 → outcome_in a w ≡ got 8 (setup_law s (row_of below) bytes t1 t2 t3).0
-        → place_on new.roots j ≡ Some (full b (setup_law s (row_of below) bytes t1 t2 t3).1 (acted (if is_whole t1 && is_whole t2 then asked_by_setup s (setup_of bytes) else Leaves) below))
+    by_ways : (t1 t2 t3 : Way) → v ≡ (setup_law s (row_of below) bytes t1 t2 t3).1
+        → outcome_in a w ≡ got 8 (setup_law s (row_of below) bytes t1 t2 t3).0
+        → place_on new.roots j ≡ Some (full b (setup_law s (row_of below) bytes t1 t2 t3).1
+        (acted (if is_whole t1 && is_whole t2 then asked_by_setup s (setup_of bytes)
+        else Leaves) below))
         → SetupResult t bytes w j s v
     by_ways whole whole whole e o l = taken e (inr o) l
     by_ways whole whole t3 e o l = taken e (inl o) l
@@ -220,30 +312,45 @@ module _ (t : Target) (bytes : List ℕ) (eight : length bytes ≡ 8) (w : World
     of_holder =
         let x = setup_in a w h loud bytes is_setup in
         let d = damage_in (at_attempt w) in
-        by_ways (token_way a d (deep_at false j.rest) s) (payload_way a d (deep_at false j.rest) s) (answer_way a d (at_attempt w).roots) (same_Some v _ (sym there ∙ x.state)) x.outcome
+        by_ways (token_way a d (deep_at false j.rest) s) (payload_way a d (deep_at false j.rest) s)
+        (answer_way a d (at_attempt w).roots) (same_Some v _ (sym there ∙ x.state)) x.outcome
         (setup_place_in a w h loud bytes is_setup)
 
   on_ready : resets (attempt a) w (path_to j) ≡ false → reach_on (at_attempt w).roots j ≡ true
   unfolding resets
-  on_ready rest = made_reach a (at_attempt w) (path_to j) (rw (made_true a w m) at rest) (ap (λ x. reach_on x.roots j) (sym (made_is a w m)) ∙ on)
+  on_ready rest = made_reach a (at_attempt w) (path_to j) (rw (made_true a w m) at rest)
+      (ap (λ x. reach_on x.roots j) (sym (made_is a w m)) ∙ on)
 
-  accepts : resets (attempt a) w (path_to j) ≡ false → (s : State) → DidSetup a bytes w j s v → SetupResult t bytes w j s v
-  accepts rest s (DidSetup.other d e) = unmoved s e (λ y. false_true (sym d ∙ y)) (λ l none. false_true (sym d ∙ l.at))
-  accepts rest s (DidSetup.silent d q o e) = unmoved s e (λ y. o) (λ l none. false_true (sym l.loud ∙ q))
+  accepts : resets (attempt a) w (path_to j) ≡ false → (s : State) → DidSetup a bytes w j s v
+      → SetupResult t bytes w j s v
+  accepts rest s (DidSetup.other d e) = unmoved s e (λ y. false_true (sym d ∙ y))
+      (λ l none. false_true (sym d ∙ l.at))
+  accepts rest s (DidSetup.silent d q o e) =
+      unmoved s e (λ y. o) (λ l none. false_true (sym l.loud ∙ q))
   accepts rest s (DidSetup.asked d loud b below stood x o e) =
       of_holder s d loud b below (on_ready rest) stood
 
 -- so it is of each device that the attempt does not reset
-pub accepting : (t : Target) (bytes : List ℕ) → length bytes ≡ 8 → (w : World) → IsMade (setup_attempt t bytes) w → (after (attempt (setup_attempt t bytes)) w).shared ≡ false
-    → EachSpared t (setup_of bytes) (SetupResult t bytes w) w (after (attempt (setup_attempt t bytes)) w)
+pub accepting : (t : Target) (bytes : List ℕ) → length bytes ≡ 8 → (w : World)
+    → IsMade (setup_attempt t bytes) w → (after (attempt (setup_attempt t bytes)) w).shared ≡ false
+    → EachSpared t (setup_of bytes) (SetupResult t bytes w) w
+    (after (attempt (setup_attempt t bytes)) w)
 accepting t bytes eight w m u j v on there x =
     let rest : _ = spared_rests t bytes eight w m u j v on there x in
-    let was : Was (DidSetup (setup_attempt t bytes) bytes w) w j v = each_setup (setup_attempt t bytes) w bytes m (record { kind = refl; ep = refl; payload = refl; whole = eight }) u j v rest on there in
-    record { before = was.before; on = was.on; stands = was.stands; so = accepts t bytes eight w m u j v on there rest was.before was.so }
+    let was : Was (DidSetup (setup_attempt t bytes) bytes w) w j v =
+    each_setup (setup_attempt t bytes) w bytes m
+    (record { kind = refl; ep = refl; payload = refl; whole = eight }) u j v rest on there in
+    record {
+      before = was.before;
+      on = was.on;
+      stands = was.stands;
+      so = accepts t bytes eight w m u j v on there rest was.before was.so;
+    }
 
 -- The transaction
 
-pub kept_of : {t : Target} {bytes : List ℕ} {old : World} {j : Location} {s v : State} → (v ≡ s) ⊎ AcceptedSince t bytes old j s v → SetupKept bytes s v
+pub kept_of : {t : Target} {bytes : List ℕ} {old : World} {j : Location} {s v : State} → (v ≡ s)
+    ⊎ AcceptedSince t bytes old j s v → SetupKept bytes s v
 kept_of (inl e) = inl e
 kept_of (inr y) = inr (record { row = row_of y.at.holder.below; is = y.at.is })
 
@@ -259,8 +366,10 @@ module _ (t : Target) (bytes : List ℕ) (old : World) (j : Location) (s : State
   KeptSince v = (v ≡ s) ⊎ AcceptedSince t bytes old j s v
 
   -- one attempt more
-  module _ (outcomes : List bus.Outcome) (w : World) (r : AttemptLog (setup_attempt t bytes) old outcomes w) (u v : State) (k : KeptSince u) where
-    accepted_at : AcceptedNow t bytes w j u v → AcceptedAt t bytes old (after (attempt (setup_attempt t bytes)) w) j s v
+  module _ (outcomes : List bus.Outcome) (w : World)
+      (r : AttemptLog (setup_attempt t bytes) old outcomes w) (u v : State) (k : KeptSince u) where
+    accepted_at : AcceptedNow t bytes w j u v
+        → AcceptedAt t bytes old (after (attempt (setup_attempt t bytes)) w) j s v
     accepted_at x =
         let same : AsBefore (setup_of bytes) s u = kept_as_before bytes s u (kept_of k) in
         record {
@@ -276,56 +385,94 @@ module _ (t : Target) (bytes : List ℕ) (old : World) (j : Location) (s : State
 
     kept_more : (v ≡ u) ⊎ AcceptedNow t bytes w j u v → KeptSince v
     kept_more (inl e) = subst KeptSince (sym e) k
-    kept_more (inr x) = inr (record { now = after (attempt (setup_attempt t bytes)) w; at = accepted_at x })
+    kept_more (inr x) = inr (record {
+      now = after (attempt (setup_attempt t bytes)) w;
+      at = accepted_at x;
+    })
 
   -- what the answer says of the device that was asked
   abbrev Ends : World → State → Result (List ℕ) TransFault → Type 0
-  Ends new v result = ((got : List ℕ) → result ≡ Ok got → AcceptedAt t bytes old new j s v) × CanAccept s.spec result
+  Ends new v result = ((got : List ℕ) → result ≡ Ok got → AcceptedAt t bytes old new j s v)
+      × CanAccept s.spec result
 
-  ends : (outcomes : List bus.Outcome) (w new : World) → AttemptLog (setup_attempt t bytes) old outcomes w → (u v : State) → KeptSince u → SetupResult t bytes w j u v → is_at s t ≡ true
-      → (result : Result (List ℕ) TransFault) → IsEnd set_up_as result (outcome_in (setup_attempt t bytes) w) outcomes → ((IsOfBus result → ⊥) → AttemptLeft (setup_attempt t bytes) w new) → Ends new v result
-  ends outcomes w new r u v k d at = by (outcome_in (setup_attempt t bytes) w) (d.answered (ap (λ n. n == t.addr) same.address ∙ at))
+  ends : (outcomes : List bus.Outcome) (w new : World)
+      → AttemptLog (setup_attempt t bytes) old outcomes w → (u v : State) → KeptSince u
+      → SetupResult t bytes w j u v → is_at s t ≡ true
+      → (result : Result (List ℕ) TransFault)
+      → IsEnd set_up_as result (outcome_in (setup_attempt t bytes) w) outcomes
+      → ((IsOfBus result → ⊥) → AttemptLeft (setup_attempt t bytes) w new) → Ends new v result
+  ends outcomes w new r u v k d at = by (outcome_in (setup_attempt t bytes) w)
+      (d.answered (ap (λ n. n == t.addr) same.address ∙ at))
     where
       same : AsBefore (setup_of bytes) s u
       same = kept_as_before bytes s u (kept_of k)
 
-      by : (o : bus.Outcome) → (o ≡ Nothing) ⊎ ((o ≡ Ack) × (u.spec.silent ≡ false) × AcceptedNow t bytes w j u v) → (result : Result (List ℕ) TransFault) → IsEnd set_up_as result o outcomes
+      by : (o : bus.Outcome) → (o ≡ Nothing)
+          ⊎ ((o ≡ Ack) × (u.spec.silent ≡ false) × AcceptedNow t bytes w j u v)
+          → (result : Result (List ℕ) TransFault) → IsEnd set_up_as result o outcomes
           → ((IsOfBus result → ⊥) → AttemptLeft (setup_attempt t bytes) w new) → Ends new v result
       by o (inl n) (Ok x) end told = absurd (cc (sym (ap set_up_as n) ∙ end))
-      by o (inr y) (Ok x) end told =
-          (λ got e. subst (λ z. AcceptedAt t bytes old z j s v) (sym (told (λ g. g tt)).1) (accepted_at outcomes w r u v k y.2), ap (λ z. z.silent) (sym same.spec) ∙ y.1)
+      by o (inr y) (Ok x) end told = (
+        λ got e. subst (λ z. AcceptedAt t bytes old z j s v) (sym (told (λ g. g tt)).1)
+            (accepted_at outcomes w r u v k y.2),
+        ap (λ z. z.silent) (sym same.spec) ∙ y.1,
+      )
       by o (inl n) (Err Stalled) end told = absurd (cc (sym n ∙ end))
       by o (inr y) (Err Stalled) end told = absurd (cc (sym y.0 ∙ end))
       by o h (Err Busy) end told = absurd (omega (arith, end.1, never_waits (o ∷ outcomes)))
       by o h (Err fault) end told = (λ got e. cc e, tt)
 
-  set_up_done : (result : Result (List ℕ) TransFault) (new : World) (v : State) → RunThrough (SetupResult t bytes) (setup_attempt t bytes) set_up_as (IsEnd set_up_as result) (IsOfBus result) old new j s v
+  set_up_done : (result : Result (List ℕ) TransFault) (new : World) (v : State)
+      → RunThrough (SetupResult t bytes) (setup_attempt t bytes) set_up_as (IsEnd set_up_as result)
+      (IsOfBus result) old new j s v
       → SetupDone t bytes result old new j s v
   set_up_done result new v run =
       let away : (is_at s t ≡ false → v ≡ s) = stays_away t (λ w u x d. d.others) run in
-      at_end set_up_as (λ outcomes w u. KeptSince u) (inl refl) (λ outcomes w u x r made k d n. kept_more outcomes w r u x k d.kept) (SetupDone t bytes result old new j s) v
+      at_end set_up_as (λ outcomes w u. KeptSince u) (inl refl)
+      (λ outcomes w u x r made k d n. kept_more outcomes w r u x k d.kept)
+      (SetupDone t bytes result old new j s) v
       (λ outcomes w u r k d end told.
-      let all : (is_at s t ≡ true → Ends new v result) = λ h. ends outcomes w new r u v k d h result end told in
-      record { others = away; kept = kept_more outcomes w r u v k d.kept; done = λ h. (all h).0; could = λ h. (all h).1 })
+      let all : (is_at s t ≡ true → Ends new v result) =
+      λ h. ends outcomes w new r u v k d h result end told in
+      record {
+        others = away;
+        kept = kept_more outcomes w r u v k d.kept;
+        done = λ h. (all h).0;
+        could = λ h. (all h).1;
+      })
       (λ gave outcomes w k.
-      let none : Ends new v result = of_bus (Ends new v) (λ fault. (λ got e. cc e, tt)) result gave in
+      let none : Ends new v result = of_bus (Ends new v) (λ fault. (λ got e. cc e, tt)) result
+      gave in
       record { others = away; kept = k; done = λ h. none.0; could = λ h. none.1 }) run
 
-pub setup_leaves : (t : Target) (bytes : List ℕ) (result : Result (List ℕ) TransFault) (old new : World) → length bytes ≡ 8 → IsSettled old.roots
-    → Transacted set_up_as (setup_attempt t bytes) old result new → new.shared ≡ false → EachSpared t (setup_of bytes) (SetupDone t bytes result old new) old new
+pub setup_leaves : (t : Target) (bytes : List ℕ) (result : Result (List ℕ) TransFault)
+    (old new : World) → length bytes ≡ 8 → IsSettled old.roots
+    → Transacted set_up_as (setup_attempt t bytes) old result new → new.shared ≡ false
+    → EachSpared t (setup_of bytes) (SetupDone t bytes result old new) old new
 setup_leaves t bytes result old new eight settled x single =
-    spared_wider t (setup_of bytes) (RunThrough (SetupResult t bytes) (setup_attempt t bytes) set_up_as (IsEnd set_up_as result) (IsOfBus result) old new) (SetupDone t bytes result old new)
+    spared_wider t (setup_of bytes) (RunThrough (SetupResult t bytes) (setup_attempt t bytes)
+    set_up_as (IsEnd set_up_as result) (IsOfBus result) old new)
+    (SetupDone t bytes result old new)
     (λ j s v run. set_up_done t bytes old j s result new v run) old new
-    (over_transaction (SetupResult t bytes) (setup_attempt t bytes) (IsSpared t (setup_of bytes)) (λ w j u v d. was_spared t (setup_of bytes) u v d.others) (accepting t bytes eight) old settled set_up_as new single result x)
+    (over_transaction (SetupResult t bytes) (setup_attempt t bytes) (IsSpared t (setup_of bytes))
+    (λ w j u v d. was_spared t (setup_of bytes) u v d.others) (accepting t bytes eight) old
+    settled set_up_as new single result x)
 
 -- setup data that come whole are answered by ACK
-pub set_up_why : (t : Target) (bytes : List ℕ) (result : Result (List ℕ) TransFault) (old new : World) → length bytes ≡ 8 → IsSettled old.roots → NoThreeDamaged old
-    → TransactionDone set_up_as (setup_attempt t bytes) old result new → new.shared ≡ false → EachSpared t (setup_of bytes) (SetupFailure t result) old new
+pub set_up_why : (t : Target) (bytes : List ℕ) (result : Result (List ℕ) TransFault)
+    (old new : World) → length bytes ≡ 8 → IsSettled old.roots → NoThreeDamaged old
+    → TransactionDone set_up_as (setup_attempt t bytes) old result new → new.shared ≡ false
+    → EachSpared t (setup_of bytes) (SetupFailure t result) old new
 set_up_why t bytes result old new eight settled three x single =
-    spared_wider t (setup_of bytes) (RunThrough (SetupResult t bytes) (setup_attempt t bytes) set_up_as (IsEnd set_up_as result) (IsOfBus result) old new) (SetupFailure t result)
+    spared_wider t (setup_of bytes) (RunThrough (SetupResult t bytes) (setup_attempt t bytes)
+    set_up_as (IsEnd set_up_as result) (IsOfBus result) old new) (SetupFailure t result)
     (λ j s v run. record {
       answered = λ l e.
-          heeded (Listens t j) (λ w u y d n k. listens_at t j u y d.same.spec d.same.address k) l three (λ w u y d k none q. cc (sym (ap set_up_as (d.heeds k none)) ∙ q))
-          (subst (λ r. RunThrough (SetupResult t bytes) (setup_attempt t bytes) set_up_as (IsEnd set_up_as r) (IsOfBus r) old new j s v) e run);
+          heeded (Listens t j) (λ w u y d n k. listens_at t j u y d.same.spec d.same.address k) l
+          three (λ w u y d k none q. cc (sym (ap set_up_as (d.heeds k none)) ∙ q))
+          (subst (λ r. RunThrough (SetupResult t bytes) (setup_attempt t bytes) set_up_as
+          (IsEnd set_up_as r) (IsOfBus r) old new j s v) e run);
     }) old new
-    (over_end (SetupResult t bytes) (setup_attempt t bytes) (IsSpared t (setup_of bytes)) (λ w j u v d. was_spared t (setup_of bytes) u v d.others) (accepting t bytes eight) old settled set_up_as new single result x)
+    (over_end (SetupResult t bytes) (setup_attempt t bytes) (IsSpared t (setup_of bytes))
+    (λ w j u v d. was_spared t (setup_of bytes) u v d.others) (accepting t bytes eight) old
+    settled set_up_as new single result x)

@@ -1,5 +1,7 @@
--- The attempts of a transaction: as a course of the world, what they keep of it, and over which damages errors run.
-use Rattle.std.proofs.Common.{◌≡◌, ◌≢◌, ℕ, zero, suc, ◌+◌, ◌<◌, ◌≤◌, List, [], ◌∷◌, false, Option, None, Some, Result, Ok, Err, refl, subst, ◌∙◌, arith}
+-- The attempts of a transaction: as a course of the world, what they keep of it, and over which
+-- damages errors run.
+use Rattle.std.proofs.Common.{◌≡◌, ◌≢◌, ℕ, zero, suc, ◌+◌, ◌<◌, ◌≤◌, List, [], ◌∷◌, false, Option}
+use Rattle.std.proofs.Common.{None, Some, Result, Ok, Err, refl, subst, ◌∙◌, arith}
 use Rattle.usb_packet.specs.declared.Toggle.{Toggle}
 use Rattle.usb_world.specs.declared.damage.Damage.{Damage}
 use Rattle.usb_world.specs.declared.types.Attempt.{Attempt}
@@ -9,49 +11,68 @@ use Rattle.usb_tree.specs.AttemptPackets.{IsSettled}
 use Rattle.usb_world.specs.Wire.{damage_of}
 use Rattle.usb_world.specs.World.{World, Made}
 use Rattle.usb_world.specs.Steps.{Step, attempt, after, outcome_in, damage_in, Course, here}
-use Rattle.usb_world.proofs.Interface.{AttemptCut, course_then, cut_or_same, made_damages, made_unshared, made_whole, settled_course, unmade}
+use Rattle.usb_world.proofs.Interface.{AttemptCut, course_then, cut_or_same, made_damages}
+use Rattle.usb_world.proofs.Interface.{made_unshared, made_whole, settled_course, unmade}
 use Rattle.usb_transaction.specs.declared.heard_outcome.HeardOutcome.{HeardOutcome}
-use Rattle.usb_transaction.specs.declared.heard_outcome.HeardOutcome.TheVariants.{Moved, Refused, Lost}
+use Rattle.usb_transaction.specs.declared.heard_outcome.HeardOutcome.TheVariants.{Moved, Refused}
+use Rattle.usb_transaction.specs.declared.heard_outcome.HeardOutcome.TheVariants.{Lost}
 use Rattle.usb_transaction.specs.declared.fault.TransFault.{TransFault}
 use Rattle.usb_transaction.specs.declared.fault.TransFault.TheVariants.{Bus}
 use Rattle.usb_transaction.specs.Attempts.{IsOnly, GivenUp, TransactionAttempts}
 use Rattle.usb_transaction.specs.Failures.{NoThreeDamaged}
 use Rattle.usb_transaction.specs.Leaves.{IsNotOfBus}
-use Rattle.usb_transaction.specs.AttemptLog.{AttemptLog, start, next, errors_with, waits_with, errors_running, waits_in, IsNoEnd, KeepsTrying, TransactionDone, BusFailed, Transacted, Polled}
+use Rattle.usb_transaction.specs.AttemptLog.{AttemptLog, start, next, errors_with, waits_with}
+use Rattle.usb_transaction.specs.AttemptLog.{errors_running, waits_in, IsNoEnd, KeepsTrying}
+use Rattle.usb_transaction.specs.AttemptLog.{TransactionDone, BusFailed, Transacted, Polled}
 
 -- A trail is a course of steps each of which is the attempt
 
-pub trail_course : {K : Step → World → Type 0} {a : Attempt} {old new : World} {outcomes : List Outcome} → ((w : World) → Made w (after (attempt a) w) → K (attempt a) w) → AttemptLog a old outcomes new → Course K old new
+pub trail_course : {K : Step → World → Type 0} {a : Attempt} {old new : World}
+    {outcomes : List Outcome} → ((w : World) → Made w (after (attempt a) w) → K (attempt a) w)
+    → AttemptLog a old outcomes new → Course K old new
 trail_course {K} {a} {old} each start = here old
-trail_course {K} {a} each (next w t made) = course_then (attempt a) (trail_course each t) (each w made)
+trail_course {K} {a} each (next w t made) =
+    course_then (attempt a) (trail_course each t) (each w made)
 
-pub only_course : (a : Attempt) (outcomes : List Outcome) (old new : World) → AttemptLog a old outcomes new → Course (IsOnly a) old new
+pub only_course : (a : Attempt) (outcomes : List Outcome) (old new : World)
+    → AttemptLog a old outcomes new → Course (IsOnly a) old new
 only_course a outcomes old new r = trail_course (λ w made. refl) r
 
-pub trail_settled : {a : Attempt} {old new : World} {outcomes : List Outcome} → AttemptLog a old outcomes new → IsSettled old.roots → IsSettled new.roots
+pub trail_settled : {a : Attempt} {old new : World} {outcomes : List Outcome}
+    → AttemptLog a old outcomes new → IsSettled old.roots → IsSettled new.roots
 trail_settled {a} {old} {new} {outcomes} t = settled_course (only_course a outcomes old new t)
 
 -- no two reachable devices held one address before it
-pub trail_unshared : {a : Attempt} {old new : World} {outcomes : List Outcome} → AttemptLog a old outcomes new → new.shared ≡ false → old.shared ≡ false
+pub trail_unshared : {a : Attempt} {old new : World} {outcomes : List Outcome}
+    → AttemptLog a old outcomes new → new.shared ≡ false → old.shared ≡ false
 trail_unshared start h = h
 trail_unshared {a} (next w t made) h = trail_unshared t (made_unshared a w made h).before
 
-pub trail_damages : {a : Attempt} {old new : World} {outcomes : List Outcome} → AttemptLog a old outcomes new → new.damages ≡ old.damages
+pub trail_damages : {a : Attempt} {old new : World} {outcomes : List Outcome}
+    → AttemptLog a old outcomes new → new.damages ≡ old.damages
 trail_damages start = refl
 trail_damages {a} (next w t made) = made_damages a w made ∙ trail_damages t
 
 -- Transactions: they went on to an end, or the bus gave up
 
-pub as_transacted : {hear : Outcome → HeardOutcome} {a : Attempt} {old new : World} (result : Result (List ℕ) TransFault) → TransactionDone hear a old result new → Transacted hear a old result new
+pub as_transacted : {hear : Outcome → HeardOutcome} {a : Attempt} {old new : World}
+    (result : Result (List ℕ) TransFault) → TransactionDone hear a old result new
+    → Transacted hear a old result new
 as_transacted (Err (Bus fault)) e = absurd e.tells
 as_transacted result e = e
 
-pub ended_of : {hear : Outcome → HeardOutcome} {a : Attempt} {old new : World} (result : Result (List ℕ) TransFault) → Transacted hear a old result new → IsNotOfBus result → TransactionDone hear a old result new
+pub ended_of : {hear : Outcome → HeardOutcome} {a : Attempt} {old new : World}
+    (result : Result (List ℕ) TransFault) → Transacted hear a old result new → IsNotOfBus result
+    → TransactionDone hear a old result new
 ended_of (Err (Bus fault)) x n = absurd n
 ended_of result x n = x
 
-pub transacted_unshared : (hear : Outcome → HeardOutcome) (a : Attempt) (old new : World) (result : Result (List ℕ) TransFault) → Transacted hear a old result new → IsSettled old.roots → new.shared ≡ false → old.shared ≡ false
-transacted_unshared hear a old new (Err (Bus fault)) x settled single = by_cut (cut_or_same a x.mid fault new x.fits (trail_settled x.trail settled) x.refused x.fails single)
+pub transacted_unshared : (hear : Outcome → HeardOutcome) (a : Attempt) (old new : World)
+    (result : Result (List ℕ) TransFault) → Transacted hear a old result new → IsSettled old.roots
+    → new.shared ≡ false → old.shared ≡ false
+transacted_unshared hear a old new (Err (Bus fault)) x settled single =
+    by_cut (cut_or_same a x.mid fault new x.fits (trail_settled x.trail settled) x.refused x.fails
+    single)
   where
     by_cut : AttemptCut a x.mid new → old.shared ≡ false
     by_cut (unmade h each) = trail_unshared x.trail h
@@ -60,40 +81,70 @@ transacted_unshared hear a old new result x settled single = trail_unshared x.tr
 
 module _ {A : Type 0} (a : Attempt) (old new : World) where
   -- where the bus did not give up
-  ended_attempts : (result : Result A TransFault) → ((fault : BusFault) → result ≡ Err (Bus fault) → ⊥) → {outcomes : List Outcome} → AttemptLog a old outcomes new → TransactionAttempts (IsOnly a) old result new
-  ended_attempts result sound t = record { whole = λ n. only_course a _ old new t; cut = λ fault e. absurd (sound fault e) }
+  ended_attempts : (result : Result A TransFault)
+      → ((fault : BusFault) → result ≡ Err (Bus fault) → ⊥) → {outcomes : List Outcome}
+      → AttemptLog a old outcomes new → TransactionAttempts (IsOnly a) old result new
+  ended_attempts result sound t = record {
+    whole = λ n. only_course a _ old new t;
+    cut =
+        λ fault e. absurd (sound fault e);
+  }
 
   -- and where it did
-  cut_attempts : {hear : Outcome → HeardOutcome} (fault : BusFault) → BusFailed hear a old fault new → TransactionAttempts {A = A} (IsOnly a) old (Err (Bus fault)) new
-  cut_attempts fault x = record { whole = λ n. absurd n; cut = λ f e. subst (λ y. GivenUp (IsOnly a) old y new) (cc e) (record { mid = x.mid; course = only_course a x.outcomes old x.mid x.trail; last = a; is = refl; fits = x.fits; refused = x.refused; fails = x.fails }) }
+  cut_attempts : {hear : Outcome → HeardOutcome} (fault : BusFault) → BusFailed hear a old fault new
+      → TransactionAttempts {A = A} (IsOnly a) old (Err (Bus fault)) new
+  cut_attempts fault x = record {
+    whole = λ n. absurd n;
+    cut =
+        λ f e. subst (λ y. GivenUp (IsOnly a) old y new) (cc e)
+        (record {
+          mid = x.mid;
+          course = only_course a x.outcomes old x.mid x.trail;
+          last = a;
+          is = refl;
+          fits = x.fits;
+          refused = x.refused;
+          fails = x.fails;
+        });
+  }
 
-pub transacted_attempts : (hear : Outcome → HeardOutcome) (a : Attempt) (result : Result (List ℕ) TransFault) (old new : World) → Transacted hear a old result new → TransactionAttempts (IsOnly a) old result new
+pub transacted_attempts : (hear : Outcome → HeardOutcome) (a : Attempt)
+    (result : Result (List ℕ) TransFault) (old new : World) → Transacted hear a old result new
+    → TransactionAttempts (IsOnly a) old result new
 transacted_attempts hear a (Err (Bus fault)) old new x = cut_attempts a old new fault x
 transacted_attempts hear a result old new x = ended_attempts a old new result (λ f e. cc e) x.trail
 
-pub polled_attempts : (toggle : Toggle) (a : Attempt) (result : Result (Option (List ℕ)) TransFault) (old new : World) → Polled toggle a old result new → TransactionAttempts (IsOnly a) old result new
+pub polled_attempts : (toggle : Toggle) (a : Attempt) (result : Result (Option (List ℕ)) TransFault)
+    (old new : World) → Polled toggle a old result new
+    → TransactionAttempts (IsOnly a) old result new
 polled_attempts toggle a (Err (Bus fault)) old new x = cut_attempts a old new fault x
-polled_attempts toggle a (Ok None) old new x = ended_attempts a old new (Ok None) (λ f e. cc e) x.trail
-polled_attempts toggle a (Ok (Some bytes)) old new x = ended_attempts a old new (Ok (Some bytes)) (λ f e. cc e) x.trail
+polled_attempts toggle a (Ok None) old new x =
+    ended_attempts a old new (Ok None) (λ f e. cc e) x.trail
+polled_attempts toggle a (Ok (Some bytes)) old new x =
+    ended_attempts a old new (Ok (Some bytes)) (λ f e. cc e) x.trail
 polled_attempts toggle a result old new x = ended_attempts a old new result (λ f e. cc e) x.trail
 
 -- attempts over which a transaction goes on have fewer waits than end it
-pub few_waits : (hear : Outcome → HeardOutcome) (outcomes : List Outcome) → KeepsTrying hear outcomes → waits_in hear outcomes < 256
+pub few_waits : (hear : Outcome → HeardOutcome) (outcomes : List Outcome)
+    → KeepsTrying hear outcomes → waits_in hear outcomes < 256
 unfolding KeepsTrying waits_in
 few_waits hear [] g = omega arith
 few_waits hear (o ∷ outcomes) g = g.2
 
 -- the last of too many waits, and of three errors, ends none
-pub last_waited : (hear : Outcome → HeardOutcome) (o : Outcome) (outcomes : List Outcome) → KeepsTrying hear outcomes → waits_in hear (o ∷ outcomes) ≡ 256 → IsNoEnd (hear o)
+pub last_waited : (hear : Outcome → HeardOutcome) (o : Outcome) (outcomes : List Outcome)
+    → KeepsTrying hear outcomes → waits_in hear (o ∷ outcomes) ≡ 256 → IsNoEnd (hear o)
 unfolding waits_in
 last_waited hear o outcomes g e = by_heard (hear o) (few_waits hear outcomes g) e
   where
-    by_heard : (h : HeardOutcome) → waits_in hear outcomes < 256 → waits_with h (waits_in hear outcomes) ≡ 256 → IsNoEnd h
+    by_heard : (h : HeardOutcome) → waits_in hear outcomes < 256
+        → waits_with h (waits_in hear outcomes) ≡ 256 → IsNoEnd h
     by_heard (Moved bytes) l e = omega (arith, l, e)
     by_heard Refused l e = omega (arith, l, e)
     by_heard h l e = tt
 
-pub last_erred : (hear : Outcome → HeardOutcome) (o : Outcome) (outcomes : List Outcome) → errors_running hear (o ∷ outcomes) ≡ 3 → IsNoEnd (hear o)
+pub last_erred : (hear : Outcome → HeardOutcome) (o : Outcome) (outcomes : List Outcome)
+    → errors_running hear (o ∷ outcomes) ≡ 3 → IsNoEnd (hear o)
 unfolding errors_running
 last_erred hear o outcomes e = by_heard (hear o) e
   where
@@ -110,28 +161,45 @@ pub record LostRun (damages : List Damage) (n attempts : ℕ) : Type 0 where
   pub each : (m k : ℕ) → m + k ≡ attempts → k < n → damage_of damages m ≢ None
 
 pub lost_run_none : (damages : List Damage) (attempts : ℕ) → LostRun damages 0 attempts
-lost_run_none damages attempts = record { enough = omega arith; each = λ m k e lt. absurd (omega (arith, lt)) }
+lost_run_none damages attempts = record {
+  enough = omega arith;
+  each =
+      λ m k e lt. absurd (omega (arith, lt));
+}
 
 -- there are at most two
-pub run_short : (old : World) (n attempts : ℕ) → NoThreeDamaged old → LostRun old.damages n attempts → n < 3
-run_short old (suc (suc (suc n))) (suc (suc m)) never r = absurd (never m (r.each m 2 (omega arith) (omega arith)) (r.each (m + 1) 1 (omega arith) (omega arith)) (r.each (m + 2) 0 (omega arith) (omega arith)))
+pub run_short : (old : World) (n attempts : ℕ) → NoThreeDamaged old → LostRun old.damages n attempts
+    → n < 3
+run_short old (suc (suc (suc n))) (suc (suc m)) never r =
+    absurd (never m (r.each m 2 (omega arith) (omega arith))
+    (r.each (m + 1) 1 (omega arith) (omega arith)) (r.each (m + 2) 0 (omega arith) (omega arith)))
 run_short old n attempts never r = omega (arith, r.enough)
 
-module _ {a : Attempt} {old w : World} {outcomes : List Outcome} (t : AttemptLog a old outcomes w) (made : Made w (after (attempt a) w)) where
+module _ {a : Attempt} {old w : World} {outcomes : List Outcome} (t : AttemptLog a old outcomes w)
+    (made : Made w (after (attempt a) w)) where
   -- a damaged attempt more, whatever came of it
-  pub damaged_more : (n : ℕ) → damage_in w ≢ None → LostRun old.damages n w.attempts → LostRun old.damages (n + 1) (after (attempt a) w).attempts
+  pub damaged_more : (n : ℕ) → damage_in w ≢ None → LostRun old.damages n w.attempts
+      → LostRun old.damages (n + 1) (after (attempt a) w).attempts
   damaged_more n d r = record { enough = omega (arith, r.enough, made.one); each = each_one }
     where
-      each_one : (m k : ℕ) → m + k ≡ (after (attempt a) w).attempts → k < n + 1 → damage_of old.damages m ≢ None
-      each_one m zero e lt = subst (λ x. damage_of old.damages x ≢ None) (omega (arith, e, made.one)) (subst (λ x. damage_of x (w.attempts + 1) ≢ None) (trail_damages t) d)
+      each_one : (m k : ℕ) → m + k ≡ (after (attempt a) w).attempts → k < n + 1
+          → damage_of old.damages m ≢ None
+      each_one m zero e lt = subst (λ x. damage_of old.damages x ≢ None)
+          (omega (arith, e, made.one)) (subst (λ x. damage_of x (w.attempts + 1) ≢ None)
+          (trail_damages t) d)
       each_one m (suc k) e lt = r.each m k (omega (arith, e, made.one)) (omega (arith, lt))
 
   -- errors run only over damaged attempts, where no attempt that is not damaged is one
-  pub lost_more : (hear : Outcome → HeardOutcome) → (damage_in w ≡ None → hear (outcome_in a w) ≢ Lost) → LostRun old.damages (errors_running hear outcomes) w.attempts
-      → LostRun old.damages (errors_running hear (outcome_in a w ∷ outcomes)) (after (attempt a) w).attempts
+  pub lost_more : (hear : Outcome → HeardOutcome)
+      → (damage_in w ≡ None → hear (outcome_in a w) ≢ Lost)
+      → LostRun old.damages (errors_running hear outcomes) w.attempts
+      → LostRun old.damages (errors_running hear (outcome_in a w ∷ outcomes))
+      (after (attempt a) w).attempts
   unfolding errors_running
   lost_more hear c r = by_heard (hear (outcome_in a w)) c
     where
-      by_heard : (h : HeardOutcome) → (damage_in w ≡ None → h ≢ Lost) → LostRun old.damages (errors_with h (errors_running hear outcomes)) (after (attempt a) w).attempts
+      by_heard : (h : HeardOutcome) → (damage_in w ≡ None → h ≢ Lost)
+          → LostRun old.damages (errors_with h (errors_running hear outcomes))
+          (after (attempt a) w).attempts
       by_heard Lost c = damaged_more (errors_running hear outcomes) (λ e. c e refl) r
       by_heard h c = lost_run_none old.damages (after (attempt a) w).attempts

@@ -1,6 +1,7 @@
 -- How a transaction goes on, try by try, how it ends, and how many attempts it makes.
 use Rattle.std.proofs.Common.{◌≡◌, inl, inr, refl, sym, subst, ap, ◌∙◌, arith}
-use Rattle.std.specs.Prelude.{ℕ, ◌+◌, ◌*◌, ◌<◌, ◌≤◌, ◌⊎◌, length, List, [], ◌∷◌, true, false, Option, None, Some, Result, Ok, Err}
+use Rattle.std.specs.Prelude.{ℕ, ◌+◌, ◌*◌, ◌<◌, ◌≤◌, ◌⊎◌, length, List, [], ◌∷◌, true, false}
+use Rattle.std.specs.Prelude.{Option, None, Some, Result, Ok, Err}
 use Rattle.arrayvec.specs.ArrayVec.{ArrayVec}
 use Rattle.usb_packet.specs.declared.Toggle.{Toggle}
 use Rattle.usb_world.specs.declared.types.Attempt.{Attempt}
@@ -12,33 +13,45 @@ use Rattle.usb_world.specs.Steps.{attempt, after, AttemptFails}
 use Rattle.usb_world.proofs.Interface.{spends_none, spends_then, spends_wider}
 use Rattle.usb_bus.specs.Traces.{Attempts, Traced, still, attempted, StepRun}
 use Rattle.usb_transaction.specs.declared.heard_outcome.HeardOutcome.{HeardOutcome}
-use Rattle.usb_transaction.specs.declared.heard_outcome.HeardOutcome.TheVariants.{Moved, NotReady, Repeat, Lost}
+use Rattle.usb_transaction.specs.declared.heard_outcome.HeardOutcome.TheVariants.{Moved, NotReady}
+use Rattle.usb_transaction.specs.declared.heard_outcome.HeardOutcome.TheVariants.{Repeat, Lost}
 use Rattle.usb_transaction.specs.declared.tries.Tries.{Tries}
 use Rattle.usb_transaction.specs.declared.fault.TransFault.{TransFault}
-use Rattle.usb_transaction.specs.declared.fault.TransFault.TheVariants.{Stalled, Busy, NoAnswer, Bus}
+use Rattle.usb_transaction.specs.declared.fault.TransFault.TheVariants.{Stalled, Busy, NoAnswer}
+use Rattle.usb_transaction.specs.declared.fault.TransFault.TheVariants.{Bus}
 use Rattle.usb_transaction.specs.HeardOutcomes.{heard_as, polled_as, set_up_as, acks}
-use Rattle.usb_transaction.specs.AttemptLog.{AttemptLog, start, next, errors_with, waits_with, errors_running, waits_in, IsNoEnd, KeepsTrying, LastOutcome, TransactionDone, BusFailed, Transacted, Waiting, Polled}
+use Rattle.usb_transaction.specs.AttemptLog.{AttemptLog, start, next, errors_with, waits_with}
+use Rattle.usb_transaction.specs.AttemptLog.{errors_running, waits_in, IsNoEnd, KeepsTrying}
+use Rattle.usb_transaction.specs.AttemptLog.{LastOutcome, TransactionDone, BusFailed, Transacted}
+use Rattle.usb_transaction.specs.AttemptLog.{Waiting, Polled}
 use Rattle.usb_transaction.specs.Transactions.{packed, AttemptsMade, Ends, transaction_bound}
 use Rattle.usb_transaction.proofs.LastOutcomes.{heard_moved}
 
 -- One more attempt, and what the host got
 
-pub record AttemptedOnce (a : Attempt) (mid : World) (before : Option (List ℕ)) (o : Outcome) (new : World) (now : Option (List ℕ)) : Type 0 where
+pub record AttemptedOnce (a : Attempt) (mid : World) (before : Option (List ℕ)) (o : Outcome)
+    (new : World) (now : Option (List ℕ)) : Type 0 where
   pub fits : IsAttempt a
   pub made : Attempts a mid before (Ok o) new now
 
-pub attempted_once : {a b : Attempt} {mid new : World} {o : Outcome} {before now : Option (List ℕ)} → b ≡ a
+pub attempted_once : {a b : Attempt} {mid new : World} {o : Outcome} {before now : Option (List ℕ)}
+    → b ≡ a
     → IsAttempt b → Attempts b mid before (Ok o) new now → AttemptedOnce a mid before o new now
 attempted_once {mid = mid} {new = new} {o = o} {before = before} {now = now} is fits x =
     subst (λ y. AttemptedOnce y mid before o new now) is (record { fits = fits; made = x })
 
-trail_more : {a : Attempt} {old mid new : World} {outcomes : List Outcome} {o : Outcome} {before now : Option (List ℕ)} → AttemptLog a old outcomes mid → AttemptedOnce a mid before o new now → AttemptLog a old (o ∷ outcomes) new
+trail_more : {a : Attempt} {old mid new : World} {outcomes : List Outcome} {o : Outcome}
+    {before now : Option (List ℕ)} → AttemptLog a old outcomes mid
+    → AttemptedOnce a mid before o new now → AttemptLog a old (o ∷ outcomes) new
 trail_more {a} {old} {mid} {new} {outcomes} {o} t one =
     subst (λ w. AttemptLog a old (o ∷ outcomes) w) (sym one.made.exact)
-    (subst (λ x. AttemptLog a old (x ∷ outcomes) (after (attempt a) mid)) (sym one.made.outcome) (next mid t (subst (λ w. Made mid w) one.made.exact one.made.counts.ends)))
+    (subst (λ x. AttemptLog a old (x ∷ outcomes) (after (attempt a) mid)) (sym one.made.outcome)
+    (next mid t (subst (λ w. Made mid w) one.made.exact one.made.counts.ends)))
 
--- It goes on: so many errors run, after so many NAKs and repeats; between the worlds lie at most three attempts for each of these and one for each error running
-pub record TryingOn (hear : Outcome → HeardOutcome) (a : Attempt) (errors waits : ℕ) (old now : World) : Type 0 where
+-- It goes on: so many errors run, after so many NAKs and repeats; between the worlds lie at most
+-- three attempts for each of these and one for each error running
+pub record TryingOn (hear : Outcome → HeardOutcome) (a : Attempt) (errors waits : ℕ)
+    (old now : World) : Type 0 where
   pub outcomes : List Outcome
   pub trail : AttemptLog a old outcomes now
   pub onward : KeepsTrying hear outcomes
@@ -48,18 +61,34 @@ pub record TryingOn (hear : Outcome → HeardOutcome) (a : Attempt) (errors wait
 
 trying_none : {hear : Outcome → HeardOutcome} {a : Attempt} (w : World) → TryingOn hear a 0 0 w w
 unfolding errors_running waits_in KeepsTrying
-trying_none w = record { outcomes = []; trail = start; onward = tt; running = refl; waited = refl; spends = spends_none w }
+trying_none w = record {
+  outcomes = [];
+  trail = start;
+  onward = tt;
+  running = refl;
+  waited = refl;
+  spends = spends_none w;
+}
 
-going_more : {hear : Outcome → HeardOutcome} {a : Attempt} {o : Outcome} {errors waits : ℕ} {old mid new : World} {before now : Option (List ℕ)} (e w : ℕ) → TryingOn hear a errors waits old mid → AttemptedOnce a mid before o new now → IsNoEnd (hear o)
-    → errors_with (hear o) errors ≡ e → waits_with (hear o) waits ≡ w → e < 3 → w < 256 → 3 * waits + errors + 1 ≤ 3 * w + e → TryingOn hear a e w old new
+going_more : {hear : Outcome → HeardOutcome} {a : Attempt} {o : Outcome} {errors waits : ℕ}
+    {old mid new : World} {before now : Option (List ℕ)} (e w : ℕ)
+    → TryingOn hear a errors waits old mid → AttemptedOnce a mid before o new now → IsNoEnd (hear o)
+    → errors_with (hear o) errors ≡ e → waits_with (hear o) waits ≡ w → e < 3 → w < 256
+    → 3 * waits + errors + 1 ≤ 3 * w + e → TryingOn hear a e w old new
 unfolding errors_running waits_in KeepsTrying
 going_more {hear} {a} {o} {errors} {waits} {old} {mid} {new} e w g one on x y few calm le = record {
   outcomes = o ∷ g.outcomes;
   trail = trail_more g.trail one;
-  onward = (on, subst (λ n. n < 3) (sym running) few, subst (λ n. n < 256) (sym waited) calm, g.onward);
+  onward = (
+    on,
+    subst (λ n. n < 3) (sym running) few,
+    subst (λ n. n < 256) (sym waited) calm,
+    g.onward,
+  );
   running = running;
   waited = waited;
-  spends = spends_wider (3 * waits + errors + 1) (3 * w + e) old new (spends_then (3 * waits + errors) 1 old mid new g.spends one.made.counts.spends) le;
+  spends = spends_wider (3 * waits + errors + 1) (3 * w + e) old new
+      (spends_then (3 * waits + errors) 1 old mid new g.spends one.made.counts.spends) le;
 }
   where
     running : errors_with (hear o) (errors_running hear g.outcomes) ≡ e
@@ -68,16 +97,26 @@ going_more {hear} {a} {o} {errors} {waits} {old} {mid} {new} e w g one on x y fe
     waited : waits_with (hear o) (waits_in hear g.outcomes) ≡ w
     waited = ap (λ n. waits_with (hear o) n) g.waited ∙ y
 
-going_error : {hear : Outcome → HeardOutcome} {a : Attempt} {o : Outcome} (errors waits : ℕ) {old mid new : World} {before now : Option (List ℕ)} → errors + 1 < 3 → waits < 256
-    → TryingOn hear a errors waits old mid → AttemptedOnce a mid before o new now → Lost ≡ hear o → TryingOn hear a (errors + 1) waits old new
+going_error : {hear : Outcome → HeardOutcome} {a : Attempt} {o : Outcome} (errors waits : ℕ)
+    {old mid new : World} {before now : Option (List ℕ)} → errors + 1 < 3 → waits < 256
+    → TryingOn hear a errors waits old mid → AttemptedOnce a mid before o new now → Lost ≡ hear o
+    → TryingOn hear a (errors + 1) waits old new
 going_error errors waits few calm g one lost =
-    going_more (errors + 1) waits g one (subst (λ h. IsNoEnd h) lost tt) (ap (λ h. errors_with h errors) (sym lost)) (ap (λ h. waits_with h waits) (sym lost)) few calm (omega arith)
+    going_more (errors + 1) waits g one (subst (λ h. IsNoEnd h) lost tt)
+    (ap (λ h. errors_with h errors) (sym lost)) (ap (λ h. waits_with h waits) (sym lost)) few
+    calm (omega arith)
 
-third_error : {hear : Outcome → HeardOutcome} {a : Attempt} {o : Outcome} (errors waits : ℕ) {old mid : World} (g : TryingOn hear a errors waits old mid) → Lost ≡ hear o → errors + 1 ≡ 3 → LastOutcome hear (Err NoAnswer) o g.outcomes
+third_error : {hear : Outcome → HeardOutcome} {a : Attempt} {o : Outcome} (errors waits : ℕ)
+    {old mid : World} (g : TryingOn hear a errors waits old mid) → Lost ≡ hear o → errors + 1 ≡ 3
+    → LastOutcome hear (Err NoAnswer) o g.outcomes
 unfolding errors_running
-third_error {hear} errors waits g lost third = ap (λ x. errors_with x (errors_running hear g.outcomes)) (sym lost) ∙ ap (λ n. n + 1) g.running ∙ third
+third_error {hear} errors waits g lost third =
+    ap (λ x. errors_with x (errors_running hear g.outcomes)) (sym lost) ∙ ap (λ n. n + 1) g.running
+    ∙ third
 
-pub going_cut_off : {hear : Outcome → HeardOutcome} {a b : Attempt} {fault : BusFault} {errors waits : ℕ} {old mid new : World} {before now : Option (List ℕ)} → b ≡ a → TryingOn hear a errors waits old mid → IsAttempt b → Attempts b mid before (Err fault) new now
+pub going_cut_off : {hear : Outcome → HeardOutcome} {a b : Attempt} {fault : BusFault}
+    {errors waits : ℕ} {old mid new : World} {before now : Option (List ℕ)} → b ≡ a
+    → TryingOn hear a errors waits old mid → IsAttempt b → Attempts b mid before (Err fault) new now
     → BusFailed hear a old fault new
 going_cut_off {fault = fault} {mid = mid} {new = new} is g fits x = record {
   fits = subst IsAttempt is fits;
@@ -91,13 +130,15 @@ going_cut_off {fault = fault} {mid = mid} {new = new} is g fits x = record {
 
 -- A loop of tries: how it stands, with what it wrote
 
-pub record TryStands (hear : Outcome → HeardOutcome) (a : Attempt) (t : Tries) (old : World) (first : Option (List ℕ)) (now : World) (text : Option (List ℕ)) : Type 0 where
+pub record TryStands (hear : Outcome → HeardOutcome) (a : Attempt) (t : Tries) (old : World)
+    (first : Option (List ℕ)) (now : World) (text : Option (List ℕ)) : Type 0 where
   pub few : t.errors < 3
   pub calm : t.waits < 256
   pub going : TryingOn hear a t.errors t.waits old now
   pub traced : Traced old first now text
 
-pub stands_new : {hear : Outcome → HeardOutcome} {a : Attempt} {text : Option (List ℕ)} (t : Tries) (w : World) → t ≡ record { errors = 0; waits = 0 } → TryStands hear a t w text w text
+pub stands_new : {hear : Outcome → HeardOutcome} {a : Attempt} {text : Option (List ℕ)} (t : Tries)
+    (w : World) → t ≡ record { errors = 0; waits = 0 } → TryStands hear a t w text w text
 stands_new {hear} {a} {text} t w is = subst (λ x. TryStands hear a x w text w text) (sym is)
     (record { few = omega arith; calm = omega arith; going = trying_none w; traced = still })
 
@@ -114,11 +155,15 @@ waits_of : (h : HeardOutcome) → IsWait h → Waits h
 waits_of h (inl e) = subst Waits (sym e) (record { on = tt; none = λ n. refl; more = λ n. refl })
 waits_of h (inr e) = subst Waits (sym e) (record { on = tt; none = λ n. refl; more = λ n. refl })
 
-module _ {hear : Outcome → HeardOutcome} {a : Attempt} {t : Tries} {old mid : World} {first before : Option (List ℕ)} (s : TryStands hear a t old first mid before) where
+module _ {hear : Outcome → HeardOutcome} {a : Attempt} {t : Tries} {old mid : World}
+    {first before : Option (List ℕ)} (s : TryStands hear a t old first mid before) where
   -- its last attempt
-  pub went_last : {b : Attempt} {r : Result Outcome BusFault} {new : World} {now : Option (List ℕ)} → IsAttempt b → Attempts b mid before r new now → StepRun transaction_bound old first new now
+  pub went_last : {b : Attempt} {r : Result Outcome BusFault} {new : World} {now : Option (List ℕ)}
+      → IsAttempt b → Attempts b mid before r new now → StepRun transaction_bound old first new now
   went_last {b} {r} {new} fits x = record {
-    spends = spends_wider (3 * t.waits + t.errors + 1) transaction_bound old new (spends_then (3 * t.waits + t.errors) 1 old mid new s.going.spends x.counts.spends) (omega (arith, s.few, s.calm));
+    spends = spends_wider (3 * t.waits + t.errors + 1) transaction_bound old new
+        (spends_then (3 * t.waits + t.errors) 1 old mid new s.going.spends x.counts.spends)
+        (omega (arith, s.few, s.calm));
     traced = attempted b r fits s.traced x;
   }
 
@@ -127,15 +172,24 @@ module _ {hear : Outcome → HeardOutcome} {a : Attempt} {t : Tries} {old mid : 
       → Transacted hear a old (Err (Bus fault)) new
   told_cut is fits x = going_cut_off is s.going fits x
 
-  module _ {o : Outcome} {new : World} {now : Option (List ℕ)} (one : AttemptedOnce a mid before o new now) where
-    pub stands_error : (u : Tries) → Lost ≡ hear o → u ≡ record t { errors = t.errors + 1 } → u.errors < 3 → TryStands hear a u old first new now
+  module _ {o : Outcome} {new : World} {now : Option (List ℕ)}
+      (one : AttemptedOnce a mid before o new now) where
+    pub stands_error : (u : Tries) → Lost ≡ hear o → u ≡ record t { errors = t.errors + 1 }
+        → u.errors < 3 → TryStands hear a u old first new now
     stands_error u lost is few =
         let two : t.errors + 1 < 3 = subst (λ x. x.errors < 3) is few in
         subst (λ x. TryStands hear a x old first new now) (sym is)
-        (record { few = two; calm = s.calm; going = going_error t.errors t.waits two s.calm s.going
-            one lost; traced = attempted a (Ok o) one.fits s.traced one.made })
+        (record {
+          few = two;
+          calm = s.calm;
+          going = going_error t.errors t.waits two s.calm s.going
+              one lost;
+          traced = attempted a (Ok o) one.fits s.traced one.made;
+        })
 
-    pub stands_waited : (h : HeardOutcome) (u : Tries) → h ≡ hear o → IsWait h → u ≡ record t { errors = 0; waits = t.waits + 1 } → u.waits < 256 → TryStands hear a u old first new now
+    pub stands_waited : (h : HeardOutcome) (u : Tries) → h ≡ hear o → IsWait h
+        → u ≡ record t { errors = 0; waits = t.waits + 1 } → u.waits < 256
+        → TryStands hear a u old first new now
     stands_waited h u heard wait is calm =
         let less : t.waits + 1 < 256 = subst (λ x. x.waits < 256) is calm in
         let w : Waits (hear o) = subst Waits heard (waits_of h wait) in
@@ -143,12 +197,21 @@ module _ {hear : Outcome → HeardOutcome} {a : Attempt} {t : Tries} {old mid : 
         (record {
           few = omega arith;
           calm = less;
-          going = going_more 0 (t.waits + 1) s.going one w.on (w.none t.errors) (w.more t.waits) (omega arith) less (omega (arith, s.few));
+          going = going_more 0 (t.waits + 1) s.going one w.on (w.none t.errors) (w.more t.waits)
+              (omega arith) less (omega (arith, s.few));
           traced = attempted a (Ok o) one.fits s.traced one.made;
         })
 
-    ended : (result : Result (List ℕ) TransFault) → LastOutcome hear result o s.going.outcomes → TransactionDone hear a old result new
-    ended result tells = record { outcomes = s.going.outcomes; last = o; trail = trail_more s.going.trail one; onward = s.going.onward; tells = tells }
+    ended : (result : Result (List ℕ) TransFault) → LastOutcome hear result o s.going.outcomes
+        → TransactionDone hear a old result new
+    ended result tells = record {
+      outcomes = s.going.outcomes;
+      last = o;
+      trail =
+          trail_more s.going.trail one;
+      onward = s.going.onward;
+      tells = tells;
+    }
 
     pub told_moved : (bytes : ArrayVec ℕ) → hear o ≡ Moved bytes
         → Transacted hear a old (Ok bytes.items) new
@@ -171,7 +234,7 @@ module _ {hear : Outcome → HeardOutcome} {a : Attempt} {t : Tries} {old mid : 
     unfolding waits_in
     told_busy h u heard wait is full =
         let one_wait = (subst Waits heard (waits_of h wait)).more (waits_in hear s.going.outcomes)
-            in
+        in
         let counted = ap (λ n. n + 1) s.going.waited ∙ ap (λ x. x.waits) (sym is) ∙ full in
         ended (Err Busy) (one_wait ∙ counted)
 
@@ -181,7 +244,8 @@ pub told_waiting : {toggle : Toggle} {a : Attempt} {t : Tries} {o : Outcome} {ol
     → AttemptedOnce a mid before o new now → o ≡ Nak → Waiting toggle a old new
 told_waiting {toggle} {a} {t} {o} {old} {mid} {new} s one is = record {
   outcomes = s.going.outcomes;
-  trail = subst (λ x. AttemptLog a old (x ∷ s.going.outcomes) new) is (trail_more s.going.trail one);
+  trail = subst (λ x. AttemptLog a old (x ∷ s.going.outcomes) new) is
+      (trail_more s.going.trail one);
   onward = s.going.onward;
 }
 
@@ -194,7 +258,8 @@ set_up_moved : (o : Outcome) → acks o ≡ true → set_up_as o ≡ Moved (pack
 set_up_moved o e = grind arith
 
 -- after n attempts none of which was acknowledged
-pub record SetUpStands (a : Attempt) (n : ℕ) (old : World) (first : Option (List ℕ)) (now : World) (text : Option (List ℕ)) : Type 0 where
+pub record SetUpStands (a : Attempt) (n : ℕ) (old : World) (first : Option (List ℕ)) (now : World)
+    (text : Option (List ℕ)) : Type 0 where
   pub spends : AttemptsWithin n old now
   pub going : n < 3 → TryingOn set_up_as a n 0 old now
   pub ended : n ≡ 3 → TransactionDone set_up_as a old (Err NoAnswer) now
@@ -208,23 +273,45 @@ set_up_new w = record {
   traced = still;
 }
 
-module _ {a : Attempt} {n : ℕ} {old mid : World} {first before : Option (List ℕ)} (few : n < 3) (s : SetUpStands a n old first mid before) where
-  pub set_up_went : {b : Attempt} {r : Result Outcome BusFault} {new : World} {now : Option (List ℕ)} → IsAttempt b → Attempts b mid before r new now → StepRun 3 old first new now
-  set_up_went {b} {r} {new} fits x = record { spends = spends_wider (n + 1) 3 old new (spends_then n 1 old mid new s.spends x.counts.spends) (omega (arith, few)); traced = attempted b r fits s.traced x }
+module _ {a : Attempt} {n : ℕ} {old mid : World} {first before : Option (List ℕ)} (few : n < 3)
+    (s : SetUpStands a n old first mid before) where
+  pub set_up_went : {b : Attempt} {r : Result Outcome BusFault} {new : World}
+      {now : Option (List ℕ)} → IsAttempt b → Attempts b mid before r new now
+      → StepRun 3 old first new now
+  set_up_went {b} {r} {new} fits x = record {
+    spends =
+        spends_wider (n + 1) 3 old new (spends_then n 1 old mid new s.spends x.counts.spends)
+        (omega (arith, few));
+    traced = attempted b r fits s.traced x;
+  }
 
-  set_up_ended : {o : Outcome} {new : World} {now : Option (List ℕ)} (result : Result (List ℕ) TransFault) → AttemptedOnce a mid before o new now → LastOutcome set_up_as result o (s.going few).outcomes → TransactionDone set_up_as a old result new
-  set_up_ended {o} result one tells = record { outcomes = (s.going few).outcomes; last = o; trail = trail_more (s.going few).trail one; onward = (s.going few).onward; tells = tells }
+  set_up_ended : {o : Outcome} {new : World} {now : Option (List ℕ)}
+      (result : Result (List ℕ) TransFault) → AttemptedOnce a mid before o new now
+      → LastOutcome set_up_as result o (s.going few).outcomes
+      → TransactionDone set_up_as a old result new
+  set_up_ended {o} result one tells = record {
+    outcomes = (s.going few).outcomes;
+    last = o;
+    trail =
+        trail_more (s.going few).trail one;
+    onward = (s.going few).onward;
+    tells = tells;
+  }
 
-  pub set_up_again : {o : Outcome} {new : World} {now : Option (List ℕ)} → AttemptedOnce a mid before o new now → acks o ≡ false → SetUpStands a (n + 1) old first new now
+  pub set_up_again : {o : Outcome} {new : World} {now : Option (List ℕ)}
+      → AttemptedOnce a mid before o new now → acks o ≡ false
+      → SetUpStands a (n + 1) old first new now
   set_up_again {o} {new} one not = record {
     spends = spends_then n 1 old mid new s.spends one.made.counts.spends;
     going = λ more. going_error n 0 more (omega arith) (s.going few) one (set_up_lost o not);
-    ended = λ third. set_up_ended (Err NoAnswer) one (third_error n 0 (s.going few) (set_up_lost o not) third);
+    ended = λ third. set_up_ended (Err NoAnswer) one
+        (third_error n 0 (s.going few) (set_up_lost o not) third);
     traced = attempted a (Ok o) one.fits s.traced one.made;
   }
 
   pub set_up_told : {o : Outcome} {new : World} {now : Option (List ℕ)}
-      → AttemptedOnce a mid before o new now → acks o ≡ true → Transacted set_up_as a old (Ok []) new
+      → AttemptedOnce a mid before o new now → acks o ≡ true
+      → Transacted set_up_as a old (Ok []) new
   set_up_told {o} one is = set_up_ended (Ok []) one (set_up_moved o is)
 
   pub set_up_cut : {b : Attempt} {fault : BusFault} {new : World} {now : Option (List ℕ)} → b ≡ a
@@ -233,8 +320,10 @@ module _ {a : Attempt} {n : ℕ} {old mid : World} {first before : Option (List 
   set_up_cut is fits x = going_cut_off is (s.going few) fits x
 
 -- all three
-pub set_up_spent : {a : Attempt} {n : ℕ} {old now : World} {first text : Option (List ℕ)} → n ≤ 3 → SetUpStands a n old first now text → StepRun 3 old first now text
-set_up_spent {n = n} {old = old} {now = now} le s = record { spends = spends_wider n 3 old now s.spends le; traced = s.traced }
+pub set_up_spent : {a : Attempt} {n : ℕ} {old now : World} {first text : Option (List ℕ)} → n ≤ 3
+    → SetUpStands a n old first now text → StepRun 3 old first now text
+set_up_spent {n = n} {old = old} {now = now} le s =
+    record { spends = spends_wider n 3 old now s.spends le; traced = s.traced }
 
 -- How many attempts came before each answer
 
@@ -243,38 +332,60 @@ record Lasted (n : ℕ) (old new : World) : Type 0 where
   least : old.attempts + n ≤ new.attempts
   sound : new.fault ≡ None → old.fault ≡ None
 
-trail_lasted : {a : Attempt} {old new : World} {outcomes : List Outcome} → AttemptLog a old outcomes new → Lasted (length outcomes) old new
+trail_lasted : {a : Attempt} {old new : World} {outcomes : List Outcome}
+    → AttemptLog a old outcomes new → Lasted (length outcomes) old new
 trail_lasted start = record { least = omega arith; sound = λ e. e }
-trail_lasted (next w t made) = let x = trail_lasted t in record { least = omega (arith, x.least, made.one); sound = λ _. x.sound made.sound }
+trail_lasted (next w t made) = let x = trail_lasted t in
+    record { least = omega (arith, x.least, made.one); sound = λ _. x.sound made.sound }
 
-trail_worked : {a : Attempt} {old new : World} {last : Outcome} {outcomes : List Outcome} (n : ℕ) → n ≤ length (last ∷ outcomes) → AttemptLog a old (last ∷ outcomes) new → AttemptsMade n old new
-trail_worked n le (next w t made) = let x = trail_lasted t in record { sound = x.sound made.sound; least = omega (arith, x.least, made.one, le); still = made.still }
+trail_worked : {a : Attempt} {old new : World} {last : Outcome} {outcomes : List Outcome} (n : ℕ)
+    → n ≤ length (last ∷ outcomes) → AttemptLog a old (last ∷ outcomes) new → AttemptsMade n old new
+trail_worked n le (next w t made) = let x = trail_lasted t in
+    record {
+      sound = x.sound made.sound;
+      least = omega (arith, x.least, made.one, le);
+      still =
+          made.still;
+    }
 
 -- an outcome is at most one error and one wait
-one_each : (h : HeardOutcome) (n m k : ℕ) → n ≤ k → m ≤ k → (errors_with h n ≤ k + 1) × (waits_with h m ≤ k + 1)
+one_each : (h : HeardOutcome) (n m k : ℕ) → n ≤ k → m ≤ k → (errors_with h n ≤ k + 1)
+    × (waits_with h m ≤ k + 1)
 one_each h n m k x y = (grind arith, grind arith)
 
-fits_length : (hear : Outcome → HeardOutcome) (outcomes : List Outcome) → (errors_running hear outcomes ≤ length outcomes) × (waits_in hear outcomes ≤ length outcomes)
+fits_length : (hear : Outcome → HeardOutcome) (outcomes : List Outcome)
+    → (errors_running hear outcomes ≤ length outcomes) × (waits_in hear outcomes ≤ length outcomes)
 unfolding errors_running waits_in
 fits_length hear [] = (omega arith, omega arith)
-fits_length hear (o ∷ outcomes) = let le = fits_length hear outcomes in let one = one_each (hear o) _ _ (length outcomes) le.0 le.1 in (omega (arith, one.0), omega (arith, one.1))
+fits_length hear (o ∷ outcomes) = let le = fits_length hear outcomes in let one =
+    one_each (hear o) _ _ (length outcomes) le.0 le.1 in
+    (omega (arith, one.0), omega (arith, one.1))
 
 module _ (hear : Outcome → HeardOutcome) (a : Attempt) (old new : World) where
-  pub ends_of : (result : Result (List ℕ) TransFault) → Transacted hear a old result new → Ends old result new
+  pub ends_of : (result : Result (List ℕ) TransFault) → Transacted hear a old result new
+      → Ends old result new
   ends_of (Ok bytes) x = trail_worked 1 (omega arith) x.trail
   ends_of (Err Stalled) x = trail_worked 1 (omega arith) x.trail
-  ends_of (Err Busy) x = trail_worked 256 (let le = (fits_length hear (x.last ∷ x.outcomes)).1 in omega (arith, le, x.tells)) x.trail
-  ends_of (Err NoAnswer) x = trail_worked 3 (let le = (fits_length hear (x.last ∷ x.outcomes)).0 in omega (arith, le, x.tells)) x.trail
+  ends_of (Err Busy) x = trail_worked 256 (let le = (fits_length hear (x.last ∷ x.outcomes)).1 in
+      omega (arith, le, x.tells)) x.trail
+  ends_of (Err NoAnswer) x = trail_worked 3 (let le = (fits_length hear (x.last ∷ x.outcomes)).0 in
+      omega (arith, le, x.tells)) x.trail
   ends_of (Err (Bus fault)) x = x.refused.ends
 
-pub poll_ends : (toggle : Toggle) (a : Attempt) (old new : World) (result : Result (Option (List ℕ)) TransFault) → Polled toggle a old result new → Ends old result new
+pub poll_ends : (toggle : Toggle) (a : Attempt) (old new : World)
+    (result : Result (Option (List ℕ)) TransFault) → Polled toggle a old result new
+    → Ends old result new
 poll_ends toggle a old new (Ok None) x = trail_worked 1 (omega arith) x.trail
 poll_ends toggle a old new (Ok (Some bytes)) x = ends_of (polled_as toggle) a old new (Ok bytes) x
 poll_ends toggle a old new (Err Stalled) x = ends_of (polled_as toggle) a old new (Err Stalled) x
 poll_ends toggle a old new (Err Busy) x = ends_of (polled_as toggle) a old new (Err Busy) x
 poll_ends toggle a old new (Err NoAnswer) x = ends_of (polled_as toggle) a old new (Err NoAnswer) x
-poll_ends toggle a old new (Err (Bus fault)) x = ends_of (polled_as toggle) a old new (Err (Bus fault)) x
+poll_ends toggle a old new (Err (Bus fault)) x =
+    ends_of (polled_as toggle) a old new (Err (Bus fault)) x
 
 -- data that were read fit
-pub read_fits : {a : Attempt} (toggle : Toggle) (o : Outcome) (bytes : ArrayVec ℕ) {mid new : World} {before now : Option (List ℕ)} → Moved bytes ≡ heard_as toggle o → Attempts a mid before (Ok o) new now → length bytes.items ≤ a.max
-read_fits {a} toggle o bytes e made = subst (λ x. FitsMaximum a.max x) (heard_moved toggle o bytes e) made.counts.fits
+pub read_fits : {a : Attempt} (toggle : Toggle) (o : Outcome) (bytes : ArrayVec ℕ) {mid new : World}
+    {before now : Option (List ℕ)} → Moved bytes ≡ heard_as toggle o
+    → Attempts a mid before (Ok o) new now → length bytes.items ≤ a.max
+read_fits {a} toggle o bytes e made = subst (λ x. FitsMaximum a.max x)
+    (heard_moved toggle o bytes e) made.counts.fits

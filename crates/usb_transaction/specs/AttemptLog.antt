@@ -1,5 +1,7 @@
--- What a transaction attempted, what the host got of it, and what each answer says of that (8.5, 8.6).
-use Rattle.std.specs.Prelude.{◌≡◌, ℕ, ◌+◌, ◌<◌, List, [], ◌∷◌, Option, Some, None, Result, Ok, Err, ⊤}
+-- What a transaction attempted, what the host got of it, and what each answer says of that (8.5,
+-- 8.6).
+use Rattle.std.specs.Prelude.{◌≡◌, ℕ, ◌+◌, ◌<◌, List, [], ◌∷◌, Option, Some, None, Result, Ok, Err}
+use Rattle.std.specs.Prelude.{⊤}
 use Rattle.usb_world.specs.declared.types.Attempt.{Attempt}
 use Rattle.usb_world.specs.declared.types.BusFault.{BusFault}
 use Rattle.usb_world.specs.declared.types.Outcome.{Outcome}
@@ -8,16 +10,21 @@ use Rattle.usb_world.specs.World.{World, Made, Attempted, IsAttempt}
 use Rattle.usb_world.specs.Steps.{attempt, after, outcome_in, AttemptFails}
 use Rattle.usb_packet.specs.declared.Toggle.{Toggle}
 use Rattle.usb_transaction.specs.declared.heard_outcome.HeardOutcome.{HeardOutcome}
-use Rattle.usb_transaction.specs.declared.heard_outcome.HeardOutcome.TheVariants.{Moved, NotReady, Repeat, Refused, Lost}
+use Rattle.usb_transaction.specs.declared.heard_outcome.HeardOutcome.TheVariants.{Moved, NotReady}
+use Rattle.usb_transaction.specs.declared.heard_outcome.HeardOutcome.TheVariants.{Repeat, Refused}
+use Rattle.usb_transaction.specs.declared.heard_outcome.HeardOutcome.TheVariants.{Lost}
 use Rattle.usb_transaction.specs.declared.fault.TransFault.{TransFault}
-use Rattle.usb_transaction.specs.declared.fault.TransFault.TheVariants.{Stalled, Busy, NoAnswer, Bus}
+use Rattle.usb_transaction.specs.declared.fault.TransFault.TheVariants.{Stalled, Busy, NoAnswer}
+use Rattle.usb_transaction.specs.declared.fault.TransFault.TheVariants.{Bus}
 use Rattle.usb_transaction.specs.HeardOutcomes.{polled_as}
 use Rattle.usb_transaction.specs.Transactions.{packed, error_limit, wait_limit}
 
 -- the same attempt was made again and again, and this is what the host got, the last of it first
 pub data AttemptLog (a : Attempt) (old : World) : List Outcome → World → Type 0 where
   start : AttemptLog a old [] old
-  next : {outcomes : List Outcome} (w : World) → AttemptLog a old outcomes w → Made w (after (attempt a) w) → AttemptLog a old (outcome_in a w ∷ outcomes) (after (attempt a) w)
+  next : {outcomes : List Outcome} (w : World) → AttemptLog a old outcomes w
+      → Made w (after (attempt a) w) → AttemptLog a old (outcome_in a w ∷ outcomes)
+      (after (attempt a) w)
 
 -- an error is one more of those running; anything else ends their row
 abbrev pub errors_with : HeardOutcome → ℕ → ℕ
@@ -53,13 +60,17 @@ IsNoEnd Repeat = ⊤
 IsNoEnd Refused = ⊥
 IsNoEnd Lost = ⊤
 
--- the transaction goes on over these: nothing ended it, never did too many errors run, and there were fewer waits than end it
+-- the transaction goes on over these: nothing ended it, never did too many errors run, and there
+-- were fewer waits than end it
 unfoldable pub KeepsTrying : (Outcome → HeardOutcome) → List Outcome → Type 0
 KeepsTrying hear [] = ⊤
-KeepsTrying hear (o ∷ outcomes) = IsNoEnd (hear o) × (errors_running hear (o ∷ outcomes) < error_limit) × (waits_in hear (o ∷ outcomes) < wait_limit) × KeepsTrying hear outcomes
+KeepsTrying hear (o ∷ outcomes) = IsNoEnd (hear o)
+    × (errors_running hear (o ∷ outcomes) < error_limit)
+    × (waits_in hear (o ∷ outcomes) < wait_limit) × KeepsTrying hear outcomes
 
 -- what an answer says of the last outcome, and of those before it
-abbrev pub LastOutcome : (Outcome → HeardOutcome) → Result (List ℕ) TransFault → Outcome → List Outcome → Type 0
+abbrev pub LastOutcome : (Outcome → HeardOutcome) → Result (List ℕ) TransFault → Outcome
+    → List Outcome → Type 0
 LastOutcome hear (Ok bytes) last outcomes = hear last ≡ Moved (packed bytes)
 LastOutcome hear (Err Stalled) last outcomes = last ≡ Stall
 LastOutcome hear (Err Busy) last outcomes = waits_in hear (last ∷ outcomes) ≡ wait_limit
@@ -67,7 +78,8 @@ LastOutcome hear (Err NoAnswer) last outcomes = errors_running hear (last ∷ ou
 LastOutcome hear (Err (Bus fault)) last outcomes = ⊥
 
 -- the transaction went on until its last outcome, which the answer tells
-pub record TransactionDone (hear : Outcome → HeardOutcome) (a : Attempt) (old : World) (result : Result (List ℕ) TransFault) (new : World) : Type 0 where
+pub record TransactionDone (hear : Outcome → HeardOutcome) (a : Attempt) (old : World)
+    (result : Result (List ℕ) TransFault) (new : World) : Type 0 where
   pub outcomes : List Outcome
   pub last : Outcome
   pub trail : AttemptLog a old (last ∷ outcomes) new
@@ -75,7 +87,8 @@ pub record TransactionDone (hear : Outcome → HeardOutcome) (a : Attempt) (old 
   pub tells : LastOutcome hear result last outcomes
 
 -- it went on until the bus refused one more attempt
-pub record BusFailed (hear : Outcome → HeardOutcome) (a : Attempt) (old : World) (fault : BusFault) (new : World) : Type 0 where
+pub record BusFailed (hear : Outcome → HeardOutcome) (a : Attempt) (old : World) (fault : BusFault)
+    (new : World) : Type 0 where
   pub outcomes : List Outcome
   pub mid : World
   pub trail : AttemptLog a old outcomes mid
@@ -84,8 +97,10 @@ pub record BusFailed (hear : Outcome → HeardOutcome) (a : Attempt) (old : Worl
   pub refused : Attempted a mid (Err fault) new
   pub fails : mid.fault ≡ None → AttemptFails a mid (Err fault) new
 
--- a transaction of one attempt that is made until an end, to a host that hears outcomes as `hear` says
-abbrev pub Transacted : (Outcome → HeardOutcome) → Attempt → World → Result (List ℕ) TransFault → World → Type 0
+-- a transaction of one attempt that is made until an end, to a host that hears outcomes as `hear`
+-- says
+abbrev pub Transacted : (Outcome → HeardOutcome) → Attempt → World → Result (List ℕ) TransFault
+    → World → Type 0
 Transacted hear a old (Ok bytes) new = TransactionDone hear a old (Ok bytes) new
 Transacted hear a old (Err Stalled) new = TransactionDone hear a old (Err Stalled) new
 Transacted hear a old (Err Busy) new = TransactionDone hear a old (Err Busy) new

@@ -13,7 +13,8 @@ abbrev pub IsOnly : Attempt → Step → World → Type 0
 IsOnly a s w = s ≡ attempt a
 
 -- steps of a kind, and then one more attempt of that kind, which the bus refused
-pub record GivenUp (K : Step → World → Type 0) (old : World) (fault : BusFault) (new : World) : Type 0 where
+pub record GivenUp (K : Step → World → Type 0) (old : World) (fault : BusFault) (new : World) :
+    Type 0 where
   pub mid : World
   pub course : Course K old mid
   pub last : Attempt
@@ -23,6 +24,7 @@ pub record GivenUp (K : Step → World → Type 0) (old : World) (fault : BusFau
   pub fails : mid.fault ≡ None → AttemptFails last mid (Err fault) new
 
 -- each attempt of a transaction is of a kind; where the bus gave up, so is the one that it refused
-pub record TransactionAttempts {A : Type 0} (K : Step → World → Type 0) (old : World) (result : Result A TransFault) (new : World) : Type 0 where
+pub record TransactionAttempts {A : Type 0} (K : Step → World → Type 0) (old : World)
+    (result : Result A TransFault) (new : World) : Type 0 where
   pub whole : IsNotOfBus result → Course K old new
   pub cut : (fault : BusFault) → result ≡ Err (Bus fault) → GivenUp K old fault new

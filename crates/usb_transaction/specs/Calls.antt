@@ -1,6 +1,8 @@
--- What each call tells: what was heard, what it leaves of each device, why it failed and who answered.
+-- What each call tells: what was heard, what it leaves of each device, why it failed and who
+-- answered.
 use Rattle.usb_device.specs.Tree.{Location}
-use Rattle.std.specs.Prelude.{◌≡◌, ◌≢◌, ◌≤◌, ℕ, List, [], length, false, Option, Result, Ok, Err, IfOk, IfSome, OnOk, ⊤}
+use Rattle.std.specs.Prelude.{◌≡◌, ◌≢◌, ◌≤◌, ℕ, List, [], length, false, Option, Result, Ok, Err}
+use Rattle.std.specs.Prelude.{IfOk, IfSome, OnOk, ⊤}
 use Rattle.usb_packet.specs.declared.Toggle.{Toggle}
 use Rattle.usb_packet.specs.declared.Toggle.TheVariants.{One}
 use Rattle.usb_request.specs.Layout.{setup_of}
@@ -12,26 +14,33 @@ use Rattle.usb_world.specs.Steps.{Course}
 use Rattle.usb_world.specs.World.{World}
 use Rattle.usb_transaction.specs.declared.target.Target.{Target}
 use Rattle.usb_transaction.specs.declared.fault.TransFault.{TransFault}
-use Rattle.usb_transaction.specs.declared.fault.TransFault.TheVariants.{Stalled, Busy, NoAnswer, Bus}
+use Rattle.usb_transaction.specs.declared.fault.TransFault.TheVariants.{Stalled, Busy, NoAnswer}
+use Rattle.usb_transaction.specs.declared.fault.TransFault.TheVariants.{Bus}
 use Rattle.usb_transaction.specs.Answerer.{Answerer}
 use Rattle.usb_transaction.specs.HeardOutcomes.{heard_as, heard_when_sent, set_up_as}
 use Rattle.usb_transaction.specs.AskedDevices.{SetupAccepted, Answered, Took, IsUnheard}
-use Rattle.usb_transaction.specs.Leaves.{IsNotOfBus, ControlIn, ReadStatus, SourceIn, SinkOut, ChangesIn, SetupDone}
+use Rattle.usb_transaction.specs.Leaves.{IsNotOfBus, ControlIn, ReadStatus, SourceIn, SinkOut}
+use Rattle.usb_transaction.specs.Leaves.{ChangesIn, SetupDone}
 use Rattle.usb_transaction.specs.SparedDevices.{EachSpared}
 use Rattle.usb_transaction.specs.AttemptLog.{Transacted, Polled}
-use Rattle.usb_transaction.specs.Transactions.{Ends, SetupEnds, packed, setup_attempt, in_attempt, out_attempt}
-use Rattle.usb_transaction.specs.Failures.{NoThreeDamaged, SetupFailure, ControlInFailure, StatusReadFailure, SourceInFailure, SinkOutFailure, PollFailure}
+use Rattle.usb_transaction.specs.Transactions.{Ends, SetupEnds, packed, setup_attempt, in_attempt}
+use Rattle.usb_transaction.specs.Transactions.{out_attempt}
+use Rattle.usb_transaction.specs.Failures.{NoThreeDamaged, SetupFailure, ControlInFailure}
+use Rattle.usb_transaction.specs.Failures.{StatusReadFailure, SourceInFailure, SinkOutFailure}
+use Rattle.usb_transaction.specs.Failures.{PollFailure}
 
 -- nothing but the device hindered a call: no three attempts running are damaged, the bus did not
 -- give up, and no address was ever held twice
-pub record IsUnhindered {A : Type 0} (old : World) (result : Result A TransFault) (new : World) : Type 0 where
+pub record IsUnhindered {A : Type 0} (old : World) (result : Result A TransFault) (new : World) :
+    Type 0 where
   pub few : NoThreeDamaged old
   pub whole : IsNotOfBus result
   pub single : new.shared ≡ false
 
 -- SETUP (8.5.3)
 
--- what an answer to setup data says of those who held the address: where they were acknowledged, the one device took them; where
+-- what an answer to setup data says of those who held the address: where they were acknowledged,
+-- the one device took them; where
 -- none was, whoever held it was out of hearing, or the attempt was damaged
 abbrev pub MeansOfSetup : Target → List ℕ → World → Result (List ℕ) TransFault → World → Type 0
 MeansOfSetup t bytes old (Ok done) new = new.shared ≡ false → SetupAccepted t bytes old new
@@ -40,34 +49,44 @@ MeansOfSetup t bytes old (Err Busy) new = ⊤
 MeansOfSetup t bytes old (Err NoAnswer) new = Course IsUnheard old new
 MeansOfSetup t bytes old (Err (Bus fault)) new = ⊤
 
-pub record SetsUp (t : Target) (bytes : List ℕ) (old : World) (result : Result (List ℕ) TransFault) (new : World) : Type 0 where
+pub record SetsUp (t : Target) (bytes : List ℕ) (old : World) (result : Result (List ℕ) TransFault)
+    (new : World) : Type 0 where
   pub heard : Transacted set_up_as (setup_attempt t bytes) old result new
   pub ends : SetupEnds old result new
   pub nothing : IfOk result (λ done. done ≡ [])
-  pub what : new.shared ≡ false → EachSpared t (setup_of bytes) (SetupDone t bytes result old new) old new
-  pub why : IsUnhindered old result new → EachSpared t (setup_of bytes) (SetupFailure t result) old new
-  pub who : OnOk result ((is_harmless (setup_of bytes) ≡ false → t.addr ≢ 0) → new.shared ≡ false → Answerer t old new)
+  pub what : new.shared ≡ false → EachSpared t (setup_of bytes) (SetupDone t bytes result old new)
+      old new
+  pub why : IsUnhindered old result new → EachSpared t (setup_of bytes) (SetupFailure t result) old
+      new
+  pub who : OnOk result ((is_harmless (setup_of bytes) ≡ false → t.addr ≢ 0) → new.shared ≡ false
+      → Answerer t old new)
   pub means : MeansOfSetup t bytes old result new
 
 -- IN, of endpoint 0 or of a bulk endpoint
 
-pub record InLeaves (t : Target) (ep : ℕ) (awaited : Toggle) (result : Result (List ℕ) TransFault) (x : Location) (s v : State) : Type 0 where
+pub record InLeaves (t : Target) (ep : ℕ) (awaited : Toggle) (result : Result (List ℕ) TransFault)
+    (x : Location) (s v : State) : Type 0 where
   pub control : ep ≡ 0 → ControlIn t awaited result x s v
   pub bulk : SourceIn t ep awaited result x s v
 
-pub record InFailure (t : Target) (ep : ℕ) (awaited : Toggle) (result : Result (List ℕ) TransFault) (x : Location) (s v : State) : Type 0 where
+pub record InFailure (t : Target) (ep : ℕ) (awaited : Toggle) (result : Result (List ℕ) TransFault)
+    (x : Location) (s v : State) : Type 0 where
   pub control : ep ≡ 0 → ControlInFailure t awaited result x s v
   pub bulk : SourceInFailure t ep awaited result x s v
 
--- data that came were given by the one device that held the address, and a STALL was its own (8.5.2)
+-- data that came were given by the one device that held the address, and a STALL was its own
+-- (8.5.2)
 abbrev pub MeansOfIn : Target → ℕ → Toggle → World → Result (List ℕ) TransFault → World → Type 0
-MeansOfIn t ep awaited old (Ok bytes) new = new.shared ≡ false → Answered t ep (answer.Data awaited (packed bytes)) old new
-MeansOfIn t ep awaited old (Err Stalled) new = new.shared ≡ false → Answered t ep answer.Stall old new
+MeansOfIn t ep awaited old (Ok bytes) new = new.shared ≡ false
+    → Answered t ep (answer.Data awaited (packed bytes)) old new
+MeansOfIn t ep awaited old (Err Stalled) new = new.shared ≡ false
+    → Answered t ep answer.Stall old new
 MeansOfIn t ep awaited old (Err Busy) new = ⊤
 MeansOfIn t ep awaited old (Err NoAnswer) new = ⊤
 MeansOfIn t ep awaited old (Err (Bus fault)) new = ⊤
 
-pub record AsksIn (t : Target) (ep : ℕ) (awaited : Toggle) (old : World) (result : Result (List ℕ) TransFault) (new : World) : Type 0 where
+pub record AsksIn (t : Target) (ep : ℕ) (awaited : Toggle) (old : World)
+    (result : Result (List ℕ) TransFault) (new : World) : Type 0 where
   pub heard : Transacted (heard_as awaited) (in_attempt t ep) old result new
   pub ends : Ends old result new
   pub short : IfOk result (λ bytes. length bytes ≤ t.max)
@@ -78,23 +97,30 @@ pub record AsksIn (t : Target) (ep : ℕ) (awaited : Toggle) (old : World) (resu
 
 -- OUT: of endpoint 0 the one that ends a control read, or of a bulk endpoint
 
-pub record OutLeaves (t : Target) (ep : ℕ) (toggle : Toggle) (bytes : List ℕ) (result : Result (List ℕ) TransFault) (x : Location) (s v : State) : Type 0 where
+pub record OutLeaves (t : Target) (ep : ℕ) (toggle : Toggle) (bytes : List ℕ)
+    (result : Result (List ℕ) TransFault) (x : Location) (s v : State) : Type 0 where
   pub control : ep ≡ 0 → toggle ≡ One → bytes ≡ [] → ReadStatus t result x s v
   pub bulk : SinkOut t ep toggle bytes result x s v
 
-pub record OutFailure (t : Target) (ep : ℕ) (toggle : Toggle) (bytes : List ℕ) (result : Result (List ℕ) TransFault) (x : Location) (s v : State) : Type 0 where
+pub record OutFailure (t : Target) (ep : ℕ) (toggle : Toggle) (bytes : List ℕ)
+    (result : Result (List ℕ) TransFault) (x : Location) (s v : State) : Type 0 where
   pub control : ep ≡ 0 → toggle ≡ One → bytes ≡ [] → StatusReadFailure t result x s v
   pub bulk : SinkOutFailure t ep toggle bytes result x s v
 
--- data that were acknowledged were taken by the one device that held the address, and a STALL was its own (8.5.2)
-abbrev pub MeansOfOut : Target → ℕ → Toggle → List ℕ → World → Result (List ℕ) TransFault → World → Type 0
-MeansOfOut t ep toggle bytes old (Ok done) new = new.shared ≡ false → Took t ep toggle bytes answer.Ack old new
-MeansOfOut t ep toggle bytes old (Err Stalled) new = new.shared ≡ false → Took t ep toggle bytes answer.Stall old new
+-- data that were acknowledged were taken by the one device that held the address, and a STALL was
+-- its own (8.5.2)
+abbrev pub MeansOfOut : Target → ℕ → Toggle → List ℕ → World → Result (List ℕ) TransFault → World
+    → Type 0
+MeansOfOut t ep toggle bytes old (Ok done) new = new.shared ≡ false
+    → Took t ep toggle bytes answer.Ack old new
+MeansOfOut t ep toggle bytes old (Err Stalled) new = new.shared ≡ false
+    → Took t ep toggle bytes answer.Stall old new
 MeansOfOut t ep toggle bytes old (Err Busy) new = ⊤
 MeansOfOut t ep toggle bytes old (Err NoAnswer) new = ⊤
 MeansOfOut t ep toggle bytes old (Err (Bus fault)) new = ⊤
 
-pub record SendsOut (t : Target) (ep : ℕ) (toggle : Toggle) (bytes : List ℕ) (old : World) (result : Result (List ℕ) TransFault) (new : World) : Type 0 where
+pub record SendsOut (t : Target) (ep : ℕ) (toggle : Toggle) (bytes : List ℕ) (old : World)
+    (result : Result (List ℕ) TransFault) (new : World) : Type 0 where
   pub heard : Transacted heard_when_sent (out_attempt t ep toggle bytes) old result new
   pub ends : Ends old result new
   pub nothing : IfOk result (λ done. done ≡ [])
@@ -105,7 +131,8 @@ pub record SendsOut (t : Target) (ep : ℕ) (toggle : Toggle) (bytes : List ℕ)
 
 -- a poll of a hub's status endpoint, which is its endpoint 1 (11.12.3), or of another
 
-pub record PollsIn (t : Target) (ep : ℕ) (toggle : Toggle) (old : World) (result : Result (Option (List ℕ)) TransFault) (new : World) : Type 0 where
+pub record PollsIn (t : Target) (ep : ℕ) (toggle : Toggle) (old : World)
+    (result : Result (Option (List ℕ)) TransFault) (new : World) : Type 0 where
   pub heard : Polled toggle (in_attempt t ep) old result new
   pub ends : Ends old result new
   pub short : IfOk result (λ got. IfSome got (λ bytes. length bytes ≤ t.max))

@@ -1,6 +1,7 @@
 -- Why a transaction fails, where no three attempts running are damaged.
 use Rattle.usb_device.specs.Tree.{Location}
-use Rattle.std.specs.Prelude.{◌≡◌, ◌≢◌, ℕ, ◌≤◌, ◌<◌, List, length, true, false, Option, Some, is_some, Result, Err}
+use Rattle.std.specs.Prelude.{◌≡◌, ◌≢◌, ℕ, ◌≤◌, ◌<◌, List, length, true, false, Option, Some}
+use Rattle.std.specs.Prelude.{is_some, Result, Err}
 use Rattle.usb_packet.specs.declared.Toggle.{Toggle}
 use Rattle.usb_packet.specs.declared.Toggle.TheVariants.{One}
 use Rattle.usb_device.specs.Bulk.{tells_changes}
@@ -29,40 +30,56 @@ pub record Listens (t : Target) (x : Location) (s : State) : Type 0 where
 
 -- each packet of the answer is as short as the host wants packets
 abbrev pub Fits : Target → ℕ → ℕ → List ℕ → Type 0
-Fits t most wanted answer = (k : ℕ) (bytes : List ℕ) → packet_at most wanted answer k ≡ Some bytes → length bytes ≤ t.max
+Fits t most wanted answer = (k : ℕ) (bytes : List ℕ) → packet_at most wanted answer k ≡ Some bytes
+    → length bytes ≤ t.max
 
--- what the device has for a host that awaits this toggle of endpoint 0: the next packet of a read, a status stage, or a refusal
+-- what the device has for a host that awaits this toggle of endpoint 0: the next packet of a read,
+-- a status stage, or a refusal
 pub data HasNext (t : Target) (awaited : Toggle) (s : State) : Type 0 where
-  data_stage : (answer : List ℕ) (wanted n : ℕ) → awaited ≡ toggle_at n → ReadingAt answer wanted n s → is_some (packet_at (max_packet s.spec) wanted answer n) ≡ true
+  data_stage : (answer : List ℕ) (wanted n : ℕ) → awaited ≡ toggle_at n
+      → ReadingAt answer wanted n s → is_some (packet_at (max_packet s.spec) wanted answer n) ≡ true
       → Fits t (max_packet s.spec) wanted answer → HasNext t awaited s
   status : (a : Option ℕ) → s.stage ≡ ending a → awaited ≡ One → HasNext t awaited s
   refusal : s.stage ≡ refused → HasNext t awaited s
 
 -- setup data: a device that hears them answers
-pub record SetupFailure (t : Target) (result : Result (List ℕ) TransFault) (x : Location) (s v : State) : Type 0 where
+pub record SetupFailure (t : Target) (result : Result (List ℕ) TransFault) (x : Location)
+    (s v : State) : Type 0 where
   pub answered : Listens t x s → result ≢ Err NoAnswer
 
 -- a device that has it answers, and only a busy one goes on waiting
-pub record ControlInFailure (t : Target) (awaited : Toggle) (result : Result (List ℕ) TransFault) (x : Location) (s v : State) : Type 0 where
+pub record ControlInFailure (t : Target) (awaited : Toggle) (result : Result (List ℕ) TransFault)
+    (x : Location) (s v : State) : Type 0 where
   pub answered : Listens t x s → HasNext t awaited s → result ≢ Err NoAnswer
-  pub waited : Listens t x s → HasNext t awaited s → s.spec.busy ≡ false → s.naks ≤ 200 → result ≢ Err Busy
+  pub waited : Listens t x s → HasNext t awaited s → s.spec.busy ≡ false → s.naks ≤ 200
+      → result ≢ Err Busy
 
 -- the status stage of a control read
-pub record StatusReadFailure (t : Target) (result : Result (List ℕ) TransFault) (x : Location) (s v : State) : Type 0 where
+pub record StatusReadFailure (t : Target) (result : Result (List ℕ) TransFault) (x : Location)
+    (s v : State) : Type 0 where
   pub answered : Listens t x s → IsInRead s → result ≢ Err NoAnswer
   pub waited : Listens t x s → IsInRead s → s.spec.busy ≡ false → s.naks ≤ 200 → result ≢ Err Busy
 
--- bulk IN: an endpoint answers; where it has bytes left, or is halted, it does not keep the host waiting
-pub record SourceInFailure (t : Target) (ep : ℕ) (awaited : Toggle) (result : Result (List ℕ) TransFault) (x : Location) (s v : State) : Type 0 where
-  pub answered : Listens t x s → (most got : ℕ) → IsSource ep most s → SourceAt most got awaited s → most ≤ t.max → result ≢ Err NoAnswer
-  pub waited : Listens t x s → (most got : ℕ) → IsSource ep most s → 1 ≤ most → SourceAt most got awaited s → most ≤ t.max → got < length s.spec.source → result ≢ Err Busy
-  pub halted : Listens t x s → (most : ℕ) → IsSource ep most s → s.bulk_in.halted ≡ true → (result ≢ Err NoAnswer) × (result ≢ Err Busy)
+-- bulk IN: an endpoint answers; where it has bytes left, or is halted, it does not keep the host
+-- waiting
+pub record SourceInFailure (t : Target) (ep : ℕ) (awaited : Toggle)
+    (result : Result (List ℕ) TransFault) (x : Location) (s v : State) : Type 0 where
+  pub answered : Listens t x s → (most got : ℕ) → IsSource ep most s → SourceAt most got awaited s
+      → most ≤ t.max → result ≢ Err NoAnswer
+  pub waited : Listens t x s → (most got : ℕ) → IsSource ep most s → 1 ≤ most
+      → SourceAt most got awaited s → most ≤ t.max → got < length s.spec.source → result ≢ Err Busy
+  pub halted : Listens t x s → (most : ℕ) → IsSource ep most s → s.bulk_in.halted ≡ true
+      → (result ≢ Err NoAnswer) × (result ≢ Err Busy)
 
 -- bulk OUT: an endpoint answers and never waits
-pub record SinkOutFailure (t : Target) (ep : ℕ) (toggle : Toggle) (bytes : List ℕ) (result : Result (List ℕ) TransFault) (x : Location) (s v : State) : Type 0 where
-  pub answered : Listens t x s → (most : ℕ) → IsSink ep most s → length bytes ≤ most → result ≢ Err NoAnswer
+pub record SinkOutFailure (t : Target) (ep : ℕ) (toggle : Toggle) (bytes : List ℕ)
+    (result : Result (List ℕ) TransFault) (x : Location) (s v : State) : Type 0 where
+  pub answered : Listens t x s → (most : ℕ) → IsSink ep most s → length bytes ≤ most
+      → result ≢ Err NoAnswer
   pub waited : Listens t x s → (most : ℕ) → IsSink ep most s → result ≢ Err Busy
 
 -- a hub's status endpoint that is not halted gives a byte, or says that there is none
-pub record PollFailure (t : Target) (toggle : Toggle) (result : Result (Option (List ℕ)) TransFault) (x : Location) (s v : State) : Type 0 where
-  pub answered : Listens t x s → tells_changes s.spec s.registers ≡ true → PollAt NeverTold toggle s → s.changes.halted ≡ false → (fault : TransFault) → result ≡ Err fault → ⊥
+pub record PollFailure (t : Target) (toggle : Toggle) (result : Result (Option (List ℕ)) TransFault)
+    (x : Location) (s v : State) : Type 0 where
+  pub answered : Listens t x s → tells_changes s.spec s.registers ≡ true → PollAt NeverTold toggle s
+      → s.changes.halted ≡ false → (fault : TransFault) → result ≡ Err fault → ⊥

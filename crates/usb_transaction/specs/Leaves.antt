@@ -1,5 +1,6 @@
 -- One device over a transaction: what it was before, seen from where it is reachable after it.
-use Rattle.std.specs.Prelude.{◌≡◌, ◌≢◌, ◌⊎◌, ◌==◌, ◌≤◌, ℕ, ◌+◌, List, length, Bool, true, false, Option, None, Some, Result, Ok, Err, ⊤}
+use Rattle.std.specs.Prelude.{◌≡◌, ◌≢◌, ◌⊎◌, ◌==◌, ◌≤◌, ℕ, ◌+◌, List, length, Bool, true, false}
+use Rattle.std.specs.Prelude.{Option, None, Some, Result, Ok, Err, ⊤}
 use Rattle.usb_packet.specs.declared.Toggle.{Toggle}
 use Rattle.usb_packet.specs.declared.Toggle.TheVariants.{One}
 use Rattle.usb_port.specs.PortState.{PortState}
@@ -11,7 +12,10 @@ use Rattle.usb_device.specs.Effect.{asked_by_setup}
 use Rattle.usb_device.specs.Rows.{State, accepted}
 use Rattle.usb_device.specs.Transfer.{ending, reading, refused as stage_refused, toggle_at}
 use Rattle.usb_device.specs.Tree.{Ports, full, acted, row_of, Location, place_on}
-use Rattle.usb_device.specs.Progress.{ReadingAt, ReadOn, StatusOn, StatusGiven, IsRead, IsSource, SourceAt, SourceOn, IsSink, SinkAt, Joined, PollAt, NeverTold, ToldByte, OnlyControl, OnlyStage, OnlySource, OnlySink, OnlyChanges}
+use Rattle.usb_device.specs.Progress.{ReadingAt, ReadOn, StatusOn, StatusGiven, IsRead, IsSource}
+use Rattle.usb_device.specs.Progress.{SourceAt, SourceOn, IsSink, SinkAt, Joined, PollAt, NeverTold}
+use Rattle.usb_device.specs.Progress.{ToldByte, OnlyControl, OnlyStage, OnlySource, OnlySink}
+use Rattle.usb_device.specs.Progress.{OnlyChanges}
 use Rattle.usb_world.specs.declared.types.Attempt.{Attempt}
 use Rattle.usb_world.specs.declared.types.Outcome.{Outcome}
 use Rattle.usb_tree.specs.Paths.{address_of}
@@ -20,7 +24,8 @@ use Rattle.usb_world.specs.OneHolder.{HolderIn}
 use Rattle.usb_world.specs.Steps.{at_attempt, attempt, after}
 use Rattle.usb_transaction.specs.declared.target.Target.{Target}
 use Rattle.usb_transaction.specs.declared.fault.TransFault.{TransFault}
-use Rattle.usb_transaction.specs.declared.fault.TransFault.TheVariants.{Stalled, Busy, NoAnswer, Bus}
+use Rattle.usb_transaction.specs.declared.fault.TransFault.TheVariants.{Stalled, Busy, NoAnswer}
+use Rattle.usb_transaction.specs.declared.fault.TransFault.TheVariants.{Bus}
 use Rattle.usb_transaction.specs.AttemptLog.{AttemptLog}
 use Rattle.usb_transaction.specs.Transactions.{in_attempt, setup_attempt}
 
@@ -35,7 +40,8 @@ IsNotOfBus (Err (Bus fault)) = ⊥
 abbrev pub is_at : State → Target → Bool
 is_at s t = address_of s == t.addr
 
--- a device of this description may answer endpoint 0 so: data and STALL come of none that is silent or always busy, and a wait of none that is silent
+-- a device of this description may answer endpoint 0 so: data and STALL come of none that is silent
+-- or always busy, and a wait of none that is silent
 abbrev pub CanAnswer : {A : Type 0} → Spec → Result A TransFault → Type 0
 CanAnswer spec (Ok x) = (spec.silent ≡ false) × (spec.busy ≡ false)
 CanAnswer spec (Err Stalled) = (spec.silent ≡ false) × (spec.busy ≡ false)
@@ -51,7 +57,8 @@ CanAccept spec (Err Busy) = ⊥
 CanAccept spec (Err NoAnswer) = ⊤
 CanAccept spec (Err (Bus fault)) = ⊤
 
--- where the bus gave up, the next packet came to it and was acknowledged, and the host did not get it; or none came
+-- where the bus gave up, the next packet came to it and was acknowledged, and the host did not get
+-- it; or none came
 pub data ReadCut (answer : List ℕ) (wanted n : ℕ) (v : State) : Type 0 where
   none_came : ReadingAt answer wanted n v → ReadCut answer wanted n v
   one_came : ReadingAt answer wanted (n + 1) v → ReadCut answer wanted n v
@@ -71,25 +78,32 @@ StatusEnds a s (Err NoAnswer) v = StatusOn a s None v
 StatusEnds a s (Err (Bus fault)) v = StatusGiven a s v
 
 -- IN of endpoint 0, by a host that awaits a toggle (8.5.3)
-pub record ControlIn (t : Target) (awaited : Toggle) (result : Result (List ℕ) TransFault) (x : Location) (s v : State) : Type 0 where
+pub record ControlIn (t : Target) (awaited : Toggle) (result : Result (List ℕ) TransFault)
+    (x : Location) (s v : State) : Type 0 where
   pub others : is_at s t ≡ false → v ≡ s
   pub frame : OnlyControl s v
-  pub reading : is_at s t ≡ true → (answer : List ℕ) (wanted n : ℕ) → awaited ≡ toggle_at n → ReadingAt answer wanted n s → ReadEnds answer wanted n s result v
-  pub status : is_at s t ≡ true → awaited ≡ One → (a : Option ℕ) → s.stage ≡ ending a → StatusEnds a s result v
-  pub refused : s.stage ≡ stage_refused → (v.stage ≡ stage_refused) × (is_at s t ≡ true → (bytes : List ℕ) → result ≡ Ok bytes → ⊥)
+  pub reading : is_at s t ≡ true → (answer : List ℕ) (wanted n : ℕ) → awaited ≡ toggle_at n
+      → ReadingAt answer wanted n s → ReadEnds answer wanted n s result v
+  pub status : is_at s t ≡ true → awaited ≡ One → (a : Option ℕ) → s.stage ≡ ending a
+      → StatusEnds a s result v
+  pub refused : s.stage ≡ stage_refused → (v.stage ≡ stage_refused)
+      × (is_at s t ≡ true → (bytes : List ℕ) → result ≡ Ok bytes → ⊥)
   pub rests : s.stage ≡ stage_refused → v.registers ≡ s.registers
-  pub failed : awaited ≡ One → (fault : TransFault) → result ≡ Err fault → IsNotOfBus result → v.registers ≡ s.registers
+  pub failed : awaited ≡ One → (fault : TransFault) → result ≡ Err fault → IsNotOfBus result
+      → v.registers ≡ s.registers
   pub stalled : is_at s t ≡ true → result ≡ Err Stalled → s.stage ≡ stage_refused
   pub could : is_at s t ≡ true → CanAnswer s.spec result
   pub naks : v.naks ≤ s.naks
 
 -- in the data stage or the status stage of a control read, or behind it
 pub data IsInRead (s : State) : Type 0 where
-  data_stage : (answer : List ℕ) (wanted known : ℕ) → s.stage ≡ reading answer wanted known → IsInRead s
+  data_stage : (answer : List ℕ) (wanted known : ℕ) → s.stage ≡ reading answer wanted known
+      → IsInRead s
   over : IsRead s → IsInRead s
 
 -- OUT of no bytes to endpoint 0 with DATA1, which ends a control read (8.5.3)
-pub record ReadStatus (t : Target) (result : Result (List ℕ) TransFault) (x : Location) (s v : State) : Type 0 where
+pub record ReadStatus (t : Target) (result : Result (List ℕ) TransFault) (x : Location)
+    (s v : State) : Type 0 where
   pub others : is_at s t ≡ false → v ≡ s
   pub frame : OnlyStage s v
   pub kept : (v.stage ≡ s.stage) ⊎ IsRead v
@@ -98,10 +112,12 @@ pub record ReadStatus (t : Target) (result : Result (List ℕ) TransFault) (x : 
   pub could : is_at s t ≡ true → CanAnswer s.spec result
   pub naks : v.naks ≤ s.naks
 
--- where the bus gave up, the next packet came to it and was acknowledged, and the host did not get it; or none came
+-- where the bus gave up, the next packet came to it and was acknowledged, and the host did not get
+-- it; or none came
 pub data SourceCut (most got : ℕ) (awaited : Toggle) (s v : State) : Type 0 where
   none_came : SourceAt most got awaited v → SourceCut most got awaited s v
-  one_came : SourceAt most (advanced got most (length s.spec.source)) (other awaited) v → SourceCut most got awaited s v
+  one_came : SourceAt most (advanced got most (length s.spec.source)) (other awaited) v
+      → SourceCut most got awaited s v
 
 abbrev pub SourceEnds : ℕ → ℕ → Toggle → State → Result (List ℕ) TransFault → State → Type 0
 SourceEnds most got awaited s (Ok bytes) v = SourceOn most got awaited s (Some bytes) v
@@ -111,41 +127,54 @@ SourceEnds most got awaited s (Err NoAnswer) v = SourceOn most got awaited s Non
 SourceEnds most got awaited s (Err (Bus fault)) v = SourceCut most got awaited s v
 
 -- IN of a bulk endpoint (5.8)
-pub record SourceIn (t : Target) (ep : ℕ) (awaited : Toggle) (result : Result (List ℕ) TransFault) (x : Location) (s v : State) : Type 0 where
+pub record SourceIn (t : Target) (ep : ℕ) (awaited : Toggle) (result : Result (List ℕ) TransFault)
+    (x : Location) (s v : State) : Type 0 where
   pub others : is_at s t ≡ false → v ≡ s
   pub frame : (most : ℕ) → IsSource ep most s → OnlySource s v
-  pub source : is_at s t ≡ true → (most got : ℕ) → IsSource ep most s → 1 ≤ most → SourceAt most got awaited s → SourceEnds most got awaited s result v
-  pub stalled : is_at s t ≡ true → (most : ℕ) → IsSource ep most s → result ≡ Err Stalled → (s.bulk_in.halted ≡ true) × (v ≡ s)
-  pub halted : is_at s t ≡ true → (most : ℕ) → IsSource ep most s → s.bulk_in.halted ≡ true → (v ≡ s) × ((bytes : List ℕ) → result ≡ Ok bytes → ⊥)
+  pub source : is_at s t ≡ true → (most got : ℕ) → IsSource ep most s → 1 ≤ most
+      → SourceAt most got awaited s → SourceEnds most got awaited s result v
+  pub stalled : is_at s t ≡ true → (most : ℕ) → IsSource ep most s → result ≡ Err Stalled
+      → (s.bulk_in.halted ≡ true) × (v ≡ s)
+  pub halted : is_at s t ≡ true → (most : ℕ) → IsSource ep most s → s.bulk_in.halted ≡ true
+      → (v ≡ s) × ((bytes : List ℕ) → result ≡ Ok bytes → ⊥)
 
 -- between two of its attempts both ends are as far as they were
-pub record SourceBetween (t : Target) (ep : ℕ) (awaited : Toggle) (x : Location) (s v : State) : Type 0 where
+pub record SourceBetween (t : Target) (ep : ℕ) (awaited : Toggle) (x : Location) (s v : State) :
+    Type 0 where
   pub others : is_at s t ≡ false → v ≡ s
   pub frame : (most : ℕ) → IsSource ep most s → OnlySource s v
-  pub source : is_at s t ≡ true → (most got : ℕ) → IsSource ep most s → 1 ≤ most → SourceAt most got awaited s → SourceAt most got awaited v
+  pub source : is_at s t ≡ true → (most got : ℕ) → IsSource ep most s → 1 ≤ most
+      → SourceAt most got awaited s → SourceAt most got awaited v
 
 -- what an answer says of a packet that was sent to a bulk endpoint
 abbrev pub SinkEnds : List ℕ → List ℕ → Toggle → Result (List ℕ) TransFault → State → Type 0
 SinkEnds before bytes toggle (Ok done) v = Joined before bytes toggle v
-SinkEnds before bytes toggle (Err Stalled) v = SinkAt before bytes toggle v × (v.bulk_out.halted ≡ true)
+SinkEnds before bytes toggle (Err Stalled) v = SinkAt before bytes toggle v
+    × (v.bulk_out.halted ≡ true)
 SinkEnds before bytes toggle (Err Busy) v = SinkAt before bytes toggle v
 SinkEnds before bytes toggle (Err NoAnswer) v = SinkAt before bytes toggle v
 SinkEnds before bytes toggle (Err (Bus fault)) v = SinkAt before bytes toggle v
 
 -- OUT of a bulk endpoint (5.8)
-pub record SinkOut (t : Target) (ep : ℕ) (toggle : Toggle) (bytes : List ℕ) (result : Result (List ℕ) TransFault) (x : Location) (s v : State) : Type 0 where
+pub record SinkOut (t : Target) (ep : ℕ) (toggle : Toggle) (bytes : List ℕ)
+    (result : Result (List ℕ) TransFault) (x : Location) (s v : State) : Type 0 where
   pub others : is_at s t ≡ false → v ≡ s
   pub frame : (most : ℕ) → IsSink ep most s → OnlySink s v
-  pub sink : is_at s t ≡ true → (most : ℕ) (before : List ℕ) → IsSink ep most s → length bytes ≤ most → SinkAt before bytes toggle s → SinkEnds before bytes toggle result v
-  pub halted : is_at s t ≡ true → (most : ℕ) → IsSink ep most s → s.bulk_out.halted ≡ true → (v ≡ s) × ((done : List ℕ) → result ≡ Ok done → ⊥)
+  pub sink : is_at s t ≡ true → (most : ℕ) (before : List ℕ) → IsSink ep most s
+      → length bytes ≤ most → SinkAt before bytes toggle s → SinkEnds before bytes toggle result v
+  pub halted : is_at s t ≡ true → (most : ℕ) → IsSink ep most s → s.bulk_out.halted ≡ true → (v ≡ s)
+      × ((done : List ℕ) → result ≡ Ok done → ⊥)
 
 -- between two of its attempts the packet joined what the device took, or did not yet
-pub record SinkBetween (t : Target) (ep : ℕ) (toggle : Toggle) (bytes : List ℕ) (x : Location) (s v : State) : Type 0 where
+pub record SinkBetween (t : Target) (ep : ℕ) (toggle : Toggle) (bytes : List ℕ) (x : Location)
+    (s v : State) : Type 0 where
   pub others : is_at s t ≡ false → v ≡ s
   pub frame : (most : ℕ) → IsSink ep most s → OnlySink s v
-  pub sink : is_at s t ≡ true → (most : ℕ) (before : List ℕ) → IsSink ep most s → length bytes ≤ most → SinkAt before bytes toggle s → SinkAt before bytes toggle v
+  pub sink : is_at s t ≡ true → (most : ℕ) (before : List ℕ) → IsSink ep most s
+      → length bytes ≤ most → SinkAt before bytes toggle s → SinkAt before bytes toggle v
 
--- the hub's ports told these bits when one of the attempts of a poll was made, and since then the same was attempted, and nothing else
+-- the hub's ports told these bits when one of the attempts of a poll was made, and since then the
+-- same was attempted, and nothing else
 pub record ToldIn (a : Attempt) (old new : World) (x : Location) (bits : ℕ) : Type 0 where
   pub outcomes : List Outcome
   pub mid : World
@@ -164,7 +193,8 @@ pub record ToldSince (a : Attempt) (old new : World) (x : Location) (bits : ℕ)
   pub came : (at_attempt told.mid).taken ≤ new.taken
 
 -- up to the end of a poll that is done; where it failed, up to some moment of it
-abbrev pub ToldBy : Attempt → World → Result (Option (List ℕ)) TransFault → World → Location → ℕ → Type 0
+abbrev pub ToldBy : Attempt → World → Result (Option (List ℕ)) TransFault → World → Location → ℕ
+    → Type 0
 ToldBy a old (Ok got) new x bits = ToldSince a old new x bits
 ToldBy a old (Err fault) new x bits = (now : World) × ToldIn a old now x bits
 
@@ -172,7 +202,8 @@ ToldBy a old (Err fault) new x bits = (now : World) × ToldIn a old now x bits
 abbrev pub ToldSome : (ℕ → Type 0) → ℕ → Type 0
 ToldSome Told bits = (bits ≢ 0) × Told bits
 
--- where the bus gave up, a byte came to it and was acknowledged, and the host did not get it; or none came
+-- where the bus gave up, a byte came to it and was acknowledged, and the host did not get it; or
+-- none came
 pub data PollCut (Told : ℕ → Type 0) (toggle : Toggle) (v : State) : Type 0 where
   none_came : PollAt (ToldSome Told) toggle v → PollCut Told toggle v
   one_came : PollAt NeverTold (other toggle) v → PollCut Told toggle v
@@ -186,14 +217,19 @@ PollEnds Told toggle (Err NoAnswer) v = PollAt (ToldSome Told) toggle v
 PollEnds Told toggle (Err (Bus fault)) v = PollCut Told toggle v
 
 -- a poll of a hub's status endpoint (11.12.3)
-pub record ChangesIn (t : Target) (toggle : Toggle) (old : World) (result : Result (Option (List ℕ)) TransFault) (new : World) (x : Location) (s v : State) : Type 0 where
+pub record ChangesIn (t : Target) (toggle : Toggle) (old : World)
+    (result : Result (Option (List ℕ)) TransFault) (new : World) (x : Location) (s v : State) :
+    Type 0 where
   pub others : is_at s t ≡ false → v ≡ s
   pub frame : tells_changes s.spec s.registers ≡ true → OnlyChanges s v
-  pub poll : is_at s t ≡ true → tells_changes s.spec s.registers ≡ true → PollAt NeverTold toggle s → PollEnds (ToldBy (in_attempt t 1) old result new x) toggle result v
+  pub poll : is_at s t ≡ true → tells_changes s.spec s.registers ≡ true → PollAt NeverTold toggle s
+      → PollEnds (ToldBy (in_attempt t 1) old result new x) toggle result v
 
--- A device accepted setup data in the attempt that left this world: it alone held the address, it is what the request makes, with the ports it had there, of what it
+-- A device accepted setup data in the attempt that left this world: it alone held the address, it
+-- is what the request makes, with the ports it had there, of what it
 -- was before the transaction, and what the request asks of its ports is done (8.5.3, 11.24.2)
-pub record AcceptedAt (t : Target) (bytes : List ℕ) (old now : World) (x : Location) (s v : State) : Type 0 where
+pub record AcceptedAt (t : Target) (bytes : List ℕ) (old now : World) (x : Location) (s v : State) :
+    Type 0 where
   pub outcomes : List Outcome
   pub mid : World
   pub trail : AttemptLog (setup_attempt t bytes) old outcomes mid
@@ -201,15 +237,18 @@ pub record AcceptedAt (t : Target) (bytes : List ℕ) (old now : World) (x : Loc
   pub holder : HolderIn (setup_attempt t bytes) mid
   pub there : holder.spot ≡ x
   pub is : v ≡ accepted s (row_of holder.below) (setup_of bytes)
-  pub left : place_on now.roots x ≡ Some (full holder.port v (acted (asked_by_setup s (setup_of bytes)) holder.below))
+  pub left : place_on now.roots x ≡ Some
+      (full holder.port v (acted (asked_by_setup s (setup_of bytes)) holder.below))
 
 -- so it was at one of the attempts
-pub record AcceptedSince (t : Target) (bytes : List ℕ) (old : World) (x : Location) (s v : State) : Type 0 where
+pub record AcceptedSince (t : Target) (bytes : List ℕ) (old : World) (x : Location) (s v : State) :
+    Type 0 where
   pub now : World
   pub at : AcceptedAt t bytes old now x s v
 
 -- SETUP (8.5.3): where it is done, its last attempt was accepted
-pub record SetupDone (t : Target) (bytes : List ℕ) (result : Result (List ℕ) TransFault) (old new : World) (x : Location) (s v : State) : Type 0 where
+pub record SetupDone (t : Target) (bytes : List ℕ) (result : Result (List ℕ) TransFault)
+    (old new : World) (x : Location) (s v : State) : Type 0 where
   pub others : is_at s t ≡ false → v ≡ s
   pub kept : (v ≡ s) ⊎ AcceptedSince t bytes old x s v
   pub done : is_at s t ≡ true → (got : List ℕ) → result ≡ Ok got → AcceptedAt t bytes old new x s v

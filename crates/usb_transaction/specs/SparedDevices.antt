@@ -1,4 +1,5 @@
--- Devices that a request leaves where they are: PORT_RESET of a hub's port gives the device there address 0 (11.24.2.13), and no other request resets one.
+-- Devices that a request leaves where they are: PORT_RESET of a hub's port gives the device there
+-- address 0 (11.24.2.13), and no other request resets one.
 use Rattle.std.specs.Prelude.{◌≡◌, ◌≢◌, Some, true, false}
 use Rattle.usb_request.specs.declared.setup.Setup.{Setup}
 use Rattle.usb_device.specs.Rows.{State}
@@ -15,4 +16,5 @@ IsSpared t request s = is_harmless request ≡ false → (t.addr ≢ 0) × (addr
 
 -- so it is of each device that is reachable in the new world and was not reset
 abbrev pub EachSpared : Target → Setup → Relation → World → World → Type 0
-EachSpared t request R old new = (x : Location) (s : State) → reach_on new.roots x ≡ true → state_on new.roots x ≡ Some s → IsSpared t request s → Was R old x s
+EachSpared t request R old new = (x : Location) (s : State) → reach_on new.roots x ≡ true
+    → state_on new.roots x ≡ Some s → IsSpared t request s → Was R old x s

@@ -8,7 +8,8 @@ use Rattle.usb_world.specs.declared.types.Attempt.{Attempt}
 use Rattle.usb_world.specs.World.{World, Failed}
 use Rattle.usb_transaction.specs.declared.target.Target.{Target}
 use Rattle.usb_transaction.specs.declared.fault.TransFault.{TransFault}
-use Rattle.usb_transaction.specs.declared.fault.TransFault.TheVariants.{Stalled, Busy, NoAnswer, Bus}
+use Rattle.usb_transaction.specs.declared.fault.TransFault.TheVariants.{Stalled, Busy, NoAnswer}
+use Rattle.usb_transaction.specs.declared.fault.TransFault.TheVariants.{Bus}
 
 pub record IsTarget (t : Target) : Type 0 where
   pub addr_fits : t.addr < 128
@@ -21,13 +22,37 @@ packed bytes = record { items = bytes }
 
 -- SETUP with DATA0
 abbrev pub setup_attempt : Target → List ℕ → Attempt
-setup_attempt t bytes = record { kind = SetupTok; addr = t.addr; ep = 0; low = t.low; pre = t.pre; max = 8; payload = Some (Zero, packed bytes) }
+setup_attempt t bytes = record {
+  kind = SetupTok;
+  addr = t.addr;
+  ep = 0;
+  low = t.low;
+  pre = t.pre;
+  max = 8;
+  payload = Some (Zero, packed bytes);
+}
 
 abbrev pub in_attempt : Target → ℕ → Attempt
-in_attempt t ep = record { kind = InTok; addr = t.addr; ep = ep; low = t.low; pre = t.pre; max = t.max; payload = None }
+in_attempt t ep = record {
+  kind = InTok;
+  addr = t.addr;
+  ep = ep;
+  low = t.low;
+  pre = t.pre;
+  max = t.max;
+  payload = None;
+}
 
 abbrev pub out_attempt : Target → ℕ → Toggle → List ℕ → Attempt
-out_attempt t ep toggle bytes = record { kind = OutTok; addr = t.addr; ep = ep; low = t.low; pre = t.pre; max = t.max; payload = Some (toggle, packed bytes) }
+out_attempt t ep toggle bytes = record {
+  kind = OutTok;
+  addr = t.addr;
+  ep = ep;
+  low = t.low;
+  pre = t.pre;
+  max = t.max;
+  payload = Some (toggle, packed bytes);
+}
 
 -- so many errors running end a transaction
 abbrev pub error_limit : ℕ

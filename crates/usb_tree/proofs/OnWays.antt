@@ -5,7 +5,8 @@ use Rattle.usb_device.specs.declared.delivery.Sent.{Sent}
 use Rattle.usb_device.specs.Rows.{State}
 use Rattle.usb_device.specs.Tree.{Ports, ended, vacant, taken, state_at}
 use Rattle.usb_device.specs.Delivery.{effect_of}
-use Rattle.usb_tree.specs.WayEffects.{effect_resets, resets_at, effect_keeps_pending, packet_keeps_pending}
+use Rattle.usb_tree.specs.WayEffects.{effect_resets, resets_at, effect_keeps_pending}
+use Rattle.usb_tree.specs.WayEffects.{packet_keeps_pending}
 use Rattle.usb_tree.specs.WayEffects.{leaves_port, way_leaves}
 use Rattle.usb_tree.proofs.Booleans.{and_of, or_right, neither_of, and_none}
 
@@ -27,7 +28,8 @@ spares_if q deep (vacant b k) (suc j) p c = spares_if q deep k j p c
 spares_if q deep (taken b s a k) zero [] c = refl
 spares_if q deep (taken b s a k) zero (zero ∷ p) c = refl
 spares_if q deep (taken b s a k) zero (suc j ∷ p) c =
-    or_off b.enable _ (and_of (effect_keeps_pending (effect_of q deep s) j p) _ (c [] j p s refl refl deep)
+    or_off b.enable _ (and_of (effect_keeps_pending (effect_of q deep s) j p) _
+    (c [] j p s refl refl deep)
     (spares_if q true a j p (λ e m r t z at. c (suc j ∷ e) m r t (ap (λ x. suc j ∷ x) z) at)))
 spares_if q deep (taken b s a k) (suc j) p c = spares_if q deep k j p c
 
@@ -42,7 +44,8 @@ way_leaves-on_way q deep (taken b s a k) zero [] c = refl
 way_leaves-on_way q deep (taken b s a k) zero (zero ∷ p) c = refl
 way_leaves-on_way q deep (taken b s a k) zero (suc j ∷ p) c =
     or_off b.enable _ (and_of (leaves_port (effect_of q deep s) j) _ (c [] j p s refl refl deep)
-    (way_leaves-on_way q true a j p (λ e m r t z at. c (suc j ∷ e) m r t (ap (λ x. suc j ∷ x) z) at)))
+    (way_leaves-on_way q true a j p (λ e m r t z at. c (suc j ∷ e) m r t (ap (λ x. suc j ∷ x) z)
+    at)))
 way_leaves-on_way q deep (taken b s a k) (suc j) p c = way_leaves-on_way q deep k j p c
 
 pub resets_if : (q : Sent) (deep : Bool) (k : Ports) (j : ℕ) (p : List ℕ)

@@ -18,11 +18,13 @@ unreset true o h = false_true (sym h)
 unreset false None h = refl
 unreset false (Some s) h = refl
 
-pub kept_address : (b : Bool) (o : Option State) → b ≡ false → option_map address_of (option_map (reset_if b) o) ≡ option_map address_of o
+pub kept_address : (b : Bool) (o : Option State) → b ≡ false
+    → option_map address_of (option_map (reset_if b) o) ≡ option_map address_of o
 kept_address true o h = false_true (sym h)
 kept_address false None h = refl
 kept_address false (Some s) h = refl
 
-pub forgotten_address : (o : Option State) → option_map address_of (option_map forgotten o) ≡ option_map address_of o
+pub forgotten_address : (o : Option State) → option_map address_of (option_map forgotten o)
+    ≡ option_map address_of o
 forgotten_address None = refl
 forgotten_address (Some s) = refl

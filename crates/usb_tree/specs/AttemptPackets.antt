@@ -1,5 +1,6 @@
 -- The host's packets of an attempt, as they go out, and the tree after them.
-use Rattle.std.specs.Prelude.{◌≡◌, ℕ, ◌==◌, Bool, true, false, List, [], ◌∷◌, Option, None, Some, option_map, if◌then◌else◌, ⊤}
+use Rattle.std.specs.Prelude.{◌≡◌, ℕ, ◌==◌, Bool, true, false, List, [], ◌∷◌, Option, None, Some}
+use Rattle.std.specs.Prelude.{option_map, if◌then◌else◌, ⊤}
 use Rattle.usb_packet.specs.declared.Packet.TheVariants.{Token, Payload, Ack}
 use Rattle.usb_port.specs.PortState.{PortState}
 use Rattle.usb_device.specs.declared.answer.Answer.{Answer}
@@ -9,7 +10,8 @@ use Rattle.usb_device.specs.declared.delivery.Sent.{Sent}
 use Rattle.usb_device.specs.Rows.{State, Reply}
 use Rattle.usb_device.specs.Attempt.{is_own}
 use Rattle.usb_device.specs.Tree.{Ports, reach_at, state_at, Location, reach_on, state_on}
-use Rattle.usb_device.specs.Delivery.{after_packet, answers, all_forgotten, held_addresses, repeats, hears, reply_to}
+use Rattle.usb_device.specs.Delivery.{after_packet, answers, all_forgotten, held_addresses, repeats}
+use Rattle.usb_device.specs.Delivery.{hears, reply_to}
 use Rattle.usb_tree.specs.WayEffects.{resets_at, packet_keeps_pending}
 use Rattle.usb_tree.specs.Paths.{address_of}
 
@@ -25,7 +27,8 @@ answers_to (Some q) k = answers q false k
 
 -- the ports after an attempt: the token, the host's data and its ACK
 abbrev pub after_attempt : Option Sent → Option Sent → Option Sent → Ports → Ports
-after_attempt token payload reply k = all_forgotten (after_sent reply (after_sent payload (after_sent token k)))
+after_attempt token payload reply k =
+    all_forgotten (after_sent reply (after_sent payload (after_sent token k)))
 
 -- what one device makes of a packet
 abbrev pub heard_by : Option Sent → Bool → State → List PortState → Reply
@@ -68,7 +71,8 @@ pub record IsAttemptAt (n : ℕ) (first second third : Option Sent) : Type 0 whe
   pub payload : IfOut IsDataOut second
   pub reply : IfOut IsAckOut third
 
--- whether a packet that goes out resets the device at a path, and whether it leaves what is pending there
+-- whether a packet that goes out resets the device at a path, and whether it leaves what is pending
+-- there
 abbrev pub sent_resets : Option Sent → Ports → ℕ → List ℕ → Bool
 sent_resets None k j p = false
 sent_resets (Some q) k j p = resets_at q false k j p
@@ -90,7 +94,8 @@ IsSettled k = all_forgotten k ≡ k
 
 -- no reachable device holds the address
 abbrev pub NobodyHolds : ℕ → Ports → Type 0
-NobodyHolds n k = (i : ℕ) (e : List ℕ) (t : State) → state_at k i e ≡ Some t → reach_at k i e ≡ true → (n == address_of t) ≡ false
+NobodyHolds n k = (i : ℕ) (e : List ℕ) (t : State) → state_at k i e ≡ Some t → reach_at k i e ≡ true
+    → (n == address_of t) ≡ false
 
 -- one reachable device holds it, and no address is held twice
 pub record OneHolds (n : ℕ) (k : Ports) (x : Location) : Type 0 where

@@ -1,9 +1,11 @@
 -- A packet that is for one device of a tree at most, at a path; the empty path is the whole tree's.
-use Rattle.std.specs.Prelude.{◌≡◌, ℕ, zero, suc, ◌&&◌, Bool, true, false, List, [], ◌∷◌, ◌++◌, Option, None, Some, ⊤}
+use Rattle.std.specs.Prelude.{◌≡◌, ℕ, zero, suc, ◌&&◌, Bool, true, false, List, [], ◌∷◌, ◌++◌}
+use Rattle.std.specs.Prelude.{Option, None, Some, ⊤}
 use Rattle.usb_device.specs.declared.delivery.Sent.{Sent}
 use Rattle.usb_device.specs.declared.transfer.RememberedPacket.TheVariants.{Nothing}
 use Rattle.usb_device.specs.Rows.{State}
-use Rattle.usb_device.specs.Tree.{Ports, Location, changed, put, device_there, state_at, reach_at, reach_on}
+use Rattle.usb_device.specs.Tree.{Ports, Location, changed, put, device_there, state_at, reach_at}
+use Rattle.usb_device.specs.Tree.{reach_on}
 use Rattle.usb_device.specs.Route.{effect_by}
 use Rattle.usb_tree.specs.Paths.{same_number, same_path}
 use Rattle.usb_tree.specs.AttemptPackets.{deep_at, calls_on, IsSettled, OneHolds}
@@ -11,11 +13,14 @@ use Rattle.usb_device.specs.Holders.{all_reached, keeps_others}
 
 -- no other device remembers anything
 abbrev pub OthersForgot : Ports → Location → Type 0
-OthersForgot k x = (i : ℕ) (e : List ℕ) (t : State) → (same_number i x.row && same_path e x.rest) ≡ false → state_at k i e ≡ Some t → t.memory ≡ Nothing
+OthersForgot k x = (i : ℕ) (e : List ℕ) (t : State) → (same_number i x.row && same_path e x.rest)
+    ≡ false → state_at k i e ≡ Some t → t.memory ≡ Nothing
 
 -- what goes out is for no other device that it reaches
 abbrev pub OthersUncalled : Option Sent → Ports → Location → Type 0
-OthersUncalled o k x = (q : Sent) → o ≡ Some q → (i : ℕ) (e : List ℕ) (t : State) → (same_number i x.row && same_path e x.rest) ≡ false → state_at k i e ≡ Some t → reach_at k i e ≡ true → calls_on q.content t ≡ false
+OthersUncalled o k x = (q : Sent) → o ≡ Some q → (i : ℕ) (e : List ℕ) (t : State)
+    → (same_number i x.row && same_path e x.rest) ≡ false → state_at k i e ≡ Some t
+    → reach_at k i e ≡ true → calls_on q.content t ≡ false
 
 -- the device there is reached, no other remembers anything, and what goes out is for no other
 pub record Alone (o : Option Sent) (k : Ports) (x : Location) : Type 0 where

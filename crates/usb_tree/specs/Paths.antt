@@ -1,5 +1,7 @@
--- What a tree of ports says of a path: whether its way is powered, and whether a change of connection is pending on it.
-use Rattle.std.specs.Prelude.{◌≡◌, ℕ, zero, suc, ◌&&◌, ◌||◌, Bool, true, false, List, [], ◌∷◌, Some, option_map}
+-- What a tree of ports says of a path: whether its way is powered, and whether a change of
+-- connection is pending on it.
+use Rattle.std.specs.Prelude.{◌≡◌, ℕ, zero, suc, ◌&&◌, ◌||◌, Bool, true, false, List, [], ◌∷◌, Some}
+use Rattle.std.specs.Prelude.{option_map}
 use Rattle.usb_device.specs.Rows.{State}
 use Rattle.usb_device.specs.Tree.{Ports, ended, vacant, taken, Location, reach_on, state_on}
 
@@ -19,7 +21,8 @@ has_power k [] = false
 has_power k (zero ∷ p) = false
 has_power k (suc i ∷ p) = has_power_at k i p
 
--- whether the port at a path, or one on its way, has C_PORT_CONNECTION set, and is powered as are all on its own way
+-- whether the port at a path, or one on its way, has C_PORT_CONNECTION set, and is powered as are
+-- all on its own way
 unfoldable pub pending_at : Ports → ℕ → List ℕ → Bool
 pending_at ended i p = false
 pending_at (vacant b k) zero p = b.power && b.connection_changed
@@ -70,4 +73,5 @@ pub record Two (k : Ports) : Type 0 where
   pub n : ℕ
   pub one : HoldsAddress k n
   pub other : HoldsAddress k n
-  pub differ : (same_number one.spot.row other.spot.row && same_path one.spot.rest other.spot.rest) ≡ false
+  pub differ : (same_number one.spot.row other.spot.row && same_path one.spot.rest other.spot.rest)
+      ≡ false

@@ -1,24 +1,30 @@
--- What a call at a port, and a packet, does on the way to a path: whether it resets the device there, and whether it
+-- What a call at a port, and a packet, does on the way to a path: whether it resets the device
+-- there, and whether it
 -- leaves what is pending.
-use Rattle.std.specs.Prelude.{◌≡◌, ℕ, zero, suc, ◌&&◌, ◌||◌, not, Bool, true, false, List, [], ◌∷◌, Option, None, Some}
+use Rattle.std.specs.Prelude.{◌≡◌, ℕ, zero, suc, ◌&&◌, ◌||◌, not, Bool, true, false, List, [], ◌∷◌}
+use Rattle.std.specs.Prelude.{Option, None, Some}
 use Rattle.usb_port.specs.PortState.{is_attached}
 use Rattle.usb_device.specs.declared.transfer.RememberedPacket.TheVariants.{Nothing}
 use Rattle.usb_device.specs.Rows.{State, reset_state}
 use Rattle.usb_port.specs.declared.call.PortCall.{PortCall}
-use Rattle.usb_port.specs.declared.call.PortCall.TheVariants.{SetReset, ClearPower, ClearConnectionChange}
+use Rattle.usb_port.specs.declared.call.PortCall.TheVariants.{SetReset, ClearPower}
+use Rattle.usb_port.specs.declared.call.PortCall.TheVariants.{ClearConnectionChange}
 use Rattle.usb_device.specs.declared.effect.Effect.{Effect}
 use Rattle.usb_device.specs.declared.effect.Effect.TheVariants.{Leaves, Calls, PortsOff}
-use Rattle.usb_device.specs.Tree.{Ports, ended, vacant, taken, all_off, Place, empty, full, place_at}
+use Rattle.usb_device.specs.Tree.{Ports, ended, vacant, taken, all_off, Place, empty, full}
+use Rattle.usb_device.specs.Tree.{place_at}
 use Rattle.usb_port.specs.Calls.{is_reset}
 use Rattle.usb_device.specs.Delivery.{effect_of}
 use Rattle.usb_device.specs.declared.delivery.Sent.{Sent}
 use Rattle.usb_tree.specs.Paths.{same_number}
 
--- a device that was just reset: at address 0, not configured, it remembers nothing, and its ports are off
+-- a device that was just reset: at address 0, not configured, it remembers nothing, and its ports
+-- are off
 abbrev pub IsNew : Option Place → Type 0
 IsNew None = ⊥
 IsNew (Some (empty b)) = ⊥
-IsNew (Some (full b s a)) = (s.registers.address ≡ 0) × (s.registers.configuration ≡ 0) × (s.memory ≡ Nothing) × (all_off a ≡ a)
+IsNew (Some (full b s a)) = (s.registers.address ≡ 0) × (s.registers.configuration ≡ 0)
+    × (s.memory ≡ Nothing) × (all_off a ≡ a)
 
 -- whether PORT_RESET resets a device there: one stands there, the port is powered and sees it
 abbrev pub takes_reset : Option Place → Bool
@@ -44,7 +50,8 @@ resets_at q deep (vacant b k) zero p = false
 resets_at q deep (vacant b k) (suc i) p = resets_at q deep k i p
 resets_at q deep (taken b s a k) zero [] = false
 resets_at q deep (taken b s a k) zero (zero ∷ p) = false
-resets_at q deep (taken b s a k) zero (suc j ∷ p) = b.enable && (effect_resets (effect_of q deep s) a j p || resets_at q true a j p)
+resets_at q deep (taken b s a k) zero (suc j ∷ p) =
+    b.enable && (effect_resets (effect_of q deep s) a j p || resets_at q true a j p)
 resets_at q deep (taken b s a k) (suc i) p = resets_at q deep k i p
 
 -- a device's state, where it is reset or not
@@ -76,7 +83,8 @@ packet_keeps_pending q deep (vacant b k) (suc i) p = packet_keeps_pending q deep
 packet_keeps_pending q deep (taken b s a k) zero [] = true
 packet_keeps_pending q deep (taken b s a k) zero (zero ∷ p) = true
 packet_keeps_pending q deep (taken b s a k) zero (suc j ∷ p) =
-    not b.enable || (effect_keeps_pending (effect_of q deep s) j p && packet_keeps_pending q true a j p)
+    not b.enable || (effect_keeps_pending (effect_of q deep s) j p && packet_keeps_pending q true a
+    j p)
 packet_keeps_pending q deep (taken b s a k) (suc i) p = packet_keeps_pending q deep k i p
 
 -- whether no device on the way asks anything of the port at a path, or of one above it
@@ -91,5 +99,6 @@ way_leaves q deep (vacant b k) zero p = true
 way_leaves q deep (vacant b k) (suc i) p = way_leaves q deep k i p
 way_leaves q deep (taken b s a k) zero [] = true
 way_leaves q deep (taken b s a k) zero (zero ∷ p) = true
-way_leaves q deep (taken b s a k) zero (suc j ∷ p) = not b.enable || (leaves_port (effect_of q deep s) j && way_leaves q true a j p)
+way_leaves q deep (taken b s a k) zero (suc j ∷ p) =
+    not b.enable || (leaves_port (effect_of q deep s) j && way_leaves q true a j p)
 way_leaves q deep (taken b s a k) (suc i) p = way_leaves q deep k i p

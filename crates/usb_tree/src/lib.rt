@@ -6,7 +6,7 @@
 //!
 //! - What a way says (`specs/Paths.antt`, `WayEffects.antt`): whether it is powered, what is pending on it, which call
 //!   or packet resets the device at its end, and which leaves it alone (`proofs/OnWays.antt`, `States.antt`).
-//! - Two devices at one address are found (`Holders.one_path`, `twice_two`), and who holds one is told
+//! - Two devices at one address are found (`Holders.is_twice-one_path`, `twice_two`), and who holds one is told
 //!   (`HolderOfAddress`).
 //! - The packets of an attempt, and what a tree is once it has *settled* (`specs/AttemptPackets.antt`).
 #![tactic(auto)]

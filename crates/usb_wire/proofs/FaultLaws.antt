@@ -1,5 +1,7 @@
 -- What reading tells of a line that says nothing is its fault.
-use Rattle.std.proofs.Common.{◌≡◌, ℕ, ◌≤◌, Bool, true, false, not, ◌&&◌, ◌||◌, ◌==◌, nat_le, nat_lt, if◌then◌else◌, List, [], ◌∷◌, length, Option, Some, None, is_none, ok_or, Result, Ok, Err, refl, sym, ap, ◌∙◌, arith, codes}
+use Rattle.std.proofs.Common.{◌≡◌, ℕ, ◌≤◌, Bool, true, false, not, ◌&&◌, ◌||◌, ◌==◌, nat_le, nat_lt}
+use Rattle.std.proofs.Common.{if◌then◌else◌, List, [], ◌∷◌, length, Option, Some, None, is_none}
+use Rattle.std.proofs.Common.{ok_or, Result, Ok, Err, refl, sym, ap, ◌∙◌, arith, codes}
 use Rattle.std.specs.List.{list_all}
 use Rattle.std.specs.Str.{bytes_eq}
 use Rattle.std.proofs.lemmas.Bool.{and_parts, leb-true}
@@ -8,17 +10,26 @@ use Rattle.usb_packet.specs.declared.Toggle.{Toggle}
 use Rattle.usb_packet.specs.declared.Toggle.TheVariants.{Zero, One}
 use Rattle.usb_port.specs.Path.{path_of}
 use Rattle.usb_wire.specs.declared.answer.Answer.{Answer}
-use Rattle.usb_wire.specs.declared.answer.Answer.TheVariants.{Roots, Ack, Nak, Stall, Nothing, Data, Done, Show, End, Send, Receive, Clear}
+use Rattle.usb_wire.specs.declared.answer.Answer.TheVariants.{Roots, Ack, Nak, Stall, Nothing, Data}
+use Rattle.usb_wire.specs.declared.answer.Answer.TheVariants.{Done, Show, End, Send, Receive, Clear}
 use Rattle.usb_wire.specs.declared.answer.Said.{Said}
 use Rattle.usb_wire.specs.declared.answer.Said.TheVariants.{Changed}
 use Rattle.usb_wire.specs.declared.fault.WireFault.{WireFault}
-use Rattle.usb_wire.specs.declared.fault.WireFault.TheVariants.{LineTooLong, BadCharacter, NoAnswer, BadHex, BadLength, BadNumber, BadPath}
+use Rattle.usb_wire.specs.declared.fault.WireFault.TheVariants.{LineTooLong, BadCharacter, NoAnswer}
+use Rattle.usb_wire.specs.declared.fault.WireFault.TheVariants.{BadHex, BadLength, BadNumber}
+use Rattle.usb_wire.specs.declared.fault.WireFault.TheVariants.{BadPath}
 use Rattle.usb_wire.specs.declared.question.Asked.{Asked}
 use Rattle.usb_wire.specs.declared.question.Asked.TheVariants.{Hello, Attempt, Port, Wait}
 use Rattle.usb_wire.specs.Answers.{send_limit}
-use Rattle.usb_wire.specs.Faults.{Field, Form, argument_fault, bytes_field, fault_by, line_fault, fields_in, forms, packets_field, path_field, root_field, roots_field, status_field, words_fault}
+use Rattle.usb_wire.specs.Faults.{Field, Form, argument_fault, bytes_field, fault_by, line_fault}
+use Rattle.usb_wire.specs.Faults.{fields_in, forms, packets_field, path_field, root_field}
+use Rattle.usb_wire.specs.Faults.{roots_field, status_field, words_fault}
 use Rattle.usb_wire.specs.Fields.{hex_length, hex_value, is_dash, is_hex, number_within}
-use Rattle.usb_wire.specs.Reading.{◌>>=◌, alone, said_of, bytes_of_word, clear_answer, count_in, data_answer, fault_in, line_says, number_of_word, path_in, status_change, receive_answer, roots_answer, send_answer, status_of_word, text_of_line, three_say, with_one, with_two, words_say}
+use Rattle.usb_wire.specs.Reading.{◌>>=◌, alone, said_of, bytes_of_word, clear_answer, count_in}
+use Rattle.usb_wire.specs.Reading.{data_answer, fault_in, line_says, number_of_word, path_in}
+use Rattle.usb_wire.specs.Reading.{status_change, receive_answer, roots_answer, send_answer}
+use Rattle.usb_wire.specs.Reading.{status_of_word, text_of_line, three_say, with_one, with_two}
+use Rattle.usb_wire.specs.Reading.{words_say}
 use Rattle.usb_wire.specs.Words.{all_printable, words}
 use Rattle.usb_wire.proofs.FieldLemmas.{value-hex}
 
@@ -28,7 +39,9 @@ abbrev first_fault_of : Option WireFault → Option WireFault → Option WireFau
 first_fault_of None other = other
 first_fault_of (Some fault) other = Some fault
 
-fault_in-then : {A B : Type 0} (r : Result A WireFault) (f : A → Result B WireFault) (g : Option WireFault) → ((x : A) → fault_in (f x) ≡ g) → fault_in (r >>= f) ≡ first_fault_of (fault_in r) g
+fault_in-then : {A B : Type 0} (r : Result A WireFault) (f : A → Result B WireFault)
+    (g : Option WireFault) → ((x : A) → fault_in (f x) ≡ g)
+    → fault_in (r >>= f) ≡ first_fault_of (fault_in r) g
 fault_in-then (Ok x) f g h = h x
 fault_in-then (Err e) f g h = refl
 
@@ -36,81 +49,107 @@ fault_in-said_of : (r : Result Answer WireFault) → fault_in (said_of r) ≡ fa
 fault_in-said_of (Ok answer) = refl
 fault_in-said_of (Err e) = refl
 
-fault_in-ok_or : {A : Type 0} (o : Option A) (e : WireFault) → fault_in (ok_or o e) ≡ (if is_none o then Some e else None)
+fault_in-ok_or : {A : Type 0} (o : Option A) (e : WireFault)
+    → fault_in (ok_or o e) ≡ (if is_none o then Some e else None)
 fault_in-ok_or (Some x) e = refl
 fault_in-ok_or None e = refl
 
 -- ---- single words
 
-value_given : (o : Option (List ℕ)) (xs : List ℕ) (b : Bool) → o ≡ Some xs → fault_in (if b then Err BadLength else ok_or o BadHex) ≡ (if b then Some BadLength else None)
+value_given : (o : Option (List ℕ)) (xs : List ℕ) (b : Bool) → o ≡ Some xs
+    → fault_in (if b then Err BadLength else ok_or o BadHex) ≡ (if b then Some BadLength else None)
 value_given None xs b e = cc
 value_given (Some x) xs true e = refl
 value_given (Some x) xs false e = refl
 
-bytes_rows : (most : ℕ) (hex : Bool) (n : ℕ) (o : Option (List ℕ)) → (hex ≡ true → (xs : List ℕ) × (o ≡ Some xs))
-    → fault_in ((if hex then Ok n else Err BadHex) >>= (λ count. if nat_lt most count then Err BadLength else ok_or o BadHex))
+bytes_rows : (most : ℕ) (hex : Bool) (n : ℕ) (o : Option (List ℕ))
+    → (hex ≡ true → (xs : List ℕ) × (o ≡ Some xs))
+    → fault_in ((if hex then Ok n else Err BadHex) >>=
+    (λ count. if nat_lt most count then Err BadLength else ok_or o BadHex))
     ≡ (if not hex then Some BadHex else if nat_lt most n then Some BadLength else None)
-bytes_rows most true n o given = let value = given refl in value_given o value.0 (nat_lt most n) value.1
+bytes_rows most true n o given = let value = given refl in
+    value_given o value.0 (nat_lt most n) value.1
 bytes_rows most false n o given = refl
 
 fault_in-bytes : (most : ℕ) (word : List ℕ) → fault_in (bytes_of_word most word)
     ≡ (if not (is_dash word || is_hex word) then Some BadHex
     else if nat_lt most (hex_length word) then Some BadLength else None)
 unfolding bytes_of_word count_in
-fault_in-bytes most word = bytes_rows most (is_dash word || is_hex word) (hex_length word) (hex_value word) (value-hex word)
+fault_in-bytes most word = bytes_rows most (is_dash word || is_hex word) (hex_length word)
+    (hex_value word) (value-hex word)
 
-status_given : (o : Option (List ℕ)) (xs : List ℕ) (b : Bool) → o ≡ Some xs → fault_in (if b then ok_or o BadHex else Err BadLength) ≡ (if not b then Some BadLength else None)
+status_given : (o : Option (List ℕ)) (xs : List ℕ) (b : Bool) → o ≡ Some xs
+    → fault_in (if b then ok_or o BadHex else Err BadLength)
+    ≡ (if not b then Some BadLength else None)
 status_given None xs b e = cc
 status_given (Some x) xs true e = refl
 status_given (Some x) xs false e = refl
 
-status_rows : (hex : Bool) (n : ℕ) (o : Option (List ℕ)) → (hex ≡ true → (xs : List ℕ) × (o ≡ Some xs))
-    → fault_in ((if hex then Ok n else Err BadHex) >>= (λ count. if count == 4 then ok_or o BadHex else Err BadLength))
+status_rows : (hex : Bool) (n : ℕ) (o : Option (List ℕ))
+    → (hex ≡ true → (xs : List ℕ) × (o ≡ Some xs))
+    → fault_in ((if hex then Ok n else Err BadHex) >>=
+    (λ count. if count == 4 then ok_or o BadHex else Err BadLength))
     ≡ (if not hex then Some BadHex else if not (n == 4) then Some BadLength else None)
 status_rows true n o given = let value = given refl in status_given o value.0 (n == 4) value.1
 status_rows false n o given = refl
 
-fault_in-status : (word : List ℕ) → fault_in (status_of_word word) ≡ (if not (is_dash word || is_hex word) then Some BadHex else if not (hex_length word == 4) then Some BadLength else None)
+fault_in-status : (word : List ℕ) → fault_in (status_of_word word)
+    ≡ (if not (is_dash word || is_hex word) then Some BadHex else if not (hex_length word == 4)
+    then Some BadLength else None)
 unfolding status_of_word count_in
-fault_in-status word = status_rows (is_dash word || is_hex word) (hex_length word) (hex_value word) (value-hex word)
+fault_in-status word = status_rows (is_dash word || is_hex word) (hex_length word) (hex_value word)
+    (value-hex word)
 
-fault_in-number : (least most : ℕ) (word : List ℕ) → fault_in (number_of_word least most word) ≡ (if is_none (number_within least most word) then Some BadNumber else None)
+fault_in-number : (least most : ℕ) (word : List ℕ) → fault_in (number_of_word least most word)
+    ≡ (if is_none (number_within least most word) then Some BadNumber else None)
 unfolding number_of_word
 fault_in-number least most word = fault_in-ok_or (number_within least most word) BadNumber
 
-fault_in-path : (word : List ℕ) → fault_in (path_in word) ≡ (if is_none (path_of word) then Some BadPath else None)
+fault_in-path : (word : List ℕ) → fault_in (path_in word)
+    ≡ (if is_none (path_of word) then Some BadPath else None)
 unfolding path_in
 fault_in-path word = fault_in-ok_or (path_of word) BadPath
 
 -- ---- the rows of each form, by what is so of its words
 
-roots_table : (n : Bool) → first_fault_of (if n then Some BadNumber else None) None ≡ (if n || false then Some BadNumber else None)
+roots_table : (n : Bool) → first_fault_of (if n then Some BadNumber else None) None
+    ≡ (if n || false then Some BadNumber else None)
 roots_table true = refl
 roots_table false = refl
 
-data_table : (h l : Bool) → first_fault_of (if not h then Some BadHex else if l then Some BadLength else None) None ≡ (if not h || false then Some BadHex else if l || false then Some BadLength else None)
+data_table : (h l : Bool) → first_fault_of (if not h then Some BadHex else if l then Some BadLength
+    else None) None ≡ (if not h || false then Some BadHex else if l || false then Some BadLength
+    else None)
 data_table true true = refl
 data_table true false = refl
 data_table false l = refl
 
-clear_table : (p : Bool) → first_fault_of (if p then Some BadPath else None) None ≡ (if p || false then Some BadPath else None)
+clear_table : (p : Bool) → first_fault_of (if p then Some BadPath else None) None
+    ≡ (if p || false then Some BadPath else None)
 clear_table true = refl
 clear_table false = refl
 
-send_table : (h l p : Bool) → first_fault_of (if not h then Some BadHex else if l then Some BadLength else None) (first_fault_of (if p then Some BadPath else None) None)
-    ≡ (if not h || false then Some BadHex else if l || false then Some BadLength else if p || false then Some BadPath else None)
+send_table : (h l p : Bool) → first_fault_of
+    (if not h then Some BadHex else if l then Some BadLength else None)
+    (first_fault_of (if p then Some BadPath else None) None)
+    ≡ (if not h || false then Some BadHex else if l || false then Some BadLength else if p ||
+    false then Some BadPath else None)
 send_table true true p = refl
 send_table true false true = refl
 send_table true false false = refl
 send_table false l p = refl
 
-receive_table : (n p : Bool) → first_fault_of (if n then Some BadNumber else None) (first_fault_of (if p then Some BadPath else None) None) ≡ (if n || false then Some BadNumber else if p || false then Some BadPath else None)
+receive_table : (n p : Bool) → first_fault_of (if n then Some BadNumber else None)
+    (first_fault_of (if p then Some BadPath else None) None)
+    ≡ (if n || false then Some BadNumber else if p || false then Some BadPath else None)
 receive_table true p = refl
 receive_table false true = refl
 receive_table false false = refl
 
-push_table : (h l n : Bool) → first_fault_of (if not h then Some BadHex else if not l then Some BadLength else None) (first_fault_of (if n then Some BadNumber else None) None)
-    ≡ (if not h || false then Some BadHex else if not l || false then Some BadLength else if n || false then Some BadNumber else None)
+push_table : (h l n : Bool) → first_fault_of (if not h then Some BadHex else if not l then Some
+    BadLength else None) (first_fault_of (if n then Some BadNumber else None) None)
+    ≡ (if not h || false then Some BadHex else if not l || false then Some BadLength else if n ||
+    false then Some BadNumber else None)
 push_table true false n = refl
 push_table true true true = refl
 push_table true true false = refl
@@ -136,118 +175,178 @@ receive_given n p = Ok (Receive p n)
 abbrev push_given : List ℕ → ℕ → Result Said WireFault
 push_given xs number = Ok (Changed number xs)
 
-faults-roots : (count : ℕ) (word : List ℕ) → fault_in (roots_answer word) ≡ argument_fault count (roots_field ∷ []) (word ∷ [])
+faults-roots : (count : ℕ) (word : List ℕ) → fault_in (roots_answer word)
+    ≡ argument_fault count (roots_field ∷ []) (word ∷ [])
 unfolding roots_answer
 faults-roots count word =
-    fault_in-then (number_of_word 1 7 word) roots_given None (λ _. refl) ∙ ap (λ o. first_fault_of o None) (fault_in-number 1 7 word) ∙ roots_table (is_none (number_within 1 7 word))
+    fault_in-then (number_of_word 1 7 word) roots_given None (λ _. refl)
+    ∙ ap (λ o. first_fault_of o None) (fault_in-number 1 7 word)
+    ∙ roots_table (is_none (number_within 1 7 word))
 
-faults-data : (count : ℕ) (toggle : Toggle) (word : List ℕ) → fault_in (data_answer toggle word) ≡ argument_fault count (bytes_field 64 ∷ []) (word ∷ [])
+faults-data : (count : ℕ) (toggle : Toggle) (word : List ℕ) → fault_in (data_answer toggle word)
+    ≡ argument_fault count (bytes_field 64 ∷ []) (word ∷ [])
 unfolding data_answer
 faults-data count toggle word =
-    fault_in-then (bytes_of_word 64 word) (data_result toggle) None (λ _. refl) ∙ ap (λ o. first_fault_of o None) (fault_in-bytes 64 word) ∙ data_table (is_dash word || is_hex word) (nat_lt 64 (hex_length word))
+    fault_in-then (bytes_of_word 64 word) (data_result toggle) None (λ _. refl)
+    ∙ ap (λ o. first_fault_of o None) (fault_in-bytes 64 word)
+    ∙ data_table (is_dash word || is_hex word) (nat_lt 64 (hex_length word))
 
-faults-clear : (count : ℕ) (word : List ℕ) → fault_in (clear_answer word) ≡ argument_fault count (path_field ∷ []) (word ∷ [])
+faults-clear : (count : ℕ) (word : List ℕ) → fault_in (clear_answer word)
+    ≡ argument_fault count (path_field ∷ []) (word ∷ [])
 unfolding clear_answer
 faults-clear count word =
-    fault_in-then (path_in word) clear_given None (λ _. refl) ∙ ap (λ o. first_fault_of o None) (fault_in-path word) ∙ clear_table (is_none (path_of word))
+    fault_in-then (path_in word) clear_given None (λ _. refl)
+    ∙ ap (λ o. first_fault_of o None) (fault_in-path word)
+    ∙ clear_table (is_none (path_of word))
 
-path_last : {B : Type 0} (word : List ℕ) (f : List ℕ → Result B WireFault) → ((p : List ℕ) → fault_in (f p) ≡ None) → fault_in (path_in word >>= f) ≡ first_fault_of (if is_none (path_of word) then Some BadPath else None) None
-path_last word f h = fault_in-then (path_in word) f None h ∙ ap (λ o. first_fault_of o None) (fault_in-path word)
+path_last : {B : Type 0} (word : List ℕ) (f : List ℕ → Result B WireFault)
+    → ((p : List ℕ) → fault_in (f p) ≡ None) → fault_in (path_in word >>= f)
+    ≡ first_fault_of (if is_none (path_of word) then Some BadPath else None) None
+path_last word f h = fault_in-then (path_in word) f None h
+    ∙ ap (λ o. first_fault_of o None) (fault_in-path word)
 
-faults-send : (count : ℕ) (first second : List ℕ) → fault_in (send_answer first second) ≡ argument_fault count (path_field ∷ bytes_field send_limit ∷ []) (first ∷ second ∷ [])
+faults-send : (count : ℕ) (first second : List ℕ) → fault_in (send_answer first second)
+    ≡ argument_fault count (path_field ∷ bytes_field send_limit ∷ []) (first ∷ second ∷ [])
 unfolding send_answer
 faults-send count first second =
-    let last : Option WireFault = first_fault_of (if is_none (path_of first) then Some BadPath else None) None in
-    fault_in-then (bytes_of_word send_limit second) (λ xs. path_in first >>= send_given xs) last (λ xs. path_last first (send_given xs) (λ _. refl)) ∙ ap (λ o. first_fault_of o last) (fault_in-bytes send_limit second)
-    ∙ send_table (is_dash second || is_hex second) (nat_lt send_limit (hex_length second)) (is_none (path_of first))
+    let last : Option WireFault = first_fault_of
+    (if is_none (path_of first) then Some BadPath else None) None in
+    fault_in-then (bytes_of_word send_limit second) (λ xs. path_in first >>= send_given xs) last
+    (λ xs. path_last first (send_given xs) (λ _. refl))
+    ∙ ap (λ o. first_fault_of o last) (fault_in-bytes send_limit second)
+    ∙ send_table (is_dash second || is_hex second) (nat_lt send_limit (hex_length second))
+    (is_none (path_of first))
 
-faults-receive : (count : ℕ) (first second : List ℕ) → fault_in (receive_answer first second) ≡ argument_fault count (path_field ∷ packets_field ∷ []) (first ∷ second ∷ [])
+faults-receive : (count : ℕ) (first second : List ℕ) → fault_in (receive_answer first second)
+    ≡ argument_fault count (path_field ∷ packets_field ∷ []) (first ∷ second ∷ [])
 unfolding receive_answer
 faults-receive count first second =
-    let last : Option WireFault = first_fault_of (if is_none (path_of first) then Some BadPath else None) None in
-    fault_in-then (number_of_word 0 1000 second) (λ n. path_in first >>= receive_given n) last (λ n. path_last first (receive_given n) (λ _. refl)) ∙ ap (λ o. first_fault_of o last) (fault_in-number 0 1000 second)
+    let last : Option WireFault = first_fault_of
+    (if is_none (path_of first) then Some BadPath else None) None in
+    fault_in-then (number_of_word 0 1000 second) (λ n. path_in first >>= receive_given n) last
+    (λ n. path_last first (receive_given n) (λ _. refl))
+    ∙ ap (λ o. first_fault_of o last) (fault_in-number 0 1000 second)
     ∙ receive_table (is_none (number_within 0 1000 second)) (is_none (path_of first))
 
-faults-status_change : (count : ℕ) (first second : List ℕ) → fault_in (status_change count first second) ≡ argument_fault count (root_field ∷ status_field ∷ []) (first ∷ second ∷ [])
+faults-status_change : (count : ℕ) (first second : List ℕ)
+    → fault_in (status_change count first second)
+    ≡ argument_fault count (root_field ∷ status_field ∷ []) (first ∷ second ∷ [])
 unfolding status_change
 faults-status_change count first second =
-    let last : Option WireFault = first_fault_of (if is_none (number_within 1 count first) then Some BadNumber else None) None in
-    fault_in-then (status_of_word second) (λ xs. number_of_word 1 count first >>= push_given xs) last (λ xs. fault_in-then (number_of_word 1 count first) (push_given xs) None (λ _. refl) ∙ ap (λ o. first_fault_of o None) (fault_in-number 1 count first))
+    let last : Option WireFault = first_fault_of (if is_none (number_within 1 count first) then Some
+    BadNumber else None) None in
+    fault_in-then (status_of_word second) (λ xs. number_of_word 1 count first >>= push_given xs)
+    last (λ xs. fault_in-then (number_of_word 1 count first) (push_given xs) None (λ _. refl)
+    ∙ ap (λ o. first_fault_of o None) (fault_in-number 1 count first))
     ∙ ap (λ o. first_fault_of o last) (fault_in-status second)
-    ∙ push_table (is_dash second || is_hex second) (hex_length second == 4) (is_none (number_within 1 count first))
+    ∙ push_table (is_dash second || is_hex second) (hex_length second == 4)
+    (is_none (number_within 1 count first))
 
 -- ---- lines of one word, of two, of three
 
-attempt_alone : (count : ℕ) (a n s o : Bool) → fault_in (said_of (if a then Ok Ack else if n then Ok Nak else if s then Ok Stall else if o then Ok Nothing else Err NoAnswer))
-    ≡ fault_by count (if a then Some [] else if n then Some [] else if s then Some [] else if o then Some [] else None) []
+attempt_alone : (count : ℕ) (a n s o : Bool)
+    → fault_in (said_of (if a then Ok Ack else if n then Ok Nak else if s then Ok Stall else if o
+    then Ok Nothing else Err NoAnswer))
+    ≡ fault_by count (if a then Some [] else if n then Some [] else if s then Some [] else if o
+    then Some [] else None) []
 attempt_alone count true n s o = refl
 attempt_alone count false true s o = refl
 attempt_alone count false false true o = refl
 attempt_alone count false false false true = refl
 attempt_alone count false false false false = refl
 
-port_alone : (count : ℕ) (d : Bool) → fault_in (said_of (if d then Ok Done else Err NoAnswer)) ≡ fault_by count (if d then Some [] else None) []
+port_alone : (count : ℕ) (d : Bool) → fault_in (said_of (if d then Ok Done else Err NoAnswer))
+    ≡ fault_by count (if d then Some [] else None) []
 port_alone count true = refl
 port_alone count false = refl
 
-wait_alone : (count : ℕ) (d s e : Bool) → fault_in (said_of (if d then Ok Done else if s then Ok Show else if e then Ok End else Err NoAnswer))
+wait_alone : (count : ℕ) (d s e : Bool)
+    → fault_in (said_of (if d then Ok Done else if s then Ok Show else if e then Ok End else Err
+    NoAnswer))
     ≡ fault_by count (if d then Some [] else if s then Some [] else if e then Some [] else None) []
 wait_alone count true s e = refl
 wait_alone count false true e = refl
 wait_alone count false false true = refl
 wait_alone count false false false = refl
 
-faults-alone : (asked : Asked) (count : ℕ) (word : List ℕ) → fault_in (said_of (alone asked word)) ≡ words_fault asked count (word ∷ [])
+faults-alone : (asked : Asked) (count : ℕ) (word : List ℕ) → fault_in (said_of (alone asked word))
+    ≡ words_fault asked count (word ∷ [])
 unfolding alone
 faults-alone Hello count word = refl
-faults-alone Attempt count word = attempt_alone count (bytes_eq word (codes "ACK")) (bytes_eq word (codes "NAK")) (bytes_eq word (codes "STALL")) (bytes_eq word (codes "none"))
+faults-alone Attempt count word = attempt_alone count (bytes_eq word (codes "ACK"))
+    (bytes_eq word (codes "NAK")) (bytes_eq word (codes "STALL")) (bytes_eq word (codes "none"))
 faults-alone Port count word = port_alone count (bytes_eq word (codes "ok"))
-faults-alone Wait count word = wait_alone count (bytes_eq word (codes "ok")) (bytes_eq word (codes "show")) (bytes_eq word (codes "end"))
+faults-alone Wait count word = wait_alone count (bytes_eq word (codes "ok"))
+    (bytes_eq word (codes "show")) (bytes_eq word (codes "end"))
 
 -- one form, if its test holds
-one_form : (count : ℕ) (b : Bool) (r : Result Answer WireFault) (fields : List Field) (arguments : List (List ℕ)) → fault_in r ≡ argument_fault count fields arguments
-    → fault_in (said_of (if b then r else Err NoAnswer)) ≡ fault_by count (if b then Some fields else None) arguments
+one_form : (count : ℕ) (b : Bool) (r : Result Answer WireFault) (fields : List Field)
+    (arguments : List (List ℕ)) → fault_in r ≡ argument_fault count fields arguments
+    → fault_in (said_of (if b then r else Err NoAnswer))
+    ≡ fault_by count (if b then Some fields else None) arguments
 one_form count true r fields arguments h = fault_in-said_of r ∙ h
 one_form count false r fields arguments h = refl
 
-two_forms : (count : ℕ) (b d : Bool) (r s : Result Answer WireFault) (fields others : List Field) (arguments : List (List ℕ))
-    → fault_in r ≡ argument_fault count fields arguments → fault_in s ≡ argument_fault count others arguments
-    → fault_in (said_of (if b then r else if d then s else Err NoAnswer)) ≡ fault_by count (if b then Some fields else if d then Some others else None) arguments
+two_forms : (count : ℕ) (b d : Bool) (r s : Result Answer WireFault) (fields others : List Field)
+    (arguments : List (List ℕ))
+    → fault_in r ≡ argument_fault count fields arguments
+    → fault_in s ≡ argument_fault count others arguments
+    → fault_in (said_of (if b then r else if d then s else Err NoAnswer))
+    ≡ fault_by count (if b then Some fields else if d then Some others else None) arguments
 two_forms count true d r s fields others arguments h k = fault_in-said_of r ∙ h
 two_forms count false d r s fields others arguments h k = one_form count d s others arguments k
 
 -- a push, or another form
-push_or : (count : ℕ) (b : Bool) (r : Result Said WireFault) (s : Result Said WireFault) (fields : List Field) (others : Option (List Field)) (arguments : List (List ℕ))
-    → fault_in r ≡ argument_fault count fields arguments → fault_in s ≡ fault_by count others arguments
+push_or : (count : ℕ) (b : Bool) (r : Result Said WireFault) (s : Result Said WireFault)
+    (fields : List Field) (others : Option (List Field)) (arguments : List (List ℕ))
+    → fault_in r ≡ argument_fault count fields arguments
+    → fault_in s ≡ fault_by count others arguments
     → fault_in (if b then r else s) ≡ fault_by count (if b then Some fields else others) arguments
 push_or count true r s fields others arguments h k = h
 push_or count false r s fields others arguments h k = k
 
-faults-one : (asked : Asked) (count : ℕ) (word argument : List ℕ) → fault_in (said_of (with_one asked word argument)) ≡ words_fault asked count (word ∷ argument ∷ [])
+faults-one : (asked : Asked) (count : ℕ) (word argument : List ℕ)
+    → fault_in (said_of (with_one asked word argument))
+    ≡ words_fault asked count (word ∷ argument ∷ [])
 unfolding with_one
 faults-one Hello count word argument =
-    one_form count (bytes_eq word (codes "roots")) (roots_answer argument) (roots_field ∷ []) (argument ∷ []) (faults-roots count argument)
+    one_form count (bytes_eq word (codes "roots")) (roots_answer argument) (roots_field ∷ [])
+    (argument ∷ []) (faults-roots count argument)
 faults-one Attempt count word argument =
-    two_forms count (bytes_eq word (codes "DATA0")) (bytes_eq word (codes "DATA1")) (data_answer Zero argument) (data_answer One argument) (bytes_field 64 ∷ []) (bytes_field 64 ∷ []) (argument ∷ [])
+    two_forms count (bytes_eq word (codes "DATA0")) (bytes_eq word (codes "DATA1"))
+    (data_answer Zero argument) (data_answer One argument) (bytes_field 64 ∷ [])
+    (bytes_field 64 ∷ []) (argument ∷ [])
     (faults-data count Zero argument) (faults-data count One argument)
 faults-one Port count word argument = refl
 faults-one Wait count word argument =
-    one_form count (bytes_eq word (codes "clear")) (clear_answer argument) (path_field ∷ []) (argument ∷ []) (faults-clear count argument)
+    one_form count (bytes_eq word (codes "clear")) (clear_answer argument) (path_field ∷ [])
+    (argument ∷ []) (faults-clear count argument)
 
-faults-three : (asked : Asked) (count : ℕ) (word first second : List ℕ) → fault_in (three_say asked count word first second) ≡ words_fault asked count (word ∷ first ∷ second ∷ [])
+faults-three : (asked : Asked) (count : ℕ) (word first second : List ℕ)
+    → fault_in (three_say asked count word first second)
+    ≡ words_fault asked count (word ∷ first ∷ second ∷ [])
 unfolding three_say with_two
 faults-three Hello count word first second = refl
 faults-three Attempt count word first second =
-    push_or count (bytes_eq word (codes "port")) (status_change count first second) (Err NoAnswer) (root_field ∷ status_field ∷ []) None (first ∷ second ∷ []) (faults-status_change count first second) refl
+    push_or count (bytes_eq word (codes "port")) (status_change count first second) (Err NoAnswer)
+    (root_field ∷ status_field ∷ []) None (first ∷ second ∷ [])
+    (faults-status_change count first second) refl
 faults-three Port count word first second =
-    push_or count (bytes_eq word (codes "port")) (status_change count first second) (Err NoAnswer) (root_field ∷ status_field ∷ []) None (first ∷ second ∷ []) (faults-status_change count first second) refl
+    push_or count (bytes_eq word (codes "port")) (status_change count first second) (Err NoAnswer)
+    (root_field ∷ status_field ∷ []) None (first ∷ second ∷ [])
+    (faults-status_change count first second) refl
 faults-three Wait count word first second =
     let sends = bytes_eq word (codes "send") in
     let receives = bytes_eq word (codes "receive") in
     push_or count (bytes_eq word (codes "port")) (status_change count first second)
-    (said_of (if sends then send_answer first second else if receives then receive_answer first second else Err NoAnswer)) (root_field ∷ status_field ∷ [])
-    (if sends then Some (path_field ∷ bytes_field send_limit ∷ []) else if receives then Some (path_field ∷ packets_field ∷ []) else None) (first ∷ second ∷ []) (faults-status_change count first second)
-    (two_forms count sends receives (send_answer first second) (receive_answer first second) (path_field ∷ bytes_field send_limit ∷ []) (path_field ∷ packets_field ∷ []) (first ∷ second ∷ [])
+    (said_of (if sends then send_answer first second else if receives then receive_answer first
+    second else Err NoAnswer)) (root_field ∷ status_field ∷ [])
+    (if sends then Some (path_field ∷ bytes_field send_limit ∷ []) else if receives then Some
+    (path_field ∷ packets_field ∷ []) else None) (first ∷ second ∷ [])
+    (faults-status_change count first second)
+    (two_forms count sends receives (send_answer first second) (receive_answer first second)
+    (path_field ∷ bytes_field send_limit ∷ []) (path_field ∷ packets_field ∷ [])
+    (first ∷ second ∷ [])
     (faults-send count first second) (faults-receive count first second))
 
 -- ---- lines of more words have no form
@@ -258,13 +357,15 @@ is_short f = nat_le (length f.fields) 2
 other_length : (m n : ℕ) → 3 ≤ m → n ≤ 2 → (m == n) ≡ false
 other_length m n long few = grind (arith, nat_tests)
 
-fields_in-long : (fs : List Form) (word : List ℕ) (arguments : List (List ℕ)) → list_all is_short fs ≡ true → 3 ≤ length arguments → fields_in fs word arguments ≡ None
+fields_in-long : (fs : List Form) (word : List ℕ) (arguments : List (List ℕ))
+    → list_all is_short fs ≡ true → 3 ≤ length arguments → fields_in fs word arguments ≡ None
 fields_in-long [] word arguments short long = refl
 fields_in-long (f ∷ fs) word arguments short long =
     let parts = and_parts (is_short f) (list_all is_short fs) short in
     let few : length f.fields ≤ 2 = leb-true (length f.fields) 2 parts.0 in
     let other = other_length (length arguments) (length f.fields) long few in
-    ap (λ b. if b && bytes_eq word f.word then Some f.fields else fields_in fs word arguments) other ∙ fields_in-long fs word arguments parts.1 long
+    ap (λ b. if b && bytes_eq word f.word then Some f.fields else fields_in fs word arguments) other
+    ∙ fields_in-long fs word arguments parts.1 long
 
 short_forms : (asked : Asked) → list_all is_short (forms asked) ≡ true
 short_forms Hello = refl
@@ -272,7 +373,8 @@ short_forms Attempt = refl
 short_forms Port = refl
 short_forms Wait = refl
 
-faults-words : (asked : Asked) (count : ℕ) (ws : List (List ℕ)) → fault_in (words_say asked count ws) ≡ words_fault asked count ws
+faults-words : (asked : Asked) (count : ℕ) (ws : List (List ℕ))
+    → fault_in (words_say asked count ws) ≡ words_fault asked count ws
 unfolding words_say
 faults-words asked count [] = refl
 faults-words asked count (word ∷ []) = faults-alone asked count word
@@ -280,16 +382,23 @@ faults-words asked count (word ∷ argument ∷ []) = faults-one asked count wor
 faults-words asked count (word ∷ first ∷ second ∷ []) = faults-three asked count word first second
 faults-words asked count (word ∷ first ∷ second ∷ third ∷ more) =
     let long : 3 ≤ length (first ∷ second ∷ third ∷ more) = omega arith in
-    sym (ap (λ fields. fault_by count fields (first ∷ second ∷ third ∷ more)) (fields_in-long (forms asked) word (first ∷ second ∷ third ∷ more) (short_forms asked) long))
+    sym (ap (λ fields. fault_by count fields (first ∷ second ∷ third ∷ more))
+    (fields_in-long (forms asked) word (first ∷ second ∷ third ∷ more) (short_forms asked)
+    long))
 
-line_rows : (l p : Bool) (line : List ℕ) (f : List ℕ → Result Said WireFault) (other : Option WireFault) → fault_in (f line) ≡ other
-    → fault_in ((if l then Err LineTooLong else if p then Ok line else Err BadCharacter) >>= f) ≡ (if l then Some LineTooLong else if not p then Some BadCharacter else other)
+line_rows : (l p : Bool) (line : List ℕ) (f : List ℕ → Result Said WireFault)
+    (other : Option WireFault) → fault_in (f line) ≡ other
+    → fault_in ((if l then Err LineTooLong else if p then Ok line else Err BadCharacter) >>= f)
+    ≡ (if l then Some LineTooLong else if not p then Some BadCharacter else other)
 line_rows true p line f other h = refl
 line_rows false true line f other h = h
 line_rows false false line f other h = refl
 
 -- the fault that is told of a line is its own
-pub faults-line : (asked : Asked) (count : ℕ) (line : List ℕ) → fault_in (line_says asked count line) ≡ line_fault asked count line
+pub faults-line : (asked : Asked) (count : ℕ) (line : List ℕ)
+    → fault_in (line_says asked count line) ≡ line_fault asked count line
 unfolding line_says text_of_line
 faults-line asked count line =
-    line_rows (nat_lt 1024 (length line)) (all_printable line) line (λ text. words_say asked count (words text)) (words_fault asked count (words line)) (faults-words asked count (words line))
+    line_rows (nat_lt 1024 (length line)) (all_printable line) line
+    (λ text. words_say asked count (words text)) (words_fault asked count (words line))
+    (faults-words asked count (words line))

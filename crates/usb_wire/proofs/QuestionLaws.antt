@@ -1,5 +1,9 @@
 -- Questions and their lines, both ways.
-use Rattle.std.proofs.Common.{◌≡◌, ◌≢◌, ℕ, zero, suc, ◌+◌, ◌*◌, ◌/◌, ◌%◌, ◌^◌, ◌<◌, ◌≤◌, Bool, true, false, ◌==◌, nat_lt, if◌then◌else◌, List, [], ◌∷◌, ◌++◌, length, get_or, IfSome, Option, Some, None, option_map, Result, Ok, Err, refl, sym, subst, ap, ◌∙◌, arith, append_assoc, codes, decimal, length-append, lit≤, Bor}
+use Rattle.std.proofs.Common.{◌≡◌, ◌≢◌, ℕ, zero, suc, ◌+◌, ◌*◌, ◌/◌, ◌%◌, ◌^◌, ◌<◌, ◌≤◌, Bool, true}
+use Rattle.std.proofs.Common.{false, ◌==◌, nat_lt, if◌then◌else◌, List, [], ◌∷◌, ◌++◌, length}
+use Rattle.std.proofs.Common.{get_or, IfSome, Option, Some, None, option_map, Result, Ok, Err, refl}
+use Rattle.std.proofs.Common.{sym, subst, ap, ◌∙◌, arith, append_assoc, codes, decimal}
+use Rattle.std.proofs.Common.{length-append, lit≤, Bor}
 use Rattle.std.specs.Result.{result_ok}
 use Rattle.std.specs.Char.{is_ascii_digit}
 use Rattle.std.specs.Str.{all_ascii_digits, bytes_eq}
@@ -16,7 +20,9 @@ use Rattle.usb_packet.specs.declared.Toggle.TheVariants.{Zero, One}
 use Rattle.usb_packet.specs.Text.{data_name, hex_text, token_name}
 use Rattle.usb_packet.proofs.SpellingLemmas.{IsBytes-cons, IsBytes-none}
 use Rattle.usb_port.specs.declared.call.PortCall.{PortCall}
-use Rattle.usb_port.specs.declared.call.PortCall.TheVariants.{SetPower, SetReset, ClearEnable, ClearPower, ClearConnectionChange, ClearEnableChange, ClearResetChange}
+use Rattle.usb_port.specs.declared.call.PortCall.TheVariants.{SetPower, SetReset, ClearEnable}
+use Rattle.usb_port.specs.declared.call.PortCall.TheVariants.{ClearPower, ClearConnectionChange}
+use Rattle.usb_port.specs.declared.call.PortCall.TheVariants.{ClearEnableChange, ClearResetChange}
 use Rattle.usb_request.specs.declared.setup.Setup.{Setup as SetupData}
 use Rattle.usb_request.specs.Layout.{bytes_of, setup_of}
 use Rattle.usb_wire.specs.declared.fault.WireFault.{WireFault}
@@ -27,14 +33,23 @@ use Rattle.usb_wire.specs.declared.question.Question.TheVariants.{Hello, Setup, 
 use Rattle.usb_wire.specs.declared.question.Speed.{Speed}
 use Rattle.usb_wire.specs.declared.question.Speed.TheVariants.{Full, Low, LowBelowHub}
 use Rattle.usb_wire.specs.Fields.{hex_value}
-use Rattle.usb_wire.specs.QuestionReading.{◌>>=◌, after_pre, asked_in, behind_pre_word, call_in, cut_at, data_behind, endpoint_in, in_question, out_question, port_question, question_of, setup_by, setup_in, setup_question, toggle_named, token_behind, token_of_words}
-use Rattle.usb_wire.specs.Questions.{IsEndpoint, IsQuestion, IsQuestionLine, IsSetupData, call_text, data_with, between_text, question_bytes, question_line, question_in_digits, speed_text, token_text}
+use Rattle.usb_wire.specs.QuestionReading.{◌>>=◌, after_pre, asked_in, behind_pre_word, call_in}
+use Rattle.usb_wire.specs.QuestionReading.{cut_at, data_behind, endpoint_in, in_question}
+use Rattle.usb_wire.specs.QuestionReading.{out_question, port_question, question_of, setup_by}
+use Rattle.usb_wire.specs.QuestionReading.{setup_in, setup_question, toggle_named, token_behind}
+use Rattle.usb_wire.specs.QuestionReading.{token_of_words}
+use Rattle.usb_wire.specs.Questions.{IsEndpoint, IsQuestion, IsQuestionLine, IsSetupData, call_text}
+use Rattle.usb_wire.specs.Questions.{data_with, between_text, question_bytes, question_line}
+use Rattle.usb_wire.specs.Questions.{question_in_digits, speed_text, token_text}
 use Rattle.usb_wire.specs.Reading.{bytes_of_word, number_of_word, text_of_line}
 use Rattle.usb_wire.specs.Words.{all_printable}
 use Rattle.usb_wire.proofs.FieldLemmas.{all_digits-decimal, all_visible-decimal, hex_value-hex_text}
-use Rattle.usb_wire.proofs.ReadLaws.{IsVisibleWord, bytes_word, decimal-is_word, read_bytes, read_number}
-use Rattle.usb_wire.proofs.SaidLaws.{IsDataWord, bytes_of_word-data, number_of_word-ok as number_read, same_Ok, word_is}
-use Rattle.usb_wire.proofs.WordLemmas.{HasNoSpace-visible, all_printable-append, all_printable-visible, all_visible, is_visible}
+use Rattle.usb_wire.proofs.ReadLaws.{IsVisibleWord, bytes_word, decimal-is_word, read_bytes}
+use Rattle.usb_wire.proofs.ReadLaws.{read_number}
+use Rattle.usb_wire.proofs.SaidLaws.{IsDataWord, bytes_of_word-data}
+use Rattle.usb_wire.proofs.SaidLaws.{number_of_word-ok as number_read, same_Ok, word_is}
+use Rattle.usb_wire.proofs.WordLemmas.{HasNoSpace-visible, all_printable-append}
+use Rattle.usb_wire.proofs.WordLemmas.{all_printable-visible, all_visible, is_visible}
 
 -- ---- cuts
 
@@ -49,48 +64,64 @@ cut_at-none : (mark : ℕ) (text : List ℕ) → HasNo mark text → cut_at mark
 unfolding cut_at
 cut_at-none mark [] h = refl
 cut_at-none mark (c ∷ text) h =
-    ap (λ b. if b then Some ([], text) else option_map (λ cut. (c ∷ cut.0, cut.1)) (cut_at mark text)) (other_unit mark c (h 0 (omega arith)))
-    ∙ ap (option_map (λ cut. (c ∷ cut.0, cut.1))) (cut_at-none mark text (λ i less. h (suc i) (omega arith)))
+    ap (λ b. if b then Some ([], text) else option_map (λ cut. (c ∷ cut.0, cut.1))
+    (cut_at mark text)) (other_unit mark c (h 0 (omega arith)))
+    ∙ ap (option_map (λ cut. (c ∷ cut.0, cut.1)))
+    (cut_at-none mark text (λ i less. h (suc i) (omega arith)))
 
 same_unit : (mark : ℕ) → (mark == mark) ≡ true
 same_unit mark = grind (arith, nat_tests)
 
-cut_at-mark : (mark : ℕ) (text rest : List ℕ) → HasNo mark text → cut_at mark (text ++ mark ∷ rest) ≡ Some (text, rest)
+cut_at-mark : (mark : ℕ) (text rest : List ℕ) → HasNo mark text → cut_at mark (text ++ mark ∷ rest)
+    ≡ Some (text, rest)
 unfolding cut_at
-cut_at-mark mark [] rest h = ap (λ b. if b then Some ([], rest) else option_map (λ cut. (mark ∷ cut.0, cut.1)) (cut_at mark rest)) (same_unit mark)
+cut_at-mark mark [] rest h = ap (λ b. if b then Some ([], rest) else option_map
+    (λ cut. (mark ∷ cut.0, cut.1)) (cut_at mark rest)) (same_unit mark)
 cut_at-mark mark (c ∷ text) rest h =
-    ap (λ b. if b then Some ([], text ++ mark ∷ rest) else option_map (λ cut. (c ∷ cut.0, cut.1)) (cut_at mark (text ++ mark ∷ rest))) (other_unit mark c (h 0 (omega arith)))
-    ∙ ap (option_map (λ cut. (c ∷ cut.0, cut.1))) (cut_at-mark mark text rest (λ i less. h (suc i) (omega arith)))
+    ap (λ b. if b then Some ([], text ++ mark ∷ rest) else option_map (λ cut. (c ∷ cut.0, cut.1))
+    (cut_at mark (text ++ mark ∷ rest))) (other_unit mark c (h 0 (omega arith)))
+    ∙ ap (option_map (λ cut. (c ∷ cut.0, cut.1)))
+    (cut_at-mark mark text rest (λ i less. h (suc i) (omega arith)))
 
 -- what `split_once` gives
-pub cut_at-split_once : (mark : ℕ) (text : List ℕ) (r : Option (Bor (List ℕ) × Bor (List ℕ))) → mark < 128 → IsSplitOnceResult mark text r → cut_at mark text ≡ option_map (λ cut. (cut.0.now, cut.1.now)) r
-cut_at-split_once mark text None small h = cut_at-none mark text (split_parts mark text None h small)
+pub cut_at-split_once : (mark : ℕ) (text : List ℕ) (r : Option (Bor (List ℕ) × Bor (List ℕ)))
+    → mark < 128 → IsSplitOnceResult mark text r
+    → cut_at mark text ≡ option_map (λ cut. (cut.0.now, cut.1.now)) r
+cut_at-split_once mark text None small h =
+    cut_at-none mark text (split_parts mark text None h small)
 cut_at-split_once mark text (Some cut) small h =
     let parts = split_parts mark text (Some cut) h small in
     ap (cut_at mark) parts.0 ∙ cut_at-mark mark cut.0.now cut.1.now parts.1
 
-cut_step : (mark c : ℕ) (b : Bool) (text : List ℕ) (o : Option (List ℕ × List ℕ)) (r : List ℕ × List ℕ) → (c == mark) ≡ b → ((s : List ℕ × List ℕ) → o ≡ Some s → text ≡ s.0 ++ mark ∷ s.1)
-    → (if b then Some ([], text) else option_map (λ cut. (c ∷ cut.0, cut.1)) o) ≡ Some r → c ∷ text ≡ r.0 ++ mark ∷ r.1
+cut_step : (mark c : ℕ) (b : Bool) (text : List ℕ) (o : Option (List ℕ × List ℕ)) (r : List ℕ
+    × List ℕ) → (c == mark) ≡ b → ((s : List ℕ × List ℕ) → o ≡ Some s → text ≡ s.0 ++ mark ∷ s.1)
+    → (if b then Some ([], text) else option_map (λ cut. (c ∷ cut.0, cut.1)) o) ≡ Some r
+    → c ∷ text ≡ r.0 ++ mark ∷ r.1
 cut_step mark c true text o r same h e =
     let is = same_Some ([], text) r e in
-    subst (λ (r : List ℕ × List ℕ). c ∷ text ≡ r.0 ++ mark ∷ r.1) is (ap (λ x. x ∷ text) (eqb-true c mark same))
+    subst (λ (r : List ℕ × List ℕ). c ∷ text ≡ r.0 ++ mark ∷ r.1) is
+    (ap (λ x. x ∷ text) (eqb-true c mark same))
 cut_step mark c false text None r other h e = absurd (cc)
 cut_step mark c false text (Some s) r other h e =
     let is = same_Some (c ∷ s.0, s.1) r e in
     subst (λ (r : List ℕ × List ℕ). c ∷ text ≡ r.0 ++ mark ∷ r.1) is (ap (λ t. c ∷ t) (h s refl))
 
-cut_at-some : (mark : ℕ) (text : List ℕ) (r : List ℕ × List ℕ) → cut_at mark text ≡ Some r → text ≡ r.0 ++ mark ∷ r.1
+cut_at-some : (mark : ℕ) (text : List ℕ) (r : List ℕ × List ℕ) → cut_at mark text ≡ Some r
+    → text ≡ r.0 ++ mark ∷ r.1
 unfolding cut_at
 cut_at-some mark [] r e = absurd (cc)
-cut_at-some mark (c ∷ text) r e = cut_step mark c (c == mark) text (cut_at mark text) r refl (λ s found. cut_at-some mark text s found) e
+cut_at-some mark (c ∷ text) r e = cut_step mark c (c == mark) text (cut_at mark text) r refl
+    (λ s found. cut_at-some mark text s found) e
 
 -- ---- what was read, step by step
 
-bind_some : {A B P : Type 0} (o : Option A) (f : A → Option B) (y : B) → (o >>= f) ≡ Some y → ((x : A) → o ≡ Some x → f x ≡ Some y → P) → P
+bind_some : {A B P : Type 0} (o : Option A) (f : A → Option B) (y : B) → (o >>= f) ≡ Some y
+    → ((x : A) → o ≡ Some x → f x ≡ Some y → P) → P
 bind_some (Some x) f y e k = k x refl e
 bind_some None f y e k = absurd (cc)
 
-if_some_cases : {A P : Type 0} (b : Bool) (o p : Option A) (y : A) → (if b then o else p) ≡ Some y → (b ≡ true → o ≡ Some y → P) → (p ≡ Some y → P) → P
+if_some_cases : {A P : Type 0} (b : Bool) (o p : Option A) (y : A) → (if b then o else p) ≡ Some y
+    → (b ≡ true → o ≡ Some y → P) → (p ≡ Some y → P) → P
 if_some_cases true o p y e k l = k refl e
 if_some_cases false o p y e k l = l e
 
@@ -117,12 +148,15 @@ endpoint_in-device word e h =
     bind_some (cut_at 46 word) _ e h (λ cut found h.
     bind_some (result_ok (number_of_word 0 127 cut.0)) _ e h (λ a first h.
     bind_some (result_ok (number_of_word 0 15 cut.1)) _ e h (λ n second h.
-    let one = number_read 0 127 cut.0 a (omega arith) (ok_read (number_of_word 0 127 cut.0) a first) in
-    let two = number_read 0 15 cut.1 n (omega arith) (ok_read (number_of_word 0 15 cut.1) n second) in
+    let one = number_read 0 127 cut.0 a (omega arith)
+    (ok_read (number_of_word 0 127 cut.0) a first) in
+    let two = number_read 0 15 cut.1 n (omega arith)
+    (ok_read (number_of_word 0 15 cut.1) n second) in
     let f : ℕ → ℕ → Endpoint = λ a n. record { address = a; number = n } in
     subst (IsDevice word) (same_Some (f a n) e h) (record {
       fits = (omega (arith, one.high), omega (arith, two.high));
-      text = cut_at-some 46 word cut found ∙ ap (λ t. t ++ 46 ∷ cut.1) one.text ∙ ap (λ t. decimal a ++ 46 ∷ t) two.text;
+      text = cut_at-some 46 word cut found ∙ ap (λ t. t ++ 46 ∷ cut.1) one.text
+          ∙ ap (λ t. decimal a ++ 46 ∷ t) two.text;
     }))))
 
 digit_dot : (c : ℕ) → is_ascii_digit c ≡ true → c ≢ 46
@@ -130,14 +164,17 @@ digit_dot c h e = absurd (grind (arith, nat_tests))
 
 no_dot : (word : List ℕ) → all_ascii_digits word ≡ true → HasNo 46 word
 no_dot [] h i less = absurd (omega arith)
-no_dot (c ∷ word) h zero less = digit_dot c (and_parts (is_ascii_digit c) (all_ascii_digits word) h).0
-no_dot (c ∷ word) h (suc i) less = no_dot word (and_parts (is_ascii_digit c) (all_ascii_digits word) h).1 i (omega arith)
+no_dot (c ∷ word) h zero less = digit_dot c (and_parts (is_ascii_digit c) (all_ascii_digits word)
+    h).0
+no_dot (c ∷ word) h (suc i) less = no_dot word (and_parts (is_ascii_digit c) (all_ascii_digits word)
+    h).1 i (omega arith)
 
 endpoint_read : (e : Endpoint) → IsEndpoint e → endpoint_in (endpoint_text e) ≡ Some e
 unfolding endpoint_in
 endpoint_read e h =
     rw (
-      cut_at-mark 46 (decimal e.address) (decimal e.number) (no_dot (decimal e.address) (all_digits-decimal e.address (omega (arith, h.0)))),
+      cut_at-mark 46 (decimal e.address) (decimal e.number)
+          (no_dot (decimal e.address) (all_digits-decimal e.address (omega (arith, h.0)))),
       read_number 0 127 e.address (omega arith) (omega (arith, h.0)) (omega (arith, h.0)),
       read_number 0 15 e.number (omega arith) (omega (arith, h.1)) (omega (arith, h.1)),
     ) refl
@@ -148,11 +185,15 @@ record IsAsked (line : List ℕ) (q : Question) : Type 0 where
   fits : IsQuestion q
   asks : IsQuestionLine line q
 
-asked_same_line : (line other : List ℕ) (q : Question) → line ≡ other → IsAsked other q → IsAsked line q
+asked_same_line : (line other : List ℕ) (q : Question) → line ≡ other → IsAsked other q
+    → IsAsked line q
 asked_same_line line other q e h = subst (λ t. IsAsked t q) (sym e) h
 
-asked_with : (line digits : List ℕ) (q : Question) → IsQuestion q → hex_value digits ≡ Some (question_bytes q) → line ≡ question_in_digits digits q → IsAsked line q
-asked_with line digits q fits spelled written = record { fits = fits; asks = record { digits = digits; spelled = spelled; written = written } }
+asked_with : (line digits : List ℕ) (q : Question) → IsQuestion q
+    → hex_value digits ≡ Some (question_bytes q) → line ≡ question_in_digits digits q
+    → IsAsked line q
+asked_with line digits q fits spelled written =
+    record { fits = fits; asks = record { digits = digits; spelled = spelled; written = written } }
 
 -- the word of a token
 abbrev token_word : TokenKind → List ℕ
@@ -160,27 +201,39 @@ token_word SetupTok = codes "SETUP"
 token_word OutTok = codes "OUT"
 token_word InTok = codes "IN"
 
-named_token : (kind : TokenKind) (rest : List ℕ) → token_word kind ++ 32 ∷ rest ≡ token_name kind ++ rest
+named_token : (kind : TokenKind) (rest : List ℕ) → token_word kind ++ 32 ∷ rest ≡ token_name kind ++
+    rest
 named_token SetupTok rest = refl
 named_token OutTok rest = refl
 named_token InTok rest = refl
 
-token_spelled : (kind : TokenKind) (e : Endpoint) (rest : List ℕ) → token_word kind ++ 32 ∷ (endpoint_text e ++ rest) ≡ token_text kind e ++ rest
+token_spelled : (kind : TokenKind) (e : Endpoint) (rest : List ℕ)
+    → token_word kind ++ 32 ∷ (endpoint_text e ++ rest) ≡ token_text kind e ++ rest
 token_spelled kind e rest =
     let a : List ℕ = decimal e.address in
     let n : List ℕ = decimal e.number in
     let name : List ℕ = token_name kind in
     named_token kind (endpoint_text e ++ rest) ∙ ap (λ t. name ++ t) (append_assoc a (46 ∷ n) rest)
-    ∙ sym (append_assoc (name ++ a ++ codes ".") n rest ∙ append_assoc (name ++ a) (codes ".") (n ++ rest) ∙ append_assoc name a (46 ∷ (n ++ rest)))
+    ∙ sym (append_assoc (name ++ a ++ codes ".") n rest
+    ∙ append_assoc (name ++ a) (codes ".") (n ++ rest)
+    ∙ append_assoc name a (46 ∷ (n ++ rest)))
 
-sent_spelled : (speed : Speed) (kind : TokenKind) (e : Endpoint) (rest : List ℕ) → speed_text speed ++ (token_word kind ++ 32 ∷ (endpoint_text e ++ rest)) ≡ (speed_text speed ++ token_text kind e) ++ rest
-sent_spelled speed kind e rest = ap (λ t. speed_text speed ++ t) (token_spelled kind e rest) ∙ sym (append_assoc (speed_text speed) (token_text kind e) rest)
+sent_spelled : (speed : Speed) (kind : TokenKind) (e : Endpoint) (rest : List ℕ)
+    → speed_text speed ++ (token_word kind ++ 32 ∷ (endpoint_text e ++ rest))
+    ≡ (speed_text speed ++ token_text kind e) ++ rest
+sent_spelled speed kind e rest = ap (λ t. speed_text speed ++ t) (token_spelled kind e rest)
+    ∙ sym (append_assoc (speed_text speed) (token_text kind e) rest)
 
-toggle_found : (word : List ℕ) (t : Toggle) (rest : List ℕ) → toggle_named word ≡ Some t → word ++ 32 ∷ rest ≡ data_name t ++ rest
+toggle_found : (word : List ℕ) (t : Toggle) (rest : List ℕ) → toggle_named word ≡ Some t
+    → word ++ 32 ∷ rest ≡ data_name t ++ rest
 unfolding toggle_named
 toggle_found word t rest e =
-    if_some_cases (bytes_eq word (codes "DATA0")) (Some Zero) _ t e (λ same is. subst (λ t. word ++ 32 ∷ rest ≡ data_name t ++ rest) (same_Some Zero t is) (ap (λ w. w ++ 32 ∷ rest) (word_is word (codes "DATA0") same))) (λ e.
-    if_some_cases (bytes_eq word (codes "DATA1")) (Some One) _ t e (λ same is. subst (λ t. word ++ 32 ∷ rest ≡ data_name t ++ rest) (same_Some One t is) (ap (λ w. w ++ 32 ∷ rest) (word_is word (codes "DATA1") same))) (λ e.
+    if_some_cases (bytes_eq word (codes "DATA0")) (Some Zero) _ t e
+    (λ same is. subst (λ t. word ++ 32 ∷ rest ≡ data_name t ++ rest) (same_Some Zero t is)
+    (ap (λ w. w ++ 32 ∷ rest) (word_is word (codes "DATA0") same))) (λ e.
+    if_some_cases (bytes_eq word (codes "DATA1")) (Some One) _ t e
+    (λ same is. subst (λ t. word ++ 32 ∷ rest ≡ data_name t ++ rest) (same_Some One t is)
+    (ap (λ w. w ++ 32 ∷ rest) (word_is word (codes "DATA1") same))) (λ e.
     none_not_some t e))
 
 pre_found : (text rest : List ℕ) → behind_pre_word text ≡ Some rest → text ≡ codes "PRE " ++ rest
@@ -188,50 +241,76 @@ unfolding behind_pre_word
 pre_found text rest e =
     bind_some (cut_at 32 text) _ rest e (λ cut found e.
     if_some_cases (bytes_eq cut.0 (codes "PRE")) (Some cut.1) _ rest e (λ same is.
-    cut_at-some 32 text cut found ∙ ap (λ w. w ++ 32 ∷ cut.1) (word_is cut.0 (codes "PRE") same) ∙ ap (λ r. codes "PRE " ++ r) (same_Some cut.1 rest is))
+    cut_at-some 32 text cut found ∙ ap (λ w. w ++ 32 ∷ cut.1) (word_is cut.0 (codes "PRE") same)
+    ∙ ap (λ r. codes "PRE " ++ r) (same_Some cut.1 rest is))
     (λ e. none_not_some rest e))
 
-after_found : (speed : Speed) (text rest : List ℕ) → after_pre speed text ≡ Some rest → codes " / " ++ text ≡ between_text speed ++ rest
+after_found : (speed : Speed) (text rest : List ℕ) → after_pre speed text ≡ Some rest
+    → codes " / " ++ text ≡ between_text speed ++ rest
 unfolding after_pre
 after_found Full text rest e = ap (λ r. codes " / " ++ r) (same_Some text rest e)
 after_found Low text rest e = ap (λ r. codes " / " ++ r) (same_Some text rest e)
 after_found LowBelowHub text rest e = ap (λ r. codes " / " ++ r) (pre_found text rest e)
 
-data_found : (speed : Speed) (text : List ℕ) (sent : Toggle × List ℕ) → data_behind speed text ≡ Some sent → 32 ∷ text ≡ between_text speed ++ data_with sent.0 sent.1
+data_found : (speed : Speed) (text : List ℕ) (sent : Toggle × List ℕ)
+    → data_behind speed text ≡ Some sent → 32 ∷ text ≡ between_text speed ++ data_with sent.0 sent.1
 unfolding data_behind
 data_found speed text sent e =
     bind_some (cut_at 32 text) _ sent e (λ cut found e.
-    bind_some (if bytes_eq cut.0 (codes "/") then after_pre speed cut.1 else None) _ sent e (λ rest behind e.
+    bind_some (if bytes_eq cut.0 (codes "/") then after_pre speed cut.1 else None) _ sent e
+    (λ rest behind e.
     bind_some (cut_at 32 rest) _ sent e (λ named second e.
     bind_some (toggle_named named.0) _ sent e (λ t third is.
-    if_some_cases (bytes_eq cut.0 (codes "/")) (after_pre speed cut.1) None rest behind (λ same after.
-    let front : 32 ∷ text ≡ codes " / " ++ cut.1 = ap (λ r. 32 ∷ r) (cut_at-some 32 text cut found) ∙ ap (λ w. 32 ∷ (w ++ 32 ∷ cut.1)) (word_is cut.0 (codes "/") same) in
+    if_some_cases (bytes_eq cut.0 (codes "/")) (after_pre speed cut.1) None rest behind
+    (λ same after.
+    let front : 32 ∷ text ≡ codes " / " ++ cut.1 = ap (λ r. 32 ∷ r) (cut_at-some 32 text cut found)
+    ∙ ap (λ w. 32 ∷ (w ++ 32 ∷ cut.1)) (word_is cut.0 (codes "/") same) in
     let whole : 32 ∷ text ≡ between_text speed ++ data_with t named.1 =
-    front ∙ after_found speed cut.1 rest after ∙ ap (λ r. between_text speed ++ r) (cut_at-some 32 rest named second ∙ toggle_found named.0 t named.1 third) in
-    subst (λ (s : Toggle × List ℕ). 32 ∷ text ≡ between_text speed ++ data_with s.0 s.1) (same_Some (t, named.1) sent is) whole)
+    front ∙ after_found speed cut.1 rest after
+    ∙ ap (λ r. between_text speed ++ r) (cut_at-some 32 rest named second
+    ∙ toggle_found named.0 t named.1 third) in
+    subst (λ (s : Toggle × List ℕ). 32 ∷ text ≡ between_text speed ++ data_with s.0 s.1)
+    (same_Some (t, named.1) sent is) whole)
     (λ e. none_not_some rest e)))))
 
 -- an attempt with data of the host
-spoken : (speed : Speed) (kind : TokenKind) (e : Endpoint) (text device rest : List ℕ) (t : Toggle) (digits : List ℕ) → text ≡ device ++ 32 ∷ rest → device ≡ endpoint_text e → 32 ∷ rest ≡ between_text speed ++ data_with t digits
-    → speed_text speed ++ (token_word kind ++ 32 ∷ text) ≡ speed_text speed ++ token_text kind e ++ between_text speed ++ data_with t digits
+spoken : (speed : Speed) (kind : TokenKind) (e : Endpoint) (text device rest : List ℕ) (t : Toggle)
+    (digits : List ℕ) → text ≡ device ++ 32 ∷ rest → device ≡ endpoint_text e
+    → 32 ∷ rest ≡ between_text speed ++ data_with t digits
+    → speed_text speed ++ (token_word kind ++ 32 ∷ text) ≡ speed_text speed ++ token_text kind e ++
+    between_text speed ++ data_with t digits
 spoken speed kind e text device rest t digits cut is behind =
-    ap (λ r. speed_text speed ++ (token_word kind ++ 32 ∷ r)) (cut ∙ ap (λ d. d ++ 32 ∷ rest) is ∙ ap (λ r. endpoint_text e ++ r) behind)
-    ∙ sent_spelled speed kind e (between_text speed ++ data_with t digits) ∙ sym (append_assoc (speed_text speed ++ token_text kind e) (between_text speed) (data_with t digits))
+    ap (λ r. speed_text speed ++ (token_word kind ++ 32 ∷ r)) (cut ∙ ap (λ d. d ++ 32 ∷ rest) is
+    ∙ ap (λ r. endpoint_text e ++ r) behind)
+    ∙ sent_spelled speed kind e (between_text speed ++ data_with t digits)
+    ∙ sym (append_assoc (speed_text speed ++ token_text kind e) (between_text speed)
+    (data_with t digits))
 
-in_found : (speed : Speed) (text : List ℕ) (q : Question) → in_question speed text ≡ Some q → IsAsked (speed_text speed ++ (codes "IN" ++ 32 ∷ text)) q
+in_found : (speed : Speed) (text : List ℕ) (q : Question) → in_question speed text ≡ Some q
+    → IsAsked (speed_text speed ++ (codes "IN" ++ 32 ∷ text)) q
 unfolding in_question
 in_found speed text q e =
     bind_some (cut_at 32 text) _ q e (λ cut found e.
     bind_some (endpoint_in cut.0) _ q e (λ dev first e.
     bind_some (result_ok (number_of_word 1 64 cut.1)) _ q e (λ most second is.
     let device = endpoint_in-device cut.0 dev first in
-    let number = number_read 1 64 cut.1 most (omega arith) (ok_read (number_of_word 1 64 cut.1) most second) in
-    let text_is : text ≡ endpoint_text dev ++ 32 ∷ decimal most = cut_at-some 32 text cut found ∙ ap (λ d. d ++ 32 ∷ cut.1) device.text ∙ ap (λ r. endpoint_text dev ++ 32 ∷ r) number.text in
-    let line_is : speed_text speed ++ (codes "IN" ++ 32 ∷ text) ≡ speed_text speed ++ token_text InTok dev ++ codes " " ++ decimal most =
-    ap (λ r. speed_text speed ++ (codes "IN" ++ 32 ∷ r)) text_is ∙ sent_spelled speed InTok dev (32 ∷ decimal most) ∙ sym (append_assoc (speed_text speed ++ token_text InTok dev) (codes " ") (decimal most)) in
-    subst (IsAsked _) (same_Some (In speed dev most) q is) (asked_with _ (codes "-") (In speed dev most) (device.fits, number.low, number.high) refl line_is))))
+    let number = number_read 1 64 cut.1 most (omega arith)
+    (ok_read (number_of_word 1 64 cut.1) most second) in
+    let text_is : text ≡ endpoint_text dev ++ 32 ∷ decimal most = cut_at-some 32 text cut found
+    ∙ ap (λ d. d ++ 32 ∷ cut.1) device.text
+    ∙ ap (λ r. endpoint_text dev ++ 32 ∷ r) number.text in
+    let line_is : speed_text speed ++ (codes "IN" ++ 32 ∷ text) ≡ speed_text speed ++ token_text
+    InTok dev ++ codes " " ++ decimal most =
+    ap (λ r. speed_text speed ++ (codes "IN" ++ 32 ∷ r)) text_is
+    ∙ sent_spelled speed InTok dev (32 ∷ decimal most)
+    ∙ sym (append_assoc (speed_text speed ++ token_text InTok dev) (codes " ") (decimal most))
+    in
+    subst (IsAsked _) (same_Some (In speed dev most) q is)
+    (asked_with _ (codes "-") (In speed dev most) (device.fits, number.low, number.high) refl
+    line_is))))
 
-out_found : (speed : Speed) (text : List ℕ) (q : Question) → out_question speed text ≡ Some q → IsAsked (speed_text speed ++ (codes "OUT" ++ 32 ∷ text)) q
+out_found : (speed : Speed) (text : List ℕ) (q : Question) → out_question speed text ≡ Some q
+    → IsAsked (speed_text speed ++ (codes "OUT" ++ 32 ∷ text)) q
 unfolding out_question
 out_found speed text q e =
     bind_some (cut_at 32 text) _ q e (λ cut found e.
@@ -240,9 +319,12 @@ out_found speed text q e =
     bind_some (result_ok (bytes_of_word 64 sent.1)) _ q e (λ xs third is.
     let device = endpoint_in-device cut.0 dev first in
     let given = bytes_of_word-data 64 sent.1 xs (ok_read (bytes_of_word 64 sent.1) xs third) in
-    let asked : Question = Out speed dev (record { toggle = sent.0; bytes = record { items = xs } }) in
-    subst (IsAsked _) (same_Some asked q is) (asked_with _ sent.1 asked (device.fits, given.few) given.value
-    (spoken speed OutTok dev text cut.0 cut.1 sent.0 sent.1 (cut_at-some 32 text cut found) device.text (data_found speed cut.1 sent second)))))))
+    let asked : Question = Out speed dev (record { toggle = sent.0; bytes = record { items = xs } })
+    in
+    subst (IsAsked _) (same_Some asked q is) (asked_with _ sent.1 asked (device.fits, given.few)
+    given.value
+    (spoken speed OutTok dev text cut.0 cut.1 sent.0 sent.1 (cut_at-some 32 text cut found)
+    device.text (data_found speed cut.1 sent second)))))))
 
 -- ---- setup data
 
@@ -283,18 +365,28 @@ record GivenSetup (t : Toggle) (digits : List ℕ) (setup : SetupData) : Type 0 
   fits : IsSetupData setup
   value : hex_value digits ≡ Some (bytes_of setup)
 
-setup_given : (t : Toggle) (digits xs : List ℕ) (setup : SetupData) → IsDataWord 64 digits xs → setup_by t xs ≡ Some setup → GivenSetup t digits setup
+setup_given : (t : Toggle) (digits xs : List ℕ) (setup : SetupData) → IsDataWord 64 digits xs
+    → setup_by t xs ≡ Some setup → GivenSetup t digits setup
 setup_given One digits xs setup given e = absurd (cc)
 setup_given Zero digits xs setup given e =
     if_some_cases (length xs == 8) (Some (setup_of xs)) None setup e (λ eight is.
     let whole = is_eight xs (eqb-true (length xs) 8 eight) given.few.1 in
-    subst (GivenSetup Zero digits) (same_Some (setup_of xs) setup is) (record { zero_toggle = refl; fits = whole.fits; value = given.value ∙ ap Some (sym whole.again) }))
+    subst (GivenSetup Zero digits) (same_Some (setup_of xs) setup is)
+    (record {
+      zero_toggle = refl;
+      fits = whole.fits;
+      value = given.value
+          ∙ ap Some (sym whole.again);
+    }))
     (λ e. none_not_some setup e)
 
-setup_read : (t : Toggle) (digits : List ℕ) (setup : SetupData) → setup_in t digits ≡ Some setup → GivenSetup t digits setup
+setup_read : (t : Toggle) (digits : List ℕ) (setup : SetupData) → setup_in t digits ≡ Some setup
+    → GivenSetup t digits setup
 unfolding setup_in
 setup_read t digits setup e =
-    bind_some (result_ok (bytes_of_word 64 digits)) _ setup e (λ xs read e. setup_given t digits xs setup (bytes_of_word-data 64 digits xs (ok_read (bytes_of_word 64 digits) xs read)) e)
+    bind_some (result_ok (bytes_of_word 64 digits)) _ setup e
+    (λ xs read e. setup_given t digits xs setup
+    (bytes_of_word-data 64 digits xs (ok_read (bytes_of_word 64 digits) xs read)) e)
 
 setup_again : (s : SetupData) → setup_of (bytes_of s) ≡ s
 unfolding bytes_of setup_of
@@ -308,7 +400,8 @@ length-bytes_of : (s : SetupData) → length (bytes_of s) ≡ 8
 unfolding bytes_of
 length-bytes_of s = refl
 
-setup_found : (speed : Speed) (text : List ℕ) (q : Question) → setup_question speed text ≡ Some q → IsAsked (speed_text speed ++ (codes "SETUP" ++ 32 ∷ text)) q
+setup_found : (speed : Speed) (text : List ℕ) (q : Question) → setup_question speed text ≡ Some q
+    → IsAsked (speed_text speed ++ (codes "SETUP" ++ 32 ∷ text)) q
 unfolding setup_question
 setup_found speed text q e =
     bind_some (cut_at 32 text) _ q e (λ cut found e.
@@ -317,68 +410,118 @@ setup_found speed text q e =
     bind_some (setup_in sent.0 sent.1) _ q e (λ setup third is.
     let device = endpoint_in-device cut.0 dev first in
     let given = setup_read sent.0 sent.1 setup third in
-    let behind : 32 ∷ cut.1 ≡ between_text speed ++ data_with Zero sent.1 = data_found speed cut.1 sent second ∙ ap (λ t. between_text speed ++ data_with t sent.1) given.zero_toggle in
-    subst (IsAsked _) (same_Some (Setup speed dev setup) q is) (asked_with _ sent.1 (Setup speed dev setup) (device.fits, given.fits) given.value
-    (spoken speed SetupTok dev text cut.0 cut.1 Zero sent.1 (cut_at-some 32 text cut found) device.text behind))))))
+    let behind : 32 ∷ cut.1 ≡ between_text speed ++ data_with Zero sent.1 =
+    data_found speed cut.1 sent second ∙ ap (λ t. between_text speed ++ data_with t sent.1)
+    given.zero_toggle in
+    subst (IsAsked _) (same_Some (Setup speed dev setup) q is)
+    (asked_with _ sent.1 (Setup speed dev setup) (device.fits, given.fits) given.value
+    (spoken speed SetupTok dev text cut.0 cut.1 Zero sent.1 (cut_at-some 32 text cut found)
+    device.text behind))))))
 
-call_at : (text name : List ℕ) (a b : PortCall) → bytes_eq text name ≡ true → name ≡ call_text a → ◌≡◌ {A = Option PortCall} (Some a) (Some b) → text ≡ call_text b
+call_at : (text name : List ℕ) (a b : PortCall) → bytes_eq text name ≡ true → name ≡ call_text a
+    → ◌≡◌ {A = Option PortCall} (Some a) (Some b) → text ≡ call_text b
 call_at text name a b same is e = word_is text name same ∙ is ∙ ap call_text (same_Some a b e)
 
 call_found : (text : List ℕ) (call : PortCall) → call_in text ≡ Some call → text ≡ call_text call
 unfolding call_in
 call_found text call e =
-    if_some_cases (bytes_eq text (codes "set PORT_POWER")) (Some SetPower) _ call e (λ same is. call_at text (codes "set PORT_POWER") SetPower call same refl is) (λ e.
-    if_some_cases (bytes_eq text (codes "set PORT_RESET")) (Some SetReset) _ call e (λ same is. call_at text (codes "set PORT_RESET") SetReset call same refl is) (λ e.
-    if_some_cases (bytes_eq text (codes "clear PORT_ENABLE")) (Some ClearEnable) _ call e (λ same is. call_at text (codes "clear PORT_ENABLE") ClearEnable call same refl is) (λ e.
-    if_some_cases (bytes_eq text (codes "clear PORT_POWER")) (Some ClearPower) _ call e (λ same is. call_at text (codes "clear PORT_POWER") ClearPower call same refl is) (λ e.
-    if_some_cases (bytes_eq text (codes "clear C_PORT_CONNECTION")) (Some ClearConnectionChange) _ call e (λ same is. call_at text (codes "clear C_PORT_CONNECTION") ClearConnectionChange call same refl is) (λ e.
-    if_some_cases (bytes_eq text (codes "clear C_PORT_ENABLE")) (Some ClearEnableChange) _ call e (λ same is. call_at text (codes "clear C_PORT_ENABLE") ClearEnableChange call same refl is) (λ e.
-    if_some_cases (bytes_eq text (codes "clear C_PORT_RESET")) (Some ClearResetChange) _ call e (λ same is. call_at text (codes "clear C_PORT_RESET") ClearResetChange call same refl is) (λ e.
+    if_some_cases (bytes_eq text (codes "set PORT_POWER")) (Some SetPower) _ call e
+    (λ same is. call_at text (codes "set PORT_POWER") SetPower call same refl is) (λ e.
+    if_some_cases (bytes_eq text (codes "set PORT_RESET")) (Some SetReset) _ call e
+    (λ same is. call_at text (codes "set PORT_RESET") SetReset call same refl is) (λ e.
+    if_some_cases (bytes_eq text (codes "clear PORT_ENABLE")) (Some ClearEnable) _ call e
+    (λ same is. call_at text (codes "clear PORT_ENABLE") ClearEnable call same refl is) (λ e.
+    if_some_cases (bytes_eq text (codes "clear PORT_POWER")) (Some ClearPower) _ call e
+    (λ same is. call_at text (codes "clear PORT_POWER") ClearPower call same refl is) (λ e.
+    if_some_cases (bytes_eq text (codes "clear C_PORT_CONNECTION")) (Some ClearConnectionChange) _
+    call e (λ same is. call_at text (codes "clear C_PORT_CONNECTION") ClearConnectionChange call
+    same refl is) (λ e.
+    if_some_cases (bytes_eq text (codes "clear C_PORT_ENABLE")) (Some ClearEnableChange) _ call e
+    (λ same is. call_at text (codes "clear C_PORT_ENABLE") ClearEnableChange call same refl is)
+    (λ e.
+    if_some_cases (bytes_eq text (codes "clear C_PORT_RESET")) (Some ClearResetChange) _ call e
+    (λ same is. call_at text (codes "clear C_PORT_RESET") ClearResetChange call same refl is)
+    (λ e.
     none_not_some call e)))))))
 
-three_parts : (front first last : List ℕ) → front ++ (first ++ 32 ∷ last) ≡ front ++ first ++ codes " " ++ last
-three_parts front first last = sym (append_assoc (front ++ first) (codes " ") last ∙ append_assoc front first (32 ∷ last))
+three_parts : (front first last : List ℕ) → front ++ (first ++ 32 ∷ last) ≡ front ++ first ++
+    codes " " ++ last
+three_parts front first last = sym (append_assoc (front ++ first) (codes " ") last
+    ∙ append_assoc front first (32 ∷ last))
 
-port_found : (text : List ℕ) (q : Question) → port_question text ≡ Some q → IsAsked (codes "port" ++ 32 ∷ text) q
+port_found : (text : List ℕ) (q : Question) → port_question text ≡ Some q
+    → IsAsked (codes "port" ++ 32 ∷ text) q
 unfolding port_question
 port_found text q e =
     bind_some (cut_at 32 text) _ q e (λ cut found e.
     bind_some (result_ok (number_of_word 1 7 cut.0)) _ q e (λ n first e.
     bind_some (call_in cut.1) _ q e (λ call second is.
-    let number = number_read 1 7 cut.0 n (omega arith) (ok_read (number_of_word 1 7 cut.0) n first) in
-    let text_is : text ≡ decimal n ++ 32 ∷ call_text call = cut_at-some 32 text cut found ∙ ap (λ d. d ++ 32 ∷ cut.1) number.text ∙ ap (λ r. decimal n ++ 32 ∷ r) (call_found cut.1 call second) in
-    let line_is : codes "port" ++ 32 ∷ text ≡ codes "port " ++ decimal n ++ codes " " ++ call_text call = ap (λ r. codes "port " ++ r) text_is ∙ three_parts (codes "port ") (decimal n) (call_text call) in
-    subst (IsAsked _) (same_Some (Port n call) q is) (asked_with _ (codes "-") (Port n call) (number.low, number.high) refl line_is))))
+    let number = number_read 1 7 cut.0 n (omega arith)
+    (ok_read (number_of_word 1 7 cut.0) n first) in
+    let text_is : text ≡ decimal n ++ 32 ∷ call_text call = cut_at-some 32 text cut found
+    ∙ ap (λ d. d ++ 32 ∷ cut.1) number.text
+    ∙ ap (λ r. decimal n ++ 32 ∷ r) (call_found cut.1 call second) in
+    let line_is : codes "port" ++ 32 ∷ text ≡ codes "port " ++ decimal n ++ codes " " ++ call_text
+    call = ap (λ r. codes "port " ++ r) text_is
+    ∙ three_parts (codes "port ") (decimal n) (call_text call) in
+    subst (IsAsked _) (same_Some (Port n call) q is)
+    (asked_with _ (codes "-") (Port n call) (number.low, number.high) refl line_is))))
 
-word_at_front : (speed : Speed) (word name text : List ℕ) (q : Question) → bytes_eq word name ≡ true → IsAsked (speed_text speed ++ (name ++ 32 ∷ text)) q → IsAsked (speed_text speed ++ (word ++ 32 ∷ text)) q
-word_at_front speed word name text q same h = subst (λ w. IsAsked (speed_text speed ++ (w ++ 32 ∷ text)) q) (sym (word_is word name same)) h
+word_at_front : (speed : Speed) (word name text : List ℕ) (q : Question) → bytes_eq word name ≡ true
+    → IsAsked (speed_text speed ++ (name ++ 32 ∷ text)) q
+    → IsAsked (speed_text speed ++ (word ++ 32 ∷ text)) q
+word_at_front speed word name text q same h =
+    subst (λ w. IsAsked (speed_text speed ++ (w ++ 32 ∷ text)) q) (sym (word_is word name same)) h
 
-token_found : (speed : Speed) (word text : List ℕ) (q : Question) → token_of_words speed word text ≡ Some q → IsAsked (speed_text speed ++ (word ++ 32 ∷ text)) q
+token_found : (speed : Speed) (word text : List ℕ) (q : Question) → token_of_words speed word text
+    ≡ Some q → IsAsked (speed_text speed ++ (word ++ 32 ∷ text)) q
 unfolding token_of_words
 token_found speed word text q e =
-    if_some_cases (bytes_eq word (codes "SETUP")) (setup_question speed text) _ q e (λ same e. word_at_front speed word (codes "SETUP") text q same (setup_found speed text q e)) (λ e.
-    if_some_cases (bytes_eq word (codes "OUT")) (out_question speed text) _ q e (λ same e. word_at_front speed word (codes "OUT") text q same (out_found speed text q e)) (λ e.
-    if_some_cases (bytes_eq word (codes "IN")) (in_question speed text) _ q e (λ same e. word_at_front speed word (codes "IN") text q same (in_found speed text q e)) (λ e.
+    if_some_cases (bytes_eq word (codes "SETUP")) (setup_question speed text) _ q e
+    (λ same e. word_at_front speed word (codes "SETUP") text q same
+    (setup_found speed text q e)) (λ e.
+    if_some_cases (bytes_eq word (codes "OUT")) (out_question speed text) _ q e
+    (λ same e. word_at_front speed word (codes "OUT") text q same (out_found speed text q e))
+    (λ e.
+    if_some_cases (bytes_eq word (codes "IN")) (in_question speed text) _ q e
+    (λ same e. word_at_front speed word (codes "IN") text q same (in_found speed text q e))
+    (λ e.
     none_not_some q e)))
 
-behind_found : (speed : Speed) (text : List ℕ) (q : Question) → token_behind speed text ≡ Some q → IsAsked (speed_text speed ++ text) q
+behind_found : (speed : Speed) (text : List ℕ) (q : Question) → token_behind speed text ≡ Some q
+    → IsAsked (speed_text speed ++ text) q
 unfolding token_behind
 behind_found speed text q e =
-    bind_some (cut_at 32 text) _ q e (λ cut found e. asked_same_line (speed_text speed ++ text) (speed_text speed ++ (cut.0 ++ 32 ∷ cut.1)) q (ap (λ t. speed_text speed ++ t) (cut_at-some 32 text cut found)) (token_found speed cut.0 cut.1 q e))
+    bind_some (cut_at 32 text) _ q e (λ cut found e. asked_same_line (speed_text speed ++ text)
+    (speed_text speed ++ (cut.0 ++ 32 ∷ cut.1)) q
+    (ap (λ t. speed_text speed ++ t) (cut_at-some 32 text cut found))
+    (token_found speed cut.0 cut.1 q e))
 
-asked_of_cut : (text : List ℕ) (cut : List ℕ × List ℕ) (name : List ℕ) (q : Question) → cut_at 32 text ≡ Some cut → bytes_eq cut.0 name ≡ true → IsAsked (name ++ 32 ∷ cut.1) q → IsAsked text q
-asked_of_cut text cut name q found same h = asked_same_line text (name ++ 32 ∷ cut.1) q (cut_at-some 32 text cut found ∙ ap (λ w. w ++ 32 ∷ cut.1) (word_is cut.0 name same)) h
+asked_of_cut : (text : List ℕ) (cut : List ℕ × List ℕ) (name : List ℕ) (q : Question)
+    → cut_at 32 text ≡ Some cut → bytes_eq cut.0 name ≡ true → IsAsked (name ++ 32 ∷ cut.1) q
+    → IsAsked text q
+asked_of_cut text cut name q found same h =
+    asked_same_line text (name ++ 32 ∷ cut.1) q (cut_at-some 32 text cut found
+    ∙ ap (λ w. w ++ 32 ∷ cut.1) (word_is cut.0 name same)) h
 
 several_found : (text : List ℕ) (q : Question) → asked_in text ≡ Some q → IsAsked text q
 unfolding asked_in
 several_found text q e =
     bind_some (cut_at 32 text) _ q e (λ cut found e.
-    if_some_cases (bytes_eq cut.0 (codes "port")) (port_question cut.1) _ q e (λ same e. asked_of_cut text cut (codes "port") q found same (port_found cut.1 q e)) (λ e.
-    if_some_cases (bytes_eq cut.0 (codes "low")) (token_behind Low cut.1) _ q e (λ same e. asked_of_cut text cut (codes "low") q found same (behind_found Low cut.1 q e)) (λ e.
-    if_some_cases (bytes_eq cut.0 (codes "PRE")) (token_behind LowBelowHub cut.1) _ q e (λ same e. asked_of_cut text cut (codes "PRE") q found same (behind_found LowBelowHub cut.1 q e)) (λ e.
-    asked_same_line text (cut.0 ++ 32 ∷ cut.1) q (cut_at-some 32 text cut found) (token_found Full cut.0 cut.1 q e)))))
+    if_some_cases (bytes_eq cut.0 (codes "port")) (port_question cut.1) _ q e
+    (λ same e. asked_of_cut text cut (codes "port") q found same (port_found cut.1 q e)) (λ e.
+    if_some_cases (bytes_eq cut.0 (codes "low")) (token_behind Low cut.1) _ q e
+    (λ same e. asked_of_cut text cut (codes "low") q found same (behind_found Low cut.1 q e))
+    (λ e.
+    if_some_cases (bytes_eq cut.0 (codes "PRE")) (token_behind LowBelowHub cut.1) _ q e
+    (λ same e. asked_of_cut text cut (codes "PRE") q found same
+    (behind_found LowBelowHub cut.1 q e)) (λ e.
+    asked_same_line text (cut.0 ++ 32 ∷ cut.1) q (cut_at-some 32 text cut found)
+    (token_found Full cut.0 cut.1 q e)))))
 
-text_read : (l p : Bool) (line text : List ℕ) → ◌≡◌ {A = Result (List ℕ) WireFault} (if l then Err LineTooLong else if p then Ok line else Err BadCharacter) (Ok text) → line ≡ text
+text_read : (l p : Bool) (line text : List ℕ)
+    → ◌≡◌ {A = Result (List ℕ) WireFault} (if l then Err LineTooLong else if p then Ok line else Err
+    BadCharacter) (Ok text) → line ≡ text
 text_read true p line text e = absurd (cc)
 text_read false true line text e = same_Ok line text e
 text_read false false line text e = absurd (cc)
@@ -391,14 +534,22 @@ question_found : (line : List ℕ) (q : Question) → question_of line ≡ Some 
 unfolding question_of
 question_found line q e =
     bind_some (result_ok (text_of_line line)) _ q e (λ text read e.
-    asked_same_line line text q (text_of_line-ok line text (ok_read (text_of_line line) text read)) (
-    if_some_cases (bytes_eq text (codes "wait")) (Some Wait) _ q e (λ same is. subst (IsAsked text) (same_Some Wait q is) (asked_with text (codes "-") Wait tt refl (word_is text (codes "wait") same))) (λ e.
-    if_some_cases (bytes_eq text (codes "usbplan live 1")) (Some Hello) _ q e (λ same is. subst (IsAsked text) (same_Some Hello q is) (asked_with text (codes "-") Hello tt refl (word_is text (codes "usbplan live 1") same))) (λ e.
+    asked_same_line line text q (text_of_line-ok line text (ok_read (text_of_line line) text read))
+    (
+    if_some_cases (bytes_eq text (codes "wait")) (Some Wait) _ q e
+    (λ same is. subst (IsAsked text) (same_Some Wait q is)
+    (asked_with text (codes "-") Wait tt refl (word_is text (codes "wait") same))) (λ e.
+    if_some_cases (bytes_eq text (codes "usbplan live 1")) (Some Hello) _ q e
+    (λ same is. subst (IsAsked text) (same_Some Hello q is)
+    (asked_with text (codes "-") Hello tt refl (word_is text (codes "usbplan live 1") same)))
+    (λ e.
     several_found text q e))))
 
-pub question_read-some : (line : List ℕ) (r : Option Question) → r ≡ question_of line → IfSome r (λ q. IsQuestion q × IsQuestionLine line q)
+pub question_read-some : (line : List ℕ) (r : Option Question) → r ≡ question_of line
+    → IfSome r (λ q. IsQuestion q × IsQuestionLine line q)
 question_read-some line None e = tt
-question_read-some line (Some q) e = let found = question_found line q (sym e) in (found.fits, found.asks)
+question_read-some line (Some q) e = let found = question_found line q (sym e) in
+    (found.fits, found.asks)
 
 -- ---- what is asked is read
 
@@ -407,7 +558,8 @@ record Fine (most : ℕ) (text : List ℕ) : Type 0 where
   short : length text ≤ most
   printable : all_printable text ≡ true
 
-fine-append : (m n : ℕ) (text more : List ℕ) → Fine m text → Fine n more → Fine (m + n) (text ++ more)
+fine-append : (m n : ℕ) (text more : List ℕ) → Fine m text → Fine n more
+    → Fine (m + n) (text ++ more)
 fine-append m n text more h k = record {
   short = let size = length-append text more in omega (arith, size, h.short, k.short);
   printable = all_printable-append text more h.printable k.printable;
@@ -450,36 +602,49 @@ fine_blank = record { short = lit≤ tt; printable = refl }
 fine_number : (n : ℕ) → n ≤ 1000 → Fine 129 (decimal n)
 fine_number n few = fine_word (decimal n) (decimal-is_word 129 n (omega arith) few)
 
-fine_token : (speed : Speed) (kind : TokenKind) (e : Endpoint) → IsEndpoint e → Fine (9 + (9 + 129 + 1 + 129)) (speed_text speed ++ token_text kind e)
+fine_token : (speed : Speed) (kind : TokenKind) (e : Endpoint) → IsEndpoint e
+    → Fine (9 + (9 + 129 + 1 + 129)) (speed_text speed ++ token_text kind e)
 fine_token speed kind e h =
     let a = fine_number e.address (omega (arith, h.0)) in
     let n = fine_number e.number (omega (arith, h.1)) in
     let dot : Fine 1 (codes ".") = record { short = lit≤ tt; printable = refl } in
     fine-append 9 (9 + 129 + 1 + 129) (speed_text speed) (token_text kind e) (fine_speed speed)
-    (fine-append (9 + 129 + 1) 129 (token_name kind ++ decimal e.address ++ codes ".") (decimal e.number)
-    (fine-append (9 + 129) 1 (token_name kind ++ decimal e.address) (codes ".") (fine-append 9 129 (token_name kind) (decimal e.address) (fine_name kind) a) dot) n)
+    (fine-append (9 + 129 + 1) 129 (token_name kind ++ decimal e.address ++ codes ".")
+    (decimal e.number)
+    (fine-append (9 + 129) 1 (token_name kind ++ decimal e.address) (codes ".")
+    (fine-append 9 129 (token_name kind) (decimal e.address) (fine_name kind) a) dot) n)
 
-fine_sent : (speed : Speed) (kind : TokenKind) (e : Endpoint) (t : Toggle) (digits xs : List ℕ) → IsEndpoint e → hex_value digits ≡ Some xs → length xs ≤ 64
-    → Fine (277 + 9 + (9 + 129)) (speed_text speed ++ token_text kind e ++ between_text speed ++ data_with t digits)
+fine_sent : (speed : Speed) (kind : TokenKind) (e : Endpoint) (t : Toggle) (digits xs : List ℕ)
+    → IsEndpoint e → hex_value digits ≡ Some xs → length xs ≤ 64
+    → Fine (277 + 9 + (9 + 129)) (speed_text speed ++ token_text kind e ++ between_text speed ++
+    data_with t digits)
 fine_sent speed kind e t digits xs h value few =
-    fine-append (277 + 9) (9 + 129) (speed_text speed ++ token_text kind e ++ between_text speed) (data_with t digits)
-    (fine-append 277 9 (speed_text speed ++ token_text kind e) (between_text speed) (fine_token speed kind e h) (fine_pre speed))
-    (fine-append 9 129 (data_name t) digits (fine_data t) (fine_word digits (bytes_word 64 digits xs value few)))
+    fine-append (277 + 9) (9 + 129) (speed_text speed ++ token_text kind e ++ between_text speed)
+    (data_with t digits)
+    (fine-append 277 9 (speed_text speed ++ token_text kind e) (between_text speed)
+    (fine_token speed kind e h) (fine_pre speed))
+    (fine-append 9 129 (data_name t) digits (fine_data t)
+    (fine_word digits (bytes_word 64 digits xs value few)))
 
 fine_text : (m : ℕ) (line : List ℕ) → m ≤ 1024 → Fine m line → text_of_line line ≡ Ok line
 unfolding text_of_line
-fine_text m line most h = rw (le-ltb 1024 (length line) (omega (arith, h.short, most)), h.printable) refl
+fine_text m line most h = rw (le-ltb 1024 (length line) (omega (arith, h.short, most)), h.printable)
+    refl
 
 -- the question in a text
 abbrev question_in : List ℕ → Option Question
-question_in text = if bytes_eq text (codes "wait") then Some Wait else if bytes_eq text (codes "usbplan live 1") then Some Hello else asked_in text
+question_in text = if bytes_eq text (codes "wait") then Some Wait else if bytes_eq text
+    (codes "usbplan live 1") then Some Hello else asked_in text
 
-question_of-text : (m : ℕ) (line : List ℕ) → m ≤ 1024 → Fine m line → question_of line ≡ question_in line
+question_of-text : (m : ℕ) (line : List ℕ) → m ≤ 1024 → Fine m line
+    → question_of line ≡ question_in line
 unfolding question_of
 question_of-text m line most h = ap (λ r. result_ok r >>= question_in) (fine_text m line most h)
 
 -- a token's words lead to its reader
-token_reached : (speed : Speed) (kind : TokenKind) (rest : List ℕ) → question_in (speed_text speed ++ (token_word kind ++ 32 ∷ rest)) ≡ token_of_words speed (token_word kind) rest
+token_reached : (speed : Speed) (kind : TokenKind) (rest : List ℕ)
+    → question_in (speed_text speed ++ (token_word kind ++ 32 ∷ rest))
+    ≡ token_of_words speed (token_word kind) rest
 unfolding asked_in cut_at token_behind
 token_reached Full SetupTok rest = refl
 token_reached Full OutTok rest = refl
@@ -497,8 +662,10 @@ endpoint_visible e h =
     let n = all_visible-decimal e.number (omega (arith, h.1)) in
     list_all-append is_visible (decimal e.address) (46 ∷ decimal e.number) ∙ rw (a, n) refl
 
-device_cut : (e : Endpoint) (rest : List ℕ) → IsEndpoint e → cut_at 32 (endpoint_text e ++ 32 ∷ rest) ≡ Some (endpoint_text e, rest)
-device_cut e rest h = cut_at-mark 32 (endpoint_text e) rest (HasNoSpace-visible (endpoint_text e) (endpoint_visible e h))
+device_cut : (e : Endpoint) (rest : List ℕ) → IsEndpoint e
+    → cut_at 32 (endpoint_text e ++ 32 ∷ rest) ≡ Some (endpoint_text e, rest)
+device_cut e rest h = cut_at-mark 32 (endpoint_text e) rest
+    (HasNoSpace-visible (endpoint_text e) (endpoint_visible e h))
 
 -- what stands behind an endpoint and its space, before the host's data
 abbrev behind_device : Speed → Toggle → List ℕ → List ℕ
@@ -506,12 +673,14 @@ behind_device Full t digits = codes "/ " ++ data_with t digits
 behind_device Low t digits = codes "/ " ++ data_with t digits
 behind_device LowBelowHub t digits = codes "/ PRE " ++ data_with t digits
 
-pre_is : (speed : Speed) (t : Toggle) (digits : List ℕ) → between_text speed ++ data_with t digits ≡ 32 ∷ behind_device speed t digits
+pre_is : (speed : Speed) (t : Toggle) (digits : List ℕ) → between_text speed ++ data_with t digits
+    ≡ 32 ∷ behind_device speed t digits
 pre_is Full t digits = refl
 pre_is Low t digits = refl
 pre_is LowBelowHub t digits = refl
 
-data_reached_at : (speed : Speed) (t : Toggle) (digits : List ℕ) → data_behind speed (behind_device speed t digits) ≡ Some (t, digits)
+data_reached_at : (speed : Speed) (t : Toggle) (digits : List ℕ)
+    → data_behind speed (behind_device speed t digits) ≡ Some (t, digits)
 unfolding data_behind cut_at after_pre behind_pre_word toggle_named
 data_reached_at Full Zero digits = refl
 data_reached_at Full One digits = refl
@@ -534,58 +703,110 @@ port_cut : (rest : List ℕ) → cut_at 32 (codes "port " ++ rest) ≡ Some (cod
 unfolding cut_at
 port_cut rest = refl
 
-port_reached : (number : ℕ) (call : PortCall) → 1 ≤ number → number ≤ 7 → question_in (codes "port " ++ (decimal number ++ 32 ∷ call_text call)) ≡ Some (Port number call)
+port_reached : (number : ℕ) (call : PortCall) → 1 ≤ number → number ≤ 7
+    → question_in (codes "port " ++ (decimal number ++ 32 ∷ call_text call))
+    ≡ Some (Port number call)
 unfolding asked_in port_question
 port_reached number call low high =
     let visible = all_visible-decimal number (omega arith) in
     let first = port_cut (decimal number ++ 32 ∷ call_text call) in
-    let second = cut_at-mark 32 (decimal number) (call_text call) (HasNoSpace-visible (decimal number) visible) in
+    let second = cut_at-mark 32 (decimal number) (call_text call)
+    (HasNoSpace-visible (decimal number) visible) in
     rw (first, second, read_number 1 7 number low high (omega arith), call_read call) refl
 
-in_read : (speed : Speed) (e : Endpoint) (most : ℕ) → IsEndpoint e → 1 ≤ most → most ≤ 64 → in_question speed (endpoint_text e ++ 32 ∷ decimal most) ≡ Some (In speed e most)
+in_read : (speed : Speed) (e : Endpoint) (most : ℕ) → IsEndpoint e → 1 ≤ most → most ≤ 64
+    → in_question speed (endpoint_text e ++ 32 ∷ decimal most) ≡ Some (In speed e most)
 unfolding in_question
-in_read speed e most h low high = rw (device_cut e (decimal most) h, endpoint_read e h, read_number 1 64 most low high (omega arith)) refl
+in_read speed e most h low high = rw (
+  device_cut e (decimal most) h,
+  endpoint_read e h,
+  read_number 1 64 most low high (omega arith),
+) refl
 
-out_read : (speed : Speed) (e : Endpoint) (t : Toggle) (digits xs : List ℕ) → IsEndpoint e → hex_value digits ≡ Some xs → length xs ≤ 64
-    → out_question speed (endpoint_text e ++ (between_text speed ++ data_with t digits)) ≡ Some (Out speed e (record { toggle = t; bytes = record { items = xs } }))
+out_read : (speed : Speed) (e : Endpoint) (t : Toggle) (digits xs : List ℕ) → IsEndpoint e
+    → hex_value digits ≡ Some xs → length xs ≤ 64
+    → out_question speed (endpoint_text e ++ (between_text speed ++ data_with t digits))
+    ≡ Some (Out speed e (record { toggle = t; bytes = record { items = xs } }))
 unfolding out_question
 out_read speed e t digits xs h value few =
-    rw (pre_is speed t digits, device_cut e (behind_device speed t digits) h, endpoint_read e h, data_reached_at speed t digits, read_bytes 64 digits xs value few) refl
+    rw (
+      pre_is speed t digits,
+      device_cut e (behind_device speed t digits) h,
+      endpoint_read e h,
+      data_reached_at speed t digits,
+      read_bytes 64 digits xs value few,
+    ) refl
 
 setup_back : (s : SetupData) → IsSetupData s → setup_by Zero (bytes_of s) ≡ Some s
 setup_back s h = rw (length-bytes_of s) (ap Some (setup_again s))
 
-setup_read_back : (speed : Speed) (e : Endpoint) (digits : List ℕ) (s : SetupData) → IsEndpoint e → IsSetupData s → hex_value digits ≡ Some (bytes_of s)
-    → setup_question speed (endpoint_text e ++ (between_text speed ++ data_with Zero digits)) ≡ Some (Setup speed e s)
+setup_read_back : (speed : Speed) (e : Endpoint) (digits : List ℕ) (s : SetupData) → IsEndpoint e
+    → IsSetupData s → hex_value digits ≡ Some (bytes_of s)
+    → setup_question speed (endpoint_text e ++ (between_text speed ++ data_with Zero digits))
+    ≡ Some (Setup speed e s)
 unfolding setup_question setup_in
 setup_read_back speed e digits s h fits value =
     let few : length (bytes_of s) ≤ 64 = let size = length-bytes_of s in omega (arith, size) in
-    rw (pre_is speed Zero digits, device_cut e (behind_device speed Zero digits) h, endpoint_read e h, data_reached_at speed Zero digits, read_bytes 64 digits (bytes_of s) value few, setup_back s fits) refl
+    rw (
+      pre_is speed Zero digits,
+      device_cut e (behind_device speed Zero digits) h,
+      endpoint_read e h,
+      data_reached_at speed Zero digits,
+      read_bytes 64 digits (bytes_of s)
+          value few,
+      setup_back s fits,
+    ) refl
 
-asked_read : (digits : List ℕ) (q : Question) → IsQuestion q → hex_value digits ≡ Some (question_bytes q) → question_of (question_in_digits digits q) ≡ Some q
+asked_read : (digits : List ℕ) (q : Question) → IsQuestion q
+    → hex_value digits ≡ Some (question_bytes q) → question_of (question_in_digits digits q)
+    ≡ Some q
 unfolding token_of_words
-asked_read digits Hello h e = question_of-text 20 (codes "usbplan live 1") (lit≤ tt) (record { short = lit≤ tt; printable = refl })
-asked_read digits Wait h e = question_of-text 20 (codes "wait") (lit≤ tt) (record { short = lit≤ tt; printable = refl })
+asked_read digits Hello h e = question_of-text 20 (codes "usbplan live 1") (lit≤ tt)
+    (record { short = lit≤ tt; printable = refl })
+asked_read digits Wait h e = question_of-text 20 (codes "wait") (lit≤ tt)
+    (record { short = lit≤ tt; printable = refl })
 asked_read digits (In speed dev most) h e =
-    let fine = fine-append (277 + 1) 129 (speed_text speed ++ token_text InTok dev ++ codes " ") (decimal most) (fine-append 277 1 (speed_text speed ++ token_text InTok dev) (codes " ") (fine_token speed InTok dev h.0) fine_blank) (fine_number most (omega (arith, h.2))) in
+    let fine = fine-append (277 + 1) 129 (speed_text speed ++ token_text InTok dev ++ codes " ")
+    (decimal most) (fine-append 277 1 (speed_text speed ++ token_text InTok dev) (codes " ")
+    (fine_token speed InTok dev h.0) fine_blank) (fine_number most (omega (arith, h.2))) in
     question_of-text (277 + 1 + 129) _ (lit≤ tt) fine
-    ∙ ap question_in (append_assoc (speed_text speed ++ token_text InTok dev) (codes " ") (decimal most) ∙ sym (sent_spelled speed InTok dev (32 ∷ decimal most)))
-    ∙ token_reached speed InTok (endpoint_text dev ++ 32 ∷ decimal most) ∙ in_read speed dev most h.0 h.1 h.2
+    ∙ ap question_in (append_assoc (speed_text speed ++ token_text InTok dev) (codes " ")
+    (decimal most) ∙ sym (sent_spelled speed InTok dev (32 ∷ decimal most)))
+    ∙ token_reached speed InTok (endpoint_text dev ++ 32 ∷ decimal most)
+    ∙ in_read speed dev most h.0 h.1 h.2
 asked_read digits (Out speed dev sent) h e =
-    question_of-text (277 + 9 + (9 + 129)) _ (lit≤ tt) (fine_sent speed OutTok dev sent.toggle digits sent.bytes.items h.0 e h.1.0)
-    ∙ ap question_in (append_assoc (speed_text speed ++ token_text OutTok dev) (between_text speed) (data_with sent.toggle digits) ∙ sym (sent_spelled speed OutTok dev (between_text speed ++ data_with sent.toggle digits)))
-    ∙ token_reached speed OutTok (endpoint_text dev ++ (between_text speed ++ data_with sent.toggle digits)) ∙ out_read speed dev sent.toggle digits sent.bytes.items h.0 e h.1.0
+    question_of-text (277 + 9 + (9 + 129)) _ (lit≤ tt)
+    (fine_sent speed OutTok dev sent.toggle digits sent.bytes.items h.0 e h.1.0)
+    ∙ ap question_in (append_assoc (speed_text speed ++ token_text OutTok dev) (between_text speed)
+    (data_with sent.toggle digits)
+    ∙ sym (sent_spelled speed OutTok dev
+    (between_text speed ++ data_with sent.toggle digits)))
+    ∙ token_reached speed OutTok (endpoint_text dev ++
+    (between_text speed ++ data_with sent.toggle digits))
+    ∙ out_read speed dev sent.toggle digits sent.bytes.items h.0 e h.1.0
 asked_read digits (Setup speed dev setup) h e =
-    let few : length (bytes_of setup) ≤ 64 = let size = length-bytes_of setup in omega (arith, size) in
-    question_of-text (277 + 9 + (9 + 129)) _ (lit≤ tt) (fine_sent speed SetupTok dev Zero digits (bytes_of setup) h.0 e few)
-    ∙ ap question_in (append_assoc (speed_text speed ++ token_text SetupTok dev) (between_text speed) (data_with Zero digits) ∙ sym (sent_spelled speed SetupTok dev (between_text speed ++ data_with Zero digits)))
-    ∙ token_reached speed SetupTok (endpoint_text dev ++ (between_text speed ++ data_with Zero digits)) ∙ setup_read_back speed dev digits setup h.0 h.1 e
+    let few : length (bytes_of setup) ≤ 64 = let size = length-bytes_of setup in
+    omega (arith, size) in
+    question_of-text (277 + 9 + (9 + 129)) _ (lit≤ tt)
+    (fine_sent speed SetupTok dev Zero digits (bytes_of setup) h.0 e few)
+    ∙ ap question_in (append_assoc (speed_text speed ++ token_text SetupTok dev)
+    (between_text speed) (data_with Zero digits)
+    ∙ sym (sent_spelled speed SetupTok dev (between_text speed ++ data_with Zero digits)))
+    ∙ token_reached speed SetupTok (endpoint_text dev ++
+    (between_text speed ++ data_with Zero digits))
+    ∙ setup_read_back speed dev digits setup h.0 h.1 e
 asked_read digits (Port number call) h e =
     let front : Fine 5 (codes "port ") = record { short = lit≤ tt; printable = refl } in
-    let fine = fine-append (5 + 129 + 1) 40 (codes "port " ++ decimal number ++ codes " ") (call_text call) (fine-append (5 + 129) 1 (codes "port " ++ decimal number) (codes " ") (fine-append 5 129 (codes "port ") (decimal number) front (fine_number number (omega (arith, h.1)))) fine_blank) (fine_call call) in
-    question_of-text (5 + 129 + 1 + 40) _ (lit≤ tt) fine ∙ ap question_in (sym (three_parts (codes "port ") (decimal number) (call_text call))) ∙ port_reached number call h.0 h.1
+    let fine = fine-append (5 + 129 + 1) 40 (codes "port " ++ decimal number ++ codes " ")
+    (call_text call) (fine-append (5 + 129) 1 (codes "port " ++ decimal number) (codes " ")
+    (fine-append 5 129 (codes "port ") (decimal number) front
+    (fine_number number (omega (arith, h.1)))) fine_blank) (fine_call call) in
+    question_of-text (5 + 129 + 1 + 40) _ (lit≤ tt) fine
+    ∙ ap question_in (sym (three_parts (codes "port ") (decimal number) (call_text call)))
+    ∙ port_reached number call h.0 h.1
 
-pub question_read-asked : (line : List ℕ) (q : Question) → IsQuestion q → IsQuestionLine line q → question_of line ≡ Some q
+pub question_read-asked : (line : List ℕ) (q : Question) → IsQuestion q → IsQuestionLine line q
+    → question_of line ≡ Some q
 question_read-asked line q h is = ap question_of is.written ∙ asked_read is.digits q h is.spelled
 
 -- ---- what is written
@@ -596,9 +817,12 @@ small_setup s h =
     let l : List ℕ = (s.length % 256) ∷ (s.length / 256) ∷ [] in
     let i : List ℕ = (s.index % 256) ∷ (s.index / 256) ∷ l in
     let v : List ℕ = (s.value % 256) ∷ (s.value / 256) ∷ i in
-    let small_l : IsBytes l = IsBytes-cons (s.length % 256) ((s.length / 256) ∷ []) (omega arith) (IsBytes-cons (s.length / 256) [] (omega (arith, h.4)) IsBytes-none) in
-    let small_i : IsBytes i = IsBytes-cons (s.index % 256) ((s.index / 256) ∷ l) (omega arith) (IsBytes-cons (s.index / 256) l (omega (arith, h.3)) small_l) in
-    let small_v : IsBytes v = IsBytes-cons (s.value % 256) ((s.value / 256) ∷ i) (omega arith) (IsBytes-cons (s.value / 256) i (omega (arith, h.2)) small_i) in
+    let small_l : IsBytes l = IsBytes-cons (s.length % 256) ((s.length / 256) ∷ []) (omega arith)
+    (IsBytes-cons (s.length / 256) [] (omega (arith, h.4)) IsBytes-none) in
+    let small_i : IsBytes i = IsBytes-cons (s.index % 256) ((s.index / 256) ∷ l) (omega arith)
+    (IsBytes-cons (s.index / 256) l (omega (arith, h.3)) small_l) in
+    let small_v : IsBytes v = IsBytes-cons (s.value % 256) ((s.value / 256) ∷ i) (omega arith)
+    (IsBytes-cons (s.value / 256) i (omega (arith, h.2)) small_i) in
     IsBytes-cons s.request_type (s.request ∷ v) h.0 (IsBytes-cons s.request v h.1 small_v)
 
 question_small : (q : Question) → IsQuestion q → IsBytes (question_bytes q)
@@ -610,5 +834,11 @@ question_small (Port number call) h = IsBytes-none
 question_small Wait h = IsBytes-none
 
 -- the line that is written asks what it was written for
-pub IsQuestionLine-question_line : (q : Question) → IsQuestion q → IsQuestionLine (question_line q) q
-IsQuestionLine-question_line q h = record { digits = hex_text (question_bytes q); spelled = hex_value-hex_text (question_bytes q) (question_small q h); written = refl }
+pub IsQuestionLine-question_line : (q : Question) → IsQuestion q
+    → IsQuestionLine (question_line q) q
+IsQuestionLine-question_line q h = record {
+  digits = hex_text (question_bytes q);
+  spelled =
+      hex_value-hex_text (question_bytes q) (question_small q h);
+  written = refl;
+}

@@ -1,5 +1,7 @@
 -- What may be said and stands in a line is read.
-use Rattle.std.proofs.Common.{◌≡◌, ℕ, ◌+◌, ◌*◌, ◌<◌, ◌≤◌, true, List, [], ◌∷◌, ◌++◌, length, get_or, Some, ok_or, Ok, refl, sym, subst, ap, ◌∙◌, arith, append_assoc, codes, decimal, length-append, lit<, lit≤}
+use Rattle.std.proofs.Common.{◌≡◌, ℕ, ◌+◌, ◌*◌, ◌<◌, ◌≤◌, true, List, [], ◌∷◌, ◌++◌, length, get_or}
+use Rattle.std.proofs.Common.{Some, ok_or, Ok, refl, sym, subst, ap, ◌∙◌, arith, append_assoc}
+use Rattle.std.proofs.Common.{codes, decimal, length-append, lit<, lit≤}
 use Rattle.std.proofs.lemmas.Bool.{le-ltb}
 use Rattle.std.proofs.lemmas.Fmt.{length-decimal-le}
 use Rattle.hex.specs.Hex.{IsBytes}
@@ -9,18 +11,28 @@ use Rattle.usb_packet.specs.Text.{data_name, hex_text}
 use Rattle.usb_port.specs.Path.{IsPath, path_text}
 use Rattle.usb_port.proofs.Paths.{length-path_text, reads_back}
 use Rattle.usb_wire.specs.declared.answer.Answer.{Answer}
-use Rattle.usb_wire.specs.declared.answer.Answer.TheVariants.{Roots, Ack, Nak, Stall, Nothing, Data, Done, Show, End, Send, Receive, Clear}
+use Rattle.usb_wire.specs.declared.answer.Answer.TheVariants.{Roots, Ack, Nak, Stall, Nothing, Data}
+use Rattle.usb_wire.specs.declared.answer.Answer.TheVariants.{Done, Show, End, Send, Receive, Clear}
 use Rattle.usb_wire.specs.declared.answer.Said.{Said}
 use Rattle.usb_wire.specs.declared.answer.Said.TheVariants.{Changed, Answered}
 use Rattle.usb_wire.specs.declared.fault.WireFault.TheVariants.{BadNumber, BadPath}
 use Rattle.usb_wire.specs.declared.question.Asked.{Asked}
 use Rattle.usb_wire.specs.declared.question.Asked.TheVariants.{Hello, Attempt, Port, Wait}
-use Rattle.usb_wire.specs.Answers.{MayAnswer, IsSaidLine, MayPush, MaySay, answer_bytes, answer_in_digits, said_bytes, said_line, said_in_digits, send_limit}
+use Rattle.usb_wire.specs.Answers.{MayAnswer, IsSaidLine, MayPush, MaySay, answer_bytes}
+use Rattle.usb_wire.specs.Answers.{answer_in_digits, said_bytes, said_line, said_in_digits}
+use Rattle.usb_wire.specs.Answers.{send_limit}
 use Rattle.usb_wire.specs.Fields.{hex_value}
-use Rattle.usb_wire.specs.Reading.{alone, bytes_of_word, clear_answer, data_answer, line_says, number_of_word, path_in, status_change, receive_answer, roots_answer, send_answer, status_of_word, text_of_line, three_say, with_one, with_two, words_say}
+use Rattle.usb_wire.specs.Reading.{alone, bytes_of_word, clear_answer, data_answer, line_says}
+use Rattle.usb_wire.specs.Reading.{number_of_word, path_in, status_change, receive_answer}
+use Rattle.usb_wire.specs.Reading.{roots_answer, send_answer, status_of_word, text_of_line}
+use Rattle.usb_wire.specs.Reading.{three_say, with_one, with_two, words_say}
 use Rattle.usb_wire.specs.Words.{all_printable, words}
-use Rattle.usb_wire.proofs.FieldLemmas.{Counted, all_visible-decimal, all_visible-hex, all_visible-path_text, bytes_of_word-value, hex_value-hex_text, hex_value-length, spelled-value, status_of_word-value, within-decimal}
-use Rattle.usb_wire.proofs.WordLemmas.{HasNoSpace-visible, all_printable-append, all_printable-visible, all_visible, words_cut, words_none}
+use Rattle.usb_wire.proofs.FieldLemmas.{Counted, all_visible-decimal, all_visible-hex}
+use Rattle.usb_wire.proofs.FieldLemmas.{all_visible-path_text, bytes_of_word-value}
+use Rattle.usb_wire.proofs.FieldLemmas.{hex_value-hex_text, hex_value-length, spelled-value}
+use Rattle.usb_wire.proofs.FieldLemmas.{status_of_word-value, within-decimal}
+use Rattle.usb_wire.proofs.WordLemmas.{HasNoSpace-visible, all_printable-append}
+use Rattle.usb_wire.proofs.WordLemmas.{all_printable-visible, all_visible, words_cut, words_none}
 
 -- ---- single words, each visible and short
 
@@ -33,14 +45,19 @@ pub bytes_word : (most : ℕ) (word xs : List ℕ) → hex_value word ≡ Some x
     → IsVisibleWord (2 * most + 1) word
 bytes_word most word xs e few =
     let spelled = spelled-value word xs e in
-    record { visible = all_visible-hex word spelled.hex; short = omega (arith, hex_value-length word xs e) }
+    record {
+      visible = all_visible-hex word spelled.hex;
+      short =
+          omega (arith, hex_value-length word xs e);
+    }
 
 pub decimal-is_word : (most n : ℕ) → 4 ≤ most → n ≤ 1000 → IsVisibleWord most (decimal n)
 decimal-is_word most n wide few =
     let short = length-decimal-le 4 n (lit< tt) (omega arith) (omega arith) in
     record { visible = all_visible-decimal n (omega arith); short = omega (arith, short, wide) }
 
-path_text-is_word : (most : ℕ) (p : List ℕ) → 13 ≤ most → IsPath p → IsVisibleWord most (path_text p)
+path_text-is_word : (most : ℕ) (p : List ℕ) → 13 ≤ most → IsPath p
+    → IsVisibleWord most (path_text p)
 path_text-is_word most p wide h =
     let short = length-path_text p in
     record { visible = all_visible-path_text p h.2; short = omega (arith, short, h.1, wide) }
@@ -52,14 +69,17 @@ read_bytes most word xs e few =
     let counted : Counted word (length xs) = record { hex = spelled.hex; count = spelled.count } in
     bytes_of_word-value most word (length xs) xs counted few e
 
-read_status : (word xs : List ℕ) → hex_value word ≡ Some xs → length xs ≡ 4 → status_of_word word ≡ Ok xs
+read_status : (word xs : List ℕ) → hex_value word ≡ Some xs → length xs ≡ 4
+    → status_of_word word ≡ Ok xs
 read_status word xs e four =
     let spelled = spelled-value word xs e in
     status_of_word-value word xs (record { hex = spelled.hex; count = spelled.count ∙ four }) e
 
-pub read_number : (least most n : ℕ) → least ≤ n → n ≤ most → n ≤ 1000 → number_of_word least most (decimal n) ≡ Ok n
+pub read_number : (least most n : ℕ) → least ≤ n → n ≤ most → n ≤ 1000
+    → number_of_word least most (decimal n) ≡ Ok n
 unfolding number_of_word
-read_number least most n low high few = ap (λ o. ok_or o BadNumber) (within-decimal least most n low high (omega arith))
+read_number least most n low high few =
+    ap (λ o. ok_or o BadNumber) (within-decimal least most n low high (omega arith))
 
 read_path : (p : List ℕ) → IsPath p → path_in (path_text p) ≡ Ok p
 unfolding path_in
@@ -79,25 +99,37 @@ record IsFront (front first : List ℕ) : Type 0 where
   printable : all_printable front ≡ true
   cut : (rest : List ℕ) → words (front ++ rest) ≡ first ∷ words rest
 
-read_two : (asked : Asked) (count : ℕ) (front first word : List ℕ) (s : Said) → IsFront front first → IsVisibleWord 1001 word → words_say asked count (first ∷ word ∷ []) ≡ Ok s → ReadsLine asked count (front ++ word) s
+read_two : (asked : Asked) (count : ℕ) (front first word : List ℕ) (s : Said) → IsFront front first
+    → IsVisibleWord 1001 word → words_say asked count (first ∷ word ∷ []) ≡ Ok s
+    → ReadsLine asked count (front ++ word) s
 read_two asked count front first word s f w e =
-    let cut : words (front ++ word) ≡ first ∷ word ∷ [] = f.cut word ∙ ap (λ ws. first ∷ ws) (words_none word (HasNoSpace-visible word w.visible)) in
+    let cut : words (front ++ word) ≡ first ∷ word ∷ [] = f.cut word
+    ∙ ap (λ ws. first ∷ ws) (words_none word (HasNoSpace-visible word w.visible)) in
     record {
       short = omega (arith, length-append front word, f.short, w.short);
-      printable = all_printable-append front word f.printable (all_printable-visible word w.visible);
+      printable = all_printable-append front word f.printable
+          (all_printable-visible word w.visible);
       says = ap (words_say asked count) cut ∙ e;
     }
 
-read_three : (asked : Asked) (count : ℕ) (front first word last : List ℕ) (s : Said) → IsFront front first → IsVisibleWord 13 word → IsVisibleWord 1001 last → words_say asked count (first ∷ word ∷ last ∷ []) ≡ Ok s
+read_three : (asked : Asked) (count : ℕ) (front first word last : List ℕ) (s : Said)
+    → IsFront front first → IsVisibleWord 13 word → IsVisibleWord 1001 last
+    → words_say asked count (first ∷ word ∷ last ∷ []) ≡ Ok s
     → ReadsLine asked count (front ++ word ++ codes " " ++ last) s
 read_three asked count front first word last s f w l e =
     let behind : words (word ++ 32 ∷ last) ≡ word ∷ last ∷ [] =
-    words_cut word last (HasNoSpace-visible word w.visible) ∙ ap (λ ws. word ∷ ws) (words_none last (HasNoSpace-visible last l.visible)) in
-    let whole : front ++ word ++ codes " " ++ last ≡ front ++ (word ++ 32 ∷ last) = append_assoc (front ++ word) (codes " ") last ∙ append_assoc front word (32 ∷ last) in
-    let cut : words (front ++ (word ++ 32 ∷ last)) ≡ first ∷ word ∷ last ∷ [] = f.cut (word ++ 32 ∷ last) ∙ ap (λ ws. first ∷ ws) behind in
-    let size : length (front ++ (word ++ 32 ∷ last)) ≡ length front + length (word ++ 32 ∷ last) = length-append front (word ++ 32 ∷ last) in
-    let more : length (word ++ 32 ∷ last) ≡ length word + length (32 ∷ last) = length-append word (32 ∷ last) in
-    let plain = all_printable-append word (32 ∷ last) (all_printable-visible word w.visible) (all_printable-visible last l.visible) in
+    words_cut word last (HasNoSpace-visible word w.visible)
+    ∙ ap (λ ws. word ∷ ws) (words_none last (HasNoSpace-visible last l.visible)) in
+    let whole : front ++ word ++ codes " " ++ last ≡ front ++ (word ++ 32 ∷ last) =
+    append_assoc (front ++ word) (codes " ") last ∙ append_assoc front word (32 ∷ last) in
+    let cut : words (front ++ (word ++ 32 ∷ last)) ≡ first ∷ word ∷ last ∷ [] =
+    f.cut (word ++ 32 ∷ last) ∙ ap (λ ws. first ∷ ws) behind in
+    let size : length (front ++ (word ++ 32 ∷ last)) ≡ length front + length (word ++ 32 ∷ last) =
+    length-append front (word ++ 32 ∷ last) in
+    let more : length (word ++ 32 ∷ last) ≡ length word + length (32 ∷ last) =
+    length-append word (32 ∷ last) in
+    let plain = all_printable-append word (32 ∷ last) (all_printable-visible word w.visible)
+    (all_printable-visible last l.visible) in
     subst (λ line. ReadsLine asked count line s) (sym whole) (record {
       short = omega (arith, size, more, f.short, w.short, l.short);
       printable = all_printable-append front (word ++ 32 ∷ last) f.printable plain;
@@ -114,40 +146,57 @@ port_front = record { short = lit≤ tt; printable = refl; cut = λ rest. refl }
 
 -- ---- each line
 
-push_said : (asked : Asked) (count number : ℕ) (status digits : List ℕ) → MayPush asked → 1 ≤ number → number ≤ count → count < 256 → hex_value digits ≡ Some status → length status ≡ 4
-    → words_say asked count (codes "port" ∷ decimal number ∷ digits ∷ []) ≡ Ok (Changed number status)
+push_said : (asked : Asked) (count number : ℕ) (status digits : List ℕ) → MayPush asked → 1 ≤ number
+    → number ≤ count → count < 256 → hex_value digits ≡ Some status → length status ≡ 4
+    → words_say asked count (codes "port" ∷ decimal number ∷ digits ∷ [])
+    ≡ Ok (Changed number status)
 unfolding words_say three_say status_change
 push_said Hello count number status digits may low high small e four = absurd may
-push_said Attempt count number status digits may low high small e four = rw (read_status digits status e four, read_number 1 count number low high (omega arith)) refl
-push_said Port count number status digits may low high small e four = rw (read_status digits status e four, read_number 1 count number low high (omega arith)) refl
-push_said Wait count number status digits may low high small e four = rw (read_status digits status e four, read_number 1 count number low high (omega arith)) refl
+push_said Attempt count number status digits may low high small e four =
+    rw (read_status digits status e four, read_number 1 count number low high (omega arith)) refl
+push_said Port count number status digits may low high small e four =
+    rw (read_status digits status e four, read_number 1 count number low high (omega arith)) refl
+push_said Wait count number status digits may low high small e four =
+    rw (read_status digits status e four, read_number 1 count number low high (omega arith)) refl
 
-read_changed : (asked : Asked) (count number : ℕ) (status digits : List ℕ) → MayPush asked → 1 ≤ number → number ≤ count → count < 256 → hex_value digits ≡ Some status → length status ≡ 4
-    → ReadsLine asked count (codes "port " ++ decimal number ++ codes " " ++ digits) (Changed number status)
+read_changed : (asked : Asked) (count number : ℕ) (status digits : List ℕ) → MayPush asked
+    → 1 ≤ number → number ≤ count → count < 256 → hex_value digits ≡ Some status → length status ≡ 4
+    → ReadsLine asked count (codes "port " ++ decimal number ++ codes " " ++ digits)
+    (Changed number status)
 read_changed asked count number status digits may low high small e four =
-    read_three asked count (codes "port ") (codes "port") (decimal number) digits (Changed number status) port_front (decimal-is_word 13 number (omega arith) (omega arith)) (bytes_word 500 digits status e (omega (arith, four)))
+    read_three asked count (codes "port ") (codes "port") (decimal number) digits
+    (Changed number status) port_front (decimal-is_word 13 number (omega arith) (omega arith))
+    (bytes_word 500 digits status e (omega (arith, four)))
     (push_said asked count number status digits may low high small e four)
 
-roots_said : (count n : ℕ) → 1 ≤ n → n ≤ 7 → words_say Hello count (codes "roots" ∷ decimal n ∷ []) ≡ Ok (Answered (Roots n))
+roots_said : (count n : ℕ) → 1 ≤ n → n ≤ 7 → words_say Hello count (codes "roots" ∷ decimal n ∷ [])
+    ≡ Ok (Answered (Roots n))
 unfolding words_say with_one roots_answer
 roots_said count n low high = rw (read_number 1 7 n low high (omega arith)) refl
 
-data_said : (count : ℕ) (toggle : Toggle) (xs digits : List ℕ) → hex_value digits ≡ Some xs → length xs ≤ 64
-    → words_say Attempt count (printed_data toggle ∷ digits ∷ []) ≡ Ok (Answered (Data (record { toggle = toggle; bytes = record { items = xs } })))
+data_said : (count : ℕ) (toggle : Toggle) (xs digits : List ℕ) → hex_value digits ≡ Some xs
+    → length xs ≤ 64
+    → words_say Attempt count (printed_data toggle ∷ digits ∷ [])
+    ≡ Ok (Answered (Data (record { toggle = toggle; bytes = record { items = xs } })))
 unfolding words_say with_one data_answer
 data_said count Zero xs digits e few = rw (read_bytes 64 digits xs e few) refl
 data_said count One xs digits e few = rw (read_bytes 64 digits xs e few) refl
 
-clear_said : (count : ℕ) (p : List ℕ) → IsPath p → words_say Wait count (codes "clear" ∷ path_text p ∷ []) ≡ Ok (Answered (Clear p))
+clear_said : (count : ℕ) (p : List ℕ) → IsPath p
+    → words_say Wait count (codes "clear" ∷ path_text p ∷ []) ≡ Ok (Answered (Clear p))
 unfolding words_say with_one clear_answer
 clear_said count p h = rw (read_path p h) refl
 
-send_said : (count : ℕ) (p xs digits : List ℕ) → IsPath p → hex_value digits ≡ Some xs → length xs ≤ send_limit
-    → words_say Wait count (codes "send" ∷ path_text p ∷ digits ∷ []) ≡ Ok (Answered (Send p (record { items = xs })))
+send_said : (count : ℕ) (p xs digits : List ℕ) → IsPath p → hex_value digits ≡ Some xs
+    → length xs ≤ send_limit
+    → words_say Wait count (codes "send" ∷ path_text p ∷ digits ∷ [])
+    ≡ Ok (Answered (Send p (record { items = xs })))
 unfolding words_say three_say with_two send_answer
 send_said count p xs digits h e few = rw (read_bytes send_limit digits xs e few, read_path p h) refl
 
-receive_said : (count : ℕ) (p : List ℕ) (n : ℕ) → IsPath p → n ≤ 1000 → words_say Wait count (codes "receive" ∷ path_text p ∷ decimal n ∷ []) ≡ Ok (Answered (Receive p n))
+receive_said : (count : ℕ) (p : List ℕ) (n : ℕ) → IsPath p → n ≤ 1000
+    → words_say Wait count (codes "receive" ∷ path_text p ∷ decimal n ∷ [])
+    ≡ Ok (Answered (Receive p n))
 unfolding words_say three_say with_two receive_answer
 receive_said count p n h few = rw (read_number 0 1000 n (omega arith) few few, read_path p h) refl
 
@@ -156,45 +205,78 @@ data_front Zero = record { short = lit≤ tt; printable = refl; cut = λ rest. r
 data_front One = record { short = lit≤ tt; printable = refl; cut = λ rest. refl }
 
 -- a line that is one word
-read_one : (asked : Asked) (count : ℕ) (line : List ℕ) (s : Said) → length line ≤ 1024 → all_printable line ≡ true → words_say asked count (words line) ≡ Ok s → ReadsLine asked count line s
-read_one asked count line s short printable says = record { short = short; printable = printable; says = says }
+read_one : (asked : Asked) (count : ℕ) (line : List ℕ) (s : Said) → length line ≤ 1024
+    → all_printable line ≡ true → words_say asked count (words line) ≡ Ok s
+    → ReadsLine asked count line s
+read_one asked count line s short printable says = record {
+  short = short;
+  printable = printable;
+  says = says;
+}
 
-read_answer : (asked : Asked) (count : ℕ) (digits : List ℕ) (a : Answer) → MayAnswer asked a → hex_value digits ≡ Some (answer_bytes a) → ReadsLine asked count (answer_in_digits digits a) (Answered a)
+read_answer : (asked : Asked) (count : ℕ) (digits : List ℕ) (a : Answer) → MayAnswer asked a
+    → hex_value digits ≡ Some (answer_bytes a)
+    → ReadsLine asked count (answer_in_digits digits a) (Answered a)
 unfolding words_say alone
 read_answer Hello count digits (Roots n) h e =
-    read_two Hello count (codes "roots ") (codes "roots") (decimal n) (Answered (Roots n)) (record { short = lit≤ tt; printable = refl; cut = λ rest. refl }) (decimal-is_word 1001 n (omega arith) (omega (arith, h.1))) (roots_said count n h.0 h.1)
-read_answer Attempt count digits Ack h e = read_one Attempt count (codes "ACK") (Answered Ack) (lit≤ tt) refl refl
-read_answer Attempt count digits Nak h e = read_one Attempt count (codes "NAK") (Answered Nak) (lit≤ tt) refl refl
-read_answer Attempt count digits Stall h e = read_one Attempt count (codes "STALL") (Answered Stall) (lit≤ tt) refl refl
-read_answer Attempt count digits Nothing h e = read_one Attempt count (codes "none") (Answered Nothing) (lit≤ tt) refl refl
+    read_two Hello count (codes "roots ") (codes "roots") (decimal n) (Answered (Roots n))
+    (record { short = lit≤ tt; printable = refl; cut = λ rest. refl })
+    (decimal-is_word 1001 n (omega arith) (omega (arith, h.1))) (roots_said count n h.0 h.1)
+read_answer Attempt count digits Ack h e = read_one Attempt count (codes "ACK") (Answered Ack)
+    (lit≤ tt) refl refl
+read_answer Attempt count digits Nak h e = read_one Attempt count (codes "NAK") (Answered Nak)
+    (lit≤ tt) refl refl
+read_answer Attempt count digits Stall h e = read_one Attempt count (codes "STALL") (Answered Stall)
+    (lit≤ tt) refl refl
+read_answer Attempt count digits Nothing h e =
+    read_one Attempt count (codes "none") (Answered Nothing) (lit≤ tt) refl refl
 read_answer Attempt count digits (Data sent) h e =
-    read_two Attempt count (data_name sent.toggle) (printed_data sent.toggle) digits (Answered (Data sent)) (data_front sent.toggle) (bytes_word 500 digits sent.bytes.items e (omega (arith, h.0))) (data_said count sent.toggle sent.bytes.items digits e h.0)
-read_answer Port count digits Done h e = read_one Port count (codes "ok") (Answered Done) (lit≤ tt) refl refl
-read_answer Wait count digits Done h e = read_one Wait count (codes "ok") (Answered Done) (lit≤ tt) refl refl
-read_answer Wait count digits Show h e = read_one Wait count (codes "show") (Answered Show) (lit≤ tt) refl refl
-read_answer Wait count digits End h e = read_one Wait count (codes "end") (Answered End) (lit≤ tt) refl refl
+    read_two Attempt count (data_name sent.toggle) (printed_data sent.toggle) digits
+    (Answered (Data sent)) (data_front sent.toggle)
+    (bytes_word 500 digits sent.bytes.items e (omega (arith, h.0)))
+    (data_said count sent.toggle sent.bytes.items digits e h.0)
+read_answer Port count digits Done h e = read_one Port count (codes "ok") (Answered Done) (lit≤ tt)
+    refl refl
+read_answer Wait count digits Done h e = read_one Wait count (codes "ok") (Answered Done) (lit≤ tt)
+    refl refl
+read_answer Wait count digits Show h e = read_one Wait count (codes "show") (Answered Show)
+    (lit≤ tt) refl refl
+read_answer Wait count digits End h e = read_one Wait count (codes "end") (Answered End) (lit≤ tt)
+    refl refl
 read_answer Wait count digits (Send p sent) h e =
-    read_three Wait count (codes "send ") (codes "send") (path_text p) digits (Answered (Send p sent)) (record { short = lit≤ tt; printable = refl; cut = λ rest. refl }) (path_text-is_word 13 p (omega arith) h.0) (bytes_word 500 digits sent.items e h.1.0)
+    read_three Wait count (codes "send ") (codes "send") (path_text p) digits
+    (Answered (Send p sent)) (record { short = lit≤ tt; printable = refl; cut = λ rest. refl })
+    (path_text-is_word 13 p (omega arith) h.0) (bytes_word 500 digits sent.items e h.1.0)
     (send_said count p sent.items digits h.0 e h.1.0)
 read_answer Wait count digits (Receive p n) h e =
-    read_three Wait count (codes "receive ") (codes "receive") (path_text p) (decimal n) (Answered (Receive p n)) (record { short = lit≤ tt; printable = refl; cut = λ rest. refl }) (path_text-is_word 13 p (omega arith) h.0) (decimal-is_word 1001 n (omega arith) h.1)
+    read_three Wait count (codes "receive ") (codes "receive") (path_text p) (decimal n)
+    (Answered (Receive p n)) (record { short = lit≤ tt; printable = refl; cut = λ rest. refl })
+    (path_text-is_word 13 p (omega arith) h.0) (decimal-is_word 1001 n (omega arith) h.1)
     (receive_said count p n h.0 h.1)
 read_answer Wait count digits (Clear p) h e =
-    read_two Wait count (codes "clear ") (codes "clear") (path_text p) (Answered (Clear p)) (record { short = lit≤ tt; printable = refl; cut = λ rest. refl }) (path_text-is_word 1001 p (omega arith) h) (clear_said count p h)
+    read_two Wait count (codes "clear ") (codes "clear") (path_text p) (Answered (Clear p))
+    (record { short = lit≤ tt; printable = refl; cut = λ rest. refl })
+    (path_text-is_word 1001 p (omega arith) h) (clear_said count p h)
 read_answer _ count digits _ h e = absurd h
 
-read_line : (asked : Asked) (count : ℕ) (line : List ℕ) (s : Said) → ReadsLine asked count line s → line_says asked count line ≡ Ok s
+read_line : (asked : Asked) (count : ℕ) (line : List ℕ) (s : Said) → ReadsLine asked count line s
+    → line_says asked count line ≡ Ok s
 unfolding line_says text_of_line
 read_line asked count line s h = rw (le-ltb 1024 (length line) h.short, h.printable) h.says
 
-read_said : (asked : Asked) (count : ℕ) (digits : List ℕ) (s : Said) → count < 256 → MaySay asked count s → hex_value digits ≡ Some (said_bytes s) → ReadsLine asked count (said_in_digits digits s) s
-read_said asked count digits (Changed number status) small h e = read_changed asked count number status digits h.0 h.1 h.2 small e h.3
+read_said : (asked : Asked) (count : ℕ) (digits : List ℕ) (s : Said) → count < 256
+    → MaySay asked count s → hex_value digits ≡ Some (said_bytes s)
+    → ReadsLine asked count (said_in_digits digits s) s
+read_said asked count digits (Changed number status) small h e =
+    read_changed asked count number status digits h.0 h.1 h.2 small e h.3
 read_said asked count digits (Answered a) small h e = read_answer asked count digits a h e
 
 -- what may be said and stands in a line is read
-pub line_says-said : (asked : Asked) (count : ℕ) (line : List ℕ) (s : Said) → count < 256 → MaySay asked count s → IsSaidLine line s → line_says asked count line ≡ Ok s
+pub line_says-said : (asked : Asked) (count : ℕ) (line : List ℕ) (s : Said) → count < 256
+    → MaySay asked count s → IsSaidLine line s → line_says asked count line ≡ Ok s
 line_says-said asked count line s small may is =
-    ap (line_says asked count) is.written ∙ read_line asked count (said_in_digits is.digits s) s (read_said asked count is.digits s small may is.spelled)
+    ap (line_says asked count) is.written ∙ read_line asked count (said_in_digits is.digits s) s
+    (read_said asked count is.digits s small may is.spelled)
 
 none_small : (i : ℕ) → get_or [] i 0 < 256
 none_small i = omega arith
@@ -220,5 +302,11 @@ small_bytes asked count (Changed number status) h = h.4
 small_bytes asked count (Answered a) h = answer_small asked a h
 
 -- the line that is written says what it was written for
-pub IsSaidLine-said_line : (asked : Asked) (count : ℕ) (s : Said) → MaySay asked count s → IsSaidLine (said_line s) s
-IsSaidLine-said_line asked count s may = record { digits = hex_text (said_bytes s); spelled = hex_value-hex_text (said_bytes s) (small_bytes asked count s may); written = refl }
+pub IsSaidLine-said_line : (asked : Asked) (count : ℕ) (s : Said) → MaySay asked count s
+    → IsSaidLine (said_line s) s
+IsSaidLine-said_line asked count s may = record {
+  digits = hex_text (said_bytes s);
+  spelled =
+      hex_value-hex_text (said_bytes s) (small_bytes asked count s may);
+  written = refl;
+}

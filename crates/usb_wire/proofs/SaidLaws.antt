@@ -1,5 +1,8 @@
 -- What is read of a line may be said, and stands there.
-use Rattle.std.proofs.Common.{◌≡◌, ℕ, ◌^◌, ◌<◌, ◌≤◌, Bool, true, false, ◌&&◌, ◌||◌, ◌==◌, nat_lt, if◌then◌else◌, List, [], ◌∷◌, ◌++◌, length, Option, Some, None, ok_or, Result, Ok, Err, IfOk, refl, sym, subst, ap, ◌∙◌, arith, append_assoc, codes, decimal}
+use Rattle.std.proofs.Common.{◌≡◌, ℕ, ◌^◌, ◌<◌, ◌≤◌, Bool, true, false, ◌&&◌, ◌||◌, ◌==◌, nat_lt}
+use Rattle.std.proofs.Common.{if◌then◌else◌, List, [], ◌∷◌, ◌++◌, length, Option, Some, None, ok_or}
+use Rattle.std.proofs.Common.{Result, Ok, Err, IfOk, refl, sym, subst, ap, ◌∙◌, arith, append_assoc}
+use Rattle.std.proofs.Common.{codes, decimal}
 use Rattle.std.specs.List.{join_with_byte}
 use Rattle.std.specs.Result.{result_unwrap_or}
 use Rattle.std.specs.Str.{bytes_eq}
@@ -10,18 +13,27 @@ use Rattle.usb_packet.specs.declared.Toggle.TheVariants.{Zero, One}
 use Rattle.usb_port.specs.Path.{IsPath, path_of, path_text}
 use Rattle.usb_port.proofs.Paths.{some_if}
 use Rattle.usb_wire.specs.declared.answer.Answer.{Answer}
-use Rattle.usb_wire.specs.declared.answer.Answer.TheVariants.{Roots, Ack, Nak, Stall, Nothing, Data, Done, Show, End, Send, Receive, Clear}
+use Rattle.usb_wire.specs.declared.answer.Answer.TheVariants.{Roots, Ack, Nak, Stall, Nothing, Data}
+use Rattle.usb_wire.specs.declared.answer.Answer.TheVariants.{Done, Show, End, Send, Receive, Clear}
 use Rattle.usb_wire.specs.declared.answer.Said.{Said}
 use Rattle.usb_wire.specs.declared.answer.Said.TheVariants.{Changed, Answered}
 use Rattle.usb_wire.specs.declared.fault.WireFault.{WireFault}
-use Rattle.usb_wire.specs.declared.fault.WireFault.TheVariants.{LineTooLong, BadCharacter, NoAnswer, BadHex, BadLength, BadNumber, BadPath}
+use Rattle.usb_wire.specs.declared.fault.WireFault.TheVariants.{LineTooLong, BadCharacter, NoAnswer}
+use Rattle.usb_wire.specs.declared.fault.WireFault.TheVariants.{BadHex, BadLength, BadNumber}
+use Rattle.usb_wire.specs.declared.fault.WireFault.TheVariants.{BadPath}
 use Rattle.usb_wire.specs.declared.question.Asked.{Asked}
 use Rattle.usb_wire.specs.declared.question.Asked.TheVariants.{Hello, Attempt, Port, Wait}
 use Rattle.usb_wire.specs.declared.words.Words.{Words}
-use Rattle.usb_wire.specs.declared.words.Words.TheVariants.{One as OneWord, Two as TwoWords, Three as ThreeWords, More as MoreWords}
-use Rattle.usb_wire.specs.Answers.{AreAtMost, MayAnswer, IsSaidLine, MayPush, MaySay, answer_bytes, answer_in_digits, send_limit}
+use Rattle.usb_wire.specs.declared.words.Words.TheVariants.{One as OneWord, Two as TwoWords}
+use Rattle.usb_wire.specs.declared.words.Words.TheVariants.{Three as ThreeWords, More as MoreWords}
+use Rattle.usb_wire.specs.Answers.{AreAtMost, MayAnswer, IsSaidLine, MayPush, MaySay, answer_bytes}
+use Rattle.usb_wire.specs.Answers.{answer_in_digits, send_limit}
 use Rattle.usb_wire.specs.Fields.{hex_length, hex_value, is_dash, is_hex, number_within}
-use Rattle.usb_wire.specs.Reading.{◌>>=◌, alone, said_of, bytes_of_word, clear_answer, count_in, data_answer, line_says, may_push, number_of_word, path_in, status_change, receive_answer, roots_answer, send_answer, shape_says, status_of_word, text_of_line, three_say, with_one, with_two, words_say}
+use Rattle.usb_wire.specs.Reading.{◌>>=◌, alone, said_of, bytes_of_word, clear_answer, count_in}
+use Rattle.usb_wire.specs.Reading.{data_answer, line_says, may_push, number_of_word, path_in}
+use Rattle.usb_wire.specs.Reading.{status_change, receive_answer, roots_answer, send_answer}
+use Rattle.usb_wire.specs.Reading.{shape_says, status_of_word, text_of_line, three_say, with_one}
+use Rattle.usb_wire.specs.Reading.{with_two, words_say}
 use Rattle.usb_wire.specs.Words.{AreWords, all_printable, words}
 use Rattle.usb_wire.proofs.FieldLemmas.{IsNumberWord, Spelled, numbered-within, spelled-value}
 use Rattle.usb_wire.proofs.WordLemmas.{joined-words}
@@ -31,22 +43,27 @@ use Rattle.usb_wire.proofs.WordLemmas.{joined-words}
 pub same_Ok : {A : Type 0} (x y : A) → ◌≡◌ {A = Result A WireFault} (Ok x) (Ok y) → x ≡ y
 same_Ok {A} x y e = ap (λ (r : Result A WireFault). result_unwrap_or r x) e
 
-bind-ok : {A B P : Type 0} (r : Result A WireFault) (f : A → Result B WireFault) (y : B) → (r >>= f) ≡ Ok y → ((x : A) → r ≡ Ok x → f x ≡ Ok y → P) → P
+bind-ok : {A B P : Type 0} (r : Result A WireFault) (f : A → Result B WireFault) (y : B)
+    → (r >>= f) ≡ Ok y → ((x : A) → r ≡ Ok x → f x ≡ Ok y → P) → P
 bind-ok (Ok x) f y e k = k x refl e
 bind-ok (Err fault) f y e k = absurd (cc)
 
-if_ok : {A P : Type 0} (b : Bool) (r s : Result A WireFault) (y : A) → (if b then r else s) ≡ Ok y → (b ≡ true → r ≡ Ok y → P) → (s ≡ Ok y → P) → P
+if_ok : {A P : Type 0} (b : Bool) (r s : Result A WireFault) (y : A) → (if b then r else s) ≡ Ok y
+    → (b ≡ true → r ≡ Ok y → P) → (s ≡ Ok y → P) → P
 if_ok true r s y e k l = k refl e
 if_ok false r s y e k l = l e
 
-none_ok : {A P : Type 0} (fault : WireFault) (y : A) → ◌≡◌ {A = Result A WireFault} (Err fault) (Ok y) → P
+none_ok : {A P : Type 0} (fault : WireFault) (y : A)
+    → ◌≡◌ {A = Result A WireFault} (Err fault) (Ok y) → P
 none_ok fault y e = absurd (cc)
 
-ok_or_ok : {A : Type 0} (o : Option A) (fault : WireFault) (y : A) → ok_or o fault ≡ Ok y → o ≡ Some y
+ok_or_ok : {A : Type 0} (o : Option A) (fault : WireFault) (y : A) → ok_or o fault ≡ Ok y
+    → o ≡ Some y
 ok_or_ok (Some x) fault y e = ap Some (same_Ok x y e)
 ok_or_ok None fault y e = absurd (cc)
 
-said_of-ok : {P : Type 0} (r : Result Answer WireFault) (s : Said) → said_of r ≡ Ok s → ((a : Answer) → r ≡ Ok a → Answered a ≡ s → P) → P
+said_of-ok : {P : Type 0} (r : Result Answer WireFault) (s : Said) → said_of r ≡ Ok s
+    → ((a : Answer) → r ≡ Ok a → Answered a ≡ s → P) → P
 said_of-ok (Ok a) s e k = k a refl (same_Ok (Answered a) s e)
 said_of-ok (Err fault) s e k = absurd (cc)
 
@@ -59,7 +76,8 @@ pub record IsDataWord (most : ℕ) (word xs : List ℕ) : Type 0 where
   pub value : hex_value word ≡ Some xs
   pub few : AreAtMost most xs
 
-hex_is_data_word : (most : ℕ) (word xs : List ℕ) → hex_value word ≡ Some xs → nat_lt most (hex_length word) ≡ false
+hex_is_data_word : (most : ℕ) (word xs : List ℕ) → hex_value word ≡ Some xs
+    → nat_lt most (hex_length word) ≡ false
     → IsDataWord most word xs
 hex_is_data_word most word xs e few =
     let spelled = spelled-value word xs e in
@@ -67,21 +85,26 @@ hex_is_data_word most word xs e few =
     let fits : hex_length word ≤ most = ltb-false most (hex_length word) few in
     record { value = e; few = (omega (arith, count, fits), spelled.small) }
 
-few_bytes : (b : Bool) (r : Result (List ℕ) WireFault) (xs : List ℕ) → (if b then Err BadLength else r) ≡ Ok xs → (b ≡ false) × (r ≡ Ok xs)
+few_bytes : (b : Bool) (r : Result (List ℕ) WireFault) (xs : List ℕ)
+    → (if b then Err BadLength else r) ≡ Ok xs → (b ≡ false) × (r ≡ Ok xs)
 few_bytes true r xs e = absurd (cc)
 few_bytes false r xs e = (refl, e)
 
-data_counted : (most : ℕ) (hex : Bool) (n : ℕ) (o : Option (List ℕ)) (xs : List ℕ) → ((if hex then Ok n else Err BadHex) >>= (λ count. if nat_lt most count then Err BadLength else ok_or o BadHex)) ≡ Ok xs
+data_counted : (most : ℕ) (hex : Bool) (n : ℕ) (o : Option (List ℕ)) (xs : List ℕ)
+    → ((if hex then Ok n else Err BadHex) >>=
+    (λ count. if nat_lt most count then Err BadLength else ok_or o BadHex)) ≡ Ok xs
     → (nat_lt most n ≡ false) × (o ≡ Some xs)
 data_counted most true n o xs e =
     let parts = few_bytes (nat_lt most n) (ok_or o BadHex) xs e in
     (parts.0, ok_or_ok o BadHex xs parts.1)
 data_counted most false n o xs e = absurd (cc)
 
-pub bytes_of_word-data : (most : ℕ) (word xs : List ℕ) → bytes_of_word most word ≡ Ok xs → IsDataWord most word xs
+pub bytes_of_word-data : (most : ℕ) (word xs : List ℕ) → bytes_of_word most word ≡ Ok xs
+    → IsDataWord most word xs
 unfolding bytes_of_word count_in
 bytes_of_word-data most word xs e =
-    let parts = data_counted most (is_dash word || is_hex word) (hex_length word) (hex_value word) xs e in
+    let parts = data_counted most (is_dash word || is_hex word) (hex_length word) (hex_value word)
+    xs e in
     hex_is_data_word most word xs parts.1 parts.0
 
 record IsStatusWord (word xs : List ℕ) : Type 0 where
@@ -89,11 +112,14 @@ record IsStatusWord (word xs : List ℕ) : Type 0 where
   four : length xs ≡ 4
   small : Spelled word xs
 
-if_ok_four : (b : Bool) (r : Result (List ℕ) WireFault) (xs : List ℕ) → (if b then r else Err BadLength) ≡ Ok xs → (b ≡ true) × (r ≡ Ok xs)
+if_ok_four : (b : Bool) (r : Result (List ℕ) WireFault) (xs : List ℕ)
+    → (if b then r else Err BadLength) ≡ Ok xs → (b ≡ true) × (r ≡ Ok xs)
 if_ok_four true r xs e = (refl, e)
 if_ok_four false r xs e = absurd (cc)
 
-status_counted : (hex : Bool) (n : ℕ) (o : Option (List ℕ)) (xs : List ℕ) → ((if hex then Ok n else Err BadHex) >>= (λ count. if count == 4 then ok_or o BadHex else Err BadLength)) ≡ Ok xs
+status_counted : (hex : Bool) (n : ℕ) (o : Option (List ℕ)) (xs : List ℕ)
+    → ((if hex then Ok n else Err BadHex) >>=
+    (λ count. if count == 4 then ok_or o BadHex else Err BadLength)) ≡ Ok xs
     → ((n == 4) ≡ true) × (o ≡ Some xs)
 status_counted true n o xs e =
     let parts = if_ok_four (n == 4) (ok_or o BadHex) xs e in
@@ -103,13 +129,20 @@ status_counted false n o xs e = absurd (cc)
 status_word : (word xs : List ℕ) → status_of_word word ≡ Ok xs → IsStatusWord word xs
 unfolding status_of_word count_in
 status_word word xs e =
-    let parts = status_counted (is_dash word || is_hex word) (hex_length word) (hex_value word) xs e in
+    let parts = status_counted (is_dash word || is_hex word) (hex_length word) (hex_value word) xs
+    e in
     let spelled = spelled-value word xs parts.1 in
-    record { value = parts.1; four = sym spelled.count ∙ eqb-true (hex_length word) 4 parts.0; small = spelled }
+    record {
+      value = parts.1;
+      four = sym spelled.count ∙ eqb-true (hex_length word) 4 parts.0;
+      small = spelled;
+    }
 
-pub number_of_word-ok : (least most : ℕ) (word : List ℕ) (n : ℕ) → most < 2 ^ 64 → number_of_word least most word ≡ Ok n → IsNumberWord least most word n
+pub number_of_word-ok : (least most : ℕ) (word : List ℕ) (n : ℕ) → most < 2 ^ 64
+    → number_of_word least most word ≡ Ok n → IsNumberWord least most word n
 unfolding number_of_word
-number_of_word-ok least most word n small e = numbered-within least most word n small (ok_or_ok (number_within least most word) BadNumber n e)
+number_of_word-ok least most word n small e =
+    numbered-within least most word n small (ok_or_ok (number_within least most word) BadNumber n e)
 
 record IsPathWord (word p : List ℕ) : Type 0 where
   is : IsPath p
@@ -128,30 +161,50 @@ record Plain (asked : Asked) (line : List ℕ) (a : Answer) : Type 0 where
   none : answer_bytes a ≡ []
   text : line ≡ answer_in_digits (codes "-") a
 
-plain_line : (asked : Asked) (count : ℕ) (line : List ℕ) (a : Answer) → Plain asked line a → MaySay asked count (Answered a) × IsSaidLine line (Answered a)
-plain_line asked count line a h = (h.may, record { digits = codes "-"; spelled = ap Some (sym h.none); written = h.text })
+plain_line : (asked : Asked) (count : ℕ) (line : List ℕ) (a : Answer) → Plain asked line a
+    → MaySay asked count (Answered a) × IsSaidLine line (Answered a)
+plain_line asked count line a h =
+    (h.may, record { digits = codes "-"; spelled = ap Some (sym h.none); written = h.text })
 
-plain_at : (asked : Asked) (word text : List ℕ) (a b : Answer) → bytes_eq word text ≡ true → ◌≡◌ {A = Result Answer WireFault} (Ok a) (Ok b) → Plain asked text a → Plain asked word b
-plain_at asked word text a b same e h = subst (Plain asked word) (same_Ok a b e) (subst (λ w. Plain asked w a) (sym (word_is word text same)) h)
+plain_at : (asked : Asked) (word text : List ℕ) (a b : Answer) → bytes_eq word text ≡ true
+    → ◌≡◌ {A = Result Answer WireFault} (Ok a) (Ok b) → Plain asked text a → Plain asked word b
+plain_at asked word text a b same e h =
+    subst (Plain asked word) (same_Ok a b e)
+    (subst (λ w. Plain asked w a) (sym (word_is word text same)) h)
 
-plain : (asked : Asked) (a : Answer) → MayAnswer asked a → answer_bytes a ≡ [] → Plain asked (answer_in_digits (codes "-") a) a
+plain : (asked : Asked) (a : Answer) → MayAnswer asked a → answer_bytes a ≡ []
+    → Plain asked (answer_in_digits (codes "-") a) a
 plain asked a may none = record { may = may; none = none; text = refl }
 
-alone_says : (asked : Asked) (word : List ℕ) (a : Answer) → alone asked word ≡ Ok a → Plain asked word a
+alone_says : (asked : Asked) (word : List ℕ) (a : Answer) → alone asked word ≡ Ok a
+    → Plain asked word a
 unfolding alone
 alone_says Hello word a e = none_ok NoAnswer a e
 alone_says Attempt word a e =
-    if_ok (bytes_eq word (codes "ACK")) (Ok Ack) _ a e (λ same e. plain_at Attempt word (codes "ACK") Ack a same e (plain Attempt Ack tt refl)) (λ e.
-    if_ok (bytes_eq word (codes "NAK")) (Ok Nak) _ a e (λ same e. plain_at Attempt word (codes "NAK") Nak a same e (plain Attempt Nak tt refl)) (λ e.
-    if_ok (bytes_eq word (codes "STALL")) (Ok Stall) _ a e (λ same e. plain_at Attempt word (codes "STALL") Stall a same e (plain Attempt Stall tt refl)) (λ e.
-    if_ok (bytes_eq word (codes "none")) (Ok Nothing) _ a e (λ same e. plain_at Attempt word (codes "none") Nothing a same e (plain Attempt Nothing tt refl)) (λ e.
+    if_ok (bytes_eq word (codes "ACK")) (Ok Ack) _ a e
+    (λ same e. plain_at Attempt word (codes "ACK") Ack a same e (plain Attempt Ack tt refl))
+    (λ e.
+    if_ok (bytes_eq word (codes "NAK")) (Ok Nak) _ a e
+    (λ same e. plain_at Attempt word (codes "NAK") Nak a same e (plain Attempt Nak tt refl))
+    (λ e.
+    if_ok (bytes_eq word (codes "STALL")) (Ok Stall) _ a e
+    (λ same e. plain_at Attempt word (codes "STALL") Stall a same e
+    (plain Attempt Stall tt refl)) (λ e.
+    if_ok (bytes_eq word (codes "none")) (Ok Nothing) _ a e
+    (λ same e. plain_at Attempt word (codes "none") Nothing a same e
+    (plain Attempt Nothing tt refl)) (λ e.
     none_ok NoAnswer a e))))
 alone_says Port word a e =
-    if_ok (bytes_eq word (codes "ok")) (Ok Done) _ a e (λ same e. plain_at Port word (codes "ok") Done a same e (plain Port Done tt refl)) (λ e. none_ok NoAnswer a e)
+    if_ok (bytes_eq word (codes "ok")) (Ok Done) _ a e
+    (λ same e. plain_at Port word (codes "ok") Done a same e (plain Port Done tt refl))
+    (λ e. none_ok NoAnswer a e)
 alone_says Wait word a e =
-    if_ok (bytes_eq word (codes "ok")) (Ok Done) _ a e (λ same e. plain_at Wait word (codes "ok") Done a same e (plain Wait Done tt refl)) (λ e.
-    if_ok (bytes_eq word (codes "show")) (Ok Show) _ a e (λ same e. plain_at Wait word (codes "show") Show a same e (plain Wait Show tt refl)) (λ e.
-    if_ok (bytes_eq word (codes "end")) (Ok End) _ a e (λ same e. plain_at Wait word (codes "end") End a same e (plain Wait End tt refl)) (λ e.
+    if_ok (bytes_eq word (codes "ok")) (Ok Done) _ a e
+    (λ same e. plain_at Wait word (codes "ok") Done a same e (plain Wait Done tt refl)) (λ e.
+    if_ok (bytes_eq word (codes "show")) (Ok Show) _ a e
+    (λ same e. plain_at Wait word (codes "show") Show a same e (plain Wait Show tt refl)) (λ e.
+    if_ok (bytes_eq word (codes "end")) (Ok End) _ a e
+    (λ same e. plain_at Wait word (codes "end") End a same e (plain Wait End tt refl)) (λ e.
     none_ok NoAnswer a e)))
 
 -- ---- lines
@@ -161,107 +214,169 @@ abbrev WordsSay : Asked → ℕ → List (List ℕ) → Said → Type 0
 WordsSay asked count ws s = MaySay asked count s × IsSaidLine (join_with_byte 32 ws) s
 
 -- the first word is a given one
-says_same_word : (asked : Asked) (count : ℕ) (word text : List ℕ) (arguments : List (List ℕ)) (s : Said) → bytes_eq word text ≡ true → WordsSay asked count (text ∷ arguments) s → WordsSay asked count (word ∷ arguments) s
-says_same_word asked count word text arguments s same h = subst (λ w. WordsSay asked count (w ∷ arguments) s) (sym (word_is word text same)) h
+says_same_word : (asked : Asked) (count : ℕ) (word text : List ℕ) (arguments : List (List ℕ))
+    (s : Said) → bytes_eq word text ≡ true → WordsSay asked count (text ∷ arguments) s
+    → WordsSay asked count (word ∷ arguments) s
+says_same_word asked count word text arguments s same h =
+    subst (λ w. WordsSay asked count (w ∷ arguments) s) (sym (word_is word text same)) h
 
-said_is : (asked : Asked) (count : ℕ) (ws : List (List ℕ)) (a b : Said) → a ≡ b → WordsSay asked count ws a → WordsSay asked count ws b
+said_is : (asked : Asked) (count : ℕ) (ws : List (List ℕ)) (a b : Said) → a ≡ b
+    → WordsSay asked count ws a → WordsSay asked count ws b
 said_is asked count ws a b e h = subst (WordsSay asked count ws) e h
 
-roots_say : (count : ℕ) (word : List ℕ) (a : Answer) → roots_answer word ≡ Ok a → WordsSay Hello count (codes "roots" ∷ word ∷ []) (Answered a)
+roots_say : (count : ℕ) (word : List ℕ) (a : Answer) → roots_answer word ≡ Ok a
+    → WordsSay Hello count (codes "roots" ∷ word ∷ []) (Answered a)
 unfolding roots_answer
 roots_say count word a e =
     bind-ok (number_of_word 1 7 word) _ a e (λ n read is.
     let number = number_of_word-ok 1 7 word n (omega arith) read in
-    subst (λ a. WordsSay Hello count (codes "roots" ∷ word ∷ []) (Answered a)) (same_Ok (Roots n) a is)
-    (plain_line Hello count _ (Roots n) (record { may = (number.low, number.high); none = refl; text = ap (λ t. codes "roots " ++ t) number.text })))
+    subst (λ a. WordsSay Hello count (codes "roots" ∷ word ∷ []) (Answered a))
+    (same_Ok (Roots n) a is)
+    (plain_line Hello count _ (Roots n) (record {
+      may = (number.low, number.high);
+      none = refl;
+      text = ap (λ t. codes "roots " ++ t) number.text;
+    })))
 
 -- the first word of a data packet
 abbrev data_first : Toggle → List ℕ
 data_first Zero = codes "DATA0"
 data_first One = codes "DATA1"
 
-data_says : (count : ℕ) (toggle : Toggle) (word : List ℕ) (a : Answer) → data_answer toggle word ≡ Ok a → WordsSay Attempt count (data_first toggle ∷ word ∷ []) (Answered a)
+data_says : (count : ℕ) (toggle : Toggle) (word : List ℕ) (a : Answer)
+    → data_answer toggle word ≡ Ok a → WordsSay Attempt count (data_first toggle ∷ word ∷ [])
+    (Answered a)
 unfolding data_answer
 data_says count Zero word a e =
     bind-ok (bytes_of_word 64 word) _ a e (λ xs read is.
     let found = bytes_of_word-data 64 word xs read in
-    subst (λ a. WordsSay Attempt count (codes "DATA0" ∷ word ∷ []) (Answered a)) (same_Ok (Data (record { toggle = Zero; bytes = record { items = xs } })) a is)
+    subst (λ a. WordsSay Attempt count (codes "DATA0" ∷ word ∷ []) (Answered a))
+    (same_Ok (Data (record { toggle = Zero; bytes = record { items = xs } })) a is)
     (found.few, record { digits = word; spelled = found.value; written = refl }))
 data_says count One word a e =
     bind-ok (bytes_of_word 64 word) _ a e (λ xs read is.
     let found = bytes_of_word-data 64 word xs read in
-    subst (λ a. WordsSay Attempt count (codes "DATA1" ∷ word ∷ []) (Answered a)) (same_Ok (Data (record { toggle = One; bytes = record { items = xs } })) a is)
+    subst (λ a. WordsSay Attempt count (codes "DATA1" ∷ word ∷ []) (Answered a))
+    (same_Ok (Data (record { toggle = One; bytes = record { items = xs } })) a is)
     (found.few, record { digits = word; spelled = found.value; written = refl }))
 
-clear_says : (count : ℕ) (word : List ℕ) (a : Answer) → clear_answer word ≡ Ok a → WordsSay Wait count (codes "clear" ∷ word ∷ []) (Answered a)
+clear_says : (count : ℕ) (word : List ℕ) (a : Answer) → clear_answer word ≡ Ok a
+    → WordsSay Wait count (codes "clear" ∷ word ∷ []) (Answered a)
 unfolding clear_answer
 clear_says count word a e =
     bind-ok (path_in word) _ a e (λ p read is.
     let found = path_in-word word p read in
-    subst (λ a. WordsSay Wait count (codes "clear" ∷ word ∷ []) (Answered a)) (same_Ok (Clear p) a is)
-    (plain_line Wait count _ (Clear p) (record { may = found.is; none = refl; text = ap (λ t. codes "clear " ++ t) (sym found.text) })))
+    subst (λ a. WordsSay Wait count (codes "clear" ∷ word ∷ []) (Answered a))
+    (same_Ok (Clear p) a is)
+    (plain_line Wait count _ (Clear p) (record {
+      may = found.is;
+      none = refl;
+      text =
+          ap (λ t. codes "clear " ++ t) (sym found.text);
+    })))
 
 -- three words, as the table writes them
-three_text : (front first second : List ℕ) → front ++ first ++ codes " " ++ second ≡ front ++ (first ++ 32 ∷ second)
-three_text front first second = append_assoc (front ++ first) (codes " ") second ∙ append_assoc front first (32 ∷ second)
+three_text : (front first second : List ℕ) → front ++ first ++ codes " " ++ second
+    ≡ front ++ (first ++ 32 ∷ second)
+three_text front first second = append_assoc (front ++ first) (codes " ") second
+    ∙ append_assoc front first (32 ∷ second)
 
-send_says : (count : ℕ) (first second : List ℕ) (a : Answer) → send_answer first second ≡ Ok a → WordsSay Wait count (codes "send" ∷ first ∷ second ∷ []) (Answered a)
+send_says : (count : ℕ) (first second : List ℕ) (a : Answer) → send_answer first second ≡ Ok a
+    → WordsSay Wait count (codes "send" ∷ first ∷ second ∷ []) (Answered a)
 unfolding send_answer
 send_says count first second a e =
     bind-ok (bytes_of_word send_limit second) _ a e (λ xs read e.
     bind-ok (path_in first) _ a e (λ p found is.
     let sent = bytes_of_word-data send_limit second xs read in
     let way = path_in-word first p found in
-    let text : codes "send " ++ path_text p ++ codes " " ++ second ≡ codes "send " ++ (first ++ 32 ∷ second) =
-    ap (λ t. codes "send " ++ t ++ codes " " ++ second) way.text ∙ three_text (codes "send ") first second in
-    subst (λ a. WordsSay Wait count (codes "send" ∷ first ∷ second ∷ []) (Answered a)) (same_Ok (Send p (record { items = xs })) a is)
+    let text : codes "send " ++ path_text p ++ codes " " ++ second
+    ≡ codes "send " ++ (first ++ 32 ∷ second) =
+    ap (λ t. codes "send " ++ t ++ codes " " ++ second) way.text
+    ∙ three_text (codes "send ") first second in
+    subst (λ a. WordsSay Wait count (codes "send" ∷ first ∷ second ∷ []) (Answered a))
+    (same_Ok (Send p (record { items = xs })) a is)
     ((way.is, sent.few), record { digits = second; spelled = sent.value; written = sym text })))
 
-receive_says : (count : ℕ) (first second : List ℕ) (a : Answer) → receive_answer first second ≡ Ok a → WordsSay Wait count (codes "receive" ∷ first ∷ second ∷ []) (Answered a)
+receive_says : (count : ℕ) (first second : List ℕ) (a : Answer) → receive_answer first second ≡ Ok a
+    → WordsSay Wait count (codes "receive" ∷ first ∷ second ∷ []) (Answered a)
 unfolding receive_answer
 receive_says count first second a e =
     bind-ok (number_of_word 0 1000 second) _ a e (λ n read e.
     bind-ok (path_in first) _ a e (λ p found is.
     let number = number_of_word-ok 0 1000 second n (omega arith) read in
     let way = path_in-word first p found in
-    let text : codes "receive " ++ path_text p ++ codes " " ++ decimal n ≡ codes "receive " ++ (first ++ 32 ∷ second) =
-    ap (λ t. codes "receive " ++ t ++ codes " " ++ decimal n) way.text ∙ three_text (codes "receive ") first (decimal n) ∙ ap (λ t. codes "receive " ++ (first ++ 32 ∷ t)) (sym number.text) in
-    subst (λ a. WordsSay Wait count (codes "receive" ∷ first ∷ second ∷ []) (Answered a)) (same_Ok (Receive p n) a is)
-    (plain_line Wait count _ (Receive p n) (record { may = (way.is, number.high); none = refl; text = sym text }))))
+    let text : codes "receive " ++ path_text p ++ codes " " ++ decimal n ≡ codes "receive " ++
+    (first ++ 32 ∷ second) =
+    ap (λ t. codes "receive " ++ t ++ codes " " ++ decimal n) way.text
+    ∙ three_text (codes "receive ") first (decimal n)
+    ∙ ap (λ t. codes "receive " ++ (first ++ 32 ∷ t)) (sym number.text) in
+    subst (λ a. WordsSay Wait count (codes "receive" ∷ first ∷ second ∷ []) (Answered a))
+    (same_Ok (Receive p n) a is)
+    (plain_line Wait count _ (Receive p n) (record {
+      may = (way.is, number.high);
+      none = refl;
+      text = sym text;
+    }))))
 
-pushed_says : (asked : Asked) (count : ℕ) (first second : List ℕ) (s : Said) → MayPush asked → count < 256 → status_change count first second ≡ Ok s → WordsSay asked count (codes "port" ∷ first ∷ second ∷ []) s
+pushed_says : (asked : Asked) (count : ℕ) (first second : List ℕ) (s : Said) → MayPush asked
+    → count < 256 → status_change count first second ≡ Ok s
+    → WordsSay asked count (codes "port" ∷ first ∷ second ∷ []) s
 unfolding status_change
 pushed_says asked count first second s may small e =
     bind-ok (status_of_word second) _ s e (λ xs read e.
     bind-ok (number_of_word 1 count first) _ s e (λ n found is.
     let number = number_of_word-ok 1 count first n (omega arith) found in
     let sent = status_word second xs read in
-    let text : codes "port " ++ decimal n ++ codes " " ++ second ≡ codes "port " ++ (first ++ 32 ∷ second) =
-    ap (λ t. codes "port " ++ t ++ codes " " ++ second) (sym number.text) ∙ three_text (codes "port ") first second in
-    said_is asked count (codes "port" ∷ first ∷ second ∷ []) (Changed n xs) s (same_Ok (Changed n xs) s is)
-    ((may, number.low, number.high, sent.four, sent.small.small), record { digits = second; spelled = sent.value; written = sym text })))
+    let text : codes "port " ++ decimal n ++ codes " " ++ second
+    ≡ codes "port " ++ (first ++ 32 ∷ second) =
+    ap (λ t. codes "port " ++ t ++ codes " " ++ second) (sym number.text)
+    ∙ three_text (codes "port ") first second in
+    said_is asked count (codes "port" ∷ first ∷ second ∷ []) (Changed n xs) s
+    (same_Ok (Changed n xs) s is) (
+      (may, number.low, number.high, sent.four, sent.small.small),
+      record {
+        digits = second;
+        spelled = sent.value;
+        written = sym text;
+      },
+    )))
 
-one_says : (asked : Asked) (count : ℕ) (word argument : List ℕ) (a : Answer) → with_one asked word argument ≡ Ok a → WordsSay asked count (word ∷ argument ∷ []) (Answered a)
+one_says : (asked : Asked) (count : ℕ) (word argument : List ℕ) (a : Answer)
+    → with_one asked word argument ≡ Ok a → WordsSay asked count (word ∷ argument ∷ []) (Answered a)
 unfolding with_one
 one_says Hello count word argument a e =
-    if_ok (bytes_eq word (codes "roots")) (roots_answer argument) _ a e (λ same e. says_same_word Hello count word (codes "roots") (argument ∷ []) _ same (roots_say count argument a e)) (λ e. none_ok NoAnswer a e)
+    if_ok (bytes_eq word (codes "roots")) (roots_answer argument) _ a e
+    (λ same e. says_same_word Hello count word (codes "roots") (argument ∷ []) _ same
+    (roots_say count argument a e)) (λ e. none_ok NoAnswer a e)
 one_says Attempt count word argument a e =
-    if_ok (bytes_eq word (codes "DATA0")) (data_answer Zero argument) _ a e (λ same e. says_same_word Attempt count word (codes "DATA0") (argument ∷ []) _ same (data_says count Zero argument a e)) (λ e.
-    if_ok (bytes_eq word (codes "DATA1")) (data_answer One argument) _ a e (λ same e. says_same_word Attempt count word (codes "DATA1") (argument ∷ []) _ same (data_says count One argument a e)) (λ e.
+    if_ok (bytes_eq word (codes "DATA0")) (data_answer Zero argument) _ a e
+    (λ same e. says_same_word Attempt count word (codes "DATA0") (argument ∷ []) _ same
+    (data_says count Zero argument a e)) (λ e.
+    if_ok (bytes_eq word (codes "DATA1")) (data_answer One argument) _ a e
+    (λ same e. says_same_word Attempt count word (codes "DATA1") (argument ∷ []) _ same
+    (data_says count One argument a e)) (λ e.
     none_ok NoAnswer a e))
 one_says Port count word argument a e = none_ok NoAnswer a e
 one_says Wait count word argument a e =
-    if_ok (bytes_eq word (codes "clear")) (clear_answer argument) _ a e (λ same e. says_same_word Wait count word (codes "clear") (argument ∷ []) _ same (clear_says count argument a e)) (λ e. none_ok NoAnswer a e)
+    if_ok (bytes_eq word (codes "clear")) (clear_answer argument) _ a e
+    (λ same e. says_same_word Wait count word (codes "clear") (argument ∷ []) _ same
+    (clear_says count argument a e)) (λ e. none_ok NoAnswer a e)
 
-two_says : (asked : Asked) (count : ℕ) (word first second : List ℕ) (a : Answer) → with_two asked word first second ≡ Ok a → WordsSay asked count (word ∷ first ∷ second ∷ []) (Answered a)
+two_says : (asked : Asked) (count : ℕ) (word first second : List ℕ) (a : Answer)
+    → with_two asked word first second ≡ Ok a
+    → WordsSay asked count (word ∷ first ∷ second ∷ []) (Answered a)
 unfolding with_two
 two_says Hello count word first second a e = none_ok NoAnswer a e
 two_says Attempt count word first second a e = none_ok NoAnswer a e
 two_says Port count word first second a e = none_ok NoAnswer a e
 two_says Wait count word first second a e =
     let arguments : List (List ℕ) = first ∷ second ∷ [] in
-    if_ok (bytes_eq word (codes "send")) (send_answer first second) _ a e (λ same e. says_same_word Wait count word (codes "send") arguments _ same (send_says count first second a e)) (λ e.
-    if_ok (bytes_eq word (codes "receive")) (receive_answer first second) _ a e (λ same e. says_same_word Wait count word (codes "receive") arguments _ same (receive_says count first second a e)) (λ e.
+    if_ok (bytes_eq word (codes "send")) (send_answer first second) _ a e
+    (λ same e. says_same_word Wait count word (codes "send") arguments _ same
+    (send_says count first second a e)) (λ e.
+    if_ok (bytes_eq word (codes "receive")) (receive_answer first second) _ a e
+    (λ same e. says_same_word Wait count word (codes "receive") arguments _ same
+    (receive_says count first second a e)) (λ e.
     none_ok NoAnswer a e))
 
 may_push-true : (asked : Asked) → may_push asked ≡ true → MayPush asked
@@ -270,25 +385,36 @@ may_push-true Attempt h = tt
 may_push-true Port h = tt
 may_push-true Wait h = tt
 
-three_says : (asked : Asked) (count : ℕ) (word first second : List ℕ) (s : Said) → count < 256 → three_say asked count word first second ≡ Ok s → WordsSay asked count (word ∷ first ∷ second ∷ []) s
+three_says : (asked : Asked) (count : ℕ) (word first second : List ℕ) (s : Said) → count < 256
+    → three_say asked count word first second ≡ Ok s
+    → WordsSay asked count (word ∷ first ∷ second ∷ []) s
 unfolding three_say
 three_says asked count word first second s small e =
     if_ok (may_push asked && bytes_eq word (codes "port")) (status_change count first second) _ s e
     (λ same e. let parts = and_parts (may_push asked) (bytes_eq word (codes "port")) same in
-    says_same_word asked count word (codes "port") (first ∷ second ∷ []) s parts.1 (pushed_says asked count first second s (may_push-true asked parts.0) small e))
-    (λ e. said_of-ok (with_two asked word first second) s e (λ a e is. said_is asked count (word ∷ first ∷ second ∷ []) (Answered a) s is (two_says asked count word first second a e)))
+    says_same_word asked count word (codes "port") (first ∷ second ∷ []) s parts.1
+    (pushed_says asked count first second s (may_push-true asked parts.0) small e))
+    (λ e. said_of-ok (with_two asked word first second) s e
+    (λ a e is. said_is asked count (word ∷ first ∷ second ∷ []) (Answered a) s is
+    (two_says asked count word first second a e)))
 
-words_says : (asked : Asked) (count : ℕ) (ws : List (List ℕ)) (s : Said) → count < 256 → words_say asked count ws ≡ Ok s → WordsSay asked count ws s
+words_says : (asked : Asked) (count : ℕ) (ws : List (List ℕ)) (s : Said) → count < 256
+    → words_say asked count ws ≡ Ok s → WordsSay asked count ws s
 unfolding words_say
 words_says asked count [] s small e = none_ok NoAnswer s e
 words_says asked count (word ∷ []) s small e =
-    said_of-ok (alone asked word) s e (λ a e is. said_is asked count (word ∷ []) (Answered a) s is (plain_line asked count word a (alone_says asked word a e)))
+    said_of-ok (alone asked word) s e (λ a e is. said_is asked count (word ∷ []) (Answered a) s is
+    (plain_line asked count word a (alone_says asked word a e)))
 words_says asked count (word ∷ argument ∷ []) s small e =
-    said_of-ok (with_one asked word argument) s e (λ a e is. said_is asked count (word ∷ argument ∷ []) (Answered a) s is (one_says asked count word argument a e))
-words_says asked count (word ∷ first ∷ second ∷ []) s small e = three_says asked count word first second s small e
+    said_of-ok (with_one asked word argument) s e
+    (λ a e is. said_is asked count (word ∷ argument ∷ []) (Answered a) s is
+    (one_says asked count word argument a e))
+words_says asked count (word ∷ first ∷ second ∷ []) s small e =
+    three_says asked count word first second s small e
 words_says asked count (word ∷ first ∷ second ∷ third ∷ more) s small e = none_ok NoAnswer s e
 
-many_words : (asked : Asked) (count : ℕ) (ws : List (List ℕ)) → 4 ≤ length ws → words_say asked count ws ≡ Err NoAnswer
+many_words : (asked : Asked) (count : ℕ) (ws : List (List ℕ)) → 4 ≤ length ws
+    → words_say asked count ws ≡ Err NoAnswer
 unfolding words_say
 many_words asked count [] h = absurd (omega arith)
 many_words asked count (word ∷ []) h = absurd (omega arith)
@@ -297,26 +423,33 @@ many_words asked count (word ∷ first ∷ second ∷ []) h = absurd (omega arit
 many_words asked count (word ∷ first ∷ second ∷ third ∷ more) h = refl
 
 -- words by their shape
-pub words_say-shape : (asked : Asked) (count : ℕ) (ws : List (List ℕ)) (shape : Words) → AreWords ws shape → words_say asked count ws ≡ shape_says asked count shape
+pub words_say-shape : (asked : Asked) (count : ℕ) (ws : List (List ℕ)) (shape : Words)
+    → AreWords ws shape → words_say asked count ws ≡ shape_says asked count shape
 unfolding words_say shape_says
 words_say-shape asked count ws (OneWord word) h = ap (words_say asked count) h
 words_say-shape asked count ws (TwoWords word argument) h = ap (words_say asked count) h
 words_say-shape asked count ws (ThreeWords word first second) h = ap (words_say asked count) h
 words_say-shape asked count ws MoreWords h = many_words asked count ws h
 
-text_is : (l p : Bool) (line : List ℕ) (f : List ℕ → Result Said WireFault) (s : Said) → ((if l then Err LineTooLong else if p then Ok line else Err BadCharacter) >>= f) ≡ Ok s → f line ≡ Ok s
+text_is : (l p : Bool) (line : List ℕ) (f : List ℕ → Result Said WireFault) (s : Said)
+    → ((if l then Err LineTooLong else if p then Ok line else Err BadCharacter) >>= f) ≡ Ok s
+    → f line ≡ Ok s
 text_is true p line f s e = none_ok LineTooLong s e
 text_is false true line f s e = e
 text_is false false line f s e = none_ok BadCharacter s e
 
 -- what is read of a line may be said, and stands there
-pub said-line : (asked : Asked) (count : ℕ) (line : List ℕ) (s : Said) → count < 256 → line_says asked count line ≡ Ok s → MaySay asked count s × IsSaidLine line s
+pub said-line : (asked : Asked) (count : ℕ) (line : List ℕ) (s : Said) → count < 256
+    → line_says asked count line ≡ Ok s → MaySay asked count s × IsSaidLine line s
 unfolding line_says text_of_line
 said-line asked count line s small e =
     let read = text_is (nat_lt 1024 (length line)) (all_printable line) line _ s e in
     let said = words_says asked count (words line) s small read in
-    subst (λ t. MaySay asked count s × IsSaidLine t s) (sym (joined-words line (words line) refl)) said
+    subst (λ t. MaySay asked count s × IsSaidLine t s) (sym (joined-words line (words line) refl))
+    said
 
-pub said-result : (asked : Asked) (count : ℕ) (line : List ℕ) (r : Result Said WireFault) → count < 256 → r ≡ line_says asked count line → IfOk r (λ s. MaySay asked count s × IsSaidLine line s)
+pub said-result : (asked : Asked) (count : ℕ) (line : List ℕ) (r : Result Said WireFault)
+    → count < 256 → r ≡ line_says asked count line
+    → IfOk r (λ s. MaySay asked count s × IsSaidLine line s)
 said-result asked count line (Ok s) small e = said-line asked count line s small (sym e)
 said-result asked count line (Err fault) small e = tt

@@ -1,5 +1,7 @@
 -- The words of a line, and the texts that have no space.
-use Rattle.std.proofs.Common.{◌≡◌, ◌≢◌, ℕ, zero, suc, Bor, lit<, ◌<◌, ◌≤◌, Bool, true, false, ◌&&◌, ◌==◌, nat_le, cond, List, [], ◌∷◌, ◌++◌, length, get_or, Option, Some, None, refl, sym, ap, ◌∙◌, arith}
+use Rattle.std.proofs.Common.{◌≡◌, ◌≢◌, ℕ, zero, suc, Bor, lit<, ◌<◌, ◌≤◌, Bool, true, false, ◌&&◌}
+use Rattle.std.proofs.Common.{◌==◌, nat_le, cond, List, [], ◌∷◌, ◌++◌, length, get_or, Option, Some}
+use Rattle.std.proofs.Common.{None, refl, sym, ap, ◌∙◌, arith}
 use Rattle.std.specs.Option.{MatchOption}
 use Rattle.std.specs.Str.{IsAscii}
 use Rattle.std.proofs.lemmas.Str.Ascii.{IsAscii-cons, IsAscii-nil}
@@ -25,16 +27,19 @@ words_none (c ∷ text) h =
     let rest : words text ≡ text ∷ [] = words_none text (λ i less. h (suc i) (omega arith)) in
     ap (λ b. cond b ([] ∷ words text) (onto_first c (words text))) first ∙ ap (onto_first c) rest
 
-pub words_cut : (text rest : List ℕ) → HasNoSpace text → words (text ++ 32 ∷ rest) ≡ text ∷ words rest
+pub words_cut : (text rest : List ℕ) → HasNoSpace text
+    → words (text ++ 32 ∷ rest) ≡ text ∷ words rest
 words_cut [] rest h = refl
 words_cut (c ∷ text) rest h =
     let first : (c == 32) ≡ false = eqb-other c (h 0 (omega arith)) in
-    let more : words (text ++ 32 ∷ rest) ≡ text ∷ words rest = words_cut text rest (λ i less. h (suc i) (omega arith)) in
+    let more : words (text ++ 32 ∷ rest) ≡ text ∷ words rest =
+    words_cut text rest (λ i less. h (suc i) (omega arith)) in
     let all = words (text ++ 32 ∷ rest) in
     ap (λ b. cond b ([] ∷ all) (onto_first c all)) first ∙ ap (onto_first c) more
 
 -- what `split_once` says of words
-pub words-split_once : (line : List ℕ) (r : Option (Bor (List ℕ) × Bor (List ℕ))) → IsSplitOnceResult 32 line r
+pub words-split_once : (line : List ℕ) (r : Option (Bor (List ℕ) × Bor (List ℕ)))
+    → IsSplitOnceResult 32 line r
     → MatchOption r (words line ≡ line ∷ []) (λ cut. words line ≡ cut.0.now ∷ words cut.1.now)
 words-split_once line None h = words_none line (split_parts 32 line None h (lit< tt))
 words-split_once line (Some cut) h =
@@ -42,7 +47,8 @@ words-split_once line (Some cut) h =
     ap words parts.0 ∙ words_cut cut.0.now cut.1.now parts.1
 
 -- the line that the words make
-pub joined-words : (line : List ℕ) (ws : List (List ℕ)) → words line ≡ ws → line ≡ join_with_byte 32 ws
+pub joined-words : (line : List ℕ) (ws : List (List ℕ)) → words line ≡ ws
+    → line ≡ join_with_byte 32 ws
 joined-words line ws e = sym (join_with_byte-slice_split 32 line) ∙ ap (join_with_byte 32) e
 
 -- ---- visible texts: printable ASCII, and no space
@@ -61,7 +67,8 @@ visible_printable c h = grind (arith, nat_tests)
 
 pub HasNoSpace-visible : (text : List ℕ) → all_visible text ≡ true → HasNoSpace text
 HasNoSpace-visible [] h i less = absurd (omega arith)
-HasNoSpace-visible (c ∷ text) h zero less = visible_other c (and_parts (is_visible c) (all_visible text) h).0
+HasNoSpace-visible (c ∷ text) h zero less =
+    visible_other c (and_parts (is_visible c) (all_visible text) h).0
 HasNoSpace-visible (c ∷ text) h (suc i) less =
     HasNoSpace-visible text (and_parts (is_visible c) (all_visible text) h).1 i (omega arith)
 
@@ -71,7 +78,8 @@ all_printable-visible (c ∷ text) h =
     let parts = and_parts (is_visible c) (all_visible text) h in
     rw (visible_printable c parts.0, all_printable-visible text parts.1) refl
 
-pub all_printable-append : (text more : List ℕ) → all_printable text ≡ true → all_printable more ≡ true → all_printable (text ++ more) ≡ true
+pub all_printable-append : (text more : List ℕ) → all_printable text ≡ true
+    → all_printable more ≡ true → all_printable (text ++ more) ≡ true
 all_printable-append text more h t = list_all-append is_printable text more ∙ rw (h, t) refl
 
 -- a text has a word
@@ -79,7 +87,9 @@ pub some-words : (text : List ℕ) → 1 ≤ length (words text)
 some-words text = omega (arith, length-slice_split (λ c. c == 32) text)
 
 -- the words behind three others
-pub four-words : (text first second third fourth behind last : List ℕ) → words text ≡ first ∷ words behind → words behind ≡ second ∷ words third → words third ≡ fourth ∷ words last
+pub four-words : (text first second third fourth behind last : List ℕ)
+    → words text ≡ first ∷ words behind → words behind ≡ second ∷ words third
+    → words third ≡ fourth ∷ words last
     → 4 ≤ length (words text)
 four-words text first second third fourth behind last one two three =
     let some = some-words last in

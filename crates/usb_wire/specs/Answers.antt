@@ -4,7 +4,8 @@ use Rattle.usb_packet.specs.Spelling.{IsBytes}
 use Rattle.usb_packet.specs.Text.{data_name, hex_text}
 use Rattle.usb_port.specs.Path.{IsPath, path_text}
 use Rattle.usb_wire.specs.declared.answer.Answer.{Answer}
-use Rattle.usb_wire.specs.declared.answer.Answer.TheVariants.{Roots, Ack, Nak, Stall, Nothing, Data, Done, Show, End, Send, Receive, Clear}
+use Rattle.usb_wire.specs.declared.answer.Answer.TheVariants.{Roots, Ack, Nak, Stall, Nothing, Data}
+use Rattle.usb_wire.specs.declared.answer.Answer.TheVariants.{Done, Show, End, Send, Receive, Clear}
 use Rattle.usb_wire.specs.declared.answer.Said.{Said}
 use Rattle.usb_wire.specs.declared.answer.Said.TheVariants.{Changed, Answered}
 use Rattle.usb_wire.specs.declared.question.Asked.{Asked}
@@ -23,12 +24,14 @@ answer_in_digits digits Done = codes "ok"
 answer_in_digits digits Show = codes "show"
 answer_in_digits digits End = codes "end"
 answer_in_digits digits (Send path bytes) = codes "send " ++ path_text path ++ codes " " ++ digits
-answer_in_digits digits (Receive path packets) = codes "receive " ++ path_text path ++ codes " " ++ decimal packets
+answer_in_digits digits (Receive path packets) = codes "receive " ++ path_text path ++ codes " " ++
+    decimal packets
 answer_in_digits digits (Clear path) = codes "clear " ++ path_text path
 
 -- the line of what is said, with the digits of its bytes
 abbrev pub said_in_digits : List ℕ → Said → List ℕ
-said_in_digits digits (Changed number status) = codes "port " ++ decimal number ++ codes " " ++ digits
+said_in_digits digits (Changed number status) = codes "port " ++ decimal number ++ codes " " ++
+    digits
 said_in_digits digits (Answered answer) = answer_in_digits digits answer
 
 -- the bytes in it

@@ -1,16 +1,20 @@
 -- What is wrong with a line of the far end: the table of faults, of which the first counts.
-use Rattle.std.specs.Prelude.{ℕ, ◌==◌, ◌&&◌, ◌||◌, nat_lt, Bool, false, not, List, [], ◌∷◌, length, codes, Option, Some, None, is_none, if◌then◌else◌}
+use Rattle.std.specs.Prelude.{ℕ, ◌==◌, ◌&&◌, ◌||◌, nat_lt, Bool, false, not, List, [], ◌∷◌, length}
+use Rattle.std.specs.Prelude.{codes, Option, Some, None, is_none, if◌then◌else◌}
 use Rattle.std.specs.Str.{bytes_eq}
 use Rattle.usb_port.specs.Path.{path_of}
 use Rattle.usb_wire.specs.declared.question.Asked.{Asked}
 use Rattle.usb_wire.specs.declared.question.Asked.TheVariants.{Hello, Attempt, Port, Wait}
 use Rattle.usb_wire.specs.declared.fault.WireFault.{WireFault}
-use Rattle.usb_wire.specs.declared.fault.WireFault.TheVariants.{LineTooLong, BadCharacter, NoAnswer, BadHex, BadLength, BadNumber, BadPath}
+use Rattle.usb_wire.specs.declared.fault.WireFault.TheVariants.{LineTooLong, BadCharacter, NoAnswer}
+use Rattle.usb_wire.specs.declared.fault.WireFault.TheVariants.{BadHex, BadLength, BadNumber}
+use Rattle.usb_wire.specs.declared.fault.WireFault.TheVariants.{BadPath}
 use Rattle.usb_wire.specs.Answers.{send_limit}
 use Rattle.usb_wire.specs.Fields.{hex_length, is_dash, is_hex, number_within}
 use Rattle.usb_wire.specs.Words.{all_printable, words}
 
--- what a word behind the first one is: bytes, at most so many; the four of a status; how many root ports there are, the
+-- what a word behind the first one is: bytes, at most so many; the four of a status; how many root
+-- ports there are, the
 -- number of one, how many packets; a path
 pub data Field : Type 0 where
   bytes_field : ℕ → Field
@@ -61,7 +65,8 @@ form_fits word arguments f = (length arguments == length f.fields) && bytes_eq w
 
 abbrev pub fields_in : List Form → List ℕ → List (List ℕ) → Option (List Field)
 fields_in [] word arguments = None
-fields_in (f ∷ fs) word arguments = if form_fits word arguments f then Some f.fields else fields_in fs word arguments
+fields_in (f ∷ fs) word arguments = if form_fits word arguments f then Some f.fields else fields_in
+    fs word arguments
 
 -- neither pairs of digits, of either case, nor a dash
 abbrev pub is_bad_hex : Field → List ℕ → Bool
@@ -88,7 +93,8 @@ is_bad_path _ word = false
 
 -- one of the words is
 abbrev pub is_some_bad : (Field → List ℕ → Bool) → List Field → List (List ℕ) → Bool
-is_some_bad is_bad (field ∷ fields) (word ∷ more) = is_bad field word || is_some_bad is_bad fields more
+is_some_bad is_bad (field ∷ fields) (word ∷ more) =
+    is_bad field word || is_some_bad is_bad fields more
 is_some_bad is_bad _ _ = false
 
 -- the first fault of the words behind the first one
@@ -107,7 +113,8 @@ fault_by count (Some fields) arguments = argument_fault count fields arguments
 -- the first fault of words, where there are so many root ports
 abbrev pub words_fault : Asked → ℕ → List (List ℕ) → Option WireFault
 words_fault asked count [] = Some NoAnswer
-words_fault asked count (word ∷ arguments) = fault_by count (fields_in (forms asked) word arguments) arguments
+words_fault asked count (word ∷ arguments) = fault_by count (fields_in (forms asked) word arguments)
+    arguments
 
 -- the first fault of a line behind a question, where there are so many root ports
 abbrev pub line_fault : Asked → ℕ → List ℕ → Option WireFault

@@ -1,5 +1,6 @@
 -- What single words stand for: bytes, numbers and paths.
-use Rattle.std.specs.Prelude.{ℕ, ◌/◌, ◌%◌, ◌==◌, ◌&&◌, ◌||◌, nat_le, nat_lt, Bool, not, List, [], length, codes, Option, Some, None, if◌then◌else◌, slice_index}
+use Rattle.std.specs.Prelude.{ℕ, ◌/◌, ◌%◌, ◌==◌, ◌&&◌, ◌||◌, nat_le, nat_lt, Bool, not, List, []}
+use Rattle.std.specs.Prelude.{length, codes, Option, Some, None, if◌then◌else◌, slice_index}
 use Rattle.std.specs.Char.{is_ascii_digit}
 use Rattle.std.specs.List.{list_all}
 use Rattle.std.specs.Result.{result_ok}
@@ -20,13 +21,16 @@ hex_length word = if is_dash word then 0 else length word / 2
 
 -- the bytes that a word spells in digits of either case; a dash is none
 abbrev pub hex_value : List ℕ → Option (List ℕ)
-hex_value word = if is_dash word then Some [] else if is_hex word then result_ok (decode_of word) else None
+hex_value word = if is_dash word then Some [] else if is_hex word then result_ok (decode_of word)
+    else None
 
 -- a number has no zero before it
 abbrev pub is_decimal : List ℕ → Bool
-is_decimal word = nat_lt 0 (length word) && list_all is_ascii_digit word && (length word == 1 || not (slice_index word 0 == 48))
+is_decimal word = nat_lt 0 (length word) && list_all is_ascii_digit word &&
+    (length word == 1 || not (slice_index word 0 == 48))
 
 -- the number that a word spells, if it is in a range
 abbrev pub number_within : ℕ → ℕ → List ℕ → Option ℕ
 number_within least most word =
-    if is_decimal word && nat_le least (digits_value 10 word) && nat_le (digits_value 10 word) most then Some (digits_value 10 word) else None
+    if is_decimal word && nat_le least (digits_value 10 word) && nat_le (digits_value 10 word) most
+    then Some (digits_value 10 word) else None

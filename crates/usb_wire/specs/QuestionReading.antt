@@ -1,11 +1,14 @@
 -- How the lines of the host are read, for the private functions.
-use Rattle.std.specs.Prelude.{ℕ, ◌==◌, List, [], ◌∷◌, length, codes, Option, Some, None, option_map, if◌then◌else◌}
+use Rattle.std.specs.Prelude.{ℕ, ◌==◌, List, [], ◌∷◌, length, codes, Option, Some, None, option_map}
+use Rattle.std.specs.Prelude.{if◌then◌else◌}
 use Rattle.std.specs.Result.{result_ok}
 use Rattle.std.specs.Str.{bytes_eq}
 use Rattle.usb_packet.specs.declared.Toggle.{Toggle}
 use Rattle.usb_packet.specs.declared.Toggle.TheVariants.{Zero, One}
 use Rattle.usb_port.specs.declared.call.PortCall.{PortCall}
-use Rattle.usb_port.specs.declared.call.PortCall.TheVariants.{SetPower, SetReset, ClearEnable, ClearPower, ClearConnectionChange, ClearEnableChange, ClearResetChange}
+use Rattle.usb_port.specs.declared.call.PortCall.TheVariants.{SetPower, SetReset, ClearEnable}
+use Rattle.usb_port.specs.declared.call.PortCall.TheVariants.{ClearPower, ClearConnectionChange}
+use Rattle.usb_port.specs.declared.call.PortCall.TheVariants.{ClearEnableChange, ClearResetChange}
 use Rattle.usb_request.specs.declared.setup.Setup.{Setup as SetupData}
 use Rattle.usb_request.specs.Layout.{setup_of}
 use Rattle.usb_wire.specs.declared.question.Endpoint.{Endpoint}
@@ -23,7 +26,8 @@ None >>= f = None
 -- what stands before the first mark, and behind it
 unfoldable pub cut_at : ℕ → List ℕ → Option (List ℕ × List ℕ)
 cut_at mark [] = None
-cut_at mark (c ∷ text) = if c == mark then Some ([], text) else option_map (λ cut. (c ∷ cut.0, cut.1)) (cut_at mark text)
+cut_at mark (c ∷ text) = if c == mark then Some ([], text) else option_map
+    (λ cut. (c ∷ cut.0, cut.1)) (cut_at mark text)
 
 unfoldable pub endpoint_in : List ℕ → Option Endpoint
 endpoint_in word = do

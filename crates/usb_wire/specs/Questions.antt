@@ -6,13 +6,17 @@ use Rattle.usb_packet.specs.declared.Toggle.{Toggle}
 use Rattle.usb_packet.specs.declared.Toggle.TheVariants.{Zero}
 use Rattle.usb_packet.specs.Text.{data_name, hex_text, token_name}
 use Rattle.usb_port.specs.declared.call.PortCall.{PortCall}
-use Rattle.usb_port.specs.declared.call.PortCall.TheVariants.{SetPower, SetReset, ClearEnable, ClearPower, ClearConnectionChange, ClearEnableChange, ClearResetChange}
+use Rattle.usb_port.specs.declared.call.PortCall.TheVariants.{SetPower, SetReset, ClearEnable}
+use Rattle.usb_port.specs.declared.call.PortCall.TheVariants.{ClearPower, ClearConnectionChange}
+use Rattle.usb_port.specs.declared.call.PortCall.TheVariants.{ClearEnableChange, ClearResetChange}
 use Rattle.usb_request.specs.Layout.{bytes_of}
 use Rattle.usb_request.specs.declared.setup.Setup.{Setup as SetupData}
 use Rattle.usb_wire.specs.Answers.{IsData}
 use Rattle.usb_wire.specs.Fields.{hex_value}
 use Rattle.usb_wire.specs.declared.question.Asked.{Asked}
-use Rattle.usb_wire.specs.declared.question.Asked.TheVariants.{Hello as OfHello, Attempt as OfAttempt, Port as OfPort, Wait as OfWait}
+use Rattle.usb_wire.specs.declared.question.Asked.TheVariants.{Hello as OfHello}
+use Rattle.usb_wire.specs.declared.question.Asked.TheVariants.{Attempt as OfAttempt, Port as OfPort}
+use Rattle.usb_wire.specs.declared.question.Asked.TheVariants.{Wait as OfWait}
 use Rattle.usb_wire.specs.declared.question.Endpoint.{Endpoint}
 use Rattle.usb_wire.specs.declared.question.Question.{Question}
 use Rattle.usb_wire.specs.declared.question.Question.TheVariants.{Hello, Setup, Out, In, Port, Wait}
@@ -64,10 +68,12 @@ question_in_digits digits Hello = codes "usbplan live 1"
 question_in_digits digits (Setup speed endpoint setup) =
     speed_text speed ++ token_text SetupTok endpoint ++ between_text speed ++ data_with Zero digits
 question_in_digits digits (Out speed endpoint sent) =
-    speed_text speed ++ token_text OutTok endpoint ++ between_text speed ++ data_with sent.toggle digits
+    speed_text speed ++ token_text OutTok endpoint ++ between_text speed ++ data_with sent.toggle
+    digits
 question_in_digits digits (In speed endpoint most) =
     speed_text speed ++ token_text InTok endpoint ++ codes " " ++ decimal most
-question_in_digits digits (Port number call) = codes "port " ++ decimal number ++ codes " " ++ call_text call
+question_in_digits digits (Port number call) = codes "port " ++ decimal number ++ codes " " ++
+    call_text call
 question_in_digits digits Wait = codes "wait"
 
 -- the bytes in it
@@ -92,7 +98,8 @@ IsEndpoint e = (e.address < 128) × (e.number < 16)
 
 abbrev pub IsSetupData : SetupData → Type 0
 IsSetupData s =
-    (s.request_type < 256) × (s.request < 256) × (s.value < 2 ^ 16) × (s.index < 2 ^ 16) × (s.length < 2 ^ 16)
+    (s.request_type < 256) × (s.request < 256) × (s.value < 2 ^ 16) × (s.index < 2 ^ 16)
+    × (s.length < 2 ^ 16)
 
 -- what may be asked
 abbrev pub IsQuestion : Question → Type 0

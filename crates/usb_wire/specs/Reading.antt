@@ -1,15 +1,19 @@
 -- How lines are read, for the private functions.
-use Rattle.std.specs.Prelude.{ℕ, ◌&&◌, ◌||◌, nat_lt, ◌==◌, Bool, true, false, List, [], ◌∷◌, length, codes, Option, Some, None, ok_or, Result, Ok, Err, if◌then◌else◌}
+use Rattle.std.specs.Prelude.{ℕ, ◌&&◌, ◌||◌, nat_lt, ◌==◌, Bool, true, false, List, [], ◌∷◌, length}
+use Rattle.std.specs.Prelude.{codes, Option, Some, None, ok_or, Result, Ok, Err, if◌then◌else◌}
 use Rattle.std.specs.Str.{bytes_eq}
 use Rattle.usb_packet.specs.declared.Toggle.{Toggle}
 use Rattle.usb_packet.specs.declared.Toggle.TheVariants.{Zero, One as OneToggle}
 use Rattle.usb_port.specs.Path.{path_of}
 use Rattle.usb_wire.specs.declared.answer.Answer.{Answer}
-use Rattle.usb_wire.specs.declared.answer.Answer.TheVariants.{Roots, Ack, Nak, Stall, Nothing, Data, Done, Show, End, Send, Receive, Clear}
+use Rattle.usb_wire.specs.declared.answer.Answer.TheVariants.{Roots, Ack, Nak, Stall, Nothing, Data}
+use Rattle.usb_wire.specs.declared.answer.Answer.TheVariants.{Done, Show, End, Send, Receive, Clear}
 use Rattle.usb_wire.specs.declared.answer.Said.{Said}
 use Rattle.usb_wire.specs.declared.answer.Said.TheVariants.{Changed, Answered}
 use Rattle.usb_wire.specs.declared.fault.WireFault.{WireFault}
-use Rattle.usb_wire.specs.declared.fault.WireFault.TheVariants.{LineTooLong, BadCharacter, NoAnswer, BadHex, BadLength, BadNumber, BadPath}
+use Rattle.usb_wire.specs.declared.fault.WireFault.TheVariants.{LineTooLong, BadCharacter, NoAnswer}
+use Rattle.usb_wire.specs.declared.fault.WireFault.TheVariants.{BadHex, BadLength, BadNumber}
+use Rattle.usb_wire.specs.declared.fault.WireFault.TheVariants.{BadPath}
 use Rattle.usb_wire.specs.declared.question.Asked.{Asked}
 use Rattle.usb_wire.specs.declared.question.Asked.TheVariants.{Hello, Attempt, Port, Wait}
 use Rattle.usb_wire.specs.declared.words.Words.{Words}
@@ -19,7 +23,8 @@ use Rattle.usb_wire.specs.Fields.{hex_length, hex_value, is_dash, is_hex, number
 use Rattle.usb_wire.specs.Words.{all_printable, words}
 
 infixl 10 ◌>>=◌
-abbrev pub ◌>>=◌ : {A B : Type 0} → Result A WireFault → (A → Result B WireFault) → Result B WireFault
+abbrev pub ◌>>=◌ : {A B : Type 0} → Result A WireFault → (A → Result B WireFault)
+    → Result B WireFault
 (Ok x) >>= f = f x
 (Err e) >>= f = Err e
 
@@ -86,13 +91,15 @@ clear_answer word = do
 
 -- the answers of two words
 unfoldable pub with_one : Asked → List ℕ → List ℕ → Result Answer WireFault
-with_one Hello word argument = if bytes_eq word (codes "roots") then roots_answer argument else Err NoAnswer
+with_one Hello word argument = if bytes_eq word (codes "roots") then roots_answer argument else Err
+    NoAnswer
 with_one Attempt word argument =
     if bytes_eq word (codes "DATA0") then data_answer Zero argument
     else if bytes_eq word (codes "DATA1") then data_answer OneToggle argument
     else Err NoAnswer
 with_one Port word argument = Err NoAnswer
-with_one Wait word argument = if bytes_eq word (codes "clear") then clear_answer argument else Err NoAnswer
+with_one Wait word argument = if bytes_eq word (codes "clear") then clear_answer argument else Err
+    NoAnswer
 
 unfoldable pub send_answer : List ℕ → List ℕ → Result Answer WireFault
 send_answer first second = do
@@ -146,7 +153,8 @@ words_say asked count (word ∷ first ∷ second ∷ third ∷ more) = Err NoAns
 unfoldable pub shape_says : Asked → ℕ → Words → Result Said WireFault
 shape_says asked count (One word) = said_of (alone asked word.now)
 shape_says asked count (Two word argument) = said_of (with_one asked word.now argument.now)
-shape_says asked count (Three word first second) = three_say asked count word.now first.now second.now
+shape_says asked count (Three word first second) =
+    three_say asked count word.now first.now second.now
 shape_says asked count More = Err NoAnswer
 
 -- what is wrong with the text of a line

@@ -7,7 +7,8 @@ use Rattle.clap.specs.declared.builder.action.ArgAction.TheVariants.{Set, SetTru
 use Rattle.clap.specs.declared.builder.value_parser.ValueParser.TheVariants as parser
 use Rattle.usb_words.specs.declared.words.DeviceWords.{DeviceWords}
 use Rattle.usb_words.specs.declared.words.Words.{Words}
-use Rattle.usb_words.specs.declared.words.Words.TheVariants.{Stdin, Packet, Check, Tree, Draw, Run, Pcap, Device, Far, Live}
+use Rattle.usb_words.specs.declared.words.Words.TheVariants.{Stdin, Packet, Check, Tree, Draw, Run}
+use Rattle.usb_words.specs.declared.words.Words.TheVariants.{Pcap, Device, Far, Live}
 
 -- the one text that a subcommand wants
 abbrev pub text_rule : Rule
@@ -18,32 +19,52 @@ text_app name = with_rule (new_app name) text_rule
 
 -- the flag of `draw`
 abbrev pub ascii_rule : Rule
-ascii_rule = record (new_rule (codes "ascii")) { long = Some (codes "ascii"); action = Some SetTrue }
+ascii_rule = record (new_rule (codes "ascii")) {
+  long = Some (codes "ascii");
+  action =
+      Some SetTrue;
+}
 
 abbrev pub draw_app : App
 draw_app = with_rule (text_app (codes "draw")) ascii_rule
 
--- the name that `device` wants before its file, and its number of ports, 1 to 7, which is 7 where it is left out
+-- the name that `device` wants before its file, and its number of ports, 1 to 7, which is 7 where
+-- it is left out
 abbrev pub name_rule : Rule
 name_rule = record (new_rule (codes "name")) { required = true; action = Some Set; value_names = 1 }
 
 abbrev pub ports_rule : Rule
-ports_rule = record (new_rule (codes "ports")) { long = Some (codes "ports"); action = Some Set; value_names = 1; parser = Some (parser.Unsigned 1 7); defaults = codes "7" ∷ [] }
+ports_rule = record (new_rule (codes "ports")) {
+  long = Some (codes "ports");
+  action = Some Set;
+  value_names = 1;
+  parser = Some (parser.Unsigned 1 7);
+  defaults = codes "7" ∷ [];
+}
 
 abbrev pub device_app : App
-device_app = with_rule (with_rule (with_rule (new_app (codes "device")) name_rule) text_rule) ports_rule
+device_app = with_rule (with_rule (with_rule (new_app (codes "device")) name_rule) text_rule)
+    ports_rule
 
 -- the most questions that `live` asks, 2 ^ 63 - 1 where it is left out
 abbrev pub limit_rule : Rule
 limit_rule =
-    record (new_rule (codes "limit")) { long = Some (codes "limit"); action = Some Set; value_names = 1; parser = Some (parser.Unsigned 0 9223372036854775807); defaults = codes "9223372036854775807" ∷ [] }
+    record (new_rule (codes "limit")) {
+      long = Some (codes "limit");
+      action = Some Set;
+      value_names = 1;
+      parser = Some (parser.Unsigned 0 9223372036854775807);
+      defaults =
+          codes "9223372036854775807" ∷ [];
+    }
 
 abbrev pub live_app : App
 live_app = with_rule (new_app (codes "live")) limit_rule
 
 -- the program takes its words without its name, and has a version
 abbrev pub plain_app : App
-plain_app = let app = new_app (codes "usbplan") in record app { top = record app.top { no_binary_name = true; has_version = true } }
+plain_app = let app = new_app (codes "usbplan") in
+    record app { top = record app.top { no_binary_name = true; has_version = true } }
 
 -- one more command that wants one text
 abbrev pub with_text : App → List ℕ → App
@@ -51,11 +72,14 @@ with_text app name = with_subcommand app (text_app name).top
 
 -- the program with its first three commands
 abbrev pub first_app : App
-first_app = with_text (with_text (with_text plain_app (codes "packet")) (codes "check")) (codes "tree")
+first_app = with_text (with_text (with_text plain_app (codes "packet")) (codes "check"))
+    (codes "tree")
 
 abbrev pub program_app : App
 program_app =
-    with_subcommand (with_text (with_subcommand (with_text (with_text (with_subcommand first_app draw_app.top) (codes "run")) (codes "pcap")) device_app.top) (codes "far")) live_app.top
+    with_subcommand (with_text (with_subcommand
+    (with_text (with_text (with_subcommand first_app draw_app.top) (codes "run"))
+    (codes "pcap")) device_app.top) (codes "far")) live_app.top
 
 -- clap reads this subcommand from the words, with this text
 pub record HasSubcommand (words : List Text) (name text : List ℕ) : Type 0 where

@@ -2,8 +2,8 @@
 //!
 //! # What is proved
 //!
-//! `read_words`: an Ok is `clap`'s meaning of the words, the flag of `draw`, the name, file and ports of `device` and the
-//! limit of `live` too (`ReadsWords`). *Only tested*: texts of help, version and word faults.
+//! `read_words`: an Ok is `clap`'s meaning of the words, the flag of `draw`, the name, file and ports of `device` and
+//! the limit of `live` too (`ReadsWords`). *Only tested*: texts of help, version and word faults.
 #![tactic(auto)]
 
 mod words;

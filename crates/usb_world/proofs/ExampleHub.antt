@@ -1,14 +1,17 @@
--- A run by hand below a hub: PORT_RESET of its port makes the low-speed device there reachable, which then hears packets
+-- A run by hand below a hub: PORT_RESET of its port makes the low-speed device there reachable,
+-- which then hears packets
 -- only behind PRE.
 use Rattle.std.proofs.Common.{◌≡◌, ℕ, Bool, true, false, List, [], ◌∷◌, None, Some, refl}
 use Rattle.usb_packet.specs.declared.TokenKind.TheVariants.{InTok, SetupTok}
 use Rattle.usb_packet.specs.declared.Toggle.TheVariants.{Zero, One as Data1}
 use Rattle.usb_device.specs.Spec.{Spec, function, usual_hub}
-use Rattle.usb_device.specs.Tree.{ended, vacant, taken, changed_at, reach_at, state_at, reach, all_off}
+use Rattle.usb_device.specs.Tree.{ended, vacant, taken, changed_at, reach_at, state_at, reach}
+use Rattle.usb_device.specs.Tree.{all_off}
 use Rattle.usb_device.specs.Rows.{received, unread, fresh, reset_state, awaits_address}
 use Rattle.usb_device.specs.Request.{outcome}
 use Rattle.usb_device.specs.Effect.{asks}
-use Rattle.usb_device.specs.Delivery.{answer_of, effect_of, after_packet, answers, all_forgotten, held_addresses, repeats, has_loss, clears_change}
+use Rattle.usb_device.specs.Delivery.{answer_of, effect_of, after_packet, answers, all_forgotten}
+use Rattle.usb_device.specs.Delivery.{held_addresses, repeats, has_loss, clears_change}
 use Rattle.usb_device.specs.Bulk.{change_bits}
 use Rattle.usb_request.specs.Layout.{setup_of}
 use Rattle.usb_port.specs.PortState.{full, low, nothing, status_of}
@@ -16,27 +19,57 @@ use Rattle.usb_world.specs.declared.damage.Damage.{Damage}
 use Rattle.usb_world.specs.declared.damage.Harm.TheVariants.{LosePre}
 use Rattle.usb_world.specs.declared.types.Attempt.{Attempt}
 use Rattle.usb_world.specs.declared.types.Outcome.TheVariants as got
-use Rattle.usb_world.specs.Wire.{damage_of, harm_to, mark_of, bit_count, marked, marked_some, is_read}
-use Rattle.usb_world.specs.Exchange.{token_of, payload_of, answer_place, answer_mark, reply_of, outcome_of, ports_in, lost_in}
+use Rattle.usb_world.specs.Wire.{damage_of, harm_to, mark_of, bit_count, marked, marked_some}
+use Rattle.usb_world.specs.Wire.{is_read}
+use Rattle.usb_world.specs.Exchange.{token_of, payload_of, answer_place, answer_mark, reply_of}
+use Rattle.usb_world.specs.Exchange.{outcome_of, ports_in, lost_in}
 use Rattle.usb_world.specs.Losses.{no_losses, one_more}
 use Rattle.usb_world.specs.World.{World}
-use Rattle.usb_world.specs.Steps.{after_event, after_due_events, at_attempt, with_attempt, outcome_in, attempt, after}
+use Rattle.usb_world.specs.Steps.{after_event, after_due_events, at_attempt, with_attempt}
+use Rattle.usb_world.specs.Steps.{outcome_in, attempt, after}
 use Rattle.usb_world.specs.Courses.{address_at}
 
 abbrev example_hub : Spec
-example_hub = record (function (0x68 ∷ 0x75 ∷ 0x62 ∷ 0x32 ∷ []) (0x12 ∷ 1 ∷ 0 ∷ 2 ∷ 9 ∷ 0 ∷ 0 ∷ 0x40 ∷ 1 ∷ 0 ∷ 2 ∷ 0 ∷ 0 ∷ 1 ∷ 0 ∷ 0 ∷ 0 ∷ 1 ∷ []) ([])) { hub = Some (usual_hub 2) }
+example_hub = record (function (0x68 ∷ 0x75 ∷ 0x62 ∷ 0x32 ∷ [])
+    (0x12 ∷ 1 ∷ 0 ∷ 2 ∷ 9 ∷ 0 ∷ 0 ∷ 0x40 ∷ 1 ∷ 0 ∷ 2 ∷ 0 ∷ 0 ∷ 1 ∷ 0 ∷ 0 ∷ 0 ∷ 1 ∷ []) ([])) {
+      hub = Some (usual_hub 2);
+    }
 
 abbrev slow : Spec
-slow = record (function (0x6c ∷ 0x6f ∷ 0x77 ∷ []) (0x12 ∷ 1 ∷ 0x10 ∷ 1 ∷ 0 ∷ 0 ∷ 0 ∷ 8 ∷ 0x34 ∷ 0x12 ∷ 1 ∷ 0 ∷ 0 ∷ 1 ∷ 0 ∷ 0 ∷ 0 ∷ 1 ∷ []) ([])) { low = true }
+slow = record (function (0x6c ∷ 0x6f ∷ 0x77 ∷ []) (0x12 ∷ 1 ∷ 0x10 ∷ 1 ∷ 0 ∷ 0 ∷ 0 ∷ 8 ∷ 0x34 ∷
+    0x12 ∷ 1 ∷ 0 ∷ 0 ∷ 1 ∷ 0 ∷ 0 ∷ 0 ∷ 1 ∷ []) ([])) { low = true }
 
--- the hub has address 1 and its configuration, and gives power to its port 1, where the low-speed device stands
+-- the hub has address 1 and its configuration, and gives power to its port 1, where the low-speed
+-- device stands
 abbrev hub_start : List Damage → World
 hub_start damages = record {
   roots = taken
-      (record { attached = full; power = true; enable = true; connection_changed = false; enable_changed = false; reset_changed = false })
+      (record {
+        attached = full;
+        power = true;
+        enable = true;
+        connection_changed = false;
+        enable_changed = false;
+        reset_changed = false;
+      })
       (record (fresh example_hub) { registers = record { address = 1; configuration = 1 } })
-      (taken (record { attached = low; power = true; enable = false; connection_changed = true; enable_changed = false; reset_changed = false }) (fresh slow) ended
-      (vacant (record { attached = nothing; power = true; enable = false; connection_changed = false; enable_changed = false; reset_changed = false }) ended))
+      (taken (record {
+        attached = low;
+        power = true;
+        enable = false;
+        connection_changed = true;
+        enable_changed = false;
+        reset_changed = false;
+      }) (fresh slow) ended
+      (vacant (record {
+        attached = nothing;
+        power = true;
+        enable = false;
+        connection_changed =
+            false;
+        enable_changed = false;
+        reset_changed = false;
+      }) ended))
       ended;
   devices = example_hub ∷ slow ∷ [];
   left = [];
@@ -52,14 +85,39 @@ hub_start damages = record {
 
 -- PORT_RESET of the hub's port 1
 abbrev sets_reset : Attempt
-sets_reset = record { kind = SetupTok; addr = 1; ep = 0; low = false; pre = false; max = 64; payload = Some (Zero, record { items = 0x23 ∷ 3 ∷ 4 ∷ 0 ∷ 1 ∷ 0 ∷ 0 ∷ 0 ∷ [] }) }
+sets_reset = record {
+  kind = SetupTok;
+  addr = 1;
+  ep = 0;
+  low = false;
+  pre = false;
+  max = 64;
+  payload = Some (Zero, record { items = 0x23 ∷ 3 ∷ 4 ∷ 0 ∷ 1 ∷ 0 ∷ 0 ∷ 0 ∷ [] });
+}
 
 -- low-speed packets, behind PRE or not
 abbrev hub_setup : Bool → List ℕ → Attempt
-hub_setup pre bytes = record { kind = SetupTok; addr = 0; ep = 0; low = true; pre = pre; max = 8; payload = Some (Zero, record { items = bytes }) }
+hub_setup pre bytes = record {
+  kind = SetupTok;
+  addr = 0;
+  ep = 0;
+  low = true;
+  pre = pre;
+  max = 8;
+  payload = Some (Zero, record { items = bytes });
+}
 
 abbrev hub_asks_in : Bool → Attempt
-hub_asks_in pre = record { kind = InTok; addr = 0; ep = 0; low = true; pre = pre; max = 8; payload = None }
+hub_asks_in pre = record {
+  kind = InTok;
+  addr = 0;
+  ep = 0;
+  low = true;
+  pre = pre;
+  max = 8;
+  payload =
+      None;
+}
 
 abbrev get_device : List ℕ
 get_device = 0x80 ∷ 6 ∷ 0 ∷ 1 ∷ 0 ∷ 0 ∷ 8 ∷ 0 ∷ []
@@ -75,23 +133,38 @@ hub_set_up = after (attempt (hub_setup true get_device)) (hub_opened [])
 
 -- SET_ADDRESS of address 2, with its status stage
 abbrev hub_addressed : List Damage → World
-hub_addressed damages = after (attempt (hub_asks_in true)) (after (attempt (hub_setup true set_address)) (hub_opened damages))
+hub_addressed damages = after (attempt (hub_asks_in true))
+    (after (attempt (hub_setup true set_address)) (hub_opened damages))
 
 -- the PRE of the host's ACK is lost
 abbrev pre_lost : List Damage
 pre_lost = record { attempt = 3; packet = 3; harm = LosePre } ∷ []
 
-hub_example : (reach (hub_start []).roots (1 ∷ 1 ∷ []) ≡ false) × (outcome_in (hub_setup true get_device) (hub_start []) ≡ got.Nothing)
+hub_example : (reach (hub_start []).roots (1 ∷ 1 ∷ []) ≡ false)
+    × (outcome_in (hub_setup true get_device) (hub_start []) ≡ got.Nothing)
     × (outcome_in sets_reset (hub_start []) ≡ got.Ack)
-    × (reach (hub_opened []).roots (1 ∷ 1 ∷ []) ≡ true) × (address_at (hub_opened []).roots (1 ∷ 1 ∷ []) ≡ Some 0)
-    × (outcome_in (hub_setup true get_device) (hub_opened []) ≡ got.Ack) × (outcome_in (hub_setup false get_device) (hub_opened []) ≡ got.Nothing)
-    × (outcome_in (hub_asks_in true) hub_set_up ≡ got.Payload Data1 (record { items = 0x12 ∷ 1 ∷ 0x10 ∷ 1 ∷ 0 ∷ 0 ∷ 0 ∷ 8 ∷ [] }))
+    × (reach (hub_opened []).roots (1 ∷ 1 ∷ []) ≡ true)
+    × (address_at (hub_opened []).roots (1 ∷ 1 ∷ []) ≡ Some 0)
+    × (outcome_in (hub_setup true get_device) (hub_opened []) ≡ got.Ack)
+    × (outcome_in (hub_setup false get_device) (hub_opened []) ≡ got.Nothing)
+    × (outcome_in (hub_asks_in true) hub_set_up
+    ≡ got.Payload Data1 (record { items = 0x12 ∷ 1 ∷ 0x10 ∷ 1 ∷ 0 ∷ 0 ∷ 0 ∷ 8 ∷ [] }))
     × (outcome_in (hub_asks_in false) hub_set_up ≡ got.Nothing)
-unfolding after after_event after_due_events at_attempt with_attempt ports_in lost_in clears_change outcome_in marked marked_some mark_of harm_to damage_of bit_count is_read token_of payload_of answer_place answer_mark reply_of outcome_of one_more held_addresses repeats has_loss reach_at state_at changed_at received unread fresh reset_state asks answer_of effect_of after_packet answers all_forgotten change_bits setup_of status_of all_off outcome awaits_address
+unfolding after after_event after_due_events at_attempt with_attempt ports_in lost_in clears_change
+    outcome_in marked marked_some mark_of harm_to damage_of bit_count is_read token_of payload_of
+    answer_place answer_mark reply_of outcome_of one_more held_addresses repeats has_loss reach_at
+    state_at changed_at received unread fresh reset_state asks answer_of effect_of after_packet
+    answers all_forgotten change_bits setup_of status_of all_off outcome awaits_address
 hub_example = (refl, refl, refl, refl, refl, refl, refl, refl, refl)
 
-example_addresses : (address_at (hub_addressed []).roots (1 ∷ 1 ∷ []) ≡ Some 2) × ((hub_addressed []).losses.all ≡ 0)
-    × (address_at (hub_addressed pre_lost).roots (1 ∷ 1 ∷ []) ≡ Some 0) × ((hub_addressed pre_lost).losses.all ≡ 1)
+example_addresses : (address_at (hub_addressed []).roots (1 ∷ 1 ∷ []) ≡ Some 2)
+    × ((hub_addressed []).losses.all ≡ 0)
+    × (address_at (hub_addressed pre_lost).roots (1 ∷ 1 ∷ []) ≡ Some 0)
+    × ((hub_addressed pre_lost).losses.all ≡ 1)
     × (address_at (hub_addressed pre_lost).roots (1 ∷ []) ≡ Some 1)
-unfolding after after_event after_due_events at_attempt with_attempt ports_in lost_in clears_change outcome_in marked marked_some mark_of harm_to damage_of bit_count is_read token_of payload_of answer_place answer_mark reply_of outcome_of one_more held_addresses repeats has_loss reach_at state_at changed_at received unread fresh reset_state asks answer_of effect_of after_packet answers all_forgotten change_bits setup_of status_of all_off outcome awaits_address
+unfolding after after_event after_due_events at_attempt with_attempt ports_in lost_in clears_change
+    outcome_in marked marked_some mark_of harm_to damage_of bit_count is_read token_of payload_of
+    answer_place answer_mark reply_of outcome_of one_more held_addresses repeats has_loss reach_at
+    state_at changed_at received unread fresh reset_state asks answer_of effect_of after_packet
+    answers all_forgotten change_bits setup_of status_of all_off outcome awaits_address
 example_addresses = (refl, refl, refl, refl, refl)

@@ -1,5 +1,6 @@
 -- Which steps keep the addresses that devices hold, and which give one (9.4.6).
-use Rattle.std.specs.Prelude.{◌≡◌, ◌⊎◌, ℕ, ◌==◌, ◌&&◌, not, Bool, true, false, List, Option, None, Some, if◌then◌else◌}
+use Rattle.std.specs.Prelude.{◌≡◌, ◌⊎◌, ℕ, ◌==◌, ◌&&◌, not, Bool, true, false, List, Option, None}
+use Rattle.std.specs.Prelude.{Some, if◌then◌else◌}
 use Rattle.usb_packet.specs.declared.TokenKind.{TokenKind}
 use Rattle.usb_packet.specs.declared.TokenKind.TheVariants.{OutTok, InTok, SetupTok}
 use Rattle.usb_device.specs.Rows.{State, is_busy, ends_with_address}
@@ -21,7 +22,8 @@ is_setup InTok = false
 
 -- no reachable device at this address takes another when its status stage ends
 abbrev pub NoneTakes : ℕ → Ports → Type 0
-NoneTakes n k = (i : ℕ) (e : List ℕ) (s : State) → reach_at k i e ≡ true → state_at k i e ≡ Some s → address_of s ≡ n → ends_with_address s.stage ≡ false
+NoneTakes n k = (i : ℕ) (e : List ℕ) (s : State) → reach_at k i e ≡ true → state_at k i e ≡ Some s
+    → address_of s ≡ n → ends_with_address s.stage ≡ false
 
 -- IN or OUT, where no device at its address takes another when its status stage ends
 abbrev pub MovesData : Step → World → Type 0
@@ -34,7 +36,8 @@ MovesData (report line) w = ⊥
 abbrev pub GivesNoAddress : Step → World → Type 0
 GivesNoAddress s w = QuietStep s w ⊎ MovesData s w
 
--- addresses after PORT_RESET at a path: the device there has address 0, none below it is reached, the others keep theirs
+-- addresses after PORT_RESET at a path: the device there has address 0, none below it is reached,
+-- the others keep theirs
 abbrev pub after_reset : (List ℕ → Option ℕ) → List ℕ → List ℕ → Option ℕ
 after_reset f p q = if same_path p q then Some 0 else if is_way p q then None else f q
 
@@ -42,8 +45,11 @@ after_reset f p q = if same_path p q then Some 0 else if is_way p q then None el
 abbrev pub after_taking : (List ℕ → Option ℕ) → List ℕ → ℕ → List ℕ → Option ℕ
 after_taking f p n q = if same_path p q then Some n else f q
 
--- the host's ACK ends the status stage of a device: IN of endpoint 0 comes whole, the device is not busy, and its answer
+-- the host's ACK ends the status stage of a device: IN of endpoint 0 comes whole, the device is not
+-- busy, and its answer
 -- and the ACK come whole
 abbrev pub ends_status : Attempt → Option Damage → Ports → Bool → State → Bool
 ends_status a damage k deep s =
-    not s.spec.silent && (is_whole (token_way a damage deep s) && (a.ep == 0 && (not (is_busy s) && (is_whole (answer_way a damage k) && is_whole (reply_way a damage k deep s)))))
+    not s.spec.silent && (is_whole (token_way a damage deep s) &&
+    (a.ep == 0 && (not (is_busy s) && (is_whole (answer_way a damage k) &&
+    is_whole (reply_way a damage k deep s)))))

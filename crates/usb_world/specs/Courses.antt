@@ -1,5 +1,6 @@
 -- What steps do on the way to a path, and which device stands there after them.
-use Rattle.std.specs.Prelude.{◌≡◌, ◌⊎◌, ℕ, zero, suc, ◌==◌, ◌&&◌, not, Bool, true, false, List, [], ◌∷◌, ◌++◌, Option, None, Some, option_map, ⊤}
+use Rattle.std.specs.Prelude.{◌≡◌, ◌⊎◌, ℕ, zero, suc, ◌==◌, ◌&&◌, not, Bool, true, false, List, []}
+use Rattle.std.specs.Prelude.{◌∷◌, ◌++◌, Option, None, Some, option_map, ⊤}
 use Rattle.usb_port.specs.declared.call.PortCall.{PortCall}
 use Rattle.arrayvec.specs.ArrayVec.{ArrayVec}
 use Rattle.usb_packet.specs.declared.Toggle.{Toggle}
@@ -22,14 +23,17 @@ use Rattle.usb_tree.specs.WayEffects.{IsNew, call_resets, call_keeps_pending}
 use Rattle.usb_tree.specs.AttemptPackets.{attempt_resets, attempt_keeps_pending}
 use Rattle.usb_world.specs.World.{World}
 use Rattle.usb_world.specs.Exchange.{token_out, payload_out}
-use Rattle.usb_world.specs.Steps.{names_path, at_attempt, damage_in, Step, attempt, root_call, event, report}
+use Rattle.usb_world.specs.Steps.{names_path, at_attempt, damage_in, Step, attempt, root_call}
+use Rattle.usb_world.specs.Steps.{event, report}
 
 -- no event of these is at the path or at a port on its way
 abbrev pub NoneNames : List Spec → List Event → List ℕ → Type 0
 NoneNames devices [] p = ⊤
-NoneNames devices (e ∷ events) p = (names_path devices e.action p ≡ false) × NoneNames devices events p
+NoneNames devices (e ∷ events) p = (names_path devices e.action p ≡ false)
+    × NoneNames devices events p
 
--- no event between two worlds was at the path or on its way: the same device, or none, stood there throughout
+-- no event between two worlds was at the path or on its way: the same device, or none, stood there
+-- throughout
 pub record Undisturbed (w v : World) (p : List ℕ) : Type 0 where
   pub events : List Event
   pub split : w.left ≡ events ++ v.left
@@ -47,10 +51,12 @@ is_made (Some f) w = false
 is_made None w = not (w.attempts == w.limit)
 
 abbrev pub made_resets : Attempt → World → List ℕ → Bool
-made_resets a w p = at_path (attempt_resets (token_out a (damage_in w)) (payload_out a (damage_in w)) w.roots) false p
+made_resets a w p = at_path (attempt_resets (token_out a (damage_in w))
+    (payload_out a (damage_in w)) w.roots) false p
 
 abbrev pub made_keeps_pending : Attempt → World → List ℕ → Bool
-made_keeps_pending a w p = at_path (attempt_keeps_pending (token_out a (damage_in w)) (payload_out a (damage_in w)) w.roots) true p
+made_keeps_pending a w p = at_path (attempt_keeps_pending (token_out a (damage_in w))
+    (payload_out a (damage_in w)) w.roots) true p
 
 abbrev pub root_resets : PortCall → ℕ → Ports → List ℕ → Bool
 root_resets c zero k p = false
@@ -67,7 +73,8 @@ resets (root_call c n) w p = root_resets c n w.roots p
 resets event w p = false
 resets (report line) w p = false
 
--- whether a step leaves pending what is pending there: it clears no change of connection there or on the way, and
+-- whether a step leaves pending what is pending there: it clears no change of connection there or
+-- on the way, and
 -- neither resets a device on the way nor takes its power or configuration
 unfoldable pub step_keeps_pending : Step → World → List ℕ → Bool
 step_keeps_pending (attempt a) w p = made_keeps_pending a (at_attempt w) p
@@ -77,11 +84,13 @@ step_keeps_pending (report line) w p = true
 
 -- reachable before and not disturbed since, or just reset
 abbrev pub Reached : World → World → List ℕ → Bool → Type 0
-Reached w v p was_reset = ((was_reset ≡ false) × (reach w.roots p ≡ true) × Undisturbed w v p) ⊎ ((was_reset ≡ true) × IsNew (place v.roots p))
+Reached w v p was_reset = ((was_reset ≡ false) × (reach w.roots p ≡ true) × Undisturbed w v p)
+    ⊎ ((was_reset ≡ true) × IsNew (place v.roots p))
 
 -- powered on its whole way and not disturbed, or pending
 abbrev pub UndisturbedOrPends : World → World → List ℕ → Type 0
-UndisturbedOrPends w v p = ((has_power v.roots p ≡ true) × Undisturbed w v p) ⊎ (pending v.roots p ≡ true)
+UndisturbedOrPends w v p = ((has_power v.roots p ≡ true) × Undisturbed w v p)
+    ⊎ (pending v.roots p ≡ true)
 
 abbrev pub NoReset : List ℕ → Step → World → Type 0
 NoReset p s w = resets s w p ≡ false
@@ -105,7 +114,8 @@ HoldsMapped f w = (p : List ℕ) → reach w.roots p ≡ true → address_at w.r
 abbrev pub Injective : (List ℕ → Option ℕ) → Type 0
 Injective f = (p q : List ℕ) (a : ℕ) → f p ≡ Some a → f q ≡ Some a → same_path p q ≡ true
 
--- steps that reset no device and give none an address: events, reports, root calls but PORT_RESET, and setup data whose
+-- steps that reset no device and give none an address: events, reports, root calls but PORT_RESET,
+-- and setup data whose
 -- request is not PORT_RESET
 abbrev pub quiet_data : TokenKind → Option (Toggle × ArrayVec ℕ) → Bool
 quiet_data SetupTok None = true

@@ -1,5 +1,7 @@
--- The packets of an attempt, what the devices make of them, and what the host makes of the answers (8.5).
-use Rattle.std.specs.Prelude.{ℕ, ◌+◌, Bool, false, not, ◌&&◌, List, [], ◌∷◌, ◌++◌, length, nat_le, if◌then◌else◌, Option, Some, None}
+-- The packets of an attempt, what the devices make of them, and what the host makes of the answers
+-- (8.5).
+use Rattle.std.specs.Prelude.{ℕ, ◌+◌, Bool, false, not, ◌&&◌, List, [], ◌∷◌, ◌++◌, length, nat_le}
+use Rattle.std.specs.Prelude.{if◌then◌else◌, Option, Some, None}
 use Rattle.usb_packet.specs.declared.Packet.{Packet}
 use Rattle.usb_packet.specs.declared.Packet.TheVariants.{Token, Ack, Sof, Nak, Stall, Pre}
 use Rattle.usb_packet.specs.declared.Packet.TheVariants as packet
@@ -42,7 +44,8 @@ token_of a = Token a.kind a.addr a.ep
 unfoldable pub payload_of : Attempt → Option Packet
 payload_of a = elim a.payload [ None ↦ None | Some p ↦ Some (packet.Payload p.0 p.1) ]
 
--- the place of the answer among the packets of an attempt: after the token, or after the host's data
+-- the place of the answer among the packets of an attempt: after the token, or after the host's
+-- data
 unfoldable pub answer_place : Option Outgoing → ℕ
 answer_place None = 2
 answer_place (Some s) = 3
@@ -59,12 +62,14 @@ ack_if acknowledged = if acknowledged then Some Ack else None
 
 -- data of at most `max` bytes that the host reads are answered by ACK
 unfoldable pub reply_of : ExchangeAnswer → Mark → ℕ → Option Packet
-reply_of (One (packet.Payload toggle bytes)) mark max = if is_read mark && nat_le (length bytes.items) max then Some Ack else None
+reply_of (One (packet.Payload toggle bytes)) mark max =
+    if is_read mark && nat_le (length bytes.items) max then Some Ack else None
 reply_of _ mark max = None
 
 -- what the host gets of an answer that it reads
 abbrev pub outcome_heard : ExchangeAnswer → ℕ → Outcome
-outcome_heard (One (packet.Payload toggle bytes)) max = if nat_le (length bytes.items) max then outcome.Payload toggle bytes else outcome.Nothing
+outcome_heard (One (packet.Payload toggle bytes)) max =
+    if nat_le (length bytes.items) max then outcome.Payload toggle bytes else outcome.Nothing
 outcome_heard (One Ack) max = outcome.Ack
 outcome_heard (One Nak) max = outcome.Nak
 outcome_heard (One Stall) max = outcome.Stall
@@ -72,7 +77,8 @@ outcome_heard _ max = outcome.Nothing
 
 -- what the host gets: nothing of an answer that it does not read
 unfoldable pub outcome_of : ExchangeAnswer → Mark → ℕ → Outcome
-outcome_of answer mark max = if not (is_read mark) then outcome.Nothing else outcome_heard answer max
+outcome_of answer mark max = if not (is_read mark) then outcome.Nothing else outcome_heard answer
+    max
 
 -- a packet as damage leaves it, on its way to the devices
 abbrev pub sent_as : Bool → Bool → Mark → Packet → Option Sent
@@ -103,7 +109,8 @@ payload_out a damage = goes_out a (payload_in a damage)
 
 -- what is answered
 abbrev pub heard_in : Attempt → Option Damage → Ports → ExchangeAnswer
-heard_in a damage k = heard_all (answers_to (token_out a damage) k ++ answers_to (payload_out a damage) (after_sent (token_out a damage) k))
+heard_in a damage k = heard_all (answers_to (token_out a damage) k ++ answers_to
+    (payload_out a damage) (after_sent (token_out a damage) k))
 
 abbrev pub place_of_answer : Attempt → Option Damage → ℕ
 place_of_answer a damage = answer_place (payload_in a damage)
@@ -113,7 +120,8 @@ mark_in a damage k = answer_mark (harm_to damage (place_of_answer a damage)) (he
 
 -- the host's ACK of the answer
 abbrev pub reply_in : Attempt → Option Damage → Ports → Option Outgoing
-reply_in a damage k = marked_some damage (place_of_answer a damage + 1) a.pre (reply_of (heard_in a damage k) (mark_in a damage k) a.max)
+reply_in a damage k = marked_some damage (place_of_answer a damage + 1) a.pre
+    (reply_of (heard_in a damage k) (mark_in a damage k) a.max)
 
 abbrev pub reply_out : Attempt → Option Damage → Ports → Option Sent
 reply_out a damage k = goes_out a (reply_in a damage k)
@@ -161,4 +169,5 @@ ended_in a damage k = after_sent (reply_out a damage k) (answered_in a damage k)
 
 -- the same after the attempt
 unfoldable pub ports_in : Attempt → Option Damage → Ports → Ports
-ports_in a damage k = after_attempt (token_out a damage) (payload_out a damage) (reply_out a damage k) k
+ports_in a damage k = after_attempt (token_out a damage) (payload_out a damage)
+    (reply_out a damage k) k

@@ -21,11 +21,13 @@ pub record PacketWent (out : Option Sent) (old new : Ports) (before after : Hear
   pub ports : new ≡ after_sent out old
 
 -- all packets of an attempt went out, and the attempt has not ended
-pub record PacketsWent (a : Attempt) (damage : Option Damage) (old new : Ports) (exchange : Exchange) : Type 0 where
+pub record PacketsWent (a : Attempt) (damage : Option Damage) (old new : Ports)
+    (exchange : Exchange) : Type 0 where
   pub made : exchange ≡ exchange_in a damage old
   pub ports : new ≡ ended_in a damage old
 
 -- an attempt was made
-pub record Exchanged (a : Attempt) (damage : Option Damage) (old new : Ports) (exchange : Exchange) : Type 0 where
+pub record Exchanged (a : Attempt) (damage : Option Damage) (old new : Ports)
+    (exchange : Exchange) : Type 0 where
   pub made : exchange ≡ exchange_in a damage old
   pub ports : new ≡ ports_in a damage old

@@ -29,5 +29,7 @@ pub record AreOfDamages (attempts : ℕ) (damages : List Damage) (l : Losses) : 
 
 -- a device has taken an address; or it has not, and one loss more is counted
 pub data TookOrLost (a : ℕ) (old new : World) (s v : State) : Type 0 where
-  took : v.stage ≡ idle → v.registers ≡ record s.registers { address = a } → new.losses ≡ old.losses → TookOrLost a old new s v
-  lost : v.stage ≡ s.stage → v.registers ≡ s.registers → new.losses ≡ one_more old.losses → TookOrLost a old new s v
+  took : v.stage ≡ idle → v.registers ≡ record s.registers { address = a } → new.losses ≡ old.losses
+      → TookOrLost a old new s v
+  lost : v.stage ≡ s.stage → v.registers ≡ s.registers → new.losses ≡ one_more old.losses
+      → TookOrLost a old new s v

@@ -1,5 +1,7 @@
--- One reachable device holds the address of an attempt: the attempt is an exchange with that device alone.
-use Rattle.std.specs.Prelude.{◌≡◌, ℕ, nat_le, ◌&&◌, ◌||◌, not, if◌then◌else◌, Bool, false, List, length, Option, None, Some}
+-- One reachable device holds the address of an attempt: the attempt is an exchange with that device
+-- alone.
+use Rattle.std.specs.Prelude.{◌≡◌, ℕ, nat_le, ◌&&◌, ◌||◌, not, if◌then◌else◌, Bool, false, List}
+use Rattle.std.specs.Prelude.{length, Option, None, Some}
 use Rattle.usb_packet.specs.declared.Toggle.{Toggle}
 use Rattle.usb_packet.specs.declared.Toggle.TheVariants.{Zero}
 use Rattle.usb_packet.specs.declared.TokenKind.TheVariants.{OutTok, InTok, SetupTok}
@@ -29,7 +31,8 @@ use Rattle.usb_tree.specs.FoundHolder.{Found}
 use Rattle.usb_world.specs.World.{World}
 use Rattle.usb_world.specs.Steps.{at_attempt, attempt, after}
 
--- how a packet of the host comes to a device: not at all where it does not go out, or the device does not hear it
+-- how a packet of the host comes to a device: not at all where it does not go out, or the device
+-- does not hear it
 abbrev pub content_way : Content → Way
 content_way (content.Whole p) = whole
 content_way content.Broken = broken
@@ -51,7 +54,8 @@ got max None = outcome.Nothing
 got max (Some answer.Ack) = outcome.Ack
 got max (Some answer.Nak) = outcome.Nak
 got max (Some answer.Stall) = outcome.Stall
-got max (Some (answer.Data toggle bytes)) = if nat_le (length bytes.items) max then outcome.Payload toggle bytes else outcome.Nothing
+got max (Some (answer.Data toggle bytes)) = if nat_le (length bytes.items) max then outcome.Payload
+    toggle bytes else outcome.Nothing
 
 -- the ways of the four packets of an attempt: token, the host's data, answer and the host's ACK
 abbrev pub token_way : Attempt → Option Damage → Bool → State → Way
@@ -67,10 +71,12 @@ abbrev pub reply_way : Attempt → Option Damage → Ports → Bool → State �
 reply_way a damage k deep s = way_to deep s (reply_out a damage k)
 
 abbrev pub out_alone : Attempt → Option Damage → Ports → Bool → State → Toggle → List ℕ → Reply
-out_alone a damage k deep s toggle bytes = out_law s a.ep toggle bytes (token_way a damage deep s) (payload_way a damage deep s) (answer_way a damage k)
+out_alone a damage k deep s toggle bytes = out_law s a.ep toggle bytes (token_way a damage deep s)
+    (payload_way a damage deep s) (answer_way a damage k)
 
 abbrev pub in_alone : Attempt → Option Damage → Ports → Bool → State → List PortState → Reply
-in_alone a damage k deep s row = in_law s row a.ep a.max (token_way a damage deep s) (answer_way a damage k) (reply_way a damage k deep s)
+in_alone a damage k deep s row = in_law s row a.ep a.max (token_way a damage deep s)
+    (answer_way a damage k) (reply_way a damage k deep s)
 
 -- the three kinds of attempt
 pub record IsSetup (a : Attempt) (bytes : List ℕ) : Type 0 where
@@ -87,7 +93,8 @@ pub record IsIn (a : Attempt) : Type 0 where
   pub kind : a.kind ≡ InTok
   pub payload : a.payload ≡ None
 
--- a device hears the packets of an attempt: they are at its speed, and at low speed with PRE where it stands deep
+-- a device hears the packets of an attempt: they are at its speed, and at low speed with PRE where
+-- it stands deep
 abbrev pub hears_attempt : Attempt → Bool → State → Bool
 hears_attempt a deep s = if a.low then s.spec.low && (not deep || a.pre) else not s.spec.low
 
@@ -113,4 +120,5 @@ pub record AttemptAnswerer (a : Attempt) (w : World) : Type 0 where
 
 -- what SETUP makes the device ask of its ports: what the setup data say, where they are accepted
 abbrev pub setup_asked : Attempt → Option Damage → Bool → State → List ℕ → Effect
-setup_asked a damage deep s bytes = if is_whole (token_way a damage deep s) && is_whole (payload_way a damage deep s) then asked_by_setup s (setup_of bytes) else Leaves
+setup_asked a damage deep s bytes = if is_whole (token_way a damage deep s) &&
+    is_whole (payload_way a damage deep s) then asked_by_setup s (setup_of bytes) else Leaves

@@ -1,5 +1,6 @@
 -- A plan as contracts see it, and the rules that it keeps.
-use Rattle.std.specs.Prelude.{◌≡◌, ◌≤◌, ℕ, List, [], ◌∷◌, length, Bool, true, ◌&&◌, not, nat_le, nat_lt, is_some}
+use Rattle.std.specs.Prelude.{◌≡◌, ◌≤◌, ℕ, List, [], ◌∷◌, length, Bool, true, ◌&&◌, not, nat_le}
+use Rattle.std.specs.Prelude.{nat_lt, is_some}
 use Rattle.usb_device.specs.Spec.{Spec, AreDevices}
 use Rattle.usb_world.specs.declared.event.Event.{Event}
 use Rattle.usb_world.specs.declared.event.Action.{Action}
@@ -26,17 +27,20 @@ ask_fits roots (Clear path) = is_rooted roots path
 
 -- the action may come where so much is plugged
 abbrev pub action_fits : ℕ → List Spec → PluggedMap → Action → Bool
-action_fits roots devices tree (Change (Plug path device)) = has_port roots devices tree path && not (is_taken tree path) && nat_lt device (length devices)
+action_fits roots devices tree (Change (Plug path device)) = has_port roots devices tree path &&
+    not (is_taken tree path) && nat_lt device (length devices)
 action_fits roots devices tree (Change (Unplug path)) = is_rooted roots path && is_taken tree path
 action_fits roots devices tree (Ask ask) = ask_fits roots ask
 
 abbrev pub event_fits : ℕ → List Spec → PluggedMap → Event → Bool
-event_fits roots devices tree e = nat_le e.after after_most && action_fits roots devices tree e.action
+event_fits roots devices tree e = nat_le e.after after_most && action_fits roots devices tree
+    e.action
 
 -- each event fits what is plugged before it
 abbrev pub events_fit : ℕ → List Spec → PluggedMap → List Event → Bool
 events_fit roots devices tree [] = true
-events_fit roots devices tree (e ∷ events) = event_fits roots devices tree e && events_fit roots devices (plugged_after e.action tree) events
+events_fit roots devices tree (e ∷ events) = event_fits roots devices tree e && events_fit roots
+    devices (plugged_after e.action tree) events
 
 abbrev pub harm_fits : Harm → Bool
 harm_fits Lose = true
@@ -45,7 +49,8 @@ harm_fits (Flip bit) = nat_le bit 535
 
 -- the damage is to an attempt after that one
 abbrev pub damage_fits : ℕ → Damage → Bool
-damage_fits last d = nat_lt last d.attempt && nat_le 1 d.packet && nat_le d.packet 3 && harm_fits d.harm
+damage_fits last d = nat_lt last d.attempt && nat_le 1 d.packet && nat_le d.packet 3 &&
+    harm_fits d.harm
 
 -- attempts rise strictly
 abbrev pub damages_fit : ℕ → List Damage → Bool
@@ -60,7 +65,8 @@ pub record PlanData : Type 0 where
   pub damages : List Damage
 
 abbrev pub plan_data : ℕ → ℕ → List Spec → List Event → List Damage → PlanData
-plan_data limit roots devices events damages = record { limit = limit; roots = roots; devices = devices; events = events; damages = damages }
+plan_data limit roots devices events damages =
+    record { limit = limit; roots = roots; devices = devices; events = events; damages = damages }
 
 -- the rules of a plan
 pub record IsPlan (p : PlanData) : Type 0 where

@@ -1,5 +1,6 @@
 -- What is plugged where, as the events of a plan have it.
-use Rattle.std.specs.Prelude.{ℕ, List, [], ◌∷◌, length, Bool, true, ◌&&◌, ◌||◌, ◌==◌, not, filter, Option, None, Some, nat_eq, nat_le, slice_index, slice_get}
+use Rattle.std.specs.Prelude.{ℕ, List, [], ◌∷◌, length, Bool, true, ◌&&◌, ◌||◌, ◌==◌, not, filter}
+use Rattle.std.specs.Prelude.{Option, None, Some, nat_eq, nat_le, slice_index, slice_get}
 use Rattle.std.specs.List.{starts_with}
 use Rattle.std.specs.Ordering.{is_eq}
 use Rattle.std.specs.Map.{lookup}
@@ -53,8 +54,10 @@ is_rooted roots path = nat_le (slice_index path 0) roots
 -- the device plugged at the parent's path has the port; a root port has no parent
 unfoldable pub parent_has : List Spec → PluggedMap → Option (List ℕ) → ℕ → Bool
 parent_has devices tree None port = true
-parent_has devices tree (Some parent) port = nat_le port (spec_port_count (device_indexed devices (index_at tree parent)))
+parent_has devices tree (Some parent) port =
+    nat_le port (spec_port_count (device_indexed devices (index_at tree parent)))
 
 -- a root port, or a port of a plugged device
 abbrev pub has_port : ℕ → List Spec → PluggedMap → List ℕ → Bool
-has_port roots devices tree path = is_rooted roots path && (length path == 1 || parent_has devices tree (parent_of path) (port_on_hub path))
+has_port roots devices tree path = is_rooted roots path &&
+    (length path == 1 || parent_has devices tree (parent_of path) (port_on_hub path))

@@ -1,7 +1,10 @@
 -- What requests ask of ports, and which ports a step leaves alone.
-use Rattle.std.specs.Prelude.{◌≡◌, ℕ, zero, suc, ◌==◌, ◌&&◌, ◌||◌, not, Bool, true, false, List, [], ◌∷◌, Option, None, Some}
-use Rattle.usb_request.specs.Features.{PORT_ENABLE, PORT_RESET, PORT_POWER, C_PORT_ENABLE, C_PORT_RESET}
-use Rattle.usb_request.specs.Codes.{CLEAR_FEATURE, SET_FEATURE, SET_CONFIGURATION, DEVICE_OUT, PORT_OUT}
+use Rattle.std.specs.Prelude.{◌≡◌, ℕ, zero, suc, ◌==◌, ◌&&◌, ◌||◌, not, Bool, true, false, List, []}
+use Rattle.std.specs.Prelude.{◌∷◌, Option, None, Some}
+use Rattle.usb_request.specs.Features.{PORT_ENABLE, PORT_RESET, PORT_POWER, C_PORT_ENABLE}
+use Rattle.usb_request.specs.Features.{C_PORT_RESET}
+use Rattle.usb_request.specs.Codes.{CLEAR_FEATURE, SET_FEATURE, SET_CONFIGURATION, DEVICE_OUT}
+use Rattle.usb_request.specs.Codes.{PORT_OUT}
 use Rattle.usb_port.specs.PortState.{PortState}
 use Rattle.usb_request.specs.declared.setup.Setup.{Setup}
 use Rattle.usb_device.specs.Request.{Is}
@@ -25,7 +28,8 @@ sent_leaves (Some q) k j p = way_leaves q false k j p
 
 -- the same of an attempt: only the host's data ask something of ports
 abbrev pub made_leaves : Attempt → World → List ℕ → Bool
-made_leaves a w p = at_path (sent_leaves (payload_out a (damage_in w)) (after_sent (token_out a (damage_in w)) w.roots)) true p
+made_leaves a w p = at_path (sent_leaves (payload_out a (damage_in w))
+    (after_sent (token_out a (damage_in w)) w.roots)) true p
 
 -- a root call changes its own port
 abbrev pub root_leaves : ℕ → List ℕ → Bool
@@ -64,18 +68,23 @@ pub record StillSet (b : PortState) (o : Option PortState) : Type 0 where
 
 -- Requests
 
--- a request that asks nothing of ports: neither SetPortFeature nor ClearPortFeature, nor SetConfiguration
+-- a request that asks nothing of ports: neither SetPortFeature nor ClearPortFeature, nor
+-- SetConfiguration
 abbrev pub asks_no_port : Setup → Bool
-asks_no_port r = not (Is r PORT_OUT SET_FEATURE) && (not (Is r PORT_OUT CLEAR_FEATURE) && not (Is r DEVICE_OUT SET_CONFIGURATION))
+asks_no_port r = not (Is r PORT_OUT SET_FEATURE) &&
+    (not (Is r PORT_OUT CLEAR_FEATURE) && not (Is r DEVICE_OUT SET_CONFIGURATION))
 
 -- SetPortFeature or ClearPortFeature, of a port
 abbrev pub is_port_request : Setup → Bool
 is_port_request r = Is r PORT_OUT SET_FEATURE || Is r PORT_OUT CLEAR_FEATURE
 
--- PORT_RESET, PORT_POWER, and the clearing of PORT_ENABLE, C_PORT_ENABLE and C_PORT_RESET: of these the port itself keeps
+-- PORT_RESET, PORT_POWER, and the clearing of PORT_ENABLE, C_PORT_ENABLE and C_PORT_RESET: of these
+-- the port itself keeps
 -- its power and its change of connection
 abbrev pub is_sparing : Setup → Bool
-is_sparing r = (Is r PORT_OUT SET_FEATURE && (r.value == PORT_RESET || r.value == PORT_POWER)) || (Is r PORT_OUT CLEAR_FEATURE && (r.value == PORT_ENABLE || (r.value == C_PORT_ENABLE || r.value == C_PORT_RESET)))
+is_sparing r = (Is r PORT_OUT SET_FEATURE && (r.value == PORT_RESET || r.value == PORT_POWER)) ||
+    (Is r PORT_OUT CLEAR_FEATURE && (r.value == PORT_ENABLE ||
+    (r.value == C_PORT_ENABLE || r.value == C_PORT_RESET)))
 
 -- whether a path leads to another, and beyond it
 abbrev pub is_above : List ℕ → List ℕ → Bool

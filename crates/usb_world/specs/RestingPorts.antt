@@ -19,8 +19,11 @@ LeavesPortAlone p s w = AsksNothing s w p
 
 -- powered on its whole way, and as it was; or pending
 abbrev pub UnchangedOrPending : World → World → List ℕ → Type 0
-UnchangedOrPending w v p = ((has_power v.roots p ≡ true) × SameAt w.roots v.roots p) ⊎ (pending v.roots p ≡ true)
+UnchangedOrPending w v p = ((has_power v.roots p ≡ true) × SameAt w.roots v.roots p)
+    ⊎ (pending v.roots p ≡ true)
 
 -- powered on its whole way, with the same device or none; or pending
 abbrev pub SameDeviceOrPending : World → World → List ℕ → Type 0
-SameDeviceOrPending w v p = ((has_power v.roots p ≡ true) × (option_map spec_of (state_there v.roots p) ≡ option_map spec_of (state_there w.roots p))) ⊎ (pending v.roots p ≡ true)
+SameDeviceOrPending w v p = ((has_power v.roots p ≡ true)
+    × (option_map spec_of (state_there v.roots p) ≡ option_map spec_of (state_there w.roots p)))
+    ⊎ (pending v.roots p ≡ true)

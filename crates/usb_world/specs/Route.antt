@@ -5,7 +5,8 @@ use Rattle.usb_device.specs.declared.holders.Holder.TheVariants.{Nobody, One, Se
 use Rattle.usb_device.specs.declared.holders.Holders.{Holders}
 use Rattle.usb_device.specs.HolderIndex.{holder_in}
 
--- the path of the one holder, or the whole tree's: where two devices hold one address, also for the others
+-- the path of the one holder, or the whole tree's: where two devices hold one address, also for the
+-- others
 abbrev pub holder_path : Bool → Holder → List ℕ
 holder_path true x = []
 holder_path false Nobody = []

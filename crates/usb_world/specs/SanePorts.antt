@@ -5,7 +5,8 @@ use Rattle.usb_device.specs.Spec.{Spec, IsSpec}
 use Rattle.usb_device.specs.Tree.{Ports, ended, vacant, taken, Place, empty, full, row_of}
 use Rattle.usb_world.specs.PluggedDevices.{hub_ports}
 
--- an enabled port is powered and sees something attached; only a powered port tells of a change, and none of a change of its enable
+-- an enabled port is powered and sees something attached; only a powered port tells of a change,
+-- and none of a change of its enable
 pub record IsSanePort (b : PortState) : Type 0 where
   pub enabled : b.enable ≡ true → (b.power && is_attached b.attached) ≡ true
   pub changed : has_change b ≡ true → b.power ≡ true
@@ -15,12 +16,15 @@ pub record IsSanePort (b : PortState) : Type 0 where
 abbrev pub HasItsPorts : Spec → Ports → Type 0
 HasItsPorts spec below = length (row_of below) ≡ hub_ports spec.hub
 
--- besides, nothing is attached at an empty port, and at another the speed of its device, which is as the rules say and has its ports
+-- besides, nothing is attached at an empty port, and at another the speed of its device, which is
+-- as the rules say and has its ports
 unfoldable pub Consistent : Ports → Type 0
 Consistent ended = ⊤
 Consistent (vacant b k) = IsSanePort b × (b.attached ≡ nothing) × Consistent k
-Consistent (taken b s a k) = IsSanePort b × (b.attached ≡ speed_of s.spec.low) × Consistent a × Consistent k × IsSpec s.spec × HasItsPorts s.spec a
+Consistent (taken b s a k) = IsSanePort b × (b.attached ≡ speed_of s.spec.low) × Consistent a
+    × Consistent k × IsSpec s.spec × HasItsPorts s.spec a
 
 unfoldable pub ConsistentPlace : Place → Type 0
 ConsistentPlace (empty b) = IsSanePort b × (b.attached ≡ nothing)
-ConsistentPlace (full b s a) = IsSanePort b × (b.attached ≡ speed_of s.spec.low) × Consistent a × IsSpec s.spec × HasItsPorts s.spec a
+ConsistentPlace (full b s a) = IsSanePort b × (b.attached ≡ speed_of s.spec.low) × Consistent a
+    × IsSpec s.spec × HasItsPorts s.spec a

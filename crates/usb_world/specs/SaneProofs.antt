@@ -30,23 +30,38 @@ back full = refl
 back low = refl
 
 Attached-set : IsSet Attached
-Attached-set = collapsible→set (λ x y p. sym (back x) ∙ ap attached_numbered (ap attached_number p) ∙ back y)
-    (λ x y p q. ap (λ z. sym (back x) ∙ ap attached_numbered z ∙ back y) (ℕ_set (attached_number x) (attached_number y) (ap attached_number p) (ap attached_number q)))
+Attached-set = collapsible→set (λ x y p. sym (back x) ∙ ap attached_numbered (ap attached_number p)
+    ∙ back y)
+    (λ x y p q. ap (λ z. sym (back x) ∙ ap attached_numbered z ∙ back y)
+    (ℕ_set (attached_number x) (attached_number y) (ap attached_number p)
+    (ap attached_number q)))
 
 IsSanePort-prop : (b : PortState) → IsProp (IsSanePort b)
-IsSanePort-prop b x y = λ i. record { enabled = λ g. Bool-set _ _ (x.enabled g) (y.enabled g) i; changed = λ g. Bool-set _ _ (x.changed g) (y.changed g) i; steady = Bool-set _ _ x.steady y.steady i }
+IsSanePort-prop b x y = λ i. record {
+  enabled = λ g. Bool-set _ _ (x.enabled g) (y.enabled g) i;
+  changed = λ g. Bool-set _ _ (x.changed g) (y.changed g) i;
+  steady =
+      Bool-set _ _ x.steady y.steady i;
+}
 
 IsHub-prop : (h : Hub) → IsProp (IsHub h)
 IsHub-prop h x y =
     let least : IsProp (1 ≤ h.ports) = hlevel props in
     let most : IsProp (h.ports ≤ 7) = hlevel props in
-    λ i. record { least = least x.least y.least i; most = most x.most y.most i; agree = Bool-set _ _ x.agree y.agree i }
+    λ i. record {
+      least = least x.least y.least i;
+      most = most x.most y.most i;
+      agree =
+          Bool-set _ _ x.agree y.agree i;
+    }
 
-each_prop : {X : Type 0} {P : X → Type 0} → ((x : X) → IsProp (P x)) → (o : Option X) → IsProp (IfSome o P)
+each_prop : {X : Type 0} {P : X → Type 0} → ((x : X) → IsProp (P x)) → (o : Option X)
+    → IsProp (IfSome o P)
 each_prop is None x y = λ i. tt
 each_prop is (Some z) x y = is z x y
 
-pub all_prop : {X : Type 0} {P : X → Type 0} → ((x : X) → IsProp (P x)) → (xs : List X) → IsProp (All P xs)
+pub all_prop : {X : Type 0} {P : X → Type 0} → ((x : X) → IsProp (P x)) → (xs : List X)
+    → IsProp (All P xs)
 all_prop is xs x y = λ i k d lt. is _ (x k d lt) (y k d lt) i
 
 pub IsSpec-prop : (s : Spec) → IsProp (IsSpec s)
@@ -65,5 +80,16 @@ IsSpec-prop s x y =
 pub Consistent-prop : (k : Ports) → IsProp (Consistent k)
 unfolding Consistent
 Consistent-prop ended x y = λ i. tt
-Consistent-prop (vacant b k) x y = λ i. (IsSanePort-prop b x.0 y.0 i, Attached-set _ _ x.1 y.1 i, Consistent-prop k x.2 y.2 i)
-Consistent-prop (taken b s a k) x y = λ i. (IsSanePort-prop b x.0 y.0 i, Attached-set _ _ x.1 y.1 i, Consistent-prop a x.2 y.2 i, Consistent-prop k x.3 y.3 i, IsSpec-prop s.spec x.4 y.4 i, ℕ_set (length (row_of a)) (hub_ports s.spec.hub) x.5 y.5 i)
+Consistent-prop (vacant b k) x y = λ i. (
+  IsSanePort-prop b x.0 y.0 i,
+  Attached-set _ _ x.1 y.1 i,
+  Consistent-prop k x.2 y.2 i,
+)
+Consistent-prop (taken b s a k) x y = λ i. (
+  IsSanePort-prop b x.0 y.0 i,
+  Attached-set _ _ x.1 y.1 i,
+  Consistent-prop a x.2 y.2 i,
+  Consistent-prop k x.3 y.3 i,
+  IsSpec-prop s.spec x.4 y.4 i,
+  ℕ_set (length (row_of a)) (hub_ports s.spec.hub) x.5 y.5 i,
+)

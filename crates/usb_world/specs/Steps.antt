@@ -1,5 +1,7 @@
 -- The steps of a world: attempts, root calls, events and lines of report.
-use Rattle.std.specs.Prelude.{◌≡◌, ◌≢◌, ℕ, ◌+◌, ◌-◌, ◌==◌, nat_le, Bool, true, false, ◌&&◌, ◌||◌, not, if◌then◌else◌, List, [], ◌∷◌, slice_get, slice_set, Option, Some, None, is_some, Result, Ok, Err, IfErr, All, ⊤}
+use Rattle.std.specs.Prelude.{◌≡◌, ◌≢◌, ℕ, ◌+◌, ◌-◌, ◌==◌, nat_le, Bool, true, false, ◌&&◌, ◌||◌}
+use Rattle.std.specs.Prelude.{not, if◌then◌else◌, List, [], ◌∷◌, slice_get, slice_set, Option, Some}
+use Rattle.std.specs.Prelude.{None, is_some, Result, Ok, Err, IfErr, All, ⊤}
 use Rattle.usb_port.specs.declared.call.PortCall.{PortCall}
 use Rattle.usb_device.specs.declared.delivery.Sent.{Sent}
 use Rattle.usb_device.specs.Spec.{Spec, IsSpec}
@@ -19,7 +21,8 @@ use Rattle.usb_world.specs.declared.types.Outcome.{Outcome}
 use Rattle.usb_world.specs.declared.types.BusFault.{BusFault}
 use Rattle.usb_world.specs.declared.types.BusFault.TheVariants.{LimitReached, Memory, TraceFailed}
 use Rattle.usb_world.specs.Wire.{damage_of}
-use Rattle.usb_world.specs.Exchange.{heard_in, mark_in, lost_in, cleared_in, exchange_in, ports_in, outcome_of, token_out, payload_out}
+use Rattle.usb_world.specs.Exchange.{heard_in, mark_in, lost_in, cleared_in, exchange_in, ports_in}
+use Rattle.usb_world.specs.Exchange.{outcome_of, token_out, payload_out}
 use Rattle.usb_world.specs.Losses.{no_losses, counted, after_clearing}
 use Rattle.usb_tree.specs.Paths.{is_way}
 use Rattle.usb_world.specs.SanePorts.{Consistent}
@@ -47,7 +50,8 @@ way_of (m ∷ x) p = is_way (m ∷ x) p
 
 -- whether an action plugs or unplugs at a path, or at a port on its way
 abbrev pub names_path : List Spec → Action → List ℕ → Bool
-names_path devices (Change (Plug path device)) p = is_some (slice_get devices device) && way_of path p
+names_path devices (Change (Plug path device)) p = is_some (slice_get devices device) &&
+    way_of path p
 names_path devices (Change (Unplug path)) p = way_of path p
 names_path devices (Ask ask) p = false
 
@@ -63,7 +67,12 @@ waits (Ask ask) = true
 
 -- the event comes, and these are the events after it
 unfoldable pub after_event : Event → List Event → World → World
-after_event e events w = record w { roots = after_change e.action w.devices w.roots; left = events; taken = w.taken + 1; attempts_then = w.attempts }
+after_event e events w = record w {
+  roots = after_change e.action w.devices w.roots;
+  left = events;
+  taken = w.taken + 1;
+  attempts_then = w.attempts;
+}
 
 abbrev pub after_first_event : List Event → World → World
 after_first_event [] w = w
@@ -75,7 +84,8 @@ is_due e w = not (waits e.action) && nat_le e.after (w.attempts - w.attempts_the
 -- the events that are due come, one after the other
 unfoldable pub after_due_events : List Event → World → World
 after_due_events [] w = w
-after_due_events (e ∷ events) w = if is_due e w then after_due_events events (after_event e events w) else w
+after_due_events (e ∷ events) w = if is_due e w then after_due_events events
+    (after_event e events w) else w
 
 -- the next event is due
 unfoldable pub has_due : World → Bool
@@ -100,7 +110,8 @@ unfoldable pub with_attempt : Attempt → World → World
 with_attempt a w = record w {
   roots = ports_in a (damage_in w) w.roots;
   attempts = w.attempts + 1;
-  losses = counted (lost_in a (damage_in w) w.roots) (after_clearing (cleared_in a (damage_in w) w.roots) w.losses);
+  losses = counted (lost_in a (damage_in w) w.roots)
+      (after_clearing (cleared_in a (damage_in w) w.roots) w.losses);
   shared = w.shared || repeats (held_addresses w.roots);
 }
 
@@ -109,7 +120,8 @@ outcome_made a x = outcome_of x.answer x.answer_mark a.max
 
 -- what the host gets
 unfoldable pub outcome_in : Attempt → World → Outcome
-outcome_in a w = outcome_of (heard_in a (damage_in (at_attempt w)) (at_attempt w).roots) (mark_in a (damage_in (at_attempt w)) (at_attempt w).roots) a.max
+outcome_in a w = outcome_of (heard_in a (damage_in (at_attempt w)) (at_attempt w).roots)
+    (mark_in a (damage_in (at_attempt w)) (at_attempt w).roots) a.max
 
 -- Steps
 
@@ -121,7 +133,8 @@ pub data Step : Type 0 where
 
 abbrev pub attempted : Attempt → Option BusFault → World → World
 attempted a (Some f) w = w
-attempted a None w = if w.attempts == w.limit then record w { fault = Some LimitReached } else with_attempt a (at_attempt w)
+attempted a None w = if w.attempts == w.limit then record w { fault = Some LimitReached }
+    else with_attempt a (at_attempt w)
 
 abbrev pub event_taken : Option BusFault → World → World
 event_taken (Some f) w = w
@@ -129,7 +142,11 @@ event_taken None w = after_first_event w.left w
 
 unfoldable pub after : Step → World → World
 after (attempt a) w = attempted a w.fault w
-after (root_call c n) w = record w { roots = changed (called c) w.roots (n ∷ []); losses = after_clearing (is_clearing c) w.losses }
+after (root_call c n) w = record w {
+  roots = changed (called c) w.roots (n ∷ []);
+  losses =
+      after_clearing (is_clearing c) w.losses;
+}
 after event w = event_taken w.fault w
 after (report line) w = w
 
@@ -138,7 +155,8 @@ pub data Coming : World → World → Type 0 where
   nothing_yet : (w : World) → Coming w w
   next_came : {w v : World} → Coming w v → has_due v ≡ true → Coming w (after_first_event v.left v)
 
--- memory was refused for the host's data on their way down the tree: some devices had them, and nothing went after them
+-- memory was refused for the host's data on their way down the tree: some devices had them, and
+-- nothing went after them
 pub record IsCut (a : Attempt) (damage : Option Damage) (old new : Ports) : Type 0 where
   pub sent : Sent
   pub went : payload_out a damage ≡ Some sent
@@ -146,12 +164,19 @@ pub record IsCut (a : Attempt) (damage : Option Damage) (old new : Ports) : Type
   pub stopped : Stopped sent false (after_sent (token_out a damage) old) tree
   pub is : new ≡ all_forgotten tree
 
--- what a fault leaves of an attempt: some of the events that were due, and no attempt; or all of them, and an attempt
+-- what a fault leaves of an attempt: some of the events that were due, and no attempt; or all of
+-- them, and an attempt
 -- that memory was refused for; or the whole step, and only its line was not written
 pub data Left (a : Attempt) (old : World) (f : BusFault) (new : World) : Type 0 where
   at_event : Coming old new → Left a old f new
-  at_packet : (k : Ports) → f ≡ Memory → IsCut a (damage_in (at_attempt old)) (at_attempt old).roots k
-      → new ≡ record (at_attempt old) { roots = k; shared = (at_attempt old).shared || repeats (held_addresses (at_attempt old).roots) } → Left a old f new
+  at_packet : (k : Ports) → f ≡ Memory → IsCut a (damage_in (at_attempt old)) (at_attempt old).roots
+      k
+      → new ≡ record (at_attempt old) {
+        roots = k;
+        shared =
+            (at_attempt old).shared || repeats (held_addresses (at_attempt old).roots);
+      }
+      → Left a old f new
   at_line : f ≡ TraceFailed → new ≡ with_attempt a (at_attempt old) → Left a old f new
 
 -- an attempt within the limit that the bus gave up
@@ -175,7 +200,8 @@ pub data Course (K : Step → World → Type 0) : World → World → Type 0 whe
 abbrev pub AnyStep : Step → World → Type 0
 AnyStep s w = ⊤
 
--- between two steps no device remembers a packet, ports are sane, and the plan's devices are as the rules say
+-- between two steps no device remembers a packet, ports are sane, and the plan's devices are as the
+-- rules say
 pub record WorldInvariant (w : World) : Type 0 where
   pub settled : IsSettled w.roots
   pub sane : Consistent w.roots
@@ -184,11 +210,13 @@ pub record WorldInvariant (w : World) : Type 0 where
 -- a root call is its step, and one row of the port table at one root port (11.24.2)
 pub record SetsRoot (port feature : ℕ) (old new : World) : Type 0 where
   pub step : (c : PortCall) → set_call feature ≡ Some c → new ≡ after (root_call c port) old
-  pub row : root_row new ≡ slice_set (root_row old) (port - 1) (port_by (set_call feature) (root_port_at old port))
+  pub row : root_row new ≡ slice_set (root_row old) (port - 1)
+      (port_by (set_call feature) (root_port_at old port))
 
 pub record ClearsRoot (port feature : ℕ) (old new : World) : Type 0 where
   pub step : (c : PortCall) → clear_call feature ≡ Some c → new ≡ after (root_call c port) old
-  pub row : root_row new ≡ slice_set (root_row old) (port - 1) (port_by (clear_call feature) (root_port_at old port))
+  pub row : root_row new ≡ slice_set (root_row old) (port - 1)
+      (port_by (clear_call feature) (root_port_at old port))
 
 -- a plan's world before anything came
 abbrev pub opening : PlanData → World
@@ -229,7 +257,8 @@ EventEnds old (Ok (Some asked)) new = EventCame old new
 EventEnds old (Err fault) new = Failed fault new
 
 -- an event step: no attempt is made
-pub record TookEvent (old : World) (result : Result (Option (Option Asked)) BusFault) (new : World) : Type 0 where
+pub record TookEvent (old : World) (result : Result (Option (Option Asked)) BusFault)
+    (new : World) : Type 0 where
   pub spends : AttemptsWithin 0 old new
   pub ends : EventEnds old result new
   pub again : (fault : BusFault) → old.fault ≡ Some fault → (result ≡ Err fault) × (new ≡ old)
@@ -238,7 +267,8 @@ abbrev pub LineEnds : World → Result (Unit {0}) BusFault → World → Type 0
 LineEnds old (Ok _) new = (old.fault ≡ None) × (new ≡ old)
 LineEnds old (Err fault) new = new ≡ record old { fault = Some fault }
 
--- a report step changes nothing but the fault, and tells of itself only that the line was not written
+-- a report step changes nothing but the fault, and tells of itself only that the line was not
+-- written
 pub record PutLine (old : World) (result : Result (Unit {0}) BusFault) (new : World) : Type 0 where
   pub told : old.fault ≡ None → IfErr result (λ f. f ≡ TraceFailed)
   pub ends : LineEnds old result new

@@ -1,5 +1,6 @@
 -- Packets on their way, and what damage does to them.
-use Rattle.std.specs.Prelude.{◌≢◌, ℕ, ◌+◌, ◌*◌, ◌==◌, nat_lt, nat_le, Bool, true, false, if◌then◌else◌, List, [], ◌∷◌, length, Option, None, Some}
+use Rattle.std.specs.Prelude.{◌≢◌, ℕ, ◌+◌, ◌*◌, ◌==◌, nat_lt, nat_le, Bool, true, false}
+use Rattle.std.specs.Prelude.{if◌then◌else◌, List, [], ◌∷◌, length, Option, None, Some}
 use Rattle.usb_packet.specs.declared.Packet.{Packet}
 use Rattle.usb_packet.specs.declared.Packet.TheVariants.{Token, Sof, Payload, Ack, Nak, Stall, Pre}
 use Rattle.usb_world.specs.declared.damage.Damage.{Damage}
@@ -16,12 +17,14 @@ damage_of (d ∷ damages) attempt = if d.attempt == attempt then Some d else dam
 
 -- no three attempts running are damaged
 abbrev pub AtMostTwoRunning : List Damage → Type 0
-AtMostTwoRunning damages = (n : ℕ) → damage_of damages n ≢ None → damage_of damages (n + 1) ≢ None → damage_of damages (n + 2) ≢ None → ⊥
+AtMostTwoRunning damages = (n : ℕ) → damage_of damages n ≢ None → damage_of damages (n + 1) ≢ None
+    → damage_of damages (n + 2) ≢ None → ⊥
 
 -- how many damages are to attempts up to this one
 unfoldable pub damages_until : ℕ → List Damage → ℕ
 damages_until attempt [] = 0
-damages_until attempt (d ∷ damages) = (if nat_le d.attempt attempt then 1 else 0) + damages_until attempt damages
+damages_until attempt (d ∷ damages) = (if nat_le d.attempt attempt then 1 else 0) + damages_until
+    attempt damages
 
 -- the harm to the packet at a place of its attempt, counted from 1
 unfoldable pub harm_to : Option Damage → ℕ → Option Harm

@@ -1,5 +1,8 @@
--- What a bus stands for: its root ports with all that is plugged, the events to come, and its counts.
-use Rattle.std.specs.Prelude.{◌≡◌, ℕ, ◌+◌, ◌-◌, ◌<◌, ◌≤◌, List, [], ◌∷◌, length, Bool, true, false, Option, None, Some, Result, Ok, Err, slice_index_or, ⊤, if◌then◌else◌, is_some}
+-- What a bus stands for: its root ports with all that is plugged, the events to come, and its
+-- counts.
+use Rattle.std.specs.Prelude.{◌≡◌, ℕ, ◌+◌, ◌-◌, ◌<◌, ◌≤◌, List, [], ◌∷◌, length, Bool, true, false}
+use Rattle.std.specs.Prelude.{Option, None, Some, Result, Ok, Err, slice_index_or, ⊤, if◌then◌else◌}
+use Rattle.std.specs.Prelude.{is_some}
 use Rattle.usb_packet.specs.declared.TokenKind.{TokenKind}
 use Rattle.usb_packet.specs.declared.TokenKind.TheVariants.{OutTok, InTok, SetupTok}
 use Rattle.usb_port.specs.PortState.{PortState, off}
@@ -68,7 +71,8 @@ unfoldable pub changes : List PortState → ℕ
 changes [] = 0
 changes (p ∷ ps) = change_of p + changes ps
 
--- at most n attempts were made, within the limit; each event that was taken set at most one change bit
+-- at most n attempts were made, within the limit; each event that was taken set at most one change
+-- bit
 pub record AttemptsWithin (n : ℕ) (old new : World) : Type 0 where
   pub limit : new.limit ≡ old.limit
   pub roots : roots_of new ≡ roots_of old
@@ -105,7 +109,8 @@ abbrev pub AnswerFits : ℕ → Result Outcome BusFault → Type 0
 AnswerFits max (Ok outcome) = FitsMaximum max outcome
 AnswerFits max (Err fault) = ⊤
 
-pub record Attempted (a : Attempt) (old : World) (result : Result Outcome BusFault) (new : World) : Type 0 where
+pub record Attempted (a : Attempt) (old : World) (result : Result Outcome BusFault) (new : World) :
+    Type 0 where
   pub spends : AttemptsWithin 1 old new
   pub ends : AttemptEnds old result new
   pub fits : AnswerFits a.max result

@@ -126,8 +126,8 @@ pub fn undisturbed_keeps_what_is_plugged()
         → Undisturbed w v x }
 {}
 
-/// Ports are sane in a plan's world before anything came, and every step keeps them so; and in sane ports each device
-/// that is plugged has as many ports as its description says.
+/// Ports are consistent in a plan's world before anything came, and every step keeps them so; and in consistent ports
+/// each device that is plugged has as many ports as its description says.
 pub fn devices_have_their_ports()
     ensures opening { (plan : PlanData) → IsPlan plan → WorldInvariant (opening plan) }
     ensures kept { (w v : World) → Course AnyStep w v → WorldInvariant w → WorldInvariant v }

@@ -1,7 +1,7 @@
 //! The world of a bus: what is plugged and what happens to it, what an attempt does to it, and the laws of both.
 //!
-//! A world is plain data (`specs/World.antt`); a step of it is a function (`specs/Steps.antt`). What runs a world stands in
-//! the crates above.
+//! A world is plain data (`specs/World.antt`); a step of it is a function (`specs/Steps.antt`). What runs a world
+//! stands in the crates above.
 //!
 //! # What is proved
 //!
@@ -12,7 +12,7 @@
 //!   is as the rules say (`IsSpec` in `Consistent`).
 //! - What is plugged where is what the events that came left (`plugged_is_what_the_events_left`). Where no event named
 //!   a port or one on its way, the same devices stand there and on the way (`undisturbed_keeps_what_is_plugged`). Where
-//!   ports are sane each device has as many ports as its description says; they are so in a plan's world before
+//!   ports are consistent each device has as many ports as its description says; they are so in a plan's world before
 //!   anything came, and every step keeps them so (`devices_have_their_ports`).
 //! - A device becomes reachable by PORT_RESET at its own port alone, which leaves it at address 0
 //!   (`reset_makes_reachable`; a reset one is new, `Courses.step_new`). One that is reachable and was not reset since
@@ -35,8 +35,8 @@
 //!   `PlugEvents`, `PortCalls`, `PacketEffects`, `PacketPlaces`, `AttemptPackets`; a change leaves each way that does
 //!   not lead there (`WayChanges.changed_apart`). What is so of every port stays so (`SanePorts`), and so does what is
 //!   so between two steps (`StepInvariants.between_opening`, `between_after`, `between_course`). A relation of worlds
-//!   that holds over each part of a step holds over steps and courses (`LiftedSteps.over_step`, `over_course`). Two
-//!   devices at one address are found (`Holders.is_twice-one_path`, `twice_two`). Which paths lead to which: `Ways`.
+//!   that holds over each part of a step holds over steps and courses (`LiftedSteps.over_step`, `over_course`). Which
+//!   paths lead to which: `Ways`.
 //! - Lemmas of an attempt where one reachable device holds the address, which is an exchange with that device alone:
 //!   `OneHolderAttempts.setup_in`, `out_in`, `in_in`, `silent_in`, `others_in`, its ports
 //!   `OneHolderPorts.setup_place_in`, `out_place_in`, `in_place_in`, `silent_place_in`, that it stays reachable

@@ -241,8 +241,8 @@ fn buses_of_a_hub(rt: HostRuntime) -> Result<(), Fail> {
     Ok(())
 }
 
-/// What happens to the ACK at which a function below the hub is to take address 5, its part of the line, what is counted,
-/// and the address then.
+/// What happens to the ACK at which a function below the hub is to take address 5, its part of the line, what is
+/// counted, and the address then.
 #[derive(Clone, Copy)]
 struct LostAck {
     damage: Damage,

@@ -25,7 +25,8 @@ const CONFIGURED: &[Told<'static>] = &[
     (Step::Registers("1"), "Some((1, 1))"),
 ];
 
-/// What the OUT told, and the steps behind it. Where the sink was refused memory, the attempt was not made; a fault stays.
+/// What the OUT told, and the steps behind it. Where the sink was refused memory, the attempt was not made; a fault
+/// stays.
 #[derive(Clone, Copy)]
 struct Sent {
     told: &'static str,

@@ -9,20 +9,25 @@ use Rattle.usb_pipe.specs.Control.{control_bound}
 use Rattle.usb_enum.specs.Bounds.{read_bound}
 use Rattle.usb_pipe.proofs.Interface.{bound_wide}
 
-pub went_on_more : (k m n : ℕ) (a b c : World) {t r s : Option (List ℕ)} → StepRun m a t b r → StepRun n b r c s → m + n ≤ k → StepRun k a t c s
+pub went_on_more : (k m n : ℕ) (a b c : World) {t r s : Option (List ℕ)} → StepRun m a t b r
+    → StepRun n b r c s → m + n ≤ k → StepRun k a t c s
 went_on_more k m n a b c p q le = went_wider (m + n) k (went_then m n p q) le
 
 -- a transfer that reads, at a maximum packet of 8 or more
-pub read_went : (max bytes : ℕ) (a b : World) {t s : Option (List ℕ)} → 8 ≤ max → StepRun (control_bound max bytes) a t b s → StepRun (read_bound bytes) a t b s
-read_went max bytes a b {t} {s} wide p = subst (λ n. StepRun n a t b s) (bound_wide max bytes wide) p
+pub read_went : (max bytes : ℕ) (a b : World) {t s : Option (List ℕ)} → 8 ≤ max
+    → StepRun (control_bound max bytes) a t b s → StepRun (read_bound bytes) a t b s
+read_went max bytes a b {t} {s} wide p = subst (λ n. StepRun n a t b s) (bound_wide max bytes wide)
+    p
 
 one_more_time : (k n : ℕ) → k * n + n ≤ (k + 1) * n
 one_more_time k n = omega (arith, suc-mul k n)
 
 -- so many steps of one count, and one more
-pub went_again : (k n : ℕ) (a b c : World) {t r s : Option (List ℕ)} → StepRun (k * n) a t b r → StepRun n b r c s → StepRun ((k + 1) * n) a t c s
+pub went_again : (k n : ℕ) (a b c : World) {t r s : Option (List ℕ)} → StepRun (k * n) a t b r
+    → StepRun n b r c s → StepRun ((k + 1) * n) a t c s
 went_again k n a b c p q = went_on_more ((k + 1) * n) (k * n) n a b c p q (one_more_time k n)
 
 -- and no more of them than there may be
-pub went_times : (k m n : ℕ) (a b : World) {t s : Option (List ℕ)} → StepRun (k * n) a t b s → k ≤ m → StepRun (m * n) a t b s
+pub went_times : (k m n : ℕ) (a b : World) {t s : Option (List ℕ)} → StepRun (k * n) a t b s → k ≤ m
+    → StepRun (m * n) a t b s
 went_times k m n a b p le = went_wider (k * n) (m * n) p (mul-le-mul_right n le)

@@ -20,5 +20,6 @@ same_damages = record {
   told = λ fault w. refl;
 }
 
-pub went_three : (n : ℕ) (old new : World) {t s : Option (List ℕ)} → StepRun n old t new s → NoThreeDamaged old → NoThreeDamaged new
+pub went_three : (n : ℕ) (old new : World) {t s : Option (List ℕ)} → StepRun n old t new s
+    → NoThreeDamaged old → NoThreeDamaged new
 went_three n old new went = never_three old new (over_traced same_damages went.traced)

@@ -1,5 +1,7 @@
 -- What stays fair in an enumeration from one call to the next, and when a hub is lost.
-use Rattle.std.proofs.Common.{◌≡◌, ◌⊎◌, inl, inr, ◌≤◌, ◌&&◌, ◌||◌, not, if◌then◌else◌, ◌==◌, ℕ, zero, suc, true, false, List, [], ◌∷◌, ◌++◌, Option, None, Some, is_some, option_map, Result, Ok, Err, refl, ap, sym, subst, ◌∙◌}
+use Rattle.std.proofs.Common.{◌≡◌, ◌⊎◌, inl, inr, ◌≤◌, ◌&&◌, ◌||◌, not, if◌then◌else◌, ◌==◌, ℕ}
+use Rattle.std.proofs.Common.{zero, suc, true, false, List, [], ◌∷◌, ◌++◌, Option, None, Some}
+use Rattle.std.proofs.Common.{is_some, option_map, Result, Ok, Err, refl, ap, sym, subst, ◌∙◌}
 use Rattle.std.specs.Prelude.{IsSome, IsSomeAnd}
 use Rattle.std.proofs.lemmas.Option.{same_Some}
 use Rattle.usb_port.specs.Order.{parent_of}
@@ -7,18 +9,21 @@ use Rattle.usb_port.specs.PortState.{PortState}
 use Rattle.usb_port.proofs.Interface.{parent}
 use Rattle.usb_port.specs.declared.call.PortCall.{PortCall}
 use Rattle.usb_device.specs.Rows.{State}
-use Rattle.usb_device.specs.Tree.{Ports, ended, vacant, taken, reach, state_at, port_at, Location, path_to, reach_on, state_on}
+use Rattle.usb_device.specs.Tree.{Ports, ended, vacant, taken, reach, state_at, port_at, Location}
+use Rattle.usb_device.specs.Tree.{path_to, reach_on, state_on}
 use Rattle.usb_device.specs.View.{state_there, port_there}
 use Rattle.usb_world.specs.Courses.{KeepsPendingAt}
 use Rattle.usb_world.specs.Devices.{Was}
 use Rattle.usb_tree.specs.Paths.{is_way, has_power, pending}
 use Rattle.usb_tree.specs.AttemptPackets.{deep_at}
 use Rattle.usb_world.specs.PlanCourses.{spec_of}
-use Rattle.usb_world.specs.RestingPorts.{LeavesPortAlone, SameAt, UnchangedOrPending, SameDeviceOrPending}
+use Rattle.usb_world.specs.RestingPorts.{LeavesPortAlone, SameAt, UnchangedOrPending}
+use Rattle.usb_world.specs.RestingPorts.{SameDeviceOrPending}
 use Rattle.usb_world.specs.SanePorts.{Consistent}
 use Rattle.usb_world.specs.Steps.{Course}
 use Rattle.usb_world.specs.World.{World}
-use Rattle.usb_world.proofs.Interface.{course_wider, pending_persists, reach_live, rests_or_pends, stands_or_pends}
+use Rattle.usb_world.proofs.Interface.{course_wider, pending_persists, reach_live, rests_or_pends}
+use Rattle.usb_world.proofs.Interface.{stands_or_pends}
 use Rattle.usb_tree.proofs.Interface.{false_true}
 use Rattle.usb_bus.specs.Traces.{StepRun}
 use Rattle.usb_transaction.specs.declared.target.Target.{Target}
@@ -39,7 +44,8 @@ use Rattle.usb_enum.specs.declared.stop.Stop.TheVariants.{Refused, Fault}
 use Rattle.usb_device.specs.Spec.{Spec}
 use Rattle.usb_enum.specs.Addresses.{IsSpare, AtPort}
 use Rattle.usb_enum.specs.Calls.{CalledAt, StatusAt}
-use Rattle.usb_enum.specs.FairEnumerations.{ServesAt, HasServer, IsFairAt, PendingOr, FaultsFor, StopsFor, StopsFairly, Faulted}
+use Rattle.usb_enum.specs.FairEnumerations.{ServesAt, HasServer, IsFairAt, PendingOr, FaultsFor}
+use Rattle.usb_enum.specs.FairEnumerations.{StopsFor, StopsFairly, Faulted}
 use Rattle.usb_enum.specs.Frames.{OnlyAt}
 use Rattle.usb_enum.specs.Places.{IsOccupied, IsReachedAt}
 use Rattle.usb_enum.specs.PresentDevices.{AtPath}
@@ -70,14 +76,20 @@ module _ (f : AddressMap) (hub : Target) (n : ℕ) (p : List ℕ) (at : IsBelow 
       j = was.serves.spot
 
       hub_live : has_power old.roots at.hub ≡ true
-      hub_live = subst (λ q. has_power old.roots q ≡ true) (sym was.there) (reach_live old.roots j.row j.rest sane was.serves.on)
+      hub_live = subst (λ q. has_power old.roots q ≡ true) (sym was.there)
+          (reach_live old.roots j.row j.rest sane was.serves.on)
 
-      hub_served : (v : State) → reach_on new.roots j ≡ true → state_on new.roots j ≡ Some v → ServesAt hub n at.hub new
+      hub_served : (v : State) → reach_on new.roots j ≡ true → state_on new.roots j ≡ Some v
+          → ServesAt hub n at.hub new
       hub_served v on there =
-          let before : Was StaysAs old j v = only.devices j v (subst (λ q. is_way p q ≡ false) was.there apart) on there in
-          let is : before.before ≡ was.serves.state = same_Some before.before was.serves.state (sym before.stands ∙ was.serves.stands) in
-          let spec : v.spec ≡ was.serves.state.spec = stays-spec before.before v before.so ∙ ap (λ s. s.spec) is in
-          let registers : v.registers ≡ was.serves.state.registers = stays-registers before.before v before.so ∙ ap (λ s. s.registers) is in
+          let before : Was StaysAs old j v =
+          only.devices j v (subst (λ q. is_way p q ≡ false) was.there apart) on there in
+          let is : before.before ≡ was.serves.state =
+          same_Some before.before was.serves.state (sym before.stands ∙ was.serves.stands) in
+          let spec : v.spec ≡ was.serves.state.spec = stays-spec before.before v before.so
+          ∙ ap (λ s. s.spec) is in
+          let registers : v.registers ≡ was.serves.state.registers =
+          stays-registers before.before v before.so ∙ ap (λ s. s.registers) is in
           record {
             serves = record {
               spot = j;
@@ -87,10 +99,13 @@ module _ (f : AddressMap) (hub : Target) (n : ℕ) (p : List ℕ) (at : IsBelow 
               listens = record {
                 at = ap (λ r. r.address == hub.addr) registers ∙ was.serves.listens.at;
                 loud = ap (λ x. x.silent) spec ∙ was.serves.listens.loud;
-                hears = ap (λ (x : Spec). if hub.low then x.low && (not (deep_at false j.rest) || hub.pre) else not x.low) spec ∙ was.serves.listens.hears;
+                hears = ap (λ (x : Spec). if hub.low then x.low &&
+                    (not (deep_at false j.rest) || hub.pre) else not x.low) spec
+                    ∙ was.serves.listens.hears;
               };
               addressed = was.serves.addressed;
-              configured = λ z. was.serves.configured (sym (ap (λ r. r.configuration) registers) ∙ z);
+              configured = λ z. was.serves.configured (sym (ap (λ r. r.configuration) registers)
+                  ∙ z);
               has = subst (λ x. HasPort x n) (sym spec) was.serves.has;
             };
             there = was.there;
@@ -99,44 +114,59 @@ module _ (f : AddressMap) (hub : Target) (n : ℕ) (p : List ℕ) (at : IsBelow 
 
       hub_same : SameAt old.roots new.roots at.hub → ServesAt hub n at.hub new
       hub_same same =
-          let on : reach_on new.roots j ≡ true = subst (λ q. reach new.roots q ≡ reach old.roots q) was.there same.on ∙ was.serves.on in
-          let what = subst (λ q. option_map spec_of (state_there new.roots q) ≡ option_map spec_of (state_there old.roots q)) was.there same.what in
-          let v = is_some-state (state_on new.roots j) (some_of (state_on old.roots j) (state_on new.roots j) what (ap is_some was.serves.stands)) in
+          let on : reach_on new.roots j ≡ true = subst (λ q. reach new.roots q ≡ reach old.roots q)
+          was.there same.on ∙ was.serves.on in
+          let what = subst (λ q. option_map spec_of (state_there new.roots q)
+          ≡ option_map spec_of (state_there old.roots q)) was.there same.what in
+          let v = is_some-state (state_on new.roots j)
+          (some_of (state_on old.roots j) (state_on new.roots j) what
+          (ap is_some was.serves.stands)) in
           hub_served v.0 on v.1
 
       serves_on : (pending new.roots at.hub ≡ true) ⊎ ServesAt hub n at.hub new
       serves_on = pick (rests_or_pends at.hub hub_asks hub_live)
         where
-          pick : UnchangedOrPending old new at.hub → (pending new.roots at.hub ≡ true) ⊎ ServesAt hub n at.hub new
+          pick : UnchangedOrPending old new at.hub → (pending new.roots at.hub ≡ true)
+              ⊎ ServesAt hub n at.hub new
           pick (inl y) = inr (hub_same y.1)
           pick (inr y) = inl y
 
-pub server_on : (f : AddressMap) (port : HubPort) (p : List ℕ) → IsAt f port p → (old new : World) → Consistent old.roots → OnlyAt p old new → HasServer port p old → HasServer port p new
+pub server_on : (f : AddressMap) (port : HubPort) (p : List ℕ) → IsAt f port p → (old new : World)
+    → Consistent old.roots → OnlyAt p old new → HasServer port p old → HasServer port p new
 server_on f (Root n) p at old new sane only server = tt
 server_on f (External hub n) p at old new sane only server =
     let P : World → List ℕ → Type 0 = λ w q. (pending w.roots q ≡ true) ⊎ ServesAt hub n q w in
-    subst (λ o. IsSomeAnd o (P new)) (sym (parent_is f hub n p at)) (pick (subst (λ o. IsSomeAnd o (P old)) (parent_is f hub n p at) server))
+    subst (λ o. IsSomeAnd o (P new)) (sym (parent_is f hub n p at))
+    (pick (subst (λ o. IsSomeAnd o (P old)) (parent_is f hub n p at) server))
   where
-    pick : (pending old.roots at.hub ≡ true) ⊎ ServesAt hub n at.hub old → (pending new.roots at.hub ≡ true) ⊎ ServesAt hub n at.hub new
+    pick : (pending old.roots at.hub ≡ true) ⊎ ServesAt hub n at.hub old
+        → (pending new.roots at.hub ≡ true) ⊎ ServesAt hub n at.hub new
     pick (inl h) = inl (hub_pends_on f hub n p at old new only h)
     pick (inr h) = serves_on f hub n p at old new only sane h
 
 -- a hub that serves its port is not lost
-pub lost_hub_faults : (f : AddressMap) (port : HubPort) (p : List ℕ) → IsAt f port p → (why : EnumFault) (new : World) → FaultAllowedAt port why new → HasServer port p new
-    → ((hub : Target) (n : ℕ) → port ≡ External hub n → why ≡ fault.ParentLost → (serves : HubServes hub n new) → p ≡ path_to serves.spot ++ (n ∷ []) → 8 ≤ hub.max → pending new.roots (path_to serves.spot) ≡ true) → FaultsFor p why new
+pub lost_hub_faults : (f : AddressMap) (port : HubPort) (p : List ℕ) → IsAt f port p
+    → (why : EnumFault) (new : World) → FaultAllowedAt port why new → HasServer port p new
+    → ((hub : Target) (n : ℕ) → port ≡ External hub n → why ≡ fault.ParentLost
+    → (serves : HubServes hub n new) → p ≡ path_to serves.spot ++ (n ∷ []) → 8 ≤ hub.max
+    → pending new.roots (path_to serves.spot) ≡ true) → FaultsFor p why new
 lost_hub_faults f port p at (fault.Bus why) new told server denies = tt
 lost_hub_faults f port p at fault.Memory new told server denies = tt
 lost_hub_faults f (Root n) p at fault.ParentLost new told server denies = absurd told
 lost_hub_faults f (External hub n) p at fault.ParentLost new told server denies =
     let P : List ℕ → Type 0 = λ q. (pending new.roots q ≡ true) ⊎ ServesAt hub n q new in
-    subst (λ o. IsSomeAnd o (λ q. pending new.roots q ≡ true)) (sym (parent_is f hub n p at)) (pick (subst (λ o. IsSomeAnd o P) (parent_is f hub n p at) server))
+    subst (λ o. IsSomeAnd o (λ q. pending new.roots q ≡ true)) (sym (parent_is f hub n p at))
+    (pick (subst (λ o. IsSomeAnd o P) (parent_is f hub n p at) server))
   where
-    pick : (pending new.roots at.hub ≡ true) ⊎ ServesAt hub n at.hub new → pending new.roots at.hub ≡ true
+    pick : (pending new.roots at.hub ≡ true) ⊎ ServesAt hub n at.hub new
+        → pending new.roots at.hub ≡ true
     pick (inl h) = h
-    pick (inr h) = subst (λ q. pending new.roots q ≡ true) (sym h.there) (denies hub n refl refl h.serves (at.path ∙ ap (λ q. q ++ (n ∷ [])) h.there) h.wide)
+    pick (inr h) = subst (λ q. pending new.roots q ≡ true) (sym h.there)
+        (denies hub n refl refl h.serves (at.path ∙ ap (λ q. q ++ (n ∷ [])) h.there) h.wide)
 
 -- a served call loses no hub
-pub parent_lost_not_served : {A : Type 0} (outcome : Result A PipeFault) (why : EnumFault) → Err why ≡ at_port outcome → why ≡ fault.ParentLost → NoHubFailed outcome → ⊥
+pub parent_lost_not_served : {A : Type 0} (outcome : Result A PipeFault) (why : EnumFault)
+    → Err why ≡ at_port outcome → why ≡ fault.ParentLost → NoHubFailed outcome → ⊥
 parent_lost_not_served (Ok x) why told lost served = cc
 parent_lost_not_served (Err pipe.Stalled) why told lost served = served
 parent_lost_not_served (Err pipe.Busy) why told lost served = served
@@ -148,10 +178,18 @@ parent_lost_not_served (Err pipe.Memory) why told lost served = cc
 -- What is fair
 
 -- no device at the port has taken its address yet
-pub held_spare : (f : AddressMap) (port : HubPort) (p : List ℕ) (address : ℕ) → IsSpare f port p address → IsSpare f port p 0
-held_spare f port p address spare = record { at = spare.at; free = spare.free; none = spare.none; spare = spare.none }
+pub held_spare : (f : AddressMap) (port : HubPort) (p : List ℕ) (address : ℕ)
+    → IsSpare f port p address → IsSpare f port p 0
+held_spare f port p address spare = record {
+  at = spare.at;
+  free = spare.free;
+  none = spare.none;
+  spare = spare.none;
+}
 
-module _ (f : AddressMap) (port : HubPort) (p : List ℕ) (address m n : ℕ) {old mid new : World} {a b c d : Option (List ℕ)} (first : StepRun m old a mid b) (second : StepRun n mid c new d) (fair : IsFairAt f port p address old new) where
+module _ (f : AddressMap) (port : HubPort) (p : List ℕ) (address m n : ℕ) {old mid new : World}
+    {a b c d : Option (List ℕ)} (first : StepRun m old a mid b) (second : StepRun n mid c new d)
+    (fair : IsFairAt f port p address old new) where
   pub fair_sound : mid.fault ≡ None
   fair_sound = went_sound n mid new second fair.working
 
@@ -178,31 +216,42 @@ module _ (f : AddressMap) (port : HubPort) (p : List ℕ) (address m n : ℕ) {o
         held = at.within.stays f p fair.spare fair.held;
         order = went_in_order m old mid first fair.order;
         occupied = occupied_on p only.spares fair.occupied;
-        server = server_on f port p fair.spare.at old mid (fair.order fair_start).sane only fair.server;
+        server = server_on f port p fair.spare.at old mid (fair.order fair_start).sane only
+            fair.server;
         few = went_three m old mid first fair.few;
         kept = fair.kept;
         working = fair.working;
       }
 
 -- what calls at the port keep
-pub fair_only : (f : AddressMap) (port : HubPort) (p : List ℕ) (address : ℕ) {old new : World} → IsFairAt f port p address old new → AtPort port address old new → OnlyAt p old new
+pub fair_only : (f : AddressMap) (port : HubPort) (p : List ℕ) (address : ℕ) {old new : World}
+    → IsFairAt f port p address old new → AtPort port address old new → OnlyAt p old new
 fair_only f port p address fair at = at.only.at f p fair.spare fair.held fair.working
 
-pub fair_single : (f : AddressMap) (port : HubPort) (p : List ℕ) (address : ℕ) {old new : World} → IsFairAt f port p address old new → AtPort port address old new → new.shared ≡ false
+pub fair_single : (f : AddressMap) (port : HubPort) (p : List ℕ) (address : ℕ) {old new : World}
+    → IsFairAt f port p address old new → AtPort port address old new → new.shared ≡ false
 fair_single f port p address fair at = (at.within.stays f p fair.spare fair.held).single
 
 -- Calls at the port
 
-pub called_faulted : (port : HubPort) (address n : ℕ) (call : Option PortCall) (why : EnumFault) {old new : World} {a b : Option (List ℕ)} → StepRun n old a new b → AtPort port address old new → FaultAllowedAt port why new → CalledAt port call old (Err why) new
+pub called_faulted : (port : HubPort) (address n : ℕ) (call : Option PortCall) (why : EnumFault)
+    {old new : World} {a b : Option (List ℕ)} → StepRun n old a new b → AtPort port address old new
+    → FaultAllowedAt port why new → CalledAt port call old (Err why) new
     → Faulted port address why old new
 called_faulted port address n call why {old} {new} went at told called = record { why = lost }
   where
     lost : (f : AddressMap) (p : List ℕ) → IsFairAt f port p address old new → FaultsFor p why new
     lost f p fair =
-        lost_hub_faults f port p fair.spare.at why new told (server_on f port p fair.spare.at old new (fair.order (went_sound n old new went fair.working)).sane (fair_only f port p address fair at) fair.server)
-        (λ hub i is parent serves there wide. absurd (parent_lost_not_served called.outcome why called.told parent (called.calls.why hub i is fair.few (fair_single f port p address fair at) serves)))
+        lost_hub_faults f port p fair.spare.at why new told
+        (server_on f port p fair.spare.at old new
+        (fair.order (went_sound n old new went fair.working)).sane
+        (fair_only f port p address fair at) fair.server)
+        (λ hub i is parent serves there wide. absurd
+        (parent_lost_not_served called.outcome why called.told parent
+        (called.calls.why hub i is fair.few (fair_single f port p address fair at) serves)))
 
--- a port stands where its change of connection is pending and that of its hub is not, and where a device stands
+-- a port stands where its change of connection is pending and that of its hub is not, and where a
+-- device stands
 
 state_port : (k : Ports) (j : ℕ) (p : List ℕ) → IsSome (state_at k j p) → IsSome (port_at k j p)
 unfolding state_at port_at
@@ -218,45 +267,62 @@ is_some-port : (o : Option PortState) → IsSome o → (b : PortState) × (o ≡
 is_some-port None some = false_true some
 is_some-port (Some b) some = (b, refl)
 
-pub state_there-port : (k : Ports) (p : List ℕ) → IsSome (state_there k p) → (b : PortState) × (port_there k p ≡ Some b)
+pub state_there-port : (k : Ports) (p : List ℕ) → IsSome (state_there k p) → (b : PortState)
+    × (port_there k p ≡ Some b)
 state_there-port k [] some = false_true some
 state_there-port k (zero ∷ p) some = false_true some
 state_there-port k (suc j ∷ p) some = is_some-port (port_at k j p) (state_port k j p some)
 
 -- where no change is pending at its hub
-occupied_port_there : (w : World) (j : Location) (n : ℕ) → IsOccupied w (path_to j ++ (n ∷ [])) → (pending w.roots (path_to j) ≡ true) ⊎ IsSome (port_there w.roots (path_to j ++ (n ∷ [])))
+occupied_port_there : (w : World) (j : Location) (n : ℕ) → IsOccupied w (path_to j ++ (n ∷ []))
+    → (pending w.roots (path_to j) ≡ true) ⊎ IsSome (port_there w.roots (path_to j ++ (n ∷ [])))
 occupied_port_there w j n (inl h) = pick (pend_or_live w.roots (path_to j) n h)
   where
-    pick : (has_power w.roots (path_to j ++ (n ∷ [])) ≡ true) ⊎ (pending w.roots (path_to j) ≡ true) → (pending w.roots (path_to j) ≡ true) ⊎ IsSome (port_there w.roots (path_to j ++ (n ∷ [])))
+    pick : (has_power w.roots (path_to j ++ (n ∷ [])) ≡ true) ⊎ (pending w.roots (path_to j) ≡ true)
+        → (pending w.roots (path_to j) ≡ true) ⊎ IsSome (port_there w.roots (path_to j ++ (n ∷ [])))
     pick (inl on) = inr (subst IsSome (sym (live_port w.roots (path_to j ++ (n ∷ [])) on).1) refl)
     pick (inr above) = inl above
 occupied_port_there w j n (inr h) = inr (state_port w.roots j.row (j.rest ++ (n ∷ [])) h.1)
 
-module _ (port : HubPort) (address n : ℕ) (why : EnumFault) {old new : World} {a b : Option (List ℕ)} (went : StepRun n old a new b) (at : AtPort port address old new) (told : FaultAllowedAt port why new) (shown : StatusAt port old (Err why) new) where
-  status_denies : (f : AddressMap) (p : List ℕ) → IsFairAt f port p address old new → (hub : Target) (i : ℕ) → port ≡ External hub i → why ≡ fault.ParentLost → (serves : HubServes hub i new) → p ≡ path_to serves.spot ++ (i ∷ []) → 8 ≤ hub.max
+module _ (port : HubPort) (address n : ℕ) (why : EnumFault) {old new : World}
+    {a b : Option (List ℕ)} (went : StepRun n old a new b) (at : AtPort port address old new)
+    (told : FaultAllowedAt port why new) (shown : StatusAt port old (Err why) new) where
+  status_denies : (f : AddressMap) (p : List ℕ) → IsFairAt f port p address old new
+      → (hub : Target) (i : ℕ) → port ≡ External hub i → why ≡ fault.ParentLost
+      → (serves : HubServes hub i new) → p ≡ path_to serves.spot ++ (i ∷ []) → 8 ≤ hub.max
       → pending new.roots (path_to serves.spot) ≡ true
-  status_denies f p fair hub i is parent serves there wide = pick (occupied_port_there old serves.spot i (subst (IsOccupied old) there fair.occupied))
+  status_denies f p fair hub i is parent serves there wide =
+      pick (occupied_port_there old serves.spot i (subst (IsOccupied old) there fair.occupied))
     where
       off : is_way p (path_to serves.spot) ≡ false
       off = ap (λ x. is_way x (path_to serves.spot)) there ∙ not_way (path_to serves.spot) i
 
-      pick : (pending old.roots (path_to serves.spot) ≡ true) ⊎ IsSome (port_there old.roots (path_to serves.spot ++ (i ∷ []))) → pending new.roots (path_to serves.spot) ≡ true
-      pick (inl h) = pending_persists (path_to serves.spot) (course_wider (λ s w k. k.spares) ((fair_only f port p address fair at).others (path_to serves.spot) off)) h
+      pick : (pending old.roots (path_to serves.spot) ≡ true)
+          ⊎ IsSome (port_there old.roots (path_to serves.spot ++ (i ∷ [])))
+          → pending new.roots (path_to serves.spot) ≡ true
+      pick (inl h) = pending_persists (path_to serves.spot)
+          (course_wider (λ s w k. k.spares) ((fair_only f port p address fair at).others
+          (path_to serves.spot) off)) h
       pick (inr h) =
           let b = is_some-port (port_there old.roots (path_to serves.spot ++ (i ∷ []))) h in
-          absurd (parent_lost_not_served shown.outcome why shown.told parent (shown.tells.why hub i is fair.few (fair_single f port p address fair at) wide serves b.0 b.1))
+          absurd (parent_lost_not_served shown.outcome why shown.told parent
+          (shown.tells.why hub i is fair.few (fair_single f port p address fair at) wide
+          serves b.0 b.1))
 
   pub status_faulted : Faulted port address why old new
   status_faulted = record {
     why = λ f p fair.
         lost_hub_faults f port p fair.spare.at why new told
-        (server_on f port p fair.spare.at old new (fair.order (went_sound n old new went fair.working)).sane (fair_only f port p address fair at) fair.server)
+        (server_on f port p fair.spare.at old new
+        (fair.order (went_sound n old new went fair.working)).sane
+        (fair_only f port p address fair at) fair.server)
         (status_denies f p fair);
   }
 
 -- What ends an enumeration
 
-pub pends_on : (So : Spec → Type 0) (p : List ℕ) {old new : World} → Course (KeepsPendingAt p) old new → IsOccupied old p → PendingOr So p old → PendingOr So p new
+pub pends_on : (So : Spec → Type 0) (p : List ℕ) {old new : World}
+    → Course (KeepsPendingAt p) old new → IsOccupied old p → PendingOr So p old → PendingOr So p new
 pends_on So p c (inl pending) so = inl (pending_persists p c pending)
 pends_on So p c (inr is) (inl pending) = inl (pending_persists p c pending)
 pends_on So p {old} {new} c (inr is) (inr so) = pick (stands_or_pends p c is.0)
@@ -266,32 +332,51 @@ pends_on So p {old} {new} c (inr is) (inr so) = pick (stands_or_pends p c is.0)
     pick (inl y) =
         let s = is_some-state (state_there old.roots p) is.1 in
         inr (λ v there.
-        subst So (same_Some s.0.spec v.spec (sym (ap (option_map spec_of) s.1) ∙ sym y.1 ∙ ap (option_map spec_of) there)) (so s.0 s.1))
+        subst So (same_Some s.0.spec v.spec (sym (ap (option_map spec_of) s.1) ∙ sym y.1
+        ∙ ap (option_map spec_of) there)) (so s.0 s.1))
 
-pub pends_wider : (A B : Spec → Type 0) (p : List ℕ) (w : World) → ((spec : Spec) → A spec → B spec) → PendingOr A p w → PendingOr B p w
+pub pends_wider : (A B : Spec → Type 0) (p : List ℕ) (w : World) → ((spec : Spec) → A spec → B spec)
+    → PendingOr A p w → PendingOr B p w
 pends_wider A B p w f (inl pending) = inl pending
 pends_wider A B p w f (inr so) = inr (λ s there. f s.spec (so s there))
 
 -- what is so of the device that is reached is so of the one that stands there
-pub pends_reached : (So : Spec → Type 0) (p : List ℕ) (w : World) → IsReachedAt w p → AtPath (λ s. So s.spec) p w → PendingOr So p w
+pub pends_reached : (So : Spec → Type 0) (p : List ℕ) (w : World) → IsReachedAt w p
+    → AtPath (λ s. So s.spec) p w → PendingOr So p w
 pends_reached So p w (inl pending) so = inl pending
 pends_reached So p w (inr is) so = inr (λ s there. so s is.1 there)
 
-stop_wider : (A B : Spec → Option Cause) (f : AddressMap) (p : List ℕ) (old new : World) → ((spec : Spec) (cause : Cause) → A spec ≡ Some cause → B spec ≡ Some cause) → (stop : Stop) → StopsFor A f p old stop new → StopsFor B f p old stop new
-stop_wider A B f p old new more (Refused cause) stops = λ held. pends_wider (λ spec. A spec ≡ Some cause) (λ spec. B spec ≡ Some cause) p new (λ spec. more spec cause) (stops held)
+stop_wider : (A B : Spec → Option Cause) (f : AddressMap) (p : List ℕ) (old new : World)
+    → ((spec : Spec) (cause : Cause) → A spec ≡ Some cause → B spec ≡ Some cause) → (stop : Stop)
+    → StopsFor A f p old stop new → StopsFor B f p old stop new
+stop_wider A B f p old new more (Refused cause) stops =
+    λ held. pends_wider (λ spec. A spec ≡ Some cause) (λ spec. B spec ≡ Some cause) p new
+    (λ spec. more spec cause) (stops held)
 stop_wider A B f p old new more (Fault why) stops = stops
 
-pub stops_wider : (A B : Spec → Option Cause) (port : HubPort) (address : ℕ) (stop : Stop) (old new : World) → ((spec : Spec) (cause : Cause) → A spec ≡ Some cause → B spec ≡ Some cause) → StopsFairly A port address stop old new → StopsFairly B port address stop old new
-stops_wider A B port address stop old new more stops = record { why = λ f p fair. stop_wider A B f p old new more stop (stops.why f p fair) }
+pub stops_wider : (A B : Spec → Option Cause) (port : HubPort) (address : ℕ) (stop : Stop)
+    (old new : World) → ((spec : Spec) (cause : Cause) → A spec ≡ Some cause → B spec ≡ Some cause)
+    → StopsFairly A port address stop old new → StopsFairly B port address stop old new
+stops_wider A B port address stop old new more stops =
+    record { why = λ f p fair. stop_wider A B f p old new more stop (stops.why f p fair) }
 
-pub stops_faulted : (wrong : Spec → Option Cause) (port : HubPort) (address : ℕ) (why : EnumFault) (old new : World) → Faulted port address why old new → StopsFairly wrong port address (Fault why) old new
+pub stops_faulted : (wrong : Spec → Option Cause) (port : HubPort) (address : ℕ) (why : EnumFault)
+    (old new : World) → Faulted port address why old new
+    → StopsFairly wrong port address (Fault why) old new
 stops_faulted wrong port address why old new faulted = record { why = faulted.why }
 
-pub faulted_after : (port : HubPort) (address m n : ℕ) (why : EnumFault) {old mid new : World} {a b c d : Option (List ℕ)} → StepRun m old a mid b → StepRun n mid c new d → AtPort port address old mid → Faulted port address why mid new → Faulted port address why old new
-faulted_after port address m n why first second at faulted = record { why = λ f p fair. faulted.why f p (fair_then f port p address m n first second fair at) }
+pub faulted_after : (port : HubPort) (address m n : ℕ) (why : EnumFault) {old mid new : World}
+    {a b c d : Option (List ℕ)} → StepRun m old a mid b → StepRun n mid c new d
+    → AtPort port address old mid → Faulted port address why mid new
+    → Faulted port address why old new
+faulted_after port address m n why first second at faulted =
+    record {
+      why = λ f p fair. faulted.why f p (fair_then f port p address m n first second fair at);
+    }
 
 -- no port was asked
-pub faults_for_told : (p : List ℕ) (why : EnumFault) (w : World) → FaultAllowed why w → FaultsFor p why w
+pub faults_for_told : (p : List ℕ) (why : EnumFault) (w : World) → FaultAllowed why w
+    → FaultsFor p why w
 faults_for_told p fault.ParentLost w told = absurd told
 faults_for_told p (fault.Bus why) w told = tt
 faults_for_told p fault.Memory w told = tt

@@ -1,5 +1,7 @@
--- What steps keep of a world: its damages and how many root ports it has; the worst stretch of address losses only grows.
-use Rattle.std.proofs.Common.{◌≡◌, ◌≤◌, Bool, true, false, [], ◌∷◌, length, Option, None, Some, refl, ap, sym, subst, ◌∙◌, arith}
+-- What steps keep of a world: its damages and how many root ports it has; the worst stretch of
+-- address losses only grows.
+use Rattle.std.proofs.Common.{◌≡◌, ◌≤◌, Bool, true, false, [], ◌∷◌, length, Option, None, Some}
+use Rattle.std.proofs.Common.{refl, ap, sym, subst, ◌∙◌, arith}
 use Rattle.usb_device.proofs.Interface.{row_of-after, row_of-forgotten}
 use Rattle.usb_device.specs.declared.delivery.Sent.{Sent}
 use Rattle.usb_port.specs.Calls.{is_clearing}
@@ -7,12 +9,15 @@ use Rattle.usb_device.specs.Tree.{Ports, called, row_of}
 use Rattle.usb_world.specs.declared.damage.Damage.{Damage}
 use Rattle.usb_world.specs.declared.losses.Losses.{Losses}
 use Rattle.usb_world.specs.declared.types.Attempt.{Attempt}
-use Rattle.usb_world.specs.Exchange.{lost_in, cleared_in, token_out, payload_out, reply_out, ports_in}
+use Rattle.usb_world.specs.Exchange.{lost_in, cleared_in, token_out, payload_out, reply_out}
+use Rattle.usb_world.specs.Exchange.{ports_in}
 use Rattle.usb_world.specs.Losses.{one_more, counted, after_clearing}
-use Rattle.usb_world.specs.Steps.{AnyStep, after_event, at_attempt, damage_in, with_attempt, Step, after, Course}
+use Rattle.usb_world.specs.Steps.{AnyStep, after_event, at_attempt, damage_in, with_attempt, Step}
+use Rattle.usb_world.specs.Steps.{after, Course}
 use Rattle.usb_tree.specs.AttemptPackets.{after_sent, after_attempt}
 use Rattle.usb_world.specs.World.{World, roots_of}
-use Rattle.usb_world.proofs.Interface.{OverSteps, happened_long, over_course, over_step, row_long, with_limit_told}
+use Rattle.usb_world.proofs.Interface.{OverSteps, happened_long, over_course, over_step, row_long}
+use Rattle.usb_world.proofs.Interface.{with_limit_told}
 use Rattle.usb_enum.specs.Losses.{FewLosses}
 
 -- the same damages and number of root ports, and a worst stretch that is no shorter
@@ -21,22 +26,32 @@ pub record IsLater (w v : World) : Type 0 where
   pub roots : roots_of v ≡ roots_of w
   pub worst : w.losses.worst ≤ v.losses.worst
 
-later_same : (w v : World) → v.damages ≡ w.damages → roots_of v ≡ roots_of w → v.losses ≡ w.losses → IsLater w v
+later_same : (w v : World) → v.damages ≡ w.damages → roots_of v ≡ roots_of w → v.losses ≡ w.losses
+    → IsLater w v
 later_same w v d r l = record { damages = d; roots = r; worst = rw l (omega arith) }
 
 later_then : (w m v : World) → IsLater w m → IsLater m v → IsLater w v
-later_then w m v x y = let a = x.worst in let b = y.worst in record { damages = y.damages ∙ x.damages; roots = y.roots ∙ x.roots; worst = omega (arith, a, b) }
+later_then w m v x y = let a = x.worst in let b = y.worst in
+    record {
+      damages = y.damages ∙ x.damages;
+      roots = y.roots ∙ x.roots;
+      worst =
+          omega (arith, a, b);
+    }
 
 sent_row : (o : Option Sent) (k : Ports) → row_of (after_sent o k) ≡ row_of k
 sent_row None k = refl
 sent_row (Some q) k = row_of-after q false k
 
 attempt_row : (t d r : Option Sent) (k : Ports) → row_of (after_attempt t d r k) ≡ row_of k
-attempt_row t d r k = row_of-forgotten (after_sent r (after_sent d (after_sent t k))) ∙ sent_row r (after_sent d (after_sent t k)) ∙ sent_row d (after_sent t k) ∙ sent_row t k
+attempt_row t d r k = row_of-forgotten (after_sent r (after_sent d (after_sent t k)))
+    ∙ sent_row r (after_sent d (after_sent t k)) ∙ sent_row d (after_sent t k) ∙ sent_row t k
 
-ports_in-row : (a : Attempt) (damage : Option Damage) (k : Ports) → length (row_of (ports_in a damage k)) ≡ length (row_of k)
+ports_in-row : (a : Attempt) (damage : Option Damage) (k : Ports)
+    → length (row_of (ports_in a damage k)) ≡ length (row_of k)
 unfolding ports_in
-ports_in-row a damage k = ap length (attempt_row (token_out a damage) (payload_out a damage) (reply_out a damage k) k)
+ports_in-row a damage k = ap length (attempt_row (token_out a damage) (payload_out a damage)
+    (reply_out a damage k) k)
 
 cleared_worst : (b : Bool) (l : Losses) → (after_clearing b l).worst ≡ l.worst
 cleared_worst true l = refl
@@ -52,7 +67,13 @@ unfolding with_attempt
 made_later a w =
     let cleared : Bool = cleared_in a (damage_in w) w.roots in
     let lost : Bool = lost_in a (damage_in w) w.roots in
-    record { damages = refl; roots = ports_in-row a (damage_in w) w.roots; worst = subst (λ x. x ≤ (counted lost (after_clearing cleared w.losses)).worst) (cleared_worst cleared w.losses) (counted_worst lost (after_clearing cleared w.losses)) }
+    record {
+      damages = refl;
+      roots = ports_in-row a (damage_in w) w.roots;
+      worst =
+          subst (λ x. x ≤ (counted lost (after_clearing cleared w.losses)).worst)
+          (cleared_worst cleared w.losses) (counted_worst lost (after_clearing cleared w.losses));
+    }
 
 later_steps : {K : Step → World → Type 0} → OverSteps K IsLater
 unfolding after_event
@@ -81,5 +102,6 @@ pub course_later : {K : Step → World → Type 0} {w v : World} → Course K w 
 course_later c = over_course later_steps c
 
 -- where few are lost in the end, few were lost before
-pub few_before : {K : Step → World → Type 0} {w v : World} → Course K w v → FewLosses v → FewLosses w
+pub few_before : {K : Step → World → Type 0} {w v : World} → Course K w v → FewLosses v
+    → FewLosses w
 few_before c few = let grew = (course_later c).worst in omega (arith, grew, few)

@@ -1,5 +1,7 @@
--- How the device at a port that is being enumerated comes to hold its address, from one call to the next.
-use Rattle.std.proofs.Common.{◌≡◌, ◌⊎◌, ◌≤◌, ℕ, inl, Bool, true, false, List, [], ◌∷◌, ◌++◌, Option, None, Some, if◌then◌else◌, refl, ap, sym, subst, ◌∙◌, arith}
+-- How the device at a port that is being enumerated comes to hold its address, from one call to the
+-- next.
+use Rattle.std.proofs.Common.{◌≡◌, ◌⊎◌, ◌≤◌, ℕ, inl, Bool, true, false, List, [], ◌∷◌, ◌++◌, Option}
+use Rattle.std.proofs.Common.{None, Some, if◌then◌else◌, refl, ap, sym, subst, ◌∙◌, arith}
 use Rattle.std.proofs.lemmas.Option.{same_Some}
 use Rattle.usb_world.specs.declared.types.BusFault.{BusFault}
 use Rattle.usb_world.specs.Addresses.{after_reset, after_taking}
@@ -7,7 +9,8 @@ use Rattle.usb_tree.specs.Paths.{same_path, is_way}
 use Rattle.usb_world.specs.World.{World}
 use Rattle.usb_address.specs.Claims.{AddressMap}
 use Rattle.usb_address.specs.Ownership.{MapHolds, Enumerating, WhileBusWorks, KeepsAddresses}
-use Rattle.usb_address.proofs.Interface.{after_a_reset, after_an_address, after_taking-zero, after_taking-not_both, is_way-same_path}
+use Rattle.usb_address.proofs.Interface.{after_a_reset, after_an_address, after_taking-zero}
+use Rattle.usb_address.proofs.Interface.{after_taking-not_both, is_way-same_path}
 use Rattle.usb_hub.specs.declared.port.HubPort.{HubPort}
 use Rattle.usb_hub.specs.declared.port.HubPort.TheVariants.{Root, External}
 use Rattle.usb_hub.specs.Addresses.{IsAt, IsClaimed, Resets, GivesAddress}
@@ -16,7 +19,8 @@ use Rattle.usb_tree.proofs.Interface.{self_number, self_path}
 
 -- Till a fault
 
-pub till_weaker : (P Q : World → Type 0) (w : World) → (P w → Q w) → WhileBusWorks P w → WhileBusWorks Q w
+pub till_weaker : (P Q : World → Type 0) (w : World) → (P w → Q w) → WhileBusWorks P w
+    → WhileBusWorks Q w
 till_weaker P Q w step t = record { so = λ none. step (t.so none); single = t.single }
 
 -- which of the two addresses the device has; after a fault either may be said
@@ -25,12 +29,23 @@ pub record Having (f : AddressMap) (p : List ℕ) (address : ℕ) (w : World) : 
   pub is : (has ≡ 0) ⊎ (has ≡ address)
   pub owned : WhileBusWorks (MapHolds (after_taking f p has)) w
 
-pub having : (f : AddressMap) (p : List ℕ) (address : ℕ) (w : World) → WhileBusWorks (Enumerating f p address) w → Having f p address w
+pub having : (f : AddressMap) (p : List ℕ) (address : ℕ) (w : World)
+    → WhileBusWorks (Enumerating f p address) w → Having f p address w
 having f p address w t = split w.fault refl
   where
     split : (x : Option BusFault) → w.fault ≡ x → Having f p address w
-    split None e = let now = t.so e in record { has = now.has; is = now.is; owned = record { so = λ none. now.owned; single = t.single } }
-    split (Some fault) e = record { has = 0; is = inl refl; owned = record { so = λ none. absurd cc; single = t.single } }
+    split None e = let now = t.so e in record {
+      has = now.has;
+      is = now.is;
+      owned =
+          record { so = λ none. now.owned; single = t.single };
+    }
+    split (Some fault) e = record {
+      has = 0;
+      is = inl refl;
+      owned =
+          record { so = λ none. absurd cc; single = t.single };
+    }
 
 -- Paths
 
@@ -39,7 +54,8 @@ same_path-longer [] n = refl
 same_path-longer (m ∷ q) n = rw (self_number m, same_path-longer q n) refl
 
 -- the hub of a port stands above it, so its claim stays
-pub at_taking : (f : AddressMap) (port : HubPort) (p : List ℕ) (a : ℕ) → IsAt f port p → IsAt (after_taking f p a) port p
+pub at_taking : (f : AddressMap) (port : HubPort) (p : List ℕ) (a : ℕ) → IsAt f port p
+    → IsAt (after_taking f p a) port p
 at_taking f (Root number) p a at = at
 at_taking f (External hub port) p a at = record {
   hub = at.hub;
@@ -54,68 +70,100 @@ at_taking f (External hub port) p a at = record {
 pub within_none : (port : HubPort) (address : ℕ) (w : World) → Within port address w w
 within_none port address w = record { stays = λ f p spare t. t }
 
-pub within_then : (port : HubPort) (address : ℕ) (a b c : World) → Within port address a b → Within port address b c → Within port address a c
-within_then port address a b c m n = record { stays = λ f p spare t. n.stays f p spare (m.stays f p spare t) }
+pub within_then : (port : HubPort) (address : ℕ) (a b c : World) → Within port address a b
+    → Within port address b c → Within port address a c
+within_then port address a b c m n = record {
+  stays =
+      λ f p spare t. n.stays f p spare (m.stays f p spare t);
+}
 
-pub takes_after : (port : HubPort) (address : ℕ) (a b c : World) → Within port address a b → TakesAddress port address b c → TakesAddress port address a c
-takes_after port address a b c m n = record { took = λ f p spare t. n.took f p spare (m.stays f p spare t) }
+pub takes_after : (port : HubPort) (address : ℕ) (a b c : World) → Within port address a b
+    → TakesAddress port address b c → TakesAddress port address a c
+takes_after port address a b c m n =
+    record { took = λ f p spare t. n.took f p spare (m.stays f p spare t) }
 
-pub takes_then : (port : HubPort) (address : ℕ) (a b c : World) → TakesAddress port address a b → KeepsAddresses b c → TakesAddress port address a c
-takes_then port address a b c m n = record { took = λ f p spare t. n.kept (after_taking f p address) (m.took f p spare t) }
+pub takes_then : (port : HubPort) (address : ℕ) (a b c : World) → TakesAddress port address a b
+    → KeepsAddresses b c → TakesAddress port address a c
+takes_then port address a b c m n = record {
+  took =
+      λ f p spare t. n.kept (after_taking f p address) (m.took f p spare t);
+}
 
 -- What each call does
 
-pub within_kept : (port : HubPort) (address : ℕ) (old new : World) → KeepsAddresses old new → Within port address old new
+pub within_kept : (port : HubPort) (address : ℕ) (old new : World) → KeepsAddresses old new
+    → Within port address old new
 within_kept port address old new keeps = record { stays = stays }
   where
-    stays : (f : AddressMap) (p : List ℕ) → IsSpare f port p address → WhileBusWorks (Enumerating f p address) old → WhileBusWorks (Enumerating f p address) new
+    stays : (f : AddressMap) (p : List ℕ) → IsSpare f port p address
+        → WhileBusWorks (Enumerating f p address) old → WhileBusWorks (Enumerating f p address) new
     stays f p spare t =
         let h = having f p address old t in
-        till_weaker (MapHolds (after_taking f p h.has)) (Enumerating f p address) new (λ o. record { has = h.has; is = h.is; owned = o }) (keeps.kept (after_taking f p h.has) h.owned)
+        till_weaker (MapHolds (after_taking f p h.has)) (Enumerating f p address) new
+        (λ o. record { has = h.has; is = h.is; owned = o })
+        (keeps.kept (after_taking f p h.has) h.owned)
 
-pub within-keeps_addresses : (port : HubPort) (address : ℕ) (a b c : World) → Within port address a b → KeepsAddresses b c → Within port address a c
-within-keeps_addresses port address a b c within keeps = within_then port address a b c within (within_kept port address b c keeps)
+pub within-keeps_addresses : (port : HubPort) (address : ℕ) (a b c : World)
+    → Within port address a b → KeepsAddresses b c → Within port address a c
+within-keeps_addresses port address a b c within keeps =
+    within_then port address a b c within (within_kept port address b c keeps)
 
-pub within_reset : (port : HubPort) (address : ℕ) (old new : World) → Resets port old new → Within port address old new
+pub within_reset : (port : HubPort) (address : ℕ) (old new : World) → Resets port old new
+    → Within port address old new
 within_reset port address old new resets = record { stays = stays }
   where
-    stays : (f : AddressMap) (p : List ℕ) → IsSpare f port p address → WhileBusWorks (Enumerating f p address) old → WhileBusWorks (Enumerating f p address) new
+    stays : (f : AddressMap) (p : List ℕ) → IsSpare f port p address
+        → WhileBusWorks (Enumerating f p address) old → WhileBusWorks (Enumerating f p address) new
     stays f p spare t =
         let h = having f p address old t in
         let g : AddressMap = after_taking f p h.has in
-        let only : (x : List ℕ) → g x ≡ Some 0 → is_way p x ≡ true = λ x e. subst (λ y. is_way p y ≡ true) (sym (after_taking-zero f p h.has x spare.none e)) (is_way-same_path p p (self_path p)) in
-        till_weaker (λ w. MapHolds g w ⊎ MapHolds (after_reset g p) w) (Enumerating f p address) new (after_a_reset f p address h.has new spare.free h.is)
+        let only : (x : List ℕ) → g x ≡ Some 0 → is_way p x ≡ true =
+        λ x e. subst (λ y. is_way p y ≡ true) (sym (after_taking-zero f p h.has x spare.none e))
+        (is_way-same_path p p (self_path p)) in
+        till_weaker (λ w. MapHolds g w ⊎ MapHolds (after_reset g p) w) (Enumerating f p address) new
+        (after_a_reset f p address h.has new spare.free h.is)
         (resets.resets g p (at_taking f port p h.has spare.at) only h.owned)
 
 -- SET_ADDRESS, at address 0
-pub within_given : (port : HubPort) (target address : ℕ) (old new : World) → target ≡ 0 → 1 ≤ address → GivesAddress target address old new → Within port address old new
+pub within_given : (port : HubPort) (target address : ℕ) (old new : World) → target ≡ 0
+    → 1 ≤ address → GivesAddress target address old new → Within port address old new
 within_given port target address old new zero_is least gives = record { stays = stays }
   where
     other : address ≡ 0 → ⊥
     other e = omega (arith, e, least)
 
-    stays : (f : AddressMap) (p : List ℕ) → IsSpare f port p address → WhileBusWorks (Enumerating f p address) old → WhileBusWorks (Enumerating f p address) new
+    stays : (f : AddressMap) (p : List ℕ) → IsSpare f port p address
+        → WhileBusWorks (Enumerating f p address) old → WhileBusWorks (Enumerating f p address) new
     stays f p spare t =
         let h = having f p address old t in
         let g : AddressMap = after_taking f p h.has in
-        let zero_at : (x : List ℕ) (n : ℕ) → n ≡ 0 → g x ≡ Some n → g x ≡ Some 0 = λ x n e k. k ∙ ap Some e in
-        till_weaker (λ w. MapHolds g w ⊎ MapHolds (after_taking g p address) w) (Enumerating f p address) new (after_an_address f p address h.has new h.is)
+        let zero_at : (x : List ℕ) (n : ℕ) → n ≡ 0 → g x ≡ Some n → g x ≡ Some 0 = λ x n e k. k
+        ∙ ap Some e in
+        till_weaker (λ w. MapHolds g w ⊎ MapHolds (after_taking g p address) w)
+        (Enumerating f p address) new (after_an_address f p address h.has new h.is)
         (gives.gives g p
         (λ x e. after_taking-zero f p h.has x spare.none (zero_at x target zero_is e))
-        (λ x y e k. after_taking-not_both f p address h.has x y spare.none spare.spare other h.is e (zero_at y target zero_is k))
+        (λ x y e k. after_taking-not_both f p address h.has x y spare.none spare.spare other h.is e
+        (zero_at y target zero_is k))
         (λ e. other (sym e ∙ zero_is))
         h.owned)
 
 -- whoever answered at the address stands at the port
-pub takes_answered : (port : HubPort) (address : ℕ) (old new : World) → KeepsAddresses old new → IsClaimed address old → TakesAddress port address old new
+pub takes_answered : (port : HubPort) (address : ℕ) (old new : World) → KeepsAddresses old new
+    → IsClaimed address old → TakesAddress port address old new
 takes_answered port address old new keeps answers = record { took = took }
   where
-    took : (f : AddressMap) (p : List ℕ) → IsSpare f port p address → WhileBusWorks (Enumerating f p address) old → WhileBusWorks (MapHolds (after_taking f p address)) new
+    took : (f : AddressMap) (p : List ℕ) → IsSpare f port p address
+        → WhileBusWorks (Enumerating f p address) old
+        → WhileBusWorks (MapHolds (after_taking f p address)) new
     took f p spare t =
         let h = having f p address old t in
         let who = answers.held (after_taking f p h.has) h.owned in
-        keeps.kept (after_taking f p address) (subst (λ n. WhileBusWorks (MapHolds (after_taking f p n)) old) (it h.has who.0 (same_path p who.0) who.1) h.owned)
+        keeps.kept (after_taking f p address)
+        (subst (λ n. WhileBusWorks (MapHolds (after_taking f p n)) old)
+        (it h.has who.0 (same_path p who.0) who.1) h.owned)
       where
-        it : (has : ℕ) (q : List ℕ) (same : Bool) → (if same then Some has else f q) ≡ Some address → has ≡ address
+        it : (has : ℕ) (q : List ℕ) (same : Bool) → (if same then Some has else f q) ≡ Some address
+            → has ≡ address
         it has q true e = same_Some has address e
         it has q false e = elim (spare.spare q e) [ ]

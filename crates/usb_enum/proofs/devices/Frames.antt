@@ -1,5 +1,7 @@
 -- What calls leave of all other devices and ports, from one call to the next.
-use Rattle.std.proofs.Common.{◌≡◌, ◌⊎◌, inl, inr, ◌==◌, ◌&&◌, ◌≤◌, not, ℕ, Bool, true, false, List, [], Option, None, Some, option_map, Result, Ok, Err, if◌then◌else◌, refl, ap, sym, subst, ◌∙◌}
+use Rattle.std.proofs.Common.{◌≡◌, ◌⊎◌, inl, inr, ◌==◌, ◌&&◌, ◌≤◌, not, ℕ, Bool, true, false, List}
+use Rattle.std.proofs.Common.{[], Option, None, Some, option_map, Result, Ok, Err, if◌then◌else◌}
+use Rattle.std.proofs.Common.{refl, ap, sym, subst, ◌∙◌}
 use Rattle.std.specs.Global.{Vec}
 use Rattle.std.specs.Prelude.{IfErr}
 use Rattle.usb_request.specs.Features.{PORT_POWER, PORT_ENABLE, PORT_RESET, C_PORT_RESET}
@@ -9,7 +11,8 @@ use Rattle.usb_device.specs.Rows.{State}
 use Rattle.usb_device.specs.Spec.{Spec}
 use Rattle.usb_device.specs.Tree.{Location, path_to, reach_on, state_on}
 use Rattle.usb_port.specs.declared.call.PortCall.{PortCall}
-use Rattle.usb_port.specs.declared.call.PortCall.TheVariants.{SetReset, ClearEnable, ClearResetChange}
+use Rattle.usb_port.specs.declared.call.PortCall.TheVariants.{SetReset, ClearEnable}
+use Rattle.usb_port.specs.declared.call.PortCall.TheVariants.{ClearResetChange}
 use Rattle.usb_port.specs.Calls.{set_call, clear_call}
 use Rattle.usb_world.specs.Addresses.{after_taking}
 use Rattle.usb_world.specs.Devices.{Relation, Was, EachWas}
@@ -19,40 +22,48 @@ use Rattle.usb_world.specs.RestingPorts.{LeavesPortAlone}
 use Rattle.usb_world.specs.Steps.{Course, here}
 use Rattle.usb_tree.specs.WayEffects.{keeps_pending}
 use Rattle.usb_world.specs.World.{World}
-use Rattle.usb_world.proofs.Interface.{course_joined, course_wider, each_joined, each_none, each_wider}
+use Rattle.usb_world.proofs.Interface.{course_joined, course_wider, each_joined, each_none}
+use Rattle.usb_world.proofs.Interface.{each_wider}
 use Rattle.usb_tree.proofs.Interface.{and_false, decided, equal_same, false_true, self_path}
 use Rattle.usb_bus.specs.Traces.{StepRun}
 use Rattle.usb_transaction.specs.declared.target.Target.{Target}
 use Rattle.usb_address.specs.Claims.{AddressMap, Unused}
 use Rattle.usb_address.specs.Ownership.{MapHolds, Enumerating, WhileBusWorks, KeepsAddresses}
-use Rattle.usb_address.proofs.Interface.{after_taking-zero, keeps_none, keeps_then, is_way-same_path}
+use Rattle.usb_address.proofs.Interface.{after_taking-zero, keeps_none, keeps_then}
+use Rattle.usb_address.proofs.Interface.{is_way-same_path}
 use Rattle.usb_pipe.specs.declared.fault.PipeFault.{PipeFault}
-use Rattle.usb_pipe.specs.declared.fault.PipeFault.TheVariants.{Stalled, Busy, NoAnswer, Broken, Bus, Memory}
+use Rattle.usb_pipe.specs.declared.fault.PipeFault.TheVariants.{Stalled, Busy, NoAnswer, Broken}
+use Rattle.usb_pipe.specs.declared.fault.PipeFault.TheVariants.{Bus, Memory}
 use Rattle.usb_pipe.specs.Control.{FaultAfter}
 use Rattle.usb_pipe.specs.Leaves.{IsNoBusFault}
 use Rattle.usb_hub.specs.declared.port.HubPort.{HubPort}
 use Rattle.usb_hub.specs.declared.port.HubPort.TheVariants.{Root, External}
-use Rattle.usb_hub.specs.Addresses.{StaysAs, EachElsewhere, KeepsDevices, KeepsAsked, KeepsCleared, Resets, GivesAddress}
+use Rattle.usb_hub.specs.Addresses.{StaysAs, EachElsewhere, KeepsDevices, KeepsAsked, KeepsCleared}
+use Rattle.usb_hub.specs.Addresses.{Resets, GivesAddress}
 use Rattle.usb_port.specs.declared.status.PortStatus.{PortStatus}
 use Rattle.usb_hub.specs.GivenAnswers.{ReadAsked, TextAsked, HasText}
 use Rattle.usb_hub.specs.Moments.{IsCall, CommandsPort}
 use Rattle.usb_hub.specs.Port.{PortRead}
 use Rattle.usb_hub.specs.Requests.{TouchesNoPort, TouchesPortsBelow, EndsAfter, Queried, Commanded}
 use Rattle.usb_hub.specs.Settings.{AddressAsked, ConfigurationAsked}
-use Rattle.usb_hub.proofs.Interface.{power_backlog, stays_as_same, stays-registers, stays-spec, stays_itself, stays_joined, keeps_devices_none}
+use Rattle.usb_hub.proofs.Interface.{power_backlog, stays_as_same, stays-registers, stays-spec}
+use Rattle.usb_hub.proofs.Interface.{stays_itself, stays_joined, keeps_devices_none}
 use Rattle.usb_enum.specs.Addresses.{IsSpare, Within, TakesAddress, OnlyCalls, AtPort}
 use Rattle.usb_enum.specs.Frames.{FoundAt, OnlyAsks, OnlyTells, StaysBut, OnlySets, OnlyAt}
 use Rattle.usb_backlog.specs.Marks.{KeepsAll}
 use Rattle.usb_backlog.specs.PortSettings.{gives_power}
 use Rattle.usb_backlog.proofs.Interface.{all_none, all_then, found_all, found_called, found_then}
 use Rattle.usb_enum.proofs.courses.Courses.{went_sound}
-use Rattle.usb_enum.proofs.devices.Enumerations.{Having, having, at_taking, within_none, within_then, within-keeps_addresses, within_kept, within_reset, within_given}
+use Rattle.usb_enum.proofs.devices.Enumerations.{Having, having, at_taking, within_none}
+use Rattle.usb_enum.proofs.devices.Enumerations.{within_then, within-keeps_addresses, within_kept}
+use Rattle.usb_enum.proofs.devices.Enumerations.{within_reset, within_given}
 use Rattle.usb_enum.proofs.readings.Readings.{devices_then}
 use Rattle.usb_enum.proofs.devices.SharedAddresses.{went_unshared}
 
 -- Where the bus is at work, it did not end a call
 
-pub fault_after-not_of_bus : {A : Type 0} (result : Result A PipeFault) (old new : World) → IfErr result (λ why. FaultAfter 1 old why new) → new.fault ≡ None → IsNoBusFault result
+pub fault_after-not_of_bus : {A : Type 0} (result : Result A PipeFault) (old new : World)
+    → IfErr result (λ why. FaultAfter 1 old why new) → new.fault ≡ None → IsNoBusFault result
 fault_after-not_of_bus (Ok x) old new ends none = tt
 fault_after-not_of_bus (Err Stalled) old new ends none = tt
 fault_after-not_of_bus (Err Busy) old new ends none = tt
@@ -61,16 +72,25 @@ fault_after-not_of_bus (Err Broken) old new ends none = tt
 fault_after-not_of_bus (Err (Bus fault)) old new ends none = absurd (cc (none, ends.told))
 fault_after-not_of_bus (Err Memory) old new ends none = tt
 
-pub ends_without_fault : {A : Type 0} (least : ℕ) (result : Result A PipeFault) (old new : World) → EndsAfter least old result new → new.fault ≡ None → IsNoBusFault result
+pub ends_without_fault : {A : Type 0} (least : ℕ) (result : Result A PipeFault) (old new : World)
+    → EndsAfter least old result new → new.fault ≡ None → IsNoBusFault result
 ends_without_fault least (Ok x) old new ends none = tt
-ends_without_fault {A} least (Err why) old new ends none = fault_after-not_of_bus {A = A} (Err why) old new ends none
+ends_without_fault {A} least (Err why) old new ends none =
+    fault_after-not_of_bus {A = A} (Err why) old new ends none
 
 -- Requests for data
 
 pub asks_none : (w : World) → OnlyAsks w w
-asks_none w = record { addresses = keeps_none w; devices = keeps_devices_none w; ports = λ none x. here w; backlog = λ none. all_none w }
+asks_none w = record {
+  addresses = keeps_none w;
+  devices = keeps_devices_none w;
+  ports =
+      λ none x. here w;
+  backlog = λ none. all_none w;
+}
 
-pub asks_then : (n : ℕ) (old mid new : World) {r s : Option (List ℕ)} → OnlyAsks old mid → StepRun n mid r new s → OnlyAsks mid new → OnlyAsks old new
+pub asks_then : (n : ℕ) (old mid new : World) {r s : Option (List ℕ)} → OnlyAsks old mid
+    → StepRun n mid r new s → OnlyAsks mid new → OnlyAsks old new
 asks_then n old mid new a went b = record {
   addresses = keeps_then old mid new a.addresses b.addresses;
   devices = devices_then n old mid new a.devices went b.devices;
@@ -78,30 +98,56 @@ asks_then n old mid new a went b = record {
   backlog = λ none. all_then (a.backlog (went_sound n mid new went none)) (b.backlog none);
 }
 
-pub answer_asks : {A X : Type 0} (given : Spec → Option X) (Has : State → A → Type 0) (t : Target) (request : Setup) (outcome : Result A PipeFault) (answer : Result (Vec ℕ) PipeFault) (old new : World)
-    → Queried t request old answer new → (new.shared ≡ false → EachWas (ReadAsked given Has t outcome) old new) → KeepsAddresses old new → OnlyAsks old new
+pub answer_asks : {A X : Type 0} (given : Spec → Option X) (Has : State → A → Type 0) (t : Target)
+    (request : Setup) (outcome : Result A PipeFault) (answer : Result (Vec ℕ) PipeFault)
+    (old new : World)
+    → Queried t request old answer new → (new.shared ≡ false
+    → EachWas (ReadAsked given Has t outcome) old new) → KeepsAddresses old new
+    → OnlyAsks old new
 answer_asks given Has t request outcome answer old new asked what keeps = record {
   addresses = keeps;
-  devices = record { stays = λ single. each_wider (ReadAsked given Has t outcome) StaysAs (λ j s v x. x.frame) old new (what single) };
+  devices = record {
+    stays = λ single. each_wider (ReadAsked given Has t outcome) StaysAs
+        (λ j s v x. x.frame) old new (what single);
+  };
   ports = λ none. asked.rests (ends_without_fault 3 answer old new asked.ends none);
   backlog = λ none. asked.backlog (ends_without_fault 3 answer old new asked.ends none);
 }
 
-pub text_asks : (given : Spec → Option (List ℕ)) (t : Target) (request : Setup) (wanted : ℕ) (outcome : Result (Vec ℕ) PipeFault) (old new : World)
-    → Queried t request old outcome new → (new.shared ≡ false → EachWas (TextAsked given t wanted outcome) old new) → KeepsAddresses old new → OnlyAsks old new
-text_asks given t request wanted outcome old new = answer_asks given (λ s bytes. HasText (given s.spec) t wanted s bytes.items) t request outcome outcome old new
+pub text_asks : (given : Spec → Option (List ℕ)) (t : Target) (request : Setup) (wanted : ℕ)
+    (outcome : Result (Vec ℕ) PipeFault) (old new : World)
+    → Queried t request old outcome new
+    → (new.shared ≡ false → EachWas (TextAsked given t wanted outcome) old new)
+    → KeepsAddresses old new → OnlyAsks old new
+text_asks given t request wanted outcome old new =
+    answer_asks given (λ s bytes. HasText (given s.spec) t wanted s bytes.items) t request outcome
+    outcome old new
 
 -- a port's status; that of a root port is a register
-pub status_asks : (port : HubPort) (outcome : Result PortStatus PipeFault) (old new : World) → PortRead port old outcome new → IfErr outcome (λ why. FaultAfter 1 old why new) → KeepsAsked port old outcome new → OnlyAsks old new
-status_asks port outcome old new read ends keeps = record { addresses = keeps.keeps; devices = keeps.devices; ports = by_port port read; backlog = by_backlog port read }
+pub status_asks : (port : HubPort) (outcome : Result PortStatus PipeFault) (old new : World)
+    → PortRead port old outcome new → IfErr outcome (λ why. FaultAfter 1 old why new)
+    → KeepsAsked port old outcome new → OnlyAsks old new
+status_asks port outcome old new read ends keeps =
+    record {
+      addresses = keeps.keeps;
+      devices = keeps.devices;
+      ports = by_port port read;
+      backlog =
+          by_backlog port read;
+    }
   where
-    by_port : (port : HubPort) → PortRead port old outcome new → new.fault ≡ None → TouchesNoPort old new
-    by_port (Root number) read none = λ x. subst (λ w. Course (LeavesPortAlone x) old w) (sym read.same) (here old)
-    by_port (External hub n) told none = told.asked.rests (ends_without_fault 3 told.answer old new told.asked.ends none)
+    by_port : (port : HubPort) → PortRead port old outcome new → new.fault ≡ None
+        → TouchesNoPort old new
+    by_port (Root number) read none = λ x. subst (λ w. Course (LeavesPortAlone x) old w)
+        (sym read.same) (here old)
+    by_port (External hub n) told none =
+        told.asked.rests (ends_without_fault 3 told.answer old new told.asked.ends none)
 
-    by_backlog : (port : HubPort) → PortRead port old outcome new → new.fault ≡ None → KeepsAll old new
+    by_backlog : (port : HubPort) → PortRead port old outcome new → new.fault ≡ None
+        → KeepsAll old new
     by_backlog (Root number) read none = subst (KeepsAll old) (sym read.same) (all_none old)
-    by_backlog (External hub n) told none = told.asked.backlog (ends_without_fault 3 told.answer old new told.asked.ends none)
+    by_backlog (External hub n) told none =
+        told.asked.backlog (ends_without_fault 3 told.answer old new told.asked.ends none)
 
 -- Requests to a hub about its ports
 
@@ -117,22 +163,30 @@ pub tells_none : (hub : ℕ) (w : World) → OnlyTells hub w w
 tells_none hub w = tells_asked hub w w (asks_none w)
 
 -- whoever is owned before a call is so after it
-owned_on : (f : AddressMap) (old new : World) → KeepsAddresses old new → new.fault ≡ None → MapHolds f old → MapHolds f new
-owned_on f old new keeps none own = (keeps.kept f (record { so = λ h. own; single = own.single })).so none
+owned_on : (f : AddressMap) (old new : World) → KeepsAddresses old new → new.fault ≡ None
+    → MapHolds f old → MapHolds f new
+owned_on f old new keeps none own =
+    (keeps.kept f (record { so = λ h. own; single = own.single })).so none
 
-rest_then : (address n : ℕ) (old mid new : World) {r s : Option (List ℕ)} → KeepsAddresses old mid → (mid.fault ≡ None → TouchesPortsBelow address old mid) → StepRun n mid r new s → (new.fault ≡ None → TouchesPortsBelow address mid new)
+rest_then : (address n : ℕ) (old mid new : World) {r s : Option (List ℕ)} → KeepsAddresses old mid
+    → (mid.fault ≡ None → TouchesPortsBelow address old mid) → StepRun n mid r new s
+    → (new.fault ≡ None → TouchesPortsBelow address mid new)
     → new.fault ≡ None → TouchesPortsBelow address old new
 rest_then address n old mid new keeps a went b none f q held own x apart =
     let sound = went_sound n mid new went none in
-    course_joined (a sound f q held own x apart) (b none f q held (owned_on f old mid keeps sound own) x apart)
+    course_joined (a sound f q held own x apart)
+    (b none f q held (owned_on f old mid keeps sound own) x apart)
 
-found_at_then : (address n : ℕ) (old mid new : World) {r s : Option (List ℕ)} → KeepsAddresses old mid → (mid.fault ≡ None → FoundAt address old mid) → StepRun n mid r new s → (new.fault ≡ None → FoundAt address mid new)
+found_at_then : (address n : ℕ) (old mid new : World) {r s : Option (List ℕ)}
+    → KeepsAddresses old mid → (mid.fault ≡ None → FoundAt address old mid) → StepRun n mid r new s
+    → (new.fault ≡ None → FoundAt address mid new)
     → new.fault ≡ None → FoundAt address old new
 found_at_then address n old mid new keeps a went b none f q held own =
     let sound = went_sound n mid new went none in
     found_then q (a sound f q held own) (b none f q held (owned_on f old mid keeps sound own))
 
-pub tells_then : (hub n : ℕ) (old mid new : World) {r s : Option (List ℕ)} → OnlyTells hub old mid → StepRun n mid r new s → OnlyTells hub mid new → OnlyTells hub old new
+pub tells_then : (hub n : ℕ) (old mid new : World) {r s : Option (List ℕ)} → OnlyTells hub old mid
+    → StepRun n mid r new s → OnlyTells hub mid new → OnlyTells hub old new
 tells_then hub n old mid new a went b = record {
   addresses = keeps_then old mid new a.addresses b.addresses;
   devices = devices_then n old mid new a.devices went b.devices;
@@ -141,25 +195,35 @@ tells_then hub n old mid new a went b = record {
 }
 
 -- PORT_POWER
-pub power_tells : (hub : Target) (port : ℕ) (old : World) (result : Result (Unit {0}) PipeFault) (new : World) → Commanded hub (set_port_feature PORT_POWER port) old result new → KeepsAddresses old new → KeepsDevices old new
+pub power_tells : (hub : Target) (port : ℕ) (old : World) (result : Result (Unit {0}) PipeFault)
+    (new : World) → Commanded hub (set_port_feature PORT_POWER port) old result new
+    → KeepsAddresses old new → KeepsDevices old new
     → OnlyTells hub.addr old new
 unfolding set_port_feature
 power_tells hub port old result new ordered keeps devices = record {
   addresses = keeps;
   devices = devices;
   ports = λ none. ordered.elsewhere refl (ends_without_fault 2 result old new ordered.ends none);
-  backlog = λ none f q held own. power_backlog hub f q old result new (ends_without_fault 2 result old new ordered.ends none) held own port ordered;
+  backlog = λ none f q held own. power_backlog hub f q old result new
+      (ends_without_fault 2 result old new ordered.ends none) held own port ordered;
 }
 
 -- SET_CONFIGURATION, and what goes before and after it
 
 stays_but : (address : ℕ) (j : Location) (s v : State) → StaysAs j s v → StaysBut address j s v
-stays_but address j s v x = record { spec = stays-spec s v x; same = ap (λ r. r.address) (stays-registers s v x); stays = λ apart. x }
+stays_but address j s v x = record {
+  spec = stays-spec s v x;
+  same =
+      ap (λ r. r.address) (stays-registers s v x);
+  stays = λ apart. x;
+}
 
-pub sets_told : (address : ℕ) (old new : World) → OnlyTells address old new → OnlySets address old new
+pub sets_told : (address : ℕ) (old new : World) → OnlyTells address old new
+    → OnlySets address old new
 sets_told address old new a = record {
   addresses = a.addresses;
-  devices = λ single. each_wider StaysAs (StaysBut address) (stays_but address) old new (a.devices.stays single);
+  devices = λ single. each_wider StaysAs (StaysBut address) (stays_but address) old new
+      (a.devices.stays single);
   ports = a.ports;
   backlog = a.backlog;
 }
@@ -170,45 +234,68 @@ sets_asked address old new a = sets_told address old new (tells_asked address ol
 pub sets_at : {m n : ℕ} → m ≡ n → (old new : World) → OnlySets m old new → OnlySets n old new
 sets_at same old new sets = subst (λ a. OnlySets a old new) same sets
 
-but_then : (address : ℕ) (j : Location) (s u v : State) → StaysBut address j s u → StaysBut address j u v → StaysBut address j s v
+but_then : (address : ℕ) (j : Location) (s u v : State) → StaysBut address j s u
+    → StaysBut address j u v → StaysBut address j s v
 but_then address j s u v x y = record {
   spec = y.spec ∙ x.spec;
   same = y.same ∙ x.same;
-  stays = λ apart. stays_joined j s u v (x.stays apart) (y.stays (ap (λ n. n == address) x.same ∙ apart));
+  stays = λ apart. stays_joined j s u v (x.stays apart)
+      (y.stays (ap (λ n. n == address) x.same ∙ apart));
 }
 
-pub sets_then : (address n : ℕ) (old mid new : World) {r s : Option (List ℕ)} → OnlySets address old mid → StepRun n mid r new s → OnlySets address mid new → OnlySets address old new
+pub sets_then : (address n : ℕ) (old mid new : World) {r s : Option (List ℕ)}
+    → OnlySets address old mid → StepRun n mid r new s → OnlySets address mid new
+    → OnlySets address old new
 sets_then address n old mid new a went b = record {
   addresses = keeps_then old mid new a.addresses b.addresses;
-  devices = λ single. each_joined (StaysBut address) (StaysBut address) (StaysBut address) (but_then address) old mid new (a.devices (went_unshared n mid new went single)) (b.devices single);
+  devices = λ single. each_joined (StaysBut address) (StaysBut address) (StaysBut address)
+      (but_then address) old mid new (a.devices (went_unshared n mid new went single))
+      (b.devices single);
   ports = rest_then address n old mid new a.addresses a.ports went b.ports;
   backlog = found_at_then address n old mid new a.addresses a.backlog went b.backlog;
 }
 
-pub configuration_sets : (t : Target) (value : ℕ) (result : Result (Unit {0}) PipeFault) (old new : World) → Commanded t (set_configuration value) old result new
-    → (new.shared ≡ false → EachWas (ConfigurationAsked t value result new) old new) → KeepsAddresses old new → OnlySets t.addr old new
+pub configuration_sets : (t : Target) (value : ℕ) (result : Result (Unit {0}) PipeFault)
+    (old new : World) → Commanded t (set_configuration value) old result new
+    → (new.shared ≡ false → EachWas (ConfigurationAsked t value result new) old new)
+    → KeepsAddresses old new → OnlySets t.addr old new
 unfolding set_configuration
 configuration_sets t value result old new ordered what keeps = record {
   addresses = keeps;
   devices = λ single.
       each_wider (ConfigurationAsked t value result new) (StaysBut t.addr)
-      (λ j s v x. record { spec = ap (λ y. y.spec) x.frame; same = ap (λ y. y.registers.address) x.frame; stays = λ apart. stays_as_same j s v (x.others apart) }) old new (what single);
+      (λ j s v x. record {
+        spec = ap (λ y. y.spec) x.frame;
+        same =
+            ap (λ y. y.registers.address) x.frame;
+        stays =
+            λ apart. stays_as_same j s v (x.others apart);
+      }) old new (what single);
   ports = λ none. ordered.elsewhere refl (ends_without_fault 2 result old new ordered.ends none);
-  backlog = λ none f q held own. found_all q (ordered.backlog refl (ends_without_fault 2 result old new ordered.ends none));
+  backlog = λ none f q held own. found_all q
+      (ordered.backlog refl (ends_without_fault 2 result old new ordered.ends none));
 }
 
 -- Calls at a port
 
-elsewhere_of : (p : List ℕ) (old new : World) → EachWas StaysAs old new → EachElsewhere p StaysAs old new
+elsewhere_of : (p : List ℕ) (old new : World) → EachWas StaysAs old new
+    → EachElsewhere p StaysAs old new
 elsewhere_of p old new was j s apart on there = was j s on there
 
-settings_elsewhere_then : (p : List ℕ) (old mid new : World) → EachElsewhere p StaysAs old mid → EachElsewhere p StaysAs mid new → EachElsewhere p StaysAs old new
+settings_elsewhere_then : (p : List ℕ) (old mid new : World) → EachElsewhere p StaysAs old mid
+    → EachElsewhere p StaysAs mid new → EachElsewhere p StaysAs old new
 settings_elsewhere_then p old mid new a b j s apart on there =
     let later : Was StaysAs mid j s = b j s apart on there in
     let sooner : Was StaysAs old j later.before = a j later.before apart later.on later.stands in
-    record { before = sooner.before; on = sooner.on; stands = sooner.stands; so = stays_joined j sooner.before later.before s sooner.so later.so }
+    record {
+      before = sooner.before;
+      on = sooner.on;
+      stands = sooner.stands;
+      so = stays_joined j sooner.before later.before s sooner.so later.so;
+    }
 
-only_at_then : (p : List ℕ) (old mid new : World) → OnlyAt p old mid → OnlyAt p mid new → OnlyAt p old new
+only_at_then : (p : List ℕ) (old mid new : World) → OnlyAt p old mid → OnlyAt p mid new
+    → OnlyAt p old new
 only_at_then p old mid new a b = record {
   others = λ x apart. course_joined (a.others x apart) (b.others x apart);
   spares = course_joined a.spares b.spares;
@@ -217,49 +304,86 @@ only_at_then p old mid new a b = record {
 }
 
 -- where nothing was asked of any port
-only_at_rest : (p : List ℕ) (old new : World) → TouchesNoPort old new → KeepsAll old new → EachElsewhere p StaysAs old new → OnlyAt p old new
-only_at_rest p old new rests backlog devices = record { others = λ x apart. rests x; spares = course_wider (λ s w k. k.spares) (rests p); devices = devices; backlog = found_all p backlog }
+only_at_rest : (p : List ℕ) (old new : World) → TouchesNoPort old new → KeepsAll old new
+    → EachElsewhere p StaysAs old new → OnlyAt p old new
+only_at_rest p old new rests backlog devices =
+    record {
+      others = λ x apart. rests x;
+      spares = course_wider (λ s w k. k.spares) (rests p);
+      devices = devices;
+      backlog = found_all p backlog;
+    }
 
 pub calls_none : (port : HubPort) (address : ℕ) (w : World) → OnlyCalls port address w w
-calls_none port address w = record { at = λ f p spare t none. only_at_rest p w w (λ x. here w) (all_none w) (elsewhere_of p w w (each_none StaysAs stays_itself w)) }
-
-pub at_port_none : (port : HubPort) (address : ℕ) (w : World) → AtPort port address w w
-at_port_none port address w = record { within = within_none port address w; only = calls_none port address w }
-
-pub calls_then : (port : HubPort) (address n : ℕ) (old mid new : World) {r s : Option (List ℕ)} → AtPort port address old mid → StepRun n mid r new s → OnlyCalls port address mid new → OnlyCalls port address old new
-calls_then port address n old mid new a went b = record {
-  at = λ f p spare t none. only_at_then p old mid new (a.only.at f p spare t (went_sound n mid new went none)) (b.at f p spare (a.within.stays f p spare t) none);
+calls_none port address w = record {
+  at =
+      λ f p spare t none. only_at_rest p w w (λ x. here w) (all_none w)
+      (elsewhere_of p w w (each_none StaysAs stays_itself w));
 }
 
-pub at_port_then : (port : HubPort) (address n : ℕ) (old mid new : World) {r s : Option (List ℕ)} → AtPort port address old mid → StepRun n mid r new s → AtPort port address mid new → AtPort port address old new
+pub at_port_none : (port : HubPort) (address : ℕ) (w : World) → AtPort port address w w
+at_port_none port address w = record {
+  within = within_none port address w;
+  only =
+      calls_none port address w;
+}
+
+pub calls_then : (port : HubPort) (address n : ℕ) (old mid new : World) {r s : Option (List ℕ)}
+    → AtPort port address old mid → StepRun n mid r new s → OnlyCalls port address mid new
+    → OnlyCalls port address old new
+calls_then port address n old mid new a went b = record {
+  at = λ f p spare t none. only_at_then p old mid new
+      (a.only.at f p spare t (went_sound n mid new went none))
+      (b.at f p spare (a.within.stays f p spare t) none);
+}
+
+pub at_port_then : (port : HubPort) (address n : ℕ) (old mid new : World) {r s : Option (List ℕ)}
+    → AtPort port address old mid → StepRun n mid r new s → AtPort port address mid new
+    → AtPort port address old new
 at_port_then port address n old mid new a went b = record {
   within = within_then port address old mid new a.within b.within;
   only = calls_then port address n old mid new a went b.only;
 }
 
 -- a request for data at any time
-pub at_asked : (port : HubPort) (address : ℕ) (old new : World) → OnlyAsks old new → AtPort port address old new
+pub at_asked : (port : HubPort) (address : ℕ) (old new : World) → OnlyAsks old new
+    → AtPort port address old new
 at_asked port address old new asks = record {
   within = within_kept port address old new asks.addresses;
   only = record {
     at = λ f p spare t none.
-        only_at_rest p old new (asks.ports none) (asks.backlog none) (elsewhere_of p old new (asks.devices.stays ((within_kept port address old new asks.addresses).stays f p spare t).single));
+        only_at_rest p old new (asks.ports none) (asks.backlog none)
+        (elsewhere_of p old new (asks.devices.stays
+        ((within_kept port address old new asks.addresses).stays f p spare t).single));
   };
 }
 
 -- only the port that is being enumerated may claim address 0
-zero_there : (f : AddressMap) (p : List ℕ) (has : ℕ) → Unused f 0 → (x : List ℕ) → after_taking f p has x ≡ Some 0 → is_way p x ≡ true
-zero_there f p has none x e = subst (λ y. is_way p y ≡ true) (sym (after_taking-zero f p has x none e)) (is_way-same_path p p (self_path p))
+zero_there : (f : AddressMap) (p : List ℕ) (has : ℕ) → Unused f 0 → (x : List ℕ)
+    → after_taking f p has x ≡ Some 0 → is_way p x ≡ true
+zero_there f p has none x e = subst (λ y. is_way p y ≡ true)
+    (sym (after_taking-zero f p has x none e)) (is_way-same_path p p (self_path p))
 
 -- the call is one at the port of the path
-pub called_is : (f : AddressMap) (port : HubPort) (p : List ℕ) (address : ℕ) (w : World) → IsSpare f port p address → (h : Having f p address w) → (call : Option PortCall) (c : PortCall) → call ≡ Some c
+pub called_is : (f : AddressMap) (port : HubPort) (p : List ℕ) (address : ℕ) (w : World)
+    → IsSpare f port p address → (h : Having f p address w)
+    → (call : Option PortCall) (c : PortCall) → call ≡ Some c
     → IsCall (after_taking f p h.has) port p call c w
-called_is f port p address w spare h call c is = record { at = at_taking f port p h.has spare.at; is = is; alone = λ r. zero_there f p h.has spare.none; owned = h.owned }
+called_is f port p address w spare h call c is = record {
+  at = at_taking f port p h.has spare.at;
+  is = is;
+  alone = λ r. zero_there f p h.has spare.none;
+  owned = h.owned;
+}
 
 -- a call that clears nothing that is pending at the port
-module _ (port : HubPort) (address : ℕ) (call : Option PortCall) (c : PortCall) (is : call ≡ Some c) (spared : keeps_pending c [] ≡ true) (quiet : gives_power c ≡ false) (old : World) (result : Result (Unit {0}) PipeFault) (new : World)
-    (ends : IfErr result (λ why. FaultAfter 1 old why new)) (calls : CommandsPort port call old result new) where
-  called_at : (f : AddressMap) (p : List ℕ) → IsSpare f port p address → WhileBusWorks (Enumerating f p address) old → new.fault ≡ None
+module _ (port : HubPort) (address : ℕ) (call : Option PortCall) (c : PortCall) (is : call ≡ Some c)
+    (spared : keeps_pending c [] ≡ true) (quiet : gives_power c ≡ false) (old : World)
+    (result : Result (Unit {0}) PipeFault) (new : World)
+    (ends : IfErr result (λ why. FaultAfter 1 old why new))
+    (calls : CommandsPort port call old result new) where
+  called_at : (f : AddressMap) (p : List ℕ) → IsSpare f port p address
+      → WhileBusWorks (Enumerating f p address) old → new.fault ≡ None
       → ((h : Having f p address old) → EachElsewhere p StaysAs old new) → OnlyAt p old new
   called_at f p spare t none devices =
       let h = having f p address old t in
@@ -274,42 +398,63 @@ module _ (port : HubPort) (address : ℕ) (call : Option PortCall) (c : PortCall
       }
 
 -- the clearing of a change bit or of PORT_ENABLE
-clear_calls : (port : HubPort) (address : ℕ) (call : Option PortCall) (c : PortCall) → call ≡ Some c → keeps_pending c [] ≡ true → gives_power c ≡ false → (feature : ℕ) (old : World) (result : Result (Unit {0}) PipeFault) (new : World)
-    → IfErr result (λ why. FaultAfter 1 old why new) → CommandsPort port call old result new → KeepsCleared port feature old result new → OnlyCalls port address old new
+clear_calls : (port : HubPort) (address : ℕ) (call : Option PortCall) (c : PortCall) → call ≡ Some c
+    → keeps_pending c [] ≡ true → gives_power c ≡ false
+    → (feature : ℕ) (old : World) (result : Result (Unit {0}) PipeFault) (new : World)
+    → IfErr result (λ why. FaultAfter 1 old why new) → CommandsPort port call old result new
+    → KeepsCleared port feature old result new → OnlyCalls port address old new
 clear_calls port address call c is spared quiet feature old result new ends calls keeps = record {
   at = λ f p spare t none.
       called_at port address call c is spared quiet old result new ends calls f p spare t none
-      (λ h. elsewhere_of p old new (keeps.devices.stays (keeps.keeps.kept (after_taking f p h.has) h.owned).single));
+      (λ h. elsewhere_of p old new (keeps.devices.stays
+      (keeps.keeps.kept (after_taking f p h.has) h.owned).single));
 }
 
 -- C_PORT_RESET
-pub at_reset_cleared : (port : HubPort) (address : ℕ) (old : World) (result : Result (Unit {0}) PipeFault) (new : World)
-    → IfErr result (λ why. FaultAfter 1 old why new) → CommandsPort port (clear_call C_PORT_RESET) old result new → KeepsCleared port C_PORT_RESET old result new → AtPort port address old new
+pub at_reset_cleared : (port : HubPort) (address : ℕ) (old : World)
+    (result : Result (Unit {0}) PipeFault) (new : World)
+    → IfErr result (λ why. FaultAfter 1 old why new)
+    → CommandsPort port (clear_call C_PORT_RESET) old result new
+    → KeepsCleared port C_PORT_RESET old result new → AtPort port address old new
 at_reset_cleared port address old result new ends calls keeps = record {
   within = within_kept port address old new keeps.keeps;
-  only = clear_calls port address (clear_call C_PORT_RESET) ClearResetChange refl refl refl 20 old result new ends calls keeps;
+  only = clear_calls port address (clear_call C_PORT_RESET) ClearResetChange refl refl refl 20 old
+      result new ends calls keeps;
 }
 
 -- PORT_ENABLE
-pub disable_calls : (port : HubPort) (address : ℕ) (old : World) (result : Result (Unit {0}) PipeFault) (new : World)
-    → IfErr result (λ why. FaultAfter 1 old why new) → CommandsPort port (clear_call PORT_ENABLE) old result new → KeepsCleared port PORT_ENABLE old result new → OnlyCalls port address old new
-disable_calls port address old result new ends calls keeps = clear_calls port address (clear_call PORT_ENABLE) ClearEnable refl refl refl 1 old result new ends calls keeps
+pub disable_calls : (port : HubPort) (address : ℕ) (old : World)
+    (result : Result (Unit {0}) PipeFault) (new : World)
+    → IfErr result (λ why. FaultAfter 1 old why new)
+    → CommandsPort port (clear_call PORT_ENABLE) old result new
+    → KeepsCleared port PORT_ENABLE old result new → OnlyCalls port address old new
+disable_calls port address old result new ends calls keeps =
+    clear_calls port address (clear_call PORT_ENABLE) ClearEnable refl refl refl 1 old result new
+    ends calls keeps
 
 -- PORT_RESET
-pub reset_calls : (port : HubPort) (address : ℕ) (old : World) (result : Result (Unit {0}) PipeFault) (new : World)
-    → IfErr result (λ why. FaultAfter 1 old why new) → CommandsPort port (set_call PORT_RESET) old result new → Resets port old new → OnlyCalls port address old new
+pub reset_calls : (port : HubPort) (address : ℕ) (old : World)
+    (result : Result (Unit {0}) PipeFault) (new : World)
+    → IfErr result (λ why. FaultAfter 1 old why new)
+    → CommandsPort port (set_call PORT_RESET) old result new → Resets port old new
+    → OnlyCalls port address old new
 reset_calls port address old result new ends calls resets = record {
   at = λ f p spare t none.
-      called_at port address (set_call PORT_RESET) SetReset refl refl refl old result new ends calls f p spare t none
-      (λ h. resets.others (after_taking f p h.has) p (at_taking f port p h.has spare.at) (zero_there f p h.has spare.none) h.owned none);
+      called_at port address (set_call PORT_RESET) SetReset refl refl refl old result new ends calls
+      f p spare t none
+      (λ h. resets.others (after_taking f p h.has) p (at_taking f port p h.has spare.at)
+      (zero_there f p h.has spare.none) h.owned none);
 }
 
-pub at_reset : (port : HubPort) (address : ℕ) (old new : World) → Resets port old new → OnlyCalls port address old new → AtPort port address old new
-at_reset port address old new resets only = record { within = within_reset port address old new resets; only = only }
+pub at_reset : (port : HubPort) (address : ℕ) (old new : World) → Resets port old new
+    → OnlyCalls port address old new → AtPort port address old new
+at_reset port address old new resets only =
+    record { within = within_reset port address old new resets; only = only }
 
 -- What is claimed elsewhere than at the port
 
-pub but_taken : (f : AddressMap) (p : List ℕ) (a : ℕ) (x : List ℕ) → is_way p x ≡ false → after_taking f p a x ≡ f x
+pub but_taken : (f : AddressMap) (p : List ℕ) (a : ℕ) (x : List ℕ) → is_way p x ≡ false
+    → after_taking f p a x ≡ f x
 but_taken f p a x off = split (same_path p x) refl
   where
     split : (same : Bool) → same_path p x ≡ same → (if same then Some a else f x) ≡ f x
@@ -317,52 +462,85 @@ but_taken f p a x off = split (same_path p x) refl
     split false e = refl
 
 -- no device elsewhere has an address that is not claimed
-unheld : (f : AddressMap) (p : List ℕ) (has n : ℕ) (w : World) → MapHolds (after_taking f p has) w → Unused f n
-    → (j : Location) (s : State) → is_way p (path_to j) ≡ false → reach_on w.roots j ≡ true → state_on w.roots j ≡ Some s → (address_of s == n) ≡ false
+unheld : (f : AddressMap) (p : List ℕ) (has n : ℕ) (w : World) → MapHolds (after_taking f p has) w
+    → Unused f n
+    → (j : Location) (s : State) → is_way p (path_to j) ≡ false → reach_on w.roots j ≡ true
+    → state_on w.roots j ≡ Some s → (address_of s == n) ≡ false
 unheld f p has n w own unused j s apart on there = pick (decided (address_of s == n))
   where
-    pick : ((address_of s == n) ≡ true) ⊎ ((address_of s == n) ≡ false) → (address_of s == n) ≡ false
+    pick : ((address_of s == n) ≡ true) ⊎ ((address_of s == n) ≡ false)
+        → (address_of s == n) ≡ false
     pick (inl e) =
-        elim (unused (path_to j) (sym (but_taken f p has (path_to j) apart) ∙ sym (own.own (path_to j) on) ∙ ap (option_map address_of) there ∙ ap (λ m. Some m) (equal_same (address_of s) n e))) [ ]
+        elim (unused (path_to j) (sym (but_taken f p has (path_to j) apart)
+        ∙ sym (own.own (path_to j) on) ∙ ap (option_map address_of) there
+        ∙ ap (λ m. Some m) (equal_same (address_of s) n e))) [ ]
     pick (inr e) = e
 
 -- so a call that changes only a device at such an address leaves those elsewhere as they were
-module _ (f : AddressMap) (p : List ℕ) (has n : ℕ) (old new : World) (own : MapHolds (after_taking f p has) old) (unused : Unused f n) where
-  unheld_stays : (R : Relation) → ((j : Location) (s v : State) → R j s v → (address_of s == n) ≡ false → StaysAs j s v) → EachWas R old new → EachElsewhere p StaysAs old new
+module _ (f : AddressMap) (p : List ℕ) (has n : ℕ) (old new : World)
+    (own : MapHolds (after_taking f p has) old) (unused : Unused f n) where
+  unheld_stays : (R : Relation) → ((j : Location) (s v : State) → R j s v
+      → (address_of s == n) ≡ false → StaysAs j s v) → EachWas R old new
+      → EachElsewhere p StaysAs old new
   unheld_stays R stays was j s apart on there =
       let w : Was R old j s = was j s on there in
-      record { before = w.before; on = w.on; stands = w.stands; so = stays j w.before s w.so (unheld f p has n old own unused j w.before apart w.on w.stands) }
+      record {
+        before = w.before;
+        on = w.on;
+        stands = w.stands;
+        so = stays j w.before s w.so (unheld f p has n old own unused j w.before apart w.on
+            w.stands);
+      }
 
 -- SET_ADDRESS, at address 0
-pub at_addressed : (port : HubPort) (address m : ℕ) (target : Target) (result : Result (Unit {0}) PipeFault) (old mid new : World) {r s : Option (List ℕ)} → AtPort port address old mid → target.addr ≡ 0 → 1 ≤ address
-    → StepRun m mid r new s → Commanded target (set_address address) mid result new → (new.shared ≡ false → EachWas (AddressAsked target address result mid new) mid new) → GivesAddress target.addr address mid new
+pub at_addressed : (port : HubPort) (address m : ℕ) (target : Target)
+    (result : Result (Unit {0}) PipeFault) (old mid new : World) {r s : Option (List ℕ)}
+    → AtPort port address old mid → target.addr ≡ 0 → 1 ≤ address
+    → StepRun m mid r new s → Commanded target (set_address address) mid result new
+    → (new.shared ≡ false → EachWas (AddressAsked target address result mid new) mid new)
+    → GivesAddress target.addr address mid new
     → AtPort port address old new
 unfolding set_address
-at_addressed port address m target result old mid new at zero_is least went ordered what gives = at_port_then port address m old mid new at went (record { within = within; only = record { at = only } })
+at_addressed port address m target result old mid new at zero_is least went ordered what gives =
+    at_port_then port address m old mid new at went
+    (record { within = within; only = record { at = only } })
   where
     within : Within port address mid new
     within = within_given port target.addr address mid new zero_is least gives
 
-    only : (f : AddressMap) (p : List ℕ) → IsSpare f port p address → WhileBusWorks (Enumerating f p address) mid → new.fault ≡ None → OnlyAt p mid new
+    only : (f : AddressMap) (p : List ℕ) → IsSpare f port p address
+        → WhileBusWorks (Enumerating f p address) mid → new.fault ≡ None → OnlyAt p mid new
     only f p spare t none =
         let h = having f p address mid t in
         let sound = went_sound m mid new went none in
-        only_at_rest p mid new (ordered.rests refl (ends_without_fault 2 result mid new ordered.ends none)) (ordered.backlog refl (ends_without_fault 2 result mid new ordered.ends none))
-        (unheld_stays f p h.has 0 mid new (h.owned.so sound) spare.none (AddressAsked target address result mid new)
-        (λ j s v x apart. stays_as_same j s v (x.others (ap (λ a. address_of s == a) zero_is ∙ apart)))
+        only_at_rest p mid new (ordered.rests refl (ends_without_fault 2 result mid new ordered.ends
+        none)) (ordered.backlog refl (ends_without_fault 2 result mid new ordered.ends
+        none))
+        (unheld_stays f p h.has 0 mid new (h.owned.so sound) spare.none
+        (AddressAsked target address result mid new)
+        (λ j s v x apart. stays_as_same j s v (x.others (ap (λ a. address_of s == a) zero_is
+        ∙ apart)))
         (what (within.stays f p spare t).single))
 
-pub held_there : (f : AddressMap) (p : List ℕ) (address : ℕ) → after_taking f p address p ≡ Some address
+pub held_there : (f : AddressMap) (p : List ℕ) (address : ℕ)
+    → after_taking f p address p ≡ Some address
 held_there f p address = ap (λ b. if b then Some address else f p) (self_path p)
 
 pub is_above-self : (p : List ℕ) → is_above p p ≡ false
 is_above-self p = ap (λ b. is_way p p && not b) (self_path p) ∙ and_false (is_way p p)
 
 -- what comes after the device has its address
-pub at_configured : (port : HubPort) (address n : ℕ) (old mid new : World) {r s : Option (List ℕ)} → AtPort port address old mid → TakesAddress port address old mid → StepRun n mid r new s → OnlySets address mid new → AtPort port address old new
-at_configured port address n old mid new at takes went sets = record { within = within-keeps_addresses port address old mid new at.within sets.addresses; only = record { at = only } }
+pub at_configured : (port : HubPort) (address n : ℕ) (old mid new : World) {r s : Option (List ℕ)}
+    → AtPort port address old mid → TakesAddress port address old mid → StepRun n mid r new s
+    → OnlySets address mid new → AtPort port address old new
+at_configured port address n old mid new at takes went sets =
+    record {
+      within = within-keeps_addresses port address old mid new at.within sets.addresses;
+      only = record { at = only };
+    }
   where
-    only : (f : AddressMap) (p : List ℕ) → IsSpare f port p address → WhileBusWorks (Enumerating f p address) old → new.fault ≡ None → OnlyAt p old new
+    only : (f : AddressMap) (p : List ℕ) → IsSpare f port p address
+        → WhileBusWorks (Enumerating f p address) old → new.fault ≡ None → OnlyAt p old new
     only f p spare t none =
         let sound = went_sound n mid new went none in
         let taken = takes.took f p spare t in
@@ -371,6 +549,8 @@ at_configured port address n old mid new at takes went sets = record { within = 
         only_at_then p old mid new (at.only.at f p spare t sound) (record {
           others = λ x apart. rests x (ap (λ b. b && not (same_path p x)) apart);
           spares = course_wider (λ s w k. k.spares) (rests p (is_above-self p));
-          devices = unheld_stays f p address address mid new own spare.spare (StaysBut address) (λ j s v x apart. x.stays apart) (sets.devices (sets.addresses.kept (after_taking f p address) taken).single);
+          devices = unheld_stays f p address address mid new own spare.spare (StaysBut address)
+              (λ j s v x apart. x.stays apart)
+              (sets.devices (sets.addresses.kept (after_taking f p address) taken).single);
           backlog = sets.backlog none (after_taking f p address) p (held_there f p address) own;
         })

@@ -1,5 +1,7 @@
 -- What is so of the device at a port, from one call to the next.
-use Rattle.std.proofs.Common.{◌≡◌, ◌⊎◌, inl, inr, ℕ, zero, suc, ◌&&◌, Bool, true, false, List, [], ◌∷◌, Option, None, Some, option_map, Ok, if◌then◌else◌, refl, ap, sym, subst, ◌∙◌}
+use Rattle.std.proofs.Common.{◌≡◌, ◌⊎◌, inl, inr, ℕ, zero, suc, ◌&&◌, Bool, true, false, List, []}
+use Rattle.std.proofs.Common.{◌∷◌, Option, None, Some, option_map, Ok, if◌then◌else◌, refl, ap, sym}
+use Rattle.std.proofs.Common.{subst, ◌∙◌}
 use Rattle.std.proofs.lemmas.Bool.{eq-eqb}
 use Rattle.std.proofs.lemmas.Option.{same_Some}
 use Rattle.usb_port.specs.PortState.{PortState, is_low, is_attached, speed_of}
@@ -7,7 +9,8 @@ use Rattle.usb_port.specs.Status.{seen}
 use Rattle.usb_port.specs.declared.status.PortStatus.{PortStatus}
 use Rattle.usb_device.specs.Rows.{State}
 use Rattle.usb_device.specs.Spec.{Spec}
-use Rattle.usb_device.specs.Tree.{Ports, ended, vacant, taken, reach, reach_at, state_at, port_at, Location}
+use Rattle.usb_device.specs.Tree.{Ports, ended, vacant, taken, reach, reach_at, state_at, port_at}
+use Rattle.usb_device.specs.Tree.{Location}
 use Rattle.usb_device.specs.View.{state_there, port_there}
 use Rattle.usb_world.specs.Addresses.{after_taking}
 use Rattle.usb_tree.specs.Paths.{address_of, same_path}
@@ -16,7 +19,8 @@ use Rattle.usb_world.specs.PlanCourses.{spec_of}
 use Rattle.usb_world.specs.SanePorts.{IsSanePort, Consistent}
 use Rattle.usb_world.specs.Steps.{AnyStep, Course}
 use Rattle.usb_world.specs.World.{World}
-use Rattle.usb_world.proofs.Interface.{between_course, course_wider, each_wider, same_device, undisturbed_keeps}
+use Rattle.usb_world.proofs.Interface.{between_course, course_wider, each_wider, same_device}
+use Rattle.usb_world.proofs.Interface.{undisturbed_keeps}
 use Rattle.usb_tree.proofs.Interface.{both, false_true, self_path}
 use Rattle.usb_bus.specs.Traces.{StepRun}
 use Rattle.usb_transaction.specs.declared.target.Target.{Target}
@@ -31,10 +35,12 @@ use Rattle.usb_enum.specs.declared.addressed.Addressed.{Addressed}
 use Rattle.usb_enum.specs.Addresses.{IsSpare, Within}
 use Rattle.usb_enum.specs.Calls.{StatusAt}
 use Rattle.usb_enum.specs.LearnedFacts.{Learned}
-use Rattle.usb_enum.specs.PresentDevices.{AnswersSo, IsRegular, AtPath, Finds, HasDescriptor, HasHead, HasSpeed, IsAddressed, AwaitsAddress}
+use Rattle.usb_enum.specs.PresentDevices.{AnswersSo, IsRegular, AtPath, Finds, HasDescriptor}
+use Rattle.usb_enum.specs.PresentDevices.{HasHead, HasSpeed, IsAddressed, AwaitsAddress}
 use Rattle.usb_enum.specs.Readings.{AtMaximum}
 use Rattle.usb_enum.proofs.courses.Courses.{went_sound, went_regular}
-use Rattle.usb_enum.proofs.devices.Enumerations.{having, at_taking, within-keeps_addresses, within_reset}
+use Rattle.usb_enum.proofs.devices.Enumerations.{having, at_taking, within-keeps_addresses}
+use Rattle.usb_enum.proofs.devices.Enumerations.{within_reset}
 use Rattle.usb_enum.proofs.readings.Heads.{head_packet}
 use Rattle.usb_enum.proofs.devices.ReachedDevices.{done_at}
 
@@ -48,16 +54,25 @@ pub record StoodReached (p : List ℕ) (w : World) (R : State → Type 0) : Type
   pub so : R before
 
 -- whoever is reachable at the path was so before
-pub stood_before : (R : Relation) (p : List ℕ) (old new : World) → EachWas R old new → (v : State) → reach new.roots p ≡ true → state_there new.roots p ≡ Some v
+pub stood_before : (R : Relation) (p : List ℕ) (old new : World) → EachWas R old new → (v : State)
+    → reach new.roots p ≡ true → state_there new.roots p ≡ Some v
     → StoodReached p old (λ s. (x : Location) × R x s v)
 stood_before R [] old new was v on there = false_true on
 stood_before R (zero ∷ p) old new was v on there = false_true on
 stood_before R (suc j ∷ p) old new was v on there =
-    let w : Was R old (record { row = j; rest = p }) v = was (record { row = j; rest = p }) v on there in
-    record { before = w.before; on = w.on; stands = w.stands; so = (record { row = j; rest = p }, w.so) }
+    let w : Was R old (record { row = j; rest = p }) v =
+    was (record { row = j; rest = p }) v on there in
+    record {
+      before = w.before;
+      on = w.on;
+      stands = w.stands;
+      so = (record { row = j; rest = p }, w.so);
+    }
 
 -- what was so of it stays so, as the call tells
-pub path_on : (R : Relation) (A B : State → Type 0) → ((j : Location) (s v : State) → R j s v → A s → B v) → (p : List ℕ) (old new : World) → EachWas R old new → AtPath A p old → AtPath B p new
+pub path_on : (R : Relation) (A B : State → Type 0)
+    → ((j : Location) (s v : State) → R j s v → A s → B v) → (p : List ℕ) (old new : World)
+    → EachWas R old new → AtPath A p old → AtPath B p new
 path_on R A B f p old new was a v on there =
     let s = stood_before R p old new was v on there in
     f s.so.0 s.before v s.so.1 (a s.before s.on s.stands)
@@ -68,12 +83,16 @@ low_of : (b : Bool) → is_low (speed_of b) ≡ b
 low_of true = refl
 low_of false = refl
 
-port_speed : (b : PortState) (s : State) → IsSanePort b → b.attached ≡ speed_of s.spec.low → b.enable ≡ true → (seen b).low_speed ≡ s.spec.low
+port_speed : (b : PortState) (s : State) → IsSanePort b → b.attached ≡ speed_of s.spec.low
+    → b.enable ≡ true → (seen b).low_speed ≡ s.spec.low
 port_speed b s sane attached on =
-    ap (λ x. x && is_low b.attached) (both b.power (is_attached b.attached) (sane.enabled on)).0 ∙ ap is_low attached ∙ low_of s.spec.low
+    ap (λ x. x && is_low b.attached) (both b.power (is_attached b.attached) (sane.enabled on)).0
+    ∙ ap is_low attached ∙ low_of s.spec.low
 
 -- where a port stands and a reachable device on it
-seen_speed : (k : Ports) (i : ℕ) (p : List ℕ) (b : PortState) (s : State) → Consistent k → reach_at k i p ≡ true → port_at k i p ≡ Some b → state_at k i p ≡ Some s → (seen b).low_speed ≡ s.spec.low
+seen_speed : (k : Ports) (i : ℕ) (p : List ℕ) (b : PortState) (s : State) → Consistent k
+    → reach_at k i p ≡ true → port_at k i p ≡ Some b → state_at k i p ≡ Some s
+    → (seen b).low_speed ≡ s.spec.low
 unfolding Consistent reach_at port_at state_at
 seen_speed ended i p c s h on port stands = false_true on
 seen_speed (vacant b k) zero p c s h on port stands = false_true on
@@ -81,51 +100,73 @@ seen_speed (vacant b k) (suc i) p c s h on port stands = seen_speed k i p c s h.
 seen_speed (taken b z a k) zero [] c s h on port stands =
     let same_port = same_Some b c port in
     let same_state = same_Some z s stands in
-    ap (λ x. (seen x).low_speed) (sym same_port) ∙ port_speed b z h.0 h.1 on ∙ ap (λ x. x.spec.low) same_state
+    ap (λ x. (seen x).low_speed) (sym same_port) ∙ port_speed b z h.0 h.1 on
+    ∙ ap (λ x. x.spec.low) same_state
 seen_speed (taken b z a k) zero (zero ∷ p) c s h on port stands = false_true on
-seen_speed (taken b z a k) zero (suc j ∷ p) c s h on port stands = seen_speed a j p c s h.2 (both b.enable (reach_at a j p) on).1 port stands
+seen_speed (taken b z a k) zero (suc j ∷ p) c s h on port stands =
+    seen_speed a j p c s h.2 (both b.enable (reach_at a j p) on).1 port stands
 seen_speed (taken b z a k) (suc i) p c s h on port stands = seen_speed k i p c s h.3 on port stands
 
-seen_there : (k : Ports) (p : List ℕ) (b : PortState) (s : State) → Consistent k → reach k p ≡ true → port_there k p ≡ Some b → state_there k p ≡ Some s → (seen b).low_speed ≡ s.spec.low
+seen_there : (k : Ports) (p : List ℕ) (b : PortState) (s : State) → Consistent k → reach k p ≡ true
+    → port_there k p ≡ Some b → state_there k p ≡ Some s → (seen b).low_speed ≡ s.spec.low
 seen_there k [] b s h on port stands = false_true on
 seen_there k (zero ∷ p) b s h on port stands = false_true on
 seen_there k (suc i ∷ p) b s h on port stands = seen_speed k i p b s h on port stands
 
 -- a state of the same description
-spec_of-some : (o : Option State) (spec : Spec) → option_map spec_of o ≡ Some spec → (s : State) × ((o ≡ Some s) × (s.spec ≡ spec))
+spec_of-some : (o : Option State) (spec : Spec) → option_map spec_of o ≡ Some spec → (s : State)
+    × ((o ≡ Some s) × (s.spec ≡ spec))
 spec_of-some None spec e = absurd cc
 spec_of-some (Some s) spec e = (s, (refl, same_Some s.spec spec e))
 
 -- the status that was told is that of the port of the device that is reachable in the end
-pub told_speed : (p : List ℕ) (status : PortStatus) (old new : World) → PortStatusAt p status old new → old.fault ≡ None → IsRegular old → AtPath (HasSpeed status.low_speed) p new
+pub told_speed : (p : List ℕ) (status : PortStatus) (old new : World)
+    → PortStatusAt p status old new → old.fault ≡ None → IsRegular old
+    → AtPath (HasSpeed status.low_speed) p new
 told_speed p status old new told none order v on there =
     let to_now : Course AnyStep old told.now = course_wider (λ s w x. tt) (told.before p) in
     let since : Course AnyStep told.now new = course_wider (λ s w x. tt) (told.since p) in
     let same = same_device p (course_wider (λ s w x. x.rests) (told.since p)) on in
-    let was = spec_of-some (state_there told.now.roots p) v.spec (sym (undisturbed_keeps p told.now new since same.1) ∙ ap (option_map spec_of) there) in
+    let was = spec_of-some (state_there told.now.roots p) v.spec
+    (sym (undisturbed_keeps p told.now new since same.1) ∙ ap (option_map spec_of) there) in
     let sane = (between_course to_now (order none)).sane in
-    sym (seen_there told.now.roots p told.port was.0 sane same.0 told.stood was.1.0 ∙ ap (λ x. x.low) was.1.1) ∙ ap (λ x. x.low_speed) (sym told.is)
+    sym (seen_there told.now.roots p told.port was.0 sane same.0 told.stood was.1.0
+    ∙ ap (λ x. x.low) was.1.1) ∙ ap (λ x. x.low_speed) (sym told.is)
 
 -- PORT_RESET, its status and the clearing of C_PORT_RESET
 
-pub reset_finds : (port : HubPort) (address l m n : ℕ) (status : PortStatus) {old set told new : World} {a b c d : Option (List ℕ)} → StepRun l old a set b → StepRun m set b told c → StepRun n told c new d
-    → Resets port old set → StatusAt port set (Ok status) told → KeepsDevices told new → Within port address old new → new.fault ≡ None → Finds (HasSpeed status.low_speed) port address old new
-reset_finds port address l m n status {old} {set} {told} {new} first second third resets shown keeps within none = record { found = found }
+pub reset_finds : (port : HubPort) (address l m n : ℕ) (status : PortStatus)
+    {old set told new : World} {a b c d : Option (List ℕ)} → StepRun l old a set b
+    → StepRun m set b told c → StepRun n told c new d
+    → Resets port old set → StatusAt port set (Ok status) told → KeepsDevices told new
+    → Within port address old new → new.fault ≡ None
+    → Finds (HasSpeed status.low_speed) port address old new
+reset_finds port address l m n status {old} {set} {told} {new} first second third resets shown keeps
+    within none = record { found = found }
   where
-    found : (f : AddressMap) (p : List ℕ) → IsSpare f port p address → WhileBusWorks (Enumerating f p address) old → IsRegular old → AtPath (HasSpeed status.low_speed) p new
+    found : (f : AddressMap) (p : List ℕ) → IsSpare f port p address
+        → WhileBusWorks (Enumerating f p address) old → IsRegular old
+        → AtPath (HasSpeed status.low_speed) p new
     found f p spare t order =
         let none_told = went_sound n told new third none in
         let none_set = went_sound m set told second none_told in
-        let h = having f p address set ((within_reset port address old set resets).stays f p spare t) in
-        let port_told = shown.tells.tells (after_taking f p h.has) p (at_taking f port p h.has spare.at) h.owned status (done_at shown.outcome status shown.told) in
+        let h = having f p address set ((within_reset port address old set resets).stays f p spare
+        t) in
+        let port_told = shown.tells.tells (after_taking f p h.has) p
+        (at_taking f port p h.has spare.at) h.owned status
+        (done_at shown.outcome status shown.told) in
         let single = (within.stays f p spare t).single in
-        path_on StaysAs (HasSpeed status.low_speed) (HasSpeed status.low_speed) (λ j s v x low. ap (λ y. y.low) (stays-spec s v x) ∙ low) p told new (keeps.stays single)
+        path_on StaysAs (HasSpeed status.low_speed) (HasSpeed status.low_speed)
+        (λ j s v x low. ap (λ y. y.low) (stays-spec s v x) ∙ low) p told new
+        (keeps.stays single)
         (told_speed p status set told port_told none_set (went_regular l old set first order))
 
 -- Who holds which address
 
 -- whoever answered at address 0, or at the one that is set aside, is the device at the port
-pub answered_has : (f : AddressMap) (port : HubPort) (p : List ℕ) (address has n : ℕ) → IsSpare f port p address → (n ≡ 0) ⊎ (n ≡ address) → (q : List ℕ) × (after_taking f p has q ≡ Some n) → has ≡ n
+pub answered_has : (f : AddressMap) (port : HubPort) (p : List ℕ) (address has n : ℕ)
+    → IsSpare f port p address → (n ≡ 0) ⊎ (n ≡ address) → (q : List ℕ)
+    × (after_taking f p has q ≡ Some n) → has ≡ n
 answered_has f port p address has n spare is who = by_path (same_path p who.0) who.0 who.1
   where
     unclaimed : (n ≡ 0) ⊎ (n ≡ address) → (q : List ℕ) → f q ≡ Some n → ⊥
@@ -136,61 +177,98 @@ answered_has f port p address has n spare is who = by_path (same_path p who.0) w
     by_path true q e = same_Some has n e
     by_path false q e = elim (unclaimed is q e) [ ]
 
-pub held_at : (f : AddressMap) (p : List ℕ) (has : ℕ) (w : World) → MapHolds (after_taking f p has) w → AtPath (λ s. address_of s ≡ has) p w
+pub held_at : (f : AddressMap) (p : List ℕ) (has : ℕ) (w : World)
+    → MapHolds (after_taking f p has) w → AtPath (λ s. address_of s ≡ has) p w
 held_at f p has w owned s on there =
-    same_Some (address_of s) has (sym (ap (option_map address_of) there) ∙ owned.own p on ∙ ap (λ x. if x then Some has else f p) (self_path p))
+    same_Some (address_of s) has (sym (ap (option_map address_of) there) ∙ owned.own p on
+    ∙ ap (λ x. if x then Some has else f p) (self_path p))
 
 -- what was learned of whoever answered at the address is so of the device at the port, which has it
-pub answered_finds : (So : Spec → Type 0) (t : Target) (port : HubPort) (address n : ℕ) {old mid new : World} {b c : Option (List ℕ)} → (t.addr ≡ 0) ⊎ (t.addr ≡ address) → AnswersSo So t mid new → StepRun n mid b new c
-    → Within port address old mid → KeepsAddresses mid new → Finds (λ s. So s.spec × (address_of s ≡ t.addr)) port address old new
-answered_finds So t port address n {old} {mid} {new} is answered went within keeps = record { found = found }
+pub answered_finds : (So : Spec → Type 0) (t : Target) (port : HubPort) (address n : ℕ)
+    {old mid new : World} {b c : Option (List ℕ)} → (t.addr ≡ 0) ⊎ (t.addr ≡ address)
+    → AnswersSo So t mid new → StepRun n mid b new c
+    → Within port address old mid → KeepsAddresses mid new
+    → Finds (λ s. So s.spec × (address_of s ≡ t.addr)) port address old new
+answered_finds So t port address n {old} {mid} {new} is answered went within keeps =
+    record { found = found }
   where
-    found : (f : AddressMap) (p : List ℕ) → IsSpare f port p address → WhileBusWorks (Enumerating f p address) old → IsRegular old → AtPath (λ s. So s.spec × (address_of s ≡ t.addr)) p new
+    found : (f : AddressMap) (p : List ℕ) → IsSpare f port p address
+        → WhileBusWorks (Enumerating f p address) old → IsRegular old
+        → AtPath (λ s. So s.spec × (address_of s ≡ t.addr)) p new
     found f p spare t0 order =
         let h = having f p address mid (within.stays f p spare t0) in
         let claims : AddressMap = after_taking f p h.has in
-        let has = answered_has f port p address h.has t.addr spare is (answered.who.held claims h.owned) in
+        let has = answered_has f port p address h.has t.addr spare is
+        (answered.who.held claims h.owned) in
         let single = (keeps.kept claims h.owned).single in
-        path_on (Learned So t) (λ s. address_of s ≡ h.has) (λ s. So s.spec × (address_of s ≡ t.addr))
-        (λ j s v x at. (subst So (sym (stays-spec s v x.frame)) (x.so (eq-eqb (address_of s) t.addr (at ∙ has))), ap (λ r. r.address) (stays-registers s v x.frame) ∙ at ∙ has))
-        p mid new (answered.learns single) (held_at f p h.has mid (h.owned.so (went_sound n mid new went answered.still)))
+        path_on (Learned So t) (λ s. address_of s ≡ h.has) (λ s. So s.spec
+        × (address_of s ≡ t.addr))
+        (λ j s v x at. (
+          subst So (sym (stays-spec s v x.frame))
+              (x.so (eq-eqb (address_of s) t.addr (at ∙ has))),
+          ap (λ r. r.address) (stays-registers s v x.frame) ∙ at ∙ has,
+        ))
+        p mid new (answered.learns single)
+        (held_at f p h.has mid (h.owned.so (went_sound n mid new went answered.still)))
 
 -- Over calls that come later
 
 -- what was found stays so over a call that leaves a device as it was
-pub finds_on : (R : Relation) (A B : State → Type 0) (port : HubPort) (address : ℕ) {old mid new : World} → ((j : Location) (s v : State) → R j s v → A s → B v)
-    → (new.shared ≡ false → EachWas R mid new) → Within port address old new → Finds A port address old mid → Finds B port address old new
+pub finds_on : (R : Relation) (A B : State → Type 0) (port : HubPort) (address : ℕ)
+    {old mid new : World} → ((j : Location) (s v : State) → R j s v → A s → B v)
+    → (new.shared ≡ false → EachWas R mid new) → Within port address old new
+    → Finds A port address old mid → Finds B port address old new
 finds_on R A B port address {old} {mid} {new} f was within finds = record {
-  found = λ g p spare t order. path_on R A B f p mid new (was (within.stays g p spare t).single) (finds.found g p spare t order);
+  found = λ g p spare t order. path_on R A B f p mid new (was (within.stays g p spare t).single)
+      (finds.found g p spare t order);
 }
 
-pub finds_both : (A B C : State → Type 0) (port : HubPort) (address : ℕ) (old new : World) → ((s : State) → A s → B s → C s) → Finds A port address old new → Finds B port address old new → Finds C port address old new
+pub finds_both : (A B C : State → Type 0) (port : HubPort) (address : ℕ) (old new : World)
+    → ((s : State) → A s → B s → C s) → Finds A port address old new → Finds B port address old new
+    → Finds C port address old new
 finds_both A B C port address old new f a b = record {
-  found = λ g p spare t order s on there. f s (a.found g p spare t order s on there) (b.found g p spare t order s on there);
+  found = λ g p spare t order s on there. f s (a.found g p spare t order s on there)
+      (b.found g p spare t order s on there);
 }
 
 -- after another call that leaves the port in the midst of its enumeration
-pub finds_after : (A : State → Type 0) (port : HubPort) (address n : ℕ) {old mid new : World} {b c : Option (List ℕ)} → StepRun n old b mid c → Within port address old mid → Finds A port address mid new → Finds A port address old new
+pub finds_after : (A : State → Type 0) (port : HubPort) (address n : ℕ) {old mid new : World}
+    {b c : Option (List ℕ)} → StepRun n old b mid c → Within port address old mid
+    → Finds A port address mid new → Finds A port address old new
 finds_after A port address n {old} {mid} {new} went within finds = record {
-  found = λ g p spare t order. finds.found g p spare (within.stays g p spare t) (went_regular n old mid went order);
+  found = λ g p spare t order. finds.found g p spare (within.stays g p spare t)
+      (went_regular n old mid went order);
 }
 
 -- The target of a device that has no address yet
 
-unnamed : (target : Target) (s : State) → s.spec.low ≡ target.low → HasHead target.low target.max s.spec × (address_of s ≡ target.addr) → target.addr ≡ 0 → AwaitsAddress target s
+unnamed : (target : Target) (s : State) → s.spec.low ≡ target.low
+    → HasHead target.low target.max s.spec × (address_of s ≡ target.addr) → target.addr ≡ 0
+    → AwaitsAddress target s
 unnamed target s low head none = record { low = low; head = head.0; zero = head.1 ∙ none }
 
-pub unaddressed_finds : (port : HubPort) (address n : ℕ) (low pre : Bool) (max : ℕ) {old mid new : World} {b c : Option (List ℕ)} → (mid.fault ≡ None → Finds (HasSpeed low) port address old mid)
-    → (let asked : Target = record { addr = 0; max = 8; low = low; pre = pre } in AnswersSo (HasHead low max) asked mid new) → StepRun n mid b new c
+pub unaddressed_finds : (port : HubPort) (address n : ℕ) (low pre : Bool) (max : ℕ)
+    {old mid new : World} {b c : Option (List ℕ)}
+    → (mid.fault ≡ None → Finds (HasSpeed low) port address old mid)
+    → (let asked : Target = record { addr = 0; max = 8; low = low; pre = pre } in
+    AnswersSo (HasHead low max) asked mid new) → StepRun n mid b new c
     → Within port address old mid → KeepsAddresses mid new
-    → (let target : Target = record { addr = 0; max = max; low = low; pre = pre } in Finds (AwaitsAddress target) port address old new)
+    → (let target : Target = record { addr = 0; max = max; low = low; pre = pre } in
+    Finds (AwaitsAddress target) port address old new)
 unaddressed_finds port address n low pre max {old} {mid} {new} speed answered went within keeps =
     let asked : Target = record { addr = 0; max = 8; low = low; pre = pre } in
     let target : Target = record { addr = 0; max = max; low = low; pre = pre } in
-    let stays : new.shared ≡ false → EachWas StaysAs mid new = λ single. each_wider (Learned (HasHead low max) asked) StaysAs (λ j s v x. x.frame) mid new (answered.learns single) in
-    let later = finds_on StaysAs (HasSpeed low) (HasSpeed low) port address (λ j s v x is. ap (λ y. y.low) (stays-spec s v x) ∙ is) stays (within-keeps_addresses port address old mid new within keeps) (speed (went_sound n mid new went answered.still)) in
-    finds_both (HasSpeed low) (λ s. HasHead low max s.spec × (address_of s ≡ 0)) (AwaitsAddress target) port address old new (λ s is head. unnamed target s is head refl)
-    later (answered_finds (HasHead low max) asked port address n (inl refl) answered went within keeps)
+    let stays : new.shared ≡ false → EachWas StaysAs mid new =
+    λ single. each_wider (Learned (HasHead low max) asked) StaysAs (λ j s v x. x.frame) mid new
+    (answered.learns single) in
+    let later = finds_on StaysAs (HasSpeed low) (HasSpeed low) port address
+    (λ j s v x is. ap (λ y. y.low) (stays-spec s v x) ∙ is) stays
+    (within-keeps_addresses port address old mid new within keeps)
+    (speed (went_sound n mid new went answered.still)) in
+    finds_both (HasSpeed low) (λ s. HasHead low max s.spec × (address_of s ≡ 0))
+    (AwaitsAddress target) port address old new (λ s is head. unnamed target s is head refl)
+    later (answered_finds (HasHead low max) asked port address n (inl refl) answered went within
+    keeps)
 
 -- SET_ADDRESS
 
@@ -200,12 +278,22 @@ pub record Granted (low : Bool) (max : ℕ) (spec : Spec) : Type 0 where
   pub head : HasHead low max spec
   pub allowed : spec.stalls.address ≡ false
 
-pub granted : (target : Target) (address : ℕ) (old new : World) → target.addr ≡ 0 → (j : Location) (s v : State) → AddressAsked target address (Ok tt) old new j s v → AwaitsAddress target s → Granted target.low target.max v.spec
+pub granted : (target : Target) (address : ℕ) (old new : World) → target.addr ≡ 0
+    → (j : Location) (s v : State) → AddressAsked target address (Ok tt) old new j s v
+    → AwaitsAddress target s → Granted target.low target.max v.spec
 granted target address old new none j s v x is =
     subst (Granted target.low target.max) (sym (ap (λ y. y.spec) x.frame))
-    (record { speed = is.low; head = is.head; allowed = (x.done (eq-eqb (address_of s) target.addr (is.zero ∙ sym none)) refl).0 })
+    (record {
+      speed = is.low;
+      head = is.head;
+      allowed =
+          (x.done (eq-eqb (address_of s) target.addr (is.zero ∙ sym none)) refl).0;
+    })
 
-addressed_granted : (device : Addressed) (s : State) → Granted device.target.low device.target.max s.spec → AtMaximum device.target (HasDescriptor device.bytes) s.spec × (address_of s ≡ device.target.addr) → IsAddressed device s
+addressed_granted : (device : Addressed) (s : State)
+    → Granted device.target.low device.target.max s.spec
+    → AtMaximum device.target (HasDescriptor device.bytes) s.spec
+    × (address_of s ≡ device.target.addr) → IsAddressed device s
 addressed_granted device s is read = record {
   low = is.speed;
   head = is.head;
@@ -214,17 +302,30 @@ addressed_granted device s is read = record {
   address = read.1;
 }
 
-pub address_finds : (target : Target) (device : Addressed) (port : HubPort) (address n : ℕ) {old mid given new : World} {c d : Option (List ℕ)} → target.addr ≡ 0 → device.target ≡ record target { addr = address } → Finds (AwaitsAddress target) port address old mid
-    → (given.shared ≡ false → EachWas (AddressAsked target address (Ok tt) mid given) mid given) → Within port address old given
-    → AnswersSo (AtMaximum device.target (HasDescriptor device.bytes)) device.target given new → StepRun n given c new d → KeepsAddresses given new
+pub address_finds : (target : Target) (device : Addressed) (port : HubPort) (address n : ℕ)
+    {old mid given new : World} {c d : Option (List ℕ)} → target.addr ≡ 0
+    → device.target ≡ record target { addr = address }
+    → Finds (AwaitsAddress target) port address old mid
+    → (given.shared ≡ false → EachWas (AddressAsked target address (Ok tt) mid given) mid given)
+    → Within port address old given
+    → AnswersSo (AtMaximum device.target (HasDescriptor device.bytes)) device.target given new
+    → StepRun n given c new d → KeepsAddresses given new
     → Finds (IsAddressed device) port address old new
-address_finds target device port address n {old} {mid} {given} {new} none is unnamed asked within answered went keeps =
+address_finds target device port address n {old} {mid} {given} {new} none is unnamed asked within
+    answered went keeps =
     let So : Spec → Type 0 = AtMaximum device.target (HasDescriptor device.bytes) in
     let Is : State → Type 0 = λ s. Granted device.target.low device.target.max s.spec in
     let allowed : Finds Is port address old given =
     subst (λ t. Finds (λ s. Granted t.low t.max s.spec) port address old given) (sym is)
-    (finds_on (AddressAsked target address (Ok tt) mid given) (AwaitsAddress target) (λ s. Granted target.low target.max s.spec) port address (granted target address mid given none) asked within unnamed) in
+    (finds_on (AddressAsked target address (Ok tt) mid given) (AwaitsAddress target)
+    (λ s. Granted target.low target.max s.spec) port address
+    (granted target address mid given none) asked within unnamed) in
     let later : Finds Is port address old new =
-    finds_on (Learned So device.target) Is Is port address (λ j s v x g. subst (Granted device.target.low device.target.max) (sym (stays-spec s v x.frame)) g) answered.learns (within-keeps_addresses port address old given new within keeps) allowed in
-    finds_both Is (λ s. So s.spec × (address_of s ≡ device.target.addr)) (IsAddressed device) port address old new (addressed_granted device)
-    later (answered_finds So device.target port address n (inr (ap (λ t. t.addr) is)) answered went within keeps)
+    finds_on (Learned So device.target) Is Is port address
+    (λ j s v x g. subst (Granted device.target.low device.target.max)
+    (sym (stays-spec s v x.frame)) g) answered.learns
+    (within-keeps_addresses port address old given new within keeps) allowed in
+    finds_both Is (λ s. So s.spec × (address_of s ≡ device.target.addr)) (IsAddressed device) port
+    address old new (addressed_granted device)
+    later (answered_finds So device.target port address n (inr (ap (λ t. t.addr) is)) answered went
+    within keeps)

@@ -1,5 +1,7 @@
--- That an occupied port stays occupied, and how the device there comes to be reached, from one call to the next.
-use Rattle.std.proofs.Common.{◌≡◌, ◌⊎◌, inl, inr, ℕ, zero, suc, true, false, List, [], ◌∷◌, Option, None, Some, option_map, Result, Ok, Err, refl, ap, sym, subst, ◌∙◌}
+-- That an occupied port stays occupied, and how the device there comes to be reached, from one call
+-- to the next.
+use Rattle.std.proofs.Common.{◌≡◌, ◌⊎◌, inl, inr, ℕ, zero, suc, true, false, List, [], ◌∷◌, Option}
+use Rattle.std.proofs.Common.{None, Some, option_map, Result, Ok, Err, refl, ap, sym, subst, ◌∙◌}
 use Rattle.std.specs.Prelude.{IfSome, IsSome}
 use Rattle.usb_request.specs.Features.{PORT_ENABLE, C_PORT_RESET}
 use Rattle.usb_port.specs.PortState.{PortState}
@@ -18,7 +20,8 @@ use Rattle.usb_world.specs.PlanCourses.{spec_of}
 use Rattle.usb_world.specs.RestingPorts.{LeavesPortAlone, UnchangedOrPending, SameDeviceOrPending}
 use Rattle.usb_world.specs.Steps.{Course}
 use Rattle.usb_world.specs.World.{World}
-use Rattle.usb_world.proofs.Interface.{course_wider, pending_persists, rests_or_pends, stands_or_pends, step_pend}
+use Rattle.usb_world.proofs.Interface.{course_wider, pending_persists, rests_or_pends}
+use Rattle.usb_world.proofs.Interface.{stands_or_pends, step_pend}
 use Rattle.usb_tree.proofs.Interface.{both, decided, false_true}
 use Rattle.usb_tree.specs.WayEffects.{keeps_pending}
 use Rattle.usb_bus.specs.Traces.{StepRun}
@@ -29,7 +32,8 @@ use Rattle.usb_pipe.specs.declared.fault.PipeFault.{PipeFault}
 use Rattle.usb_hub.specs.declared.port.HubPort.{HubPort}
 use Rattle.usb_hub.specs.Moments.{OnReachedRow, PortStatusAt, IsCall, CommandsPort, PortCallDone}
 use Rattle.usb_hub.specs.Requests.{TouchesNoPort, Commanded}
-use Rattle.usb_hub.proofs.Interface.{Called, StandsSo, StandsTold, disabled_port, done_stands, enabled_reach, told_stands}
+use Rattle.usb_hub.proofs.Interface.{Called, StandsSo, StandsTold, disabled_port, done_stands}
+use Rattle.usb_hub.proofs.Interface.{enabled_reach, told_stands}
 use Rattle.usb_enum.specs.declared.cause.Cause.{Cause}
 use Rattle.usb_enum.specs.declared.fault.EnumFault.{EnumFault}
 use Rattle.usb_enum.specs.declared.finding.Finding.{Finding}
@@ -47,13 +51,15 @@ use Rattle.usb_enum.proofs.devices.Frames.{called_is, ends_without_fault, held_t
 
 -- What a call at a port gave
 
-pub done_at : {A : Type 0} (outcome : Result A PipeFault) (answer : A) → Ok answer ≡ at_port outcome → outcome ≡ Ok answer
+pub done_at : {A : Type 0} (outcome : Result A PipeFault) (answer : A) → Ok answer ≡ at_port outcome
+    → outcome ≡ Ok answer
 done_at (Ok given) answer is = cc
 done_at (Err why) answer is = absurd cc
 
 -- What stands at a port
 
-pub some_of : (a b : Option State) → option_map spec_of b ≡ option_map spec_of a → IsSome a → IsSome b
+pub some_of : (a b : Option State) → option_map spec_of b ≡ option_map spec_of a → IsSome a
+    → IsSome b
 some_of None b same some = false_true some
 some_of (Some s) None same some = absurd cc
 some_of (Some s) (Some v) same some = refl
@@ -70,11 +76,13 @@ reach-state (vacant b k) zero p on = false_true on
 reach-state (vacant b k) (suc j) p on = reach-state k j p on
 reach-state (taken b s a k) zero [] on = refl
 reach-state (taken b s a k) zero (zero ∷ p) on = false_true on
-reach-state (taken b s a k) zero (suc j ∷ p) on = reach-state a j p (both b.enable (reach_at a j p) on).1
+reach-state (taken b s a k) zero (suc j ∷ p) on =
+    reach-state a j p (both b.enable (reach_at a j p) on).1
 reach-state (taken b s a k) (suc j) p on = reach-state k j p on
 
 -- where nothing pending is cleared, an occupied port stays so
-pub occupied_on : (p : List ℕ) {old new : World} → Course (KeepsPendingAt p) old new → IsOccupied old p → IsOccupied new p
+pub occupied_on : (p : List ℕ) {old new : World} → Course (KeepsPendingAt p) old new
+    → IsOccupied old p → IsOccupied new p
 occupied_on p c (inl pending) = inl (pending_persists p c pending)
 occupied_on p {old} {new} c (inr is) = pick (stands_or_pends p c is.0)
   where
@@ -83,7 +91,8 @@ occupied_on p {old} {new} c (inr is) = pick (stands_or_pends p c is.0)
     pick (inr y) = inl y
 
 -- where nothing is asked of a port, the device there stays reached
-pub reached_on : (p : List ℕ) {old new : World} → Course (LeavesPortAlone p) old new → IsReachedAt old p → IsReachedAt new p
+pub reached_on : (p : List ℕ) {old new : World} → Course (LeavesPortAlone p) old new
+    → IsReachedAt old p → IsReachedAt new p
 reached_on p c (inl pending) = inl (pending_persists p (course_wider (λ s w k. k.spares) c) pending)
 reached_on p {old} {new} c (inr is) = pick (rests_or_pends p c is.0)
   where
@@ -94,18 +103,27 @@ reached_on p {old} {new} c (inr is) = pick (rests_or_pends p c is.0)
 -- PORT_RESET, its status and the clearing of C_PORT_RESET
 
 -- an enabled port of a reached row, with a device on it
-enabled_at : (p : List ℕ) (w : World) (b : PortState) → has_power w.roots p ≡ true → OnReachedRow w p → port_there w.roots p ≡ Some b → b.enable ≡ true → IsSome (state_there w.roots p) → IsReachedAt w p
+enabled_at : (p : List ℕ) (w : World) (b : PortState) → has_power w.roots p ≡ true
+    → OnReachedRow w p → port_there w.roots p ≡ Some b → b.enable ≡ true
+    → IsSome (state_there w.roots p) → IsReachedAt w p
 enabled_at p w b on row there enabled some =
     let s = is_some-state (state_there w.roots p) some in
     inr (on, enabled_reach w p row b there enabled s.0 s.1)
 
-pub reset_reaches : (port : HubPort) (address l m n : ℕ) (status : PortStatus) {old set told new : World} {a b c d : Option (List ℕ)} → StepRun l old a set b → StepRun m set b told c → StepRun n told c new d
-    → AtPort port address old set → OnlyAsks set told → AtPort port address old told → AtPort port address told new → StatusAt port set (Ok status) told → status.enabled ≡ true
+pub reset_reaches : (port : HubPort) (address l m n : ℕ) (status : PortStatus)
+    {old set told new : World} {a b c d : Option (List ℕ)} → StepRun l old a set b
+    → StepRun m set b told c → StepRun n told c new d
+    → AtPort port address old set → OnlyAsks set told → AtPort port address old told
+    → AtPort port address told new → StatusAt port set (Ok status) told → status.enabled ≡ true
     → SettlesReset port status.reset_changed told (Ok tt) new → ReachesDevice port address old new
-reset_reaches port address l m n status {old} {set} {told} {new} first second third at_set asks at_told at_settle shown enabled settles = record { reached = reached }
+reset_reaches port address l m n status {old} {set} {told} {new} first second third at_set asks
+    at_told at_settle shown enabled settles = record { reached = reached }
   where
-    reached : (f : AddressMap) (p : List ℕ) → IsSpare f port p address → WhileBusWorks (Enumerating f p address) old → IsInOrder old → IsOccupied old p → new.fault ≡ None → IsReachedAt new p
-    reached f p spare t order occupied none = by_set (occupied_on p (at_set.only.at f p spare t none_set).spares occupied)
+    reached : (f : AddressMap) (p : List ℕ) → IsSpare f port p address
+        → WhileBusWorks (Enumerating f p address) old → IsInOrder old → IsOccupied old p
+        → new.fault ≡ None → IsReachedAt new p
+    reached f p spare t order occupied none =
+        by_set (occupied_on p (at_set.only.at f p spare t none_set).spares occupied)
       where
         none_told : told.fault ≡ None
         none_told = went_sound n told new third none
@@ -117,112 +135,156 @@ reset_reaches port address l m n status {old} {set} {told} {new} first second th
         later = at_told.within.stays f p spare t
 
         pends_on : pending told.roots p ≡ true → IsReachedAt new p
-        pends_on pending = inl (pending_persists p (at_settle.only.at f p spare later none).spares pending)
+        pends_on pending = inl (pending_persists p (at_settle.only.at f p spare later none).spares
+            pending)
 
         seen_at : PortStatusAt p status set told
         seen_at =
             let h = having f p address set (at_set.within.stays f p spare t) in
-            shown.tells.tells (after_taking f p h.has) p (at_taking f port p h.has spare.at) h.owned status (done_at shown.outcome status shown.told)
+            shown.tells.tells (after_taking f p h.has) p (at_taking f port p h.has spare.at) h.owned
+            status (done_at shown.outcome status shown.told)
 
         is_enabled : seen_at.port.enable ≡ true
         is_enabled = sym (ap (λ x. x.enabled) seen_at.is) ∙ enabled
 
-        by_clear : (cleared : CalledAt port (clear_call C_PORT_RESET) told (Ok tt) new) → has_power told.roots p ≡ true → port_there told.roots p ≡ Some seen_at.port → IsSome (state_there told.roots p) → IsReachedAt new p
+        by_clear : (cleared : CalledAt port (clear_call C_PORT_RESET) told (Ok tt) new)
+            → has_power told.roots p ≡ true → port_there told.roots p ≡ Some seen_at.port
+            → IsSome (state_there told.roots p) → IsReachedAt new p
         by_clear cleared on there some = pick (done_stands p ClearResetChange refl told new done on)
           where
             done : PortCallDone p ClearResetChange told new
             done =
                 let h = having f p address told later in
-                cleared.calls.done (after_taking f p h.has) p ClearResetChange (called_is f port p address told spare h (clear_call C_PORT_RESET) ClearResetChange refl) (done_at cleared.outcome tt cleared.told)
+                cleared.calls.done (after_taking f p h.has) p ClearResetChange
+                (called_is f port p address told spare h (clear_call C_PORT_RESET)
+                ClearResetChange refl) (done_at cleared.outcome tt cleared.told)
 
-            pick : StandsSo p ClearResetChange (Called p ClearResetChange) told new → IsReachedAt new p
+            pick : StandsSo p ClearResetChange (Called p ClearResetChange) told new
+                → IsReachedAt new p
             pick (inl y) =
-                enabled_at p new (called_port ClearResetChange seen_at.port) y.0 done.row (y.1 ∙ ap (option_map (called_port ClearResetChange)) there) is_enabled
+                enabled_at p new (called_port ClearResetChange seen_at.port) y.0 done.row (y.1
+                ∙ ap (option_map (called_port ClearResetChange)) there) is_enabled
                 (some_of (state_there told.roots p) (state_there new.roots p) y.2 some)
             pick (inr y) = inl y
 
-        by_told : StandsTold p seen_at.port set told → IsSome (state_there set.roots p) → IsReachedAt new p
+        by_told : StandsTold p seen_at.port set told → IsSome (state_there set.roots p)
+            → IsReachedAt new p
         by_told (inr y) some = pends_on y
         by_told (inl y) some = settled (decided status.reset_changed)
           where
             there : IsSome (state_there told.roots p)
             there = some_of (state_there set.roots p) (state_there told.roots p) y.2 some
 
-            settled : (status.reset_changed ≡ true) ⊎ (status.reset_changed ≡ false) → IsReachedAt new p
+            settled : (status.reset_changed ≡ true) ⊎ (status.reset_changed ≡ false)
+                → IsReachedAt new p
             settled (inl e) = by_clear (settles.set e) y.0 y.1 there
-            settled (inr e) = subst (λ w. IsReachedAt w p) (sym (settles.unset e).1) (enabled_at p told seen_at.port y.0 seen_at.row y.1 is_enabled there)
+            settled (inr e) = subst (λ w. IsReachedAt w p) (sym (settles.unset e).1)
+                (enabled_at p told seen_at.port y.0 seen_at.row y.1 is_enabled there)
 
         by_set : IsOccupied set p → IsReachedAt new p
-        by_set (inl pending) = pends_on (pending_persists p (course_wider (λ s w k. k.spares) (asks.ports none_told p)) pending)
+        by_set (inl pending) = pends_on (pending_persists p
+            (course_wider (λ s w k. k.spares) (asks.ports none_told p)) pending)
         by_set (inr is) = by_told (told_stands p status set told seen_at is.0) is.1
 
 -- Over calls that come later
 
 -- where nothing is asked of any port
-pub reaches_rest : (port : HubPort) (address n : ℕ) {old mid new : World} {b c : Option (List ℕ)} → StepRun n mid b new c → (new.fault ≡ None → TouchesNoPort mid new) → ReachesDevice port address old mid → ReachesDevice port address old new
+pub reaches_rest : (port : HubPort) (address n : ℕ) {old mid new : World} {b c : Option (List ℕ)}
+    → StepRun n mid b new c → (new.fault ≡ None → TouchesNoPort mid new)
+    → ReachesDevice port address old mid → ReachesDevice port address old new
 reaches_rest port address n {old} {mid} {new} went rest reaches = record {
-  reached = λ f p spare t order occupied none. reached_on p (rest none p) (reaches.reached f p spare t order occupied (went_sound n mid new went none));
+  reached = λ f p spare t order occupied none. reached_on p (rest none p)
+      (reaches.reached f p spare t order occupied (went_sound n mid new went none));
 }
 
 -- SET_ADDRESS
-pub reaches_addressed : (port : HubPort) (address n given : ℕ) (target : Target) (result : Result (Unit {0}) PipeFault) {old : World} (mid new : World) {b c : Option (List ℕ)} → StepRun n mid b new c → Commanded target (set_address given) mid result new
+pub reaches_addressed : (port : HubPort) (address n given : ℕ) (target : Target)
+    (result : Result (Unit {0}) PipeFault) {old : World} (mid new : World) {b c : Option (List ℕ)}
+    → StepRun n mid b new c → Commanded target (set_address given) mid result new
     → ReachesDevice port address old mid → ReachesDevice port address old new
 unfolding set_address
-reaches_addressed port address n given target result mid new went ordered reaches = reaches_rest port address n went (λ none. ordered.rests refl (ends_without_fault 2 result mid new ordered.ends none)) reaches
+reaches_addressed port address n given target result mid new went ordered reaches =
+    reaches_rest port address n went (λ none. ordered.rests refl
+    (ends_without_fault 2 result mid new ordered.ends none)) reaches
 
 -- after calls at the port
-pub reaches_device_after : (port : HubPort) (address m n : ℕ) {old mid new : World} {a b c d : Option (List ℕ)} → StepRun m old a mid b → StepRun n mid c new d → AtPort port address old mid → ReachesDevice port address mid new → ReachesDevice port address old new
+pub reaches_device_after : (port : HubPort) (address m n : ℕ) {old mid new : World}
+    {a b c d : Option (List ℕ)} → StepRun m old a mid b → StepRun n mid c new d
+    → AtPort port address old mid → ReachesDevice port address mid new
+    → ReachesDevice port address old new
 reaches_device_after port address m n {old} {mid} {new} sooner later at reaches = record {
   reached = λ f p spare t order occupied none.
       reaches.reached f p spare (at.within.stays f p spare t) (went_in_order m old mid sooner order)
-      (occupied_on p (at.only.at f p spare t (went_sound n mid new later none)).spares occupied) none;
+      (occupied_on p (at.only.at f p spare t (went_sound n mid new later none)).spares occupied)
+      none;
 }
 
 -- where the device that took the address is configured
-pub reaches_set : (port : HubPort) (address n : ℕ) {old mid new : World} {b c : Option (List ℕ)} → StepRun n mid b new c → TakesAddress port address old mid → OnlySets address mid new → ReachesDevice port address old mid → ReachesDevice port address old new
+pub reaches_set : (port : HubPort) (address n : ℕ) {old mid new : World} {b c : Option (List ℕ)}
+    → StepRun n mid b new c → TakesAddress port address old mid → OnlySets address mid new
+    → ReachesDevice port address old mid → ReachesDevice port address old new
 reaches_set port address n {old} {mid} {new} went takes sets reaches = record { reached = reached }
   where
-    reached : (f : AddressMap) (p : List ℕ) → IsSpare f port p address → WhileBusWorks (Enumerating f p address) old → IsInOrder old → IsOccupied old p → new.fault ≡ None → IsReachedAt new p
+    reached : (f : AddressMap) (p : List ℕ) → IsSpare f port p address
+        → WhileBusWorks (Enumerating f p address) old → IsInOrder old → IsOccupied old p
+        → new.fault ≡ None → IsReachedAt new p
     reached f p spare t order occupied none =
         let sound = went_sound n mid new went none in
         let own = (takes.took f p spare t).so sound in
-        reached_on p (sets.ports none (after_taking f p address) p (held_there f p address) own p (is_above-self p)) (reaches.reached f p spare t order occupied sound)
+        reached_on p (sets.ports none (after_taking f p address) p (held_there f p address) own p
+        (is_above-self p)) (reaches.reached f p spare t order occupied sound)
 
 -- The clearing of PORT_ENABLE
 
 -- what is pending at the port pends after a call that clears nothing that is
-pub pends_there : (p : List ℕ) (c : PortCall) (old new : World) → keeps_pending c [] ≡ true → PortCallDone p c old new → pending old.roots p ≡ true → pending new.roots p ≡ true
+pub pends_there : (p : List ℕ) (c : PortCall) (old new : World) → keeps_pending c [] ≡ true
+    → PortCallDone p c old new → pending old.roots p ≡ true → pending new.roots p ≡ true
 pends_there p c old new keeps d h =
     let before = pending_persists p (course_wider (λ s w k. k.about.spares keeps) d.repeats) h in
     let called = step_pend d.last d.before p (d.acts.about.spares keeps) before in
     pending_persists p (course_wider (λ s w k. k.spares) (d.since p)) called
 
 -- an occupied port passes nothing on then
-pub disabled_known : (p : List ℕ) (cause : Cause) (old new : World) → PortCallDone p ClearEnable old new → IsOccupied old p → IsKnownAs new p (Some (Refused cause))
+pub disabled_known : (p : List ℕ) (cause : Cause) (old new : World)
+    → PortCallDone p ClearEnable old new → IsOccupied old p → IsKnownAs new p (Some (Refused cause))
 disabled_known p cause old new d (inl x) = inl (pends_there p ClearEnable old new refl d x)
 disabled_known p cause old new d (inr x) = pick (done_stands p ClearEnable refl old new d x.0)
   where
-    pick : StandsSo p ClearEnable (Called p ClearEnable) old new → IsKnownAs new p (Some (Refused cause))
+    pick : StandsSo p ClearEnable (Called p ClearEnable) old new
+        → IsKnownAs new p (Some (Refused cause))
     pick (inl y) =
         inr (
           y.0,
           (
             some_of (state_there old.roots p) (state_there new.roots p) y.2 x.1,
-            subst (λ o. IfSome o (λ b. b.enable ≡ false)) (sym y.1) (disabled_port (port_there old.roots p)),
+            subst (λ o. IfSome o (λ b. b.enable ≡ false)) (sym y.1)
+                (disabled_port (port_there old.roots p)),
           ),
         )
     pick (inr y) = inl y
 
-pub clear_enable_disables : (port : HubPort) (address : ℕ) (cause : Cause) (old : World) (result : Result (Unit {0}) PipeFault) (new : World) → CommandsPort port (clear_call PORT_ENABLE) old result new → result ≡ Ok tt → Disables port address old (Ok (Refused cause)) new
+pub clear_enable_disables : (port : HubPort) (address : ℕ) (cause : Cause) (old : World)
+    (result : Result (Unit {0}) PipeFault) (new : World)
+    → CommandsPort port (clear_call PORT_ENABLE) old result new → result ≡ Ok tt
+    → Disables port address old (Ok (Refused cause)) new
 clear_enable_disables port address cause old result new calls ok = record {
   there = λ f p spare t occupied finding e.
-      let call_is : IsCall (after_taking f p (having f p address old t).has) port p (clear_call PORT_ENABLE) ClearEnable old = called_is f port p address old spare (having f p address old t) (clear_call PORT_ENABLE) ClearEnable refl in
-      subst (λ x. IsKnownAs new p (Some x)) (same finding e) (disabled_known p cause old new (calls.done (after_taking f p (having f p address old t).has) p ClearEnable call_is ok) occupied);
+      let call_is : IsCall (after_taking f p (having f p address old t).has) port p
+      (clear_call PORT_ENABLE) ClearEnable old =
+      called_is f port p address old spare (having f p address old t) (clear_call PORT_ENABLE)
+      ClearEnable refl in
+      subst (λ x. IsKnownAs new p (Some x)) (same finding e)
+      (disabled_known p cause old new
+      (calls.done (after_taking f p (having f p address old t).has) p ClearEnable call_is ok)
+      occupied);
 }
   where
-    same : (finding : Finding) → (let r : Result Finding EnumFault = Ok (Refused cause) in r ≡ Ok finding) → Refused cause ≡ finding
+    same : (finding : Finding) → (let r : Result Finding EnumFault = Ok (Refused cause) in
+        r ≡ Ok finding) → Refused cause ≡ finding
     same finding e = cc
 
 -- where there is no finding
-pub disables_none : (port : HubPort) (address : ℕ) (old : World) (why : EnumFault) (new : World) → Disables port address old (Err why) new
-disables_none port address old why new = record { there = λ f p spare t occupied finding e. absurd cc }
+pub disables_none : (port : HubPort) (address : ℕ) (old : World) (why : EnumFault) (new : World)
+    → Disables port address old (Err why) new
+disables_none port address old why new =
+    record { there = λ f p spare t occupied finding e. absurd cc }

@@ -12,7 +12,8 @@ unfolding after_event with_attempt
 unshared_back = record {
   steps = record {
     events = record { same = λ w h. h; joined = λ w m v x y h. x (y h); came = λ e es w l h. h };
-    made = λ a w made k h. (neither (at_attempt w).shared (repeats (held_addresses (at_attempt w).roots)) h).0;
+    made = λ a w made k h. (neither (at_attempt w).shared
+        (repeats (held_addresses (at_attempt w).roots)) h).0;
     root = λ c n w k h. h;
     refused = λ w h. h;
   };
@@ -20,5 +21,6 @@ unshared_back = record {
   told = λ fault w h. h;
 }
 
-pub went_unshared : (n : ℕ) (old new : World) {t s : Option (List ℕ)} → StepRun n old t new s → new.shared ≡ false → old.shared ≡ false
+pub went_unshared : (n : ℕ) (old new : World) {t s : Option (List ℕ)} → StepRun n old t new s
+    → new.shared ≡ false → old.shared ≡ false
 went_unshared n old new went = over_traced unshared_back went.traced

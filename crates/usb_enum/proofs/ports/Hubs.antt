@@ -1,6 +1,7 @@
 -- What a hub tells, and what its refusal means.
 use Rattle.std.proofs.Common.{◌≡◌, ◌≢◌, ◌⊎◌, ◌∙◌, inl, inr, refl, sym, ap, add-one, subst}
-use Rattle.std.specs.Prelude.{ℕ, ◌+◌, List, Bool, true, false, ◌&&◌, ◌==◌, Result, Ok, Err, if◌then◌else◌, IfOk}
+use Rattle.std.specs.Prelude.{ℕ, ◌+◌, List, Bool, true, false, ◌&&◌, ◌==◌, Result, Ok, Err}
+use Rattle.std.specs.Prelude.{if◌then◌else◌, IfOk}
 use Rattle.usb_world.specs.World.{World}
 use Rattle.usb_transaction.specs.declared.target.Target.{Target}
 use Rattle.usb_pipe.specs.declared.fault.PipeFault.{PipeFault}
@@ -23,26 +24,36 @@ use Rattle.usb_enum.proofs.refusals.Refusals.{answered_ok}
 use Rattle.usb_enum.proofs.stops.ToldFailures.{plain_fits}
 
 -- what a port of a hub gives
-pub hub_supply : (self_powered : Bool) → (supply_of false self_powered ≡ 500) ⊎ (supply_of false self_powered ≡ 100)
+pub hub_supply : (self_powered : Bool) → (supply_of false self_powered ≡ 500)
+    ⊎ (supply_of false self_powered ≡ 100)
 unfolding supply_of
 hub_supply true = inl refl
 hub_supply false = inr refl
 
-not_last_by : (hub : Bool) (tier : ℕ) (done : Unit {0}) → hub ≡ true → (if hub && tier == 7 then Err (Refused cause.TooDeep) else Ok done) ≡ Ok done → tier ≢ 7
+not_last_by : (hub : Bool) (tier : ℕ) (done : Unit {0}) → hub ≡ true
+    → (if hub && tier == 7 then Err (Refused cause.TooDeep) else Ok done) ≡ Ok done → tier ≢ 7
 not_last_by true tier done is fits e = let last = rw e at fits in absurd cc
 not_last_by false tier done is fits e = absurd cc
 
 -- a hub that fits its tier is not in the last
-pub not_last : (tier : ℕ) (bytes : List ℕ) → is_hub_device bytes ≡ true → fits_tier tier bytes ≡ Ok tt → tier ≢ 7
+pub not_last : (tier : ℕ) (bytes : List ℕ) → is_hub_device bytes ≡ true
+    → fits_tier tier bytes ≡ Ok tt → tier ≢ 7
 not_last tier bytes = not_last_by (is_hub_device bytes) tier tt
 
-pub told_of_hub : (tier : ℕ) (bytes : List ℕ) (stop : Stop) (t : Target) (text : List ℕ) (old new : World) → fits_tier tier bytes ≡ Ok tt → is_hub_device bytes ≡ true → CauseAllowedAtStart t text stop old new → CauseAllowedOfDevice tier stop new
-told_of_hub tier bytes (Refused why) t text old new fits is (inl bad) = rw bad.0 (not_last tier bytes is fits)
-told_of_hub tier bytes (Refused why) t text old new fits is (inr b) = plain_fits tier why (because_plain why t old new b)
+pub told_of_hub : (tier : ℕ) (bytes : List ℕ) (stop : Stop) (t : Target) (text : List ℕ)
+    (old new : World) → fits_tier tier bytes ≡ Ok tt → is_hub_device bytes ≡ true
+    → CauseAllowedAtStart t text stop old new → CauseAllowedOfDevice tier stop new
+told_of_hub tier bytes (Refused why) t text old new fits is (inl bad) =
+    rw bad.0 (not_last tier bytes is fits)
+told_of_hub tier bytes (Refused why) t text old new fits is (inr b) =
+    plain_fits tier why (because_plain why t old new b)
 told_of_hub tier bytes (Fault fault) t text old new fits is told = told
 
 -- the descriptor that a hub told
-pub count_told : (hub : Target) (stalled : Cause) (outcome : Result (Vec ℕ) PipeFault) (bytes : Vec ℕ) (view : List ℕ) (old new : World) → answered_or stalled outcome ≡ Ok bytes → Queried hub get_hub_descriptor old outcome new → Ok view ≡ hub_spelled bytes.items → view ≡ bytes.items → CountTold hub old new (port_count view)
+pub count_told : (hub : Target) (stalled : Cause) (outcome : Result (Vec ℕ) PipeFault)
+    (bytes : Vec ℕ) (view : List ℕ) (old new : World) → answered_or stalled outcome ≡ Ok bytes
+    → Queried hub get_hub_descriptor old outcome new → Ok view ≡ hub_spelled bytes.items
+    → view ≡ bytes.items → CountTold hub old new (port_count view)
 count_told hub stalled outcome bytes view old new answered asked good same = record {
   bytes = bytes;
   asked = rw (answered_ok stalled outcome bytes answered) at asked;
@@ -51,12 +62,17 @@ count_told hub stalled outcome bytes view old new answered asked good same = rec
 }
 
 -- a port whose power was ordered, where that was done
-pub powered_by : (hub : Target) (port : ℕ) (old new : World) (outcome : Result (Unit {0}) PipeFault) (result : Result (Unit {0}) Stop) → result ≡ answered_or cause.BadHub outcome → Commanded hub (set_port_feature PORT_POWER port) old outcome new
+pub powered_by : (hub : Target) (port : ℕ) (old new : World) (outcome : Result (Unit {0}) PipeFault)
+    (result : Result (Unit {0}) Stop) → result ≡ answered_or cause.BadHub outcome
+    → Commanded hub (set_port_feature PORT_POWER port) old outcome new
     → IfOk result (λ _. IsPowered hub port old new)
-powered_by hub port old new outcome (Ok done) is ordered = subst (λ r. Commanded hub (set_port_feature PORT_POWER port) old r new) (answered_ok cause.BadHub outcome tt (sym is)) ordered
+powered_by hub port old new outcome (Ok done) is ordered =
+    subst (λ r. Commanded hub (set_port_feature PORT_POWER port) old r new)
+    (answered_ok cause.BadHub outcome tt (sym is)) ordered
 powered_by hub port old new outcome (Err stop) is ordered = tt
 
 -- one port more
-pub powered_more : (hub : Target) (n : ℕ) (old between new : World) → Powered hub n old between → IsPowered hub (n + 1) between new → Powered hub (n + 1) old new
+pub powered_more : (hub : Target) (n : ℕ) (old between new : World) → Powered hub n old between
+    → IsPowered hub (n + 1) between new → Powered hub (n + 1) old new
 powered_more hub n old between new before now =
     rw (add-one n) (between, (before, rw (add-one n) at now))

@@ -1,19 +1,25 @@
--- The ports of a hub that was configured, while they are given power one by one: those that have none, and those that have it.
-use Rattle.std.proofs.Common.{◌≡◌, ◌≤◌, ◌<◌, ◌-◌, ◌==◌, ◌&&◌, ◌⊎◌, inl, inr, not, nat_le, ℕ, zero, suc, Bool, true, false, List, [], ◌∷◌, ◌++◌, Option, None, Some, is_some, option_map, Result, Ok, if◌then◌else◌, refl, ap, sym, subst, ◌∙◌, arith}
+-- The ports of a hub that was configured, while they are given power one by one: those that have
+-- none, and those that have it.
+use Rattle.std.proofs.Common.{◌≡◌, ◌≤◌, ◌<◌, ◌-◌, ◌==◌, ◌&&◌, ◌⊎◌, inl, inr, not, nat_le, ℕ, zero}
+use Rattle.std.proofs.Common.{suc, Bool, true, false, List, [], ◌∷◌, ◌++◌, Option, None, Some}
+use Rattle.std.proofs.Common.{is_some, option_map, Result, Ok, if◌then◌else◌, refl, ap, sym, subst}
+use Rattle.std.proofs.Common.{◌∙◌, arith}
 use Rattle.std.proofs.lemmas.Bool.Decides.{nat_tests}
 use Rattle.std.proofs.lemmas.Option.{same_Some}
 use Rattle.std.specs.Global.{Vec}
 use Rattle.usb_request.specs.Features.{PORT_POWER}
 use Rattle.usb_request.specs.Codes.{SET_ADDRESS, DEVICE_OUT}
 use Rattle.usb_port.specs.PortState.{PortState, powered_off}
-use Rattle.usb_request.specs.Requests.{set_port_feature, set_configuration, get_hub_descriptor, get_status}
+use Rattle.usb_request.specs.Requests.{set_port_feature, set_configuration, get_hub_descriptor}
+use Rattle.usb_request.specs.Requests.{get_status}
 use Rattle.usb_request.specs.declared.setup.Setup.{Setup}
 use Rattle.usb_port.specs.declared.call.PortCall.TheVariants.{SetPower}
 use Rattle.usb_device.specs.declared.request.Registers.{Registers}
 use Rattle.usb_device.specs.Request.{Is, port_named}
 use Rattle.usb_device.specs.Rows.{State}
 use Rattle.usb_device.specs.Spec.{Hub}
-use Rattle.usb_device.specs.Tree.{Ports, ended, vacant, taken, port_of, all_off, place_at, Location, path_to, state_on}
+use Rattle.usb_device.specs.Tree.{Ports, ended, vacant, taken, port_of, all_off, place_at, Location}
+use Rattle.usb_device.specs.Tree.{path_to, state_on}
 use Rattle.usb_device.specs.View.{port_there, state_there}
 use Rattle.usb_world.specs.Courses.{is_harmless}
 use Rattle.usb_world.specs.Devices.{Was, EachWas}
@@ -23,7 +29,8 @@ use Rattle.usb_world.specs.PlanCourses.{spec_of}
 use Rattle.usb_world.specs.RestingPorts.{LeavesPortAlone, UnchangedOrPending}
 use Rattle.usb_world.specs.Steps.{AnyStep, Course, step}
 use Rattle.usb_world.specs.World.{World}
-use Rattle.usb_world.proofs.Interface.{course_joined, course_wider, pending_persists, ports_stand, rests_or_pends}
+use Rattle.usb_world.proofs.Interface.{course_joined, course_wider, pending_persists, ports_stand}
+use Rattle.usb_world.proofs.Interface.{rests_or_pends}
 use Rattle.usb_tree.proofs.Interface.{and_false, equal_same, false_true}
 use Rattle.usb_bus.specs.Traces.{StepRun}
 use Rattle.usb_transaction.specs.declared.target.Target.{Target}
@@ -33,11 +40,14 @@ use Rattle.usb_pipe.specs.declared.fault.PipeFault.{PipeFault}
 use Rattle.usb_pipe.proofs.Interface.{who_writes}
 use Rattle.usb_address.specs.Claims.{AddressMap}
 use Rattle.usb_address.specs.Ownership.{MapHolds, WhileBusWorks, KeepsAddresses}
-use Rattle.usb_address.proofs.Interface.{KeepsClaim, NoPower, place_ports, claimed_path, quiet_follows, read_keeps, same_setup, stays_unpowered}
+use Rattle.usb_address.proofs.Interface.{KeepsClaim, NoPower, place_ports, claimed_path}
+use Rattle.usb_address.proofs.Interface.{quiet_follows, read_keeps, same_setup, stays_unpowered}
 use Rattle.usb_hub.specs.Moments.{PortCallDone}
 use Rattle.usb_hub.specs.Requests.{TouchesNoPort, Queried, Commanded}
 use Rattle.usb_hub.specs.Settings.{ConfigurationAsked, WentOff}
-use Rattle.usb_hub.proofs.Interface.{AsksFor, hub_done, hub_named, hub_rests, spec_of-none, place_below, port_of_place, powered_stands, set_asks, set_keeps}
+use Rattle.usb_hub.proofs.Interface.{AsksFor, hub_done, hub_named, hub_rests, spec_of-none}
+use Rattle.usb_hub.proofs.Interface.{place_below, port_of_place, powered_stands, set_asks}
+use Rattle.usb_hub.proofs.Interface.{set_keeps}
 use Rattle.usb_enum.specs.declared.hub.HubFacts.{HubFacts}
 use Rattle.usb_enum.specs.Findings.{EmptiesPorts}
 use Rattle.usb_enum.specs.Frames.{OnlyAsks}
@@ -70,10 +80,12 @@ less_or (suc i) (suc n) h = pick (less_or i n (omega (arith, h)))
     pick (inr x) = inr (ap suc x)
 
 -- two ports of one device
-siblings : (e : List ℕ) (n i : ℕ) → same_number n i ≡ false → is_way (e ++ (suc n ∷ [])) (e ++ (suc i ∷ [])) ≡ false
+siblings : (e : List ℕ) (n i : ℕ) → same_number n i ≡ false
+    → is_way (e ++ (suc n ∷ [])) (e ++ (suc i ∷ [])) ≡ false
 unfolding is_way
 siblings [] n i h = ap (λ b. b && true) h
-siblings (m ∷ e) n i h = ap (λ b. same_number m m && b) (siblings e n i h) ∙ and_false (same_number m m)
+siblings (m ∷ e) n i h = ap (λ b. same_number m m && b) (siblings e n i h)
+    ∙ and_false (same_number m m)
 
 -- A port that went off
 
@@ -85,20 +97,26 @@ all_off_power (vacant c k) (suc i) b h = all_off_power k i b h
 all_off_power (taken c s a k) zero b h = ap (λ o. o.power) (sym (same_Some (powered_off c) b h))
 all_off_power (taken c s a k) (suc i) b h = all_off_power k i b h
 
-pub off_unpowered : (new : World) (j : Location) → WentOff new j → (i : ℕ) → NoPower (port_there new.roots (path_to j ++ (suc i ∷ [])))
-off_unpowered new j off i = stays_unpowered (path_to j ++ (suc i ∷ [])) (course_wider (λ s w k. k.leaves) (off.since (path_to j ++ (suc i ∷ [])))) then_off
+pub off_unpowered : (new : World) (j : Location) → WentOff new j → (i : ℕ)
+    → NoPower (port_there new.roots (path_to j ++ (suc i ∷ [])))
+off_unpowered new j off i = stays_unpowered (path_to j ++ (suc i ∷ []))
+    (course_wider (λ s w k. k.leaves) (off.since (path_to j ++ (suc i ∷ [])))) then_off
   where
     then_off : NoPower (port_there off.now.roots (path_to j ++ (suc i ∷ [])))
     then_off =
         subst NoPower
-        (sym (port_of_place off.now.roots (path_to j ++ (suc i ∷ [])) ∙ ap (option_map port_of) (place_below off.now.roots j.row j.rest i [] ∙ ap (λ o. place_at (place_ports o) i []) off.off)))
+        (sym (port_of_place off.now.roots (path_to j ++ (suc i ∷ []))
+        ∙ ap (option_map port_of) (place_below off.now.roots j.row j.rest i []
+        ∙ ap (λ o. place_at (place_ports o) i []) off.off)))
         (all_off_power off.ports i)
 
 -- A port that the hub has stands there
 
-port_within : (h : Option Hub) (g : Registers) (i : ℕ) → port_named h g (suc i) ≡ Some i → i < hub_ports h
+port_within : (h : Option Hub) (g : Registers) (i : ℕ) → port_named h g (suc i) ≡ Some i
+    → i < hub_ports h
 port_within None g i h = absurd (cc h)
-port_within (Some hub) g i h = within (split (not (g.configuration == 0)) (nat_le 1 (suc i)) (nat_le (suc i) hub.ports) h)
+port_within (Some hub) g i h = within (split (not (g.configuration == 0)) (nat_le 1 (suc i))
+    (nat_le (suc i) hub.ports) h)
   where
     split : (x y z : Bool) → (if x && y && z then Some (suc i - 1) else None) ≡ Some i → z ≡ true
     split true true true e = refl
@@ -116,16 +134,23 @@ there_is (Some b) h = (b, refl)
 -- Ports of a hub at a path
 
 -- a port that is known as empty, and of which nothing is asked
-pub vacant_on : (p : List ℕ) {old new : World} → Course (LeavesPortAlone p) old new → IsKnownAs old p None → IsKnownAs new p None
+pub vacant_on : (p : List ℕ) {old new : World} → Course (LeavesPortAlone p) old new
+    → IsKnownAs old p None → IsKnownAs new p None
 vacant_on p {old} {new} c (inl x) = inl (pending_persists p (course_wider (λ s w k. k.spares) c) x)
 vacant_on p {old} {new} c (inr x) = pick (rests_or_pends p c x.0)
   where
     pick : UnchangedOrPending old new p → IsKnownAs new p None
-    pick (inl y) = inr (y.0, spec_of-none (state_there new.roots p) (state_there old.roots p) y.1.what x.1)
+    pick (inl y) = inr (
+      y.0,
+      spec_of-none (state_there new.roots p) (state_there old.roots p)
+          y.1.what x.1,
+    )
     pick (inr y) = inl y
 
-power_course : {p : List ℕ} {old new : World} → PortCallDone p SetPower old new → Course AnyStep old new
-power_course {p} x = course_joined (course_wider (λ s w k. tt) x.repeats) (step x.last tt (course_wider (λ s w k. tt) (x.since p)))
+power_course : {p : List ℕ} {old new : World} → PortCallDone p SetPower old new
+    → Course AnyStep old new
+power_course {p} x = course_joined (course_wider (λ s w k. tt) x.repeats)
+    (step x.last tt (course_wider (λ s w k. tt) (x.since p)))
 
 module _ (t : Target) (f : AddressMap) (j : Location) (held : f (path_to j) ≡ Some t.addr) where
   abbrev port : ℕ → List ℕ
@@ -139,46 +164,61 @@ module _ (t : Target) (f : AddressMap) (j : Location) (held : f (path_to j) ≡ 
     pub powered : (i : ℕ) → i < n → IsKnownAs w (port i) None
     pub off : (i : ℕ) → n ≤ i → NoPower (port_there w.roots (port i))
 
-  module _ (n : ℕ) (old new : World) (ordered : IsPowered t (suc n) old new) (was : Given n old) where
-    asked : AsksFor (set_port_feature PORT_POWER (suc n)) SetPower (suc n)
-    asked = set_asks (suc n) SetPower PORT_POWER refl refl
+  module _ (n : ℕ) (old new : World) (ordered : IsPowered t (suc n) old new) (was : Given n old)
+    where
+      asked : AsksFor (set_port_feature PORT_POWER (suc n)) SetPower (suc n)
+      asked = set_asks (suc n) SetPower PORT_POWER refl refl
 
-    follows : KeepsClaim t (set_port_feature PORT_POWER (suc n)) (path_to j) (MapHolds f)
-    follows = quiet_follows t (set_port_feature PORT_POWER (suc n)) asked.same f (path_to j) (asked.harmless refl) held
+      follows : KeepsClaim t (set_port_feature PORT_POWER (suc n)) (path_to j) (MapHolds f)
+      follows = quiet_follows t (set_port_feature PORT_POWER (suc n)) asked.same f (path_to j)
+          (asked.harmless refl) held
 
-    owned : MapHolds f new
-    owned = ((set_keeps t PORT_POWER (suc n) old (Ok tt) new (λ h. absurd cc) ordered).kept f (record { so = λ h. was.owned; single = was.owned.single })).so ordered.ends.still
+      owned : MapHolds f new
+      owned = ((set_keeps t PORT_POWER (suc n) old (Ok tt) new (λ h. absurd cc) ordered).kept f
+          (record { so = λ h. was.owned; single = was.owned.single })).so ordered.ends.still
 
-    done : PortCallDone (port n) SetPower old new
-    done = hub_done t j n (set_port_feature PORT_POWER (suc n)) SetPower asked (MapHolds f) follows old new ordered was.owned owned (λ h. false_true (sym h ∙ asked.harmless refl))
+      done : PortCallDone (port n) SetPower old new
+      done = hub_done t j n (set_port_feature PORT_POWER (suc n)) SetPower asked (MapHolds f)
+          follows
+          old new ordered was.owned owned (λ h. false_true (sym h ∙ asked.harmless refl))
 
-    has : (s : State) × ((state_on old.roots j ≡ Some s) × (port_named s.spec.hub s.registers (suc n) ≡ Some n))
-    has = hub_named t j n (set_port_feature PORT_POWER (suc n)) SetPower asked (MapHolds f) follows old new ordered was.owned owned (λ h. false_true (sym h ∙ asked.harmless refl))
+      has : (s : State) × ((state_on old.roots j ≡ Some s)
+          × (port_named s.spec.hub s.registers (suc n) ≡ Some n))
+      has = hub_named t j n (set_port_feature PORT_POWER (suc n)) SetPower asked (MapHolds f)
+          follows
+          old new ordered was.owned owned (λ h. false_true (sym h ∙ asked.harmless refl))
 
-    stood : (b : PortState) × (port_there old.roots (port n) ≡ Some b)
-    stood =
-        there_is (port_there old.roots (port n))
-        (ports_stand old.roots j.row j.rest has.0.spec n was.order.sane (ap (option_map spec_of) has.1.0) (port_within has.0.spec.hub has.0.registers n has.1.1))
+      stood : (b : PortState) × (port_there old.roots (port n) ≡ Some b)
+      stood =
+          there_is (port_there old.roots (port n))
+          (ports_stand old.roots j.row j.rest has.0.spec n was.order.sane
+          (ap (option_map spec_of) has.1.0) (port_within has.0.spec.hub has.0.registers n
+          has.1.1))
 
-    now_powered : IsKnownAs new (port n) None
-    now_powered = powered_stands (port n) old new done was.order stood.0 stood.1 (was.off n (omega arith) stood.0 stood.1)
+      now_powered : IsKnownAs new (port n) None
+      now_powered = powered_stands (port n) old new done was.order stood.0 stood.1
+          (was.off n (omega arith) stood.0 stood.1)
 
-    rests : (i : ℕ) → same_number n i ≡ false → Course (LeavesPortAlone (port i)) old new
-    rests i apart =
-        hub_rests t j n (set_port_feature PORT_POWER (suc n)) SetPower asked (MapHolds f) follows old (Ok tt) new tt ordered.stages was.owned (port i) (siblings (path_to j) n i apart)
+      rests : (i : ℕ) → same_number n i ≡ false → Course (LeavesPortAlone (port i)) old new
+      rests i apart =
+          hub_rests t j n (set_port_feature PORT_POWER (suc n)) SetPower asked (MapHolds f) follows
+          old (Ok tt) new tt ordered.stages was.owned (port i) (siblings (path_to j) n i apart)
 
-    one_more : Given (suc n) new
-    one_more = record {
-      sound = ordered.ends.still;
-      owned = owned;
-      order = orderly_on was.order (power_course done);
-      powered = λ i below. by_number i (less_or i n below);
-      off = λ i above. stays_unpowered (port i) (course_wider (λ s w k. k.leaves) (rests i (apart_more n i (omega (arith, above))))) (was.off i (omega (arith, above)));
-    }
-      where
-        by_number : (i : ℕ) → (i < n) ⊎ (n ≡ i) → IsKnownAs new (port i) None
-        by_number i (inl below) = vacant_on (port i) (rests i (apart_less n i below)) (was.powered i below)
-        by_number i (inr same) = subst (λ i. IsKnownAs new (port i) None) same now_powered
+      one_more : Given (suc n) new
+      one_more = record {
+        sound = ordered.ends.still;
+        owned = owned;
+        order = orderly_on was.order (power_course done);
+        powered = λ i below. by_number i (less_or i n below);
+        off = λ i above. stays_unpowered (port i)
+            (course_wider (λ s w k. k.leaves) (rests i (apart_more n i (omega (arith, above)))))
+            (was.off i (omega (arith, above)));
+      }
+        where
+          by_number : (i : ℕ) → (i < n) ⊎ (n ≡ i) → IsKnownAs new (port i) None
+          by_number i (inl below) = vacant_on (port i) (rests i (apart_less n i below))
+              (was.powered i below)
+          by_number i (inr same) = subst (λ i. IsKnownAs new (port i) None) same now_powered
 
   pub all_given : (n : ℕ) (old new : World) → Powered t n old new → Given 0 old → Given n new
   all_given zero old new same was = subst (Given 0) (sym same) was
@@ -186,42 +226,63 @@ module _ (t : Target) (f : AddressMap) (j : Location) (held : f (path_to j) ≡ 
 
 -- The reads of a hub's descriptor and status
 
-asked_keeps : (t : Target) (request : Setup) (old : World) (answer : Result (Vec ℕ) PipeFault) (new : World) → is_harmless request ≡ true → Is request DEVICE_OUT SET_ADDRESS ≡ false → Queried t request old answer new → KeepsAddresses old new
-asked_keeps t request old answer new harmless other asked = read_keeps t request (same_setup request) harmless other 3 1 old new answer asked.ends asked.stages
+asked_keeps : (t : Target) (request : Setup) (old : World) (answer : Result (Vec ℕ) PipeFault)
+    (new : World) → is_harmless request ≡ true → Is request DEVICE_OUT SET_ADDRESS ≡ false
+    → Queried t request old answer new → KeepsAddresses old new
+asked_keeps t request old answer new harmless other asked =
+    read_keeps t request (same_setup request) harmless other 3 1 old new answer asked.ends
+    asked.stages
 
 module _ (t : Target) (f : AddressMap) (j : Location) (held : f (path_to j) ≡ Some t.addr) where
-  asked_on : (request : Setup) (old : World) (answer : Result (Vec ℕ) PipeFault) (new : World) → is_harmless request ≡ true → Is request DEVICE_OUT SET_ADDRESS ≡ false → new.fault ≡ None → Queried t request old answer new → Given t f j held 0 old → Given t f j held 0 new
+  asked_on : (request : Setup) (old : World) (answer : Result (Vec ℕ) PipeFault) (new : World)
+      → is_harmless request ≡ true → Is request DEVICE_OUT SET_ADDRESS ≡ false → new.fault ≡ None
+      → Queried t request old answer new → Given t f j held 0 old → Given t f j held 0 new
   asked_on request old answer new harmless other none asked was = record {
     sound = none;
-    owned = ((asked_keeps t request old answer new harmless other asked).kept f (record { so = λ h. was.owned; single = was.owned.single })).so none;
+    owned = ((asked_keeps t request old answer new harmless other asked).kept f
+        (record { so = λ h. was.owned; single = was.owned.single })).so none;
     order = orderly_on was.order (rests []);
     powered = λ i below. absurd (omega (arith, below));
-    off = λ i above. stays_unpowered (path_to j ++ (suc i ∷ [])) (course_wider (λ s w k. k.leaves) (rests (path_to j ++ (suc i ∷ [])))) (was.off i above);
+    off = λ i above. stays_unpowered (path_to j ++ (suc i ∷ []))
+        (course_wider (λ s w k. k.leaves) (rests (path_to j ++ (suc i ∷ [])))) (was.off i above);
   }
     where
       rests : TouchesNoPort old new
       rests = asked.rests (sound_end 3 answer old new asked.ends none)
 
-  started_given : (old new : World) (facts : HubFacts) → Started t old new facts → Given t f j held 0 old → Given t f j held facts.ports new
+  started_given : (old new : World) (facts : HubFacts) → Started t old new facts
+      → Given t f j held 0 old → Given t f j held facts.ports new
   unfolding get_hub_descriptor get_status
   started_given old new facts s was =
-      let counted = asked_on get_hub_descriptor old (Ok s.count.bytes) s.counted refl refl s.count.asked.ends.still s.count.asked was in
-      let told = asked_on get_status s.counted s.supply.told.answer s.asked refl refl s.supply.told.ends.still s.supply.told.asked counted in
+      let counted = asked_on get_hub_descriptor old (Ok s.count.bytes) s.counted refl refl
+      s.count.asked.ends.still s.count.asked was in
+      let told = asked_on get_status s.counted s.supply.told.answer s.asked refl refl
+      s.supply.told.ends.still s.supply.told.asked counted in
       all_given t f j held facts.ports s.asked new s.powered told
 
   -- what is known in the end, also after the reading of strings
-  given_below : (started new : World) (facts : HubFacts) → Given t f j held facts.ports started → new.fault ≡ None → OnlyAsks started new → (number : ℕ) → 1 ≤ number → number ≤ facts.ports
+  given_below : (started new : World) (facts : HubFacts) → Given t f j held facts.ports started
+      → new.fault ≡ None → OnlyAsks started new → (number : ℕ) → 1 ≤ number → number ≤ facts.ports
       → IsKnownAs new ((path_to j) ++ (number ∷ [])) None
   given_below started new facts given working asks zero least most = absurd (omega (arith, least))
   given_below started new facts given working asks (suc i) least most =
-      vacant_on (path_to j ++ (suc i ∷ [])) (asks.ports working (path_to j ++ (suc i ∷ []))) (given.powered i (omega (arith, most)))
+      vacant_on (path_to j ++ (suc i ∷ [])) (asks.ports working (path_to j ++ (suc i ∷ [])))
+      (given.powered i (omega (arith, most)))
 
 -- The configuring of a hub
 
-module _ (t : Target) (value l m : ℕ) (told : Option HubFacts) {before given set started new : World} {a b c d : Option (List ℕ)} (went_given : StepRun l before a given b) (keeps_given : KeepsAddresses before given)
-    (went_set : StepRun m given c set d) (ordered : Commanded t (set_configuration value) given (Ok tt) set) (what : set.shared ≡ false → EachWas (ConfigurationAsked t value (Ok tt) set) given set) (keeps_set : KeepsAddresses given set)
-    (starts : (facts : HubFacts) → told ≡ Some facts → Started t set started facts) (asks : OnlyAsks started new)
-    (f : AddressMap) (p : List ℕ) (held : f p ≡ Some t.addr) (till : WhileBusWorks (MapHolds f) before) (order : IsInOrder before) (working : new.fault ≡ None) where
+module _ (t : Target) (value l m : ℕ) (told : Option HubFacts)
+    {before given set started new : World} {a b c d : Option (List ℕ)}
+    (went_given : StepRun l before a given b) (keeps_given : KeepsAddresses before given)
+    (went_set : StepRun m given c set d) (ordered : Commanded t (set_configuration value) given
+    (Ok tt) set) (what : set.shared ≡ false
+    → EachWas (ConfigurationAsked t value (Ok tt) set) given set)
+    (keeps_set : KeepsAddresses given set)
+    (starts : (facts : HubFacts) → told ≡ Some facts → Started t set started facts)
+    (asks : OnlyAsks started new)
+    (f : AddressMap) (p : List ℕ) (held : f p ≡ Some t.addr)
+    (till : WhileBusWorks (MapHolds f) before) (order : IsInOrder before)
+    (working : new.fault ≡ None) where
   own_given : WhileBusWorks (MapHolds f) given
   own_given = keeps_given.kept f till
 
@@ -230,18 +291,24 @@ module _ (t : Target) (value l m : ℕ) (told : Option HubFacts) {before given s
 
   who : Answerer t given set
   unfolding set_configuration
-  who = who_writes t (set_configuration value) tt given set (same_setup (set_configuration value)) (λ h. false_true (sym h)) ordered.settled ordered.stages own_set.single
+  who = who_writes t (set_configuration value) tt given set (same_setup (set_configuration value))
+      (λ h. false_true (sym h)) ordered.settled ordered.stages own_set.single
 
   path : path_to who.spot ≡ p
   path =
-      claimed_path p t.addr given (record { claims = f; owned = own_given.so ordered.ends.sound; held = held }) who.spot who.before who.was_on who.stood
+      claimed_path p t.addr given (record {
+        claims = f;
+        owned = own_given.so ordered.ends.sound;
+        held = held;
+      }) who.spot who.before who.was_on who.stood
       (equal_same (address_of who.before) t.addr who.at)
 
   was : Was (ConfigurationAsked t value (Ok tt) set) given who.spot who.now
   was = what own_set.single who.spot who.now who.on who.stands
 
   went_off : WentOff set who.spot
-  went_off = (was.so.done (ap (λ s. is_at s t) (same_Some was.before who.before (sym was.stands ∙ who.stood)) ∙ who.at) refl).3
+  went_off = (was.so.done (ap (λ s. is_at s t) (same_Some was.before who.before (sym was.stands
+      ∙ who.stood)) ∙ who.at) refl).3
 
   held_there : f (path_to who.spot) ≡ Some t.addr
   held_there = ap f path ∙ held
@@ -250,7 +317,8 @@ module _ (t : Target) (value l m : ℕ) (told : Option HubFacts) {before given s
   all_off_set = record {
     sound = ordered.ends.still;
     owned = own_set.so ordered.ends.still;
-    order = went_in_order m given set went_set (went_in_order l before given went_given order) ordered.ends.still;
+    order = went_in_order m given set went_set (went_in_order l before given went_given order)
+        ordered.ends.still;
     powered = λ i below. absurd (omega (arith, below));
     off = λ i above. off_unpowered set who.spot went_off i;
   }
@@ -258,14 +326,25 @@ module _ (t : Target) (value l m : ℕ) (told : Option HubFacts) {before given s
   configured_below : HasEmptyPorts p told new
   configured_below facts number is least most =
       subst (λ q. IsKnownAs new (q ++ (number ∷ [])) None) path
-      (given_below t f who.spot held_there started new facts (started_given t f who.spot held_there set started facts (starts facts is) all_off_set) working asks number least most)
+      (given_below t f who.spot held_there started new facts
+      (started_given t f who.spot held_there set started facts (starts facts is) all_off_set)
+      working asks number least most)
 
 -- the same of what a call answered
-pub empties_ports : (t : Target) (value l m : ℕ) (told : Option HubFacts) (outcome : Result (Unit {0}) PipeFault) {before given set started new : World} {a b c d : Option (List ℕ)} → StepRun l before a given b → OnlyAsks before given
-    → StepRun m given c set d → outcome ≡ Ok tt → Commanded t (set_configuration value) given outcome set → (set.shared ≡ false → EachWas (ConfigurationAsked t value outcome set) given set) → KeepsAddresses given set
+pub empties_ports : (t : Target) (value l m : ℕ) (told : Option HubFacts)
+    (outcome : Result (Unit {0}) PipeFault) {before given set started new : World}
+    {a b c d : Option (List ℕ)} → StepRun l before a given b → OnlyAsks before given
+    → StepRun m given c set d → outcome ≡ Ok tt
+    → Commanded t (set_configuration value) given outcome set
+    → (set.shared ≡ false → EachWas (ConfigurationAsked t value outcome set) given set)
+    → KeepsAddresses given set
     → ((facts : HubFacts) → told ≡ Some facts → Started t set started facts) → OnlyAsks started new
     → EmptiesPorts t.addr told before new
-empties_ports t value l m told outcome {before} {given} {set} {started} {new} went_given asks_given went_set done ordered what keeps starts asks = record {
-  empty = configured_below t value l m told went_given asks_given.addresses went_set (subst (λ r. Commanded t (set_configuration value) given r set) done ordered)
-      (subst (λ r. set.shared ≡ false → EachWas (ConfigurationAsked t value r set) given set) done what) keeps starts asks;
-}
+empties_ports t value l m told outcome {before} {given} {set} {started} {new} went_given asks_given
+    went_set done ordered what keeps starts asks = record {
+      empty = configured_below t value l m told went_given asks_given.addresses went_set
+          (subst (λ r. Commanded t (set_configuration value) given r set) done ordered)
+          (subst (λ r. set.shared ≡ false → EachWas (ConfigurationAsked t value r set) given set)
+          done
+          what) keeps starts asks;
+    }

@@ -1,22 +1,29 @@
--- What is so of a description by which a device is accepted: the configuration that it is set to is the one that the device finds by its value.
-use Rattle.std.proofs.Common.{◌≡◌, ◌∙◌, refl, sym, ap, subst, arith, Bool, true, false, ℕ, zero, suc, ◌<◌, ◌≤◌, ◌==◌, ◌&&◌, not, if◌then◌else◌, List, [], ◌∷◌, length, take, map, min, Option, None, Some, Result, Ok, Err, is_ok}
+-- What is so of a description by which a device is accepted: the configuration that it is set to is
+-- the one that the device finds by its value.
+use Rattle.std.proofs.Common.{◌≡◌, ◌∙◌, refl, sym, ap, subst, arith, Bool, true, false, ℕ, zero}
+use Rattle.std.proofs.Common.{suc, ◌<◌, ◌≤◌, ◌==◌, ◌&&◌, not, if◌then◌else◌, List, [], ◌∷◌, length}
+use Rattle.std.proofs.Common.{take, map, min, Option, None, Some, Result, Ok, Err, is_ok}
 use Rattle.std.specs.Prelude.{◌||◌, nat_lt, nat_le, slice_get, slice_index, slice_index_or}
 use Rattle.std.proofs.lemmas.List.{length-map}
 use Rattle.std.proofs.lemmas.List.Quantifiers.{position-Some}
 use Rattle.std.proofs.lemmas.Option.{same_Some}
 use Rattle.usb_descriptor.specs.Config.{configuration_value}
 use Rattle.usb_descriptor.specs.Device.{device_head_of, configuration_count}
-use Rattle.usb_device.specs.Bulk.{bulk_at, bulk_in as bulk_of_text, text_with, total_of, has_value as carries}
+use Rattle.usb_device.specs.Bulk.{bulk_at, bulk_in as bulk_of_text, text_with, total_of}
+use Rattle.usb_device.specs.Bulk.{has_value as carries}
 use Rattle.usb_device.specs.declared.request.Registers.{Registers}
 use Rattle.usb_device.specs.Spec.{Spec}
 use Rattle.usb_tree.proofs.Interface.{and_false, neither, same_equal}
 use Rattle.usb_enum.specs.declared.cause.Cause.{Cause}
-use Rattle.usb_enum.specs.declared.cause.Cause.TheVariants.{Silent, Busy, Stalled, BadDevice, TooDeep, BadHub}
+use Rattle.usb_enum.specs.declared.cause.Cause.TheVariants.{Silent, Busy, Stalled, BadDevice}
+use Rattle.usb_enum.specs.declared.cause.Cause.TheVariants.{TooDeep, BadHub}
 use Rattle.usb_enum.specs.declared.cause.Request.TheVariants as request
-use Rattle.usb_enum.specs.Verdicts.{verdict, read_verdict, set_verdict, first_fault, texts_below, texts_of, text_read, is_good_text, is_good_hub}
+use Rattle.usb_enum.specs.Verdicts.{verdict, read_verdict, set_verdict, first_fault, texts_below}
+use Rattle.usb_enum.specs.Verdicts.{texts_of, text_read, is_good_text, is_good_hub}
 use Rattle.usb_enum.specs.Device.{is_device, is_hub_device}
 use Rattle.usb_enum.specs.Text.{choice_of, needs_of, any_has_value}
-use Rattle.usb_enum.proofs.readings.SettingValues.{each_good, IsFresh, fresh_text, mapped_at, IsConfigurationRead, good_read, less_than}
+use Rattle.usb_enum.proofs.readings.SettingValues.{each_good, IsFresh, fresh_text, mapped_at}
+use Rattle.usb_enum.proofs.readings.SettingValues.{IsConfigurationRead, good_read, less_than}
 use Rattle.usb_pipe.proofs.Interface.{is_some_byte}
 
 -- What is so of a description that is accepted
@@ -26,37 +33,48 @@ pub record AcceptsChosen (spec : Spec) (supply chosen : ℕ) : Type 0 where
   pub free : spec.busy ≡ false
   pub good : first_fault spec (configuration_count spec.descriptor) ≡ None
   pub within : choice_of supply (texts_of spec) ≡ Some chosen
-  pub hub : (is_hub_device spec.descriptor && not (is_good_hub spec (slice_index_or (texts_of spec) chosen []))) ≡ false
+  pub hub : (is_hub_device spec.descriptor &&
+      not (is_good_hub spec (slice_index_or (texts_of spec) chosen []))) ≡ false
 
-if_not : (b : Bool) (x : Cause) (r : Result ℕ Cause) (n : ℕ) → (if b then Err x else r) ≡ Ok n → (b ≡ false) × (r ≡ Ok n)
+if_not : (b : Bool) (x : Cause) (r : Result ℕ Cause) (n : ℕ) → (if b then Err x else r) ≡ Ok n
+    → (b ≡ false) × (r ≡ Ok n)
 if_not true x r n e = absurd (cc e)
 if_not false x r n e = (refl, e)
 
 same_ok : {E : Type 0} (a b : ℕ) → (let r : Result ℕ E = Ok a in r ≡ Ok b) → a ≡ b
 same_ok a b e = cc e
 
-module _ (spec : Spec) (supply chosen : ℕ) (loud : spec.silent ≡ false) (free : spec.busy ≡ false) where
-  set_by : (o : Option ℕ) → first_fault spec (configuration_count spec.descriptor) ≡ None → choice_of supply (texts_of spec) ≡ o → set_verdict spec (texts_of spec) o ≡ Ok chosen → AcceptsChosen spec supply chosen
-  set_by None good e v = absurd (cc v)
-  set_by (Some k) good e v =
-      let bad : Bool = is_hub_device spec.descriptor && not (is_good_hub spec (slice_index_or (texts_of spec) k [])) in
-      let a = if_not spec.stalls.set_config (Stalled request.SetConfig) (if bad then Err BadHub else Ok k) chosen v in
-      let b = if_not bad BadHub (Ok k) chosen a.1 in
-      let same : k ≡ chosen = same_ok k chosen b.1 in
-      record {
-        loud = loud;
-        free = free;
-        good = good;
-        within = e ∙ ap Some same;
-        hub = subst (λ i. (is_hub_device spec.descriptor && not (is_good_hub spec (slice_index_or (texts_of spec) i []))) ≡ false) same b.0;
-      }
+module _ (spec : Spec) (supply chosen : ℕ) (loud : spec.silent ≡ false) (free : spec.busy ≡ false)
+  where
+    set_by : (o : Option ℕ) → first_fault spec (configuration_count spec.descriptor) ≡ None
+        → choice_of supply (texts_of spec) ≡ o → set_verdict spec (texts_of spec) o ≡ Ok chosen
+        → AcceptsChosen spec supply chosen
+    set_by None good e v = absurd (cc v)
+    set_by (Some k) good e v =
+        let bad : Bool = is_hub_device spec.descriptor &&
+        not (is_good_hub spec (slice_index_or (texts_of spec) k [])) in
+        let a = if_not spec.stalls.set_config (Stalled request.SetConfig)
+        (if bad then Err BadHub else Ok k) chosen v in
+        let b = if_not bad BadHub (Ok k) chosen a.1 in
+        let same : k ≡ chosen = same_ok k chosen b.1 in
+        record {
+          loud = loud;
+          free = free;
+          good = good;
+          within = e ∙ ap Some same;
+          hub = subst (λ i. (is_hub_device spec.descriptor &&
+              not (is_good_hub spec (slice_index_or (texts_of spec) i []))) ≡ false) same b.0;
+        }
 
-  read_by : (o : Option Cause) → first_fault spec (configuration_count spec.descriptor) ≡ o → read_verdict spec supply o ≡ Ok chosen → AcceptsChosen spec supply chosen
-  read_by (Some cause) e v = absurd (cc v)
-  read_by None e v = set_by (choice_of supply (texts_of spec)) e refl v
+    read_by : (o : Option Cause) → first_fault spec (configuration_count spec.descriptor) ≡ o
+        → read_verdict spec supply o ≡ Ok chosen → AcceptsChosen spec supply chosen
+    read_by (Some cause) e v = absurd (cc v)
+    read_by None e v = set_by (choice_of supply (texts_of spec)) e refl v
 
 last_row : (a b c d f g h : Bool) (r : Result ℕ Cause) (n : ℕ)
-    → (if a then Err Silent else if b then Err Busy else if c then Err (Stalled request.Device) else if d then Err BadDevice else if f then Err (Stalled request.Address) else if g then Err BadDevice else if h then Err TooDeep else r) ≡ Ok n
+    → (if a then Err Silent else if b then Err Busy else if c then Err (Stalled request.Device)
+    else if d then Err BadDevice else if f then Err (Stalled request.Address) else if g
+    then Err BadDevice else if h then Err TooDeep else r) ≡ Ok n
     → (a ≡ false) × (b ≡ false) × (r ≡ Ok n)
 last_row true b c d f g h r n e = absurd (cc e)
 last_row false true c d f g h r n e = absurd (cc e)
@@ -67,30 +85,44 @@ last_row false false false false false true h r n e = absurd (cc e)
 last_row false false false false false false true r n e = absurd (cc e)
 last_row false false false false false false false r n e = (refl, refl, e)
 
-pub accepts : (spec : Spec) (tier supply chosen : ℕ) → verdict spec tier supply ≡ Ok chosen → AcceptsChosen spec supply chosen
+pub accepts : (spec : Spec) (tier supply chosen : ℕ) → verdict spec tier supply ≡ Ok chosen
+    → AcceptsChosen spec supply chosen
 unfolding verdict
 accepts spec tier supply chosen e =
     let row =
-    last_row spec.silent spec.busy spec.stalls.device (not (is_ok (device_head_of spec.low (take 8 spec.descriptor)))) spec.stalls.address (not (is_device spec.low (take 18 spec.descriptor))) (is_hub_device spec.descriptor && tier == 7)
+    last_row spec.silent spec.busy spec.stalls.device
+    (not (is_ok (device_head_of spec.low (take 8 spec.descriptor)))) spec.stalls.address
+    (not (is_device spec.low (take 18 spec.descriptor))) (is_hub_device spec.descriptor &&
+    tier == 7)
     (read_verdict spec supply (first_fault spec (configuration_count spec.descriptor))) chosen e in
-    read_by spec supply chosen row.0 row.1 (first_fault spec (configuration_count spec.descriptor)) refl row.2
+    read_by spec supply chosen row.0 row.1 (first_fault spec (configuration_count spec.descriptor))
+    refl row.2
 
 -- The device finds it by its value
 
-found_text : (configs : List (List ℕ)) (c v : ℕ) (text : List ℕ) → slice_get configs c ≡ Some text → ((i : ℕ) (t : List ℕ) → i < c → slice_get configs i ≡ Some t → is_good_text t ≡ true)
-    → any_has_value v (map text_read (take c configs)) ≡ false → is_good_text text ≡ true → slice_index text 5 ≡ v → text_with v configs ≡ text
+found_text : (configs : List (List ℕ)) (c v : ℕ) (text : List ℕ) → slice_get configs c ≡ Some text
+    → ((i : ℕ) (t : List ℕ) → i < c → slice_get configs i ≡ Some t → is_good_text t ≡ true)
+    → any_has_value v (map text_read (take c configs)) ≡ false → is_good_text text ≡ true
+    → slice_index text 5 ≡ v → text_with v configs ≡ text
 found_text [] c v text at goods first good value = absurd (cc at)
 found_text (t ∷ ts) zero v text at goods first good value =
     let same : t ≡ text = same_Some t text at in
     let long = (good_read text good).long in
     let has : carries v t ≡ true =
-    subst (λ x. carries v x ≡ true) (sym same) (ap (λ b. b && slice_index text 5 == v) (less_than 5 (length text) (omega (arith, long))) ∙ same_equal (slice_index text 5) v value) in
+    subst (λ x. carries v x ≡ true) (sym same)
+    (ap (λ b. b && slice_index text 5 == v) (less_than 5 (length text) (omega (arith, long)))
+    ∙ same_equal (slice_index text 5) v value) in
     ap (λ b. if b then t else text_with v ts) has ∙ same
 found_text (t ∷ ts) (suc c) v text at goods first good value =
-    let parts = neither (configuration_value (text_read t) == v) (any_has_value v (map text_read (take c ts))) first in
-    let other : (slice_index t 5 == v) ≡ false = ap (λ n. n == v) (sym (good_read t (goods 0 t (omega arith) refl)).value) ∙ parts.0 in
-    let has : carries v t ≡ false = ap (λ b. nat_lt 5 (length t) && b) other ∙ and_false (nat_lt 5 (length t)) in
-    ap (λ b. if b then t else text_with v ts) has ∙ found_text ts c v text at (λ i u below e. goods (suc i) u (omega (arith, below)) e) parts.1 good value
+    let parts = neither (configuration_value (text_read t) == v)
+    (any_has_value v (map text_read (take c ts))) first in
+    let other : (slice_index t 5 == v) ≡ false =
+    ap (λ n. n == v) (sym (good_read t (goods 0 t (omega arith) refl)).value) ∙ parts.0 in
+    let has : carries v t ≡ false = ap (λ b. nat_lt 5 (length t) && b) other
+    ∙ and_false (nat_lt 5 (length t)) in
+    ap (λ b. if b then t else text_with v ts) has
+    ∙ found_text ts c v text at (λ i u below e. goods (suc i) u (omega (arith, below)) e)
+    parts.1 good value
 
 -- the text that was chosen
 pub record HasChosen (spec : Spec) (chosen : ℕ) : Type 0 where
@@ -99,16 +131,21 @@ pub record HasChosen (spec : Spec) (chosen : ℕ) : Type 0 where
   pub read : IsConfigurationRead text
   pub found : text_with (slice_index text 5) spec.configs ≡ text
 
-chosen_below : (supply : ℕ) (texts : List (List ℕ)) (chosen : ℕ) → choice_of supply texts ≡ Some chosen → chosen < length texts
+chosen_below : (supply : ℕ) (texts : List (List ℕ)) (chosen : ℕ)
+    → choice_of supply texts ≡ Some chosen → chosen < length texts
 unfolding needs_of
 chosen_below supply texts chosen e =
-    subst (λ n. chosen < n) (length-map texts _) (position-Some (λ need. nat_le need supply) (needs_of texts) chosen 0 e).0
+    subst (λ n. chosen < n) (length-map texts _)
+    (position-Some (λ need. nat_le need supply) (needs_of texts) chosen 0 e).0
 
-pub has_chosen : (spec : Spec) (supply chosen : ℕ) → AcceptsChosen spec supply chosen → HasChosen spec chosen
+pub has_chosen : (spec : Spec) (supply chosen : ℕ) → AcceptsChosen spec supply chosen
+    → HasChosen spec chosen
 has_chosen spec supply chosen a =
     let count : ℕ = configuration_count spec.descriptor in
-    let at = mapped_at text_read spec.configs count chosen (chosen_below supply (texts_of spec) chosen a.within) in
-    let fresh : IsFresh spec chosen at.text = fresh_text spec chosen at.text at.stands (each_good spec count chosen at.below a.good) in
+    let at = mapped_at text_read spec.configs count chosen
+    (chosen_below supply (texts_of spec) chosen a.within) in
+    let fresh : IsFresh spec chosen at.text =
+    fresh_text spec chosen at.text at.stands (each_good spec count chosen at.below a.good) in
     let read : IsConfigurationRead at.text = good_read at.text fresh.good in
     let within = at.below in
     record {
@@ -117,22 +154,30 @@ has_chosen spec supply chosen a =
       read = read;
       found =
           found_text spec.configs chosen (slice_index at.text 5) at.text at.stands
-          (λ i t less e. (fresh_text spec i t e (each_good spec count i (omega (arith, less, within)) a.good)).good)
-          (ap (λ v. any_has_value v (texts_below spec chosen)) (sym read.value) ∙ fresh.first) fresh.good refl;
+          (λ i t less e. (fresh_text spec i t e
+          (each_good spec count i (omega (arith, less, within)) a.good)).good)
+          (ap (λ v. any_has_value v (texts_below spec chosen)) (sym read.value) ∙ fresh.first)
+          fresh.good refl;
     }
 
 -- the configuration that it is set to is not 0
-pub chosen_some : (spec : Spec) (chosen : ℕ) → HasChosen spec chosen → 1 ≤ configuration_value (slice_index_or (texts_of spec) chosen [])
-chosen_some spec chosen h = subst (λ n. 1 ≤ n) (sym (ap configuration_value h.is ∙ h.read.value)) h.read.some
+pub chosen_some : (spec : Spec) (chosen : ℕ) → HasChosen spec chosen
+    → 1 ≤ configuration_value (slice_index_or (texts_of spec) chosen [])
+chosen_some spec chosen h = subst (λ n. 1 ≤ n) (sym (ap configuration_value h.is ∙ h.read.value))
+    h.read.some
 
 abbrev cut_bulk : Bool → List ℕ → Option (ℕ × ℕ)
 cut_bulk is_in text = bulk_of_text is_in (take (min (total_of text) (length text)) text)
 
 -- a bulk endpoint of the device at full speed, set to it, is that of its text
-pub chosen_bulk : (spec : Spec) (chosen : ℕ) (g : Registers) (is_in : Bool) (h : HasChosen spec chosen) → spec.low ≡ false → g.configuration ≡ slice_index h.text 5 → bulk_at spec g is_in ≡ bulk_of_text is_in (slice_index_or (texts_of spec) chosen [])
+pub chosen_bulk : (spec : Spec) (chosen : ℕ) (g : Registers) (is_in : Bool)
+    (h : HasChosen spec chosen) → spec.low ≡ false → g.configuration ≡ slice_index h.text 5
+    → bulk_at spec g is_in ≡ bulk_of_text is_in (slice_index_or (texts_of spec) chosen [])
 chosen_bulk spec chosen g is_in h fast set =
-    ap (λ b. if b || g.configuration == 0 then None else cut_bulk is_in (text_with g.configuration spec.configs)) fast
-    ∙ ap (λ b. if b then None else cut_bulk is_in (text_with g.configuration spec.configs)) (ap (λ n. n == 0) set ∙ is_some_byte (slice_index h.text 5) h.read.some)
+    ap (λ b. if b || g.configuration == 0 then None else cut_bulk is_in
+    (text_with g.configuration spec.configs)) fast
+    ∙ ap (λ b. if b then None else cut_bulk is_in (text_with g.configuration spec.configs))
+    (ap (λ n. n == 0) set ∙ is_some_byte (slice_index h.text 5) h.read.some)
     ∙ ap (λ v. cut_bulk is_in (text_with v spec.configs)) set
     ∙ ap (cut_bulk is_in) h.found
     ∙ ap (bulk_of_text is_in) (h.read.read ∙ sym h.is)

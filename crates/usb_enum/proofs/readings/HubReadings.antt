@@ -1,5 +1,6 @@
 -- What is learned of a hub.
-use Rattle.std.proofs.Common.{◌≡◌, ℕ, ◌==◌, not, true, false, List, take, Option, None, Some, option_map, is_some, Result, Ok, refl, ap, sym, subst, ◌∙◌, arith}
+use Rattle.std.proofs.Common.{◌≡◌, ℕ, ◌==◌, not, true, false, List, take, Option, None, Some}
+use Rattle.std.proofs.Common.{option_map, is_some, Result, Ok, refl, ap, sym, subst, ◌∙◌, arith}
 use Rattle.std.proofs.lemmas.Bool.{and_parts, and_from}
 use Rattle.std.proofs.lemmas.Bool.Decides.{nat_tests}
 use Rattle.std.proofs.lemmas.Option.{same_Some}
@@ -26,19 +27,39 @@ use Rattle.usb_enum.specs.LearnedFacts.{DeviceFact}
 use Rattle.usb_enum.specs.Readings.{AtMaximum, Ruled, HasPorts, HasSupply, IsGoodHub}
 use Rattle.usb_enum.specs.Stop.{answered_or}
 use Rattle.usb_enum.proofs.refusals.Refusals.{answered_ok}
-use Rattle.usb_enum.proofs.readings.Readings.{given_allows, answer_learned, text_learned, learns_on, learns_kept}
+use Rattle.usb_enum.proofs.readings.Readings.{given_allows, answer_learned, text_learned, learns_on}
+use Rattle.usb_enum.proofs.readings.Readings.{learns_kept}
 
-pub ports_learned : (t : Target) (stalled : Cause) (outcome : Result (Vec ℕ) PipeFault) (bytes : Vec ℕ) (hub : List ℕ) (old new : World) → answered_or stalled outcome ≡ Ok bytes → Ok hub ≡ hub_spelled bytes.items → hub ≡ bytes.items
-    → (new.shared ≡ false → EachWas (HubAsked t outcome) old new) → DeviceFact (AtMaximum t (HasPorts (port_count hub))) t old new
+pub ports_learned : (t : Target) (stalled : Cause) (outcome : Result (Vec ℕ) PipeFault)
+    (bytes : Vec ℕ) (hub : List ℕ) (old new : World) → answered_or stalled outcome ≡ Ok bytes
+    → Ok hub ≡ hub_spelled bytes.items → hub ≡ bytes.items
+    → (new.shared ≡ false → EachWas (HubAsked t outcome) old new)
+    → DeviceFact (AtMaximum t (HasPorts (port_count hub))) t old new
 ports_learned t stalled outcome bytes hub old new answered good same =
-    text_learned hub_given (HasPorts (port_count hub)) t 9 outcome bytes old new (answered_ok stalled outcome bytes answered)
-    (λ spec text given first. record { text = text; given = given; good = ap hub_spelled (sym first) ∙ sym good ∙ ap Ok (same ∙ first); said = ap port_count (same ∙ first) })
+    text_learned hub_given (HasPorts (port_count hub)) t 9 outcome bytes old new
+    (answered_ok stalled outcome bytes answered)
+    (λ spec text given first. record {
+      text = text;
+      given = given;
+      good = ap hub_spelled (sym first)
+          ∙ sym good ∙ ap Ok (same ∙ first);
+      said = ap port_count (same ∙ first);
+    })
 
-pub supply_learned : (t : Target) (stalled : Cause) (outcome : Result DeviceStatus PipeFault) (status : DeviceStatus) (old new : World) → answered_or stalled outcome ≡ Ok status
-    → (new.shared ≡ false → EachWas (StatusAsked t outcome) old new) → DeviceFact (HasSupply (supply_of false status.self_powered)) t old new
+pub supply_learned : (t : Target) (stalled : Cause) (outcome : Result DeviceStatus PipeFault)
+    (status : DeviceStatus) (old new : World) → answered_or stalled outcome ≡ Ok status
+    → (new.shared ≡ false → EachWas (StatusAsked t outcome) old new)
+    → DeviceFact (HasSupply (supply_of false status.self_powered)) t old new
 supply_learned t stalled outcome status old new answered =
-    answer_learned status_given (λ s given. status_given s.spec ≡ Some given) t outcome old new (HasSupply (supply_of false status.self_powered)) status (answered_ok stalled outcome status answered)
-    (λ s is. let given = given_allows s.spec.stalls.status _ status is in record { given = given.0; said = ap (λ (x : DeviceStatus). supply_of false x.self_powered) (sym (same_Some _ _ given.1)) })
+    answer_learned status_given (λ s given. status_given s.spec ≡ Some given) t outcome old new
+    (HasSupply (supply_of false status.self_powered)) status
+    (answered_ok stalled outcome status answered)
+    (λ s is. let given = given_allows s.spec.stalls.status _ status is in
+    record {
+      given = given.0;
+      said = ap (λ (x : DeviceStatus). supply_of false x.self_powered)
+          (sym (same_Some _ _ given.1));
+    })
 
 -- The facts of a hub, by the rules of devices
 
@@ -49,29 +70,36 @@ record Given (spec : Spec) (text : List ℕ) : Type 0 where
   pub descriptor : hub.descriptor ≡ text
   pub allowed : spec.stalls.hub ≡ false
 
-descriptor_of_hub : (o : Option Hub) (text : List ℕ) → option_map (λ (hub : Hub). hub.descriptor) o ≡ Some text → (hub : Hub) × (o ≡ Some hub) × (hub.descriptor ≡ text)
+descriptor_of_hub : (o : Option Hub) (text : List ℕ) → option_map (λ (hub : Hub). hub.descriptor) o
+    ≡ Some text → (hub : Hub) × (o ≡ Some hub) × (hub.descriptor ≡ text)
 descriptor_of_hub None text is = absurd cc
 descriptor_of_hub (Some hub) text is = (hub, refl, same_Some hub.descriptor text is)
 
 was_given : (spec : Spec) (text : List ℕ) → hub_given spec ≡ Some text → Given spec text
 was_given spec text given =
-    let allowed = given_allows spec.stalls.hub (option_map (λ (hub : Hub). hub.descriptor) spec.hub) text given in
+    let allowed = given_allows spec.stalls.hub (option_map (λ (hub : Hub). hub.descriptor) spec.hub)
+    text given in
     let found = descriptor_of_hub spec.hub text allowed.1 in
     record { hub = found.0; is = found.1; descriptor = found.2; allowed = allowed.0 }
 
-hub_gives : (spec : Spec) (text : List ℕ) → Given spec text → spec.stalls.status ≡ false → hub_spelled (take 9 text) ≡ Ok (take 9 text) → gives_hub spec spec.hub ≡ true
+hub_gives : (spec : Spec) (text : List ℕ) → Given spec text → spec.stalls.status ≡ false
+    → hub_spelled (take 9 text) ≡ Ok (take 9 text) → gives_hub spec spec.hub ≡ true
 hub_gives spec text g status good = rw (g.is, g.allowed, status, g.descriptor, good) refl
 
-ports_agree : (ports : ℕ) (text : List ℕ) → hub_spelled (take 9 text) ≡ Ok (take 9 text) → agrees ports text ≡ true → port_count (take 9 text) ≡ ports
-ports_agree ports text good agree = same (port_count (take 9 text)) ports (rw (agrees, good) at agree)
+ports_agree : (ports : ℕ) (text : List ℕ) → hub_spelled (take 9 text) ≡ Ok (take 9 text)
+    → agrees ports text ≡ true → port_count (take 9 text) ≡ ports
+ports_agree ports text good agree = same (port_count (take 9 text)) ports
+    (rw (agrees, good) at agree)
   where
     same : (m n : ℕ) → (m == n) ≡ true → m ≡ n
     same m n h = grind (arith, nat_tests, h)
 
-hub_class : (spec : Spec) (hub : Hub) → spec.hub ≡ Some hub → hub_fits spec.low spec.descriptor spec.hub ≡ true → is_hub_device spec.descriptor ≡ true
+hub_class : (spec : Spec) (hub : Hub) → spec.hub ≡ Some hub
+    → hub_fits spec.low spec.descriptor spec.hub ≡ true → is_hub_device spec.descriptor ≡ true
 hub_class spec hub is fits =
     let class = (and_parts (not spec.low) (has_hub_class spec.descriptor) (rw is at fits)).1 in
-    (and_parts (nat_lt 4 (length spec.descriptor)) (slice_index spec.descriptor 4 == HUB_CLASS) class).1
+    (and_parts (nat_lt 4 (length spec.descriptor)) (slice_index spec.descriptor 4 == HUB_CLASS)
+    class).1
 
 -- it has as many ports as its descriptor says
 pub record HadPorts (ports : ℕ) (spec : Spec) : Type 0 where
@@ -86,27 +114,40 @@ had_ports ports spec p ruled =
     record {
       hub = g.hub;
       is = g.is;
-      count = p.said ∙ ports_agree g.hub.ports p.text p.good (subst (λ x. agrees g.hub.ports x ≡ true) g.descriptor hub.agree);
+      count = p.said ∙ ports_agree g.hub.ports p.text p.good
+          (subst (λ x. agrees g.hub.ports x ≡ true) g.descriptor hub.agree);
     }
 
-facts_are : (spec : Spec) (hub : Hub) (ports supply : ℕ) → spec.hub ≡ Some hub → is_hub_device spec.descriptor ≡ true → ports ≡ hub.ports → supply ≡ supply_of false spec.self_powered
+facts_are : (spec : Spec) (hub : Hub) (ports supply : ℕ) → spec.hub ≡ Some hub
+    → is_hub_device spec.descriptor ≡ true → ports ≡ hub.ports
+    → supply ≡ supply_of false spec.self_powered
     → facts_of spec ≡ Some (record { ports = ports; supply = supply })
 facts_are spec hub ports supply is class count said = rw (class, is, count, said) refl
 
-is_good_hub_read : (text : List ℕ) (ports supply : ℕ) (spec : Spec) → is_some (status_endpoint_of text) ≡ true → HasPorts ports spec → HasSupply supply spec → IsSpec spec
+is_good_hub_read : (text : List ℕ) (ports supply : ℕ) (spec : Spec)
+    → is_some (status_endpoint_of text) ≡ true → HasPorts ports spec → HasSupply supply spec
+    → IsSpec spec
     → IsGoodHub text (record { ports = ports; supply = supply }) spec
 is_good_hub_read text ports supply spec endpoint p s ruled =
     let g = was_given spec p.text p.given in
     let had = had_ports ports spec p ruled in
     record {
-      good = and_from (is_some (status_endpoint_of text)) (gives_hub spec spec.hub) endpoint (hub_gives spec p.text g s.given p.good);
-      told = facts_are spec had.hub ports supply had.is (hub_class spec had.hub had.is ruled.fits) had.count s.said;
+      good = and_from (is_some (status_endpoint_of text)) (gives_hub spec spec.hub) endpoint
+          (hub_gives spec p.text g s.given p.good);
+      told = facts_are spec had.hub ports supply had.is (hub_class spec had.hub had.is ruled.fits)
+          had.count s.said;
     }
 
-pub hub_learned : (t : Target) (text : List ℕ) (ports supply m n : ℕ) (old a b new : World) {q r s u : Option (List ℕ)} → is_some (status_endpoint_of text) ≡ true
-    → DeviceFact (AtMaximum t (HasPorts ports)) t old a → StepRun m a q b r → DeviceFact (HasSupply supply) t a b → StepRun n b s new u → KeepsDevices b new
-    → DeviceFact (AtMaximum t (Ruled (IsGoodHub text (record { ports = ports; supply = supply })))) t old new
+pub hub_learned : (t : Target) (text : List ℕ) (ports supply m n : ℕ) (old a b new : World)
+    {q r s u : Option (List ℕ)} → is_some (status_endpoint_of text) ≡ true
+    → DeviceFact (AtMaximum t (HasPorts ports)) t old a → StepRun m a q b r
+    → DeviceFact (HasSupply supply) t a b → StepRun n b s new u → KeepsDevices b new
+    → DeviceFact (AtMaximum t (Ruled (IsGoodHub text (record { ports = ports; supply = supply }))))
+    t old new
 hub_learned t text ports supply m n old a b new endpoint counted wa supplied wb keeps =
-    let Facts : Spec → Type 0 = AtMaximum t (Ruled (IsGoodHub text (record { ports = ports; supply = supply }))) in
+    let Facts : Spec → Type 0 = AtMaximum t
+    (Ruled (IsGoodHub text (record { ports = ports; supply = supply }))) in
     learns_kept Facts t n old b new
-    (learns_on (AtMaximum t (HasPorts ports)) (HasSupply supply) Facts t m old a b (λ spec p s max ruled. is_good_hub_read text ports supply spec endpoint (p max) s ruled) counted wa supplied) wb keeps
+    (learns_on (AtMaximum t (HasPorts ports)) (HasSupply supply) Facts t m old a b
+    (λ spec p s max ruled. is_good_hub_read text ports supply spec endpoint (p max) s ruled)
+    counted wa supplied) wb keeps

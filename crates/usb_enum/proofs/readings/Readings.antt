@@ -1,5 +1,7 @@
 -- What is learned of a device by a request for data, and of its configurations.
-use Rattle.std.proofs.Common.{◌≡◌, ◌+◌, ℕ, inl, zero, suc, Bool, true, false, if◌then◌else◌, List, [], ◌∷◌, ◌++◌, map, take, slice_get, Option, None, Some, Result, Ok, Err, is_ok, refl, ap, sym, subst, ◌∙◌, arith}
+use Rattle.std.proofs.Common.{◌≡◌, ◌+◌, ℕ, inl, zero, suc, Bool, true, false, if◌then◌else◌, List}
+use Rattle.std.proofs.Common.{[], ◌∷◌, ◌++◌, map, take, slice_get, Option, None, Some, Result, Ok}
+use Rattle.std.proofs.Common.{Err, is_ok, refl, ap, sym, subst, ◌∙◌, arith}
 use Rattle.std.proofs.lemmas.Bool.{and_from}
 use Rattle.std.proofs.lemmas.Option.{same_Some}
 use Rattle.std.specs.Global.{Vec}
@@ -14,10 +16,12 @@ use Rattle.usb_bus.specs.Traces.{StepRun}
 use Rattle.usb_pipe.specs.declared.fault.PipeFault.{PipeFault}
 use Rattle.usb_pipe.specs.declared.fault.PipeFault.TheVariants.{Stalled}
 use Rattle.usb_hub.specs.Addresses.{StaysAs, KeepsDevices}
-use Rattle.usb_hub.specs.GivenAnswers.{unless_refused, config_given, HasText, ReadAsked, TextAsked, ConfigAsked}
+use Rattle.usb_hub.specs.GivenAnswers.{unless_refused, config_given, HasText, ReadAsked, TextAsked}
+use Rattle.usb_hub.specs.GivenAnswers.{ConfigAsked}
 use Rattle.usb_hub.proofs.Interface.{stays_joined}
 use Rattle.usb_enum.specs.declared.cause.Cause.{Cause}
-use Rattle.usb_enum.specs.Verdicts.{text_read, is_good_text, texts_below, config_fault, first_fault, text_fault}
+use Rattle.usb_enum.specs.Verdicts.{text_read, is_good_text, texts_below, config_fault, first_fault}
+use Rattle.usb_enum.specs.Verdicts.{text_fault}
 use Rattle.usb_enum.specs.LearnedFacts.{Learned, DeviceFact}
 use Rattle.usb_enum.specs.Readings.{AtMaximum, HasTotal, HasConfiguration, HasConfigurations}
 use Rattle.usb_enum.specs.Stop.{answered_or}
@@ -28,59 +32,90 @@ use Rattle.usb_enum.proofs.devices.SharedAddresses.{went_unshared}
 use Rattle.usb_enum.proofs.verdicts.VerdictRows.{first_none}
 
 -- where nothing went, what is so of every description
-pub learns_none : (So : Spec → Type 0) (t : Target) (w : World) → ((spec : Spec) → So spec) → DeviceFact So t w w
-learns_none So t w all single = each_none (Learned So t) (λ j s. record { frame = refl; so = λ at. all s.spec }) w
+pub learns_none : (So : Spec → Type 0) (t : Target) (w : World) → ((spec : Spec) → So spec)
+    → DeviceFact So t w w
+learns_none So t w all single = each_none (Learned So t)
+    (λ j s. record { frame = refl; so = λ at. all s.spec }) w
 
 -- what is learned before a call and in it
-pub learns_on : (A B C : Spec → Type 0) (t : Target) (n : ℕ) (old mid new : World) {r s : Option (List ℕ)} → ((spec : Spec) → A spec → B spec → C spec) → DeviceFact A t old mid → StepRun n mid r new s → DeviceFact B t mid new
+pub learns_on : (A B C : Spec → Type 0) (t : Target) (n : ℕ) (old mid new : World)
+    {r s : Option (List ℕ)} → ((spec : Spec) → A spec → B spec → C spec) → DeviceFact A t old mid
+    → StepRun n mid r new s → DeviceFact B t mid new
     → DeviceFact C t old new
 learns_on A B C t n old mid new f a went b =
-    learns_wider (λ x. A x × B x) C t old new (λ x both. f x both.0 both.1) (learns_then A B t old mid new (went_unshared n mid new went) a b)
+    learns_wider (λ x. A x × B x) C t old new (λ x both. f x both.0 both.1)
+    (learns_then A B t old mid new (went_unshared n mid new went) a b)
 
 -- a call that leaves each device as it was, after others
 
-pub devices_then : (n : ℕ) (old mid new : World) {r s : Option (List ℕ)} → KeepsDevices old mid → StepRun n mid r new s → KeepsDevices mid new → KeepsDevices old new
+pub devices_then : (n : ℕ) (old mid new : World) {r s : Option (List ℕ)} → KeepsDevices old mid
+    → StepRun n mid r new s → KeepsDevices mid new → KeepsDevices old new
 devices_then n old mid new a went b = record {
   stays = λ single.
-      each_joined StaysAs StaysAs StaysAs stays_joined old mid new (a.stays (went_unshared n mid new went single)) (b.stays single);
+      each_joined StaysAs StaysAs StaysAs stays_joined old mid new
+      (a.stays (went_unshared n mid new went single)) (b.stays single);
 }
 
-pub learns_kept : (So : Spec → Type 0) (t : Target) (n : ℕ) (old mid new : World) {r s : Option (List ℕ)} → DeviceFact So t old mid → StepRun n mid r new s → KeepsDevices mid new → DeviceFact So t old new
+pub learns_kept : (So : Spec → Type 0) (t : Target) (n : ℕ) (old mid new : World)
+    {r s : Option (List ℕ)} → DeviceFact So t old mid → StepRun n mid r new s → KeepsDevices mid new
+    → DeviceFact So t old new
 learns_kept So t n old mid new a went keeps single =
-    each_joined (Learned So t) StaysAs (Learned So t) (λ j s u v x y. record { frame = stays_joined j s u v x.frame y; so = x.so }) old mid new
+    each_joined (Learned So t) StaysAs (Learned So t)
+    (λ j s u v x y. record { frame = stays_joined j s u v x.frame y; so = x.so }) old mid new
     (a (went_unshared n mid new went single)) (keeps.stays single)
 
-module _ {A X : Type 0} (given : Spec → Option X) (Has : State → A → Type 0) (t : Target) (outcome : Result A PipeFault) (old new : World) where
+module _ {A X : Type 0} (given : Spec → Option X) (Has : State → A → Type 0) (t : Target)
+    (outcome : Result A PipeFault) (old new : World) where
   -- by an answer
-  pub answer_learned : (So : Spec → Type 0) (answer : A) → outcome ≡ Ok answer → ((s : State) → Has s answer → So s.spec) → (new.shared ≡ false → EachWas (ReadAsked given Has t outcome) old new) → DeviceFact So t old new
+  pub answer_learned : (So : Spec → Type 0) (answer : A) → outcome ≡ Ok answer
+      → ((s : State) → Has s answer → So s.spec)
+      → (new.shared ≡ false → EachWas (ReadAsked given Has t outcome) old new)
+      → DeviceFact So t old new
   answer_learned So answer is f what single =
       each_wider (ReadAsked given Has t outcome) (Learned So t)
       (λ j s v x. record { frame = x.frame; so = λ at. f s (x.done at answer is) })
       old new (what single)
 
   -- by a refusal
-  pub refusal_learned : (So : Spec → Type 0) → outcome ≡ Err Stalled → ((spec : Spec) → given spec ≡ None → So spec) → (new.shared ≡ false → EachWas (ReadAsked given Has t outcome) old new) → DeviceFact So t old new
+  pub refusal_learned : (So : Spec → Type 0) → outcome ≡ Err Stalled
+      → ((spec : Spec) → given spec ≡ None → So spec)
+      → (new.shared ≡ false → EachWas (ReadAsked given Has t outcome) old new)
+      → DeviceFact So t old new
   refusal_learned So is f what single =
       each_wider (ReadAsked given Has t outcome) (Learned So t)
       (λ j s v x. record { frame = x.frame; so = λ at. f s.spec (x.stalled at is) })
       old new (what single)
 
 -- by a text, at the device's maximum packet
-pub text_learned : (given : Spec → Option (List ℕ)) (So : Spec → Type 0) (t : Target) (wanted : ℕ) (outcome : Result (Vec ℕ) PipeFault) (bytes : Vec ℕ) (old new : World) → outcome ≡ Ok bytes
-    → ((spec : Spec) (text : List ℕ) → given spec ≡ Some text → bytes.items ≡ take wanted text → So spec) → (new.shared ≡ false → EachWas (TextAsked given t wanted outcome) old new) → DeviceFact (AtMaximum t So) t old new
+pub text_learned : (given : Spec → Option (List ℕ)) (So : Spec → Type 0) (t : Target) (wanted : ℕ)
+    (outcome : Result (Vec ℕ) PipeFault) (bytes : Vec ℕ) (old new : World) → outcome ≡ Ok bytes
+    → ((spec : Spec) (text : List ℕ) → given spec ≡ Some text → bytes.items ≡ take wanted text
+    → So spec) → (new.shared ≡ false → EachWas (TextAsked given t wanted outcome) old new)
+    → DeviceFact (AtMaximum t So) t old new
 text_learned given So t wanted outcome bytes old new is f =
-    answer_learned given (λ s b. HasText (given s.spec) t wanted s b.items) t outcome old new (AtMaximum t So) bytes is (λ s has max. f s.spec has.text has.is (has.first (inl max)))
+    answer_learned given (λ s b. HasText (given s.spec) t wanted s b.items) t outcome old new
+    (AtMaximum t So) bytes is (λ s has max. f s.spec has.text has.is (has.first (inl max)))
 
 -- Configurations
 
-pub total_learned : (t : Target) (stalled : Cause) (index total : ℕ) (outcome : Result (Vec ℕ) PipeFault) (bytes : Vec ℕ) (old new : World) → answered_or stalled outcome ≡ Ok bytes → config_head_of bytes.items ≡ Ok total
-    → (new.shared ≡ false → EachWas (ConfigAsked t index 9 outcome) old new) → DeviceFact (AtMaximum t (HasTotal index total)) t old new
+pub total_learned : (t : Target) (stalled : Cause) (index total : ℕ)
+    (outcome : Result (Vec ℕ) PipeFault) (bytes : Vec ℕ) (old new : World)
+    → answered_or stalled outcome ≡ Ok bytes → config_head_of bytes.items ≡ Ok total
+    → (new.shared ≡ false → EachWas (ConfigAsked t index 9 outcome) old new)
+    → DeviceFact (AtMaximum t (HasTotal index total)) t old new
 total_learned t stalled index total outcome bytes old new answered head =
-    text_learned (config_given index) (HasTotal index total) t 9 outcome bytes old new (answered_ok stalled outcome bytes answered)
-    (λ spec text given first. record { text = text; given = given; head = ap config_head_of (sym first) ∙ head })
+    text_learned (config_given index) (HasTotal index total) t 9 outcome bytes old new
+    (answered_ok stalled outcome bytes answered)
+    (λ spec text given first. record {
+      text = text;
+      given = given;
+      head =
+          ap config_head_of (sym first) ∙ head;
+    })
 
 -- bytes that are a configuration text
-pub good_bytes : (bytes text : List ℕ) → Some text ≡ config_text_of bytes → (is_ok (config_of bytes) ≡ true) × (text ≡ bytes)
+pub good_bytes : (bytes text : List ℕ) → Some text ≡ config_text_of bytes
+    → (is_ok (config_of bytes) ≡ true) × (text ≡ bytes)
 good_bytes bytes text = split (is_ok (config_of bytes))
   where
     split : (b : Bool) → Some text ≡ (if b then Some bytes else None) → (b ≡ true) × (text ≡ bytes)
@@ -88,17 +123,22 @@ good_bytes bytes text = split (is_ok (config_of bytes))
     split false is = absurd cc
 
 -- what was read of a configuration is as long as its head says
-configuration_of_total : (index total : ℕ) (bytes text whole : List ℕ) (spec : Spec) → HasTotal index total spec → config_given index spec ≡ Some whole → bytes ≡ take total whole → Some text ≡ config_text_of bytes
+configuration_of_total : (index total : ℕ) (bytes text whole : List ℕ) (spec : Spec)
+    → HasTotal index total spec → config_given index spec ≡ Some whole → bytes ≡ take total whole
+    → Some text ≡ config_text_of bytes
     → HasConfiguration index text spec
 unfolding text_read
 configuration_of_total index total bytes text whole spec head given first good =
     let same = same_Some whole head.text (sym given ∙ head.given) in
     let of_bytes = good_bytes bytes text good in
-    let read : bytes ≡ text_read head.text = first ∙ ap (take total) same ∙ sym (ap (λ r. take (total_in r) head.text) head.head) in
+    let read : bytes ≡ text_read head.text = first ∙ ap (take total) same
+    ∙ sym (ap (λ r. take (total_in r) head.text) head.head) in
     record {
       text = head.text;
       given = head.given;
-      good = and_from (is_ok (config_head_of (take 9 head.text))) (is_ok (config_of (text_read head.text))) (ap is_ok head.head) (ap (λ b. is_ok (config_of b)) (sym read) ∙ of_bytes.0);
+      good = and_from (is_ok (config_head_of (take 9 head.text)))
+          (is_ok (config_of (text_read head.text))) (ap is_ok head.head)
+          (ap (λ b. is_ok (config_of b)) (sym read) ∙ of_bytes.0);
       read = of_bytes.1 ∙ read;
     }
 
@@ -108,31 +148,48 @@ record HasBytes (index total : ℕ) (bytes : List ℕ) (spec : Spec) : Type 0 wh
   pub given : config_given index spec ≡ Some text
   pub first : bytes ≡ take total text
 
-pub configuration_learned : (t : Target) (stalled : Cause) (index total n : ℕ) (outcome : Result (Vec ℕ) PipeFault) (bytes : Vec ℕ) (text : List ℕ) (old mid new : World) {r s : Option (List ℕ)}
-    → answered_or stalled outcome ≡ Ok bytes → Some text ≡ config_text_of bytes.items → DeviceFact (AtMaximum t (HasTotal index total)) t old mid → StepRun n mid r new s
-    → (new.shared ≡ false → EachWas (ConfigAsked t index total outcome) mid new) → DeviceFact (AtMaximum t (HasConfiguration index text)) t old new
-configuration_learned t stalled index total n outcome bytes text old mid new answered good head went what =
+pub configuration_learned : (t : Target) (stalled : Cause) (index total n : ℕ)
+    (outcome : Result (Vec ℕ) PipeFault) (bytes : Vec ℕ) (text : List ℕ) (old mid new : World)
+    {r s : Option (List ℕ)}
+    → answered_or stalled outcome ≡ Ok bytes → Some text ≡ config_text_of bytes.items
+    → DeviceFact (AtMaximum t (HasTotal index total)) t old mid → StepRun n mid r new s
+    → (new.shared ≡ false → EachWas (ConfigAsked t index total outcome) mid new)
+    → DeviceFact (AtMaximum t (HasConfiguration index text)) t old new
+configuration_learned t stalled index total n outcome bytes text old mid new answered good head went
+    what =
     let Has : Spec → Type 0 = HasBytes index total bytes.items in
-    learns_on (AtMaximum t (HasTotal index total)) (AtMaximum t Has) (AtMaximum t (HasConfiguration index text)) t n old mid new
-    (λ spec h r max. configuration_of_total index total bytes.items text (r max).text spec (h max) (r max).given (r max).first good) head went
-    (text_learned (config_given index) Has t total outcome bytes mid new (answered_ok stalled outcome bytes answered) (λ spec whole given first. record { text = whole; given = given; first = first }) what)
+    learns_on (AtMaximum t (HasTotal index total)) (AtMaximum t Has)
+    (AtMaximum t (HasConfiguration index text)) t n old mid new
+    (λ spec h r max. configuration_of_total index total bytes.items text (r max).text spec (h max)
+    (r max).given (r max).first good) head went
+    (text_learned (config_given index) Has t total outcome bytes mid new
+    (answered_ok stalled outcome bytes answered)
+    (λ spec whole given first. record { text = whole; given = given; first = first }) what)
 
 -- The texts of the configurations so far
 
-pub given_allows : {X : Type 0} (refused : Bool) (given : Option X) (x : X) → unless_refused refused given ≡ Some x → (refused ≡ false) × (given ≡ Some x)
+pub given_allows : {X : Type 0} (refused : Bool) (given : Option X) (x : X)
+    → unless_refused refused given ≡ Some x → (refused ≡ false) × (given ≡ Some x)
 given_allows true given x is = absurd cc
 given_allows false given x is = (refl, is)
 
-text_faultless : (index : ℕ) (earlier : List (List ℕ)) (o : Option (List ℕ)) (text : List ℕ) → o ≡ Some text → is_good_text text ≡ true → any_has_value (configuration_value (text_read text)) earlier ≡ false → text_fault index earlier o ≡ None
+text_faultless : (index : ℕ) (earlier : List (List ℕ)) (o : Option (List ℕ)) (text : List ℕ)
+    → o ≡ Some text → is_good_text text ≡ true
+    → any_has_value (configuration_value (text_read text)) earlier ≡ false
+    → text_fault index earlier o ≡ None
 text_faultless index earlier o text is good differs = rw (is, good, differs) refl
 
-config_faultless : (spec : Spec) (index : ℕ) (text : List ℕ) → config_given index spec ≡ Some text → is_good_text text ≡ true → any_has_value (configuration_value (text_read text)) (texts_below spec index) ≡ false → config_fault spec index ≡ None
+config_faultless : (spec : Spec) (index : ℕ) (text : List ℕ) → config_given index spec ≡ Some text
+    → is_good_text text ≡ true → any_has_value (configuration_value (text_read text))
+    (texts_below spec index) ≡ false → config_fault spec index ≡ None
 unfolding config_fault
 config_faultless spec index text given good differs =
     let allowed = given_allows spec.stalls.config (slice_get spec.configs index) text given in
-    rw allowed.0 (text_faultless index (texts_below spec index) (slice_get spec.configs index) text allowed.1 good differs)
+    rw allowed.0 (text_faultless index (texts_below spec index) (slice_get spec.configs index) text
+    allowed.1 good differs)
 
-mapped_more : {X Y : Type 0} (f : X → Y) (xs : List X) (i : ℕ) (x : X) → slice_get xs i ≡ Some x → map f (take (suc i) xs) ≡ map f (take i xs) ++ f x ∷ []
+mapped_more : {X Y : Type 0} (f : X → Y) (xs : List X) (i : ℕ) (x : X) → slice_get xs i ≡ Some x
+    → map f (take (suc i) xs) ≡ map f (take i xs) ++ f x ∷ []
 mapped_more f [] i x is = absurd cc
 mapped_more f (y ∷ xs) zero x is = ap (λ z. f z ∷ []) (same_Some y x is)
 mapped_more f (y ∷ xs) (suc i) x is = ap (λ ys. f y ∷ ys) (mapped_more f xs i x is)
@@ -141,19 +198,35 @@ pub configurations_none : (spec : Spec) → HasConfigurations 0 [] spec
 unfolding first_fault
 configurations_none spec = record { good = refl; read = refl }
 
-configurations_more : (count : ℕ) (texts : List (List ℕ)) (text : List ℕ) (spec : Spec) → any_has_value (configuration_value text) texts ≡ false → HasConfigurations count texts spec → HasConfiguration count text spec
+configurations_more : (count : ℕ) (texts : List (List ℕ)) (text : List ℕ) (spec : Spec)
+    → any_has_value (configuration_value text) texts ≡ false → HasConfigurations count texts spec
+    → HasConfiguration count text spec
     → HasConfigurations (count + 1) (texts ++ text ∷ []) spec
 configurations_more count texts text spec differs before now =
     let given = given_allows spec.stalls.config (slice_get spec.configs count) now.text now.given in
-    let Differs : List ℕ → List (List ℕ) → Type 0 = λ x xs. any_has_value (configuration_value x) xs ≡ false in
+    let Differs : List ℕ → List (List ℕ) → Type 0 = λ x xs. any_has_value (configuration_value x) xs
+    ≡ false in
     let one_more : count + 1 ≡ suc count = omega arith in
     record {
-      good = first_none spec count before.good (config_faultless spec count now.text now.given now.good (subst (Differs (text_read now.text)) before.read (subst (λ x. Differs x texts) now.read differs)));
-      read = ap (λ x. texts ++ x ∷ []) now.read ∙ ap (λ xs. xs ++ text_read now.text ∷ []) before.read ∙ sym (ap (λ n. texts_below spec n) one_more ∙ mapped_more text_read spec.configs count now.text given.1);
+      good = first_none spec count before.good
+          (config_faultless spec count now.text now.given now.good
+          (subst (Differs (text_read now.text)) before.read
+          (subst (λ x. Differs x texts) now.read differs)));
+      read = ap (λ x. texts ++ x ∷ []) now.read
+          ∙ ap (λ xs. xs ++ text_read now.text ∷ []) before.read
+          ∙ sym (ap (λ n. texts_below spec n) one_more
+          ∙ mapped_more text_read spec.configs count now.text given.1);
     }
 
-pub configurations_learned : (t : Target) (count n : ℕ) (texts : List (List ℕ)) (text : List ℕ) (old mid new : World) {r s : Option (List ℕ)} → any_has_value (configuration_value text) texts ≡ false
-    → DeviceFact (AtMaximum t (HasConfigurations count texts)) t old mid → StepRun n mid r new s → DeviceFact (AtMaximum t (HasConfiguration count text)) t mid new → DeviceFact (AtMaximum t (HasConfigurations (count + 1) (texts ++ text ∷ []))) t old new
+pub configurations_learned : (t : Target) (count n : ℕ) (texts : List (List ℕ)) (text : List ℕ)
+    (old mid new : World) {r s : Option (List ℕ)} → any_has_value (configuration_value text) texts
+    ≡ false
+    → DeviceFact (AtMaximum t (HasConfigurations count texts)) t old mid → StepRun n mid r new s
+    → DeviceFact (AtMaximum t (HasConfiguration count text)) t mid new
+    → DeviceFact (AtMaximum t (HasConfigurations (count + 1) (texts ++ text ∷ []))) t old new
 configurations_learned t count n texts text old mid new differs before went now =
-    learns_on (AtMaximum t (HasConfigurations count texts)) (AtMaximum t (HasConfiguration count text)) (AtMaximum t (HasConfigurations (count + 1) (texts ++ text ∷ []))) t n old mid new
-    (λ spec b h max. configurations_more count texts text spec differs (b max) (h max)) before went now
+    learns_on (AtMaximum t (HasConfigurations count texts))
+    (AtMaximum t (HasConfiguration count text))
+    (AtMaximum t (HasConfigurations (count + 1) (texts ++ text ∷ []))) t n old mid new
+    (λ spec b h max. configurations_more count texts text spec differs (b max) (h max)) before went
+    now

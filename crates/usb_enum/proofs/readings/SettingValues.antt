@@ -1,5 +1,8 @@
 -- The value of a configuration that was read is one that its device takes.
-use Rattle.std.proofs.Common.{◌≡◌, ◌≢◌, ◌⊎◌, inl, inr, ◌<◌, ℕ, zero, suc, ◌==◌, ◌&&◌, ◌||◌, not, Bool, true, false, List, [], ◌∷◌, map, take, length, slice_get, slice_index_or, if◌then◌else◌, Option, None, Some, Result, Ok, Err, is_ok, refl, ap, sym, subst, ◌∙◌, arith, ◌≤◌, min, ◌+◌, ◌*◌}
+use Rattle.std.proofs.Common.{◌≡◌, ◌≢◌, ◌⊎◌, inl, inr, ◌<◌, ℕ, zero, suc, ◌==◌, ◌&&◌, ◌||◌, not}
+use Rattle.std.proofs.Common.{Bool, true, false, List, [], ◌∷◌, map, take, length, slice_get}
+use Rattle.std.proofs.Common.{slice_index_or, if◌then◌else◌, Option, None, Some, Result, Ok, Err}
+use Rattle.std.proofs.Common.{is_ok, refl, ap, sym, subst, ◌∙◌, arith, ◌≤◌, min, ◌+◌, ◌*◌}
 use Rattle.std.specs.Prelude.{nat_lt, slice_index}
 use Rattle.std.specs.List.{list_any}
 use Rattle.std.specs.Option.{option_or}
@@ -18,7 +21,8 @@ use Rattle.usb_tree.proofs.Interface.{or_left, or_right, same_equal}
 use Rattle.usb_enum.specs.declared.cause.Cause.{Cause}
 use Rattle.usb_enum.specs.declared.cause.Cause.TheVariants.{Stalled, BadConfiguration}
 use Rattle.usb_enum.specs.declared.cause.Request.TheVariants as request
-use Rattle.usb_enum.specs.Verdicts.{text_read, is_good_text, texts_below, text_fault, config_fault, first_fault}
+use Rattle.usb_enum.specs.Verdicts.{text_read, is_good_text, texts_below, text_fault, config_fault}
+use Rattle.usb_enum.specs.Verdicts.{first_fault}
 use Rattle.usb_enum.specs.Readings.{HasConfigurations}
 use Rattle.usb_enum.specs.Text.{any_has_value}
 
@@ -28,13 +32,17 @@ pub or_none : (o p : Option Cause) → option_or o p ≡ None → (o ≡ None) �
 or_none (Some cause) p h = absurd cc
 or_none None p h = (refl, h)
 
-pub each_good : (spec : Spec) (n i : ℕ) → i < n → first_fault spec n ≡ None → config_fault spec i ≡ None
+pub each_good : (spec : Spec) (n i : ℕ) → i < n → first_fault spec n ≡ None
+    → config_fault spec i ≡ None
 unfolding first_fault
 each_good spec zero i below h = absurd (omega (arith, below))
-each_good spec (suc n) i below h = pick (cases_order i n) (λ less. each_good spec n i less (or_none (first_fault spec n) (config_fault spec n) h).0)
+each_good spec (suc n) i below h = pick (cases_order i n)
+    (λ less. each_good spec n i less (or_none (first_fault spec n) (config_fault spec n) h).0)
   where
-    pick : (i ≡ n) ⊎ ((i < n) ⊎ (n < i)) → (i < n → config_fault spec i ≡ None) → config_fault spec i ≡ None
-    pick (inl e) earlier = ap (config_fault spec) e ∙ (or_none (first_fault spec n) (config_fault spec n) h).1
+    pick : (i ≡ n) ⊎ ((i < n) ⊎ (n < i)) → (i < n → config_fault spec i ≡ None)
+        → config_fault spec i ≡ None
+    pick (inl e) earlier = ap (config_fault spec) e
+        ∙ (or_none (first_fault spec n) (config_fault spec n) h).1
     pick (inr (inl less)) earlier = earlier less
     pick (inr (inr more)) earlier = absurd (omega (arith, below, more))
 
@@ -43,18 +51,24 @@ pub record IsFresh (spec : Spec) (i : ℕ) (text : List ℕ) : Type 0 where
   pub good : is_good_text text ≡ true
   pub first : any_has_value (configuration_value (text_read text)) (texts_below spec i) ≡ false
 
-fresh_by : (refused good old : Bool) (i : ℕ) → (if refused then Some (Stalled request.Config) else (if good && not old then None else Some (BadConfiguration i))) ≡ None → (good ≡ true) × (old ≡ false)
+fresh_by : (refused good old : Bool) (i : ℕ)
+    → (if refused then Some (Stalled request.Config)
+    else (if good && not old then None else Some (BadConfiguration i))) ≡ None → (good ≡ true)
+    × (old ≡ false)
 fresh_by true good old i h = absurd cc
 fresh_by false true true i h = absurd cc
 fresh_by false true false i h = (refl, refl)
 fresh_by false false old i h = absurd cc
 
-pub fresh_text : (spec : Spec) (i : ℕ) (text : List ℕ) → slice_get spec.configs i ≡ Some text → config_fault spec i ≡ None → IsFresh spec i text
+pub fresh_text : (spec : Spec) (i : ℕ) (text : List ℕ) → slice_get spec.configs i ≡ Some text
+    → config_fault spec i ≡ None → IsFresh spec i text
 unfolding config_fault
 fresh_text spec i text stands h =
     let parts =
-    fresh_by spec.stalls.config (is_good_text text) (any_has_value (configuration_value (text_read text)) (texts_below spec i)) i
-    (sym (ap (λ o. if spec.stalls.config then Some (Stalled request.Config) else text_fault i (texts_below spec i) o) stands) ∙ h) in
+    fresh_by spec.stalls.config (is_good_text text)
+    (any_has_value (configuration_value (text_read text)) (texts_below spec i)) i
+    (sym (ap (λ o. if spec.stalls.config then Some (Stalled request.Config) else text_fault i
+    (texts_below spec i) o) stands) ∙ h) in
     record { good = parts.0; first = parts.1 }
 
 -- The text of an index
@@ -65,13 +79,26 @@ pub record IsAt (f : List ℕ → List ℕ) (xs : List (List ℕ)) (n i : ℕ) :
   pub read : slice_index_or (map f (take n xs)) i [] ≡ f text
   pub below : i < n
 
-pub mapped_at : (f : List ℕ → List ℕ) (xs : List (List ℕ)) (n i : ℕ) → i < length (map f (take n xs)) → IsAt f xs n i
+pub mapped_at : (f : List ℕ → List ℕ) (xs : List (List ℕ)) (n i : ℕ)
+    → i < length (map f (take n xs)) → IsAt f xs n i
 mapped_at f xs zero i less = absurd (omega (arith, less))
 mapped_at f [] (suc n) i less = absurd (omega (arith, less))
-mapped_at f (x ∷ xs) (suc n) zero less = record { text = x; stands = refl; read = refl; below = omega arith }
+mapped_at f (x ∷ xs) (suc n) zero less = record {
+  text = x;
+  stands = refl;
+  read = refl;
+  below =
+      omega arith;
+}
 mapped_at f (x ∷ xs) (suc n) (suc i) less =
     let rest = mapped_at f xs n i (omega (arith, less)) in
-    record { text = rest.text; stands = rest.stands; read = rest.read; below = omega (arith, rest.below) }
+    record {
+      text = rest.text;
+      stands = rest.stands;
+      read = rest.read;
+      below =
+          omega (arith, rest.below);
+    }
 
 -- Its value
 
@@ -97,17 +124,27 @@ unfolding text_read
 good_read text good =
     let head = config_head_of (take 9 text) in
     let total : ℕ = total_in head in
-    let header = header_of (take 9 text) total (ok_total head (and_parts (is_ok head) (is_ok (config_of (text_read text))) good).0) in
+    let header = header_of (take 9 text) total
+    (ok_total head (and_parts (is_ok head) (is_ok (config_of (text_read text))) good).0) in
     let long : 9 ≤ length text = omega (arith, header.long, length-take 9 text) in
-    let says : slice_index text 2 + 256 * slice_index text 3 ≡ total = omega (arith, header.says, get_or-take 9 text 2 0 (omega arith), get_or-take 9 text 3 0 (omega arith)) in
+    let says : slice_index text 2 + 256 * slice_index text 3 ≡ total =
+    omega (
+      arith,
+      header.says,
+      get_or-take 9 text 2 0 (omega arith),
+      get_or-take 9 text 3 0 (omega arith),
+    ) in
     record {
       value = get_or-take total text 5 0 (omega (arith, header.least));
-      read = take_min (total_of text) text ∙ ap (λ n. take n text) (ap (λ b. if b then 0 else slice_index text 2 + 256 * slice_index text 3) (not_less 4 (length text) (omega (arith, long))) ∙ says);
+      read = take_min (total_of text) text
+          ∙ ap (λ n. take n text) (ap (λ b. if b then 0 else slice_index text 2 + 256 *
+          slice_index text 3) (not_less 4 (length text) (omega (arith, long))) ∙ says);
       some = omega (arith, header.valued, get_or-take 9 text 5 0 (omega arith));
       long = long;
     }
 
-any_at : (p : List ℕ → Bool) (xs : List (List ℕ)) (i : ℕ) (x : List ℕ) → slice_get xs i ≡ Some x → p x ≡ true → list_any p xs ≡ true
+any_at : (p : List ℕ → Bool) (xs : List (List ℕ)) (i : ℕ) (x : List ℕ) → slice_get xs i ≡ Some x
+    → p x ≡ true → list_any p xs ≡ true
 any_at p [] i x stands h = absurd cc
 any_at p (y ∷ xs) zero x stands h = or_left (p y) (list_any p xs) (ap p (same_Some y x stands) ∙ h)
 any_at p (y ∷ xs) (suc i) x stands h = or_right (p y) (list_any p xs) (any_at p xs i x stands h)
@@ -117,14 +154,23 @@ pub record IsGoodValue (spec : Spec) (value : ℕ) : Type 0 where
   pub some : value ≢ 0
   pub taken : is_value spec.configs value ≡ true
 
-pub chosen_value : (spec : Spec) (count i value : ℕ) (texts : List (List ℕ)) → HasConfigurations count texts spec → i < length texts → value ≡ configuration_value (slice_index_or texts i []) → value < 256 → IsGoodValue spec value
+pub chosen_value : (spec : Spec) (count i value : ℕ) (texts : List (List ℕ))
+    → HasConfigurations count texts spec → i < length texts
+    → value ≡ configuration_value (slice_index_or texts i []) → value < 256 → IsGoodValue spec value
 chosen_value spec count i value texts has inside is byte =
     let at = mapped_at text_read spec.configs count i (subst (λ x. i < length x) has.read inside) in
-    let of_text = good_read at.text (fresh_text spec i at.text at.stands (each_good spec count i at.below has.good)).good in
-    let read : value ≡ configuration_value (text_read at.text) = is ∙ ap (λ x. configuration_value (slice_index_or x i [])) has.read ∙ ap configuration_value at.read in
+    let of_text = good_read at.text (fresh_text spec i at.text at.stands
+    (each_good spec count i at.below has.good)).good in
+    let read : value ≡ configuration_value (text_read at.text) = is
+    ∙ ap (λ x. configuration_value (slice_index_or x i [])) has.read
+    ∙ ap configuration_value at.read in
     let in_spec = any_at (device.has_value value) spec.configs i at.text at.stands
-    (and_from (nat_lt 5 (length at.text)) (slice_index at.text 5 == value) (less_than 5 (length at.text) (omega (arith, of_text.long))) (same_equal (slice_index at.text 5) value (sym of_text.value ∙ sym read))) in
+    (and_from (nat_lt 5 (length at.text)) (slice_index at.text 5 == value)
+    (less_than 5 (length at.text) (omega (arith, of_text.long)))
+    (same_equal (slice_index at.text 5) value (sym of_text.value ∙ sym read))) in
     record {
       some = λ z. omega (arith, of_text.some, of_text.value, read, z);
-      taken = and_from (nat_lt value 256) (value == 0 || list_any (device.has_value value) spec.configs) (less_than value 256 byte) (or_right (value == 0) (list_any (device.has_value value) spec.configs) in_spec);
+      taken = and_from (nat_lt value 256) (value == 0 || list_any (device.has_value value)
+          spec.configs) (less_than value 256 byte)
+          (or_right (value == 0) (list_any (device.has_value value) spec.configs) in_spec);
     }

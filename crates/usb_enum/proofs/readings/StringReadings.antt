@@ -1,5 +1,7 @@
 -- What is learned of a device's strings.
-use Rattle.std.proofs.Common.{◌≡◌, ℕ, ◌==◌, ◌||◌, not, Bool, true, false, if◌then◌else◌, List, take, slice_get, Option, None, Some, is_some, option_map, option_and_then, Result, Ok, Err, refl, ap, sym, ◌∙◌, arith}
+use Rattle.std.proofs.Common.{◌≡◌, ℕ, ◌==◌, ◌||◌, not, Bool, true, false, if◌then◌else◌, List, take}
+use Rattle.std.proofs.Common.{slice_get, Option, None, Some, is_some, option_map, option_and_then}
+use Rattle.std.proofs.Common.{Result, Ok, Err, refl, ap, sym, ◌∙◌, arith}
 use Rattle.std.specs.Global.{Vec}
 use Rattle.usb_device.specs.Spec.{Spec}
 use Rattle.usb_world.specs.Devices.{EachWas}
@@ -15,7 +17,8 @@ use Rattle.usb_enum.specs.Verdicts.{string_read, string_at, strings_by}
 use Rattle.usb_enum.specs.Frames.{OnlyAsks}
 use Rattle.usb_enum.specs.LearnedFacts.{DeviceFact}
 use Rattle.usb_enum.specs.Parts.{Answered, Ending, StopsRead}
-use Rattle.usb_enum.specs.Readings.{AtMaximum, HasString, bytes_given, language_of, string_in, no_strings}
+use Rattle.usb_enum.specs.Readings.{AtMaximum, HasString, bytes_given, language_of, string_in}
+use Rattle.usb_enum.specs.Readings.{no_strings}
 use Rattle.usb_enum.specs.Refusals.{no_fault}
 use Rattle.usb_enum.specs.Stop.{stop_of}
 use Rattle.usb_enum.specs.StringRequests.{AsksLanguage, AsksString, ReadsString, named}
@@ -25,19 +28,25 @@ use Rattle.usb_enum.proofs.readings.Readings.{learns_none, learns_on, refusal_le
 
 -- One string
 
-string_read-given : (spec : Spec) (index : ℕ) → string_read spec index ≡ option_map (take 255) (string_given index spec)
+string_read-given : (spec : Spec) (index : ℕ)
+    → string_read spec index ≡ option_map (take 255) (string_given index spec)
 string_read-given spec index = split spec.stalls.string (slice_get spec.strings index)
   where
-    split : (refused : Bool) (text : Option (List ℕ)) → (if refused then None else option_map (take 255) text) ≡ option_map (take 255) (unless_refused refused text)
+    split : (refused : Bool) (text : Option (List ℕ))
+        → (if refused then None else option_map (take 255) text)
+        ≡ option_map (take 255) (unless_refused refused text)
     split true text = refl
     split false text = refl
 
 -- its first bytes
-pub string_learned : (t : Target) (index : ℕ) (outcome : Result (Vec ℕ) PipeFault) (bytes : Vec ℕ) (old new : World) → outcome ≡ Ok bytes → (new.shared ≡ false → EachWas (StringAsked t index outcome) old new)
+pub string_learned : (t : Target) (index : ℕ) (outcome : Result (Vec ℕ) PipeFault) (bytes : Vec ℕ)
+    (old new : World) → outcome ≡ Ok bytes
+    → (new.shared ≡ false → EachWas (StringAsked t index outcome) old new)
     → DeviceFact (AtMaximum t (HasString index (Some bytes))) t old new
 string_learned t index outcome bytes old new is =
     text_learned (string_given index) (HasString index (Some bytes)) t 255 outcome bytes old new is
-    (λ spec text given first. ap Some first ∙ sym (string_read-given spec index ∙ ap (option_map (take 255)) given))
+    (λ spec text given first. ap Some first
+    ∙ sym (string_read-given spec index ∙ ap (option_map (take 255)) given))
 
 -- only a STALL is no stop
 pub stall_alone : (fault : PipeFault) → stop_of fault ≡ None → fault ≡ pipe.Stalled
@@ -49,10 +58,14 @@ stall_alone (pipe.Bus fault) none = absurd cc
 stall_alone pipe.Memory none = absurd cc
 
 -- that it is not given
-pub no_string_learned : (t : Target) (index : ℕ) (outcome : Result (Vec ℕ) PipeFault) (fault : PipeFault) (old new : World) → outcome ≡ Err fault → stop_of fault ≡ None
-    → (new.shared ≡ false → EachWas (StringAsked t index outcome) old new) → DeviceFact (AtMaximum t (HasString index None)) t old new
+pub no_string_learned : (t : Target) (index : ℕ) (outcome : Result (Vec ℕ) PipeFault)
+    (fault : PipeFault) (old new : World) → outcome ≡ Err fault → stop_of fault ≡ None
+    → (new.shared ≡ false → EachWas (StringAsked t index outcome) old new)
+    → DeviceFact (AtMaximum t (HasString index None)) t old new
 no_string_learned t index outcome fault old new is none =
-    refusal_learned (string_given index) (λ s b. HasText (string_given index s.spec) t 255 s b.items) t outcome old new (AtMaximum t (HasString index None)) (is ∙ ap Err (stall_alone fault none))
+    refusal_learned (string_given index) (λ s b. HasText (string_given index s.spec) t 255 s
+    b.items) t outcome old new (AtMaximum t (HasString index None)) (is
+    ∙ ap Err (stall_alone fault none))
     (λ spec given max. sym (string_read-given spec index ∙ ap (option_map (take 255)) given))
 
 nonzero : (index : ℕ) → (index ≡ 0 → ⊥) → (index == 0) ≡ false
@@ -78,8 +91,10 @@ string_named t index language bytes string {old = old} {new = new} is_named is r
   };
 }
 
-pub unnamed_learned : (t : Target) (index : ℕ) (w : World) → index ≡ 0 → DeviceFact (AtMaximum t (λ spec. None ≡ string_in spec index)) t w w
-unnamed_learned t index w unnamed = learns_none (AtMaximum t (λ spec. None ≡ string_in spec index)) t w (λ spec max. rw unnamed refl)
+pub unnamed_learned : (t : Target) (index : ℕ) (w : World) → index ≡ 0
+    → DeviceFact (AtMaximum t (λ spec. None ≡ string_in spec index)) t w w
+unnamed_learned t index w unnamed = learns_none (AtMaximum t (λ spec. None ≡ string_in spec index))
+    t w (λ spec max. rw unnamed refl)
 
 pub language_asked : (t : Target) (bytes : Option (Vec ℕ)) (language : Option ℕ) {n : ℕ}
     {old new : World} {a b : Option (List ℕ)}
@@ -99,17 +114,26 @@ language_asked t bytes language {old = old} {new = new} is read = record {
 
 -- The strings that a descriptor names
 
-at_language : (spec : Spec) (index language : ℕ) → Some language ≡ language_of spec → string_at spec index ≡ string_in spec index
+at_language : (spec : Spec) (index language : ℕ) → Some language ≡ language_of spec
+    → string_at spec index ≡ string_in spec index
 unfolding string_at
-at_language spec index language is = ap (λ o. if index == 0 || not (is_some o) then None else option_and_then string_units (string_read spec index)) (sym is) ∙ split (index == 0) (option_and_then string_units (string_read spec index))
+at_language spec index language is =
+    ap (λ o. if index == 0 || not (is_some o) then None else option_and_then string_units
+    (string_read spec index)) (sym is)
+    ∙ split (index == 0) (option_and_then string_units (string_read spec index))
   where
-    split : (b : Bool) (string : Option (List ℕ)) → (if b || false then None else string) ≡ (if b then None else string)
+    split : (b : Bool) (string : Option (List ℕ)) → (if b || false then None else string)
+        ≡ (if b then None else string)
     split true string = refl
     split false string = refl
 
-string_at-no_language : (spec : Spec) (index : ℕ) → None ≡ language_of spec → string_at spec index ≡ None
+string_at-no_language : (spec : Spec) (index : ℕ) → None ≡ language_of spec
+    → string_at spec index ≡ None
 unfolding string_at
-string_at-no_language spec index is = ap (λ o. if index == 0 || not (is_some o) then None else option_and_then string_units (string_read spec index)) (sym is) ∙ split (index == 0) (option_and_then string_units (string_read spec index))
+string_at-no_language spec index is =
+    ap (λ o. if index == 0 || not (is_some o) then None else option_and_then string_units
+    (string_read spec index)) (sym is)
+    ∙ split (index == 0) (option_and_then string_units (string_read spec index))
   where
     split : (b : Bool) (string : Option (List ℕ)) → (if b || true then None else string) ≡ None
     split true string = refl
@@ -119,37 +143,66 @@ string_at-zero : (spec : Spec) (index : ℕ) → index ≡ 0 → string_at spec 
 unfolding string_at
 string_at-zero spec index is = rw is refl
 
-same_strings : (a b c x y z : Option (List ℕ)) → a ≡ x → b ≡ y → c ≡ z → record { manufacturer = a; product = b; serial_number = c } ≡ (let s : Strings = record { manufacturer = x; product = y; serial_number = z } in s)
+same_strings : (a b c x y z : Option (List ℕ)) → a ≡ x → b ≡ y → c ≡ z
+    → record { manufacturer = a; product = b; serial_number = c }
+    ≡ (let s : Strings = record { manufacturer = x; product = y; serial_number = z } in s)
 same_strings a b c x y z e f g = rw (e, f, g) refl
 
 -- where none is named
-pub unnamed_strings_learned : (t : Target) (indexes : StringIndexes) (w : World) → indexes.manufacturer ≡ 0 → indexes.product ≡ 0 → indexes.serial_number ≡ 0
+pub unnamed_strings_learned : (t : Target) (indexes : StringIndexes) (w : World)
+    → indexes.manufacturer ≡ 0 → indexes.product ≡ 0 → indexes.serial_number ≡ 0
     → DeviceFact (AtMaximum t (λ spec. no_strings ≡ strings_by spec indexes)) t w w
 unnamed_strings_learned t indexes w m p n =
     learns_none (AtMaximum t (λ spec. no_strings ≡ strings_by spec indexes)) t w
-    (λ spec max. same_strings _ _ _ _ _ _ (sym (string_at-zero spec indexes.manufacturer m)) (sym (string_at-zero spec indexes.product p)) (sym (string_at-zero spec indexes.serial_number n)))
+    (λ spec max. same_strings _ _ _ _ _ _ (sym (string_at-zero spec indexes.manufacturer m))
+    (sym (string_at-zero spec indexes.product p))
+    (sym (string_at-zero spec indexes.serial_number n)))
 
 -- where there is no language
-pub no_strings_learned : (t : Target) (indexes : StringIndexes) (old new : World) → DeviceFact (AtMaximum t (λ spec. None ≡ language_of spec)) t old new → DeviceFact (AtMaximum t (λ spec. no_strings ≡ strings_by spec indexes)) t old new
+pub no_strings_learned : (t : Target) (indexes : StringIndexes) (old new : World)
+    → DeviceFact (AtMaximum t (λ spec. None ≡ language_of spec)) t old new
+    → DeviceFact (AtMaximum t (λ spec. no_strings ≡ strings_by spec indexes)) t old new
 no_strings_learned t indexes old new =
-    learns_wider (AtMaximum t (λ spec. None ≡ language_of spec)) (AtMaximum t (λ spec. no_strings ≡ strings_by spec indexes)) t old new
-    (λ spec none max. same_strings _ _ _ _ _ _ (sym (string_at-no_language spec indexes.manufacturer (none max))) (sym (string_at-no_language spec indexes.product (none max))) (sym (string_at-no_language spec indexes.serial_number (none max))))
+    learns_wider (AtMaximum t (λ spec. None ≡ language_of spec))
+    (AtMaximum t (λ spec. no_strings ≡ strings_by spec indexes)) t old new
+    (λ spec none max. same_strings _ _ _ _ _ _
+    (sym (string_at-no_language spec indexes.manufacturer (none max)))
+    (sym (string_at-no_language spec indexes.product (none max)))
+    (sym (string_at-no_language spec indexes.serial_number (none max))))
 
 -- each in the language
-pub strings_learned : (t : Target) (indexes : StringIndexes) (language : ℕ) (manufacturer product serial_number : Option (List ℕ)) (k m n : ℕ) (old a b c new : World) {q r s u v w : Option (List ℕ)}
+pub strings_learned : (t : Target) (indexes : StringIndexes) (language : ℕ)
+    (manufacturer product serial_number : Option (List ℕ)) (k m n : ℕ) (old a b c new : World)
+    {q r s u v w : Option (List ℕ)}
     → DeviceFact (AtMaximum t (λ spec. Some language ≡ language_of spec)) t old a
-    → StepRun k a q b r → DeviceFact (AtMaximum t (λ spec. manufacturer ≡ string_in spec indexes.manufacturer)) t a b
-    → StepRun m b s c u → DeviceFact (AtMaximum t (λ spec. product ≡ string_in spec indexes.product)) t b c
-    → StepRun n c v new w → DeviceFact (AtMaximum t (λ spec. serial_number ≡ string_in spec indexes.serial_number)) t c new
-    → DeviceFact (AtMaximum t (λ spec. record { manufacturer = manufacturer; product = product; serial_number = serial_number } ≡ strings_by spec indexes)) t old new
-strings_learned t indexes language manufacturer product serial_number k m n old a b c new said wa la wb lb wc lc =
+    → StepRun k a q b r → DeviceFact (AtMaximum t
+    (λ spec. manufacturer ≡ string_in spec indexes.manufacturer)) t a b
+    → StepRun m b s c u → DeviceFact (AtMaximum t
+    (λ spec. product ≡ string_in spec indexes.product)) t b c
+    → StepRun n c v new w → DeviceFact
+    (AtMaximum t (λ spec. serial_number ≡ string_in spec indexes.serial_number)) t c new
+    → DeviceFact (AtMaximum t (λ spec. record {
+      manufacturer = manufacturer;
+      product = product;
+      serial_number = serial_number;
+    } ≡ strings_by spec indexes)) t old new
+strings_learned t indexes language manufacturer product serial_number k m n old a b c new said wa la
+    wb lb wc lc =
     let Said : Spec → Type 0 = AtMaximum t (λ spec. Some language ≡ language_of spec) in
-    let One : Spec → Type 0 = AtMaximum t (λ spec. manufacturer ≡ string_in spec indexes.manufacturer) in
+    let One : Spec → Type 0 = AtMaximum t (λ spec. manufacturer
+    ≡ string_in spec indexes.manufacturer) in
     let Two : Spec → Type 0 = AtMaximum t (λ spec. product ≡ string_in spec indexes.product) in
-    let Three : Spec → Type 0 = AtMaximum t (λ spec. serial_number ≡ string_in spec indexes.serial_number) in
+    let Three : Spec → Type 0 = AtMaximum t
+    (λ spec. serial_number ≡ string_in spec indexes.serial_number) in
     let first = learns_on Said One (λ x. Said x × One x) t k old a b (λ x p q. (p, q)) said wa la in
-    let second = learns_on (λ x. Said x × One x) Two (λ x. Said x × One x × Two x) t m old b c (λ x p q. (p.0, p.1, q)) first wb lb in
-    learns_on (λ x. Said x × One x × Two x) Three (AtMaximum t (λ spec. record { manufacturer = manufacturer; product = product; serial_number = serial_number } ≡ strings_by spec indexes)) t n old c new
+    let second = learns_on (λ x. Said x × One x) Two (λ x. Said x × One x × Two x) t m old b c
+    (λ x p q. (p.0, p.1, q)) first wb lb in
+    learns_on (λ x. Said x × One x × Two x) Three
+    (AtMaximum t (λ spec. record {
+      manufacturer = manufacturer;
+      product = product;
+      serial_number = serial_number;
+    } ≡ strings_by spec indexes)) t n old c new
     (λ spec x y max. same_strings _ _ _ _ _ _
     (x.1 max ∙ sym (at_language spec indexes.manufacturer language (x.0 max)))
     (x.2 max ∙ sym (at_language spec indexes.product language (x.0 max)))

@@ -1,5 +1,7 @@
 -- That a finding is the device's own.
-use Rattle.std.proofs.Common.{◌≡◌, ◌<◌, ℕ, zero, suc, ◌==◌, ◌&&◌, not, Bool, true, false, List, [], ◌∷◌, slice_index, slice_index_or, take, if◌then◌else◌, Option, None, Some, Result, Ok, Err, is_ok, refl, ap, sym, subst, ◌∙◌, arith}
+use Rattle.std.proofs.Common.{◌≡◌, ◌<◌, ℕ, zero, suc, ◌==◌, ◌&&◌, not, Bool, true, false, List, []}
+use Rattle.std.proofs.Common.{◌∷◌, slice_index, slice_index_or, take, if◌then◌else◌, Option, None}
+use Rattle.std.proofs.Common.{Some, Result, Ok, Err, is_ok, refl, ap, sym, subst, ◌∙◌, arith}
 use Rattle.std.specs.Prelude.{IfOk}
 use Rattle.std.proofs.lemmas.Bool.{eq-eqb}
 use Rattle.std.proofs.lemmas.List.{get_or-take}
@@ -28,11 +30,14 @@ use Rattle.usb_enum.specs.declared.hub.HubFacts.{HubFacts}
 use Rattle.usb_enum.specs.declared.stop.Stop.{Stop}
 use Rattle.usb_enum.specs.declared.stop.Stop.TheVariants.{Refused}
 use Rattle.usb_enum.specs.Addresses.{Within}
-use Rattle.usb_enum.specs.Verdicts.{verdict, is_good_hub, facts_of, texts_below, texts_of, first_fault, strings_by, IsAs}
-use Rattle.usb_enum.specs.Device.{is_device, is_hub_device, fits_tier, needs_pre, string_indexes, configuration_of, HasFacts}
+use Rattle.usb_enum.specs.Verdicts.{verdict, is_good_hub, facts_of, texts_below, texts_of}
+use Rattle.usb_enum.specs.Verdicts.{first_fault, strings_by, IsAs}
+use Rattle.usb_enum.specs.Device.{is_device, is_hub_device, fits_tier, needs_pre, string_indexes}
+use Rattle.usb_enum.specs.Device.{configuration_of, HasFacts}
 use Rattle.usb_enum.specs.Frames.{OnlySets}
 use Rattle.usb_enum.specs.Findings.{IsAccepted, IsListed, IsOwn, IsWhole}
-use Rattle.usb_enum.specs.PresentDevices.{Finds, HasHead, HasTaken, IsAddressed, HasReadings, LearnedSet, TellsPorts}
+use Rattle.usb_enum.specs.PresentDevices.{Finds, HasHead, HasTaken, IsAddressed, HasReadings}
+use Rattle.usb_enum.specs.PresentDevices.{LearnedSet, TellsPorts}
 use Rattle.usb_enum.specs.Readings.{AtMaximum, IsGoodHub}
 use Rattle.usb_enum.specs.StringRequests.{EndsWithStrings}
 use Rattle.usb_enum.specs.Text.{choice_of}
@@ -58,17 +63,34 @@ front_hub d = ap (λ n. n == 9) (slice_index-take d 4 (omega arith))
 
 front_indexes : (d : List ℕ) → string_indexes (take 18 d) ≡ string_indexes d
 front_indexes d =
-    ap (λ n. record { manufacturer = n; product = slice_index (take 18 d) 15; serial_number = slice_index (take 18 d) 16 }) (slice_index-take d 14 (omega arith))
-    ∙ ap (λ n. record { manufacturer = slice_index d 14; product = n; serial_number = slice_index (take 18 d) 16 }) (slice_index-take d 15 (omega arith))
-    ∙ ap (λ n. record { manufacturer = slice_index d 14; product = slice_index d 15; serial_number = n }) (slice_index-take d 16 (omega arith))
+    ap (λ n. record {
+      manufacturer = n;
+      product = slice_index (take 18 d) 15;
+      serial_number =
+          slice_index (take 18 d) 16;
+    }) (slice_index-take d 14 (omega arith))
+    ∙ ap (λ n. record {
+      manufacturer = slice_index d 14;
+      product = n;
+      serial_number =
+          slice_index (take 18 d) 16;
+    }) (slice_index-take d 15 (omega arith))
+    ∙ ap (λ n. record {
+      manufacturer = slice_index d 14;
+      product = slice_index d 15;
+      serial_number =
+          n;
+    }) (slice_index-take d 16 (omega arith))
 
 -- Tier
 
-shallow_by : (deep : Bool) → (let fits : Result (Unit {0}) Stop = if deep then Err (Refused TooDeep) else Ok tt in fits ≡ Ok tt) → deep ≡ false
+shallow_by : (deep : Bool) → (let fits : Result (Unit {0}) Stop =
+    if deep then Err (Refused TooDeep) else Ok tt in fits ≡ Ok tt) → deep ≡ false
 shallow_by true e = absurd cc
 shallow_by false e = refl
 
-fits_tier-hub : (tier : ℕ) (bytes : List ℕ) → fits_tier tier bytes ≡ Ok tt → (is_hub_device bytes && tier == 7) ≡ false
+fits_tier-hub : (tier : ℕ) (bytes : List ℕ) → fits_tier tier bytes ≡ Ok tt
+    → (is_hub_device bytes && tier == 7) ≡ false
 fits_tier-hub tier bytes e = shallow_by (is_hub_device bytes && tier == 7) e
 
 -- Hubs
@@ -87,20 +109,34 @@ good_not_refused hub false e = absurd cc
 good_not_refused true true e = refl
 good_not_refused false true e = refl
 
-facts_told : (spec : Spec) (bytes text : List ℕ) (told : Option HubFacts) → IsSpec spec → is_hub_device bytes ≡ is_hub_device spec.descriptor → HasFacts bytes text told → TellsPorts text told spec → HubTold spec text told
+facts_told : (spec : Spec) (bytes text : List ℕ) (told : Option HubFacts) → IsSpec spec
+    → is_hub_device bytes ≡ is_hub_device spec.descriptor → HasFacts bytes text told
+    → TellsPorts text told spec → HubTold spec text told
 facts_told spec bytes text (Some facts) ruled same has tells =
     let is : IsGoodHub text facts spec = tells ruled in
-    record { good = good_not_refused (is_hub_device spec.descriptor) (is_good_hub spec text) is.good; facts = sym is.told }
+    record {
+      good = good_not_refused (is_hub_device spec.descriptor) (is_good_hub spec text)
+          is.good;
+      facts = sym is.told;
+    }
 facts_told spec bytes text None ruled same has tells = record {
   good = no_hub (is_hub_device spec.descriptor) (is_good_hub spec text) (sym same ∙ has);
-  facts = sym (ap (λ b. if b then Some (record { ports = hub_ports spec.hub; supply = supply_of false spec.self_powered }) else None) (sym same ∙ has));
+  facts = sym (ap (λ b. if b then Some (record {
+    ports = hub_ports spec.hub;
+    supply =
+        supply_of false spec.self_powered;
+  }) else None) (sym same ∙ has));
 }
 
 -- The finding
 
-module _ (spec : Spec) (tier supply : ℕ) (device : Accepted) (target : Target) (bytes : List ℕ) (ruled : IsSpec spec)
-    (low : spec.low ≡ target.low) (head : HasHead target.low target.max spec) (allowed : spec.stalls.address ≡ false) (front : bytes ≡ take 18 spec.descriptor)
-    (same_low : device.low ≡ target.low) (same_bytes : device.bytes ≡ bytes) (fits : fits_tier tier bytes ≡ Ok tt) (whole : IsWhole supply device) (read : HasReadings bytes device spec) where
+module _ (spec : Spec) (tier supply : ℕ) (device : Accepted) (target : Target) (bytes : List ℕ)
+    (ruled : IsSpec spec)
+    (low : spec.low ≡ target.low) (head : HasHead target.low target.max spec)
+    (allowed : spec.stalls.address ≡ false) (front : bytes ≡ take 18 spec.descriptor)
+    (same_low : device.low ≡ target.low) (same_bytes : device.bytes ≡ bytes)
+    (fits : fits_tier tier bytes ≡ Ok tt) (whole : IsWhole supply device)
+    (read : HasReadings bytes device spec) where
   hub_same : is_hub_device bytes ≡ is_hub_device spec.descriptor
   hub_same = ap is_hub_device front ∙ front_hub spec.descriptor
 
@@ -122,7 +158,8 @@ module _ (spec : Spec) (tier supply : ℕ) (device : Accepted) (target : Target)
   gave_device = record {
     first = gave_head;
     address = allowed;
-    whole = ap (λ l. is_device l (take 18 spec.descriptor)) (low ∙ sym same_low) ∙ ap (is_device device.low) (sym (same_bytes ∙ front)) ∙ whole.head;
+    whole = ap (λ l. is_device l (take 18 spec.descriptor)) (low ∙ sym same_low)
+        ∙ ap (is_device device.low) (sym (same_bytes ∙ front)) ∙ whole.head;
     shallow = ap (λ h. h && tier == 7) (sym hub_same) ∙ fits_tier-hub tier bytes fits;
   }
 
@@ -134,38 +171,53 @@ module _ (spec : Spec) (tier supply : ℕ) (device : Accepted) (target : Target)
   }
 
   hub_is : HubTold spec (configuration_of device) device.hub
-  hub_is = facts_told spec device.bytes (configuration_of device) device.hub ruled (ap is_hub_device same_bytes ∙ hub_same) whole.hub read.ports
+  hub_is = facts_told spec device.bytes (configuration_of device) device.hub ruled
+      (ap is_hub_device same_bytes ∙ hub_same) whole.hub read.ports
 
   own_verdict : verdict spec tier supply ≡ Ok device.chosen
   own_verdict =
       row_accepted spec tier supply device.chosen gave_texts read.allowed
-      (ap (λ texts. is_hub_device spec.descriptor && not (is_good_hub spec (slice_index_or texts device.chosen []))) (sym texts_same) ∙ hub_is.good)
+      (ap (λ texts. is_hub_device spec.descriptor &&
+      not (is_good_hub spec (slice_index_or texts device.chosen []))) (sym texts_same)
+      ∙ hub_is.good)
 
   own_listing : IsAs spec device
   own_listing = record {
     low = same_low ∙ sym low;
     bytes = same_bytes ∙ front;
     configs = texts_same;
-    strings = read.strings ∙ ap (strings_by spec) (ap string_indexes front ∙ front_indexes spec.descriptor);
+    strings = read.strings ∙ ap (strings_by spec) (ap string_indexes front
+        ∙ front_indexes spec.descriptor);
     hub = hub_is.facts;
   }
 
 -- it is set as it says, where its address is the target's and its configuration the chosen one's
-accepted_own_device : (tier supply : ℕ) (addressed : Addressed) (device : Accepted) (j : Location) (s v : State) {old new : World} → IsWhole supply device → IsListed addressed tier old new device
-    → LearnedSet (AtMaximum addressed.target (HasReadings addressed.bytes device)) addressed.target (configuration_value (configuration_of device)) j s v → IsAddressed addressed s → IsSpec s.spec → IsOwn tier supply device v
+accepted_own_device : (tier supply : ℕ) (addressed : Addressed) (device : Accepted) (j : Location)
+    (s v : State) {old new : World} → IsWhole supply device → IsListed addressed tier old new device
+    → LearnedSet (AtMaximum addressed.target (HasReadings addressed.bytes device)) addressed.target
+    (configuration_value (configuration_of device)) j s v → IsAddressed addressed s
+    → IsSpec s.spec → IsOwn tier supply device v
 accepted_own_device tier supply addressed device j s v whole is learned found ruled =
     let target = addressed.target in
     let learned_of = learned.so (eq-eqb (address_of s) target.addr found.address) in
-    let read : HasReadings addressed.bytes device s.spec = learned_of.0 (head_packet s.spec target.low target.max found.low found.head) in (
+    let read : HasReadings addressed.bytes device s.spec =
+    learned_of.0 (head_packet s.spec target.low target.max found.low found.head) in (
       subst (λ x. (verdict x tier supply ≡ Ok device.chosen) × IsAs x device) (sym learned.spec) (
-        own_verdict s.spec tier supply device target addressed.bytes ruled found.low found.head found.allowed found.bytes is.low is.bytes is.fits whole read,
-        own_listing s.spec tier supply device target addressed.bytes ruled found.low found.head found.allowed found.bytes is.low is.bytes is.fits whole read,
+        own_verdict s.spec tier supply device target addressed.bytes ruled found.low found.head
+            found.allowed found.bytes is.low is.bytes is.fits whole read,
+        own_listing s.spec tier supply device target addressed.bytes ruled found.low found.head
+            found.allowed found.bytes is.low is.bytes is.fits whole read,
       ),
-      record { address = learned.address ∙ found.address ∙ sym is.address; configuration = learned_of.1 },
+      record {
+        address = learned.address ∙ found.address ∙ sym is.address;
+        configuration =
+            learned_of.1;
+      },
       learned_of.2,
     )
 
-pub ruled_there : (k : Ports) (p : List ℕ) (s : State) → Consistent k → state_there k p ≡ Some s → IsSpec s.spec
+pub ruled_there : (k : Ports) (p : List ℕ) (s : State) → Consistent k → state_there k p ≡ Some s
+    → IsSpec s.spec
 ruled_there k [] s sane there = absurd cc
 ruled_there k (zero ∷ p) s sane there = absurd cc
 ruled_there k (suc i ∷ p) s sane there = sane_spec k i p s sane there
@@ -174,34 +226,65 @@ abbrev AddressedByRules : Addressed → State → Type 0
 AddressedByRules addressed s = IsAddressed addressed s × IsSpec s.spec
 
 -- the device at the port, where it was read and configured after it took the address
-own_found : (port : HubPort) (address tier supply n : ℕ) (addressed : Addressed) (device : Accepted) {old mid new : World} {a b : Option (List ℕ)} → StepRun n old a mid b → Within port address old mid → HasTaken port address old mid addressed
-    → KeepsAddresses mid new → IsWhole supply device → IsListed addressed tier mid new device → Finds (IsOwn tier supply device) port address old new
-own_found port address tier supply n addressed device {old} {mid} {new} went within taken keeps whole is =
-    finds_on (LearnedSet (AtMaximum addressed.target (HasReadings addressed.bytes device)) addressed.target (configuration_value (configuration_of device))) (AddressedByRules addressed) (IsOwn tier supply device) port address
-    (λ j s v learned found. accepted_own_device tier supply addressed device j s v whole is learned found.0 found.1) is.learned (within-keeps_addresses port address old mid new within keeps) ruled
+own_found : (port : HubPort) (address tier supply n : ℕ) (addressed : Addressed) (device : Accepted)
+    {old mid new : World} {a b : Option (List ℕ)} → StepRun n old a mid b
+    → Within port address old mid → HasTaken port address old mid addressed
+    → KeepsAddresses mid new → IsWhole supply device → IsListed addressed tier mid new device
+    → Finds (IsOwn tier supply device) port address old new
+own_found port address tier supply n addressed device {old} {mid} {new} went within taken keeps
+    whole is =
+    finds_on (LearnedSet (AtMaximum addressed.target (HasReadings addressed.bytes device))
+    addressed.target (configuration_value (configuration_of device)))
+    (AddressedByRules addressed) (IsOwn tier supply device) port address
+    (λ j s v learned found. accepted_own_device tier supply addressed device j s v whole is learned
+    found.0 found.1) is.learned (within-keeps_addresses port address old mid new within keeps)
+    ruled
   where
     ruled : Finds (AddressedByRules addressed) port address old mid
     ruled = record {
-      found = λ f p spare t order s on there. (taken.found.found f p spare t order s on there, ruled_there mid.roots p s (went_regular n old mid went order taken.still).sane there);
+      found = λ f p spare t order s on there. (
+        taken.found.found f p spare t order s on there,
+        ruled_there mid.roots p s (went_regular n old mid went order taken.still).sane there,
+      );
     }
 
 -- how it is spoken to
-target_is : (t : Target) (address : ℕ) (low pre : Bool) → address ≡ t.addr → low ≡ t.low → t.pre ≡ (t.low && pre) → t ≡ record { addr = address; max = t.max; low = low; pre = low && pre }
+target_is : (t : Target) (address : ℕ) (low pre : Bool) → address ≡ t.addr → low ≡ t.low
+    → t.pre ≡ (t.low && pre) → t ≡ record {
+      addr = address;
+      max = t.max;
+      low = low;
+      pre = low && pre;
+    }
 target_is t address low pre at slow before = rw (at, slow, ← before) refl
 
-pub accepted : (port : HubPort) (address tier supply n m : ℕ) (addressed : Addressed) (result : Result Accepted Stop) {old mid new : World} {a b c d : Option (List ℕ)} → StepRun n old a mid b → Within port address old mid → HasTaken port address old mid addressed
-    → OnlySets address mid new → StepRun m mid c new d → IfOk result (λ device. IsWhole supply device) → IfOk result (IsListed addressed tier mid new) → IfOk result (IsAccepted port address tier supply old new)
-accepted port address tier supply n m addressed (Ok device) {old} {mid} {new} went within taken sets later whole is = record {
-  served = is.served;
-  takes = takes_then port address old mid new taken.takes sets.addresses;
-  own = own_found port address tier supply n addressed device went within taken sets.addresses whole is;
-  reaches = reaches_set port address m later taken.takes sets taken.reaches;
-  below = λ f p spare t order.
-      is.below.empty (after_taking f p address) p (ap (λ b. if b then Some address else f p) (self_path p) ∙ ap (λ a. Some a) (sym taken.address)) (taken.takes.took f p spare t) (went_in_order n old mid went order);
-  strings = record {
-    target = addressed.target;
-    is = target_is addressed.target device.address device.low (needs_pre port) is.address is.low taken.pre;
-    ends = ends_after (leads_went went) (subst (λ bytes. EndsWithStrings addressed.target (string_indexes bytes) mid new device.strings) (sym is.bytes) is.strings);
-  };
-}
+pub accepted : (port : HubPort) (address tier supply n m : ℕ) (addressed : Addressed)
+    (result : Result Accepted Stop) {old mid new : World} {a b c d : Option (List ℕ)}
+    → StepRun n old a mid b → Within port address old mid → HasTaken port address old mid addressed
+    → OnlySets address mid new → StepRun m mid c new d
+    → IfOk result (λ device. IsWhole supply device)
+    → IfOk result (IsListed addressed tier mid new)
+    → IfOk result (IsAccepted port address tier supply old new)
+accepted port address tier supply n m addressed (Ok device) {old} {mid} {new} went within taken sets
+    later whole is = record {
+      served = is.served;
+      takes = takes_then port address old mid new taken.takes sets.addresses;
+      own = own_found port address tier supply n addressed device went within taken sets.addresses
+          whole
+          is;
+      reaches = reaches_set port address m later taken.takes sets taken.reaches;
+      below = λ f p spare t order.
+          is.below.empty (after_taking f p address) p
+          (ap (λ b. if b then Some address else f p) (self_path p)
+          ∙ ap (λ a. Some a) (sym taken.address)) (taken.takes.took f p spare t)
+          (went_in_order n old mid went order);
+      strings = record {
+        target = addressed.target;
+        is = target_is addressed.target device.address device.low (needs_pre port) is.address is.low
+            taken.pre;
+        ends = ends_after (leads_went went)
+            (subst (λ bytes. EndsWithStrings addressed.target (string_indexes bytes) mid new
+            device.strings) (sym is.bytes) is.strings);
+      };
+    }
 accepted port address tier supply n m addressed (Err why) went within taken sets later whole is = tt

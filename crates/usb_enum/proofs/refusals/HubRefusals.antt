@@ -1,5 +1,7 @@
 -- Why a hub is refused by what it gives.
-use Rattle.std.proofs.Common.{◌≡◌, ◌≤◌, ℕ, ◌&&◌, not, Bool, true, false, if◌then◌else◌, List, take, Option, None, Some, option_map, Result, Ok, Err, is_ok, refl, ap, sym, ◌∙◌}
+use Rattle.std.proofs.Common.{◌≡◌, ◌≤◌, ℕ, ◌&&◌, not, Bool, true, false, if◌then◌else◌, List, take}
+use Rattle.std.proofs.Common.{Option, None, Some, option_map, Result, Ok, Err, is_ok, refl, ap, sym}
+use Rattle.std.proofs.Common.{◌∙◌}
 use Rattle.std.proofs.lemmas.Option.{same_Some}
 use Rattle.std.specs.Global.{Vec}
 use Rattle.usb_descriptor.specs.declared.fault.DescriptorFault.{DescriptorFault}
@@ -11,7 +13,8 @@ use Rattle.usb_transaction.specs.declared.target.Target.{Target}
 use Rattle.usb_transaction.specs.Failures.{NoThreeDamaged}
 use Rattle.usb_pipe.specs.declared.fault.PipeFault.{PipeFault}
 use Rattle.usb_hub.specs.declared.status.DeviceStatus.{DeviceStatus}
-use Rattle.usb_hub.specs.GivenAnswers.{unless_refused, hub_given, status_given, HasText, HubAsked, StatusAsked, ReadFailure}
+use Rattle.usb_hub.specs.GivenAnswers.{unless_refused, hub_given, status_given, HasText, HubAsked}
+use Rattle.usb_hub.specs.GivenAnswers.{StatusAsked, ReadFailure}
 use Rattle.usb_enum.specs.declared.cause.Cause.{Cause}
 use Rattle.usb_enum.specs.declared.cause.Cause.TheVariants.{BadHub}
 use Rattle.usb_enum.specs.declared.stop.Stop.{Stop}
@@ -37,46 +40,75 @@ not_third true true c h = h
 not_third true false c h = refl
 not_third false b c h = refl
 
-unless_refused-not : {X : Type 0} (refused : Bool) (given : X) → unless_refused refused (Some given) ≡ None → not refused ≡ false
+unless_refused-not : {X : Type 0} (refused : Bool) (given : X) → unless_refused refused (Some given)
+    ≡ None → not refused ≡ false
 unless_refused-not true given none = refl
 unless_refused-not false given none = absurd cc
 
 -- it does not give its descriptor
-hub_ungiven : (spec : Spec) (o : Option Hub) → unless_refused spec.stalls.hub (option_map (λ (hub : Hub). hub.descriptor) o) ≡ None → gives_hub spec o ≡ false
+hub_ungiven : (spec : Spec) (o : Option Hub)
+    → unless_refused spec.stalls.hub (option_map (λ (hub : Hub). hub.descriptor) o) ≡ None
+    → gives_hub spec o ≡ false
 hub_ungiven spec None none = refl
-hub_ungiven spec (Some hub) none = not_all (not spec.stalls.hub) (not spec.stalls.status) (is_ok (hub_spelled (take 9 hub.descriptor))) (unless_refused-not spec.stalls.hub hub.descriptor none)
+hub_ungiven spec (Some hub) none = not_all (not spec.stalls.hub) (not spec.stalls.status)
+    (is_ok (hub_spelled (take 9 hub.descriptor))) (unless_refused-not spec.stalls.hub hub.descriptor
+    none)
 
 -- its descriptor is malformed
-hub_malformed : (spec : Spec) (o : Option Hub) (text : List ℕ) → option_map (λ (hub : Hub). hub.descriptor) o ≡ Some text → is_ok (hub_spelled (take 9 text)) ≡ false → gives_hub spec o ≡ false
+hub_malformed : (spec : Spec) (o : Option Hub) (text : List ℕ)
+    → option_map (λ (hub : Hub). hub.descriptor) o ≡ Some text → is_ok (hub_spelled (take 9 text))
+    ≡ false → gives_hub spec o ≡ false
 hub_malformed spec None text is bad = refl
 hub_malformed spec (Some hub) text is bad =
-    not_third (not spec.stalls.hub) (not spec.stalls.status) (is_ok (hub_spelled (take 9 hub.descriptor))) (ap (λ x. is_ok (hub_spelled (take 9 x))) (same_Some hub.descriptor text is) ∙ bad)
+    not_third (not spec.stalls.hub) (not spec.stalls.status)
+    (is_ok (hub_spelled (take 9 hub.descriptor)))
+    (ap (λ x. is_ok (hub_spelled (take 9 x))) (same_Some hub.descriptor text is) ∙ bad)
 
 -- it does not give its status
-status_ungiven : (spec : Spec) (o : Option Hub) → not spec.stalls.status ≡ false → gives_hub spec o ≡ false
+status_ungiven : (spec : Spec) (o : Option Hub) → not spec.stalls.status ≡ false
+    → gives_hub spec o ≡ false
 status_ungiven spec None h = refl
-status_ungiven spec (Some hub) h = not_second (not spec.stalls.hub) (not spec.stalls.status) (is_ok (hub_spelled (take 9 hub.descriptor))) h
+status_ungiven spec (Some hub) h = not_second (not spec.stalls.hub) (not spec.stalls.status)
+    (is_ok (hub_spelled (take 9 hub.descriptor))) h
 
 bad_hub : (spec : Spec) → gives_hub spec spec.hub ≡ false → hub_fault spec ≡ Some BadHub
 bad_hub spec bad = ap (λ b. if b then None else Some BadHub) bad
 
-pub count_unanswered : (t : Target) (outcome : Result (Vec ℕ) PipeFault) (stop : Stop) (old new : World) → answered_or BadHub outcome ≡ Err stop → 8 ≤ t.max → (new.shared ≡ false → EachWas (HubAsked t outcome) old new)
-    → (NoThreeDamaged old → 8 ≤ t.max → new.shared ≡ false → EachWas (ReadFailure t 9 outcome) old new) → FailureReason (Refuses t hub_fault stop) t old new
+pub count_unanswered : (t : Target) (outcome : Result (Vec ℕ) PipeFault) (stop : Stop)
+    (old new : World) → answered_or BadHub outcome ≡ Err stop → 8 ≤ t.max
+    → (new.shared ≡ false → EachWas (HubAsked t outcome) old new)
+    → (NoThreeDamaged old → 8 ≤ t.max → new.shared ≡ false
+    → EachWas (ReadFailure t 9 outcome) old new)
+    → FailureReason (Refuses t hub_fault stop) t old new
 count_unanswered t outcome stop old new is least what why =
-    request_refused hub_given (λ s bytes. HasText (hub_given s.spec) t 9 s bytes.items) t 9 outcome old new what least why
+    request_refused hub_given (λ s bytes. HasText (hub_given s.spec) t 9 s bytes.items) t 9 outcome
+    old new what least why
     hub_fault BadHub stop is (λ spec none. bad_hub spec (hub_ungiven spec spec.hub none))
 
-pub count_refused : (t : Target) (stalled : Cause) (outcome : Result (Vec ℕ) PipeFault) (bytes : Vec ℕ) (fault : DescriptorFault) (old new : World) → answered_or stalled outcome ≡ Ok bytes → hub_spelled bytes.items ≡ Err fault
-    → (new.shared ≡ false → EachWas (HubAsked t outcome) old new) → FailureReason (Refuses t hub_fault (Refused BadHub)) t old new
+pub count_refused : (t : Target) (stalled : Cause) (outcome : Result (Vec ℕ) PipeFault)
+    (bytes : Vec ℕ) (fault : DescriptorFault) (old new : World)
+    → answered_or stalled outcome ≡ Ok bytes → hub_spelled bytes.items ≡ Err fault
+    → (new.shared ≡ false → EachWas (HubAsked t outcome) old new)
+    → FailureReason (Refuses t hub_fault (Refused BadHub)) t old new
 count_refused t stalled outcome bytes fault old new answered bad what =
-    learned_explains (AtMaximum t (λ spec. hub_fault spec ≡ Some BadHub)) (Refuses t hub_fault (Refused BadHub)) t old new (λ spec x r. x r.max)
-    (text_learned hub_given (λ spec. hub_fault spec ≡ Some BadHub) t 9 outcome bytes old new (answered_ok stalled outcome bytes answered)
+    learned_explains (AtMaximum t (λ spec. hub_fault spec ≡ Some BadHub))
+    (Refuses t hub_fault (Refused BadHub)) t old new (λ spec x r. x r.max)
+    (text_learned hub_given (λ spec. hub_fault spec ≡ Some BadHub) t 9 outcome bytes old new
+    (answered_ok stalled outcome bytes answered)
     (λ spec text given first.
-    bad_hub spec (hub_malformed spec spec.hub text (given_allows spec.stalls.hub (option_map (λ (hub : Hub). hub.descriptor) spec.hub) text given).1 (ap is_ok (ap hub_spelled (sym first) ∙ bad))))
+    bad_hub spec (hub_malformed spec spec.hub text
+    (given_allows spec.stalls.hub (option_map (λ (hub : Hub). hub.descriptor) spec.hub) text
+    given).1 (ap is_ok (ap hub_spelled (sym first) ∙ bad))))
     what)
 
-pub supply_unanswered : (t : Target) (outcome : Result DeviceStatus PipeFault) (stop : Stop) (old new : World) → answered_or BadHub outcome ≡ Err stop → 8 ≤ t.max → (new.shared ≡ false → EachWas (StatusAsked t outcome) old new)
-    → (NoThreeDamaged old → 8 ≤ t.max → new.shared ≡ false → EachWas (ReadFailure t 2 outcome) old new) → FailureReason (Refuses t hub_fault stop) t old new
+pub supply_unanswered : (t : Target) (outcome : Result DeviceStatus PipeFault) (stop : Stop)
+    (old new : World) → answered_or BadHub outcome ≡ Err stop → 8 ≤ t.max
+    → (new.shared ≡ false → EachWas (StatusAsked t outcome) old new)
+    → (NoThreeDamaged old → 8 ≤ t.max → new.shared ≡ false
+    → EachWas (ReadFailure t 2 outcome) old new)
+    → FailureReason (Refuses t hub_fault stop) t old new
 supply_unanswered t outcome stop old new is least what why =
-    request_refused status_given (λ s status. status_given s.spec ≡ Some status) t 2 outcome old new what least why
-    hub_fault BadHub stop is (λ spec none. bad_hub spec (status_ungiven spec spec.hub (unless_refused-not spec.stalls.status _ none)))
+    request_refused status_given (λ s status. status_given s.spec ≡ Some status) t 2 outcome old new
+    what least why
+    hub_fault BadHub stop is (λ spec none. bad_hub spec
+    (status_ungiven spec spec.hub (unless_refused-not spec.stalls.status _ none)))

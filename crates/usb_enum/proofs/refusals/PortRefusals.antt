@@ -1,5 +1,7 @@
 -- A hub is not refused for the ports that it has.
-use Rattle.std.proofs.Common.{◌≡◌, ◌≤◌, ◌+◌, ℕ, ◌==◌, ◌&&◌, ◌||◌, not, Bool, true, false, List, if◌then◌else◌, Option, None, Some, Result, Err, refl, ap, sym, subst, ◌∙◌, arith}
+use Rattle.std.proofs.Common.{◌≡◌, ◌≤◌, ◌+◌, ℕ, ◌==◌, ◌&&◌, ◌||◌, not, Bool, true, false, List}
+use Rattle.std.proofs.Common.{if◌then◌else◌, Option, None, Some, Result, Err, refl, ap, sym, subst}
+use Rattle.std.proofs.Common.{◌∙◌, arith}
 use Rattle.std.specs.Prelude.{unwrap_or, is_some, ⊤}
 use Rattle.usb_request.specs.Features.{PORT_POWER}
 use Rattle.usb_port.specs.Path.{IsPortNumber}
@@ -30,14 +32,16 @@ use Rattle.usb_enum.specs.declared.stop.Stop.TheVariants.{Refused, Fault}
 use Rattle.usb_enum.specs.Verdicts.{gives_hub}
 use Rattle.usb_enum.specs.LearnedFacts.{Learned, DeviceFact, HearsSet, FailureReason, ExplainsSet}
 use Rattle.usb_enum.specs.Readings.{AtMaximum, HasPorts}
-use Rattle.usb_enum.specs.Refusals.{IsResponsive, IsRefusedFor, Refuses, RefusesNoPort, no_fault, hub_fault, start_fault}
+use Rattle.usb_enum.specs.Refusals.{IsResponsive, IsRefusedFor, Refuses, RefusesNoPort, no_fault}
+use Rattle.usb_enum.specs.Refusals.{hub_fault, start_fault}
 use Rattle.usb_enum.specs.Stop.{stop_of, answered_or}
 use Rattle.usb_enum.proofs.readings.HubReadings.{had_ports}
 use Rattle.usb_enum.proofs.refusals.Refusals.{answered_err, explains_set, explains_set_on}
 
 -- One port
 
-served_stop : (spec : Spec) (fault : PipeFault) → NoHubFailed {A = Unit {0}} (Err fault) → IsRefusedFor no_fault (unwrap_or (stop_of fault) (Refused BadHub)) spec
+served_stop : (spec : Spec) (fault : PipeFault) → NoHubFailed {A = Unit {0}} (Err fault)
+    → IsRefusedFor no_fault (unwrap_or (stop_of fault) (Refused BadHub)) spec
 served_stop spec pipe.Stalled served = absurd served
 served_stop spec pipe.Busy served = absurd served
 served_stop spec pipe.NoAnswer served = absurd served
@@ -46,7 +50,8 @@ served_stop spec (pipe.Bus fault) served = tt
 served_stop spec pipe.Memory served = tt
 
 -- a responsive hub that stays as it was serves its port
-serves_port : (t : Target) (port : ℕ) (new : World) (j : Location) (s v : State) → v.spec ≡ s.spec → v.registers ≡ s.registers → reach_on new.roots j ≡ true → state_on new.roots j ≡ Some v
+serves_port : (t : Target) (port : ℕ) (new : World) (j : Location) (s v : State) → v.spec ≡ s.spec
+    → v.registers ≡ s.registers → reach_on new.roots j ≡ true → state_on new.roots j ≡ Some v
     → HearsSet t j s → IsResponsive t s.spec → HasPort s.spec port → HubServes t port new
 serves_port t port new j s v spec registers on there h r has = record {
   spot = j;
@@ -56,7 +61,8 @@ serves_port t port new j s v spec registers on there h r has = record {
   listens = record {
     at = ap (λ (g : Registers). g.address == t.addr) registers ∙ h.hears.at;
     loud = ap (λ (x : Spec). x.silent) spec ∙ r.loud;
-    hears = ap (λ (x : Spec). if t.low then x.low && (not (deep_at false j.rest) || t.pre) else not x.low) spec ∙ h.hears.hears;
+    hears = ap (λ (x : Spec). if t.low then x.low && (not (deep_at false j.rest) || t.pre) else not
+        x.low) spec ∙ h.hears.hears;
   };
   addressed = h.addressed;
   configured = λ z. h.configured (sym (ap (λ (g : Registers). g.configuration) registers) ∙ z);
@@ -64,7 +70,9 @@ serves_port t port new j s v spec registers on there h r has = record {
 }
 
 -- it was given power
-pub power_explains : (t : Target) (port : ℕ) (outcome : Result (Unit {0}) PipeFault) (stop : Stop) (old new : World) → Commanded t (set_port_feature PORT_POWER port) old outcome new → answered_or BadHub outcome ≡ Err stop → KeepsDevices old new
+pub power_explains : (t : Target) (port : ℕ) (outcome : Result (Unit {0}) PipeFault) (stop : Stop)
+    (old new : World) → Commanded t (set_port_feature PORT_POWER port) old outcome new
+    → answered_or BadHub outcome ≡ Err stop → KeepsDevices old new
     → ExplainsSet (RefusesNoPort t port stop) t old new
 power_explains t port outcome stop old new ordered is keeps three single j v on there =
     let was : Was StaysAs old j v = keeps.stays single j v on there in
@@ -77,66 +85,115 @@ power_explains t port outcome stop old new ordered is keeps three single j v on 
         spec = stays-spec was.before v was.so;
         address = ap (λ (g : Registers). g.address) (stays-registers was.before v was.so);
         so = λ h ruled r has.
-            let served : NoHubFailed outcome = (hub_sets (External t port) t port PORT_POWER old outcome new refl refl ordered).why t port refl three single
-            (serves_port t port new j was.before v (stays-spec was.before v was.so) (stays-registers was.before v was.so) on there h r has) in
-            subst (λ x. IsRefusedFor no_fault x was.before.spec) failed.2 (served_stop was.before.spec failed.0 (subst NoHubFailed failed.1 served));
+            let served : NoHubFailed outcome =
+            (hub_sets (External t port) t port PORT_POWER old outcome new refl refl ordered).why
+            t port refl three single
+            (serves_port t port new j was.before v (stays-spec was.before v was.so)
+            (stays-registers was.before v was.so) on there h r has) in
+            subst (λ x. IsRefusedFor no_fault x was.before.spec) failed.2
+            (served_stop was.before.spec failed.0 (subst NoHubFailed failed.1 served));
       };
     }
 
 -- Its ports, one by one
 
 -- where each device stays as it was, nothing more is learned
-learns_stays : (t : Target) (old new : World) → KeepsDevices old new → DeviceFact (λ spec. ⊤) t old new
-learns_stays t old new keeps single = each_wider StaysAs (Learned (λ spec. ⊤) t) (λ j s v x. record { frame = x; so = λ at. tt }) old new (keeps.stays single)
+learns_stays : (t : Target) (old new : World) → KeepsDevices old new
+    → DeviceFact (λ spec. ⊤) t old new
+learns_stays t old new keeps single = each_wider StaysAs (Learned (λ spec. ⊤) t)
+    (λ j s v x. record { frame = x; so = λ at. tt }) old new (keeps.stays single)
 
 has_earlier : (spec : Spec) (m n : ℕ) → 1 ≤ m → m ≤ n → HasPort spec n → HasPort spec m
-has_earlier spec m n least fewer h = record { hub = h.hub; is = h.is; least = least; most = omega (arith, fewer, h.most); idle = h.idle; ruled = h.ruled }
+has_earlier spec m n least fewer h = record {
+  hub = h.hub;
+  is = h.is;
+  least = least;
+  most =
+      omega (arith, fewer, h.most);
+  idle = h.idle;
+  ruled = h.ruled;
+}
 
 -- the ports before it were given power
-pub powering_explains : (t : Target) (before ports m n : ℕ) (stop : Stop) (old mid new : World) {q r s u : Option (List ℕ)} → before + 1 ≤ ports → KeepsDevices old mid → StepRun m old q mid r → StepRun n mid s new u
-    → ExplainsSet (RefusesNoPort t (before + 1) stop) t mid new → ExplainsSet (RefusesNoPort t ports stop) t old new
+pub powering_explains : (t : Target) (before ports m n : ℕ) (stop : Stop) (old mid new : World)
+    {q r s u : Option (List ℕ)} → before + 1 ≤ ports → KeepsDevices old mid → StepRun m old q mid r
+    → StepRun n mid s new u
+    → ExplainsSet (RefusesNoPort t (before + 1) stop) t mid new
+    → ExplainsSet (RefusesNoPort t ports stop) t old new
 powering_explains t before ports m n stop old mid new fewer keeps =
-    explains_set_on (λ spec. ⊤) (RefusesNoPort t (before + 1) stop) (RefusesNoPort t ports stop) t m n old mid new
-    (λ spec ruled a none r has. none r (has_earlier spec (before + 1) ports (omega arith) fewer has)) (learns_stays t old mid keeps)
+    explains_set_on (λ spec. ⊤) (RefusesNoPort t (before + 1) stop) (RefusesNoPort t ports stop) t m
+    n old mid new
+    (λ spec ruled a none r has. none r (has_earlier spec (before + 1) ports (omega arith) fewer
+    has)) (learns_stays t old mid keeps)
 
 -- A hub that is started
 
 -- with another fault
 module _ (text : List ℕ) where
-  bad_start : (good : Bool) (cause : Cause) (endpoint : Bool) → (if good then None else Some BadHub) ≡ Some cause → (if endpoint && good then None else Some BadHub) ≡ Some cause
+  bad_start : (good : Bool) (cause : Cause) (endpoint : Bool) → (if good then None else Some BadHub)
+      ≡ Some cause → (if endpoint && good then None else Some BadHub) ≡ Some cause
   bad_start true cause endpoint is = absurd cc
   bad_start false cause true is = is
   bad_start false cause false is = is
 
-  start_refused : (t : Target) (stop : Stop) (spec : Spec) → Refuses t hub_fault stop spec → Refuses t (start_fault text) stop spec
-  start_refused t (Refused cause) spec refused r = bad_start (gives_hub spec spec.hub) cause (is_some (status_endpoint_of text)) (refused r)
+  start_refused : (t : Target) (stop : Stop) (spec : Spec) → Refuses t hub_fault stop spec
+      → Refuses t (start_fault text) stop spec
+  start_refused t (Refused cause) spec refused r =
+      bad_start (gives_hub spec spec.hub) cause (is_some (status_endpoint_of text)) (refused r)
   start_refused t (Fault fault) spec refused r = tt
 
-  pub no_endpoint : (t : Target) (spec : Spec) → is_some (status_endpoint_of text) ≡ false → Refuses t (start_fault text) (Refused BadHub) spec
-  no_endpoint t spec none r = ap (λ b. if b && gives_hub spec spec.hub then None else Some BadHub) none
+  pub no_endpoint : (t : Target) (spec : Spec) → is_some (status_endpoint_of text) ≡ false
+      → Refuses t (start_fault text) (Refused BadHub) spec
+  no_endpoint t spec none r = ap (λ b. if b && gives_hub spec spec.hub then None else Some BadHub)
+      none
 
   -- what it gives was asked
-  pub asked_explains : (t : Target) (stop : Stop) (old new : World) → FailureReason (Refuses t hub_fault stop) t old new → ExplainsSet (Refuses t (start_fault text) stop) t old new
-  asked_explains t stop old new = explains_set (Refuses t hub_fault stop) (Refuses t (start_fault text) stop) t old new (start_refused t stop)
+  pub asked_explains : (t : Target) (stop : Stop) (old new : World)
+      → FailureReason (Refuses t hub_fault stop) t old new
+      → ExplainsSet (Refuses t (start_fault text) stop) t old new
+  asked_explains t stop old new = explains_set (Refuses t hub_fault stop)
+      (Refuses t (start_fault text) stop) t old new (start_refused t stop)
 
-  pub supply_explains : (t : Target) (ports m n : ℕ) (stop : Stop) (old mid new : World) {q r s u : Option (List ℕ)} → StepRun m old q mid r → DeviceFact (AtMaximum t (HasPorts ports)) t old mid → StepRun n mid s new u
-      → FailureReason (Refuses t hub_fault stop) t mid new → ExplainsSet (Refuses t (start_fault text) stop) t old new
+  pub supply_explains : (t : Target) (ports m n : ℕ) (stop : Stop) (old mid new : World)
+      {q r s u : Option (List ℕ)} → StepRun m old q mid r
+      → DeviceFact (AtMaximum t (HasPorts ports)) t old mid → StepRun n mid s new u
+      → FailureReason (Refuses t hub_fault stop) t mid new
+      → ExplainsSet (Refuses t (start_fault text) stop) t old new
   supply_explains t ports m n stop old mid new went counted next explains =
-      explains_set_on (AtMaximum t (HasPorts ports)) (Refuses t (start_fault text) stop) (Refuses t (start_fault text) stop) t m n old mid new (λ spec ruled p b. b) counted went next (asked_explains t stop mid new explains)
+      explains_set_on (AtMaximum t (HasPorts ports)) (Refuses t (start_fault text) stop)
+      (Refuses t (start_fault text) stop) t m n old mid new (λ spec ruled p b. b) counted went
+      next (asked_explains t stop mid new explains)
 
-  no_refusal : (spec : Spec) (stop : Stop) → IsRefusedFor no_fault stop spec → IsRefusedFor (start_fault text) stop spec
+  no_refusal : (spec : Spec) (stop : Stop) → IsRefusedFor no_fault stop spec
+      → IsRefusedFor (start_fault text) stop spec
   no_refusal spec (Refused cause) is = absurd cc
   no_refusal spec (Fault fault) is = tt
 
-  has_last : (t : Target) (ports : ℕ) (spec : Spec) → IsPortNumber ports → HasPorts ports spec → IsSpec spec → IsResponsive t spec → HasPort spec ports
+  has_last : (t : Target) (ports : ℕ) (spec : Spec) → IsPortNumber ports → HasPorts ports spec
+      → IsSpec spec → IsResponsive t spec → HasPort spec ports
   has_last t ports spec fits p ruled r =
       let had = had_ports ports spec p ruled in
-      record { hub = had.hub; is = had.is; least = fits.0; most = omega (arith, had.count); idle = r.free; ruled = ruled }
+      record {
+        hub = had.hub;
+        is = had.is;
+        least = fits.0;
+        most = omega (arith, had.count);
+        idle =
+            r.free;
+        ruled = ruled;
+      }
 
   -- its ports were counted, and it gave its status, before they were given power
-  pub powered_explains : (t : Target) (ports l m n : ℕ) (stop : Stop) (old a b new : World) {q r s u v : Option (List ℕ)} → IsPortNumber ports → StepRun l old q a r → DeviceFact (AtMaximum t (HasPorts ports)) t old a → StepRun m a s b u
-      → KeepsDevices a b → StepRun n b u new v → ExplainsSet (RefusesNoPort t ports stop) t b new → ExplainsSet (Refuses t (start_fault text) stop) t old new
+  pub powered_explains : (t : Target) (ports l m n : ℕ) (stop : Stop) (old a b new : World)
+      {q r s u v : Option (List ℕ)} → IsPortNumber ports → StepRun l old q a r
+      → DeviceFact (AtMaximum t (HasPorts ports)) t old a → StepRun m a s b u
+      → KeepsDevices a b → StepRun n b u new v → ExplainsSet (RefusesNoPort t ports stop) t b new
+      → ExplainsSet (Refuses t (start_fault text) stop) t old new
   powered_explains t ports l m n stop old a b new fits wa counted wb keeps wn explains =
-      explains_set_on (AtMaximum t (HasPorts ports)) (RefusesNoPort t ports stop) (Refuses t (start_fault text) stop) t l (m + n) old a new
-      (λ spec ruled p none r. no_refusal spec stop (none r (has_last t ports spec fits (p r.max) ruled r))) counted wa (went_then m n wb wn)
-      (explains_set_on (λ spec. ⊤) (RefusesNoPort t ports stop) (RefusesNoPort t ports stop) t m n a b new (λ spec ruled a none. none) (learns_stays t a b keeps) wb wn explains)
+      explains_set_on (AtMaximum t (HasPorts ports)) (RefusesNoPort t ports stop)
+      (Refuses t (start_fault text) stop) t l (m + n) old a new
+      (λ spec ruled p none r. no_refusal spec stop
+      (none r (has_last t ports spec fits (p r.max) ruled r))) counted wa
+      (went_then m n wb wn)
+      (explains_set_on (λ spec. ⊤) (RefusesNoPort t ports stop) (RefusesNoPort t ports stop) t m n a
+      b new (λ spec ruled a none. none) (learns_stays t a b keeps) wb wn explains)

@@ -1,6 +1,8 @@
 -- How what a refusal tells of a device joins, and why a request for data fails.
 use Rattle.usb_device.specs.Tree.{Location}
-use Rattle.std.proofs.Common.{◌≡◌, ◌⊎◌, inl, ◌≤◌, ℕ, ◌==◌, ◌&&◌, ◌||◌, not, Bool, true, false, List, if◌then◌else◌, Option, None, Some, Result, Ok, Err, refl, ap, sym, subst, ◌∙◌}
+use Rattle.std.proofs.Common.{◌≡◌, ◌⊎◌, inl, ◌≤◌, ℕ, ◌==◌, ◌&&◌, ◌||◌, not, Bool, true, false, List}
+use Rattle.std.proofs.Common.{if◌then◌else◌, Option, None, Some, Result, Ok, Err, refl, ap, sym}
+use Rattle.std.proofs.Common.{subst, ◌∙◌}
 use Rattle.std.specs.Prelude.{unwrap_or, IfOk, IfErr, IsErrAnd, MatchResult, ⊤}
 use Rattle.usb_device.specs.Spec.{Spec, IsSpec}
 use Rattle.usb_device.specs.Rows.{State}
@@ -25,28 +27,36 @@ use Rattle.usb_enum.specs.declared.cause.Cause.{Cause}
 use Rattle.usb_enum.specs.declared.fault.EnumFault.{EnumFault}
 use Rattle.usb_enum.specs.declared.stop.Stop.{Stop}
 use Rattle.usb_enum.specs.declared.stop.Stop.TheVariants.{Refused, Fault}
-use Rattle.usb_enum.specs.LearnedFacts.{Learned, DeviceFact, Hears, HearsSet, Explained, FailureReason, ExplainsSet}
+use Rattle.usb_enum.specs.LearnedFacts.{Learned, DeviceFact, Hears, HearsSet, Explained}
+use Rattle.usb_enum.specs.LearnedFacts.{FailureReason, ExplainsSet}
 use Rattle.usb_enum.specs.Refusals.{IsResponsive, IsRefusedFor, Refuses}
 use Rattle.usb_enum.specs.Stop.{stop_of, answered_or}
 use Rattle.usb_enum.proofs.courses.Damages.{went_three}
 use Rattle.usb_enum.proofs.devices.SharedAddresses.{went_unshared}
 
 -- two things of each device in one call
-pub each_joint : (R S T : Relation) → ((j : Location) (s v : State) → R j s v → S j s v → T j s v) → (old new : World) → EachWas R old new → EachWas S old new → EachWas T old new
-each_joint R S T f old new x y = each_wider (λ j s v. R j s v × S j s v) T (λ j s v k. f j s v k.0 k.1) old new (each_both R S old new x y)
+pub each_joint : (R S T : Relation) → ((j : Location) (s v : State) → R j s v → S j s v → T j s v)
+    → (old new : World) → EachWas R old new → EachWas S old new → EachWas T old new
+each_joint R S T f old new x y = each_wider (λ j s v. R j s v × S j s v) T
+    (λ j s v k. f j s v k.0 k.1) old new (each_both R S old new x y)
 
 -- from one call to the next
 
-pub hears_on : (t : Target) (place : Location) (s u : State) → u.spec ≡ s.spec → address_of u ≡ address_of s → Hears t place s → Hears t place u
+pub hears_on : (t : Target) (place : Location) (s u : State) → u.spec ≡ s.spec
+    → address_of u ≡ address_of s → Hears t place s → Hears t place u
 hears_on t place s u spec address h = record {
   at = ap (λ n. n == t.addr) address ∙ h.at;
-  hears = ap (λ (x : Spec). if t.low then x.low && (not (deep_at false place.rest) || t.pre) else not x.low) spec ∙ h.hears;
+  hears = ap (λ (x : Spec). if t.low then x.low && (not (deep_at false place.rest) || t.pre)
+      else not x.low) spec ∙ h.hears;
 }
 
-hears_still : (t : Target) (place : Location) (s u : State) → u.spec ≡ s.spec → u.registers ≡ s.registers → Hears t place s → Hears t place u
-hears_still t place s u spec registers h = hears_on t place s u spec (ap (λ (r : Registers). r.address) registers) h
+hears_still : (t : Target) (place : Location) (s u : State) → u.spec ≡ s.spec
+    → u.registers ≡ s.registers → Hears t place s → Hears t place u
+hears_still t place s u spec registers h =
+    hears_on t place s u spec (ap (λ (r : Registers). r.address) registers) h
 
-set_still : (t : Target) (place : Location) (s u : State) → u.spec ≡ s.spec → u.registers ≡ s.registers → HearsSet t place s → HearsSet t place u
+set_still : (t : Target) (place : Location) (s u : State) → u.spec ≡ s.spec
+    → u.registers ≡ s.registers → HearsSet t place s → HearsSet t place u
 set_still t place s u spec registers h = record {
   hears = hears_still t place s u spec registers h.hears;
   addressed = h.addressed;
@@ -54,36 +64,78 @@ set_still t place s u spec registers h = record {
 }
 
 -- what was learned explains as well
-pub learned_explains : (A B : Spec → Type 0) (t : Target) (old new : World) → ((spec : Spec) → A spec → B spec) → DeviceFact A t old new → FailureReason B t old new
+pub learned_explains : (A B : Spec → Type 0) (t : Target) (old new : World)
+    → ((spec : Spec) → A spec → B spec) → DeviceFact A t old new → FailureReason B t old new
 learned_explains A B t old new f x three single =
     each_wider (Learned A t) (Explained Hears B t)
-    (λ j s v l. record { spec = stays-spec s v l.frame; address = ap (λ (r : Registers). r.address) (stays-registers s v l.frame); so = λ h ruled. f s.spec (l.so h.at) }) old new (x single)
+    (λ j s v l. record {
+      spec = stays-spec s v l.frame;
+      address =
+          ap (λ (r : Registers). r.address) (stays-registers s v l.frame);
+      so =
+          λ h ruled. f s.spec (l.so h.at);
+    }) old new (x single)
 
 -- a fault is no refusal
-pub fault_explains : (A : Spec → Type 0) (t : Target) (wrong : Spec → Option Cause) (fault : EnumFault) (old new : World) → DeviceFact A t old new → FailureReason (Refuses t wrong (Fault fault)) t old new
-fault_explains A t wrong fault old new = learned_explains A (Refuses t wrong (Fault fault)) t old new (λ spec a r. tt)
+pub fault_explains : (A : Spec → Type 0) (t : Target) (wrong : Spec → Option Cause)
+    (fault : EnumFault) (old new : World) → DeviceFact A t old new
+    → FailureReason (Refuses t wrong (Fault fault)) t old new
+fault_explains A t wrong fault old new = learned_explains A (Refuses t wrong (Fault fault)) t old
+    new (λ spec a r. tt)
 
 -- where nothing went, what is so of every description
-pub explains_none : (So : Spec → Type 0) (t : Target) (w : World) → ((spec : Spec) → So spec) → FailureReason So t w w
-explains_none So t w all three single = each_none (Explained Hears So t) (λ j s. record { spec = refl; address = refl; so = λ h ruled. all s.spec }) w
+pub explains_none : (So : Spec → Type 0) (t : Target) (w : World) → ((spec : Spec) → So spec)
+    → FailureReason So t w w
+explains_none So t w all three single =
+    each_none (Explained Hears So t) (λ j s. record {
+      spec = refl;
+      address = refl;
+      so =
+          λ h ruled. all s.spec;
+    }) w
 
-pub explains_set_none : (So : Spec → Type 0) (t : Target) (w : World) → ((spec : Spec) → So spec) → ExplainsSet So t w w
-explains_set_none So t w all three single = each_none (Explained HearsSet So t) (λ j s. record { spec = refl; address = refl; so = λ h ruled. all s.spec }) w
+pub explains_set_none : (So : Spec → Type 0) (t : Target) (w : World) → ((spec : Spec) → So spec)
+    → ExplainsSet So t w w
+explains_set_none So t w all three single =
+    each_none (Explained HearsSet So t) (λ j s. record {
+      spec = refl;
+      address = refl;
+      so =
+          λ h ruled. all s.spec;
+    }) w
 
-pub explains_wider : (A B : Spec → Type 0) (t : Target) (old new : World) → ((spec : Spec) → A spec → B spec) → FailureReason A t old new → FailureReason B t old new
+pub explains_wider : (A B : Spec → Type 0) (t : Target) (old new : World)
+    → ((spec : Spec) → A spec → B spec) → FailureReason A t old new → FailureReason B t old new
 explains_wider A B t old new f x three single =
-    each_wider (Explained Hears A t) (Explained Hears B t) (λ j s v e. record { spec = e.spec; address = e.address; so = λ h ruled. f s.spec (e.so h ruled) }) old new (x three single)
+    each_wider (Explained Hears A t) (Explained Hears B t)
+    (λ j s v e. record {
+      spec = e.spec;
+      address = e.address;
+      so =
+          λ h ruled. f s.spec (e.so h ruled);
+    }) old new (x three single)
 
 -- of a device that is configured as of any
-pub explains_set : (A B : Spec → Type 0) (t : Target) (old new : World) → ((spec : Spec) → A spec → B spec) → FailureReason A t old new → ExplainsSet B t old new
+pub explains_set : (A B : Spec → Type 0) (t : Target) (old new : World)
+    → ((spec : Spec) → A spec → B spec) → FailureReason A t old new → ExplainsSet B t old new
 explains_set A B t old new f x three single =
-    each_wider (Explained Hears A t) (Explained HearsSet B t) (λ j s v e. record { spec = e.spec; address = e.address; so = λ h ruled. f s.spec (e.so h.hears ruled) }) old new (x three single)
+    each_wider (Explained Hears A t) (Explained HearsSet B t)
+    (λ j s v e. record {
+      spec = e.spec;
+      address = e.address;
+      so =
+          λ h ruled. f s.spec (e.so h.hears ruled);
+    }) old new (x three single)
 
 -- after what was learned
-module _ (Heard : Target → Location → State → Type 0) (at : (t : Target) (j : Location) (s : State) → Heard t j s → is_at s t ≡ true)
-    (on : (t : Target) (j : Location) (s u : State) → u.spec ≡ s.spec → u.registers ≡ s.registers → Heard t j s → Heard t j u) where
-  explained_on : (A B C : Spec → Type 0) (t : Target) (m n : ℕ) (old mid new : World) {q r s u : Option (List ℕ)} → ((spec : Spec) → IsSpec spec → A spec → B spec → C spec)
-      → DeviceFact A t old mid → StepRun m old q mid r → StepRun n mid s new u → (NoThreeDamaged mid → new.shared ≡ false → EachWas (Explained Heard B t) mid new)
+module _ (Heard : Target → Location → State → Type 0) (at : (t : Target) (j : Location) (s : State)
+    → Heard t j s → is_at s t ≡ true)
+    (on : (t : Target) (j : Location) (s u : State) → u.spec ≡ s.spec → u.registers ≡ s.registers
+    → Heard t j s → Heard t j u) where
+  explained_on : (A B C : Spec → Type 0) (t : Target) (m n : ℕ) (old mid new : World)
+      {q r s u : Option (List ℕ)} → ((spec : Spec) → IsSpec spec → A spec → B spec → C spec)
+      → DeviceFact A t old mid → StepRun m old q mid r → StepRun n mid s new u
+      → (NoThreeDamaged mid → new.shared ≡ false → EachWas (Explained Heard B t) mid new)
       → NoThreeDamaged old → new.shared ≡ false → EachWas (Explained Heard C t) old new
   explained_on A B C t m n old mid new f a first next b three single =
       each_joined (Learned A t) (Explained Heard B t) (Explained Heard C t)
@@ -92,29 +144,41 @@ module _ (Heard : Target → Location → State → Type 0) (at : (t : Target) (
         address = y.address ∙ ap (λ (r : Registers). r.address) (stays-registers s u x.frame);
         so = λ h ruled.
             f s.spec ruled (x.so (at t j s h))
-            (subst B (stays-spec s u x.frame) (y.so (on t j s u (stays-spec s u x.frame) (stays-registers s u x.frame) h) (subst IsSpec (sym (stays-spec s u x.frame)) ruled)));
+            (subst B (stays-spec s u x.frame)
+            (y.so (on t j s u (stays-spec s u x.frame) (stays-registers s u x.frame) h)
+            (subst IsSpec (sym (stays-spec s u x.frame)) ruled)));
       })
-      old mid new (a (went_unshared n mid new next single)) (b (went_three m old mid first three) single)
+      old mid new (a (went_unshared n mid new next single))
+      (b (went_three m old mid first three) single)
 
-pub explains_on : (A B C : Spec → Type 0) (t : Target) (m n : ℕ) (old mid new : World) {q r s u : Option (List ℕ)} → ((spec : Spec) → A spec → B spec → C spec)
-    → DeviceFact A t old mid → StepRun m old q mid r → StepRun n mid s new u → FailureReason B t mid new → FailureReason C t old new
-explains_on A B C t m n old mid new f = explained_on Hears (λ t p s h. h.at) hears_still A B C t m n old mid new (λ spec ruled. f spec)
+pub explains_on : (A B C : Spec → Type 0) (t : Target) (m n : ℕ) (old mid new : World)
+    {q r s u : Option (List ℕ)} → ((spec : Spec) → A spec → B spec → C spec)
+    → DeviceFact A t old mid → StepRun m old q mid r → StepRun n mid s new u
+    → FailureReason B t mid new → FailureReason C t old new
+explains_on A B C t m n old mid new f = explained_on Hears (λ t p s h. h.at) hears_still A B C t m n
+    old mid new (λ spec ruled. f spec)
 
-pub explains_set_on : (A B C : Spec → Type 0) (t : Target) (m n : ℕ) (old mid new : World) {q r s u : Option (List ℕ)} → ((spec : Spec) → IsSpec spec → A spec → B spec → C spec)
-    → DeviceFact A t old mid → StepRun m old q mid r → StepRun n mid s new u → ExplainsSet B t mid new → ExplainsSet C t old new
-explains_set_on A B C t m n old mid new f = explained_on HearsSet (λ t p s h. h.hears.at) set_still A B C t m n old mid new f
+pub explains_set_on : (A B C : Spec → Type 0) (t : Target) (m n : ℕ) (old mid new : World)
+    {q r s u : Option (List ℕ)} → ((spec : Spec) → IsSpec spec → A spec → B spec → C spec)
+    → DeviceFact A t old mid → StepRun m old q mid r → StepRun n mid s new u
+    → ExplainsSet B t mid new → ExplainsSet C t old new
+explains_set_on A B C t m n old mid new f = explained_on HearsSet (λ t p s h. h.hears.at) set_still
+    A B C t m n old mid new f
 
 -- an error that is handed on
-pub handed_match : {A E : Type 0} (r : Result A E) (P : A → Type 0) (Q : E → Type 0) (why : E) → IsErrAnd r (λ e. e ≡ why) → Q why → MatchResult r P Q
+pub handed_match : {A E : Type 0} (r : Result A E) (P : A → Type 0) (Q : E → Type 0) (why : E)
+    → IsErrAnd r (λ e. e ≡ why) → Q why → MatchResult r P Q
 handed_match (Ok x) P Q why same q = absurd same
 handed_match (Err e) P Q why same q = subst Q (sym same) q
 
-pub matched_ok : {A E : Type 0} (r : Result A E) (P : A → Type 0) (Q : E → Type 0) → MatchResult r P Q → IfOk r P
+pub matched_ok : {A E : Type 0} (r : Result A E) (P : A → Type 0) (Q : E → Type 0)
+    → MatchResult r P Q → IfOk r P
 matched_ok (Ok x) P Q h = h
 matched_ok (Err why) P Q h = tt
 
 -- what is so of each error
-pub by_error : {A E : Type 0} (r : Result A E) (P : E → Type 0) → ((why : E) → r ≡ Err why → P why) → IfErr r P
+pub by_error : {A E : Type 0} (r : Result A E) (P : E → Type 0) → ((why : E) → r ≡ Err why → P why)
+    → IfErr r P
 by_error (Ok x) P f = tt
 by_error (Err why) P f = f why refl
 
@@ -122,7 +186,8 @@ by_error (Err why) P f = f why refl
 
 -- of this description
 abbrev pub FailsForSpec : {X : Type 0} → (Spec → Option X) → PipeFault → Spec → Type 0
-FailsForSpec given pipe.Stalled spec = (spec.silent ≡ false) × (spec.busy ≡ false) × (given spec ≡ None)
+FailsForSpec given pipe.Stalled spec = (spec.silent ≡ false) × (spec.busy ≡ false)
+    × (given spec ≡ None)
 FailsForSpec given pipe.Busy spec = (spec.silent ≡ false) × (spec.busy ≡ true)
 FailsForSpec given pipe.NoAnswer spec = spec.silent ≡ true
 FailsForSpec given pipe.Broken spec = ⊥
@@ -130,7 +195,10 @@ FailsForSpec given (pipe.Bus fault) spec = ⊤
 FailsForSpec given pipe.Memory spec = ⊤
 
 -- only a STALL refuses a responsive device
-responsive_stop : {X : Type 0} (given : Spec → Option X) (t : Target) (wrong : Spec → Option Cause) (stalled : Cause) (spec : Spec) → IsResponsive t spec → (given spec ≡ None → wrong spec ≡ Some stalled) → (fault : PipeFault) → FailsForSpec given fault spec
+responsive_stop : {X : Type 0} (given : Spec → Option X) (t : Target) (wrong : Spec → Option Cause)
+    (stalled : Cause) (spec : Spec) → IsResponsive t spec
+    → (given spec ≡ None → wrong spec ≡ Some stalled) → (fault : PipeFault)
+    → FailsForSpec given fault spec
     → IsRefusedFor wrong (unwrap_or (stop_of fault) (Refused stalled)) spec
 responsive_stop given t wrong stalled spec r f pipe.Stalled why = f why.2
 responsive_stop given t wrong stalled spec r f pipe.Busy why = false_true (sym r.free ∙ why.1)
@@ -139,23 +207,31 @@ responsive_stop given t wrong stalled spec r f pipe.Broken why = absurd why
 responsive_stop given t wrong stalled spec r f (pipe.Bus fault) why = tt
 responsive_stop given t wrong stalled spec r f pipe.Memory why = tt
 
-pub answered_err : {A : Type 0} (stalled : Cause) (outcome : Result A PipeFault) (stop : Stop) → answered_or stalled outcome ≡ Err stop → (fault : PipeFault) × (outcome ≡ Err fault) × (unwrap_or (stop_of fault) (Refused stalled) ≡ stop)
+pub answered_err : {A : Type 0} (stalled : Cause) (outcome : Result A PipeFault) (stop : Stop)
+    → answered_or stalled outcome ≡ Err stop → (fault : PipeFault) × (outcome ≡ Err fault)
+    × (unwrap_or (stop_of fault) (Refused stalled) ≡ stop)
 answered_err stalled (Ok given) stop is = absurd cc
 answered_err stalled (Err fault) stop is = (fault, refl, cc)
 
-pub answered_ok : {A : Type 0} (stalled : Cause) (outcome : Result A PipeFault) (answer : A) → answered_or stalled outcome ≡ Ok answer → outcome ≡ Ok answer
+pub answered_ok : {A : Type 0} (stalled : Cause) (outcome : Result A PipeFault) (answer : A)
+    → answered_or stalled outcome ≡ Ok answer → outcome ≡ Ok answer
 answered_ok stalled (Ok given) answer is = cc
 answered_ok stalled (Err fault) answer is = absurd cc
 
-module _ {A X : Type 0} (given : Spec → Option X) (Has : State → A → Type 0) (t : Target) (wanted : ℕ) where
-  read_fails : (fault : PipeFault) (j : Location) (s v : State) → ReadAsked given Has t (Err fault) j s v → ReadFailure {A = A} t wanted (Err fault) j s v → Hears t j s → IsSpec s.spec → IsMaximum t wanted s
+module _ {A X : Type 0} (given : Spec → Option X) (Has : State → A → Type 0) (t : Target)
+    (wanted : ℕ) where
+  read_fails : (fault : PipeFault) (j : Location) (s v : State)
+      → ReadAsked given Has t (Err fault) j s v → ReadFailure {A = A} t wanted (Err fault) j s v
+      → Hears t j s → IsSpec s.spec → IsMaximum t wanted s
       → FailsForSpec given fault s.spec
-  read_fails pipe.Stalled j s v x y h ruled max = ((x.could h.at).0, (x.could h.at).1, x.stalled h.at refl)
+  read_fails pipe.Stalled j s v x y h ruled max =
+      ((x.could h.at).0, (x.could h.at).1, x.stalled h.at refl)
   read_fails pipe.Busy j s v x y h ruled max = (x.could h.at, pick s.spec.busy refl)
     where
       pick : (b : Bool) → s.spec.busy ≡ b → b ≡ true
       pick true e = refl
-      pick false e = absurd (y.waited (record { at = h.at; loud = x.could h.at; hears = h.hears }) max e ruled.naks refl)
+      pick false e = absurd (y.waited (record { at = h.at; loud = x.could h.at; hears = h.hears })
+          max e ruled.naks refl)
   read_fails pipe.NoAnswer j s v x y h ruled max = pick s.spec.silent refl
     where
       pick : (b : Bool) → s.spec.silent ≡ b → b ≡ true
@@ -165,20 +241,41 @@ module _ {A X : Type 0} (given : Spec → Option X) (Has : State → A → Type 
   read_fails (pipe.Bus fault) j s v x y h ruled max = tt
   read_fails pipe.Memory j s v x y h ruled max = tt
 
-  module _ (outcome : Result A PipeFault) (old new : World) (what : new.shared ≡ false → EachWas (ReadAsked given Has t outcome) old new) (least : 8 ≤ t.max)
-      (why : NoThreeDamaged old → 8 ≤ t.max → new.shared ≡ false → EachWas (ReadFailure t wanted outcome) old new) where
-    pub failure_explains : (So : Spec → Type 0) (fault : PipeFault) → outcome ≡ Err fault → ((spec : Spec) → (((max_packet spec ≡ t.max) ⊎ (wanted ≤ 8)) → FailsForSpec given fault spec) → So spec) → FailureReason So t old new
+  module _ (outcome : Result A PipeFault) (old new : World) (what : new.shared ≡ false
+      → EachWas (ReadAsked given Has t outcome) old new) (least : 8 ≤ t.max)
+      (why : NoThreeDamaged old → 8 ≤ t.max → new.shared ≡ false
+      → EachWas (ReadFailure t wanted outcome) old new) where
+    pub failure_explains : (So : Spec → Type 0) (fault : PipeFault) → outcome ≡ Err fault
+        → ((spec : Spec) → (((max_packet spec ≡ t.max) ⊎ (wanted ≤ 8))
+        → FailsForSpec given fault spec) → So spec) → FailureReason So t old new
     failure_explains So fault is f three single =
-        each_joint (ReadAsked given Has t (Err fault)) (ReadFailure {A = A} t wanted (Err fault)) (Explained Hears So t)
-        (λ j s v x y. record { spec = ap (λ z. z.spec) x.frame; address = ap (λ z. z.registers.address) x.frame; so = λ h ruled. f s.spec (read_fails fault j s v x y h ruled) })
-        old new (subst (λ r. EachWas (ReadAsked given Has t r) old new) is (what single)) (subst (λ r. EachWas (ReadFailure t wanted r) old new) is (why three least single))
+        each_joint (ReadAsked given Has t (Err fault)) (ReadFailure {A = A} t wanted (Err fault))
+        (Explained Hears So t)
+        (λ j s v x y. record {
+          spec = ap (λ z. z.spec) x.frame;
+          address =
+              ap (λ z. z.registers.address) x.frame;
+          so =
+              λ h ruled. f s.spec (read_fails fault j s v x y h ruled);
+        })
+        old new (subst (λ r. EachWas (ReadAsked given Has t r) old new) is (what single))
+        (subst (λ r. EachWas (ReadFailure t wanted r) old new) is (why three least single))
 
     -- by its answer to the host
-    pub stop_explains : (So : Stop → Spec → Type 0) (stalled : Cause) (stop : Stop) → answered_or stalled outcome ≡ Err stop
-        → ((spec : Spec) (fault : PipeFault) → (((max_packet spec ≡ t.max) ⊎ (wanted ≤ 8)) → FailsForSpec given fault spec) → So (unwrap_or (stop_of fault) (Refused stalled)) spec) → FailureReason (So stop) t old new
+    pub stop_explains : (So : Stop → Spec → Type 0) (stalled : Cause) (stop : Stop)
+        → answered_or stalled outcome ≡ Err stop
+        → ((spec : Spec) (fault : PipeFault) → (((max_packet spec ≡ t.max) ⊎ (wanted ≤ 8))
+        → FailsForSpec given fault spec) → So (unwrap_or (stop_of fault) (Refused stalled))
+        spec) → FailureReason (So stop) t old new
     stop_explains So stalled stop is f =
         let failed = answered_err stalled outcome stop is in
-        failure_explains (So stop) failed.0 failed.1 (λ spec why. subst (λ x. So x spec) failed.2 (f spec failed.0 why))
+        failure_explains (So stop) failed.0 failed.1
+        (λ spec why. subst (λ x. So x spec) failed.2 (f spec failed.0 why))
 
-    pub request_refused : (wrong : Spec → Option Cause) (stalled : Cause) (stop : Stop) → answered_or stalled outcome ≡ Err stop → ((spec : Spec) → given spec ≡ None → wrong spec ≡ Some stalled) → FailureReason (Refuses t wrong stop) t old new
-    request_refused wrong stalled stop is f = stop_explains (Refuses t wrong) stalled stop is (λ spec fault why r. responsive_stop given t wrong stalled spec r (f spec) fault (why (inl r.max)))
+    pub request_refused : (wrong : Spec → Option Cause) (stalled : Cause) (stop : Stop)
+        → answered_or stalled outcome ≡ Err stop
+        → ((spec : Spec) → given spec ≡ None → wrong spec ≡ Some stalled)
+        → FailureReason (Refuses t wrong stop) t old new
+    request_refused wrong stalled stop is f = stop_explains (Refuses t wrong) stalled stop is
+        (λ spec fault why r. responsive_stop given t wrong stalled spec r (f spec) fault
+        (why (inl r.max)))

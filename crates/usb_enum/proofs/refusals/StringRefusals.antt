@@ -1,5 +1,6 @@
 -- A device is never refused for a string.
-use Rattle.std.proofs.Common.{◌≡◌, ◌+◌, ◌≤◌, ℕ, inl, false, List, Option, Some, Result, Err, sym, subst, ◌∙◌}
+use Rattle.std.proofs.Common.{◌≡◌, ◌+◌, ◌≤◌, ℕ, inl, false, List, Option, Some, Result, Err, sym}
+use Rattle.std.proofs.Common.{subst, ◌∙◌}
 use Rattle.std.specs.Prelude.{IsErrAnd, ⊤}
 use Rattle.std.proofs.lemmas.Option.{same_Some}
 use Rattle.std.specs.Global.{Vec}
@@ -24,26 +25,37 @@ use Rattle.usb_enum.proofs.readings.Readings.{learns_on}
 use Rattle.usb_enum.proofs.stops.Reasons.{told_after}
 use Rattle.usb_enum.proofs.refusals.Refusals.{FailsForSpec, explains_on, failure_explains}
 
-never_stop : (t : Target) (index : ℕ) (spec : Spec) → IsResponsive t spec → (fault : PipeFault) (stop : Stop) → stop_of fault ≡ Some stop → FailsForSpec (string_given index) fault spec → IsRefusedFor no_fault stop spec
+never_stop : (t : Target) (index : ℕ) (spec : Spec) → IsResponsive t spec
+    → (fault : PipeFault) (stop : Stop) → stop_of fault ≡ Some stop
+    → FailsForSpec (string_given index) fault spec → IsRefusedFor no_fault stop spec
 never_stop t index spec r pipe.Stalled stop is why = absurd cc
 never_stop t index spec r pipe.Busy stop is why = false_true (sym r.free ∙ why.1)
 never_stop t index spec r pipe.NoAnswer stop is why = false_true (sym r.loud ∙ why)
 never_stop t index spec r pipe.Broken stop is why = absurd why
-never_stop t index spec r (pipe.Bus fault) stop is why = subst (λ s. IsRefusedFor no_fault s spec) (same_Some _ _ is) tt
-never_stop t index spec r pipe.Memory stop is why = subst (λ s. IsRefusedFor no_fault s spec) (same_Some _ _ is) tt
+never_stop t index spec r (pipe.Bus fault) stop is why =
+    subst (λ s. IsRefusedFor no_fault s spec) (same_Some _ _ is) tt
+never_stop t index spec r pipe.Memory stop is why =
+    subst (λ s. IsRefusedFor no_fault s spec) (same_Some _ _ is) tt
 
-pub string_unrefused : (t : Target) (index : ℕ) (outcome : Result (Vec ℕ) PipeFault) (fault : PipeFault) (stop : Stop) (old new : World) → outcome ≡ Err fault → stop_of fault ≡ Some stop → 8 ≤ t.max
+pub string_unrefused : (t : Target) (index : ℕ) (outcome : Result (Vec ℕ) PipeFault)
+    (fault : PipeFault) (stop : Stop) (old new : World) → outcome ≡ Err fault
+    → stop_of fault ≡ Some stop → 8 ≤ t.max
     → (new.shared ≡ false → EachWas (StringAsked t index outcome) old new)
-    → (NoThreeDamaged old → 8 ≤ t.max → new.shared ≡ false → EachWas (ReadFailure t 255 outcome) old new) → FailureReason (Refuses t no_fault stop) t old new
+    → (NoThreeDamaged old → 8 ≤ t.max → new.shared ≡ false
+    → EachWas (ReadFailure t 255 outcome) old new)
+    → FailureReason (Refuses t no_fault stop) t old new
 string_unrefused t index outcome fault stop old new is told least what why =
-    failure_explains (string_given index) (λ s bytes. HasText (string_given index s.spec) t 255 s bytes.items) t 255 outcome old new what least why
-    (Refuses t no_fault stop) fault is (λ spec fails r. never_stop t index spec r fault stop told (fails (inl r.max)))
+    failure_explains (string_given index) (λ s bytes. HasText (string_given index s.spec) t 255 s
+    bytes.items) t 255 outcome old new what least why
+    (Refuses t no_fault stop) fault is (λ spec fails r. never_stop t index spec r fault stop told
+    (fails (inl r.max)))
 
 -- a read that stops behind others
 pub string_stops : {A B : Type 0} (So : Spec → Type 0) {t : Target} {m n k : ℕ}
     {Gives : World → World → A → Type 0} {Gave : World → World → B → Type 0} {old mid new : World}
     {a b c : Option (List ℕ)} (result : Result A Stop) (stop : Stop)
-    → IsErrAnd result (λ e. e ≡ stop) → KeepingSteps OnlyAsks m old a mid b → DeviceFact So t old mid
+    → IsErrAnd result (λ e. e ≡ stop) → KeepingSteps OnlyAsks m old a mid b
+    → DeviceFact So t old mid
     → Ending OnlyAsks n Gave (StopsRead t no_fault) mid b (Err stop) new c → m + n ≤ k
     → Ending OnlyAsks k Gives (StopsRead t no_fault) old a result new c
 string_stops So {t} {m} {n} {old = old} {mid = mid} {new = new} r stop same steps fact read le =
@@ -55,7 +67,8 @@ string_stops So {t} {m} {n} {old = old} {mid = mid} {new = new} r stop same step
 
 -- that each was read
 pub strings_read : {A B : Spec → Type 0} (t : Target) {n : ℕ} {old mid new : World}
-    {a b : Option (List ℕ)} → DeviceFact A t old mid → KeepingSteps OnlyAsks n mid a new b → DeviceFact B t mid new
+    {a b : Option (List ℕ)} → DeviceFact A t old mid → KeepingSteps OnlyAsks n mid a new b
+    → DeviceFact B t mid new
     → DeviceFact (λ spec. ⊤) t old new
 strings_read {A} {B} t {n} {old} {mid} {new} first steps =
     learns_on A B (λ spec. ⊤) t n old mid new (λ spec a b. tt) first steps.went

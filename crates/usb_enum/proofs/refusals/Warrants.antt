@@ -1,5 +1,6 @@
 -- That a refusal has its cause: what is wrong with a device is the verdict on it.
-use Rattle.std.proofs.Common.{◌≡◌, inl, inr, ◌&&◌, not, ℕ, Bool, true, false, if◌then◌else◌, List, take, Option, None, Some, Result, Ok, Err, is_ok, refl, ap, sym, ◌∙◌}
+use Rattle.std.proofs.Common.{◌≡◌, inl, inr, ◌&&◌, not, ℕ, Bool, true, false, if◌then◌else◌, List}
+use Rattle.std.proofs.Common.{take, Option, None, Some, Result, Ok, Err, is_ok, refl, ap, sym, ◌∙◌}
 use Rattle.std.specs.Option.{option_or}
 use Rattle.std.specs.Prelude.{IfErr, IfOk, MatchResult}
 use Rattle.std.proofs.lemmas.Option.{same_Some}
@@ -14,7 +15,8 @@ use Rattle.usb_address.specs.Ownership.{Enumerating, WhileBusWorks}
 use Rattle.usb_hub.specs.declared.port.HubPort.{HubPort}
 use Rattle.usb_enum.specs.declared.addressed.Addressed.{Addressed}
 use Rattle.usb_enum.specs.declared.cause.Cause.{Cause}
-use Rattle.usb_enum.specs.declared.cause.Cause.TheVariants.{Silent, Busy, Stalled, BadDevice, NoAddress}
+use Rattle.usb_enum.specs.declared.cause.Cause.TheVariants.{Silent, Busy, Stalled, BadDevice}
+use Rattle.usb_enum.specs.declared.cause.Cause.TheVariants.{NoAddress}
 use Rattle.usb_enum.specs.declared.cause.Request.TheVariants as request
 use Rattle.usb_enum.specs.declared.finding.Finding.TheVariants.{Refused as RefusedFinding}
 use Rattle.usb_enum.specs.declared.stop.Stop.{Stop}
@@ -26,7 +28,8 @@ use Rattle.usb_enum.specs.FairEnumerations.{IsFairAt, PendingOr, StopsFairly}
 use Rattle.usb_enum.specs.Frames.{OnlySets}
 use Rattle.usb_enum.specs.LearnedFacts.{FailureReason}
 use Rattle.usb_enum.specs.PresentDevices.{AtPath, Awaits, HasHead, HasTaken}
-use Rattle.usb_enum.specs.Refusals.{Refuses, head_fault, early_fault, device_fault, addressed_fault, unaddressed_fault, cause_in, whole_fault, configured_fault}
+use Rattle.usb_enum.specs.Refusals.{Refuses, head_fault, early_fault, device_fault, addressed_fault}
+use Rattle.usb_enum.specs.Refusals.{unaddressed_fault, cause_in, whole_fault, configured_fault}
 use Rattle.usb_enum.specs.Stop.{CauseAllowedOfDevice}
 use Rattle.usb_enum.proofs.courses.Courses.{regular_order, went_sound}
 use Rattle.usb_enum.proofs.courses.Fairness.{fair_then, faults_for_told, pends_reached}
@@ -40,12 +43,19 @@ use Rattle.usb_enum.proofs.verdicts.VerdictRows.{GaveHead}
 -- The rows up to the device descriptor
 
 abbrev early_row : Bool → Bool → Bool → Bool → Option Cause
-early_row silent busy stalls good = if silent then Some Silent else if busy then Some Busy else if stalls then Some (Stalled request.Device) else if good then None else Some BadDevice
+early_row silent busy stalls good = if silent then Some Silent else if busy then Some Busy
+    else if stalls then Some (Stalled request.Device) else if good then None else Some BadDevice
 
-addressed_rows : (silent busy stalls good address whole : Bool) (rest : Result ℕ Cause) (cause : Cause)
-    → option_or (early_row silent busy stalls good) (option_or (if address then Some (Stalled request.Address) else None) (if stalls then Some (Stalled request.Device) else if whole then None else Some BadDevice)) ≡ Some cause
-    → cause_in (if silent then Err Silent else if busy then Err Busy else if stalls then Err (Stalled request.Device) else if not good then Err BadDevice
-    else if address then Err (Stalled request.Address) else if not whole then Err BadDevice else rest) ≡ Some cause
+addressed_rows : (silent busy stalls good address whole : Bool) (rest : Result ℕ Cause)
+    (cause : Cause)
+    → option_or (early_row silent busy stalls good)
+    (option_or (if address then Some (Stalled request.Address) else None)
+    (if stalls then Some (Stalled request.Device) else if whole then None else Some
+    BadDevice)) ≡ Some cause
+    → cause_in (if silent then Err Silent else if busy then Err Busy else if stalls then Err
+    (Stalled request.Device) else if not good then Err BadDevice
+    else if address then Err (Stalled request.Address) else if not whole then Err BadDevice
+    else rest) ≡ Some cause
 addressed_rows true busy stalls good address whole rest cause h = h
 addressed_rows false true stalls good address whole rest cause h = h
 addressed_rows false false true good address whole rest cause h = h
@@ -54,12 +64,16 @@ addressed_rows false false false true true whole rest cause h = h
 addressed_rows false false false true false false rest cause h = h
 addressed_rows false false false true false true rest cause h = absurd cc
 
-pub addressed_verdict : (tier supply : ℕ) (spec : Spec) (cause : Cause) → addressed_fault spec ≡ Some cause → whole_fault tier supply spec ≡ Some cause
+pub addressed_verdict : (tier supply : ℕ) (spec : Spec) (cause : Cause)
+    → addressed_fault spec ≡ Some cause → whole_fault tier supply spec ≡ Some cause
 unfolding addressed_fault head_fault device_fault verdict
 addressed_verdict tier supply spec cause h =
-    addressed_rows spec.silent spec.busy spec.stalls.device (is_ok (device_head_of spec.low (take 8 spec.descriptor))) spec.stalls.address (is_device spec.low (take 18 spec.descriptor)) _ cause h
+    addressed_rows spec.silent spec.busy spec.stalls.device
+    (is_ok (device_head_of spec.low (take 8 spec.descriptor))) spec.stalls.address
+    (is_device spec.low (take 18 spec.descriptor)) _ cause h
 
-gives_rows : (silent busy stalls good : Bool) → early_row silent busy stalls good ≡ None → (not silent && not busy && not stalls && good) ≡ true
+gives_rows : (silent busy stalls good : Bool) → early_row silent busy stalls good ≡ None
+    → (not silent && not busy && not stalls && good) ≡ true
 gives_rows true busy stalls good h = absurd cc
 gives_rows false true stalls good h = absurd cc
 gives_rows false false true good h = absurd cc
@@ -68,7 +82,8 @@ gives_rows false false false false h = absurd cc
 
 early_gives : (spec : Spec) → early_fault spec ≡ None → gives_head spec ≡ true
 unfolding head_fault
-early_gives spec h = gives_rows spec.silent spec.busy spec.stalls.device (is_ok (device_head_of spec.low (take 8 spec.descriptor))) h
+early_gives spec h = gives_rows spec.silent spec.busy spec.stalls.device
+    (is_ok (device_head_of spec.low (take 8 spec.descriptor))) h
 
 -- What is right
 
@@ -76,37 +91,50 @@ caused : (r : Result ℕ Cause) (cause : Cause) → cause_in r ≡ Some cause �
 caused (Ok chosen) cause h = absurd cc
 caused (Err why) cause h = ap (λ c. Err c) (same_Some why cause h)
 
-pub whole_right : (full : Type 0) (tier supply : ℕ) (spec : Spec) (cause : Cause) → whole_fault tier supply spec ≡ Some cause → IsRight full spec tier supply (RefusedFinding cause)
+pub whole_right : (full : Type 0) (tier supply : ℕ) (spec : Spec) (cause : Cause)
+    → whole_fault tier supply spec ≡ Some cause
+    → IsRight full spec tier supply (RefusedFinding cause)
 whole_right full tier supply spec cause h = inl (caused (verdict spec tier supply) cause h)
 
 -- where no address is free
-pub unaddressed_right : (full : Type 0) → full → (tier supply : ℕ) (spec : Spec) (cause : Cause) → unaddressed_fault spec ≡ Some cause → IsRight full spec tier supply (RefusedFinding cause)
+pub unaddressed_right : (full : Type 0) → full → (tier supply : ℕ) (spec : Spec) (cause : Cause)
+    → unaddressed_fault spec ≡ Some cause → IsRight full spec tier supply (RefusedFinding cause)
 unaddressed_right full none tier supply spec cause h = split (early_fault spec) refl
   where
-    split : (o : Option Cause) → early_fault spec ≡ o → IsRight full spec tier supply (RefusedFinding cause)
+    split : (o : Option Cause) → early_fault spec ≡ o
+        → IsRight full spec tier supply (RefusedFinding cause)
     split (Some why) e =
-        whole_right full tier supply spec cause (addressed_verdict tier supply spec cause (addressed_early spec cause (e ∙ sym (ap (λ o. option_or o (Some NoAddress)) e) ∙ h)))
+        whole_right full tier supply spec cause
+        (addressed_verdict tier supply spec cause
+        (addressed_early spec cause (e ∙ sym (ap (λ o. option_or o (Some NoAddress)) e) ∙ h)))
     split None e =
         inr (record {
           none = none;
           head = early_gives spec e;
-          refused = ap (λ c. RefusedFinding c) (same_Some cause NoAddress (sym h ∙ ap (λ o. option_or o (Some NoAddress)) e));
+          refused = ap (λ c. RefusedFinding c)
+              (same_Some cause NoAddress (sym h ∙ ap (λ o. option_or o (Some NoAddress)) e));
         })
 
 -- A device that is given no address
 
-pub unaddressed_early : (spec : Spec) (cause : Cause) → early_fault spec ≡ Some cause → unaddressed_fault spec ≡ Some cause
+pub unaddressed_early : (spec : Spec) (cause : Cause) → early_fault spec ≡ Some cause
+    → unaddressed_fault spec ≡ Some cause
 unaddressed_early spec cause e = ap (λ o. option_or o (Some NoAddress)) e
 
-pub none_free : (port : HubPort) (target : Target) (old new : World) → Awaits target port 0 old new → StopsFairly unaddressed_fault port 0 (Refused NoAddress) old new
+pub none_free : (port : HubPort) (target : Target) (old new : World) → Awaits target port 0 old new
+    → StopsFairly unaddressed_fault port 0 (Refused NoAddress) old new
 none_free port target old new awaits = record { why = why }
   where
-    why : (f : AddressMap) (p : List ℕ) → IsFairAt f port p 0 old new → WhileBusWorks (Enumerating f p 0) old → PendingOr (λ spec. unaddressed_fault spec ≡ Some NoAddress) p new
+    why : (f : AddressMap) (p : List ℕ) → IsFairAt f port p 0 old new
+        → WhileBusWorks (Enumerating f p 0) old
+        → PendingOr (λ spec. unaddressed_fault spec ≡ Some NoAddress) p new
     why f p fair held =
-        pends_reached (λ spec. unaddressed_fault spec ≡ Some NoAddress) p new (awaits.reaches.reached f p fair.spare held fair.order fair.occupied fair.working)
+        pends_reached (λ spec. unaddressed_fault spec ≡ Some NoAddress) p new
+        (awaits.reaches.reached f p fair.spare held fair.order fair.occupied fair.working)
         (λ s on there.
         let is = awaits.found.found f p fair.spare held (regular_order fair.order) s on there in
-        ap (λ o. option_or o (Some NoAddress)) (early_none target.low target.max s.spec is.low is.head))
+        ap (λ o. option_or o (Some NoAddress))
+        (early_none target.low target.max s.spec is.low is.head))
 
 -- A device that is configured
 
@@ -114,7 +142,8 @@ record Described (device : Addressed) (spec : Spec) : Type 0 where
   granted : Granted device.target.low device.target.max spec
   bytes : device.bytes ≡ take 18 spec.descriptor
 
-gave_head : (low : Bool) (max : ℕ) (spec : Spec) → spec.low ≡ low → HasHead low max spec → GaveHead spec
+gave_head : (low : Bool) (max : ℕ) (spec : Spec) → spec.low ≡ low → HasHead low max spec
+    → GaveHead spec
 gave_head low max spec same head = record {
   loud = head.loud;
   free = head.free;
@@ -122,24 +151,40 @@ gave_head low max spec same head = record {
   head = ap (λ b. is_ok (device_head_of b (take 8 spec.descriptor))) same ∙ ap is_ok head.head;
 }
 
-module _ (port : HubPort) (address tier supply m n : ℕ) (device : Addressed) {old mid new : World} {a b c d : Option (List ℕ)} (first : StepRun m old a mid b) (second : StepRun n mid c new d) (at : AtPort port address old mid)
-    (taken : HasTaken port address old mid device) (sets : OnlySets address mid new) (whole : is_device device.target.low device.bytes ≡ true) where
+module _ (port : HubPort) (address tier supply m n : ℕ) (device : Addressed) {old mid new : World}
+    {a b c d : Option (List ℕ)} (first : StepRun m old a mid b) (second : StepRun n mid c new d)
+    (at : AtPort port address old mid)
+    (taken : HasTaken port address old mid device) (sets : OnlySets address mid new)
+    (whole : is_device device.target.low device.bytes ≡ true) where
   abbrev wrong : Spec → Option Cause
   wrong = configured_fault tier supply device.bytes
 
-  is_whole : (spec : Spec) (cause : Cause) → Refuses device.target wrong (Refused cause) spec × Described device spec → whole_fault tier supply spec ≡ Some cause
+  is_whole : (spec : Spec) (cause : Cause) → Refuses device.target wrong (Refused cause) spec
+      × Described device spec → whole_fault tier supply spec ≡ Some cause
   is_whole spec cause so =
       let g = so.1.granted in
-      let fault = so.0 (record { loud = g.head.loud; free = g.head.free; max = head_packet spec device.target.low device.target.max g.speed g.head }) in
-      let front = ap (λ x. is_device x (take 18 spec.descriptor)) g.speed ∙ ap (is_device device.target.low) (sym so.1.bytes) ∙ whole in
-      ap cause_in (verdict_refused spec tier supply device.bytes cause (gave_head device.target.low device.target.max spec g.speed g.head) g.allowed front so.1.bytes fault)
+      let fault = so.0 (record {
+        loud = g.head.loud;
+        free = g.head.free;
+        max = head_packet spec device.target.low device.target.max g.speed g.head;
+      }) in
+      let front = ap (λ x. is_device x (take 18 spec.descriptor)) g.speed
+      ∙ ap (is_device device.target.low) (sym so.1.bytes) ∙ whole in
+      ap cause_in (verdict_refused spec tier supply device.bytes cause
+      (gave_head device.target.low device.target.max spec g.speed g.head) g.allowed front
+      so.1.bytes fault)
 
-  configured_refused : (cause : Cause) → FailureReason (Refuses device.target wrong (Refused cause)) device.target mid new → (f : AddressMap) (p : List ℕ) → IsFairAt f port p address old new → PendingOr (λ spec. whole_fault tier supply spec ≡ Some cause) p new
+  configured_refused : (cause : Cause) → FailureReason (Refuses device.target wrong (Refused cause))
+      device.target mid new → (f : AddressMap) (p : List ℕ) → IsFairAt f port p address old new
+      → PendingOr (λ spec. whole_fault tier supply spec ≡ Some cause) p new
   configured_refused cause explains f p fair =
       pends_reached (λ spec. whole_fault tier supply spec ≡ Some cause) p new
-      ((reaches_set port address n second taken.takes sets taken.reaches).reached f p fair.spare fair.held fair.order fair.occupied fair.working)
+      ((reaches_set port address n second taken.takes sets taken.reaches).reached f p fair.spare
+      fair.held fair.order fair.occupied fair.working)
       (λ s on there. is_whole s.spec cause
-      (explained_at (Refuses device.target wrong (Refused cause)) (Described device) device.target f port p mid new fair.spare.at taken.pre here.few single (here.order sound).sane explains targeted s on there))
+      (explained_at (Refuses device.target wrong (Refused cause)) (Described device) device.target f
+      port p mid new fair.spare.at taken.pre here.few single (here.order sound).sane explains
+      targeted s on there))
     where
       sound : mid.fault ≡ None
       sound = went_sound n mid new second fair.working
@@ -148,17 +193,36 @@ module _ (port : HubPort) (address tier supply m n : ℕ) (device : Addressed) {
       here = fair_then f port p address m n first second fair at
 
       single : new.shared ≡ false
-      single = (sets.addresses.kept (after_taking f p address) (taken.takes.took f p fair.spare fair.held)).single
+      single = (sets.addresses.kept (after_taking f p address)
+          (taken.takes.took f p fair.spare fair.held)).single
 
       targeted : AtPath (IsTargeted (Described device) device.target) p mid
       targeted s on there =
-          let is = taken.found.found f p fair.spare fair.held (regular_order fair.order) s on there in
-          record { low = is.low; address = is.address; so = record { granted = record { speed = is.low; head = is.head; allowed = is.allowed }; bytes = is.bytes } }
+          let is = taken.found.found f p fair.spare fair.held (regular_order fair.order) s on
+          there in
+          record {
+            low = is.low;
+            address = is.address;
+            so = record {
+              granted = record {
+                speed = is.low;
+                head = is.head;
+                allowed =
+                    is.allowed;
+              };
+              bytes = is.bytes;
+            };
+          }
 
-  pub configured_stops : (stop : Stop) → CauseAllowedOfDevice tier stop new → FailureReason (Refuses device.target wrong stop) device.target mid new → StopsFairly (whole_fault tier supply) port address stop old new
-  configured_stops (Fault why) told explains = record { why = λ f p fair. faults_for_told p why new told }
-  configured_stops (Refused cause) told explains = record { why = λ f p fair held. configured_refused cause explains f p fair }
+  pub configured_stops : (stop : Stop) → CauseAllowedOfDevice tier stop new
+      → FailureReason (Refuses device.target wrong stop) device.target mid new
+      → StopsFairly (whole_fault tier supply) port address stop old new
+  configured_stops (Fault why) told explains =
+      record { why = λ f p fair. faults_for_told p why new told }
+  configured_stops (Refused cause) told explains =
+      record { why = λ f p fair held. configured_refused cause explains f p fair }
 
-pub matched : {A E : Type 0} (r : Result A E) (P : A → Type 0) (Q : E → Type 0) → IfOk r P → IfErr r Q → MatchResult r P Q
+pub matched : {A E : Type 0} (r : Result A E) (P : A → Type 0) (Q : E → Type 0) → IfOk r P
+    → IfErr r Q → MatchResult r P Q
 matched (Ok x) P Q ok err = ok
 matched (Err e) P Q ok err = err

@@ -28,7 +28,8 @@ use Rattle.usb_enum.proofs.devices.Frames.{calls_none, disable_calls}
 use Rattle.usb_enum.proofs.devices.ReachedDevices.{disables_none, clear_enable_disables}
 
 -- nothing was called
-pub closed_fault : (port : HubPort) (address : ℕ) (why : EnumFault) (w : World) → Closes port address (Fault why) w (Err why) w
+pub closed_fault : (port : HubPort) (address : ℕ) (why : EnumFault) (w : World)
+    → Closes port address (Fault why) w (Err why) w
 closed_fault port address why w = record {
   ends = ends_fault port address w w why (within_none port address w);
   only = calls_none port address w;
@@ -36,9 +37,13 @@ closed_fault port address why w = record {
   lost = λ cause other is e. absurd cc;
 }
 
-module _ (port : HubPort) (address : ℕ) (cause : Cause) (old : World) (outcome : Result (Unit {0}) PipeFault) (new : World) (ends : IfErr outcome (λ why. FaultAfter 1 old why new)) (calls : CommandsPort port (clear_call PORT_ENABLE) old outcome new)
+module _ (port : HubPort) (address : ℕ) (cause : Cause) (old : World)
+    (outcome : Result (Unit {0}) PipeFault) (new : World)
+    (ends : IfErr outcome (λ why. FaultAfter 1 old why new))
+    (calls : CommandsPort port (clear_call PORT_ENABLE) old outcome new)
     (keeps : KeepsCleared port PORT_ENABLE old outcome new) where
-  pub closed_refused : outcome ≡ Ok tt → Closes port address (Refused cause) old (Ok (RefusedFinding cause)) new
+  pub closed_refused : outcome ≡ Ok tt → Closes port address (Refused cause) old
+      (Ok (RefusedFinding cause)) new
   closed_refused done = record {
     ends = ends_refused port address old new cause (keeps.bare refl done);
     only = disable_calls port address old outcome new ends calls keeps;
@@ -46,12 +51,17 @@ module _ (port : HubPort) (address : ℕ) (cause : Cause) (old : World) (outcome
     lost = λ other why is e. absurd cc;
   }
 
-  pub closed_lost : (n : ℕ) (why : EnumFault) {a b : Option (List ℕ)} → StepRun n old a new b → Err why ≡ at_port outcome → FaultAllowedAt port why new → (new.fault ≡ None → NoNewStretch old new) → Closes port address (Refused cause) old (Err why) new
+  pub closed_lost : (n : ℕ) (why : EnumFault) {a b : Option (List ℕ)} → StepRun n old a new b
+      → Err why ≡ at_port outcome → FaultAllowedAt port why new
+      → (new.fault ≡ None → NoNewStretch old new)
+      → Closes port address (Refused cause) old (Err why) new
   closed_lost n why went told fault goes = record {
     ends = ends_fault port address old new why within;
     only = only;
     there = disables_none port address old why new;
-    lost = λ other given is e. subst (λ x. Faulted port address x old new) (same why given e) (called_faulted port address n (clear_call PORT_ENABLE) why went at fault (record { outcome = outcome; told = told; calls = calls; goes = goes }));
+    lost = λ other given is e. subst (λ x. Faulted port address x old new) (same why given e)
+        (called_faulted port address n (clear_call PORT_ENABLE) why went at fault
+        (record { outcome = outcome; told = told; calls = calls; goes = goes }));
   }
     where
       within : Within port address old new
@@ -67,6 +77,9 @@ module _ (port : HubPort) (address : ℕ) (cause : Cause) (old : World) (outcome
       same x y e = cc
 
 -- an error that is handed on
-pub closed_handed : (port : HubPort) (address : ℕ) (stop : Stop) (old : World) (r : Result Finding EnumFault) (why : EnumFault) (new : World) → IsErrAnd r (λ e. e ≡ why) → Closes port address stop old (Err why) new → Closes port address stop old r new
+pub closed_handed : (port : HubPort) (address : ℕ) (stop : Stop) (old : World)
+    (r : Result Finding EnumFault) (why : EnumFault) (new : World) → IsErrAnd r (λ e. e ≡ why)
+    → Closes port address stop old (Err why) new → Closes port address stop old r new
 closed_handed port address stop old (Ok x) why new same closes = absurd same
-closed_handed port address stop old (Err e) why new same closes = subst (λ x. Closes port address stop old (Err x) new) (sym same) closes
+closed_handed port address stop old (Err e) why new same closes =
+    subst (λ x. Closes port address stop old (Err x) new) (sym same) closes

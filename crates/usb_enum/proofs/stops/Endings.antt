@@ -1,6 +1,8 @@
 use Rattle.usb_enum.specs.Device.{IsStarted}
 -- How an enumeration ends: who holds which address then.
-use Rattle.std.proofs.Common.{◌≡◌, ◌≢◌, ◌⊎◌, ◌≤◌, ◌+◌, inl, inr, ℕ, Bool, true, false, List, Option, None, Some, Result, Ok, Err, if◌then◌else◌, refl, ap, sym, subst, ◌∙◌, arith}
+use Rattle.std.proofs.Common.{◌≡◌, ◌≢◌, ◌⊎◌, ◌≤◌, ◌+◌, inl, inr, ℕ, Bool, true, false, List, Option}
+use Rattle.std.proofs.Common.{None, Some, Result, Ok, Err, if◌then◌else◌, refl, ap, sym, subst, ◌∙◌}
+use Rattle.std.proofs.Common.{arith}
 use Rattle.usb_world.specs.Addresses.{after_taking}
 use Rattle.usb_device.specs.Rows.{State}
 use Rattle.usb_device.specs.Spec.{Spec}
@@ -26,12 +28,15 @@ use Rattle.usb_enum.specs.declared.finding.Finding.{Finding}
 use Rattle.usb_enum.specs.declared.finding.Finding.TheVariants.{Device, Refused}
 use Rattle.usb_enum.specs.declared.stop.Stop.{Stop}
 use Rattle.usb_enum.specs.declared.stop.Stop.TheVariants as stop
-use Rattle.usb_enum.specs.Addresses.{IsSpare, Within, TakesAddress, OnlyCalls, AtPort, EndsOwned, EndsEnumeration, KeepsEnumerated}
+use Rattle.usb_enum.specs.Addresses.{IsSpare, Within, TakesAddress, OnlyCalls, AtPort, EndsOwned}
+use Rattle.usb_enum.specs.Addresses.{EndsEnumeration, KeepsEnumerated}
 use Rattle.usb_enum.specs.Verdicts.{IsRight}
-use Rattle.usb_enum.specs.FairEnumerations.{FaultsFor, HubPends, IsFairAt, PendingOr, StopsFairly, StopsFor}
+use Rattle.usb_enum.specs.FairEnumerations.{FaultsFor, HubPends, IsFairAt, PendingOr, StopsFairly}
+use Rattle.usb_enum.specs.FairEnumerations.{StopsFor}
 use Rattle.usb_enum.specs.Frames.{OnlyAt}
 use Rattle.usb_enum.specs.Bounds.{unaddressed_bound}
-use Rattle.usb_enum.specs.Findings.{Begins, Closes, Disables, GivesUp, IsFair, IsLeft, IsOwn, FindingIsTrue, FewAttempts, FindingStands, JustifiesRefusal}
+use Rattle.usb_enum.specs.Findings.{Begins, Closes, Disables, GivesUp, IsFair, IsLeft, IsOwn}
+use Rattle.usb_enum.specs.Findings.{FindingIsTrue, FewAttempts, FindingStands, JustifiesRefusal}
 use Rattle.usb_enum.specs.Places.{HasEmptyPorts, IsOccupied, IsPlaced}
 use Rattle.usb_enum.specs.PresentDevices.{AtPath, Finds, IsInOrder, IsRegular, ReachesDevice}
 use Rattle.usb_enum.specs.Stop.{at_port}
@@ -46,7 +51,8 @@ use Rattle.usb_enum.proofs.Targets.{examined_most}
 
 -- Claims at the port
 
-cleared_taken : (f : AddressMap) (p : List ℕ) (a : ℕ) → Free f p → (x : List ℕ) → map_without (after_taking f p a) p x ≡ f x
+cleared_taken : (f : AddressMap) (p : List ℕ) (a : ℕ) → Free f p → (x : List ℕ)
+    → map_without (after_taking f p a) p x ≡ f x
 cleared_taken f p a free x = split (is_way p x) refl
   where
     split : (way : Bool) → is_way p x ≡ way → (if way then None else after_taking f p a x) ≡ f x
@@ -56,61 +62,101 @@ cleared_taken f p a free x = split (is_way p x) refl
 -- Given up
 
 -- the port is disabled
-pub ends_refused : (port : HubPort) (address : ℕ) (old new : World) (cause : Cause) → Isolates port old new → EndsEnumeration port address old (Ok (Refused cause)) new
+pub ends_refused : (port : HubPort) (address : ℕ) (old new : World) (cause : Cause)
+    → Isolates port old new → EndsEnumeration port address old (Ok (Refused cause)) new
 ends_refused port address old new cause bares = record { ends = ends }
   where
-    ends : (f : AddressMap) (p : List ℕ) → IsSpare f port p address → WhileBusWorks (Enumerating f p address) old → WhileBusWorks (MapHolds f) new
+    ends : (f : AddressMap) (p : List ℕ) → IsSpare f port p address
+        → WhileBusWorks (Enumerating f p address) old → WhileBusWorks (MapHolds f) new
     ends f p spare t =
         let h = having f p address old t in
         let g : AddressMap = after_taking f p h.has in
-        till_weaker (MapHolds (map_without g p)) (MapHolds f) new (owned_as (map_without g p) f new (cleared_taken f p h.has spare.free))
+        till_weaker (MapHolds (map_without g p)) (MapHolds f) new
+        (owned_as (map_without g p) f new (cleared_taken f p h.has spare.free))
         (bares.bares g p (at_taking f port p h.has spare.at) h.owned)
 
-owned_but : (f : AddressMap) (p : List ℕ) (address : ℕ) (w : World) → Enumerating f p address w → MapHoldsExcept p f w
-owned_but f p address w e = record { claims = after_taking f p e.has; owned = e.owned; others = but_taken f p e.has }
+owned_but : (f : AddressMap) (p : List ℕ) (address : ℕ) (w : World) → Enumerating f p address w
+    → MapHoldsExcept p f w
+owned_but f p address w e = record {
+  claims = after_taking f p e.has;
+  owned = e.owned;
+  others =
+      but_taken f p e.has;
+}
 
 -- there is no finding
-pub ends_fault : (port : HubPort) (address : ℕ) (old new : World) (why : EnumFault) → Within port address old new → EndsEnumeration port address old (Err why) new
-ends_fault port address old new why within = record { ends = λ f p spare t. by_fault f p why (within.stays f p spare t) }
+pub ends_fault : (port : HubPort) (address : ℕ) (old new : World) (why : EnumFault)
+    → Within port address old new → EndsEnumeration port address old (Err why) new
+ends_fault port address old new why within =
+    record { ends = λ f p spare t. by_fault f p why (within.stays f p spare t) }
   where
-    by_fault : (f : AddressMap) (p : List ℕ) (why : EnumFault) → WhileBusWorks (Enumerating f p address) new → EndsOwned f p (Err why) new
-    by_fault f p fault.ParentLost t = till_weaker (Enumerating f p address) (MapHoldsExcept p f) new (owned_but f p address new) t
+    by_fault : (f : AddressMap) (p : List ℕ) (why : EnumFault)
+        → WhileBusWorks (Enumerating f p address) new → EndsOwned f p (Err why) new
+    by_fault f p fault.ParentLost t = till_weaker (Enumerating f p address) (MapHoldsExcept p f) new
+        (owned_but f p address new) t
     by_fault f p (fault.Bus why) t = t.single
     by_fault f p fault.Memory t = t.single
 
 -- where a request to the port was answered
-pub port_done : (outcome : Result (Unit {0}) PipeFault) (done : Unit {0}) → at_port outcome ≡ Ok done → outcome ≡ Ok tt
+pub port_done : (outcome : Result (Unit {0}) PipeFault) (done : Unit {0})
+    → at_port outcome ≡ Ok done → outcome ≡ Ok tt
 port_done (Ok tt) done e = refl
 port_done (Err why) done e = absurd cc
 
 -- then no device was found
-pub gives_up_no_device : (port : HubPort) (stop : Stop) (old new : World) (result : Result Finding EnumFault) (device : Accepted) → GivesUp port stop old result new → result ≡ Ok (Device device) → ⊥
-gives_up_no_device port (stop.Refused cause) old new (Ok finding) device gives e = let is = gives.0 in absurd cc
+pub gives_up_no_device : (port : HubPort) (stop : Stop) (old new : World)
+    (result : Result Finding EnumFault) (device : Accepted) → GivesUp port stop old result new
+    → result ≡ Ok (Device device) → ⊥
+gives_up_no_device port (stop.Refused cause) old new (Ok finding) device gives e = let is =
+    gives.0 in absurd cc
 gives_up_no_device port (stop.Refused cause) old new (Err why) device gives e = absurd cc
-gives_up_no_device port (stop.Fault why) old new result device gives e = let is = gives.0 in absurd cc
+gives_up_no_device port (stop.Fault why) old new result device gives e = let is = gives.0 in
+    absurd cc
 
-pub none_true : (port : HubPort) (addresses : Addresses) (tier supply : ℕ) (stop : Stop) (old mid new : World) (result : Result Finding EnumFault) → GivesUp port stop mid result new → FindingIsTrue port addresses tier supply old result new
-none_true port addresses tier supply stop old mid new result gives = record { truth = λ f p at bare claimed t order device e. elim (gives_up_no_device port stop mid new result device gives e) [ ] }
+pub none_true : (port : HubPort) (addresses : Addresses) (tier supply : ℕ) (stop : Stop)
+    (old mid new : World) (result : Result Finding EnumFault) → GivesUp port stop mid result new
+    → FindingIsTrue port addresses tier supply old result new
+none_true port addresses tier supply stop old mid new result gives =
+    record {
+      truth = λ f p at bare claimed t order device e.
+          elim (gives_up_no_device port stop mid new result device gives e) [ ];
+    }
 
 -- and the port of a refused one is disabled
-pub gives_left : (port : HubPort) (stop : Stop) (old new : World) (result : Result Finding EnumFault) (finding : Finding) → GivesUp port stop old result new → result ≡ Ok finding → IsLeft port finding new
-gives_left port stop old new result (Device device) gives e = elim (gives_up_no_device port stop old new result device gives e) [ ]
+pub gives_left : (port : HubPort) (stop : Stop) (old new : World)
+    (result : Result Finding EnumFault) (finding : Finding) → GivesUp port stop old result new
+    → result ≡ Ok finding → IsLeft port finding new
+gives_left port stop old new result (Device device) gives e =
+    elim (gives_up_no_device port stop old new result device gives e) [ ]
 gives_left port (stop.Refused cause) old new (Ok finding) (Refused other) gives e = gives.1
 gives_left port (stop.Refused cause) old new (Err why) (Refused other) gives e = absurd cc
-gives_left port (stop.Fault why) old new result (Refused other) gives e = let is = gives.0 in absurd cc
+gives_left port (stop.Fault why) old new result (Refused other) gives e = let is = gives.0 in
+    absurd cc
 
-same_found : (a b : Accepted) → (let r : Result Finding EnumFault = Ok (Device a) in r ≡ Ok (Device b)) → a ≡ b
+same_found : (a b : Accepted) → (let r : Result Finding EnumFault = Ok (Device a) in
+    r ≡ Ok (Device b)) → a ≡ b
 same_found a b e = cc
 
-pub device_left : (port : HubPort) (device : Accepted) (new : World) → IsStarted device.address device.hub → (finding : Finding) → (let r : Result Finding EnumFault = Ok (Device device) in r ≡ Ok finding) → IsLeft port finding new
-device_left port device new served finding e = subst (λ f. IsLeft port f new) (let same : Device device ≡ finding = cc in same) served
+pub device_left : (port : HubPort) (device : Accepted) (new : World)
+    → IsStarted device.address device.hub → (finding : Finding)
+    → (let r : Result Finding EnumFault = Ok (Device device) in r ≡ Ok finding)
+    → IsLeft port finding new
+device_left port device new served finding e =
+    subst (λ f. IsLeft port f new) (let same : Device device ≡ finding = cc in same) served
 
 -- how the strings of an accepted device were asked for
-pub strings_asked : (port : HubPort) (old new : World) (device : Accepted) → AsksStrings port old new device → (other : Accepted) → (let r : Result Finding EnumFault = Ok (Device device) in r ≡ Ok (Device other)) → AsksStrings port old new other
-strings_asked port old new device asked other e = subst (AsksStrings port old new) (same_found device other e) asked
+pub strings_asked : (port : HubPort) (old new : World) (device : Accepted)
+    → AsksStrings port old new device → (other : Accepted)
+    → (let r : Result Finding EnumFault = Ok (Device device) in r ≡ Ok (Device other))
+    → AsksStrings port old new other
+strings_asked port old new device asked other e =
+    subst (AsksStrings port old new) (same_found device other e) asked
 
-pub no_strings_asked : (port : HubPort) (stop : Stop) (old mid new : World) (result : Result Finding EnumFault) → GivesUp port stop mid result new → (device : Accepted) → result ≡ Ok (Device device) → AsksStrings port old new device
-no_strings_asked port stop old mid new result gives device e = elim (gives_up_no_device port stop mid new result device gives e) [ ]
+pub no_strings_asked : (port : HubPort) (stop : Stop) (old mid new : World)
+    (result : Result Finding EnumFault) → GivesUp port stop mid result new → (device : Accepted)
+    → result ≡ Ok (Device device) → AsksStrings port old new device
+no_strings_asked port stop old mid new result gives device e =
+    elim (gives_up_no_device port stop mid new result device gives e) [ ]
 
 device_same : (a b : Accepted) → Device a ≡ Device b → a ≡ b
 device_same a b e = cc
@@ -120,7 +166,8 @@ device_same a b e = cc
 pub zero_untaken : (addresses : Addresses) → HasAddresses addresses → IsTaken addresses 0 → ⊥
 zero_untaken addresses has taken = omega (arith, (has 0 taken).0)
 
-pub zero_before : (old new : Addresses) (a : ℕ) → pool.Takes old a new → HasAddresses new → IsTaken old 0 → ⊥
+pub zero_before : (old new : Addresses) (a : ℕ) → pool.Takes old a new → HasAddresses new
+    → IsTaken old 0 → ⊥
 zero_before old new a takes has taken = zero_untaken new has (takes.others 0 differs ∙ taken)
   where
     differs : 0 ≢ a
@@ -131,11 +178,23 @@ free_untaken old new a takes taken = false_true (sym takes.free.1 ∙ taken)
 
 -- How few attempts are made where no address is free
 
-pub few_unaddressed : (port : HubPort) (addresses : Addresses) (old mid new : World) {a b c d : Option (List ℕ)} → StepRun (unaddressed_bound port) old a mid b → StepRun (order_bound port) mid c new d → FewAttempts port addresses old new
-few_unaddressed port addresses old mid new sooner later = record { few = λ f p wide start most plan. omega (arith, sooner.spends.most, later.spends.most, examined_most port most wide) }
+pub few_unaddressed : (port : HubPort) (addresses : Addresses) (old mid new : World)
+    {a b c d : Option (List ℕ)} → StepRun (unaddressed_bound port) old a mid b
+    → StepRun (order_bound port) mid c new d → FewAttempts port addresses old new
+few_unaddressed port addresses old mid new sooner later =
+    record {
+      few = λ f p wide start most plan. omega (
+        arith,
+        sooner.spends.most,
+        later.spends.most,
+        examined_most port most wide,
+      );
+    }
 
-module _ (port : HubPort) (addresses : Addresses) (address : ℕ) (zero_is : IsTaken addresses 0 → ⊥) (free : IsTaken addresses address → ⊥) where
-  spare : (f : AddressMap) (p : List ℕ) → IsAt f port p → Free f p → ((x : List ℕ) (a : ℕ) → f x ≡ Some a → IsTaken addresses a) → IsSpare f port p address
+module _ (port : HubPort) (addresses : Addresses) (address : ℕ) (zero_is : IsTaken addresses 0
+    → ⊥) (free : IsTaken addresses address → ⊥) where
+  spare : (f : AddressMap) (p : List ℕ) → IsAt f port p → Free f p
+      → ((x : List ℕ) (a : ℕ) → f x ≡ Some a → IsTaken addresses a) → IsSpare f port p address
   spare f p at bare claimed = record {
     at = at;
     free = bare;
@@ -143,106 +202,166 @@ module _ (port : HubPort) (addresses : Addresses) (address : ℕ) (zero_is : IsT
     spare = λ x e. free (claimed x address e);
   }
 
-  first : (f : AddressMap) (p : List ℕ) (w : World) → IsSpare f port p address → WhileBusWorks (MapHolds f) w → WhileBusWorks (Enumerating f p address) w
-  first f p w is t = till_weaker (MapHolds f) (Enumerating f p address) w (enumerating_begins f p address w is.free is.none) t
+  first : (f : AddressMap) (p : List ℕ) (w : World) → IsSpare f port p address
+      → WhileBusWorks (MapHolds f) w → WhileBusWorks (Enumerating f p address) w
+  first f p w is t = till_weaker (MapHolds f) (Enumerating f p address) w
+      (enumerating_begins f p address w is.free is.none) t
 
-  pub enumerated : (old new : World) (device : Accepted) → device.address ≡ address → TakesAddress port address old new → OnlyCalls port address old new → KeepsEnumerated port addresses old (Ok (Device device)) new
+  pub enumerated : (old new : World) (device : Accepted) → device.address ≡ address
+      → TakesAddress port address old new → OnlyCalls port address old new
+      → KeepsEnumerated port addresses old (Ok (Device device)) new
   enumerated old new device same takes calls = record { ends = ends; only = only }
     where
-      ends : (f : AddressMap) (p : List ℕ) → IsAt f port p → Free f p → ((x : List ℕ) (a : ℕ) → f x ≡ Some a → IsTaken addresses a) → WhileBusWorks (MapHolds f) old
+      ends : (f : AddressMap) (p : List ℕ) → IsAt f port p → Free f p
+          → ((x : List ℕ) (a : ℕ) → f x ≡ Some a → IsTaken addresses a)
+          → WhileBusWorks (MapHolds f) old
           → WhileBusWorks (MapHolds (after_taking f p device.address)) new
       ends f p at bare claimed t =
           let is = spare f p at bare claimed in
           rw same (takes.took f p is (first f p old is t))
 
-      only : (f : AddressMap) (p : List ℕ) → IsAt f port p → Free f p → ((x : List ℕ) (a : ℕ) → f x ≡ Some a → IsTaken addresses a) → WhileBusWorks (MapHolds f) old → new.fault ≡ None → OnlyAt p old new
+      only : (f : AddressMap) (p : List ℕ) → IsAt f port p → Free f p
+          → ((x : List ℕ) (a : ℕ) → f x ≡ Some a → IsTaken addresses a)
+          → WhileBusWorks (MapHolds f) old → new.fault ≡ None → OnlyAt p old new
       only f p there bare claimed t none =
           let is = spare f p there bare claimed in
           calls.at f p is (first f p old is t) none
 
-  pub given_up : (old mid new : World) (result : Result Finding EnumFault) → Within port address old mid → EndsEnumeration port address mid result new → OnlyCalls port address old new → KeepsEnumerated port addresses old result new
+  pub given_up : (old mid new : World) (result : Result Finding EnumFault)
+      → Within port address old mid → EndsEnumeration port address mid result new
+      → OnlyCalls port address old new → KeepsEnumerated port addresses old result new
   given_up old mid new result within ended calls = record { ends = ends; only = only }
     where
-      ends : (f : AddressMap) (p : List ℕ) → IsAt f port p → Free f p → ((x : List ℕ) (a : ℕ) → f x ≡ Some a → IsTaken addresses a) → WhileBusWorks (MapHolds f) old
+      ends : (f : AddressMap) (p : List ℕ) → IsAt f port p → Free f p
+          → ((x : List ℕ) (a : ℕ) → f x ≡ Some a → IsTaken addresses a)
+          → WhileBusWorks (MapHolds f) old
           → EndsOwned f p result new
       ends f p at bare claimed t =
           let is = spare f p at bare claimed in
           ended.ends f p is (within.stays f p is (first f p old is t))
 
-      only : (f : AddressMap) (p : List ℕ) → IsAt f port p → Free f p → ((x : List ℕ) (a : ℕ) → f x ≡ Some a → IsTaken addresses a) → WhileBusWorks (MapHolds f) old → new.fault ≡ None → OnlyAt p old new
+      only : (f : AddressMap) (p : List ℕ) → IsAt f port p → Free f p
+          → ((x : List ℕ) (a : ℕ) → f x ≡ Some a → IsTaken addresses a)
+          → WhileBusWorks (MapHolds f) old → new.fault ≡ None → OnlyAt p old new
       only f p there bare claimed t none =
           let is = spare f p there bare claimed in
           calls.at f p is (first f p old is t) none
 
-  pub found_true : (tier supply : ℕ) (old new : World) (device : Accepted) → Finds (IsOwn tier supply device) port address old new → FindingIsTrue port addresses tier supply old (Ok (Device device)) new
+  pub found_true : (tier supply : ℕ) (old new : World) (device : Accepted)
+      → Finds (IsOwn tier supply device) port address old new
+      → FindingIsTrue port addresses tier supply old (Ok (Device device)) new
   found_true tier supply old new device finds = record { truth = truth }
     where
-      truth : (f : AddressMap) (p : List ℕ) → IsAt f port p → Free f p → ((x : List ℕ) (a : ℕ) → f x ≡ Some a → IsTaken addresses a) → WhileBusWorks (MapHolds f) old → IsRegular old
-          → (other : Accepted) → (let r : Result Finding EnumFault = Ok (Device device) in r ≡ Ok (Device other)) → AtPath (IsOwn tier supply other) p new
+      truth : (f : AddressMap) (p : List ℕ) → IsAt f port p → Free f p
+          → ((x : List ℕ) (a : ℕ) → f x ≡ Some a → IsTaken addresses a)
+          → WhileBusWorks (MapHolds f) old → IsRegular old
+          → (other : Accepted) → (let r : Result Finding EnumFault = Ok (Device device) in
+          r ≡ Ok (Device other)) → AtPath (IsOwn tier supply other) p new
       truth f p at bare claimed t order other e =
           let is = spare f p at bare claimed in
-          subst (λ x. AtPath (IsOwn tier supply x) p new) (same_found device other e) (finds.found f p is (first f p old is t) order)
+          subst (λ x. AtPath (IsOwn tier supply x) p new) (same_found device other e)
+          (finds.found f p is (first f p old is t) order)
 
   -- What is found is there
 
   pub device_placed : (old new : World) (device : Accepted) → ReachesDevice port address old new
-      → ((f : AddressMap) (p : List ℕ) → IsSpare f port p address → WhileBusWorks (Enumerating f p address) old → IsInOrder old → IsOccupied old p → new.fault ≡ None → HasEmptyPorts p device.hub new)
+      → ((f : AddressMap) (p : List ℕ) → IsSpare f port p address
+      → WhileBusWorks (Enumerating f p address) old → IsInOrder old → IsOccupied old p
+      → new.fault ≡ None → HasEmptyPorts p device.hub new)
       → FindingStands port addresses old (Ok (Device device)) new
   device_placed old new device reaches ports = record { placed = placed }
     where
-      same : (finding : Finding) → (let r : Result Finding EnumFault = Ok (Device device) in r ≡ Ok finding) → Device device ≡ finding
+      same : (finding : Finding) → (let r : Result Finding EnumFault = Ok (Device device) in
+          r ≡ Ok finding) → Device device ≡ finding
       same finding e = cc
 
-      placed : (f : AddressMap) (p : List ℕ) → Begins f port p addresses old → IsOccupied old p → new.fault ≡ None → (finding : Finding)
-          → (let r : Result Finding EnumFault = Ok (Device device) in r ≡ Ok finding) → IsPlaced p finding new
+      placed : (f : AddressMap) (p : List ℕ) → Begins f port p addresses old → IsOccupied old p
+          → new.fault ≡ None → (finding : Finding)
+          → (let r : Result Finding EnumFault = Ok (Device device) in r ≡ Ok finding)
+          → IsPlaced p finding new
       placed f p start occupied none finding e =
           let is = spare f p start.at start.free start.taken in
           let t = first f p old is start.owned in
           subst (λ x. IsPlaced p x new) (same finding e) (record {
             there = reaches.reached f p is t start.order occupied none;
-            below = λ other found. subst (λ (d : Accepted). HasEmptyPorts p d.hub new) (device_same device other found) (ports f p is t start.order occupied none);
+            below = λ other found. subst (λ (d : Accepted). HasEmptyPorts p d.hub new)
+                (device_same device other found) (ports f p is t start.order occupied none);
           })
 
-  pub refused_placed : (last : Stop) (n : ℕ) (old mid new : World) (result : Result Finding EnumFault) {a b : Option (List ℕ)} → AtPort port address old mid → StepRun n mid a new b → Disables port address mid result new
+  pub refused_placed : (last : Stop) (n : ℕ) (old mid new : World)
+      (result : Result Finding EnumFault) {a b : Option (List ℕ)} → AtPort port address old mid
+      → StepRun n mid a new b → Disables port address mid result new
       → GivesUp port last mid result new → FindingStands port addresses old result new
   refused_placed last n old mid new result at went disables gives = record { placed = placed }
     where
-      placed : (f : AddressMap) (p : List ℕ) → Begins f port p addresses old → IsOccupied old p → new.fault ≡ None → (finding : Finding) → result ≡ Ok finding → IsPlaced p finding new
+      placed : (f : AddressMap) (p : List ℕ) → Begins f port p addresses old → IsOccupied old p
+          → new.fault ≡ None → (finding : Finding) → result ≡ Ok finding → IsPlaced p finding new
       placed f p start occupied none finding e =
           let is = spare f p start.at start.free start.taken in
           let t = first f p old is start.owned in
           record {
-            there = disables.there f p is (at.within.stays f p is t) (occupied_on p (at.only.at f p is t (went_sound n mid new went none)).spares occupied) finding e;
-            below = λ device found. elim (gives_up_no_device port last mid new result device gives (e ∙ ap Ok found)) [ ];
+            there = disables.there f p is (at.within.stays f p is t)
+                (occupied_on p (at.only.at f p is t (went_sound n mid new went none)).spares
+                occupied) finding e;
+            below = λ device found. elim (gives_up_no_device port last mid new result device gives
+                (e ∙ ap Ok found)) [ ];
           }
 
   -- How few attempts are made
 
-  pub few_made : (old mid new : World) → FewFrom port address old mid → new.attempts ≤ mid.attempts + order_bound port → FewAttempts port addresses old new
+  pub few_made : (old mid new : World) → FewFrom port address old mid
+      → new.attempts ≤ mid.attempts + order_bound port → FewAttempts port addresses old new
   few_made old mid new from closing = record {
     few = λ f p wide start most plan.
         let is = spare f p start.at start.free start.taken in
-        omega (arith, from.few f p is (first f p old is start.owned) (regular_order start.order) most plan, closing, examined_most port most wide);
+        omega (
+          arith,
+          from.few f p is (first f p old is start.owned) (regular_order start.order)
+              most plan,
+          closing,
+          examined_most port most wide,
+        );
   }
 
   -- What is found is warranted
 
-  fair_begun : (f : AddressMap) (p : List ℕ) (old new : World) → IsFair f port p addresses old new → IsFairAt f port p address old new
+  fair_begun : (f : AddressMap) (p : List ℕ) (old new : World) → IsFair f port p addresses old new
+      → IsFairAt f port p address old new
   fair_begun f p old new fair =
       let is = spare f p fair.begins.at fair.begins.free fair.begins.taken in
-      record { spare = is; held = first f p old is fair.begins.owned; order = fair.begins.order; occupied = fair.occupied; server = fair.server; few = fair.few; kept = fair.kept; working = fair.working }
+      record {
+        spare = is;
+        held = first f p old is fair.begins.owned;
+        order = fair.begins.order;
+        occupied = fair.occupied;
+        server = fair.server;
+        few = fair.few;
+        kept = fair.kept;
+        working = fair.working;
+      }
 
-  zero_begun : (f : AddressMap) (p : List ℕ) (old new : World) → IsFair f port p addresses old new → WhileBusWorks (Enumerating f p 0) old
+  zero_begun : (f : AddressMap) (p : List ℕ) (old new : World) → IsFair f port p addresses old new
+      → WhileBusWorks (Enumerating f p 0) old
   zero_begun f p old new fair =
       let is = spare f p fair.begins.at fair.begins.free fair.begins.taken in
-      till_weaker (MapHolds f) (Enumerating f p 0) old (enumerating_begins f p 0 old is.free is.none) fair.begins.owned
+      till_weaker (MapHolds f) (Enumerating f p 0) old
+      (enumerating_begins f p 0 old is.free is.none) fair.begins.owned
 
-  pub device_warranted : (tier supply : ℕ) (old new : World) (device : Accepted) → JustifiesRefusal port addresses tier supply old (Ok (Device device)) new
-  device_warranted tier supply old new device = record { cause = λ f p fair cause s e. absurd cc; parent = λ f p fair e. absurd cc }
+  pub device_warranted : (tier supply : ℕ) (old new : World) (device : Accepted)
+      → JustifiesRefusal port addresses tier supply old (Ok (Device device)) new
+  device_warranted tier supply old new device = record {
+    cause = λ f p fair cause s e. absurd cc;
+    parent = λ f p fair e. absurd cc;
+  }
 
-  module _ (wrong : Spec → Option Cause) (tier supply m n : ℕ) (last : Stop) (old mid new : World) (result : Result Finding EnumFault) {a b c d : Option (List ℕ)} (sooner : StepRun m old a mid b) (later : StepRun n mid c new d)
-      (at : AtPort port address old mid) (stops : StopsFairly wrong port address last old mid) (closes : Closes port address last mid result new) (gives : GivesUp port last mid result new)
-      (right : (spec : Spec) (cause : Cause) → wrong spec ≡ Some cause → IsRight (IsFull addresses) spec tier supply (Refused cause)) where
+  module _ (wrong : Spec → Option Cause) (tier supply m n : ℕ) (last : Stop) (old mid new : World)
+      (result : Result Finding EnumFault) {a b c d : Option (List ℕ)}
+      (sooner : StepRun m old a mid b) (later : StepRun n mid c new d)
+      (at : AtPort port address old mid) (stops : StopsFairly wrong port address last old mid)
+      (closes : Closes port address last mid result new)
+      (gives : GivesUp port last mid result new)
+      (right : (spec : Spec) (cause : Cause) → wrong spec ≡ Some cause
+      → IsRight (IsFull addresses) spec tier supply (Refused cause)) where
     module _ (f : AddressMap) (p : List ℕ) (fair : IsFair f port p addresses old new) where
       whole : IsFairAt f port p address old new
       whole = fair_begun f p old new fair
@@ -253,28 +372,43 @@ module _ (port : HubPort) (addresses : Addresses) (address : ℕ) (zero_is : IsT
       why_stopped : StopsFor wrong f p old last mid
       why_stopped = stops.why f p (fair_before f port p address m n sooner later whole)
 
-      caused : (why : Cause) → StopsFor wrong f p old (stop.Refused why) mid → (s : State) → state_there new.roots p ≡ Some s → (pending new.roots p ≡ true) ⊎ IsRight (IsFull addresses) s.spec tier supply (Refused why)
-      caused why so s there = pick (pends_on (λ spec. wrong spec ≡ Some why) p (closes.only.at f p here.spare here.held here.working).spares here.occupied (so (zero_begun f p old new fair)))
+      caused : (why : Cause) → StopsFor wrong f p old (stop.Refused why) mid → (s : State)
+          → state_there new.roots p ≡ Some s → (pending new.roots p ≡ true)
+          ⊎ IsRight (IsFull addresses) s.spec tier supply (Refused why)
+      caused why so s there = pick (pends_on (λ spec. wrong spec ≡ Some why) p
+          (closes.only.at f p here.spare here.held here.working).spares here.occupied
+          (so (zero_begun f p old new fair)))
         where
-          pick : PendingOr (λ spec. wrong spec ≡ Some why) p new → (pending new.roots p ≡ true) ⊎ IsRight (IsFull addresses) s.spec tier supply (Refused why)
+          pick : PendingOr (λ spec. wrong spec ≡ Some why) p new → (pending new.roots p ≡ true)
+              ⊎ IsRight (IsFull addresses) s.spec tier supply (Refused why)
           pick (inl h) = inl h
           pick (inr is) = inr (right s.spec why (is s there))
 
-    cause_of : (x : Stop) → last ≡ x → (f : AddressMap) (p : List ℕ) → IsFair f port p addresses old new → (cause : Cause) (s : State) → result ≡ Ok (Refused cause) → state_there new.roots p ≡ Some s
-        → (pending new.roots p ≡ true) ⊎ IsRight (IsFull addresses) s.spec tier supply (Refused cause)
+    cause_of : (x : Stop) → last ≡ x → (f : AddressMap) (p : List ℕ)
+        → IsFair f port p addresses old new → (cause : Cause) (s : State)
+        → result ≡ Ok (Refused cause) → state_there new.roots p ≡ Some s
+        → (pending new.roots p ≡ true) ⊎ IsRight (IsFull addresses) s.spec tier supply
+        (Refused cause)
     cause_of (stop.Fault why) is f p fair cause s e there =
         let g = subst (λ x. GivesUp port x mid result new) is gives in
         absurd (cc (sym g.0 ∙ e))
     cause_of (stop.Refused why) is f p fair cause s e there =
-        let g = subst (λ r. GivesUp port (stop.Refused why) mid r new) e (subst (λ x. GivesUp port x mid result new) is gives) in
-        subst (λ y. (pending new.roots p ≡ true) ⊎ IsRight (IsFull addresses) s.spec tier supply y) (sym g.0) (caused f p fair why (subst (λ x. StopsFor wrong f p old x mid) is (why_stopped f p fair)) s there)
+        let g = subst (λ r. GivesUp port (stop.Refused why) mid r new) e
+        (subst (λ x. GivesUp port x mid result new) is gives) in
+        subst (λ y. (pending new.roots p ≡ true) ⊎ IsRight (IsFull addresses) s.spec tier supply y)
+        (sym g.0) (caused f p fair why (subst (λ x. StopsFor wrong f p old x mid) is
+        (why_stopped f p fair)) s there)
 
-    parent_of_stop : (x : Stop) → last ≡ x → (f : AddressMap) (p : List ℕ) → IsFair f port p addresses old new → result ≡ Err fault.ParentLost → HubPends p new
+    parent_of_stop : (x : Stop) → last ≡ x → (f : AddressMap) (p : List ℕ)
+        → IsFair f port p addresses old new → result ≡ Err fault.ParentLost → HubPends p new
     parent_of_stop (stop.Fault why) is f p fair e =
         let g = subst (λ x. GivesUp port x mid result new) is gives in
         let lost : why ≡ fault.ParentLost = cc (sym g.0 ∙ e) in
-        subst (λ w. HubPends p w) (sym g.1) (subst (λ y. FaultsFor p y mid) lost (subst (λ x. StopsFor wrong f p old x mid) is (why_stopped f p fair)))
-    parent_of_stop (stop.Refused why) is f p fair e = (closes.lost why fault.ParentLost is e).why f p (here f p fair)
+        subst (λ w. HubPends p w) (sym g.1)
+        (subst (λ y. FaultsFor p y mid) lost
+        (subst (λ x. StopsFor wrong f p old x mid) is (why_stopped f p fair)))
+    parent_of_stop (stop.Refused why) is f p fair e =
+        (closes.lost why fault.ParentLost is e).why f p (here f p fair)
 
     pub stopped_warranted : JustifiesRefusal port addresses tier supply old result new
     stopped_warranted = record { cause = cause_of last refl; parent = parent_of_stop last refl }

@@ -1,5 +1,6 @@
 -- What a stop is, whatever the bus does.
-use Rattle.std.proofs.Common.{◌≡◌, inl, inr, ℕ, ◌==◌, ◌&&◌, Bool, true, false, if◌then◌else◌, List, Some, Result, Ok, Err, refl, subst, sym, ◌∙◌}
+use Rattle.std.proofs.Common.{◌≡◌, inl, inr, ℕ, ◌==◌, ◌&&◌, Bool, true, false, if◌then◌else◌, List}
+use Rattle.std.proofs.Common.{Some, Result, Ok, Err, refl, subst, sym, ◌∙◌}
 use Rattle.std.specs.Prelude.{IfOk, IfSome, IsErrAnd, MatchResult, unwrap_or}
 use Rattle.usb_resources.specs.Pool.{Addresses, IsFull}
 use Rattle.usb_pipe.specs.declared.fault.PipeFault.{PipeFault}
@@ -15,15 +16,18 @@ use Rattle.usb_enum.specs.declared.stop.Stop.{Stop}
 use Rattle.usb_enum.specs.declared.stop.Stop.TheVariants.{Refused, Fault}
 use Rattle.usb_enum.specs.Device.{LAST_TIER, device_bytes, fits_tier, is_device, is_hub_device}
 use Rattle.usb_enum.specs.Findings.{HandsOn, IsFound}
-use Rattle.usb_enum.specs.Stop.{FitsStop, IsHubStop, IsPlain, IsPlainStop, IsStopWithout, answered_or, stop_of}
+use Rattle.usb_enum.specs.Stop.{FitsStop, IsHubStop, IsPlain, IsPlainStop, IsStopWithout}
+use Rattle.usb_enum.specs.Stop.{answered_or, stop_of}
 use Rattle.usb_enum.proofs.ports.Hubs.{not_last}
 use Rattle.usb_enum.proofs.refusals.Refusals.{answered_err}
 use Rattle.usb_enum.proofs.stops.ToldFailures.{plain_fits}
 
 -- by an answer
 
-pub answered_plain : {A : Type 0} (stalled : Cause) (outcome : Result A PipeFault) (stop : Stop) → IsPlain stalled → answered_or stalled outcome ≡ Err stop → IsPlainStop stop
-answered_plain stalled outcome stop plain is = let f = answered_err stalled outcome stop is in subst IsPlainStop f.2 (by f.0)
+pub answered_plain : {A : Type 0} (stalled : Cause) (outcome : Result A PipeFault) (stop : Stop)
+    → IsPlain stalled → answered_or stalled outcome ≡ Err stop → IsPlainStop stop
+answered_plain stalled outcome stop plain is = let f = answered_err stalled outcome stop is in
+    subst IsPlainStop f.2 (by f.0)
   where
     by : (why : PipeFault) → IsPlainStop (unwrap_or (stop_of why) (Refused stalled))
     by pipe.Stalled = plain
@@ -33,8 +37,10 @@ answered_plain stalled outcome stop plain is = let f = answered_err stalled outc
     by (pipe.Bus why) = tt
     by pipe.Memory = tt
 
-pub answered_hub : {A : Type 0} (outcome : Result A PipeFault) (stop : Stop) → answered_or cause.BadHub outcome ≡ Err stop → IsHubStop stop
-answered_hub outcome stop is = let f = answered_err cause.BadHub outcome stop is in subst IsHubStop f.2 (by f.0)
+pub answered_hub : {A : Type 0} (outcome : Result A PipeFault) (stop : Stop)
+    → answered_or cause.BadHub outcome ≡ Err stop → IsHubStop stop
+answered_hub outcome stop is = let f = answered_err cause.BadHub outcome stop is in
+    subst IsHubStop f.2 (by f.0)
   where
     by : (why : PipeFault) → IsHubStop (unwrap_or (stop_of why) (Refused cause.BadHub))
     by pipe.Stalled = inl refl
@@ -46,11 +52,16 @@ answered_hub outcome stop is = let f = answered_err cause.BadHub outcome stop is
 
 pub stop_plain : (why : PipeFault) (stop : Stop) → stop_of why ≡ Some stop → IsPlainStop stop
 stop_plain pipe.Stalled stop is = absurd cc
-stop_plain pipe.Busy stop is = subst IsPlainStop (let same : Refused cause.Busy ≡ stop = cc in same) tt
-stop_plain pipe.NoAnswer stop is = subst IsPlainStop (let same : Refused cause.Silent ≡ stop = cc in same) tt
-stop_plain pipe.Broken stop is = subst IsPlainStop (let same : Refused cause.Silent ≡ stop = cc in same) tt
-stop_plain (pipe.Bus why) stop is = subst IsPlainStop (let same : Fault (fault.Bus why) ≡ stop = cc in same) tt
-stop_plain pipe.Memory stop is = subst IsPlainStop (let same : Fault fault.Memory ≡ stop = cc in same) tt
+stop_plain pipe.Busy stop is = subst IsPlainStop (let same : Refused cause.Busy ≡ stop = cc in same)
+    tt
+stop_plain pipe.NoAnswer stop is = subst IsPlainStop (let same : Refused cause.Silent ≡ stop = cc in
+    same) tt
+stop_plain pipe.Broken stop is = subst IsPlainStop (let same : Refused cause.Silent ≡ stop = cc in
+    same) tt
+stop_plain (pipe.Bus why) stop is = subst IsPlainStop (let same : Fault (fault.Bus why) ≡ stop =
+    cc in same) tt
+stop_plain pipe.Memory stop is = subst IsPlainStop (let same : Fault fault.Memory ≡ stop = cc in
+    same) tt
 
 -- a plain one fits each tier, and comes also where no address is free
 
@@ -64,39 +75,51 @@ plain_without (Fault why) plain = tt
 
 -- a hub that fits its tier
 
-pub hub_stop_fits : (tier : ℕ) (bytes : List ℕ) (stop : Stop) → fits_tier tier bytes ≡ Ok tt → is_hub_device bytes ≡ true → IsHubStop stop → FitsStop tier stop
+pub hub_stop_fits : (tier : ℕ) (bytes : List ℕ) (stop : Stop) → fits_tier tier bytes ≡ Ok tt
+    → is_hub_device bytes ≡ true → IsHubStop stop → FitsStop tier stop
 hub_stop_fits tier bytes (Refused why) fits is (inl bad) = rw bad (not_last tier bytes is fits)
 hub_stop_fits tier bytes (Refused why) fits is (inr plain) = plain_fits tier why plain
 hub_stop_fits tier bytes (Fault why) fits is told = tt
 
 -- one that does not
 
-pub deep_stop_fits : (tier : ℕ) (bytes : List ℕ) (stop : Stop) → fits_tier tier bytes ≡ Err stop → FitsStop tier stop
+pub deep_stop_fits : (tier : ℕ) (bytes : List ℕ) (stop : Stop) → fits_tier tier bytes ≡ Err stop
+    → FitsStop tier stop
 deep_stop_fits tier bytes stop is = split (is_hub_device bytes && tier == LAST_TIER) refl is
   where
     deep : (is_hub_device bytes && tier == LAST_TIER) ≡ true → FitsStop tier (Refused cause.TooDeep)
-    deep e = let both_so = both (is_hub_device bytes) (tier == LAST_TIER) e in equal_same tier LAST_TIER both_so.1
+    deep e = let both_so = both (is_hub_device bytes) (tier == LAST_TIER) e in
+        equal_same tier LAST_TIER both_so.1
 
-    split : (b : Bool) → (is_hub_device bytes && tier == LAST_TIER) ≡ b → (let r : Result (Unit {0}) Stop = if b then Err (Refused cause.TooDeep) else Ok tt in r ≡ Err stop) → FitsStop tier stop
-    split true e r = subst (FitsStop tier) (let same : Refused cause.TooDeep ≡ stop = cc in same) (deep e)
+    split : (b : Bool) → (is_hub_device bytes && tier == LAST_TIER) ≡ b
+        → (let r : Result (Unit {0}) Stop = if b then Err (Refused cause.TooDeep) else Ok tt in
+        r ≡ Err stop) → FitsStop tier stop
+    split true e r = subst (FitsStop tier) (let same : Refused cause.TooDeep ≡ stop = cc in same)
+        (deep e)
     split false e r = absurd cc
 
 -- what the bytes of a device descriptor tell
 
-pub device_good : (low : Bool) (bytes : List ℕ) → MatchResult (device_bytes low bytes) (λ found. IfSome found (λ good. is_device low good ≡ true)) IsPlainStop
+pub device_good : (low : Bool) (bytes : List ℕ)
+    → MatchResult (device_bytes low bytes)
+    (λ found. IfSome found (λ good. is_device low good ≡ true)) IsPlainStop
 device_good low bytes = split (is_device low bytes) refl
   where
-    split : (is : Bool) → is_device low bytes ≡ is → MatchResult (if is then Ok (Some bytes) else Err (Refused cause.BadDevice)) (λ found. IfSome found (λ good. is_device low good ≡ true)) IsPlainStop
+    split : (is : Bool) → is_device low bytes ≡ is
+        → MatchResult (if is then Ok (Some bytes) else Err (Refused cause.BadDevice))
+        (λ found. IfSome found (λ good. is_device low good ≡ true)) IsPlainStop
     split true e = e
     split false e = tt
 
 -- the second of two
-pub whole_only : {A E : Type 0} (result : Result A E) (P Q : A → Type 0) → IfOk result (λ x. P x × Q x) → IfOk result Q
+pub whole_only : {A E : Type 0} (result : Result A E) (P Q : A → Type 0)
+    → IfOk result (λ x. P x × Q x) → IfOk result Q
 whole_only (Ok x) P Q ends = ends.1
 whole_only (Err why) P Q ends = tt
 
 -- an error that is handed on has no finding
-pub handed_none : {A E : Type 0} (result : Result A E) (P : A → Type 0) (why : E) → IsErrAnd result (λ e. e ≡ why) → IfOk result P
+pub handed_none : {A E : Type 0} (result : Result A E) (P : A → Type 0) (why : E)
+    → IsErrAnd result (λ e. e ≡ why) → IfOk result P
 handed_none (Ok x) P why same = absurd same
 handed_none (Err e) P why same = tt
 
@@ -106,17 +129,22 @@ module _ (addresses : Addresses) (tier supply : ℕ) where
   same_cause : (a b : Cause) → finding.Refused a ≡ finding.Refused b → b ≡ a
   same_cause a b e = cc
 
-  pub fits_found : (stop : Stop) (result : Result Finding EnumFault) → HandsOn stop result → FitsStop tier stop → IfOk result (IsFound addresses tier supply)
+  pub fits_found : (stop : Stop) (result : Result Finding EnumFault) → HandsOn stop result
+      → FitsStop tier stop → IfOk result (IsFound addresses tier supply)
   fits_found (Refused why) (Ok (finding.Device device)) hands fits = absurd cc
-  fits_found (Refused why) (Ok (finding.Refused other)) hands fits = inr (subst (λ c. FitsStop tier (Refused c)) (same_cause other why hands) fits)
+  fits_found (Refused why) (Ok (finding.Refused other)) hands fits =
+      inr (subst (λ c. FitsStop tier (Refused c)) (same_cause other why hands) fits)
   fits_found (Refused why) (Err fault) hands fits = tt
   fits_found (Fault why) (Ok found) hands fits = absurd cc
   fits_found (Fault why) (Err fault) hands fits = tt
 
-  pub without_found : (stop : Stop) (result : Result Finding EnumFault) → IsFull addresses → HandsOn stop result → IsStopWithout stop → IfOk result (IsFound addresses tier supply)
+  pub without_found : (stop : Stop) (result : Result Finding EnumFault) → IsFull addresses
+      → HandsOn stop result → IsStopWithout stop → IfOk result (IsFound addresses tier supply)
   without_found (Refused why) (Ok (finding.Device device)) full hands stops = absurd cc
-  without_found (Refused why) (Ok (finding.Refused other)) full hands (inl none) = inl (sym (same_cause other why hands) ∙ none, full)
-  without_found (Refused why) (Ok (finding.Refused other)) full hands (inr plain) = inr (plain_fits tier other (subst IsPlain (same_cause other why hands) plain))
+  without_found (Refused why) (Ok (finding.Refused other)) full hands (inl none) =
+      inl (sym (same_cause other why hands) ∙ none, full)
+  without_found (Refused why) (Ok (finding.Refused other)) full hands (inr plain) =
+      inr (plain_fits tier other (subst IsPlain (same_cause other why hands) plain))
   without_found (Refused why) (Err fault) full hands stops = tt
   without_found (Fault why) (Ok found) full hands stops = absurd cc
   without_found (Fault why) (Err fault) full hands stops = tt

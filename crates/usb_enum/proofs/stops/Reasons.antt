@@ -1,5 +1,6 @@
 -- How the reasons of a stop come from answers, and how they join.
-use Rattle.std.proofs.Common.{◌≡◌, ◌≢◌, ◌⊎◌, inl, inr, ℕ, ◌==◌, Bool, true, false, if◌then◌else◌, List, length, Some, Result, Ok, Err, refl, sym, subst, ◌∙◌}
+use Rattle.std.proofs.Common.{◌≡◌, ◌≢◌, ◌⊎◌, inl, inr, ℕ, ◌==◌, Bool, true, false, if◌then◌else◌}
+use Rattle.std.proofs.Common.{List, length, Some, Result, Ok, Err, refl, sym, subst, ◌∙◌}
 use Rattle.std.specs.Prelude.{unwrap_or, IfErr, MatchResult, ⊤}
 use Rattle.std.specs.Global.{Vec}
 use Rattle.usb_request.specs.declared.setup.Setup.{Setup}
@@ -24,31 +25,71 @@ use Rattle.usb_enum.specs.declared.fault.EnumFault.TheVariants as fault
 use Rattle.usb_enum.specs.declared.stop.Stop.{Stop}
 use Rattle.usb_enum.specs.declared.stop.Stop.TheVariants.{Refused, Fault}
 use Rattle.usb_enum.specs.LastRequests.{Leads}
-use Rattle.usb_enum.specs.Reasons.{FailsAs, EndsFailing, EndsReading, IsAny, IsNamed, DescriptorRead, TextRead, BadDescriptor, bad_head, bad_front, BadText, bad_total, bad_text, repeated, Because, CauseAllowed}
-use Rattle.usb_enum.specs.Reasons.{HubFails, no_descriptor, bad_descriptor, no_status, no_power, CauseAllowedOfHub, CauseAllowedAtStart, PortFails, FaultBy, IsSpokenTo, RefusedEarly, answered, not_enabled, CauseAllowedAt, NoAnswerTold}
-use Rattle.usb_enum.specs.Stop.{CanFail, FaultAllowedAt, FaultAllowed, IsPlain, StopFaults, CauseAllowedIn, CauseAllowedWithout, answered_or, at_port, stop_of}
+use Rattle.usb_enum.specs.Reasons.{FailsAs, EndsFailing, EndsReading, IsAny, IsNamed}
+use Rattle.usb_enum.specs.Reasons.{DescriptorRead, TextRead, BadDescriptor, bad_head, bad_front}
+use Rattle.usb_enum.specs.Reasons.{BadText, bad_total, bad_text, repeated, Because, CauseAllowed}
+use Rattle.usb_enum.specs.Reasons.{HubFails, no_descriptor, bad_descriptor, no_status, no_power}
+use Rattle.usb_enum.specs.Reasons.{CauseAllowedOfHub, CauseAllowedAtStart, PortFails, FaultBy}
+use Rattle.usb_enum.specs.Reasons.{IsSpokenTo, RefusedEarly, answered, not_enabled, CauseAllowedAt}
+use Rattle.usb_enum.specs.Reasons.{NoAnswerTold}
+use Rattle.usb_enum.specs.Stop.{CanFail, FaultAllowedAt, FaultAllowed, IsPlain, StopFaults}
+use Rattle.usb_enum.specs.Stop.{CauseAllowedIn, CauseAllowedWithout, answered_or, at_port, stop_of}
 use Rattle.usb_enum.proofs.courses.LastRequests.{leads_none, leads_then}
 use Rattle.usb_enum.proofs.refusals.Refusals.{answered_err, answered_ok}
 use Rattle.usb_enum.proofs.stops.ToldFailures.{clear_fails, plain_fits, read_fails, set_fails}
 
 -- Requests
 
-failing : {t : Target} {setup : Setup} (Is : Setup → Type 0) (why : PipeFault) {old new : World} → Is setup → FailsAs t setup why old new → EndsFailing t Is why old new
-failing {t} {setup} Is why {old} {new} is failed = record { before = old; led = leads_none old; setup = setup; is = is; failed = failed }
+failing : {t : Target} {setup : Setup} (Is : Setup → Type 0) (why : PipeFault) {old new : World}
+    → Is setup → FailsAs t setup why old new → EndsFailing t Is why old new
+failing {t} {setup} Is why {old} {new} is failed = record {
+  before = old;
+  led = leads_none old;
+  setup = setup;
+  is = is;
+  failed = failed;
+}
 
-pub reading : {t : Target} {setup : Setup} {bytes : List ℕ} {old new : World} → WasRead t setup old bytes new → EndsReading t setup bytes old new
-reading {t} {setup} {bytes} {old} {new} read = record { before = old; led = leads_none old; read = read }
+pub reading : {t : Target} {setup : Setup} {bytes : List ℕ} {old new : World}
+    → WasRead t setup old bytes new → EndsReading t setup bytes old new
+reading {t} {setup} {bytes} {old} {new} read = record {
+  before = old;
+  led = leads_none old;
+  read =
+      read;
+}
 
-pub failing_after : {t : Target} {Is : Setup → Type 0} {why : PipeFault} {old mid new : World} → Leads old mid → EndsFailing t Is why mid new → EndsFailing t Is why old new
-failing_after led ends = record { before = ends.before; led = leads_then led ends.led; setup = ends.setup; is = ends.is; failed = ends.failed }
+pub failing_after : {t : Target} {Is : Setup → Type 0} {why : PipeFault} {old mid new : World}
+    → Leads old mid → EndsFailing t Is why mid new → EndsFailing t Is why old new
+failing_after led ends = record {
+  before = ends.before;
+  led = leads_then led ends.led;
+  setup =
+      ends.setup;
+  is = ends.is;
+  failed = ends.failed;
+}
 
-pub reading_after : {t : Target} {setup : Setup} {bytes : List ℕ} {old mid new : World} → Leads old mid → EndsReading t setup bytes mid new → EndsReading t setup bytes old new
-reading_after led ends = record { before = ends.before; led = leads_then led ends.led; read = ends.read }
+pub reading_after : {t : Target} {setup : Setup} {bytes : List ℕ} {old mid new : World}
+    → Leads old mid → EndsReading t setup bytes mid new → EndsReading t setup bytes old new
+reading_after led ends = record {
+  before = ends.before;
+  led = leads_then led ends.led;
+  read =
+      ends.read;
+}
 
-pub descriptor_after : {t : Target} {bytes : List ℕ} {old mid new : World} → Leads old mid → DescriptorRead t bytes mid new → DescriptorRead t bytes old new
-descriptor_after led got = record { all = got.all; read = reading_after led got.read; front = got.front }
+pub descriptor_after : {t : Target} {bytes : List ℕ} {old mid new : World} → Leads old mid
+    → DescriptorRead t bytes mid new → DescriptorRead t bytes old new
+descriptor_after led got = record {
+  all = got.all;
+  read = reading_after led got.read;
+  front =
+      got.front;
+}
 
-pub text_after : {t : Target} {index : ℕ} {text : List ℕ} {old mid new : World} → Leads old mid → TextRead t index text mid new → TextRead t index text old new
+pub text_after : {t : Target} {index : ℕ} {text : List ℕ} {old mid new : World} → Leads old mid
+    → TextRead t index text mid new → TextRead t index text old new
 text_after led got = record { size = got.size; read = reading_after led got.read }
 
 -- a request that was answered
@@ -62,14 +103,24 @@ was_read {t} {setup} {outcome} {old} {new} stalled bytes is asked =
 -- What an answer is told as
 
 -- by each fault
-stop_by : {A : Type 0} (P : Stop → Type 0) (Failed_as : PipeFault → Type 0) (stalled : Cause) (outcome : Result A PipeFault) (stop : Stop) (m n : ℕ) (old new : World) → answered_or stalled outcome ≡ Err stop
-    → ((why : PipeFault) → outcome ≡ Err why → Failed_as why) → MatchResult outcome (λ _. AttemptsMade m old new) (λ why. FaultAfter n old why new)
-    → (Failed_as pipe.Stalled → P (Refused stalled)) → (Failed_as pipe.Busy → P (Refused cause.Busy)) → (Failed_as pipe.NoAnswer → P (Refused cause.Silent)) → ((why : EnumFault) → FaultAllowed why new → P (Fault why)) → P stop
-stop_by {A} P Failed_as stalled outcome stop m n old new is failed ends by_stall by_wait by_silence by_fault =
+stop_by : {A : Type 0} (P : Stop → Type 0) (Failed_as : PipeFault → Type 0) (stalled : Cause)
+    (outcome : Result A PipeFault) (stop : Stop) (m n : ℕ) (old new : World)
+    → answered_or stalled outcome ≡ Err stop
+    → ((why : PipeFault) → outcome ≡ Err why → Failed_as why)
+    → MatchResult outcome (λ _. AttemptsMade m old new) (λ why. FaultAfter n old why new)
+    → (Failed_as pipe.Stalled → P (Refused stalled))
+    → (Failed_as pipe.Busy → P (Refused cause.Busy))
+    → (Failed_as pipe.NoAnswer → P (Refused cause.Silent))
+    → ((why : EnumFault) → FaultAllowed why new → P (Fault why)) → P stop
+stop_by {A} P Failed_as stalled outcome stop m n old new is failed ends by_stall by_wait by_silence
+    by_fault =
     let f = answered_err stalled outcome stop is in
-    subst P f.2 (by f.0 (failed f.0 f.1) (subst (λ (r : Result A PipeFault). MatchResult r (λ _. AttemptsMade m old new) (λ why. FaultAfter n old why new)) f.1 ends))
+    subst P f.2 (by f.0 (failed f.0 f.1)
+    (subst (λ (r : Result A PipeFault). MatchResult r (λ _. AttemptsMade m old new)
+    (λ why. FaultAfter n old why new)) f.1 ends))
   where
-    by : (why : PipeFault) → Failed_as why → FaultAfter n old why new → P (unwrap_or (stop_of why) (Refused stalled))
+    by : (why : PipeFault) → Failed_as why → FaultAfter n old why new
+        → P (unwrap_or (stop_of why) (Refused stalled))
     by pipe.Stalled failed_so after = by_stall failed_so
     by pipe.Busy failed_so after = by_wait failed_so
     by pipe.NoAnswer failed_so after = by_silence failed_so
@@ -78,28 +129,47 @@ stop_by {A} P Failed_as stalled outcome stop m n old new is failed ends by_stall
     by pipe.Memory failed_so after = by_fault fault.Memory tt
 
 -- of a request that a refusal names
-stop_told : {A : Type 0} (t : Target) (setup : Setup) (named : Request) (outcome : Result A PipeFault) (stop : Stop) (m n : ℕ) (old new : World) → answered_or (cause.Stalled named) outcome ≡ Err stop → IsNamed named setup
-    → ((why : PipeFault) → outcome ≡ Err why → FailsAs t setup why old new) → MatchResult outcome (λ _. AttemptsMade m old new) (λ why. FaultAfter n old why new) → CauseAllowed t stop old new
+stop_told : {A : Type 0} (t : Target) (setup : Setup) (named : Request)
+    (outcome : Result A PipeFault) (stop : Stop) (m n : ℕ) (old new : World)
+    → answered_or (cause.Stalled named) outcome ≡ Err stop → IsNamed named setup
+    → ((why : PipeFault) → outcome ≡ Err why → FailsAs t setup why old new)
+    → MatchResult outcome (λ _. AttemptsMade m old new) (λ why. FaultAfter n old why new)
+    → CauseAllowed t stop old new
 stop_told t setup named outcome stop m n old new is names failed ends =
-    stop_by (λ s. CauseAllowed t s old new) (λ why. FailsAs t setup why old new) (cause.Stalled named) outcome stop m n old new is failed ends
-    (failing (IsNamed named) pipe.Stalled names) (failing IsAny pipe.Busy tt) (failing IsAny pipe.NoAnswer tt) (λ why told. told)
+    stop_by (λ s. CauseAllowed t s old new) (λ why. FailsAs t setup why old new)
+    (cause.Stalled named) outcome stop m n old new is failed ends
+    (failing (IsNamed named) pipe.Stalled names) (failing IsAny pipe.Busy tt)
+    (failing IsAny pipe.NoAnswer tt) (λ why told. told)
 
 -- of a request to a hub
-pub bad_hub_told : {A : Type 0} (t : Target) (setup : Setup) (outcome : Result A PipeFault) (stop : Stop) (m n : ℕ) (old new : World) → answered_or cause.BadHub outcome ≡ Err stop
-    → ((why : PipeFault) → outcome ≡ Err why → FailsAs t setup why old new) → MatchResult outcome (λ _. AttemptsMade m old new) (λ why. FaultAfter n old why new)
-    → (EndsFailing t (λ x. x ≡ setup) pipe.Stalled old new → HubFails t old new) → CauseAllowedOfHub t stop old new
+pub bad_hub_told : {A : Type 0} (t : Target) (setup : Setup) (outcome : Result A PipeFault)
+    (stop : Stop) (m n : ℕ) (old new : World) → answered_or cause.BadHub outcome ≡ Err stop
+    → ((why : PipeFault) → outcome ≡ Err why → FailsAs t setup why old new)
+    → MatchResult outcome (λ _. AttemptsMade m old new) (λ why. FaultAfter n old why new)
+    → (EndsFailing t (λ x. x ≡ setup) pipe.Stalled old new → HubFails t old new)
+    → CauseAllowedOfHub t stop old new
 bad_hub_told t setup outcome stop m n old new is failed ends bad =
-    stop_by (λ s. CauseAllowedOfHub t s old new) (λ why. FailsAs t setup why old new) cause.BadHub outcome stop m n old new is failed ends
-    (λ f. inl (refl, bad (failing (λ x. x ≡ setup) pipe.Stalled refl f))) (λ f. inr (failing IsAny pipe.Busy tt f)) (λ f. inr (failing IsAny pipe.NoAnswer tt f)) (λ why told. told)
+    stop_by (λ s. CauseAllowedOfHub t s old new) (λ why. FailsAs t setup why old new) cause.BadHub
+    outcome stop m n old new is failed ends
+    (λ f. inl (refl, bad (failing (λ x. x ≡ setup) pipe.Stalled refl f)))
+    (λ f. inr (failing IsAny pipe.Busy tt f)) (λ f. inr (failing IsAny pipe.NoAnswer tt f))
+    (λ why told. told)
 
-pub reads_failed : (t : Target) (setup : Setup) (outcome : Result (Vec ℕ) PipeFault) (old new : World) → Reads t setup old outcome new → (why : PipeFault) → outcome ≡ Err why → FailsAs t setup why old new
-reads_failed t setup outcome old new stages why is = inl (subst (λ r. Reads t setup old r new) is stages)
+pub reads_failed : (t : Target) (setup : Setup) (outcome : Result (Vec ℕ) PipeFault)
+    (old new : World) → Reads t setup old outcome new → (why : PipeFault) → outcome ≡ Err why
+    → FailsAs t setup why old new
+reads_failed t setup outcome old new stages why is =
+    inl (subst (λ r. Reads t setup old r new) is stages)
 
-pub writes_failed : (t : Target) (setup : Setup) (outcome : Result (Unit {0}) PipeFault) (old new : World) → Writes t setup old outcome new → (why : PipeFault) → outcome ≡ Err why → FailsAs t setup why old new
-writes_failed t setup outcome old new stages why is = inr (subst (λ r. Writes t setup old r new) is stages)
+pub writes_failed : (t : Target) (setup : Setup) (outcome : Result (Unit {0}) PipeFault)
+    (old new : World) → Writes t setup old outcome new → (why : PipeFault) → outcome ≡ Err why
+    → FailsAs t setup why old new
+writes_failed t setup outcome old new stages why is =
+    inr (subst (λ r. Writes t setup old r new) is stages)
 
 -- so it is of one for data, and of one without
-pub read_stop_told : {t : Target} {setup : Setup} {outcome : Result (Vec ℕ) PipeFault} {old new : World}
+pub read_stop_told : {t : Target} {setup : Setup} {outcome : Result (Vec ℕ) PipeFault}
+    {old new : World}
     (named : Request) (stop : Stop) → IsNamed named setup
     → answered_or (cause.Stalled named) outcome ≡ Err stop → Queried t setup old outcome new
     → CauseAllowed t stop old new
@@ -117,63 +187,93 @@ write_stop_told {t} {setup} {outcome} {old} {new} named stop names is ordered =
 
 -- of the status, which may have another length
 
-said_err : (answer : Result (Vec ℕ) PipeFault) (size : ℕ) (why : PipeFault) → why ≢ pipe.Stalled → said_in device_status size answer ≡ Err why → answer ≡ Err why
+said_err : (answer : Result (Vec ℕ) PipeFault) (size : ℕ) (why : PipeFault) → why ≢ pipe.Stalled
+    → said_in device_status size answer ≡ Err why → answer ≡ Err why
 said_err (Ok bytes) size why other is = pick (length bytes.items == size) is
   where
-    pick : (b : Bool) → (let r : Result DeviceStatus PipeFault = if b then Ok (device_status bytes.items) else Err pipe.Stalled in r ≡ Err why) → Ok bytes ≡ Err why
+    pick : (b : Bool) → (let r : Result DeviceStatus PipeFault =
+        if b then Ok (device_status bytes.items) else Err pipe.Stalled in r ≡ Err why)
+        → Ok bytes ≡ Err why
     pick true e = absurd cc
     pick false e = elim (other (same e)) [ ]
       where
-        same : (let r : Result DeviceStatus PipeFault = Err pipe.Stalled in r ≡ Err why) → why ≡ pipe.Stalled
+        same : (let r : Result DeviceStatus PipeFault = Err pipe.Stalled in r ≡ Err why)
+            → why ≡ pipe.Stalled
         same e = cc
 said_err (Err fault) size why other is = cc
 
 -- what it failed as
 abbrev StatusFails : Target → World → World → PipeFault → Type 0
-StatusFails t old new why = (answer : Result (Vec ℕ) PipeFault) × (Reads t get_status old answer new × (said_in device_status get_status.length answer ≡ Err why))
+StatusFails t old new why = (answer : Result (Vec ℕ) PipeFault)
+    × (Reads t get_status old answer new
+    × (said_in device_status get_status.length answer ≡ Err why))
 
-status_failed : (t : Target) (why : PipeFault) (old new : World) → why ≢ pipe.Stalled → StatusFails t old new why → FailsAs t get_status why old new
-status_failed t why old new other f = inl (subst (λ r. Reads t get_status old r new) (said_err f.0 get_status.length why other f.1.1) f.1.0)
+status_failed : (t : Target) (why : PipeFault) (old new : World) → why ≢ pipe.Stalled
+    → StatusFails t old new why → FailsAs t get_status why old new
+status_failed t why old new other f =
+    inl (subst (λ r. Reads t get_status old r new) (said_err f.0 get_status.length why other f.1.1)
+    f.1.0)
 
-pub status_told : (t : Target) (outcome : Result DeviceStatus PipeFault) (stop : Stop) (old new : World) → answered_or cause.BadHub outcome ≡ Err stop → ReadAs device_status t get_status old outcome new → CauseAllowedOfHub t stop old new
+pub status_told : (t : Target) (outcome : Result DeviceStatus PipeFault) (stop : Stop)
+    (old new : World) → answered_or cause.BadHub outcome ≡ Err stop
+    → ReadAs device_status t get_status old outcome new → CauseAllowedOfHub t stop old new
 status_told t outcome stop old new is told =
-    stop_by (λ s. CauseAllowedOfHub t s old new) (StatusFails t old new) cause.BadHub outcome stop 3 1 old new is
+    stop_by (λ s. CauseAllowedOfHub t s old new) (StatusFails t old new) cause.BadHub outcome stop 3
+    1 old new is
     (λ why e. (told.answer, (told.asked.stages, sym told.told ∙ e))) told.ends
     (λ f. inl (refl, no_status old f.0 (leads_none old) f.1.0 f.1.1))
     (λ f. inr (failing IsAny pipe.Busy tt (status_failed t pipe.Busy old new (λ e. absurd cc) f)))
-    (λ f. inr (failing IsAny pipe.NoAnswer tt (status_failed t pipe.NoAnswer old new (λ e. absurd cc) f)))
+    (λ f. inr (failing IsAny pipe.NoAnswer tt
+    (status_failed t pipe.NoAnswer old new (λ e. absurd cc) f)))
     (λ why told_so. told_so)
 
 -- of a string, whose STALL is no stop
-pub string_told : (t : Target) (setup : Setup) (outcome : Result (Vec ℕ) PipeFault) (fault_is : PipeFault) (stop : Stop) (old new : World) → outcome ≡ Err fault_is → stop_of fault_is ≡ Some stop → Reads t setup old outcome new → EndsAfter 3 old outcome new
+pub string_told : (t : Target) (setup : Setup) (outcome : Result (Vec ℕ) PipeFault)
+    (fault_is : PipeFault) (stop : Stop) (old new : World) → outcome ≡ Err fault_is
+    → stop_of fault_is ≡ Some stop → Reads t setup old outcome new → EndsAfter 3 old outcome new
     → CauseAllowed t stop old new
 string_told t setup outcome fault_is stop old new is some stages ends =
-    by fault_is stop some (reads_failed t setup outcome old new stages fault_is is) (subst (λ r. EndsAfter 3 old r new) is ends)
+    by fault_is stop some (reads_failed t setup outcome old new stages fault_is is)
+    (subst (λ r. EndsAfter 3 old r new) is ends)
   where
-    by : (why : PipeFault) (s : Stop) → stop_of why ≡ Some s → FailsAs t setup why old new → FaultAfter 1 old why new → CauseAllowed t s old new
+    by : (why : PipeFault) (s : Stop) → stop_of why ≡ Some s → FailsAs t setup why old new
+        → FaultAfter 1 old why new → CauseAllowed t s old new
     by pipe.Stalled s e failed after = absurd cc
-    by pipe.Busy s e failed after = subst (λ x. CauseAllowed t x old new) (let same : Refused cause.Busy ≡ s = cc in same) (failing IsAny pipe.Busy tt failed)
-    by pipe.NoAnswer s e failed after = subst (λ x. CauseAllowed t x old new) (let same : Refused cause.Silent ≡ s = cc in same) (failing IsAny pipe.NoAnswer tt failed)
+    by pipe.Busy s e failed after = subst (λ x. CauseAllowed t x old new)
+        (let same : Refused cause.Busy ≡ s = cc in same) (failing IsAny pipe.Busy tt failed)
+    by pipe.NoAnswer s e failed after = subst (λ x. CauseAllowed t x old new)
+        (let same : Refused cause.Silent ≡ s = cc in same) (failing IsAny pipe.NoAnswer tt failed)
     by pipe.Broken s e failed after = absurd after
-    by (pipe.Bus why) s e failed after = subst (λ x. CauseAllowed t x old new) (let same : Fault (fault.Bus why) ≡ s = cc in same) after
-    by pipe.Memory s e failed after = subst (λ x. CauseAllowed t x old new) (let same : Fault fault.Memory ≡ s = cc in same) tt
+    by (pipe.Bus why) s e failed after = subst (λ x. CauseAllowed t x old new)
+        (let same : Fault (fault.Bus why) ≡ s = cc in same) after
+    by pipe.Memory s e failed after = subst (λ x. CauseAllowed t x old new)
+        (let same : Fault fault.Memory ≡ s = cc in same) tt
 
 -- that there was no answer
-pub unanswered_ends_failing : (t : Target) (setup : Setup) (outcome : Result (Vec ℕ) PipeFault) (old new : World) → outcome ≡ Err pipe.NoAnswer → Reads t setup old outcome new → EndsFailing t IsAny pipe.NoAnswer old new
-unanswered_ends_failing t setup outcome old new is stages = failing IsAny pipe.NoAnswer tt (reads_failed t setup outcome old new stages pipe.NoAnswer is)
+pub unanswered_ends_failing : (t : Target) (setup : Setup) (outcome : Result (Vec ℕ) PipeFault)
+    (old new : World) → outcome ≡ Err pipe.NoAnswer → Reads t setup old outcome new
+    → EndsFailing t IsAny pipe.NoAnswer old new
+unanswered_ends_failing t setup outcome old new is stages =
+    failing IsAny pipe.NoAnswer tt (reads_failed t setup outcome old new stages pipe.NoAnswer is)
 
 -- Of a device, after other steps
 
-descriptor_bad_after : {t : Target} {old mid new : World} → Leads old mid → BadDescriptor t mid new → BadDescriptor t old new
-descriptor_bad_after led (bad_head bytes why read bad) = bad_head bytes why (reading_after led read) bad
-descriptor_bad_after led (bad_front bytes read bad) = bad_front bytes (descriptor_after led read) bad
+descriptor_bad_after : {t : Target} {old mid new : World} → Leads old mid → BadDescriptor t mid new
+    → BadDescriptor t old new
+descriptor_bad_after led (bad_head bytes why read bad) =
+    bad_head bytes why (reading_after led read) bad
+descriptor_bad_after led (bad_front bytes read bad) =
+    bad_front bytes (descriptor_after led read) bad
 
-text_bad_after : {t : Target} {index : ℕ} {old mid new : World} → Leads old mid → BadText t index mid new → BadText t index old new
+text_bad_after : {t : Target} {index : ℕ} {old mid new : World} → Leads old mid
+    → BadText t index mid new → BadText t index old new
 text_bad_after led (bad_total bytes why read bad) = bad_total bytes why (reading_after led read) bad
 text_bad_after led (bad_text text read bad) = bad_text text (text_after led read) bad
-text_bad_after led (repeated begun mid texts text first asked same read again) = repeated begun mid texts text (leads_then led first) asked same read again
+text_bad_after led (repeated begun mid texts text first asked same read again) =
+    repeated begun mid texts text (leads_then led first) asked same read again
 
-pub because_after : (why : Cause) (t : Target) (old mid new : World) → Leads old mid → Because t mid new why → Because t old new why
+pub because_after : (why : Cause) (t : Target) (old mid new : World) → Leads old mid
+    → Because t mid new why → Because t old new why
 because_after cause.Silent t old mid new led b = failing_after led b
 because_after cause.Busy t old mid new led b = failing_after led b
 because_after (cause.Stalled named) t old mid new led b = failing_after led b
@@ -185,31 +285,38 @@ because_after cause.BadHub t old mid new led b = absurd b
 because_after cause.Lost t old mid new led b = absurd b
 because_after cause.NoAddress t old mid new led b = absurd b
 
-pub told_after : (stop : Stop) (t : Target) (old mid new : World) → Leads old mid → CauseAllowed t stop mid new → CauseAllowed t stop old new
+pub told_after : (stop : Stop) (t : Target) (old mid new : World) → Leads old mid
+    → CauseAllowed t stop mid new → CauseAllowed t stop old new
 told_after (Refused why) t old mid new led told = because_after why t old mid new led told
 told_after (Fault why) t old mid new led told = told
 
 -- Of a hub, after other steps
 
-pub fails_after : {t : Target} {old mid new : World} → Leads old mid → HubFails t mid new → HubFails t old new
+pub fails_after : {t : Target} {old mid new : World} → Leads old mid → HubFails t mid new
+    → HubFails t old new
 fails_after led (no_descriptor ends) = no_descriptor (failing_after led ends)
-fails_after led (bad_descriptor bytes why read bad) = bad_descriptor bytes why (reading_after led read) bad
-fails_after led (no_status before answer first stages said) = no_status before answer (leads_then led first) stages said
+fails_after led (bad_descriptor bytes why read bad) =
+    bad_descriptor bytes why (reading_after led read) bad
+fails_after led (no_status before answer first stages said) =
+    no_status before answer (leads_then led first) stages said
 fails_after led (no_power port ends) = no_power port (failing_after led ends)
 
-pub hub_after : (stop : Stop) (t : Target) (old mid new : World) → Leads old mid → CauseAllowedOfHub t stop mid new → CauseAllowedOfHub t stop old new
+pub hub_after : (stop : Stop) (t : Target) (old mid new : World) → Leads old mid
+    → CauseAllowedOfHub t stop mid new → CauseAllowedOfHub t stop old new
 hub_after (Refused why) t old mid new led (inl bad) = inl (bad.0, fails_after led bad.1)
 hub_after (Refused why) t old mid new led (inr b) = inr (because_after why t old mid new led b)
 hub_after (Fault why) t old mid new led told = told
 
-pub at_start : (stop : Stop) (t : Target) (text : List ℕ) (old new : World) → CauseAllowedOfHub t stop old new → CauseAllowedAtStart t text stop old new
+pub at_start : (stop : Stop) (t : Target) (text : List ℕ) (old new : World)
+    → CauseAllowedOfHub t stop old new → CauseAllowedAtStart t text stop old new
 at_start (Refused why) t text old new (inl bad) = inl (bad.0, inr bad.1)
 at_start (Refused why) t text old new (inr b) = inr b
 at_start (Fault why) t text old new told = told
 
 -- What a reason says of the cause
 
-pub because_plain : (why : Cause) (t : Target) (old new : World) → Because t old new why → IsPlain why
+pub because_plain : (why : Cause) (t : Target) (old new : World) → Because t old new why
+    → IsPlain why
 because_plain cause.Silent t old new b = tt
 because_plain cause.Busy t old new b = tt
 because_plain (cause.Stalled named) t old new b = tt
@@ -221,7 +328,8 @@ because_plain cause.BadHub t old new b = absurd b
 because_plain cause.Lost t old new b = tt
 because_plain cause.NoAddress t old new b = absurd b
 
-pub told_faults : (stop : Stop) (t : Target) (old new : World) → CauseAllowed t stop old new → StopFaults stop new
+pub told_faults : (stop : Stop) (t : Target) (old new : World) → CauseAllowed t stop old new
+    → StopFaults stop new
 told_faults (Refused why) t old new told = tt
 told_faults (Fault why) t old new told = told
 
@@ -230,51 +338,105 @@ told_faults (Fault why) t old new told = told
 pub port_fails : {port : HubPort} {old new : World} → PortFails port old new → CanFail port
 port_fails {port} {old} {new} f = pick f.failed
   where
-    acted : (feature : ℕ) → PortSet port feature f.before (Err f.why) new ⊎ PortCleared port feature f.before (Err f.why) new → CanFail port
+    acted : (feature : ℕ) → PortSet port feature f.before (Err f.why) new
+        ⊎ PortCleared port feature f.before (Err f.why) new → CanFail port
     acted feature (inl set) = set_fails port feature f.before new (Err f.why) set refl
     acted feature (inr cleared) = clear_fails port feature f.before new (Err f.why) cleared refl
 
-    pick : PortRead port f.before (Err f.why) new ⊎ ((feature : ℕ) × (PortSet port feature f.before (Err f.why) new ⊎ PortCleared port feature f.before (Err f.why) new)) → CanFail port
+    pick : PortRead port f.before (Err f.why) new
+        ⊎ ((feature : ℕ) × (PortSet port feature f.before (Err f.why) new
+        ⊎ PortCleared port feature f.before (Err f.why) new)) → CanFail port
     pick (inl read) = read_fails port f.before new (Err f.why) read refl
     pick (inr act) = acted act.0 act.1
 
-pub fault_by : (port : HubPort) (why : EnumFault) (old new : World) → FaultBy port why old new → FaultAllowedAt port why new
+pub fault_by : (port : HubPort) (why : EnumFault) (old new : World) → FaultBy port why old new
+    → FaultAllowedAt port why new
 fault_by port fault.ParentLost old new by = port_fails by
 fault_by port (fault.Bus why) old new by = by
 fault_by port fault.Memory old new by = by
 
-pub fault_after : (port : HubPort) (why : EnumFault) (old mid new : World) → Leads old mid → FaultBy port why mid new → FaultBy port why old new
-fault_after port fault.ParentLost old mid new led by = record { before = by.before; led = leads_then led by.led; why = by.why; lost = by.lost; failed = by.failed }
+pub fault_after : (port : HubPort) (why : EnumFault) (old mid new : World) → Leads old mid
+    → FaultBy port why mid new → FaultBy port why old new
+fault_after port fault.ParentLost old mid new led by =
+    record {
+      before = by.before;
+      led = leads_then led by.led;
+      why = by.why;
+      lost = by.lost;
+      failed =
+          by.failed;
+    }
 fault_after port (fault.Bus why) old mid new led by = by
 fault_after port fault.Memory old mid new led by = by
 
 -- no port was asked
-pub fault_told_by : (port : HubPort) (why : EnumFault) (old new : World) → FaultAllowed why new → FaultBy port why old new
+pub fault_told_by : (port : HubPort) (why : EnumFault) (old new : World) → FaultAllowed why new
+    → FaultBy port why old new
 fault_told_by port fault.ParentLost old new told = absurd told
 fault_told_by port (fault.Bus why) old new told = told
 fault_told_by port fault.Memory old new told = told
 
 -- what failed at the port
-called_by : {A : Type 0} (port : HubPort) (outcome : Result A PipeFault) (old new : World) → IfErr outcome (λ why. FaultAfter 1 old why new)
-    → ((why : PipeFault) → outcome ≡ Err why → PortRead port old (Err why) new ⊎ ((feature : ℕ) × (PortSet port feature old (Err why) new ⊎ PortCleared port feature old (Err why) new)))
+called_by : {A : Type 0} (port : HubPort) (outcome : Result A PipeFault) (old new : World)
+    → IfErr outcome (λ why. FaultAfter 1 old why new)
+    → ((why : PipeFault) → outcome ≡ Err why → PortRead port old (Err why) new
+    ⊎ ((feature : ℕ) × (PortSet port feature old (Err why) new
+    ⊎ PortCleared port feature old (Err why) new)))
     → IfErr (at_port outcome) (λ why. FaultBy port why old new)
 called_by port (Ok x) old new ends f = tt
-called_by port (Err pipe.Stalled) old new ends f = record { before = old; led = leads_none old; why = pipe.Stalled; lost = refl; failed = f pipe.Stalled refl }
-called_by port (Err pipe.Busy) old new ends f = record { before = old; led = leads_none old; why = pipe.Busy; lost = refl; failed = f pipe.Busy refl }
-called_by port (Err pipe.NoAnswer) old new ends f = record { before = old; led = leads_none old; why = pipe.NoAnswer; lost = refl; failed = f pipe.NoAnswer refl }
-called_by port (Err pipe.Broken) old new ends f = record { before = old; led = leads_none old; why = pipe.Broken; lost = refl; failed = f pipe.Broken refl }
+called_by port (Err pipe.Stalled) old new ends f = record {
+  before = old;
+  led = leads_none old;
+  why = pipe.Stalled;
+  lost = refl;
+  failed = f pipe.Stalled refl;
+}
+called_by port (Err pipe.Busy) old new ends f = record {
+  before = old;
+  led = leads_none old;
+  why = pipe.Busy;
+  lost = refl;
+  failed = f pipe.Busy refl;
+}
+called_by port (Err pipe.NoAnswer) old new ends f = record {
+  before = old;
+  led = leads_none old;
+  why = pipe.NoAnswer;
+  lost = refl;
+  failed = f pipe.NoAnswer refl;
+}
+called_by port (Err pipe.Broken) old new ends f = record {
+  before = old;
+  led = leads_none old;
+  why = pipe.Broken;
+  lost = refl;
+  failed = f pipe.Broken refl;
+}
 called_by port (Err (pipe.Bus why)) old new ends f = ends
 called_by port (Err pipe.Memory) old new ends f = tt
 
-pub read_by : (port : HubPort) (outcome : Result PortStatus PipeFault) (old new : World) → IfErr outcome (λ why. FaultAfter 1 old why new) → PortRead port old outcome new → IfErr (at_port outcome) (λ why. FaultBy port why old new)
-read_by port outcome old new ends read = called_by port outcome old new ends (λ why is. inl (subst (λ r. PortRead port old r new) is read))
-
-pub port_set_fault : (port : HubPort) (feature : ℕ) (outcome : Result (Unit {0}) PipeFault) (old new : World) → IfErr outcome (λ why. FaultAfter 1 old why new) → PortSet port feature old outcome new → IfErr (at_port outcome) (λ why. FaultBy port why old new)
-port_set_fault port feature outcome old new ends set = called_by port outcome old new ends (λ why is. inr (feature, inl (subst (λ r. PortSet port feature old r new) is set)))
-
-pub port_cleared_fault : (port : HubPort) (feature : ℕ) (outcome : Result (Unit {0}) PipeFault) (old new : World) → IfErr outcome (λ why. FaultAfter 1 old why new) → PortCleared port feature old outcome new
+pub read_by : (port : HubPort) (outcome : Result PortStatus PipeFault) (old new : World)
+    → IfErr outcome (λ why. FaultAfter 1 old why new) → PortRead port old outcome new
     → IfErr (at_port outcome) (λ why. FaultBy port why old new)
-port_cleared_fault port feature outcome old new ends cleared = called_by port outcome old new ends (λ why is. inr (feature, inr (subst (λ r. PortCleared port feature old r new) is cleared)))
+read_by port outcome old new ends read =
+    called_by port outcome old new ends
+    (λ why is. inl (subst (λ r. PortRead port old r new) is read))
+
+pub port_set_fault : (port : HubPort) (feature : ℕ) (outcome : Result (Unit {0}) PipeFault)
+    (old new : World) → IfErr outcome (λ why. FaultAfter 1 old why new)
+    → PortSet port feature old outcome new
+    → IfErr (at_port outcome) (λ why. FaultBy port why old new)
+port_set_fault port feature outcome old new ends set =
+    called_by port outcome old new ends
+    (λ why is. inr (feature, inl (subst (λ r. PortSet port feature old r new) is set)))
+
+pub port_cleared_fault : (port : HubPort) (feature : ℕ) (outcome : Result (Unit {0}) PipeFault)
+    (old new : World) → IfErr outcome (λ why. FaultAfter 1 old why new)
+    → PortCleared port feature old outcome new
+    → IfErr (at_port outcome) (λ why. FaultBy port why old new)
+port_cleared_fault port feature outcome old new ends cleared =
+    called_by port outcome old new ends
+    (λ why is. inr (feature, inr (subst (λ r. PortCleared port feature old r new) is cleared)))
 
 -- how a call at the port ends
 pub call_ends : {A : Type 0} (port : HubPort) (result : Result A EnumFault)
@@ -286,34 +448,56 @@ call_ends {A} port result outcome old new is by = told result (subst Told (sym i
     Told : Result A EnumFault → Type 0
     Told r = IfErr r (λ why. FaultBy port why old new)
 
-    told : (r : Result A EnumFault) → Told r → MatchResult r (λ done. ⊤) (λ why. FaultBy port why old new)
+    told : (r : Result A EnumFault) → Told r
+        → MatchResult r (λ done. ⊤) (λ why. FaultBy port why old new)
     told (Ok done) by = tt
     told (Err why) by = by
 
-early_after : {port : HubPort} {address : ℕ} {why : Cause} {old mid new : World} → Leads old mid → RefusedEarly port address mid new why → RefusedEarly port address old new why
-early_after {why = why} {old = old} {mid = mid} {new = new} led (answered t is b) = answered t is (because_after why t old mid new led b)
-early_after led (not_enabled n) = not_enabled (record { before = n.before; led = leads_then led n.led; status = n.status; read = n.read; off = n.off })
+early_after : {port : HubPort} {address : ℕ} {why : Cause} {old mid new : World} → Leads old mid
+    → RefusedEarly port address mid new why → RefusedEarly port address old new why
+early_after {why = why} {old = old} {mid = mid} {new = new} led (answered t is b) =
+    answered t is (because_after why t old mid new led b)
+early_after led (not_enabled n) = not_enabled
+    (record {
+      before = n.before;
+      led = leads_then led n.led;
+      status = n.status;
+      read = n.read;
+      off = n.off;
+    })
 
-pub at_after : (stop : Stop) (port : HubPort) (address : ℕ) (old mid new : World) → Leads old mid → CauseAllowedAt port address stop mid new → CauseAllowedAt port address stop old new
+pub at_after : (stop : Stop) (port : HubPort) (address : ℕ) (old mid new : World) → Leads old mid
+    → CauseAllowedAt port address stop mid new → CauseAllowedAt port address stop old new
 at_after (Refused why) port address old mid new led told = early_after led told
 at_after (Fault why) port address old mid new led told = fault_after port why old mid new led told
 
 -- of the device at the port
-pub stop_told_at : (stop : Stop) (port : HubPort) (address : ℕ) (t : Target) (old new : World) → IsSpokenTo port address t → CauseAllowed t stop old new → CauseAllowedAt port address stop old new
+pub stop_told_at : (stop : Stop) (port : HubPort) (address : ℕ) (t : Target) (old new : World)
+    → IsSpokenTo port address t → CauseAllowed t stop old new
+    → CauseAllowedAt port address stop old new
 stop_told_at (Refused why) port address t old new is told = answered t is told
 stop_told_at (Fault why) port address t old new is told = fault_told_by port why old new told
 
-pub silent_after : {port : HubPort} {address : ℕ} {old mid new : World} → Leads old mid → NoAnswerTold port address mid new → NoAnswerTold port address old new
-silent_after led told = record { target = told.target; is = told.is; failed = failing_after led told.failed }
+pub silent_after : {port : HubPort} {address : ℕ} {old mid new : World} → Leads old mid
+    → NoAnswerTold port address mid new → NoAnswerTold port address old new
+silent_after led told = record {
+  target = told.target;
+  is = told.is;
+  failed =
+      failing_after led told.failed;
+}
 
-early_plain : {port : HubPort} {address : ℕ} {old new : World} (why : Cause) → RefusedEarly port address old new why → IsPlain why
+early_plain : {port : HubPort} {address : ℕ} {old new : World} (why : Cause)
+    → RefusedEarly port address old new why → IsPlain why
 early_plain {old = old} {new = new} why (answered t is b) = because_plain why t old new b
 early_plain why (not_enabled n) = tt
 
-pub told_in : (tier : ℕ) (stop : Stop) (port : HubPort) (address : ℕ) (old new : World) → CauseAllowedAt port address stop old new → CauseAllowedIn port tier stop new
+pub told_in : (tier : ℕ) (stop : Stop) (port : HubPort) (address : ℕ) (old new : World)
+    → CauseAllowedAt port address stop old new → CauseAllowedIn port tier stop new
 told_in tier (Refused why) port address old new told = plain_fits tier why (early_plain why told)
 told_in tier (Fault why) port address old new told = fault_by port why old new told
 
-pub told_without : (stop : Stop) (port : HubPort) (address : ℕ) (old new : World) → CauseAllowedAt port address stop old new → CauseAllowedWithout port stop new
+pub told_without : (stop : Stop) (port : HubPort) (address : ℕ) (old new : World)
+    → CauseAllowedAt port address stop old new → CauseAllowedWithout port stop new
 told_without (Refused why) port address old new told = inr (early_plain why told)
 told_without (Fault why) port address old new told = fault_by port why old new told

@@ -1,5 +1,8 @@
 -- Why an enumeration stops, where all is fair.
-use Rattle.std.proofs.Common.{◌≡◌, ◌⊎◌, inl, inr, ◌+◌, ◌≤◌, ◌&&◌, ◌||◌, not, max, ℕ, zero, suc, Bool, true, false, if◌then◌else◌, List, [], ◌∷◌, ◌++◌, length, take, Option, None, Some, option_map, Result, Ok, Err, is_ok, refl, ap, sym, subst, ◌∙◌, arith}
+use Rattle.std.proofs.Common.{◌≡◌, ◌⊎◌, inl, inr, ◌+◌, ◌≤◌, ◌&&◌, ◌||◌, not, max, ℕ, zero, suc}
+use Rattle.std.proofs.Common.{Bool, true, false, if◌then◌else◌, List, [], ◌∷◌, ◌++◌, length, take}
+use Rattle.std.proofs.Common.{Option, None, Some, option_map, Result, Ok, Err, is_ok, refl, ap, sym}
+use Rattle.std.proofs.Common.{subst, ◌∙◌, arith}
 use Rattle.std.specs.Option.{option_or}
 use Rattle.std.specs.Prelude.{unwrap_or}
 use Rattle.std.proofs.lemmas.Bool.{eq-eqb}
@@ -13,7 +16,8 @@ use Rattle.usb_port.specs.declared.call.PortCall.TheVariants.{SetReset}
 use Rattle.usb_port.specs.Calls.{set_call, clear_call, called_port}
 use Rattle.usb_device.specs.Rows.{State}
 use Rattle.usb_device.specs.Spec.{Spec, IsSpec}
-use Rattle.usb_device.specs.Tree.{Ports, ended, vacant, taken, reach, state_at, port_at, Location, path_to, reach_on, state_on}
+use Rattle.usb_device.specs.Tree.{Ports, ended, vacant, taken, reach, state_at, port_at, Location}
+use Rattle.usb_device.specs.Tree.{path_to, reach_on, state_on}
 use Rattle.usb_device.specs.View.{state_there, port_there}
 use Rattle.usb_world.specs.Addresses.{after_taking}
 use Rattle.usb_world.specs.Devices.{Relation, Was, EachWas}
@@ -52,17 +56,21 @@ use Rattle.usb_enum.specs.declared.stop.Stop.TheVariants.{Refused, Fault}
 use Rattle.usb_enum.specs.Addresses.{IsSpare, AtPort}
 use Rattle.usb_enum.specs.Calls.{CalledAt, SettlesReset, StatusAt}
 use Rattle.usb_enum.specs.Device.{IsUnaddressed, needs_pre}
-use Rattle.usb_enum.specs.FairEnumerations.{IsFairAt, PendingOr, StopsFor, StopsFairly, Missed, Misses}
+use Rattle.usb_enum.specs.FairEnumerations.{IsFairAt, PendingOr, StopsFor, StopsFairly, Missed}
+use Rattle.usb_enum.specs.FairEnumerations.{Misses}
 use Rattle.usb_enum.specs.Frames.{OnlyAsks}
 use Rattle.usb_enum.specs.LearnedFacts.{Hears, Explained, FailureReason}
 use Rattle.usb_enum.specs.Losses.{NoNewStretch}
 use Rattle.usb_enum.specs.Places.{IsOccupied, IsReachedAt}
 use Rattle.usb_enum.specs.PresentDevices.{AtPath, HasHead, AwaitsAddress, Awaits, WasReset}
-use Rattle.usb_enum.specs.Refusals.{IsResponsive, IsRefusedFor, Refuses, no_fault, head_fault, early_fault, address_fault, device_fault, addressed_fault, NoDescriptor, RefusesDescriptor}
+use Rattle.usb_enum.specs.Refusals.{IsResponsive, IsRefusedFor, Refuses, no_fault, head_fault}
+use Rattle.usb_enum.specs.Refusals.{early_fault, address_fault, device_fault, addressed_fault}
+use Rattle.usb_enum.specs.Refusals.{NoDescriptor, RefusesDescriptor}
 use Rattle.usb_enum.specs.Stop.{stop_of, answered_or, StopFaults}
 use Rattle.usb_enum.proofs.courses.Courses.{regular_order, went_course, went_sound}
 use Rattle.usb_enum.proofs.devices.Enumerations.{having, at_taking, within_kept}
-use Rattle.usb_enum.proofs.courses.Fairness.{fair_before, fair_then, fair_single, faults_for_told, pends_reached, state_there-port, held_spare}
+use Rattle.usb_enum.proofs.courses.Fairness.{fair_before, fair_then, fair_single, faults_for_told}
+use Rattle.usb_enum.proofs.courses.Fairness.{pends_reached, state_there-port, held_spare}
 use Rattle.usb_enum.proofs.devices.Frames.{called_is, ends_without_fault as ended_call}
 use Rattle.usb_enum.proofs.readings.Heads.{head_packet}
 use Rattle.usb_enum.proofs.courses.Losses.{course_later}
@@ -73,7 +81,8 @@ use Rattle.usb_enum.proofs.refusals.Refusals.{answered_err, each_joint}
 
 -- A reset enables the port of a device
 
-live_powered : (k : Ports) (j : ℕ) (p : List ℕ) (b : PortState) → has_power_at k j p ≡ true → port_at k j p ≡ Some b → b.power ≡ true
+live_powered : (k : Ports) (j : ℕ) (p : List ℕ) (b : PortState) → has_power_at k j p ≡ true
+    → port_at k j p ≡ Some b → b.power ≡ true
 unfolding has_power_at port_at
 live_powered ended j p b on at = false_true on
 live_powered (vacant c k) zero [] b on at = ap (λ x. x.power) (sym (same_Some c b at)) ∙ on
@@ -81,73 +90,101 @@ live_powered (vacant c k) zero (n ∷ p) b on at = false_true on
 live_powered (vacant c k) (suc j) p b on at = live_powered k j p b on at
 live_powered (taken c s a k) zero [] b on at = ap (λ x. x.power) (sym (same_Some c b at)) ∙ on
 live_powered (taken c s a k) zero (zero ∷ p) b on at = false_true on
-live_powered (taken c s a k) zero (suc i ∷ p) b on at = live_powered a i p b (both c.power (has_power_at a i p) on).1 at
+live_powered (taken c s a k) zero (suc i ∷ p) b on at =
+    live_powered a i p b (both c.power (has_power_at a i p) on).1 at
 live_powered (taken c s a k) (suc j) p b on at = live_powered k j p b on at
 
-sane_attached : (k : Ports) (j : ℕ) (p : List ℕ) (b : PortState) (s : State) → Consistent k → port_at k j p ≡ Some b → state_at k j p ≡ Some s → b.attached ≡ speed_of s.spec.low
+sane_attached : (k : Ports) (j : ℕ) (p : List ℕ) (b : PortState) (s : State) → Consistent k
+    → port_at k j p ≡ Some b → state_at k j p ≡ Some s → b.attached ≡ speed_of s.spec.low
 unfolding Consistent port_at state_at
 sane_attached ended j p b s sane at there = absurd cc
 sane_attached (vacant c k) zero p b s sane at there = absurd cc
 sane_attached (vacant c k) (suc j) p b s sane at there = sane_attached k j p b s sane.2 at there
-sane_attached (taken c z a k) zero [] b s sane at there = ap (λ x. x.attached) (sym (same_Some c b at)) ∙ sane.1 ∙ ap (λ x. speed_of x.spec.low) (same_Some z s there)
+sane_attached (taken c z a k) zero [] b s sane at there =
+    ap (λ x. x.attached) (sym (same_Some c b at)) ∙ sane.1
+    ∙ ap (λ x. speed_of x.spec.low) (same_Some z s there)
 sane_attached (taken c z a k) zero (zero ∷ p) b s sane at there = absurd cc
-sane_attached (taken c z a k) zero (suc i ∷ p) b s sane at there = sane_attached a i p b s sane.2 at there
+sane_attached (taken c z a k) zero (suc i ∷ p) b s sane at there =
+    sane_attached a i p b s sane.2 at there
 sane_attached (taken c z a k) (suc j) p b s sane at there = sane_attached k j p b s sane.3 at there
 
-reset_enables : (k : Ports) (p : List ℕ) (b : PortState) (s : State) → Consistent k → has_power k p ≡ true → port_there k p ≡ Some b → state_there k p ≡ Some s → (reset b).enable ≡ true
+reset_enables : (k : Ports) (p : List ℕ) (b : PortState) (s : State) → Consistent k
+    → has_power k p ≡ true → port_there k p ≡ Some b → state_there k p ≡ Some s
+    → (reset b).enable ≡ true
 reset_enables k [] b s sane on at there = false_true on
 reset_enables k (zero ∷ p) b s sane on at there = false_true on
 reset_enables k (suc j ∷ p) b s sane on at there =
     let power = live_powered k j p b on at in
-    let attached = ap is_attached (sane_attached k j p b s sane at there) ∙ speed_attached s.spec.low in
+    let attached = ap is_attached (sane_attached k j p b s sane at there)
+    ∙ speed_attached s.spec.low in
     rw (power, attached) refl
 
-pub reset_lost : (port : HubPort) (address m n : ℕ) (status : PortStatus) {old set told : World} {a b c d : Option (List ℕ)} → StepRun m old a set b → StepRun n set c told d → AtPort port address old set → OnlyAsks set told
-    → CalledAt port (set_call PORT_RESET) old (Ok tt) set → StatusAt port set (Ok status) told → status.enabled ≡ false → StopsFairly no_fault port address (Refused Lost) old told
-reset_lost port address m n status {old} {set} {told} first second at_set asks called shown off = record { why = λ f p fair held. inl (pends f p fair) }
+pub reset_lost : (port : HubPort) (address m n : ℕ) (status : PortStatus) {old set told : World}
+    {a b c d : Option (List ℕ)} → StepRun m old a set b → StepRun n set c told d
+    → AtPort port address old set → OnlyAsks set told
+    → CalledAt port (set_call PORT_RESET) old (Ok tt) set → StatusAt port set (Ok status) told
+    → status.enabled ≡ false → StopsFairly no_fault port address (Refused Lost) old told
+reset_lost port address m n status {old} {set} {told} first second at_set asks called shown off =
+    record { why = λ f p fair held. inl (pends f p fair) }
   where
-    pends : (f : AddressMap) (p : List ℕ) → IsFairAt f port p address old told → pending told.roots p ≡ true
+    pends : (f : AddressMap) (p : List ℕ) → IsFairAt f port p address old told
+        → pending told.roots p ≡ true
     pends f p fair = by_old fair.occupied
       where
         none_set : set.fault ≡ None
         none_set = went_sound n set told second fair.working
 
         later : pending set.roots p ≡ true → pending told.roots p ≡ true
-        later h = pending_persists p (course_wider (λ s w k. k.spares) (asks.ports fair.working p)) h
+        later h = pending_persists p (course_wider (λ s w k. k.spares) (asks.ports fair.working p))
+            h
 
         done : PortCallDone p SetReset old set
         done =
             let h = having f p address old fair.held in
-            called.calls.done (after_taking f p h.has) p SetReset (called_is f port p address old fair.spare h (set_call PORT_RESET) SetReset refl) (done_at called.outcome tt called.told)
+            called.calls.done (after_taking f p h.has) p SetReset
+            (called_is f port p address old fair.spare h (set_call PORT_RESET) SetReset refl)
+            (done_at called.outcome tt called.told)
 
         seen_at : PortStatusAt p status set told
         seen_at =
             let h = having f p address set (at_set.within.stays f p fair.spare fair.held) in
-            shown.tells.tells (after_taking f p h.has) p (at_taking f port p h.has fair.spare.at) h.owned status (done_at shown.outcome status shown.told)
+            shown.tells.tells (after_taking f p h.has) p (at_taking f port p h.has fair.spare.at)
+            h.owned status (done_at shown.outcome status shown.told)
 
-        by_rest : (b : PortState) → b.enable ≡ true → port_there set.roots p ≡ Some b → UnchangedOrPending set seen_at.now p → pending told.roots p ≡ true
-        by_rest b on there (inr h) = pending_persists p (course_wider (λ s w k. k.spares) (seen_at.since p)) h
+        by_rest : (b : PortState) → b.enable ≡ true → port_there set.roots p ≡ Some b
+            → UnchangedOrPending set seen_at.now p → pending told.roots p ≡ true
+        by_rest b on there (inr h) = pending_persists p
+            (course_wider (λ s w k. k.spares) (seen_at.since p)) h
         by_rest b on there (inl y) =
             let same = same_Some b seen_at.port (sym there ∙ sym y.1.port ∙ seen_at.stood) in
-            false_true (sym off ∙ ap (λ x. x.enabled) seen_at.is ∙ ap (λ x. x.enable) (sym same) ∙ on)
+            false_true (sym off ∙ ap (λ x. x.enabled) seen_at.is ∙ ap (λ x. x.enable) (sym same)
+            ∙ on)
 
-        by_set : has_power old.roots p ≡ true → (s : State) → state_there old.roots p ≡ Some s → (b : PortState) → port_there old.roots p ≡ Some b → StandsSo p SetReset (Called p SetReset) old set → pending told.roots p ≡ true
+        by_set : has_power old.roots p ≡ true → (s : State) → state_there old.roots p ≡ Some s
+            → (b : PortState) → port_there old.roots p ≡ Some b
+            → StandsSo p SetReset (Called p SetReset) old set → pending told.roots p ≡ true
         by_set on s there b at (inr h) = later h
         by_set on s there b at (inl y) =
-            by_rest (reset b) (reset_enables old.roots p b s (fair.order (went_sound m old set first none_set)).sane on at there) (y.1 ∙ ap (option_map (called_port SetReset)) at)
+            by_rest (reset b) (reset_enables old.roots p b s
+            (fair.order (went_sound m old set first none_set)).sane on at there) (y.1
+            ∙ ap (option_map (called_port SetReset)) at)
             (rests_or_pends p (seen_at.before p) y.0)
 
         by_old : IsOccupied old p → pending told.roots p ≡ true
-        by_old (inl h) = later (pending_persists p (at_set.only.at f p fair.spare fair.held none_set).spares h)
+        by_old (inl h) = later (pending_persists p
+            (at_set.only.at f p fair.spare fair.held none_set).spares h)
         by_old (inr is) =
             let s = is_some-state (state_there old.roots p) is.1 in
             let b = state_there-port old.roots p is.1 in
             by_set is.0 s.0 s.1 b.0 b.1 (done_stands p SetReset refl old set done is.0)
 
-pub settle_failed : (port : HubPort) (changed : Bool) (why : EnumFault) (old new : World) → SettlesReset port changed old (Err why) new → CalledAt port (clear_call C_PORT_RESET) old (Err why) new
+pub settle_failed : (port : HubPort) (changed : Bool) (why : EnumFault) (old new : World)
+    → SettlesReset port changed old (Err why) new
+    → CalledAt port (clear_call C_PORT_RESET) old (Err why) new
 settle_failed port changed why old new settles = pick (decided changed)
   where
-    pick : (changed ≡ true) ⊎ (changed ≡ false) → CalledAt port (clear_call C_PORT_RESET) old (Err why) new
+    pick : (changed ≡ true) ⊎ (changed ≡ false)
+        → CalledAt port (clear_call C_PORT_RESET) old (Err why) new
     pick (inl e) = settles.set e
     pick (inr e) = let done = (settles.unset e).0 in absurd cc
 
@@ -155,12 +192,17 @@ pub unfalse : (b : Bool) → not b ≡ false → b ≡ true
 unfalse true h = refl
 unfalse false h = false_true (sym h)
 
-pub reset_goes : (port : HubPort) (l m n : ℕ) (status : PortStatus) (old set : World) {told new : World} {a b c d e h : Option (List ℕ)} → StepRun l old a set b → StepRun m set c told d → StepRun n told e new h
-    → CalledAt port (set_call PORT_RESET) old (Ok tt) set → StatusAt port set (Ok status) told → SettlesReset port status.reset_changed told (Ok tt) new → new.fault ≡ None → NoNewStretch old new
+pub reset_goes : (port : HubPort) (l m n : ℕ) (status : PortStatus) (old set : World)
+    {told new : World} {a b c d e h : Option (List ℕ)} → StepRun l old a set b
+    → StepRun m set c told d → StepRun n told e new h
+    → CalledAt port (set_call PORT_RESET) old (Ok tt) set → StatusAt port set (Ok status) told
+    → SettlesReset port status.reset_changed told (Ok tt) new → new.fault ≡ None
+    → NoNewStretch old new
 reset_goes port l m n status old set {told} {new} first second third called shown settles none =
     let none_told = went_sound n told new third none in
     let none_set = went_sound m set told second none_told in
-    no_stretch_then old set new (called.goes none_set) (no_stretch_then set told new (shown.goes none_told) (pick (decided status.reset_changed)))
+    no_stretch_then old set new (called.goes none_set)
+    (no_stretch_then set told new (shown.goes none_told) (pick (decided status.reset_changed)))
   where
     pick : (status.reset_changed ≡ true) ⊎ (status.reset_changed ≡ false) → NoNewStretch told new
     pick (inl e) = (settles.set e).goes none
@@ -175,23 +217,29 @@ deep_end (m ∷ q) n = refl
 tail_same : (m n : ℕ) (p q : List ℕ) → m ∷ p ≡ n ∷ q → p ≡ q
 tail_same m n p q e = cc
 
-port_deep : (f : AddressMap) (port : HubPort) (j : Location) → IsAt f port (path_to j) → deep_at false j.rest ≡ needs_pre port
+port_deep : (f : AddressMap) (port : HubPort) (j : Location) → IsAt f port (path_to j)
+    → deep_at false j.rest ≡ needs_pre port
 port_deep f (Root n) j at = ap (deep_at false) (tail_same (suc j.row) n j.rest [] at)
 port_deep f (External hub n) j at = by_hub at.hub at.is_path.0 at.path
   where
     by_hub : (q : List ℕ) → 1 ≤ length q → path_to j ≡ q ++ (n ∷ []) → deep_at false j.rest ≡ true
     by_hub [] some is = absurd (omega (arith, some))
-    by_hub (m ∷ q) some is = ap (deep_at false) (tail_same (suc j.row) m j.rest (q ++ (n ∷ [])) is) ∙ deep_end q n
+    by_hub (m ∷ q) some is = ap (deep_at false) (tail_same (suc j.row) m j.rest (q ++ (n ∷ [])) is)
+        ∙ deep_end q n
 
-speed_hears : (low own pre deep : Bool) → own ≡ low → pre ≡ (low && deep) → (if low then own && (not deep || pre) else not own) ≡ true
+speed_hears : (low own pre deep : Bool) → own ≡ low → pre ≡ (low && deep)
+    → (if low then own && (not deep || pre) else not own) ≡ true
 speed_hears true own pre true same is = rw (same, is) refl
 speed_hears true own pre false same is = rw same refl
 speed_hears false own pre deep same is = rw same refl
 
-hears_there : (f : AddressMap) (port : HubPort) (j : Location) (t : Target) (s : State) → IsAt f port (path_to j) → t.pre ≡ (t.low && needs_pre port) → s.spec.low ≡ t.low → address_of s ≡ t.addr → Hears t j s
+hears_there : (f : AddressMap) (port : HubPort) (j : Location) (t : Target) (s : State)
+    → IsAt f port (path_to j) → t.pre ≡ (t.low && needs_pre port) → s.spec.low ≡ t.low
+    → address_of s ≡ t.addr → Hears t j s
 hears_there f port j t s at pre low address = record {
   at = eq-eqb (address_of s) t.addr address;
-  hears = speed_hears t.low s.spec.low t.pre (deep_at false j.rest) low (pre ∙ ap (λ b. t.low && b) (sym (port_deep f port j at)));
+  hears = speed_hears t.low s.spec.low t.pre (deep_at false j.rest) low (pre
+      ∙ ap (λ b. t.low && b) (sym (port_deep f port j at)));
 }
 
 -- it has the target's speed and address, and this is so of its description
@@ -209,30 +257,47 @@ pub record StoodAt (p : List ℕ) (w : World) (R : Location → State → Type 0
   pub stands : state_on w.roots spot ≡ Some before
   pub so : R spot before
 
-pub stood_at : (R : Relation) (p : List ℕ) (old new : World) → EachWas R old new → (v : State) → reach new.roots p ≡ true → state_there new.roots p ≡ Some v → StoodAt p old (λ j s. R j s v)
+pub stood_at : (R : Relation) (p : List ℕ) (old new : World) → EachWas R old new → (v : State)
+    → reach new.roots p ≡ true → state_there new.roots p ≡ Some v → StoodAt p old (λ j s. R j s v)
 stood_at R [] old new was v on there = false_true on
 stood_at R (zero ∷ p) old new was v on there = false_true on
 stood_at R (suc j ∷ e) old new was v on there =
-    let w : Was R old (record { row = j; rest = e }) v = was (record { row = j; rest = e }) v on there in
-    record { spot = record { row = j; rest = e }; path = refl; before = w.before; on = w.on; stands = w.stands; so = w.so }
+    let w : Was R old (record { row = j; rest = e }) v =
+    was (record { row = j; rest = e }) v on there in
+    record {
+      spot = record { row = j; rest = e };
+      path = refl;
+      before = w.before;
+      on = w.on;
+      stands = w.stands;
+      so = w.so;
+    }
 
 -- what is so of its place is so of its path
-at_place : (A : State → Type 0) (p : List ℕ) (w : World) (R : Location → State → Type 0) → AtPath A p w → (s : StoodAt p w R) → A s.before
+at_place : (A : State → Type 0) (p : List ℕ) (w : World) (R : Location → State → Type 0)
+    → AtPath A p w → (s : StoodAt p w R) → A s.before
 at_place A p w R is s = subst (λ x. AtPath A x w) s.path is s.before s.on s.stands
 
-pub explained_at : (So A : Spec → Type 0) (t : Target) (f : AddressMap) (port : HubPort) (p : List ℕ) (mid new : World) → IsAt f port p → t.pre ≡ (t.low && needs_pre port) → NoThreeDamaged mid → new.shared ≡ false → Consistent mid.roots → FailureReason So t mid new
+pub explained_at : (So A : Spec → Type 0) (t : Target) (f : AddressMap) (port : HubPort)
+    (p : List ℕ) (mid new : World) → IsAt f port p → t.pre ≡ (t.low && needs_pre port)
+    → NoThreeDamaged mid → new.shared ≡ false → Consistent mid.roots → FailureReason So t mid new
     → AtPath (IsTargeted A t) p mid → AtPath (λ s. So s.spec × A s.spec) p new
 explained_at So A t f port p mid new at pre three single sane explains is v on there =
-    let s : StoodAt p mid (λ j s. Explained Hears So t j s v) = stood_at (Explained Hears So t) p mid new (explains three single) v on there in
+    let s : StoodAt p mid (λ j s. Explained Hears So t j s v) =
+    stood_at (Explained Hears So t) p mid new (explains three single) v on there in
     let has = at_place (IsTargeted A t) p mid (λ j s. Explained Hears So t j s v) is s in (
-      subst So (sym s.so.spec) (s.so.so (hears_there f port s.spot t s.before (subst (IsAt f port) s.path at) pre has.low has.address) (sane_spec mid.roots s.spot.row s.spot.rest s.before sane s.stands)),
+      subst So (sym s.so.spec) (s.so.so (hears_there f port s.spot t s.before
+          (subst (IsAt f port) s.path at) pre has.low has.address)
+          (sane_spec mid.roots s.spot.row s.spot.rest s.before sane s.stands)),
       subst A (sym s.so.spec) has.so,
     )
 
 -- The device that awaits its address has address 0
 
-zero_held : (f : AddressMap) (p : List ℕ) (w : World) → w.fault ≡ None → WhileBusWorks (Enumerating f p 0) w → AtPath (λ s. address_of s ≡ 0) p w
-zero_held f p w none t s on there = let e = t.so none in held_at f p e.has w e.owned s on there ∙ pick e.is
+zero_held : (f : AddressMap) (p : List ℕ) (w : World) → w.fault ≡ None
+    → WhileBusWorks (Enumerating f p 0) w → AtPath (λ s. address_of s ≡ 0) p w
+zero_held f p w none t s on there = let e = t.so none in held_at f p e.has w e.owned s on there
+    ∙ pick e.is
   where
     pick : {n : ℕ} → (n ≡ 0) ⊎ (n ≡ 0) → n ≡ 0
     pick (inl e) = e
@@ -240,71 +305,115 @@ zero_held f p w none t s on there = let e = t.so none in held_at f p e.has w e.o
 
 -- Its head
 
-pub head_stops : (port : HubPort) (address m n : ℕ) (low pre : Bool) (stop : Stop) {old mid new : World} {a b c d : Option (List ℕ)} → StepRun m old a mid b → StepRun n mid c new d → AtPort port address old mid → AtPort port 0 old mid → OnlyAsks mid new
+pub head_stops : (port : HubPort) (address m n : ℕ) (low pre : Bool) (stop : Stop)
+    {old mid new : World} {a b c d : Option (List ℕ)} → StepRun m old a mid b
+    → StepRun n mid c new d → AtPort port address old mid → AtPort port 0 old mid → OnlyAsks mid new
     → WasReset low port 0 old mid → pre ≡ (low && needs_pre port) → StopFaults stop new
-    → (let t : Target = record { addr = 0; max = 8; low = low; pre = pre } in FailureReason (IsRefusedFor (head_fault low) stop) t mid new) → StopsFairly early_fault port address stop old new
-head_stops port address m n low pre (Fault why) first second at at_zero asks was is told explains = record { why = λ f p fair. faults_for_told p why _ told }
-head_stops port address m n low pre (Refused cause) {old} {mid} {new} first second at at_zero asks was is told explains = record { why = why }
+    → (let t : Target = record { addr = 0; max = 8; low = low; pre = pre } in
+    FailureReason (IsRefusedFor (head_fault low) stop) t mid new)
+    → StopsFairly early_fault port address stop old new
+head_stops port address m n low pre (Fault why) first second at at_zero asks was is told explains =
+    record { why = λ f p fair. faults_for_told p why _ told }
+head_stops port address m n low pre (Refused cause) {old} {mid} {new} first second at at_zero asks
+    was is told explains = record { why = why }
   where
     t : Target
     t = record { addr = 0; max = 8; low = low; pre = pre }
 
-    why : (f : AddressMap) (p : List ℕ) → IsFairAt f port p address old new → WhileBusWorks (Enumerating f p 0) old → PendingOr (λ spec. early_fault spec ≡ Some cause) p new
+    why : (f : AddressMap) (p : List ℕ) → IsFairAt f port p address old new
+        → WhileBusWorks (Enumerating f p 0) old
+        → PendingOr (λ spec. early_fault spec ≡ Some cause) p new
     why f p fair held =
         let spare = held_spare f port p address fair.spare in
         let sound = went_sound n mid new second fair.working in
         let here = fair_then f port p address m n first second fair at in
         let zero = zero_held f p mid sound (at_zero.within.stays f p spare held) in
         let speed = (was.speed sound).found f p spare held (regular_order fair.order) in
-        let single = ((within_kept port address mid new asks.addresses).stays f p fair.spare here.held).single in
+        let single = ((within_kept port address mid new asks.addresses).stays f p fair.spare
+        here.held).single in
         pends_reached (λ spec. early_fault spec ≡ Some cause) p new
-        (reached_on p (asks.ports fair.working p) (was.reaches.reached f p spare held fair.order fair.occupied sound))
+        (reached_on p (asks.ports fair.working p)
+        (was.reaches.reached f p spare held fair.order fair.occupied sound))
         (λ s on there.
-        let so = explained_at (λ spec. head_fault low spec ≡ Some cause) (λ spec. spec.low ≡ low) t f port p mid new fair.spare.at is here.few single (here.order sound).sane explains
-        (λ z up at_z. record { low = speed z up at_z; address = zero z up at_z; so = speed z up at_z }) s on there in
+        let so = explained_at (λ spec. head_fault low spec ≡ Some cause) (λ spec. spec.low ≡ low) t
+        f port p mid new fair.spare.at is here.few single (here.order sound).sane explains
+        (λ z up at_z. record {
+          low = speed z up at_z;
+          address = zero z up at_z;
+          so = speed z up at_z;
+        }) s on there in
         subst (λ x. head_fault x s.spec ≡ Some cause) (sym so.1) so.0)
 
 -- What is wrong up to the whole device descriptor
 
-pub early_none : (low : Bool) (max : ℕ) (spec : Spec) → spec.low ≡ low → HasHead low max spec → early_fault spec ≡ None
+pub early_none : (low : Bool) (max : ℕ) (spec : Spec) → spec.low ≡ low → HasHead low max spec
+    → early_fault spec ≡ None
 unfolding head_fault
 early_none low max spec same head =
-    let good : is_ok (device_head_of spec.low (take 8 spec.descriptor)) ≡ true = ap (λ b. is_ok (device_head_of b (take 8 spec.descriptor))) same ∙ ap is_ok head.head in
+    let good : is_ok (device_head_of spec.low (take 8 spec.descriptor)) ≡ true =
+    ap (λ b. is_ok (device_head_of b (take 8 spec.descriptor))) same ∙ ap is_ok head.head in
     rw (head.loud, head.free, head.device, good) refl
 
-pub addressed_early : (spec : Spec) (cause : Cause) → early_fault spec ≡ Some cause → addressed_fault spec ≡ Some cause
+pub addressed_early : (spec : Spec) (cause : Cause) → early_fault spec ≡ Some cause
+    → addressed_fault spec ≡ Some cause
 unfolding addressed_fault
-addressed_early spec cause e = ap (λ o. option_or o (option_or (address_fault spec) (device_fault spec.low spec))) e
+addressed_early spec cause e =
+    ap (λ o. option_or o (option_or (address_fault spec) (device_fault spec.low spec))) e
 
-addressed_rest : (spec : Spec) → early_fault spec ≡ None → addressed_fault spec ≡ option_or (address_fault spec) (device_fault spec.low spec)
+addressed_rest : (spec : Spec) → early_fault spec ≡ None
+    → addressed_fault spec ≡ option_or (address_fault spec) (device_fault spec.low spec)
 unfolding addressed_fault
-addressed_rest spec e = ap (λ o. option_or o (option_or (address_fault spec) (device_fault spec.low spec))) e
+addressed_rest spec e = ap (λ o. option_or o
+    (option_or (address_fault spec) (device_fault spec.low spec))) e
 
-addressed_stalled : (spec : Spec) → early_fault spec ≡ None → spec.stalls.address ≡ true → addressed_fault spec ≡ Some (Stalled request.Address)
-addressed_stalled spec e stalls = addressed_rest spec e ∙ ap (λ b. option_or (if b then Some (Stalled request.Address) else None) (device_fault spec.low spec)) stalls
+addressed_stalled : (spec : Spec) → early_fault spec ≡ None → spec.stalls.address ≡ true
+    → addressed_fault spec ≡ Some (Stalled request.Address)
+addressed_stalled spec e stalls = addressed_rest spec e
+    ∙ ap (λ b. option_or (if b then Some (Stalled request.Address) else None)
+    (device_fault spec.low spec)) stalls
 
-addressed_device : (spec : Spec) (cause : Cause) → early_fault spec ≡ None → spec.stalls.address ≡ false → device_fault spec.low spec ≡ Some cause → addressed_fault spec ≡ Some cause
-addressed_device spec cause e stalls fault = addressed_rest spec e ∙ ap (λ b. option_or (if b then Some (Stalled request.Address) else None) (device_fault spec.low spec)) stalls ∙ fault
+addressed_device : (spec : Spec) (cause : Cause) → early_fault spec ≡ None
+    → spec.stalls.address ≡ false → device_fault spec.low spec ≡ Some cause
+    → addressed_fault spec ≡ Some cause
+addressed_device spec cause e stalls fault = addressed_rest spec e
+    ∙ ap (λ b. option_or (if b then Some (Stalled request.Address) else None)
+    (device_fault spec.low spec)) stalls ∙ fault
 
 -- SET_ADDRESS
 
 -- of a device that awaits its address, at the end of the call
-module _ (port : HubPort) (address m n : ℕ) (target : Target) (outcome : Result (Unit {0}) PipeFault) {old mid new : World} {a b c d : Option (List ℕ)} (first : StepRun m old a mid b) (second : StepRun n mid c new d)
-    (at : AtPort port address old mid) (at_zero : AtPort port 0 old mid) (at_new : AtPort port address old new) (is : IsUnaddressed port target) (awaits : Awaits target port 0 old mid) (ordered : Commanded target (set_address address) mid outcome new) where
-  pub address_reached : (f : AddressMap) (p : List ℕ) → IsFairAt f port p address old new → WhileBusWorks (Enumerating f p 0) old → IsReachedAt new p
+module _ (port : HubPort) (address m n : ℕ) (target : Target)
+    (outcome : Result (Unit {0}) PipeFault) {old mid new : World} {a b c d : Option (List ℕ)}
+    (first : StepRun m old a mid b) (second : StepRun n mid c new d)
+    (at : AtPort port address old mid) (at_zero : AtPort port 0 old mid)
+    (at_new : AtPort port address old new) (is : IsUnaddressed port target)
+    (awaits : Awaits target port 0 old mid) (ordered : Commanded target (set_address address)
+    mid outcome new) where
+  pub address_reached : (f : AddressMap) (p : List ℕ) → IsFairAt f port p address old new
+      → WhileBusWorks (Enumerating f p 0) old → IsReachedAt new p
   unfolding set_address
   address_reached f p fair held =
       reached_on p (ordered.rests refl (ended_call 2 outcome mid new ordered.ends fair.working) p)
-      (awaits.reaches.reached f p (held_spare f port p address fair.spare) held fair.order fair.occupied (went_sound n mid new second fair.working))
+      (awaits.reaches.reached f p (held_spare f port p address fair.spare) held fair.order
+      fair.occupied (went_sound n mid new second fair.working))
 
-  module _ (what : new.shared ≡ false → EachWas (AddressAsked target address outcome mid new) mid new) (why : NoThreeDamaged mid → new.shared ≡ false → EachWas (WriteFailure target outcome) mid new) where
+  module _ (what : new.shared ≡ false → EachWas (AddressAsked target address outcome mid new) mid
+      new) (why : NoThreeDamaged mid → new.shared ≡ false
+      → EachWas (WriteFailure target outcome) mid new) where
     abbrev Both : Relation
-    Both j s v = AddressAsked target address outcome mid new j s v × WriteFailure target outcome j s v
+    Both j s v = AddressAsked target address outcome mid new j s v
+        × WriteFailure target outcome j s v
 
-    address_refused : (f : AddressMap) (p : List ℕ) → IsFairAt f port p address old new → (cause : Cause)
-        → ((j : Location) (s v : State) → Both j s v → Listens target j s → IsSpec s.spec → AwaitsAddress target s → addressed_fault s.spec ≡ Some cause) → WhileBusWorks (Enumerating f p 0) old
+    address_refused : (f : AddressMap) (p : List ℕ) → IsFairAt f port p address old new
+        → (cause : Cause)
+        → ((j : Location) (s v : State) → Both j s v → Listens target j s → IsSpec s.spec
+        → AwaitsAddress target s → addressed_fault s.spec ≡ Some cause)
+        → WhileBusWorks (Enumerating f p 0) old
         → PendingOr (λ spec. addressed_fault spec ≡ Some cause) p new
-    address_refused f p fair cause so held = pends_reached (λ spec. addressed_fault spec ≡ Some cause) p new (address_reached f p fair held) (λ v on there. at_state v (stood_at Both p mid new each v on there))
+    address_refused f p fair cause so held =
+        pends_reached (λ spec. addressed_fault spec ≡ Some cause) p new
+        (address_reached f p fair held) (λ v on there. at_state v
+        (stood_at Both p mid new each v on there))
       where
         sound : mid.fault ≡ None
         sound = went_sound n mid new second fair.working
@@ -316,37 +425,71 @@ module _ (port : HubPort) (address m n : ℕ) (target : Target) (outcome : Resul
         single = fair_single f port p address fair at_new
 
         each : EachWas Both mid new
-        each = each_joint (AddressAsked target address outcome mid new) (WriteFailure target outcome) Both (λ j s v x y. (x, y)) mid new (what single) (why here.few single)
+        each = each_joint (AddressAsked target address outcome mid new)
+            (WriteFailure target outcome) Both (λ j s v x y. (x, y)) mid new (what single)
+            (why here.few single)
 
-        at_state : (v : State) → StoodAt p mid (λ j s. Both j s v) → addressed_fault v.spec ≡ Some cause
+        at_state : (v : State) → StoodAt p mid (λ j s. Both j s v)
+            → addressed_fault v.spec ≡ Some cause
         at_state v s =
-            let waits = at_place (AwaitsAddress target) p mid (λ j s. Both j s v) (awaits.found.found f p (held_spare f port p address fair.spare) held (regular_order fair.order)) s in
-            let heard = hears_there f port s.spot target s.before (subst (IsAt f port) s.path fair.spare.at) is.pre waits.low (waits.zero ∙ sym is.zero) in
+            let waits = at_place (AwaitsAddress target) p mid (λ j s. Both j s v)
+            (awaits.found.found f p (held_spare f port p address fair.spare) held
+            (regular_order fair.order)) s in
+            let heard = hears_there f port s.spot target s.before
+            (subst (IsAt f port) s.path fair.spare.at) is.pre waits.low (waits.zero
+            ∙ sym is.zero) in
             subst (λ x. addressed_fault x ≡ Some cause) (sym (ap (λ y. y.spec) s.so.0.frame))
-            (so s.spot s.before v s.so (record { at = heard.at; loud = waits.head.loud; hears = heard.hears }) (sane_spec mid.roots s.spot.row s.spot.rest s.before (here.order sound).sane s.stands) waits)
+            (so s.spot s.before v s.so (record {
+              at = heard.at;
+              loud = waits.head.loud;
+              hears =
+                  heard.hears;
+            }) (sane_spec mid.roots s.spot.row s.spot.rest s.before
+            (here.order sound).sane s.stands) waits)
 
-    pub address_stops : (stop : Stop) → answered_or (Stalled request.Address) outcome ≡ Err stop → StopsFairly addressed_fault port address stop old new
-    address_stops stop told = record { why = λ f p fair. let failed = answered_err (Stalled request.Address) outcome stop told in subst (λ x. StopsFor addressed_fault f p old x new) failed.2 (by_fault f p fair failed.0 failed.1) }
+    pub address_stops : (stop : Stop) → answered_or (Stalled request.Address) outcome ≡ Err stop
+        → StopsFairly addressed_fault port address stop old new
+    address_stops stop told = record {
+      why = λ f p fair. let failed =
+          answered_err (Stalled request.Address) outcome stop told in
+          subst (λ x. StopsFor addressed_fault f p old x new) failed.2
+          (by_fault f p fair failed.0 failed.1);
+    }
       where
-        by_fault : (f : AddressMap) (p : List ℕ) → IsFairAt f port p address old new → (fault : PipeFault) → outcome ≡ Err fault → StopsFor addressed_fault f p old (unwrap_or (stop_of fault) (Refused (Stalled request.Address))) new
+        by_fault : (f : AddressMap) (p : List ℕ) → IsFairAt f port p address old new
+            → (fault : PipeFault) → outcome ≡ Err fault
+            → StopsFor addressed_fault f p old
+            (unwrap_or (stop_of fault) (Refused (Stalled request.Address))) new
         by_fault f p fair pipe.Stalled e =
             address_refused f p fair (Stalled request.Address)
-            (λ j s v x heard ruled waits. addressed_stalled s.spec (early_none target.low target.max s.spec waits.low waits.head) (x.0.stalled heard.at e))
-        by_fault f p fair pipe.Busy e = address_refused f p fair _ (λ j s v x heard ruled waits. absurd (x.1.waited heard waits.head.free ruled.naks e))
-        by_fault f p fair pipe.NoAnswer e = address_refused f p fair _ (λ j s v x heard ruled waits. absurd (x.1.answered heard e))
-        by_fault f p fair pipe.Broken e = address_refused f p fair _ (λ j s v x heard ruled waits. absurd (subst (CanEnd s.spec) e (x.0.could heard.at)))
+            (λ j s v x heard ruled waits. addressed_stalled s.spec
+            (early_none target.low target.max s.spec waits.low waits.head)
+            (x.0.stalled heard.at e))
+        by_fault f p fair pipe.Busy e = address_refused f p fair _
+            (λ j s v x heard ruled waits. absurd (x.1.waited heard waits.head.free ruled.naks e))
+        by_fault f p fair pipe.NoAnswer e =
+            address_refused f p fair _ (λ j s v x heard ruled waits. absurd (x.1.answered heard e))
+        by_fault f p fair pipe.Broken e = address_refused f p fair _
+            (λ j s v x heard ruled waits. absurd (subst (CanEnd s.spec) e (x.0.could heard.at)))
         by_fault f p fair (pipe.Bus why) e = tt
         by_fault f p fair pipe.Memory e = tt
 
 -- The descriptor of a device that was told its address
 
-module _ (port : HubPort) (address l m n : ℕ) (target : Target) {old mid given new : World} {a b d e h : Option (List ℕ)} (first : StepRun l old a mid b) (second : StepRun m mid b given d) (third : StepRun n given e new h)
-    (at : AtPort port address old mid) (at_zero : AtPort port 0 old mid) (at_given : AtPort port address old given) (asks : OnlyAsks given new) (is : IsUnaddressed port target) (awaits : Awaits target port 0 old mid)
-    (ordered : Commanded target (set_address address) mid (Ok tt) given) (what : given.shared ≡ false → EachWas (AddressAsked target address (Ok tt) mid given) mid given) where
+module _ (port : HubPort) (address l m n : ℕ) (target : Target) {old mid given new : World}
+    {a b d e h : Option (List ℕ)} (first : StepRun l old a mid b) (second : StepRun m mid b given d)
+    (third : StepRun n given e new h)
+    (at : AtPort port address old mid) (at_zero : AtPort port 0 old mid)
+    (at_given : AtPort port address old given) (asks : OnlyAsks given new)
+    (is : IsUnaddressed port target) (awaits : Awaits target port 0 old mid)
+    (ordered : Commanded target (set_address address) mid (Ok tt) given)
+    (what : given.shared ≡ false → EachWas (AddressAsked target address (Ok tt) mid given) mid
+    given) where
   abbrev named : Target
   named = record target { addr = address }
 
-  module _ (f : AddressMap) (p : List ℕ) (fair : IsFairAt f port p address old new) (held : WhileBusWorks (Enumerating f p 0) old) where
+  module _ (f : AddressMap) (p : List ℕ) (fair : IsFairAt f port p address old new)
+      (held : WhileBusWorks (Enumerating f p 0) old) where
     sound_given : given.fault ≡ None
     sound_given = went_sound n given new third fair.working
 
@@ -354,38 +497,56 @@ module _ (port : HubPort) (address l m n : ℕ) (target : Target) {old mid given
     spare_zero = held_spare f port p address fair.spare
 
     fair_given : IsFairAt f port p address given new
-    fair_given = fair_then f port p address (l + m) n (went_then l m first second) third fair at_given
+    fair_given = fair_then f port p address (l + m) n (went_then l m first second) third fair
+        at_given
 
     single_given : given.shared ≡ false
     single_given = (at_given.within.stays f p fair.spare fair.held).single
 
     single_new : new.shared ≡ false
-    single_new = ((within_kept port address given new asks.addresses).stays f p fair.spare fair_given.held).single
+    single_new = ((within_kept port address given new asks.addresses).stays f p fair.spare
+        fair_given.held).single
 
     waiting : AtPath (AwaitsAddress target) p mid
     waiting = awaits.found.found f p spare_zero held (regular_order fair.order)
 
     granted_there : AtPath (λ s. Granted target.low target.max s.spec) p given
-    granted_there = path_on (AddressAsked target address (Ok tt) mid given) (AwaitsAddress target) (λ s. Granted target.low target.max s.spec) (granted target address mid given is.zero) p mid given (what single_given) waiting
+    granted_there = path_on (AddressAsked target address (Ok tt) mid given) (AwaitsAddress target)
+        (λ s. Granted target.low target.max s.spec) (granted target address mid given is.zero) p mid
+        given (what single_given) waiting
 
     named_reached : IsReachedAt new p
     named_reached =
         reached_on p (asks.ports fair.working p)
-        (address_reached port address l m target (Ok tt) first second at at_zero at_given is awaits ordered f p (fair_before f port p address (l + m) n (went_then l m first second) third fair) held)
+        (address_reached port address l m target (Ok tt) first second at at_zero at_given is awaits
+        ordered f p (fair_before f port p address (l + m) n (went_then l m first second) third
+        fair) held)
 
     responsive : (spec : Spec) → Granted target.low target.max spec → IsResponsive named spec
-    responsive spec g = record { loud = g.head.loud; free = g.head.free; max = head_packet spec target.low target.max g.speed g.head }
+    responsive spec g = record {
+      loud = g.head.loud;
+      free = g.head.free;
+      max = head_packet spec target.low target.max g.speed g.head;
+    }
 
-  descriptor_refused_for : (cause : Cause) → RefusesDescriptor named (Refused cause) given new → (f : AddressMap) (p : List ℕ) → IsFairAt f port p address old new → WhileBusWorks (Enumerating f p 0) old → PendingOr (λ spec. addressed_fault spec ≡ Some cause) p new
+  descriptor_refused_for : (cause : Cause) → RefusesDescriptor named (Refused cause) given new
+      → (f : AddressMap) (p : List ℕ) → IsFairAt f port p address old new
+      → WhileBusWorks (Enumerating f p 0) old
+      → PendingOr (λ spec. addressed_fault spec ≡ Some cause) p new
   descriptor_refused_for cause refuses f p fair held =
       pends_reached (λ spec. addressed_fault spec ≡ Some cause) p new (named_reached f p fair held)
       (λ s on there. by_spec s.spec
-      (explained_at (Refuses named (device_fault target.low) (Refused cause)) (Granted target.low target.max) named f port p given new fair.spare.at is.pre (fair_given f p fair held).few (single_new f p fair held)
-      ((fair_given f p fair held).order (sound_given f p fair held)).sane refuses.why targeted s on there))
+      (explained_at (Refuses named (device_fault target.low) (Refused cause))
+      (Granted target.low target.max) named f port p given new fair.spare.at is.pre
+      (fair_given f p fair held).few (single_new f p fair held)
+      ((fair_given f p fair held).order (sound_given f p fair held)).sane refuses.why targeted s on
+      there))
     where
-      by_spec : (spec : Spec) → Refuses named (device_fault target.low) (Refused cause) spec × Granted target.low target.max spec → addressed_fault spec ≡ Some cause
+      by_spec : (spec : Spec) → Refuses named (device_fault target.low) (Refused cause) spec
+          × Granted target.low target.max spec → addressed_fault spec ≡ Some cause
       by_spec spec so =
-          addressed_device spec cause (early_none target.low target.max spec so.1.speed so.1.head) so.1.allowed
+          addressed_device spec cause (early_none target.low target.max spec so.1.speed so.1.head)
+          so.1.allowed
           (ap (λ x. device_fault x spec) so.1.speed ∙ so.0 (responsive f p fair held spec so.1))
 
       targeted : AtPath (IsTargeted (Granted target.low target.max) named) p given
@@ -395,109 +556,191 @@ module _ (port : HubPort) (address l m n : ℕ) (target : Target) {old mid given
           let g = granted_there f p fair held s on there in
           record {
             low = g.speed;
-            address = held_at f p have.has given (have.owned.so (sound_given f p fair held)) s on there ∙ answered_has f port p address have.has address fair.spare (inr refl) who;
+            address = held_at f p have.has given (have.owned.so (sound_given f p fair held)) s on
+                there ∙ answered_has f port p address have.has address fair.spare (inr refl) who;
             so = g;
           }
 
-  pub descriptor_stops : (stop : Stop) → StopFaults stop new → RefusesDescriptor named stop given new → StopsFairly addressed_fault port address stop old new
-  descriptor_stops (Fault why) told refuses = record { why = λ f p fair. faults_for_told p why new told }
-  descriptor_stops (Refused cause) told refuses = record { why = descriptor_refused_for cause refuses }
+  pub descriptor_stops : (stop : Stop) → StopFaults stop new
+      → RefusesDescriptor named stop given new
+      → StopsFairly addressed_fault port address stop old new
+  descriptor_stops (Fault why) told refuses =
+      record { why = λ f p fair. faults_for_told p why new told }
+  descriptor_stops (Refused cause) told refuses =
+      record { why = descriptor_refused_for cause refuses }
 
   -- where it gives none, it missed its address
 
   module _ (none : NoDescriptor named given new) where
-    still_held : (f : AddressMap) (p : List ℕ) → IsFairAt f port p address old new → WhileBusWorks (Enumerating f p 0) old → (j : Location) → p ≡ path_to j → (v : State) → reach_on new.roots j ≡ true → state_on new.roots j ≡ Some v
+    still_held : (f : AddressMap) (p : List ℕ) → IsFairAt f port p address old new
+        → WhileBusWorks (Enumerating f p 0) old → (j : Location) → p ≡ path_to j → (v : State)
+        → reach_on new.roots j ≡ true → state_on new.roots j ≡ Some v
         → WhileBusWorks (Enumerating f p 0) new × (given.losses ≡ one_more mid.losses)
     still_held f p fair held j path v on there =
-        let w : Was (Explained Hears (λ spec. IsResponsive named spec → ⊥) named) given j v = none.why (fair_given f p fair held).few (single_new f p fair held) j v on there in
-        let u : Was (AddressAsked target address (Ok tt) mid given) mid j w.before = what (single_given f p fair held) j w.before w.on w.stands in
-        let waits = subst (λ x. AtPath (AwaitsAddress target) x mid) path (waiting f p fair held) u.before u.on u.stands in
-        let g = subst (λ x. AtPath (λ s. Granted target.low target.max s.spec) x given) path (granted_there f p fair held) w.before w.on w.stands in
-        by_end w g u.before waits.zero (u.so.done (eq-eqb (address_of u.before) target.addr (waits.zero ∙ sym is.zero)) refl).1
+        let w : Was (Explained Hears (λ spec. IsResponsive named spec → ⊥) named) given j v =
+        none.why (fair_given f p fair held).few (single_new f p fair held) j v on there in
+        let u : Was (AddressAsked target address (Ok tt) mid given) mid j w.before =
+        what (single_given f p fair held) j w.before w.on w.stands in
+        let waits = subst (λ x. AtPath (AwaitsAddress target) x mid) path (waiting f p fair held)
+        u.before u.on u.stands in
+        let g = subst (λ x. AtPath (λ s. Granted target.low target.max s.spec) x given) path
+        (granted_there f p fair held) w.before w.on w.stands in
+        by_end w g u.before waits.zero (u.so.done
+        (eq-eqb (address_of u.before) target.addr (waits.zero ∙ sym is.zero)) refl).1
       where
-        by_end : (w : Was (Explained Hears (λ spec. IsResponsive named spec → ⊥) named) given j v) → Granted target.low target.max w.before.spec → (s : State) → address_of s ≡ 0 → TookItOrLost address mid given s w.before
+        by_end : (w : Was (Explained Hears (λ spec. IsResponsive named spec → ⊥) named) given j v)
+            → Granted target.low target.max w.before.spec → (s : State) → address_of s ≡ 0
+            → TookItOrLost address mid given s w.before
             → WhileBusWorks (Enumerating f p 0) new × (given.losses ≡ one_more mid.losses)
         by_end w g s none_yet (took registers losses) =
-            absurd (w.so.so (hears_there f port j named w.before (subst (IsAt f port) path fair.spare.at) is.pre g.speed (ap (λ r. r.address) registers))
-            (sane_spec given.roots j.row j.rest w.before ((fair_given f p fair held).order (sound_given f p fair held)).sane w.stands) (responsive f p fair held w.before.spec g))
+            absurd (w.so.so (hears_there f port j named w.before
+            (subst (IsAt f port) path fair.spare.at) is.pre g.speed
+            (ap (λ r. r.address) registers))
+            (sane_spec given.roots j.row j.rest w.before
+            ((fair_given f p fair held).order (sound_given f p fair held)).sane w.stands)
+            (responsive f p fair held w.before.spec g))
         by_end w g s none_yet (lost registers losses) =
             let t = at_given.within.stays f p fair.spare fair.held in
             let own = t.so (sound_given f p fair held) in
-            let has : own.has ≡ 0 = sym (subst (λ x. AtPath (λ z. address_of z ≡ own.has) x given) path (held_at f p own.has given own.owned) w.before w.on w.stands) ∙ ap (λ r. r.address) registers ∙ none_yet in
-            let at_zero : WhileBusWorks (Enumerating f p 0) given = record { so = λ x. record { has = own.has; is = inl has; owned = own.owned }; single = t.single } in
-            ((within_kept port 0 given new asks.addresses).stays f p (held_spare f port p address fair.spare) at_zero, losses)
+            let has : own.has ≡ 0 = sym (subst (λ x. AtPath (λ z. address_of z ≡ own.has) x given)
+            path (held_at f p own.has given own.owned) w.before w.on w.stands)
+            ∙ ap (λ r. r.address) registers ∙ none_yet in
+            let at_zero : WhileBusWorks (Enumerating f p 0) given =
+            record {
+              so = λ x. record { has = own.has; is = inl has; owned = own.owned };
+              single = t.single;
+            } in (
+              (within_kept port 0 given new asks.addresses).stays f p
+                  (held_spare f port p address fair.spare) at_zero,
+              losses,
+            )
 
-    counted_more : given.losses ≡ one_more mid.losses → NoNewStretch old mid → NoNewStretch given new → given.losses.worst ≤ new.losses.worst → Missed 1 old new
+    counted_more : given.losses ≡ one_more mid.losses → NoNewStretch old mid
+        → NoNewStretch given new → given.losses.worst ≤ new.losses.worst → Missed 1 old new
     unfolding one_more
     counted_more losses before after worst =
         let x = before.run in
         let y = after.run in
         let run : given.losses.run ≡ mid.losses.run + 1 = ap (λ k. k.run) losses in
-        let most : given.losses.worst ≡ max mid.losses.worst (mid.losses.run + 1) = ap (λ k. k.worst) losses in
-        record { run = omega (arith, x, y, run); worst = λ some. omega (arith, x, y, run, most, worst) }
+        let most : given.losses.worst ≡ max mid.losses.worst (mid.losses.run + 1) =
+        ap (λ k. k.worst) losses in
+        record {
+          run = omega (arith, x, y, run);
+          worst =
+              λ some. omega (arith, x, y, run, most, worst);
+        }
 
     pub pass_misses : Misses port address 1 old new
     pass_misses = record { missed = missed }
       where
-        missed : (f : AddressMap) (p : List ℕ) → IsFairAt f port p address old new → WhileBusWorks (Enumerating f p 0) old → (pending new.roots p ≡ true) ⊎ (WhileBusWorks (Enumerating f p 0) new × Missed 1 old new)
+        missed : (f : AddressMap) (p : List ℕ) → IsFairAt f port p address old new
+            → WhileBusWorks (Enumerating f p 0) old → (pending new.roots p ≡ true)
+            ⊎ (WhileBusWorks (Enumerating f p 0) new × Missed 1 old new)
         missed f p fair held = by_reach (named_reached f p fair held)
           where
-            by_path : (x : List ℕ) → p ≡ x → reach new.roots x ≡ true → WhileBusWorks (Enumerating f p 0) new × Missed 1 old new
+            by_path : (x : List ℕ) → p ≡ x → reach new.roots x ≡ true
+                → WhileBusWorks (Enumerating f p 0) new × Missed 1 old new
             by_path [] path on = false_true on
             by_path (zero ∷ q) path on = false_true on
             by_path (suc j ∷ q) path on =
                 let v = is_some-state (state_at new.roots j q) (reach-state new.roots j q on) in
                 let x = still_held f p fair held (record { row = j; rest = q }) path v.0 on v.1 in (
                   x.0,
-                  counted_more x.1 (awaits.goes (went_sound m mid given second (sound_given f p fair held))) (none.goes fair.working) (course_later (went_course n given new third fair.working)).worst,
+                  counted_more x.1 (awaits.goes (went_sound m mid given second
+                      (sound_given f p fair held))) (none.goes fair.working)
+                      (course_later (went_course n given new third fair.working)).worst,
                 )
 
-            by_reach : IsReachedAt new p → (pending new.roots p ≡ true) ⊎ (WhileBusWorks (Enumerating f p 0) new × Missed 1 old new)
+            by_reach : IsReachedAt new p → (pending new.roots p ≡ true)
+                ⊎ (WhileBusWorks (Enumerating f p 0) new × Missed 1 old new)
             by_reach (inl pending) = inl pending
             by_reach (inr on) = inr (by_path p refl on.1)
 
 -- Pass after pass
 
 pub misses_none : (port : HubPort) (address : ℕ) (w : World) → Misses port address 0 w w
-misses_none port address w = record { missed = λ f p fair held. inr (held, record { run = omega arith; worst = λ some. absurd (omega (arith, some)) }) }
+misses_none port address w = record {
+  missed =
+      λ f p fair held. inr (
+        held,
+        record {
+          run = omega arith;
+          worst =
+              λ some. absurd (omega (arith, some));
+        },
+      );
+}
 
-missed_then : (k : ℕ) (old mid new : World) → Missed k old mid → Missed 1 mid new → Missed (k + 1) old new
+missed_then : (k : ℕ) (old mid new : World) → Missed k old mid → Missed 1 mid new
+    → Missed (k + 1) old new
 missed_then k old mid new x y =
     let a = x.run in
     let b = y.run in
     let c = y.worst (omega arith) in
     record { run = omega (arith, a, b); worst = λ some. omega (arith, a, c) }
 
-module _ (port : HubPort) (address k m n : ℕ) {old mid new : World} {a b c d : Option (List ℕ)} (first : StepRun m old a mid b) (second : StepRun n mid c new d) (at : AtPort port address old mid) (later : AtPort port address mid new)
+module _ (port : HubPort) (address k m n : ℕ) {old mid new : World} {a b c d : Option (List ℕ)}
+    (first : StepRun m old a mid b) (second : StepRun n mid c new d)
+    (at : AtPort port address old mid) (later : AtPort port address mid new)
     (before : Misses port address k old mid) where
-  pends_later : (f : AddressMap) (p : List ℕ) → IsFairAt f port p address old new → pending mid.roots p ≡ true → pending new.roots p ≡ true
-  pends_later f p fair h = pending_persists p (later.only.at f p fair.spare (at.within.stays f p fair.spare fair.held) fair.working).spares h
+  pends_later : (f : AddressMap) (p : List ℕ) → IsFairAt f port p address old new
+      → pending mid.roots p ≡ true → pending new.roots p ≡ true
+  pends_later f p fair h = pending_persists p
+      (later.only.at f p fair.spare (at.within.stays f p fair.spare fair.held) fair.working).spares
+      h
 
   pub misses_then : Misses port address 1 mid new → Misses port address (k + 1) old new
   misses_then next = record { missed = missed }
     where
-      missed : (f : AddressMap) (p : List ℕ) → IsFairAt f port p address old new → WhileBusWorks (Enumerating f p 0) old → (pending new.roots p ≡ true) ⊎ (WhileBusWorks (Enumerating f p 0) new × Missed (k + 1) old new)
-      missed f p fair held = pick (before.missed f p (fair_before f port p address m n first second fair) held)
+      missed : (f : AddressMap) (p : List ℕ) → IsFairAt f port p address old new
+          → WhileBusWorks (Enumerating f p 0) old → (pending new.roots p ≡ true)
+          ⊎ (WhileBusWorks (Enumerating f p 0) new × Missed (k + 1) old new)
+      missed f p fair held = pick (before.missed f p
+          (fair_before f port p address m n first second fair) held)
         where
-          more : Missed k old mid → (pending new.roots p ≡ true) ⊎ (WhileBusWorks (Enumerating f p 0) new × Missed 1 mid new) → (pending new.roots p ≡ true) ⊎ (WhileBusWorks (Enumerating f p 0) new × Missed (k + 1) old new)
+          more : Missed k old mid → (pending new.roots p ≡ true)
+              ⊎ (WhileBusWorks (Enumerating f p 0) new × Missed 1 mid new)
+              → (pending new.roots p ≡ true) ⊎ (WhileBusWorks (Enumerating f p 0) new
+              × Missed (k + 1) old new)
           more x (inl h) = inl h
           more x (inr y) = inr (y.0, missed_then k old mid new x y.1)
 
-          pick : (pending mid.roots p ≡ true) ⊎ (WhileBusWorks (Enumerating f p 0) mid × Missed k old mid) → (pending new.roots p ≡ true) ⊎ (WhileBusWorks (Enumerating f p 0) new × Missed (k + 1) old new)
+          pick : (pending mid.roots p ≡ true)
+              ⊎ (WhileBusWorks (Enumerating f p 0) mid × Missed k old mid)
+              → (pending new.roots p ≡ true) ⊎ (WhileBusWorks (Enumerating f p 0) new
+              × Missed (k + 1) old new)
           pick (inl h) = inl (pends_later f p fair h)
-          pick (inr x) = more x.1 (next.missed f p (fair_then f port p address m n first second fair at) x.0)
+          pick (inr x) = more x.1 (next.missed f p (fair_then f port p address m n first second fair
+              at) x.0)
 
-  pub stops_then : (wrong : Spec → Option Cause) (stop : Stop) → StopsFairly wrong port address stop mid new → StopsFairly wrong port address stop old new
-  stops_then wrong (Fault why) stops = record { why = λ f p fair. stops.why f p (fair_then f port p address m n first second fair at) }
-  stops_then wrong (Refused cause) stops = record { why = λ f p fair held. pick f p fair (before.missed f p (fair_before f port p address m n first second fair) held) }
+  pub stops_then : (wrong : Spec → Option Cause) (stop : Stop)
+      → StopsFairly wrong port address stop mid new → StopsFairly wrong port address stop old new
+  stops_then wrong (Fault why) stops =
+      record {
+        why = λ f p fair. stops.why f p (fair_then f port p address m n first second fair at);
+      }
+  stops_then wrong (Refused cause) stops =
+      record {
+        why = λ f p fair held. pick f p fair
+            (before.missed f p (fair_before f port p address m n first second fair) held);
+      }
     where
-      pick : (f : AddressMap) (p : List ℕ) → IsFairAt f port p address old new → (pending mid.roots p ≡ true) ⊎ (WhileBusWorks (Enumerating f p 0) mid × Missed k old mid) → PendingOr (λ spec. wrong spec ≡ Some cause) p new
+      pick : (f : AddressMap) (p : List ℕ) → IsFairAt f port p address old new
+          → (pending mid.roots p ≡ true) ⊎ (WhileBusWorks (Enumerating f p 0) mid
+          × Missed k old mid) → PendingOr (λ spec. wrong spec ≡ Some cause) p new
       pick f p fair (inl h) = inl (pends_later f p fair h)
-      pick f p fair (inr x) = stops.why f p (fair_then f port p address m n first second fair at) x.0
+      pick f p fair (inr x) = stops.why f p (fair_then f port p address m n first second fair at)
+          x.0
 
-pub thrice_missed : (wrong : Spec → Option Cause) (port : HubPort) (address : ℕ) (cause : Cause) (old new : World) → Misses port address 3 old new → StopsFairly wrong port address (Refused cause) old new
-thrice_missed wrong port address cause old new misses = record { why = λ f p fair held. pick f p fair (misses.missed f p fair held) }
+pub thrice_missed : (wrong : Spec → Option Cause) (port : HubPort) (address : ℕ) (cause : Cause)
+    (old new : World) → Misses port address 3 old new
+    → StopsFairly wrong port address (Refused cause) old new
+thrice_missed wrong port address cause old new misses =
+    record { why = λ f p fair held. pick f p fair (misses.missed f p fair held) }
   where
-    pick : (f : AddressMap) (p : List ℕ) → IsFairAt f port p address old new → (pending new.roots p ≡ true) ⊎ (WhileBusWorks (Enumerating f p 0) new × Missed 3 old new) → PendingOr (λ spec. wrong spec ≡ Some cause) p new
+    pick : (f : AddressMap) (p : List ℕ) → IsFairAt f port p address old new
+        → (pending new.roots p ≡ true) ⊎ (WhileBusWorks (Enumerating f p 0) new × Missed 3 old new)
+        → PendingOr (λ spec. wrong spec ≡ Some cause) p new
     pick f p fair (inl h) = inl h
-    pick f p fair (inr x) = let worst = x.1.worst (omega arith) in let kept = fair.kept in absurd (omega (arith, worst, kept))
+    pick f p fair (inr x) = let worst = x.1.worst (omega arith) in let kept = fair.kept in
+        absurd (omega (arith, worst, kept))

@@ -1,5 +1,6 @@
 -- Why the parts of an enumeration behind the device descriptor stop, and the whole.
-use Rattle.std.proofs.Common.{◌≡◌, inl, inr, ℕ, ◌==◌, ◌&&◌, Bool, true, false, if◌then◌else◌, List, [], slice_index_or, Some, Result, Ok, Err, refl, sym, subst}
+use Rattle.std.proofs.Common.{◌≡◌, inl, inr, ℕ, ◌==◌, ◌&&◌, Bool, true, false, if◌then◌else◌, List}
+use Rattle.std.proofs.Common.{[], slice_index_or, Some, Result, Ok, Err, refl, sym, subst}
 use Rattle.std.specs.Prelude.{IfErr}
 use Rattle.usb_resources.specs.Pool.{Addresses, IsFree, IsFull}
 use Rattle.usb_world.specs.World.{World}
@@ -16,55 +17,90 @@ use Rattle.usb_enum.specs.declared.stop.Stop.TheVariants.{Refused, Fault}
 use Rattle.usb_enum.specs.Device.{LAST_TIER, fits_tier, is_hub_device}
 use Rattle.usb_enum.specs.Findings.{GivesUp}
 use Rattle.usb_enum.specs.LastRequests.{Leads}
-use Rattle.usb_enum.specs.Reasons.{DescriptorRead, CauseAllowed, CauseAllowedAtStart, AllTexts, RefusedAs, by_answer, too_deep, bad_hub, StoppedAs, StopsDevice, FaultBy, IsSpokenTo, CauseAllowedAt, early, late, StopsAtPort, StoppedFor}
-use Rattle.usb_enum.specs.Reasons.{StoppedWithout, HasReason, refused_for, refused_early, none_free, EndsFor}
-use Rattle.usb_enum.specs.Stop.{FaultAllowedAt, CauseAllowedIn, CauseAllowedWithout, CauseAllowedOfDevice}
+use Rattle.usb_enum.specs.Reasons.{DescriptorRead, CauseAllowed, CauseAllowedAtStart, AllTexts}
+use Rattle.usb_enum.specs.Reasons.{RefusedAs, by_answer, too_deep, bad_hub, StoppedAs, StopsDevice}
+use Rattle.usb_enum.specs.Reasons.{FaultBy, IsSpokenTo, CauseAllowedAt, early, late, StopsAtPort}
+use Rattle.usb_enum.specs.Reasons.{StoppedFor}
+use Rattle.usb_enum.specs.Reasons.{StoppedWithout, HasReason, refused_for, refused_early, none_free}
+use Rattle.usb_enum.specs.Reasons.{EndsFor}
+use Rattle.usb_enum.specs.Stop.{FaultAllowedAt, CauseAllowedIn, CauseAllowedWithout}
+use Rattle.usb_enum.specs.Stop.{CauseAllowedOfDevice}
 use Rattle.usb_enum.specs.Text.{choice_of}
 use Rattle.usb_enum.proofs.ports.Hubs.{told_of_hub}
 use Rattle.usb_enum.proofs.courses.LastRequests.{leads_then}
-use Rattle.usb_enum.proofs.stops.Reasons.{because_after, because_plain, fault_after, fault_by, fault_told_by, told_in, told_without}
+use Rattle.usb_enum.proofs.stops.Reasons.{because_after, because_plain, fault_after, fault_by}
+use Rattle.usb_enum.proofs.stops.Reasons.{fault_told_by, told_in, told_without}
 use Rattle.usb_enum.proofs.stops.ToldFailures.{fault_at, plain_fits}
 
 -- By an answer
 
-told_fits : (tier : ℕ) (stop : Stop) (t : Target) (old new : World) → CauseAllowed t stop old new → CauseAllowedOfDevice tier stop new
+told_fits : (tier : ℕ) (stop : Stop) (t : Target) (old new : World) → CauseAllowed t stop old new
+    → CauseAllowedOfDevice tier stop new
 told_fits tier (Refused why) t old new told = plain_fits tier why (because_plain why t old new told)
 told_fits tier (Fault why) t old new told = told
 
-stop_told_as : (t : Target) (bytes : List ℕ) (tier supply : ℕ) (stop : Stop) (old new : World) → CauseAllowed t stop old new → StoppedAs t bytes tier supply stop old new
+stop_told_as : (t : Target) (bytes : List ℕ) (tier supply : ℕ) (stop : Stop) (old new : World)
+    → CauseAllowed t stop old new → StoppedAs t bytes tier supply stop old new
 stop_told_as t bytes tier supply (Refused why) old new told = by_answer told
 stop_told_as t bytes tier supply (Fault why) old new told = told
 
-pub stops_by : (t : Target) (bytes : List ℕ) (tier supply : ℕ) (stop : Stop) (old new : World) → CauseAllowed t stop old new → StopsDevice t bytes tier supply old new stop
-stops_by t bytes tier supply stop old new told = record { fits = told_fits tier stop t old new told; because = stop_told_as t bytes tier supply stop old new told }
+pub stops_by : (t : Target) (bytes : List ℕ) (tier supply : ℕ) (stop : Stop) (old new : World)
+    → CauseAllowed t stop old new → StopsDevice t bytes tier supply old new stop
+stops_by t bytes tier supply stop old new told = record {
+  fits = told_fits tier stop t old new told;
+  because = stop_told_as t bytes tier supply stop old new told;
+}
 
 -- In the last tier
 
-pub fits_stop : (t : Target) (bytes : List ℕ) (tier supply : ℕ) (stop : Stop) (w : World) → fits_tier tier bytes ≡ Err stop → StopsDevice t bytes tier supply w w stop
+pub fits_stop : (t : Target) (bytes : List ℕ) (tier supply : ℕ) (stop : Stop) (w : World)
+    → fits_tier tier bytes ≡ Err stop → StopsDevice t bytes tier supply w w stop
 fits_stop t bytes tier supply stop w is = split (is_hub_device bytes && tier == LAST_TIER) refl is
   where
-    deep : (is_hub_device bytes && tier == LAST_TIER) ≡ true → StopsDevice t bytes tier supply w w (Refused cause.TooDeep)
+    deep : (is_hub_device bytes && tier == LAST_TIER) ≡ true
+        → StopsDevice t bytes tier supply w w (Refused cause.TooDeep)
     deep e =
         let both_so = both (is_hub_device bytes) (tier == LAST_TIER) e in
         let last = equal_same tier LAST_TIER both_so.1 in
         record { fits = last; because = too_deep last both_so.0 refl }
 
-    split : (b : Bool) → (is_hub_device bytes && tier == LAST_TIER) ≡ b → (let r : Result (Unit {0}) Stop = if b then Err (Refused cause.TooDeep) else Ok tt in r ≡ Err stop) → StopsDevice t bytes tier supply w w stop
-    split true e r = subst (StopsDevice t bytes tier supply w w) (let same : Refused cause.TooDeep ≡ stop = cc in same) (deep e)
+    split : (b : Bool) → (is_hub_device bytes && tier == LAST_TIER) ≡ b
+        → (let r : Result (Unit {0}) Stop = if b then Err (Refused cause.TooDeep) else Ok tt in
+        r ≡ Err stop) → StopsDevice t bytes tier supply w w stop
+    split true e r = subst (StopsDevice t bytes tier supply w w) (let same : Refused cause.TooDeep
+        ≡ stop = cc in same) (deep e)
     split false e r = absurd cc
 
 -- As a hub
 
 module _ (t : Target) (bytes : List ℕ) (tier supply : ℕ) where
-  hub_as : (stop : Stop) (old read set new : World) → is_hub_device bytes ≡ true → (texts : List (List ℕ)) → AllTexts t bytes texts old read → (chosen : ℕ) → choice_of supply texts ≡ Some chosen → Leads old read → Leads read set
-      → CauseAllowedAtStart t (slice_index_or texts chosen []) stop set new → StoppedAs t bytes tier supply stop old new
+  hub_as : (stop : Stop) (old read set new : World) → is_hub_device bytes ≡ true
+      → (texts : List (List ℕ)) → AllTexts t bytes texts old read → (chosen : ℕ)
+      → choice_of supply texts ≡ Some chosen → Leads old read → Leads read set
+      → CauseAllowedAtStart t (slice_index_or texts chosen []) stop set new
+      → StoppedAs t bytes tier supply stop old new
   hub_as (Refused why) old read set new hub texts all chosen choice first led (inl bad) =
-      subst (RefusedAs t bytes tier supply old new) (sym bad.0) (bad_hub (record { hub = hub; texts = texts; read = read; all = all; chosen = chosen; choice = choice; set = set; led = led; fails = bad.1 }))
-  hub_as (Refused why) old read set new hub texts all chosen choice first led (inr b) = by_answer (because_after why t old set new (leads_then first led) b)
+      subst (RefusedAs t bytes tier supply old new) (sym bad.0)
+      (bad_hub (record {
+        hub = hub;
+        texts = texts;
+        read = read;
+        all = all;
+        chosen = chosen;
+        choice = choice;
+        set = set;
+        led = led;
+        fails = bad.1;
+      }))
+  hub_as (Refused why) old read set new hub texts all chosen choice first led (inr b) =
+      by_answer (because_after why t old set new (leads_then first led) b)
   hub_as (Fault why) old read set new hub texts all chosen choice first led told = told
 
-  pub hub_stops : (stop : Stop) (old read set new : World) → fits_tier tier bytes ≡ Ok tt → is_hub_device bytes ≡ true → (texts : List (List ℕ)) → AllTexts t bytes texts old read → (chosen : ℕ) → choice_of supply texts ≡ Some chosen
-      → Leads old read → Leads read set → CauseAllowedAtStart t (slice_index_or texts chosen []) stop set new → StopsDevice t bytes tier supply old new stop
+  pub hub_stops : (stop : Stop) (old read set new : World) → fits_tier tier bytes ≡ Ok tt
+      → is_hub_device bytes ≡ true → (texts : List (List ℕ)) → AllTexts t bytes texts old read
+      → (chosen : ℕ) → choice_of supply texts ≡ Some chosen
+      → Leads old read → Leads read set → CauseAllowedAtStart t (slice_index_or texts chosen [])
+      stop set new → StopsDevice t bytes tier supply old new stop
   hub_stops stop old read set new fits hub texts all chosen choice first led told = record {
     fits = told_of_hub tier bytes stop t (slice_index_or texts chosen []) set new fits hub told;
     because = hub_as stop old read set new hub texts all chosen choice first led told;
@@ -72,14 +108,19 @@ module _ (t : Target) (bytes : List ℕ) (tier supply : ℕ) where
 
 -- At the port
 
-device_in : (port : HubPort) (tier : ℕ) (stop : Stop) (w : World) → CauseAllowedOfDevice tier stop w → CauseAllowedIn port tier stop w
+device_in : (port : HubPort) (tier : ℕ) (stop : Stop) (w : World) → CauseAllowedOfDevice tier stop w
+    → CauseAllowedIn port tier stop w
 device_in port tier (Refused why) w told = told
 device_in port tier (Fault why) w told = fault_at port why w told
 
-device_for : (port : HubPort) (address tier supply : ℕ) (t : Target) (bytes : List ℕ) (stop : Stop) (old mid new : World) → IsSpokenTo port address t → DescriptorRead t bytes old mid → StoppedAs t bytes tier supply stop mid new
+device_for : (port : HubPort) (address tier supply : ℕ) (t : Target) (bytes : List ℕ) (stop : Stop)
+    (old mid new : World) → IsSpokenTo port address t → DescriptorRead t bytes old mid
+    → StoppedAs t bytes tier supply stop mid new
     → StoppedFor port address tier supply stop old new
-device_for port address tier supply t bytes (Refused why) old mid new is read told = late t bytes mid is read told
-device_for port address tier supply t bytes (Fault why) old mid new is read told = fault_told_by port why old new told
+device_for port address tier supply t bytes (Refused why) old mid new is read told =
+    late t bytes mid is read told
+device_for port address tier supply t bytes (Fault why) old mid new is read told =
+    fault_told_by port why old new told
 
 pub device_stops : (port : HubPort) (address tier supply : ℕ) (t : Target) (bytes : List ℕ)
     (stop : Stop) (old mid new : World) → IsSpokenTo port address t → DescriptorRead t bytes old mid
@@ -90,12 +131,19 @@ device_stops port address tier supply t bytes stop old mid new is read told = re
   because = device_for port address tier supply t bytes stop old mid new is read told.because;
 }
 
-early_for : (port : HubPort) (address tier supply : ℕ) (stop : Stop) (old new : World) → CauseAllowedAt port address stop old new → StoppedFor port address tier supply stop old new
+early_for : (port : HubPort) (address tier supply : ℕ) (stop : Stop) (old new : World)
+    → CauseAllowedAt port address stop old new → StoppedFor port address tier supply stop old new
 early_for port address tier supply (Refused why) old new told = early told
 early_for port address tier supply (Fault why) old new told = told
 
-pub early_stops : (port : HubPort) (address tier supply : ℕ) (stop : Stop) (old new : World) → CauseAllowedAt port address stop old new → StopsAtPort port address tier supply old new stop
-early_stops port address tier supply stop old new told = record { fits = told_in tier stop port address old new told; because = early_for port address tier supply stop old new told }
+pub early_stops : (port : HubPort) (address tier supply : ℕ) (stop : Stop) (old new : World)
+    → CauseAllowedAt port address stop old new → StopsAtPort port address tier supply old new stop
+early_stops port address tier supply stop old new told =
+    record {
+      fits = told_in tier stop port address old new told;
+      because =
+          early_for port address tier supply stop old new told;
+    }
 
 -- The whole
 
@@ -105,41 +153,56 @@ module _ (port : HubPort) (addresses : Addresses) (tier supply : ℕ) where
   Reasoned (Refused why) old new = HasReason port addresses tier supply old new why
   Reasoned (Fault why) old new = FaultBy port why old new
 
-  pub stopped_reasoned : (address : ℕ) (stop : Stop) (old new : World) → IsFree addresses address → StoppedFor port address tier supply stop old new → Reasoned stop old new
+  pub stopped_reasoned : (address : ℕ) (stop : Stop) (old new : World) → IsFree addresses address
+      → StoppedFor port address tier supply stop old new → Reasoned stop old new
   stopped_reasoned address (Refused why) old new free told = refused_for address free told
   stopped_reasoned address (Fault why) old new free told = told
 
-  pub without_reasoned : (stop : Stop) (old new : World) → IsFull addresses → StoppedWithout port stop old new → Reasoned stop old new
-  without_reasoned (Refused why) old new full (inl e) = subst (HasReason port addresses tier supply old new) (let same : cause.NoAddress ≡ why = cc in same) (none_free full)
+  pub without_reasoned : (stop : Stop) (old new : World) → IsFull addresses
+      → StoppedWithout port stop old new → Reasoned stop old new
+  without_reasoned (Refused why) old new full (inl e) =
+      subst (HasReason port addresses tier supply old new) (let same : cause.NoAddress ≡ why = cc in
+      same) (none_free full)
   without_reasoned (Refused why) old new full (inr told) = refused_early full told
   without_reasoned (Fault why) old new full (inl e) = absurd cc
   without_reasoned (Fault why) old new full (inr told) = told
 
   -- the port is disabled then, and that may fail
-  pub gives_reason : (stop : Stop) (old mid new : World) (result : Result Finding EnumFault) → Leads old mid → Leads mid new → Reasoned stop old mid → GivesUp port stop mid result new → EndsFor port addresses tier supply old result new
+  pub gives_reason : (stop : Stop) (old mid new : World) (result : Result Finding EnumFault)
+      → Leads old mid → Leads mid new → Reasoned stop old mid → GivesUp port stop mid result new
+      → EndsFor port addresses tier supply old result new
   gives_reason (Refused why) old mid new (Ok (finding.Device device)) first led reason gives = tt
-  gives_reason (Refused why) old mid new (Ok (finding.Refused other)) first led reason gives = record {
-    moment = mid;
-    reason = subst (HasReason port addresses tier supply old mid) (same other why gives.0) reason;
-    led = led;
-  }
+  gives_reason (Refused why) old mid new (Ok (finding.Refused other)) first led reason gives =
+      record {
+        moment = mid;
+        reason = subst (HasReason port addresses tier supply old mid) (same other why gives.0)
+            reason;
+        led = led;
+      }
     where
       same : (x y : Cause) → finding.Refused x ≡ finding.Refused y → y ≡ x
       same x y e = cc
-  gives_reason (Refused why) old mid new (Err fault) first led reason gives = fault_after port fault old mid new first gives
+  gives_reason (Refused why) old mid new (Err fault) first led reason gives =
+      fault_after port fault old mid new first gives
   gives_reason (Fault why) old mid new result first led reason gives =
-      subst (λ r. EndsFor port addresses tier supply old r new) (sym gives.0) (subst (λ w. FaultBy port why old w) (sym gives.1) reason)
+      subst (λ r. EndsFor port addresses tier supply old r new) (sym gives.0)
+      (subst (λ w. FaultBy port why old w) (sym gives.1) reason)
 
 -- where no address was free
 pub stopped_without : (port : HubPort) (stop : Stop) (old new : World)
     → StoppedWithout port stop old new → CauseAllowedWithout port stop new
-stopped_without port stop old new (inl none) = subst (λ s. CauseAllowedWithout port s new) (sym none)
+stopped_without port stop old new (inl none) =
+    subst (λ s. CauseAllowedWithout port s new) (sym none)
     (inl refl)
 stopped_without port stop old new (inr told) = told_without stop port 0 old new told
 
 -- what is told of its end
-pub given_told : (port : HubPort) (stop : Stop) (mid new : World) (result : Result Finding EnumFault) → ((why : EnumFault) → stop ≡ Fault why → FaultAllowedAt port why mid) → GivesUp port stop mid result new → IfErr result (λ fault. FaultAllowedAt port fault new)
+pub given_told : (port : HubPort) (stop : Stop) (mid new : World)
+    (result : Result Finding EnumFault) → ((why : EnumFault) → stop ≡ Fault why
+    → FaultAllowedAt port why mid) → GivesUp port stop mid result new
+    → IfErr result (λ fault. FaultAllowedAt port fault new)
 given_told port (Refused why) mid new (Ok finding) faults gives = tt
 given_told port (Refused why) mid new (Err fault) faults gives = fault_by port fault mid new gives
 given_told port (Fault why) mid new result faults gives =
-    subst (λ r. IfErr r (λ fault. FaultAllowedAt port fault new)) (let e : result ≡ Err why = gives.0 in sym e) (subst (FaultAllowedAt port why) (sym gives.1) (faults why refl))
+    subst (λ r. IfErr r (λ fault. FaultAllowedAt port fault new)) (let e : result ≡ Err why =
+    gives.0 in sym e) (subst (FaultAllowedAt port why) (sym gives.1) (faults why refl))

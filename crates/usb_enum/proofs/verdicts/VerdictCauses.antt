@@ -1,5 +1,8 @@
--- What is wrong with a device behind its device descriptor is the verdict on it, where the rows before do not hold.
-use Rattle.std.proofs.Common.{◌≡◌, ◌⊎◌, inl, inr, ℕ, ◌==◌, ◌&&◌, not, Bool, true, false, List, [], take, slice_index_or, if◌then◌else◌, Option, None, Some, Ok, Err, refl, ap, sym, ◌∙◌}
+-- What is wrong with a device behind its device descriptor is the verdict on it, where the rows
+-- before do not hold.
+use Rattle.std.proofs.Common.{◌≡◌, ◌⊎◌, inl, inr, ℕ, ◌==◌, ◌&&◌, not, Bool, true, false, List, []}
+use Rattle.std.proofs.Common.{take, slice_index_or, if◌then◌else◌, Option, None, Some, Ok, Err}
+use Rattle.std.proofs.Common.{refl, ap, sym, ◌∙◌}
 use Rattle.std.specs.Option.{option_or}
 use Rattle.std.proofs.lemmas.Option.{same_Some}
 use Rattle.usb_descriptor.specs.Device.{configuration_count}
@@ -8,7 +11,8 @@ use Rattle.usb_tree.proofs.Interface.{decided}
 use Rattle.usb_enum.specs.declared.cause.Cause.{Cause}
 use Rattle.usb_enum.specs.declared.cause.Cause.TheVariants.{Stalled, TooDeep, NoPower, BadHub}
 use Rattle.usb_enum.specs.declared.cause.Request.TheVariants as request
-use Rattle.usb_enum.specs.Verdicts.{verdict, is_good_hub, texts_below, texts_of, first_fault, read_verdict, set_verdict}
+use Rattle.usb_enum.specs.Verdicts.{verdict, is_good_hub, texts_below, texts_of, first_fault}
+use Rattle.usb_enum.specs.Verdicts.{read_verdict, set_verdict}
 use Rattle.usb_enum.specs.Device.{is_device, is_hub_device}
 use Rattle.usb_enum.specs.Refusals.{chosen_fault, configured_fault}
 use Rattle.usb_enum.specs.Text.{choice_of}
@@ -16,50 +20,80 @@ use Rattle.usb_enum.proofs.readings.Truths.{front_count, front_hub}
 use Rattle.usb_enum.proofs.verdicts.VerdictRows.{GaveHead, GaveDevice, rows_after, row_too_deep}
 
 set_config_cause : (stalled hub good : Bool) (chosen : ℕ) (cause : Cause)
-    → option_or (if stalled then Some (Stalled request.SetConfig) else None) (if hub then (if good then None else Some BadHub) else None) ≡ Some cause
-    → (if stalled then Err (Stalled request.SetConfig) else if hub && not good then Err BadHub else Ok chosen) ≡ Err cause
+    → option_or (if stalled then Some (Stalled request.SetConfig) else None)
+    (if hub then (if good then None else Some BadHub) else None) ≡ Some cause
+    → (if stalled then Err (Stalled request.SetConfig) else if hub && not good then Err BadHub
+    else Ok chosen) ≡ Err cause
 set_config_cause true hub good chosen cause h = ap (λ c. Err c) (same_Some _ cause h)
 set_config_cause false true true chosen cause h = absurd cc
 set_config_cause false true false chosen cause h = ap (λ c. Err c) (same_Some _ cause h)
 set_config_cause false false good chosen cause h = absurd cc
 
-set_is : (spec : Spec) (texts : List (List ℕ)) (choice : Option ℕ) (cause : Cause) → chosen_fault (is_hub_device spec.descriptor) texts choice spec ≡ Some cause → set_verdict spec texts choice ≡ Err cause
+set_is : (spec : Spec) (texts : List (List ℕ)) (choice : Option ℕ) (cause : Cause)
+    → chosen_fault (is_hub_device spec.descriptor) texts choice spec ≡ Some cause
+    → set_verdict spec texts choice ≡ Err cause
 set_is spec texts None cause h = ap (λ c. Err c) (same_Some NoPower cause h)
-set_is spec texts (Some chosen) cause h = set_config_cause spec.stalls.set_config (is_hub_device spec.descriptor) (is_good_hub spec (slice_index_or texts chosen [])) chosen cause h
+set_is spec texts (Some chosen) cause h =
+    set_config_cause spec.stalls.set_config (is_hub_device spec.descriptor)
+    (is_good_hub spec (slice_index_or texts chosen [])) chosen cause h
 
-read_is : (spec : Spec) (supply : ℕ) (first : Option Cause) (cause : Cause) → option_or first (chosen_fault (is_hub_device spec.descriptor) (texts_of spec) (choice_of supply (texts_of spec)) spec) ≡ Some cause
+read_is : (spec : Spec) (supply : ℕ) (first : Option Cause) (cause : Cause)
+    → option_or first (chosen_fault (is_hub_device spec.descriptor) (texts_of spec)
+    (choice_of supply (texts_of spec)) spec) ≡ Some cause
     → read_verdict spec supply first ≡ Err cause
 read_is spec supply (Some bad) cause h = ap (λ c. Err c) (same_Some bad cause h)
-read_is spec supply None cause h = set_is spec (texts_of spec) (choice_of supply (texts_of spec)) cause h
+read_is spec supply None cause h = set_is spec (texts_of spec) (choice_of supply (texts_of spec))
+    cause h
 
 module _ (spec : Spec) (tier supply : ℕ) where
   -- by its class, and the number of its configurations
   abbrev Row : Bool → ℕ → Option Cause
-  Row hub count = if hub && tier == 7 then Some TooDeep else option_or (first_fault spec count) (chosen_fault hub (texts_below spec count) (choice_of supply (texts_below spec count)) spec)
+  Row hub count = if hub && tier == 7 then Some TooDeep else option_or (first_fault spec count)
+      (chosen_fault hub (texts_below spec count) (choice_of supply (texts_below spec count)) spec)
 
-  row_is : (bytes : List ℕ) → configured_fault tier supply bytes spec ≡ Row (is_hub_device bytes) (configuration_count bytes)
+  row_is : (bytes : List ℕ) → configured_fault tier supply bytes spec ≡ Row (is_hub_device bytes)
+      (configuration_count bytes)
   unfolding configured_fault
   row_is bytes = refl
 
-  row_front : (bytes : List ℕ) → bytes ≡ take 18 spec.descriptor → configured_fault tier supply bytes spec ≡ Row (is_hub_device spec.descriptor) (configuration_count spec.descriptor)
+  row_front : (bytes : List ℕ) → bytes ≡ take 18 spec.descriptor
+      → configured_fault tier supply bytes spec ≡ Row (is_hub_device spec.descriptor)
+      (configuration_count spec.descriptor)
   row_front bytes front =
       row_is bytes
       ∙ ap (λ b. Row (is_hub_device b) (configuration_count b)) front
-      ∙ ap (λ hub. Row hub (configuration_count (take 18 spec.descriptor))) (front_hub spec.descriptor)
+      ∙ ap (λ hub. Row hub (configuration_count (take 18 spec.descriptor)))
+      (front_hub spec.descriptor)
       ∙ ap (Row (is_hub_device spec.descriptor)) (front_count spec.descriptor)
 
-  pub verdict_refused : (bytes : List ℕ) (cause : Cause) → GaveHead spec → spec.stalls.address ≡ false → is_device spec.low (take 18 spec.descriptor) ≡ true → bytes ≡ take 18 spec.descriptor
+  pub verdict_refused : (bytes : List ℕ) (cause : Cause) → GaveHead spec
+      → spec.stalls.address ≡ false → is_device spec.low (take 18 spec.descriptor) ≡ true
+      → bytes ≡ take 18 spec.descriptor
       → configured_fault tier supply bytes spec ≡ Some cause → verdict spec tier supply ≡ Err cause
-  verdict_refused bytes cause head address whole front fault = pick (decided (is_hub_device spec.descriptor && tier == 7))
+  verdict_refused bytes cause head address whole front fault =
+      pick (decided (is_hub_device spec.descriptor && tier == 7))
     where
       rest : Option Cause
-      rest = option_or (first_fault spec (configuration_count spec.descriptor)) (chosen_fault (is_hub_device spec.descriptor) (texts_of spec) (choice_of supply (texts_of spec)) spec)
+      rest = option_or (first_fault spec (configuration_count spec.descriptor))
+          (chosen_fault (is_hub_device spec.descriptor) (texts_of spec)
+          (choice_of supply (texts_of spec)) spec)
 
       is : (if is_hub_device spec.descriptor && tier == 7 then Some TooDeep else rest) ≡ Some cause
       is = sym (row_front bytes front) ∙ fault
 
-      pick : ((is_hub_device spec.descriptor && tier == 7) ≡ true) ⊎ ((is_hub_device spec.descriptor && tier == 7) ≡ false) → verdict spec tier supply ≡ Err cause
-      pick (inl deep) = row_too_deep spec tier supply head address whole deep ∙ ap (λ c. Err c) (same_Some TooDeep cause (sym (ap (λ b. if b then Some TooDeep else rest) deep) ∙ is))
+      pick : ((is_hub_device spec.descriptor && tier == 7) ≡ true)
+          ⊎ ((is_hub_device spec.descriptor && tier == 7) ≡ false)
+          → verdict spec tier supply ≡ Err cause
+      pick (inl deep) = row_too_deep spec tier supply head address whole deep
+          ∙ ap (λ c. Err c) (same_Some TooDeep cause
+          (sym (ap (λ b. if b then Some TooDeep else rest) deep) ∙ is))
       pick (inr shallow) =
-          let gave : GaveDevice spec tier = record { first = head; address = address; whole = whole; shallow = shallow } in
-          rows_after spec tier supply gave ∙ read_is spec supply (first_fault spec (configuration_count spec.descriptor)) cause (sym (ap (λ b. if b then Some TooDeep else rest) shallow) ∙ is)
+          let gave : GaveDevice spec tier = record {
+            first = head;
+            address = address;
+            whole = whole;
+            shallow = shallow;
+          } in
+          rows_after spec tier supply gave
+          ∙ read_is spec supply (first_fault spec (configuration_count spec.descriptor)) cause
+          (sym (ap (λ b. if b then Some TooDeep else rest) shallow) ∙ is)

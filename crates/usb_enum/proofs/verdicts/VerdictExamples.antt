@@ -8,22 +8,27 @@ use Rattle.usb_descriptor.specs.Item as item
 use Rattle.usb_descriptor.specs.Text as string
 use Rattle.usb_descriptor.specs.Words as words
 use Rattle.usb_device.specs.Spec.{Spec, function, usual_hub, no_stalls}
-use Rattle.usb_enum.specs.declared.cause.Cause.TheVariants.{Silent, Busy, Stalled, BadDevice, TooDeep, BadConfiguration, NoPower, BadHub}
+use Rattle.usb_enum.specs.declared.cause.Cause.TheVariants.{Silent, Busy, Stalled, BadDevice}
+use Rattle.usb_enum.specs.declared.cause.Cause.TheVariants.{TooDeep, BadConfiguration, NoPower}
+use Rattle.usb_enum.specs.declared.cause.Cause.TheVariants.{BadHub}
 use Rattle.usb_enum.specs.declared.cause.Request.TheVariants as request
 use Rattle.usb_enum.specs.Text as text
 use Rattle.usb_enum.specs.Verdicts.{verdict, first_fault, config_fault, text_read, string_at}
 
 -- a device descriptor of a class, with its product string and so many configurations
 abbrev pub device_bytes : ℕ → ℕ → ℕ → List ℕ
-device_bytes class product count = 18 ∷ 1 ∷ 0 ∷ 2 ∷ class ∷ 0 ∷ 0 ∷ 64 ∷ 52 ∷ 18 ∷ 120 ∷ 86 ∷ 0 ∷ 1 ∷ 0 ∷ product ∷ 0 ∷ count ∷ []
+device_bytes class product count = 18 ∷ 1 ∷ 0 ∷ 2 ∷ class ∷ 0 ∷ 0 ∷ 64 ∷ 52 ∷ 18 ∷ 120 ∷ 86 ∷ 0 ∷
+    1 ∷ 0 ∷ product ∷ 0 ∷ count ∷ []
 
 -- a configuration of one interface, with its value and bMaxPower
 abbrev pub config_bytes : ℕ → ℕ → List ℕ
-config_bytes value power = 9 ∷ 2 ∷ 18 ∷ 0 ∷ 1 ∷ value ∷ 0 ∷ 128 ∷ power ∷ 9 ∷ 4 ∷ 0 ∷ 0 ∷ 0 ∷ 255 ∷ 0 ∷ 0 ∷ 0 ∷ []
+config_bytes value power = 9 ∷ 2 ∷ 18 ∷ 0 ∷ 1 ∷ value ∷ 0 ∷ 128 ∷ power ∷ 9 ∷ 4 ∷ 0 ∷ 0 ∷ 0 ∷ 255 ∷
+    0 ∷ 0 ∷ 0 ∷ []
 
 -- a configuration of a hub, with its status endpoint
 abbrev pub hub_bytes : List ℕ
-hub_bytes = 9 ∷ 2 ∷ 25 ∷ 0 ∷ 1 ∷ 1 ∷ 0 ∷ 192 ∷ 0 ∷ 9 ∷ 4 ∷ 0 ∷ 0 ∷ 1 ∷ 9 ∷ 0 ∷ 0 ∷ 0 ∷ 7 ∷ 5 ∷ 129 ∷ 3 ∷ 1 ∷ 0 ∷ 255 ∷ []
+hub_bytes = 9 ∷ 2 ∷ 25 ∷ 0 ∷ 1 ∷ 1 ∷ 0 ∷ 192 ∷ 0 ∷ 9 ∷ 4 ∷ 0 ∷ 0 ∷ 1 ∷ 9 ∷ 0 ∷ 0 ∷ 0 ∷ 7 ∷ 5 ∷ 129 ∷
+    3 ∷ 1 ∷ 0 ∷ 255 ∷ []
 
 -- needs 100 mA
 abbrev pub small : Spec
@@ -39,17 +44,22 @@ large = function [] (device_bytes 0 0 1) (config_bytes 1 250 ∷ [])
 
 -- a hub of two ports
 abbrev pub two_ports : Spec
-two_ports = record (function [] (device_bytes 9 0 1) (hub_bytes ∷ [])) { hub = Some (usual_hub 2); self_powered = true }
+two_ports = record (function [] (device_bytes 9 0 1) (hub_bytes ∷ [])) {
+  hub = Some (usual_hub 2);
+  self_powered = true;
+}
 
 -- an item of length 0, a value twice, a text that is cut, one that is missing, and no configuration
 abbrev no_item : Spec
-no_item = function [] (device_bytes 0 0 1) ((9 ∷ 2 ∷ 18 ∷ 0 ∷ 1 ∷ 1 ∷ 0 ∷ 128 ∷ 50 ∷ 0 ∷ 4 ∷ 0 ∷ 0 ∷ 0 ∷ 255 ∷ 0 ∷ 0 ∷ 0 ∷ []) ∷ [])
+no_item = function [] (device_bytes 0 0 1)
+    ((9 ∷ 2 ∷ 18 ∷ 0 ∷ 1 ∷ 1 ∷ 0 ∷ 128 ∷ 50 ∷ 0 ∷ 4 ∷ 0 ∷ 0 ∷ 0 ∷ 255 ∷ 0 ∷ 0 ∷ 0 ∷ []) ∷ [])
 
 abbrev twice_configured : Spec
 twice_configured = function [] (device_bytes 0 0 2) (config_bytes 1 50 ∷ config_bytes 1 50 ∷ [])
 
 abbrev cut_device : Spec
-cut_device = function [] (device_bytes 0 0 1) ((9 ∷ 2 ∷ 18 ∷ 0 ∷ 1 ∷ 1 ∷ 0 ∷ 128 ∷ 50 ∷ 9 ∷ []) ∷ [])
+cut_device = function [] (device_bytes 0 0 1) ((9 ∷ 2 ∷ 18 ∷ 0 ∷ 1 ∷ 1 ∷ 0 ∷ 128 ∷ 50 ∷ 9 ∷ []) ∷
+    [])
 
 abbrev missing : Spec
 missing = function [] (device_bytes 0 0 2) (config_bytes 1 50 ∷ [])
@@ -61,18 +71,24 @@ unconfigured = function [] (device_bytes 0 0 0) (config_bytes 1 50 ∷ [])
 pub record Examples : Type 0 where
   pub silent : verdict (record small { silent = true; busy = true }) 2 500 ≡ Err Silent
   pub busy : verdict (record small { busy = true }) 2 500 ≡ Err Busy
-  pub stalled_device : verdict (record small { stalls = record no_stalls { device = true } }) 2 500 ≡ Err (Stalled request.Device)
+  pub stalled_device : verdict (record small { stalls = record no_stalls { device = true } }) 2 500
+      ≡ Err (Stalled request.Device)
   pub bad_head : verdict (record small { descriptor = 18 ∷ 1 ∷ [] }) 2 500 ≡ Err BadDevice
-  pub stalled_address : verdict (record unconfigured { stalls = record no_stalls { address = true } }) 2 500 ≡ Err (Stalled request.Address)
+  pub stalled_address : verdict (record unconfigured {
+    stalls =
+        record no_stalls { address = true };
+  }) 2 500 ≡ Err (Stalled request.Address)
   pub bad_device : verdict unconfigured 2 500 ≡ Err BadDevice
   pub too_deep : verdict two_ports 7 500 ≡ Err TooDeep
-  pub stalled_config : verdict (record small { stalls = record no_stalls { config = true } }) 2 500 ≡ Err (Stalled request.Config)
+  pub stalled_config : verdict (record small { stalls = record no_stalls { config = true } }) 2 500
+      ≡ Err (Stalled request.Config)
   pub no_text : verdict missing 2 500 ≡ Err (Stalled request.Config)
   pub bad_item : verdict no_item 2 500 ≡ Err (BadConfiguration 0)
   pub bad_length : verdict cut_device 2 500 ≡ Err (BadConfiguration 0)
   pub bad_value : verdict twice_configured 2 500 ≡ Err (BadConfiguration 1)
   pub no_power : verdict large 3 100 ≡ Err NoPower
-  pub stalled_set : verdict (record small { stalls = record no_stalls { set_config = true } }) 2 500 ≡ Err (Stalled request.SetConfig)
+  pub stalled_set : verdict (record small { stalls = record no_stalls { set_config = true } }) 2 500
+      ≡ Err (Stalled request.SetConfig)
   pub bad_hub : verdict (record two_ports { hub = None }) 2 500 ≡ Err BadHub
   pub accepted : verdict small 2 500 ≡ Ok 0
   pub first : verdict two 3 500 ≡ Ok 0
@@ -80,7 +96,10 @@ pub record Examples : Type 0 where
   pub hub : verdict two_ports 2 500 ≡ Ok 0
 
 pub examples : Examples
-unfolding verdict first_fault config_fault text_read text.needs_of device.device_head_of device.device_spelled config.config_head_of config.config_of config.items_fault config.pieces_of hub.hub_spelled choice.status_endpoint_of choice.first_counting choice.status_at item.items_in item.items_of
+unfolding verdict first_fault config_fault text_read text.needs_of device.device_head_of
+    device.device_spelled config.config_head_of config.config_of config.items_fault config.pieces_of
+    hub.hub_spelled choice.status_endpoint_of choice.first_counting choice.status_at item.items_in
+    item.items_of
 examples =
     record {
       silent = refl;
@@ -105,10 +124,17 @@ examples =
     }
 
 -- string 0 names a language, and string 1 is read; without string 0 it is not
-product : string_at (record small { strings = (4 ∷ 3 ∷ 9 ∷ 4 ∷ []) ∷ (8 ∷ 3 ∷ 65 ∷ 0 ∷ 34 ∷ 0 ∷ 10 ∷ 0 ∷ []) ∷ [] }) 1 ≡ Some (65 ∷ 34 ∷ 10 ∷ [])
+product : string_at (record small {
+  strings =
+      (4 ∷ 3 ∷ 9 ∷ 4 ∷ []) ∷ (8 ∷ 3 ∷ 65 ∷ 0 ∷ 34 ∷ 0 ∷ 10 ∷ 0 ∷ []) ∷ [];
+}) 1
+    ≡ Some (65 ∷ 34 ∷ 10 ∷ [])
 unfolding string_at string.string_of words.words_of
 product = refl
 
-no_language : string_at (record small { strings = (2 ∷ 3 ∷ []) ∷ (8 ∷ 3 ∷ 65 ∷ 0 ∷ 34 ∷ 0 ∷ 10 ∷ 0 ∷ []) ∷ [] }) 1 ≡ None
+no_language : string_at (record small {
+  strings =
+      (2 ∷ 3 ∷ []) ∷ (8 ∷ 3 ∷ 65 ∷ 0 ∷ 34 ∷ 0 ∷ 10 ∷ 0 ∷ []) ∷ [];
+}) 1 ≡ None
 unfolding string_at string.string_of words.words_of
 no_language = refl

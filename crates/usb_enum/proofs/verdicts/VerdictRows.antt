@@ -1,5 +1,7 @@
 -- The verdict on a device, row by row: what it is where the rows before do not hold.
-use Rattle.std.proofs.Common.{◌≡◌, ◌⊎◌, inl, inr, ◌<◌, ℕ, zero, suc, ◌+◌, ◌==◌, ◌&&◌, not, true, false, [], take, slice_index_or, None, Some, Err, Ok, is_ok, refl, ap, sym, ◌∙◌, arith}
+use Rattle.std.proofs.Common.{◌≡◌, ◌⊎◌, inl, inr, ◌<◌, ℕ, zero, suc, ◌+◌, ◌==◌, ◌&&◌, not, true}
+use Rattle.std.proofs.Common.{false, [], take, slice_index_or, None, Some, Err, Ok, is_ok, refl, ap}
+use Rattle.std.proofs.Common.{sym, ◌∙◌, arith}
 use Rattle.std.specs.Option.{option_or}
 use Rattle.std.proofs.lemmas.Bool.{cases_order}
 use Rattle.usb_descriptor.specs.Device.{device_head_of, configuration_count}
@@ -8,7 +10,8 @@ use Rattle.usb_enum.specs.declared.cause.Cause.{Cause}
 use Rattle.usb_enum.specs.declared.cause.Cause.TheVariants.{Silent, TooDeep}
 use Rattle.usb_enum.specs.Device.{is_device, is_hub_device}
 use Rattle.usb_enum.specs.Text.{choice_of}
-use Rattle.usb_enum.specs.Verdicts.{verdict, is_good_hub, texts_of, config_fault, first_fault, read_verdict, set_verdict}
+use Rattle.usb_enum.specs.Verdicts.{verdict, is_good_hub, texts_of, config_fault, first_fault}
+use Rattle.usb_enum.specs.Verdicts.{read_verdict, set_verdict}
 
 -- it answers with the head of a device descriptor
 pub record GaveHead (spec : Spec) : Type 0 where
@@ -32,45 +35,71 @@ pub record GaveTexts (spec : Spec) (tier supply chosen : ℕ) : Type 0 where
 
 -- Up to the device descriptor
 
-pub row_silent : (spec : Spec) (tier supply : ℕ) → spec.silent ≡ true → verdict spec tier supply ≡ Err Silent
+pub row_silent : (spec : Spec) (tier supply : ℕ) → spec.silent ≡ true
+    → verdict spec tier supply ≡ Err Silent
 unfolding verdict
 row_silent spec tier supply a = rw a refl
 
-pub row_too_deep : (spec : Spec) (tier supply : ℕ) → GaveHead spec → spec.stalls.address ≡ false → is_device spec.low (take 18 spec.descriptor) ≡ true → (is_hub_device spec.descriptor && tier == 7) ≡ true
+pub row_too_deep : (spec : Spec) (tier supply : ℕ) → GaveHead spec → spec.stalls.address ≡ false
+    → is_device spec.low (take 18 spec.descriptor) ≡ true
+    → (is_hub_device spec.descriptor && tier == 7) ≡ true
     → verdict spec tier supply ≡ Err TooDeep
 unfolding verdict
 row_too_deep spec tier supply h a b c = rw (h.loud, h.free, h.device, h.head, a, b, c) refl
 
-pub rows_after : (spec : Spec) (tier supply : ℕ) → GaveDevice spec tier → verdict spec tier supply ≡ read_verdict spec supply (first_fault spec (configuration_count spec.descriptor))
+pub rows_after : (spec : Spec) (tier supply : ℕ) → GaveDevice spec tier
+    → verdict spec tier supply ≡ read_verdict spec supply
+    (first_fault spec (configuration_count spec.descriptor))
 unfolding verdict
-rows_after spec tier supply h = rw (h.first.loud, h.first.free, h.first.device, h.first.head, h.address, h.whole, h.shallow) refl
+rows_after spec tier supply h = rw (
+  h.first.loud,
+  h.first.free,
+  h.first.device,
+  h.first.head,
+  h.address,
+  h.whole,
+  h.shallow,
+) refl
 
 -- Configurations
 
-pub first_none : (spec : Spec) (i : ℕ) → first_fault spec i ≡ None → config_fault spec i ≡ None → first_fault spec (i + 1) ≡ None
+pub first_none : (spec : Spec) (i : ℕ) → first_fault spec i ≡ None → config_fault spec i ≡ None
+    → first_fault spec (i + 1) ≡ None
 unfolding first_fault
-first_none spec i h k = let e : i + 1 ≡ suc i = omega arith in rw e (ap (λ o. option_or o (config_fault spec i)) h ∙ k)
+first_none spec i h k = let e : i + 1 ≡ suc i = omega arith in
+    rw e (ap (λ o. option_or o (config_fault spec i)) h ∙ k)
 
 -- the first bad one is the first of more
-pub first_fault-next : (spec : Spec) (i n : ℕ) (cause : Cause) → i < n → first_fault spec i ≡ None → config_fault spec i ≡ Some cause → first_fault spec n ≡ Some cause
+pub first_fault-next : (spec : Spec) (i n : ℕ) (cause : Cause) → i < n → first_fault spec i ≡ None
+    → config_fault spec i ≡ Some cause → first_fault spec n ≡ Some cause
 unfolding first_fault
 first_fault-next spec i zero cause l h k = absurd (omega (arith, l))
-first_fault-next spec i (suc n) cause l h k = pick (cases_order i n) (λ m. first_fault-next spec i n cause m h k)
+first_fault-next spec i (suc n) cause l h k =
+    pick (cases_order i n) (λ m. first_fault-next spec i n cause m h k)
   where
-    pick : (i ≡ n) ⊎ ((i < n) ⊎ (n < i)) → (i < n → first_fault spec n ≡ Some cause) → option_or (first_fault spec n) (config_fault spec n) ≡ Some cause
-    pick (inl e) on = ap (λ j. option_or (first_fault spec j) (config_fault spec j)) (sym e) ∙ ap (λ o. option_or o (config_fault spec i)) h ∙ k
+    pick : (i ≡ n) ⊎ ((i < n) ⊎ (n < i)) → (i < n → first_fault spec n ≡ Some cause)
+        → option_or (first_fault spec n) (config_fault spec n) ≡ Some cause
+    pick (inl e) on = ap (λ j. option_or (first_fault spec j) (config_fault spec j)) (sym e)
+        ∙ ap (λ o. option_or o (config_fault spec i)) h ∙ k
     pick (inr (inl m)) on = ap (λ o. option_or o (config_fault spec n)) (on m)
     pick (inr (inr m)) on = absurd (omega (arith, l, m))
 
-rows_read : (spec : Spec) (tier supply : ℕ) → GaveDevice spec tier → first_fault spec (configuration_count spec.descriptor) ≡ None
+rows_read : (spec : Spec) (tier supply : ℕ) → GaveDevice spec tier
+    → first_fault spec (configuration_count spec.descriptor) ≡ None
     → verdict spec tier supply ≡ set_verdict spec (texts_of spec) (choice_of supply (texts_of spec))
-rows_read spec tier supply h good = rows_after spec tier supply h ∙ ap (read_verdict spec supply) good
+rows_read spec tier supply h good = rows_after spec tier supply h
+    ∙ ap (read_verdict spec supply) good
 
 -- With a configuration
 
-rows_chosen : (spec : Spec) (tier supply chosen : ℕ) → GaveTexts spec tier supply chosen → verdict spec tier supply ≡ set_verdict spec (texts_of spec) (Some chosen)
-rows_chosen spec tier supply chosen h = rows_read spec tier supply h.device h.good ∙ ap (set_verdict spec (texts_of spec)) h.within
+rows_chosen : (spec : Spec) (tier supply chosen : ℕ) → GaveTexts spec tier supply chosen
+    → verdict spec tier supply ≡ set_verdict spec (texts_of spec) (Some chosen)
+rows_chosen spec tier supply chosen h = rows_read spec tier supply h.device h.good
+    ∙ ap (set_verdict spec (texts_of spec)) h.within
 
-pub row_accepted : (spec : Spec) (tier supply chosen : ℕ) → GaveTexts spec tier supply chosen → spec.stalls.set_config ≡ false
-    → (is_hub_device spec.descriptor && not (is_good_hub spec (slice_index_or (texts_of spec) chosen []))) ≡ false → verdict spec tier supply ≡ Ok chosen
+pub row_accepted : (spec : Spec) (tier supply chosen : ℕ) → GaveTexts spec tier supply chosen
+    → spec.stalls.set_config ≡ false
+    → (is_hub_device spec.descriptor && not
+    (is_good_hub spec (slice_index_or (texts_of spec) chosen []))) ≡ false
+    → verdict spec tier supply ≡ Ok chosen
 row_accepted spec tier supply chosen h a b = rows_chosen spec tier supply chosen h ∙ rw (a, b) refl

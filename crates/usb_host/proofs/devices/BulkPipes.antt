@@ -1,5 +1,7 @@
--- Bulk pipes and the endpoints at their other ends stay as they were over what a host does at its ports.
-use Rattle.std.proofs.Common.{◌≡◌, ◌⊎◌, inl, inr, refl, sym, ap, subst, ◌∙◌, ℕ, Bool, true, false, List, Option, None, Some, option_map, Result}
+-- Bulk pipes and the endpoints at their other ends stay as they were over what a host does at its
+-- ports.
+use Rattle.std.proofs.Common.{◌≡◌, ◌⊎◌, inl, inr, refl, sym, ap, subst, ◌∙◌, ℕ, Bool, true, false}
+use Rattle.std.proofs.Common.{List, Option, None, Some, option_map, Result}
 use Rattle.std.specs.BTreeMap.{is_at}
 use Rattle.arrayvec.specs.ArrayVec.{ArrayVec}
 use Rattle.usb_port.specs.Order.{path_cmp}
@@ -33,8 +35,10 @@ use Rattle.usb_table.specs.Listing.{finding_at}
 use Rattle.usb_table.specs.Pipes.{new_pipes, new_pipes_to}
 use Rattle.usb_table.specs.Table.{Table, GoesThrough, entered, pipes_at}
 use Rattle.usb_table.specs.Transfers.{PipesPolled}
-use Rattle.usb_table.proofs.Interface.{path_tied, pipes_at-entered, pipes_at-entered_elsewhere, spares-same, spares-stage, spares-then}
-use Rattle.usb_host.specs.BulkPipes.{SameBulk, EndpointsStayed, EndpointsBegan, StayedAt, RenewedAt, KeepsBulk}
+use Rattle.usb_table.proofs.Interface.{path_tied, pipes_at-entered, pipes_at-entered_elsewhere}
+use Rattle.usb_table.proofs.Interface.{spares-same, spares-stage, spares-then}
+use Rattle.usb_host.specs.BulkPipes.{SameBulk, EndpointsStayed, EndpointsBegan, StayedAt, RenewedAt}
+use Rattle.usb_host.specs.BulkPipes.{KeepsBulk}
 use Rattle.usb_host.specs.HostState.{HostState}
 use Rattle.usb_host.specs.Ownership.{claims}
 use Rattle.usb_host.specs.Progress.{HostSteps, OnlyBusSteps}
@@ -54,38 +58,65 @@ bulk_joined : (p q r : Pipes) → SameBulk p q → SameBulk q r → SameBulk p r
 bulk_joined p q r x y = record { out = y.out ∙ x.out; into = y.into ∙ x.into }
 
 -- a poll moves no bulk pipe
-pub polled_bulk : (pipes left : Pipes) (old new : World) (result : Result (Option (ArrayVec ℕ)) PipeFault) → PipesPolled pipes old result left new → SameBulk pipes left
-polled_bulk (Hub pipe) left old new result x = record { out = ap pipe_out x.1; into = ap pipe_in x.1 }
+pub polled_bulk : (pipes left : Pipes) (old new : World)
+    (result : Result (Option (ArrayVec ℕ)) PipeFault) → PipesPolled pipes old result left new
+    → SameBulk pipes left
+polled_bulk (Hub pipe) left old new result x =
+    record { out = ap pipe_out x.1; into = ap pipe_in x.1 }
 polled_bulk (Function pipes) left old new result x = same_bulk (Function pipes) left x.1
 polled_bulk Absent left old new result x = same_bulk Absent left x.1
 
 -- The endpoints of a path
 
-began_on : (path : List ℕ) (w v : World) → EndpointsBegan path w → EndpointsStayed path w v → EndpointsBegan path v
+began_on : (path : List ℕ) (w v : World) → EndpointsBegan path w → EndpointsStayed path w v
+    → EndpointsBegan path v
 began_on path w v began stayed x s is on stands =
     let was : Was SparesBulk w x s = stayed x s is on stands in
-    let fresh : (was.before.bulk_out ≡ rested) × (was.before.bulk_in ≡ rested) = began x was.before is was.on was.stands in
-    (ap (λ (t : State). t.bulk_out) was.so ∙ fresh.0, ap (λ (t : State). t.bulk_in) was.so ∙ fresh.1)
+    let fresh : (was.before.bulk_out ≡ rested) × (was.before.bulk_in ≡ rested) =
+    began x was.before is was.on was.stands in (
+      ap (λ (t : State). t.bulk_out) was.so ∙ fresh.0,
+      ap (λ (t : State). t.bulk_in) was.so
+          ∙ fresh.1,
+    )
 
 stayed_none : (path : List ℕ) (w v : World) → v ≡ w → EndpointsStayed path w v
-stayed_none path w v same = subst (EndpointsStayed path w) (sym same) (λ x s is on stands. record { before = s; on = on; stands = stands; so = spares-same x s s refl })
+stayed_none path w v same = subst (EndpointsStayed path w) (sym same)
+    (λ x s is on stands. record {
+      before = s;
+      on = on;
+      stands = stands;
+      so = spares-same x s s refl;
+    })
 
-stayed_joined : (path : List ℕ) (w u v : World) → EndpointsStayed path w u → EndpointsStayed path u v → EndpointsStayed path w v
+stayed_joined : (path : List ℕ) (w u v : World) → EndpointsStayed path w u
+    → EndpointsStayed path u v → EndpointsStayed path w v
 stayed_joined path w u v first second x s is on stands =
     let late : Was SparesBulk u x s = second x s is on stands in
     let early : Was SparesBulk w x late.before = first x late.before is late.on late.stands in
-    record { before = early.before; on = early.on; stands = early.stands; so = spares-then x early.before late.before s early.so late.so }
+    record {
+      before = early.before;
+      on = early.on;
+      stands = early.stands;
+      so = spares-then x early.before late.before s early.so late.so;
+    }
 
-stayed_elsewhere : (first path : List ℕ) (w v : World) → EachElsewhere first StaysAs w v → is_way first path ≡ false → EndpointsStayed path w v
+stayed_elsewhere : (first path : List ℕ) (w v : World) → EachElsewhere first StaysAs w v
+    → is_way first path ≡ false → EndpointsStayed path w v
 stayed_elsewhere first path w v each away x s is on stands =
     let was : Was StaysAs w x s = each x s (ap (is_way first) (sym is) ∙ away) on stands in
-    record { before = was.before; on = was.on; stands = was.stands; so = spares-stage x was.before s was.so }
+    record {
+      before = was.before;
+      on = was.on;
+      stands = was.stands;
+      so = spares-stage x was.before s was.so;
+    }
 
 -- Where nothing is found anew
 
 -- each accepted device has what it had
 pub record AllStay (old new : HostState) : Type 0 where
-  pub each : (path : List ℕ) (device : Accepted) → accepted_device_at path new.entries ≡ Some device → StayedAt path device old new
+  pub each : (path : List ℕ) (device : Accepted) → accepted_device_at path new.entries ≡ Some device
+      → StayedAt path device old new
 
 pub stay_joined : (a b c : HostState) → AllStay a b → AllStay b c → AllStay a c
 stay_joined a b c x y = record {
@@ -94,7 +125,8 @@ stay_joined a b c x y = record {
       let early : StayedAt path device a b = x.each path device late.listed in
       record {
         listed = early.listed;
-        pipes = bulk_joined (pipes_at path (table_in a)) (pipes_at path (table_in b)) (pipes_at path (table_in c)) early.pipes late.pipes;
+        pipes = bulk_joined (pipes_at path (table_in a)) (pipes_at path (table_in b))
+            (pipes_at path (table_in c)) early.pipes late.pipes;
         endpoints = stayed_joined path a.world b.world c.world early.endpoints late.endpoints;
       };
 }
@@ -103,7 +135,9 @@ pub bulk_stays : (a b : HostState) → AllStay a b → KeepsBulk a b
 bulk_stays a b x = record { each = λ path device at. inl (x.each path device at) }
 
 -- entries and bulk pipes are as they were
-stay_same : (a b : HostState) → b.entries ≡ a.entries → ((path : List ℕ) → SameBulk (pipes_at path (table_in a)) (pipes_at path (table_in b))) → EachWas SparesBulk a.world b.world → AllStay a b
+stay_same : (a b : HostState) → b.entries ≡ a.entries
+    → ((path : List ℕ) → SameBulk (pipes_at path (table_in a)) (pipes_at path (table_in b)))
+    → EachWas SparesBulk a.world b.world → AllStay a b
 stay_same a b same pipes each = record {
   each = λ path device at. record {
     listed = ap (λ (es : Entries). accepted_device_at path es) (sym same) ∙ at;
@@ -116,135 +150,207 @@ stays_each : (w v : World) → EachWas StaysAs w v → EachWas SparesBulk w v
 stays_each w v each = each_wider StaysAs SparesBulk (λ j s v x. spares-stage j s v x) w v each
 
 -- only the world goes on, and devices stay as they were
-pub stay_rests : (a b : HostState) → OnlyBusSteps a b → KeepsDevices a.world b.world → b.world.shared ≡ false → AllStay a b
+pub stay_rests : (a b : HostState) → OnlyBusSteps a b → KeepsDevices a.world b.world
+    → b.world.shared ≡ false → AllStay a b
 stay_rests a b r devices single =
     stay_same a b (ap (λ (h : HostState). h.entries) r)
-    (λ path. same_bulk (pipes_at path (table_in a)) (pipes_at path (table_in b)) (ap (λ (h : HostState). pipes_at path (table_in h)) r)) (stays_each a.world b.world (devices.stays single))
+    (λ path. same_bulk (pipes_at path (table_in a)) (pipes_at path (table_in b))
+    (ap (λ (h : HostState). pipes_at path (table_in h)) r))
+    (stays_each a.world b.world (devices.stays single))
 
 -- the hub at a path is polled
-pub stay_polled : (hub : List ℕ) (a b : HostState) (result : Result (Option (ArrayVec ℕ)) PipeFault) → GoesThrough hub (table_in a) (table_in b) → PipesPolled (pipes_at hub (table_in a)) a.world result (pipes_at hub (table_in b)) b.world
+pub stay_polled : (hub : List ℕ) (a b : HostState) (result : Result (Option (ArrayVec ℕ)) PipeFault)
+    → GoesThrough hub (table_in a) (table_in b)
+    → PipesPolled (pipes_at hub (table_in a)) a.world result (pipes_at hub (table_in b)) b.world
     → EachWas SparesBulk a.world b.world → AllStay a b
-stay_polled hub a b result goes polled each = stay_same a b goes.entries (λ path. pick path (is_at (path_cmp hub) path) refl) each
+stay_polled hub a b result goes polled each =
+    stay_same a b goes.entries (λ path. pick path (is_at (path_cmp hub) path) refl) each
   where
-    pick : (path : List ℕ) (tied : Bool) → is_at (path_cmp hub) path ≡ tied → SameBulk (pipes_at path (table_in a)) (pipes_at path (table_in b))
-    pick path true tie = subst (λ (p : List ℕ). SameBulk (pipes_at p (table_in a)) (pipes_at p (table_in b))) (path_tied hub path tie) (polled_bulk (pipes_at hub (table_in a)) (pipes_at hub (table_in b)) a.world b.world result polled)
-    pick path false apart = same_bulk (pipes_at path (table_in a)) (pipes_at path (table_in b)) (goes.others path apart)
+    pick : (path : List ℕ) (tied : Bool) → is_at (path_cmp hub) path ≡ tied
+        → SameBulk (pipes_at path (table_in a)) (pipes_at path (table_in b))
+    pick path true tie = subst (λ (p : List ℕ). SameBulk (pipes_at p (table_in a))
+        (pipes_at p (table_in b))) (path_tied hub path tie)
+        (polled_bulk (pipes_at hub (table_in a)) (pipes_at hub (table_in b)) a.world b.world result
+        polled)
+    pick path false apart = same_bulk (pipes_at path (table_in a)) (pipes_at path (table_in b))
+        (goes.others path apart)
 
 -- an event comes
-pub stay_event : (a b : HostState) → b.entries ≡ a.entries → b.pipes ≡ a.pipes → b.world ≡ after event a.world → AllStay a b
+pub stay_event : (a b : HostState) → b.entries ≡ a.entries → b.pipes ≡ a.pipes
+    → b.world ≡ after event a.world → AllStay a b
 stay_event a b same pipes_same is =
-    let table : table_in b ≡ table_in a = ap (λ es. record { entries = es; pipes = b.pipes }) same ∙ ap (λ ps. record { entries = a.entries; pipes = ps }) pipes_same in
-    stay_same a b same (λ path. same_bulk (pipes_at path (table_in a)) (pipes_at path (table_in b)) (ap (pipes_at path) table))
-    (subst (EachWas SparesBulk a.world) (sym is) (each_wider (λ x s v. v ≡ s) SparesBulk spares-same a.world (after event a.world) (event_same a.world)))
+    let table : table_in b ≡ table_in a = ap (λ es. record { entries = es; pipes = b.pipes }) same
+    ∙ ap (λ ps. record { entries = a.entries; pipes = ps }) pipes_same in
+    stay_same a b same (λ path. same_bulk (pipes_at path (table_in a)) (pipes_at path (table_in b))
+    (ap (pipes_at path) table))
+    (subst (EachWas SparesBulk a.world) (sym is) (each_wider (λ x s v. v ≡ s) SparesBulk spares-same
+    a.world (after event a.world) (event_same a.world)))
 
 -- what is listed after what stood at a path is forgotten stands elsewhere
-listed_away : (first path : List ℕ) (es : Entries) (device : Accepted) → has_at first es ≡ false → accepted_device_at path es ≡ Some device → is_way first path ≡ false
+listed_away : (first path : List ℕ) (es : Entries) (device : Accepted) → has_at first es ≡ false
+    → accepted_device_at path es ≡ Some device → is_way first path ≡ false
 listed_away first path es device gone at = pick (decided (is_way first path))
   where
     pick : (is_way first path ≡ true) ⊎ (is_way first path ≡ false) → is_way first path ≡ false
     pick (inl way) = absurd (cc (ap accepted_device_of (finding-none first path es gone way), at))
     pick (inr away) = away
 
-pub stay_forgotten : (first : List ℕ) (a b : HostState) → b.world ≡ a.world → b.entries ≡ without first a.entries → has_at first b.entries ≡ false → ((x : List ℕ) → is_way first x ≡ false → pipes_at x (table_in b) ≡ pipes_at x (table_in a)) → AllStay a b
+pub stay_forgotten : (first : List ℕ) (a b : HostState) → b.world ≡ a.world
+    → b.entries ≡ without first a.entries → has_at first b.entries ≡ false
+    → ((x : List ℕ) → is_way first x ≡ false → pipes_at x (table_in b) ≡ pipes_at x (table_in a))
+    → AllStay a b
 stay_forgotten first a b same rest gone pipes = record {
   each = λ path device at.
       let away : is_way first path ≡ false = listed_away first path b.entries device gone at in
       record {
-        listed = sym (ap accepted_device_of (ap (λ (es : Entries). finding_at path es) rest ∙ finding-kept first path a.entries away)) ∙ at;
-        pipes = same_bulk (pipes_at path (table_in a)) (pipes_at path (table_in b)) (pipes path away);
+        listed = sym (ap accepted_device_of (ap (λ (es : Entries). finding_at path es) rest
+            ∙ finding-kept first path a.entries away)) ∙ at;
+        pipes = same_bulk (pipes_at path (table_in a)) (pipes_at path (table_in b))
+            (pipes path away);
         endpoints = stayed_none path a.world b.world same;
       };
 }
 
 -- nothing is entered at a path of which nothing was listed
-pub stay_unfound : (first : List ℕ) (a b : HostState) → b.entries ≡ a.entries → b.pipes ≡ a.pipes → has_at first a.entries ≡ false → EachElsewhere first StaysAs a.world b.world → AllStay a b
+pub stay_unfound : (first : List ℕ) (a b : HostState) → b.entries ≡ a.entries → b.pipes ≡ a.pipes
+    → has_at first a.entries ≡ false → EachElsewhere first StaysAs a.world b.world → AllStay a b
 stay_unfound first a b same pipes_same gone each = record {
   each = λ path device at.
-      let listed : accepted_device_at path a.entries ≡ Some device = ap (λ (es : Entries). accepted_device_at path es) (sym same) ∙ at in
-      let table : table_in b ≡ table_in a = ap (λ es. record { entries = es; pipes = b.pipes }) same ∙ ap (λ ps. record { entries = a.entries; pipes = ps }) pipes_same in
+      let listed : accepted_device_at path a.entries ≡ Some device =
+      ap (λ (es : Entries). accepted_device_at path es) (sym same) ∙ at in
+      let table : table_in b ≡ table_in a = ap (λ es. record { entries = es; pipes = b.pipes }) same
+      ∙ ap (λ ps. record { entries = a.entries; pipes = ps }) pipes_same in
       record {
         listed = listed;
-        pipes = same_bulk (pipes_at path (table_in a)) (pipes_at path (table_in b)) (ap (pipes_at path) table);
-        endpoints = stayed_elsewhere first path a.world b.world each (listed_away first path a.entries device gone listed);
+        pipes = same_bulk (pipes_at path (table_in a)) (pipes_at path (table_in b))
+            (ap (pipes_at path) table);
+        endpoints = stayed_elsewhere first path a.world b.world each
+            (listed_away first path a.entries device gone listed);
       };
 }
 
 -- What is entered
 
 -- at another path
-beside : (first path : List ℕ) (f : Finding) (a b : HostState) (device : Accepted) → table_in b ≡ entered first f (table_in a) → is_at (path_cmp path) first ≡ false → accepted_device_at path b.entries ≡ Some device
-    → (accepted_device_at path a.entries ≡ Some device → EndpointsStayed path a.world b.world) → StayedAt path device a b
+beside : (first path : List ℕ) (f : Finding) (a b : HostState) (device : Accepted)
+    → table_in b ≡ entered first f (table_in a) → is_at (path_cmp path) first ≡ false
+    → accepted_device_at path b.entries ≡ Some device
+    → (accepted_device_at path a.entries ≡ Some device → EndpointsStayed path a.world b.world)
+    → StayedAt path device a b
 beside first path f a b device table apart at endpoints =
     let listed : accepted_device_at path a.entries ≡ Some device =
-    sym (ap (λ (t : Table). accepted_device_at path t.entries) table ∙ ap accepted_device_of (lookup-insert_entry_elsewhere path first f a.entries apart)) ∙ at in
+    sym (ap (λ (t : Table). accepted_device_at path t.entries) table
+    ∙ ap accepted_device_of (lookup-insert_entry_elsewhere path first f a.entries apart))
+    ∙ at in
     record {
       listed = listed;
-      pipes = same_bulk (pipes_at path (table_in a)) (pipes_at path (table_in b)) (ap (pipes_at path) table ∙ pipes_at-entered_elsewhere first f (table_in a) path apart);
+      pipes = same_bulk (pipes_at path (table_in a)) (pipes_at path (table_in b))
+          (ap (pipes_at path) table ∙ pipes_at-entered_elsewhere first f (table_in a) path apart);
       endpoints = endpoints listed;
     }
 
 -- the accepted device of a finding is what was found
-pub accepted_device_of-some : (f : Finding) (device : Accepted) → accepted_device_of (Some f) ≡ Some device → f ≡ Device device
+pub accepted_device_of-some : (f : Finding) (device : Accepted)
+    → accepted_device_of (Some f) ≡ Some device → f ≡ Device device
 accepted_device_of-some (Device d) device e = ap Device (cc e)
 accepted_device_of-some (Refused cause) device e = absurd (cc e)
 
 -- at the path itself
-entered_there : (first path : List ℕ) (f : Finding) (a b : HostState) (device : Accepted) → table_in b ≡ entered first f (table_in a) → path ≡ first → accepted_device_at path b.entries ≡ Some device → f ≡ Device device
+entered_there : (first path : List ℕ) (f : Finding) (a b : HostState) (device : Accepted)
+    → table_in b ≡ entered first f (table_in a) → path ≡ first → accepted_device_at path b.entries
+    ≡ Some device → f ≡ Device device
 entered_there first path f a b device table is at =
-    let there : accepted_device_at first b.entries ≡ Some device = subst (λ (p : List ℕ). accepted_device_at p b.entries ≡ Some device) is at in
-    accepted_device_of-some f device (sym (ap (λ (t : Table). accepted_device_at first t.entries) table ∙ ap accepted_device_of (lookup-insert_entry_here first f a.entries)) ∙ there)
+    let there : accepted_device_at first b.entries ≡ Some device =
+    subst (λ (p : List ℕ). accepted_device_at p b.entries ≡ Some device) is at in
+    accepted_device_of-some f device (sym (ap (λ (t : Table). accepted_device_at first t.entries)
+    table ∙ ap accepted_device_of (lookup-insert_entry_here first f a.entries)) ∙ there)
 
 -- a device that is refused has no pipes
-pub stay_refused : (first : List ℕ) (cause : Cause) (a b : HostState) → table_in b ≡ entered first (Refused cause) (table_in a) → b.world ≡ a.world → AllStay a b
-stay_refused first cause a b table same = record { each = λ path device at. pick path device at (is_at (path_cmp path) first) refl }
+pub stay_refused : (first : List ℕ) (cause : Cause) (a b : HostState)
+    → table_in b ≡ entered first (Refused cause) (table_in a) → b.world ≡ a.world → AllStay a b
+stay_refused first cause a b table same =
+    record { each = λ path device at. pick path device at (is_at (path_cmp path) first) refl }
   where
-    pick : (path : List ℕ) (device : Accepted) → accepted_device_at path b.entries ≡ Some device → (tied : Bool) → is_at (path_cmp path) first ≡ tied → StayedAt path device a b
-    pick path device at true tie = absurd (cc (entered_there first path (Refused cause) a b device table (path_tied path first tie) at))
-    pick path device at false apart = beside first path (Refused cause) a b device table apart at (λ listed. stayed_none path a.world b.world same)
+    pick : (path : List ℕ) (device : Accepted) → accepted_device_at path b.entries ≡ Some device
+        → (tied : Bool) → is_at (path_cmp path) first ≡ tied → StayedAt path device a b
+    pick path device at true tie = absurd
+        (cc (entered_there first path (Refused cause) a b device table (path_tied path first tie)
+        at))
+    pick path device at false apart = beside first path (Refused cause) a b device table apart at
+        (λ listed. stayed_none path a.world b.world same)
 
 -- whoever is reached holds the address of its entry
-unreached : (w : World) (path : List ℕ) (es : Entries) → MapHolds (claims es) w → finding_at path es ≡ None → reach w.roots path ≡ false
+unreached : (w : World) (path : List ℕ) (es : Entries) → MapHolds (claims es) w
+    → finding_at path es ≡ None → reach w.roots path ≡ false
 unreached w path es held none = pick (reach w.roots path) refl
   where
     pick : (on : Bool) → reach w.roots path ≡ on → on ≡ false
     pick true on =
-        let there : (s : State) × (state_there w.roots path ≡ Some s) = reached_there w.roots path on in
-        let some_is : Some (address_of there.0) ≡ None = sym (ap (option_map address_of) there.1) ∙ held.own path on ∙ ap address_in none in
+        let there : (s : State) × (state_there w.roots path ≡ Some s) =
+        reached_there w.roots path on in
+        let some_is : Some (address_of there.0) ≡ None = sym (ap (option_map address_of) there.1)
+        ∙ held.own path on ∙ ap address_in none in
         absurd (cc some_is)
     pick false on = refl
 
 -- a device that is found where none was listed was not reached before
-module _ (first : List ℕ) (f : Finding) (a b : HostState) (table : table_in b ≡ entered first f (table_in a)) (gone : has_at first a.entries ≡ false) (each : EachElsewhere first StaysAs a.world b.world) where
-  pub bulk_entered : Course AnyStep a.world b.world → MapHolds (claims a.entries) a.world → ((device : Accepted) → f ≡ Device device → EndpointsBegan first b.world) → KeepsBulk a b
-  bulk_entered course held began = record { each = λ path device at. pick path device at (is_at (path_cmp path) first) refl }
+module _ (first : List ℕ) (f : Finding) (a b : HostState)
+    (table : table_in b ≡ entered first f (table_in a)) (gone : has_at first a.entries ≡ false)
+    (each : EachElsewhere first StaysAs a.world b.world) where
+  pub bulk_entered : Course AnyStep a.world b.world → MapHolds (claims a.entries) a.world
+      → ((device : Accepted) → f ≡ Device device → EndpointsBegan first b.world) → KeepsBulk a b
+  bulk_entered course held began = record {
+    each =
+        λ path device at. pick path device at (is_at (path_cmp path) first) refl;
+  }
     where
       found : (device : Accepted) → f ≡ Device device → RenewedAt first device a b
       found device is = record {
         moment = a.world;
         before = here a.world;
-        none = unreached a.world first a.entries held (finding-none first first a.entries gone (way_itself first));
+        none = unreached a.world first a.entries held
+            (finding-none first first a.entries gone (way_itself first));
         behind = course;
-        pipes = same_bulk (new_pipes_to device (is_below_hub first)) (pipes_at first (table_in b)) (ap (pipes_at first) table ∙ pipes_at-entered first f (table_in a) ∙ ap (λ g. new_pipes g (is_below_hub first)) is);
+        pipes = same_bulk (new_pipes_to device (is_below_hub first)) (pipes_at first (table_in b))
+            (ap (pipes_at first) table ∙ pipes_at-entered first f (table_in a)
+            ∙ ap (λ g. new_pipes g (is_below_hub first)) is);
         endpoints = began device is;
       }
 
-      pick : (path : List ℕ) (device : Accepted) → accepted_device_at path b.entries ≡ Some device → (tied : Bool) → is_at (path_cmp path) first ≡ tied → StayedAt path device a b ⊎ RenewedAt path device a b
+      pick : (path : List ℕ) (device : Accepted) → accepted_device_at path b.entries ≡ Some device
+          → (tied : Bool) → is_at (path_cmp path) first ≡ tied → StayedAt path device a b
+          ⊎ RenewedAt path device a b
       pick path device at true tie =
           let is : path ≡ first = path_tied path first tie in
-          inr (subst (λ (p : List ℕ). RenewedAt p device a b) (sym is) (found device (entered_there first path f a b device table is at)))
+          inr (subst (λ (p : List ℕ). RenewedAt p device a b) (sym is)
+          (found device (entered_there first path f a b device table is at)))
       pick path device at false apart =
-          inl (beside first path f a b device table apart at (λ listed. stayed_elsewhere first path a.world b.world each (listed_away first path a.entries device gone listed)))
+          inl (beside first path f a b device table apart at
+          (λ listed. stayed_elsewhere first path a.world b.world each
+          (listed_away first path a.entries device gone listed)))
 
 -- One part after another
 
 pub bulk_none : (h : HostState) → KeepsBulk h h
-bulk_none h = record { each = λ path device at. inl (record { listed = at; pipes = record { out = refl; into = refl }; endpoints = stayed_none path h.world h.world refl }) }
+bulk_none h = record {
+  each = λ path device at. inl
+      (record {
+        listed = at;
+        pipes = record { out = refl; into = refl };
+        endpoints =
+            stayed_none path h.world h.world refl;
+      });
+}
 
-module _ (a b c : HostState) (first : Course AnyStep a.world b.world) (second : Course AnyStep b.world c.world) where
-  stayed_then : (path : List ℕ) (device : Accepted) → StayedAt path device a b ⊎ RenewedAt path device a b → StayedAt path device b c → StayedAt path device a c ⊎ RenewedAt path device a c
+module _ (a b c : HostState) (first : Course AnyStep a.world b.world)
+    (second : Course AnyStep b.world c.world) where
+  stayed_then : (path : List ℕ) (device : Accepted) → StayedAt path device a b
+      ⊎ RenewedAt path device a b → StayedAt path device b c → StayedAt path device a c
+      ⊎ RenewedAt path device a c
   stayed_then path device (inl x) y = inl (record {
     listed = x.listed;
-    pipes = bulk_joined (pipes_at path (table_in a)) (pipes_at path (table_in b)) (pipes_at path (table_in c)) x.pipes y.pipes;
+    pipes = bulk_joined (pipes_at path (table_in a)) (pipes_at path (table_in b))
+        (pipes_at path (table_in c)) x.pipes y.pipes;
     endpoints = stayed_joined path a.world b.world c.world x.endpoints y.endpoints;
   })
   stayed_then path device (inr x) y = inr (record {
@@ -252,25 +358,59 @@ module _ (a b c : HostState) (first : Course AnyStep a.world b.world) (second : 
     before = x.before;
     none = x.none;
     behind = course_joined x.behind second;
-    pipes = bulk_joined (new_pipes_to device (is_below_hub path)) (pipes_at path (table_in b)) (pipes_at path (table_in c)) x.pipes y.pipes;
+    pipes = bulk_joined (new_pipes_to device (is_below_hub path)) (pipes_at path (table_in b))
+        (pipes_at path (table_in c)) x.pipes y.pipes;
     endpoints = began_on path b.world c.world x.endpoints y.endpoints;
   })
 
-  part_then : KeepsBulk a b → (path : List ℕ) (device : Accepted) → StayedAt path device b c ⊎ RenewedAt path device b c → StayedAt path device a c ⊎ RenewedAt path device a c
+  part_then : KeepsBulk a b → (path : List ℕ) (device : Accepted) → StayedAt path device b c
+      ⊎ RenewedAt path device b c → StayedAt path device a c ⊎ RenewedAt path device a c
   part_then x path device (inl y) = stayed_then path device (x.each path device y.listed) y
-  part_then x path device (inr y) = inr (record { moment = y.moment; before = course_joined first y.before; none = y.none; behind = y.behind; pipes = y.pipes; endpoints = y.endpoints })
+  part_then x path device (inr y) =
+      inr (record {
+        moment = y.moment;
+        before = course_joined first y.before;
+        none = y.none;
+        behind = y.behind;
+        pipes = y.pipes;
+        endpoints = y.endpoints;
+      })
 
   bulk_joins : KeepsBulk a b → KeepsBulk b c → KeepsBulk a c
-  bulk_joins x y = record { each = λ path device at. part_then x path device (y.each path device at) }
+  bulk_joins x y = record {
+    each = λ path device at. part_then x path device
+        (y.each path device at);
+  }
 
 -- as long as the bus is at work
-pub bulk_then : (m n : ℕ) (a b c : HostState) → HostSteps m a b → HostSteps n b c → c.world.fault ≡ None → KeepsBulk a b → KeepsBulk b c → KeepsBulk a c
-bulk_then m n a b c first second still = bulk_joins a b c (went_course m a.world b.world first (went_sound n b.world c.world second still)) (went_course n b.world c.world second still)
+pub bulk_then : (m n : ℕ) (a b c : HostState) → HostSteps m a b → HostSteps n b c
+    → c.world.fault ≡ None → KeepsBulk a b → KeepsBulk b c → KeepsBulk a c
+bulk_then m n a b c first second still =
+    bulk_joins a b c (went_course m a.world b.world first
+    (went_sound n b.world c.world second still)) (went_course n b.world c.world second still)
 
 -- only the host's own stop is new
-pub bulk_stopped : (a b : HostState) (stopped : Bool) → KeepsBulk a b → KeepsBulk a (record b { stopped = stopped })
-bulk_stopped a b stopped x = record { each = λ path device at. pick path device (x.each path device at) }
+pub bulk_stopped : (a b : HostState) (stopped : Bool) → KeepsBulk a b
+    → KeepsBulk a (record b { stopped = stopped })
+bulk_stopped a b stopped x = record {
+  each =
+      λ path device at. pick path device (x.each path device at);
+}
   where
-    pick : (path : List ℕ) (device : Accepted) → StayedAt path device a b ⊎ RenewedAt path device a b → StayedAt path device a (record b { stopped = stopped }) ⊎ RenewedAt path device a (record b { stopped = stopped })
-    pick path device (inl y) = inl (record { listed = y.listed; pipes = y.pipes; endpoints = y.endpoints })
-    pick path device (inr y) = inr (record { moment = y.moment; before = y.before; none = y.none; behind = y.behind; pipes = y.pipes; endpoints = y.endpoints })
+    pick : (path : List ℕ) (device : Accepted) → StayedAt path device a b
+        ⊎ RenewedAt path device a b → StayedAt path device a (record b { stopped = stopped })
+        ⊎ RenewedAt path device a (record b { stopped = stopped })
+    pick path device (inl y) = inl (record {
+      listed = y.listed;
+      pipes = y.pipes;
+      endpoints =
+          y.endpoints;
+    })
+    pick path device (inr y) = inr (record {
+      moment = y.moment;
+      before = y.before;
+      none = y.none;
+      behind = y.behind;
+      pipes = y.pipes;
+      endpoints = y.endpoints;
+    })

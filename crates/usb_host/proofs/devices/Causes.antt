@@ -1,5 +1,6 @@
 -- Why devices are refused, as a port is handled where damage is fair.
-use Rattle.std.proofs.Common.{◌≡◌, ◌⊎◌, inl, inr, ◌≤◌, refl, sym, ap, subst, ◌∙◌, ℕ, true, false, List, [], ◌∷◌, ◌++◌, length, Option, None, Some, Result, Ok, Err}
+use Rattle.std.proofs.Common.{◌≡◌, ◌⊎◌, inl, inr, ◌≤◌, refl, sym, ap, subst, ◌∙◌, ℕ, true, false}
+use Rattle.std.proofs.Common.{List, [], ◌∷◌, ◌++◌, length, Option, None, Some, Result, Ok, Err}
 use Rattle.std.specs.Prelude.{⊤, IsSomeAnd, IfErr}
 use Rattle.std.specs.BTreeMap.{insert_entry}
 use Rattle.usb_port.specs.Order.{path_cmp, parent_of, port_on_hub}
@@ -46,19 +47,25 @@ use Rattle.usb_table.specs.Listing.{finding_at, tier_of}
 use Rattle.usb_host.specs.Accounts.{Accounts}
 use Rattle.usb_host.specs.Agreement.{Agrees}
 use Rattle.usb_backlog.specs.Marks.{KeepsAll}
-use Rattle.usb_host.specs.PortHandling.{RestElsewhere, IsLost, HoldsAt, Watches, Tidies, ClearsChange, IsOpen, PortCaused, FindsSound, Disabled, Climbs}
+use Rattle.usb_host.specs.PortHandling.{RestElsewhere, IsLost, HoldsAt, Watches, Tidies}
+use Rattle.usb_host.specs.PortHandling.{ClearsChange, IsOpen, PortCaused, FindsSound, Disabled}
+use Rattle.usb_host.specs.PortHandling.{Climbs}
 use Rattle.usb_host.specs.HostState.{HostState}
 use Rattle.usb_host.specs.Ownership.{claims, KeepsPort, DropsHub}
 use Rattle.usb_host.specs.Ports.{StandsAt}
 use Rattle.usb_host.specs.Progress.{HostSteps, OnlyBusSteps}
 use Rattle.usb_host.specs.Transfers.{table_in}
-use Rattle.usb_host.specs.Soundness.{known_supply, RefusalsJustified, CausesBut, IsJustifiedAt, IsFairTo, HostInvariant, IsSoundBut, IsDroppable, DropsSound}
-use Rattle.usb_host.proofs.devices.BulkPipes.{AllStay, bulk_stays, stay_forgotten, stay_joined, stay_refused, stay_rests}
+use Rattle.usb_host.specs.Soundness.{known_supply, RefusalsJustified, CausesBut, IsJustifiedAt}
+use Rattle.usb_host.specs.Soundness.{IsFairTo, HostInvariant, IsSoundBut, IsDroppable, DropsSound}
+use Rattle.usb_host.proofs.devices.BulkPipes.{AllStay, bulk_stays, stay_forgotten, stay_joined}
+use Rattle.usb_host.proofs.devices.BulkPipes.{stay_refused, stay_rests}
 use Rattle.usb_host.proofs.entries.EntryClaims.{lookup-insert_entry_here}
-use Rattle.usb_host.proofs.knowledge.DroppedHubs.{fault_after-no_bus, claimed, is_call, lost_sound_there}
+use Rattle.usb_host.proofs.knowledge.DroppedHubs.{fault_after-no_bus, claimed, is_call}
+use Rattle.usb_host.proofs.knowledge.DroppedHubs.{lost_sound_there}
 use Rattle.usb_host.proofs.devices.Enumerations.{askable_wide}
 use Rattle.usb_host.proofs.devices.Plugs.{plugs_lost}
-use Rattle.usb_host.proofs.knowledge.FoundDevices.{begins, found_only, supply_found, entered_bulk, entered_sound, unfound_bulk, unfound_sound}
+use Rattle.usb_host.proofs.knowledge.FoundDevices.{begins, found_only, supply_found, entered_bulk}
+use Rattle.usb_host.proofs.knowledge.FoundDevices.{entered_sound, unfound_bulk, unfound_sound}
 use Rattle.usb_host.proofs.OwnedPorts.{root_done}
 use Rattle.usb_host.proofs.knowledge.Places.{finding-none, causes_dropped, causes_found}
 use Rattle.usb_host.proofs.devices.Requests.{push-same_front}
@@ -68,14 +75,17 @@ use Rattle.usb_host.proofs.knowledge.ServedPorts.{rests_stands, stands_way}
 use Rattle.usb_host.proofs.knowledge.Servers.{hub_server}
 use Rattle.usb_host.proofs.knowledge.SettledListings.{listed_port}
 use Rattle.usb_host.proofs.PortLocations.{stands_at-claim, lost_above}
-use Rattle.usb_host.proofs.knowledge.KnowledgeKept.{causes_stay, causes_but_stay, cause_stays, cause_stands}
+use Rattle.usb_host.proofs.knowledge.KnowledgeKept.{causes_stay, causes_but_stay, cause_stays}
+use Rattle.usb_host.proofs.knowledge.KnowledgeKept.{cause_stands}
 
 -- Causes elsewhere
 
-causes_above : (path below : List ℕ) (w : World) (es : Entries) → is_way path below ≡ true → CausesBut below w es → CausesBut path w es
+causes_above : (path below : List ℕ) (w : World) (es : Entries) → is_way path below ≡ true
+    → CausesBut below w es → CausesBut path w es
 causes_above path below w es on caused x away = caused x (way_apart path below x on away)
 
-causes_gone : (path : List ℕ) (w : World) (es : Entries) → has_at path es ≡ false → CausesBut path w es → RefusalsJustified w es
+causes_gone : (path : List ℕ) (w : World) (es : Entries) → has_at path es ≡ false
+    → CausesBut path w es → RefusalsJustified w es
 causes_gone path w es gone caused x = pick (decided (is_way path x))
   where
     pick : (is_way path x ≡ true) ⊎ (is_way path x ≡ false) → IsJustifiedAt w es x
@@ -84,127 +94,192 @@ causes_gone path w es gone caused x = pick (decided (is_way path x))
 
 -- A hub that fails
 
-joined_as : (path hub : List ℕ) (port : KnownPort) (h : HostState) (s : StandsAt path port h) (p : HubPort) → IsAt (claims h.entries) p path → parent_of path ≡ Some hub → (target : Target) (n : ℕ) → p ≡ External target n → path ≡ hub ++ n ∷ []
-joined_as path hub port h s p at above target n is = by_port (subst (λ q. IsAt (claims h.entries) q path) is at)
+joined_as : (path hub : List ℕ) (port : KnownPort) (h : HostState) (s : StandsAt path port h)
+    (p : HubPort) → IsAt (claims h.entries) p path → parent_of path ≡ Some hub
+    → (target : Target) (n : ℕ) → p ≡ External target n → path ≡ hub ++ n ∷ []
+joined_as path hub port h s p at above target n is =
+    by_port (subst (λ q. IsAt (claims h.entries) q path) is at)
   where
     by_port : IsAt (claims h.entries) (External target n) path → path ≡ hub ++ n ∷ []
-    by_port x = x.path ∙ ap (λ l. l ++ n ∷ []) (push-same_front x.hub hub n (port_on_hub path) (sym x.path ∙ rejoined path hub above))
+    by_port x = x.path ∙ ap (λ l. l ++ n ∷ [])
+        (push-same_front x.hub hub n (port_on_hub path) (sym x.path ∙ rejoined path hub above))
 
-module _ (path : List ℕ) (port : KnownPort) (h : HostState) (s : StandsAt path port h) (i : IsSoundBut path h) (still : h.world.fault ≡ None) where
+module _ (path : List ℕ) (port : KnownPort) (h : HostState) (s : StandsAt path port h)
+    (i : IsSoundBut path h) (still : h.world.fault ≡ None) where
   -- a hub that is lost pends
-  pub hub_pends : (hub : List ℕ) → parent_of path ≡ Some hub → FaultAllowedAt port.port ParentLost h.world → IsLost port.port path h.world → pending h.world.roots hub ≡ true
-  hub_pends hub above told lost = by_port port.port refl told (hub_server path port h s i still) lost s.askable
+  pub hub_pends : (hub : List ℕ) → parent_of path ≡ Some hub
+      → FaultAllowedAt port.port ParentLost h.world → IsLost port.port path h.world
+      → pending h.world.roots hub ≡ true
+  hub_pends hub above told lost = by_port port.port refl told (hub_server path port h s i still)
+      lost s.askable
     where
-      by_port : (p : HubPort) → port.port ≡ p → FaultAllowedAt p ParentLost h.world → HasServer p path h.world → IsLost p path h.world → IsAskable p → pending h.world.roots hub ≡ true
+      by_port : (p : HubPort) → port.port ≡ p → FaultAllowedAt p ParentLost h.world
+          → HasServer p path h.world → IsLost p path h.world → IsAskable p
+          → pending h.world.roots hub ≡ true
       by_port (Root number) is told server lost askable = absurd told
-      by_port (External target n) is told server lost askable = pick (subst (λ o. IsSomeAnd o (λ q. (pending h.world.roots q ≡ true) ⊎ ServesAt target n q h.world)) above server)
+      by_port (External target n) is told server lost askable =
+          pick (subst (λ o. IsSomeAnd o (λ q. (pending h.world.roots q ≡ true)
+          ⊎ ServesAt target n q h.world)) above server)
         where
-          pick : (pending h.world.roots hub ≡ true) ⊎ ServesAt target n hub h.world → pending h.world.roots hub ≡ true
+          pick : (pending h.world.roots hub ≡ true) ⊎ ServesAt target n hub h.world
+              → pending h.world.roots hub ≡ true
           pick (inl x) = x
           pick (inr x) =
-              let joined = joined_as path hub port h s port.port (stands_at-claim path port h s) above target n is in
-              subst (λ l. pending h.world.roots l ≡ true) (sym x.there) (lost target n refl x.wide x.serves (joined ∙ ap (λ l. l ++ n ∷ []) x.there))
+              let joined = joined_as path hub port h s port.port (stands_at-claim path port h s)
+              above target n is in
+              subst (λ l. pending h.world.roots l ≡ true) (sym x.there)
+              (lost target n refl x.wide x.serves (joined ∙ ap (λ l. l ++ n ∷ []) x.there))
 
-  pub lost_caused : (fault : EnumFault) → FaultAllowedAt port.port fault h.world → (fault ≡ ParentLost → IsLost port.port path h.world) → (fault ≡ ParentLost → CausesBut path h.world h.entries) → PortCaused path (Err fault) h
+  pub lost_caused : (fault : EnumFault) → FaultAllowedAt port.port fault h.world
+      → (fault ≡ ParentLost → IsLost port.port path h.world)
+      → (fault ≡ ParentLost → CausesBut path h.world h.entries) → PortCaused path (Err fault) h
   lost_caused ParentLost told lost caused = by_parent (parent_of path) refl
     where
-      by_parent : (o : Option (List ℕ)) → parent_of path ≡ o → IsSomeAnd o (λ hub. (pending h.world.roots hub ≡ true) × CausesBut hub h.world h.entries)
-      by_parent None above = absurd (cc (lost_above path h.entries port h.world told None above (subst (λ o. port_below o (port_on_hub path) h.entries ≡ Some port) above s.known)))
-      by_parent (Some hub) above = (hub_pends hub above told (lost refl), causes_above hub path h.world h.entries (way_parent path hub above) (caused refl))
+      by_parent : (o : Option (List ℕ)) → parent_of path ≡ o
+          → IsSomeAnd o (λ hub. (pending h.world.roots hub ≡ true)
+          × CausesBut hub h.world h.entries)
+      by_parent None above = absurd (cc (lost_above path h.entries port h.world told None above
+          (subst (λ o. port_below o (port_on_hub path) h.entries ≡ Some port) above s.known)))
+      by_parent (Some hub) above = (
+        hub_pends hub above told (lost refl),
+        causes_above hub path h.world h.entries (way_parent path hub above) (caused refl),
+      )
   lost_caused (Bus fault) told lost caused = tt
   lost_caused Memory told lost caused = tt
 
 -- The world alone goes on
 
-module _ (n : ℕ) (a b : HostState) (r : OnlyBusSteps a b) (went : HostSteps n a b) (agrees : Agrees a.entries a.addresses) (still : b.world.fault ≡ None) where
+module _ (n : ℕ) (a b : HostState) (r : OnlyBusSteps a b) (went : HostSteps n a b)
+    (agrees : Agrees a.entries a.addresses) (still : b.world.fault ≡ None) where
   before : a.world.fault ≡ None
   before = went_sound n a.world b.world went still
 
-  pub causes_rests : TouchesNoPort a.world b.world → HostInvariant a → RefusalsJustified a.world a.entries → RefusalsJustified b.world b.entries
+  pub causes_rests : TouchesNoPort a.world b.world → HostInvariant a
+      → RefusalsJustified a.world a.entries → RefusalsJustified b.world b.entries
   causes_rests rests i caused =
       subst (RefusalsJustified b.world) (sym (ap (λ (h : HostState). h.entries) r))
-      (causes_stay a.world b.world a.entries a.addresses (accounted a agrees i.rooted) (i.known before) (λ path port. course_wider (λ s u x. x.spares) (rests path)) caused)
+      (causes_stay a.world b.world a.entries a.addresses (accounted a agrees i.rooted)
+      (i.known before) (λ path port. course_wider (λ s u x. x.spares) (rests path)) caused)
 
-  pub causes_rests_but : (path : List ℕ) → RestElsewhere path a.world b.world → IsSoundBut path a → CausesBut path a.world a.entries → CausesBut path b.world b.entries
+  pub causes_rests_but : (path : List ℕ) → RestElsewhere path a.world b.world → IsSoundBut path a
+      → CausesBut path a.world a.entries → CausesBut path b.world b.entries
   causes_rests_but path rests i caused =
       subst (CausesBut path b.world) (sym (ap (λ (h : HostState). h.entries) r))
-      (causes_but_stay path a.world b.world a.entries a.addresses (accounted a agrees i.rooted) (i.known before) (λ x away. course_wider (λ s u y. y.spares) (rests x away)) caused)
+      (causes_but_stay path a.world b.world a.entries a.addresses (accounted a agrees i.rooted)
+      (i.known before) (λ x away. course_wider (λ s u y. y.spares) (rests x away)) caused)
 
   -- a port is tidied
-  pub causes_tidied : (path : List ℕ) → RestElsewhere path a.world b.world → ((x : List ℕ) → is_way path x ≡ true → HoldsAt x a.world b.world) → HostInvariant a → RefusalsJustified a.world a.entries → RefusalsJustified b.world b.entries
-  causes_tidied path rests holds i caused = subst (RefusalsJustified b.world) (sym (ap (λ (h : HostState). h.entries) r)) each
+  pub causes_tidied : (path : List ℕ) → RestElsewhere path a.world b.world
+      → ((x : List ℕ) → is_way path x ≡ true → HoldsAt x a.world b.world) → HostInvariant a
+      → RefusalsJustified a.world a.entries → RefusalsJustified b.world b.entries
+  causes_tidied path rests holds i caused =
+      subst (RefusalsJustified b.world) (sym (ap (λ (h : HostState). h.entries) r)) each
     where
       each : RefusalsJustified b.world a.entries
       each x cause s at there = pick (decided (is_way path x)) cause s at there
         where
           known : IsKnownAs a.world x (finding_at x a.entries)
-          known = i.known before x (listed_port a.world a.entries a.addresses (accounted a agrees i.rooted) x (Refused cause) at)
+          known = i.known before x (listed_port a.world a.entries a.addresses
+              (accounted a agrees i.rooted) x (Refused cause) at)
 
-          pick : (is_way path x ≡ true) ⊎ (is_way path x ≡ false) → IsJustifiedAt b.world a.entries x
-          pick (inl way) = let k = holds x way in cause_stands x a.entries a.world b.world k.pends k.stands known (caused x)
-          pick (inr away) = cause_stays x a.entries a.world b.world (course_wider (λ s u y. y.spares) (rests x away)) known (caused x)
+          pick : (is_way path x ≡ true) ⊎ (is_way path x ≡ false)
+              → IsJustifiedAt b.world a.entries x
+          pick (inl way) = let k = holds x way in
+              cause_stands x a.entries a.world b.world k.pends k.stands known (caused x)
+          pick (inr away) = cause_stays x a.entries a.world b.world
+              (course_wider (λ s u y. y.spares) (rests x away)) known (caused x)
 
 -- At a port
 
-pub fault_none_back : (b c : HostState) → c ≡ record b { entries = c.entries; pipes = c.pipes; addresses = c.addresses } → c.world.fault ≡ None → b.world.fault ≡ None
+pub fault_none_back : (b c : HostState) → c ≡ record b {
+  entries = c.entries;
+  pipes = c.pipes;
+  addresses = c.addresses;
+} → c.world.fault ≡ None → b.world.fault ≡ None
 fault_none_back b c others still = ap (λ (h : HostState). h.world.fault) (sym others) ∙ still
 
-module _ (n : ℕ) (path : List ℕ) (port : KnownPort) (a b : HostState) (s : StandsAt path port a) (r : OnlyBusSteps a b) (went : HostSteps n a b) where
+module _ (n : ℕ) (path : List ℕ) (port : KnownPort) (a b : HostState) (s : StandsAt path port a)
+    (r : OnlyBusSteps a b) (went : HostSteps n a b) where
   stands_then : StandsAt path port b
   stands_then = rests_stands n path port a b s r went
 
   -- its status was not told
-  pub watched_caused : (fault : EnumFault) → Watches port.port a.world (Err fault) b.world → FaultAllowedAt port.port fault b.world → HostInvariant a → IsFairTo a.world b.world → RefusalsJustified a.world a.entries → PortCaused path (Err fault) b
+  pub watched_caused : (fault : EnumFault) → Watches port.port a.world (Err fault) b.world
+      → FaultAllowedAt port.port fault b.world → HostInvariant a → IsFairTo a.world b.world
+      → RefusalsJustified a.world a.entries → PortCaused path (Err fault) b
   watched_caused ParentLost w told i fair caused =
       let known = i.known (went_sound n a.world b.world went fair.still) in
       let sound = sound_rests n a b r went w.addresses w.devices (w.rests tt) i in
       lost_caused path port b stands_then (but_of_sound path b sound) fair.still ParentLost told
-      (λ e. w.lost path (stands_way path port a s known) fair.few fair.still sound.owned.single refl)
+      (λ e. w.lost path (stands_way path port a s known) fair.few fair.still sound.owned.single
+      refl)
       (λ e x away. causes_rests n a b r went s.agrees fair.still (w.rests tt) i caused x)
   watched_caused (Bus fault) w told i fair caused = tt
   watched_caused Memory w told i fair caused = tt
 
   -- it was tidied, or was not
-  pub tidied_caused : (result : Result (Unit {0}) EnumFault) → Tidies port.port a.world result b.world → IfErr result (λ fault. FaultAllowedAt port.port fault b.world) → HostInvariant a → IsFairTo a.world b.world → RefusalsJustified a.world a.entries → PortCaused path result b
+  pub tidied_caused : (result : Result (Unit {0}) EnumFault)
+      → Tidies port.port a.world result b.world
+      → IfErr result (λ fault. FaultAllowedAt port.port fault b.world) → HostInvariant a
+      → IsFairTo a.world b.world → RefusalsJustified a.world a.entries → PortCaused path result b
   tidied_caused (Ok tt) t told i fair caused =
-      causes_tidied n a b r went s.agrees fair.still path (t.others (claims a.entries) path (stands_at-claim path port a s) i.owned tt) (t.stays (claims a.entries) path (stands_at-claim path port a s) i.owned refl) i caused
+      causes_tidied n a b r went s.agrees fair.still path
+      (t.others (claims a.entries) path (stands_at-claim path port a s) i.owned tt)
+      (t.stays (claims a.entries) path (stands_at-claim path port a s) i.owned refl) i caused
   tidied_caused (Err ParentLost) t told i fair caused =
       let rests = t.others (claims a.entries) path (stands_at-claim path port a s) i.owned tt in
-      let but = sound_rests_but n a b r went t.addresses path t.devices (λ still. rests) (but_of_sound path a i) in
+      let but = sound_rests_but n a b r went t.addresses path t.devices (λ still. rests)
+      (but_of_sound path a i) in
       lost_caused path port b stands_then but fair.still ParentLost told
       (λ e. t.lost path fair.few fair.still but.owned.single refl)
-      (λ e. causes_rests_but n a b r went s.agrees fair.still path rests (but_of_sound path a i) (λ x away. caused x))
+      (λ e. causes_rests_but n a b r went s.agrees fair.still path rests (but_of_sound path a i)
+      (λ x away. caused x))
   tidied_caused (Err (Bus fault)) t told i fair caused = tt
   tidied_caused (Err Memory) t told i fair caused = tt
 
   -- its change was not cleared
-  pub cleared_caused : (fault : EnumFault) → ClearsChange port.port a.world (Err fault) b.world → FaultAllowedAt port.port fault b.world → HostInvariant a → IsFairTo a.world b.world → RefusalsJustified a.world a.entries → PortCaused path (Err fault) b
+  pub cleared_caused : (fault : EnumFault) → ClearsChange port.port a.world (Err fault) b.world
+      → FaultAllowedAt port.port fault b.world → HostInvariant a → IsFairTo a.world b.world
+      → RefusalsJustified a.world a.entries → PortCaused path (Err fault) b
   cleared_caused ParentLost x told i fair caused =
       let rests = x.others (claims a.entries) path (stands_at-claim path port a s) i.owned tt in
       let known = i.known (went_sound n a.world b.world went fair.still) in
-      let but = sound_rests_but n a b r went x.bares path x.devices (λ still. rests) (but_of_sound path a i) in
+      let but = sound_rests_but n a b r went x.bares path x.devices (λ still. rests)
+      (but_of_sound path a i) in
       lost_caused path port b stands_then but fair.still ParentLost told
-      (λ e. x.lost (claims a.entries) path (stands_at-claim path port a s) i.owned (stands_way path port a s known) fair.few fair.still but.owned.single refl)
-      (λ e. causes_rests_but n a b r went s.agrees fair.still path rests (but_of_sound path a i) (λ x away. caused x))
+      (λ e. x.lost (claims a.entries) path (stands_at-claim path port a s) i.owned
+      (stands_way path port a s known) fair.few fair.still but.owned.single refl)
+      (λ e. causes_rests_but n a b r went s.agrees fair.still path rests (but_of_sound path a i)
+      (λ x away. caused x))
   cleared_caused (Bus fault) x told i fair caused = tt
   cleared_caused Memory x told i fair caused = tt
 
   -- it was cleared, and what was there is forgotten
-  pub forgot_caused : (c : HostState) (status : PortStatus) → ClearsChange port.port a.world (Ok status) b.world → c ≡ record b { entries = c.entries; pipes = c.pipes; addresses = c.addresses } → c.entries ≡ without path b.entries → HostInvariant a → b.world.fault ≡ None
+  pub forgot_caused : (c : HostState) (status : PortStatus)
+      → ClearsChange port.port a.world (Ok status) b.world
+      → c ≡ record b { entries = c.entries; pipes = c.pipes; addresses = c.addresses }
+      → c.entries ≡ without path b.entries → HostInvariant a → b.world.fault ≡ None
       → RefusalsJustified a.world a.entries → RefusalsJustified c.world c.entries
   forgot_caused c status x others rest i still caused =
       let rests = x.others (claims a.entries) path (stands_at-claim path port a s) i.owned tt in
-      let there = causes_rests_but n a b r went s.agrees still path rests (but_of_sound path a i) (λ x away. caused x) in
+      let there = causes_rests_but n a b r went s.agrees still path rests (but_of_sound path a i)
+      (λ x away. caused x) in
       let world_is : c.world ≡ b.world = ap (λ (h : HostState). h.world) others in
-      subst (λ w. RefusalsJustified w c.entries) (sym world_is) (subst (RefusalsJustified b.world) (sym rest) (causes_dropped path b.world b.entries there))
+      subst (λ w. RefusalsJustified w c.entries) (sym world_is)
+      (subst (RefusalsJustified b.world) (sym rest)
+      (causes_dropped path b.world b.entries there))
 
 -- What is found there
 
-right_free : (full : Type 0) (spec : Spec) (tier supply : ℕ) (f : Finding) → IsRight full spec tier supply f → IsRight ⊤ spec tier supply f
+right_free : (full : Type 0) (spec : Spec) (tier supply : ℕ) (f : Finding)
+    → IsRight full spec tier supply f → IsRight ⊤ spec tier supply f
 right_free full spec tier supply f (inl x) = inl x
-right_free full spec tier supply f (inr x) = inr (record { none = tt; head = x.head; refused = x.refused })
+right_free full spec tier supply f (inr x) =
+    inr (record { none = tt; head = x.head; refused = x.refused })
 
-module _ (n : ℕ) (path : List ℕ) (port : KnownPort) (a b : HostState) (s : StandsAt path port a) (gone : has_at path a.entries ≡ false) (accounts : Accounts a.entries a.addresses) (went : HostSteps n a b) (o : IsOpen path a) (fair : IsFairTo a.world b.world) where
+module _ (n : ℕ) (path : List ℕ) (port : KnownPort) (a b : HostState) (s : StandsAt path port a)
+    (gone : has_at path a.entries ≡ false) (accounts : Accounts a.entries a.addresses)
+    (went : HostSteps n a b) (o : IsOpen path a) (fair : IsFairTo a.world b.world) where
   sound_before : a.world.fault ≡ None
   sound_before = went_sound n a.world b.world went fair.still
 
@@ -218,147 +293,236 @@ module _ (n : ℕ) (path : List ℕ) (port : KnownPort) (a b : HostState) (s : S
     working = fair.still;
   }
 
-  found_causes : (result : Result Finding EnumFault) → Enumerates port.port a.addresses (tier_of path) port.supply a.world result b.world → CausesBut path a.world a.entries → CausesBut path b.world a.entries
+  found_causes : (result : Result Finding EnumFault)
+      → Enumerates port.port a.addresses (tier_of path) port.supply a.world result b.world
+      → CausesBut path a.world a.entries → CausesBut path b.world a.entries
   found_causes result e caused =
-      let only = found_only n path port a.addresses a b s gone accounts went o result e fair.still in
-      causes_but_stay path a.world b.world a.entries a.addresses (accounted a s.agrees o.but.rooted) (o.but.known sound_before) (λ x away. course_wider (λ s u y. y.spares) (only.others x away)) caused
+      let only = found_only n path port a.addresses a b s gone accounts went o result e
+      fair.still in
+      causes_but_stay path a.world b.world a.entries a.addresses (accounted a s.agrees o.but.rooted)
+      (o.but.known sound_before) (λ x away. course_wider (λ s u y. y.spares)
+      (only.others x away)) caused
 
-  pub entered_caused : (f : Finding) → Enumerates port.port a.addresses (tier_of path) port.supply a.world (Ok f) b.world → b.entries ≡ insert_entry path_cmp a.entries path f → CausesBut path a.world a.entries → PortCaused path (Ok tt) b
+  pub entered_caused : (f : Finding) → Enumerates port.port a.addresses (tier_of path) port.supply
+      a.world (Ok f) b.world → b.entries ≡ insert_entry path_cmp a.entries path f
+      → CausesBut path a.world a.entries → PortCaused path (Ok tt) b
   entered_caused f e is caused =
-      subst (RefusalsJustified b.world) (sym is) (causes_found path f a.entries s.is.0 gone b.world (causes_gone path b.world a.entries gone (found_causes (Ok f) e caused)) here)
+      subst (RefusalsJustified b.world) (sym is) (causes_found path f a.entries s.is.0 gone b.world
+      (causes_gone path b.world a.entries gone (found_causes (Ok f) e caused)) here)
     where
       here : IsJustifiedAt b.world (insert_entry path_cmp a.entries path f) path
-      here cause t at there = pick (e.warrants.cause (claims a.entries) path is_fair cause t (ap Ok found) there)
+      here cause t at there = pick (e.warrants.cause (claims a.entries) path is_fair cause t
+          (ap Ok found) there)
         where
           found : f ≡ Refused cause
           found = cc (sym (lookup-insert_entry_here path f a.entries) ∙ at)
 
-          pick : (pending b.world.roots path ≡ true) ⊎ IsRight (IsFull a.addresses) t.spec (tier_of path) port.supply (Refused cause)
-              → (pending b.world.roots path ≡ true) ⊎ IsRight ⊤ t.spec (tier_of path) (known_supply path (insert_entry path_cmp a.entries path f)) (Refused cause)
+          pick : (pending b.world.roots path ≡ true)
+              ⊎ IsRight (IsFull a.addresses) t.spec (tier_of path) port.supply (Refused cause)
+              → (pending b.world.roots path ≡ true)
+              ⊎ IsRight ⊤ t.spec (tier_of path)
+              (known_supply path (insert_entry path_cmp a.entries path f)) (Refused cause)
           pick (inl x) = inl x
-          pick (inr x) = inr (subst (λ m. IsRight ⊤ t.spec (tier_of path) m (Refused cause)) (sym (supply_found path port f a.entries s.known)) (right_free (IsFull a.addresses) t.spec (tier_of path) port.supply (Refused cause) x))
+          pick (inr x) = inr (subst (λ m. IsRight ⊤ t.spec (tier_of path) m (Refused cause))
+              (sym (supply_found path port f a.entries s.known))
+              (right_free (IsFull a.addresses) t.spec (tier_of path) port.supply (Refused cause)
+              x))
 
-  pub unfound_caused : (fault : EnumFault) → Enumerates port.port a.addresses (tier_of path) port.supply a.world (Err fault) b.world → b.entries ≡ a.entries → FaultAllowedAt port.port fault b.world → CausesBut path a.world a.entries → PortCaused path (Err fault) b
+  pub unfound_caused : (fault : EnumFault)
+      → Enumerates port.port a.addresses (tier_of path) port.supply a.world (Err fault) b.world
+      → b.entries ≡ a.entries → FaultAllowedAt port.port fault b.world
+      → CausesBut path a.world a.entries → PortCaused path (Err fault) b
   unfound_caused ParentLost e same told caused = by_parent (parent_of path) refl
     where
-      by_parent : (p : Option (List ℕ)) → parent_of path ≡ p → IsSomeAnd p (λ hub. (pending b.world.roots hub ≡ true) × CausesBut hub b.world b.entries)
-      by_parent None above = absurd (cc (lost_above path a.entries port b.world told None above (subst (λ p. port_below p (port_on_hub path) a.entries ≡ Some port) above s.known)))
+      by_parent : (p : Option (List ℕ)) → parent_of path ≡ p
+          → IsSomeAnd p (λ hub. (pending b.world.roots hub ≡ true)
+          × CausesBut hub b.world b.entries)
+      by_parent None above = absurd (cc (lost_above path a.entries port b.world told None above
+          (subst (λ p. port_below p (port_on_hub path) a.entries ≡ Some port) above s.known)))
       by_parent (Some hub) above = (
-        subst (λ p. IsSomeAnd p (λ q. pending b.world.roots q ≡ true)) above (e.warrants.parent (claims a.entries) path is_fair refl),
-        subst (CausesBut hub b.world) (sym same) (causes_above hub path b.world a.entries (way_parent path hub above) (found_causes (Err ParentLost) e caused)),
+        subst (λ p. IsSomeAnd p (λ q. pending b.world.roots q ≡ true)) above
+            (e.warrants.parent (claims a.entries) path is_fair refl),
+        subst (CausesBut hub b.world) (sym same)
+            (causes_above hub path b.world a.entries (way_parent path hub above)
+            (found_causes (Err ParentLost) e caused)),
       )
   unfound_caused (Bus fault) e same told caused = tt
   unfound_caused Memory e same told caused = tt
 
 -- what was found at a port is entered, or its hub is lost
-module _ (n : ℕ) (path : List ℕ) (port : KnownPort) (a b : HostState) (s : StandsAt path port a) (gone : has_at path a.entries ≡ false) (accounts : Accounts a.entries a.addresses) (went : HostSteps n a b) where
-  pub entered_finds : (f : Finding) → Enumerates port.port a.addresses (tier_of path) port.supply a.world (Ok f) b.world → table_in b ≡ entered path f (table_in a) → KeepsPort path a (Ok tt) b → FindsSound path a (Ok tt) b
+module _ (n : ℕ) (path : List ℕ) (port : KnownPort) (a b : HostState) (s : StandsAt path port a)
+    (gone : has_at path a.entries ≡ false) (accounts : Accounts a.entries a.addresses)
+    (went : HostSteps n a b) where
+  pub entered_finds : (f : Finding) → Enumerates port.port a.addresses (tier_of path) port.supply
+      a.world (Ok f) b.world → table_in b ≡ entered path f (table_in a) → KeepsPort path a (Ok tt) b
+      → FindsSound path a (Ok tt) b
   entered_finds f e table keeps = record {
     sound = λ o. entered_sound n path port a.addresses a b s gone accounts went o f e table keeps;
-    bulk = λ o on still. entered_bulk n path port a.addresses a b s gone accounts went o f e table still;
-    backlog = λ o still. (found_only n path port a.addresses a b s gone accounts went o (Ok f) e still).backlog;
-    few = λ o most plan. e.few.few (claims a.entries) path (askable_wide port.port s.askable) (begins n path port a.addresses a b s gone accounts went o) most plan;
-    caused = λ o fair caused. entered_caused n path port a b s gone accounts went o fair f e (ap (λ (t : Table). t.entries) table) caused;
+    bulk = λ o on still. entered_bulk n path port a.addresses a b s gone accounts went o f e table
+        still;
+    backlog = λ o still. (found_only n path port a.addresses a b s gone accounts went o (Ok f) e
+        still).backlog;
+    few = λ o most plan. e.few.few (claims a.entries) path (askable_wide port.port s.askable)
+        (begins n path port a.addresses a b s gone accounts went o) most plan;
+    caused = λ o fair caused. entered_caused n path port a b s gone accounts went o fair f e
+        (ap (λ (t : Table). t.entries) table) caused;
   }
 
   -- there was no memory to enter it
-  pub unentered_finds : (f : Finding) → Enumerates port.port a.addresses (tier_of path) port.supply a.world (Ok f) b.world → FindsSound path a (Err Memory) b
+  pub unentered_finds : (f : Finding) → Enumerates port.port a.addresses (tier_of path) port.supply
+      a.world (Ok f) b.world → FindsSound path a (Err Memory) b
   unentered_finds f e = record {
     sound = λ o. tt;
     bulk = λ o on. absurd on;
-    backlog = λ o still. (found_only n path port a.addresses a b s gone accounts went o (Ok f) e still).backlog;
-    few = λ o most plan. e.few.few (claims a.entries) path (askable_wide port.port s.askable) (begins n path port a.addresses a b s gone accounts went o) most plan;
+    backlog = λ o still. (found_only n path port a.addresses a b s gone accounts went o (Ok f) e
+        still).backlog;
+    few = λ o most plan. e.few.few (claims a.entries) path (askable_wide port.port s.askable)
+        (begins n path port a.addresses a b s gone accounts went o) most plan;
     caused = λ o fair caused. tt;
   }
 
-  pub unfound_finds : (fault : EnumFault) → Enumerates port.port a.addresses (tier_of path) port.supply a.world (Err fault) b.world → b.entries ≡ a.entries → b.pipes ≡ a.pipes → b.addresses ≡ a.addresses → FaultAllowedAt port.port fault b.world → KeepsPort path a (Err fault) b
+  pub unfound_finds : (fault : EnumFault)
+      → Enumerates port.port a.addresses (tier_of path) port.supply a.world (Err fault) b.world
+      → b.entries ≡ a.entries → b.pipes ≡ a.pipes → b.addresses ≡ a.addresses
+      → FaultAllowedAt port.port fault b.world → KeepsPort path a (Err fault) b
       → FindsSound path a (Err fault) b
   unfound_finds fault e same pipes_same pool_same told keeps = record {
-    sound = λ o. unfound_sound n path port a.addresses a b s gone accounts went o fault e same pipes_same pool_same told keeps;
-    bulk = λ o on still. unfound_bulk n path port a.addresses a b s gone accounts went o fault e same pipes_same still;
-    backlog = λ o still. (found_only n path port a.addresses a b s gone accounts went o (Err fault) e still).backlog;
-    few = λ o most plan. e.few.few (claims a.entries) path (askable_wide port.port s.askable) (begins n path port a.addresses a b s gone accounts went o) most plan;
-    caused = λ o fair caused. unfound_caused n path port a b s gone accounts went o fair fault e same told caused;
+    sound = λ o. unfound_sound n path port a.addresses a b s gone accounts went o fault e same
+        pipes_same pool_same told keeps;
+    bulk = λ o on still. unfound_bulk n path port a.addresses a b s gone accounts went o fault e
+        same pipes_same still;
+    backlog = λ o still. (found_only n path port a.addresses a b s gone accounts went o (Err fault)
+        e still).backlog;
+    few = λ o most plan. e.few.few (claims a.entries) path (askable_wide port.port s.askable)
+        (begins n path port a.addresses a b s gone accounts went o) most plan;
+    caused = λ o fair caused. unfound_caused n path port a b s gone accounts went o fair fault e
+        same told caused;
   }
 
 -- A hub is dropped
 
-module _ (n : ℕ) (path : List ℕ) (port : KnownPort) (a b : HostState) (s : StandsAt path port a) (r : OnlyBusSteps a b) (went : HostSteps n a b) (addresses : KeepsAddresses a.world b.world) (devices : KeepsDevices a.world b.world) (d : IsDroppable path a) (fair : IsFairTo a.world b.world) where
-  told_rests : (result : Result (Unit {0}) PipeFault) → CommandsPort port.port (clear_call PORT_ENABLE) a.world result b.world → IsNoBusFault result → RestElsewhere path a.world b.world
+module _ (n : ℕ) (path : List ℕ) (port : KnownPort) (a b : HostState) (s : StandsAt path port a)
+    (r : OnlyBusSteps a b) (went : HostSteps n a b) (addresses : KeepsAddresses a.world b.world)
+    (devices : KeepsDevices a.world b.world) (d : IsDroppable path a)
+    (fair : IsFairTo a.world b.world) where
+  told_rests : (result : Result (Unit {0}) PipeFault)
+      → CommandsPort port.port (clear_call PORT_ENABLE) a.world result b.world → IsNoBusFault result
+      → RestElsewhere path a.world b.world
   told_rests result calls sound =
       let o = claimed n path port a b s r went addresses devices d in
-      calls.rests o.claims path ClearEnable (is_call n path port a b s r went addresses devices d) sound
+      calls.rests o.claims path ClearEnable (is_call n path port a b s r went addresses devices d)
+      sound
 
-  pub told_caused : CommandsPort port.port (clear_call PORT_ENABLE) a.world (Ok tt) b.world → pending a.world.roots path ≡ true → CausesBut path a.world a.entries → Disabled true path b
+  pub told_caused : CommandsPort port.port (clear_call PORT_ENABLE) a.world (Ok tt) b.world
+      → pending a.world.roots path ≡ true → CausesBut path a.world a.entries → Disabled true path b
   told_caused calls pends caused =
       let o = claimed n path port a b s r went addresses devices d in (
-        pends_there path ClearEnable a.world b.world refl (calls.done o.claims path ClearEnable (is_call n path port a b s r went addresses devices d) refl) pends,
-        causes_rests_but n a b r went s.agrees fair.still path (told_rests (Ok tt) calls tt) d.but caused,
+        pends_there path ClearEnable a.world b.world refl
+            (calls.done o.claims path ClearEnable
+            (is_call n path port a b s r went addresses devices d) refl) pends,
+        causes_rests_but n a b r went s.agrees fair.still path (told_rests (Ok tt) calls tt) d.but
+            caused,
       )
 
   -- it could not be told
-  pub untold_caused : (fault : PipeFault) → CommandsPort port.port (clear_call PORT_ENABLE) a.world (Err fault) b.world → FaultAfter 1 a.world fault b.world → PortCleared port.port PORT_ENABLE a.world (Err fault) b.world → CausesBut path a.world a.entries → Disabled false path b
+  pub untold_caused : (fault : PipeFault) → CommandsPort port.port (clear_call PORT_ENABLE) a.world
+      (Err fault) b.world → FaultAfter 1 a.world fault b.world
+      → PortCleared port.port PORT_ENABLE a.world (Err fault) b.world
+      → CausesBut path a.world a.entries → Disabled false path b
   untold_caused fault calls told cleared caused = by_parent (parent_of path) refl
     where
       rests : RestElsewhere path a.world b.world
-      rests = told_rests (Err fault) calls (fault_after-no_bus (Unit {0}) fault a.world b.world told fair.still)
+      rests = told_rests (Err fault) calls (fault_after-no_bus (Unit {0}) fault a.world b.world told
+          fair.still)
 
       but : IsSoundBut path b
       but = sound_rests_but n a b r went addresses path devices (λ still. rests) d.but
 
-      unserved : (hub : Target) (number : ℕ) → port.port ≡ External hub number → (f : PipeFault) → f ≡ fault → NoHubFailed {A = Unit {0}} (Err f) → ⊥
+      unserved : (hub : Target) (number : ℕ) → port.port ≡ External hub number → (f : PipeFault)
+          → f ≡ fault → NoHubFailed {A = Unit {0}} (Err f) → ⊥
       unserved hub number is pipe.Stalled e h = h
       unserved hub number is pipe.Busy e h = h
       unserved hub number is pipe.NoAnswer e h = h
       unserved hub number is pipe.Broken e h = h
-      unserved hub number is (pipe.Bus g) e h = absurd (cc (fair.still, (subst (λ x. FaultAfter 1 a.world x b.world) (sym e) told).told))
+      unserved hub number is (pipe.Bus g) e h =
+          absurd (cc (fair.still, (subst (λ x. FaultAfter 1 a.world x b.world) (sym e) told).told))
       unserved hub number is pipe.Memory e h =
-          (subst (λ p. PortCleared p PORT_ENABLE a.world (Err fault) b.world) is cleared).room (ap Err (sym e))
+          (subst (λ p. PortCleared p PORT_ENABLE a.world (Err fault) b.world) is cleared).room
+          (ap Err (sym e))
 
       lost : IsLost port.port path b.world
-      lost hub number is most serves joined = absurd (unserved hub number is fault refl (calls.why hub number is fair.few but.owned.single serves))
+      lost hub number is most serves joined =
+          absurd (unserved hub number is fault refl
+          (calls.why hub number is fair.few but.owned.single serves))
 
-      by_port : (p : HubPort) → PortCleared p PORT_ENABLE a.world (Err fault) b.world → FaultAllowedAt p ParentLost b.world
+      by_port : (p : HubPort) → PortCleared p PORT_ENABLE a.world (Err fault) b.world
+          → FaultAllowedAt p ParentLost b.world
       by_port (External hub number) x = tt
       by_port (Root number) x = absurd (cc x.done)
 
-      by_parent : (o : Option (List ℕ)) → parent_of path ≡ o → IsSomeAnd o (λ hub. (pending b.world.roots hub ≡ true) × CausesBut hub b.world b.entries)
-      by_parent None above = absurd (root_done path a.entries port PORT_ENABLE a.world b.world fault None above refl (subst (λ o. port_below o (port_on_hub path) a.entries ≡ Some port) above s.known) cleared)
+      by_parent : (o : Option (List ℕ)) → parent_of path ≡ o
+          → IsSomeAnd o (λ hub. (pending b.world.roots hub ≡ true)
+          × CausesBut hub b.world b.entries)
+      by_parent None above = absurd (root_done path a.entries port PORT_ENABLE a.world b.world fault
+          None above refl (subst (λ o. port_below o (port_on_hub path) a.entries ≡ Some port)
+          above s.known) cleared)
       by_parent (Some hub) above = (
-        hub_pends path port b (rests_stands n path port a b s r went) but fair.still hub above (by_port port.port cleared) lost,
-        causes_above hub path b.world b.entries (way_parent path hub above) (causes_rests_but n a b r went s.agrees fair.still path rests d.but caused),
+        hub_pends path port b (rests_stands n path port a b s r went) but fair.still hub above
+            (by_port port.port cleared) lost,
+        causes_above hub path b.world b.entries (way_parent path hub above)
+            (causes_rests_but n a b r went s.agrees fair.still path rests d.but caused),
       )
 
-fair_same : (b c : HostState) (first w : World) → c ≡ record b { entries = c.entries; pipes = c.pipes; addresses = c.addresses } → w ≡ c.world → IsFairTo first w → IsFairTo first b.world
-fair_same b c first w others here fair = subst (IsFairTo first) (here ∙ ap (λ (h : HostState). h.world) others) fair
+fair_same : (b c : HostState) (first w : World)
+    → c ≡ record b { entries = c.entries; pipes = c.pipes; addresses = c.addresses } → w ≡ c.world
+    → IsFairTo first w → IsFairTo first b.world
+fair_same b c first w others here fair =
+    subst (IsFairTo first) (here ∙ ap (λ (h : HostState). h.world) others) fair
 
-module _ (lost : List ℕ) (b c d : HostState) (least : 1 ≤ length lost) (others : c ≡ record b { entries = c.entries; pipes = c.pipes; addresses = c.addresses }) (rest : c.entries ≡ without lost b.entries)
-    (pipes : (y : List ℕ) → is_way lost y ≡ false → pipes_at y (table_in c) ≡ pipes_at y (table_in b)) (gone : has_at lost c.entries ≡ false) (same : d.world ≡ c.world) (table : table_in d ≡ entered lost (Refused Lost) (table_in c)) where
+module _ (lost : List ℕ) (b c d : HostState) (least : 1 ≤ length lost)
+    (others : c ≡ record b { entries = c.entries; pipes = c.pipes; addresses = c.addresses })
+    (rest : c.entries ≡ without lost b.entries)
+    (pipes : (y : List ℕ) → is_way lost y ≡ false
+    → pipes_at y (table_in c) ≡ pipes_at y (table_in b)) (gone : has_at lost c.entries
+    ≡ false) (same : d.world ≡ c.world) (table : table_in d ≡ entered lost (Refused Lost)
+    (table_in c)) where
   is : d.entries ≡ insert_entry path_cmp c.entries lost (Refused Lost)
   is = ap (λ (t : Table). t.entries) table
 
   world_same : d.world ≡ b.world
   world_same = same ∙ ap (λ (h : HostState). h.world) others
 
-  lost_causes : pending b.world.roots lost ≡ true → CausesBut lost b.world b.entries → RefusalsJustified d.world d.entries
+  lost_causes : pending b.world.roots lost ≡ true → CausesBut lost b.world b.entries
+      → RefusalsJustified d.world d.entries
   lost_causes pends caused =
       subst (λ w. RefusalsJustified w d.entries) (sym world_same)
       (subst (RefusalsJustified b.world) (sym is)
-      (causes_found lost (Refused Lost) c.entries least gone b.world (subst (RefusalsJustified b.world) (sym rest) (causes_dropped lost b.world b.entries caused)) (λ cause s at there. inl pends)))
+      (causes_found lost (Refused Lost) c.entries least gone b.world
+      (subst (RefusalsJustified b.world) (sym rest)
+      (causes_dropped lost b.world b.entries caused)) (λ cause s at there. inl pends)))
 
   -- no bulk pipe but those of what is dropped has changed
-  lost_stay : (a : HostState) → OnlyBusSteps a b → KeepsDevices a.world b.world → d.world.shared ≡ false → AllStay a d
+  lost_stay : (a : HostState) → OnlyBusSteps a b → KeepsDevices a.world b.world
+      → d.world.shared ≡ false → AllStay a d
   lost_stay a r devices single =
       stay_joined a c d
-      (stay_joined a b c (stay_rests a b r devices (ap (λ (w : World). w.shared) (sym world_same) ∙ single)) (stay_forgotten lost b c (ap (λ (h : HostState). h.world) others) rest gone pipes))
+      (stay_joined a b c (stay_rests a b r devices (ap (λ (w : World). w.shared) (sym world_same)
+      ∙ single)) (stay_forgotten lost b c (ap (λ (h : HostState). h.world) others) rest
+      gone pipes))
       (stay_refused lost Lost c d table same)
 
   -- it is listed as lost
-  pub lost_drops : (hub : List ℕ) (a : HostState) → OnlyBusSteps a b → a.world.taken ≤ b.world.taken → Climbs hub a (Ok lost) b → DropsHub hub a (Ok tt) d → DropsSound hub a (Ok tt) d
+  pub lost_drops : (hub : List ℕ) (a : HostState) → OnlyBusSteps a b → a.world.taken ≤ b.world.taken
+      → Climbs hub a (Ok lost) b → DropsHub hub a (Ok tt) d → DropsSound hub a (Ok tt) d
   lost_drops hub a r onward climbs drops = record {
-    sound = λ p. lost_sound_there hub lost a b c d least (climbs.sound p) others rest pipes gone same table p drops;
+    sound = λ p. lost_sound_there hub lost a b c d least (climbs.sound p) others rest pipes gone
+        same table p drops;
     bulk = λ p still. bulk_stays a d (lost_stay a r climbs.devices (drops.ends p.but.owned).single);
-    plugs = plugs_lost hub a d (subst (λ (w : World). a.world.taken ≤ w.taken) (sym world_same) onward) drops.lost;
-    backlog = λ p still. subst (KeepsAll a.world) (sym world_same) (climbs.backlog p (ap (λ (w : World). w.fault) (sym world_same) ∙ still));
-    caused = λ p fair pends caused. let x = climbs.caused p (fair_same b c a.world d.world others same fair) pends caused in lost_causes x.0 x.1;
+    plugs = plugs_lost hub a d (subst (λ (w : World). a.world.taken ≤ w.taken) (sym world_same)
+        onward) drops.lost;
+    backlog = λ p still. subst (KeepsAll a.world) (sym world_same)
+        (climbs.backlog p (ap (λ (w : World). w.fault) (sym world_same) ∙ still));
+    caused = λ p fair pends caused. let x =
+        climbs.caused p (fair_same b c a.world d.world others same fair) pends caused in
+        lost_causes x.0 x.1;
   }

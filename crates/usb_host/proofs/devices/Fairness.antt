@@ -1,4 +1,5 @@
--- Where damage is fair up to the end of a call, it is so up to each part of the call, and from there on.
+-- Where damage is fair up to the end of a call, it is so up to each part of the call, and from
+-- there on.
 use Rattle.std.proofs.Common.{List, Option, ℕ}
 use Rattle.usb_world.specs.World.{World}
 use Rattle.usb_bus.specs.Traces.{StepRun}
@@ -8,8 +9,18 @@ use Rattle.usb_host.specs.Soundness.{IsFairTo}
 module _ (n : ℕ) (old mid new : World) {t s : Option (List ℕ)} where
   -- up to a part
   pub fair_before : StepRun n mid t new s → IsFairTo old new → IsFairTo old mid
-  fair_before went f = record { still = went_sound n mid new went f.still; few = f.few; kept = few_before (went_course n mid new went f.still) f.kept }
+  fair_before went f = record {
+    still = went_sound n mid new went f.still;
+    few = f.few;
+    kept =
+        few_before (went_course n mid new went f.still) f.kept;
+  }
 
   -- from there on
   pub fair_after : StepRun n old t mid s → IsFairTo old new → IsFairTo mid new
-  fair_after went f = record { still = f.still; few = went_three n old mid went f.few; kept = f.kept }
+  fair_after went f = record {
+    still = f.still;
+    few = went_three n old mid went f.few;
+    kept =
+        f.kept;
+  }

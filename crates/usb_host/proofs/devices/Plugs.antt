@@ -1,5 +1,8 @@
 -- Devices stand where some were plugged, and where few were, none waits for an address.
-use Rattle.std.proofs.Common.{◌≡◌, ◌≤◌, ◌<◌, ◌⊎◌, inl, inr, refl, sym, ap, subst, ◌∙◌, arith, ℕ, zero, suc, ◌+◌, Bool, true, false, cond, not, List, [], ◌∷◌, length, take, Option, None, Some, is_some, option_map, slice_index_or, eqb, Ordering, Less, Equal, Greater}
+use Rattle.std.proofs.Common.{◌≡◌, ◌≤◌, ◌<◌, ◌⊎◌, inl, inr, refl, sym, ap, subst, ◌∙◌, arith, ℕ}
+use Rattle.std.proofs.Common.{zero, suc, ◌+◌, Bool, true, false, cond, not, List, [], ◌∷◌, length}
+use Rattle.std.proofs.Common.{take, Option, None, Some, is_some, option_map, slice_index_or, eqb}
+use Rattle.std.proofs.Common.{Ordering, Less, Equal, Greater}
 use Rattle.std.specs.Prelude.{⊤, Any, nat_eq, unwrap_or}
 use Rattle.std.specs.List.{filter, list_any, starts_with}
 use Rattle.std.specs.BTreeMap.{insert_entry, is_at}
@@ -22,10 +25,12 @@ use Rattle.usb_world.specs.declared.event.Event.{Event}
 use Rattle.usb_tree.specs.Paths.{is_way}
 use Rattle.usb_world.specs.PlanCourses.{AtPorts, spec_of}
 use Rattle.usb_world.specs.PlanData.{PlanData, IsPlan}
-use Rattle.usb_world.specs.PluggedDevices.{PluggedMap, device_indexed, index_at, plugged_after, plugged_by, plugged_without}
+use Rattle.usb_world.specs.PluggedDevices.{PluggedMap, device_indexed, index_at, plugged_after}
+use Rattle.usb_world.specs.PluggedDevices.{plugged_by, plugged_without}
 use Rattle.usb_world.specs.Steps.{AnyStep, Course, opening}
 use Rattle.usb_world.specs.World.{World}
-use Rattle.usb_world.proofs.Interface.{course_joined, course_taken, course_then, course_wider, devices_left, way_itself}
+use Rattle.usb_world.proofs.Interface.{course_joined, course_taken, course_then, course_wider}
+use Rattle.usb_world.proofs.Interface.{devices_left, way_itself}
 use Rattle.usb_tree.proofs.Interface.{both, decided, or_left, or_right}
 use Rattle.usb_address.proofs.Interface.{attached_there}
 use Rattle.usb_hub.specs.Moments.{PortCallDone, PortStatusAt}
@@ -65,7 +70,8 @@ module _ {X : Type 0} (P : X → Type 0) where
   pub any_cases : (x : X) (xs : List X) → Any P (x ∷ xs) → P x ⊎ Any P xs
   any_cases x xs a = pick a.0 a.1 a.2 a.3 a.4
     where
-      pick : (k : ℕ) (y : X) → k < length (x ∷ xs) → slice_index_or (x ∷ xs) k y ≡ y → P y → P x ⊎ Any P xs
+      pick : (k : ℕ) (y : X) → k < length (x ∷ xs) → slice_index_or (x ∷ xs) k y ≡ y → P y → P x
+          ⊎ Any P xs
       pick zero y less is so = inl (subst P (sym is) so)
       pick (suc k) y less is so = inr (k, y, omega (arith, less), is, so)
 
@@ -76,9 +82,11 @@ module _ {X : Type 0} (P : X → Type 0) where
   any_taken zero n xs le a = absurd (any_none a)
   any_taken (suc m) n [] le a = absurd (any_none a)
   any_taken (suc m) zero (x ∷ xs) le a = absurd (omega (arith, le))
-  any_taken (suc m) (suc n) (x ∷ xs) le a = pick (any_taken m n xs (omega (arith, le))) (any_cases x (take m xs) a)
+  any_taken (suc m) (suc n) (x ∷ xs) le a =
+      pick (any_taken m n xs (omega (arith, le))) (any_cases x (take m xs) a)
     where
-      pick : (Any P (take m xs) → Any P (take n xs)) → P x ⊎ Any P (take m xs) → Any P (x ∷ take n xs)
+      pick : (Any P (take m xs) → Any P (take n xs)) → P x ⊎ Any P (take m xs)
+          → Any P (x ∷ take n xs)
       pick on (inl so) = any_first x (take n xs) so
       pick on (inr more) = any_later x (take n xs) (on more)
 
@@ -95,7 +103,8 @@ abbrev AtPath : List ℕ → Event → Type 0
 AtPath path e = PlugsAt path e.action
 
 -- what was plugged was so ever since
-was_later : (events : List Event) (m n : ℕ) (path : List ℕ) → m ≤ n → WasPlugged events m path → WasPlugged events n path
+was_later : (events : List Event) (m n : ℕ) (path : List ℕ) → m ≤ n → WasPlugged events m path
+    → WasPlugged events n path
 was_later events m n path le = any_taken (AtPath path) m n events le
 
 -- What stands at a path was plugged there
@@ -106,45 +115,57 @@ EachPath P [] = ⊤
 EachPath P (x ∷ tree) = P x.0 × EachPath P tree
 
 module _ (P : List ℕ → Type 0) where
-  path_inserted : (tree : PluggedMap) (e : List ℕ) (d : ℕ) → P e → EachPath P tree → EachPath P (insert_entry path_cmp tree e d)
+  path_inserted : (tree : PluggedMap) (e : List ℕ) (d : ℕ) → P e → EachPath P tree
+      → EachPath P (insert_entry path_cmp tree e d)
   path_inserted [] e d so each = (so, tt)
   path_inserted (x ∷ tree) e d so each = split (path_cmp e x.0) (path_inserted tree e d so each.1)
     where
       split : (r : Ordering) → EachPath P (insert_entry path_cmp tree e d)
-          → EachPath P (match_ordering r ((e, d) ∷ x ∷ tree) ((x.0, d) ∷ tree) (x ∷ insert_entry path_cmp tree e d))
+          → EachPath P (match_ordering r ((e, d) ∷ x ∷ tree) ((x.0, d) ∷ tree)
+          (x ∷ insert_entry path_cmp tree e d))
       split Less more = (so, each)
       split Equal more = each
       split Greater more = (each.0, more)
 
-  path_filtered : (test : List ℕ × ℕ → Bool) (tree : PluggedMap) → EachPath P tree → EachPath P (filter test tree)
+  path_filtered : (test : List ℕ × ℕ → Bool) (tree : PluggedMap) → EachPath P tree
+      → EachPath P (filter test tree)
   path_filtered test [] each = tt
   path_filtered test (x ∷ tree) each = split (test x) (path_filtered test tree each.1)
     where
-      split : (b : Bool) → EachPath P (filter test tree) → EachPath P (cond b (x ∷ filter test tree) (filter test tree))
+      split : (b : Bool) → EachPath P (filter test tree)
+          → EachPath P (cond b (x ∷ filter test tree) (filter test tree))
       split true more = (each.0, more)
       split false more = more
 
-  path_found : (tree : PluggedMap) (path : List ℕ) (i : ℕ) → EachPath P tree → index_at tree path ≡ Some i → P path
+  path_found : (tree : PluggedMap) (path : List ℕ) (i : ℕ) → EachPath P tree
+      → index_at tree path ≡ Some i → P path
   path_found [] path i each e = absurd cc
-  path_found (x ∷ tree) path i each e = split (is_at (path_cmp path) x.0) refl (path_found tree path i each.1) e
+  path_found (x ∷ tree) path i each e = split (is_at (path_cmp path) x.0) refl
+      (path_found tree path i each.1) e
     where
-      split : (b : Bool) → is_at (path_cmp path) x.0 ≡ b → (index_at tree path ≡ Some i → P path) → cond b (Some x.1) (index_at tree path) ≡ Some i → P path
+      split : (b : Bool) → is_at (path_cmp path) x.0 ≡ b → (index_at tree path ≡ Some i → P path)
+          → cond b (Some x.1) (index_at tree path) ≡ Some i → P path
       split true tie more e = subst P (sym (path_tied path x.0 tie)) each.0
       split false tie more e = more e
 
-  path_after : (action : Action) (tree : PluggedMap) → ((path : List ℕ) → PlugsAt path action → P path) → EachPath P tree
+  path_after : (action : Action) (tree : PluggedMap)
+      → ((path : List ℕ) → PlugsAt path action → P path) → EachPath P tree
       → EachPath P (plugged_after action tree)
   unfolding plugged_without
-  path_after (Change (Plug path device)) tree so each = path_inserted tree path device (so path refl) each
-  path_after (Change (Unplug path)) tree so each = path_filtered (λ place. not (starts_with nat_eq place.0 path)) tree each
+  path_after (Change (Plug path device)) tree so each =
+      path_inserted tree path device (so path refl) each
+  path_after (Change (Unplug path)) tree so each =
+      path_filtered (λ place. not (starts_with nat_eq place.0 path)) tree each
   path_after (Ask ask) tree so each = each
 
-  path_by : (events : List Event) (tree : PluggedMap) → ((path : List ℕ) → Any (AtPath path) events → P path) → EachPath P tree
+  path_by : (events : List Event) (tree : PluggedMap)
+      → ((path : List ℕ) → Any (AtPath path) events → P path) → EachPath P tree
       → EachPath P (plugged_by tree events)
   unfolding plugged_by
   path_by [] tree so each = each
   path_by (e ∷ events) tree so each =
-      path_by events (plugged_after e.action tree) (λ path later. so path (any_later (AtPath path) e events later))
+      path_by events (plugged_after e.action tree)
+      (λ path later. so path (any_later (AtPath path) e events later))
       (path_after e.action tree (λ path at. so path (any_first (AtPath path) e events at)) each)
 
 index_some : (o : Option ℕ) (s : Option State) (plan : PlanData) → is_some s ≡ true
@@ -153,13 +174,17 @@ index_some None (Some s) plan there is = absurd (cc is)
 index_some None None plan there is = absurd (cc there)
 index_some (Some i) s plan there is = (i, refl)
 
-pub there_was_plugged : (plan : PlanData) → IsPlan plan → AtPorts plan.events → (w : World) → Course AnyStep (opening plan) w
-    → (path : List ℕ) → is_some (state_there w.roots path) ≡ true → WasPlugged plan.events w.taken path
+pub there_was_plugged : (plan : PlanData) → IsPlan plan → AtPorts plan.events → (w : World)
+    → Course AnyStep (opening plan) w
+    → (path : List ℕ) → is_some (state_there w.roots path) ≡ true
+    → WasPlugged plan.events w.taken path
 there_was_plugged plan is paths w course path there =
     let came : List Event = take w.taken plan.events in
     let index : (i : ℕ) × (index_at (plugged_by [] came) path ≡ Some i) =
-    index_some (index_at (plugged_by [] came) path) (state_there w.roots path) plan there (devices_left plan is paths w course path) in
-    path_found (λ p. Any (AtPath p) came) (plugged_by [] came) path index.0 (path_by (λ p. Any (AtPath p) came) came [] (λ p at. at) tt) index.1
+    index_some (index_at (plugged_by [] came) path) (state_there w.roots path) plan there
+    (devices_left plan is paths w course path) in
+    path_found (λ p. Any (AtPath p) came) (plugged_by [] came) path index.0
+    (path_by (λ p. Any (AtPath p) came) came [] (λ p at. at) tt) index.1
 
 -- Where all addresses are taken, at least 128 devices were plugged
 
@@ -175,64 +200,86 @@ plug_address es (Ask ask) = 0
 -- those of the paths at which devices are plugged
 abbrev plug_addresses : Entries → List Event → List ℕ
 plug_addresses es [] = []
-plug_addresses es (e ∷ events) = cond (is_plug e.action) (plug_address es e.action ∷ plug_addresses es events) (plug_addresses es events)
+plug_addresses es (e ∷ events) = cond (is_plug e.action)
+    (plug_address es e.action ∷ plug_addresses es events) (plug_addresses es events)
 
-plug_events-cons : (e : Event) (events : List Event) → plug_events (e ∷ events) ≡ one_when (is_plug e.action) + plug_events events
+plug_events-cons : (e : Event) (events : List Event)
+    → plug_events (e ∷ events) ≡ one_when (is_plug e.action) + plug_events events
 unfolding one_when
 plug_events-cons e events = sum_by-cons (λ x. cond (is_plug x.action) 1 0) e events
 
-plug_step : (es : Entries) (e : Event) (events : List Event) → length (plug_addresses es events) ≡ plug_events events → (b : Bool) → is_plug e.action ≡ b
-    → length (cond b (plug_address es e.action ∷ plug_addresses es events) (plug_addresses es events)) ≡ plug_events (e ∷ events)
+plug_step : (es : Entries) (e : Event) (events : List Event) → length (plug_addresses es events)
+    ≡ plug_events events → (b : Bool) → is_plug e.action ≡ b
+    → length (cond b (plug_address es e.action ∷ plug_addresses es events)
+    (plug_addresses es events)) ≡ plug_events (e ∷ events)
 unfolding one_when
-plug_step es e events same true is = let counted : one_when (is_plug e.action) ≡ 1 = ap one_when is in omega (arith, counted, same, plug_events-cons e events)
-plug_step es e events same false is = let counted : one_when (is_plug e.action) ≡ 0 = ap one_when is in omega (arith, counted, same, plug_events-cons e events)
+plug_step es e events same true is = let counted : one_when (is_plug e.action) ≡ 1 =
+    ap one_when is in omega (arith, counted, same, plug_events-cons e events)
+plug_step es e events same false is = let counted : one_when (is_plug e.action) ≡ 0 =
+    ap one_when is in omega (arith, counted, same, plug_events-cons e events)
 
-length-plug_addresses : (es : Entries) (events : List Event) → length (plug_addresses es events) ≡ plug_events events
+length-plug_addresses : (es : Entries) (events : List Event) → length (plug_addresses es events)
+    ≡ plug_events events
 length-plug_addresses es [] = refl
-length-plug_addresses es (e ∷ events) = plug_step es e events (length-plug_addresses es events) (is_plug e.action) refl
+length-plug_addresses es (e ∷ events) = plug_step es e events (length-plug_addresses es events)
+    (is_plug e.action) refl
 
 plug_here : (es : Entries) (path : List ℕ) (a : Action) (more : List ℕ) → PlugsAt path a
     → list_any (eqb (address_or es path)) (cond (is_plug a) (plug_address es a ∷ more) more) ≡ true
 plug_here es path (Change (Plug at device)) more is =
-    or_left _ (list_any (eqb (address_or es path)) more) (eq-eqb (address_or es path) (address_or es at) (ap (address_or es) (sym is)))
+    or_left _ (list_any (eqb (address_or es path)) more)
+    (eq-eqb (address_or es path) (address_or es at) (ap (address_or es) (sym is)))
 plug_here es path (Change (Unplug at)) more is = absurd is
 plug_here es path (Ask ask) more is = absurd is
 
-plug_later : (q a : ℕ) (more : List ℕ) (b : Bool) → list_any (eqb q) more ≡ true → list_any (eqb q) (cond b (a ∷ more) more) ≡ true
+plug_later : (q a : ℕ) (more : List ℕ) (b : Bool) → list_any (eqb q) more ≡ true
+    → list_any (eqb q) (cond b (a ∷ more) more) ≡ true
 plug_later q a more true has = or_right (eqb q a) (list_any (eqb q) more) has
 plug_later q a more false has = has
 
 plug_among : (es : Entries) (path : List ℕ) (events : List Event) → Any (AtPath path) events
     → list_any (eqb (address_or es path)) (plug_addresses es events) ≡ true
 plug_among es path [] a = absurd (any_none (AtPath path) a)
-plug_among es path (e ∷ events) a = pick (plug_among es path events) (any_cases (AtPath path) e events a)
+plug_among es path (e ∷ events) a = pick (plug_among es path events)
+    (any_cases (AtPath path) e events a)
   where
-    pick : (Any (AtPath path) events → list_any (eqb (address_or es path)) (plug_addresses es events) ≡ true)
-        → PlugsAt path e.action ⊎ Any (AtPath path) events → list_any (eqb (address_or es path)) (plug_addresses es (e ∷ events)) ≡ true
+    pick : (Any (AtPath path) events → list_any (eqb (address_or es path))
+        (plug_addresses es events) ≡ true)
+        → PlugsAt path e.action ⊎ Any (AtPath path) events
+        → list_any (eqb (address_or es path)) (plug_addresses es (e ∷ events)) ≡ true
     pick among (inl is) = plug_here es path e.action (plug_addresses es events) is
-    pick among (inr more) = plug_later (address_or es path) (plug_address es e.action) (plug_addresses es events) (is_plug e.action) (among more)
+    pick among (inr more) = plug_later (address_or es path) (plug_address es e.action)
+        (plug_addresses es events) (is_plug e.action) (among more)
 
-device_there : (o : Option Finding) (a : ℕ) → address_in o ≡ Some a → (device : Accepted) × (accepted_device_of o ≡ Some device)
+device_there : (o : Option Finding) (a : ℕ) → address_in o ≡ Some a → (device : Accepted)
+    × (accepted_device_of o ≡ Some device)
 device_there None a e = absurd (cc e)
 device_there (Some (Device device)) a e = (device, refl)
 device_there (Some (Refused cause)) a e = absurd (cc e)
 
 -- at a path of its own for each address, and at one that has none
-full_plugged : (events : List Event) (path : List ℕ) (h : HostState) → HasPlugs events h → Agrees h.entries h.addresses → IsFull h.addresses
-    → finding_at path h.entries ≡ None → WasPlugged events h.world.taken path → 128 ≤ plug_events events
+full_plugged : (events : List Event) (path : List ℕ) (h : HostState) → HasPlugs events h
+    → Agrees h.entries h.addresses → IsFull h.addresses
+    → finding_at path h.entries ≡ None → WasPlugged events h.world.taken path
+    → 128 ≤ plug_events events
 full_plugged events path h plugs agrees full none was =
-    subst (λ n. 128 ≤ n) (length-plug_addresses h.entries events) (le-length_from_below (plug_addresses h.entries events) 128 found)
+    subst (λ n. 128 ≤ n) (length-plug_addresses h.entries events)
+    (le-length_from_below (plug_addresses h.entries events) 128 found)
   where
-    among : (p : List ℕ) (q : ℕ) → address_or h.entries p ≡ q → WasPlugged events h.world.taken p → list_any (eqb q) (plug_addresses h.entries events) ≡ true
+    among : (p : List ℕ) (q : ℕ) → address_or h.entries p ≡ q → WasPlugged events h.world.taken p
+        → list_any (eqb q) (plug_addresses h.entries events) ≡ true
     among p q is at =
-        subst (λ n. list_any (eqb n) (plug_addresses h.entries events) ≡ true) is (plug_among h.entries p events (any_all (AtPath p) h.world.taken events at))
+        subst (λ n. list_any (eqb n) (plug_addresses h.entries events) ≡ true) is
+        (plug_among h.entries p events (any_all (AtPath p) h.world.taken events at))
 
     found : (q : ℕ) → q < 128 → list_any (eqb q) (plug_addresses h.entries events) ≡ true
     found zero less = among path 0 (ap (λ o. unwrap_or (address_in o) 0) none) was
     found (suc q) less =
         let at : (p : List ℕ) × (entry_address p h.entries ≡ Some (suc q)) =
-        accounts_listed h.entries h.addresses agrees.rises agrees.accounts (suc q) (full (suc q) (omega arith, less)) in
-        let there : (device : Accepted) × (accepted_device_at at.0 h.entries ≡ Some device) = device_there (finding_at at.0 h.entries) (suc q) at.1 in
+        accounts_listed h.entries h.addresses agrees.rises agrees.accounts (suc q)
+        (full (suc q) (omega arith, less)) in
+        let there : (device : Accepted) × (accepted_device_at at.0 h.entries ≡ Some device) =
+        device_there (finding_at at.0 h.entries) (suc q) at.1 in
         among at.0 (suc q) (ap (λ o. unwrap_or o 0) at.1) (plugs.each at.0 there.0 there.1)
 
 -- From one moment to the next
@@ -240,46 +287,59 @@ full_plugged events path h plugs agrees full none was =
 pub plugs_none : (h : HostState) → KeepsPlugs h h
 plugs_none h plan is paths course plugs = plugs
 
-pub plugs_then : (m n : ℕ) (a b c : HostState) → HostSteps m a b → HostSteps n b c → c.world.fault ≡ None → KeepsPlugs a b → KeepsPlugs b c → KeepsPlugs a c
+pub plugs_then : (m n : ℕ) (a b c : HostState) → HostSteps m a b → HostSteps n b c
+    → c.world.fault ≡ None → KeepsPlugs a b → KeepsPlugs b c → KeepsPlugs a c
 plugs_then m n a b c first second still x y plan is paths course plugs =
-    y plan is paths (course_joined course (went_course m a.world b.world first (went_sound n b.world c.world second still))) (x plan is paths course plugs)
+    y plan is paths (course_joined course
+    (went_course m a.world b.world first (went_sound n b.world c.world second still)))
+    (x plan is paths course plugs)
 
 -- what is listed was so before, or is lost
 plugs_fewer : (events : List Event) (a b : HostState) → a.world.taken ≤ b.world.taken
-    → ((path : List ℕ) (f : Finding) → finding_at path b.entries ≡ Some f → (finding_at path a.entries ≡ Some f) ⊎ (f ≡ Refused Lost))
+    → ((path : List ℕ) (f : Finding) → finding_at path b.entries ≡ Some f
+    → (finding_at path a.entries ≡ Some f) ⊎ (f ≡ Refused Lost))
     → HasPlugs events a → HasPlugs events b
 plugs_fewer events a b onward was plugs = record {
-  each = λ path device at. was_later events a.world.taken b.world.taken path onward (pick path device (finding_at path b.entries) refl at);
+  each = λ path device at. was_later events a.world.taken b.world.taken path onward
+      (pick path device (finding_at path b.entries) refl at);
   none_waits = λ few path at. waits few path (was path (Refused NoAddress) at);
 }
   where
-    listed : (path : List ℕ) (device : Accepted) → (finding_at path a.entries ≡ Some (Device device)) ⊎ (Device device ≡ Refused Lost)
+    listed : (path : List ℕ) (device : Accepted)
+        → (finding_at path a.entries ≡ Some (Device device)) ⊎ (Device device ≡ Refused Lost)
         → WasPlugged events a.world.taken path
     listed path device (inl at) = plugs.each path device (ap accepted_device_of at)
     listed path device (inr e) = absurd (cc e)
 
-    pick : (path : List ℕ) (device : Accepted) (o : Option Finding) → finding_at path b.entries ≡ o → accepted_device_of o ≡ Some device
+    pick : (path : List ℕ) (device : Accepted) (o : Option Finding) → finding_at path b.entries ≡ o
+        → accepted_device_of o ≡ Some device
         → WasPlugged events a.world.taken path
     pick path device None at e = absurd (cc e)
     pick path device (Some f) at e =
         let is : f ≡ Device device = accepted_device_of-some f device e in
         listed path device (was path (Device device) (at ∙ ap (λ g. Some g) is))
 
-    waits : plug_events events ≤ 127 → (path : List ℕ) → (finding_at path a.entries ≡ Some (Refused NoAddress)) ⊎ (Refused NoAddress ≡ Refused Lost) → ⊥
+    waits : plug_events events ≤ 127 → (path : List ℕ)
+        → (finding_at path a.entries ≡ Some (Refused NoAddress))
+        ⊎ (Refused NoAddress ≡ Refused Lost) → ⊥
     waits few path (inl at) = plugs.none_waits few path at
     waits few path (inr e) = cc e
 
 -- the same is listed
-pub plugs_same : (events : List Event) (a b : HostState) → a.world.taken ≤ b.world.taken → b.entries ≡ a.entries → HasPlugs events a → HasPlugs events b
-plugs_same events a b onward same = plugs_fewer events a b onward (λ path f at. inl (ap (finding_at path) (sym same) ∙ at))
+pub plugs_same : (events : List Event) (a b : HostState) → a.world.taken ≤ b.world.taken
+    → b.entries ≡ a.entries → HasPlugs events a → HasPlugs events b
+plugs_same events a b onward same = plugs_fewer events a b onward
+    (λ path f at. inl (ap (finding_at path) (sym same) ∙ at))
 
-pub plugs_kept : (a b : HostState) → a.world.taken ≤ b.world.taken → b.entries ≡ a.entries → KeepsPlugs a b
+pub plugs_kept : (a b : HostState) → a.world.taken ≤ b.world.taken → b.entries ≡ a.entries
+    → KeepsPlugs a b
 plugs_kept a b onward same plan is paths course = plugs_same plan.events a b onward same
 
 pub plugs_rests : (n : ℕ) (a b : HostState) → HostSteps n a b → OnlyBusSteps a b → KeepsPlugs a b
 plugs_rests n a b went r = plugs_kept a b went.spends.onward (ap (λ (h : HostState). h.entries) r)
 
-was_listed : (first path : List ℕ) (es : Entries) (f : Finding) → finding_at path (without first es) ≡ Some f → finding_at path es ≡ Some f
+was_listed : (first path : List ℕ) (es : Entries) (f : Finding) → finding_at path (without first es)
+    ≡ Some f → finding_at path es ≡ Some f
 was_listed first path es f at = pick (decided (is_way first path))
   where
     pick : (is_way first path ≡ true) ⊎ (is_way first path ≡ false) → finding_at path es ≡ Some f
@@ -287,94 +347,136 @@ was_listed first path es f at = pick (decided (is_way first path))
     pick (inr away) = sym (finding-kept first path es away) ∙ at
 
 -- what was found at a port and below it is forgotten
-pub plugs_forgot : (n : ℕ) (path : List ℕ) (a b c : HostState) → HostSteps n a c → OnlyBusSteps a b → c.entries ≡ without path b.entries → KeepsPlugs a c
+pub plugs_forgot : (n : ℕ) (path : List ℕ) (a b c : HostState) → HostSteps n a c → OnlyBusSteps a b
+    → c.entries ≡ without path b.entries → KeepsPlugs a c
 plugs_forgot n path a b c went r rest plan is paths course =
-    let left : c.entries ≡ without path a.entries = rest ∙ ap (λ (h : HostState). without path h.entries) r in
-    plugs_fewer plan.events a c went.spends.onward (λ p f at. inl (was_listed path p a.entries f (ap (finding_at p) (sym left) ∙ at)))
+    let left : c.entries ≡ without path a.entries = rest
+    ∙ ap (λ (h : HostState). without path h.entries) r in
+    plugs_fewer plan.events a c went.spends.onward
+    (λ p f at. inl (was_listed path p a.entries f (ap (finding_at p) (sym left) ∙ at)))
 
 abbrev with_lost : List ℕ → Entries → Entries
 with_lost path es = insert_entry path_cmp (without path es) path (Refused Lost)
 
 -- besides, a hub is listed as lost
-pub plugs_lost : (hub : List ℕ) (a b : HostState) → a.world.taken ≤ b.world.taken → HasLost hub a.entries b.entries → KeepsPlugs a b
+pub plugs_lost : (hub : List ℕ) (a b : HostState) → a.world.taken ≤ b.world.taken
+    → HasLost hub a.entries b.entries → KeepsPlugs a b
 plugs_lost hub a b onward lost plan is paths course =
-    plugs_fewer plan.events a b onward (λ p f at. pick p f (is_at (path_cmp p) lost.path) refl (ap (finding_at p) (sym lost.entries) ∙ at))
+    plugs_fewer plan.events a b onward (λ p f at. pick p f (is_at (path_cmp p) lost.path) refl
+    (ap (finding_at p) (sym lost.entries) ∙ at))
   where
-    pick : (p : List ℕ) (f : Finding) (tied : Bool) → is_at (path_cmp p) lost.path ≡ tied → finding_at p (with_lost lost.path a.entries) ≡ Some f
+    pick : (p : List ℕ) (f : Finding) (tied : Bool) → is_at (path_cmp p) lost.path ≡ tied
+        → finding_at p (with_lost lost.path a.entries) ≡ Some f
         → (finding_at p a.entries ≡ Some f) ⊎ (f ≡ Refused Lost)
     pick p f true tie at =
         let here : finding_at lost.path (with_lost lost.path a.entries) ≡ Some f =
-        subst (λ (q : List ℕ). finding_at q (with_lost lost.path a.entries) ≡ Some f) (path_tied p lost.path tie) at in
-        inr (cc (here, lookup-insert_entry_here lost.path (Refused Lost) (without lost.path a.entries)))
+        subst (λ (q : List ℕ). finding_at q (with_lost lost.path a.entries) ≡ Some f)
+        (path_tied p lost.path tie) at in
+        inr (cc (
+          here,
+          lookup-insert_entry_here lost.path (Refused Lost)
+              (without lost.path a.entries),
+        ))
     pick p f false apart at =
-        inl (was_listed lost.path p a.entries f (sym (lookup-insert_entry_elsewhere p lost.path (Refused Lost) (without lost.path a.entries) apart) ∙ at))
+        inl (was_listed lost.path p a.entries f
+        (sym (lookup-insert_entry_elsewhere p lost.path (Refused Lost)
+        (without lost.path a.entries) apart) ∙ at))
 
 -- one finding is entered at a path at which a device was plugged
-plugs_entered : (events : List Event) (path : List ℕ) (a b : HostState) → Agrees a.entries a.addresses → has_at path a.entries ≡ false
-    → EntersOne path a b → a.world.taken ≤ b.world.taken → WasPlugged events a.world.taken path → HasPlugs events a → HasPlugs events b
+plugs_entered : (events : List Event) (path : List ℕ) (a b : HostState)
+    → Agrees a.entries a.addresses → has_at path a.entries ≡ false
+    → EntersOne path a b → a.world.taken ≤ b.world.taken → WasPlugged events a.world.taken path
+    → HasPlugs events a → HasPlugs events b
 plugs_entered events path a b agrees gone enters onward was plugs = record {
-  each = λ p device at. was_later events a.world.taken b.world.taken p onward (each p device (is_at (path_cmp p) path) refl at);
-  none_waits = λ few p at. waits few p (is_at (path_cmp p) path) refl (ap (finding_at p) (sym enters.entries) ∙ at);
+  each = λ p device at. was_later events a.world.taken b.world.taken p onward
+      (each p device (is_at (path_cmp p) path) refl at);
+  none_waits = λ few p at. waits few p (is_at (path_cmp p) path) refl
+      (ap (finding_at p) (sym enters.entries) ∙ at);
 }
   where
-    each : (p : List ℕ) (device : Accepted) (tied : Bool) → is_at (path_cmp p) path ≡ tied → accepted_device_at p b.entries ≡ Some device
+    each : (p : List ℕ) (device : Accepted) (tied : Bool) → is_at (path_cmp p) path ≡ tied
+        → accepted_device_at p b.entries ≡ Some device
         → WasPlugged events a.world.taken p
-    each p device true tie at = subst (WasPlugged events a.world.taken) (sym (path_tied p path tie)) was
+    each p device true tie at = subst (WasPlugged events a.world.taken) (sym (path_tied p path tie))
+        was
     each p device false apart at =
         let same : accepted_device_at p b.entries ≡ accepted_device_at p a.entries =
         ap (λ (es : Entries). accepted_device_at p es) enters.entries
-        ∙ ap accepted_device_of (lookup-insert_entry_elsewhere p path enters.finding a.entries apart) in
+        ∙ ap accepted_device_of (lookup-insert_entry_elsewhere p path enters.finding a.entries
+        apart) in
         plugs.each p device (sym same ∙ at)
 
     waits : plug_events events ≤ 127 → (p : List ℕ) (tied : Bool) → is_at (path_cmp p) path ≡ tied
-        → finding_at p (insert_entry path_cmp a.entries path enters.finding) ≡ Some (Refused NoAddress) → ⊥
+        → finding_at p (insert_entry path_cmp a.entries path enters.finding)
+        ≡ Some (Refused NoAddress) → ⊥
     waits few p true tie at =
-        let there : List ℕ → Type 0 = λ q. finding_at q (insert_entry path_cmp a.entries path enters.finding) ≡ Some (Refused NoAddress) in
+        let there : List ℕ → Type 0 = λ q. finding_at q
+        (insert_entry path_cmp a.entries path enters.finding) ≡ Some (Refused NoAddress) in
         let here : there path = subst there (path_tied p path tie) at in
-        let is : enters.finding ≡ Refused NoAddress = cc (here, lookup-insert_entry_here path enters.finding a.entries) in
+        let is : enters.finding ≡ Refused NoAddress =
+        cc (here, lookup-insert_entry_here path enters.finding a.entries) in
         let many : 128 ≤ plug_events events =
-        full_plugged events path a plugs agrees (enters.waits is) (finding-none path path a.entries gone (way_itself path)) was in
+        full_plugged events path a plugs agrees (enters.waits is)
+        (finding-none path path a.entries gone (way_itself path)) was in
         absurd (omega (arith, few, many))
-    waits few p false apart at = plugs.none_waits few p (sym (lookup-insert_entry_elsewhere p path enters.finding a.entries apart) ∙ at)
+    waits few p false apart at = plugs.none_waits few p
+        (sym (lookup-insert_entry_elsewhere p path enters.finding a.entries apart) ∙ at)
 
 -- A look at a port
 
 call_course : (p : List ℕ) (c : PortCall) (w v : World) → PortCallDone p c w v → Course AnyStep w v
-call_course p c w v d = course_joined (course_wider (λ s u k. tt) (course_then d.last d.repeats d.acts)) (course_wider (λ s u k. tt) (d.since p))
+call_course p c w v d = course_joined
+    (course_wider (λ s u k. tt) (course_then d.last d.repeats d.acts))
+    (course_wider (λ s u k. tt) (d.since p))
 
-disabled_taken : (b : Bool) (p : List ℕ) (w v : World) → DoneWhere b p ClearEnable w v → w.taken ≤ v.taken
+disabled_taken : (b : Bool) (p : List ℕ) (w v : World) → DoneWhere b p ClearEnable w v
+    → w.taken ≤ v.taken
 disabled_taken true p w v d = course_taken (call_course p ClearEnable w v d)
-disabled_taken false p w v same = let taken : v.taken ≡ w.taken = ap (λ (u : World). u.taken) same in omega (arith, taken)
+disabled_taken false p w v same = let taken : v.taken ≡ w.taken =
+    ap (λ (u : World). u.taken) same in omega (arith, taken)
 
 -- a device stood where a status showed one
-told_there : (p : List ℕ) (status : PortStatus) (w v : World) (t : PortStatusAt p status w v) → IsOrderly t.now → status.connected ≡ true
+told_there : (p : List ℕ) (status : PortStatus) (w v : World) (t : PortStatusAt p status w v)
+    → IsOrderly t.now → status.connected ≡ true
     → is_some (state_there t.now.roots p) ≡ true
 told_there p status w v t order on =
     let attached : is_attached t.port.attached ≡ true =
-    (both t.port.power (is_attached t.port.attached) (ap (λ (x : PortStatus). x.connected) (sym t.is) ∙ on)).1 in
+    (both t.port.power (is_attached t.port.attached)
+    (ap (λ (x : PortStatus). x.connected) (sym t.is) ∙ on)).1 in
     sym (attached_there t.now.roots p t.port order.sane t.stood) ∙ attached
 
 -- it was plugged there
-seen_plugged : (path : List ℕ) (status : PortStatus) (old new : World) → ClearsAndReads path status old new → IsOrderly old → status.connected ≡ true
-    → (plan : PlanData) → IsPlan plan → AtPorts plan.events → Course AnyStep (opening plan) old → WasPlugged plan.events new.taken path
+seen_plugged : (path : List ℕ) (status : PortStatus) (old new : World)
+    → ClearsAndReads path status old new → IsOrderly old → status.connected ≡ true
+    → (plan : PlanData) → IsPlan plan → AtPorts plan.events → Course AnyStep (opening plan) old
+    → WasPlugged plan.events new.taken path
 seen_plugged path status old new x order on plan is paths course =
     let first : Course AnyStep old x.told.now =
-    course_joined (call_course path ClearConnectionChange old x.mid x.cleared) (course_wider (λ s u k. tt) (x.told.before path)) in
-    let there : is_some (state_there x.told.now.roots path) ≡ true = told_there path status x.mid x.now x.told (orderly_on order first) on in
+    course_joined (call_course path ClearConnectionChange old x.mid x.cleared)
+    (course_wider (λ s u k. tt) (x.told.before path)) in
+    let there : is_some (state_there x.told.now.roots path) ≡ true =
+    told_there path status x.mid x.now x.told (orderly_on order first) on in
     let onward : x.told.now.taken ≤ x.now.taken = course_taken (x.told.since path) in
     let last : x.now.taken ≤ new.taken = disabled_taken status.enabled path x.now new x.disabled in
     was_later plan.events x.told.now.taken new.taken path (omega (arith, onward, last))
     (there_was_plugged plan is paths x.told.now (course_joined course first) path there)
 
 -- what a status showed is found and entered
-pub plugs_found : (m n : ℕ) (path : List ℕ) (status : PortStatus) (a b c d : HostState) → HostSteps m a c → HostSteps n c d → OnlyBusSteps a b
-    → c ≡ record b { entries = c.entries; pipes = c.pipes; addresses = c.addresses } → c.entries ≡ without path b.entries → has_at path c.entries ≡ false → Agrees c.entries c.addresses
-    → ClearsAndReads path status a.world b.world → IsOrderly a.world → status.connected ≡ true → EntersOne path c d → KeepsPlugs a d
-plugs_found m n path status a b c d first second r others rest gone agrees x order on enters plan is paths course plugs =
+pub plugs_found : (m n : ℕ) (path : List ℕ) (status : PortStatus) (a b c d : HostState)
+    → HostSteps m a c → HostSteps n c d → OnlyBusSteps a b
+    → c ≡ record b { entries = c.entries; pipes = c.pipes; addresses = c.addresses }
+    → c.entries ≡ without path b.entries → has_at path c.entries ≡ false
+    → Agrees c.entries c.addresses
+    → ClearsAndReads path status a.world b.world → IsOrderly a.world → status.connected ≡ true
+    → EntersOne path c d → KeepsPlugs a d
+plugs_found m n path status a b c d first second r others rest gone agrees x order on enters plan is
+    paths course plugs =
     let same : c.world ≡ b.world = ap (λ (h : HostState). h.world) others in
     let was : WasPlugged plan.events c.world.taken path =
-    subst (λ (w : World). WasPlugged plan.events w.taken path) (sym same) (seen_plugged path status a.world b.world x order on plan is paths course) in
-    plugs_entered plan.events path c d agrees gone enters second.spends.onward was (plugs_forgot m path a b c first r rest plan is paths course plugs)
+    subst (λ (w : World). WasPlugged plan.events w.taken path) (sym same)
+    (seen_plugged path status a.world b.world x order on plan is paths course) in
+    plugs_entered plan.events path c d agrees gone enters second.spends.onward was
+    (plugs_forgot m path a b c first r rest plan is paths course plugs)
 
 -- A host that knows of no device
 
@@ -385,7 +487,8 @@ plugs_opening events h none = record {
 }
 
 -- only the host's own stop is new
-pub plugs_stopped : (a b : HostState) (stopped : Bool) → KeepsPlugs a b → KeepsPlugs a (record b { stopped = stopped })
+pub plugs_stopped : (a b : HostState) (stopped : Bool) → KeepsPlugs a b
+    → KeepsPlugs a (record b { stopped = stopped })
 plugs_stopped a b stopped x plan is paths course plugs =
     let kept : HasPlugs plan.events b = x plan is paths course plugs in
     record { each = kept.each; none_waits = kept.none_waits }

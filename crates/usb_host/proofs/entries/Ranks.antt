@@ -19,7 +19,8 @@ eight = refl
 pub rank_most : (path : List ℕ) → IsPath path → rank_after (Some path) ≤ 2097152
 rank_most path is = omega (arith, bound path is, eight)
 
-pub rank_rises : (last : Option (List ℕ)) (path : List ℕ) → IfSome last IsPath → IsPath path → ComesAfter last path → rank_after last < rank_after (Some path)
+pub rank_rises : (last : Option (List ℕ)) (path : List ℕ) → IfSome last IsPath → IsPath path
+    → ComesAfter last path → rank_after last < rank_after (Some path)
 rank_rises None path before is after = omega arith
 rank_rises (Some last) path before is after = omega (arith, rank_of-less last path before is after)
 

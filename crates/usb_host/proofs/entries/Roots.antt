@@ -1,5 +1,6 @@
 -- Entries stand below the ports of the root.
-use Rattle.std.proofs.Common.{◌≡◌, refl, sym, ap, subst, ℕ, ◌≤◌, Bool, true, false, not, List, [], ◌∷◌, ◌++◌, length, Option, None, Some, Result, Ok, Err, arith}
+use Rattle.std.proofs.Common.{◌≡◌, refl, sym, ap, subst, ℕ, ◌≤◌, Bool, true, false, not, List, []}
+use Rattle.std.proofs.Common.{◌∷◌, ◌++◌, length, Option, None, Some, Result, Ok, Err, arith}
 use Rattle.std.specs.Prelude.{IsSome, OnOk, IsErr}
 use Rattle.std.specs.BTreeMap.{is_at, insert_entry}
 use Rattle.usb_port.specs.Order.{path_cmp, parent_of, port_on_hub}
@@ -26,11 +27,13 @@ use Rattle.usb_host.specs.Soundness.{Accounted}
 use Rattle.usb_host.proofs.entries.Agreements.{lookup-without, lookup-insert_entry_elsewhere}
 use Rattle.usb_host.proofs.PortLocations.{root_alone}
 
-pub root_way : (path below : List ℕ) → 1 ≤ length path → is_way path below ≡ true → root_of below ≡ root_of path
+pub root_way : (path below : List ℕ) → 1 ≤ length path → is_way path below ≡ true
+    → root_of below ≡ root_of path
 root_way [] below some way = absurd (omega (arith, some))
 root_way (n ∷ path) below some way = ap root_of (way_rest (n ∷ path) below way).1
 
-root_joined : (path hub : List ℕ) → path ≡ hub ++ port_on_hub path ∷ [] → parent_of path ≡ Some hub → root_of path ≡ root_of hub
+root_joined : (path hub : List ℕ) → path ≡ hub ++ port_on_hub path ∷ [] → parent_of path ≡ Some hub
+    → root_of path ≡ root_of hub
 unfolding parent_of
 root_joined path [] joined is =
     let none : parent_of path ≡ None = ap parent_of joined in
@@ -42,52 +45,79 @@ root_parent path hub is = root_joined path hub (rejoined path hub is) is
 
 -- As entries stay, go and come
 
-pub rooted_kept : (a b : HostState) → b.entries ≡ a.entries → roots_of b.world ≡ roots_of a.world → IsRooted a → IsRooted b
-rooted_kept a b same roots r path some = subst (λ n. root_of path ≤ n) (sym roots) (r path (subst (λ (es : Entries). IsSome (finding_at path es)) same some))
+pub rooted_kept : (a b : HostState) → b.entries ≡ a.entries → roots_of b.world ≡ roots_of a.world
+    → IsRooted a → IsRooted b
+rooted_kept a b same roots r path some =
+    subst (λ n. root_of path ≤ n) (sym roots)
+    (r path (subst (λ (es : Entries). IsSome (finding_at path es)) same some))
 
-finding_at-without : (first path : List ℕ) (es : Entries) → (b : Bool) → is_at_or_below path first ≡ b → IsSome (finding_at path (without first es)) → IsSome (finding_at path es)
-finding_at-without first path es true is some = false_true (subst IsSome (lookup-without path first false es (ap not is)) some)
-finding_at-without first path es false is some = subst IsSome (lookup-without path first true es (ap not is)) some
+finding_at-without : (first path : List ℕ) (es : Entries) → (b : Bool)
+    → is_at_or_below path first ≡ b → IsSome (finding_at path (without first es))
+    → IsSome (finding_at path es)
+finding_at-without first path es true is some =
+    false_true (subst IsSome (lookup-without path first false es (ap not is)) some)
+finding_at-without first path es false is some =
+    subst IsSome (lookup-without path first true es (ap not is)) some
 
-pub rooted_dropped : (first : List ℕ) (a b : HostState) → b.entries ≡ without first a.entries → roots_of b.world ≡ roots_of a.world → IsRooted a → IsRooted b
+pub rooted_dropped : (first : List ℕ) (a b : HostState) → b.entries ≡ without first a.entries
+    → roots_of b.world ≡ roots_of a.world → IsRooted a → IsRooted b
 rooted_dropped first a b rest roots r path some =
-    let was = finding_at-without first path a.entries (is_at_or_below path first) refl (subst (λ (es : Entries). IsSome (finding_at path es)) rest some) in
+    let was = finding_at-without first path a.entries (is_at_or_below path first) refl
+    (subst (λ (es : Entries). IsSome (finding_at path es)) rest some) in
     subst (λ n. root_of path ≤ n) (sym roots) (r path was)
 
-entered_root : (first path : List ℕ) (f : Finding) (es : Entries) (n : ℕ) → root_of first ≤ n → (IsSome (finding_at path es) → root_of path ≤ n) → (b : Bool) → is_at (path_cmp path) first ≡ b
+entered_root : (first path : List ℕ) (f : Finding) (es : Entries) (n : ℕ) → root_of first ≤ n
+    → (IsSome (finding_at path es) → root_of path ≤ n) → (b : Bool) → is_at (path_cmp path) first
+    ≡ b
     → IsSome (finding_at path (insert_entry path_cmp es first f)) → root_of path ≤ n
-entered_root first path f es n here more true tie some = subst (λ (p : List ℕ). root_of p ≤ n) (sym (path_tied path first tie)) here
-entered_root first path f es n here more false apart some = more (subst IsSome (lookup-insert_entry_elsewhere path first f es apart) some)
+entered_root first path f es n here more true tie some =
+    subst (λ (p : List ℕ). root_of p ≤ n) (sym (path_tied path first tie)) here
+entered_root first path f es n here more false apart some =
+    more (subst IsSome (lookup-insert_entry_elsewhere path first f es apart) some)
 
-pub rooted_came : (first : List ℕ) (f : Finding) (a b : HostState) → b.entries ≡ insert_entry path_cmp a.entries first f → roots_of b.world ≡ roots_of a.world → root_of first ≤ roots_of a.world → IsRooted a → IsRooted b
+pub rooted_came : (first : List ℕ) (f : Finding) (a b : HostState)
+    → b.entries ≡ insert_entry path_cmp a.entries first f → roots_of b.world ≡ roots_of a.world
+    → root_of first ≤ roots_of a.world → IsRooted a → IsRooted b
 rooted_came first f a b is roots here r path some =
     subst (λ n. root_of path ≤ n) (sym roots)
-    (entered_root first path f a.entries (roots_of a.world) here (r path) (is_at (path_cmp path) first) refl (subst (λ (es : Entries). IsSome (finding_at path es)) is some))
+    (entered_root first path f a.entries (roots_of a.world) here (r path)
+    (is_at (path_cmp path) first) refl (subst (λ (es : Entries). IsSome (finding_at path es))
+    is some))
 
 -- Where a port stands
 
-stands_by : (path : List ℕ) (port : KnownPort) (h : HostState) → StandsAt path port h → IsRooted h → (above : Option (List ℕ)) → parent_of path ≡ above → port_below above (port_on_hub path) h.entries ≡ Some port
+stands_by : (path : List ℕ) (port : KnownPort) (h : HostState) → StandsAt path port h → IsRooted h
+    → (above : Option (List ℕ)) → parent_of path ≡ above
+    → port_below above (port_on_hub path) h.entries ≡ Some port
     → root_of path ≤ roots_of h.world
 stands_by path port h s r None above e =
     let same : root_port (port_on_hub path) ≡ port = cc e in
-    let there : IsPort h.world (Root (port_on_hub path)) = subst (λ (p : KnownPort). IsPort h.world p.port) (sym same) s.there in
+    let there : IsPort h.world (Root (port_on_hub path)) =
+    subst (λ (p : KnownPort). IsPort h.world p.port) (sym same) s.there in
     subst (λ n. n ≤ roots_of h.world) (sym (ap root_of (root_alone path s.is.0 above))) there.1
 stands_by path port h s r (Some hub) above e =
-    subst (λ n. n ≤ roots_of h.world) (sym (root_parent path hub above)) (r hub (subst IsSome (sym (port_found-some (finding_at hub h.entries) (is_below_hub hub) (port_on_hub path) port e).stands) refl))
+    subst (λ n. n ≤ roots_of h.world) (sym (root_parent path hub above))
+    (r hub (subst IsSome (sym (port_found-some (finding_at hub h.entries) (is_below_hub hub)
+    (port_on_hub path) port e).stands) refl))
 
-pub rooted_stands : (path : List ℕ) (port : KnownPort) (h : HostState) → StandsAt path port h → IsRooted h → root_of path ≤ roots_of h.world
+pub rooted_stands : (path : List ℕ) (port : KnownPort) (h : HostState) → StandsAt path port h
+    → IsRooted h → root_of path ≤ roots_of h.world
 rooted_stands path port h s r = stands_by path port h s r (parent_of path) refl s.known
 
 -- an entry stands at a port that is known
-alone_by : (path : List ℕ) (h : HostState) → StandsNowhere path h → Waits path h → (o : Option (List ℕ)) → parent_of path ≡ o → o ≡ None
+alone_by : (path : List ℕ) (h : HostState) → StandsNowhere path h → Waits path h
+    → (o : Option (List ℕ)) → parent_of path ≡ o → o ≡ None
 alone_by path h s w None is = refl
 alone_by path h s w (Some hub) is =
-    let known : IsSome (known_port path h.entries) = s.agrees.nested.each path (Refused NoAddress) w.entry in
+    let known : IsSome (known_port path h.entries) =
+    s.agrees.nested.each path (Refused NoAddress) w.entry in
     let none : known_port path h.entries ≡ None = s.unknown (rw is refl) in
     absurd (cc (known, none))
 
--- a path at which nothing stands has no device that waits, where entries stand below the ports of the root
-pub waits_somewhere : (path : List ℕ) (h : HostState) → StandsNowhere path h → Waits path h → IsRooted h → ⊥
+-- a path at which nothing stands has no device that waits, where entries stand below the ports of
+-- the root
+pub waits_somewhere : (path : List ℕ) (h : HostState) → StandsNowhere path h → Waits path h
+    → IsRooted h → ⊥
 waits_somewhere path h s w r =
     let some : IsSome (finding_at path h.entries) = rw w.entry refl in
     let none = alone_by path h s w (parent_of path) refl in
@@ -99,15 +129,20 @@ waits_somewhere path h s w r =
 pub rooted_opening : (w : World) (t : Option (List ℕ)) → IsRooted (opening_host w t)
 rooted_opening w t path some = false_true some
 
-port_by : (es : Entries) (roots : ℕ) (path : List ℕ) → Nested es → root_of path ≤ roots → parent_of path ≡ None → (o : Option Finding) → finding_at path es ≡ o → IsSome o → port_on_hub path ≤ roots
+port_by : (es : Entries) (roots : ℕ) (path : List ℕ) → Nested es → root_of path ≤ roots
+    → parent_of path ≡ None → (o : Option Finding) → finding_at path es ≡ o → IsSome o
+    → port_on_hub path ≤ roots
 port_by es roots path n fits none None at some = false_true some
-port_by es roots path n fits none (Some f) at some = subst (λ k. k ≤ roots) (ap root_of (root_alone path (n.path path f at).0 none)) fits
+port_by es roots path n fits none (Some f) at some =
+    subst (λ k. k ≤ roots) (ap root_of (root_alone path (n.path path f at).0 none)) fits
 
 -- what a host's invariant says, and that entries stand below the ports of the root
-pub accounted : (h : HostState) → Agrees h.entries h.addresses → IsRooted h → Accounted (roots_of h.world) h.entries h.addresses
+pub accounted : (h : HostState) → Agrees h.entries h.addresses → IsRooted h
+    → Accounted (roots_of h.world) h.entries h.addresses
 accounted h agrees rooted = record {
   agrees = agrees;
-  root = λ path some none. port_by h.entries (roots_of h.world) path agrees.nested (rooted path some) none (finding_at path h.entries) refl some;
+  root = λ path some none. port_by h.entries (roots_of h.world) path agrees.nested
+      (rooted path some) none (finding_at path h.entries) refl some;
 }
 
 -- Of calls that failed

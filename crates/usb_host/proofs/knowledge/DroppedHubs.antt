@@ -1,5 +1,6 @@
 -- What a host knows as a hub that is lost is dropped.
-use Rattle.std.proofs.Common.{◌≡◌, ◌≤◌, refl, sym, ap, subst, ◌∙◌, arith, ℕ, Bool, true, false, List, length, Option, None, Some, Result, Ok, Err}
+use Rattle.std.proofs.Common.{◌≡◌, ◌≤◌, refl, sym, ap, subst, ◌∙◌, arith, ℕ, Bool, true, false}
+use Rattle.std.proofs.Common.{List, length, Option, None, Some, Result, Ok, Err}
 use Rattle.std.specs.Prelude.{IsSome, IsSomeAnd, IfOk, IsErr}
 use Rattle.std.specs.BTreeMap.{insert_entry}
 use Rattle.usb_port.specs.Order.{path_cmp, parent_of, port_on_hub}
@@ -33,7 +34,8 @@ use Rattle.usb_host.specs.HostState.{HostState}
 use Rattle.usb_host.specs.Ownership.{claims, DropsHub, root_of}
 use Rattle.usb_host.specs.Ports.{StandsAt, StandsNowhere}
 use Rattle.usb_host.specs.Progress.{HostSteps, OnlyBusSteps}
-use Rattle.usb_host.specs.Soundness.{HostInvariant, IsSoundBut, IsDroppable, IsFairTo, CausesBut, PortsListed, KnownBut, DevicesAccurate}
+use Rattle.usb_host.specs.Soundness.{HostInvariant, IsSoundBut, IsDroppable, IsFairTo, CausesBut}
+use Rattle.usb_host.specs.Soundness.{PortsListed, KnownBut, DevicesAccurate}
 use Rattle.usb_host.specs.declared.fault.HostFault.{HostFault}
 use Rattle.usb_host.proofs.payments.Backlogs.{call_all}
 use Rattle.usb_host.proofs.entries.EntryClaims.{lookup-insert_entry_here}
@@ -44,13 +46,15 @@ use Rattle.usb_table.specs.Levels.{AllInSync}
 use Rattle.usb_table.specs.Table.{Table, entered, pipes_at}
 use Rattle.usb_host.specs.Transfers.{table_in}
 use Rattle.usb_host.proofs.devices.LevelPipes.{level_forgotten, level_refused}
-use Rattle.usb_host.proofs.knowledge.Places.{known_dropped, known_found, truthful_dropped, truthful_found}
+use Rattle.usb_host.proofs.knowledge.Places.{known_dropped, known_found, truthful_dropped}
+use Rattle.usb_host.proofs.knowledge.Places.{truthful_found}
 use Rattle.usb_host.proofs.knowledge.RestedWorlds.{droppable_above, sound_rests_but}
 use Rattle.usb_host.proofs.knowledge.ServedPorts.{rests_known, rests_agrees}
 use Rattle.usb_host.proofs.PortLocations.{stands_at-claim, root_alone}
 
 -- as long as the bus is at work, it did not give up
-pub fault_after-no_bus : (A : Type 0) (fault : PipeFault) (old new : World) → FaultAfter 1 old fault new → new.fault ≡ None → IsNoBusFault {A = A} (Err fault)
+pub fault_after-no_bus : (A : Type 0) (fault : PipeFault) (old new : World)
+    → FaultAfter 1 old fault new → new.fault ≡ None → IsNoBusFault {A = A} (Err fault)
 fault_after-no_bus A pipe.Stalled old new told still = tt
 fault_after-no_bus A pipe.Busy old new told still = tt
 fault_after-no_bus A pipe.NoAnswer old new told still = tt
@@ -60,53 +64,76 @@ fault_after-no_bus A pipe.Memory old new told still = tt
 
 -- A port is told to pass nothing on
 
-module _ (n : ℕ) (path : List ℕ) (port : KnownPort) (a b : HostState) (s : StandsAt path port a) (r : OnlyBusSteps a b) (went : HostSteps n a b) (addresses : KeepsAddresses a.world b.world) (devices : KeepsDevices a.world b.world) (d : IsDroppable path a) where
+module _ (n : ℕ) (path : List ℕ) (port : KnownPort) (a b : HostState) (s : StandsAt path port a)
+    (r : OnlyBusSteps a b) (went : HostSteps n a b) (addresses : KeepsAddresses a.world b.world)
+    (devices : KeepsDevices a.world b.world) (d : IsDroppable path a) where
   pub claimed : Opened path (claims a.entries) a.world
   claimed = opened_if_owned path (claims a.entries) a.world d.but.owned
 
   pub is_call : IsCall claimed.claims port.port path (clear_call PORT_ENABLE) ClearEnable a.world
   is_call = record {
-    at = at_others (claims a.entries) claimed.claims port.port path claimed.others (stands_at-claim path port a s);
+    at = at_others (claims a.entries) claimed.claims port.port path claimed.others
+        (stands_at-claim path port a s);
     is = refl;
     alone = λ resets. absurd (cc resets);
     owned = claimed.owned;
   }
 
-  told_but : (result : Result (Unit {0}) PipeFault) → CommandsPort port.port (clear_call PORT_ENABLE) a.world result b.world → (b.world.fault ≡ None → IsNoBusFault result) → IsSoundBut path b
-  told_but result calls sound = sound_rests_but n a b r went addresses path devices (λ still. calls.rests claimed.claims path ClearEnable is_call (sound still)) d.but
+  told_but : (result : Result (Unit {0}) PipeFault)
+      → CommandsPort port.port (clear_call PORT_ENABLE) a.world result b.world
+      → (b.world.fault ≡ None → IsNoBusFault result) → IsSoundBut path b
+  told_but result calls sound = sound_rests_but n a b r went addresses path devices
+      (λ still. calls.rests claimed.claims path ClearEnable is_call (sound still)) d.but
 
-  pub told_backlog : (result : Result (Unit {0}) PipeFault) → CommandsPort port.port (clear_call PORT_ENABLE) a.world result b.world → IsNoBusFault result → KeepsAll a.world b.world
-  told_backlog result calls sound = call_all path ClearEnable (λ g. absurd (cc g)) (λ g. absurd (cc g)) (calls.backlog claimed.claims path ClearEnable is_call sound)
+  pub told_backlog : (result : Result (Unit {0}) PipeFault)
+      → CommandsPort port.port (clear_call PORT_ENABLE) a.world result b.world → IsNoBusFault result
+      → KeepsAll a.world b.world
+  told_backlog result calls sound = call_all path ClearEnable (λ g. absurd (cc g))
+      (λ g. absurd (cc g)) (calls.backlog claimed.claims path ClearEnable is_call sound)
 
-  pub told_dropped : CommandsPort port.port (clear_call PORT_ENABLE) a.world (Ok tt) b.world → IsDroppedAt path b
+  pub told_dropped : CommandsPort port.port (clear_call PORT_ENABLE) a.world (Ok tt) b.world
+      → IsDroppedAt path b
   told_dropped calls = record {
     but = told_but (Ok tt) calls (λ still. tt);
-    there = λ still. disabled_known path Lost a.world b.world (calls.done claimed.claims path ClearEnable is_call refl) (d.there (went_sound n a.world b.world went still));
+    there = λ still. disabled_known path Lost a.world b.world
+        (calls.done claimed.claims path ClearEnable is_call refl)
+        (d.there (went_sound n a.world b.world went still));
   }
 
   -- it could not be told
-  pub untold_droppable : (fault : PipeFault) → CommandsPort port.port (clear_call PORT_ENABLE) a.world (Err fault) b.world → FaultAfter 1 a.world fault b.world → PortCleared port.port PORT_ENABLE a.world (Err fault) b.world
+  pub untold_droppable : (fault : PipeFault)
+      → CommandsPort port.port (clear_call PORT_ENABLE) a.world (Err fault) b.world
+      → FaultAfter 1 a.world fault b.world → PortCleared port.port PORT_ENABLE a.world (Err fault)
+      b.world
       → IsSomeAnd (parent_of path) (λ hub. IsDroppable hub b)
   untold_droppable fault calls told cleared = by_parent (parent_of path) refl
     where
-      by_parent : (o : Option (List ℕ)) → parent_of path ≡ o → IsSomeAnd o (λ hub. IsDroppable hub b)
-      by_parent None above = absurd (root_done path a.entries port PORT_ENABLE a.world b.world fault None above refl (subst (λ o. port_below o (port_on_hub path) a.entries ≡ Some port) above s.known) cleared)
-      by_parent (Some hub) above = droppable_above path hub b above (rests_known path port a b r s) (rests_agrees path port a b r s) (told_but (Err fault) calls (fault_after-no_bus (Unit {0}) fault a.world b.world told))
+      by_parent : (o : Option (List ℕ)) → parent_of path ≡ o
+          → IsSomeAnd o (λ hub. IsDroppable hub b)
+      by_parent None above = absurd (root_done path a.entries port PORT_ENABLE a.world b.world fault
+          None above refl (subst (λ o. port_below o (port_on_hub path) a.entries ≡ Some port)
+          above s.known) cleared)
+      by_parent (Some hub) above = droppable_above path hub b above (rests_known path port a b r s)
+          (rests_agrees path port a b r s) (told_but (Err fault) calls
+          (fault_after-no_bus (Unit {0}) fault a.world b.world told))
 
 -- a hub that may be dropped stands at a port
-pub nowhere_dropped : (path : List ℕ) (h : HostState) → StandsNowhere path h → IsDroppable path h → ⊥
+pub nowhere_dropped : (path : List ℕ) (h : HostState) → StandsNowhere path h → IsDroppable path h
+    → ⊥
 nowhere_dropped path h s d = by_parent (parent_of path) refl
   where
     known : IsSome (known_port path h.entries)
     known = by_found (finding_at path h.entries) refl d.listed
       where
-        by_found : (o : Option Finding) → finding_at path h.entries ≡ o → IsSome o → IsSome (known_port path h.entries)
+        by_found : (o : Option Finding) → finding_at path h.entries ≡ o → IsSome o
+            → IsSome (known_port path h.entries)
         by_found None at some = absurd (cc some)
         by_found (Some f) at some = s.agrees.nested.each path f at
 
     by_parent : (o : Option (List ℕ)) → parent_of path ≡ o → ⊥
     by_parent None above =
-        let most = subst (λ m. m ≤ roots_of h.world) (ap root_of (root_alone path s.is.0 above)) (d.but.rooted path d.listed) in
+        let most = subst (λ m. m ≤ roots_of h.world) (ap root_of (root_alone path s.is.0 above))
+        (d.but.rooted path d.listed) in
         let least = s.beyond above in
         absurd (omega (arith, most, least))
     by_parent (Some hub) above =
@@ -115,7 +142,14 @@ nowhere_dropped path h s d = by_parent (parent_of path) refl
 
 -- The hub is forgotten, and listed as lost
 
-module _ (hub lost : List ℕ) (a b c d : HostState) (least : 1 ≤ length lost) (x : IsDroppedAt lost b) (others : c ≡ record b { entries = c.entries; pipes = c.pipes; addresses = c.addresses }) (rest : c.entries ≡ without lost b.entries) (pipes : (y : List ℕ) → is_way lost y ≡ false → pipes_at y (table_in c) ≡ pipes_at y (table_in b)) (gone : has_at lost c.entries ≡ false)
+module _ (hub lost : List ℕ) (a b c d : HostState) (least : 1 ≤ length lost)
+    (x : IsDroppedAt lost b) (others : c ≡ record b {
+      entries = c.entries;
+      pipes = c.pipes;
+      addresses = c.addresses;
+    }) (rest : c.entries ≡ without lost b.entries) (pipes : (y : List ℕ)
+    → is_way lost y ≡ false → pipes_at y (table_in c) ≡ pipes_at y (table_in b))
+    (gone : has_at lost c.entries ≡ false)
     (same : d.world ≡ c.world) (table : table_in d ≡ entered lost (Refused Lost) (table_in c)) where
   is : d.entries ≡ insert_entry path_cmp c.entries lost (Refused Lost)
   is = ap (λ (t : Table). t.entries) table
@@ -128,21 +162,33 @@ module _ (hub lost : List ℕ) (a b c d : HostState) (least : 1 ≤ length lost)
 
   lost_known : d.world.fault ≡ None → PortsListed d.world d.entries
   lost_known still =
-      let dropped : KnownBut lost b.world c.entries = subst (KnownBut lost b.world) (sym rest) (known_dropped lost b.world b.entries (x.but.known (still_there still))) in
+      let dropped : KnownBut lost b.world c.entries =
+      subst (KnownBut lost b.world) (sym rest)
+      (known_dropped lost b.world b.entries (x.but.known (still_there still))) in
       subst (λ w. PortsListed w d.entries) (sym world_is)
-      (subst (PortsListed b.world) (sym is) (known_found lost (Refused Lost) c.entries least gone b.world dropped (x.there (still_there still)) (λ m has. absurd has)))
+      (subst (PortsListed b.world) (sym is) (known_found lost (Refused Lost) c.entries least gone
+      b.world dropped (x.there (still_there still)) (λ m has. absurd has)))
 
   lost_truthful : d.world.fault ≡ None → DevicesAccurate d.world d.entries
   lost_truthful still =
-      let dropped : DevicesAccurate b.world c.entries = subst (DevicesAccurate b.world) (sym rest) (truthful_dropped lost b.world b.entries (x.but.truthful (still_there still))) in
+      let dropped : DevicesAccurate b.world c.entries =
+      subst (DevicesAccurate b.world) (sym rest)
+      (truthful_dropped lost b.world b.entries (x.but.truthful (still_there still))) in
       subst (λ w. DevicesAccurate w d.entries) (sym world_is)
       (subst (DevicesAccurate b.world) (sym is)
-      (truthful_found lost (Refused Lost) c.entries least gone b.world dropped (λ device s at on stands. absurd (cc (ap accepted_device_of (lookup-insert_entry_here lost (Refused Lost) c.entries), at)))))
+      (truthful_found lost (Refused Lost) c.entries least gone b.world dropped
+      (λ device s at on stands. absurd
+      (cc (
+        ap accepted_device_of (lookup-insert_entry_here lost (Refused Lost) c.entries),
+        at,
+      )))))
 
   lost_level : d.world.fault ≡ None → AllInSync (table_in d) d.world
   lost_level still =
       level_refused lost Lost (table_in c) (table_in d) d.world table
-      (subst (AllInSync (table_in c)) (sym same) (level_forgotten lost b c (ap (λ (h : HostState). h.world) others) rest gone pipes (x.but.level (still_there still))))
+      (subst (AllInSync (table_in c)) (sym same)
+      (level_forgotten lost b c (ap (λ (h : HostState). h.world) others) rest gone pipes
+      (x.but.level (still_there still))))
 
   pub lost_sound_there : IsDroppable hub a → DropsHub hub a (Ok tt) d → HostInvariant d
   lost_sound_there p drops = record {
@@ -160,28 +206,53 @@ pub if_err : {A E : Type 0} (result : Result A E) (P : A → Type 0) → IsErr r
 if_err (Ok x) P e = absurd (cc e)
 if_err (Err x) P e = tt
 
-pub failed_by : {E : Type 0} {result : Result Bool E} {b c : Bool} → result ≡ Ok b → b ≡ c → result ≡ Ok c
+pub failed_by : {E : Type 0} {result : Result Bool E} {b c : Bool} → result ≡ Ok b → b ≡ c
+    → result ≡ Ok c
 failed_by was is = was ∙ ap (λ b. Ok b) is
 
-pub climb_sound : (path above : List ℕ) (a : HostState) (result : Result Bool HostFault) (b : HostState) → parent_of path ≡ Some above → DisablesOnWay path a result b → result ≡ Ok false → IsDroppable path a → IsDroppable above b
-climb_sound path above a result b is x failed d = subst (λ o. IsSomeAnd o (λ hub. IsDroppable hub b)) is (x.failed d failed)
+pub climb_sound : (path above : List ℕ) (a : HostState) (result : Result Bool HostFault)
+    (b : HostState) → parent_of path ≡ Some above → DisablesOnWay path a result b
+    → result ≡ Ok false → IsDroppable path a → IsDroppable above b
+climb_sound path above a result b is x failed d =
+    subst (λ o. IsSomeAnd o (λ hub. IsDroppable hub b)) is (x.failed d failed)
 
-pub top_absurd : (path : List ℕ) (a : HostState) (result : Result Bool HostFault) (b : HostState) → parent_of path ≡ None → DisablesOnWay path a result b → result ≡ Ok false → IsDroppable path a → ⊥
-top_absurd path a result b is x failed d = absurd (subst (λ o. IsSomeAnd o (λ hub. IsDroppable hub b)) is (x.failed d failed))
+pub top_absurd : (path : List ℕ) (a : HostState) (result : Result Bool HostFault) (b : HostState)
+    → parent_of path ≡ None → DisablesOnWay path a result b → result ≡ Ok false → IsDroppable path a
+    → ⊥
+top_absurd path a result b is x failed d =
+    absurd (subst (λ o. IsSomeAnd o (λ hub. IsDroppable hub b)) is (x.failed d failed))
 
 module _ {m n : ℕ} (path : List ℕ) where
-  done_caused_by : (flag : Bool) (a : HostState) (result : Result Bool HostFault) (b : HostState) (first : World) {t : Option (List ℕ)} → StepRun m first t a.world a.trace → HostSteps n a b → DisablesOnWay path a result b → result ≡ Ok flag → IsDroppable path a → IsFairTo first b.world
-      → (IsFairTo first a.world → (pending a.world.roots path ≡ true) × CausesBut path a.world a.entries) → Disabled flag path b
+  done_caused_by : (flag : Bool) (a : HostState) (result : Result Bool HostFault) (b : HostState)
+      (first : World) {t : Option (List ℕ)} → StepRun m first t a.world a.trace → HostSteps n a b
+      → DisablesOnWay path a result b → result ≡ Ok flag → IsDroppable path a
+      → IsFairTo first b.world
+      → (IsFairTo first a.world → (pending a.world.roots path ≡ true)
+      × CausesBut path a.world a.entries) → Disabled flag path b
   done_caused_by flag a result b first before went x done d fair so_far =
       let half = fair_before n first a.world b.world went fair in
       let so = so_far half in
-      subst (λ r. IfOk r (λ flag. Disabled flag path b)) done (x.caused d (fair_after m first a.world b.world before fair) so.0 so.1)
+      subst (λ r. IfOk r (λ flag. Disabled flag path b)) done
+      (x.caused d (fair_after m first a.world b.world before fair) so.0 so.1)
 
-pub done_caused : {m n : ℕ} (path : List ℕ) (a : HostState) (result : Result Bool HostFault) (b : HostState) (first : World) {t : Option (List ℕ)} → StepRun m first t a.world a.trace → HostSteps n a b → DisablesOnWay path a result b → result ≡ Ok true → IsDroppable path a
-    → IsFairTo first b.world → (IsFairTo first a.world → (pending a.world.roots path ≡ true) × CausesBut path a.world a.entries) → (pending b.world.roots path ≡ true) × CausesBut path b.world b.entries
-done_caused path a result b first before went x done d fair so_far = done_caused_by path true a result b first before went x done d fair so_far
+pub done_caused : {m n : ℕ} (path : List ℕ) (a : HostState) (result : Result Bool HostFault)
+    (b : HostState) (first : World) {t : Option (List ℕ)} → StepRun m first t a.world a.trace
+    → HostSteps n a b → DisablesOnWay path a result b → result ≡ Ok true → IsDroppable path a
+    → IsFairTo first b.world → (IsFairTo first a.world → (pending a.world.roots path ≡ true)
+    × CausesBut path a.world a.entries) → (pending b.world.roots path ≡ true)
+    × CausesBut path b.world b.entries
+done_caused path a result b first before went x done d fair so_far =
+    done_caused_by path true a result b first before went x done d fair so_far
 
-pub climb_caused : {m n : ℕ} (path above : List ℕ) (a : HostState) (result : Result Bool HostFault) (b : HostState) (first : World) {t : Option (List ℕ)} → StepRun m first t a.world a.trace → HostSteps n a b → parent_of path ≡ Some above → DisablesOnWay path a result b → result ≡ Ok false
-    → IsDroppable path a → IsFairTo first b.world → (IsFairTo first a.world → (pending a.world.roots path ≡ true) × CausesBut path a.world a.entries) → (pending b.world.roots above ≡ true) × CausesBut above b.world b.entries
+pub climb_caused : {m n : ℕ} (path above : List ℕ) (a : HostState) (result : Result Bool HostFault)
+    (b : HostState) (first : World) {t : Option (List ℕ)} → StepRun m first t a.world a.trace
+    → HostSteps n a b → parent_of path ≡ Some above → DisablesOnWay path a result b
+    → result ≡ Ok false
+    → IsDroppable path a → IsFairTo first b.world
+    → (IsFairTo first a.world → (pending a.world.roots path ≡ true)
+    × CausesBut path a.world a.entries) → (pending b.world.roots above ≡ true)
+    × CausesBut above b.world b.entries
 climb_caused path above a result b first before went is x failed d fair so_far =
-    subst (λ o. IsSomeAnd o (λ hub. (pending b.world.roots hub ≡ true) × CausesBut hub b.world b.entries)) is (done_caused_by path false a result b first before went x failed d fair so_far)
+    subst (λ o. IsSomeAnd o (λ hub. (pending b.world.roots hub ≡ true)
+    × CausesBut hub b.world b.entries)) is
+    (done_caused_by path false a result b first before went x failed d fair so_far)

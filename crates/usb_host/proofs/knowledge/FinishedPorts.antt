@@ -20,7 +20,9 @@ lets_go_on_done (Err ParentLost) ends = tt
 lets_go_on_done (Err (Bus fault)) ends = absurd (cc ends)
 lets_go_on_done (Err Memory) ends = absurd (cc ends)
 
-pub finished_sound : (path : List ℕ) (m n : ℕ) (served : Result (Unit {0}) EnumFault) (result : Result (Unit {0}) HostFault) (a b c : HostState) → HostSteps m a b → HostSteps n b c → EndsAs served result → ServesSound path a served b → DropsLost path served b result c
+pub finished_sound : (path : List ℕ) (m n : ℕ) (served : Result (Unit {0}) EnumFault)
+    (result : Result (Unit {0}) HostFault) (a b c : HostState) → HostSteps m a b → HostSteps n b c
+    → EndsAs served result → ServesSound path a served b → DropsLost path served b result c
     → PartKeepsInvariant a result c
 finished_sound path m n served (Err fault) a b c first second ends x y = tt
 finished_sound path m n served (Ok tt) a b c first second ends x y = record {
@@ -28,8 +30,12 @@ finished_sound path m n served (Ok tt) a b c first second ends x y = record {
     sound = λ s. y.sound (x.sound s);
     caused = λ s fair k.
         let before = fair_before n a.world b.world c.world second fair in
-        y.caused (x.sound s) (fair_after m a.world b.world c.world first fair) (x.caused s before k);
+        y.caused (x.sound s) (fair_after m a.world b.world c.world first fair)
+        (x.caused s before k);
   };
-  bulk = λ s still. bulk_then m n a b c first second still (x.bulk s (lets_go_on_done served ends) (went_sound n b.world c.world second still)) (y.bulk (x.sound s) still);
-  plugs = λ s still. plugs_then m n a b c first second still (x.plugs s (went_sound n b.world c.world second still)) y.plugs;
+  bulk = λ s still. bulk_then m n a b c first second still
+      (x.bulk s (lets_go_on_done served ends) (went_sound n b.world c.world second still))
+      (y.bulk (x.sound s) still);
+  plugs = λ s still. plugs_then m n a b c first second still
+      (x.plugs s (went_sound n b.world c.world second still)) y.plugs;
 }

@@ -1,5 +1,6 @@
 -- A port below a hub is the hub's.
-use Rattle.std.proofs.Common.{◌≡◌, refl, subst, arith, Bool, true, false, ℕ, ◌≤◌, List, [], ◌∷◌, ◌++◌, length, Option, Some, sym}
+use Rattle.std.proofs.Common.{◌≡◌, refl, subst, arith, Bool, true, false, ℕ, ◌≤◌, List, [], ◌∷◌}
+use Rattle.std.proofs.Common.{◌++◌, length, Option, Some, sym}
 use Rattle.std.proofs.lemmas.List.Elements.{All-cons, All-nil}
 use Rattle.usb_world.specs.World.{World, IsRootPort}
 use Rattle.std.specs.Map.{lookup}
@@ -17,10 +18,14 @@ use Rattle.usb_host.specs.Agreement.{Agrees}
 use Rattle.usb_host.specs.HostState.{HostState}
 use Rattle.usb_host.specs.Ports.{IsDue, IsPortAt}
 
-pub below_due : (hub : List ℕ) (n : ℕ) (es : Entries) (port : KnownPort) (w : World) → 1 ≤ length hub → known_port (hub ++ n ∷ []) es ≡ Some port → IsDue w port.port
+pub below_due : (hub : List ℕ) (n : ℕ) (es : Entries) (port : KnownPort) (w : World)
+    → 1 ≤ length hub → known_port (hub ++ n ∷ []) es ≡ Some port → IsDue w port.port
 below_due hub n es port w least e =
     let found =
-    port_found-some (lookup (is_at (path_cmp hub)) es) (is_below_hub hub) (port_on_hub (hub ++ n ∷ [])) port (subst (λ (p : Option (List ℕ)). port_below p (port_on_hub (hub ++ n ∷ [])) es ≡ Some port) (parent hub n least) e) in
+    port_found-some (lookup (is_at (path_cmp hub)) es) (is_below_hub hub)
+    (port_on_hub (hub ++ n ∷ [])) port
+    (subst (λ (p : Option (List ℕ)). port_below p (port_on_hub (hub ++ n ∷ [])) es ≡ Some port)
+    (parent hub n least) e) in
     subst (λ (p : KnownPort). IsDue w p.port) (sym found.is) tt
 
 -- a port of the root

@@ -1,6 +1,7 @@
 -- What a host knows stays so as the world alone goes on, and a hub that is lost may be dropped.
 use Rattle.usb_device.specs.Tree.{Location}
-use Rattle.std.proofs.Common.{◌≡◌, inl, inr, refl, sym, ap, subst, ◌∙◌, arith, length-append, ℕ, Bool, true, false, List, [], ◌∷◌, length, Option, None, Some, Err}
+use Rattle.std.proofs.Common.{◌≡◌, inl, inr, refl, sym, ap, subst, ◌∙◌, arith, length-append, ℕ}
+use Rattle.std.proofs.Common.{Bool, true, false, List, [], ◌∷◌, length, Option, None, Some, Err}
 use Rattle.std.specs.Prelude.{IsSome, IsSomeAnd}
 use Rattle.usb_port.specs.Order.{parent_of, port_on_hub}
 use Rattle.usb_port.proofs.Interface.{rejoined}
@@ -29,27 +30,37 @@ use Rattle.usb_host.specs.PortHandling.{LetsGoOn, RestElsewhere, InvariantAfterP
 use Rattle.usb_host.specs.HostState.{HostState}
 use Rattle.usb_host.specs.Ports.{StandsAt}
 use Rattle.usb_host.specs.Progress.{HostSteps, OnlyBusSteps}
-use Rattle.usb_host.specs.Soundness.{PortsListed, KnownBut, DevicesAccurate, TruthfulBut, HostInvariant, IsSoundBut, IsDroppable, EachStill, EachStillBut}
+use Rattle.usb_host.specs.Soundness.{PortsListed, KnownBut, DevicesAccurate, TruthfulBut}
+use Rattle.usb_host.specs.Soundness.{HostInvariant, IsSoundBut, IsDroppable, EachStill}
+use Rattle.usb_host.specs.Soundness.{EachStillBut}
 use Rattle.usb_host.proofs.OwnedPorts.{owned_rests, but_rests}
 use Rattle.usb_host.proofs.devices.LevelPipes.{level_rests}
 use Rattle.usb_host.proofs.devices.Owners.{but_all, but_above}
 use Rattle.usb_host.proofs.entries.Roots.{rooted_kept, accounted}
 use Rattle.usb_host.proofs.knowledge.SettledListings.{listed_port, reached_there}
 use Rattle.usb_host.proofs.PortLocations.{lost_above}
-use Rattle.usb_host.proofs.knowledge.KnowledgeKept.{known_each, known_but_each, truthful_stays, truthful_but_stays}
+use Rattle.usb_host.proofs.knowledge.KnowledgeKept.{known_each, known_but_each, truthful_stays}
+use Rattle.usb_host.proofs.knowledge.KnowledgeKept.{truthful_but_stays}
 
 -- Devices
 
 still_was : (w : World) (j : Location) (s : State) → Was StaysAs w j s → Was SameSettings w j s
-still_was w j s x = record { before = x.before; on = x.on; stands = x.stands; so = (stays-spec x.before s x.so, stays-registers x.before s x.so) }
+still_was w j s x = record {
+  before = x.before;
+  on = x.on;
+  stands = x.stands;
+  so = (stays-spec x.before s x.so, stays-registers x.before s x.so);
+}
 
 pub kept_each_still : (w v : World) → KeepsDevices w v → v.shared ≡ false → EachStill w v
 kept_each_still w v k single j s on at = still_was w j s (k.stays single j s on at)
 
-pub each_still_but : (path : List ℕ) (w v : World) → KeepsDevices w v → v.shared ≡ false → EachStillBut path w v
+pub each_still_but : (path : List ℕ) (w v : World) → KeepsDevices w v → v.shared ≡ false
+    → EachStillBut path w v
 each_still_but path w v k single j s away on at = still_was w j s (k.stays single j s on at)
 
-pub elsewhere_still : (path : List ℕ) (w v : World) → EachElsewhere path StaysAs w v → EachStillBut path w v
+pub elsewhere_still : (path : List ℕ) (w v : World) → EachElsewhere path StaysAs w v
+    → EachStillBut path w v
 elsewhere_still path w v each j s away on at = still_was w j s (each j s away on at)
 
 -- What is known everywhere is known elsewhere, and less is known further above
@@ -64,7 +75,8 @@ but_of_sound path h s = record {
   level = λ still x away. s.level still x;
 }
 
-pub but_of_above : (path below : List ℕ) (h : HostState) → is_way path below ≡ true → IsSoundBut below h → IsSoundBut path h
+pub but_of_above : (path below : List ℕ) (h : HostState) → is_way path below ≡ true
+    → IsSoundBut below h → IsSoundBut path h
 but_of_above path below h on s = record {
   owned = but_above path below _ h.world on s.owned;
   rooted = s.rooted;
@@ -76,68 +88,105 @@ but_of_above path below h on s = record {
 
 -- The world alone goes on
 
-module _ (n : ℕ) (a b : HostState) (r : OnlyBusSteps a b) (went : HostSteps n a b) (k : KeepsAddresses a.world b.world) where
+module _ (n : ℕ) (a b : HostState) (r : OnlyBusSteps a b) (went : HostSteps n a b)
+    (k : KeepsAddresses a.world b.world) where
   same_entries : b.entries ≡ a.entries
   same_entries = ap (λ (h : HostState). h.entries) r
 
-  pub sound_rests : KeepsDevices a.world b.world → TouchesNoPort a.world b.world → HostInvariant a → HostInvariant b
+  pub sound_rests : KeepsDevices a.world b.world → TouchesNoPort a.world b.world → HostInvariant a
+      → HostInvariant b
   sound_rests devices rests s =
       let owned = owned_rests a b r k s.owned in
       record {
         owned = owned;
         rooted = rooted_kept a b same_entries went.spends.roots s.rooted;
         order = went_in_order n a.world b.world went s.order;
-        known = λ still. subst (PortsListed b.world) (sym same_entries) (known_each a.world b.world a.entries went.spends.roots (λ path port. rests path) (s.known (went_sound n a.world b.world went still)));
-        truthful = λ still. subst (DevicesAccurate b.world) (sym same_entries) (truthful_stays a.world b.world a.entries (kept_each_still a.world b.world devices owned.single) (s.truthful (went_sound n a.world b.world went still)));
-        level = λ still x. level_rests a b r devices owned.single x (s.level (went_sound n a.world b.world went still) x);
+        known = λ still. subst (PortsListed b.world) (sym same_entries)
+            (known_each a.world b.world a.entries went.spends.roots (λ path port. rests path)
+            (s.known (went_sound n a.world b.world went still)));
+        truthful = λ still. subst (DevicesAccurate b.world) (sym same_entries)
+            (truthful_stays a.world b.world a.entries
+            (kept_each_still a.world b.world devices owned.single)
+            (s.truthful (went_sound n a.world b.world went still)));
+        level = λ still x. level_rests a b r devices owned.single x
+            (s.level (went_sound n a.world b.world went still) x);
       }
 
-  pub sound_rests_but : (path : List ℕ) → KeepsDevices a.world b.world → (b.world.fault ≡ None → RestElsewhere path a.world b.world) → IsSoundBut path a → IsSoundBut path b
+  pub sound_rests_but : (path : List ℕ) → KeepsDevices a.world b.world
+      → (b.world.fault ≡ None → RestElsewhere path a.world b.world) → IsSoundBut path a
+      → IsSoundBut path b
   sound_rests_but path devices rests s =
       let owned = but_rests path a b r k s.owned in
       record {
         owned = owned;
         rooted = rooted_kept a b same_entries went.spends.roots s.rooted;
         order = went_in_order n a.world b.world went s.order;
-        known = λ still. subst (KnownBut path b.world) (sym same_entries) (known_but_each path a.world b.world a.entries went.spends.roots (rests still) (s.known (went_sound n a.world b.world went still)));
-        truthful = λ still. subst (TruthfulBut path b.world) (sym same_entries) (truthful_but_stays path a.world b.world a.entries (each_still_but path a.world b.world devices owned.single) (s.truthful (went_sound n a.world b.world went still)));
-        level = λ still x away. level_rests a b r devices owned.single x (s.level (went_sound n a.world b.world went still) x away);
+        known = λ still. subst (KnownBut path b.world) (sym same_entries)
+            (known_but_each path a.world b.world a.entries went.spends.roots (rests still)
+            (s.known (went_sound n a.world b.world went still)));
+        truthful = λ still. subst (TruthfulBut path b.world) (sym same_entries)
+            (truthful_but_stays path a.world b.world a.entries
+            (each_still_but path a.world b.world devices owned.single)
+            (s.truthful (went_sound n a.world b.world went still)));
+        level = λ still x away. level_rests a b r devices owned.single x
+            (s.level (went_sound n a.world b.world went still) x away);
       }
 
 -- A hub that is lost
 
-port_found-finding : (o : Option Finding) (below : Bool) (n : ℕ) → IsSome (port_found o below n) → (f : Finding) × (o ≡ Some f)
+port_found-finding : (o : Option Finding) (below : Bool) (n : ℕ) → IsSome (port_found o below n)
+    → (f : Finding) × (o ≡ Some f)
 port_found-finding None below n h = absurd (cc h)
 port_found-finding (Some f) below n h = (f, refl)
 
-pub occupied_by : (w : World) (path : List ℕ) (f : Finding) → IsKnownAs w path (Some f) → IsOccupied w path
+pub occupied_by : (w : World) (path : List ℕ) (f : Finding) → IsKnownAs w path (Some f)
+    → IsOccupied w path
 occupied_by w path f (inl x) = inl x
-occupied_by w path (Device device) (inr x) = let s : _ = reached_there w.roots path x.1 in inr (x.0, subst IsSome (sym s.1) refl)
+occupied_by w path (Device device) (inr x) = let s : _ = reached_there w.roots path x.1 in
+    inr (x.0, subst IsSome (sym s.1) refl)
 occupied_by w path (Refused cause) (inr x) = inr (x.0, x.1.0)
 
--- the hub of a port that is known may be dropped, where what is known elsewhere than at the port is so
-pub droppable_above : (path hub : List ℕ) (h : HostState) → parent_of path ≡ Some hub → IsSome (known_port path h.entries) → Agrees h.entries h.addresses → IsSoundBut path h → IsDroppable hub h
-droppable_above path hub h above known agrees s = record { listed = subst IsSome (sym found.1) refl; but = but_of_above hub path h (way_parent path hub above) s; there = there }
+-- the hub of a port that is known may be dropped, where what is known elsewhere than at the port is
+-- so
+pub droppable_above : (path hub : List ℕ) (h : HostState) → parent_of path ≡ Some hub
+    → IsSome (known_port path h.entries) → Agrees h.entries h.addresses → IsSoundBut path h
+    → IsDroppable hub h
+droppable_above path hub h above known agrees s = record {
+  listed = subst IsSome (sym found.1) refl;
+  but = but_of_above hub path h (way_parent path hub above) s;
+  there = there;
+}
   where
     found : (f : Finding) × (finding_at hub h.entries ≡ Some f)
-    found = port_found-finding (finding_at hub h.entries) (is_below_hub hub) (port_on_hub path) (subst (λ o. IsSome (port_below o (port_on_hub path) h.entries)) above known)
+    found = port_found-finding (finding_at hub h.entries) (is_below_hub hub) (port_on_hub path)
+        (subst (λ o. IsSome (port_below o (port_on_hub path) h.entries)) above known)
 
     away : is_way path hub ≡ false
-    away = way_shorter path hub (omega (arith, ap length (rejoined path hub above) ∙ length-append hub (port_on_hub path ∷ [])))
+    away = way_shorter path hub (omega (
+      arith,
+      ap length (rejoined path hub above)
+          ∙ length-append hub (port_on_hub path ∷ []),
+    ))
 
     there : h.world.fault ≡ None → IsOccupied h.world hub
     there still =
-        let port = listed_port h.world h.entries h.addresses (accounted h agrees s.rooted) hub found.0 found.1 in
-        occupied_by h.world hub found.0 (subst (IsKnownAs h.world hub) found.1 (s.known still hub away port))
+        let port = listed_port h.world h.entries h.addresses (accounted h agrees s.rooted) hub
+        found.0 found.1 in
+        occupied_by h.world hub found.0 (subst (IsKnownAs h.world hub) found.1
+        (s.known still hub away port))
 
 -- A request at a port failed
 
-pub lost_sound : (path : List ℕ) (port : KnownPort) (a b : HostState) (fault : EnumFault) → StandsAt path port a → FaultAllowedAt port.port fault b.world → IsSome (known_port path b.entries) → Agrees b.entries b.addresses
-    → (LetsGoOn {A = Unit {0}} (Err fault) → IsSoundBut path b) → InvariantAfterPort path (Err fault) b
+pub lost_sound : (path : List ℕ) (port : KnownPort) (a b : HostState) (fault : EnumFault)
+    → StandsAt path port a → FaultAllowedAt port.port fault b.world
+    → IsSome (known_port path b.entries) → Agrees b.entries b.addresses
+    → (LetsGoOn {A = Unit {0}} (Err fault) → IsSoundBut path b)
+    → InvariantAfterPort path (Err fault) b
 lost_sound path port a b ParentLost s told known agrees but = by_parent (parent_of path) refl
   where
     by_parent : (o : Option (List ℕ)) → parent_of path ≡ o → IsSomeAnd o (λ hub. IsDroppable hub b)
-    by_parent None above = absurd (cc (lost_above path a.entries port b.world told None above (subst (λ o. port_below o (port_on_hub path) a.entries ≡ Some port) above s.known)))
+    by_parent None above = absurd (cc (lost_above path a.entries port b.world told None above
+        (subst (λ o. port_below o (port_on_hub path) a.entries ≡ Some port) above s.known)))
     by_parent (Some hub) above = droppable_above path hub b above known agrees (but tt)
 lost_sound path port a b (Bus fault) s told known agrees but = tt
 lost_sound path port a b Memory s told known agrees but = tt

@@ -1,5 +1,7 @@
 -- The hub of a port that is known serves the port, or a change of connection is pending at the hub.
-use Rattle.std.proofs.Common.{◌≡◌, ◌⊎◌, inl, inr, ◌≤◌, ◌&&◌, ◌||◌, not, arith, if◌then◌else◌, ℕ, zero, suc, Bool, true, false, List, [], ◌∷◌, length, Option, None, Some, refl, ap, sym, subst, ◌∙◌, length-append}
+use Rattle.std.proofs.Common.{◌≡◌, ◌⊎◌, inl, inr, ◌≤◌, ◌&&◌, ◌||◌, not, arith, if◌then◌else◌, ℕ}
+use Rattle.std.proofs.Common.{zero, suc, Bool, true, false, List, [], ◌∷◌, length, Option, None}
+use Rattle.std.proofs.Common.{Some, refl, ap, sym, subst, ◌∙◌, length-append}
 use Rattle.std.specs.Prelude.{IsSomeAnd, slice_index_or}
 use Rattle.std.proofs.lemmas.Bool.{eq-eqb, lt-ltb}
 use Rattle.usb_port.specs.Order.{parent_of, port_on_hub}
@@ -36,35 +38,56 @@ use Rattle.usb_host.specs.Ports.{StandsAt}
 use Rattle.usb_host.specs.Soundness.{IsAccurateAt, known_supply, IsSoundBut}
 use Rattle.usb_enum.proofs.Interface.{AcceptsChosen, accepts, chosen_some, has_chosen}
 use Rattle.usb_host.proofs.entries.Roots.{accounted}
-use Rattle.usb_host.proofs.knowledge.SettledListings.{listed_port, listed_address, port_number, reached_there}
+use Rattle.usb_host.proofs.knowledge.SettledListings.{listed_port, listed_address, port_number}
+use Rattle.usb_host.proofs.knowledge.SettledListings.{reached_there}
 
 -- A hub that is accepted hears its target
 
-pub server_hears : (low own deep pre : Bool) → low ≡ own → (low ≡ true → deep ≡ true → pre ≡ true) → (if low then own && (not deep || pre) else not own) ≡ true
-server_hears true own deep pre e f = subst (λ x. (x && (not deep || pre)) ≡ true) e (by_deep deep (f refl))
+pub server_hears : (low own deep pre : Bool) → low ≡ own → (low ≡ true → deep ≡ true → pre ≡ true)
+    → (if low then own && (not deep || pre) else not own) ≡ true
+server_hears true own deep pre e f = subst (λ x. (x && (not deep || pre)) ≡ true) e
+    (by_deep deep (f refl))
   where
     by_deep : (d : Bool) → (d ≡ true → pre ≡ true) → (true && (not d || pre)) ≡ true
     by_deep true g = g refl
     by_deep false g = refl
 server_hears false own deep pre e f = subst (λ x. not x ≡ true) e refl
 
-pub is_below_hub-deep : (j : ℕ) (p : List ℕ) → deep_at false p ≡ true → is_below_hub (suc j ∷ p) ≡ true
+pub is_below_hub-deep : (j : ℕ) (p : List ℕ) → deep_at false p ≡ true
+    → is_below_hub (suc j ∷ p) ≡ true
 is_below_hub-deep j [] h = false_true h
 is_below_hub-deep j (n ∷ p) h = lt-ltb 1 (length (suc j ∷ n ∷ p)) (omega arith)
 
-facts_port : (spec : Spec) (facts : HubFacts) (n : ℕ) → facts_of spec ≡ Some facts → 1 ≤ n → n ≤ facts.ports → (hub : Hub) × (spec.hub ≡ Some hub) × (n ≤ hub.ports)
+facts_port : (spec : Spec) (facts : HubFacts) (n : ℕ) → facts_of spec ≡ Some facts → 1 ≤ n
+    → n ≤ facts.ports → (hub : Hub) × (spec.hub ≡ Some hub) × (n ≤ hub.ports)
 facts_port spec facts n e least most = pick (is_hub_device spec.descriptor) e
   where
-    by_hub : (o : Option Hub) → spec.hub ≡ o → facts.ports ≡ hub_ports o → (hub : Hub) × (spec.hub ≡ Some hub) × (n ≤ hub.ports)
+    by_hub : (o : Option Hub) → spec.hub ≡ o → facts.ports ≡ hub_ports o → (hub : Hub)
+        × (spec.hub ≡ Some hub) × (n ≤ hub.ports)
     by_hub None is ports = absurd (omega (arith, least, most, ports))
     by_hub (Some hub) is ports = (hub, is, omega (arith, most, ports))
 
-    pick : (b : Bool) → (if b then Some (record { ports = hub_ports spec.hub; supply = supply_of false spec.self_powered }) else None) ≡ Some facts → (hub : Hub) × (spec.hub ≡ Some hub) × (n ≤ hub.ports)
-    pick true h = let same : record { ports = hub_ports spec.hub; supply = supply_of false spec.self_powered } ≡ facts = cc h in by_hub spec.hub refl (ap (λ (f : HubFacts). f.ports) (sym same))
+    pick : (b : Bool) → (if b then Some (record {
+      ports = hub_ports spec.hub;
+      supply =
+          supply_of false spec.self_powered;
+    }) else None) ≡ Some facts → (hub : Hub)
+        × (spec.hub ≡ Some hub) × (n ≤ hub.ports)
+    pick true h = let same : record {
+      ports = hub_ports spec.hub;
+      supply =
+          supply_of false spec.self_powered;
+    } ≡ facts = cc h in
+        by_hub spec.hub refl (ap (λ (f : HubFacts). f.ports) (sym same))
     pick false h = absurd (cc h)
 
-module _ (w : World) (entries : Entries) (device : Accepted) (facts : HubFacts) (n : ℕ) (told : device.hub ≡ Some facts) (least : 1 ≤ n) (most : n ≤ facts.ports) (address : IsAddress device.address) (between : WorldInvariant w) where
-  hub_serves : (hub : List ℕ) → finding_at hub entries ≡ Some (Device device) → reach w.roots hub ≡ true → IsAccurateAt w entries hub → 8 ≤ (target_of device (is_below_hub hub)).max → ServesAt (target_of device (is_below_hub hub)) n hub w
+module _ (w : World) (entries : Entries) (device : Accepted) (facts : HubFacts) (n : ℕ)
+    (told : device.hub ≡ Some facts) (least : 1 ≤ n) (most : n ≤ facts.ports)
+    (address : IsAddress device.address) (between : WorldInvariant w) where
+  hub_serves : (hub : List ℕ) → finding_at hub entries ≡ Some (Device device)
+      → reach w.roots hub ≡ true → IsAccurateAt w entries hub
+      → 8 ≤ (target_of device (is_below_hub hub)).max
+      → ServesAt (target_of device (is_below_hub hub)) n hub w
   hub_serves [] at on knows wide = false_true on
   hub_serves (zero ∷ p) at on knows wide = false_true on
   hub_serves (suc j ∷ p) at on knows wide =
@@ -73,8 +96,12 @@ module _ (w : World) (entries : Entries) (device : Accepted) (facts : HubFacts) 
       let port : _ = facts_port s.0.spec facts n (sym t.found.1.hub ∙ told) least most in
       let tier = tier_of (suc j ∷ p) in
       let supply = known_supply (suc j ∷ p) entries in
-      let is : AcceptsChosen s.0.spec supply device.chosen = accepts s.0.spec tier supply device.chosen t.found.0 in
-      let value : 1 ≤ configuration_value (configuration_of device) = subst (λ (texts : List (List ℕ)). 1 ≤ configuration_value (slice_index_or texts device.chosen [])) (sym t.found.1.configs) (chosen_some s.0.spec device.chosen (has_chosen s.0.spec supply device.chosen is)) in
+      let is : AcceptsChosen s.0.spec supply device.chosen =
+      accepts s.0.spec tier supply device.chosen t.found.0 in
+      let value : 1 ≤ configuration_value (configuration_of device) =
+      subst (λ (texts : List (List ℕ)). 1 ≤ configuration_value
+      (slice_index_or texts device.chosen [])) (sym t.found.1.configs)
+      (chosen_some s.0.spec device.chosen (has_chosen s.0.spec supply device.chosen is)) in
       record {
         serves = record {
           spot = record { row = j; rest = p };
@@ -84,7 +111,10 @@ module _ (w : World) (entries : Entries) (device : Accepted) (facts : HubFacts) 
           listens = record {
             at = eq-eqb (address_of s.0) device.address t.set.address;
             loud = is.loud;
-            hears = server_hears device.low s.0.spec.low (deep_at false p) (device.low && is_below_hub (suc j ∷ p)) t.found.1.low (λ low deep. and_of device.low (is_below_hub (suc j ∷ p)) low (is_below_hub-deep j p deep));
+            hears = server_hears device.low s.0.spec.low (deep_at false p)
+                (device.low && is_below_hub (suc j ∷ p)) t.found.1.low
+                (λ low deep. and_of device.low (is_below_hub (suc j ∷ p)) low
+                (is_below_hub-deep j p deep));
           };
           addressed = λ e. absurd (omega (arith, e, address.0));
           configured = λ e. absurd (omega (arith, e, value, t.set.configuration));
@@ -103,28 +133,50 @@ module _ (w : World) (entries : Entries) (device : Accepted) (facts : HubFacts) 
 
 -- The port's hub
 
-module _ (path : List ℕ) (port : KnownPort) (h : HostState) (s : StandsAt path port h) (i : IsSoundBut path h) (still : h.world.fault ≡ None) where
-  server_of : (hub : List ℕ) (device : Accepted) (facts : HubFacts) → parent_of path ≡ Some hub → finding_at hub h.entries ≡ Some (Device device) → device.hub ≡ Some facts → port_on_hub path ≤ facts.ports → 8 ≤ (target_of device (is_below_hub hub)).max → HasServer (External (target_of device (is_below_hub hub)) (port_on_hub path)) path h.world
-  server_of hub device facts above at told most wide = subst (λ o. IsSomeAnd o (λ q. (pending h.world.roots q ≡ true) ⊎ ServesAt (target_of device (is_below_hub hub)) (port_on_hub path) q h.world)) (sym above) (pick known)
+module _ (path : List ℕ) (port : KnownPort) (h : HostState) (s : StandsAt path port h)
+    (i : IsSoundBut path h) (still : h.world.fault ≡ None) where
+  server_of : (hub : List ℕ) (device : Accepted) (facts : HubFacts) → parent_of path ≡ Some hub
+      → finding_at hub h.entries ≡ Some (Device device) → device.hub ≡ Some facts
+      → port_on_hub path ≤ facts.ports → 8 ≤ (target_of device (is_below_hub hub)).max
+      → HasServer (External (target_of device (is_below_hub hub)) (port_on_hub path)) path h.world
+  server_of hub device facts above at told most wide =
+      subst (λ o. IsSomeAnd o (λ q. (pending h.world.roots q ≡ true)
+      ⊎ ServesAt (target_of device (is_below_hub hub)) (port_on_hub path) q h.world))
+      (sym above) (pick known)
     where
       away : is_way path hub ≡ false
-      away = way_shorter path hub (omega (arith, ap length (rejoined path hub above) ∙ length-append hub (port_on_hub path ∷ [])))
+      away = way_shorter path hub (omega (
+        arith,
+        ap length (rejoined path hub above)
+            ∙ length-append hub (port_on_hub path ∷ []),
+      ))
 
       known : IsKnownAs h.world hub (Some (Device device))
-      known = subst (IsKnownAs h.world hub) at (i.known still hub away (listed_port h.world h.entries h.addresses (accounted h s.agrees i.rooted) hub (Device device) at))
+      known = subst (IsKnownAs h.world hub) at
+          (i.known still hub away (listed_port h.world h.entries h.addresses
+          (accounted h s.agrees i.rooted) hub (Device device) at))
 
       address : IsAddress device.address
-      address = listed_address h.world h.entries h.addresses (accounted h s.agrees i.rooted) hub device.address (ap address_in at)
+      address = listed_address h.world h.entries h.addresses (accounted h s.agrees i.rooted) hub
+          device.address (ap address_in at)
 
-      pick : IsKnownAs h.world hub (Some (Device device)) → (pending h.world.roots hub ≡ true) ⊎ ServesAt (target_of device (is_below_hub hub)) (port_on_hub path) hub h.world
+      pick : IsKnownAs h.world hub (Some (Device device)) → (pending h.world.roots hub ≡ true)
+          ⊎ ServesAt (target_of device (is_below_hub hub)) (port_on_hub path) hub h.world
       pick (inl x) = inl x
-      pick (inr x) = inr (hub_serves h.world h.entries device facts (port_on_hub path) told (port_number path s.is).0 most address (i.order still) hub at x.1 (i.truthful still hub away) wide)
+      pick (inr x) = inr (hub_serves h.world h.entries device facts (port_on_hub path) told
+          (port_number path s.is).0 most address (i.order still) hub at x.1
+          (i.truthful still hub away) wide)
 
-  by_parent : (o : Option (List ℕ)) → parent_of path ≡ o → port_below o (port_on_hub path) h.entries ≡ Some port → HasServer port.port path h.world
-  by_parent None above e = let same : root_port (port_on_hub path) ≡ port = cc e in subst (λ (p : KnownPort). HasServer p.port path h.world) same tt
+  by_parent : (o : Option (List ℕ)) → parent_of path ≡ o → port_below o (port_on_hub path) h.entries
+      ≡ Some port → HasServer port.port path h.world
+  by_parent None above e = let same : root_port (port_on_hub path) ≡ port = cc e in
+      subst (λ (p : KnownPort). HasServer p.port path h.world) same tt
   by_parent (Some hub) above e =
-      let x : FoundPort (finding_at hub h.entries) (is_below_hub hub) (port_on_hub path) port = port_found-some (finding_at hub h.entries) (is_below_hub hub) (port_on_hub path) port e in
-      subst (λ (p : KnownPort). HasServer p.port path h.world) (sym x.is) (server_of hub x.device x.facts above x.stands x.told x.most (subst (λ (p : KnownPort). IsAskable p.port) x.is s.askable).wide)
+      let x : FoundPort (finding_at hub h.entries) (is_below_hub hub) (port_on_hub path) port =
+      port_found-some (finding_at hub h.entries) (is_below_hub hub) (port_on_hub path) port e in
+      subst (λ (p : KnownPort). HasServer p.port path h.world) (sym x.is)
+      (server_of hub x.device x.facts above x.stands x.told x.most
+      (subst (λ (p : KnownPort). IsAskable p.port) x.is s.askable).wide)
 
   pub hub_server : HasServer port.port path h.world
   hub_server = by_parent (parent_of path) refl s.known

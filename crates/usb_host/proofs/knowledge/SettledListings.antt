@@ -1,5 +1,7 @@
 -- Where nothing is left to do, a host that knows its ports lists what is plugged.
-use Rattle.std.proofs.Common.{◌≡◌, ◌⊎◌, inl, inr, ◌≤◌, ◌-◌, ℕ, zero, suc, Bool, true, false, List, [], ◌∷◌, length, Option, None, Some, option_map, if◌then◌else◌, refl, ap, sym, subst, ◌∙◌, arith}
+use Rattle.std.proofs.Common.{◌≡◌, ◌⊎◌, inl, inr, ◌≤◌, ◌-◌, ℕ, zero, suc, Bool, true, false, List}
+use Rattle.std.proofs.Common.{[], ◌∷◌, length, Option, None, Some, option_map, if◌then◌else◌, refl}
+use Rattle.std.proofs.Common.{ap, sym, subst, ◌∙◌, arith}
 use Rattle.std.specs.Prelude.{⊤, IsSome, IsSomeAnd, unwrap_or, nat_le}
 use Rattle.std.proofs.lemmas.Bool.{le-leb}
 use Rattle.std.proofs.lemmas.List.Elements.{All-get_or}
@@ -28,25 +30,31 @@ use Rattle.usb_table.specs.declared.known.KnownPort.{KnownPort}
 use Rattle.usb_table.specs.Entries.{Entries}
 use Rattle.usb_table.specs.Findings.{accepted_device_of}
 use Rattle.usb_table.specs.KnownPorts.{port_below, port_found, port_of_hub, is_below_hub}
-use Rattle.usb_table.specs.Listing.{tree_in, finding_at, entry_address, hub_facts_in, IsPortBelow, IsListedPort, tier_of, supply_below, supply_at, ListsEach, Matches}
+use Rattle.usb_table.specs.Listing.{tree_in, finding_at, entry_address, hub_facts_in, IsPortBelow}
+use Rattle.usb_table.specs.Listing.{IsListedPort, tier_of, supply_below, supply_at, ListsEach}
+use Rattle.usb_table.specs.Listing.{Matches}
 use Rattle.usb_table.proofs.Interface.{FoundPort, port_found-some}
 use Rattle.usb_enum.specs.Places.{IsThere, IsKnownAs}
-use Rattle.usb_host.specs.Soundness.{PortsListed, known_supply, IsTruthOf, DevicesAccurate, RefusalsJustified, Accounted, IsAtRest}
+use Rattle.usb_host.specs.Soundness.{PortsListed, known_supply, IsTruthOf, DevicesAccurate}
+use Rattle.usb_host.specs.Soundness.{RefusalsJustified, Accounted, IsAtRest}
 use Rattle.usb_host.proofs.entries.EntryClaims.{claims_distinct, claims_taken}
 
 -- A reachable device stands
 
-reached_at : (k : Ports) (j : ℕ) (p : List ℕ) → reach_at k j p ≡ true → (s : State) × (state_at k j p ≡ Some s)
+reached_at : (k : Ports) (j : ℕ) (p : List ℕ) → reach_at k j p ≡ true → (s : State)
+    × (state_at k j p ≡ Some s)
 unfolding reach_at state_at
 reached_at ended j p h = false_true h
 reached_at (vacant b k) zero p h = false_true h
 reached_at (vacant b k) (suc j) p h = reached_at k j p h
 reached_at (taken b s a k) zero [] h = (s, refl)
 reached_at (taken b s a k) zero (zero ∷ p) h = false_true h
-reached_at (taken b s a k) zero (suc j ∷ p) h = reached_at a j p (both b.enable (reach_at a j p) h).1
+reached_at (taken b s a k) zero (suc j ∷ p) h =
+    reached_at a j p (both b.enable (reach_at a j p) h).1
 reached_at (taken b s a k) (suc j) p h = reached_at k j p h
 
-pub reached_there : (k : Ports) (p : List ℕ) → reach k p ≡ true → (s : State) × (state_there k p ≡ Some s)
+pub reached_there : (k : Ports) (p : List ℕ) → reach k p ≡ true → (s : State)
+    × (state_there k p ≡ Some s)
 reached_there k [] h = false_true h
 reached_there k (zero ∷ p) h = false_true h
 reached_there k (suc i ∷ p) h = reached_at k i p h
@@ -55,54 +63,80 @@ reached_there k (suc i ∷ p) h = reached_at k i p h
 
 pub port_number : (path : List ℕ) → IsPath path → IsPortNumber (port_on_hub path)
 unfolding port_on_hub
-port_number path is = let some = is.0 in All-get_or IsPortNumber path (length path - 1) 0 (omega (arith, some)) is.2
+port_number path is = let some = is.0 in
+    All-get_or IsPortNumber path (length path - 1) 0 (omega (arith, some)) is.2
 
-port_found-facts : (o : Option Finding) (below : Bool) (n : ℕ) → 1 ≤ n → IsSome (port_found o below n) → IsSomeAnd (hub_facts_in o) (λ facts. (1 ≤ n) × (n ≤ facts.ports))
+port_found-facts : (o : Option Finding) (below : Bool) (n : ℕ) → 1 ≤ n
+    → IsSome (port_found o below n) → IsSomeAnd (hub_facts_in o) (λ facts. (1 ≤ n)
+    × (n ≤ facts.ports))
 port_found-facts o below n least h = pick (port_found o below n) refl h
   where
-    pick : (found : Option KnownPort) → port_found o below n ≡ found → IsSome found → IsSomeAnd (hub_facts_in o) (λ facts. (1 ≤ n) × (n ≤ facts.ports))
+    pick : (found : Option KnownPort) → port_found o below n ≡ found → IsSome found
+        → IsSomeAnd (hub_facts_in o) (λ facts. (1 ≤ n) × (n ≤ facts.ports))
     pick None e h = absurd cc
     pick (Some port) e h =
         let x : FoundPort o below n port = port_found-some o below n port e in
-        subst (λ f. IsSomeAnd f (λ facts. (1 ≤ n) × (n ≤ facts.ports))) (sym (ap hub_facts_in x.stands ∙ x.told)) (least, x.most)
+        subst (λ f. IsSomeAnd f (λ facts. (1 ≤ n) × (n ≤ facts.ports)))
+        (sym (ap hub_facts_in x.stands ∙ x.told)) (least, x.most)
 
-pub port_below_hub : (roots : ℕ) (entries : Entries) (n : ℕ) (o : Option (List ℕ)) → 1 ≤ n → (o ≡ None → n ≤ roots) → IsSome (port_below o n entries) → IsPortBelow roots entries o n
+pub port_below_hub : (roots : ℕ) (entries : Entries) (n : ℕ) (o : Option (List ℕ)) → 1 ≤ n
+    → (o ≡ None → n ≤ roots) → IsSome (port_below o n entries) → IsPortBelow roots entries o n
 port_below_hub roots entries n None least most h = (least, most refl)
-port_below_hub roots entries n (Some hub) least most h = port_found-facts (finding_at hub entries) (is_below_hub hub) n least h
+port_below_hub roots entries n (Some hub) least most h =
+    port_found-facts (finding_at hub entries) (is_below_hub hub) n least h
 
-module _ (w : World) (entries : Entries) (addresses : Addresses) (accounted : Accounted (roots_of w) entries addresses) where
-  pub listed_port : (path : List ℕ) (f : Finding) → finding_at path entries ≡ Some f → IsListedPort (roots_of w) entries path
+module _ (w : World) (entries : Entries) (addresses : Addresses)
+    (accounted : Accounted (roots_of w) entries addresses) where
+  pub listed_port : (path : List ℕ) (f : Finding) → finding_at path entries ≡ Some f
+      → IsListedPort (roots_of w) entries path
   listed_port path f at =
       let some : IsSome (finding_at path entries) = rw at refl in
       let is = accounted.agrees.nested.path path f at in
-      record { some = is.0; port = port_below_hub (roots_of w) entries (port_on_hub path) (parent_of path) (port_number path is).0 (accounted.root path some) (accounted.agrees.nested.each path f at) }
+      record {
+        some = is.0;
+        port = port_below_hub (roots_of w) entries (port_on_hub path)
+            (parent_of path) (port_number path is).0 (accounted.root path some)
+            (accounted.agrees.nested.each path f at);
+      }
 
-  pub listed_address : (path : List ℕ) (address : ℕ) → entry_address path entries ≡ Some address → IsAddress address
-  listed_address path address at = accounted.agrees.range address (claims_taken entries addresses accounted.agrees.accounts path address at)
+  pub listed_address : (path : List ℕ) (address : ℕ) → entry_address path entries ≡ Some address
+      → IsAddress address
+  listed_address path address at = accounted.agrees.range address
+      (claims_taken entries addresses accounted.agrees.accounts path address at)
 
-  listed_once : (path other : List ℕ) (address : ℕ) → entry_address path entries ≡ Some address → entry_address other entries ≡ Some address → path ≡ other
-  listed_once path other address at same = sym (same_is path other (claims_distinct entries addresses accounted.agrees.accounts path other address at same))
+  listed_once : (path other : List ℕ) (address : ℕ) → entry_address path entries ≡ Some address
+      → entry_address other entries ≡ Some address → path ≡ other
+  listed_once path other address at same =
+      sym (same_is path other (claims_distinct entries addresses accounted.agrees.accounts path
+      other address at same))
 
 -- What is known where nothing is pending
 
-device_is : (o : Option Finding) (device : Accepted) → accepted_device_of o ≡ Some device → o ≡ Some (Device device)
+device_is : (o : Option Finding) (device : Accepted) → accepted_device_of o ≡ Some device
+    → o ≡ Some (Device device)
 device_is None device h = absurd cc
 device_is (Some (Device d)) device h = cc h
 device_is (Some (Refused cause)) device h = absurd cc
 
-there : (w : World) (path : List ℕ) (o : Option Finding) → pending w.roots path ≡ false → IsKnownAs w path o → IsThere w path o
+there : (w : World) (path : List ℕ) (o : Option Finding) → pending w.roots path ≡ false
+    → IsKnownAs w path o → IsThere w path o
 there w path o none (inl pends) = false_true (sym none ∙ pends)
 there w path o none (inr h) = h.1
 
-tree_in-spec : (w : World) (path : List ℕ) (s : State) → state_there w.roots path ≡ Some s → tree_in w path ≡ Some s.spec
+tree_in-spec : (w : World) (path : List ℕ) (s : State) → state_there w.roots path ≡ Some s
+    → tree_in w path ≡ Some s.spec
 tree_in-spec w path s h = ap (option_map spec_of) h
 
 -- What a hub's ports give
 
-supply_of_hub : (device : Accepted) (below : Bool) (n : ℕ) (o : Option HubFacts) → IsSomeAnd o (λ facts. (1 ≤ n) × (n ≤ facts.ports))
-    → (facts : HubFacts) × (o ≡ Some facts) × (unwrap_or (option_map (λ (known : KnownPort). known.supply) (port_of_hub device o below n)) 0 ≡ facts.supply)
+supply_of_hub : (device : Accepted) (below : Bool) (n : ℕ) (o : Option HubFacts)
+    → IsSomeAnd o (λ facts. (1 ≤ n) × (n ≤ facts.ports))
+    → (facts : HubFacts) × (o ≡ Some facts)
+    × (unwrap_or (option_map (λ (known : KnownPort). known.supply)
+    (port_of_hub device o below n)) 0 ≡ facts.supply)
 supply_of_hub device below n None h = absurd h
-supply_of_hub device below n (Some facts) h = let fits : nat_le n facts.ports ≡ true = le-leb n facts.ports h.1 in (facts, refl, rw fits refl)
+supply_of_hub device below n (Some facts) h = let fits : nat_le n facts.ports ≡ true =
+    le-leb n facts.ports h.1 in (facts, refl, rw fits refl)
 
 -- the accepted hub of a finding that has the port
 record IsHubAt (o : Option Finding) (below : Bool) (n : ℕ) : Type 0 where
@@ -110,87 +144,135 @@ record IsHubAt (o : Option Finding) (below : Bool) (n : ℕ) : Type 0 where
   facts : HubFacts
   found : o ≡ Some (Device device)
   told : device.hub ≡ Some facts
-  gives : unwrap_or (option_map (λ (known : KnownPort). known.supply) (port_found o below n)) 0 ≡ facts.supply
+  gives : unwrap_or (option_map (λ (known : KnownPort). known.supply) (port_found o below n)) 0
+      ≡ facts.supply
 
-facts_are_hub : (o : Option Finding) (below : Bool) (n : ℕ) → IsSomeAnd (hub_facts_in o) (λ facts. (1 ≤ n) × (n ≤ facts.ports)) → IsHubAt o below n
+facts_are_hub : (o : Option Finding) (below : Bool) (n : ℕ)
+    → IsSomeAnd (hub_facts_in o) (λ facts. (1 ≤ n) × (n ≤ facts.ports)) → IsHubAt o below n
 facts_are_hub None below n h = absurd h
 facts_are_hub (Some (Refused cause)) below n h = absurd h
-facts_are_hub (Some (Device d)) below n h = let x : _ = supply_of_hub d below n d.hub h in record { device = d; facts = x.0; found = refl; told = x.1; gives = x.2 }
+facts_are_hub (Some (Device d)) below n h = let x : _ = supply_of_hub d below n d.hub h in
+    record { device = d; facts = x.0; found = refl; told = x.1; gives = x.2 }
 
-facts_supply : (spec : Spec) (facts : HubFacts) → facts_of spec ≡ Some facts → facts.supply ≡ supply_of false spec.self_powered
+facts_supply : (spec : Spec) (facts : HubFacts) → facts_of spec ≡ Some facts
+    → facts.supply ≡ supply_of false spec.self_powered
 facts_supply spec facts h = pick (is_hub_device spec.descriptor) h
   where
-    pick : (b : Bool) → (if b then Some (record { ports = hub_ports spec.hub; supply = supply_of false spec.self_powered }) else None) ≡ Some facts → facts.supply ≡ supply_of false spec.self_powered
+    pick : (b : Bool) → (if b then Some (record {
+      ports = hub_ports spec.hub;
+      supply =
+          supply_of false spec.self_powered;
+    }) else None) ≡ Some facts
+        → facts.supply ≡ supply_of false spec.self_powered
     pick true h = cc h
     pick false h = absurd (cc h)
 
 -- The listing
 
-right_moved : (full : Type 0) (a b : Spec) (tier m n : ℕ) (f : Finding) → a ≡ b → m ≡ n → IsRight full a tier m f → IsRight full b tier n f
-right_moved full a b tier m n f e g x = subst (λ n. IsRight full b tier n f) g (subst (λ s. IsRight full s tier m f) e x)
+right_moved : (full : Type 0) (a b : Spec) (tier m n : ℕ) (f : Finding) → a ≡ b → m ≡ n
+    → IsRight full a tier m f → IsRight full b tier n f
+right_moved full a b tier m n f e g x =
+    subst (λ n. IsRight full b tier n f) g (subst (λ s. IsRight full s tier m f) e x)
 
-module _ (w : World) (entries : Entries) (addresses : Addresses) (accounted : Accounted (roots_of w) entries addresses)
-    (known : PortsListed w entries) (truthful : DevicesAccurate w entries) (causes : RefusalsJustified w entries) (rest : IsAtRest w entries) where
-  there_at : (path : List ℕ) → IsListedPort (roots_of w) entries path → IsThere w path (finding_at path entries)
-  there_at path port = there w path (finding_at path entries) (rest.none_pending path port) (known path port)
+module _ (w : World) (entries : Entries) (addresses : Addresses)
+    (accounted : Accounted (roots_of w) entries addresses)
+    (known : PortsListed w entries) (truthful : DevicesAccurate w entries)
+    (causes : RefusalsJustified w entries) (rest : IsAtRest w entries) where
+  there_at : (path : List ℕ) → IsListedPort (roots_of w) entries path
+      → IsThere w path (finding_at path entries)
+  there_at path port = there w path (finding_at path entries) (rest.none_pending path port)
+      (known path port)
 
-  reached : (path : List ℕ) (device : Accepted) → finding_at path entries ≡ Some (Device device) → reach w.roots path ≡ true
-  reached path device at = subst (IsThere w path) at (there_at path (listed_port w entries addresses accounted path (Device device) at))
+  reached : (path : List ℕ) (device : Accepted) → finding_at path entries ≡ Some (Device device)
+      → reach w.roots path ≡ true
+  reached path device at = subst (IsThere w path) at
+      (there_at path (listed_port w entries addresses accounted path (Device device) at))
 
   -- an accepted device stands, and what is known of it is so
-  told : (path : List ℕ) (device : Accepted) → finding_at path entries ≡ Some (Device device) → (s : State) × (state_there w.roots path ≡ Some s) × IsTruthOf entries path device s
+  told : (path : List ℕ) (device : Accepted) → finding_at path entries ≡ Some (Device device)
+      → (s : State) × (state_there w.roots path ≡ Some s) × IsTruthOf entries path device s
   told path device at =
       let on = reached path device at in
       let s : _ = reached_there w.roots path on in
       (s.0, s.1, truthful path device s.0 (ap accepted_device_of at) on s.1)
 
   supply_known : (o : Option (List ℕ)) (n : ℕ) → IsPortBelow (roots_of w) entries o n
-      → unwrap_or (option_map (λ (known : KnownPort). known.supply) (port_below o n entries)) 0 ≡ supply_below (tree_in w) o
+      → unwrap_or (option_map (λ (known : KnownPort). known.supply) (port_below o n entries)) 0
+      ≡ supply_below (tree_in w) o
   supply_known None n h = refl
   supply_known (Some hub) n h =
       let x = facts_are_hub (finding_at hub entries) (is_below_hub hub) n h in
       let t : _ = told hub x.device x.found in
       let given = facts_supply t.0.spec x.facts (sym t.2.found.1.hub ∙ x.told) in
-      x.gives ∙ given ∙ sym (ap (λ o. supply_of false (unwrap_or (option_map (λ (spec : Spec). spec.self_powered) o) false)) (tree_in-spec w hub t.0 t.1))
+      x.gives ∙ given ∙ sym (ap (λ o. supply_of false
+      (unwrap_or (option_map (λ (spec : Spec). spec.self_powered) o) false))
+      (tree_in-spec w hub t.0 t.1))
 
-  same_supply : (path : List ℕ) → IsListedPort (roots_of w) entries path → known_supply path entries ≡ supply_at (tree_in w) path
+  same_supply : (path : List ℕ) → IsListedPort (roots_of w) entries path
+      → known_supply path entries ≡ supply_at (tree_in w) path
   same_supply path port = supply_known (parent_of path) (port_on_hub path) port.port
 
   -- a refused device's cause, where it does not wait for an address that is free
-  right_cause : (path : List ℕ) (cause : Cause) (s : State) → finding_at path entries ≡ Some (Refused cause) → state_there w.roots path ≡ Some s
-      → IsRight (ListsEach entries) s.spec (tier_of path) (known_supply path entries) (Refused cause)
+  right_cause : (path : List ℕ) (cause : Cause) (s : State)
+      → finding_at path entries ≡ Some (Refused cause) → state_there w.roots path ≡ Some s
+      → IsRight (ListsEach entries) s.spec (tier_of path) (known_supply path entries)
+      (Refused cause)
   right_cause path cause s at stands = pick (causes path cause s at stands)
     where
-      pick : (pending w.roots path ≡ true) ⊎ IsRight ⊤ s.spec (tier_of path) (known_supply path entries) (Refused cause)
-          → IsRight (ListsEach entries) s.spec (tier_of path) (known_supply path entries) (Refused cause)
-      pick (inl pends) = false_true (sym (rest.none_pending path (listed_port w entries addresses accounted path (Refused cause) at)) ∙ pends)
+      pick : (pending w.roots path ≡ true)
+          ⊎ IsRight ⊤ s.spec (tier_of path) (known_supply path entries) (Refused cause)
+          → IsRight (ListsEach entries) s.spec (tier_of path) (known_supply path entries)
+          (Refused cause)
+      pick (inl pends) = false_true
+          (sym (rest.none_pending path (listed_port w entries addresses accounted path
+          (Refused cause) at)) ∙ pends)
       pick (inr (inl x)) = inl x
-      pick (inr (inr x)) = inr (record { none = rest.none_waiting path (at ∙ ap (λ f. Some f) x.refused); head = x.head; refused = x.refused })
+      pick (inr (inr x)) = inr (record {
+        none =
+            rest.none_waiting path (at ∙ ap (λ f. Some f) x.refused);
+        head = x.head;
+        refused =
+            x.refused;
+      })
 
-  right_there : (path : List ℕ) (spec : Spec) → IsListedPort (roots_of w) entries path → tree_in w path ≡ Some spec
-      → IsSomeAnd (finding_at path entries) (IsRight (ListsEach entries) spec (tier_of path) (supply_at (tree_in w) path))
+  right_there : (path : List ℕ) (spec : Spec) → IsListedPort (roots_of w) entries path
+      → tree_in w path ≡ Some spec
+      → IsSomeAnd (finding_at path entries) (IsRight (ListsEach entries) spec (tier_of path)
+      (supply_at (tree_in w) path))
   right_there path spec port is = pick (finding_at path entries) refl
     where
-      moved : (s : State) (f : Finding) → state_there w.roots path ≡ Some s → IsRight (ListsEach entries) s.spec (tier_of path) (known_supply path entries) f
+      moved : (s : State) (f : Finding) → state_there w.roots path ≡ Some s
+          → IsRight (ListsEach entries) s.spec (tier_of path) (known_supply path entries) f
           → IsRight (ListsEach entries) spec (tier_of path) (supply_at (tree_in w) path) f
       moved s f stands right =
           let same : s.spec ≡ spec = cc (tree_in-spec w path s stands, is) in
-          right_moved (ListsEach entries) s.spec spec (tier_of path) (known_supply path entries) (supply_at (tree_in w) path) f same (same_supply path port) right
+          right_moved (ListsEach entries) s.spec spec (tier_of path) (known_supply path entries)
+          (supply_at (tree_in w) path) f same (same_supply path port) right
 
-      pick : (o : Option Finding) → finding_at path entries ≡ o → IsSomeAnd o (IsRight (ListsEach entries) spec (tier_of path) (supply_at (tree_in w) path))
+      pick : (o : Option Finding) → finding_at path entries ≡ o
+          → IsSomeAnd o (IsRight (ListsEach entries) spec (tier_of path)
+          (supply_at (tree_in w) path))
       pick None at =
-          let none : state_there w.roots path ≡ None = subst (IsThere w path) at (there_at path port) in
+          let none : state_there w.roots path ≡ None =
+          subst (IsThere w path) at (there_at path port) in
           absurd (cc (ap (option_map spec_of) none, is))
-      pick (Some (Device device)) at = let t : _ = told path device at in moved t.0 (Device device) t.1 (inl t.2.found)
-      pick (Some (Refused cause)) at = stood (state_there w.roots path) refl (subst (IsThere w path) at (there_at path port)).0
+      pick (Some (Device device)) at = let t : _ = told path device at in
+          moved t.0 (Device device) t.1 (inl t.2.found)
+      pick (Some (Refused cause)) at = stood (state_there w.roots path) refl
+          (subst (IsThere w path) at (there_at path port)).0
         where
-          stood : (o : Option State) → state_there w.roots path ≡ o → IsSome o → IsRight (ListsEach entries) spec (tier_of path) (supply_at (tree_in w) path) (Refused cause)
+          stood : (o : Option State) → state_there w.roots path ≡ o → IsSome o
+              → IsRight (ListsEach entries) spec (tier_of path) (supply_at (tree_in w) path)
+              (Refused cause)
           stood None e h = absurd cc
           stood (Some s) e h = moved s (Refused cause) e (right_cause path cause s at e)
 
-  plugged_there : (path : List ℕ) (f : Finding) → finding_at path entries ≡ Some f → IsSome (tree_in w path)
+  plugged_there : (path : List ℕ) (f : Finding) → finding_at path entries ≡ Some f
+      → IsSome (tree_in w path)
   plugged_there path (Device device) at = let t : _ = told path device at in rw t.1 refl
-  plugged_there path (Refused cause) at = stood (state_there w.roots path) (subst (IsThere w path) at (there_at path (listed_port w entries addresses accounted path (Refused cause) at))).0
+  plugged_there path (Refused cause) at =
+      stood (state_there w.roots path) (subst (IsThere w path) at
+      (there_at path (listed_port w entries addresses accounted path (Refused cause) at))).0
     where
       stood : (o : Option State) → IsSome o → IsSome (option_map spec_of o)
       stood None h = h
@@ -202,11 +284,18 @@ module _ (w : World) (entries : Entries) (addresses : Addresses) (accounted : Ac
         lists = record {
           rises = accounted.agrees.rises;
           there = right_there;
-          nothing_else = λ path f at. (listed_port w entries addresses accounted path f at, plugged_there path f at);
+          nothing_else = λ path f at. (
+            listed_port w entries addresses accounted path f at,
+            plugged_there path f at,
+          );
           addresses = listed_address w entries addresses accounted;
           differ = listed_once w entries addresses accounted;
         };
-        reached = λ path device at. reached path device (device_is (finding_at path entries) device at);
-        set = λ path device at. let t : _ = told path device (device_is (finding_at path entries) device at) in rw t.1 t.2.set;
-        disabled = λ path cause at. (subst (IsThere w path) at (there_at path (listed_port w entries addresses accounted path (Refused cause) at))).1;
+        reached = λ path device at. reached path device
+            (device_is (finding_at path entries) device at);
+        set = λ path device at. let t : _ =
+            told path device (device_is (finding_at path entries) device at) in rw t.1 t.2.set;
+        disabled = λ path cause at. (subst (IsThere w path) at
+            (there_at path (listed_port w entries addresses accounted path (Refused cause)
+            at))).1;
       }

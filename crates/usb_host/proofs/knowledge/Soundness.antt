@@ -1,5 +1,6 @@
 -- What a host knows stays so over the parts of a round, transfers and events.
-use Rattle.std.proofs.Common.{◌≡◌, ◌∙◌, refl, sym, ap, subst, ℕ, List, Bool, true, false, Option, None, Some, Result, Ok, Err}
+use Rattle.std.proofs.Common.{◌≡◌, ◌∙◌, refl, sym, ap, subst, ℕ, List, Bool, true, false, Option}
+use Rattle.std.proofs.Common.{None, Some, Result, Ok, Err}
 use Rattle.std.specs.Prelude.{IsSome}
 use Rattle.std.specs.BTreeMap.{is_at}
 use Rattle.usb_port.specs.Order.{path_cmp}
@@ -29,7 +30,9 @@ use Rattle.usb_host.specs.Plugs.{KeepsPlugs}
 use Rattle.usb_host.specs.Ownership.{claims, StaysOwned}
 use Rattle.usb_host.specs.Transfers.{table_in}
 use Rattle.usb_host.specs.Progress.{HostSteps, HostRuns}
-use Rattle.usb_host.specs.Soundness.{PortsListed, DevicesAccurate, Accounted, RefusalsJustified, HostInvariant, IsSoundBut, IsFairTo, KeepsInvariant, PartStays, PartKeepsInvariant, IsDroppable, DropsSound, RoundsSound}
+use Rattle.usb_host.specs.Soundness.{PortsListed, DevicesAccurate, Accounted, RefusalsJustified}
+use Rattle.usb_host.specs.Soundness.{HostInvariant, IsSoundBut, IsFairTo, KeepsInvariant, PartStays}
+use Rattle.usb_host.specs.Soundness.{PartKeepsInvariant, IsDroppable, DropsSound, RoundsSound}
 use Rattle.usb_host.proofs.devices.BulkPipes.{bulk_none, bulk_stopped, bulk_then}
 use Rattle.usb_host.proofs.parts.Events.{known_event, truthful_event, causes_event, level_event}
 use Rattle.usb_host.proofs.devices.Fairness.{fair_before, fair_after}
@@ -45,40 +48,57 @@ use Rattle.usb_host.proofs.knowledge.RestedWorlds.{occupied_by}
 pub sound_none : (h : HostState) → KeepsInvariant h h
 sound_none h = record { sound = λ s. s; caused = λ s fair caused. caused }
 
-pub sound_then : (m n : ℕ) (a b c : HostState) → HostSteps m a b → HostSteps n b c → KeepsInvariant a b → KeepsInvariant b c → KeepsInvariant a c
+pub sound_then : (m n : ℕ) (a b c : HostState) → HostSteps m a b → HostSteps n b c
+    → KeepsInvariant a b → KeepsInvariant b c → KeepsInvariant a c
 sound_then m n a b c first second x y = record {
   sound = λ s. y.sound (x.sound s);
   caused = λ s fair caused.
       let before = fair_before n a.world b.world c.world second fair in
-      y.caused (x.sound s) (fair_after m a.world b.world c.world first fair) (x.caused s before caused);
+      y.caused (x.sound s) (fair_after m a.world b.world c.world first fair)
+      (x.caused s before caused);
 }
 
 pub part_none : (h : HostState) → PartStays h h
-part_none h = record { sound = sound_none h; bulk = λ s still. bulk_none h; plugs = λ s still. plugs_none h }
+part_none h = record {
+  sound = sound_none h;
+  bulk = λ s still. bulk_none h;
+  plugs =
+      λ s still. plugs_none h;
+}
 
-pub part_then : (m n : ℕ) (a b c : HostState) → HostSteps m a b → HostSteps n b c → PartStays a b → PartStays b c → PartStays a c
+pub part_then : (m n : ℕ) (a b c : HostState) → HostSteps m a b → HostSteps n b c → PartStays a b
+    → PartStays b c → PartStays a c
 part_then m n a b c first second x y = record {
   sound = sound_then m n a b c first second x.sound y.sound;
-  bulk = λ s still. bulk_then m n a b c first second still (x.bulk s (went_sound n b.world c.world second still)) (y.bulk (x.sound.sound s) still);
-  plugs = λ s still. plugs_then m n a b c first second still (x.plugs s (went_sound n b.world c.world second still)) (y.plugs (x.sound.sound s) still);
+  bulk = λ s still. bulk_then m n a b c first second still
+      (x.bulk s (went_sound n b.world c.world second still)) (y.bulk (x.sound.sound s) still);
+  plugs = λ s still. plugs_then m n a b c first second still
+      (x.plugs s (went_sound n b.world c.world second still)) (y.plugs (x.sound.sound s) still);
 }
 
 -- A device that was found stands at its port, or a change is pending there
 
-occupied_at : (path : List ℕ) (h : HostState) → Accounted (roots_of h.world) h.entries h.addresses → PortsListed h.world h.entries → (o : Option Finding) → finding_at path h.entries ≡ o → IsSome o → IsOccupied h.world path
+occupied_at : (path : List ℕ) (h : HostState) → Accounted (roots_of h.world) h.entries h.addresses
+    → PortsListed h.world h.entries → (o : Option Finding) → finding_at path h.entries ≡ o
+    → IsSome o → IsOccupied h.world path
 occupied_at path h fits known None at some = absurd (cc some)
-occupied_at path h fits known (Some f) at some = occupied_by h.world path f (subst (IsKnownAs h.world path) at (known path (listed_port h.world h.entries h.addresses fits path f at)))
+occupied_at path h fits known (Some f) at some =
+    occupied_by h.world path f (subst (IsKnownAs h.world path) at
+    (known path (listed_port h.world h.entries h.addresses fits path f at)))
 
-is_way-apart : (path other : List ℕ) → is_way path other ≡ false → is_at (path_cmp path) other ≡ false
+is_way-apart : (path other : List ℕ) → is_way path other ≡ false
+    → is_at (path_cmp path) other ≡ false
 is_way-apart path other away = pick (is_at (path_cmp path) other) refl
   where
     pick : (b : Bool) → is_at (path_cmp path) other ≡ b → b ≡ false
-    pick true tie = false_true (sym away ∙ ap (is_way path) (sym (path_tied path other tie)) ∙ way_itself path)
+    pick true tie = false_true (sym away ∙ ap (is_way path) (sym (path_tied path other tie))
+        ∙ way_itself path)
     pick false tie = refl
 
 -- A call through the pipes at a path: it changes no entry and asks nothing of any port
 
-module _ (n : ℕ) (path : List ℕ) (ends : Type 0) (a b : HostState) (agrees : Agrees a.entries a.addresses) (same : b.entries ≡ a.entries) (went : HostSteps n a b)
+module _ (n : ℕ) (path : List ℕ) (ends : Type 0) (a b : HostState)
+    (agrees : Agrees a.entries a.addresses) (same : b.entries ≡ a.entries) (went : HostSteps n a b)
     (k : KeepsInSync path ends (table_in a) a.world (table_in b) b.world) where
   before : b.world.fault ≡ None → a.world.fault ≡ None
   before still = went_sound n a.world b.world went still
@@ -90,16 +110,23 @@ module _ (n : ℕ) (path : List ℕ) (ends : Type 0) (a b : HostState) (agrees :
   held s still = s.owned.so (before still)
 
   pub known_kept : HostInvariant a → b.world.fault ≡ None → PortsListed b.world b.entries
-  known_kept s still = subst (PortsListed b.world) (sym same) (known_each a.world b.world a.entries went.spends.roots (λ path port. k.worlds.rests still path) (s.known (before still)))
+  known_kept s still = subst (PortsListed b.world) (sym same)
+      (known_each a.world b.world a.entries went.spends.roots
+      (λ path port. k.worlds.rests still path) (s.known (before still)))
 
   pub truthful_kept : HostInvariant a → b.world.fault ≡ None → DevicesAccurate b.world b.entries
-  truthful_kept s still = subst (DevicesAccurate b.world) (sym same) (truthful_stays a.world b.world a.entries (k.worlds.devices.same (owned.stays s.owned).single) (s.truthful (before still)))
+  truthful_kept s still = subst (DevicesAccurate b.world) (sym same)
+      (truthful_stays a.world b.world a.entries (k.worlds.devices.same (owned.stays s.owned).single)
+      (s.truthful (before still)))
 
   -- each cause stays so, wherever it ends
-  pub caused_kept : HostInvariant a → IsFairTo a.world b.world → RefusalsJustified a.world a.entries → RefusalsJustified b.world b.entries
+  pub caused_kept : HostInvariant a → IsFairTo a.world b.world → RefusalsJustified a.world a.entries
+      → RefusalsJustified b.world b.entries
   caused_kept s fair causes =
       subst (RefusalsJustified b.world) (sym same)
-      (causes_stay a.world b.world a.entries a.addresses (accounted a agrees s.rooted) (s.known (before fair.still)) (λ path port. course_wider (λ s u x. x.spares) (k.worlds.rests fair.still path)) causes)
+      (causes_stay a.world b.world a.entries a.addresses (accounted a agrees s.rooted)
+      (s.known (before fair.still)) (λ path port. course_wider (λ s u x. x.spares)
+      (k.worlds.rests fair.still path)) causes)
 
   -- where it ends well
   pub sound_kept : (b.world.fault ≡ None → ends) → KeepsInvariant a b
@@ -110,7 +137,8 @@ module _ (n : ℕ) (path : List ℕ) (ends : Type 0) (a b : HostState) (agrees :
       order = went_in_order n a.world b.world went s.order;
       known = known_kept s;
       truthful = truthful_kept s;
-      level = λ still. all_kept path ends (table_in a) (table_in b) a.world b.world k (held s still) (well still) (s.level (before still));
+      level = λ still. all_kept path ends (table_in a) (table_in b) a.world b.world k (held s still)
+          (well still) (s.level (before still));
     };
     caused = caused_kept;
   }
@@ -123,25 +151,37 @@ module _ (n : ℕ) (path : List ℕ) (ends : Type 0) (a b : HostState) (agrees :
     order = went_in_order n a.world b.world went s.order;
     known = λ still other away. known_kept s still other;
     truthful = λ still other away. truthful_kept s still other;
-    level = λ still other away. k.others (held s still) other (is_way-apart path other away) (s.level (before still) other);
+    level = λ still other away. k.others (held s still) other (is_way-apart path other away)
+        (s.level (before still) other);
   }
 
-  pub occupied_kept : HostInvariant a → IsSome (finding_at path b.entries) → b.world.fault ≡ None → Agrees b.entries b.addresses → IsOccupied b.world path
-  occupied_kept s listed still agrees_on = occupied_at path b (accounted b agrees_on (owned.rooted s.rooted)) (known_kept s still) (finding_at path b.entries) refl listed
+  pub occupied_kept : HostInvariant a → IsSome (finding_at path b.entries) → b.world.fault ≡ None
+      → Agrees b.entries b.addresses → IsOccupied b.world path
+  occupied_kept s listed still agrees_on =
+      occupied_at path b (accounted b agrees_on (owned.rooted s.rooted)) (known_kept s still)
+      (finding_at path b.entries) refl listed
 
 -- A hub is dropped
 
 -- where a change was pending at it, as it did not answer
-pub sound_dropped : (result : Result (Unit {0}) HostFault) (hub : List ℕ) (m n : ℕ) (a b c : HostState) → HostRuns m a b → HostRuns n b c → (HostInvariant a → IsDroppable hub b) → (HostInvariant a → IsFairTo a.world b.world → RefusalsJustified a.world a.entries → RefusalsJustified b.world b.entries)
-    → (HostInvariant a → b.world.fault ≡ None → KeepsBulk a b) → KeepsPlugs a b → DropsSound hub b result c → (HostInvariant a → b.world.fault ≡ None → NoThreeDamaged a.world → pending b.world.roots hub ≡ true) → PartKeepsInvariant a result c
+pub sound_dropped : (result : Result (Unit {0}) HostFault) (hub : List ℕ) (m n : ℕ)
+    (a b c : HostState) → HostRuns m a b → HostRuns n b c → (HostInvariant a → IsDroppable hub b)
+    → (HostInvariant a → IsFairTo a.world b.world → RefusalsJustified a.world a.entries
+    → RefusalsJustified b.world b.entries)
+    → (HostInvariant a → b.world.fault ≡ None → KeepsBulk a b) → KeepsPlugs a b
+    → DropsSound hub b result c → (HostInvariant a → b.world.fault ≡ None
+    → NoThreeDamaged a.world → pending b.world.roots hub ≡ true)
+    → PartKeepsInvariant a result c
 sound_dropped (Ok done) hub m n a b c p q drops causes bulk plugs d pends = record {
   sound = record {
     sound = λ s. d.sound (drops s);
     caused = λ s fair caused.
         let before : IsFairTo a.world b.world = fair_before n a.world b.world c.world q.went fair in
-        d.caused (drops s) (fair_after m a.world b.world c.world p.went fair) (pends s before.still fair.few) (λ path away. causes s before caused path);
+        d.caused (drops s) (fair_after m a.world b.world c.world p.went fair)
+        (pends s before.still fair.few) (λ path away. causes s before caused path);
   };
-  bulk = λ s still. bulk_then m n a b c p.went q.went still (bulk s (went_sound n b.world c.world q.went still)) (d.bulk (drops s) still);
+  bulk = λ s still. bulk_then m n a b c p.went q.went still
+      (bulk s (went_sound n b.world c.world q.went still)) (d.bulk (drops s) still);
   plugs = λ s still. plugs_then m n a b c p.went q.went still plugs d.plugs;
 }
 sound_dropped (Err fault) hub m n a b c p q drops causes bulk plugs d pends = tt
@@ -156,7 +196,9 @@ event_sound : (w : World) → (after event w).fault ≡ None → w.fault ≡ Non
 unfolding after
 event_sound w sound = sym (taken_sound w.fault w refl) ∙ sound
 
-pub sound_event : (a b : HostState) → Agrees a.entries a.addresses → b.entries ≡ a.entries → b.pipes ≡ a.pipes → b.world ≡ after event a.world → KeepsAddresses a.world b.world → KeepsInvariant a b
+pub sound_event : (a b : HostState) → Agrees a.entries a.addresses → b.entries ≡ a.entries
+    → b.pipes ≡ a.pipes → b.world ≡ after event a.world → KeepsAddresses a.world b.world
+    → KeepsInvariant a b
 sound_event a b agrees same pipes is k = record { sound = sound; caused = caused }
   where
     roots : roots_of b.world ≡ roots_of a.world
@@ -166,38 +208,74 @@ sound_event a b agrees same pipes is k = record { sound = sound; caused = caused
     owned = stays_kept a b same roots k
 
     table : table_in b ≡ table_in a
-    table = ap (λ (es : Entries). record { entries = es; pipes = b.pipes }) same ∙ ap (λ ps. record { entries = a.entries; pipes = ps }) pipes
+    table = ap (λ (es : Entries). record { entries = es; pipes = b.pipes }) same
+        ∙ ap (λ ps. record { entries = a.entries; pipes = ps }) pipes
 
     before : b.world.fault ≡ None → a.world.fault ≡ None
     before still = event_sound a.world (ap (λ (w : World). w.fault) (sym is) ∙ still)
 
     ordered : IsInOrder a.world → IsInOrder (after event a.world)
-    ordered order sound = orderly_on {K = AnyStep} (order (event_sound a.world sound)) (step event tt (no_more (after event a.world)))
+    ordered order sound = orderly_on {K = AnyStep} (order (event_sound a.world sound))
+        (step event tt (no_more (after event a.world)))
 
     sound : HostInvariant a → HostInvariant b
     sound s = record {
       owned = owned.stays s.owned;
       rooted = owned.rooted s.rooted;
       order = subst IsInOrder (sym is) (ordered s.order);
-      known = λ still. subst (PortsListed b.world) (sym same) (subst (λ (w : World). PortsListed w a.entries) (sym is) (known_event a.world a.entries (s.known (before still))));
-      truthful = λ still. subst (DevicesAccurate b.world) (sym same) (subst (λ (w : World). DevicesAccurate w a.entries) (sym is) (truthful_event a.world a.entries (s.truthful (before still))));
+      known = λ still. subst (PortsListed b.world) (sym same)
+          (subst (λ (w : World). PortsListed w a.entries) (sym is)
+          (known_event a.world a.entries (s.known (before still))));
+      truthful = λ still. subst (DevicesAccurate b.world) (sym same)
+          (subst (λ (w : World). DevicesAccurate w a.entries) (sym is)
+          (truthful_event a.world a.entries (s.truthful (before still))));
       level = λ still.
-          subst (λ (t : Table). AllInSync t b.world) (sym table) (subst (AllInSync (table_in a)) (sym is) (level_event (table_in a) a.world (s.level (before still))));
+          subst (λ (t : Table). AllInSync t b.world) (sym table)
+          (subst (AllInSync (table_in a)) (sym is)
+          (level_event (table_in a) a.world (s.level (before still))));
     }
 
-    caused : HostInvariant a → IsFairTo a.world b.world → RefusalsJustified a.world a.entries → RefusalsJustified b.world b.entries
+    caused : HostInvariant a → IsFairTo a.world b.world → RefusalsJustified a.world a.entries
+        → RefusalsJustified b.world b.entries
     caused s fair causes =
         subst (RefusalsJustified b.world) (sym same)
-        (subst (λ (w : World). RefusalsJustified w a.entries) (sym is) (causes_event a.world a.entries a.addresses (accounted a agrees s.rooted) (s.known (before fair.still)) causes))
+        (subst (λ (w : World). RefusalsJustified w a.entries) (sym is)
+        (causes_event a.world a.entries a.addresses (accounted a agrees s.rooted)
+        (s.known (before fair.still)) causes))
 
 -- A whole round: only the host's own stop is new after its parts
 
-sound_stopped : (b : HostState) (stopped : Bool) → HostInvariant b → HostInvariant (record b { stopped = stopped })
-sound_stopped b stopped s = record { owned = s.owned; rooted = s.rooted; order = s.order; known = s.known; truthful = s.truthful; level = s.level }
+sound_stopped : (b : HostState) (stopped : Bool) → HostInvariant b
+    → HostInvariant (record b { stopped = stopped })
+sound_stopped b stopped s = record {
+  owned = s.owned;
+  rooted = s.rooted;
+  order = s.order;
+  known =
+      s.known;
+  truthful = s.truthful;
+  level = s.level;
+}
 
-stays_stopped : (a b : HostState) (stopped : Bool) → KeepsInvariant a b → KeepsInvariant a (record b { stopped = stopped })
-stays_stopped a b stopped x = record { sound = λ s. sound_stopped b stopped (x.sound s); caused = x.caused }
+stays_stopped : (a b : HostState) (stopped : Bool) → KeepsInvariant a b
+    → KeepsInvariant a (record b { stopped = stopped })
+stays_stopped a b stopped x = record {
+  sound = λ s. sound_stopped b stopped (x.sound s);
+  caused =
+      x.caused;
+}
 
-pub rounds_stopped : (result : Result Round HostFault) (a b : HostState) (stopped : Bool) → RoundsSound a result b → RoundsSound a result (record b { stopped = stopped })
-rounds_stopped (Ok round) a b stopped x = record { keeps = record { sound = stays_stopped a b stopped x.keeps.sound; bulk = λ s still. bulk_stopped a b stopped (x.keeps.bulk s still); plugs = λ s still. plugs_stopped a b stopped (x.keeps.plugs s still) }; rest = x.rest }
+pub rounds_stopped : (result : Result Round HostFault) (a b : HostState) (stopped : Bool)
+    → RoundsSound a result b → RoundsSound a result (record b { stopped = stopped })
+rounds_stopped (Ok round) a b stopped x =
+    record {
+      keeps = record {
+        sound = stays_stopped a b stopped x.keeps.sound;
+        bulk =
+            λ s still. bulk_stopped a b stopped (x.keeps.bulk s still);
+        plugs =
+            λ s still. plugs_stopped a b stopped (x.keeps.plugs s still);
+      };
+      rest = x.rest;
+    }
 rounds_stopped (Err fault) a b stopped x = record { keeps = tt; rest = λ s is. absurd (cc is) }

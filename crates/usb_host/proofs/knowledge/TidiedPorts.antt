@@ -1,12 +1,16 @@
--- What is known of a port, and of the ports below it, stays so as a change bit of its enable or reset is cleared.
-use Rattle.std.proofs.Common.{◌≡◌, ◌⊎◌, inl, inr, ◌&&◌, ◌||◌, ℕ, suc, zero, true, false, List, [], ◌∷◌, ◌++◌, Option, None, Some, option_map, refl, ap, sym, subst, ◌∙◌, append-nil}
+-- What is known of a port, and of the ports below it, stays so as a change bit of its enable or
+-- reset is cleared.
+use Rattle.std.proofs.Common.{◌≡◌, ◌⊎◌, inl, inr, ◌&&◌, ◌||◌, ℕ, suc, zero, true, false, List, []}
+use Rattle.std.proofs.Common.{◌∷◌, ◌++◌, Option, None, Some, option_map, refl, ap, sym, subst, ◌∙◌}
+use Rattle.std.proofs.Common.{append-nil}
 use Rattle.std.specs.Prelude.{IsSome, IfSome}
 use Rattle.usb_port.specs.PortState.{PortState}
 use Rattle.usb_port.specs.declared.call.PortCall.{PortCall}
 use Rattle.usb_port.specs.declared.call.PortCall.TheVariants.{ClearEnableChange, ClearResetChange}
 use Rattle.usb_port.specs.Calls.{called_port}
 use Rattle.usb_device.specs.Rows.{State}
-use Rattle.usb_device.specs.Tree.{Ports, ended, vacant, taken, Place, empty, full, port_of, called, place, reach, reach_at, state_at, port_at}
+use Rattle.usb_device.specs.Tree.{Ports, ended, vacant, taken, Place, empty, full, port_of, called}
+use Rattle.usb_device.specs.Tree.{place, reach, reach_at, state_at, port_at}
 use Rattle.usb_device.specs.View.{port_there, state_there}
 use Rattle.usb_world.specs.declared.types.Attempt.{Attempt}
 use Rattle.usb_world.specs.Courses.{step_keeps_pending}
@@ -14,17 +18,22 @@ use Rattle.usb_tree.specs.Paths.{has_power, pending, is_way}
 use Rattle.usb_world.specs.PortRequests.{row_reached}
 use Rattle.usb_world.specs.PlanCourses.{spec_of}
 use Rattle.usb_world.specs.RestingPorts.{LeavesPortAlone, SameDeviceOrPending}
-use Rattle.usb_world.specs.Steps.{Step, attempt, root_call, event, report, after, with_attempt, at_attempt, Course, here, step}
+use Rattle.usb_world.specs.Steps.{Step, attempt, root_call, event, report, after, with_attempt}
+use Rattle.usb_world.specs.Steps.{at_attempt, Course, here, step}
 use Rattle.usb_tree.specs.WayEffects.{keeps_pending}
 use Rattle.usb_world.specs.World.{World}
-use Rattle.usb_world.proofs.Interface.{MadeOrNot, attempt_cases, course_wider, made_live, made_pend, made_sound, pending_persists, root_live, root_pend, stands, stands_or_pends, way_rest}
+use Rattle.usb_world.proofs.Interface.{MadeOrNot, attempt_cases, course_wider, made_live, made_pend}
+use Rattle.usb_world.proofs.Interface.{made_sound, pending_persists, root_live, root_pend, stands}
+use Rattle.usb_world.proofs.Interface.{stands_or_pends, way_rest}
 use Rattle.usb_tree.proofs.Interface.{and_of, both, either_of, false_true, or_left, or_right}
 use Rattle.usb_hub.specs.Moments.{PortCallDone, ActsAt}
-use Rattle.usb_hub.proofs.Interface.{due_course, enabled_reach, port_of_place, row_reached-back, state_of_place}
+use Rattle.usb_hub.proofs.Interface.{due_course, enabled_reach, port_of_place, row_reached-back}
+use Rattle.usb_hub.proofs.Interface.{state_of_place}
 use Rattle.usb_enum.specs.declared.finding.Finding.{Finding}
 use Rattle.usb_enum.specs.declared.finding.Finding.TheVariants.{Device, Refused}
 use Rattle.usb_enum.specs.Places.{IsKnownAs}
-use Rattle.usb_address.proofs.Interface.{place_ports, live_below, not_way, pend-below, port_there-below, reach_below, state_below}
+use Rattle.usb_address.proofs.Interface.{place_ports, live_below, not_way, pend-below}
+use Rattle.usb_address.proofs.Interface.{port_there-below, reach_below, state_below}
 use Rattle.usb_host.specs.PortHandling.{HoldsAt}
 use Rattle.usb_host.proofs.parts.Events.{event_calm}
 use Rattle.usb_host.proofs.knowledge.KnowledgeKept.{known_stays}
@@ -44,7 +53,9 @@ tidy_spares reset = refl
 
 -- What a place shows, before and after the call
 
-called_port_as : (t : Tidy) → (o : Option Place) → option_map port_of (option_map (called (tidy_call t)) o) ≡ option_map (called_port (tidy_call t)) (option_map port_of o)
+called_port_as : (t : Tidy) → (o : Option Place)
+    → option_map port_of (option_map (called (tidy_call t)) o)
+    ≡ option_map (called_port (tidy_call t)) (option_map port_of o)
 called_port_as enable None = refl
 called_port_as enable (Some (empty b)) = refl
 called_port_as enable (Some (full b s a)) = refl
@@ -52,7 +63,8 @@ called_port_as reset None = refl
 called_port_as reset (Some (empty b)) = refl
 called_port_as reset (Some (full b s a)) = refl
 
-called_stands : (t : Tidy) → (o : Option Place) → stands (option_map (called (tidy_call t)) o) ≡ stands o
+called_stands : (t : Tidy) → (o : Option Place) → stands (option_map (called (tidy_call t)) o)
+    ≡ stands o
 called_stands enable None = refl
 called_stands enable (Some (empty b)) = refl
 called_stands enable (Some (full b s a)) = refl
@@ -60,7 +72,8 @@ called_stands reset None = refl
 called_stands reset (Some (empty b)) = refl
 called_stands reset (Some (full b s a)) = refl
 
-called_under : (t : Tidy) → (o : Option Place) → place_ports (option_map (called (tidy_call t)) o) ≡ place_ports o
+called_under : (t : Tidy) → (o : Option Place) → place_ports (option_map (called (tidy_call t)) o)
+    ≡ place_ports o
 called_under enable None = refl
 called_under enable (Some (empty b)) = refl
 called_under enable (Some (full b s a)) = refl
@@ -73,17 +86,20 @@ tidied_enable enable b = refl
 tidied_enable reset b = refl
 
 -- a device that is reached stands on an enabled port
-reached_port_at : (k : Ports) (j : ℕ) (p : List ℕ) → reach_at k j p ≡ true → (b : PortState) × (s : State) × (port_at k j p ≡ Some b) × (state_at k j p ≡ Some s) × (b.enable ≡ true)
+reached_port_at : (k : Ports) (j : ℕ) (p : List ℕ) → reach_at k j p ≡ true → (b : PortState)
+    × (s : State) × (port_at k j p ≡ Some b) × (state_at k j p ≡ Some s) × (b.enable ≡ true)
 unfolding reach_at port_at state_at
 reached_port_at ended j p h = false_true h
 reached_port_at (vacant b k) zero p h = false_true h
 reached_port_at (vacant b k) (suc j) p h = reached_port_at k j p h
 reached_port_at (taken b s a k) zero [] h = (b, s, refl, refl, h)
 reached_port_at (taken b s a k) zero (zero ∷ p) h = false_true h
-reached_port_at (taken b s a k) zero (suc i ∷ p) h = reached_port_at a i p (both b.enable (reach_at a i p) h).1
+reached_port_at (taken b s a k) zero (suc i ∷ p) h =
+    reached_port_at a i p (both b.enable (reach_at a i p) h).1
 reached_port_at (taken b s a k) (suc j) p h = reached_port_at k j p h
 
-pub reached_port : (k : Ports) (p : List ℕ) → reach k p ≡ true → (b : PortState) × (s : State) × (port_there k p ≡ Some b) × (state_there k p ≡ Some s) × (b.enable ≡ true)
+pub reached_port : (k : Ports) (p : List ℕ) → reach k p ≡ true → (b : PortState) × (s : State)
+    × (port_there k p ≡ Some b) × (state_there k p ≡ Some s) × (b.enable ≡ true)
 reached_port k [] h = false_true h
 reached_port k (zero ∷ p) h = false_true h
 reached_port k (suc j ∷ p) h = reached_port_at k j p h
@@ -91,15 +107,26 @@ reached_port k (suc j ∷ p) h = reached_port_at k j p h
 -- Two trees of which the place at a path is the same, or called
 
 -- the same as IsKnownAs, of a tree
-known_same : (x : List ℕ) (o : Option Finding) (w v : World) → v.roots ≡ w.roots → IsKnownAs w x o → IsKnownAs v x o
-known_same x None w v e h = subst (λ k. (pending k x ≡ true) ⊎ ((has_power k x ≡ true) × (state_there k x ≡ None))) (sym e) h
-known_same x (Some (Device device)) w v e h = subst (λ k. (pending k x ≡ true) ⊎ ((has_power k x ≡ true) × (reach k x ≡ true))) (sym e) h
-known_same x (Some (Refused cause)) w v e h = subst (λ k. (pending k x ≡ true) ⊎ ((has_power k x ≡ true) × (IsSome (state_there k x) × IfSome (port_there k x) (λ b. b.enable ≡ false)))) (sym e) h
+known_same : (x : List ℕ) (o : Option Finding) (w v : World) → v.roots ≡ w.roots → IsKnownAs w x o
+    → IsKnownAs v x o
+known_same x None w v e h = subst (λ k. (pending k x ≡ true)
+    ⊎ ((has_power k x ≡ true) × (state_there k x ≡ None))) (sym e) h
+known_same x (Some (Device device)) w v e h =
+    subst (λ k. (pending k x ≡ true) ⊎ ((has_power k x ≡ true) × (reach k x ≡ true))) (sym e) h
+known_same x (Some (Refused cause)) w v e h =
+    subst (λ k. (pending k x ≡ true) ⊎ ((has_power k x ≡ true)
+    × (IsSome (state_there k x) × IfSome (port_there k x) (λ b. b.enable ≡ false)))) (sym e) h
 
 pub holds_at_then : (x : List ℕ) (w m v : World) → HoldsAt x w m → HoldsAt x m v → HoldsAt x w v
-holds_at_then x w m v a b = record { known = λ o k. b.known o (a.known o k); pends = λ h. b.pends (a.pends h); stands = λ on. first (a.stands on) }
+holds_at_then x w m v a b = record {
+  known = λ o k. b.known o (a.known o k);
+  pends =
+      λ h. b.pends (a.pends h);
+  stands = λ on. first (a.stands on);
+}
   where
-    second : option_map spec_of (state_there m.roots x) ≡ option_map spec_of (state_there w.roots x) → SameDeviceOrPending m v x → SameDeviceOrPending w v x
+    second : option_map spec_of (state_there m.roots x) ≡ option_map spec_of (state_there w.roots x)
+        → SameDeviceOrPending m v x → SameDeviceOrPending w v x
     second s (inl y) = inl (y.0, y.1 ∙ s)
     second s (inr y) = inr y
 
@@ -118,7 +145,11 @@ pub holds_same : (x : List ℕ) (w v : World) → v.roots ≡ w.roots → HoldsA
 holds_same x w v e = record {
   known = λ o k. known_same x o w v e k;
   pends = λ h. ap (λ k. pending k x) e ∙ h;
-  stands = λ on. inl (ap (λ k. has_power k x) e ∙ on, ap (λ k. option_map spec_of (state_there k x)) e);
+  stands = λ on. inl (
+    ap (λ k. has_power k x) e
+        ∙ on,
+    ap (λ k. option_map spec_of (state_there k x)) e,
+  );
 }
 
 module _ (t : Tidy) (p : List ℕ) where
@@ -127,77 +158,131 @@ module _ (t : Tidy) (p : List ℕ) where
     pend_on : pending w.roots p ≡ true → pending v.roots p ≡ true
     reach_on : reach w.roots p ≡ true → reach v.roots p ≡ true
     state : state_there v.roots p ≡ state_there w.roots p
-    port : (port_there v.roots p ≡ port_there w.roots p) ⊎ (port_there v.roots p ≡ option_map (called_port (tidy_call t)) (port_there w.roots p))
+    port : (port_there v.roots p ≡ port_there w.roots p)
+        ⊎ (port_there v.roots p ≡ option_map (called_port (tidy_call t)) (port_there w.roots p))
     below : place_ports (place v.roots p) ≡ place_ports (place w.roots p)
 
-  kept_disabled : (o u : Option PortState) → (u ≡ o) ⊎ (u ≡ option_map (called_port (tidy_call t)) o) → IfSome o (λ b. b.enable ≡ false) → IfSome u (λ b. b.enable ≡ false)
+  kept_disabled : (o u : Option PortState) → (u ≡ o)
+      ⊎ (u ≡ option_map (called_port (tidy_call t)) o) → IfSome o (λ b. b.enable ≡ false)
+      → IfSome u (λ b. b.enable ≡ false)
   kept_disabled o u (inl e) h = subst (λ x. IfSome x (λ b. b.enable ≡ false)) (sym e) h
   kept_disabled None u (inr e) h = subst (λ x. IfSome x (λ b. b.enable ≡ false)) (sym e) tt
-  kept_disabled (Some b) u (inr e) h = subst (λ x. IfSome x (λ b. b.enable ≡ false)) (sym e) (tidied_enable t b ∙ h)
+  kept_disabled (Some b) u (inr e) h = subst (λ x. IfSome x (λ b. b.enable ≡ false)) (sym e)
+      (tidied_enable t b ∙ h)
 
   -- at the port itself
   at_port : (o : Option Finding) (w v : World) → Alike w v → IsKnownAs w p o → IsKnownAs v p o
   at_port o w v a (inl x) = inl (a.pend_on x)
   at_port None w v a (inr x) = inr (a.live_on x.0, a.state ∙ x.1)
   at_port (Some (Device device)) w v a (inr x) = inr (a.live_on x.0, a.reach_on x.1)
-  at_port (Some (Refused cause)) w v a (inr x) = inr (a.live_on x.0, (subst IsSome (sym a.state) x.1.0, kept_disabled (port_there w.roots p) (port_there v.roots p) a.port x.1.1))
+  at_port (Some (Refused cause)) w v a (inr x) =
+      inr (
+        a.live_on x.0,
+        (
+          subst IsSome (sym a.state) x.1.0,
+          kept_disabled (port_there w.roots p)
+              (port_there v.roots p) a.port x.1.1,
+        ),
+      )
 
   holds_port : (w v : World) → Alike w v → HoldsAt p w v
-  holds_port w v a = record { known = λ o k. at_port o w v a k; pends = a.pend_on; stands = λ on. inl (a.live_on on, ap (option_map spec_of) a.state) }
+  holds_port w v a = record {
+    known = λ o k. at_port o w v a k;
+    pends = a.pend_on;
+    stands =
+        λ on. inl (a.live_on on, ap (option_map spec_of) a.state);
+  }
 
   module _ (m : ℕ) (l : List ℕ) (is : p ≡ m ∷ l) (i : ℕ) (r : List ℕ) where
     abbrev x : List ℕ
     x = (m ∷ l) ++ i ∷ r
 
-    sub_same : (w v : World) → Alike w v → place_ports (place v.roots (m ∷ l)) ≡ place_ports (place w.roots (m ∷ l))
-    sub_same w v a = subst (λ e. place_ports (place v.roots e) ≡ place_ports (place w.roots e)) is a.below
+    sub_same : (w v : World) → Alike w v → place_ports (place v.roots (m ∷ l))
+        ≡ place_ports (place w.roots (m ∷ l))
+    sub_same w v a = subst (λ e. place_ports (place v.roots e) ≡ place_ports (place w.roots e)) is
+        a.below
 
     pend_x : (w v : World) → Alike w v → pending w.roots x ≡ true → pending v.roots x ≡ true
-    pend_x w v a h = pend-below v.roots m l i r ∙ pick (either_of (pending w.roots (m ∷ l)) (has_power w.roots (m ∷ l) && pending (place_ports (place w.roots (m ∷ l))) (i ∷ r)) (sym (pend-below w.roots m l i r) ∙ h))
+    pend_x w v a h = pend-below v.roots m l i r
+        ∙ pick (either_of (pending w.roots (m ∷ l))
+        (has_power w.roots (m ∷ l) && pending (place_ports (place w.roots (m ∷ l))) (i ∷ r))
+        (sym (pend-below w.roots m l i r) ∙ h))
       where
-        pick : (pending w.roots (m ∷ l) ≡ true) ⊎ ((has_power w.roots (m ∷ l) && pending (place_ports (place w.roots (m ∷ l))) (i ∷ r)) ≡ true)
-            → (pending v.roots (m ∷ l) || (has_power v.roots (m ∷ l) && pending (place_ports (place v.roots (m ∷ l))) (i ∷ r))) ≡ true
-        pick (inl y) = or_left (pending v.roots (m ∷ l)) (has_power v.roots (m ∷ l) && pending (place_ports (place v.roots (m ∷ l))) (i ∷ r)) (subst (λ e. pending w.roots e ≡ true → pending v.roots e ≡ true) is a.pend_on y)
+        pick : (pending w.roots (m ∷ l) ≡ true)
+            ⊎ ((has_power w.roots (m ∷ l) && pending (place_ports (place w.roots (m ∷ l))) (i ∷ r))
+            ≡ true)
+            → (pending v.roots (m ∷ l) || (has_power v.roots (m ∷ l) &&
+            pending (place_ports (place v.roots (m ∷ l))) (i ∷ r))) ≡ true
+        pick (inl y) = or_left (pending v.roots (m ∷ l))
+            (has_power v.roots (m ∷ l) && pending (place_ports (place v.roots (m ∷ l))) (i ∷ r))
+            (subst (λ e. pending w.roots e ≡ true → pending v.roots e ≡ true) is a.pend_on y)
         pick (inr y) =
-            let parts = both (has_power w.roots (m ∷ l)) (pending (place_ports (place w.roots (m ∷ l))) (i ∷ r)) y in
-            or_right (pending v.roots (m ∷ l)) (has_power v.roots (m ∷ l) && pending (place_ports (place v.roots (m ∷ l))) (i ∷ r))
-            (and_of (has_power v.roots (m ∷ l)) (pending (place_ports (place v.roots (m ∷ l))) (i ∷ r)) (subst (λ e. has_power w.roots e ≡ true → has_power v.roots e ≡ true) is a.live_on parts.0)
+            let parts = both (has_power w.roots (m ∷ l))
+            (pending (place_ports (place w.roots (m ∷ l))) (i ∷ r)) y in
+            or_right (pending v.roots (m ∷ l)) (has_power v.roots (m ∷ l) &&
+            pending (place_ports (place v.roots (m ∷ l))) (i ∷ r))
+            (and_of (has_power v.roots (m ∷ l))
+            (pending (place_ports (place v.roots (m ∷ l))) (i ∷ r))
+            (subst (λ e. has_power w.roots e ≡ true → has_power v.roots e ≡ true) is a.live_on
+            parts.0)
             (ap (λ k. pending k (i ∷ r)) (sub_same w v a) ∙ parts.1))
 
     live_x : (w v : World) → Alike w v → has_power w.roots x ≡ true → has_power v.roots x ≡ true
     live_x w v a h =
-        let parts = both (has_power w.roots (m ∷ l)) (has_power (place_ports (place w.roots (m ∷ l))) (i ∷ r)) (sym (live_below w.roots m l i r) ∙ h) in
+        let parts = both (has_power w.roots (m ∷ l))
+        (has_power (place_ports (place w.roots (m ∷ l))) (i ∷ r))
+        (sym (live_below w.roots m l i r) ∙ h) in
         live_below v.roots m l i r
-        ∙ and_of (has_power v.roots (m ∷ l)) (has_power (place_ports (place v.roots (m ∷ l))) (i ∷ r)) (subst (λ e. has_power w.roots e ≡ true → has_power v.roots e ≡ true) is a.live_on parts.0)
+        ∙ and_of (has_power v.roots (m ∷ l)) (has_power (place_ports (place v.roots (m ∷ l)))
+        (i ∷ r)) (subst (λ e. has_power w.roots e ≡ true → has_power v.roots e ≡ true) is
+        a.live_on parts.0)
         (ap (λ k. has_power k (i ∷ r)) (sub_same w v a) ∙ parts.1)
 
     reach_x : (w v : World) → Alike w v → reach w.roots x ≡ true → reach v.roots x ≡ true
     reach_x w v a h =
-        let parts = both (reach w.roots (m ∷ l)) (reach (place_ports (place w.roots (m ∷ l))) (i ∷ r)) (sym (reach_below w.roots m l i r) ∙ h) in
+        let parts = both (reach w.roots (m ∷ l))
+        (reach (place_ports (place w.roots (m ∷ l))) (i ∷ r)) (sym (reach_below w.roots m l i r)
+        ∙ h) in
         reach_below v.roots m l i r
-        ∙ and_of (reach v.roots (m ∷ l)) (reach (place_ports (place v.roots (m ∷ l))) (i ∷ r)) (subst (λ e. reach w.roots e ≡ true → reach v.roots e ≡ true) is a.reach_on parts.0)
+        ∙ and_of (reach v.roots (m ∷ l)) (reach (place_ports (place v.roots (m ∷ l))) (i ∷ r))
+        (subst (λ e. reach w.roots e ≡ true → reach v.roots e ≡ true) is a.reach_on parts.0)
         (ap (λ k. reach k (i ∷ r)) (sub_same w v a) ∙ parts.1)
 
     state_x : (w v : World) → Alike w v → state_there v.roots x ≡ state_there w.roots x
-    state_x w v a = state_below v.roots m l i r ∙ ap (λ k. state_there k (i ∷ r)) (sub_same w v a) ∙ sym (state_below w.roots m l i r)
+    state_x w v a = state_below v.roots m l i r ∙ ap (λ k. state_there k (i ∷ r)) (sub_same w v a)
+        ∙ sym (state_below w.roots m l i r)
 
     port_x : (w v : World) → Alike w v → port_there v.roots x ≡ port_there w.roots x
-    port_x w v a = port_there-below v.roots m l i r ∙ ap (λ k. port_there k (i ∷ r)) (sub_same w v a) ∙ sym (port_there-below w.roots m l i r)
+    port_x w v a = port_there-below v.roots m l i r
+        ∙ ap (λ k. port_there k (i ∷ r)) (sub_same w v a) ∙ sym (port_there-below w.roots m l i r)
 
     below_port : (o : Option Finding) (w v : World) → Alike w v → IsKnownAs w x o → IsKnownAs v x o
     below_port o w v a (inl h) = inl (pend_x w v a h)
     below_port None w v a (inr h) = inr (live_x w v a h.0, state_x w v a ∙ h.1)
     below_port (Some (Device device)) w v a (inr h) = inr (live_x w v a h.0, reach_x w v a h.1)
     below_port (Some (Refused cause)) w v a (inr h) =
-        inr (live_x w v a h.0, (subst IsSome (sym (state_x w v a)) h.1.0, subst (λ b. IfSome b (λ b. b.enable ≡ false)) (sym (port_x w v a)) h.1.1))
+        inr (
+          live_x w v a h.0,
+          (
+            subst IsSome (sym (state_x w v a)) h.1.0,
+            subst (λ b. IfSome b (λ b. b.enable ≡ false)) (sym (port_x w v a)) h.1.1,
+          ),
+        )
 
     holds_below : (w v : World) → Alike w v → HoldsAt x w v
-    holds_below w v a = record { known = λ o k. below_port o w v a k; pends = pend_x w v a; stands = λ on. inl (live_x w v a on, ap (option_map spec_of) (state_x w v a)) }
+    holds_below w v a = record {
+      known = λ o k. below_port o w v a k;
+      pends = pend_x w v a;
+      stands =
+          λ on. inl (live_x w v a on, ap (option_map spec_of) (state_x w v a));
+    }
 
   -- at the port and below it
-  holds_alike : (m : ℕ) (l : List ℕ) → p ≡ m ∷ l → (r : List ℕ) (w v : World) → Alike w v → HoldsAt (p ++ r) w v
+  holds_alike : (m : ℕ) (l : List ℕ) → p ≡ m ∷ l → (r : List ℕ) (w v : World) → Alike w v
+      → HoldsAt (p ++ r) w v
   holds_alike m l is [] w v a = subst (λ e. HoldsAt e w v) (sym (append-nil p)) (holds_port w v a)
-  holds_alike m l is (i ∷ r) w v a = subst (λ e. HoldsAt (e ++ i ∷ r) w v) (sym is) (holds_below m l is i r w v a)
+  holds_alike m l is (i ∷ r) w v a = subst (λ e. HoldsAt (e ++ i ∷ r) w v) (sym is)
+      (holds_below m l is i r w v a)
 
 -- Over steps that are about the port
 
@@ -205,33 +290,60 @@ module _ (t : Tidy) (q : List ℕ) (n : ℕ) where
   abbrev p : List ℕ
   p = q ++ n ∷ []
 
-  row_back : {w v : World} → Course (ActsAt p (tidy_call t)) w v → row_reached v.roots q ≡ true → row_reached w.roots q ≡ true
-  row_back course on = row_reached-back q (course_wider (λ s w k. (k.about.others q (not_way q n)).rests) course) on
+  row_back : {w v : World} → Course (ActsAt p (tidy_call t)) w v → row_reached v.roots q ≡ true
+      → row_reached w.roots q ≡ true
+  row_back course on = row_reached-back q
+      (course_wider (λ s w k. (k.about.others q (not_way q n)).rests) course) on
 
   -- how the place of the port is after a step's own change
-  place_port : (k v : Ports) → (place v p ≡ place k p) ⊎ (place v p ≡ option_map (called (tidy_call t)) (place k p)) → (port_there v p ≡ port_there k p) ⊎ (port_there v p ≡ option_map (called_port (tidy_call t)) (port_there k p))
-  place_port k v (inl e) = inl (port_of_place v p ∙ ap (option_map port_of) e ∙ sym (port_of_place k p))
-  place_port k v (inr e) = inr (port_of_place v p ∙ ap (option_map port_of) e ∙ called_port_as t (place k p) ∙ ap (option_map (called_port (tidy_call t))) (sym (port_of_place k p)))
+  place_port : (k v : Ports) → (place v p ≡ place k p)
+      ⊎ (place v p ≡ option_map (called (tidy_call t)) (place k p))
+      → (port_there v p ≡ port_there k p)
+      ⊎ (port_there v p ≡ option_map (called_port (tidy_call t)) (port_there k p))
+  place_port k v (inl e) = inl (port_of_place v p ∙ ap (option_map port_of) e
+      ∙ sym (port_of_place k p))
+  place_port k v (inr e) = inr (port_of_place v p ∙ ap (option_map port_of) e
+      ∙ called_port_as t (place k p) ∙ ap (option_map (called_port (tidy_call t)))
+      (sym (port_of_place k p)))
 
-  place_state : (k v : Ports) → (place v p ≡ place k p) ⊎ (place v p ≡ option_map (called (tidy_call t)) (place k p)) → state_there v p ≡ state_there k p
+  place_state : (k v : Ports) → (place v p ≡ place k p)
+      ⊎ (place v p ≡ option_map (called (tidy_call t)) (place k p))
+      → state_there v p ≡ state_there k p
   place_state k v (inl e) = state_of_place v p ∙ ap stands e ∙ sym (state_of_place k p)
-  place_state k v (inr e) = state_of_place v p ∙ ap stands e ∙ called_stands t (place k p) ∙ sym (state_of_place k p)
+  place_state k v (inr e) = state_of_place v p ∙ ap stands e ∙ called_stands t (place k p)
+      ∙ sym (state_of_place k p)
 
-  place_under : (k v : Ports) → (place v p ≡ place k p) ⊎ (place v p ≡ option_map (called (tidy_call t)) (place k p)) → place_ports (place v p) ≡ place_ports (place k p)
+  place_under : (k v : Ports) → (place v p ≡ place k p)
+      ⊎ (place v p ≡ option_map (called (tidy_call t)) (place k p))
+      → place_ports (place v p) ≡ place_ports (place k p)
   place_under k v (inl e) = ap place_ports e
   place_under k v (inr e) = ap place_ports e ∙ called_under t (place k p)
 
-  still_enabled : (o u : Option PortState) (b : PortState) → (u ≡ o) ⊎ (u ≡ option_map (called_port (tidy_call t)) o) → o ≡ Some b → b.enable ≡ true → (d : PortState) × (u ≡ Some d) × (d.enable ≡ true)
+  still_enabled : (o u : Option PortState) (b : PortState) → (u ≡ o)
+      ⊎ (u ≡ option_map (called_port (tidy_call t)) o) → o ≡ Some b → b.enable ≡ true
+      → (d : PortState) × (u ≡ Some d) × (d.enable ≡ true)
   still_enabled o u b (inl e) is on = (b, e ∙ is, on)
-  still_enabled o u b (inr e) is on = (called_port (tidy_call t) b, e ∙ ap (option_map (called_port (tidy_call t))) is, tidied_enable t b ∙ on)
+  still_enabled o u b (inr e) is on = (
+    called_port (tidy_call t) b,
+    e
+        ∙ ap (option_map (called_port (tidy_call t))) is,
+    tidied_enable t b ∙ on,
+  )
 
-  place_reach : (k : Ports) (v : World) → (place v.roots p ≡ place k p) ⊎ (place v.roots p ≡ option_map (called (tidy_call t)) (place k p)) → row_reached v.roots q ≡ true → reach k p ≡ true → reach v.roots p ≡ true
+  place_reach : (k : Ports) (v : World) → (place v.roots p ≡ place k p)
+      ⊎ (place v.roots p ≡ option_map (called (tidy_call t)) (place k p))
+      → row_reached v.roots q ≡ true → reach k p ≡ true → reach v.roots p ≡ true
   place_reach k v e row on =
       let at : _ = reached_port k p on in
-      let now : _ = still_enabled (port_there k p) (port_there v.roots p) at.0 (place_port k v.roots e) at.2 at.4 in
-      enabled_reach v p (record { parent = q; number = n; is = refl; reached = row }) now.0 now.1 now.2 at.1 (place_state k v.roots e ∙ at.3)
+      let now : _ = still_enabled (port_there k p) (port_there v.roots p) at.0
+      (place_port k v.roots e) at.2 at.4 in
+      enabled_reach v p (record { parent = q; number = n; is = refl; reached = row }) now.0 now.1
+      now.2 at.1 (place_state k v.roots e ∙ at.3)
 
-  alike : (w v : World) → (place v.roots p ≡ place w.roots p) ⊎ (place v.roots p ≡ option_map (called (tidy_call t)) (place w.roots p)) → (has_power w.roots p ≡ true → has_power v.roots p ≡ true) → (pending w.roots p ≡ true → pending v.roots p ≡ true)
+  alike : (w v : World) → (place v.roots p ≡ place w.roots p)
+      ⊎ (place v.roots p ≡ option_map (called (tidy_call t)) (place w.roots p))
+      → (has_power w.roots p ≡ true → has_power v.roots p ≡ true)
+      → (pending w.roots p ≡ true → pending v.roots p ≡ true)
       → row_reached v.roots q ≡ true → Alike t p w v
   alike w v e live_on pend_on row = record {
     live_on = live_on;
@@ -249,50 +361,73 @@ module _ (t : Tidy) (q : List ℕ) (n : ℕ) where
   holds_by : (r : List ℕ) (w v : World) → Alike t p w v → HoldsAt (p ++ r) w v
   holds_by r w v a = let f : _ = first_of q n in holds_alike t p f.0 f.1 f.2 r w v a
 
-  attempt_holds : (a : Attempt) (w : World) → ActsAt p (tidy_call t) (attempt a) w → row_reached (after (attempt a) w).roots q ≡ true → (r : List ℕ) → HoldsAt (p ++ r) w (after (attempt a) w)
+  attempt_holds : (a : Attempt) (w : World) → ActsAt p (tidy_call t) (attempt a) w
+      → row_reached (after (attempt a) w).roots q ≡ true → (r : List ℕ)
+      → HoldsAt (p ++ r) w (after (attempt a) w)
   unfolding after step_keeps_pending at_attempt
   attempt_holds a w k row r = cases (attempt_cases a w)
     where
-      made : w.fault ≡ None → after (attempt a) w ≡ with_attempt a (at_attempt w) → HoldsAt (p ++ r) w (after (attempt a) w)
+      made : w.fault ≡ None → after (attempt a) w ≡ with_attempt a (at_attempt w)
+          → HoldsAt (p ++ r) w (after (attempt a) w)
       made sound is =
           let spares : step_keeps_pending (attempt a) w p ≡ true = k.about.spares (tidy_spares t) in
-          let came = holds_rests (p ++ r) w (at_attempt w) (due_course (p ++ r) w.left w refl sound) in
-          let e = subst (λ v. (place v.roots p ≡ place (at_attempt w).roots p) ⊎ (place v.roots p ≡ option_map (called (tidy_call t)) (place (at_attempt w).roots p))) is k.port in
+          let came = holds_rests (p ++ r) w (at_attempt w)
+          (due_course (p ++ r) w.left w refl sound) in
+          let e = subst (λ v. (place v.roots p ≡ place (at_attempt w).roots p)
+          ⊎ (place v.roots p ≡ option_map (called (tidy_call t))
+          (place (at_attempt w).roots p))) is k.port in
           subst (HoldsAt (p ++ r) w) (sym is)
           (holds_at_then (p ++ r) w (at_attempt w) (with_attempt a (at_attempt w)) came
-          (holds_by r (at_attempt w) (with_attempt a (at_attempt w)) (alike (at_attempt w) (with_attempt a (at_attempt w)) e (made_live a (at_attempt w) p spares) (made_pend a (at_attempt w) p spares) (subst (λ v. row_reached v.roots q ≡ true) is row))))
+          (holds_by r (at_attempt w) (with_attempt a (at_attempt w))
+          (alike (at_attempt w) (with_attempt a (at_attempt w)) e
+          (made_live a (at_attempt w) p spares) (made_pend a (at_attempt w) p spares)
+          (subst (λ v. row_reached v.roots q ≡ true) is row))))
 
       cases : MadeOrNot a w (after (attempt a) w) → HoldsAt (p ++ r) w (after (attempt a) w)
       cases (inl e) = holds_same (p ++ r) w (after (attempt a) w) (ap (λ v. v.roots) e)
       cases (inr m) = made (made_sound w m.0) m.1
 
-  root_holds : (d : PortCall) (m : ℕ) (w : World) → ActsAt p (tidy_call t) (root_call d m) w → row_reached (after (root_call d m) w).roots q ≡ true → (r : List ℕ) → HoldsAt (p ++ r) w (after (root_call d m) w)
+  root_holds : (d : PortCall) (m : ℕ) (w : World) → ActsAt p (tidy_call t) (root_call d m) w
+      → row_reached (after (root_call d m) w).roots q ≡ true → (r : List ℕ)
+      → HoldsAt (p ++ r) w (after (root_call d m) w)
   unfolding after step_keeps_pending
   root_holds d m w k row r =
       let spares : step_keeps_pending (root_call d m) w p ≡ true = k.about.spares (tidy_spares t) in
-      holds_by r w (after (root_call d m) w) (alike w (after (root_call d m) w) k.port (root_live d m w.roots p spares) (root_pend d m w.roots p spares) row)
+      holds_by r w (after (root_call d m) w)
+      (alike w (after (root_call d m) w) k.port (root_live d m w.roots p spares)
+      (root_pend d m w.roots p spares) row)
 
-  step_holds : (s : Step) (w : World) → ActsAt p (tidy_call t) s w → row_reached (after s w).roots q ≡ true → (r : List ℕ) → HoldsAt (p ++ r) w (after s w)
+  step_holds : (s : Step) (w : World) → ActsAt p (tidy_call t) s w → row_reached (after s w).roots q
+      ≡ true → (r : List ℕ) → HoldsAt (p ++ r) w (after s w)
   unfolding after
   step_holds (attempt a) w k row r = attempt_holds a w k row r
   step_holds (root_call d m) w k row r = root_holds d m w k row r
   step_holds event w k row r = holds_rests (p ++ r) w (after event w) (event_calm (p ++ r) w)
   step_holds (report line) w k row r = holds_same (p ++ r) w w refl
 
-  course_holds : {w v : World} → Course (ActsAt p (tidy_call t)) w v → row_reached v.roots q ≡ true → (r : List ℕ) → HoldsAt (p ++ r) w v
+  course_holds : {w v : World} → Course (ActsAt p (tidy_call t)) w v → row_reached v.roots q ≡ true
+      → (r : List ℕ) → HoldsAt (p ++ r) w v
   course_holds (here w) row r = holds_same (p ++ r) w w refl
-  course_holds (step s {w} {v} k more) row r = holds_at_then (p ++ r) w (after s w) v (step_holds s w k (row_back more row) r) (course_holds more row r)
+  course_holds (step s {w} {v} k more) row r =
+      holds_at_then (p ++ r) w (after s w) v (step_holds s w k (row_back more row) r)
+      (course_holds more row r)
 
-  done_holds : (old new : World) → PortCallDone p (tidy_call t) old new → row_reached new.roots q ≡ true → (r : List ℕ) → HoldsAt (p ++ r) old new
+  done_holds : (old new : World) → PortCallDone p (tidy_call t) old new
+      → row_reached new.roots q ≡ true → (r : List ℕ) → HoldsAt (p ++ r) old new
   done_holds old new d row r =
       let now = row_reached-back q (course_wider (λ s w k. k.rests) (d.since q)) row in
       let before = row_back (step d.last d.acts (here (after d.last d.before))) now in
-      let there = holds_at_then (p ++ r) old d.before (after d.last d.before) (course_holds d.repeats before r) (step_holds d.last d.before d.acts now r) in
-      holds_at_then (p ++ r) old (after d.last d.before) new there (holds_rests (p ++ r) (after d.last d.before) new (d.since (p ++ r)))
+      let there = holds_at_then (p ++ r) old d.before (after d.last d.before)
+      (course_holds d.repeats before r) (step_holds d.last d.before d.acts now r) in
+      holds_at_then (p ++ r) old (after d.last d.before) new there
+      (holds_rests (p ++ r) (after d.last d.before) new (d.since (p ++ r)))
 
-pub tidied_holds : (t : Tidy) → (p : List ℕ) (old new : World) → PortCallDone p (tidy_call t) old new → (x : List ℕ) → is_way p x ≡ true → HoldsAt x old new
+pub tidied_holds : (t : Tidy) → (p : List ℕ) (old new : World)
+    → PortCallDone p (tidy_call t) old new → (x : List ℕ) → is_way p x ≡ true → HoldsAt x old new
 tidied_holds t p old new d x way =
     let rest : _ = way_rest p x way in
-    let whole : x ≡ (d.row.parent ++ d.row.number ∷ []) ++ rest.0 = rest.1 ∙ ap (λ l. l ++ rest.0) d.row.is in
+    let whole : x ≡ (d.row.parent ++ d.row.number ∷ []) ++ rest.0 = rest.1
+    ∙ ap (λ l. l ++ rest.0) d.row.is in
     subst (λ e. HoldsAt e old new) (sym whole)
-    (done_holds t d.row.parent d.row.number old new (subst (λ l. PortCallDone l (tidy_call t) old new) d.row.is d) d.row.reached rest.0)
+    (done_holds t d.row.parent d.row.number old new
+    (subst (λ l. PortCallDone l (tidy_call t) old new) d.row.is d) d.row.reached rest.0)

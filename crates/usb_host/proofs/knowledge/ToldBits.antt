@@ -1,5 +1,9 @@
 -- The ports of which a hub told are known, and show their changes.
-use Rattle.std.proofs.Common.{◌≡◌, ◌≢◌, ◌≤◌, ◌<◌, ◌⊎◌, ◌∙◌, ◌==◌, ◌/◌, ◌%◌, ◌^◌, ◌||◌, ◌&&◌, not, inl, inr, refl, sym, ap, subst, arith, if◌then◌else◌, ℕ, zero, suc, ◌+◌, ◌*◌, Bool, true, false, List, [], ◌∷◌, ◌++◌, length, length-append, take, Option, None, Some, is_some, Result, Ok, Err, is_ok, slice_get}
+use Rattle.std.proofs.Common.{◌≡◌, ◌≢◌, ◌≤◌, ◌<◌, ◌⊎◌, ◌∙◌, ◌==◌, ◌/◌, ◌%◌, ◌^◌, ◌||◌, ◌&&◌, not}
+use Rattle.std.proofs.Common.{inl, inr, refl, sym, ap, subst, arith, if◌then◌else◌, ℕ, zero, suc}
+use Rattle.std.proofs.Common.{◌+◌, ◌*◌, Bool, true, false, List, [], ◌∷◌, ◌++◌, length}
+use Rattle.std.proofs.Common.{length-append, take, Option, None, Some, is_some, Result, Ok, Err}
+use Rattle.std.proofs.Common.{is_ok, slice_get}
 use Rattle.std.specs.Prelude.{IsSome}
 use Rattle.std.proofs.lemmas.Bool.{cases_lt, eq-eqb, eqb-true, le-leb}
 use Rattle.std.proofs.lemmas.List.Elements.{All-append, All-cons, All-nil}
@@ -24,7 +28,8 @@ use Rattle.usb_world.proofs.Interface.{reach_on_way}
 use Rattle.usb_hub.proofs.Interface.{port_of_place, sane_there, state_of_place}
 use Rattle.usb_descriptor.specs.Device.{device_head_of, configuration_count}
 use Rattle.usb_enum.specs.declared.cause.Cause.{Cause}
-use Rattle.usb_enum.specs.declared.cause.Cause.TheVariants.{Silent, Busy, Stalled, BadDevice, TooDeep}
+use Rattle.usb_enum.specs.declared.cause.Cause.TheVariants.{Silent, Busy, Stalled, BadDevice}
+use Rattle.usb_enum.specs.declared.cause.Cause.TheVariants.{TooDeep}
 use Rattle.usb_enum.specs.declared.cause.Request.TheVariants as request
 use Rattle.usb_enum.specs.Device.{is_device, is_hub_device}
 use Rattle.usb_enum.specs.Verdicts.{facts_of, first_fault, read_verdict, verdict}
@@ -80,17 +85,20 @@ weight_of o weight = elim o [ None ↦ 0 | Some p ↦ if has_change p then weigh
 weigh : (row : List PortState) (i weight : ℕ) → Weighed row i weight
 weigh row i weight = pick (slice_get row i) refl
   where
-    at : (p : PortState) → slice_get row i ≡ Some p → (b : Bool) → has_change p ≡ b → Weighed row i weight
+    at : (p : PortState) → slice_get row i ≡ Some p → (b : Bool) → has_change p ≡ b
+        → Weighed row i weight
     at p there true is = record {
       times = 1;
       few = omega arith;
-      is = subst (λ (o : Option PortState). weight_of o weight ≡ weight * 1) (sym there) (subst (λ (b : Bool). (if b then weight else 0) ≡ weight * 1) (sym is) (omega arith));
+      is = subst (λ (o : Option PortState). weight_of o weight ≡ weight * 1) (sym there)
+          (subst (λ (b : Bool). (if b then weight else 0) ≡ weight * 1) (sym is) (omega arith));
       so = λ some. (p, there, is);
     }
     at p there false is = record {
       times = 0;
       few = omega arith;
-      is = subst (λ (o : Option PortState). weight_of o weight ≡ weight * 0) (sym there) (subst (λ (b : Bool). (if b then weight else 0) ≡ weight * 0) (sym is) (omega arith));
+      is = subst (λ (o : Option PortState). weight_of o weight ≡ weight * 0) (sym there)
+          (subst (λ (b : Bool). (if b then weight else 0) ≡ weight * 0) (sym is) (omega arith));
       so = λ some. absurd (omega (arith, some));
     }
 
@@ -98,7 +106,8 @@ weigh row i weight = pick (slice_get row i) refl
     pick None there = record {
       times = 0;
       few = omega arith;
-      is = subst (λ (o : Option PortState). weight_of o weight ≡ weight * 0) (sym there) (omega arith);
+      is = subst (λ (o : Option PortState). weight_of o weight ≡ weight * 0) (sym there)
+          (omega arith);
       so = λ some. absurd (omega (arith, some));
     }
     pick (Some p) there = at p there (has_change p) refl
@@ -125,7 +134,8 @@ module _ (row : List PortState) where
   g : Weighed row 6 128
   g = weigh row 6 128
 
-  whole : change_bits row ≡ 2 * a.times + 4 * b.times + 8 * c.times + 16 * d.times + 32 * e.times + 64 * f.times + 128 * g.times
+  whole : change_bits row ≡ 2 * a.times + 4 * b.times + 8 * c.times + 16 * d.times + 32 * e.times +
+      64 * f.times + 128 * g.times
   unfolding change_bits
   whole = omega (arith, a.is, b.is, c.is, d.is, e.is, f.is, g.is)
 
@@ -135,32 +145,92 @@ module _ (row : List PortState) where
 
   -- a bit that is set is that of a port with a change
   pub bit_changed : (i : ℕ) → i < 7 → has_bit (change_bits row) (suc i) ≡ true → HasChange row i
-  bit_changed zero less set = let one : change_bits row / 2 ^ 1 % 2 ≡ 1 = of_bit (change_bits row) 1 set in a.so (omega (arith, one, whole, a.few, b.few, c.few, d.few, e.few, f.few, g.few))
-  bit_changed (suc zero) less set = let one : change_bits row / 2 ^ 2 % 2 ≡ 1 = of_bit (change_bits row) 2 set in b.so (omega (arith, one, whole, a.few, b.few, c.few, d.few, e.few, f.few, g.few))
-  bit_changed (suc (suc zero)) less set = let one : change_bits row / 2 ^ 3 % 2 ≡ 1 = of_bit (change_bits row) 3 set in c.so (omega (arith, one, whole, a.few, b.few, c.few, d.few, e.few, f.few, g.few))
-  bit_changed (suc (suc (suc zero))) less set = let one : change_bits row / 2 ^ 4 % 2 ≡ 1 = of_bit (change_bits row) 4 set in d.so (omega (arith, one, whole, a.few, b.few, c.few, d.few, e.few, f.few, g.few))
-  bit_changed (suc (suc (suc (suc zero)))) less set = let one : change_bits row / 2 ^ 5 % 2 ≡ 1 = of_bit (change_bits row) 5 set in e.so (omega (arith, one, whole, a.few, b.few, c.few, d.few, e.few, f.few, g.few))
-  bit_changed (suc (suc (suc (suc (suc zero))))) less set = let one : change_bits row / 2 ^ 6 % 2 ≡ 1 = of_bit (change_bits row) 6 set in f.so (omega (arith, one, whole, a.few, b.few, c.few, d.few, e.few, f.few, g.few))
-  bit_changed (suc (suc (suc (suc (suc (suc zero)))))) less set = let one : change_bits row / 2 ^ 7 % 2 ≡ 1 = of_bit (change_bits row) 7 set in g.so (omega (arith, one, whole, a.few, b.few, c.few, d.few, e.few, f.few, g.few))
+  bit_changed zero less set = let one : change_bits row / 2 ^ 1 % 2 ≡ 1 =
+      of_bit (change_bits row) 1 set in
+      a.so (omega (arith, one, whole, a.few, b.few, c.few, d.few, e.few, f.few, g.few))
+  bit_changed (suc zero) less set = let one : change_bits row / 2 ^ 2 % 2 ≡ 1 =
+      of_bit (change_bits row) 2 set in
+      b.so (omega (arith, one, whole, a.few, b.few, c.few, d.few, e.few, f.few, g.few))
+  bit_changed (suc (suc zero)) less set = let one : change_bits row / 2 ^ 3 % 2 ≡ 1 =
+      of_bit (change_bits row) 3 set in
+      c.so (omega (arith, one, whole, a.few, b.few, c.few, d.few, e.few, f.few, g.few))
+  bit_changed (suc (suc (suc zero))) less set = let one : change_bits row / 2 ^ 4 % 2 ≡ 1 =
+      of_bit (change_bits row) 4 set in
+      d.so (omega (arith, one, whole, a.few, b.few, c.few, d.few, e.few, f.few, g.few))
+  bit_changed (suc (suc (suc (suc zero)))) less set = let one : change_bits row / 2 ^ 5 % 2 ≡ 1 =
+      of_bit (change_bits row) 5 set in
+      e.so (omega (arith, one, whole, a.few, b.few, c.few, d.few, e.few, f.few, g.few))
+  bit_changed (suc (suc (suc (suc (suc zero))))) less set = let one : change_bits row / 2 ^ 6 % 2
+      ≡ 1 = of_bit (change_bits row) 6 set in
+      f.so (omega (arith, one, whole, a.few, b.few, c.few, d.few, e.few, f.few, g.few))
+  bit_changed (suc (suc (suc (suc (suc (suc zero)))))) less set =
+      let one : change_bits row / 2 ^ 7 % 2 ≡ 1 = of_bit (change_bits row) 7 set in
+      g.so (omega (arith, one, whole, a.few, b.few, c.few, d.few, e.few, f.few, g.few))
   bit_changed (suc (suc (suc (suc (suc (suc (suc i))))))) less set = absurd (omega (arith, less))
 
   -- and one is, where not all are 0
-  pub bit_some : change_bits row ≢ 0 → (i : ℕ) × (i < 7) × (has_bit (change_bits row) (suc i) ≡ true)
+  pub bit_some : change_bits row ≢ 0 → (i : ℕ) × (i < 7)
+      × (has_bit (change_bits row) (suc i) ≡ true)
   bit_some some = elim (cases_lt 0 a.times) [
-    | inl one ↦ (0, omega arith, to_bit (change_bits row) 1 (omega (arith, one, whole, a.few, b.few, c.few, d.few, e.few, f.few, g.few)))
+    | inl one ↦ (
+      0,
+      omega arith,
+      to_bit (change_bits row) 1
+          (omega (arith, one, whole, a.few, b.few, c.few, d.few, e.few, f.few, g.few)),
+    )
     | inr no_a ↦ elim (cases_lt 0 b.times) [
-      | inl one ↦ (1, omega arith, to_bit (change_bits row) 2 (omega (arith, one, whole, a.few, b.few, c.few, d.few, e.few, f.few, g.few)))
+      | inl one ↦ (
+        1,
+        omega arith,
+        to_bit (change_bits row) 2
+            (omega (arith, one, whole, a.few, b.few, c.few, d.few, e.few, f.few, g.few)),
+      )
       | inr no_b ↦ elim (cases_lt 0 c.times) [
-        | inl one ↦ (2, omega arith, to_bit (change_bits row) 3 (omega (arith, one, whole, a.few, b.few, c.few, d.few, e.few, f.few, g.few)))
+        | inl one ↦ (
+          2,
+          omega arith,
+          to_bit (change_bits row) 3
+              (omega (arith, one, whole, a.few, b.few, c.few, d.few, e.few, f.few, g.few)),
+        )
         | inr no_c ↦ elim (cases_lt 0 d.times) [
-          | inl one ↦ (3, omega arith, to_bit (change_bits row) 4 (omega (arith, one, whole, a.few, b.few, c.few, d.few, e.few, f.few, g.few)))
+          | inl one ↦ (
+            3,
+            omega arith,
+            to_bit (change_bits row) 4
+                (omega (arith, one, whole, a.few, b.few, c.few, d.few, e.few, f.few, g.few)),
+          )
           | inr no_d ↦ elim (cases_lt 0 e.times) [
-            | inl one ↦ (4, omega arith, to_bit (change_bits row) 5 (omega (arith, one, whole, a.few, b.few, c.few, d.few, e.few, f.few, g.few)))
+            | inl one ↦ (
+              4,
+              omega arith,
+              to_bit (change_bits row) 5
+                  (omega (arith, one, whole, a.few, b.few, c.few, d.few, e.few, f.few, g.few)),
+            )
             | inr no_e ↦ elim (cases_lt 0 f.times) [
-              | inl one ↦ (5, omega arith, to_bit (change_bits row) 6 (omega (arith, one, whole, a.few, b.few, c.few, d.few, e.few, f.few, g.few)))
+              | inl one ↦ (
+                5,
+                omega arith,
+                to_bit (change_bits row) 6
+                    (omega (arith, one, whole, a.few, b.few, c.few, d.few, e.few, f.few, g.few)),
+              )
               | inr no_f ↦ elim (cases_lt 0 g.times) [
-                | inl one ↦ (6, omega arith, to_bit (change_bits row) 7 (omega (arith, one, whole, a.few, b.few, c.few, d.few, e.few, f.few, g.few)))
-                | inr no_g ↦ absurd (some (omega (arith, whole, no_a, no_b, no_c, no_d, no_e, no_f, no_g)))
+                | inl one ↦ (
+                  6,
+                  omega arith,
+                  to_bit (change_bits row) 7
+                      (omega (arith, one, whole, a.few, b.few, c.few, d.few, e.few, f.few, g.few)),
+                )
+                | inr no_g ↦ absurd (some (omega (
+                  arith,
+                  whole,
+                  no_a,
+                  no_b,
+                  no_c,
+                  no_d,
+                  no_e,
+                  no_f,
+                  no_g,
+                )))
               ]
             ]
           ]
@@ -173,7 +243,9 @@ module _ (row : List PortState) where
 
 -- a hub that was accepted is above the last tier
 deep_row : (a b c d f g h : Bool) (r : Result ℕ Cause) (n : ℕ)
-    → (if a then Err Silent else if b then Err Busy else if c then Err (Stalled request.Device) else if d then Err BadDevice else if f then Err (Stalled request.Address) else if g then Err BadDevice else if h then Err TooDeep else r) ≡ Ok n → h ≡ false
+    → (if a then Err Silent else if b then Err Busy else if c then Err (Stalled request.Device)
+    else if d then Err BadDevice else if f then Err (Stalled request.Address) else if g
+    then Err BadDevice else if h then Err TooDeep else r) ≡ Ok n → h ≡ false
 deep_row true b c d f g h r n e = absurd (cc e)
 deep_row false true c d f g h r n e = absurd (cc e)
 deep_row false false true d f g h r n e = absurd (cc e)
@@ -183,32 +255,39 @@ deep_row false false false false false true h r n e = absurd (cc e)
 deep_row false false false false false false true r n e = absurd (cc e)
 deep_row false false false false false false false r n e = refl
 
-facts_of-hub : (spec : Spec) (facts : HubFacts) → facts_of spec ≡ Some facts → is_hub_device spec.descriptor ≡ true
+facts_of-hub : (spec : Spec) (facts : HubFacts) → facts_of spec ≡ Some facts
+    → is_hub_device spec.descriptor ≡ true
 facts_of-hub spec facts is = pick (is_hub_device spec.descriptor) refl is
   where
     pick : (x : Bool) → is_hub_device spec.descriptor ≡ x → facts_of spec ≡ Some facts → x ≡ true
     pick true hub e = refl
     pick false hub e = let none : facts_of spec ≡ None = rw hub refl in absurd (cc (none, e))
 
-verdict-not_deep : (spec : Spec) (tier supply chosen : ℕ) (facts : HubFacts) → verdict spec tier supply ≡ Ok chosen → facts_of spec ≡ Some facts → tier ≡ 7 → ⊥
+verdict-not_deep : (spec : Spec) (tier supply chosen : ℕ) (facts : HubFacts)
+    → verdict spec tier supply ≡ Ok chosen → facts_of spec ≡ Some facts → tier ≡ 7 → ⊥
 unfolding verdict
 verdict-not_deep spec tier supply chosen facts e hub last =
     let row : (is_hub_device spec.descriptor && tier == 7) ≡ false =
-    deep_row spec.silent spec.busy spec.stalls.device (not (is_ok (device_head_of spec.low (take 8 spec.descriptor)))) spec.stalls.address
-    (not (is_device spec.low (take 18 spec.descriptor))) (is_hub_device spec.descriptor && tier == 7)
+    deep_row spec.silent spec.busy spec.stalls.device
+    (not (is_ok (device_head_of spec.low (take 8 spec.descriptor)))) spec.stalls.address
+    (not (is_device spec.low (take 18 spec.descriptor))) (is_hub_device spec.descriptor &&
+    tier == 7)
     (read_verdict spec supply (first_fault spec (configuration_count spec.descriptor))) chosen e in
-    let on : (is_hub_device spec.descriptor && tier == 7) ≡ true = rw (facts_of-hub spec facts hub, eq-eqb tier 7 last) refl in
+    let on : (is_hub_device spec.descriptor && tier == 7) ≡ true =
+    rw (facts_of-hub spec facts hub, eq-eqb tier 7 last) refl in
     cc (row, on)
 
 -- the port of a number
 
-row_port_of : (hub : List ℕ) (k : Ports) (b : PortState) (s : State) (below : Ports) (i : ℕ) → place k hub ≡ Some (full b s below)
+row_port_of : (hub : List ℕ) (k : Ports) (b : PortState) (s : State) (below : Ports) (i : ℕ)
+    → place k hub ≡ Some (full b s below)
     → port_there k (hub ++ (suc i ∷ [])) ≡ slice_get (row_of below) i
 row_port_of [] k b s below i e = absurd (cc e)
 row_port_of (zero ∷ q) k b s below i e = absurd (cc e)
 row_port_of (suc j ∷ q) k b s below i e = port_of_row k j q b s below i e
 
-row_of-hub_ports : (hub : List ℕ) (k : Ports) (b : PortState) (s : State) (below : Ports) → Consistent k → place k hub ≡ Some (full b s below)
+row_of-hub_ports : (hub : List ℕ) (k : Ports) (b : PortState) (s : State) (below : Ports)
+    → Consistent k → place k hub ≡ Some (full b s below)
     → length (row_of below) ≡ hub_ports s.spec.hub
 row_of-hub_ports [] k b s below sane e = absurd (cc e)
 row_of-hub_ports (zero ∷ q) k b s below sane e = absurd (cc e)
@@ -219,7 +298,8 @@ no_enable true e r off h = inl refl
 no_enable false true r off h = absurd (cc off)
 no_enable false false r off h = inr h
 
-known_by : (o : Option Finding) (device : Accepted) (facts : HubFacts) (below : Bool) (n : ℕ) → o ≡ Some (Device device) → device.hub ≡ Some facts
+known_by : (o : Option Finding) (device : Accepted) (facts : HubFacts) (below : Bool) (n : ℕ)
+    → o ≡ Some (Device device) → device.hub ≡ Some facts
     → n ≤ facts.ports → IsSome (port_found o below n)
 known_by o device facts below n is told most = rw (is, told, le-leb n facts.ports most) refl
 
@@ -227,14 +307,17 @@ row_on : (k : Ports) (hub : List ℕ) → reach k hub ≡ true → row_reached k
 row_on k [] on = refl
 row_on k (m ∷ p) on = on
 
-up_on : (k : Ports) (up hub : List ℕ) → 1 ≤ length up → is_way up hub ≡ true → reach k hub ≡ true → reach k up ≡ true
+up_on : (k : Ports) (up hub : List ℕ) → 1 ≤ length up → is_way up hub ≡ true → reach k hub ≡ true
+    → reach k up ≡ true
 up_on k [] hub some way on = absurd (omega (arith, some))
 up_on k (m ∷ p) hub some way on = reach_on_way k m p hub way on
 
 -- each port of which it told
 
-module _ (hub : List ℕ) (a b : HostState) (agrees : Agrees b.entries b.addresses) (s : HostInvariant a) (t : HostInvariant b) (before : a.world.fault ≡ None)
-    (still : b.world.fault ≡ None) (facts : HubFacts) (there : HubThere hub b.entries facts) (reached : reach b.world.roots hub ≡ true)
+module _ (hub : List ℕ) (a b : HostState) (agrees : Agrees b.entries b.addresses)
+    (s : HostInvariant a) (t : HostInvariant b) (before : a.world.fault ≡ None)
+    (still : b.world.fault ≡ None) (facts : HubFacts) (there : HubThere hub b.entries facts)
+    (reached : reach b.world.roots hub ≡ true)
     (bits : ℕ) (x : BitsOf hub a.world b.world bits) where
   abbrev device_at : State
   device_at = (reached_there b.world.roots hub reached).0
@@ -243,7 +326,8 @@ module _ (hub : List ℕ) (a b : HostState) (agrees : Agrees b.entries b.address
   stood_at = (reached_there b.world.roots hub reached).1
 
   truth : IsTruthOf b.entries hub there.device device_at
-  truth = t.truthful still hub there.device device_at (ap accepted_device_of there.found) reached stood_at
+  truth = t.truthful still hub there.device device_at (ap accepted_device_of there.found) reached
+      stood_at
 
   so_many : facts.ports ≡ hub_ports device_at.spec.hub
   so_many = facts_ports device_at.spec facts (sym truth.found.1.hub ∙ there.told)
@@ -257,33 +341,45 @@ module _ (hub : List ℕ) (a b : HostState) (agrees : Agrees b.entries b.address
   path : IsPath hub
   path = agrees.nested.path hub (Device there.device) there.found
 
-  deep_by : (above : Option (List ℕ)) → parent_of hub ≡ above → (o : Option KnownPort) → port_below above (port_on_hub hub) b.entries ≡ o → IsSome o
+  deep_by : (above : Option (List ℕ)) → parent_of hub ≡ above → (o : Option KnownPort)
+      → port_below above (port_on_hub hub) b.entries ≡ o → IsSome o
       → length hub ≡ 7 → ⊥
-  deep_by None is o e some long = let one : length hub ≡ 1 = ap length (root_alone hub path.0 is) in absurd (omega (arith, one, long))
+  deep_by None is o e some long = let one : length hub ≡ 1 = ap length (root_alone hub path.0 is) in
+      absurd (omega (arith, one, long))
   deep_by (Some up) is None e some long = cc some
   deep_by (Some up) is (Some port) e some long =
       let f : FoundPort (finding_at up b.entries) (is_below_hub up) (port_on_hub hub) port =
       port_found-some (finding_at up b.entries) (is_below_hub up) (port_on_hub hub) port e in
       let shorter : _ = parent_length hub up is in
-      let on : reach b.world.roots up ≡ true = up_on b.world.roots up hub shorter.1 (way_parent hub up is) reached in
+      let on : reach b.world.roots up ≡ true =
+      up_on b.world.roots up hub shorter.1 (way_parent hub up is) reached in
       let st : _ = reached_there b.world.roots up on in
-      let told : IsTruthOf b.entries up f.device st.0 = t.truthful still up f.device st.0 (ap accepted_device_of f.stands) on st.1 in
-      verdict-not_deep st.0.spec (tier_of up) (known_supply up b.entries) f.device.chosen f.facts told.found.0 (sym told.found.1.hub ∙ f.told)
+      let told : IsTruthOf b.entries up f.device st.0 =
+      t.truthful still up f.device st.0 (ap accepted_device_of f.stands) on st.1 in
+      verdict-not_deep st.0.spec (tier_of up) (known_supply up b.entries) f.device.chosen f.facts
+      told.found.0 (sym told.found.1.hub ∙ f.told)
       (omega (arith, shorter.0, long))
 
   -- no hub stands in the last tier
   above_last : length hub ≤ 6
   above_last = elim (cases_lt (length hub) 7) [
     | inl less ↦ omega (arith, less)
-    | inr most ↦ absurd (deep_by (parent_of hub) refl (known_port hub b.entries) refl (agrees.nested.each hub (Device there.device) there.found) (omega (arith, most, path.1)))
+    | inr most ↦ absurd (deep_by (parent_of hub) refl (known_port hub b.entries) refl
+        (agrees.nested.each hub (Device there.device) there.found) (omega (arith, most, path.1)))
   ]
 
   path_of_port : (i : ℕ) → i < 7 → IsPath (hub ++ (suc i ∷ []))
   path_of_port i less =
-      let long : length (hub ++ (suc i ∷ [])) ≡ length hub + 1 = length-append hub (suc i ∷ []) in
-      (omega (arith, long), omega (arith, long, above_last), All-append IsPortNumber hub (suc i ∷ []) path.2 (All-cons IsPortNumber (suc i) [] (omega arith, omega (arith, less)) (All-nil IsPortNumber)))
+      let long : length (hub ++ (suc i ∷ [])) ≡ length hub + 1 = length-append hub (suc i ∷ []) in (
+        omega (arith, long),
+        omega (arith, long, above_last),
+        All-append IsPortNumber hub
+            (suc i ∷ []) path.2 (All-cons IsPortNumber (suc i) [] (omega arith, omega (arith, less))
+            (All-nil IsPortNumber)),
+      )
 
-  module _ (same : (at_attempt x.mid).roots ≡ x.mid.roots) (i : ℕ) (less : i < 7) (set : has_bit bits (suc i) ≡ true) where
+  module _ (same : (at_attempt x.mid).roots ≡ x.mid.roots) (i : ℕ) (less : i < 7)
+      (set : has_bit bits (suc i) ≡ true) where
     changed : HasChange (row_of x.ports) i
     changed = bit_changed (row_of x.ports) i less (subst (λ n. has_bit n (suc i) ≡ true) x.told set)
 
@@ -294,46 +390,68 @@ module _ (hub : List ℕ) (a b : HostState) (agrees : Agrees b.entries b.address
 
     steady : changed.0.enable_changed ≡ false
     steady =
-        let q : _ = port_of-place (place x.mid.roots (hub ++ (suc i ∷ []))) changed.0 (sym (port_of_place x.mid.roots (hub ++ (suc i ∷ []))) ∙ port_then) in
-        ap (λ (y : PortState). y.enable_changed) (sym q.2) ∙ steady_place q.0 (sane_there x.mid.roots (hub ++ (suc i ∷ [])) q.0 sane_then q.1)
+        let q : _ = port_of-place (place x.mid.roots (hub ++ (suc i ∷ []))) changed.0
+        (sym (port_of_place x.mid.roots (hub ++ (suc i ∷ []))) ∙ port_then) in
+        ap (λ (y : PortState). y.enable_changed) (sym q.2)
+        ∙ steady_place q.0 (sane_there x.mid.roots (hub ++ (suc i ∷ [])) q.0 sane_then q.1)
 
     -- it shows its change
     shows_port : ShowsChange b.world (hub ++ (suc i ∷ []))
     shows_port =
         shows_on x.mid b.world hub (suc i) x.since (row_on b.world.roots hub reached)
-        (record { port = changed.0; there = port_then; changed = no_enable changed.0.connection_changed changed.0.enable_changed changed.0.reset_changed steady changed.2 })
+        (record {
+          port = changed.0;
+          there = port_then;
+          changed =
+              no_enable changed.0.connection_changed changed.0.enable_changed
+              changed.0.reset_changed steady changed.2;
+        })
 
     -- and the hub has it
     within : suc i ≤ facts.ports
     within =
-        let f : _ = full_of (place b.world.roots hub) (ap is_some (sym (state_of_place b.world.roots hub) ∙ stood_at)) in
-        let is : f.1 ≡ device_at = same_Some f.1 device_at (ap stands (sym f.3) ∙ sym (state_of_place b.world.roots hub) ∙ stood_at) in
-        let counted : length (row_of f.2) ≡ hub_ports f.1.spec.hub = row_of-hub_ports hub b.world.roots f.0 f.1 f.2 sane f.3 in
-        let stood : slice_get (row_of f.2) i ≡ Some shows_port.port = sym (row_port_of hub b.world.roots f.0 f.1 f.2 i f.3) ∙ shows_port.there in
-        let most : i < length (row_of f.2) = slice_get_within (row_of f.2) i shows_port.port stood in
+        let f : _ = full_of (place b.world.roots hub)
+        (ap is_some (sym (state_of_place b.world.roots hub) ∙ stood_at)) in
+        let is : f.1 ≡ device_at = same_Some f.1 device_at (ap stands (sym f.3)
+        ∙ sym (state_of_place b.world.roots hub) ∙ stood_at) in
+        let counted : length (row_of f.2) ≡ hub_ports f.1.spec.hub =
+        row_of-hub_ports hub b.world.roots f.0 f.1 f.2 sane f.3 in
+        let stood : slice_get (row_of f.2) i ≡ Some shows_port.port =
+        sym (row_port_of hub b.world.roots f.0 f.1 f.2 i f.3) ∙ shows_port.there in
+        let most : i < length (row_of f.2) = slice_get_within (row_of f.2) i shows_port.port
+        stood in
         omega (arith, most, counted, so_many, ap (λ (d : State). hub_ports d.spec.hub) is)
 
     known_there : IsPath (hub ++ (suc i ∷ [])) × IsSome (known_port (hub ++ (suc i ∷ [])) b.entries)
     known_there =
         let above : parent_of (hub ++ (suc i ∷ [])) ≡ Some hub = parent hub (suc i) path.0 in
         let number : suc i ≡ port_on_hub (hub ++ (suc i ∷ [])) =
-        same_last hub (suc i) (port_on_hub (hub ++ (suc i ∷ []))) (rejoined (hub ++ (suc i ∷ [])) hub above) in
+        same_last hub (suc i) (port_on_hub (hub ++ (suc i ∷ [])))
+        (rejoined (hub ++ (suc i ∷ [])) hub above) in
         let some : IsSome (port_below (Some hub) (suc i) b.entries) =
-        known_by (finding_at hub b.entries) there.device facts (is_below_hub hub) (suc i) there.found there.told within in
-        (path_of_port i less, subst (λ (p : Option (List ℕ)). IsSome (port_below p (port_on_hub (hub ++ (suc i ∷ []))) b.entries)) (sym above) (subst (λ n. IsSome (port_below (Some hub) n b.entries)) number some))
+        known_by (finding_at hub b.entries) there.device facts (is_below_hub hub) (suc i)
+        there.found there.told within in (
+          path_of_port i less,
+          subst (λ (p : Option (List ℕ)). IsSome
+              (port_below p (port_on_hub (hub ++ (suc i ∷ []))) b.entries)) (sym above)
+              (subst (λ n. IsSome (port_below (Some hub) n b.entries)) number some),
+        )
 
   module _ (same : (at_attempt x.mid).roots ≡ x.mid.roots) where
-    shows_each : (n : ℕ) → 1 ≤ n → n ≤ 7 → has_bit bits n ≡ true → ShowsChange b.world (hub ++ (n ∷ []))
+    shows_each : (n : ℕ) → 1 ≤ n → n ≤ 7 → has_bit bits n ≡ true
+        → ShowsChange b.world (hub ++ (n ∷ []))
     shows_each zero least most set = absurd (omega (arith, least))
     shows_each (suc i) least most set = shows_port same i (omega (arith, most)) set
 
-    known_each : (n : ℕ) → 1 ≤ n → n ≤ 7 → has_bit bits n ≡ true → IsPath (hub ++ (n ∷ [])) × IsSome (known_port (hub ++ (n ∷ [])) b.entries)
+    known_each : (n : ℕ) → 1 ≤ n → n ≤ 7 → has_bit bits n ≡ true → IsPath (hub ++ (n ∷ []))
+        × IsSome (known_port (hub ++ (n ∷ [])) b.entries)
     known_each zero least most set = absurd (omega (arith, least))
     known_each (suc i) least most set = known_there same i (omega (arith, most)) set
 
     shows_told : bits ≢ 0 → ShowsTold hub bits b
     shows_told some =
-        let first : (i : ℕ) × (i < 7) × (has_bit (change_bits (row_of x.ports)) (suc i) ≡ true) = bit_some (row_of x.ports) (λ none. some (x.told ∙ none)) in
+        let first : (i : ℕ) × (i < 7) × (has_bit (change_bits (row_of x.ports)) (suc i) ≡ true) =
+        bit_some (row_of x.ports) (λ none. some (x.told ∙ none)) in
         record {
           number = suc first.0;
           least = omega arith;
@@ -344,8 +462,10 @@ module _ (hub : List ℕ) (a b : HostState) (agrees : Agrees b.entries b.address
         }
 
   -- so it is, where no event came since the poll began
-  pub poll_shows : (at_attempt x.mid).taken ≤ b.world.taken → bits ≢ 0 → ShowsTold hub bits b ⊎ (a.world.taken + 1 ≤ b.world.taken)
+  pub poll_shows : (at_attempt x.mid).taken ≤ b.world.taken → bits ≢ 0 → ShowsTold hub bits b
+      ⊎ (a.world.taken + 1 ≤ b.world.taken)
   poll_shows came some = elim (cases_lt a.world.taken b.world.taken) [
     | inl less ↦ inr (omega (arith, less))
-    | inr none ↦ inl (shows_told (ready_none x.mid (omega (arith, none, came, course_taken (x.rests []), ready_taken x.mid))) some)
+    | inr none ↦ inl (shows_told (ready_none x.mid
+        (omega (arith, none, came, course_taken (x.rests []), ready_taken x.mid))) some)
   ]

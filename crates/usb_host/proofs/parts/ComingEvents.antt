@@ -15,15 +15,28 @@ use Rattle.usb_host.specs.Soundness.{KeepsInvariant}
 use Rattle.usb_host.proofs.knowledge.Soundness.{sound_event}
 
 -- what it knew is so as before, where the event came or none was left
-pub sound_came : (old new : HostState) (due : Option (Option Ask)) → Agrees old.entries old.addresses → TakesEvent old.world old.trace (Ok due) new.world new.trace → OnlyBusSteps old new → KeepsInvariant old new
+pub sound_came : (old new : HostState) (due : Option (Option Ask))
+    → Agrees old.entries old.addresses → TakesEvent old.world old.trace (Ok due) new.world new.trace
+    → OnlyBusSteps old new → KeepsInvariant old new
 sound_came old new due agrees takes rests =
-    sound_event old new agrees (ap (λ (h : HostState). h.entries) rests) (ap (λ (h : HostState). h.pipes) rests) takes.exact
-    (event_keeps old.world (Ok due) new.world takes.took takes.exact takes.kept takes.cut (λ reached none. cc (ap is_some none, takes.limit reached)))
+    sound_event old new agrees (ap (λ (h : HostState). h.entries) rests)
+    (ap (λ (h : HostState). h.pipes) rests) takes.exact
+    (event_keeps old.world (Ok due) new.world takes.took takes.exact takes.kept takes.cut
+    (λ reached none. cc (ap is_some none, takes.limit reached)))
 
 -- and devices hold the addresses that it has for them, also where the bus told a fault
-pub owning_came : (old new : HostState) (result : Result (Option (Option Ask)) BusFault) → old.stopped ≡ false → TakesEvent old.world old.trace result new.world new.trace → OnlyBusSteps old new → HostMapHolds old → HostMapHolds new
+pub owning_came : (old new : HostState) (result : Result (Option (Option Ask)) BusFault)
+    → old.stopped ≡ false → TakesEvent old.world old.trace result new.world new.trace
+    → OnlyBusSteps old new → HostMapHolds old → HostMapHolds new
 owning_came old new result running takes rests o =
     let kept : WhileBusWorks (MapHolds (claims old.entries)) new.world =
-    (event_keeps old.world result new.world takes.took takes.exact takes.kept takes.cut (λ reached none. cc (ap is_some none, takes.limit reached))).kept (claims old.entries) (o.owned running) in
+    (event_keeps old.world result new.world takes.took takes.exact takes.kept takes.cut
+    (λ reached none. cc (ap is_some none, takes.limit reached))).kept (claims old.entries)
+    (o.owned running) in
     let same : new.entries ≡ old.entries = ap (λ (h : HostState). h.entries) rests in
-    record { single = kept.single; owned = λ on. subst (λ (es : Entries). WhileBusWorks (MapHolds (claims es)) new.world) (sym same) kept }
+    record {
+      single = kept.single;
+      owned =
+          λ on. subst (λ (es : Entries). WhileBusWorks (MapHolds (claims es)) new.world) (sym same)
+          kept;
+    }

@@ -15,13 +15,15 @@ use Rattle.usb_table.specs.Entries.{Entries}
 use Rattle.usb_table.specs.Levels.{AllInSync}
 use Rattle.usb_table.specs.Table.{Table}
 use Rattle.usb_table.specs.Transfers.{SameSettings}
-use Rattle.usb_host.specs.Soundness.{PortsListed, DevicesAccurate, RefusalsJustified, EachStill, Accounted}
+use Rattle.usb_host.specs.Soundness.{PortsListed, DevicesAccurate, RefusalsJustified, EachStill}
+use Rattle.usb_host.specs.Soundness.{Accounted}
 use Rattle.usb_host.proofs.knowledge.KnowledgeKept.{known_each, truthful_stays, causes_stay}
 
 -- an event asks nothing of any port
 pub event_calm : (path : List ℕ) (w : World) → Course (LeavesPortAlone path) w (after event w)
 unfolding step_keeps_pending resets leaves_step
-event_calm path w = step event (record { spares = refl; rests = refl; leaves = refl }) (here (after event w))
+event_calm path w = step event (record { spares = refl; rests = refl; leaves = refl })
+    (here (after event w))
 
 -- each device that is reached after it is just as it was
 pub event_same : (w : World) → EachWas (λ x s v. v ≡ s) w (after event w)
@@ -34,21 +36,30 @@ event_same w j s on stands = record {
 }
 
 event_still : (w : World) → EachStill w (after event w)
-event_still w = each_wider (λ x s v. v ≡ s) SameSettings (λ j s v e. (ap (λ (d : State). d.spec) e, ap (λ (d : State). d.registers) e)) w (after event w) (event_same w)
+event_still w = each_wider (λ x s v. v ≡ s) SameSettings
+    (λ j s v e. (ap (λ (d : State). d.spec) e, ap (λ (d : State). d.registers) e)) w (after event w)
+    (event_same w)
 
 -- so pipes are as far as they were
 pub level_event : (table : Table) (w : World) → AllInSync table w → AllInSync table (after event w)
 unfolding resets after
 level_event table w level path = record {
-  level = λ device s at on stands. (level path).level device s at (unreset_reach event w path refl on).0 (sym (taken_state w.fault w path on) ∙ stands);
+  level = λ device s at on stands. (level path).level device s at
+      (unreset_reach event w path refl on).0 (sym (taken_state w.fault w path on) ∙ stands);
 }
 
-pub known_event : (w : World) (entries : Entries) → PortsListed w entries → PortsListed (after event w) entries
-known_event w entries known = known_each w (after event w) entries (course_later (event_calm [] w)).roots (λ path port. event_calm path w) known
+pub known_event : (w : World) (entries : Entries) → PortsListed w entries
+    → PortsListed (after event w) entries
+known_event w entries known = known_each w (after event w) entries
+    (course_later (event_calm [] w)).roots (λ path port. event_calm path w) known
 
-pub truthful_event : (w : World) (entries : Entries) → DevicesAccurate w entries → DevicesAccurate (after event w) entries
+pub truthful_event : (w : World) (entries : Entries) → DevicesAccurate w entries
+    → DevicesAccurate (after event w) entries
 truthful_event w entries told = truthful_stays w (after event w) entries (event_still w) told
 
-pub causes_event : (w : World) (entries : Entries) (addresses : Addresses) → Accounted (roots_of w) entries addresses → PortsListed w entries → RefusalsJustified w entries → RefusalsJustified (after event w) entries
+pub causes_event : (w : World) (entries : Entries) (addresses : Addresses)
+    → Accounted (roots_of w) entries addresses → PortsListed w entries → RefusalsJustified w entries
+    → RefusalsJustified (after event w) entries
 causes_event w entries addresses accounted known caused =
-    causes_stay w (after event w) entries addresses accounted known (λ path port. course_wider (λ s u x. x.spares) (event_calm path w)) caused
+    causes_stay w (after event w) entries addresses accounted known
+    (λ path port. course_wider (λ s u x. x.spares) (event_calm path w)) caused

@@ -1,7 +1,8 @@
 -- A host that was just made.
 use Rattle.usb_bus.specs.Traces.{Traced}
 use Rattle.usb_enum.proofs.Interface.{traced_in_order}
-use Rattle.std.proofs.Common.{◌≡◌, ◌⊎◌, ◌∙◌, ◌<◌, inl, inr, refl, sym, ap, arith, zero, suc, ℕ, List, Option, None, ◌∷◌, Bool, true, ◌&&◌, ◌||◌, if◌then◌else◌}
+use Rattle.std.proofs.Common.{◌≡◌, ◌⊎◌, ◌∙◌, ◌<◌, inl, inr, refl, sym, ap, arith, zero, suc, ℕ}
+use Rattle.std.proofs.Common.{List, Option, None, ◌∷◌, Bool, true, ◌&&◌, ◌||◌, if◌then◌else◌}
 use Rattle.std.specs.Prelude.{[], false, All, length, nat_lt}
 use Rattle.std.specs.FinSet as set
 use Rattle.std.proofs.lemmas.Bool.{lt-ltb}
@@ -24,19 +25,32 @@ use Rattle.usb_host.proofs.entries.Roots.{rooted_opening}
 use Rattle.usb_device.proofs.Interface.{power_enable}
 
 abbrev going : World → Option (List ℕ) → Table → Addresses → HostState
-going w t table addresses = record { world = w; trace = t; entries = table.entries; pipes = table.pipes; addresses = addresses; stopped = false }
+going w t table addresses = record {
+  world = w;
+  trace = t;
+  entries = table.entries;
+  pipes =
+      table.pipes;
+  addresses = addresses;
+  stopped = false;
+}
 
 abbrev world_powered : World → World
 world_powered w = record w { roots = with_power w.roots }
 
 -- power is given in silence
-pub powered_is_opening : (w0 w : World) (t0 t : Option (List ℕ)) (table : Table) (addresses : Addresses) → w ≡ world_powered w0 → t ≡ t0 → table ≡ empty → addresses ≡ set.empty → going w t table addresses ≡ opening_host w0 t0
+pub powered_is_opening : (w0 w : World) (t0 t : Option (List ℕ)) (table : Table)
+    (addresses : Addresses) → w ≡ world_powered w0 → t ≡ t0 → table ≡ empty → addresses ≡ set.empty
+    → going w t table addresses ≡ opening_host w0 t0
 powered_is_opening w0 w t0 t table addresses e silent f h =
-    ap (λ v. going v t table addresses) e ∙ ap (λ s. going (world_powered w0) s table addresses) silent ∙ ap (λ x. going (world_powered w0) t0 x addresses) f ∙ ap (λ s. going (world_powered w0) t0 empty s) h
+    ap (λ v. going v t table addresses) e ∙ ap (λ s. going (world_powered w0) s table addresses)
+    silent ∙ ap (λ x. going (world_powered w0) t0 x addresses) f
+    ∙ ap (λ s. going (world_powered w0) t0 empty s) h
 
 -- Power moves no device
 
-enable_by : (p b : Bool) (x y : PortState) → x.enable ≡ b → y.enable ≡ b → (if p then x else y).enable ≡ b
+enable_by : (p b : Bool) (x y : PortState) → x.enable ≡ b → y.enable ≡ b
+    → (if p then x else y).enable ≡ b
 enable_by true b x y left right = left
 enable_by false b x y left right = right
 
@@ -59,9 +73,11 @@ forgotten-with_power : (k : Ports) → all_forgotten (with_power k) ≡ with_pow
 unfolding with_power all_forgotten
 forgotten-with_power ended = refl
 forgotten-with_power (vacant b k) = ap (vacant (powered_on b)) (forgotten-with_power k)
-forgotten-with_power (taken b s a k) = ap (taken (powered_on b) (forgotten s) (all_forgotten a)) (forgotten-with_power k)
+forgotten-with_power (taken b s a k) = ap (taken (powered_on b) (forgotten s) (all_forgotten a))
+    (forgotten-with_power k)
 
-pub owning_opening : (w : World) (t : Option (List ℕ)) → IsUntouched w → HostMapHolds (opening_host w t)
+pub owning_opening : (w : World) (t : Option (List ℕ)) → IsUntouched w
+    → HostMapHolds (opening_host w t)
 owning_opening w t u = record {
   single = u.single;
   owned = λ going. record {
@@ -80,35 +96,50 @@ owning_opening w t u = record {
 power_given : (b : PortState) → (powered_on b).power ≡ true
 power_given b = pick b.power refl
   where
-    pick : (p : Bool) → b.power ≡ p → (if p then b else record b { power = true; connection_changed = is_attached b.attached || b.connection_changed }).power ≡ true
+    pick : (p : Bool) → b.power ≡ p
+        → (if p then b else record b {
+          power = true;
+          connection_changed =
+              is_attached b.attached || b.connection_changed;
+        }).power ≡ true
     pick true is = is
     pick false is = refl
 
 -- a device that stood at a port without power is told of
-told_given : (b : PortState) (low : Bool) → b.power ≡ false → b.attached ≡ speed_of low → ((powered_on b).power && (powered_on b).connection_changed) ≡ true
+told_given : (b : PortState) (low : Bool) → b.power ≡ false → b.attached ≡ speed_of low
+    → ((powered_on b).power && (powered_on b).connection_changed) ≡ true
 told_given b true dark at = rw (dark, at) refl
 told_given b false dark at = rw (dark, at) refl
 
-known-with_power : (k : Ports) (i : ℕ) → Consistent k → All (λ b. b.power ≡ false) (row_of k) → i < length (row_of (with_power k))
-    → (pending_at (with_power k) i [] ≡ true) ⊎ ((has_power_at (with_power k) i [] ≡ true) × (state_at (with_power k) i [] ≡ None))
+known-with_power : (k : Ports) (i : ℕ) → Consistent k → All (λ b. b.power ≡ false) (row_of k)
+    → i < length (row_of (with_power k))
+    → (pending_at (with_power k) i [] ≡ true)
+    ⊎ ((has_power_at (with_power k) i [] ≡ true) × (state_at (with_power k) i [] ≡ None))
 unfolding with_power Consistent row_of pending_at has_power_at state_at
 known-with_power ended i h dark lt = absurd (omega (arith, lt))
 known-with_power (vacant b k) zero h dark lt = inr (power_given b, refl)
-known-with_power (vacant b k) (suc i) h dark lt = known-with_power k i h.2 (All-tail (λ b. b.power ≡ false) b (row_of k) dark) (omega (arith, lt))
-known-with_power (taken b s a k) zero h dark lt = inl (told_given b s.spec.low (All-head (λ b. b.power ≡ false) b (row_of k) dark) h.1)
-known-with_power (taken b s a k) (suc i) h dark lt = known-with_power k i h.3 (All-tail (λ b. b.power ≡ false) b (row_of k) dark) (omega (arith, lt))
+known-with_power (vacant b k) (suc i) h dark lt =
+    known-with_power k i h.2 (All-tail (λ b. b.power ≡ false) b (row_of k) dark) (omega (arith, lt))
+known-with_power (taken b s a k) zero h dark lt =
+    inl (told_given b s.spec.low (All-head (λ b. b.power ≡ false) b (row_of k) dark) h.1)
+known-with_power (taken b s a k) (suc i) h dark lt =
+    known-with_power k i h.3 (All-tail (λ b. b.power ≡ false) b (row_of k) dark) (omega (arith, lt))
 
 known_opening : (w : World) → IsUnpowered w → PortsListed (world_powered w) []
 unfolding parent_of port_on_hub
 known_opening w u [] port = absurd (omega (arith, port.some))
 known_opening w u (zero ∷ []) port = absurd (omega (arith, port.port.0))
-known_opening w u (suc i ∷ []) port = known-with_power w.roots i u.order.sane u.off (omega (arith, port.port.1))
+known_opening w u (suc i ∷ []) port = known-with_power w.roots i u.order.sane u.off
+    (omega (arith, port.port.1))
 known_opening w u (n ∷ m ∷ rest) port =
-    let long : nat_lt 1 (length (n ∷ m ∷ rest)) ≡ true = lt-ltb 1 (length (n ∷ m ∷ rest)) (omega arith) in
+    let long : nat_lt 1 (length (n ∷ m ∷ rest)) ≡ true =
+    lt-ltb 1 (length (n ∷ m ∷ rest)) (omega arith) in
     let wrong = rw long at port.port in
     absurd wrong
 
-pub sound_opening : (w : World) (t : Option (List ℕ)) → Traced w t (opening_host w t).world (opening_host w t).trace → IsUntouched w → IsUnpowered w → HostInvariant (opening_host w t)
+pub sound_opening : (w : World) (t : Option (List ℕ))
+    → Traced w t (opening_host w t).world (opening_host w t).trace → IsUntouched w → IsUnpowered w
+    → HostInvariant (opening_host w t)
 sound_opening w t traced untouched u = record {
   owned = (owning_opening w t untouched).owned refl;
   rooted = rooted_opening w t;

@@ -26,7 +26,8 @@ length_upto (suc n) ended = refl
 length_upto (suc n) (vacant b k) = ap (λ m. suc m) (length_upto n k)
 length_upto (suc n) (taken b s a k) = ap (λ m. suc m) (length_upto n k)
 
-set_one : (n : ℕ) (k : Ports) → changed_at (called SetPower) (powered_upto n k) n [] ≡ powered_upto (suc n) k
+set_one : (n : ℕ) (k : Ports) → changed_at (called SetPower) (powered_upto n k) n []
+    ≡ powered_upto (suc n) k
 unfolding powered_upto changed_at
 set_one zero ended = refl
 set_one zero (vacant b k) = refl
@@ -48,16 +49,21 @@ pub powered_none : (w : World) → w ≡ powered_world 0 w
 unfolding powered_upto
 powered_none w = refl
 
-powers_next : (w0 : World) (n : ℕ) → after (root_call SetPower (suc n)) (powered_world n w0) ≡ powered_world (suc n) w0
+powers_next : (w0 : World) (n : ℕ) → after (root_call SetPower (suc n)) (powered_world n w0)
+    ≡ powered_world (suc n) w0
 unfolding after
 powers_next w0 n = ap (λ r. record w0 { roots = r }) (set_one n w0.roots)
 
-pub powers_one : (w0 w v : World) (port : ℕ) → 1 ≤ port → w ≡ powered_world (port - 1) w0 → SetsRoot port PORT_POWER w v → v ≡ powered_world port w0
+pub powers_one : (w0 w v : World) (port : ℕ) → 1 ≤ port → w ≡ powered_world (port - 1) w0
+    → SetsRoot port PORT_POWER w v → v ≡ powered_world port w0
 powers_one w0 w v port least e s =
     let n : ℕ = port - 1 in
     let next : suc n ≡ port = omega (arith, least) in
-    s.step SetPower refl ∙ ap (λ x. after (root_call SetPower port) x) e ∙ ap (λ m. after (root_call SetPower m) (powered_world n w0)) (sym next)
+    s.step SetPower refl ∙ ap (λ x. after (root_call SetPower port) x) e
+    ∙ ap (λ m. after (root_call SetPower m) (powered_world n w0)) (sym next)
     ∙ powers_next w0 n ∙ ap (λ m. powered_world m w0) next
 
-pub powered_all : (w0 w : World) (n : ℕ) → n ≡ roots_of w0 → w ≡ powered_world n w0 → w ≡ record w0 { roots = with_power w0.roots }
-powered_all w0 w n e h = h ∙ ap (λ m. powered_world m w0) e ∙ ap (λ r. record w0 { roots = r }) (all_upto w0.roots)
+pub powered_all : (w0 w : World) (n : ℕ) → n ≡ roots_of w0 → w ≡ powered_world n w0
+    → w ≡ record w0 { roots = with_power w0.roots }
+powered_all w0 w n e h = h ∙ ap (λ m. powered_world m w0) e
+    ∙ ap (λ r. record w0 { roots = r }) (all_upto w0.roots)

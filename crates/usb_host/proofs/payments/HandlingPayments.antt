@@ -1,5 +1,6 @@
 -- What was left to do pays for the handling of a port.
-use Rattle.std.proofs.Common.{◌≡◌, ◌≤◌, ◌⊎◌, ◌∙◌, inl, inr, refl, sym, ap, subst, arith, ℕ, ◌+◌, ◌*◌, false, List, [], ◌∷◌, ◌++◌, Option, None, Some, Result, Ok, Err}
+use Rattle.std.proofs.Common.{◌≡◌, ◌≤◌, ◌⊎◌, ◌∙◌, inl, inr, refl, sym, ap, subst, arith, ℕ, ◌+◌}
+use Rattle.std.proofs.Common.{◌*◌, false, List, [], ◌∷◌, ◌++◌, Option, None, Some, Result, Ok, Err}
 use Rattle.std.specs.Prelude.{IsErr, IsSome, IsSomeAnd, OnOk, IfErr, IfOk, is_some, length}
 use Rattle.std.proofs.Math.Nat.{mul-le-mul_left}
 use Rattle.usb_port.specs.Order.{parent_of, port_on_hub}
@@ -23,24 +24,29 @@ use Rattle.usb_table.proofs.Interface.{FoundPort, port_found-some}
 use Rattle.usb_enum.specs.declared.finding.Finding.{Finding}
 use Rattle.usb_host.specs.Backlog.{FindsNone, ServePaid, hubs, found, bare, tidied, calm}
 use Rattle.usb_host.specs.Bounds.{deciding_bound, drop_bound, handling_bound, serving_bound}
-use Rattle.usb_host.specs.Budget.{NumberPaid, Pays, PaysPart, PortPaid, Weights, WorksOn, handling_most, hub_weight, paid, idle}
+use Rattle.usb_host.specs.Budget.{NumberPaid, Pays, PaysPart, PortPaid, Weights, WorksOn}
+use Rattle.usb_host.specs.Budget.{handling_most, hub_weight, paid, idle}
 use Rattle.usb_host.specs.HostState.{HostState}
 use Rattle.usb_host.specs.PortHandling.{ServesSound}
 use Rattle.usb_host.specs.Ports.{EndsAs, StandsAt}
 use Rattle.usb_host.specs.Progress.{HostSteps}
-use Rattle.usb_host.specs.Service.{FinishesAt, HandlesBelow, HandlesNumber, HandlesPort, HasHub, ServedAt, ServesPort, StaysOrForgets, port_known, port_unknown}
+use Rattle.usb_host.specs.Service.{FinishesAt, HandlesBelow, HandlesNumber, HandlesPort, HasHub}
+use Rattle.usb_host.specs.Service.{ServedAt, ServesPort, StaysOrForgets, port_known, port_unknown}
 use Rattle.usb_host.specs.declared.fault.HostFault.{HostFault}
 use Rattle.usb_host.specs.declared.host.Round.{Round}
 use Rattle.usb_host.specs.declared.host.Round.TheVariants.{Worked, Quiet}
 use Rattle.usb_host.proofs.ParentPaths.{parent_length}
 use Rattle.usb_host.proofs.RoundParts.{part-fails, part-none, part-wider}
-use Rattle.usb_host.proofs.payments.Payments.{few_stop, looks_pay, is_err-if_ok, pays_part_failed, plain_costs, plain_pays, works_on-plan, ports_after, works_on-ports}
+use Rattle.usb_host.proofs.payments.Payments.{few_stop, looks_pay, is_err-if_ok, pays_part_failed}
+use Rattle.usb_host.proofs.payments.Payments.{plain_costs, plain_pays, works_on-plan, ports_after}
+use Rattle.usb_host.proofs.payments.Payments.{works_on-ports}
 use Rattle.usb_host.proofs.knowledge.Places.{finding-kept}
 use Rattle.usb_host.proofs.PortLocations.{lost_above}
 
 -- The hub of a port
 
-has_by : (path : List ℕ) (es : Entries) (port : KnownPort) (above : Option (List ℕ)) → port_below above (port_on_hub path) es ≡ Some port → IsSome above
+has_by : (path : List ℕ) (es : Entries) (port : KnownPort) (above : Option (List ℕ))
+    → port_below above (port_on_hub path) es ≡ Some port → IsSome above
     → IsSomeAnd above (λ hub. IsSome (hub_facts_at hub es))
 has_by path es port None known some = absurd (cc some)
 has_by path es port (Some hub) known some =
@@ -48,7 +54,8 @@ has_by path es port (Some hub) known some =
     port_found-some (finding_at hub es) (is_below_hub hub) (port_on_hub path) port known in
     ap is_some (ap hub_facts_in x.stands ∙ x.told)
 
-hub_facts-without : (path : List ℕ) (es : Entries) (above : Option (List ℕ)) → parent_of path ≡ above → IsSomeAnd above (λ hub. IsSome (hub_facts_at hub es))
+hub_facts-without : (path : List ℕ) (es : Entries) (above : Option (List ℕ))
+    → parent_of path ≡ above → IsSomeAnd above (λ hub. IsSome (hub_facts_at hub es))
     → IsSomeAnd above (λ hub. IsSome (hub_facts_at hub (without path es)))
 hub_facts-without path es None is h = h
 hub_facts-without path es (Some hub) is h =
@@ -57,46 +64,79 @@ hub_facts-without path es (Some hub) is h =
     subst (λ (o : Option Finding). IsSome (hub_facts_in o)) (sym (finding-kept path hub es away)) h
 
 -- it is listed yet where the port was forgotten
-has_hub : (path : List ℕ) (old new : Entries) → StaysOrForgets path old new → HasHub path old → HasHub path new
+has_hub : (path : List ℕ) (old new : Entries) → StaysOrForgets path old new → HasHub path old
+    → HasHub path new
 has_hub path old new (inl same) h = subst (HasHub path) (sym same) h
-has_hub path old new (inr gone) h = subst (HasHub path) (sym gone) (hub_facts-without path old (parent_of path) refl h)
+has_hub path old new (inr gone) h = subst (HasHub path) (sym gone)
+    (hub_facts-without path old (parent_of path) refl h)
 
 -- A port was served
 
-bare_pays : (c : Weights) (a b : HostState) → FindsNone deciding_bound a b → PaysBare a.world b.world → Pays c (c.polls + 12768) a b
+bare_pays : (c : Weights) (a b : HostState) → FindsNone deciding_bound a b
+    → PaysBare a.world b.world → Pays c (c.polls + 12768) a b
 bare_pays c a b f x = elim x.paid [
-  | inl look ↦ plain_pays c 7200 (c.polls + 12768) 1 0 0 0 a b (omega (arith, f.went.spends.most)) look (omega (arith, x.strays)) (omega (arith, f.hubs)) (omega (arith, f.went.spends.onward)) (omega arith)
+  | inl look ↦ plain_pays c 7200 (c.polls + 12768) 1 0 0 0 a b (omega (arith, f.went.spends.most))
+      look (omega (arith, x.strays)) (omega (arith, f.hubs)) (omega (arith, f.went.spends.onward))
+      (omega arith)
   | inr more ↦ elim more [
-    | inl stray ↦ plain_pays c 7200 (c.polls + 12768) 0 1 0 0 a b (omega (arith, f.went.spends.most)) (omega (arith, x.looks)) stray (omega (arith, f.hubs)) (omega (arith, f.went.spends.onward)) (omega arith)
-    | inr came ↦ plain_pays c 7200 (c.polls + 12768) 0 0 0 1 a b (omega (arith, f.went.spends.most)) (omega (arith, x.looks)) (omega (arith, x.strays)) (omega (arith, f.hubs)) came (omega arith)
+    | inl stray ↦ plain_pays c 7200 (c.polls + 12768) 0 1 0 0 a b
+        (omega (arith, f.went.spends.most)) (omega (arith, x.looks)) stray (omega (arith, f.hubs))
+        (omega (arith, f.went.spends.onward)) (omega arith)
+    | inr came ↦ plain_pays c 7200 (c.polls + 12768) 0 0 0 1 a b (omega (arith, f.went.spends.most))
+        (omega (arith, x.looks)) (omega (arith, x.strays)) (omega (arith, f.hubs)) came
+        (omega arith)
   ]
 ]
 
-module _ (c : Weights) (path : List ℕ) (a b : HostState) (few : b.world.attempts ≤ a.world.attempts + (257200 + 100 * c.most))
+module _ (c : Weights) (path : List ℕ) (a b : HostState) (few : b.world.attempts
+    ≤ a.world.attempts + (257200 + 100 * c.most))
     (on : a.world.taken ≤ b.world.taken) (more : hubs b.entries ≤ hubs a.entries + 1) where
   pub port_paid : ServePaid path a b → PortPaid c path a b
-  port_paid (found x) = let y = mul-le-mul_left (hub_weight c) more in paid (looks_pay c (257200 + 100 * c.most) (c.polls + 12768) a b few x.looks x.strays on (omega (arith, y)))
+  port_paid (found x) = let y = mul-le-mul_left (hub_weight c) more in
+      paid (looks_pay c (257200 + 100 * c.most) (c.polls + 12768) a b few x.looks x.strays on
+      (omega (arith, y)))
   port_paid (bare x f) = paid (bare_pays c a b f x)
-  port_paid (tidied x f) = paid (bare_pays c a b f (record { looks = x.looks; strays = x.strays; paid = inr x.paid }))
+  port_paid (tidied x f) = paid (bare_pays c a b f (record {
+    looks = x.looks;
+    strays = x.strays;
+    paid = inr x.paid;
+  }))
   port_paid (calm status mid told off steady x f) =
-      idle status mid told off steady (plain_costs c 2000 a b (omega (arith, f.went.spends.most)) x.looks x.strays f.hubs on)
+      idle status mid told off steady (plain_costs c 2000 a b (omega (arith, f.went.spends.most))
+      x.looks x.strays f.hubs on)
 
   -- A hub that is lost was dropped
 
   few_found : ServePaid path a b ⊎ (KeepsPlain a.world b.world × FindsNone deciding_bound a b)
-      → PaysLook a.world b.world ⊎ (KeepsPlain a.world b.world × (b.world.attempts ≤ a.world.attempts + 7200) × (hubs b.entries ≤ hubs a.entries))
+      → PaysLook a.world b.world ⊎ (KeepsPlain a.world b.world
+      × (b.world.attempts ≤ a.world.attempts + 7200) × (hubs b.entries ≤ hubs a.entries))
   few_found (inl (found x)) = inl x
-  few_found (inl (bare x f)) = inr (record { looks = x.looks; strays = x.strays }, omega (arith, f.went.spends.most), f.hubs)
-  few_found (inl (tidied x f)) = inr (record { looks = x.looks; strays = x.strays }, omega (arith, f.went.spends.most), f.hubs)
-  few_found (inl (calm status mid told off steady x f)) = inr (x, omega (arith, f.went.spends.most), f.hubs)
+  few_found (inl (bare x f)) = inr (
+    record { looks = x.looks; strays = x.strays },
+    omega (arith, f.went.spends.most),
+    f.hubs,
+  )
+  few_found (inl (tidied x f)) = inr (
+    record { looks = x.looks; strays = x.strays },
+    omega (arith, f.went.spends.most),
+    f.hubs,
+  )
+  few_found (inl (calm status mid told off steady x f)) =
+      inr (x, omega (arith, f.went.spends.most), f.hubs)
   few_found (inr x) = inr (x.0, omega (arith, x.1.went.spends.most), x.1.hubs)
 
-  pub lost_paid : (d : HostState) → ServePaid path a b ⊎ (KeepsPlain a.world b.world × FindsNone deciding_bound a b) → AtPorts b.world.left
-      → KeepsAll b.world d.world → d.world.attempts ≤ b.world.attempts + 11200 → hubs d.entries + 1 ≤ hubs b.entries → Pays c (c.polls + 12768) a d
+  pub lost_paid : (d : HostState) → ServePaid path a b
+      ⊎ (KeepsPlain a.world b.world × FindsNone deciding_bound a b) → AtPorts b.world.left
+      → KeepsAll b.world d.world → d.world.attempts ≤ b.world.attempts + 11200
+      → hubs d.entries + 1 ≤ hubs b.entries → Pays c (c.polls + 12768) a d
   lost_paid d served ports keeps dropped fewer = elim (few_found served) [
-    | inl x ↦ looks_pay c (268400 + 100 * c.most) (c.polls + 12768) a d (omega (arith, few, dropped)) (omega (arith, x.looks, all.looks, all.onward)) (omega (arith, x.strays, all.strays)) (omega (arith, on, all.onward))
+    | inl x ↦ looks_pay c (268400 + 100 * c.most) (c.polls + 12768) a d
+        (omega (arith, few, dropped)) (omega (arith, x.looks, all.looks, all.onward))
+        (omega (arith, x.strays, all.strays)) (omega (arith, on, all.onward))
         (let y = mul-le-mul_left (hub_weight c) (kept x) in omega (arith, y))
-    | inr x ↦ plain_pays c 18400 (c.polls + 12768) 0 0 1 0 a d (omega (arith, x.1, dropped)) (omega (arith, x.0.looks, all.looks)) (omega (arith, x.0.strays, all.strays)) (omega (arith, x.2, fewer)) (omega (arith, on, all.onward)) (omega arith)
+    | inr x ↦ plain_pays c 18400 (c.polls + 12768) 0 0 1 0 a d (omega (arith, x.1, dropped))
+        (omega (arith, x.0.looks, all.looks)) (omega (arith, x.0.strays, all.strays))
+        (omega (arith, x.2, fewer)) (omega (arith, on, all.onward)) (omega arith)
   ]
     where
       all : KeepsBy unmarked unmarked unmarked b.world d.world
@@ -107,42 +147,61 @@ module _ (c : Weights) (path : List ℕ) (a b : HostState) (few : b.world.attemp
 
 -- A port was handled
 
-module _ (path : List ℕ) (port : KnownPort) (a b d : HostState) (s : StandsAt path port a) (first : HostSteps serving_bound a b)
+module _ (path : List ℕ) (port : KnownPort) (a b d : HostState) (s : StandsAt path port a)
+    (first : HostSteps serving_bound a b)
     (second : HostSteps drop_bound b d) where
-  few_served : (c : Weights) (plan : PlanData) (served : Result (Unit {0}) EnumFault) → ServesPort path port a served b → WorksOn c plan a
+  few_served : (c : Weights) (plan : PlanData) (served : Result (Unit {0}) EnumFault)
+      → ServesPort path port a served b → WorksOn c plan a
       → b.world.attempts ≤ a.world.attempts + (257200 + 100 * c.most)
-  few_served c plan served x w = omega (arith, x.pays.few w.sound c.most (λ still. works_on-plan c plan a w))
+  few_served c plan served x w = omega (
+    arith,
+    x.pays.few w.sound c.most
+        (λ still. works_on-plan c plan a w),
+  )
 
-  module _ (c : Weights) (plan : PlanData) (w : WorksOn c plan a) (still : d.world.fault ≡ None) where
-    here : b.world.fault ≡ None
-    here = went_sound drop_bound b.world d.world second still
+  module _ (c : Weights) (plan : PlanData) (w : WorksOn c plan a) (still : d.world.fault ≡ None)
+    where
+      here : b.world.fault ≡ None
+      here = went_sound drop_bound b.world d.world second still
 
-    done_pays : (served : Result (Unit {0}) EnumFault) (result : Result (Unit {0}) HostFault) → EndsAs served result
-        → IfErr served (λ fault. FaultAllowedAt port.port fault b.world) → ServesSound path a served b → ServesPort path port a served b
-        → FinishesAt path served b result d → AtPorts b.world.left
-        → IfOk result (λ done. PortPaid c path a d)
-    done_pays (Ok done) (Ok x) ends told sound serves finishes ports =
-        subst (PortPaid c path a) (sym finishes.left)
-        (port_paid c path a b (few_served c plan (Ok done) serves w) first.spends.onward serves.hubs (serves.pays.pays w.sound (works_on-ports c plan a w) here))
-    done_pays (Err ParentLost) (Ok x) ends told sound serves finishes ports =
-        let has : HasHub path a.entries =
-        has_by path a.entries port (parent_of path) s.known (lost_above path a.entries port b.world told (parent_of path) refl s.known) in
-        paid
-        (lost_paid c path a b (few_served c plan (Err ParentLost) serves w) first.spends.onward serves.hubs d (serves.pays.pays w.sound (works_on-ports c plan a w) here) ports
-        (finishes.drops.backlog (sound.sound w.sound) still) (omega (arith, second.spends.most))
-        (finishes.fewer refl (has_hub path a.entries b.entries (serves.served w.sound) has)))
-    done_pays (Err (Bus fault)) (Ok x) ends told sound serves finishes ports = absurd (cc ends)
-    done_pays (Err Memory) (Ok x) ends told sound serves finishes ports = absurd (cc ends)
-    done_pays (Ok done) (Err other) ends told sound serves finishes ports = tt
-    done_pays (Err fault) (Err other) ends told sound serves finishes ports = tt
+      done_pays : (served : Result (Unit {0}) EnumFault) (result : Result (Unit {0}) HostFault)
+          → EndsAs served result
+          → IfErr served (λ fault. FaultAllowedAt port.port fault b.world)
+          → ServesSound path a served b → ServesPort path port a served b
+          → FinishesAt path served b result d → AtPorts b.world.left
+          → IfOk result (λ done. PortPaid c path a d)
+      done_pays (Ok done) (Ok x) ends told sound serves finishes ports =
+          subst (PortPaid c path a) (sym finishes.left)
+          (port_paid c path a b (few_served c plan (Ok done) serves w) first.spends.onward
+          serves.hubs
+          (serves.pays.pays w.sound (works_on-ports c plan a w) here))
+      done_pays (Err ParentLost) (Ok x) ends told sound serves finishes ports =
+          let has : HasHub path a.entries =
+          has_by path a.entries port (parent_of path) s.known
+          (lost_above path a.entries port b.world told (parent_of path) refl s.known) in
+          paid
+          (lost_paid c path a b (few_served c plan (Err ParentLost) serves w) first.spends.onward
+          serves.hubs d (serves.pays.pays w.sound (works_on-ports c plan a w) here) ports
+          (finishes.drops.backlog (sound.sound w.sound) still) (omega (arith, second.spends.most))
+          (finishes.fewer refl (has_hub path a.entries b.entries (serves.served w.sound) has)))
+      done_pays (Err (Bus fault)) (Ok x) ends told sound serves finishes ports = absurd (cc ends)
+      done_pays (Err Memory) (Ok x) ends told sound serves finishes ports = absurd (cc ends)
+      done_pays (Ok done) (Err other) ends told sound serves finishes ports = tt
+      done_pays (Err fault) (Err other) ends told sound serves finishes ports = tt
 
-  pub handling_pays : (served : Result (Unit {0}) EnumFault) (result : Result (Unit {0}) HostFault) → EndsAs served result
-      → IfErr served (λ fault. FaultAllowedAt port.port fault b.world) → ServesSound path a served b → ServesPort path port a served b
+  pub handling_pays : (served : Result (Unit {0}) EnumFault) (result : Result (Unit {0}) HostFault)
+      → EndsAs served result
+      → IfErr served (λ fault. FaultAllowedAt port.port fault b.world) → ServesSound path a served b
+      → ServesPort path port a served b
       → FinishesAt path served b result d
       → PaysPart handling_most (λ c done. PortPaid c path) a result d
   handling_pays served result ends told sound serves finishes = record {
-    stops = λ c plan w. few_stop c (handling_most c) a d (omega (arith, few_served c plan served serves w, second.spends.most)) (omega (arith, first.spends.onward, second.spends.onward));
-    pays = λ c plan w still. done_pays c plan w still served result ends told sound serves finishes (ports_after serving_bound c plan a b first w (went_sound drop_bound b.world d.world second still));
+    stops = λ c plan w. few_stop c (handling_most c) a d
+        (omega (arith, few_served c plan served serves w, second.spends.most))
+        (omega (arith, first.spends.onward, second.spends.onward));
+    pays = λ c plan w still. done_pays c plan w still served result ends told sound serves finishes
+        (ports_after serving_bound c plan a b first w
+        (went_sound drop_bound b.world d.world second still));
   }
 
 -- A port of a hub
@@ -169,7 +228,8 @@ pub number_stops : (hub : List ℕ) (number : ℕ) (p : List ℕ) (due : Type 0)
 number_stops hub number p due a b fault other e x = record {
   part = part-fails handling_bound handling_bound a b fault other x.part e (omega arith);
   handled = is_err-if_ok other (λ round. HandlesBelow hub number round a b) e;
-  pays = pays_part_failed other (Err fault) handling_most (λ (c : Weights). NumberPaid c hub number) _ a
+  pays = pays_part_failed other (Err fault) handling_most (λ (c : Weights). NumberPaid c hub number)
+      _ a
       b e x.pays;
 }
 
@@ -189,7 +249,8 @@ number_unknown hub number h unknown = record {
 -- A hub was dropped
 
 pub hubs_dropped : (result : Result (Unit {0}) HostFault) (hub : List ℕ) (a b : HostState)
-    → OnOk result (IsSome (hub_facts_at hub a.entries) → hubs b.entries + 1 ≤ hubs a.entries) → IsSome (hub_facts_at hub a.entries)
+    → OnOk result (IsSome (hub_facts_at hub a.entries) → hubs b.entries + 1 ≤ hubs a.entries)
+    → IsSome (hub_facts_at hub a.entries)
     → OnOk result (hubs b.entries + 1 ≤ hubs a.entries)
 hubs_dropped (Ok done) hub a b fewer some = fewer some
 hubs_dropped (Err fault) hub a b fewer some = tt

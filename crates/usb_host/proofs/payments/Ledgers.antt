@@ -2,7 +2,8 @@
 use Rattle.std.proofs.Common.{◌≤◌, ℕ, ◌+◌, ◌*◌, arith}
 use Rattle.std.proofs.Math.Nat.{mul-le-mul_left}
 
--- so many looks, other changes and hubs, where the texts of a device say w bytes at most and a round's polls are z
+-- so many looks, other changes and hubs, where the texts of a device say w bytes at most and a
+-- round's polls are z
 abbrev pub work_owed : ℕ → ℕ → ℕ → ℕ → ℕ → ℕ
 work_owed w z k s h = (321104 + 100 * w + 3 * z) * k + (19968 + z) * s + (31168 + z) * h
 
@@ -11,8 +12,11 @@ abbrev pub came_cost : ℕ → ℕ → ℕ → ℕ
 came_cost w z t = (2611968 + 800 * w + 26 * z) * t
 
 -- a look is paid, events may have come, and no more hubs are listed than these
-pub sums_look : (w z n h h' spare a a' k k' s s' t t' : ℕ) → a' ≤ a + n → k' + 1 + 8 * t ≤ k + 8 * t' → s' + t ≤ s + 1 + t' → t ≤ t'
-    → n + (31168 + z) * h' + spare ≤ (31168 + z) * h + 301136 + 100 * w + 2 * z → a' + work_owed w z k' s' h' + spare + came_cost w z t ≤ a + work_owed w z k s h + came_cost w z t'
+pub sums_look : (w z n h h' spare a a' k k' s s' t t' : ℕ) → a' ≤ a + n
+    → k' + 1 + 8 * t ≤ k + 8 * t' → s' + t ≤ s + 1 + t' → t ≤ t'
+    → n + (31168 + z) * h' + spare ≤ (31168 + z) * h + 301136 + 100 * w + 2 * z
+    → a' + work_owed w z k' s' h' + spare + came_cost w z t ≤ a + work_owed w z k s h +
+    came_cost w z t'
 sums_look w z n h h' spare a a' k k' s s' t t' few looks strays on fits =
     let x = mul-le-mul_left (321104 + 100 * w + 3 * z) looks in
     let y = mul-le-mul_left (19968 + z) strays in
@@ -20,9 +24,12 @@ sums_look w z n h h' spare a a' k k' s s' t t' few looks strays on fits =
     omega (arith, few, x, y, v, fits)
 
 -- no more is left to do, and so many looks, other changes, hubs and events are paid
-pub sums_plain : (w z n spare i j f g a a' k k' s s' h h' t t' : ℕ) → a' ≤ a + n → k' + i + 7 * t ≤ k + 7 * t' → s' + j + t ≤ s + t' → h' + f ≤ h → t + g ≤ t'
-    → n + spare ≤ (321104 + 100 * w + 3 * z) * i + (19968 + z) * j + (31168 + z) * f + (344272 + 100 * w + 4 * z) * g
-    → a' + work_owed w z k' s' h' + spare + came_cost w z t ≤ a + work_owed w z k s h + came_cost w z t'
+pub sums_plain : (w z n spare i j f g a a' k k' s s' h h' t t' : ℕ) → a' ≤ a + n
+    → k' + i + 7 * t ≤ k + 7 * t' → s' + j + t ≤ s + t' → h' + f ≤ h → t + g ≤ t'
+    → n + spare ≤ (321104 + 100 * w + 3 * z) * i + (19968 + z) * j + (31168 + z) *
+    f + (344272 + 100 * w + 4 * z) * g
+    → a' + work_owed w z k' s' h' + spare + came_cost w z t ≤ a + work_owed w z k s h + came_cost w
+    z t'
 sums_plain w z n spare i j f g a a' k k' s s' h h' t t' few looks strays hubs on fits =
     let x = mul-le-mul_left (321104 + 100 * w + 3 * z) looks in
     let y = mul-le-mul_left (19968 + z) strays in
@@ -31,7 +38,8 @@ sums_plain w z n spare i j f g a a' k k' s s' h h' t t' few looks strays hubs on
     omega (arith, few, x, y, u, v, fits)
 
 -- no more is left to do, and nothing is paid but the events
-pub sums_costs : (w z n a a' k k' s s' h h' t t' : ℕ) → a' ≤ a + n → k' + 7 * t ≤ k + 7 * t' → s' + t ≤ s + t' → h' ≤ h → t ≤ t'
+pub sums_costs : (w z n a a' k k' s s' h h' t t' : ℕ) → a' ≤ a + n → k' + 7 * t ≤ k + 7 * t'
+    → s' + t ≤ s + t' → h' ≤ h → t ≤ t'
     → a' + work_owed w z k' s' h' + came_cost w z t ≤ a + work_owed w z k s h + came_cost w z t' + n
 sums_costs w z n a a' k k' s s' h h' t t' few looks strays hubs on =
     let x = mul-le-mul_left (321104 + 100 * w + 3 * z) looks in

@@ -1,5 +1,6 @@
 -- A host at work, and how what parts of a round cost is joined.
-use Rattle.std.proofs.Common.{◌≡◌, ◌≤◌, refl, sym, subst, arith, ℕ, ◌+◌, ◌*◌, Option, None, Some, Result, Ok, Err}
+use Rattle.std.proofs.Common.{◌≡◌, ◌≤◌, refl, sym, subst, arith, ℕ, ◌+◌, ◌*◌, Option, None, Some}
+use Rattle.std.proofs.Common.{Result, Ok, Err}
 use Rattle.std.specs.Prelude.{IfOk, IsErr}
 use Rattle.std.proofs.Math.Nat.{mul-le-mul_left}
 use Rattle.std.proofs.lemmas.List.Elements.{All-drop}
@@ -14,7 +15,8 @@ use Rattle.usb_backlog.specs.Marks.{looks_by, strays_by, unmarked}
 use Rattle.usb_enum.specs.TextLengths.{HasPlanWithin}
 use Rattle.usb_enum.proofs.Interface.{traced_faulted, went_course}
 use Rattle.usb_host.specs.Backlog.{hubs}
-use Rattle.usb_host.specs.Budget.{Costs, Pays, PaysPart, StopsWithin, Weights, WorksOn, event_weight, hub_weight, look_weight, stray_weight}
+use Rattle.usb_host.specs.Budget.{Costs, Pays, PaysPart, StopsWithin, Weights, WorksOn}
+use Rattle.usb_host.specs.Budget.{event_weight, hub_weight, look_weight, stray_weight}
 use Rattle.usb_host.specs.HostState.{HostState}
 use Rattle.usb_host.specs.Progress.{HostSteps}
 use Rattle.usb_host.specs.Soundness.{HostInvariant}
@@ -23,22 +25,38 @@ use Rattle.usb_host.proofs.payments.Ledgers.{sums_costs, sums_look, sums_plain}
 
 -- A host at work on a plan
 
-ports_course : (plan : PlanData) → AtPorts plan.events → (w : World) → Course AnyStep (opening plan) w → AtPorts w.left
+ports_course : (plan : PlanData) → AtPorts plan.events → (w : World)
+    → Course AnyStep (opening plan) w → AtPorts w.left
 ports_course plan paths w course =
     let follows : FollowsPlan plan w = events_went plan w course in
-    subst AtPorts (sym follows.left) (All-drop (λ e. PlugsAtPort e.action) w.taken plan.events paths)
+    subst AtPorts (sym follows.left) (All-drop (λ e. PlugsAtPort e.action) w.taken plan.events
+    paths)
 
 -- the events to come are at ports
-pub works_on-ports : (c : Weights) (plan : PlanData) (h : HostState) → WorksOn c plan h → AtPorts h.world.left
+pub works_on-ports : (c : Weights) (plan : PlanData) (h : HostState) → WorksOn c plan h
+    → AtPorts h.world.left
 works_on-ports c plan h x = ports_course plan x.paths h.world x.course
 
-pub ports_after : (n : ℕ) (c : Weights) (plan : PlanData) (a b : HostState) → HostSteps n a b → WorksOn c plan a → b.world.fault ≡ None → AtPorts b.world.left
-ports_after n c plan a b went x work = ports_course plan x.paths b.world (course_joined x.course (went_course n a.world b.world went work))
+pub ports_after : (n : ℕ) (c : Weights) (plan : PlanData) (a b : HostState) → HostSteps n a b
+    → WorksOn c plan a → b.world.fault ≡ None → AtPorts b.world.left
+ports_after n c plan a b went x work =
+    ports_course plan x.paths b.world (course_joined x.course
+    (went_course n a.world b.world went work))
 
-pub works_on-plan : (c : Weights) (plan : PlanData) (h : HostState) → WorksOn c plan h → HasPlanWithin c.most h.world
-works_on-plan c plan h x = record { planned = record { plan = plan; is = x.is; paths = x.paths; course = x.course }; plugs = x.within }
+pub works_on-plan : (c : Weights) (plan : PlanData) (h : HostState) → WorksOn c plan h
+    → HasPlanWithin c.most h.world
+works_on-plan c plan h x = record {
+  planned = record {
+    plan = plan;
+    is = x.is;
+    paths = x.paths;
+    course = x.course;
+  };
+  plugs = x.within;
+}
 
-pub works_on : (n : ℕ) (c : Weights) (plan : PlanData) (a b : HostState) → HostSteps n a b → WorksOn c plan a → HostInvariant b → b.world.fault ≡ None → WorksOn c plan b
+pub works_on : (n : ℕ) (c : Weights) (plan : PlanData) (a b : HostState) → HostSteps n a b
+    → WorksOn c plan a → HostInvariant b → b.world.fault ≡ None → WorksOn c plan b
 works_on n c plan a b went x sound work = record {
   sound = sound;
   working = work;
@@ -50,39 +68,57 @@ works_on n c plan a b went x sound work = record {
 }
 
 -- behind a fault no attempt is made
-none_made : (n : ℕ) (a b : HostState) → HostSteps n a b → (f : BusFault) → a.world.fault ≡ Some f → b.world.attempts ≡ a.world.attempts
+none_made : (n : ℕ) (a b : HostState) → HostSteps n a b → (f : BusFault) → a.world.fault ≡ Some f
+    → b.world.attempts ≡ a.world.attempts
 none_made n a b went f is = (traced_faulted went.traced f is).0
 
 -- What is paid
 
-pub looks_pay : (c : Weights) (n spare : ℕ) (a b : HostState) → b.world.attempts ≤ a.world.attempts + n
-    → looks_by unmarked b.world.roots + 1 + 8 * a.world.taken ≤ looks_by unmarked a.world.roots + 8 * b.world.taken
-    → strays_by unmarked unmarked b.world.roots + a.world.taken ≤ strays_by unmarked unmarked a.world.roots + 1 + b.world.taken → a.world.taken ≤ b.world.taken
-    → n + hub_weight c * hubs b.entries + spare ≤ hub_weight c * hubs a.entries + 301136 + 100 * c.most + 2 * c.polls → Pays c spare a b
+pub looks_pay : (c : Weights) (n spare : ℕ) (a b : HostState)
+    → b.world.attempts ≤ a.world.attempts + n
+    → looks_by unmarked b.world.roots + 1 + 8 * a.world.taken ≤ looks_by unmarked a.world.roots +
+    8 * b.world.taken
+    → strays_by unmarked unmarked b.world.roots + a.world.taken ≤ strays_by unmarked unmarked
+    a.world.roots + 1 + b.world.taken → a.world.taken ≤ b.world.taken
+    → n + hub_weight c * hubs b.entries + spare ≤ hub_weight c * hubs a.entries + 301136 + 100 *
+    c.most + 2 * c.polls → Pays c spare a b
 looks_pay c n spare a b few looks strays on fits =
-    sums_look c.most c.polls n (hubs a.entries) (hubs b.entries) spare a.world.attempts b.world.attempts (looks_by unmarked a.world.roots)
+    sums_look c.most c.polls n (hubs a.entries) (hubs b.entries) spare a.world.attempts
+    b.world.attempts (looks_by unmarked a.world.roots)
     (looks_by unmarked b.world.roots) (strays_by unmarked unmarked a.world.roots)
     (strays_by unmarked unmarked b.world.roots) a.world.taken b.world.taken few looks strays on fits
 
 -- so many looks, other changes, hubs and events are paid
-pub plain_pays : (c : Weights) (n spare i j f g : ℕ) (a b : HostState) → b.world.attempts ≤ a.world.attempts + n
-    → looks_by unmarked b.world.roots + i + 7 * a.world.taken ≤ looks_by unmarked a.world.roots + 7 * b.world.taken
-    → strays_by unmarked unmarked b.world.roots + j + a.world.taken ≤ strays_by unmarked unmarked a.world.roots + b.world.taken → hubs b.entries + f ≤ hubs a.entries → a.world.taken + g ≤ b.world.taken
-    → n + spare ≤ look_weight c * i + stray_weight c * j + hub_weight c * f + (344272 + 100 * c.most + 4 * c.polls) * g → Pays c spare a b
+pub plain_pays : (c : Weights) (n spare i j f g : ℕ) (a b : HostState)
+    → b.world.attempts ≤ a.world.attempts + n
+    → looks_by unmarked b.world.roots + i + 7 * a.world.taken ≤ looks_by unmarked a.world.roots +
+    7 * b.world.taken
+    → strays_by unmarked unmarked b.world.roots + j + a.world.taken ≤ strays_by unmarked unmarked
+    a.world.roots + b.world.taken → hubs b.entries + f ≤ hubs a.entries
+    → a.world.taken + g ≤ b.world.taken
+    → n + spare ≤ look_weight c * i + stray_weight c * j + hub_weight c *
+    f + (344272 + 100 * c.most + 4 * c.polls) * g → Pays c spare a b
 plain_pays c n spare i j f g a b few looks strays fewer on fits =
-    sums_plain c.most c.polls n spare i j f g a.world.attempts b.world.attempts (looks_by unmarked a.world.roots) (looks_by unmarked b.world.roots)
+    sums_plain c.most c.polls n spare i j f g a.world.attempts b.world.attempts
+    (looks_by unmarked a.world.roots) (looks_by unmarked b.world.roots)
     (strays_by unmarked unmarked a.world.roots)
-    (strays_by unmarked unmarked b.world.roots) (hubs a.entries) (hubs b.entries) a.world.taken b.world.taken few looks strays fewer on fits
+    (strays_by unmarked unmarked b.world.roots) (hubs a.entries) (hubs b.entries) a.world.taken
+    b.world.taken few looks strays fewer on fits
 
 pub plain_costs : (c : Weights) (n : ℕ) (a b : HostState) → b.world.attempts ≤ a.world.attempts + n
-    → looks_by unmarked b.world.roots + 7 * a.world.taken ≤ looks_by unmarked a.world.roots + 7 * b.world.taken
-    → strays_by unmarked unmarked b.world.roots + a.world.taken ≤ strays_by unmarked unmarked a.world.roots + b.world.taken → hubs b.entries ≤ hubs a.entries → a.world.taken ≤ b.world.taken → Costs c n a b
+    → looks_by unmarked b.world.roots + 7 * a.world.taken ≤ looks_by unmarked a.world.roots + 7 *
+    b.world.taken
+    → strays_by unmarked unmarked b.world.roots + a.world.taken ≤ strays_by unmarked unmarked
+    a.world.roots + b.world.taken → hubs b.entries ≤ hubs a.entries
+    → a.world.taken ≤ b.world.taken → Costs c n a b
 plain_costs c n a b few looks strays fewer on =
-    sums_costs c.most c.polls n a.world.attempts b.world.attempts (looks_by unmarked a.world.roots) (looks_by unmarked b.world.roots)
+    sums_costs c.most c.polls n a.world.attempts b.world.attempts (looks_by unmarked a.world.roots)
+    (looks_by unmarked b.world.roots)
     (strays_by unmarked unmarked a.world.roots) (strays_by unmarked unmarked b.world.roots)
     (hubs a.entries) (hubs b.entries) a.world.taken b.world.taken few looks strays fewer on
 
-pub few_stop : (c : Weights) (n : ℕ) (a b : HostState) → b.world.attempts ≤ a.world.attempts + n → a.world.taken ≤ b.world.taken → StopsWithin c n a b
+pub few_stop : (c : Weights) (n : ℕ) (a b : HostState) → b.world.attempts ≤ a.world.attempts + n
+    → a.world.taken ≤ b.world.taken → StopsWithin c n a b
 few_stop c n a b few on = let y = mul-le-mul_left (event_weight c) on in omega (arith, few, y)
 
 -- Joins
@@ -113,14 +149,17 @@ module _ (c : Weights) (a b d : HostState) where
   pub costs_then : (m n k : ℕ) → Costs c m a b → Costs c n b d → m + n ≤ k → Costs c k a d
   costs_then m n k x y le = omega (arith, x, y, le)
 
-  pub costs_stop : (m n k : ℕ) → Costs c m a b → StopsWithin c n b d → m + n ≤ k → StopsWithin c k a d
+  pub costs_stop : (m n k : ℕ) → Costs c m a b → StopsWithin c n b d → m + n ≤ k
+      → StopsWithin c k a d
   costs_stop m n k x y le = omega (arith, x, y, le)
 
-  stops_same : (k : ℕ) → StopsWithin c k a b → d.world.attempts ≡ b.world.attempts → b.world.taken ≤ d.world.taken → StopsWithin c k a d
+  stops_same : (k : ℕ) → StopsWithin c k a b → d.world.attempts ≡ b.world.attempts
+      → b.world.taken ≤ d.world.taken → StopsWithin c k a d
   stops_same k x same on = let y = mul-le-mul_left (event_weight c) on in omega (arith, x, same, y)
 
   -- a part stopped after others, or the bus had stopped before
-  pub stops_after : (n m k l : ℕ) → HostSteps n b d → StopsWithin c l a b → (b.world.fault ≡ None → Costs c m a b)
+  pub stops_after : (n m k l : ℕ) → HostSteps n b d → StopsWithin c l a b
+      → (b.world.fault ≡ None → Costs c m a b)
       → (b.world.fault ≡ None → StopsWithin c k b d) → m + k ≤ l → StopsWithin c l a d
   stops_after n m k l went before cost then le = pick b.world.fault refl
     where
@@ -129,16 +168,26 @@ module _ (c : Weights) (a b d : HostState) where
       pick (Some f) is = stops_same l before (none_made n b d went f is) went.spends.onward
 
 -- what a part costs is said of a host that knows what is so
-pub pays_where : {A : Type 0} (most : Weights → ℕ) (Done : Weights → A → HostState → HostState → Type 0) (a : HostState) (result : Result A HostFault) (b : HostState) → (HostInvariant a → PaysPart most Done a result b) → PaysPart most Done a result b
-pays_where most Done a result b f = record { stops = λ c plan w. (f w.sound).stops c plan w; pays = λ c plan w still. (f w.sound).pays c plan w still }
+pub pays_where : {A : Type 0} (most : Weights → ℕ) (Done : Weights → A → HostState → HostState
+    → Type 0) (a : HostState) (result : Result A HostFault) (b : HostState)
+    → (HostInvariant a → PaysPart most Done a result b) → PaysPart most Done a result b
+pays_where most Done a result b f = record {
+  stops = λ c plan w. (f w.sound).stops c plan w;
+  pays =
+      λ c plan w still. (f w.sound).pays c plan w still;
+}
 
 -- Parts that failed, and those that did nothing
 
-pub is_err-if_ok : {A : Type 0} (result : Result A HostFault) (P : A → Type 0) → IsErr result → IfOk result P
+pub is_err-if_ok : {A : Type 0} (result : Result A HostFault) (P : A → Type 0) → IsErr result
+    → IfOk result P
 is_err-if_ok (Ok x) P e = absurd (cc e)
 is_err-if_ok (Err fault) P e = tt
 
-pub pays_part_failed : {A B : Type 0} (result : Result A HostFault) (inner : Result B HostFault) (most : Weights → ℕ)
-    (Done : Weights → A → HostState → HostState → Type 0) (Other : Weights → B → HostState → HostState → Type 0) (a b : HostState)
+pub pays_part_failed : {A B : Type 0} (result : Result A HostFault) (inner : Result B HostFault)
+    (most : Weights → ℕ)
+    (Done : Weights → A → HostState → HostState → Type 0) (Other : Weights → B → HostState
+    → HostState → Type 0) (a b : HostState)
     → IsErr result → PaysPart most Other a inner b → PaysPart most Done a result b
-pays_part_failed result inner most Done Other a b e x = record { stops = x.stops; pays = λ c plan w work. is_err-if_ok result (λ y. Done c y a b) e }
+pays_part_failed result inner most Done Other a b e x =
+    record { stops = x.stops; pays = λ c plan w work. is_err-if_ok result (λ y. Done c y a b) e }

@@ -1,5 +1,6 @@
 -- What the serving of a port pays of what is left to do.
-use Rattle.std.proofs.Common.{◌≡◌, ◌⊎◌, inl, inr, refl, sym, subst, arith, ℕ, ◌+◌, ◌*◌, true, false, List, Result, Ok, Err}
+use Rattle.std.proofs.Common.{◌≡◌, ◌⊎◌, inl, inr, refl, sym, subst, arith, ℕ, ◌+◌, ◌*◌, true, false}
+use Rattle.std.proofs.Common.{List, Result, Ok, Err}
 use Rattle.std.specs.Prelude.{OnOk}
 use Rattle.usb_port.specs.declared.status.PortStatus.{PortStatus}
 use Rattle.usb_world.specs.PlanCourses.{AtPorts}
@@ -12,7 +13,8 @@ use Rattle.usb_enum.specs.PresentDevices.{IsOrderly}
 use Rattle.usb_enum.specs.declared.fault.EnumFault.{EnumFault}
 use Rattle.usb_enum.specs.declared.fault.EnumFault.TheVariants.{ParentLost, Bus, Memory}
 use Rattle.usb_table.specs.declared.known.KnownPort.{KnownPort}
-use Rattle.usb_host.specs.Backlog.{ClearsReset, FindsNone, LookPaid, LookPays, ServePaid, ServePays, seen, unseen, found, bare, tidied, calm}
+use Rattle.usb_host.specs.Backlog.{ClearsReset, FindsNone, LookPaid, LookPays, ServePaid, ServePays}
+use Rattle.usb_host.specs.Backlog.{seen, unseen, found, bare, tidied, calm}
 use Rattle.usb_host.specs.Bounds.{clearing_bound, deciding_bound}
 use Rattle.usb_host.specs.HostState.{HostState}
 use Rattle.usb_host.specs.Ownership.{claims, IsOwned}
@@ -26,12 +28,16 @@ use Rattle.usb_host.proofs.entries.HubCounts.{hubs-rest, none_rests}
 use Rattle.usb_host.proofs.knowledge.ServedPorts.{rests_stands}
 use Rattle.usb_host.proofs.PortLocations.{stands_at-claim}
 
-module _ (path : List ℕ) (port : KnownPort) (a b : HostState) (s : StandsAt path port a) (r : OnlyBusSteps a b) (went : HostSteps (read_bound 4) a b) (i : HostInvariant a) (ports : AtPorts a.world.left) where
+module _ (path : List ℕ) (port : KnownPort) (a b : HostState) (s : StandsAt path port a)
+    (r : OnlyBusSteps a b) (went : HostSteps (read_bound 4) a b) (i : HostInvariant a)
+    (ports : AtPorts a.world.left) where
   few : FindsNone deciding_bound a b
-  few = none_rests deciding_bound a b (went_wider (read_bound 4) deciding_bound went (omega arith)) r
+  few = none_rests deciding_bound a b (went_wider (read_bound 4) deciding_bound went (omega arith))
+      r
 
   -- the hub was lost as it was asked for the status
-  pub status_lost : (fault : EnumFault) → Watches port.port a.world (Err fault) b.world → ServePays path a (Err fault) b
+  pub status_lost : (fault : EnumFault) → Watches port.port a.world (Err fault) b.world
+      → ServePays path a (Err fault) b
   status_lost ParentLost x = inr (plain_of ports (x.backlog tt), few)
   status_lost (Bus fault) x = tt
   status_lost Memory x = tt
@@ -42,13 +48,17 @@ module _ (path : List ℕ) (port : KnownPort) (a b : HostState) (s : StandsAt pa
 
     -- a change of connection was told
     then_none : (c : HostState) → FindsNone clearing_bound b c → FindsNone deciding_bound a c
-    then_none c then = record { went = went_then (read_bound 4) clearing_bound went then.went; hubs = omega (arith, hubs-rest a b r, then.hubs) }
+    then_none c then = record {
+      went = went_then (read_bound 4) clearing_bound went then.went;
+      hubs = omega (arith, hubs-rest a b r, then.hubs);
+    }
 
     look_paid : (c : HostState) → LookPaid a.world b c → ServePaid path a c
     look_paid c (seen y) = found y
     look_paid c (unseen y then) = bare y (then_none c then)
 
-    pub after_look : (result : Result (Unit {0}) EnumFault) (c : HostState) → LookPays a.world b result c → ServePays path a result c
+    pub after_look : (result : Result (Unit {0}) EnumFault) (c : HostState)
+        → LookPays a.world b result c → ServePays path a result c
     after_look (Ok done) c y = look_paid c y
     after_look (Err ParentLost) c (inl y) = inl (look_paid c y)
     after_look (Err ParentLost) c (inr y) = inr (y.0, then_none c y.1)
@@ -56,10 +66,12 @@ module _ (path : List ℕ) (port : KnownPort) (a b : HostState) (s : StandsAt pa
     after_look (Err Memory) c y = tt
 
     -- none was
-    module _ (off : status.connection_changed ≡ false) (c : HostState) (then : FindsNone (2 * write_bound) b c) where
+    module _ (off : status.connection_changed ≡ false) (c : HostState)
+        (then : FindsNone (2 * write_bound) b c) where
       all_few : FindsNone deciding_bound a c
       all_few = record {
-        went = went_wider (read_bound 4 + 2 * write_bound) deciding_bound (went_then (read_bound 4) (2 * write_bound) went then.went) (omega arith);
+        went = went_wider (read_bound 4 + 2 * write_bound) deciding_bound
+            (went_then (read_bound 4) (2 * write_bound) went then.went) (omega arith);
         hubs = omega (arith, hubs-rest a b r, then.hubs);
       }
 
@@ -69,15 +81,30 @@ module _ (path : List ℕ) (port : KnownPort) (a b : HostState) (s : StandsAt pa
       stands : StandsAt path port b
       stands = rests_stands (read_bound 4) path port a b s r went
 
-      pub after_tidy : IsOrderly a.world → (result : Result (Unit {0}) EnumFault) → Tidies port.port b.world result c.world → OnOk result (status.reset_changed ≡ true → ClearsReset port.port b.world c.world)
-          → (status.enable_changed ≡ false → status.reset_changed ≡ false → (result ≡ Ok tt) × (c ≡ b)) → ServePays path a result c
+      pub after_tidy : IsOrderly a.world → (result : Result (Unit {0}) EnumFault)
+          → Tidies port.port b.world result c.world
+          → OnOk result (status.reset_changed ≡ true → ClearsReset port.port b.world c.world)
+          → (status.enable_changed ≡ false → status.reset_changed ≡ false → (result ≡ Ok tt)
+          × (c ≡ b)) → ServePays path a result c
       after_tidy order (Ok done) t reset quiet = pick (decided status.reset_changed)
         where
           pick : (status.reset_changed ≡ true) ⊎ (status.reset_changed ≡ false) → ServePaid path a c
-          pick (inl e) = tidied (told_resets path status a.world b.world c.world ports told_there e (reset e (claims b.entries) path (stands_at-claim path port b stands) owned)) all_few
+          pick (inl e) = tidied (told_resets path status a.world b.world c.world ports told_there e
+              (reset e (claims b.entries) path (stands_at-claim path port b stands) owned))
+              all_few
           pick (inr e) =
-              let same : c ≡ b = (quiet (told_steady path status a.world b.world told_there order) e).1 in
-              calm status b.world told_there off e (told_keeps path status a.world b.world c.world ports told_there (t.backlog (claims b.entries) path (stands_at-claim path port b stands) owned tt)) (subst (FindsNone (read_bound 4) a) (sym same) (none_rests (read_bound 4) a b went r))
-      after_tidy order (Err ParentLost) t reset quiet = inr (told_keeps path status a.world b.world c.world ports told_there (t.backlog (claims b.entries) path (stands_at-claim path port b stands) owned tt), all_few)
+              let same : c ≡ b = (quiet (told_steady path status a.world b.world told_there order)
+              e).1 in
+              calm status b.world told_there off e
+              (told_keeps path status a.world b.world c.world ports told_there
+              (t.backlog (claims b.entries) path (stands_at-claim path port b stands) owned
+              tt)) (subst (FindsNone (read_bound 4) a) (sym same)
+              (none_rests (read_bound 4) a b went r))
+      after_tidy order (Err ParentLost) t reset quiet =
+          inr (
+            told_keeps path status a.world b.world c.world ports told_there
+                (t.backlog (claims b.entries) path (stands_at-claim path port b stands) owned tt),
+            all_few,
+          )
       after_tidy order (Err (Bus fault)) t reset quiet = tt
       after_tidy order (Err Memory) t reset quiet = tt

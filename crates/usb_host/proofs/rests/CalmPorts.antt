@@ -1,5 +1,6 @@
 -- Where no event comes and nothing is asked of a port, it is as it was.
-use Rattle.std.proofs.Common.{◌≡◌, ◌≤◌, ◌&&◌, ◌||◌, ◌∙◌, ℕ, zero, suc, false, List, [], ◌∷◌, ◌++◌, refl, ap, arith, subst}
+use Rattle.std.proofs.Common.{◌≡◌, ◌≤◌, ◌&&◌, ◌||◌, ◌∙◌, ℕ, zero, suc, false, List, [], ◌∷◌, ◌++◌}
+use Rattle.std.proofs.Common.{refl, ap, arith, subst}
 use Rattle.std.specs.Prelude.{IfSome}
 use Rattle.usb_device.specs.Tree.{Ports, ended, vacant, taken, port_at, place}
 use Rattle.usb_device.specs.View.{port_there}
@@ -8,7 +9,8 @@ use Rattle.usb_world.specs.PortRequests.{leaves_step}
 use Rattle.usb_world.specs.RestingPorts.{LeavesPortAlone}
 use Rattle.usb_world.specs.Steps.{after_event, at_attempt, with_attempt, Course}
 use Rattle.usb_world.specs.World.{World}
-use Rattle.usb_world.proofs.Interface.{OverEvents, OverSteps, made_port, over_course, over_ready, root_port}
+use Rattle.usb_world.proofs.Interface.{OverEvents, OverSteps, made_port, over_course, over_ready}
+use Rattle.usb_world.proofs.Interface.{root_port}
 use Rattle.usb_tree.proofs.Interface.{and_false, and_none}
 use Rattle.usb_address.proofs.Interface.{place_ports, pend-below as pend_under, port_there-below}
 
@@ -35,7 +37,8 @@ ready_none w =
 -- The port
 
 calm_steps : (p : List ℕ)
-    → OverSteps (LeavesPortAlone p) (IfNoneCame (λ w v. port_there v.roots p ≡ port_there w.roots p))
+    → OverSteps (LeavesPortAlone p) (IfNoneCame
+    (λ w v. port_there v.roots p ≡ port_there w.roots p))
 unfolding with_attempt leaves_step
 calm_steps p = record {
   events =
@@ -46,12 +49,15 @@ calm_steps p = record {
   refused = λ w. (omega arith, λ e. refl);
 }
 
-pub calm_port : (p : List ℕ) {w v : World} → Course (LeavesPortAlone p) w v → v.taken ≡ w.taken → port_there v.roots p ≡ port_there w.roots p
+pub calm_port : (p : List ℕ) {w v : World} → Course (LeavesPortAlone p) w v → v.taken ≡ w.taken
+    → port_there v.roots p ≡ port_there w.roots p
 calm_port p c = (over_course (calm_steps p) c).1
 
--- Where nothing is pending at a hub, and no change of connection is told at its port, none is pending there
+-- Where nothing is pending at a hub, and no change of connection is told at its port, none is
+-- pending there
 
-pend_row : (k : Ports) (i : ℕ) → IfSome (port_at k i []) (λ b. b.connection_changed ≡ false) → pending_at k i [] ≡ false
+pend_row : (k : Ports) (i : ℕ) → IfSome (port_at k i []) (λ b. b.connection_changed ≡ false)
+    → pending_at k i [] ≡ false
 unfolding pending_at port_at
 pend_row ended i none = refl
 pend_row (vacant b k) zero none = and_none b.power b.connection_changed none
@@ -59,14 +65,19 @@ pend_row (vacant b k) (suc i) none = pend_row k i none
 pend_row (taken b s a k) zero none = and_none b.power b.connection_changed none
 pend_row (taken b s a k) (suc i) none = pend_row k i none
 
-row_calm : (k : Ports) (n : ℕ) → IfSome (port_there k (n ∷ [])) (λ b. b.connection_changed ≡ false) → pending k (n ∷ []) ≡ false
+row_calm : (k : Ports) (n : ℕ) → IfSome (port_there k (n ∷ [])) (λ b. b.connection_changed ≡ false)
+    → pending k (n ∷ []) ≡ false
 row_calm k zero told = refl
 row_calm k (suc i) told = pend_row k i told
 
-pub pend-no_change : (k : Ports) (q : List ℕ) (n : ℕ) → 1 ≤ n → pending k q ≡ false → IfSome (port_there k (q ++ (n ∷ []))) (λ b. b.connection_changed ≡ false) → pending k (q ++ (n ∷ [])) ≡ false
+pub pend-no_change : (k : Ports) (q : List ℕ) (n : ℕ) → 1 ≤ n → pending k q ≡ false
+    → IfSome (port_there k (q ++ (n ∷ []))) (λ b. b.connection_changed ≡ false)
+    → pending k (q ++ (n ∷ [])) ≡ false
 pend-no_change k [] n least none told = row_calm k n told
 pend-no_change k (m ∷ q) n least none told =
     pend_under k m q n []
     ∙ ap (λ x. x || (has_power k (m ∷ q) && pending (place_ports (place k (m ∷ q))) (n ∷ []))) none
-    ∙ ap (λ x. has_power k (m ∷ q) && x) (row_calm (place_ports (place k (m ∷ q))) n (subst (λ o. IfSome o (λ b. b.connection_changed ≡ false)) (port_there-below k m q n []) told))
+    ∙ ap (λ x. has_power k (m ∷ q) && x) (row_calm (place_ports (place k (m ∷ q))) n
+    (subst (λ o. IfSome o (λ b. b.connection_changed ≡ false)) (port_there-below k m q n [])
+    told))
     ∙ and_false (has_power k (m ∷ q))

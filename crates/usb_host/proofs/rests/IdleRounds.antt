@@ -1,5 +1,6 @@
 -- Where nothing is listed, and no root port has changed, nothing is done.
-use Rattle.std.proofs.Common.{◌≡◌, ◌∙◌, refl, sym, ap, arith, subst, zero, suc, Bool, true, false, if◌then◌else◌, Option, Result, Ok, Err, is_err}
+use Rattle.std.proofs.Common.{◌≡◌, ◌∙◌, refl, sym, ap, arith, subst, zero, suc, Bool, true, false}
+use Rattle.std.proofs.Common.{if◌then◌else◌, Option, Result, Ok, Err, is_err}
 use Rattle.std.specs.Prelude.{ℕ, ◌-◌, List, [], ◌∷◌, slice_index_or}
 use Rattle.usb_port.specs.PortState.{PortState, off}
 use Rattle.usb_world.specs.World.{World, root_row, root_port_at, change_of, changes}
@@ -14,7 +15,8 @@ use Rattle.usb_host.specs.declared.host.Round.{Round}
 use Rattle.usb_host.specs.declared.host.Round.TheVariants.{Quiet}
 use Rattle.usb_host.proofs.rests.RestingRounds.{ok_is}
 
-changes-zero : (ps : List PortState) (i : ℕ) → changes ps ≡ 0 → (slice_index_or ps i off).connection_changed ≡ false
+changes-zero : (ps : List PortState) (i : ℕ) → changes ps ≡ 0
+    → (slice_index_or ps i off).connection_changed ≡ false
 unfolding changes change_of
 changes-zero [] zero h = refl
 changes-zero [] (suc i) h = refl
@@ -25,23 +27,30 @@ changes-zero (p ∷ ps) zero h = split p.connection_changed refl
     split false e = e
 changes-zero (p ∷ ps) (suc i) h = changes-zero ps i (omega (arith, h))
 
-changes-root_port : (w : World) (n : ℕ) → changes (root_row w) ≡ 0 → (root_port_at w n).connection_changed ≡ false
+changes-root_port : (w : World) (n : ℕ) → changes (root_row w) ≡ 0
+    → (root_port_at w n).connection_changed ≡ false
 unfolding root_port_at
 changes-root_port w n h = changes-zero (root_row w) (n - 1) h
 
 -- no root port shows a change
-pub none_shows : (a b : HostState) (n : ℕ) → b ≡ a → changes (root_row a.world) ≡ 0 → (root_port_at b.world n).connection_changed ≡ true → ⊥
+pub none_shows : (a b : HostState) (n : ℕ) → b ≡ a → changes (root_row a.world) ≡ 0
+    → (root_port_at b.world n).connection_changed ≡ true → ⊥
 none_shows a b n same none shows =
-    let rests : (root_port_at b.world n).connection_changed ≡ false = subst (λ (h : HostState). (root_port_at h.world n).connection_changed ≡ false) (sym same) (changes-root_port a.world n none) in
+    let rests : (root_port_at b.world n).connection_changed ≡ false =
+    subst (λ (h : HostState). (root_port_at h.world n).connection_changed ≡ false) (sym same)
+    (changes-root_port a.world n none) in
     cc (shows, rests)
 
-listed_none : (kind : Finding → Bool) (last : Option (List ℕ)) (path : List ℕ) → IsNext kind last [] path → ⊥
+listed_none : (kind : Finding → Bool) (last : Option (List ℕ)) (path : List ℕ)
+    → IsNext kind last [] path → ⊥
 listed_none kind last path next = cc next.stands.found
 
 -- no hub comes next
-pub none_next : (kind : Finding → Bool) (last : Option (List ℕ)) (a b : HostState) (path : List ℕ) → b ≡ a → a.entries ≡ [] → IsNext kind last b.entries path → ⊥
+pub none_next : (kind : Finding → Bool) (last : Option (List ℕ)) (a b : HostState) (path : List ℕ)
+    → b ≡ a → a.entries ≡ [] → IsNext kind last b.entries path → ⊥
 none_next kind last a b path same none next =
-    listed_none kind last path (subst (λ (x : Entries). IsNext kind last x path) (ap (λ (h : HostState). h.entries) same ∙ none) next)
+    listed_none kind last path (subst (λ (x : Entries). IsNext kind last x path)
+    (ap (λ (h : HostState). h.entries) same ∙ none) next)
 
 pub none_waits_of : (entries : Entries) → entries ≡ [] → NoneWait entries
 none_waits_of entries none = subst NoneWait (sym none) (λ path at. cc at)
@@ -58,32 +67,46 @@ module _ (a : HostState) (entries : a.entries ≡ []) (none : changes (root_row 
   listed_idle : (b : HostState) → b ≡ a → b.entries ≡ []
   listed_idle b same = ap (λ (h : HostState). h.entries) same ∙ entries
 
-  pub roots_idle : (b : HostState) (fault : HostFault) → (changes (root_row a.world) ≡ 0 → Idle a (Err fault) b) → ⊥
+  pub roots_idle : (b : HostState) (fault : HostFault)
+      → (changes (root_row a.world) ≡ 0 → Idle a (Err fault) b) → ⊥
   roots_idle b fault first = failed_idle a b fault (first none)
 
-  module _ (b : HostState) (roots : Round) (first : changes (root_row a.world) ≡ 0 → Idle a (Ok roots) b) where
-    pub hubs_idle : (d : HostState) (fault : HostFault) → (b.entries ≡ [] → Idle b (Err fault) d) → ⊥
+  module _ (b : HostState) (roots : Round) (first : changes (root_row a.world) ≡ 0
+      → Idle a (Ok roots) b) where
+    pub hubs_idle : (d : HostState) (fault : HostFault) → (b.entries ≡ [] → Idle b (Err fault) d)
+        → ⊥
     hubs_idle d fault second = failed_idle b d fault (second (listed_idle b (first none).1))
 
     module _ (d : HostState) (hubs : Round) (second : b.entries ≡ [] → Idle b (Ok hubs) d) where
       hubs_same : d ≡ a
       hubs_same = (second (listed_idle b (first none).1)).1 ∙ (first none).1
 
-      pub looks_idle : (e : HostState) (fault : HostFault) → (NoneWait d.entries → Idle d (Err fault) e) → ⊥
-      looks_idle e fault third = failed_idle d e fault (third (none_waits_of d.entries (listed_idle d hubs_same)))
+      pub looks_idle : (e : HostState) (fault : HostFault)
+          → (NoneWait d.entries → Idle d (Err fault) e) → ⊥
+      looks_idle e fault third = failed_idle d e fault
+          (third (none_waits_of d.entries (listed_idle d hubs_same)))
 
-      pub all_idle : (e : HostState) (looks : Round) → (NoneWait d.entries → Idle d (Ok looks) e) → Idle a (Ok (either (either roots hubs) looks)) e
+      pub all_idle : (e : HostState) (looks : Round) → (NoneWait d.entries → Idle d (Ok looks) e)
+          → Idle a (Ok (either (either roots hubs) looks)) e
       all_idle e looks third =
-          let last : Idle d (Ok looks) e = third (none_waits_of d.entries (listed_idle d hubs_same)) in
+          let last : Idle d (Ok looks) e =
+          third (none_waits_of d.entries (listed_idle d hubs_same)) in
           let quiet : either (either roots hubs) looks ≡ Quiet =
-          all_quiet roots hubs looks (ok_is roots Quiet (first none).0) (ok_is hubs Quiet (second (listed_idle b (first none).1)).0) (ok_is looks Quiet last.0) in
+          all_quiet roots hubs looks (ok_is roots Quiet (first none).0)
+          (ok_is hubs Quiet (second (listed_idle b (first none).1)).0)
+          (ok_is looks Quiet last.0) in
           (ap (λ (r : Round). Ok r) quiet, last.1 ∙ hubs_same)
         where
-          all_quiet : (x y z : Round) → x ≡ Quiet → y ≡ Quiet → z ≡ Quiet → either (either x y) z ≡ Quiet
+          all_quiet : (x y z : Round) → x ≡ Quiet → y ≡ Quiet → z ≡ Quiet
+              → either (either x y) z ≡ Quiet
           all_quiet x y z p q r = rw (p, q, r) refl
 
 -- only the host's own stop could be new
-pub round_rests : (result : Result Round HostFault) (a b : HostState) (stopped : Bool) → a.stopped ≡ false → stopped ≡ is_err result → Idle a result b → record b { stopped = stopped } ≡ a
+pub round_rests : (result : Result Round HostFault) (a b : HostState) (stopped : Bool)
+    → a.stopped ≡ false → stopped ≡ is_err result → Idle a result b → record b { stopped = stopped }
+    ≡ a
 round_rests result a b stopped going is idle =
-    let off : stopped ≡ a.stopped = is ∙ ap (λ (r : Result Round HostFault). is_err r) idle.0 ∙ sym going in
-    ap (λ (h : HostState). record h { stopped = stopped }) idle.1 ∙ ap (λ (x : Bool). record a { stopped = x }) off
+    let off : stopped ≡ a.stopped = is ∙ ap (λ (r : Result Round HostFault). is_err r) idle.0
+    ∙ sym going in
+    ap (λ (h : HostState). record h { stopped = stopped }) idle.1
+    ∙ ap (λ (x : Bool). record a { stopped = x }) off

@@ -1,5 +1,7 @@
--- Changes of a hub and of its ports that ask for nothing but their clearing: a port of a world tells none.
-use Rattle.std.proofs.Common.{◌≡◌, ◌&&◌, Bool, true, false, not, ◌+◌, ◌*◌, arith, refl, ap, ℕ, List, Option, is_some, Result, Ok}
+-- Changes of a hub and of its ports that ask for nothing but their clearing: a port of a world
+-- tells none.
+use Rattle.std.proofs.Common.{◌≡◌, ◌&&◌, Bool, true, false, not, ◌+◌, ◌*◌, arith, refl, ap, ℕ, List}
+use Rattle.std.proofs.Common.{Option, is_some, Result, Ok}
 use Rattle.usb_port.specs.declared.status.PortStatus.{PortStatus}
 use Rattle.usb_world.specs.World.{World}
 use Rattle.usb_bus.specs.Traces.{StepRun}
@@ -32,16 +34,25 @@ use Rattle.usb_host.proofs.StepSums.{goes_by}
 use Rattle.usb_host.proofs.services.ServedWork.{rests_holds, served_after}
 use Rattle.usb_host.proofs.PortLocations.{stands_at-claim}
 
-told_plain : (p : List ℕ) (status : PortStatus) (old new : World) → PortStatusAt p status old new → HasOnlyWorldChanges status
-told_plain p status old new t = (ap (λ (s : PortStatus). s.suspend_changed) t.is, ap (λ (s : PortStatus). s.over_current_changed) t.is)
+told_plain : (p : List ℕ) (status : PortStatus) (old new : World) → PortStatusAt p status old new
+    → HasOnlyWorldChanges status
+told_plain p status old new t = (
+  ap (λ (s : PortStatus). s.suspend_changed) t.is,
+  ap (λ (s : PortStatus). s.over_current_changed) t.is,
+)
 
-pub watched_plain : (path : List ℕ) (port : KnownPort) (a : HostState) (b : World) → StandsAt path port a → IsOwned a → (status : PortStatus) → Watches port.port a.world (Ok status) b → HasOnlyWorldChanges status
-watched_plain path port a b s owned status w = told_plain path status a.world b (w.told (claims a.entries) path (stands_at-claim path port a s) owned status refl)
+pub watched_plain : (path : List ℕ) (port : KnownPort) (a : HostState) (b : World)
+    → StandsAt path port a → IsOwned a → (status : PortStatus)
+    → Watches port.port a.world (Ok status) b → HasOnlyWorldChanges status
+watched_plain path port a b s owned status w =
+    told_plain path status a.world b (w.told (claims a.entries) path (stands_at-claim path port a s)
+    owned status refl)
 
 pub keeps_each_none : (w : World) → KeepsEach w w
 keeps_each_none w = record { addresses = keeps_none w; devices = keeps_devices_none w }
 
-pub keeps_each_then : (n : ℕ) (old mid new : World) {r s : Option (List ℕ)} → KeepsEach old mid → StepRun n mid r new s → KeepsEach mid new → KeepsEach old new
+pub keeps_each_then : (n : ℕ) (old mid new : World) {r s : Option (List ℕ)} → KeepsEach old mid
+    → StepRun n mid r new s → KeepsEach mid new → KeepsEach old new
 keeps_each_then n old mid new x went y = record {
   addresses = keeps_then old mid new x.addresses y.addresses;
   devices = devices_then n old mid new x.devices went y.devices;
@@ -49,33 +60,54 @@ keeps_each_then n old mid new x went y = record {
 
 -- The changes of a hub
 
-pub own_goes : (hub : Target) (number : ℕ) (a b : HostState) → IsAskable (External hub number) → HostSteps (control_bound hub.max 4 + 2 * write_bound) a b → b.stopped ≡ a.stopped → HostRuns (read_bound 4 + 2 * write_bound) a b
-own_goes hub number a b askable w e = goes_by _ _ a b w (omega (arith, status_most (External hub number) askable.wide)) e
+pub own_goes : (hub : Target) (number : ℕ) (a b : HostState) → IsAskable (External hub number)
+    → HostSteps (control_bound hub.max 4 + 2 * write_bound) a b → b.stopped ≡ a.stopped
+    → HostRuns (read_bound 4 + 2 * write_bound) a b
+own_goes hub number a b askable w e =
+    goes_by _ _ a b w (omega (arith, status_most (External hub number) askable.wide)) e
 
 -- A port that its hub has disabled on an error
 
-pub failed_changed : (port : HubPort) (status : PortStatus) (device : Option Accepted) → was_disabled port status device ≡ true → CanFail port × (status.enable_changed ≡ true)
+pub failed_changed : (port : HubPort) (status : PortStatus) (device : Option Accepted)
+    → was_disabled port status device ≡ true → CanFail port × (status.enable_changed ≡ true)
 failed_changed (Root number) status device is = absurd (cc is)
-failed_changed (External hub number) status device is = (tt, and_first status.enable_changed (status.connected && (not status.enabled && is_some device)) is)
+failed_changed (External hub number) status device is = (
+  tt,
+  and_first status.enable_changed (status.connected &&
+      (not status.enabled && is_some device)) is,
+)
   where
     and_first : (b c : Bool) → (b && c) ≡ true → b ≡ true
     and_first true c e = refl
     and_first false c e = absurd (cc e)
 
 -- where the host knows what is so, none has
-pub none_failed : (path : List ℕ) (port : KnownPort) (a : HostState) (b : World) → StandsAt path port a → HostInvariant a → (status : PortStatus) → Watches port.port a.world (Ok status) b → (device : Option Accepted) → was_disabled port.port status device ≡ true → ⊥
+pub none_failed : (path : List ℕ) (port : KnownPort) (a : HostState) (b : World)
+    → StandsAt path port a → HostInvariant a → (status : PortStatus)
+    → Watches port.port a.world (Ok status) b → (device : Option Accepted)
+    → was_disabled port.port status device ≡ true → ⊥
 none_failed path port a b s i status w device failed =
     let is = failed_changed port.port status device failed in
     let told = w.told (claims a.entries) path (stands_at-claim path port a s) i.owned status refl in
-    no_change status.enable_changed is.1 (told_steady path status a.world b told (i.order (w.still is.0)))
+    no_change status.enable_changed is.1 (told_steady path status a.world b told
+    (i.order (w.still is.0)))
   where
     no_change : (c : Bool) → c ≡ true → c ≡ false → ⊥
     no_change c x y = absurd (cc (x, y))
 
 -- the port was looked at: a hub was asked
-pub failed_served : (n : ℕ) (port : HubPort) (a b c : HostState) (result : Result (Unit {0}) EnumFault) (status : PortStatus) → OnlyBusSteps a b → HostRuns n a b → (device : Option Accepted) → was_disabled port status device ≡ true → (CanFail port → ProgressOrLost result b c) → ProgressOrLost result a c
-failed_served n port a b c result status r g device failed served = served_after result a b c (rests_holds n a b g r) (served (failed_changed port status device failed).0)
+pub failed_served : (n : ℕ) (port : HubPort) (a b c : HostState)
+    (result : Result (Unit {0}) EnumFault) (status : PortStatus) → OnlyBusSteps a b → HostRuns n a b
+    → (device : Option Accepted) → was_disabled port status device ≡ true
+    → (CanFail port → ProgressOrLost result b c) → ProgressOrLost result a c
+failed_served n port a b c result status r g device failed served =
+    served_after result a b c (rests_holds n a b g r)
+    (served (failed_changed port status device failed).0)
 
 -- none is reachable there either after what keeps addresses
-pub bares_kept : (port : HubPort) (a b c : World) → Isolates port a b → KeepsAddresses b c → Isolates port a c
-bares_kept port a b c x k = record { bares = λ f p at o. k.kept (map_without f p) (x.bares f p at o) }
+pub bares_kept : (port : HubPort) (a b c : World) → Isolates port a b → KeepsAddresses b c
+    → Isolates port a c
+bares_kept port a b c x k = record {
+  bares =
+      λ f p at o. k.kept (map_without f p) (x.bares f p at o);
+}

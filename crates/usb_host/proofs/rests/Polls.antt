@@ -1,5 +1,8 @@
--- A hub that is known, and answers a poll that it has nothing to tell, has no port that tells of a change of connection.
-use Rattle.std.proofs.Common.{◌≡◌, ◌≤◌, ◌==◌, ◌&&◌, ◌||◌, ◌∙◌, not, if◌then◌else◌, ℕ, zero, suc, Bool, true, false, List, [], ◌∷◌, ◌++◌, Option, None, Some, is_some, Result, Ok, Err, refl, ap, sym, subst, arith, inl, inr}
+-- A hub that is known, and answers a poll that it has nothing to tell, has no port that tells of a
+-- change of connection.
+use Rattle.std.proofs.Common.{◌≡◌, ◌≤◌, ◌==◌, ◌&&◌, ◌||◌, ◌∙◌, not, if◌then◌else◌, ℕ, zero, suc}
+use Rattle.std.proofs.Common.{Bool, true, false, List, [], ◌∷◌, ◌++◌, Option, None, Some, is_some}
+use Rattle.std.proofs.Common.{Result, Ok, Err, refl, ap, sym, subst, arith, inl, inr}
 use Rattle.std.specs.Prelude.{IfSome}
 use Rattle.std.specs.Option.{option_or}
 use Rattle.std.proofs.lemmas.Bool.{eq-eqb, ne_eqb}
@@ -7,8 +10,10 @@ use Rattle.usb_port.specs.PortState.{PortState, has_change}
 use Rattle.usb_descriptor.specs.declared.fault.DescriptorFault.{DescriptorFault}
 use Rattle.usb_descriptor.specs.declared.item.Item.{Item}
 use Rattle.usb_descriptor.specs.declared.item.Item.TheVariants.{Interface, Endpoint, Other}
-use Rattle.usb_descriptor.specs.Choice.{status_endpoint_of, status_at, first_counting, first_from, picked, counts_after, in_config, packet_size}
-use Rattle.usb_descriptor.specs.Config.{config_of, config_after, config_head_of, configuration_value}
+use Rattle.usb_descriptor.specs.Choice.{status_endpoint_of, status_at, first_counting, first_from}
+use Rattle.usb_descriptor.specs.Choice.{picked, counts_after, in_config, packet_size}
+use Rattle.usb_descriptor.specs.Config.{config_of, config_after, config_head_of}
+use Rattle.usb_descriptor.specs.Config.{configuration_value}
 use Rattle.usb_descriptor.specs.Item.{items_of}
 use Rattle.usb_descriptor.proofs.Interface.{header_of}
 use Rattle.usb_device.specs.declared.request.Registers.{Registers}
@@ -49,7 +54,8 @@ use Rattle.usb_table.specs.Pipes.{IsStatusPipe, ArePipesTo, ArePipesIf}
 use Rattle.usb_table.specs.Transfers.{PipesPolled, PolledThrough}
 use Rattle.usb_host.specs.Agreement.{Agrees}
 use Rattle.usb_host.specs.HostState.{HostState}
-use Rattle.usb_host.specs.Soundness.{Accounted, HostInvariant, IsSilent, PortsListed, IsTruthOf, DevicesAccurate, known_supply}
+use Rattle.usb_host.specs.Soundness.{Accounted, HostInvariant, IsSilent, PortsListed, IsTruthOf}
+use Rattle.usb_host.specs.Soundness.{DevicesAccurate, known_supply}
 use Rattle.usb_host.proofs.entries.Roots.{accounted}
 use Rattle.usb_enum.proofs.Interface.{accepts}
 use Rattle.usb_host.proofs.knowledge.Servers.{server_hears, is_below_hub-deep}
@@ -58,7 +64,8 @@ use Rattle.usb_host.proofs.UnchangedHubs.{AreClear, nak_clears}
 
 -- A status endpoint
 
-if_size-one : (b : Bool) (size : ℕ) (e : ℕ × ℕ) → (if b then Some (1, size) else None) ≡ Some e → e.0 ≡ 1
+if_size-one : (b : Bool) (size : ℕ) (e : ℕ × ℕ) → (if b then Some (1, size) else None) ≡ Some e
+    → e.0 ≡ 1
 if_size-one true size e h = cc h
 if_size-one false size e h = absurd (cc h)
 
@@ -66,20 +73,24 @@ status_first : (endpoint : List ℕ) (e : ℕ × ℕ) → status_at endpoint ≡
 unfolding status_at
 status_first endpoint e h = if_size-one _ (packet_size endpoint) e h
 
-picked_first : (counts : Bool) (item : Item) (e : ℕ × ℕ) → picked status_at counts item ≡ Some e → e.0 ≡ 1
+picked_first : (counts : Bool) (item : Item) (e : ℕ × ℕ) → picked status_at counts item ≡ Some e
+    → e.0 ≡ 1
 picked_first counts (Interface bytes) e h = absurd (cc h)
 picked_first true (Endpoint bytes) e h = status_first bytes e h
 picked_first false (Endpoint bytes) e h = absurd (cc h)
 picked_first counts (Other bytes) e h = absurd (cc h)
 
-or_first : (x y : Option (ℕ × ℕ)) (e : ℕ × ℕ) → (x ≡ Some e → e.0 ≡ 1) → (y ≡ Some e → e.0 ≡ 1) → option_or x y ≡ Some e → e.0 ≡ 1
+or_first : (x y : Option (ℕ × ℕ)) (e : ℕ × ℕ) → (x ≡ Some e → e.0 ≡ 1) → (y ≡ Some e → e.0 ≡ 1)
+    → option_or x y ≡ Some e → e.0 ≡ 1
 or_first None y e f g h = g h
 or_first (Some x) y e f g h = f h
 
-first_of_all : (counts : Bool) (items : List Item) (e : ℕ × ℕ) → first_from status_at counts items ≡ Some e → e.0 ≡ 1
+first_of_all : (counts : Bool) (items : List Item) (e : ℕ × ℕ) → first_from status_at counts items
+    ≡ Some e → e.0 ≡ 1
 first_of_all counts [] e h = absurd (cc h)
 first_of_all counts (item ∷ items) e h =
-    or_first (picked status_at counts item) (first_from status_at (counts_after counts item) items) e (picked_first counts item e) (first_of_all (counts_after counts item) items e) h
+    or_first (picked status_at counts item) (first_from status_at (counts_after counts item) items)
+    e (picked_first counts item e) (first_of_all (counts_after counts item) items e) h
 
 -- it is endpoint 1, and the text's configuration has a value
 pub record IsStatusOf (text : List ℕ) (e : ℕ × ℕ) : Type 0 where
@@ -88,13 +99,18 @@ pub record IsStatusOf (text : List ℕ) (e : ℕ × ℕ) : Type 0 where
 
 pub status_of : (text : List ℕ) (e : ℕ × ℕ) → status_endpoint_of text ≡ Some e → IsStatusOf text e
 unfolding status_endpoint_of config_of first_counting
-status_of text e h = record { one = one (config_of text) h; valued = valued (config_head_of text) refl h }
+status_of text e h = record {
+  one = one (config_of text) h;
+  valued =
+      valued (config_head_of text) refl h;
+}
   where
     one : (r : Result (List ℕ) DescriptorFault) → in_config status_at r ≡ Some e → e.0 ≡ 1
     one (Err fault) h = absurd (cc h)
     one (Ok bytes) h = first_of_all false (items_of bytes) e h
 
-    valued : (r : Result ℕ DescriptorFault) → config_head_of text ≡ r → in_config status_at (config_after r text) ≡ Some e → 1 ≤ configuration_value text
+    valued : (r : Result ℕ DescriptorFault) → config_head_of text ≡ r
+        → in_config status_at (config_after r text) ≡ Some e → 1 ≤ configuration_value text
     valued (Err fault) is h = absurd (cc h)
     valued (Ok total) is h = (header_of text total is).valued
 
@@ -106,19 +122,28 @@ pub record HubThere (path : List ℕ) (entries : Entries) (facts : HubFacts) : T
   pub found : finding_at path entries ≡ Some (Device device)
   pub told : device.hub ≡ Some facts
 
-hub_facts_in-device : (o : Option Finding) (facts : HubFacts) → hub_facts_in o ≡ Some facts → (device : Accepted) × (o ≡ Some (Device device)) × (device.hub ≡ Some facts)
+hub_facts_in-device : (o : Option Finding) (facts : HubFacts) → hub_facts_in o ≡ Some facts
+    → (device : Accepted) × (o ≡ Some (Device device)) × (device.hub ≡ Some facts)
 hub_facts_in-device None facts h = absurd (cc h)
 hub_facts_in-device (Some (Refused cause)) facts h = absurd (cc h)
 hub_facts_in-device (Some (Device device)) facts h = (device, refl, h)
 
-pub hub_there : (path : List ℕ) (entries : Entries) (facts : HubFacts) → hub_facts_at path entries ≡ Some facts → HubThere path entries facts
-hub_there path entries facts h = let x = hub_facts_in-device (finding_at path entries) facts h in record { device = x.0; found = x.1; told = x.2 }
+pub hub_there : (path : List ℕ) (entries : Entries) (facts : HubFacts)
+    → hub_facts_at path entries ≡ Some facts → HubThere path entries facts
+hub_there path entries facts h = let x = hub_facts_in-device (finding_at path entries) facts h in
+    record { device = x.0; found = x.1; told = x.2 }
 
 -- its description has as many ports
-pub facts_ports : (spec : Spec) (facts : HubFacts) → facts_of spec ≡ Some facts → facts.ports ≡ hub_ports spec.hub
+pub facts_ports : (spec : Spec) (facts : HubFacts) → facts_of spec ≡ Some facts
+    → facts.ports ≡ hub_ports spec.hub
 facts_ports spec facts h = pick (is_hub_device spec.descriptor) h
   where
-    pick : (b : Bool) → (if b then Some (record { ports = hub_ports spec.hub; supply = supply_of false spec.self_powered }) else None) ≡ Some facts → facts.ports ≡ hub_ports spec.hub
+    pick : (b : Bool) → (if b then Some (record {
+      ports = hub_ports spec.hub;
+      supply =
+          supply_of false spec.self_powered;
+    }) else None) ≡ Some facts
+        → facts.ports ≡ hub_ports spec.hub
     pick true h = cc h
     pick false h = absurd (cc h)
 
@@ -135,20 +160,26 @@ valued_by zero h = absurd (omega (arith, h))
 valued_by (suc n) h = ap not (ne_eqb (suc n) 0 (λ e. absurd (omega (arith, e))))
 
 -- a configured hub tells which of its ports changed
-pub tells_changes-hub : (spec : Spec) (g : Registers) → 1 ≤ hub_ports spec.hub → 1 ≤ g.configuration → tells_changes spec g ≡ true
-tells_changes-hub spec g some valued = rw (hub_ports-some spec.hub some, valued_by g.configuration valued) refl
+pub tells_changes-hub : (spec : Spec) (g : Registers) → 1 ≤ hub_ports spec.hub → 1 ≤ g.configuration
+    → tells_changes spec g ≡ true
+tells_changes-hub spec g some valued =
+    rw (hub_ports-some spec.hub some, valued_by g.configuration valued) refl
 
 -- A quiet poll
 
-status_pipe : (device : Accepted) (facts : HubFacts) (below : Bool) (pipes : Pipes) → device.hub ≡ Some facts → ArePipesTo device below pipes → (pipe : Interrupt) × (pipes ≡ HubPipe pipe) × IsStatusPipe device below pipe
+status_pipe : (device : Accepted) (facts : HubFacts) (below : Bool) (pipes : Pipes)
+    → device.hub ≡ Some facts → ArePipesTo device below pipes → (pipe : Interrupt)
+    × (pipes ≡ HubPipe pipe) × IsStatusPipe device below pipe
 status_pipe device facts below (HubPipe pipe) told are = (pipe, refl, are.1)
 status_pipe device facts below (Function pipes) told are = false_true (sym are.0 ∙ ap is_some told)
 status_pipe device facts below Absent told are = absurd are
 
 change_none : (b : PortState) → has_change b ≡ false → b.connection_changed ≡ false
-change_none b h = (neither b.connection_changed b.enable_changed (neither (b.connection_changed || b.enable_changed) b.reset_changed h).0).0
+change_none b h = (neither b.connection_changed b.enable_changed
+    (neither (b.connection_changed || b.enable_changed) b.reset_changed h).0).0
 
-change_by : (o : Option PortState) → IfSome o (λ b. has_change b ≡ false) → IfSome o (λ b. b.connection_changed ≡ false)
+change_by : (o : Option PortState) → IfSome o (λ b. has_change b ≡ false)
+    → IfSome o (λ b. b.connection_changed ≡ false)
 change_by None h = tt
 change_by (Some b) h = change_none b h
 
@@ -159,18 +190,32 @@ record ReachedAt (w : World) (entries : Entries) (j : Location) (device : Accept
   stands : state_on w.roots j ≡ Some state
   tells : IsTruthOf entries (path_to j) device state
 
-module _ (w : World) (entries : Entries) (addresses : Addresses) (fits : Accounted (roots_of w) entries addresses) (known : PortsListed w entries) (truthful : DevicesAccurate w entries) where
-  pub reached_at : (path : List ℕ) (device : Accepted) → finding_at path entries ≡ Some (Device device) → pending w.roots path ≡ false → reach w.roots path ≡ true
+module _ (w : World) (entries : Entries) (addresses : Addresses)
+    (fits : Accounted (roots_of w) entries addresses) (known : PortsListed w entries)
+    (truthful : DevicesAccurate w entries) where
+  pub reached_at : (path : List ℕ) (device : Accepted)
+      → finding_at path entries ≡ Some (Device device) → pending w.roots path ≡ false
+      → reach w.roots path ≡ true
   reached_at path device found none =
-      let here : IsKnownAs w path (Some (Device device)) = subst (IsKnownAs w path) found (known path (listed_port w entries addresses fits path (Device device) found)) in
+      let here : IsKnownAs w path (Some (Device device)) =
+      subst (IsKnownAs w path) found (known path
+      (listed_port w entries addresses fits path (Device device) found)) in
       elim here [ inl pends ↦ false_true (sym none ∙ pends) | inr there ↦ there.1 ]
 
-  stands_at : (j : Location) (device : Accepted) → finding_at (path_to j) entries ≡ Some (Device device) → reach w.roots (path_to j) ≡ true → ReachedAt w entries j device
+  stands_at : (j : Location) (device : Accepted) → finding_at (path_to j) entries
+      ≡ Some (Device device) → reach w.roots (path_to j) ≡ true → ReachedAt w entries j device
   stands_at j device found on =
       let there : _ = reached_there w.roots (path_to j) on in
-      record { state = there.0; on = on; stands = there.1; tells = truthful (path_to j) device there.0 (ap accepted_device_of found) on there.1 }
+      record {
+        state = there.0;
+        on = on;
+        stands = there.1;
+        tells =
+            truthful (path_to j) device there.0 (ap accepted_device_of found) on there.1;
+      }
 
-  heard_by : (j : Location) (device : Accepted) → ReachedAt w entries j device → IsListening (path_to j) device w
+  heard_by : (j : Location) (device : Accepted) → ReachedAt w entries j device
+      → IsListening (path_to j) device w
   heard_by j device r = record {
     spot = j;
     state = r.state;
@@ -179,47 +224,83 @@ module _ (w : World) (entries : Entries) (addresses : Addresses) (fits : Account
     stands = r.stands;
     listens = record {
       at = eq-eqb (address_of r.state) device.address r.tells.set.address;
-      loud = (accepts r.state.spec (tier_of (path_to j)) (known_supply (path_to j) entries) device.chosen r.tells.found.0).loud;
-      hears = server_hears device.low r.state.spec.low (deep_at false j.rest) (device.low && is_below_hub (path_to j)) r.tells.found.1.low (λ low deep. and_of device.low (is_below_hub (path_to j)) low (is_below_hub-deep j.row j.rest deep));
+      loud = (accepts r.state.spec (tier_of (path_to j)) (known_supply (path_to j) entries)
+          device.chosen r.tells.found.0).loud;
+      hears = server_hears device.low r.state.spec.low (deep_at false j.rest)
+          (device.low && is_below_hub (path_to j)) r.tells.found.1.low
+          (λ low deep. and_of device.low (is_below_hub (path_to j)) low
+          (is_below_hub-deep j.row j.rest deep));
     };
   }
 
-  pub heard_at : (path : List ℕ) (device : Accepted) → finding_at path entries ≡ Some (Device device) → reach w.roots path ≡ true → IsListening path device w
+  pub heard_at : (path : List ℕ) (device : Accepted)
+      → finding_at path entries ≡ Some (Device device) → reach w.roots path ≡ true
+      → IsListening path device w
   heard_at [] device found on = false_true on
   heard_at (zero ∷ p) device found on = false_true on
-  heard_at (suc j ∷ p) device found on = heard_by (record { row = j; rest = p }) device (stands_at (record { row = j; rest = p }) device found on)
+  heard_at (suc j ∷ p) device found on = heard_by (record { row = j; rest = p }) device
+      (stands_at (record { row = j; rest = p }) device found on)
 
-module _ (h : HostState) (agrees : Agrees h.entries h.addresses) (s : HostInvariant h) (still : h.world.fault ≡ None) where
+module _ (h : HostState) (agrees : Agrees h.entries h.addresses) (s : HostInvariant h)
+    (still : h.world.fault ≡ None) where
   module _ (facts : HubFacts) (number : ℕ) (least : 1 ≤ number) (most : number ≤ facts.ports) where
-    clear_by : (pipe : Interrupt) (old : World) (j : Location) (device : Accepted) (below : Bool) → device.hub ≡ Some facts → IsStatusPipe device below pipe → IsSettled old.roots → Waiting pipe.toggle (in_attempt pipe.target pipe.ep) old h.world
-        → ReachedAt h.world h.entries j device → IfSome (port_there h.world.roots (path_to j ++ (number ∷ []))) (λ b. b.connection_changed ≡ false)
+    clear_by : (pipe : Interrupt) (old : World) (j : Location) (device : Accepted) (below : Bool)
+        → device.hub ≡ Some facts → IsStatusPipe device below pipe → IsSettled old.roots
+        → Waiting pipe.toggle (in_attempt pipe.target pipe.ep) old h.world
+        → ReachedAt h.world h.entries j device
+        → IfSome (port_there h.world.roots (path_to j ++ (number ∷ [])))
+        (λ b. b.connection_changed ≡ false)
     clear_by pipe old j device below told is settled waiting r =
         let status = status_of (configuration_of device) (pipe.ep, pipe.target.max) is.endpoint in
-        let ports : facts.ports ≡ hub_ports r.state.spec.hub = facts_ports r.state.spec facts (sym r.tells.found.1.hub ∙ told) in
-        let spec : IsSpec r.state.spec = sane_spec h.world.roots j.row j.rest r.state (s.order still).sane r.stands in
+        let ports : facts.ports ≡ hub_ports r.state.spec.hub =
+        facts_ports r.state.spec facts (sym r.tells.found.1.hub ∙ told) in
+        let spec : IsSpec r.state.spec = sane_spec h.world.roots j.row j.rest r.state
+        (s.order still).sane r.stands in
         let few : hub_ports r.state.spec.hub ≤ 7 = few_by r.state.spec.hub spec.hub in
-        let configured : 1 ≤ r.state.registers.configuration = subst (λ n. 1 ≤ n) (sym r.tells.set.configuration) status.valued in
+        let configured : 1 ≤ r.state.registers.configuration =
+        subst (λ n. 1 ≤ n) (sym r.tells.set.configuration) status.valued in
         let address : pipe.target.addr ≡ device.address = ap (λ (t : Target). t.addr) is.target in
-        let at : has_address r.state pipe.target ≡ true = eq-eqb r.state.registers.address pipe.target.addr (r.tells.set.address ∙ sym address) in
-        let tells : tells_changes r.state.spec r.state.registers ≡ true = tells_changes-hub r.state.spec r.state.registers (omega (arith, least, most, ports)) configured in
-        let trail : AttemptLog (in_attempt pipe.target 1) old (Nak ∷ waiting.outcomes) h.world = subst (λ e. AttemptLog (in_attempt pipe.target e) old (Nak ∷ waiting.outcomes) h.world) status.one waiting.trail in
-        let clear : AreClear h.world j = nak_clears pipe.target trail refl settled s.owned.single j r.state r.on r.stands at tells in
-        change_by (port_there h.world.roots (path_to j ++ (number ∷ []))) (clear number least (omega (arith, most, ports, few)))
+        let at : has_address r.state pipe.target ≡ true =
+        eq-eqb r.state.registers.address pipe.target.addr (r.tells.set.address ∙ sym address) in
+        let tells : tells_changes r.state.spec r.state.registers ≡ true =
+        tells_changes-hub r.state.spec r.state.registers (omega (arith, least, most, ports))
+        configured in
+        let trail : AttemptLog (in_attempt pipe.target 1) old (Nak ∷ waiting.outcomes) h.world =
+        subst (λ e. AttemptLog (in_attempt pipe.target e) old (Nak ∷ waiting.outcomes) h.world)
+        status.one waiting.trail in
+        let clear : AreClear h.world j = nak_clears pipe.target trail refl settled s.owned.single j
+        r.state r.on r.stands at tells in
+        change_by (port_there h.world.roots (path_to j ++ (number ∷ [])))
+        (clear number least (omega (arith, most, ports, few)))
 
-    silent_by : (path : List ℕ) (pipe rest : Interrupt) (old : World) → (there : HubThere path h.entries facts) → IsStatusPipe there.device (is_below_hub path) pipe → PolledThrough pipe old (Ok None) rest h.world
-        → reach h.world.roots path ≡ true → IfSome (port_there h.world.roots (path ++ (number ∷ []))) (λ b. b.connection_changed ≡ false)
+    silent_by : (path : List ℕ) (pipe rest : Interrupt) (old : World)
+        → (there : HubThere path h.entries facts)
+        → IsStatusPipe there.device (is_below_hub path) pipe
+        → PolledThrough pipe old (Ok None) rest h.world
+        → reach h.world.roots path ≡ true
+        → IfSome (port_there h.world.roots (path ++ (number ∷ [])))
+        (λ b. b.connection_changed ≡ false)
     silent_by [] pipe rest old there is through on = false_true on
     silent_by (zero ∷ p) pipe rest old there is through on = false_true on
     silent_by (suc j ∷ p) pipe rest old there is through on =
-        clear_by pipe old (record { row = j; rest = p }) there.device (is_below_hub (suc j ∷ p)) there.told is through.settled through.polls.asked
-        (stands_at h.world h.entries h.addresses (accounted h agrees s.rooted) (s.known still) (s.truthful still) (record { row = j; rest = p }) there.device there.found on)
+        clear_by pipe old (record { row = j; rest = p }) there.device (is_below_hub (suc j ∷ p))
+        there.told is through.settled through.polls.asked
+        (stands_at h.world h.entries h.addresses (accounted h agrees s.rooted) (s.known still)
+        (s.truthful still) (record { row = j; rest = p }) there.device there.found on)
 
   -- the poll answered that there is nothing to tell
-  pub poll_silent : (path : List ℕ) (pipes left : Pipes) (old : World) → ArePipesIf (accepted_device_at path h.entries) (is_below_hub path) pipes
-      → PipesPolled pipes old (Ok None) left h.world → pending h.world.roots path ≡ false → IsSilent path h
+  pub poll_silent : (path : List ℕ) (pipes left : Pipes) (old : World)
+      → ArePipesIf (accepted_device_at path h.entries) (is_below_hub path) pipes
+      → PipesPolled pipes old (Ok None) left h.world → pending h.world.roots path ≡ false
+      → IsSilent path h
   poll_silent path pipes left old are polled none facts number at least most =
       let there = hub_there path h.entries facts at in
-      let pipe : _ = status_pipe there.device facts (is_below_hub path) pipes there.told (subst (λ (found : Option Finding). ArePipesIf (accepted_device_of found) (is_below_hub path) pipes) there.found are) in
-      let through : (rest : Interrupt) × (left ≡ HubPipe rest) × PolledThrough pipe.0 old (Ok None) rest h.world = subst (λ (x : Pipes). PipesPolled x old (Ok None) left h.world) pipe.1 polled in
-      let on = reached_at h.world h.entries h.addresses (accounted h agrees s.rooted) (s.known still) (s.truthful still) path there.device there.found none in
+      let pipe : _ = status_pipe there.device facts (is_below_hub path) pipes there.told
+      (subst (λ (found : Option Finding). ArePipesIf (accepted_device_of found)
+      (is_below_hub path) pipes) there.found are) in
+      let through : (rest : Interrupt) × (left ≡ HubPipe rest)
+      × PolledThrough pipe.0 old (Ok None) rest h.world =
+      subst (λ (x : Pipes). PipesPolled x old (Ok None) left h.world) pipe.1 polled in
+      let on = reached_at h.world h.entries h.addresses (accounted h agrees s.rooted)
+      (s.known still) (s.truthful still) path there.device there.found none in
       silent_by facts number least most path pipe.0 through.0 old there pipe.2 through.2 on

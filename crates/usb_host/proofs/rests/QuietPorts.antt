@@ -8,12 +8,19 @@ no_change : (p : PortState) → p.connection_changed ≡ false → change_of p �
 unfolding change_of
 no_change p h = rw h refl
 
-no_changes : (ps : List PortState) → ((i : ℕ) → i < length ps → (slice_index_or ps i off).connection_changed ≡ false) → changes ps ≡ 0
+no_changes : (ps : List PortState) → ((i : ℕ) → i < length ps
+    → (slice_index_or ps i off).connection_changed ≡ false) → changes ps ≡ 0
 unfolding changes
 no_changes [] h = refl
-no_changes (p ∷ ps) h = omega (arith, no_change p (h zero (omega arith)), no_changes ps (λ i lt. h (suc i) (omega (arith, lt))))
+no_changes (p ∷ ps) h = omega (
+  arith,
+  no_change p (h zero (omega arith)),
+  no_changes ps (λ i lt. h (suc i) (omega (arith, lt))),
+)
 
-pub none_changed : (w : World) (n : ℕ) → roots_of w < n → ((k : ℕ) → 1 ≤ k → k < n → (root_port_at w k).connection_changed ≡ false) → changes (root_row w) ≡ 0
+pub none_changed : (w : World) (n : ℕ) → roots_of w < n
+    → ((k : ℕ) → 1 ≤ k → k < n → (root_port_at w k).connection_changed ≡ false)
+    → changes (root_row w) ≡ 0
 unfolding root_port_at
 none_changed w n lt h =
     no_changes (root_row w) (λ i inside.

@@ -1,5 +1,7 @@
 -- Where a round was quiet and no event came, nothing is left to do.
-use Rattle.std.proofs.Common.{◌≡◌, ◌≤◌, ◌⊎◌, ◌∙◌, inl, inr, refl, sym, ap, subst, arith, zero, suc, ℕ, ◌+◌, length-append, Bool, true, false, List, [], ◌∷◌, ◌++◌, length, Option, None, Some, Result, Ok, slice_get, is_some, if◌then◌else◌}
+use Rattle.std.proofs.Common.{◌≡◌, ◌≤◌, ◌⊎◌, ◌∙◌, inl, inr, refl, sym, ap, subst, arith, zero, suc}
+use Rattle.std.proofs.Common.{ℕ, ◌+◌, length-append, Bool, true, false, List, [], ◌∷◌, ◌++◌, length}
+use Rattle.std.proofs.Common.{Option, None, Some, Result, Ok, slice_get, is_some, if◌then◌else◌}
 use Rattle.std.specs.Prelude.{IfSome, IfNone, IsSome, IsSomeAnd}
 use Rattle.std.specs.Ordering.{is_eq}
 use Rattle.std.specs.declared.cmp.Ordering.{Ordering}
@@ -23,7 +25,8 @@ use Rattle.usb_enum.specs.declared.finding.Finding.TheVariants.{Device, Refused}
 use Rattle.usb_enum.specs.declared.hub.HubFacts.{HubFacts}
 use Rattle.usb_table.specs.Entries.{Entries}
 use Rattle.usb_table.specs.Findings.{is_hub, is_waiting}
-use Rattle.usb_table.specs.Listing.{hub_facts_in, hub_facts_at, IsListedPort, IsPortBelow, ListsEach}
+use Rattle.usb_table.specs.Listing.{hub_facts_in, hub_facts_at, IsListedPort, IsPortBelow}
+use Rattle.usb_table.specs.Listing.{ListsEach}
 use Rattle.usb_table.specs.NextEntries.{ComesAfter, Stands, IsNext, IsLast}
 use Rattle.usb_table.proofs.Interface.{path_tied}
 use Rattle.usb_host.specs.Agreement.{Agrees}
@@ -31,7 +34,8 @@ use Rattle.usb_host.specs.HostState.{HostState}
 use Rattle.usb_host.specs.Ownership.{IsRooted}
 use Rattle.usb_host.specs.Progress.{HostRuns, Did, Remains, either}
 use Rattle.usb_host.specs.declared.fault.HostFault.{HostFault}
-use Rattle.usb_host.specs.Soundness.{HostInvariant, IsSilent, IsAtRest, NoneWaiting, KeepsInvariant, RootsRest, HubKeeps, HubsKeep, LooksKeep}
+use Rattle.usb_host.specs.Soundness.{HostInvariant, IsSilent, IsAtRest, NoneWaiting, KeepsInvariant}
+use Rattle.usb_host.specs.Soundness.{RootsRest, HubKeeps, HubsKeep, LooksKeep}
 use Rattle.usb_host.specs.declared.host.Round.{Round}
 use Rattle.usb_host.specs.declared.host.Round.TheVariants.{Worked, Quiet}
 use Rattle.usb_host.proofs.entries.Balances.{accounts_listed}
@@ -61,81 +65,118 @@ quiet_second Quiet s h = h
 pub all_rest_then : (u w v : World) → TouchesNoPort u w → TouchesNoPort w v → TouchesNoPort u v
 all_rest_then u w v x y p = course_joined (x p) (y p)
 
--- A port that told of no change tells of none after a course that asks nothing of it, and in which no event came
+-- A port that told of no change tells of none after a course that asks nothing of it, and in which
+-- no event came
 
-none_told : (o u : Option PortState) → u ≡ o → IfSome o (λ b. b.connection_changed ≡ false) → IfSome u (λ b. b.connection_changed ≡ false)
-none_told o u e h = subst (λ (x : Option PortState). IfSome x (λ b. b.connection_changed ≡ false)) (sym e) h
+none_told : (o u : Option PortState) → u ≡ o → IfSome o (λ b. b.connection_changed ≡ false)
+    → IfSome u (λ b. b.connection_changed ≡ false)
+none_told o u e h = subst (λ (x : Option PortState). IfSome x (λ b. b.connection_changed ≡ false))
+    (sym e) h
 
-pub silent_stays : (hub : List ℕ) (b c : HostState) → c.entries ≡ b.entries → TouchesNoPort b.world c.world → c.world.taken ≡ b.world.taken → IsSilent hub b → IsSilent hub c
+pub silent_stays : (hub : List ℕ) (b c : HostState) → c.entries ≡ b.entries
+    → TouchesNoPort b.world c.world → c.world.taken ≡ b.world.taken → IsSilent hub b
+    → IsSilent hub c
 silent_stays hub b c same rests taken silent facts number at least most =
-    none_told (port_there b.world.roots (hub ++ (number ∷ []))) (port_there c.world.roots (hub ++ (number ∷ []))) (calm_port (hub ++ (number ∷ [])) (rests (hub ++ (number ∷ []))) taken)
+    none_told (port_there b.world.roots (hub ++ (number ∷ [])))
+    (port_there c.world.roots (hub ++ (number ∷ [])))
+    (calm_port (hub ++ (number ∷ [])) (rests (hub ++ (number ∷ []))) taken)
     (silent facts number (ap (λ (es : Entries). hub_facts_at hub es) (sym same) ∙ at) least most)
 
 -- what does not pend now did not before
-pub pended : (path : List ℕ) (w v : World) → TouchesNoPort w v → pending v.roots path ≡ false → pending w.roots path ≡ false
+pub pended : (path : List ℕ) (w v : World) → TouchesNoPort w v → pending v.roots path ≡ false
+    → pending w.roots path ≡ false
 pended path w v rests none = pick (pending w.roots path) refl
   where
     pick : (b : Bool) → pending w.roots path ≡ b → b ≡ false
-    pick true is = false_true (sym none ∙ pending_persists path (course_wider (λ s u x. x.spares) (rests path)) is)
+    pick true is = false_true (sym none
+        ∙ pending_persists path (course_wider (λ s u x. x.spares) (rests path)) is)
     pick false is = refl
 
 -- One hub after another
 
 -- a hub that does not come after the last one was polled
 abbrev pub Polled : Option (List ℕ) → HostState → Type 0
-Polled last h = (hub : List ℕ) → (ComesAfter last hub → ⊥) → pending h.world.roots hub ≡ false → IsSilent hub h
+Polled last h = (hub : List ℕ) → (ComesAfter last hub → ⊥) → pending h.world.roots hub ≡ false
+    → IsSilent hub h
 
-stands_hub : (last : Option (List ℕ)) (hub : List ℕ) (es : Entries) (facts : HubFacts) → hub_facts_at hub es ≡ Some facts → ComesAfter last hub → Stands is_hub last es hub
+stands_hub : (last : Option (List ℕ)) (hub : List ℕ) (es : Entries) (facts : HubFacts)
+    → hub_facts_at hub es ≡ Some facts → ComesAfter last hub → Stands is_hub last es hub
 stands_hub last hub es facts at after =
     let there = hub_there hub es facts at in
-    record { finding = Device there.device; found = there.found; fits = ap is_some there.told; after = after }
+    record {
+      finding = Device there.device;
+      found = there.found;
+      fits = ap is_some there.told;
+      after = after;
+    }
 
 is_hub-facts : (f : Finding) → is_hub f ≡ true → IsSome (hub_facts_in (Some f))
 is_hub-facts (Device device) h = h
 is_hub-facts (Refused cause) h = absurd (cc h)
 
 -- the next hub is listed
-pub next_listed : (last : Option (List ℕ)) (hub : List ℕ) (es : Entries) → IsNext is_hub last es hub → IsSome (hub_facts_at hub es)
-next_listed last hub es is = subst (λ o. IsSome (hub_facts_in o)) (sym is.stands.found) (is_hub-facts is.stands.finding is.stands.fits)
+pub next_listed : (last : Option (List ℕ)) (hub : List ℕ) (es : Entries) → IsNext is_hub last es hub
+    → IsSome (hub_facts_at hub es)
+next_listed last hub es is = subst (λ o. IsSome (hub_facts_in o)) (sym is.stands.found)
+    (is_hub-facts is.stands.finding is.stands.fits)
 
-after_or_not : (last : Option (List ℕ)) (hub : List ℕ) → ComesAfter last hub ⊎ (ComesAfter last hub → ⊥)
+after_or_not : (last : Option (List ℕ)) (hub : List ℕ) → ComesAfter last hub
+    ⊎ (ComesAfter last hub → ⊥)
 after_or_not None hub = inl tt
 after_or_not (Some last) hub = pick (path_cmp last hub) refl
   where
-    pick : (o : Ordering) → path_cmp last hub ≡ o → (path_cmp last hub ≡ Less) ⊎ (path_cmp last hub ≡ Less → ⊥)
+    pick : (o : Ordering) → path_cmp last hub ≡ o → (path_cmp last hub ≡ Less)
+        ⊎ (path_cmp last hub ≡ Less → ⊥)
     pick Less is = inl is
     pick Equal is = inr (λ less. cc (less, is))
     pick Greater is = inr (λ less. cc (less, is))
 
-module _ (last : Option (List ℕ)) (next : List ℕ) (b c : HostState) (is : IsNext is_hub last b.entries next) (same : c.entries ≡ b.entries)
-    (rests : TouchesNoPort b.world c.world) (taken : c.world.taken ≡ b.world.taken) (before : Polled last b) (here : pending c.world.roots next ≡ false → IsSilent next c) where
+module _ (last : Option (List ℕ)) (next : List ℕ) (b c : HostState)
+    (is : IsNext is_hub last b.entries next) (same : c.entries ≡ b.entries)
+    (rests : TouchesNoPort b.world c.world) (taken : c.world.taken ≡ b.world.taken)
+    (before : Polled last b) (here : pending c.world.roots next ≡ false → IsSilent next c) where
   pub polled_next : Polled (Some next) c
   polled_next hub not none facts number at least most = pick (path_cmp next hub) refl
     where
       was : hub_facts_at hub b.entries ≡ Some facts
       was = ap (λ (es : Entries). hub_facts_at hub es) (sym same) ∙ at
 
-      earlier : (ComesAfter last hub → ⊥) → IfSome (port_there c.world.roots (hub ++ (number ∷ []))) (λ b. b.connection_changed ≡ false)
-      earlier before_last = silent_stays hub b c same rests taken (before hub before_last (pended hub b.world c.world rests none)) facts number at least most
+      earlier : (ComesAfter last hub → ⊥) → IfSome (port_there c.world.roots (hub ++ (number ∷ [])))
+          (λ b. b.connection_changed ≡ false)
+      earlier before_last = silent_stays hub b c same rests taken
+          (before hub before_last (pended hub b.world c.world rests none)) facts number at least
+          most
 
-      pick : (o : Ordering) → path_cmp next hub ≡ o → IfSome (port_there c.world.roots (hub ++ (number ∷ []))) (λ b. b.connection_changed ≡ false)
+      pick : (o : Ordering) → path_cmp next hub ≡ o
+          → IfSome (port_there c.world.roots (hub ++ (number ∷ [])))
+          (λ b. b.connection_changed ≡ false)
       pick Less less = absurd (not less)
       pick Equal tie =
           let path : next ≡ hub = path_tied next hub (ap is_eq tie) in
-          subst (λ (p : List ℕ). (pending c.world.roots p ≡ false → IsSilent p c) → IfSome (port_there c.world.roots (hub ++ (number ∷ []))) (λ b. b.connection_changed ≡ false)) (sym path)
+          subst (λ (p : List ℕ). (pending c.world.roots p ≡ false → IsSilent p c)
+          → IfSome (port_there c.world.roots (hub ++ (number ∷ [])))
+          (λ b. b.connection_changed ≡ false)) (sym path)
           (λ h. h none facts number at least most) here
       pick Greater greater = elim (after_or_not last hub) [
-        | inl after ↦ absurd (is.least hub (stands_hub last hub b.entries facts was after) (path_cmp-greater next hub greater))
+        | inl after ↦ absurd (is.least hub (stands_hub last hub b.entries facts was after)
+            (path_cmp-greater next hub greater))
         | inr before_last ↦ earlier before_last
       ]
 
 -- two parts, of which the second polled the next hub
-module _ (m n : ℕ) (r s : Round) (a b c : HostState) (p : HostRuns m a b) (q : HostRuns n b c) (quiet : either r s ≡ Quiet) (still : c.world.fault ≡ None) where
-  pub calm_then : (r ≡ Quiet → b.world.fault ≡ None → TouchesNoPort a.world b.world) → (done s ≡ done Quiet → c.world.fault ≡ None → TouchesNoPort b.world c.world) → TouchesNoPort a.world c.world
-  calm_then x y = all_rest_then a.world b.world c.world (x (quiet_first r s quiet) (went_sound n b.world c.world q.went still)) (y (ap done (quiet_second r s quiet)) still)
+module _ (m n : ℕ) (r s : Round) (a b c : HostState) (p : HostRuns m a b) (q : HostRuns n b c)
+    (quiet : either r s ≡ Quiet) (still : c.world.fault ≡ None) where
+  pub calm_then : (r ≡ Quiet → b.world.fault ≡ None → TouchesNoPort a.world b.world)
+      → (done s ≡ done Quiet → c.world.fault ≡ None → TouchesNoPort b.world c.world)
+      → TouchesNoPort a.world c.world
+  calm_then x y = all_rest_then a.world b.world c.world
+      (x (quiet_first r s quiet) (went_sound n b.world c.world q.went still))
+      (y (ap done (quiet_second r s quiet)) still)
 
-  pub polled_then : (last : Option (List ℕ)) (next : List ℕ) → IsNext is_hub last b.entries next → c.world.taken ≡ a.world.taken → HostInvariant a → KeepsInvariant a b → Did s b c
-      → (HostInvariant a → r ≡ Quiet → b.world.fault ≡ None → b.world.taken ≡ a.world.taken → Polled last b) → HubKeeps next b (Ok s) c → Polled (Some next) c
+  pub polled_then : (last : Option (List ℕ)) (next : List ℕ) → IsNext is_hub last b.entries next
+      → c.world.taken ≡ a.world.taken → HostInvariant a → KeepsInvariant a b → Did s b c
+      → (HostInvariant a → r ≡ Quiet → b.world.fault ≡ None → b.world.taken ≡ a.world.taken
+      → Polled last b) → HubKeeps next b (Ok s) c → Polled (Some next) c
   polled_then last next is taken sound stays did before hub =
       let first = quiet_first r s quiet in
       let second = quiet_second r s quiet in
@@ -145,11 +186,14 @@ module _ (m n : ℕ) (r s : Round) (a b c : HostState) (p : HostRuns m a b) (q :
       let late = q.went.spends.onward in
       let taken_first : b.world.taken ≡ a.world.taken = omega (arith, taken, early, late) in
       let taken_second : c.world.taken ≡ b.world.taken = omega (arith, taken, early, late) in
-      polled_next last next b c is (ap (λ (h : HostState). h.entries) remains) (hub.calm told still) taken_second
-      (before sound first (went_sound n b.world c.world q.went still) taken_first) (hub.silent (stays.sound sound) told still)
+      polled_next last next b c is (ap (λ (h : HostState). h.entries) remains) (hub.calm told still)
+      taken_second
+      (before sound first (went_sound n b.world c.world q.went still) taken_first)
+      (hub.silent (stays.sound sound) told still)
 
 -- after the last of them all were polled
-pub polled_all : (last : Option (List ℕ)) (h : HostState) → IsLast is_hub last h.entries → Polled last h → (hub : List ℕ) → pending h.world.roots hub ≡ false → IsSilent hub h
+pub polled_all : (last : Option (List ℕ)) (h : HostState) → IsLast is_hub last h.entries
+    → Polled last h → (hub : List ℕ) → pending h.world.roots hub ≡ false → IsSilent hub h
 polled_all last h none polled hub calm facts number at least most = elim (after_or_not last hub) [
   | inl after ↦ absurd (none hub (stands_hub last hub h.entries facts at after))
   | inr before ↦ polled hub before calm facts number at least most
@@ -168,47 +212,69 @@ change_clear p h = pick p.connection_changed h
     pick true e = absurd (cc e)
     pick false e = refl
 
-changes_clear : (row : List PortState) (i : ℕ) → changes row ≡ 0 → IfSome (slice_get row i) (λ b. b.connection_changed ≡ false)
+changes_clear : (row : List PortState) (i : ℕ) → changes row ≡ 0
+    → IfSome (slice_get row i) (λ b. b.connection_changed ≡ false)
 unfolding changes
 changes_clear [] i h = tt
 changes_clear (p ∷ row) zero h = change_clear p (omega (arith, h))
 changes_clear (p ∷ row) (suc i) h = changes_clear row i (omega (arith, h))
 
-root_clear : (w : World) (n : ℕ) → 1 ≤ n → changes (root_row w) ≡ 0 → IfSome (port_there w.roots (n ∷ [])) (λ b. b.connection_changed ≡ false)
+root_clear : (w : World) (n : ℕ) → 1 ≤ n → changes (root_row w) ≡ 0
+    → IfSome (port_there w.roots (n ∷ [])) (λ b. b.connection_changed ≡ false)
 root_clear w zero least none = absurd (omega (arith, least))
-root_clear w (suc i) least none = none_told (slice_get (row_of w.roots) i) (port_at w.roots i []) (row_port w.roots i) (changes_clear (row_of w.roots) i none)
+root_clear w (suc i) least none = none_told (slice_get (row_of w.roots) i) (port_at w.roots i [])
+    (row_port w.roots i) (changes_clear (row_of w.roots) i none)
 
-module _ (a c : HostState) (agrees : Agrees c.entries c.addresses) (rooted : IsRooted c) (rests : TouchesNoPort a.world c.world) (taken : c.world.taken ≡ a.world.taken)
-    (none : changes (root_row a.world) ≡ 0) (silent : (hub : List ℕ) → pending c.world.roots hub ≡ false → IsSilent hub c) where
+module _ (a c : HostState) (agrees : Agrees c.entries c.addresses) (rooted : IsRooted c)
+    (rests : TouchesNoPort a.world c.world) (taken : c.world.taken ≡ a.world.taken)
+    (none : changes (root_row a.world) ≡ 0) (silent : (hub : List ℕ)
+    → pending c.world.roots hub ≡ false → IsSilent hub c) where
   root_rests : (n : ℕ) → 1 ≤ n → pending c.world.roots (n ∷ []) ≡ false
   root_rests n least =
       pend-no_change c.world.roots [] n least refl
-      (none_told (port_there a.world.roots (n ∷ [])) (port_there c.world.roots (n ∷ [])) (calm_port (n ∷ []) (rests (n ∷ [])) taken) (root_clear a.world n least none))
+      (none_told (port_there a.world.roots (n ∷ [])) (port_there c.world.roots (n ∷ []))
+      (calm_port (n ∷ []) (rests (n ∷ [])) taken) (root_clear a.world n least none))
 
-  below_rests : (hub : List ℕ) (n : ℕ) → (IsListedPort (roots_of c.world) c.entries hub → pending c.world.roots hub ≡ false) → IsSomeAnd (hub_facts_at hub c.entries) (λ facts. (1 ≤ n) × (n ≤ facts.ports))
+  below_rests : (hub : List ℕ) (n : ℕ) → (IsListedPort (roots_of c.world) c.entries hub
+      → pending c.world.roots hub ≡ false)
+      → IsSomeAnd (hub_facts_at hub c.entries) (λ facts. (1 ≤ n) × (n ≤ facts.ports))
       → pending c.world.roots (hub ++ (n ∷ [])) ≡ false
   below_rests hub n above port = pick (hub_facts_at hub c.entries) refl port
     where
-      pick : (o : Option HubFacts) → hub_facts_at hub c.entries ≡ o → IsSomeAnd o (λ facts. (1 ≤ n) × (n ≤ facts.ports)) → pending c.world.roots (hub ++ (n ∷ [])) ≡ false
+      pick : (o : Option HubFacts) → hub_facts_at hub c.entries ≡ o
+          → IsSomeAnd o (λ facts. (1 ≤ n) × (n ≤ facts.ports))
+          → pending c.world.roots (hub ++ (n ∷ [])) ≡ false
       pick None at h = absurd h
       pick (Some facts) at h =
           let there = hub_there hub c.entries facts at in
-          let calm = above (listed_port c.world c.entries c.addresses (accounted c agrees rooted) hub (Device there.device) there.found) in
+          let calm = above (listed_port c.world c.entries c.addresses (accounted c agrees rooted)
+          hub (Device there.device) there.found) in
           pend-no_change c.world.roots hub n h.0 calm (silent hub calm facts n at h.0 h.1)
 
-  pends_step : (fuel : ℕ) (path : List ℕ) → length path ≤ suc fuel → ((hub : List ℕ) → length hub ≤ fuel → IsListedPort (roots_of c.world) c.entries hub → pending c.world.roots hub ≡ false) → 1 ≤ length path
-      → (o : Option (List ℕ)) → parent_of path ≡ o → IsPortBelow (roots_of c.world) c.entries o (port_on_hub path) → pending c.world.roots path ≡ false
-  pends_step fuel path short above some None is h = subst (λ (p : List ℕ). pending c.world.roots p ≡ false) (sym (root_alone path some is)) (root_rests (port_on_hub path) h.0)
+  pends_step : (fuel : ℕ) (path : List ℕ) → length path ≤ suc fuel
+      → ((hub : List ℕ) → length hub ≤ fuel → IsListedPort (roots_of c.world) c.entries hub
+      → pending c.world.roots hub ≡ false) → 1 ≤ length path
+      → (o : Option (List ℕ)) → parent_of path ≡ o
+      → IsPortBelow (roots_of c.world) c.entries o (port_on_hub path)
+      → pending c.world.roots path ≡ false
+  pends_step fuel path short above some None is h =
+      subst (λ (p : List ℕ). pending c.world.roots p ≡ false) (sym (root_alone path some is))
+      (root_rests (port_on_hub path) h.0)
   pends_step fuel path short above some (Some hub) is h =
       let joined : path ≡ hub ++ (port_on_hub path ∷ []) = rejoined path hub is in
-      let long : length path ≡ length hub + 1 = ap length joined ∙ length-append hub (port_on_hub path ∷ []) in
-      subst (λ (p : List ℕ). pending c.world.roots p ≡ false) (sym joined) (below_rests hub (port_on_hub path) (above hub (omega (arith, long, short))) h)
+      let long : length path ≡ length hub + 1 = ap length joined
+      ∙ length-append hub (port_on_hub path ∷ []) in
+      subst (λ (p : List ℕ). pending c.world.roots p ≡ false) (sym joined)
+      (below_rests hub (port_on_hub path) (above hub (omega (arith, long, short))) h)
 
-  pends_by : (fuel : ℕ) (path : List ℕ) → length path ≤ fuel → IsListedPort (roots_of c.world) c.entries path → pending c.world.roots path ≡ false
+  pends_by : (fuel : ℕ) (path : List ℕ) → length path ≤ fuel
+      → IsListedPort (roots_of c.world) c.entries path → pending c.world.roots path ≡ false
   pends_by zero path short port = absurd (omega (arith, short, port.some))
-  pends_by (suc fuel) path short port = pends_step fuel path short (pends_by fuel) port.some (parent_of path) refl port.port
+  pends_by (suc fuel) path short port = pends_step fuel path short (pends_by fuel) port.some
+      (parent_of path) refl port.port
 
-  pub none_pends : (path : List ℕ) → IsListedPort (roots_of c.world) c.entries path → pending c.world.roots path ≡ false
+  pub none_pends : (path : List ℕ) → IsListedPort (roots_of c.world) c.entries path
+      → pending c.world.roots path ≡ false
   none_pends path port = pends_by (length path) path (omega arith) port
 
 -- Devices that wait
@@ -217,25 +283,37 @@ pub none_right : {A : Type 0} (P Q : Type 0) (o : Option A) → IfNone o Q → I
 none_right P Q None q = inr q
 none_right P Q (Some x) q = tt
 
-pub full_lists : (es : Entries) (addresses : Addresses) → Agrees es addresses → IsFull addresses → ListsEach es
-full_lists es addresses agrees full address is = accounts_listed es addresses agrees.rises agrees.accounts address (full address is)
+pub full_lists : (es : Entries) (addresses : Addresses) → Agrees es addresses → IsFull addresses
+    → ListsEach es
+full_lists es addresses agrees full address is =
+    accounts_listed es addresses agrees.rises agrees.accounts address (full address is)
 
-pub none_waits : (es : Entries) (addresses : Addresses) → Agrees es addresses → (IsFull addresses ⊎ IsLast is_waiting None es) → NoneWaiting es
+pub none_waits : (es : Entries) (addresses : Addresses) → Agrees es addresses
+    → (IsFull addresses ⊎ IsLast is_waiting None es) → NoneWaiting es
 none_waits es addresses agrees (inl full) path at = full_lists es addresses agrees full
-none_waits es addresses agrees (inr none) path at = absurd (none path (record { finding = Refused NoAddress; found = at; fits = refl; after = tt }))
+none_waits es addresses agrees (inr none) path at =
+    absurd (none path (record { finding = Refused NoAddress; found = at; fits = refl; after = tt }))
 
 -- The whole round
 
-pub at_rest : (a b c d : HostState) → RootsRest a b → KeepsInvariant b c → HubsKeep b (Ok Quiet) c → LooksKeep c (Ok Quiet) d → HostInvariant a → d.world.taken ≡ a.world.taken → d.world.fault ≡ None → IsAtRest d.world d.entries
+pub at_rest : (a b c d : HostState) → RootsRest a b → KeepsInvariant b c → HubsKeep b (Ok Quiet) c
+    → LooksKeep c (Ok Quiet) d → HostInvariant a → d.world.taken ≡ a.world.taken
+    → d.world.fault ≡ None → IsAtRest d.world d.entries
 at_rest a b c d roots sound hubs looks s taken sane =
     let known : HostInvariant b = subst HostInvariant (sym roots.same) s in
     let rooted : IsRooted c = (sound.sound known).rooted in
     let looked = looks.rest rooted refl in
-    let working : c.world.fault ≡ None = ap (λ (h : HostState). h.world.fault) (sym looked.0) ∙ sane in
-    let still : c.world.taken ≡ b.world.taken = ap (λ (h : HostState). h.world.taken) (sym looked.0) ∙ taken ∙ ap (λ (h : HostState). h.world.taken) (sym roots.same) in
-    let none : changes (root_row b.world) ≡ 0 = ap (λ (h : HostState). changes (root_row h.world)) roots.same ∙ roots.none in
-    let ports = none_pends b c hubs.agrees rooted (hubs.calm refl working) still none (hubs.silent known refl working still) in
+    let working : c.world.fault ≡ None = ap (λ (h : HostState). h.world.fault) (sym looked.0)
+    ∙ sane in
+    let still : c.world.taken ≡ b.world.taken = ap (λ (h : HostState). h.world.taken) (sym looked.0)
+    ∙ taken ∙ ap (λ (h : HostState). h.world.taken) (sym roots.same) in
+    let none : changes (root_row b.world) ≡ 0 = ap (λ (h : HostState). changes (root_row h.world))
+    roots.same ∙ roots.none in
+    let ports = none_pends b c hubs.agrees rooted (hubs.calm refl working) still none
+    (hubs.silent known refl working still) in
     record {
-      none_pending = subst (λ (h : HostState). (path : List ℕ) → IsListedPort (roots_of h.world) h.entries path → pending h.world.roots path ≡ false) (sym looked.0) ports;
+      none_pending = subst (λ (h : HostState). (path : List ℕ)
+          → IsListedPort (roots_of h.world) h.entries path → pending h.world.roots path ≡ false)
+          (sym looked.0) ports;
       none_waiting = looked.1;
     }

@@ -1,5 +1,6 @@
 -- How the parts of a round join as what was done in it.
-use Rattle.std.proofs.Common.{◌≡◌, ◌∙◌, ◌+◌, arith, refl, sym, ap, subst, Bool, false, List, ℕ, Option, Some, Result, Ok, Err, is_err}
+use Rattle.std.proofs.Common.{◌≡◌, ◌∙◌, ◌+◌, arith, refl, sym, ap, subst, Bool, false, List, ℕ}
+use Rattle.std.proofs.Common.{Option, Some, Result, Ok, Err, is_err}
 use Rattle.std.specs.Prelude.{[], IfOk, IsErr}
 use Rattle.usb_table.specs.NextEntries.{ComesAfter}
 use Rattle.usb_world.specs.PlanData.{PlanData}
@@ -10,7 +11,8 @@ use Rattle.usb_host.specs.Budget.{Affords, PaysRound, Weights}
 use Rattle.usb_host.specs.HostState.{HostState}
 use Rattle.usb_host.specs.Ports.{Waits}
 use Rattle.usb_host.specs.Progress.{HostProgress, Did, Remains, either}
-use Rattle.usb_host.specs.Service.{DidParts, LookedAgain, LookedOnce, LooksAgain, ServesEach, ServesHubs, WentByParts, next_device}
+use Rattle.usb_host.specs.Service.{DidParts, LookedAgain, LookedOnce, LooksAgain, ServesEach}
+use Rattle.usb_host.specs.Service.{ServesHubs, WentByParts, next_device}
 use Rattle.usb_host.specs.Soundness.{Part}
 use Rattle.usb_host.specs.declared.fault.HostFault.{HostFault}
 use Rattle.usb_host.specs.declared.host.Round.{Round}
@@ -27,10 +29,13 @@ either_worked : (r : Round) → either r Worked ≡ Worked
 either_worked Worked = refl
 either_worked Quiet = refl
 
-pub looked_then : (last : Option (List ℕ)) (path : List ℕ) (before round : Round) (a b c : HostState) → LookedAgain last before a b → Waits path b → ComesAfter last path → round ≡ Worked → LookedOnce path b c → LookedAgain (Some path) (either before round) a c
+pub looked_then : (last : Option (List ℕ)) (path : List ℕ) (before round : Round)
+    (a b c : HostState) → LookedAgain last before a b → Waits path b → ComesAfter last path
+    → round ≡ Worked → LookedOnce path b c → LookedAgain (Some path) (either before round) a c
 looked_then last path before round a b c looked waits after is once =
     let worked : either before round ≡ Worked = ap (either before) is ∙ either_worked before in
-    subst (λ (r : Round). LookedAgain (Some path) r a c) (sym worked) (next_device last path before looked waits after once)
+    subst (λ (r : Round). LookedAgain (Some path) r a c) (sym worked)
+    (next_device last path before looked waits after once)
 
 -- The parts
 

@@ -16,22 +16,26 @@ use Rattle.usb_host.proofs.HostProgress.{served_any}
 
 pub rests_holds : (n : ℕ) (a b : HostState) → HostRuns n a b → OnlyBusSteps a b → AddsNoWork a b
 rests_holds n a b g r =
-    let same : waiting b.entries ≡ waiting a.entries = ap (λ (h : HostState). waiting h.entries) r in
+    let same : waiting b.entries ≡ waiting a.entries =
+    ap (λ (h : HostState). waiting h.entries) r in
     omega (arith, same, g.went.spends.served, g.went.spends.later)
 
 gained_on : (a b : HostState) → OnlyBusSteps a b → Gained a.world b.world → HostProgress a b
 gained_on a b r gained =
-    let same : waiting b.entries ≡ waiting a.entries = ap (λ (h : HostState). waiting h.entries) r in
+    let same : waiting b.entries ≡ waiting a.entries =
+    ap (λ (h : HostState). waiting h.entries) r in
     omega (arith, same, gained)
 
-pub served_after : (result : Result (Unit {0}) EnumFault) (a b c : HostState) → AddsNoWork a b → ProgressOrLost result b c → ProgressOrLost result a c
+pub served_after : (result : Result (Unit {0}) EnumFault) (a b c : HostState) → AddsNoWork a b
+    → ProgressOrLost result b c → ProgressOrLost result a c
 served_after (Ok done) a b c holds on = advances_after a b c holds on
 served_after (Err ParentLost) a b c holds on = advances_after a b c holds on
 served_after (Err (Bus fault)) a b c holds on = tt
 served_after (Err Memory) a b c holds on = tt
 
 -- a request for the status failed: a hub was asked
-pub status_lost_on : (port : HubPort) (a b : HostState) → OnlyBusSteps a b → (fault : EnumFault) → Shown port (Err fault) a.world b.world → ProgressOrLost (Err fault) a b
+pub status_lost_on : (port : HubPort) (a b : HostState) → OnlyBusSteps a b → (fault : EnumFault)
+    → Shown port (Err fault) a.world b.world → ProgressOrLost (Err fault) a b
 status_lost_on (Root number) a b r fault shown = absurd (cc (shown.0))
 status_lost_on (External hub number) a b r ParentLost shown = gained_on a b r shown
 status_lost_on (External hub number) a b r (Bus fault) shown = tt
@@ -53,22 +57,35 @@ lost_on A (External hub number) a b ParentLost r gains told = gained_on a b r (g
 lost_on A port a b (Bus fault) r gains told = tt
 lost_on A port a b Memory r gains told = tt
 
-due_on : (port : HubPort) (a b : HostState) (status : PortStatus) → Shown port (Ok status) a.world b.world → IsDue a.world port → IsDue b.world port
-due_on (Root number) a b status shown due = subst (λ (w : World). (root_port_at w number).connection_changed ≡ true) (sym shown.1) due
+due_on : (port : HubPort) (a b : HostState) (status : PortStatus)
+    → Shown port (Ok status) a.world b.world → IsDue a.world port → IsDue b.world port
+due_on (Root number) a b status shown due =
+    subst (λ (w : World). (root_port_at w number).connection_changed ≡ true) (sym shown.1) due
 due_on (External hub number) a b status shown due = tt
 
 -- a status told of a change, and the port was looked at
-pub looked_on : (n : ℕ) (port : HubPort) (a b c : HostState) (result : Result (Unit {0}) EnumFault) (status : PortStatus) → OnlyBusSteps a b → Shown port (Ok status) a.world b.world → HostRuns n a b → {Waits : Type 0} → (IsDue b.world port ⊎ Waits → ProgressOrLost result b c)
+pub looked_on : (n : ℕ) (port : HubPort) (a b c : HostState) (result : Result (Unit {0}) EnumFault)
+    (status : PortStatus) → OnlyBusSteps a b → Shown port (Ok status) a.world b.world
+    → HostRuns n a b → {Waits : Type 0} → (IsDue b.world port ⊎ Waits → ProgressOrLost result b c)
     → IsDue a.world port → ProgressOrLost result a c
-looked_on n port a b c result status r shown g looks due = served_after result a b c (rests_holds n a b g r) (looks (inl (due_on port a b status shown due)))
+looked_on n port a b c result status r shown g looks due =
+    served_after result a b c (rests_holds n a b g r)
+    (looks (inl (due_on port a b status shown due)))
 
-off_absurd : {A : Type 0} (w : World) (number : ℕ) (status : PortStatus) → status ≡ seen (root_port_at w number) → status.connection_changed ≡ false → (root_port_at w number).connection_changed ≡ true → A
+off_absurd : {A : Type 0} (w : World) (number : ℕ) (status : PortStatus)
+    → status ≡ seen (root_port_at w number) → status.connection_changed ≡ false
+    → (root_port_at w number).connection_changed ≡ true → A
 off_absurd w number status is off due =
-    let told : status.connection_changed ≡ (root_port_at w number).connection_changed = ap (λ (s : PortStatus). s.connection_changed) is in
+    let told : status.connection_changed ≡ (root_port_at w number).connection_changed =
+    ap (λ (s : PortStatus). s.connection_changed) is in
     absurd (cc (told, off, due))
 
 -- it told of none: then a root port was not due, and a hub was asked
-pub tidied_on : (n : ℕ) (port : HubPort) (a b c : HostState) (result : Result (Unit {0}) EnumFault) (status : PortStatus) → OnlyBusSteps a b → OnlyBusSteps b c → Shown port (Ok status) a.world b.world → HostRuns n b c → status.connection_changed ≡ false
+pub tidied_on : (n : ℕ) (port : HubPort) (a b c : HostState) (result : Result (Unit {0}) EnumFault)
+    (status : PortStatus) → OnlyBusSteps a b → OnlyBusSteps b c
+    → Shown port (Ok status) a.world b.world → HostRuns n b c → status.connection_changed ≡ false
     → IsDue a.world port → ProgressOrLost result a c
-tidied_on n (Root number) a b c result status r q shown g off due = off_absurd a.world number status (cc (shown.0)) off due
-tidied_on n (External hub number) a b c result status r q shown g off due = served_any result a c (advances_then a b c (gained_on a b r shown) (rests_holds n b c g q))
+tidied_on n (Root number) a b c result status r q shown g off due =
+    off_absurd a.world number status (cc (shown.0)) off due
+tidied_on n (External hub number) a b c result status r q shown g off due =
+    served_any result a c (advances_then a b c (gained_on a b r shown) (rests_holds n b c g q))

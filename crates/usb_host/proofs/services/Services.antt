@@ -1,5 +1,7 @@
 -- How the parts of a port's handling make up what was done at the port.
-use Rattle.std.proofs.Common.{◌≡◌, ◌∙◌, inl, inr, refl, sym, ap, subst, arith, length, length-append, ◌<◌, ◌≤◌, not, cond, Bool, true, false, ℕ, ◌+◌, List, [], ◌∷◌, ◌++◌, Some, Result, Ok, Err}
+use Rattle.std.proofs.Common.{◌≡◌, ◌∙◌, inl, inr, refl, sym, ap, subst, arith, length}
+use Rattle.std.proofs.Common.{length-append, ◌<◌, ◌≤◌, not, cond, Bool, true, false, ℕ, ◌+◌, List}
+use Rattle.std.proofs.Common.{[], ◌∷◌, ◌++◌, Some, Result, Ok, Err}
 use Rattle.std.specs.Prelude.{OnOk}
 use Rattle.std.specs.BTreeMap.{insert_entry}
 use Rattle.usb_port.specs.Order.{path_cmp, parent_of, port_on_hub}
@@ -29,7 +31,10 @@ use Rattle.usb_host.specs.PortHandling.{Watches}
 use Rattle.usb_host.specs.Ports.{EndsAs, EntersOne, StandsAt}
 use Rattle.usb_host.specs.Progress.{HostProgress, HostSteps, OnlyBusSteps}
 use Rattle.usb_host.specs.Soundness.{HostInvariant}
-use Rattle.usb_host.specs.Service.{DoneWhere, EndsAt, HandlesAt, LookedAt, LookedOnce, LookedOrLost, LosesParent, Renews, ServedAt, ServedOrLost, StaysOrForgets, TidiesTold, was_tidied, was_looked_at, was_lost, looked_once, lost_once}
+use Rattle.usb_host.specs.Service.{DoneWhere, EndsAt, HandlesAt, LookedAt, LookedOnce, LookedOrLost}
+use Rattle.usb_host.specs.Service.{LosesParent, Renews, ServedAt, ServedOrLost, StaysOrForgets}
+use Rattle.usb_host.specs.Service.{TidiesTold, was_tidied, was_looked_at, was_lost, looked_once}
+use Rattle.usb_host.specs.Service.{lost_once}
 use Rattle.usb_host.specs.declared.fault.HostFault.{HostFault}
 use Rattle.usb_host.proofs.OwnedPorts.{owned_rests}
 use Rattle.usb_host.proofs.StepSums.{host_rests_then}
@@ -40,54 +45,88 @@ use Rattle.usb_host.proofs.PortLocations.{stands_at-claim}
 -- Requests
 
 -- a call that succeeded was done at its port
-pub call_done : (port : HubPort) (c : PortCall) (old new : World) → (is_reset c ≡ true → ⊥) → CommandsPort port (Some c) old (Ok tt) new → (f : AddressMap) (p : List ℕ) → IsAt f port p → WhileBusWorks (MapHolds f) old → PortCallDone p c old new
-call_done port c old new other calls f p at owned = calls.done f p c (record { at = at; is = refl; alone = λ resets. absurd (other resets); owned = owned }) refl
+pub call_done : (port : HubPort) (c : PortCall) (old new : World) → (is_reset c ≡ true → ⊥)
+    → CommandsPort port (Some c) old (Ok tt) new → (f : AddressMap) (p : List ℕ) → IsAt f port p
+    → WhileBusWorks (MapHolds f) old → PortCallDone p c old new
+call_done port c old new other calls f p at owned =
+    calls.done f p c (record {
+      at = at;
+      is = refl;
+      alone = λ resets. absurd (other resets);
+      owned =
+          owned;
+    }) refl
 
-pub done_so : (b : Bool) (p : List ℕ) (c : PortCall) (old new : World) → b ≡ true → PortCallDone p c old new → DoneWhere b p c old new
+pub done_so : (b : Bool) (p : List ℕ) (c : PortCall) (old new : World) → b ≡ true
+    → PortCallDone p c old new → DoneWhere b p c old new
 done_so b p c old new is done = subst (λ (x : Bool). DoneWhere x p c old new) (sym is) done
 
-pub done_not : (b : Bool) (p : List ℕ) (c : PortCall) (old new : World) → b ≡ false → new ≡ old → DoneWhere b p c old new
+pub done_not : (b : Bool) (p : List ℕ) (c : PortCall) (old new : World) → b ≡ false → new ≡ old
+    → DoneWhere b p c old new
 done_not b p c old new is same = subst (λ (x : Bool). DoneWhere x p c old new) (sym is) same
 
 -- Entries
 
 -- what is taken out below a path goes with the path
-without-without_by : (lost path : List ℕ) (e : List ℕ × Finding) (es : Entries) → (is_at_or_below e.0 path ≡ true → is_at_or_below e.0 lost ≡ true) → without lost (without path es) ≡ without lost es → (b c : Bool) → is_at_or_below e.0 path ≡ b → is_at_or_below e.0 lost ≡ c
-    → without lost (cond (not b) (e ∷ without path es) (without path es)) ≡ cond (not c) (e ∷ without lost es) (without lost es)
+without-without_by : (lost path : List ℕ) (e : List ℕ × Finding) (es : Entries)
+    → (is_at_or_below e.0 path ≡ true → is_at_or_below e.0 lost ≡ true)
+    → without lost (without path es) ≡ without lost es → (b c : Bool) → is_at_or_below e.0 path ≡ b
+    → is_at_or_below e.0 lost ≡ c
+    → without lost (cond (not b) (e ∷ without path es) (without path es))
+    ≡ cond (not c) (e ∷ without lost es) (without lost es)
 without-without_by lost path e es goes same true true is at = same
 without-without_by lost path e es goes same true false is at = absurd (cc (goes is, at))
 without-without_by lost path e es goes same false true is at = rw at same
-without-without_by lost path e es goes same false false is at = rw at (ap (λ (l : Entries). e ∷ l) same)
+without-without_by lost path e es goes same false false is at =
+    rw at (ap (λ (l : Entries). e ∷ l) same)
 
-pub without-way : (lost path : List ℕ) → is_way lost path ≡ true → (es : Entries) → without lost (without path es) ≡ without lost es
+pub without-way : (lost path : List ℕ) → is_way lost path ≡ true → (es : Entries)
+    → without lost (without path es) ≡ without lost es
 without-way lost path way [] = refl
-without-way lost path way (e ∷ es) = without-without_by lost path e es goes (without-way lost path way es) (is_at_or_below e.0 path) (is_at_or_below e.0 lost) refl refl
+without-way lost path way (e ∷ es) = without-without_by lost path e es goes
+    (without-way lost path way es) (is_at_or_below e.0 path) (is_at_or_below e.0 lost) refl refl
   where
     goes : is_at_or_below e.0 path ≡ true → is_at_or_below e.0 lost ≡ true
-    goes at = at_or_below_way e.0 lost ∙ way_trans lost path e.0 way (sym (at_or_below_way e.0 path) ∙ at)
+    goes at = at_or_below_way e.0 lost ∙ way_trans lost path e.0 way (sym (at_or_below_way e.0 path)
+        ∙ at)
 
 -- a hub above the port is lost, whatever was forgotten at the port before
-pub loses_then : (path : List ℕ) (old mid new : Entries) → StaysOrForgets path old mid → LosesParent path mid new → LosesParent path old new
+pub loses_then : (path : List ℕ) (old mid new : Entries) → StaysOrForgets path old mid
+    → LosesParent path mid new → LosesParent path old new
 loses_then path old mid new (inl same) x = subst (λ (es : Entries). LosesParent path es new) same x
 loses_then path old mid new (inr gone) x =
     let way = way_trans x.loses.path x.hub path x.loses.above (way_parent path x.hub x.parent) in
-    let left : without x.loses.path mid ≡ without x.loses.path old = ap (λ (es : Entries). without x.loses.path es) gone ∙ without-way x.loses.path path way old in
+    let left : without x.loses.path mid ≡ without x.loses.path old =
+    ap (λ (es : Entries). without x.loses.path es) gone
+    ∙ without-way x.loses.path path way old in
     record {
       hub = x.hub;
       parent = x.parent;
-      loses = record { path = x.loses.path; above = x.loses.above; entries = x.loses.entries ∙ ap (λ (es : Entries). insert_entry path_cmp es x.loses.path (Refused Lost)) left };
+      loses = record {
+        path = x.loses.path;
+        above = x.loses.above;
+        entries = x.loses.entries
+            ∙ ap (λ (es : Entries). insert_entry path_cmp es x.loses.path (Refused Lost)) left;
+      };
     }
 
 -- one finding was entered
-pub renews_one : (path : List ℕ) (old : Entries) (c d : HostState) → c.entries ≡ without path old → EntersOne path c d → Renews true path old d.entries
-renews_one path old c d gone one = (one.finding, one.entries ∙ ap (λ (es : Entries). insert_entry path_cmp es path one.finding) gone)
+pub renews_one : (path : List ℕ) (old : Entries) (c d : HostState) → c.entries ≡ without path old
+    → EntersOne path c d → Renews true path old d.entries
+renews_one path old c d gone one = (
+  one.finding,
+  one.entries
+      ∙ ap (λ (es : Entries). insert_entry path_cmp es path one.finding) gone,
+)
 
-pub renews_by : (b : Bool) (path : List ℕ) (old new : Entries) (c : Bool) → b ≡ c → Renews c path old new → Renews b path old new
+pub renews_by : (b : Bool) (path : List ℕ) (old new : Entries) (c : Bool) → b ≡ c
+    → Renews c path old new → Renews b path old new
 renews_by b path old new c is x = subst (λ (y : Bool). Renews y path old new) (sym is) x
 
 -- A port
 
-module _ (path : List ℕ) (port : KnownPort) (a b : HostState) (s : StandsAt path port a) (r : OnlyBusSteps a b) (n : ℕ) (went : HostSteps n a b) (o : IsOwned a) where
+module _ (path : List ℕ) (port : KnownPort) (a b : HostState) (s : StandsAt path port a)
+    (r : OnlyBusSteps a b) (n : ℕ) (went : HostSteps n a b) (o : IsOwned a) where
   stays : b.entries ≡ a.entries
   stays = ap (λ (h : HostState). h.entries) r
 
@@ -110,56 +149,74 @@ module _ (path : List ℕ) (port : KnownPort) (a b : HostState) (s : StandsAt pa
     owned_now = owned_rests a b r x.addresses o
 
     -- no change of connection was told
-    pub serves_tidied : status.connection_changed ≡ false → (result : Result (Unit {0}) EnumFault) (c : HostState) → OnlyBusSteps b c → TidiesTold port.port status b result c → ServedOrLost path a result c
+    pub serves_tidied : status.connection_changed ≡ false
+        → (result : Result (Unit {0}) EnumFault) (c : HostState) → OnlyBusSteps b c
+        → TidiesTold port.port status b result c → ServedOrLost path a result c
     serves_tidied off (Ok done) c q t = was_tidied (record {
       status = status;
       mid = b.world;
       told = told_now;
       steady = off;
-      clears = t.clears (claims b.entries) path (stands_at-claim path port b (rests_stands n path port a b s r went)) owned_now;
+      clears = t.clears (claims b.entries) path
+          (stands_at-claim path port b (rests_stands n path port a b s r went)) owned_now;
       rests = host_rests_then a b c r q;
     })
-    serves_tidied off (Err ParentLost) c q t = inl (ap (λ (h : HostState). h.entries) (host_rests_then a b c r q))
+    serves_tidied off (Err ParentLost) c q t =
+        inl (ap (λ (h : HostState). h.entries) (host_rests_then a b c r q))
     serves_tidied off (Err (Bus fault)) c q t = tt
     serves_tidied off (Err Memory) c q t = tt
 
     -- one was
-    pub serves_looked : status.connection_changed ≡ true → (result : Result (Unit {0}) EnumFault) (c : HostState) → (IsOwned b → LookedOrLost path b result c) → ServedOrLost path a result c
+    pub serves_looked : status.connection_changed ≡ true
+        → (result : Result (Unit {0}) EnumFault) (c : HostState)
+        → (IsOwned b → LookedOrLost path b result c) → ServedOrLost path a result c
     serves_looked on (Ok done) c x = was_looked_at status b told_now on r (x owned_now)
-    serves_looked on (Err ParentLost) c x = subst (λ (es : Entries). StaysOrForgets path es c.entries) stays (x owned_now)
+    serves_looked on (Err ParentLost) c x =
+        subst (λ (es : Entries). StaysOrForgets path es c.entries) stays (x owned_now)
     serves_looked on (Err (Bus fault)) c x = tt
     serves_looked on (Err Memory) c x = tt
 
 -- the hub was lost after what stood there was forgotten
-pub found_failed : (path : List ℕ) (a c d : HostState) (fault : EnumFault) → c.entries ≡ without path a.entries → d.entries ≡ c.entries → LookedOrLost path a (Err fault) d
+pub found_failed : (path : List ℕ) (a c d : HostState) (fault : EnumFault)
+    → c.entries ≡ without path a.entries → d.entries ≡ c.entries → LookedOrLost path a (Err fault) d
 found_failed path a c d ParentLost gone same = inr (same ∙ gone)
 found_failed path a c d (Bus fault) gone same = tt
 found_failed path a c d Memory gone same = tt
 
 -- A port was handled
 
-pub handled_at : (path : List ℕ) (served : Result (Unit {0}) EnumFault) (result : Result (Unit {0}) HostFault) (a b c : HostState) → EndsAs served result → EndsAt path served b result c → ServedOrLost path a served b → OnOk result (ServedAt path a c)
+pub handled_at : (path : List ℕ) (served : Result (Unit {0}) EnumFault)
+    (result : Result (Unit {0}) HostFault) (a b c : HostState) → EndsAs served result
+    → EndsAt path served b result c → ServedOrLost path a served b → OnOk result (ServedAt path a c)
 handled_at path (Ok done) (Ok x) a b c ends left s = subst (ServedAt path a) (sym left) s
 handled_at path (Ok done) (Err fault) a b c ends left s = tt
-handled_at path (Err ParentLost) (Ok x) a b c ends left s = was_lost (loses_then path a.entries b.entries c.entries s left)
+handled_at path (Err ParentLost) (Ok x) a b c ends left s =
+    was_lost (loses_then path a.entries b.entries c.entries s left)
 handled_at path (Err ParentLost) (Err fault) a b c ends left s = tt
 handled_at path (Err (Bus fault)) (Ok x) a b c ends left s = absurd (cc ends)
 handled_at path (Err (Bus fault)) (Err other) a b c ends left s = tt
 handled_at path (Err Memory) (Ok x) a b c ends left s = absurd (cc ends)
 handled_at path (Err Memory) (Err other) a b c ends left s = tt
 
-pub handled_once : (path : List ℕ) (looked : Result (Unit {0}) EnumFault) (a b c : HostState) → EndsAs looked (Ok tt) → EndsAt path looked b (Ok tt) c → LookedOrLost path a looked b → LookedOnce path a c
+pub handled_once : (path : List ℕ) (looked : Result (Unit {0}) EnumFault) (a b c : HostState)
+    → EndsAs looked (Ok tt) → EndsAt path looked b (Ok tt) c → LookedOrLost path a looked b
+    → LookedOnce path a c
 handled_once path (Ok done) a b c ends left s = looked_once (subst (LookedAt path a) (sym left) s)
-handled_once path (Err ParentLost) a b c ends left s = lost_once (loses_then path a.entries b.entries c.entries s left)
+handled_once path (Err ParentLost) a b c ends left s =
+    lost_once (loses_then path a.entries b.entries c.entries s left)
 handled_once path (Err (Bus fault)) a b c ends left s = absurd (cc ends)
 handled_once path (Err Memory) a b c ends left s = absurd (cc ends)
 
-pub handles_at : (path : List ℕ) (due : Type 0) (result : Result (Unit {0}) HostFault) (a c : HostState) → OnOk result (due → HostProgress a c) → (HostInvariant a → OnOk result (ServedAt path a c)) → OnOk result (HandlesAt path due a c)
+pub handles_at : (path : List ℕ) (due : Type 0) (result : Result (Unit {0}) HostFault)
+    (a c : HostState) → OnOk result (due → HostProgress a c)
+    → (HostInvariant a → OnOk result (ServedAt path a c)) → OnOk result (HandlesAt path due a c)
 handles_at path due (Ok done) a c x y = record { advances = x; served = y }
 handles_at path due (Err fault) a c x y = tt
 
 -- a hub that was dropped is the port's own, or stands above it
-pub loses_parent : (path hub : List ℕ) (old new : Entries) (result : Result (Unit {0}) HostFault) → parent_of path ≡ Some hub → OnOk result (HasLost hub old new) → OnOk result (LosesParent path old new)
+pub loses_parent : (path hub : List ℕ) (old new : Entries) (result : Result (Unit {0}) HostFault)
+    → parent_of path ≡ Some hub → OnOk result (HasLost hub old new)
+    → OnOk result (LosesParent path old new)
 loses_parent path hub old new (Ok done) above x = record { hub = hub; parent = above; loses = x }
 loses_parent path hub old new (Err fault) above x = tt
 
@@ -168,8 +225,12 @@ same_last [] m n e = cc e
 same_last (i ∷ q) m n e = same_last q m n (cc e)
 
 -- a path that ends in a port's number goes on to it from a shorter one
-pub pushed_part : (hub : List ℕ) (number : ℕ) → 1 ≤ length hub → IsPath (hub ++ (number ∷ [])) → IsPortNumber number × (length hub < 7)
+pub pushed_part : (hub : List ℕ) (number : ℕ) → 1 ≤ length hub → IsPath (hub ++ (number ∷ []))
+    → IsPortNumber number × (length hub < 7)
 pushed_part hub number least is =
     let long : length (hub ++ (number ∷ [])) ≡ length hub + 1 = length-append hub (number ∷ []) in
-    let last = same_last hub number (port_on_hub (hub ++ (number ∷ []))) (rejoined (hub ++ (number ∷ [])) hub (parent hub number least)) in
-    (subst IsPortNumber (sym last) (port_number (hub ++ (number ∷ [])) is), omega (arith, long, is.1))
+    let last = same_last hub number (port_on_hub (hub ++ (number ∷ [])))
+    (rejoined (hub ++ (number ∷ [])) hub (parent hub number least)) in (
+      subst IsPortNumber (sym last) (port_number (hub ++ (number ∷ [])) is),
+      omega (arith, long, is.1),
+    )

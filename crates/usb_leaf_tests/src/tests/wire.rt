@@ -184,7 +184,8 @@ fn lines_that_ask_nothing(rt: HostRuntime) {
     }
 }
 
-/// A line that is said behind a question where there are three root ports, and the line that is written of what it says.
+/// A line that is said behind a question where there are three root ports, and the line that is written of what it
+/// says.
 struct SaidRow {
     asked: Asked,
     line: &'static str,

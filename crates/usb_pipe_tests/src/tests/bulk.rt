@@ -23,9 +23,9 @@ enum Call {
 
 use Call::{ClearIn, ClearOut, Receive, Send};
 
-/// A device, what else its plan says of it, an endpoint and its maximum, the limit and the damaged packets; the calls with
-/// their answers, how many attempts are made in all, and the trace without its NAKs behind the 16 attempts that made the
-/// device ready.
+/// A device, what else its plan says of it, an endpoint and its maximum, the limit and the damaged packets; the calls
+/// with their answers, how many attempts are made in all, and the trace without its NAKs behind the 16 attempts that
+/// made the device ready.
 #[derive(Clone, Copy)]
 struct Row {
     name: &'static str,

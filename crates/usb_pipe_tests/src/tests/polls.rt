@@ -24,8 +24,8 @@ enum Call {
 
 use Call::{ClearChange, ClearHalt, Halt, Poll};
 
-/// The endpoint, the limit and the damaged packets; the calls with their answers, how many attempts are made in all, and
-/// the trace from the line behind so many on: 28 were written when the hub was ready.
+/// The endpoint, the limit and the damaged packets; the calls with their answers, how many attempts are made in all,
+/// and the trace from the line behind so many on: 28 were written when the hub was ready.
 #[derive(Clone, Copy)]
 struct Row {
     name: &'static str,

@@ -29,8 +29,8 @@ pub(super) fn target_of(low: bool) -> Target
     if low { LOW_TARGET } else { TARGET }
 }
 
-/// Reads the descriptors of a device without an address, gives it address 1, and configures it. The device descriptor is
-/// the answer.
+/// Reads the descriptors of a device without an address, gives it address 1, and configures it. The device descriptor
+/// is the answer.
 pub(super) fn make_ready<B: Bus>(
     alloc: Global,
     bus: &mut B,

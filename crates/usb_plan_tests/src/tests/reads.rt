@@ -3,7 +3,7 @@ use super::FUNCTION;
 use std::alloc::{AllocError, Global};
 use usb_device::DeviceSpec;
 use usb_plan::{bound, read_plan};
-use usb_sim::{Action, Plan};
+use usb_sim::{Action, Ask, Change, Plan};
 
 /// Adds the bytes, in decimal digits.
 fn put_bytes(text: &mut String, bytes: &[u8]) -> Result<(), AllocError> {
@@ -27,9 +27,13 @@ fn put_device(text: &mut String, device: &DeviceSpec) -> Result<(), AllocError> 
 /// Adds what is done, of the kinds that the texts below have.
 fn put_action(text: &mut String, action: &Action) -> Result<(), AllocError> {
     match action {
-        Action::Plug(path, device) => write!(text, "plug {} {device}", path.text()),
-        Action::Receive(path, packets) => write!(text, "receive {} {packets}", path.text()),
-        Action::Send(path, bytes) => {
+        Action::Change(Change::Plug(path, device)) => write!(text, "plug {} {device}", path.text()),
+        Action::Ask(Ask::Receive(path, packets)) => write!(
+            text,
+            "receive {} {packets}",
+            path.text()
+        ),
+        Action::Ask(Ask::Send(path, bytes)) => {
             write!(text, "send {}", path.text())?;
             put_bytes(text, bytes.as_slice())
         }

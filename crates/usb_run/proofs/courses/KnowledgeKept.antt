@@ -1,5 +1,7 @@
--- What a host knows stays so over the parts of a run, and a host that has settled lists what is plugged.
-use Rattle.std.proofs.Common.{◌≡◌, ◌∙◌, sym, ap, subst, Bool, false, ℕ, List, Option, None, Some, Result, Ok}
+-- What a host knows stays so over the parts of a run, and a host that has settled lists what is
+-- plugged.
+use Rattle.std.proofs.Common.{◌≡◌, ◌∙◌, sym, ap, subst, Bool, false, ℕ, List, Option, None, Some}
+use Rattle.std.proofs.Common.{Result, Ok}
 use Rattle.std.specs.Prelude.{is_some}
 use Rattle.usb_device.specs.Tree.{Ports}
 use Rattle.usb_world.specs.declared.event.Ask.{Ask}
@@ -17,36 +19,54 @@ use Rattle.usb_host.specs.HostState.{HostState}
 use Rattle.usb_host.specs.Soundness.{IsAtRest, IsFairTo, HostInvariant, KeepsInvariant}
 use Rattle.usb_host.proofs.Interface.{accounted, settled_matches, sound_event, sound_none}
 use Rattle.usb_run.specs.declared.runs.Item.{Item}
-use Rattle.usb_run.specs.RunSegments.{Arrives, Comes, Knows, LeavesSettled, Ran, idle, silent, Reaches, Rounds, none, more, Settled, Settles}
+use Rattle.usb_run.specs.RunSegments.{Arrives, Comes, Knows, LeavesSettled, Ran, idle, silent}
+use Rattle.usb_run.specs.RunSegments.{Reaches, Rounds, none, more, Settled, Settles}
 use Rattle.usb_run.specs.Transcript.{AppendsText, Makes, asked, last}
 use Rattle.usb_host.specs.HostCalls.{TransferTells}
 use Rattle.usb_run.specs.Transfers.{IsItemOf}
 use Rattle.usb_run.proofs.AskedCalls.{answered, Calls, no_call, sends, receives, clears, item_calls}
-use Rattle.usb_run.proofs.courses.RunCourses.{RunsOnward, called_onward, comes_onward, settles_onward}
+use Rattle.usb_run.proofs.courses.RunCourses.{RunsOnward, called_onward, comes_onward}
+use Rattle.usb_run.proofs.courses.RunCourses.{settles_onward}
 use Rattle.usb_run.proofs.courses.RunParts.{item_called, round_called, round_running, rounds_called}
 
 -- Damage that is fair up to a last world is fair up to one before it, and from one behind the first
 
 pub fair_before : (w m v : World) → RunsOnward m v → IsFairTo w v → IsFairTo w m
-fair_before w m v on fair = let work = on fair.still in record { still = work.sound; few = fair.few; kept = few_before work.course fair.kept }
+fair_before w m v on fair = let work = on fair.still in record {
+  still = work.sound;
+  few = fair.few;
+  kept = few_before work.course fair.kept;
+}
 
 pub fair_after : (w m v : World) → RunsOnward w m → m.fault ≡ None → IsFairTo w v → IsFairTo m v
-fair_after w m v on still fair = record { still = fair.still; few = rw (course_later (on still).course).damages fair.few; kept = fair.kept }
+fair_after w m v on still fair = record {
+  still = fair.still;
+  few = rw (course_later (on still).course).damages fair.few;
+  kept = fair.kept;
+}
 
 -- and from the first
 fair_from : (w v : World) → RunsOnward w v → IsFairTo v v → IsFairTo w v
-fair_from w v on fair = record { still = fair.still; few = subst AtMostTwoRunning (course_later (on fair.still).course).damages fair.few; kept = fair.kept }
+fair_from w v on fair = record {
+  still = fair.still;
+  few = subst AtMostTwoRunning (course_later (on fair.still).course).damages fair.few;
+  kept =
+      fair.kept;
+}
 
-pub stays_sound_then : (a b c : HostState) → RunsOnward a.world b.world → RunsOnward b.world c.world → KeepsInvariant a b → KeepsInvariant b c → KeepsInvariant a c
+pub stays_sound_then : (a b c : HostState) → RunsOnward a.world b.world → RunsOnward b.world c.world
+    → KeepsInvariant a b → KeepsInvariant b c → KeepsInvariant a c
 stays_sound_then a b c m n x y = record {
   sound = λ s. y.sound (x.sound s);
   caused = λ s fair causes.
       let early = fair_before a.world b.world c.world n fair in
-      y.caused (x.sound s) (fair_after a.world b.world c.world m early.still fair) (x.caused s early causes);
+      y.caused (x.sound s) (fair_after a.world b.world c.world m early.still fair)
+      (x.caused s early causes);
 }
 
 -- where a part keeps what is known
-pub knows_then : (h k : HostState) → RunsOnward h.world k.world → KeepsInvariant h k → Knows h → Knows k
+pub knows_then : (h k : HostState) → RunsOnward h.world k.world → KeepsInvariant h k → Knows h
+    → Knows k
 knows_then h k on stays s = record {
   sound = stays.sound s.sound;
   causes = λ fair.
@@ -59,72 +79,94 @@ knows_then h k on stays s = record {
 
 rounds_stays : {a b : HostState} → Rounds a b → KeepsInvariant a b
 rounds_stays {a} none = sound_none a
-rounds_stays {a} (more {h} {k} round before tells goes) = stays_sound_then a h k (called_onward (rounds_called before)) (called_onward (round_called tells)) (rounds_stays before) tells.keeps.sound.keeps.sound
+rounds_stays {a} (more {h} {k} round before tells goes) =
+    stays_sound_then a h k (called_onward (rounds_called before))
+    (called_onward (round_called tells)) (rounds_stays before) tells.keeps.sound.keeps.sound
 
 settles_stays : {a b : HostState} → Settles a b → KeepsInvariant a b
-settles_stays {a} {b} settles = stays_sound_then a settles.before b (called_onward (rounds_called settles.rounds)) (called_onward (round_called settles.last)) (rounds_stays settles.rounds) settles.last.keeps.sound.keeps.sound
+settles_stays {a} {b} settles = stays_sound_then a settles.before b
+    (called_onward (rounds_called settles.rounds)) (called_onward (round_called settles.last))
+    (rounds_stays settles.rounds) settles.last.keeps.sound.keeps.sound
 
 pub settles_knows : {a b : HostState} → Settles a b → Knows a → Knows b
 settles_knows {a} {b} settles s = knows_then a b (settles_onward settles) (settles_stays settles) s
 
-settles_rest : {a b : HostState} → Settles a b → HostInvariant a → b.world.fault ≡ None → IsAtRest b.world b.entries
-settles_rest settles s still = settles.last.keeps.sound.rest ((rounds_stays settles.rounds).sound s) (ap Ok settles.ends.quiet) settles.ends.none still
+settles_rest : {a b : HostState} → Settles a b → HostInvariant a → b.world.fault ≡ None
+    → IsAtRest b.world b.entries
+settles_rest settles s still = settles.last.keeps.sound.rest ((rounds_stays settles.rounds).sound s)
+    (ap Ok settles.ends.quiet) settles.ends.none still
 
 -- a host that knows its ports and has nothing left to do has settled
-settled_at : (h : HostState) → h.stopped ≡ false → Agrees h.entries h.addresses → Knows h → (h.world.fault ≡ None → IsAtRest h.world h.entries) → Settled h
+settled_at : (h : HostState) → h.stopped ≡ false → Agrees h.entries h.addresses → Knows h
+    → (h.world.fault ≡ None → IsAtRest h.world h.entries) → Settled h
 settled_at h running agrees knows rest = record {
   running = running;
   knows = knows;
   rest = rest;
   matches = λ fair.
-      settled_matches h.world h.entries h.addresses (accounted h agrees knows.sound.rooted) (knows.sound.known fair.still) (knows.sound.truthful fair.still) (knows.causes fair) (rest fair.still);
+      settled_matches h.world h.entries h.addresses (accounted h agrees knows.sound.rooted)
+      (knows.sound.known fair.still) (knows.sound.truthful fair.still) (knows.causes fair)
+      (rest fair.still);
 }
 
 pub settles_leaves : (a b : HostState) → Settles a b → LeavesSettled a b
 settles_leaves a b settles = record {
   rest = settles_rest settles;
-  settled = λ agrees s. settled_at b (round_running settles.last) agrees (settles_knows settles s) (settles_rest settles s.sound);
+  settled = λ agrees s. settled_at b (round_running settles.last) agrees (settles_knows settles s)
+      (settles_rest settles s.sound);
 }
 
 -- An event that came, and none that was left
 
-pub arrival_sound : (h k : HostState) (due : Option (Option Ask)) → Comes h (Ok due) k → KeepsInvariant h k
+pub arrival_sound : (h k : HostState) (due : Option (Option Ask)) → Comes h (Ok due) k
+    → KeepsInvariant h k
 arrival_sound h k due comes =
     let takes = comes.takes in
-    sound_event h k comes.agrees (ap (λ (x : HostState). x.entries) comes.rests) (ap (λ (x : HostState). x.pipes) comes.rests) takes.exact
-    (event_keeps h.world (Ok due) k.world takes.took takes.exact takes.kept takes.cut (λ reached none. cc (ap is_some none, takes.limit reached)))
+    sound_event h k comes.agrees (ap (λ (x : HostState). x.entries) comes.rests)
+    (ap (λ (x : HostState). x.pipes) comes.rests) takes.exact
+    (event_keeps h.world (Ok due) k.world takes.took takes.exact takes.kept takes.cut
+    (λ reached none. cc (ap is_some none, takes.limit reached)))
 
-pub arrival_knows : (h k : HostState) (due : Option (Option Ask)) → Comes h (Ok due) k → Knows h → Knows k
+pub arrival_knows : (h k : HostState) (due : Option (Option Ask)) → Comes h (Ok due) k → Knows h
+    → Knows k
 arrival_knows h k due comes s = knows_then h k (comes_onward comes) (arrival_sound h k due comes) s
 
-pub came_running : (h k : HostState) (due : Option (Option Ask)) → Comes h (Ok due) k → k.stopped ≡ h.stopped
+pub came_running : (h k : HostState) (due : Option (Option Ask)) → Comes h (Ok due) k
+    → k.stopped ≡ h.stopped
 came_running h k due comes = ap (λ (x : HostState). x.stopped) comes.rests
 
 pub came_still : (due : Option (Option Ask)) (w v : World) → EventEnds w (Ok due) v → v.fault ≡ None
 came_still None w v ends = ap (λ (x : World). x.fault) ends.same ∙ ends.sound
 came_still (Some due) w v ends = ends.still
 
-rest_moved : (w v : World) (entries : Entries) → v.roots ≡ w.roots → IsAtRest w entries → IsAtRest v entries
+rest_moved : (w v : World) (entries : Entries) → v.roots ≡ w.roots → IsAtRest w entries
+    → IsAtRest v entries
 rest_moved w v entries same rest = record {
   none_pending = λ path port. subst (λ (k : Ports). pending k path ≡ false) (sym same)
-      (rest.none_pending path (subst (λ (k : Ports). IsListedPort (roots_of (record w { roots = k })) entries path) same port));
+      (rest.none_pending path (subst (λ (k : Ports). IsListedPort
+      (roots_of (record w { roots = k })) entries path) same port));
   none_waiting = rest.none_waiting;
 }
 
 -- it has settled still where nothing that is plugged changed
-pub arrival_settled : (h k : HostState) (due : Option (Option Ask)) → Comes h (Ok due) k → k.world.roots ≡ h.world.roots → Settled h → Settled k
+pub arrival_settled : (h k : HostState) (due : Option (Option Ask)) → Comes h (Ok due) k
+    → k.world.roots ≡ h.world.roots → Settled h → Settled k
 arrival_settled h k due comes calm settled =
     let entries : k.entries ≡ h.entries = ap (λ (x : HostState). x.entries) comes.rests in
     let addresses : k.addresses ≡ h.addresses = ap (λ (x : HostState). x.addresses) comes.rests in
     settled_at k (came_running h k due comes ∙ settled.running)
-    (subst (λ x. Agrees x k.addresses) (sym entries) (subst (λ x. Agrees h.entries x) (sym addresses) comes.agrees))
+    (subst (λ x. Agrees x k.addresses) (sym entries)
+    (subst (λ x. Agrees h.entries x) (sym addresses) comes.agrees))
     (arrival_knows h k due comes settled.knows)
-    (λ still. subst (IsAtRest k.world) (sym entries) (rest_moved h.world k.world h.entries calm (settled.rest (comes_onward comes still).sound)))
+    (λ still. subst (IsAtRest k.world) (sym entries)
+    (rest_moved h.world k.world h.entries calm
+    (settled.rest (comes_onward comes still).sound)))
 
 -- Up to an event
 
 pub arrives_knows : {a b : HostState} {due : Option (Option Ask)} → Arrives a (Ok due) b → Knows b
-arrives_knows {a} {b} {due} arrives = arrival_knows arrives.mid b due arrives.comes arrives.settled.knows
+arrives_knows {a} {b} {due} arrives = arrival_knows arrives.mid b due arrives.comes
+    arrives.settled.knows
 
 pub ran_knows : {a b : HostState} → Ran a b → Knows a → Knows b
 ran_knows idle s = s
@@ -133,15 +175,21 @@ ran_knows (silent due before arrives is) s = arrives_knows arrives
 pub reaches_knows : {a b : HostState} {due : Option (Option Ask)} → Reaches a (Ok due) b → Knows b
 reaches_knows reaches = arrives_knows reaches.arrives
 
-pub reaches_running : {a b : HostState} {due : Option (Option Ask)} → Reaches a (Ok due) b → b.stopped ≡ false
-reaches_running {b = b} {due = due} reaches = came_running reaches.arrives.mid b due reaches.arrives.comes ∙ reaches.arrives.settled.running
+pub reaches_running : {a b : HostState} {due : Option (Option Ask)} → Reaches a (Ok due) b
+    → b.stopped ≡ false
+reaches_running {b = b} {due = due} reaches =
+    came_running reaches.arrives.mid b due reaches.arrives.comes ∙ reaches.arrives.settled.running
 
-pub reaches_still : {a b : HostState} {due : Option (Option Ask)} → Reaches a (Ok due) b → b.world.fault ≡ None
-reaches_still {b = b} {due = due} reaches = came_still due reaches.arrives.mid.world b.world reaches.arrives.comes.takes.took.ends
+pub reaches_still : {a b : HostState} {due : Option (Option Ask)} → Reaches a (Ok due) b
+    → b.world.fault ≡ None
+reaches_still {b = b} {due = due} reaches =
+    came_still due reaches.arrives.mid.world b.world reaches.arrives.comes.takes.took.ends
 
 -- An item
 
-transfer_keeps_sound : {A : Type 0} {most : ℕ} {Did : HostState → Result A HostFault → HostState → Type 0} {a b : HostState} {result : Result A HostFault} → TransferTells most Did a result b → KeepsInvariant a b
+transfer_keeps_sound : {A : Type 0} {most : ℕ} {Did : HostState → Result A HostFault → HostState
+    → Type 0} {a b : HostState} {result : Result A HostFault} → TransferTells most Did a result b
+    → KeepsInvariant a b
 transfer_keeps_sound tells = tells.keeps.sound
 
 calls_stay : {due : Option Ask} {a b : HostState} → Calls due a b → KeepsInvariant a b
@@ -150,11 +198,14 @@ calls_stay (sends path bytes result asks tells) = transfer_keeps_sound tells
 calls_stay (receives path packets result asks tells) = transfer_keeps_sound tells
 calls_stay (clears path result asks tells) = transfer_keeps_sound tells
 
-pub item_keeps_sound : (due : Option Ask) (item : Option Item) (a b : HostState) → IsItemOf due item a b → KeepsInvariant a b
+pub item_keeps_sound : (due : Option Ask) (item : Option Item) (a b : HostState)
+    → IsItemOf due item a b → KeepsInvariant a b
 item_keeps_sound due item a b is = calls_stay (item_calls (answered due item a b is))
 
 pub makes_knows : {a b : HostState} {item : Item} {over : Bool} → Makes a item over b → Knows b
-makes_knows (asked {item} {mid} {new} due reaches is right) = knows_then mid new (called_onward (item_called due (Some item) mid new is)) (item_keeps_sound due (Some item) mid new is) (reaches_knows reaches)
+makes_knows (asked {item} {mid} {new} due reaches is right) =
+    knows_then mid new (called_onward (item_called due (Some item) mid new is))
+    (item_keeps_sound due (Some item) mid new is) (reaches_knows reaches)
 makes_knows (last reaches settled) = settled.knows
 
 pub puts_knows : {h k : HostState} {text : List ℕ} → AppendsText text h k → Knows h → Knows k
@@ -162,6 +213,13 @@ puts_knows {h} {k} puts s = subst Knows (sym puts.rest) so
   where
     so : Knows (record h { trace = k.trace })
     so = record {
-      sound = record { owned = s.sound.owned; rooted = s.sound.rooted; order = s.sound.order; known = s.sound.known; truthful = s.sound.truthful; level = s.sound.level };
+      sound = record {
+        owned = s.sound.owned;
+        rooted = s.sound.rooted;
+        order = s.sound.order;
+        known = s.sound.known;
+        truthful = s.sound.truthful;
+        level = s.sound.level;
+      };
       causes = s.causes;
     }

@@ -1,5 +1,6 @@
 -- Where a plan's run ends.
-use Rattle.std.proofs.Common.{◌≡◌, ◌∙◌, refl, sym, ap, ap₂, subst, Ok, IsErrAnd, ℕ, zero, suc, List, Option, Result, Err, false}
+use Rattle.std.proofs.Common.{◌≡◌, ◌∙◌, refl, sym, ap, ap₂, subst, Ok, IsErrAnd, ℕ, zero, suc, List}
+use Rattle.std.proofs.Common.{Option, Result, Err, false}
 use Rattle.std.proofs.lemmas.List.Elements.{All-cons, All-nil}
 use Rattle.std.specs.Prelude.{All, IfErr}
 use Rattle.usb_device.specs.Tree.{new_ports, row_of}
@@ -32,13 +33,15 @@ use Rattle.usb_run.specs.Reports.{Opens}
 use Rattle.usb_run.proofs.courses.Ownership.{untouched}
 
 -- a fault that a bus told has its cause
-pub failed_is_caused : (fault : BusFault) (w : World) → Failed fault w → IsCaused (run_fault fault) w
+pub failed_is_caused : (fault : BusFault) (w : World) → Failed fault w
+    → IsCaused (run_fault fault) w
 failed_is_caused LimitReached w failed = (failed.at_limit refl, failed.told)
 failed_is_caused Memory w failed = tt
 failed_is_caused TraceFailed w failed = failed.told
 
 -- and so has that of a round
-pub round_caused : (why : HostFault) (w : World) → RoundFaultAllowed why w → IsCaused (round_fault why) w
+pub round_caused : (why : HostFault) (w : World) → RoundFaultAllowed why w
+    → IsCaused (round_fault why) w
 round_caused host.Stopped w told = tt
 round_caused host.NoDevice w told = tt
 round_caused host.NoEndpoint w told = tt
@@ -50,26 +53,33 @@ abbrev failed_part : {A : Type 0} → RunFault → Result A RunFault
 failed_part fault = Err fault
 
 -- a part of a run that ends with a fault
-pub error_runs_on : {A : Type 0} (Goes : HostState → Result A RunFault → HostState → Type 0) {old new : HostState} (result : Result A RunFault) (fault : RunFault) → IsErrAnd result (λ e. e ≡ fault)
+pub error_runs_on : {A : Type 0} (Goes : HostState → Result A RunFault → HostState → Type 0)
+    {old new : HostState} (result : Result A RunFault) (fault : RunFault)
+    → IsErrAnd result (λ e. e ≡ fault)
     → Goes old (Err fault) new → IsCaused fault new.world → RunsOn Goes old result new
 error_runs_on Goes (Ok x) fault is stops caused = absurd is
 error_runs_on {A} Goes {old} {new} (Err e) fault is stops caused =
-    subst (λ f. RunsOn Goes old (failed_part {A = A} f) new) (sym is) (record { goes = stops; running = tt; caused = caused })
+    subst (λ f. RunsOn Goes old (failed_part {A = A} f) new) (sym is)
+    (record { goes = stops; running = tt; caused = caused })
 
 -- One round
 
-pub round_runs : (old new : HostState) (result : Result Round HostFault) (round : Round) → result ≡ Ok round → RoundTells old result new → RunsOn OneRound old (Ok round) new
+pub round_runs : (old new : HostState) (result : Result Round HostFault) (round : Round)
+    → result ≡ Ok round → RoundTells old result new → RunsOn OneRound old (Ok round) new
 round_runs old new result round is tells =
     let done : RoundTells old (Ok round) new = subst (λ r. RoundTells old r new) is tells in
     record { goes = done; running = round_running done; caused = tt }
 
-pub round_fails : (old new : HostState) (result : Result Round HostFault) (why : HostFault) → result ≡ Err why → RoundTells old result new → (fault : RunFault) → fault ≡ round_fault why → RunsOn OneRound old (Err fault) new
+pub round_fails : (old new : HostState) (result : Result Round HostFault) (why : HostFault)
+    → result ≡ Err why → RoundTells old result new → (fault : RunFault) → fault ≡ round_fault why
+    → RunsOn OneRound old (Err fault) new
 round_fails old new result why is tells fault same =
     let failed : RoundTells old (Err why) new = subst (λ r. RoundTells old r new) is tells in
     record {
       goes = record { why = why; tells = failed; ends = same };
       running = tt;
-      caused = subst (λ f. IsCaused f new.world) (sym same) (round_caused why new.world failed.told);
+      caused = subst (λ f. IsCaused f new.world) (sym same)
+          (round_caused why new.world failed.told);
     }
 
 -- Transfers
@@ -81,7 +91,8 @@ err_same : {A : Type 0} (a f : RunFault) → ended_result {A = A} a ≡ ended_re
 err_same a f e = cc e
 
 -- a transfer that did not end the run left the host running
-pub answered_goes : {A : Type 0} (answer : Result A HostFault) (x : Result A TransferFault) → transfer_ended answer ≡ Ok x → is_final answer ≡ false
+pub answered_goes : {A : Type 0} (answer : Result A HostFault) (x : Result A TransferFault)
+    → transfer_ended answer ≡ Ok x → is_final answer ≡ false
 answered_goes (Ok done) x e = refl
 answered_goes (Err host.Stopped) x e = refl
 answered_goes (Err host.NoDevice) x e = refl
@@ -90,7 +101,8 @@ answered_goes (Err (host.Pipe fault)) x e = refl
 answered_goes (Err (host.Bus fault)) x e = cc e
 answered_goes (Err host.Memory) x e = cc e
 
-caused_pipe : {A : Type 0} (fault : PipeFault) (f : RunFault) (w : World) → IsOfPipe fault → failed {A = A} (answer_of_pipe fault) ≡ Err f → IsCaused f w
+caused_pipe : {A : Type 0} (fault : PipeFault) (f : RunFault) (w : World) → IsOfPipe fault
+    → failed {A = A} (answer_of_pipe fault) ≡ Err f → IsCaused f w
 caused_pipe pipe.Stalled f w of e = cc e
 caused_pipe pipe.Busy f w of e = cc e
 caused_pipe pipe.NoAnswer f w of e = cc e
@@ -99,14 +111,19 @@ caused_pipe (pipe.Bus fault) f w of e = absurd of
 caused_pipe pipe.Memory f w of e = absurd of
 
 -- and one that did told its cause
-pub answered_caused : {A : Type 0} (answer : Result A HostFault) (f : RunFault) (w : World) → IfErr answer (λ h. TransferFaultAllowed h w) → transfer_ended answer ≡ Err f → IsCaused f w
+pub answered_caused : {A : Type 0} (answer : Result A HostFault) (f : RunFault) (w : World)
+    → IfErr answer (λ h. TransferFaultAllowed h w) → transfer_ended answer ≡ Err f → IsCaused f w
 answered_caused (Ok done) f w told e = cc e
-answered_caused {A} (Err host.Stopped) f w told e = subst (λ x. IsCaused x w) (err_same {A = A} NoMemory f e) tt
+answered_caused {A} (Err host.Stopped) f w told e =
+    subst (λ x. IsCaused x w) (err_same {A = A} NoMemory f e) tt
 answered_caused (Err host.NoDevice) f w told e = cc e
 answered_caused (Err host.NoEndpoint) f w told e = cc e
 answered_caused (Err (host.Pipe fault)) f w told e = caused_pipe fault f w told e
-answered_caused {A} (Err (host.Bus fault)) f w told e = subst (λ x. IsCaused x w) (err_same {A = A} (run_fault fault) f e) (failed_is_caused fault w told)
-answered_caused {A} (Err host.Memory) f w told e = subst (λ x. IsCaused x w) (err_same {A = A} NoMemory f e) tt
+answered_caused {A} (Err (host.Bus fault)) f w told e =
+    subst (λ x. IsCaused x w) (err_same {A = A} (run_fault fault) f e)
+    (failed_is_caused fault w told)
+answered_caused {A} (Err host.Memory) f w told e =
+    subst (λ x. IsCaused x w) (err_same {A = A} NoMemory f e) tt
 
 -- a plan's run begins with a host of its bus
 
@@ -116,26 +133,43 @@ unfolding new_ports row_of
 off_new zero = All-nil (λ b. b.power ≡ false)
 off_new (suc n) = All-cons (λ b. b.power ≡ false) _ (row_of (new_ports n)) refl (off_new n)
 
-pub opens_with : (plan : PlanData) (w : World) (t : Option (List ℕ)) (h : HostState) {before : Option (List ℕ)} → w ≡ opening plan → t ≡ before → h ≡ host_opening w t → Traced w t h.world h.trace
-    → (IsUntouched w → IsUnpowered w → HostInvariant h) → IsPlan plan → AtPorts plan.events → Opens plan before h
+pub opens_with : (plan : PlanData) (w : World) (t : Option (List ℕ)) (h : HostState)
+    {before : Option (List ℕ)} → w ≡ opening plan → t ≡ before → h ≡ host_opening w t
+    → Traced w t h.world h.trace
+    → (IsUntouched w → IsUnpowered w → HostInvariant h) → IsPlan plan → AtPorts plan.events
+    → Opens plan before h
 opens_with plan w t h {before} same silent opens traced sound rules paths =
     let P : World → Type 0 = λ x. Traced x t h.world h.trace in
     let Q : Option (List ℕ) → Type 0 = λ x. Traced (opening plan) x h.world h.trace in
     record {
       is = opens ∙ ap₂ host_opening same silent;
       traced = subst Q silent (subst P same traced);
-      sound = sound (subst IsUntouched (sym same) (untouched plan)) (subst IsUnpowered (sym same) (record { off = off_new plan.roots; order = opening_in_order plan rules refl }));
+      sound = sound (subst IsUntouched (sym same) (untouched plan))
+          (subst IsUnpowered (sym same) (record {
+            off = off_new plan.roots;
+            order =
+                opening_in_order plan rules refl;
+          }));
       rules = rules;
       paths = paths;
     }
 
 -- it has refused none
-opened_causes : (plan : PlanData) (h : HostState) {before : Option (List ℕ)} → Opens plan before h → RefusalsJustified h.world h.entries
-opened_causes plan h opens = subst (RefusalsJustified h.world) (sym (ap (λ (k : HostState). k.entries) opens.is)) (λ path cause state at stands. absurd (cc at))
+opened_causes : (plan : PlanData) (h : HostState) {before : Option (List ℕ)} → Opens plan before h
+    → RefusalsJustified h.world h.entries
+opened_causes plan h opens = subst (RefusalsJustified h.world)
+    (sym (ap (λ (k : HostState). k.entries) opens.is))
+    (λ path cause state at stands. absurd (cc at))
 
 -- and has the plan's limit
-pub limit_opened : (plan : PlanData) (h : HostState) {before : Option (List ℕ)} → Opens plan before h → h.world.limit ≡ plan.limit
+pub limit_opened : (plan : PlanData) (h : HostState) {before : Option (List ℕ)}
+    → Opens plan before h → h.world.limit ≡ plan.limit
 limit_opened plan h opens = ap (λ (k : HostState). k.world.limit) opens.is
 
-pub knows_opened : (plan : PlanData) (h : HostState) {before : Option (List ℕ)} → Opens plan before h → Knows h
-knows_opened plan h opens = record { sound = opens.sound; causes = λ fair. opened_causes plan h opens }
+pub knows_opened : (plan : PlanData) (h : HostState) {before : Option (List ℕ)}
+    → Opens plan before h → Knows h
+knows_opened plan h opens = record {
+  sound = opens.sound;
+  causes =
+      λ fair. opened_causes plan h opens;
+}

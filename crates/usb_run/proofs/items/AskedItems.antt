@@ -1,5 +1,6 @@
 -- What a run makes of an event, by what the event asks.
-use Rattle.std.proofs.Common.{◌≡◌, refl, sym, subst, false, Option, None, Some, Result, Ok, Err, IsErrAnd}
+use Rattle.std.proofs.Common.{◌≡◌, refl, sym, subst, false, Option, None, Some, Result, Ok, Err}
+use Rattle.std.proofs.Common.{IsErrAnd}
 use Rattle.usb_world.specs.declared.event.Ask.{Ask}
 use Rattle.usb_world.specs.declared.event.Ask.TheVariants.{Show}
 use Rattle.usb_host.specs.HostState.{HostState}
@@ -14,7 +15,8 @@ abbrev ItemAsked : Option Ask → HostState → Result (Option Item) RunFault �
 ItemAsked due = RunsOn (Does due)
 
 -- something was
-pub something_asked : (due : Option Ask) (ask : Ask) (h k : HostState) (result : Result (Option Item) RunFault)
+pub something_asked : (due : Option Ask) (ask : Ask) (h k : HostState)
+    (result : Result (Option Item) RunFault)
     → due ≡ Some ask → ItemAsked (Some ask) h result k → ItemAsked due h result k
 something_asked due ask h k result is goes = subst (λ d. ItemAsked d h result k) (sym is) goes
 
@@ -29,8 +31,10 @@ listing_asked ask h item is made running =
     })
 
 -- and where memory was refused for it
-pub listing_refused : (ask : Ask) (h : HostState) (result : Result (Option Item) RunFault) (fault : RunFault)
-    → ask ≡ Show → IsErrAnd result (λ e. e ≡ fault) → fault ≡ Memory → ItemAsked (Some ask) h result h
+pub listing_refused : (ask : Ask) (h : HostState) (result : Result (Option Item) RunFault)
+    (fault : RunFault)
+    → ask ≡ Show → IsErrAnd result (λ e. e ≡ fault) → fault ≡ Memory
+    → ItemAsked (Some ask) h result h
 listing_refused ask h result fault is failed memory =
     let refused = subst (λ f. IsErrAnd result (λ e. e ≡ f)) memory failed in
     subst (λ a. ItemAsked (Some a) h result h) (sym is)

@@ -1,5 +1,7 @@
 -- How a report has the items of a run.
-use Rattle.std.proofs.Common.{◌≡◌, ◌≢◌, ◌∙◌, refl, sym, ap, subst, inl, inr, arith, ℕ, ◌-◌, ◌≤◌, ◌<◌, length, List, [], ◌∷◌, ◌++◌, reverse, Bool, false, Option, None, Some, Result, Ok, Err, IsErrAnd}
+use Rattle.std.proofs.Common.{◌≡◌, ◌≢◌, ◌∙◌, refl, sym, ap, subst, inl, inr, arith, ℕ, ◌-◌, ◌≤◌}
+use Rattle.std.proofs.Common.{◌<◌, length, List, [], ◌∷◌, ◌++◌, reverse, Bool, false, Option, None}
+use Rattle.std.proofs.Common.{Some, Result, Ok, Err, IsErrAnd}
 use Rattle.std.proofs.lemmas.Grind.{reverse_onto}
 use Rattle.std.proofs.lemmas.List.{get_or-reverse, length-reverse}
 use Rattle.std.proofs.lemmas.List.Elements.{All-from_recursion}
@@ -19,7 +21,8 @@ use Rattle.usb_run.specs.declared.mode.Mode.TheVariants.{Tree}
 use Rattle.usb_run.specs.Moments.{IsListingOf, ListsPlugged}
 use Rattle.usb_run.specs.RunSegments.{Knows}
 use Rattle.usb_run.specs.Reports.{EndsWell, Finishes, Opens, Reports, RunsWell}
-use Rattle.usb_run.specs.Transcript.{Next, AppendsText, Transcript, begun, behind, itself, never, told}
+use Rattle.usb_run.specs.Transcript.{Next, AppendsText, Transcript, begun, behind, itself, never}
+use Rattle.usb_run.specs.Transcript.{told}
 use Rattle.usb_run.specs.declared.mode.Mode.{Mode}
 use Rattle.usb_run.specs.Run.{IsCaused, Spent}
 use Rattle.usb_run.proofs.endings.Causes.{at_fault, run_limit, untold_trace}
@@ -28,7 +31,8 @@ use Rattle.usb_run.proofs.courses.KnowledgeKept.{makes_knows}
 use Rattle.usb_run.proofs.items.Moments.{done_still, run_lists_right}
 use Rattle.usb_run.proofs.courses.RunCourses.{traced_runs_onward}
 use Rattle.usb_run.proofs.courses.RunParts.{makes_spent, spent_then, within_limit}
-use Rattle.usb_run.proofs.items.Transcripts.{ends_failed, over_next, appends_no_text, stopped_next, told_next}
+use Rattle.usb_run.proofs.items.Transcripts.{ends_failed, over_next, appends_no_text, stopped_next}
+use Rattle.usb_run.proofs.items.Transcripts.{told_next}
 
 -- what holds of each element holds of each in turn
 All-reverse : {X : Type 0} (P : X → Type 0) (xs : List X) → All P xs → All P (reverse xs)
@@ -38,16 +42,20 @@ All-reverse P xs each k d lt =
     subst P (sym (get_or-reverse xs k d less)) (each (length xs - 1 - k) d (omega (arith, less)))
 
 -- the run so far, and its items in order
-pub record ReportSoFar (was : Bool) (old : HostState) (made : List Item) (over : Bool) (new : HostState) : Type 0 where
+pub record ReportSoFar (was : Bool) (old : HostState) (made : List Item) (over : Bool)
+    (new : HostState) : Type 0 where
   pub items : List Item
   pub so_far : Transcript Tree was old items over new
   pub in_order : made ≡ reverse items
   pub knows : over ≡ false → Knows new
 
-pub report_begun : (was : Bool) (old : HostState) → (was ≡ false → Knows old) → ReportSoFar was old [] was old
+pub report_begun : (was : Bool) (old : HostState) → (was ≡ false → Knows old)
+    → ReportSoFar was old [] was old
 report_begun was old knows = record { items = []; so_far = begun; in_order = refl; knows = knows }
 
-pub report_told : {was : Bool} {old : HostState} {made : List Item} {over : Bool} {h : HostState} (r : ReportSoFar was old made over h) (item : Item) (on : Bool) (k : HostState) (more : List Item)
+pub report_told : {was : Bool} {old : HostState} {made : List Item} {over : Bool} {h : HostState}
+    (r : ReportSoFar was old made over h) (item : Item) (on : Bool) (k : HostState)
+    (more : List Item)
     → Next over h (Ok (Some item)) on k → more ≡ made ++ item ∷ [] → ReportSoFar was old more on k
 report_told r item on k more next is = record {
   items = item ∷ r.items;
@@ -56,12 +64,16 @@ report_told r item on k more next is = record {
   knows = λ _. makes_knows next.1;
 }
 
-not_reported : (Q : Report → Type 0) (result : Result Report RunFault) (said : RunFault) → IsErrAnd result (λ e. e ≡ said) → IfOk result Q
+not_reported : (Q : Report → Type 0) (result : Result Report RunFault) (said : RunFault)
+    → IsErrAnd result (λ e. e ≡ said) → IfOk result Q
 not_reported Q (Ok report) said is = absurd is
 not_reported Q (Err fault) said is = tt
 
-pub report_stopped : {was : Bool} {old : HostState} {made : List Item} {over : Bool} {h : HostState} (r : ReportSoFar was old made over h) (on : Bool) (k : HostState) (fault : RunFault) (result : Result Report RunFault)
-    → (said : RunFault) → said ≡ fault → IsErrAnd result (λ e. e ≡ said) → Next over h (Err fault) on k → IsCaused said k.world → Finishes was old result k
+pub report_stopped : {was : Bool} {old : HostState} {made : List Item} {over : Bool} {h : HostState}
+    (r : ReportSoFar was old made over h) (on : Bool) (k : HostState) (fault : RunFault)
+    (result : Result Report RunFault)
+    → (said : RunFault) → said ≡ fault → IsErrAnd result (λ e. e ≡ said)
+    → Next over h (Err fault) on k → IsCaused said k.world → Finishes was old result k
 report_stopped r on k fault result said same is next caused = record {
   items = r.items;
   ends = ends_failed itself never result said is (stopped_next on fault same r.so_far next);
@@ -70,36 +82,58 @@ report_stopped r on k fault result said same is next caused = record {
 }
 
 -- memory was refused for an item
-pub report_refused : {was : Bool} {old : HostState} {made : List Item} {over : Bool} {h : HostState} (r : ReportSoFar was old made over h) (item : Item) (on : Bool) (k : HostState) (result : Result Report RunFault)
-    → IsErrAnd result (λ e. e ≡ Memory) → Next over h (Ok (Some item)) on k → Finishes was old result k
+pub report_refused : {was : Bool} {old : HostState} {made : List Item} {over : Bool} {h : HostState}
+    (r : ReportSoFar was old made over h) (item : Item) (on : Bool) (k : HostState)
+    (result : Result Report RunFault)
+    → IsErrAnd result (λ e. e ≡ Memory) → Next over h (Ok (Some item)) on k
+    → Finishes was old result k
 report_refused r item on k result is next = record {
   items = item ∷ r.items;
-  ends = ends_failed itself never result Memory is (behind (λ cut. cut) (told_next r.so_far next (appends_no_text k)));
+  ends = ends_failed itself never result Memory is
+      (behind (λ cut. cut) (told_next r.so_far next (appends_no_text k)));
   report = not_reported (Reports (item ∷ r.items) k.world) result Memory is;
   caused = at_fault (λ x. IfErr x (λ f. IsCaused f k.world)) result Memory is tt;
 }
 
 -- the run is over
-pub report_over : {was : Bool} {old : HostState} {made : List Item} {over : Bool} {h : HostState} (r : ReportSoFar was old made over h) (on : Bool) (k : HostState) (report : Report) → Next over h (Ok None) on k → report.items.items ≡ made
-    → report.attempts ≡ k.world.attempts → report.address_losses ≡ k.world.losses.all → report.worst_address_run ≡ k.world.losses.worst → Finishes was old (Ok report) k
+pub report_over : {was : Bool} {old : HostState} {made : List Item} {over : Bool} {h : HostState}
+    (r : ReportSoFar was old made over h) (on : Bool) (k : HostState) (report : Report)
+    → Next over h (Ok None) on k → report.items.items ≡ made
+    → report.attempts ≡ k.world.attempts → report.address_losses ≡ k.world.losses.all
+    → report.worst_address_run ≡ k.world.losses.worst → Finishes was old (Ok report) k
 report_over {h = h} r on k report next made attempts losses worst = record {
   items = r.items;
   ends = over_next h k r.so_far next;
-  report = record { items_made = made ∙ r.in_order; attempts = attempts; losses = losses; worst = worst };
+  report = record {
+    items_made = made ∙ r.in_order;
+    attempts = attempts;
+    losses = losses;
+    worst =
+        worst;
+  };
   caused = tt;
 }
 
 -- Attempts
 
 puts_spent : {h k : HostState} {text : List ℕ} → AppendsText text h k → Spent h k
-puts_spent {h} {k} puts = (0, subst (λ (w : World). AttemptsWithin 0 h.world w) (sym (ap (λ (x : HostState). x.world) puts.rest)) (spends_none h.world))
+puts_spent {h} {k} puts = (
+  0,
+  subst (λ (w : World). AttemptsWithin 0 h.world w)
+      (sym (ap (λ (x : HostState). x.world) puts.rest)) (spends_none h.world),
+)
 
-transcript_spent : {mode : Mode} {was : Bool} {old : HostState} {items : List Item} {over : Bool} {new : HostState} → Transcript mode was old items over new → Spent old new
+transcript_spent : {mode : Mode} {was : Bool} {old : HostState} {items : List Item} {over : Bool}
+    {new : HostState} → Transcript mode was old items over new → Spent old new
 transcript_spent {old = old} begun = (0, spends_none old.world)
-transcript_spent {old = old} (told {h = h} {k = k} {new = new} t makes puts) = spent_then old k new (spent_then old h k (transcript_spent t) (makes_spent makes)) (puts_spent puts)
+transcript_spent {old = old} (told {h = h} {k = k} {new = new} t makes puts) =
+    spent_then old k new (spent_then old h k (transcript_spent t) (makes_spent makes))
+    (puts_spent puts)
 
 -- a run that is reported made its attempts within the limit
-pub reports_limit : (was : Bool) (old new : HostState) (result : Result Report RunFault) (limit : ℕ) → Finishes was old result new → old.world.attempts ≡ 0 → old.world.limit ≡ limit → IfOk result (λ report. report.attempts ≤ limit)
+pub reports_limit : (was : Bool) (old new : HostState) (result : Result Report RunFault) (limit : ℕ)
+    → Finishes was old result new → old.world.attempts ≡ 0 → old.world.limit ≡ limit
+    → IfOk result (λ report. report.attempts ≤ limit)
 reports_limit was old new (Ok report) limit finishes none is =
     let least : old.world.attempts ≤ old.world.limit = omega (arith, none) in
     let most = within_limit old new (transcript_spent finishes.ends) least in
@@ -107,7 +141,9 @@ reports_limit was old new (Ok report) limit finishes none is =
 reports_limit was old new (Err fault) limit finishes none is = tt
 
 -- a plan's run, from a host whose bus was just given power
-runs_opened : (plan : PlanData) (before : Option (List ℕ)) (over : Bool) (h k : HostState) (result : Result Report RunFault) → Opens plan before h → over ≡ false → Finishes over h result k → k.world.shared ≡ false
+runs_opened : (plan : PlanData) (before : Option (List ℕ)) (over : Bool) (h k : HostState)
+    (result : Result Report RunFault) → Opens plan before h → over ≡ false
+    → Finishes over h result k → k.world.shared ≡ false
     → result ≢ Err TraceFailed → RunsWell plan result
 runs_opened plan before over h k result opens at_work finishes single untraced =
     let so : Finishes false h result k = subst (λ o. Finishes o h result k) at_work finishes in
@@ -118,29 +154,43 @@ runs_opened plan before over h k result opens at_work finishes single untraced =
       last = k;
       finishes = so;
       untraced = untraced;
-      limit = run_limit Tree itself never false h so.items result k so.ends ∙ limit_opened plan h opens;
+      limit = run_limit Tree itself never false h so.items result k so.ends
+          ∙ limit_opened plan h opens;
       single = single;
-      lists = run_lists_right plan opens.rules opens.paths Tree itself never false h so.items k result (traced_runs_onward opens.traced) so.ends;
+      lists = run_lists_right plan opens.rules opens.paths Tree itself never false h so.items k
+          result (traced_runs_onward opens.traced) so.ends;
     }
 
 -- with what is told of it, where no line is made
-pub ends_untraced : (plan : PlanData) (before : Option (List ℕ)) (over : Bool) (h k : HostState) (result : Result Report RunFault) → Opens plan before h → over ≡ false → Finishes over h result k → k.world.shared ≡ false
+pub ends_untraced : (plan : PlanData) (before : Option (List ℕ)) (over : Bool) (h k : HostState)
+    (result : Result Report RunFault) → Opens plan before h → over ≡ false
+    → Finishes over h result k → k.world.shared ≡ false
     → k.world.fault ≢ Some bus.TraceFailed → EndsWell plan result
 ends_untraced plan before over h k result opens at_work finishes single other =
-    inr (runs_opened plan before over h k result opens at_work finishes single (untold_trace result k.world finishes.caused other))
+    inr (runs_opened plan before over h k result opens at_work finishes single
+    (untold_trace result k.world finishes.caused other))
 
 -- What is told of it
 
-reported : (P : Item → Type 0) (made items : List Item) → made ≡ reverse items → AllByRecursion P items → All P made
-reported P made items is each = subst (All P) (sym is) (All-reverse P items (All-from_recursion P items each))
+reported : (P : Item → Type 0) (made items : List Item) → made ≡ reverse items
+    → AllByRecursion P items → All P made
+reported P made items is each = subst (All P) (sym is)
+    (All-reverse P items (All-from_recursion P items each))
 
-runs_plugged : (plan : PlanData) (report : Report) → RunsWell plan (Ok report) → AtMostTwoRunning plan.damages → ListsPlugged plan report
+runs_plugged : (plan : PlanData) (report : Report) → RunsWell plan (Ok report)
+    → AtMostTwoRunning plan.damages → ListsPlugged plan report
 runs_plugged plan report runs few = λ worst.
     let told = runs.finishes.report in
     reported (IsListingOf plan) report.items.items runs.finishes.items told.items_made
-    (runs.lists (record { still = done_still runs.finishes.ends; few = few; kept = subst (λ n. n ≤ 2) told.worst worst }))
+    (runs.lists (record {
+      still = done_still runs.finishes.ends;
+      few = few;
+      kept =
+          subst (λ n. n ≤ 2) told.worst worst;
+    }))
 
-pub ends_plugged : (plan : PlanData) (result : Result Report RunFault) → EndsWell plan result → AtMostTwoRunning plan.damages → IfOk result (ListsPlugged plan)
+pub ends_plugged : (plan : PlanData) (result : Result Report RunFault) → EndsWell plan result
+    → AtMostTwoRunning plan.damages → IfOk result (ListsPlugged plan)
 ends_plugged plan (Ok report) (inl refused) few = cc refused
 ends_plugged plan (Ok report) (inr runs) few = runs_plugged plan report runs few
 ends_plugged plan (Err fault) ends few = tt

@@ -1,5 +1,6 @@
 -- A plan of at most 127 plugs whose limit is its bound never comes to its limit.
-use Rattle.std.proofs.Common.{◌≡◌, ◌≢◌, ◌≤◌, ℕ, zero, suc, ◌+◌, refl, subst, arith, inl, inr, List, length, false, Option, Result, Err}
+use Rattle.std.proofs.Common.{◌≡◌, ◌≢◌, ◌≤◌, ℕ, zero, suc, ◌+◌, refl, subst, arith, inl, inr, List}
+use Rattle.std.proofs.Common.{length, false, Option, Result, Err}
 use Rattle.std.proofs.Math.Nat.{le_trans}
 use Rattle.std.specs.Prelude.{IfErr}
 use Rattle.std.specs.List.{sum_by}
@@ -24,10 +25,15 @@ use Rattle.usb_run.proofs.ledgers.Sums.{none_enough, within_enough}
 use Rattle.usb_run.proofs.ledgers.VoidRuns.{Void, carries_void, opens_void}
 
 -- the attempts of a run, and two more
-run_enough : {A E : Type 0} (mode : Mode) (words : RunFault → E) (CutsAt : E → Type 0) (plan : PlanData) (before : Option (List ℕ)) (first last : HostState) (items : List Item) (result : Result A E)
-    → plug_events plan.events ≤ 127 → Opens plan before first → RunsTo mode words CutsAt false first items result last
-    → last.world.attempts + 2 ≤ enough_for (length plan.events) (greatest_total plan.devices plan.events) (sum_by moved plan.events)
-run_enough mode words CutsAt plan before first last items result few opens ends = split (length plan.events) refl
+run_enough : {A E : Type 0} (mode : Mode) (words : RunFault → E) (CutsAt : E → Type 0)
+    (plan : PlanData) (before : Option (List ℕ)) (first last : HostState) (items : List Item)
+    (result : Result A E)
+    → plug_events plan.events ≤ 127 → Opens plan before first
+    → RunsTo mode words CutsAt false first items result last
+    → last.world.attempts + 2 ≤ enough_for (length plan.events)
+    (greatest_total plan.devices plan.events) (sum_by moved plan.events)
+run_enough mode words CutsAt plan before first last items result few opens ends =
+    split (length plan.events) refl
   where
     c : Weights
     c = weights plan
@@ -43,20 +49,33 @@ run_enough mode words CutsAt plan before first last items result few opens ends 
 
     split : (n : ℕ) → length plan.events ≡ n → last.world.attempts + 2 ≤ enough_for v w m
     split zero e = none_enough v w m last.world.attempts
-        (run_few 0 Void Void (λ due h. ⊥) carries_void mode words CutsAt false first items result last ends (opens_void plan before first e opens))
-    split (suc n) e = within_enough v w m last.world.attempts (event_weight c) (omega (arith, e)) refl
-        (run_few (most_owed c plan + event_weight c) (Paid c plan c.polls) (Paid c plan 0) _ (carries_paid c plan) mode words CutsAt false first items result last ends (opens_paid plan few before first opens))
+        (run_few 0 Void Void (λ due h. ⊥) carries_void mode words CutsAt false first items result
+        last ends (opens_void plan before first e opens))
+    split (suc n) e = within_enough v w m last.world.attempts (event_weight c) (omega (arith, e))
+        refl
+        (run_few (most_owed c plan + event_weight c) (Paid c plan c.polls) (Paid c plan 0) _
+        (carries_paid c plan) mode words CutsAt false first items result last ends
+        (opens_paid plan few before first opens))
 
-pub not_limited : {A E : Type 0} (mode : Mode) (words : RunFault → E) (CutsAt : E → Type 0) (plan : PlanData) (before : Option (List ℕ)) (first last : HostState) (items : List Item) (result : Result A E)
-    → plug_events plan.events ≤ 127 → bound_of plan ≤ plan.limit → Opens plan before first → RunsTo mode words CutsAt false first items result last → last.world.limit ≡ plan.limit
+pub not_limited : {A E : Type 0} (mode : Mode) (words : RunFault → E) (CutsAt : E → Type 0)
+    (plan : PlanData) (before : Option (List ℕ)) (first last : HostState) (items : List Item)
+    (result : Result A E)
+    → plug_events plan.events ≤ 127 → bound_of plan ≤ plan.limit → Opens plan before first
+    → RunsTo mode words CutsAt false first items result last → last.world.limit ≡ plan.limit
     → IsCaused LimitReached last.world → ⊥
-not_limited mode words CutsAt plan before first last items result few below opens ends limit caused =
-    let within : last.world.attempts + 2 ≤ plan.limit = le_trans (run_enough mode words CutsAt plan before first last items result few opens ends) (bound_uncut plan opens.rules below) in
+not_limited mode words CutsAt plan before first last items result few below opens ends limit
+    caused =
+    let within : last.world.attempts + 2 ≤ plan.limit =
+    le_trans (run_enough mode words CutsAt plan before first last items result few opens ends)
+    (bound_uncut plan opens.rules below) in
     absurd (omega (arith, within, limit, caused.0))
 
 -- in `run`
-pub ends_enough : (plan : PlanData) (result : Result Report RunFault) → EndsWell plan result → plug_events plan.events ≤ 127 → bound_of plan ≤ plan.limit → result ≢ Err LimitReached
+pub ends_enough : (plan : PlanData) (result : Result Report RunFault) → EndsWell plan result
+    → plug_events plan.events ≤ 127 → bound_of plan ≤ plan.limit → result ≢ Err LimitReached
 ends_enough plan result (inl refused) few below is = cc (refused, is)
 ends_enough plan result (inr runs) few below is =
-    not_limited Tree itself never plan runs.before runs.first runs.last runs.finishes.items result few below runs.opens runs.finishes.ends runs.limit
-    (subst (λ (r : Result Report RunFault). IfErr r (λ fault. IsCaused fault runs.last.world)) is runs.finishes.caused)
+    not_limited Tree itself never plan runs.before runs.first runs.last runs.finishes.items result
+    few below runs.opens runs.finishes.ends runs.limit
+    (subst (λ (r : Result Report RunFault). IfErr r (λ fault. IsCaused fault runs.last.world)) is
+    runs.finishes.caused)

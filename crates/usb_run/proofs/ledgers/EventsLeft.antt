@@ -1,5 +1,6 @@
 -- Of the events to come none is added, whatever is done.
-use Rattle.std.proofs.Common.{◌≡◌, ◌≤◌, ◌==◌, Bool, true, false, if◌then◌else◌, List, [], ◌∷◌, Option, None, Some, refl, sym, subst, arith}
+use Rattle.std.proofs.Common.{◌≡◌, ◌≤◌, ◌==◌, Bool, true, false, if◌then◌else◌, List, [], ◌∷◌}
+use Rattle.std.proofs.Common.{Option, None, Some, refl, sym, subst, arith}
 use Rattle.std.specs.List.{sum_by}
 use Rattle.std.proofs.lemmas.List.Elements.{All-tail}
 use Rattle.std.proofs.lemmas.List.Sums.{sum_by-cons}
@@ -8,32 +9,41 @@ use Rattle.usb_world.specs.declared.types.Attempt.{Attempt}
 use Rattle.usb_world.specs.declared.types.BusFault.{BusFault}
 use Rattle.usb_world.specs.declared.types.BusFault.TheVariants.{LimitReached}
 use Rattle.usb_world.specs.PlanCourses.{AtPorts, PlugsAtPort}
-use Rattle.usb_world.specs.Steps.{AnyStep, Course, Step, here, step, attempt, root_call, event, report, after, attempted, after_due_events, event_taken, is_due, at_attempt, after_event, after_first_event, with_attempt}
+use Rattle.usb_world.specs.Steps.{AnyStep, Course, Step, here, step, attempt, root_call, event}
+use Rattle.usb_world.specs.Steps.{report, after, attempted, after_due_events, event_taken, is_due}
+use Rattle.usb_world.specs.Steps.{at_attempt, after_event, after_first_event, with_attempt}
 use Rattle.usb_world.specs.World.{World}
 use Rattle.usb_plan.specs.Attempts.{moved}
 
 -- what is so of the events to come, and stays so where the first one comes
-module _ (P : List Event → Type 0) (tail : (e : Event) (events : List Event) → P (e ∷ events) → P events) where
-  left_first : (events : List Event) (w : World) → w.left ≡ events → P events → P (after_first_event events w).left
+module _ (P : List Event → Type 0) (tail : (e : Event) (events : List Event) → P (e ∷ events)
+    → P events) where
+  left_first : (events : List Event) (w : World) → w.left ≡ events → P events
+      → P (after_first_event events w).left
   unfolding after_event
   left_first [] w l h = subst P (sym l) h
   left_first (e ∷ events) w l h = tail e events h
 
-  left_due : (events : List Event) (w : World) → w.left ≡ events → P events → P (after_due_events events w).left
+  left_due : (events : List Event) (w : World) → w.left ≡ events → P events
+      → P (after_due_events events w).left
   unfolding after_due_events after_event
   left_due [] w l h = subst P (sym l) h
-  left_due (e ∷ events) w l h = split (is_due e w) (left_due events (after_event e events w) refl (tail e events h))
+  left_due (e ∷ events) w l h = split (is_due e w)
+      (left_due events (after_event e events w) refl (tail e events h))
     where
-      split : (x : Bool) → P (after_due_events events (after_event e events w)).left → P (if x then after_due_events events (after_event e events w) else w).left
+      split : (x : Bool) → P (after_due_events events (after_event e events w)).left
+          → P (if x then after_due_events events (after_event e events w) else w).left
       split true k = k
       split false k = subst P (sym l) h
 
-  left_attempt : (a : Attempt) (f : Option BusFault) (w : World) → P w.left → P (attempted a f w).left
+  left_attempt : (a : Attempt) (f : Option BusFault) (w : World) → P w.left
+      → P (attempted a f w).left
   unfolding with_attempt at_attempt
   left_attempt a (Some f) w h = h
   left_attempt a None w h = split (w.attempts == w.limit)
     where
-      split : (b : Bool) → P (if b then record w { fault = Some LimitReached } else with_attempt a (at_attempt w)).left
+      split : (b : Bool) → P (if b then record w { fault = Some LimitReached } else with_attempt a
+          (at_attempt w)).left
       split true = h
       split false = left_due w.left w refl h
 
@@ -54,8 +64,10 @@ module _ (P : List Event → Type 0) (tail : (e : Event) (events : List Event) �
 
 -- they are at ports
 pub at_ports-course : {w v : World} → Course AnyStep w v → AtPorts w.left → AtPorts v.left
-at_ports-course c h = left_course AtPorts (λ e events. All-tail (λ (x : Event). PlugsAtPort x.action) e events) c h
+at_ports-course c h = left_course AtPorts
+    (λ e events. All-tail (λ (x : Event). PlugsAtPort x.action) e events) c h
 
 -- and move no more
 pub moved_left : (w v : World) → Course AnyStep w v → sum_by moved v.left ≤ sum_by moved w.left
-moved_left w v c = left_course (λ events. sum_by moved events ≤ sum_by moved w.left) (λ e events h. omega (arith, h, sum_by-cons moved e events)) c (omega arith)
+moved_left w v c = left_course (λ events. sum_by moved events ≤ sum_by moved w.left)
+    (λ e events h. omega (arith, h, sum_by-cons moved e events)) c (omega arith)

@@ -1,5 +1,6 @@
 -- What was left to do and the events pay for the attempts of a run, as each round pays for its own.
-use Rattle.std.proofs.Common.{◌≡◌, ◌≢◌, ◌≤◌, ◌∙◌, ℕ, ◌+◌, ◌*◌, refl, sym, ap, subst, arith, List, [], ◌∷◌, length, Option, None, Some, Result, Ok, Err}
+use Rattle.std.proofs.Common.{◌≡◌, ◌≢◌, ◌≤◌, ◌∙◌, ℕ, ◌+◌, ◌*◌, refl, sym, ap, subst, arith, List}
+use Rattle.std.proofs.Common.{[], ◌∷◌, length, Option, None, Some, Result, Ok, Err}
 use Rattle.std.specs.List.{sum_by}
 use Rattle.std.proofs.lemmas.List.Sums.{sum_by-cons}
 use Rattle.usb_world.specs.declared.event.Action.{Action}
@@ -10,7 +11,8 @@ use Rattle.usb_world.specs.declared.event.Event.{Event}
 use Rattle.usb_world.specs.declared.types.BusFault.{BusFault}
 use Rattle.usb_world.specs.PlanData.{PlanData, IsPlan}
 use Rattle.usb_world.specs.PlanCourses.{AtPorts}
-use Rattle.usb_world.specs.Steps.{AnyStep, Course, after, ask_of, event, event_taken, opening, after_event, after_first_event}
+use Rattle.usb_world.specs.Steps.{AnyStep, Course, after, ask_of, event, event_taken, opening}
+use Rattle.usb_world.specs.Steps.{after_event, after_first_event}
 use Rattle.usb_world.specs.World.{World, to_come}
 use Rattle.usb_world.proofs.Interface.{course_joined}
 use Rattle.usb_backlog.specs.Marks.{KeepsBy, looks_by, strays_by, unmarked}
@@ -23,7 +25,8 @@ use Rattle.usb_host.specs.declared.host.Round.{Round}
 use Rattle.usb_host.specs.declared.host.Round.TheVariants.{Worked, Quiet}
 use Rattle.usb_host.specs.Backlog.{hubs}
 use Rattle.usb_host.specs.Bounds.{clear_bound}
-use Rattle.usb_host.specs.Budget.{Affords, Costs, PaysRound, RoundPaid, Weights, debt, event_weight, hub_weight, look_weight, stray_weight}
+use Rattle.usb_host.specs.Budget.{Affords, Costs, PaysRound, RoundPaid, Weights, debt, event_weight}
+use Rattle.usb_host.specs.Budget.{hub_weight, look_weight, stray_weight}
 use Rattle.usb_host.specs.Plugs.{HasPlugs, plug_events}
 use Rattle.usb_host.specs.HostState.{HostState, opening_host as host_opening}
 use Rattle.usb_host.specs.Soundness.{HostInvariant}
@@ -36,23 +39,31 @@ use Rattle.usb_run.specs.RunSegments.{Comes}
 use Rattle.usb_run.specs.Reports.{Opens}
 use Rattle.usb_host.specs.HostCalls.{TransferTells}
 use Rattle.usb_run.specs.Transfers.{IsItemOf, StopsAt}
-use Rattle.usb_run.proofs.AskedCalls.{answered, Calls, no_call, sends, receives, clears, item_calls, stop_calls}
+use Rattle.usb_run.proofs.AskedCalls.{answered, Calls, no_call, sends, receives, clears, item_calls}
+use Rattle.usb_run.proofs.AskedCalls.{stop_calls}
 use Rattle.usb_run.proofs.ledgers.EventsLeft.{moved_left, at_ports-course}
 use Rattle.usb_run.proofs.courses.KnowledgeKept.{arrival_sound}
-use Rattle.usb_run.proofs.ledgers.PlanWeights.{looks_by-opening, strays_by-opening, greatest_total-plugs, weights}
+use Rattle.usb_run.proofs.ledgers.PlanWeights.{looks_by-opening, strays_by-opening}
+use Rattle.usb_run.proofs.ledgers.PlanWeights.{greatest_total-plugs, weights}
 use Rattle.usb_run.proofs.ledgers.RunBounds.{Carries, Few}
-use Rattle.usb_run.proofs.courses.RunCourses.{Running, called_onward, comes_onward, traced_runs_onward}
+use Rattle.usb_run.proofs.courses.RunCourses.{Running, called_onward, comes_onward}
+use Rattle.usb_run.proofs.courses.RunCourses.{traced_runs_onward}
 use Rattle.usb_run.proofs.courses.RunParts.{Called, round_called}
-use Rattle.usb_run.proofs.ledgers.Sums.{debt_grown, grown_pays, moved_within, owed_after, owed_behind, owed_came, owed_due, owed_first, owed_moved, owed_settled, owed_worked, pays_costs, room_within, still_within, stopped_within}
+use Rattle.usb_run.proofs.ledgers.Sums.{debt_grown, grown_pays, moved_within, owed_after}
+use Rattle.usb_run.proofs.ledgers.Sums.{owed_behind, owed_came, owed_due, owed_first, owed_moved}
+use Rattle.usb_run.proofs.ledgers.Sums.{owed_settled, owed_worked, pays_costs, room_within}
+use Rattle.usb_run.proofs.ledgers.Sums.{still_within, stopped_within}
 use Rattle.usb_enum.proofs.Interface.{traced_faulted}
 
 -- attempts that were made, what is enough for what is left to do, and what the events to come pay
 abbrev pub weight_owed : Weights → HostState → ℕ
-weight_owed c h = h.world.attempts + debt c h + (event_weight c + c.polls) * to_come h.world + 1000 * sum_by moved h.world.left
+weight_owed c h = h.world.attempts + debt c h + (event_weight c + c.polls) * to_come h.world +
+    1000 * sum_by moved h.world.left
 
 -- what all events pay, and the polls of the last round
 abbrev pub most_owed : Weights → PlanData → ℕ
-most_owed c plan = (event_weight c + c.polls) * length plan.events + 1000 * sum_by moved plan.events + c.polls
+most_owed c plan = (event_weight c + c.polls) * length plan.events + 1000 * sum_by moved plan.events
+    + c.polls
 
 -- attempts are few, whatever became of the bus; where it is at work, so many more may be made
 pub record Paid (c : Weights) (plan : PlanData) (room : ℕ) (h : HostState) : Type 0 where
@@ -62,12 +73,14 @@ pub record Paid (c : Weights) (plan : PlanData) (room : ℕ) (h : HostState) : T
 
 -- Faults
 
-few_called : {a b : HostState} (most : ℕ) → Called a b → Few most a → (a.world.fault ≡ None → Few most b) → Few most b
+few_called : {a b : HostState} (most : ℕ) → Called a b → Few most a
+    → (a.world.fault ≡ None → Few most b) → Few most b
 few_called {a} {b} most calls few working = split a.world.fault refl
   where
     split : (f : Option BusFault) → a.world.fault ≡ f → Few most b
     split None e = working e
-    split (Some fault) e = subst (λ n. n ≤ most) (sym (traced_faulted calls.went.traced fault e).0) few
+    split (Some fault) e = subst (λ n. n ≤ most) (sym (traced_faulted calls.went.traced fault e).0)
+        few
 
 -- What an event pays
 
@@ -100,13 +113,16 @@ first_due : (w : World) (due : Option Ask) → Some due ≡ next_due w → IsFir
 unfolding next_due
 first_due w due is = split w.left refl is
   where
-    split : (l : List Event) → w.left ≡ l → Some due ≡ elim l [ [] ↦ None | e ∷ events ↦ Some (ask_of e.action) ] → IsFirstDue w due
+    split : (l : List Event) → w.left ≡ l
+        → Some due ≡ elim l [ [] ↦ None | e ∷ events ↦ Some (ask_of e.action) ] → IsFirstDue w due
     split [] same h = absurd (cc h)
     split (e ∷ events) same h = record { e = e; events = events; left = same; asks = cc h }
 
-after_left : (w : World) (e : Event) (events : List Event) → w.fault ≡ None → w.left ≡ e ∷ events → (after event w).left ≡ events
+after_left : (w : World) (e : Event) (events : List Event) → w.fault ≡ None → w.left ≡ e ∷ events
+    → (after event w).left ≡ events
 unfolding after after_event
-after_left w e events working same = ap (λ f. (event_taken f w).left) working ∙ ap (λ l. (after_first_event l w).left) same
+after_left w e events working same = ap (λ f. (event_taken f w).left) working
+    ∙ ap (λ l. (after_first_event l w).left) same
 
 module _ (c : Weights) where
   -- what one event adds, and what it pays beside that
@@ -119,17 +135,24 @@ module _ (c : Weights) where
   event_is : event_weight c ≡ added + beside
   event_is = omega arith
 
-  debt_kept : (a b : HostState) → KeepsBy unmarked unmarked unmarked a.world b.world → b.entries ≡ a.entries → debt c b + added * a.world.taken ≤ debt c a + added * b.world.taken
+  debt_kept : (a b : HostState) → KeepsBy unmarked unmarked unmarked a.world b.world
+      → b.entries ≡ a.entries → debt c b + added * a.world.taken ≤ debt c a + added * b.world.taken
   debt_kept a b keeps same =
       let fewer : hubs b.entries ≤ hubs a.entries = rw same (omega arith) in
-      debt_grown (look_weight c) (stray_weight c) (hub_weight c) (looks_by unmarked a.world.roots) (strays_by unmarked unmarked a.world.roots) (hubs a.entries)
-      (looks_by unmarked b.world.roots) (strays_by unmarked unmarked b.world.roots) (hubs b.entries) a.world.taken b.world.taken keeps.looks keeps.strays fewer
+      debt_grown (look_weight c) (stray_weight c) (hub_weight c) (looks_by unmarked a.world.roots)
+      (strays_by unmarked unmarked a.world.roots) (hubs a.entries)
+      (looks_by unmarked b.world.roots) (strays_by unmarked unmarked b.world.roots) (hubs b.entries)
+      a.world.taken b.world.taken keeps.looks keeps.strays fewer
 
-  owed_on : (a b : HostState) (k more : ℕ) → Course AnyStep a.world b.world → Costs c more a b → b.world.taken + to_come b.world ≡ a.world.taken + to_come a.world → to_come b.world + k ≤ to_come a.world
+  owed_on : (a b : HostState) (k more : ℕ) → Course AnyStep a.world b.world → Costs c more a b
+      → b.world.taken + to_come b.world ≡ a.world.taken + to_come a.world
+      → to_come b.world + k ≤ to_come a.world
       → weight_owed c b + c.polls * k ≤ weight_owed c a + more
   owed_on a b k more course costs events fewer =
-      owed_after (event_weight c) c.polls a.world.attempts (debt c a) a.world.taken (to_come a.world) (sum_by moved a.world.left)
-      b.world.attempts (debt c b) b.world.taken (to_come b.world) (sum_by moved b.world.left) k more costs events fewer (moved_left a.world b.world course)
+      owed_after (event_weight c) c.polls a.world.attempts (debt c a) a.world.taken
+      (to_come a.world) (sum_by moved a.world.left)
+      b.world.attempts (debt c b) b.world.taken (to_come b.world) (sum_by moved b.world.left) k more
+      costs events fewer (moved_left a.world b.world course)
 
 module _ (c : Weights) (plan : PlanData) where
   abbrev pub most : ℕ
@@ -141,7 +164,9 @@ module _ (c : Weights) (plan : PlanData) where
   ports_at : (h : HostState) → Affords c plan h → AtPorts h.world.left
   ports_at h x = at_ports-course x.works.course x.works.paths
 
-  affords_on : (a b : HostState) → Affords c plan a → Running a.world b.world → (HostInvariant a → HostInvariant b) → HasPlugs plan.events b → b.world.fault ≡ None → Affords c plan b
+  affords_on : (a b : HostState) → Affords c plan a → Running a.world b.world
+      → (HostInvariant a → HostInvariant b) → HasPlugs plan.events b → b.world.fault ≡ None
+      → Affords c plan b
   affords_on a b x on sound plugs none = record {
     works = record {
       sound = sound x.works.sound;
@@ -157,16 +182,25 @@ module _ (c : Weights) (plan : PlanData) where
   }
 
   paid_less : (h : HostState) (r q : ℕ) → q ≤ r → Paid c plan r h → Paid c plan q h
-  paid_less h r q less x = record { few = x.few; affords = x.affords; owes = λ none. room_within (weight_owed c h) q r most less (x.owes none) }
+  paid_less h r q less x = record {
+    few = x.few;
+    affords = x.affords;
+    owes =
+        λ none. room_within (weight_owed c h) q r most less (x.owes none);
+  }
 
   -- A round
 
-  round_few : (a b : HostState) (room : ℕ) (result : Result Round HostFault) → Paid c plan room a → RoundTells a result b → Few all b
+  round_few : (a b : HostState) (room : ℕ) (result : Result Round HostFault) → Paid c plan room a
+      → RoundTells a result b → Few all b
   round_few a b room result x tells = few_called all (round_called tells) x.few (λ working.
-      stopped_within (event_weight c) c.polls a.world.attempts (debt c a) a.world.taken (to_come a.world) (sum_by moved a.world.left) b.world.attempts b.world.taken most room
-      (tells.keeps.pays c plan (x.affords working)).most (omega (arith, tells.went.spends.events)) (x.owes working))
+      stopped_within (event_weight c) c.polls a.world.attempts (debt c a) a.world.taken
+      (to_come a.world) (sum_by moved a.world.left) b.world.attempts b.world.taken most room
+      (tells.keeps.pays c plan (x.affords working)).most (omega (arith, tells.went.spends.events))
+      (x.owes working))
 
-  module _ (a b : HostState) (round : Round) (x : Paid c plan c.polls a) (tells : RoundTells a (Ok round) b) (none : b.world.fault ≡ None) where
+  module _ (a b : HostState) (round : Round) (x : Paid c plan c.polls a)
+      (tells : RoundTells a (Ok round) b) (none : b.world.fault ≡ None) where
     round_work : Running a.world b.world
     round_work = called_onward (round_called tells) none
 
@@ -174,10 +208,13 @@ module _ (c : Weights) (plan : PlanData) where
     round_paid = tells.keeps.pays c plan (x.affords round_work.sound)
 
     round_affords : Affords c plan b
-    round_affords = affords_on a b (x.affords round_work.sound) round_work tells.keeps.sound.keeps.sound.sound (round_paid.plugs none) none
+    round_affords = affords_on a b (x.affords round_work.sound) round_work
+        tells.keeps.sound.keeps.sound.sound (round_paid.plugs none) none
 
-    round_owed : (k more : ℕ) → Costs c more a b → to_come b.world + k ≤ to_come a.world → weight_owed c b + c.polls * k ≤ weight_owed c a + more
-    round_owed k more costs fewer = owed_on c a b k more round_work.course costs tells.went.spends.events fewer
+    round_owed : (k more : ℕ) → Costs c more a b → to_come b.world + k ≤ to_come a.world
+        → weight_owed c b + c.polls * k ≤ weight_owed c a + more
+    round_owed k more costs fewer = owed_on c a b k more round_work.course costs
+        tells.went.spends.events fewer
 
     -- no event is added
     none_added : to_come b.world + 0 ≤ to_come a.world
@@ -186,43 +223,63 @@ module _ (c : Weights) (plan : PlanData) where
     event_came : (b.world.taken ≢ a.world.taken) → to_come b.world + 1 ≤ to_come a.world
     event_came other = omega (arith, other, tells.went.spends.events, tells.went.spends.onward)
 
-    round_goes : (r : Round) → RoundPaid c r a b → (r ≡ Quiet → b.world.taken ≢ a.world.taken) → weight_owed c b + c.polls ≤ most
+    round_goes : (r : Round) → RoundPaid c r a b → (r ≡ Quiet → b.world.taken ≢ a.world.taken)
+        → weight_owed c b + c.polls ≤ most
     round_goes Worked done came = owed_worked (weight_owed c b) (weight_owed c a) c.polls most
-        (round_owed 0 0 (pays_costs (b.world.attempts + debt c b) (event_weight c * a.world.taken) (a.world.attempts + debt c a + event_weight c * b.world.taken) done) none_added) (x.owes round_work.sound)
-    round_goes Quiet done came = owed_came (weight_owed c b) (weight_owed c a) c.polls most (round_owed 1 c.polls done (event_came (came refl))) (x.owes round_work.sound)
+        (round_owed 0 0 (pays_costs (b.world.attempts + debt c b) (event_weight c * a.world.taken)
+        (a.world.attempts + debt c a + event_weight c * b.world.taken) done) none_added)
+        (x.owes round_work.sound)
+    round_goes Quiet done came = owed_came (weight_owed c b) (weight_owed c a) c.polls most
+        (round_owed 1 c.polls done (event_came (came refl))) (x.owes round_work.sound)
 
     round_settles : round ≡ Quiet → weight_owed c b + 0 ≤ most
     round_settles quiet =
-        let done : RoundPaid c Quiet a b = subst (λ r. RoundPaid c r a b) quiet (round_paid.pays none) in
-        owed_settled (weight_owed c b) (weight_owed c a) c.polls most (round_owed 0 c.polls done none_added) (x.owes round_work.sound)
+        let done : RoundPaid c Quiet a b = subst (λ r. RoundPaid c r a b) quiet
+        (round_paid.pays none) in
+        owed_settled (weight_owed c b) (weight_owed c a) c.polls most
+        (round_owed 0 c.polls done none_added) (x.owes round_work.sound)
 
   -- An event
 
-  module _ (a b : HostState) (due : Option Ask) (x : Paid c plan 0 a) (comes : Comes a (Ok (Some due)) b) where
+  module _ (a b : HostState) (due : Option Ask) (x : Paid c plan 0 a)
+      (comes : Comes a (Ok (Some due)) b) where
     came_work : Running a.world b.world
     came_work = comes_onward comes comes.takes.took.ends.still
 
     came_keeps : KeepsBy unmarked unmarked unmarked a.world b.world
-    came_keeps = subst (KeepsBy unmarked unmarked unmarked a.world) (sym comes.takes.exact) (keeps-event unmarked unmarked unmarked few-none a.world (ports_at a (x.affords came_work.sound)))
+    came_keeps = subst (KeepsBy unmarked unmarked unmarked a.world) (sym comes.takes.exact)
+        (keeps-event unmarked unmarked unmarked few-none a.world
+        (ports_at a (x.affords came_work.sound)))
 
     came_entries : b.entries ≡ a.entries
     came_entries = ap (λ (h : HostState). h.entries) comes.rests
 
     came_affords : Affords c plan b
-    came_affords = affords_on a b (x.affords came_work.sound) came_work (arrival_sound a b (Some due) comes).sound
-        (plugs_same plan.events a b comes.takes.took.spends.onward came_entries (x.affords came_work.sound).plugs) comes.takes.took.ends.still
+    came_affords = affords_on a b (x.affords came_work.sound) came_work
+        (arrival_sound a b (Some due) comes).sound
+        (plugs_same plan.events a b comes.takes.took.spends.onward came_entries
+        (x.affords came_work.sound).plugs) comes.takes.took.ends.still
 
     came_owed : weight_owed c b + (c.polls + room_of due) ≤ most
     came_owed =
         let first : IsFirstDue a.world due = first_due a.world due comes.takes.asked in
-        let left : b.world.left ≡ first.events = ap (λ (w : World). w.left) comes.takes.exact ∙ after_left a.world first.e first.events came_work.sound first.left in
-        let fewer : to_come a.world ≡ to_come b.world + 1 = omega (arith, ap length first.left, ap length left) in
-        let less : sum_by moved a.world.left ≡ moved first.e + sum_by moved b.world.left = ap (sum_by moved) first.left ∙ (sum_by-cons moved first.e first.events ∙ ap (λ l. moved first.e + sum_by moved l) (sym left)) in
-        let fits : room_of due ≤ 3200 + 1000 * moved first.e = subst (λ d. room_of d ≤ 3200 + 1000 * moved first.e) first.asks (room_moved first.e) in
-        owed_due (weight_owed c b) (weight_owed c a) (look_weight c) (stray_weight c) c.polls (moved first.e) (room_of due) most
-        (owed_behind (event_weight c) (added c) (beside c) c.polls a.world.attempts (debt c a) a.world.taken (to_come a.world) (sum_by moved a.world.left)
-        b.world.attempts (debt c b) b.world.taken (to_come b.world) (sum_by moved b.world.left) (moved first.e)
-        (event_is c) comes.takes.took.spends.most (debt_kept c a b came_keeps came_entries) comes.takes.took.ends.one fewer less) fits (x.owes came_work.sound)
+        let left : b.world.left ≡ first.events = ap (λ (w : World). w.left) comes.takes.exact
+        ∙ after_left a.world first.e first.events came_work.sound first.left in
+        let fewer : to_come a.world ≡ to_come b.world + 1 =
+        omega (arith, ap length first.left, ap length left) in
+        let less : sum_by moved a.world.left ≡ moved first.e + sum_by moved b.world.left =
+        ap (sum_by moved) first.left ∙ (sum_by-cons moved first.e first.events
+        ∙ ap (λ l. moved first.e + sum_by moved l) (sym left)) in
+        let fits : room_of due ≤ 3200 + 1000 * moved first.e =
+        subst (λ d. room_of d ≤ 3200 + 1000 * moved first.e) first.asks (room_moved first.e) in
+        owed_due (weight_owed c b) (weight_owed c a) (look_weight c) (stray_weight c) c.polls
+        (moved first.e) (room_of due) most
+        (owed_behind (event_weight c) (added c) (beside c) c.polls a.world.attempts (debt c a)
+        a.world.taken (to_come a.world) (sum_by moved a.world.left)
+        b.world.attempts (debt c b) b.world.taken (to_come b.world) (sum_by moved b.world.left)
+        (moved first.e)
+        (event_is c) comes.takes.took.spends.most (debt_kept c a b came_keeps came_entries)
+        comes.takes.took.ends.one fewer less) fits (x.owes came_work.sound)
 
     came_paid : Paid c plan (c.polls + room_of due) b
     came_paid = record {
@@ -233,43 +290,58 @@ module _ (c : Weights) (plan : PlanData) where
 
   -- A transfer
 
-  module _ {A : Type 0} (n : ℕ) {Did : HostState → Result A HostFault → HostState → Type 0} (a b : HostState) (result : Result A HostFault) (x : Paid c plan (c.polls + n) a) (tells : TransferTells n Did a result b) where
+  module _ {A : Type 0} (n : ℕ) {Did : HostState → Result A HostFault → HostState → Type 0}
+      (a b : HostState) (result : Result A HostFault) (x : Paid c plan (c.polls + n) a)
+      (tells : TransferTells n Did a result b) where
     transfer_calls : Called a b
     transfer_calls = record { most = n; went = tells.went }
 
     transfer_few : Few all b
     transfer_few = few_called all transfer_calls x.few (λ working.
-        moved_within b.world.attempts a.world.attempts (debt c a) ((event_weight c + c.polls) * to_come a.world) (1000 * sum_by moved a.world.left) c.polls n most (event_weight c) tells.went.spends.most (x.owes working))
+        moved_within b.world.attempts a.world.attempts (debt c a)
+        ((event_weight c + c.polls) * to_come a.world) (1000 * sum_by moved a.world.left)
+        c.polls n most (event_weight c) tells.went.spends.most (x.owes working))
 
     module _ (none : b.world.fault ≡ None) where
       transfer_work : Running a.world b.world
       transfer_work = called_onward transfer_calls none
 
       transfer_keeps : KeepsBy unmarked unmarked unmarked a.world b.world
-      transfer_keeps = (tells.keeps.backlog none).all (ports_at a (x.affords transfer_work.sound)) unmarked unmarked unmarked few-none
+      transfer_keeps = (tells.keeps.backlog none).all (ports_at a (x.affords transfer_work.sound))
+          unmarked unmarked unmarked few-none
 
       transfer_affords : Affords c plan b
-      transfer_affords = affords_on a b (x.affords transfer_work.sound) transfer_work tells.keeps.sound.sound
-          (plugs_same plan.events a b tells.went.spends.onward tells.stopped.kept (x.affords transfer_work.sound).plugs) none
+      transfer_affords = affords_on a b (x.affords transfer_work.sound) transfer_work
+          tells.keeps.sound.sound
+          (plugs_same plan.events a b tells.went.spends.onward tells.stopped.kept
+          (x.affords transfer_work.sound).plugs) none
 
       transfer_owed : weight_owed c b + c.polls ≤ most
       transfer_owed =
-          let fewer : to_come b.world + 0 ≤ to_come a.world = omega (arith, tells.went.spends.events, tells.went.spends.onward) in
-          let costs : Costs c n a b = grown_pays (event_weight c) (added c) (beside c) a.world.attempts (debt c a) a.world.taken b.world.attempts (debt c b) b.world.taken n
-          (event_is c) tells.went.spends.most (debt_kept c a b transfer_keeps tells.stopped.kept) tells.went.spends.onward in
-          owed_moved (weight_owed c b) (weight_owed c a) c.polls n most (owed_on c a b 0 n transfer_work.course costs tells.went.spends.events fewer) (x.owes transfer_work.sound)
+          let fewer : to_come b.world + 0 ≤ to_come a.world =
+          omega (arith, tells.went.spends.events, tells.went.spends.onward) in
+          let costs : Costs c n a b = grown_pays (event_weight c) (added c) (beside c)
+          a.world.attempts (debt c a) a.world.taken b.world.attempts (debt c b) b.world.taken n
+          (event_is c) tells.went.spends.most (debt_kept c a b transfer_keeps tells.stopped.kept)
+          tells.went.spends.onward in
+          owed_moved (weight_owed c b) (weight_owed c a) c.polls n most
+          (owed_on c a b 0 n transfer_work.course costs tells.went.spends.events fewer)
+          (x.owes transfer_work.sound)
 
     transfer_paid : Paid c plan c.polls b
     transfer_paid = record { few = transfer_few; affords = transfer_affords; owes = transfer_owed }
 
-  asked_paid : (a : HostState) {due asked : Option Ask} → due ≡ asked → Paid c plan (c.polls + room_of due) a
+  asked_paid : (a : HostState) {due asked : Option Ask} → due ≡ asked
+      → Paid c plan (c.polls + room_of due) a
       → Paid c plan (c.polls + room_of asked) a
   asked_paid a asks x = subst (λ d. Paid c plan (c.polls + room_of d) a) asks x
 
-  calls_paid : (a b : HostState) (due : Option Ask) → Paid c plan (c.polls + room_of due) a → Calls due a b
+  calls_paid : (a b : HostState) (due : Option Ask) → Paid c plan (c.polls + room_of due) a
+      → Calls due a b
       → Paid c plan c.polls b
   calls_paid a b due x (no_call same) =
-      subst (Paid c plan c.polls) (sym same) (paid_less a (c.polls + room_of due) c.polls (omega arith) x)
+      subst (Paid c plan c.polls) (sym same)
+      (paid_less a (c.polls + room_of due) c.polls (omega arith) x)
   calls_paid a b due x (sends path bytes result asks tells) =
       transfer_paid (transaction_bound * length bytes) a b result (asked_paid a asks x) tells
   calls_paid a b due x (receives path packets result asks tells) =
@@ -277,7 +349,8 @@ module _ (c : Weights) (plan : PlanData) where
   calls_paid a b due x (clears path result asks tells) =
       transfer_paid clear_bound a b result (asked_paid a asks x) tells
 
-  calls_few : (a b : HostState) (due : Option Ask) → Paid c plan (c.polls + room_of due) a → Calls due a b
+  calls_few : (a b : HostState) (due : Option Ask) → Paid c plan (c.polls + room_of due) a
+      → Calls due a b
       → Few all b
   calls_few a b due x (no_call same) = subst (Few all) (sym same) x.few
   calls_few a b due x (sends path bytes result asks tells) =
@@ -287,25 +360,40 @@ module _ (c : Weights) (plan : PlanData) where
   calls_few a b due x (clears path result asks tells) =
       transfer_few clear_bound a b result (asked_paid a asks x) tells
 
-  item_paid : (a b : HostState) (due : Option Ask) (item : Option Item) → Paid c plan (c.polls + room_of due) a
+  item_paid : (a b : HostState) (due : Option Ask) (item : Option Item)
+      → Paid c plan (c.polls + room_of due) a
       → IsItemOf due item a b → Paid c plan c.polls b
   item_paid a b due item x is = calls_paid a b due x (item_calls (answered due item a b is))
 
-  stop_few : (a b : HostState) (due : Option Ask) (fault : RunFault) → Paid c plan (c.polls + room_of due) a
+  stop_few : (a b : HostState) (due : Option Ask) (fault : RunFault)
+      → Paid c plan (c.polls + room_of due) a
       → StopsAt due fault a b → Few all b
   stop_few a b due fault x stops = calls_few a b due x (stop_calls due fault a b stops)
 
   -- The trace
 
-  written_paid : (a : HostState) (trace : Option (List ℕ)) → Paid c plan c.polls a → Paid c plan c.polls (record a { trace = trace })
-  written_paid a trace x = record { few = x.few; affords = λ none. so (x.affords none); owes = x.owes }
+  written_paid : (a : HostState) (trace : Option (List ℕ)) → Paid c plan c.polls a
+      → Paid c plan c.polls (record a { trace = trace })
+  written_paid a trace x = record {
+    few = x.few;
+    affords = λ none. so (x.affords none);
+    owes =
+        x.owes;
+  }
     where
       so : Affords c plan a → Affords c plan (record a { trace = trace })
       so y =
           let s = y.works.sound in
           record {
             works = record {
-              sound = record { owned = s.owned; rooted = s.rooted; order = s.order; known = s.known; truthful = s.truthful; level = s.level };
+              sound = record {
+                owned = s.owned;
+                rooted = s.rooted;
+                order = s.order;
+                known = s.known;
+                truthful = s.truthful;
+                level = s.level;
+              };
               working = y.works.working;
               is = y.works.is;
               paths = y.works.paths;
@@ -319,13 +407,16 @@ module _ (c : Weights) (plan : PlanData) where
 
   -- A run
 
-  pub carries_paid : Carries all (Paid c plan c.polls) (Paid c plan 0) (λ due. Paid c plan (c.polls + room_of due))
+  pub carries_paid : Carries all (Paid c plan c.polls) (Paid c plan 0)
+      (λ due. Paid c plan (c.polls + room_of due))
   carries_paid = record {
     few = λ a x. x.few;
     goes = λ a b round x tells goes. record {
       few = round_few a b c.polls (Ok round) x tells;
       affords = round_affords a b round x tells;
-      owes = λ none. round_goes a b round x tells none round ((round_paid a b round x tells none).pays none) (λ quiet same. goes (record { quiet = quiet; none = same }));
+      owes = λ none. round_goes a b round x tells none round
+          ((round_paid a b round x tells none).pays none)
+          (λ quiet same. goes (record { quiet = quiet; none = same }));
     };
     settles = λ a b round x tells ends. record {
       few = round_few a b c.polls (Ok round) x tells;
@@ -334,7 +425,8 @@ module _ (c : Weights) (plan : PlanData) where
     };
     fails = λ a b why x tells. round_few a b c.polls (Err why) x tells;
     comes = λ a b due x comes. came_paid a b due x comes;
-    ends = λ a b result x comes. still_within b.world.attempts a.world.attempts all comes.takes.took.spends.most x.few;
+    ends = λ a b result x comes. still_within b.world.attempts a.world.attempts all
+        comes.takes.took.spends.most x.few;
     answers = λ a b due item x is. item_paid a b due item x is;
     stops = λ a b due fault x stops. stop_few a b due fault x stops;
     writes = λ a trace x. written_paid a trace x;
@@ -346,7 +438,8 @@ module _ (plan : PlanData) (few : plug_events plan.events ≤ 127) (before : Opt
   abbrev first : HostState
   first = host_opening (opening plan) before
 
-  first_affords : HostInvariant first → IsPlan plan → AtPorts plan.events → Course AnyStep (opening plan) first.world → Affords (weights plan) plan first
+  first_affords : HostInvariant first → IsPlan plan → AtPorts plan.events
+      → Course AnyStep (opening plan) first.world → Affords (weights plan) plan first
   first_affords sound is paths course = record {
     works = record {
       sound = sound;
@@ -361,16 +454,26 @@ module _ (plan : PlanData) (few : plug_events plan.events ≤ 127) (before : Opt
     plugs = plugs_opening plan.events first refl;
   }
 
-  first_owed : weight_owed (weights plan) first + (weights plan).polls ≤ most_owed (weights plan) plan
+  first_owed : weight_owed (weights plan) first + (weights plan).polls ≤ most_owed (weights plan)
+      plan
   first_owed =
       let c = weights plan in
-      owed_first (look_weight c) (stray_weight c) (hub_weight c) (looks_by unmarked first.world.roots) (strays_by unmarked unmarked first.world.roots) (hubs first.entries)
-      ((event_weight c + c.polls) * length plan.events) (1000 * sum_by moved plan.events) c.polls (looks_by-opening unmarked plan.roots) (strays_by-opening unmarked unmarked (λ i. refl) (λ i. refl) plan.roots) refl
+      owed_first (look_weight c) (stray_weight c) (hub_weight c)
+      (looks_by unmarked first.world.roots) (strays_by unmarked unmarked first.world.roots)
+      (hubs first.entries)
+      ((event_weight c + c.polls) * length plan.events) (1000 * sum_by moved plan.events) c.polls
+      (looks_by-opening unmarked plan.roots) (strays_by-opening unmarked unmarked (λ i. refl)
+      (λ i. refl) plan.roots) refl
 
-  pub opens_paid : (h : HostState) → Opens plan before h → Paid (weights plan) plan (weights plan).polls h
-  opens_paid h opens = subst (Paid (weights plan) plan (weights plan).polls) (sym opens.is) (record {
-    few = omega arith;
-    affords = λ none. first_affords (subst HostInvariant opens.is opens.sound) opens.rules opens.paths
-        (traced_runs_onward (subst (λ (k : HostState). Traced (opening plan) before k.world k.trace) opens.is opens.traced) refl).course;
-    owes = λ none. first_owed;
-  })
+  pub opens_paid : (h : HostState) → Opens plan before h
+      → Paid (weights plan) plan (weights plan).polls h
+  opens_paid h opens = subst (Paid (weights plan) plan (weights plan).polls) (sym opens.is)
+      (record {
+        few = omega arith;
+        affords = λ none. first_affords (subst HostInvariant opens.is opens.sound) opens.rules
+            opens.paths
+            (traced_runs_onward (subst (λ (k : HostState). Traced (opening plan) before k.world
+            k.trace)
+            opens.is opens.traced) refl).course;
+        owes = λ none. first_owed;
+      })

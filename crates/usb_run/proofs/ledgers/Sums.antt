@@ -3,8 +3,10 @@ use Rattle.std.proofs.Common.{◌≡◌, ◌≤◌, ℕ, ◌+◌, ◌*◌, ap, m
 use Rattle.std.proofs.Math.Nat.{mul-le-mul_left}
 use Rattle.usb_backlog.proofs.Interface.{within_bound}
 
--- what is left to do after so many events, where each adds seven looks and one change that asks for none
-pub debt_grown : (a c k l s h l' s' h' t t' : ℕ) → l' + 7 * t ≤ l + 7 * t' → s' + t ≤ s + t' → h' ≤ h
+-- what is left to do after so many events, where each adds seven looks and one change that asks for
+-- none
+pub debt_grown : (a c k l s h l' s' h' t t' : ℕ) → l' + 7 * t ≤ l + 7 * t' → s' + t ≤ s + t'
+    → h' ≤ h
     → a * l' + c * s' + k * h' + (7 * a + c) * t ≤ a * l + c * s + k * h + (7 * a + c) * t'
 debt_grown a c k l s h l' s' h' t t' looks strays hubs =
     let x = mul-le-mul_left a looks in
@@ -13,7 +15,8 @@ debt_grown a c k l s h l' s' h' t t' looks strays hubs =
     omega (arith, x, y, z)
 
 -- where that is less than what an event pays, attempts and what is left to do are within the events
-pub grown_pays : (e x y a d t a' d' t' more : ℕ) → e ≡ x + y → a' ≤ a + more → d' + x * t ≤ d + x * t' → t ≤ t' → a' + d' + e * t ≤ a + d + e * t' + more
+pub grown_pays : (e x y a d t a' d' t' more : ℕ) → e ≡ x + y → a' ≤ a + more
+    → d' + x * t ≤ d + x * t' → t ≤ t' → a' + d' + e * t ≤ a + d + e * t' + more
 grown_pays e x y a d t a' d' t' more is attempts debts later =
     let z = mul-le-mul_left y later in
     let before = ap (λ i. i * t) is in
@@ -21,7 +24,8 @@ grown_pays e x y a d t a' d' t' more is attempts debts later =
     omega (arith, attempts, debts, z, before, behind)
 
 -- events that came are no longer to come: their polls are over
-pub owed_after : (e z a d t n m a' d' t' n' m' k more : ℕ) → a' + d' + e * t ≤ a + d + e * t' + more → t' + n' ≡ t + n → n' + k ≤ n → m' ≤ m
+pub owed_after : (e z a d t n m a' d' t' n' m' k more : ℕ) → a' + d' + e * t ≤ a + d + e * t' + more
+    → t' + n' ≡ t + n → n' + k ≤ n → m' ≤ m
     → a' + d' + (e + z) * n' + 1000 * m' + z * k ≤ a + d + (e + z) * n + 1000 * m + more
 owed_after e z a d t n m a' d' t' n' m' k more pays events fewer moves =
     let x = ap (λ i. e * i) events in
@@ -29,7 +33,8 @@ owed_after e z a d t n m a' d' t' n' m' k more pays events fewer moves =
     omega (arith, pays, x, y, moves)
 
 -- one event came: what it adds is less than what it pays, by its polls, a clear and what it moves
-pub owed_behind : (e x y z a d t n m a' d' t' n' m' v : ℕ) → e ≡ x + y → a' ≤ a + 0 → d' + x * t ≤ d + x * t' → t' ≡ t + 1 → n ≡ n' + 1 → m ≡ v + m'
+pub owed_behind : (e x y z a d t n m a' d' t' n' m' v : ℕ) → e ≡ x + y → a' ≤ a + 0
+    → d' + x * t ≤ d + x * t' → t' ≡ t + 1 → n ≡ n' + 1 → m ≡ v + m'
     → a' + d' + (e + z) * n' + 1000 * m' + (y + z + 1000 * v) ≤ a + d + (e + z) * n + 1000 * m
 owed_behind e x y z a d t n m a' d' t' n' m' v is attempts debts one left moves =
     let w = ap (λ i. (e + z) * i) left in
@@ -37,13 +42,15 @@ owed_behind e x y z a d t n m a' d' t' n' m' v is attempts debts one left moves 
     omega (arith, is, attempts, debts, later, w, moves)
 
 -- attempts that were made, and those of one thing more that was cut off
-pub stopped_within : (e z a d t n m a' t' most room : ℕ) → a' + e * t ≤ a + d + e * t' + e → t' ≤ t + n → a + d + (e + z) * n + 1000 * m + room ≤ most → a' ≤ most + e
+pub stopped_within : (e z a d t n m a' t' most room : ℕ) → a' + e * t ≤ a + d + e * t' + e
+    → t' ≤ t + n → a + d + (e + z) * n + 1000 * m + room ≤ most → a' ≤ most + e
 stopped_within e z a d t n m a' t' most room stops few owes =
     let x = mul-le-mul_left e few in
     omega (arith, stops, x, owes)
 
 -- nothing is left to do yet
-pub owed_first : (a c k l s h p q z : ℕ) → l ≡ 0 → s ≡ 0 → h ≡ 0 → 0 + (a * l + c * s + k * h) + p + q + z ≤ p + q + z
+pub owed_first : (a c k l s h p q z : ℕ) → l ≡ 0 → s ≡ 0 → h ≡ 0
+    → 0 + (a * l + c * s + k * h) + p + q + z ≤ p + q + z
 owed_first a c k l s h p q z looks strays hubs =
     let x = ap (λ i. a * i) looks in
     let y = ap (λ i. c * i) strays in
@@ -51,14 +58,16 @@ owed_first a c k l s h p q z looks strays hubs =
     omega (arith, x, y, w)
 
 -- all that is owed is within the bound, where an event is to come
-pub within_enough : (v w m a e : ℕ) → 1 ≤ v → e ≡ 2611968 + 800 * w + 26 * (768 * v) → a ≤ (e + 768 * v) * v + 1000 * m + 768 * v + e
+pub within_enough : (v w m a e : ℕ) → 1 ≤ v → e ≡ 2611968 + 800 * w + 26 * (768 * v)
+    → a ≤ (e + 768 * v) * v + 1000 * m + 768 * v + e
     → a + 2 ≤ 200 * v * (30000 + 10 * w) + 50000 * v * v + 1000 * m + 2
 within_enough v w m a e some is within =
     let x = ap (λ i. i * v) is in
     omega (arith, within_bound v w some, is, x, within)
 
 -- where there is none, nothing is
-pub none_enough : (v w m a : ℕ) → a ≤ 0 → a + 2 ≤ 200 * v * (30000 + 10 * w) + 50000 * v * v + 1000 * m + 2
+pub none_enough : (v w m a : ℕ) → a ≤ 0 → a + 2 ≤ 200 * v * (30000 + 10 * w) + 50000 * v *
+    v + 1000 * m + 2
 none_enough v w m a none = omega (arith, none)
 
 pub uncut : (x top limit : ℕ) → min x top ≤ limit → limit + 1 ≤ top → x ≤ limit
@@ -81,10 +90,12 @@ owed_settled x y z most h owes = omega (arith, h, owes)
 pub owed_moved : (x y z n most : ℕ) → x + z * 0 ≤ y + n → y + (z + n) ≤ most → x + z ≤ most
 owed_moved x y z n most h owes = omega (arith, h, owes)
 
-pub owed_due : (x y l s z v r most : ℕ) → x + (l + s + 3200 + z + 1000 * v) ≤ y → r ≤ 3200 + 1000 * v → y + 0 ≤ most → x + (z + r) ≤ most
+pub owed_due : (x y l s z v r most : ℕ) → x + (l + s + 3200 + z + 1000 * v) ≤ y
+    → r ≤ 3200 + 1000 * v → y + 0 ≤ most → x + (z + r) ≤ most
 owed_due x y l s z v r most h fits owes = omega (arith, h, fits, owes)
 
-pub moved_within : (a' a d p q z n most e : ℕ) → a' ≤ a + n → a + d + p + q + (z + n) ≤ most → a' ≤ most + e
+pub moved_within : (a' a d p q z n most e : ℕ) → a' ≤ a + n → a + d + p + q + (z + n) ≤ most
+    → a' ≤ most + e
 moved_within a' a d p q z n most e h owes = omega (arith, h, owes)
 
 pub still_within : (a' a most : ℕ) → a' ≤ a + 0 → a ≤ most → a' ≤ most

@@ -48,7 +48,8 @@ impl Write for Frail {
     }
 }
 
-/// A reader of so many bytes at once, one of whose calls fails, behind so many. The calls after that are as those before.
+/// A reader of so many bytes at once, one of whose calls fails, behind so many. The calls after that are as those
+/// before.
 #[derive(Drop)]
 pub(super) struct Torn {
     pub(super) text: &'static [u8],

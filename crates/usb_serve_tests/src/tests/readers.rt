@@ -12,8 +12,8 @@ const PIECE: usize = 16_384;
 /// The longest plan, in bytes.
 const LIMIT: usize = 1_048_576;
 
-/// How serving ended, the mark and the calls of the reader, and whether a row's lines went out, each in a call of its own;
-/// nothing where there is no row.
+/// How serving ended, the mark and the calls of the reader, and whether a row's lines went out, each in a call of its
+/// own; nothing where there is no row.
 #[derive(Clone, Copy, Debug, PartialEq)]
 struct Outcome {
     ended: Result<(), ServeFault>,
@@ -90,8 +90,8 @@ fn each_read_fails_in_turn(rt: HostRuntime) {
     }
 }
 
-/// A plan and a comment behind it, of so many bytes in all or without an end, in pieces of so many; what is told of it, and how many
-/// reads there are at most.
+/// A plan and a comment behind it, of so many bytes in all or without an end, in pieces of so many; what is told of it,
+/// and how many reads there are at most.
 #[derive(Clone, Copy)]
 struct Length {
     bytes: usize,

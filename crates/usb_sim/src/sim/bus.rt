@@ -100,7 +100,8 @@ impl<T: Trace> SimBus<T> {
         self.take_due_events()?;
         self.shared |= self.holders.is_shared();
         let damage = damage_of(&self.damages, self.attempts + 1);
-        // Where memory is refused, some devices had the host's data and others had not: the fault stands before they go.
+        // Where memory is refused, some devices had the host's data and others had not: the fault stands before they
+        // go.
         self.fault = Some(BusFault::Memory);
         make_exchange_by(
             &mut self.roots,

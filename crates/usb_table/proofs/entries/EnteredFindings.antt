@@ -1,5 +1,6 @@
 -- A table is level after what was just found is entered.
-use Rattle.std.proofs.Common.{◌≡◌, ◌∙◌, refl, sym, ap, subst, true, false, ℕ, cond, List, [], ◌∷◌, Some}
+use Rattle.std.proofs.Common.{◌≡◌, ◌∙◌, refl, sym, ap, subst, true, false, ℕ, cond, List, [], ◌∷◌}
+use Rattle.std.proofs.Common.{Some}
 use Rattle.std.specs.Map.{lookup}
 use Rattle.std.specs.Prelude.{unwrap_or}
 use Rattle.std.specs.BTreeMap.{is_at, insert_entry}
@@ -29,57 +30,89 @@ use Rattle.usb_table.proofs.entries.Paths.{path_tied, path_itself}
 -- What is entered at a path is there, and what is at another path stays
 
 module _ {X : Type 0} (path : List ℕ) (value : X) where
-  itself_step : (e : List ℕ × X) (es : List (List ℕ × X)) → lookup (is_at (path_cmp path)) (insert_entry path_cmp es path value) ≡ Some value → (o : Ordering) → path_cmp path e.0 ≡ o
-      → lookup (is_at (path_cmp path)) (match_ordering o ((path, value) ∷ e ∷ es) ((e.0, value) ∷ es) (e ∷ insert_entry path_cmp es path value)) ≡ Some value
+  itself_step : (e : List ℕ × X) (es : List (List ℕ × X))
+      → lookup (is_at (path_cmp path)) (insert_entry path_cmp es path value) ≡ Some value
+      → (o : Ordering) → path_cmp path e.0 ≡ o
+      → lookup (is_at (path_cmp path)) (match_ordering o ((path, value) ∷ e ∷ es)
+      ((e.0, value) ∷ es) (e ∷ insert_entry path_cmp es path value)) ≡ Some value
   itself_step e es more Less is = rw (path_itself path) refl
-  itself_step e es more Equal is = let tie : is_at (path_cmp path) e.0 ≡ true = rw is refl in rw tie refl
-  itself_step e es more Greater is = let apart : is_at (path_cmp path) e.0 ≡ false = rw is refl in rw apart more
+  itself_step e es more Equal is = let tie : is_at (path_cmp path) e.0 ≡ true = rw is refl in
+      rw tie refl
+  itself_step e es more Greater is = let apart : is_at (path_cmp path) e.0 ≡ false = rw is refl in
+      rw apart more
 
-  lookup-inserted : (es : List (List ℕ × X)) → lookup (is_at (path_cmp path)) (insert_entry path_cmp es path value) ≡ Some value
+  lookup-inserted : (es : List (List ℕ × X))
+      → lookup (is_at (path_cmp path)) (insert_entry path_cmp es path value) ≡ Some value
   lookup-inserted [] = rw (path_itself path) refl
   lookup-inserted (e ∷ es) = itself_step e es (lookup-inserted es) (path_cmp path e.0) refl
 
-  other_step : (q : List ℕ) (e : List ℕ × X) (es : List (List ℕ × X)) → is_at (path_cmp q) path ≡ false
-      → lookup (is_at (path_cmp q)) (insert_entry path_cmp es path value) ≡ lookup (is_at (path_cmp q)) es → (o : Ordering) → path_cmp path e.0 ≡ o
-      → lookup (is_at (path_cmp q)) (match_ordering o ((path, value) ∷ e ∷ es) ((e.0, value) ∷ es) (e ∷ insert_entry path_cmp es path value)) ≡ lookup (is_at (path_cmp q)) (e ∷ es)
+  other_step : (q : List ℕ) (e : List ℕ × X) (es : List (List ℕ × X))
+      → is_at (path_cmp q) path ≡ false
+      → lookup (is_at (path_cmp q)) (insert_entry path_cmp es path value)
+      ≡ lookup (is_at (path_cmp q)) es → (o : Ordering) → path_cmp path e.0 ≡ o
+      → lookup (is_at (path_cmp q)) (match_ordering o ((path, value) ∷ e ∷ es) ((e.0, value) ∷ es)
+      (e ∷ insert_entry path_cmp es path value)) ≡ lookup (is_at (path_cmp q)) (e ∷ es)
   other_step q e es apart more Less is = rw apart refl
   other_step q e es apart more Equal is =
       let tie : is_at (path_cmp path) e.0 ≡ true = rw is refl in
-      let other : is_at (path_cmp q) e.0 ≡ false = subst (λ (r : List ℕ). is_at (path_cmp q) r ≡ false) (path_tied path e.0 tie) apart in
+      let other : is_at (path_cmp q) e.0 ≡ false =
+      subst (λ (r : List ℕ). is_at (path_cmp q) r ≡ false) (path_tied path e.0 tie) apart in
       rw other refl
-  other_step q e es apart more Greater is = ap (λ found. cond (is_at (path_cmp q) e.0) (Some e.1) found) more
+  other_step q e es apart more Greater is =
+      ap (λ found. cond (is_at (path_cmp q) e.0) (Some e.1) found) more
 
-  lookup-inserted_elsewhere : (q : List ℕ) (es : List (List ℕ × X)) → is_at (path_cmp q) path ≡ false → lookup (is_at (path_cmp q)) (insert_entry path_cmp es path value) ≡ lookup (is_at (path_cmp q)) es
+  lookup-inserted_elsewhere : (q : List ℕ) (es : List (List ℕ × X))
+      → is_at (path_cmp q) path ≡ false → lookup (is_at (path_cmp q))
+      (insert_entry path_cmp es path value) ≡ lookup (is_at (path_cmp q)) es
   lookup-inserted_elsewhere q [] apart = rw apart refl
-  lookup-inserted_elsewhere q (e ∷ es) apart = other_step q e es apart (lookup-inserted_elsewhere q es apart) (path_cmp path e.0) refl
+  lookup-inserted_elsewhere q (e ∷ es) apart =
+      other_step q e es apart (lookup-inserted_elsewhere q es apart) (path_cmp path e.0) refl
 
 -- The pipes of the table
 
 -- what was just found has new pipes
-pub pipes_at-entered : (path : List ℕ) (finding : Finding) (table : Table) → pipes_at path (entered path finding table) ≡ new_pipes finding (is_below_hub path)
-pipes_at-entered path finding table = ap (λ o. unwrap_or o Absent) (lookup-inserted path (new_pipes finding (is_below_hub path)) table.pipes)
+pub pipes_at-entered : (path : List ℕ) (finding : Finding) (table : Table)
+    → pipes_at path (entered path finding table) ≡ new_pipes finding (is_below_hub path)
+pipes_at-entered path finding table =
+    ap (λ o. unwrap_or o Absent) (lookup-inserted path (new_pipes finding (is_below_hub path))
+    table.pipes)
 
 -- whatever stands at another path has those that it had
-pub pipes_at-entered_elsewhere : (path : List ℕ) (finding : Finding) (table : Table) (x : List ℕ) → is_at (path_cmp x) path ≡ false → pipes_at x (entered path finding table) ≡ pipes_at x table
-pipes_at-entered_elsewhere path finding table x apart = ap (λ o. unwrap_or o Absent) (lookup-inserted_elsewhere path (new_pipes finding (is_below_hub path)) x table.pipes apart)
+pub pipes_at-entered_elsewhere : (path : List ℕ) (finding : Finding) (table : Table) (x : List ℕ)
+    → is_at (path_cmp x) path ≡ false → pipes_at x (entered path finding table) ≡ pipes_at x table
+pipes_at-entered_elsewhere path finding table x apart =
+    ap (λ o. unwrap_or o Absent) (lookup-inserted_elsewhere path
+    (new_pipes finding (is_below_hub path)) x table.pipes apart)
 
 module _ (path : List ℕ) (finding : Finding) (table : Table) (w : World) where
   -- to a device whose finding is its own, where it is reachable
-  pub level_entered : (tier supply : ℕ) → ((device : Accepted) (s : State) → finding ≡ Device device → reach w.roots path ≡ true → state_there w.roots path ≡ Some s → IsSpec s.spec × IsOwn tier supply device s)
+  pub level_entered : (tier supply : ℕ) → ((device : Accepted) (s : State) → finding ≡ Device device
+      → reach w.roots path ≡ true → state_there w.roots path ≡ Some s → IsSpec s.spec
+      × IsOwn tier supply device s)
       → InSyncAt path (entered path finding table) w
   level_entered tier supply own = record { level = by_finding finding refl }
     where
-      by_finding : (f : Finding) → finding ≡ f → (device : Accepted) (s : State) → accepted_device_at path (entered path finding table).entries ≡ Some device → reach w.roots path ≡ true → state_there w.roots path ≡ Some s
+      by_finding : (f : Finding) → finding ≡ f → (device : Accepted) (s : State)
+          → accepted_device_at path (entered path finding table).entries ≡ Some device
+          → reach w.roots path ≡ true → state_there w.roots path ≡ Some s
           → PipesInSync (pipes_at path (entered path finding table)) s
       by_finding (Device d) is device s e on there =
           let so = own d s is on there in
-          subst (λ (q : Pipes). PipesInSync q s) (sym (pipes_at-entered path finding table ∙ ap (λ f. new_pipes f (is_below_hub path)) is)) (new_level tier supply d (is_below_hub path) s so.0 so.1)
-      by_finding (Refused cause) is device s e on there = absurd (cc (sym (ap accepted_device_of (lookup-inserted path finding table.entries ∙ ap Some is)) ∙ e))
+          subst (λ (q : Pipes). PipesInSync q s)
+          (sym (pipes_at-entered path finding table
+          ∙ ap (λ f. new_pipes f (is_below_hub path)) is))
+          (new_level tier supply d (is_below_hub path) s so.0 so.1)
+      by_finding (Refused cause) is device s e on there =
+          absurd (cc (sym (ap accepted_device_of (lookup-inserted path finding table.entries
+          ∙ ap Some is)) ∙ e))
 
   -- to others
-  pub level_beside : (x : List ℕ) → is_at (path_cmp x) path ≡ false → InSyncAt x table w → InSyncAt x (entered path finding table) w
+  pub level_beside : (x : List ℕ) → is_at (path_cmp x) path ≡ false → InSyncAt x table w
+      → InSyncAt x (entered path finding table) w
   level_beside x apart l = record {
     level = λ device s e on there.
-        subst (λ (q : Pipes). PipesInSync q s) (sym (pipes_at-entered_elsewhere path finding table x apart))
-        (l.level device s (sym (ap accepted_device_of (lookup-inserted_elsewhere path finding x table.entries apart)) ∙ e) on there);
+        subst (λ (q : Pipes). PipesInSync q s)
+        (sym (pipes_at-entered_elsewhere path finding table x apart))
+        (l.level device s (sym (ap accepted_device_of
+        (lookup-inserted_elsewhere path finding x table.entries apart)) ∙ e) on there);
   }

@@ -1,5 +1,6 @@
 -- Entries that come and go under their keys.
-use Rattle.std.proofs.Common.{◌≡◌, ◌≢◌, ◌∙◌, refl, sym, ap, subst, inl, inr, true, false, Bool, ℕ, cond, List, [], ◌∷◌, Option, Some, None, All}
+use Rattle.std.proofs.Common.{◌≡◌, ◌≢◌, ◌∙◌, refl, sym, ap, subst, inl, inr, true, false, Bool, ℕ}
+use Rattle.std.proofs.Common.{cond, List, [], ◌∷◌, Option, Some, None, All}
 use Rattle.std.specs.Prelude.{◌⊎◌, ◌||◌, ◌==◌, IsSome, IfSome, unwrap_or}
 use Rattle.std.specs.Map.{lookup, keys_of, values_of, remove_entry}
 use Rattle.std.specs.BTreeMap.{is_at, insert_entry}
@@ -24,7 +25,9 @@ use Rattle.usb_table.specs.declared.pipes.Pipes.{Pipes}
 use Rattle.usb_table.specs.Table.{Table}
 use Rattle.usb_table.specs.Entries.{Entries, Rises, has_at, is_at_or_below}
 use Rattle.usb_table.specs.declared.entry.Entry.{Entry}
-use Rattle.usb_table.specs.Keys.{TableSlots, Slots, PathKeys, AddressKeys, key_of_path, key_of_address, under, values_by_path, findings, finding_under, entries_of, address_in, with_address, without_address}
+use Rattle.usb_table.specs.Keys.{TableSlots, Slots, PathKeys, AddressKeys, key_of_path}
+use Rattle.usb_table.specs.Keys.{key_of_address, under, values_by_path, findings, finding_under}
+use Rattle.usb_table.specs.Keys.{entries_of, address_in, with_address, without_address}
 
 -- Tests of keys
 
@@ -44,27 +47,47 @@ same_or_not x y = same_or_not_by x y (x == y) refl
 -- What the lists show of the keys
 
 module _ {A : Type 0} (none : A) (slots : ℕ → Option A) where
-  pub values_by_path-lookup : (path : List ℕ) (paths : PathKeys) → lookup (is_at (path_cmp path)) (values_by_path none slots paths) ≡ option_map (under none slots) (key_of_path paths path)
-  values_by_path-lookup path paths = lookup-map_values (under none slots) (is_at (path_cmp path)) paths
+  pub values_by_path-lookup : (path : List ℕ) (paths : PathKeys)
+      → lookup (is_at (path_cmp path)) (values_by_path none slots paths)
+      ≡ option_map (under none slots) (key_of_path paths path)
+  values_by_path-lookup path paths = lookup-map_values (under none slots) (is_at (path_cmp path))
+      paths
 
-  pub listed_at : (path : List ℕ) (paths : PathKeys) (key : ℕ) (value : A) → key_of_path paths path ≡ Some key → slots key ≡ Some value → lookup (is_at (path_cmp path)) (values_by_path none slots paths) ≡ Some value
-  listed_at path paths key value is stands = values_by_path-lookup path paths ∙ ap (option_map (under none slots)) is ∙ ap (λ f. Some (unwrap_or f none)) stands
+  pub listed_at : (path : List ℕ) (paths : PathKeys) (key : ℕ) (value : A)
+      → key_of_path paths path ≡ Some key → slots key ≡ Some value
+      → lookup (is_at (path_cmp path)) (values_by_path none slots paths) ≡ Some value
+  listed_at path paths key value is stands = values_by_path-lookup path paths
+      ∙ ap (option_map (under none slots)) is ∙ ap (λ f. Some (unwrap_or f none)) stands
 
-  pub listed_none : (path : List ℕ) (paths : PathKeys) → key_of_path paths path ≡ None → lookup (is_at (path_cmp path)) (values_by_path none slots paths) ≡ None
-  listed_none path paths is = values_by_path-lookup path paths ∙ ap (option_map (under none slots)) is
+  pub listed_none : (path : List ℕ) (paths : PathKeys) → key_of_path paths path ≡ None
+      → lookup (is_at (path_cmp path)) (values_by_path none slots paths) ≡ None
+  listed_none path paths is = values_by_path-lookup path paths
+      ∙ ap (option_map (under none slots)) is
 
-  pub values_by_path-remove : (test : List ℕ → Bool) (paths : PathKeys) → values_by_path none slots (remove_entry test paths) ≡ remove_entry test (values_by_path none slots paths)
+  pub values_by_path-remove : (test : List ℕ → Bool) (paths : PathKeys)
+      → values_by_path none slots (remove_entry test paths)
+      ≡ remove_entry test (values_by_path none slots paths)
   values_by_path-remove test [] = refl
   values_by_path-remove test (e ∷ es) =
-      (elim (test e.0) as (λ b. values_by_path none slots (cond b es (e ∷ remove_entry test es)) ≡ cond b (values_by_path none slots es) ((e.0, under none slots e.1) ∷ remove_entry test (values_by_path none slots es))) [
+      (elim (test e.0) as (λ b. values_by_path none slots (cond b es (e ∷ remove_entry test es))
+      ≡ cond b (values_by_path none slots es)
+      ((e.0, under none slots e.1) ∷ remove_entry test (values_by_path none slots es))) [
         | true ↦ refl
         | false ↦ ap (λ l. (e.0, under none slots e.1) ∷ l) (values_by_path-remove test es)
       ])
 
-  pub values_by_path-insert : (path : List ℕ) (key : ℕ) (paths : PathKeys) → values_by_path none slots (insert_entry path_cmp paths path key) ≡ insert_entry path_cmp (values_by_path none slots paths) path (under none slots key)
+  pub values_by_path-insert : (path : List ℕ) (key : ℕ) (paths : PathKeys)
+      → values_by_path none slots (insert_entry path_cmp paths path key)
+      ≡ insert_entry path_cmp (values_by_path none slots paths) path (under none slots key)
   values_by_path-insert path key [] = refl
   values_by_path-insert path key (e ∷ es) =
-      (elim (path_cmp path e.0) as (λ o. values_by_path none slots (match_ordering o ((path, key) ∷ e ∷ es) ((e.0, key) ∷ es) (e ∷ insert_entry path_cmp es path key)) ≡ match_ordering o ((path, under none slots key) ∷ (e.0, under none slots e.1) ∷ values_by_path none slots es) ((e.0, under none slots key) ∷ values_by_path none slots es) ((e.0, under none slots e.1) ∷ insert_entry path_cmp (values_by_path none slots es) path (under none slots key))) [
+      (elim (path_cmp path e.0) as (λ o. values_by_path none slots
+      (match_ordering o ((path, key) ∷ e ∷ es) ((e.0, key) ∷ es)
+      (e ∷ insert_entry path_cmp es path key))
+      ≡ match_ordering o ((path, under none slots key) ∷ (e.0, under none slots e.1) ∷
+      values_by_path none slots es) ((e.0, under none slots key) ∷ values_by_path none
+      slots es) ((e.0, under none slots e.1) ∷ insert_entry path_cmp
+      (values_by_path none slots es) path (under none slots key))) [
         | Less ↦ refl
         | Equal ↦ refl
         | Greater ↦ ap (λ l. (e.0, under none slots e.1) ∷ l) (values_by_path-insert path key es)
@@ -72,82 +95,113 @@ module _ {A : Type 0} (none : A) (slots : ℕ → Option A) where
 
 -- slots that agree on the keys show the same
 
-if_some_slot : {P : ℕ → Type 0} (slot : Option ℕ) → ((key : ℕ) → slot ≡ Some key → P key) → IfSome slot P
+if_some_slot : {P : ℕ → Type 0} (slot : Option ℕ) → ((key : ℕ) → slot ≡ Some key → P key)
+    → IfSome slot P
 if_some_slot None each = tt
 if_some_slot (Some key) each = each key refl
 
 module _ {A : Type 0} (none : A) (old new : ℕ → Option A) where
-  values_by_path-agree : (paths : PathKeys) → All (λ k. new k ≡ old k) (values_of paths) → values_by_path none new paths ≡ values_by_path none old paths
+  values_by_path-agree : (paths : PathKeys) → All (λ k. new k ≡ old k) (values_of paths)
+      → values_by_path none new paths ≡ values_by_path none old paths
   values_by_path-agree [] all = refl
   values_by_path-agree (e ∷ es) all =
       let head : new e.1 ≡ old e.1 = All-head (λ k. new k ≡ old k) e.1 (values_of es) all in
       let tail = values_by_path-agree es (All-tail (λ k. new k ≡ old k) e.1 (values_of es) all) in
-      ap (λ f. (e.0, unwrap_or f none) ∷ values_by_path none new es) head ∙ ap (λ l. (e.0, under none old e.1) ∷ l) tail
+      ap (λ f. (e.0, unwrap_or f none) ∷ values_by_path none new es) head
+      ∙ ap (λ l. (e.0, under none old e.1) ∷ l) tail
 
-  pub agree : (paths : PathKeys) → IsStrictlySortedBy path_cmp (keys_of paths) → ((path : List ℕ) (key : ℕ) → key_of_path paths path ≡ Some key → new key ≡ old key) → values_by_path none new paths ≡ values_by_path none old paths
+  pub agree : (paths : PathKeys) → IsStrictlySortedBy path_cmp (keys_of paths)
+      → ((path : List ℕ) (key : ℕ) → key_of_path paths path ≡ Some key → new key ≡ old key)
+      → values_by_path none new paths ≡ values_by_path none old paths
   agree paths rises each =
       values_by_path-agree paths
-      (All-values_from_lookup (eq_by_cmp_equiv nat_list_cmp_total) (λ k. new k ≡ old k) paths (IsDistinct-from_sorted path_cmp (keys_of paths) rises) (λ q. if_some_slot (key_of_path paths q) (each q)))
+      (All-values_from_lookup (eq_by_cmp_equiv nat_list_cmp_total) (λ k. new k ≡ old k) paths
+      (IsDistinct-from_sorted path_cmp (keys_of paths) rises)
+      (λ q. if_some_slot (key_of_path paths q) (each q)))
 
 -- What the entries show of the keys
 
-pub entries-lookup : (found : Slots) (path : List ℕ) (paths : PathKeys) → lookup (is_at (path_cmp path)) (entries_of found paths) ≡ option_map (finding_under found) (key_of_path paths path)
+pub entries-lookup : (found : Slots) (path : List ℕ) (paths : PathKeys)
+    → lookup (is_at (path_cmp path)) (entries_of found paths) ≡ option_map (finding_under found)
+    (key_of_path paths path)
 entries-lookup found = values_by_path-lookup (Refused Silent) found
 
-pub entries_of-key : (found : Slots) (path : List ℕ) (paths : PathKeys) (key : ℕ) (finding : Finding) → key_of_path paths path ≡ Some key → found key ≡ Some finding → lookup (is_at (path_cmp path)) (entries_of found paths) ≡ Some finding
+pub entries_of-key : (found : Slots) (path : List ℕ) (paths : PathKeys) (key : ℕ)
+    (finding : Finding) → key_of_path paths path ≡ Some key → found key ≡ Some finding
+    → lookup (is_at (path_cmp path)) (entries_of found paths) ≡ Some finding
 entries_of-key found = listed_at (Refused Silent) found
 
-pub entries_of-no_key : (found : Slots) (path : List ℕ) (paths : PathKeys) → key_of_path paths path ≡ None → lookup (is_at (path_cmp path)) (entries_of found paths) ≡ None
+pub entries_of-no_key : (found : Slots) (path : List ℕ) (paths : PathKeys)
+    → key_of_path paths path ≡ None → lookup (is_at (path_cmp path)) (entries_of found paths) ≡ None
 entries_of-no_key found = listed_none (Refused Silent) found
 
-pub findings-standing : (standings : TableSlots) (key : ℕ) (s : Entry) → standings key ≡ Some s → findings standings key ≡ Some s.finding
+pub findings-standing : (standings : TableSlots) (key : ℕ) (s : Entry) → standings key ≡ Some s
+    → findings standings key ≡ Some s.finding
 findings-standing standings key s stands = ap (option_map (λ (t : Entry). t.finding)) stands
 
 finding-some : (o : Option Entry) → IsSome (option_map (λ (t : Entry). t.finding) o) → IsSome o
 finding-some None h = absurd cc
 finding-some (Some s) h = refl
 
-pub some_standing : (standings : TableSlots) (key : ℕ) → IsSome (findings standings key) → IsSome (standings key)
+pub some_standing : (standings : TableSlots) (key : ℕ) → IsSome (findings standings key)
+    → IsSome (standings key)
 some_standing standings key h = finding-some (standings key) h
 
-pub finding_stands : (found : Slots) (key : ℕ) (finding : Finding) → found key ≡ Some finding → finding_under found key ≡ finding
+pub finding_stands : (found : Slots) (key : ℕ) (finding : Finding) → found key ≡ Some finding
+    → finding_under found key ≡ finding
 finding_stands found key finding stands = ap (λ f. unwrap_or f (Refused Silent)) stands
 
-pub entries-keys : (found : Slots) (paths : PathKeys) → keys_of (entries_of found paths) ≡ keys_of paths
+pub entries-keys : (found : Slots) (paths : PathKeys) → keys_of (entries_of found paths)
+    ≡ keys_of paths
 entries-keys found [] = refl
 entries-keys found (e ∷ es) = ap (λ ks. e.0 ∷ ks) (entries-keys found es)
 
-pub entries_rise : (found : Slots) (paths : PathKeys) (entries : Entries) → entries_of found paths ≡ entries → IsStrictlySortedBy path_cmp (keys_of paths) → Rises entries
+pub entries_rise : (found : Slots) (paths : PathKeys) (entries : Entries)
+    → entries_of found paths ≡ entries → IsStrictlySortedBy path_cmp (keys_of paths) → Rises entries
 entries_rise found paths entries is rises = subst Rises is (rw (entries-keys found paths) rises)
 
-pub entries-has_at : (found : Slots) (path : List ℕ) (paths : PathKeys) → has_at path (entries_of found paths) ≡ list_any (λ e. is_at_or_below e.0 path) paths
+pub entries-has_at : (found : Slots) (path : List ℕ) (paths : PathKeys)
+    → has_at path (entries_of found paths) ≡ list_any (λ e. is_at_or_below e.0 path) paths
 entries-has_at found path [] = refl
-entries-has_at found path (e ∷ es) = ap (λ b. is_at_or_below e.0 path || b) (entries-has_at found path es)
+entries-has_at found path (e ∷ es) = ap (λ b. is_at_or_below e.0 path || b)
+    (entries-has_at found path es)
 
 -- The table is its two lists
 
-pub same_table : (entries others : Entries) (pipes more : List (List ℕ × Pipes)) → entries ≡ others → pipes ≡ more → ◌≡◌ {A = Table} (record { entries = entries; pipes = pipes }) (record { entries = others; pipes = more })
-same_table entries others pipes more e f = ap (λ es. record { entries = es; pipes = pipes }) e ∙ ap (λ ps. record { entries = others; pipes = ps }) f
+pub same_table : (entries others : Entries) (pipes more : List (List ℕ × Pipes)) → entries ≡ others
+    → pipes ≡ more → ◌≡◌ {A = Table} (record { entries = entries; pipes = pipes })
+    (record { entries = others; pipes = more })
+same_table entries others pipes more e f = ap (λ es. record { entries = es; pipes = pipes }) e
+    ∙ ap (λ ps. record { entries = others; pipes = ps }) f
 
 -- What is entered can be taken back
 
-back_step : (address key : ℕ) (e : ℕ × ℕ) (es : AddressKeys) → is_at (nat_cmp address) e.0 ≡ false → remove_entry (is_at (nat_cmp address)) (insert_entry nat_cmp es address key) ≡ es
-    → (o : Ordering) → nat_cmp address e.0 ≡ o → remove_entry (is_at (nat_cmp address)) (match_ordering o ((address, key) ∷ e ∷ es) ((e.0, key) ∷ es) (e ∷ insert_entry nat_cmp es address key)) ≡ e ∷ es
+back_step : (address key : ℕ) (e : ℕ × ℕ) (es : AddressKeys) → is_at (nat_cmp address) e.0 ≡ false
+    → remove_entry (is_at (nat_cmp address)) (insert_entry nat_cmp es address key) ≡ es
+    → (o : Ordering) → nat_cmp address e.0 ≡ o
+    → remove_entry (is_at (nat_cmp address))
+    (match_ordering o ((address, key) ∷ e ∷ es) ((e.0, key) ∷ es)
+    (e ∷ insert_entry nat_cmp es address key)) ≡ e ∷ es
 back_step address key e es apart more Less is = rw (number_itself address) refl
-back_step address key e es apart more Equal is = let t : is_eq (nat_cmp address e.0) ≡ true = ap is_eq is in absurd (cc (t, apart))
+back_step address key e es apart more Equal is = let t : is_eq (nat_cmp address e.0) ≡ true =
+    ap is_eq is in absurd (cc (t, apart))
 back_step address key e es apart more Greater is = rw apart (ap (λ l. e ∷ l) more)
 
-tail_none : (b : Bool) (k : ℕ) (rest : Option ℕ) → cond b (Some k) rest ≡ None → (b ≡ false) × (rest ≡ None)
+tail_none : (b : Bool) (k : ℕ) (rest : Option ℕ) → cond b (Some k) rest ≡ None → (b ≡ false)
+    × (rest ≡ None)
 tail_none true k rest h = absurd cc
 tail_none false k rest h = (refl, h)
 
-back : (address key : ℕ) (es : AddressKeys) → key_of_address es address ≡ None → remove_entry (is_at (nat_cmp address)) (insert_entry nat_cmp es address key) ≡ es
+back : (address key : ℕ) (es : AddressKeys) → key_of_address es address ≡ None
+    → remove_entry (is_at (nat_cmp address)) (insert_entry nat_cmp es address key) ≡ es
 back address key [] none = rw (number_itself address) refl
 back address key (e ∷ es) none =
     let parts = tail_none (is_at (nat_cmp address) e.0) e.1 (key_of_address es address) none in
     back_step address key e es parts.0 (back address key es parts.1) (nat_cmp address e.0) refl
 
-pub taken_back : (address : Option ℕ) (key : ℕ) (es : AddressKeys) → IfSome address (λ a. key_of_address es a ≡ None) → without_address address (with_address address key es) ≡ es
+pub taken_back : (address : Option ℕ) (key : ℕ) (es : AddressKeys)
+    → IfSome address (λ a. key_of_address es a ≡ None)
+    → without_address address (with_address address key es) ≡ es
 taken_back None key es free = refl
 taken_back (Some address) key es free = back address key es free
 

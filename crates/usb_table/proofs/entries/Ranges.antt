@@ -1,4 +1,5 @@
--- What stands at a path or below it stands together behind it: the first entry from the path on tells
+-- What stands at a path or below it stands together behind it: the first entry from the path on
+-- tells
 -- whether any does.
 use Rattle.std.proofs.Common.{◌≡◌, refl, sym, ap, ◌∙◌, ℕ, Bool, true, false, not, cond, List, []}
 use Rattle.std.proofs.Common.{◌∷◌, ◌++◌, ◌&&◌, ◌||◌, append-nil, arith, inl, inr, nat_eq}
@@ -99,7 +100,8 @@ later_one above first path from away less =
     elim (cases_Bool (is_at_or_below path above)) [
       | inl at ↦
           let on = extends_if path above at in
-          let at_first = extends_is first above (extends_between above first on.0 from (rw on.1 at less)) in
+          let at_first = extends_is first above
+          (extends_between above first on.0 from (rw on.1 at less)) in
           absurd cc
       | inr not_at ↦ not_at
     ]
@@ -111,7 +113,8 @@ has_path_below above paths = list_any (λ e. is_at_or_below e.0 above) paths
 
 later_ones : (above first : List ℕ) (paths : PathKeys) → is_le (path_cmp above first) ≡ true
     → is_at_or_below first above ≡ false
-    → AllByRecursion (λ k. path_cmp first k ≡ Less) (keys_of paths) → has_path_below above paths ≡ false
+    → AllByRecursion (λ k. path_cmp first k ≡ Less) (keys_of paths)
+    → has_path_below above paths ≡ false
 later_ones above first [] from away all = refl
 later_ones above first (e ∷ paths) from away all =
     or_from (is_at_or_below e.0 above) (has_path_below above paths)

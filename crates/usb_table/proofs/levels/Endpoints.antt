@@ -1,46 +1,58 @@
 -- What is so of the endpoints that a host picks in a configuration text.
-use Rattle.std.proofs.Common.{◌≡◌, refl, arith, Bool, true, false, ℕ, ◌≤◌, ◌==◌, ◌&&◌, if◌then◌else◌, List, [], ◌∷◌, Option, None, Some, Result, Ok, Err}
+use Rattle.std.proofs.Common.{◌≡◌, refl, arith, Bool, true, false, ℕ, ◌≤◌, ◌==◌, ◌&&◌}
+use Rattle.std.proofs.Common.{if◌then◌else◌, List, [], ◌∷◌, Option, None, Some, Result, Ok, Err}
 use Rattle.std.specs.Prelude.{nat_le, slice_index, IfSome}
 use Rattle.std.specs.Option.{option_or}
 use Rattle.std.proofs.lemmas.Bool.Decides.{nat_tests}
 use Rattle.usb_descriptor.specs.declared.fault.DescriptorFault.{DescriptorFault}
 use Rattle.usb_descriptor.specs.declared.item.Item.{Item}
 use Rattle.usb_descriptor.specs.declared.item.Item.TheVariants.{Interface, Endpoint, Other}
-use Rattle.usb_descriptor.specs.Choice.{counts_after, picked, first_from, first_counting, is_bulk_size, bulk_described, bulk_out_at, bulk_in_at, packet_size, status_at, in_config, bulk_out_of, bulk_in_of, status_endpoint_of}
+use Rattle.usb_descriptor.specs.Choice.{counts_after, picked, first_from, first_counting}
+use Rattle.usb_descriptor.specs.Choice.{is_bulk_size, bulk_described, bulk_out_at, bulk_in_at}
+use Rattle.usb_descriptor.specs.Choice.{packet_size, status_at, in_config, bulk_out_of, bulk_in_of}
+use Rattle.usb_descriptor.specs.Choice.{status_endpoint_of}
 use Rattle.usb_descriptor.specs.Config.{config_of}
-use Rattle.usb_descriptor.specs.Item.{items_of, is_in, endpoint_number, is_bulk, is_interrupt, transfer_of, max_packet_size}
+use Rattle.usb_descriptor.specs.Item.{items_of, is_in, endpoint_number, is_bulk, is_interrupt}
+use Rattle.usb_descriptor.specs.Item.{transfer_of, max_packet_size}
 
 -- what is so of each that is picked, is so of the first that counts
 
-module _ (P : ℕ × ℕ → Type 0) (pick : List ℕ → Option (ℕ × ℕ)) (each : (bytes : List ℕ) → IfSome (pick bytes) P) where
+module _ (P : ℕ × ℕ → Type 0) (pick : List ℕ → Option (ℕ × ℕ)) (each : (bytes : List ℕ)
+    → IfSome (pick bytes) P) where
   of_picked : (counts : Bool) (item : Item) → IfSome (picked pick counts item) P
   of_picked counts (Interface bytes) = tt
   of_picked true (Endpoint bytes) = each bytes
   of_picked false (Endpoint bytes) = tt
   of_picked counts (Other bytes) = tt
 
-  of_either : (o other : Option (ℕ × ℕ)) → IfSome o P → IfSome other P → IfSome (option_or o other) P
+  of_either : (o other : Option (ℕ × ℕ)) → IfSome o P → IfSome other P
+      → IfSome (option_or o other) P
   of_either None other h g = g
   of_either (Some end) other h g = h
 
   of_first : (counts : Bool) (items : List Item) → IfSome (first_from pick counts items) P
   of_first counts [] = tt
-  of_first counts (item ∷ items) = of_either (picked pick counts item) (first_from pick (counts_after counts item) items) (of_picked counts item) (of_first (counts_after counts item) items)
+  of_first counts (item ∷ items) = of_either (picked pick counts item)
+      (first_from pick (counts_after counts item) items) (of_picked counts item)
+      (of_first (counts_after counts item) items)
 
   of_config : (text : Result (List ℕ) DescriptorFault) → IfSome (in_config pick text) P
   unfolding first_counting
   of_config (Err fault) = tt
   of_config (Ok text) = of_first false (items_of text)
 
-of_some : (P : ℕ × ℕ → Type 0) (b : Bool) (e : ℕ × ℕ) → (b ≡ true → P e) → IfSome (if b then Some e else None) P
+of_some : (P : ℕ × ℕ → Type 0) (b : Bool) (e : ℕ × ℕ) → (b ≡ true → P e)
+    → IfSome (if b then Some e else None) P
 of_some P true e f = f refl
 of_some P false e f = tt
 
-of_other : (P : ℕ × ℕ → Type 0) (b : Bool) (o : Option (ℕ × ℕ)) → IfSome o P → IfSome (if b then None else o) P
+of_other : (P : ℕ × ℕ → Type 0) (b : Bool) (o : Option (ℕ × ℕ)) → IfSome o P
+    → IfSome (if b then None else o) P
 of_other P true o h = tt
 of_other P false o h = h
 
-of_these : (P : ℕ × ℕ → Type 0) (b : Bool) (o : Option (ℕ × ℕ)) → IfSome o P → IfSome (if b then o else None) P
+of_these : (P : ℕ × ℕ → Type 0) (b : Bool) (o : Option (ℕ × ℕ)) → IfSome o P
+    → IfSome (if b then o else None) P
 of_these P true o h = h
 of_these P false o h = tt
 
@@ -63,8 +75,15 @@ IsStatusEnd e = (e.0 ≡ 1) × (1 ≤ e.1)
 status_each : (endpoint : List ℕ) → IfSome (status_at endpoint) IsStatusEnd
 unfolding status_at
 status_each endpoint =
-    of_some IsStatusEnd (slice_index endpoint 2 == 129 && is_interrupt (transfer_of endpoint) && nat_le 1 (packet_size endpoint) && nat_le (packet_size endpoint) 64) (1, packet_size endpoint)
-    (λ h. (refl, least (packet_size endpoint) (third (slice_index endpoint 2 == 129) (is_interrupt (transfer_of endpoint)) (nat_le 1 (packet_size endpoint)) (nat_le (packet_size endpoint) 64) h)))
+    of_some IsStatusEnd (slice_index endpoint 2 == 129 && is_interrupt (transfer_of endpoint) &&
+    nat_le 1 (packet_size endpoint) && nat_le (packet_size endpoint) 64)
+    (1, packet_size endpoint)
+    (λ h. (
+      refl,
+      least (packet_size endpoint)
+          (third (slice_index endpoint 2 == 129) (is_interrupt (transfer_of endpoint))
+          (nat_le 1 (packet_size endpoint)) (nat_le (packet_size endpoint) 64) h),
+    ))
   where
     least : (n : ℕ) → nat_le 1 n ≡ true → 1 ≤ n
     least n h = grind (arith, nat_tests, h)
@@ -81,19 +100,27 @@ IsNumbered e = (e.0 == 0) ≡ false
 bulk_each : (endpoint : List ℕ) → IfSome (bulk_described endpoint) IsNumbered
 unfolding bulk_described
 bulk_each endpoint =
-    of_some IsNumbered (is_bulk (transfer_of endpoint) && nat_le 1 (endpoint_number endpoint) && is_bulk_size (max_packet_size endpoint)) (endpoint_number endpoint, max_packet_size endpoint)
-    (λ h. least (endpoint_number endpoint) (second (is_bulk (transfer_of endpoint)) (nat_le 1 (endpoint_number endpoint)) (is_bulk_size (max_packet_size endpoint)) h))
+    of_some IsNumbered (is_bulk (transfer_of endpoint) && nat_le 1 (endpoint_number endpoint) &&
+    is_bulk_size (max_packet_size endpoint)) (
+      endpoint_number endpoint,
+      max_packet_size endpoint,
+    )
+    (λ h. least (endpoint_number endpoint)
+    (second (is_bulk (transfer_of endpoint)) (nat_le 1 (endpoint_number endpoint))
+    (is_bulk_size (max_packet_size endpoint)) h))
   where
     least : (n : ℕ) → nat_le 1 n ≡ true → (n == 0) ≡ false
     least n h = grind (arith, nat_tests, h)
 
 out_each : (endpoint : List ℕ) → IfSome (bulk_out_at endpoint) IsNumbered
 unfolding bulk_out_at
-out_each endpoint = of_other IsNumbered (is_in endpoint) (bulk_described endpoint) (bulk_each endpoint)
+out_each endpoint = of_other IsNumbered (is_in endpoint) (bulk_described endpoint)
+    (bulk_each endpoint)
 
 in_each : (endpoint : List ℕ) → IfSome (bulk_in_at endpoint) IsNumbered
 unfolding bulk_in_at
-in_each endpoint = of_these IsNumbered (is_in endpoint) (bulk_described endpoint) (bulk_each endpoint)
+in_each endpoint = of_these IsNumbered (is_in endpoint) (bulk_described endpoint)
+    (bulk_each endpoint)
 
 pub bulk_out_end : (bytes : List ℕ) → IfSome (bulk_out_of bytes) (λ e. (e.0 == 0) ≡ false)
 unfolding bulk_out_of

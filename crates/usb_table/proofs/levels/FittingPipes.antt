@@ -1,7 +1,8 @@
 -- What each call through pipes leaves of the device at their other ends: it is as far as the pipes.
 use Rattle.usb_device.specs.Tree.{Location}
 use Rattle.std.proofs.Common.{◌≡◌, ◌∙◌, refl, sym, ap, subst, Bool, true, false}
-use Rattle.std.specs.Prelude.{ℕ, ◌+◌, ◌==◌, ◌<◌, ◌&&◌, List, [], length, Option, None, Some, Result, Ok, Err, IsOk}
+use Rattle.std.specs.Prelude.{ℕ, ◌+◌, ◌==◌, ◌<◌, ◌&&◌, List, [], length, Option, None, Some, Result}
+use Rattle.std.specs.Prelude.{Ok, Err, IsOk}
 use Rattle.std.specs.Global.{Vec}
 use Rattle.arrayvec.specs.ArrayVec.{ArrayVec}
 use Rattle.usb_packet.specs.declared.Toggle.{Toggle}
@@ -16,7 +17,8 @@ use Rattle.usb_world.specs.World.{World}
 use Rattle.usb_pipe.specs.declared.fault.PipeFault.{PipeFault}
 use Rattle.usb_pipe.specs.Bulk.{Bulk}
 use Rattle.usb_pipe.specs.Interrupt.{Interrupt}
-use Rattle.usb_pipe.specs.Leaves.{OutPipeInSync, InPipeInSync, pipe_known, came_with, got_after, SendLeaves, ReceiveLeaves, ClearLeaves, PollLeaves}
+use Rattle.usb_pipe.specs.Leaves.{OutPipeInSync, InPipeInSync, pipe_known, came_with, got_after}
+use Rattle.usb_pipe.specs.Leaves.{SendLeaves, ReceiveLeaves, ClearLeaves, PollLeaves}
 use Rattle.usb_table.specs.declared.pipes.Pipes.{Pipes}
 use Rattle.usb_table.specs.declared.pipes.Pipes.TheVariants.{Hub, Function, Absent}
 use Rattle.usb_table.specs.Levels.{StatusPipeInSync, FitsOut, FitsIn, PipesInSync}
@@ -30,28 +32,42 @@ use Rattle.usb_table.proofs.transfers.DevicesKept.{RanAs}
 abbrev root : Location
 root = record { row = 0; rest = [] }
 
-same_end : (way : Bool) (s v : State) → SameSettings root s v → bulk_at v.spec v.registers way ≡ bulk_at s.spec s.registers way
-same_end way s v k = ap (λ (x : Spec). bulk_at x v.registers way) k.0 ∙ ap (λ (g : Registers). bulk_at s.spec g way) k.1
+same_end : (way : Bool) (s v : State) → SameSettings root s v → bulk_at v.spec v.registers way
+    ≡ bulk_at s.spec s.registers way
+same_end way s v k = ap (λ (x : Spec). bulk_at x v.registers way) k.0
+    ∙ ap (λ (g : Registers). bulk_at s.spec g way) k.1
 
-same_tells : (s v : State) → SameSettings root s v → tells_changes v.spec v.registers ≡ tells_changes s.spec s.registers
-same_tells s v k = ap (λ (x : Spec). tells_changes x v.registers) k.0 ∙ ap (λ (g : Registers). tells_changes s.spec g) k.1
+same_tells : (s v : State) → SameSettings root s v → tells_changes v.spec v.registers
+    ≡ tells_changes s.spec s.registers
+same_tells s v k = ap (λ (x : Spec). tells_changes x v.registers) k.0
+    ∙ ap (λ (g : Registers). tells_changes s.spec g) k.1
 
-still_sink : (pipe : Bulk) (s v : State) → SameSettings root s v → v.bulk_out ≡ s.bulk_out → OutPipeInSync pipe s → OutPipeInSync pipe v
+still_sink : (pipe : Bulk) (s v : State) → SameSettings root s v → v.bulk_out ≡ s.bulk_out
+    → OutPipeInSync pipe s → OutPipeInSync pipe v
 still_sink pipe s v k e f = record {
-  endpoint = record { endpoint = same_end false s v k ∙ f.endpoint.endpoint; not_zero = f.endpoint.not_zero };
+  endpoint = record {
+    endpoint = same_end false s v k ∙ f.endpoint.endpoint;
+    not_zero =
+        f.endpoint.not_zero;
+  };
   level = λ ready. ap (λ (x : EndpointState). x.toggle) e ∙ f.level ready;
   halted = λ halts. ap (λ (x : EndpointState). x.halted) e ∙ f.halted halts;
 }
 
-still_source_at : (most got : ℕ) (t : Toggle) (s v : State) → SameSettings root s v → v.place ≡ s.place → v.bulk_in ≡ s.bulk_in → SourceAt most got t s → SourceAt most got t v
-still_source_at most got t s v k place e (SourceAt.level a b) = SourceAt.level (place ∙ a) (ap (λ (x : EndpointState). x.toggle) e ∙ b)
+still_source_at : (most got : ℕ) (t : Toggle) (s v : State) → SameSettings root s v
+    → v.place ≡ s.place → v.bulk_in ≡ s.bulk_in → SourceAt most got t s → SourceAt most got t v
+still_source_at most got t s v k place e (SourceAt.level a b) =
+    SourceAt.level (place ∙ a) (ap (λ (x : EndpointState). x.toggle) e ∙ b)
 still_source_at most got t s v k place e (SourceAt.ahead a b c) =
-    SourceAt.ahead (a ∙ ap (λ n. advanced n most (length s.spec.source)) (sym place) ∙ ap (λ (x : Spec). advanced v.place most (length x.source)) (sym k.0))
-    (subst (λ (x : Spec). v.place < length x.source) (sym k.0) (subst (λ n. n < length s.spec.source) (sym place) b))
+    SourceAt.ahead (a ∙ ap (λ n. advanced n most (length s.spec.source)) (sym place)
+    ∙ ap (λ (x : Spec). advanced v.place most (length x.source)) (sym k.0))
+    (subst (λ (x : Spec). v.place < length x.source) (sym k.0)
+    (subst (λ n. n < length s.spec.source) (sym place) b))
     (ap (λ (x : EndpointState). x.toggle) e ∙ c)
 
 -- the endpoint of a bulk IN pipe is as far as it was
-pub still_source : (pipe : Bulk) (got : ℕ) (s v : State) → SameSettings root s v → v.place ≡ s.place → v.bulk_in ≡ s.bulk_in → InPipeInSync pipe got s → InPipeInSync pipe got v
+pub still_source : (pipe : Bulk) (got : ℕ) (s v : State) → SameSettings root s v → v.place ≡ s.place
+    → v.bulk_in ≡ s.bulk_in → InPipeInSync pipe got s → InPipeInSync pipe got v
 still_source pipe got s v k place e f = record {
   endpoint = record {
     endpoint = same_end true s v k ∙ f.endpoint.endpoint;
@@ -62,68 +78,112 @@ still_source pipe got s v k place e f = record {
   halted = λ halts. ap (λ (x : EndpointState). x.halted) e ∙ f.halted halts;
 }
 
-still_out : (out : Option Bulk) (s v : State) → SameSettings root s v → v.bulk_out ≡ s.bulk_out → FitsOut out s → FitsOut out v
+still_out : (out : Option Bulk) (s v : State) → SameSettings root s v → v.bulk_out ≡ s.bulk_out
+    → FitsOut out s → FitsOut out v
 still_out None s v k e f = tt
 still_out (Some pipe) s v k e f = still_sink pipe s v k e f
 
-fits_in-same : (into : Option Bulk) (s v : State) → SameSettings root s v → v.place ≡ s.place → v.bulk_in ≡ s.bulk_in → FitsIn into s → FitsIn into v
+fits_in-same : (into : Option Bulk) (s v : State) → SameSettings root s v → v.place ≡ s.place
+    → v.bulk_in ≡ s.bulk_in → FitsIn into s → FitsIn into v
 fits_in-same None s v k place e f = tt
 fits_in-same (Some pipe) s v k place e f = (f.0, still_source pipe f.0 s v k place e f.1)
 
-still_poll : (t : Toggle) (s v : State) → v.changes ≡ s.changes → v.held ≡ s.held → PollAt NeverTold t s → PollAt NeverTold t v
-still_poll t s v e held (PollAt.level a b) = PollAt.level (held ∙ a) (ap (λ (x : EndpointState). x.toggle) e ∙ b)
+still_poll : (t : Toggle) (s v : State) → v.changes ≡ s.changes → v.held ≡ s.held
+    → PollAt NeverTold t s → PollAt NeverTold t v
+still_poll t s v e held (PollAt.level a b) =
+    PollAt.level (held ∙ a) (ap (λ (x : EndpointState). x.toggle) e ∙ b)
 still_poll t s v e held (PollAt.told bits so a b) = absurd so
-still_poll t s v e held (PollAt.ahead bits a b) = PollAt.ahead bits (held ∙ a) (ap (λ (x : EndpointState). x.toggle) e ∙ b)
+still_poll t s v e held (PollAt.ahead bits a b) =
+    PollAt.ahead bits (held ∙ a) (ap (λ (x : EndpointState). x.toggle) e ∙ b)
 
-still_status : (pipe : Interrupt) (s v : State) → SameSettings root s v → v.changes ≡ s.changes → v.held ≡ s.held → StatusPipeInSync pipe s → StatusPipeInSync pipe v
-still_status pipe s v k e held f = record { tells = same_tells s v k ∙ f.tells; level = still_poll pipe.toggle s v e held f.level; runs = ap (λ (x : EndpointState). x.halted) e ∙ f.runs }
+still_status : (pipe : Interrupt) (s v : State) → SameSettings root s v → v.changes ≡ s.changes
+    → v.held ≡ s.held → StatusPipeInSync pipe s → StatusPipeInSync pipe v
+still_status pipe s v k e held f = record {
+  tells = same_tells s v k ∙ f.tells;
+  level =
+      still_poll pipe.toggle s v e held f.level;
+  runs = ap (λ (x : EndpointState). x.halted) e
+      ∙ f.runs;
+}
 
 -- where nothing changed but where the device's transfer stands
-pub still_level : (pipes : Pipes) (s v : State) → OnlyStage s v → PipesInSync pipes s → PipesInSync pipes v
+pub still_level : (pipes : Pipes) (s v : State) → OnlyStage s v → PipesInSync pipes s
+    → PipesInSync pipes v
 still_level (Hub pipe) s v frame f =
-    still_status pipe s v (ap (λ (d : State). d.spec) frame, ap (λ (d : State). d.registers) frame) (ap (λ (d : State). d.changes) frame) (ap (λ (d : State). d.held) frame) f
+    still_status pipe s v (ap (λ (d : State). d.spec) frame, ap (λ (d : State). d.registers) frame)
+    (ap (λ (d : State). d.changes) frame) (ap (λ (d : State). d.held) frame) f
 still_level (Function pipes) s v frame f =
-    let k : SameSettings root s v = (ap (λ (d : State). d.spec) frame, ap (λ (d : State). d.registers) frame) in
-    (still_out pipes.out s v k (ap (λ (d : State). d.bulk_out) frame) f.0, fits_in-same pipes.into s v k (ap (λ (d : State). d.place) frame) (ap (λ (d : State). d.bulk_in) frame) f.1)
+    let k : SameSettings root s v = (
+      ap (λ (d : State). d.spec) frame,
+      ap (λ (d : State). d.registers) frame,
+    ) in (
+      still_out pipes.out s v k (ap (λ (d : State). d.bulk_out) frame) f.0,
+      fits_in-same pipes.into s v k (ap (λ (d : State). d.place) frame)
+          (ap (λ (d : State). d.bulk_in) frame) f.1,
+    )
 still_level Absent s v frame f = tt
 
 -- A call through the pipes to the device of an address
 
--- another device is as it was; where the call ends so, this one is as far as the pipes that are left
-pub record PipesMove (address : ℕ) (ends : Type 0) (pipes left : Pipes) (j : Location) (s v : State) : Type 0 where
+-- another device is as it was; where the call ends so, this one is as far as the pipes that are
+-- left
+pub record PipesMove (address : ℕ) (ends : Type 0) (pipes left : Pipes) (j : Location)
+    (s v : State) : Type 0 where
   pub others : (address_of s == address) ≡ false → v ≡ s
   pub same : address_of v ≡ address_of s
   pub itself : ends → (address_of s == address) ≡ true → PipesInSync pipes s → PipesInSync left v
 
 -- where the answer is not the bus's own
-known_itself : {A : Type 0} (ends : Type 0) (answer : Result A PipeFault) (left : Bulk) (s : State) (Fits : Bulk → State → Type 0) → (ends → pipe_known answer left ≡ left) → ends → Fits (pipe_known answer left) s → Fits left s
+known_itself : {A : Type 0} (ends : Type 0) (answer : Result A PipeFault) (left : Bulk) (s : State)
+    (Fits : Bulk → State → Type 0) → (ends → pipe_known answer left ≡ left) → ends
+    → Fits (pipe_known answer left) s → Fits left s
 known_itself ends answer left s Fits is e f = subst (λ (b : Bulk). Fits b s) (is e) f
 
-pub poll_moves : (pipe left : Interrupt) (old new : World) (result : Result (Option (ArrayVec ℕ)) PipeFault) (j : Location) (s v : State)
-    → PollLeaves pipe old result left new j s v → RanAs j s v → PipesMove pipe.target.addr (IsOk result) (Hub pipe) (Hub left) j s v
+pub poll_moves : (pipe left : Interrupt) (old new : World)
+    (result : Result (Option (ArrayVec ℕ)) PipeFault) (j : Location) (s v : State)
+    → PollLeaves pipe old result left new j s v → RanAs j s v
+    → PipesMove pipe.target.addr (IsOk result) (Hub pipe) (Hub left) j s v
 poll_moves pipe left old new (Ok got) j s v x ran = record {
   others = x.others;
   same = ap (λ (g : Registers). g.address) ran.1;
-  itself = λ e at f. record { tells = same_tells s v (ran.0, ran.1) ∙ f.tells; level = x.level at f.tells f.level got refl; runs = ran.2 ∙ f.runs };
+  itself = λ e at f. record {
+    tells = same_tells s v (ran.0, ran.1) ∙ f.tells;
+    level =
+        x.level at f.tells f.level got refl;
+    runs = ran.2 ∙ f.runs;
+  };
 }
-poll_moves pipe left old new (Err why) j s v x ran = record { others = x.others; same = ap (λ (g : Registers). g.address) ran.1; itself = λ e at f. absurd (cc e) }
+poll_moves pipe left old new (Err why) j s v x ran =
+    record {
+      others = x.others;
+      same = ap (λ (g : Registers). g.address) ran.1;
+      itself =
+          λ e at f. absurd (cc e);
+    }
 
-pub send_moves : (ends : Type 0) (bytes : List ℕ) (pipe left : Bulk) (into : Option Bulk) (answer : Result (Unit {0}) PipeFault) (j : Location) (s v : State) → (ends → pipe_known answer left ≡ left)
+pub send_moves : (ends : Type 0) (bytes : List ℕ) (pipe left : Bulk) (into : Option Bulk)
+    (answer : Result (Unit {0}) PipeFault) (j : Location) (s v : State)
+    → (ends → pipe_known answer left ≡ left)
     → SendLeaves bytes pipe answer left j s v → SameSettings j s v
-    → PipesMove pipe.target.addr ends (Function (record { out = Some pipe; into = into })) (Function (record { out = Some left; into = into })) j s v
+    → PipesMove pipe.target.addr ends (Function (record { out = Some pipe; into = into }))
+    (Function (record { out = Some left; into = into })) j s v
 send_moves ends bytes pipe left into answer j s v is x k = record {
   others = x.others;
   same = ap (λ (g : Registers). g.address) k.1;
   itself = λ e at f.
       let frame : OnlySink s v = x.frame f.0.endpoint in (
         known_itself ends answer left v OutPipeInSync is e (x.fits at f.0),
-        fits_in-same into s v k (ap (λ (d : State). d.place) frame) (ap (λ (d : State). d.bulk_in) frame) f.1,
+        fits_in-same into s v k (ap (λ (d : State). d.place) frame)
+            (ap (λ (d : State). d.bulk_in) frame) f.1,
       );
 }
 
-pub receive_moves : (ends : Type 0) (pipe left : Bulk) (out : Option Bulk) (answer : Result (Vec ℕ) PipeFault) (j : Location) (s v : State) → (ends → pipe_known answer left ≡ left)
+pub receive_moves : (ends : Type 0) (pipe left : Bulk) (out : Option Bulk)
+    (answer : Result (Vec ℕ) PipeFault) (j : Location) (s v : State)
+    → (ends → pipe_known answer left ≡ left)
     → ReceiveLeaves pipe answer left j s v → SameSettings j s v
-    → PipesMove pipe.target.addr ends (Function (record { out = out; into = Some pipe })) (Function (record { out = out; into = Some left })) j s v
+    → PipesMove pipe.target.addr ends (Function (record { out = out; into = Some pipe }))
+    (Function (record { out = out; into = Some left })) j s v
 receive_moves ends pipe left out answer j s v is x k = record {
   others = x.others;
   same = ap (λ (g : Registers). g.address) k.1;
@@ -131,27 +191,41 @@ receive_moves ends pipe left out answer j s v is x k = record {
       let frame : OnlySource s v = x.frame f.1.1.endpoint in
       let got : ℕ = f.1.0 + came_with answer in (
         still_out out s v k (ap (λ (d : State). d.bulk_out) frame) f.0,
-        (got, known_itself ends answer left v (λ b. InPipeInSync b got) is e (x.fits at f.1.0 f.1.1)),
+        (
+          got,
+          known_itself ends answer left v (λ b. InPipeInSync b got) is e
+              (x.fits at f.1.0 f.1.1),
+        ),
       );
 }
 
-module _ (ends : Type 0) (pipe left : Bulk) (answer : Result (Unit {0}) PipeFault) (j : Location) (s v : State) (is : ends → pipe_known answer left ≡ left)
-    (x : ClearLeaves pipe answer left j s v) (y : ClearSpares pipe j s v) (k : SameSettings j s v) where
-  pub clear_out_moves : (into : Option Bulk) → pipe.is_in ≡ false → PipesMove pipe.target.addr ends (Function (record { out = Some pipe; into = into })) (Function (record { out = Some left; into = into })) j s v
-  clear_out_moves into way = record {
-    others = x.others;
-    same = ap (λ (g : Registers). g.address) k.1;
-    itself = λ e at f.
-        let apart = y.into way f.0.endpoint in
-        (known_itself ends answer left v OutPipeInSync is e (x.sink at way f.0).0, fits_in-same into s v k apart.1 apart.0 f.1);
-  }
+module _ (ends : Type 0) (pipe left : Bulk) (answer : Result (Unit {0}) PipeFault) (j : Location)
+    (s v : State) (is : ends → pipe_known answer left ≡ left)
+    (x : ClearLeaves pipe answer left j s v) (y : ClearSpares pipe j s v) (k : SameSettings j s v)
+  where
+    pub clear_out_moves : (into : Option Bulk) → pipe.is_in ≡ false
+        → PipesMove pipe.target.addr ends (Function (record { out = Some pipe; into = into }))
+        (Function (record { out = Some left; into = into })) j s v
+    clear_out_moves into way = record {
+      others = x.others;
+      same = ap (λ (g : Registers). g.address) k.1;
+      itself = λ e at f.
+          let apart = y.into way f.0.endpoint in (
+            known_itself ends answer left v OutPipeInSync is e (x.sink at way f.0).0,
+            fits_in-same into s v k apart.1 apart.0 f.1,
+          );
+    }
 
-  pub clear_in_moves : (out : Option Bulk) → pipe.is_in ≡ true → PipesMove pipe.target.addr ends (Function (record { out = out; into = Some pipe })) (Function (record { out = out; into = Some left })) j s v
-  clear_in_moves out way = record {
-    others = x.others;
-    same = ap (λ (g : Registers). g.address) k.1;
-    itself = λ e at f.
-        let fits = x.source at way f.1.0 f.1.1 in
-        let got : ℕ = got_after pipe f.1.0 answer s in
-        (still_out out s v k (y.out way f.1.1.endpoint).0 f.0, (got, known_itself ends answer left v (λ b. InPipeInSync b got) is e fits.0));
-  }
+    pub clear_in_moves : (out : Option Bulk) → pipe.is_in ≡ true
+        → PipesMove pipe.target.addr ends (Function (record { out = out; into = Some pipe }))
+        (Function (record { out = out; into = Some left })) j s v
+    clear_in_moves out way = record {
+      others = x.others;
+      same = ap (λ (g : Registers). g.address) k.1;
+      itself = λ e at f.
+          let fits = x.source at way f.1.0 f.1.1 in
+          let got : ℕ = got_after pipe f.1.0 answer s in (
+            still_out out s v k (y.out way f.1.1.endpoint).0 f.0,
+            (got, known_itself ends answer left v (λ b. InPipeInSync b got) is e fits.0),
+          );
+    }

@@ -13,7 +13,8 @@ use Rattle.usb_table.specs.declared.pipes.BulkPipes.{BulkPipes}
 use Rattle.usb_table.specs.declared.pipes.Pipes.{Pipes}
 use Rattle.usb_table.specs.declared.pipes.Pipes.TheVariants.{Hub, Function, Absent}
 use Rattle.usb_table.specs.Findings.{out_endpoint, in_endpoint}
-use Rattle.usb_table.specs.Pipes.{IsStatusPipe, IsPipe, ArePipesTo, ArePipesOf, both_made, pipes_made}
+use Rattle.usb_table.specs.Pipes.{IsStatusPipe, IsPipe, ArePipesTo, ArePipesOf, both_made}
+use Rattle.usb_table.specs.Pipes.{pipes_made}
 
 pub broken_or_not : (c : Condition) → (c ≡ Broken) ⊎ (c ≢ Broken)
 broken_or_not Ready = inr (λ h. cc)
@@ -91,7 +92,8 @@ made_absent Absent same = refl
 -- Calls keep them
 
 abbrev pub Keep : Finding → Pipes → Pipes → Type 0
-Keep finding pipes left = (below_hub : Bool) → ArePipesOf finding below_hub pipes → ArePipesOf finding below_hub left
+Keep finding pipes left = (below_hub : Bool) → ArePipesOf finding below_hub pipes
+    → ArePipesOf finding below_hub left
 
 pub same_keep : (finding : Finding) (pipes left : Pipes) → pipes_made left ≡ pipes_made pipes
     → Keep finding pipes left

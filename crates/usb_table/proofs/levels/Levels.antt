@@ -1,5 +1,6 @@
 -- Calls through the pipes at a path leave the pipes of the table level.
-use Rattle.std.proofs.Common.{◌≡◌, ◌≢◌, ◌∙◌, refl, sym, ap, subst, Bool, true, false, zero, suc, ℕ, ◌==◌, eq-eqb}
+use Rattle.std.proofs.Common.{◌≡◌, ◌≢◌, ◌∙◌, refl, sym, ap, subst, Bool, true, false, zero, suc, ℕ}
+use Rattle.std.proofs.Common.{◌==◌, eq-eqb}
 use Rattle.std.proofs.lemmas.Option.{same_Some}
 use Rattle.std.specs.Prelude.{List, [], ◌∷◌, Option, Some, None, option_map}
 use Rattle.std.specs.BTreeMap.{is_at}
@@ -28,30 +29,43 @@ use Rattle.usb_table.proofs.levels.FittingPipes.{PipesMove, still_level}
 use Rattle.usb_table.proofs.entries.Paths.{path_itself, path_tied}
 
 -- the address of an accepted device is that of its path
-device_address : (found : Option Finding) (device : Accepted) → accepted_device_of found ≡ Some device → address_in found ≡ Some device.address
+device_address : (found : Option Finding) (device : Accepted)
+    → accepted_device_of found ≡ Some device → address_in found ≡ Some device.address
 device_address None device e = absurd (cc e)
-device_address (Some (Device d)) device e = ap (λ (x : Option Accepted). option_map (λ (y : Accepted). y.address) x) e
+device_address (Some (Device d)) device e =
+    ap (λ (x : Option Accepted). option_map (λ (y : Accepted). y.address) x) e
 device_address (Some (Refused cause)) device e = absurd (cc e)
 
-pub address_found : (path : List ℕ) (entries : Entries) (device : Accepted) → accepted_device_at path entries ≡ Some device → entry_address path entries ≡ Some device.address
+pub address_found : (path : List ℕ) (entries : Entries) (device : Accepted)
+    → accepted_device_at path entries ≡ Some device
+    → entry_address path entries ≡ Some device.address
 address_found path entries device e = device_address (finding_at path entries) device e
 
 -- a path is none that starts at no port of the root
 at_some_port : (table : Table) (w : World) (path : List ℕ)
-    → ((x : Location) → path ≡ path_to x → (device : Accepted) (s : State) → accepted_device_at path table.entries ≡ Some device → reach_on w.roots x ≡ true → state_on w.roots x ≡ Some s → PipesInSync (pipes_at path table) s)
+    → ((x : Location) → path ≡ path_to x → (device : Accepted) (s : State)
+    → accepted_device_at path table.entries ≡ Some device → reach_on w.roots x ≡ true
+    → state_on w.roots x ≡ Some s → PipesInSync (pipes_at path table) s)
     → InSyncAt path table w
 at_some_port table w [] f = record { level = λ device s e on there. false_true on }
 at_some_port table w (zero ∷ p) f = record { level = λ device s e on there. false_true on }
-at_some_port table w (suc j ∷ p) f = record { level = λ device s e on there. f (record { row = j; rest = p }) refl device s e on there }
+at_some_port table w (suc j ∷ p) f = record {
+  level =
+      λ device s e on there. f (record { row = j; rest = p }) refl device s e on there;
+}
 
 -- what is reached at a path holds the address of the path's entry
-pub held_address : (table : Table) (w : World) (path : List ℕ) (device : Accepted) (s : State) → IsHeld table w → accepted_device_at path table.entries ≡ Some device → reach w.roots path ≡ true → state_there w.roots path ≡ Some s
+pub held_address : (table : Table) (w : World) (path : List ℕ) (device : Accepted) (s : State)
+    → IsHeld table w → accepted_device_at path table.entries ≡ Some device
+    → reach w.roots path ≡ true → state_there w.roots path ≡ Some s
     → address_of s ≡ device.address
 held_address table w path device s held e on there =
-    same_Some (address_of s) device.address (sym (ap (option_map address_of) there) ∙ held.own path on ∙ address_found path table.entries device e)
+    same_Some (address_of s) device.address (sym (ap (option_map address_of) there)
+    ∙ held.own path on ∙ address_found path table.entries device e)
 
 -- two paths of one address are one
-pub entry_address-one_path : (table : Table) (w : World) (x path : List ℕ) (a : ℕ) → IsHeld table w → entry_address x table.entries ≡ Some a → entry_address path table.entries ≡ Some a → x ≡ path
+pub entry_address-one_path : (table : Table) (w : World) (x path : List ℕ) (a : ℕ) → IsHeld table w
+    → entry_address x table.entries ≡ Some a → entry_address path table.entries ≡ Some a → x ≡ path
 entry_address-one_path table w x path a held e f = same_is path x (held.distinct path x a f e)
 
 pub by_decision : (b : Bool) → (b ≡ true → ⊥) → b ≡ false
@@ -59,84 +73,128 @@ by_decision true f = absurd (f refl)
 by_decision false f = refl
 
 apart_or : (path x : List ℕ) → is_at (path_cmp path) x ≡ false → x ≢ path
-apart_or path x apart e = false_true (sym apart ∙ subst (λ y. is_at (path_cmp path) y ≡ true) (sym e) (path_itself path))
+apart_or path x apart e = false_true (sym apart
+    ∙ subst (λ y. is_at (path_cmp path) y ≡ true) (sym e) (path_itself path))
 
-module _ (path : List ℕ) (device : Accepted) (ends : Type 0) (pipes left : Pipes) (old new : Table) (before after : World) (stands : accepted_device_at path old.entries ≡ Some device)
-    (goes : GoesThrough path old new) (was : pipes_at path old ≡ pipes) (is : pipes_at path new ≡ left) (keeps : OnlyTransfers before after)
-    (moves : after.shared ≡ false → EachWas (PipesMove device.address ends pipes left) before after) where
-  pub single : IsHeld old before → after.shared ≡ false
-  single held = (keeps.addresses.kept (λ x. entry_address x old.entries) (record { so = λ h. held; single = held.single })).single
+module _ (path : List ℕ) (device : Accepted) (ends : Type 0) (pipes left : Pipes) (old new : Table)
+    (before after : World) (stands : accepted_device_at path old.entries ≡ Some device)
+    (goes : GoesThrough path old new) (was : pipes_at path old ≡ pipes) (is : pipes_at path new
+    ≡ left) (keeps : OnlyTransfers before after)
+    (moves : after.shared ≡ false → EachWas (PipesMove device.address ends pipes left) before after)
+  where
+    pub single : IsHeld old before → after.shared ≡ false
+    single held = (keeps.addresses.kept (λ x. entry_address x old.entries)
+        (record { so = λ h. held; single = held.single })).single
 
-  same_device : (x : List ℕ) (d : Accepted) → accepted_device_at x new.entries ≡ Some d → accepted_device_at x old.entries ≡ Some d
-  same_device x d e = ap (accepted_device_at x) (sym goes.entries) ∙ e
+    same_device : (x : List ℕ) (d : Accepted) → accepted_device_at x new.entries ≡ Some d
+        → accepted_device_at x old.entries ≡ Some d
+    same_device x d e = ap (accepted_device_at x) (sym goes.entries) ∙ e
 
-  others : IsHeld old before → (x : List ℕ) → is_at (path_cmp path) x ≡ false → InSyncAt x old before → InSyncAt x new after
-  others held x apart l = at_some_port new after x at
-    where
-      at : (j : Location) → x ≡ path_to j → (d : Accepted) (s : State) → accepted_device_at x new.entries ≡ Some d → reach_on after.roots j ≡ true → state_on after.roots j ≡ Some s → PipesInSync (pipes_at x new) s
-      at j e d s found on there =
-          let w : Was (PipesMove device.address ends pipes left) before j s = moves (single held) j s on there in
-          let reached : reach before.roots x ≡ true = ap (reach before.roots) e ∙ w.on in
-          let stood : state_there before.roots x ≡ Some w.before = ap (state_there before.roots) e ∙ w.stands in
-          let d_old : accepted_device_at x old.entries ≡ Some d = same_device x d found in
-          let has : address_of w.before ≡ d.address = held_address old before x d w.before held d_old reached stood in
-          let same : (address_of w.before == device.address) ≡ true → x ≡ path = λ at.
-          entry_address-one_path old before x path device.address held (address_found x old.entries d d_old ∙ ap Some (sym has ∙ equal_same (address_of w.before) device.address at)) (address_found path old.entries device stands) in
-          let kept : s ≡ w.before = w.so.others (by_decision (address_of w.before == device.address) (λ at. apart_or path x apart (same at))) in
-          subst (λ (q : Pipes). PipesInSync q s) (sym (goes.others x apart)) (subst (PipesInSync (pipes_at x old)) (sym kept) (l.level d w.before d_old reached stood))
+    others : IsHeld old before → (x : List ℕ) → is_at (path_cmp path) x ≡ false
+        → InSyncAt x old before → InSyncAt x new after
+    others held x apart l = at_some_port new after x at
+      where
+        at : (j : Location) → x ≡ path_to j → (d : Accepted) (s : State)
+            → accepted_device_at x new.entries ≡ Some d → reach_on after.roots j ≡ true
+            → state_on after.roots j ≡ Some s → PipesInSync (pipes_at x new) s
+        at j e d s found on there =
+            let w : Was (PipesMove device.address ends pipes left) before j s =
+            moves (single held) j s on there in
+            let reached : reach before.roots x ≡ true = ap (reach before.roots) e ∙ w.on in
+            let stood : state_there before.roots x ≡ Some w.before = ap (state_there before.roots) e
+            ∙ w.stands in
+            let d_old : accepted_device_at x old.entries ≡ Some d = same_device x d found in
+            let has : address_of w.before ≡ d.address =
+            held_address old before x d w.before held d_old reached stood in
+            let same : (address_of w.before == device.address) ≡ true → x ≡ path = λ at.
+            entry_address-one_path old before x path device.address held
+            (address_found x old.entries d d_old
+            ∙ ap Some (sym has ∙ equal_same (address_of w.before) device.address at))
+            (address_found path old.entries device stands) in
+            let kept : s ≡ w.before = w.so.others
+            (by_decision (address_of w.before == device.address)
+            (λ at. apart_or path x apart (same at))) in
+            subst (λ (q : Pipes). PipesInSync q s) (sym (goes.others x apart))
+            (subst (PipesInSync (pipes_at x old)) (sym kept)
+            (l.level d w.before d_old reached stood))
 
-  itself : IsHeld old before → ends → InSyncAt path old before → InSyncAt path new after
-  itself held e l = at_some_port new after path at
-    where
-      at : (j : Location) → path ≡ path_to j → (d : Accepted) (s : State) → accepted_device_at path new.entries ≡ Some d → reach_on after.roots j ≡ true → state_on after.roots j ≡ Some s → PipesInSync (pipes_at path new) s
-      at j x d s found on there =
-          let w : Was (PipesMove device.address ends pipes left) before j s = moves (single held) j s on there in
-          let reached : reach before.roots path ≡ true = ap (reach before.roots) x ∙ w.on in
-          let stood : state_there before.roots path ≡ Some w.before = ap (state_there before.roots) x ∙ w.stands in
-          let has : address_of w.before ≡ device.address = held_address old before path device w.before held stands reached stood in
-          subst (λ (q : Pipes). PipesInSync q s) (sym is)
-          (w.so.itself e (eq-eqb (address_of w.before) device.address has) (subst (λ (q : Pipes). PipesInSync q w.before) was (l.level device w.before stands reached stood)))
+    itself : IsHeld old before → ends → InSyncAt path old before → InSyncAt path new after
+    itself held e l = at_some_port new after path at
+      where
+        at : (j : Location) → path ≡ path_to j → (d : Accepted) (s : State)
+            → accepted_device_at path new.entries ≡ Some d → reach_on after.roots j ≡ true
+            → state_on after.roots j ≡ Some s → PipesInSync (pipes_at path new) s
+        at j x d s found on there =
+            let w : Was (PipesMove device.address ends pipes left) before j s =
+            moves (single held) j s on there in
+            let reached : reach before.roots path ≡ true = ap (reach before.roots) x ∙ w.on in
+            let stood : state_there before.roots path ≡ Some w.before =
+            ap (state_there before.roots) x ∙ w.stands in
+            let has : address_of w.before ≡ device.address =
+            held_address old before path device w.before held stands reached stood in
+            subst (λ (q : Pipes). PipesInSync q s) (sym is)
+            (w.so.itself e (eq-eqb (address_of w.before) device.address has)
+            (subst (λ (q : Pipes). PipesInSync q w.before) was
+            (l.level device w.before stands reached stood)))
 
-  pub moved_levels : KeepsInSync path ends old before new after
-  moved_levels = record { worlds = keeps; others = others; itself = itself }
+    pub moved_levels : KeepsInSync path ends old before new after
+    moved_levels = record { worlds = keeps; others = others; itself = itself }
 
 -- A call that does nothing
 
-level_at-same : (x : List ℕ) (old new : Table) (w : World) → new.entries ≡ old.entries → pipes_at x new ≡ pipes_at x old → InSyncAt x old w → InSyncAt x new w
+level_at-same : (x : List ℕ) (old new : Table) (w : World) → new.entries ≡ old.entries
+    → pipes_at x new ≡ pipes_at x old → InSyncAt x old w → InSyncAt x new w
 level_at-same x old new w e same l = record {
-  level = λ device s found on there. subst (λ (q : Pipes). PipesInSync q s) (sym same) (l.level device s (ap (accepted_device_at x) (sym e) ∙ found) on there);
+  level = λ device s found on there. subst (λ (q : Pipes). PipesInSync q s) (sym same)
+      (l.level device s (ap (accepted_device_at x) (sym e) ∙ found) on there);
 }
 
-pub still_levels : (path : List ℕ) (ends : Type 0) (old new : Table) (before after : World) → GoesThrough path old new → pipes_at path new ≡ pipes_at path old → after ≡ before → OnlyTransfers before after → KeepsInSync path ends old before new after
+pub still_levels : (path : List ℕ) (ends : Type 0) (old new : Table) (before after : World)
+    → GoesThrough path old new → pipes_at path new ≡ pipes_at path old → after ≡ before
+    → OnlyTransfers before after → KeepsInSync path ends old before new after
 still_levels path ends old new before after goes same none keeps = record {
   worlds = keeps;
-  others = λ held x apart l. subst (InSyncAt x new) (sym none) (level_at-same x old new before goes.entries (goes.others x apart) l);
-  itself = λ held e l. subst (InSyncAt path new) (sym none) (level_at-same path old new before goes.entries same l);
+  others = λ held x apart l. subst (InSyncAt x new) (sym none)
+      (level_at-same x old new before goes.entries (goes.others x apart) l);
+  itself = λ held e l. subst (InSyncAt path new) (sym none)
+      (level_at-same path old new before goes.entries same l);
 }
 
 -- what a call through the pipes at a path leaves of all of them
-pub all_kept : (path : List ℕ) (ends : Type 0) (old new : Table) (before after : World) → KeepsInSync path ends old before new after → IsHeld old before → ends → AllInSync old before → AllInSync new after
+pub all_kept : (path : List ℕ) (ends : Type 0) (old new : Table) (before after : World)
+    → KeepsInSync path ends old before new after → IsHeld old before → ends → AllInSync old before
+    → AllInSync new after
 all_kept path ends old new before after k held e all x = by_test (is_at (path_cmp path) x) refl
   where
     by_test : (b : Bool) → is_at (path_cmp path) x ≡ b → InSyncAt x new after
-    by_test true at = subst (λ y. InSyncAt y new after) (path_tied path x at) (k.itself held e (all path))
+    by_test true at = subst (λ y. InSyncAt y new after) (path_tied path x at)
+        (k.itself held e (all path))
     by_test false apart = k.others held x apart (all x)
 
 -- A call that is not through the pipes
 
 module _ (table : Table) (old new : World) where
-  level_if : (x : List ℕ) → ((j : Location) → x ≡ path_to j → (s : State) → reach_on new.roots j ≡ true → state_on new.roots j ≡ Some s → Was StaysAs old j s) → InSyncAt x table old → InSyncAt x table new
+  level_if : (x : List ℕ) → ((j : Location) → x ≡ path_to j → (s : State)
+      → reach_on new.roots j ≡ true → state_on new.roots j ≡ Some s → Was StaysAs old j s)
+      → InSyncAt x table old → InSyncAt x table new
   level_if x was l = at_some_port table new x at
     where
-      at : (j : Location) → x ≡ path_to j → (d : Accepted) (s : State) → accepted_device_at x table.entries ≡ Some d → reach_on new.roots j ≡ true → state_on new.roots j ≡ Some s → PipesInSync (pipes_at x table) s
+      at : (j : Location) → x ≡ path_to j → (d : Accepted) (s : State)
+          → accepted_device_at x table.entries ≡ Some d → reach_on new.roots j ≡ true
+          → state_on new.roots j ≡ Some s → PipesInSync (pipes_at x table) s
       at j e d s found on there =
           let w : Was StaysAs old j s = was j e s on there in
-          still_level (pipes_at x table) w.before s w.so (l.level d w.before found (ap (reach old.roots) e ∙ w.on) (ap (state_there old.roots) e ∙ w.stands))
+          still_level (pipes_at x table) w.before s w.so
+          (l.level d w.before found (ap (reach old.roots) e ∙ w.on)
+          (ap (state_there old.roots) e ∙ w.stands))
 
   -- where each device stays as it was
-  pub level_stays : EachWas StaysAs old new → (x : List ℕ) → InSyncAt x table old → InSyncAt x table new
+  pub level_stays : EachWas StaysAs old new → (x : List ℕ) → InSyncAt x table old
+      → InSyncAt x table new
   level_stays was x = level_if x (λ j e s on there. was j s on there)
 
   -- where each does that is not at a path nor below it
-  pub level_elsewhere : (path : List ℕ) → EachElsewhere path StaysAs old new → (x : List ℕ) → is_way path x ≡ false → InSyncAt x table old → InSyncAt x table new
-  level_elsewhere path was x apart = level_if x (λ j e s on there. was j s (ap (is_way path) (sym e) ∙ apart) on there)
+  pub level_elsewhere : (path : List ℕ) → EachElsewhere path StaysAs old new → (x : List ℕ)
+      → is_way path x ≡ false → InSyncAt x table old → InSyncAt x table new
+  level_elsewhere path was x apart = level_if x (λ j e s on there. was j s (ap (is_way path) (sym e)
+      ∙ apart) on there)

@@ -23,11 +23,13 @@ use Rattle.usb_table.specs.Transfers.{SameSettings, both_sides}
 use Rattle.usb_table.proofs.transfers.HaltClears.{ClearSpares, cleared_apart}
 use Rattle.usb_table.proofs.levels.FittingPipes.{PipesMove, send_moves, receive_moves}
 use Rattle.usb_table.proofs.levels.KeptPipes.{ready_or_not}
-use Rattle.usb_table.proofs.transfers.DevicesKept.{PipeKeeps, clear_keeps, receive_keeps, send_keeps}
+use Rattle.usb_table.proofs.transfers.DevicesKept.{PipeKeeps, clear_keeps, receive_keeps}
+use Rattle.usb_table.proofs.transfers.DevicesKept.{send_keeps}
 
 -- each device over a call, where no address was held twice
 abbrev pub EachMoves : ℕ → Type 0 → Pipes → Pipes → World → World → Type 0
-EachMoves address ends pipes left old new = new.shared ≡ false → EachWas (PipesMove address ends pipes left) old new
+EachMoves address ends pipes left old new = new.shared ≡ false
+    → EachWas (PipesMove address ends pipes left) old new
 
 -- Where the bus is at work, the answer is not its own
 
@@ -105,10 +107,15 @@ clear_spared pipe old answer left new x single = elim (ready_or_not pipe.conditi
   | inr not ↦ cleared_apart pipe old answer left new (x.sent not) single
 ]
 
-module _ (pipe : Bulk) (old : World) (answer : Result (Unit {0}) PipeFault) (left : Bulk) (new : World) (x : Clears pipe old answer left new) where
-  pub clear_whole : (R : Relation) → ((j : Location) (s v : State) → ClearLeaves pipe answer left j s v → ClearSpares pipe j s v → SameSettings j s v → R j s v) → new.shared ≡ false → EachWas R old new
+module _ (pipe : Bulk) (old : World) (answer : Result (Unit {0}) PipeFault) (left : Bulk)
+    (new : World) (x : Clears pipe old answer left new) where
+  pub clear_whole : (R : Relation) → ((j : Location) (s v : State)
+      → ClearLeaves pipe answer left j s v → ClearSpares pipe j s v → SameSettings j s v
+      → R j s v) → new.shared ≡ false → EachWas R old new
   clear_whole R f single =
-      each_joint (λ j s v. ClearLeaves pipe answer left j s v × ClearSpares pipe j s v) SameSettings R (λ j s v a k. f j s v a.0 a.1 k) old new
+      each_joint (λ j s v. ClearLeaves pipe answer left j s v × ClearSpares pipe j s v) SameSettings
+      R (λ j s v a k. f j s v a.0 a.1 k) old new
       (each_both (ClearLeaves pipe answer left) (ClearSpares pipe) old new
-      (clear_leaves pipe answer left old new x single) (clear_spared pipe old answer left new x single))
+      (clear_leaves pipe answer left old new x single)
+      (clear_spared pipe old answer left new x single))
       ((clear_keeps pipe old answer left new x).worlds.devices.same single)

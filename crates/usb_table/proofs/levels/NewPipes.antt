@@ -1,5 +1,6 @@
 -- New pipes to a device that was just configured are level.
-use Rattle.std.proofs.Common.{◌≡◌, ◌∙◌, refl, sym, ap, subst, Bool, true, false, ℕ, ◌==◌, ◌&&◌, not, if◌then◌else◌, [], length, Option, None, Some}
+use Rattle.std.proofs.Common.{◌≡◌, ◌∙◌, refl, sym, ap, subst, Bool, true, false, ℕ, ◌==◌, ◌&&◌, not}
+use Rattle.std.proofs.Common.{if◌then◌else◌, [], length, Option, None, Some}
 use Rattle.std.specs.Prelude.{nat_lt, slice_index, slice_index_or, is_some, IfSome}
 use Rattle.std.proofs.lemmas.Bool.{and_parts}
 use Rattle.usb_request.specs.Codes.{HUB_CLASS}
@@ -25,7 +26,8 @@ use Rattle.usb_enum.proofs.Interface.{AcceptsChosen, HasChosen, accepts, chosen_
 use Rattle.usb_table.proofs.levels.Endpoints.{bulk_out_end, bulk_in_end}
 use Rattle.usb_pipe.proofs.Interface.{is_some_byte}
 
-module _ (tier supply : ℕ) (device : Accepted) (below_hub : Bool) (s : State) (ruled : IsSpec s.spec) (own : IsOwn tier supply device s) where
+module _ (tier supply : ℕ) (device : Accepted) (below_hub : Bool) (s : State)
+    (ruled : IsSpec s.spec) (own : IsOwn tier supply device s) where
   listed : IsAs s.spec device
   listed = own.0.1
 
@@ -42,10 +44,12 @@ module _ (tier supply : ℕ) (device : Accepted) (below_hub : Bool) (s : State) 
   text_is = ap (λ texts. slice_index_or texts device.chosen []) listed.configs
 
   configured : s.registers.configuration ≡ slice_index chosen.text 5
-  configured = own.1.configuration ∙ ap (λ t. slice_index t 5) (text_is ∙ chosen.is) ∙ chosen.read.value
+  configured = own.1.configuration ∙ ap (λ t. slice_index t 5) (text_is ∙ chosen.is)
+      ∙ chosen.read.value
 
   some_value : not (s.registers.configuration == 0) ≡ true
-  some_value = ap (λ n. not (n == 0)) configured ∙ ap not (is_some_byte (slice_index chosen.text 5) chosen.read.some)
+  some_value = ap (λ n. not (n == 0)) configured
+      ∙ ap not (is_some_byte (slice_index chosen.text 5) chosen.read.some)
 
   -- A hub
 
@@ -60,14 +64,19 @@ module _ (tier supply : ℕ) (device : Accepted) (below_hub : Bool) (s : State) 
     good : is_good_hub s.spec (configuration_of device) ≡ true
     good =
         ap (is_good_hub s.spec) text_is
-        ∙ by_test (is_good_hub s.spec (slice_index_or (texts_of s.spec) device.chosen [])) (ap (λ b. b && not (is_good_hub s.spec (slice_index_or (texts_of s.spec) device.chosen []))) (sym (sym is_hub_spec ∙ hub)) ∙ accepted.hub)
+        ∙ by_test (is_good_hub s.spec (slice_index_or (texts_of s.spec) device.chosen []))
+        (ap (λ b. b && not (is_good_hub s.spec
+        (slice_index_or (texts_of s.spec) device.chosen [])))
+        (sym (sym is_hub_spec ∙ hub)) ∙ accepted.hub)
       where
         by_test : (b : Bool) → not b ≡ false → b ≡ true
         by_test true e = refl
         by_test false e = absurd (cc e)
 
     has_ports : is_some s.spec.hub ≡ true
-    has_ports = by_hub s.spec.hub (and_parts (is_some (status_endpoint_of (configuration_of device))) (gives_hub s.spec s.spec.hub) good).1
+    has_ports = by_hub s.spec.hub (and_parts
+        (is_some (status_endpoint_of (configuration_of device))) (gives_hub s.spec s.spec.hub)
+        good).1
       where
         by_hub : (o : Option HubSpec) → gives_hub s.spec o ≡ true → is_some o ≡ true
         by_hub None e = absurd (cc e)
@@ -90,29 +99,44 @@ module _ (tier supply : ℕ) (device : Accepted) (below_hub : Bool) (s : State) 
     no_ports : is_some s.spec.hub ≡ false
     no_ports = by_hub s.spec.hub ruled.fits
       where
-        by_hub : (o : Option HubSpec) → hub_fits s.spec.low s.spec.descriptor o ≡ true → is_some o ≡ false
+        by_hub : (o : Option HubSpec) → hub_fits s.spec.low s.spec.descriptor o ≡ true
+            → is_some o ≡ false
         by_hub None e = refl
         by_hub (Some h) e =
-            let class : has_hub_class s.spec.descriptor ≡ true = (and_parts (not s.spec.low) (has_hub_class s.spec.descriptor) e).1 in
-            let yes : is_hub_device s.spec.descriptor ≡ true = (and_parts (nat_lt 4 (length s.spec.descriptor)) (slice_index s.spec.descriptor 4 == HUB_CLASS) class).1 in
+            let class : has_hub_class s.spec.descriptor ≡ true =
+            (and_parts (not s.spec.low) (has_hub_class s.spec.descriptor) e).1 in
+            let yes : is_hub_device s.spec.descriptor ≡ true =
+            (and_parts (nat_lt 4 (length s.spec.descriptor))
+            (slice_index s.spec.descriptor 4 == HUB_CLASS) class).1 in
             absurd (cc (sym is_hub_spec ∙ function, yes))
 
     quiet : tells_changes s.spec s.registers ≡ false
     quiet = ap (λ b. b && not (s.registers.configuration == 0)) no_ports
 
-    bulk_is : (way : Bool) → device.low ≡ false → bulk_of s way ≡ bulk_of_text way (configuration_of device)
-    bulk_is way fast = chosen_bulk s.spec device.chosen s.registers way chosen (sym listed.low ∙ fast) configured ∙ ap (bulk_of_text way) (sym text_is)
+    bulk_is : (way : Bool) → device.low ≡ false
+        → bulk_of s way ≡ bulk_of_text way (configuration_of device)
+    bulk_is way fast = chosen_bulk s.spec device.chosen s.registers way chosen (sym listed.low
+        ∙ fast) configured ∙ ap (bulk_of_text way) (sym text_is)
 
-    out_level : (low : Bool) (o : Option (ℕ × ℕ)) → device.low ≡ low → bulk_out_of (configuration_of device) ≡ o → FitsOut (new_bulk device false (at_full_speed low o)) s
+    out_level : (low : Bool) (o : Option (ℕ × ℕ)) → device.low ≡ low
+        → bulk_out_of (configuration_of device) ≡ o
+        → FitsOut (new_bulk device false (at_full_speed low o)) s
     out_level true o fast e = tt
     out_level false None fast e = tt
     out_level false (Some endpoint) fast e = record {
-      endpoint = record { endpoint = bulk_is false fast ∙ e; not_zero = subst (λ x. IfSome x (λ n. (n.0 == 0) ≡ false)) e (bulk_out_end (configuration_of device)) };
+      endpoint = record {
+        endpoint = bulk_is false fast ∙ e;
+        not_zero =
+            subst (λ x. IfSome x (λ n. (n.0 == 0) ≡ false)) e
+            (bulk_out_end (configuration_of device));
+      };
       level = λ ready. ap (λ (p : EndpointState). p.toggle) fresh.out;
       halted = λ halts. cc halts;
     }
 
-    in_level : (low : Bool) (o : Option (ℕ × ℕ)) → device.low ≡ low → bulk_in_of (configuration_of device) ≡ o → FitsIn (new_bulk device true (at_full_speed low o)) s
+    in_level : (low : Bool) (o : Option (ℕ × ℕ)) → device.low ≡ low
+        → bulk_in_of (configuration_of device) ≡ o
+        → FitsIn (new_bulk device true (at_full_speed low o)) s
     in_level true o fast e = tt
     in_level false None fast e = tt
     in_level false (Some endpoint) fast e = (
@@ -120,7 +144,8 @@ module _ (tier supply : ℕ) (device : Accepted) (below_hub : Bool) (s : State) 
       record {
         endpoint = record {
           endpoint = bulk_is true fast ∙ e;
-          not_zero = subst (λ x. IfSome x (λ n. (n.0 == 0) ≡ false)) e (bulk_in_end (configuration_of device));
+          not_zero = subst (λ x. IfSome x (λ n. (n.0 == 0) ≡ false)) e
+              (bulk_in_end (configuration_of device));
           alone = ap (λ b. endpoint.0 == 1 && b) quiet ∙ and_false (endpoint.0 == 1);
         };
         level = λ ready. SourceAt.level refl (ap (λ (p : EndpointState). p.toggle) fresh.into);
@@ -129,13 +154,19 @@ module _ (tier supply : ℕ) (device : Accepted) (below_hub : Bool) (s : State) 
     )
 
   by_kind : (b : Bool) → is_some device.hub ≡ b
-      → PipesInSync (if b then new_status device below_hub (status_endpoint_of (configuration_of device))
+      → PipesInSync (if b then new_status device below_hub
+      (status_endpoint_of (configuration_of device))
       else Function (record {
-        out = new_bulk device false (if b then None else at_full_speed device.low (bulk_out_of (configuration_of device)));
-        into = new_bulk device true (if b then None else at_full_speed device.low (bulk_in_of (configuration_of device)));
+        out = new_bulk device false (if b then None else at_full_speed device.low
+            (bulk_out_of (configuration_of device)));
+        into = new_bulk device true (if b then None else at_full_speed device.low
+            (bulk_in_of (configuration_of device)));
       })) s
   by_kind true e = status_level e (status_endpoint_of (configuration_of device))
-  by_kind false e = (out_level e device.low (bulk_out_of (configuration_of device)) refl refl, in_level e device.low (bulk_in_of (configuration_of device)) refl refl)
+  by_kind false e = (
+    out_level e device.low (bulk_out_of (configuration_of device)) refl refl,
+    in_level e device.low (bulk_in_of (configuration_of device)) refl refl,
+  )
 
   -- of a device whose finding is its own, and that keeps the rules of devices
   pub new_level : PipesInSync (new_pipes (Device device) below_hub) s

@@ -1,5 +1,6 @@
 -- Calls through the pipes at a path, as the keys show them.
-use Rattle.std.proofs.Common.{◌≡◌, ◌≢◌, ◌∙◌, refl, sym, ap, subst, inl, inr, true, false, ℕ, List, Option, Some, None}
+use Rattle.std.proofs.Common.{◌≡◌, ◌≢◌, ◌∙◌, refl, sym, ap, subst, inl, inr, true, false, ℕ, List}
+use Rattle.std.proofs.Common.{Option, Some, None}
 use Rattle.std.proofs.Math.Path.{fun_ext}
 use Rattle.std.proofs.lemmas.Option.{same_Some}
 use Rattle.std.specs.Prelude.{IfSome, is_some, unwrap_or, option_map}
@@ -14,7 +15,8 @@ use Rattle.usb_table.specs.declared.pipes.Pipes.{Pipes}
 use Rattle.usb_table.specs.declared.pipes.Pipes.TheVariants.{Absent}
 use Rattle.usb_table.specs.Findings.{accepted_device_of}
 use Rattle.usb_table.specs.declared.entry.Entry.{Entry}
-use Rattle.usb_table.specs.Keys.{IsPiped, TableSlots, PathKeys, AddressKeys, key_of_path, under, entries_of, findings, pipings, table_of, AreIndexes, ArePiped}
+use Rattle.usb_table.specs.Keys.{IsPiped, TableSlots, PathKeys, AddressKeys, key_of_path, under}
+use Rattle.usb_table.specs.Keys.{entries_of, findings, pipings, table_of, AreIndexes, ArePiped}
 use Rattle.usb_table.specs.KnownPorts.{is_below_hub}
 use Rattle.usb_table.specs.Listing.{finding_at}
 use Rattle.usb_table.specs.Deliveries.{pipe_in, pipe_out}
@@ -27,20 +29,33 @@ use Rattle.usb_table.proofs.entries.Paths.{path_itself}
 
 -- What the pipes at a path are
 
-pipes_by : (standings : TableSlots) (path : List ℕ) (paths : PathKeys) (key : Option ℕ) → key_of_path paths path ≡ key → pipes_at path (table_of standings paths) ≡ unwrap_or (option_map (under Absent (pipings standings)) key) Absent
-pipes_by standings path paths key at = ap (λ o. unwrap_or o Absent) (values_by_path-lookup Absent (pipings standings) path paths ∙ ap (option_map (under Absent (pipings standings))) at)
+pipes_by : (standings : TableSlots) (path : List ℕ) (paths : PathKeys) (key : Option ℕ)
+    → key_of_path paths path ≡ key → pipes_at path (table_of standings paths)
+    ≡ unwrap_or (option_map (under Absent (pipings standings)) key) Absent
+pipes_by standings path paths key at =
+    ap (λ o. unwrap_or o Absent) (values_by_path-lookup Absent (pipings standings) path paths
+    ∙ ap (option_map (under Absent (pipings standings))) at)
 
-pub pipes_found : (standings : TableSlots) (path : List ℕ) (paths : PathKeys) (key : ℕ) (s : Entry) → key_of_path paths path ≡ Some key → standings key ≡ Some s → pipes_at path (table_of standings paths) ≡ s.pipes
-pipes_found standings path paths key s at stands = pipes_by standings path paths (Some key) at ∙ ap (λ o. unwrap_or (option_map (λ (t : Entry). t.pipes) o) Absent) stands
+pub pipes_found : (standings : TableSlots) (path : List ℕ) (paths : PathKeys) (key : ℕ) (s : Entry)
+    → key_of_path paths path ≡ Some key → standings key ≡ Some s
+    → pipes_at path (table_of standings paths) ≡ s.pipes
+pipes_found standings path paths key s at stands = pipes_by standings path paths (Some key) at
+    ∙ ap (λ o. unwrap_or (option_map (λ (t : Entry). t.pipes) o) Absent) stands
 
-pub pipes_none : (standings : TableSlots) (path : List ℕ) (paths : PathKeys) → key_of_path paths path ≡ None → pipes_at path (table_of standings paths) ≡ Absent
+pub pipes_none : (standings : TableSlots) (path : List ℕ) (paths : PathKeys)
+    → key_of_path paths path ≡ None → pipes_at path (table_of standings paths) ≡ Absent
 pipes_none standings path paths none = pipes_by standings path paths None none
 
 -- They are those to what was found there
 
-module _ (standings : TableSlots) (paths : PathKeys) (addresses : AddressKeys) (are : AreIndexes (findings standings) paths addresses) (piped : ArePiped standings paths) (path : List ℕ) where
-  fits_by : (finding : Finding) (key : ℕ) (o : Option Entry) → key_of_path paths path ≡ Some key → standings key ≡ o → unwrap_or (option_map (λ (s : Entry). s.finding) o) (Refused Silent) ≡ finding
-      → option_map (λ (s : Entry). s.finding) o ≢ None → ArePipesOf finding (is_below_hub path) (pipes_at path (table_of standings paths))
+module _ (standings : TableSlots) (paths : PathKeys) (addresses : AddressKeys)
+    (are : AreIndexes (findings standings) paths addresses) (piped : ArePiped standings paths)
+    (path : List ℕ) where
+  fits_by : (finding : Finding) (key : ℕ) (o : Option Entry) → key_of_path paths path ≡ Some key
+      → standings key ≡ o → unwrap_or (option_map (λ (s : Entry). s.finding) o) (Refused Silent)
+      ≡ finding
+      → option_map (λ (s : Entry). s.finding) o ≢ None
+      → ArePipesOf finding (is_below_hub path) (pipes_at path (table_of standings paths))
   fits_by finding key None at stands is some = absurd (some refl)
   fits_by finding key (Some s) at stands is some =
       subst (λ f. ArePipesOf f (is_below_hub path) (pipes_at path (table_of standings paths))) is
@@ -49,20 +64,28 @@ module _ (standings : TableSlots) (paths : PathKeys) (addresses : AddressKeys) (
   some_finding : (key : ℕ) → key_of_path paths path ≡ Some key → findings standings key ≢ None
   some_finding key at none = let s = are.stands path key at in absurd (cc (s, none))
 
-  fits_at : (finding : Finding) (key : Option ℕ) → key_of_path paths path ≡ key → option_map (under (Refused Silent) (findings standings)) key ≡ Some finding → ArePipesOf finding (is_below_hub path) (pipes_at path (table_of standings paths))
+  fits_at : (finding : Finding) (key : Option ℕ) → key_of_path paths path ≡ key
+      → option_map (under (Refused Silent) (findings standings)) key ≡ Some finding
+      → ArePipesOf finding (is_below_hub path) (pipes_at path (table_of standings paths))
   fits_at finding None at is = absurd cc
-  fits_at finding (Some key) at is = fits_by finding key (standings key) at refl (same_Some _ _ is) (some_finding key at)
+  fits_at finding (Some key) at is = fits_by finding key (standings key) at refl (same_Some _ _ is)
+      (some_finding key at)
 
-  none_at : (key : Option ℕ) → key_of_path paths path ≡ key → option_map (under (Refused Silent) (findings standings)) key ≡ None → pipes_at path (table_of standings paths) ≡ Absent
+  none_at : (key : Option ℕ) → key_of_path paths path ≡ key
+      → option_map (under (Refused Silent) (findings standings)) key ≡ None
+      → pipes_at path (table_of standings paths) ≡ Absent
   none_at None at is = pipes_none standings path paths at
   none_at (Some key) at is = absurd (cc is)
 
-  fits_found : (found : Option Finding) → option_map (under (Refused Silent) (findings standings)) (key_of_path paths path) ≡ found → ArePipesIf (accepted_device_of found) (is_below_hub path) (pipes_at path (table_of standings paths))
+  fits_found : (found : Option Finding) → option_map (under (Refused Silent) (findings standings))
+      (key_of_path paths path) ≡ found → ArePipesIf (accepted_device_of found) (is_below_hub path)
+      (pipes_at path (table_of standings paths))
   fits_found None is = none_at (key_of_path paths path) refl is
   fits_found (Some finding) is = fits_at finding (key_of_path paths path) refl is
 
   pub are_pipes_at : ArePipesAt path (table_of standings paths)
-  are_pipes_at = fits_found (finding_at path (table_of standings paths).entries) (sym (entries-lookup (findings standings) path paths))
+  are_pipes_at = fits_found (finding_at path (table_of standings paths).entries)
+      (sym (entries-lookup (findings standings) path paths))
 
 -- A call leaves other pipes at the path
 
@@ -99,17 +122,23 @@ module _ (R : Pipes → Pipes → Type 0) (path : List ℕ) (standings after : T
     | inr ne ↦ are.1 q k x h (sym (others k ne) ∙ stands)
   ]
 
-  other_key : (other : List ℕ) (k : ℕ) → is_at (path_cmp path) other ≡ false → key_of_path paths other ≡ Some k → k ≢ key
+  other_key : (other : List ℕ) (k : ℕ) → is_at (path_cmp path) other ≡ false
+      → key_of_path paths other ≡ Some k → k ≢ key
   other_key other k apart h e =
       let is : other ≡ path = are.0.once path other key at (h ∙ ap Some e) in
-      let yes : is_at (path_cmp path) other ≡ true = subst (λ (r : List ℕ). is_at (path_cmp path) r ≡ true) (sym is) (path_itself path) in
+      let yes : is_at (path_cmp path) other ≡ true =
+      subst (λ (r : List ℕ). is_at (path_cmp path) r ≡ true) (sym is) (path_itself path) in
       absurd (cc (yes, apart))
 
-  other_pipes : (other : List ℕ) → is_at (path_cmp path) other ≡ false → (k : Option ℕ) → key_of_path paths other ≡ k → pipes_at other (table_of after paths) ≡ pipes_at other (table_of standings paths)
-  other_pipes other apart None h = pipes_none after other paths h ∙ sym (pipes_none standings other paths h)
+  other_pipes : (other : List ℕ) → is_at (path_cmp path) other ≡ false → (k : Option ℕ)
+      → key_of_path paths other ≡ k → pipes_at other (table_of after paths)
+      ≡ pipes_at other (table_of standings paths)
+  other_pipes other apart None h = pipes_none after other paths h
+      ∙ sym (pipes_none standings other paths h)
   other_pipes other apart (Some k) h =
       pipes_by after other paths (Some k) h
-      ∙ ap (λ o. unwrap_or (option_map (λ (x : Entry). x.pipes) o) Absent) (others k (other_key other k apart h))
+      ∙ ap (λ o. unwrap_or (option_map (λ (x : Entry). x.pipes) o) Absent)
+      (others k (other_key other k apart h))
       ∙ sym (pipes_by standings other paths (Some k) h)
 
   through : CallThrough R path standings after paths addresses

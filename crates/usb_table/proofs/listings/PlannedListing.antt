@@ -10,11 +10,16 @@ use Rattle.usb_table.specs.Entries.{Entries}
 use Rattle.usb_table.specs.Listing.{SpecTree, tree_after, tree_in, Lists, Matches}
 
 -- trees that are the same path by path have the same listings
-lists_moved : (m n : ℕ) (a b : SpecTree) (entries : Entries) → m ≡ n → ((path : List ℕ) → a path ≡ b path) → Lists m a entries → Lists n b entries
-lists_moved m n a b entries e same x = subst (λ k. Lists k b entries) e (subst (λ (t : SpecTree). Lists m t entries) (λ i path. same path i) x)
+lists_moved : (m n : ℕ) (a b : SpecTree) (entries : Entries) → m ≡ n
+    → ((path : List ℕ) → a path ≡ b path) → Lists m a entries → Lists n b entries
+lists_moved m n a b entries e same x =
+    subst (λ k. Lists k b entries) e (subst (λ (t : SpecTree). Lists m t entries)
+    (λ i path. same path i) x)
 
-pub lists_of_plan : (plan : PlanData) → IsPlan plan → AtPorts plan.events → (w : World) → Course AnyStep (opening plan) w → (entries : Entries) → Matches w entries
+pub lists_of_plan : (plan : PlanData) → IsPlan plan → AtPorts plan.events → (w : World)
+    → Course AnyStep (opening plan) w → (entries : Entries) → Matches w entries
     → Lists plan.roots (tree_after plan w.taken) entries
 lists_of_plan plan is paths w c entries m =
     let number : roots_of w ≡ plan.roots = (course_later c).roots ∙ new_long plan.roots in
-    lists_moved (roots_of w) plan.roots (tree_in w) (tree_after plan w.taken) entries number (devices_left plan is paths w c) m.lists
+    lists_moved (roots_of w) plan.roots (tree_in w) (tree_after plan w.taken) entries number
+    (devices_left plan is paths w c) m.lists

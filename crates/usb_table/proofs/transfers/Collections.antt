@@ -1,5 +1,6 @@
 -- Bytes that are received through the pipes at a path are given by the device there.
-use Rattle.std.proofs.Common.{◌≡◌, ◌≢◌, refl, sym, ap, subst, Bool, true, false, ℕ, ◌+◌, ◌==◌, ◌≤◌, List, [], Option, None, Some, Result, Ok, Err}
+use Rattle.std.proofs.Common.{◌≡◌, ◌≢◌, refl, sym, ap, subst, Bool, true, false, ℕ, ◌+◌, ◌==◌, ◌≤◌}
+use Rattle.std.proofs.Common.{List, [], Option, None, Some, Result, Ok, Err}
 use Rattle.std.specs.Global.{Vec}
 use Rattle.std.specs.Prelude.{is_ok, is_some}
 use Rattle.usb_device.specs.Rows.{State}
@@ -23,10 +24,13 @@ use Rattle.usb_table.specs.Levels.{PipesInSync, FitsIn, IsHeld, InSyncAt}
 use Rattle.usb_table.specs.Table.{Table, pipes_at, ArePipesAt}
 use Rattle.usb_table.specs.Transfers.{PipesReceived, ReceivedThrough, endpoint_answer}
 use Rattle.usb_table.proofs.levels.MovedPipes.{known_left}
-use Rattle.usb_table.proofs.transfers.PathTransfers.{PathReaches, answers_there, changes_there, done_through, levels_there, none_changes, not_bus}
+use Rattle.usb_table.proofs.transfers.PathTransfers.{PathReaches, answers_there, changes_there}
+use Rattle.usb_table.proofs.transfers.PathTransfers.{done_through, levels_there, none_changes}
+use Rattle.usb_table.proofs.transfers.PathTransfers.{not_bus}
 use Rattle.usb_table.proofs.ThroughPipes.{through_pipes}
 
-bytes_through : (answer : Result (Vec ℕ) PipeFault) (result : Result (Vec ℕ) EndpointFault) → result ≡ endpoint_answer answer → bytes_in answer ≡ bytes_in result
+bytes_through : (answer : Result (Vec ℕ) PipeFault) (result : Result (Vec ℕ) EndpointFault)
+    → result ≡ endpoint_answer answer → bytes_in answer ≡ bytes_in result
 bytes_through (Ok x) result e = sym (ap bytes_in e)
 bytes_through (Err why) result e = sym (ap bytes_in e)
 
@@ -36,30 +40,61 @@ module _ (path : List ℕ) (packets : ℕ) (old new : Table) (before after : Wor
     gave : TransfersAt path done (GaveBy bytes pipe left) old before after
     there : done ≡ true → packets ≢ 0 → reach after.roots path ≡ true
 
-  not_asked : (result : Result (Vec ℕ) EndpointFault) (left : Option Bulk) (fault : EndpointFault) → result ≡ Err fault → after ≡ before → Gives (is_ok result) (bytes_in result) None left
+  not_asked : (result : Result (Vec ℕ) EndpointFault) (left : Option Bulk) (fault : EndpointFault)
+      → result ≡ Err fault → after ≡ before → Gives (is_ok result) (bytes_in result) None left
   not_asked result left fault e same =
       subst (λ (r : Result (Vec ℕ) EndpointFault). Gives (is_ok r) (bytes_in r) None left) (sym e)
       (record {
-        gave = record { each = none_changes path (GaveBy [] None left) before after same (λ s on there. (refl, refl)); known = λ done. absurd (cc done) };
+        gave = record {
+          each = none_changes path (GaveBy [] None left) before after same
+              (λ s on there. (refl, refl));
+          known = λ done. absurd (cc done);
+        };
         there = λ done some. absurd (cc done);
       })
 
-  module _ (held : IsHeld old before) (single : after.shared ≡ false) (device : Accepted) (found : accepted_device_at path old.entries ≡ Some device) where
-    module _ (pipe : Bulk) (is : pipe.target.addr ≡ device.address) (least : 1 ≤ pipe.max) (fits : PathReaches path before (FitsIn (Some pipe))) where
-      given : (answer : Result (Vec ℕ) PipeFault) (left : Bulk) → pipe_known answer left ≡ left → (s : State) → FitsIn (Some pipe) s → (j : Location) (v : State) → ReceiveLeaves pipe answer left j s v → (address_of s == pipe.target.addr) ≡ true
+  module _ (held : IsHeld old before) (single : after.shared ≡ false) (device : Accepted)
+      (found : accepted_device_at path old.entries ≡ Some device) where
+    module _ (pipe : Bulk) (is : pipe.target.addr ≡ device.address) (least : 1 ≤ pipe.max)
+        (fits : PathReaches path before (FitsIn (Some pipe))) where
+      given : (answer : Result (Vec ℕ) PipeFault) (left : Bulk) → pipe_known answer left ≡ left
+          → (s : State) → FitsIn (Some pipe) s → (j : Location) (v : State)
+          → ReceiveLeaves pipe answer left j s v → (address_of s == pipe.target.addr) ≡ true
           → GaveBytes (bytes_in answer) pipe left s v
-      given (Ok bytes) left known s fit j v x at = record { had = fit; next = λ got f. x.done at got f bytes refl; has = λ got f. x.fits at got f; rest = x.frame fit.1.endpoint }
-      given (Err why) left known s fit j v x at = record { had = fit; next = λ got f. refl; has = λ got f. subst (λ (l : Bulk). InPipeInSync l (got + 0) v) known (x.fits at got f); rest = x.frame fit.1.endpoint }
+      given (Ok bytes) left known s fit j v x at =
+          record {
+            had = fit;
+            next = λ got f. x.done at got f bytes refl;
+            has =
+                λ got f. x.fits at got f;
+            rest = x.frame fit.1.endpoint;
+          }
+      given (Err why) left known s fit j v x at = record {
+        had = fit;
+        next = λ got f. refl;
+        has =
+            λ got f. subst (λ (l : Bulk). InPipeInSync l (got + 0) v) known (x.fits at got f);
+        rest = x.frame fit.1.endpoint;
+      }
 
-      reached : (answer : Result (Vec ℕ) PipeFault) (left : Bulk) → Receives packets pipe before answer left after → is_ok answer ≡ true → packets ≢ 0 → reach after.roots path ≡ true
-      reached (Ok bytes) left receives done some = answers_there path old before held device found pipe.target.addr is pipe.target after refl (who_receives packets pipe bytes left before after some receives single)
+      reached : (answer : Result (Vec ℕ) PipeFault) (left : Bulk)
+          → Receives packets pipe before answer left after → is_ok answer ≡ true → packets ≢ 0
+          → reach after.roots path ≡ true
+      reached (Ok bytes) left receives done some =
+          answers_there path old before held device found pipe.target.addr is pipe.target after refl
+          (who_receives packets pipe bytes left before after some receives single)
       reached (Err why) left receives done some = absurd (cc done)
 
-      through : (answer : Result (Vec ℕ) PipeFault) (left : Bulk) → pipe_known answer left ≡ left → Receives packets pipe before answer left after → Gives (is_ok answer) (bytes_in answer) (Some pipe) (Some left)
+      through : (answer : Result (Vec ℕ) PipeFault) (left : Bulk) → pipe_known answer left ≡ left
+          → Receives packets pipe before answer left after
+          → Gives (is_ok answer) (bytes_in answer) (Some pipe) (Some left)
       through answer left known receives = record {
         gave = record {
-          each = changes_there path old before held device found pipe.target.addr is (ReceiveLeaves pipe answer left) (GaveBytes (bytes_in answer) pipe left) after (λ j s v x. x.others)
-              (λ s on there. given answer left known s (fits s on there)) (receive_leaves packets pipe answer left before after least receives single);
+          each = changes_there path old before held device found pipe.target.addr is
+              (ReceiveLeaves pipe answer left) (GaveBytes (bytes_in answer) pipe left) after
+              (λ j s v x. x.others)
+              (λ s on there. given answer left known s (fits s on there))
+              (receive_leaves packets pipe answer left before after least receives single);
           known = λ done. ap is_some found;
         };
         there = reached answer left receives;

@@ -1,5 +1,6 @@
 -- Bytes that are sent through the pipes at a path are taken by the device there.
-use Rattle.std.proofs.Common.{◌≡◌, ◌≢◌, refl, sym, ap, subst, Bool, true, false, ℕ, ◌==◌, append-nil, List, [], Some, Result, Ok, Err}
+use Rattle.std.proofs.Common.{◌≡◌, ◌≢◌, refl, sym, ap, subst, Bool, true, false, ℕ, ◌==◌}
+use Rattle.std.proofs.Common.{append-nil, List, [], Some, Result, Ok, Err}
 use Rattle.std.specs.Prelude.{is_ok, is_some}
 use Rattle.usb_device.specs.Rows.{State}
 use Rattle.usb_device.specs.Tree.{reach, Location}
@@ -18,36 +19,73 @@ use Rattle.usb_table.specs.KnownPorts.{is_below_hub}
 use Rattle.usb_table.specs.Levels.{PipesInSync, IsHeld, InSyncAt}
 use Rattle.usb_table.specs.Table.{Table, pipes_at, ArePipesAt}
 use Rattle.usb_table.specs.Transfers.{PipesSent, SentThrough}
-use Rattle.usb_table.proofs.transfers.PathTransfers.{PathReaches, answers_there, changes_there, done_through, levels_there, none_changes}
+use Rattle.usb_table.proofs.transfers.PathTransfers.{PathReaches, answers_there, changes_there}
+use Rattle.usb_table.proofs.transfers.PathTransfers.{done_through, levels_there, none_changes}
 use Rattle.usb_table.proofs.ThroughPipes.{through_pipes}
 
 module _ (path bytes : List ℕ) (old new : Table) (before after : World) where
   none_taken : (s : State) → TookBytes false bytes s s
-  none_taken s = record { joins = record { front = []; rest = bytes; split = refl; sink = sym (append-nil s.sink) }; rest = refl }
+  none_taken s = record {
+    joins = record {
+      front = [];
+      rest = bytes;
+      split = refl;
+      sink =
+          sym (append-nil s.sink);
+    };
+    rest = refl;
+  }
 
-  not_sent : (result : Result (Unit {0}) EndpointFault) (fault : EndpointFault) → result ≡ Err fault → after ≡ before → Delivered path (is_ok result) bytes old before new after
+  not_sent : (result : Result (Unit {0}) EndpointFault) (fault : EndpointFault) → result ≡ Err fault
+      → after ≡ before → Delivered path (is_ok result) bytes old before new after
   not_sent result fault e same =
       subst (λ (b : Bool). Delivered path b bytes old before new after) (sym (ap is_ok e))
       (record {
-        took = record { each = none_changes path (TookBytes false bytes) before after same (λ s on there. none_taken s); known = λ done. absurd (cc done) };
+        took = record {
+          each = none_changes path (TookBytes false bytes) before after same
+              (λ s on there. none_taken s);
+          known = λ done. absurd (cc done);
+        };
         there = λ done some. absurd (cc done);
       })
 
-  module _ (held : IsHeld old before) (single : after.shared ≡ false) (device : Accepted) (found : accepted_device_at path old.entries ≡ Some device) where
-    module _ (pipe : Bulk) (is : pipe.target.addr ≡ device.address) (fits : PathReaches path before (OutPipeInSync pipe)) where
-      taken : (answer : Result (Unit {0}) PipeFault) (left : Bulk) (s : State) → OutPipeInSync pipe s → (j : Location) (v : State) → SendLeaves bytes pipe answer left j s v → (address_of s == pipe.target.addr) ≡ true → TookBytes (is_ok answer) bytes s v
-      taken (Ok u) left s fit j v x at = record { joins = x.done at fit u refl; rest = x.frame fit.endpoint }
-      taken (Err why) left s fit j v x at = record { joins = x.failed at fit why refl; rest = x.frame fit.endpoint }
+  module _ (held : IsHeld old before) (single : after.shared ≡ false) (device : Accepted)
+      (found : accepted_device_at path old.entries ≡ Some device) where
+    module _ (pipe : Bulk) (is : pipe.target.addr ≡ device.address)
+        (fits : PathReaches path before (OutPipeInSync pipe)) where
+      taken : (answer : Result (Unit {0}) PipeFault) (left : Bulk) (s : State)
+          → OutPipeInSync pipe s → (j : Location) (v : State)
+          → SendLeaves bytes pipe answer left j s v → (address_of s == pipe.target.addr) ≡ true
+          → TookBytes (is_ok answer) bytes s v
+      taken (Ok u) left s fit j v x at = record {
+        joins = x.done at fit u refl;
+        rest =
+            x.frame fit.endpoint;
+      }
+      taken (Err why) left s fit j v x at = record {
+        joins = x.failed at fit why refl;
+        rest =
+            x.frame fit.endpoint;
+      }
 
-      reached : (answer : Result (Unit {0}) PipeFault) (left : Bulk) → Sends bytes pipe before answer left after → is_ok answer ≡ true → bytes ≢ [] → reach after.roots path ≡ true
-      reached (Ok u) left sends done some = answers_there path old before held device found pipe.target.addr is pipe.target after refl (who_sends bytes pipe u left before after some sends single)
+      reached : (answer : Result (Unit {0}) PipeFault) (left : Bulk)
+          → Sends bytes pipe before answer left after → is_ok answer ≡ true → bytes ≢ []
+          → reach after.roots path ≡ true
+      reached (Ok u) left sends done some = answers_there path old before held device found
+          pipe.target.addr is pipe.target after refl
+          (who_sends bytes pipe u left before after some sends single)
       reached (Err why) left sends done some = absurd (cc done)
 
-      through : (answer : Result (Unit {0}) PipeFault) (left : Bulk) → Sends bytes pipe before answer left after → Delivered path (is_ok answer) bytes old before new after
+      through : (answer : Result (Unit {0}) PipeFault) (left : Bulk)
+          → Sends bytes pipe before answer left after
+          → Delivered path (is_ok answer) bytes old before new after
       through answer left sends = record {
         took = record {
-          each = changes_there path old before held device found pipe.target.addr is (SendLeaves bytes pipe answer left) (TookBytes (is_ok answer) bytes) after (λ j s v x. x.others)
-              (λ s on there. taken answer left s (fits s on there)) (send_leaves bytes pipe answer left before after sends single);
+          each = changes_there path old before held device found pipe.target.addr is
+              (SendLeaves bytes pipe answer left) (TookBytes (is_ok answer) bytes) after
+              (λ j s v x. x.others)
+              (λ s on there. taken answer left s (fits s on there))
+              (send_leaves bytes pipe answer left before after sends single);
           known = λ done. ap is_some found;
         };
         there = reached answer left sends;

@@ -1,5 +1,7 @@
--- Transfers through pipes leave each device with its description and registers, ask nothing of ports, and add nothing to what is left to do.
-use Rattle.std.proofs.Common.{◌≡◌, ◌≢◌, ◌⊎◌, inl, inr, ℕ, ◌==◌, true, false, List, Option, None, Some, Result, Ok, Err, refl, ap, sym, subst, ◌∙◌}
+-- Transfers through pipes leave each device with its description and registers, ask nothing of
+-- ports, and add nothing to what is left to do.
+use Rattle.std.proofs.Common.{◌≡◌, ◌≢◌, ◌⊎◌, inl, inr, ℕ, ◌==◌, true, false, List, Option, None}
+use Rattle.std.proofs.Common.{Some, Result, Ok, Err, refl, ap, sym, subst, ◌∙◌}
 use Rattle.std.specs.Global.{Vec}
 use Rattle.arrayvec.specs.ArrayVec.{ArrayVec}
 use Rattle.usb_packet.specs.declared.Toggle.{Toggle}
@@ -14,7 +16,9 @@ use Rattle.usb_device.specs.declared.bulk.ServedEndpoint.TheVariants.{BulkOut, B
 use Rattle.usb_device.specs.declared.bulk.EndpointState.{EndpointState}
 use Rattle.usb_device.specs.Bulk.{rested}
 use Rattle.usb_device.specs.Progress.{OnlyControl}
-use Rattle.usb_device.specs.Request.{Is, Outcome, stalled, answers, takes_address, takes_configuration, halts, unhalts, tells_port, calls_port, on_endpoint, outcome}
+use Rattle.usb_device.specs.Request.{Is, Outcome, stalled, answers, takes_address}
+use Rattle.usb_device.specs.Request.{takes_configuration, halts, unhalts, tells_port, calls_port}
+use Rattle.usb_device.specs.Request.{on_endpoint, outcome}
 use Rattle.usb_device.specs.Rows.{State, with_endpoint_state, begun, accepted}
 use Rattle.usb_device.specs.Spec.{Spec}
 use Rattle.usb_device.specs.declared.request.Registers.{Registers}
@@ -28,12 +32,17 @@ use Rattle.usb_world.specs.OneHolder.{IsMade, IsIn, IsOut}
 use Rattle.usb_tree.specs.AttemptPackets.{IsSettled}
 use Rattle.usb_world.specs.PortRequests.{asks_no_port}
 use Rattle.usb_world.specs.RestingPorts.{LeavesPortAlone}
-use Rattle.usb_world.specs.Steps.{Step, attempt, root_call, event, report, after, at_attempt, with_attempt, Course, here, step}
+use Rattle.usb_world.specs.Steps.{Step, attempt, root_call, event, report, after, at_attempt}
+use Rattle.usb_world.specs.Steps.{with_attempt, Course, here, step}
 use Rattle.usb_world.specs.World.{World, Failed}
-use Rattle.usb_world.proofs.Interface.{AttemptCut, MadeOrNot, attempt_cases, cut_or_same, data_asks_nothing, each_in, each_joined, each_none, each_out, each_wider, made_here, made_is, made_whole, ready_shared, settled_after, settled_course, settled_wider, unmade}
+use Rattle.usb_world.proofs.Interface.{AttemptCut, MadeOrNot, attempt_cases, cut_or_same}
+use Rattle.usb_world.proofs.Interface.{data_asks_nothing, each_in, each_joined, each_none, each_out}
+use Rattle.usb_world.proofs.Interface.{each_wider, made_here, made_is, made_whole, ready_shared}
+use Rattle.usb_world.proofs.Interface.{settled_after, settled_course, settled_wider, unmade}
 use Rattle.usb_tree.proofs.Interface.{neither, unequal}
 use Rattle.usb_backlog.specs.Marks.{Few, KeepsAll, PortMark}
-use Rattle.usb_backlog.proofs.Interface.{KeepsStep, all_none, data_allows, keeps-attempt, keeps-chain}
+use Rattle.usb_backlog.proofs.Interface.{KeepsStep, all_none, data_allows, keeps-attempt}
+use Rattle.usb_backlog.proofs.Interface.{keeps-chain}
 use Rattle.usb_transaction.specs.Attempts.{IsOnly, GivenUp}
 use Rattle.usb_transaction.specs.HeardOutcomes.{heard_as, set_up_as}
 use Rattle.usb_transaction.specs.Transactions.{in_attempt, setup_attempt}
@@ -49,14 +58,18 @@ use Rattle.usb_pipe.specs.Interrupt.{Interrupt, Polls}
 use Rattle.usb_pipe.specs.Moves.{SendsAt}
 use Rattle.usb_pipe.specs.Leaves.{WriteLeaves}
 use Rattle.usb_pipe.specs.Stages.{Writes}
-use Rattle.usb_pipe.proofs.Interface.{given_registers, harmless, poll_attempts, receive_attempts, send_attempts}
+use Rattle.usb_pipe.proofs.Interface.{given_registers, harmless, poll_attempts, receive_attempts}
+use Rattle.usb_pipe.proofs.Interface.{send_attempts}
 use Rattle.usb_address.specs.Ownership.{KeepsAddresses}
-use Rattle.usb_address.proofs.Interface.{Ran, clears_keep, in_kept, keeps_none, out_kept, polls_keep, receives_keep, sends_keep}
+use Rattle.usb_address.proofs.Interface.{Ran, clears_keep, in_kept, keeps_none, out_kept}
+use Rattle.usb_address.proofs.Interface.{polls_keep, receives_keep, sends_keep}
 use Rattle.usb_hub.specs.Requests.{TouchesNoPort, Commanded}
-use Rattle.usb_hub.proofs.Interface.{each_leaves, order_elsewhere, write_backlog, write_rests, write_so}
+use Rattle.usb_hub.proofs.Interface.{each_leaves, order_elsewhere, write_backlog, write_rests}
+use Rattle.usb_hub.proofs.Interface.{write_so}
 use Rattle.usb_enum.proofs.Interface.{ends_without_fault}
 use Rattle.usb_table.specs.Transfers.{SameSettings, KeepsSettings, OnlyTransfers}
-use Rattle.usb_table.proofs.levels.KeptPipes.{broken_or_not, ready_or_not, empty_or_not, none_or_some}
+use Rattle.usb_table.proofs.levels.KeptPipes.{broken_or_not, ready_or_not, empty_or_not}
+use Rattle.usb_table.proofs.levels.KeptPipes.{none_or_some}
 
 -- Each device over such an attempt
 
@@ -75,42 +88,59 @@ as_it_was : (s v : State) → v ≡ s → Ran s v
 as_it_was s v e = (ap (λ x. x.spec) e, ap (λ x. x.registers) e, ap (λ x. x.changes.halted) e)
 
 ran_same : (s u v : State) → v ≡ u → Ran s u → Ran s v
-ran_same s u v e h = (ap (λ x. x.spec) e ∙ h.0, ap (λ x. x.registers) e ∙ h.1, ap (λ x. x.changes.halted) e ∙ h.2)
+ran_same s u v e h = (
+  ap (λ x. x.spec) e ∙ h.0,
+  ap (λ x. x.registers) e
+      ∙ h.1,
+  ap (λ x. x.changes.halted) e ∙ h.2,
+)
 
-did_in : (a : Attempt) (w : World) (j : Location) (s v : State) → (a.ep == 0) ≡ false → DidIn a w j s v → RanAs j s v
+did_in : (a : Attempt) (w : World) (j : Location) (s v : State) → (a.ep == 0) ≡ false
+    → DidIn a w j s v → RanAs j s v
 did_in a w j s v far (DidIn.other d e) = as_it_was s v e
 did_in a w j s v far (DidIn.silent at y o e) = as_it_was s v e
-did_in a w j s v far (DidIn.asked at y b below h x o e) = ran_same s _ v e (in_kept s _ a.ep a.max x.first x.second x.third far)
+did_in a w j s v far (DidIn.asked at y b below h x o e) =
+    ran_same s _ v e (in_kept s _ a.ep a.max x.first x.second x.third far)
 
-did_out : (a : Attempt) (t : Toggle) (bytes : List ℕ) (w : World) (j : Location) (s v : State) → (a.ep == 0) ≡ false → DidOut a t bytes w j s v → RanAs j s v
+did_out : (a : Attempt) (t : Toggle) (bytes : List ℕ) (w : World) (j : Location) (s v : State)
+    → (a.ep == 0) ≡ false → DidOut a t bytes w j s v → RanAs j s v
 did_out a t bytes w j s v far (DidOut.other d e) = as_it_was s v e
 did_out a t bytes w j s v far (DidOut.silent at y o e) = as_it_was s v e
-did_out a t bytes w j s v far (DidOut.asked at y x o e) = ran_same s _ v e (out_kept s a.ep t bytes x.first x.second x.third far)
+did_out a t bytes w j s v far (DidOut.asked at y x o e) =
+    ran_same s _ v e (out_kept s a.ep t bytes x.first x.second x.third far)
 
-each_far : (a : Attempt) (w : World) → IsBulkAttempt a → IsMade a w → (after (attempt a) w).shared ≡ false → EachWas RanAs w (after (attempt a) w)
-each_far a w (into i far) m single = each_wider (DidIn a w) RanAs (λ j s v. did_in a w j s v far) w (after (attempt a) w) (each_in a w m i single)
-each_far a w (out t bytes i far) m single = each_wider (DidOut a t bytes w) RanAs (λ j s v. did_out a t bytes w j s v far) w (after (attempt a) w) (each_out a w t bytes m i single)
+each_far : (a : Attempt) (w : World) → IsBulkAttempt a → IsMade a w → (after (attempt a) w).shared
+    ≡ false → EachWas RanAs w (after (attempt a) w)
+each_far a w (into i far) m single = each_wider (DidIn a w) RanAs (λ j s v. did_in a w j s v far) w
+    (after (attempt a) w) (each_in a w m i single)
+each_far a w (out t bytes i far) m single =
+    each_wider (DidOut a t bytes w) RanAs (λ j s v. did_out a t bytes w j s v far) w
+    (after (attempt a) w) (each_out a w t bytes m i single)
 
 each_itself : (w : World) → EachWas RanAs w w
 each_itself w = each_none RanAs (λ j s. (refl, refl, refl)) w
 
 each_ran_then : (u w v : World) → EachWas RanAs u w → EachWas RanAs w v → EachWas RanAs u v
-each_ran_then u w v x y = each_joined RanAs RanAs RanAs (λ j s t v h k. (k.0 ∙ h.0, k.1 ∙ h.1, k.2 ∙ h.2)) u w v x y
+each_ran_then u w v x y = each_joined RanAs RanAs RanAs
+    (λ j s t v h k. (k.0 ∙ h.0, k.1 ∙ h.1, k.2 ∙ h.2)) u w v x y
 
 each_ran_at : (u w v : World) → w.roots ≡ v.roots → EachWas RanAs u w → EachWas RanAs u v
-each_ran_at u w v e x j s on there = x j s (ap (λ k. reach_on k j) e ∙ on) (ap (λ k. state_on k j) e ∙ there)
+each_ran_at u w v e x j s on there = x j s (ap (λ k. reach_on k j) e ∙ on) (ap (λ k. state_on k j) e
+    ∙ there)
 
 -- no address was held twice before, and each device stays
 record Stayed (w v : World) : Type 0 where
   before : w.shared ≡ false
   each : EachWas RanAs w v
 
-made_single : (a : Attempt) (w : World) → IsMade a w → (after (attempt a) w).shared ≡ false → w.shared ≡ false
+made_single : (a : Attempt) (w : World) → IsMade a w → (after (attempt a) w).shared ≡ false
+    → w.shared ≡ false
 unfolding with_attempt
 made_single a w m single =
     sym (ready_shared w) ∙ (neither _ _ (sym (ap (λ x. x.shared) (made_is a w m)) ∙ single)).0
 
-step_stays : (a : Attempt) (w : World) → IsBulkAttempt a → IsSettled w.roots → (after (attempt a) w).shared ≡ false → Stayed w (after (attempt a) w)
+step_stays : (a : Attempt) (w : World) → IsBulkAttempt a → IsSettled w.roots
+    → (after (attempt a) w).shared ≡ false → Stayed w (after (attempt a) w)
 step_stays a w far settled single = pick (attempt_cases a w)
   where
     pick : MadeOrNot a w (after (attempt a) w) → Stayed w (after (attempt a) w)
@@ -136,20 +166,24 @@ IsFarStep (root_call c n) = ⊥
 IsFarStep event = ⊥
 IsFarStep (report line) = ⊥
 
-any_stays : (s : Step) (w : World) → IsFarStep s → IsSettled w.roots → (after s w).shared ≡ false → Stayed w (after s w)
+any_stays : (s : Step) (w : World) → IsFarStep s → IsSettled w.roots → (after s w).shared ≡ false
+    → Stayed w (after s w)
 any_stays (attempt a) w far settled single = step_stays a w far settled single
 any_stays (root_call c n) w far settled single = absurd far
 any_stays event w far settled single = absurd far
 any_stays (report line) w far settled single = absurd far
 
-any_rests : (s : Step) (w : World) (x : List ℕ) → IsFarStep s → IsSettled w.roots → LeavesPortAlone x s w
+any_rests : (s : Step) (w : World) (x : List ℕ) → IsFarStep s → IsSettled w.roots
+    → LeavesPortAlone x s w
 any_rests (attempt a) w x far settled = data_asks_nothing a w x (far_kind a far) settled
 any_rests (root_call c n) w x far settled = absurd far
 any_rests event w x far settled = absurd far
 any_rests (report line) w x far settled = absurd far
 
-any_keeps : (m v r : PortMark) (few : Few v r) (s : Step) (w : World) → IsFarStep s → IsSettled w.roots → KeepsStep m v r few s w
-any_keeps m v r few (attempt a) w far settled = λ ports. keeps-attempt m v r few a w ports (data_allows m r a w (far_kind a far) settled)
+any_keeps : (m v r : PortMark) (few : Few v r) (s : Step) (w : World) → IsFarStep s
+    → IsSettled w.roots → KeepsStep m v r few s w
+any_keeps m v r few (attempt a) w far settled =
+    λ ports. keeps-attempt m v r few a w ports (data_allows m r a w (far_kind a far) settled)
 any_keeps m v r few (root_call c n) w far settled = absurd far
 any_keeps m v r few event w far settled = absurd far
 any_keeps m v r few (report line) w far settled = absurd far
@@ -162,7 +196,8 @@ module _ (K : Step → World → Type 0) (far : (s : Step) (w : World) → K s w
       let first = any_stays s w (far s w k) settled rest.before in
       record { before = first.before; each = each_ran_then w (after s w) v first.each rest.each }
 
-  course_rests : (x : List ℕ) {w v : World} → Course K w v → IsSettled w.roots → Course (LeavesPortAlone x) w v
+  course_rests : (x : List ℕ) {w v : World} → Course K w v → IsSettled w.roots
+      → Course (LeavesPortAlone x) w v
   course_rests x c = settled_wider (λ s w k. any_rests s w x (far s w k)) c
 
   course_backlog : {w v : World} → Course K w v → IsSettled w.roots → KeepsAll w v
@@ -172,7 +207,8 @@ module _ (K : Step → World → Type 0) (far : (s : Step) (w : World) → K s w
         (settled_wider (λ s w k. any_keeps m v r few s w (far s w k)) c settled);
   }
 
-  cut_stays : (old : World) (fault : BusFault) (new : World) → GivenUp K old fault new → IsSettled old.roots → new.shared ≡ false → EachWas RanAs old new
+  cut_stays : (old : World) (fault : BusFault) (new : World) → GivenUp K old fault new
+      → IsSettled old.roots → new.shared ≡ false → EachWas RanAs old new
   cut_stays old fault new g settled single =
       pick
       (cut_or_same g.last g.mid fault new g.fits (settled_course g.course settled) g.refused g.fails
@@ -180,9 +216,12 @@ module _ (K : Step → World → Type 0) (far : (s : Step) (w : World) → K s w
     where
       pick : AttemptCut g.last g.mid new → EachWas RanAs old new
       pick (unmade h each) =
-          each_ran_then old g.mid new (course_stays g.course settled h).each (each_wider (λ j s x. x ≡ s) RanAs (λ j s v e. as_it_was s v e) g.mid new each)
+          each_ran_then old g.mid new (course_stays g.course settled h).each
+          (each_wider (λ j s x. x ≡ s) RanAs (λ j s v e. as_it_was s v e) g.mid new each)
       pick (made_whole h m u r) =
-          each_ran_then old g.mid new (course_stays g.course settled h).each (each_ran_at g.mid (after (attempt g.last) g.mid) new r (each_far g.last g.mid (far (attempt g.last) g.mid g.is) m u))
+          each_ran_then old g.mid new (course_stays g.course settled h).each
+          (each_ran_at g.mid (after (attempt g.last) g.mid) new r
+          (each_far g.last g.mid (far (attempt g.last) g.mid g.is) m u))
 
   -- they ran to their end, or the bus gave up
   attempts_cases : {A : Type 0} (old : World) (result : Result A PipeFault) (new : World)
@@ -216,11 +255,16 @@ module _ (K : Step → World → Type 0) (far : (s : Step) (w : World) → K s w
 far_number : (ep : ℕ) → ep ≢ 0 → (ep == 0) ≡ false
 far_number ep far = unequal ep 0 far
 
-only_far : (t : Target) (ep : ℕ) → ep ≢ 0 → (s : Step) (w : World) → IsOnly (in_attempt t ep) s w → IsFarStep s
-only_far t ep far s w e = subst IsFarStep (sym e) (into (record { kind = refl; payload = refl }) (far_number ep far))
+only_far : (t : Target) (ep : ℕ) → ep ≢ 0 → (s : Step) (w : World) → IsOnly (in_attempt t ep) s w
+    → IsFarStep s
+only_far t ep far s w e = subst IsFarStep (sym e)
+    (into (record { kind = refl; payload = refl }) (far_number ep far))
 
-sends_far : (t : Target) (ep : ℕ) (first : Toggle) (bytes : List ℕ) (old : World) → ep ≢ 0 → (s : Step) (w : World) → SendsAt t ep first bytes old s w → IsFarStep s
-sends_far t ep first bytes old far s w x = subst IsFarStep (sym x.is) (out _ _ (record { kind = refl; payload = refl }) (far_number ep far))
+sends_far : (t : Target) (ep : ℕ) (first : Toggle) (bytes : List ℕ) (old : World) → ep ≢ 0
+    → (s : Step) (w : World) → SendsAt t ep first bytes old s w → IsFarStep s
+sends_far t ep first bytes old far s w x =
+    subst IsFarStep (sym x.is) (out _ _ (record { kind = refl; payload = refl })
+    (far_number ep far))
 
 spared_none : (w : World) → Spared w w
 spared_none w = record {
@@ -339,26 +383,32 @@ of_endpoint : (which : Option ServedEndpoint) → IsOfEndpoint (on_endpoint unha
 of_endpoint None = tt
 of_endpoint (Some which) = tt
 
-clear_outcome : (endpoint : ℕ) (spec : Spec) (g : Registers) → IsOfEndpoint (outcome spec g (clear_endpoint_halt endpoint))
+clear_outcome : (endpoint : ℕ) (spec : Spec) (g : Registers)
+    → IsOfEndpoint (outcome spec g (clear_endpoint_halt endpoint))
 unfolding clear_endpoint_halt outcome
 clear_outcome endpoint spec g = of_endpoint _
 
-pipe_spec : (s : State) (which : ServedEndpoint) (pipe : EndpointState) → (with_endpoint_state s which pipe).spec ≡ s.spec
+pipe_spec : (s : State) (which : ServedEndpoint) (pipe : EndpointState)
+    → (with_endpoint_state s which pipe).spec ≡ s.spec
 pipe_spec s BulkOut pipe = refl
 pipe_spec s BulkIn pipe = refl
 pipe_spec s Changes pipe = refl
 
-endpoint_begun_stays : (s v : State) (row : List PortState) (n : ℕ) (o : Outcome) → IsOfEndpoint o → OnlyControl (begun s row n o) v → v.registers ≡ (begun s row n o).registers → (v.spec ≡ s.spec) × (v.registers ≡ s.registers)
+endpoint_begun_stays : (s v : State) (row : List PortState) (n : ℕ) (o : Outcome) → IsOfEndpoint o
+    → OnlyControl (begun s row n o) v → v.registers ≡ (begun s row n o).registers
+    → (v.spec ≡ s.spec) × (v.registers ≡ s.registers)
 endpoint_begun_stays s v row n stalled is frame same = (ap (λ x. x.spec) frame, same)
 endpoint_begun_stays s v row n (answers bytes) is frame same = absurd is
 endpoint_begun_stays s v row n (takes_address a) is frame same = absurd is
 endpoint_begun_stays s v row n (takes_configuration c) is frame same = absurd is
 endpoint_begun_stays s v row n (halts which) is frame same = absurd is
-endpoint_begun_stays s v row n (unhalts which) is frame same = (ap (λ x. x.spec) frame ∙ pipe_spec s which rested, same)
+endpoint_begun_stays s v row n (unhalts which) is frame same =
+    (ap (λ x. x.spec) frame ∙ pipe_spec s which rested, same)
 endpoint_begun_stays s v row n (tells_port i) is frame same = absurd is
 endpoint_begun_stays s v row n (calls_port c i) is frame same = absurd is
 
-endpoint_takes_no_address : (row : List PortState) (n : ℕ) (address : Option ℕ) (o : Outcome) → IsOfEndpoint o → first_stage row n o ≡ ending address → address ≡ None
+endpoint_takes_no_address : (row : List PortState) (n : ℕ) (address : Option ℕ) (o : Outcome)
+    → IsOfEndpoint o → first_stage row n o ≡ ending address → address ≡ None
 endpoint_takes_no_address row n address stalled is e = absurd cc
 endpoint_takes_no_address row n address (answers bytes) is e = absurd is
 endpoint_takes_no_address row n address (takes_address a) is e = absurd is
@@ -368,14 +418,21 @@ endpoint_takes_no_address row n address (unhalts which) is e = cc
 endpoint_takes_no_address row n address (tells_port i) is e = absurd is
 endpoint_takes_no_address row n address (calls_port c i) is e = absurd is
 
-module _ (t : Target) (request : Setup) (of : (spec : Spec) (g : Registers) → IsOfEndpoint (outcome spec g request)) (old new : World) (j : Location) (s v : State) where
-  accepted_stays : (row : List PortState) → OnlyControl (accepted s row request) v → v.registers ≡ (accepted s row request).registers → SameSettings j s v
-  accepted_stays row frame same = endpoint_begun_stays s v row request.length (outcome s.spec s.registers request) (of s.spec s.registers) frame same
+module _ (t : Target) (request : Setup) (of : (spec : Spec) (g : Registers)
+    → IsOfEndpoint (outcome spec g request)) (old new : World) (j : Location) (s v : State) where
+  accepted_stays : (row : List PortState) → OnlyControl (accepted s row request) v
+      → v.registers ≡ (accepted s row request).registers → SameSettings j s v
+  accepted_stays row frame same = endpoint_begun_stays s v row request.length
+      (outcome s.spec s.registers request) (of s.spec s.registers) frame same
 
-  write_stays : (result : Result (Unit {0}) PipeFault) → WriteLeaves t request result old new j s v → SameSettings j s v
+  write_stays : (result : Result (Unit {0}) PipeFault) → WriteLeaves t request result old new j s v
+      → SameSettings j s v
   write_stays =
       write_so t request old new j s v (SameSettings j s v) accepted_stays
-      (λ row address is frame given. accepted_stays row frame (given_registers address (accepted s row request) v (endpoint_takes_no_address row request.length address (outcome s.spec s.registers request) (of s.spec s.registers) is) given))
+      (λ row address is frame given. accepted_stays row frame
+      (given_registers address (accepted s row request) v
+      (endpoint_takes_no_address row request.length address
+      (outcome s.spec s.registers request) (of s.spec s.registers) is) given))
       (λ frame same. (ap (λ x. x.spec) frame, same))
 
 module _ (endpoint : ℕ) where
@@ -391,24 +448,35 @@ module _ (endpoint : ℕ) where
   unfolding clear_endpoint_halt
   clear_length = refl
 
-pub cleared_ordered : (pipe : Bulk) (old : World) (result : Result (Unit {0}) PipeFault) (left : Bulk) (new : World) → Cleared pipe old result left new → Commanded pipe.target (clear_endpoint_halt (halt_address pipe.ep pipe.is_in)) old result new
+pub cleared_ordered : (pipe : Bulk) (old : World) (result : Result (Unit {0}) PipeFault)
+    (left : Bulk) (new : World) → Cleared pipe old result left new
+    → Commanded pipe.target (clear_endpoint_halt (halt_address pipe.ep pipe.is_in)) old result new
 cleared_ordered pipe old result left new x = record {
   settled = x.settled;
   ends = x.ends;
   stages = x.stages;
   room = x.room;
-  rests = λ plain sound. write_rests pipe.target (clear_endpoint_halt (halt_address pipe.ep pipe.is_in)) result old new x.settled x.stages plain sound;
-  backlog = λ plain sound. write_backlog pipe.target (clear_endpoint_halt (halt_address pipe.ep pipe.is_in)) result old new x.settled x.stages plain sound;
-  elsewhere = order_elsewhere pipe.target (clear_endpoint_halt (halt_address pipe.ep pipe.is_in)) result old new x.stages;
+  rests = λ plain sound. write_rests pipe.target
+      (clear_endpoint_halt (halt_address pipe.ep pipe.is_in)) result old new x.settled x.stages
+      plain sound;
+  backlog = λ plain sound. write_backlog pipe.target
+      (clear_endpoint_halt (halt_address pipe.ep pipe.is_in)) result old new x.settled x.stages
+      plain sound;
+  elsewhere = order_elsewhere pipe.target (clear_endpoint_halt (halt_address pipe.ep pipe.is_in))
+      result old new x.stages;
 }
 
-cleared_keeps_settings : (pipe : Bulk) (old : World) (result : Result (Unit {0}) PipeFault) (left : Bulk) (new : World) → Cleared pipe old result left new → KeepsSettings old new
+cleared_keeps_settings : (pipe : Bulk) (old : World) (result : Result (Unit {0}) PipeFault)
+    (left : Bulk) (new : World) → Cleared pipe old result left new → KeepsSettings old new
 cleared_keeps_settings pipe old result left new x = record {
   same = λ single.
       let request : Setup = clear_endpoint_halt (halt_address pipe.ep pipe.is_in) in
       each_wider (WriteLeaves pipe.target request result old new) SameSettings
-      (λ j s v. write_stays pipe.target request (clear_outcome (halt_address pipe.ep pipe.is_in)) old new j s v result) old new
-      (each_leaves pipe.target request (harmless (halt_address pipe.ep pipe.is_in)) (clear_length (halt_address pipe.ep pipe.is_in)) result old new (cleared_ordered pipe old result left new x) single);
+      (λ j s v. write_stays pipe.target request (clear_outcome (halt_address pipe.ep pipe.is_in))
+      old new j s v result) old new
+      (each_leaves pipe.target request (harmless (halt_address pipe.ep pipe.is_in))
+      (clear_length (halt_address pipe.ep pipe.is_in)) result old new
+      (cleared_ordered pipe old result left new x) single);
 }
 
 clears_told : (pipe : Bulk) (old : World) (answer : Result (Unit {0}) PipeFault) (left : Bulk)
@@ -434,9 +502,11 @@ clears_only pipe old answer left new x = elim (ready_or_not pipe.condition) [
         addresses = clears_keep pipe old answer left new x;
         devices = cleared_keeps_settings pipe old answer left new sent;
         rests = λ sound.
-            ordered.rests (clear_asks_no_port which) (ends_without_fault 2 answer old new sent.ends sound);
+            ordered.rests (clear_asks_no_port which)
+            (ends_without_fault 2 answer old new sent.ends sound);
         backlog = λ sound.
-            ordered.backlog (clear_sets_none which) (ends_without_fault 2 answer old new sent.ends sound);
+            ordered.backlog (clear_sets_none which)
+            (ends_without_fault 2 answer old new sent.ends sound);
       }
 ]
 
@@ -448,15 +518,23 @@ clear_keeps pipe old answer left new x = record {
 }
 
 -- no address was held twice before
-write_single : (t : Target) (request : Setup) (result : Result (Unit {0}) PipeFault) (old new : World) → IsSettled old.roots → Writes t request old result new → new.shared ≡ false → old.shared ≡ false
-write_single t request (Ok done) old new settled x single = trail_unshared x.set_up.trail (trail_unshared x.status.trail single)
-write_single t request (Err why) old new settled (inl x) single = transacted_unshared set_up_as (setup_attempt t (bytes_of request)) old new (Err x.fault) x.set_up settled single
+write_single : (t : Target) (request : Setup) (result : Result (Unit {0}) PipeFault)
+    (old new : World) → IsSettled old.roots → Writes t request old result new → new.shared ≡ false
+    → old.shared ≡ false
+write_single t request (Ok done) old new settled x single =
+    trail_unshared x.set_up.trail (trail_unshared x.status.trail single)
+write_single t request (Err why) old new settled (inl x) single =
+    transacted_unshared set_up_as (setup_attempt t (bytes_of request)) old new (Err x.fault)
+    x.set_up settled single
 write_single t request (Err why) old new settled (inr x) single =
     trail_unshared x.set_up.trail
-    (transacted_unshared (heard_as One) (in_attempt t 0) x.mid new (Err x.fault) x.status (trail_settled x.set_up.trail settled) single)
+    (transacted_unshared (heard_as One) (in_attempt t 0) x.mid new (Err x.fault) x.status
+    (trail_settled x.set_up.trail settled) single)
 
-pub clears_single : (pipe : Bulk) (old : World) (result : Result (Unit {0}) PipeFault) (left : Bulk) (new : World) → Clears pipe old result left new → new.shared ≡ false → old.shared ≡ false
+pub clears_single : (pipe : Bulk) (old : World) (result : Result (Unit {0}) PipeFault) (left : Bulk)
+    (new : World) → Clears pipe old result left new → new.shared ≡ false → old.shared ≡ false
 clears_single pipe old result left new x single = elim (ready_or_not pipe.condition) [
   | inl ready ↦ ap (λ w. w.shared) (sym (x.ready ready).world_kept) ∙ single
-  | inr not ↦ write_single pipe.target (clear_endpoint_halt (halt_address pipe.ep pipe.is_in)) result old new (x.sent not).settled (x.sent not).stages single
+  | inr not ↦ write_single pipe.target (clear_endpoint_halt (halt_address pipe.ep pipe.is_in))
+      result old new (x.sent not).settled (x.sent not).stages single
 ]

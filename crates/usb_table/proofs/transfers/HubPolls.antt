@@ -1,7 +1,10 @@
--- A poll of a hub leaves its status pipe level, tells of its ports, and is answered where the hub is reached.
-use Rattle.std.proofs.Common.{◌≡◌, ◌≢◌, ◌∙◌, refl, sym, ap, subst, Bool, true, false, ℕ, ◌≤◌, ◌&&◌, eq-eqb}
+-- A poll of a hub leaves its status pipe level, tells of its ports, and is answered where the hub
+-- is reached.
+use Rattle.std.proofs.Common.{◌≡◌, ◌≢◌, ◌∙◌, refl, sym, ap, subst, Bool, true, false, ℕ, ◌≤◌, ◌&&◌}
+use Rattle.std.proofs.Common.{eq-eqb}
 use Rattle.std.proofs.lemmas.Option.{same_Some}
-use Rattle.std.specs.Prelude.{List, ◌||◌, not, Option, Some, None, IfSome, is_some, option_map, Result, Ok, Err, IsOk, MatchResult, if◌then◌else◌}
+use Rattle.std.specs.Prelude.{List, ◌||◌, not, Option, Some, None, IfSome, is_some, option_map}
+use Rattle.std.specs.Prelude.{Result, Ok, Err, IsOk, MatchResult, if◌then◌else◌}
 use Rattle.arrayvec.specs.ArrayVec.{ArrayVec}
 use Rattle.usb_device.specs.Rows.{State}
 use Rattle.usb_device.specs.Spec.{Spec}
@@ -41,32 +44,43 @@ use Rattle.usb_table.specs.declared.pipes.Pipes.{Pipes}
 use Rattle.usb_table.specs.declared.pipes.Pipes.TheVariants.{Hub, Function, Absent}
 use Rattle.usb_table.specs.Findings.{accepted_device_at}
 use Rattle.usb_table.specs.KnownPorts.{is_below_hub}
-use Rattle.usb_table.specs.Levels.{StatusPipeInSync, PipesInSync, InSyncAt, IsHeld, KeepsInSync, BitsOf, HubTold, IsListening, KeepsPolled, TablePolls, SparesBulk}
+use Rattle.usb_table.specs.Levels.{StatusPipeInSync, PipesInSync, InSyncAt, IsHeld, KeepsInSync}
+use Rattle.usb_table.specs.Levels.{BitsOf, HubTold, IsListening, KeepsPolled, TablePolls}
+use Rattle.usb_table.specs.Levels.{SparesBulk}
 use Rattle.usb_table.specs.Listing.{entry_address}
 use Rattle.usb_table.specs.Pipes.{IsStatusPipe, ArePipesIf, ArePipesTo}
 use Rattle.usb_table.specs.Table.{Table, pipes_at, GoesThrough}
-use Rattle.usb_table.specs.Transfers.{NotPolled, OnlyTransfers, PipesPolled, PollTook, PolledThrough}
+use Rattle.usb_table.specs.Transfers.{NotPolled, OnlyTransfers, PipesPolled, PollTook}
+use Rattle.usb_table.specs.Transfers.{PolledThrough}
 use Rattle.usb_table.proofs.levels.Endpoints.{status_end}
 use Rattle.usb_table.proofs.levels.FittingPipes.{PipesMove, poll_moves}
-use Rattle.usb_table.proofs.levels.Levels.{address_found, held_address, entry_address-one_path, moved_levels, single, still_levels}
+use Rattle.usb_table.proofs.levels.Levels.{address_found, held_address, entry_address-one_path}
+use Rattle.usb_table.proofs.levels.Levels.{moved_levels, single, still_levels}
 use Rattle.usb_table.proofs.levels.MovedPipes.{EachMoves}
 use Rattle.usb_table.proofs.transfers.SparedBulk.{spares-changes, spares-same}
 use Rattle.usb_table.proofs.transfers.DevicesKept.{RanAs, polls_only, polls_spare, same_spares}
 
 -- INs ask nothing of any port
 
-trail_rests : (x : List ℕ) {a : Attempt} {old mid : World} {outcomes : List Outcome} → is_setup a.kind ≡ false → AttemptLog a old outcomes mid → IsSettled old.roots → Course (LeavesPortAlone x) old mid
+trail_rests : (x : List ℕ) {a : Attempt} {old mid : World} {outcomes : List Outcome}
+    → is_setup a.kind ≡ false → AttemptLog a old outcomes mid → IsSettled old.roots
+    → Course (LeavesPortAlone x) old mid
 trail_rests x kind AttemptLog.start settled = here _
-trail_rests x {a} kind (AttemptLog.next w t m) settled = course_then (attempt a) (trail_rests x kind t settled) (data_asks_nothing a w x kind (trail_settled t settled))
+trail_rests x {a} kind (AttemptLog.next w t m) settled =
+    course_then (attempt a) (trail_rests x kind t settled)
+    (data_asks_nothing a w x kind (trail_settled t settled))
 
 -- A poll of the hub at a path
 
-module _ (path : List ℕ) (device : Accepted) (pipe rest : Interrupt) (old new : Table) (before after : World) (result : Result (Option (ArrayVec ℕ)) PipeFault)
+module _ (path : List ℕ) (device : Accepted) (pipe rest : Interrupt) (old new : Table)
+    (before after : World) (result : Result (Option (ArrayVec ℕ)) PipeFault)
     (goes : GoesThrough path old new) (stands : accepted_device_at path old.entries ≡ Some device)
     (was : pipes_at path old ≡ Hub pipe) (left : pipes_at path new ≡ Hub rest)
-    (are : IsStatusPipe device (is_below_hub path) pipe) (x : PolledThrough pipe before result rest after) where
+    (are : IsStatusPipe device (is_below_hub path) pipe)
+    (x : PolledThrough pipe before result rest after) where
   endpoint : (pipe.ep ≡ 1) × (1 ≤ pipe.target.max)
-  endpoint = subst (λ o. IfSome o (λ e. (e.0 ≡ 1) × (1 ≤ e.1))) are.endpoint (status_end (configuration_of device))
+  endpoint = subst (λ o. IfSome o (λ e. (e.0 ≡ 1) × (1 ≤ e.1))) are.endpoint
+      (status_end (configuration_of device))
 
   far : pipe.ep ≢ 0
   far e = absurd (cc (endpoint.0, e))
@@ -86,23 +100,32 @@ module _ (path : List ℕ) (device : Accepted) (pipe rest : Interrupt) (old new 
   moves : EachMoves device.address (IsOk result) (Hub pipe) (Hub rest) before after
   moves unshared =
       subst (λ a. EachWas (PipesMove a (IsOk result) (Hub pipe) (Hub rest)) before after) addressed
-      (each_joint (PollLeaves pipe before result rest after) RanAs (PipesMove pipe.target.addr (IsOk result) (Hub pipe) (Hub rest)) (poll_moves pipe rest before after result) before after (leaves unshared) (ran unshared))
+      (each_joint (PollLeaves pipe before result rest after) RanAs
+      (PipesMove pipe.target.addr (IsOk result) (Hub pipe) (Hub rest))
+      (poll_moves pipe rest before after result) before after (leaves unshared)
+      (ran unshared))
 
   hub_levels : KeepsInSync path (IsOk result) old before new after
-  hub_levels = moved_levels path device (IsOk result) (Hub pipe) (Hub rest) old new before after stands goes was left keeps moves
+  hub_levels = moved_levels path device (IsOk result) (Hub pipe) (Hub rest) old new before after
+      stands goes was left keeps moves
 
   unshared : IsHeld old before → after.shared ≡ false
-  unshared = single path device (IsOk result) (Hub pipe) (Hub rest) old new before after stands goes was left keeps moves
+  unshared = single path device (IsOk result) (Hub pipe) (Hub rest) old new before after stands goes
+      was left keeps moves
 
   -- what is so of the hub before
-  fits : IsHeld old before → InSyncAt path old before → (s : State) → reach before.roots path ≡ true → state_there before.roots path ≡ Some s → StatusPipeInSync pipe s × (is_at s pipe.target ≡ true)
+  fits : IsHeld old before → InSyncAt path old before → (s : State) → reach before.roots path ≡ true
+      → state_there before.roots path ≡ Some s → StatusPipeInSync pipe s
+      × (is_at s pipe.target ≡ true)
   fits held level s on there = (
     subst (λ (q : Pipes). PipesInSync q s) was (level.level device s stands on there),
-    eq-eqb (address_of s) pipe.target.addr (held_address old before path device s held stands on there ∙ sym addressed),
+    eq-eqb (address_of s) pipe.target.addr (held_address old before path device s held stands on
+        there ∙ sym addressed),
   )
 
   -- the bits that were told
-  bits_of : (j : Location) (bits : ℕ) → path ≡ path_to j → ToldOf pipe before after j bits → BitsOf path before after bits
+  bits_of : (j : Location) (bits : ℕ) → path ≡ path_to j → ToldOf pipe before after j bits
+      → BitsOf path before after bits
   bits_of j bits is told = record {
     mid = told.told.mid;
     rests = λ y. trail_rests y refl told.told.trail x.settled;
@@ -115,59 +138,88 @@ module _ (path : List ℕ) (device : Accepted) (pipe rest : Interrupt) (old new 
     came = told.came;
   }
 
-  tells_of : (j : Location) → path ≡ path_to j → (r : Result (Option (ArrayVec ℕ)) PipeFault) → PollTells (ToldOf pipe before after j) r → PollTells (BitsOf path before after) r
+  tells_of : (j : Location) → path ≡ path_to j → (r : Result (Option (ArrayVec ℕ)) PipeFault)
+      → PollTells (ToldOf pipe before after j) r → PollTells (BitsOf path before after) r
   tells_of j is (Ok None) t = bits_of j 0 is t
-  tells_of j is (Ok (Some packet)) t = record { bits = t.bits; some = t.some; so = bits_of j t.bits is t.so; is = t.is }
+  tells_of j is (Ok (Some packet)) t = record {
+    bits = t.bits;
+    some = t.some;
+    so = bits_of j t.bits is t.so;
+    is = t.is;
+  }
   tells_of j is (Err fault) t = tt
 
   -- whoever answered has the address of the path, so it is the hub
-  hub_told : IsHeld old before → InSyncAt path old before → (got : Option (ArrayVec ℕ)) → result ≡ Ok got → HubTold path before result after
-  hub_told held level got e = record { reached = ap (reach after.roots) is ∙ who.on; tells = tells_of who.spot is result told }
+  hub_told : IsHeld old before → InSyncAt path old before → (got : Option (ArrayVec ℕ))
+      → result ≡ Ok got → HubTold path before result after
+  hub_told held level got e = record {
+    reached = ap (reach after.roots) is ∙ who.on;
+    tells =
+        tells_of who.spot is result told;
+  }
     where
       who : Answerer pipe.target before after
-      who = who_polls pipe got rest before after x.settled (subst (λ r. Polls pipe before r rest after) e x.polls) (unshared held)
+      who = who_polls pipe got rest before after x.settled
+          (subst (λ r. Polls pipe before r rest after) e x.polls) (unshared held)
 
       has : entry_address (path_to who.spot) old.entries ≡ Some device.address
-      has = sym (held.own (path_to who.spot) who.was_on) ∙ ap (option_map address_of) who.stood ∙ ap Some (equal_same (address_of who.before) pipe.target.addr who.at ∙ addressed)
+      has = sym (held.own (path_to who.spot) who.was_on) ∙ ap (option_map address_of) who.stood
+          ∙ ap Some (equal_same (address_of who.before) pipe.target.addr who.at ∙ addressed)
 
       is : path ≡ path_to who.spot
-      is = entry_address-one_path old before path (path_to who.spot) device.address held (address_found path old.entries device stands) has
+      is = entry_address-one_path old before path (path_to who.spot) device.address held
+          (address_found path old.entries device stands) has
 
       was_so : Was (PollLeaves pipe before result rest after) before who.spot who.now
       was_so = leaves (unshared held) who.spot who.now who.on who.stands
 
       fitted : StatusPipeInSync pipe was_so.before × (is_at was_so.before pipe.target ≡ true)
-      fitted = fits held level was_so.before (ap (reach before.roots) is ∙ was_so.on) (ap (state_there before.roots) is ∙ was_so.stands)
+      fitted = fits held level was_so.before (ap (reach before.roots) is ∙ was_so.on)
+          (ap (state_there before.roots) is ∙ was_so.stands)
 
       told : PollTells (ToldOf pipe before after who.spot) result
       told = was_so.so.tells fitted.1 fitted.0.tells fitted.0.level
 
-  -- whoever else was asked has another address, so its bulk endpoints stay as they were, and so do those of the hub
-  spared_by : IsHeld old before → InSyncAt path old before → (j : Location) (v : State) (x : Was (PollLeaves pipe before result rest after) before j v) → (b : Bool) → is_at x.before pipe.target ≡ b → SparesBulk j x.before v
+  -- whoever else was asked has another address, so its bulk endpoints stay as they were, and so do
+  -- those of the hub
+  spared_by : IsHeld old before → InSyncAt path old before
+      → (j : Location) (v : State) (x : Was (PollLeaves pipe before result rest after) before j v)
+      → (b : Bool) → is_at x.before pipe.target ≡ b → SparesBulk j x.before v
   spared_by held level j v x false e = spares-same j x.before v (x.so.others e)
   spared_by held level j v x true e = spares-changes j x.before v (x.so.frame fitted.0.tells)
     where
       has : entry_address (path_to j) old.entries ≡ Some device.address
-      has = sym (held.own (path_to j) x.on) ∙ ap (option_map address_of) x.stands ∙ ap Some (equal_same (address_of x.before) pipe.target.addr e ∙ addressed)
+      has = sym (held.own (path_to j) x.on) ∙ ap (option_map address_of) x.stands
+          ∙ ap Some (equal_same (address_of x.before) pipe.target.addr e ∙ addressed)
 
       is : path ≡ path_to j
-      is = entry_address-one_path old before path (path_to j) device.address held (address_found path old.entries device stands) has
+      is = entry_address-one_path old before path (path_to j) device.address held
+          (address_found path old.entries device stands) has
 
       fitted : StatusPipeInSync pipe x.before × (is_at x.before pipe.target ≡ true)
-      fitted = fits held level x.before (ap (reach before.roots) is ∙ x.on) (ap (state_there before.roots) is ∙ x.stands)
+      fitted = fits held level x.before (ap (reach before.roots) is ∙ x.on)
+          (ap (state_there before.roots) is ∙ x.stands)
 
   hub_spares : IsHeld old before → InSyncAt path old before → EachWas SparesBulk before after
   hub_spares held level j v on there =
-      let x : Was (PollLeaves pipe before result rest after) before j v = leaves (unshared held) j v on there in
-      record { before = x.before; on = x.on; stands = x.stands; so = spared_by held level j v x (is_at x.before pipe.target) refl }
+      let x : Was (PollLeaves pipe before result rest after) before j v =
+      leaves (unshared held) j v on there in
+      record {
+        before = x.before;
+        on = x.on;
+        stands = x.stands;
+        so = spared_by held level j v x (is_at x.before pipe.target) refl;
+      }
 
   -- a hub that is reached in the end is polled
-  module _ (held : IsHeld old before) (level : InSyncAt path old before) (three : NoThreeDamaged before) (heard : IsListening path device after) where
+  module _ (held : IsHeld old before) (level : InSyncAt path old before)
+      (three : NoThreeDamaged before) (heard : IsListening path device after) where
     before_it : Was RanAs before heard.spot heard.state
     before_it = ran (unshared held) heard.spot heard.state heard.on heard.stands
 
     fitted : StatusPipeInSync pipe before_it.before × (is_at before_it.before pipe.target ≡ true)
-    fitted = fits held level before_it.before (ap (reach before.roots) heard.is ∙ before_it.on) (ap (state_there before.roots) heard.is ∙ before_it.stands)
+    fitted = fits held level before_it.before (ap (reach before.roots) heard.is ∙ before_it.on)
+        (ap (state_there before.roots) heard.is ∙ before_it.stands)
 
     abbrev hears_by : Bool → Bool → Bool → Spec → Bool
     hears_by low pre deep d = if low then d.low && (not deep || pre) else not d.low
@@ -177,20 +229,27 @@ module _ (path : List ℕ) (device : Accepted) (pipe rest : Interrupt) (old new 
       at = fitted.1;
       loud = ap (λ (d : Spec). d.silent) (sym before_it.so.0) ∙ heard.listens.loud;
       hears =
-          ap (λ (t : Target). hears_by t.low t.pre (deep_at false heard.spot.rest) before_it.before.spec) are.target
-          ∙ ap (λ (d : Spec). hears_by device.low (device.low && is_below_hub path) (deep_at false heard.spot.rest) d) (sym before_it.so.0)
+          ap (λ (t : Target). hears_by t.low t.pre (deep_at false heard.spot.rest)
+          before_it.before.spec) are.target
+          ∙ ap (λ (d : Spec). hears_by device.low (device.low && is_below_hub path)
+          (deep_at false heard.spot.rest) d) (sym before_it.so.0)
           ∙ heard.listens.hears;
     }
 
-    never : (why : PipeFault) → IsNoBusFault {A = Option (ArrayVec ℕ)} (Err why) → result ≡ Err why → ⊥
-    never why sound e = answered_at.answered listened fitted.0.tells fitted.0.level fitted.0.runs why e
+    never : (why : PipeFault) → IsNoBusFault {A = Option (ArrayVec ℕ)} (Err why) → result ≡ Err why
+        → ⊥
+    never why sound e = answered_at.answered listened fitted.0.tells fitted.0.level fitted.0.runs
+        why e
       where
         cause : Was (PollingFailure pipe result) before heard.spot heard.state
         cause =
-            polling_why pipe result rest before after endpoint.0 endpoint.1 x.settled three x.polls (subst (IsNoBusFault {A = Option (ArrayVec ℕ)}) (sym e) sound) (unshared held) heard.spot heard.state heard.on heard.stands
+            polling_why pipe result rest before after endpoint.0 endpoint.1 x.settled three x.polls
+            (subst (IsNoBusFault {A = Option (ArrayVec ℕ)}) (sym e) sound) (unshared held)
+            heard.spot heard.state heard.on heard.stands
 
         answered_at : PollingFailure pipe result heard.spot before_it.before heard.state
-        answered_at = subst (λ s. PollingFailure pipe result heard.spot s heard.state) (same_Some cause.before before_it.before (sym cause.stands ∙ before_it.stands)) cause.so
+        answered_at = subst (λ s. PollingFailure pipe result heard.spot s heard.state)
+            (same_Some cause.before before_it.before (sym cause.stands ∙ before_it.stands)) cause.so
 
     served_by : (r : Result (Option (ArrayVec ℕ)) PipeFault) → result ≡ r → NoHubFailed r
     served_by (Ok got) e = tt
@@ -204,7 +263,8 @@ module _ (path : List ℕ) (device : Accepted) (pipe rest : Interrupt) (old new 
     hub_served : NoHubFailed result
     hub_served = served_by result refl
 
-  ok_got : (r : Result (Option (ArrayVec ℕ)) PipeFault) → IsOk r → (got : Option (ArrayVec ℕ)) × (r ≡ Ok got)
+  ok_got : (r : Result (Option (ArrayVec ℕ)) PipeFault) → IsOk r → (got : Option (ArrayVec ℕ))
+      × (r ≡ Ok got)
   ok_got (Ok got) ok = (got, refl)
   ok_got (Err fault) ok = absurd (cc ok)
 
@@ -215,7 +275,8 @@ module _ (path : List ℕ) (device : Accepted) (pipe rest : Interrupt) (old new 
   hub_polled = record {
     levels = hub_levels;
     told = λ held level d e hub ok. let g = ok_got result ok in hub_told held level g.0 g.1;
-    why = λ held level three d e hub heard. hub_served held level three (subst (λ y. IsListening path y after) (sym (same_one d e)) heard);
+    why = λ held level three d e hub heard. hub_served held level three
+        (subst (λ y. IsListening path y after) (sym (same_one d e)) heard);
     spares = hub_spares;
   }
 

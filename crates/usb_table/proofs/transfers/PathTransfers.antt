@@ -1,5 +1,7 @@
--- A transfer through the pipes to the device at a path changes no device but the one that is reached there.
-use Rattle.std.proofs.Common.{◌≡◌, ◌≢◌, ◌∙◌, refl, sym, ap, subst, true, false, ℕ, ◌==◌, eq-eqb, List, Option, None, Some}
+-- A transfer through the pipes to the device at a path changes no device but the one that is
+-- reached there.
+use Rattle.std.proofs.Common.{◌≡◌, ◌≢◌, ◌∙◌, refl, sym, ap, subst, true, false, ℕ, ◌==◌, eq-eqb}
+use Rattle.std.proofs.Common.{List, Option, None, Some}
 use Rattle.std.specs.Prelude.{Result, Ok, Err, is_ok, option_map}
 use Rattle.usb_device.specs.Rows.{State}
 use Rattle.usb_device.specs.Tree.{reach, Location, path_to, reach_on, state_on}
@@ -24,11 +26,13 @@ use Rattle.usb_table.specs.KnownPorts.{is_below_hub}
 use Rattle.usb_table.specs.Pipes.{ArePipesIf}
 use Rattle.usb_table.specs.Table.{Table, ArePipesAt, pipes_at}
 use Rattle.usb_table.specs.Transfers.{endpoint_answer}
-use Rattle.usb_table.proofs.levels.Levels.{address_found, by_decision, held_address, entry_address-one_path}
+use Rattle.usb_table.proofs.levels.Levels.{address_found, by_decision, held_address}
+use Rattle.usb_table.proofs.levels.Levels.{entry_address-one_path}
 
 -- what is so of the device that is reached at a path
 abbrev pub PathReaches : List ℕ → World → (State → Type 0) → Type 0
-PathReaches path w So = (s : State) → reach w.roots path ≡ true → state_there w.roots path ≡ Some s → So s
+PathReaches path w So = (s : State) → reach w.roots path ≡ true → state_there w.roots path ≡ Some s
+    → So s
 
 -- it is as far as the pipes at the path
 module _ (path : List ℕ) (table : Table) (w : World) (level : InSyncAt path table w) where
@@ -42,7 +46,8 @@ module _ (path : List ℕ) (table : Table) (w : World) (level : InSyncAt path ta
   levels_there = levels_by (accepted_device_at path table.entries) refl
 
 -- nothing was tried
-pub none_changes : (path : List ℕ) (So : State → State → Type 0) (old new : World) → new ≡ old → PathReaches path old (λ s. So s s) → EachWas (ChangesAt path So) old new
+pub none_changes : (path : List ℕ) (So : State → State → Type 0) (old new : World) → new ≡ old
+    → PathReaches path old (λ s. So s s) → EachWas (ChangesAt path So) old new
 none_changes path So old new same so = subst (EachWas (ChangesAt path So) old) (sym same) each
   where
     each : EachWas (ChangesAt path So) old old
@@ -50,42 +55,71 @@ none_changes path So old new same so = subst (EachWas (ChangesAt path So) old) (
       before = s;
       on = on;
       stands = there;
-      so = record { itself = λ e. so s (ap (reach old.roots) e ∙ on) (ap (state_there old.roots) e ∙ there); others = λ far. refl };
+      so = record {
+        itself = λ e. so s (ap (reach old.roots) e ∙ on) (ap (state_there old.roots) e
+            ∙ there);
+        others = λ far. refl;
+      };
     }
 
-module _ (path : List ℕ) (table : Table) (old : World) (held : IsHeld table old) (device : Accepted) (found : accepted_device_at path table.entries ≡ Some device) (a : ℕ) (is : a ≡ device.address) where
-  -- who has the address of the device that is known at the path stands there
-  stands_there : (j : Location) (s : State) → reach_on old.roots j ≡ true → state_on old.roots j ≡ Some s → (address_of s == a) ≡ true → path ≡ path_to j
-  stands_there j s on there at =
-      let own : entry_address (path_to j) table.entries ≡ Some (address_of s) = sym (held.own (path_to j) on) ∙ ap (option_map address_of) there in
-      sym (entry_address-one_path table old (path_to j) path device.address held (own ∙ ap Some (equal_same (address_of s) a at ∙ is)) (address_found path table.entries device found))
+module _ (path : List ℕ) (table : Table) (old : World) (held : IsHeld table old) (device : Accepted)
+    (found : accepted_device_at path table.entries ≡ Some device) (a : ℕ) (is : a ≡ device.address)
+  where
+    -- who has the address of the device that is known at the path stands there
+    stands_there : (j : Location) (s : State) → reach_on old.roots j ≡ true
+        → state_on old.roots j ≡ Some s → (address_of s == a) ≡ true → path ≡ path_to j
+    stands_there j s on there at =
+        let own : entry_address (path_to j) table.entries ≡ Some (address_of s) =
+        sym (held.own (path_to j) on) ∙ ap (option_map address_of) there in
+        sym (entry_address-one_path table old (path_to j) path device.address held (own
+        ∙ ap Some (equal_same (address_of s) a at ∙ is))
+        (address_found path table.entries device found))
 
-  pub changes_there : (L : Relation) (So : State → State → Type 0) (new : World) → ((j : Location) (s v : State) → L j s v → (address_of s == a) ≡ false → v ≡ s)
-      → PathReaches path old (λ s. (j : Location) (v : State) → L j s v → (address_of s == a) ≡ true → So s v) → EachWas L old new → EachWas (ChangesAt path So) old new
-  changes_there L So new others so each j v on there = record { before = w.before; on = w.on; stands = w.stands; so = record { itself = itself; others = apart } }
-    where
-      w : Was L old j v
-      w = each j v on there
+    pub changes_there : (L : Relation) (So : State → State → Type 0) (new : World)
+        → ((j : Location) (s v : State) → L j s v → (address_of s == a) ≡ false → v ≡ s)
+        → PathReaches path old (λ s. (j : Location) (v : State) → L j s v
+        → (address_of s == a) ≡ true
+        → So s v) → EachWas L old new → EachWas (ChangesAt path So) old new
+    changes_there L So new others so each j v on there =
+        record {
+          before = w.before;
+          on = w.on;
+          stands = w.stands;
+          so = record { itself = itself; others = apart };
+        }
+      where
+        w : Was L old j v
+        w = each j v on there
 
-      itself : path ≡ path_to j → So w.before v
-      itself e =
-          let was_on : reach old.roots path ≡ true = ap (reach old.roots) e ∙ w.on in
-          let stood : state_there old.roots path ≡ Some w.before = ap (state_there old.roots) e ∙ w.stands in
-          let has : address_of w.before ≡ device.address = held_address table old path device w.before held found was_on stood in
-          so w.before was_on stood j v w.so (eq-eqb (address_of w.before) a (has ∙ sym is))
+        itself : path ≡ path_to j → So w.before v
+        itself e =
+            let was_on : reach old.roots path ≡ true = ap (reach old.roots) e ∙ w.on in
+            let stood : state_there old.roots path ≡ Some w.before = ap (state_there old.roots) e
+            ∙ w.stands in
+            let has : address_of w.before ≡ device.address =
+            held_address table old path device w.before held found was_on stood in
+            so w.before was_on stood j v w.so (eq-eqb (address_of w.before) a (has ∙ sym is))
 
-      apart : path ≢ path_to j → v ≡ w.before
-      apart far = others j w.before v w.so (by_decision (address_of w.before == a) (λ at. far (stands_there j w.before w.on w.stands at)))
+        apart : path ≢ path_to j → v ≡ w.before
+        apart far = others j w.before v w.so (by_decision (address_of w.before == a)
+            (λ at. far (stands_there j w.before w.on w.stands at)))
 
-  -- who answered is reached there
-  pub answers_there : (t : Target) (new : World) → t.addr ≡ a → Answerer t old new → reach new.roots path ≡ true
-  answers_there t new e x = ap (reach new.roots) (stands_there x.spot x.before x.was_on x.stood (ap (λ n. address_of x.before == n) (sym e) ∙ x.at)) ∙ x.on
+    -- who answered is reached there
+    pub answers_there : (t : Target) (new : World) → t.addr ≡ a → Answerer t old new
+        → reach new.roots path ≡ true
+    answers_there t new e x = ap (reach new.roots)
+        (stands_there x.spot x.before x.was_on x.stood (ap (λ n. address_of x.before == n) (sym e)
+        ∙ x.at)) ∙ x.on
 
 -- a pipe's answer is the table's
-pub done_through : {A : Type 0} (answer : Result A PipeFault) (result : Result A EndpointFault) → result ≡ endpoint_answer answer → is_ok answer ≡ is_ok result
+pub done_through : {A : Type 0} (answer : Result A PipeFault) (result : Result A EndpointFault)
+    → result ≡ endpoint_answer answer → is_ok answer ≡ is_ok result
 done_through (Ok x) result e = sym (ap is_ok e)
 done_through (Err why) result e = sym (ap is_ok e)
 
 -- and is no fault of the bus where the table's is none
-pub not_bus : {A : Type 0} (answer : Result A PipeFault) (result : Result A EndpointFault) → result ≡ endpoint_answer answer → ((why : BusFault) → result ≢ Err (Pipe (pipe_fault.Bus why))) → (why : BusFault) → answer ≢ Err (pipe_fault.Bus why)
+pub not_bus : {A : Type 0} (answer : Result A PipeFault) (result : Result A EndpointFault)
+    → result ≡ endpoint_answer answer → ((why : BusFault)
+    → result ≢ Err (Pipe (pipe_fault.Bus why))) → (why : BusFault)
+    → answer ≢ Err (pipe_fault.Bus why)
 not_bus answer result told other why e = other why (told ∙ ap endpoint_answer e)

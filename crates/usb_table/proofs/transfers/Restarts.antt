@@ -1,5 +1,6 @@
 -- The halts that are cleared through the pipes at a path are those of the device there.
-use Rattle.std.proofs.Common.{◌≡◌, ◌≢◌, inl, inr, ◌∙◌, refl, sym, ap, subst, Bool, true, false, ℕ, ◌==◌, List, Option, None, Some, Result, Ok, Err}
+use Rattle.std.proofs.Common.{◌≡◌, ◌≢◌, inl, inr, ◌∙◌, refl, sym, ap, subst, Bool, true, false, ℕ}
+use Rattle.std.proofs.Common.{◌==◌, List, Option, None, Some, Result, Ok, Err}
 use Rattle.std.specs.Prelude.{is_ok, is_some, if◌then◌else◌}
 use Rattle.usb_device.specs.declared.bulk.EndpointState.{EndpointState as End}
 use Rattle.usb_device.specs.Bulk.{rested}
@@ -23,23 +24,27 @@ use Rattle.usb_table.specs.declared.fault.EndpointFault.TheVariants.{Pipe}
 use Rattle.usb_table.specs.declared.pipes.BulkPipes.{BulkPipes}
 use Rattle.usb_table.specs.declared.pipes.Pipes.{Pipes}
 use Rattle.usb_table.specs.declared.pipes.Pipes.TheVariants.{Function}
-use Rattle.usb_table.specs.Deliveries.{HaltCleared, HaltClearedBy, HaltsCleared, TransfersAt, Restarted, pipe_out, pipe_in}
+use Rattle.usb_table.specs.Deliveries.{HaltCleared, HaltClearedBy, HaltsCleared, TransfersAt}
+use Rattle.usb_table.specs.Deliveries.{Restarted, pipe_out, pipe_in}
 use Rattle.usb_table.specs.Findings.{out_endpoint, in_endpoint, accepted_device_at}
 use Rattle.usb_table.specs.KnownPorts.{is_below_hub}
 use Rattle.usb_table.specs.Levels.{PipesInSync, IsHeld, InSyncAt}
 use Rattle.usb_table.specs.Pipes.{IsBulkPipe, IsPipe}
 use Rattle.usb_table.specs.Table.{Table, pipes_at, ArePipesAt}
-use Rattle.usb_table.specs.Transfers.{ClearedBy, ClearedAfter, PipesCleared, both_sides, endpoint_answer}
+use Rattle.usb_table.specs.Transfers.{ClearedBy, ClearedAfter, PipesCleared, both_sides}
+use Rattle.usb_table.specs.Transfers.{endpoint_answer}
 use Rattle.usb_table.proofs.levels.FittingPipes.{PipesMove, clear_out_moves, clear_in_moves}
 use Rattle.usb_table.proofs.levels.KeptPipes.{ready_or_not}
 use Rattle.usb_table.proofs.levels.MovedPipes.{EachMoves, clear_whole, known_left}
-use Rattle.usb_table.proofs.transfers.PathTransfers.{PathReaches, changes_there, done_through, levels_there, none_changes, not_bus}
+use Rattle.usb_table.proofs.transfers.PathTransfers.{PathReaches, changes_there, done_through}
+use Rattle.usb_table.proofs.transfers.PathTransfers.{levels_there, none_changes, not_bus}
 use Rattle.usb_table.proofs.ThroughPipes.{through_both}
 use Rattle.usb_table.proofs.transfers.DevicesKept.{clears_single}
 
 -- The two ends of one pipe
 
-rested_then : (c : Condition) (before : End) → c ≢ Ready → (if is_ready c then before else rested) ≡ rested
+rested_then : (c : Condition) (before : End) → c ≢ Ready → (if is_ready c then before else rested)
+    ≡ rested
 rested_then Ready before other = absurd (other refl)
 rested_then Halted before other = refl
 rested_then Broken before other = refl
@@ -91,7 +96,8 @@ record ClearsIt (Out Into : EndRelation) (left : BulkPipes) (s v : State) : Type
   level : PipesInSync (Function left) v
 
 -- where the call ends so
-record ClearStep (ends : Type 0) (a : ℕ) (Out Into : EndRelation) (pipes left : BulkPipes) (j : Location)
+record ClearStep (ends : Type 0) (a : ℕ) (Out Into : EndRelation) (pipes left : BulkPipes)
+    (j : Location)
     (s v : State) : Type 0 where
   others : (address_of s == a) ≡ false → v ≡ s
   same : address_of v ≡ address_of s
@@ -111,7 +117,8 @@ module _ (ends : Type 0) where
   abbrev ClearSteps : ℕ → EndRelation → EndRelation → BulkPipes → BulkPipes → World → World → Type 0
   ClearSteps a Out Into pipes left = EachWas (ClearStep ends a Out Into pipes left)
 
-  clear_step_none : (a : ℕ) (Out Into : EndRelation) (pipes : BulkPipes) → ((end : End) → Out end end)
+  clear_step_none : (a : ℕ) (Out Into : EndRelation) (pipes : BulkPipes)
+      → ((end : End) → Out end end)
       → ((end : End) → Into end end) → (w : World) → ClearSteps a Out Into pipes pipes w w
   clear_step_none a Out Into pipes out into w =
       each_none (ClearStep ends a Out Into pipes pipes)
@@ -131,7 +138,8 @@ module _ (ends : Type 0) where
       → ClearSteps a Out EndStays pipes mid u w → ClearSteps a EndStays Into mid left w v
       → ClearSteps a Out Into pipes left u v
   steps_then a Out Into pipes mid left =
-      each_joined (ClearStep ends a Out EndStays pipes mid) (ClearStep ends a EndStays Into mid left)
+      each_joined (ClearStep ends a Out EndStays pipes mid)
+      (ClearStep ends a EndStays Into mid left)
       (ClearStep ends a Out Into pipes left)
       (λ j s t v x y. record {
         others = λ h. y.others (ap (λ n. n == a) x.same ∙ h) ∙ x.others h;
@@ -153,7 +161,8 @@ module _ (ends : Type 0) where
       (single : new.shared ≡ false) where
     abbrev OutSteps : ℕ → EndRelation → Option Bulk → Option Bulk → Type 0
     OutSteps a Out pipe left =
-        ClearSteps a Out EndStays (both_sides false pipe other) (both_sides false left other) old new
+        ClearSteps a Out EndStays (both_sides false pipe other) (both_sides false left other) old
+        new
 
     abbrev InSteps : ℕ → EndRelation → Option Bulk → Option Bulk → Type 0
     InSteps a Into pipe left =

@@ -1,5 +1,7 @@
 -- IN and OUT change no address, where no device at theirs takes another.
-use Rattle.std.proofs.Common.{◌≡◌, ℕ, zero, suc, ◌==◌, ◌&&◌, if◌then◌else◌, inl, inr, Bool, true, false, List, [], ◌∷◌, Option, None, Some, option_map, refl, ap, sym, subst, ◌∙◌, arith}
+use Rattle.std.proofs.Common.{◌≡◌, ℕ, zero, suc, ◌==◌, ◌&&◌, if◌then◌else◌, inl, inr, Bool, true}
+use Rattle.std.proofs.Common.{false, List, [], ◌∷◌, Option, None, Some, option_map, refl, ap, sym}
+use Rattle.std.proofs.Common.{subst, ◌∙◌, arith}
 use Rattle.usb_packet.specs.declared.Packet.TheVariants.{Token, Payload, Ack}
 use Rattle.usb_packet.specs.declared.TokenKind.{TokenKind}
 use Rattle.usb_packet.specs.declared.TokenKind.TheVariants.{OutTok, InTok, SetupTok}
@@ -10,7 +12,9 @@ use Rattle.usb_device.specs.declared.delivery.Sent.{Sent}
 use Rattle.usb_device.specs.declared.effect.Effect.TheVariants.{Leaves}
 use Rattle.usb_device.specs.declared.transfer.RememberedPacket.{RememberedPacket}
 use Rattle.usb_device.specs.declared.transfer.RememberedPacket.TheVariants.{Nothing, SetupSeen}
-use Rattle.usb_device.specs.Rows.{State, Reply, received, unread, forgotten, answered, unless_busy, in_row, in_other_row, bulk_ack_row, token_row, after_memory, awaits_control, ends_with_address, awaits_address}
+use Rattle.usb_device.specs.Rows.{State, Reply, received, unread, forgotten, answered, unless_busy}
+use Rattle.usb_device.specs.Rows.{in_row, in_other_row, bulk_ack_row, token_row, after_memory}
+use Rattle.usb_device.specs.Rows.{awaits_control, ends_with_address, awaits_address}
 use Rattle.usb_device.specs.Effect.{asks, asked_by_data}
 use Rattle.usb_device.specs.Tree.{Ports, Place, empty, full, row_of, reach_at, state_at, place_at}
 use Rattle.usb_device.specs.Delivery.{hears, reply_to, answer_of, asked_by, effect_of}
@@ -21,9 +25,11 @@ use Rattle.usb_world.specs.Wire.{mark_of, harm_to, marked}
 use Rattle.usb_world.specs.Exchange.{token_of, token_out, payload_out, reply_out, ports_in}
 use Rattle.usb_tree.specs.Paths.{address_of}
 use Rattle.usb_tree.specs.WayEffects.{resets_at, reset_if}
-use Rattle.usb_tree.specs.AttemptPackets.{after_sent, deep_at, sent_resets, attempt_resets, IsDataOut, IfOut, IsSettled}
+use Rattle.usb_tree.specs.AttemptPackets.{after_sent, deep_at, sent_resets, attempt_resets}
+use Rattle.usb_tree.specs.AttemptPackets.{IsDataOut, IfOut, IsSettled}
 use Rattle.usb_world.specs.World.{World}
-use Rattle.usb_world.specs.Steps.{at_attempt, damage_in, with_attempt, Step, attempt, root_call, event, report, after, Course}
+use Rattle.usb_world.specs.Steps.{at_attempt, damage_in, with_attempt, Step, attempt, root_call}
+use Rattle.usb_world.specs.Steps.{event, report, after, Course}
 use Rattle.usb_world.specs.Courses.{HoldsMapped, Injective}
 use Rattle.usb_world.specs.Addresses.{is_setup, NoneTakes, MovesData, GivesNoAddress}
 use Rattle.usb_tree.specs.WayEffects.{effect_resets}
@@ -31,7 +37,8 @@ use Rattle.usb_tree.proofs.Interface.{resets_if}
 use Rattle.usb_world.proofs.packets.AwaitedAcks.{none_awaited_answer, data_no_control_in}
 use Rattle.usb_tree.proofs.Interface.{false_true, and_false}
 use Rattle.usb_world.proofs.packets.PacketEffects.{packet_state, heard_state}
-use Rattle.usb_world.proofs.packets.AttemptPackets.{forgotten_state, calm_sent, sent_out, token_out as token_calm_out, ack_out}
+use Rattle.usb_world.proofs.packets.AttemptPackets.{forgotten_state, calm_sent, sent_out}
+use Rattle.usb_world.proofs.packets.AttemptPackets.{token_out as token_calm_out, ack_out}
 use Rattle.usb_world.proofs.holders.OneDevice.{stands, state_stands, settled_memory}
 use Rattle.usb_world.proofs.holders.OneHolderAttempts.{ready_settled}
 use Rattle.usb_world.proofs.courses.StepInvariants.{settled_after}
@@ -47,21 +54,26 @@ abbrev pub If : (State → Type 0) → Option State → Type 0
 If P None = Unit {0}
 If P (Some s) = P s
 
-heard_if : (P Q : State → Type 0) (q : Sent) (d on : Bool) (x : Option Place) → ((s : State) → P s → Q s)
-    → ((s : State) (a : Ports) → on ≡ true → P s → Q (answer_of q d s a).1) → If P (stands x) → If Q (heard_state q d on x)
+heard_if : (P Q : State → Type 0) (q : Sent) (d on : Bool) (x : Option Place)
+    → ((s : State) → P s → Q s)
+    → ((s : State) (a : Ports) → on ≡ true → P s → Q (answer_of q d s a).1) → If P (stands x)
+    → If Q (heard_state q d on x)
 heard_if P Q q d on None f g h = tt
 heard_if P Q q d on (Some (empty b)) f g h = tt
 heard_if P Q q d true (Some (full b s a)) f g h = g s a refl h
 heard_if P Q q d false (Some (full b s a)) f g h = f s h
 
-unreset_if : (P : State → Type 0) (b : Bool) (o : Option State) → b ≡ false → If P o → If P (option_map (reset_if b) o)
+unreset_if : (P : State → Type 0) (b : Bool) (o : Option State) → b ≡ false → If P o
+    → If P (option_map (reset_if b) o)
 unreset_if P true o h g = false_true (sym h)
 unreset_if P false None h g = g
 unreset_if P false (Some s) h g = g
 
 -- a packet, where it resets no device there
-sent_if : (P Q : State → Type 0) (o : Option Sent) (k : Ports) (j : ℕ) (p : List ℕ) → sent_resets o k j p ≡ false → ((s : State) → P s → Q s)
-    → ((q : Sent) (d : Bool) (s : State) (a : Ports) → o ≡ Some q → reach_at k j p ≡ true → P s → Q (answer_of q d s a).1)
+sent_if : (P Q : State → Type 0) (o : Option Sent) (k : Ports) (j : ℕ) (p : List ℕ)
+    → sent_resets o k j p ≡ false → ((s : State) → P s → Q s)
+    → ((q : Sent) (d : Bool) (s : State) (a : Ports) → o ≡ Some q → reach_at k j p ≡ true → P s
+    → Q (answer_of q d s a).1)
     → If P (state_at k j p) → If Q (state_at (after_sent o k) j p)
 sent_if P Q None k j p r f g h = weaken (state_at k j p) h
   where
@@ -70,8 +82,10 @@ sent_if P Q None k j p r f g h = weaken (state_at k j p) h
     weaken (Some s) h = f s h
 sent_if P Q (Some q) k j p r f g h =
     subst (If Q) (sym (packet_state q false k j p))
-    (unreset_if Q (resets_at q false k j p) (heard_state q (deep_at false p) (reach_at k j p) (place_at k j p)) r
-    (heard_if P Q q (deep_at false p) (reach_at k j p) (place_at k j p) f (λ s a on x. g q (deep_at false p) s a refl on x)
+    (unreset_if Q (resets_at q false k j p)
+    (heard_state q (deep_at false p) (reach_at k j p) (place_at k j p)) r
+    (heard_if P Q q (deep_at false p) (reach_at k j p) (place_at k j p) f
+    (λ s a on x. g q (deep_at false p) s a refl on x)
     (subst (If P) (sym (state_stands k j p)) h)))
 
 -- The token of IN or OUT
@@ -84,7 +98,8 @@ saw_setup m = false
 abbrev AddressStays : State → State → Type 0
 AddressStays d x = (saw_setup x.memory ≡ false) × (x.stage ≡ d.stage)
 
-stays_if : (d : State) (b : Bool) (x y : Reply) → AddressStays d x.1 → AddressStays d y.1 → AddressStays d (if b then x else y).1
+stays_if : (d : State) (b : Bool) (x y : Reply) → AddressStays d x.1 → AddressStays d y.1
+    → AddressStays d (if b then x else y).1
 stays_if d true x y h g = h
 stays_if d false x y h g = g
 
@@ -96,20 +111,31 @@ module _ (d : State) (rests : saw_setup d.memory ≡ false) where
   stays_other row e = (grind arith, grind arith)
 
   stays_token : (row : List PortState) (e : ℕ) → AddressStays d (token_row d row InTok e).1
-  stays_token row e = stays_if d (e == 0) (unless_busy d (in_row d d.stage)) (in_other_row d row e) stays_zero (stays_other row e)
+  stays_token row e = stays_if d (e == 0) (unless_busy d (in_row d d.stage)) (in_other_row d row e)
+      stays_zero (stays_other row e)
 
--- the device waits for no setup data; and for no ACK that gives it an address, where its status stage gives none or the
+-- the device waits for no setup data; and for no ACK that gives it an address, where its status
+-- stage gives none or the
 -- token was not for it
 abbrev AddressAfterData : ℕ → State → State → Type 0
-AddressAfterData n s x = (saw_setup x.memory ≡ false) × ((address_of s ≡ n → ends_with_address s.stage ≡ false) → awaits_address x ≡ false)
+AddressAfterData n s x = (saw_setup x.memory ≡ false)
+    × ((address_of s ≡ n → ends_with_address s.stage ≡ false) → awaits_address x ≡ false)
 
 rested_asked : (n : ℕ) (s x : State) → x.memory ≡ Nothing → AddressAfterData n s x
 unfolding awaits_address
-rested_asked n s x m = (ap saw_setup m, λ c. ap (λ y. awaits_control y && ends_with_address x.stage) m)
+rested_asked n s x m = (
+  ap saw_setup m,
+  λ c. ap (λ y. awaits_control y && ends_with_address x.stage)
+      m,
+)
 
 stayed_asked : (n : ℕ) (s x : State) → AddressStays s x → address_of s ≡ n → AddressAfterData n s x
 unfolding awaits_address
-stayed_asked n s x h e = (h.0, λ c. ap (λ y. awaits_control x.memory && y) (ap ends_with_address h.1 ∙ c e) ∙ and_false (awaits_control x.memory))
+stayed_asked n s x h e = (
+  h.0,
+  λ c. ap (λ y. awaits_control x.memory && y) (ap ends_with_address h.1
+      ∙ c e) ∙ and_false (awaits_control x.memory),
+)
 
 IsInOrOut : ℕ → Content → Type 0
 IsInOrOut n (Whole (Token InTok a e)) = a ≡ n
@@ -117,24 +143,31 @@ IsInOrOut n (Whole (Token OutTok a e)) = a ≡ n
 IsInOrOut n Broken = Unit {0}
 IsInOrOut n (Whole p) = ⊥
 
-token_reply : (n : ℕ) (c : Content) → IsInOrOut n c → (s : State) (row : List PortState) → s.memory ≡ Nothing → AddressAfterData n s (reply_to c s row).1
+token_reply : (n : ℕ) (c : Content) → IsInOrOut n c → (s : State) (row : List PortState)
+    → s.memory ≡ Nothing → AddressAfterData n s (reply_to c s row).1
 unfolding received unread IsInOrOut awaits_address
 token_reply n (Whole (Token InTok a e)) h s row m = heard s.spec.silent
   where
-    own : (x : Bool) → (a == s.registers.address) ≡ x → AddressAfterData n s (if x then token_row (forgotten s) row InTok e else (None, forgotten s)).1
-    own true g = stayed_asked n s (token_row (forgotten s) row InTok e).1 (stays_token (forgotten s) refl row e) (sym (equal_same a s.registers.address g) ∙ h)
+    own : (x : Bool) → (a == s.registers.address) ≡ x
+        → AddressAfterData n s (if x then token_row (forgotten s) row InTok e
+        else (None, forgotten s)).1
+    own true g = stayed_asked n s (token_row (forgotten s) row InTok e).1
+        (stays_token (forgotten s) refl row e) (sym (equal_same a s.registers.address g) ∙ h)
     own false g = rested_asked n s (forgotten s) refl
 
-    heard : (x : Bool) → AddressAfterData n s (if x then (None, s) else answered (forgotten s) row s.memory (Token InTok a e)).1
+    heard : (x : Bool) → AddressAfterData n s (if x then (None, s) else answered (forgotten s) row
+        s.memory (Token InTok a e)).1
     heard true = rested_asked n s s m
     heard false = own (a == s.registers.address) refl
 token_reply n (Whole (Token OutTok a e)) h s row m = heard s.spec.silent
   where
-    own : (x : Bool) → AddressAfterData n s (if x then token_row (forgotten s) row OutTok e else (None, forgotten s)).1
+    own : (x : Bool) → AddressAfterData n s
+        (if x then token_row (forgotten s) row OutTok e else (None, forgotten s)).1
     own true = (refl, λ c. refl)
     own false = rested_asked n s (forgotten s) refl
 
-    heard : (x : Bool) → AddressAfterData n s (if x then (None, s) else answered (forgotten s) row s.memory (Token OutTok a e)).1
+    heard : (x : Bool) → AddressAfterData n s (if x then (None, s) else answered (forgotten s) row
+        s.memory (Token OutTok a e)).1
     heard true = rested_asked n s s m
     heard false = own (a == s.registers.address)
 token_reply n Broken h s row m = heard s.spec.silent
@@ -144,11 +177,13 @@ token_reply n Broken h s row m = heard s.spec.silent
     heard false = rested_asked n s (forgotten s) refl
 token_reply n (Whole p) h s row m = elim h [ ]
 
-token_answer : (n : ℕ) (q : Sent) → IsInOrOut n q.content → (deep : Bool) (s : State) (a : Ports) → s.memory ≡ Nothing → AddressAfterData n s (answer_of q deep s a).1
+token_answer : (n : ℕ) (q : Sent) → IsInOrOut n q.content → (deep : Bool) (s : State) (a : Ports)
+    → s.memory ≡ Nothing → AddressAfterData n s (answer_of q deep s a).1
 unfolding answer_of
 token_answer n q c deep s a m = heard (hears q deep s)
   where
-    heard : (x : Bool) → AddressAfterData n s (if x then reply_to q.content s (row_of a) else (None, s)).1
+    heard : (x : Bool) → AddressAfterData n s
+        (if x then reply_to q.content s (row_of a) else (None, s)).1
     heard true = token_reply n q.content c s (row_of a) m
     heard false = rested_asked n s s m
 
@@ -171,7 +206,8 @@ unfolding awaits_address
 forgot_awaits s m = ap (λ y. awaits_control y && ends_with_address s.stage) m
 
 -- a device that waits for no setup data asks nothing of its ports
-data_asks : (c : Content) → IsDataOut c → (s : State) → saw_setup s.memory ≡ false → asked_by c s ≡ Leaves
+data_asks : (c : Content) → IsDataOut c → (s : State) → saw_setup s.memory ≡ false
+    → asked_by c s ≡ Leaves
 unfolding asks
 data_asks (Whole (Payload t b)) h s r = heard s.spec.silent (by_memory s.memory r)
   where
@@ -179,13 +215,15 @@ data_asks (Whole (Payload t b)) h s r = heard s.spec.silent (by_memory s.memory 
     by_memory SetupSeen g = false_true (sym g)
     by_memory m g = refl
 
-    heard : (x : Bool) → asked_by_data s s.memory t b.items ≡ Leaves → (if x then Leaves else asked_by_data s s.memory t b.items) ≡ Leaves
+    heard : (x : Bool) → asked_by_data s s.memory t b.items ≡ Leaves
+        → (if x then Leaves else asked_by_data s s.memory t b.items) ≡ Leaves
     heard true g = refl
     heard false g = g
 data_asks Broken h s r = refl
 data_asks (Whole p) h s r = elim h [ ]
 
-pub data_effect : (q : Sent) → IsDataOut q.content → (deep : Bool) (s : State) → saw_setup s.memory ≡ false → effect_of q deep s ≡ Leaves
+pub data_effect : (q : Sent) → IsDataOut q.content → (deep : Bool) (s : State)
+    → saw_setup s.memory ≡ false → effect_of q deep s ≡ Leaves
 unfolding effect_of
 data_effect q c deep s r = heard (hears q deep s)
   where
@@ -193,7 +231,8 @@ data_effect q c deep s r = heard (hears q deep s)
     heard true = data_asks q.content c s r
     heard false = refl
 
-data_sent : (o : Option Sent) → IfOut IsDataOut o → (k : Ports) → ((i : ℕ) (e : List ℕ) → If WaitsNone (state_at k i e))
+data_sent : (o : Option Sent) → IfOut IsDataOut o → (k : Ports)
+    → ((i : ℕ) (e : List ℕ) → If WaitsNone (state_at k i e))
     → (j : ℕ) (p : List ℕ) → sent_resets o k j p ≡ false
 data_sent None c k h j p = refl
 data_sent (Some q) c k h j p =
@@ -203,20 +242,24 @@ data_sent (Some q) c k h j p =
 
 -- The host's ACK, where no device awaits it to take an address
 
-pub bulk_ack-address : (d : State) (o : Option (ℕ × ℕ)) → address_of (bulk_ack_row d o) ≡ address_of d
+pub bulk_ack-address : (d : State) (o : Option (ℕ × ℕ)) → address_of (bulk_ack_row d o)
+    ≡ address_of d
 bulk_ack-address d None = refl
 bulk_ack-address d (Some end) = refl
 
-memory_acked : (d : State) (m : RememberedPacket) → (awaits_control m && ends_with_address d.stage) ≡ false → address_of (after_memory d m) ≡ address_of d
+memory_acked : (d : State) (m : RememberedPacket) → (awaits_control m && ends_with_address d.stage)
+    ≡ false → address_of (after_memory d m) ≡ address_of d
 memory_acked d m h = grind arith
 
 -- where a device awaits no ACK to take an address, no packet changes its address
 
-kept_reply : (c : Content) (s : State) (row : List PortState) → AwaitsNoAddress s → address_of (reply_to c s row).1 ≡ address_of s
+kept_reply : (c : Content) (s : State) (row : List PortState) → AwaitsNoAddress s
+    → address_of (reply_to c s row).1 ≡ address_of s
 unfolding received unread awaits_address
 kept_reply (Whole Ack) s row r = heard s.spec.silent
   where
-    heard : (x : Bool) → address_of (if x then (None, s) else answered (forgotten s) row s.memory Ack).1 ≡ address_of s
+    heard : (x : Bool) → address_of (if x then (None, s) else answered (forgotten s) row s.memory
+        Ack).1 ≡ address_of s
     heard true = refl
     heard false = memory_acked (forgotten s) s.memory r
 kept_reply Broken s row r = heard s.spec.silent
@@ -226,27 +269,33 @@ kept_reply Broken s row r = heard s.spec.silent
     heard false = refl
 kept_reply (Whole p) s row r = (keeps-received s row p).address refl
 
-kept_answer : (q : Sent) (deep : Bool) (s : State) (a : Ports) → AwaitsNoAddress s → address_of (answer_of q deep s a).1 ≡ address_of s
+kept_answer : (q : Sent) (deep : Bool) (s : State) (a : Ports) → AwaitsNoAddress s
+    → address_of (answer_of q deep s a).1 ≡ address_of s
 unfolding answer_of
 kept_answer q deep s a r = heard (hears q deep s)
   where
-    heard : (x : Bool) → address_of (if x then reply_to q.content s (row_of a) else (None, s)).1 ≡ address_of s
+    heard : (x : Bool) → address_of (if x then reply_to q.content s (row_of a) else (None, s)).1
+        ≡ address_of s
     heard true = kept_reply q.content s (row_of a) r
     heard false = refl
 
-kept_heard : (q : Sent) (d on : Bool) (x : Option Place) → If AwaitsNoAddress (stands x) → option_map address_of (heard_state q d on x) ≡ option_map address_of (stands x)
+kept_heard : (q : Sent) (d on : Bool) (x : Option Place) → If AwaitsNoAddress (stands x)
+    → option_map address_of (heard_state q d on x) ≡ option_map address_of (stands x)
 kept_heard q d on None r = refl
 kept_heard q d on (Some (empty b)) r = refl
 kept_heard q d true (Some (full b s a)) r = ap (λ x. Some x) (kept_answer q d s a r)
 kept_heard q d false (Some (full b s a)) r = refl
 
-kept_sent : (o : Option Sent) (k : Ports) (j : ℕ) (p : List ℕ) → sent_resets o k j p ≡ false → If AwaitsNoAddress (state_at k j p)
+kept_sent : (o : Option Sent) (k : Ports) (j : ℕ) (p : List ℕ) → sent_resets o k j p ≡ false
+    → If AwaitsNoAddress (state_at k j p)
     → option_map address_of (state_at (after_sent o k) j p) ≡ option_map address_of (state_at k j p)
 kept_sent None k j p h r = refl
 kept_sent (Some q) k j p h r =
     ap (option_map address_of) (packet_state q false k j p)
-    ∙ kept_address (resets_at q false k j p) (heard_state q (deep_at false p) (reach_at k j p) (place_at k j p)) h
-    ∙ kept_heard q (deep_at false p) (reach_at k j p) (place_at k j p) (subst (If AwaitsNoAddress) (sym (state_stands k j p)) r)
+    ∙ kept_address (resets_at q false k j p) (heard_state q (deep_at false p) (reach_at k j p)
+    (place_at k j p)) h
+    ∙ kept_heard q (deep_at false p) (reach_at k j p) (place_at k j p)
+    (subst (If AwaitsNoAddress) (sym (state_stands k j p)) r)
     ∙ ap (option_map address_of) (state_stands k j p)
 
 -- The attempt
@@ -260,19 +309,25 @@ kind_asks n e InTok h = refl
 kind_asks n e OutTok h = refl
 kind_asks n e SetupTok h = false_true (sym h)
 
-token_out-in_or_out : (a : Attempt) (d : Option Damage) → is_setup a.kind ≡ false → IfOut (IsInOrOut a.addr) (token_out a d)
+token_out-in_or_out : (a : Attempt) (d : Option Damage) → is_setup a.kind ≡ false
+    → IfOut (IsInOrOut a.addr) (token_out a d)
 unfolding token_of marked IsInOrOut
-token_out-in_or_out a d h = sent_out (IsInOrOut a.addr) tt a.low a.pre (mark_of (harm_to d 1) a.pre (Token a.kind a.addr a.ep)) (Token a.kind a.addr a.ep) (kind_asks a.addr a.ep a.kind h)
+token_out-in_or_out a d h = sent_out (IsInOrOut a.addr) tt a.low a.pre
+    (mark_of (harm_to d 1) a.pre (Token a.kind a.addr a.ep)) (Token a.kind a.addr a.ep)
+    (kind_asks a.addr a.ep a.kind h)
 
 -- IN or OUT, in a tree where no device remembers a packet
-module _ (a : Attempt) (d : Option Damage) (k : Ports) (settled : IsSettled k) (kind : is_setup a.kind ≡ false) where
+module _ (a : Attempt) (d : Option Damage) (k : Ports) (settled : IsSettled k)
+    (kind : is_setup a.kind ≡ false) where
   abbrev asked_ports : Ports
   asked_ports = after_sent (token_out a d) k
 
   token_calm : (j : ℕ) (p : List ℕ) → sent_resets (token_out a d) k j p ≡ false
-  token_calm j p = calm_sent (token_out a d) (token_calm_out a.addr (token_out a d) (goes a d k).token) k j p
+  token_calm j p = calm_sent (token_out a d)
+      (token_calm_out a.addr (token_out a d) (goes a d k).token) k j p
 
-  at_rest : (P : State → Type 0) (j : ℕ) (p : List ℕ) → ((s : State) → state_at k j p ≡ Some s → s.memory ≡ Nothing → P s) → If P (state_at k j p)
+  at_rest : (P : State → Type 0) (j : ℕ) (p : List ℕ)
+      → ((s : State) → state_at k j p ≡ Some s → s.memory ≡ Nothing → P s) → If P (state_at k j p)
   at_rest P j p c = go (state_at k j p) refl
     where
       go : (o : Option State) → state_at k j p ≡ o → If P o
@@ -282,77 +337,106 @@ module _ (a : Attempt) (d : Option Damage) (k : Ports) (settled : IsSettled k) (
   pub none_waits : (j : ℕ) (p : List ℕ) → If WaitsNone (state_at asked_ports j p)
   none_waits j p =
       sent_if Forgot WaitsNone (token_out a d) k j p (token_calm j p) (λ s m. ap saw_setup m)
-      (λ q deep s below e on m. (token_answer a.addr q (of_out (IsInOrOut a.addr) (token_out a d) q (token_out-in_or_out a d kind) e) deep s below m).0)
+      (λ q deep s below e on m. (token_answer a.addr q
+      (of_out (IsInOrOut a.addr) (token_out a d) q (token_out-in_or_out a d kind) e) deep s
+      below m).0)
       (at_rest Forgot j p (λ s e m. m))
 
-  pub data_calm : (j : ℕ) (p : List ℕ) → attempt_resets (token_out a d) (payload_out a d) k j p ≡ false
+  pub data_calm : (j : ℕ) (p : List ℕ) → attempt_resets (token_out a d) (payload_out a d) k j p
+      ≡ false
   data_calm j p = data_sent (payload_out a d) (goes a d k).payload asked_ports none_waits j p
 
   -- the device at a path takes no address
-  module _ (j : ℕ) (p : List ℕ) (c : (s : State) → reach_at k j p ≡ true → state_at k j p ≡ Some s → address_of s ≡ a.addr → ends_with_address s.stage ≡ false) where
+  module _ (j : ℕ) (p : List ℕ) (c : (s : State) → reach_at k j p ≡ true → state_at k j p ≡ Some s
+      → address_of s ≡ a.addr → ends_with_address s.stage ≡ false) where
     abbrev Takes : State → Type 0
-    Takes s = Forgot s × (reach_at k j p ≡ true → address_of s ≡ a.addr → ends_with_address s.stage ≡ false)
+    Takes s = Forgot s × (reach_at k j p ≡ true → address_of s ≡ a.addr
+        → ends_with_address s.stage ≡ false)
 
     calmed : If IsCalmed (state_at asked_ports j p)
     calmed =
-        sent_if Takes IsCalmed (token_out a d) k j p (token_calm j p) (λ s t. (ap saw_setup t.0, forgot_awaits s t.0))
+        sent_if Takes IsCalmed (token_out a d) k j p (token_calm j p)
+        (λ s t. (ap saw_setup t.0, forgot_awaits s t.0))
         (λ q deep s below e on t.
-        let x : AddressAfterData a.addr s (answer_of q deep s below).1 = token_answer a.addr q (of_out (IsInOrOut a.addr) (token_out a d) q (token_out-in_or_out a d kind) e) deep s below t.0 in
+        let x : AddressAfterData a.addr s (answer_of q deep s below).1 =
+        token_answer a.addr q (of_out (IsInOrOut a.addr) (token_out a d) q
+        (token_out-in_or_out a d kind) e) deep s below t.0 in
         (x.0, x.1 (t.1 on)))
         (at_rest Takes j p (λ s e m. (m, λ on. c s on e)))
 
     awaits_none : If AwaitsNoAddress (state_at (after_sent (payload_out a d) asked_ports) j p)
     awaits_none =
-        sent_if IsCalmed AwaitsNoAddress (payload_out a d) asked_ports j p (data_calm j p) (λ s r. r.1)
-        (λ q deep s below e on r. none_awaited_answer q (data_no_control_in q.content (of_out IsDataOut (payload_out a d) q (goes a d k).payload e)) deep s below r.1)
+        sent_if IsCalmed AwaitsNoAddress (payload_out a d) asked_ports j p (data_calm j p)
+        (λ s r. r.1)
+        (λ q deep s below e on r. none_awaited_answer q
+        (data_no_control_in q.content (of_out IsDataOut (payload_out a d) q
+        (goes a d k).payload e)) deep s below r.1)
         calmed
 
     calmed_awaits : (o : Option State) → If IsCalmed o → If AwaitsNoAddress o
     calmed_awaits None h = tt
     calmed_awaits (Some s) h = h.1
 
-    pub ports_address : option_map address_of (state_at (ports_in a d k) j p) ≡ option_map address_of (state_at k j p)
+    pub ports_address : option_map address_of (state_at (ports_in a d k) j p)
+        ≡ option_map address_of (state_at k j p)
     unfolding ports_in
     ports_address =
-        ap (option_map address_of) (forgotten_state (after_sent (reply_out a d k) (after_sent (payload_out a d) asked_ports)) j p)
-        ∙ forgotten_address (state_at (after_sent (reply_out a d k) (after_sent (payload_out a d) asked_ports)) j p)
-        ∙ kept_sent (reply_out a d k) (after_sent (payload_out a d) asked_ports) j p (calm_sent (reply_out a d k) (ack_out (reply_out a d k) (goes a d k).reply) (after_sent (payload_out a d) asked_ports) j p) awaits_none
-        ∙ kept_sent (payload_out a d) asked_ports j p (data_calm j p) (calmed_awaits (state_at asked_ports j p) calmed)
-        ∙ kept_sent (token_out a d) k j p (token_calm j p) (at_rest AwaitsNoAddress j p (λ s e m. forgot_awaits s m))
+        ap (option_map address_of) (forgotten_state
+        (after_sent (reply_out a d k) (after_sent (payload_out a d) asked_ports)) j p)
+        ∙ forgotten_address (state_at (after_sent (reply_out a d k)
+        (after_sent (payload_out a d) asked_ports)) j p)
+        ∙ kept_sent (reply_out a d k) (after_sent (payload_out a d) asked_ports) j p
+        (calm_sent (reply_out a d k) (ack_out (reply_out a d k) (goes a d k).reply)
+        (after_sent (payload_out a d) asked_ports) j p) awaits_none
+        ∙ kept_sent (payload_out a d) asked_ports j p (data_calm j p)
+        (calmed_awaits (state_at asked_ports j p) calmed)
+        ∙ kept_sent (token_out a d) k j p (token_calm j p)
+        (at_rest AwaitsNoAddress j p (λ s e m. forgot_awaits s m))
 
 -- Worlds
 
-made_own : (f : List ℕ → Option ℕ) (a : Attempt) (w : World) → is_setup a.kind ≡ false → NoneTakes a.addr w.roots → IsSettled w.roots → HoldsMapped f w → HoldsMapped f (with_attempt a w)
+made_own : (f : List ℕ → Option ℕ) (a : Attempt) (w : World) → is_setup a.kind ≡ false
+    → NoneTakes a.addr w.roots → IsSettled w.roots → HoldsMapped f w
+    → HoldsMapped f (with_attempt a w)
 unfolding with_attempt
 made_own f a w kind none settled own [] h = false_true h
 made_own f a w kind none settled own (zero ∷ p) h = false_true h
 made_own f a w kind none settled own (suc j ∷ p) h =
     ports_address a (damage_in w) w.roots settled kind j p (λ s on e at. none j p s on e at)
-    ∙ own (suc j ∷ p) (made_reach a w (suc j ∷ p) (data_calm a (damage_in w) w.roots settled kind j p) h)
+    ∙ own (suc j ∷ p) (made_reach a w (suc j ∷ p) (data_calm a (damage_in w) w.roots settled kind j
+    p) h)
 
-pub data_own : (f : List ℕ → Option ℕ) (a : Attempt) (w : World) → is_setup a.kind ≡ false → NoneTakes a.addr (at_attempt w).roots → IsSettled w.roots → HoldsMapped f w → HoldsMapped f (after (attempt a) w)
+pub data_own : (f : List ℕ → Option ℕ) (a : Attempt) (w : World) → is_setup a.kind ≡ false
+    → NoneTakes a.addr (at_attempt w).roots → IsSettled w.roots → HoldsMapped f w
+    → HoldsMapped f (after (attempt a) w)
 data_own f a w kind none settled own =
     after-attempt_by (HoldsMapped f) a w (λ _. (own, own))
     (λ _. made_own f a (at_attempt w) kind none (ready_settled w settled) (ready_own f w own))
 
-pub data_keeps : (f : List ℕ → Option ℕ) → Injective f → (a : Attempt) (w : World) → is_setup a.kind ≡ false → NoneTakes a.addr (at_attempt w).roots → IsSettled w.roots
-    → HoldsMapped f w → w.shared ≡ false → HoldsMapped f (after (attempt a) w) × ((after (attempt a) w).shared ≡ false)
-data_keeps f inj a w kind none settled own h = (data_own f a w kind none settled own, step_unshared f inj (attempt a) w own h)
+pub data_keeps : (f : List ℕ → Option ℕ) → Injective f → (a : Attempt) (w : World)
+    → is_setup a.kind ≡ false → NoneTakes a.addr (at_attempt w).roots → IsSettled w.roots
+    → HoldsMapped f w → w.shared ≡ false → HoldsMapped f (after (attempt a) w)
+    × ((after (attempt a) w).shared ≡ false)
+data_keeps f inj a w kind none settled own h =
+    (data_own f a w kind none settled own, step_unshared f inj (attempt a) w own h)
 
 -- Courses
 
-moved_own : (f : List ℕ → Option ℕ) (s : Step) (w : World) → MovesData s w → IsSettled w.roots → HoldsMapped f w → HoldsMapped f (after s w)
+moved_own : (f : List ℕ → Option ℕ) (s : Step) (w : World) → MovesData s w → IsSettled w.roots
+    → HoldsMapped f w → HoldsMapped f (after s w)
 moved_own f (attempt a) w m settled own = data_own f a w m.0 m.1 settled own
 moved_own f (root_call c n) w m settled own = elim m [ ]
 moved_own f event w m settled own = elim m [ ]
 moved_own f (report l) w m settled own = elim m [ ]
 
-given_own : (f : List ℕ → Option ℕ) (s : Step) (w : World) → GivesNoAddress s w → IsSettled w.roots → HoldsMapped f w → HoldsMapped f (after s w)
+given_own : (f : List ℕ → Option ℕ) (s : Step) (w : World) → GivesNoAddress s w → IsSettled w.roots
+    → HoldsMapped f w → HoldsMapped f (after s w)
 given_own f s w (inl q) settled own = step_own f s w q own
 given_own f s w (inr m) settled own = moved_own f s w m settled own
 
 -- a course of such steps keeps each reachable device at its own address, and sets no mark
-pub course_keeps : (f : List ℕ → Option ℕ) → Injective f → {w v : World} → Course GivesNoAddress w v → IsSettled w.roots → HoldsMapped f w → w.shared ≡ false
+pub course_keeps : (f : List ℕ → Option ℕ) → Injective f → {w v : World} → Course GivesNoAddress w v
+    → IsSettled w.roots → HoldsMapped f w → w.shared ≡ false
     → HoldsMapped f v × (v.shared ≡ false) × IsSettled v.roots
 course_keeps f inj c settled own h =
     kept_course (λ w. HoldsMapped f w × (w.shared ≡ false) × IsSettled w.roots)

@@ -1,5 +1,7 @@
--- Each device over an attempt that the bus gave up: it was made whole, and only its line was not written; or it changed no device.
-use Rattle.std.proofs.Common.{◌≡◌, ◌≢◌, ℕ, ◌||◌, List, false, inl, inr, Option, None, Some, Err, refl, sym, subst, ap, ◌∙◌}
+-- Each device over an attempt that the bus gave up: it was made whole, and only its line was not
+-- written; or it changed no device.
+use Rattle.std.proofs.Common.{◌≡◌, ◌≢◌, ℕ, ◌||◌, List, false, inl, inr, Option, None, Some, Err}
+use Rattle.std.proofs.Common.{refl, sym, subst, ap, ◌∙◌}
 use Rattle.usb_device.specs.Delivery.{held_addresses, repeats}
 use Rattle.usb_device.specs.Tree.{Ports, path_to, reach_on, state_on}
 use Rattle.usb_world.specs.declared.types.Attempt.{Attempt}
@@ -9,7 +11,8 @@ use Rattle.usb_tree.specs.AttemptPackets.{IsSettled}
 use Rattle.usb_world.specs.OneHolder.{IsMade}
 use Rattle.usb_world.specs.World.{World, IsAttempt, Attempted}
 use Rattle.usb_world.specs.Devices.{Relation, EachWas}
-use Rattle.usb_world.specs.Steps.{at_attempt, damage_in, with_attempt, attempt, after, Left, at_event, at_packet, at_line, GaveUp, AttemptFails}
+use Rattle.usb_world.specs.Steps.{at_attempt, damage_in, with_attempt, attempt, after, Left}
+use Rattle.usb_world.specs.Steps.{at_event, at_packet, at_line, GaveUp, AttemptFails}
 use Rattle.usb_world.proofs.addresses.AddressesKept.{StandsAfter, stood_events, ready_stood}
 use Rattle.usb_world.proofs.courses.LiftedSteps.{MadeOrNot, attempt_cases, over_coming}
 use Rattle.usb_tree.proofs.Interface.{neither}
@@ -29,41 +32,61 @@ each_stood w v f j s on there =
 
 -- What is so of each device depends on the ports alone
 
-each_same_roots : (R : Relation) (old w v : World) → w.roots ≡ v.roots → EachWas R old w → EachWas R old v
-each_same_roots R old w v e x j s on there = x j s (ap (λ k. reach_on k j) e ∙ on) (ap (λ k. state_on k j) e ∙ there)
+each_same_roots : (R : Relation) (old w v : World) → w.roots ≡ v.roots → EachWas R old w
+    → EachWas R old v
+each_same_roots R old w v e x j s on there =
+    x j s (ap (λ k. reach_on k j) e ∙ on) (ap (λ k. state_on k j) e ∙ there)
 
 -- The attempt
 
 -- no device changed; or the attempt was made
 pub data AttemptCut (a : Attempt) (w v : World) : Type 0 where
   unmade : w.shared ≡ false → EachWas (λ j s x. x ≡ s) w v → AttemptCut a w v
-  made_whole : w.shared ≡ false → IsMade a w → (after (attempt a) w).shared ≡ false → (after (attempt a) w).roots ≡ v.roots → AttemptCut a w v
+  made_whole : w.shared ≡ false → IsMade a w → (after (attempt a) w).shared ≡ false
+      → (after (attempt a) w).roots ≡ v.roots → AttemptCut a w v
 
 cut_at : (a : Attempt) (w x v : World) → x.roots ≡ v.roots → AttemptCut a w x → AttemptCut a w v
 cut_at a w x v e (unmade h each) = unmade h (each_same_roots Same w x v e each)
 cut_at a w x v e (made_whole h m u r) = made_whole h m u (r ∙ e)
 
-made_cut : (a : Attempt) (w : World) → IsMade a w → (after (attempt a) w).shared ≡ false → AttemptCut a w (after (attempt a) w)
+made_cut : (a : Attempt) (w : World) → IsMade a w → (after (attempt a) w).shared ≡ false
+    → AttemptCut a w (after (attempt a) w)
 unfolding with_attempt
 made_cut a w m u =
-    let both : (at_attempt w).shared || repeats (held_addresses (at_attempt w).roots) ≡ false = sym (ap (λ x. x.shared) (made_is a w m)) ∙ u in
-    made_whole (sym (ready_shared w) ∙ (neither (at_attempt w).shared (repeats (held_addresses (at_attempt w).roots)) both).0) m u refl
+    let both : (at_attempt w).shared || repeats (held_addresses (at_attempt w).roots) ≡ false =
+    sym (ap (λ x. x.shared) (made_is a w m)) ∙ u in
+    made_whole (sym (ready_shared w)
+    ∙ (neither (at_attempt w).shared (repeats (held_addresses (at_attempt w).roots)) both).0)
+    m u refl
 
-packet_cut : (a : Attempt) (w x : World) (k : Ports) → k ≡ (at_attempt w).roots → x ≡ record (at_attempt w) { roots = k; shared = (at_attempt w).shared || repeats (held_addresses (at_attempt w).roots) } → x.shared ≡ false → AttemptCut a w x
+packet_cut : (a : Attempt) (w x : World) (k : Ports) → k ≡ (at_attempt w).roots
+    → x ≡ record (at_attempt w) {
+      roots = k;
+      shared =
+          (at_attempt w).shared || repeats (held_addresses (at_attempt w).roots);
+    } → x.shared ≡ false
+    → AttemptCut a w x
 packet_cut a w x k e is single =
-    let both : (at_attempt w).shared || repeats (held_addresses (at_attempt w).roots) ≡ false = sym (ap (λ y. y.shared) is) ∙ single in
-    unmade (sym (ready_shared w) ∙ (neither (at_attempt w).shared (repeats (held_addresses (at_attempt w).roots)) both).0)
+    let both : (at_attempt w).shared || repeats (held_addresses (at_attempt w).roots) ≡ false =
+    sym (ap (λ y. y.shared) is) ∙ single in
+    unmade (sym (ready_shared w)
+    ∙ (neither (at_attempt w).shared (repeats (held_addresses (at_attempt w).roots)) both).0)
     (each_same_roots Same w (at_attempt w) x (sym (ap (λ y. y.roots) is ∙ e))
     (each_stood w (at_attempt w) (ready_stood w)))
 
-module _ (a : Attempt) (w : World) (fits : IsAttempt a) (sound : w.fault ≡ None) (settled : IsSettled w.roots) where
-  left_cut : (f : BusFault) (x : World) → w.attempts ≢ w.limit → Left a w f x → x.shared ≡ false → AttemptCut a w x
+module _ (a : Attempt) (w : World) (fits : IsAttempt a) (sound : w.fault ≡ None)
+    (settled : IsSettled w.roots) where
+  left_cut : (f : BusFault) (x : World) → w.attempts ≢ w.limit → Left a w f x → x.shared ≡ false
+      → AttemptCut a w x
   left_cut f x below (at_event c) single =
       unmade (sym (came_shared c) ∙ single) (each_stood w x (λ p. over_coming (stood_events p) c))
   left_cut f x below (at_packet k e c is) single =
-      let both : (at_attempt w).shared || repeats (held_addresses (at_attempt w).roots) ≡ false = sym (ap (λ y. y.shared) is) ∙ single in
+      let both : (at_attempt w).shared || repeats (held_addresses (at_attempt w).roots) ≡ false =
+      sym (ap (λ y. y.shared) is) ∙ single in
       packet_cut a w x k
-      (cut_alone a (damage_in (at_attempt w)) (at_attempt w).roots k fits (ready_settled w settled) c (neither (at_attempt w).shared (repeats (held_addresses (at_attempt w).roots)) both).1) is single
+      (cut_alone a (damage_in (at_attempt w)) (at_attempt w).roots k fits (ready_settled w settled)
+      c (neither (at_attempt w).shared (repeats (held_addresses (at_attempt w).roots))
+      both).1) is single
   left_cut f x below (at_line e is) single =
       let m : IsMade a w = record { sound = sound; within = below; settled = settled } in
       let same : after (attempt a) w ≡ x = made_is a w m ∙ sym is in
@@ -71,7 +94,8 @@ module _ (a : Attempt) (w : World) (fits : IsAttempt a) (sound : w.fault ≡ Non
 
   gave_up_cut : (f : BusFault) (v : World) → GaveUp a w f v → v.shared ≡ false → AttemptCut a w v
   gave_up_cut f v g single =
-      cut_at a w g.left v (sym (ap (λ y. y.roots) g.told)) (left_cut f g.left g.below g.so_far (sym (ap (λ y. y.shared) g.told) ∙ single))
+      cut_at a w g.left v (sym (ap (λ y. y.roots) g.told))
+      (left_cut f g.left g.below g.so_far (sym (ap (λ y. y.shared) g.told) ∙ single))
 
   limit_cut : (after (attempt a) w).shared ≡ false → AttemptCut a w (after (attempt a) w)
   limit_cut single = pick (attempt_cases a w)
@@ -83,17 +107,23 @@ module _ (a : Attempt) (w : World) (fits : IsAttempt a) (sound : w.fault ≡ Non
           (each_stood w w (λ p on. (on, refl))))
       pick (inr m) = made_cut a w (made_here a w m.0 settled) single
 
-  pub cut_attempt : (f : BusFault) (v : World) → AttemptFails a w (Err f) v → v.shared ≡ false → AttemptCut a w v
-  cut_attempt LimitReached v e single = subst (AttemptCut a w) (sym e) (limit_cut (ap (λ y. y.shared) (sym e) ∙ single))
+  pub cut_attempt : (f : BusFault) (v : World) → AttemptFails a w (Err f) v → v.shared ≡ false
+      → AttemptCut a w v
+  cut_attempt LimitReached v e single =
+      subst (AttemptCut a w) (sym e) (limit_cut (ap (λ y. y.shared) (sym e) ∙ single))
   cut_attempt Memory v g single = gave_up_cut Memory v g single
   cut_attempt TraceFailed v g single = gave_up_cut TraceFailed v g single
 
 -- the bus that had given up before changes nothing
-pub cut_or_same : (a : Attempt) (w : World) (f : BusFault) (v : World) → IsAttempt a → IsSettled w.roots → Attempted a w (Err f) v → (w.fault ≡ None → AttemptFails a w (Err f) v) → v.shared ≡ false → AttemptCut a w v
+pub cut_or_same : (a : Attempt) (w : World) (f : BusFault) (v : World) → IsAttempt a
+    → IsSettled w.roots → Attempted a w (Err f) v → (w.fault ≡ None → AttemptFails a w (Err f) v)
+    → v.shared ≡ false → AttemptCut a w v
 cut_or_same a w f v fits settled refused fails single = pick w.fault refl
   where
     pick : (o : Option BusFault) → w.fault ≡ o → AttemptCut a w v
     pick None e = cut_attempt a w fits e settled f v (fails e) single
     pick (Some g) e =
         let same : v ≡ w = (refused.again g e).1 in
-        unmade (sym (ap (λ y. y.shared) same) ∙ single) (each_same_roots Same w w v (sym (ap (λ y. y.roots) same)) (each_stood w w (λ p on. (on, refl))))
+        unmade (sym (ap (λ y. y.shared) same) ∙ single)
+        (each_same_roots Same w w v (sym (ap (λ y. y.roots) same))
+        (each_stood w w (λ p on. (on, refl))))

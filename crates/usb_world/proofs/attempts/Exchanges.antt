@@ -1,10 +1,12 @@
 -- What the code of an attempt does, packet by packet, is the attempt.
-use Rattle.std.proofs.Common.{◌≡◌, ◌+◌, List, [], ◌∷◌, ◌++◌, false, Option, Some, None, Result, Ok, Err, OnOk, OnErr, refl, sym, subst, ap, ap₂, ◌∙◌}
+use Rattle.std.proofs.Common.{◌≡◌, ◌+◌, List, [], ◌∷◌, ◌++◌, false, Option, Some, None, Result, Ok}
+use Rattle.std.proofs.Common.{Err, OnOk, OnErr, refl, sym, subst, ap, ap₂, ◌∙◌}
 use Rattle.usb_device.specs.declared.answer.Answer.{Answer}
 use Rattle.usb_device.specs.declared.delivery.Heard.{Heard}
 use Rattle.usb_device.specs.declared.delivery.Sent.{Sent}
 use Rattle.usb_device.specs.Tree.{Ports, ended, vacant, taken, row_of}
-use Rattle.usb_device.specs.Delivery.{all_forgotten, heard_of, both, heard_joined, delivered, figure}
+use Rattle.usb_device.specs.Delivery.{all_forgotten, heard_of, both, heard_joined, delivered}
+use Rattle.usb_device.specs.Delivery.{figure}
 use Rattle.usb_device.proofs.Interface.{figure-after, heard_of-append, row_of-forgotten}
 use Rattle.usb_world.specs.declared.damage.Damage.{Damage}
 use Rattle.usb_world.specs.declared.exchange.Exchange.{Exchange}
@@ -14,7 +16,10 @@ use Rattle.usb_world.specs.HeardAnswers.{heard_above}
 use Rattle.usb_tree.specs.AttemptPackets.{IsSettled, after_sent, answers_to}
 use Rattle.usb_world.proofs.packets.AttemptPackets.{after_attempt-settled}
 use Rattle.usb_world.specs.ExchangeEffects.{StaysPlugged, PacketWent, PacketsWent, Exchanged}
-use Rattle.usb_world.specs.Exchange.{token_of, payload_of, answer_place, answer_mark, reply_of, goes_out, heard_all, token_out, payload_out, heard_in, mark_in, reply_in, answered_in, is_lost, lost_in, clears_at, cleared_in, exchange_in, ended_in, ports_in}
+use Rattle.usb_world.specs.Exchange.{token_of, payload_of, answer_place, answer_mark, reply_of}
+use Rattle.usb_world.specs.Exchange.{goes_out, heard_all, token_out, payload_out, heard_in, mark_in}
+use Rattle.usb_world.specs.Exchange.{reply_in, answered_in, is_lost, lost_in, clears_at, cleared_in}
+use Rattle.usb_world.specs.Exchange.{exchange_in, ended_in, ports_in}
 
 pub heard_all_of : (xs : List Answer) → heard_above (heard_of xs) ≡ heard_all xs
 heard_all_of [] = refl
@@ -25,19 +30,24 @@ figure-forgotten : (k : Ports) → figure (all_forgotten k) ≡ figure k
 unfolding figure all_forgotten
 figure-forgotten ended = refl
 figure-forgotten (vacant b k) = ap (λ f. Some None ∷ f) (figure-forgotten k)
-figure-forgotten (taken b s a k) = ap₂ (λ f g. Some (Some s.spec) ∷ (f ++ g)) (figure-forgotten a) (figure-forgotten k)
+figure-forgotten (taken b s a k) = ap₂ (λ f g. Some (Some s.spec) ∷ (f ++ g)) (figure-forgotten a)
+    (figure-forgotten k)
 
 pub plugged_further : (k j m : Ports) → StaysPlugged k j → StaysPlugged j m → StaysPlugged k m
 plugged_further k j m x y = record { row = y.row ∙ x.row; figure = y.figure ∙ x.figure }
 
 -- a packet at the whole tree
 pub delivered_stays_plugged : {A E : Type 0} (r : Result A E) (q : Sent) (k m : Ports) (g h : Heard)
-    → OnOk r ((h, m) ≡ heard_joined g (delivered q false k)) → OnErr r (figure m ≡ figure k) → row_of m ≡ row_of k → StaysPlugged k m
-delivered_stays_plugged (Ok x) q k m g h ok err row = record { row = row; figure = ap (λ y. figure y.1) ok ∙ figure-after q false k }
+    → OnOk r ((h, m) ≡ heard_joined g (delivered q false k)) → OnErr r (figure m ≡ figure k)
+    → row_of m ≡ row_of k → StaysPlugged k m
+delivered_stays_plugged (Ok x) q k m g h ok err row =
+    record { row = row; figure = ap (λ y. figure y.1) ok ∙ figure-after q false k }
 delivered_stays_plugged (Err x) q k m g h ok err row = record { row = row; figure = err }
 
-pub sent_went : {A E : Type 0} (r : Result A E) (o : Option Sent) (q : Sent) (k m : Ports) (g h : Heard)
-    → o ≡ Some q → OnOk r ((h, m) ≡ heard_joined g (delivered q false k)) → OnOk r (PacketWent o k m g h)
+pub sent_went : {A E : Type 0} (r : Result A E) (o : Option Sent) (q : Sent) (k m : Ports)
+    (g h : Heard)
+    → o ≡ Some q → OnOk r ((h, m) ≡ heard_joined g (delivered q false k))
+    → OnOk r (PacketWent o k m g h)
 sent_went (Ok x) o q k m g h is e = record {
   heard = ap (λ y. y.0) e ∙ ap (λ y. both g (heard_of (answers_to y k))) (sym is);
   ports = ap (λ y. y.1) e ∙ ap (λ y. after_sent y k) (sym is);
@@ -46,7 +56,8 @@ sent_went (Err x) o q k m g h is e = e
 
 -- a packet at one device
 pub went_to : {A E : Type 0} (r : Result A E) (o : Option Sent) (k m : Ports) (g h : Heard)
-    → OnOk r (h ≡ both g (heard_of (answers_to o k))) → OnOk r (m ≡ after_sent o k) → OnOk r (PacketWent o k m g h)
+    → OnOk r (h ≡ both g (heard_of (answers_to o k))) → OnOk r (m ≡ after_sent o k)
+    → OnOk r (PacketWent o k m g h)
 went_to (Ok x) o k m g h heard ports = record { heard = heard; ports = ports }
 went_to (Err x) o k m g h heard ports = heard
 
@@ -60,7 +71,8 @@ over_plugged k j m e x = record {
 pub over_settled : (k m : Ports) → m ≡ all_forgotten k → IsSettled m
 over_settled k m e = subst IsSettled (sym e) (after_attempt-settled None None None k)
 
-pub over_made : (a : Attempt) (d : Option Damage) (k j m : Ports) (x : Exchange) → m ≡ all_forgotten j → PacketsWent a d k j x → Exchanged a d k m x
+pub over_made : (a : Attempt) (d : Option Damage) (k j m : Ports) (x : Exchange)
+    → m ≡ all_forgotten j → PacketsWent a d k j x → Exchanged a d k m x
 unfolding ports_in
 over_made a d k j m x e h = record { made = h.made; ports = e ∙ ap all_forgotten h.ports }
 
@@ -80,50 +92,58 @@ pub record Makes (a : Attempt) (damage : Option Damage) (k : Ports) (x : Exchang
   pub payload_went : second ≡ after_sent (goes_out a x.payload) first
   pub answer : x.answer ≡ heard_above to_both
   pub answer_mark : x.answer_mark ≡ answer_mark (harm_to damage (answer_place x.payload)) x.answer
-  pub reply : x.reply ≡ marked_some damage (answer_place x.payload + 1) a.pre (reply_of x.answer x.answer_mark a.max)
+  pub reply : x.reply ≡ marked_some damage (answer_place x.payload + 1) a.pre
+      (reply_of x.answer x.answer_mark a.max)
   pub lost : x.address_lost ≡ is_lost x.reply (goes_out a x.reply) second
   pub reply_went : third ≡ after_sent (goes_out a x.reply) second
 
-module _ (a : Attempt) (damage : Option Damage) (k : Ports) (x : Exchange) (m : Makes a damage k x) where
-  first_is : m.first ≡ after_sent (token_out a damage) k
-  first_is = m.token_went ∙ ap (λ t. after_sent (goes_out a (Some t)) k) m.token
+module _ (a : Attempt) (damage : Option Damage) (k : Ports) (x : Exchange) (m : Makes a damage k x)
+  where
+    first_is : m.first ≡ after_sent (token_out a damage) k
+    first_is = m.token_went ∙ ap (λ t. after_sent (goes_out a (Some t)) k) m.token
 
-  second_is : m.second ≡ answered_in a damage k
-  second_is = m.payload_went ∙ ap₂ (λ p r. after_sent (goes_out a p) r) m.payload first_is
+    second_is : m.second ≡ answered_in a damage k
+    second_is = m.payload_went ∙ ap₂ (λ p r. after_sent (goes_out a p) r) m.payload first_is
 
-  answer_is : x.answer ≡ heard_in a damage k
-  answer_is =
-      let to_token = m.token_heard ∙ ap (λ t. heard_of (answers_to (goes_out a (Some t)) k)) m.token in
-      let to_payload = ap₂ (λ p r. heard_of (answers_to (goes_out a p) r)) m.payload first_is in
-      m.answer
-      ∙ ap heard_above (m.payload_heard ∙ ap₂ both to_token to_payload ∙ sym (heard_of-append (answers_to (token_out a damage) k) (answers_to (payload_out a damage) (after_sent (token_out a damage) k))))
-      ∙ heard_all_of (answers_to (token_out a damage) k ++ answers_to (payload_out a damage) (after_sent (token_out a damage) k))
+    answer_is : x.answer ≡ heard_in a damage k
+    answer_is =
+        let to_token = m.token_heard ∙ ap (λ t. heard_of (answers_to (goes_out a (Some t)) k))
+        m.token in
+        let to_payload = ap₂ (λ p r. heard_of (answers_to (goes_out a p) r)) m.payload first_is in
+        m.answer
+        ∙ ap heard_above (m.payload_heard ∙ ap₂ both to_token to_payload
+        ∙ sym (heard_of-append (answers_to (token_out a damage) k)
+        (answers_to (payload_out a damage) (after_sent (token_out a damage) k))))
+        ∙ heard_all_of (answers_to (token_out a damage) k ++ answers_to (payload_out a damage)
+        (after_sent (token_out a damage) k))
 
-  mark_is : x.answer_mark ≡ mark_in a damage k
-  mark_is = m.answer_mark ∙ ap₂ (λ p h. answer_mark (harm_to damage (answer_place p)) h) m.payload answer_is
+    mark_is : x.answer_mark ≡ mark_in a damage k
+    mark_is = m.answer_mark ∙ ap₂ (λ p h. answer_mark (harm_to damage (answer_place p)) h) m.payload
+        answer_is
 
-  reply_is : x.reply ≡ reply_in a damage k
-  reply_is =
-      m.reply ∙ ap₂ (λ p o. marked_some damage (answer_place p + 1) a.pre o) m.payload (ap₂ (λ h mark. reply_of h mark a.max) answer_is mark_is)
+    reply_is : x.reply ≡ reply_in a damage k
+    reply_is =
+        m.reply ∙ ap₂ (λ p o. marked_some damage (answer_place p + 1) a.pre o) m.payload
+        (ap₂ (λ h mark. reply_of h mark a.max) answer_is mark_is)
 
-  lost_is : x.address_lost ≡ lost_in a damage k
-  unfolding lost_in
-  lost_is = m.lost ∙ ap₂ (λ r j. is_lost r (goes_out a r) j) reply_is second_is
+    lost_is : x.address_lost ≡ lost_in a damage k
+    unfolding lost_in
+    lost_is = m.lost ∙ ap₂ (λ r j. is_lost r (goes_out a r) j) reply_is second_is
 
-  cleared_is : x.change_cleared ≡ cleared_in a damage k
-  cleared_is = m.cleared ∙ ap₂ (λ p j. clears_at (goes_out a p) j) m.payload first_is
+    cleared_is : x.change_cleared ≡ cleared_in a damage k
+    cleared_is = m.cleared ∙ ap₂ (λ p j. clears_at (goes_out a p) j) m.payload first_is
 
-  pub made_exchange : x ≡ exchange_in a damage k
-  unfolding exchange_in
-  made_exchange = λ i. record {
-    token = m.token i;
-    payload = m.payload i;
-    answer = answer_is i;
-    answer_mark = mark_is i;
-    reply = reply_is i;
-    address_lost = lost_is i;
-    change_cleared = cleared_is i;
-  }
+    pub made_exchange : x ≡ exchange_in a damage k
+    unfolding exchange_in
+    made_exchange = λ i. record {
+      token = m.token i;
+      payload = m.payload i;
+      answer = answer_is i;
+      answer_mark = mark_is i;
+      reply = reply_is i;
+      address_lost = lost_is i;
+      change_cleared = cleared_is i;
+    }
 
-  pub made_ports : m.third ≡ ended_in a damage k
-  made_ports = m.reply_went ∙ ap₂ (λ r j. after_sent (goes_out a r) j) reply_is second_is
+    pub made_ports : m.third ≡ ended_in a damage k
+    made_ports = m.reply_went ∙ ap₂ (λ r j. after_sent (goes_out a r) j) reply_is second_is

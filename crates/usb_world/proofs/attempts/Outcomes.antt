@@ -18,7 +18,8 @@ given_by Nak = Some answer.Nak
 given_by Stall = Some answer.Stall
 given_by Nothing = None
 
-pub got_given : (max : ℕ) (o : Option Answer) (x : Outcome) → got max o ≡ x → x ≢ Nothing → o ≡ given_by x
+pub got_given : (max : ℕ) (o : Option Answer) (x : Outcome) → got max o ≡ x → x ≢ Nothing
+    → o ≡ given_by x
 got_given max o x e n = grind arith
 
 pub got_nak : (max : ℕ) (o : Option Answer) → got max o ≡ Nak → o ≡ Some answer.Nak
@@ -27,7 +28,8 @@ got_nak max o e = got_given max o Nak e (λ n. cc n)
 pub got_stall : (max : ℕ) (o : Option Answer) → got max o ≡ Stall → o ≡ Some answer.Stall
 got_stall max o e = got_given max o Stall e (λ n. cc n)
 
-pub got_payload : (max : ℕ) (o : Option Answer) (t : Toggle) (b : ArrayVec ℕ) → got max o ≡ Payload t b → o ≡ Some (answer.Data t b)
+pub got_payload : (max : ℕ) (o : Option Answer) (t : Toggle) (b : ArrayVec ℕ)
+    → got max o ≡ Payload t b → o ≡ Some (answer.Data t b)
 got_payload max o t b e = got_given max o (Payload t b) e (λ n. cc n)
 
 -- the host sends its ACK exactly where it got data
@@ -35,6 +37,7 @@ abbrev pub brings : Outcome → Bool
 brings (Payload t b) = true
 brings o = false
 
-pub acks : (h : ExchangeAnswer) (m : Mark) (max : ℕ) → reply_of h m max ≡ ack_if (brings (outcome_of h m max))
+pub acks : (h : ExchangeAnswer) (m : Mark) (max : ℕ)
+    → reply_of h m max ≡ ack_if (brings (outcome_of h m max))
 unfolding reply_of outcome_of
 acks h m max = grind arith

@@ -1,5 +1,6 @@
 -- Only the host's data can be refused memory on their way: no sink grows at a token or at an ACK.
-use Rattle.std.proofs.Common.{◌≡◌, ℕ, ◌&&◌, Bool, true, false, not, if◌then◌else◌, length, nat_le, Option, None, Some, Result, Ok, Err, OnErr, refl, sym, subst, ap, ◌∙◌}
+use Rattle.std.proofs.Common.{◌≡◌, ℕ, ◌&&◌, Bool, true, false, not, if◌then◌else◌, length, nat_le}
+use Rattle.std.proofs.Common.{Option, None, Some, Result, Ok, Err, OnErr, refl, sym, subst, ap, ◌∙◌}
 use Rattle.usb_packet.specs.declared.Packet.{Packet}
 use Rattle.usb_packet.specs.declared.Packet.TheVariants as packet
 use Rattle.usb_device.specs.declared.delivery.Content.{Content}
@@ -37,23 +38,29 @@ grows_some s None = false
 grows_some s (Some p) = sink_grows s p
 
 -- a packet is refused only where a sink was to grow
-not_stopped : (q : Sent) (deep : Bool) (k m : Ports) → ((s : State) → grows_at s q.content ≡ false) → Stopped q deep k m → ⊥
+not_stopped : (q : Sent) (deep : Bool) (k m : Ports) → ((s : State) → grows_at s q.content ≡ false)
+    → Stopped q deep k m → ⊥
 not_stopped q deep _ _ still (behind_empty {k = k} {m = m} b x) = not_stopped q deep k m still x
 not_stopped q deep _ _ still (behind {k = k} {m = m} b s a x) = not_stopped q deep k m still x
 not_stopped q deep _ _ still (below {a = a} {c = c} b s k on x) = not_stopped q true a c still x
-not_stopped q deep _ _ still (here b s a k p on whole heard grows) = false_true (sym (still s) ∙ ap (grows_at s) whole ∙ grows)
+not_stopped q deep _ _ still (here b s a k p on whole heard grows) =
+    false_true (sym (still s) ∙ ap (grows_at s) whole ∙ grows)
 
-not_stopped_out : (out : Option Sent) (k m : Ports) → ((s : State) → grows_out s out ≡ false) → IsStopped out k m → ⊥
-not_stopped_out out k m still h = not_stopped h.sent false k m (λ s. ap (grows_out s) (sym h.went) ∙ still s) h.stopped
+not_stopped_out : (out : Option Sent) (k m : Ports) → ((s : State) → grows_out s out ≡ false)
+    → IsStopped out k m → ⊥
+not_stopped_out out k m still h = not_stopped h.sent false k m (λ s. ap (grows_out s) (sym h.went)
+    ∙ still s) h.stopped
 
 -- damage makes no sink grow
-still_sent : (s : State) (low pre : Bool) (m : Mark) (p : Packet) → sink_grows s p ≡ false → grows_out s (sent_as low pre m p) ≡ false
+still_sent : (s : State) (low pre : Bool) (m : Mark) (p : Packet) → sink_grows s p ≡ false
+    → grows_out s (sent_as low pre m p) ≡ false
 still_sent s low pre mark.Whole p h = h
 still_sent s low pre mark.Lost p h = refl
 still_sent s low pre mark.PreLost p h = h
 still_sent s low pre (mark.Flipped bit) p h = refl
 
-still_marked : (s : State) (a : Attempt) (d : Option Damage) (n : ℕ) (o : Option Packet) → grows_some s o ≡ false → grows_out s (goes_out a (marked_some d n a.pre o)) ≡ false
+still_marked : (s : State) (a : Attempt) (d : Option Damage) (n : ℕ) (o : Option Packet)
+    → grows_some s o ≡ false → grows_out s (goes_out a (marked_some d n a.pre o)) ≡ false
 unfolding marked_some marked
 still_marked s a d n None h = refl
 still_marked s a d n (Some p) h = still_sent s a.low a.pre (marked d n a.pre p).mark p h
@@ -63,12 +70,18 @@ still_token : (s : State) (a : Attempt) → sink_grows s (token_of a) ≡ false
 unfolding token_of
 still_token s a = and_false (not s.spec.silent)
 
-still_reply : (s : State) (h : ExchangeAnswer) (m : Mark) (max : ℕ) → grows_some s (reply_of h m max) ≡ false
+still_reply : (s : State) (h : ExchangeAnswer) (m : Mark) (max : ℕ)
+    → grows_some s (reply_of h m max) ≡ false
 unfolding reply_of
 still_reply s heard.Nothing m max = refl
 still_reply s heard.Collision m max = refl
 still_reply s (heard.One (packet.Payload t bytes)) m max =
-    elim (is_read m && nat_le (length bytes.items) max) as (λ x. grows_some s (if x then Some packet.Ack else None) ≡ false) [ true ↦ and_false (not s.spec.silent) | false ↦ refl ]
+    elim (is_read m && nat_le (length bytes.items) max)
+    as (λ x. grows_some s (if x then Some packet.Ack else None) ≡ false) [
+      | true ↦
+          and_false (not s.spec.silent)
+      | false ↦ refl
+    ]
 still_reply s (heard.One packet.Ack) m max = refl
 still_reply s (heard.One (packet.Token kind n e)) m max = refl
 still_reply s (heard.One (packet.Sof f)) m max = refl
@@ -76,18 +89,34 @@ still_reply s (heard.One packet.Nak) m max = refl
 still_reply s (heard.One packet.Stall) m max = refl
 still_reply s (heard.One packet.Pre) m max = refl
 
-pub token_not_stopped : (a : Attempt) (d : Option Damage) (x : Outgoing) (k m : Ports) → x ≡ marked d 1 a.pre (token_of a) → IsStopped (goes_out a (Some x)) k m → ⊥
+pub token_not_stopped : (a : Attempt) (d : Option Damage) (x : Outgoing) (k m : Ports)
+    → x ≡ marked d 1 a.pre (token_of a) → IsStopped (goes_out a (Some x)) k m → ⊥
 unfolding marked
 token_not_stopped a d x k m is h =
     let P : Outgoing → Type 0 = λ y. IsStopped (goes_out a (Some y)) k m in
-    not_stopped_out (token_out a d) k m (λ s. still_sent s a.low a.pre (marked d 1 a.pre (token_of a)).mark (token_of a) (still_token s a)) (subst P is h)
+    not_stopped_out (token_out a d) k m
+    (λ s. still_sent s a.low a.pre (marked d 1 a.pre (token_of a)).mark (token_of a)
+    (still_token s a)) (subst P is h)
 
-pub reply_not_stopped : (a : Attempt) (d : Option Damage) (n : ℕ) (h : ExchangeAnswer) (mk : Mark) (max : ℕ) (x : Option Outgoing) (k m : Ports) → x ≡ marked_some d n a.pre (reply_of h mk max) → IsStopped (goes_out a x) k m → ⊥
+pub reply_not_stopped : (a : Attempt) (d : Option Damage) (n : ℕ) (h : ExchangeAnswer) (mk : Mark)
+    (max : ℕ) (x : Option Outgoing) (k m : Ports) → x ≡ marked_some d n a.pre (reply_of h mk max)
+    → IsStopped (goes_out a x) k m → ⊥
 reply_not_stopped a d n h mk max x k m is stopped =
     let P : Option Outgoing → Type 0 = λ y. IsStopped (goes_out a y) k m in
-    not_stopped_out (goes_out a (marked_some d n a.pre (reply_of h mk max))) k m (λ s. still_marked s a d n (reply_of h mk max) (still_reply s h mk max)) (subst P is stopped)
+    not_stopped_out (goes_out a (marked_some d n a.pre (reply_of h mk max))) k m
+    (λ s. still_marked s a d n (reply_of h mk max) (still_reply s h mk max))
+    (subst P is stopped)
 
 -- where it was refused, nothing is remembered of it after the attempt
-pub over_cut : {A E : Type 0} (a : Attempt) (d : Option Damage) (k j m : Ports) (r : Result A E) → m ≡ all_forgotten j → OnErr r (IsStopped (payload_out a d) (after_sent (token_out a d) k) j) → OnErr r (IsCut a d k m)
+pub over_cut : {A E : Type 0} (a : Attempt) (d : Option Damage) (k j m : Ports) (r : Result A E)
+    → m ≡ all_forgotten j → OnErr r (IsStopped (payload_out a d) (after_sent (token_out a d) k) j)
+    → OnErr r (IsCut a d k m)
 over_cut a d k j m (Ok x) e h = h
-over_cut a d k j m (Err x) e h = record { sent = h.sent; went = h.went; tree = j; stopped = h.stopped; is = e }
+over_cut a d k j m (Err x) e h = record {
+  sent = h.sent;
+  went = h.went;
+  tree = j;
+  stopped =
+      h.stopped;
+  is = e;
+}

@@ -1,5 +1,7 @@
 -- An attempt at an address that nobody holds.
-use Rattle.std.proofs.Common.{◌≡◌, ℕ, ◌+◌, ◌==◌, if◌then◌else◌, Bool, true, false, List, [], ◌∷◌, ◌++◌, Option, None, Some, option_map, refl, ap, ap₂, sym, subst, ◌∙◌, arith}
+use Rattle.std.proofs.Common.{◌≡◌, ℕ, ◌+◌, ◌==◌, if◌then◌else◌, Bool, true, false, List, [], ◌∷◌}
+use Rattle.std.proofs.Common.{◌++◌, Option, None, Some, option_map, refl, ap, ap₂, sym, subst, ◌∙◌}
+use Rattle.std.proofs.Common.{arith}
 use Rattle.std.proofs.lemmas.Bool.Decides.{nat_tests}
 use Rattle.arrayvec.specs.ArrayVec.{ArrayVec}
 use Rattle.usb_device.specs.declared.delivery.Sent.{Sent}
@@ -17,15 +19,20 @@ use Rattle.usb_world.specs.declared.wire.Mark.{Mark}
 use Rattle.usb_world.specs.declared.wire.Mark.TheVariants.{Whole}
 use Rattle.usb_world.specs.declared.wire.Outgoing.{Outgoing}
 use Rattle.usb_world.specs.Wire.{harm_to, marked, marked_some}
-use Rattle.usb_world.specs.Exchange.{token_of, payload_in, token_out, payload_out, reply_out, heard_all, heard_in, mark_in, reply_in, lost_in, cleared_in, answered_in, goes_out, is_lost, clears_at, answer_mark, reply_of, place_of_answer, exchange_in, ports_in}
-use Rattle.usb_tree.specs.AttemptPackets.{after_sent, answers_to, IfOut, IsSettled, IsTokenFor, NobodyHolds}
+use Rattle.usb_world.specs.Exchange.{token_of, payload_in, token_out, payload_out, reply_out}
+use Rattle.usb_world.specs.Exchange.{heard_all, heard_in, mark_in, reply_in, lost_in, cleared_in}
+use Rattle.usb_world.specs.Exchange.{answered_in, goes_out, is_lost, clears_at, answer_mark}
+use Rattle.usb_world.specs.Exchange.{reply_of, place_of_answer, exchange_in, ports_in}
+use Rattle.usb_tree.specs.AttemptPackets.{after_sent, answers_to, IfOut, IsSettled, IsTokenFor}
+use Rattle.usb_tree.specs.AttemptPackets.{NobodyHolds}
 use Rattle.usb_world.specs.ExchangeEffects.{Exchanged, StaysPlugged}
 use Rattle.usb_world.specs.Silence.{silent_exchange}
 use Rattle.usb_tree.specs.Paths.{address_of}
 use Rattle.usb_world.proofs.courses.Courses.{goes}
 use Rattle.usb_tree.proofs.Interface.{swapped}
 use Rattle.usb_tree.proofs.Interface.{occurs, one_if, occurs-reached}
-use Rattle.usb_world.proofs.holders.OneDevice.{nobody_answers, sent_to_nobody, settled_memory, token_calls}
+use Rattle.usb_world.proofs.holders.OneDevice.{nobody_answers, sent_to_nobody, settled_memory}
+use Rattle.usb_world.proofs.holders.OneDevice.{token_calls}
 use Rattle.usb_world.proofs.ways.Routes.{rest_clears}
 
 -- ---- an index with nobody at an address
@@ -37,12 +44,15 @@ holder_among-nobody (Some p ∷ []) e = cc
 holder_among-nobody (None ∷ w ∷ ws) e = cc
 holder_among-nobody (Some p ∷ w ∷ ws) e = cc
 
-none_occurs : (n : ℕ) (xs : List (ℕ × Option (ArrayVec ℕ))) → paths_at n xs ≡ [] → occurs n (way_addresses xs) ≡ 0
+none_occurs : (n : ℕ) (xs : List (ℕ × Option (ArrayVec ℕ))) → paths_at n xs ≡ []
+    → occurs n (way_addresses xs) ≡ 0
 unfolding occurs
 none_occurs n [] e = refl
 none_occurs n (x ∷ xs) e = split (x.0 == n) refl (none_occurs n xs) e
   where
-    split : (b : Bool) → (x.0 == n) ≡ b → (paths_at n xs ≡ [] → occurs n (way_addresses xs) ≡ 0) → (if b then x.1 ∷ paths_at n xs else paths_at n xs) ≡ [] → one_if (n == x.0) + occurs n (way_addresses xs) ≡ 0
+    split : (b : Bool) → (x.0 == n) ≡ b → (paths_at n xs ≡ [] → occurs n (way_addresses xs) ≡ 0)
+        → (if b then x.1 ∷ paths_at n xs else paths_at n xs) ≡ []
+        → one_if (n == x.0) + occurs n (way_addresses xs) ≡ 0
     split true is behind e = cc
     split false is behind e = rw (swapped x.0 n is) (omega (arith, behind e))
 
@@ -50,18 +60,25 @@ pub nobody_there : (n : ℕ) (k : Ports) → holder_of n k ≡ Nobody → Nobody
 nobody_there n k h i e t at on = split (n == address_of t) refl
   where
     none : occurs n (held_addresses k) ≡ 0
-    none = ap (occurs n) (sym (held-reached _ 1 k)) ∙ none_occurs n (all_reached k) (holder_among-nobody (paths_at n (all_reached k)) h)
+    none = ap (occurs n) (sym (held-reached _ 1 k))
+        ∙ none_occurs n (all_reached k) (holder_among-nobody (paths_at n (all_reached k)) h)
 
     is_number : (m : ℕ) → (n == m) ≡ true → m ≡ n
     is_number m h = grind (arith, nat_tests, h)
 
     split : (b : Bool) → (n == address_of t) ≡ b → b ≡ false
-    split true is = absurd (omega (arith, none, occurs-reached k i e n on (ap (option_map address_of) at ∙ ap (λ x. Some x) (is_number (address_of t) is))))
+    split true is = absurd (omega (
+      arith,
+      none,
+      occurs-reached k i e n on (ap (option_map address_of) at
+          ∙ ap (λ x. Some x) (is_number (address_of t) is)),
+    ))
     split false is = refl
 
 -- ---- the attempt
 
-abbrev exchange_of : Attempt → Option Damage → ExchangeAnswer → Mark → Option Outgoing → Bool → Bool → Exchange
+abbrev exchange_of : Attempt → Option Damage → ExchangeAnswer → Mark → Option Outgoing → Bool → Bool
+    → Exchange
 exchange_of a d answer mark reply lost cleared = record {
   token = marked d 1 a.pre (token_of a);
   payload = payload_in a d;
@@ -72,11 +89,13 @@ exchange_of a d answer mark reply lost cleared = record {
   change_cleared = cleared;
 }
 
-marked_some-nothing : (d : Option Damage) (n : ℕ) (pre : Bool) (m : Mark) (max : ℕ) → marked_some d n pre (reply_of Nothing m max) ≡ None
+marked_some-nothing : (d : Option Damage) (n : ℕ) (pre : Bool) (m : Mark) (max : ℕ)
+    → marked_some d n pre (reply_of Nothing m max) ≡ None
 unfolding marked_some reply_of
 marked_some-nothing d n pre m max = refl
 
-module _ (a : Attempt) (d : Option Damage) (k : Ports) (settled : IsSettled k) (nobody : NobodyHolds a.addr k) where
+module _ (a : Attempt) (d : Option Damage) (k : Ports) (settled : IsSettled k)
+    (nobody : NobodyHolds a.addr k) where
   abbrev t : Option Sent
   t = token_out a d
 
@@ -84,7 +103,9 @@ module _ (a : Attempt) (d : Option Damage) (k : Ports) (settled : IsSettled k) (
   q = payload_out a d
 
   token_unheard : after_sent t k ≡ k
-  token_unheard = (sent_to_nobody t k settled (λ x o s w. token_calls a.addr x.content s (subst (IfOut (IsTokenFor a.addr)) o (goes a d k).token) (nobody w.0 w.1 s w.2 w.3))).0
+  token_unheard = (sent_to_nobody t k settled
+      (λ x o s w. token_calls a.addr x.content s
+      (subst (IfOut (IsTokenFor a.addr)) o (goes a d k).token) (nobody w.0 w.1 s w.2 w.3))).0
 
   unheard : (ports_in a d k ≡ k) × (answers_to t k ≡ []) × (answers_to q (after_sent t k) ≡ [])
   unfolding ports_in
@@ -98,7 +119,9 @@ module _ (a : Attempt) (d : Option Damage) (k : Ports) (settled : IsSettled k) (
   mark_whole = ap (answer_mark (harm_to d (place_of_answer a d))) heard_nothing
 
   replied_none : reply_in a d k ≡ None
-  replied_none = ap (λ x. marked_some d (place_of_answer a d + 1) a.pre (reply_of x (mark_in a d k) a.max)) heard_nothing ∙ marked_some-nothing d (place_of_answer a d + 1) a.pre (mark_in a d k) a.max
+  replied_none = ap (λ x. marked_some d (place_of_answer a d + 1) a.pre
+      (reply_of x (mark_in a d k) a.max)) heard_nothing
+      ∙ marked_some-nothing d (place_of_answer a d + 1) a.pre (mark_in a d k) a.max
 
   lost_none : lost_in a d k ≡ false
   unfolding lost_in
@@ -114,8 +137,10 @@ module _ (a : Attempt) (d : Option Damage) (k : Ports) (settled : IsSettled k) (
   exchange_is : exchange_in a d k ≡ silent_exchange a d
   unfolding exchange_in
   exchange_is =
-      ap (λ x. exchange_of a d x (mark_in a d k) (reply_in a d k) (lost_in a d k) (cleared_in a d k)) heard_nothing
-      ∙ ap (λ x. exchange_of a d Nothing x (reply_in a d k) (lost_in a d k) (cleared_in a d k)) mark_whole
+      ap (λ x. exchange_of a d x (mark_in a d k) (reply_in a d k) (lost_in a d k)
+      (cleared_in a d k)) heard_nothing
+      ∙ ap (λ x. exchange_of a d Nothing x (reply_in a d k) (lost_in a d k) (cleared_in a d k))
+      mark_whole
       ∙ ap (λ x. exchange_of a d Nothing Whole x (lost_in a d k) (cleared_in a d k)) replied_none
       ∙ ap (λ x. exchange_of a d Nothing Whole None x (cleared_in a d k)) lost_none
       ∙ ap (λ x. exchange_of a d Nothing Whole None false x) cleared_none

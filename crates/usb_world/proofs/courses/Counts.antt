@@ -1,17 +1,24 @@
 -- How the counts of several steps join.
 use Rattle.std.proofs.Common.{◌≡◌, ◌∙◌, refl, sym, ap, subst, arith, suc, zero}
 use Rattle.std.proofs.lemmas.Option.{same_Some}
-use Rattle.std.specs.Prelude.{ℕ, ◌+◌, ◌-◌, ◌<◌, ◌≤◌, List, [], ◌∷◌, length, Bool, true, false, slice_set, slice_index_or, is_some, if◌then◌else◌, ◌&&◌, ◌==◌, Option, Some, None}
+use Rattle.std.specs.Prelude.{ℕ, ◌+◌, ◌-◌, ◌<◌, ◌≤◌, List, [], ◌∷◌, length, Bool, true, false}
+use Rattle.std.specs.Prelude.{slice_set, slice_index_or, is_some, if◌then◌else◌, ◌&&◌, ◌==◌, Option}
+use Rattle.std.specs.Prelude.{Some, None}
 use Rattle.usb_port.specs.PortState.{PortState, is_attached, off}
 use Rattle.std.proofs.Common.{length-set}
-use Rattle.usb_request.specs.Features.{PORT_ENABLE, PORT_RESET, PORT_POWER, C_PORT_CONNECTION, C_PORT_ENABLE, C_PORT_RESET}
+use Rattle.usb_request.specs.Features.{PORT_ENABLE, PORT_RESET, PORT_POWER, C_PORT_CONNECTION}
+use Rattle.usb_request.specs.Features.{C_PORT_ENABLE, C_PORT_RESET}
 use Rattle.usb_port.specs.declared.call.PortCall.{PortCall}
-use Rattle.usb_port.specs.Calls.{called_port, port_by, is_reset, set_call, clear_call, IsSetFeature, IsClearFeature}
+use Rattle.usb_port.specs.Calls.{called_port, port_by, is_reset, set_call, clear_call, IsSetFeature}
+use Rattle.usb_port.specs.Calls.{IsClearFeature}
 use Rattle.usb_device.specs.Rows.{State}
-use Rattle.usb_device.specs.Tree.{Ports, ended, vacant, taken, new_ports, first_ports, all_off, acted, Place, empty, full, before, reset_where, called, replaced, changed, changed_at, row_of}
+use Rattle.usb_device.specs.Tree.{Ports, ended, vacant, taken, new_ports, first_ports, all_off}
+use Rattle.usb_device.specs.Tree.{acted, Place, empty, full, before, reset_where, called, replaced}
+use Rattle.usb_device.specs.Tree.{changed, changed_at, row_of}
 use Rattle.usb_world.proofs.courses.LiftedSteps.{happened_by}
 use Rattle.usb_tree.proofs.Interface.{false_true}
-use Rattle.usb_world.specs.World.{World, roots_of, root_row, to_come, change_of, AttemptsWithin, IsRootPort, changes, root_port_at}
+use Rattle.usb_world.specs.World.{World, roots_of, root_row, to_come, change_of, AttemptsWithin}
+use Rattle.usb_world.specs.World.{IsRootPort, changes, root_port_at}
 use Rattle.usb_device.specs.Spec.{Spec, Hub}
 use Rattle.usb_device.specs.declared.effect.Effect.{Effect}
 use Rattle.usb_device.specs.declared.effect.Effect.TheVariants as effect
@@ -31,7 +38,8 @@ spends_none w = record {
   served = omega arith;
 }
 
-pub spends_then : (m n : ℕ) (a b c : World) → AttemptsWithin m a b → AttemptsWithin n b c → AttemptsWithin (m + n) a c
+pub spends_then : (m n : ℕ) (a b c : World) → AttemptsWithin m a b → AttemptsWithin n b c
+    → AttemptsWithin (m + n) a c
 spends_then m n a b c p q = record {
   limit = q.limit ∙ p.limit;
   roots = q.roots ∙ p.roots;
@@ -56,7 +64,8 @@ spends_wider m n a b p le = record {
 }
 
 -- the number of change bits, where one port is written
-pub changes-set : (ps : List PortState) (i : ℕ) (p : PortState) → i < length ps → changes (slice_set ps i p) + change_of (slice_index_or ps i off) ≡ changes ps + change_of p
+pub changes-set : (ps : List PortState) (i : ℕ) (p : PortState) → i < length ps
+    → changes (slice_set ps i p) + change_of (slice_index_or ps i off) ≡ changes ps + change_of p
 unfolding changes
 changes-set [] i p lt = absurd (omega (arith, lt))
 changes-set (q ∷ ps) zero p lt = omega arith
@@ -66,17 +75,20 @@ none_not_call : (c : PortCall) → None ≡ Some c → ⊥
 none_not_call c e = cc
 
 -- a call at a port of a row is a row of the port table there
-row_reset : (x : Bool) (b : PortState) (s : State) (a k : Ports) → row_of (before (reset_where x b s a) k) ≡ b ∷ row_of k
+row_reset : (x : Bool) (b : PortState) (s : State) (a k : Ports)
+    → row_of (before (reset_where x b s a) k) ≡ b ∷ row_of k
 unfolding row_of
 row_reset true b s a k = refl
 row_reset false b s a k = refl
 
-pub row_called : (c : PortCall) (k : Ports) (i : ℕ) → row_of (changed_at (called c) k i []) ≡ slice_set (row_of k) i (called_port c (slice_index_or (row_of k) i off))
+pub row_called : (c : PortCall) (k : Ports) (i : ℕ) → row_of (changed_at (called c) k i [])
+    ≡ slice_set (row_of k) i (called_port c (slice_index_or (row_of k) i off))
 unfolding row_of changed_at
 row_called c ended i = refl
 row_called c (vacant b k) zero = refl
 row_called c (vacant b k) (suc i) = ap (λ r. b ∷ r) (row_called c k i)
-row_called c (taken b s a k) zero = row_reset (is_reset c && (b.power && is_attached b.attached)) (called_port c b) s a k
+row_called c (taken b s a k) zero = row_reset (is_reset c && (b.power && is_attached b.attached))
+    (called_port c b) s a k
 row_called c (taken b s a k) (suc i) = ap (λ r. b ∷ r) (row_called c k i)
 
 -- what a root call leaves as it was
@@ -91,22 +103,44 @@ pub record RootCalled (port : ℕ) (p : PortState) (old new : World) : Type 0 wh
 before_next : (i : ℕ) → i ≡ suc i - 1
 before_next i = omega arith
 
-called_root : (port : ℕ) (c : PortCall) (w : World) → IsRootPort w port → RootCalled port (called_port c (root_port_at w port)) w (after (root_call c port) w)
+called_root : (port : ℕ) (c : PortCall) (w : World) → IsRootPort w port
+    → RootCalled port (called_port c (root_port_at w port)) w (after (root_call c port) w)
 unfolding after root_port_at
 called_root zero c w is = absurd (omega (arith, is.0))
-called_root (suc i) c w is = record { row = subst (λ j. row_of (changed_at (called c) w.roots i []) ≡ slice_set (row_of w.roots) j (called_port c (slice_index_or (row_of w.roots) j off))) (before_next i) (row_called c w.roots i); attempts = refl; limit = refl; taken = refl; left = refl; fault = refl }
+called_root (suc i) c w is = record {
+  row =
+      subst (λ j. row_of (changed_at (called c) w.roots i []) ≡ slice_set (row_of w.roots) j
+      (called_port c (slice_index_or (row_of w.roots) j off))) (before_next i)
+      (row_called c w.roots i);
+  attempts = refl;
+  limit = refl;
+  taken = refl;
+  left = refl;
+  fault =
+      refl;
+}
 
 -- a call at a root port, and its row of the port table
-pub root_called : (port : ℕ) (call : Option PortCall) (old new : World) → IsRootPort old port → is_some call ≡ true → ((c : PortCall) → call ≡ Some c → new ≡ after (root_call c port) old) → RootCalled port (port_by call (root_port_at old port)) old new
+pub root_called : (port : ℕ) (call : Option PortCall) (old new : World) → IsRootPort old port
+    → is_some call ≡ true → ((c : PortCall) → call ≡ Some c → new ≡ after (root_call c port) old)
+    → RootCalled port (port_by call (root_port_at old port)) old new
 root_called port None old new is named step = false_true named
-root_called port (Some c) old new is named step = subst (λ w. RootCalled port (called_port c (root_port_at old port)) old w) (sym (step c refl)) (called_root port c old is)
+root_called port (Some c) old new is named step =
+    subst (λ w. RootCalled port (called_port c (root_port_at old port)) old w) (sym (step c refl))
+    (called_root port c old is)
 
 -- a step is a root call of its feature
-pub set_step : (port feature : ℕ) (old new : World) → IsRootPort old port → IsSetFeature feature → ((c : PortCall) → set_call feature ≡ Some c → new ≡ after (root_call c port) old) → SetsRoot port feature old new
-set_step port feature old new is named step = record { step = step; row = (root_called port (set_call feature) old new is named step).row }
+pub set_step : (port feature : ℕ) (old new : World) → IsRootPort old port → IsSetFeature feature
+    → ((c : PortCall) → set_call feature ≡ Some c → new ≡ after (root_call c port) old)
+    → SetsRoot port feature old new
+set_step port feature old new is named step =
+    record { step = step; row = (root_called port (set_call feature) old new is named step).row }
 
-pub clear_step : (port feature : ℕ) (old new : World) → IsRootPort old port → IsClearFeature feature → ((c : PortCall) → clear_call feature ≡ Some c → new ≡ after (root_call c port) old) → ClearsRoot port feature old new
-clear_step port feature old new is named step = record { step = step; row = (root_called port (clear_call feature) old new is named step).row }
+pub clear_step : (port feature : ℕ) (old new : World) → IsRootPort old port → IsClearFeature feature
+    → ((c : PortCall) → clear_call feature ≡ Some c → new ≡ after (root_call c port) old)
+    → ClearsRoot port feature old new
+clear_step port feature old new is named step =
+    record { step = step; row = (root_called port (clear_call feature) old new is named step).row }
 
 -- whatever is written somewhere, a row has as many ports
 row_head : (q : Place) (k : Ports) → length (row_of (before q k)) ≡ suc (length (row_of k))
@@ -114,7 +148,8 @@ unfolding row_of
 row_head (empty b) k = refl
 row_head (full b s a) k = refl
 
-pub row_long_at : (f : Place → Place) (k : Ports) (i : ℕ) (p : List ℕ) → length (row_of (changed_at f k i p)) ≡ length (row_of k)
+pub row_long_at : (f : Place → Place) (k : Ports) (i : ℕ) (p : List ℕ)
+    → length (row_of (changed_at f k i p)) ≡ length (row_of k)
 unfolding row_of changed_at
 row_long_at f ended i p = refl
 row_long_at f (vacant b k) zero [] = row_head (f (empty b)) k
@@ -125,7 +160,8 @@ row_long_at f (taken b s a k) zero (zero ∷ p) = refl
 row_long_at f (taken b s a k) zero (suc j ∷ p) = refl
 row_long_at f (taken b s a k) (suc i) p = ap (λ n. suc n) (row_long_at f k i p)
 
-pub row_long : (f : Place → Place) (k : Ports) (p : List ℕ) → length (row_of (changed f k p)) ≡ length (row_of k)
+pub row_long : (f : Place → Place) (k : Ports) (p : List ℕ) → length (row_of (changed f k p))
+    ≡ length (row_of k)
 row_long f k [] = refl
 row_long f k (zero ∷ p) = refl
 row_long f k (suc i ∷ p) = row_long_at f k i p
@@ -153,7 +189,8 @@ acted_long effect.Leaves k = refl
 acted_long (effect.Calls c i) k = row_long_at (called c) k i []
 acted_long effect.PortsOff k = off_long k
 
-pub happened_long : (a : Action) (ds : List Spec) (k : Ports) → length (row_of (after_change a ds k)) ≡ length (row_of k)
+pub happened_long : (a : Action) (ds : List Spec) (k : Ports)
+    → length (row_of (after_change a ds k)) ≡ length (row_of k)
 happened_long a ds k =
     happened_by (λ v _. length (row_of v) ≡ length (row_of k)) a ds k [] refl
     (λ o p. row_long (replaced o) k p)
@@ -161,14 +198,17 @@ happened_long a ds k =
 -- what is written at one place sets at most one change bit of a row
 pub change_most : (p : PortState) → change_of p ≤ 1
 unfolding change_of
-change_most p = elim p.connection_changed as (λ b. (if b then 1 else 0) ≤ 1) [ true ↦ omega arith | false ↦ omega arith ]
+change_most p = elim p.connection_changed
+    as (λ b. (if b then 1 else 0) ≤ 1) [ true ↦ omega arith | false ↦ omega arith ]
 
-head_changes : (q : Place) (p : PortState) (k : Ports) → changes (row_of (before q k)) ≤ change_of p + changes (row_of k) + 1
+head_changes : (q : Place) (p : PortState) (k : Ports) → changes (row_of (before q k))
+    ≤ change_of p + changes (row_of k) + 1
 unfolding row_of changes
 head_changes (empty b) p k = omega (arith, change_most b)
 head_changes (full b s a) p k = omega (arith, change_most b)
 
-changes_at : (f : Place → Place) (k : Ports) (i : ℕ) (p : List ℕ) → changes (row_of (changed_at f k i p)) ≤ changes (row_of k) + 1
+changes_at : (f : Place → Place) (k : Ports) (i : ℕ) (p : List ℕ)
+    → changes (row_of (changed_at f k i p)) ≤ changes (row_of k) + 1
 unfolding row_of changed_at changes
 changes_at f ended i p = omega arith
 changes_at f (vacant b k) zero [] = head_changes (f (empty b)) b k
@@ -179,19 +219,23 @@ changes_at f (taken b s a k) zero (zero ∷ p) = omega arith
 changes_at f (taken b s a k) zero (suc j ∷ p) = omega arith
 changes_at f (taken b s a k) (suc i) p = omega (arith, changes_at f k i p)
 
-changes_path : (f : Place → Place) (k : Ports) (p : List ℕ) → changes (row_of (changed f k p)) ≤ changes (row_of k) + 1
+changes_path : (f : Place → Place) (k : Ports) (p : List ℕ) → changes (row_of (changed f k p))
+    ≤ changes (row_of k) + 1
 changes_path f k [] = omega arith
 changes_path f k (zero ∷ p) = omega arith
 changes_path f k (suc i ∷ p) = changes_at f k i p
 
-pub happened_changes : (a : Action) (ds : List Spec) (k : Ports) → changes (row_of (after_change a ds k)) ≤ changes (row_of k) + 1
+pub happened_changes : (a : Action) (ds : List Spec) (k : Ports)
+    → changes (row_of (after_change a ds k)) ≤ changes (row_of k) + 1
 happened_changes a ds k =
     happened_by (λ v _. changes (row_of v) ≤ changes (row_of k) + 1) a ds k [] (omega arith)
     (λ o p. changes_path (replaced o) k p)
 
 -- an event that came
-pub event_spends : (old new : World) → changes (root_row new) ≤ changes (root_row old) + 1 → roots_of new ≡ roots_of old → new.taken ≡ old.taken + 1
-    → to_come new + 1 ≡ to_come old → new.attempts ≡ old.attempts → new.limit ≡ old.limit → AttemptsWithin 0 old new
+pub event_spends : (old new : World) → changes (root_row new) ≤ changes (root_row old) + 1
+    → roots_of new ≡ roots_of old → new.taken ≡ old.taken + 1
+    → to_come new + 1 ≡ to_come old → new.attempts ≡ old.attempts → new.limit ≡ old.limit
+    → AttemptsWithin 0 old new
 event_spends old new grown number came left attempts limit = record {
   limit = limit;
   roots = number;
@@ -203,26 +247,39 @@ event_spends old new grown number came left attempts limit = record {
   onward = omega (arith, came);
 }
 
-pub came_spends : (old new : World) (a : Action) (ds : List Spec) → new.roots ≡ after_change a ds old.roots → new.taken ≡ old.taken + 1
-    → to_come new + 1 ≡ to_come old → new.attempts ≡ old.attempts → new.limit ≡ old.limit → AttemptsWithin 0 old new
+pub came_spends : (old new : World) (a : Action) (ds : List Spec)
+    → new.roots ≡ after_change a ds old.roots → new.taken ≡ old.taken + 1
+    → to_come new + 1 ≡ to_come old → new.attempts ≡ old.attempts → new.limit ≡ old.limit
+    → AttemptsWithin 0 old new
 came_spends old new a ds e came left attempts limit =
-    event_spends old new (subst (λ k. changes (row_of k) ≤ changes (root_row old) + 1) (sym e) (happened_changes a ds old.roots))
+    event_spends old new (subst (λ k. changes (row_of k) ≤ changes (root_row old) + 1) (sym e)
+    (happened_changes a ds old.roots))
     (ap (λ k. length (row_of k)) e ∙ happened_long a ds old.roots) came left attempts limit
 
-pub set_call_root : (port feature : ℕ) (old new : World) (c : PortCall) → IsRootPort old port → IsSetFeature feature → Some c ≡ set_call feature → new ≡ after (root_call c port) old → SetsRoot port feature old new
-set_call_root port feature old new c is named found e = set_step port feature old new is named (λ d other. subst (λ x. new ≡ after (root_call x port) old) (same_Some c d (found ∙ other)) e)
+pub set_call_root : (port feature : ℕ) (old new : World) (c : PortCall) → IsRootPort old port
+    → IsSetFeature feature → Some c ≡ set_call feature → new ≡ after (root_call c port) old
+    → SetsRoot port feature old new
+set_call_root port feature old new c is named found e =
+    set_step port feature old new is named
+    (λ d other. subst (λ x. new ≡ after (root_call x port) old) (same_Some c d (found ∙ other)) e)
 
 pub set_none : {A : Type 0} (feature : ℕ) → IsSetFeature feature → None ≡ set_call feature → A
 set_none feature named e = false_true (ap is_some e ∙ named)
 
-pub clear_ends : (port feature : ℕ) (old new : World) (c : PortCall) → IsRootPort old port → IsClearFeature feature → Some c ≡ clear_call feature → new ≡ after (root_call c port) old → ClearsRoot port feature old new
-clear_ends port feature old new c is named found e = clear_step port feature old new is named (λ d other. subst (λ x. new ≡ after (root_call x port) old) (same_Some c d (found ∙ other)) e)
+pub clear_ends : (port feature : ℕ) (old new : World) (c : PortCall) → IsRootPort old port
+    → IsClearFeature feature → Some c ≡ clear_call feature → new ≡ after (root_call c port) old
+    → ClearsRoot port feature old new
+clear_ends port feature old new c is named found e =
+    clear_step port feature old new is named
+    (λ d other. subst (λ x. new ≡ after (root_call x port) old) (same_Some c d (found ∙ other)) e)
 
 pub clear_none : {A : Type 0} (feature : ℕ) → IsClearFeature feature → None ≡ clear_call feature → A
 clear_none feature named e = false_true (ap is_some e ∙ named)
 
 -- a root call that leaves C_PORT_CONNECTION as it was, or clears it, makes no attempt and no event
-pub writes_spend : (port : ℕ) (p : PortState) (old new : World) → IsRootPort old port → change_of p ≤ change_of (root_port_at old port) → RootCalled port p old new → AttemptsWithin 0 old new
+pub writes_spend : (port : ℕ) (p : PortState) (old new : World) → IsRootPort old port
+    → change_of p ≤ change_of (root_port_at old port) → RootCalled port p old new
+    → AttemptsWithin 0 old new
 unfolding root_port_at
 writes_spend port p old new is le c = record {
   limit = c.limit;
@@ -232,19 +289,24 @@ writes_spend port p old new is le c = record {
   within = λ h. omega (arith, c.attempts, c.limit, h);
   events = ap (λ l. new.taken + length l) c.left ∙ ap (λ n. n + to_come old) c.taken;
   onward = omega (arith, c.taken);
-  served = subst (λ n. n ≤ changes (root_row old) + to_come old) (sym (ap (λ r. changes r + to_come new) c.row ∙ ap (λ l. changes (slice_set (root_row old) (port - 1) p) + length l) c.left))
+  served = subst (λ n. n ≤ changes (root_row old) + to_come old)
+      (sym (ap (λ r. changes r + to_come new) c.row
+      ∙ ap (λ l. changes (slice_set (root_row old) (port - 1) p) + length l) c.left))
       (omega (arith, le, changes-set (root_row old) (port - 1) p (omega (arith, is.0, is.1))));
 }
 
 change_of-reset : (p : PortState) → change_of (port_by (set_call PORT_RESET) p) ≤ change_of p
 unfolding change_of
-change_of-reset p = elim (p.power && is_attached p.attached) as (λ b. change_of (if b then record p { enable = true; reset_changed = true } else p) ≤ change_of p) [ true ↦ omega arith | false ↦ omega arith ]
+change_of-reset p = elim (p.power && is_attached p.attached)
+    as (λ b. change_of (if b then record p { enable = true; reset_changed = true } else p)
+    ≤ change_of p) [ true ↦ omega arith | false ↦ omega arith ]
 
 -- a row of the port table leaves the bit as it was or clears it
 Leaves : PortState → Option PortCall → Type 0
 Leaves p call = change_of (port_by call p) ≤ change_of p
 
-leaves-if : (p : PortState) (b : Bool) (x y : Option PortCall) → Leaves p x → Leaves p y → Leaves p (if b then x else y)
+leaves-if : (p : PortState) (b : Bool) (x y : Option PortCall) → Leaves p x → Leaves p y
+    → Leaves p (if b then x else y)
 leaves-if p true x y hx hy = hx
 leaves-if p false x y hx hy = hy
 
@@ -261,25 +323,35 @@ change_of-clear feature p =
     (leaves-if p (feature == C_PORT_RESET) _ _ (omega arith) (omega arith)))))
 
 -- setting PORT_RESET of a root port
-pub resets_spend : (port : ℕ) (old new : World) → IsRootPort old port → SetsRoot port PORT_RESET old new → AttemptsWithin 0 old new
-resets_spend port old new is s = writes_spend port _ old new is (change_of-reset (root_port_at old port)) (root_called port (set_call PORT_RESET) old new is refl s.step)
+pub resets_spend : (port : ℕ) (old new : World) → IsRootPort old port
+    → SetsRoot port PORT_RESET old new → AttemptsWithin 0 old new
+resets_spend port old new is s = writes_spend port _ old new is
+    (change_of-reset (root_port_at old port)) (root_called port (set_call PORT_RESET) old new is
+    refl s.step)
 
 -- clearing a feature of a root port
-pub clears_spend : (port feature : ℕ) (old new : World) → IsRootPort old port → IsClearFeature feature → ClearsRoot port feature old new → AttemptsWithin 0 old new
+pub clears_spend : (port feature : ℕ) (old new : World) → IsRootPort old port
+    → IsClearFeature feature → ClearsRoot port feature old new → AttemptsWithin 0 old new
 unfolding Leaves
-clears_spend port feature old new is named c = writes_spend port _ old new is (change_of-clear feature (root_port_at old port)) (root_called port (clear_call feature) old new is named c.step)
+clears_spend port feature old new is named c =
+    writes_spend port _ old new is (change_of-clear feature (root_port_at old port))
+    (root_called port (clear_call feature) old new is named c.step)
 
-one_change : (p : PortState) → p.connection_changed ≡ true → change_of p ≡ change_of (port_by (clear_call C_PORT_CONNECTION) p) + 1
+one_change : (p : PortState) → p.connection_changed ≡ true
+    → change_of p ≡ change_of (port_by (clear_call C_PORT_CONNECTION) p) + 1
 unfolding change_of
 one_change p set = rw set refl
 
 -- clearing a set C_PORT_CONNECTION
-pub clears_change : (port : ℕ) (old new : World) → IsRootPort old port → (root_port_at old port).connection_changed ≡ true → ClearsRoot port C_PORT_CONNECTION old new → changes (root_row new) + to_come new + 1 ≡ changes (root_row old) + to_come old
+pub clears_change : (port : ℕ) (old new : World) → IsRootPort old port
+    → (root_port_at old port).connection_changed ≡ true → ClearsRoot port C_PORT_CONNECTION old new
+    → changes (root_row new) + to_come new + 1 ≡ changes (root_row old) + to_come old
 unfolding root_port_at
 clears_change port old new is set c =
     let p = port_by (clear_call C_PORT_CONNECTION) (root_port_at old port) in
     let called = root_called port (clear_call C_PORT_CONNECTION) old new is refl c.step in
     let one = one_change (root_port_at old port) set in
     let all = changes-set (root_row old) (port - 1) p (omega (arith, is.0, is.1)) in
-    ap (λ r. changes r + to_come new + 1) called.row ∙ ap (λ l. changes (slice_set (root_row old) (port - 1) p) + length l + 1) called.left
+    ap (λ r. changes r + to_come new + 1) called.row
+    ∙ ap (λ l. changes (slice_set (root_row old) (port - 1) p) + length l + 1) called.left
     ∙ omega (arith, one, all)

@@ -25,32 +25,40 @@ use Rattle.usb_tree.specs.Paths.{has_power, pending}
 use Rattle.usb_tree.specs.WayEffects.{IsNew}
 use Rattle.usb_tree.specs.AttemptPackets.{IfOut, IsTokenFor, IsDataOut, IsAckOut, IsAttemptAt}
 use Rattle.usb_world.specs.World.{World}
-use Rattle.usb_world.specs.Steps.{after_change, names_path, after_event, at_attempt, damage_in, with_attempt, Step}
+use Rattle.usb_world.specs.Steps.{after_change, names_path, after_event, at_attempt, damage_in}
+use Rattle.usb_world.specs.Steps.{with_attempt, Step}
 use Rattle.usb_world.specs.Steps.{attempt, root_call, event, report, after, Course, here, step}
-use Rattle.usb_world.specs.Courses.{NoneNames, Undisturbed, is_made, made_resets, made_keeps_pending}
-use Rattle.usb_world.specs.Courses.{root_resets, root_keeps_pending, resets, step_keeps_pending, Reached}
+use Rattle.usb_world.specs.Courses.{NoneNames, Undisturbed, is_made, made_resets}
+use Rattle.usb_world.specs.Courses.{made_keeps_pending}
+use Rattle.usb_world.specs.Courses.{root_resets, root_keeps_pending, resets, step_keeps_pending}
+use Rattle.usb_world.specs.Courses.{Reached}
 use Rattle.usb_world.specs.Courses.{UndisturbedOrPends, NoReset, KeepsPendingAt}
 use Rattle.usb_tree.proofs.Interface.{false_true, both, decided}
 use Rattle.usb_world.proofs.courses.LiftedSteps.{OverSteps, with_limit_told, with_call, over_step}
 use Rattle.usb_world.proofs.courses.LiftedSteps.{over_course, made_after}
 use Rattle.usb_world.proofs.events.PlugEvents.{happened_way}
 use Rattle.usb_world.proofs.ports.PortCalls.{call_new, call_reach, call_kept}
-use Rattle.usb_world.proofs.packets.AttemptPackets.{attempt_reach, attempt_new, attempt_kept, sent_out}
+use Rattle.usb_world.proofs.packets.AttemptPackets.{attempt_reach, attempt_new, attempt_kept}
+use Rattle.usb_world.proofs.packets.AttemptPackets.{sent_out}
 
 -- Undisturbed
 
-pub undisturbed_here : (w v : World) (p : List ℕ) → w.left ≡ v.left → v.devices ≡ w.devices → Undisturbed w v p
+pub undisturbed_here : (w v : World) (p : List ℕ) → w.left ≡ v.left → v.devices ≡ w.devices
+    → Undisturbed w v p
 undisturbed_here w v p e d = record { events = []; split = e; silent = tt; devices = d }
 
-none_append : (d : List Spec) (a b : List Event) (p : List ℕ) → NoneNames d a p → NoneNames d b p → NoneNames d (a ++ b) p
+none_append : (d : List Spec) (a b : List Event) (p : List ℕ) → NoneNames d a p → NoneNames d b p
+    → NoneNames d (a ++ b) p
 none_append d [] b p h g = g
 none_append d (x ∷ a) b p h g = (h.0, none_append d a b p h.1 g)
 
-pub undisturbed_on : (w v u : World) (p : List ℕ) → Undisturbed w v p → Undisturbed v u p → Undisturbed w u p
+pub undisturbed_on : (w v u : World) (p : List ℕ) → Undisturbed w v p → Undisturbed v u p
+    → Undisturbed w u p
 undisturbed_on w v u p f g = record {
   events = f.events ++ g.events;
   split = f.split ∙ ap (λ x. f.events ++ x) g.split ∙ sym (append_assoc f.events g.events u.left);
-  silent = none_append w.devices f.events g.events p f.silent (subst (λ d. NoneNames d g.events p) f.devices g.silent);
+  silent = none_append w.devices f.events g.events p f.silent
+      (subst (λ d. NoneNames d g.events p) f.devices g.silent);
   devices = g.devices ∙ f.devices;
 }
 
@@ -71,7 +79,9 @@ happened_live : (a : Action) (d : List Spec) (k : Ports) (p : List ℕ) → has_
     → LiveOr (after_change a d k) (names_path d a p) p
 happened_live a d k p h = (happened_way a d k p).2 h
 
-took_reach : (e : Event) (es : List Event) (w : World) (p : List ℕ) → w.left ≡ e ∷ es → reach (after_event e es w).roots p ≡ true → (reach w.roots p ≡ true) × Undisturbed w (after_event e es w) p
+took_reach : (e : Event) (es : List Event) (w : World) (p : List ℕ) → w.left ≡ e ∷ es
+    → reach (after_event e es w).roots p ≡ true → (reach w.roots p ≡ true)
+    × Undisturbed w (after_event e es w) p
 unfolding after_event
 took_reach e es w p l h =
     let at : _ = happened_reach e.action w.devices w.roots p h in
@@ -81,15 +91,20 @@ took_reach e es w p l h =
 
 token_out-token : (a : Attempt) (d : Option Damage) → IfOut (IsTokenFor a.addr) (token_out a d)
 unfolding token_of marked
-token_out-token a d = sent_out (IsTokenFor a.addr) tt a.low a.pre (mark_of (harm_to d 1) a.pre (packet.Token a.kind a.addr a.ep)) (packet.Token a.kind a.addr a.ep) refl
+token_out-token a d = sent_out (IsTokenFor a.addr) tt a.low a.pre
+    (mark_of (harm_to d 1) a.pre (packet.Token a.kind a.addr a.ep))
+    (packet.Token a.kind a.addr a.ep) refl
 
 payload_goes : (a : Attempt) (d : Option Damage) → IfOut IsDataOut (payload_out a d)
 unfolding payload_of marked_some marked
 payload_goes a d = go a.payload
   where
-    go : (o : Option (Toggle × ArrayVec ℕ)) → IfOut IsDataOut (goes_out a (marked_some d 2 a.pre (elim o [ None ↦ None | Some p ↦ Some (packet.Payload p.0 p.1) ])))
+    go : (o : Option (Toggle × ArrayVec ℕ))
+        → IfOut IsDataOut (goes_out a (marked_some d 2 a.pre
+        (elim o [ None ↦ None | Some p ↦ Some (packet.Payload p.0 p.1) ])))
     go None = tt
-    go (Some x) = sent_out IsDataOut tt a.low a.pre (mark_of (harm_to d 2) a.pre (packet.Payload x.0 x.1)) (packet.Payload x.0 x.1) tt
+    go (Some x) = sent_out IsDataOut tt a.low a.pre
+        (mark_of (harm_to d 2) a.pre (packet.Payload x.0 x.1)) (packet.Payload x.0 x.1) tt
 
 IsSomeAck : Option Packet → Type 0
 IsSomeAck None = Unit {0}
@@ -100,7 +115,8 @@ unfolding reply_of IsSomeAck
 reply_acks Nothing m max = tt
 reply_acks Collision m max = tt
 reply_acks (One (packet.Payload t b)) m max =
-    elim (is_read m && nat_le (length b.items) max) as (λ x. IsSomeAck (if x then Some packet.Ack else None)) [ true ↦ tt | false ↦ tt ]
+    elim (is_read m && nat_le (length b.items) max)
+    as (λ x. IsSomeAck (if x then Some packet.Ack else None)) [ true ↦ tt | false ↦ tt ]
 reply_acks (One packet.Ack) m max = tt
 reply_acks (One (packet.Token kind a e)) m max = tt
 reply_acks (One (packet.Sof f)) m max = tt
@@ -108,7 +124,8 @@ reply_acks (One packet.Nak) m max = tt
 reply_acks (One packet.Stall) m max = tt
 reply_acks (One packet.Pre) m max = tt
 
-pub reply_goes : (a : Attempt) (d : Option Damage) (n : ℕ) (h : ExchangeAnswer) (m : Mark) (max : ℕ) → IfOut IsAckOut (goes_out a (marked_some d n a.pre (reply_of h m max)))
+pub reply_goes : (a : Attempt) (d : Option Damage) (n : ℕ) (h : ExchangeAnswer) (m : Mark) (max : ℕ)
+    → IfOut IsAckOut (goes_out a (marked_some d n a.pre (reply_of h m max)))
 unfolding marked_some marked IsSomeAck
 reply_goes a d n h m max = go (reply_of h m max) (reply_acks h m max)
   where
@@ -119,24 +136,37 @@ reply_goes a d n h m max = go (reply_of h m max) (reply_acks h m max)
 ack_goes : (a : Attempt) (d : Option Damage) (k : Ports) → IfOut IsAckOut (reply_out a d k)
 ack_goes a d k = reply_goes a d (place_of_answer a d + 1) (heard_in a d k) (mark_in a d k) a.max
 
-pub goes : (a : Attempt) (d : Option Damage) (k : Ports) → IsAttemptAt a.addr (token_out a d) (payload_out a d) (reply_out a d k)
-goes a d k = record { token = token_out-token a d; payload = payload_goes a d; reply = ack_goes a d k }
+pub goes : (a : Attempt) (d : Option Damage) (k : Ports)
+    → IsAttemptAt a.addr (token_out a d) (payload_out a d) (reply_out a d k)
+goes a d k = record {
+  token = token_out-token a d;
+  payload = payload_goes a d;
+  reply =
+      ack_goes a d k;
+}
 
 -- An attempt that is made
 
-pub made_reach : (a : Attempt) (w : World) (p : List ℕ) → made_resets a w p ≡ false → reach (with_attempt a w).roots p ≡ true → reach w.roots p ≡ true
+pub made_reach : (a : Attempt) (w : World) (p : List ℕ) → made_resets a w p ≡ false
+    → reach (with_attempt a w).roots p ≡ true → reach w.roots p ≡ true
 unfolding with_attempt ports_in
 made_reach a w [] f h = false_true h
 made_reach a w (zero ∷ p) f h = false_true h
-made_reach a w (suc j ∷ p) f h = attempt_reach a.addr (token_out a (damage_in w)) (payload_out a (damage_in w)) (reply_out a (damage_in w) w.roots) (goes a (damage_in w) w.roots) w.roots j p f h
+made_reach a w (suc j ∷ p) f h = attempt_reach a.addr (token_out a (damage_in w))
+    (payload_out a (damage_in w)) (reply_out a (damage_in w) w.roots) (goes a (damage_in w) w.roots)
+    w.roots j p f h
 
-made_new : (a : Attempt) (w : World) (p : List ℕ) → made_resets a w p ≡ true → IsNew (place (with_attempt a w).roots p)
+made_new : (a : Attempt) (w : World) (p : List ℕ) → made_resets a w p ≡ true
+    → IsNew (place (with_attempt a w).roots p)
 unfolding with_attempt ports_in
 made_new a w [] f = false_true f
 made_new a w (zero ∷ p) f = false_true f
-made_new a w (suc j ∷ p) f = attempt_new a.addr (token_out a (damage_in w)) (payload_out a (damage_in w)) (reply_out a (damage_in w) w.roots) (goes a (damage_in w) w.roots) w.roots j p f
+made_new a w (suc j ∷ p) f = attempt_new a.addr (token_out a (damage_in w))
+    (payload_out a (damage_in w)) (reply_out a (damage_in w) w.roots) (goes a (damage_in w) w.roots)
+    w.roots j p f
 
-pub made_pend : (a : Attempt) (w : World) (p : List ℕ) → made_keeps_pending a w p ≡ true → pending w.roots p ≡ true → pending (with_attempt a w).roots p ≡ true
+pub made_pend : (a : Attempt) (w : World) (p : List ℕ) → made_keeps_pending a w p ≡ true
+    → pending w.roots p ≡ true → pending (with_attempt a w).roots p ≡ true
 unfolding with_attempt ports_in
 made_pend a w [] f h = false_true h
 made_pend a w (zero ∷ p) f h = false_true h
@@ -144,7 +174,8 @@ made_pend a w (suc j ∷ p) f h =
     (attempt_kept a.addr (token_out a (damage_in w)) (payload_out a (damage_in w))
     (reply_out a (damage_in w) w.roots) (goes a (damage_in w) w.roots) w.roots j p f).1 h
 
-pub made_live : (a : Attempt) (w : World) (p : List ℕ) → made_keeps_pending a w p ≡ true → has_power w.roots p ≡ true → has_power (with_attempt a w).roots p ≡ true
+pub made_live : (a : Attempt) (w : World) (p : List ℕ) → made_keeps_pending a w p ≡ true
+    → has_power w.roots p ≡ true → has_power (with_attempt a w).roots p ≡ true
 unfolding with_attempt ports_in
 made_live a w [] f h = false_true h
 made_live a w (zero ∷ p) f h = false_true h
@@ -161,19 +192,22 @@ root_reach c n k (zero ∷ p) f h = false_true h
 root_reach c zero k (suc j ∷ p) f h = h
 root_reach c (suc i) k (suc j ∷ p) f h = call_reach c k i j p f h
 
-root_new : (c : PortCall) (n : ℕ) (k : Ports) (p : List ℕ) → root_resets c n k p ≡ true → IsNew (place (changed (called c) k (n ∷ [])) p)
+root_new : (c : PortCall) (n : ℕ) (k : Ports) (p : List ℕ) → root_resets c n k p ≡ true
+    → IsNew (place (changed (called c) k (n ∷ [])) p)
 root_new c zero k p f = false_true f
 root_new c (suc i) k [] f = false_true f
 root_new c (suc i) k (zero ∷ p) f = false_true f
 root_new c (suc i) k (suc j ∷ p) f = call_new c k i j p f
 
-pub root_pend : (c : PortCall) (n : ℕ) (k : Ports) (p : List ℕ) → root_keeps_pending c n p ≡ true → pending k p ≡ true → pending (changed (called c) k (n ∷ [])) p ≡ true
+pub root_pend : (c : PortCall) (n : ℕ) (k : Ports) (p : List ℕ) → root_keeps_pending c n p ≡ true
+    → pending k p ≡ true → pending (changed (called c) k (n ∷ [])) p ≡ true
 root_pend c n k [] g h = false_true h
 root_pend c n k (zero ∷ p) g h = false_true h
 root_pend c zero k (suc j ∷ p) g h = h
 root_pend c (suc i) k (suc j ∷ p) g h = (call_kept c k i j p g).1 h
 
-pub root_live : (c : PortCall) (n : ℕ) (k : Ports) (p : List ℕ) → root_keeps_pending c n p ≡ true → has_power k p ≡ true → has_power (changed (called c) k (n ∷ [])) p ≡ true
+pub root_live : (c : PortCall) (n : ℕ) (k : Ports) (p : List ℕ) → root_keeps_pending c n p ≡ true
+    → has_power k p ≡ true → has_power (changed (called c) k (n ∷ [])) p ≡ true
 root_live c n k [] g h = false_true h
 root_live c n k (zero ∷ p) g h = false_true h
 root_live c zero k (suc j ∷ p) g h = h
@@ -182,11 +216,13 @@ root_live c (suc i) k (suc j ∷ p) g h = (call_kept c k i j p g).0 h
 -- Steps
 
 -- a device that a step resets is new after it
-pub step_new : (s : Step) (w : World) (p : List ℕ) → resets s w p ≡ true → IsNew (place (after s w).roots p)
+pub step_new : (s : Step) (w : World) (p : List ℕ) → resets s w p ≡ true
+    → IsNew (place (after s w).roots p)
 unfolding after resets
 step_new (attempt a) w p h =
     let x : _ = both (is_made w.fault w) (made_resets a (at_attempt w) p) h in
-    subst (λ v. IsNew (place v.roots p)) (sym (made_after a w x.0)) (made_new a (at_attempt w) p x.1)
+    subst (λ v. IsNew (place v.roots p)) (sym (made_after a w x.0))
+    (made_new a (at_attempt w) p x.1)
 step_new (root_call c n) w p h = root_new c n w.roots p h
 step_new event w p h = false_true h
 step_new (report l) w p h = false_true h
@@ -214,19 +250,23 @@ reach_steps p = record {
   refused = λ w h. (h, undisturbed_here w (with_limit_told w) p refl refl);
 }
 
-pub unreset_reach : (s : Step) (w : World) (p : List ℕ) → resets s w p ≡ false → reach (after s w).roots p ≡ true → (reach w.roots p ≡ true) × Undisturbed w (after s w) p
+pub unreset_reach : (s : Step) (w : World) (p : List ℕ) → resets s w p ≡ false
+    → reach (after s w).roots p ≡ true → (reach w.roots p ≡ true) × Undisturbed w (after s w) p
 unreset_reach s w p = over_step (reach_steps p) s w
 
 -- a device becomes reachable in one way only: by PORT_RESET at its own port, which leaves it new
-pub step_reach : (s : Step) (w : World) (p : List ℕ) → reach (after s w).roots p ≡ true → Reached w (after s w) p (resets s w p)
+pub step_reach : (s : Step) (w : World) (p : List ℕ) → reach (after s w).roots p ≡ true
+    → Reached w (after s w) p (resets s w p)
 step_reach s w p h = pick (decided (resets s w p))
   where
     pick : (resets s w p ≡ true) ⊎ (resets s w p ≡ false) → Reached w (after s w) p (resets s w p)
     pick (inl y) = inr (y, step_new s w p y)
     pick (inr y) = let on : _ = unreset_reach s w p y h in inl (y, on.0, on.1)
 
--- a device that is reachable after a course that does not reset it was reachable before it, and is the same one
-pub same_device : (p : List ℕ) {w v : World} → Course (NoReset p) w v → reach v.roots p ≡ true → (reach w.roots p ≡ true) × Undisturbed w v p
+-- a device that is reachable after a course that does not reset it was reachable before it, and is
+-- the same one
+pub same_device : (p : List ℕ) {w v : World} → Course (NoReset p) w v → reach v.roots p ≡ true
+    → (reach w.roots p ≡ true) × Undisturbed w v p
 same_device p c = over_course (reach_steps p) c
 
 -- Powered on its whole way, or pending
@@ -238,7 +278,8 @@ pub record OverUnnamed (K : Step → World → Type 0) (R : World → World → 
   pub joined : (w m v : World) → R w m → R m v → R w v
   pub came : (e : Event) (events : List Event) (w : World) → w.left ≡ e ∷ events
       → names_path w.devices e.action p ≡ false → R w (after_event e events w)
-  pub made : (a : Attempt) (w : World) → K (attempt a) w → R (at_attempt w) (with_attempt a (at_attempt w))
+  pub made : (a : Attempt) (w : World) → K (attempt a) w
+      → R (at_attempt w) (with_attempt a (at_attempt w))
   pub root : (c : PortCall) (n : ℕ) (w : World) → K (root_call c n) w → R w (with_call c n w)
   pub refused : (w : World) → R w (with_limit_told w)
   pub spares : (s : Step) (w : World) → K s w → step_keeps_pending s w p ≡ true
@@ -304,7 +345,8 @@ module _ {K : Step → World → Type 0} {R : World → World → Type 0} {p : L
   }
 
 -- no event comes on a live way but that it is pending
-undisturbed_steps : (p : List ℕ) → OverSteps (KeepsPendingAt p) (LiveOrPends (λ w v. Undisturbed w v p) p)
+undisturbed_steps : (p : List ℕ) → OverSteps (KeepsPendingAt p)
+    (LiveOrPends (λ w v. Undisturbed w v p) p)
 unfolding after_event with_attempt
 undisturbed_steps p = over_live (record {
   same = λ w. undisturbed_here w w p refl refl;
@@ -317,25 +359,31 @@ undisturbed_steps p = over_live (record {
   spares = λ s w k. k;
 })
 
-pub step_pend : (s : Step) (w : World) (p : List ℕ) → step_keeps_pending s w p ≡ true → pending w.roots p ≡ true → pending (after s w).roots p ≡ true
+pub step_pend : (s : Step) (w : World) (p : List ℕ) → step_keeps_pending s w p ≡ true
+    → pending w.roots p ≡ true → pending (after s w).roots p ≡ true
 step_pend s w p k = (over_step (undisturbed_steps p) s w k).pending
 
-pub pending_persists : (p : List ℕ) {w v : World} → Course (KeepsPendingAt p) w v → pending w.roots p ≡ true → pending v.roots p ≡ true
+pub pending_persists : (p : List ℕ) {w v : World} → Course (KeepsPendingAt p) w v
+    → pending w.roots p ≡ true → pending v.roots p ≡ true
 pending_persists p c = (over_course (undisturbed_steps p) c).pending
 
-pub untouched_or_pending : (p : List ℕ) {w v : World} → Course (KeepsPendingAt p) w v → has_power w.roots p ≡ true → UndisturbedOrPends w v p
+pub untouched_or_pending : (p : List ℕ) {w v : World} → Course (KeepsPendingAt p) w v
+    → has_power w.roots p ≡ true → UndisturbedOrPends w v p
 untouched_or_pending p c = (over_course (undisturbed_steps p) c).powered
 
 -- Courses
 
 -- courses join
-pub course_joined : {K : Step → World → Type 0} {w v u : World} → Course K w v → Course K v u → Course K w u
+pub course_joined : {K : Step → World → Type 0} {w v u : World} → Course K w v → Course K v u
+    → Course K w u
 course_joined (here w) d = d
 course_joined (step s k c) d = step s k (course_joined c d)
 
-pub course_then : {K : Step → World → Type 0} {w v : World} (s : Step) → Course K w v → K s v → Course K w (after s v)
+pub course_then : {K : Step → World → Type 0} {w v : World} (s : Step) → Course K w v → K s v
+    → Course K w (after s v)
 course_then {v = v} s c k = course_joined c (step s k (here (after s v)))
 
-pub course_wider : {K L : Step → World → Type 0} {w v : World} → ((s : Step) (w : World) → K s w → L s w) → Course K w v → Course L w v
+pub course_wider : {K L : Step → World → Type 0} {w v : World}
+    → ((s : Step) (w : World) → K s w → L s w) → Course K w v → Course L w v
 course_wider f (here w) = here w
 course_wider f (step s {w} {v} k c) = step s (f s w k) (course_wider f c)

@@ -1,5 +1,7 @@
 -- What holds over each part of a step holds over steps and courses.
-use Rattle.std.proofs.Common.{◌≡◌, ◌⊎◌, inl, inr, ℕ, ◌==◌, ◌&&◌, ◌∙◌, not, if◌then◌else◌, Bool, true, false, List, [], ◌∷◌, Option, None, Some, is_some, slice_get, refl, ap}
+use Rattle.std.proofs.Common.{◌≡◌, ◌⊎◌, inl, inr, ℕ, ◌==◌, ◌&&◌, ◌∙◌, not, if◌then◌else◌, Bool}
+use Rattle.std.proofs.Common.{true, false, List, [], ◌∷◌, Option, None, Some, is_some, slice_get}
+use Rattle.std.proofs.Common.{refl, ap}
 use Rattle.usb_port.specs.declared.call.PortCall.{PortCall}
 use Rattle.usb_port.specs.Calls.{is_clearing}
 use Rattle.usb_device.specs.Spec.{Spec}
@@ -13,7 +15,11 @@ use Rattle.usb_world.specs.declared.types.BusFault.{BusFault}
 use Rattle.usb_world.specs.declared.types.BusFault.TheVariants.{LimitReached}
 use Rattle.usb_world.specs.Courses.{is_made}
 use Rattle.usb_world.specs.Losses.{after_clearing}
-use Rattle.usb_world.specs.Steps.{with_plugged, after_change, way_of, names_path, is_due, after_event, after_first_event, after_due_events, at_attempt, with_attempt, attempted, event_taken, Step, attempt, root_call, event, report, after, Course, here, step, Coming, nothing_yet, next_came}
+use Rattle.usb_world.specs.Steps.{with_plugged, after_change, way_of, names_path, is_due}
+use Rattle.usb_world.specs.Steps.{after_event, after_first_event, after_due_events, at_attempt}
+use Rattle.usb_world.specs.Steps.{with_attempt, attempted, event_taken, Step, attempt, root_call}
+use Rattle.usb_world.specs.Steps.{event, report, after, Course, here, step, Coming, nothing_yet}
+use Rattle.usb_world.specs.Steps.{next_came}
 use Rattle.usb_world.specs.World.{World}
 
 abbrev pub with_limit_told : World → World
@@ -68,7 +74,8 @@ happened_by P (Change (Unplug x)) devices k p same there = there None x
 happened_by P (Ask ask) devices k p same there = same
 
 module _ {R : World → World → Type 0} (l : OverEvents R) where
-  pub over_first : (events : List Event) (w : World) → w.left ≡ events → R w (after_first_event events w)
+  pub over_first : (events : List Event) (w : World) → w.left ≡ events
+      → R w (after_first_event events w)
   over_first [] w e = l.same w
   over_first (x ∷ events) w e = l.came x events w e
 
@@ -76,7 +83,8 @@ module _ {R : World → World → Type 0} (l : OverEvents R) where
   over_taken (Some f) w = l.same w
   over_taken None w = over_first w.left w refl
 
-  pub over_due : (events : List Event) (w : World) → w.left ≡ events → R w (after_due_events events w)
+  pub over_due : (events : List Event) (w : World) → w.left ≡ events
+      → R w (after_due_events events w)
   unfolding after_due_events after_event
   over_due [] w e = l.same w
   over_due (x ∷ events) w e =

@@ -1,5 +1,6 @@
 -- What is so between two steps stays so.
-use Rattle.std.proofs.Common.{◌≡◌, ℕ, zero, suc, Bool, true, false, ◌&&◌, List, [], ◌∷◌, ◌≤◌, refl, ap, sym, arith}
+use Rattle.std.proofs.Common.{◌≡◌, ℕ, zero, suc, Bool, true, false, ◌&&◌, List, [], ◌∷◌, ◌≤◌, refl}
+use Rattle.std.proofs.Common.{ap, sym, arith}
 use Rattle.usb_port.specs.PortState.{is_attached}
 use Rattle.usb_device.specs.Spec.{Spec, Hub, IsSpec}
 use Rattle.usb_port.specs.declared.call.PortCall.{PortCall}
@@ -7,7 +8,9 @@ use Rattle.usb_device.specs.declared.transfer.RememberedPacket.{RememberedPacket
 use Rattle.usb_device.specs.declared.transfer.RememberedPacket.TheVariants.{Nothing}
 use Rattle.usb_device.specs.Rows.{fresh, reset_state}
 use Rattle.usb_port.specs.Calls.{called_port, is_reset}
-use Rattle.usb_device.specs.Tree.{Ports, ended, vacant, taken, Place, empty, full, before, new_ports, first_ports, all_off, changed, changed_at, called, replaced, reset_where}
+use Rattle.usb_device.specs.Tree.{Ports, ended, vacant, taken, Place, empty, full, before}
+use Rattle.usb_device.specs.Tree.{new_ports, first_ports, all_off, changed, changed_at, called}
+use Rattle.usb_device.specs.Tree.{replaced, reset_where}
 use Rattle.usb_device.specs.Delivery.{all_forgotten}
 use Rattle.usb_world.specs.declared.damage.Damage.{Damage}
 use Rattle.usb_world.specs.declared.event.Action.{Action}
@@ -22,10 +25,14 @@ use Rattle.usb_tree.specs.AttemptPackets.{IsSettled}
 use Rattle.usb_world.specs.SanePorts.{Consistent}
 use Rattle.usb_world.specs.PlanData.{PlanData}
 use Rattle.usb_world.specs.World.{World}
-use Rattle.usb_world.specs.Steps.{after_change, with_plugged, after_event, at_attempt, damage_in, with_attempt, Step, after, AnyStep, Course, here, step, WorldInvariant, opening}
+use Rattle.usb_world.specs.Steps.{after_change, with_plugged, after_event, at_attempt, damage_in}
+use Rattle.usb_world.specs.Steps.{with_attempt, Step, after, AnyStep, Course, here, step}
+use Rattle.usb_world.specs.Steps.{WorldInvariant, opening}
 use Rattle.usb_world.proofs.ports.SanePorts.{sane_path, sane_new_ports, sane_called, sane_replaced}
 use Rattle.usb_world.proofs.packets.AttemptPackets.{after_attempt-settled, attempt_sane}
-use Rattle.usb_world.proofs.courses.LiftedSteps.{OverSteps, Keeps, with_call, with_limit_told, keeps_events, happened_by, over_ready, over_step, over_course}
+use Rattle.usb_world.proofs.courses.LiftedSteps.{OverSteps, Keeps, with_call, with_limit_told}
+use Rattle.usb_world.proofs.courses.LiftedSteps.{keeps_events, happened_by, over_ready, over_step}
+use Rattle.usb_world.proofs.courses.LiftedSteps.{over_course}
 use Rattle.usb_tree.proofs.Interface.{forgotten-nothing}
 
 -- A device that remembers nothing, and all below it
@@ -58,13 +65,21 @@ pub rests : (k : Ports) → IsSettled k → Rests k
 unfolding all_forgotten Rests
 rests ended h = tt
 rests (vacant b k) h = rests k (ap ports_after_first h)
-rests (taken b s a k) h = (sym (ap remembered h), rests a (ap ports_below_first h), rests k (ap ports_after_first h))
+rests (taken b s a k) h = (
+  sym (ap remembered h),
+  rests a (ap ports_below_first h),
+  rests k (ap ports_after_first h),
+)
 
 rests_settled : (k : Ports) → Rests k → IsSettled k
 unfolding all_forgotten Rests
 rests_settled ended h = refl
 rests_settled (vacant b k) h = ap (vacant b) (rests_settled k h)
-rests_settled (taken b s a k) h = rw (forgotten-nothing s h.0, rests_settled a h.1, rests_settled k h.2) refl
+rests_settled (taken b s a k) h = rw (
+  forgotten-nothing s h.0,
+  rests_settled a h.1,
+  rests_settled k h.2,
+) refl
 
 rests_off : (k : Ports) → Rests k → Rests (all_off k)
 unfolding Rests all_off
@@ -101,34 +116,40 @@ unfolding RestsPlace Rests
 rests_before (empty b) k h g = g
 rests_before (full b s a) k h g = (h.0, h.1, g)
 
-rests_changed : (f : Place → Place) → ((q : Place) → RestsPlace q → RestsPlace (f q)) → (k : Ports) (i : ℕ) (p : List ℕ) → Rests k → Rests (changed_at f k i p)
+rests_changed : (f : Place → Place) → ((q : Place) → RestsPlace q → RestsPlace (f q))
+    → (k : Ports) (i : ℕ) (p : List ℕ) → Rests k → Rests (changed_at f k i p)
 unfolding Rests RestsPlace changed_at
 rests_changed f c ended i p h = h
 rests_changed f c (vacant b k) zero [] h = rests_before (f (empty b)) k (c (empty b) tt) h
 rests_changed f c (vacant b k) zero (n ∷ p) h = h
 rests_changed f c (vacant b k) (suc i) p h = rests_changed f c k i p h
-rests_changed f c (taken b s a k) zero [] h = rests_before (f (full b s a)) k (c (full b s a) (h.0, h.1)) h.2
+rests_changed f c (taken b s a k) zero [] h =
+    rests_before (f (full b s a)) k (c (full b s a) (h.0, h.1)) h.2
 rests_changed f c (taken b s a k) zero (zero ∷ p) h = h
 rests_changed f c (taken b s a k) zero (suc j ∷ p) h = (h.0, rests_changed f c a j p h.1, h.2)
 rests_changed f c (taken b s a k) (suc i) p h = (h.0, h.1, rests_changed f c k i p h.2)
 
 -- what leaves nothing remembered at a port leaves the tree settled
-settled_path : (f : Place → Place) → ((q : Place) → RestsPlace q → RestsPlace (f q)) → (k : Ports) (x : List ℕ) → IsSettled k → IsSettled (changed f k x)
+settled_path : (f : Place → Place) → ((q : Place) → RestsPlace q → RestsPlace (f q))
+    → (k : Ports) (x : List ℕ) → IsSettled k → IsSettled (changed f k x)
 settled_path f c k [] h = h
 settled_path f c k (zero ∷ x) h = h
-settled_path f c k (suc i ∷ x) h = rests_settled (changed_at f k i x) (rests_changed f c k i x (rests k h))
+settled_path f c k (suc i ∷ x) h = rests_settled (changed_at f k i x)
+    (rests_changed f c k i x (rests k h))
 
 -- Settled
 
 pub settled_new : (n : ℕ) → IsSettled (new_ports n)
 settled_new n = rests_settled (new_ports n) (rests_new n)
 
-pub settled_happened : (a : Action) (ds : List Spec) (k : Ports) → IsSettled k → IsSettled (after_change a ds k)
+pub settled_happened : (a : Action) (ds : List Spec) (k : Ports) → IsSettled k
+    → IsSettled (after_change a ds k)
 settled_happened a ds k h =
     happened_by (λ v _. IsSettled v) a ds k [] h
     (λ o x. settled_path (replaced o) (rests_replaced o) k x h)
 
-pub settled_called : (c : PortCall) (k : Ports) (p : List ℕ) → IsSettled k → IsSettled (changed (called c) k p)
+pub settled_called : (c : PortCall) (k : Ports) (p : List ℕ) → IsSettled k
+    → IsSettled (changed (called c) k p)
 settled_called c k p h = settled_path (called c) (rests_called c) k p h
 
 pub settled_ports : (a : Attempt) (d : Option Damage) (k : Ports) → IsSettled (ports_in a d k)
@@ -137,7 +158,8 @@ settled_ports a d k = after_attempt-settled (token_out a d) (payload_out a d) (r
 
 -- Sane
 
-sane_with : (o : Option Spec) → IfSome o IsSpec → (p : List ℕ) (k : Ports) → Consistent k → Consistent (with_plugged o p k)
+sane_with : (o : Option Spec) → IfSome o IsSpec → (p : List ℕ) (k : Ports) → Consistent k
+    → Consistent (with_plugged o p k)
 sane_with None r p k h = h
 sane_with (Some t) r p k h = sane_path (replaced (Some t)) (sane_replaced (Some t) r) k p h
 
@@ -146,22 +168,30 @@ the_ruled [] d r = tt
 the_ruled (s ∷ ds) zero r = All-head IsSpec s ds r
 the_ruled (s ∷ ds) (suc d) r = the_ruled ds d (All-tail IsSpec s ds r)
 
-pub sane_happened : (a : Action) (ds : List Spec) → All IsSpec ds → (k : Ports) → Consistent k → Consistent (after_change a ds k)
+pub sane_happened : (a : Action) (ds : List Spec) → All IsSpec ds → (k : Ports) → Consistent k
+    → Consistent (after_change a ds k)
 sane_happened (Change (Plug p d)) ds r k h = sane_with (slice_get ds d) (the_ruled ds d r) p k h
 sane_happened (Change (Unplug p)) ds r k h = sane_path (replaced None) (sane_replaced None tt) k p h
 sane_happened (Ask ask) ds r k h = h
 
-pub sane_called_at : (c : PortCall) (k : Ports) (p : List ℕ) → Consistent k → Consistent (changed (called c) k p)
+pub sane_called_at : (c : PortCall) (k : Ports) (p : List ℕ) → Consistent k
+    → Consistent (changed (called c) k p)
 sane_called_at c k p h = sane_path (called c) (sane_called c) k p h
 
-pub sane_ports : (a : Attempt) (d : Option Damage) (k : Ports) → Consistent k → Consistent (ports_in a d k)
+pub sane_ports : (a : Attempt) (d : Option Damage) (k : Ports) → Consistent k
+    → Consistent (ports_in a d k)
 unfolding ports_in
 sane_ports a d k h = attempt_sane (token_out a d) (payload_out a d) (reply_out a d k) k h
 
 -- Worlds
 
 pub between_opening : (p : PlanData) → All IsSpec p.devices → WorldInvariant (opening p)
-between_opening p r = record { settled = settled_new p.roots; sane = sane_new_ports p.roots; ruled = r }
+between_opening p r = record {
+  settled = settled_new p.roots;
+  sane = sane_new_ports p.roots;
+  ruled =
+      r;
+}
 
 pub settled_steps : {K : Step → World → Type 0} → OverSteps K (Keeps (λ w. IsSettled w.roots))
 unfolding after_event with_attempt
@@ -189,7 +219,8 @@ settled_wider f (here w) h = here w
 settled_wider f (step s {w} {v} k c) h =
     step s (f s w k h) (settled_wider f c (settled_after s w h))
 
-between_by : (w : World) → IsSettled w.roots → Consistent w.roots → All IsSpec w.devices → WorldInvariant w
+between_by : (w : World) → IsSettled w.roots → Consistent w.roots → All IsSpec w.devices
+    → WorldInvariant w
 between_by w settled sane ruled = record { settled = settled; sane = sane; ruled = ruled }
 
 pub between_steps : {K : Step → World → Type 0} → OverSteps K (Keeps WorldInvariant)
@@ -199,7 +230,8 @@ between_steps = record {
       between_by (after_event e es w) (settled_happened e.action w.devices w.roots h.settled)
       (sane_happened e.action w.devices h.ruled w.roots h.sane) h.ruled);
   made = λ a w made k h.
-      between_by (with_attempt a (at_attempt w)) (settled_ports a (damage_in (at_attempt w)) (at_attempt w).roots)
+      between_by (with_attempt a (at_attempt w))
+      (settled_ports a (damage_in (at_attempt w)) (at_attempt w).roots)
       (sane_ports a (damage_in (at_attempt w)) (at_attempt w).roots h.sane) h.ruled;
   root = λ c n w k h.
       between_by (with_call c n w) (settled_called c w.roots (n ∷ []) h.settled)
@@ -213,7 +245,8 @@ between_ready = over_ready (between_steps {K = AnyStep}).events
 pub between_after : (s : Step) (w : World) → WorldInvariant w → WorldInvariant (after s w)
 between_after s w = over_step (between_steps {K = AnyStep}) s w tt
 
-pub between_course : {K : Step → World → Type 0} {w v : World} → Course K w v → WorldInvariant w → WorldInvariant v
+pub between_course : {K : Step → World → Type 0} {w v : World} → Course K w v → WorldInvariant w
+    → WorldInvariant v
 between_course c = over_course between_steps c
 
 -- Events are counted

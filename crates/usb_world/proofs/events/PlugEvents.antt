@@ -9,7 +9,8 @@ use Rattle.usb_world.specs.declared.event.Action.TheVariants.{Change, Ask}
 use Rattle.usb_world.specs.declared.event.Change.TheVariants.{Plug, Unplug}
 use Rattle.usb_world.specs.Steps.{with_plugged, after_change, way_of, names_path}
 use Rattle.usb_tree.specs.Paths.{has_power, has_power_at, pending, pending_at, is_way, on_way}
-use Rattle.usb_tree.proofs.Interface.{both, decided, and_kept, and_false, or-rises, or_right, false_true}
+use Rattle.usb_tree.proofs.Interface.{both, decided, and_kept, and_false, or-rises, or_right}
+use Rattle.usb_tree.proofs.Interface.{false_true}
 use Rattle.usb_world.proofs.ways.WayChanges.{changed_apart, SameThere, changed_there}
 
 -- a port with power has its change of connection set then

@@ -1,5 +1,7 @@
--- Which devices stand at ports: calls, packets and resets leave them, and an event puts one there or takes it away.
-use Rattle.std.proofs.Common.{◌≡◌, ℕ, zero, suc, if◌then◌else◌, ◌&&◌, Bool, true, false, List, [], ◌∷◌, Option, None, Some, option_map, refl, ap, ap₂, ◌∙◌}
+-- Which devices stand at ports: calls, packets and resets leave them, and an event puts one there
+-- or takes it away.
+use Rattle.std.proofs.Common.{◌≡◌, ℕ, zero, suc, if◌then◌else◌, ◌&&◌, Bool, true, false, List, []}
+use Rattle.std.proofs.Common.{◌∷◌, Option, None, Some, option_map, refl, ap, ap₂, ◌∙◌}
 use Rattle.usb_port.specs.PortState.{is_attached}
 use Rattle.usb_port.specs.declared.call.PortCall.{PortCall}
 use Rattle.usb_device.specs.declared.effect.Effect.{Effect}
@@ -8,7 +10,9 @@ use Rattle.usb_device.specs.declared.delivery.Sent.{Sent}
 use Rattle.usb_device.specs.Spec.{Spec, Hub}
 use Rattle.usb_device.specs.Rows.{fresh, reset_state}
 use Rattle.usb_port.specs.Calls.{called_port, is_reset}
-use Rattle.usb_device.specs.Tree.{Ports, ended, vacant, taken, Place, empty, full, before, all_off, new_ports, first_ports, called, reset_where, replaced, changed, changed_at, acted, state_at}
+use Rattle.usb_device.specs.Tree.{Ports, ended, vacant, taken, Place, empty, full, before, all_off}
+use Rattle.usb_device.specs.Tree.{new_ports, first_ports, called, reset_where, replaced, changed}
+use Rattle.usb_device.specs.Tree.{changed_at, acted, state_at}
 use Rattle.usb_device.specs.Delivery.{answer_of, effect_of, after_packet, all_forgotten}
 use Rattle.usb_device.specs.View.{state_there}
 use Rattle.usb_world.specs.declared.damage.Damage.{Damage}
@@ -17,7 +21,8 @@ use Rattle.usb_world.specs.Exchange.{ports_in, token_out, payload_out, reply_out
 use Rattle.usb_tree.specs.AttemptPackets.{after_sent, after_attempt}
 use Rattle.usb_world.specs.PluggedDevices.{hub_ports}
 use Rattle.usb_world.specs.PlanCourses.{spec_of}
-use Rattle.usb_world.proofs.events.PluggedShapes.{Shape, bare, gap, stands, spec_at, spec_there, gaps, put_first, put_at, shape_with}
+use Rattle.usb_world.proofs.events.PluggedShapes.{Shape, bare, gap, stands, spec_at, spec_there}
+use Rattle.usb_world.proofs.events.PluggedShapes.{gaps, put_first, put_at, shape_with}
 use Rattle.usb_device.proofs.Interface.{answer-spec}
 
 unfoldable pub shape : Ports → Shape
@@ -35,7 +40,8 @@ unfolding shape
 over_before (empty b) k = refl
 over_before (full b s a) k = refl
 
-spec_of-shape : (k : Ports) (i : ℕ) (p : List ℕ) → option_map spec_of (state_at k i p) ≡ spec_at (shape k) i p
+spec_of-shape : (k : Ports) (i : ℕ) (p : List ℕ) → option_map spec_of (state_at k i p)
+    ≡ spec_at (shape k) i p
 unfolding shape state_at spec_at
 spec_of-shape ended i p = refl
 spec_of-shape (vacant b k) zero p = refl
@@ -45,7 +51,8 @@ spec_of-shape (taken b s a k) zero (zero ∷ p) = refl
 spec_of-shape (taken b s a k) zero (suc j ∷ p) = spec_of-shape a j p
 spec_of-shape (taken b s a k) (suc i) p = spec_of-shape k i p
 
-pub described_there : (k : Ports) (p : List ℕ) → option_map spec_of (state_there k p) ≡ spec_there (shape k) p
+pub described_there : (k : Ports) (p : List ℕ) → option_map spec_of (state_there k p)
+    ≡ spec_there (shape k) p
 described_there k [] = refl
 described_there k (zero ∷ p) = refl
 described_there k (suc i ∷ p) = spec_of-shape k i p
@@ -67,15 +74,19 @@ over_called c (full b s a) x = split (is_reset c && (b.power && is_attached b.at
     split true = ap (λ z. stands s.spec z x) (shape_off a)
     split false = refl
 
-shape_called : (c : PortCall) (k : Ports) (i : ℕ) (p : List ℕ) → shape (changed_at (called c) k i p) ≡ shape k
+shape_called : (c : PortCall) (k : Ports) (i : ℕ) (p : List ℕ) → shape (changed_at (called c) k i p)
+    ≡ shape k
 unfolding shape changed_at
 shape_called c ended i p = refl
-shape_called c (vacant b k) zero [] = over_before (called c (empty b)) k ∙ over_called c (empty b) (shape k)
+shape_called c (vacant b k) zero [] = over_before (called c (empty b)) k
+    ∙ over_called c (empty b) (shape k)
 shape_called c (vacant b k) zero (n ∷ p) = refl
 shape_called c (vacant b k) (suc i) p = ap gap (shape_called c k i p)
-shape_called c (taken b s a k) zero [] = over_before (called c (full b s a)) k ∙ over_called c (full b s a) (shape k)
+shape_called c (taken b s a k) zero [] = over_before (called c (full b s a)) k
+    ∙ over_called c (full b s a) (shape k)
 shape_called c (taken b s a k) zero (zero ∷ p) = refl
-shape_called c (taken b s a k) zero (suc j ∷ p) = ap (λ z. stands s.spec z (shape k)) (shape_called c a j p)
+shape_called c (taken b s a k) zero (suc j ∷ p) =
+    ap (λ z. stands s.spec z (shape k)) (shape_called c a j p)
 shape_called c (taken b s a k) (suc i) p = ap (stands s.spec (shape a)) (shape_called c k i p)
 
 pub shape_root : (c : PortCall) (k : Ports) (p : List ℕ) → shape (changed (called c) k p) ≡ shape k
@@ -94,11 +105,15 @@ shape_packet q deep ended = refl
 shape_packet q deep (vacant b k) = ap gap (shape_packet q deep k)
 shape_packet q deep (taken b s a k) = split b.enable (shape_packet q true a) (shape_packet q deep k)
   where
-    split : (x : Bool) → shape (after_packet q true a) ≡ shape a → shape (after_packet q deep k) ≡ shape k
-        → shape (if x then taken b (answer_of q deep s a).1 (acted (effect_of q deep s) (after_packet q true a)) (after_packet q deep k) else taken b s a (after_packet q deep k))
+    split : (x : Bool) → shape (after_packet q true a) ≡ shape a → shape (after_packet q deep k)
+        ≡ shape k
+        → shape (if x then taken b (answer_of q deep s a).1
+        (acted (effect_of q deep s) (after_packet q true a)) (after_packet q deep k)
+        else taken b s a (after_packet q deep k))
         ≡ stands s.spec (shape a) (shape k)
     split true g r =
-        ap (λ t. stands t (shape (acted (effect_of q deep s) (after_packet q true a))) (shape (after_packet q deep k))) (answer-spec q deep s a)
+        ap (λ t. stands t (shape (acted (effect_of q deep s) (after_packet q true a)))
+        (shape (after_packet q deep k))) (answer-spec q deep s a)
         ∙ ap₂ (stands s.spec) (shape_acted (effect_of q deep s) (after_packet q true a) ∙ g) r
     split false g r = ap (stands s.spec (shape a)) r
 
@@ -113,7 +128,8 @@ shape_forgotten (vacant b k) = ap gap (shape_forgotten k)
 shape_forgotten (taken b s a k) = ap₂ (stands s.spec) (shape_forgotten a) (shape_forgotten k)
 
 shape_after : (t d r : Option Sent) (k : Ports) → shape (after_attempt t d r k) ≡ shape k
-shape_after t d r k = shape_forgotten (after_sent r (after_sent d (after_sent t k))) ∙ shape_sent r (after_sent d (after_sent t k)) ∙ shape_sent d (after_sent t k) ∙ shape_sent t k
+shape_after t d r k = shape_forgotten (after_sent r (after_sent d (after_sent t k)))
+    ∙ shape_sent r (after_sent d (after_sent t k)) ∙ shape_sent d (after_sent t k) ∙ shape_sent t k
 
 pub shape_attempt : (a : Attempt) (d : Option Damage) (k : Ports) → shape (ports_in a d k) ≡ shape k
 unfolding ports_in
@@ -136,18 +152,23 @@ unfolding fresh
 over_replaced None q x = refl
 over_replaced (Some t) q x = ap (λ z. stands t z x) (shape_first t.hub)
 
-shape_replaced : (o : Option Spec) (k : Ports) (i : ℕ) (p : List ℕ) → shape (changed_at (replaced o) k i p) ≡ put_at o (shape k) i p
+shape_replaced : (o : Option Spec) (k : Ports) (i : ℕ) (p : List ℕ)
+    → shape (changed_at (replaced o) k i p) ≡ put_at o (shape k) i p
 unfolding shape changed_at put_at
 shape_replaced o ended i p = refl
-shape_replaced o (vacant b k) zero [] = over_before (replaced o (empty b)) k ∙ over_replaced o (empty b) (shape k)
+shape_replaced o (vacant b k) zero [] = over_before (replaced o (empty b)) k
+    ∙ over_replaced o (empty b) (shape k)
 shape_replaced o (vacant b k) zero (n ∷ p) = refl
 shape_replaced o (vacant b k) (suc i) p = ap gap (shape_replaced o k i p)
-shape_replaced o (taken b s a k) zero [] = over_before (replaced o (full b s a)) k ∙ over_replaced o (full b s a) (shape k)
+shape_replaced o (taken b s a k) zero [] = over_before (replaced o (full b s a)) k
+    ∙ over_replaced o (full b s a) (shape k)
 shape_replaced o (taken b s a k) zero (zero ∷ p) = refl
-shape_replaced o (taken b s a k) zero (suc j ∷ p) = ap (λ z. stands s.spec z (shape k)) (shape_replaced o a j p)
+shape_replaced o (taken b s a k) zero (suc j ∷ p) =
+    ap (λ z. stands s.spec z (shape k)) (shape_replaced o a j p)
 shape_replaced o (taken b s a k) (suc i) p = ap (stands s.spec (shape a)) (shape_replaced o k i p)
 
-pub shape_event : (o : Option Spec) (k : Ports) (p : List ℕ) → shape (changed (replaced o) k p) ≡ shape_with o (shape k) p
+pub shape_event : (o : Option Spec) (k : Ports) (p : List ℕ) → shape (changed (replaced o) k p)
+    ≡ shape_with o (shape k) p
 shape_event o k [] = refl
 shape_event o k (zero ∷ p) = refl
 shape_event o k (suc i ∷ p) = shape_replaced o k i p

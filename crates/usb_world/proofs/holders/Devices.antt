@@ -1,10 +1,12 @@
 -- One device over attempts: what it was before, seen from where it is reachable now.
-use Rattle.std.proofs.Common.{◌≡◌, ℕ, zero, suc, ◌==◌, ◌&&◌, ◌⊎◌, inl, inr, Bool, true, false, List, [], ◌∷◌, Option, None, Some, is_some, refl, ap, ap₂, sym, subst, ◌∙◌}
+use Rattle.std.proofs.Common.{◌≡◌, ℕ, zero, suc, ◌==◌, ◌&&◌, ◌⊎◌, inl, inr, Bool, true, false, List}
+use Rattle.std.proofs.Common.{[], ◌∷◌, Option, None, Some, is_some, refl, ap, ap₂, sym, subst, ◌∙◌}
 use Rattle.std.proofs.lemmas.Option.{same_Some}
 use Rattle.usb_packet.specs.declared.Toggle.{Toggle}
 use Rattle.usb_device.specs.Rows.{State, Reply}
 use Rattle.usb_device.specs.Attempt.{Way, whole}
-use Rattle.usb_device.specs.Tree.{Ports, ended, vacant, taken, reach_at, state_at, state_on, Location, path_to, reach_on}
+use Rattle.usb_device.specs.Tree.{Ports, ended, vacant, taken, reach_at, state_at, state_on}
+use Rattle.usb_device.specs.Tree.{Location, path_to, reach_on}
 use Rattle.usb_world.specs.declared.types.Attempt.{Attempt}
 use Rattle.usb_world.specs.declared.damage.Damage.{Damage}
 use Rattle.usb_tree.specs.Paths.{address_of, same_number, same_path}
@@ -14,7 +16,8 @@ use Rattle.usb_world.specs.World.{World}
 use Rattle.usb_world.specs.Steps.{at_attempt, damage_in, attempt, after}
 use Rattle.usb_world.specs.Courses.{made_resets, resets}
 use Rattle.usb_world.specs.Addresses.{is_setup}
-use Rattle.usb_world.specs.OneHolder.{token_way, payload_way, answer_way, reply_way, IsSetup, IsOut, IsIn, hears_attempt, IsMade, HolderIn}
+use Rattle.usb_world.specs.OneHolder.{token_way, payload_way, answer_way, reply_way, IsSetup, IsOut}
+use Rattle.usb_world.specs.OneHolder.{IsIn, hears_attempt, IsMade, HolderIn}
 use Rattle.usb_world.specs.Devices.{Relation, Was, EachWas, Ways, DidIn, DidOut, DidSetup}
 use Rattle.usb_tree.proofs.Interface.{false_true, both, decided}
 use Rattle.usb_world.proofs.courses.Courses.{made_reach}
@@ -23,48 +26,72 @@ use Rattle.usb_world.proofs.addresses.AddressesInTransfers.{data_calm}
 use Rattle.usb_world.proofs.ports.RootResets.{same_number-is, same_is}
 use Rattle.usb_world.proofs.holders.OneDevice.{other_address, stands, state_stands}
 use Rattle.usb_world.proofs.holders.OneHolder.{holder_holds}
-use Rattle.usb_world.proofs.holders.OneHolderAttempts.{ready_settled, made_is, made_true, nobody_in, holder_in, silent_in, others_in, setup_in, out_in, in_in, setup_sound_in, out_sound_in, in_sound_in, ExchangedIn}
+use Rattle.usb_world.proofs.holders.OneHolderAttempts.{ready_settled, made_is, made_true, nobody_in}
+use Rattle.usb_world.proofs.holders.OneHolderAttempts.{holder_in, silent_in, others_in, setup_in}
+use Rattle.usb_world.proofs.holders.OneHolderAttempts.{out_in, in_in, setup_sound_in, out_sound_in}
+use Rattle.usb_world.proofs.holders.OneHolderAttempts.{in_sound_in, ExchangedIn}
 use Rattle.usb_world.proofs.holders.HolderOfAttempt.{holder_or_nobody}
 use Rattle.usb_tree.proofs.Interface.{same_equal, swapped}
 
 -- Over courses
 
-pub each_none : (R : Relation) → ((j : Location) (s : State) → R j s s) → (w : World) → EachWas R w w
+pub each_none : (R : Relation) → ((j : Location) (s : State) → R j s s) → (w : World)
+    → EachWas R w w
 each_none R f w j s on there = record { before = s; on = on; stands = there; so = f j s }
 
-pub each_joined : (R S T : Relation) → ((j : Location) (s u v : State) → R j s u → S j u v → T j s v)
+pub each_joined : (R S T : Relation) → ((j : Location) (s u v : State) → R j s u → S j u v
+    → T j s v)
     → (old mid new : World) → EachWas R old mid → EachWas S mid new → EachWas T old new
 each_joined R S T f old mid new x y j s on there =
     let later : Was S mid j s = y j s on there in
     let sooner : Was R old j later.before = x j later.before later.on later.stands in
-    record { before = sooner.before; on = sooner.on; stands = sooner.stands; so = f j sooner.before later.before s sooner.so later.so }
+    record {
+      before = sooner.before;
+      on = sooner.on;
+      stands = sooner.stands;
+      so = f j sooner.before later.before s sooner.so later.so;
+    }
 
-pub each_wider : (R S : Relation) → ((j : Location) (s v : State) → R j s v → S j s v) → (old new : World) → EachWas R old new → EachWas S old new
+pub each_wider : (R S : Relation) → ((j : Location) (s v : State) → R j s v → S j s v)
+    → (old new : World) → EachWas R old new → EachWas S old new
 each_wider R S f old new x j s on there =
     let was : Was R old j s = x j s on there in
     record { before = was.before; on = was.on; stands = was.stands; so = f j was.before s was.so }
 
 -- with what else is so where a premise is
-pub each_beside : (R S T : Relation) (P : Type 0) → ((j : Location) (s v : State) → R j s v → (P → S j s v) → T j s v) → (old new : World) → EachWas R old new → (P → EachWas S old new) → EachWas T old new
+pub each_beside : (R S T : Relation) (P : Type 0)
+    → ((j : Location) (s v : State) → R j s v → (P → S j s v) → T j s v) → (old new : World)
+    → EachWas R old new → (P → EachWas S old new) → EachWas T old new
 each_beside R S T P f old new x y j v on there =
     let was : Was R old j v = x j v on there in
-    let other : P → S j was.before v = λ h. (let it : Was S old j v = y h j v on there in subst (λ d. S j d v) (same_Some it.before was.before (sym it.stands ∙ was.stands)) it.so) in
-    record { before = was.before; on = was.on; stands = was.stands; so = f j was.before v was.so other }
+    let other : P → S j was.before v = λ h. (let it : Was S old j v = y h j v on there in
+    subst (λ d. S j d v) (same_Some it.before was.before (sym it.stands ∙ was.stands)) it.so)
+    in
+    record {
+      before = was.before;
+      on = was.on;
+      stands = was.stands;
+      so = f j was.before v was.so other;
+    }
 
 -- two relations of the same device
-pub each_both : (R S : Relation) (old new : World) → EachWas R old new → EachWas S old new → EachWas (λ j s v. R j s v × S j s v) old new
-each_both R S old new x y = each_beside R S (λ j s v. R j s v × S j s v) (Unit {0}) (λ j s v r c. (r, c tt)) old new x (λ u. y)
+pub each_both : (R S : Relation) (old new : World) → EachWas R old new → EachWas S old new
+    → EachWas (λ j s v. R j s v × S j s v) old new
+each_both R S old new x y = each_beside R S (λ j s v. R j s v × S j s v) (Unit {0})
+    (λ j s v r c. (r, c tt)) old new x (λ u. y)
 
 -- A reachable device stands
 
-reach-is_some : (k : Ports) (j : ℕ) (p : List ℕ) → reach_at k j p ≡ true → is_some (state_at k j p) ≡ true
+reach-is_some : (k : Ports) (j : ℕ) (p : List ℕ) → reach_at k j p ≡ true
+    → is_some (state_at k j p) ≡ true
 unfolding reach_at state_at
 reach-is_some ended j p h = false_true h
 reach-is_some (vacant b k) zero p h = false_true h
 reach-is_some (vacant b k) (suc j) p h = reach-is_some k j p h
 reach-is_some (taken b s a k) zero [] h = refl
 reach-is_some (taken b s a k) zero (zero ∷ p) h = false_true h
-reach-is_some (taken b s a k) zero (suc j ∷ p) h = reach-is_some a j p (both b.enable (reach_at a j p) h).1
+reach-is_some (taken b s a k) zero (suc j ∷ p) h =
+    reach-is_some a j p (both b.enable (reach_at a j p) h).1
 reach-is_some (taken b s a k) (suc j) p h = reach-is_some k j p h
 
 reset_if-no : (b : Bool) (s : State) → b ≡ false → Some (reset_if b s) ≡ Some s
@@ -75,18 +102,33 @@ reset_if-no false s h = refl
 
 -- each came whole; or the attempt was damaged, or the device did not hear it
 abbrev ways_whole : (a : Attempt) (w : World) (x : Location) (s : State) → Ways a w x s
-ways_whole a w x s = record { first = whole; second = whole; third = whole; heard = λ n g. (refl, refl, refl) }
+ways_whole a w x s = record {
+  first = whole;
+  second = whole;
+  third = whole;
+  heard =
+      λ n g. (refl, refl, refl);
+}
 
 abbrev Clear : Attempt → World → Location → State → Type 0
 Clear a w x s = (damage_in w ≡ None) × (hears_attempt a (deep_at false x.rest) s ≡ true)
 
-abbrev ways_as : (a : Attempt) (w : World) (x : Location) (s : State) (t1 t2 t3 : Way) → (Clear a w x s → ⊥) → Ways a w x s
-ways_as a w x s t1 t2 t3 c = record { first = t1; second = t2; third = t3; heard = λ n g. elim (c (n, g)) [ ] }
+abbrev ways_as : (a : Attempt) (w : World) (x : Location) (s : State) (t1 t2 t3 : Way)
+    → (Clear a w x s → ⊥) → Ways a w x s
+ways_as a w x s t1 t2 t3 c = record {
+  first = t1;
+  second = t2;
+  third = t3;
+  heard =
+      λ n g. elim (c (n, g)) [ ];
+}
 
-clear_or_not : (a : Attempt) (w : World) (x : Location) (s : State) → Clear a w x s ⊎ (Clear a w x s → ⊥)
+clear_or_not : (a : Attempt) (w : World) (x : Location) (s : State) → Clear a w x s
+    ⊎ (Clear a w x s → ⊥)
 clear_or_not a w x s = pick (damage_in w) refl (decided (hears_attempt a (deep_at false x.rest) s))
   where
-    pick : (o : Option Damage) → damage_in w ≡ o → (hears_attempt a (deep_at false x.rest) s ≡ true) ⊎ (hears_attempt a (deep_at false x.rest) s ≡ false) → Clear a w x s ⊎ (Clear a w x s → ⊥)
+    pick : (o : Option Damage) → damage_in w ≡ o → (hears_attempt a (deep_at false x.rest) s ≡ true)
+        ⊎ (hears_attempt a (deep_at false x.rest) s ≡ false) → Clear a w x s ⊎ (Clear a w x s → ⊥)
     pick None n (inl g) = inl (n, g)
     pick None n (inr g) = inr (λ c. false_true (sym g ∙ c.1))
     pick (Some d) n g = inr (λ c. false_true (sym (ap is_some (sym n ∙ c.0))))
@@ -95,63 +137,83 @@ clear_or_not a w x s = pick (damage_in w) refl (decided (hears_attempt a (deep_a
 is_spot : (x y : Location) → (same_number x.row y.row && same_path x.rest y.rest) ≡ true → y ≡ x
 is_spot x y h =
     let both_same : _ = both (same_number x.row y.row) (same_path x.rest y.rest) h in
-    ap₂ (λ i e. record { row = i; rest = e }) (same_number-is x.row y.row both_same.0) (same_is x.rest y.rest both_same.1)
+    ap₂ (λ i e. record { row = i; rest = e }) (same_number-is x.row y.row both_same.0)
+    (same_is x.rest y.rest both_same.1)
 
 -- An attempt that is made, at a place that it does not reset
 
-module _ (a : Attempt) (w : World) (m : IsMade a w) (u : (after (attempt a) w).shared ≡ false) (j : Location) (v : State)
-    (rest : resets (attempt a) w (path_to j) ≡ false) (on : reach_on (after (attempt a) w).roots j ≡ true) (there : state_on (after (attempt a) w).roots j ≡ Some v) where
+module _ (a : Attempt) (w : World) (m : IsMade a w) (u : (after (attempt a) w).shared ≡ false)
+    (j : Location) (v : State)
+    (rest : resets (attempt a) w (path_to j) ≡ false) (on : reach_on (after (attempt a) w).roots j
+    ≡ true) (there : state_on (after (attempt a) w).roots j ≡ Some v) where
   rest_made : made_resets a (at_attempt w) (path_to j) ≡ false
   unfolding resets
   rest_made = ap (λ x. x && made_resets a (at_attempt w) (path_to j)) (sym (made_true a w m)) ∙ rest
 
   on_ready : reach_on (at_attempt w).roots j ≡ true
-  on_ready = made_reach a (at_attempt w) (path_to j) rest_made (ap (λ x. reach_on x.roots j) (sym (made_is a w m)) ∙ on)
+  on_ready = made_reach a (at_attempt w) (path_to j) rest_made
+      (ap (λ x. reach_on x.roots j) (sym (made_is a w m)) ∙ on)
 
   was_so : (reach_on w.roots j ≡ true) × (state_on (at_attempt w).roots j ≡ state_on w.roots j)
   was_so = ready_stood w (path_to j) on_ready
 
   -- what is so of a device that does not hold the address, and of the one that does
   module _ (R : Relation) (other : (s : State) → (address_of s == a.addr) ≡ false → v ≡ s → R j s v)
-      (itself : (h : HolderIn a w) → state_on (after (attempt a) w).roots h.spot ≡ Some v → R h.spot h.own v) where
+      (itself : (h : HolderIn a w) → state_on (after (attempt a) w).roots h.spot ≡ Some v
+      → R h.spot h.own v) where
     was_of : (s : State) → state_on (at_attempt w).roots j ≡ Some s → R j s v → Was R w j v
     was_of s e x = record { before = s; on = was_so.0; stands = sym was_so.1 ∙ e; so = x }
 
-    of_nobody : NobodyHolds a.addr (at_attempt w).roots → (s : State) → state_on (at_attempt w).roots j ≡ Some s → R j s v
+    of_nobody : NobodyHolds a.addr (at_attempt w).roots → (s : State)
+        → state_on (at_attempt w).roots j ≡ Some s → R j s v
     of_nobody n s e =
         other s (swapped a.addr (address_of s) (n j.row j.rest s e on_ready))
         (same_Some v s (sym there ∙ ap (λ k. state_on k j) (nobody_in a w m n).1 ∙ e))
 
-    of_other : (h : HolderIn a w) → (same_number j.row h.spot.row && same_path j.rest h.spot.rest) ≡ false → (s : State) → state_on (at_attempt w).roots j ≡ Some s → R j s v
+    of_other : (h : HolderIn a w) → (same_number j.row h.spot.row && same_path j.rest h.spot.rest)
+        ≡ false → (s : State) → state_on (at_attempt w).roots j ≡ Some s → R j s v
     of_other h d s e =
-        other s (swapped a.addr (address_of s) (other_address a.addr (at_attempt w).roots h.spot.row h.spot.rest (holder_holds a.addr (at_attempt w).roots (holder_in a w h)) j.row j.rest s d e on_ready))
-        (same_Some v s (sym there ∙ others_in a w h j.row j.rest s d e ∙ reset_if-no (resets (attempt a) w (path_to j)) s rest))
+        other s (swapped a.addr (address_of s) (other_address a.addr (at_attempt w).roots h.spot.row
+        h.spot.rest (holder_holds a.addr (at_attempt w).roots (holder_in a w h)) j.row
+        j.rest s d e on_ready))
+        (same_Some v s (sym there ∙ others_in a w h j.row j.rest s d e
+        ∙ reset_if-no (resets (attempt a) w (path_to j)) s rest))
 
-    of_itself : (h : HolderIn a w) → h.spot ≡ j → (s : State) → state_on (at_attempt w).roots j ≡ Some s → R j s v
+    of_itself : (h : HolderIn a w) → h.spot ≡ j → (s : State) → state_on (at_attempt w).roots j
+        ≡ Some s → R j s v
     of_itself h x s e =
-        subst (λ t. R j t v) (same_Some h.own s (ap stands (sym h.stands) ∙ state_stands (at_attempt w).roots h.spot.row h.spot.rest ∙ ap (state_on (at_attempt w).roots) x ∙ e))
-        (subst (λ i. R i h.own v) x (itself h (ap (state_on (after (attempt a) w).roots) x ∙ there)))
+        subst (λ t. R j t v) (same_Some h.own s (ap stands (sym h.stands)
+        ∙ state_stands (at_attempt w).roots h.spot.row h.spot.rest
+        ∙ ap (state_on (at_attempt w).roots) x ∙ e))
+        (subst (λ i. R i h.own v) x (itself h (ap (state_on (after (attempt a) w).roots) x
+        ∙ there)))
 
-    of_holder : (h : HolderIn a w) → (s : State) → state_on (at_attempt w).roots j ≡ Some s → R j s v
+    of_holder : (h : HolderIn a w) → (s : State) → state_on (at_attempt w).roots j ≡ Some s
+        → R j s v
     of_holder h s e = pick (decided (same_number j.row h.spot.row && same_path j.rest h.spot.rest))
       where
-        pick : ((same_number j.row h.spot.row && same_path j.rest h.spot.rest) ≡ true) ⊎ ((same_number j.row h.spot.row && same_path j.rest h.spot.rest) ≡ false) → R j s v
+        pick : ((same_number j.row h.spot.row && same_path j.rest h.spot.rest) ≡ true)
+            ⊎ ((same_number j.row h.spot.row && same_path j.rest h.spot.rest) ≡ false) → R j s v
         pick (inl y) = of_itself h (is_spot j h.spot y) s e
         pick (inr y) = of_other h y s e
 
-    of_any : HolderIn a w ⊎ NobodyHolds a.addr (at_attempt w).roots → (s : State) → state_on (at_attempt w).roots j ≡ Some s → R j s v
+    of_any : HolderIn a w ⊎ NobodyHolds a.addr (at_attempt w).roots → (s : State)
+        → state_on (at_attempt w).roots j ≡ Some s → R j s v
     of_any (inl h) = of_holder h
     of_any (inr n) = of_nobody n
 
     at_place : Was R w j v
-    at_place = go (state_on (at_attempt w).roots j) refl (reach-is_some (at_attempt w).roots j.row j.rest on_ready)
+    at_place = go (state_on (at_attempt w).roots j) refl
+        (reach-is_some (at_attempt w).roots j.row j.rest on_ready)
       where
-        go : (o : Option State) → state_on (at_attempt w).roots j ≡ o → is_some o ≡ true → Was R w j v
+        go : (o : Option State) → state_on (at_attempt w).roots j ≡ o → is_some o ≡ true
+            → Was R w j v
         go None e h = false_true h
         go (Some s) e h = was_of s e (of_any (holder_or_nobody a w m u) s e)
 
 -- the device that holds the address
-module _ (a : Attempt) (w : World) (h : HolderIn a w) (v : State) (there : state_on (after (attempt a) w).roots h.spot ≡ Some v) where
+module _ (a : Attempt) (w : World) (h : HolderIn a w) (v : State)
+    (there : state_on (after (attempt a) w).roots h.spot ≡ Some v) where
   open h use {spot, port as b, own as s, below}
 
   abbrev deep : Bool
@@ -178,72 +240,95 @@ module _ (a : Attempt) (w : World) (h : HolderIn a w) (v : State) (there : state
   did_in : IsIn a → DidIn a w spot s v
   did_in i = pick (decided s.spec.silent)
     where
-      loud_in : s.spec.silent ≡ false → Clear a w spot s ⊎ (Clear a w spot s → ⊥) → DidIn a w spot s v
+      loud_in : s.spec.silent ≡ false → Clear a w spot s ⊎ (Clear a w spot s → ⊥)
+          → DidIn a w spot s v
       loud_in loud (inl c) =
           let x : _ = in_sound_in a w h loud c.1 c.0 i in
           DidIn.asked its_own loud b below h.stands (ways_whole a w spot s) x.outcome (then_is _ x)
       loud_in loud (inr c) =
           let x : _ = in_in a w h loud i in
-          DidIn.asked its_own loud b below h.stands (ways_as a w spot s token answer reply c) x.outcome (then_is _ x)
+          DidIn.asked its_own loud b below h.stands (ways_as a w spot s token answer reply c)
+          x.outcome (then_is _ x)
 
       pick : (s.spec.silent ≡ true) ⊎ (s.spec.silent ≡ false) → DidIn a w spot s v
-      pick (inl y) = let x : _ = silent_in a w h y in DidIn.silent its_own y x.outcome (then_is (None, s) x)
+      pick (inl y) = let x : _ = silent_in a w h y in
+          DidIn.silent its_own y x.outcome (then_is (None, s) x)
       pick (inr y) = loud_in y (clear_or_not a w spot s)
 
   did_out : (t : Toggle) (bytes : List ℕ) → IsOut a t bytes → DidOut a t bytes w spot s v
   did_out t bytes i = pick (decided s.spec.silent)
     where
-      loud_out : s.spec.silent ≡ false → Clear a w spot s ⊎ (Clear a w spot s → ⊥) → DidOut a t bytes w spot s v
+      loud_out : s.spec.silent ≡ false → Clear a w spot s ⊎ (Clear a w spot s → ⊥)
+          → DidOut a t bytes w spot s v
       loud_out loud (inl c) =
           let x : _ = out_sound_in a w h loud c.1 c.0 t bytes i in
           DidOut.asked its_own loud (ways_whole a w spot s) x.outcome (then_is _ x)
       loud_out loud (inr c) =
           let x : _ = out_in a w h loud t bytes i in
-          DidOut.asked its_own loud (ways_as a w spot s token payload answer c) x.outcome (then_is _ x)
+          DidOut.asked its_own loud (ways_as a w spot s token payload answer c) x.outcome
+          (then_is _ x)
 
       pick : (s.spec.silent ≡ true) ⊎ (s.spec.silent ≡ false) → DidOut a t bytes w spot s v
-      pick (inl y) = let x : _ = silent_in a w h y in DidOut.silent its_own y x.outcome (then_is (None, s) x)
+      pick (inl y) = let x : _ = silent_in a w h y in
+          DidOut.silent its_own y x.outcome (then_is (None, s) x)
       pick (inr y) = loud_out y (clear_or_not a w spot s)
 
   did_setup : (bytes : List ℕ) → IsSetup a bytes → DidSetup a bytes w spot s v
   did_setup bytes i = pick (decided s.spec.silent)
     where
-      loud_setup : s.spec.silent ≡ false → Clear a w spot s ⊎ (Clear a w spot s → ⊥) → DidSetup a bytes w spot s v
+      loud_setup : s.spec.silent ≡ false → Clear a w spot s ⊎ (Clear a w spot s → ⊥)
+          → DidSetup a bytes w spot s v
       loud_setup loud (inl c) =
           let x : _ = setup_sound_in a w h loud c.1 c.0 bytes i in
-          DidSetup.asked its_own loud b below h.stands (ways_whole a w spot s) x.outcome (then_is _ x)
+          DidSetup.asked its_own loud b below h.stands (ways_whole a w spot s) x.outcome
+          (then_is _ x)
       loud_setup loud (inr c) =
           let x : _ = setup_in a w h loud bytes i in
-          DidSetup.asked its_own loud b below h.stands (ways_as a w spot s token payload answer c) x.outcome (then_is _ x)
+          DidSetup.asked its_own loud b below h.stands (ways_as a w spot s token payload answer c)
+          x.outcome (then_is _ x)
 
       pick : (s.spec.silent ≡ true) ⊎ (s.spec.silent ≡ false) → DidSetup a bytes w spot s v
-      pick (inl y) = let x : _ = silent_in a w h y in DidSetup.silent its_own y x.outcome (then_is (None, s) x)
+      pick (inl y) = let x : _ = silent_in a w h y in
+          DidSetup.silent its_own y x.outcome (then_is (None, s) x)
       pick (inr y) = loud_setup y (clear_or_not a w spot s)
 
 -- The three kinds
 
 -- IN and OUT reset nothing
-data_resets_none : (a : Attempt) (w : World) → IsMade a w → is_setup a.kind ≡ false → (j : Location) → resets (attempt a) w (path_to j) ≡ false
+data_resets_none : (a : Attempt) (w : World) → IsMade a w → is_setup a.kind ≡ false → (j : Location)
+    → resets (attempt a) w (path_to j) ≡ false
 unfolding resets
 data_resets_none a w m kind j =
     ap (λ x. x && made_resets a (at_attempt w) (path_to j)) (made_true a w m)
-    ∙ data_calm a (damage_in (at_attempt w)) (at_attempt w).roots (ready_settled w m.settled) kind j.row j.rest
+    ∙ data_calm a (damage_in (at_attempt w)) (at_attempt w).roots (ready_settled w m.settled) kind
+    j.row j.rest
 
-pub each_holder : (a : Attempt) (w : World) → IsMade a w → is_setup a.kind ≡ false → (after (attempt a) w).shared ≡ false → (R : Relation) → ((j : Location) (s v : State) → (address_of s == a.addr) ≡ false → v ≡ s → R j s v)
-    → ((h : HolderIn a w) (v : State) → state_on (after (attempt a) w).roots h.spot ≡ Some v → R h.spot h.own v) → EachWas R w (after (attempt a) w)
-each_holder a w m kind u R other itself j v on there = at_place a w m u j v (data_resets_none a w m kind j) on there R (λ s. other j s v) (λ h. itself h v)
+pub each_holder : (a : Attempt) (w : World) → IsMade a w → is_setup a.kind ≡ false
+    → (after (attempt a) w).shared ≡ false → (R : Relation)
+    → ((j : Location) (s v : State) → (address_of s == a.addr) ≡ false → v ≡ s → R j s v)
+    → ((h : HolderIn a w) (v : State) → state_on (after (attempt a) w).roots h.spot ≡ Some v
+    → R h.spot h.own v) → EachWas R w (after (attempt a) w)
+each_holder a w m kind u R other itself j v on there =
+    at_place a w m u j v (data_resets_none a w m kind j) on there R (λ s. other j s v)
+    (λ h. itself h v)
 
-pub each_in : (a : Attempt) (w : World) → IsMade a w → IsIn a → (after (attempt a) w).shared ≡ false → EachWas (DidIn a w) w (after (attempt a) w)
-each_in a w m i u = each_holder a w m (ap is_setup i.kind) u (DidIn a w) (λ j s v d e. DidIn.other d e) (λ h v at. did_in a w h v at i)
+pub each_in : (a : Attempt) (w : World) → IsMade a w → IsIn a → (after (attempt a) w).shared ≡ false
+    → EachWas (DidIn a w) w (after (attempt a) w)
+each_in a w m i u = each_holder a w m (ap is_setup i.kind) u (DidIn a w)
+    (λ j s v d e. DidIn.other d e) (λ h v at. did_in a w h v at i)
 
-pub each_out : (a : Attempt) (w : World) (t : Toggle) (bytes : List ℕ) → IsMade a w → IsOut a t bytes → (after (attempt a) w).shared ≡ false
+pub each_out : (a : Attempt) (w : World) (t : Toggle) (bytes : List ℕ) → IsMade a w
+    → IsOut a t bytes → (after (attempt a) w).shared ≡ false
     → EachWas (DidOut a t bytes w) w (after (attempt a) w)
-each_out a w t bytes m i u = each_holder a w m (ap is_setup i.kind) u (DidOut a t bytes w) (λ j s v d e. DidOut.other d e) (λ h v at. did_out a w h v at t bytes i)
+each_out a w t bytes m i u = each_holder a w m (ap is_setup i.kind) u (DidOut a t bytes w)
+    (λ j s v d e. DidOut.other d e) (λ h v at. did_out a w h v at t bytes i)
 
 -- setup data may reset a device; of a place that they do not reset
-pub each_setup : (a : Attempt) (w : World) (bytes : List ℕ) → IsMade a w → IsSetup a bytes → (after (attempt a) w).shared ≡ false
+pub each_setup : (a : Attempt) (w : World) (bytes : List ℕ) → IsMade a w → IsSetup a bytes
+    → (after (attempt a) w).shared ≡ false
     → (j : Location) (v : State) → resets (attempt a) w (path_to j) ≡ false
-    → reach_on (after (attempt a) w).roots j ≡ true → state_on (after (attempt a) w).roots j ≡ Some v → Was (DidSetup a bytes w) w j v
+    → reach_on (after (attempt a) w).roots j ≡ true → state_on (after (attempt a) w).roots j
+    ≡ Some v → Was (DidSetup a bytes w) w j v
 each_setup a w bytes m i u j v rest on there =
     at_place a w m u j v rest on there (DidSetup a bytes w)
     (λ s d e. DidSetup.other d e) (λ h at. did_setup a w h v at bytes i)

@@ -12,18 +12,22 @@ use Rattle.usb_tree.proofs.Interface.{who_holds}
 use Rattle.usb_world.proofs.holders.OneHolderAttempts.{nobody_in, silent_in}
 
 -- one device holds the address of an attempt, or none does
-pub holder_or_nobody : (a : Attempt) (w : World) → IsMade a w → (after (attempt a) w).shared ≡ false → HolderIn a w ⊎ NobodyHolds a.addr (at_attempt w).roots
+pub holder_or_nobody : (a : Attempt) (w : World) → IsMade a w → (after (attempt a) w).shared ≡ false
+    → HolderIn a w ⊎ NobodyHolds a.addr (at_attempt w).roots
 holder_or_nobody a w m u = pick (who_holds a.addr (at_attempt w).roots)
   where
-    pick : Found a.addr (at_attempt w).roots ⊎ NobodyHolds a.addr (at_attempt w).roots → HolderIn a w ⊎ NobodyHolds a.addr (at_attempt w).roots
+    pick : Found a.addr (at_attempt w).roots ⊎ NobodyHolds a.addr (at_attempt w).roots
+        → HolderIn a w ⊎ NobodyHolds a.addr (at_attempt w).roots
     pick (inl y) = inl (record { made = m; single = u; found = y })
     pick (inr y) = inr y
 
 -- what is answered comes from one device, which is not silent
-pub one_answers : (a : Attempt) (w : World) → IsMade a w → (after (attempt a) w).shared ≡ false → (outcome_in a w ≡ Nothing → ⊥) → AttemptAnswerer a w
+pub one_answers : (a : Attempt) (w : World) → IsMade a w → (after (attempt a) w).shared ≡ false
+    → (outcome_in a w ≡ Nothing → ⊥) → AttemptAnswerer a w
 one_answers a w m u c = pick (holder_or_nobody a w m u)
   where
-    heard_of : (h : HolderIn a w) → (h.own.spec.silent ≡ true) ⊎ (h.own.spec.silent ≡ false) → AttemptAnswerer a w
+    heard_of : (h : HolderIn a w) → (h.own.spec.silent ≡ true) ⊎ (h.own.spec.silent ≡ false)
+        → AttemptAnswerer a w
     heard_of h (inl y) = elim (c (silent_in a w h y).outcome) [ ]
     heard_of h (inr y) = record { holder = h; loud = y }
 

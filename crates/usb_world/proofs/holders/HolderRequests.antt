@@ -1,12 +1,18 @@
--- What an attempt asks of ports, where one reachable device holds its address: it alone can ask anything.
-use Rattle.std.proofs.Common.{◌≡◌, ℕ, zero, suc, ◌==◌, ◌&&◌, ◌||◌, not, if◌then◌else◌, ◌⊎◌, inl, inr, Bool, true, false, List, [], ◌∷◌, ◌++◌, Option, None, Some, is_some, refl, ap, ap₂, sym, subst, ◌∙◌}
+-- What an attempt asks of ports, where one reachable device holds its address: it alone can ask
+-- anything.
+use Rattle.std.proofs.Common.{◌≡◌, ℕ, zero, suc, ◌==◌, ◌&&◌, ◌||◌, not, if◌then◌else◌, ◌⊎◌, inl}
+use Rattle.std.proofs.Common.{inr, Bool, true, false, List, [], ◌∷◌, ◌++◌, Option, None, Some}
+use Rattle.std.proofs.Common.{is_some, refl, ap, ap₂, sym, subst, ◌∙◌}
 use Rattle.std.proofs.lemmas.Option.{same_Some}
-use Rattle.usb_request.specs.Features.{PORT_ENABLE, PORT_RESET, PORT_POWER, C_PORT_ENABLE, C_PORT_RESET}
-use Rattle.usb_request.specs.Codes.{CLEAR_FEATURE, SET_FEATURE, SET_CONFIGURATION, DEVICE_OUT, PORT_OUT}
+use Rattle.usb_request.specs.Features.{PORT_ENABLE, PORT_RESET, PORT_POWER, C_PORT_ENABLE}
+use Rattle.usb_request.specs.Features.{C_PORT_RESET}
+use Rattle.usb_request.specs.Codes.{CLEAR_FEATURE, SET_FEATURE, SET_CONFIGURATION, DEVICE_OUT}
+use Rattle.usb_request.specs.Codes.{PORT_OUT}
 use Rattle.usb_request.specs.declared.setup.Setup.{Setup}
 use Rattle.usb_request.specs.Layout.{setup_of}
 use Rattle.usb_port.specs.declared.call.PortCall.{PortCall}
-use Rattle.usb_port.specs.declared.call.PortCall.TheVariants.{SetPower, SetReset, ClearEnable, ClearEnableChange, ClearResetChange}
+use Rattle.usb_port.specs.declared.call.PortCall.TheVariants.{SetPower, SetReset, ClearEnable}
+use Rattle.usb_port.specs.declared.call.PortCall.TheVariants.{ClearEnableChange, ClearResetChange}
 use Rattle.usb_device.specs.declared.delivery.Sent.{Sent}
 use Rattle.usb_device.specs.declared.effect.Effect.{Effect}
 use Rattle.usb_device.specs.declared.effect.Effect.TheVariants.{Leaves, Calls}
@@ -19,21 +25,27 @@ use Rattle.usb_device.specs.Delivery.{effect_of, after_packet}
 use Rattle.usb_world.specs.declared.types.Attempt.{Attempt}
 use Rattle.usb_world.specs.Exchange.{token_out, payload_out}
 use Rattle.usb_tree.specs.Paths.{same_number, same_path, is_way}
-use Rattle.usb_tree.specs.AttemptPackets.{after_sent, IsTokenFor, IfOut, IsSettled, OneHolds, sent_keeps_pending, sent_resets}
-use Rattle.usb_tree.specs.WayEffects.{effect_resets, resets_at, keeps_pending, effect_keeps_pending, leaves_port}
+use Rattle.usb_tree.specs.AttemptPackets.{after_sent, IsTokenFor, IfOut, IsSettled, OneHolds}
+use Rattle.usb_tree.specs.AttemptPackets.{sent_keeps_pending, sent_resets}
+use Rattle.usb_tree.specs.WayEffects.{effect_resets, resets_at, keeps_pending, effect_keeps_pending}
+use Rattle.usb_tree.specs.WayEffects.{leaves_port}
 use Rattle.usb_world.specs.World.{World}
 use Rattle.usb_world.specs.Steps.{at_attempt, damage_in, attempt}
 use Rattle.usb_world.specs.Courses.{is_made, made_resets, resets, step_keeps_pending}
 use Rattle.usb_world.specs.OneHolder.{IsSetup, HolderIn}
-use Rattle.usb_world.specs.PortRequests.{sent_leaves, leaves_step, AsksNothing, is_port_request, is_sparing, is_above}
-use Rattle.usb_tree.proofs.Interface.{false_true, both, decided, either_of, and_false, or_left, or_right, not-true}
+use Rattle.usb_world.specs.PortRequests.{sent_leaves, leaves_step, AsksNothing, is_port_request}
+use Rattle.usb_world.specs.PortRequests.{is_sparing, is_above}
+use Rattle.usb_tree.proofs.Interface.{false_true, both, decided, either_of, and_false, or_left}
+use Rattle.usb_tree.proofs.Interface.{or_right, not-true}
 use Rattle.usb_world.proofs.packets.AttemptPackets.{calm_sent, token_out as token_calm}
-use Rattle.usb_world.proofs.holders.OneDevice.{settled_memory, rest_state, rested_effect, token_calls, other_address}
+use Rattle.usb_world.proofs.holders.OneDevice.{settled_memory, rest_state, rested_effect}
+use Rattle.usb_world.proofs.holders.OneDevice.{token_calls, other_address}
 use Rattle.usb_world.proofs.holders.OneHolder.{holder_holds, Holder}
 use Rattle.usb_world.proofs.holders.OneHolderAttempts.{holder_in}
 use Rattle.usb_world.proofs.courses.Courses.{goes}
 use Rattle.usb_world.proofs.ports.RootResets.{same_number-is, same_is}
-use Rattle.usb_world.proofs.ports.PortRequests.{Allows, AllowsOut, PayloadAllows, sent_allowed, payload_allowed}
+use Rattle.usb_world.proofs.ports.PortRequests.{Allows, AllowsOut, PayloadAllows, sent_allowed}
+use Rattle.usb_world.proofs.ports.PortRequests.{payload_allowed}
 use Rattle.usb_tree.proofs.Interface.{OnWay, spares_if, way_leaves-on_way, resets_if}
 use Rattle.usb_world.proofs.ports.ChangeBits.{left_effect}
 use Rattle.usb_tree.proofs.Interface.{equal_same, self_number}
@@ -41,15 +53,21 @@ use Rattle.usb_tree.proofs.Interface.{unreset}
 use Rattle.usb_world.proofs.ways.Ways.{way_on}
 
 -- after the token no other device remembers anything
-others_forgot : (n : ℕ) (t : Option Sent) → IfOut (IsTokenFor n) t → (k : Ports) (j : ℕ) (p : List ℕ) → IsSettled k → OneHolds n k (record { row = j; rest = p })
-    → (i : ℕ) (e : List ℕ) (v : State) → (same_number i j && same_path e p) ≡ false → state_at (after_sent t k) i e ≡ Some v → v.memory ≡ Nothing
+others_forgot : (n : ℕ) (t : Option Sent) → IfOut (IsTokenFor n) t
+    → (k : Ports) (j : ℕ) (p : List ℕ) → IsSettled k → OneHolds n k (record { row = j; rest = p })
+    → (i : ℕ) (e : List ℕ) (v : State) → (same_number i j && same_path e p) ≡ false
+    → state_at (after_sent t k) i e ≡ Some v → v.memory ≡ Nothing
 others_forgot n None is k j p s o i e v differ at = settled_memory k i e v s at
 others_forgot n (Some q) is k j p s o i e v differ at = settled_memory k i e v s (sym same ∙ at)
   where
     same : state_at (after_packet q false k) i e ≡ state_at k i e
     same =
-        rest_state q false k i e (λ u h on. (settled_memory k i e u s h, token_calls n q.content u is (other_address n k j p o i e u differ h on)))
-        ∙ unreset (resets_at q false k i e) (state_at k i e) (calm_sent (Some q) (token_calm n (Some q) is) k i e)
+        rest_state q false k i e (λ u h on. (
+          settled_memory k i e u s h,
+          token_calls n q.content u is (other_address n k j p o i e u differ h on),
+        ))
+        ∙ unreset (resets_at q false k i e) (state_at k i e)
+        (calm_sent (Some q) (token_calm n (Some q) is) k i e)
 
 -- a test of effects at a port, with the rest of the path, that holds where nothing is asked
 abbrev Test : Type 0
@@ -69,41 +87,69 @@ rest_test a m r e = not (effect_resets e a m r)
 set_spares : (v : ℕ) (c : PortCall) → set_call v ≡ Some c → keeps_pending c [] ≡ true
 set_spares v c h = split (v == PORT_POWER) (v == PORT_RESET) h
   where
-    split : (x y : Bool) → (if x then Some SetPower else if y then Some SetReset else None) ≡ Some c → keeps_pending c [] ≡ true
+    split : (x y : Bool) → (if x then Some SetPower else if y then Some SetReset else None) ≡ Some c
+        → keeps_pending c [] ≡ true
     split true y e = ap (λ z. keeps_pending z []) (sym (same_Some SetPower c e))
     split false true e = ap (λ z. keeps_pending z []) (sym (same_Some SetReset c e))
     split false false e = false_true (ap is_some e)
 
-clear_call-spares : (v : ℕ) (c : PortCall) → (v == PORT_ENABLE || (v == C_PORT_ENABLE || v == C_PORT_RESET)) ≡ true → clear_call v ≡ Some c → keeps_pending c [] ≡ true
-clear_call-spares v c h e = pick (either_of (v == PORT_ENABLE) (v == C_PORT_ENABLE || v == C_PORT_RESET) h)
+clear_call-spares : (v : ℕ) (c : PortCall)
+    → (v == PORT_ENABLE || (v == C_PORT_ENABLE || v == C_PORT_RESET)) ≡ true → clear_call v ≡ Some c
+    → keeps_pending c [] ≡ true
+clear_call-spares v c h e = pick (either_of (v == PORT_ENABLE)
+    (v == C_PORT_ENABLE || v == C_PORT_RESET) h)
   where
-    found : (x : PortCall) → clear_call v ≡ Some x → keeps_pending x [] ≡ true → keeps_pending c [] ≡ true
+    found : (x : PortCall) → clear_call v ≡ Some x → keeps_pending x [] ≡ true
+        → keeps_pending c [] ≡ true
     found x f g = ap (λ z. keeps_pending z []) (sym (same_Some x c (sym f ∙ e))) ∙ g
 
     last : ((v == C_PORT_ENABLE) ≡ true) ⊎ ((v == C_PORT_RESET) ≡ true) → keeps_pending c [] ≡ true
     last (inl y) = found ClearEnableChange (ap clear_call (equal_same v 17 y)) refl
     last (inr y) = found ClearResetChange (ap clear_call (equal_same v 20 y)) refl
 
-    pick : ((v == PORT_ENABLE) ≡ true) ⊎ ((v == C_PORT_ENABLE || v == C_PORT_RESET) ≡ true) → keeps_pending c [] ≡ true
+    pick : ((v == PORT_ENABLE) ≡ true) ⊎ ((v == C_PORT_ENABLE || v == C_PORT_RESET) ≡ true)
+        → keeps_pending c [] ≡ true
     pick (inl y) = found ClearEnable (ap clear_call (equal_same v 1 y)) refl
     pick (inr y) = last (either_of (v == C_PORT_ENABLE) (v == C_PORT_RESET) y)
 
 sparing_asks : (r : Setup) → is_sparing r ≡ true → is_port_request r ≡ true
-sparing_asks r h = pick (either_of (Is r PORT_OUT SET_FEATURE && (r.value == PORT_RESET || r.value == PORT_POWER)) (Is r PORT_OUT CLEAR_FEATURE && (r.value == PORT_ENABLE || (r.value == C_PORT_ENABLE || r.value == C_PORT_RESET))) h)
+sparing_asks r h = pick (either_of (Is r PORT_OUT SET_FEATURE &&
+    (r.value == PORT_RESET || r.value == PORT_POWER))
+    (Is r PORT_OUT CLEAR_FEATURE && (r.value == PORT_ENABLE ||
+    (r.value == C_PORT_ENABLE || r.value == C_PORT_RESET))) h)
   where
-    pick : ((Is r PORT_OUT SET_FEATURE && (r.value == PORT_RESET || r.value == PORT_POWER)) ≡ true) ⊎ ((Is r PORT_OUT CLEAR_FEATURE && (r.value == PORT_ENABLE || (r.value == C_PORT_ENABLE || r.value == C_PORT_RESET))) ≡ true) → is_port_request r ≡ true
-    pick (inl y) = or_left (Is r PORT_OUT SET_FEATURE) (Is r PORT_OUT CLEAR_FEATURE) (both (Is r PORT_OUT SET_FEATURE) (r.value == PORT_RESET || r.value == PORT_POWER) y).0
-    pick (inr y) = or_right (Is r PORT_OUT SET_FEATURE) (Is r PORT_OUT CLEAR_FEATURE) (both (Is r PORT_OUT CLEAR_FEATURE) (r.value == PORT_ENABLE || (r.value == C_PORT_ENABLE || r.value == C_PORT_RESET)) y).0
+    pick : ((Is r PORT_OUT SET_FEATURE && (r.value == PORT_RESET || r.value == PORT_POWER)) ≡ true)
+        ⊎ ((Is r PORT_OUT CLEAR_FEATURE &&
+        (r.value == PORT_ENABLE || (r.value == C_PORT_ENABLE || r.value == C_PORT_RESET)))
+        ≡ true) → is_port_request r ≡ true
+    pick (inl y) = or_left (Is r PORT_OUT SET_FEATURE) (Is r PORT_OUT CLEAR_FEATURE)
+        (both (Is r PORT_OUT SET_FEATURE) (r.value == PORT_RESET || r.value == PORT_POWER) y).0
+    pick (inr y) = or_right (Is r PORT_OUT SET_FEATURE) (Is r PORT_OUT CLEAR_FEATURE)
+        (both (Is r PORT_OUT CLEAR_FEATURE) (r.value == PORT_ENABLE ||
+        (r.value == C_PORT_ENABLE || r.value == C_PORT_RESET)) y).0
 
-sparing_value : (r : Setup) → is_sparing r ≡ true → Is r PORT_OUT CLEAR_FEATURE ≡ true → (r.value == PORT_ENABLE || (r.value == C_PORT_ENABLE || r.value == C_PORT_RESET)) ≡ true
-sparing_value r h e = pick (either_of (Is r PORT_OUT SET_FEATURE && (r.value == PORT_RESET || r.value == PORT_POWER)) (Is r PORT_OUT CLEAR_FEATURE && (r.value == PORT_ENABLE || (r.value == C_PORT_ENABLE || r.value == C_PORT_RESET))) h)
+sparing_value : (r : Setup) → is_sparing r ≡ true → Is r PORT_OUT CLEAR_FEATURE ≡ true
+    → (r.value == PORT_ENABLE || (r.value == C_PORT_ENABLE || r.value == C_PORT_RESET)) ≡ true
+sparing_value r h e = pick (either_of (Is r PORT_OUT SET_FEATURE &&
+    (r.value == PORT_RESET || r.value == PORT_POWER))
+    (Is r PORT_OUT CLEAR_FEATURE && (r.value == PORT_ENABLE ||
+    (r.value == C_PORT_ENABLE || r.value == C_PORT_RESET))) h)
   where
     three : Is r PORT_OUT SET_FEATURE ≡ true → r.request ≡ SET_FEATURE
-    three y = equal_same r.request SET_FEATURE (both (r.request_type == PORT_OUT) (r.request == SET_FEATURE) y).1
+    three y = equal_same r.request SET_FEATURE
+        (both (r.request_type == PORT_OUT) (r.request == SET_FEATURE) y).1
 
-    pick : ((Is r PORT_OUT SET_FEATURE && (r.value == PORT_RESET || r.value == PORT_POWER)) ≡ true) ⊎ ((Is r PORT_OUT CLEAR_FEATURE && (r.value == PORT_ENABLE || (r.value == C_PORT_ENABLE || r.value == C_PORT_RESET))) ≡ true) → (r.value == PORT_ENABLE || (r.value == C_PORT_ENABLE || r.value == C_PORT_RESET)) ≡ true
-    pick (inl y) = false_true (ap (λ x. x == 1) (sym (three (both (Is r PORT_OUT SET_FEATURE) (r.value == PORT_RESET || r.value == PORT_POWER) y).0)) ∙ (both (r.request_type == PORT_OUT) (r.request == CLEAR_FEATURE) e).1)
-    pick (inr y) = (both (Is r PORT_OUT CLEAR_FEATURE) (r.value == PORT_ENABLE || (r.value == C_PORT_ENABLE || r.value == C_PORT_RESET)) y).1
+    pick : ((Is r PORT_OUT SET_FEATURE && (r.value == PORT_RESET || r.value == PORT_POWER)) ≡ true)
+        ⊎ ((Is r PORT_OUT CLEAR_FEATURE &&
+        (r.value == PORT_ENABLE || (r.value == C_PORT_ENABLE || r.value == C_PORT_RESET)))
+        ≡ true) → (r.value == PORT_ENABLE ||
+        (r.value == C_PORT_ENABLE || r.value == C_PORT_RESET)) ≡ true
+    pick (inl y) = false_true (ap (λ x. x == 1)
+        (sym (three (both (Is r PORT_OUT SET_FEATURE)
+        (r.value == PORT_RESET || r.value == PORT_POWER) y).0))
+        ∙ (both (r.request_type == PORT_OUT) (r.request == CLEAR_FEATURE) e).1)
+    pick (inr y) = (both (Is r PORT_OUT CLEAR_FEATURE)
+        (r.value == PORT_ENABLE || (r.value == C_PORT_ENABLE || r.value == C_PORT_RESET)) y).1
 
 abbrev tail : List ℕ → List ℕ
 tail [] = []
@@ -131,58 +177,86 @@ module _ (a : Attempt) (w : World) (h : HolderIn a w) where
 
   -- what the holder can ask passes the test, where it is on the way to a path
   abbrev Allowed : Test → ℕ → List ℕ → Option Sent → Type 0
-  Allowed T i x o = (m : ℕ) (r : List ℕ) → suc i ∷ x ≡ suc j ∷ (p ++ (suc m ∷ r)) → IfOut (AllowsOut (T m r)) o
+  Allowed T i x o = (m : ℕ) (r : List ℕ) → suc i ∷ x ≡ suc j ∷ (p ++ (suc m ∷ r))
+      → IfOut (AllowsOut (T m r)) o
 
-  on_way : (T : Test) → ((m : ℕ) (r : List ℕ) → T m r Leaves ≡ true) → (i : ℕ) (x : List ℕ) (q : Sent) → Allowed T i x (Some q)
+  on_way : (T : Test) → ((m : ℕ) (r : List ℕ) → T m r Leaves ≡ true)
+      → (i : ℕ) (x : List ℕ) (q : Sent) → Allowed T i x (Some q)
       → OnWay (λ t m r. (dp : Bool) → T m r (effect_of q dp t) ≡ true) heard i x
   on_way T l i x q c e m r t z at dp = pick (decided (same_number i j && same_path e p))
     where
-      path : (same_number i j ≡ true) × (same_path e p ≡ true) → suc i ∷ x ≡ suc j ∷ (p ++ (suc m ∷ r))
-      path y = ap₂ (λ u v. suc u ∷ v) (sym (same_number-is i j y.0)) (z ∙ ap (λ v. v ++ (suc m ∷ r)) (sym (same_is e p y.1)))
+      path : (same_number i j ≡ true) × (same_path e p ≡ true)
+          → suc i ∷ x ≡ suc j ∷ (p ++ (suc m ∷ r))
+      path y = ap₂ (λ u v. suc u ∷ v) (sym (same_number-is i j y.0)) (z
+          ∙ ap (λ v. v ++ (suc m ∷ r)) (sym (same_is e p y.1)))
 
-      pick : ((same_number i j && same_path e p) ≡ true) ⊎ ((same_number i j && same_path e p) ≡ false) → T m r (effect_of q dp t) ≡ true
-      pick (inl y) = sent_allowed (T m r) (l m r) q (c m r (path (both (same_number i j) (same_path e p) y))) dp t
+      pick : ((same_number i j && same_path e p) ≡ true)
+          ⊎ ((same_number i j && same_path e p) ≡ false) → T m r (effect_of q dp t) ≡ true
+      pick (inl y) = sent_allowed (T m r) (l m r) q
+          (c m r (path (both (same_number i j) (same_path e p) y))) dp t
       pick (inr y) =
-          ap (T m r) (rested_effect q dp t (others_forgot a.addr (token_out a (damage_in (at_attempt w))) (goes a (damage_in (at_attempt w)) k).token k j p one.settled (holder_holds a.addr k one) i e t y at))
+          ap (T m r) (rested_effect q dp t
+          (others_forgot a.addr (token_out a (damage_in (at_attempt w)))
+          (goes a (damage_in (at_attempt w)) k).token k j p one.settled
+          (holder_holds a.addr k one) i e t y at))
           ∙ l m r
 
-  one_spares : (i : ℕ) (x : List ℕ) (o : Option Sent) → Allowed spare_test i x o → sent_keeps_pending o heard i x ≡ true
+  one_spares : (i : ℕ) (x : List ℕ) (o : Option Sent) → Allowed spare_test i x o
+      → sent_keeps_pending o heard i x ≡ true
   one_spares i x None c = refl
   one_spares i x (Some q) c = spares_if q false heard i x (on_way spare_test (λ m r. refl) i x q c)
 
-  one_leaves : (i : ℕ) (x : List ℕ) (o : Option Sent) → Allowed leave_test i x o → sent_leaves o heard i x ≡ true
+  one_leaves : (i : ℕ) (x : List ℕ) (o : Option Sent) → Allowed leave_test i x o
+      → sent_leaves o heard i x ≡ true
   one_leaves i x None c = refl
-  one_leaves i x (Some q) c = way_leaves-on_way q false heard i x (on_way leave_test (λ m r. refl) i x q c)
+  one_leaves i x (Some q) c = way_leaves-on_way q false heard i x
+      (on_way leave_test (λ m r. refl) i x q c)
 
-  one_rests : (i : ℕ) (x : List ℕ) (o : Option Sent) → ((n : Ports) → Allowed (rest_test n) i x o) → sent_resets o heard i x ≡ false
+  one_rests : (i : ℕ) (x : List ℕ) (o : Option Sent) → ((n : Ports) → Allowed (rest_test n) i x o)
+      → sent_resets o heard i x ≡ false
   one_rests i x None c = refl
-  one_rests i x (Some q) c = resets_if q false heard i x (λ e m r t z at dp n. not-true (effect_resets (effect_of q dp t) n m r) (on_way (rest_test n) (λ m r. refl) i x q (c n) e m r t z at dp))
+  one_rests i x (Some q) c = resets_if q false heard i x
+      (λ e m r t z at dp n. not-true (effect_resets (effect_of q dp t) n m r)
+      (on_way (rest_test n) (λ m r. refl) i x q (c n) e m r t z at dp))
 
   -- no device but the holder asks anything of its ports once the token is gone, whatever comes then
-  pub others_leave : (i : ℕ) (e : List ℕ) (t : State) → (same_number i j && same_path e p) ≡ false → state_at (after_sent (token_out a (damage_in (at_attempt w))) (at_attempt w).roots) i e ≡ Some t
+  pub others_leave : (i : ℕ) (e : List ℕ) (t : State) → (same_number i j && same_path e p) ≡ false
+      → state_at (after_sent (token_out a (damage_in (at_attempt w))) (at_attempt w).roots) i e
+      ≡ Some t
       → (q : Sent) (deep : Bool) → effect_of q deep t ≡ Leaves
   others_leave i e t differ at q deep =
-      rested_effect q deep t (others_forgot a.addr (token_out a (damage_in (at_attempt w))) (goes a (damage_in (at_attempt w)) k).token k j p one.settled (holder_holds a.addr k one) i e t differ at)
+      rested_effect q deep t (others_forgot a.addr (token_out a (damage_in (at_attempt w)))
+      (goes a (damage_in (at_attempt w)) k).token k j p one.settled
+      (holder_holds a.addr k one) i e t differ at)
 
   -- where it is not on the way
 
   below_path : (x : List ℕ) (n : ℕ) (y : List ℕ) → same_path x (x ++ (n ∷ y)) ≡ false
   below_path [] n y = refl
-  below_path (m ∷ x) n y = ap (λ z. z && same_path x (x ++ (n ∷ y))) (self_number m) ∙ below_path x n y
+  below_path (m ∷ x) n y = ap (λ z. z && same_path x (x ++ (n ∷ y))) (self_number m)
+      ∙ below_path x n y
 
   is_under : (m : ℕ) (r : List ℕ) → is_above (suc j ∷ p) (suc j ∷ (p ++ (suc m ∷ r))) ≡ true
-  is_under m r = ap₂ (λ x y. x && not y) (way_on (suc j ∷ p) (suc m ∷ r)) (below_path (suc j ∷ p) (suc m) r)
+  is_under m r = ap₂ (λ x y. x && not y) (way_on (suc j ∷ p) (suc m ∷ r))
+      (below_path (suc j ∷ p) (suc m) r)
 
-  not_under : {A : Type 0} (i : ℕ) (x : List ℕ) → is_above (suc j ∷ p) (suc i ∷ x) ≡ false → (m : ℕ) (r : List ℕ) → suc i ∷ x ≡ suc j ∷ (p ++ (suc m ∷ r)) → A
+  not_under : {A : Type 0} (i : ℕ) (x : List ℕ) → is_above (suc j ∷ p) (suc i ∷ x) ≡ false
+      → (m : ℕ) (r : List ℕ) → suc i ∷ x ≡ suc j ∷ (p ++ (suc m ∷ r)) → A
   not_under i x u m r z = false_true (sym u ∙ ap (is_above (suc j ∷ p)) z ∙ is_under m r)
 
   pub elsewhere : (x : List ℕ) → is_above (suc j ∷ p) x ≡ false → AsksNothing (attempt a) w x
   unfolding step_keeps_pending resets leaves_step
   elsewhere [] u = record { spares = refl; rests = and_false (is_made w.fault w); leaves = refl }
-  elsewhere (zero ∷ x) u = record { spares = refl; rests = and_false (is_made w.fault w); leaves = refl }
+  elsewhere (zero ∷ x) u = record {
+    spares = refl;
+    rests = and_false (is_made w.fault w);
+    leaves =
+        refl;
+  }
   elsewhere (suc i ∷ x) u = record {
     spares = one_spares i x sent (λ m r z. not_under i x u m r z);
-    rests = ap (λ y. is_made w.fault w && y) (one_rests i x sent (λ n m r z. not_under i x u m r z)) ∙ and_false (is_made w.fault w);
+    rests = ap (λ y. is_made w.fault w && y) (one_rests i x sent (λ n m r z. not_under i x u m r z))
+        ∙ and_false (is_made w.fault w);
     leaves = one_leaves i x sent (λ m r z. not_under i x u m r z);
   }
 
@@ -193,59 +267,86 @@ module _ (a : Attempt) (w : World) (h : HolderIn a w) where
     r0 = setup_of bytes
 
     data_allows : (T : Effect → Bool) → Allows T r0 → IfOut (AllowsOut T) sent
-    data_allows T c = payload_allowed T c.rests a (damage_in (at_attempt w)) (subst (PayloadAllows T) (sym is.payload) c)
+    data_allows T c = payload_allowed T c.rests a (damage_in (at_attempt w))
+        (subst (PayloadAllows T) (sym is.payload) c)
 
     module _ (n : ℕ) (names : r0.index ≡ n) where
       abbrev pub port_path : List ℕ
       port_path = suc j ∷ (p ++ (n ∷ []))
 
-      way_number : (y : List ℕ) (m : ℕ) (r : List ℕ) → is_way (y ++ (n ∷ [])) (y ++ (m ∷ r)) ≡ same_number n m
+      way_number : (y : List ℕ) (m : ℕ) (r : List ℕ) → is_way (y ++ (n ∷ [])) (y ++ (m ∷ r))
+          ≡ same_number n m
       unfolding is_way
-      way_number [] m r = elim (same_number n m) as (λ x. (x && true) ≡ x) [ true ↦ refl | false ↦ refl ]
-      way_number (u ∷ y) m r = ap (λ z. z && is_way (y ++ (n ∷ [])) (y ++ (m ∷ r))) (self_number u) ∙ way_number y m r
+      way_number [] m r = elim (same_number n m)
+          as (λ x. (x && true) ≡ x) [ true ↦ refl | false ↦ refl ]
+      way_number (u ∷ y) m r = ap (λ z. z && is_way (y ++ (n ∷ [])) (y ++ (m ∷ r))) (self_number u)
+          ∙ way_number y m r
 
-      path_number : (y : List ℕ) (m : ℕ) → same_path (y ++ (n ∷ [])) (y ++ (m ∷ [])) ≡ same_number n m
-      path_number [] m = elim (same_number n m) as (λ x. (x && true) ≡ x) [ true ↦ refl | false ↦ refl ]
-      path_number (u ∷ y) m = ap (λ z. z && same_path (y ++ (n ∷ [])) (y ++ (m ∷ []))) (self_number u) ∙ path_number y m
+      path_number : (y : List ℕ) (m : ℕ) → same_path (y ++ (n ∷ [])) (y ++ (m ∷ []))
+          ≡ same_number n m
+      path_number [] m = elim (same_number n m)
+          as (λ x. (x && true) ≡ x) [ true ↦ refl | false ↦ refl ]
+      path_number (u ∷ y) m = ap (λ z. z && same_path (y ++ (n ∷ [])) (y ++ (m ∷ [])))
+          (self_number u) ∙ path_number y m
 
-      other_number : (m i : ℕ) → same_number n (suc m) ≡ false → r0.index ≡ suc i → same_number i m ≡ false
+      other_number : (m i : ℕ) → same_number n (suc m) ≡ false → r0.index ≡ suc i
+          → same_number i m ≡ false
       other_number m i d e = ap (λ x. same_number x (suc m)) (sym e ∙ names) ∙ d
 
       -- PORT_RESET resets at most the device on its own port
-      rest_there : (c : Ports) (m : ℕ) (r : List ℕ) → same_path port_path (suc j ∷ (p ++ (suc m ∷ r))) ≡ false → Allows (rest_test c m r) r0
-      rest_there c m (y ∷ r) d = record { rests = refl; off = λ e. refl; set = λ e x i f g. refl; clear = λ e x i f g. refl }
+      rest_there : (c : Ports) (m : ℕ) (r : List ℕ)
+          → same_path port_path (suc j ∷ (p ++ (suc m ∷ r))) ≡ false → Allows (rest_test c m r) r0
+      rest_there c m (y ∷ r) d = record {
+        rests = refl;
+        off = λ e. refl;
+        set = λ e x i f g. refl;
+        clear = λ e x i f g. refl;
+      }
       rest_there c m [] d = record {
         rests = refl;
         off = λ e. refl;
-        set = λ e x i f g. ap not (left_effect (Calls x i) c m [] (ap not (other_number m i (sym (path_number (suc j ∷ p) (suc m)) ∙ d) g)));
-        clear = λ e x i f g. ap not (left_effect (Calls x i) c m [] (ap not (other_number m i (sym (path_number (suc j ∷ p) (suc m)) ∙ d) g)));
+        set = λ e x i f g. ap not (left_effect (Calls x i) c m []
+            (ap not (other_number m i (sym (path_number (suc j ∷ p) (suc m)) ∙ d) g)));
+        clear = λ e x i f g. ap not (left_effect (Calls x i) c m []
+            (ap not (other_number m i (sym (path_number (suc j ∷ p) (suc m)) ∙ d) g)));
       }
 
-      pub other_rests : (x : List ℕ) → same_path port_path x ≡ false → made_resets a (at_attempt w) x ≡ false
+      pub other_rests : (x : List ℕ) → same_path port_path x ≡ false
+          → made_resets a (at_attempt w) x ≡ false
       other_rests [] d = refl
       other_rests (zero ∷ x) d = refl
-      other_rests (suc i ∷ x) d = one_rests i x sent (λ c m r z. data_allows (rest_test c m r) (rest_there c m r (ap (same_path port_path) (sym z) ∙ d)))
+      other_rests (suc i ∷ x) d = one_rests i x sent
+          (λ c m r z. data_allows (rest_test c m r)
+          (rest_there c m r (ap (same_path port_path) (sym z) ∙ d)))
 
       module _ (asked : is_port_request r0 ≡ true) where
         of_port : r0.request_type ≡ PORT_OUT
         of_port = pick (either_of (Is r0 PORT_OUT SET_FEATURE) (Is r0 PORT_OUT CLEAR_FEATURE) asked)
           where
-            pick : (Is r0 PORT_OUT SET_FEATURE ≡ true) ⊎ (Is r0 PORT_OUT CLEAR_FEATURE ≡ true) → r0.request_type ≡ PORT_OUT
-            pick (inl y) = equal_same r0.request_type PORT_OUT (both (r0.request_type == PORT_OUT) (r0.request == SET_FEATURE) y).0
-            pick (inr y) = equal_same r0.request_type PORT_OUT (both (r0.request_type == PORT_OUT) (r0.request == CLEAR_FEATURE) y).0
+            pick : (Is r0 PORT_OUT SET_FEATURE ≡ true) ⊎ (Is r0 PORT_OUT CLEAR_FEATURE ≡ true)
+                → r0.request_type ≡ PORT_OUT
+            pick (inl y) = equal_same r0.request_type PORT_OUT
+                (both (r0.request_type == PORT_OUT) (r0.request == SET_FEATURE) y).0
+            pick (inr y) = equal_same r0.request_type PORT_OUT
+                (both (r0.request_type == PORT_OUT) (r0.request == CLEAR_FEATURE) y).0
 
         no_configuration : {A : Type 0} → Is r0 DEVICE_OUT SET_CONFIGURATION ≡ true → A
-        no_configuration y = false_true (ap (λ x. x == 0) (sym of_port) ∙ (both (r0.request_type == DEVICE_OUT) (r0.request == SET_CONFIGURATION) y).0)
+        no_configuration y = false_true (ap (λ x. x == 0) (sym of_port)
+            ∙ (both (r0.request_type == DEVICE_OUT) (r0.request == SET_CONFIGURATION) y).0)
 
-        spare_there : (m : ℕ) (r : List ℕ) → same_number n (suc m) ≡ false → Allows (spare_test m r) r0
+        spare_there : (m : ℕ) (r : List ℕ) → same_number n (suc m) ≡ false
+            → Allows (spare_test m r) r0
         spare_there m r d = record {
           rests = refl;
           off = λ e. no_configuration e;
-          set = λ e x i f g. or_left (not (same_number i m)) (keeps_pending x r) (ap not (other_number m i d g));
-          clear = λ e x i f g. or_left (not (same_number i m)) (keeps_pending x r) (ap not (other_number m i d g));
+          set = λ e x i f g. or_left (not (same_number i m)) (keeps_pending x r)
+              (ap not (other_number m i d g));
+          clear = λ e x i f g. or_left (not (same_number i m)) (keeps_pending x r)
+              (ap not (other_number m i d g));
         }
 
-        leave_there : (m : ℕ) (r : List ℕ) → same_number n (suc m) ≡ false → Allows (leave_test m r) r0
+        leave_there : (m : ℕ) (r : List ℕ) → same_number n (suc m) ≡ false
+            → Allows (leave_test m r) r0
         leave_there m r d = record {
           rests = refl;
           off = λ e. no_configuration e;
@@ -253,8 +354,10 @@ module _ (a : Attempt) (w : World) (h : HolderIn a w) where
           clear = λ e x i f g. ap not (other_number m i d g);
         }
 
-        number_apart : (x : List ℕ) (m : ℕ) (r : List ℕ) → is_way port_path x ≡ false → x ≡ suc j ∷ (p ++ (suc m ∷ r)) → same_number n (suc m) ≡ false
-        number_apart x m r d z = sym (way_number (suc j ∷ p) (suc m) r) ∙ ap (is_way port_path) (sym z) ∙ d
+        number_apart : (x : List ℕ) (m : ℕ) (r : List ℕ) → is_way port_path x ≡ false
+            → x ≡ suc j ∷ (p ++ (suc m ∷ r)) → same_number n (suc m) ≡ false
+        number_apart x m r d z = sym (way_number (suc j ∷ p) (suc m) r)
+            ∙ ap (is_way port_path) (sym z) ∙ d
 
         path_apart : (x y : List ℕ) → is_way x y ≡ false → same_path x y ≡ false
         unfolding is_way
@@ -262,32 +365,50 @@ module _ (a : Attempt) (w : World) (h : HolderIn a w) where
         path_apart (u ∷ x) [] d = refl
         path_apart (u ∷ x) (v ∷ y) d = split (same_number u v) d (path_apart x y)
           where
-            split : (z : Bool) → (z && is_way x y) ≡ false → (is_way x y ≡ false → same_path x y ≡ false) → (z && same_path x y) ≡ false
+            split : (z : Bool) → (z && is_way x y) ≡ false
+                → (is_way x y ≡ false → same_path x y ≡ false) → (z && same_path x y) ≡ false
             split true d f = f d
             split false d f = refl
 
-        pub others_asked_nothing : (x : List ℕ) → is_way port_path x ≡ false → AsksNothing (attempt a) w x
+        pub others_asked_nothing : (x : List ℕ) → is_way port_path x ≡ false
+            → AsksNothing (attempt a) w x
         unfolding step_keeps_pending resets leaves_step
-        others_asked_nothing [] d = record { spares = refl; rests = and_false (is_made w.fault w); leaves = refl }
-        others_asked_nothing (zero ∷ x) d = record { spares = refl; rests = and_false (is_made w.fault w); leaves = refl }
+        others_asked_nothing [] d = record {
+          spares = refl;
+          rests = and_false (is_made w.fault w);
+          leaves = refl;
+        }
+        others_asked_nothing (zero ∷ x) d =
+            record { spares = refl; rests = and_false (is_made w.fault w); leaves = refl }
         others_asked_nothing (suc i ∷ x) d = record {
-          spares = one_spares i x sent (λ m r z. data_allows (spare_test m r) (spare_there m r (number_apart (suc i ∷ x) m r d z)));
-          rests = ap (λ y. is_made w.fault w && y) (other_rests (suc i ∷ x) (path_apart port_path (suc i ∷ x) d)) ∙ and_false (is_made w.fault w);
-          leaves = one_leaves i x sent (λ m r z. data_allows (leave_test m r) (leave_there m r (number_apart (suc i ∷ x) m r d z)));
+          spares = one_spares i x sent (λ m r z. data_allows (spare_test m r)
+              (spare_there m r (number_apart (suc i ∷ x) m r d z)));
+          rests = ap (λ y. is_made w.fault w && y)
+              (other_rests (suc i ∷ x) (path_apart port_path (suc i ∷ x) d))
+              ∙ and_false (is_made w.fault w);
+          leaves = one_leaves i x sent (λ m r z. data_allows (leave_test m r)
+              (leave_there m r (number_apart (suc i ∷ x) m r d z)));
         }
 
         self_there : is_sparing r0 ≡ true → (m : ℕ) → Allows (spare_test m []) r0
         self_there y m = record {
           rests = refl;
           off = λ e. no_configuration e;
-          set = λ e x i f g. or_right (not (same_number i m)) (keeps_pending x []) (set_spares r0.value x f);
-          clear = λ e x i f g. or_right (not (same_number i m)) (keeps_pending x []) (clear_call-spares r0.value x (sparing_value r0 y e) f);
+          set = λ e x i f g. or_right (not (same_number i m)) (keeps_pending x [])
+              (set_spares r0.value x f);
+          clear = λ e x i f g. or_right (not (same_number i m)) (keeps_pending x [])
+              (clear_call-spares r0.value x (sparing_value r0 y e) f);
         }
 
         pub self_spared : is_sparing r0 ≡ true → step_keeps_pending (attempt a) w port_path ≡ true
         unfolding step_keeps_pending
-        self_spared y = one_spares j (p ++ (n ∷ [])) sent (λ m r z. data_allows (spare_test m r) (subst (λ v. Allows (spare_test m v) r0) (sym (ends_there (suc j ∷ p) n (suc m) r z)) (self_there y m)))
+        self_spared y = one_spares j (p ++ (n ∷ [])) sent
+            (λ m r z. data_allows (spare_test m r)
+            (subst (λ v. Allows (spare_test m v) r0) (sym (ends_there (suc j ∷ p) n (suc m) r z))
+            (self_there y m)))
 
 pub self_asked : (a : Attempt) (w : World) (h : HolderIn a w) (bytes : List ℕ) → IsSetup a bytes
-    → (n : ℕ) → (setup_of bytes).index ≡ n → is_sparing (setup_of bytes) ≡ true → step_keeps_pending (attempt a) w (path_to h.spot ++ (n ∷ [])) ≡ true
-self_asked a w h bytes is n names y = self_spared a w h bytes is n names (sparing_asks (setup_of bytes) y) y
+    → (n : ℕ) → (setup_of bytes).index ≡ n → is_sparing (setup_of bytes) ≡ true
+    → step_keeps_pending (attempt a) w (path_to h.spot ++ (n ∷ [])) ≡ true
+self_asked a w h bytes is n names y = self_spared a w h bytes is n names
+    (sparing_asks (setup_of bytes) y) y

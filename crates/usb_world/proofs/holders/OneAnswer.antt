@@ -1,5 +1,6 @@
 -- Where no address is held twice, at most one device answers an attempt.
-use Rattle.std.proofs.Common.{◌≡◌, ◌≤◌, ◌⊎◌, inl, inr, ℕ, false, List, [], ◌∷◌, ◌++◌, length, Option, None, Some, is_some, refl, ap, ap₂, sym, ◌∙◌, arith}
+use Rattle.std.proofs.Common.{◌≡◌, ◌≤◌, ◌⊎◌, inl, inr, ℕ, false, List, [], ◌∷◌, ◌++◌, length}
+use Rattle.std.proofs.Common.{Option, None, Some, is_some, refl, ap, ap₂, sym, ◌∙◌, arith}
 use Rattle.arrayvec.specs.ArrayVec.{ArrayVec}
 use Rattle.usb_packet.specs.declared.Packet.TheVariants.{Token}
 use Rattle.usb_packet.specs.declared.Packet.TheVariants as packet
@@ -12,7 +13,8 @@ use Rattle.usb_device.specs.Delivery.{held_addresses, repeats, listed}
 use Rattle.usb_world.specs.declared.types.Attempt.{Attempt}
 use Rattle.usb_world.specs.declared.damage.Damage.{Damage}
 use Rattle.usb_world.specs.declared.exchange.ExchangeAnswer.TheVariants.{Collision}
-use Rattle.usb_world.specs.Exchange.{heard_all, heard_in, token_out, payload_out, reply_out, exchange_in}
+use Rattle.usb_world.specs.Exchange.{heard_all, heard_in, token_out, payload_out, reply_out}
+use Rattle.usb_world.specs.Exchange.{exchange_in}
 use Rattle.usb_tree.specs.FoundHolder.{Found}
 use Rattle.usb_world.specs.OneHolder.{IsMade}
 use Rattle.usb_tree.specs.AttemptPackets.{after_sent, answers_to, IsSettled, NobodyHolds}
@@ -20,7 +22,8 @@ use Rattle.usb_world.specs.Steps.{at_attempt, damage_in, made_in, with_attempt, 
 use Rattle.usb_world.specs.World.{World, IsAttempt, sends_data}
 use Rattle.usb_tree.proofs.Interface.{false_true, neither}
 use Rattle.usb_world.proofs.holders.OneDevice.{nobody_answers}
-use Rattle.usb_world.proofs.holders.OneHolder.{sent_heard, asked_heard, token_of-fields, data_is, none_is, setup_quiet, out_quiet, Holder}
+use Rattle.usb_world.proofs.holders.OneHolder.{sent_heard, asked_heard, token_of-fields, data_is}
+use Rattle.usb_world.proofs.holders.OneHolder.{none_is, setup_quiet, out_quiet, Holder}
 use Rattle.usb_world.proofs.holders.OneHolderAttempts.{ready_settled, made_is}
 use Rattle.usb_tree.proofs.Interface.{who_holds}
 use Rattle.usb_world.proofs.courses.Courses.{goes}
@@ -38,43 +41,56 @@ module _ (a : Attempt) (d : Option Damage) (k : Ports) (is : IsAttempt a) where
   of_holder : Holder a.addr k → heard_in a d k ≡ Collision → ⊥
   of_holder h = split a.kind refl a.payload refl is.payload_sent
     where
-      split : (t : TokenKind) → a.kind ≡ t → (o : Option (Toggle × ArrayVec ℕ)) → a.payload ≡ o → is_some o ≡ sends_data t → heard_in a d k ≡ Collision → ⊥
+      split : (t : TokenKind) → a.kind ≡ t → (o : Option (Toggle × ArrayVec ℕ)) → a.payload ≡ o
+          → is_some o ≡ sends_data t → heard_in a d k ≡ Collision → ⊥
       split SetupTok kind None load sent c = false_true sent
       split SetupTok kind (Some x) load sent c =
           alone _
           (sym
-          (sent_heard a d k h (Token SetupTok a.addr a.ep) (packet.Payload x.0 x.1) (token_of-fields a SetupTok a.addr a.ep kind refl refl) (data_is a x.0 x.1 load)
+          (sent_heard a d k h (Token SetupTok a.addr a.ep) (packet.Payload x.0 x.1)
+          (token_of-fields a SetupTok a.addr a.ep kind refl refl) (data_is a x.0 x.1 load)
           (setup_quiet h.own (row_of h.below) a.addr a.ep))
           ∙ c)
       split OutTok kind None load sent c = false_true sent
       split OutTok kind (Some x) load sent c =
           alone _
           (sym
-          (sent_heard a d k h (Token OutTok a.addr a.ep) (packet.Payload x.0 x.1) (token_of-fields a OutTok a.addr a.ep kind refl refl) (data_is a x.0 x.1 load)
+          (sent_heard a d k h (Token OutTok a.addr a.ep) (packet.Payload x.0 x.1)
+          (token_of-fields a OutTok a.addr a.ep kind refl refl) (data_is a x.0 x.1 load)
           (out_quiet h.own (row_of h.below) a.addr a.ep))
           ∙ c)
       split InTok kind None load sent c =
           alone _
-          (sym (asked_heard a d k h (Token InTok a.addr a.ep) (token_of-fields a InTok a.addr a.ep kind refl refl) (none_is a load)) ∙ c)
+          (sym (asked_heard a d k h (Token InTok a.addr a.ep)
+          (token_of-fields a InTok a.addr a.ep kind refl refl) (none_is a load)) ∙ c)
       split InTok kind (Some x) load sent c = false_true (sym sent)
 
   of_nobody : IsSettled k → NobodyHolds a.addr k → heard_in a d k ≡ Collision → ⊥
   of_nobody settled n c =
-      let w : _ = nobody_answers a.addr (token_out a d) (payload_out a d) (reply_out a d k) (goes a d k) k settled n in
+      let w : _ = nobody_answers a.addr (token_out a d) (payload_out a d) (reply_out a d k)
+      (goes a d k) k settled n in
       alone None (sym (ap₂ (λ x y. heard_all (x ++ y)) w.1 w.2) ∙ c)
 
-  pub no_collision : IsSettled k → repeats (held_addresses k) ≡ false → heard_in a d k ≡ Collision → ⊥
+  pub no_collision : IsSettled k → repeats (held_addresses k) ≡ false → heard_in a d k ≡ Collision
+      → ⊥
   no_collision settled single = pick (who_holds a.addr k)
     where
       pick : Found a.addr k ⊎ NobodyHolds a.addr k → heard_in a d k ≡ Collision → ⊥
       pick (inl f) = of_holder (record { settled = settled; single = single; found = f })
       pick (inr n) = of_nobody settled n
 
-  pub few_answers : IsSettled k → repeats (held_addresses k) ≡ false → length (answers_to (token_out a d) k ++ answers_to (payload_out a d) (after_sent (token_out a d) k)) ≤ 1
-  few_answers settled single = few (answers_to (token_out a d) k ++ answers_to (payload_out a d) (after_sent (token_out a d) k)) (no_collision settled single)
+  pub few_answers : IsSettled k → repeats (held_addresses k) ≡ false
+      → length (answers_to (token_out a d) k ++ answers_to (payload_out a d)
+      (after_sent (token_out a d) k)) ≤ 1
+  few_answers settled single = few (answers_to (token_out a d) k ++ answers_to (payload_out a d)
+      (after_sent (token_out a d) k)) (no_collision settled single)
 
-pub no_collision_in : (a : Attempt) (w : World) → IsAttempt a → IsMade a w → (after (attempt a) w).shared ≡ false → (made_in a (at_attempt w)).answer ≡ Collision → ⊥
+pub no_collision_in : (a : Attempt) (w : World) → IsAttempt a → IsMade a w
+    → (after (attempt a) w).shared ≡ false → (made_in a (at_attempt w)).answer ≡ Collision → ⊥
 unfolding with_attempt exchange_in
 no_collision_in a w is m u =
-    let unshared : repeats (held_addresses (at_attempt w).roots) ≡ false = (neither (at_attempt w).shared (repeats (held_addresses (at_attempt w).roots)) (sym (ap (λ v. v.shared) (made_is a w m)) ∙ u)).1 in
-    no_collision a (damage_in (at_attempt w)) (at_attempt w).roots is (ready_settled w m.settled) unshared
+    let unshared : repeats (held_addresses (at_attempt w).roots) ≡ false =
+    (neither (at_attempt w).shared (repeats (held_addresses (at_attempt w).roots))
+    (sym (ap (λ v. v.shared) (made_is a w m)) ∙ u)).1 in
+    no_collision a (damage_in (at_attempt w)) (at_attempt w).roots is (ready_settled w m.settled)
+    unshared

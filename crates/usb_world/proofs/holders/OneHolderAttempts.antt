@@ -1,5 +1,7 @@
 -- A silent holder, attempts without damage, and the attempts of a world.
-use Rattle.std.proofs.Common.{◌≡◌, ℕ, suc, ◌+◌, ◌&&◌, not, if◌then◌else◌, Bool, true, false, List, [], ◌∷◌, ◌++◌, Option, None, Some, is_some, refl, ap, ap₂, sym, subst, ◌∙◌}
+use Rattle.std.proofs.Common.{◌≡◌, ℕ, suc, ◌+◌, ◌&&◌, not, if◌then◌else◌, Bool, true, false, List}
+use Rattle.std.proofs.Common.{[], ◌∷◌, ◌++◌, Option, None, Some, is_some, refl, ap, ap₂, sym, subst}
+use Rattle.std.proofs.Common.{◌∙◌}
 use Rattle.arrayvec.specs.ArrayVec.{ArrayVec}
 use Rattle.usb_packet.specs.declared.Packet.{Packet}
 use Rattle.usb_packet.specs.declared.Packet.TheVariants.{Token}
@@ -13,7 +15,8 @@ use Rattle.usb_device.specs.declared.delivery.Content.{Content}
 use Rattle.usb_device.specs.declared.delivery.Content.TheVariants as content
 use Rattle.usb_device.specs.declared.delivery.Sent.{Sent}
 use Rattle.usb_device.specs.Rows.{State, Reply, forgotten, accepted, data_row}
-use Rattle.usb_device.specs.Attempt.{Way, whole, lost, through, heard, is_good, acked, setup_law, out_law, in_law}
+use Rattle.usb_device.specs.Attempt.{Way, whole, lost, through, heard, is_good, acked, setup_law}
+use Rattle.usb_device.specs.Attempt.{out_law, in_law}
 use Rattle.usb_device.specs.Tree.{Ports, row_of, state_at, state_on}
 use Rattle.usb_device.specs.Delivery.{hears, reply_to, listed, held_addresses, repeats}
 use Rattle.usb_device.proofs.Interface.{silent-stays, silent-unread}
@@ -27,21 +30,31 @@ use Rattle.usb_world.specs.declared.wire.Mark.TheVariants as mark
 use Rattle.usb_world.specs.Wire.{mark_of, harm_to, marked, marked_some}
 use Rattle.usb_tree.specs.Paths.{same_number, same_path}
 use Rattle.usb_tree.specs.WayEffects.{reset_if}
-use Rattle.usb_world.specs.Exchange.{token_of, payload_of, reply_of, answer_mark, goes_out, heard_all, token_out, payload_out, reply_out, heard_in, mark_in, place_of_answer, ports_in, reply_in}
+use Rattle.usb_world.specs.Exchange.{token_of, payload_of, reply_of, answer_mark, goes_out}
+use Rattle.usb_world.specs.Exchange.{heard_all, token_out, payload_out, reply_out, heard_in}
+use Rattle.usb_world.specs.Exchange.{mark_in, place_of_answer, ports_in, reply_in}
 use Rattle.usb_tree.specs.AttemptPackets.{heard_by, deep_at, attempt_resets, IsSettled, NobodyHolds}
 use Rattle.usb_world.specs.World.{World, Made}
 use Rattle.usb_world.specs.Courses.{is_made, resets}
-use Rattle.usb_world.specs.Steps.{AnyStep, at_attempt, damage_in, with_attempt, outcome_in, attempt, after}
-use Rattle.usb_world.specs.OneHolder.{way_to, way_back, token_way, answer_way, reply_way, out_alone, in_alone, IsSetup, IsOut, IsIn, hears_attempt, IsMade, HolderIn, payload_way, got}
+use Rattle.usb_world.specs.Steps.{AnyStep, at_attempt, damage_in, with_attempt, outcome_in, attempt}
+use Rattle.usb_world.specs.Steps.{after}
+use Rattle.usb_world.specs.OneHolder.{way_to, way_back, token_way, answer_way, reply_way, out_alone}
+use Rattle.usb_world.specs.OneHolder.{in_alone, IsSetup, IsOut, IsIn, hears_attempt, IsMade}
+use Rattle.usb_world.specs.OneHolder.{HolderIn, payload_way, got}
 use Rattle.usb_tree.proofs.Interface.{false_true, neither}
 use Rattle.usb_world.proofs.courses.StepInvariants.{settled_steps}
 use Rattle.usb_world.proofs.courses.LiftedSteps.{over_ready, made_sound}
-use Rattle.usb_world.proofs.holders.OneHolder.{replied, outcome_unread, remembers, acts, rests, first, second, third, second_below, is_heard_in, is_state, token_of-fields, none_is, in_same, asked, asked_reply, nobody, setup_one, out_one, in_one, setup_alone, Holder, ExchangedWithHolder}
+use Rattle.usb_world.proofs.holders.OneHolder.{replied, outcome_unread, remembers, acts, rests}
+use Rattle.usb_world.proofs.holders.OneHolder.{first, second, third, second_below, is_heard_in}
+use Rattle.usb_world.proofs.holders.OneHolder.{is_state, token_of-fields, none_is, in_same, asked}
+use Rattle.usb_world.proofs.holders.OneHolder.{asked_reply, nobody, setup_one, out_one, in_one}
+use Rattle.usb_world.proofs.holders.OneHolder.{setup_alone, Holder, ExchangedWithHolder}
 use Rattle.usb_tree.proofs.Interface.{unequal, same_equal}
 use Rattle.usb_world.proofs.events.DueEvents.{ready_beside}
 
 -- each packet of an attempt that goes out comes whole
-pub record AllWhole (a : Attempt) (damage : Option Damage) (k : Ports) (deep : Bool) (s : State) : Type 0 where
+pub record AllWhole (a : Attempt) (damage : Option Damage) (k : Ports) (deep : Bool) (s : State) :
+    Type 0 where
   pub token : token_way a damage deep s ≡ whole
   pub payload : is_some a.payload ≡ true → payload_way a damage deep s ≡ whole
   pub answer : answer_way a damage k ≡ whole
@@ -53,14 +66,21 @@ pub record ExchangedIn (a : Attempt) (w : World) (h : HolderIn a w) (r : Reply) 
 
 -- A silent device
 
-pub silent_reply : (c : Content) (s : State) (row : List PortState) → s.spec.silent ≡ true → reply_to c s row ≡ (None, s)
+pub silent_reply : (c : Content) (s : State) (row : List PortState) → s.spec.silent ≡ true
+    → reply_to c s row ≡ (None, s)
 silent_reply (content.Whole p) s row h = silent-stays s row p h
 silent_reply content.Broken s row h = ap (replied None) (silent-unread s h)
 
-silent_heard : (o : Option Sent) (deep : Bool) (s : State) (row : List PortState) → s.spec.silent ≡ true → heard_by o deep s row ≡ (None, s)
+silent_heard : (o : Option Sent) (deep : Bool) (s : State) (row : List PortState)
+    → s.spec.silent ≡ true → heard_by o deep s row ≡ (None, s)
 silent_heard None deep s row h = refl
 silent_heard (Some q) deep s row h =
-    elim (hears q deep s) as (λ x. ◌≡◌ {A = Reply} (if x then reply_to q.content s row else (None, s)) (None, s)) [ true ↦ silent_reply q.content s row h | false ↦ refl ]
+    elim (hears q deep s) as (λ x. ◌≡◌ {A = Reply}
+    (if x then reply_to q.content s row else (None, s)) (None, s)) [
+      | true ↦
+          silent_reply q.content s row h
+      | false ↦ refl
+    ]
 
 module _ (a : Attempt) (d : Option Damage) (k : Ports) (h : Holder a.addr k) where
   open h use {spot.{row as j, rest as p}, own as s, below}
@@ -70,32 +90,42 @@ module _ (a : Attempt) (d : Option Damage) (k : Ports) (h : Holder a.addr k) whe
     first_silent = silent_heard (token_out a d) (deep_at false p) s (row_of below) silent
 
     second_silent : second a d k h ≡ (None, s)
-    second_silent = ap (λ r. heard_by (payload_out a d) (deep_at false p) r.1 (row_of below)) first_silent ∙ silent_heard (payload_out a d) (deep_at false p) s (row_of below) silent
+    second_silent = ap (λ r. heard_by (payload_out a d) (deep_at false p) r.1 (row_of below))
+        first_silent ∙ silent_heard (payload_out a d) (deep_at false p) s (row_of below) silent
 
     third_silent : third a d k h ≡ (None, s)
     third_silent =
-        ap (λ r. heard_by (reply_out a d k) (deep_at false p) r.1 (row_of (second_below a d k h))) second_silent
+        ap (λ r. heard_by (reply_out a d k) (deep_at false p) r.1 (row_of (second_below a d k h)))
+        second_silent
         ∙ silent_heard (reply_out a d k) (deep_at false p) s (row_of (second_below a d k h)) silent
 
     pub silent_one : ExchangedWithHolder a d k h (None, s)
     silent_one = record {
-      outcome = outcome_unread (heard_in a d k) (mark_in a d k) a.max (is_heard_in a d k h ∙ ap₂ (λ x y. heard_all (listed x.0 [] ++ listed y.0 [])) first_silent second_silent);
-      state = is_state a d k h ∙ ap (λ r. Some (forgotten r.1)) third_silent ∙ ap (λ x. Some x) (remembers s (rests a d k h));
+      outcome = outcome_unread (heard_in a d k) (mark_in a d k) a.max (is_heard_in a d k h
+          ∙ ap₂ (λ x y. heard_all (listed x.0 [] ++ listed y.0 [])) first_silent second_silent);
+      state = is_state a d k h ∙ ap (λ r. Some (forgotten r.1)) third_silent
+          ∙ ap (λ x. Some x) (remembers s (rests a d k h));
     }
 
   -- the other devices
-  pub others_one : (i : ℕ) (e : List ℕ) (v : State) → (same_number i j && same_path e p) ≡ false → state_at k i e ≡ Some v
-      → state_at (ports_in a d k) i e ≡ Some (reset_if (attempt_resets (token_out a d) (payload_out a d) k i e) v)
+  pub others_one : (i : ℕ) (e : List ℕ) (v : State) → (same_number i j && same_path e p) ≡ false
+      → state_at k i e ≡ Some v
+      → state_at (ports_in a d k) i e ≡ Some
+      (reset_if (attempt_resets (token_out a d) (payload_out a d) k i e) v)
   unfolding ports_in
   others_one = (acts a d k h).others
 
 -- Without damage
 
-sound_packet : (a : Attempt) (n : ℕ) (p : Packet) (deep : Bool) (s : State) → hears_attempt a deep s ≡ true → way_to deep s (goes_out a (Some (marked None n a.pre p))) ≡ whole
+sound_packet : (a : Attempt) (n : ℕ) (p : Packet) (deep : Bool) (s : State)
+    → hears_attempt a deep s ≡ true → way_to deep s (goes_out a (Some (marked None n a.pre p)))
+    ≡ whole
 unfolding marked mark_of harm_to
 sound_packet a n p deep s h = ap (λ x. if x then whole else lost) h
 
-sound_some : (a : Attempt) (n : ℕ) (o : Option Packet) (deep : Bool) (s : State) → hears_attempt a deep s ≡ true → is_some o ≡ true → way_to deep s (goes_out a (marked_some None n a.pre o)) ≡ whole
+sound_some : (a : Attempt) (n : ℕ) (o : Option Packet) (deep : Bool) (s : State)
+    → hears_attempt a deep s ≡ true → is_some o ≡ true
+    → way_to deep s (goes_out a (marked_some None n a.pre o)) ≡ whole
 unfolding marked_some
 sound_some a n None deep s h g = false_true g
 sound_some a n (Some p) deep s h g = sound_packet a n p deep s h
@@ -104,7 +134,12 @@ payload_some : (a : Attempt) → is_some a.payload ≡ true → is_some (payload
 unfolding payload_of
 payload_some a g = go a.payload g
   where
-    go : (o : Option (Toggle × ArrayVec ℕ)) → is_some o ≡ true → is_some (elim o as (λ _. Option Packet) [ None ↦ None | Some x ↦ Some (packet.Payload x.0 x.1) ]) ≡ true
+    go : (o : Option (Toggle × ArrayVec ℕ)) → is_some o ≡ true
+        → is_some (elim o as (λ _. Option Packet) [
+          | None ↦ None
+          | Some x ↦
+              Some (packet.Payload x.0 x.1)
+        ]) ≡ true
     go None g = g
     go (Some x) g = refl
 
@@ -114,56 +149,84 @@ sound_answer n Nothing = refl
 sound_answer n Collision = refl
 sound_answer n (One p) = refl
 
-marked_is : (n : ℕ) (pre : Bool) (o : Option Packet) → is_some (marked_some None n pre o) ≡ is_some o
+marked_is : (n : ℕ) (pre : Bool) (o : Option Packet) → is_some (marked_some None n pre o)
+    ≡ is_some o
 unfolding marked_some
 marked_is n pre None = refl
 marked_is n pre (Some p) = refl
 
-pub undamaged : (a : Attempt) (k : Ports) (deep : Bool) (s : State) → hears_attempt a deep s ≡ true → AllWhole a None k deep s
+pub undamaged : (a : Attempt) (k : Ports) (deep : Bool) (s : State) → hears_attempt a deep s ≡ true
+    → AllWhole a None k deep s
 undamaged a k deep s h = record {
   token = sound_packet a 1 (token_of a) deep s h;
   payload = λ g. sound_some a 2 (payload_of a) deep s h (payload_some a g);
   answer = ap way_back (sound_answer (place_of_answer a None) (heard_in a None k));
-  reply = λ g. sound_some a (place_of_answer a None + 1) (reply_of (heard_in a None k) (mark_in a None k) a.max) deep s h
-      (sym (marked_is (place_of_answer a None + 1) a.pre (reply_of (heard_in a None k) (mark_in a None k) a.max)) ∙ g);
+  reply = λ g. sound_some a (place_of_answer a None + 1)
+      (reply_of (heard_in a None k) (mark_in a None k) a.max) deep s h
+      (sym (marked_is (place_of_answer a None + 1) a.pre
+      (reply_of (heard_in a None k) (mark_in a None k) a.max)) ∙ g);
 }
 
 -- the host's ACK does not matter where it does not go out
-ack_whole : (row : List PortState) (max : ℕ) (t2 t3 : Way) (r : Reply) → (is_good max (heard t2 r.0) ≡ true → t3 ≡ whole) → acked row max t2 t3 r ≡ acked row max t2 whole r
+ack_whole : (row : List PortState) (max : ℕ) (t2 t3 : Way) (r : Reply)
+    → (is_good max (heard t2 r.0) ≡ true → t3 ≡ whole)
+    → acked row max t2 t3 r ≡ acked row max t2 whole r
 ack_whole row max t2 t3 r c = go (is_good max (heard t2 r.0)) c
   where
-    go : (g : Bool) → (g ≡ true → t3 ≡ whole) → ◌≡◌ {A = Reply} (heard t2 r.0, forgotten (if g then (through t3 r.1 row packet.Ack).1 else r.1)) (heard t2 r.0, forgotten (if g then (through whole r.1 row packet.Ack).1 else r.1))
-    go true c = ap (λ t. replied (heard t2 r.0) (forgotten (through t r.1 row packet.Ack).1)) (c refl)
+    go : (g : Bool) → (g ≡ true → t3 ≡ whole)
+        → ◌≡◌ {A = Reply} (
+          heard t2 r.0,
+          forgotten
+              (if g then (through t3 r.1 row packet.Ack).1 else r.1),
+        )
+        (heard t2 r.0, forgotten (if g then (through whole r.1 row packet.Ack).1 else r.1))
+    go true c = ap (λ t. replied (heard t2 r.0) (forgotten (through t r.1 row packet.Ack).1))
+        (c refl)
     go false c = refl
 
-module _ (a : Attempt) (k : Ports) (h : Holder a.addr k) (loud : h.own.spec.silent ≡ false) (hears_it : hears_attempt a (deep_at false h.spot.rest) h.own ≡ true) where
+module _ (a : Attempt) (k : Ports) (h : Holder a.addr k) (loud : h.own.spec.silent ≡ false)
+    (hears_it : hears_attempt a (deep_at false h.spot.rest) h.own ≡ true) where
   open h use {spot.{row as j, rest as p}, own as s, below}
 
   ways : AllWhole a None k (deep_at false p) s
   ways = undamaged a k (deep_at false p) s hears_it
 
-  pub setup_sound : (bytes : List ℕ) → IsSetup a bytes → ExchangedWithHolder a None k h (Some answer.Ack, accepted s (row_of below) (setup_of bytes))
+  pub setup_sound : (bytes : List ℕ) → IsSetup a bytes
+      → ExchangedWithHolder a None k h (Some answer.Ack, accepted s (row_of below) (setup_of bytes))
   setup_sound bytes i =
       subst (ExchangedWithHolder a None k h)
-      (ap₂ (λ x y. setup_law s (row_of below) bytes x y (answer_way a None k)) ways.token (ways.payload (ap is_some i.payload)) ∙ ap (setup_law s (row_of below) bytes whole whole) ways.answer)
+      (ap₂ (λ x y. setup_law s (row_of below) bytes x y (answer_way a None k)) ways.token
+      (ways.payload (ap is_some i.payload))
+      ∙ ap (setup_law s (row_of below) bytes whole whole) ways.answer)
       (setup_one a None k h loud bytes i)
 
-  pub out_sound : (t : Toggle) (bytes : List ℕ) → IsOut a t bytes → ExchangedWithHolder a None k h ((data_row s a.ep t bytes).0, forgotten (data_row s a.ep t bytes).1)
+  pub out_sound : (t : Toggle) (bytes : List ℕ) → IsOut a t bytes
+      → ExchangedWithHolder a None k h (
+        (data_row s a.ep t bytes).0,
+        forgotten (data_row s a.ep t bytes).1,
+      )
   out_sound t bytes i =
       subst (ExchangedWithHolder a None k h)
-      (ap₂ (λ x y. out_law s a.ep t bytes x y (answer_way a None k)) ways.token (ways.payload (ap is_some i.payload)) ∙ ap (out_law s a.ep t bytes whole whole) ways.answer)
+      (ap₂ (λ x y. out_law s a.ep t bytes x y (answer_way a None k)) ways.token
+      (ways.payload (ap is_some i.payload))
+      ∙ ap (out_law s a.ep t bytes whole whole) ways.answer)
       (out_one a None k h loud t bytes i)
 
-  pub in_sound : IsIn a → ExchangedWithHolder a None k h (in_law s (row_of below) a.ep a.max whole whole whole)
+  pub in_sound : IsIn a → ExchangedWithHolder a None k h
+      (in_law s (row_of below) a.ep a.max whole whole whole)
   in_sound i =
       subst (ExchangedWithHolder a None k h)
-      (ack_whole (row_of below) a.max (answer_way a None k) (reply_way a None k (deep_at false p) s) own ack_due
-      ∙ ap₂ (λ x y. acked (row_of below) a.max y whole (through x s (row_of below) (Token InTok s.registers.address a.ep))) ways.token ways.answer
+      (ack_whole (row_of below) a.max (answer_way a None k) (reply_way a None k (deep_at false p) s)
+      own ack_due
+      ∙ ap₂ (λ x y. acked (row_of below) a.max y whole
+      (through x s (row_of below) (Token InTok s.registers.address a.ep))) ways.token
+      ways.answer
       ∙ in_same a None k h loud a.ep a.max whole whole whole)
       (asked a None k h (Token InTok s.registers.address a.ep) of_token (none_is a i.payload))
     where
       own : Reply
-      own = through (token_way a None (deep_at false p) s) s (row_of below) (Token InTok s.registers.address a.ep)
+      own = through (token_way a None (deep_at false p) s) s (row_of below)
+          (Token InTok s.registers.address a.ep)
 
       of_token : token_of a ≡ Token InTok s.registers.address a.ep
       of_token = token_of-fields a InTok s.registers.address a.ep i.kind (sym h.at) refl
@@ -172,9 +235,12 @@ module _ (a : Attempt) (k : Ports) (h : Holder a.addr k) (loud : h.own.spec.sile
       due_of true c = refl
       due_of false c = c
 
-      ack_due : is_good a.max (heard (answer_way a None k) own.0) ≡ true → reply_way a None k (deep_at false p) s ≡ whole
-      ack_due g = ways.reply (marked_is (place_of_answer a None + 1) a.pre (reply_of (heard_in a None k) (mark_in a None k) a.max)
-          ∙ ap is_some (asked_reply a None k h (Token InTok s.registers.address a.ep) of_token (none_is a i.payload))
+      ack_due : is_good a.max (heard (answer_way a None k) own.0) ≡ true
+          → reply_way a None k (deep_at false p) s ≡ whole
+      ack_due g = ways.reply (marked_is (place_of_answer a None + 1) a.pre
+          (reply_of (heard_in a None k) (mark_in a None k) a.max)
+          ∙ ap is_some (asked_reply a None k h (Token InTok s.registers.address a.ep) of_token
+          (none_is a i.payload))
           ∙ due_of (is_good a.max (heard (answer_way a None k) own.0)) g)
 
 -- Worlds
@@ -182,17 +248,25 @@ module _ (a : Attempt) (k : Ports) (h : Holder a.addr k) (loud : h.own.spec.sile
 pub ready_settled : (w : World) → IsSettled w.roots → IsSettled (at_attempt w).roots
 ready_settled = over_ready (settled_steps {K = AnyStep}).events
 
-pub made_is : (a : Attempt) (w : World) → IsMade a w → after (attempt a) w ≡ with_attempt a (at_attempt w)
+pub made_is : (a : Attempt) (w : World) → IsMade a w
+    → after (attempt a) w ≡ with_attempt a (at_attempt w)
 unfolding after
 made_is a w m = rw (m.sound, unequal w.attempts w.limit m.within) refl
 
-pub after-limit_fault : (a : Attempt) (w : World) → w.fault ≡ None → w.attempts ≡ w.limit → (after (attempt a) w).fault ≡ Some LimitReached
+pub after-limit_fault : (a : Attempt) (w : World) → w.fault ≡ None → w.attempts ≡ w.limit
+    → (after (attempt a) w).fault ≡ Some LimitReached
 unfolding after
 after-limit_fault a w s e = rw (s, same_equal w.attempts w.limit e) refl
 
 -- an attempt that ends well was made
-pub made_of : (a : Attempt) (w : World) → IsSettled w.roots → Made w (after (attempt a) w) → IsMade a w
-made_of a w h m = record { sound = m.sound; within = λ e. false_true (ap is_some (sym m.still ∙ after-limit_fault a w m.sound e)); settled = h }
+pub made_of : (a : Attempt) (w : World) → IsSettled w.roots → Made w (after (attempt a) w)
+    → IsMade a w
+made_of a w h m = record {
+  sound = m.sound;
+  within =
+      λ e. false_true (ap is_some (sym m.still ∙ after-limit_fault a w m.sound e));
+  settled = h;
+}
 
 pub made_true : (a : Attempt) (w : World) → IsMade a w → is_made w.fault w ≡ true
 made_true a w m = rw (m.sound, unequal w.attempts w.limit m.within) refl
@@ -211,10 +285,12 @@ made_here a w made settled = record {
 pub damage_ready : (w : World) → damage_in (at_attempt w) ≡ damage_in w
 damage_ready w = ap damage_in (ready_beside w)
 
-pub nobody_in : (a : Attempt) (w : World) → IsMade a w → NobodyHolds a.addr (at_attempt w).roots → (outcome_in a w ≡ outcome.Nothing) × ((after (attempt a) w).roots ≡ (at_attempt w).roots)
+pub nobody_in : (a : Attempt) (w : World) → IsMade a w → NobodyHolds a.addr (at_attempt w).roots
+    → (outcome_in a w ≡ outcome.Nothing) × ((after (attempt a) w).roots ≡ (at_attempt w).roots)
 unfolding outcome_in with_attempt
 nobody_in a w m n =
-    let r : _ = nobody a (damage_in (at_attempt w)) (at_attempt w).roots (ready_settled w m.settled) n in
+    let r : _ = nobody a (damage_in (at_attempt w)) (at_attempt w).roots (ready_settled w m.settled)
+    n in
     (r.0, ap (λ v. v.roots) (made_is a w m) ∙ r.1)
 
 module _ (a : Attempt) (w : World) (h : HolderIn a w) where
@@ -222,53 +298,90 @@ module _ (a : Attempt) (w : World) (h : HolderIn a w) where
 
   pub unshared : repeats (held_addresses (at_attempt w).roots) ≡ false
   unfolding with_attempt
-  unshared = (neither (at_attempt w).shared (repeats (held_addresses (at_attempt w).roots)) (sym (ap (λ v. v.shared) (made_is a w h.made)) ∙ h.single)).1
+  unshared = (neither (at_attempt w).shared (repeats (held_addresses (at_attempt w).roots))
+      (sym (ap (λ v. v.shared) (made_is a w h.made)) ∙ h.single)).1
 
   abbrev pub holder_in : Holder a.addr (at_attempt w).roots
-  holder_in = record { settled = ready_settled w h.made.settled; single = unshared; found = h.found }
+  holder_in = record {
+    settled = ready_settled w h.made.settled;
+    single = unshared;
+    found =
+        h.found;
+  }
 
-  pub exchanged_in : (r : Reply) → ExchangedWithHolder a (damage_in (at_attempt w)) (at_attempt w).roots holder_in r → ExchangedIn a w h r
+  pub exchanged_in : (r : Reply) → ExchangedWithHolder a (damage_in (at_attempt w))
+      (at_attempt w).roots holder_in r → ExchangedIn a w h r
   unfolding outcome_in with_attempt
-  exchanged_in r x = record { outcome = x.outcome; state = ap (λ v. state_at v.roots j p) (made_is a w h.made) ∙ x.state }
+  exchanged_in r x = record {
+    outcome = x.outcome;
+    state =
+        ap (λ v. state_at v.roots j p) (made_is a w h.made) ∙ x.state;
+  }
 
   pub setup_in : s.spec.silent ≡ false → (bytes : List ℕ) → IsSetup a bytes
-      → ExchangedIn a w h (setup_alone a (damage_in (at_attempt w)) (at_attempt w).roots (deep_at false p) s (row_of below) bytes)
+      → ExchangedIn a w h (setup_alone a (damage_in (at_attempt w)) (at_attempt w).roots
+      (deep_at false p) s (row_of below) bytes)
   setup_in loud bytes i =
-      exchanged_in (setup_alone a (damage_in (at_attempt w)) (at_attempt w).roots (deep_at false p) s (row_of below) bytes)
+      exchanged_in (setup_alone a (damage_in (at_attempt w)) (at_attempt w).roots (deep_at false p)
+      s (row_of below) bytes)
       (setup_one a (damage_in (at_attempt w)) (at_attempt w).roots holder_in loud bytes i)
 
   pub out_in : s.spec.silent ≡ false → (t : Toggle) (bytes : List ℕ) → IsOut a t bytes
-      → ExchangedIn a w h (out_alone a (damage_in (at_attempt w)) (at_attempt w).roots (deep_at false p) s t bytes)
+      → ExchangedIn a w h (out_alone a (damage_in (at_attempt w)) (at_attempt w).roots
+      (deep_at false p) s t bytes)
   out_in loud t bytes i =
-      exchanged_in (out_alone a (damage_in (at_attempt w)) (at_attempt w).roots (deep_at false p) s t bytes)
+      exchanged_in (out_alone a (damage_in (at_attempt w)) (at_attempt w).roots (deep_at false p) s
+      t bytes)
       (out_one a (damage_in (at_attempt w)) (at_attempt w).roots holder_in loud t bytes i)
 
-  pub in_in : s.spec.silent ≡ false → IsIn a → ExchangedIn a w h (in_alone a (damage_in (at_attempt w)) (at_attempt w).roots (deep_at false p) s (row_of below))
+  pub in_in : s.spec.silent ≡ false → IsIn a
+      → ExchangedIn a w h (in_alone a (damage_in (at_attempt w)) (at_attempt w).roots
+      (deep_at false p) s (row_of below))
   in_in loud i =
-      exchanged_in (in_alone a (damage_in (at_attempt w)) (at_attempt w).roots (deep_at false p) s (row_of below))
+      exchanged_in (in_alone a (damage_in (at_attempt w)) (at_attempt w).roots (deep_at false p) s
+      (row_of below))
       (in_one a (damage_in (at_attempt w)) (at_attempt w).roots holder_in loud i)
 
   pub silent_in : s.spec.silent ≡ true → ExchangedIn a w h (None, s)
-  silent_in silent = exchanged_in (None, s) (silent_one a (damage_in (at_attempt w)) (at_attempt w).roots holder_in silent)
+  silent_in silent = exchanged_in (None, s)
+      (silent_one a (damage_in (at_attempt w)) (at_attempt w).roots holder_in silent)
 
-  pub others_in : (i : ℕ) (e : List ℕ) (v : State) → (same_number i j && same_path e p) ≡ false → state_at (at_attempt w).roots i e ≡ Some v
-      → state_at (after (attempt a) w).roots i e ≡ Some (reset_if (resets (attempt a) w (suc i ∷ e)) v)
+  pub others_in : (i : ℕ) (e : List ℕ) (v : State) → (same_number i j && same_path e p) ≡ false
+      → state_at (at_attempt w).roots i e ≡ Some v
+      → state_at (after (attempt a) w).roots i e
+      ≡ Some (reset_if (resets (attempt a) w (suc i ∷ e)) v)
   unfolding with_attempt resets
   others_in i e v differ stands_there =
       ap (λ x. state_at x.roots i e) (made_is a w h.made)
-      ∙ others_one a (damage_in (at_attempt w)) (at_attempt w).roots holder_in i e v differ stands_there
-      ∙ ap (λ x. Some (reset_if (x && attempt_resets (token_out a (damage_in (at_attempt w))) (payload_out a (damage_in (at_attempt w))) (at_attempt w).roots i e) v)) (sym (made_true a w h.made))
+      ∙ others_one a (damage_in (at_attempt w)) (at_attempt w).roots holder_in i e v differ
+      stands_there
+      ∙ ap (λ x. Some (reset_if (x && attempt_resets (token_out a (damage_in (at_attempt w)))
+      (payload_out a (damage_in (at_attempt w))) (at_attempt w).roots i e) v))
+      (sym (made_true a w h.made))
 
-  module _ (loud : s.spec.silent ≡ false) (hears_it : hears_attempt a (deep_at false p) s ≡ true) (none : damage_in w ≡ None) where
-    undamaged_in : (r : Reply) → ExchangedWithHolder a None (at_attempt w).roots holder_in r → ExchangedIn a w h r
-    undamaged_in r x = exchanged_in r (subst (λ d. ExchangedWithHolder a d (at_attempt w).roots holder_in r) (sym (damage_ready w ∙ none)) x)
+  module _ (loud : s.spec.silent ≡ false) (hears_it : hears_attempt a (deep_at false p) s ≡ true)
+      (none : damage_in w ≡ None) where
+    undamaged_in : (r : Reply) → ExchangedWithHolder a None (at_attempt w).roots holder_in r
+        → ExchangedIn a w h r
+    undamaged_in r x = exchanged_in r
+        (subst (λ d. ExchangedWithHolder a d (at_attempt w).roots holder_in r)
+        (sym (damage_ready w ∙ none)) x)
 
-    pub setup_sound_in : (bytes : List ℕ) → IsSetup a bytes → ExchangedIn a w h (Some answer.Ack, accepted s (row_of below) (setup_of bytes))
-    setup_sound_in bytes i = undamaged_in (Some answer.Ack, accepted s (row_of below) (setup_of bytes)) (setup_sound a (at_attempt w).roots holder_in loud hears_it bytes i)
+    pub setup_sound_in : (bytes : List ℕ) → IsSetup a bytes
+        → ExchangedIn a w h (Some answer.Ack, accepted s (row_of below) (setup_of bytes))
+    setup_sound_in bytes i = undamaged_in (
+      Some answer.Ack,
+      accepted s (row_of below) (setup_of bytes),
+    )
+        (setup_sound a (at_attempt w).roots holder_in loud hears_it bytes i)
 
-    pub out_sound_in : (t : Toggle) (bytes : List ℕ) → IsOut a t bytes → ExchangedIn a w h ((data_row s a.ep t bytes).0, forgotten (data_row s a.ep t bytes).1)
+    pub out_sound_in : (t : Toggle) (bytes : List ℕ) → IsOut a t bytes
+        → ExchangedIn a w h ((data_row s a.ep t bytes).0, forgotten (data_row s a.ep t bytes).1)
     out_sound_in t bytes i =
-        undamaged_in ((data_row s a.ep t bytes).0, forgotten (data_row s a.ep t bytes).1) (out_sound a (at_attempt w).roots holder_in loud hears_it t bytes i)
+        undamaged_in ((data_row s a.ep t bytes).0, forgotten (data_row s a.ep t bytes).1)
+        (out_sound a (at_attempt w).roots holder_in loud hears_it t bytes i)
 
-    pub in_sound_in : IsIn a → ExchangedIn a w h (in_law s (row_of below) a.ep a.max whole whole whole)
-    in_sound_in i = undamaged_in (in_law s (row_of below) a.ep a.max whole whole whole) (in_sound a (at_attempt w).roots holder_in loud hears_it i)
+    pub in_sound_in : IsIn a → ExchangedIn a w h
+        (in_law s (row_of below) a.ep a.max whole whole whole)
+    in_sound_in i = undamaged_in (in_law s (row_of below) a.ep a.max whole whole whole)
+        (in_sound a (at_attempt w).roots holder_in loud hears_it i)

@@ -1,5 +1,8 @@
--- The ports of the one holder after an attempt: as they were, but for what its request asks of them.
-use Rattle.std.proofs.Common.{◌≡◌, ℕ, zero, suc, ◌+◌, ◌==◌, nat_le, ◌&&◌, if◌then◌else◌, ◌⊎◌, inl, inr, Bool, true, false, List, [], ◌∷◌, ◌++◌, length, Option, None, Some, option_map, is_some, refl, ap, ap₂, sym, subst, ◌∙◌}
+-- The ports of the one holder after an attempt: as they were, but for what its request asks of
+-- them.
+use Rattle.std.proofs.Common.{◌≡◌, ℕ, zero, suc, ◌+◌, ◌==◌, nat_le, ◌&&◌, if◌then◌else◌, ◌⊎◌, inl}
+use Rattle.std.proofs.Common.{inr, Bool, true, false, List, [], ◌∷◌, ◌++◌, length, Option, None}
+use Rattle.std.proofs.Common.{Some, option_map, is_some, refl, ap, ap₂, sym, subst, ◌∙◌}
 use Rattle.std.proofs.lemmas.Option.{same_Some}
 use Rattle.arrayvec.specs.ArrayVec.{ArrayVec}
 use Rattle.usb_packet.specs.declared.Packet.{Packet}
@@ -19,7 +22,8 @@ use Rattle.usb_device.specs.declared.transfer.RememberedPacket.TheVariants as me
 use Rattle.usb_device.specs.Rows.{State, Reply, received, unread, forgotten}
 use Rattle.usb_device.specs.Effect.{asks, asked_by_setup, asked_by_packet}
 use Rattle.usb_device.specs.Attempt.{Way, whole, broken, lost, is_whole, through, is_own}
-use Rattle.usb_device.specs.Tree.{Ports, ended, vacant, taken, Place, empty, full, acted, all_off, row_of, reach_at, state_at, place_at}
+use Rattle.usb_device.specs.Tree.{Ports, ended, vacant, taken, Place, empty, full, acted, all_off}
+use Rattle.usb_device.specs.Tree.{row_of, reach_at, state_at, place_at}
 use Rattle.usb_device.specs.Delivery.{is_heard, asked_by, effect_of, after_packet, all_forgotten}
 use Rattle.usb_device.specs.View.{forgotten_place}
 use Rattle.usb_world.specs.declared.types.Attempt.{Attempt}
@@ -30,19 +34,28 @@ use Rattle.usb_world.specs.declared.wire.Mark.{Mark}
 use Rattle.usb_world.specs.declared.wire.Mark.TheVariants as mark
 use Rattle.usb_world.specs.Wire.{is_read, mark_of, harm_to, marked, marked_some}
 use Rattle.usb_tree.specs.Paths.{address_of}
-use Rattle.usb_world.specs.Exchange.{token_of, payload_of, reply_of, sent_as, goes_out, token_out, payload_out, reply_out, heard_in, mark_in, place_of_answer, ports_in}
+use Rattle.usb_world.specs.Exchange.{token_of, payload_of, reply_of, sent_as, goes_out, token_out}
+use Rattle.usb_world.specs.Exchange.{payload_out, reply_out, heard_in, mark_in, place_of_answer}
+use Rattle.usb_world.specs.Exchange.{ports_in}
 use Rattle.usb_tree.specs.AttemptPackets.{deep_at, IsSettled, NobodyHolds, OneHolds}
 use Rattle.usb_world.specs.World.{World}
 use Rattle.usb_world.specs.Steps.{at_attempt, damage_in, with_attempt, attempt, after}
-use Rattle.usb_world.specs.OneHolder.{way_to, token_way, payload_way, IsSetup, IsOut, IsIn, HolderIn, out_alone, in_alone, setup_asked}
+use Rattle.usb_world.specs.OneHolder.{way_to, token_way, payload_way, IsSetup, IsOut, IsIn}
+use Rattle.usb_world.specs.OneHolder.{HolderIn, out_alone, in_alone, setup_asked}
 use Rattle.usb_tree.proofs.Interface.{false_true, both, and_of, decided}
 use Rattle.usb_tree.proofs.Interface.{is_twice-one_path}
-use Rattle.usb_world.proofs.packets.AttemptPackets.{CalmOut, token_out as token_calm, ack_out as ack_calm}
+use Rattle.usb_world.proofs.packets.AttemptPackets.{CalmOut, token_out as token_calm}
+use Rattle.usb_world.proofs.packets.AttemptPackets.{ack_out as ack_calm}
 use Rattle.usb_world.proofs.packets.AttemptPackets.{forgotten_at, forgotten_off}
 use Rattle.usb_world.proofs.courses.StepInvariants.{settled_called}
 use Rattle.usb_world.proofs.holders.OneDevice.{rest_packet, settled_memory, stands, place_after}
 use Rattle.usb_world.proofs.courses.Courses.{goes}
-use Rattle.usb_world.proofs.holders.OneHolder.{holder_holds, acts, rests, ports_by, sent_stands, first, first_below, second, second_below, third, second_place, is_state, token_of-fields, data_is, none_is, token_comes, no_payload, through_spec, way_same, setup_one, out_one, in_one, setup_alone, Holder, ExchangedWithHolder}
+use Rattle.usb_world.proofs.holders.OneHolder.{holder_holds, acts, rests, ports_by, sent_stands}
+use Rattle.usb_world.proofs.holders.OneHolder.{first, first_below, second, second_below, third}
+use Rattle.usb_world.proofs.holders.OneHolder.{second_place, is_state, token_of-fields, data_is}
+use Rattle.usb_world.proofs.holders.OneHolder.{none_is, token_comes, no_payload, through_spec}
+use Rattle.usb_world.proofs.holders.OneHolder.{way_same, setup_one, out_one, in_one, setup_alone}
+use Rattle.usb_world.proofs.holders.OneHolder.{Holder, ExchangedWithHolder}
 use Rattle.usb_world.proofs.holders.OneHolderAttempts.{first_silent, silent_one, made_is, holder_in}
 use Rattle.usb_tree.proofs.Interface.{equal_same}
 use Rattle.usb_device.proofs.Interface.{same_number}
@@ -55,34 +68,41 @@ ports_below_place None = ended
 ports_below_place (Some (empty b)) = ended
 ports_below_place (Some (full b s a)) = a
 
-below_settled : (k : Ports) (j : ℕ) (p : List ℕ) (b : PortState) (s : State) (below : Ports) → IsSettled k → place_at k j p ≡ Some (full b s below) → IsSettled below
+below_settled : (k : Ports) (j : ℕ) (p : List ℕ) (b : PortState) (s : State) (below : Ports)
+    → IsSettled k → place_at k j p ≡ Some (full b s below) → IsSettled below
 below_settled k j p b s below h e =
-    ap ports_below_place (sym (ap (option_map forgotten_place) e) ∙ sym (forgotten_at k j p) ∙ ap (λ x. place_at x j p) h ∙ e)
+    ap ports_below_place (sym (ap (option_map forgotten_place) e) ∙ sym (forgotten_at k j p)
+    ∙ ap (λ x. place_at x j p) h ∙ e)
 
-deeper_state : (k : Ports) (j : ℕ) (p : List ℕ) (b : PortState) (s : State) (below : Ports) → place_at k j p ≡ Some (full b s below) → (i : ℕ) (e : List ℕ)
+deeper_state : (k : Ports) (j : ℕ) (p : List ℕ) (b : PortState) (s : State) (below : Ports)
+    → place_at k j p ≡ Some (full b s below) → (i : ℕ) (e : List ℕ)
     → state_at k j (p ++ (suc i ∷ e)) ≡ state_at below i e
 unfolding place_at state_at
 deeper_state ended j p b s below h i e = false_true (ap is_some h)
 deeper_state (vacant c k) zero [] b s below h i e = false_true (ap (λ x. is_some (stands x)) h)
 deeper_state (vacant c k) zero (n ∷ p) b s below h i e = false_true (ap is_some h)
 deeper_state (vacant c k) (suc j) p b s below h i e = deeper_state k j p b s below h i e
-deeper_state (taken c t a k) zero [] b s below h i e = ap (λ x. state_at (ports_below_place x) i e) h
+deeper_state (taken c t a k) zero [] b s below h i e =
+    ap (λ x. state_at (ports_below_place x) i e) h
 deeper_state (taken c t a k) zero (zero ∷ p) b s below h i e = false_true (ap is_some h)
 deeper_state (taken c t a k) zero (suc j ∷ p) b s below h i e = deeper_state a j p b s below h i e
 deeper_state (taken c t a k) (suc j) p b s below h i e = deeper_state k j p b s below h i e
 
-deeper_reach : (k : Ports) (j : ℕ) (p : List ℕ) (b : PortState) (s : State) (below : Ports) → place_at k j p ≡ Some (full b s below) → (i : ℕ) (e : List ℕ)
+deeper_reach : (k : Ports) (j : ℕ) (p : List ℕ) (b : PortState) (s : State) (below : Ports)
+    → place_at k j p ≡ Some (full b s below) → (i : ℕ) (e : List ℕ)
     → reach_at k j p ≡ true → reach_at below i e ≡ true → reach_at k j (p ++ (suc i ∷ e)) ≡ true
 unfolding place_at reach_at
 deeper_reach ended j p b s below h i e on o = false_true (ap is_some h)
 deeper_reach (vacant c k) zero p b s below h i e on o = false_true on
 deeper_reach (vacant c k) (suc j) p b s below h i e on o = deeper_reach k j p b s below h i e on o
-deeper_reach (taken c t a k) zero [] b s below h i e on o = and_of c.enable _ on (ap (λ x. reach_at (ports_below_place x) i e) h ∙ o)
+deeper_reach (taken c t a k) zero [] b s below h i e on o =
+    and_of c.enable _ on (ap (λ x. reach_at (ports_below_place x) i e) h ∙ o)
 deeper_reach (taken c t a k) zero (zero ∷ p) b s below h i e on o = false_true on
 deeper_reach (taken c t a k) zero (suc j ∷ p) b s below h i e on o =
     let x : _ = both c.enable (reach_at a j p) on in
     and_of c.enable _ x.0 (deeper_reach a j p b s below h i e x.1 o)
-deeper_reach (taken c t a k) (suc j) p b s below h i e on o = deeper_reach k j p b s below h i e on o
+deeper_reach (taken c t a k) (suc j) p b s below h i e on o =
+    deeper_reach k j p b s below h i e on o
 
 abbrev is_longer : List ℕ → Bool
 is_longer [] = false
@@ -96,13 +116,18 @@ path_not_longer : (p : List ℕ) (n : ℕ) (e : List ℕ) → p ≡ p ++ (n ∷ 
 path_not_longer [] n e h = false_true (ap is_longer h)
 path_not_longer (m ∷ p) n e h = path_not_longer p n e (ap rest_of h)
 
-below_nobody : (n : ℕ) (k : Ports) (j : ℕ) (p : List ℕ) (b : PortState) (s : State) (below : Ports) → OneHolds n k (record { row = j; rest = p }) → place_at k j p ≡ Some (full b s below) → NobodyHolds n below
+below_nobody : (n : ℕ) (k : Ports) (j : ℕ) (p : List ℕ) (b : PortState) (s : State) (below : Ports)
+    → OneHolds n k (record { row = j; rest = p }) → place_at k j p ≡ Some (full b s below)
+    → NobodyHolds n below
 below_nobody n k j p b s below o h i e t at on = pick (decided (n == address_of t))
   where
-    pick : ((n == address_of t) ≡ true) ⊎ ((n == address_of t) ≡ false) → (n == address_of t) ≡ false
+    pick : ((n == address_of t) ≡ true) ⊎ ((n == address_of t) ≡ false)
+        → (n == address_of t) ≡ false
     pick (inl y) =
-        let same : _ = is_twice-one_path k j (p ++ (suc i ∷ e)) j p n o.single (deeper_reach k j p b s below h i e o.on on)
-        (ap (option_map address_of) (deeper_state k j p b s below h i e ∙ at) ∙ ap (λ x. Some x) (sym (equal_same n (address_of t) y))) o.on o.at in
+        let same : _ = is_twice-one_path k j (p ++ (suc i ∷ e)) j p n o.single
+        (deeper_reach k j p b s below h i e o.on on)
+        (ap (option_map address_of) (deeper_state k j p b s below h i e ∙ at)
+        ∙ ap (λ x. Some x) (sym (equal_same n (address_of t) y))) o.on o.at in
         elim (path_not_longer p (suc i) e (sym same.1)) [ ]
     pick (inr y) = y
 
@@ -114,29 +139,43 @@ below_after_sent (Some q) x = after_packet q true x
 
 -- the packet is for no device that it reaches
 abbrev ForNobody : Packet → Ports → Type 0
-ForNobody p x = (i : ℕ) (e : List ℕ) (t : State) → state_at x i e ≡ Some t → reach_at x i e ≡ true → is_own t p ≡ false
+ForNobody p x = (i : ℕ) (e : List ℕ) (t : State) → state_at x i e ≡ Some t → reach_at x i e ≡ true
+    → is_own t p ≡ false
 
-sent_rests : (l pre : Bool) (m : Mark) (p : Packet) (x : Ports) → IsSettled x → ForNobody p x → below_after_sent (sent_as l pre m p) x ≡ x
-sent_rests l pre mark.Whole p x s f = rest_packet (record { low = l; pre = pre; content = content.Whole p }) true x (λ i e t h o. (settled_memory x i e t s h, f i e t h o))
+sent_rests : (l pre : Bool) (m : Mark) (p : Packet) (x : Ports) → IsSettled x → ForNobody p x
+    → below_after_sent (sent_as l pre m p) x ≡ x
+sent_rests l pre mark.Whole p x s f =
+    rest_packet (record { low = l; pre = pre; content = content.Whole p }) true x
+    (λ i e t h o. (settled_memory x i e t s h, f i e t h o))
 sent_rests l pre mark.Lost p x s f = refl
-sent_rests l pre mark.PreLost p x s f = rest_packet (record { low = l; pre = false; content = content.Whole p }) true x (λ i e t h o. (settled_memory x i e t s h, f i e t h o))
-sent_rests l pre (mark.Flipped bit) p x s f = rest_packet (record { low = l; pre = pre; content = content.Broken }) true x (λ i e t h o. (settled_memory x i e t s h, refl))
+sent_rests l pre mark.PreLost p x s f =
+    rest_packet (record { low = l; pre = false; content = content.Whole p }) true x
+    (λ i e t h o. (settled_memory x i e t s h, f i e t h o))
+sent_rests l pre (mark.Flipped bit) p x s f =
+    rest_packet (record { low = l; pre = pre; content = content.Broken }) true x
+    (λ i e t h o. (settled_memory x i e t s h, refl))
 
-token_rests : (a : Attempt) (d : Option Damage) (x : Ports) → IsSettled x → NobodyHolds a.addr x → below_after_sent (token_out a d) x ≡ x
+token_rests : (a : Attempt) (d : Option Damage) (x : Ports) → IsSettled x → NobodyHolds a.addr x
+    → below_after_sent (token_out a d) x ≡ x
 unfolding marked token_of
-token_rests a d x s f = sent_rests a.low a.pre (mark_of (harm_to d 1) a.pre (token_of a)) (token_of a) x s f
+token_rests a d x s f = sent_rests a.low a.pre (mark_of (harm_to d 1) a.pre (token_of a))
+    (token_of a) x s f
 
-some_rests : (a : Attempt) (d : Option Damage) (n : ℕ) (o : Option Packet) (x : Ports) → IsSettled x → ((p : Packet) → o ≡ Some p → ForNobody p x) → below_after_sent (goes_out a (marked_some d n a.pre o)) x ≡ x
+some_rests : (a : Attempt) (d : Option Damage) (n : ℕ) (o : Option Packet) (x : Ports) → IsSettled x
+    → ((p : Packet) → o ≡ Some p → ForNobody p x)
+    → below_after_sent (goes_out a (marked_some d n a.pre o)) x ≡ x
 unfolding marked marked_some
 some_rests a d n None x s f = refl
-some_rests a d n (Some p) x s f = sent_rests a.low a.pre (mark_of (harm_to d n) a.pre p) p x s (f p refl)
+some_rests a d n (Some p) x s f = sent_rests a.low a.pre (mark_of (harm_to d n) a.pre p) p x s
+    (f p refl)
 
 -- data and an ACK are for no device that remembers nothing
 abbrev no_token : Option Packet → Bool
 no_token (Some (Token kind n e)) = false
 no_token o = true
 
-no_token_rests : (o : Option Packet) → no_token o ≡ true → (x : Ports) → (p : Packet) → o ≡ Some p → ForNobody p x
+no_token_rests : (o : Option Packet) → no_token o ≡ true → (x : Ports) → (p : Packet) → o ≡ Some p
+    → ForNobody p x
 no_token_rests o h x (Token kind n e) is i u t at on = false_true (sym (ap no_token is) ∙ h)
 no_token_rests o h x (packet.Payload toggle bytes) is i u t at on = refl
 no_token_rests o h x packet.Ack is i u t at on = refl
@@ -149,7 +188,12 @@ payload_no_token : (a : Attempt) → no_token (payload_of a) ≡ true
 unfolding payload_of
 payload_no_token a = go a.payload
   where
-    go : (o : Option (Toggle × ArrayVec ℕ)) → no_token (elim o as (λ _. Option Packet) [ None ↦ None | Some x ↦ Some (packet.Payload x.0 x.1) ]) ≡ true
+    go : (o : Option (Toggle × ArrayVec ℕ))
+        → no_token (elim o as (λ _. Option Packet) [
+          | None ↦ None
+          | Some x ↦
+              Some (packet.Payload x.0 x.1)
+        ]) ≡ true
     go None = refl
     go (Some x) = refl
 
@@ -157,7 +201,9 @@ reply_no_token : (h : ExchangeAnswer) (m : Mark) (max : ℕ) → no_token (reply
 unfolding reply_of
 reply_no_token heard.Nothing m max = refl
 reply_no_token heard.Collision m max = refl
-reply_no_token (heard.One (packet.Payload t bytes)) m max = elim (is_read m && nat_le (length bytes.items) max) as (λ x. no_token (if x then Some packet.Ack else None) ≡ true) [ true ↦ refl | false ↦ refl ]
+reply_no_token (heard.One (packet.Payload t bytes)) m max =
+    elim (is_read m && nat_le (length bytes.items) max)
+    as (λ x. no_token (if x then Some packet.Ack else None) ≡ true) [ true ↦ refl | false ↦ refl ]
 reply_no_token (heard.One packet.Ack) m max = refl
 reply_no_token (heard.One (Token kind n e)) m max = refl
 reply_no_token (heard.One (packet.Sof f)) m max = refl
@@ -171,11 +217,13 @@ abbrev pub asked_of : Option Sent → Bool → State → Effect
 asked_of None deep s = Leaves
 asked_of (Some q) deep s = effect_of q deep s
 
-ports_asked : (deep : Bool) (b : PortState) (o : Option Sent) (s : State) (x : Ports) → ports_by deep b o s x ≡ acted (asked_of o deep s) (below_after_sent o x)
+ports_asked : (deep : Bool) (b : PortState) (o : Option Sent) (s : State) (x : Ports)
+    → ports_by deep b o s x ≡ acted (asked_of o deep s) (below_after_sent o x)
 ports_asked deep b None s x = refl
 ports_asked deep b (Some q) s x = refl
 
-pub calm_asked : (o : Option Sent) → CalmOut o → (deep : Bool) (s : State) → asked_of o deep s ≡ Leaves
+pub calm_asked : (o : Option Sent) → CalmOut o → (deep : Bool) (s : State)
+    → asked_of o deep s ≡ Leaves
 calm_asked None c deep s = refl
 calm_asked (Some q) c deep s = c deep s
 
@@ -190,33 +238,50 @@ asked_through whole s p = asks s p
 asked_through broken s p = Leaves
 asked_through lost s p = Leaves
 
-asked_comes : (l pre : Bool) (m : Mark) (p : Packet) (deep : Bool) (s : State) → asked_of (sent_as l pre m p) deep s ≡ asked_through (way_to deep s (sent_as l pre m p)) s p
+asked_comes : (l pre : Bool) (m : Mark) (p : Packet) (deep : Bool) (s : State)
+    → asked_of (sent_as l pre m p) deep s ≡ asked_through (way_to deep s (sent_as l pre m p)) s p
 unfolding effect_of
 asked_comes l pre mark.Whole p deep s =
-    elim (is_heard (record { low = l; pre = pre; content = content.Whole p }) deep s.spec.low) as (λ x. (if x then asks s p else Leaves) ≡ asked_through (if x then whole else lost) s p) [ true ↦ refl | false ↦ refl ]
+    elim (is_heard (record { low = l; pre = pre; content = content.Whole p }) deep s.spec.low)
+    as (λ x. (if x then asks s p else Leaves) ≡ asked_through (if x then whole else lost) s p)
+    [ true ↦ refl | false ↦ refl ]
 asked_comes l pre mark.Lost p deep s = refl
 asked_comes l pre mark.PreLost p deep s =
-    elim (is_heard (record { low = l; pre = false; content = content.Whole p }) deep s.spec.low) as (λ x. (if x then asks s p else Leaves) ≡ asked_through (if x then whole else lost) s p) [ true ↦ refl | false ↦ refl ]
+    elim (is_heard (record { low = l; pre = false; content = content.Whole p }) deep s.spec.low)
+    as (λ x. (if x then asks s p else Leaves) ≡ asked_through (if x then whole else lost) s p)
+    [ true ↦ refl | false ↦ refl ]
 asked_comes l pre (mark.Flipped bit) p deep s =
-    elim (is_heard (record { low = l; pre = pre; content = content.Broken }) deep s.spec.low) as (λ x. (if x then Leaves else Leaves) ≡ asked_through (if x then broken else lost) s p) [ true ↦ refl | false ↦ refl ]
+    elim (is_heard (record { low = l; pre = pre; content = content.Broken }) deep s.spec.low)
+    as (λ x. (if x then Leaves else Leaves) ≡ asked_through (if x then broken else lost) s p)
+    [ true ↦ refl | false ↦ refl ]
 
 some_asked : (a : Attempt) (d : Option Damage) (n : ℕ) (p : Packet) (deep : Bool) (s : State)
-    → asked_of (goes_out a (marked_some d n a.pre (Some p))) deep s ≡ asked_through (way_to deep s (goes_out a (marked_some d n a.pre (Some p)))) s p
+    → asked_of (goes_out a (marked_some d n a.pre (Some p))) deep s
+    ≡ asked_through (way_to deep s (goes_out a (marked_some d n a.pre (Some p)))) s p
 unfolding marked marked_some
 some_asked a d n p deep s = asked_comes a.low a.pre (mark_of (harm_to d n) a.pre p) p deep s
 
-payload_asked : (a : Attempt) (d : Option Damage) (p : Packet) → payload_of a ≡ Some p → (deep : Bool) (s : State) → asked_of (payload_out a d) deep s ≡ asked_through (payload_way a d deep s) s p
+payload_asked : (a : Attempt) (d : Option Damage) (p : Packet) → payload_of a ≡ Some p
+    → (deep : Bool) (s : State) → asked_of (payload_out a d) deep s
+    ≡ asked_through (payload_way a d deep s) s p
 payload_asked a d p e deep s =
-    subst (λ o. asked_of (goes_out a (marked_some d 2 a.pre o)) deep s ≡ asked_through (way_to deep s (goes_out a (marked_some d 2 a.pre o))) s p) (sym e) (some_asked a d 2 p deep s)
+    subst (λ o. asked_of (goes_out a (marked_some d 2 a.pre o)) deep s
+    ≡ asked_through (way_to deep s (goes_out a (marked_some d 2 a.pre o))) s p) (sym e)
+    (some_asked a d 2 p deep s)
 
 silent_asks : (s : State) (p : Packet) → s.spec.silent ≡ true → asks s p ≡ Leaves
 unfolding asks
 silent_asks s p h = rw h refl
 
-silent_asked : (o : Option Sent) (deep : Bool) (s : State) → s.spec.silent ≡ true → asked_of o deep s ≡ Leaves
+silent_asked : (o : Option Sent) (deep : Bool) (s : State) → s.spec.silent ≡ true
+    → asked_of o deep s ≡ Leaves
 unfolding effect_of
 silent_asked None deep s h = refl
-silent_asked (Some q) deep s h = elim (is_heard q deep s.spec.low) as (λ x. (if x then asked_by q.content s else Leaves) ≡ Leaves) [ true ↦ by_content q.content | false ↦ refl ]
+silent_asked (Some q) deep s h = elim (is_heard q deep s.spec.low)
+    as (λ x. (if x then asked_by q.content s else Leaves) ≡ Leaves) [
+      | true ↦ by_content q.content
+      | false ↦ refl
+    ]
   where
     by_content : (c : Content) → asked_by c s ≡ Leaves
     by_content (content.Whole p) = silent_asks s p h
@@ -225,47 +290,75 @@ silent_asked (Some q) deep s h = elim (is_heard q deep s.spec.low) as (λ x. (if
 -- data after a token
 
 -- a device that remembers nothing asks nothing
-payload_asks-leaves : (s : State) (t : Toggle) (bytes : ArrayVec ℕ) → s.memory ≡ memory.Nothing → asks s (packet.Payload t bytes) ≡ Leaves
+payload_asks-leaves : (s : State) (t : Toggle) (bytes : ArrayVec ℕ) → s.memory ≡ memory.Nothing
+    → asks s (packet.Payload t bytes) ≡ Leaves
 unfolding asks
-payload_asks-leaves s t bytes n = elim s.spec.silent as (λ x. (if x then Leaves else asked_by_packet s (packet.Payload t bytes)) ≡ Leaves) [ true ↦ refl | false ↦ rw n refl ]
+payload_asks-leaves s t bytes n = elim s.spec.silent
+    as (λ x. (if x then Leaves else asked_by_packet s (packet.Payload t bytes)) ≡ Leaves) [
+      | true ↦
+          refl
+      | false ↦ rw n refl
+    ]
 
 unread_rests : (s : State) → s.memory ≡ memory.Nothing → (unread s).memory ≡ memory.Nothing
 unfolding unread
-unread_rests s n = elim s.spec.silent as (λ x. (if x then s else forgotten s).memory ≡ memory.Nothing) [ true ↦ n | false ↦ refl ]
+unread_rests s n = elim s.spec.silent
+    as (λ x. (if x then s else forgotten s).memory ≡ memory.Nothing) [ true ↦ n | false ↦ refl ]
 
-setup_seen : (s : State) (row : List PortState) → s.spec.silent ≡ false → received s row (Token SetupTok s.registers.address 0) ≡ (None, record (forgotten s) { memory = memory.SetupSeen })
+setup_seen : (s : State) (row : List PortState) → s.spec.silent ≡ false
+    → received s row (Token SetupTok s.registers.address 0)
+    ≡ (None, record (forgotten s) { memory = memory.SetupSeen })
 unfolding received
 setup_seen s row loud = rw (loud, same_number s.registers.address) refl
 
-out_seen : (s : State) (row : List PortState) (e : ℕ) → s.spec.silent ≡ false → received s row (Token OutTok s.registers.address e) ≡ (None, record (forgotten s) { memory = memory.OutSeen e })
+out_seen : (s : State) (row : List PortState) (e : ℕ) → s.spec.silent ≡ false
+    → received s row (Token OutTok s.registers.address e)
+    ≡ (None, record (forgotten s) { memory = memory.OutSeen e })
 unfolding received
 out_seen s row e loud = rw (loud, same_number s.registers.address) refl
 
-setup_asks : (s : State) (bytes : List ℕ) → s.spec.silent ≡ false → length bytes ≡ 8 → asks (record (forgotten s) { memory = memory.SetupSeen }) (packet.Payload Zero (record { items = bytes })) ≡ asked_by_setup s (setup_of bytes)
+setup_asks : (s : State) (bytes : List ℕ) → s.spec.silent ≡ false → length bytes ≡ 8
+    → asks (record (forgotten s) { memory = memory.SetupSeen })
+    (packet.Payload Zero (record { items = bytes })) ≡ asked_by_setup s (setup_of bytes)
 unfolding asks
 setup_asks s bytes loud len = rw (loud, len) refl
 
-out_asks : (s : State) (e : ℕ) (t : Toggle) (bytes : List ℕ) → s.spec.silent ≡ false → asks (record (forgotten s) { memory = memory.OutSeen e }) (packet.Payload t (record { items = bytes })) ≡ Leaves
+out_asks : (s : State) (e : ℕ) (t : Toggle) (bytes : List ℕ) → s.spec.silent ≡ false
+    → asks (record (forgotten s) { memory = memory.OutSeen e })
+    (packet.Payload t (record { items = bytes })) ≡ Leaves
 unfolding asks
 out_asks s e t bytes loud = rw loud refl
 
-asked_setup : (s : State) (row : List PortState) → s.spec.silent ≡ false → s.memory ≡ memory.Nothing → (bytes : List ℕ) → length bytes ≡ 8 → (x y : Way)
-    → asked_through y (through x s row (Token SetupTok s.registers.address 0)).1 (packet.Payload Zero (record { items = bytes })) ≡ (if is_whole x && is_whole y then asked_by_setup s (setup_of bytes) else Leaves)
-asked_setup s row loud n bytes len whole whole = ap (λ r. asks r.1 (packet.Payload Zero (record { items = bytes }))) (setup_seen s row loud) ∙ setup_asks s bytes loud len
+asked_setup : (s : State) (row : List PortState) → s.spec.silent ≡ false → s.memory ≡ memory.Nothing
+    → (bytes : List ℕ) → length bytes ≡ 8 → (x y : Way)
+    → asked_through y (through x s row (Token SetupTok s.registers.address 0)).1
+    (packet.Payload Zero (record { items = bytes }))
+    ≡ (if is_whole x && is_whole y then asked_by_setup s (setup_of bytes) else Leaves)
+asked_setup s row loud n bytes len whole whole =
+    ap (λ r. asks r.1 (packet.Payload Zero (record { items = bytes }))) (setup_seen s row loud)
+    ∙ setup_asks s bytes loud len
 asked_setup s row loud n bytes len whole broken = refl
 asked_setup s row loud n bytes len whole lost = refl
-asked_setup s row loud n bytes len broken whole = payload_asks-leaves (unread s) Zero (record { items = bytes }) (unread_rests s n)
+asked_setup s row loud n bytes len broken whole =
+    payload_asks-leaves (unread s) Zero (record { items = bytes }) (unread_rests s n)
 asked_setup s row loud n bytes len broken broken = refl
 asked_setup s row loud n bytes len broken lost = refl
-asked_setup s row loud n bytes len lost whole = payload_asks-leaves s Zero (record { items = bytes }) n
+asked_setup s row loud n bytes len lost whole =
+    payload_asks-leaves s Zero (record { items = bytes }) n
 asked_setup s row loud n bytes len lost broken = refl
 asked_setup s row loud n bytes len lost lost = refl
 
-asked_through-out : (s : State) (row : List PortState) → s.spec.silent ≡ false → s.memory ≡ memory.Nothing → (e : ℕ) (t : Toggle) (bytes : List ℕ) → (x y : Way)
-    → asked_through y (through x s row (Token OutTok s.registers.address e)).1 (packet.Payload t (record { items = bytes })) ≡ Leaves
-asked_through-out s row loud n e t bytes whole whole = ap (λ r. asks r.1 (packet.Payload t (record { items = bytes }))) (out_seen s row e loud) ∙ out_asks s e t bytes loud
-asked_through-out s row loud n e t bytes broken whole = payload_asks-leaves (unread s) t (record { items = bytes }) (unread_rests s n)
-asked_through-out s row loud n e t bytes lost whole = payload_asks-leaves s t (record { items = bytes }) n
+asked_through-out : (s : State) (row : List PortState) → s.spec.silent ≡ false
+    → s.memory ≡ memory.Nothing → (e : ℕ) (t : Toggle) (bytes : List ℕ) → (x y : Way)
+    → asked_through y (through x s row (Token OutTok s.registers.address e)).1
+    (packet.Payload t (record { items = bytes })) ≡ Leaves
+asked_through-out s row loud n e t bytes whole whole =
+    ap (λ r. asks r.1 (packet.Payload t (record { items = bytes }))) (out_seen s row e loud)
+    ∙ out_asks s e t bytes loud
+asked_through-out s row loud n e t bytes broken whole =
+    payload_asks-leaves (unread s) t (record { items = bytes }) (unread_rests s n)
+asked_through-out s row loud n e t bytes lost whole =
+    payload_asks-leaves s t (record { items = bytes }) n
 asked_through-out s row loud n e t bytes x broken = refl
 asked_through-out s row loud n e t bytes x lost = refl
 
@@ -284,39 +377,55 @@ module _ (a : Attempt) (d : Option Damage) (k : Ports) (h : Holder a.addr k) whe
   first_same : first_below a d k h ≡ below
   first_same =
       ports_asked (deep_at false p) b (token_out a d) s below
-      ∙ ap₂ acted (calm_asked (token_out a d) (token_calm a.addr (token_out a d) (goes a d k).token) (deep_at false p) s)
-      (token_rests a d below settled_below (below_nobody a.addr k j p b s below (holder_holds a.addr k h) h.stands))
+      ∙ ap₂ acted (calm_asked (token_out a d) (token_calm a.addr (token_out a d) (goes a d k).token)
+      (deep_at false p) s)
+      (token_rests a d below settled_below
+      (below_nobody a.addr k j p b s below (holder_holds a.addr k h) h.stands))
 
   second_same : second_below a d k h ≡ acted effect below
   second_same =
       ports_asked (deep_at false p) b (payload_out a d) (first a d k h).1 (first_below a d k h)
       ∙ ap (λ x. acted effect (below_after_sent (payload_out a d) x)) first_same
-      ∙ ap (acted effect) (some_rests a d 2 (payload_of a) below settled_below (no_token_rests (payload_of a) (payload_no_token a) below))
+      ∙ ap (acted effect) (some_rests a d 2 (payload_of a) below settled_below
+      (no_token_rests (payload_of a) (payload_no_token a) below))
 
   third_below : Ports
-  third_below = ports_by (deep_at false p) b (reply_out a d k) (second a d k h).1 (second_below a d k h)
+  third_below = ports_by (deep_at false p) b (reply_out a d k) (second a d k h).1
+      (second_below a d k h)
 
   third_same : third_below ≡ acted effect below
   unfolding third_below
   third_same =
       ports_asked (deep_at false p) b (reply_out a d k) (second a d k h).1 (second_below a d k h)
-      ∙ ap₂ acted (calm_asked (reply_out a d k) (ack_calm (reply_out a d k) (goes a d k).reply) (deep_at false p) (second a d k h).1) (ap (below_after_sent (reply_out a d k)) second_same)
-      ∙ some_rests a d (place_of_answer a d + 1) (reply_of (heard_in a d k) (mark_in a d k) a.max) (acted effect below) settled_end
-      (no_token_rests (reply_of (heard_in a d k) (mark_in a d k) a.max) (reply_no_token (heard_in a d k) (mark_in a d k) a.max) (acted effect below))
+      ∙ ap₂ acted (calm_asked (reply_out a d k) (ack_calm (reply_out a d k) (goes a d k).reply)
+      (deep_at false p) (second a d k h).1)
+      (ap (below_after_sent (reply_out a d k)) second_same)
+      ∙ some_rests a d (place_of_answer a d + 1) (reply_of (heard_in a d k) (mark_in a d k) a.max)
+      (acted effect below) settled_end
+      (no_token_rests (reply_of (heard_in a d k) (mark_in a d k) a.max)
+      (reply_no_token (heard_in a d k) (mark_in a d k) a.max) (acted effect below))
 
-  is_place : place_at (ports_in a d k) j p ≡ Some (full b (forgotten (third a d k h).1) (all_forgotten third_below))
+  is_place : place_at (ports_in a d k) j p
+      ≡ Some (full b (forgotten (third a d k h).1) (all_forgotten third_below))
   unfolding ports_in third_below
   is_place =
-      (acts a d k h).place ∙ ap (option_map (place_after (token_out a d) (payload_out a d) (reply_out a d k) (deep_at false p))) h.stands
-      ∙ ap (λ x. Some (forgotten_place (place_after_sent (reply_out a d k) (deep_at false p) (place_after_sent (payload_out a d) (deep_at false p) x)))) (sent_stands (deep_at false p) b (token_out a d) s below)
-      ∙ ap (λ x. Some (forgotten_place (place_after_sent (reply_out a d k) (deep_at false p) x))) (second_place a d k h)
-      ∙ ap (λ x. Some (forgotten_place x)) (sent_stands (deep_at false p) b (reply_out a d k) (second a d k h).1 (second_below a d k h))
+      (acts a d k h).place ∙ ap (option_map (place_after (token_out a d) (payload_out a d)
+      (reply_out a d k) (deep_at false p))) h.stands
+      ∙ ap (λ x. Some (forgotten_place (place_after_sent (reply_out a d k) (deep_at false p)
+      (place_after_sent (payload_out a d) (deep_at false p) x))))
+      (sent_stands (deep_at false p) b (token_out a d) s below)
+      ∙ ap (λ x. Some (forgotten_place (place_after_sent (reply_out a d k) (deep_at false p) x)))
+      (second_place a d k h)
+      ∙ ap (λ x. Some (forgotten_place x)) (sent_stands (deep_at false p) b (reply_out a d k)
+      (second a d k h).1 (second_below a d k h))
 
   -- the holder with its ports
-  pub placed : (r : Reply) → ExchangedWithHolder a d k h r → place_at (ports_in a d k) j p ≡ Some (full b r.1 (acted effect below))
+  pub placed : (r : Reply) → ExchangedWithHolder a d k h r → place_at (ports_in a d k) j p
+      ≡ Some (full b r.1 (acted effect below))
   placed r x =
       is_place
-      ∙ ap₂ (λ u y. Some (full b u y)) (same_Some (forgotten (third a d k h).1) r.1 (sym (is_state a d k h) ∙ x.state)) (ap all_forgotten third_same ∙ settled_end)
+      ∙ ap₂ (λ u y. Some (full b u y)) (same_Some (forgotten (third a d k h).1) r.1
+      (sym (is_state a d k h) ∙ x.state)) (ap all_forgotten third_same ∙ settled_end)
 
   -- By kind
 
@@ -330,48 +439,72 @@ module _ (a : Attempt) (d : Option Damage) (k : Ports) (h : Holder a.addr k) whe
   t2 = payload_way a d (deep_at false p) s
 
   -- what the host's data X ask after the token T
-  sent_effect : (T X : Packet) → token_of a ≡ T → payload_of a ≡ Some X → effect ≡ asked_through t2 (through t1 s row T).1 X
+  sent_effect : (T X : Packet) → token_of a ≡ T → payload_of a ≡ Some X
+      → effect ≡ asked_through t2 (through t1 s row T).1 X
   sent_effect T X u v =
-      ap (λ r. asked_of (payload_out a d) (deep_at false p) r.1) (token_comes a d (deep_at false p) s row ∙ ap (through t1 s row) u)
+      ap (λ r. asked_of (payload_out a d) (deep_at false p) r.1)
+      (token_comes a d (deep_at false p) s row ∙ ap (through t1 s row) u)
       ∙ payload_asked a d X v (deep_at false p) (through t1 s row T).1
-      ∙ ap (λ y. asked_through y (through t1 s row T).1 X) (way_same (deep_at false p) (payload_out a d) s (through t1 s row T).1 (through_spec t1 s row T))
+      ∙ ap (λ y. asked_through y (through t1 s row T).1 X)
+      (way_same (deep_at false p) (payload_out a d) s (through t1 s row T).1
+      (through_spec t1 s row T))
 
   remembers_nothing : s.memory ≡ memory.Nothing
   remembers_nothing = rests a d k h
 
-  setup_effect : s.spec.silent ≡ false → (bytes : List ℕ) → IsSetup a bytes → effect ≡ setup_asked a d (deep_at false p) s bytes
+  setup_effect : s.spec.silent ≡ false → (bytes : List ℕ) → IsSetup a bytes
+      → effect ≡ setup_asked a d (deep_at false p) s bytes
   setup_effect loud bytes i =
-      sent_effect (Token SetupTok s.registers.address 0) (packet.Payload Zero (record { items = bytes })) (token_of-fields a SetupTok s.registers.address 0 i.kind (sym h.at) i.ep) (data_is a Zero (record { items = bytes }) i.payload)
+      sent_effect (Token SetupTok s.registers.address 0)
+      (packet.Payload Zero (record { items = bytes }))
+      (token_of-fields a SetupTok s.registers.address 0 i.kind (sym h.at) i.ep)
+      (data_is a Zero (record { items = bytes }) i.payload)
       ∙ asked_setup s row loud remembers_nothing bytes i.whole t1 t2
 
-  out_effect : s.spec.silent ≡ false → (t : Toggle) (bytes : List ℕ) → IsOut a t bytes → effect ≡ Leaves
+  out_effect : s.spec.silent ≡ false → (t : Toggle) (bytes : List ℕ) → IsOut a t bytes
+      → effect ≡ Leaves
   out_effect loud t bytes i =
-      sent_effect (Token OutTok s.registers.address a.ep) (packet.Payload t (record { items = bytes })) (token_of-fields a OutTok s.registers.address a.ep i.kind (sym h.at) refl) (data_is a t (record { items = bytes }) i.payload)
+      sent_effect (Token OutTok s.registers.address a.ep)
+      (packet.Payload t (record { items = bytes }))
+      (token_of-fields a OutTok s.registers.address a.ep i.kind (sym h.at) refl)
+      (data_is a t (record { items = bytes }) i.payload)
       ∙ asked_through-out s row loud remembers_nothing a.ep t bytes t1 t2
 
   in_effect : IsIn a → effect ≡ Leaves
-  in_effect i = ap (λ o. asked_of o (deep_at false p) (first a d k h).1) (no_payload a d (none_is a i.payload))
+  in_effect i = ap (λ o. asked_of o (deep_at false p) (first a d k h).1)
+      (no_payload a d (none_is a i.payload))
 
   silent_effect : s.spec.silent ≡ true → effect ≡ Leaves
-  silent_effect silent = ap (λ r. asked_of (payload_out a d) (deep_at false p) r.1) (first_silent a d k h silent) ∙ silent_asked (payload_out a d) (deep_at false p) s silent
+  silent_effect silent = ap (λ r. asked_of (payload_out a d) (deep_at false p) r.1)
+      (first_silent a d k h silent) ∙ silent_asked (payload_out a d) (deep_at false p) s silent
 
-  placed_with : (r : Reply) (e : Effect) → effect ≡ e → ExchangedWithHolder a d k h r → place_at (ports_in a d k) j p ≡ Some (full b r.1 (acted e below))
+  placed_with : (r : Reply) (e : Effect) → effect ≡ e → ExchangedWithHolder a d k h r
+      → place_at (ports_in a d k) j p ≡ Some (full b r.1 (acted e below))
   placed_with r e is x = placed r x ∙ ap (λ y. Some (full b r.1 (acted y below))) is
 
   pub setup_place : s.spec.silent ≡ false → (bytes : List ℕ) → IsSetup a bytes
-      → place_at (ports_in a d k) j p ≡ Some (full b (setup_alone a d k (deep_at false p) s (row_of below) bytes).1 (acted (setup_asked a d (deep_at false p) s bytes) below))
+      → place_at (ports_in a d k) j p ≡ Some
+      (full b (setup_alone a d k (deep_at false p) s (row_of below) bytes).1
+      (acted (setup_asked a d (deep_at false p) s bytes) below))
   setup_place loud bytes i =
-      placed_with (setup_alone a d k (deep_at false p) s (row_of below) bytes) (setup_asked a d (deep_at false p) s bytes) (setup_effect loud bytes i) (setup_one a d k h loud bytes i)
+      placed_with (setup_alone a d k (deep_at false p) s (row_of below) bytes)
+      (setup_asked a d (deep_at false p) s bytes) (setup_effect loud bytes i)
+      (setup_one a d k h loud bytes i)
 
   pub out_place : s.spec.silent ≡ false → (t : Toggle) (bytes : List ℕ) → IsOut a t bytes
-      → place_at (ports_in a d k) j p ≡ Some (full b (out_alone a d k (deep_at false p) s t bytes).1 below)
-  out_place loud t bytes i = placed_with (out_alone a d k (deep_at false p) s t bytes) Leaves (out_effect loud t bytes i) (out_one a d k h loud t bytes i)
+      → place_at (ports_in a d k) j p ≡ Some (full b (out_alone a d k (deep_at false p) s t bytes).1
+      below)
+  out_place loud t bytes i = placed_with (out_alone a d k (deep_at false p) s t bytes) Leaves
+      (out_effect loud t bytes i) (out_one a d k h loud t bytes i)
 
-  pub in_place : s.spec.silent ≡ false → IsIn a → place_at (ports_in a d k) j p ≡ Some (full b (in_alone a d k (deep_at false p) s (row_of below)).1 below)
-  in_place loud i = placed_with (in_alone a d k (deep_at false p) s (row_of below)) Leaves (in_effect i) (in_one a d k h loud i)
+  pub in_place : s.spec.silent ≡ false → IsIn a → place_at (ports_in a d k) j p
+      ≡ Some (full b (in_alone a d k (deep_at false p) s (row_of below)).1 below)
+  in_place loud i = placed_with (in_alone a d k (deep_at false p) s (row_of below)) Leaves
+      (in_effect i) (in_one a d k h loud i)
 
   pub silent_place : s.spec.silent ≡ true → place_at (ports_in a d k) j p ≡ Some (full b s below)
-  silent_place silent = placed_with (None, s) Leaves (silent_effect silent) (silent_one a d k h silent)
+  silent_place silent = placed_with (None, s) Leaves (silent_effect silent)
+      (silent_one a d k h silent)
 
 -- Worlds
 
@@ -381,28 +514,42 @@ module _ (a : Attempt) (w : World) (h : HolderIn a w) where
   abbrev there : Holder a.addr (at_attempt w).roots
   there = holder_in a w h
 
-  world_place : (x : Option Place) → place_at (ports_in a (damage_in (at_attempt w)) (at_attempt w).roots) j p ≡ x → place_at (after (attempt a) w).roots j p ≡ x
+  world_place : (x : Option Place) → place_at
+      (ports_in a (damage_in (at_attempt w)) (at_attempt w).roots) j p ≡ x
+      → place_at (after (attempt a) w).roots j p ≡ x
   unfolding with_attempt
   world_place x e = ap (λ v. place_at v.roots j p) (made_is a w h.made) ∙ e
 
   pub setup_place_in : s.spec.silent ≡ false → (bytes : List ℕ) → IsSetup a bytes
       → place_at (after (attempt a) w).roots j p
-      ≡ Some (full b (setup_alone a (damage_in (at_attempt w)) (at_attempt w).roots (deep_at false p) s (row_of below) bytes).1 (acted (setup_asked a (damage_in (at_attempt w)) (deep_at false p) s bytes) below))
+      ≡ Some (full b (setup_alone a (damage_in (at_attempt w)) (at_attempt w).roots
+      (deep_at false p) s (row_of below) bytes).1
+      (acted (setup_asked a (damage_in (at_attempt w)) (deep_at false p) s bytes) below))
   setup_place_in loud bytes i =
-      world_place (Some (full b (setup_alone a (damage_in (at_attempt w)) (at_attempt w).roots (deep_at false p) s (row_of below) bytes).1 (acted (setup_asked a (damage_in (at_attempt w)) (deep_at false p) s bytes) below)))
+      world_place (Some (full b (setup_alone a (damage_in (at_attempt w)) (at_attempt w).roots
+      (deep_at false p) s (row_of below) bytes).1
+      (acted (setup_asked a (damage_in (at_attempt w)) (deep_at false p) s bytes) below)))
       (setup_place a (damage_in (at_attempt w)) (at_attempt w).roots there loud bytes i)
 
   pub out_place_in : s.spec.silent ≡ false → (t : Toggle) (bytes : List ℕ) → IsOut a t bytes
-      → place_at (after (attempt a) w).roots j p ≡ Some (full b (out_alone a (damage_in (at_attempt w)) (at_attempt w).roots (deep_at false p) s t bytes).1 below)
+      → place_at (after (attempt a) w).roots j p
+      ≡ Some (full b (out_alone a (damage_in (at_attempt w)) (at_attempt w).roots
+      (deep_at false p) s t bytes).1 below)
   out_place_in loud t bytes i =
-      world_place (Some (full b (out_alone a (damage_in (at_attempt w)) (at_attempt w).roots (deep_at false p) s t bytes).1 below))
+      world_place (Some (full b (out_alone a (damage_in (at_attempt w)) (at_attempt w).roots
+      (deep_at false p) s t bytes).1 below))
       (out_place a (damage_in (at_attempt w)) (at_attempt w).roots there loud t bytes i)
 
   pub in_place_in : s.spec.silent ≡ false → IsIn a
-      → place_at (after (attempt a) w).roots j p ≡ Some (full b (in_alone a (damage_in (at_attempt w)) (at_attempt w).roots (deep_at false p) s (row_of below)).1 below)
+      → place_at (after (attempt a) w).roots j p
+      ≡ Some (full b (in_alone a (damage_in (at_attempt w)) (at_attempt w).roots
+      (deep_at false p) s (row_of below)).1 below)
   in_place_in loud i =
-      world_place (Some (full b (in_alone a (damage_in (at_attempt w)) (at_attempt w).roots (deep_at false p) s (row_of below)).1 below))
+      world_place (Some (full b (in_alone a (damage_in (at_attempt w)) (at_attempt w).roots
+      (deep_at false p) s (row_of below)).1 below))
       (in_place a (damage_in (at_attempt w)) (at_attempt w).roots there loud i)
 
-  pub silent_place_in : s.spec.silent ≡ true → place_at (after (attempt a) w).roots j p ≡ Some (full b s below)
-  silent_place_in silent = world_place (Some (full b s below)) (silent_place a (damage_in (at_attempt w)) (at_attempt w).roots there silent)
+  pub silent_place_in : s.spec.silent ≡ true → place_at (after (attempt a) w).roots j p
+      ≡ Some (full b s below)
+  silent_place_in silent = world_place (Some (full b s below))
+      (silent_place a (damage_in (at_attempt w)) (at_attempt w).roots there silent)

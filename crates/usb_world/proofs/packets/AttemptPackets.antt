@@ -16,7 +16,8 @@ use Rattle.usb_device.specs.Attempt.{is_own}
 use Rattle.usb_device.specs.Effect.{asks}
 use Rattle.usb_device.specs.Tree.{Ports, ended, vacant, taken, full, all_off, acted, row_of}
 use Rattle.usb_device.specs.Tree.{reach_at, state_at, port_at, place_at}
-use Rattle.usb_device.specs.Delivery.{hears, reply_to, answer_of, asked_by, effect_of, after_packet, all_forgotten}
+use Rattle.usb_device.specs.Delivery.{hears, reply_to, answer_of, asked_by, effect_of, after_packet}
+use Rattle.usb_device.specs.Delivery.{all_forgotten}
 use Rattle.usb_device.specs.View.{forgotten_place}
 use Rattle.usb_world.specs.declared.wire.Mark.{Mark}
 use Rattle.usb_world.specs.declared.wire.Mark.TheVariants as mark
@@ -24,7 +25,9 @@ use Rattle.usb_world.specs.Exchange.{sent_as}
 use Rattle.usb_tree.specs.Paths.{has_power_at, pending_at}
 use Rattle.usb_tree.specs.WayEffects.{IsNew, effect_resets, effect_keeps_pending}
 use Rattle.usb_world.specs.SanePorts.{Consistent}
-use Rattle.usb_tree.specs.AttemptPackets.{after_sent, after_attempt, calls_on, IsTokenFor, IsAckOut, IfOut, IsAttemptAt, sent_resets, sent_keeps_pending, attempt_resets, attempt_keeps_pending, IsSettled}
+use Rattle.usb_tree.specs.AttemptPackets.{after_sent, after_attempt, calls_on, IsTokenFor, IsAckOut}
+use Rattle.usb_tree.specs.AttemptPackets.{IfOut, IsAttemptAt, sent_resets, sent_keeps_pending}
+use Rattle.usb_tree.specs.AttemptPackets.{attempt_resets, attempt_keeps_pending, IsSettled}
 use Rattle.usb_tree.proofs.Interface.{false_true}
 use Rattle.usb_tree.proofs.Interface.{spares_if, resets_if}
 use Rattle.usb_world.proofs.packets.PacketEffects.{packet_way, packet_kept}
@@ -42,10 +45,15 @@ IsCalmContent c = (s : State) → asked_by c s ≡ Leaves
 
 calm_content : (q : Sent) → IsCalmContent q.content → IsCalm q
 unfolding effect_of
-calm_content q c deep s = elim (hears q deep s) as (λ x. (if x then asked_by q.content s else Leaves) ≡ Leaves) [ true ↦ c s | false ↦ refl ]
+calm_content q c deep s = elim (hears q deep s)
+    as (λ x. (if x then asked_by q.content s else Leaves) ≡ Leaves) [ true ↦ c s | false ↦ refl ]
 
 pub silent_calm : (s : State) → (if s.spec.silent then Leaves else Leaves) ≡ Leaves
-silent_calm s = elim s.spec.silent as (λ x. (if x then Leaves else Leaves) ≡ Leaves) [ true ↦ refl | false ↦ refl ]
+silent_calm s = elim s.spec.silent as (λ x. (if x then Leaves else Leaves) ≡ Leaves) [
+  | true ↦
+      refl
+  | false ↦ refl
+]
 
 token_calm : (n : ℕ) (c : Content) → IsTokenFor n c → IsCalmContent c
 unfolding asks
@@ -75,7 +83,8 @@ CalmOut None = Unit {0}
 CalmOut (Some q) = IsCalm q
 
 -- what is so of a packet of the host, and of bytes that spell none, is so of what goes out of it
-pub sent_out : (P : Content → Type 0) → P Broken → (l pre : Bool) (m : Mark) (p : Packet) → P (Whole p) → IfOut P (sent_as l pre m p)
+pub sent_out : (P : Content → Type 0) → P Broken → (l pre : Bool) (m : Mark) (p : Packet)
+    → P (Whole p) → IfOut P (sent_as l pre m p)
 sent_out P e l pre mark.Whole p h = h
 sent_out P e l pre mark.Lost p h = tt
 sent_out P e l pre mark.PreLost p h = h
@@ -89,23 +98,27 @@ pub ack_out : (o : Option Sent) → IfOut IsAckOut o → CalmOut o
 ack_out None h = tt
 ack_out (Some q) h = calm_content q (ack_calm q.content h)
 
-pub calm_sent : (o : Option Sent) → CalmOut o → (k : Ports) (j : ℕ) (p : List ℕ) → sent_resets o k j p ≡ false
+pub calm_sent : (o : Option Sent) → CalmOut o → (k : Ports) (j : ℕ) (p : List ℕ)
+    → sent_resets o k j p ≡ false
 calm_sent None c k j p = refl
 calm_sent (Some q) c k j p =
     resets_if q false k j p (λ e m r t z at dp a. ap (λ x. effect_resets x a m r) (c dp t))
 
-calm_sent_spares : (o : Option Sent) → CalmOut o → (k : Ports) (j : ℕ) (p : List ℕ) → sent_keeps_pending o k j p ≡ true
+calm_sent_spares : (o : Option Sent) → CalmOut o → (k : Ports) (j : ℕ) (p : List ℕ)
+    → sent_keeps_pending o k j p ≡ true
 calm_sent_spares None c k j p = refl
 calm_sent_spares (Some q) c k j p =
     spares_if q false k j p (λ e m r t z at dp. ap (λ x. effect_keeps_pending x m r) (c dp t))
 
 -- One packet
 
-pub sent_reach : (o : Option Sent) (k : Ports) (j : ℕ) (p : List ℕ) → sent_resets o k j p ≡ false → reach_at (after_sent o k) j p ≡ true → reach_at k j p ≡ true
+pub sent_reach : (o : Option Sent) (k : Ports) (j : ℕ) (p : List ℕ) → sent_resets o k j p ≡ false
+    → reach_at (after_sent o k) j p ≡ true → reach_at k j p ≡ true
 sent_reach None k j p f h = h
 sent_reach (Some q) k j p f h = (packet_way q false k j p).1 f h
 
-sent_new : (o : Option Sent) (k : Ports) (j : ℕ) (p : List ℕ) → sent_resets o k j p ≡ true → IsNew (place_at (after_sent o k) j p)
+sent_new : (o : Option Sent) (k : Ports) (j : ℕ) (p : List ℕ) → sent_resets o k j p ≡ true
+    → IsNew (place_at (after_sent o k) j p)
 sent_new None k j p h = false_true h
 sent_new (Some q) k j p h = (packet_way q false k j p).2 h
 
@@ -124,7 +137,8 @@ pub forgotten_off : (k : Ports) → all_off (all_forgotten k) ≡ all_forgotten 
 unfolding all_forgotten all_off
 forgotten_off ended = refl
 forgotten_off (vacant b k) = ap (vacant (powered_off b)) (forgotten_off k)
-forgotten_off (taken b s a k) = ap (taken (powered_off b) (forgotten s) (all_forgotten a)) (forgotten_off k)
+forgotten_off (taken b s a k) = ap (taken (powered_off b) (forgotten s) (all_forgotten a))
+    (forgotten_off k)
 
 -- the way to a path where each device has forgotten what it remembered
 abbrev ForgottenWay : Ports → ℕ → List ℕ → Type 0
@@ -169,13 +183,17 @@ unfolding all_forgotten
 forgotten_twice ended = refl
 forgotten_twice (vacant b k) = ap (vacant b) (forgotten_twice k)
 forgotten_twice (taken b s a k) =
-    ap (λ x. taken b (forgotten s) x (all_forgotten (all_forgotten k))) (forgotten_twice a) ∙ ap (taken b (forgotten s) (all_forgotten a)) (forgotten_twice k)
+    ap (λ x. taken b (forgotten s) x (all_forgotten (all_forgotten k))) (forgotten_twice a)
+    ∙ ap (taken b (forgotten s) (all_forgotten a)) (forgotten_twice k)
 
 -- A device that remembers nothing stays as it is at what is no token for it
 
-rested_received : (p : Packet) (s : State) (row : List PortState) (m : RememberedPacket) → s.memory ≡ m → m ≡ Nothing → is_own s p ≡ false → answered (forgotten s) row m p ≡ (None, s)
-rested_received (Token kind a e) s row m eq n own = rw own (ap (λ x. (None, x)) (forgotten-nothing s (eq ∙ n)))
-rested_received (Payload t b) s row m eq n own = rw n (ap (λ x. (None, x)) (forgotten-nothing s (eq ∙ n)))
+rested_received : (p : Packet) (s : State) (row : List PortState) (m : RememberedPacket)
+    → s.memory ≡ m → m ≡ Nothing → is_own s p ≡ false → answered (forgotten s) row m p ≡ (None, s)
+rested_received (Token kind a e) s row m eq n own =
+    rw own (ap (λ x. (None, x)) (forgotten-nothing s (eq ∙ n)))
+rested_received (Payload t b) s row m eq n own =
+    rw n (ap (λ x. (None, x)) (forgotten-nothing s (eq ∙ n)))
 rested_received Ack s row m eq n own = rw n (ap (λ x. (None, x)) (forgotten-nothing s (eq ∙ n)))
 rested_received (Sof f) s row m eq n own = ap (λ x. (None, x)) (forgotten-nothing s (eq ∙ n))
 rested_received Nak s row m eq n own = ap (λ x. (None, x)) (forgotten-nothing s (eq ∙ n))
@@ -185,11 +203,13 @@ rested_received Pre s row m eq n own = ap (λ x. (None, x)) (forgotten-nothing s
 abbrev forgotten_reply : State → Reply
 forgotten_reply s = (None, s)
 
-pub rested_reply : (c : Content) (s : State) (row : List PortState) → s.memory ≡ Nothing → calls_on c s ≡ false → reply_to c s row ≡ (None, s)
+pub rested_reply : (c : Content) (s : State) (row : List PortState) → s.memory ≡ Nothing
+    → calls_on c s ≡ false → reply_to c s row ≡ (None, s)
 unfolding received unread
 rested_reply (Whole p) s row n own = heard s.spec.silent
   where
-    heard : (x : Bool) → (if x then (None, s) else answered (forgotten s) row s.memory p) ≡ (None, s)
+    heard : (x : Bool) → (if x then (None, s) else answered (forgotten s) row s.memory p)
+        ≡ (None, s)
     heard true = refl
     heard false = rested_received p s row s.memory refl n own
 rested_reply Broken s row n own = heard s.spec.silent
@@ -198,9 +218,15 @@ rested_reply Broken s row n own = heard s.spec.silent
     heard true = refl
     heard false = ap forgotten_reply (forgotten-nothing s n)
 
-pub rested_answer : (q : Sent) (deep : Bool) (s : State) (a : Ports) → s.memory ≡ Nothing → calls_on q.content s ≡ false → answer_of q deep s a ≡ (None, s)
+pub rested_answer : (q : Sent) (deep : Bool) (s : State) (a : Ports) → s.memory ≡ Nothing
+    → calls_on q.content s ≡ false → answer_of q deep s a ≡ (None, s)
 unfolding answer_of
-rested_answer q deep s a n own = elim (hears q deep s) as (λ x. (if x then reply_to q.content s (row_of a) else (None, s)) ≡ (None, s)) [ true ↦ rested_reply q.content s (row_of a) n own | false ↦ refl ]
+rested_answer q deep s a n own = elim (hears q deep s)
+    as (λ x. (if x then reply_to q.content s (row_of a) else (None, s)) ≡ (None, s)) [
+      | true ↦
+          rested_reply q.content s (row_of a) n own
+      | false ↦ refl
+    ]
 
 pub ack_calls : (c : Content) (s : State) → IsAckOut c → calls_on c s ≡ false
 ack_calls (Whole Ack) s h = refl
@@ -220,7 +246,8 @@ off_unreached q deep (vacant b k) = ap (vacant (powered_off b)) (off_unreached q
 off_unreached q deep (taken b s a k) = ap (taken (powered_off b) s a) (off_unreached q deep k)
 
 -- the host's ACK leaves a new device new
-ack_new : (q : Sent) → IsAckOut q.content → (deep : Bool) (k : Ports) (j : ℕ) (p : List ℕ) → IsNew (place_at k j p) → IsNew (place_at (after_packet q deep k) j p)
+ack_new : (q : Sent) → IsAckOut q.content → (deep : Bool) (k : Ports) (j : ℕ) (p : List ℕ)
+    → IsNew (place_at k j p) → IsNew (place_at (after_packet q deep k) j p)
 unfolding after_packet place_at
 ack_new q c deep ended j p h = h
 ack_new q c deep (vacant b k) zero [] h = h
@@ -231,46 +258,62 @@ ack_new q c deep (taken b s a k) zero [] h = split b.enable
     same : after_packet q true a ≡ a
     same = ap (after_packet q true) (sym h.3) ∙ off_unreached q true a ∙ h.3
 
-    new_still : (r : Reply) (e : Effect) (x : Ports) → r ≡ (None, s) → e ≡ Leaves → x ≡ a → IsNew (Some (full b r.1 (acted e x)))
+    new_still : (r : Reply) (e : Effect) (x : Ports) → r ≡ (None, s) → e ≡ Leaves → x ≡ a
+        → IsNew (Some (full b r.1 (acted e x)))
     new_still r e x y z w = rw (y, z, w) h
 
-    split : (x : Bool) → IsNew (place_at (if x then taken b (answer_of q deep s a).1 (acted (effect_of q deep s) (after_packet q true a)) (after_packet q deep k) else taken b s a (after_packet q deep k)) zero [])
-    split true = new_still (answer_of q deep s a) (effect_of q deep s) (after_packet q true a) (rested_answer q deep s a h.2 (ack_calls q.content s c)) (calm_content q (ack_calm q.content c) deep s) same
+    split : (x : Bool) → IsNew (place_at (if x then taken b (answer_of q deep s a).1
+        (acted (effect_of q deep s) (after_packet q true a)) (after_packet q deep k) else taken
+        b s a (after_packet q deep k)) zero [])
+    split true = new_still (answer_of q deep s a) (effect_of q deep s) (after_packet q true a)
+        (rested_answer q deep s a h.2 (ack_calls q.content s c))
+        (calm_content q (ack_calm q.content c) deep s) same
     split false = h
 ack_new q c deep (taken b s a k) zero (zero ∷ p) h = elim h [ ]
 ack_new q c deep (taken b s a k) zero (suc j ∷ p) h = split b.enable (ack_new q c true a j p h)
   where
-    below : (e : Effect) (x : Ports) → e ≡ Leaves → IsNew (place_at x j p) → IsNew (place_at (acted e x) j p)
+    below : (e : Effect) (x : Ports) → e ≡ Leaves → IsNew (place_at x j p)
+        → IsNew (place_at (acted e x) j p)
     below e x y g = rw y g
 
     split : (x : Bool) → IsNew (place_at (after_packet q true a) j p)
-        → IsNew (place_at (if x then taken b (answer_of q deep s a).1 (acted (effect_of q deep s) (after_packet q true a)) (after_packet q deep k) else taken b s a (after_packet q deep k)) zero (suc j ∷ p))
-    split true g = below (effect_of q deep s) (after_packet q true a) (calm_content q (ack_calm q.content c) deep s) g
+        → IsNew (place_at (if x then taken b (answer_of q deep s a).1
+        (acted (effect_of q deep s) (after_packet q true a)) (after_packet q deep k)
+        else taken b s a (after_packet q deep k)) zero (suc j ∷ p))
+    split true g = below (effect_of q deep s) (after_packet q true a)
+        (calm_content q (ack_calm q.content c) deep s) g
     split false g = h
 ack_new q c deep (taken b s a k) (suc j) p h = split b.enable (ack_new q c deep k j p h)
   where
     split : (x : Bool) → IsNew (place_at (after_packet q deep k) j p)
-        → IsNew (place_at (if x then taken b (answer_of q deep s a).1 (acted (effect_of q deep s) (after_packet q true a)) (after_packet q deep k) else taken b s a (after_packet q deep k)) (suc j) p)
+        → IsNew (place_at (if x then taken b (answer_of q deep s a).1
+        (acted (effect_of q deep s) (after_packet q true a)) (after_packet q deep k)
+        else taken b s a (after_packet q deep k)) (suc j) p)
     split true g = g
     split false g = g
 
-ack_sent_new : (o : Option Sent) → IfOut IsAckOut o → (k : Ports) (j : ℕ) (p : List ℕ) → IsNew (place_at k j p) → IsNew (place_at (after_sent o k) j p)
+ack_sent_new : (o : Option Sent) → IfOut IsAckOut o → (k : Ports) (j : ℕ) (p : List ℕ)
+    → IsNew (place_at k j p) → IsNew (place_at (after_sent o k) j p)
 ack_sent_new None c k j p h = h
 ack_sent_new (Some q) c k j p h = ack_new q c false k j p h
 
 -- An attempt
 
 -- who is reachable after an attempt that does not reset it was so before
-pub attempt_reach : (n : ℕ) (t d r : Option Sent) → IsAttemptAt n t d r → (k : Ports) (j : ℕ) (p : List ℕ)
-    → attempt_resets t d k j p ≡ false → reach_at (after_attempt t d r k) j p ≡ true → reach_at k j p ≡ true
+pub attempt_reach : (n : ℕ) (t d r : Option Sent) → IsAttemptAt n t d r
+    → (k : Ports) (j : ℕ) (p : List ℕ)
+    → attempt_resets t d k j p ≡ false → reach_at (after_attempt t d r k) j p ≡ true
+    → reach_at k j p ≡ true
 attempt_reach n t d r is k j p f h =
     sent_reach t k j p (calm_sent t (token_out n t is.token) k j p)
     (sent_reach d (after_sent t k) j p f
-    (sent_reach r (after_sent d (after_sent t k)) j p (calm_sent r (ack_out r is.reply) (after_sent d (after_sent t k)) j p)
+    (sent_reach r (after_sent d (after_sent t k)) j p
+    (calm_sent r (ack_out r is.reply) (after_sent d (after_sent t k)) j p)
     (sym (forgotten_ports (after_sent r (after_sent d (after_sent t k))) j p).0 ∙ h)))
 
 -- a device that an attempt resets is new after it
-pub attempt_new : (n : ℕ) (t d r : Option Sent) → IsAttemptAt n t d r → (k : Ports) (j : ℕ) (p : List ℕ)
+pub attempt_new : (n : ℕ) (t d r : Option Sent) → IsAttemptAt n t d r
+    → (k : Ports) (j : ℕ) (p : List ℕ)
     → attempt_resets t d k j p ≡ true → IsNew (place_at (after_attempt t d r k) j p)
 attempt_new n t d r is k j p h =
     (forgotten_way (after_sent r (after_sent d (after_sent t k))) j p).3
@@ -289,8 +332,10 @@ attempt_kept n t d r is k j p f =
     let same : _ = forgotten_ports (after_sent r (after_sent d (after_sent t k))) j p in
     (λ h. same.1 ∙ third.0 (second.0 (first.0 h)), λ h. same.2 ∙ third.1 (second.1 (first.1 h)))
 
-pub attempt_sane : (t d r : Option Sent) (k : Ports) → Consistent k → Consistent (after_attempt t d r k)
-attempt_sane t d r k h = sane_forgotten (after_sent r (after_sent d (after_sent t k))) (sent_sane r (after_sent d (after_sent t k)) (sent_sane d (after_sent t k) (sent_sane t k h)))
+pub attempt_sane : (t d r : Option Sent) (k : Ports) → Consistent k
+    → Consistent (after_attempt t d r k)
+attempt_sane t d r k h = sane_forgotten (after_sent r (after_sent d (after_sent t k)))
+    (sent_sane r (after_sent d (after_sent t k)) (sent_sane d (after_sent t k) (sent_sane t k h)))
 
 pub after_attempt-settled : (t d r : Option Sent) (k : Ports) → IsSettled (after_attempt t d r k)
 after_attempt-settled t d r k = forgotten_twice (after_sent r (after_sent d (after_sent t k)))

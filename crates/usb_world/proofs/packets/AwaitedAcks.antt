@@ -1,5 +1,7 @@
 -- Which packets leave no device that awaits the ACK at which it would take an address.
-use Rattle.std.proofs.Common.{◌≡◌, ℕ, zero, suc, ◌==◌, ◌&&◌, ◌||◌, if◌then◌else◌, Bool, true, false, List, [], length, Option, None, Some, ◌⊎◌, inl, inr, refl, ap, sym, ◌∙◌, arith}
+use Rattle.std.proofs.Common.{◌≡◌, ℕ, zero, suc, ◌==◌, ◌&&◌, ◌||◌, if◌then◌else◌, Bool, true, false}
+use Rattle.std.proofs.Common.{List, [], length, Option, None, Some, ◌⊎◌, inl, inr, refl, ap, sym}
+use Rattle.std.proofs.Common.{◌∙◌, arith}
 use Rattle.usb_packet.specs.declared.Toggle.{Toggle}
 use Rattle.usb_packet.specs.declared.Toggle.TheVariants.{Zero}
 use Rattle.usb_packet.specs.declared.TokenKind.{TokenKind}
@@ -20,9 +22,13 @@ use Rattle.usb_device.specs.declared.transfer.RememberedPacket.{RememberedPacket
 use Rattle.usb_device.specs.declared.transfer.RememberedPacket.TheVariants.{SetupSeen, OutSeen}
 use Rattle.usb_port.specs.Calls.{called_port, is_reset}
 use Rattle.usb_device.specs.Request.{Outcome, outcome}
-use Rattle.usb_device.specs.Rows.{State, Reply, received, unread, answered, forgotten, reset_state, accepted, begun, payload_row, data_row, in_other_row, after_memory, awaits_control, ends_with_address, awaits_address}
-use Rattle.usb_device.specs.Tree.{Ports, ended, vacant, taken, before, all_off, acted, called, reset_where, changed_at, row_of}
-use Rattle.usb_device.specs.Delivery.{is_heard, hears, reply_to, answer_of, effect_of, after_packet, has_loss}
+use Rattle.usb_device.specs.Rows.{State, Reply, received, unread, answered, forgotten, reset_state}
+use Rattle.usb_device.specs.Rows.{accepted, begun, payload_row, data_row, in_other_row}
+use Rattle.usb_device.specs.Rows.{after_memory, awaits_control, ends_with_address, awaits_address}
+use Rattle.usb_device.specs.Tree.{Ports, ended, vacant, taken, before, all_off, acted, called}
+use Rattle.usb_device.specs.Tree.{reset_where, changed_at, row_of}
+use Rattle.usb_device.specs.Delivery.{is_heard, hears, reply_to, answer_of, effect_of, after_packet}
+use Rattle.usb_device.specs.Delivery.{has_loss}
 use Rattle.usb_tree.specs.AttemptPackets.{after_sent, IfOut, IsDataOut, IsAckOut}
 use Rattle.usb_tree.proofs.Interface.{neither}
 use Rattle.usb_world.proofs.courses.StepInvariants.{Rests}
@@ -38,7 +44,8 @@ abbrev pub IsNoControlIn : Packet → Type 0
 IsNoControlIn (Token InTok a e) = (e == 0) ≡ false
 IsNoControlIn p = Unit {0}
 
-memory_if : (x : Bool) (r t : Reply) → AwaitsNone r.1 → AwaitsNone t.1 → AwaitsNone (if x then r else t).1
+memory_if : (x : Bool) (r t : Reply) → AwaitsNone r.1 → AwaitsNone t.1
+    → AwaitsNone (if x then r else t).1
 memory_if true r t h g = h
 memory_if false r t h g = g
 
@@ -49,8 +56,11 @@ module _ (d : State) (row : List PortState) (h : AwaitsNone d) where
   memory_data : (e : ℕ) (t : Toggle) (b : List ℕ) → AwaitsNone (data_row d e t b).1
   memory_data e t b = grind arith
 
-  memory_payload : (m : RememberedPacket) (t : Toggle) (b : List ℕ) → AwaitsNone (payload_row d row m t b).1
-  memory_payload SetupSeen Zero b = memory_if (length b == 8) (Some answer.Ack, accepted d row (setup_of b)) (None, d) (memory_begun (setup_of b).length (outcome d.spec d.registers (setup_of b))) h
+  memory_payload : (m : RememberedPacket) (t : Toggle) (b : List ℕ)
+      → AwaitsNone (payload_row d row m t b).1
+  memory_payload SetupSeen Zero b = memory_if (length b == 8)
+      (Some answer.Ack, accepted d row (setup_of b)) (None, d)
+      (memory_begun (setup_of b).length (outcome d.spec d.registers (setup_of b))) h
   memory_payload (OutSeen e) t b = memory_data e t b
   memory_payload m t b = h
 
@@ -61,10 +71,12 @@ module _ (d : State) (row : List PortState) (h : AwaitsNone d) where
   pub memory_ack : (m : RememberedPacket) → AwaitsNone (after_memory d m)
   memory_ack m = grind arith
 
-  memory_answered : (p : Packet) → IsNoControlIn p → (m : RememberedPacket) → AwaitsNone (answered d row m p).1
+  memory_answered : (p : Packet) → IsNoControlIn p → (m : RememberedPacket)
+      → AwaitsNone (answered d row m p).1
   memory_answered (Token OutTok a e) c m = grind arith
   memory_answered (Token SetupTok a e) c m = grind arith
-  memory_answered (Token InTok a e) c m = rw c (memory_if (a == d.registers.address) (in_other_row d row e) (None, d) (memory_in e) h)
+  memory_answered (Token InTok a e) c m =
+      rw c (memory_if (a == d.registers.address) (in_other_row d row e) (None, d) (memory_in e) h)
   memory_answered (Payload t b) c m = memory_payload m t b.items
   memory_answered packet.Ack c m = memory_ack m
   memory_answered p c m = h
@@ -90,14 +102,30 @@ ack_no_control_in Broken h = tt
 ack_no_control_in (Whole p) h = elim h [ ]
 
 -- a silent device is as it was
-none_awaited_reply : (c : Content) → ReadsNoControlIn c → (s : State) (row : List PortState) → awaits_address s ≡ false → awaits_address (reply_to c s row).1 ≡ false
+none_awaited_reply : (c : Content) → ReadsNoControlIn c → (s : State) (row : List PortState)
+    → awaits_address s ≡ false → awaits_address (reply_to c s row).1 ≡ false
 unfolding received unread
-none_awaited_reply (Whole p) c s row h = elim s.spec.silent as (λ x. awaits_address (if◌then◌else◌ {A = Reply} x (None, s) (answered (forgotten s) row s.memory p)).1 ≡ false) [ true ↦ h | false ↦ none_awaited _ (memory_answered (forgotten s) row refl p c s.memory) ]
-none_awaited_reply Broken c s row h = elim s.spec.silent as (λ x. awaits_address (if x then s else forgotten s) ≡ false) [ true ↦ h | false ↦ none_awaited (forgotten s) refl ]
+none_awaited_reply (Whole p) c s row h = elim s.spec.silent
+    as (λ x. awaits_address (if◌then◌else◌ {A = Reply} x (None, s)
+    (answered (forgotten s) row s.memory p)).1 ≡ false) [
+      | true ↦ h
+      | false ↦
+          none_awaited _ (memory_answered (forgotten s) row refl p c s.memory)
+    ]
+none_awaited_reply Broken c s row h = elim s.spec.silent
+    as (λ x. awaits_address (if x then s else forgotten s) ≡ false) [
+      | true ↦ h
+      | false ↦
+          none_awaited (forgotten s) refl
+    ]
 
-pub none_awaited_answer : (q : Sent) → ReadsNoControlIn q.content → (deep : Bool) (s : State) (a : Ports) → awaits_address s ≡ false → awaits_address (answer_of q deep s a).1 ≡ false
+pub none_awaited_answer : (q : Sent) → ReadsNoControlIn q.content
+    → (deep : Bool) (s : State) (a : Ports) → awaits_address s ≡ false
+    → awaits_address (answer_of q deep s a).1 ≡ false
 unfolding answer_of
-none_awaited_answer q c deep s a h = elim (hears q deep s) as (λ x. awaits_address (if◌then◌else◌ {A = Reply} x (reply_to q.content s (row_of a)) (None, s)).1 ≡ false) [ true ↦ none_awaited_reply q.content c s (row_of a) h | false ↦ h ]
+none_awaited_answer q c deep s a h = elim (hears q deep s)
+    as (λ x. awaits_address (if◌then◌else◌ {A = Reply} x (reply_to q.content s (row_of a))
+    (None, s)).1 ≡ false) [ true ↦ none_awaited_reply q.content c s (row_of a) h | false ↦ h ]
 
 -- what a device asks of its ports adds no loss
 
@@ -116,20 +144,27 @@ record NoLoss (s : State) (a k : Ports) : Type 0 where
   below : has_loss a ≡ false
   more : has_loss k ≡ false
 
-no_loss : (b : PortState) (s : State) (a k : Ports) → has_loss (taken b s a k) ≡ false → NoLoss s a k
+no_loss : (b : PortState) (s : State) (a k : Ports) → has_loss (taken b s a k) ≡ false
+    → NoLoss s a k
 unfolding has_loss
-no_loss b s a k h = let x : _ = neither (awaits_address s || has_loss a) (has_loss k) h in let y : _ = neither (awaits_address s) (has_loss a) x.0 in record { own = y.0; below = y.1; more = x.1 }
+no_loss b s a k h = let x : _ = neither (awaits_address s || has_loss a) (has_loss k) h in
+    let y : _ = neither (awaits_address s) (has_loss a) x.0 in
+    record { own = y.0; below = y.1; more = x.1 }
 
-loss_changed : (c : PortCall) (k : Ports) (i : ℕ) → has_loss k ≡ false → has_loss (changed_at (called c) k i []) ≡ false
+loss_changed : (c : PortCall) (k : Ports) (i : ℕ) → has_loss k ≡ false
+    → has_loss (changed_at (called c) k i []) ≡ false
 unfolding has_loss changed_at reset_state awaits_address
 loss_changed c ended i h = h
 loss_changed c (vacant b k) zero h = h
 loss_changed c (vacant b k) (suc i) h = loss_changed c k i h
-loss_changed c (taken b s a k) zero h = elim (is_reset c && (b.power && is_attached b.attached)) as (λ x. has_loss (before (reset_where x (called_port c b) s a) k) ≡ false) [
-  | true ↦ let l : _ = no_loss b s a k h in three_none false (has_loss (all_off a)) (has_loss k) refl (loss_off a ∙ l.below) l.more
-  | false ↦ h
-]
-loss_changed c (taken b s a k) (suc i) h = let l : _ = no_loss b s a k h in three_none _ _ _ l.own l.below (loss_changed c k i l.more)
+loss_changed c (taken b s a k) zero h = elim (is_reset c && (b.power && is_attached b.attached))
+    as (λ x. has_loss (before (reset_where x (called_port c b) s a) k) ≡ false) [
+      | true ↦ let l : _ = no_loss b s a k h in three_none false (has_loss (all_off a)) (has_loss k)
+          refl (loss_off a ∙ l.below) l.more
+      | false ↦ h
+    ]
+loss_changed c (taken b s a k) (suc i) h = let l : _ = no_loss b s a k h in
+    three_none _ _ _ l.own l.below (loss_changed c k i l.more)
 
 loss_acted : (e : Effect) (a : Ports) → has_loss a ≡ false → has_loss (acted e a) ≡ false
 loss_acted Leaves a h = h
@@ -138,20 +173,27 @@ loss_acted PortsOff a h = loss_off a ∙ h
 
 -- nor does a packet that is no IN of endpoint 0
 
-no_loss_packet : (q : Sent) → ReadsNoControlIn q.content → (deep : Bool) (k : Ports) → has_loss k ≡ false → has_loss (after_packet q deep k) ≡ false
+no_loss_packet : (q : Sent) → ReadsNoControlIn q.content → (deep : Bool) (k : Ports)
+    → has_loss k ≡ false → has_loss (after_packet q deep k) ≡ false
 unfolding has_loss after_packet
 no_loss_packet q c deep ended h = h
 no_loss_packet q c deep (vacant b k) h = no_loss_packet q c deep k h
 no_loss_packet q c deep (taken b s a k) h =
     let l : _ = no_loss b s a k h in
-    split b.enable l (loss_acted (effect_of q deep s) (after_packet q true a) (no_loss_packet q c true a l.below)) (no_loss_packet q c deep k l.more)
+    split b.enable l (loss_acted (effect_of q deep s) (after_packet q true a)
+    (no_loss_packet q c true a l.below)) (no_loss_packet q c deep k l.more)
   where
-    split : (x : Bool) → NoLoss s a k → has_loss (acted (effect_of q deep s) (after_packet q true a)) ≡ false → has_loss (after_packet q deep k) ≡ false
-        → has_loss (if x then taken b (answer_of q deep s a).1 (acted (effect_of q deep s) (after_packet q true a)) (after_packet q deep k) else taken b s a (after_packet q deep k)) ≡ false
+    split : (x : Bool) → NoLoss s a k
+        → has_loss (acted (effect_of q deep s) (after_packet q true a)) ≡ false
+        → has_loss (after_packet q deep k) ≡ false
+        → has_loss (if x then taken b (answer_of q deep s a).1
+        (acted (effect_of q deep s) (after_packet q true a)) (after_packet q deep k)
+        else taken b s a (after_packet q deep k)) ≡ false
     split true l f g = three_none _ _ _ (none_awaited_answer q c deep s a l.own) f g
     split false l f g = three_none _ _ _ l.own l.below g
 
-pub no_loss_sent : (o : Option Sent) → IfOut ReadsNoControlIn o → (k : Ports) → has_loss k ≡ false → has_loss (after_sent o k) ≡ false
+pub no_loss_sent : (o : Option Sent) → IfOut ReadsNoControlIn o → (k : Ports) → has_loss k ≡ false
+    → has_loss (after_sent o k) ≡ false
 no_loss_sent None c k h = h
 no_loss_sent (Some q) c k h = no_loss_packet q c false k h
 
@@ -160,53 +202,75 @@ pub rests_loss : (k : Ports) → Rests k → has_loss k ≡ false
 unfolding has_loss Rests
 rests_loss ended h = refl
 rests_loss (vacant b k) h = rests_loss k h
-rests_loss (taken b s a k) h = three_none _ _ _ (none_awaited s (ap awaits_control h.0)) (rests_loss a h.1) (rests_loss k h.2)
+rests_loss (taken b s a k) h = three_none _ _ _ (none_awaited s (ap awaits_control h.0))
+    (rests_loss a h.1) (rests_loss k h.2)
 
 -- A token and then an ACK, both whole: who hears the one hears the other
 
 abbrev pub whole_sent : Bool → Bool → Packet → Sent
 whole_sent low pre p = record { low = low; pre = pre; content = Whole p }
 
-answer_of-unheard : (q : Sent) (p : Packet) (deep : Bool) (s : State) (a : Ports) → q.content ≡ Whole p → (s.spec.silent ≡ true) ⊎ (hears q deep s ≡ false) → (answer_of q deep s a).1 ≡ s
+answer_of-unheard : (q : Sent) (p : Packet) (deep : Bool) (s : State) (a : Ports)
+    → q.content ≡ Whole p → (s.spec.silent ≡ true) ⊎ (hears q deep s ≡ false)
+    → (answer_of q deep s a).1 ≡ s
 unfolding answer_of received
 answer_of-unheard q p deep s a e (inl f) = grind arith
 answer_of-unheard q p deep s a e (inr f) = grind arith
 
 -- the ACK at a device that hears it, or awaits none
-pub ack_received : (s : State) (row : List PortState) → s.spec.silent ≡ false → awaits_address (received s row packet.Ack).1 ≡ false
+pub ack_received : (s : State) (row : List PortState) → s.spec.silent ≡ false
+    → awaits_address (received s row packet.Ack).1 ≡ false
 unfolding received
-ack_received s row loud = ap (λ x. awaits_address (if◌then◌else◌ {A = Reply} x (None, s) (answered (forgotten s) row s.memory packet.Ack)).1) loud ∙ none_awaited _ (memory_ack (forgotten s) row refl s.memory)
+ack_received s row loud = ap (λ x. awaits_address
+    (if◌then◌else◌ {A = Reply} x (None, s) (answered (forgotten s) row s.memory packet.Ack)).1)
+    loud ∙ none_awaited _ (memory_ack (forgotten s) row refl s.memory)
 
-ack_answer : (q : Sent) → q.content ≡ Whole packet.Ack → (deep : Bool) (s : State) (a : Ports) → ((s.spec.silent ≡ true) ⊎ (hears q deep s ≡ false) → awaits_address s ≡ false) → awaits_address (answer_of q deep s a).1 ≡ false
+ack_answer : (q : Sent) → q.content ≡ Whole packet.Ack → (deep : Bool) (s : State) (a : Ports)
+    → ((s.spec.silent ≡ true) ⊎ (hears q deep s ≡ false) → awaits_address s ≡ false)
+    → awaits_address (answer_of q deep s a).1 ≡ false
 unfolding answer_of received
-ack_answer q e deep s a f = rw e (by_hearing (hears q deep s) s.spec.silent f (ack_received s (row_of a)))
+ack_answer q e deep s a f = rw e (by_hearing (hears q deep s) s.spec.silent f
+    (ack_received s (row_of a)))
   where
-    by_hearing : (x y : Bool) → ((y ≡ true) ⊎ (x ≡ false) → awaits_address s ≡ false) → (y ≡ false → awaits_address (if y then (None, s) else answered (forgotten s) (row_of a) s.memory packet.Ack).1 ≡ false)
-        → awaits_address (if x then (if y then (None, s) else answered (forgotten s) (row_of a) s.memory packet.Ack) else (None, s)).1 ≡ false
+    by_hearing : (x y : Bool) → ((y ≡ true) ⊎ (x ≡ false) → awaits_address s ≡ false)
+        → (y ≡ false → awaits_address (if y then (None, s) else answered (forgotten s) (row_of a)
+        s.memory packet.Ack).1 ≡ false)
+        → awaits_address (if x then (if y then (None, s) else answered (forgotten s) (row_of a)
+        s.memory packet.Ack) else (None, s)).1 ≡ false
     by_hearing true true f g = f (inl refl)
     by_hearing true false f g = g refl
     by_hearing false y f g = f (inr refl)
 
-acked_answer : (low pre : Bool) (t : Packet) (deep : Bool) (s : State) (a x : Ports) → awaits_address s ≡ false
-    → awaits_address (answer_of (whole_sent low pre packet.Ack) deep (answer_of (whole_sent low pre t) deep s a).1 x).1 ≡ false
-acked_answer low pre t deep s a x h = ack_answer (whole_sent low pre packet.Ack) refl deep (answer_of (whole_sent low pre t) deep s a).1 x (λ y. ap awaits_address (answer_of-unheard (whole_sent low pre t) t deep s a refl (as_before y)) ∙ h)
+acked_answer : (low pre : Bool) (t : Packet) (deep : Bool) (s : State) (a x : Ports)
+    → awaits_address s ≡ false
+    → awaits_address (answer_of (whole_sent low pre packet.Ack) deep
+    (answer_of (whole_sent low pre t) deep s a).1 x).1 ≡ false
+acked_answer low pre t deep s a x h = ack_answer (whole_sent low pre packet.Ack) refl deep
+    (answer_of (whole_sent low pre t) deep s a).1 x
+    (λ y. ap awaits_address (answer_of-unheard (whole_sent low pre t) t deep s a refl (as_before y))
+    ∙ h)
   where
     spec : (answer_of (whole_sent low pre t) deep s a).1.spec ≡ s.spec
     spec = answer-spec (whole_sent low pre t) deep s a
 
-    as_before : ((answer_of (whole_sent low pre t) deep s a).1.spec.silent ≡ true) ⊎ (hears (whole_sent low pre packet.Ack) deep (answer_of (whole_sent low pre t) deep s a).1 ≡ false) → (s.spec.silent ≡ true) ⊎ (hears (whole_sent low pre t) deep s ≡ false)
+    as_before : ((answer_of (whole_sent low pre t) deep s a).1.spec.silent ≡ true)
+        ⊎ (hears (whole_sent low pre packet.Ack) deep (answer_of (whole_sent low pre t) deep s a).1
+        ≡ false) → (s.spec.silent ≡ true) ⊎ (hears (whole_sent low pre t) deep s ≡ false)
     as_before (inl y) = inl (ap (λ u. u.silent) (sym spec) ∙ y)
     as_before (inr y) = inr (ap (λ u. is_heard (whole_sent low pre t) deep u.low) (sym spec) ∙ y)
 
 -- after a token and an ACK nobody awaits what was not awaited before
-pub acked_loss : (low pre : Bool) (kind : TokenKind) (n e : ℕ) (deep : Bool) (k : Ports) → has_loss k ≡ false
-    → has_loss (after_packet (whole_sent low pre packet.Ack) deep (after_packet (whole_sent low pre (Token kind n e)) deep k)) ≡ false
+pub acked_loss : (low pre : Bool) (kind : TokenKind) (n e : ℕ) (deep : Bool) (k : Ports)
+    → has_loss k ≡ false
+    → has_loss (after_packet (whole_sent low pre packet.Ack) deep
+    (after_packet (whole_sent low pre (Token kind n e)) deep k)) ≡ false
 unfolding has_loss after_packet
 acked_loss low pre kind n e deep ended h = h
 acked_loss low pre kind n e deep (vacant b k) h = acked_loss low pre kind n e deep k h
 acked_loss low pre kind n e deep (taken b s a k) h =
     let l : _ = no_loss b s a k h in
-    split b.enable refl l (acked_loss low pre kind n e true a l.below) (acked_loss low pre kind n e deep k l.more)
+    split b.enable refl l (acked_loss low pre kind n e true a l.below)
+    (acked_loss low pre kind n e deep k l.more)
   where
     t : Sent
     t = whole_sent low pre (Token kind n e)
@@ -214,9 +278,15 @@ acked_loss low pre kind n e deep (taken b s a k) h =
     r : Sent
     r = whole_sent low pre packet.Ack
 
-    split : (x : Bool) → b.enable ≡ x → NoLoss s a k → has_loss (after_packet r true (after_packet t true a)) ≡ false → has_loss (after_packet r deep (after_packet t deep k)) ≡ false
-        → has_loss (after_packet r deep (if x then taken b (answer_of t deep s a).1 (acted (effect_of t deep s) (after_packet t true a)) (after_packet t deep k) else taken b s a (after_packet t deep k))) ≡ false
+    split : (x : Bool) → b.enable ≡ x → NoLoss s a k
+        → has_loss (after_packet r true (after_packet t true a)) ≡ false
+        → has_loss (after_packet r deep (after_packet t deep k)) ≡ false
+        → has_loss (after_packet r deep (if x then taken b (answer_of t deep s a).1
+        (acted (effect_of t deep s) (after_packet t true a)) (after_packet t deep k)
+        else taken b s a (after_packet t deep k))) ≡ false
     split true on l f g =
         rw (on, token_rests n (Some t) refl deep s)
-        (three_none _ _ _ (acked_answer low pre (Token kind n e) deep s a (after_packet t true a) l.own) (loss_acted (effect_of r deep (answer_of t deep s a).1) (after_packet r true (after_packet t true a)) f) g)
+        (three_none _ _ _ (acked_answer low pre (Token kind n e) deep s a (after_packet t true a)
+        l.own) (loss_acted (effect_of r deep (answer_of t deep s a).1)
+        (after_packet r true (after_packet t true a)) f) g)
     split false off l f g = rw off (three_none _ _ _ l.own l.below g)

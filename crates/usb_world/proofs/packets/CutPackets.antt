@@ -1,5 +1,6 @@
 -- What a refused packet leaves.
-use Rattle.std.proofs.Common.{◌≡◌, ℕ, if◌then◌else◌, Bool, true, false, Option, None, Some, is_some, refl, sym, subst, ap, ◌∙◌}
+use Rattle.std.proofs.Common.{◌≡◌, ℕ, if◌then◌else◌, Bool, true, false, Option, None, Some, is_some}
+use Rattle.std.proofs.Common.{refl, sym, subst, ap, ◌∙◌}
 use Rattle.arrayvec.specs.ArrayVec.{ArrayVec}
 use Rattle.usb_packet.specs.declared.Packet.{Packet}
 use Rattle.usb_packet.specs.declared.Packet.TheVariants as packet
@@ -23,15 +24,20 @@ use Rattle.usb_world.specs.declared.types.Attempt.{Attempt}
 use Rattle.usb_world.specs.declared.wire.Mark.{Mark}
 use Rattle.usb_world.specs.declared.wire.Mark.TheVariants.{Whole, Lost, PreLost, Flipped}
 use Rattle.usb_world.specs.Wire.{marked, marked_some, mark_of, harm_to}
-use Rattle.usb_world.specs.Exchange.{token_of, payload_of, goes_out, sent_as, token_out, payload_out}
+use Rattle.usb_world.specs.Exchange.{token_of, payload_of, goes_out, sent_as, token_out}
+use Rattle.usb_world.specs.Exchange.{payload_out}
 use Rattle.usb_tree.specs.AttemptPackets.{IfOut, IsDataOut, IsSettled, after_sent}
 use Rattle.usb_world.specs.World.{IsAttempt, sends_data}
 use Rattle.usb_world.specs.Steps.{IsCut}
 use Rattle.usb_tree.proofs.Interface.{false_true}
 use Rattle.usb_world.proofs.courses.StepInvariants.{Rests, rests}
 use Rattle.usb_world.proofs.courses.Courses.{goes}
-use Rattle.usb_world.proofs.ways.AlikeTrees.{SameDevices, alike_self, alike_joined, alike_vacant, alike_taken, alike_forgotten, stand_alike, self_of, StandAlike}
-use Rattle.usb_world.proofs.packets.MildPackets.{is_nothing, remembers_no_setup, no_out, any_memory, Mild, MildAnswer, mild_answer, mild_broken, mild_out, mild_setup, mild_data, grows_after_out}
+use Rattle.usb_world.proofs.ways.AlikeTrees.{SameDevices, alike_self, alike_joined, alike_vacant}
+use Rattle.usb_world.proofs.ways.AlikeTrees.{alike_taken, alike_forgotten, stand_alike, self_of}
+use Rattle.usb_world.proofs.ways.AlikeTrees.{StandAlike}
+use Rattle.usb_world.proofs.packets.MildPackets.{is_nothing, remembers_no_setup, no_out, any_memory}
+use Rattle.usb_world.proofs.packets.MildPackets.{Mild, MildAnswer, mild_answer, mild_broken}
+use Rattle.usb_world.proofs.packets.MildPackets.{mild_out, mild_setup, mild_data, grows_after_out}
 
 -- every device remembers such a thing
 unfoldable pub All : (RememberedPacket → Bool) → Ports → Type 0
@@ -45,7 +51,8 @@ all_nothing ended h = tt
 all_nothing (vacant b k) h = all_nothing k h
 all_nothing (taken b s a k) h = (ap is_nothing h.0, all_nothing a h.1, all_nothing k h.2)
 
-all_wider : {P Q : RememberedPacket → Bool} → ((m : RememberedPacket) → P m ≡ true → Q m ≡ true) → (k : Ports) → All P k → All Q k
+all_wider : {P Q : RememberedPacket → Bool} → ((m : RememberedPacket) → P m ≡ true → Q m ≡ true)
+    → (k : Ports) → All P k → All Q k
 unfolding All
 all_wider w ended h = tt
 all_wider w (vacant b k) h = all_wider w k h
@@ -57,43 +64,70 @@ pub record MildPacket (new : RememberedPacket → Bool) (k m : Ports) : Type 0 w
   pub all : All new m
   pub alike : SameDevices k m
 
-mild_taken : {new : RememberedPacket → Bool} (b : PortState) (s z : State) (e : Effect) (a c k m : Ports) → self_of z ≡ self_of s → new z.memory ≡ true → e ≡ Leaves
-    → MildPacket new a c → MildPacket new k m → MildPacket new (taken b s a k) (taken b z (acted e c) m)
+mild_taken : {new : RememberedPacket → Bool} (b : PortState) (s z : State) (e : Effect)
+    (a c k m : Ports) → self_of z ≡ self_of s → new z.memory ≡ true → e ≡ Leaves
+    → MildPacket new a c → MildPacket new k m
+    → MildPacket new (taken b s a k) (taken b z (acted e c) m)
 unfolding All
-mild_taken b s z e a c k m own after calm x y = rw calm (record { all = (after, x.all, y.all); alike = alike_taken b s z a c k m own x.alike y.alike })
+mild_taken b s z e a c k m own after calm x y =
+    rw calm (record {
+      all = (after, x.all, y.all);
+      alike =
+          alike_taken b s z a c k m own x.alike y.alike;
+    })
 
-pub mild_packet : {old new : RememberedPacket → Bool} (q : Sent) → Mild old new q.content → (deep : Bool) (k : Ports) → All old k → MildPacket new k (after_packet q deep k)
+pub mild_packet : {old new : RememberedPacket → Bool} (q : Sent) → Mild old new q.content
+    → (deep : Bool) (k : Ports) → All old k → MildPacket new k (after_packet q deep k)
 unfolding All after_packet
 mild_packet q c deep ended h = record { all = tt; alike = alike_self ended }
 mild_packet q c deep (vacant b k) h =
     let rest = mild_packet q c deep k h in
     record { all = rest.all; alike = alike_vacant b k (after_packet q deep k) rest.alike }
-mild_packet {old} {new} q c deep (taken b s a k) h = split b.enable (mild_packet q c true a h.1) (mild_packet q c deep k h.2)
+mild_packet {old} {new} q c deep (taken b s a k) h =
+    split b.enable (mild_packet q c true a h.1) (mild_packet q c deep k h.2)
   where
     reply : MildAnswer old new q deep s a
     reply = mild_answer q c deep s a h.0
 
-    split : (x : Bool) → MildPacket new a (after_packet q true a) → MildPacket new k (after_packet q deep k) → MildPacket new (taken b s a k) (if x then taken b (answer_of q deep s a).1 (acted (effect_of q deep s) (after_packet q true a)) (after_packet q deep k) else taken b s a (after_packet q deep k))
-    split true lower rest = mild_taken b s (answer_of q deep s a).1 (effect_of q deep s) a (after_packet q true a) k (after_packet q deep k) reply.own reply.after reply.calm lower rest
-    split false lower rest = mild_taken b s s Leaves a a k (after_packet q deep k) refl (c.wider s.memory h.0) refl (record { all = all_wider c.wider a h.1; alike = alike_self a }) rest
+    split : (x : Bool) → MildPacket new a (after_packet q true a)
+        → MildPacket new k (after_packet q deep k)
+        → MildPacket new (taken b s a k) (if x then taken b (answer_of q deep s a).1
+        (acted (effect_of q deep s) (after_packet q true a)) (after_packet q deep k) else taken b
+        s a (after_packet q deep k))
+    split true lower rest = mild_taken b s (answer_of q deep s a).1 (effect_of q deep s) a
+        (after_packet q true a) k (after_packet q deep k) reply.own reply.after reply.calm lower
+        rest
+    split false lower rest = mild_taken b s s Leaves a a k (after_packet q deep k) refl
+        (c.wider s.memory h.0) refl (record { all = all_wider c.wider a h.1; alike = alike_self a })
+        rest
 
 -- the same where it stopped on its way
-pub mild_stopped : {old new : RememberedPacket → Bool} (q : Sent) → Mild old new q.content → {deep : Bool} {k m : Ports} → Stopped q deep k m → All old k → SameDevices k m
+pub mild_stopped : {old new : RememberedPacket → Bool} (q : Sent) → Mild old new q.content
+    → {deep : Bool} {k m : Ports} → Stopped q deep k m → All old k → SameDevices k m
 unfolding All
 mild_stopped q w (behind_empty {deep} {k} {m} b st) h = alike_vacant b k m (mild_stopped q w st h)
-mild_stopped {old} {new} q w (behind {deep} {k} {m} b s a st) h = split b.enable (mild_stopped q w st h.2)
+mild_stopped {old} {new} q w (behind {deep} {k} {m} b s a st) h =
+    split b.enable (mild_stopped q w st h.2)
   where
     reply : MildAnswer old new q deep s a
     reply = mild_answer q w deep s a h.0
 
-    split : (x : Bool) → SameDevices k m → SameDevices (taken b s a k) (before (if x then on_port b (delivered_device q deep (record { own = s; ports = a })) else (NoAnswer, full b s a)).1 m)
-    split true rest = rw reply.calm (alike_taken b s (answer_of q deep s a).1 a (after_packet q true a) k m reply.own (mild_packet q w true a h.1).alike rest)
+    split : (x : Bool) → SameDevices k m
+        → SameDevices (taken b s a k) (before
+        (if x then on_port b (delivered_device q deep (record { own = s; ports = a }))
+        else (NoAnswer, full b s a)).1 m)
+    split true rest = rw reply.calm (alike_taken b s (answer_of q deep s a).1 a
+        (after_packet q true a) k m reply.own (mild_packet q w true a h.1).alike rest)
     split false rest = alike_taken b s s a a k m refl (alike_self a) rest
-mild_stopped q w (below {deep} {a} {c} b s k on st) h = alike_taken b s s a c k k refl (mild_stopped q w st h.1) (alike_self k)
-mild_stopped q w (here {deep} b s a k p on is heard grows) h = alike_taken b s s a (after_packet q true a) k k refl (mild_packet q w true a h.1).alike (alike_self k)
+mild_stopped q w (below {deep} {a} {c} b s k on st) h =
+    alike_taken b s s a c k k refl (mild_stopped q w st h.1) (alike_self k)
+mild_stopped q w (here {deep} b s a k p on is heard grows) h =
+    alike_taken b s s a (after_packet q true a) k k refl (mild_packet q w true a h.1).alike
+    (alike_self k)
 
 -- where no device remembers an OUT token, no packet stops
-pub stopped_after_out : {q : Sent} {deep : Bool} {k m : Ports} → Stopped q deep k m → All no_out k → ⊥
+pub stopped_after_out : {q : Sent} {deep : Bool} {k m : Ports} → Stopped q deep k m → All no_out k
+    → ⊥
 unfolding All
 stopped_after_out (behind_empty b st) h = stopped_after_out st h
 stopped_after_out (behind b s a st) h = stopped_after_out st h.2
@@ -107,30 +141,40 @@ abbrev MildOut : (RememberedPacket → Bool) → (RememberedPacket → Bool) →
 MildOut old new None = (m : RememberedPacket) → old m ≡ true → new m ≡ true
 MildOut old new (Some q) = Mild old new q.content
 
-mild_sent : (old new : RememberedPacket → Bool) (o : Option Sent) → MildOut old new o → (k : Ports) → All old k → MildPacket new k (after_sent o k)
+mild_sent : (old new : RememberedPacket → Bool) (o : Option Sent) → MildOut old new o → (k : Ports)
+    → All old k → MildPacket new k (after_sent o k)
 mild_sent old new None w k h = record { all = all_wider w k h; alike = alike_self k }
 mild_sent old new (Some q) c k h = mild_packet q c false k h
 
-sent_mild : {old new : RememberedPacket → Bool} (low pre : Bool) (mark : Mark) (p : Packet) → new Nothing ≡ true → Mild old new (content.Whole p) → MildOut old new (sent_as low pre mark p)
+sent_mild : {old new : RememberedPacket → Bool} (low pre : Bool) (mark : Mark) (p : Packet)
+    → new Nothing ≡ true → Mild old new (content.Whole p) → MildOut old new (sent_as low pre mark p)
 sent_mild low pre Whole p n c = c
 sent_mild low pre Lost p n c = c.wider
 sent_mild low pre PreLost p n c = c
 sent_mild low pre (Flipped bit) p n c = mild_broken c.wider n
 
-token_mild : {new : RememberedPacket → Bool} (a : Attempt) (d : Option Damage) → new Nothing ≡ true → Mild is_nothing new (content.Whole (packet.Token a.kind a.addr a.ep)) → MildOut is_nothing new (token_out a d)
+token_mild : {new : RememberedPacket → Bool} (a : Attempt) (d : Option Damage) → new Nothing ≡ true
+    → Mild is_nothing new (content.Whole (packet.Token a.kind a.addr a.ep))
+    → MildOut is_nothing new (token_out a d)
 unfolding token_of marked
-token_mild a d n c = sent_mild a.low a.pre (mark_of (harm_to d 1) a.pre (packet.Token a.kind a.addr a.ep)) (packet.Token a.kind a.addr a.ep) n c
+token_mild a d n c = sent_mild a.low a.pre
+    (mark_of (harm_to d 1) a.pre (packet.Token a.kind a.addr a.ep))
+    (packet.Token a.kind a.addr a.ep) n c
 
 -- IN sends no data
-payload_out-none : (a : Attempt) (d : Option Damage) → is_some a.payload ≡ false → payload_out a d ≡ None
+payload_out-none : (a : Attempt) (d : Option Damage) → is_some a.payload ≡ false
+    → payload_out a d ≡ None
 unfolding payload_of marked_some
 payload_out-none a d h = go a.payload h
   where
-    go : (o : Option (Toggle × ArrayVec ℕ)) → is_some o ≡ false → goes_out a (marked_some d 2 a.pre (elim o [ None ↦ None | Some p ↦ Some (packet.Payload p.0 p.1) ])) ≡ None
+    go : (o : Option (Toggle × ArrayVec ℕ)) → is_some o ≡ false
+        → goes_out a (marked_some d 2 a.pre
+        (elim o [ None ↦ None | Some p ↦ Some (packet.Payload p.0 p.1) ])) ≡ None
     go None g = refl
     go (Some x) g = false_true (sym g)
 
-module _ (a : Attempt) (d : Option Damage) (k m : Ports) (is : IsAttempt a) (settled : IsSettled k) (c : IsCut a d k m) where
+module _ (a : Attempt) (d : Option Damage) (k m : Ports) (is : IsAttempt a) (settled : IsSettled k)
+    (c : IsCut a d k m) where
   resting : All is_nothing k
   resting = all_nothing k (rests k settled)
 
@@ -143,18 +187,25 @@ module _ (a : Attempt) (d : Option Damage) (k m : Ports) (is : IsAttempt a) (set
     where
       kinds : (x : TokenKind) → a.kind ≡ x → a.kind ≡ OutTok
       kinds OutTok e = e
-      kinds InTok e = false_true (ap is_some (sym (payload_out-none a d (is.payload_sent ∙ ap sends_data e)) ∙ c.went))
+      kinds InTok e = false_true (ap is_some
+          (sym (payload_out-none a d (is.payload_sent ∙ ap sends_data e)) ∙ c.went))
       kinds SetupTok e =
-          let mild : Mild is_nothing no_out (content.Whole (packet.Token a.kind a.addr a.ep)) = rw e (mild_setup a.addr a.ep) in
-          absurd (stopped_after_out c.stopped (mild_sent is_nothing no_out (token_out a d) (token_mild a d refl mild) k resting).all)
+          let mild : Mild is_nothing no_out (content.Whole (packet.Token a.kind a.addr a.ep)) =
+          rw e (mild_setup a.addr a.ep) in
+          absurd (stopped_after_out c.stopped (mild_sent is_nothing no_out (token_out a d)
+          (token_mild a d refl mild) k resting).all)
 
   token_packet : MildPacket remembers_no_setup k (after_sent (token_out a d) k)
-  token_packet = mild_sent is_nothing remembers_no_setup (token_out a d) (token_mild a d refl (rw cut_kind (mild_out a.addr a.ep))) k resting
+  token_packet = mild_sent is_nothing remembers_no_setup (token_out a d)
+      (token_mild a d refl (rw cut_kind (mild_out a.addr a.ep))) k resting
 
   pub cut_alike : SameDevices k m
   cut_alike =
-      let tree : SameDevices (after_sent (token_out a d) k) c.tree = mild_stopped c.sent data_mild c.stopped token_packet.all in
-      subst (SameDevices k) (sym c.is) (alike_joined token_packet.alike (alike_joined tree (alike_forgotten c.tree)))
+      let tree : SameDevices (after_sent (token_out a d) k) c.tree =
+      mild_stopped c.sent data_mild c.stopped token_packet.all in
+      subst (SameDevices k) (sym c.is) (alike_joined token_packet.alike
+      (alike_joined tree (alike_forgotten c.tree)))
 
-pub cut_stand : (a : Attempt) (d : Option Damage) (k m : Ports) → IsAttempt a → IsSettled k → IsCut a d k m → StandAlike k m
+pub cut_stand : (a : Attempt) (d : Option Damage) (k m : Ports) → IsAttempt a → IsSettled k
+    → IsCut a d k m → StandAlike k m
 cut_stand a d k m is settled c = stand_alike k m (cut_alike a d k m is settled c)

@@ -6,14 +6,20 @@ use Rattle.usb_packet.specs.declared.Packet.TheVariants.{Payload}
 use Rattle.usb_packet.specs.declared.Packet.TheVariants as packet
 use Rattle.usb_packet.specs.declared.Toggle.{Toggle}
 use Rattle.usb_packet.specs.declared.Toggle.TheVariants.{Zero, One}
-use Rattle.usb_request.specs.Codes.{DEVICE, CONFIGURATION, STRING, HUB, GET_STATUS, CLEAR_FEATURE, SET_FEATURE, SET_ADDRESS, GET_DESCRIPTOR, GET_CONFIGURATION, SET_CONFIGURATION, DEVICE_IN, DEVICE_OUT, ENDPOINT_OUT, HUB_IN, PORT_IN, PORT_OUT}
-use Rattle.usb_request.specs.Features.{PORT_ENABLE, PORT_RESET, PORT_POWER, C_PORT_CONNECTION, C_PORT_ENABLE, C_PORT_RESET}
+use Rattle.usb_request.specs.Codes.{DEVICE, CONFIGURATION, STRING, HUB, GET_STATUS, CLEAR_FEATURE}
+use Rattle.usb_request.specs.Codes.{SET_FEATURE, SET_ADDRESS, GET_DESCRIPTOR, GET_CONFIGURATION}
+use Rattle.usb_request.specs.Codes.{SET_CONFIGURATION, DEVICE_IN, DEVICE_OUT, ENDPOINT_OUT, HUB_IN}
+use Rattle.usb_request.specs.Codes.{PORT_IN, PORT_OUT}
+use Rattle.usb_request.specs.Features.{PORT_ENABLE, PORT_RESET, PORT_POWER, C_PORT_CONNECTION}
+use Rattle.usb_request.specs.Features.{C_PORT_ENABLE, C_PORT_RESET}
 use Rattle.usb_request.specs.Requests.{descriptor_value}
 use Rattle.usb_request.specs.declared.setup.Setup.{Setup}
 use Rattle.usb_request.specs.Layout.{setup_of}
 use Rattle.usb_device.specs.declared.bulk.ServedEndpoint.{ServedEndpoint}
 use Rattle.usb_port.specs.declared.call.PortCall.{PortCall}
-use Rattle.usb_port.specs.declared.call.PortCall.TheVariants.{SetPower, SetReset, ClearEnable, ClearPower, ClearConnectionChange, ClearEnableChange, ClearResetChange}
+use Rattle.usb_port.specs.declared.call.PortCall.TheVariants.{SetPower, SetReset, ClearEnable}
+use Rattle.usb_port.specs.declared.call.PortCall.TheVariants.{ClearPower, ClearConnectionChange}
+use Rattle.usb_port.specs.declared.call.PortCall.TheVariants.{ClearEnableChange, ClearResetChange}
 use Rattle.usb_device.specs.declared.delivery.Content.{Content}
 use Rattle.usb_device.specs.declared.delivery.Content.TheVariants.{Whole, Broken}
 use Rattle.usb_device.specs.declared.delivery.Sent.{Sent}
@@ -21,10 +27,16 @@ use Rattle.usb_device.specs.declared.effect.Effect.{Effect}
 use Rattle.usb_device.specs.declared.effect.Effect.TheVariants.{Leaves, Calls, PortsOff}
 use Rattle.usb_device.specs.declared.request.Registers.{Registers}
 use Rattle.usb_device.specs.declared.transfer.RememberedPacket.{RememberedPacket}
-use Rattle.usb_device.specs.declared.transfer.RememberedPacket.TheVariants.{Nothing, SetupSeen, OutSeen, AckAwaited}
+use Rattle.usb_device.specs.declared.transfer.RememberedPacket.TheVariants.{Nothing, SetupSeen}
+use Rattle.usb_device.specs.declared.transfer.RememberedPacket.TheVariants.{OutSeen, AckAwaited}
 use Rattle.usb_device.specs.Spec.{Spec, Hub}
 use Rattle.usb_port.specs.Calls.{is_reset, set_call, clear_call}
-use Rattle.usb_device.specs.Request.{Outcome, stalled, answers, takes_address, takes_configuration, halts, unhalts, tells_port, calls_port, Is, unless, text_asked, asked_descriptor, asked_status, asked_address, asked_configuration, endpoint_of, on_endpoint, asked_hub_descriptor, port_named, told_port, called_at, asked_port_status, port_feature, outcome, is_value}
+use Rattle.usb_device.specs.Request.{Outcome, stalled, answers, takes_address, takes_configuration}
+use Rattle.usb_device.specs.Request.{halts, unhalts, tells_port, calls_port, Is, unless, text_asked}
+use Rattle.usb_device.specs.Request.{asked_descriptor, asked_status, asked_address}
+use Rattle.usb_device.specs.Request.{asked_configuration, endpoint_of, on_endpoint}
+use Rattle.usb_device.specs.Request.{asked_hub_descriptor, port_named, told_port, called_at}
+use Rattle.usb_device.specs.Request.{asked_port_status, port_feature, outcome, is_value}
 use Rattle.usb_device.specs.Rows.{State}
 use Rattle.usb_device.specs.Effect.{asks, asked_by_data, asked_by_setup, effect_of_request}
 use Rattle.usb_device.specs.Tree.{Ports}
@@ -45,27 +57,36 @@ abbrev asks_reset : Outcome → Bool
 asks_reset (calls_port c i) = is_reset c
 asks_reset o = false
 
-both_ways : (b : Bool) (x y : Outcome) → asks_reset x ≡ false → asks_reset y ≡ false → asks_reset (if b then x else y) ≡ false
+both_ways : (b : Bool) (x y : Outcome) → asks_reset x ≡ false → asks_reset y ≡ false
+    → asks_reset (if b then x else y) ≡ false
 both_ways true x y h g = h
 both_ways false x y h g = g
 
-by_text : (o : Option (List ℕ)) → asks_reset (elim o [ None ↦ stalled | Some text ↦ answers text ]) ≡ false
+by_text : (o : Option (List ℕ)) → asks_reset (elim o [ None ↦ stalled | Some text ↦ answers text ])
+    ≡ false
 by_text None = refl
 by_text (Some t) = refl
 
 by_descriptor : (s : Spec) (v : ℕ) → asks_reset (asked_descriptor s v) ≡ false
 by_descriptor s v =
-    both_ways (v == descriptor_value DEVICE 0) _ _ (both_ways s.stalls.device stalled (answers s.descriptor) refl refl)
-    (both_ways (v / 256 == CONFIGURATION) _ _ (both_ways s.stalls.config stalled (text_asked s.configs (v % 256)) refl (by_text (slice_get s.configs (v % 256))))
-    (both_ways (v / 256 == STRING) _ _ (both_ways s.stalls.string stalled (text_asked s.strings (v % 256)) refl (by_text (slice_get s.strings (v % 256)))) refl))
+    both_ways (v == descriptor_value DEVICE 0) _ _
+    (both_ways s.stalls.device stalled (answers s.descriptor) refl refl)
+    (both_ways (v / 256 == CONFIGURATION) _ _
+    (both_ways s.stalls.config stalled (text_asked s.configs (v % 256)) refl
+    (by_text (slice_get s.configs (v % 256))))
+    (both_ways (v / 256 == STRING) _ _ (both_ways s.stalls.string stalled
+    (text_asked s.strings (v % 256)) refl (by_text (slice_get s.strings (v % 256)))) refl))
 
-on_endpoint-harmless : (f : ServedEndpoint → Outcome) → ((w : ServedEndpoint) → asks_reset (f w) ≡ false) → (o : Option ServedEndpoint) → asks_reset (on_endpoint f o) ≡ false
+on_endpoint-harmless : (f : ServedEndpoint → Outcome)
+    → ((w : ServedEndpoint) → asks_reset (f w) ≡ false) → (o : Option ServedEndpoint)
+    → asks_reset (on_endpoint f o) ≡ false
 on_endpoint-harmless f c None = refl
 on_endpoint-harmless f c (Some w) = c w
 
 by_hub : (o : Option Hub) (r : Setup) → asks_reset (asked_hub_descriptor o r) ≡ false
 by_hub None r = refl
-by_hub (Some hub) r = both_ways (r.value == descriptor_value HUB 0) (answers hub.descriptor) stalled refl refl
+by_hub (Some hub) r = both_ways (r.value == descriptor_value HUB 0) (answers hub.descriptor) stalled
+    refl refl
 
 by_status : (o : Option ℕ) → asks_reset (told_port o) ≡ false
 by_status None = refl
@@ -75,7 +96,8 @@ is_reset_some : Option PortCall → Bool
 is_reset_some None = false
 is_reset_some (Some c) = is_reset c
 
-by_call : (c : Option PortCall) (o : Option ℕ) → is_reset_some c ≡ false → asks_reset (called_at c o) ≡ false
+by_call : (c : Option PortCall) (o : Option ℕ) → is_reset_some c ≡ false
+    → asks_reset (called_at c o) ≡ false
 unfolding is_reset_some
 by_call None o h = refl
 by_call (Some x) None h = refl
@@ -85,16 +107,21 @@ set_resets : (v : ℕ) → is_reset_some (set_call v) ≡ (not (v == PORT_POWER)
 unfolding is_reset_some
 set_resets v = split (v == PORT_POWER) (v == PORT_RESET)
   where
-    split : (x y : Bool) → is_reset_some (if x then Some SetPower else if y then Some SetReset else None) ≡ (not x && y)
+    split : (x y : Bool) → is_reset_some (if x then Some SetPower else if y then Some SetReset
+        else None) ≡ (not x && y)
     split true y = refl
     split false true = refl
     split false false = refl
 
 clear_resets : (v : ℕ) → is_reset_some (clear_call v) ≡ false
 unfolding is_reset_some
-clear_resets v = split (v == PORT_ENABLE) (v == PORT_POWER) (v == C_PORT_CONNECTION) (v == C_PORT_ENABLE) (v == C_PORT_RESET)
+clear_resets v = split (v == PORT_ENABLE) (v == PORT_POWER) (v == C_PORT_CONNECTION)
+    (v == C_PORT_ENABLE) (v == C_PORT_RESET)
   where
-    split : (x y z u w : Bool) → is_reset_some (if x then Some ClearEnable else if y then Some ClearPower else if z then Some ClearConnectionChange else if u then Some ClearEnableChange else if w then Some ClearResetChange else None) ≡ false
+    split : (x y z u w : Bool) → is_reset_some
+        (if x then Some ClearEnable else if y then Some ClearPower else if z then Some
+        ClearConnectionChange else if u then Some ClearEnableChange else if w then Some
+        ClearResetChange else None) ≡ false
     split true y z u w = refl
     split false true z u w = refl
     split false false true u w = refl
@@ -102,11 +129,14 @@ clear_resets v = split (v == PORT_ENABLE) (v == PORT_POWER) (v == C_PORT_CONNECT
     split false false false false true = refl
     split false false false false false = refl
 
-by_feature : (c : Option PortCall) (s : Spec) (g : Registers) (r : Setup) → is_reset_some c ≡ false → asks_reset (port_feature c s g r) ≡ false
-by_feature c s g r h = both_ways (r.length == 0) (called_at c (port_named s.hub g r.index)) stalled (by_call c (port_named s.hub g r.index) h) refl
+by_feature : (c : Option PortCall) (s : Spec) (g : Registers) (r : Setup) → is_reset_some c ≡ false
+    → asks_reset (port_feature c s g r) ≡ false
+by_feature c s g r h = both_ways (r.length == 0) (called_at c (port_named s.hub g r.index)) stalled
+    (by_call c (port_named s.hub g r.index) h) refl
 
 -- a branch of which the test is known
-asks_reset-if : (b : Bool) (x y : Outcome) → (b ≡ true → asks_reset x ≡ false) → asks_reset y ≡ false → asks_reset (if b then x else y) ≡ false
+asks_reset-if : (b : Bool) (x y : Outcome) → (b ≡ true → asks_reset x ≡ false)
+    → asks_reset y ≡ false → asks_reset (if b then x else y) ≡ false
 asks_reset-if true x y h g = h refl
 asks_reset-if false x y h g = g
 
@@ -115,20 +145,39 @@ harmless_set true v8 true h e = false_true h
 harmless_set true v8 false h e = and_false (not v8)
 harmless_set false v8 v4 h e = false_true e
 
-harmless_outcome : (s : Spec) (g : Registers) (r : Setup) → is_harmless r ≡ true → asks_reset (outcome s g r) ≡ false
+harmless_outcome : (s : Spec) (g : Registers) (r : Setup) → is_harmless r ≡ true
+    → asks_reset (outcome s g r) ≡ false
 unfolding outcome
 harmless_outcome s g r h =
-    both_ways (Is r DEVICE_IN GET_DESCRIPTOR) (asked_descriptor s r.value) _ (by_descriptor s r.value)
-    (both_ways (Is r DEVICE_IN GET_STATUS) (unless s.stalls.status (asked_status s r)) _ (both_ways s.stalls.status stalled (asked_status s r) refl (both_ways (r.value == 0 && r.index == 0) _ stalled refl refl))
+    both_ways (Is r DEVICE_IN GET_DESCRIPTOR) (asked_descriptor s r.value) _
+    (by_descriptor s r.value)
+    (both_ways (Is r DEVICE_IN GET_STATUS) (unless s.stalls.status (asked_status s r)) _
+    (both_ways s.stalls.status stalled (asked_status s r) refl
+    (both_ways (r.value == 0 && r.index == 0) _ stalled refl refl))
     (both_ways (Is r DEVICE_IN GET_CONFIGURATION) (answers (g.configuration ∷ [])) _ refl
-    (both_ways (Is r DEVICE_OUT SET_ADDRESS) (unless s.stalls.address (asked_address r)) _ (both_ways s.stalls.address stalled (asked_address r) refl (both_ways (nat_le r.value 127 && r.length == 0) (takes_address r.value) stalled refl refl))
-    (both_ways (Is r DEVICE_OUT SET_CONFIGURATION) (unless s.stalls.set_config (asked_configuration s g r)) _ (both_ways s.stalls.set_config stalled (asked_configuration s g r) refl (both_ways (not (g.address == 0) && is_value s.configs r.value && r.length == 0) (takes_configuration r.value) stalled refl refl))
-    (both_ways (Is r ENDPOINT_OUT CLEAR_FEATURE) (on_endpoint unhalts (endpoint_of s g r)) _ (on_endpoint-harmless unhalts (λ w. refl) (endpoint_of s g r))
-    (both_ways (Is r ENDPOINT_OUT SET_FEATURE) (on_endpoint halts (endpoint_of s g r)) _ (on_endpoint-harmless halts (λ w. refl) (endpoint_of s g r))
-    (both_ways (Is r HUB_IN GET_DESCRIPTOR) (unless s.stalls.hub (asked_hub_descriptor s.hub r)) _ (both_ways s.stalls.hub stalled (asked_hub_descriptor s.hub r) refl (by_hub s.hub r))
-    (both_ways (Is r PORT_IN GET_STATUS) (asked_port_status s g r) _ (by_status (port_named s.hub g r.index))
-    (asks_reset-if (Is r PORT_OUT SET_FEATURE) (port_feature (set_call r.value) s g r) _ (λ e. by_feature (set_call r.value) s g r (set_resets r.value ∙ harmless_set (Is r PORT_OUT SET_FEATURE) (r.value == PORT_POWER) (r.value == PORT_RESET) h e))
-    (both_ways (Is r PORT_OUT CLEAR_FEATURE) (port_feature (clear_call r.value) s g r) stalled (by_feature (clear_call r.value) s g r (clear_resets r.value)) refl))))))))))
+    (both_ways (Is r DEVICE_OUT SET_ADDRESS) (unless s.stalls.address (asked_address r)) _
+    (both_ways s.stalls.address stalled (asked_address r) refl
+    (both_ways (nat_le r.value 127 && r.length == 0) (takes_address r.value) stalled refl
+    refl))
+    (both_ways (Is r DEVICE_OUT SET_CONFIGURATION)
+    (unless s.stalls.set_config (asked_configuration s g r)) _
+    (both_ways s.stalls.set_config stalled (asked_configuration s g r) refl
+    (both_ways (not (g.address == 0) && is_value s.configs r.value && r.length == 0)
+    (takes_configuration r.value) stalled refl refl))
+    (both_ways (Is r ENDPOINT_OUT CLEAR_FEATURE) (on_endpoint unhalts (endpoint_of s g r)) _
+    (on_endpoint-harmless unhalts (λ w. refl) (endpoint_of s g r))
+    (both_ways (Is r ENDPOINT_OUT SET_FEATURE) (on_endpoint halts (endpoint_of s g r)) _
+    (on_endpoint-harmless halts (λ w. refl) (endpoint_of s g r))
+    (both_ways (Is r HUB_IN GET_DESCRIPTOR) (unless s.stalls.hub (asked_hub_descriptor s.hub r)) _
+    (both_ways s.stalls.hub stalled (asked_hub_descriptor s.hub r) refl (by_hub s.hub r))
+    (both_ways (Is r PORT_IN GET_STATUS) (asked_port_status s g r) _
+    (by_status (port_named s.hub g r.index))
+    (asks_reset-if (Is r PORT_OUT SET_FEATURE) (port_feature (set_call r.value) s g r) _
+    (λ e. by_feature (set_call r.value) s g r (set_resets r.value
+    ∙ harmless_set (Is r PORT_OUT SET_FEATURE) (r.value == PORT_POWER)
+    (r.value == PORT_RESET) h e))
+    (both_ways (Is r PORT_OUT CLEAR_FEATURE) (port_feature (clear_call r.value) s g r) stalled
+    (by_feature (clear_call r.value) s g r (clear_resets r.value)) refl))))))))))
 
 -- no call of a reset
 abbrev no_reset : Effect → Bool
@@ -149,20 +198,28 @@ request_resets (unhalts w) h = refl
 request_resets (tells_port i) h = refl
 request_resets (calls_port c i) h = not_false (is_reset c) h
 
-data_resets : (s : State) (m : RememberedPacket) (t : Toggle) (b : List ℕ) → is_harmless (setup_of b) ≡ true → no_reset (asked_by_data s m t b) ≡ true
+data_resets : (s : State) (m : RememberedPacket) (t : Toggle) (b : List ℕ)
+    → is_harmless (setup_of b) ≡ true → no_reset (asked_by_data s m t b) ≡ true
 data_resets s Nothing t b h = refl
 data_resets s (OutSeen e) t b h = refl
 data_resets s (AckAwaited g) t b h = refl
 data_resets s SetupSeen One b h = refl
 data_resets s SetupSeen Zero b h =
-    elim (length b == 8) as (λ x. no_reset (if x then asked_by_setup s (setup_of b) else Leaves) ≡ true) [
-      | true ↦ request_resets (outcome s.spec s.registers (setup_of b)) (harmless_outcome s.spec s.registers (setup_of b) h)
+    elim (length b == 8) as (λ x. no_reset (if x then asked_by_setup s (setup_of b) else Leaves)
+    ≡ true) [
+      | true ↦ request_resets (outcome s.spec s.registers (setup_of b))
+          (harmless_outcome s.spec s.registers (setup_of b) h)
       | false ↦ refl
     ]
 
 content_resets : (c : Content) (s : State) → IsHarmlessOut c → no_reset (asked_by c s) ≡ true
 unfolding asks
-content_resets (Whole (Payload t b)) s h = elim s.spec.silent as (λ x. no_reset (if x then Leaves else asked_by_data s s.memory t b.items) ≡ true) [ true ↦ refl | false ↦ data_resets s s.memory t b.items h ]
+content_resets (Whole (Payload t b)) s h = elim s.spec.silent
+    as (λ x. no_reset (if x then Leaves else asked_by_data s s.memory t b.items) ≡ true) [
+      | true ↦
+          refl
+      | false ↦ data_resets s s.memory t b.items h
+    ]
 content_resets Broken s h = refl
 content_resets (Whole (packet.Token kind a e)) s h = elim h [ ]
 content_resets (Whole packet.Ack) s h = elim h [ ]
@@ -171,11 +228,18 @@ content_resets (Whole packet.Nak) s h = elim h [ ]
 content_resets (Whole packet.Stall) s h = elim h [ ]
 content_resets (Whole packet.Pre) s h = elim h [ ]
 
-no_reset_asked : (q : Sent) → IsHarmlessOut q.content → (deep : Bool) (s : State) → no_reset (effect_of q deep s) ≡ true
+no_reset_asked : (q : Sent) → IsHarmlessOut q.content → (deep : Bool) (s : State)
+    → no_reset (effect_of q deep s) ≡ true
 unfolding effect_of
-no_reset_asked q c deep s = elim (hears q deep s) as (λ x. no_reset (if x then asked_by q.content s else Leaves) ≡ true) [ true ↦ content_resets q.content s c | false ↦ refl ]
+no_reset_asked q c deep s = elim (hears q deep s)
+    as (λ x. no_reset (if x then asked_by q.content s else Leaves) ≡ true) [
+      | true ↦
+          content_resets q.content s c
+      | false ↦ refl
+    ]
 
-effect_resets-none : (e : Effect) (a : Ports) (j : ℕ) (p : List ℕ) → no_reset e ≡ true → effect_resets e a j p ≡ false
+effect_resets-none : (e : Effect) (a : Ports) (j : ℕ) (p : List ℕ) → no_reset e ≡ true
+    → effect_resets e a j p ≡ false
 effect_resets-none Leaves a j p h = refl
 effect_resets-none PortsOff a j p h = refl
 effect_resets-none (Calls c i) a j (n ∷ p) h = refl
@@ -185,7 +249,8 @@ effect_resets-none (Calls c i) a j [] h = off (is_reset c) _ h
     off true y h = false_true h
     off false y h = refl
 
-pub harmless_resets : (q : Sent) → IsHarmlessOut q.content → (deep : Bool) (k : Ports) (j : ℕ) (p : List ℕ) → resets_at q deep k j p ≡ false
+pub harmless_resets : (q : Sent) → IsHarmlessOut q.content
+    → (deep : Bool) (k : Ports) (j : ℕ) (p : List ℕ) → resets_at q deep k j p ≡ false
 harmless_resets q c deep k j p =
     resets_if q deep k j p (λ e m r t z at dp a. effect_resets-none (effect_of q dp t) a m r
     (no_reset_asked q c dp t))

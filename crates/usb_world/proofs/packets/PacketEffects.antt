@@ -28,7 +28,8 @@ heard_state q deep on (Some (full b s a)) = Some (if on then (answer_of q deep s
 
 -- a device after a packet, which comes to it or does not
 abbrev pub met : Bool → Sent → Bool → PortState → State → Ports → Ports → Ports
-met x q deep b s a k = if x then taken b (answer_of q deep s a).1 (acted (effect_of q deep s) (after_packet q true a)) k else taken b s a k
+met x q deep b s a k = if x then taken b (answer_of q deep s a).1
+    (acted (effect_of q deep s) (after_packet q true a)) k else taken b s a k
 
 -- what is so in both cases
 pub met_either : (P : Ports → Type 0) (x : Bool) (q : Sent) (deep : Bool)
@@ -45,8 +46,12 @@ acted_way : (e : Effect) (x : Ports) (j : ℕ) (p : List ℕ)
 acted_way Leaves x j p = same_reset false x j p refl
 acted_way (Calls c i) x j p = call_way c x i j p
 acted_way PortsOff x j p =
-    let off : _ = off_way x j p in
-    (off.1 ∙ reset_if-false (state_at x j p), λ f h. false_true (sym off.0 ∙ h), λ f. false_true f, off.2)
+    let off : _ = off_way x j p in (
+      off.1 ∙ reset_if-false (state_at x j p),
+      λ f h. false_true (sym off.0 ∙ h),
+      λ f. false_true f,
+      off.2,
+    )
 
 acted_kept : (e : Effect) (x : Ports) (j : ℕ) (p : List ℕ) → effect_keeps_pending e j p ≡ true
     → KeepsPending x (acted e x) j p
@@ -65,15 +70,25 @@ resets_nil q deep (taken b s a k) zero = refl
 resets_nil q deep (taken b s a k) (suc j) = resets_nil q deep k j
 
 -- a packet changes no port of the row on which it starts
-packet_takes : (q : Sent) (deep : Bool) (k : Ports) (j : ℕ) → takes_reset (place_at (after_packet q deep k) j []) ≡ takes_reset (place_at k j [])
+packet_takes : (q : Sent) (deep : Bool) (k : Ports) (j : ℕ)
+    → takes_reset (place_at (after_packet q deep k) j []) ≡ takes_reset (place_at k j [])
 unfolding after_packet place_at
 packet_takes q deep ended j = refl
 packet_takes q deep (vacant b k) zero = refl
 packet_takes q deep (vacant b k) (suc j) = packet_takes q deep k j
-packet_takes q deep (taken b s a k) zero = elim b.enable as (λ x. takes_reset (place_at (met x q deep b s a (after_packet q deep k)) zero []) ≡ takes_reset (Some (full b s a))) [ true ↦ refl | false ↦ refl ]
-packet_takes q deep (taken b s a k) (suc j) = elim b.enable as (λ x. takes_reset (place_at (met x q deep b s a (after_packet q deep k)) (suc j) []) ≡ takes_reset (place_at k j [])) [ true ↦ packet_takes q deep k j | false ↦ packet_takes q deep k j ]
+packet_takes q deep (taken b s a k) zero = elim b.enable
+    as (λ x. takes_reset (place_at (met x q deep b s a (after_packet q deep k)) zero [])
+    ≡ takes_reset (Some (full b s a))) [ true ↦ refl | false ↦ refl ]
+packet_takes q deep (taken b s a k) (suc j) = elim b.enable
+    as (λ x. takes_reset (place_at (met x q deep b s a (after_packet q deep k)) (suc j) [])
+    ≡ takes_reset (place_at k j [])) [
+      | true ↦ packet_takes q deep k j
+      | false ↦
+          packet_takes q deep k j
+    ]
 
-packet_asks : (e : Effect) (q : Sent) (deep : Bool) (k : Ports) (j : ℕ) (p : List ℕ) → effect_resets e (after_packet q deep k) j p ≡ effect_resets e k j p
+packet_asks : (e : Effect) (q : Sent) (deep : Bool) (k : Ports) (j : ℕ) (p : List ℕ)
+    → effect_resets e (after_packet q deep k) j p ≡ effect_resets e k j p
 packet_asks Leaves q deep k j p = refl
 packet_asks (Calls c i) q deep k j [] = rw (packet_takes q deep k j) refl
 packet_asks (Calls c i) q deep k j (n ∷ p) = refl
@@ -107,7 +122,8 @@ packet_kept q deep (taken b s a k) zero (suc j ∷ p) h =
         → (packet_keeps_pending q true a j p ≡ true → KeepsPending a (after_packet q true a) j p)
         → KeepsPending (taken b s a k) (met x q deep b s a (after_packet q deep k)) zero (suc j ∷ p)
     split true e ih =
-        let on : _ = spared b.enable (effect_keeps_pending (effect_of q deep s) j p) (packet_keeps_pending q true a j p) e h in
+        let on : _ = spared b.enable (effect_keeps_pending (effect_of q deep s) j p)
+        (packet_keeps_pending q true a j p) e h in
         let asked : _ = acted_kept (effect_of q deep s) (after_packet q true a) j p on.0 in (
           and_kept b.power _ _ (λ g. asked.0 ((ih on.1).0 g)),
           and_kept b.power _ _
@@ -119,7 +135,8 @@ packet_kept q deep (taken b s a k) (suc j) p h =
     b.enable q deep b s a (after_packet q deep k) (packet_kept q deep k j p h)
     (packet_kept q deep k j p h)
 
-pub heard_state-unheard : (q : Sent) (d : Bool) (k : Ports) (j : ℕ) (p : List ℕ) → state_at k j p ≡ heard_state q d false (place_at k j p)
+pub heard_state-unheard : (q : Sent) (d : Bool) (k : Ports) (j : ℕ) (p : List ℕ)
+    → state_at k j p ≡ heard_state q d false (place_at k j p)
 unfolding state_at place_at
 heard_state-unheard q d ended j p = refl
 heard_state-unheard q d (vacant b k) zero [] = refl
@@ -134,14 +151,16 @@ pub true_deep : (p : List ℕ) → deep_at true p ≡ true
 true_deep [] = refl
 true_deep (n ∷ p) = refl
 
-reset_then : (x y : Bool) (o : Option State) → (x ≡ true → y ≡ false) → option_map (reset_if x) (option_map (reset_if y) o) ≡ option_map (reset_if (x || y)) o
+reset_then : (x y : Bool) (o : Option State) → (x ≡ true → y ≡ false)
+    → option_map (reset_if x) (option_map (reset_if y) o) ≡ option_map (reset_if (x || y)) o
 reset_then x y None f = refl
 reset_then true true (Some s) f = false_true (sym (f refl))
 reset_then true false (Some s) f = refl
 reset_then false y (Some s) f = refl
 
 -- a device asks for no reset but on its own ports
-asks_here : (e : Effect) (q : Sent) (a : Ports) (j : ℕ) (p : List ℕ) → effect_resets e a j p ≡ true → resets_at q true a j p ≡ false
+asks_here : (e : Effect) (q : Sent) (a : Ports) (j : ℕ) (p : List ℕ) → effect_resets e a j p ≡ true
+    → resets_at q true a j p ≡ false
 asks_here e q a j [] h = resets_nil q true a j
 asks_here Leaves q a j (n ∷ p) h = false_true h
 asks_here (Calls c i) q a j (n ∷ p) h = false_true h

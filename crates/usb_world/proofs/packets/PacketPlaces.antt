@@ -1,9 +1,12 @@
--- A device with its ports after a packet, where no device above it asks anything; and the ports that nobody asks anything of.
-use Rattle.std.proofs.Common.{◌≡◌, ℕ, zero, suc, ◌&&◌, ◌||◌, not, if◌then◌else◌, Bool, true, false, List, [], ◌∷◌, Option, None, Some, option_map, refl, ap, ◌∙◌}
+-- A device with its ports after a packet, where no device above it asks anything; and the ports
+-- that nobody asks anything of.
+use Rattle.std.proofs.Common.{◌≡◌, ℕ, zero, suc, ◌&&◌, ◌||◌, not, if◌then◌else◌, Bool, true, false}
+use Rattle.std.proofs.Common.{List, [], ◌∷◌, Option, None, Some, option_map, refl, ap, ◌∙◌}
 use Rattle.usb_device.specs.declared.delivery.Sent.{Sent}
 use Rattle.usb_device.specs.declared.effect.Effect.{Effect}
 use Rattle.usb_device.specs.declared.effect.Effect.TheVariants.{Leaves, Calls, PortsOff}
-use Rattle.usb_device.specs.Tree.{Ports, ended, vacant, taken, Place, empty, full, acted, reach_at, port_at, place_at}
+use Rattle.usb_device.specs.Tree.{Ports, ended, vacant, taken, Place, empty, full, acted, reach_at}
+use Rattle.usb_device.specs.Tree.{port_at, place_at}
 use Rattle.usb_device.specs.Delivery.{effect_of, after_packet, answer_of}
 use Rattle.usb_tree.specs.Paths.{has_power_at, pending_at}
 use Rattle.usb_tree.specs.WayEffects.{leaves_port, way_leaves}
@@ -13,10 +16,12 @@ use Rattle.usb_world.proofs.packets.PacketEffects.{true_deep, met, met_either}
 use Rattle.usb_world.proofs.ways.WayChanges.{SamePorts, same_way-behind, same_ports, passed_ports}
 use Rattle.usb_world.proofs.ways.WayChanges.{called_apart}
 
--- a device with its ports after a packet that reaches it or does not, where no device above it asks anything
+-- a device with its ports after a packet that reaches it or does not, where no device above it asks
+-- anything
 abbrev pub heard_place : Sent → Bool → Bool → Place → Place
 heard_place q deep on (empty b) = empty b
-heard_place q deep on (full b s a) = if on then full b (answer_of q deep s a).1 (acted (effect_of q deep s) (after_packet q true a)) else full b s a
+heard_place q deep on (full b s a) = if on then full b (answer_of q deep s a).1
+    (acted (effect_of q deep s) (after_packet q true a)) else full b s a
 
 abbrev pub place_after_sent : Option Sent → Bool → Place → Place
 place_after_sent None deep x = x
@@ -34,10 +39,12 @@ way_rests q deep (vacant b k) zero p = true
 way_rests q deep (vacant b k) (suc i) p = way_rests q deep k i p
 way_rests q deep (taken b s a k) zero [] = true
 way_rests q deep (taken b s a k) zero (zero ∷ p) = true
-way_rests q deep (taken b s a k) zero (suc j ∷ p) = not b.enable || (is_left (effect_of q deep s) && way_rests q true a j p)
+way_rests q deep (taken b s a k) zero (suc j ∷ p) =
+    not b.enable || (is_left (effect_of q deep s) && way_rests q true a j p)
 way_rests q deep (taken b s a k) (suc i) p = way_rests q deep k i p
 
-heard_place-unheard : (q : Sent) (d : Bool) (o : Option Place) → o ≡ option_map (heard_place q d false) o
+heard_place-unheard : (q : Sent) (d : Bool) (o : Option Place)
+    → o ≡ option_map (heard_place q d false) o
 heard_place-unheard q d None = refl
 heard_place-unheard q d (Some (empty b)) = refl
 heard_place-unheard q d (Some (full b s a)) = refl
@@ -100,7 +107,8 @@ pub way_place : (q : Sent) (deep : Bool) (k : Ports) (j : ℕ) (p : List ℕ)
     ≡ option_map (heard_place q (deep_at deep p) (reach_at k j p)) (place_at k j p)
 way_place q deep k j p h = (heard_way q deep k j p h).0
 
-pub way_reach : (q : Sent) (deep : Bool) (k : Ports) (j : ℕ) (p : List ℕ) → way_rests q deep k j p ≡ true
+pub way_reach : (q : Sent) (deep : Bool) (k : Ports) (j : ℕ) (p : List ℕ)
+    → way_rests q deep k j p ≡ true
     → reach_at (after_packet q deep k) j p ≡ reach_at k j p
 way_reach q deep k j p h = (heard_way q deep k j p h).1
 
@@ -130,7 +138,8 @@ way_ports q deep (taken b s a k) zero (zero ∷ p) h =
     (same_ports (taken b s a k) zero (zero ∷ p)) (same_ports (taken b s a k) zero (zero ∷ p))
 way_ports q deep (taken b s a k) zero (suc j ∷ p) h = split b.enable h (way_ports q true a j p)
   where
-    split : (x : Bool) → (not x || (leaves_port (effect_of q deep s) j && way_leaves q true a j p)) ≡ true
+    split : (x : Bool) → (not x || (leaves_port (effect_of q deep s) j && way_leaves q true a j p))
+        ≡ true
         → (way_leaves q true a j p ≡ true → SamePorts a (after_packet q true a) j p)
         → SamePorts (taken b s a k) (met x q deep b s a (after_packet q deep k)) zero (suc j ∷ p)
     split true h ih =

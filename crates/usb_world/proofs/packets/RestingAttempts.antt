@@ -16,7 +16,8 @@ use Rattle.usb_world.specs.PortRequests.{AsksNothing}
 use Rattle.usb_world.proofs.addresses.AddressesInTransfers.{If, WaitsNone, data_effect, none_waits}
 use Rattle.usb_world.proofs.holders.OneHolderAttempts.{ready_settled}
 use Rattle.usb_world.proofs.courses.Courses.{goes}
-use Rattle.usb_world.proofs.ports.PortRequests.{AllowsOut, sent_allowed, payload_allowed, payload_no_port_allows, payload_asks_no_port}
+use Rattle.usb_world.proofs.ports.PortRequests.{AllowsOut, sent_allowed, payload_allowed}
+use Rattle.usb_world.proofs.ports.PortRequests.{payload_no_port_allows, payload_asks_no_port}
 use Rattle.usb_world.proofs.packets.PacketWays.{NoneAsks, none_asks_nothing}
 use Rattle.usb_world.proofs.packets.PacketPlaces.{left_is, is_left}
 use Rattle.arrayvec.specs.ArrayVec.{ArrayVec}
@@ -29,28 +30,39 @@ data_asks_no_port OutTok o = true
 data_asks_no_port InTok o = true
 
 allowed_none : (o : Option Sent) (k : Ports) → IfOut (AllowsOut is_left) o → NoneAsks o k
-allowed_none o k h q e j x t at dp = left_is (effect_of q dp t) (sent_allowed is_left refl q (subst (IfOut (AllowsOut is_left)) e h) dp t)
+allowed_none o k h q e j x t at dp = left_is (effect_of q dp t)
+    (sent_allowed is_left refl q (subst (IfOut (AllowsOut is_left)) e h) dp t)
 
 -- whoever hears them
-pub payload_asks_nothing : (a : Attempt) (w : World) (p : List ℕ) → payload_asks_no_port a.payload ≡ true → AsksNothing (attempt a) w p
+pub payload_asks_nothing : (a : Attempt) (w : World) (p : List ℕ) → payload_asks_no_port a.payload
+    ≡ true → AsksNothing (attempt a) w p
 payload_asks_nothing a w p h =
-    none_asks_nothing a w p (allowed_none (payload_out a (damage_in (at_attempt w))) (after_sent (token_out a (damage_in (at_attempt w))) (at_attempt w).roots) (payload_allowed is_left refl a (damage_in (at_attempt w)) (payload_no_port_allows a.payload h)))
+    none_asks_nothing a w p (allowed_none (payload_out a (damage_in (at_attempt w)))
+    (after_sent (token_out a (damage_in (at_attempt w))) (at_attempt w).roots)
+    (payload_allowed is_left refl a (damage_in (at_attempt w))
+    (payload_no_port_allows a.payload h)))
 
 -- IN and OUT, where no device remembers a packet before them
 
-pub data_asks_none : (a : Attempt) (w : World) → is_setup a.kind ≡ false → IsSettled w.roots → NoneAsks (payload_out a (damage_in (at_attempt w))) (after_sent (token_out a (damage_in (at_attempt w))) (at_attempt w).roots)
+pub data_asks_none : (a : Attempt) (w : World) → is_setup a.kind ≡ false → IsSettled w.roots
+    → NoneAsks (payload_out a (damage_in (at_attempt w)))
+    (after_sent (token_out a (damage_in (at_attempt w))) (at_attempt w).roots)
 data_asks_none a w kind h q o j e t at dp =
     let d : Option Damage = damage_in (at_attempt w) in
-    data_effect q (subst (IfOut IsDataOut) o (goes a d (at_attempt w).roots).payload) dp t (subst (If WaitsNone) at (none_waits a d (at_attempt w).roots (ready_settled w h) kind j e))
+    data_effect q (subst (IfOut IsDataOut) o (goes a d (at_attempt w).roots).payload) dp t
+    (subst (If WaitsNone) at (none_waits a d (at_attempt w).roots (ready_settled w h) kind j e))
 
-pub data_asks_nothing : (a : Attempt) (w : World) (p : List ℕ) → is_setup a.kind ≡ false → IsSettled w.roots → AsksNothing (attempt a) w p
+pub data_asks_nothing : (a : Attempt) (w : World) (p : List ℕ) → is_setup a.kind ≡ false
+    → IsSettled w.roots → AsksNothing (attempt a) w p
 data_asks_nothing a w p kind h = none_asks_nothing a w p (data_asks_none a w kind h)
 
 -- where no device remembers a packet before it
-pub settled_asks_nothing : (a : Attempt) (w : World) (p : List ℕ) → data_asks_no_port a.kind a.payload ≡ true → IsSettled w.roots → AsksNothing (attempt a) w p
+pub settled_asks_nothing : (a : Attempt) (w : World) (p : List ℕ)
+    → data_asks_no_port a.kind a.payload ≡ true → IsSettled w.roots → AsksNothing (attempt a) w p
 settled_asks_nothing a w p h settled = pick a.kind refl h
   where
-    pick : (t : TokenKind) → a.kind ≡ t → data_asks_no_port t a.payload ≡ true → AsksNothing (attempt a) w p
+    pick : (t : TokenKind) → a.kind ≡ t → data_asks_no_port t a.payload ≡ true
+        → AsksNothing (attempt a) w p
     pick SetupTok e g = payload_asks_nothing a w p g
     pick OutTok e g = data_asks_nothing a w p (ap is_setup e) settled
     pick InTok e g = data_asks_nothing a w p (ap is_setup e) settled

@@ -1,4 +1,5 @@
--- A port of which nothing is asked keeps its change bits and its power, where the device above it is still reached.
+-- A port of which nothing is asked keeps its change bits and its power, where the device above it
+-- is still reached.
 use Rattle.std.proofs.Common.{◌≡◌, ℕ, zero, suc, ◌&&◌, ◌||◌, not, Bool, true, false, List, [], ◌∷◌}
 use Rattle.std.proofs.Common.{◌++◌, Option, None, Some, refl, ap, sym, subst, ◌∙◌, inl, inr}
 use Rattle.std.proofs.lemmas.Option.{same_Some}
@@ -22,7 +23,8 @@ use Rattle.usb_tree.specs.AttemptPackets.{after_sent, after_attempt, sent_resets
 use Rattle.usb_tree.specs.WayEffects.{effect_resets, resets_at, leaves_port, way_leaves}
 use Rattle.usb_tree.specs.WayEffects.{takes_reset}
 use Rattle.usb_world.specs.World.{World}
-use Rattle.usb_world.specs.Steps.{after_change, way_of, names_path, after_event, at_attempt, damage_in}
+use Rattle.usb_world.specs.Steps.{after_change, way_of, names_path, after_event, at_attempt}
+use Rattle.usb_world.specs.Steps.{damage_in}
 use Rattle.usb_world.specs.Steps.{with_attempt, Course}
 use Rattle.usb_world.specs.Courses.{made_resets, root_resets}
 use Rattle.usb_world.specs.PortRequests.{sent_leaves, made_leaves, root_leaves, leaves_step}
@@ -38,24 +40,60 @@ use Rattle.usb_world.proofs.courses.Courses.{happened_reach, made_reach, root_re
 use Rattle.usb_world.proofs.packets.PacketWays.{calm_leaves}
 
 still_set-same : (b : PortState) (o : Option PortState) → o ≡ Some b → StillSet b o
-still_set-same b o h = record { now = b; stands = h; power = λ e. e; connection = λ e. e; enable = λ e. e; reset = λ e. e }
+still_set-same b o h = record {
+  now = b;
+  stands = h;
+  power = λ e. e;
+  connection = λ e. e;
+  enable =
+      λ e. e;
+  reset = λ e. e;
+}
 
-still_then : (b : PortState) (o v : Option PortState) → StillSet b o → ((c : PortState) → o ≡ Some c → StillSet c v) → StillSet b v
+still_then : (b : PortState) (o v : Option PortState) → StillSet b o
+    → ((c : PortState) → o ≡ Some c → StillSet c v) → StillSet b v
 still_then b o v x f =
     let y : _ = f x.now x.stands in
-    record { now = y.now; stands = y.stands; power = λ e. y.power (x.power e); connection = λ e. y.connection (x.connection e); enable = λ e. y.enable (x.enable e); reset = λ e. y.reset (x.reset e) }
+    record {
+      now = y.now;
+      stands = y.stands;
+      power = λ e. y.power (x.power e);
+      connection =
+          λ e. y.connection (x.connection e);
+      enable = λ e. y.enable (x.enable e);
+      reset =
+          λ e. y.reset (x.reset e);
+    }
 
 -- Events
 
 still_unplugged : (c b : PortState) → Some c ≡ Some b → StillSet b (Some (unplugged c))
 still_unplugged c b h =
     subst (λ x. StillSet x (Some (unplugged c))) (same_Some c b h)
-    (record { now = unplugged c; stands = refl; power = λ e. e; connection = λ e. or_right c.power c.connection_changed e; enable = λ e. e; reset = λ e. e })
+    (record {
+      now = unplugged c;
+      stands = refl;
+      power = λ e. e;
+      connection =
+          λ e. or_right c.power c.connection_changed e;
+      enable = λ e. e;
+      reset = λ e. e;
+    })
 
-still_plugged : (low : Bool) (c b : PortState) → Some c ≡ Some b → StillSet b (Some (plugged low (unplugged c)))
+still_plugged : (low : Bool) (c b : PortState) → Some c ≡ Some b
+    → StillSet b (Some (plugged low (unplugged c)))
 still_plugged low c b h =
     subst (λ x. StillSet x (Some (plugged low (unplugged c)))) (same_Some c b h)
-    (record { now = plugged low (unplugged c); stands = refl; power = λ e. e; connection = λ e. or_right c.power (c.power || c.connection_changed) (or_right c.power c.connection_changed e); enable = λ e. e; reset = λ e. e })
+    (record {
+      now = plugged low (unplugged c);
+      stands = refl;
+      power = λ e. e;
+      connection =
+          λ e. or_right c.power (c.power || c.connection_changed)
+          (or_right c.power c.connection_changed e);
+      enable = λ e. e;
+      reset = λ e. e;
+    })
 
 -- the port at which something is plugged or unplugged
 still_put : (o : Option Spec) (x : Place) (k : Ports) (b : PortState)
@@ -87,25 +125,31 @@ last_step : (x q : List ℕ) (n : ℕ) → is_way x q ≡ false → is_way x (q 
     → x ≡ q ++ (n ∷ [])
 unfolding is_way
 last_step [] q n w h = false_true (sym w)
-last_step (m ∷ []) [] n w h = ap (λ y. y ∷ []) (sym (same_number-is m n (both (same_number m n) true h).0))
+last_step (m ∷ []) [] n w h = ap (λ y. y ∷ [])
+    (sym (same_number-is m n (both (same_number m n) true h).0))
 last_step (m ∷ y ∷ x) [] n w h = false_true (both (same_number m n) false h).1
 last_step (m ∷ x) (k ∷ q) n w h =
     let on : _ = both (same_number m k) (is_way x (q ++ (n ∷ []))) h in
     ap (λ y. y ∷ x) (sym (same_number-is m k on.0))
     ∙ ap (λ l. k ∷ l) (last_step x q n (sym (ap (λ y. y && is_way x q) on.0) ∙ w) on.1)
 
-replaced_bits : (o : Option Spec) (k : Ports) (x q : List ℕ) (n : ℕ) (b : PortState) → way_of x q ≡ false
-    → port_there k (q ++ (n ∷ [])) ≡ Some b → StillSet b (port_there (changed (replaced o) k x) (q ++ (n ∷ [])))
+replaced_bits : (o : Option Spec) (k : Ports) (x q : List ℕ) (n : ℕ) (b : PortState)
+    → way_of x q ≡ false
+    → port_there k (q ++ (n ∷ [])) ≡ Some b
+    → StillSet b (port_there (changed (replaced o) k x) (q ++ (n ∷ [])))
 replaced_bits o k [] q n b w h = still_set-same b _ h
 replaced_bits o k (m ∷ x) q n b w h = elim (decided (is_way (m ∷ x) (q ++ (n ∷ [])))) [
   | inl on ↦
       subst (λ y. StillSet b (port_there (changed (replaced o) k y) (q ++ (n ∷ []))))
       (sym (last_step (m ∷ x) q n w on)) (struck_there o k (q ++ (n ∷ [])) b h)
-  | inr away ↦ still_set-same b _ ((changed_there (replaced o) k (m ∷ x) (q ++ (n ∷ [])) away).1 ∙ h)
+  | inr away ↦ still_set-same b _ ((changed_there (replaced o) k (m ∷ x) (q ++ (n ∷ [])) away).1
+      ∙ h)
 ]
 
-happened_bits : (a : Action) (d : List Spec) (k : Ports) (q : List ℕ) (n : ℕ) (b : PortState) → names_path d a q ≡ false
-    → port_there k (q ++ (n ∷ [])) ≡ Some b → StillSet b (port_there (after_change a d k) (q ++ (n ∷ [])))
+happened_bits : (a : Action) (d : List Spec) (k : Ports) (q : List ℕ) (n : ℕ) (b : PortState)
+    → names_path d a q ≡ false
+    → port_there k (q ++ (n ∷ [])) ≡ Some b
+    → StillSet b (port_there (after_change a d k) (q ++ (n ∷ [])))
 happened_bits a d k q n b =
     happened_by
     (λ v named.
@@ -120,7 +164,8 @@ no_way (m ∷ x) = refl
 
 -- where a row is reached, it was before, and no event was at it or above it; none is at the host
 row_happened : (a : Action) (d : List Spec) (k : Ports) (q : List ℕ)
-    → row_reached (after_change a d k) q ≡ true → (row_reached k q ≡ true) × (names_path d a q ≡ false)
+    → row_reached (after_change a d k) q ≡ true → (row_reached k q ≡ true)
+    × (names_path d a q ≡ false)
 row_happened a d k [] h = (refl, happened_by (λ v named. named ≡ false) a d k [] refl (λ o. no_way))
 row_happened a d k (m ∷ q) h = happened_reach a d k (m ∷ q) h
 
@@ -146,7 +191,8 @@ attempt_ports n t d r is k j p h =
       last.3 ∙ third.3 ∙ second.3 ∙ first.3,
     )
 
-pub made_port : (a : Attempt) (w : World) (p : List ℕ) → made_leaves a w p ≡ true → port_there (with_attempt a w).roots p ≡ port_there w.roots p
+pub made_port : (a : Attempt) (w : World) (p : List ℕ) → made_leaves a w p ≡ true
+    → port_there (with_attempt a w).roots p ≡ port_there w.roots p
 unfolding with_attempt ports_in
 made_port a w [] h = refl
 made_port a w (zero ∷ p) h = refl
@@ -156,51 +202,67 @@ made_port a w (suc j ∷ p) h = (attempt_ports a.addr (token_out a (damage_in w)
 
 -- A step that leaves a port resets no device above it
 
-pub left_effect : (e : Effect) (a : Ports) (j : ℕ) (p : List ℕ) → leaves_port e j ≡ true → effect_resets e a j p ≡ false
+pub left_effect : (e : Effect) (a : Ports) (j : ℕ) (p : List ℕ) → leaves_port e j ≡ true
+    → effect_resets e a j p ≡ false
 left_effect Leaves a j p h = refl
-left_effect (Calls c i) a j [] h = ap (λ x. is_reset c && (x && takes_reset (place_at a j []))) (not-true (same_number i j) h) ∙ and_false (is_reset c)
+left_effect (Calls c i) a j [] h = ap (λ x. is_reset c && (x && takes_reset (place_at a j [])))
+    (not-true (same_number i j) h) ∙ and_false (is_reset c)
 left_effect (Calls c i) a j (n ∷ p) h = refl
 left_effect PortsOff a j p h = refl
 
-left_resets : (q : Sent) (deep : Bool) (k : Ports) (j : ℕ) (p : List ℕ) (n : ℕ) → way_leaves q deep k j (p ++ (n ∷ [])) ≡ true → resets_at q deep k j p ≡ false
+left_resets : (q : Sent) (deep : Bool) (k : Ports) (j : ℕ) (p : List ℕ) (n : ℕ)
+    → way_leaves q deep k j (p ++ (n ∷ [])) ≡ true → resets_at q deep k j p ≡ false
 unfolding way_leaves resets_at
 left_resets q deep ended j p n h = refl
 left_resets q deep (vacant b k) zero p n h = refl
 left_resets q deep (vacant b k) (suc j) p n h = left_resets q deep k j p n h
 left_resets q deep (taken b s a k) zero [] n h = refl
 left_resets q deep (taken b s a k) zero (zero ∷ p) n h = refl
-left_resets q deep (taken b s a k) zero (suc j ∷ p) n h = split b.enable h (left_resets q true a j p n)
+left_resets q deep (taken b s a k) zero (suc j ∷ p) n h =
+    split b.enable h (left_resets q true a j p n)
   where
-    split : (x : Bool) → (not x || (leaves_port (effect_of q deep s) j && way_leaves q true a j (p ++ (n ∷ [])))) ≡ true
-        → (way_leaves q true a j (p ++ (n ∷ [])) ≡ true → resets_at q true a j p ≡ false) → (x && (effect_resets (effect_of q deep s) a j p || resets_at q true a j p)) ≡ false
+    split : (x : Bool) → (not x || (leaves_port (effect_of q deep s) j && way_leaves q true a j
+        (p ++ (n ∷ [])))) ≡ true
+        → (way_leaves q true a j (p ++ (n ∷ [])) ≡ true → resets_at q true a j p ≡ false)
+        → (x && (effect_resets (effect_of q deep s) a j p || resets_at q true a j p)) ≡ false
     split true h ih =
-        let on : _ = both (leaves_port (effect_of q deep s) j) (way_leaves q true a j (p ++ (n ∷ []))) h in
-        ap (λ x. x || resets_at q true a j p) (left_effect (effect_of q deep s) a j p on.0) ∙ ih on.1
+        let on : _ = both (leaves_port (effect_of q deep s) j)
+        (way_leaves q true a j (p ++ (n ∷ []))) h in
+        ap (λ x. x || resets_at q true a j p) (left_effect (effect_of q deep s) a j p on.0)
+        ∙ ih on.1
     split false h ih = refl
 left_resets q deep (taken b s a k) (suc j) p n h = left_resets q deep k j p n h
 
-left_sent : (o : Option Sent) (k : Ports) (j : ℕ) (p : List ℕ) (n : ℕ) → sent_leaves o k j (p ++ (n ∷ [])) ≡ true → sent_resets o k j p ≡ false
+left_sent : (o : Option Sent) (k : Ports) (j : ℕ) (p : List ℕ) (n : ℕ)
+    → sent_leaves o k j (p ++ (n ∷ [])) ≡ true → sent_resets o k j p ≡ false
 left_sent None k j p n h = refl
 left_sent (Some q) k j p n h = left_resets q false k j p n h
 
-left_made : (a : Attempt) (w : World) (q : List ℕ) (n : ℕ) → made_leaves a w (q ++ (n ∷ [])) ≡ true → made_resets a w q ≡ false
+left_made : (a : Attempt) (w : World) (q : List ℕ) (n : ℕ) → made_leaves a w (q ++ (n ∷ [])) ≡ true
+    → made_resets a w q ≡ false
 left_made a w [] n h = refl
 left_made a w (zero ∷ q) n h = refl
-left_made a w (suc j ∷ q) n h = left_sent (payload_out a (damage_in w)) (after_sent (token_out a (damage_in w)) w.roots) j q n h
+left_made a w (suc j ∷ q) n h = left_sent (payload_out a (damage_in w))
+    (after_sent (token_out a (damage_in w)) w.roots) j q n h
 
-left_root : (c : PortCall) (m : ℕ) (k : Ports) (q : List ℕ) (n : ℕ) → root_leaves m (q ++ (n ∷ [])) ≡ true → root_resets c m k q ≡ false
+left_root : (c : PortCall) (m : ℕ) (k : Ports) (q : List ℕ) (n : ℕ) → root_leaves m (q ++ (n ∷ []))
+    ≡ true → root_resets c m k q ≡ false
 left_root c zero k q n h = refl
 left_root c (suc i) k [] n h = refl
 left_root c (suc i) k (zero ∷ q) n h = refl
-left_root c (suc i) k (suc j ∷ []) n h = ap (λ x. is_reset c && (x && takes_reset (place_at k j []))) (not-true (same_number i j) h) ∙ and_false (is_reset c)
+left_root c (suc i) k (suc j ∷ []) n h =
+    ap (λ x. is_reset c && (x && takes_reset (place_at k j []))) (not-true (same_number i j) h)
+    ∙ and_false (is_reset c)
 left_root c (suc i) k (suc j ∷ x ∷ q) n h = refl
 
 -- Steps
 
-pub root_port : (c : PortCall) (m : ℕ) (k : Ports) (p : List ℕ) → root_leaves m p ≡ true → port_there (changed (called c) k (m ∷ [])) p ≡ port_there k p
+pub root_port : (c : PortCall) (m : ℕ) (k : Ports) (p : List ℕ) → root_leaves m p ≡ true
+    → port_there (changed (called c) k (m ∷ [])) p ≡ port_there k p
 root_port c m k p h = (root_there c m k p h).1
 
-row_reached-made : (a : Attempt) (w : World) (q : List ℕ) (n : ℕ) → made_leaves a w (q ++ (n ∷ [])) ≡ true → row_reached (with_attempt a w).roots q ≡ true → row_reached w.roots q ≡ true
+row_reached-made : (a : Attempt) (w : World) (q : List ℕ) (n : ℕ) → made_leaves a w (q ++ (n ∷ []))
+    ≡ true → row_reached (with_attempt a w).roots q ≡ true → row_reached w.roots q ≡ true
 row_reached-made a w [] n g h = refl
 row_reached-made a w (m ∷ q) n g h = made_reach a w (m ∷ q) (left_made a w (m ∷ q) n g) h
 
@@ -246,6 +308,7 @@ bits_steps q n = record {
   refused = λ w on. (on, λ b h. still_set-same b _ h);
 }
 
-pub course_bits : (q : List ℕ) (n : ℕ) {w v : World} → Course (LeavesPort (q ++ (n ∷ []))) w v → row_reached v.roots q ≡ true → (b : PortState)
+pub course_bits : (q : List ℕ) (n : ℕ) {w v : World} → Course (LeavesPort (q ++ (n ∷ []))) w v
+    → row_reached v.roots q ≡ true → (b : PortState)
     → port_there w.roots (q ++ (n ∷ [])) ≡ Some b → StillSet b (port_there v.roots (q ++ (n ∷ [])))
 course_bits q n c on = (over_course (bits_steps q n) c on).1

@@ -1,13 +1,18 @@
 -- PORT_RESET of a hub's port gives the device there address 0, and leaves the others theirs.
-use Rattle.std.proofs.Common.{◌≡◌, ℕ, zero, suc, ◌&&◌, if◌then◌else◌, ◌⊎◌, inl, inr, Bool, true, false, List, [], ◌∷◌, ◌++◌, Option, None, Some, option_map, refl, ap, ap₂, sym, subst, ◌∙◌}
+use Rattle.std.proofs.Common.{◌≡◌, ℕ, zero, suc, ◌&&◌, if◌then◌else◌, ◌⊎◌, inl, inr, Bool, true}
+use Rattle.std.proofs.Common.{false, List, [], ◌∷◌, ◌++◌, Option, None, Some, option_map, refl, ap}
+use Rattle.std.proofs.Common.{ap₂, sym, subst, ◌∙◌}
 use Rattle.usb_port.specs.PortState.{PortState}
 use Rattle.usb_request.specs.Layout.{setup_of}
 use Rattle.usb_device.specs.declared.request.Registers.{Registers}
-use Rattle.usb_device.specs.Request.{Outcome, stalled, answers, takes_address, takes_configuration, halts, unhalts, tells_port, calls_port, outcome, registers_at_setup}
+use Rattle.usb_device.specs.Request.{Outcome, stalled, answers, takes_address, takes_configuration}
+use Rattle.usb_device.specs.Request.{halts, unhalts, tells_port, calls_port, outcome}
+use Rattle.usb_device.specs.Request.{registers_at_setup}
 use Rattle.usb_device.specs.Rows.{State, accepted}
 use Rattle.usb_device.specs.Attempt.{Way, is_whole, heard, setup_law}
 use Rattle.usb_device.specs.declared.answer.Answer.TheVariants.{Ack}
-use Rattle.usb_device.specs.Tree.{Ports, ended, vacant, taken, row_of, reach_at, state_at, place_at, reach, place, path_to}
+use Rattle.usb_device.specs.Tree.{Ports, ended, vacant, taken, row_of, reach_at, state_at, place_at}
+use Rattle.usb_device.specs.Tree.{reach, place, path_to}
 use Rattle.usb_world.specs.declared.types.Attempt.{Attempt}
 use Rattle.usb_tree.specs.Paths.{address_of, same_number, same_path, is_way}
 use Rattle.usb_tree.specs.WayEffects.{IsNew, reset_if}
@@ -21,7 +26,8 @@ use Rattle.usb_tree.proofs.Interface.{false_true, both, decided, and_false}
 use Rattle.usb_world.proofs.holders.OneDevice.{state_stands}
 use Rattle.usb_world.proofs.courses.Courses.{made_reach, step_new}
 use Rattle.usb_world.proofs.holders.OneHolder.{replied, holder_holds, Holder}
-use Rattle.usb_world.proofs.holders.OneHolderAttempts.{made_is, made_true, holder_in, setup_in, silent_in, others_in}
+use Rattle.usb_world.proofs.holders.OneHolderAttempts.{made_is, made_true, holder_in, setup_in}
+use Rattle.usb_world.proofs.holders.OneHolderAttempts.{silent_in, others_in}
 use Rattle.usb_world.proofs.addresses.AddressesKept.{ready_own}
 use Rattle.usb_world.proofs.ports.RootResets.{same_number-is, same_is, is_new-zero, new_below}
 use Rattle.usb_world.proofs.holders.HolderRequests.{other_rests}
@@ -31,10 +37,12 @@ use Rattle.usb_world.proofs.holders.HolderRequests.{other_rests}
 new_there : (k : Ports) (p : List ℕ) → IsNew (place k p) → address_at k p ≡ Some 0
 new_there k [] h = elim h [ ]
 new_there k (zero ∷ p) h = elim h [ ]
-new_there k (suc i ∷ p) h = ap (option_map address_of) (sym (state_stands k i p)) ∙ is_new-zero (place_at k i p) h
+new_there k (suc i ∷ p) h = ap (option_map address_of) (sym (state_stands k i p))
+    ∙ is_new-zero (place_at k i p) h
 
 -- none is reached below it
-new_under : (k : Ports) (p : List ℕ) (m : ℕ) (r : List ℕ) → IsNew (place k p) → reach k (p ++ (m ∷ r)) ≡ false
+new_under : (k : Ports) (p : List ℕ) (m : ℕ) (r : List ℕ) → IsNew (place k p)
+    → reach k (p ++ (m ∷ r)) ≡ false
 new_under k [] m r h = elim h [ ]
 new_under k (zero ∷ p) m r h = refl
 new_under k (suc i ∷ p) m r h = new_below k i p m r h
@@ -67,10 +75,12 @@ register_address g (unhalts which) = refl
 register_address g (tells_port i) = refl
 register_address g (calls_port c i) = refl
 
-setup_address : (s : State) (row : List PortState) (bytes : List ℕ) (x y z : Way) → address_of (setup_law s row bytes x y z).1 ≡ address_of s
+setup_address : (s : State) (row : List PortState) (bytes : List ℕ) (x y z : Way)
+    → address_of (setup_law s row bytes x y z).1 ≡ address_of s
 setup_address s row bytes x y z = split (is_whole x && is_whole y)
   where
-    split : (v : Bool) → address_of (if v then replied (heard z (Some Ack)) (accepted s row (setup_of bytes)) else replied None s).1 ≡ address_of s
+    split : (v : Bool) → address_of (if v then replied (heard z (Some Ack))
+        (accepted s row (setup_of bytes)) else replied None s).1 ≡ address_of s
     split true = register_address s.registers (outcome s.spec s.registers (setup_of bytes))
     split false = refl
 
@@ -83,107 +93,138 @@ reach-occupied : (k : Ports) (i : ℕ) (e : List ℕ) → reach_at k i e ≡ tru
 unfolding reach_at state_at
 reach-occupied ended i e h = false_true h
 reach-occupied (vacant b k) zero e h = false_true h
-reach-occupied (vacant b k) (suc i) e h = let y : PlaceOccupied k i e = reach-occupied k i e h in record { own = y.own; at = y.at }
+reach-occupied (vacant b k) (suc i) e h = let y : PlaceOccupied k i e = reach-occupied k i e h in
+    record { own = y.own; at = y.at }
 reach-occupied (taken b s a k) zero [] h = record { own = s; at = refl }
 reach-occupied (taken b s a k) zero (zero ∷ e) h = false_true h
-reach-occupied (taken b s a k) zero (suc j ∷ e) h = let y : PlaceOccupied a j e = reach-occupied a j e (both b.enable (reach_at a j e) h).1 in record { own = y.own; at = y.at }
-reach-occupied (taken b s a k) (suc i) e h = let y : PlaceOccupied k i e = reach-occupied k i e h in record { own = y.own; at = y.at }
+reach-occupied (taken b s a k) zero (suc j ∷ e) h = let y : PlaceOccupied a j e =
+    reach-occupied a j e (both b.enable (reach_at a j e) h).1 in record { own = y.own; at = y.at }
+reach-occupied (taken b s a k) (suc i) e h = let y : PlaceOccupied k i e = reach-occupied k i e h in
+    record { own = y.own; at = y.at }
 
-module _ (a : Attempt) (w : World) (h : HolderIn a w) (bytes : List ℕ) (is : IsSetup a bytes) (n : ℕ) (names : (setup_of bytes).index ≡ n) (f : List ℕ → Option ℕ) (own : HoldsMapped f w) where
-  open h use {spot.{row as j, rest as p}, own as s, below}
+module _ (a : Attempt) (w : World) (h : HolderIn a w) (bytes : List ℕ) (is : IsSetup a bytes)
+    (n : ℕ) (names : (setup_of bytes).index ≡ n) (f : List ℕ → Option ℕ) (own : HoldsMapped f w)
+  where
+    open h use {spot.{row as j, rest as p}, own as s, below}
 
-  abbrev k : Ports
-  k = (at_attempt w).roots
+    abbrev k : Ports
+    k = (at_attempt w).roots
 
-  abbrev target : List ℕ
-  target = suc j ∷ (p ++ (n ∷ []))
+    abbrev target : List ℕ
+    target = suc j ∷ (p ++ (n ∷ []))
 
-  abbrev one : Holder a.addr k
-  one = holder_in a w h
+    abbrev one : Holder a.addr k
+    one = holder_in a w h
 
-  -- the device at a path has the address that it had
-  abbrev Stays : ℕ → List ℕ → Type 0
-  Stays i e = option_map address_of (state_at (after (attempt a) w).roots i e) ≡ f (suc i ∷ e)
+    -- the device at a path has the address that it had
+    abbrev Stays : ℕ → List ℕ → Type 0
+    Stays i e = option_map address_of (state_at (after (attempt a) w).roots i e) ≡ f (suc i ∷ e)
 
-  hub_is : option_map address_of (state_at (after (attempt a) w).roots j p) ≡ Some (address_of s)
-  hub_is = pick s.spec.silent refl
-    where
-      pick : (x : Bool) → s.spec.silent ≡ x → option_map address_of (state_at (after (attempt a) w).roots j p) ≡ Some (address_of s)
-      pick true e = ap (option_map address_of) (silent_in a w h e).state
-      pick false e =
-          ap (option_map address_of) (setup_in a w h e bytes is).state
-          ∙ ap (λ x. Some x) (setup_address s (row_of below) bytes (token_way a (damage_in (at_attempt w)) (deep_at false p) s) (payload_way a (damage_in (at_attempt w)) (deep_at false p) s) (answer_way a (damage_in (at_attempt w)) k))
+    hub_is : option_map address_of (state_at (after (attempt a) w).roots j p) ≡ Some (address_of s)
+    hub_is = pick s.spec.silent refl
+      where
+        pick : (x : Bool) → s.spec.silent ≡ x
+            → option_map address_of (state_at (after (attempt a) w).roots j p) ≡ Some (address_of s)
+        pick true e = ap (option_map address_of) (silent_in a w h e).state
+        pick false e =
+            ap (option_map address_of) (setup_in a w h e bytes is).state
+            ∙ ap (λ x. Some x) (setup_address s (row_of below) bytes
+            (token_way a (damage_in (at_attempt w)) (deep_at false p) s)
+            (payload_way a (damage_in (at_attempt w)) (deep_at false p) s)
+            (answer_way a (damage_in (at_attempt w)) k))
 
-  hub_stays : Stays j p
-  hub_stays = hub_is ∙ ap (λ x. Some x) h.at ∙ sym (holder_holds a.addr k one).at ∙ ready_own f w own (suc j ∷ p) h.on
+    hub_stays : Stays j p
+    hub_stays = hub_is ∙ ap (λ x. Some x) h.at ∙ sym (holder_holds a.addr k one).at
+        ∙ ready_own f w own (suc j ∷ p) h.on
 
-  other_stays : (i : ℕ) (e : List ℕ) → (same_number i j && same_path e p) ≡ false → made_resets a (at_attempt w) (suc i ∷ e) ≡ false → reach_at k i e ≡ true → Stays i e
-  unfolding resets
-  other_stays i e differ rest on =
-      let v : PlaceOccupied k i e = reach-occupied k i e on in
-      ap (option_map address_of) (others_in a w h i e v.own differ v.at)
-      ∙ ap (λ x. Some (address_of (reset_if x v.own))) (ap (λ x. is_made w.fault w && x) rest ∙ and_false (is_made w.fault w))
-      ∙ sym (ap (option_map address_of) v.at) ∙ ready_own f w own (suc i ∷ e) on
+    other_stays : (i : ℕ) (e : List ℕ) → (same_number i j && same_path e p) ≡ false
+        → made_resets a (at_attempt w) (suc i ∷ e) ≡ false → reach_at k i e ≡ true → Stays i e
+    unfolding resets
+    other_stays i e differ rest on =
+        let v : PlaceOccupied k i e = reach-occupied k i e on in
+        ap (option_map address_of) (others_in a w h i e v.own differ v.at)
+        ∙ ap (λ x. Some (address_of (reset_if x v.own))) (ap (λ x. is_made w.fault w && x) rest
+        ∙ and_false (is_made w.fault w))
+        ∙ sym (ap (option_map address_of) v.at) ∙ ready_own f w own (suc i ∷ e) on
 
-  stays : (i : ℕ) (e : List ℕ) → made_resets a (at_attempt w) (suc i ∷ e) ≡ false → reach_at (after (attempt a) w).roots i e ≡ true → Stays i e
-  unfolding with_attempt
-  stays i e rest on = pick (decided (same_number i j && same_path e p))
-    where
-      before : reach_at k i e ≡ true
-      before = made_reach a (at_attempt w) (suc i ∷ e) rest (ap (λ v. reach_at v.roots i e) (sym (made_is a w h.made)) ∙ on)
+    stays : (i : ℕ) (e : List ℕ) → made_resets a (at_attempt w) (suc i ∷ e) ≡ false
+        → reach_at (after (attempt a) w).roots i e ≡ true → Stays i e
+    unfolding with_attempt
+    stays i e rest on = pick (decided (same_number i j && same_path e p))
+      where
+        before : reach_at k i e ≡ true
+        before = made_reach a (at_attempt w) (suc i ∷ e) rest
+            (ap (λ v. reach_at v.roots i e) (sym (made_is a w h.made)) ∙ on)
 
-      pick : ((same_number i j && same_path e p) ≡ true) ⊎ ((same_number i j && same_path e p) ≡ false) → Stays i e
-      pick (inl y) =
-          let at : _ = both (same_number i j) (same_path e p) y in
-          subst (λ u. Stays u e) (same_number-is i j at.0) (subst (λ x. Stays j x) (same_is e p at.1) hub_stays)
-      pick (inr y) = other_stays i e y rest before
+        pick : ((same_number i j && same_path e p) ≡ true)
+            ⊎ ((same_number i j && same_path e p) ≡ false) → Stays i e
+        pick (inl y) =
+            let at : _ = both (same_number i j) (same_path e p) y in
+            subst (λ u. Stays u e) (same_number-is i j at.0)
+            (subst (λ x. Stays j x) (same_is e p at.1) hub_stays)
+        pick (inr y) = other_stays i e y rest before
 
-  rests_elsewhere : (x : List ℕ) → same_path target x ≡ false → made_resets a (at_attempt w) x ≡ false
-  rests_elsewhere = other_rests a w h bytes is n names
+    rests_elsewhere : (x : List ℕ) → same_path target x ≡ false → made_resets a (at_attempt w) x
+        ≡ false
+    rests_elsewhere = other_rests a w h bytes is n names
 
-  own_reset : resets (attempt a) w target ≡ true → HoldsMapped (after_reset f target) (after (attempt a) w)
-  own_reset y [] on = false_true on
-  own_reset y (zero ∷ e) on = false_true on
-  own_reset y (suc i ∷ e) on = pick (decided (same_path target (suc i ∷ e)))
-    where
-      new : IsNew (place (after (attempt a) w).roots target)
-      new = step_new (attempt a) w target y
+    own_reset : resets (attempt a) w target ≡ true
+        → HoldsMapped (after_reset f target) (after (attempt a) w)
+    own_reset y [] on = false_true on
+    own_reset y (zero ∷ e) on = false_true on
+    own_reset y (suc i ∷ e) on = pick (decided (same_path target (suc i ∷ e)))
+      where
+        new : IsNew (place (after (attempt a) w).roots target)
+        new = step_new (attempt a) w target y
 
-      unreached : is_way target (suc i ∷ e) ≡ true → same_path target (suc i ∷ e) ≡ false → false ≡ true
-      unreached g d =
-          let z : Beyond target (suc i ∷ e) = is_way-beyond target (suc i ∷ e) g d in
-          sym (ap (reach (after (attempt a) w).roots) z.is ∙ new_under (after (attempt a) w).roots target z.m z.r new) ∙ on
+        unreached : is_way target (suc i ∷ e) ≡ true → same_path target (suc i ∷ e) ≡ false
+            → false ≡ true
+        unreached g d =
+            let z : Beyond target (suc i ∷ e) = is_way-beyond target (suc i ∷ e) g d in
+            sym (ap (reach (after (attempt a) w).roots) z.is
+            ∙ new_under (after (attempt a) w).roots target z.m z.r new) ∙ on
 
-      further : same_path target (suc i ∷ e) ≡ false → (is_way target (suc i ∷ e) ≡ true) ⊎ (is_way target (suc i ∷ e) ≡ false) → address_at (after (attempt a) w).roots (suc i ∷ e) ≡ after_reset f target (suc i ∷ e)
-      further d (inl g) = false_true (unreached g d)
-      further d (inr g) =
-          stays i e (rests_elsewhere (suc i ∷ e) d) on
-          ∙ ap₂ (λ u v. if u then Some 0 else if v then None else f (suc i ∷ e)) (sym d) (sym g)
+        further : same_path target (suc i ∷ e) ≡ false → (is_way target (suc i ∷ e) ≡ true)
+            ⊎ (is_way target (suc i ∷ e) ≡ false)
+            → address_at (after (attempt a) w).roots (suc i ∷ e)
+            ≡ after_reset f target (suc i ∷ e)
+        further d (inl g) = false_true (unreached g d)
+        further d (inr g) =
+            stays i e (rests_elsewhere (suc i ∷ e) d) on
+            ∙ ap₂ (λ u v. if u then Some 0 else if v then None else f (suc i ∷ e)) (sym d) (sym g)
 
-      pick : (same_path target (suc i ∷ e) ≡ true) ⊎ (same_path target (suc i ∷ e) ≡ false) → address_at (after (attempt a) w).roots (suc i ∷ e) ≡ after_reset f target (suc i ∷ e)
-      pick (inl d) =
-          ap (address_at (after (attempt a) w).roots) (same_is target (suc i ∷ e) d) ∙ new_there (after (attempt a) w).roots target new
-          ∙ ap (λ u. if u then Some 0 else if is_way target (suc i ∷ e) then None else f (suc i ∷ e)) (sym d)
-      pick (inr d) = further d (decided (is_way target (suc i ∷ e)))
+        pick : (same_path target (suc i ∷ e) ≡ true) ⊎ (same_path target (suc i ∷ e) ≡ false)
+            → address_at (after (attempt a) w).roots (suc i ∷ e) ≡ after_reset f target (suc i ∷ e)
+        pick (inl d) =
+            ap (address_at (after (attempt a) w).roots) (same_is target (suc i ∷ e) d)
+            ∙ new_there (after (attempt a) w).roots target new
+            ∙ ap (λ u. if u then Some 0 else if is_way target (suc i ∷ e) then None else f
+            (suc i ∷ e)) (sym d)
+        pick (inr d) = further d (decided (is_way target (suc i ∷ e)))
 
-  own_rest : resets (attempt a) w target ≡ false → HoldsMapped f (after (attempt a) w)
-  unfolding resets
-  own_rest y [] on = false_true on
-  own_rest y (zero ∷ e) on = false_true on
-  own_rest y (suc i ∷ e) on = stays i e (pick (decided (same_path target (suc i ∷ e)))) on
-    where
-      at_target : made_resets a (at_attempt w) target ≡ false
-      at_target = ap (λ x. x && made_resets a (at_attempt w) target) (sym (made_true a w h.made)) ∙ y
+    own_rest : resets (attempt a) w target ≡ false → HoldsMapped f (after (attempt a) w)
+    unfolding resets
+    own_rest y [] on = false_true on
+    own_rest y (zero ∷ e) on = false_true on
+    own_rest y (suc i ∷ e) on = stays i e (pick (decided (same_path target (suc i ∷ e)))) on
+      where
+        at_target : made_resets a (at_attempt w) target ≡ false
+        at_target = ap (λ x. x && made_resets a (at_attempt w) target) (sym (made_true a w h.made))
+            ∙ y
 
-      pick : (same_path target (suc i ∷ e) ≡ true) ⊎ (same_path target (suc i ∷ e) ≡ false) → made_resets a (at_attempt w) (suc i ∷ e) ≡ false
-      pick (inl d) = ap (made_resets a (at_attempt w)) (same_is target (suc i ∷ e) d) ∙ at_target
-      pick (inr d) = rests_elsewhere (suc i ∷ e) d
+        pick : (same_path target (suc i ∷ e) ≡ true) ⊎ (same_path target (suc i ∷ e) ≡ false)
+            → made_resets a (at_attempt w) (suc i ∷ e) ≡ false
+        pick (inl d) = ap (made_resets a (at_attempt w)) (same_is target (suc i ∷ e) d) ∙ at_target
+        pick (inr d) = rests_elsewhere (suc i ∷ e) d
 
 pub hub_reset : (a : Attempt) (w : World) (h : HolderIn a w) (bytes : List ℕ) → IsSetup a bytes
-    → (n : ℕ) → (setup_of bytes).index ≡ n → (f : List ℕ → Option ℕ) → resets (attempt a) w (path_to h.spot ++ (n ∷ [])) ≡ true → HoldsMapped f w
+    → (n : ℕ) → (setup_of bytes).index ≡ n → (f : List ℕ → Option ℕ)
+    → resets (attempt a) w (path_to h.spot ++ (n ∷ [])) ≡ true → HoldsMapped f w
     → HoldsMapped (after_reset f (path_to h.spot ++ (n ∷ []))) (after (attempt a) w)
 hub_reset a w h bytes is n names f y own = own_reset a w h bytes is n names f own y
 
 pub hub_rest : (a : Attempt) (w : World) (h : HolderIn a w) (bytes : List ℕ) → IsSetup a bytes
-    → (n : ℕ) → (setup_of bytes).index ≡ n → (f : List ℕ → Option ℕ) → resets (attempt a) w (path_to h.spot ++ (n ∷ [])) ≡ false → HoldsMapped f w → HoldsMapped f (after (attempt a) w)
+    → (n : ℕ) → (setup_of bytes).index ≡ n → (f : List ℕ → Option ℕ)
+    → resets (attempt a) w (path_to h.spot ++ (n ∷ [])) ≡ false → HoldsMapped f w
+    → HoldsMapped f (after (attempt a) w)
 hub_rest a w h bytes is n names f y own = own_rest a w h bytes is n names f own y

@@ -3,14 +3,18 @@ use Rattle.std.proofs.Common.{◌≡◌, ℕ, zero, suc, ◌&&◌, ◌||◌, if�
 use Rattle.std.proofs.Common.{[], ◌∷◌, option_map, refl, ap, sym, ◌∙◌}
 use Rattle.usb_port.specs.PortState.{PortState, is_attached, powered_off}
 use Rattle.usb_port.specs.declared.call.PortCall.{PortCall}
-use Rattle.usb_port.specs.declared.call.PortCall.TheVariants.{SetPower, SetReset, ClearEnable, ClearPower, ClearConnectionChange, ClearEnableChange, ClearResetChange}
+use Rattle.usb_port.specs.declared.call.PortCall.TheVariants.{SetPower, SetReset, ClearEnable}
+use Rattle.usb_port.specs.declared.call.PortCall.TheVariants.{ClearPower, ClearConnectionChange}
+use Rattle.usb_port.specs.declared.call.PortCall.TheVariants.{ClearEnableChange, ClearResetChange}
 use Rattle.usb_device.specs.Rows.{reset_state}
 use Rattle.usb_device.specs.Tree.{Ports, ended, vacant, taken, empty, full, called, reset_where}
 use Rattle.usb_device.specs.Tree.{before, all_off, changed_at, reach_at, state_at, place_at}
 use Rattle.usb_port.specs.Calls.{called_port, is_reset}
 use Rattle.usb_tree.specs.Paths.{has_power_at, pending_at, same_number}
-use Rattle.usb_tree.specs.WayEffects.{IsNew, call_resets, reset_if, keeps_pending, call_keeps_pending}
-use Rattle.usb_tree.proofs.Interface.{both, and_of, and_false, and_wider, or_right, or_wider, false_true}
+use Rattle.usb_tree.specs.WayEffects.{IsNew, call_resets, reset_if, keeps_pending}
+use Rattle.usb_tree.specs.WayEffects.{call_keeps_pending}
+use Rattle.usb_tree.proofs.Interface.{both, and_of, and_false, and_wider, or_right, or_wider}
+use Rattle.usb_tree.proofs.Interface.{false_true}
 use Rattle.usb_world.proofs.ways.WayChanges.{SamePorts, same_way-other_port, same_way-behind}
 use Rattle.usb_tree.proofs.Interface.{reset_if-false}
 
@@ -38,9 +42,18 @@ off_way (taken b s a k) (suc j) p = off_way k j p
 abbrev sees : PortState → Bool
 sees b = b.power && is_attached b.attached
 
-called_port-enable : (c : PortCall) (b : PortState) → (is_reset c && sees b) ≡ false → (called_port c b).enable ≡ true → b.enable ≡ true
-called_port-enable SetPower b = elim b.power as (λ x. false ≡ false → (if x then b else record b { power = true; connection_changed = is_attached b.attached || b.connection_changed }).enable ≡ true → b.enable ≡ true) [ true ↦ λ h g. g | false ↦ λ h g. g ]
-called_port-enable SetReset b = elim (sees b) as (λ x. x ≡ false → (if x then record b { enable = true; reset_changed = true } else b).enable ≡ true → b.enable ≡ true) [ true ↦ λ h g. false_true (sym h) | false ↦ λ h g. g ]
+called_port-enable : (c : PortCall) (b : PortState) → (is_reset c && sees b) ≡ false
+    → (called_port c b).enable ≡ true → b.enable ≡ true
+called_port-enable SetPower b = elim b.power
+    as (λ x. false ≡ false → (if x then b else record b {
+      power = true;
+      connection_changed =
+          is_attached b.attached || b.connection_changed;
+    }).enable ≡ true → b.enable ≡ true)
+    [ true ↦ λ h g. g | false ↦ λ h g. g ]
+called_port-enable SetReset b = elim (sees b)
+    as (λ x. x ≡ false → (if x then record b { enable = true; reset_changed = true } else b).enable
+    ≡ true → b.enable ≡ true) [ true ↦ λ h g. false_true (sym h) | false ↦ λ h g. g ]
 called_port-enable ClearEnable b = λ h g. false_true g
 called_port-enable ClearPower b = λ h g. false_true g
 called_port-enable ClearConnectionChange b = λ h g. g
@@ -145,15 +158,21 @@ pub call_state : (c : PortCall) (k : Ports) (i j : ℕ) (p : List ℕ)
     ≡ option_map (reset_if (call_resets c k i j p)) (state_at k j p)
 call_state c k i j p = (call_way c k i j p).0
 
-pub called_power : (c : PortCall) (b : PortState) (p : List ℕ) → keeps_pending c p ≡ true → b.power ≡ true → (called_port c b).power ≡ true
+pub called_power : (c : PortCall) (b : PortState) (p : List ℕ) → keeps_pending c p ≡ true
+    → b.power ≡ true → (called_port c b).power ≡ true
 called_power SetPower b p h g = lit b.power refl
   where
-    lit : (x : Bool) → b.power ≡ x → (if x then b else record b { power = true; connection_changed = is_attached b.attached || b.connection_changed }).power ≡ true
+    lit : (x : Bool) → b.power ≡ x → (if x then b else record b {
+      power = true;
+      connection_changed =
+          is_attached b.attached || b.connection_changed;
+    }).power ≡ true
     lit true e = e
     lit false e = refl
 called_power SetReset b p h g = lit (sees b)
   where
-    lit : (x : Bool) → (if x then record b { enable = true; reset_changed = true } else b).power ≡ true
+    lit : (x : Bool) → (if x then record b { enable = true; reset_changed = true } else b).power
+        ≡ true
     lit true = g
     lit false = g
 called_power ClearEnable b p h g = g
@@ -162,15 +181,21 @@ called_power ClearConnectionChange b p h g = false_true h
 called_power ClearEnableChange b p h g = g
 called_power ClearResetChange b p h g = g
 
-pub called_change : (c : PortCall) (b : PortState) (p : List ℕ) → keeps_pending c p ≡ true → b.connection_changed ≡ true → (called_port c b).connection_changed ≡ true
+pub called_change : (c : PortCall) (b : PortState) (p : List ℕ) → keeps_pending c p ≡ true
+    → b.connection_changed ≡ true → (called_port c b).connection_changed ≡ true
 called_change SetPower b p h g = lit b.power
   where
-    lit : (x : Bool) → (if x then b else record b { power = true; connection_changed = is_attached b.attached || b.connection_changed }).connection_changed ≡ true
+    lit : (x : Bool) → (if x then b else record b {
+      power = true;
+      connection_changed =
+          is_attached b.attached || b.connection_changed;
+    }).connection_changed ≡ true
     lit true = g
     lit false = or_right (is_attached b.attached) b.connection_changed g
 called_change SetReset b p h g = lit (sees b)
   where
-    lit : (x : Bool) → (if x then record b { enable = true; reset_changed = true } else b).connection_changed ≡ true
+    lit : (x : Bool) → (if x then record b { enable = true; reset_changed = true }
+        else b).connection_changed ≡ true
     lit true = g
     lit false = g
 called_change ClearEnable b p h g = g
@@ -179,12 +204,15 @@ called_change ClearConnectionChange b p h g = false_true h
 called_change ClearEnableChange b p h g = g
 called_change ClearResetChange b p h g = g
 
-called_pend : (c : PortCall) (b : PortState) (p : List ℕ) → keeps_pending c p ≡ true → (b.power && b.connection_changed) ≡ true → ((called_port c b).power && (called_port c b).connection_changed) ≡ true
+called_pend : (c : PortCall) (b : PortState) (p : List ℕ) → keeps_pending c p ≡ true
+    → (b.power && b.connection_changed) ≡ true
+    → ((called_port c b).power && (called_port c b).connection_changed) ≡ true
 called_pend c b p h g =
     let on : _ = both b.power b.connection_changed g in
     and_of (called_port c b).power _ (called_power c b p h on.0) (called_change c b p h on.1)
 
-spares-no_reset : (c : PortCall) (n : ℕ) (p : List ℕ) (x : Bool) → keeps_pending c (n ∷ p) ≡ true → (is_reset c && x) ≡ false
+spares-no_reset : (c : PortCall) (n : ℕ) (p : List ℕ) (x : Bool) → keeps_pending c (n ∷ p) ≡ true
+    → (is_reset c && x) ≡ false
 spares-no_reset SetPower n p x h = refl
 spares-no_reset SetReset n p x h = false_true h
 spares-no_reset ClearEnable n p x h = refl
@@ -196,7 +224,8 @@ spares-no_reset ClearResetChange n p x h = refl
 -- what is live stays so, and what is pending
 abbrev pub KeepsPending : Ports → Ports → ℕ → List ℕ → Type 0
 KeepsPending k m j p =
-    (has_power_at k j p ≡ true → has_power_at m j p ≡ true) × (pending_at k j p ≡ true → pending_at m j p ≡ true)
+    (has_power_at k j p ≡ true → has_power_at m j p ≡ true)
+    × (pending_at k j p ≡ true → pending_at m j p ≡ true)
 
 pub pending_kept : (k m : Ports) (j : ℕ) (p : List ℕ) → SamePorts k m j p → KeepsPending k m j p
 pending_kept k m j p x = (λ g. x.1 ∙ g, λ g. x.2 ∙ g)

@@ -1,12 +1,17 @@
 -- What a request can ask of the ports of a device that hears it.
-use Rattle.std.proofs.Common.{◌≡◌, ℕ, zero, suc, ◌-◌, ◌/◌, ◌%◌, ◌==◌, ◌&&◌, not, nat_le, if◌then◌else◌, Bool, true, false, List, [], ◌∷◌, length, slice_get, Option, None, Some, is_some, refl, ap, arith}
+use Rattle.std.proofs.Common.{◌≡◌, ℕ, zero, suc, ◌-◌, ◌/◌, ◌%◌, ◌==◌, ◌&&◌, not, nat_le}
+use Rattle.std.proofs.Common.{if◌then◌else◌, Bool, true, false, List, [], ◌∷◌, length, slice_get}
+use Rattle.std.proofs.Common.{Option, None, Some, is_some, refl, ap, arith}
 use Rattle.std.proofs.lemmas.Option.{same_Some}
 use Rattle.arrayvec.specs.ArrayVec.{ArrayVec}
 use Rattle.usb_packet.specs.declared.Packet.TheVariants.{Payload}
 use Rattle.usb_packet.specs.declared.Packet.TheVariants as packet
 use Rattle.usb_packet.specs.declared.Toggle.{Toggle}
 use Rattle.usb_packet.specs.declared.Toggle.TheVariants.{Zero, One}
-use Rattle.usb_request.specs.Codes.{DEVICE, CONFIGURATION, STRING, HUB, GET_STATUS, CLEAR_FEATURE, SET_FEATURE, SET_ADDRESS, GET_DESCRIPTOR, GET_CONFIGURATION, SET_CONFIGURATION, DEVICE_IN, DEVICE_OUT, ENDPOINT_OUT, HUB_IN, PORT_IN, PORT_OUT}
+use Rattle.usb_request.specs.Codes.{DEVICE, CONFIGURATION, STRING, HUB, GET_STATUS, CLEAR_FEATURE}
+use Rattle.usb_request.specs.Codes.{SET_FEATURE, SET_ADDRESS, GET_DESCRIPTOR, GET_CONFIGURATION}
+use Rattle.usb_request.specs.Codes.{SET_CONFIGURATION, DEVICE_IN, DEVICE_OUT, ENDPOINT_OUT, HUB_IN}
+use Rattle.usb_request.specs.Codes.{PORT_IN, PORT_OUT}
 use Rattle.usb_request.specs.Requests.{descriptor_value}
 use Rattle.usb_request.specs.declared.setup.Setup.{Setup}
 use Rattle.usb_request.specs.Layout.{setup_of}
@@ -19,10 +24,15 @@ use Rattle.usb_device.specs.declared.effect.Effect.{Effect}
 use Rattle.usb_device.specs.declared.effect.Effect.TheVariants.{Leaves, Calls, PortsOff}
 use Rattle.usb_device.specs.declared.request.Registers.{Registers}
 use Rattle.usb_device.specs.declared.transfer.RememberedPacket.{RememberedPacket}
-use Rattle.usb_device.specs.declared.transfer.RememberedPacket.TheVariants.{Nothing, SetupSeen, OutSeen, AckAwaited}
+use Rattle.usb_device.specs.declared.transfer.RememberedPacket.TheVariants.{Nothing, SetupSeen}
+use Rattle.usb_device.specs.declared.transfer.RememberedPacket.TheVariants.{OutSeen, AckAwaited}
 use Rattle.usb_device.specs.Spec.{Spec, Hub}
 use Rattle.usb_port.specs.Calls.{set_call, clear_call}
-use Rattle.usb_device.specs.Request.{Outcome, stalled, answers, takes_address, takes_configuration, halts, unhalts, Is, unless, text_asked, asked_descriptor, asked_status, asked_address, asked_configuration, endpoint_of, on_endpoint, asked_hub_descriptor, port_named, told_port, called_at, asked_port_status, port_feature, outcome, is_value}
+use Rattle.usb_device.specs.Request.{Outcome, stalled, answers, takes_address, takes_configuration}
+use Rattle.usb_device.specs.Request.{halts, unhalts, Is, unless, text_asked, asked_descriptor}
+use Rattle.usb_device.specs.Request.{asked_status, asked_address, asked_configuration, endpoint_of}
+use Rattle.usb_device.specs.Request.{on_endpoint, asked_hub_descriptor, port_named, told_port}
+use Rattle.usb_device.specs.Request.{called_at, asked_port_status, port_feature, outcome, is_value}
 use Rattle.usb_device.specs.Rows.{State}
 use Rattle.usb_device.specs.Effect.{asks, asked_by_data, asked_by_setup, effect_of_request}
 use Rattle.usb_device.specs.Delivery.{hears, asked_by, effect_of}
@@ -44,8 +54,10 @@ payload_asks_no_port (Some x) = asks_no_port (setup_of x.1.items)
 pub record Allows (T : Effect → Bool) (r : Setup) : Type 0 where
   pub rests : T Leaves ≡ true
   pub off : Is r DEVICE_OUT SET_CONFIGURATION ≡ true → T PortsOff ≡ true
-  pub set : Is r PORT_OUT SET_FEATURE ≡ true → (c : PortCall) (i : ℕ) → set_call r.value ≡ Some c → r.index ≡ suc i → T (Calls c i) ≡ true
-  pub clear : Is r PORT_OUT CLEAR_FEATURE ≡ true → (c : PortCall) (i : ℕ) → clear_call r.value ≡ Some c → r.index ≡ suc i → T (Calls c i) ≡ true
+  pub set : Is r PORT_OUT SET_FEATURE ≡ true → (c : PortCall) (i : ℕ) → set_call r.value ≡ Some c
+      → r.index ≡ suc i → T (Calls c i) ≡ true
+  pub clear : Is r PORT_OUT CLEAR_FEATURE ≡ true → (c : PortCall) (i : ℕ)
+      → clear_call r.value ≡ Some c → r.index ≡ suc i → T (Calls c i) ≡ true
 
 -- wIndex counts ports from 1
 if_and_false : (x y : Bool) (n i : ℕ) → (if x && false && y then Some n else None) ≡ Some i → ⊥
@@ -54,8 +66,10 @@ if_and_false false y n i h = false_true (ap is_some h)
 
 port_named-some : (o : Option Hub) (g : Registers) (n i : ℕ) → port_named o g n ≡ Some i → n ≡ suc i
 port_named-some None g n i h = false_true (ap is_some h)
-port_named-some (Some hub) g zero i h = elim (if_and_false (not (g.configuration == 0)) (nat_le 0 hub.ports) (0 - 1) i h) [ ]
-port_named-some (Some hub) g (suc n) i h = pick (not (g.configuration == 0) && nat_le 1 (suc n) && nat_le (suc n) hub.ports) h
+port_named-some (Some hub) g zero i h =
+    elim (if_and_false (not (g.configuration == 0)) (nat_le 0 hub.ports) (0 - 1) i h) [ ]
+port_named-some (Some hub) g (suc n) i h =
+    pick (not (g.configuration == 0) && nat_le 1 (suc n) && nat_le (suc n) hub.ports) h
   where
     pick : (x : Bool) → (if x then Some (suc n - 1) else None) ≡ Some i → suc n ≡ suc i
     pick true e = let z : suc n - 1 ≡ i = same_Some (suc n - 1) i e in omega (arith, z)
@@ -79,47 +93,73 @@ module _ (T : Effect → Bool) (r : Setup) (h : Allows T r) where
 
   by_descriptor : (s : Spec) (v : ℕ) → Good (asked_descriptor s v)
   by_descriptor s v =
-      both_ways (v == descriptor_value DEVICE 0) _ _ (both_ways s.stalls.device stalled (answers s.descriptor) h.rests h.rests)
-      (both_ways (v / 256 == CONFIGURATION) _ _ (both_ways s.stalls.config stalled (text_asked s.configs (v % 256)) h.rests (by_text (slice_get s.configs (v % 256))))
-      (both_ways (v / 256 == STRING) _ _ (both_ways s.stalls.string stalled (text_asked s.strings (v % 256)) h.rests (by_text (slice_get s.strings (v % 256)))) h.rests))
+      both_ways (v == descriptor_value DEVICE 0) _ _
+      (both_ways s.stalls.device stalled (answers s.descriptor) h.rests h.rests)
+      (both_ways (v / 256 == CONFIGURATION) _ _
+      (both_ways s.stalls.config stalled (text_asked s.configs (v % 256)) h.rests
+      (by_text (slice_get s.configs (v % 256))))
+      (both_ways (v / 256 == STRING) _ _ (both_ways s.stalls.string stalled
+      (text_asked s.strings (v % 256)) h.rests (by_text (slice_get s.strings (v % 256))))
+      h.rests))
 
-  by_endpoint : (f : ServedEndpoint → Outcome) → ((w : ServedEndpoint) → Good (f w)) → (o : Option ServedEndpoint) → Good (on_endpoint f o)
+  by_endpoint : (f : ServedEndpoint → Outcome) → ((w : ServedEndpoint) → Good (f w))
+      → (o : Option ServedEndpoint) → Good (on_endpoint f o)
   by_endpoint f c None = h.rests
   by_endpoint f c (Some w) = c w
 
   by_hub : (o : Option Hub) → Good (asked_hub_descriptor o r)
   by_hub None = h.rests
-  by_hub (Some hub) = both_ways (r.value == descriptor_value HUB 0) (answers hub.descriptor) stalled h.rests h.rests
+  by_hub (Some hub) = both_ways (r.value == descriptor_value HUB 0) (answers hub.descriptor) stalled
+      h.rests h.rests
 
   by_status : (o : Option ℕ) → Good (told_port o)
   by_status None = h.rests
   by_status (Some i) = h.rests
 
-  by_call : (c : Option PortCall) (o : Option ℕ) → ((x : PortCall) (i : ℕ) → c ≡ Some x → o ≡ Some i → T (Calls x i) ≡ true) → Good (called_at c o)
+  by_call : (c : Option PortCall) (o : Option ℕ) → ((x : PortCall) (i : ℕ) → c ≡ Some x → o ≡ Some i
+      → T (Calls x i) ≡ true) → Good (called_at c o)
   by_call None o f = h.rests
   by_call (Some x) None f = h.rests
   by_call (Some x) (Some i) f = f x i refl refl
 
-  by_feature : (c : Option PortCall) (s : Spec) (g : Registers) → ((x : PortCall) (i : ℕ) → c ≡ Some x → r.index ≡ suc i → T (Calls x i) ≡ true) → Good (port_feature c s g r)
+  by_feature : (c : Option PortCall) (s : Spec) (g : Registers)
+      → ((x : PortCall) (i : ℕ) → c ≡ Some x → r.index ≡ suc i → T (Calls x i) ≡ true)
+      → Good (port_feature c s g r)
   by_feature c s g f =
       both_ways (r.length == 0) (called_at c (port_named s.hub g r.index)) stalled
-      (by_call c (port_named s.hub g r.index) (λ x i e at. f x i e (port_named-some s.hub g r.index i at))) h.rests
+      (by_call c (port_named s.hub g r.index)
+      (λ x i e at. f x i e (port_named-some s.hub g r.index i at))) h.rests
 
   good_outcome : (s : Spec) (g : Registers) → Good (outcome s g r)
   unfolding outcome
   good_outcome s g =
-      both_ways (Is r DEVICE_IN GET_DESCRIPTOR) (asked_descriptor s r.value) _ (by_descriptor s r.value)
-      (both_ways (Is r DEVICE_IN GET_STATUS) (unless s.stalls.status (asked_status s r)) _ (both_ways s.stalls.status stalled (asked_status s r) h.rests (both_ways (r.value == 0 && r.index == 0) _ stalled h.rests h.rests))
+      both_ways (Is r DEVICE_IN GET_DESCRIPTOR) (asked_descriptor s r.value) _
+      (by_descriptor s r.value)
+      (both_ways (Is r DEVICE_IN GET_STATUS) (unless s.stalls.status (asked_status s r)) _
+      (both_ways s.stalls.status stalled (asked_status s r) h.rests
+      (both_ways (r.value == 0 && r.index == 0) _ stalled h.rests h.rests))
       (both_ways (Is r DEVICE_IN GET_CONFIGURATION) (answers (g.configuration ∷ [])) _ h.rests
-      (both_ways (Is r DEVICE_OUT SET_ADDRESS) (unless s.stalls.address (asked_address r)) _ (both_ways s.stalls.address stalled (asked_address r) h.rests (both_ways (nat_le r.value 127 && r.length == 0) (takes_address r.value) stalled h.rests h.rests))
-      (branch (Is r DEVICE_OUT SET_CONFIGURATION) (unless s.stalls.set_config (asked_configuration s g r)) _
-      (λ e. both_ways s.stalls.set_config stalled (asked_configuration s g r) h.rests (both_ways (not (g.address == 0) && is_value s.configs r.value && r.length == 0) (takes_configuration r.value) stalled (h.off e) h.rests))
-      (both_ways (Is r ENDPOINT_OUT CLEAR_FEATURE) (on_endpoint unhalts (endpoint_of s g r)) _ (by_endpoint unhalts (λ w. h.rests) (endpoint_of s g r))
-      (both_ways (Is r ENDPOINT_OUT SET_FEATURE) (on_endpoint halts (endpoint_of s g r)) _ (by_endpoint halts (λ w. h.rests) (endpoint_of s g r))
-      (both_ways (Is r HUB_IN GET_DESCRIPTOR) (unless s.stalls.hub (asked_hub_descriptor s.hub r)) _ (both_ways s.stalls.hub stalled (asked_hub_descriptor s.hub r) h.rests (by_hub s.hub))
-      (both_ways (Is r PORT_IN GET_STATUS) (asked_port_status s g r) _ (by_status (port_named s.hub g r.index))
-      (branch (Is r PORT_OUT SET_FEATURE) (port_feature (set_call r.value) s g r) _ (λ e. by_feature (set_call r.value) s g (h.set e))
-      (branch (Is r PORT_OUT CLEAR_FEATURE) (port_feature (clear_call r.value) s g r) stalled (λ e. by_feature (clear_call r.value) s g (h.clear e)) h.rests))))))))))
+      (both_ways (Is r DEVICE_OUT SET_ADDRESS) (unless s.stalls.address (asked_address r)) _
+      (both_ways s.stalls.address stalled (asked_address r) h.rests
+      (both_ways (nat_le r.value 127 && r.length == 0) (takes_address r.value) stalled
+      h.rests h.rests))
+      (branch (Is r DEVICE_OUT SET_CONFIGURATION)
+      (unless s.stalls.set_config (asked_configuration s g r)) _
+      (λ e. both_ways s.stalls.set_config stalled (asked_configuration s g r) h.rests
+      (both_ways (not (g.address == 0) && is_value s.configs r.value && r.length == 0)
+      (takes_configuration r.value) stalled (h.off e) h.rests))
+      (both_ways (Is r ENDPOINT_OUT CLEAR_FEATURE) (on_endpoint unhalts (endpoint_of s g r)) _
+      (by_endpoint unhalts (λ w. h.rests) (endpoint_of s g r))
+      (both_ways (Is r ENDPOINT_OUT SET_FEATURE) (on_endpoint halts (endpoint_of s g r)) _
+      (by_endpoint halts (λ w. h.rests) (endpoint_of s g r))
+      (both_ways (Is r HUB_IN GET_DESCRIPTOR) (unless s.stalls.hub (asked_hub_descriptor s.hub r)) _
+      (both_ways s.stalls.hub stalled (asked_hub_descriptor s.hub r) h.rests (by_hub s.hub))
+      (both_ways (Is r PORT_IN GET_STATUS) (asked_port_status s g r) _
+      (by_status (port_named s.hub g r.index))
+      (branch (Is r PORT_OUT SET_FEATURE) (port_feature (set_call r.value) s g r) _
+      (λ e. by_feature (set_call r.value) s g (h.set e))
+      (branch (Is r PORT_OUT CLEAR_FEATURE) (port_feature (clear_call r.value) s g r) stalled
+      (λ e. by_feature (clear_call r.value) s g (h.clear e)) h.rests))))))))))
 
   pub setup_allowed : (s : State) → T (asked_by_setup s r) ≡ true
   setup_allowed s = good_outcome s.spec s.registers
@@ -130,16 +170,28 @@ AllowsOut T (Whole (Payload t bytes)) = Allows T (setup_of bytes.items)
 AllowsOut T Broken = T Leaves ≡ true
 AllowsOut T (Whole p) = ⊥
 
-data_allowed : (T : Effect → Bool) (s : State) (m : RememberedPacket) (t : Toggle) (b : List ℕ) → Allows T (setup_of b) → T (asked_by_data s m t b) ≡ true
+data_allowed : (T : Effect → Bool) (s : State) (m : RememberedPacket) (t : Toggle) (b : List ℕ)
+    → Allows T (setup_of b) → T (asked_by_data s m t b) ≡ true
 data_allowed T s Nothing t b h = h.rests
 data_allowed T s (OutSeen e) t b h = h.rests
 data_allowed T s (AckAwaited g) t b h = h.rests
 data_allowed T s SetupSeen One b h = h.rests
-data_allowed T s SetupSeen Zero b h = elim (length b == 8) as (λ x. T (if x then asked_by_setup s (setup_of b) else Leaves) ≡ true) [ true ↦ setup_allowed T (setup_of b) h s | false ↦ h.rests ]
+data_allowed T s SetupSeen Zero b h = elim (length b == 8)
+    as (λ x. T (if x then asked_by_setup s (setup_of b) else Leaves) ≡ true) [
+      | true ↦
+          setup_allowed T (setup_of b) h s
+      | false ↦ h.rests
+    ]
 
-content_allowed : (T : Effect → Bool) (c : Content) (s : State) → AllowsOut T c → T (asked_by c s) ≡ true
+content_allowed : (T : Effect → Bool) (c : Content) (s : State) → AllowsOut T c
+    → T (asked_by c s) ≡ true
 unfolding asks
-content_allowed T (Whole (Payload t b)) s h = elim s.spec.silent as (λ x. T (if x then Leaves else asked_by_data s s.memory t b.items) ≡ true) [ true ↦ h.rests | false ↦ data_allowed T s s.memory t b.items h ]
+content_allowed T (Whole (Payload t b)) s h = elim s.spec.silent
+    as (λ x. T (if x then Leaves else asked_by_data s s.memory t b.items) ≡ true) [
+      | true ↦
+          h.rests
+      | false ↦ data_allowed T s s.memory t b.items h
+    ]
 content_allowed T Broken s h = h
 content_allowed T (Whole (packet.Token kind a e)) s h = elim h [ ]
 content_allowed T (Whole packet.Ack) s h = elim h [ ]
@@ -148,9 +200,15 @@ content_allowed T (Whole packet.Nak) s h = elim h [ ]
 content_allowed T (Whole packet.Stall) s h = elim h [ ]
 content_allowed T (Whole packet.Pre) s h = elim h [ ]
 
-pub sent_allowed : (T : Effect → Bool) → T Leaves ≡ true → (q : Sent) → AllowsOut T q.content → (deep : Bool) (s : State) → T (effect_of q deep s) ≡ true
+pub sent_allowed : (T : Effect → Bool) → T Leaves ≡ true → (q : Sent) → AllowsOut T q.content
+    → (deep : Bool) (s : State) → T (effect_of q deep s) ≡ true
 unfolding effect_of
-sent_allowed T l q c deep s = elim (hears q deep s) as (λ x. T (if x then asked_by q.content s else Leaves) ≡ true) [ true ↦ content_allowed T q.content s c | false ↦ l ]
+sent_allowed T l q c deep s = elim (hears q deep s)
+    as (λ x. T (if x then asked_by q.content s else Leaves) ≡ true) [
+      | true ↦
+          content_allowed T q.content s c
+      | false ↦ l
+    ]
 
 -- What the host sends
 
@@ -158,13 +216,17 @@ abbrev pub PayloadAllows : (Effect → Bool) → Option (Toggle × ArrayVec ℕ)
 PayloadAllows T None = Unit {0}
 PayloadAllows T (Some x) = Allows T (setup_of x.1.items)
 
-pub payload_allowed : (T : Effect → Bool) → T Leaves ≡ true → (a : Attempt) (d : Option Damage) → PayloadAllows T a.payload → IfOut (AllowsOut T) (payload_out a d)
+pub payload_allowed : (T : Effect → Bool) → T Leaves ≡ true → (a : Attempt) (d : Option Damage)
+    → PayloadAllows T a.payload → IfOut (AllowsOut T) (payload_out a d)
 unfolding payload_of marked_some marked
 payload_allowed T e a d h = go a.payload h
   where
-    go : (o : Option (Toggle × ArrayVec ℕ)) → PayloadAllows T o → IfOut (AllowsOut T) (goes_out a (marked_some d 2 a.pre (elim o [ None ↦ None | Some p ↦ Some (packet.Payload p.0 p.1) ])))
+    go : (o : Option (Toggle × ArrayVec ℕ)) → PayloadAllows T o
+        → IfOut (AllowsOut T) (goes_out a
+        (marked_some d 2 a.pre (elim o [ None ↦ None | Some p ↦ Some (packet.Payload p.0 p.1) ])))
     go None h = tt
-    go (Some x) h = sent_out (AllowsOut T) e a.low a.pre (mark_of (harm_to d 2) a.pre (packet.Payload x.0 x.1)) (packet.Payload x.0 x.1) h
+    go (Some x) h = sent_out (AllowsOut T) e a.low a.pre
+        (mark_of (harm_to d 2) a.pre (packet.Payload x.0 x.1)) (packet.Payload x.0 x.1) h
 
 -- Requests that ask nothing
 
@@ -174,10 +236,19 @@ not-contradiction false h e = false_true e
 
 pub no_port_allows : (r : Setup) → asks_no_port r ≡ true → Allows is_left r
 no_port_allows r h =
-    let one = both (not (Is r PORT_OUT SET_FEATURE)) (not (Is r PORT_OUT CLEAR_FEATURE) && not (Is r DEVICE_OUT SET_CONFIGURATION)) h in
-    let two = both (not (Is r PORT_OUT CLEAR_FEATURE)) (not (Is r DEVICE_OUT SET_CONFIGURATION)) one.1 in
-    record { rests = refl; off = λ e. not-contradiction (Is r DEVICE_OUT SET_CONFIGURATION) two.1 e; set = λ e c i x y. not-contradiction (Is r PORT_OUT SET_FEATURE) one.0 e; clear = λ e c i x y. not-contradiction (Is r PORT_OUT CLEAR_FEATURE) two.0 e }
+    let one = both (not (Is r PORT_OUT SET_FEATURE)) (not (Is r PORT_OUT CLEAR_FEATURE) &&
+    not (Is r DEVICE_OUT SET_CONFIGURATION)) h in
+    let two = both (not (Is r PORT_OUT CLEAR_FEATURE)) (not (Is r DEVICE_OUT SET_CONFIGURATION))
+    one.1 in
+    record {
+      rests = refl;
+      off = λ e. not-contradiction (Is r DEVICE_OUT SET_CONFIGURATION) two.1 e;
+      set = λ e c i x y. not-contradiction (Is r PORT_OUT SET_FEATURE) one.0 e;
+      clear =
+          λ e c i x y. not-contradiction (Is r PORT_OUT CLEAR_FEATURE) two.0 e;
+    }
 
-pub payload_no_port_allows : (o : Option (Toggle × ArrayVec ℕ)) → payload_asks_no_port o ≡ true → PayloadAllows is_left o
+pub payload_no_port_allows : (o : Option (Toggle × ArrayVec ℕ)) → payload_asks_no_port o ≡ true
+    → PayloadAllows is_left o
 payload_no_port_allows None h = tt
 payload_no_port_allows (Some x) h = no_port_allows (setup_of x.1.items) h

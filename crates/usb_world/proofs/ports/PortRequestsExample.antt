@@ -26,7 +26,15 @@ use Rattle.usb_world.proofs.packets.RestingAttempts.{data_asks_no_port}
 
 -- a port without power whose change bit is set: it is told there and not pending
 abbrev unpowered : Ports
-unpowered = vacant (record { attached = nothing; power = false; enable = false; connection_changed = true; enable_changed = false; reset_changed = false }) ended
+unpowered = vacant (record {
+  attached = nothing;
+  power = false;
+  enable = false;
+  connection_changed =
+      true;
+  enable_changed = false;
+  reset_changed = false;
+}) ended
 
 told_alone : (change_told unpowered (1 ∷ []) ≡ true) × (pending unpowered (1 ∷ []) ≡ false)
 unfolding change_told_at pending_at
@@ -34,14 +42,33 @@ told_alone = (refl, refl)
 
 -- a hub that saw a SETUP token, and then OUT whose token is lost: it takes the data for setup data
 abbrev asked_hub : Spec
-asked_hub = record (function (0x68 ∷ []) (0x12 ∷ 1 ∷ 0 ∷ 2 ∷ 9 ∷ 0 ∷ 0 ∷ 0x40 ∷ 1 ∷ 0 ∷ 2 ∷ 0 ∷ 0 ∷ 1 ∷ 0 ∷ 0 ∷ 0 ∷ 1 ∷ []) ([])) { hub = Some (usual_hub 1) }
+asked_hub = record (function (0x68 ∷ []) (0x12 ∷ 1 ∷ 0 ∷ 2 ∷ 9 ∷ 0 ∷ 0 ∷ 0x40 ∷ 1 ∷ 0 ∷ 2 ∷ 0 ∷ 0 ∷
+    1 ∷ 0 ∷ 0 ∷ 0 ∷ 1 ∷ []) ([])) { hub = Some (usual_hub 1) }
 
 abbrev awaiting : World
 awaiting = record {
   roots = taken
-      (record { attached = full; power = true; enable = true; connection_changed = false; enable_changed = false; reset_changed = false })
-      (record (fresh asked_hub) { registers = record { address = 1; configuration = 1 }; memory = SetupSeen })
-      (taken (record { attached = full; power = true; enable = false; connection_changed = false; enable_changed = false; reset_changed = false }) (fresh asked_hub) ended ended)
+      (record {
+        attached = full;
+        power = true;
+        enable = true;
+        connection_changed = false;
+        enable_changed = false;
+        reset_changed = false;
+      })
+      (record (fresh asked_hub) {
+        registers = record { address = 1; configuration = 1 };
+        memory =
+            SetupSeen;
+      })
+      (taken (record {
+        attached = full;
+        power = true;
+        enable = false;
+        connection_changed = false;
+        enable_changed = false;
+        reset_changed = false;
+      }) (fresh asked_hub) ended ended)
       ended;
   devices = [];
   left = [];
@@ -56,8 +83,20 @@ awaiting = record {
 }
 
 abbrev sends_out : Attempt
-sends_out = record { kind = OutTok; addr = 1; ep = 0; low = false; pre = false; max = 64; payload = Some (Zero, record { items = 0x23 ∷ 3 ∷ 4 ∷ 0 ∷ 1 ∷ 0 ∷ 0 ∷ 0 ∷ [] }) }
+sends_out = record {
+  kind = OutTok;
+  addr = 1;
+  ep = 0;
+  low = false;
+  pre = false;
+  max = 64;
+  payload =
+      Some (Zero, record { items = 0x23 ∷ 3 ∷ 4 ∷ 0 ∷ 1 ∷ 0 ∷ 0 ∷ 0 ∷ [] });
+}
 
-resets_by_out : (data_asks_no_port sends_out.kind sends_out.payload ≡ true) × (resets (attempt sends_out) awaiting (1 ∷ 1 ∷ []) ≡ true)
-unfolding resets resets_at after_due_events at_attempt marked marked_some mark_of harm_to damage_of bit_count token_of payload_of place_at received unread fresh asks answer_of effect_of after_packet setup_of outcome
+resets_by_out : (data_asks_no_port sends_out.kind sends_out.payload ≡ true)
+    × (resets (attempt sends_out) awaiting (1 ∷ 1 ∷ []) ≡ true)
+unfolding resets resets_at after_due_events at_attempt marked marked_some mark_of harm_to damage_of
+    bit_count token_of payload_of place_at received unread fresh asks answer_of effect_of
+    after_packet setup_of outcome
 resets_by_out = (refl, refl)

@@ -1,4 +1,5 @@
--- A port of which nothing is asked stands as it stood, or a change of connection is pending on its way.
+-- A port of which nothing is asked stands as it stood, or a change of connection is pending on its
+-- way.
 use Rattle.std.proofs.Common.{◌≡◌, inl, inr, ℕ, zero, suc, true, false, List, [], ◌∷◌, option_map}
 use Rattle.std.proofs.Common.{refl, ap, sym, ◌∙◌}
 use Rattle.usb_port.specs.declared.call.PortCall.{PortCall}
@@ -11,11 +12,13 @@ use Rattle.usb_world.specs.Exchange.{token_out, payload_out, reply_out, ports_in
 use Rattle.usb_tree.specs.Paths.{has_power}
 use Rattle.usb_world.specs.PlanCourses.{spec_of}
 use Rattle.usb_world.specs.World.{World}
-use Rattle.usb_world.specs.Steps.{after_change, names_path, after_event, at_attempt, damage_in, with_attempt}
+use Rattle.usb_world.specs.Steps.{after_change, names_path, after_event, at_attempt, damage_in}
+use Rattle.usb_world.specs.Steps.{with_attempt}
 use Rattle.usb_world.specs.Steps.{Course}
 use Rattle.usb_world.specs.Courses.{UndisturbedOrPends, KeepsPendingAt}
 use Rattle.usb_world.specs.PortRequests.{made_leaves, root_leaves, leaves_step}
-use Rattle.usb_world.specs.RestingPorts.{SameAt, LeavesPortAlone, UnchangedOrPending, SameDeviceOrPending}
+use Rattle.usb_world.specs.RestingPorts.{SameAt, LeavesPortAlone, UnchangedOrPending}
+use Rattle.usb_world.specs.RestingPorts.{SameDeviceOrPending}
 use Rattle.usb_world.proofs.ways.WayChanges.{root_there}
 use Rattle.usb_world.proofs.events.PlugEvents.{happened_there}
 use Rattle.usb_world.proofs.events.PluggedShapes.{spec_there}
@@ -34,7 +37,8 @@ same_then k l m p x y = record { port = y.port ∙ x.port; on = y.on ∙ x.on; w
 
 -- Where each device is what it was
 
-shaped : (k v : Ports) (p : List ℕ) → shape v ≡ shape k → option_map spec_of (state_there v p) ≡ option_map spec_of (state_there k p)
+shaped : (k v : Ports) (p : List ℕ) → shape v ≡ shape k → option_map spec_of (state_there v p)
+    ≡ option_map spec_of (state_there k p)
 shaped k v p h = described_there v p ∙ ap (λ x. spec_there x p) h ∙ sym (described_there k p)
 
 -- Events
@@ -49,7 +53,8 @@ happened_same a d k p h =
 
 -- Attempts
 
-made_on : (a : Attempt) (w : World) (p : List ℕ) → made_leaves a w p ≡ true → reach (with_attempt a w).roots p ≡ reach w.roots p
+made_on : (a : Attempt) (w : World) (p : List ℕ) → made_leaves a w p ≡ true
+    → reach (with_attempt a w).roots p ≡ reach w.roots p
 unfolding with_attempt ports_in
 made_on a w [] h = refl
 made_on a w (zero ∷ p) h = refl
@@ -57,16 +62,26 @@ made_on a w (suc j ∷ p) h = (attempt_ports a.addr (token_out a (damage_in w))
     (payload_out a (damage_in w)) (reply_out a (damage_in w) w.roots)
     (goes a (damage_in w) w.roots) w.roots j p h).0
 
-made_what : (a : Attempt) (w : World) (p : List ℕ) → option_map spec_of (state_there (with_attempt a w).roots p) ≡ option_map spec_of (state_there w.roots p)
+made_what : (a : Attempt) (w : World) (p : List ℕ)
+    → option_map spec_of (state_there (with_attempt a w).roots p)
+    ≡ option_map spec_of (state_there w.roots p)
 unfolding with_attempt
-made_what a w p = shaped w.roots (ports_in a (damage_in w) w.roots) p (shape_attempt a (damage_in w) w.roots)
+made_what a w p = shaped w.roots (ports_in a (damage_in w) w.roots) p
+    (shape_attempt a (damage_in w) w.roots)
 
-made_same : (a : Attempt) (w : World) (p : List ℕ) → made_leaves a w p ≡ true → SameAt w.roots (with_attempt a w).roots p
-made_same a w p h = record { port = made_port a w p h; on = made_on a w p h; what = made_what a w p }
+made_same : (a : Attempt) (w : World) (p : List ℕ) → made_leaves a w p ≡ true
+    → SameAt w.roots (with_attempt a w).roots p
+made_same a w p h = record {
+  port = made_port a w p h;
+  on = made_on a w p h;
+  what =
+      made_what a w p;
+}
 
 -- Steps
 
-root_same : (c : PortCall) (m : ℕ) (w : World) (p : List ℕ) → root_leaves m p ≡ true → SameAt w.roots (changed (called c) w.roots (m ∷ [])) p
+root_same : (c : PortCall) (m : ℕ) (w : World) (p : List ℕ) → root_leaves m p ≡ true
+    → SameAt w.roots (changed (called c) w.roots (m ∷ [])) p
 root_same c m w p h =
     let same : _ = root_there c m w.roots p h in
     record {
@@ -88,12 +103,16 @@ rests_steps p = over_live (record {
   spares = λ s w k. k.spares;
 })
 
--- Over a course that asks nothing of a port and its way: it stands as it stood, or a change is pending
-pub rests_or_pends : (p : List ℕ) {w v : World} → Course (LeavesPortAlone p) w v → has_power w.roots p ≡ true → UnchangedOrPending w v p
+-- Over a course that asks nothing of a port and its way: it stands as it stood, or a change is
+-- pending
+pub rests_or_pends : (p : List ℕ) {w v : World} → Course (LeavesPortAlone p) w v
+    → has_power w.roots p ≡ true → UnchangedOrPending w v p
 rests_or_pends p c = (over_course (rests_steps p) c).powered
 
--- The same of steps that may ask something of the port itself, but leave pending what is pending there: the same device stands there, or none
-pub stands_or_pends : (p : List ℕ) {w v : World} → Course (KeepsPendingAt p) w v → has_power w.roots p ≡ true → SameDeviceOrPending w v p
+-- The same of steps that may ask something of the port itself, but leave pending what is pending
+-- there: the same device stands there, or none
+pub stands_or_pends : (p : List ℕ) {w v : World} → Course (KeepsPendingAt p) w v
+    → has_power w.roots p ≡ true → SameDeviceOrPending w v p
 stands_or_pends p {w} {v} c h = pick (untouched_or_pending p c h)
   where
     pick : UndisturbedOrPends w v p → SameDeviceOrPending w v p

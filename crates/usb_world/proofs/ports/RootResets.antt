@@ -4,7 +4,8 @@ use Rattle.std.proofs.Common.{false, List, [], ◌∷◌, ◌++◌, Option, None
 use Rattle.std.proofs.Common.{sym, subst, ◌∙◌}
 use Rattle.usb_port.specs.declared.call.PortCall.{PortCall}
 use Rattle.usb_port.specs.declared.call.PortCall.TheVariants.{SetReset}
-use Rattle.usb_device.specs.Tree.{Ports, ended, vacant, taken, Place, empty, full, called, changed_at, reach_at, state_at, place_at}
+use Rattle.usb_device.specs.Tree.{Ports, ended, vacant, taken, Place, empty, full, called}
+use Rattle.usb_device.specs.Tree.{changed_at, reach_at, state_at, place_at}
 use Rattle.usb_tree.specs.Paths.{address_of, same_number, same_path, is_way}
 use Rattle.usb_tree.specs.WayEffects.{IsNew, takes_reset, call_resets}
 use Rattle.usb_world.specs.World.{World}
@@ -47,37 +48,48 @@ same_number-is (suc i) (suc j) h = ap suc (same_number-is i j h)
 
 -- a device that is reached and not reset
 call_address : (c : PortCall) (k : Ports) (i j : ℕ) (p : List ℕ) → call_resets c k i j p ≡ false
-    → option_map address_of (state_at (changed_at (called c) k i []) j p) ≡ option_map address_of (state_at k j p)
-call_address c k i j p h = ap (option_map address_of) (call_state c k i j p) ∙ kept_address (call_resets c k i j p) (state_at k j p) h
+    → option_map address_of (state_at (changed_at (called c) k i []) j p)
+    ≡ option_map address_of (state_at k j p)
+call_address c k i j p h = ap (option_map address_of) (call_state c k i j p)
+    ∙ kept_address (call_resets c k i j p) (state_at k j p) h
 
 module _ (f : List ℕ → Option ℕ) (k : Ports) (i : ℕ) where
   abbrev reset_ports : Ports
   reset_ports = changed_at (called SetReset) k i []
 
   abbrev Given : ℕ → List ℕ → Type 0
-  Given j p = option_map address_of (state_at reset_ports j p) ≡ after_reset f (suc i ∷ []) (suc j ∷ p)
+  Given j p = option_map address_of (state_at reset_ports j p) ≡ after_reset f (suc i ∷ [])
+      (suc j ∷ p)
 
-  module _ (y : call_resets SetReset k i i [] ≡ true) (own : (j : ℕ) (p : List ℕ) → reach_at k j p ≡ true → option_map address_of (state_at k j p) ≡ f (suc j ∷ p)) where
+  module _ (y : call_resets SetReset k i i [] ≡ true) (own : (j : ℕ) (p : List ℕ)
+      → reach_at k j p ≡ true → option_map address_of (state_at k j p) ≡ f (suc j ∷ p)) where
     new : IsNew (place_at reset_ports i [])
     new = call_new SetReset k i i [] y
 
     zero_there : option_map address_of (state_at reset_ports i []) ≡ Some 0
-    zero_there = ap (option_map address_of) (sym (state_stands reset_ports i [])) ∙ is_new-zero (place_at reset_ports i []) new
+    zero_there = ap (option_map address_of) (sym (state_stands reset_ports i []))
+        ∙ is_new-zero (place_at reset_ports i []) new
 
-    elsewhere : (j : ℕ) (p : List ℕ) → same_number i j ≡ false → reach_at reset_ports j p ≡ true → Given j p
+    elsewhere : (j : ℕ) (p : List ℕ) → same_number i j ≡ false → reach_at reset_ports j p ≡ true
+        → Given j p
     unfolding is_way
     elsewhere j [] d h =
-        let kept : call_resets SetReset k i j [] ≡ false = ap (λ x. x && takes_reset (place_at k j [])) d in
+        let kept : call_resets SetReset k i j [] ≡ false =
+        ap (λ x. x && takes_reset (place_at k j [])) d in
         call_address SetReset k i j [] kept ∙ own j [] (call_reach SetReset k i j [] kept h)
         ∙ ap (λ x. if x && true then Some 0 else if x && true then None else f (suc j ∷ [])) (sym d)
     elsewhere j (n ∷ p) d h =
-        call_address SetReset k i j (n ∷ p) refl ∙ own j (n ∷ p) (call_reach SetReset k i j (n ∷ p) refl h)
-        ∙ ap (λ x. if x && false then Some 0 else if x && true then None else f (suc j ∷ n ∷ p)) (sym d)
+        call_address SetReset k i j (n ∷ p) refl
+        ∙ own j (n ∷ p) (call_reach SetReset k i j (n ∷ p) refl h)
+        ∙ ap (λ x. if x && false then Some 0 else if x && true then None else f (suc j ∷ n ∷ p))
+        (sym d)
 
-    at_it : (j : ℕ) (p : List ℕ) → j ≡ i → same_number i j ≡ true → reach_at reset_ports j p ≡ true → Given j p
+    at_it : (j : ℕ) (p : List ℕ) → j ≡ i → same_number i j ≡ true → reach_at reset_ports j p ≡ true
+        → Given j p
     at_it j [] e d h =
         subst (λ x. option_map address_of (state_at reset_ports x []) ≡ Some 0) (sym e) zero_there
-        ∙ ap (λ x. if x && true then Some 0 else if is_way (suc i ∷ []) (suc j ∷ []) then None else f (suc j ∷ [])) (sym d)
+        ∙ ap (λ x. if x && true then Some 0 else if is_way (suc i ∷ []) (suc j ∷ []) then None
+        else f (suc j ∷ [])) (sym d)
     at_it j (n ∷ p) e d h = false_true (sym
         (subst (λ x. reach_at reset_ports x (n ∷ p) ≡ false) (sym e)
         (new_below reset_ports i [] n p new)) ∙ h)
@@ -89,33 +101,43 @@ module _ (f : List ℕ → Option ℕ) (k : Ports) (i : ℕ) where
         pick (inl d) = at_it j p (same_number-is i j d) d h
         pick (inr d) = elsewhere j p d h
 
-pub reset_own : (f : List ℕ → Option ℕ) (n : ℕ) (w : World) → resets (root_call SetReset n) w (n ∷ []) ≡ true → HoldsMapped f w → HoldsMapped (after_reset f (n ∷ [])) (after (root_call SetReset n) w)
+pub reset_own : (f : List ℕ → Option ℕ) (n : ℕ) (w : World)
+    → resets (root_call SetReset n) w (n ∷ []) ≡ true → HoldsMapped f w
+    → HoldsMapped (after_reset f (n ∷ [])) (after (root_call SetReset n) w)
 unfolding resets after
 reset_own f zero w y own p h = false_true y
 reset_own f (suc i) w y own [] h = false_true h
 reset_own f (suc i) w y own (zero ∷ p) h = false_true h
-reset_own f (suc i) w y own (suc j ∷ p) h = reset_given f w.roots i y (λ j p on. own (suc j ∷ p) on) j p h
+reset_own f (suc i) w y own (suc j ∷ p) h = reset_given f w.roots i y (λ j p on. own (suc j ∷ p) on)
+    j p h
 
-root_kept : (n : ℕ) (k : Ports) (p : List ℕ) → root_resets SetReset n k (n ∷ []) ≡ false → root_resets SetReset n k p ≡ false
+root_kept : (n : ℕ) (k : Ports) (p : List ℕ) → root_resets SetReset n k (n ∷ []) ≡ false
+    → root_resets SetReset n k p ≡ false
 root_kept zero k p y = refl
 root_kept (suc i) k [] y = refl
 root_kept (suc i) k (zero ∷ p) y = refl
 root_kept (suc i) k (suc j ∷ n ∷ p) y = refl
 root_kept (suc i) k (suc j ∷ []) y = pick (decided (same_number i j))
   where
-    pick : (same_number i j ≡ true) ⊎ (same_number i j ≡ false) → call_resets SetReset k i j [] ≡ false
+    pick : (same_number i j ≡ true) ⊎ (same_number i j ≡ false) → call_resets SetReset k i j []
+        ≡ false
     pick (inl d) = subst (λ x. call_resets SetReset k i x [] ≡ false) (sym (same_number-is i j d)) y
     pick (inr d) = ap (λ x. x && takes_reset (place_at k j [])) d
 
 -- a port that has nothing to reset
-pub rest_own : (f : List ℕ → Option ℕ) (n : ℕ) (w : World) → resets (root_call SetReset n) w (n ∷ []) ≡ false → HoldsMapped f w → HoldsMapped f (after (root_call SetReset n) w)
+pub rest_own : (f : List ℕ → Option ℕ) (n : ℕ) (w : World)
+    → resets (root_call SetReset n) w (n ∷ []) ≡ false → HoldsMapped f w
+    → HoldsMapped f (after (root_call SetReset n) w)
 unfolding resets after
-rest_own f zero w y own p h = own p (unreset_reach (root_call SetReset zero) w p (root_kept zero w.roots p y) h).0
+rest_own f zero w y own p h = own p (unreset_reach (root_call SetReset zero) w p
+    (root_kept zero w.roots p y) h).0
 rest_own f (suc i) w y own [] h = false_true h
 rest_own f (suc i) w y own (zero ∷ p) h = false_true h
 rest_own f (suc i) w y own (suc j ∷ p) h =
-    let kept : call_resets SetReset w.roots i j p ≡ false = root_kept (suc i) w.roots (suc j ∷ p) y in
-    call_address SetReset w.roots i j p kept ∙ own (suc j ∷ p) (call_reach SetReset w.roots i j p kept h)
+    let kept : call_resets SetReset w.roots i j p ≡ false =
+    root_kept (suc i) w.roots (suc j ∷ p) y in
+    call_address SetReset w.roots i j p kept
+    ∙ own (suc j ∷ p) (call_reach SetReset w.roots i j p kept h)
 
 -- Injectivity
 
@@ -123,7 +145,8 @@ way_split : (f : List ℕ → Option ℕ) (p q : List ℕ) (a : ℕ) → after_r
     → ((same_path p q ≡ true) × (a ≡ 0)) ⊎ ((is_way p q ≡ false) × (f q ≡ Some a))
 way_split f p q a h = pick (same_path p q) (is_way p q) refl refl h
   where
-    pick : (x y : Bool) → same_path p q ≡ x → is_way p q ≡ y → (if x then Some 0 else if y then None else f q) ≡ Some a
+    pick : (x y : Bool) → same_path p q ≡ x → is_way p q ≡ y
+        → (if x then Some 0 else if y then None else f q) ≡ Some a
         → ((same_path p q ≡ true) × (a ≡ 0)) ⊎ ((is_way p q ≡ false) × (f q ≡ Some a))
     pick true y e g h = inl (e, cc)
     pick false true e g h = cc
@@ -133,40 +156,49 @@ pub same_is : (p q : List ℕ) → same_path p q ≡ true → q ≡ p
 same_is [] [] h = refl
 same_is [] (n ∷ q) h = false_true h
 same_is (m ∷ p) [] h = false_true h
-same_is (m ∷ p) (n ∷ q) h = let x : _ = both (same_number m n) (same_path p q) h in rw (same_number-is m n x.0, same_is p q x.1) refl
+same_is (m ∷ p) (n ∷ q) h = let x : _ = both (same_number m n) (same_path p q) h in
+    rw (same_number-is m n x.0, same_is p q x.1) refl
 
 same_join : (p q r : List ℕ) → same_path p q ≡ true → same_path p r ≡ true → same_path q r ≡ true
 same_join p q r h g = rw (same_is p q h, same_is p r g) (self_path p)
 
 -- addresses stay distinct, where no other device has address 0
-pub reset_distinct : (f : List ℕ → Option ℕ) (p : List ℕ) → Injective f → ((q : List ℕ) → f q ≡ Some 0 → is_way p q ≡ true) → Injective (after_reset f p)
+pub reset_distinct : (f : List ℕ → Option ℕ) (p : List ℕ) → Injective f
+    → ((q : List ℕ) → f q ≡ Some 0 → is_way p q ≡ true) → Injective (after_reset f p)
 reset_distinct f p inj c q r a h g = pick (way_split f p q a h) (way_split f p r a g)
   where
     other : (q : List ℕ) → a ≡ 0 → is_way p q ≡ false → f q ≡ Some a → false ≡ true
     other q z d e = sym d ∙ c q (e ∙ ap (λ n. Some n) z)
 
-    pick : ((same_path p q ≡ true) × (a ≡ 0)) ⊎ ((is_way p q ≡ false) × (f q ≡ Some a)) → ((same_path p r ≡ true) × (a ≡ 0)) ⊎ ((is_way p r ≡ false) × (f r ≡ Some a)) → same_path q r ≡ true
+    pick : ((same_path p q ≡ true) × (a ≡ 0)) ⊎ ((is_way p q ≡ false) × (f q ≡ Some a))
+        → ((same_path p r ≡ true) × (a ≡ 0)) ⊎ ((is_way p r ≡ false) × (f r ≡ Some a))
+        → same_path q r ≡ true
     pick (inl x) (inl y) = same_join p q r x.0 y.0
     pick (inl x) (inr y) = false_true (other r x.1 y.0 y.1)
     pick (inr x) (inl y) = false_true (other q y.1 x.0 x.1)
     pick (inr x) (inr y) = inj q r a x.1 y.1
 
-taken_split : (f : List ℕ → Option ℕ) (p : List ℕ) (n : ℕ) (q : List ℕ) (a : ℕ) → after_taking f p n q ≡ Some a
+taken_split : (f : List ℕ → Option ℕ) (p : List ℕ) (n : ℕ) (q : List ℕ) (a : ℕ)
+    → after_taking f p n q ≡ Some a
     → ((same_path p q ≡ true) × (a ≡ n)) ⊎ ((same_path p q ≡ false) × (f q ≡ Some a))
 taken_split f p n q a h = pick (same_path p q) refl h
   where
-    pick : (x : Bool) → same_path p q ≡ x → (if x then Some n else f q) ≡ Some a → ((same_path p q ≡ true) × (a ≡ n)) ⊎ ((same_path p q ≡ false) × (f q ≡ Some a))
+    pick : (x : Bool) → same_path p q ≡ x → (if x then Some n else f q) ≡ Some a
+        → ((same_path p q ≡ true) × (a ≡ n)) ⊎ ((same_path p q ≡ false) × (f q ≡ Some a))
     pick true e h = inl (e, cc)
     pick false e h = inr (e, h)
 
 -- the same, where no other device has the address that is taken
-pub taken_distinct : (f : List ℕ → Option ℕ) (p : List ℕ) (n : ℕ) → Injective f → ((q : List ℕ) → f q ≡ Some n → same_path p q ≡ true) → Injective (after_taking f p n)
+pub taken_distinct : (f : List ℕ → Option ℕ) (p : List ℕ) (n : ℕ) → Injective f
+    → ((q : List ℕ) → f q ≡ Some n → same_path p q ≡ true) → Injective (after_taking f p n)
 taken_distinct f p n inj c q r a h g = pick (taken_split f p n q a h) (taken_split f p n r a g)
   where
     other : (q : List ℕ) → a ≡ n → same_path p q ≡ false → f q ≡ Some a → false ≡ true
     other q z d e = sym d ∙ c q (e ∙ ap (λ n. Some n) z)
 
-    pick : ((same_path p q ≡ true) × (a ≡ n)) ⊎ ((same_path p q ≡ false) × (f q ≡ Some a)) → ((same_path p r ≡ true) × (a ≡ n)) ⊎ ((same_path p r ≡ false) × (f r ≡ Some a)) → same_path q r ≡ true
+    pick : ((same_path p q ≡ true) × (a ≡ n)) ⊎ ((same_path p q ≡ false) × (f q ≡ Some a))
+        → ((same_path p r ≡ true) × (a ≡ n)) ⊎ ((same_path p r ≡ false) × (f r ≡ Some a))
+        → same_path q r ≡ true
     pick (inl x) (inl y) = same_join p q r x.0 y.0
     pick (inl x) (inr y) = false_true (other r x.1 y.0 y.1)
     pick (inr x) (inl y) = false_true (other q y.1 x.0 x.1)

@@ -1,6 +1,8 @@
 -- An attempt of which nothing is damaged, at the one device that it is for and on one way down the
 -- tree, is the attempt in the whole tree.
-use Rattle.std.proofs.Common.{◌≡◌, ℕ, zero, suc, ◌+◌, ◌&&◌, if◌then◌else◌, Bool, true, false, List, [], ◌∷◌, ◌++◌, Option, None, Some, option_map, nat_eq, refl, ap, ap₂, sym, subst, ◌∙◌}
+use Rattle.std.proofs.Common.{◌≡◌, ℕ, zero, suc, ◌+◌, ◌&&◌, if◌then◌else◌, Bool, true, false, List}
+use Rattle.std.proofs.Common.{[], ◌∷◌, ◌++◌, Option, None, Some, option_map, nat_eq, refl, ap, ap₂}
+use Rattle.std.proofs.Common.{sym, subst, ◌∙◌}
 use Rattle.std.specs.Option.{option_eq}
 use Rattle.std.proofs.lemmas.Option.{same_Some}
 use Rattle.usb_port.specs.PortState.{PortState}
@@ -10,12 +12,18 @@ use Rattle.usb_device.specs.declared.alone.DeviceSide.{DeviceSide}
 use Rattle.usb_device.specs.declared.delivery.Heard.{Heard}
 use Rattle.usb_device.specs.declared.delivery.Heard.TheVariants as below
 use Rattle.usb_device.specs.declared.delivery.Sent.{Sent}
-use Rattle.usb_device.specs.Tree.{Ports, ended, vacant, taken, Plugged, Place, empty, full, before, changed_at, changed, plugged_at, device_there, place_at}
-use Rattle.usb_device.specs.Delivery.{taken_sent, all_forgotten, heard_of, heard_from, both, has_loss, asks_clearing}
+use Rattle.usb_device.specs.Tree.{Ports, ended, vacant, taken, Plugged, Place, empty, full, before}
+use Rattle.usb_device.specs.Tree.{changed_at, changed, plugged_at, device_there, place_at}
+use Rattle.usb_device.specs.Delivery.{taken_sent, all_forgotten, heard_of, heard_from, both}
+use Rattle.usb_device.specs.Delivery.{has_loss, asks_clearing}
 use Rattle.usb_device.specs.Holders.{keeps_others}
 use Rattle.usb_device.specs.Route.{answer_by, effect_by, RefusedBy, forgotten_in, address_by}
-use Rattle.usb_device.specs.AloneAttempts.{token_sent, ack_sent, after_packet_at, answer_from, asked_from, RefusedFrom, takes_data, after_token, after_data, heard_of_both, acknowledges, after_reply, side_of, heard_at, side_at, RefusedAt, left_in, cut_in}
-use Rattle.usb_device.proofs.Interface.{changed_at-twice, heard_of-append, figure-after, row_of-after}
+use Rattle.usb_device.specs.AloneAttempts.{token_sent, ack_sent, after_packet_at, answer_from}
+use Rattle.usb_device.specs.AloneAttempts.{asked_from, RefusedFrom, takes_data, after_token}
+use Rattle.usb_device.specs.AloneAttempts.{after_data, heard_of_both, acknowledges, after_reply}
+use Rattle.usb_device.specs.AloneAttempts.{side_of, heard_at, side_at, RefusedAt, left_in, cut_in}
+use Rattle.usb_device.proofs.Interface.{changed_at-twice, heard_of-append, figure-after}
+use Rattle.usb_device.proofs.Interface.{row_of-after}
 use Rattle.usb_world.specs.declared.types.Attempt.{Attempt}
 use Rattle.usb_world.specs.declared.exchange.Exchange.{Exchange}
 use Rattle.usb_world.specs.declared.exchange.ExchangeAnswer.{ExchangeAnswer}
@@ -24,7 +32,11 @@ use Rattle.usb_world.specs.declared.wire.Mark.TheVariants.{Whole}
 use Rattle.usb_world.specs.declared.wire.Outgoing.{Outgoing}
 use Rattle.usb_world.specs.Wire.{harm_to, mark_of, is_read, marked, marked_some}
 use Rattle.usb_tree.specs.AttemptPackets.{IsSettled, after_sent, answers_to, deep_at}
-use Rattle.usb_world.specs.Exchange.{ack_if, token_of, payload_of, answer_place, answer_mark, reply_of, goes_out, token_out, payload_out, heard_in, place_of_answer, mark_in, reply_in, reply_out, answered_in, is_lost, lost_in, clears_at, cleared_in, exchange_in, ended_in, ports_in}
+use Rattle.usb_world.specs.Exchange.{ack_if, token_of, payload_of, answer_place, answer_mark}
+use Rattle.usb_world.specs.Exchange.{reply_of, goes_out, token_out, payload_out, heard_in}
+use Rattle.usb_world.specs.Exchange.{place_of_answer, mark_in, reply_in, reply_out, answered_in}
+use Rattle.usb_world.specs.Exchange.{is_lost, lost_in, clears_at, cleared_in, exchange_in, ended_in}
+use Rattle.usb_world.specs.Exchange.{ports_in}
 use Rattle.usb_world.specs.ExchangeEffects.{StaysPlugged, Exchanged}
 use Rattle.usb_world.specs.CutPackets.{IsStopped}
 use Rattle.usb_world.specs.HeardAnswers.{heard_above}
@@ -32,10 +44,14 @@ use Rattle.usb_world.specs.HostSides.{host_side, keeps_address}
 use Rattle.usb_tree.specs.LonePackets.{Alone, AloneAt, IsQuiet, KeptAt, is_whole_tree, is_deep}
 use Rattle.usb_world.specs.Steps.{IsCut}
 use Rattle.usb_tree.proofs.Interface.{false_true, both as both_true}
-use Rattle.usb_world.proofs.attempts.Exchanges.{heard_all_of, plugged_further, over_plugged, over_settled}
+use Rattle.usb_world.proofs.attempts.Exchanges.{heard_all_of, plugged_further, over_plugged}
+use Rattle.usb_world.proofs.attempts.Exchanges.{over_settled}
 use Rattle.usb_world.proofs.holders.OneDevice.{others_answer}
-use Rattle.usb_world.proofs.ways.Routes.{plugged_on, plugged_place, heard_place_by, others_clear, others_loss, others_forget, others_rest, others_stop, loss_by, alone_sent}
-use Rattle.usb_world.proofs.ways.RoutesKept.{step_in, place_at-changed, sent_one, two, three, four, till_end, all_is, here, kept_at}
+use Rattle.usb_world.proofs.ways.Routes.{plugged_on, plugged_place, heard_place_by, others_clear}
+use Rattle.usb_world.proofs.ways.Routes.{others_loss, others_forget, others_rest, others_stop}
+use Rattle.usb_world.proofs.ways.Routes.{loss_by, alone_sent}
+use Rattle.usb_world.proofs.ways.RoutesKept.{step_in, place_at-changed, sent_one, two, three, four}
+use Rattle.usb_world.proofs.ways.RoutesKept.{till_end, all_is, here, kept_at}
 
 -- ---- a change at a place, by what stands there
 
@@ -66,9 +82,11 @@ step_in-plugged None deep b t = refl
 step_in-plugged (Some q) deep b t = refl
 
 module _ (o : Option Sent) (k : Ports) (j : ℕ) (p : List ℕ) (b : PortState) (t : Plugged)
-    (alone : Alone o k (record { row = j; rest = p })) (at : place_at k j p ≡ Some (place_plugged b t))
+    (alone : Alone o k (record { row = j; rest = p }))
+    (at : place_at k j p ≡ Some (place_plugged b t))
   where
-    there_then : place_at (after_sent o k) j p ≡ Some (place_plugged b (after_packet_at o (deep_at false p) t))
+    there_then : place_at (after_sent o k) j p
+        ≡ Some (place_plugged b (after_packet_at o (deep_at false p) t))
     there_then =
         ap (λ x. place_at x j p) (sent_one o k j p alone)
         ∙ place_at-changed (step_in o (deep_at false p)) k j p
@@ -122,7 +140,11 @@ stopped_one (Some q) k j p b t alone at h =
 
 after_sent-plugged : (o : Option Sent) (k : Ports) → StaysPlugged k (after_sent o k)
 after_sent-plugged None k = record { row = refl; figure = refl }
-after_sent-plugged (Some q) k = record { row = row_of-after q false k; figure = figure-after q false k }
+after_sent-plugged (Some q) k = record {
+  row = row_of-after q false k;
+  figure =
+      figure-after q false k;
+}
 
 -- ---- no damage
 
@@ -204,13 +226,16 @@ module _ (a : Attempt) (k : Ports) (j : ℕ) (p : List ℕ)
   pub there : plugged_at k j p ≡ Some device
   there = plugged_there t k j p b device one stands
 
-  first_at : place_at (after_sent t k) j p ≡ Some (place_plugged b (after_token y deep_there device))
+  first_at : place_at (after_sent t k) j p
+      ≡ Some (place_plugged b (after_token y deep_there device))
   first_at =
       there_then t k j p b device one stands
-      ∙ ap (λ o. Some (place_plugged b (after_packet_at o deep_there device))) (token_out-undamaged a)
+      ∙ ap (λ o. Some (place_plugged b (after_packet_at o deep_there device)))
+      (token_out-undamaged a)
 
   second_at :
-      place_at (answered_in a None k) j p ≡ Some (place_plugged b (after_data y q deep_there device))
+      place_at (answered_in a None k) j p
+      ≡ Some (place_plugged b (after_data y q deep_there device))
   second_at =
       there_then q (after_sent t k) j p b (after_token y deep_there device) (two a None k j p one)
       first_at
@@ -239,13 +264,15 @@ module _ (a : Attempt) (k : Ports) (j : ℕ) (p : List ℕ)
   reply_out_is = ap (goes_out a) reply_is ∙ ack_is a n w
 
   replied :
-      after_packet_at r deep_there (after_data y q deep_there device) ≡ after_reply y q deep_there device
+      after_packet_at r deep_there (after_data y q deep_there device) ≡ after_reply y q deep_there
+      device
   unfolding after_reply
   replied =
       ap (λ o. after_packet_at o deep_there (after_data y q deep_there device)) reply_out_is
       ∙ sent_to-ack y deep_there (after_data y q deep_there device) w
 
-  end_at : place_at (ended_in a None k) j p ≡ Some (place_plugged b (after_reply y q deep_there device))
+  end_at : place_at (ended_in a None k) j p
+      ≡ Some (place_plugged b (after_reply y q deep_there device))
   end_at =
       there_then r (answered_in a None k) j p b (after_data y q deep_there device)
       (three a None k j p one) second_at
@@ -280,7 +307,8 @@ module _ (a : Attempt) (k : Ports) (j : ℕ) (p : List ℕ)
       (two a None k j p one) first_at h
 
   till_end_is :
-      till_end a None k j p one (place_plugged b device) ≡ place_plugged b (after_reply y q deep_there device)
+      till_end a None k j p one (place_plugged b device)
+      ≡ place_plugged b (after_reply y q deep_there device)
   till_end_is =
       ap (λ x. step_in r deep_there (step_in q deep_there x))
       (step_in-plugged t deep_there b device
@@ -353,7 +381,8 @@ pub record Walked (a : Attempt) (k m : Ports) (p : List ℕ) (x : Exchange) (g :
   pub lost : x.address_lost ≡ side.address_lost
   pub cleared : x.change_cleared ≡ asks_clearing side.effect
 
-ports_in-undamaged : (a : Attempt) (k : Ports) → ports_in a None k ≡ all_forgotten (ended_in a None k)
+ports_in-undamaged : (a : Attempt) (k : Ports)
+    → ports_in a None k ≡ all_forgotten (ended_in a None k)
 unfolding ports_in
 ports_in-undamaged a k = refl
 
@@ -418,7 +447,8 @@ module _ (a : Attempt) (k m : Ports) (j : ℕ) (p : List ℕ) (x : Exchange) (g 
     reply = reply_then i;
     address_lost = (walked.lost ∙ ap (λ s. s.address_lost) side_is ∙ sym (lost_is a k j p one)) i;
     change_cleared =
-        (walked.cleared ∙ ap (λ s. asks_clearing s.effect) side_is ∙ sym (cleared_is a k j p one)) i;
+        (walked.cleared ∙ ap (λ s. asks_clearing s.effect) side_is ∙ sym (cleared_is a k j p one))
+        i;
   }
 
   pub kept_there : (port : ℕ) → keeps_others port side.effect ≡ true

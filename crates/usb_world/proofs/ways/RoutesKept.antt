@@ -1,5 +1,7 @@
 -- An attempt that goes straight to one device: whose addresses stay.
-use Rattle.std.proofs.Common.{◌≡◌, ℕ, zero, suc, if◌then◌else◌, Bool, true, false, List, [], ◌∷◌, ◌++◌, Option, None, Some, is_some, option_map, IsSome, nat_eq, refl, ap, ap₂, sym, subst, ◌∙◌}
+use Rattle.std.proofs.Common.{◌≡◌, ℕ, zero, suc, if◌then◌else◌, Bool, true, false, List, [], ◌∷◌}
+use Rattle.std.proofs.Common.{◌++◌, Option, None, Some, is_some, option_map, IsSome, nat_eq, refl}
+use Rattle.std.proofs.Common.{ap, ap₂, sym, subst, ◌∙◌}
 use Rattle.std.proofs.lemmas.Option.{same_Some}
 use Rattle.std.specs.Option.{option_eq}
 use Rattle.arrayvec.specs.ArrayVec.{ArrayVec}
@@ -7,13 +9,17 @@ use Rattle.usb_port.specs.PortState.{PortState}
 use Rattle.usb_device.specs.declared.delivery.Sent.{Sent}
 use Rattle.usb_device.specs.declared.effect.Effect.TheVariants.{Leaves}
 use Rattle.usb_device.specs.Rows.{State, forgotten}
-use Rattle.usb_device.specs.Tree.{Ports, ended, vacant, taken, Place, empty, full, before, acted, put, changed, changed_at, changed_in, device_there, plugged_at, reach_at, place_at, Location, state_at}
+use Rattle.usb_device.specs.Tree.{Ports, ended, vacant, taken, Place, empty, full, before, acted}
+use Rattle.usb_device.specs.Tree.{put, changed, changed_at, changed_in, device_there, plugged_at}
+use Rattle.usb_device.specs.Tree.{reach_at, place_at, Location, state_at}
 use Rattle.usb_device.specs.Delivery.{answer_of, all_forgotten}
 use Rattle.usb_device.specs.Holders.{path_below, reached, all_reached, ReachedSame, keeps_others}
 use Rattle.usb_device.specs.HolderIndex.{IsIndexOf, IsIndexWithout}
 use Rattle.usb_device.specs.declared.holders.Holders.{Holders}
 use Rattle.usb_device.specs.Route.{sent_in, effect_by, forgotten_in, address_by}
-use Rattle.usb_device.proofs.Interface.{changed_at-port, changed_at-same, changed_at-twice, changed_at-zero, index_around, reached-acted, reached-both, same_index}
+use Rattle.usb_device.proofs.Interface.{changed_at-port, changed_at-same, changed_at-twice}
+use Rattle.usb_device.proofs.Interface.{changed_at-zero, index_around, reached-acted, reached-both}
+use Rattle.usb_device.proofs.Interface.{same_index}
 use Rattle.usb_world.specs.declared.types.Attempt.{Attempt}
 use Rattle.usb_world.specs.declared.damage.Damage.{Damage}
 use Rattle.usb_tree.specs.Paths.{address_of}
@@ -25,7 +31,9 @@ use Rattle.usb_world.proofs.packets.AttemptPackets.{token_out as token_calm, ack
 use Rattle.usb_world.proofs.holders.OneDevice.{stands, state_stands}
 use Rattle.usb_world.proofs.holders.OneHolderPorts.{asked_of, calm_asked}
 use Rattle.usb_tree.proofs.Interface.{equal_same}
-use Rattle.usb_world.proofs.ways.Routes.{others_packet, others_rest, others_forget, plugged_on, plugged_place, alone_token, alone_data, alone_ack, alone_sent}
+use Rattle.usb_world.proofs.ways.Routes.{others_packet, others_rest, others_forget, plugged_on}
+use Rattle.usb_world.proofs.ways.Routes.{plugged_place, alone_token, alone_data, alone_ack}
+use Rattle.usb_world.proofs.ways.Routes.{alone_sent}
 use Rattle.usb_world.proofs.courses.Courses.{goes}
 
 -- ---- changes at one place
@@ -35,7 +43,8 @@ unfolding place_at
 place_at-first (empty b) k = refl
 place_at-first (full b s a) k = refl
 
-pub place_at-changed : (f : Place → Place) (k : Ports) (j : ℕ) (p : List ℕ) → place_at (changed_at f k j p) j p ≡ option_map f (place_at k j p)
+pub place_at-changed : (f : Place → Place) (k : Ports) (j : ℕ) (p : List ℕ)
+    → place_at (changed_at f k j p) j p ≡ option_map f (place_at k j p)
 unfolding place_at changed_at
 place_at-changed f ended j p = refl
 place_at-changed f (vacant b k) zero [] = place_at-first (f (empty b)) k
@@ -69,15 +78,19 @@ abbrev own_after : Option Sent → Bool → State → Ports → State
 own_after None deep s a = s
 own_after (Some q) deep s a = (answer_of q deep s a).1
 
-step_calm : (o : Option Sent) (deep : Bool) (b : PortState) (s : State) (a : Ports) → asked_of o deep s ≡ Leaves → step_in o deep (full b s a) ≡ full b (own_after o deep s a) a
+step_calm : (o : Option Sent) (deep : Bool) (b : PortState) (s : State) (a : Ports)
+    → asked_of o deep s ≡ Leaves → step_in o deep (full b s a) ≡ full b (own_after o deep s a) a
 step_calm None deep b s a h = refl
 step_calm (Some q) deep b s a h = ap (λ e. full b (answer_of q deep s a).1 (acted e a)) h
 
-step_in-full : (o : Option Sent) (deep : Bool) (b : PortState) (s : State) (a : Ports) → step_in o deep (full b s a) ≡ full b (own_after o deep s a) (acted (asked_of o deep s) a)
+step_in-full : (o : Option Sent) (deep : Bool) (b : PortState) (s : State) (a : Ports)
+    → step_in o deep (full b s a) ≡ full b (own_after o deep s a) (acted (asked_of o deep s) a)
 step_in-full None deep b s a = refl
 step_in-full (Some q) deep b s a = refl
 
-pub sent_one : (o : Option Sent) (k : Ports) (j : ℕ) (p : List ℕ) → Alone o k (record { row = j; rest = p }) → after_sent o k ≡ changed_at (step_in o (deep_at false p)) k j p
+pub sent_one : (o : Option Sent) (k : Ports) (j : ℕ) (p : List ℕ)
+    → Alone o k (record { row = j; rest = p })
+    → after_sent o k ≡ changed_at (step_in o (deep_at false p)) k j p
 sent_one None k j p h = sym (changed_at-same k j p)
 sent_one (Some q) k j p h = others_packet q false k j p h.on (others_rest q k j p h)
 
@@ -102,13 +115,18 @@ reach-full : (k : Ports) (j : ℕ) (p : List ℕ) → reach_at k j p ≡ true �
 unfolding reach_at place_at
 reach-full ended j p h = false_true h
 reach-full (vacant b k) zero p h = false_true h
-reach-full (vacant b k) (suc j) p h = let x : _ = reach-full k j p h in record { port = x.port; own = x.own; below = x.below; at = x.at }
+reach-full (vacant b k) (suc j) p h = let x : _ = reach-full k j p h in
+    record { port = x.port; own = x.own; below = x.below; at = x.at }
 reach-full (taken b s a k) zero [] h = record { port = b; own = s; below = a; at = refl }
 reach-full (taken b s a k) zero (zero ∷ p) h = false_true h
-reach-full (taken b s a k) zero (suc j ∷ p) h = let x : _ = reach-full a j p (both b.enable (reach_at a j p) h).1 in record { port = x.port; own = x.own; below = x.below; at = x.at }
-reach-full (taken b s a k) (suc j) p h = let x : _ = reach-full k j p h in record { port = x.port; own = x.own; below = x.below; at = x.at }
+reach-full (taken b s a k) zero (suc j ∷ p) h = let x : _ =
+    reach-full a j p (both b.enable (reach_at a j p) h).1 in
+    record { port = x.port; own = x.own; below = x.below; at = x.at }
+reach-full (taken b s a k) (suc j) p h = let x : _ = reach-full k j p h in
+    record { port = x.port; own = x.own; below = x.below; at = x.at }
 
-module _ (a : Attempt) (d : Option Damage) (k : Ports) (j : ℕ) (p : List ℕ) (one : Alone (token_out a d) k (record { row = j; rest = p })) where
+module _ (a : Attempt) (d : Option Damage) (k : Ports) (j : ℕ) (p : List ℕ)
+    (one : Alone (token_out a d) k (record { row = j; rest = p })) where
   abbrev deep : Bool
   deep = deep_at false p
 
@@ -125,10 +143,12 @@ module _ (a : Attempt) (d : Option Damage) (k : Ports) (j : ℕ) (p : List ℕ) 
   x = record { row = j; rest = p }
 
   pub two : Alone q (after_sent t k) x
-  two = alone_data q (after_sent t k) (suc j ∷ p) (alone_sent t k (suc j ∷ p) one) (goes a d k).payload
+  two = alone_data q (after_sent t k) (suc j ∷ p) (alone_sent t k (suc j ∷ p) one)
+      (goes a d k).payload
 
   pub three : Alone r (after_sent q (after_sent t k)) x
-  three = alone_ack r (after_sent q (after_sent t k)) (suc j ∷ p) (alone_sent q (after_sent t k) (suc j ∷ p) two) (goes a d k).reply
+  three = alone_ack r (after_sent q (after_sent t k)) (suc j ∷ p)
+      (alone_sent q (after_sent t k) (suc j ∷ p) two) (goes a d k).reply
 
   pub four : Alone None (ended_in a d k) x
   four = alone_sent r (after_sent q (after_sent t k)) (suc j ∷ p) three
@@ -140,14 +160,20 @@ module _ (a : Attempt) (d : Option Damage) (k : Ports) (j : ℕ) (p : List ℕ) 
   till_end x = step_in r deep (till_data x)
 
   data_is : after_sent q (after_sent t k) ≡ changed_at till_data k j p
-  data_is = sent_one q (after_sent t k) j p two ∙ ap (λ x. changed_at (step_in q deep) x j p) (sent_one t k j p one) ∙ changed_at-twice (step_in q deep) (step_in t deep) k j p
+  data_is = sent_one q (after_sent t k) j p two
+      ∙ ap (λ x. changed_at (step_in q deep) x j p) (sent_one t k j p one)
+      ∙ changed_at-twice (step_in q deep) (step_in t deep) k j p
 
   pub end_is : ended_in a d k ≡ changed_at till_end k j p
-  end_is = sent_one r (after_sent q (after_sent t k)) j p three ∙ ap (λ x. changed_at (step_in r deep) x j p) data_is ∙ changed_at-twice (step_in r deep) till_data k j p
+  end_is = sent_one r (after_sent q (after_sent t k)) j p three
+      ∙ ap (λ x. changed_at (step_in r deep) x j p) data_is
+      ∙ changed_at-twice (step_in r deep) till_data k j p
 
   pub all_is : ports_in a d k ≡ changed_at (λ x. forgotten_in (till_end x)) k j p
   unfolding ports_in
-  all_is = others_forget (ended_in a d k) j p four.on four.forgot ∙ ap (λ x. changed_at forgotten_in x j p) end_is ∙ changed_at-twice forgotten_in till_end k j p
+  all_is = others_forget (ended_in a d k) j p four.on four.forgot
+      ∙ ap (λ x. changed_at forgotten_in x j p) end_is
+      ∙ changed_at-twice forgotten_in till_end k j p
 
   pub here : PlaceFull k j p
   here = reach-full k j p one.on
@@ -164,25 +190,31 @@ module _ (a : Attempt) (d : Option Damage) (k : Ports) (j : ℕ) (p : List ℕ) 
   abbrev third : State
   third = own_after r deep second below_then
 
-  first_place : step_in t deep (full here.port here.own here.below) ≡ full here.port first here.below
-  first_place = step_calm t deep here.port here.own here.below (calm_asked t (token_calm a.addr t (goes a d k).token) deep here.own)
+  first_place : step_in t deep (full here.port here.own here.below)
+      ≡ full here.port first here.below
+  first_place = step_calm t deep here.port here.own here.below
+      (calm_asked t (token_calm a.addr t (goes a d k).token) deep here.own)
 
   first_at : place_at (after_sent t k) j p ≡ Some (full here.port first here.below)
   first_at =
-      ap (λ x. place_at x j p) (sent_one t k j p one) ∙ place_at-changed (step_in t deep) k j p ∙ ap (option_map (step_in t deep)) here.at ∙ ap (λ x. Some x) first_place
+      ap (λ x. place_at x j p) (sent_one t k j p one) ∙ place_at-changed (step_in t deep) k j p
+      ∙ ap (option_map (step_in t deep)) here.at ∙ ap (λ x. Some x) first_place
 
   end_place : till_end (full here.port here.own here.below) ≡ full here.port third below_then
   end_place =
       ap (λ x. step_in r deep (step_in q deep x)) first_place
       ∙ ap (step_in r deep) (step_in-full q deep here.port first here.below)
-      ∙ step_calm r deep here.port second below_then (calm_asked r (ack_calm r (goes a d k).reply) deep second)
+      ∙ step_calm r deep here.port second below_then
+      (calm_asked r (ack_calm r (goes a d k).reply) deep second)
 
   end_at : place_at (ended_in a d k) j p ≡ Some (full here.port third below_then)
-  end_at = ap (λ x. place_at x j p) end_is ∙ place_at-changed till_end k j p ∙ ap (option_map till_end) here.at ∙ ap (λ x. Some x) end_place
+  end_at = ap (λ x. place_at x j p) end_is ∙ place_at-changed till_end k j p
+      ∙ ap (option_map till_end) here.at ∙ ap (λ x. Some x) end_place
 
   module _ (at : option_map address_of (state_at k j p) ≡ Some a.addr) where
     here_address : here.own.registers.address ≡ a.addr
-    here_address = same_Some here.own.registers.address a.addr (sym (ap (option_map address_of) (sym (state_stands k j p) ∙ ap stands here.at)) ∙ at)
+    here_address = same_Some here.own.registers.address a.addr
+        (sym (ap (option_map address_of) (sym (state_stands k j p) ∙ ap stands here.at)) ∙ at)
 
     module _ (port : ℕ) (quiet : IsQuiet port q (after_sent t k) (suc j ∷ p)) where
       abbrev without : Place → Place
@@ -209,7 +241,8 @@ module _ (a : Attempt) (d : Option Damage) (k : Ports) (j : ℕ) (p : List ℕ) 
           ≡ all_reached (without_port port k (suc j ∷ p))
       addresses_stay e =
           let address : third.registers.address ≡ a.addr =
-          same_Some third.registers.address a.addr (sym (ap (λ x. address_by (plugged_on x)) end_at) ∙ ap address_by (plugged_place (ended_in a d k) j p) ∙ e) in
+          same_Some third.registers.address a.addr (sym (ap (λ x. address_by (plugged_on x)) end_at)
+          ∙ ap address_by (plugged_place (ended_in a d k) j p) ∙ e) in
           ap all_reached
           (changed_at-port (put None) (ports_in a d k) j p port
           ∙ ap (λ x. changed_at without x j p) all_is
@@ -226,7 +259,8 @@ held_still : (port : ℕ) (a : Attempt) (d : Option Damage) (k : Ports) (p : Lis
     → KeptAt a.addr port k (ports_in a d k) p
 held_still port a d k [] q e = false_true (ap is_some e)
 held_still port a d k (zero ∷ p) q e = false_true (ap is_some e)
-held_still port a d k (suc j ∷ p) q e = λ settled o. addresses_stay a d k j p (alone_token a d k (suc j ∷ p) settled o) o.at port q e
+held_still port a d k (suc j ∷ p) q e =
+    λ settled o. addresses_stay a d k j p (alone_token a d k (suc j ∷ p) settled o) o.at port q e
 
 -- the same, of what the code tells: the address that is left there is the attempt's
 pub kept_at : (port : ℕ) (a : Attempt) (d : Option Damage) (k m n : Ports) (p : List ℕ)
@@ -238,7 +272,8 @@ pub kept_at : (port : ℕ) (a : Attempt) (d : Option Damage) (k m n : Ports) (p 
 unfolding ports_in
 kept_at port a d k m n p None same asks e over at = false_true same
 kept_at port a d k m n p (Some x) same asks e over at =
-    let told : address_by (device_there m p) ≡ Some a.addr = sym (at refl) ∙ ap (λ y. Some y) (equal_same x a.addr same) in
+    let told : address_by (device_there m p) ≡ Some a.addr = sym (at refl)
+    ∙ ap (λ y. Some y) (equal_same x a.addr same) in
     subst (λ y. KeptAt a.addr port k y p) (sym (over ∙ ap all_forgotten e))
     (held_still port a d k p asks (ap (λ y. address_by (device_there y p)) (sym e) ∙ told))
 

@@ -41,7 +41,8 @@ same_way-other_port (full b s a) (empty c) k j p = same_way-refl k j p
 same_way-other_port (full b s a) (full c t m) k j p = same_way-refl k j p
 
 -- what stands before a change in its row
-pub same_way-behind : (x : Place) (k m : Ports) (p : List ℕ) → SameWay (before x k) (before x m) zero p
+pub same_way-behind : (x : Place) (k m : Ports) (p : List ℕ)
+    → SameWay (before x k) (before x m) zero p
 unfolding reach_at has_power_at pending_at port_at state_at
 same_way-behind (empty b) k m [] = same_way-refl (vacant b k) zero []
 same_way-behind (empty b) k m (n ∷ p) = same_way-refl (vacant b k) zero (n ∷ p)
@@ -70,7 +71,8 @@ changed_apart f (vacant b k) zero (n ∷ e) j p h = same_way-refl (vacant b k) j
 changed_apart f (vacant b k) (suc i) e zero p h = same_way-behind (empty b) k (changed_at f k i e) p
 changed_apart f (vacant b k) (suc i) e (suc j) p h = changed_apart f k i e j p h
 changed_apart f (taken b s a k) zero [] zero p h = false_true (sym h)
-changed_apart f (taken b s a k) zero [] (suc j) p h = same_way-other_port (full b s a) (f (full b s a)) k j p
+changed_apart f (taken b s a k) zero [] (suc j) p h =
+    same_way-other_port (full b s a) (f (full b s a)) k j p
 changed_apart f (taken b s a k) zero (zero ∷ e) j p h = same_way-refl (taken b s a k) j p
 changed_apart f (taken b s a k) zero (suc i ∷ e) zero [] h = same_way-refl (taken b s a k) zero []
 changed_apart f (taken b s a k) zero (suc i ∷ e) zero (zero ∷ p) h =
@@ -79,7 +81,8 @@ changed_apart f (taken b s a k) zero (suc i ∷ e) zero (suc j ∷ p) h =
     let x : _ = changed_apart f a i e j p h in
     (passed_ports b s s a (changed_at f a i e) k k j p x.0, x.1)
 changed_apart f (taken b s a k) zero (suc i ∷ e) (suc j) p h = same_way-refl k j p
-changed_apart f (taken b s a k) (suc i) e zero p h = same_way-behind (full b s a) k (changed_at f k i e) p
+changed_apart f (taken b s a k) (suc i) e zero p h =
+    same_way-behind (full b s a) k (changed_at f k i e) p
 changed_apart f (taken b s a k) (suc i) e (suc j) p h = changed_apart f k i e j p h
 
 pub called_apart : (c : PortCall) (k : Ports) (i j : ℕ) (p : List ℕ)

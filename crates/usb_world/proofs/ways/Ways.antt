@@ -19,7 +19,8 @@ use Rattle.usb_tree.specs.Paths.{is_way, same_path, same_number}
 use Rattle.usb_world.specs.Steps.{names_path, way_of}
 use Rattle.usb_world.specs.World.{World}
 use Rattle.usb_world.proofs.ports.RootResets.{same_number-is}
-use Rattle.usb_tree.proofs.Interface.{false_true, both, or_left, or_right, either_of, same_bools, and_kept}
+use Rattle.usb_tree.proofs.Interface.{false_true, both, or_left, or_right, either_of, same_bools}
+use Rattle.usb_tree.proofs.Interface.{and_kept}
 use Rattle.usb_tree.proofs.Interface.{self_number, self_path}
 
 -- a way goes on to the path
@@ -47,7 +48,8 @@ pub way_trans : (p q x : List ℕ) → is_way p q ≡ true → is_way q x ≡ tr
 way_trans p q x pq qx =
     let first = way_rest p q pq in
     let second = way_rest q x qx in
-    way_of_rest p x (first.0 ++ second.0) (second.1 ∙ ap (λ (l : List ℕ). l ++ second.0) first.1 ∙ append_assoc p first.0 second.0)
+    way_of_rest p x (first.0 ++ second.0) (second.1 ∙ ap (λ (l : List ℕ). l ++ second.0) first.1
+    ∙ append_assoc p first.0 second.0)
 
 -- Other words for it
 
@@ -64,9 +66,12 @@ way_starts [] p = refl
 way_starts (m ∷ e) [] = refl
 way_starts (m ∷ e) (n ∷ p) = ap₂ (λ a b. a && b) (number_tests m n) (way_starts e p)
 
-rest_below : (x p rest : List ℕ) → x ≡ p ++ rest → (pointwise nat_eq x p || is_port_below x p) ≡ true
-rest_below x p [] e = or_left (pointwise nat_eq x p) (is_port_below x p) ((bytes_decides x p).1 (e ∙ append-nil p))
-rest_below x p (n ∷ rest) e = or_right (pointwise nat_eq x p) (is_port_below x p) ((is_below-extension x p).1 (n ∷ rest, e, omega arith))
+rest_below : (x p rest : List ℕ) → x ≡ p ++ rest → (pointwise nat_eq x p || is_port_below x p)
+    ≡ true
+rest_below x p [] e = or_left (pointwise nat_eq x p) (is_port_below x p)
+    ((bytes_decides x p).1 (e ∙ append-nil p))
+rest_below x p (n ∷ rest) e = or_right (pointwise nat_eq x p) (is_port_below x p)
+    ((is_below-extension x p).1 (n ∷ rest, e, omega arith))
 
 below_rest : (x p : List ℕ) → (pointwise nat_eq x p || is_port_below x p) ≡ true → is_way p x ≡ true
 below_rest x p h = elim (either_of (pointwise nat_eq x p) (is_port_below x p) h) [
@@ -77,10 +82,13 @@ below_rest x p h = elim (either_of (pointwise nat_eq x p) (is_port_below x p) h)
 -- a path is another or stands below it
 pub at_or_below_way : (x p : List ℕ) → (pointwise nat_eq x p || is_port_below x p) ≡ is_way p x
 at_or_below_way x p =
-    same_bools (pointwise nat_eq x p || is_port_below x p) (is_way p x) (below_rest x p) (λ h. let rest = way_rest p x h in rest_below x p rest.0 rest.1)
+    same_bools (pointwise nat_eq x p || is_port_below x p) (is_way p x) (below_rest x p)
+    (λ h. let rest = way_rest p x h in rest_below x p rest.0 rest.1)
 
-is_port_below-longer : (x p rest : List ℕ) → x ≡ p ++ rest → not (same_path p x) ≡ true → is_port_below x p ≡ true
-is_port_below-longer x p [] e h = false_true (sym (ap (λ (l : List ℕ). not (same_path p l)) (e ∙ append-nil p) ∙ ap not (self_path p)) ∙ h)
+is_port_below-longer : (x p rest : List ℕ) → x ≡ p ++ rest → not (same_path p x) ≡ true
+    → is_port_below x p ≡ true
+is_port_below-longer x p [] e h = false_true
+    (sym (ap (λ (l : List ℕ). not (same_path p l)) (e ∙ append-nil p) ∙ ap not (self_path p)) ∙ h)
 is_port_below-longer x p (n ∷ rest) e h = (is_below-extension x p).1 (n ∷ rest, e, omega arith)
 
 -- Above
@@ -137,21 +145,33 @@ reach_on_way k n x p w h =
 
 way_of_above : (e x p : List ℕ) → is_way x p ≡ true → way_of e p ≡ false → way_of e x ≡ false
 way_of_above [] x p on h = refl
-way_of_above (m ∷ e) x p on h = not_so (is_way (m ∷ e) x) (is_way (m ∷ e) p) (λ y. way_trans (m ∷ e) x p y on) h
+way_of_above (m ∷ e) x p on h = not_so (is_way (m ∷ e) x) (is_way (m ∷ e) p)
+    (λ y. way_trans (m ∷ e) x p y on) h
 
 plugs_above : (b c d : Bool) → (d ≡ false → c ≡ false) → (b && d) ≡ false → (b && c) ≡ false
 plugs_above true c d f h = f h
 plugs_above false c d f h = refl
 
-names_above : (d : List Spec) (a : Action) (x p : List ℕ) → is_way x p ≡ true → names_path d a p ≡ false → names_path d a x ≡ false
-names_above d (Change (Plug e i)) x p on h = plugs_above (is_some (slice_get d i)) (way_of e x) (way_of e p) (way_of_above e x p on) h
+names_above : (d : List Spec) (a : Action) (x p : List ℕ) → is_way x p ≡ true
+    → names_path d a p ≡ false → names_path d a x ≡ false
+names_above d (Change (Plug e i)) x p on h = plugs_above (is_some (slice_get d i)) (way_of e x)
+    (way_of e p) (way_of_above e x p on) h
 names_above d (Change (Unplug e)) x p on h = way_of_above e x p on h
 names_above d (Ask ask) x p on h = refl
 
-none_above : (d : List Spec) (events : List Event) (x p : List ℕ) → is_way x p ≡ true → NoneNames d events p → NoneNames d events x
+none_above : (d : List Spec) (events : List Event) (x p : List ℕ) → is_way x p ≡ true
+    → NoneNames d events p → NoneNames d events x
 none_above d [] x p on h = tt
-none_above d (e ∷ events) x p on h = (names_above d e.action x p on h.0, none_above d events x p on h.1)
+none_above d (e ∷ events) x p on h =
+    (names_above d e.action x p on h.0, none_above d events x p on h.1)
 
 -- what is disturbed neither at a path nor on its way
-pub undisturbed_on_way : (x p : List ℕ) (w v : World) → is_way x p ≡ true → Undisturbed w v p → Undisturbed w v x
-undisturbed_on_way x p w v on u = record { events = u.events; split = u.split; silent = none_above w.devices u.events x p on u.silent; devices = u.devices }
+pub undisturbed_on_way : (x p : List ℕ) (w v : World) → is_way x p ≡ true → Undisturbed w v p
+    → Undisturbed w v x
+undisturbed_on_way x p w v on u = record {
+  events = u.events;
+  split = u.split;
+  silent =
+      none_above w.devices u.events x p on u.silent;
+  devices = u.devices;
+}

@@ -9,6 +9,12 @@ parts-preserved g c =
     let rest = c.parts.rest.now in
     let n = c.in-Ok.n in
     record {
-      gone = (done ++ take n rest, moves_front _ done rest n split, Appends-trans _ _ _ _ _ appended c.in-Ok.ensures.bytes);
-      unmarked = unmarked_by _ _ n _ c.in-Ok.ensures.mark c.in-Ok.n-test.1 ∙ c.parts.invariant.unmarked;
+      gone = (
+        done ++ take n rest,
+        moves_front _ done rest n split,
+        Appends-trans _ _ _ _ _ appended
+            c.in-Ok.ensures.bytes,
+      );
+      unmarked = unmarked_by _ _ n _ c.in-Ok.ensures.mark c.in-Ok.n-test.1
+          ∙ c.parts.invariant.unmarked;
     }

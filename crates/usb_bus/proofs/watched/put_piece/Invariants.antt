@@ -6,7 +6,9 @@ use Rattle.usb_bus.proofs.watched.put_piece.Given as goal
 -- what is gone from the piece has been appended
 abbrev pub invariant-parts : goal.invariant-parts
 invariant-parts g l = record {
-  gone : (done : List ℕ) × (l.fn.piece ≡ done ++ l.rest) × Appends (g.W.Write.contents (inner_of l.fn.writer)) (g.W.Write.contents (inner_of l.writer)) done;
+  gone : (done : List ℕ) × (l.fn.piece ≡ done ++ l.rest)
+      × Appends (g.W.Write.contents (inner_of l.fn.writer)) (g.W.Write.contents (inner_of l.writer))
+      done;
   unmarked : has_failed l.writer ≡ has_failed l.fn.writer;
 }
 

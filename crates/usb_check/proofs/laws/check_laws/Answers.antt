@@ -7,5 +7,6 @@ pub returns : goal.returns
 returns c = record {
   one_field = check_is_one;
   five_bits = codewords_apart (false ∷ false ∷ true ∷ false ∷ []);
-  sixteen_bits = codewords_apart (true ∷ false ∷ false ∷ false ∷ false ∷ false ∷ false ∷ false ∷ false ∷ false ∷ false ∷ false ∷ false ∷ true ∷ false ∷ []);
+  sixteen_bits = codewords_apart (true ∷ false ∷ false ∷ false ∷ false ∷ false ∷ false ∷ false ∷
+      false ∷ false ∷ false ∷ false ∷ false ∷ true ∷ false ∷ []);
 }

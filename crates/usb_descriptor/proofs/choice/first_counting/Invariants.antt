@@ -8,5 +8,6 @@ abbrev pub invariant-loop-item : goal.invariant-loop-item
 invariant-loop-item l = record {
   next : (goal.iterator-loop-item).can_next l.item-iterator;
   ends : (goal.iterator-loop-item).is_finite l.item-iterator;
-  so_far : first_from (pick_of l.purpose) l.counts l.item-iterator ≡ first_counting (pick_of l.purpose) (items_of l.config);
+  so_far : first_from (pick_of l.purpose) l.counts l.item-iterator
+      ≡ first_counting (pick_of l.purpose) (items_of l.config);
 }

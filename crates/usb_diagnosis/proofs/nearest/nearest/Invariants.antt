@@ -5,4 +5,5 @@ use Rattle.usb_diagnosis.proofs.nearest.nearest.Given as goal
 
 -- the nearest of the names so far, and the fewest edits
 abbrev pub invariant-names : goal.invariant-names
-invariant-names l = BestSoFar (λ j. get_or (map (λ n. edits_between l.word n.now) l.names) j 0) l.i l.found l.fewest
+invariant-names l = BestSoFar (λ j. get_or (map (λ n. edits_between l.word n.now) l.names) j 0) l.i
+    l.found l.fewest

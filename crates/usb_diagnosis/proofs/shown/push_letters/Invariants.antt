@@ -4,4 +4,5 @@ use Rattle.usb_diagnosis.proofs.shown.push_letters.Given as goal
 
 -- the letters so far are written
 abbrev pub invariant-letters : goal.invariant-letters
-invariant-letters l = string_bytes l.out ≡ string_bytes l.fn.out ++ flat_map char_shown (take l.letter-index l.letters)
+invariant-letters l = string_bytes l.out ≡ string_bytes l.fn.out ++ flat_map char_shown
+    (take l.letter-index l.letters)

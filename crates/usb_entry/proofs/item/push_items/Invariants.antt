@@ -8,5 +8,6 @@ abbrev pub invariant-loop-item : goal.invariant-loop-item
 invariant-loop-item l = record {
   next : (goal.iterator-loop-item).can_next l.item-iterator;
   ends : (goal.iterator-loop-item).is_finite l.item-iterator;
-  so_far : l.out.items ++ flat_map item_line l.item-iterator ≡ l.fn.out.items ++ flat_map item_line (items_of l.config);
+  so_far : l.out.items ++ flat_map item_line l.item-iterator ≡ l.fn.out.items ++ flat_map item_line
+      (items_of l.config);
 }

@@ -4,4 +4,5 @@ use Rattle.usb_entry.proofs.name.push_letters.Given as goal
 
 -- the letters so far are written
 abbrev pub invariant-letters : goal.invariant-letters
-invariant-letters l = l.out.items ≡ l.fn.out.items ++ flat_map char_text (take l.letter-index l.letters)
+invariant-letters l = l.out.items ≡ l.fn.out.items ++ flat_map char_text
+    (take l.letter-index l.letters)

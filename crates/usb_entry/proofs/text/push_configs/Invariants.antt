@@ -4,4 +4,5 @@ use Rattle.usb_entry.proofs.text.push_configs.Given as goal
 
 -- the lines of the configurations so far are written
 abbrev pub invariant-configs : goal.invariant-configs
-invariant-configs l = l.out.items ≡ l.fn.out.items ++ flat_map configuration_lines (take l.config-index l.configs)
+invariant-configs l = l.out.items ≡ l.fn.out.items ++ flat_map configuration_lines
+    (take l.config-index l.configs)

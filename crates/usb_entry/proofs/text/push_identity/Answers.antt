@@ -13,7 +13,11 @@ returns c =
     let name = name_line c.args.name.now in
     let head = head_line e ++ codes "[[device]]\n" in
     let speed = speed_line (is_taken_low e) in
-    let first = pieces_more old (head_line e) c.push_head.new.out.items (codes "[[device]]\n") c.push_text.new.out.items c.in_ok-push_head.ensures c.in_ok-push_text.ensures in
-    let second = pieces_more old head c.push_text.new.out.items name c.push_name.new.out.items first c.in_ok-push_name.ensures in
-    let third = pieces_more old (head ++ name) c.push_name.new.out.items speed c.push_speed.new.out.items second c.in_ok-push_speed.ensures in
-    last_one c.push_descriptor.result old (head ++ name ++ speed) c.push_speed.new.out.items (descriptor_line e.device) c.push_descriptor.new.out.items third c.push_descriptor.ensures
+    let first = pieces_more old (head_line e) c.push_head.new.out.items (codes "[[device]]\n")
+    c.push_text.new.out.items c.in_ok-push_head.ensures c.in_ok-push_text.ensures in
+    let second = pieces_more old head c.push_text.new.out.items name c.push_name.new.out.items first
+    c.in_ok-push_name.ensures in
+    let third = pieces_more old (head ++ name) c.push_name.new.out.items speed
+    c.push_speed.new.out.items second c.in_ok-push_speed.ensures in
+    last_one c.push_descriptor.result old (head ++ name ++ speed) c.push_speed.new.out.items
+    (descriptor_line e.device) c.push_descriptor.new.out.items third c.push_descriptor.ensures

@@ -7,11 +7,15 @@ use Rattle.usb_enum.specs.Bounds.{configuration_bound}
 use Rattle.usb_enum.specs.LearnedFacts.{DeviceFact}
 use Rattle.usb_enum.specs.Readings.{AtMaximum, HasConfigurations}
 use Rattle.usb_enum.specs.Text.{any_has_value}
-use Rattle.usb_enum.proofs.refusals.ConfigRefusals.{reading_failed, reading_refused, repeated_refused}
-use Rattle.usb_enum.proofs.Parts.{asking, part_fails, steps_again, steps_more, steps_none, steps_times}
-use Rattle.usb_enum.proofs.readings.Readings.{learns_none, configurations_none, configurations_learned}
+use Rattle.usb_enum.proofs.refusals.ConfigRefusals.{reading_failed, reading_refused}
+use Rattle.usb_enum.proofs.refusals.ConfigRefusals.{repeated_refused}
+use Rattle.usb_enum.proofs.Parts.{asking, part_fails, steps_again, steps_more, steps_none}
+use Rattle.usb_enum.proofs.Parts.{steps_times}
+use Rattle.usb_enum.proofs.readings.Readings.{learns_none, configurations_none}
+use Rattle.usb_enum.proofs.readings.Readings.{configurations_learned}
 use Rattle.usb_enum.proofs.refusals.Refusals.{handed_match}
-use Rattle.usb_enum.proofs.readings.TextLengths.{texts_ended, texts_failed, texts_read_more, texts_none}
+use Rattle.usb_enum.proofs.readings.TextLengths.{texts_ended, texts_failed, texts_read_more}
+use Rattle.usb_enum.proofs.readings.TextLengths.{texts_none}
 use Rattle.usb_enum.proofs.readings.Values.{values_differ-push}
 use Rattle.usb_enum.specs.Reasons.{TextRead, none_yet, one_more as one_more_text, repeated}
 use Rattle.usb_enum.proofs.courses.LastRequests.{leads_none, leads_went}

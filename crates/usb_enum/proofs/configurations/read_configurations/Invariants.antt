@@ -20,6 +20,7 @@ invariant-loop-index g l = record {
       → TextsAsked l.target (g.B.Bus.world l.initial.bus) l.texts (g.B.Bus.world l.bus);
   counted : g.B.Bus.modelled ≡ true
       → TextsRead l.target l.index (g.B.Bus.world l.initial.bus) (g.B.Bus.world l.bus);
-  learned : g.B.Bus.modelled ≡ true → DeviceFact (AtMaximum l.target (HasConfigurations l.index l.texts)) l.target
+  learned : g.B.Bus.modelled ≡ true
+      → DeviceFact (AtMaximum l.target (HasConfigurations l.index l.texts)) l.target
       (g.B.Bus.world l.initial.bus) (g.B.Bus.world l.bus);
 }

@@ -10,7 +10,8 @@ use Rattle.usb_enum.proofs.refusals.ConfigRefusals.{config_refused, text_refused
 use Rattle.usb_enum.proofs.Parts.{asking, part_fails, steps_asked, steps_then, steps_wider}
 use Rattle.usb_enum.proofs.readings.Readings.{configuration_learned, good_bytes}
 use Rattle.usb_enum.proofs.refusals.Refusals.{explains_on}
-use Rattle.usb_enum.proofs.readings.TextLengths.{config_there, head_unread, text_malformed, text_unread, text_was_read}
+use Rattle.usb_enum.proofs.readings.TextLengths.{config_there, head_unread, text_malformed}
+use Rattle.usb_enum.proofs.readings.TextLengths.{text_unread, text_was_read}
 use Rattle.usb_enum.proofs.stops.ToldFailures.{handed_on}
 use Rattle.usb_enum.specs.declared.cause.Cause.TheVariants.{Stalled}
 use Rattle.usb_enum.specs.declared.cause.Request.TheVariants.{Config}
@@ -34,7 +35,7 @@ returns-in_err-bytes-clause-read g c known =
     let answer = c.get_config.ensures in
     let asked = answer.asked known in
     let what = answer.what known in
-    let text = steps_asked (config_given index) total c.requires.max (answer.went known) asked what
+    let text = steps_asked (config_given index) total c.requires.max (answer.steps known) asked what
     (answer.keeps known) in
     let old = g.B.Bus.world c.args.bus.now in
     let mid = g.B.Bus.world c.total_length.new.bus in
@@ -68,7 +69,7 @@ returns-in-Some-clause-read g c known =
     TextRead t index text (g.B.Bus.world c.args.bus.now) (g.B.Bus.world c.get_config.new.bus) in
     record {
       steps = steps_then asking head.steps (steps_asked (config_given index) total c.requires.max
-          (answer.went known) asked what (answer.keeps known))
+          (answer.steps known) asked what (answer.keeps known))
           (omega (arith, c.in_ok-total.ensures.fits.1));
       ends = record {
         told = subst Read (sym (good_bytes bytes.items c.in-Some.text good).1) (record {
@@ -77,7 +78,7 @@ returns-in-Some-clause-read g c known =
               (was_read (Stalled Config) bytes read asked);
         });
         so = configuration_learned t _ index total _ c.get_config.result bytes c.in-Some.text _ _ _
-            read good head.ends.so (answer.went known) what;
+            read good head.ends.so (answer.steps known) what;
       };
     }
 
@@ -95,7 +96,7 @@ returns-in-None-clause-read g c known =
     let none = sym c.new.ensures ∙ c.in-None.is in
     record {
       steps = steps_then asking head.steps (steps_asked (config_given index) total c.requires.max
-          (answer.went known) asked what (answer.keeps known))
+          (answer.steps known) asked what (answer.keeps known))
           (omega (arith, c.in_ok-total.ensures.fits.1));
       ends = record {
         told = bad_text bytes.items (record {
@@ -104,7 +105,7 @@ returns-in-None-clause-read g c known =
               (was_read (Stalled Config) bytes read asked);
         }) none;
         so = text_refused t _ index total _ c.get_config.result bytes _ _ _ read none head.ends.so
-            (answer.went known) what;
+            (answer.steps known) what;
       };
     }
 
@@ -135,8 +136,8 @@ returns-in-Some-clause-count g c known =
     let asked = answer.asked known in
     let what = answer.what known in
     text_was_read c.args.target c.args.index total _ _ _ c.requires.max head.steps.went
-    (answer.went known) head.ends.so head.ends.told c.in-Some.text (steps_asked
-    (config_given c.args.index) total c.requires.max (answer.went known) asked what
+    (answer.steps known) head.ends.so head.ends.told c.in-Some.text (steps_asked
+    (config_given c.args.index) total c.requires.max (answer.steps known) asked what
     (answer.keeps known)).keeps.devices (config_there c.args.target _ c.args.index total
     c.get_config.result c.in_ok-bytes.bytes _ _ (sym c.answered_or.ensures ∙ c.in_ok-bytes.was)
     asked what)

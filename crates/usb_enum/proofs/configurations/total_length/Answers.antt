@@ -25,7 +25,7 @@ returns-in-Ok-clause-read g c known =
     let bytes = c.in_ok-head.head in
     let read = sym c.answered_or.ensures ∙ c.in_ok-head.was in
     record {
-      steps = steps_asked (config_given c.args.index) 9 c.requires.max (answer.went known) asked
+      steps = steps_asked (config_given c.args.index) 9 c.requires.max (answer.steps known) asked
           what (answer.keeps known);
       ends = record {
         told = config_there t _ c.args.index 9 c.get_config.result bytes old new read asked what;
@@ -45,7 +45,7 @@ returns-in_err-head-clause-read g c known =
     let stop = c.in_err-head.field-0.0 in
     let failed = sym c.answered_or.ensures ∙ c.in_err-head.was in
     part_fails c.from_residual.result stop c.from_residual.ensures.1 (steps_asked
-    (config_given c.args.index) 9 c.requires.max (answer.went known) asked what
+    (config_given c.args.index) 9 c.requires.max (answer.steps known) asked what
     (answer.keeps known)) (record {
       told = read_stop_told Config stop (c.args.index, (9, refl)) failed asked;
       so = config_refused c.args.target c.args.index 9 c.get_config.result stop old new failed
@@ -64,7 +64,7 @@ returns-clause-read g c known =
     let bad = ap config_head_of (sym c.as_slice.ensures.value) ∙ sym c.config_head.ensures.answer
     ∙ c.in-Err.is in
     record {
-      steps = steps_asked (config_given c.args.index) 9 c.requires.max (answer.went known) asked
+      steps = steps_asked (config_given c.args.index) 9 c.requires.max (answer.steps known) asked
           what (answer.keeps known);
       ends = record {
         told = bad_total bytes.items c.in-Err.field-0 (was_read (Stalled Config) bytes read asked)

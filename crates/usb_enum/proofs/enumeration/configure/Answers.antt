@@ -1,6 +1,7 @@
 use Rattle.usb_enum.specs.Device.{IsStarted}
 use Rattle.usb_enum.specs.declared.cause.Cause.TheVariants.{Stalled}
-use Rattle.usb_enum.proofs.stops.PlainStops.{answered_plain, deep_stop_fits, hub_stop_fits, plain_stop_fits}
+use Rattle.usb_enum.proofs.stops.PlainStops.{answered_plain, deep_stop_fits, hub_stop_fits}
+use Rattle.usb_enum.proofs.stops.PlainStops.{plain_stop_fits}
 use Rattle.usb_enum.specs.Stop.{FitsStop}
 use Rattle.std.proofs.Common.{◌∙◌, ℕ, [], ap, arith, refl, slice_index_or, subst, sym}
 use Rattle.std.proofs.lemmas.List.{get_or_read}
@@ -11,11 +12,13 @@ use Rattle.usb_enum.specs.LearnedFacts.{DeviceFact}
 use Rattle.usb_enum.specs.Readings.{AtMaximum, HasConfigurations}
 use Rattle.usb_enum.specs.Refusals.{configured_fault}
 use Rattle.usb_enum.proofs.refusals.Refusals.{answered_ok, fault_explains, handed_match}
-use Rattle.usb_enum.proofs.refusals.SettingRefusals.{deep_refused, read_refused, power_refused, set_refused, hub_refused, strings_refused}
+use Rattle.usb_enum.proofs.refusals.SettingRefusals.{deep_refused, read_refused, power_refused}
+use Rattle.usb_enum.proofs.refusals.SettingRefusals.{set_refused, hub_refused, strings_refused}
 use Rattle.usb_enum.proofs.readings.Settings.{listed_learns, set_learned, set_then}
 use Rattle.usb_bus.proofs.Interface.{went_then}
 use Rattle.usb_enum.proofs.devices.Frames.{sets_asked, sets_at, sets_told}
-use Rattle.usb_enum.proofs.Parts.{part_fails, setting, steps_as, steps_joined, steps_none, steps_set, steps_then, steps_wider}
+use Rattle.usb_enum.proofs.Parts.{part_fails, setting, steps_as, steps_joined, steps_none}
+use Rattle.usb_enum.proofs.Parts.{steps_set, steps_then, steps_wider}
 use Rattle.usb_enum.specs.Bounds.{configured_by, texts_bound}
 use Rattle.usb_enum.proofs.ports.Powers.{empties_ports}
 use Rattle.usb_enum.proofs.readings.TextLengths.{few_then, few_wider}
@@ -79,7 +82,8 @@ returns-in_default-clause-part g c known =
     let none = sym c.in_ok-chosen.ensures.chosen ∙ c.in_default.is in
     let old = g.B.Bus.world c.args.bus.now in
     let mid = g.B.Bus.world c.read_configurations.new.bus in
-    let Learned : ℕ → Type 0 = λ n. DeviceFact (AtMaximum t (HasConfigurations n configs)) t old mid in
+    let Learned : ℕ → Type 0 = λ n. DeviceFact (AtMaximum t (HasConfigurations n configs)) t old
+    mid in
     record {
       steps = steps_wider (steps_as (sets_asked _) read.steps) (omega arith);
       ends = record {
@@ -112,11 +116,12 @@ returns-in_err-answered_or-clause-part g c known =
     let old = g.B.Bus.world c.args.bus.now in
     let mid = g.B.Bus.world c.read_configurations.new.bus in
     let new = g.B.Bus.world c.set_configuration.new.bus in
-    let Learned : ℕ → Type 0 = λ n. DeviceFact (AtMaximum t (HasConfigurations n configs)) t old mid in
+    let Learned : ℕ → Type 0 = λ n. DeviceFact (AtMaximum t (HasConfigurations n configs)) t old
+    mid in
     part_fails c.from_residual-in_err-answered_or.result stop
     c.from_residual-in_err-answered_or.ensures.1 (steps_as (sets_at c.requires) (steps_then
     (setting t.addr) (steps_as (sets_asked _) read.steps)
-    (steps_set (set.went known) (set.ordered known) (set.what known) (set.keeps known))
+    (steps_set (set.steps known) (set.ordered known) (set.what known) (set.keeps known))
     (omega arith))) (record {
       told = stops_by t device.bytes c.args.tier c.args.supply stop old new
           (told_after stop t old mid new (leads_went read.steps.went)
@@ -126,7 +131,7 @@ returns-in_err-answered_or-clause-part g c known =
           (sym c.in_ok-chosen.ensures.chosen ∙ c.in-Some.is) c.value-value.result _ _
           c.set_configuration.result stop old mid new (λ z. omega (arith, z, c.requires)) inside
           (c.value-value.ensures ∙ ap configuration_value chosen) (omega arith)
-          (subst Learned c.configurations.ensures read.ends.so) read.steps.went (set.went known)
+          (subst Learned c.configurations.ensures read.ends.so) read.steps.went (set.steps known)
           failed (set.what known) (set.why known);
     })
 
@@ -153,9 +158,10 @@ returns-in_err-hub-clause-part g c known =
     let mid = g.B.Bus.world c.read_configurations.new.bus in
     let before = g.B.Bus.world c.set_configuration.new.bus in
     let asked = g.B.Bus.world c.hub_facts.new.bus in
-    let Learned : ℕ → Type 0 = λ n. DeviceFact (AtMaximum t (HasConfigurations n configs)) t old mid in
+    let Learned : ℕ → Type 0 = λ n. DeviceFact (AtMaximum t (HasConfigurations n configs)) t old
+    mid in
     let steps = steps_joined (setting t.addr) (steps_as (sets_asked _) read.steps)
-    (steps_set (set.went known) (set.ordered known) (set.what known) (set.keeps known)) in
+    (steps_set (set.steps known) (set.ordered known) (set.what known) (set.keeps known)) in
     part_fails c.from_residual-in_err-hub.result stop c.from_residual-in_err-hub.ensures.1 (steps_as
     (sets_at c.requires) (steps_then (setting t.addr) steps (steps_as (sets_told _) hub.steps)
     (omega arith))) (record {
@@ -165,13 +171,14 @@ returns-in_err-hub-clause-part g c known =
             all = c.in_ok-configs.ensures.all.0
                 ∙ c.configurations.ensures;
           }) c.in-Some.chosen choice (leads_went read.steps.went)
-          (leads_went (set.went known)) (subst (λ text. CauseAllowedAtStart t text stop before asked)
+          (leads_went (set.steps known)) (subst
+          (λ text. CauseAllowedAtStart t text stop before asked)
           same_text hub.ends.told);
       so = hub_refused t c.args.tier c.args.supply device.bytes fits configs c.in-Some.chosen choice
           c.value-value.result _ _ _ stop old before asked (λ z. omega (arith, z, c.requires))
           is_hub inside (c.value-value.ensures ∙ ap configuration_value chosen) (omega arith)
           (set_learned _ t c.value-value.result _ c.set_configuration.result old mid before
-          (subst Learned c.configurations.ensures read.ends.so) (set.went known) (answered_ok _
+          (subst Learned c.configurations.ensures read.ends.so) (set.steps known) (answered_ok _
           c.set_configuration.result tt (sym c.answered_or.ensures ∙ c.in_ok-answered_or.was))
           (set.what known)) steps.went hub.steps.went same_text hub.ends.so;
     })
@@ -191,10 +198,10 @@ returns-in_err-strings-clause-part g c known =
     let asked = g.B.Bus.world c.hub_facts.new.bus in
     let new = g.B.Bus.world c.read_strings.new.bus in
     let steps = steps_joined (setting t.addr) (steps_joined (setting t.addr)
-    (steps_as (sets_asked _) read.steps) (steps_set (set.went known) (set.ordered known)
+    (steps_as (sets_asked _) read.steps) (steps_set (set.steps known) (set.ordered known)
     (set.what known) (set.keeps known))) (steps_as (sets_told _) hub.steps) in
     let learned = set_learned _ t c.value-value.result _ c.set_configuration.result old mid before
-    read.ends.so (set.went known) (answered_ok _ c.set_configuration.result tt
+    read.ends.so (set.steps known) (answered_ok _ c.set_configuration.result tt
     (sym c.answered_or.ensures ∙ c.in_ok-answered_or.was)) (set.what known) in
     part_fails c.from_residual-in_err-strings.result stop c.from_residual-in_err-strings.ensures.1
     (steps_as (sets_at c.requires) (steps_then (setting t.addr) steps
@@ -225,7 +232,7 @@ returns-clause-part g c known =
     slice_index_or texts c.in-Some.chosen c.index-as_slice-chosen-2.result)
     c.as_slice-2.ensures) [] in
     let steps = steps_joined (setting t.addr) (steps_joined (setting t.addr)
-    (steps_as (sets_asked _) read.steps) (steps_set (set.went known) (set.ordered known)
+    (steps_as (sets_asked _) read.steps) (steps_set (set.steps known) (set.ordered known)
     (set.what known) (set.keeps known))) (steps_as (sets_told _) hub.steps) in
     record {
       steps = steps_as (sets_at c.requires) (steps_then (setting t.addr) steps
@@ -237,12 +244,12 @@ returns-clause-part g c known =
         fits = sym c.fits_tier.ensures ∙ c.in_ok-fits_tier.was;
         served = subst (λ a. IsStarted a c.in_ok-hub.hub) c.requires hub.ends.served;
         learned = listed_learns _ _ _ _ _ _ _ _ _ _ c.set_configuration.result
-            c.configurations.ensures read.ends.so (set.went known)
+            c.configurations.ensures read.ends.so (set.steps known)
             (c.value-value.ensures ∙ ap configuration_value chosen) done (set.what known)
             hub.steps.went same_text hub.ends.learned strings.steps.went c.string_indexes.ensures
             strings.ends.so;
         below = empties_ports _ _ _ _ _ c.set_configuration.result read.steps.went read.steps.keeps
-            (set.went known) done (set.ordered known) (set.what known) (set.keeps known)
+            (set.steps known) done (set.ordered known) (set.what known) (set.keeps known)
             hub.ends.started strings.steps.keeps;
         strings = record {
           before = g.B.Bus.world c.hub_facts.new.bus;

@@ -31,7 +31,7 @@ returns-in_err-at_port-in-Refused-clause-left g c known =
           c.from_residual.ensures.1 by;
       closes = λ a. closed_handed _ a _ _ c.from_residual.result why _ c.from_residual.ensures.1
           (closed_lost _ a _ _ _ _ (call.fault known) (call.ports known) (call.addresses known) _
-          why (call.went known) told (fault_by port why _ _ by) (clear_goes port PORT_ENABLE
+          why (call.steps known) told (fault_by port why _ _ by) (clear_goes port PORT_ENABLE
           ClearEnable _ _ _ refl refl refl (call.effect known)));
     })
 

@@ -35,7 +35,7 @@ returns-in-Ok-clause-read g c known =
     let read = sym c.answered_or.ensures ∙ c.in_ok-bytes.was in
     let same = c.in-Ok.ensures.view ∙ c.as_slice.ensures.value in
     record {
-      steps = steps_asked hub_given 9 c.requires.max (hub.went known) asked (hub.what known)
+      steps = steps_asked hub_given 9 c.requires.max (hub.steps known) asked (hub.what known)
           (hub.keeps known);
       ends = rw c.ports.ensures.value (record {
         told = count_told c.args.target BadHub c.hub_descriptor.result c.in_ok-bytes.bytes
@@ -55,7 +55,7 @@ returns-in_err-bytes-clause-read g c known =
     let stop = c.in_err-bytes.field-0.0 in
     let failed = sym c.answered_or.ensures ∙ c.in_err-bytes.was in
     part_fails c.from_residual.result stop c.from_residual.ensures.1
-    (steps_asked hub_given 9 c.requires.max (hub.went known) asked what (hub.keeps known))
+    (steps_asked hub_given 9 c.requires.max (hub.steps known) asked what (hub.keeps known))
     (record {
       told = bad_hub_told c.args.target get_hub_descriptor c.hub_descriptor.result stop 3 1 old new
           failed (reads_failed c.args.target get_hub_descriptor c.hub_descriptor.result old new
@@ -74,7 +74,7 @@ returns-clause-read g c known =
     let bad = ap hub_spelled (sym c.as_slice.ensures.value) ∙ sym c.read_hub.ensures.answer
     ∙ c.in-Err.is in
     record {
-      steps = steps_asked hub_given 9 c.requires.max (hub.went known) asked (hub.what known)
+      steps = steps_asked hub_given 9 c.requires.max (hub.steps known) asked (hub.what known)
           (hub.keeps known);
       ends = record {
         told = inl (

@@ -24,7 +24,7 @@ returns-clause-read g c known =
     let read = sym c.answered_or.ensures ∙ c.in_ok-status.was in
     record {
       steps = record {
-        went = read_went t.max 2 _ _ c.requires.max (answer.went known);
+        went = read_went t.max 2 _ _ c.requires.max (answer.steps known);
         keeps = answer_asks status_given (λ s status. status_given s.spec ≡ Some status) t _
             c.get_status.result _ _ _ told.asked (answer.what known) (answer.keeps known);
       };
@@ -51,7 +51,7 @@ returns-in_err-status-clause-read g c known =
     let failed = sym c.answered_or.ensures ∙ c.in_err-status.was in
     part_fails c.from_residual.result stop c.from_residual.ensures.1
     (record {
-      went = read_went t.max 2 _ _ c.requires.max (answer.went known);
+      went = read_went t.max 2 _ _ c.requires.max (answer.steps known);
       keeps = answer_asks status_given (λ s status. status_given s.spec ≡ Some status) t _
           c.get_status.result _ _ _ told.asked (answer.what known) (answer.keeps known);
     })

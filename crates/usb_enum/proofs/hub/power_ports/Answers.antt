@@ -3,7 +3,8 @@ use Rattle.std.proofs.Common.{ℕ, arith, refl, subst}
 use Rattle.usb_pipe.specs.Control.{write_bound}
 use Rattle.usb_enum.specs.Hub.{Powered}
 use Rattle.usb_enum.proofs.ports.Hubs.{powered_more}
-use Rattle.usb_enum.proofs.Parts.{part_fails, steps_again, steps_more, steps_none, steps_times, telling}
+use Rattle.usb_enum.proofs.Parts.{part_fails, steps_again, steps_more, steps_none, steps_times}
+use Rattle.usb_enum.proofs.Parts.{telling}
 use Rattle.usb_enum.proofs.refusals.PortRefusals.{powering_explains}
 use Rattle.usb_enum.proofs.stops.ToldFailures.{handed_on}
 use Rattle.usb_enum.proofs.courses.LastRequests.{leads_went}

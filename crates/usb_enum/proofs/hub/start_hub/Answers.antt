@@ -2,8 +2,10 @@ use Rattle.usb_enum.specs.Stop.{IsHubStop}
 use Rattle.std.proofs.Common.{inl, arith, refl, rules}
 use Rattle.usb_enum.proofs.devices.Frames.{tells_asked}
 use Rattle.usb_enum.proofs.readings.HubReadings.{hub_learned}
-use Rattle.usb_enum.proofs.Parts.{asking, part_fails, steps_as, steps_joined, steps_none, steps_then, steps_wider, telling}
-use Rattle.usb_enum.proofs.refusals.PortRefusals.{no_endpoint, asked_explains, supply_explains, powered_explains}
+use Rattle.usb_enum.proofs.Parts.{asking, part_fails, steps_as, steps_joined, steps_none}
+use Rattle.usb_enum.proofs.Parts.{steps_then, steps_wider, telling}
+use Rattle.usb_enum.proofs.refusals.PortRefusals.{no_endpoint, asked_explains, supply_explains}
+use Rattle.usb_enum.proofs.refusals.PortRefusals.{powered_explains}
 use Rattle.usb_enum.proofs.refusals.Refusals.{explains_set_none, handed_match}
 use Rattle.usb_enum.proofs.courses.LastRequests.{leads_went}
 use Rattle.usb_enum.proofs.stops.Reasons.{at_start, hub_after}

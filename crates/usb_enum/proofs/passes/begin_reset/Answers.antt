@@ -13,11 +13,12 @@ returns-clause-part g c known a =
     let resets = (call.addresses known).resets refl in
     record {
       steps = record {
-        went = reset_went c.args.port (call.went known);
+        went = reset_went c.args.port (call.steps known);
         keeps = at_reset _ a _ _ resets
             (reset_calls _ a _ _ _ (call.fault known) (call.ports known) resets);
       };
-      ends = call_ends c.args.port _ c.set_port.result _ _ c.at_port.ensures (port_set_fault c.args.port
+      ends = call_ends c.args.port _ c.set_port.result _ _ c.at_port.ensures
+          (port_set_fault c.args.port
           PORT_RESET c.set_port.result _ _ (call.fault known) (call.effect known));
     }
 

@@ -1,12 +1,16 @@
 use Rattle.usb_enum.proofs.stops.PlainStops.{answered_plain, device_good}
 use Rattle.usb_enum.specs.Stop.{IsPlainStop}
-use Rattle.std.proofs.Common.{◌≡◌, ◌<◌, ◌∙◌, ℕ, true, length, List, Err, Option, Result, ap, refl, subst, sym, take}
+use Rattle.std.proofs.Common.{◌≡◌, ◌<◌, ◌∙◌, ℕ, true, length, List, Err, Option, Result, ap, refl}
+use Rattle.std.proofs.Common.{subst, sym, take}
 use Rattle.std.specs.Prelude.{IfSome, MatchResult}
 use Rattle.usb_pipe.specs.declared.fault.PipeFault.TheVariants.{NoAnswer}
 use Rattle.usb_enum.specs.declared.stop.Stop.{Stop}
 use Rattle.usb_enum.specs.Device.{is_device}
 use Rattle.usb_enum.specs.Reasons.{bad_front}
-use Rattle.usb_enum.proofs.refusals.DeviceRefusals.{descriptor_unanswered, descriptor_none, descriptor_refused, device_read, no_answer, some_answer, answered_who, refused_who, short_device}
+use Rattle.usb_enum.proofs.refusals.DeviceRefusals.{descriptor_unanswered, descriptor_none}
+use Rattle.usb_enum.proofs.refusals.DeviceRefusals.{descriptor_refused, device_read, no_answer}
+use Rattle.usb_enum.proofs.refusals.DeviceRefusals.{some_answer, answered_who, refused_who}
+use Rattle.usb_enum.proofs.refusals.DeviceRefusals.{short_device}
 use Rattle.usb_enum.proofs.readings.Heads.{bytes_answered}
 use Rattle.usb_hub.specs.GivenAnswers.{device_given}
 use Rattle.usb_enum.proofs.Parts.{part_fails, steps_asked}
@@ -27,7 +31,7 @@ returns-then-eq-clause-read g c known =
     let silent : outcome ≡ Err NoAnswer = no_answer _ _ outcome (sym c.eq.ensures ∙ c.if-eq.true)
     refl refl refl (λ why. refl) refl in
     record {
-      steps = steps_asked device_given 18 c.requires.max (device.went known) asked what
+      steps = steps_asked device_given 18 c.requires.max (device.steps known) asked what
           (device.addresses known).keeps;
       ends = record {
         told = unanswered_ends_failing t (get_device_descriptor 18) outcome _ _ silent asked.stages;
@@ -47,7 +51,7 @@ returns-in_err-bytes-clause-read g c known =
     let stop = c.in_err-bytes.field-0.0 in
     let failed = sym c.answered_or.ensures ∙ c.in_err-bytes.was in
     part_fails c.from_residual.result stop c.from_residual.ensures.1 (steps_asked device_given 18
-    c.requires.max (device.went known) asked what (device.addresses known).keeps) (record {
+    c.requires.max (device.steps known) asked what (device.addresses known).keeps) (record {
       told = read_stop_told Device stop (18, refl) failed asked;
       so = record {
         why = descriptor_unanswered t outcome stop old new failed c.requires.max what
@@ -68,7 +72,7 @@ returns-in-Some-clause-read g c known =
     let front = c.in-Some.ensures.cases.same ∙ ap (take 18) c.as_slice.ensures.value in
     let read = sym c.answered_or.ensures ∙ c.in_ok-bytes.was in
     record {
-      steps = steps_asked device_given 18 c.requires.max (device.went known) asked what
+      steps = steps_asked device_given 18 c.requires.max (device.steps known) asked what
           (device.addresses known).keeps;
       ends = rw c.device_bytes.ensures (device_read t c.in-Some.bytes.now _ _ (record {
         all = bytes.items;
@@ -95,7 +99,7 @@ returns-clause-read g c known =
     subst (λ xs. length xs < 18) c.as_slice.ensures.value c.in-None.ensures.cases in
     let bad = short_device t.low bytes.items short in
     record {
-      steps = steps_asked device_given 18 c.requires.max (device.went known) asked what
+      steps = steps_asked device_given 18 c.requires.max (device.steps known) asked what
           (device.addresses known).keeps;
       ends = record {
         told = bad_front (take 18 bytes.items) (record {

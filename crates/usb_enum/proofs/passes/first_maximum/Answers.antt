@@ -24,7 +24,7 @@ returns-in-Ok-clause-read g c known =
     (sym (rw c.as_slice.ensures.value at c.in-Ok.ensures.answer)) asked.ends
     (device.addresses known) (device.what known) in
     record {
-      steps = steps_asked device_given 8 (omega (arith, c.requires.max)) (device.went known) asked
+      steps = steps_asked device_given 8 (omega (arith, c.requires.max)) (device.steps known) asked
           (device.what known) (device.addresses known).keeps;
       ends = record { answers = answers; goes = device_goes t 8 _ _ _ asked answers.still };
     }
@@ -39,7 +39,7 @@ returns-in_err-bytes-clause-read g c known =
     let stop = c.in_err-bytes.field-0.0 in
     let failed = sym c.answered_or.ensures ∙ c.in_err-bytes.was in
     part_fails c.from_residual.result stop c.from_residual.ensures.1 (steps_asked device_given 8
-    wide (device.went known) asked (device.what known) (device.addresses known).keeps) (record {
+    wide (device.steps known) asked (device.what known) (device.addresses known).keeps) (record {
       told = read_stop_told Device stop (8, refl) failed asked;
       so = head_unanswered c.args.unaddressed c.get_device.result stop old new failed wide
           (device.what known) (device.why known);
@@ -55,7 +55,7 @@ returns-clause-read g c known =
     let bad = ap (device_head_of t.low) (sym c.as_slice.ensures.value) ∙ sym
     c.device_head.ensures.answer ∙ c.in-Err.is in
     record {
-      steps = steps_asked device_given 8 (omega (arith, c.requires.max)) (device.went known) asked
+      steps = steps_asked device_given 8 (omega (arith, c.requires.max)) (device.steps known) asked
           (device.what known) (device.addresses known).keeps;
       ends = record {
         told = bad_head bytes.items c.in-Err.field-0 (was_read (Stalled Device) bytes read asked)

@@ -6,14 +6,17 @@ use Rattle.usb_enum.proofs.devices.Presence.{address_finds}
 use Rattle.usb_enum.proofs.devices.ReachedDevices.{reaches_addressed, reaches_rest}
 use Rattle.usb_enum.proofs.devices.Enumerations.{takes_after, takes_answered}
 use Rattle.usb_enum.proofs.devices.Frames.{at_asked}
-use Rattle.usb_enum.proofs.Parts.{enumerating, part_fails, steps_addressed, steps_as, steps_then, steps_wider}
+use Rattle.usb_enum.proofs.Parts.{enumerating, part_fails, steps_addressed, steps_as, steps_then}
+use Rattle.usb_enum.proofs.Parts.{steps_wider}
 use Rattle.usb_enum.specs.Refusals.{addressed_fault, early_fault}
 use Rattle.usb_enum.proofs.courses.Fairness.{stops_wider}
 use Rattle.usb_enum.proofs.refusals.Refusals.{answered_ok, handed_match}
-use Rattle.usb_enum.proofs.stops.StopReasons.{address_stops, addressed_early, descriptor_stops, pass_misses}
+use Rattle.usb_enum.proofs.stops.StopReasons.{address_stops, addressed_early, descriptor_stops}
+use Rattle.usb_enum.proofs.stops.StopReasons.{pass_misses}
 use Rattle.usb_enum.specs.declared.cause.Request.TheVariants.{Address}
 use Rattle.usb_enum.proofs.courses.LastRequests.{leads_went}
-use Rattle.usb_enum.proofs.stops.Reasons.{at_after, descriptor_after, failing_after, stop_told_at, told_faults, write_stop_told}
+use Rattle.usb_enum.proofs.stops.Reasons.{at_after, descriptor_after, failing_after, stop_told_at}
+use Rattle.usb_enum.proofs.stops.Reasons.{told_faults, write_stop_told}
 use Rattle.usb_enum.proofs.passes.pass.Goals as goal
 
 pub returns-in_err-target-clause-part : goal.returns-in_err-target-clause-part
@@ -38,15 +41,16 @@ returns-in_err-answered_or-clause-part g c known =
     let zero = c.in_ok-target.ensures.part known 0 in
     let set = c.set_address.ensures in
     let ordered = set.ordered known in
-    let addressed = steps_addressed early.steps is.zero c.requires.least (set.went known) ordered
+    let addressed = steps_addressed early.steps is.zero c.requires.least (set.steps known) ordered
     (set.what known) (set.gives known) in
     let failed = sym c.answered_or.ensures ∙ c.in_err-answered_or.was in
     part_fails c.from_residual-in_err-answered_or.result stop
     c.from_residual-in_err-answered_or.ensures.1 (steps_wider addressed (omega arith)) (record {
-      told = at_after stop port a _ _ _ (leads_went early.steps.went) (stop_told_at stop port a t _ _
+      told = at_after stop port a _ _ _ (leads_went early.steps.went)
+          (stop_told_at stop port a t _ _
           (record { at = inl is.zero; pre = is.pre })
           (write_stop_told Address stop (a, refl) failed ordered));
-      so = address_stops port a _ _ t c.set_address.result early.steps.went (set.went known)
+      so = address_stops port a _ _ t c.set_address.result early.steps.went (set.steps known)
           early.steps.keeps zero.steps.keeps addressed.keeps is zero.ends ordered (set.what known)
           (set.why known) stop failed;
     })
@@ -61,7 +65,7 @@ returns-in_err-bytes-clause-part g c known =
     let early = c.in_ok-target.ensures.part known a in
     let zero = c.in_ok-target.ensures.part known 0 in
     let set = c.set_address.ensures in
-    let addressed = steps_addressed early.steps is.zero c.requires.least (set.went known)
+    let addressed = steps_addressed early.steps is.zero c.requires.least (set.steps known)
     (set.ordered known) (set.what known) (set.gives known) in
     let bytes = c.in_err-bytes.ensures.read known in
     let done = answered_ok _ c.set_address.result tt
@@ -71,7 +75,7 @@ returns-in_err-bytes-clause-part g c known =
     (omega arith)) (record {
       told = at_after stop port a _ _ _ (leads_went addressed.went) (stop_told_at stop port a
           (record t { addr = a }) _ _ (record { at = inr refl; pre = is.pre }) bytes.ends.told);
-      so = descriptor_stops port a _ _ _ t early.steps.went (set.went known) bytes.steps.went
+      so = descriptor_stops port a _ _ _ t early.steps.went (set.steps known) bytes.steps.went
           early.steps.keeps zero.steps.keeps addressed.keeps bytes.steps.keeps is zero.ends
           (rw done at (set.ordered known)) (rw done at (set.what known)) stop
           (told_faults stop (record t { addr = a }) _ _ bytes.ends.told) bytes.ends.so;
@@ -85,7 +89,7 @@ returns-in-Some-clause-part g c known =
     let is = c.in_ok-target.ensures.target in
     let early = c.in_ok-target.ensures.part known a in
     let set = c.set_address.ensures in
-    let addressed = steps_addressed early.steps is.zero c.requires.least (set.went known)
+    let addressed = steps_addressed early.steps is.zero c.requires.least (set.steps known)
     (set.ordered known) (set.what known) (set.gives known) in
     let bytes = rw c.in-Some.is at (c.in_ok-bytes.ensures.read known) in
     let keeps = bytes.steps.keeps in
@@ -106,7 +110,7 @@ returns-in-Some-clause-part g c known =
               (rw done at (set.what known)) addressed.keeps.within bytes.ends.so bytes.steps.went
               keeps.addresses;
           reaches = reaches_rest _ a _ bytes.steps.went keeps.ports (reaches_addressed _ a _ a t _ _
-              _ (set.went known) (set.ordered known) early.ends.reaches);
+              _ (set.steps known) (set.ordered known) early.ends.reaches);
         };
       };
     }
@@ -120,7 +124,7 @@ returns-in-None-clause-part g c known =
     let early = c.in_ok-target.ensures.part known a in
     let zero = c.in_ok-target.ensures.part known 0 in
     let set = c.set_address.ensures in
-    let addressed = steps_addressed early.steps is.zero c.requires.least (set.went known)
+    let addressed = steps_addressed early.steps is.zero c.requires.least (set.steps known)
     (set.ordered known) (set.what known) (set.gives known) in
     let bytes = rw c.in-None.is at (c.in_ok-bytes.ensures.read known) in
     let done = answered_ok _ c.set_address.result tt
@@ -134,7 +138,7 @@ returns-in-None-clause-part g c known =
           is = record { at = inr refl; pre = is.pre };
           failed = failing_after (leads_went addressed.went) bytes.ends.told;
         };
-        so = pass_misses port a _ _ _ t early.steps.went (set.went known) bytes.steps.went
+        so = pass_misses port a _ _ _ t early.steps.went (set.steps known) bytes.steps.went
             early.steps.keeps zero.steps.keeps addressed.keeps bytes.steps.keeps is zero.ends
             (rw done at (set.ordered known)) (rw done at (set.what known)) bytes.ends.so;
       };

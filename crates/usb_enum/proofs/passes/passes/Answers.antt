@@ -3,7 +3,8 @@ use Rattle.std.proofs.Common.{◌≡◌, ◌⊎◌, ℕ, inl, inr, arith, refl, 
 use Rattle.usb_hub.proofs.Interface.{is_asked_stays}
 use Rattle.usb_enum.specs.Bounds.{pass_bound}
 use Rattle.usb_enum.proofs.devices.Enumerations.{takes_after}
-use Rattle.usb_enum.proofs.Parts.{enumerating, part_fails, steps_again, steps_more, steps_none, steps_times}
+use Rattle.usb_enum.proofs.Parts.{enumerating, part_fails, steps_again, steps_more, steps_none}
+use Rattle.usb_enum.proofs.Parts.{steps_times}
 use Rattle.usb_enum.proofs.devices.Presence.{finds_after}
 use Rattle.usb_enum.proofs.devices.ReachedDevices.{reaches_device_after}
 use Rattle.usb_enum.specs.FairEnumerations.{Misses}
@@ -63,7 +64,8 @@ returns-in-Some-clause-part g c known =
           takes = takes_after _ _ _ _ _ steps.keeps.within taken.takes;
           still = taken.still;
           found = finds_after _ _ _ _ steps.went steps.keeps.within taken.found;
-          reaches = reaches_device_after _ _ _ _ steps.went one.steps.went steps.keeps taken.reaches;
+          reaches = reaches_device_after _ _ _ _ steps.went one.steps.went steps.keeps
+              taken.reaches;
         };
       };
     }

@@ -8,7 +8,8 @@ use Rattle.usb_enum.proofs.passes.passes.Given as goal
 
 abbrev pub invariant-loop-pass : goal.invariant-loop-pass
 invariant-loop-pass g l = record {
-  steps : g.B.Bus.modelled ≡ true → KeepingSteps (AtPort l.port l.address) (l._pass * pass_bound l.port)
+  steps : g.B.Bus.modelled ≡ true → KeepingSteps (AtPort l.port l.address)
+      (l._pass * pass_bound l.port)
       (g.B.Bus.world l.initial.bus) (g.B.Bus.trace l.initial.bus)
       (g.B.Bus.world l.bus) (g.B.Bus.trace l.bus);
   silent : g.B.Bus.modelled ≡ true → (l._pass ≡ 0)

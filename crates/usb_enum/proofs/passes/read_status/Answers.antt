@@ -8,7 +8,7 @@ returns-clause-read g c known =
     let call = c.port_status.ensures in
     record {
       steps = record {
-        went = call.went known;
+        went = call.steps known;
         keeps = status_asks _ _ _ _ (call.status known) (call.fault known) (call.addresses known);
       };
       ends = call_ends c.args.port _ c.port_status.result _ _ c.at_port.ensures

@@ -28,7 +28,7 @@ returns-clause-part g c known a =
     let call = c.clear_port.ensures in
     record {
       steps = record {
-        went = call.went known;
+        went = call.steps known;
         keeps = at_reset_cleared _ a _ _ _ (call.fault known) (call.ports known)
             (call.addresses known);
       };

@@ -63,7 +63,8 @@ returns-clause-part g c known a =
         found = unaddressed_finds _ a _ c.in_ok-low.low _ _ reset.ends.speed head.ends.answers
             head.steps.went reset.steps.keeps.within head.steps.keeps.addresses;
         reaches = reaches_rest _ a _ head.steps.went head.steps.keeps.ports reset.ends.reaches;
-        goes = λ none. no_stretch_then _ _ _ (reset.ends.goes (went_sound _ _ _ head.steps.went none))
+        goes = λ none. no_stretch_then _ _ _
+            (reset.ends.goes (went_sound _ _ _ head.steps.went none))
             head.ends.goes;
       };
     }

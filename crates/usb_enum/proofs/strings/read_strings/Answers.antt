@@ -3,9 +3,11 @@ use Rattle.std.proofs.Common.{◌≡◌, ℕ, Option, None, Some, arith, refl, s
 use Rattle.usb_enum.specs.LearnedFacts.{DeviceFact}
 use Rattle.usb_enum.specs.Readings.{AtMaximum, language_of}
 use Rattle.usb_enum.specs.StringRequests.{AsksLanguage, asked, unnamed}
-use Rattle.usb_enum.proofs.Parts.{asking, part_fails, steps_joined, steps_none, steps_then, steps_wider}
+use Rattle.usb_enum.proofs.Parts.{asking, part_fails, steps_joined, steps_none, steps_then}
+use Rattle.usb_enum.proofs.Parts.{steps_wider}
 use Rattle.usb_enum.proofs.refusals.StringRefusals.{string_stops, strings_read}
-use Rattle.usb_enum.proofs.readings.StringReadings.{unnamed_strings_learned, no_strings_learned, strings_learned}
+use Rattle.usb_enum.proofs.readings.StringReadings.{unnamed_strings_learned, no_strings_learned}
+use Rattle.usb_enum.proofs.readings.StringReadings.{strings_learned}
 use Rattle.usb_enum.proofs.stops.ToldFailures.{handed_on}
 use Rattle.usb_enum.proofs.strings.read_strings.Goals as goal
 
@@ -29,7 +31,8 @@ returns-in_default-clause-read g c known =
     let t = c.args.target in
     let old = g.B.Bus.world c.args.bus.now in
     let new = g.B.Bus.world c.language.new.bus in
-    let Said : Option ℕ → Type 0 = λ o. DeviceFact (AtMaximum t (λ spec. o ≡ language_of spec)) t old
+    let Said : Option ℕ → Type 0 = λ o. DeviceFact (AtMaximum t (λ spec. o ≡ language_of spec)) t
+    old
     new in
     record {
       steps = steps_wider language.steps (omega arith);
@@ -50,7 +53,8 @@ returns-clause-read g c known =
     let t = c.args.target in
     let old = g.B.Bus.world c.args.bus.now in
     let said = g.B.Bus.world c.language.new.bus in
-    let Said : Option ℕ → Type 0 = λ o. DeviceFact (AtMaximum t (λ spec. o ≡ language_of spec)) t old
+    let Said : Option ℕ → Type 0 = λ o. DeviceFact (AtMaximum t (λ spec. o ≡ language_of spec)) t
+    old
     said in
     record {
       steps = steps_then asking (steps_joined asking

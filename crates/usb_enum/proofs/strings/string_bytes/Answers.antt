@@ -17,7 +17,7 @@ returns-in-Ok-clause-read g c known =
     let asked = string.asked known in
     let what = string.what known in
     record {
-      steps = steps_asked (string_given c.args.index) 255 c.requires.max (string.went known) asked
+      steps = steps_asked (string_given c.args.index) 255 c.requires.max (string.steps known) asked
           what (string.keeps known);
       ends = record {
         told = asked_given _ _ _ _ _ _ _ c.in-Ok.is asked.stages;
@@ -34,7 +34,7 @@ returns-in-None-clause-read g c known =
     let what = string.what known in
     let none = sym c.stop_of.ensures ∙ c.in-None.is in
     record {
-      steps = steps_asked (string_given c.args.index) 255 c.requires.max (string.went known) asked
+      steps = steps_asked (string_given c.args.index) 255 c.requires.max (string.steps known) asked
           what (string.keeps known);
       ends = record {
         told = string_refused _ _ _ _ _ _ _ c.in-Err.is none asked.stages;
@@ -51,7 +51,7 @@ returns-in-Some-clause-read g c known =
     let what = string.what known in
     let some = sym c.stop_of.ensures ∙ c.in-Some.is in
     record {
-      steps = steps_asked (string_given c.args.index) 255 c.requires.max (string.went known) asked
+      steps = steps_asked (string_given c.args.index) 255 c.requires.max (string.steps known) asked
           what (string.keeps known);
       ends = record {
         told = string_told c.args.target (get_string_descriptor c.args.index c.args.language)

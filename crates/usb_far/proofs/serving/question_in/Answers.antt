@@ -15,5 +15,6 @@ pub returns-in-None-clause-fault : goal.returns-in-None-clause-fault
 returns-in-None-clause-fault c = inr (
   refl,
   sym c.all_printable.ensures ∙ c.if-not-all_printable.false,
-  λ q may at. let found : ◌≡◌ {A = Option Question} None (Some q) = c.in-None.ensures.only q may at in cc,
+  λ q may at. let found : ◌≡◌ {A = Option Question} None (Some q) =
+      c.in-None.ensures.only q may at in cc,
 )

@@ -8,6 +8,8 @@ returns-clause-asked g c known = record {
   ends = (c.control_in.ensures.transfer known).ends;
   stages = (c.control_in.ensures.transfer known).stages;
   most = (c.control_in.ensures.transfer known).most;
-  rests = reads_rests c.args.target c.args.setup c.control_in.result _ _ c.requires.reads (c.control_in.ensures.transfer known).settled (c.control_in.ensures.transfer known).stages;
-  backlog = reads_backlog c.args.target c.args.setup c.control_in.result _ _ c.requires.reads (c.control_in.ensures.transfer known).settled (c.control_in.ensures.transfer known).stages;
+  rests = reads_rests c.args.target c.args.setup c.control_in.result _ _ c.requires.reads
+      (c.control_in.ensures.transfer known).settled (c.control_in.ensures.transfer known).stages;
+  backlog = reads_backlog c.args.target c.args.setup c.control_in.result _ _ c.requires.reads
+      (c.control_in.ensures.transfer known).settled (c.control_in.ensures.transfer known).stages;
 }

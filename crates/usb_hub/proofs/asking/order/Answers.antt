@@ -9,7 +9,12 @@ returns-clause-ordered g c known = record {
   ends = (c.control_none.ensures.transfer known).ends;
   stages = (c.control_none.ensures.transfer known).stages;
   room = (c.control_none.ensures.transfer known).room;
-  rests = write_rests c.args.target c.args.setup c.control_none.result _ _ (c.control_none.ensures.transfer known).settled (c.control_none.ensures.transfer known).stages;
-  backlog = write_backlog c.args.target c.args.setup c.control_none.result _ _ (c.control_none.ensures.transfer known).settled (c.control_none.ensures.transfer known).stages;
-  elsewhere = order_elsewhere c.args.target c.args.setup c.control_none.result _ _ (c.control_none.ensures.transfer known).stages;
+  rests = write_rests c.args.target c.args.setup c.control_none.result _ _
+      (c.control_none.ensures.transfer known).settled
+      (c.control_none.ensures.transfer known).stages;
+  backlog = write_backlog c.args.target c.args.setup c.control_none.result _ _
+      (c.control_none.ensures.transfer known).settled
+      (c.control_none.ensures.transfer known).stages;
+  elsewhere = order_elsewhere c.args.target c.args.setup c.control_none.result _ _
+      (c.control_none.ensures.transfer known).stages;
 }

@@ -7,18 +7,27 @@ use Rattle.usb_hub.proofs.HubChanges.{told_bus}
 use Rattle.usb_hub.proofs.changes.clear_hub_changes.Goals as goal
 
 pub returns-in-Err-clause-steps : goal.returns-in-Err-clause-steps
-returns-in-Err-clause-steps g c known = went_wider _ _ (c.own_status.ensures.steps known) (omega arith)
+returns-in-Err-clause-steps g c known = went_wider _ _ (c.own_status.ensures.steps known)
+    (omega arith)
 
 pub returns-in-Ok-clause-steps : goal.returns-in-Ok-clause-steps
-returns-in-Ok-clause-steps g c known = went_then _ _ (c.own_status.ensures.steps known) (c.clear_each.ensures.steps known)
+returns-in-Ok-clause-steps g c known = went_then _ _ (c.own_status.ensures.steps known)
+    (c.clear_each.ensures.steps known)
 
 pub returns-in-Err-clause-fault : goal.returns-in-Err-clause-fault
-returns-in-Err-clause-fault g c known = rw c.done_or_unknown.ensures (told_bus 3 _ c.own_status.result _ _ (c.own_status.ensures.told known).ends c.in-Err.is)
+returns-in-Err-clause-fault g c known =
+    rw c.done_or_unknown.ensures (told_bus 3 _ c.own_status.result _ _
+    (c.own_status.ensures.told known).ends c.in-Err.is)
 
 pub returns-in-Ok-clause-cleared : goal.returns-in-Ok-clause-cleared
 returns-in-Ok-clause-cleared g c known =
-    told c.in-Ok.status (g.B.Bus.world c.own_status.new.bus) (subst (λ r. ReadAs hub_status c.args.hub get_hub_status (g.B.Bus.world c.args.bus.now) r (g.B.Bus.world c.own_status.new.bus)) c.in-Ok.is (c.own_status.ensures.told known)) (c.clear_each.ensures.cleared known)
+    told c.in-Ok.status (g.B.Bus.world c.own_status.new.bus)
+    (subst (λ r. ReadAs hub_status c.args.hub get_hub_status (g.B.Bus.world c.args.bus.now) r
+    (g.B.Bus.world c.own_status.new.bus)) c.in-Ok.is (c.own_status.ensures.told known))
+    (c.clear_each.ensures.cleared known)
 
 pub returns-in-Err-clause-cleared : goal.returns-in-Err-clause-cleared
 returns-in-Err-clause-cleared g c known =
-    not_told c.in-Err.fault (subst (λ r. ReadAs hub_status c.args.hub get_hub_status (g.B.Bus.world c.args.bus.now) r (g.B.Bus.world c.own_status.new.bus)) c.in-Err.is (c.own_status.ensures.told known)) c.done_or_unknown.ensures
+    not_told c.in-Err.fault (subst (λ r. ReadAs hub_status c.args.hub get_hub_status
+    (g.B.Bus.world c.args.bus.now) r (g.B.Bus.world c.own_status.new.bus)) c.in-Err.is
+    (c.own_status.ensures.told known)) c.done_or_unknown.ensures

@@ -10,10 +10,19 @@ pub returns-in-Root-clause-cleared : goal.returns-in-Root-clause-cleared
 returns-in-Root-clause-cleared g c known = rw c.in-Root.is (refl, refl)
 
 pub returns-in-External-clause-steps : goal.returns-in-External-clause-steps
-returns-in-External-clause-steps g c known = rw c.in-External.is (c.clear_hub_port-cleared.ensures.steps known)
+returns-in-External-clause-steps g c known =
+    rw c.in-External.is (c.clear_hub_port-cleared.ensures.steps known)
 
 pub returns-in-External-clause-fault : goal.returns-in-External-clause-fault
-returns-in-External-clause-fault g c known = rw c.done_or_unknown.ensures (done_fault_after 2 _ c.clear_hub_port-cleared.result _ (c.clear_hub_port-cleared.ensures.ordered known).ends)
+returns-in-External-clause-fault g c known =
+    rw c.done_or_unknown.ensures (done_fault_after 2 _ c.clear_hub_port-cleared.result _
+    (c.clear_hub_port-cleared.ensures.ordered known).ends)
 
 pub returns-in-External-clause-cleared : goal.returns-in-External-clause-cleared
-returns-in-External-clause-cleared g c known = rw c.in-External.is (record { answer = c.clear_hub_port-cleared.result; ordered = c.clear_hub_port-cleared.ensures.ordered known; is = c.done_or_unknown.ensures })
+returns-in-External-clause-cleared g c known =
+    rw c.in-External.is (record {
+      answer = c.clear_hub_port-cleared.result;
+      ordered =
+          c.clear_hub_port-cleared.ensures.ordered known;
+      is = c.done_or_unknown.ensures;
+    })

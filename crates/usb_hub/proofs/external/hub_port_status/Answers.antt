@@ -6,7 +6,8 @@ pub returns-in_err-bytes-clause-told : goal.returns-in_err-bytes-clause-told
 returns-in_err-bytes-clause-told g c known = search rules
 
 pub returns-in_err-bytes-clause-devices : goal.returns-in_err-bytes-clause-devices
-returns-in_err-bytes-clause-devices g c known = port_status_keeps _ _ _ _ _ (returns-in_err-bytes-clause-told g c known)
+returns-in_err-bytes-clause-devices g c known =
+    port_status_keeps _ _ _ _ _ (returns-in_err-bytes-clause-told g c known)
 
 pub returns-clause-told : goal.returns-clause-told
 returns-clause-told g c known = search rules

@@ -4,10 +4,14 @@ use Rattle.usb_hub.proofs.GivenAnswers.{device_asked, device_why}
 use Rattle.usb_hub.proofs.requests.get_device.Goals as goal
 
 pub returns-clause-asked : goal.returns-clause-asked
-returns-clause-asked g c known = subst (λ r. Queried c.args.target r (g.B.Bus.world c.args.bus.now) c.ask.result (g.B.Bus.world c.ask.new.bus)) c.get_device_descriptor.ensures.setup (c.ask.ensures.asked known)
+returns-clause-asked g c known = subst (λ r. Queried c.args.target r (g.B.Bus.world c.args.bus.now)
+    c.ask.result (g.B.Bus.world c.ask.new.bus)) c.get_device_descriptor.ensures.setup
+    (c.ask.ensures.asked known)
 
 pub returns-clause-what : goal.returns-clause-what
-returns-clause-what g c known = device_asked c.args.target c.args.length c.ask.result _ _ c.requires.some (returns-clause-asked g c known)
+returns-clause-what g c known = device_asked c.args.target c.args.length c.ask.result _ _
+    c.requires.some (returns-clause-asked g c known)
 
 pub returns-clause-why : goal.returns-clause-why
-returns-clause-why g c known = device_why c.args.target c.args.length c.ask.result _ _ c.requires.some (returns-clause-asked g c known)
+returns-clause-why g c known = device_why c.args.target c.args.length c.ask.result _ _
+    c.requires.some (returns-clause-asked g c known)

@@ -4,10 +4,14 @@ use Rattle.usb_hub.proofs.Settings.{address_asked, address_why}
 use Rattle.usb_hub.proofs.requests.set_address.Goals as goal
 
 pub returns-clause-ordered : goal.returns-clause-ordered
-returns-clause-ordered g c known = subst (λ r. Commanded c.args.target r (g.B.Bus.world c.args.bus.now) c.order.result (g.B.Bus.world c.order.new.bus)) c.set_address.ensures.setup (c.order.ensures.ordered known)
+returns-clause-ordered g c known = subst
+    (λ r. Commanded c.args.target r (g.B.Bus.world c.args.bus.now) c.order.result
+    (g.B.Bus.world c.order.new.bus)) c.set_address.ensures.setup (c.order.ensures.ordered known)
 
 pub returns-clause-what : goal.returns-clause-what
-returns-clause-what g c known = address_asked c.args.target c.args.address c.order.result _ _ c.requires.most (returns-clause-ordered g c known)
+returns-clause-what g c known = address_asked c.args.target c.args.address c.order.result _ _
+    c.requires.most (returns-clause-ordered g c known)
 
 pub returns-clause-why : goal.returns-clause-why
-returns-clause-why g c known = address_why c.args.target c.args.address c.order.result _ _ (returns-clause-ordered g c known)
+returns-clause-why g c known = address_why c.args.target c.args.address c.order.result _ _
+    (returns-clause-ordered g c known)

@@ -7,7 +7,8 @@ use Rattle.usb_lines.proofs.line.read_line.Given as goal
 -- what was read is the line so far
 abbrev pub invariant-bytes : goal.invariant-bytes
 invariant-bytes g l = IsUnbroken l.line.items
-    × Consumes (g.R.Read.remaining (inner_of l.fn.reader)) (g.R.Read.remaining (inner_of l.reader)) l.line.items
+    × Consumes (g.R.Read.remaining (inner_of l.fn.reader)) (g.R.Read.remaining (inner_of l.reader))
+    l.line.items
     × (has_failed l.reader ≡ has_failed l.fn.reader) × (length l.line.items ≤ 1024)
 
 abbrev pub decreases-bytes : goal.decreases-bytes

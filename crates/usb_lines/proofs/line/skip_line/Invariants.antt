@@ -7,5 +7,6 @@ use Rattle.usb_lines.proofs.line.skip_line.Given as goal
 -- what was read is the front of the rest
 abbrev pub invariant-bytes : goal.invariant-bytes
 invariant-bytes g l = (rest : List ℕ) × IsUnbroken rest
-    × Consumes (g.R.Read.remaining (inner_of l.fn.reader)) (g.R.Read.remaining (inner_of l.reader)) rest
+    × Consumes (g.R.Read.remaining (inner_of l.fn.reader)) (g.R.Read.remaining (inner_of l.reader))
+    rest
     × (length rest ≡ l.counter) × (has_failed l.reader ≡ has_failed l.fn.reader)

@@ -4,4 +4,5 @@ use Rattle.usb_packet.proofs.TextLemmas.{pair_of_byte}
 use Rattle.usb_packet.proofs.text.hex_digits.Goals as goal
 
 pub returns : goal.returns
-returns c = pair_of_byte c.from-at.result (omega (arith, c.from-at.ensures)) ∙ ap (λ (b : ℕ). encode_upper (b ∷ [])) c.from-at.ensures
+returns c = pair_of_byte c.from-at.result (omega (arith, c.from-at.ensures))
+    ∙ ap (λ (b : ℕ). encode_upper (b ∷ [])) c.from-at.ensures

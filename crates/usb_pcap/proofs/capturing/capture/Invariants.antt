@@ -6,6 +6,8 @@ use Rattle.usb_pcap.proofs.capturing.capture.Given as goal
 
 -- what was read so far is taken, a byte or more each time
 abbrev pub invariant-reads : goal.invariant-reads
-invariant-reads g l = (done : List ℕ) × Consumes (g.R.Read.remaining (inner_of l.fn.reader)) (g.R.Read.remaining (inner_of l.reader)) done
-    × StandsBehind (g.W.Write.contents (inner_of l.fn.writer)) (g.W.Write.contents (inner_of l.writer)) done l.line
+invariant-reads g l = (done : List ℕ) × Consumes (g.R.Read.remaining (inner_of l.fn.reader))
+    (g.R.Read.remaining (inner_of l.reader)) done
+    × StandsBehind (g.W.Write.contents (inner_of l.fn.writer))
+    (g.W.Write.contents (inner_of l.writer)) done l.line
     × (l.counter ≤ length done)

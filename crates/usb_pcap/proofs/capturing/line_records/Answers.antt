@@ -1,19 +1,25 @@
 use Rattle.std.proofs.Common.{sym, ◌∙◌}
-use Rattle.usb_pcap.proofs.Captures.{attempt_records, long_refused, none_refused, plug_records, report_records}
+use Rattle.usb_pcap.proofs.Captures.{attempt_records, long_refused, none_refused, plug_records}
+use Rattle.usb_pcap.proofs.Captures.{report_records}
 use Rattle.usb_pcap.proofs.capturing.line_records.Goals as goal
 
 pub returns-then-is_plug : goal.returns-then-is_plug
-returns-then-is_plug c = λ line e long. plug_records _ line _ e (sym c.is_plug.ensures ∙ c.if-is_plug.true) c.new.ensures
+returns-then-is_plug c = λ line e long. plug_records _ line _ e (sym c.is_plug.ensures
+    ∙ c.if-is_plug.true) c.new.ensures
 
 pub returns-then-is_long : goal.returns-then-is_long
-returns-then-is_long c = λ line e long. long_refused _ line _ e long c.if-is_long.true (sym c.is_plug.ensures ∙ c.if-is_plug.false)
+returns-then-is_long c = λ line e long. long_refused _ line _ e long c.if-is_long.true
+    (sym c.is_plug.ensures ∙ c.if-is_plug.false)
 
 pub returns-then-is_report : goal.returns-then-is_report
-returns-then-is_report c = λ line e long. report_records _ line _ _ e long c.if-is_long.false (sym c.is_report.ensures ∙ c.if-is_report.true) c.new-then-is_report.ensures
+returns-then-is_report c = λ line e long. report_records _ line _ _ e long c.if-is_long.false
+    (sym c.is_report.ensures ∙ c.if-is_report.true) c.new-then-is_report.ensures
 
 pub returns-in-Some : goal.returns-in-Some
-returns-in-Some c = λ line e long. attempt_records _ line _ _ _ e long c.if-is_long.false c.in-Some.ensures.found c.records_of.ensures
+returns-in-Some c = λ line e long. attempt_records _ line _ _ _ e long c.if-is_long.false
+    c.in-Some.ensures.found c.records_of.ensures
 
 pub returns-in-None : goal.returns-in-None
 returns-in-None c = λ line e long.
-    none_refused _ line _ e long c.if-is_long.false (sym c.is_plug.ensures ∙ c.if-is_plug.false) (sym c.is_report.ensures ∙ c.if-is_report.false) c.in-None.ensures.each
+    none_refused _ line _ e long c.if-is_long.false (sym c.is_plug.ensures ∙ c.if-is_plug.false)
+    (sym c.is_report.ensures ∙ c.if-is_report.false) c.in-None.ensures.each

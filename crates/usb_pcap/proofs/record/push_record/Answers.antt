@@ -8,4 +8,6 @@ damaged-bytes-requires-clause-bit c = may-bit _ _ _ c.requires.marked c.encode.e
 pub returns-clause-written : goal.returns-clause-written
 returns-clause-written c =
     let damaged = c.damaged-bytes.ensures in
-    one_record _ _ _ _ _ _ _ _ _ c.encode.ensures (may-bit _ _ _ c.requires.marked c.encode.ensures) damaged.value (omega (arith, damaged.same)) c.push_head.ensures (rw c.as_slice.ensures.value at c.push_bytes.ensures)
+    one_record _ _ _ _ _ _ _ _ _ c.encode.ensures (may-bit _ _ _ c.requires.marked c.encode.ensures)
+    damaged.value (omega (arith, damaged.same)) c.push_head.ensures
+    (rw c.as_slice.ensures.value at c.push_bytes.ensures)

@@ -1,5 +1,13 @@
-use Rattle.usb_pipe.proofs.Answerers.{who_read_had, who_write_had, who_send_had, who_receive_had, who_poll_had}
+use Rattle.usb_pipe.proofs.Answerers.{who_read_had, who_write_had, who_send_had, who_receive_had}
+use Rattle.usb_pipe.proofs.Answerers.{who_poll_had}
 use Rattle.usb_pipe.proofs.laws.who_had_the_address_of_a_transfer.Goals as goal
 
 pub returns : goal.returns
-returns c = record { reads = who_read_had; writes = who_write_had; sends = who_send_had; receives = who_receive_had; polls = who_poll_had }
+returns c = record {
+  reads = who_read_had;
+  writes = who_write_had;
+  sends = who_send_had;
+  receives =
+      who_receive_had;
+  polls = who_poll_had;
+}

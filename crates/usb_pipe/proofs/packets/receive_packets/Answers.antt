@@ -1,5 +1,6 @@
 use Rattle.std.proofs.Common.{◌≡◌, refl, ap, ◌<◌, length, arith}
-use Rattle.usb_pipe.proofs.MovedPackets.{coming_none, coming_more, moved_went, whole_received, short_received, lost_received, room_received, moved_all}
+use Rattle.usb_pipe.proofs.MovedPackets.{coming_none, coming_more, moved_went, whole_received}
+use Rattle.usb_pipe.proofs.MovedPackets.{short_received, lost_received, room_received, moved_all}
 use Rattle.usb_pipe.proofs.packets.receive_packets.Goals as goal
 
 pub packets-init : goal.packets-init
@@ -8,35 +9,61 @@ packets-init g c known = coming_none c.args.target c.args.ep _ _ _ _ c.new-bytes
 pub packets-preserved : goal.packets-preserved
 packets-preserved g c known =
     let again = ap length c.bytes-in-packets.ensures.value in
-    let full : length c.in_ok-packet.packet ≡ c.args.target.max = omega (arith, again, c.if-bytes-from.false, c.from.ensures, (c.in_ok-packet.ensures.asks known).short) in
-    coming_more c.args.target c.args.ep _ c.args.wanted c.requires.target.max_least c.packets-test.true (c.packets.invariant known) (c.data_in.ensures.steps known) (c.in_ok-packet.ensures.asks known) c.in_ok-packet.ensures.toggle
+    let full : length c.in_ok-packet.packet ≡ c.args.target.max =
+    omega (
+      arith,
+      again,
+      c.if-bytes-from.false,
+      c.from.ensures,
+      (c.in_ok-packet.ensures.asks known).short,
+    ) in
+    coming_more c.args.target c.args.ep _ c.args.wanted c.requires.target.max_least
+    c.packets-test.true (c.packets.invariant known) (c.data_in.ensures.steps known)
+    (c.in_ok-packet.ensures.asks known) c.in_ok-packet.ensures.toggle
     c.bytes.ensures.value c.in_ok-extend_from_slice.ensures.items (omega arith) full
 
 pub returns-then-bytes-from : goal.returns-then-bytes-from
 returns-then-bytes-from g c =
     let again = ap length c.bytes-in-packets.ensures.value in
-    let short : length c.in_ok-packet.packet < c.args.target.max = omega (arith, again, c.if-bytes-from.true, c.from.ensures) in record {
-      went = λ known. moved_went (c.packets.invariant known).moved c.packets-test.true (c.data_in.ensures.steps known);
-      received = λ known. short_received c.args.target c.args.ep _ c.args.wanted c.requires.target.max_least c.packets-test.true (c.packets.invariant known) (c.data_in.ensures.steps known) (c.in_ok-packet.ensures.asks known) c.in_ok-packet.ensures.toggle
+    let short : length c.in_ok-packet.packet < c.args.target.max =
+    omega (arith, again, c.if-bytes-from.true, c.from.ensures) in record {
+      steps = λ known. moved_went (c.packets.invariant known).moved c.packets-test.true
+          (c.data_in.ensures.steps known);
+      received = λ known. short_received c.args.target c.args.ep _ c.args.wanted
+          c.requires.target.max_least c.packets-test.true (c.packets.invariant known)
+          (c.data_in.ensures.steps known) (c.in_ok-packet.ensures.asks known)
+          c.in_ok-packet.ensures.toggle
           c.bytes.ensures.value c.in_ok-extend_from_slice.ensures.items refl short;
     }
 
 pub returns : goal.returns
 returns g c = record {
-  went = λ known. moved_all (c.packets.invariant known).moved (omega arith);
-  received = λ known. whole_received c.args.target c.args.ep _ c.args.wanted c.requires.target.max_least (omega arith) c.requires.some (c.packets.invariant known);
+  steps = λ known. moved_all (c.packets.invariant known).moved (omega arith);
+  received = λ known. whole_received c.args.target c.args.ep _ c.args.wanted
+      c.requires.target.max_least (omega arith) c.requires.some (c.packets.invariant known);
 }
 
 pub returns-in_err-packet : goal.returns-in_err-packet
 returns-in_err-packet g c = record {
-  went = λ known. moved_went (c.packets.invariant known).moved c.packets-test.true (c.data_in.ensures.steps known);
-  received = λ known. lost_received c.args.target c.args.ep _ c.args.wanted c.requires.target.max_least c.packets-test.true (c.packets.invariant known) (c.data_in.ensures.steps known)
-      c.in_err-packet.field-0.0 c.from_residual.result c.from_residual.ensures.0 c.from_residual.ensures.1 (c.in_err-packet.ensures.asks known) c.in_err-packet.ensures.toggle;
+  steps = λ known. moved_went (c.packets.invariant known).moved c.packets-test.true
+      (c.data_in.ensures.steps known);
+  received = λ known. lost_received c.args.target c.args.ep _ c.args.wanted
+      c.requires.target.max_least c.packets-test.true (c.packets.invariant known)
+      (c.data_in.ensures.steps known)
+      c.in_err-packet.field-0.0 c.from_residual.result c.from_residual.ensures.0
+      c.from_residual.ensures.1 (c.in_err-packet.ensures.asks known)
+      c.in_err-packet.ensures.toggle;
 }
 
 pub returns-in_err-extend_from_slice : goal.returns-in_err-extend_from_slice
 returns-in_err-extend_from_slice g c = record {
-  went = λ known. moved_went (c.packets.invariant known).moved c.packets-test.true (c.data_in.ensures.steps known);
-  received = λ known. room_received c.args.target c.args.ep _ c.args.wanted c.requires.target.max_least c.packets-test.true (c.packets.invariant known) (c.data_in.ensures.steps known)
-      c.in_ok-packet.packet c.from_residual-in_err-extend_from_slice.result c.from_residual-in_err-extend_from_slice.ensures.0 c.from_residual-in_err-extend_from_slice.ensures.1 (c.in_ok-packet.ensures.asks known) c.in_ok-packet.ensures.toggle;
+  steps = λ known. moved_went (c.packets.invariant known).moved c.packets-test.true
+      (c.data_in.ensures.steps known);
+  received = λ known. room_received c.args.target c.args.ep _ c.args.wanted
+      c.requires.target.max_least c.packets-test.true (c.packets.invariant known)
+      (c.data_in.ensures.steps known)
+      c.in_ok-packet.packet c.from_residual-in_err-extend_from_slice.result
+      c.from_residual-in_err-extend_from_slice.ensures.0
+      c.from_residual-in_err-extend_from_slice.ensures.1 (c.in_ok-packet.ensures.asks known)
+      c.in_ok-packet.ensures.toggle;
 }

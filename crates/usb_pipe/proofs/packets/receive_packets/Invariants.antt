@@ -3,4 +3,7 @@ use Rattle.usb_pipe.proofs.MovedPackets.{Coming}
 use Rattle.usb_pipe.proofs.packets.receive_packets.Given as goal
 
 abbrev pub invariant-packets : goal.invariant-packets
-invariant-packets g l = g.B.Bus.modelled ≡ true → Coming l.fn.target l.fn.ep l.initial.toggle (g.B.Bus.world l.initial.bus) (g.B.Bus.trace l.initial.bus) l._taken l.bytes.items l.toggle (g.B.Bus.world l.bus) (g.B.Bus.trace l.bus)
+invariant-packets g l = g.B.Bus.modelled ≡ true
+    → Coming l.fn.target l.fn.ep l.initial.toggle (g.B.Bus.world l.initial.bus)
+    (g.B.Bus.trace l.initial.bus) l._taken l.bytes.items l.toggle (g.B.Bus.world l.bus)
+    (g.B.Bus.trace l.bus)

@@ -1,4 +1,5 @@
-use Rattle.std.proofs.Common.{rules, ◌≡◌, ◌∙◌, sym, Bool, nat_eq, ℕ, ◌<◌, length, arith, false, true, ◌≢◌}
+use Rattle.std.proofs.Common.{rules, ◌≡◌, ◌∙◌, sym, Bool, nat_eq, ℕ, ◌<◌, length, arith, false}
+use Rattle.std.proofs.Common.{true, ◌≢◌}
 use Rattle.std.proofs.lemmas.Bool.{eqb-true, eqb-false}
 use Rattle.std.proofs.lemmas.List.{nil_from_length}
 use Rattle.usb_pipe.proofs.MovedPackets.{moving_none, going_more, all_sent, lost_sent}
@@ -13,21 +14,41 @@ nonzero n b is e = let no : n ≢ 0 = eqb-false n 0 (sym is ∙ e) in omega arit
 pub packets-smaller : goal.packets-smaller
 packets-smaller g c =
     let some : 0 < length c.packets.rest.now = nonzero _ _ c.is_empty.ensures c.packets-test.true in
-    omega (arith, some, c.split_at.ensures.front_len, c.split_at.ensures.back_len, c.min.ensures, c.from.ensures, c.requires.target.max_least)
+    omega (
+      arith,
+      some,
+      c.split_at.ensures.front_len,
+      c.split_at.ensures.back_len,
+      c.min.ensures,
+      c.from.ensures,
+      c.requires.target.max_least,
+    )
 
 pub packets-preserved : goal.packets-preserved
 packets-preserved g c known =
-    going_more c.args.target c.args.ep _ c.args.bytes.now c.requires.target.max_least c.min.result (nonzero _ _ c.is_empty.ensures c.packets-test.true) (omega (arith, c.min.ensures, c.from.ensures))
-    c.split_at.ensures.front (c.packets.invariant known) (c.data_out.ensures.steps known) c.split_at.ensures.back (c.in_ok-data_out.ensures.sends known) c.in_ok-data_out.ensures.toggle
+    going_more c.args.target c.args.ep _ c.args.bytes.now c.requires.target.max_least c.min.result
+    (nonzero _ _ c.is_empty.ensures c.packets-test.true)
+    (omega (arith, c.min.ensures, c.from.ensures))
+    c.split_at.ensures.front (c.packets.invariant known) (c.data_out.ensures.steps known)
+    c.split_at.ensures.back (c.in_ok-data_out.ensures.sends known)
+    c.in_ok-data_out.ensures.toggle
 
 pub returns : goal.returns
 returns g c =
     let none = nil_from_length _ (eqb-true _ 0 (sym c.is_empty.ensures ∙ c.packets-test.false)) in
-    let whole = λ (known : g.B.Bus.modelled ≡ true). all_sent c.args.target c.args.ep _ c.args.bytes.now c.requires.target.max_least c.requires.some none (c.packets.invariant known) in
-    record { went = λ known. (whole known).1; sent = λ known. (whole known).0 }
+    let whole = λ (known : g.B.Bus.modelled ≡ true). all_sent c.args.target c.args.ep _
+    c.args.bytes.now c.requires.target.max_least c.requires.some none
+    (c.packets.invariant known) in
+    record { steps = λ known. (whole known).1; sent = λ known. (whole known).0 }
 
 pub returns-in_err-data_out : goal.returns-in_err-data_out
 returns-in_err-data_out g c =
-    let front = λ (known : g.B.Bus.modelled ≡ true). lost_sent c.args.target c.args.ep _ c.args.bytes.now c.requires.target.max_least c.min.result (nonzero _ _ c.is_empty.ensures c.packets-test.true) (omega (arith, c.min.ensures, c.from.ensures))
-    c.split_at.ensures.front (c.packets.invariant known) (c.data_out.ensures.steps known) c.in_err-data_out.field-0.0 c.from_residual.result c.from_residual.ensures.0 c.from_residual.ensures.1 (search rules)
-    (c.in_err-data_out.ensures.sends known) c.in_err-data_out.ensures.toggle in record { went = λ known. (front known).1; sent = λ known. (front known).0 }
+    let front = λ (known : g.B.Bus.modelled ≡ true). lost_sent c.args.target c.args.ep _
+    c.args.bytes.now c.requires.target.max_least c.min.result
+    (nonzero _ _ c.is_empty.ensures c.packets-test.true)
+    (omega (arith, c.min.ensures, c.from.ensures))
+    c.split_at.ensures.front (c.packets.invariant known) (c.data_out.ensures.steps known)
+    c.in_err-data_out.field-0.0 c.from_residual.result c.from_residual.ensures.0
+    c.from_residual.ensures.1 (search rules)
+    (c.in_err-data_out.ensures.sends known) c.in_err-data_out.ensures.toggle in
+    record { steps = λ known. (front known).1; sent = λ known. (front known).0 }

@@ -3,7 +3,9 @@ use Rattle.usb_pipe.proofs.MovedPackets.{PacketsMoving}
 use Rattle.usb_pipe.proofs.packets.send_packets.Given as goal
 
 abbrev pub invariant-packets : goal.invariant-packets
-invariant-packets g l = g.B.Bus.modelled ≡ true → PacketsMoving l.fn.target l.fn.ep l.initial.toggle l.bytes (g.B.Bus.world l.initial.bus) (g.B.Bus.trace l.initial.bus) l.rest l.toggle (g.B.Bus.world l.bus) (g.B.Bus.trace l.bus)
+invariant-packets g l = g.B.Bus.modelled ≡ true
+    → PacketsMoving l.fn.target l.fn.ep l.initial.toggle l.bytes (g.B.Bus.world l.initial.bus)
+    (g.B.Bus.trace l.initial.bus) l.rest l.toggle (g.B.Bus.world l.bus) (g.B.Bus.trace l.bus)
 
 abbrev pub decreases-packets : goal.decreases-packets
 decreases-packets g l = length l.rest

@@ -3,7 +3,10 @@ use Rattle.usb_pipe.proofs.ControlTransfers.{ReadProgress}
 use Rattle.usb_pipe.proofs.stage.data_stage.Given as goal
 
 abbrev pub invariant-packets : goal.invariant-packets
-invariant-packets g l = (length l.bytes.items ≤ l.fn.wanted) × (g.B.Bus.modelled ≡ true → ReadProgress l.fn.target l.fn.wanted (g.B.Bus.world l.initial.bus) (g.B.Bus.trace l.initial.bus) l.bytes.items l.toggle (g.B.Bus.world l.bus) (g.B.Bus.trace l.bus))
+invariant-packets g l = (length l.bytes.items ≤ l.fn.wanted)
+    × (g.B.Bus.modelled ≡ true → ReadProgress l.fn.target l.fn.wanted (g.B.Bus.world l.initial.bus)
+    (g.B.Bus.trace l.initial.bus) l.bytes.items l.toggle (g.B.Bus.world l.bus)
+    (g.B.Bus.trace l.bus))
 
 abbrev pub decreases-packets : goal.decreases-packets
 decreases-packets g l = l.fn.wanted - length l.bytes.items

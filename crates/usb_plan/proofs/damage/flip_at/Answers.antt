@@ -3,4 +3,7 @@ use Rattle.usb_plan.proofs.Parts.{number_at_ok}
 use Rattle.usb_plan.proofs.damage.flip_at.Goals as goal
 
 pub overflow_cast-result : goal.overflow_cast-result
-overflow_cast-result c = omega (arith, (number_at_ok 0 535 _ c.in_ok-bit.bit (sym c.in_ok-bit.ensures)).1)
+overflow_cast-result c = omega (
+  arith,
+  (number_at_ok 0 535 _ c.in_ok-bit.bit (sym c.in_ok-bit.ensures)).1,
+)

@@ -1,11 +1,14 @@
 use Rattle.std.proofs.Common.{arith, refl}
-use Rattle.usb_plan.proofs.DigitPairs.{IsPair, put_one, refused_one, all_put, told_read, told_refused}
+use Rattle.usb_plan.proofs.DigitPairs.{IsPair, put_one, refused_one, all_put, told_read}
+use Rattle.usb_plan.proofs.DigitPairs.{told_refused}
 use Rattle.usb_plan.proofs.digits.put_pairs.Goals as goal
-use Rattle.usb_plan.proofs.digits.put_pairs.Goals.{then-high-gt-MOST-via-then-high-gt-MOST, then-high-gt-MOST-via-else-high-gt-MOST+then-low-gt-MOST}
+use Rattle.usb_plan.proofs.digits.put_pairs.Goals.{then-high-gt-MOST-via-then-high-gt-MOST}
+use Rattle.usb_plan.proofs.digits.put_pairs.Goals.{then-high-gt-MOST-via-else-high-gt-MOST+then-low-gt-MOST}
 
 pub returns-then-high-gt-MOST : goal.returns-then-high-gt-MOST
 returns-then-high-gt-MOST c =
-    let pair : IsPair c.args.digits.now c.pairs.bytes c.pairs.i c.from.result c.from-in-pairs.result = record {
+    let pair : IsPair c.args.digits.now c.pairs.bytes c.pairs.i c.from.result
+    c.from-in-pairs.result = record {
       sizes = omega arith;
       within = omega arith;
       first = c.from.ensures;
@@ -17,7 +20,8 @@ returns-then-high-gt-MOST c =
 
 pub pairs-preserved : goal.pairs-preserved
 pairs-preserved c =
-    let pair : IsPair c.args.digits.now c.pairs.bytes c.pairs.i c.from.result c.from-in-pairs.result = record {
+    let pair : IsPair c.args.digits.now c.pairs.bytes c.pairs.i c.from.result
+    c.from-in-pairs.result = record {
       sizes = omega arith;
       within = omega arith;
       first = c.from.ensures;
@@ -27,4 +31,5 @@ pairs-preserved c =
     put_one _ _ _ _ _ pair c.pairs.invariant c.if-high-gt-MOST.false c.if-low-gt-MOST.false
 
 pub returns : goal.returns
-returns c = told_read _ c.pairs.bytes _ _ (all_put _ _ c.pairs.i (omega arith) (omega arith) c.pairs.invariant) refl refl
+returns c = told_read _ c.pairs.bytes _ _ (all_put _ _ c.pairs.i (omega arith) (omega arith)
+    c.pairs.invariant) refl refl

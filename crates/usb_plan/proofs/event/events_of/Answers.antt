@@ -10,7 +10,8 @@ use Rattle.usb_plan.specs.Scene.{SceneData, scene_after}
 use Rattle.usb_plan.specs.Event.{event_in}
 use Rattle.usb_plan.proofs.Parts.{event_in_ok, entry_at_ok}
 use Rattle.usb_plan.proofs.MemoryRefusals.{entry_at_told, entry_at_read, unless_handed}
-use Rattle.usb_plan.proofs.Growth.{events_from-step, events_from-fault, events_from-end, events_fit-push}
+use Rattle.usb_plan.proofs.Growth.{events_from-step, events_from-fault, events_from-end}
+use Rattle.usb_plan.proofs.Growth.{events_fit-push}
 use Rattle.usb_world.proofs.Interface.{plugged_by-next}
 use Rattle.usb_plan.proofs.event.events_of.Goals as goal
 
@@ -25,35 +26,63 @@ loop-i-init c = record {
 pub returns-in_err-event-clause-value : goal.returns-in_err-event-clause-value
 returns-in_err-event-clause-value c =
     let v = c.index-values-i.result in
-    let spelled = event_in (scene_after c.args.roots c.args.devices.now c.loop-i.done) (length c.loop-i.done) (as_table (view v)) in
-    let same : EqualUnless Memory c.event_in-read.result spelled = rw (c.loop-i.invariant.scene, c.as_slice-count.ensures.value, c.as_table.ensures) at c.event_in-read.ensures in
+    let spelled = event_in (scene_after c.args.roots c.args.devices.now c.loop-i.done)
+    (length c.loop-i.done) (as_table (view v)) in
+    let same : EqualUnless Memory c.event_in-read.result spelled =
+    rw (c.loop-i.invariant.scene, c.as_slice-count.ensures.value, c.as_table.ensures) at
+    c.event_in-read.ensures in
     let why = c.in_err-event.field-0.0 in
     unless_handed fault.Memory c.from_residual.result _ why c.from_residual.ensures.1
-    (λ ne. sym (events_from-fault c.args.roots c.args.devices.now c.loop-i.done c.args.values.now c.loop-i.i v spelled why _ c.loop-i-test.true c.index-values-i.is refl
-    (entry_at_told (place.Event (c.loop-i.i + 1)) c.event_in-read.result spelled c.entry_at.result why same c.entry_at.ensures c.in_err-event.was ne) c.loop-i.invariant.so_far))
+    (λ ne. sym (events_from-fault c.args.roots c.args.devices.now c.loop-i.done c.args.values.now
+    c.loop-i.i v spelled why _ c.loop-i-test.true c.index-values-i.is refl
+    (entry_at_told (place.Event (c.loop-i.i + 1)) c.event_in-read.result spelled c.entry_at.result
+    why same c.entry_at.ensures c.in_err-event.was ne) c.loop-i.invariant.so_far))
 
 pub loop-i-preserved : goal.loop-i-preserved
 loop-i-preserved c =
     let v = c.index-values-i.result in
-    let spelled = event_in (scene_after c.args.roots c.args.devices.now c.loop-i.done) (length c.loop-i.done) (as_table (view v)) in
-    let same : EqualUnless Memory c.event_in-read.result spelled = rw (c.loop-i.invariant.scene, c.as_slice-count.ensures.value, c.as_table.ensures) at c.event_in-read.ensures in
-    let good = entry_at_read (place.Event (c.loop-i.i + 1)) c.event_in-read.result spelled c.entry_at.result c.in_ok-event.event same c.entry_at.ensures c.in_ok-event.was in
-    let follows = event_in_ok (scene_after c.args.roots c.args.devices.now c.loop-i.done) (length c.loop-i.done) (as_table (view v)) c.in_ok-event.event (entry_at_ok _ spelled c.in_ok-event.event good) in
+    let spelled = event_in (scene_after c.args.roots c.args.devices.now c.loop-i.done)
+    (length c.loop-i.done) (as_table (view v)) in
+    let same : EqualUnless Memory c.event_in-read.result spelled =
+    rw (c.loop-i.invariant.scene, c.as_slice-count.ensures.value, c.as_table.ensures) at
+    c.event_in-read.ensures in
+    let good = entry_at_read (place.Event (c.loop-i.i + 1)) c.event_in-read.result spelled
+    c.entry_at.result c.in_ok-event.event same c.entry_at.ensures c.in_ok-event.was in
+    let follows = event_in_ok (scene_after c.args.roots c.args.devices.now c.loop-i.done)
+    (length c.loop-i.done) (as_table (view v)) c.in_ok-event.event
+    (entry_at_ok _ spelled c.in_ok-event.event good) in
     let grown = plugged_by-next [] c.loop-i.done c.in_ok-event.event in
     record {
-      so_far = rw c.in_ok-push.ensures.ok (events_from-step c.args.roots c.args.devices.now c.loop-i.done c.args.values.now c.loop-i.i v spelled c.in_ok-event.event _ c.loop-i-test.true c.index-values-i.is refl good c.loop-i.invariant.so_far);
-      fit = rw c.in_ok-push.ensures.ok (events_fit-push c.args.roots c.args.devices.now [] c.loop-i.done c.in_ok-event.event c.loop-i.invariant.fit follows.fits);
-      scene = rw c.in_ok-push.ensures.ok (c.in_ok-apply.ensures ∙ (ap (λ (s : SceneData). record s { plugged = plugged_after c.in_ok-event.event.action s.plugged }) c.loop-i.invariant.scene ∙ ap (λ t. record { roots = c.args.roots; devices = c.args.devices.now; plugged = t }) (sym grown)));
+      so_far = rw c.in_ok-push.ensures.ok (events_from-step c.args.roots c.args.devices.now
+          c.loop-i.done c.args.values.now c.loop-i.i v spelled c.in_ok-event.event _
+          c.loop-i-test.true c.index-values-i.is refl good c.loop-i.invariant.so_far);
+      fit = rw c.in_ok-push.ensures.ok (events_fit-push c.args.roots c.args.devices.now []
+          c.loop-i.done c.in_ok-event.event c.loop-i.invariant.fit follows.fits);
+      scene = rw c.in_ok-push.ensures.ok (c.in_ok-apply.ensures
+          ∙ (ap (λ (s : SceneData). record s {
+            plugged =
+                plugged_after c.in_ok-event.event.action s.plugged;
+          }) c.loop-i.invariant.scene
+          ∙ ap (λ t. record { roots = c.args.roots; devices = c.args.devices.now; plugged = t })
+          (sym grown)));
     }
 
 pub push-requires : goal.push-requires
 push-requires c =
     let v = c.index-values-i.result in
-    let spelled = event_in (scene_after c.args.roots c.args.devices.now c.loop-i.done) (length c.loop-i.done) (as_table (view v)) in
-    let same : EqualUnless Memory c.event_in-read.result spelled = rw (c.loop-i.invariant.scene, c.as_slice-count.ensures.value, c.as_table.ensures) at c.event_in-read.ensures in
-    let good = entry_at_read (place.Event (c.loop-i.i + 1)) c.event_in-read.result spelled c.entry_at.result c.in_ok-event.event same c.entry_at.ensures c.in_ok-event.was in
-    let follows = event_in_ok (scene_after c.args.roots c.args.devices.now c.loop-i.done) (length c.loop-i.done) (as_table (view v)) c.in_ok-event.event (entry_at_ok _ spelled c.in_ok-event.event good) in
+    let spelled = event_in (scene_after c.args.roots c.args.devices.now c.loop-i.done)
+    (length c.loop-i.done) (as_table (view v)) in
+    let same : EqualUnless Memory c.event_in-read.result spelled =
+    rw (c.loop-i.invariant.scene, c.as_slice-count.ensures.value, c.as_table.ensures) at
+    c.event_in-read.ensures in
+    let good = entry_at_read (place.Event (c.loop-i.i + 1)) c.event_in-read.result spelled
+    c.entry_at.result c.in_ok-event.event same c.entry_at.ensures c.in_ok-event.was in
+    let follows = event_in_ok (scene_after c.args.roots c.args.devices.now c.loop-i.done)
+    (length c.loop-i.done) (as_table (view v)) c.in_ok-event.event
+    (entry_at_ok _ spelled c.in_ok-event.event good) in
     record { room = follows.room }
 
 pub returns-clause-value : goal.returns-clause-value
-returns-clause-value c = sym c.loop-i.invariant.so_far ∙ events_from-end c.args.roots c.args.devices.now (c.loop-i.i + 1) c.loop-i.done c.args.values.now c.loop-i.i c.loop-i-test.false
+returns-clause-value c = sym c.loop-i.invariant.so_far
+    ∙ events_from-end c.args.roots c.args.devices.now (c.loop-i.i + 1) c.loop-i.done
+    c.args.values.now c.loop-i.i c.loop-i-test.false

@@ -7,6 +7,7 @@ use Rattle.usb_plan.proofs.texts.texts_of.Given as goal
 
 abbrev pub invariant-loop-value : goal.invariant-loop-value
 invariant-loop-value g l = record {
-  so_far : l.texts ≢ Err Memory → texts_from g.row.MAX l.texts (map view (drop l.value-index l.values)) ≡ texts_from g.row.MAX (Ok []) (map view l.values);
+  so_far : l.texts ≢ Err Memory → texts_from g.row.MAX l.texts
+      (map view (drop l.value-index l.values)) ≡ texts_from g.row.MAX (Ok []) (map view l.values);
   few : AtMost l.value-index l.texts;
 }

@@ -10,7 +10,8 @@ returns-in_err-cleared-clause-on g c =
       call = c.clear_halt.ensures.tells refl;
       tells = sym c.answered.ensures ∙ c.in_err-cleared.was;
     })
-    (answered_caused c.clear_halt.result c.in_err-cleared.field-0.0 c.clear_halt.new.self.world (c.clear_halt.ensures.tells refl).told (sym c.answered.ensures ∙ c.in_err-cleared.was))
+    (answered_caused c.clear_halt.result c.in_err-cleared.field-0.0 c.clear_halt.new.self.world
+    (c.clear_halt.ensures.tells refl).told (sym c.answered.ensures ∙ c.in_err-cleared.was))
 
 pub returns-clause-on : goal.returns-clause-on
 returns-clause-on g c = record {
@@ -23,7 +24,8 @@ returns-clause-on g c = record {
       tells = sym c.answered.ensures ∙ c.in_ok-cleared.was;
     },
   );
-  running = c.clear_halt.ensures.stopped.stops c.requires.running ∙ answered_goes c.clear_halt.result _ (sym c.answered.ensures ∙ c.in_ok-cleared.was);
+  running = c.clear_halt.ensures.stopped.stops c.requires.running
+      ∙ answered_goes c.clear_halt.result _ (sym c.answered.ensures ∙ c.in_ok-cleared.was);
   caused = tt;
 }
 

@@ -10,7 +10,8 @@ returns-in_err-received-clause-on g c =
       call = c.receive.ensures.tells refl;
       tells = sym c.answered.ensures ∙ c.in_err-received.was;
     })
-    (answered_caused c.receive.result c.in_err-received.field-0.0 c.receive.new.self.world (c.receive.ensures.tells refl).told (sym c.answered.ensures ∙ c.in_err-received.was))
+    (answered_caused c.receive.result c.in_err-received.field-0.0 c.receive.new.self.world
+    (c.receive.ensures.tells refl).told (sym c.answered.ensures ∙ c.in_err-received.was))
 
 pub returns-clause-on : goal.returns-clause-on
 returns-clause-on g c = record {
@@ -23,7 +24,8 @@ returns-clause-on g c = record {
       tells = sym c.answered.ensures ∙ c.in_ok-received.was;
     },
   );
-  running = c.receive.ensures.stopped.stops c.requires.running ∙ answered_goes c.receive.result _ (sym c.answered.ensures ∙ c.in_ok-received.was);
+  running = c.receive.ensures.stopped.stops c.requires.running
+      ∙ answered_goes c.receive.result _ (sym c.answered.ensures ∙ c.in_ok-received.was);
   caused = tt;
 }
 

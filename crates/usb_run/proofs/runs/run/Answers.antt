@@ -15,17 +15,26 @@ pub returns-clause-ends : goal.returns-clause-ends
 returns-clause-ends c =
     let opened = c.in-Ok.ensures.opened in
     let same : c.bus.result.now.fault ≡ c.finish-report.new.self.host.world.fault =
-    ap (λ (w : World). w.fault) c.bus.ensures.world ∙ ap (λ (h : HostState). h.world.fault) c.host.ensures in
-    let other : c.finish-report.new.self.host.world.fault ≢ Some bus.TraceFailed = subst (λ f. f ≢ Some bus.TraceFailed) same c.untraced_fault.ensures in
-    ends_untraced c.args.plan.now _ _ c.in-Ok.runner.host c.finish-report.new.self.host c.finish-report.result opened c.in-Ok.ensures.going (c.finish-report.ensures.finishes (λ _. knows_opened c.args.plan.now c.in-Ok.runner.host opened)) c.finish-report.new.self.owning.single other
+    ap (λ (w : World). w.fault) c.bus.ensures.world
+    ∙ ap (λ (h : HostState). h.world.fault) c.host.ensures in
+    let other : c.finish-report.new.self.host.world.fault ≢ Some bus.TraceFailed =
+    subst (λ f. f ≢ Some bus.TraceFailed) same c.untraced_fault.ensures in
+    ends_untraced c.args.plan.now _ _ c.in-Ok.runner.host c.finish-report.new.self.host
+    c.finish-report.result opened c.in-Ok.ensures.going
+    (c.finish-report.ensures.finishes (λ _. knows_opened c.args.plan.now c.in-Ok.runner.host
+    opened)) c.finish-report.new.self.owning.single other
 
 pub returns-clause-limit : goal.returns-clause-limit
 returns-clause-limit c =
     let opened = c.in-Ok.ensures.opened in
-    reports_limit c.in-Ok.runner.over c.in-Ok.runner.host c.finish-report.new.self.host c.finish-report.result c.args.plan.now.limit (c.finish-report.ensures.finishes (λ _. knows_opened c.args.plan.now c.in-Ok.runner.host opened)) c.in-Ok.ensures.begun.attempts c.in-Ok.ensures.begun.limit
+    reports_limit c.in-Ok.runner.over c.in-Ok.runner.host c.finish-report.new.self.host
+    c.finish-report.result c.args.plan.now.limit
+    (c.finish-report.ensures.finishes (λ _. knows_opened c.args.plan.now c.in-Ok.runner.host
+    opened)) c.in-Ok.ensures.begun.attempts c.in-Ok.ensures.begun.limit
 
 pub returns-clause-listings : goal.returns-clause-listings
-returns-clause-listings c = ends_plugged c.args.plan.now c.finish-report.result (returns-clause-ends c)
+returns-clause-listings c = ends_plugged c.args.plan.now c.finish-report.result
+    (returns-clause-ends c)
 
 pub returns-in-Err-clause-enough : goal.returns-in-Err-clause-enough
 returns-in-Err-clause-enough c = ends_enough c.args.plan.now (Err Memory) (inl refl)

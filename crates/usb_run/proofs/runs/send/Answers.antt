@@ -11,7 +11,8 @@ returns-in_err-sent-clause-on g c =
       call = c.send.ensures.tells refl;
       tells = sym c.answered.ensures ∙ c.in_err-sent.was;
     })
-    (answered_caused c.send.result c.in_err-sent.field-0.0 c.send.new.self.world (c.send.ensures.tells refl).told (sym c.answered.ensures ∙ c.in_err-sent.was))
+    (answered_caused c.send.result c.in_err-sent.field-0.0 c.send.new.self.world
+    (c.send.ensures.tells refl).told (sym c.answered.ensures ∙ c.in_err-sent.was))
 
 pub returns-clause-on : goal.returns-clause-on
 returns-clause-on g c = record {
@@ -24,7 +25,8 @@ returns-clause-on g c = record {
       tells = sym c.answered.ensures ∙ c.in_ok-sent.was;
     },
   );
-  running = c.send.ensures.stopped.stops c.requires.running ∙ answered_goes c.send.result _ (sym c.answered.ensures ∙ c.in_ok-sent.was);
+  running = c.send.ensures.stopped.stops c.requires.running
+      ∙ answered_goes c.send.result _ (sym c.answered.ensures ∙ c.in_ok-sent.was);
   caused = tt;
 }
 

@@ -11,5 +11,8 @@ returns-clause-next c = λ knows. c.next_item-item.ensures.next knows
 pub returns-clause-untraced : goal.returns-clause-untraced
 returns-clause-untraced c =
     let same : c.bus.result.now.fault ≡ c.next_item-item.new.self.host.world.fault =
-    ap (λ (w : World). w.fault) c.bus.ensures.world ∙ ap (λ (h : HostState). h.world.fault) c.host.ensures in
-    untold_fault c.next_item-item.result c.next_item-item.new.self.host.world c.next_item-item.ensures.caused (subst (λ f. f ≢ Some bus.TraceFailed) same c.untraced_fault.ensures)
+    ap (λ (w : World). w.fault) c.bus.ensures.world
+    ∙ ap (λ (h : HostState). h.world.fault) c.host.ensures in
+    untold_fault c.next_item-item.result c.next_item-item.new.self.host.world
+    c.next_item-item.ensures.caused (subst (λ f. f ≢ Some bus.TraceFailed) same
+    c.untraced_fault.ensures)

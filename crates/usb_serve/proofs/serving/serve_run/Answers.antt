@@ -7,8 +7,13 @@ use Rattle.usb_serve.proofs.serving.serve_run.Goals as goal
 
 pub returns-in-Ok-clause-written : goal.returns-in-Ok-clause-written
 returns-in-Ok-clause-written g c =
-    run_written c.args.plan.now _ _ c.in-Ok.runner.host c.trace_run-result.new.runner.host c.trace_run-result.result _ c.in-Ok.ensures.opened c.in-Ok.ensures.going (c.trace_run-result.ensures.ends (λ _. knows_opened c.args.plan.now c.in-Ok.runner.host c.in-Ok.ensures.opened)) c.trace_run-result.ensures.caused c.trace_run-result.new.runner.owning.single
+    run_written c.args.plan.now _ _ c.in-Ok.runner.host c.trace_run-result.new.runner.host
+    c.trace_run-result.result _ c.in-Ok.ensures.opened c.in-Ok.ensures.going
+    (c.trace_run-result.ensures.ends (λ _. knows_opened c.args.plan.now c.in-Ok.runner.host
+    c.in-Ok.ensures.opened)) c.trace_run-result.ensures.caused
+    c.trace_run-result.new.runner.owning.single
     c.into_writer.ensures.trace
 
 pub returns-in-Err-clause-written : goal.returns-in-Err-clause-written
-returns-in-Err-clause-written g c = run_unopened c.args.plan.now _ _ (ap (λ (w : Watched g.row.W.Denot). g.W.Write.contents (inner_of w)) c.in-Err.ensures.back)
+returns-in-Err-clause-written g c = run_unopened c.args.plan.now _ _
+    (ap (λ (w : Watched g.row.W.Denot). g.W.Write.contents (inner_of w)) c.in-Err.ensures.back)

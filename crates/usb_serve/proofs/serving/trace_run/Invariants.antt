@@ -6,7 +6,8 @@ use Rattle.usb_serve.proofs.serving.trace_run.Given as goal
 
 -- the run so far, with the number of its last listing, where what its host knew was so
 abbrev pub invariant-items : goal.invariant-items
-invariant-items g l = (l.fn.runner.over ≡ false → Knows l.fn.runner.host) → RunSoFar l.fn.runner.over l.fn.runner.host l.number l.runner.over l.runner.host
+invariant-items g l = (l.fn.runner.over ≡ false → Knows l.fn.runner.host)
+    → RunSoFar l.fn.runner.over l.fn.runner.host l.number l.runner.over l.runner.host
 
 -- items to come
 abbrev pub decreases-items : goal.decreases-items

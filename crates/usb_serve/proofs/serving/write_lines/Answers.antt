@@ -10,5 +10,7 @@ returns-in_err-write_line-clause-front g c =
     let vs = c.args.lines.now in
     let i = c.lines.line-index in
     let v = c.line-item.result in
-    front_after _ _ _ (flat_map (λ x. x.items) (take i vs)) v.items (flat_map (λ x. x.items) (drop (suc i) vs)) (flat_map (λ x. x.items) vs)
-    (texts_split vs i v c.lines-test.true c.line-item.is) c.lines.invariant.wrote (subst (AppendsFront _ _) c.as_slice.ensures.value c.write_line.ensures.front)
+    front_after _ _ _ (flat_map (λ x. x.items) (take i vs)) v.items
+    (flat_map (λ x. x.items) (drop (suc i) vs)) (flat_map (λ x. x.items) vs)
+    (texts_split vs i v c.lines-test.true c.line-item.is) c.lines.invariant.wrote
+    (subst (AppendsFront _ _) c.as_slice.ensures.value c.write_line.ensures.front)

@@ -6,6 +6,8 @@ use Rattle.usb_serve.proofs.serving.write_lines.Given as goal
 -- the lines so far are written
 abbrev pub invariant-lines : goal.invariant-lines
 invariant-lines g l = record {
-  wrote : Appends (g.W.Write.contents (inner_of l.fn.writer)) (g.W.Write.contents (inner_of l.writer)) (flat_map (λ line. line.items) (take l.line-index l.lines));
+  wrote : Appends (g.W.Write.contents (inner_of l.fn.writer))
+      (g.W.Write.contents (inner_of l.writer))
+      (flat_map (λ line. line.items) (take l.line-index l.lines));
   unmarked : has_failed l.writer ≡ has_failed l.fn.writer;
 }

@@ -2,25 +2,33 @@ use Rattle.std.proofs.Common.{[], Ok, Err, refl, sym, ap, rules}
 use Rattle.std.proofs.lemmas.Result.{err_from_is_err_and}
 use Rattle.usb_transaction.specs.HeardOutcomes.{heard_when_sent}
 use Rattle.usb_transaction.specs.Transactions.{packed}
-use Rattle.usb_transaction.specs.declared.fault.TransFault.TheVariants.{Stalled, Busy, NoAnswer, Bus}
+use Rattle.usb_transaction.specs.declared.fault.TransFault.TheVariants.{Stalled, Busy, NoAnswer}
+use Rattle.usb_transaction.specs.declared.fault.TransFault.TheVariants.{Bus}
 use Rattle.usb_transaction.proofs.Calls.{sends_out}
 use Rattle.usb_transaction.proofs.LastOutcomes.{sent_last, sent_stall}
-use Rattle.usb_transaction.proofs.TransactionTries.{attempted_once, stands_error, stands_new, stands_waited, told_busy, told_cut, told_moved, told_silent, told_stalled, went_last}
+use Rattle.usb_transaction.proofs.TransactionTries.{attempted_once, stands_error, stands_new}
+use Rattle.usb_transaction.proofs.TransactionTries.{stands_waited, told_busy, told_cut, told_moved}
+use Rattle.usb_transaction.proofs.TransactionTries.{told_silent, told_stalled, went_last}
 use Rattle.usb_transaction.proofs.write.data_out.Goals as goal
 
 pub tries-init : goal.tries-init
-tries-init g c = (refl, (search rules, search rules), λ known. stands_new c.new-tries.result _ c.new-tries.ensures)
+tries-init g c = (
+  refl,
+  (search rules, search rules),
+  λ known. stands_new c.new-tries.result _
+      c.new-tries.ensures,
+)
 
 pub tries-preserved-in-Continue-1 : goal.tries-preserved-in-Continue-1
 tries-preserved-in-Continue-1 g c = (
   c.tries.invariant.0,
   (search rules, search rules),
   λ known.
-    let asked = c.attempt_of_out-attempt.ensures in
-    let one = attempted_once asked.value asked.fits (c.in-Ok.ensures.attempts known) in
-    stands_waited (c.tries.invariant.2 known) one c.heard_when_sent.result _
-        c.heard_when_sent.ensures c.in-NotReady.is c.wait.ensures.count
-        c.in_ok-wait-in-NotReady.ensures.end,
+      let asked = c.attempt_of_out-attempt.ensures in
+      let one = attempted_once asked.value asked.fits (c.in-Ok.ensures.attempts known) in
+      stands_waited (c.tries.invariant.2 known) one c.heard_when_sent.result _
+      c.heard_when_sent.ensures c.in-NotReady.is c.wait.ensures.count
+      c.in_ok-wait-in-NotReady.ensures.end,
 )
 
 pub tries-preserved : goal.tries-preserved
@@ -28,10 +36,10 @@ tries-preserved g c = (
   c.tries.invariant.0,
   (search rules, search rules),
   λ known.
-    let asked = c.attempt_of_out-attempt.ensures in
-    let one = attempted_once asked.value asked.fits (c.in-Ok.ensures.attempts known) in
-    stands_error (c.tries.invariant.2 known) one _ c.in-Lost.ensures c.error.ensures.count
-        c.in_ok-error-in-Lost.ensures.end,
+      let asked = c.attempt_of_out-attempt.ensures in
+      let one = attempted_once asked.value asked.fits (c.in-Ok.ensures.attempts known) in
+      stands_error (c.tries.invariant.2 known) one _ c.in-Lost.ensures c.error.ensures.count
+      c.in_ok-error-in-Lost.ensures.end,
 )
 
 pub returns-in-Moved-clause-sends : goal.returns-in-Moved-clause-sends
@@ -39,9 +47,10 @@ returns-in-Moved-clause-sends g c known =
     let settled = g.met.B.Bus.settled known c.args.bus.now in
     let asked = c.attempt_of_out-attempt.ensures in
     let one = attempted_once asked.value asked.fits (c.in-Ok.ensures.attempts known) in
-    let it = told_moved (c.tries.invariant.2 known) one (packed []) (ap heard_when_sent (sent_last _ _ (sym c.in-Moved.ensures))) in
+    let it = told_moved (c.tries.invariant.2 known) one (packed [])
+    (ap heard_when_sent (sent_last _ _ (sym c.in-Moved.ensures))) in
     rw c.nothing.ensures (sends_out c.args.target c.args.ep c.args.toggle.now c.args.bytes.now _ _
-        settled (Ok []) it)
+    settled (Ok []) it)
 
 pub returns-in_err-wait-in-NotReady-clause-sends : goal.returns-in_err-wait-in-NotReady-clause-sends
 returns-in_err-wait-in-NotReady-clause-sends g c known =
@@ -50,9 +59,10 @@ returns-in_err-wait-in-NotReady-clause-sends g c known =
     let one = attempted_once asked.value asked.fits (c.in-Ok.ensures.attempts known) in
     let end = c.in_err-wait-in-NotReady.ensures.end in
     let told = err_from_is_err_and c.from_residual.result c.from_residual.ensures.1 in
-    let it = told_busy (c.tries.invariant.2 known) one c.heard_when_sent.result _ c.heard_when_sent.ensures c.in-NotReady.is c.wait.ensures.count end.1 in
+    let it = told_busy (c.tries.invariant.2 known) one c.heard_when_sent.result _
+    c.heard_when_sent.ensures c.in-NotReady.is c.wait.ensures.count end.1 in
     rw (told.1, told.2, end.0) (sends_out c.args.target c.args.ep c.args.toggle.now c.args.bytes.now
-        _ _ settled (Err Busy) it)
+    _ _ settled (Err Busy) it)
 
 pub returns-in-Refused-clause-sends : goal.returns-in-Refused-clause-sends
 returns-in-Refused-clause-sends g c known =
@@ -61,7 +71,7 @@ returns-in-Refused-clause-sends g c known =
     let one = attempted_once asked.value asked.fits (c.in-Ok.ensures.attempts known) in
     let it = told_stalled (c.tries.invariant.2 known) one (sent_stall _ c.in-Refused.ensures) in
     sends_out c.args.target c.args.ep c.args.toggle.now c.args.bytes.now _ _ settled (Err Stalled)
-        it
+    it
 
 pub returns-in_err-error-in-Lost-clause-sends : goal.returns-in_err-error-in-Lost-clause-sends
 returns-in_err-error-in-Lost-clause-sends g c known =
@@ -69,10 +79,12 @@ returns-in_err-error-in-Lost-clause-sends g c known =
     let asked = c.attempt_of_out-attempt.ensures in
     let one = attempted_once asked.value asked.fits (c.in-Ok.ensures.attempts known) in
     let end = c.in_err-error-in-Lost.ensures.end in
-    let told = err_from_is_err_and c.from_residual-in_err-error-in-Lost.result c.from_residual-in_err-error-in-Lost.ensures.1 in
-    let it = told_silent (c.tries.invariant.2 known) one _ c.in-Lost.ensures c.error.ensures.count end.1 in
+    let told = err_from_is_err_and c.from_residual-in_err-error-in-Lost.result
+    c.from_residual-in_err-error-in-Lost.ensures.1 in
+    let it = told_silent (c.tries.invariant.2 known) one _ c.in-Lost.ensures c.error.ensures.count
+    end.1 in
     rw (told.1, told.2, end.0) (sends_out c.args.target c.args.ep c.args.toggle.now c.args.bytes.now
-        _ _ settled (Err NoAnswer) it)
+    _ _ settled (Err NoAnswer) it)
 
 pub returns-in-Err-clause-sends : goal.returns-in-Err-clause-sends
 returns-in-Err-clause-sends g c known =
@@ -81,19 +93,29 @@ returns-in-Err-clause-sends g c known =
     let cut = c.in-Err.ensures.attempts known in
     let it = told_cut (c.tries.invariant.2 known) asked.value asked.fits cut in
     sends_out c.args.target c.args.ep c.args.toggle.now c.args.bytes.now _ _ settled
-        (Err (Bus c.in-Err.fault)) it
+    (Err (Bus c.in-Err.fault)) it
 
 pub returns-in-Moved-clause-steps : goal.returns-in-Moved-clause-steps
-returns-in-Moved-clause-steps g c known = went_last (c.tries.invariant.2 known) c.attempt_of_out-attempt.ensures.fits (c.in-Ok.ensures.attempts known)
+returns-in-Moved-clause-steps g c known =
+    went_last (c.tries.invariant.2 known) c.attempt_of_out-attempt.ensures.fits
+    (c.in-Ok.ensures.attempts known)
 
 pub returns-in_err-wait-in-NotReady-clause-steps : goal.returns-in_err-wait-in-NotReady-clause-steps
-returns-in_err-wait-in-NotReady-clause-steps g c known = went_last (c.tries.invariant.2 known) c.attempt_of_out-attempt.ensures.fits (c.in-Ok.ensures.attempts known)
+returns-in_err-wait-in-NotReady-clause-steps g c known =
+    went_last (c.tries.invariant.2 known) c.attempt_of_out-attempt.ensures.fits
+    (c.in-Ok.ensures.attempts known)
 
 pub returns-in-Refused-clause-steps : goal.returns-in-Refused-clause-steps
-returns-in-Refused-clause-steps g c known = went_last (c.tries.invariant.2 known) c.attempt_of_out-attempt.ensures.fits (c.in-Ok.ensures.attempts known)
+returns-in-Refused-clause-steps g c known =
+    went_last (c.tries.invariant.2 known) c.attempt_of_out-attempt.ensures.fits
+    (c.in-Ok.ensures.attempts known)
 
 pub returns-in_err-error-in-Lost-clause-steps : goal.returns-in_err-error-in-Lost-clause-steps
-returns-in_err-error-in-Lost-clause-steps g c known = went_last (c.tries.invariant.2 known) c.attempt_of_out-attempt.ensures.fits (c.in-Ok.ensures.attempts known)
+returns-in_err-error-in-Lost-clause-steps g c known =
+    went_last (c.tries.invariant.2 known) c.attempt_of_out-attempt.ensures.fits
+    (c.in-Ok.ensures.attempts known)
 
 pub returns-in-Err-clause-steps : goal.returns-in-Err-clause-steps
-returns-in-Err-clause-steps g c known = went_last (c.tries.invariant.2 known) c.attempt_of_out-attempt.ensures.fits (c.in-Err.ensures.attempts known)
+returns-in-Err-clause-steps g c known =
+    went_last (c.tries.invariant.2 known) c.attempt_of_out-attempt.ensures.fits
+    (c.in-Err.ensures.attempts known)

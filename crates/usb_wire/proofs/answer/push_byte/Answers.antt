@@ -4,7 +4,9 @@ use Rattle.usb_packet.proofs.TextLemmas.{ascii_text}
 use Rattle.usb_wire.proofs.answer.push_byte.Goals as goal
 
 pub push_ascii-requires-clause-ascii : goal.push_ascii-requires-clause-ascii
-push_ascii-requires-clause-ascii c = let ascii = subst IsAscii (sym c.hex_digits.ensures) (ascii_text (c.args.byte ∷ [])) in ascii 0
+push_ascii-requires-clause-ascii c = let ascii =
+    subst IsAscii (sym c.hex_digits.ensures) (ascii_text (c.args.byte ∷ [])) in ascii 0
 
 pub push_ascii-requires-2-clause-ascii : goal.push_ascii-requires-2-clause-ascii
-push_ascii-requires-2-clause-ascii c = let ascii = subst IsAscii (sym c.hex_digits.ensures) (ascii_text (c.args.byte ∷ [])) in ascii 1
+push_ascii-requires-2-clause-ascii c = let ascii =
+    subst IsAscii (sym c.hex_digits.ensures) (ascii_text (c.args.byte ∷ [])) in ascii 1

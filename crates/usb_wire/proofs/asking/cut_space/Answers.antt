@@ -3,4 +3,5 @@ use Rattle.usb_wire.proofs.QuestionLaws.{cut_at-split_once}
 use Rattle.usb_wire.proofs.asking.cut_space.Goals as goal
 
 pub returns : goal.returns
-returns c = cut_at-split_once 32 c.args.text.now c.split_once.result (lit< tt) c.split_once.ensures.cases
+returns c = cut_at-split_once 32 c.args.text.now c.split_once.result (lit< tt)
+    c.split_once.ensures.cases

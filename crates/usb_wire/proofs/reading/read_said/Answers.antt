@@ -16,4 +16,5 @@ returns-clause-only c = λ said may is.
     c.line_says.ensures ∙ line_says-said c.args.asked c.args.roots c.args.line.now said few may is
 
 pub returns-clause-fault : goal.returns-clause-fault
-returns-clause-fault c = ap fault_in c.line_says.ensures ∙ faults-line c.args.asked c.args.roots c.args.line.now
+returns-clause-fault c = ap fault_in c.line_says.ensures
+    ∙ faults-line c.args.asked c.args.roots c.args.line.now

@@ -6,5 +6,7 @@ use Rattle.usb_wire.proofs.reading.text_of_line.Goals as goal
 
 pub returns-in-Err : goal.returns-in-Err
 returns-in-Err c =
-    let printable : all_printable c.args.line.now ≡ true = sym c.all_printable.ensures ∙ c.if-not-all_printable.false in
-    absurd (c.in-Err.ensures.cases.0 (IsUtf8-from_ascii c.args.line.now (IsAscii-printable c.args.line.now printable)))
+    let printable : all_printable c.args.line.now ≡ true = sym c.all_printable.ensures
+    ∙ c.if-not-all_printable.false in
+    absurd (c.in-Err.ensures.cases.0 (IsUtf8-from_ascii c.args.line.now
+    (IsAscii-printable c.args.line.now printable)))

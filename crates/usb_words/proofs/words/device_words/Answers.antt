@@ -8,7 +8,8 @@ use Rattle.usb_words.proofs.words.device_words.Goals as goal
 pub returns : goal.returns
 returns c =
     let found = found_of c.args.found.now in
-    let text = number_text (one_text found (codes "ports")) c.get_one.result c.in_ok-ports.ports c.get_one.ensures.none c.in_ok-ports.was in
+    let text = number_text (one_text found (codes "ports")) c.get_one.result c.in_ok-ports.ports
+    c.get_one.ensures.none c.in_ok-ports.was in
     let read = c.in_ok-ports.ensures.value text.0 text.1 in
     record {
       name = sym (first_value-rows found (codes "name")) ∙ sym c.in_ok-name.ensures;

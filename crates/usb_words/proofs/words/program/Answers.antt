@@ -5,10 +5,12 @@ use Rattle.usb_words.proofs.words.program.Goals as goal
 
 pub returns : goal.returns
 returns c =
-    let fourth = c.in_ok-with_draw.ensures ∙ ap₂ (λ p q. with_subcommand p q.top) c.in_ok-first.ensures c.in_ok-draw.ensures in
+    let fourth = c.in_ok-with_draw.ensures
+    ∙ ap₂ (λ p q. with_subcommand p q.top) c.in_ok-first.ensures c.in_ok-draw.ensures in
     let fifth = c.in_ok-with_run.ensures ∙ ap (λ p. with_text p (codes "run")) fourth in
     let sixth = c.in_ok-with_pcap.ensures ∙ ap (λ p. with_text p (codes "pcap")) fifth in
-    let seventh = c.in_ok-with_device.ensures ∙ ap₂ (λ p q. with_subcommand p q.top) sixth c.in_ok-device.ensures in
+    let seventh = c.in_ok-with_device.ensures
+    ∙ ap₂ (λ p q. with_subcommand p q.top) sixth c.in_ok-device.ensures in
     let eighth = c.in_ok-with_far.ensures ∙ ap (λ p. with_text p (codes "far")) seventh in
     subst (λ p. IfOk c.with_command-3.result (λ whole. app_of whole ≡ p))
     (ap₂ (λ p q. with_subcommand p q.top) eighth c.in_ok-live.ensures) c.with_command-3.ensures

@@ -5,7 +5,8 @@ use Rattle.usb_world.specs.Exchange.{ack_if}
 use Rattle.usb_world.specs.declared.exchange.Exchange.{Exchange}
 use Rattle.usb_world.specs.declared.wire.Mark.TheVariants.{Whole}
 use Rattle.usb_world.proofs.attempts.Exchanges.{over_settled}
-use Rattle.usb_world.proofs.ways.OneWalk.{CutShort, Walked, walk_over, walk_cut, walked_made, walked_kept, made_plugged, made_settled, cut_plugged}
+use Rattle.usb_world.proofs.ways.OneWalk.{CutShort, Walked, walk_over, walk_cut, walked_made}
+use Rattle.usb_world.proofs.ways.OneWalk.{walked_kept, made_plugged, made_settled, cut_plugged}
 use Rattle.usb_world.proofs.exchange.exchange_whole.Goals as goal
 
 cut_short : (c : goal.After-from_residual)
@@ -34,7 +35,8 @@ returns-in_err-attempt_at-clause-settled c =
 
 pub returns-in_err-attempt_at-clause-cut : goal.returns-in_err-attempt_at-clause-cut
 returns-in_err-attempt_at-clause-cut c =
-    stopped_on_err c.from_residual.result (walk_cut _ _ _ _ _ c.requires.way c.requires.alone (cut_short c))
+    stopped_on_err c.from_residual.result (walk_cut _ _ _ _ _ c.requires.way c.requires.alone
+    (cut_short c))
 
 abbrev made : (c : goal.After-keeps_address) → Exchange
 made c = record {

@@ -14,7 +14,8 @@ use Rattle.usb_world.proofs.exchange.send_packets.Goals as goal
 
 pub returns-clause-plugged : goal.returns-clause-plugged
 returns-clause-plugged c =
-    plugged_further _ _ _ (plugged_further _ _ _ c.in_ok-send.ensures.plugged c.in_ok-send-2.ensures.plugged) c.in_ok-address_lost.ensures.plugged
+    plugged_further _ _ _ (plugged_further _ _ _ c.in_ok-send.ensures.plugged
+    c.in_ok-send-2.ensures.plugged) c.in_ok-address_lost.ensures.plugged
 
 pub returns-clause-made : goal.returns-clause-made
 returns-clause-made c =
@@ -38,16 +39,26 @@ returns-clause-made c =
       to_both = c.send-2.new.heard;
       token = c.put_token.ensures.value;
       token_heard =
-          c.in_ok-send.ensures.steps.heard ∙ ap (λ h. both h (heard_of (answers_to c.goes_out.result c.args.roots.now))) c.nothing-heard.ensures
+          c.in_ok-send.ensures.steps.heard
+          ∙ ap (λ h. both h (heard_of (answers_to c.goes_out.result c.args.roots.now)))
+          c.nothing-heard.ensures
           ∙ ap (λ q. heard_of (answers_to q c.args.roots.now)) c.goes_out.ensures;
-      token_went = c.in_ok-send.ensures.steps.ports ∙ ap (λ q. after_sent q c.args.roots.now) c.goes_out.ensures;
+      token_went = c.in_ok-send.ensures.steps.ports
+          ∙ ap (λ q. after_sent q c.args.roots.now) c.goes_out.ensures;
       payload = c.put_payload.ensures.value;
-      cleared = c.clears_change-exchange.ensures.clears ∙ ap (λ q. clears_at q c.send.new.roots) c.some_goes_out-data.ensures;
-      payload_heard = c.in_ok-send-2.ensures.steps.heard ∙ ap (λ q. both c.send.new.heard (heard_of (answers_to q c.send.new.roots))) c.some_goes_out-data.ensures;
-      payload_went = c.in_ok-send-2.ensures.steps.ports ∙ ap (λ q. after_sent q c.send.new.roots) c.some_goes_out-data.ensures;
+      cleared = c.clears_change-exchange.ensures.clears
+          ∙ ap (λ q. clears_at q c.send.new.roots) c.some_goes_out-data.ensures;
+      payload_heard = c.in_ok-send-2.ensures.steps.heard
+          ∙ ap (λ q. both c.send.new.heard (heard_of (answers_to q c.send.new.roots)))
+          c.some_goes_out-data.ensures;
+      payload_went = c.in_ok-send-2.ensures.steps.ports
+          ∙ ap (λ q. after_sent q c.send.new.roots) c.some_goes_out-data.ensures;
       answer = c.put_answer.ensures;
-      answer_mark = c.answer_mark-exchange.ensures ∙ ap (λ h. answer_mark h c.put_answer.new.answer) (c.harm_to.ensures ∙ ap (harm_to damage) c.answer_place-place.ensures.value);
-      reply = c.put_reply.ensures.value ∙ ap₂ (λ n o. marked_some damage (n + 1) a.pre o) c.answer_place-place.ensures.value c.is_acknowledged-acknowledged.ensures;
+      answer_mark = c.answer_mark-exchange.ensures
+          ∙ ap (λ h. answer_mark h c.put_answer.new.answer) (c.harm_to.ensures
+          ∙ ap (harm_to damage) c.answer_place-place.ensures.value);
+      reply = c.put_reply.ensures.value ∙ ap₂ (λ n o. marked_some damage (n + 1) a.pre o)
+          c.answer_place-place.ensures.value c.is_acknowledged-acknowledged.ensures;
       lost = c.in_ok-address_lost.ensures.lost;
       reply_went = c.in_ok-address_lost.ensures.ports;
     } in
@@ -57,30 +68,44 @@ pub returns-in_err-send-clause-stopped : goal.returns-in_err-send-clause-stopped
 returns-in_err-send-clause-stopped c =
     let a = c.args.attempt.now in
     let P : Option Sent → Type 0 = λ q. IsStopped q c.args.roots.now c.send.new.roots in
-    absurd (token_not_stopped a c.args.damage c.put_token.new.token c.args.roots.now c.send.new.roots c.put_token.ensures.value (subst P c.goes_out.ensures c.in_err-send.ensures.stopped))
+    absurd (token_not_stopped a c.args.damage c.put_token.new.token c.args.roots.now
+    c.send.new.roots c.put_token.ensures.value
+    (subst P c.goes_out.ensures c.in_err-send.ensures.stopped))
 
 pub returns-in_err-address_lost-clause-stopped : goal.returns-in_err-address_lost-clause-stopped
 returns-in_err-address_lost-clause-stopped c =
     let a = c.args.attempt.now in
     let n = c.answer_place-place.result + 1 in
-    let reply = c.put_reply.ensures.value ∙ ap (λ o. marked_some c.args.damage n a.pre o) c.is_acknowledged-acknowledged.ensures in
-    absurd (reply_not_stopped a c.args.damage n c.put_answer.new.answer c.answer_mark-exchange.result a.max c.put_reply.new.reply c.send-2.new.roots c.send_reply.new.roots reply
+    let reply = c.put_reply.ensures.value ∙ ap (λ o. marked_some c.args.damage n a.pre o)
+    c.is_acknowledged-acknowledged.ensures in
+    absurd (reply_not_stopped a c.args.damage n c.put_answer.new.answer
+    c.answer_mark-exchange.result a.max c.put_reply.new.reply c.send-2.new.roots
+    c.send_reply.new.roots reply
     c.in_err-address_lost.ensures.stopped)
 
 pub clears_change-exchange-requires : goal.clears_change-exchange-requires
 clears_change-exchange-requires c =
     let a = c.args.attempt.now in
-    alone_data _ _ _ c.send.ensures.alone (subst (IfOut IsDataOut) (sym (c.some_goes_out-data.ensures ∙ ap (goes_out a) c.put_payload.ensures.value)) (goes a c.args.damage c.args.roots.now).payload)
+    alone_data _ _ _ c.send.ensures.alone
+    (subst (IfOut IsDataOut) (sym (c.some_goes_out-data.ensures
+    ∙ ap (goes_out a) c.put_payload.ensures.value))
+    (goes a c.args.damage c.args.roots.now).payload)
 
 pub send-requires-2 : goal.send-requires-2
 send-requires-2 c =
     let a = c.args.attempt.now in
-    alone_data _ _ _ c.send.ensures.alone (subst (IfOut IsDataOut) (sym (c.some_goes_out-data.ensures ∙ ap (goes_out a) c.put_payload.ensures.value)) (goes a c.args.damage c.args.roots.now).payload)
+    alone_data _ _ _ c.send.ensures.alone
+    (subst (IfOut IsDataOut) (sym (c.some_goes_out-data.ensures
+    ∙ ap (goes_out a) c.put_payload.ensures.value))
+    (goes a c.args.damage c.args.roots.now).payload)
 
 pub send_reply-requires-clause-alone : goal.send_reply-requires-clause-alone
 send_reply-requires-clause-alone c =
     let a = c.args.attempt.now in
     let n = c.answer_place-place.result + 1 in
-    let reply = c.put_reply.ensures.value ∙ ap (λ o. marked_some c.args.damage n a.pre o) c.is_acknowledged-acknowledged.ensures in
+    let reply = c.put_reply.ensures.value ∙ ap (λ o. marked_some c.args.damage n a.pre o)
+    c.is_acknowledged-acknowledged.ensures in
     let P : Option Outgoing → Type 0 = λ o. IfOut IsAckOut (goes_out a o) in
-    alone_ack _ _ _ c.send-2.ensures.alone (subst P (sym reply) (reply_goes a c.args.damage n c.put_answer.new.answer c.answer_mark-exchange.result a.max))
+    alone_ack _ _ _ c.send-2.ensures.alone
+    (subst P (sym reply) (reply_goes a c.args.damage n c.put_answer.new.answer
+    c.answer_mark-exchange.result a.max))

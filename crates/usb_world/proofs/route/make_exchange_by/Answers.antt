@@ -7,7 +7,10 @@ pub returns-in-Nobody-clause-made : goal.returns-in-Nobody-clause-made
 returns-in-Nobody-clause-made c =
     let n = c.args.attempt.now.addr in
     silence_made c.args.attempt.now c.args.damage c.args.roots.now c.requires.settled
-    (nobody_there n c.args.roots.now (sym (c.requires.index.0 n (omega (arith, c.requires.attempt.addr_fits))) ∙ sym c.holder.ensures ∙ c.in-Nobody.is)) c.make_silence.new.exchange c.make_silence.ensures
+    (nobody_there n c.args.roots.now
+    (sym (c.requires.index.0 n (omega (arith, c.requires.attempt.addr_fits)))
+    ∙ sym c.holder.ensures ∙ c.in-Nobody.is)) c.make_silence.new.exchange
+    c.make_silence.ensures
 
 pub exchange_at-requires : goal.exchange_at-requires
 exchange_at-requires c =

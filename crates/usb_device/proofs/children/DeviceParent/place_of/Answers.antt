@@ -5,4 +5,9 @@ use Rattle.usb_device.proofs.children.DeviceParent.place_of.Goals as goal
 
 pub place_mut-requires : goal.place_mut-requires
 place_mut-requires c =
-    omega (arith, c.from.ensures, child-within c.args.self.now.ports c.args.port c.requires, ap (λ t. length (row_of t.ports)) c.self.view_is)
+    omega (
+      arith,
+      c.from.ensures,
+      child-within c.args.self.now.ports c.args.port c.requires,
+      ap (λ t. length (row_of t.ports)) c.self.view_is,
+    )

@@ -5,5 +5,6 @@ use Rattle.usb_far.proofs.far_end.FarEnd.attempt.Goals as goal
 
 pub returns-clause-done : goal.returns-clause-done
 returns-clause-done g c =
-    played_attempt c.args.attempt.now (played_of c.args.self.now) _ _ _ _ _ _ _ c.in-Ok.ensures.attempts c.answer_of.ensures c.is_poll-poll.ensures
+    played_attempt c.args.attempt.now (played_of c.args.self.now) _ _ _ _ _ _ _
+    c.in-Ok.ensures.attempts c.answer_of.ensures c.is_poll-poll.ensures
     c.events_taken-taken.ensures c.events_taken.ensures c.came_in-self.ensures refl

@@ -4,4 +4,5 @@ use Rattle.usb_far.proofs.Deeds.{port_called}
 use Rattle.usb_far.proofs.far_end.FarEnd.call.Goals as goal
 
 pub returns-clause-done : goal.returns-clause-done
-returns-clause-done g c = port_called c.args.number c.args.call (played_of c.args.self.now) _ c.call_root.ensures.world refl c.call_root.ensures.silent
+returns-clause-done g c = port_called c.args.number c.args.call (played_of c.args.self.now) _
+    c.call_root.ensures.world refl c.call_root.ensures.silent

@@ -17,8 +17,14 @@ returns-then-self-clause-tells g c known = record {
   stopped = returns-then-self-clause-stopped g c;
   went = (host_goes_none clear_bound c.args.self.now).went;
   told = tt;
-  did = λ running. absurd (false≢true (sym running ∙ ap (λ (h : HostState). h.stopped) (sym c.self.view_is) ∙ c.if-self.true));
-  keeps = record { owning = λ o. o; sound = sound_none _; backlog = λ still. all_none c.args.self.now.world };
+  did = λ running. absurd (false≢true (sym running
+      ∙ ap (λ (h : HostState). h.stopped) (sym c.self.view_is) ∙ c.if-self.true));
+  keeps = record {
+    owning = λ o. o;
+    sound = sound_none _;
+    backlog =
+        λ still. all_none c.args.self.now.world;
+  };
 }
 
 pub returns-clause-stopped : goal.returns-clause-stopped
@@ -31,8 +37,11 @@ returns-clause-tells g c known = record {
   told = first_of (search rules, grind (arith, common_steps));
   did = first_of (search rules, grind (arith, common_steps));
   keeps = rw (← c.self.view_is) (record {
-    owning = owning_kept _ _ c.if-self.false c.clear_halt.ensures.through.entries (c.clear_halt.ensures.clears known).keeps.worlds.addresses;
-    sound = sound_kept _ _ _ _ _ c.self.invariant c.clear_halt.ensures.through.entries (c.clear_halt.ensures.clears known).went (c.clear_halt.ensures.clears known).keeps (λ still. still);
+    owning = owning_kept _ _ c.if-self.false c.clear_halt.ensures.through.entries
+        (c.clear_halt.ensures.clears known).keeps.worlds.addresses;
+    sound = sound_kept _ _ _ _ _ c.self.invariant c.clear_halt.ensures.through.entries
+        (c.clear_halt.ensures.clears known).went (c.clear_halt.ensures.clears known).keeps
+        (λ still. still);
     backlog = (c.clear_halt.ensures.clears known).keeps.worlds.backlog;
   });
 }

@@ -7,7 +7,7 @@ pub returns-then-asked-clause-clears : goal.returns-then-asked-clause-clears
 returns-then-asked-clause-clears g c known =
     let s = c.clear_port_change.ensures in
     rw (← c.self.view_is) (others_by c.args.port c.args.feature _ _ c.clear_port_change.result
-    c.at_port.result (s.went known) refl (s.fault known) (s.cleared known) (s.addresses known)
+    c.at_port.result (s.steps known) refl (s.fault known) (s.cleared known) (s.addresses known)
     (s.devices known) c.at_port.ensures)
 
 pub returns-else-asked-clause-clears : goal.returns-else-asked-clause-clears

@@ -18,5 +18,5 @@ returns-in-External-clause-clears g c known =
     let s = c.clear_hub_changes.ensures in
     rw (c.in-External.is, ← c.self.view_is) (own_by _ _ _ c.clear_hub_changes.result
     c.at_port.result tt (own_goes c.in-External.hub c.in-External.port _ _
-    (subst IsAskable c.in-External.is c.requires.askable) (s.went known) refl) (s.fault known)
+    (subst IsAskable c.in-External.is c.requires.askable) (s.steps known) refl) (s.fault known)
     (s.addresses known) c.at_port.ensures)

@@ -16,14 +16,19 @@ pub invariant_of-self-2 : goal.invariant_of-self-2
 invariant_of-self-2 g c =
     let path = c.args.path.now in
     let finding = c.in_ok-finding.finding in
-    let away = subst (λ (h : HostState). has_at path h.entries ≡ false) (sym c.self.view_is) c.requires.away in
-    let known = subst (λ (h : HostState). known_port path h.entries ≡ Some c.args.port) (sym c.self.view_is) c.requires.port.known in
+    let away = subst (λ (h : HostState). has_at path h.entries ≡ false) (sym c.self.view_is)
+    c.requires.away in
+    let known = subst (λ (h : HostState). known_port path h.entries ≡ Some c.args.port)
+    (sym c.self.view_is) c.requires.port.known in
     let claims = c.in_ok-finding.ensures.pool in
     rw (c.in_ok-enter.ensures.ok.0, c.duplicate.ensures, c.in_ok-enter.ensures.ok.1) (record {
       rises = rises_entered path finding c.self.inside.table.entries c.self.invariant.rises;
-      range = range_claimed finding c.self.inside.pool c.enumerate.new.pool claims c.self.invariant.range;
-      accounts = accounts_entered path finding c.self.inside.table.entries c.self.inside.pool c.enumerate.new.pool c.self.invariant.accounts away claims;
-      nested = nested_entered path finding c.self.inside.table.entries c.requires.port.is away (known_some path c.self.inside.table.entries c.args.port known) c.self.invariant.nested;
+      range = range_claimed finding c.self.inside.pool c.enumerate.new.pool claims
+          c.self.invariant.range;
+      accounts = accounts_entered path finding c.self.inside.table.entries c.self.inside.pool
+          c.enumerate.new.pool c.self.invariant.accounts away claims;
+      nested = nested_entered path finding c.self.inside.table.entries c.requires.port.is away
+          (known_some path c.self.inside.table.entries c.args.port known) c.self.invariant.nested;
     })
 
 pub returns-in_err-finding-clause-finds : goal.returns-in_err-finding-clause-finds

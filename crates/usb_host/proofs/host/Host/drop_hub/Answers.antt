@@ -19,12 +19,14 @@ pub invariant_of-self-2 : goal.invariant_of-self-2
 invariant_of-self-2 g c =
     let path = c.in_ok-lost.lost in
     let f = c.forget.ensures in
-    let away = subst (λ (h : HostState). has_at path h.entries ≡ false) (sym c.self.view_is) f.gone in
+    let away = subst (λ (h : HostState). has_at path h.entries ≡ false) (sym c.self.view_is)
+    f.gone in
     let left : c.self.inside.table.entries ≡ without path c.args.self.now.entries =
     ap (λ (h : HostState). h.entries) c.self.view_is ∙ f.rest
     ∙ ap (λ (h : HostState). without path h.entries) c.in_ok-lost.ensures.rests in
     let known = subst (λ (es : Entries). IsSome (known_port path es)) (sym left)
-    (subst IsSome (sym (known_port-without path c.args.self.now.entries)) c.in_ok-lost.ensures.ends) in
+    (subst IsSome (sym (known_port-without path c.args.self.now.entries)) c.in_ok-lost.ensures.ends)
+    in
     rw c.in_ok-insert.ensures.ok (record {
       rises = rises_entered path (Refused Lost) c.self.inside.table.entries c.self.invariant.rises;
       range = c.self.invariant.range;
@@ -63,7 +65,8 @@ returns-clause-drops g c known =
       addresses = c.self.inside.pool;
     }) c.self.view_is in
     let table = c.in_ok-insert.ensures.ok
-    ∙ ap (λ (h : HostState). entered c.in_ok-lost.lost (Refused Lost) (table_in h)) c.self.view_is in
+    ∙ ap (λ (h : HostState). entered c.in_ok-lost.lost (Refused Lost) (table_in h))
+    c.self.view_is in
     drop_done c.args.hub c.in_ok-lost.lost c.args.self.now c.disable_upward.new.self
     c.forget.new.self _ c.in_ok-lost.ensures.rests (c.in_ok-lost.ensures.climbs known)
     c.forget.ensures others c.numbers-numbers.ensures.path table

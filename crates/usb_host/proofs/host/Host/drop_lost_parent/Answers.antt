@@ -16,14 +16,16 @@ pub returns-in-Err-Bus-clause-finishes : goal.returns-in-Err-Bus-clause-finishes
 returns-in-Err-Bus-clause-finishes g c known =
     let fault : c.in-Err-Bus.field-0 ≡ Bus c.in-Err-Bus.fault =
     rw c.in-Err-Bus.is at c.in-Err-Bus.field-0-is in
-    rw (c.in-Err-Bus.is, fault) (finish_fails c.args.path.now _ _ c.args.self.now (λ is. absurd (cc is))
+    rw (c.in-Err-Bus.is, fault) (finish_fails c.args.path.now _ _ c.args.self.now
+    (λ is. absurd (cc is))
     (λ single. single) tt)
 
 pub returns-in-Err-Memory-clause-finishes : goal.returns-in-Err-Memory-clause-finishes
 returns-in-Err-Memory-clause-finishes g c known =
     let fault : c.in-Err-Memory.field-0 ≡ Memory =
     rw c.in-Err-Memory.is at c.in-Err-Memory.field-0-is in
-    rw (c.in-Err-Memory.is, fault) (finish_fails c.args.path.now _ _ c.args.self.now (λ is. absurd (cc is))
+    rw (c.in-Err-Memory.is, fault) (finish_fails c.args.path.now _ _ c.args.self.now
+    (λ is. absurd (cc is))
     (λ single. single) tt)
 
 pub returns-in-Some-clause-finishes : goal.returns-in-Some-clause-finishes

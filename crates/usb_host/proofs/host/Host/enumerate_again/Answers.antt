@@ -7,7 +7,8 @@ use Rattle.usb_host.proofs.host.Host.enumerate_again.Goals as goal
 pub renew-requires : goal.renew-requires
 renew-requires g c =
     placed_on _ clearing_bound c.args.path.now c.args.port c.args.self.now c.clear_change.new.self
-    c.in_ok-status.ensures.rests (λ known. (c.clear_change.ensures.clears known).requested.goes.went)
+    c.in_ok-status.ensures.rests (λ known.
+    (c.clear_change.ensures.clears known).requested.goes.went)
     c.requires
 
 pub returns-in_err-status : goal.returns-in_err-status

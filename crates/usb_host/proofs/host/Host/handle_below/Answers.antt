@@ -1,4 +1,5 @@
-use Rattle.std.proofs.Common.{◌≡◌, ◌∙◌, ap, refl, sym, subst, ◌++◌, ◌∷◌, [], length, ℕ, List, ◌<◌, None, Some}
+use Rattle.std.proofs.Common.{◌≡◌, ◌∙◌, ap, refl, sym, subst, ◌++◌, ◌∷◌, [], length, ℕ, List, ◌<◌}
+use Rattle.std.proofs.Common.{None, Some}
 use Rattle.std.specs.Prelude.{IsSome, IsTrue}
 use Rattle.usb_port.specs.Order.{parent_of}
 use Rattle.usb_port.specs.Path.{IsPortNumber}

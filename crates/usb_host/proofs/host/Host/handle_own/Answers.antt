@@ -10,6 +10,8 @@ drop_lost_parent-requires g c known =
 pub returns-clause-serves : goal.returns-clause-serves
 returns-clause-serves g c known =
     own_finished c.args.path.now c.args.port c.args.self.now c.clear_own-cleared.new.self
-    c.drop_lost_parent.new.self (placed known c.requires) c.clear_own-cleared.result c.drop_lost_parent.result
-    c.drop_lost_parent.ensures.ends (c.drop_lost_parent.ensures.finishes known) c.clear_own-cleared.ensures.rests
+    c.drop_lost_parent.new.self (placed known c.requires) c.clear_own-cleared.result
+    c.drop_lost_parent.result
+    c.drop_lost_parent.ensures.ends (c.drop_lost_parent.ensures.finishes known)
+    c.clear_own-cleared.ensures.rests
     (c.clear_own-cleared.ensures.clears known)

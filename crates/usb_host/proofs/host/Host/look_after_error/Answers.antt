@@ -21,7 +21,8 @@ returns-in_err-status-clause-looks g c known =
 
 pub returns-clause-looks : goal.returns-clause-looks
 returns-clause-looks g c known =
-    error_look_done c.args.path.now c.args.port c.args.self.now c.clear_error.new.self c.renew.new.self
+    error_look_done c.args.path.now c.args.port c.args.self.now c.clear_error.new.self
+    c.renew.new.self
     c.renew.result c.in_ok-status.status (placed known c.requires) c.in_ok-status.ensures.rests
     (c.in_ok-status.ensures.clears known) (c.renew.ensures.renews known)
 

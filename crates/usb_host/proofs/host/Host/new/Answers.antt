@@ -3,7 +3,8 @@ use Rattle.usb_request.specs.Features.{PORT_POWER}
 use Rattle.usb_world.specs.World.{World, roots_of}
 use Rattle.usb_bus.specs.Traces.{Traced, still}
 use Rattle.usb_bus.proofs.Interface.{traced_set}
-use Rattle.usb_host.proofs.parts.Powers.{powered_none, powered_length, powers_one, powered_all, powered_world}
+use Rattle.usb_host.proofs.parts.Powers.{powered_none, powered_length, powers_one, powered_all}
+use Rattle.usb_host.proofs.parts.Powers.{powered_world}
 use Rattle.usb_host.proofs.entries.Agreements.{nested_none}
 use Rattle.usb_host.proofs.entries.RisingEntries.{rises_none}
 use Rattle.usb_host.proofs.entries.Balances.{accounts_none, range_none}
@@ -14,12 +15,24 @@ use Rattle.usb_host.specs.Soundness.{HostInvariant}
 use Rattle.usb_host.proofs.host.Host.new.Goals as goal
 
 pub ports-init : goal.ports-init
-ports-init g c = record { powered = λ known. powered_none _; traced = λ known. still; silent = λ known. refl }
+ports-init g c = record {
+  powered = λ known. powered_none _;
+  traced = λ known. still;
+  silent =
+      λ known. refl;
+}
 
 pub root_set-requires-clause-port : goal.root_set-requires-clause-port
 root_set-requires-clause-port g c known =
-    let len = powered_length _ _ _ (c.ports.invariant.powered known) in
-    (c.ports.auto.port, omega (arith, c.ports-test.true, c.root_ports-roots.ensures.count known, len))
+    let len = powered_length _ _ _ (c.ports.invariant.powered known) in (
+      c.ports.auto.port,
+      omega (
+        arith,
+        c.ports-test.true,
+        c.root_ports-roots.ensures.count known,
+        len,
+      ),
+    )
 
 pub ports-preserved : goal.ports-preserved
 ports-preserved g c =
@@ -27,24 +40,45 @@ ports-preserved g c =
     let port : ℕ = c.ports.port in
     let back : port ≡ (port + 1) - 1 = omega arith in
     record {
-      powered = λ known. powers_one w0 _ _ port c.ports.auto.port (c.ports.invariant.powered known) (c.root_set.ensures.call known) ∙ ap (λ k. powered_world k w0) back;
-      traced = λ known. traced_set c.ports.port PORT_POWER refl (c.ports.invariant.traced known) (c.root_set.ensures.call known) (c.root_set.ensures.silent known);
+      powered = λ known. powers_one w0 _ _ port c.ports.auto.port (c.ports.invariant.powered known)
+          (c.root_set.ensures.call known) ∙ ap (λ k. powered_world k w0) back;
+      traced = λ known. traced_set c.ports.port PORT_POWER refl (c.ports.invariant.traced known)
+          (c.root_set.ensures.call known) (c.root_set.ensures.silent known);
       silent = λ known. c.root_set.ensures.silent known ∙ (c.ports.invariant.silent known);
     }
 
 pub invariant_of-result : goal.invariant_of-result
-invariant_of-result g c = rw (c.new-2.ensures, c.new.ensures.empty) (record { rises = rises_none; range = range_none; accounts = accounts_none; nested = nested_none })
+invariant_of-result g c = rw (c.new-2.ensures, c.new.ensures.empty)
+    (record {
+      rises = rises_none;
+      range = range_none;
+      accounts = accounts_none;
+      nested =
+          nested_none;
+    })
 
 pub returns : goal.returns
 returns g c known =
     let w0 : World = g.B.Bus.world c.args.bus in
     let t0 = g.B.Bus.trace c.args.bus in
-    let all : c.ports.port - 1 ≡ roots_of w0 = omega (arith, c.ports-test.false, c.ports.auto.port-end, c.root_ports-roots.ensures.count known, c.root_ports-roots.ensures.least) in
-    let opens = powered_is_opening w0 _ _ _ _ _ (powered_all w0 _ (c.ports.port - 1) all (c.ports.invariant.powered known)) (c.ports.invariant.silent known) c.new-2.ensures c.new.ensures.empty in
+    let all : c.ports.port - 1 ≡ roots_of w0 =
+    omega (
+      arith,
+      c.ports-test.false,
+      c.ports.auto.port-end,
+      c.root_ports-roots.ensures.count
+          known,
+      c.root_ports-roots.ensures.least,
+    ) in
+    let opens = powered_is_opening w0 _ _ _ _ _
+    (powered_all w0 _ (c.ports.port - 1) all (c.ports.invariant.powered known))
+    (c.ports.invariant.silent known) c.new-2.ensures c.new.ensures.empty in
     record {
       opens = opens;
       traced = c.ports.invariant.traced known;
       owning = λ untouched. subst HostMapHolds (sym opens) (owning_opening w0 t0 untouched);
       sound = λ untouched unpowered.
-          subst HostInvariant (sym opens) (sound_opening w0 t0 (subst (λ (h : HostState). Traced w0 t0 h.world h.trace) opens (c.ports.invariant.traced known)) untouched unpowered);
+          subst HostInvariant (sym opens) (sound_opening w0 t0
+          (subst (λ (h : HostState). Traced w0 t0 h.world h.trace) opens
+          (c.ports.invariant.traced known)) untouched unpowered);
     }

@@ -5,7 +5,9 @@ use Rattle.usb_host.proofs.host.Host.new.Given as goal
 
 abbrev pub invariant-ports : goal.invariant-ports
 invariant-ports g l = record {
-  powered : g.B.Bus.modelled ≡ true → g.B.Bus.world l.bus ≡ powered_world (l.port - 1) (g.B.Bus.world l.initial.bus);
-  traced : g.B.Bus.modelled ≡ true → Traced (g.B.Bus.world l.initial.bus) (g.B.Bus.trace l.initial.bus) (g.B.Bus.world l.bus) (g.B.Bus.trace l.bus);
+  powered : g.B.Bus.modelled ≡ true → g.B.Bus.world l.bus ≡ powered_world (l.port - 1)
+      (g.B.Bus.world l.initial.bus);
+  traced : g.B.Bus.modelled ≡ true → Traced (g.B.Bus.world l.initial.bus)
+      (g.B.Bus.trace l.initial.bus) (g.B.Bus.world l.bus) (g.B.Bus.trace l.bus);
   silent : g.B.Bus.modelled ≡ true → g.B.Bus.trace l.bus ≡ g.B.Bus.trace l.initial.bus;
 }

@@ -14,7 +14,8 @@ returns-in_default-clause-looks g c known =
 pub returns-in_err-drop_lost_parent-clause-looks : goal.returns-in_err-drop_lost_parent-clause-looks
 returns-in_err-drop_lost_parent-clause-looks g c known =
     look_once_fails c.args.path.now c.in-Some.port c.args.self.now c.enumerate_again-looked.new.self
-    c.drop_lost_parent.new.self (placed known c.in-Some.ensures.some) c.enumerate_again-looked.result
+    c.drop_lost_parent.new.self (placed known c.in-Some.ensures.some)
+    c.enumerate_again-looked.result
     c.in_err-drop_lost_parent.field-0.0 c.in_err-drop_lost_parent.ensures.ends
     (c.in_err-drop_lost_parent.ensures.finishes known) (c.enumerate_again-looked.ensures known)
     c.from_residual.result c.from_residual.ensures.0
@@ -22,6 +23,8 @@ returns-in_err-drop_lost_parent-clause-looks g c known =
 pub returns-clause-looks : goal.returns-clause-looks
 returns-clause-looks g c known =
     look_once c.args.path.now c.in-Some.port c.args.self.now c.enumerate_again-looked.new.self
-    c.drop_lost_parent.new.self (placed known c.in-Some.ensures.some) c.enumerate_again-looked.result
-    c.in_ok-drop_lost_parent.ensures.ends (c.in_ok-drop_lost_parent.ensures.finishes known) c.requires
+    c.drop_lost_parent.new.self (placed known c.in-Some.ensures.some)
+    c.enumerate_again-looked.result
+    c.in_ok-drop_lost_parent.ensures.ends (c.in_ok-drop_lost_parent.ensures.finishes known)
+    c.requires
     (c.enumerate_again-looked.ensures known)

@@ -24,7 +24,12 @@ returns-then-self-clause-tells g c known = record {
   went = (host_goes_none round_bound c.args.self.now).went;
   told = tt;
   did = tt;
-  keeps = record { owning = λ o. o; sound = record { keeps = tt; rest = λ s is. absurd (cc is) }; pays = λ w plan x. stopped_pays w plan _ c.args.self.now; rests = λ entries none. refl };
+  keeps = record {
+    owning = λ o. o;
+    sound = record { keeps = tt; rest = λ s is. absurd (cc is) };
+    pays = λ w plan x. stopped_pays w plan _ c.args.self.now;
+    rests = λ entries none. refl;
+  };
 }
 
 pub returns-clause-stopped : goal.returns-clause-stopped
@@ -39,7 +44,11 @@ returns-clause-tells g c known =
     let stopped = c.is_err-self-inside.result in
     let going = ap (λ (h : HostState). h.stopped) (sym c.self.view_is) ∙ c.if-self.false in
     let value = c.is_err-self-inside.ensures.value in
-    let sound : RoundsSound a result b = record { keeps = x.keeps.part.sound; rest = x.keeps.rest } in
+    let sound : RoundsSound a result b = record {
+      keeps = x.keeps.part.sound;
+      rest =
+          x.keeps.rest;
+    } in
     record {
       stopped = returns-clause-stopped g c;
       went = subst (λ (h : HostState). HostSteps round_bound a h) (sym c.self-2.view_is)

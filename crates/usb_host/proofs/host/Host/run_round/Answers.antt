@@ -1,4 +1,5 @@
-use Rattle.usb_host.proofs.services.RoundServices.{parts_hubless, parts_lookless, parts_made, parts_rootless}
+use Rattle.usb_host.proofs.services.RoundServices.{parts_hubless, parts_lookless, parts_made}
+use Rattle.usb_host.proofs.services.RoundServices.{parts_rootless}
 use Rattle.usb_host.proofs.host.Host.run_round.Goals as goal
 
 pub returns-in_err-roots-clause-parts : goal.returns-in_err-roots-clause-parts

@@ -28,7 +28,8 @@ pub returns-then-status : goal.returns-then-status
 returns-then-status g c known =
     serve_looked c.args.path.now c.args.port c.args.self.now c.status.new.self
     (placed known c.requires) c.in_ok-status.ensures.rests c.in_ok-status.status
-    (c.in_ok-status.ensures.shows known) c.if-status.true c.enumerate_again.result c.enumerate_again.new.self
+    (c.in_ok-status.ensures.shows known) c.if-status.true c.enumerate_again.result
+    c.enumerate_again.new.self
     (c.enumerate_again.ensures known)
 
 pub returns-then-has_failed : goal.returns-then-has_failed

@@ -10,7 +10,8 @@ pub hubs-init : goal.hubs-init
 hubs-init g c = record { so = λ known. hubs_begin _; idle = λ none. (refl, refl); path = tt }
 
 pub serve_hub-requires : goal.serve_hub-requires
-serve_hub-requires g c = next_listed c.hubs.last c.in-Some.hub c.hubs.self.entries c.in-Some.ensures.some
+serve_hub-requires g c = next_listed c.hubs.last c.in-Some.hub c.hubs.self.entries
+    c.in-Some.ensures.some
 
 pub hubs-smaller : goal.hubs-smaller
 hubs-smaller g c =

@@ -1,8 +1,10 @@
 use Rattle.std.proofs.Common.{arith}
 use Rattle.usb_host.proofs.services.HubServices.{bit_not, bit_so}
-use Rattle.usb_host.proofs.RoundLoops.{ports_begin, ports_clear, ports_cut, ports_end, ports_handled}
+use Rattle.usb_host.proofs.RoundLoops.{ports_begin, ports_clear, ports_cut, ports_end}
+use Rattle.usb_host.proofs.RoundLoops.{ports_handled}
 use Rattle.usb_host.proofs.host.Host.serve_ports.Goals as goal
-use Rattle.usb_host.proofs.host.Host.serve_ports.Goals.{then-bits-number-eq1+in_ok-handle_below, else-bits-number-eq1}
+use Rattle.usb_host.proofs.host.Host.serve_ports.Goals.{then-bits-number-eq1+in_ok-handle_below}
+use Rattle.usb_host.proofs.host.Host.serve_ports.Goals.{else-bits-number-eq1}
 
 pub ports-init : goal.ports-init
 ports-init g c = record { so = λ known. ports_begin _ _ _ }

@@ -1,9 +1,11 @@
 use Rattle.std.proofs.Common.{◌∙◌, ap, arith, sym}
 use Rattle.usb_world.specs.World.{roots_of}
 use Rattle.usb_host.specs.HostState.{HostState}
-use Rattle.usb_host.proofs.RoundLoops.{roots_begin, roots_cut, roots_end, roots_handled, roots_steady}
+use Rattle.usb_host.proofs.RoundLoops.{roots_begin, roots_cut, roots_end, roots_handled}
+use Rattle.usb_host.proofs.RoundLoops.{roots_steady}
 use Rattle.usb_host.proofs.host.Host.serve_roots.Goals as goal
-use Rattle.usb_host.proofs.host.Host.serve_roots.Goals.{then-has_changed+in_ok-handle_root, else-has_changed}
+use Rattle.usb_host.proofs.host.Host.serve_roots.Goals.{then-has_changed+in_ok-handle_root}
+use Rattle.usb_host.proofs.host.Host.serve_roots.Goals.{else-has_changed}
 
 pub ports-init : goal.ports-init
 ports-init g c = record { so = λ known. roots_begin _ }

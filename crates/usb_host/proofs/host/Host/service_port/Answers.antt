@@ -10,5 +10,7 @@ drop_lost_parent-requires g c known =
 pub returns-clause-handles : goal.returns-clause-handles
 returns-clause-handles g c known =
     handle_finished c.args.path.now c.args.port c.args.self.now c.serve-served.new.self
-    c.drop_lost_parent.new.self (placed known c.requires) c.serve-served.result c.drop_lost_parent.result
-    c.drop_lost_parent.ensures.ends (c.drop_lost_parent.ensures.finishes known) (c.serve-served.ensures known)
+    c.drop_lost_parent.new.self (placed known c.requires) c.serve-served.result
+    c.drop_lost_parent.result
+    c.drop_lost_parent.ensures.ends (c.drop_lost_parent.ensures.finishes known)
+    (c.serve-served.ensures known)

@@ -2,14 +2,18 @@ use Rattle.std.proofs.lemmas.Result.{err_from_is_err_and}
 use Rattle.usb_host.proofs.PortRequests.{port_settled, settled_fails}
 use Rattle.usb_host.proofs.host.Host.settle.Goals as goal
 
-pub returns-in_err-clear_other_changes-clause-settles : goal.returns-in_err-clear_other_changes-clause-settles
+pub returns-in_err-clear_other_changes-clause-settles :
+    goal.returns-in_err-clear_other_changes-clause-settles
 returns-in_err-clear_other_changes-clause-settles g c known =
     let told = err_from_is_err_and c.from_residual.result c.from_residual.ensures.1 in
-    rw (told.1, told.2) (settled_fails c.args.port c.args.status c.args.self.now c.clear_other_changes.new.self
+    rw (told.1, told.2) (settled_fails c.args.port c.args.status c.args.self.now
+    c.clear_other_changes.new.self
     c.in_err-clear_other_changes.field-0.0 (c.in_err-clear_other_changes.ensures.tidies known))
 
 pub returns-clause-settles : goal.returns-clause-settles
 returns-clause-settles g c known =
-    port_settled c.args.port c.args.status c.args.self.now c.clear_other_changes.new.self c.clear_others.new.self
-    c.clear_others.result (c.in_ok-clear_other_changes.ensures.tidies known) (c.clear_others.ensures.clears known)
+    port_settled c.args.port c.args.status c.args.self.now c.clear_other_changes.new.self
+    c.clear_others.new.self
+    c.clear_others.result (c.in_ok-clear_other_changes.ensures.tidies known)
+    (c.clear_others.ensures.clears known)
     c.clear_others.ensures.none

@@ -6,5 +6,5 @@ pub returns-clause-shows : goal.returns-clause-shows
 returns-clause-shows g c known =
     let s = c.port_status.ensures in
     rw (← c.self.view_is) (shows c.args.port _ _ c.port_status.result c.at_port.result
-    c.requires.askable (s.went known) refl (s.fault known) (s.status known) (s.told known)
+    c.requires.askable (s.steps known) refl (s.fault known) (s.status known) (s.told known)
     (s.addresses known) c.at_port.ensures)

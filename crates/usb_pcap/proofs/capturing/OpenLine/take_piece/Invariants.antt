@@ -5,5 +5,7 @@ use Rattle.usb_pcap.proofs.capturing.OpenLine.take_piece.Given as goal
 
 -- the bytes so far are taken
 abbrev pub invariant-bytes : goal.invariant-bytes
-invariant-bytes g l = (w : Option (List ℕ)) (text : List ℕ) → StandsBehind w (g.W.Write.contents (inner_of l.fn.writer)) text l.fn.self
-    → StandsBehind w (g.W.Write.contents (inner_of l.writer)) (text ++ take l.byte-index l.piece) l.self
+invariant-bytes g l = (w : Option (List ℕ)) (text : List ℕ)
+    → StandsBehind w (g.W.Write.contents (inner_of l.fn.writer)) text l.fn.self
+    → StandsBehind w (g.W.Write.contents (inner_of l.writer)) (text ++ take l.byte-index l.piece)
+    l.self

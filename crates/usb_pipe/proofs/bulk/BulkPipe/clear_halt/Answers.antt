@@ -7,4 +7,8 @@ pub returns-in-Halted-clause-transfer : goal.returns-in-Halted-clause-transfer
 returns-in-Halted-clause-transfer g c known = clear_told _ _ _ _ _ (search rules)
 
 pub returns-in-Ready : goal.returns-in-Ready
-returns-in-Ready g c = record { same = refl; went = λ known. went_wider 0 _ went_none (omega arith); transfer = λ known. clear_told _ _ _ _ _ (search rules) }
+returns-in-Ready g c = record {
+  same = refl;
+  steps = λ known. went_wider 0 _ went_none (omega arith);
+  transfer = λ known. clear_told _ _ _ _ _ (search rules);
+}

@@ -9,7 +9,19 @@ returns-clause-transfer g c known = receive_told _ _ _ _ _ _ (subst (λ p. 1 ≤
     (search rules) (g.met.B.Bus.settled known c.args.bus.now))
 
 pub returns-then-is_broken : goal.returns-then-is_broken
-returns-then-is_broken g c = record { same = refl; went = λ known. went_wider 0 _ went_none (omega arith); transfer = λ known. receive_told _ _ _ _ _ _ (subst (λ p. 1 ≤ p.max) c.self.view_is c.self.invariant.least) (search rules) }
+returns-then-is_broken g c = record {
+  same = refl;
+  steps = λ known. went_wider 0 _ went_none (omega arith);
+  transfer =
+      λ known. receive_told _ _ _ _ _ _ (subst (λ p. 1 ≤ p.max) c.self.view_is
+      c.self.invariant.least) (search rules);
+}
 
 pub returns-then-packets-eq0 : goal.returns-then-packets-eq0
-returns-then-packets-eq0 g c = record { same = refl; went = λ known. went_wider 0 _ went_none (omega arith); transfer = λ known. receive_told _ _ _ _ _ _ (subst (λ p. 1 ≤ p.max) c.self.view_is c.self.invariant.least) (search rules) }
+returns-then-packets-eq0 g c = record {
+  same = refl;
+  steps = λ known. went_wider 0 _ went_none (omega arith);
+  transfer =
+      λ known. receive_told _ _ _ _ _ _ (subst (λ p. 1 ≤ p.max) c.self.view_is
+      c.self.invariant.least) (search rules);
+}

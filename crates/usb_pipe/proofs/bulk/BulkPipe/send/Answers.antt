@@ -9,7 +9,17 @@ returns-clause-transfer g c known = send_told _ _ _ _ _ _ (sends_by _ _ _ _ _ _ 
     (search rules) (search rules) (search rules) (g.met.B.Bus.settled known c.args.bus.now))
 
 pub returns-then-is_broken : goal.returns-then-is_broken
-returns-then-is_broken g c = record { same = refl; went = λ known. went_wider 0 _ went_none (omega arith); transfer = λ known. send_told _ _ _ _ _ _ (search rules) }
+returns-then-is_broken g c = record {
+  same = refl;
+  steps = λ known. went_wider 0 _ went_none (omega arith);
+  transfer =
+      λ known. send_told _ _ _ _ _ _ (search rules);
+}
 
 pub returns-then-is_empty : goal.returns-then-is_empty
-returns-then-is_empty g c = record { same = refl; went = λ known. went_wider 0 _ went_none (omega arith); transfer = λ known. send_told _ _ _ _ _ _ (grind (arith, common_steps)) }
+returns-then-is_empty g c = record {
+  same = refl;
+  steps = λ known. went_wider 0 _ went_none (omega arith);
+  transfer =
+      λ known. send_told _ _ _ _ _ _ (grind (arith, common_steps));
+}

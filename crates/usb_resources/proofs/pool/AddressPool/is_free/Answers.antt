@@ -15,4 +15,5 @@ returns-clause-free c =
     )
 
 pub returns-clause-range : goal.returns-clause-range
-returns-clause-range c = subst HasAddresses c.self.view_is (has_addresses c.self.inside.taken c.self.told c.self.invariant.1)
+returns-clause-range c = subst HasAddresses c.self.view_is
+    (has_addresses c.self.inside.taken c.self.told c.self.invariant.1)

@@ -7,4 +7,6 @@ use Rattle.usb_resources.proofs.pool.AddressPool.is_full.Goals as goal
 pub returns : goal.returns
 returns c =
     let least = c.least_unset.ensures in
-    subst (λ taken. IsTrue c.is_none.result ↔ IsFull taken) c.self.view_is (none_unset c.self.inside.taken c.least_unset.result c.is_none.result c.is_none.ensures least.some least.none)
+    subst (λ taken. IsTrue c.is_none.result ↔ IsFull taken) c.self.view_is
+    (none_unset c.self.inside.taken c.least_unset.result c.is_none.result c.is_none.ensures
+    least.some least.none)

@@ -6,7 +6,8 @@ use Rattle.usb_run.proofs.runs.Runner.finish.Given as goal
 
 -- the run so far, and its items, where what its host knew was so
 abbrev pub invariant-items : goal.invariant-items
-invariant-items g l = (l.fn.self.over ≡ false → Knows l.fn.self.host) → ReportSoFar l.fn.self.over l.fn.self.host l.items.items l.self.over l.self.host
+invariant-items g l = (l.fn.self.over ≡ false → Knows l.fn.self.host)
+    → ReportSoFar l.fn.self.over l.fn.self.host l.items.items l.self.over l.self.host
 
 -- items to come
 abbrev pub decreases-items : goal.decreases-items

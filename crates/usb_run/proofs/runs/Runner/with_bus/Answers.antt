@@ -9,8 +9,10 @@ use Rattle.usb_run.proofs.runs.Runner.with_bus.Goals as goal
 pub invariant_of-result : goal.invariant_of-result
 invariant_of-result g c = record {
   running = λ _. ap (λ (h : HostState). h.stopped) (c.new.ensures refl).opens;
-  owning = (c.new.ensures refl).owning (subst IsUntouched (sym c.requires) (untouched c.args.plan.now));
-  few_events = subst (λ (h : HostState). h.world.taken + to_come h.world ≤ 10000) (sym (c.new.ensures refl).opens) c.args.bus.few_events;
+  owning = (c.new.ensures refl).owning (subst IsUntouched (sym c.requires)
+      (untouched c.args.plan.now));
+  few_events = subst (λ (h : HostState). h.world.taken + to_come h.world ≤ 10000)
+      (sym (c.new.ensures refl).opens) c.args.bus.few_events;
 }
 
 pub returns-clause-opened : goal.returns-clause-opened
@@ -23,6 +25,7 @@ pub returns-clause-begun : goal.returns-clause-begun
 returns-clause-begun g c =
     let opens = (c.new.ensures refl).opens in
     record {
-      attempts = ap (λ (h : HostState). h.world.attempts) opens ∙ ap (λ (w : World). w.attempts) c.requires;
+      attempts = ap (λ (h : HostState). h.world.attempts) opens
+          ∙ ap (λ (w : World). w.attempts) c.requires;
       limit = ap (λ (h : HostState). h.world.limit) opens ∙ ap (λ (w : World). w.limit) c.requires;
     }

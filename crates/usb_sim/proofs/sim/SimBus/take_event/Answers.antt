@@ -1,11 +1,13 @@
-use Rattle.std.proofs.Common.{rules, ◌≡◌, refl, sym, subst, suc, true, length, arith, ◌∙◌, ap, ◌∷◌, Bool, Some, None, Option, Ok, Result, List}
+use Rattle.std.proofs.Common.{rules, ◌≡◌, refl, sym, subst, suc, true, length, arith, ◌∙◌, ap, ◌∷◌}
+use Rattle.std.proofs.Common.{Bool, Some, None, Option, Ok, Result, List}
 use Rattle.std.proofs.lemmas.Bool.{and_parts}
 use Rattle.std.specs.List.{list_all}
 use Rattle.usb_device.specs.Tree.{row_of}
 use Rattle.usb_tree.specs.AttemptPackets.{IsSettled}
 use Rattle.usb_world.specs.SanePorts.{Consistent}
 use Rattle.usb_world.specs.PlanData.{can_come}
-use Rattle.usb_world.proofs.Interface.{came_spends, happened_long, sane_happened, settled_happened, spends_none}
+use Rattle.usb_world.proofs.Interface.{came_spends, happened_long, sane_happened, settled_happened}
+use Rattle.usb_world.proofs.Interface.{spends_none}
 use Rattle.usb_world.specs.declared.event.Event.{Event}
 use Rattle.usb_world.specs.Steps.{after_change}
 use Rattle.usb_world.specs.declared.event.Ask.{Ask}
@@ -13,7 +15,8 @@ use Rattle.usb_world.specs.declared.types.BusFault.{BusFault}
 use Rattle.usb_world.specs.declared.types.BusFault.TheVariants.{TraceFailed}
 use Rattle.usb_bus.specs.Watch.{tells_failure}
 use Rattle.usb_sim.specs.Sim.{world_of}
-use Rattle.usb_sim.proofs.Arrivals.{came_sound, came_faulted, appends_event, writes_event, writes_none, due_next, popped, get_or-head, next_none, due_none}
+use Rattle.usb_sim.proofs.Arrivals.{came_sound, came_faulted, appends_event, writes_event}
+use Rattle.usb_sim.proofs.Arrivals.{writes_none, due_next, popped, get_or-head, next_none, due_none}
 use Rattle.usb_sim.proofs.sim.SimBus.take_event.Goals as goal
 
 none_came : Result (Option (Option Ask)) BusFault
@@ -58,12 +61,15 @@ returns-in_err-put_action-clause-came g c =
     let s = c.args.self.now in
     let e = c.unwrap-event.result in
     let rest = c.pop_front.new.self.items in
-    let split = popped s.left.items rest c.pop_front.result e c.pop_front.ensures.items c.unwrap-event.ensures in
+    let split = popped s.left.items rest c.pop_front.result e c.pop_front.ensures.items
+    c.unwrap-event.ensures in
     let same = get_or-head s.left.items rest e c.in-Some.event.now split c.in-Some.ensures.lookup in
     let size : length s.left.items ≡ suc (length rest) = ap length split in
-    let done = c.in_ok-carry_out.ensures.ok ∙ ap (λ (x : Event). after_change x.action s.devices s.roots) same in
+    let done = c.in_ok-carry_out.ensures.ok
+    ∙ ap (λ (x : Event). after_change x.action s.devices s.roots) same in
     record {
-      spends = came_spends (world_of s) _ c.in-Some.event.now.action s.devices c.in_ok-carry_out.ensures.ok refl (omega (arith, size)) refl refl;
+      spends = came_spends (world_of s) _ c.in-Some.event.now.action s.devices
+          c.in_ok-carry_out.ensures.ok refl (omega (arith, size)) refl refl;
       told = search rules;
       none = search rules;
       one = search rules;
@@ -72,7 +78,9 @@ returns-in_err-put_action-clause-came g c =
       kept = search rules;
       cut = λ _. came_faulted (world_of s) e rest rest _ (Some TraceFailed) split refl done;
       other = search rules;
-      text = writes_event c.from_residual-in_err-put_action.result (world_of s) _ e _ _ _ split refl c.from_residual-in_err-put_action.ensures.1 (rw (c.deref.ensures.value ∙ s.named) at c.put_action.ensures.front);
+      text = writes_event c.from_residual-in_err-put_action.result (world_of s) _ e _ _ _ split refl
+          c.from_residual-in_err-put_action.ensures.1
+          (rw (c.deref.ensures.value ∙ s.named) at c.put_action.ensures.front);
     }
 
 -- the event came
@@ -81,12 +89,15 @@ returns-clause-came g c =
     let s = c.args.self.now in
     let e = c.unwrap-event.result in
     let rest = c.pop_front.new.self.items in
-    let split = popped s.left.items rest c.pop_front.result e c.pop_front.ensures.items c.unwrap-event.ensures in
+    let split = popped s.left.items rest c.pop_front.result e c.pop_front.ensures.items
+    c.unwrap-event.ensures in
     let same = get_or-head s.left.items rest e c.in-Some.event.now split c.in-Some.ensures.lookup in
     let size : length s.left.items ≡ suc (length rest) = ap length split in
-    let done = c.in_ok-carry_out.ensures.ok ∙ ap (λ (x : Event). after_change x.action s.devices s.roots) same in
+    let done = c.in_ok-carry_out.ensures.ok
+    ∙ ap (λ (x : Event). after_change x.action s.devices s.roots) same in
     record {
-      spends = came_spends (world_of s) _ c.in-Some.event.now.action s.devices c.in_ok-carry_out.ensures.ok refl (omega (arith, size)) refl refl;
+      spends = came_spends (world_of s) _ c.in-Some.event.now.action s.devices
+          c.in_ok-carry_out.ensures.ok refl (omega (arith, size)) refl refl;
       told = search rules;
       none = λ h. cc h;
       one = λ _. refl;
@@ -95,18 +106,21 @@ returns-clause-came g c =
       kept = λ h. cc h;
       cut = λ h. cc h;
       other = tt;
-      text = appends_event (world_of s) _ e _ _ _ split refl (rw (c.deref.ensures.value ∙ s.named) at c.in_ok-put_action.ensures.ok);
+      text = appends_event (world_of s) _ e _ _ _ split refl
+          (rw (c.deref.ensures.value ∙ s.named) at c.in_ok-put_action.ensures.ok);
     }
 
 pub invariant_of-self-2 : goal.invariant_of-self-2
 invariant_of-self-2 g c =
     let s = c.args.self.now in
     let rest = c.pop_front.new.self.items in
-    let split = popped s.left.items rest c.pop_front.result c.unwrap-event.result c.pop_front.ensures.items c.unwrap-event.ensures in
+    let split = popped s.left.items rest c.pop_front.result c.unwrap-event.result
+    c.pop_front.ensures.items c.unwrap-event.ensures in
     let size : length s.left.items ≡ suc (length rest) = ap length split in
     let a = c.in-Some.event.now.action in
     let done = c.in_ok-carry_out.ensures.ok in
-    let long : length (row_of c.carry_out.new.roots) ≡ length (row_of s.roots) = ap (λ k. length (row_of k)) done ∙ happened_long a s.devices s.roots in
+    let long : length (row_of c.carry_out.new.roots) ≡ length (row_of s.roots) =
+    ap (λ k. length (row_of k)) done ∙ happened_long a s.devices s.roots in
     let can : Event → Bool = can_come (length s.devices) in
     let P : List Event → Type 0 = λ l. list_all can l ≡ true in
     let all : P (c.unwrap-event.result ∷ rest) = subst P split s.planned in
@@ -114,7 +128,8 @@ invariant_of-self-2 g c =
       some_root = omega (arith, long, s.some_root);
       few_roots = omega (arith, long, s.few_roots);
       settled = subst IsSettled (sym done) (settled_happened a s.devices s.roots s.settled);
-      sane = λ _. subst Consistent (sym done) (sane_happened a s.devices s.ruled s.roots (s.sane c.requires.sound));
+      sane = λ _. subst Consistent (sym done)
+          (sane_happened a s.devices s.ruled s.roots (s.sane c.requires.sound));
       ruled = s.ruled;
       planned = (and_parts (can c.unwrap-event.result) (list_all can rest) all).1;
       few_events = omega (arith, size, s.few_events);
@@ -133,11 +148,13 @@ pub invariant_of-self-in-Break-branch-2 : goal.invariant_of-self-in-Break-branch
 invariant_of-self-in-Break-branch-2 g c =
     let s = c.args.self.now in
     let rest = c.pop_front.new.self.items in
-    let split = popped s.left.items rest c.pop_front.result c.unwrap-event.result c.pop_front.ensures.items c.unwrap-event.ensures in
+    let split = popped s.left.items rest c.pop_front.result c.unwrap-event.result
+    c.pop_front.ensures.items c.unwrap-event.ensures in
     let size : length s.left.items ≡ suc (length rest) = ap length split in
     let a = c.in-Some.event.now.action in
     let done = c.in_ok-carry_out.ensures.ok in
-    let long : length (row_of c.carry_out.new.roots) ≡ length (row_of s.roots) = ap (λ k. length (row_of k)) done ∙ happened_long a s.devices s.roots in
+    let long : length (row_of c.carry_out.new.roots) ≡ length (row_of s.roots) =
+    ap (λ k. length (row_of k)) done ∙ happened_long a s.devices s.roots in
     let can : Event → Bool = can_come (length s.devices) in
     let P : List Event → Type 0 = λ l. list_all can l ≡ true in
     let all : P (c.unwrap-event.result ∷ rest) = subst P split s.planned in

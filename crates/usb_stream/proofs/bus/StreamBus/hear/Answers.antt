@@ -1,7 +1,8 @@
 use Rattle.std.proofs.Common.{◌∙◌, refl}
 use Rattle.usb_bus.specs.Watch.{inner_of}
 use Rattle.usb_stream.specs.Stream.{kept_of}
-use Rattle.usb_stream.proofs.Hearing.{hear_more, hear_same, heard_so, read_all, read_so, told_so_none}
+use Rattle.usb_stream.proofs.Hearing.{hear_more, hear_same, heard_so, read_all, read_so}
+use Rattle.usb_stream.proofs.Hearing.{told_so_none}
 use Rattle.usb_stream.proofs.bus.StreamBus.hear.Goals as goal
 
 pub lines-init : goal.lines-init
@@ -16,8 +17,15 @@ pub lines-preserved : goal.lines-preserved
 lines-preserved g c =
     let said = c.in-Ok-Changed in
     let says = rw said.field-0-is at said.ensures.ok in record {
-      told = hear_more c.args.asked (kept_of c.args.self.now) (kept_of c.lines.self) (kept_of c.next_said.new.self) (g.R.Read.remaining (inner_of c.args.self.now.reader)) (g.R.Read.remaining (inner_of c.lines.self.reader)) (g.R.Read.remaining (inner_of c.next_said.new.self.reader)) said.number said.status c.keep.new.statuses c.lines.invariant.told c.lines.invariant.same c.next_said.ensures.same says c.keep.ensures;
-      same = hear_same (kept_of c.args.self.now) (kept_of c.lines.self) (kept_of c.next_said.new.self) c.keep.new.statuses c.lines.invariant.same c.next_said.ensures.same;
+      told = hear_more c.args.asked (kept_of c.args.self.now) (kept_of c.lines.self)
+          (kept_of c.next_said.new.self) (g.R.Read.remaining (inner_of c.args.self.now.reader))
+          (g.R.Read.remaining (inner_of c.lines.self.reader))
+          (g.R.Read.remaining (inner_of c.next_said.new.self.reader)) said.number said.status
+          c.keep.new.statuses c.lines.invariant.told c.lines.invariant.same c.next_said.ensures.same
+          says c.keep.ensures;
+      same = hear_same (kept_of c.args.self.now) (kept_of c.lines.self)
+          (kept_of c.next_said.new.self) c.keep.new.statuses c.lines.invariant.same
+          c.next_said.ensures.same;
       writer = c.next_said.ensures.writer ∙ c.lines.invariant.writer;
     }
 

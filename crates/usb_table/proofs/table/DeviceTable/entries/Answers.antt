@@ -14,29 +14,42 @@ use Rattle.usb_table.proofs.table.DeviceTable.entries.Goals as goal
 pub index-requires : goal.index-requires
 index-requires c =
     let paths = c.self.inside.indexes.by_path in
-    let turn = All-turn deref_pair (λ e. tree.get path_cmp paths e.0 ≡ Some e.1) _ _ _ _ _ _ _ c.iter-path-items.ensures.found (c.into_iter-path-iterator.ensures.into_iter_gives ∙ c.iter-path-items.ensures.rest) c.entries.yielded_by c.in-Some.is c.next.ensures.steps in
-    some_standing (get c.self.inside.entries) c.in-Some.key.now (c.self.invariant.0.stands c.in-Some.path.now c.in-Some.key.now turn)
+    let turn = All-turn deref_pair (λ e. tree.get path_cmp paths e.0 ≡ Some e.1) _ _ _ _ _ _ _
+    c.iter-path-items.ensures.found (c.into_iter-path-iterator.ensures.into_iter_gives
+    ∙ c.iter-path-items.ensures.rest) c.entries.yielded_by c.in-Some.is
+    c.next.ensures.steps in
+    some_standing (get c.self.inside.entries) c.in-Some.key.now
+    (c.self.invariant.0.stands c.in-Some.path.now c.in-Some.key.now turn)
 
 pub returns-in_err-try_clone-clause-rising : goal.returns-in_err-try_clone-clause-rising
-returns-in_err-try_clone-clause-rising c = entries_rise (findings (get c.self.inside.entries)) c.self.inside.indexes.by_path.entries c.args.self.now.entries (ap (λ (t : Table). t.entries) c.self.view_is) c.iter-path-items.ensures.ordered
+returns-in_err-try_clone-clause-rising c = entries_rise (findings (get c.self.inside.entries))
+    c.self.inside.indexes.by_path.entries c.args.self.now.entries
+    (ap (λ (t : Table). t.entries) c.self.view_is) c.iter-path-items.ensures.ordered
 
 pub returns-in_err-push-clause-rising : goal.returns-in_err-push-clause-rising
-returns-in_err-push-clause-rising c = entries_rise (findings (get c.self.inside.entries)) c.self.inside.indexes.by_path.entries c.args.self.now.entries (ap (λ (t : Table). t.entries) c.self.view_is) c.iter-path-items.ensures.ordered
+returns-in_err-push-clause-rising c = entries_rise (findings (get c.self.inside.entries))
+    c.self.inside.indexes.by_path.entries c.args.self.now.entries
+    (ap (λ (t : Table). t.entries) c.self.view_is) c.iter-path-items.ensures.ordered
 
 pub returns-clause-rising : goal.returns-clause-rising
-returns-clause-rising c = entries_rise (findings (get c.self.inside.entries)) c.self.inside.indexes.by_path.entries c.args.self.now.entries (ap (λ (t : Table). t.entries) c.self.view_is) c.iter-path-items.ensures.ordered
+returns-clause-rising c = entries_rise (findings (get c.self.inside.entries))
+    c.self.inside.indexes.by_path.entries c.args.self.now.entries
+    (ap (λ (t : Table). t.entries) c.self.view_is) c.iter-path-items.ensures.ordered
 
 pub returns-in_err-try_clone-clause-pipes : goal.returns-in_err-try_clone-clause-pipes
 returns-in_err-try_clone-clause-pipes c path =
     let s = c.self.inside in
-    subst (ArePipesAt path) c.self.view_is (are_pipes_at (get s.entries) s.indexes.by_path.entries s.indexes.by_address.entries c.self.invariant.0 c.self.invariant.1 path)
+    subst (ArePipesAt path) c.self.view_is (are_pipes_at (get s.entries) s.indexes.by_path.entries
+    s.indexes.by_address.entries c.self.invariant.0 c.self.invariant.1 path)
 
 pub returns-in_err-push-clause-pipes : goal.returns-in_err-push-clause-pipes
 returns-in_err-push-clause-pipes c path =
     let s = c.self.inside in
-    subst (ArePipesAt path) c.self.view_is (are_pipes_at (get s.entries) s.indexes.by_path.entries s.indexes.by_address.entries c.self.invariant.0 c.self.invariant.1 path)
+    subst (ArePipesAt path) c.self.view_is (are_pipes_at (get s.entries) s.indexes.by_path.entries
+    s.indexes.by_address.entries c.self.invariant.0 c.self.invariant.1 path)
 
 pub returns-clause-pipes : goal.returns-clause-pipes
 returns-clause-pipes c path =
     let s = c.self.inside in
-    subst (ArePipesAt path) c.self.view_is (are_pipes_at (get s.entries) s.indexes.by_path.entries s.indexes.by_address.entries c.self.invariant.0 c.self.invariant.1 path)
+    subst (ArePipesAt path) c.self.view_is (are_pipes_at (get s.entries) s.indexes.by_path.entries
+    s.indexes.by_address.entries c.self.invariant.0 c.self.invariant.1 path)

@@ -10,12 +10,15 @@ returns-in-Some-clause-value c =
     let s = c.self.inside in
     rw (← c.self.view_is)
     (ap Some c.finding.ensures
-    ∙ sym (entries_of-key (findings (get s.entries)) c.args.path.now s.indexes.by_path.entries c.in-Some.key.now c.index.result.now.finding (sym c.in-Some.ensures.value) (findings-standing (get s.entries) c.in-Some.key.now c.index.result.now c.index.ensures)))
+    ∙ sym (entries_of-key (findings (get s.entries)) c.args.path.now s.indexes.by_path.entries
+    c.in-Some.key.now c.index.result.now.finding (sym c.in-Some.ensures.value)
+    (findings-standing (get s.entries) c.in-Some.key.now c.index.result.now c.index.ensures)))
 
 pub returns-in-None-clause-value : goal.returns-in-None-clause-value
 returns-in-None-clause-value c =
     let s = c.self.inside in
-    rw (← c.self.view_is) (sym (entries_of-no_key (findings (get s.entries)) c.args.path.now s.indexes.by_path.entries (sym c.in-None.ensures.value)))
+    rw (← c.self.view_is) (sym (entries_of-no_key (findings (get s.entries)) c.args.path.now
+    s.indexes.by_path.entries (sym c.in-None.ensures.value)))
 
 pub returns-in-Some-clause-sound : goal.returns-in-Some-clause-sound
 returns-in-Some-clause-sound c =

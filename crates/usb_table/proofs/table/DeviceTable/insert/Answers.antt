@@ -9,7 +9,8 @@ use Rattle.usb_table.specs.Keys.{IsPiped, findings, key_of_path, key_of_address,
 use Rattle.usb_table.specs.KnownPorts.{is_below_hub}
 use Rattle.usb_table.specs.Pipes.{ArePipesOf, new_pipes}
 use Rattle.usb_table.specs.Table.{Table, entered}
-use Rattle.usb_table.proofs.entries.NewEntries.{came_indexes, came_piped, came_table, away_key, free_key}
+use Rattle.usb_table.proofs.entries.NewEntries.{came_indexes, came_piped, came_table, away_key}
+use Rattle.usb_table.proofs.entries.NewEntries.{free_key}
 use Rattle.usb_table.proofs.table.DeviceTable.insert.Goals as goal
 
 on_err : {A E : Type 0} (r : Result A E) (P : Type 0) → P → OnErr r P
@@ -20,65 +21,100 @@ pub insert-requires : goal.insert-requires
 insert-requires c =
     let s = c.self.inside in
     rw c.address_number-address.ensures
-    (free_key (findings (get s.entries)) s.indexes.by_path.entries s.indexes.by_address.entries c.args.finding c.self.invariant.0
-    (subst (λ (t : Table). HasNewAddress c.args.finding t.entries) (sym c.self.view_is) c.requires.address))
+    (free_key (findings (get s.entries)) s.indexes.by_path.entries s.indexes.by_address.entries
+    c.args.finding c.self.invariant.0
+    (subst (λ (t : Table). HasNewAddress c.args.finding t.entries) (sym c.self.view_is)
+    c.requires.address))
 
 pub invariant_of-self : goal.invariant_of-self
 invariant_of-self c = rw c.reserve.ensures.rest_kept c.self.invariant
 
 pub invariant_of-self-in_err-insert : goal.invariant_of-self-in_err-insert
-invariant_of-self-in_err-insert c = rw (c.in_err-insert.ensures.paths, c.in_err-insert.ensures.addresses, c.reserve.ensures.rest_kept) c.self.invariant
+invariant_of-self-in_err-insert c =
+    rw (
+      c.in_err-insert.ensures.paths,
+      c.in_err-insert.ensures.addresses,
+      c.reserve.ensures.rest_kept,
+    ) c.self.invariant
 
 pub returns-in_err-insert-clause-err : goal.returns-in_err-insert-clause-err
-returns-in_err-insert-clause-err c = on_err c.from_residual-in_err-insert.result _ (rw (c.in_err-insert.ensures.paths, c.reserve.ensures.rest_kept) c.self.view_is)
+returns-in_err-insert-clause-err c = on_err c.from_residual-in_err-insert.result _
+    (rw (c.in_err-insert.ensures.paths, c.reserve.ensures.rest_kept) c.self.view_is)
 
 abbrev new_standing : goal.After-insert_reserved → Entry
-new_standing c = record { finding = c.args.finding; pipes = new_pipes c.args.finding (is_below_hub c.args.path) }
+new_standing c = record {
+  finding = c.args.finding;
+  pipes =
+      new_pipes c.args.finding (is_below_hub c.args.path);
+}
 
 -- the entry that came, for the lemmas
 record Come (c : goal.After-insert_reserved) : Type 0 where
   vacant : get c.self.inside.entries c.vacant_key-key.result ≡ None
   changed : get c.insert_reserved.new.self c.vacant_key-key.result ≡ Some (new_standing c)
-  others : (k : ℕ) → k ≢ c.vacant_key-key.result → get c.insert_reserved.new.self k ≡ get c.self.inside.entries k
+  others : (k : ℕ) → k ≢ c.vacant_key-key.result → get c.insert_reserved.new.self k
+      ≡ get c.self.inside.entries k
   fits : IsPiped c.args.path (new_standing c)
   away : key_of_path c.self.inside.indexes.by_path.entries c.args.path ≡ None
-  free : IfSome (address_found c.args.finding) (λ a. key_of_address c.self.inside.indexes.by_address.entries a ≡ None)
-  enters : Enters c.args.path (address_found c.args.finding) c.vacant_key-key.result c.self.inside.indexes c.insert.new.self
+  free : IfSome (address_found c.args.finding)
+      (λ a. key_of_address c.self.inside.indexes.by_address.entries a ≡ None)
+  enters : Enters c.args.path (address_found c.args.finding) c.vacant_key-key.result
+      c.self.inside.indexes c.insert.new.self
 
 came : (c : goal.After-insert_reserved) → Come c
 came c =
     let s = c.self.inside in
     let kept = c.reserve.ensures.rest_kept in
-    let same : c.insert_reserved.result ≡ c.vacant_key-key.result = c.insert_reserved.ensures.key ∙ sym c.vacant_key-key.ensures.value in
-    let updates = subst (λ (k : ℕ). Updates c.reserve.new.self c.insert_reserved.new.self k (Some c.new-entry.result)) same c.insert_reserved.ensures.updates in
+    let same : c.insert_reserved.result ≡ c.vacant_key-key.result = c.insert_reserved.ensures.key
+    ∙ sym c.vacant_key-key.ensures.value in
+    let updates = subst (λ (k : ℕ). Updates c.reserve.new.self c.insert_reserved.new.self k
+    (Some c.new-entry.result)) same c.insert_reserved.ensures.updates in
     let is : c.new-entry.result ≡ new_standing c =
-    subst (λ b. c.new-entry.result ≡ record { finding = c.args.finding; pipes = new_pipes c.args.finding b }) c.is_below_hub.ensures c.new-entry.ensures.value in
+    subst (λ b. c.new-entry.result ≡ record {
+      finding = c.args.finding;
+      pipes =
+          new_pipes c.args.finding b;
+    }) c.is_below_hub.ensures c.new-entry.ensures.value in
     record {
-      vacant = subst (λ (t : Slab Entry). get t c.vacant_key-key.result ≡ None) kept c.vacant_key-key.ensures.vacant;
+      vacant = subst (λ (t : Slab Entry). get t c.vacant_key-key.result ≡ None) kept
+          c.vacant_key-key.ensures.vacant;
       changed = updates.changed ∙ ap Some is;
       others = λ k ne. updates.others k ne ∙ ap (λ (t : Slab Entry). get t k) kept;
       fits = (
         c.requires.sound,
         subst (λ (x : Entry). ArePipesOf c.args.finding (is_below_hub c.args.path) x.pipes) is
-            (subst (λ b. ArePipesOf c.args.finding b c.new-entry.result.pipes) c.is_below_hub.ensures
+            (subst (λ b. ArePipesOf c.args.finding b c.new-entry.result.pipes)
+            c.is_below_hub.ensures
             c.new-entry.ensures.fits),
       );
-      away = away_key (findings (get s.entries)) c.args.path s.indexes.by_path.entries (subst (λ (t : Table). has_at c.args.path t.entries ≡ false) (sym c.self.view_is) c.requires.away);
-      free = free_key (findings (get s.entries)) s.indexes.by_path.entries s.indexes.by_address.entries c.args.finding c.self.invariant.0 (subst (λ (t : Table). HasNewAddress c.args.finding t.entries) (sym c.self.view_is) c.requires.address);
-      enters = subst (λ (a : Option ℕ). Enters c.args.path a c.vacant_key-key.result s.indexes c.insert.new.self) c.address_number-address.ensures c.in_ok-insert.ensures.ok;
+      away = away_key (findings (get s.entries)) c.args.path s.indexes.by_path.entries
+          (subst (λ (t : Table). has_at c.args.path t.entries ≡ false) (sym c.self.view_is)
+          c.requires.away);
+      free = free_key (findings (get s.entries)) s.indexes.by_path.entries
+          s.indexes.by_address.entries c.args.finding c.self.invariant.0
+          (subst (λ (t : Table). HasNewAddress c.args.finding t.entries) (sym c.self.view_is)
+          c.requires.address);
+      enters = subst (λ (a : Option ℕ). Enters c.args.path a c.vacant_key-key.result s.indexes
+          c.insert.new.self) c.address_number-address.ensures c.in_ok-insert.ensures.ok;
     }
 
 pub invariant_of-self-2 : goal.invariant_of-self-2
 invariant_of-self-2 c =
     let s = c.self.inside in
     let h = came c in (
-      came_indexes (get s.entries) (get c.insert_reserved.new.self) s.indexes c.insert.new.self c.args.path c.vacant_key-key.result (new_standing c) c.self.invariant.0 c.self.invariant.1 h.vacant h.changed h.others h.fits h.away h.free h.enters,
-      came_piped (get s.entries) (get c.insert_reserved.new.self) s.indexes c.insert.new.self c.args.path c.vacant_key-key.result (new_standing c) c.self.invariant.0 c.self.invariant.1 h.vacant h.changed h.others h.fits h.away h.free h.enters,
+      came_indexes (get s.entries) (get c.insert_reserved.new.self) s.indexes c.insert.new.self
+          c.args.path c.vacant_key-key.result (new_standing c) c.self.invariant.0 c.self.invariant.1
+          h.vacant h.changed h.others h.fits h.away h.free h.enters,
+      came_piped (get s.entries) (get c.insert_reserved.new.self) s.indexes c.insert.new.self
+          c.args.path c.vacant_key-key.result (new_standing c) c.self.invariant.0 c.self.invariant.1
+          h.vacant h.changed h.others h.fits h.away h.free h.enters,
     )
 
 pub returns-clause-ok : goal.returns-clause-ok
 returns-clause-ok c =
     let s = c.self.inside in
     let h = came c in
-    came_table (get s.entries) (get c.insert_reserved.new.self) s.indexes c.insert.new.self c.args.path c.vacant_key-key.result (new_standing c) c.self.invariant.0 c.self.invariant.1 h.vacant h.changed h.others h.fits h.away h.free h.enters
+    came_table (get s.entries) (get c.insert_reserved.new.self) s.indexes c.insert.new.self
+    c.args.path c.vacant_key-key.result (new_standing c) c.self.invariant.0 c.self.invariant.1
+    h.vacant h.changed h.others h.fits h.away h.free h.enters
     ∙ ap (entered c.args.path c.args.finding) c.self.view_is

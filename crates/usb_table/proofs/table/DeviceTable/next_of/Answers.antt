@@ -12,7 +12,8 @@ use Rattle.usb_port.specs.Order.{path_cmp}
 use Rattle.usb_table.specs.Keys.{PathKeys, findings, finding_under, entries_of}
 use Rattle.usb_table.specs.Table.{Table}
 use Rattle.usb_table.specs.Kinds.{fits}
-use Rattle.usb_table.proofs.entries.Keys.{entries_rise, finding_stands, findings-standing, some_standing}
+use Rattle.usb_table.proofs.entries.Keys.{entries_rise, finding_stands, findings-standing}
+use Rattle.usb_table.proofs.entries.Keys.{some_standing}
 use Rattle.usb_table.proofs.entries.NextEntries.{first_from, first_behind, next_is, last_is}
 use Rattle.usb_table.proofs.table.DeviceTable.next_of.Goals as goal
 
@@ -45,17 +46,26 @@ pub returns-then-fits-clause-some : goal.returns-then-fits-clause-some
 returns-then-fits-clause-some c =
     let s = c.self.inside in
     let turn = rest_more deref_pair _ _ _ _ c.in-Some.is c.next.ensures.steps in
-    let stands : finding_under (findings (get s.entries)) c.in-Some.key.now ≡ c.finding.result.now = finding_stands (findings (get s.entries)) c.in-Some.key.now c.index.result.now.finding (findings-standing (get s.entries) c.in-Some.key.now c.index.result.now c.index.ensures) ∙ sym c.finding.ensures in
-    let kind : fits c.args.kind (finding_under (findings (get s.entries)) c.in-Some.key.now) ≡ true = ap (fits c.args.kind) stands ∙ sym c.fits.ensures ∙ c.if-fits.true in
-    let found : first_from (fits c.args.kind) (option_copied c.args.last) c.args.self.now.entries ≡ Some c.duplicate.result =
+    let stands : finding_under (findings (get s.entries)) c.in-Some.key.now ≡ c.finding.result.now =
+    finding_stands (findings (get s.entries)) c.in-Some.key.now c.index.result.now.finding
+    (findings-standing (get s.entries) c.in-Some.key.now c.index.result.now c.index.ensures)
+    ∙ sym c.finding.ensures in
+    let kind : fits c.args.kind (finding_under (findings (get s.entries)) c.in-Some.key.now)
+    ≡ true = ap (fits c.args.kind) stands ∙ sym c.fits.ensures ∙ c.if-fits.true in
+    let found : first_from (fits c.args.kind) (option_copied c.args.last) c.args.self.now.entries
+    ≡ Some c.duplicate.result =
     sym c.entries.invariant
-    ∙ ap (λ (left : PathKeys). first_from (fits c.args.kind) None (entries_of (findings (get s.entries)) left)) turn
+    ∙ ap (λ (left : PathKeys). first_from (fits c.args.kind) None
+    (entries_of (findings (get s.entries)) left)) turn
     ∙ rw kind (ap Some (sym c.duplicate.ensures)) in
     let rises = c.range-path-items.ensures.ordered in
-    next_is (fits c.args.kind) (option_copied c.args.last) c.args.self.now.entries c.duplicate.result (entries_rise (findings (get s.entries)) s.indexes.by_path.entries c.args.self.now.entries (ap (λ (t : Table). t.entries) c.self.view_is) rises) found
+    next_is (fits c.args.kind) (option_copied c.args.last) c.args.self.now.entries
+    c.duplicate.result (entries_rise (findings (get s.entries)) s.indexes.by_path.entries
+    c.args.self.now.entries (ap (λ (t : Table). t.entries) c.self.view_is) rises) found
 
 pub returns-clause-none : goal.returns-clause-none
 returns-clause-none c =
     let end = rest_all deref_pair _ _ _ c.in-None.is c.next.ensures.steps in
     last_is (fits c.args.kind) (option_copied c.args.last) c.args.self.now.entries
-    (sym c.entries.invariant ∙ ap (λ (left : PathKeys). first_from (fits c.args.kind) None (entries_of (findings (get c.self.inside.entries)) left)) end)
+    (sym c.entries.invariant ∙ ap (λ (left : PathKeys). first_from (fits c.args.kind) None
+    (entries_of (findings (get c.self.inside.entries)) left)) end)

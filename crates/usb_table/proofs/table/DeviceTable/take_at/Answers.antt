@@ -20,30 +20,46 @@ on_none (Some x) P p = tt
 pub returns-in_err-first-clause-none : goal.returns-in_err-first-clause-none
 returns-in_err-first-clause-none c =
     let s = c.self.inside in
-    on_none c.from_residual.result _ (rw (← c.self.view_is) (entries-has_at (findings (get s.entries)) c.args.path.now s.indexes.by_path.entries ∙ c.in_err-first.ensures.none))
+    on_none c.from_residual.result _ (rw (← c.self.view_is)
+    (entries-has_at (findings (get s.entries)) c.args.path.now s.indexes.by_path.entries
+    ∙ c.in_err-first.ensures.none))
 
 -- the entry that went, for the lemmas
 record Gone (c : goal.After-into_finding) : Type 0 where
   was : key_of_path c.self.inside.indexes.by_path.entries c.in_ok-first.first ≡ Some c.in_ok-key.key
-  path_keys : (q : List ℕ) → key_of_path c.remove_address.new.self.by_path.entries q ≡ cond (is_at (path_cmp c.in_ok-first.first) q) None (key_of_path c.self.inside.indexes.by_path.entries q)
-  address_keys : UpdatesAddress (address_found c.remove-entry.result.finding) None c.self.inside.indexes.by_address.entries c.remove_address.new.self.by_address.entries
+  path_keys : (q : List ℕ) → key_of_path c.remove_address.new.self.by_path.entries q
+      ≡ cond (is_at (path_cmp c.in_ok-first.first) q) None
+      (key_of_path c.self.inside.indexes.by_path.entries q)
+  address_keys : UpdatesAddress (address_found c.remove-entry.result.finding) None
+      c.self.inside.indexes.by_address.entries c.remove_address.new.self.by_address.entries
 
 went : (c : goal.After-into_finding) → Gone c
 went c = record {
   was = sym c.in_ok-key.ensures.value;
-  path_keys = λ q. ap (λ (m : BTreeMap (List ℕ) ℕ). key_of_path m.entries q) c.remove_address.ensures.paths ∙ c.in_ok-key.ensures.updates.0 q;
-  address_keys = subst (λ (a : Option ℕ). UpdatesAddress a None c.self.inside.indexes.by_address.entries c.remove_address.new.self.by_address.entries) (c.address_number.ensures ∙ ap address_found c.finding.ensures) c.remove_address.ensures.keys;
+  path_keys = λ q. ap (λ (m : BTreeMap (List ℕ) ℕ). key_of_path m.entries q)
+      c.remove_address.ensures.paths ∙ c.in_ok-key.ensures.updates.0 q;
+  address_keys = subst (λ (a : Option ℕ). UpdatesAddress a None
+      c.self.inside.indexes.by_address.entries c.remove_address.new.self.by_address.entries)
+      (c.address_number.ensures ∙ ap address_found c.finding.ensures) c.remove_address.ensures.keys;
 }
 
 pub invariant_of-self-2 : goal.invariant_of-self-2
 invariant_of-self-2 c =
     let s = c.self.inside in
     let h = went c in (
-      gone_indexes (get s.entries) (get c.remove-entry.new.self) s.indexes.by_path.entries c.remove_address.new.self.by_path.entries s.indexes.by_address.entries c.remove_address.new.self.by_address.entries
-          c.in_ok-first.first c.in_ok-key.key c.remove-entry.result c.self.invariant.0 c.self.invariant.1 c.remove-entry.ensures.value c.remove-entry.ensures.updates.changed c.remove-entry.ensures.updates.others
+      gone_indexes (get s.entries) (get c.remove-entry.new.self) s.indexes.by_path.entries
+          c.remove_address.new.self.by_path.entries s.indexes.by_address.entries
+          c.remove_address.new.self.by_address.entries
+          c.in_ok-first.first c.in_ok-key.key c.remove-entry.result c.self.invariant.0
+          c.self.invariant.1 c.remove-entry.ensures.value c.remove-entry.ensures.updates.changed
+          c.remove-entry.ensures.updates.others
           h.was h.path_keys h.address_keys,
-      gone_piped (get s.entries) (get c.remove-entry.new.self) s.indexes.by_path.entries c.remove_address.new.self.by_path.entries s.indexes.by_address.entries c.remove_address.new.self.by_address.entries
-          c.in_ok-first.first c.in_ok-key.key c.remove-entry.result c.self.invariant.0 c.self.invariant.1 c.remove-entry.ensures.value c.remove-entry.ensures.updates.changed c.remove-entry.ensures.updates.others
+      gone_piped (get s.entries) (get c.remove-entry.new.self) s.indexes.by_path.entries
+          c.remove_address.new.self.by_path.entries s.indexes.by_address.entries
+          c.remove_address.new.self.by_address.entries
+          c.in_ok-first.first c.in_ok-key.key c.remove-entry.result c.self.invariant.0
+          c.self.invariant.1 c.remove-entry.ensures.value c.remove-entry.ensures.updates.changed
+          c.remove-entry.ensures.updates.others
           h.was h.path_keys h.address_keys,
     )
 
@@ -56,11 +72,20 @@ returns-clause-some c =
       first = c.in_ok-first.first;
       at = c.in_ok-first.ensures.some;
       found = rw (← c.self.view_is)
-          (entries_of-key (findings (get s.entries)) c.in_ok-first.first s.indexes.by_path.entries c.in_ok-key.key c.remove-entry.result.finding h.was (findings-standing (get s.entries) c.in_ok-key.key c.remove-entry.result c.remove-entry.ensures.value)
+          (entries_of-key (findings (get s.entries)) c.in_ok-first.first s.indexes.by_path.entries
+          c.in_ok-key.key c.remove-entry.result.finding h.was
+          (findings-standing (get s.entries) c.in_ok-key.key c.remove-entry.result
+          c.remove-entry.ensures.value)
           ∙ ap Some (sym c.into_finding.ensures));
       rest =
-          gone_table (get s.entries) (get c.remove-entry.new.self) s.indexes.by_path.entries c.remove_address.new.self.by_path.entries s.indexes.by_address.entries c.remove_address.new.self.by_address.entries
-          c.in_ok-first.first c.in_ok-key.key c.remove-entry.result c.self.invariant.0 c.self.invariant.1 c.remove-entry.ensures.value c.remove-entry.ensures.updates.changed c.remove-entry.ensures.updates.others
-          h.was h.path_keys h.address_keys (left ∙ c.in_ok-key.ensures.entries) (subst (λ (es : PathKeys). IsStrictlySortedBy path_cmp (keys_of es)) (sym left) c.in_ok-key.ensures.ordered)
+          gone_table (get s.entries) (get c.remove-entry.new.self) s.indexes.by_path.entries
+          c.remove_address.new.self.by_path.entries s.indexes.by_address.entries
+          c.remove_address.new.self.by_address.entries
+          c.in_ok-first.first c.in_ok-key.key c.remove-entry.result c.self.invariant.0
+          c.self.invariant.1 c.remove-entry.ensures.value c.remove-entry.ensures.updates.changed
+          c.remove-entry.ensures.updates.others
+          h.was h.path_keys h.address_keys (left ∙ c.in_ok-key.ensures.entries)
+          (subst (λ (es : PathKeys). IsStrictlySortedBy path_cmp (keys_of es)) (sym left)
+          c.in_ok-key.ensures.ordered)
           ∙ ap (removed c.in_ok-first.first) c.self.view_is;
     }
