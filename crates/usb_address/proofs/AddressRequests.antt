@@ -1,26 +1,21 @@
 -- Which requests ask a device to take an address.
 use Rattle.std.proofs.Common.{◌≡◌, ℕ, ◌/◌, ◌%◌, ◌==◌, ◌&&◌, not, nat_le, if◌then◌else◌, Bool, true}
 use Rattle.std.proofs.Common.{false, List, [], ◌∷◌, Option, None, Some, slice_get, refl}
-use Rattle.usb_request.specs.Codes.{DEVICE, CONFIGURATION, STRING, HUB, GET_STATUS, CLEAR_FEATURE}
-use Rattle.usb_request.specs.Codes.{SET_FEATURE, SET_ADDRESS, GET_DESCRIPTOR, GET_CONFIGURATION}
-use Rattle.usb_request.specs.Codes.{SET_CONFIGURATION, DEVICE_IN, DEVICE_OUT, ENDPOINT_OUT, HUB_IN}
-use Rattle.usb_request.specs.Codes.{PORT_IN, PORT_OUT}
-use Rattle.usb_request.specs.Requests.{descriptor_value}
-use Rattle.usb_port.specs.PortState.{PortState}
-use Rattle.usb_request.specs.declared.setup.Setup.{Setup}
-use Rattle.usb_device.specs.declared.bulk.ServedEndpoint.{ServedEndpoint}
-use Rattle.usb_port.specs.declared.call.PortCall.{PortCall}
-use Rattle.usb_device.specs.declared.request.Registers.{Registers}
-use Rattle.usb_port.specs.Calls.{set_call, clear_call}
-use Rattle.usb_device.specs.Spec.{Spec, Hub}
-use Rattle.usb_device.specs.Request.{Outcome, stalled, answers, takes_address, takes_configuration}
-use Rattle.usb_device.specs.Request.{halts, unhalts, tells_port, calls_port, Is, unless, text_asked}
-use Rattle.usb_device.specs.Request.{asked_descriptor, asked_status, asked_address, is_value}
-use Rattle.usb_device.specs.Request.{asked_configuration, endpoint_of, on_endpoint}
-use Rattle.usb_device.specs.Request.{asked_hub_descriptor, port_named, told_port, called_at}
-use Rattle.usb_device.specs.Request.{asked_port_status, port_feature, outcome}
-use Rattle.usb_device.specs.Transfer.{reading, ending, reads, reads_port, first_stage}
-use Rattle.usb_address.specs.Aims.{Aims, TakesOnly}
+use Rattle.usb_request.specs.{DEVICE, CONFIGURATION, STRING, HUB, GET_STATUS, CLEAR_FEATURE}
+use Rattle.usb_request.specs.{SET_FEATURE, SET_ADDRESS, GET_DESCRIPTOR, GET_CONFIGURATION}
+use Rattle.usb_request.specs.{SET_CONFIGURATION, DEVICE_IN, DEVICE_OUT, ENDPOINT_OUT, HUB_IN}
+use Rattle.usb_request.specs.{PORT_IN, PORT_OUT, descriptor_value, Setup}
+use Rattle.usb_port.specs.{PortState, PortCall, set_call, clear_call}
+use Rattle.usb_device.specs.{ServedEndpoint, Registers, Spec, Hub, Outcome, stalled, takes_address}
+use Rattle.usb_device.specs.{takes_configuration, halts, unhalts, tells_port, calls_port, Is}
+use Rattle.usb_device.specs.{unless, text_asked, asked_descriptor, asked_status, asked_address}
+use Rattle.usb_device.specs.{is_value, asked_configuration, endpoint_of, on_endpoint}
+use Rattle.usb_device.specs.{asked_hub_descriptor, port_named, told_port, called_at}
+use Rattle.usb_device.specs.{asked_port_status, port_feature, outcome, reading, ending, reads}
+use Rattle.usb_device.specs.{reads_port, first_stage}
+use Rattle.usb_device.specs.Request.{answers}
+use Rattle.usb_address.specs.Aims.{Aims}
+use Rattle.usb_address.specs.{TakesOnly}
 
 module _ (Q : ℕ → Type 0) where
   only_if : (b : Bool) (x y : Outcome) → TakesOnly Q x → TakesOnly Q y

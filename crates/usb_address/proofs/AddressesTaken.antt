@@ -4,29 +4,19 @@ use Rattle.std.proofs.Common.{◌≡◌, ℕ, zero, suc, ◌⊎◌, inl, inr, Bo
 use Rattle.std.proofs.Common.{Option, None, Some, option_map, if◌then◌else◌, Result, Ok, Err, refl}
 use Rattle.std.proofs.Common.{ap, sym, subst, ◌∙◌}
 use Rattle.std.proofs.lemmas.Option.{same_Some}
-use Rattle.usb_device.specs.Rows.{State, ends_with_address}
-use Rattle.usb_device.specs.Transfer.{Stage, idle, refused, reading, read, ending}
-use Rattle.usb_device.specs.Tree.{state_at, Location, path_to, reach_on, state_on}
-use Rattle.usb_world.specs.declared.types.Attempt.{Attempt}
-use Rattle.usb_world.specs.declared.types.BusFault.{BusFault}
-use Rattle.usb_world.specs.declared.types.Outcome.{Outcome}
-use Rattle.usb_tree.specs.Paths.{address_of, same_path}
-use Rattle.usb_tree.specs.AttemptPackets.{deep_at, NobodyHolds}
-use Rattle.usb_world.specs.World.{World, Made}
-use Rattle.usb_world.specs.Steps.{at_attempt, damage_in, attempt, after}
-use Rattle.usb_world.specs.Courses.{HoldsMapped}
-use Rattle.usb_world.specs.OneHolder.{IsIn, IsMade, HolderIn}
-use Rattle.usb_world.specs.Addresses.{is_setup, NoneTakes, after_taking, ends_status}
+use Rattle.usb_device.specs.{State, ends_with_address, Stage, idle, refused, reading, read, ending}
+use Rattle.usb_device.specs.{state_at, Location, path_to, reach_on, state_on}
+use Rattle.usb_world.specs.{Attempt, BusFault, Outcome, World, Made, at_attempt, damage_in, attempt}
+use Rattle.usb_world.specs.{after, HoldsMapped, IsIn, IsMade, HolderIn, is_setup, NoneTakes}
+use Rattle.usb_world.specs.{after_taking, ends_status}
+use Rattle.usb_tree.specs.{address_of, same_path, deep_at, NobodyHolds}
 use Rattle.usb_world.proofs.Interface.{data_own, holder_or_nobody, made_of, ready_own, seen, stands}
 use Rattle.usb_world.proofs.Interface.{state_stands, taken_distinct, unseen}
 use Rattle.usb_tree.proofs.Interface.{decided, false_true, same_equal, self_path}
-use Rattle.usb_transaction.specs.declared.fault.TransFault.{TransFault}
-use Rattle.usb_transaction.specs.declared.fault.TransFault.TheVariants.{Stalled, Busy, NoAnswer}
-use Rattle.usb_transaction.specs.declared.fault.TransFault.TheVariants.{Bus}
-use Rattle.usb_transaction.specs.AttemptLog.{AttemptLog, start, next, BusFailed, Transacted}
-use Rattle.usb_address.specs.Aims.{Aims, AllAim, Never}
-use Rattle.usb_address.specs.Leaves.{LeavesTrans}
-use Rattle.usb_address.specs.Ownership.{MapHolds}
+use Rattle.usb_transaction.specs.{TransFault, Stalled, Busy, NoAnswer, Bus, AttemptLog, start, next}
+use Rattle.usb_transaction.specs.{BusFailed, Transacted}
+use Rattle.usb_address.specs.Aims.{Aims}
+use Rattle.usb_address.specs.{AllAim, Never, LeavesTrans, MapHolds}
 use Rattle.usb_address.proofs.Steps.{aim_ready, in_aims, data_owned, settled_attempt}
 use Rattle.usb_address.proofs.Steps.{unshared_after}
 use Rattle.usb_address.proofs.Trails.{cut_off_unshared}
@@ -69,8 +59,7 @@ module _ (f : List ℕ → Option ℕ) (p : List ℕ) (b : ℕ) (a : Attempt) (i
           distinct = o.distinct;
           own = own;
           single = unshared_after f a w o;
-          settled =
-              settled_attempt a w o.settled;
+          settled = settled_attempt a w o.settled;
         },
         in_aims Target a w m is (unshared_after f a w o) h,
       )
@@ -85,8 +74,7 @@ module _ (f : List ℕ → Option ℕ) (p : List ℕ) (b : ℕ) (a : Attempt) (i
       found : (y : Bool) → same_path p (path_to i) ≡ y → ⊥
       found true d = differ (sym (same_Some b n
           (sym (ap (λ z. if z then Some b else f (path_to i)) d) ∙ holds)))
-      found false d = false_true (sym d
-          ∙ ap (same_path p) (at (path_to i)
+      found false d = false_true (sym d ∙ ap (same_path p) (at (path_to i)
           (sym (ap (λ z. if z then Some b else f (path_to i)) d) ∙ holds)) ∙ self_path p)
 
   took : (w : World) (r : List ℕ) → f r ≡ Some n → Made w (after (attempt a) w) → MapHolds f w
@@ -136,8 +124,7 @@ module _ (f : List ℕ → Option ℕ) (p : List ℕ) (b : ℕ) (a : Attempt) (i
                 | k ∷ r ↦ elim k
                     as (λ _. Option State) [
                       | zero ↦ None
-                      | suc u ↦
-                          state_at (at_attempt w).roots u r
+                      | suc u ↦ state_at (at_attempt w).roots u r
                     ]
               ]) (sym z)
 

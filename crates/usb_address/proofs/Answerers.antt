@@ -1,12 +1,10 @@
 -- Who answered claims the address that was asked.
-use Rattle.usb_device.specs.Tree.{path_to}
+use Rattle.usb_device.specs.{path_to}
 use Rattle.std.proofs.Common.{◌≡◌, ℕ, List, Some, option_map, sym, ap, ◌∙◌}
-use Rattle.usb_tree.specs.Paths.{address_of}
-use Rattle.usb_world.specs.World.{World}
-use Rattle.usb_transaction.specs.declared.target.Target.{Target}
-use Rattle.usb_transaction.specs.Answerer.{Answerer}
-use Rattle.usb_address.specs.Claims.{AddressMap}
-use Rattle.usb_address.specs.Ownership.{MapHolds}
+use Rattle.usb_tree.specs.{address_of}
+use Rattle.usb_world.specs.{World}
+use Rattle.usb_transaction.specs.{Target, Answerer}
+use Rattle.usb_address.specs.{AddressMap, MapHolds}
 use Rattle.usb_tree.proofs.Interface.{equal_same}
 
 pub answerer_claims : (f : AddressMap) (t : Target) (old new : World) → MapHolds f old

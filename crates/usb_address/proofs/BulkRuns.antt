@@ -2,16 +2,14 @@
 use Rattle.std.proofs.Common.{◌≡◌, ℕ, ◌==◌, ◌&&◌, if◌then◌else◌, Bool, true, false, List, [], ◌∷◌}
 use Rattle.std.proofs.Common.{length, take, Option, None, Some, refl}
 use Rattle.std.specs.Prelude.{nat_le, nat_lt}
-use Rattle.usb_packet.specs.declared.Toggle.{Toggle}
-use Rattle.usb_port.specs.PortState.{PortState}
+use Rattle.usb_packet.specs.{Toggle, is_same}
+use Rattle.usb_port.specs.{PortState}
 use Rattle.usb_device.specs.declared.answer.Answer.TheVariants.{Ack, Nak, Stall}
 use Rattle.usb_device.specs.declared.transfer.InEndpoint.TheVariants as by
-use Rattle.usb_device.specs.Attempt.{Way, is_whole, heard, gave, source_law, held_law, changes_law}
-use Rattle.usb_device.specs.Attempt.{in_bulk_law, in_control_law, in_other_law, in_law, out_law}
-use Rattle.usb_packet.specs.Toggles.{is_same}
-use Rattle.usb_device.specs.Bulk.{turned, tells_changes, change_bits}
-use Rattle.usb_device.specs.Rows.{State, Reply, forgotten, rest_of, bulk_of, bulk_ack_row, sunk}
-use Rattle.usb_device.specs.Rows.{sink_row, out_bulk_row, data_row}
+use Rattle.usb_device.specs.{Way, is_whole, heard, gave, source_law, held_law, changes_law}
+use Rattle.usb_device.specs.{in_bulk_law, in_control_law, in_other_law, in_law, out_law, turned}
+use Rattle.usb_device.specs.{tells_changes, change_bits, State, Reply, forgotten, rest_of, bulk_of}
+use Rattle.usb_device.specs.{bulk_ack_row, sunk, sink_row, out_bulk_row, data_row}
 
 -- its description and its registers are the same, and a hub's status endpoint is halted where it
 -- was

@@ -2,27 +2,15 @@
 -- path that claims it, or nobody.
 use Rattle.std.proofs.Common.{◌≡◌, ℕ, ◌⊎◌, inl, inr, true, false, List, [], ◌∷◌, ◌++◌, None, Some}
 use Rattle.std.proofs.Common.{option_map, if◌then◌else◌, refl, ap, sym, ◌∙◌}
-use Rattle.usb_request.specs.Codes.{SET_ADDRESS, DEVICE_OUT}
-use Rattle.usb_request.specs.Layout.{setup_of, bytes_of}
-use Rattle.usb_request.specs.declared.setup.Setup.{Setup}
-use Rattle.usb_device.specs.Request.{Is}
-use Rattle.usb_device.specs.Rows.{State}
-use Rattle.usb_device.specs.Tree.{Location, path_to, reach_on, state_on}
-use Rattle.usb_world.specs.declared.types.Attempt.{Attempt}
-use Rattle.usb_world.specs.declared.types.Outcome.{Outcome}
-use Rattle.usb_world.specs.Addresses.{after_reset}
-use Rattle.usb_world.specs.Courses.{is_harmless}
-use Rattle.usb_tree.specs.Paths.{address_of, same_path, is_way}
-use Rattle.usb_world.specs.OneHolder.{HolderIn}
-use Rattle.usb_world.specs.Steps.{Step, at_attempt, attempt, after, Course, here}
-use Rattle.usb_world.specs.World.{World, Made}
+use Rattle.usb_request.specs.{SET_ADDRESS, DEVICE_OUT, setup_of, bytes_of, Setup}
+use Rattle.usb_device.specs.{Is, State, Location, path_to, reach_on, state_on}
+use Rattle.usb_world.specs.{Attempt, Outcome, after_reset, is_harmless, HolderIn, Step, at_attempt}
+use Rattle.usb_world.specs.{attempt, after, Course, here, World, Made}
+use Rattle.usb_tree.specs.{address_of, same_path, is_way}
 use Rattle.usb_world.proofs.Interface.{course_then, ready_own, same_is, stands, state_stands}
 use Rattle.usb_tree.proofs.Interface.{false_true}
-use Rattle.usb_transaction.specs.declared.target.Target.{Target}
-use Rattle.usb_transaction.specs.AttemptLog.{AttemptLog, start, next}
-use Rattle.usb_transaction.specs.Transactions.{setup_attempt}
-use Rattle.usb_address.specs.Claims.{AddressMap}
-use Rattle.usb_address.specs.Ownership.{MapHolds}
+use Rattle.usb_transaction.specs.{Target, AttemptLog, start, next, setup_attempt}
+use Rattle.usb_address.specs.{AddressMap, MapHolds}
 use Rattle.usb_address.proofs.Ports.{not_way}
 use Rattle.usb_address.proofs.PortResets.{Fits, Resets, step_on, is_way-same_path}
 use Rattle.usb_address.proofs.Steps.{quiet_owned}
@@ -112,6 +100,5 @@ module _ (t : Target) (request : Setup) (same : setup_of (bytes_of request) ≡ 
         claimed w (inr o) = record {
           claims = after_reset f (q ++ (n ∷ []));
           owned = o;
-          held =
-              still_held;
+          held = still_held;
         }

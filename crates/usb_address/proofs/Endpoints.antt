@@ -6,37 +6,24 @@ use Rattle.std.proofs.Common.{arith}
 use Rattle.std.specs.Prelude.{MatchResult}
 use Rattle.std.specs.Global.{Vec}
 use Rattle.arrayvec.specs.ArrayVec.{ArrayVec}
-use Rattle.usb_packet.specs.declared.Toggle.{Toggle}
-use Rattle.usb_request.specs.Codes.{SET_ADDRESS, DEVICE_OUT}
-use Rattle.usb_request.specs.Requests.{clear_endpoint_halt}
-use Rattle.usb_device.specs.Request.{Is}
-use Rattle.usb_world.specs.declared.types.Attempt.{Attempt}
-use Rattle.usb_world.specs.declared.types.BusFault.{BusFault}
-use Rattle.usb_world.specs.declared.types.Outcome.{Outcome}
-use Rattle.usb_world.specs.World.{World}
-use Rattle.usb_transaction.specs.declared.target.Target.{Target}
-use Rattle.usb_transaction.specs.declared.fault.TransFault.{TransFault}
+use Rattle.usb_packet.specs.{Toggle, flips}
+use Rattle.usb_request.specs.{SET_ADDRESS, DEVICE_OUT, clear_endpoint_halt}
+use Rattle.usb_device.specs.{Is}
+use Rattle.usb_world.specs.{Attempt, BusFault, Outcome, World}
+use Rattle.usb_transaction.specs.{Target, TransFault, heard_as, polled_as, heard_when_sent}
+use Rattle.usb_transaction.specs.{in_attempt, out_attempt, AttemptsMade, AttemptLog, start}
+use Rattle.usb_transaction.specs.{Transacted}
 use Rattle.usb_transaction.specs.declared.fault.TransFault.TheVariants as trans
-use Rattle.usb_transaction.specs.HeardOutcomes.{heard_as, polled_as, heard_when_sent}
-use Rattle.usb_transaction.specs.Transactions.{in_attempt, out_attempt, AttemptsMade}
-use Rattle.usb_transaction.specs.AttemptLog.{AttemptLog, start, Transacted}
-use Rattle.usb_pipe.specs.declared.condition.Condition.{Condition}
+use Rattle.usb_pipe.specs.{Condition, PipeFault, Bulk, halt_address, packets_of, Sends, Receives}
+use Rattle.usb_pipe.specs.{Cleared, Clears, FaultAfter, packet_target, Interrupt, PollAsked, Polls}
+use Rattle.usb_pipe.specs.{Gave, Came, Puts, Fetches, SendEnds, NotCame, NoRoomLeft, ReceiveEnds}
 use Rattle.usb_pipe.specs.declared.condition.Condition.TheVariants as condition
-use Rattle.usb_pipe.specs.declared.fault.PipeFault.{PipeFault}
 use Rattle.usb_pipe.specs.declared.fault.PipeFault.TheVariants.{Stalled, Busy, NoAnswer, Broken}
 use Rattle.usb_pipe.specs.declared.fault.PipeFault.TheVariants.{Bus, Memory}
-use Rattle.usb_pipe.specs.Bulk.{Bulk, halt_address, packets_of, Sends, Receives, Cleared, Clears}
-use Rattle.usb_pipe.specs.Control.{FaultAfter}
-use Rattle.usb_pipe.specs.End.{packet_target}
-use Rattle.usb_pipe.specs.Interrupt.{Interrupt, PollAsked, Polls}
-use Rattle.usb_pipe.specs.Moves.{Gave, Came, Puts, Fetches, SendEnds, NotCame, NoRoomLeft}
-use Rattle.usb_pipe.specs.Moves.{ReceiveEnds}
 use Rattle.usb_pipe.specs.Moves as moves
-use Rattle.usb_packet.specs.Toggles.{flips}
 use Rattle.usb_pipe.proofs.Interface.{harmless}
-use Rattle.usb_address.specs.Claims.{AddressMap}
-use Rattle.usb_address.specs.Leaves.{LeavesTrans, LeavesPipe}
-use Rattle.usb_address.specs.Ownership.{MapHolds, WhileBusWorks, KeepsAddresses}
+use Rattle.usb_address.specs.{AddressMap, LeavesTrans, LeavesPipe, MapHolds, WhileBusWorks}
+use Rattle.usb_address.specs.{KeepsAddresses}
 use Rattle.usb_address.proofs.TransferSequences.{keeps_none, trail_sound, till, still, owned_alone}
 use Rattle.usb_address.proofs.TransferSequences.{write_keeps}
 use Rattle.usb_address.proofs.Polls.{into, out, far_transacted, polls_leave}
@@ -82,8 +69,7 @@ some_worked : {A : Type 0} (k : A → ℕ) (n : ℕ) (old new : World) (result :
 some_worked k n old new (Ok x) w = record {
   sound = w.sound;
   least = omega (arith, w.least);
-  still =
-      w.still;
+  still = w.still;
 }
 some_worked k n old new (Err why) w = w
 

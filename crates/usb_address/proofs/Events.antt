@@ -2,13 +2,10 @@
 use Rattle.std.proofs.Common.{◌≡◌, false, Option, None, Some, Result, Ok, Err, refl, ap, ◌∙◌}
 use Rattle.std.specs.Prelude.{OnOk}
 use Rattle.usb_world.specs.declared.event.Ask.{Ask}
-use Rattle.usb_world.specs.declared.types.BusFault.{BusFault}
-use Rattle.usb_world.specs.declared.types.BusFault.TheVariants.{LimitReached, Memory, TraceFailed}
-use Rattle.usb_world.specs.Steps.{event, after, TookEvent}
-use Rattle.usb_world.specs.World.{World}
+use Rattle.usb_world.specs.{BusFault, LimitReached, Memory, TraceFailed, event, after, TookEvent}
+use Rattle.usb_world.specs.{World}
 use Rattle.usb_world.proofs.Interface.{settled_after, step_own, step_unshared}
-use Rattle.usb_address.specs.Claims.{AddressMap}
-use Rattle.usb_address.specs.Ownership.{MapHolds, WhileBusWorks, KeepsAddresses}
+use Rattle.usb_address.specs.{AddressMap, MapHolds, WhileBusWorks, KeepsAddresses}
 use Rattle.usb_address.proofs.Endpoints.{same_keeps}
 
 event_owned : (f : AddressMap) (w : World) → MapHolds f w → MapHolds f (after event w)
@@ -24,8 +21,7 @@ gave_up : (P : World → Type 0) (fault : BusFault) (w new : World)
     → new ≡ record w { fault = Some fault } → w.shared ≡ false → WhileBusWorks P new
 gave_up P fault w new is single = record {
   so = λ h. absurd (cc (h, ap (λ v. v.fault) is));
-  single =
-      ap (λ v. v.shared) is ∙ single;
+  single = ap (λ v. v.shared) is ∙ single;
 }
 
 came_keeps : (old new : World) → old.fault ≡ None → new ≡ after event old → KeepsAddresses old new
@@ -48,8 +44,7 @@ event_keeps old result new took_it exact refused cut other = split old.fault ref
         → OnOk r (new ≡ after event old) → old.fault ≡ None → KeepsAddresses old new
     sound (Ok due) is came e = came_keeps old new e came
     sound (Err Memory) is came e = record {
-      kept =
-          λ f o. gave_up (MapHolds f) Memory old new (refused is e) o.single;
+      kept = λ f o. gave_up (MapHolds f) Memory old new (refused is e) o.single;
     }
     sound (Err TraceFailed) is came e =
         record {

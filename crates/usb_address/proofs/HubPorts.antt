@@ -2,12 +2,9 @@
 use Rattle.std.proofs.Common.{◌≡◌, ℕ, suc, ◌-◌, ◌==◌, ◌&&◌, nat_le, not, ◌⊎◌, inl, inr, Bool, true}
 use Rattle.std.proofs.Common.{false, Option, None, Some, option_map, if◌then◌else◌, refl, arith}
 use Rattle.std.proofs.lemmas.Option.{same_Some}
-use Rattle.usb_device.specs.declared.request.Registers.{Registers}
-use Rattle.usb_device.specs.Spec.{Hub}
-use Rattle.usb_device.specs.Request.{port_named}
-use Rattle.usb_device.specs.Rows.{State}
-use Rattle.usb_device.specs.Tree.{Ports, ended, Place, empty, full}
-use Rattle.usb_tree.specs.Paths.{address_of}
+use Rattle.usb_device.specs.{Registers, Hub, port_named, State, Ports, ended, empty, full}
+use Rattle.usb_device.specs.Tree.{Place}
+use Rattle.usb_tree.specs.{address_of}
 
 -- what stands at the ports of a device
 abbrev pub place_ports : Option Place → Ports

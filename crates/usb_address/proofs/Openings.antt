@@ -1,11 +1,9 @@
 -- The world of a plan before anything came: no device stands, so none is reached.
 use Rattle.std.proofs.Common.{◌≡◌, ℕ, zero, suc, false, List, [], ◌∷◌, refl, ap}
 use Rattle.std.specs.Prelude.{⊤}
-use Rattle.usb_device.specs.Delivery.{all_forgotten}
-use Rattle.usb_device.specs.Tree.{Ports, ended, vacant, taken, new_ports, reach, reach_at}
-use Rattle.usb_tree.specs.AttemptPackets.{IsSettled}
-use Rattle.usb_world.specs.PlanData.{PlanData}
-use Rattle.usb_world.specs.Steps.{opening}
+use Rattle.usb_device.specs.{all_forgotten, Ports, ended, vacant, taken, new_ports, reach, reach_at}
+use Rattle.usb_tree.specs.{IsSettled}
+use Rattle.usb_world.specs.{PlanData, opening}
 
 -- a row of ports on which no device stands
 abbrev pub IsVacant : Ports → Type 0

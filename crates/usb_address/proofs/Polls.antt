@@ -3,38 +3,23 @@ use Rattle.std.proofs.Common.{◌≡◌, ◌≢◌, ℕ, zero, suc, ◌==◌, �
 use Rattle.std.proofs.Common.{false, List, [], ◌∷◌, length, Option, None, Some, option_map, Result}
 use Rattle.std.proofs.Common.{Ok, Err, refl, ap, sym, subst, ◌∙◌}
 use Rattle.arrayvec.specs.ArrayVec.{ArrayVec}
-use Rattle.usb_packet.specs.declared.Toggle.{Toggle}
-use Rattle.usb_packet.specs.declared.Toggle.TheVariants.{Zero, One as Data1}
-use Rattle.usb_port.specs.PortState.{PortState}
+use Rattle.usb_packet.specs.{Toggle, Zero, One as Data1, is_same}
+use Rattle.usb_port.specs.{PortState}
 use Rattle.usb_device.specs.declared.answer.Answer.TheVariants as answer
-use Rattle.usb_packet.specs.Toggles.{is_same}
-use Rattle.usb_device.specs.Transfer.{Stage, idle, refused, reading, read, ending}
-use Rattle.usb_device.specs.Rows.{State, Reply, forgotten, is_busy, nak_row, unless_busy, out_row}
-use Rattle.usb_device.specs.Rows.{status_row, sink_row, sunk, out_bulk_row, bulk_of, data_row}
-use Rattle.usb_device.specs.Attempt.{Way, is_whole, heard, in_law, out_law}
-use Rattle.usb_device.specs.Tree.{Ports, ended, vacant, taken, row_of, reach_at, state_at, Location}
-use Rattle.usb_device.specs.declared.request.Registers.{Registers}
-use Rattle.usb_world.specs.declared.types.Attempt.{Attempt}
-use Rattle.usb_world.specs.declared.types.Outcome.{Outcome}
-use Rattle.usb_tree.specs.Paths.{address_of}
-use Rattle.usb_world.specs.World.{World}
-use Rattle.usb_world.specs.Steps.{attempt, after}
-use Rattle.usb_world.specs.Courses.{HoldsMapped}
-use Rattle.usb_world.specs.Devices.{Was, EachWas, DidIn, DidOut}
-use Rattle.usb_world.specs.OneHolder.{IsOut, IsIn, IsMade}
+use Rattle.usb_device.specs.{Stage, idle, refused, reading, read, ending, State, Reply, forgotten}
+use Rattle.usb_device.specs.{is_busy, nak_row, unless_busy, out_row, status_row, sink_row, sunk}
+use Rattle.usb_device.specs.{out_bulk_row, bulk_of, data_row, Way, is_whole, heard, in_law, out_law}
+use Rattle.usb_device.specs.{Ports, ended, vacant, taken, row_of, reach_at, state_at, Location}
+use Rattle.usb_device.specs.{Registers}
+use Rattle.usb_world.specs.{Attempt, Outcome, World, attempt, after, HoldsMapped, Was, EachWas}
+use Rattle.usb_world.specs.{DidIn, DidOut, IsOut, IsIn, IsMade}
+use Rattle.usb_tree.specs.{address_of}
 use Rattle.usb_world.proofs.Interface.{each_in, each_out, made_of}
 use Rattle.usb_tree.proofs.Interface.{both, false_true, unequal}
-use Rattle.usb_transaction.specs.declared.fault.TransFault.{TransFault}
-use Rattle.usb_transaction.specs.declared.fault.TransFault.TheVariants.{Stalled, Busy, NoAnswer}
-use Rattle.usb_transaction.specs.declared.fault.TransFault.TheVariants.{Bus}
-use Rattle.usb_transaction.specs.Transactions.{in_attempt}
-use Rattle.usb_transaction.specs.HeardOutcomes.{polled_as}
-use Rattle.usb_transaction.specs.AttemptLog.{AttemptLog, start, next, Transacted, Polled}
-use Rattle.usb_pipe.specs.declared.fault.PipeFault.{PipeFault}
-use Rattle.usb_pipe.specs.Control.{as_pipe_fault}
-use Rattle.usb_pipe.specs.Interrupt.{Interrupt, PollAsked, Polls}
-use Rattle.usb_address.specs.Leaves.{LeavesTrans, LeavesPipe}
-use Rattle.usb_address.specs.Ownership.{MapHolds}
+use Rattle.usb_transaction.specs.{TransFault, Stalled, Busy, NoAnswer, Bus, in_attempt, polled_as}
+use Rattle.usb_transaction.specs.{AttemptLog, start, next, Transacted, Polled}
+use Rattle.usb_pipe.specs.{PipeFault, as_pipe_fault, Interrupt, PollAsked, Polls}
+use Rattle.usb_address.specs.{LeavesTrans, LeavesPipe, MapHolds}
 use Rattle.usb_address.proofs.Steps.{settled_attempt, unshared_after}
 use Rattle.usb_address.proofs.Trails.{cut_off_unshared}
 use Rattle.usb_address.proofs.BulkRuns.{in_kept}
@@ -157,11 +142,9 @@ trail_far f a far (next w t made) o =
     let x : MapHolds f w = trail_far f a far t o in
     record {
       distinct = x.distinct;
-      own = far_own f a w far (made_of a w x.settled made)
-          (unshared_after f a w x) x.own;
+      own = far_own f a w far (made_of a w x.settled made) (unshared_after f a w x) x.own;
       single = unshared_after f a w x;
-      settled =
-          settled_attempt a w x.settled;
+      settled = settled_attempt a w x.settled;
     }
 
 pub far_transacted : (f : List ℕ → Option ℕ) (a : Attempt) → IsOffEndpointZero a

@@ -4,41 +4,24 @@ use Rattle.std.proofs.Common.{◌≡◌, ℕ, zero, ◌⊎◌, inl, inr, Bool, t
 use Rattle.std.proofs.Common.{Option, None, Some, option_map, if◌then◌else◌, Result, Ok, Err, refl}
 use Rattle.std.proofs.Common.{ap, sym, subst, ◌∙◌}
 use Rattle.std.proofs.lemmas.Option.{same_Some}
-use Rattle.usb_packet.specs.declared.Toggle.TheVariants.{One}
-use Rattle.usb_request.specs.Codes.{SET_ADDRESS, DEVICE_OUT}
-use Rattle.usb_request.specs.Layout.{setup_of, bytes_of}
-use Rattle.usb_request.specs.declared.setup.Setup.{Setup}
-use Rattle.usb_device.specs.Request.{outcome, Is}
-use Rattle.usb_device.specs.Rows.{State}
-use Rattle.usb_device.specs.Tree.{Place, empty, full, reach, Location, path_to, reach_on, state_on}
-use Rattle.usb_device.specs.Tree.{place_on}
-use Rattle.usb_world.specs.declared.types.Attempt.{Attempt}
-use Rattle.usb_world.specs.declared.types.BusFault.{BusFault}
-use Rattle.usb_world.specs.declared.types.Outcome.{Outcome}
+use Rattle.usb_packet.specs.{One}
+use Rattle.usb_request.specs.{SET_ADDRESS, DEVICE_OUT, setup_of, bytes_of, Setup}
+use Rattle.usb_device.specs.{outcome, Is, State, empty, full, reach, Location, path_to, reach_on}
+use Rattle.usb_device.specs.{state_on, place_on}
+use Rattle.usb_device.specs.Tree.{Place}
+use Rattle.usb_world.specs.{Attempt, BusFault, Outcome, World, Made, at_attempt, attempt, after}
+use Rattle.usb_world.specs.{outcome_in, HoldsMapped, resets, address_at, IsSetup, IsMade, HolderIn}
+use Rattle.usb_world.specs.{after_reset}
 use Rattle.usb_world.specs.declared.types.Outcome.TheVariants.{Ack}
-use Rattle.usb_tree.specs.Paths.{address_of, same_path, same_number, is_way}
-use Rattle.usb_tree.specs.AttemptPackets.{NobodyHolds}
-use Rattle.usb_tree.specs.WayEffects.{IsNew}
-use Rattle.usb_world.specs.World.{World, Made}
-use Rattle.usb_world.specs.Steps.{at_attempt, attempt, after, outcome_in}
-use Rattle.usb_world.specs.Courses.{HoldsMapped, resets, address_at}
-use Rattle.usb_world.specs.OneHolder.{IsSetup, IsMade, HolderIn}
-use Rattle.usb_world.specs.Addresses.{after_reset}
+use Rattle.usb_tree.specs.{address_of, same_path, same_number, is_way, NobodyHolds, IsNew}
 use Rattle.usb_world.proofs.Interface.{holder_or_nobody, hub_reset, hub_rest, made_of, nobody_in}
 use Rattle.usb_world.proofs.Interface.{ready_own, reset_distinct, stands, state_stands, step_new}
 use Rattle.usb_tree.proofs.Interface.{and_of, both, decided, false_true}
-use Rattle.usb_transaction.specs.declared.target.Target.{Target}
-use Rattle.usb_transaction.specs.declared.fault.TransFault.{TransFault}
-use Rattle.usb_transaction.specs.declared.fault.TransFault.TheVariants.{Stalled, Busy, NoAnswer}
-use Rattle.usb_transaction.specs.declared.fault.TransFault.TheVariants.{Bus}
-use Rattle.usb_transaction.specs.HeardOutcomes.{set_up_as}
-use Rattle.usb_transaction.specs.Transactions.{setup_attempt}
-use Rattle.usb_transaction.specs.AttemptLog.{AttemptLog, start, next, BusFailed}
-use Rattle.usb_pipe.specs.declared.fault.PipeFault.{PipeFault}
-use Rattle.usb_pipe.specs.Stages.{SetUp, Asks, Writes}
-use Rattle.usb_address.specs.Aims.{Aims, AllAim, TakesOnly, Never}
-use Rattle.usb_address.specs.Leaves.{LeavesTrans, LeavesPipe}
-use Rattle.usb_address.specs.Ownership.{MapHolds}
+use Rattle.usb_transaction.specs.{Target, TransFault, Stalled, Busy, NoAnswer, Bus, set_up_as}
+use Rattle.usb_transaction.specs.{setup_attempt, AttemptLog, start, next, BusFailed}
+use Rattle.usb_pipe.specs.{PipeFault, SetUp, Asks, Writes}
+use Rattle.usb_address.specs.Aims.{Aims}
+use Rattle.usb_address.specs.{AllAim, TakesOnly, Never, LeavesTrans, LeavesPipe, MapHolds}
 use Rattle.usb_address.proofs.AddressRequests.{outcome_only}
 use Rattle.usb_address.proofs.Steps.{set_up_aims, settled_attempt, unshared_after}
 use Rattle.usb_address.proofs.Trails.{cut_off_unshared, setup_acked}
@@ -142,16 +125,14 @@ module _ (q : List ℕ) (n : ℕ) (t : Target) (request : Setup) (same : setup_o
         distinct = o.distinct;
         own = own;
         single = u;
-        settled =
-            settled_attempt a w o.settled;
+        settled = settled_attempt a w o.settled;
       })
 
       moves : HoldsMapped (after_reset h p) (after (attempt a) w) → Step h (after (attempt a) w)
       moves own = inr (record {
         distinct = reset_distinct h p o.distinct y.only;
         own = own;
-        single =
-            u;
+        single = u;
         settled = settled_attempt a w o.settled;
       })
 

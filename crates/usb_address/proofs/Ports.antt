@@ -2,23 +2,15 @@
 use Rattle.std.proofs.Common.{◌≡◌, ℕ, zero, ◌⊎◌, true, false, List, [], ◌∷◌, ◌++◌, Some, Result}
 use Rattle.std.proofs.Common.{refl, ap, sym, ◌∙◌, arith}
 use Rattle.std.specs.Prelude.{MatchResult}
-use Rattle.usb_request.specs.Features.{PORT_RESET}
-use Rattle.usb_port.specs.Path.{IsPath}
-use Rattle.usb_request.specs.declared.setup.Setup.{Setup}
-use Rattle.usb_request.specs.Requests.{set_port_feature}
-use Rattle.usb_world.specs.Addresses.{after_reset}
-use Rattle.usb_tree.specs.Paths.{is_way, same_number}
-use Rattle.usb_world.specs.World.{World}
+use Rattle.usb_request.specs.{PORT_RESET, Setup, set_port_feature}
+use Rattle.usb_port.specs.{IsPath}
+use Rattle.usb_world.specs.{after_reset, World}
+use Rattle.usb_tree.specs.{is_way, same_number}
 use Rattle.usb_world.proofs.Interface.{same_is}
 use Rattle.usb_tree.proofs.Interface.{and_false, false_true}
-use Rattle.usb_transaction.specs.declared.target.Target.{Target}
-use Rattle.usb_transaction.specs.Transactions.{AttemptsMade}
-use Rattle.usb_pipe.specs.declared.fault.PipeFault.{PipeFault}
-use Rattle.usb_pipe.specs.Control.{FaultAfter}
-use Rattle.usb_pipe.specs.Stages.{Writes}
-use Rattle.usb_address.specs.Claims.{AddressMap}
-use Rattle.usb_address.specs.Leaves.{LeavesPipe}
-use Rattle.usb_address.specs.Ownership.{MapHolds, WhileBusWorks}
+use Rattle.usb_transaction.specs.{Target, AttemptsMade}
+use Rattle.usb_pipe.specs.{PipeFault, FaultAfter, Writes}
+use Rattle.usb_address.specs.{AddressMap, LeavesPipe, MapHolds, WhileBusWorks}
 use Rattle.usb_address.proofs.TransferSequences.{write_till, either_alone}
 use Rattle.usb_address.proofs.PortResets.{resets_leave}
 use Rattle.usb_address.proofs.Setups.{same_setup}
@@ -65,6 +57,5 @@ module _ (t : Target) (k n : ℕ) (old new : World) (f : AddressMap) where
       leaves own = resets_leave hub port t request (same_setup request) refl some f
           (record {
             at = λ x h. sym (same_is x hub (own.distinct x hub t.addr h held));
-            only =
-                only;
+            only = only;
           }) refl old result new writes own

@@ -1,21 +1,14 @@
 -- What the calls at a root port do to the addresses that devices hold (11.24.2).
 use Rattle.std.proofs.Common.{◌≡◌, ℕ, zero, suc, ◌⊎◌, inl, inr, true, false, List, [], ◌∷◌, Some}
 use Rattle.std.proofs.Common.{slice_index_or, refl, sym, subst, ◌∙◌}
-use Rattle.usb_port.specs.declared.call.PortCall.{PortCall}
-use Rattle.usb_port.specs.declared.call.PortCall.TheVariants.{SetReset}
-use Rattle.usb_port.specs.Calls.{is_reset}
-use Rattle.usb_port.specs.PortState.{off}
-use Rattle.usb_device.specs.Tree.{Ports, ended, vacant, taken, reach, reach_at, row_of}
-use Rattle.usb_world.specs.Addresses.{after_reset}
-use Rattle.usb_world.specs.Courses.{resets}
-use Rattle.usb_tree.specs.Paths.{is_way, same_number}
-use Rattle.usb_world.specs.Steps.{root_call, after}
-use Rattle.usb_world.specs.World.{World, root_port_at}
+use Rattle.usb_port.specs.{PortCall, SetReset, is_reset, off}
+use Rattle.usb_device.specs.{Ports, ended, vacant, taken, reach, reach_at, row_of}
+use Rattle.usb_world.specs.{after_reset, resets, root_call, after, World, root_port_at}
+use Rattle.usb_tree.specs.{is_way, same_number}
 use Rattle.usb_world.proofs.Interface.{same_number-is, reset_distinct, reset_own, rest_own}
 use Rattle.usb_world.proofs.Interface.{settled_called, step_own}
 use Rattle.usb_tree.proofs.Interface.{both, decided, false_true}
-use Rattle.usb_address.specs.Claims.{AddressMap, map_without}
-use Rattle.usb_address.specs.Ownership.{MapHolds, WhileBusWorks, KeepsAddresses}
+use Rattle.usb_address.specs.{AddressMap, map_without, MapHolds, WhileBusWorks, KeepsAddresses}
 use Rattle.usb_address.proofs.HubPorts.{less_one}
 use Rattle.usb_address.proofs.States.{bared}
 
@@ -43,8 +36,7 @@ module _ (c : PortCall) (n : ℕ) (w : World) where
   pub root_keeps : is_reset c ≡ false → KeepsAddresses w v
   root_keeps quiet = record {
     kept = λ f o. record {
-      so =
-          λ e. quiet_owned f quiet (o.so (sym same_fault ∙ e));
+      so = λ e. quiet_owned f quiet (o.so (sym same_fault ∙ e));
       single = same_mark ∙ o.single;
     };
   }
@@ -107,7 +99,6 @@ reach-root_disabled (suc j) w h (suc i ∷ r) way =
 pub root_shut : (f : AddressMap) (n : ℕ) (w : World) → (root_port_at w n).enable ≡ false
     → WhileBusWorks (MapHolds f) w → WhileBusWorks (MapHolds (map_without f (n ∷ []))) w
 root_shut f n w off o = record {
-  so = λ e. bared f (n ∷ []) w (reach-root_disabled n w off)
-      (o.so e);
+  so = λ e. bared f (n ∷ []) w (reach-root_disabled n w off) (o.so e);
   single = o.single;
 }

@@ -1,10 +1,8 @@
 -- Requests, and the eight bytes that carry them.
 use Rattle.std.proofs.Common.{◌≡◌, ℕ, ◌≤◌, ◌==◌, false, refl, arith}
 use Rattle.std.proofs.lemmas.Bool.Decides.{nat_tests}
-use Rattle.usb_request.specs.Codes.{SET_ADDRESS, DEVICE_OUT}
-use Rattle.usb_request.specs.Layout.{setup_of, bytes_of, IsToHost}
-use Rattle.usb_request.specs.declared.setup.Setup.{Setup}
-use Rattle.usb_device.specs.Request.{Is}
+use Rattle.usb_request.specs.{SET_ADDRESS, DEVICE_OUT, setup_of, bytes_of, IsToHost, Setup}
+use Rattle.usb_device.specs.{Is}
 use Rattle.usb_pipe.proofs.Interface.{two_bytes_word}
 
 -- what is sent is what is read

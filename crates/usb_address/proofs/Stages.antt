@@ -1,23 +1,19 @@
 -- A device's status stage after an attempt: the one it had, or none that ends with an address.
 use Rattle.std.proofs.Common.{◌≡◌, ℕ, ◌+◌, ◌==◌, ◌&&◌, nat_lt, nat_le, if◌then◌else◌, Bool, true}
 use Rattle.std.proofs.Common.{false, List, [], ◌∷◌, length, take, Option, None, Some, is_some, refl}
-use Rattle.usb_packet.specs.declared.Toggle.{Toggle}
-use Rattle.usb_packet.specs.declared.Toggle.TheVariants.{Zero, One as Data1}
-use Rattle.usb_port.specs.PortState.{PortState}
+use Rattle.usb_packet.specs.{Toggle, Zero, One as Data1, is_same}
+use Rattle.usb_port.specs.{PortState}
 use Rattle.usb_device.specs.declared.answer.Answer.TheVariants as answer
-use Rattle.usb_device.specs.declared.transfer.InEndpoint.{InEndpoint}
+use Rattle.usb_device.specs.{InEndpoint, tells_changes, change_bits, Stage, idle, refused, reading}
+use Rattle.usb_device.specs.{read, ending, max_packet, packet_at, toggle_at, State, Reply}
+use Rattle.usb_device.specs.{forgotten, is_busy, nak_row, unless_busy, out_row, status_row, ack_row}
+use Rattle.usb_device.specs.{sink_row, sunk, out_bulk_row, bulk_ack_row, bulk_of, rest_of, data_row}
+use Rattle.usb_device.specs.{acknowledged, ends_with_address, Way, is_whole, heard, gave}
+use Rattle.usb_device.specs.{in_stage_law, source_law, held_law, changes_law, in_bulk_law}
+use Rattle.usb_device.specs.{in_other_law, in_control_law, in_law, out_law}
 use Rattle.usb_device.specs.declared.transfer.InEndpoint.TheVariants as by
-use Rattle.usb_packet.specs.Toggles.{is_same}
-use Rattle.usb_device.specs.Bulk.{tells_changes, change_bits}
-use Rattle.usb_device.specs.Transfer.{Stage, idle, refused, reading, read, ending, max_packet}
-use Rattle.usb_device.specs.Transfer.{packet_at, toggle_at}
-use Rattle.usb_device.specs.Rows.{State, Reply, forgotten, is_busy, nak_row, unless_busy, out_row}
-use Rattle.usb_device.specs.Rows.{status_row, ack_row, sink_row, sunk, out_bulk_row, bulk_ack_row}
-use Rattle.usb_device.specs.Rows.{bulk_of, rest_of, data_row, acknowledged, ends_with_address}
-use Rattle.usb_device.specs.Attempt.{Way, is_whole, heard, gave, in_stage_law, source_law, held_law}
-use Rattle.usb_device.specs.Attempt.{changes_law, in_bulk_law, in_other_law, in_control_law, in_law}
-use Rattle.usb_device.specs.Attempt.{out_law}
-use Rattle.usb_address.specs.Aims.{Aims, Never}
+use Rattle.usb_address.specs.Aims.{Aims}
+use Rattle.usb_address.specs.{Never}
 
 pub none_takes : (g : Stage) → Aims Never g → ends_with_address g ≡ false
 none_takes idle h = refl
@@ -76,8 +72,7 @@ module _ (Q : ℕ → Type 0) where
         split : (o : Option (List ℕ)) → Keeps (elim o
             as (λ _. Reply) [
               | None ↦ (None, s)
-              | Some bytes ↦
-                  gave s by.Control max (toggle_at k) bytes x y
+              | Some bytes ↦ gave s by.Control max (toggle_at k) bytes x y
             ])
         split None = h
         split (Some bytes) = gives s by.Control max (toggle_at k) bytes x y h

@@ -3,16 +3,12 @@
 use Rattle.std.proofs.Common.{◌≡◌, ℕ, zero, suc, ◌⊎◌, inl, inr, Bool, true, false, List, [], ◌∷◌}
 use Rattle.std.proofs.Common.{Option, None, Some, option_map, if◌then◌else◌, refl, ap, sym, ◌∙◌}
 use Rattle.std.proofs.lemmas.Option.{same_Some}
-use Rattle.usb_device.specs.Rows.{State as Device}
-use Rattle.usb_device.specs.Tree.{reach, state_at}
-use Rattle.usb_tree.specs.Paths.{same_path, is_way, address_of}
-use Rattle.usb_world.specs.World.{World}
-use Rattle.usb_world.specs.Courses.{Injective, address_at}
-use Rattle.usb_world.specs.Addresses.{after_reset, after_taking}
+use Rattle.usb_device.specs.{State as Device, reach, state_at}
+use Rattle.usb_tree.specs.{same_path, is_way, address_of}
+use Rattle.usb_world.specs.{World, Injective, address_at, after_reset, after_taking}
 use Rattle.usb_world.proofs.Interface.{same_is, taken_distinct, way_itself}
 use Rattle.usb_tree.proofs.Interface.{false_true}
-use Rattle.usb_address.specs.Claims.{Free, map_without, Unused}
-use Rattle.usb_address.specs.Ownership.{MapHolds, Enumerating}
+use Rattle.usb_address.specs.{Free, map_without, Unused, MapHolds, Enumerating}
 use Rattle.usb_address.proofs.Polls.{reach_stands}
 use Rattle.usb_address.proofs.PortResets.{owned_as}
 
@@ -55,8 +51,7 @@ bared f p w bare o = record {
   distinct = distinct;
   own = own;
   single = o.single;
-  settled =
-      o.settled;
+  settled = o.settled;
 }
   where
     of_cleared : (x : List ℕ) (a : ℕ) → map_without f p x ≡ Some a → f x ≡ Some a
@@ -92,8 +87,7 @@ after_a_reset f p a c w free is (inr o) =
     record {
       has = 0;
       is = inl refl;
-      owned =
-          owned_as (after_reset (after_taking f p c) p) (after_taking f p 0) w same o;
+      owned = owned_as (after_reset (after_taking f p c) p) (after_taking f p 0) w same o;
     }
   where
     same : (x : List ℕ) → after_reset (after_taking f p c) p x ≡ after_taking f p 0 x
@@ -115,8 +109,7 @@ after_an_address f p a c w is (inr o) =
     record {
       has = a;
       is = inr refl;
-      owned =
-          owned_as (after_taking (after_taking f p c) p a) (after_taking f p a) w same o;
+      owned = owned_as (after_taking (after_taking f p c) p a) (after_taking f p a) w same o;
     }
   where
     same : (x : List ℕ) → after_taking (after_taking f p c) p a x ≡ after_taking f p a x

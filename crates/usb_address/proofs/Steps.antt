@@ -1,30 +1,22 @@
 -- What one attempt leaves of addresses.
 use Rattle.std.proofs.Common.{◌≡◌, ℕ, ◌&&◌, if◌then◌else◌, inr, Bool, true, false, List, Option}
 use Rattle.std.proofs.Common.{None, Some, Err, refl, ap, sym, subst, ◌∙◌}
-use Rattle.usb_packet.specs.declared.Toggle.{Toggle}
-use Rattle.usb_request.specs.Layout.{setup_of}
-use Rattle.usb_device.specs.Attempt.{Way, is_whole, heard}
+use Rattle.usb_packet.specs.{Toggle}
+use Rattle.usb_request.specs.{setup_of}
+use Rattle.usb_device.specs.{Way, is_whole, heard, outcome, State, Reply, accepted, row_of}
+use Rattle.usb_device.specs.{Location, path_to, reach_on, state_on}
 use Rattle.usb_device.specs.declared.answer.Answer.TheVariants as answer
-use Rattle.usb_device.specs.Request.{outcome}
-use Rattle.usb_device.specs.Rows.{State, Reply, accepted}
-use Rattle.usb_device.specs.Tree.{row_of, Location, path_to, reach_on, state_on}
-use Rattle.usb_world.specs.declared.types.Attempt.{Attempt}
-use Rattle.usb_world.specs.declared.types.BusFault.{BusFault}
-use Rattle.usb_world.specs.declared.types.BusFault.TheVariants.{LimitReached, Memory, TraceFailed}
+use Rattle.usb_world.specs.{Attempt, BusFault, LimitReached, Memory, TraceFailed, World, Made}
+use Rattle.usb_world.specs.{at_attempt, attempt, after, outcome_in, here, step, AttemptFails}
+use Rattle.usb_world.specs.{resets, is_quiet, IsSetup, IsOut, IsIn, IsMade, got, Was, DidIn, DidOut}
+use Rattle.usb_world.specs.{DidSetup, is_setup, NoneTakes}
 use Rattle.usb_world.specs.declared.types.Outcome.TheVariants.{Ack}
-use Rattle.usb_tree.specs.Paths.{address_of}
-use Rattle.usb_tree.specs.AttemptPackets.{IsSettled}
-use Rattle.usb_world.specs.World.{World, Made}
-use Rattle.usb_world.specs.Steps.{at_attempt, attempt, after, outcome_in, here, step, AttemptFails}
-use Rattle.usb_world.specs.Courses.{resets, is_quiet}
-use Rattle.usb_world.specs.OneHolder.{IsSetup, IsOut, IsIn, IsMade, got}
-use Rattle.usb_world.specs.Devices.{Was, DidIn, DidOut, DidSetup}
-use Rattle.usb_world.specs.Addresses.{is_setup, NoneTakes}
+use Rattle.usb_tree.specs.{address_of, IsSettled}
 use Rattle.usb_world.proofs.Interface.{course_keeps, due_back, each_in, each_out, each_setup}
 use Rattle.usb_world.proofs.Interface.{given_up_shared, settled_after, step_own, step_unshared}
 use Rattle.usb_tree.proofs.Interface.{equal_same, false_true, same_equal}
-use Rattle.usb_address.specs.Aims.{Aims, AllAim, TakesOnly, Never}
-use Rattle.usb_address.specs.Ownership.{MapHolds}
+use Rattle.usb_address.specs.Aims.{Aims}
+use Rattle.usb_address.specs.{AllAim, TakesOnly, Never, MapHolds}
 use Rattle.usb_address.proofs.Stages.{none_takes, in_keeps, out_keeps}
 use Rattle.usb_address.proofs.AddressRequests.{first_aims}
 

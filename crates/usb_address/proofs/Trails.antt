@@ -1,30 +1,16 @@
 -- What a transaction leaves of addresses, whatever is lost.
-use Rattle.usb_device.specs.Tree.{path_to}
+use Rattle.usb_device.specs.{path_to, outcome, State}
 use Rattle.std.proofs.Common.{◌≡◌, ℕ, true, false, List, ◌∷◌, Option, None, Some, Result, Ok, Err}
 use Rattle.std.proofs.Common.{refl, ap, ◌∙◌}
-use Rattle.usb_packet.specs.declared.Toggle.{Toggle}
-use Rattle.usb_request.specs.Layout.{setup_of}
-use Rattle.usb_device.specs.Request.{outcome}
-use Rattle.usb_device.specs.Rows.{State}
-use Rattle.usb_world.specs.declared.types.Attempt.{Attempt}
-use Rattle.usb_world.specs.declared.types.BusFault.{BusFault}
-use Rattle.usb_world.specs.declared.types.Outcome.{Outcome}
+use Rattle.usb_packet.specs.{Toggle}
+use Rattle.usb_request.specs.{setup_of}
+use Rattle.usb_world.specs.{Attempt, BusFault, Outcome, World, attempt, after, is_quiet, IsSetup}
+use Rattle.usb_world.specs.{IsOut, IsIn, IsMade, is_setup}
 use Rattle.usb_world.specs.declared.types.Outcome.TheVariants.{Ack, Payload, Nak, Stall, Nothing}
-use Rattle.usb_world.specs.World.{World}
-use Rattle.usb_world.specs.Steps.{attempt, after}
-use Rattle.usb_world.specs.Courses.{is_quiet}
-use Rattle.usb_world.specs.OneHolder.{IsSetup, IsOut, IsIn, IsMade}
-use Rattle.usb_world.specs.Addresses.{is_setup}
 use Rattle.usb_world.proofs.Interface.{made_of, quiet_resets}
-use Rattle.usb_transaction.specs.declared.fault.TransFault.{TransFault}
-use Rattle.usb_transaction.specs.declared.fault.TransFault.TheVariants.{Stalled, Busy, NoAnswer}
-use Rattle.usb_transaction.specs.declared.fault.TransFault.TheVariants.{Bus}
-use Rattle.usb_transaction.specs.HeardOutcomes.{set_up_as}
-use Rattle.usb_transaction.specs.AttemptLog.{AttemptLog, start, next, BusFailed, Transacted}
-use Rattle.usb_transaction.specs.AttemptLog.{LastOutcome}
-use Rattle.usb_address.specs.Aims.{AllAim, TakesOnly, Never}
-use Rattle.usb_address.specs.Leaves.{LeavesTrans}
-use Rattle.usb_address.specs.Ownership.{MapHolds}
+use Rattle.usb_transaction.specs.{TransFault, Stalled, Busy, NoAnswer, Bus, set_up_as, AttemptLog}
+use Rattle.usb_transaction.specs.{start, next, BusFailed, Transacted, LastOutcome}
+use Rattle.usb_address.specs.{AllAim, TakesOnly, Never, LeavesTrans, MapHolds}
 use Rattle.usb_address.proofs.Steps.{in_aims, out_aims, set_up_aims, data_owned, quiet_owned}
 use Rattle.usb_address.proofs.Steps.{unshared_after, fails_unshared}
 
@@ -118,8 +104,7 @@ pub set_up_transacted : (f : List ℕ → Option ℕ) (Q : ℕ → Type 0) (a : 
     → Transacted set_up_as a old answer new → MapHolds f old → SetUpLeaves f Q a.addr answer new
 set_up_transacted f Q a bytes q is c old (Ok got) new e o = (
   trail_quiet f a q e.trail o,
-  last_set_up f Q a bytes q is c e.trail
-      (setup_acked e.last got e.outcomes e.tells) o,
+  last_set_up f Q a bytes q is c e.trail (setup_acked e.last got e.outcomes e.tells) o,
 )
 set_up_transacted f Q a bytes q is c old (Err Stalled) new e o = trail_quiet f a q e.trail o
 set_up_transacted f Q a bytes q is c old (Err Busy) new e o = trail_quiet f a q e.trail o

@@ -4,28 +4,17 @@ use Rattle.std.proofs.Common.{◌≡◌, ℕ, ◌⊎◌, inl, inr, true, false, 
 use Rattle.std.proofs.Common.{Result, Ok, Err, refl, ap, sym, ◌∙◌}
 use Rattle.std.specs.Prelude.{MatchResult}
 use Rattle.std.specs.Global.{Vec}
-use Rattle.usb_request.specs.Codes.{SET_ADDRESS, DEVICE_OUT}
-use Rattle.usb_request.specs.Layout.{setup_of, bytes_of}
-use Rattle.usb_request.specs.declared.setup.Setup.{Setup}
-use Rattle.usb_device.specs.Request.{Is}
-use Rattle.usb_world.specs.declared.types.BusFault.{BusFault}
-use Rattle.usb_world.specs.declared.types.Attempt.{Attempt}
-use Rattle.usb_world.specs.declared.types.Outcome.{Outcome}
-use Rattle.usb_world.specs.World.{World}
-use Rattle.usb_world.specs.Courses.{is_harmless}
-use Rattle.usb_transaction.specs.declared.target.Target.{Target}
-use Rattle.usb_transaction.specs.declared.fault.TransFault.{TransFault}
+use Rattle.usb_request.specs.{SET_ADDRESS, DEVICE_OUT, setup_of, bytes_of, Setup}
+use Rattle.usb_device.specs.{Is}
+use Rattle.usb_world.specs.{BusFault, Attempt, Outcome, World, is_harmless}
+use Rattle.usb_transaction.specs.{Target, TransFault, setup_attempt, AttemptsMade, AttemptLog}
+use Rattle.usb_transaction.specs.{start, next}
 use Rattle.usb_transaction.specs.declared.fault.TransFault.TheVariants as trans
-use Rattle.usb_transaction.specs.Transactions.{setup_attempt, AttemptsMade}
-use Rattle.usb_transaction.specs.AttemptLog.{AttemptLog, start, next}
-use Rattle.usb_pipe.specs.declared.fault.PipeFault.{PipeFault}
+use Rattle.usb_pipe.specs.{PipeFault, FaultAfter, SetUp, NoSetUp, NoStatus, NoData, NotConfirmed}
+use Rattle.usb_pipe.specs.{Reads, Writes}
 use Rattle.usb_pipe.specs.declared.fault.PipeFault.TheVariants.{Stalled, Busy, NoAnswer, Broken}
 use Rattle.usb_pipe.specs.declared.fault.PipeFault.TheVariants.{Bus, Memory}
-use Rattle.usb_pipe.specs.Control.{FaultAfter}
-use Rattle.usb_pipe.specs.Stages.{SetUp, NoSetUp, NoStatus, NoData, NotConfirmed, Reads, Writes}
-use Rattle.usb_address.specs.Claims.{AddressMap}
-use Rattle.usb_address.specs.Leaves.{LeavesPipe}
-use Rattle.usb_address.specs.Ownership.{MapHolds, WhileBusWorks, KeepsAddresses}
+use Rattle.usb_address.specs.{AddressMap, LeavesPipe, MapHolds, WhileBusWorks, KeepsAddresses}
 use Rattle.usb_address.proofs.Transfers.{reads_leave, writes_leave}
 
 pub keeps_none : (w : World) → KeepsAddresses w w
@@ -87,8 +76,7 @@ module _ (P : World → Type 0) (alone : (w : World) → P w → w.shared ≡ fa
   till k n (Err Broken) ends p = record { so = λ h. p; single = alone new p }
   till k n (Err (Bus fault)) ends single = record {
     so = λ h. absurd (cc (h, ends.told));
-    single =
-        single;
+    single = single;
   }
   till k n (Err Memory) ends p = record { so = λ h. p; single = alone new p }
 

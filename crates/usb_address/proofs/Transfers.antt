@@ -2,35 +2,20 @@
 use Rattle.std.proofs.Common.{◌≡◌, ℕ, ◌⊎◌, inl, inr, true, false, List, [], Option, Some, Result}
 use Rattle.std.proofs.Common.{Ok, Err, refl, ap, sym, subst, ◌∙◌}
 use Rattle.std.specs.Global.{Vec}
-use Rattle.usb_packet.specs.declared.Toggle.{Toggle}
-use Rattle.usb_packet.specs.declared.Toggle.TheVariants.{One}
-use Rattle.usb_request.specs.Codes.{SET_ADDRESS, DEVICE_OUT}
-use Rattle.usb_request.specs.Layout.{setup_of, bytes_of}
-use Rattle.usb_request.specs.declared.setup.Setup.{Setup}
-use Rattle.usb_device.specs.Request.{outcome, Is}
-use Rattle.usb_world.specs.World.{World}
-use Rattle.usb_world.specs.Courses.{is_harmless}
-use Rattle.usb_world.specs.OneHolder.{IsSetup}
-use Rattle.usb_transaction.specs.declared.target.Target.{Target}
-use Rattle.usb_transaction.specs.declared.fault.TransFault.{TransFault}
-use Rattle.usb_transaction.specs.declared.fault.TransFault.TheVariants.{Stalled as TransStalled}
-use Rattle.usb_transaction.specs.declared.fault.TransFault.TheVariants.{Busy as TransBusy}
-use Rattle.usb_transaction.specs.declared.fault.TransFault.TheVariants.{NoAnswer as TransNoAnswer}
-use Rattle.usb_transaction.specs.declared.fault.TransFault.TheVariants.{Bus as TransBus}
-use Rattle.usb_transaction.specs.HeardOutcomes.{heard_as, heard_when_sent}
-use Rattle.usb_transaction.specs.Transactions.{setup_attempt, in_attempt, out_attempt}
-use Rattle.usb_pipe.specs.declared.fault.PipeFault.{PipeFault}
+use Rattle.usb_packet.specs.{Toggle, One, flips}
+use Rattle.usb_request.specs.{SET_ADDRESS, DEVICE_OUT, setup_of, bytes_of, Setup}
+use Rattle.usb_device.specs.{outcome, Is}
+use Rattle.usb_world.specs.{World, is_harmless, IsSetup, after_taking}
+use Rattle.usb_transaction.specs.{Target, TransFault, Stalled as TransStalled, Busy as TransBusy}
+use Rattle.usb_transaction.specs.{NoAnswer as TransNoAnswer, Bus as TransBus, heard_as}
+use Rattle.usb_transaction.specs.{heard_when_sent, setup_attempt, in_attempt, out_attempt}
+use Rattle.usb_pipe.specs.{PipeFault, as_pipe_fault, SetUp, Asks, Confirms, NoSetUp, Writes, Goes}
+use Rattle.usb_pipe.specs.{DataStage, DataLost, NoRoom, Reads}
 use Rattle.usb_pipe.specs.declared.fault.PipeFault.TheVariants.{Stalled, Busy, NoAnswer, Broken}
 use Rattle.usb_pipe.specs.declared.fault.PipeFault.TheVariants.{Bus, Memory}
-use Rattle.usb_pipe.specs.Control.{as_pipe_fault}
-use Rattle.usb_pipe.specs.Stages.{SetUp, Asks, Confirms, NoSetUp, Writes, Goes, start, packet}
-use Rattle.usb_pipe.specs.Stages.{DataStage, DataLost, NoRoom, Reads}
-use Rattle.usb_packet.specs.Toggles.{flips}
-use Rattle.usb_address.specs.Aims.{AllAim, TakesOnly, Never}
-use Rattle.usb_address.specs.Leaves.{LeavesTrans, LeavesPipe}
-use Rattle.usb_address.specs.Ownership.{MapHolds}
+use Rattle.usb_pipe.specs.Stages.{start, packet}
+use Rattle.usb_address.specs.{AllAim, TakesOnly, Never, LeavesTrans, LeavesPipe, MapHolds}
 use Rattle.usb_address.proofs.AddressRequests.{outcome_only}
-use Rattle.usb_world.specs.Addresses.{after_taking}
 use Rattle.usb_address.proofs.AddressesTaken.{Taking, taking_transacted}
 use Rattle.usb_address.proofs.Trails.{IsData, into, out, data_transacted, set_up_transacted}
 use Rattle.usb_address.proofs.Trails.{SetUpLeaves}

@@ -2,12 +2,11 @@
 use Rattle.std.proofs.Common.{◌≡◌, ◌⊎◌, inl, inr, ℕ, zero, suc, Bool, true, false, ◌&&◌, ◌||◌, List}
 use Rattle.std.proofs.Common.{[], ◌∷◌, ◌++◌, None, Some, is_some, refl, ap, sym, ◌∙◌, append-nil}
 use Rattle.std.proofs.lemmas.Option.{same_Some}
-use Rattle.usb_port.specs.PortState.{PortState, is_attached, speed_of}
-use Rattle.usb_device.specs.Tree.{Ports, ended, vacant, taken, place, place_at, reach, reach_at}
-use Rattle.usb_device.specs.Tree.{state_at, port_at}
-use Rattle.usb_device.specs.View.{state_there, port_there}
-use Rattle.usb_tree.specs.Paths.{has_power, has_power_at, pending, pending_at}
-use Rattle.usb_world.specs.SanePorts.{Consistent}
+use Rattle.usb_port.specs.{PortState, is_attached, speed_of}
+use Rattle.usb_device.specs.{Ports, ended, vacant, taken, place, place_at, reach, reach_at}
+use Rattle.usb_device.specs.{state_at, port_at, state_there, port_there}
+use Rattle.usb_tree.specs.{has_power, has_power_at, pending, pending_at}
+use Rattle.usb_world.specs.{Consistent}
 use Rattle.usb_tree.proofs.Interface.{and_false, and_of, both, either_of, false_true, or_nothing}
 use Rattle.usb_tree.proofs.Interface.{or_right}
 use Rattle.usb_address.proofs.HubPorts.{place_ports}

@@ -1,17 +1,10 @@
 -- An attempt at an address that no reachable device holds asks nothing of any port.
 use Rattle.std.proofs.Common.{◌≡◌, ℕ, false, List, Option, None, Some, sym, ◌∙◌}
-use Rattle.usb_device.specs.declared.delivery.Sent.{Sent}
+use Rattle.usb_device.specs.{Sent, after_packet, State, Ports, state_at}
 use Rattle.usb_device.specs.declared.transfer.RememberedPacket.TheVariants.{Nothing}
-use Rattle.usb_device.specs.Delivery.{after_packet}
-use Rattle.usb_device.specs.Rows.{State}
-use Rattle.usb_device.specs.Tree.{Ports, state_at}
-use Rattle.usb_world.specs.declared.types.Attempt.{Attempt}
-use Rattle.usb_world.specs.Exchange.{token_out, payload_out}
-use Rattle.usb_tree.specs.AttemptPackets.{after_sent, IfOut, IsTokenFor, IsSettled, NobodyHolds}
-use Rattle.usb_world.specs.PortRequests.{AsksNothing}
-use Rattle.usb_world.specs.Steps.{at_attempt, damage_in, attempt}
-use Rattle.usb_tree.specs.WayEffects.{resets_at}
-use Rattle.usb_world.specs.World.{World}
+use Rattle.usb_world.specs.{Attempt, token_out, payload_out, AsksNothing, at_attempt, damage_in}
+use Rattle.usb_world.specs.{attempt, World}
+use Rattle.usb_tree.specs.{after_sent, IfOut, IsTokenFor, IsSettled, NobodyHolds, resets_at}
 use Rattle.usb_world.proofs.Interface.{NoneAsks, calm_sent, goes, none_asks_nothing, ready_settled}
 use Rattle.usb_world.proofs.Interface.{rest_state, rested_effect, settled_memory, token_calls}
 use Rattle.usb_world.proofs.Interface.{token_out as token_calm}

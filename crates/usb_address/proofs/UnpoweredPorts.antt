@@ -3,16 +3,11 @@
 use Rattle.std.proofs.Common.{◌≡◌, ℕ, zero, suc, false, List, [], ◌∷◌, Option, None, Some, ap, sym}
 use Rattle.std.proofs.Common.{subst, ◌∙◌, refl}
 use Rattle.std.proofs.lemmas.Option.{same_Some}
-use Rattle.usb_port.specs.PortState.{PortState, plugged, unplugged, off}
-use Rattle.usb_device.specs.Rows.{fresh}
-use Rattle.usb_device.specs.Spec.{Spec, Hub}
-use Rattle.usb_device.specs.Tree.{Ports, ended, vacant, taken, new_ports, first_ports, replaced}
-use Rattle.usb_device.specs.Tree.{changed, changed_at, port_at}
-use Rattle.usb_device.specs.View.{port_there}
-use Rattle.usb_world.specs.declared.event.Action.{Action}
-use Rattle.usb_world.specs.PortRequests.{leaves_step, LeavesPort}
-use Rattle.usb_world.specs.Steps.{after_change, after_event, at_attempt, Course}
-use Rattle.usb_world.specs.World.{World}
+use Rattle.usb_port.specs.{PortState, plugged, unplugged, off}
+use Rattle.usb_device.specs.{fresh, Spec, Hub, Ports, ended, vacant, taken, new_ports, first_ports}
+use Rattle.usb_device.specs.{replaced, changed, changed_at, port_at, port_there}
+use Rattle.usb_world.specs.{Action, leaves_step, LeavesPort, after_change, after_event, at_attempt}
+use Rattle.usb_world.specs.{Course, World}
 use Rattle.usb_world.proofs.Interface.{Keeps, OverSteps, happened_by, keeps_events, made_port}
 use Rattle.usb_world.proofs.Interface.{over_course, over_ready, root_port}
 

@@ -1,12 +1,11 @@
 -- Which addresses status stages end with (9.4.6).
 use Rattle.std.specs.Prelude.{◌≡◌, ℕ, true, None, Some, ⊤}
-use Rattle.usb_device.specs.Request.{Outcome, stalled, answers, takes_address, takes_configuration}
-use Rattle.usb_device.specs.Request.{halts, unhalts, tells_port, calls_port}
-use Rattle.usb_device.specs.Rows.{State}
-use Rattle.usb_device.specs.Transfer.{Stage, idle, refused, reading, read, ending}
-use Rattle.usb_device.specs.Tree.{Location, reach_on, state_on}
-use Rattle.usb_tree.specs.Paths.{address_of}
-use Rattle.usb_world.specs.World.{World}
+use Rattle.usb_device.specs.{Outcome, stalled, takes_address, takes_configuration, halts, unhalts}
+use Rattle.usb_device.specs.{tells_port, calls_port, State, Stage, idle, refused, reading, read}
+use Rattle.usb_device.specs.{ending, Location, reach_on, state_on}
+use Rattle.usb_device.specs.Request.{answers}
+use Rattle.usb_tree.specs.{address_of}
+use Rattle.usb_world.specs.{World}
 
 -- a status stage that ends with an address ends with such a one
 abbrev pub Aims : (ℕ → Type 0) → Stage → Type 0

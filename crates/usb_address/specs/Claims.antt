@@ -1,6 +1,6 @@
 -- Which path claims which address.
 use Rattle.std.specs.Prelude.{◌≡◌, ℕ, List, true, Option, None, Some, if◌then◌else◌}
-use Rattle.usb_tree.specs.Paths.{is_way}
+use Rattle.usb_tree.specs.{is_way}
 
 abbrev pub AddressMap : Type 0
 AddressMap = List ℕ → Option ℕ

@@ -1,10 +1,8 @@
 -- What transactions and transfers leave, whatever their answers are.
 use Rattle.std.specs.Prelude.{◌≡◌, false, Result, Ok, Err}
-use Rattle.usb_world.specs.World.{World}
-use Rattle.usb_transaction.specs.declared.fault.TransFault.{TransFault}
-use Rattle.usb_transaction.specs.declared.fault.TransFault.TheVariants.{Stalled, Busy, NoAnswer}
-use Rattle.usb_transaction.specs.declared.fault.TransFault.TheVariants.{Bus}
-use Rattle.usb_pipe.specs.declared.fault.PipeFault.{PipeFault}
+use Rattle.usb_world.specs.{World}
+use Rattle.usb_transaction.specs.{TransFault, Stalled, Busy, NoAnswer, Bus}
+use Rattle.usb_pipe.specs.{PipeFault}
 use Rattle.usb_pipe.specs.declared.fault.PipeFault.TheVariants as pipe
 
 -- where the bus gave up, only that no address was held twice

@@ -1,10 +1,7 @@
 -- Each reachable device holds the address that its path claims, and no address was ever held twice.
 use Rattle.std.specs.Prelude.{◌≡◌, ◌⊎◌, ℕ, List, false, None}
-use Rattle.usb_world.specs.Addresses.{after_taking}
-use Rattle.usb_world.specs.Courses.{HoldsMapped, Injective}
-use Rattle.usb_tree.specs.Paths.{is_way}
-use Rattle.usb_tree.specs.AttemptPackets.{IsSettled}
-use Rattle.usb_world.specs.World.{World}
+use Rattle.usb_world.specs.{after_taking, HoldsMapped, Injective, World}
+use Rattle.usb_tree.specs.{is_way, IsSettled}
 use Rattle.usb_address.specs.Claims.{AddressMap}
 
 -- each reachable device holds the address that its path claims; what claims one need not be

@@ -1,21 +1,15 @@
 -- What calls at ports add to what is left to do, where ports are marked.
 use Rattle.std.proofs.Common.{◌≡◌, ◌≤◌, ℕ, zero, suc, ◌+◌, ◌&&◌, ◌||◌, not, if◌then◌else◌, Bool}
 use Rattle.std.proofs.Common.{true, false, [], refl, ap, ◌∙◌, arith}
-use Rattle.usb_port.specs.PortState.{PortState, is_attached, bit}
-use Rattle.usb_port.specs.declared.call.PortCall.{PortCall}
-use Rattle.usb_port.specs.declared.call.PortCall.TheVariants.{SetPower, SetReset, ClearEnable}
-use Rattle.usb_port.specs.declared.call.PortCall.TheVariants.{ClearPower, ClearConnectionChange}
-use Rattle.usb_port.specs.declared.call.PortCall.TheVariants.{ClearEnableChange, ClearResetChange}
-use Rattle.usb_port.specs.Calls.{called_port, is_reset}
-use Rattle.usb_device.specs.declared.effect.Effect.{Effect}
-use Rattle.usb_device.specs.declared.effect.Effect.TheVariants.{Leaves, Calls, PortsOff}
-use Rattle.usb_device.specs.Rows.{State}
-use Rattle.usb_device.specs.Tree.{Ports, ended, vacant, taken, Place, empty, full, before, all_off}
-use Rattle.usb_device.specs.Tree.{acted, called, changed_at, reset_where}
+use Rattle.usb_port.specs.{PortState, is_attached, bit, PortCall, SetPower, SetReset, ClearEnable}
+use Rattle.usb_port.specs.{ClearPower, ClearConnectionChange, ClearEnableChange, ClearResetChange}
+use Rattle.usb_port.specs.{called_port, is_reset}
+use Rattle.usb_device.specs.{Effect, Leaves, Calls, PortsOff, State, Ports, ended, vacant, taken}
+use Rattle.usb_device.specs.{empty, full, before, all_off, acted, called, changed_at, reset_where}
+use Rattle.usb_device.specs.Tree.{Place}
 use Rattle.usb_tree.proofs.Interface.{both, false_true}
-use Rattle.usb_backlog.specs.Marks.{charged, devices_in, PortMark, below_first, after_first}
-use Rattle.usb_backlog.specs.Marks.{allowed, devices_by, looks_by, ports_by, strays_by}
-use Rattle.usb_backlog.specs.PortSettings.{gives_power}
+use Rattle.usb_backlog.specs.{charged, devices_in, PortMark, below_first, after_first, allowed}
+use Rattle.usb_backlog.specs.{devices_by, looks_by, ports_by, strays_by, gives_power}
 
 -- no more is left to do in one tree than in another, with as many devices at the same places
 pub record Less (m v r : PortMark) (k l : Ports) : Type 0 where
@@ -30,8 +24,7 @@ less-same m v r k = record {
   whole = refl;
   looks = omega arith;
   strays = omega arith;
-  devices =
-      λ d. refl;
+  devices = λ d. refl;
   ports = λ d. refl;
 }
 
@@ -86,8 +79,7 @@ seen-called false SetPower b = split b.power
     }).attached ||
         (if x then b else record b {
           power = true;
-          connection_changed =
-              is_attached b.attached || b.connection_changed;
+          connection_changed = is_attached b.attached || b.connection_changed;
         }).connection_changed)
         ≤ bit (is_attached b.attached || b.connection_changed)
     split true = omega arith
@@ -96,8 +88,7 @@ seen-called false SetReset b = split (b.power && is_attached b.attached)
   where
     split : (x : Bool) → bit (is_attached (if x then record b {
       enable = true;
-      reset_changed =
-          true;
+      reset_changed = true;
     } else b).attached || (if x then record b { enable = true; reset_changed = true }
         else b).connection_changed)
         ≤ bit (is_attached b.attached || b.connection_changed)
@@ -117,8 +108,7 @@ enable-called SetPower b = split b.power
   where
     split : (x : Bool) → bit (if x then b else record b {
       power = true;
-      connection_changed =
-          is_attached b.attached || b.connection_changed;
+      connection_changed = is_attached b.attached || b.connection_changed;
     }).enable_changed ≤ bit b.enable_changed
     split true = omega arith
     split false = omega arith
@@ -142,8 +132,7 @@ reset-called false SetPower h b = split b.power
   where
     split : (x : Bool) → bit (if x then b else record b {
       power = true;
-      connection_changed =
-          is_attached b.attached || b.connection_changed;
+      connection_changed = is_attached b.attached || b.connection_changed;
     }).reset_changed ≤ bit b.reset_changed
     split true = omega arith
     split false = omega arith
@@ -186,14 +175,12 @@ less-off m v r (taken b s a k) =
       looks = omega (
         arith,
         more.looks,
-        connection-called (m zero []) ClearPower
-            (or-true (m zero [])) b (1 + devices_in a),
+        connection-called (m zero []) ClearPower (or-true (m zero [])) b (1 + devices_in a),
       );
       strays = omega (
         arith,
         more.strays,
-        reset-called (r zero []) ClearPower (or-true (r zero []))
-            b,
+        reset-called (r zero []) ClearPower (or-true (r zero [])) b,
       );
       devices = λ d. omega (arith, more.devices (after_first d));
       ports = λ d. omega (arith, more.ports (after_first d));
@@ -228,11 +215,9 @@ unfolding looks_by strays_by devices_by ports_by devices_in
 less-after m v r (empty b) k l h = record {
   whole = h.whole;
   looks = h.looks;
-  strays =
-      omega (arith, h.strays);
+  strays = omega (arith, h.strays);
   devices = λ d. h.devices (after_first d);
-  ports =
-      λ d. omega (arith, h.ports (after_first d));
+  ports = λ d. omega (arith, h.ports (after_first d));
 }
 less-after m v r (full b s a) k l h = record {
   whole = omega (arith, h.whole);
@@ -252,8 +237,7 @@ less-empty m v r c b k reset = record {
     arith,
     seen-called (v zero []) c b,
     enable-called c b,
-    reset-called (r zero []) c
-        reset b,
+    reset-called (r zero []) c reset b,
   );
   devices = λ d. refl;
   ports = λ d. refl;

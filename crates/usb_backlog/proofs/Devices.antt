@@ -1,11 +1,9 @@
 -- How many devices stand at ports, over calls, plugs and unplugs.
 use Rattle.std.proofs.Common.{◌≡◌, ◌≤◌, ℕ, zero, suc, ◌+◌, Bool, true, false, List, [], ◌∷◌, Option}
 use Rattle.std.proofs.Common.{None, Some, refl, arith}
-use Rattle.usb_device.specs.Rows.{fresh}
-use Rattle.usb_device.specs.Spec.{Spec, Hub}
-use Rattle.usb_device.specs.Tree.{Ports, ended, vacant, taken, new_ports, first_ports, replaced}
-use Rattle.usb_device.specs.Tree.{changed_at}
-use Rattle.usb_backlog.specs.Marks.{charged, devices_in}
+use Rattle.usb_device.specs.{fresh, Spec, Hub, Ports, ended, vacant, taken, new_ports, first_ports}
+use Rattle.usb_device.specs.{replaced, changed_at}
+use Rattle.usb_backlog.specs.{charged, devices_in}
 
 pub charged-rises : (x : Bool) (m n : ℕ) → m ≤ n → charged x m ≤ charged x n
 charged-rises true m n h = h

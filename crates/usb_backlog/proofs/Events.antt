@@ -2,21 +2,15 @@
 use Rattle.std.proofs.Common.{◌≡◌, ◌≤◌, ℕ, zero, suc, ◌+◌, ◌||◌, Bool, true, false, List, [], ◌∷◌}
 use Rattle.std.proofs.Common.{length, slice_get, Option, None, Some, refl, subst, ◌∙◌, arith}
 use Rattle.std.proofs.lemmas.List.Elements.{All-head, All-tail}
-use Rattle.usb_port.specs.PortState.{bit}
-use Rattle.usb_device.specs.Rows.{fresh}
-use Rattle.usb_device.specs.Spec.{Spec, Hub}
-use Rattle.usb_device.specs.Tree.{Ports, ended, vacant, taken, new_ports, first_ports, replaced}
-use Rattle.usb_device.specs.Tree.{changed_at}
-use Rattle.usb_world.specs.declared.event.Action.{Action}
+use Rattle.usb_port.specs.{bit}
+use Rattle.usb_device.specs.{fresh, Spec, Hub, Ports, ended, vacant, taken, new_ports, first_ports}
+use Rattle.usb_device.specs.{replaced, changed_at}
+use Rattle.usb_world.specs.{Action, Plug, Unplug, Event, AtPorts, PlugsAtPort, after, event}
+use Rattle.usb_world.specs.{after_change, at_attempt, after_event, with_plugged, World}
 use Rattle.usb_world.specs.declared.event.Action.TheVariants.{Change, Ask}
-use Rattle.usb_world.specs.declared.event.Change.TheVariants.{Plug, Unplug}
-use Rattle.usb_world.specs.declared.event.Event.{Event}
-use Rattle.usb_world.specs.PlanCourses.{AtPorts, PlugsAtPort}
-use Rattle.usb_world.specs.Steps.{after, event, after_change, at_attempt, after_event, with_plugged}
-use Rattle.usb_world.specs.World.{World}
 use Rattle.usb_world.proofs.Interface.{OverEvents, over_ready, over_taken}
-use Rattle.usb_backlog.specs.Marks.{charged, devices_in, Few, KeepsBy, PortMark, after_first}
-use Rattle.usb_backlog.specs.Marks.{below_first, devices_by, looks_by, strays_by}
+use Rattle.usb_backlog.specs.{charged, devices_in, Few, KeepsBy, PortMark, after_first, below_first}
+use Rattle.usb_backlog.specs.{devices_by, looks_by, strays_by}
 use Rattle.usb_backlog.proofs.Devices.{charged-rises, charged-more, charged-most}
 use Rattle.usb_backlog.proofs.Devices.{devices_in-plugged, devices_in-unplugged, own-most}
 
@@ -106,8 +100,7 @@ strays_by-plugged v r h s (vacant b k) zero (n ∷ p) = omega arith
 strays_by-plugged v r h s (vacant b k) (suc i) p =
     omega (
       arith,
-      strays_by-plugged (after_first v) (after_first r) (λ i p n. h (suc i) p n) s k i
-          p,
+      strays_by-plugged (after_first v) (after_first r) (λ i p n. h (suc i) p n) s k i p,
     )
 strays_by-plugged v r h s (taken b t a k) zero [] =
     omega (arith, strays_by-first (below_first v) (below_first r) (h zero []) s.hub)
@@ -115,14 +108,12 @@ strays_by-plugged v r h s (taken b t a k) zero (zero ∷ p) = omega arith
 strays_by-plugged v r h s (taken b t a k) zero (suc j ∷ p) =
     omega (
       arith,
-      strays_by-plugged (below_first v) (below_first r) (λ i p n. h zero (suc i ∷ p) n)
-          s a j p,
+      strays_by-plugged (below_first v) (below_first r) (λ i p n. h zero (suc i ∷ p) n) s a j p,
     )
 strays_by-plugged v r h s (taken b t a k) (suc i) p =
     omega (
       arith,
-      strays_by-plugged (after_first v) (after_first r) (λ i p n. h (suc i) p n) s k i
-          p,
+      strays_by-plugged (after_first v) (after_first r) (λ i p n. h (suc i) p n) s k i p,
     )
 
 -- An unplug

@@ -1,6 +1,6 @@
 -- The lemmas that crates above cite. All others are for this crate alone.
 pub use Rattle.usb_backlog.proofs.Events.{keeps-event, keeps-none, keeps-ready, keeps-then}
-pub use Rattle.usb_backlog.proofs.Places.{devices_by-empty, devices_by-fewer, devices_by-less}
+pub use Rattle.usb_backlog.proofs.Places.{devices_by-empty}
 pub use Rattle.usb_backlog.proofs.Places.{devices_by-nowhere, devices_by-there, few-none, few-reset}
 pub use Rattle.usb_backlog.proofs.Places.{few-vacant, just_covers, looks_by-found, looks_by-less}
 pub use Rattle.usb_backlog.proofs.Places.{looks_by-nowhere, looks_by-set, ports_by-nowhere}

@@ -1,15 +1,13 @@
 -- What a packet adds to what is left to do, where ports are marked.
 use Rattle.std.proofs.Common.{◌≡◌, zero, suc, ◌+◌, ◌||◌, if◌then◌else◌, Bool, true, false, [], ◌∷◌}
 use Rattle.std.proofs.Common.{Option, None, Some, refl, ap, arith}
-use Rattle.usb_port.specs.PortState.{PortState}
-use Rattle.usb_device.specs.declared.delivery.Sent.{Sent}
-use Rattle.usb_device.specs.Rows.{State, forgotten}
-use Rattle.usb_device.specs.Tree.{Ports, ended, vacant, taken, acted, state_at}
-use Rattle.usb_device.specs.Delivery.{after_packet, all_forgotten, answer_of, effect_of}
-use Rattle.usb_tree.specs.AttemptPackets.{after_sent}
+use Rattle.usb_port.specs.{PortState}
+use Rattle.usb_device.specs.{Sent, State, forgotten, Ports, ended, vacant, taken, acted, state_at}
+use Rattle.usb_device.specs.{after_packet, all_forgotten, answer_of, effect_of}
+use Rattle.usb_tree.specs.{after_sent}
 use Rattle.usb_world.proofs.Interface.{CalmOut}
-use Rattle.usb_backlog.specs.Marks.{charged, devices_in, PortMark, AllowsMarks, below_first}
-use Rattle.usb_backlog.specs.Marks.{after_first, allowed, devices_by, looks_by, ports_by, strays_by}
+use Rattle.usb_backlog.specs.{charged, devices_in, PortMark, AllowsMarks, below_first, after_first}
+use Rattle.usb_backlog.specs.{allowed, devices_by, looks_by, ports_by, strays_by}
 use Rattle.usb_backlog.proofs.Calls.{Less, less-acted, less-same, less-then}
 
 -- A row of ports, as its parts
@@ -23,8 +21,7 @@ less-vacant m v r b h = record {
   looks = h.looks;
   strays = omega (arith, h.strays);
   devices = λ d. h.devices (after_first d);
-  ports =
-      λ d. omega (arith, h.ports (after_first d));
+  ports = λ d. omega (arith, h.ports (after_first d));
 }
 
 less-parts : (m v r : PortMark) (b : PortState) (s t : State) {a c k l : Ports}

@@ -1,11 +1,10 @@
 -- What calls add, one after the other.
 use Rattle.std.proofs.Common.{◌≡◌, ℕ, zero, suc, true, false, List, [], ◌∷◌, ◌++◌, refl, subst}
-use Rattle.usb_port.specs.declared.call.PortCall.{PortCall}
-use Rattle.usb_device.specs.Tree.{Location, path_to}
-use Rattle.usb_world.specs.World.{World}
-use Rattle.usb_backlog.specs.Marks.{Few, KeepsAll, KeepsBy, KeepsCall, KeepsFound, is_marked, only}
-use Rattle.usb_backlog.specs.Marks.{ports_at, unmarked}
-use Rattle.usb_backlog.specs.PortSettings.{gives_power}
+use Rattle.usb_port.specs.{PortCall}
+use Rattle.usb_device.specs.{Location, path_to}
+use Rattle.usb_world.specs.{World}
+use Rattle.usb_backlog.specs.{Few, KeepsAll, KeepsBy, KeepsCall, KeepsFound, is_marked, only}
+use Rattle.usb_backlog.specs.{ports_at, unmarked, gives_power}
 use Rattle.usb_backlog.proofs.Events.{keeps-none, keeps-then}
 use Rattle.usb_backlog.proofs.Places.{few-none, few-reset, few-vacant, just_covers, ports_cover}
 

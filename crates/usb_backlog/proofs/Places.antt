@@ -2,16 +2,16 @@
 use Rattle.std.proofs.Common.{◌≡◌, ◌≤◌, ℕ, zero, suc, ◌+◌, ◌&&◌, ◌||◌, Bool, true, false, List, []}
 use Rattle.std.proofs.Common.{◌∷◌, ◌++◌, None, Some, is_some, refl, ap, sym, subst, ◌∙◌, arith}
 use Rattle.std.proofs.lemmas.Option.{same_Some}
-use Rattle.usb_port.specs.PortState.{PortState, is_attached, bit}
-use Rattle.usb_device.specs.Rows.{State}
-use Rattle.usb_device.specs.Tree.{Ports, ended, vacant, taken, Place, empty, full, new_ports}
-use Rattle.usb_device.specs.Tree.{place_at, port_of}
-use Rattle.usb_tree.specs.Paths.{same_number, same_path}
+use Rattle.usb_port.specs.{PortState, is_attached, bit}
+use Rattle.usb_device.specs.{State, Ports, ended, vacant, taken, empty, full, new_ports, place_at}
+use Rattle.usb_device.specs.{port_of}
+use Rattle.usb_device.specs.Tree.{Place}
+use Rattle.usb_tree.specs.{same_number, same_path}
 use Rattle.usb_world.proofs.Interface.{same_is}
 use Rattle.usb_tree.proofs.Interface.{both, false_true, self_number, self_path}
-use Rattle.usb_backlog.specs.Marks.{charged, devices_in, Few, PortMark, after_first, below_first}
-use Rattle.usb_backlog.specs.Marks.{devices_by, is_child, is_nil, just, looks_by, ports_by}
-use Rattle.usb_backlog.specs.Marks.{ports_of, shifted, strays_by, unmarked}
+use Rattle.usb_backlog.specs.{charged, devices_in, Few, PortMark, after_first, below_first}
+use Rattle.usb_backlog.specs.{devices_by, is_child, is_nil, just, looks_by, ports_by, ports_of}
+use Rattle.usb_backlog.specs.{shifted, strays_by, unmarked}
 
 -- Marks add, and no mark takes away
 
@@ -33,8 +33,7 @@ looks_by-less m (taken b s a k) = omega (
   arith,
   looks_by-less (below_first m) a,
   looks_by-less (after_first m) k,
-  charged-marked (m zero []) b.connection_changed
-      (1 + devices_in a),
+  charged-marked (m zero []) b.connection_changed (1 + devices_in a),
 )
 
 pub strays_by-less : (v r : PortMark) (k : Ports) → strays_by unmarked unmarked k ≤ strays_by v r k
@@ -51,8 +50,7 @@ strays_by-less v r (taken b s a k) =
     omega (
       arith,
       strays_by-less (below_first v) (below_first r) a,
-      strays_by-less (after_first v)
-          (after_first r) k,
+      strays_by-less (after_first v) (after_first r) k,
       bit-marked (r zero []) b.reset_changed,
     )
 
@@ -73,8 +71,7 @@ looks_by-row (vacant b k) = looks_by-row k
 looks_by-row (taken b s a k) = omega (
   arith,
   looks_by-row k,
-  charged-or true b.connection_changed
-      (1 + devices_in a),
+  charged-or true b.connection_changed (1 + devices_in a),
 )
 
 -- where a device stands whose change is cleared, its ports may be marked in place of its own, and
@@ -317,67 +314,6 @@ ports_by-nowhere (taken c t d k) zero (suc j ∷ e) at =
     omega (arith, ports_by-nowhere d j e at, ports_by-none k)
 ports_by-nowhere (taken c t d k) (suc i) e at =
     omega (arith, ports_by-nowhere k i e at, ports_by-none d)
-
--- Fewer ports that are marked count fewer devices, and one fewer where a device stands at one that
--- is not marked any more
-
-charged-implied : (x y : Bool) → (x ≡ true → y ≡ true) → charged x 1 ≤ charged y 1
-charged-implied true y h = let set : charged y 1 ≡ 1 = ap (λ z. charged z 1) (h refl) in
-    omega (arith, set)
-charged-implied false y h = omega arith
-
-pub devices_by-less : (m n : PortMark) → ((i : ℕ) (p : List ℕ) → m i p ≡ true → n i p ≡ true)
-    → (k : Ports) → devices_by m k ≤ devices_by n k
-unfolding devices_by
-devices_by-less m n h ended = omega arith
-devices_by-less m n h (vacant b k) = devices_by-less (after_first m) (after_first n)
-    (λ i p. h (suc i) p) k
-devices_by-less m n h (taken b s a k) =
-    omega (
-      arith,
-      charged-implied (m zero []) (n zero []) (h zero []),
-      devices_by-less (below_first m) (below_first n) (λ i p. h zero (suc i ∷ p)) a,
-      devices_by-less (after_first m) (after_first n) (λ i p. h (suc i) p) k,
-    )
-
-pub devices_by-fewer : (m n : PortMark) → ((i : ℕ) (p : List ℕ) → m i p ≡ true → n i p ≡ true)
-    → (k : Ports) (i : ℕ) (e : List ℕ) (b : PortState) (s : State) (a : Ports)
-    → place_at k i e ≡ Some (full b s a)
-    → m i e ≡ false → n i e ≡ true → devices_by m k + 1 ≤ devices_by n k
-unfolding devices_by place_at
-devices_by-fewer m n h ended i e b s a at x y = false_true (ap is_some at)
-devices_by-fewer m n h (vacant c k) zero [] b s a at x y = absurd (cc at)
-devices_by-fewer m n h (vacant c k) zero (u ∷ e) b s a at x y = false_true (ap is_some at)
-devices_by-fewer m n h (vacant c k) (suc i) e b s a at x y =
-    devices_by-fewer (after_first m) (after_first n) (λ i p. h (suc i) p) k i e b s a at x y
-devices_by-fewer m n h (taken c t d k) zero [] b s a at x y =
-    let was : charged (n zero []) 1 ≡ 1 = ap (λ z. charged z 1) y in
-    let now : charged (m zero []) 1 ≡ 0 = ap (λ z. charged z 1) x in
-    omega (
-      arith,
-      was,
-      now,
-      devices_by-less (below_first m) (below_first n)
-          (λ i p. h zero (suc i ∷ p)) d,
-      devices_by-less (after_first m) (after_first n)
-          (λ i p. h (suc i) p) k,
-    )
-devices_by-fewer m n h (taken c t d k) zero (zero ∷ e) b s a at x y = false_true (ap is_some at)
-devices_by-fewer m n h (taken c t d k) zero (suc j ∷ e) b s a at x y =
-    omega (
-      arith,
-      charged-implied (m zero []) (n zero []) (h zero []),
-      devices_by-fewer (below_first m) (below_first n) (λ i p. h zero (suc i ∷ p)) d j e b s a
-          at x y,
-      devices_by-less (after_first m) (after_first n) (λ i p. h (suc i) p) k,
-    )
-devices_by-fewer m n h (taken c t d k) (suc i) e b s a at x y =
-    omega (
-      arith,
-      charged-implied (m zero []) (n zero []) (h zero []),
-      devices_by-less (below_first m) (below_first n) (λ i p. h zero (suc i ∷ p)) d,
-      devices_by-fewer (after_first m) (after_first n) (λ i p. h (suc i) p) k i e b s a at x y,
-    )
 
 -- At most one port of a new device is marked
 

@@ -3,38 +3,22 @@ use Rattle.std.proofs.Common.{◌≡◌, ℕ, zero, suc, ◌==◌, ◌&&◌, ◌
 use Rattle.std.proofs.Common.{if◌then◌else◌, Bool, true, false, List, [], ◌∷◌, ◌++◌, None, Some}
 use Rattle.std.proofs.Common.{is_some, refl, ap, sym, subst, ◌∙◌}
 use Rattle.std.proofs.lemmas.Option.{same_Some}
-use Rattle.usb_request.specs.Features.{PORT_ENABLE, PORT_POWER, C_PORT_CONNECTION, C_PORT_ENABLE}
-use Rattle.usb_request.specs.Features.{C_PORT_RESET}
-use Rattle.usb_request.specs.Codes.{CLEAR_FEATURE, SET_FEATURE, SET_CONFIGURATION, DEVICE_OUT}
-use Rattle.usb_request.specs.Codes.{PORT_OUT}
-use Rattle.usb_request.specs.declared.setup.Setup.{Setup}
-use Rattle.usb_request.specs.Layout.{setup_of}
-use Rattle.usb_port.specs.declared.call.PortCall.{PortCall}
-use Rattle.usb_port.specs.declared.call.PortCall.TheVariants.{SetPower, SetReset, ClearEnable}
-use Rattle.usb_port.specs.declared.call.PortCall.TheVariants.{ClearPower, ClearConnectionChange}
-use Rattle.usb_port.specs.declared.call.PortCall.TheVariants.{ClearEnableChange, ClearResetChange}
-use Rattle.usb_port.specs.Calls.{clear_call, is_reset, set_call}
-use Rattle.usb_device.specs.Request.{Is}
-use Rattle.usb_device.specs.declared.delivery.Sent.{Sent}
-use Rattle.usb_device.specs.declared.effect.Effect.{Effect}
-use Rattle.usb_device.specs.declared.effect.Effect.TheVariants.{Leaves, Calls, PortsOff}
-use Rattle.usb_device.specs.Delivery.{effect_of}
-use Rattle.usb_device.specs.Rows.{State}
-use Rattle.usb_world.specs.declared.types.Attempt.{Attempt}
-use Rattle.usb_world.specs.Addresses.{is_setup}
-use Rattle.usb_tree.specs.AttemptPackets.{IfOut, IsSettled}
-use Rattle.usb_world.specs.Exchange.{payload_out}
-use Rattle.usb_world.specs.OneHolder.{HolderIn, IsSetup}
-use Rattle.usb_tree.specs.Paths.{same_number, same_path}
-use Rattle.usb_world.specs.Steps.{damage_in, at_attempt}
-use Rattle.usb_world.specs.World.{World}
+use Rattle.usb_request.specs.{PORT_ENABLE, PORT_POWER, C_PORT_CONNECTION, C_PORT_ENABLE}
+use Rattle.usb_request.specs.{C_PORT_RESET, CLEAR_FEATURE, SET_FEATURE, SET_CONFIGURATION}
+use Rattle.usb_request.specs.{DEVICE_OUT, PORT_OUT, Setup, setup_of}
+use Rattle.usb_port.specs.{PortCall, SetPower, SetReset, ClearEnable, ClearPower}
+use Rattle.usb_port.specs.{ClearConnectionChange, ClearEnableChange, ClearResetChange, clear_call}
+use Rattle.usb_port.specs.{is_reset, set_call}
+use Rattle.usb_device.specs.{Is, Sent, Effect, Leaves, Calls, PortsOff, effect_of, State}
+use Rattle.usb_world.specs.{Attempt, is_setup, payload_out, HolderIn, IsSetup, damage_in}
+use Rattle.usb_world.specs.{at_attempt, World}
+use Rattle.usb_tree.specs.{IfOut, IsSettled, same_number, same_path}
 use Rattle.usb_world.proofs.Interface.{Allows, AllowsOut, PayloadAllows, data_asks_none}
 use Rattle.usb_world.proofs.Interface.{same_number-is, others_leave, payload_allowed, same_is}
 use Rattle.usb_world.proofs.Interface.{sent_allowed}
 use Rattle.usb_tree.proofs.Interface.{and_of, both, decided, equal_same, false_true, or_right}
 use Rattle.usb_tree.proofs.Interface.{self_number}
-use Rattle.usb_backlog.specs.Marks.{PortMark, allowed}
-use Rattle.usb_backlog.specs.PortSettings.{gives_power, sets_feature}
+use Rattle.usb_backlog.specs.{PortMark, allowed, gives_power, sets_feature}
 use Rattle.usb_backlog.proofs.Steps.{AttemptAllows}
 
 -- Attempts that set no feature of any port, whoever hears them

@@ -2,25 +2,17 @@
 use Rattle.std.proofs.Common.{◌≡◌, ℕ, zero, suc, ◌&&◌, ◌||◌, not, Bool, true, [], ◌∷◌, Option, Some}
 use Rattle.std.proofs.Common.{refl, ap, sym, subst, arith}
 use Rattle.std.specs.Bool.{⊤}
-use Rattle.usb_port.specs.declared.call.PortCall.{PortCall}
-use Rattle.usb_port.specs.Calls.{is_reset}
-use Rattle.usb_device.specs.declared.delivery.Sent.{Sent}
-use Rattle.usb_device.specs.Tree.{Ports, called, changed}
-use Rattle.usb_world.specs.declared.damage.Damage.{Damage}
-use Rattle.usb_world.specs.declared.types.Attempt.{Attempt}
-use Rattle.usb_tree.specs.AttemptPackets.{NobodyHolds, after_sent}
-use Rattle.usb_world.specs.Exchange.{payload_out, ports_in, reply_out, token_out}
-use Rattle.usb_world.specs.OneHolder.{IsMade}
-use Rattle.usb_world.specs.PlanCourses.{AtPorts}
-use Rattle.usb_world.specs.Steps.{Course, Step, after, attempt, damage_in, event, here, at_attempt}
-use Rattle.usb_world.specs.Steps.{report, root_call, step, with_attempt}
-use Rattle.usb_world.specs.World.{World}
+use Rattle.usb_port.specs.{PortCall, is_reset}
+use Rattle.usb_device.specs.{Sent, Ports, called, changed}
+use Rattle.usb_world.specs.{Damage, Attempt, payload_out, ports_in, reply_out, token_out, IsMade}
+use Rattle.usb_world.specs.{AtPorts, Course, Step, after, attempt, damage_in, event, here}
+use Rattle.usb_world.specs.{at_attempt, report, root_call, step, with_attempt, World}
+use Rattle.usb_tree.specs.{NobodyHolds, after_sent}
 use Rattle.usb_world.proofs.Interface.{OverSteps, ack_out, goes, made_is, nobody_in, over_course}
 use Rattle.usb_world.proofs.Interface.{over_step, token_out as token_calm, with_call}
 use Rattle.usb_world.proofs.Interface.{with_limit_told}
 use Rattle.usb_tree.proofs.Interface.{both}
-use Rattle.usb_backlog.specs.Marks.{AllowsMarks, Few, KeepsBy, PortMark}
-use Rattle.usb_backlog.specs.PortSettings.{gives_power}
+use Rattle.usb_backlog.specs.{AllowsMarks, Few, KeepsBy, PortMark, gives_power}
 use Rattle.usb_backlog.proofs.Calls.{Less, less-called, less-same, less-then}
 use Rattle.usb_backlog.proofs.Events.{KeepsFrom, keeps-events, keeps-none, keeps-ready, keeps-then}
 use Rattle.usb_backlog.proofs.Packets.{less-calm, less-forgotten, less-sent}

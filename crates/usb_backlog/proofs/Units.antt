@@ -3,14 +3,13 @@ use Rattle.std.proofs.Common.{◌≡◌, ◌≤◌, ◌⊎◌, inl, inr, ℕ, su
 use Rattle.std.proofs.Common.{◌∷◌, Option, None, Some, refl, arith}
 use Rattle.std.proofs.lemmas.Bool.Decides.{nat_tests}
 use Rattle.usb_tree.proofs.Interface.{decided, equal_same}
-use Rattle.usb_port.specs.PortState.{PortState, is_attached}
-use Rattle.usb_device.specs.Rows.{State}
-use Rattle.usb_device.specs.Tree.{Ports, Place, empty, full, port_of, place_at}
-use Rattle.usb_world.specs.World.{World}
-use Rattle.usb_world.specs.PlanCourses.{AtPorts}
-use Rattle.usb_backlog.specs.Marks.{KeepsAll, KeepsBy, KeepsFound, devices_by, just, looks_by, only}
-use Rattle.usb_backlog.specs.Marks.{ports_at, ports_by, strays_by, unmarked}
-use Rattle.usb_backlog.specs.Units.{PaysBare, PaysLook, PaysStray}
+use Rattle.usb_port.specs.{PortState, is_attached}
+use Rattle.usb_device.specs.{State, Ports, empty, full, port_of, place_at}
+use Rattle.usb_device.specs.Tree.{Place}
+use Rattle.usb_world.specs.{World, AtPorts}
+use Rattle.usb_backlog.specs.{KeepsAll, KeepsBy, KeepsFound, devices_by, just, looks_by, only}
+use Rattle.usb_backlog.specs.{ports_at, ports_by, strays_by, unmarked, PaysBare, PaysLook}
+use Rattle.usb_backlog.specs.{PaysStray}
 use Rattle.usb_backlog.proofs.Places.{devices_by-empty, devices_by-nowhere, devices_by-there}
 use Rattle.usb_backlog.proofs.Places.{few-none, looks_by-found, looks_by-less, looks_by-nowhere}
 use Rattle.usb_backlog.proofs.Places.{looks_by-set, ports_by-nowhere, ports_by-there}
@@ -62,8 +61,7 @@ module _ (j : ℕ) (e : List ℕ) where
             arith,
             there,
             none,
-            keeps.still (equal_same mid.taken old.taken same)
-                (just j e),
+            keeps.still (equal_same mid.taken old.taken same) (just j e),
           ))
       came at (inr apart) = grind (arith, nat_tests, apart, keeps.onward)
 
@@ -83,8 +81,7 @@ module _ (j : ℕ) (e : List ℕ) where
               arith,
               keeps.strays,
               strays_set,
-              strays_by-less (just j e) unmarked
-                  mid.roots,
+              strays_by-less (just j e) unmarked mid.roots,
             );
             paid = inr (gone, inr (came at (decided (mid.taken == old.taken))));
           }
@@ -103,8 +100,7 @@ module _ (j : ℕ) (e : List ℕ) where
               arith,
               keeps.strays,
               strays_set,
-              strays_by-less (just j e) unmarked
-                  mid.roots,
+              strays_by-less (just j e) unmarked mid.roots,
             );
             paid = inr (
               gone,
@@ -122,22 +118,19 @@ module _ (j : ℕ) (e : List ℕ) where
           arith,
           keeps.looks,
           looks_set,
-          looks_by-found mid.roots j e b s a at
-              (cleared (full b s a) at),
+          looks_by-found mid.roots j e b s a at (cleared (full b s a) at),
         );
         strays = omega (
           arith,
           keeps.strays,
           strays_set,
-          strays_by-less (just j e) unmarked
-              mid.roots,
+          strays_by-less (just j e) unmarked mid.roots,
         );
         paid = inl (omega (
           arith,
           keeps.looks,
           looks_set,
-          looks_by-found mid.roots j e b s a at
-              (cleared (full b s a) at),
+          looks_by-found mid.roots j e b s a at (cleared (full b s a) at),
         ));
       }
 
@@ -203,8 +196,7 @@ module _ (j : ℕ) (e : List ℕ) where
               looks_by-less (ports_at p) new.roots,
               x.onward,
             );
-        strays =
-            strays;
+        strays = strays;
       }
 
   -- no device was seen at the port, and nothing else was done there
@@ -245,8 +237,7 @@ module _ (j : ℕ) (e : List ℕ) where
       keeps.strays,
       since.strays,
       told,
-      strays_by-less unmarked (just j e)
-          mid.roots,
+      strays_by-less unmarked (just j e) mid.roots,
     );
     paid = pick (place_at mid.roots j e) refl;
   }
@@ -263,8 +254,7 @@ module _ (j : ℕ) (e : List ℕ) where
             arith,
             there,
             none,
-            keeps.still (equal_same mid.taken old.taken same)
-                (just j e),
+            keeps.still (equal_same mid.taken old.taken same) (just j e),
           ))
       came at (inr apart) = let later : old.taken + 1 ≤ mid.taken =
           grind (arith, nat_tests, apart, keeps.onward) in omega (arith, later, since.onward)

@@ -1,18 +1,11 @@
 -- What is left to do at the ports of a tree, where some ports count as if a change were set there.
 use Rattle.std.specs.Prelude.{◌≡◌, ◌≤◌, ℕ, zero, suc, ◌+◌, ◌*◌, ◌&&◌, ◌||◌, not, Bool, true, false}
 use Rattle.std.specs.Prelude.{List, [], ◌∷◌, ◌++◌, Some}
-use Rattle.usb_port.specs.PortState.{is_attached, bit}
-use Rattle.usb_port.specs.declared.call.PortCall.{PortCall}
-use Rattle.usb_port.specs.Calls.{is_reset}
-use Rattle.usb_device.specs.declared.delivery.Sent.{Sent}
-use Rattle.usb_device.specs.declared.effect.Effect.{Effect}
-use Rattle.usb_device.specs.declared.effect.Effect.TheVariants.{Leaves, Calls, PortsOff}
-use Rattle.usb_device.specs.Delivery.{effect_of}
-use Rattle.usb_device.specs.Rows.{State}
-use Rattle.usb_device.specs.Tree.{Ports, ended, vacant, taken, new_ports, state_at}
-use Rattle.usb_world.specs.PlanCourses.{AtPorts}
-use Rattle.usb_world.specs.World.{World}
-use Rattle.usb_tree.specs.Paths.{same_number, same_path}
+use Rattle.usb_port.specs.{is_attached, bit, PortCall, is_reset}
+use Rattle.usb_device.specs.{Sent, Effect, Leaves, Calls, PortsOff, effect_of, State, Ports, ended}
+use Rattle.usb_device.specs.{vacant, taken, new_ports, state_at}
+use Rattle.usb_world.specs.{AtPorts, World}
+use Rattle.usb_tree.specs.{same_number, same_path}
 use Rattle.usb_backlog.specs.PortSettings.{gives_power}
 
 -- whether a port is marked, by its number on a row, counted from 0, and the rest of its path

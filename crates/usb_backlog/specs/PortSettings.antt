@@ -1,7 +1,6 @@
 -- Calls that set features of ports (11.24.2.13).
 use Rattle.std.specs.Prelude.{Bool, true, false}
-use Rattle.usb_port.specs.declared.call.PortCall.{PortCall}
-use Rattle.usb_port.specs.declared.call.PortCall.TheVariants.{SetPower, SetReset}
+use Rattle.usb_port.specs.{PortCall, SetPower, SetReset}
 
 -- SetPortFeature of PORT_POWER
 abbrev pub gives_power : PortCall → Bool

@@ -1,6 +1,6 @@
 -- What a handling pays of what is left to do.
 use Rattle.std.specs.Prelude.{◌≤◌, ◌⊎◌, ◌+◌, ◌*◌}
-use Rattle.usb_world.specs.World.{World}
+use Rattle.usb_world.specs.{World}
 use Rattle.usb_backlog.specs.Marks.{looks_by, strays_by, unmarked}
 
 -- no more is left to do, but by events

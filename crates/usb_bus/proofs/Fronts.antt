@@ -6,7 +6,7 @@ use Rattle.std.proofs.lemmas.Bool.Decides.{nat_tests}
 use Rattle.std.proofs.lemmas.List.{take_rest}
 use Rattle.std.specs.Io.KnownBytes.{Appends, Keeps}
 use Rattle.std.proofs.KnownBytes.{Appends-trans, Appends-kept, Appends-nil}
-use Rattle.usb_bus.specs.Watch.{AppendsFront, PutsText}
+use Rattle.usb_bus.specs.{AppendsFront, PutsText}
 
 pub appends_front : (a b : Option (List ℕ)) (gone rest piece : List ℕ) → piece ≡ gone ++ rest
     → Appends a b gone → AppendsFront a b piece

@@ -1,12 +1,10 @@
 -- How what went between states of a bus joins.
 use Rattle.std.proofs.Common.{◌≡◌, ℕ, ◌+◌, ◌≤◌, List, Option, sym, subst}
-use Rattle.usb_port.specs.declared.call.PortCall.{PortCall}
-use Rattle.usb_port.specs.Calls.{set_call, clear_call, IsSetFeature, IsClearFeature}
+use Rattle.usb_port.specs.{PortCall, set_call, clear_call, IsSetFeature, IsClearFeature}
 use Rattle.usb_port.proofs.Interface.{call_is}
-use Rattle.usb_world.specs.World.{World}
-use Rattle.usb_world.specs.Steps.{SetsRoot, ClearsRoot, after, root_call}
+use Rattle.usb_world.specs.{World, SetsRoot, ClearsRoot, after, root_call}
 use Rattle.usb_world.proofs.Interface.{spends_none, spends_then, spends_wider}
-use Rattle.usb_bus.specs.Traces.{Traced, still, attempted, called, StepRun}
+use Rattle.usb_bus.specs.{Traced, still, attempted, called, StepRun}
 
 pub traced_then : {a b : World} {t r : Option (List ℕ)} {c : World} {s : Option (List ℕ)}
     → Traced a t b r → Traced b r c s → Traced a t c s
@@ -22,16 +20,14 @@ pub went_then : (m n : ℕ) {a b c : World} {t r s : Option (List ℕ)} → Step
     → StepRun n b r c s → StepRun (m + n) a t c s
 went_then m n {a} {b} {c} p q = record {
   spends = spends_then m n a b c p.spends q.spends;
-  traced =
-      traced_then p.traced q.traced;
+  traced = traced_then p.traced q.traced;
 }
 
 pub went_wider : (m n : ℕ) {a b : World} {t s : Option (List ℕ)} → StepRun m a t b s → m ≤ n
     → StepRun n a t b s
 went_wider m n {a} {b} p le = record {
   spends = spends_wider m n a b p.spends le;
-  traced =
-      p.traced;
+  traced = p.traced;
 }
 
 -- one root call more

@@ -1,14 +1,10 @@
 -- The text of the trace.
 use Rattle.std.specs.Prelude.{ℕ, Bool, true, false, List, [], ◌++◌, codes, decimal, Option, Some}
 use Rattle.std.specs.Prelude.{None}
-use Rattle.usb_packet.specs.Text.{text_of}
-use Rattle.usb_port.specs.Path.{path_text}
-use Rattle.usb_world.specs.declared.exchange.Exchange.{Exchange}
-use Rattle.usb_world.specs.declared.exchange.ExchangeAnswer.{ExchangeAnswer}
+use Rattle.usb_packet.specs.{text_of}
+use Rattle.usb_port.specs.{path_text}
+use Rattle.usb_world.specs.{Exchange, ExchangeAnswer, Mark, Whole, Lost, PreLost, Flipped, Outgoing}
 use Rattle.usb_world.specs.declared.exchange.ExchangeAnswer.TheVariants.{Nothing, One, Collision}
-use Rattle.usb_world.specs.declared.wire.Mark.{Mark}
-use Rattle.usb_world.specs.declared.wire.Mark.TheVariants.{Whole, Lost, PreLost, Flipped}
-use Rattle.usb_world.specs.declared.wire.Outgoing.{Outgoing}
 
 abbrev pub pre_text : Bool → List ℕ
 pre_text true = codes "PRE "

@@ -1,14 +1,10 @@
 -- What went between two states of a bus: the steps of its world, and the text that they wrote.
 use Rattle.std.specs.Prelude.{◌≡◌, ℕ, List, Option, None, Some, Result, Err, OnOk, IfOk, IsSome}
-use Rattle.usb_port.specs.declared.call.PortCall.{PortCall}
-use Rattle.usb_world.specs.declared.types.Attempt.{Attempt}
+use Rattle.usb_port.specs.{PortCall}
+use Rattle.usb_world.specs.{Attempt, BusFault, LimitReached, Memory, TraceFailed, Outcome, World}
+use Rattle.usb_world.specs.{IsAttempt, Attempted, AttemptsWithin, AttemptFails, TookEvent, after}
+use Rattle.usb_world.specs.{attempt, event, outcome_in, root_call}
 use Rattle.usb_world.specs.declared.event.Ask.{Ask}
-use Rattle.usb_world.specs.declared.types.BusFault.{BusFault}
-use Rattle.usb_world.specs.declared.types.BusFault.TheVariants.{LimitReached, Memory, TraceFailed}
-use Rattle.usb_world.specs.declared.types.Outcome.{Outcome}
-use Rattle.usb_world.specs.World.{World, IsAttempt, Attempted, AttemptsWithin}
-use Rattle.usb_world.specs.Steps.{AttemptFails, TookEvent, after, attempt, event, outcome_in}
-use Rattle.usb_world.specs.Steps.{root_call}
 use Rattle.usb_bus.specs.Lines.{lines_between, next_due, step_lines}
 use Rattle.usb_bus.specs.Watch.{WritesText}
 

@@ -1,7 +1,7 @@
 ghost use Rattle.std.specs.Prelude.{◌≡◌, ◌≤◌, ℕ, List, Option, None, Bool, true};
-ghost use Rattle.usb_port.specs.PortState.{status_of};
+ghost use Rattle.usb_port.specs.PortStates.{status_of};
 ghost use Rattle.usb_port.specs.Calls.{IsSetFeature, IsClearFeature};
-ghost use Rattle.usb_world.specs.World.{World, IsAttempt, IsRootPort, root_port_at, roots_of};
+ghost use Rattle.usb_world.specs.Worlds.{World, IsAttempt, IsRootPort, root_port_at, roots_of};
 ghost use Rattle.usb_world.specs.Steps.{WorldInvariant, SetsRoot, ClearsRoot};
 ghost use Rattle.usb_tree.specs.AttemptPackets.{IsSettled};
 ghost use Rattle.usb_bus.specs.Traces.{Attempts};

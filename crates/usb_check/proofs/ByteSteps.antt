@@ -3,10 +3,8 @@ use Rattle.std.proofs.Common.{◌≡◌, ℕ, zero, suc, ◌+◌, ◌/◌, ◌%�
 use Rattle.std.proofs.Common.{length, map, get_or, Bool, true, false, bit_xor, bit_and, refl, sym}
 use Rattle.std.proofs.Common.{◌∙◌, ap, ap₂, arith, append_assoc, append-nil, length-append}
 use Rattle.std.proofs.lemmas.Nat.{and_mask, xor_lt}
-use Rattle.usb_check.specs.Bits.{low_bits}
-use Rattle.usb_check.specs.Polynomial.{plus, sum_of, zeros_along, times, generator16}
-use Rattle.usb_check.specs.Register.{step, run}
-use Rattle.usb_check.specs.declared.data_check.TheConstants.{TABLE}
+use Rattle.usb_check.specs.{low_bits, plus, sum_of, zeros_along, times, generator16, step, run}
+use Rattle.usb_check.specs.{TABLE}
 use Rattle.usb_check.proofs.BitLemmas.{low_bits-xor, low_bits-add, low_bits-mod}
 use Rattle.usb_check.proofs.SumLemmas.{plus_comm, plus_assoc, plus_same, sum_of_comm, sum_of_assoc}
 use Rattle.usb_check.proofs.SumLemmas.{sum_of_twice, sum_of-append, sum_of-zeros, zeros-sum}

@@ -2,12 +2,9 @@
 use Rattle.std.specs.Prelude.{ℕ, ◌==◌, ◌&&◌, List, [], ◌∷◌, ◌++◌, Option, None, Some, Result, Ok}
 use Rattle.std.specs.Prelude.{Err, codes, if◌then◌else◌, slice_index}
 use Rattle.hex.specs.Hex.{encode_lower}
-use Rattle.usb_descriptor.specs.declared.fault.DescriptorFault.{DescriptorFault}
+use Rattle.usb_descriptor.specs.{DescriptorFault, Interface, Endpoint, Other, config_of}
+use Rattle.usb_descriptor.specs.{device_class, items_of}
 use Rattle.usb_descriptor.specs.declared.item.Item.{Item}
-use Rattle.usb_descriptor.specs.declared.item.Item.TheVariants.{Interface, Endpoint, Other}
-use Rattle.usb_descriptor.specs.Config.{config_of}
-use Rattle.usb_descriptor.specs.Device.{device_class}
-use Rattle.usb_descriptor.specs.Item.{items_of}
 use Rattle.usb_class.specs.declared.class.ClassCodes.{ClassCodes}
 
 -- bDeviceClass, bDeviceSubClass and bDeviceProtocol

@@ -2,11 +2,9 @@
 use Rattle.std.proofs.Common.{◌≡◌, ◌≤◌, ◌==◌, ℕ, nat_lt, Bool, true, false, if◌then◌else◌, List}
 use Rattle.std.proofs.Common.{length, Result, Ok, Err, is_ok, refl, arith}
 use Rattle.std.proofs.lemmas.Bool.{ltb-false, eqb-false}
-use Rattle.usb_request.specs.Codes.{DEVICE_LENGTH}
-use Rattle.usb_descriptor.specs.declared.fault.DescriptorFault.{DescriptorFault}
-use Rattle.usb_descriptor.specs.declared.fault.DescriptorFault.TheVariants.{NoConfiguration, Short}
-use Rattle.usb_descriptor.specs.Device.{configuration_count, device_after, device_head_of}
-use Rattle.usb_descriptor.specs.Device.{device_spelled}
+use Rattle.usb_request.specs.{DEVICE_LENGTH}
+use Rattle.usb_descriptor.specs.{DescriptorFault, NoConfiguration, Short, configuration_count}
+use Rattle.usb_descriptor.specs.{device_after, device_head_of, device_spelled}
 
 unless : {A : Type 0} (b : Bool) (fault : DescriptorFault) (r : Result A DescriptorFault)
     → is_ok (if b then Err fault else r) ≡ true → (b ≡ false) × (is_ok r ≡ true)

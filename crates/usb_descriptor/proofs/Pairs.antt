@@ -3,7 +3,7 @@ use Rattle.std.proofs.Common.{◌≡◌, ℕ, ◌+◌, ◌*◌, ◌%◌, ◌≤�
 use Rattle.std.proofs.Common.{refl, arith}
 use Rattle.std.proofs.lemmas.List.{length-drop}
 use Rattle.std.specs.Int.{from_le_bytes, w16}
-use Rattle.usb_descriptor.specs.Words.{words_of}
+use Rattle.usb_descriptor.specs.{words_of}
 
 pub words_of-short : (bytes : List ℕ) → length bytes < 2 → words_of bytes ≡ []
 unfolding words_of

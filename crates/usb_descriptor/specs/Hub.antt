@@ -1,7 +1,7 @@
 -- Hub descriptors (11.23.2.1).
 use Rattle.std.specs.Prelude.{ℕ, List, length, ◌||◌, ◌&&◌, ◌==◌, not, Result, Ok, Err, nat_lt}
 use Rattle.std.specs.Prelude.{nat_le, if◌then◌else◌, slice_index}
-use Rattle.usb_request.specs.Codes.{HUB, HUB_LENGTH}
+use Rattle.usb_request.specs.{HUB, HUB_LENGTH}
 use Rattle.usb_descriptor.specs.declared.fault.DescriptorFault.{DescriptorFault}
 use Rattle.usb_descriptor.specs.declared.fault.DescriptorFault.TheVariants.{Short, WrongType}
 use Rattle.usb_descriptor.specs.declared.fault.DescriptorFault.TheVariants.{Length}

@@ -1,7 +1,7 @@
 -- String descriptors (9.6.7).
 use Rattle.std.specs.Prelude.{ℕ, List, length, take, drop, ◌||◌, ◌==◌, ◌%◌, not, Result, Ok, Err}
 use Rattle.std.specs.Prelude.{nat_lt, if◌then◌else◌, slice_index}
-use Rattle.usb_request.specs.Codes.{STRING}
+use Rattle.usb_request.specs.{STRING}
 use Rattle.usb_descriptor.specs.declared.fault.DescriptorFault.{DescriptorFault}
 use Rattle.usb_descriptor.specs.declared.fault.DescriptorFault.TheVariants.{Short, WrongType}
 use Rattle.usb_descriptor.specs.declared.fault.DescriptorFault.TheVariants.{Length}

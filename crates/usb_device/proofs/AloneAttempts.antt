@@ -1,11 +1,6 @@
 -- A whole attempt at one device: the token and the ACK ask nothing of its ports.
 use Rattle.std.proofs.Common.{◌≡◌, Bool, true, false, if◌then◌else◌, refl}
-use Rattle.usb_device.specs.declared.alone.HostSide.{HostSide}
-use Rattle.usb_device.specs.declared.effect.Effect.TheVariants.{Leaves}
-use Rattle.usb_device.specs.Effect.{asks}
-use Rattle.usb_device.specs.Rows.{State}
-use Rattle.usb_device.specs.Delivery.{hears, effect_of}
-use Rattle.usb_device.specs.AloneAttempts.{token_sent, ack_sent}
+use Rattle.usb_device.specs.{HostSide, Leaves, asks, State, hears, effect_of, token_sent, ack_sent}
 
 either-leaves : (x y : Bool) → (if x then (if y then Leaves else Leaves) else Leaves) ≡ Leaves
 either-leaves true true = refl

@@ -2,35 +2,27 @@
 use Rattle.std.proofs.Common.{◌≡◌, ℕ, ◌==◌, nat_le, if◌then◌else◌, ◌&&◌, Bool, true, false, List}
 use Rattle.std.proofs.Common.{[], ◌∷◌, length, Option, None, Some, take, refl, ap, ◌∙◌, arith}
 use Rattle.std.proofs.lemmas.Bool.Decides.{nat_tests}
-use Rattle.usb_packet.specs.declared.TokenKind.TheVariants.{OutTok, InTok, SetupTok}
-use Rattle.usb_packet.specs.declared.Toggle.{Toggle}
-use Rattle.usb_packet.specs.declared.Toggle.TheVariants.{Zero, One}
-use Rattle.usb_packet.specs.declared.Packet.{Packet}
-use Rattle.usb_packet.specs.declared.Packet.TheVariants.{Token, Payload}
+use Rattle.usb_packet.specs.{OutTok, InTok, SetupTok, Toggle, Zero, One, Packet, Token, Payload}
 use Rattle.usb_packet.specs.declared.Packet.TheVariants as packet
-use Rattle.usb_request.specs.Layout.{setup_of}
-use Rattle.usb_device.specs.declared.answer.Answer.{Answer}
+use Rattle.usb_request.specs.{setup_of}
+use Rattle.usb_device.specs.{Answer, RememberedPacket, InEndpoint, BulkOut, BulkIn, Changes}
+use Rattle.usb_device.specs.{tells_changes, change_bits, Outcome, stalled, takes_address}
+use Rattle.usb_device.specs.{takes_configuration, halts, unhalts, tells_port, calls_port, outcome}
+use Rattle.usb_device.specs.{Stage, idle, refused, reading, read, ending, max_packet, packet_at}
+use Rattle.usb_device.specs.{toggle_at, State, Reply, received, answered, unread, forgotten}
+use Rattle.usb_device.specs.{accepted, payload, is_busy, nak_row, unless_busy, gives, in_row, begun}
+use Rattle.usb_device.specs.{data_row, token_row, source_row, changes_row, held_row, in_other_row}
+use Rattle.usb_device.specs.{in_bulk_row, acknowledged, bulk_of, rest_of, Way, lost, heard, acked}
+use Rattle.usb_device.specs.{setup_exchange, out_exchange, in_exchange, setup_law, out_law, gave}
+use Rattle.usb_device.specs.{in_stage_law, source_law, changes_law, held_law, in_other_law}
+use Rattle.usb_device.specs.{in_bulk_law, in_control_law, in_law, is_own}
 use Rattle.usb_device.specs.declared.answer.Answer.TheVariants.{Ack, Nak, Stall}
-use Rattle.usb_device.specs.declared.transfer.RememberedPacket.{RememberedPacket}
 use Rattle.usb_device.specs.declared.transfer.RememberedPacket.TheVariants.{Nothing, SetupSeen}
 use Rattle.usb_device.specs.declared.transfer.RememberedPacket.TheVariants.{OutSeen, AckAwaited}
-use Rattle.usb_device.specs.declared.transfer.InEndpoint.{InEndpoint}
 use Rattle.usb_device.specs.declared.transfer.InEndpoint.TheVariants as by
-use Rattle.usb_device.specs.declared.bulk.ServedEndpoint.TheVariants.{BulkOut, BulkIn, Changes}
-use Rattle.usb_port.specs.PortState.{PortState}
-use Rattle.usb_device.specs.Bulk.{tells_changes, change_bits}
-use Rattle.usb_device.specs.Request.{Outcome, stalled, answers, takes_address, takes_configuration}
-use Rattle.usb_device.specs.Request.{halts, unhalts, tells_port, calls_port, outcome}
-use Rattle.usb_device.specs.Transfer.{Stage, idle, refused, reading, read, ending, max_packet}
-use Rattle.usb_device.specs.Transfer.{packet_at, toggle_at}
-use Rattle.usb_device.specs.Rows.{State, Reply, received, answered, unread, forgotten, accepted}
-use Rattle.usb_device.specs.Rows.{payload, is_busy, nak_row, unless_busy, gives, in_row, begun}
-use Rattle.usb_device.specs.Rows.{data_row, token_row, source_row, changes_row, held_row}
-use Rattle.usb_device.specs.Rows.{in_other_row, in_bulk_row, acknowledged, bulk_of, rest_of}
-use Rattle.usb_device.specs.Attempt.{Way, whole, broken, lost, heard, acked, setup_exchange}
-use Rattle.usb_device.specs.Attempt.{out_exchange, in_exchange, setup_law, out_law, gave}
-use Rattle.usb_device.specs.Attempt.{in_stage_law, source_law, changes_law, held_law, in_other_law}
-use Rattle.usb_device.specs.Attempt.{in_bulk_law, in_control_law, in_law, is_own}
+use Rattle.usb_port.specs.{PortState}
+use Rattle.usb_device.specs.Request.{answers}
+use Rattle.usb_device.specs.Attempt.{whole, broken}
 
 pub same_number : (n : ℕ) → (n == n) ≡ true
 same_number n = grind (arith, nat_tests)
@@ -52,8 +44,7 @@ pub unread-rested : (d : State) → unread (forgotten d) ≡ forgotten d
 unfolding unread
 unread-rested d = elim d.spec.silent
     as (λ s. ◌≡◌ {A = State} (if s then forgotten d else forgotten d) (forgotten d)) [
-      | true ↦
-          refl
+      | true ↦ refl
       | false ↦ refl
     ]
 
@@ -292,13 +283,11 @@ in_stage_is d row max loud t2 t3 (reading answer wanted k) =
     elim (packet_at (max_packet d.spec) wanted answer k)
     as (λ o. acked row max t2 t3 (elim o [
       | None ↦ attempt_reply None D
-      | Some bytes ↦
-          gives D by.Control (toggle_at k) bytes
+      | Some bytes ↦ gives D by.Control (toggle_at k) bytes
     ])
     ≡ (elim o [
       | None ↦ attempt_reply None D
-      | Some bytes ↦
-          gave D by.Control max (toggle_at k) bytes t2 t3
+      | Some bytes ↦ gave D by.Control max (toggle_at k) bytes t2 t3
     ])) [
       | None ↦ acked-none row max t2 t3 D
       | Some bytes ↦ gave_is D row by.Control (toggle_at k) bytes max loud t2 t3

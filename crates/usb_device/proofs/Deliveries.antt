@@ -1,22 +1,16 @@
 -- A packet at a row of ports that begins with a place.
 use Rattle.std.proofs.Common.{◌≡◌, Bool, true, false, if◌then◌else◌, List, [], ◌∷◌, ◌++◌, Option}
 use Rattle.std.proofs.Common.{None, Some, length, refl, ap, sym, ◌∙◌, arith}
-use Rattle.usb_port.specs.PortState.{PortState}
-use Rattle.usb_device.specs.declared.answer.Answer.{Answer}
-use Rattle.usb_device.specs.declared.delivery.Sent.{Sent}
-use Rattle.usb_device.specs.declared.delivery.Heard.{Heard}
+use Rattle.usb_port.specs.{PortState}
+use Rattle.usb_device.specs.{Answer, Sent, Heard, ports_kept, State, unread, concerns, Ports, taken}
+use Rattle.usb_device.specs.{Plugged, empty, full, before, row_of, Content, answer_of, after_packet}
+use Rattle.usb_device.specs.{listed, heard_from, heard_of, both, heard_joined, with_answer}
+use Rattle.usb_device.specs.{taken_content, delivered, delivered_device, delivered_place, Place}
+use Rattle.usb_device.specs.{answers}
 use Rattle.usb_device.specs.declared.delivery.Heard.TheVariants.{NoAnswer, One, Collision}
 use Rattle.usb_device.specs.declared.ports.Place.{Place as Kept}
-use Rattle.usb_device.specs.Places.{ports_kept}
-use Rattle.usb_device.specs.Rows.{State, unread}
-use Rattle.usb_device.specs.StrayPackets.{concerns}
-use Rattle.usb_device.specs.Tree.{Ports, taken, Plugged, Place, empty, full, before, row_of}
-use Rattle.usb_device.specs.declared.delivery.Content.{Content}
-use Rattle.usb_device.proofs.Rows.{row_of-after}
-use Rattle.usb_device.proofs.Strays.{reply-unread, asks-stray}
-use Rattle.usb_device.specs.Delivery.{answer_of, after_packet, answers, listed, heard_from}
-use Rattle.usb_device.specs.Delivery.{heard_of, both, heard_joined, with_answer, taken_content}
-use Rattle.usb_device.specs.Delivery.{delivered, delivered_device, delivered_place}
+use Rattle.usb_device.proofs.packets.Rows.{row_of-after}
+use Rattle.usb_device.proofs.packets.Strays.{reply-unread, asks-stray}
 
 -- ---- a packet leaves the ports of a device as they are until the device itself asks something of
 -- them

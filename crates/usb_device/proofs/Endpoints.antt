@@ -1,8 +1,7 @@
 -- Bytes that are no configuration have no endpoints.
 use Rattle.std.proofs.Common.{◌≡◌, ℕ, List, None, Err, ap}
-use Rattle.usb_descriptor.specs.declared.fault.DescriptorFault.{DescriptorFault}
-use Rattle.usb_descriptor.specs.Config.{config_of}
-use Rattle.usb_descriptor.specs.Choice.{in_config, bulk_in_of, bulk_out_of, bulk_in_at, bulk_out_at}
+use Rattle.usb_descriptor.specs.{DescriptorFault, config_of, in_config, bulk_in_of, bulk_out_of}
+use Rattle.usb_descriptor.specs.{bulk_in_at, bulk_out_at}
 
 pub no_bulk_in : (bytes : List ℕ) (fault : DescriptorFault) → config_of bytes ≡ Err fault
     → bulk_in_of bytes ≡ None

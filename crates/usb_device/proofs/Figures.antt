@@ -1,24 +1,15 @@
 -- Which devices stand where, after a packet.
 use Rattle.std.proofs.Common.{◌≡◌, ℕ, zero, suc, Bool, true, false, if◌then◌else◌, List, [], ◌∷◌}
 use Rattle.std.proofs.Common.{◌++◌, Option, None, Some, refl, ap, ap₂, ◌∙◌}
-use Rattle.usb_port.specs.PortState.{PortState}
-use Rattle.usb_port.specs.declared.call.PortCall.{PortCall}
-use Rattle.usb_device.specs.declared.effect.Effect.{Effect}
-use Rattle.usb_device.specs.declared.effect.Effect.TheVariants.{Leaves, Calls, PortsOff}
-use Rattle.usb_device.specs.declared.delivery.Content.{Content}
-use Rattle.usb_device.specs.declared.delivery.Content.TheVariants.{Whole, Broken}
-use Rattle.usb_device.specs.declared.delivery.Sent.{Sent}
-use Rattle.usb_device.specs.Spec.{Spec}
-use Rattle.usb_port.specs.Calls.{called_port}
-use Rattle.usb_device.specs.Rows.{State, Reply, unread, forgotten, reset_state}
-use Rattle.usb_device.specs.Tree.{Ports, ended, vacant, taken, Place, empty, full, Plugged, before}
-use Rattle.usb_device.specs.Tree.{all_off, reset_where, called, changed_at, acted, row_of}
-use Rattle.usb_device.specs.declared.delivery.Heard.{Heard}
+use Rattle.usb_port.specs.{PortState, PortCall, called_port}
+use Rattle.usb_device.specs.{Effect, Leaves, Calls, PortsOff, Content, Whole, Broken, Sent, Spec}
+use Rattle.usb_device.specs.{State, Reply, unread, forgotten, reset_state, Ports, ended, vacant}
+use Rattle.usb_device.specs.{taken, empty, full, Plugged, before, all_off, reset_where, called}
+use Rattle.usb_device.specs.{changed_at, acted, row_of, Heard, hears, reply_to, answer_of}
+use Rattle.usb_device.specs.{effect_of, after_packet, on_port, delivered_place, delivered_device}
+use Rattle.usb_device.specs.{figure, figure_in, figure_of, Place}
 use Rattle.usb_device.specs.declared.delivery.Heard.TheVariants.{NoAnswer}
-use Rattle.usb_device.specs.Delivery.{hears, reply_to, answer_of, effect_of, after_packet, on_port}
-use Rattle.usb_device.specs.Delivery.{delivered_place, delivered_device, figure, figure_in}
-use Rattle.usb_device.specs.Delivery.{figure_of}
-use Rattle.usb_device.proofs.RowFrames.{keeps-received}
+use Rattle.usb_device.proofs.packets.RowFrames.{keeps-received}
 
 pub figure-before : (q : Place) (k : Ports) → figure (before q k) ≡ figure_in q ++ figure k
 unfolding figure
@@ -65,8 +56,7 @@ figure-acted PortsOff k = figure-off k
 unread-spec : (s : State) → (unread s).spec ≡ s.spec
 unfolding unread
 unread-spec s = elim s.spec.silent as (λ b. (if b then s else forgotten s).spec ≡ s.spec) [
-  | true ↦
-      refl
+  | true ↦ refl
   | false ↦ refl
 ]
 

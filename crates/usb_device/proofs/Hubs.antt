@@ -1,9 +1,9 @@
 -- The usual hub descriptor is one.
 use Rattle.std.proofs.Common.{◌≡◌, ◌≤◌, ℕ, [], ◌∷◌, true, nat_le, Ok, refl, arith}
 use Rattle.std.proofs.lemmas.Bool.Decides.{nat_tests}
-use Rattle.usb_request.specs.Codes.{HUB}
-use Rattle.usb_descriptor.specs.Hub.{hub_spelled}
-use Rattle.usb_device.specs.Spec.{agrees, usual_hub}
+use Rattle.usb_request.specs.{HUB}
+use Rattle.usb_descriptor.specs.{hub_spelled}
+use Rattle.usb_device.specs.{agrees, usual_hub}
 use Rattle.usb_device.proofs.Attempts.{same_number}
 
 pub at_least_one : (n : ℕ) → 1 ≤ n → nat_le 1 n ≡ true

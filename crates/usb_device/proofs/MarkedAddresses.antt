@@ -3,12 +3,10 @@ use Rattle.std.proofs.Common.{◌≡◌, ◌<◌, ℕ, zero, suc, ◌==◌, ◌|
 use Rattle.std.proofs.Common.{List, [], ◌∷◌, ◌++◌, Option, None, Some, length, slice_set}
 use Rattle.std.proofs.Common.{slice_index_or, refl, ap, ap₂, sym, ◌∙◌, arith}
 use Rattle.std.proofs.lemmas.Bool.Decides.{nat_tests}
-use Rattle.usb_port.specs.PortState.{PortState}
+use Rattle.usb_port.specs.{PortState}
 use Rattle.usb_device.specs.declared.ports.Place.{Place as Kept}
-use Rattle.usb_device.specs.Tree.{Ports, Plugged, before}
-use Rattle.usb_device.specs.Places.{standing, ports_kept}
-use Rattle.usb_device.specs.Delivery.{held_addresses, held_in, has, repeats}
-use Rattle.usb_device.specs.Holders.{AreBytes}
+use Rattle.usb_device.specs.{Ports, Plugged, before, standing, ports_kept, held_addresses, held_in}
+use Rattle.usb_device.specs.{has, repeats, AreBytes}
 
 -- ---- marks along a list
 
@@ -163,8 +161,7 @@ has-middle n (x ∷ xs) ys zs =
     ap (λ b. (n == x) || b) (has-middle n xs ys zs)
     ∙ second_first (n == x) (has n ys) (has n (xs ++ zs))
 
-twice-append : (xs ys : List ℕ)
-    → repeats (xs ++ ys) ≡ (share xs ys || (repeats xs || repeats ys))
+twice-append : (xs ys : List ℕ) → repeats (xs ++ ys) ≡ (share xs ys || (repeats xs || repeats ys))
 unfolding repeats
 twice-append [] ys = refl
 twice-append (x ∷ xs) ys =

@@ -6,7 +6,7 @@ use Rattle.std.proofs.lemmas.List.Folds.{list_any-append}
 use Rattle.std.proofs.lemmas.Slice.Eq.{bytes_eq-Decides}
 use Rattle.std.specs.Bool.{one_answer}
 use Rattle.std.specs.Str.{bytes_eq}
-use Rattle.usb_device.specs.Spec.{Spec, is_named, names_differ}
+use Rattle.usb_device.specs.{Spec, is_named, names_differ}
 
 pub bytes_eq-sym : (xs ys : List ℕ) → bytes_eq xs ys ≡ false → bytes_eq ys xs ≡ false
 bytes_eq-sym xs ys h =

@@ -2,20 +2,16 @@
 -- or not at all (8.5).
 use Rattle.std.specs.Prelude.{ℕ, nat_le, ◌==◌, take, if◌then◌else◌, ◌&&◌, Bool, true, false, List}
 use Rattle.std.specs.Prelude.{[], ◌∷◌, length, Option, None, Some}
-use Rattle.usb_packet.specs.declared.TokenKind.TheVariants.{OutTok, InTok, SetupTok}
-use Rattle.usb_packet.specs.declared.Toggle.{Toggle}
-use Rattle.usb_packet.specs.declared.Toggle.TheVariants.{Zero, One}
-use Rattle.usb_packet.specs.declared.Packet.{Packet}
-use Rattle.usb_packet.specs.declared.Packet.TheVariants.{Token, Payload}
+use Rattle.usb_packet.specs.{OutTok, InTok, SetupTok, Toggle, Zero, One, Packet, Token, Payload}
 use Rattle.usb_packet.specs.declared.Packet.TheVariants as packet
-use Rattle.usb_request.specs.Layout.{setup_of}
+use Rattle.usb_request.specs.{setup_of}
 use Rattle.usb_device.specs.declared.answer.Answer.{Answer}
 use Rattle.usb_device.specs.declared.answer.Answer.TheVariants.{Ack, Nak, Stall, Data}
 use Rattle.usb_device.specs.Transfer.{Stage, idle, refused, reading, read, ending, max_packet}
 use Rattle.usb_device.specs.Transfer.{packet_at, toggle_at}
 use Rattle.usb_device.specs.declared.transfer.InEndpoint.{InEndpoint}
 use Rattle.usb_device.specs.declared.transfer.InEndpoint.TheVariants as by
-use Rattle.usb_port.specs.PortState.{PortState}
+use Rattle.usb_port.specs.{PortState}
 use Rattle.usb_device.specs.Bulk.{tells_changes, change_bits}
 use Rattle.usb_device.specs.Rows.{State, Reply, received, unread, forgotten, accepted, payload}
 use Rattle.usb_device.specs.Rows.{is_busy, nak_row, data_row, acknowledged, bulk_of, rest_of}

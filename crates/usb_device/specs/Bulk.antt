@@ -3,17 +3,15 @@
 use Rattle.std.specs.Prelude.{ℕ, ◌+◌, ◌-◌, ◌==◌, nat_lt, nat_le, min, if◌then◌else◌, ◌||◌, ◌&&◌}
 use Rattle.std.specs.Prelude.{Bool, true, false, List, [], ◌∷◌, length, take, slice_get, not}
 use Rattle.std.specs.Prelude.{Option, None, Some, is_some}
-use Rattle.usb_packet.specs.Toggles.{other}
-use Rattle.usb_request.specs.Codes.{DIRECTION_IN, STATUS_ENDPOINT}
-use Rattle.usb_packet.specs.declared.Toggle.TheVariants.{Zero}
-use Rattle.usb_descriptor.specs.Choice.{bulk_out_of, bulk_in_of}
-use Rattle.usb_descriptor.specs.Config.{configuration_value, total_length}
+use Rattle.usb_packet.specs.{other, Zero}
+use Rattle.usb_request.specs.{DIRECTION_IN, STATUS_ENDPOINT}
+use Rattle.usb_descriptor.specs.{bulk_out_of, bulk_in_of, configuration_value, total_length}
 use Rattle.usb_device.specs.declared.bulk.EndpointState.{EndpointState}
 use Rattle.usb_device.specs.declared.bulk.ServedEndpoint.{ServedEndpoint}
 use Rattle.usb_device.specs.declared.bulk.ServedEndpoint.TheVariants.{BulkOut, BulkIn, Changes}
 use Rattle.usb_device.specs.declared.request.Registers.{Registers}
-use Rattle.usb_port.specs.PortState.{PortState, has_change}
-use Rattle.usb_device.specs.Spec.{Spec}
+use Rattle.usb_port.specs.{PortState, has_change}
+use Rattle.usb_device.specs.DeviceSpecs.{Spec}
 
 -- an endpoint as a configuration leaves it
 abbrev pub rested : EndpointState

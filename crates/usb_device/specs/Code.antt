@@ -1,6 +1,6 @@
 -- What the code keeps of an answer, and what it stands for.
 use Rattle.std.specs.Prelude.{ℕ, List, [], ◌∷◌, slice_get, unwrap_or, Option, None, Some}
-use Rattle.usb_device.specs.Spec.{Spec, Hub as HubText}
+use Rattle.usb_device.specs.DeviceSpecs.{Spec, Hub as HubText}
 use Rattle.usb_device.specs.Request.{Outcome, stalled, answers, takes_address, takes_configuration}
 use Rattle.usb_device.specs.Request.{halts, unhalts, tells_port, calls_port, status_bytes}
 use Rattle.usb_device.specs.Transfer.{Stage, idle, refused, reading, read, ending}

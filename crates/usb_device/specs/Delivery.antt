@@ -1,19 +1,17 @@
 -- A packet goes down the tree, through the enabled ports (8.6.5, 11.8.4).
 use Rattle.std.specs.Prelude.{◌≡◌, ℕ, ◌&&◌, ◌||◌, ◌==◌, not, if◌then◌else◌, Bool, true, false, List}
 use Rattle.std.specs.Prelude.{[], ◌∷◌, ◌++◌, Option, None, Some}
-use Rattle.usb_packet.specs.Spelling.{Spells}
-use Rattle.usb_packet.specs.declared.Packet.{Packet}
-use Rattle.usb_port.specs.PortState.{PortState}
+use Rattle.usb_packet.specs.{Spells, Packet}
+use Rattle.usb_port.specs.{PortState, is_clearing}
 use Rattle.usb_device.specs.declared.answer.Answer.{Answer}
 use Rattle.usb_device.specs.declared.delivery.Content.{Content}
 use Rattle.usb_device.specs.declared.delivery.Content.TheVariants.{Whole, Broken}
 use Rattle.usb_device.specs.declared.delivery.Sent.{Sent}
-use Rattle.usb_port.specs.Calls.{is_clearing}
 use Rattle.usb_device.specs.declared.effect.Effect.{Effect}
 use Rattle.usb_device.specs.declared.effect.Effect.TheVariants.{Leaves, Calls, PortsOff}
-use Rattle.usb_device.specs.Spec.{Spec}
+use Rattle.usb_device.specs.DeviceSpecs.{Spec}
 use Rattle.usb_device.specs.Rows.{State, Reply, received, unread, forgotten, awaits_address}
-use Rattle.usb_device.specs.Effect.{asks}
+use Rattle.usb_device.specs.Effects.{asks}
 use Rattle.usb_device.specs.declared.delivery.Heard.{Heard}
 use Rattle.usb_device.specs.declared.delivery.Heard.TheVariants.{NoAnswer, One, Collision}
 use Rattle.usb_device.specs.Tree.{Ports, ended, vacant, taken, Place, empty, full, Plugged, acted}

@@ -5,11 +5,8 @@ use Rattle.std.specs.Prelude.{slice_set, fold, Option, None, Some, ⊤}
 use Rattle.arrayvec.specs.ArrayVec.{ArrayVec}
 use Rattle.usb_device.specs.declared.holders.Holder.{Holder}
 use Rattle.usb_device.specs.declared.holders.Holder.TheVariants.{Nobody, One, Several}
-use Rattle.usb_port.specs.PortState.{PortState}
-use Rattle.usb_port.specs.declared.call.PortCall.{PortCall}
-use Rattle.usb_port.specs.declared.call.PortCall.TheVariants.{SetPower, SetReset, ClearEnable}
-use Rattle.usb_port.specs.declared.call.PortCall.TheVariants.{ClearPower, ClearConnectionChange}
-use Rattle.usb_port.specs.declared.call.PortCall.TheVariants.{ClearEnableChange, ClearResetChange}
+use Rattle.usb_port.specs.{PortState, PortCall, SetPower, SetReset, ClearEnable, ClearPower}
+use Rattle.usb_port.specs.{ClearConnectionChange, ClearEnableChange, ClearResetChange}
 use Rattle.usb_device.specs.declared.effect.Effect.{Effect}
 use Rattle.usb_device.specs.declared.effect.Effect.TheVariants.{Leaves, Calls, PortsOff}
 use Rattle.usb_device.specs.Tree.{Ports, ended, vacant, taken, Plugged, Place, empty, full, before}

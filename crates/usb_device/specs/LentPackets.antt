@@ -1,6 +1,6 @@
 -- What goes out, where its packet is lent.
 use Rattle.std.specs.Prelude.{Bool, Option, None, Some}
-use Rattle.usb_packet.specs.declared.Packet.{Packet}
+use Rattle.usb_packet.specs.{Packet}
 use Rattle.usb_device.specs.declared.delivery.Content.{Content}
 use Rattle.usb_device.specs.declared.delivery.Content.TheVariants.{Whole, Broken}
 use Rattle.usb_device.specs.declared.delivery.Sent.{Sent}

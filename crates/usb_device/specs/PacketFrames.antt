@@ -1,7 +1,6 @@
 -- What packets leave as it is.
 use Rattle.std.specs.Prelude.{◌≡◌, Bool, true, false}
-use Rattle.usb_packet.specs.declared.Packet.{Packet}
-use Rattle.usb_packet.specs.declared.Packet.TheVariants.{Payload, Ack}
+use Rattle.usb_packet.specs.{Packet, Payload, Ack}
 use Rattle.usb_device.specs.Rows.{State}
 
 abbrev pub is_data : Packet → Bool

@@ -2,7 +2,7 @@
 use Rattle.std.specs.Prelude.{ℕ, ◌+◌, ◌≤◌, max, List, [], ◌∷◌, Option, None, Some}
 use Rattle.std.proofs.Common.{arith}
 use denote.Param.Weighed.{most}
-use Rattle.usb_port.specs.PortState.{PortState}
+use Rattle.usb_port.specs.{PortState}
 use Rattle.usb_device.specs.Tree.{Ports, ended, Plugged, Place, empty, full, before}
 use Rattle.usb_device.specs.TreeCodes.{weight, plugged_weight}
 use Rattle.usb_device.specs.declared.ports.Place.{Place as Kept}

@@ -4,10 +4,9 @@
 use Rattle.std.specs.Prelude.{◌≡◌, ◌≢◌, ◌⊎◌, ℕ, ◌+◌, ◌<◌, ◌==◌, nat_le, ◌&&◌, true, false}
 use Rattle.std.specs.Prelude.{if◌then◌else◌, List, [], ◌∷◌, ◌++◌, length, take, drop, Option, None}
 use Rattle.std.specs.Prelude.{Some, is_some}
-use Rattle.usb_packet.specs.declared.Toggle.{Toggle}
+use Rattle.usb_packet.specs.{Toggle, other, is_same}
 use Rattle.usb_device.specs.declared.answer.Answer.{Answer}
 use Rattle.usb_device.specs.declared.answer.Answer.TheVariants.{Ack, Nak, Stall, Data}
-use Rattle.usb_packet.specs.Toggles.{other, is_same}
 use Rattle.usb_device.specs.Bulk.{advanced, tells_changes}
 use Rattle.usb_device.specs.Transfer.{reading, read, ending, idle, max_packet, packet_at}
 use Rattle.usb_device.specs.Rows.{State, bulk_of}

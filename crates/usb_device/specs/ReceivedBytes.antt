@@ -1,13 +1,12 @@
 -- Bytes at a device.
 use Rattle.std.specs.Prelude.{◌≡◌, ℕ, List, Option, None, Some, true, ⊤}
 use Rattle.arrayvec.specs.ArrayVec.{ArrayVec}
-use Rattle.usb_packet.specs.Spelling.{Spells}
-use Rattle.usb_packet.specs.declared.Packet.{Packet}
+use Rattle.usb_packet.specs.{Spells, Packet}
 use Rattle.usb_packet.specs.declared.Packet.TheVariants as packet
 use Rattle.usb_device.specs.declared.answer.Answer.{Answer}
 use Rattle.usb_device.specs.declared.answer.Answer.TheVariants.{Ack, Nak, Stall, Data}
 use Rattle.usb_device.specs.Rows.{received, unread, sink_grows}
-use Rattle.usb_device.specs.Effect.{asks}
+use Rattle.usb_device.specs.Effects.{asks}
 use Rattle.usb_device.specs.Tree.{Plugged, row_of, acted}
 
 abbrev pub packet_of : Answer → Packet

@@ -3,19 +3,15 @@
 use Rattle.std.specs.Prelude.{ℕ, ◌-◌, ◌/◌, ◌%◌, ◌==◌, nat_lt, nat_le, if◌then◌else◌, ◌&&◌, ◌||◌}
 use Rattle.std.specs.Prelude.{not, Bool, List, [], ◌∷◌, slice_get, Option, None, Some}
 use Rattle.std.specs.List.{list_any}
-use Rattle.usb_request.specs.Codes.{DEVICE, CONFIGURATION, STRING, HUB, GET_STATUS, CLEAR_FEATURE}
-use Rattle.usb_request.specs.Codes.{SET_FEATURE, SET_ADDRESS, GET_DESCRIPTOR, GET_CONFIGURATION}
-use Rattle.usb_request.specs.Codes.{SET_CONFIGURATION, DEVICE_IN, DEVICE_OUT, ENDPOINT_OUT, HUB_IN}
-use Rattle.usb_request.specs.Codes.{PORT_IN, PORT_OUT}
-use Rattle.usb_request.specs.Features.{ENDPOINT_HALT}
-use Rattle.usb_request.specs.Requests.{descriptor_value}
-use Rattle.usb_request.specs.declared.setup.Setup.{Setup}
-use Rattle.usb_port.specs.declared.call.PortCall.{PortCall}
+use Rattle.usb_request.specs.{DEVICE, CONFIGURATION, STRING, HUB, GET_STATUS, CLEAR_FEATURE}
+use Rattle.usb_request.specs.{SET_FEATURE, SET_ADDRESS, GET_DESCRIPTOR, GET_CONFIGURATION}
+use Rattle.usb_request.specs.{SET_CONFIGURATION, DEVICE_IN, DEVICE_OUT, ENDPOINT_OUT, HUB_IN}
+use Rattle.usb_request.specs.{PORT_IN, PORT_OUT, ENDPOINT_HALT, descriptor_value, Setup}
+use Rattle.usb_port.specs.{PortCall, set_call, clear_call}
 use Rattle.usb_device.specs.declared.request.Registers.{Registers}
-use Rattle.usb_device.specs.Spec.{Spec, Hub}
+use Rattle.usb_device.specs.DeviceSpecs.{Spec, Hub}
 use Rattle.usb_device.specs.declared.bulk.ServedEndpoint.{ServedEndpoint}
 use Rattle.usb_device.specs.Bulk.{has_value, served}
-use Rattle.usb_port.specs.Calls.{set_call, clear_call}
 
 pub data Outcome : Type 0 where
   -- the request is refused by STALL

@@ -2,15 +2,10 @@
 use Rattle.std.specs.Prelude.{ℕ, true, false, ◌+◌, ◌-◌, ◌==◌, nat_lt, not, ◌++◌, take, drop}
 use Rattle.std.specs.Prelude.{if◌then◌else◌, ◌&&◌, ◌||◌, Bool, List, [], ◌∷◌, length, Option, None}
 use Rattle.std.specs.Prelude.{Some, is_some}
-use Rattle.usb_packet.specs.declared.TokenKind.{TokenKind}
-use Rattle.usb_packet.specs.declared.TokenKind.TheVariants.{OutTok, InTok, SetupTok}
-use Rattle.usb_packet.specs.declared.Toggle.{Toggle}
-use Rattle.usb_packet.specs.declared.Toggle.TheVariants.{Zero, One}
-use Rattle.usb_packet.specs.declared.Packet.{Packet}
-use Rattle.usb_packet.specs.declared.Packet.TheVariants.{Token, Payload}
+use Rattle.usb_packet.specs.{TokenKind, OutTok, InTok, SetupTok, Toggle, Zero, One, Packet, Token}
+use Rattle.usb_packet.specs.{Payload, other, is_same}
 use Rattle.usb_packet.specs.declared.Packet.TheVariants as packet
-use Rattle.usb_request.specs.declared.setup.Setup.{Setup}
-use Rattle.usb_request.specs.Layout.{setup_of}
+use Rattle.usb_request.specs.{Setup, setup_of}
 use Rattle.usb_device.specs.declared.answer.Answer.{Answer}
 use Rattle.usb_device.specs.declared.answer.Answer.TheVariants.{Ack, Nak, Stall, Data}
 use Rattle.usb_device.specs.declared.request.Registers.{Registers}
@@ -22,9 +17,8 @@ use Rattle.usb_device.specs.declared.transfer.InEndpoint.TheVariants as by
 use Rattle.usb_device.specs.declared.bulk.EndpointState.{EndpointState}
 use Rattle.usb_device.specs.declared.bulk.ServedEndpoint.{ServedEndpoint}
 use Rattle.usb_device.specs.declared.bulk.ServedEndpoint.TheVariants.{BulkOut, BulkIn, Changes}
-use Rattle.usb_port.specs.PortState.{PortState}
-use Rattle.usb_device.specs.Spec.{Spec}
-use Rattle.usb_packet.specs.Toggles.{other, is_same}
+use Rattle.usb_port.specs.{PortState}
+use Rattle.usb_device.specs.DeviceSpecs.{Spec}
 use Rattle.usb_device.specs.Bulk.{rested, turned, halted, count_down, is_last, bulk_at, advanced}
 use Rattle.usb_device.specs.Bulk.{tells_changes, change_bits}
 use Rattle.usb_device.specs.Request.{Outcome, stalled, answers, takes_address, takes_configuration}

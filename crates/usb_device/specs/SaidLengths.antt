@@ -1,9 +1,9 @@
 -- How long a device's configurations say that they are (9.6.3).
 use Rattle.std.specs.Prelude.{ℕ, List, take}
 use Rattle.std.specs.List.{sum_by}
-use Rattle.usb_request.specs.Codes.{CONFIGURATION_LENGTH}
-use Rattle.usb_descriptor.specs.Config.{config_head_of, total_in}
-use Rattle.usb_device.specs.Spec.{Spec}
+use Rattle.usb_request.specs.{CONFIGURATION_LENGTH}
+use Rattle.usb_descriptor.specs.{config_head_of, total_in}
+use Rattle.usb_device.specs.DeviceSpecs.{Spec}
 
 -- wTotalLength of a text whose first 9 bytes are a configuration's head, else 0
 unfoldable pub said_length : List ℕ → ℕ

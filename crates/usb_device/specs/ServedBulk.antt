@@ -1,10 +1,10 @@
 -- The bulk endpoints that a device keeps from SET_CONFIGURATION on (9.4.7).
 use Rattle.std.specs.Prelude.{◌≡◌, true, false}
 use Rattle.std.specs.Option.{IfSome}
-use Rattle.usb_descriptor.specs.Choice.{IsUsable}
+use Rattle.usb_descriptor.specs.{IsUsable}
 use Rattle.usb_device.specs.declared.bulk.BulkEndpoints.{BulkEndpoints}
 use Rattle.usb_device.specs.declared.request.Registers.{Registers}
-use Rattle.usb_device.specs.Spec.{Spec}
+use Rattle.usb_device.specs.DeviceSpecs.{Spec}
 use Rattle.usb_device.specs.Bulk.{bulk_at}
 
 -- they are those that the text of the configuration describes, and pipes may have their numbers and

@@ -1,7 +1,7 @@
 -- A packet that was refused memory on its way down a tree of devices: who had it, and who had not.
 use Rattle.std.specs.Prelude.{◌≡◌, Bool, true}
-use Rattle.usb_packet.specs.declared.Packet.{Packet}
-use Rattle.usb_port.specs.PortState.{PortState}
+use Rattle.usb_packet.specs.{Packet}
+use Rattle.usb_port.specs.{PortState}
 use Rattle.usb_device.specs.declared.delivery.Content.{Content}
 use Rattle.usb_device.specs.declared.delivery.Content.TheVariants.{Whole}
 use Rattle.usb_device.specs.declared.delivery.Sent.{Sent}

@@ -3,11 +3,10 @@ use Rattle.std.specs.Prelude.{ℕ, zero, suc, ◌+◌, ◌*◌, ◌/◌, ◌%◌
 use Rattle.std.specs.Prelude.{◌||◌, not, Bool, true, false, List, [], ◌++◌, length, take, drop}
 use Rattle.std.specs.Prelude.{slice_get, Option, None, Some, unwrap_or}
 use Rattle.arrayvec.specs.ArrayVec.{ArrayVec}
-use Rattle.usb_packet.specs.declared.Toggle.{Toggle}
-use Rattle.usb_packet.specs.declared.Toggle.TheVariants.{Zero, One}
-use Rattle.usb_descriptor.specs.Device.{max_packet_0}
-use Rattle.usb_device.specs.Spec.{Spec}
-use Rattle.usb_port.specs.PortState.{PortState, status_of}
+use Rattle.usb_packet.specs.{Toggle, Zero, One}
+use Rattle.usb_descriptor.specs.{max_packet_0}
+use Rattle.usb_device.specs.DeviceSpecs.{Spec}
+use Rattle.usb_port.specs.{PortState, status_of}
 use Rattle.usb_device.specs.Request.{Outcome, stalled, answers, tells_port, address_at_end}
 
 pub data Stage : Type 0 where

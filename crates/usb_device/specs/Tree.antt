@@ -2,12 +2,11 @@
 -- again (4.1.1).
 use Rattle.std.specs.Prelude.{ℕ, zero, suc, ◌-◌, ◌==◌, ◌&&◌, if◌then◌else◌, Bool, true, false, List}
 use Rattle.std.specs.Prelude.{[], ◌∷◌, slice_get, Option, None, Some, is_some}
-use Rattle.usb_port.specs.PortState.{PortState, off, plugged, unplugged, powered_off, is_attached}
-use Rattle.usb_device.specs.Spec.{Spec, Hub}
-use Rattle.usb_port.specs.declared.call.PortCall.{PortCall}
+use Rattle.usb_port.specs.{PortState, off, plugged, unplugged, powered_off, is_attached, PortCall}
+use Rattle.usb_port.specs.{called_port, is_reset}
+use Rattle.usb_device.specs.DeviceSpecs.{Spec, Hub}
 use Rattle.usb_device.specs.declared.effect.Effect.{Effect}
 use Rattle.usb_device.specs.declared.effect.Effect.TheVariants.{Leaves, Calls, PortsOff}
-use Rattle.usb_port.specs.Calls.{called_port, is_reset}
 use Rattle.usb_device.specs.Rows.{State, fresh, reset_state}
 
 -- a row of ports, the first one first: no port more, an empty port, or a port with a device and

@@ -1,7 +1,7 @@
 -- A tree of devices, seen place by place: what stands at a path is told by the place at its first
 -- number.
 use Rattle.std.specs.Prelude.{ℕ, zero, suc, List, [], ◌∷◌, Option, None}
-use Rattle.usb_port.specs.PortState.{PortState}
+use Rattle.usb_port.specs.{PortState}
 use Rattle.usb_device.specs.Rows.{State, forgotten}
 use Rattle.usb_device.specs.Tree.{Ports, Place, empty, full, state_at, port_at}
 use Rattle.usb_device.specs.Delivery.{all_forgotten}

@@ -223,7 +223,7 @@ impl Ports {
     /// Memory was refused for the host's data. The device had the token, and remembers nothing of
     /// it.
     #[cycle(attempt_at)]
-    #[tactic(auto, using(crate::proofs::NumberedPlaces::routing))]
+    #[tactic(auto, using(crate::proofs::places::NumberedPlaces::routing))]
     pub fn attempt_at(
         &mut self,
         path: &[u8],
@@ -259,7 +259,7 @@ impl Ports {
 
 impl Place {
     #[cycle(attempt_at)]
-    #[tactic(auto, using(crate::proofs::FirstPlaces::paths))]
+    #[tactic(auto, using(crate::proofs::places::FirstPlaces::paths))]
     fn attempt_at(
         &mut self,
         path: &[u8],

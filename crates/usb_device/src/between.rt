@@ -10,7 +10,7 @@ impl Ports {
     /// The end of an attempt: every device forgets a token that waits for data and data that wait
     /// for an ACK.
     #[cycle(over)]
-    #[tactic(auto, using(crate::proofs::ForgottenPackets::betweens))]
+    #[tactic(auto, using(crate::proofs::packets::ForgottenPackets::betweens))]
     pub fn attempt_over(&mut self)
         ensures { self.new ≡ all_forgotten self.old }
     {
@@ -21,7 +21,7 @@ impl Ports {
 
     /// Whether some device awaits the ACK that would end its SET_ADDRESS.
     #[cycle(losing)]
-    #[tactic(auto, using(crate::proofs::ForgottenPackets::betweens))]
+    #[tactic(auto, using(crate::proofs::packets::ForgottenPackets::betweens))]
     pub fn has_address_loss(&self) -> bool
         ensures { result ≡ has_loss self.now }
     {
@@ -30,7 +30,7 @@ impl Ports {
 }
 
 #[cycle(over)]
-#[tactic(auto, using(crate::proofs::ForgottenPackets::betweens))]
+#[tactic(auto, using(crate::proofs::packets::ForgottenPackets::betweens))]
 fn forget_all(places: &mut [Place])
     ensures { ports_kept places.new ≡ all_forgotten (ports_kept places.old) }
 {
@@ -43,7 +43,7 @@ fn forget_all(places: &mut [Place])
 }
 
 #[cycle(losing)]
-#[tactic(auto, using(crate::proofs::ForgottenPackets::betweens))]
+#[tactic(auto, using(crate::proofs::packets::ForgottenPackets::betweens))]
 fn any_loses(places: &[Place]) -> bool
     ensures { result ≡ has_loss (ports_kept places.now) }
 {

@@ -20,7 +20,7 @@ impl Ports {
     }
 
     #[cycle(clearing)]
-    #[tactic(auto, using(crate::proofs::ForgottenPackets::betweens))]
+    #[tactic(auto, using(crate::proofs::packets::ForgottenPackets::betweens))]
     fn clears(&self, sent: &LentPacket<'_>, deep: bool) -> bool
         ensures { result ≡ clears_change sent.now deep self.now }
     {
@@ -29,7 +29,7 @@ impl Ports {
 }
 
 #[cycle(clearing)]
-#[tactic(auto, using(crate::proofs::ForgottenPackets::betweens))]
+#[tactic(auto, using(crate::proofs::packets::ForgottenPackets::betweens))]
 fn any_clears(places: &[Place], sent: &LentPacket<'_>, deep: bool) -> bool
     ensures { result ≡ clears_change sent.now deep (ports_kept places.now) }
 {

@@ -132,7 +132,7 @@ impl Ports {
 }
 
 #[cycle(deliver)]
-#[tactic(auto, using(crate::proofs::Deliveries::delivering, crate::proofs::Figures::figures, crate::proofs::Rows::rows))]
+#[tactic(auto, using(crate::proofs::Deliveries::delivering, crate::proofs::Figures::figures, crate::proofs::packets::Rows::rows))]
 fn deliver_all(
     places: &mut [Place],
     sent: &LentPacket<'_>,

@@ -1,7 +1,7 @@
 //! A plugged device with all that is plugged below it.
 ghost use Rattle.std.specs.Prelude.{◌≡◌, ◌≤◌, ◌&&◌, not, length, None, IfOk, OnErr, true, is_some, option_map};
 ghost use Rattle.std.specs.Option.{option_copied};
-ghost use Rattle.usb_port.specs.PortState.{status_of};
+ghost use Rattle.usb_port.specs.PortStates.{status_of};
 ghost use Rattle.usb_device.specs.Rows.{sink_grows, awaits_address, ends_with_address, is_busy};
 ghost use Rattle.usb_device.specs.Tree.{new_device, first_ports, reset_whole, row_of, numbered, acted, child_of, with_child, without_child};
 ghost use Rattle.usb_device.specs.AnswerPids.{answer_with};
@@ -43,7 +43,7 @@ impl Model for Device {
     ghost size_decreases = { λ a h. omega arith };
 }
 
-#[tactic(auto, using(crate::proofs::FirstPlaces::emptied))]
+#[tactic(auto, using(crate::proofs::places::FirstPlaces::emptied))]
 fn first_ports(alloc: Global, spec: &DeviceSpec) -> Result<Ports, AllocError>
     ensures { IfOk result (λ ports. ports ≡ first_ports spec.now.hub) }
 {

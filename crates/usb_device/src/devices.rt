@@ -1,6 +1,6 @@
 //! The devices of a plan.
 ghost use Rattle.std.specs.Prelude.{◌≡◌};
-ghost use Rattle.usb_device.specs.Spec.{is_named};
+ghost use Rattle.usb_device.specs.DeviceSpecs.{is_named};
 
 use crate::spec::DeviceSpec;
 use std::alloc::{AllocError, Global};
@@ -20,7 +20,7 @@ pub struct Devices {
 
 impl Model for Devices {
     ghost use Rattle.std.specs.Prelude.{List};
-    ghost use Rattle.usb_device.specs.Spec.{Spec, AreDevices};
+    ghost use Rattle.usb_device.specs.DeviceSpecs.{Spec, AreDevices};
 
     ghost Value = { List Spec };
 
@@ -31,7 +31,7 @@ impl Model for Devices {
 
 impl Devices {
     ghost use Rattle.std.specs.Prelude.{◌<◌, [], ◌∷◌, ◌++◌, length, false, OnOk, OnErr};
-    ghost use Rattle.usb_device.specs.Spec.{AreDevices};
+    ghost use Rattle.usb_device.specs.DeviceSpecs.{AreDevices};
 
     /// No devices.
     pub fn new(alloc: Global) -> Self

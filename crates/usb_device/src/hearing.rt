@@ -48,7 +48,7 @@ impl Hearing {
     }
 
     /// The packet identifier that was heard.
-    #[tactic(auto, using(crate::proofs::Hearings::hearings))]
+    #[tactic(auto, using(crate::proofs::packets::Hearings::hearings))]
     pub fn pid(&self) -> HeardPid
         ensures { result ≡ pid_heard self.now }
     {
@@ -56,7 +56,7 @@ impl Hearing {
     }
 
     /// The room: its bytes are those of data.
-    #[tactic(auto, using(crate::proofs::Hearings::hearings))]
+    #[tactic(auto, using(crate::proofs::packets::Hearings::hearings))]
     pub fn into_bytes(self) -> ArrayVec<u8, 64>
         ensures { heard_with (pid_heard self) result ≡ self }
     {

@@ -146,7 +146,7 @@ fn nobodies(alloc: Global) -> Result<Vec<Holder>, AllocError>
 }
 
 /// Each place has who holds its number as an address; whether two devices hold one.
-#[tactic(auto, using(crate::proofs::HolderIndexes::indexing))]
+#[tactic(auto, using(crate::proofs::places::HolderIndexes::indexing))]
 fn index(holders: &mut [Holder], roots: &Ports) -> bool
     requires { length holders.old ≡ 256 }
     ensures index { IsIndex holders.new roots.now }
@@ -158,7 +158,7 @@ fn index(holders: &mut [Holder], roots: &Ports) -> bool
 }
 
 /// Takes what stands at a path, and below it, out of an index, where no address is held twice.
-#[tactic(auto, using(crate::proofs::PartedIndexes::parting))]
+#[tactic(auto, using(crate::proofs::places::PartedIndexes::parting))]
 fn index_without(holders: &mut [Holder], roots: &Ports, path: &[u8])
     requires length { length holders.old ≡ 256 }
     requires index { IsIndex holders.old roots.now }
@@ -172,7 +172,7 @@ fn index_without(holders: &mut [Holder], roots: &Ports, path: &[u8])
 
 /// Puts what stands at a path, and below it, into an index of all else, in which some address is
 /// held twice or not; whether one is then.
-#[tactic(auto, using(crate::proofs::PartedIndexes::parting))]
+#[tactic(auto, using(crate::proofs::places::PartedIndexes::parting))]
 fn index_with(holders: &mut [Holder], shared: bool, roots: &Ports, path: &[u8]) -> bool
     requires length { length holders.old ≡ 256 }
     requires index { IsIndex holders.old (changed (put None) roots.now path.now) }
@@ -186,7 +186,7 @@ fn index_with(holders: &mut [Holder], shared: bool, roots: &Ports, path: &[u8]) 
 }
 
 /// Nobody holds anything.
-#[tactic(auto, using(crate::proofs::HolderIndexes::clearing))]
+#[tactic(auto, using(crate::proofs::places::HolderIndexes::clearing))]
 fn clear(holders: &mut [Holder])
     ensures all { AreNobody holders.new }
     ensures length { length holders.new ≡ length holders.old }
@@ -200,7 +200,7 @@ impl Ports {
     /// Notes the devices that packets reach in their places, by their paths from the row on, which
     /// lies below another path; whether some address is met again.
     #[cycle(noting)]
-    #[tactic(auto, using(crate::proofs::HolderIndexes::noting))]
+    #[tactic(auto, using(crate::proofs::places::HolderIndexes::noting))]
     fn note(&self, above: &Option<ArrayVec<u8, 8>>, holders: &mut [Holder]) -> bool
         requires { length holders.old ≡ 256 }
         ensures met { result ≡ meets_again (reached above.now 1 self.now) holders.old }
@@ -217,7 +217,7 @@ impl Ports {
 
 /// The same among ports, of which the first one has the number.
 #[cycle(noting)]
-#[tactic(auto, using(crate::proofs::HolderIndexes::noting))]
+#[tactic(auto, using(crate::proofs::places::HolderIndexes::noting))]
 fn note_row(
     places: &[Place],
     above: &Option<ArrayVec<u8, 8>>,
@@ -244,7 +244,7 @@ fn note_row(
 
 /// The same at the port, which has the number, and below it.
 #[cycle(noting)]
-#[tactic(auto, using(crate::proofs::HolderIndexes::noting))]
+#[tactic(auto, using(crate::proofs::places::HolderIndexes::noting))]
 fn note_at(
     place: &Place,
     above: &Option<ArrayVec<u8, 8>>,
@@ -268,7 +268,7 @@ fn note_at(
 
 /// The same of a device by its path, and of those below it.
 #[cycle(noting)]
-#[tactic(auto, using(crate::proofs::HolderIndexes::noting))]
+#[tactic(auto, using(crate::proofs::places::HolderIndexes::noting))]
 fn note_device(device: &Device, path: &Option<ArrayVec<u8, 8>>, holders: &mut [Holder]) -> bool
     requires { length holders.old ≡ 256 }
     ensures met { result ≡ meets_again (reached_whole path.now device.now) holders.old }
@@ -321,7 +321,7 @@ fn path_of(numbers: &[u8]) -> Option<ArrayVec<u8, 8>>
 impl Ports {
     /// The device at a path, where packets reach it: each port on its way is enabled.
     #[cycle(reached_at)]
-    #[tactic(auto, using(crate::proofs::NumberedPlaces::reaching))]
+    #[tactic(auto, using(crate::proofs::places::NumberedPlaces::reaching))]
     fn reached_at(&self, path: &[u8]) -> Option<&Device>
         ensures { option_copied result ≡ reached_there self.now path.now }
     {
@@ -336,7 +336,7 @@ impl Ports {
 
     /// Nobody holds the addresses of the devices that packets reach from the row on.
     #[cycle(releasing)]
-    #[tactic(auto, using(crate::proofs::HolderIndexes::releasing))]
+    #[tactic(auto, using(crate::proofs::places::HolderIndexes::releasing))]
     fn release(&self, holders: &mut [Holder])
         requires { length holders.old ≡ 256 }
         ensures { holders.new ≡ released (held_addresses self.now) holders.old }
@@ -349,7 +349,7 @@ impl Ports {
 
 impl Place {
     #[cycle(reached_at)]
-    #[tactic(auto, using(crate::proofs::FirstPlaces::paths))]
+    #[tactic(auto, using(crate::proofs::places::FirstPlaces::paths))]
     fn reached_below(&self, path: &[u8]) -> Option<&Device>
         ensures { option_copied result ≡ reached_below (stood self.now) path.now }
     {
@@ -365,7 +365,7 @@ impl Place {
 
 /// The same of a row.
 #[cycle(releasing)]
-#[tactic(auto, using(crate::proofs::HolderIndexes::releasing))]
+#[tactic(auto, using(crate::proofs::places::HolderIndexes::releasing))]
 fn release_row(places: &[Place], holders: &mut [Holder])
     requires { length holders.old ≡ 256 }
     ensures { holders.new ≡ released (held_addresses (ports_kept places.now)) holders.old }
@@ -378,7 +378,7 @@ fn release_row(places: &[Place], holders: &mut [Holder])
 
 /// The same of the device on a port and those below it, where the port is enabled.
 #[cycle(releasing)]
-#[tactic(auto, using(crate::proofs::HolderIndexes::releasing))]
+#[tactic(auto, using(crate::proofs::places::HolderIndexes::releasing))]
 fn release_place(place: &Place, holders: &mut [Holder])
     requires { length holders.old ≡ 256 }
     ensures { holders.new
@@ -392,7 +392,7 @@ fn release_place(place: &Place, holders: &mut [Holder])
 
 /// The same of a device and those below it.
 #[cycle(releasing)]
-#[tactic(auto, using(crate::proofs::HolderIndexes::releasing))]
+#[tactic(auto, using(crate::proofs::places::HolderIndexes::releasing))]
 fn release_device(device: &Device, holders: &mut [Holder])
     requires { length holders.old ≡ 256 }
     ensures { holders.new ≡ released (held_whole device.now) holders.old }

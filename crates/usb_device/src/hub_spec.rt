@@ -1,6 +1,6 @@
 //! What a plan says of a hub beside what it says of every device.
 ghost use Rattle.std.specs.Prelude.{◌≡◌, ◌≤◌, true, IfOk, length};
-ghost use Rattle.usb_device.specs.Spec.{Hub, has_hub_class, agrees, usual_hub};
+ghost use Rattle.usb_device.specs.DeviceSpecs.{Hub, has_hub_class, agrees, usual_hub};
 
 use crate::lists::Bytes;
 use std::alloc::{AllocError, Global};
@@ -27,7 +27,7 @@ pub struct HubSpec {
 
 impl Model for HubSpec {
     ghost use Rattle.std.specs.Prelude.{◌≡◌, ◌≤◌, true};
-    ghost use Rattle.usb_device.specs.Spec.{Hub, agrees};
+    ghost use Rattle.usb_device.specs.DeviceSpecs.{Hub, agrees};
 
     ghost Value = { Hub };
 

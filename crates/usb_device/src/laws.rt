@@ -7,7 +7,7 @@ ghost use Rattle.usb_packet.specs.declared.Packet.{Packet};
 ghost use Rattle.usb_packet.specs.declared.Packet.TheVariants.{Token};
 ghost use Rattle.usb_packet.specs.declared.TokenKind.{TokenKind};
 ghost use Rattle.usb_packet.specs.declared.Toggle.{Toggle};
-ghost use Rattle.usb_port.specs.PortState.{PortState};
+ghost use Rattle.usb_port.specs.PortStates.{PortState};
 ghost use Rattle.usb_device.specs.declared.answer.Answer.TheVariants.{Ack, Stall};
 ghost use Rattle.usb_device.specs.declared.delivery.Sent.{Sent};
 ghost use Rattle.usb_device.specs.declared.delivery.Content.TheVariants.{Whole, Broken};
@@ -38,7 +38,7 @@ pub fn attempt_laws()
 
 /// A packet that is for none of the devices that it reaches: nothing is answered, and at most
 /// what they remember changes.
-#[tactic(auto, using(crate::proofs::Strays::strays))]
+#[tactic(auto, using(crate::proofs::packets::Strays::strays))]
 pub fn stray_laws()
     ensures unanswered { (q : Sent) (deep : Bool) (k : TreePorts)
         → concerns_some q.content k ≡ false → answers q deep k ≡ [] }
@@ -56,7 +56,7 @@ pub fn stray_laws()
 {}
 
 /// The packets of an answer, of at most `max` bytes each (8.5.3).
-#[tactic(auto, using(crate::proofs::Packets::packets))]
+#[tactic(auto, using(crate::proofs::packets::Packets::packets))]
 pub fn answer_laws()
     // All of them, end to end, are the bytes of the answer, as many as the host wants.
     ensures whole { (max wanted : ℕ) (answer : List ℕ) (k : ℕ)
@@ -86,7 +86,7 @@ pub fn control_read_goes_on()
 
 /// IN of the bulk IN endpoint (5.8): each byte of the source comes once, in order, whatever is
 /// lost.
-#[tactic(auto, using(crate::proofs::BulkProgress::sources))]
+#[tactic(auto, using(crate::proofs::progress::BulkProgress::sources))]
 pub fn source_goes_on()
     ensures source { (e most got : ℕ) (t : Toggle) (s : State)
         → IsSource e most s → 1 ≤ most → SourceAt most got t s

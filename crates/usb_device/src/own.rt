@@ -2,12 +2,12 @@
 ghost use Rattle.std.specs.Prelude.{◌≡◌, ◌≤◌, ◌==◌, None, if◌then◌else◌, is_some, length};
 ghost use Rattle.std.specs.Option.{IfSome};
 ghost use Rattle.usb_descriptor.specs.Choice.{IsUsable};
-ghost use Rattle.usb_device.specs.Spec.{Spec};
+ghost use Rattle.usb_device.specs.DeviceSpecs.{Spec};
 ghost use Rattle.usb_device.specs.Code.{source_bytes, hub_text, text_at, meaning_of, stage_of};
 ghost use Rattle.usb_device.specs.Transfer.{max_packet, packet_at, put_if, reads, first_stage};
 ghost use Rattle.usb_device.specs.StrayPackets.{awaits_data, awaits_ack};
 ghost use Rattle.usb_device.specs.Tree.{row_of};
-ghost use Rattle.usb_device.specs.Effect.{effect_of_request};
+ghost use Rattle.usb_device.specs.Effects.{effect_of_request};
 ghost use Rattle.usb_device.specs.AnswerPids.{Room, answer_with};
 ghost use Rattle.usb_device.specs.AloneAttempts.{after_ack};
 ghost use Rattle.usb_packet.specs.declared.Packet.TheVariants.{Token as token};
@@ -172,7 +172,7 @@ impl FunctionState {
     ghost use Rattle.usb_device.specs.StrayPackets.{is_for};
     ghost use Rattle.std.specs.Prelude.{IfOk, OnErr, true, false, not, ◌&&◌, [], ◌∷◌};
     ghost use Rattle.usb_device.specs.declared.transfer.InEndpoint.TheVariants as by;
-    ghost use Rattle.usb_device.specs.Effect.{asks, asked_by_data, asked_by_setup};
+    ghost use Rattle.usb_device.specs.Effects.{asks, asked_by_data, asked_by_setup};
     ghost use Rattle.usb_device.specs.Rows.{State, received, unread, forgotten, awaits_address, ends_with_address, fresh, reset_state, accepted, configured, begun, is_busy, nak_row, gives, in_row, status_row, out_row, ack_row, token_row, setup_row, payload_row, answered, unless_busy, endpoint_state, with_endpoint_state, bulk_of, rest_of, source_row, bulk_ack_row, acknowledged, sink_row, sinks, in_bulk_row, out_bulk_row, bulk_sinks, data_row, payload_sinks, sink_grows, is_other_out, after_memory, with_endpoints, in_other_row, changes_row, new_changes_row};
 
     /// A device that was just plugged; it shares its description.
@@ -311,7 +311,7 @@ impl FunctionState {
     /// # Errors
     ///
     /// Memory was refused for a packet that joins the sink, and the device is as it was.
-    #[tactic(auto, unfolding(crate::specs::Rows::received, crate::specs::Effect::asks))]
+    #[tactic(auto, unfolding(crate::specs::Rows::received, crate::specs::Effects::asks))]
     pub fn received(
         &mut self,
         ports: &Ports,
@@ -589,7 +589,7 @@ impl FunctionState {
     }
 
     /// What the device asks of its ports at a packet.
-    #[tactic(auto, unfolding(crate::specs::Effect::asks))]
+    #[tactic(auto, unfolding(crate::specs::Effects::asks))]
     pub fn asks(&self, packet: &Packet) -> Effect
         ensures { result ≡ asks self.now packet.now }
     {

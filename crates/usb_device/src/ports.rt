@@ -1,7 +1,7 @@
 //! A row of ports, those of a hub or of the root, with the devices on them (4.1.1, 11.24).
 ghost use Rattle.std.specs.Prelude.{◌≡◌, ◌≤◌, ◌==◌, ◌&&◌, [], None, Some, slice_get, IfOk, IsTrue, false};
 ghost use Rattle.std.specs.Option.{option_copied};
-ghost use Rattle.usb_port.specs.PortState.{is_attached};
+ghost use Rattle.usb_port.specs.PortStates.{is_attached};
 ghost use Rattle.usb_device.specs.Bulk.{changed_bit, change_bits};
 ghost use Rattle.usb_port.specs.Calls.{is_reset};
 ghost use Rattle.usb_device.specs.Tree.{new_ports, called, put, changed_at, changed_in, plugged_in, all_off, row_of, device_of};
@@ -46,7 +46,7 @@ impl Model for Ports {
     ghost size_decreases = { λ a h. falls _ (λ b. le_refl _) (λ b t. omega arith) a.places.items };
 }
 
-#[tactic(auto, using(crate::proofs::FirstPlaces::emptied))]
+#[tactic(auto, using(crate::proofs::places::FirstPlaces::emptied))]
 fn empty_places(alloc: Global, count: u8) -> Result<Vec<Place>, AllocError>
     ensures { IfOk result (λ places. ports_kept places.items ≡ new_ports count) }
 {
@@ -73,7 +73,7 @@ fn resets(call: PortCall, port: &Port) -> bool
 
 impl Place {
     /// A call at the port.
-    #[tactic(auto, using(crate::proofs::FirstPlaces::placing))]
+    #[tactic(auto, using(crate::proofs::places::FirstPlaces::placing))]
     fn call(&mut self, call: PortCall)
         ensures { stood self.new ≡ called call (stood self.old) }
     {
@@ -101,7 +101,7 @@ impl Place {
 
     /// The same at the place, or below it where the path goes on, and whether there is such a port.
     #[cycle(put)]
-    #[tactic(auto, using(crate::proofs::FirstPlaces::paths))]
+    #[tactic(auto, using(crate::proofs::places::FirstPlaces::paths))]
     fn put_below(&mut self, path: &[u8], device: &mut Option<Device>) -> bool
         ensures before { IsTrue result → device.new ≡ plugged_in (stood self.old) path.now }
         ensures none { result ≡ false → plugged_in (stood self.old) path.now ≡ None }
@@ -120,7 +120,7 @@ impl Place {
     }
 
     #[cycle(device_at)]
-    #[tactic(auto, using(crate::proofs::FirstPlaces::paths))]
+    #[tactic(auto, using(crate::proofs::places::FirstPlaces::paths))]
     fn device_below(&self, path: &[u8]) -> Option<&Device>
         ensures { option_copied result ≡ plugged_in (stood self.now) path.now }
     {
@@ -133,7 +133,7 @@ impl Place {
 }
 
 #[cycle(turn_off)]
-#[tactic(auto, using(crate::proofs::FirstPlaces::placing))]
+#[tactic(auto, using(crate::proofs::places::FirstPlaces::placing))]
 fn turn_off(places: &mut [Place])
     ensures { ports_kept places.new ≡ all_off (ports_kept places.old) }
 {
@@ -161,7 +161,7 @@ impl Ports {
     }
 
     /// How many ports there are.
-    #[tactic(auto, using(crate::proofs::FirstPlaces::placing))]
+    #[tactic(auto, using(crate::proofs::places::FirstPlaces::placing))]
     pub fn count(&self) -> usize
         ensures { result ≡ length (row_of self.now) }
     {
@@ -180,7 +180,7 @@ impl Ports {
     }
 
     /// A port, counted from 0.
-    #[tactic(auto, using(crate::proofs::NumberedPlaces::indexing))]
+    #[tactic(auto, using(crate::proofs::places::NumberedPlaces::indexing))]
     pub(crate) fn port_at(&self, i: usize) -> Option<&Port>
         ensures { option_copied result ≡ slice_get (row_of self.now) i }
     {
@@ -194,7 +194,7 @@ impl Ports {
     /// A call at the port of a number, counted from 1. PORT_RESET of a powered port with a device
     /// resets the device, whose own ports are then off. Where there is no such port, nothing
     /// changes.
-    #[tactic(auto, using(crate::proofs::FirstPlaces::paths))]
+    #[tactic(auto, using(crate::proofs::places::FirstPlaces::paths))]
     pub fn call(&mut self, number: u8, call: PortCall)
         ensures { self.new ≡ changed (called call) self.old (number ∷ []) }
     {
@@ -204,7 +204,7 @@ impl Ports {
     }
 
     /// A call at a port, counted from 0.
-    #[tactic(auto, using(crate::proofs::NumberedPlaces::indexing))]
+    #[tactic(auto, using(crate::proofs::places::NumberedPlaces::indexing))]
     pub(crate) fn call_at(&mut self, i: usize, call: PortCall)
         ensures { self.new ≡ changed_at (called call) self.old i [] }
     {
@@ -251,7 +251,7 @@ impl Ports {
 
     /// The same with a place for both, and whether there is such a port.
     #[cycle(put)]
-    #[tactic(auto, using(crate::proofs::NumberedPlaces::routing))]
+    #[tactic(auto, using(crate::proofs::places::NumberedPlaces::routing))]
     fn put_at(&mut self, path: &[u8], device: &mut Option<Device>) -> bool
         ensures before { IsTrue result → device.new ≡ device_there self.old path.now }
         ensures none { result ≡ false → device_there self.old path.now ≡ None }
@@ -268,7 +268,7 @@ impl Ports {
 
     /// The device at the port of a path; None where there is none.
     #[cycle(device_at)]
-    #[tactic(auto, using(crate::proofs::NumberedPlaces::routing))]
+    #[tactic(auto, using(crate::proofs::places::NumberedPlaces::routing))]
     pub fn device_at(&self, path: &[u8]) -> Option<&Device>
         ensures { option_copied result ≡ device_there self.now path.now }
     {

@@ -1,7 +1,7 @@
 //! What a device makes of each request (9.4).
 ghost use Rattle.std.specs.Prelude.{◌≡◌};
 ghost use Rattle.std.specs.List.{list_any};
-ghost use Rattle.usb_device.specs.Spec.{Spec};
+ghost use Rattle.usb_device.specs.DeviceSpecs.{Spec};
 ghost use Rattle.usb_device.specs.Request.{outcome, unless, asked_descriptor, asked_status, asked_address, is_value, asked_configuration, endpoint_of, on_endpoint, halts, unhalts, asked_hub_descriptor, port_named, called_at, asked_port_status, port_feature};
 ghost use Rattle.usb_device.specs.Bulk.{has_value};
 ghost use Rattle.usb_device.specs.Code.{meaning_of};

@@ -20,7 +20,7 @@ impl Ports {
     ///
     /// Memory was refused, and nothing changes.
     #[cycle(deliver_at)]
-    #[tactic(auto, using(crate::proofs::NumberedPlaces::routing))]
+    #[tactic(auto, using(crate::proofs::places::NumberedPlaces::routing))]
     pub fn deliver_at(
         &mut self,
         path: &[u8],
@@ -58,7 +58,7 @@ impl Ports {
     /// The device at a path forgets a token that waits for data and data that wait for an ACK, and
     /// its address is told.
     #[cycle(forget_at)]
-    #[tactic(auto, using(crate::proofs::NumberedPlaces::routing))]
+    #[tactic(auto, using(crate::proofs::places::NumberedPlaces::routing))]
     pub fn forget_at(&mut self, path: &[u8]) -> Option<u8>
         ensures address { result ≡ address_by (device_there self.old path.now) }
         ensures after { self.new ≡ changed forgotten_in self.old path.now }
@@ -74,7 +74,7 @@ impl Ports {
 
 impl Place {
     #[cycle(deliver_at)]
-    #[tactic(auto, using(crate::proofs::FirstPlaces::paths))]
+    #[tactic(auto, using(crate::proofs::places::FirstPlaces::paths))]
     fn deliver_at(
         &mut self,
         path: &[u8],
@@ -100,7 +100,7 @@ impl Place {
     }
 
     #[cycle(forget_at)]
-    #[tactic(auto, using(crate::proofs::FirstPlaces::paths))]
+    #[tactic(auto, using(crate::proofs::places::FirstPlaces::paths))]
     fn forget_at(&mut self, path: &[u8]) -> Option<u8>
         ensures address { result ≡ address_by (plugged_in (stood self.old) path.now) }
         ensures after { stood self.new ≡ changed_in forgotten_in (stood self.old) path.now }

@@ -1,6 +1,6 @@
 //! What a plan says of a device.
 ghost use Rattle.std.specs.Prelude.{◌≡◌, ◌≤◌, Some, true, length, option_copied, IfOk};
-ghost use Rattle.usb_device.specs.Spec.{no_stalls, function, hub_fits, IsSpec};
+ghost use Rattle.usb_device.specs.DeviceSpecs.{no_stalls, function, hub_fits, IsSpec};
 
 use crate::hub_spec::HubSpec;
 use crate::lists::{Bytes, ConfigTexts, Name, StringTexts};
@@ -74,7 +74,7 @@ pub struct DeviceSpec {
 impl Model for DeviceSpec {
     ghost use Rattle.std.specs.Prelude.{◌≡◌, ◌≤◌, true};
     ghost use Rattle.std.specs.Option.{IfSome};
-    ghost use Rattle.usb_device.specs.Spec.{Spec, hub_fits};
+    ghost use Rattle.usb_device.specs.DeviceSpecs.{Spec, hub_fits};
 
     ghost Value = { Spec };
 

@@ -103,7 +103,7 @@ pub fn put_packet(
 }
 
 /// Whether an answer of `len` bytes has a packet `k`, counted from 0.
-#[tactic(auto, using(crate::proofs::Packets::has))]
+#[tactic(auto, using(crate::proofs::packets::Packets::has))]
 pub fn has_packet(max: usize, wanted: u16, len: usize, k: u32) -> bool
     requires { 8 ≤ max }
     ensures { (answer : List ℕ)

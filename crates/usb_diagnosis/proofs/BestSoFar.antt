@@ -1,7 +1,7 @@
 -- The nearest of the names so far.
 use Rattle.std.proofs.Common.{◌≡◌, ℕ, ◌+◌, ◌<◌, ◌≤◌, Option, Some, None, List, length, refl, arith}
 use Rattle.std.proofs.Common.{get_or}
-use Rattle.usb_diagnosis.specs.Nearest.{IsNearest}
+use Rattle.usb_diagnosis.specs.{IsNearest}
 use borrow.Author.Count.{below_more}
 
 -- of the edits to the names before the k-th these are the fewest, first at this index, or 3 where

@@ -3,8 +3,7 @@ use Rattle.std.proofs.Common.{◌≡◌, ℕ, List, [], ◌∷◌, map, refl, ap
 use Rattle.std.specs.Prelude.{◌||◌}
 use Rattle.std.specs.List.{list_any}
 use Rattle.std.specs.Str.{bytes_eq}
-use Rattle.usb_diagnosis.specs.declared.key.PlanKey.{PlanKey}
-use Rattle.usb_diagnosis.specs.Key.{key_name}
+use Rattle.usb_diagnosis.specs.{PlanKey, key_name}
 
 -- a name among those of keys
 pub known_names : (name : List ℕ) (keys : List PlanKey)

@@ -2,11 +2,10 @@
 use Rattle.std.specs.Prelude.{◌≡◌, ◌≢◌, ℕ, List, ◌++◌, Option, None, Result, Ok, Err, IsUtf8}
 use Rattle.std.specs.Io.KnownBytes.{Appends}
 use Rattle.toml.specs.Parse.{parse_document}
-use Rattle.usb_bus.specs.Watch.{AppendsFront}
-use Rattle.usb_plan.specs.Plan.{spelled_plan}
-use Rattle.usb_plan.specs.declared.fault.PlanFault.{PlanFault}
+use Rattle.usb_bus.specs.{AppendsFront}
+use Rattle.usb_plan.specs.{spelled_plan, PlanFault}
 use Rattle.usb_plan.specs.declared.fault.PlanFault.TheVariants as plan
-use Rattle.usb_world.specs.PlanData.{PlanData}
+use Rattle.usb_world.specs.{PlanData}
 use Rattle.usb_diagnosis.specs.declared.checking.CheckFault.{CheckFault}
 use Rattle.usb_diagnosis.specs.declared.checking.CheckFault.TheVariants.{Write, Memory}
 use Rattle.usb_diagnosis.specs.declared.checking.Verdict.{Verdict}

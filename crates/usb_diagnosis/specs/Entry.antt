@@ -1,11 +1,8 @@
 -- The keys of an entry, as the plan's reader takes them.
 use Rattle.std.specs.Prelude.{ℕ, codes, List, [], ◌∷◌, Option, Some, None, Ok, Err}
 use Rattle.toml.specs.Data.{Data, Members, get_member, as_str}
-use Rattle.usb_plan.specs.Action.{event_keys, other_names}
-use Rattle.usb_plan.specs.Damage.{damage_keys}
-use Rattle.usb_plan.specs.Device.{device_keys}
-use Rattle.usb_plan.specs.Plan.{top_keys}
-use Rattle.usb_plan.specs.Verb.{other_keys, verb_named}
+use Rattle.usb_plan.specs.{event_keys, other_names, damage_keys, device_keys, top_keys, other_keys}
+use Rattle.usb_plan.specs.{verb_named}
 use Rattle.usb_plan.specs.declared.fault.Place.{Place}
 use Rattle.usb_plan.specs.declared.fault.Place.TheVariants.{Top, Device, Event, Damage}
 

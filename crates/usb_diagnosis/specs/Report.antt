@@ -1,11 +1,9 @@
 -- The lines that tell what a text holds.
 use Rattle.std.specs.Prelude.{ℕ, codes, List, [], ◌++◌, length, decimal, Option, Some, None}
-use Rattle.usb_plan.specs.Attempts.{bound_of}
-use Rattle.usb_plan.specs.Place.{place_text}
+use Rattle.usb_plan.specs.{bound_of, place_text, PlanFault}
 use Rattle.usb_plan.specs.declared.fault.Place.{Place}
-use Rattle.usb_plan.specs.declared.fault.PlanFault.{PlanFault}
 use Rattle.usb_plan.specs.declared.fault.PlanFault.TheVariants as plan
-use Rattle.usb_world.specs.PlanData.{PlanData}
+use Rattle.usb_world.specs.{PlanData}
 use Rattle.usb_diagnosis.specs.declared.place.Spot.{Spot}
 use Rattle.usb_diagnosis.specs.Place.{spot_text}
 

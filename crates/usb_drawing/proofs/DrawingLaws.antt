@@ -2,11 +2,9 @@
 use Rattle.std.proofs.Common.{◌≡◌, refl, ap, arith, add-one, ℕ, suc, ◌+◌, List, [], ◌∷◌, ◌++◌}
 use Rattle.std.proofs.Common.{length, Some}
 use Rattle.std.specs.Prelude.{slice_get}
-use Rattle.usb_enum.specs.declared.finding.Finding.{Finding}
-use Rattle.usb_table.specs.Entries.{Entries}
-use Rattle.usb_drawing.specs.declared.art.Style.{Style}
-use Rattle.usb_drawing.specs.Drawings.{deepest, drawing_lines, entry_line, drawn_entries}
-use Rattle.usb_drawing.specs.Drawings.{granted_at}
+use Rattle.usb_enum.specs.{Finding}
+use Rattle.usb_table.specs.{Entries}
+use Rattle.usb_drawing.specs.{Style, deepest, drawing_lines, entry_line, drawn_entries, granted_at}
 
 length-entry_lines : (style : Style) (most : ℕ) (all entries : Entries)
     → length (drawn_entries style most all entries) ≡ length entries

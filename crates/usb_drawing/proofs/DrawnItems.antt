@@ -7,32 +7,22 @@ use Rattle.std.specs.List.{concat}
 use Rattle.std.specs.Prelude.{IfErr}
 use Rattle.std.specs.Io.KnownBytes.{Appends}
 use Rattle.std.proofs.KnownBytes.{Appends-nil, Appends-trans}
-use Rattle.usb_bus.specs.Watch.{AppendsFront}
+use Rattle.usb_bus.specs.{AppendsFront}
 use Rattle.usb_bus.proofs.Interface.{front_after_first}
-use Rattle.usb_world.specs.PlanData.{PlanData}
-use Rattle.usb_world.specs.World.{to_come}
-use Rattle.usb_host.specs.HostState.{HostState}
-use Rattle.usb_run.specs.declared.runs.Item.{Item}
-use Rattle.usb_run.specs.declared.runs.RunFault.{RunFault}
+use Rattle.usb_world.specs.{PlanData, to_come}
+use Rattle.usb_host.specs.{HostState}
+use Rattle.usb_run.specs.{Item, RunFault, Tree, IsCaused, items_left, Knows, Opens, number_of, Next}
+use Rattle.usb_run.specs.{RunsTo, StoppedRun, begun, behind, listings, never}
 use Rattle.usb_run.specs.declared.runs.RunFault.TheVariants as run
-use Rattle.usb_run.specs.declared.mode.Mode.TheVariants.{Tree}
-use Rattle.usb_serve.specs.declared.serving.ServeFault.{ServeFault}
+use Rattle.usb_serve.specs.{ServeFault, IsCausedInTree, of_run}
 use Rattle.usb_serve.specs.declared.serving.ServeFault.TheVariants as serve
-use Rattle.usb_run.specs.Run.{IsCaused, items_left}
-use Rattle.usb_run.specs.RunSegments.{Knows}
-use Rattle.usb_run.specs.Reports.{Opens}
-use Rattle.usb_serve.specs.ServeResults.{IsCausedInTree}
-use Rattle.usb_run.specs.ItemLines.{number_of}
-use Rattle.usb_run.specs.Transcript.{Next, RunsTo, StoppedRun, Transcript, begun, behind, listings}
-use Rattle.usb_run.specs.Transcript.{never}
-use Rattle.usb_serve.specs.ServedTranscripts.{of_run}
+use Rattle.usb_run.specs.Transcript.{Transcript}
 use Rattle.usb_serve.proofs.Interface.{ItemsNumbered, few_left, joined_lines, number_next}
 use Rattle.usb_serve.proofs.Interface.{numbered_next}
 use Rattle.usb_run.proofs.Interface.{at_fault, knows_opened, limit_opened, makes_knows, over_next}
 use Rattle.usb_run.proofs.Interface.{appends_no_text, run_limit, run_lists_right, stopped_next}
 use Rattle.usb_run.proofs.Interface.{told_next, traced_runs_onward, unwritten_next}
-use Rattle.usb_drawing.specs.declared.art.Style.{Style}
-use Rattle.usb_drawing.specs.DrawnRuns.{DrawnText, RunDrawn, drawn_item, drawn_items, drawn_lines}
+use Rattle.usb_drawing.specs.{Style, DrawnText, RunDrawn, drawn_item, drawn_items, drawn_lines}
 
 -- the run so far, from its host's first call on, and the drawings of its items
 pub record DrawnSoFar (style : Style) (plan : PlanData) (before : Option (List ℕ)) (number : ℕ)

@@ -12,36 +12,22 @@ use Rattle.std.proofs.lemmas.List.Elements.{All-from_recursion}
 use Rattle.std.proofs.lemmas.List.Folds.{list_all-append}
 use Rattle.std.proofs.lemmas.Str.{inside_one}
 use Rattle.hex.specs.Hex.{encode_with, lower_digits, upper_digits}
-use Rattle.usb_port.specs.Path.{path_text}
-use Rattle.usb_enum.specs.declared.cause.Cause.{Cause}
-use Rattle.usb_enum.specs.declared.cause.Cause.TheVariants.{Silent, Busy, Stalled, BadDevice}
-use Rattle.usb_enum.specs.declared.cause.Cause.TheVariants.{TooDeep, BadConfiguration, NoPower}
-use Rattle.usb_enum.specs.declared.cause.Cause.TheVariants.{BadHub, Lost, NoAddress}
-use Rattle.usb_enum.specs.declared.cause.Request.{Request}
+use Rattle.usb_port.specs.{path_text}
+use Rattle.usb_enum.specs.{Cause, Silent, Busy, Stalled, BadDevice, TooDeep, BadConfiguration}
+use Rattle.usb_enum.specs.{NoPower, BadHub, Lost, NoAddress, Request, Accepted, Finding, HubFacts}
+use Rattle.usb_enum.specs.{Strings, configuration_of, need_of}
 use Rattle.usb_enum.specs.declared.cause.Request.TheVariants as request
-use Rattle.usb_enum.specs.declared.finding.Accepted.{Accepted}
-use Rattle.usb_enum.specs.declared.finding.Finding.{Finding}
 use Rattle.usb_enum.specs.declared.finding.Finding.TheVariants.{Device, Refused}
-use Rattle.usb_enum.specs.declared.hub.HubFacts.{HubFacts}
-use Rattle.usb_enum.specs.declared.strings.Strings.{Strings}
-use Rattle.usb_enum.specs.Device.{configuration_of}
-use Rattle.usb_enum.specs.Text.{need_of}
-use Rattle.usb_table.specs.Entries.{Entries}
-use Rattle.usb_text.specs.ListingLines.{escaped_text, is_plain_unit, unit_text}
-use Rattle.usb_drawing.specs.declared.art.Style.{Style}
-use Rattle.usb_drawing.specs.declared.art.Style.TheVariants.{Lines, Ascii}
-use Rattle.usb_drawing.specs.Art.{art, branch, goes_on, trunk, trunks}
-use Rattle.usb_class.specs.declared.class.ClassCodes.{ClassCodes}
-use Rattle.usb_class.specs.Classes.{class_text, class_word, hid_word, word_or_number}
-use Rattle.usb_drawing.specs.Classes.{codes_of, ports_text}
-use Rattle.usb_drawing.specs.Devices.{address_column, cause_number, cause_words, device_text}
-use Rattle.usb_drawing.specs.Devices.{finding_text, identity_text, ids_text, power_text}
-use Rattle.usb_drawing.specs.Devices.{speed_column, stall_words, strings_text, supply_text}
-use Rattle.usb_drawing.specs.Devices.{word_digits}
-use Rattle.usb_drawing.specs.Drawings.{IsOneLine, deepest, drawing_lines, entry_line, drawn_entries}
-use Rattle.usb_drawing.specs.Drawings.{gap, granted_at, heading, is_unbroken}
-use Rattle.usb_drawing.specs.Texts.{is_pair, is_shown, labelled_text, shown_or_escaped, shown_unit}
-use Rattle.usb_drawing.specs.Texts.{shown_units, string_text}
+use Rattle.usb_table.specs.{Entries}
+use Rattle.usb_text.specs.{escaped_text, is_plain_unit, unit_text}
+use Rattle.usb_drawing.specs.{Style, Lines, Ascii, art, branch, goes_on, trunk, trunks, codes_of}
+use Rattle.usb_drawing.specs.{ports_text, address_column, cause_number, cause_words, device_text}
+use Rattle.usb_drawing.specs.{finding_text, identity_text, ids_text, power_text, speed_column}
+use Rattle.usb_drawing.specs.{stall_words, strings_text, supply_text, word_digits, IsOneLine}
+use Rattle.usb_drawing.specs.{deepest, drawing_lines, entry_line, drawn_entries, gap, granted_at}
+use Rattle.usb_drawing.specs.{heading, is_unbroken, is_pair, is_shown, labelled_text}
+use Rattle.usb_drawing.specs.{shown_or_escaped, shown_unit, shown_units, string_text}
+use Rattle.usb_class.specs.{ClassCodes, class_text, class_word, hid_word, word_or_number}
 
 abbrev HasNoLineFeed : List ℕ → Type 0
 HasNoLineFeed bytes = is_unbroken bytes ≡ true
@@ -408,8 +394,7 @@ entries_one_line : (style : Style) (most : ℕ) (all entries : Entries)
 entries_one_line style most all [] = tt
 entries_one_line style most all (e ∷ behind) = (
   entry_one_line style most (granted_at e.0 all) e behind,
-  entries_one_line style most all
-      behind,
+  entries_one_line style most all behind,
 )
 
 heading_one_line : (n : ℕ) (entries : Entries) → IsOneLine (heading n entries)
@@ -433,6 +418,5 @@ drawing_lines-one_line style n entries =
     All-from_recursion IsOneLine (heading n entries ∷ drawn_entries style (deepest entries) entries
     entries) (
       heading_one_line n entries,
-      entries_one_line style (deepest entries) entries
-          entries,
+      entries_one_line style (deepest entries) entries entries,
     )

@@ -2,20 +2,13 @@
 use Rattle.std.specs.Prelude.{ℕ, List, [], ◌∷◌, ◌++◌, Bool, Option, None, Some, nat_lt, codes}
 use Rattle.std.specs.Prelude.{decimal, if◌then◌else◌, slice_index, ◌+◌}
 use Rattle.hex.specs.Hex.{encode_lower}
-use Rattle.usb_enum.specs.declared.cause.Cause.{Cause}
-use Rattle.usb_enum.specs.declared.cause.Cause.TheVariants.{Silent, Busy, Stalled, BadDevice}
-use Rattle.usb_enum.specs.declared.cause.Cause.TheVariants.{TooDeep, BadConfiguration, NoPower}
-use Rattle.usb_enum.specs.declared.cause.Cause.TheVariants.{BadHub, Lost, NoAddress}
-use Rattle.usb_enum.specs.declared.cause.Request.{Request}
+use Rattle.usb_enum.specs.{Cause, Silent, Busy, Stalled, BadDevice, TooDeep, BadConfiguration}
+use Rattle.usb_enum.specs.{NoPower, BadHub, Lost, NoAddress, Request, Accepted, Finding, Strings}
+use Rattle.usb_enum.specs.{configuration_of, need_of}
 use Rattle.usb_enum.specs.declared.cause.Request.TheVariants as request
-use Rattle.usb_enum.specs.declared.finding.Accepted.{Accepted}
-use Rattle.usb_enum.specs.declared.finding.Finding.{Finding}
 use Rattle.usb_enum.specs.declared.finding.Finding.TheVariants.{Device, Refused}
-use Rattle.usb_enum.specs.declared.strings.Strings.{Strings}
-use Rattle.usb_enum.specs.Device.{configuration_of}
-use Rattle.usb_enum.specs.Text.{need_of}
 use Rattle.usb_drawing.specs.declared.art.Style.{Style}
-use Rattle.usb_class.specs.Classes.{class_text}
+use Rattle.usb_class.specs.{class_text}
 use Rattle.usb_drawing.specs.Classes.{codes_of, ports_text}
 use Rattle.usb_drawing.specs.Texts.{labelled_text}
 

@@ -4,13 +4,11 @@ use Rattle.std.specs.Prelude.{◌∷◌, ◌++◌, length, Option, None, Some, c
 use Rattle.std.specs.Prelude.{if◌then◌else◌}
 use Rattle.std.specs.List.{list_all}
 use Rattle.std.specs.Cmp.Lexicographic.{pointwise}
-use Rattle.usb_port.specs.Order.{parent_of}
-use Rattle.usb_port.specs.Path.{path_text}
-use Rattle.usb_resources.specs.Power.{supply_of}
-use Rattle.usb_enum.specs.declared.finding.Finding.{Finding}
+use Rattle.usb_port.specs.{parent_of, path_text}
+use Rattle.usb_resources.specs.{supply_of}
+use Rattle.usb_enum.specs.{Finding, HubFacts}
 use Rattle.usb_enum.specs.declared.finding.Finding.TheVariants.{Device, Refused}
-use Rattle.usb_enum.specs.declared.hub.HubFacts.{HubFacts}
-use Rattle.usb_table.specs.Entries.{Entries}
+use Rattle.usb_table.specs.{Entries}
 use Rattle.usb_drawing.specs.declared.art.Style.{Style}
 use Rattle.usb_drawing.specs.Art.{art}
 use Rattle.usb_drawing.specs.Devices.{finding_text}

@@ -3,22 +3,14 @@ use Rattle.std.specs.Prelude.{◌≡◌, ◌≢◌, ◌⊎◌, ℕ, List, [], �
 use Rattle.std.specs.Prelude.{Result, Ok, Err, IfErr, IfSome, IsErrOf}
 use Rattle.std.specs.Io.KnownBytes.{Appends}
 use Rattle.std.specs.List.{concat}
-use Rattle.usb_world.specs.PlanData.{PlanData}
-use Rattle.usb_bus.specs.Watch.{AppendsFront}
-use Rattle.usb_host.specs.HostState.{HostState}
-use Rattle.usb_plan.specs.Plan.{spelled_plan}
-use Rattle.usb_run.specs.declared.runs.Item.{Item}
-use Rattle.usb_run.specs.declared.runs.Item.TheVariants.{Listing, Sent, Received, Cleared}
-use Rattle.usb_run.specs.declared.mode.Mode.TheVariants.{Tree}
-use Rattle.usb_serve.specs.declared.serving.ServeFault.{ServeFault}
+use Rattle.usb_world.specs.{PlanData}
+use Rattle.usb_bus.specs.{AppendsFront}
+use Rattle.usb_host.specs.{HostState}
+use Rattle.usb_plan.specs.{spelled_plan}
+use Rattle.usb_run.specs.{Item, Listing, Sent, Received, Cleared, Tree, ListsRight, item_lines}
+use Rattle.usb_run.specs.{number_of, Opens, RunsTo, listings, never}
+use Rattle.usb_serve.specs.{ServeFault, IsCausedInTree, IsOfRun, IsUnopened, IsUnread, of_run}
 use Rattle.usb_serve.specs.declared.serving.ServeFault.TheVariants as serve
-use Rattle.usb_run.specs.Moments.{ListsRight}
-use Rattle.usb_serve.specs.ServeResults.{IsCausedInTree, IsOfRun}
-use Rattle.usb_run.specs.ItemLines.{item_lines, number_of}
-use Rattle.usb_serve.specs.ServedRuns.{IsUnopened, IsUnread}
-use Rattle.usb_run.specs.Reports.{Opens}
-use Rattle.usb_run.specs.Transcript.{RunsTo, listings, never}
-use Rattle.usb_serve.specs.ServedTranscripts.{of_run}
 use Rattle.usb_drawing.specs.declared.art.Style.{Style}
 use Rattle.usb_drawing.specs.Drawings.{drawing_lines}
 

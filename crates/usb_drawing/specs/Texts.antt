@@ -4,7 +4,7 @@ use Rattle.std.specs.Prelude.{Option, None, Some, encode_utf8, flat_map, codes, 
 use Rattle.std.specs.Char.{is_control}
 use Rattle.std.specs.Char.Utf16.{is_high_surrogate, is_low_surrogate, lone_unit_char}
 use Rattle.std.specs.Char.Utf16.{surrogate_pair_char}
-use Rattle.usb_text.specs.ListingLines.{escaped_text, unit_text}
+use Rattle.usb_text.specs.{escaped_text, unit_text}
 use Rattle.usb_drawing.specs.declared.art.Style.{Style}
 use Rattle.usb_drawing.specs.declared.art.Style.TheVariants.{Lines, Ascii}
 

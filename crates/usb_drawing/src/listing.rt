@@ -1,7 +1,7 @@
 //! The lines of a drawn listing, each with its newline.
 ghost use Rattle.std.specs.Prelude.{◌≡◌, ◌+◌, ◌++◌, ◌∷◌, All, ℕ, List, length, slice_get, Some, OnOk, IfOk};
 ghost use Rattle.usb_enum.specs.declared.finding.Finding.{Finding as AFinding};
-ghost use Rattle.usb_table.specs.Entries.{Entries};
+ghost use Rattle.usb_table.specs.TableEntries.{Entries};
 ghost use Rattle.usb_drawing.specs.declared.art.Style.{Style as AStyle};
 ghost use Rattle.usb_drawing.specs.Drawings.{IsOneLine, deepest, drawing_lines, entry_line, drawn_entries, finding_supply, gap, granted_at, heading, heading_end, hub_supply, listed_supply};
 

@@ -4,12 +4,9 @@ use Rattle.std.proofs.Common.{List, length, take, drop, Result, Ok, Err}
 use Rattle.std.specs.Prelude.{if◌then◌else◌, nat_lt}
 use Rattle.std.proofs.lemmas.Bool.Decides.{nat_tests}
 use Rattle.std.proofs.lemmas.List.{length-take, take-append-drop}
-use Rattle.usb_descriptor.specs.declared.fault.DescriptorFault.{DescriptorFault}
-use Rattle.usb_descriptor.specs.declared.fault.DescriptorFault.TheVariants.{Short}
-use Rattle.usb_descriptor.specs.Config.{config_of}
-use Rattle.usb_descriptor.specs.Device.{configuration_count, device_spelled}
-use Rattle.usb_entry.specs.EntryData.{FrontConfig, BeginsWithDevice, HasEntryFault, IsDescriptor}
-use Rattle.usb_entry.specs.declared.fault.EntryFault.TheVariants.{TooMany}
+use Rattle.usb_descriptor.specs.{DescriptorFault, Short, config_of, configuration_count}
+use Rattle.usb_descriptor.specs.{device_spelled}
+use Rattle.usb_entry.specs.{FrontConfig, BeginsWithDevice, HasEntryFault, IsDescriptor, TooMany}
 
 long_at : (b : Bool) (n : ℕ) (r : Result (List ℕ) DescriptorFault) (device : List ℕ)
     → nat_lt n 18 ≡ b → (if b then Err Short else r) ≡ Ok device → 18 ≤ n
@@ -46,8 +43,7 @@ too_many n bytes device small e same many = (
   take n bytes,
   drop n bytes,
   sym (take-append-drop n bytes),
-  descriptor_at n bytes device small
-      e same,
+  descriptor_at n bytes device small e same,
   subst (λ d. 8 < configuration_count d) same many,
 )
 
@@ -56,6 +52,5 @@ pub front_config : (n : ℕ) (bytes config : List ℕ) → config_of (take n byt
 front_config n bytes config e same = record {
   is_text = e ∙ ap Ok same;
   rest = drop n bytes;
-  text =
-      sym (take-append-drop n bytes);
+  text = sym (take-append-drop n bytes);
 }

@@ -1,16 +1,12 @@
 -- How far a device's bytes are read.
-use Rattle.std.proofs.Common.{◌≡◌, ◌≢◌, ◌∙◌, sym, ap, refl, arith, ℕ, ◌+◌, ◌<◌, ◌≤◌, ◌-◌, List, []}
+use Rattle.std.proofs.Common.{◌≡◌, ◌∙◌, sym, ap, refl, arith, ℕ, ◌+◌, ◌<◌, ◌≤◌, ◌-◌, List, []}
 use Rattle.std.proofs.Common.{◌∷◌, ◌++◌, length, drop, append_assoc, length-append}
-use Rattle.std.proofs.lemmas.List.{append-nil, drop_at, drop-drop, length-drop}
+use Rattle.std.proofs.lemmas.List.{append-nil, drop_at, drop-drop}
 use Rattle.std.specs.List.{AllByRecursion}
-use Rattle.usb_descriptor.specs.Config.{joined}
-use Rattle.usb_descriptor.specs.Device.{configuration_count}
-use Rattle.usb_entry.specs.declared.fault.EntryFault.{EntryFault}
-use Rattle.usb_entry.specs.declared.fault.EntryFault.TheVariants.{NoName, Empty, Device, TooMany}
-use Rattle.usb_entry.specs.declared.fault.EntryFault.TheVariants.{Configuration, Missing, LeftOver}
-use Rattle.usb_entry.specs.declared.fault.EntryFault.TheVariants.{Write, Memory}
-use Rattle.usb_entry.specs.EntryData.{FrontConfig, BeginsWithDevice, HasEntryFault, IsDescriptor}
-use Rattle.usb_entry.specs.EntryData.{IsText, NextFault, BreaksAt}
+use Rattle.usb_descriptor.specs.{joined, configuration_count}
+use Rattle.usb_entry.specs.{EntryFault, NoName, Empty, Device, TooMany, Configuration, Missing}
+use Rattle.usb_entry.specs.{LeftOver, Write, Memory, FrontConfig, BeginsWithDevice, HasEntryFault}
+use Rattle.usb_entry.specs.{IsDescriptor, IsText, NextFault, BreaksAt}
 use Rattle.usb_descriptor.proofs.Interface.{joined-item}
 
 -- the device descriptor and these configurations are read, up to the offset
@@ -64,9 +60,6 @@ read_so_far_more bytes device configs offset config h new room =
       place = ap (λ n. n + length config) h.place
           ∙ sym (length-append (device ++ joined configs) config) ∙ ap length (sym front);
     }
-
-drop-some_left : (offset : ℕ) (bytes : List ℕ) → offset < length bytes → drop offset bytes ≢ []
-drop-some_left offset bytes lt e = absurd (omega (arith, length-drop offset bytes, ap length e))
 
 stops_at : (bytes device : List ℕ) (configs : List (List ℕ)) (offset at : ℕ) (Why : ℕ → List ℕ
     → Type 0) → ReadSoFar bytes device configs offset → at ≡ offset

@@ -2,10 +2,9 @@
 use Rattle.std.specs.Prelude.{◌≡◌, ◌≢◌, ℕ, ◌+◌, ◌<◌, ◌≤◌, List, [], ◌++◌, length, take, Ok, Err}
 use Rattle.std.specs.Prelude.{false, MatchResult}
 use Rattle.std.specs.List.{AllByRecursion}
-use Rattle.usb_request.specs.Codes.{DEVICE_LENGTH}
-use Rattle.usb_descriptor.specs.declared.fault.DescriptorFault.{DescriptorFault}
-use Rattle.usb_descriptor.specs.Config.{config_head_of, config_of, joined}
-use Rattle.usb_descriptor.specs.Device.{device_spelled, configuration_count}
+use Rattle.usb_request.specs.{DEVICE_LENGTH}
+use Rattle.usb_descriptor.specs.{DescriptorFault, config_head_of, config_of, joined, device_spelled}
+use Rattle.usb_descriptor.specs.{configuration_count}
 use Rattle.usb_entry.specs.declared.fault.EntryFault.{EntryFault}
 use Rattle.usb_entry.specs.declared.fault.EntryFault.TheVariants.{NoName, Empty, Device, TooMany}
 use Rattle.usb_entry.specs.declared.fault.EntryFault.TheVariants.{Configuration, Missing, LeftOver}

@@ -1,14 +1,11 @@
 -- The speed that a device is taken to have.
 use Rattle.std.specs.Prelude.{ℕ, ◌==◌, ◌&&◌, not, nat_le, List, Bool, true, false}
 use Rattle.std.specs.List.{list_all}
-use Rattle.usb_request.specs.Codes.{HUB_CLASS}
+use Rattle.usb_request.specs.{HUB_CLASS}
 use Rattle.usb_descriptor.specs.declared.item.Item.{Item}
-use Rattle.usb_descriptor.specs.declared.item.Item.TheVariants.{Interface, Endpoint, Other}
-use Rattle.usb_descriptor.specs.declared.item.TransferType.{TransferType}
-use Rattle.usb_descriptor.specs.declared.item.TransferType.TheVariants.{Control, Isochronous, Bulk}
-use Rattle.usb_descriptor.specs.declared.item.TransferType.TheVariants.{Interrupt}
-use Rattle.usb_descriptor.specs.Device.{device_class, max_packet_0}
-use Rattle.usb_descriptor.specs.Item.{items_of, max_packet_size, transfer_of}
+use Rattle.usb_descriptor.specs.{Interface, Endpoint, Other, TransferType, Control, Isochronous}
+use Rattle.usb_descriptor.specs.{Bulk, Interrupt, device_class, max_packet_0, items_of}
+use Rattle.usb_descriptor.specs.{max_packet_size, transfer_of}
 use Rattle.usb_entry.specs.EntryData.{EntryData}
 
 -- low speed has control and interrupt endpoints alone (5.6.4, 5.8.4)

@@ -5,20 +5,14 @@ use Rattle.std.specs.Prelude.{slice_index}
 use Rattle.std.specs.Char.{is_control}
 use Rattle.std.specs.Str.{chars}
 use Rattle.hex.specs.Hex.{encode_lower, encode_upper}
-use Rattle.usb_request.specs.Codes.{HUB_CLASS}
+use Rattle.usb_request.specs.{HUB_CLASS}
 use Rattle.usb_descriptor.specs.declared.item.Item.{Item}
-use Rattle.usb_descriptor.specs.declared.item.Item.TheVariants.{Interface, Endpoint, Other}
-use Rattle.usb_descriptor.specs.declared.item.TransferType.{TransferType}
-use Rattle.usb_descriptor.specs.declared.item.TransferType.TheVariants.{Control, Isochronous, Bulk}
-use Rattle.usb_descriptor.specs.declared.item.TransferType.TheVariants.{Interrupt}
-use Rattle.usb_descriptor.specs.Choice.{is_bulk_size, packet_size}
-use Rattle.usb_descriptor.specs.Config.{configuration_value, max_power_of}
-use Rattle.usb_descriptor.specs.Device.{device_class}
-use Rattle.usb_descriptor.specs.Item.{endpoint_number, is_in, items_of, max_packet_size}
-use Rattle.usb_descriptor.specs.Item.{transfer_of}
-use Rattle.usb_class.specs.declared.class.ClassCodes.{ClassCodes}
-use Rattle.usb_class.specs.Classes.{class_text, device_codes, first_codes, interface_codes}
-use Rattle.usb_class.specs.Classes.{no_codes}
+use Rattle.usb_descriptor.specs.{Interface, Endpoint, Other, TransferType, Control, Isochronous}
+use Rattle.usb_descriptor.specs.{Bulk, Interrupt, is_bulk_size, packet_size, configuration_value}
+use Rattle.usb_descriptor.specs.{max_power_of, device_class, endpoint_number, is_in, items_of}
+use Rattle.usb_descriptor.specs.{max_packet_size, transfer_of}
+use Rattle.usb_class.specs.{ClassCodes, class_text, device_codes, first_codes, interface_codes}
+use Rattle.usb_class.specs.{no_codes}
 use Rattle.usb_entry.specs.EntryData.{EntryData}
 use Rattle.usb_entry.specs.Speed.{is_taken_low}
 

@@ -1,7 +1,7 @@
 -- What is written of a device.
 use Rattle.std.specs.Prelude.{◌≡◌, ◌≢◌, ℕ, List, [], Option, Result, Ok, Err}
 use Rattle.std.specs.Io.KnownBytes.{Appends}
-use Rattle.usb_bus.specs.Watch.{AppendsFront}
+use Rattle.usb_bus.specs.{AppendsFront}
 use Rattle.usb_entry.specs.declared.fault.EntryFault.{EntryFault}
 use Rattle.usb_entry.specs.declared.fault.EntryFault.TheVariants.{NoName, Empty, Device, TooMany}
 use Rattle.usb_entry.specs.declared.fault.EntryFault.TheVariants.{Configuration, Missing, LeftOver}

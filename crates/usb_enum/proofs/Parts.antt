@@ -2,26 +2,17 @@
 use Rattle.std.proofs.Common.{◌≡◌, ◌+◌, ◌*◌, ◌<◌, ◌≤◌, ℕ, false, List, Option, Result, Err, arith}
 use Rattle.std.specs.Global.{Vec}
 use Rattle.std.specs.Prelude.{IsErrAnd}
-use Rattle.usb_request.specs.declared.setup.Setup.{Setup}
-use Rattle.usb_request.specs.Requests.{set_address, set_configuration}
-use Rattle.usb_device.specs.Spec.{Spec}
-use Rattle.usb_world.specs.Devices.{EachWas}
-use Rattle.usb_world.specs.World.{World}
-use Rattle.usb_bus.specs.Traces.{StepRun}
+use Rattle.usb_request.specs.{Setup, set_address, set_configuration}
+use Rattle.usb_device.specs.{Spec}
+use Rattle.usb_world.specs.{EachWas, World}
+use Rattle.usb_bus.specs.{StepRun}
 use Rattle.usb_bus.proofs.Interface.{went_none, went_then, went_wider}
-use Rattle.usb_transaction.specs.declared.target.Target.{Target}
-use Rattle.usb_address.specs.Ownership.{KeepsAddresses}
-use Rattle.usb_pipe.specs.declared.fault.PipeFault.{PipeFault}
-use Rattle.usb_pipe.specs.Control.{control_bound}
-use Rattle.usb_hub.specs.declared.port.HubPort.{HubPort}
-use Rattle.usb_hub.specs.Addresses.{GivesAddress}
-use Rattle.usb_hub.specs.GivenAnswers.{TextAsked}
-use Rattle.usb_hub.specs.Requests.{Queried, Commanded}
-use Rattle.usb_hub.specs.Settings.{AddressAsked, ConfigurationAsked}
-use Rattle.usb_enum.specs.Addresses.{AtPort}
-use Rattle.usb_enum.specs.Bounds.{read_bound}
-use Rattle.usb_enum.specs.Frames.{OnlyAsks, OnlySets, OnlyTells}
-use Rattle.usb_enum.specs.Parts.{Ending, KeepingSteps}
+use Rattle.usb_transaction.specs.{Target}
+use Rattle.usb_address.specs.{KeepsAddresses}
+use Rattle.usb_pipe.specs.{PipeFault, control_bound}
+use Rattle.usb_hub.specs.{HubPort, GivesAddress, TextAsked, Queried, Commanded, AddressAsked}
+use Rattle.usb_hub.specs.{ConfigurationAsked}
+use Rattle.usb_enum.specs.{AtPort, read_bound, OnlyAsks, OnlySets, OnlyTells, Ending, KeepingSteps}
 use Rattle.usb_enum.proofs.courses.Counts.{read_went, went_again, went_times}
 use Rattle.usb_enum.proofs.devices.Frames.{asks_none, asks_then, at_addressed, at_port_none}
 use Rattle.usb_enum.proofs.devices.Frames.{at_port_then, configuration_sets, sets_asked, sets_then}
@@ -50,8 +41,7 @@ setting address = record {
 pub enumerating : (port : HubPort) (address : ℕ) → Keeping (AtPort port address)
 enumerating port address = record {
   none = at_port_none port address;
-  joined =
-      at_port_then port address;
+  joined = at_port_then port address;
 }
 
 -- Steps

@@ -1,27 +1,18 @@
 -- Endpoint 0 of a device that was enumerated, and the most attempts of an enumeration.
 use Rattle.std.proofs.Common.{◌≡◌, refl, arith}
 use Rattle.std.proofs.lemmas.Bool.Decides.{nat_tests}
-use Rattle.std.specs.Prelude.{ℕ, ◌≤◌, ◌+◌, ◌*◌, ◌==◌, List, length, nat_lt, Bool, true, false, ◌&&◌}
+use Rattle.std.specs.Prelude.{ℕ, ◌≤◌, ◌+◌, ◌*◌, ◌==◌, List, length, nat_lt, Bool, true, false}
 use Rattle.std.specs.Prelude.{not, Result, Ok, Err, is_ok, if◌then◌else◌, slice_index}
-use Rattle.usb_request.specs.Codes.{DEVICE}
-use Rattle.usb_transaction.specs.Transactions.{IsTarget}
-use Rattle.usb_descriptor.specs.declared.fault.DescriptorFault.{DescriptorFault}
-use Rattle.usb_descriptor.specs.declared.fault.DescriptorFault.TheVariants.{Short, WrongType}
-use Rattle.usb_descriptor.specs.declared.fault.DescriptorFault.TheVariants.{Length, MaxPacket}
-use Rattle.usb_descriptor.specs.Device.{is_max_packet, device_after, device_head_of, device_spelled}
-use Rattle.usb_hub.specs.declared.port.HubPort.{HubPort}
-use Rattle.usb_hub.specs.declared.port.HubPort.TheVariants.{Root, External}
-use Rattle.usb_hub.specs.Port.{status_bound, order_bound}
+use Rattle.usb_request.specs.{DEVICE}
+use Rattle.usb_descriptor.specs.{DescriptorFault, Short, WrongType, Length, MaxPacket}
+use Rattle.usb_descriptor.specs.{is_max_packet, device_after, device_head_of, device_spelled}
+use Rattle.usb_hub.specs.{HubPort, Root, External, status_bound, order_bound}
 use Rattle.usb_pipe.proofs.Interface.{bound_wide}
-use Rattle.usb_pipe.specs.Control.{write_bound}
-use Rattle.usb_enum.specs.declared.finding.Accepted.{Accepted}
-use Rattle.usb_enum.specs.Bounds.{IsWide, read_bound, enumeration_bound, examined_by}
-use Rattle.usb_enum.specs.Bounds.{widest_enumeration}
-use Rattle.usb_enum.specs.Device.{is_device, target_of}
-use Rattle.usb_enum.specs.Findings.{IsWhole}
+use Rattle.usb_pipe.specs.{write_bound}
+use Rattle.usb_enum.specs.{IsWide, read_bound, enumeration_bound, examined_by}
+use Rattle.usb_enum.specs.{widest_enumeration, is_device}
 
-head_ok : (a b c good : Bool) (n : ℕ)
-    → is_ok (if a then Err Short else (if b then Err WrongType
+head_ok : (a b c good : Bool) (n : ℕ) → is_ok (if a then Err Short else (if b then Err WrongType
     else (if c then Err Length else (if not good then Err MaxPacket else Ok n)))) ≡ true
     → good ≡ true
 head_ok true b c good n h = absurd cc
@@ -63,26 +54,6 @@ maximum_fits false n h = grind (arith, nat_tests, h)
 pub device_fits : (low : Bool) (bytes : List ℕ) → is_device low bytes ≡ true
     → (8 ≤ slice_index bytes 7) × (slice_index bytes 7 ≤ 64)
 device_fits low bytes h = maximum_fits low (slice_index bytes 7) (device_maximum low bytes h)
-
-both_first : (a b : Bool) → a && b ≡ true → a ≡ true
-both_first true b h = refl
-both_first false b h = absurd cc
-
--- an enumerated device can be spoken to, and in packets of 8 bytes or more
-pub whole_target_fits : (supply : ℕ) (device : Accepted) (below_hub : Bool) → IsWhole supply device
-    → IsTarget (target_of device below_hub)
-whole_target_fits supply device below_hub whole =
-    let fits = device_fits device.low device.bytes whole.head in
-    record {
-      addr_fits = whole.address.1;
-      max_least = omega (arith, fits.0);
-      max_most = fits.1;
-      pre_low = both_first device.low below_hub;
-    }
-
-pub whole_target_wide : (supply : ℕ) (device : Accepted) (below_hub : Bool) → IsWhole supply device
-    → 8 ≤ (target_of device below_hub).max
-whole_target_wide supply device below_hub whole = (device_fits device.low device.bytes whole.head).0
 
 -- a status, an order and an enumeration take no more
 pub status_most : (port : HubPort) → IsWide port → status_bound port ≤ read_bound 4

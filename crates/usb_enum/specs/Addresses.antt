@@ -1,12 +1,10 @@
 -- What an enumeration does to the addresses that devices hold.
 use Rattle.std.specs.Prelude.{◌≡◌, ℕ, List, false, None, Some, Result, Ok, Err}
-use Rattle.usb_world.specs.Addresses.{after_taking}
-use Rattle.usb_world.specs.World.{World}
-use Rattle.usb_resources.specs.Pool.{Addresses, IsTaken}
-use Rattle.usb_address.specs.Claims.{AddressMap, Free, Unused}
-use Rattle.usb_address.specs.Ownership.{MapHolds, MapHoldsExcept, Enumerating, WhileBusWorks}
-use Rattle.usb_hub.specs.declared.port.HubPort.{HubPort}
-use Rattle.usb_hub.specs.Addresses.{IsAt}
+use Rattle.usb_world.specs.{after_taking, World}
+use Rattle.usb_resources.specs.{Addresses, IsTaken}
+use Rattle.usb_address.specs.{AddressMap, Free, Unused, MapHolds, MapHoldsExcept, Enumerating}
+use Rattle.usb_address.specs.{WhileBusWorks}
+use Rattle.usb_hub.specs.{HubPort, IsAt}
 use Rattle.usb_enum.specs.declared.fault.EnumFault.{EnumFault}
 use Rattle.usb_enum.specs.declared.fault.EnumFault.TheVariants.{ParentLost, Bus, Memory}
 use Rattle.usb_enum.specs.declared.finding.Finding.{Finding}

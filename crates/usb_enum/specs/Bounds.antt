@@ -1,11 +1,8 @@
 -- How many attempts each part of an enumeration may take.
 use Rattle.std.specs.Prelude.{ℕ, ◌+◌, ◌*◌, ◌≤◌, ⊤}
-use Rattle.usb_request.specs.Codes.{CONFIGURATION_LENGTH, DEVICE_HEAD_LENGTH, DEVICE_LENGTH}
-use Rattle.usb_request.specs.Codes.{HUB_LENGTH}
-use Rattle.usb_pipe.specs.Control.{write_bound}
-use Rattle.usb_hub.specs.declared.port.HubPort.{HubPort}
-use Rattle.usb_hub.specs.declared.port.HubPort.TheVariants.{Root, External}
-use Rattle.usb_hub.specs.Port.{status_bound, order_bound}
+use Rattle.usb_request.specs.{CONFIGURATION_LENGTH, DEVICE_HEAD_LENGTH, DEVICE_LENGTH, HUB_LENGTH}
+use Rattle.usb_pipe.specs.{write_bound}
+use Rattle.usb_hub.specs.{HubPort, Root, External, status_bound, order_bound}
 
 -- one transfer that reads, at a maximum packet of 8 or more
 abbrev pub read_bound : ℕ → ℕ

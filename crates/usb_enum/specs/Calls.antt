@@ -1,17 +1,13 @@
 -- What calls at a port gave to an enumeration.
 use Rattle.std.specs.Prelude.{◌≡◌, Bool, true, false, Option, None, Result, Ok}
-use Rattle.usb_request.specs.Features.{C_PORT_RESET}
-use Rattle.usb_port.specs.declared.status.PortStatus.{PortStatus}
-use Rattle.usb_port.specs.declared.call.PortCall.{PortCall}
-use Rattle.usb_port.specs.Calls.{clear_call}
-use Rattle.usb_world.specs.World.{World}
-use Rattle.usb_pipe.specs.declared.fault.PipeFault.{PipeFault}
-use Rattle.usb_hub.specs.declared.port.HubPort.{HubPort}
-use Rattle.usb_hub.specs.Moments.{CommandsPort, ReadsPort}
-use Rattle.usb_hub.specs.Port.{PortRead}
+use Rattle.usb_request.specs.{C_PORT_RESET}
+use Rattle.usb_port.specs.{PortStatus, PortCall, clear_call}
+use Rattle.usb_world.specs.{World}
+use Rattle.usb_pipe.specs.{PipeFault}
+use Rattle.usb_hub.specs.{HubPort, CommandsPort, ReadsPort, PortRead}
 use Rattle.usb_enum.specs.declared.fault.EnumFault.{EnumFault}
 use Rattle.usb_enum.specs.Losses.{NoNewStretch}
-use Rattle.usb_enum.specs.Stop.{at_port}
+use Rattle.usb_enum.specs.Stops.{at_port}
 
 -- a call at the port, and what its outcome is told as
 pub record CalledAt (port : HubPort) (call : Option PortCall) (old : World)

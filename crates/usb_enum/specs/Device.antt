@@ -2,16 +2,13 @@
 use Rattle.std.specs.Prelude.{◌≡◌, ◌⊎◌, ◌≤◌, ⊤, ℕ, ◌==◌, true, false, List, [], Bool, ◌&&◌, Option}
 use Rattle.std.specs.Prelude.{Some, None, is_some, slice_index_or, Result, Ok, Err, is_ok}
 use Rattle.std.specs.Prelude.{if◌then◌else◌}
-use Rattle.usb_request.specs.Codes.{HUB_CLASS}
-use Rattle.usb_hub.specs.declared.port.HubPort.{HubPort}
-use Rattle.usb_hub.specs.declared.port.HubPort.TheVariants.{Root, External}
-use Rattle.usb_world.specs.World.{World}
-use Rattle.usb_port.specs.Path.{IsPortNumber}
-use Rattle.usb_transaction.specs.declared.target.Target.{Target}
-use Rattle.usb_transaction.specs.Transactions.{IsTarget}
-use Rattle.usb_descriptor.specs.Choice.{status_endpoint_of}
-use Rattle.usb_descriptor.specs.Device.{device_spelled, device_class, manufacturer_index}
-use Rattle.usb_descriptor.specs.Device.{product_index, serial_index, max_packet_0}
+use Rattle.usb_request.specs.{HUB_CLASS}
+use Rattle.usb_hub.specs.{HubPort, Root, External}
+use Rattle.usb_world.specs.{World}
+use Rattle.usb_port.specs.{IsPortNumber}
+use Rattle.usb_transaction.specs.{Target, IsTarget}
+use Rattle.usb_descriptor.specs.{status_endpoint_of, device_spelled, device_class}
+use Rattle.usb_descriptor.specs.{manufacturer_index, product_index, serial_index, max_packet_0}
 use Rattle.usb_enum.specs.declared.cause.Cause.TheVariants.{BadDevice, TooDeep}
 use Rattle.usb_enum.specs.declared.finding.Accepted.{Accepted}
 use Rattle.usb_enum.specs.declared.hub.HubFacts.{HubFacts}

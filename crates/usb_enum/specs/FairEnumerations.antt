@@ -1,19 +1,12 @@
 -- Where all is fair in an enumeration, and what ends it then.
-use Rattle.usb_device.specs.Tree.{path_to}
+use Rattle.usb_device.specs.{path_to, Spec, State, state_there}
 use Rattle.std.specs.Prelude.{◌≡◌, ◌⊎◌, ◌+◌, ◌≤◌, ℕ, List, Option, None, Some, IsSomeAnd, true, ⊤}
-use Rattle.usb_port.specs.Order.{parent_of}
-use Rattle.usb_device.specs.Spec.{Spec}
-use Rattle.usb_device.specs.Rows.{State}
-use Rattle.usb_device.specs.View.{state_there}
-use Rattle.usb_tree.specs.Paths.{pending}
-use Rattle.usb_world.specs.World.{World}
-use Rattle.usb_transaction.specs.declared.target.Target.{Target}
-use Rattle.usb_transaction.specs.Failures.{NoThreeDamaged}
-use Rattle.usb_address.specs.Claims.{AddressMap}
-use Rattle.usb_address.specs.Ownership.{Enumerating, WhileBusWorks}
-use Rattle.usb_hub.specs.declared.port.HubPort.{HubPort}
-use Rattle.usb_hub.specs.declared.port.HubPort.TheVariants.{Root, External}
-use Rattle.usb_hub.specs.CallFailures.{HubServes}
+use Rattle.usb_port.specs.{parent_of}
+use Rattle.usb_tree.specs.{pending}
+use Rattle.usb_world.specs.{World}
+use Rattle.usb_transaction.specs.{Target, NoThreeDamaged}
+use Rattle.usb_address.specs.{AddressMap, Enumerating, WhileBusWorks}
+use Rattle.usb_hub.specs.{HubPort, Root, External, HubServes}
 use Rattle.usb_enum.specs.declared.addressed.Addressed.{Addressed}
 use Rattle.usb_enum.specs.declared.cause.Cause.{Cause}
 use Rattle.usb_enum.specs.declared.fault.EnumFault.{EnumFault}

@@ -1,24 +1,15 @@
 -- What an enumeration finds, and what it leaves.
 use Rattle.std.specs.Prelude.{◌≡◌, ◌⊎◌, ◌≤◌, ℕ, ◌+◌, ◌*◌, List, true, false, Option, None, Some}
 use Rattle.std.specs.Prelude.{Result, Ok, Err, IfOk, MatchResult, length}
-use Rattle.usb_request.specs.Features.{PORT_ENABLE}
-use Rattle.usb_device.specs.View.{state_there}
-use Rattle.usb_tree.specs.Paths.{pending}
-use Rattle.usb_world.specs.World.{World, root_port_at}
-use Rattle.usb_transaction.specs.Failures.{NoThreeDamaged}
-use Rattle.usb_hub.specs.declared.port.HubPort.{HubPort}
-use Rattle.usb_hub.specs.declared.port.HubPort.TheVariants.{Root, External}
-use Rattle.usb_hub.specs.Addresses.{IsAt}
-use Rattle.usb_hub.specs.Requests.{Commanded}
-use Rattle.usb_hub.specs.Settings.{IsFresh}
-use Rattle.usb_request.specs.Requests.{clear_port_feature}
-use Rattle.usb_resources.specs.Pool.{Addresses, IsAddress, IsTaken, Takes, IsFull}
-use Rattle.usb_address.specs.Claims.{AddressMap, Free}
-use Rattle.usb_address.specs.Ownership.{MapHolds, Enumerating, WhileBusWorks}
-use Rattle.usb_descriptor.specs.Config.{configuration_value}
-use Rattle.usb_descriptor.specs.Device.{configuration_count}
-use Rattle.usb_device.specs.Rows.{State}
-use Rattle.usb_transaction.specs.declared.target.Target.{Target}
+use Rattle.usb_request.specs.{PORT_ENABLE, clear_port_feature}
+use Rattle.usb_device.specs.{state_there, State}
+use Rattle.usb_tree.specs.{pending}
+use Rattle.usb_world.specs.{World, root_port_at}
+use Rattle.usb_transaction.specs.{NoThreeDamaged, Target}
+use Rattle.usb_hub.specs.{HubPort, Root, External, IsAt, Commanded, IsFresh}
+use Rattle.usb_resources.specs.{Addresses, IsAddress, IsTaken, Takes, IsFull}
+use Rattle.usb_address.specs.{AddressMap, Free, MapHolds, Enumerating, WhileBusWorks}
+use Rattle.usb_descriptor.specs.{configuration_value, configuration_count}
 use Rattle.usb_enum.specs.declared.addressed.Addressed.{Addressed}
 use Rattle.usb_enum.specs.declared.cause.Cause.{Cause}
 use Rattle.usb_enum.specs.declared.cause.Cause.TheVariants.{NoAddress}
@@ -43,7 +34,7 @@ use Rattle.usb_enum.specs.PresentDevices.{AtPath, Finds, IsInOrder, IsRegular, H
 use Rattle.usb_enum.specs.PresentDevices.{LearnsSet, ReachesDevice}
 use Rattle.usb_enum.specs.Readings.{AtMaximum}
 use Rattle.usb_enum.specs.Reasons.{EndsFor, FaultBy}
-use Rattle.usb_enum.specs.Stop.{FitsTier}
+use Rattle.usb_enum.specs.Stops.{FitsTier}
 use Rattle.usb_enum.specs.StringRequests.{AsksStrings, EndsWithStrings}
 use Rattle.usb_enum.specs.Text.{ValuesDiffer, choice_of}
 use Rattle.usb_enum.specs.TextLengths.{HasPlanWithin}

@@ -1,18 +1,11 @@
 -- What calls on devices and at ports leave of all other devices and ports.
-use Rattle.usb_device.specs.Tree.{Location}
+use Rattle.usb_device.specs.{Location, State}
 use Rattle.std.specs.Prelude.{◌≡◌, ◌==◌, ℕ, List, false, None, Some}
-use Rattle.usb_device.specs.Rows.{State}
-use Rattle.usb_world.specs.Courses.{KeepsPendingAt}
-use Rattle.usb_world.specs.Devices.{EachWas}
-use Rattle.usb_tree.specs.Paths.{address_of, is_way}
-use Rattle.usb_world.specs.RestingPorts.{LeavesPortAlone}
-use Rattle.usb_world.specs.Steps.{Course}
-use Rattle.usb_world.specs.World.{World}
-use Rattle.usb_address.specs.Claims.{AddressMap}
-use Rattle.usb_address.specs.Ownership.{MapHolds, KeepsAddresses}
-use Rattle.usb_backlog.specs.Marks.{KeepsAll, KeepsFound}
-use Rattle.usb_hub.specs.Addresses.{StaysAs, EachElsewhere, KeepsDevices}
-use Rattle.usb_hub.specs.Requests.{TouchesNoPort, TouchesPortsBelow}
+use Rattle.usb_world.specs.{KeepsPendingAt, EachWas, LeavesPortAlone, Course, World}
+use Rattle.usb_tree.specs.{address_of, is_way}
+use Rattle.usb_address.specs.{AddressMap, MapHolds, KeepsAddresses}
+use Rattle.usb_backlog.specs.{KeepsAll, KeepsFound}
+use Rattle.usb_hub.specs.{StaysAs, EachElsewhere, KeepsDevices, TouchesNoPort, TouchesPortsBelow}
 
 -- On a device
 

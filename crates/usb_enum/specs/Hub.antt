@@ -1,14 +1,12 @@
 -- What a hub is asked once it is configured (11.24.2).
 use Rattle.std.specs.Prelude.{◌≡◌, ℕ, zero, suc, false, Ok}
 use Rattle.std.specs.Global.{Vec}
-use Rattle.usb_request.specs.Features.{PORT_POWER}
-use Rattle.usb_world.specs.World.{World}
-use Rattle.usb_transaction.specs.declared.target.Target.{Target}
-use Rattle.usb_descriptor.specs.Hub.{hub_spelled, port_count}
-use Rattle.usb_resources.specs.Power.{supply_of}
-use Rattle.usb_request.specs.Requests.{get_hub_descriptor, get_status, set_port_feature}
-use Rattle.usb_hub.specs.declared.status.DeviceStatus.{DeviceStatus}
-use Rattle.usb_hub.specs.Requests.{Queried, ReadAs, Commanded, device_status}
+use Rattle.usb_request.specs.{PORT_POWER, get_hub_descriptor, get_status, set_port_feature}
+use Rattle.usb_world.specs.{World}
+use Rattle.usb_transaction.specs.{Target}
+use Rattle.usb_descriptor.specs.{hub_spelled, port_count}
+use Rattle.usb_resources.specs.{supply_of}
+use Rattle.usb_hub.specs.{DeviceStatus, Queried, ReadAs, Commanded, device_status}
 use Rattle.usb_enum.specs.declared.hub.HubFacts.{HubFacts}
 
 -- its descriptor, which is good and says how many ports it has

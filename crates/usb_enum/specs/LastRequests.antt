@@ -1,7 +1,6 @@
 -- What led to the last request of a part of an enumeration.
 use Rattle.std.specs.Prelude.{◌≡◌, None}
-use Rattle.usb_world.specs.Steps.{AnyStep, Course}
-use Rattle.usb_world.specs.World.{World}
+use Rattle.usb_world.specs.{AnyStep, Course, World}
 
 -- where the bus is at work in the end, it was at work before, and steps led there
 pub record Leads (old new : World) : Type 0 where

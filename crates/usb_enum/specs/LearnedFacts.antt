@@ -1,18 +1,9 @@
 -- What was learned of a device from its answers, seen from where it is reachable after them.
-use Rattle.usb_device.specs.Tree.{Location}
+use Rattle.usb_device.specs.{Location, Spec, IsSpec, OnlyStage, State}
 use Rattle.std.specs.Prelude.{◌≡◌, ◌≢◌, true, false}
-use Rattle.usb_device.specs.Spec.{Spec, IsSpec}
-use Rattle.usb_device.specs.Progress.{OnlyStage}
-use Rattle.usb_device.specs.Rows.{State}
-use Rattle.usb_world.specs.Devices.{EachWas}
-use Rattle.usb_tree.specs.Paths.{address_of}
-use Rattle.usb_world.specs.OneHolder.{hears_attempt}
-use Rattle.usb_tree.specs.AttemptPackets.{deep_at}
-use Rattle.usb_world.specs.World.{World}
-use Rattle.usb_transaction.specs.declared.target.Target.{Target}
-use Rattle.usb_transaction.specs.Leaves.{is_at}
-use Rattle.usb_transaction.specs.Transactions.{in_attempt}
-use Rattle.usb_transaction.specs.Failures.{NoThreeDamaged}
+use Rattle.usb_world.specs.{EachWas, hears_attempt, World}
+use Rattle.usb_tree.specs.{address_of, deep_at}
+use Rattle.usb_transaction.specs.{Target, is_at, in_attempt, NoThreeDamaged}
 
 -- nothing of a device changed but where its transfer stands; of the target's device this is so
 pub record Learned (So : Spec → Type 0) (t : Target) (x : Location) (s v : State) : Type 0 where

@@ -1,6 +1,6 @@
 -- How often the addresses of devices may be lost.
 use Rattle.std.specs.Prelude.{◌≤◌}
-use Rattle.usb_world.specs.World.{World}
+use Rattle.usb_world.specs.{World}
 
 -- between two changes of connection that are cleared, no address is lost three times
 abbrev pub FewLosses : World → Type 0

@@ -1,11 +1,11 @@
 -- What a part of an enumeration says: how many attempts it makes, what it keeps of all else, and
 -- what it gives or why it stops.
 use Rattle.std.specs.Prelude.{ℕ, List, Option, Result, MatchResult, ⊤}
-use Rattle.usb_device.specs.Spec.{Spec}
-use Rattle.usb_world.specs.World.{World}
-use Rattle.usb_bus.specs.Traces.{StepRun}
-use Rattle.usb_transaction.specs.declared.target.Target.{Target}
-use Rattle.usb_hub.specs.declared.port.HubPort.{HubPort}
+use Rattle.usb_device.specs.{Spec}
+use Rattle.usb_world.specs.{World}
+use Rattle.usb_bus.specs.{StepRun}
+use Rattle.usb_transaction.specs.{Target}
+use Rattle.usb_hub.specs.{HubPort}
 use Rattle.usb_enum.specs.declared.addressed.Addressed.{Addressed}
 use Rattle.usb_enum.specs.declared.cause.Cause.{Cause}
 use Rattle.usb_enum.specs.declared.fault.EnumFault.{EnumFault}

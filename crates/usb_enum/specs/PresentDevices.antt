@@ -1,23 +1,14 @@
 -- What is so of the device at a port that is being enumerated, where one is reachable there.
 use Rattle.std.specs.Prelude.{◌≡◌, ◌&&◌, ℕ, List, Bool, true, false, take, Option, None, Some, Ok}
 use Rattle.std.specs.Prelude.{⊤}
-use Rattle.usb_device.specs.Spec.{Spec}
-use Rattle.usb_device.specs.Rows.{State}
-use Rattle.usb_device.specs.Tree.{reach, Location}
-use Rattle.usb_device.specs.View.{state_there}
-use Rattle.usb_request.specs.Codes.{DEVICE_HEAD_LENGTH, DEVICE_LENGTH}
-use Rattle.usb_descriptor.specs.Device.{device_head_of, configuration_count}
-use Rattle.usb_world.specs.Devices.{EachWas}
-use Rattle.usb_tree.specs.Paths.{address_of}
-use Rattle.usb_world.specs.Steps.{WorldInvariant}
-use Rattle.usb_world.specs.World.{World}
-use Rattle.usb_transaction.specs.declared.target.Target.{Target}
-use Rattle.usb_transaction.specs.Leaves.{is_at}
-use Rattle.usb_address.specs.Claims.{AddressMap}
-use Rattle.usb_address.specs.Ownership.{Enumerating, WhileBusWorks}
-use Rattle.usb_hub.specs.declared.port.HubPort.{HubPort}
-use Rattle.usb_hub.specs.Addresses.{IsClaimed}
-use Rattle.usb_hub.specs.Settings.{IsFresh}
+use Rattle.usb_device.specs.{Spec, State, reach, Location, state_there}
+use Rattle.usb_request.specs.{DEVICE_HEAD_LENGTH, DEVICE_LENGTH}
+use Rattle.usb_descriptor.specs.{device_head_of, configuration_count}
+use Rattle.usb_world.specs.{EachWas, WorldInvariant, World}
+use Rattle.usb_tree.specs.{address_of}
+use Rattle.usb_transaction.specs.{Target, is_at}
+use Rattle.usb_address.specs.{AddressMap, Enumerating, WhileBusWorks}
+use Rattle.usb_hub.specs.{HubPort, IsClaimed, IsFresh}
 use Rattle.usb_enum.specs.declared.addressed.Addressed.{Addressed}
 use Rattle.usb_enum.specs.declared.finding.Accepted.{Accepted}
 use Rattle.usb_enum.specs.declared.hub.HubFacts.{HubFacts}

@@ -2,14 +2,12 @@
 use Rattle.std.specs.Prelude.{◌≡◌, ℕ, ◌==◌, true, false, if◌then◌else◌, List, take, Option, None}
 use Rattle.std.specs.Prelude.{Some, option_map, option_and_then, Ok}
 use Rattle.std.specs.Global.{Vec}
-use Rattle.usb_resources.specs.Power.{supply_of}
-use Rattle.usb_request.specs.Codes.{CONFIGURATION_LENGTH, HUB_LENGTH}
-use Rattle.usb_descriptor.specs.Config.{config_head_of}
-use Rattle.usb_descriptor.specs.Hub.{hub_spelled, port_count}
-use Rattle.usb_device.specs.Spec.{Spec, IsSpec}
-use Rattle.usb_device.specs.Transfer.{max_packet}
-use Rattle.usb_transaction.specs.declared.target.Target.{Target}
-use Rattle.usb_hub.specs.GivenAnswers.{config_given, hub_given}
+use Rattle.usb_resources.specs.{supply_of}
+use Rattle.usb_request.specs.{CONFIGURATION_LENGTH, HUB_LENGTH}
+use Rattle.usb_descriptor.specs.{config_head_of, hub_spelled, port_count}
+use Rattle.usb_device.specs.{Spec, IsSpec, max_packet}
+use Rattle.usb_transaction.specs.{Target}
+use Rattle.usb_hub.specs.{config_given, hub_given}
 use Rattle.usb_enum.specs.declared.hub.HubFacts.{HubFacts}
 use Rattle.usb_enum.specs.declared.strings.Strings.{Strings}
 use Rattle.usb_enum.specs.Verdicts.{text_read, is_good_text, texts_below, first_fault, string_read}

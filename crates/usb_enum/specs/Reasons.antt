@@ -2,27 +2,20 @@
 use Rattle.std.specs.Prelude.{◌≡◌, ◌⊎◌, ◌&&◌, ℕ, List, [], ◌∷◌, ◌++◌, length, take, true, false}
 use Rattle.std.specs.Prelude.{slice_index_or, Option, None, Some, Result, Ok, Err, ⊤}
 use Rattle.std.specs.Global.{Vec}
-use Rattle.usb_request.specs.declared.setup.Setup.{Setup}
-use Rattle.usb_request.specs.Codes.{CONFIGURATION_LENGTH, DEVICE_HEAD_LENGTH, DEVICE_LENGTH}
-use Rattle.usb_request.specs.Features.{PORT_POWER}
-use Rattle.usb_request.specs.Requests.{get_device_descriptor, get_configuration_descriptor}
-use Rattle.usb_request.specs.Requests.{get_hub_descriptor, get_status, set_address}
-use Rattle.usb_request.specs.Requests.{set_configuration, set_port_feature}
-use Rattle.usb_port.specs.declared.status.PortStatus.{PortStatus}
-use Rattle.usb_descriptor.specs.declared.fault.DescriptorFault.{DescriptorFault}
-use Rattle.usb_descriptor.specs.Choice.{status_endpoint_of}
-use Rattle.usb_descriptor.specs.Config.{config_head_of, configuration_value}
-use Rattle.usb_descriptor.specs.Device.{configuration_count, device_head_of}
-use Rattle.usb_descriptor.specs.Hub.{hub_spelled}
-use Rattle.usb_resources.specs.Pool.{Addresses, IsFree, IsFull}
-use Rattle.usb_world.specs.World.{World, Failed}
-use Rattle.usb_transaction.specs.declared.target.Target.{Target}
-use Rattle.usb_pipe.specs.declared.fault.PipeFault.{PipeFault}
+use Rattle.usb_request.specs.{Setup, CONFIGURATION_LENGTH, DEVICE_HEAD_LENGTH, DEVICE_LENGTH}
+use Rattle.usb_request.specs.{PORT_POWER, get_device_descriptor, get_configuration_descriptor}
+use Rattle.usb_request.specs.{get_hub_descriptor, get_status, set_address, set_configuration}
+use Rattle.usb_request.specs.{set_port_feature}
+use Rattle.usb_port.specs.{PortStatus}
+use Rattle.usb_descriptor.specs.{DescriptorFault, status_endpoint_of, config_head_of}
+use Rattle.usb_descriptor.specs.{configuration_value, configuration_count, device_head_of}
+use Rattle.usb_descriptor.specs.{hub_spelled}
+use Rattle.usb_resources.specs.{Addresses, IsFree, IsFull}
+use Rattle.usb_world.specs.{World, Failed}
+use Rattle.usb_transaction.specs.{Target}
+use Rattle.usb_pipe.specs.{PipeFault, Reads, WasRead, Writes}
 use Rattle.usb_pipe.specs.declared.fault.PipeFault.TheVariants as pipe
-use Rattle.usb_pipe.specs.Stages.{Reads, WasRead, Writes}
-use Rattle.usb_hub.specs.declared.port.HubPort.{HubPort}
-use Rattle.usb_hub.specs.Port.{PortCleared, PortRead, PortSet}
-use Rattle.usb_hub.specs.Requests.{device_status, said_in}
+use Rattle.usb_hub.specs.{HubPort, PortCleared, PortRead, PortSet, device_status, said_in}
 use Rattle.usb_enum.specs.declared.addressed.Addressed.{Addressed}
 use Rattle.usb_enum.specs.declared.cause.Cause.{Cause}
 use Rattle.usb_enum.specs.declared.cause.Cause.TheVariants as cause
@@ -36,7 +29,7 @@ use Rattle.usb_enum.specs.declared.stop.Stop.{Stop}
 use Rattle.usb_enum.specs.declared.stop.Stop.TheVariants.{Refused, Fault}
 use Rattle.usb_enum.specs.Device.{LAST_TIER, is_device, is_hub_device, needs_pre}
 use Rattle.usb_enum.specs.LastRequests.{Leads}
-use Rattle.usb_enum.specs.Stop.{FaultAllowed, CauseAllowedIn, CauseAllowedOfDevice, fault_at_port}
+use Rattle.usb_enum.specs.Stops.{FaultAllowed, CauseAllowedIn, CauseAllowedOfDevice, fault_at_port}
 use Rattle.usb_enum.specs.Text.{any_has_value, choice_of, config_text_of}
 
 -- The last request to a device

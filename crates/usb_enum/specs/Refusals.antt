@@ -2,14 +2,12 @@
 use Rattle.std.specs.Prelude.{◌≡◌, ℕ, ◌==◌, ◌&&◌, Bool, false, if◌then◌else◌, List, [], take}
 use Rattle.std.specs.Prelude.{slice_index_or, Option, None, Some, Result, Ok, Err, is_ok, ⊤}
 use Rattle.std.specs.Option.{option_or}
-use Rattle.usb_request.specs.Codes.{DEVICE_HEAD_LENGTH, DEVICE_LENGTH}
-use Rattle.usb_descriptor.specs.Device.{device_head_of, configuration_count}
-use Rattle.usb_device.specs.Spec.{Spec}
-use Rattle.usb_device.specs.Transfer.{max_packet}
-use Rattle.usb_world.specs.World.{World}
-use Rattle.usb_transaction.specs.declared.target.Target.{Target}
-use Rattle.usb_hub.specs.Addresses.{IsClaimed}
-use Rattle.usb_hub.specs.CallFailures.{HasPort}
+use Rattle.usb_request.specs.{DEVICE_HEAD_LENGTH, DEVICE_LENGTH}
+use Rattle.usb_descriptor.specs.{device_head_of, configuration_count}
+use Rattle.usb_device.specs.{Spec, max_packet}
+use Rattle.usb_world.specs.{World}
+use Rattle.usb_transaction.specs.{Target}
+use Rattle.usb_hub.specs.{IsClaimed, HasPort}
 use Rattle.usb_enum.specs.declared.cause.Cause.{Cause}
 use Rattle.usb_enum.specs.declared.cause.Cause.TheVariants.{Silent, Busy, Stalled, BadDevice}
 use Rattle.usb_enum.specs.declared.cause.Cause.TheVariants.{TooDeep, NoPower, BadHub, NoAddress}

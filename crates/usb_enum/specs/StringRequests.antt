@@ -2,12 +2,12 @@
 -- first language that string 0 lists.
 use Rattle.std.specs.Prelude.{◌≡◌, ◌≢◌, ℕ, List, Option, None, Some, option_and_then, Ok, Err}
 use Rattle.std.specs.Global.{Vec}
-use Rattle.usb_request.specs.Requests.{get_string_descriptor}
-use Rattle.usb_world.specs.World.{World}
-use Rattle.usb_transaction.specs.declared.target.Target.{Target}
+use Rattle.usb_request.specs.{get_string_descriptor}
+use Rattle.usb_world.specs.{World}
+use Rattle.usb_transaction.specs.{Target}
 use Rattle.usb_pipe.specs.declared.fault.PipeFault.TheVariants.{Stalled}
-use Rattle.usb_pipe.specs.Stages.{Reads}
-use Rattle.usb_hub.specs.declared.port.HubPort.{HubPort}
+use Rattle.usb_pipe.specs.{Reads}
+use Rattle.usb_hub.specs.{HubPort}
 use Rattle.usb_enum.specs.declared.finding.Accepted.{Accepted}
 use Rattle.usb_enum.specs.declared.strings.StringIndexes.{StringIndexes}
 use Rattle.usb_enum.specs.declared.strings.Strings.{Strings}

@@ -2,9 +2,8 @@
 use Rattle.std.specs.Prelude.{◌≡◌, ⊤, position, nat_le, slice_get, ℕ, ◌*◌, List, [], ◌∷◌, map, Bool}
 use Rattle.std.specs.Prelude.{false, ◌||◌, ◌==◌, Option, Some, None, Result, Ok, Err, is_ok}
 use Rattle.std.specs.Prelude.{if◌then◌else◌}
-use Rattle.usb_descriptor.specs.declared.fault.DescriptorFault.{DescriptorFault}
-use Rattle.usb_descriptor.specs.Text.{string_of}
-use Rattle.usb_descriptor.specs.Config.{config_of, configuration_value, max_power_of}
+use Rattle.usb_descriptor.specs.{DescriptorFault, string_of, config_of, configuration_value}
+use Rattle.usb_descriptor.specs.{max_power_of}
 
 -- the bytes, where they are a configuration text
 abbrev pub config_text_of : List ℕ → Option (List ℕ)

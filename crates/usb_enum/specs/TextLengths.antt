@@ -1,24 +1,13 @@
 -- How few attempts an enumeration makes, by the lengths that the devices' configuration texts say.
 use Rattle.std.specs.Prelude.{◌≡◌, ◌⊎◌, ◌≤◌, ℕ, ◌+◌, ◌*◌, List, length, slice_get, true, false}
 use Rattle.std.specs.Prelude.{None, Some, Result, OnOk, IfSome, All, ⊤}
-use Rattle.usb_device.specs.Spec.{Spec}
-use Rattle.usb_device.specs.Rows.{State}
-use Rattle.usb_device.specs.SaidLengths.{said_lengths}
-use Rattle.usb_device.specs.Transfer.{max_packet}
-use Rattle.usb_device.specs.Tree.{Location, reach_on, state_on}
-use Rattle.usb_world.specs.declared.event.Action.{Action}
+use Rattle.usb_device.specs.{Spec, State, said_lengths, max_packet, Location, reach_on, state_on}
+use Rattle.usb_world.specs.{Action, Plug, Unplug, PlanData, IsPlan, AtPorts, AnyStep, Course}
+use Rattle.usb_world.specs.{opening, World}
 use Rattle.usb_world.specs.declared.event.Action.TheVariants.{Change, Ask}
-use Rattle.usb_world.specs.declared.event.Change.TheVariants.{Plug, Unplug}
-use Rattle.usb_world.specs.PlanData.{PlanData, IsPlan}
-use Rattle.usb_world.specs.PlanCourses.{AtPorts}
-use Rattle.usb_world.specs.Steps.{AnyStep, Course, opening}
-use Rattle.usb_world.specs.World.{World}
-use Rattle.usb_transaction.specs.declared.target.Target.{Target}
-use Rattle.usb_transaction.specs.Answerer.{HadOne}
-use Rattle.usb_transaction.specs.Leaves.{is_at}
-use Rattle.usb_address.specs.Claims.{AddressMap}
-use Rattle.usb_address.specs.Ownership.{Enumerating, WhileBusWorks}
-use Rattle.usb_hub.specs.declared.port.HubPort.{HubPort}
+use Rattle.usb_transaction.specs.{Target, HadOne, is_at}
+use Rattle.usb_address.specs.{AddressMap, Enumerating, WhileBusWorks}
+use Rattle.usb_hub.specs.{HubPort}
 use Rattle.usb_enum.specs.declared.stop.Stop.{Stop}
 use Rattle.usb_enum.specs.Addresses.{IsSpare}
 use Rattle.usb_enum.specs.Bounds.{text_bound, examined_by}

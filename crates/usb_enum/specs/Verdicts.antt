@@ -5,16 +5,12 @@ use Rattle.std.specs.Prelude.{List, [], map, take, slice_get, slice_index_or, Op
 use Rattle.std.specs.Prelude.{is_some, option_map, option_and_then, Result, Ok, Err, is_ok}
 use Rattle.std.specs.Prelude.{if◌then◌else◌}
 use Rattle.std.specs.Option.{option_or}
-use Rattle.usb_resources.specs.Power.{supply_of}
-use Rattle.usb_request.specs.Codes.{CONFIGURATION_LENGTH, DEVICE_HEAD_LENGTH, DEVICE_LENGTH}
-use Rattle.usb_request.specs.Codes.{HUB_LENGTH}
-use Rattle.usb_descriptor.specs.Device.{device_head_of, configuration_count}
-use Rattle.usb_descriptor.specs.Config.{config_head_of, config_of, configuration_value, total_in}
-use Rattle.usb_descriptor.specs.Choice.{status_endpoint_of}
-use Rattle.usb_descriptor.specs.Hub.{hub_spelled}
-use Rattle.usb_device.specs.Spec.{Spec, Hub}
-use Rattle.usb_device.specs.Rows.{State}
-use Rattle.usb_world.specs.PluggedDevices.{hub_ports}
+use Rattle.usb_resources.specs.{supply_of}
+use Rattle.usb_request.specs.{CONFIGURATION_LENGTH, DEVICE_HEAD_LENGTH, DEVICE_LENGTH, HUB_LENGTH}
+use Rattle.usb_descriptor.specs.{device_head_of, configuration_count, config_head_of, config_of}
+use Rattle.usb_descriptor.specs.{configuration_value, total_in, status_endpoint_of, hub_spelled}
+use Rattle.usb_device.specs.{Spec, Hub, State}
+use Rattle.usb_world.specs.{hub_ports}
 use Rattle.usb_enum.specs.declared.cause.Cause.{Cause}
 use Rattle.usb_enum.specs.declared.cause.Cause.TheVariants.{Silent, Busy, Stalled, BadDevice}
 use Rattle.usb_enum.specs.declared.cause.Cause.TheVariants.{TooDeep, BadConfiguration, NoPower}

@@ -9,7 +9,7 @@ ghost use Rattle.usb_enum.specs.Readings.{HasTotal, HasConfiguration, HasConfigu
 ghost use Rattle.usb_enum.specs.Reasons.{TextRead, TextsAsked};
 ghost use Rattle.usb_enum.specs.Text.{ValuesDiffer, choice_of};
 ghost use Rattle.usb_enum.specs.TextLengths.{IsAnswered, ReadsText, FewFor};
-ghost use Rattle.usb_enum.specs.Stop.{IsPlainStop};
+ghost use Rattle.usb_enum.specs.Stops.{IsPlainStop};
 
 use crate::stop::{Stop, answered_or};
 use crate::{Cause, ConfigText, ConfigTexts, Request};

@@ -9,7 +9,7 @@ ghost use Rattle.usb_enum.specs.Findings.{Enumerates, GivenUp, HandsOn, IsAccept
 ghost use Rattle.usb_enum.specs.Frames.{OnlySets, OnlyTells};
 ghost use Rattle.usb_enum.specs.Parts.{Part, KeepingSteps, StopsConfiguring, StopsExamining, StopsStart, StopsWithout};
 ghost use Rattle.usb_enum.specs.PresentDevices.{LearnsPorts};
-ghost use Rattle.usb_enum.specs.Stop.{FaultAllowedAt, FitsStop, IsHubStop, IsStopWithout};
+ghost use Rattle.usb_enum.specs.Stops.{FaultAllowedAt, FitsStop, IsHubStop, IsStopWithout};
 ghost use Rattle.usb_enum.specs.TextLengths.{FewFor, FewFrom};
 
 use crate::addressed::Addressed;

@@ -1,6 +1,6 @@
 //! Why there is no finding.
 ghost use Rattle.std.specs.Prelude.{◌≡◌};
-ghost use Rattle.usb_enum.specs.Stop.{fault_at_port};
+ghost use Rattle.usb_enum.specs.Stops.{fault_at_port};
 ghost use Rattle.usb_enum.specs.declared.fault.EnumFault.TheVariants.{Memory as NoMemory};
 
 use std::alloc::AllocError;

@@ -11,7 +11,7 @@ ghost use Rattle.usb_enum.specs.Readings.{Ruled, HasPorts, HasSupply, IsGoodHub}
 ghost use Rattle.usb_enum.specs.Device.{CanServe};
 ghost use Rattle.usb_enum.specs.Hub.{CountTold, SupplyTold, IsPowered, Powered, Started};
 ghost use Rattle.usb_enum.specs.Frames.{OnlyTells};
-ghost use Rattle.usb_enum.specs.Stop.{IsHubStop};
+ghost use Rattle.usb_enum.specs.Stops.{IsHubStop};
 
 use crate::stop::{Stop, answered_or};
 use crate::{Cause, ConfigText};

@@ -15,7 +15,7 @@ ghost use Rattle.usb_enum.specs.Parts.{Both, FailsAt, IsDone, Part, Read, StopsA
 ghost use Rattle.usb_enum.specs.PresentDevices.{Awaits, WasReset};
 ghost use Rattle.usb_enum.specs.Reasons.{DescriptorTold, PassTold};
 ghost use Rattle.usb_enum.specs.Refusals.{FindsHead, FindsDescriptor, no_fault, early_fault, addressed_fault};
-ghost use Rattle.usb_enum.specs.Stop.{IsPlainStop};
+ghost use Rattle.usb_enum.specs.Stops.{IsPlainStop};
 
 use crate::addressed::Addressed;
 use crate::stop::{Stop, answered_or, at_port};

@@ -1,6 +1,6 @@
 //! What ends an enumeration early.
 ghost use Rattle.std.specs.Prelude.{◌≡◌};
-ghost use Rattle.usb_enum.specs.Stop.{stop_of, answered_or, at_port};
+ghost use Rattle.usb_enum.specs.Stops.{stop_of, answered_or, at_port};
 ghost use Rattle.usb_enum.specs.declared.stop.Stop.TheVariants.{Fault as StopFault};
 ghost use Rattle.usb_enum.specs.declared.fault.EnumFault.TheVariants.{Memory as NoMemory};
 

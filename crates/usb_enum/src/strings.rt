@@ -8,7 +8,7 @@ ghost use Rattle.usb_enum.specs.Readings.{HasString, language_of, string_in, no_
 ghost use Rattle.usb_enum.specs.Refusals.{no_fault};
 ghost use Rattle.usb_enum.specs.StringRequests.{AsksString, AsksLanguage, ReadsString, ReadsStrings};
 ghost use Rattle.usb_enum.specs.Text.{first_language_of, string_units};
-ghost use Rattle.usb_enum.specs.Stop.{IsPlainStop};
+ghost use Rattle.usb_enum.specs.Stops.{IsPlainStop};
 
 use crate::StringUnits;
 use crate::stop::{Stop, stop_of};

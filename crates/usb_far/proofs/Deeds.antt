@@ -6,23 +6,15 @@ use Rattle.std.proofs.KnownBytes.{Appends-nil}
 use Rattle.std.proofs.lemmas.Bool.{false≢true}
 use Rattle.std.proofs.lemmas.List.{map-append, take_more}
 use Rattle.std.specs.Io.KnownBytes.{Appends}
-use Rattle.usb_port.specs.PortState.{PortState, off, status_of}
-use Rattle.usb_port.specs.declared.call.PortCall.{PortCall}
+use Rattle.usb_port.specs.{PortState, off, status_of, PortCall}
 use Rattle.usb_world.specs.declared.event.Ask.{Ask}
-use Rattle.usb_world.specs.declared.types.Attempt.{Attempt}
-use Rattle.usb_world.specs.declared.types.Outcome.{Outcome}
-use Rattle.usb_world.specs.World.{World, roots_of}
-use Rattle.usb_world.specs.Steps.{EventEnds, after, attempt, event, outcome_in, root_call}
-use Rattle.usb_bus.specs.Lines.{lines_between, next_due, step_lines}
-use Rattle.usb_bus.specs.Traces.{Attempts, TakesEvent}
-use Rattle.usb_wire.specs.declared.answer.Answer.{Answer}
-use Rattle.usb_wire.specs.declared.answer.Answer.TheVariants.{Done, Roots}
-use Rattle.usb_wire.specs.declared.question.Question.{Question}
+use Rattle.usb_world.specs.{Attempt, Outcome, World, roots_of, EventEnds, after, attempt, event}
+use Rattle.usb_world.specs.{outcome_in, root_call}
+use Rattle.usb_bus.specs.{lines_between, next_due, step_lines, Attempts, TakesEvent}
+use Rattle.usb_wire.specs.{Answer, Done, Roots, Question}
 use Rattle.usb_wire.specs.declared.question.Question.TheVariants.{Hello}
-use Rattle.usb_far.specs.declared.fault.FarFault.TheVariants.{LongSend}
-use Rattle.usb_far.specs.FarEnd.{Far, IsDone, Played, SendsTooMuch, attempt_done, call_done}
-use Rattle.usb_far.specs.FarEnd.{came_in, done, due_answer, hello_done, is_poll, outcome_answer}
-use Rattle.usb_far.specs.FarEnd.{wait_done}
+use Rattle.usb_far.specs.{LongSend, Far, IsDone, Played, SendsTooMuch, attempt_done, call_done}
+use Rattle.usb_far.specs.{came_in, done, due_answer, hello_done, is_poll, outcome_answer, wait_done}
 
 pub played_attempt : (a : Attempt) (old new : Played) (o : Outcome) (answer : Answer)
     (poll came : Bool) (before now : ℕ)

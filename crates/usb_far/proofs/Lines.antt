@@ -8,23 +8,16 @@ use Rattle.std.proofs.lemmas.Bool.{false≢true}
 use Rattle.std.proofs.lemmas.List.{take-append-le, take_all}
 use Rattle.std.proofs.lemmas.List.Elements.{All-append}
 use Rattle.std.specs.Io.KnownBytes.{Appends, Consumes}
-use Rattle.usb_bus.specs.Watch.{AppendsFront}
-use Rattle.usb_lines.specs.Lines.{EndsLine, IsNextLine, IsUnbroken}
-use Rattle.usb_lines.specs.Pipes.{Pipe}
-use Rattle.usb_lines.specs.declared.line.LineFault.{LineFault}
-use Rattle.usb_lines.specs.declared.line.LineFault.TheVariants.{Read, Cut}
-use Rattle.usb_wire.specs.Questions.{IsQuestion, IsQuestionLine}
-use Rattle.usb_wire.specs.declared.question.Question.{Question}
-use Rattle.usb_far.specs.declared.far_end.Phase.{Phase}
-use Rattle.usb_far.specs.declared.fault.FarFault.{FarFault}
+use Rattle.usb_bus.specs.{AppendsFront}
+use Rattle.usb_lines.specs.{EndsLine, IsNextLine, IsUnbroken, Pipe, LineFault, Read, Cut}
+use Rattle.usb_wire.specs.{IsQuestion, IsQuestionLine, Question}
+use Rattle.usb_far.specs.{Phase, FarFault, Far, HasNoReply, IsReplied, Played, Replies, done}
+use Rattle.usb_far.specs.{may_ask, reading_fault, AllReplied, HasNoQuestion, HasQuestion}
+use Rattle.usb_far.specs.{MayGoOn, OnlyReads, OnlyReadsLine, Passed, Passes, ReadsOn}
+use Rattle.usb_far.specs.{ReadsQuestion, Replied, Scene, ServedOne}
+use Rattle.usb_far.specs.{ServedSome, ServesNext, CauseOf, and_then, is_told, passed}
+use Rattle.usb_far.specs.{phase_behind}
 use Rattle.usb_far.specs.declared.fault.FarFault.TheVariants as fault
-use Rattle.usb_far.specs.FarEnd.{Far, HasNoReply, IsReplied, Played, Replies, done, may_ask}
-use Rattle.usb_far.specs.FarEnd.{reading_fault}
-use Rattle.usb_far.specs.Serving.{AllReplied, HasNoQuestion, HasQuestion, IsLastLine, MayGoOn}
-use Rattle.usb_far.specs.Serving.{OnlyReads, OnlyReadsLine, Passed, Passes, ReadsOn, ReadsQuestion}
-use Rattle.usb_far.specs.Serving.{Replied, Scene, ServedAll, ServedNone, ServedOne, ServedSome}
-use Rattle.usb_far.specs.Serving.{ServedUpTo, ServesNext, CauseOf, and_then, is_told, passed}
-use Rattle.usb_far.specs.Serving.{phase_behind}
 
 -- ---- bytes that were read
 
@@ -124,8 +117,7 @@ asked_line old new line reply q one read reads there replied gone writes = recor
     written = gone;
     traced = replied.traced;
     reads = reads;
-    writes =
-        writes;
+    writes = writes;
   };
 }
 
@@ -345,30 +337,6 @@ served_more a b c count more is so one = record {
   replies = subst (λ n. AllReplied a.played.far n (and_then so.passed one.passed) c.played.far)
       (sym is) (AllReplied.next so.replies one.replied);
   passes = passes_then a b c so.passed one.passed so.passes one.passes;
-}
-
-pub served_all : (a b c : Scene) (count : ℕ) → ServedSome a count b → ServedNone b c → ServedAll a c
-served_all a b c count so none = record {
-  count = count;
-  passed = so.passed;
-  replies = subst (AllReplied a.played.far count so.passed) (sym none.same) so.replies;
-  passes = rw (append-nil so.passed.asked, append-nil so.passed.said, append-nil so.passed.traced)
-      at
-      (passes_then a b c so.passed (passed [] [] []) so.passes none.passes);
-  ended = none.ended;
-}
-
-pub served_up_to : (a b c : Scene) (count number : ℕ) (f : FarFault) → ServedSome a count b
-    → number ≡ count + 1
-    → CauseOf b c f ⊎ IsLastLine b number f c → ServedUpTo a number f c
-served_up_to a b c count number f so is stops = record {
-  count = count;
-  passed = so.passed;
-  mid = b;
-  replies = so.replies;
-  passes = so.passes;
-  next = is;
-  stops = stops;
 }
 
 pub only_one : (p q : Question) → ◌≡◌ {A = Option Question} (Some q) (Some p) → p ≡ q

@@ -3,44 +3,24 @@ use Rattle.std.specs.Prelude.{◌≡◌, ◌⊎◌, ℕ, ◌+◌, ◌==◌, nat_
 use Rattle.std.specs.Prelude.{List, [], ◌∷◌, ◌++◌, length, map, Option, Some, None, Err}
 use Rattle.std.specs.Io.KnownBytes.{Appends}
 use Rattle.std.specs.Str.{bytes_eq}
-use Rattle.usb_packet.specs.declared.TokenKind.{TokenKind}
-use Rattle.usb_packet.specs.declared.TokenKind.TheVariants.{OutTok, InTok, SetupTok}
-use Rattle.usb_packet.specs.declared.Toggle.TheVariants.{Zero}
-use Rattle.usb_port.specs.declared.call.PortCall.{PortCall}
-use Rattle.usb_port.specs.PortState.{status_of}
-use Rattle.usb_request.specs.Layout.{bytes_of}
-use Rattle.usb_request.specs.declared.setup.Setup.{Setup as SetupData}
+use Rattle.usb_packet.specs.{TokenKind, OutTok, InTok, SetupTok, Zero}
+use Rattle.usb_port.specs.{PortCall, status_of}
+use Rattle.usb_request.specs.{bytes_of, Setup as SetupData}
 use Rattle.usb_world.specs.declared.event.Ask.{Ask}
 use Rattle.usb_world.specs.declared.event.Ask.TheVariants as ask
-use Rattle.usb_world.specs.declared.types.Attempt.{Attempt}
-use Rattle.usb_world.specs.declared.types.BusFault.{BusFault}
-use Rattle.usb_world.specs.declared.types.BusFault.TheVariants.{TraceFailed}
-use Rattle.usb_world.specs.declared.types.Outcome.{Outcome}
+use Rattle.usb_world.specs.{Attempt, BusFault, TraceFailed, Outcome, World, IsRootPort, root_row}
+use Rattle.usb_world.specs.{roots_of, after, attempt, event, outcome_in, root_call}
 use Rattle.usb_world.specs.declared.types.Outcome.TheVariants as outcome
-use Rattle.usb_world.specs.World.{World, IsRootPort, root_row, roots_of}
-use Rattle.usb_world.specs.Steps.{after, attempt, event, outcome_in, root_call}
-use Rattle.usb_sim.specs.declared.tracer.Trace.{Ghosts}
-use Rattle.usb_bus.specs.Lines.{lines_between, next_due, step_lines}
-use Rattle.usb_sim.specs.Sim.{trace_of, tracer_of, world_of}
-use Rattle.usb_bus.specs.Traces.{Attempts, TakesEvent}
-use Rattle.usb_lines.specs.Pipes.{Pipe}
-use Rattle.usb_lines.specs.declared.line.LineFault.{LineFault}
+use Rattle.usb_sim.specs.{Ghosts, trace_of, tracer_of, world_of}
+use Rattle.usb_bus.specs.{lines_between, next_due, step_lines, Attempts, TakesEvent}
+use Rattle.usb_lines.specs.{Pipe, LineFault}
 use Rattle.usb_lines.specs.declared.line.LineFault.TheVariants as line
-use Rattle.usb_wire.specs.Answers.{said_line, send_limit}
-use Rattle.usb_wire.specs.Questions.{kind_asked}
-use Rattle.usb_wire.specs.declared.answer.Answer.{Answer}
-use Rattle.usb_wire.specs.declared.answer.Answer.TheVariants.{Roots, Ack, Nak, Stall, Nothing, Data}
-use Rattle.usb_wire.specs.declared.answer.Answer.TheVariants.{Done, Show, End, Send, Receive, Clear}
-use Rattle.usb_wire.specs.declared.answer.Said.{Said}
-use Rattle.usb_wire.specs.declared.answer.Said.TheVariants.{Changed, Answered}
-use Rattle.usb_wire.specs.declared.question.Asked.{Asked}
+use Rattle.usb_wire.specs.{said_line, send_limit, kind_asked, Answer, Roots, Ack, Nak, Stall}
+use Rattle.usb_wire.specs.{Nothing, Data, Done, Show, End, Send, Receive, Clear, Said, Changed}
+use Rattle.usb_wire.specs.{Answered, Asked, DataPacket, Endpoint, Question, Speed, Full, Low}
+use Rattle.usb_wire.specs.{LowBelowHub}
 use Rattle.usb_wire.specs.declared.question.Asked.TheVariants as asked
-use Rattle.usb_wire.specs.declared.question.DataPacket.{DataPacket}
-use Rattle.usb_wire.specs.declared.question.Endpoint.{Endpoint}
-use Rattle.usb_wire.specs.declared.question.Question.{Question}
 use Rattle.usb_wire.specs.declared.question.Question.TheVariants.{Hello, Setup, Out, In, Port, Wait}
-use Rattle.usb_wire.specs.declared.question.Speed.{Speed}
-use Rattle.usb_wire.specs.declared.question.Speed.TheVariants.{Full, Low, LowBelowHub}
 use Rattle.usb_far.specs.declared.far_end.FarEnd.{FarEnd}
 use Rattle.usb_far.specs.declared.far_end.Phase.{Phase}
 use Rattle.usb_far.specs.declared.far_end.Phase.TheVariants.{New, Asks, Tells}

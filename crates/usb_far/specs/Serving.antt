@@ -5,13 +5,10 @@ use Rattle.std.specs.Prelude.{Option, Result, Ok, Err}
 use Rattle.std.specs.List.{starts_with}
 use Rattle.std.specs.Str.{bytes_eq}
 use Rattle.std.specs.Io.KnownBytes.{Appends, Consumes, IsAtEnd}
-use Rattle.usb_sim.specs.declared.tracer.Trace.{Ghosts}
-use Rattle.usb_bus.specs.declared.watched.Watched.{Watched}
-use Rattle.usb_lines.specs.Lines.{IsUnbroken}
-use Rattle.usb_lines.specs.Pipes.{Pipe, pipe_of}
-use Rattle.usb_wire.specs.Questions.{IsQuestion, IsQuestionLine}
-use Rattle.usb_wire.specs.Words.{all_printable}
-use Rattle.usb_wire.specs.declared.question.Question.{Question}
+use Rattle.usb_sim.specs.{Ghosts}
+use Rattle.usb_bus.specs.{Watched}
+use Rattle.usb_lines.specs.{IsUnbroken, Pipe, pipe_of}
+use Rattle.usb_wire.specs.{IsQuestion, IsQuestionLine, all_printable, Question}
 use Rattle.usb_far.specs.declared.far_end.FarEnd.{FarEnd}
 use Rattle.usb_far.specs.declared.far_end.Phase.{Phase}
 use Rattle.usb_far.specs.declared.far_end.Phase.TheVariants.{New, Asks, Tells}

@@ -1,7 +1,7 @@
 //! Attempts, as the host asks for them and as it is answered.
 ghost use Rattle.std.specs.Prelude.{◌≡◌, ◌≤◌};
 ghost use Rattle.usb_wire.specs.Questions.{IsEndpoint};
-ghost use Rattle.usb_world.specs.World.{IsAttempt};
+ghost use Rattle.usb_world.specs.Worlds.{IsAttempt};
 ghost use Rattle.usb_far.specs.FarEnd.{attempt_of_in, speed_is_low, is_poll, is_pre, attempt_of_out, outcome_answer, attempt_of_setup};
 
 use arrayvec::ArrayVec;

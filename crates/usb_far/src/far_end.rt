@@ -1,7 +1,7 @@
 //! What the far end does at each question.
 ghost use Rattle.std.specs.Prelude.{◌≡◌, ◌⊎◌, ◌∷◌, [], false, true, IfErr, IfOk};
 ghost use Rattle.usb_world.specs.Steps.{after, opening, root_call};
-ghost use Rattle.usb_world.specs.World.{IsAttempt, IsRootPort};
+ghost use Rattle.usb_world.specs.Worlds.{IsAttempt, IsRootPort};
 ghost use Rattle.usb_bus.specs.Watch.{has_failed};
 ghost use Rattle.usb_sim.specs.Sim.{trace_of, world_of};
 ghost use Rattle.usb_lines.specs.Pipes.{pipe_of};

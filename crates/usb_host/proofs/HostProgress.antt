@@ -4,19 +4,14 @@ use Rattle.std.proofs.Common.{◌+◌, ◌≤◌, ◌⊎◌, List, Some, Ok, Err
 use Rattle.std.specs.BTreeMap.{insert_entry, is_at}
 use Rattle.std.specs.Prelude.{OnOk}
 use Rattle.std.specs.Map.{lookup}
-use Rattle.usb_port.specs.Order.{path_cmp}
-use Rattle.usb_resources.specs.Pool.{IsFull}
+use Rattle.usb_port.specs.{path_cmp}
+use Rattle.usb_resources.specs.{IsFull}
 use Rattle.usb_enum.specs.declared.cause.Cause.TheVariants as cause
-use Rattle.usb_enum.specs.declared.fault.EnumFault.{EnumFault}
-use Rattle.usb_enum.specs.declared.fault.EnumFault.TheVariants.{ParentLost, Bus, Memory}
-use Rattle.usb_enum.specs.declared.finding.Finding.{Finding}
+use Rattle.usb_enum.specs.{EnumFault, ParentLost, Bus, Memory, Finding}
 use Rattle.usb_enum.specs.declared.finding.Finding.TheVariants.{Device, Refused}
-use Rattle.usb_table.specs.Entries.{Entries, Replaced, without}
-use Rattle.usb_table.specs.Findings.{is_waiting}
-use Rattle.usb_host.specs.HostState.{HostState, work}
-use Rattle.usb_host.specs.declared.fault.HostFault.{HostFault}
-use Rattle.usb_host.specs.Ports.{Waits, Gained, ProgressOrLost, EndsAs, EntersOne}
-use Rattle.usb_host.specs.Progress.{HostRuns, OnlyBusSteps, AddsNoWork, HostProgress, waiting}
+use Rattle.usb_table.specs.{Entries, Replaced, without, is_waiting}
+use Rattle.usb_host.specs.{HostState, work, HostFault, Waits, Gained, ProgressOrLost, EndsAs}
+use Rattle.usb_host.specs.{EntersOne, HostRuns, OnlyBusSteps, AddsNoWork, HostProgress, waiting}
 use Rattle.usb_host.proofs.StepSums.{advances_then}
 use Rattle.usb_host.proofs.entries.WaitingDevices.{waiting-without, waiting-without_one}
 use Rattle.usb_host.proofs.entries.WaitingDevices.{waiting-entered, waiting-entered_other}
@@ -146,7 +141,6 @@ pub renews : (path : List ℕ) (a b c d : HostState) → OnlyBusSteps a b
     → Replaced path (without path a.entries) d.entries
 renews path a b c d r rest one = inr (
   one.finding,
-  one.entries
-      ∙ ap (λ (es : Entries). insert_entry path_cmp es path one.finding)
+  one.entries ∙ ap (λ (es : Entries). insert_entry path_cmp es path one.finding)
       (without_rests path a b c r rest),
 )

@@ -3,25 +3,14 @@ use Rattle.std.proofs.Common.{◌≡◌, ◌+◌, ◌≤◌, arith, refl, sym, s
 use Rattle.std.proofs.Common.{Result, Ok, Err}
 use Rattle.std.specs.Prelude.{IsErr, IsSome, ◌≢◌}
 use Rattle.arrayvec.specs.ArrayVec.{ArrayVec}
-use Rattle.usb_pipe.specs.declared.fault.PipeFault.{PipeFault}
-use Rattle.usb_hub.specs.CallFailures.{NoHubFailed}
-use Rattle.usb_table.specs.Entries.{Entries}
-use Rattle.usb_table.specs.Levels.{KeepsPolled}
-use Rattle.usb_table.specs.Listing.{finding_at, hub_facts_at}
-use Rattle.usb_table.specs.Table.{GoesThrough, pipes_at}
-use Rattle.usb_table.specs.Transfers.{PipesPolled}
-use Rattle.usb_host.specs.Agreement.{Agrees}
-use Rattle.usb_host.specs.Bounds.{drop_bound, hub_poll_bound, told_bound}
-use Rattle.usb_host.specs.Budget.{HubPaid, poll_most}
-use Rattle.usb_host.specs.HostState.{HostState}
-use Rattle.usb_host.specs.Ownership.{StaysOwned}
-use Rattle.usb_host.specs.Progress.{HostRuns, HostSteps}
-use Rattle.usb_host.specs.Service.{DropsOne, ServesHub, ServesTold, first_byte}
-use Rattle.usb_host.specs.Soundness.{HostInvariant}
-use Rattle.usb_host.specs.Transfers.{table_in}
-use Rattle.usb_host.specs.declared.fault.HostFault.{HostFault}
-use Rattle.usb_host.specs.declared.host.Round.{Round}
-use Rattle.usb_host.specs.declared.host.Round.TheVariants.{Quiet, Worked}
+use Rattle.usb_pipe.specs.{PipeFault}
+use Rattle.usb_hub.specs.{NoHubFailed}
+use Rattle.usb_table.specs.{Entries, KeepsPolled, finding_at, hub_facts_at, GoesThrough, pipes_at}
+use Rattle.usb_table.specs.{PipesPolled}
+use Rattle.usb_host.specs.{Agrees, drop_bound, hub_poll_bound, told_bound, HubPaid, poll_most}
+use Rattle.usb_host.specs.{HostState, StaysOwned, HostRuns, HostSteps, DropsOne, ServesHub}
+use Rattle.usb_host.specs.{ServesTold, first_byte, HostInvariant, table_in, HostFault, Round, Quiet}
+use Rattle.usb_host.specs.{Worked}
 use Rattle.usb_host.proofs.OwnedPorts.{dropped_hub_owned}
 use Rattle.usb_host.proofs.payments.HubPayments.{drop_paid_fails, drop_pays, poll_fails, poll_none}
 use Rattle.usb_host.proofs.payments.HubPayments.{tells_shows, told_fails, told_pays}
@@ -117,8 +106,7 @@ module _ (hub : List ℕ) (a b : HostState) (agrees : Agrees a.entries a.address
       }
 
   -- it did not answer
-  module _ (why : PipeFault)
-      (asks : PipesPolled (pipes_at hub (table_in a)) a.world (Err why)
+  module _ (why : PipeFault) (asks : PipesPolled (pipes_at hub (table_in a)) a.world (Err why)
       (pipes_at hub (table_in b)) b.world)
       (keeps : KeepsPolled hub (table_in a) a.world (Err why) (table_in b) b.world)
       (d : HostState) where

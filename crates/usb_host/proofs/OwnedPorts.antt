@@ -3,39 +3,26 @@ use Rattle.std.proofs.Common.{◌≡◌, ◌∙◌, refl, sym, ap, subst, true, 
 use Rattle.std.proofs.Common.{None, Some, Result, Ok, Err}
 use Rattle.std.specs.Prelude.{IsErr, IsSome, OnOk, MatchResult}
 use Rattle.std.specs.BTreeMap.{insert_entry}
-use Rattle.usb_port.specs.Order.{path_cmp, parent_of, port_on_hub}
-use Rattle.usb_request.specs.Features.{PORT_ENABLE}
-use Rattle.usb_port.specs.Path.{IsPath}
-use Rattle.usb_tree.specs.Paths.{is_way}
-use Rattle.usb_world.specs.World.{World, roots_of}
-use Rattle.usb_world.specs.Addresses.{after_taking}
+use Rattle.usb_port.specs.{path_cmp, parent_of, port_on_hub, IsPath}
+use Rattle.usb_request.specs.{PORT_ENABLE}
+use Rattle.usb_tree.specs.{is_way}
+use Rattle.usb_world.specs.{World, roots_of, after_taking}
 use Rattle.usb_world.proofs.Interface.{way_itself, way_parent}
-use Rattle.usb_resources.specs.Pool.{Addresses}
-use Rattle.usb_address.specs.Claims.{AddressMap, map_without}
-use Rattle.usb_address.specs.Ownership.{MapHolds, MapHoldsExcept, WhileBusWorks, KeepsAddresses}
+use Rattle.usb_resources.specs.{Addresses}
+use Rattle.usb_address.specs.{AddressMap, map_without, MapHolds, MapHoldsExcept, WhileBusWorks}
+use Rattle.usb_address.specs.{KeepsAddresses}
 use Rattle.usb_address.proofs.Interface.{keeps_none}
-use Rattle.usb_pipe.specs.declared.fault.PipeFault.{PipeFault}
-use Rattle.usb_hub.specs.Addresses.{Isolates, KeepsCleared}
-use Rattle.usb_hub.specs.Port.{PortCleared}
-use Rattle.usb_hub.specs.declared.port.HubPort.{HubPort}
-use Rattle.usb_enum.specs.Addresses.{EndsOwned, KeepsEnumerated}
-use Rattle.usb_enum.specs.declared.cause.Cause.TheVariants.{Lost}
-use Rattle.usb_enum.specs.declared.fault.EnumFault.{EnumFault}
-use Rattle.usb_enum.specs.declared.fault.EnumFault.TheVariants.{ParentLost, Bus, Memory}
-use Rattle.usb_enum.specs.declared.finding.Finding.{Finding}
+use Rattle.usb_pipe.specs.{PipeFault}
+use Rattle.usb_hub.specs.{Isolates, KeepsCleared, PortCleared, HubPort}
+use Rattle.usb_enum.specs.{EndsOwned, KeepsEnumerated, Lost, EnumFault, ParentLost, Bus, Memory}
+use Rattle.usb_enum.specs.{Finding}
 use Rattle.usb_enum.specs.declared.finding.Finding.TheVariants.{Device, Refused}
-use Rattle.usb_table.specs.declared.known.KnownPort.{KnownPort}
-use Rattle.usb_table.specs.Entries.{Entries, has_at, without}
-use Rattle.usb_table.specs.KnownPorts.{root_port, port_below}
-use Rattle.usb_table.specs.Listing.{finding_at}
+use Rattle.usb_table.specs.{KnownPort, Entries, has_at, without, root_port, port_below, finding_at}
 use Rattle.usb_host.specs.Accounts.{Accounts}
-use Rattle.usb_host.specs.HostState.{HostState}
-use Rattle.usb_host.specs.Ownership.{claims, IsOwned, IsOwnedBut, IsIsolated, IsRooted, root_of}
-use Rattle.usb_host.specs.Ownership.{StaysOwned, KeepsOwned, PortOwned, KeepsPort, LeavesOwned}
-use Rattle.usb_host.specs.Ownership.{FinishesPort, HasLost, DropsHub, BaresAbove, KeepsDisabled}
-use Rattle.usb_host.specs.Ports.{StandsAt, StandsNowhere}
-use Rattle.usb_host.specs.Progress.{OnlyBusSteps}
-use Rattle.usb_host.specs.declared.fault.HostFault.{HostFault}
+use Rattle.usb_host.specs.{HostState, claims, IsOwned, IsOwnedBut, IsIsolated, IsRooted, root_of}
+use Rattle.usb_host.specs.{StaysOwned, KeepsOwned, PortOwned, KeepsPort, LeavesOwned, FinishesPort}
+use Rattle.usb_host.specs.{HasLost, DropsHub, BaresAbove, KeepsDisabled, StandsAt, StandsNowhere}
+use Rattle.usb_host.specs.{OnlyBusSteps, HostFault}
 use Rattle.usb_host.proofs.entries.EntryClaims.{claims_free, claims_taken, claims-device}
 use Rattle.usb_host.proofs.devices.Owners.{till_as, but_all, but_kept, but_above, bare_port}
 use Rattle.usb_host.proofs.devices.Owners.{bare_none, forgotten, refused}
@@ -89,16 +76,14 @@ pub port_then : (path : List ℕ) (a b : HostState) (result : Result (Unit {0}) 
     (c : HostState) → StaysOwned a b → KeepsPort path b result c → KeepsPort path a result c
 port_then path a b result c s k = record {
   ends = λ o. k.ends (s.stays o);
-  rooted =
-      λ r. k.rooted (s.rooted r);
+  rooted = λ r. k.rooted (s.rooted r);
 }
 
 pub stays_rests : (a b : HostState) → OnlyBusSteps a b → roots_of b.world ≡ roots_of a.world
     → KeepsAddresses a.world b.world → StaysOwned a b
 stays_rests a b r roots k = record {
   stays = owned_rests a b r k;
-  rooted =
-      rooted_kept a b (ap (λ (h : HostState). h.entries) r) roots;
+  rooted = rooted_kept a b (ap (λ (h : HostState). h.entries) r) roots;
 }
 
 -- A port is cleared, and what was there is forgotten
@@ -226,8 +211,7 @@ none_disabled path h s = record {
   done = λ e. absurd (cc e);
   none = λ e root. record {
     on = way_itself path;
-    bares =
-        bare_none path (claims h.entries) h.world (nowhere_reached path h s root);
+    bares = bare_none path (claims h.entries) h.world (nowhere_reached path h s root);
   };
 }
 
@@ -283,8 +267,7 @@ pub not_disabled : (path : List ℕ) (a b : HostState) (fault : HostFault)
 not_disabled path a b fault k = record {
   keeps = k;
   done = λ e. absurd (cc e);
-  none =
-      λ e root. absurd (cc e);
+  none = λ e root. absurd (cc e);
 }
 
 -- what was disabled stands above where the way up began
@@ -320,8 +303,7 @@ drop_ends hub lost a b c d path r roots x others rest away same is = record {
   lost = record {
     path = lost;
     above = x.on;
-    entries = is
-        ∙ ap (λ (es : Entries). insert_entry path_cmp es lost (Refused Lost)) (rest
+    entries = is ∙ ap (λ (es : Entries). insert_entry path_cmp es lost (Refused Lost)) (rest
         ∙ ap (λ (h : HostState). without lost h.entries) r);
   };
   ends = ends;

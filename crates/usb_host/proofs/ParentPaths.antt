@@ -1,7 +1,7 @@
 -- The way up from a port.
 use Rattle.std.proofs.Common.{◌≡◌, ◌∙◌, ap, arith, length-append, ℕ, ◌+◌, ◌≤◌, List, [], ◌∷◌}
 use Rattle.std.proofs.Common.{length, Some}
-use Rattle.usb_port.specs.Order.{parent_of, port_on_hub}
+use Rattle.usb_port.specs.{parent_of, port_on_hub}
 use Rattle.usb_port.proofs.Interface.{rejoined}
 
 long : (path hub : List ℕ) → parent_of path ≡ Some hub → 2 ≤ length path

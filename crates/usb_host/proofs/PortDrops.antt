@@ -3,33 +3,23 @@ use Rattle.std.proofs.Common.{◌≡◌, ◌∙◌, ◌-◌, ◌*◌, ◌≤◌,
 use Rattle.std.proofs.Common.{List, length, Option, None, Some, Result, Ok, Err}
 use Rattle.std.specs.Prelude.{IsErr, IsSome, IsSomeAnd}
 use Rattle.std.specs.BTreeMap.{insert_entry}
-use Rattle.usb_port.specs.Order.{parent_of, path_cmp}
-use Rattle.usb_port.specs.Path.{IsPath}
-use Rattle.usb_tree.specs.Paths.{is_way, pending}
-use Rattle.usb_world.specs.World.{World}
-use Rattle.usb_address.specs.Ownership.{KeepsAddresses}
+use Rattle.usb_port.specs.{parent_of, path_cmp, IsPath}
+use Rattle.usb_tree.specs.{is_way, pending}
+use Rattle.usb_world.specs.{World}
+use Rattle.usb_address.specs.{KeepsAddresses}
 use Rattle.usb_address.proofs.Interface.{keeps_none, keeps_then}
-use Rattle.usb_pipe.specs.Control.{write_bound}
-use Rattle.usb_hub.specs.Addresses.{KeepsDevices}
+use Rattle.usb_pipe.specs.{write_bound}
+use Rattle.usb_hub.specs.{KeepsDevices}
 use Rattle.usb_hub.proofs.Interface.{keeps_devices_none}
-use Rattle.usb_backlog.specs.Marks.{KeepsAll}
+use Rattle.usb_backlog.specs.{KeepsAll}
 use Rattle.usb_backlog.proofs.Interface.{all_none, all_then}
-use Rattle.usb_enum.specs.declared.cause.Cause.TheVariants.{Lost}
-use Rattle.usb_enum.specs.declared.fault.EnumFault.TheVariants.{ParentLost}
+use Rattle.usb_enum.specs.{Lost, ParentLost}
 use Rattle.usb_enum.specs.declared.finding.Finding.TheVariants.{Refused}
 use Rattle.usb_enum.proofs.Interface.{devices_then, went_sound}
-use Rattle.usb_table.specs.Entries.{without}
-use Rattle.usb_table.specs.Listing.{hub_facts_at}
-use Rattle.usb_table.specs.Table.{Table, entered}
-use Rattle.usb_host.specs.Bounds.{drop_bound}
-use Rattle.usb_host.specs.HostState.{HostState}
-use Rattle.usb_host.specs.PortHandling.{Climbs, DisablesOnWay}
-use Rattle.usb_host.specs.Ports.{Forgets}
-use Rattle.usb_host.specs.Progress.{AddsNoWork, HostRuns, OnlyBusSteps, waiting}
-use Rattle.usb_host.specs.Service.{DropsOne, FinishesAt}
-use Rattle.usb_host.specs.Soundness.{CausesBut, DropsSound, IsDroppable, IsFairTo}
-use Rattle.usb_host.specs.Transfers.{table_in}
-use Rattle.usb_host.specs.declared.fault.HostFault.{HostFault}
+use Rattle.usb_table.specs.{without, hub_facts_at, Table, entered}
+use Rattle.usb_host.specs.{drop_bound, HostState, Climbs, DisablesOnWay, Forgets, AddsNoWork}
+use Rattle.usb_host.specs.{HostRuns, OnlyBusSteps, waiting, DropsOne, FinishesAt, CausesBut}
+use Rattle.usb_host.specs.{DropsSound, IsDroppable, IsFairTo, table_in, HostFault}
 use Rattle.usb_host.proofs.devices.BulkPipes.{bulk_none}
 use Rattle.usb_host.proofs.devices.Causes.{lost_drops}
 use Rattle.usb_host.proofs.ParentPaths.{parent_length}
@@ -136,8 +126,7 @@ module _ (first path : List ℕ) (a b c : HostState) (x : ClimbedTo first path a
         devices = climb_devices;
         sound = λ d. absurd (top_absurd path b result c root y is (x.sound d));
         backlog = climb_backlog;
-        caused = λ d fair pends caused.
-            absurd (top_absurd path b result c root y is (x.sound d));
+        caused = λ d fair pends caused. absurd (top_absurd path b result c root y is (x.sound d));
       }
 
 -- A hub is dropped

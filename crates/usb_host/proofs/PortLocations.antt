@@ -6,31 +6,21 @@ use Rattle.std.specs.Prelude.{nat_lt, IsSome, IfErr}
 use Rattle.std.proofs.lemmas.Bool.{lt-ltb}
 use Rattle.std.specs.Map.{lookup}
 use Rattle.std.specs.BTreeMap.{is_at}
-use Rattle.usb_port.specs.Order.{path_cmp, parent_of, port_on_hub}
-use Rattle.usb_port.specs.Path.{IsPath}
+use Rattle.usb_port.specs.{path_cmp, parent_of, port_on_hub, IsPath}
 use Rattle.usb_port.proofs.Interface.{is_path, rejoined}
-use Rattle.usb_device.specs.Tree.{Ports, ended, vacant, taken, row_of, reach, reach_at}
-use Rattle.usb_tree.specs.Paths.{is_way}
-use Rattle.usb_world.specs.World.{World}
+use Rattle.usb_device.specs.{Ports, ended, vacant, taken, row_of, reach, reach_at}
+use Rattle.usb_tree.specs.{is_way}
+use Rattle.usb_world.specs.{World}
 use Rattle.usb_world.proofs.Interface.{way_rest}
-use Rattle.usb_address.specs.Claims.{AddressMap}
-use Rattle.usb_hub.specs.Addresses.{IsAt}
+use Rattle.usb_address.specs.{AddressMap}
+use Rattle.usb_hub.specs.{IsAt}
 use Rattle.usb_hub.proofs.Interface.{asked_port, is_asked_stays}
-use Rattle.usb_enum.specs.declared.fault.EnumFault.{EnumFault}
-use Rattle.usb_enum.specs.declared.fault.EnumFault.TheVariants.{ParentLost, Bus, Memory}
-use Rattle.usb_enum.specs.declared.finding.Finding.{Finding}
-use Rattle.usb_enum.specs.Stop.{FaultAllowedAt}
-use Rattle.usb_table.specs.declared.known.KnownPort.{KnownPort}
-use Rattle.usb_table.specs.Entries.{Entries}
-use Rattle.usb_table.specs.Keys.{address_in}
-use Rattle.usb_table.specs.KnownPorts.{known_port, root_port, port_below, port_found, is_below_hub}
-use Rattle.usb_table.specs.KnownPorts.{IsAskable}
+use Rattle.usb_enum.specs.{EnumFault, ParentLost, Bus, Memory, Finding, FaultAllowedAt}
+use Rattle.usb_table.specs.{KnownPort, Entries, address_in, known_port, root_port, port_below}
+use Rattle.usb_table.specs.{port_found, is_below_hub, IsAskable}
 use Rattle.usb_table.proofs.Interface.{FoundPort, port_found-some}
-use Rattle.usb_host.specs.Agreement.{Agrees}
-use Rattle.usb_host.specs.HostState.{HostState}
-use Rattle.usb_host.specs.Ownership.{claims}
-use Rattle.usb_host.specs.Ports.{IsPortAt, StandsAt, StandsNowhere, Broke}
-use Rattle.usb_host.specs.Progress.{HostSteps, OnlyBusSteps}
+use Rattle.usb_host.specs.{Agrees, HostState, claims, IsPortAt, StandsAt, StandsNowhere, Broke}
+use Rattle.usb_host.specs.{HostSteps, OnlyBusSteps}
 
 pub root_alone : (path : List ℕ) → 1 ≤ length path → parent_of path ≡ None
     → path ≡ port_on_hub path ∷ []
@@ -58,8 +48,7 @@ at_found f hub path n is joined port askable found below_hub held e =
       is_path = is;
       number = asked.number;
       path = joined;
-      held = held
-          ∙ ap address_in x.stands;
+      held = held ∙ ap address_in x.stands;
     })
 
 at_known : (path : List ℕ) (es : Entries) (port : KnownPort) → IsPath path → IsAskable port.port

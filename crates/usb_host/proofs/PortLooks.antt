@@ -2,38 +2,23 @@
 use Rattle.std.proofs.Common.{◌≡◌, ◌∙◌, ◌⊎◌, ◌+◌, ◌≤◌, arith, inl, inr, sym, ap, subst, true, false}
 use Rattle.std.proofs.Common.{Bool, ℕ, List, None, Result, Ok, Err}
 use Rattle.std.specs.Prelude.{OnOk}
-use Rattle.usb_port.specs.declared.status.PortStatus.{PortStatus}
+use Rattle.usb_port.specs.{PortStatus}
 use Rattle.usb_tree.proofs.Interface.{decided}
-use Rattle.usb_hub.specs.Addresses.{Isolates}
-use Rattle.usb_hub.specs.Port.{IsAsked}
-use Rattle.usb_resources.specs.Pool.{IsFull}
-use Rattle.usb_enum.specs.Bounds.{enumeration_bound, widest_enumeration}
-use Rattle.usb_enum.specs.Findings.{Enumerates}
-use Rattle.usb_enum.specs.Stop.{FaultAllowedAt}
-use Rattle.usb_enum.specs.declared.fault.EnumFault.{EnumFault}
-use Rattle.usb_enum.specs.declared.fault.EnumFault.TheVariants.{Memory}
-use Rattle.usb_enum.specs.declared.finding.Finding.{Finding}
+use Rattle.usb_hub.specs.{Isolates, IsAsked}
+use Rattle.usb_resources.specs.{IsFull}
+use Rattle.usb_enum.specs.{enumeration_bound, widest_enumeration, Enumerates, FaultAllowedAt}
+use Rattle.usb_enum.specs.{EnumFault, Memory, Finding}
 use Rattle.usb_enum.proofs.Interface.{went_sound}
-use Rattle.usb_table.specs.declared.known.KnownPort.{KnownPort}
-use Rattle.usb_table.specs.Entries.{Replaced, has_at, without}
-use Rattle.usb_table.specs.KnownPorts.{known_port}
-use Rattle.usb_table.specs.Listing.{tier_of}
-use Rattle.usb_table.specs.Table.{Table, entered}
+use Rattle.usb_table.specs.{KnownPort, Replaced, has_at, without, known_port, tier_of, Table}
+use Rattle.usb_table.specs.{entered}
 use Rattle.usb_table.proofs.Interface.{known_port-without}
 use Rattle.usb_host.specs.Accounts.{Accounts}
-use Rattle.usb_host.specs.Backlog.{PaysAtLook, hubs}
-use Rattle.usb_host.specs.Bounds.{clearing_bound, look_bound}
-use Rattle.usb_host.specs.HostState.{HostState}
-use Rattle.usb_host.specs.Ownership.{IsOwned, KeepsPort, StaysOwned, claims}
-use Rattle.usb_host.specs.PortHandling.{IsOpen, ServesSound}
-use Rattle.usb_host.specs.Plugs.{KeepsPlugs}
-use Rattle.usb_host.specs.Ports.{Entered, Forgets, Gained, IsPortAt, Requested, ProgressOrLost}
-use Rattle.usb_host.specs.Ports.{StandsAt, Waits}
-use Rattle.usb_host.specs.Progress.{HostRuns, HostSteps, OnlyBusSteps, waiting}
-use Rattle.usb_host.specs.Requests.{ClearsError, ClearsPort}
-use Rattle.usb_host.specs.Service.{Discovers, LookedOrLost, LooksAfterError, LooksAt, RenewsPort}
-use Rattle.usb_host.specs.Soundness.{HostInvariant}
-use Rattle.usb_host.specs.Transfers.{table_in}
+use Rattle.usb_host.specs.{PaysAtLook, hubs, clearing_bound, look_bound, HostState, IsOwned}
+use Rattle.usb_host.specs.{KeepsPort, StaysOwned, claims, IsOpen, ServesSound, KeepsPlugs, Entered}
+use Rattle.usb_host.specs.{Forgets, Gained, IsPortAt, Requested, ProgressOrLost, StandsAt, Waits}
+use Rattle.usb_host.specs.{HostRuns, HostSteps, OnlyBusSteps, waiting, ClearsError, ClearsPort}
+use Rattle.usb_host.specs.{Discovers, LookedOrLost, LooksAfterError, LooksAt, RenewsPort}
+use Rattle.usb_host.specs.{HostInvariant, table_in}
 use Rattle.usb_host.proofs.devices.BulkPipes.{bulk_stays, bulk_then}
 use Rattle.usb_host.proofs.devices.Causes.{cleared_caused, entered_finds, forgot_caused}
 use Rattle.usb_host.proofs.devices.Causes.{fault_none_back, unentered_finds, unfound_finds}
@@ -152,10 +137,7 @@ module _ (path : List ℕ) (port : KnownPort) (on : Bool) (b d : HostState)
         renew_cases (λ q h. Requested port.port k a q h)
         (λ on. requested-then {A = Unit {0}} port.port k n widest_enumeration a x.mid d tt result
         (record { goes = forgot_goes; told = tt }) (x.found on).requested le)
-        (λ off. record {
-          goes = goes_wider n k a x.mid forgot_goes (omega (arith, le));
-          told = tt;
-        })
+        (λ off. record { goes = goes_wider n k a x.mid forgot_goes (omega (arith, le)); told = tt })
 
     renew_on : {Due : Type 0} → (Due → Gained a.world b.world) → Due ⊎ Waits path a
         → ProgressOrLost result a d
@@ -232,8 +214,7 @@ module _ (path : List ℕ) (port : KnownPort) (a b c : HostState) (s : StandsAt 
   -- no device is connected
   bare_sound : status.connected ≡ false → ServesSound path a (Ok tt) c
   bare_sound off = record {
-    sound = λ i.
-        forgot_sound clearing_bound path port a b c status s r look_went x.keeps f i off;
+    sound = λ i. forgot_sound clearing_bound path port a b c status s r look_went x.keeps f i off;
     bulk = λ i on still.
         bulk_stays a c
         (forgot_stay clearing_bound path port a b c status s r look_went x.keeps f i);
@@ -262,8 +243,7 @@ module _ (path : List ℕ) (port : KnownPort) (a b c : HostState) (s : StandsAt 
   -- one is
   module _ (on : status.connected ≡ true) where
     look_opens : HostInvariant a → IsOpen path c
-    look_opens i =
-        forgot_open clearing_bound path port a b c status s r look_went x.keeps f i on
+    look_opens i = forgot_open clearing_bound path port a b c status s r look_went x.keeps f i on
 
     found_plugs : (result : Result (Unit {0}) EnumFault) (d : HostState)
         → HostSteps widest_enumeration c d → Entered path c result d → HostInvariant a
@@ -338,8 +318,7 @@ pub look_done : (path : List ℕ) (port : KnownPort) (a b d : HostState)
 look_done path port a b d result status s r x y = record {
   requested = renew_requested path port status.connected b d result y clearing_bound a r
       x.requested.goes look_bound (omega arith);
-  on = renew_on path port status.connected b d result y clearing_bound a r x.requested.goes
-      x.gains;
+  on = renew_on path port status.connected b d result y clearing_bound a r x.requested.goes x.gains;
   owned = renew_owned path port status.connected b d result y clearing_bound a r x.requested.goes s
       x.keeps.bares;
   sound = cases (λ q h. ServesSound path a q h)

@@ -2,47 +2,30 @@
 use Rattle.std.proofs.Common.{◌≡◌, ◌∙◌, ◌⊎◌, ◌+◌, ◌*◌, ◌≤◌, arith, inl, inr, refl, sym, ap, subst}
 use Rattle.std.proofs.Common.{true, false, Bool, ℕ, List, Some, Result, Ok, Err}
 use Rattle.std.specs.Prelude.{IfErr, IfOk, OnOk, IsOk}
-use Rattle.usb_request.specs.Features.{PORT_ENABLE, C_PORT_CONNECTION, C_PORT_ENABLE, C_PORT_RESET}
-use Rattle.usb_port.specs.Calls.{clear_call, is_reset}
-use Rattle.usb_port.specs.declared.call.PortCall.{PortCall}
-use Rattle.usb_port.specs.declared.call.PortCall.TheVariants.{ClearEnable, ClearConnectionChange}
-use Rattle.usb_port.specs.declared.call.PortCall.TheVariants.{ClearEnableChange, ClearResetChange}
-use Rattle.usb_port.specs.declared.status.PortStatus.{PortStatus}
-use Rattle.usb_world.specs.World.{World, Failed, AttemptsWithin}
+use Rattle.usb_request.specs.{PORT_ENABLE, C_PORT_CONNECTION, C_PORT_ENABLE, C_PORT_RESET}
+use Rattle.usb_port.specs.{clear_call, is_reset, PortCall, ClearEnable, ClearConnectionChange}
+use Rattle.usb_port.specs.{ClearEnableChange, ClearResetChange, PortStatus}
+use Rattle.usb_world.specs.{World, Failed, AttemptsWithin, BusFault}
 use Rattle.usb_tree.proofs.Interface.{decided}
-use Rattle.usb_world.specs.declared.types.BusFault.{BusFault}
 use Rattle.usb_bus.proofs.Interface.{went_then}
-use Rattle.usb_address.specs.Claims.{AddressMap}
-use Rattle.usb_address.specs.Ownership.{KeepsAddresses, MapHolds, WhileBusWorks}
+use Rattle.usb_address.specs.{AddressMap, KeepsAddresses, MapHolds, WhileBusWorks}
 use Rattle.usb_address.proofs.Interface.{keeps_then}
-use Rattle.usb_pipe.specs.Control.{FaultAfter, write_bound}
-use Rattle.usb_pipe.specs.declared.fault.PipeFault.{PipeFault}
+use Rattle.usb_pipe.specs.{FaultAfter, write_bound, PipeFault}
 use Rattle.usb_pipe.specs.declared.fault.PipeFault.TheVariants as pipe
-use Rattle.usb_hub.specs.Addresses.{IsAt, KeepsAsked, KeepsCleared, KeepsDevices}
-use Rattle.usb_hub.specs.Changes.{ClearsOfPort}
-use Rattle.usb_hub.specs.Moments.{CommandsPort, ReadsPort}
-use Rattle.usb_hub.specs.Port.{PortCleared, PortRead, order_bound, status_bound}
-use Rattle.usb_hub.specs.Requests.{EndsAfter}
-use Rattle.usb_hub.specs.declared.port.HubPort.{HubPort}
-use Rattle.usb_hub.specs.declared.port.HubPort.TheVariants.{Root, External}
+use Rattle.usb_hub.specs.{IsAt, KeepsAsked, KeepsCleared, KeepsDevices, ClearsOfPort, CommandsPort}
+use Rattle.usb_hub.specs.{ReadsPort, PortCleared, PortRead, order_bound, status_bound, EndsAfter}
+use Rattle.usb_hub.specs.{HubPort, Root, External}
 use Rattle.usb_backlog.proofs.Interface.{all_none}
-use Rattle.usb_enum.specs.Bounds.{read_bound}
-use Rattle.usb_enum.specs.Stop.{CanFail, FaultAllowedAt, at_port, fault_at_port}
-use Rattle.usb_enum.specs.declared.fault.EnumFault.{EnumFault}
-use Rattle.usb_enum.specs.declared.fault.EnumFault.TheVariants.{ParentLost, Bus, Memory}
+use Rattle.usb_enum.specs.{read_bound, CanFail, FaultAllowedAt, at_port, fault_at_port, EnumFault}
+use Rattle.usb_enum.specs.{ParentLost, Bus, Memory}
 use Rattle.usb_enum.proofs.Interface.{order_most}
-use Rattle.usb_table.specs.KnownPorts.{IsAskable}
-use Rattle.usb_host.specs.Backlog.{ClearsConnection, ClearsReset}
-use Rattle.usb_host.specs.Bounds.{clearing_bound}
-use Rattle.usb_host.specs.Changes.{HasOnlyWorldChanges}
-use Rattle.usb_host.specs.HostState.{HostState}
-use Rattle.usb_host.specs.Ownership.{BaresPort}
-use Rattle.usb_host.specs.PortHandling.{ClearsChange, LetsGoOn, Tidies, Watches}
-use Rattle.usb_host.specs.Ports.{Gained, ProgressOnOk, IsDue, Requested, Shown}
-use Rattle.usb_host.specs.Progress.{HostRuns, HostSteps}
-use Rattle.usb_host.specs.Requests.{ClearsError, ClearsFeature, ClearsOthers, ClearsOwn, ClearsPort}
-use Rattle.usb_host.specs.Requests.{ClearsWhere, SettlesPort, ShowsPort, TidiesPort}
-use Rattle.usb_host.specs.Service.{ClearsAndReads, ClearsTold, DoneWhere}
+use Rattle.usb_table.specs.{IsAskable}
+use Rattle.usb_host.specs.{ClearsConnection, ClearsReset, clearing_bound, HasOnlyWorldChanges}
+use Rattle.usb_host.specs.{HostState, BaresPort, ClearsChange, LetsGoOn, Tidies, Watches, Gained}
+use Rattle.usb_host.specs.{ProgressOnOk, IsDue, Requested, Shown, HostRuns, HostSteps, ClearsError}
+use Rattle.usb_host.specs.{ClearsFeature, ClearsOthers, ClearsOwn, ClearsPort, ClearsWhere}
+use Rattle.usb_host.specs.{SettlesPort, ShowsPort, TidiesPort, ClearsAndReads, ClearsTold}
+use Rattle.usb_host.specs.{DoneWhere}
 use Rattle.usb_host.proofs.devices.Enumerations.{status_read_goes}
 use Rattle.usb_host.proofs.OwnedPorts.{bares_after}
 use Rattle.usb_host.proofs.StepSums.{goes_by, host_goes_none, host_goes_then, goes_wider}
@@ -91,8 +74,7 @@ requested-fails B port k m a b fault p le = record {
 bus_told : {A : Type 0} (answer : Result A PipeFault) (old new : World)
     → IfErr answer (λ fault. FaultAfter 1 old fault new)
     → (f : BusFault) → answer ≡ Err (pipe.Bus f) → Failed f new
-bus_told answer old new x f is =
-    subst (λ r. IfErr r (λ fault. FaultAfter 1 old fault new)) is x
+bus_told answer old new x f is = subst (λ r. IfErr r (λ fault. FaultAfter 1 old fault new)) is x
 
 port_fault : (port : HubPort) (fault : PipeFault) (new : World) → CanFail port
     → ((f : BusFault) → fault ≡ pipe.Bus f → Failed f new)
@@ -342,8 +324,7 @@ module _ (asked : Bool) (port : HubPort) (feature : ℕ) (a b : HostState) where
         (feature_calls port feature a b (x.so e)) in
         done_so asked p call a.world b.world e
         (call_done port call a.world b.world other calls f p at owned)
-    | inr e ↦
-        done_not asked p call a.world b.world e (ap (λ (h : HostState). h.world) (x.not e).1)
+    | inr e ↦ done_not asked p call a.world b.world e (ap (λ (h : HostState). h.world) (x.not e).1)
   ]
 
 -- The changes of enable and of reset
@@ -549,8 +530,7 @@ module _ (port : HubPort) (a b : HostState) where
             (went_then (read_bound 4) write_bound y.requested.goes.went z.requested.goes.went)
             disabled_change
 
-      paid_so : (result : Result (Unit {0}) EnumFault)
-          → ClearsFeature port PORT_ENABLE c result d
+      paid_so : (result : Result (Unit {0}) EnumFault) → ClearsFeature port PORT_ENABLE c result d
           → IfOk (status_after status result) (λ s. ClearsConnection port s a.world d.world)
       paid_so (Ok tt) z =
           changes_disabled port a.world b.world c.world status change_calls x.keeps.keeps

@@ -2,30 +2,18 @@
 use Rattle.std.proofs.Common.{◌≡◌, ◌∙◌, ◌+◌, ◌*◌, ◌≤◌, arith, inr, refl, true, false, ℕ, List}
 use Rattle.std.proofs.Common.{Option, Result, Ok, Err}
 use Rattle.std.specs.Prelude.{IsErr}
-use Rattle.usb_port.specs.declared.status.PortStatus.{PortStatus}
+use Rattle.usb_port.specs.{PortStatus}
 use Rattle.usb_address.proofs.Interface.{keeps_then}
-use Rattle.usb_pipe.specs.Control.{write_bound}
-use Rattle.usb_enum.specs.Bounds.{read_bound}
-use Rattle.usb_enum.specs.declared.fault.EnumFault.{EnumFault}
-use Rattle.usb_enum.specs.declared.fault.EnumFault.TheVariants.{ParentLost}
-use Rattle.usb_enum.specs.declared.finding.Accepted.{Accepted}
+use Rattle.usb_pipe.specs.{write_bound}
+use Rattle.usb_enum.specs.{read_bound, EnumFault, ParentLost, Accepted}
 use Rattle.usb_enum.proofs.Interface.{went_sound}
-use Rattle.usb_table.specs.declared.known.KnownPort.{KnownPort}
-use Rattle.usb_host.specs.Backlog.{hubs}
-use Rattle.usb_host.specs.Bounds.{drop_bound, handling_bound, look_bound, serving_bound}
-use Rattle.usb_host.specs.Changes.{was_disabled}
-use Rattle.usb_host.specs.HostState.{HostState}
-use Rattle.usb_host.specs.Ownership.{KeepsPort, PortOwned}
-use Rattle.usb_host.specs.PortHandling.{ServesSound, Watches}
-use Rattle.usb_host.specs.Ports.{EndsAs, IsDue, StandsAt, StandsNowhere, Waits}
-use Rattle.usb_host.specs.Progress.{HostSteps, OnlyBusSteps}
-use Rattle.usb_host.specs.Requests.{ClearsOwn, SettlesPort, ShowsPort, TidiesPort}
-use Rattle.usb_host.specs.Service.{EndsAt, FinishesAt, HandlesPort, LooksAfterError, LooksAt}
-use Rattle.usb_host.specs.Service.{LooksOnceMore, ServesOwn, ServesPort}
-use Rattle.usb_host.specs.Soundness.{HostInvariant, Part}
-use Rattle.usb_host.specs.declared.fault.HostFault.{HostFault}
-use Rattle.usb_host.specs.declared.host.Round.{Round}
-use Rattle.usb_host.specs.declared.host.Round.TheVariants.{Quiet, Worked}
+use Rattle.usb_table.specs.{KnownPort}
+use Rattle.usb_host.specs.{hubs, drop_bound, handling_bound, look_bound, serving_bound}
+use Rattle.usb_host.specs.{was_disabled, HostState, KeepsPort, PortOwned, ServesSound, Watches}
+use Rattle.usb_host.specs.{EndsAs, IsDue, StandsAt, StandsNowhere, Waits, HostSteps, OnlyBusSteps}
+use Rattle.usb_host.specs.{ClearsOwn, SettlesPort, ShowsPort, TidiesPort, EndsAt, FinishesAt}
+use Rattle.usb_host.specs.{HandlesPort, LooksAfterError, LooksAt, LooksOnceMore, ServesOwn}
+use Rattle.usb_host.specs.{ServesPort, HostInvariant, Part, HostFault, Round, Quiet, Worked}
 use Rattle.usb_host.proofs.devices.BulkPipes.{bulk_stays, bulk_then, stay_joined}
 use Rattle.usb_host.proofs.devices.Causes.{causes_rests, tidied_caused, watched_caused}
 use Rattle.usb_host.proofs.devices.Fairness.{fair_after, fair_before}
@@ -64,8 +52,7 @@ serve_fails path port a b fault s r x =
     record {
       requested = requested-fails (Unit {0}) port.port serving_bound (read_bound 4) a b fault
           x.requested (omega arith);
-      on = λ due.
-          status_lost_on port.port a b r fault (shows_shown port.port a b (Err fault) x);
+      on = λ due. status_lost_on port.port a b r fault (shows_shown port.port a b (Err fault) x);
       owned = rests_keeps_port path a (Err fault) b r went.spends.roots watches.addresses;
       sound = record {
         sound = watched_lost (read_bound 4) path port a b s r went fault watches told;
@@ -92,8 +79,7 @@ module _ (path : List ℕ) (port : KnownPort) (a b : HostState) (s : StandsAt pa
   shown_went = x.requested.goes.went
 
   shown_sound : HostInvariant a → HostInvariant b
-  shown_sound i =
-      watched_sound (read_bound 4) path port a b s r shown_went status shown_watches i
+  shown_sound i = watched_sound (read_bound 4) path port a b s r shown_went status shown_watches i
 
   -- a change of connection was told
   pub serve_looked : status.connection_changed ≡ true → (result : Result (Unit {0}) EnumFault)
@@ -150,8 +136,7 @@ module _ (path : List ℕ) (port : KnownPort) (a b : HostState) (s : StandsAt pa
     settled_went = y.requested.goes.went
 
     settled_tidies : HostInvariant a → TidiesPort port.port status b result d
-    settled_tidies i =
-        y.tidies (watched_plain path port a b.world s i.owned status shown_watches)
+    settled_tidies i = y.tidies (watched_plain path port a b.world s i.owned status shown_watches)
 
     settled_stands : StandsAt path port b
     settled_stands = rests_stands (read_bound 4) path port a b s r shown_went
@@ -229,10 +214,7 @@ module _ (path : List ℕ) (port : KnownPort) (a b : HostState) (s : StandsAt pa
         plugs = λ i. absurd (not_failed i);
         caused = λ i. absurd (not_failed i);
       };
-      pays = record {
-        pays = λ i. absurd (not_failed i);
-        few = λ i. absurd (not_failed i);
-      };
+      pays = record { pays = λ i. absurd (not_failed i); few = λ i. absurd (not_failed i) };
       hubs = omega (arith, hubs-rest a b r, few);
       served = λ i. absurd (not_failed i);
     }

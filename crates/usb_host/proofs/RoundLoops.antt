@@ -3,32 +3,20 @@ use Rattle.std.proofs.Common.{◌≡◌, ◌∙◌, ◌⊎◌, ◌+◌, ◌-◌,
 use Rattle.std.proofs.Common.{ap, subst, true, false, ℕ, List, Option, [], ◌∷◌, None, Some, Result}
 use Rattle.std.proofs.Common.{Ok, Err}
 use Rattle.std.specs.Prelude.{IfSome, IsErr}
-use Rattle.usb_port.specs.Path.{IsPath}
-use Rattle.usb_port.specs.Status.{has_bit}
-use Rattle.usb_world.specs.Steps.{here}
-use Rattle.usb_world.specs.World.{changes, root_port_at, root_row, roots_of}
-use Rattle.usb_hub.specs.Requests.{TouchesNoPort}
-use Rattle.usb_resources.specs.Pool.{IsFull}
+use Rattle.usb_port.specs.{IsPath, has_bit}
+use Rattle.usb_world.specs.{here, changes, root_port_at, root_row, roots_of}
+use Rattle.usb_hub.specs.{TouchesNoPort}
+use Rattle.usb_resources.specs.{IsFull}
 use Rattle.usb_enum.proofs.Interface.{went_sound}
-use Rattle.usb_table.specs.Findings.{is_hub, is_waiting}
-use Rattle.usb_table.specs.NextEntries.{ComesAfter, IsLast, IsNext}
-use Rattle.usb_host.specs.Agreement.{Agrees}
-use Rattle.usb_host.specs.Bounds.{handling_bound, hub_poll_bound, hubs_bound, looks_bound}
-use Rattle.usb_host.specs.Bounds.{roots_bound, told_bound}
-use Rattle.usb_host.specs.Budget.{RootsPaid, RoundPaid, ToldPaid, Weights}
-use Rattle.usb_host.specs.HostState.{HostState}
-use Rattle.usb_host.specs.Ownership.{IsRooted}
-use Rattle.usb_host.specs.Ports.{Waits}
-use Rattle.usb_host.specs.Progress.{AddsNoWork, Did, either}
-use Rattle.usb_host.specs.Service.{HandlesNumber, HandlesPort, HubsPolled, LookedAgain, LooksAgain}
-use Rattle.usb_host.specs.Service.{LooksOnceMore, RootsServed, ServedTold, ServesEach, ServesHub}
-use Rattle.usb_host.specs.Service.{ServesHubs, ServesPorts, ServesRoots, bit_clear, bit_set}
-use Rattle.usb_host.specs.Service.{next_hub, no_device, no_hub, no_root, none_yet, root_changed}
-use Rattle.usb_host.specs.Service.{root_steady}
-use Rattle.usb_host.specs.Soundness.{HostInvariant, NoneWait, Part}
-use Rattle.usb_host.specs.declared.fault.HostFault.{HostFault}
-use Rattle.usb_host.specs.declared.host.Round.{Round}
-use Rattle.usb_host.specs.declared.host.Round.TheVariants.{Quiet, Worked}
+use Rattle.usb_table.specs.{is_hub, is_waiting, ComesAfter, IsLast, IsNext}
+use Rattle.usb_host.specs.{Agrees, handling_bound, hub_poll_bound, hubs_bound, looks_bound}
+use Rattle.usb_host.specs.{roots_bound, told_bound, RootsPaid, RoundPaid, ToldPaid, Weights}
+use Rattle.usb_host.specs.{HostState, IsRooted, Waits, AddsNoWork, Did, either, HandlesNumber}
+use Rattle.usb_host.specs.{HandlesPort, HubsPolled, LookedAgain, LooksAgain, LooksOnceMore}
+use Rattle.usb_host.specs.{RootsServed, ServedTold, ServesEach, ServesHub, ServesHubs, ServesPorts}
+use Rattle.usb_host.specs.{ServesRoots, bit_clear, bit_set, next_hub, no_device, no_hub, no_root}
+use Rattle.usb_host.specs.{none_yet, root_changed, root_steady, HostInvariant, NoneWait, Part}
+use Rattle.usb_host.specs.{HostFault, Round, Quiet, Worked}
 use Rattle.usb_host.proofs.payments.HubPayments.{HubsSoFar, hubs_all, hubs_failed, hubs_next}
 use Rattle.usb_host.proofs.payments.HubPayments.{hubs_none, rank_before}
 use Rattle.usb_host.proofs.rests.IdleRounds.{none_next, none_shows}

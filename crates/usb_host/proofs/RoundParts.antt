@@ -3,40 +3,25 @@ use Rattle.std.proofs.Common.{◌≡◌, ◌∙◌, ◌+◌, ◌≤◌, arith, r
 use Rattle.std.proofs.Common.{List, Option, None, Some, is_some, Result, Ok, Err}
 use Rattle.std.specs.Prelude.{IsErr, IsOk, IsSome}
 use Rattle.arrayvec.specs.ArrayVec.{ArrayVec}
-use Rattle.usb_tree.specs.Paths.{pending}
-use Rattle.usb_world.specs.World.{World}
-use Rattle.usb_transaction.specs.Failures.{NoThreeDamaged}
-use Rattle.usb_pipe.specs.declared.fault.PipeFault.{PipeFault}
+use Rattle.usb_tree.specs.{pending}
+use Rattle.usb_world.specs.{World}
+use Rattle.usb_transaction.specs.{NoThreeDamaged}
+use Rattle.usb_pipe.specs.{PipeFault}
 use Rattle.usb_pipe.specs.declared.fault.PipeFault.TheVariants.{Stalled, Busy, NoAnswer, Broken}
 use Rattle.usb_pipe.specs.declared.fault.PipeFault.TheVariants.{Bus, Memory}
-use Rattle.usb_hub.specs.CallFailures.{NoHubFailed}
+use Rattle.usb_hub.specs.{NoHubFailed}
 use Rattle.usb_enum.proofs.Interface.{went_sound}
-use Rattle.usb_enum.specs.declared.finding.Finding.{Finding}
+use Rattle.usb_enum.specs.{Finding, HubFacts}
 use Rattle.usb_enum.specs.declared.finding.Finding.TheVariants.{Device}
-use Rattle.usb_enum.specs.declared.hub.HubFacts.{HubFacts}
-use Rattle.usb_table.specs.declared.pipes.Pipes.{Pipes}
-use Rattle.usb_table.specs.declared.pipes.Pipes.TheVariants.{Hub as HubPipe, Function, Absent}
-use Rattle.usb_table.specs.Entries.{Entries}
-use Rattle.usb_table.specs.KnownPorts.{is_below_hub}
-use Rattle.usb_table.specs.Findings.{accepted_device_of, accepted_device_at}
-use Rattle.usb_table.specs.Levels.{IsHeld, KeepsPolled}
-use Rattle.usb_table.specs.Listing.{finding_at, hub_facts_in, hub_facts_at}
-use Rattle.usb_table.specs.Pipes.{ArePipesIf}
-use Rattle.usb_table.specs.Table.{GoesThrough, pipes_at}
-use Rattle.usb_table.specs.Transfers.{PipesPolled}
-use Rattle.usb_host.specs.Agreement.{Agrees}
-use Rattle.usb_host.specs.Bounds.{drop_bound, hub_poll_bound, hubs_bound, looks_bound, round_bound}
-use Rattle.usb_host.specs.Bounds.{roots_bound, told_bound}
-use Rattle.usb_host.specs.BulkPipes.{KeepsBulk}
-use Rattle.usb_host.specs.HostState.{HostState}
-use Rattle.usb_host.specs.Ownership.{StaysOwned, DropsHub}
-use Rattle.usb_host.specs.Transfers.{table_in}
-use Rattle.usb_host.specs.Progress.{HostSteps, HostRuns, either}
-use Rattle.usb_host.specs.Soundness.{HostInvariant, KeepsInvariant, PartStays, DropsSound, Part}
-use Rattle.usb_host.specs.Soundness.{PartsKeep, RootsRest, HubKeeps, HubsKeep, LooksKeep, NoneWait}
-use Rattle.usb_host.specs.declared.fault.HostFault.{HostFault}
-use Rattle.usb_host.specs.declared.host.Round.{Round}
-use Rattle.usb_host.specs.declared.host.Round.TheVariants.{Worked, Quiet}
+use Rattle.usb_table.specs.{Pipes, Hub as HubPipe, Function, Absent, Entries, is_below_hub}
+use Rattle.usb_table.specs.{accepted_device_of, accepted_device_at, IsHeld, KeepsPolled, finding_at}
+use Rattle.usb_table.specs.{hub_facts_in, hub_facts_at, ArePipesIf, GoesThrough, pipes_at}
+use Rattle.usb_table.specs.{PipesPolled}
+use Rattle.usb_host.specs.{Agrees, drop_bound, hub_poll_bound, hubs_bound, looks_bound, round_bound}
+use Rattle.usb_host.specs.{roots_bound, told_bound, KeepsBulk, HostState, StaysOwned, DropsHub}
+use Rattle.usb_host.specs.{table_in, HostSteps, HostRuns, either, HostInvariant, KeepsInvariant}
+use Rattle.usb_host.specs.{PartStays, DropsSound, Part, PartsKeep, RootsRest, HubKeeps, HubsKeep}
+use Rattle.usb_host.specs.{LooksKeep, NoneWait, HostFault, Round, Worked, Quiet}
 use Rattle.usb_host.proofs.devices.BulkPipes.{bulk_stays, stay_polled}
 use Rattle.usb_host.proofs.devices.Plugs.{plugs_kept}
 use Rattle.usb_host.proofs.OwnedPorts.{dropped_hub_owned}
@@ -56,8 +41,7 @@ pub part-none : {A : Type 0} (n : ℕ) (x : A) (h : HostState) → Part n h (Ok 
 part-none n x h = record {
   goes = host_goes_none n h;
   owned = stays_owned_none h;
-  sound =
-      part_none h;
+  sound = part_none h;
 }
 
 pub part-then : {A B : Type 0} (k m n : ℕ) (a b c : HostState) (x : A) (result : Result B HostFault)
@@ -150,8 +134,7 @@ part_where : (a c : HostState) → (HostInvariant a → PartStays a c) → PartS
 part_where a c f = record {
   sound = record {
     sound = λ s. (f s).sound.sound s;
-    caused =
-        λ s fair q. (f s).sound.caused s fair q;
+    caused = λ s fair q. (f s).sound.caused s fair q;
   };
   bulk = λ s still. (f s).bulk s still;
   plugs = λ s still. (f s).plugs s still;
@@ -187,8 +170,7 @@ module _ (hub : List ℕ) (answer : Result (Option (ArrayVec ℕ)) PipeFault) (a
   part ok = record {
     sound = sound ok;
     bulk = bulk;
-    plugs =
-        λ s still. plugs_kept a b went.spends.onward same;
+    plugs = λ s still. plugs_kept a b went.spends.onward same;
   }
 
   -- it has nothing to tell

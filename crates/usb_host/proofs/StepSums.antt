@@ -1,11 +1,8 @@
 -- How the parts of a round join.
 use Rattle.std.proofs.Common.{◌≡◌, ◌∙◌, refl, sym, ap, subst, arith, ℕ, ◌+◌, ◌≤◌}
 use Rattle.usb_bus.proofs.Interface.{went_none, went_then, went_wider}
-use Rattle.usb_host.specs.HostState.{HostState}
-use Rattle.usb_host.specs.Progress.{HostSteps, HostRuns, HostProgress, AddsNoWork, OnlyBusSteps}
-use Rattle.usb_host.specs.Progress.{Remains, Did, either, waiting}
-use Rattle.usb_host.specs.declared.host.Round.{Round}
-use Rattle.usb_host.specs.declared.host.Round.TheVariants.{Worked, Quiet}
+use Rattle.usb_host.specs.{HostState, HostSteps, HostRuns, HostProgress, AddsNoWork, OnlyBusSteps}
+use Rattle.usb_host.specs.{Remains, Did, either, waiting, Round, Worked, Quiet}
 
 pub host_goes_none : (n : ℕ) (h : HostState) → HostRuns n h h
 host_goes_none n h = record { went = went_wider 0 n went_none (omega arith); going = refl }
@@ -30,8 +27,7 @@ goes_forgotten n a b c g others = subst (λ (x : HostState). HostRuns n a x) (sy
 pub host_rests_then : (a b c : HostState) → OnlyBusSteps a b → OnlyBusSteps b c → OnlyBusSteps a c
 host_rests_then a b c p q = q ∙ ap (λ (h : HostState). record h {
   world = c.world;
-  trace =
-      c.trace;
+  trace = c.trace;
 }) p
 
 pub remains_then : (a b c : HostState) → Remains a b → Remains b c → Remains a c

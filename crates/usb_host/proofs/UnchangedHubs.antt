@@ -4,31 +4,22 @@ use Rattle.std.proofs.Common.{false, List, [], ◌∷◌, ◌++◌, Option, None
 use Rattle.std.proofs.Common.{arith, slice_get}
 use Rattle.std.specs.Prelude.{IfSome}
 use Rattle.std.proofs.lemmas.Bool.{eqb-true}
-use Rattle.usb_port.specs.PortState.{PortState, has_change}
-use Rattle.usb_device.specs.declared.answer.Answer.{Answer}
+use Rattle.usb_port.specs.{PortState, has_change}
+use Rattle.usb_device.specs.{Answer, Way, lost, heard, gave, held_law, in_law, tells_changes}
+use Rattle.usb_device.specs.{change_bits, State, Reply, Ports, ended, vacant, taken, full, row_of}
+use Rattle.usb_device.specs.{place_at, port_at, Location, path_to, reach_on, state_on, place_on}
+use Rattle.usb_device.specs.{port_there}
 use Rattle.usb_device.specs.declared.answer.Answer.TheVariants as answer
 use Rattle.usb_device.specs.declared.transfer.InEndpoint.TheVariants as by
-use Rattle.usb_device.specs.Attempt.{Way, whole, broken, lost, heard, gave, held_law, in_law}
-use Rattle.usb_device.specs.Bulk.{tells_changes, change_bits}
-use Rattle.usb_device.specs.Rows.{State, Reply}
-use Rattle.usb_device.specs.Tree.{Ports, ended, vacant, taken, full, row_of, place_at, port_at}
-use Rattle.usb_device.specs.Tree.{Location, path_to, reach_on, state_on, place_on}
-use Rattle.usb_device.specs.View.{port_there}
-use Rattle.usb_world.specs.declared.types.Outcome.{Outcome}
+use Rattle.usb_device.specs.Attempt.{whole, broken}
+use Rattle.usb_world.specs.{Outcome, Was, DidIn, IsMade, leaves_step, attempt, after, at_attempt}
+use Rattle.usb_world.specs.{outcome_in, World}
 use Rattle.usb_world.specs.declared.types.Outcome.TheVariants as outcome
-use Rattle.usb_world.specs.Devices.{Was, DidIn}
-use Rattle.usb_world.specs.OneHolder.{IsMade}
-use Rattle.usb_tree.specs.AttemptPackets.{IsSettled}
-use Rattle.usb_world.specs.PortRequests.{leaves_step}
-use Rattle.usb_world.specs.Steps.{attempt, after, at_attempt, outcome_in}
-use Rattle.usb_world.specs.World.{World}
+use Rattle.usb_tree.specs.{IsSettled}
 use Rattle.usb_world.proofs.Interface.{data_asks_nothing, each_in, got_nak, made_is, made_of}
 use Rattle.usb_world.proofs.Interface.{made_port}
 use Rattle.usb_tree.proofs.Interface.{false_true}
-use Rattle.usb_transaction.specs.declared.target.Target.{Target}
-use Rattle.usb_transaction.specs.Leaves.{is_at}
-use Rattle.usb_transaction.specs.AttemptLog.{AttemptLog, next}
-use Rattle.usb_transaction.specs.Transactions.{in_attempt}
+use Rattle.usb_transaction.specs.{Target, is_at, AttemptLog, next, in_attempt}
 use Rattle.usb_transaction.proofs.Interface.{trail_settled}
 use Rattle.usb_hub.proofs.Interface.{row_port}
 use Rattle.usb_address.proofs.Interface.{in_kept}

@@ -2,12 +2,10 @@
 use Rattle.std.specs.Prelude.{◌≡◌, ℕ, List, Some, IsSome}
 use Rattle.std.specs.Map.{lookup}
 use Rattle.std.specs.BTreeMap.{is_at}
-use Rattle.usb_port.specs.Order.{path_cmp}
-use Rattle.usb_port.specs.Path.{IsPath}
-use Rattle.usb_resources.specs.Pool.{Addresses, HasAddresses}
-use Rattle.usb_enum.specs.declared.finding.Finding.{Finding}
-use Rattle.usb_table.specs.Entries.{Entries, Rises}
-use Rattle.usb_table.specs.KnownPorts.{known_port}
+use Rattle.usb_port.specs.{path_cmp, IsPath}
+use Rattle.usb_resources.specs.{Addresses, HasAddresses}
+use Rattle.usb_enum.specs.{Finding}
+use Rattle.usb_table.specs.{Entries, Rises, known_port}
 use Rattle.usb_host.specs.Accounts.{Accounts}
 
 -- each entry stands at a port of the root, or of a hub that is known

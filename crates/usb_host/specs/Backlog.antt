@@ -2,28 +2,16 @@
 use Rattle.std.specs.Prelude.{◌≡◌, ◌≤◌, ◌⊎◌, ◌+◌, ◌*◌, ⊤, ℕ, List, true, false, None, Some, is_some}
 use Rattle.std.specs.Prelude.{Result, Ok, Err}
 use Rattle.std.specs.List.{count_by}
-use Rattle.usb_port.specs.PortState.{PortState, is_attached}
-use Rattle.usb_port.specs.declared.status.PortStatus.{PortStatus}
-use Rattle.usb_device.specs.Tree.{empty, place}
-use Rattle.usb_device.specs.View.{port_there, state_there}
-use Rattle.usb_world.specs.PlanCourses.{AtPorts}
-use Rattle.usb_world.specs.World.{World}
-use Rattle.usb_address.specs.Claims.{AddressMap}
-use Rattle.usb_address.specs.Ownership.{MapHolds, WhileBusWorks}
-use Rattle.usb_backlog.specs.Marks.{KeepsAll}
-use Rattle.usb_backlog.specs.Units.{KeepsPlain, PaysBare, PaysLook, PaysStray}
-use Rattle.usb_hub.specs.declared.port.HubPort.{HubPort}
-use Rattle.usb_hub.specs.Addresses.{IsAt}
-use Rattle.usb_hub.specs.Moments.{PortStatusAt}
-use Rattle.usb_enum.specs.declared.fault.EnumFault.{EnumFault}
-use Rattle.usb_enum.specs.declared.fault.EnumFault.TheVariants.{ParentLost, Bus, Memory}
-use Rattle.usb_enum.specs.Bounds.{read_bound}
-use Rattle.usb_enum.specs.PresentDevices.{IsOrderly}
-use Rattle.usb_enum.specs.TextLengths.{HasPlanWithin}
-use Rattle.usb_table.specs.Entries.{Entries}
-use Rattle.usb_table.specs.Findings.{is_hub}
+use Rattle.usb_port.specs.{PortState, is_attached, PortStatus}
+use Rattle.usb_device.specs.{empty, place, port_there, state_there}
+use Rattle.usb_world.specs.{AtPorts, World}
+use Rattle.usb_address.specs.{AddressMap, MapHolds, WhileBusWorks}
+use Rattle.usb_backlog.specs.{KeepsAll, KeepsPlain, PaysBare, PaysLook, PaysStray}
+use Rattle.usb_hub.specs.{HubPort, IsAt, PortStatusAt}
+use Rattle.usb_enum.specs.{EnumFault, ParentLost, Bus, Memory, read_bound, IsOrderly, HasPlanWithin}
+use Rattle.usb_table.specs.{Entries, is_hub}
 use Rattle.usb_host.specs.Bounds.{clearing_bound, deciding_bound}
-use Rattle.usb_host.specs.HostState.{HostState}
+use Rattle.usb_host.specs.HostStates.{HostState}
 use Rattle.usb_host.specs.Progress.{HostSteps}
 use Rattle.usb_host.specs.Soundness.{HostInvariant}
 

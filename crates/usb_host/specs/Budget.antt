@@ -1,24 +1,19 @@
 -- How many attempts what is left to do may take.
 use Rattle.std.specs.Prelude.{◌≡◌, ◌≤◌, ◌⊎◌, ℕ, ◌+◌, ◌*◌, true, false, List, [], ◌∷◌, ◌++◌, length}
 use Rattle.std.specs.Prelude.{All, None, Some, is_some, IsSome, Result, IfOk, OnOk}
-use Rattle.usb_port.specs.Path.{IsPath}
-use Rattle.usb_port.specs.PortState.{PortState}
-use Rattle.usb_port.specs.Status.{has_bit}
-use Rattle.usb_port.specs.declared.status.PortStatus.{PortStatus}
-use Rattle.usb_device.specs.View.{port_there, state_there}
-use Rattle.usb_world.specs.PlanData.{PlanData, IsPlan}
-use Rattle.usb_world.specs.PlanCourses.{AtPorts}
-use Rattle.usb_world.specs.Steps.{AnyStep, Course, opening}
-use Rattle.usb_world.specs.World.{World, changes, root_row}
-use Rattle.usb_backlog.specs.Marks.{looks_by, strays_by, unmarked}
-use Rattle.usb_hub.specs.Moments.{PortStatusAt}
-use Rattle.usb_enum.specs.TextLengths.{PlugsWithin}
-use Rattle.usb_table.specs.KnownPorts.{known_port}
+use Rattle.usb_port.specs.{IsPath, PortState, has_bit, PortStatus}
+use Rattle.usb_device.specs.{port_there, state_there}
+use Rattle.usb_world.specs.{PlanData, IsPlan, AtPorts, AnyStep, Course, opening, World, changes}
+use Rattle.usb_world.specs.{root_row}
+use Rattle.usb_backlog.specs.{looks_by, strays_by, unmarked}
+use Rattle.usb_hub.specs.{PortStatusAt}
+use Rattle.usb_enum.specs.{PlugsWithin}
+use Rattle.usb_table.specs.{known_port}
 use Rattle.usb_host.specs.declared.fault.HostFault.{HostFault}
 use Rattle.usb_host.specs.declared.host.Round.{Round}
 use Rattle.usb_host.specs.declared.host.Round.TheVariants.{Worked, Quiet}
 use Rattle.usb_host.specs.Backlog.{hubs}
-use Rattle.usb_host.specs.HostState.{HostState}
+use Rattle.usb_host.specs.HostStates.{HostState}
 use Rattle.usb_host.specs.Ownership.{HostMapHolds}
 use Rattle.usb_host.specs.Plugs.{HasPlugs, plug_events}
 use Rattle.usb_host.specs.Soundness.{HostInvariant, RoundsSound}

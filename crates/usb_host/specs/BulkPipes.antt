@@ -1,20 +1,11 @@
 -- What the parts of a round leave of bulk pipes, and of the bulk endpoints at their other ends.
 use Rattle.std.specs.Prelude.{◌≡◌, ◌⊎◌, ℕ, List, true, false, Some}
-use Rattle.usb_device.specs.Bulk.{rested}
-use Rattle.usb_device.specs.Rows.{State}
-use Rattle.usb_device.specs.Tree.{Location, path_to, reach, reach_on, state_on}
-use Rattle.usb_world.specs.Devices.{Was}
-use Rattle.usb_world.specs.Steps.{AnyStep, Course}
-use Rattle.usb_world.specs.World.{World}
-use Rattle.usb_enum.specs.declared.finding.Accepted.{Accepted}
-use Rattle.usb_table.specs.declared.pipes.Pipes.{Pipes}
-use Rattle.usb_table.specs.Deliveries.{pipe_out, pipe_in}
-use Rattle.usb_table.specs.Findings.{accepted_device_at}
-use Rattle.usb_table.specs.KnownPorts.{is_below_hub}
-use Rattle.usb_table.specs.Levels.{SparesBulk}
-use Rattle.usb_table.specs.Pipes.{new_pipes_to}
-use Rattle.usb_table.specs.Table.{pipes_at}
-use Rattle.usb_host.specs.HostState.{HostState}
+use Rattle.usb_device.specs.{rested, State, Location, path_to, reach, reach_on, state_on}
+use Rattle.usb_world.specs.{Was, AnyStep, Course, World}
+use Rattle.usb_enum.specs.{Accepted}
+use Rattle.usb_table.specs.{Pipes, pipe_out, pipe_in, accepted_device_at, is_below_hub, SparesBulk}
+use Rattle.usb_table.specs.{new_pipes_to, pipes_at}
+use Rattle.usb_host.specs.HostStates.{HostState}
 use Rattle.usb_host.specs.Transfers.{table_in}
 
 -- of the pipes to a device the bulk ones are the same

@@ -1,12 +1,10 @@
 -- Changes of a hub and of its ports that ask for nothing but their clearing.
 use Rattle.std.specs.Prelude.{◌≡◌, ◌&&◌, Bool, false, not, Option, is_some}
-use Rattle.usb_port.specs.declared.status.PortStatus.{PortStatus}
-use Rattle.usb_world.specs.World.{World}
-use Rattle.usb_address.specs.Ownership.{KeepsAddresses}
-use Rattle.usb_hub.specs.declared.port.HubPort.{HubPort}
-use Rattle.usb_hub.specs.declared.port.HubPort.TheVariants.{Root, External}
-use Rattle.usb_hub.specs.Addresses.{KeepsDevices}
-use Rattle.usb_enum.specs.declared.finding.Accepted.{Accepted}
+use Rattle.usb_port.specs.{PortStatus}
+use Rattle.usb_world.specs.{World}
+use Rattle.usb_address.specs.{KeepsAddresses}
+use Rattle.usb_hub.specs.{HubPort, Root, External, KeepsDevices}
+use Rattle.usb_enum.specs.{Accepted}
 
 -- a status tells of no change of suspend nor of over-current, as that of a port of a world does
 abbrev pub HasOnlyWorldChanges : PortStatus → Type 0

@@ -1,12 +1,12 @@
 -- All that one call of a host tells, over a bus that does what its world does.
 use Rattle.std.specs.Prelude.{◌≡◌, ℕ, ◌*◌, List, length, Option, Result, IfErr, IfOk}
 use Rattle.std.specs.Global.{Vec}
-use Rattle.usb_world.specs.World.{World}
-use Rattle.usb_bus.specs.Traces.{Traced}
-use Rattle.usb_transaction.specs.Transactions.{transaction_bound}
+use Rattle.usb_world.specs.{World}
+use Rattle.usb_bus.specs.{Traced}
+use Rattle.usb_transaction.specs.{transaction_bound}
 use Rattle.usb_host.specs.Bounds.{clear_bound, round_bound}
 use Rattle.usb_host.specs.Budget.{RoundKeeps}
-use Rattle.usb_host.specs.HostState.{HostState, opening_host}
+use Rattle.usb_host.specs.HostStates.{HostState, opening_host}
 use Rattle.usb_host.specs.Ownership.{IsUntouched, HostMapHolds}
 use Rattle.usb_host.specs.Progress.{HostSteps}
 use Rattle.usb_host.specs.Service.{DidParts}

@@ -6,7 +6,7 @@ pub mod Budget
 pub mod BulkPipes
 pub mod PortHandling
 pub mod HostCalls
-pub mod HostState
+pub mod HostStates
 pub mod Ownership
 pub mod Plugs
 pub mod Ports
@@ -17,3 +17,59 @@ pub mod ToldFaults
 pub mod Transfers
 pub mod Changes
 pub mod Requests
+-- the words of this crate, wherever one stands
+pub use Agreement.{Agrees, Nested}
+pub use Backlog.{ChangeCleared, ClearsConnection, ClearsReset, FindsNone, LookPaid, LookPays}
+pub use Backlog.{PaysAtLook, PaysAtServe, ResetCleared, RestsCalm, ServePaid, ServePays, bare, calm}
+pub use Backlog.{found, hubs, seen, tidied, unseen}
+pub use Bounds.{clear_bound, clearing_bound, deciding_bound, drop_bound, handling_bound}
+pub use Bounds.{hub_poll_bound, hubs_bound, look_bound, looks_bound, roots_bound, round_bound}
+pub use Bounds.{serving_bound, told_bound}
+pub use Budget.{Affords, Costs, HubPaid, NumberPaid, Pays, PaysDone, PaysPart, PaysRound, PortPaid}
+pub use Budget.{RootsPaid, RoundKeeps, RoundPaid, ShowsChange, ShowsTold, Stops, StopsWithin}
+pub use Budget.{ToldPaid, Weights, WorksOn, debt, event_weight, handling_most, hub_weight}
+pub use Budget.{hubs_most, idle, look_weight, paid, poll_most, stray_weight, told_most}
+pub use BulkPipes.{EndpointsBegan, EndpointsStayed, KeepsBulk, RenewedAt, SameBulk, StayedAt}
+pub use PortHandling.{ClearsChange, Climbs, Decides, Disabled, DisablesOnWay, DropsLost, FindsSound}
+pub use PortHandling.{HasWay, HoldsAt, InvariantAfterPort, IsDroppedAt, IsLost, IsOpen, LetsGoOn}
+pub use PortHandling.{PortCaused, RestElsewhere, ServesSound, Tidies, Watches}
+pub use HostCalls.{ClearTells, NewTells, ReceiveTells, RoundTells, SendTells, TransferTells}
+pub use HostStates.{Frees, HostState, opening_host, work}
+unfoldable pub use HostStates.{with_power}
+pub use Ownership.{BaresAbove, BaresPort, BaresUpward, DropsHub, FinishesPort, HasLost}
+pub use Ownership.{HostMapHolds, IsIsolated, IsOwned, IsOwnedBut, IsRooted, IsUntouched}
+pub use Ownership.{KeepsDisabled, KeepsOwned, KeepsPort, LeavesOwned, PortOwned, StaysOwned}
+pub use Ownership.{StaysSingle, claims, root_of}
+pub use Plugs.{HasPlugs, KeepsPlugs, PlugsAt, WasPlugged, is_plug, plug_events}
+pub use Ports.{Broke, EndsAs, Entered, EntersOne, Forgets, Gained, IsDue, IsPortAt, Looked}
+pub use Ports.{ProgressOnOk, ProgressOrLost, Requested, Shown, StandsAt, StandsNowhere, Waits}
+pub use Progress.{AddsNoWork, Did, DidRound, HostProgress, HostRuns, HostSteps, OnlyBusSteps}
+pub use Progress.{Remains, either, idle_work, waiting}
+pub use Service.{ClearsAndReads, ClearsTold, DidParts, Discovers, DoneWhere, DropsOne}
+pub use Service.{EachLookedAgain, EachPolled, EndsAt, FinishesAt, HandlesAt, HandlesBelow}
+pub use Service.{HandlesNumber, HandlesPort, HasHub, HubPolled, HubsPolled, LookedAgain, LookedAt}
+pub use Service.{LookedOnce, LookedOrLost, LooksAfterError, LooksAgain, LooksAt, LooksOnceMore}
+pub use Service.{LosesParent, NoneHears, PolledOnce, PollsHub, Renews, RenewsPort, RootsServed}
+pub use Service.{RoundParts, ServedAt, ServedBelow, ServedOrLost, ServedTold, ServesEach, ServesHub}
+pub use Service.{ServesHubs, ServesOwn, ServesPort, ServesPorts, ServesRoots, ServesTold}
+pub use Service.{StaysOrForgets, Tidied, TidiesTold, WentByParts, bit_clear, bit_set, first_byte}
+pub use Service.{looked_once, lost_once, next_device, next_hub, no_device, no_hub, no_root}
+pub use Service.{none_yet, not_heard, port_known, port_unknown, root_changed, root_steady}
+pub use Service.{told_none, told_some, was_looked_at, was_lost, was_tidied}
+pub use Soundness.{Accounted, CausesBut, DevicesAccurate, DropsSound, EachStill, EachStillBut}
+pub use Soundness.{Elsewhere, HostInvariant, HubKeeps, HubsKeep, IsAccurateAt, IsAtRest}
+pub use Soundness.{IsDroppable, IsFairTo, IsJustifiedAt, IsSilent, IsSoundBut, IsTruthOf}
+pub use Soundness.{IsUnpowered, KeepsInvariant, KnownBut, LooksKeep, NoneWait, NoneWaiting, Part}
+pub use Soundness.{PartKeepsInvariant, PartStays, PartsKeep, PortsListed, RefusalsJustified}
+pub use Soundness.{RootsRest, RoundsSound, TransferKeeps, TruthfulBut, known_supply}
+pub use ToldFaults.{IsOfPipe, PartFaultAllowed, RoundFaultAllowed, StopsAsRound, StopsAsTransfer}
+pub use ToldFaults.{TransferFaultAllowed, endpoint_fault, host_told, is_final, is_last_fault}
+pub use ToldFaults.{pipe_fault}
+pub use Transfers.{ClearedAt, MovesThrough, ReceivedAt, SentAt, table_in}
+pub use Changes.{HasOnlyWorldChanges, KeepsEach, was_disabled}
+pub use Requests.{ClearsError, ClearsFeature, ClearsOthers, ClearsOwn, ClearsPort, ClearsWhere}
+pub use Requests.{SettlesPort, ShowsPort, TidiesPort}
+pub use declared.fault.HostFault.{HostFault}
+pub use declared.fault.HostFault.TheVariants.{Bus}
+pub use declared.host.Round.{Round}
+pub use declared.host.Round.TheVariants.{Quiet, Worked}

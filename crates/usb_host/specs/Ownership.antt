@@ -3,25 +3,18 @@ use Rattle.std.specs.Prelude.{◌≡◌, ◌≤◌, ℕ, List, [], ◌∷◌, Bo
 use Rattle.std.specs.Prelude.{Ok, Err, OnOk, MatchResult}
 use Rattle.std.specs.BTreeMap.{is_at, insert_entry}
 use Rattle.std.specs.Map.{lookup}
-use Rattle.usb_port.specs.Order.{path_cmp, parent_of}
-use Rattle.usb_port.specs.declared.status.PortStatus.{PortStatus}
-use Rattle.usb_device.specs.Tree.{reach}
-use Rattle.usb_tree.specs.AttemptPackets.{IsSettled}
-use Rattle.usb_tree.specs.Paths.{is_way}
-use Rattle.usb_world.specs.World.{World, roots_of}
-use Rattle.usb_address.specs.Claims.{AddressMap, map_without}
-use Rattle.usb_address.specs.Ownership.{MapHolds, MapHoldsExcept, WhileBusWorks, KeepsAddresses}
-use Rattle.usb_hub.specs.declared.port.HubPort.{HubPort}
-use Rattle.usb_hub.specs.Addresses.{Isolates}
-use Rattle.usb_enum.specs.declared.cause.Cause.TheVariants.{Lost}
-use Rattle.usb_enum.specs.declared.fault.EnumFault.{EnumFault}
-use Rattle.usb_enum.specs.declared.fault.EnumFault.TheVariants.{ParentLost, Bus, Memory}
+use Rattle.usb_port.specs.{path_cmp, parent_of, PortStatus}
+use Rattle.usb_device.specs.{reach}
+use Rattle.usb_tree.specs.{IsSettled, is_way}
+use Rattle.usb_world.specs.{World, roots_of}
+use Rattle.usb_address.specs.{AddressMap, map_without, MapHolds, MapHoldsExcept, WhileBusWorks}
+use Rattle.usb_address.specs.{KeepsAddresses}
+use Rattle.usb_hub.specs.{HubPort, Isolates}
+use Rattle.usb_enum.specs.{Lost, EnumFault, ParentLost, Bus, Memory}
 use Rattle.usb_enum.specs.declared.finding.Finding.TheVariants.{Refused}
-use Rattle.usb_table.specs.Entries.{Entries, without}
-use Rattle.usb_table.specs.Keys.{address_in}
-use Rattle.usb_table.specs.Listing.{finding_at}
+use Rattle.usb_table.specs.{Entries, without, address_in, finding_at}
 use Rattle.usb_host.specs.declared.fault.HostFault.{HostFault}
-use Rattle.usb_host.specs.HostState.{HostState}
+use Rattle.usb_host.specs.HostStates.{HostState}
 
 -- the address of the device that was accepted at a path
 abbrev pub claims : Entries → AddressMap

@@ -1,19 +1,13 @@
 -- Where devices were plugged, and that none waits for an address where few were.
 use Rattle.std.specs.Prelude.{◌≡◌, ◌≢◌, ◌≤◌, ℕ, Bool, true, false, List, take, Any, Some}
 use Rattle.std.specs.List.{count_by}
-use Rattle.usb_world.specs.declared.event.Action.{Action}
+use Rattle.usb_world.specs.{Action, Plug, Unplug, Event, PlanData, IsPlan, AtPorts, AnyStep, Course}
+use Rattle.usb_world.specs.{opening}
 use Rattle.usb_world.specs.declared.event.Action.TheVariants.{Change, Ask}
-use Rattle.usb_world.specs.declared.event.Change.TheVariants.{Plug, Unplug}
-use Rattle.usb_world.specs.declared.event.Event.{Event}
-use Rattle.usb_world.specs.PlanData.{PlanData, IsPlan}
-use Rattle.usb_world.specs.PlanCourses.{AtPorts}
-use Rattle.usb_world.specs.Steps.{AnyStep, Course, opening}
-use Rattle.usb_enum.specs.declared.cause.Cause.TheVariants.{NoAddress}
-use Rattle.usb_enum.specs.declared.finding.Accepted.{Accepted}
+use Rattle.usb_enum.specs.{NoAddress, Accepted}
 use Rattle.usb_enum.specs.declared.finding.Finding.TheVariants.{Refused}
-use Rattle.usb_table.specs.Findings.{accepted_device_at}
-use Rattle.usb_table.specs.Listing.{finding_at}
-use Rattle.usb_host.specs.HostState.{HostState}
+use Rattle.usb_table.specs.{accepted_device_at, finding_at}
+use Rattle.usb_host.specs.HostStates.{HostState}
 
 -- a device is plugged at the path
 abbrev pub PlugsAt : List ℕ → Action → Type 0

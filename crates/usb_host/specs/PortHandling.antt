@@ -1,37 +1,22 @@
 -- What the parts of a port's handling keep of what is known of ports and devices.
-use Rattle.usb_device.specs.Tree.{path_to}
+use Rattle.usb_device.specs.{path_to}
 use Rattle.std.specs.Prelude.{◌≡◌, ◌⊎◌, ◌≤◌, ◌+◌, ◌*◌, ⊤, ℕ, List, [], ◌∷◌, ◌++◌, Bool, true, false}
 use Rattle.std.specs.Prelude.{None, Some, IsSomeAnd, Result, Ok, Err, Option, OnOk, IfOk}
-use Rattle.usb_port.specs.Order.{parent_of}
-use Rattle.usb_port.specs.declared.status.PortStatus.{PortStatus}
-use Rattle.usb_tree.specs.Paths.{has_power, pending, is_way}
-use Rattle.usb_world.specs.RestingPorts.{LeavesPortAlone, SameDeviceOrPending}
-use Rattle.usb_world.specs.Steps.{Course}
-use Rattle.usb_world.specs.World.{World}
-use Rattle.usb_address.specs.Claims.{AddressMap}
-use Rattle.usb_address.specs.Ownership.{MapHolds, WhileBusWorks, KeepsAddresses}
-use Rattle.usb_transaction.specs.declared.target.Target.{Target}
-use Rattle.usb_transaction.specs.Failures.{NoThreeDamaged}
-use Rattle.usb_hub.specs.declared.port.HubPort.{HubPort}
-use Rattle.usb_hub.specs.declared.port.HubPort.TheVariants.{External}
-use Rattle.usb_hub.specs.CallFailures.{HubServes}
-use Rattle.usb_hub.specs.Addresses.{IsAt, KeepsDevices}
-use Rattle.usb_hub.specs.Moments.{PortStatusAt}
-use Rattle.usb_hub.specs.Requests.{TouchesNoPort}
-use Rattle.usb_backlog.specs.Marks.{KeepsAll, KeepsFound}
-use Rattle.usb_enum.specs.declared.cause.Cause.TheVariants.{Lost}
-use Rattle.usb_enum.specs.declared.fault.EnumFault.{EnumFault}
-use Rattle.usb_enum.specs.declared.fault.EnumFault.TheVariants.{ParentLost, Bus, Memory}
-use Rattle.usb_enum.specs.declared.finding.Finding.{Finding}
+use Rattle.usb_port.specs.{parent_of, PortStatus}
+use Rattle.usb_tree.specs.{has_power, pending, is_way}
+use Rattle.usb_world.specs.{LeavesPortAlone, SameDeviceOrPending, Course, World}
+use Rattle.usb_address.specs.{AddressMap, MapHolds, WhileBusWorks, KeepsAddresses}
+use Rattle.usb_transaction.specs.{Target, NoThreeDamaged}
+use Rattle.usb_hub.specs.{HubPort, External, HubServes, IsAt, KeepsDevices, PortStatusAt}
+use Rattle.usb_hub.specs.{TouchesNoPort}
+use Rattle.usb_backlog.specs.{KeepsAll, KeepsFound}
+use Rattle.usb_enum.specs.{Lost, EnumFault, ParentLost, Bus, Memory, Finding, IsKnownAs, IsOccupied}
+use Rattle.usb_enum.specs.{IsInOrder, CanFail, HasPlanWithin}
 use Rattle.usb_enum.specs.declared.finding.Finding.TheVariants.{Refused}
-use Rattle.usb_enum.specs.Places.{IsKnownAs, IsOccupied}
-use Rattle.usb_enum.specs.PresentDevices.{IsInOrder}
-use Rattle.usb_enum.specs.Stop.{CanFail}
-use Rattle.usb_enum.specs.TextLengths.{HasPlanWithin}
-use Rattle.usb_pipe.specs.Control.{write_bound}
+use Rattle.usb_pipe.specs.{write_bound}
 use Rattle.usb_host.specs.Bounds.{drop_bound}
 use Rattle.usb_host.specs.BulkPipes.{KeepsBulk}
-use Rattle.usb_host.specs.HostState.{HostState}
+use Rattle.usb_host.specs.HostStates.{HostState}
 use Rattle.usb_host.specs.Plugs.{KeepsPlugs}
 use Rattle.usb_host.specs.Progress.{HostRuns}
 use Rattle.usb_host.specs.Ownership.{IsOwned, FinishesPort, BaresPort, BaresUpward, KeepsDisabled}

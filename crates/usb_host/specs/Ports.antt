@@ -3,31 +3,19 @@ use Rattle.std.specs.Prelude.{◌≡◌, ◌≢◌, ◌+◌, ◌<◌, ⊤, ℕ, 
 use Rattle.std.specs.Prelude.{Result, Ok, Err, IfErr, MatchResult}
 use Rattle.std.specs.Map.{lookup}
 use Rattle.std.specs.BTreeMap.{is_at, insert_entry}
-use Rattle.usb_port.specs.Order.{path_cmp, parent_of, port_on_hub}
-use Rattle.usb_port.specs.Path.{IsPath}
-use Rattle.usb_world.specs.World.{World, Failed, root_port_at, roots_of}
-use Rattle.usb_hub.specs.declared.port.HubPort.{HubPort}
-use Rattle.usb_hub.specs.declared.port.HubPort.TheVariants.{Root, External}
-use Rattle.usb_hub.specs.Port.{IsAsked, IsPort}
-use Rattle.usb_resources.specs.Pool.{IsFull}
-use Rattle.usb_enum.specs.Stop.{FaultAllowedAt}
-use Rattle.usb_enum.specs.declared.cause.Cause.TheVariants.{NoAddress}
-use Rattle.usb_enum.specs.declared.fault.EnumFault.{EnumFault}
-use Rattle.usb_enum.specs.declared.fault.EnumFault.TheVariants.{ParentLost, Bus, Memory}
-use Rattle.usb_enum.specs.declared.finding.Finding.{Finding}
+use Rattle.usb_port.specs.{path_cmp, parent_of, port_on_hub, IsPath, seen, PortStatus}
+use Rattle.usb_world.specs.{World, Failed, root_port_at, roots_of}
+use Rattle.usb_hub.specs.{HubPort, Root, External, IsAsked, IsPort}
+use Rattle.usb_resources.specs.{IsFull}
+use Rattle.usb_enum.specs.{FaultAllowedAt, NoAddress, EnumFault, ParentLost, Bus, Memory, Finding}
 use Rattle.usb_enum.specs.declared.finding.Finding.TheVariants.{Refused}
-use Rattle.usb_table.specs.declared.known.KnownPort.{KnownPort}
-use Rattle.usb_table.specs.KnownPorts.{known_port, IsAskable}
-use Rattle.usb_table.specs.Entries.{has_at, without}
-use Rattle.usb_table.specs.Table.{pipes_at}
+use Rattle.usb_table.specs.{KnownPort, known_port, IsAskable, has_at, without, pipes_at}
 use Rattle.usb_host.specs.Transfers.{table_in}
-use Rattle.usb_tree.specs.Paths.{is_way}
-use Rattle.usb_port.specs.Status.{seen}
-use Rattle.usb_port.specs.declared.status.PortStatus.{PortStatus}
+use Rattle.usb_tree.specs.{is_way}
 use Rattle.usb_host.specs.declared.fault.HostFault.{HostFault}
 use Rattle.usb_host.specs.Agreement.{Agrees}
 use Rattle.usb_host.specs.declared.fault.HostFault.TheVariants as host
-use Rattle.usb_host.specs.HostState.{HostState, work}
+use Rattle.usb_host.specs.HostStates.{HostState, work}
 use Rattle.usb_host.specs.Ownership.{IsRooted}
 use Rattle.usb_host.specs.Progress.{HostProgress, Did, HostRuns}
 use Rattle.usb_host.specs.declared.host.Round.{Round}

@@ -1,11 +1,10 @@
 -- That a round gets on.
 use Rattle.std.specs.Prelude.{◌≡◌, ℕ, ◌+◌, ◌*◌, ◌<◌, ◌≤◌}
 use Rattle.std.specs.List.{count_by}
-use Rattle.usb_world.specs.World.{root_row, changes}
-use Rattle.usb_bus.specs.Traces.{StepRun}
-use Rattle.usb_table.specs.Entries.{Entries}
-use Rattle.usb_table.specs.Findings.{is_waiting}
-use Rattle.usb_host.specs.HostState.{HostState, work}
+use Rattle.usb_world.specs.{root_row, changes}
+use Rattle.usb_bus.specs.{StepRun}
+use Rattle.usb_table.specs.{Entries, is_waiting}
+use Rattle.usb_host.specs.HostStates.{HostState, work}
 use Rattle.usb_host.specs.Ownership.{IsRooted}
 use Rattle.usb_host.specs.declared.host.Round.{Round}
 use Rattle.usb_host.specs.declared.host.Round.TheVariants.{Worked, Quiet}

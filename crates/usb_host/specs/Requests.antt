@@ -1,22 +1,15 @@
 -- What requests at a port leave.
 use Rattle.std.specs.Prelude.{◌≡◌, ◌*◌, ◌+◌, ℕ, List, Bool, true, false, Result, Ok, IfOk}
-use Rattle.usb_port.specs.Calls.{clear_call}
-use Rattle.usb_port.specs.declared.status.PortStatus.{PortStatus}
-use Rattle.usb_address.specs.Claims.{AddressMap}
-use Rattle.usb_address.specs.Ownership.{KeepsAddresses, MapHolds, WhileBusWorks}
-use Rattle.usb_pipe.specs.Control.{write_bound}
-use Rattle.usb_pipe.specs.declared.fault.PipeFault.{PipeFault}
-use Rattle.usb_hub.specs.declared.port.HubPort.{HubPort}
-use Rattle.usb_hub.specs.Addresses.{IsAt, KeepsAsked, KeepsCleared}
-use Rattle.usb_hub.specs.Moments.{CommandsPort, ReadsPort}
-use Rattle.usb_hub.specs.Port.{PortCleared, PortRead}
-use Rattle.usb_enum.specs.Bounds.{read_bound}
-use Rattle.usb_enum.specs.Stop.{CanFail, at_port}
-use Rattle.usb_enum.specs.declared.fault.EnumFault.{EnumFault}
+use Rattle.usb_port.specs.{clear_call, PortStatus}
+use Rattle.usb_address.specs.{AddressMap, KeepsAddresses, MapHolds, WhileBusWorks}
+use Rattle.usb_pipe.specs.{write_bound, PipeFault}
+use Rattle.usb_hub.specs.{HubPort, IsAt, KeepsAsked, KeepsCleared, CommandsPort, ReadsPort}
+use Rattle.usb_hub.specs.{PortCleared, PortRead}
+use Rattle.usb_enum.specs.{read_bound, CanFail, at_port, EnumFault}
 use Rattle.usb_host.specs.Backlog.{ClearsConnection}
 use Rattle.usb_host.specs.Bounds.{clearing_bound}
 use Rattle.usb_host.specs.Changes.{HasOnlyWorldChanges, KeepsEach}
-use Rattle.usb_host.specs.HostState.{HostState}
+use Rattle.usb_host.specs.HostStates.{HostState}
 use Rattle.usb_host.specs.Ownership.{BaresPort}
 use Rattle.usb_host.specs.PortHandling.{ClearsChange, Tidies}
 use Rattle.usb_host.specs.Ports.{ProgressOnOk, IsDue, Requested}

@@ -4,46 +4,26 @@ use Rattle.std.specs.Prelude.{◌≡◌, ◌≢◌, ◌⊎◌, ◌≤◌, ◌+�
 use Rattle.std.specs.Prelude.{Option, None, Some, Result, Ok, Err, OnOk, IfOk, IsSome, IsSomeAnd}
 use Rattle.std.specs.BTreeMap.{insert_entry}
 use Rattle.arrayvec.specs.ArrayVec.{ArrayVec}
-use Rattle.usb_port.specs.Order.{path_cmp, parent_of}
-use Rattle.usb_port.specs.Path.{IsPath}
-use Rattle.usb_port.specs.Status.{has_bit}
-use Rattle.usb_port.specs.declared.call.PortCall.{PortCall}
-use Rattle.usb_port.specs.declared.call.PortCall.TheVariants.{ClearEnable, ClearConnectionChange}
-use Rattle.usb_port.specs.declared.call.PortCall.TheVariants.{ClearEnableChange, ClearResetChange}
-use Rattle.usb_port.specs.declared.status.PortStatus.{PortStatus}
-use Rattle.usb_world.specs.PlanData.{PlanData}
-use Rattle.usb_world.specs.World.{World, changes, root_port_at, root_row, roots_of}
-use Rattle.usb_address.specs.Claims.{AddressMap}
-use Rattle.usb_address.specs.Ownership.{MapHolds, WhileBusWorks}
-use Rattle.usb_transaction.specs.Failures.{NoThreeDamaged}
-use Rattle.usb_pipe.specs.declared.fault.PipeFault.{PipeFault}
-use Rattle.usb_pipe.specs.Leaves.{ByteTold}
-use Rattle.usb_hub.specs.declared.port.HubPort.{HubPort}
-use Rattle.usb_hub.specs.Addresses.{IsAt}
-use Rattle.usb_hub.specs.Moments.{PortCallDone, PortStatusAt}
-use Rattle.usb_enum.specs.Bounds.{widest_enumeration}
-use Rattle.usb_enum.specs.Stop.{CanFail}
-use Rattle.usb_enum.specs.declared.fault.EnumFault.{EnumFault}
-use Rattle.usb_enum.specs.declared.fault.EnumFault.TheVariants.{ParentLost, Bus, Memory}
-use Rattle.usb_enum.specs.declared.finding.Accepted.{Accepted}
-use Rattle.usb_enum.specs.declared.finding.Finding.{Finding}
-use Rattle.usb_table.specs.Entries.{Entries, Replaced, without}
-use Rattle.usb_table.specs.Findings.{is_hub, is_waiting, accepted_device_at}
-use Rattle.usb_table.specs.declared.known.KnownPort.{KnownPort}
-use Rattle.usb_table.specs.KnownPorts.{known_port}
-use Rattle.usb_table.specs.Levels.{BitsOf, IsListening}
-use Rattle.usb_table.specs.NextEntries.{ComesAfter, IsNext, IsLast}
-use Rattle.usb_table.specs.Listing.{hub_facts_at}
-use Rattle.usb_table.specs.Table.{pipes_at}
-use Rattle.usb_table.specs.Transfers.{PipesPolled}
-use Rattle.usb_resources.specs.Pool.{IsFull}
+use Rattle.usb_port.specs.{path_cmp, parent_of, IsPath, has_bit, PortCall, ClearEnable}
+use Rattle.usb_port.specs.{ClearConnectionChange, ClearEnableChange, ClearResetChange, PortStatus}
+use Rattle.usb_world.specs.{PlanData, World, changes, root_port_at, root_row, roots_of}
+use Rattle.usb_address.specs.{AddressMap, MapHolds, WhileBusWorks}
+use Rattle.usb_transaction.specs.{NoThreeDamaged}
+use Rattle.usb_pipe.specs.{PipeFault, ByteTold}
+use Rattle.usb_hub.specs.{HubPort, IsAt, PortCallDone, PortStatusAt}
+use Rattle.usb_enum.specs.{widest_enumeration, CanFail, EnumFault, ParentLost, Bus, Memory}
+use Rattle.usb_enum.specs.{Accepted, Finding}
+use Rattle.usb_table.specs.{Entries, Replaced, without, is_hub, is_waiting, accepted_device_at}
+use Rattle.usb_table.specs.{KnownPort, known_port, BitsOf, IsListening, ComesAfter, IsNext, IsLast}
+use Rattle.usb_table.specs.{hub_facts_at, pipes_at, PipesPolled}
+use Rattle.usb_resources.specs.{IsFull}
 use Rattle.usb_host.specs.Backlog.{hubs, ClearsReset, PaysAtLook, PaysAtServe, RestsCalm}
 use Rattle.usb_host.specs.Bounds.{drop_bound, handling_bound, look_bound, roots_bound}
 use Rattle.usb_host.specs.Bounds.{serving_bound, told_bound}
 use Rattle.usb_host.specs.Budget.{Affords, HubPaid, NumberPaid, PaysPart, PaysRound, PortPaid}
 use Rattle.usb_host.specs.Budget.{RootsPaid, RoundPaid, ToldPaid, Weights, handling_most, hubs_most}
 use Rattle.usb_host.specs.Budget.{poll_most, told_most}
-use Rattle.usb_host.specs.HostState.{HostState}
+use Rattle.usb_host.specs.HostStates.{HostState}
 use Rattle.usb_host.specs.Ownership.{DropsHub, HasLost, IsOwned, KeepsOwned, KeepsPort}
 use Rattle.usb_host.specs.PortHandling.{DropsLost, FindsSound, ServesSound}
 use Rattle.usb_host.specs.Ports.{Entered, Forgets, IsDue, Looked, Requested, ProgressOrLost, Waits}

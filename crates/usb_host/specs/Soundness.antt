@@ -1,38 +1,24 @@
 -- When what a host knows of its ports is so.
 use Rattle.std.specs.Prelude.{◌≡◌, ◌≢◌, ◌⊎◌, ◌≤◌, ℕ, List, [], ◌∷◌, ◌++◌, None, Some, IsSome}
 use Rattle.std.specs.Prelude.{IfSome, unwrap_or, option_map, true, false, ⊤, Result, Ok, OnOk, All}
-use Rattle.usb_port.specs.Order.{parent_of, port_on_hub}
-use Rattle.usb_resources.specs.Pool.{Addresses}
-use Rattle.usb_device.specs.Rows.{State}
-use Rattle.usb_device.specs.Tree.{reach}
-use Rattle.usb_device.specs.View.{state_there, port_there}
-use Rattle.usb_world.specs.Devices.{EachWas}
-use Rattle.usb_tree.specs.Paths.{pending, is_way}
-use Rattle.usb_world.specs.World.{World, root_row, roots_of, changes}
-use Rattle.usb_hub.specs.Addresses.{EachElsewhere}
-use Rattle.usb_enum.specs.declared.cause.Cause.{Cause}
-use Rattle.usb_enum.specs.declared.cause.Cause.TheVariants.{NoAddress}
-use Rattle.usb_enum.specs.declared.finding.Accepted.{Accepted}
+use Rattle.usb_port.specs.{parent_of, port_on_hub}
+use Rattle.usb_resources.specs.{Addresses}
+use Rattle.usb_device.specs.{State, reach, state_there, port_there}
+use Rattle.usb_world.specs.{EachWas, World, root_row, roots_of, changes}
+use Rattle.usb_tree.specs.{pending, is_way}
+use Rattle.usb_hub.specs.{EachElsewhere, TouchesNoPort}
+use Rattle.usb_enum.specs.{Cause, NoAddress, Accepted, HubFacts, IsFindingOf, IsRight, IsSet}
+use Rattle.usb_enum.specs.{IsKnownAs, IsOccupied, FewLosses, IsInOrder, IsOrderly}
 use Rattle.usb_enum.specs.declared.finding.Finding.TheVariants.{Device, Refused}
-use Rattle.usb_enum.specs.declared.hub.HubFacts.{HubFacts}
-use Rattle.usb_backlog.specs.Marks.{KeepsAll}
-use Rattle.usb_hub.specs.Requests.{TouchesNoPort}
-use Rattle.usb_enum.specs.Verdicts.{IsFindingOf, IsRight, IsSet}
-use Rattle.usb_enum.specs.Places.{IsKnownAs, IsOccupied}
-use Rattle.usb_table.specs.declared.known.KnownPort.{KnownPort}
-use Rattle.usb_table.specs.Entries.{Entries}
-use Rattle.usb_table.specs.Findings.{accepted_device_at}
-use Rattle.usb_table.specs.KnownPorts.{known_port}
-use Rattle.usb_table.specs.Levels.{AllInSync, InSyncAt}
-use Rattle.usb_table.specs.Listing.{finding_at, hub_facts_at, IsListedPort, tier_of, ListsEach}
-use Rattle.usb_table.specs.Transfers.{SameSettings}
-use Rattle.usb_transaction.specs.Failures.{NoThreeDamaged}
-use Rattle.usb_enum.specs.Losses.{FewLosses}
-use Rattle.usb_enum.specs.PresentDevices.{IsInOrder, IsOrderly}
+use Rattle.usb_backlog.specs.{KeepsAll}
+use Rattle.usb_table.specs.{KnownPort, Entries, accepted_device_at, known_port, AllInSync, InSyncAt}
+use Rattle.usb_table.specs.{finding_at, hub_facts_at, IsListedPort, tier_of, ListsEach}
+use Rattle.usb_table.specs.{SameSettings}
+use Rattle.usb_transaction.specs.{NoThreeDamaged}
 use Rattle.usb_host.specs.Agreement.{Agrees}
 use Rattle.usb_host.specs.Bounds.{hub_poll_bound, hubs_bound, looks_bound, round_bound}
 use Rattle.usb_host.specs.BulkPipes.{KeepsBulk}
-use Rattle.usb_host.specs.HostState.{HostState}
+use Rattle.usb_host.specs.HostStates.{HostState}
 use Rattle.usb_host.specs.Plugs.{KeepsPlugs}
 use Rattle.usb_host.specs.Progress.{HostRuns}
 use Rattle.usb_host.specs.Transfers.{table_in}

@@ -1,15 +1,15 @@
 -- What a fault of the host says of the bus, and when the host stops.
 use Rattle.std.specs.Prelude.{◌≡◌, ◌↔◌, ⊤, Bool, true, false, IsTrue, IsErrOf, IsErr, Result, Ok}
 use Rattle.std.specs.Prelude.{Err}
-use Rattle.usb_world.specs.World.{World, Failed}
-use Rattle.usb_pipe.specs.declared.fault.PipeFault.{PipeFault}
+use Rattle.usb_world.specs.{World, Failed}
+use Rattle.usb_pipe.specs.{PipeFault}
 use Rattle.usb_pipe.specs.declared.fault.PipeFault.TheVariants as pipe
-use Rattle.usb_table.specs.declared.fault.EndpointFault.{EndpointFault}
+use Rattle.usb_table.specs.{EndpointFault}
 use Rattle.usb_table.specs.declared.fault.EndpointFault.TheVariants as endpoint
 use Rattle.usb_host.specs.declared.fault.HostFault.{HostFault}
 use Rattle.usb_host.specs.declared.fault.HostFault.TheVariants.{Stopped, NoDevice, NoEndpoint, Pipe}
 use Rattle.usb_host.specs.declared.fault.HostFault.TheVariants.{Bus, Memory}
-use Rattle.usb_host.specs.HostState.{HostState}
+use Rattle.usb_host.specs.HostStates.{HostState}
 
 -- a pipe's fault as the host's
 abbrev pub pipe_fault : PipeFault → HostFault

@@ -1,14 +1,11 @@
 -- What a transfer to the device at a path moved.
 use Rattle.std.specs.Prelude.{◌≡◌, ℕ, List, false, Result}
 use Rattle.std.specs.Global.{Vec}
-use Rattle.usb_world.specs.World.{World}
-use Rattle.usb_table.specs.declared.fault.EndpointFault.{EndpointFault}
-use Rattle.usb_table.specs.declared.pipes.Pipes.{Pipes}
-use Rattle.usb_table.specs.Table.{Table, GoesThrough, pipes_at}
-use Rattle.usb_table.specs.Levels.{KeepsMoved}
-use Rattle.usb_table.specs.Transfers.{PipesSent, PipesReceived, PipesCleared}
+use Rattle.usb_world.specs.{World}
+use Rattle.usb_table.specs.{EndpointFault, Pipes, Table, GoesThrough, pipes_at, KeepsMoved}
+use Rattle.usb_table.specs.{PipesSent, PipesReceived, PipesCleared}
 use Rattle.usb_host.specs.declared.fault.HostFault.{HostFault}
-use Rattle.usb_host.specs.HostState.{HostState}
+use Rattle.usb_host.specs.HostStates.{HostState}
 use Rattle.usb_host.specs.ToldFaults.{host_told}
 
 -- what the host knows of the ports

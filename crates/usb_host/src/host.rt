@@ -39,7 +39,7 @@ impl<B: Bus> Model for Host<B> {
     ghost use Rattle.std.specs.Ordering.{nat_cmp};
     ghost use Rattle.usb_device.specs.TreeCodes.{ports_code};
     ghost use Rattle.usb_host.specs.Agreement.{Agrees};
-    ghost use Rattle.usb_host.specs.HostState.{HostState};
+    ghost use Rattle.usb_host.specs.HostStates.{HostState};
 
     ghost coded = { Prim.hlevel (codes, ports_code, set.code {R = nat_cmp} coded_ℕ) };
 

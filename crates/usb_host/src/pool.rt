@@ -1,10 +1,10 @@
 //! The table and the pool of addresses, changed together.
 ghost use Rattle.std.specs.Prelude.{◌≡◌, false, OnOk, OnErr};
-ghost use Rattle.usb_table.specs.Entries.{has_at};
-ghost use Rattle.usb_table.specs.Table.{entered};
+ghost use Rattle.usb_table.specs.TableEntries.{has_at};
+ghost use Rattle.usb_table.specs.Tables.{entered};
 ghost use Rattle.usb_table.specs.Findings.{IsSoundFinding, HasNewAddress, address_found};
 ghost use Rattle.usb_enum.specs.declared.finding.Finding.{Finding};
-ghost use Rattle.usb_host.specs.HostState.{Frees};
+ghost use Rattle.usb_host.specs.HostStates.{Frees};
 
 use std::alloc::AllocError;
 use usb_enum::Finding;

@@ -2,10 +2,10 @@
 ghost use Rattle.std.specs.Prelude.{◌≡◌, ◌≤◌, ◌+◌, ◌*◌, [], ◌∷◌, true, false, IsTrue, Ok, IfErr, IfSome, IfNone, IsSome, MatchResult, is_some};
 ghost use Rattle.usb_port.specs.Calls.{IsClearFeature};
 ghost use Rattle.usb_port.specs.Path.{IsPath, IsPortNumber};
-ghost use Rattle.usb_world.specs.World.{IsRootPort, root_port_at};
+ghost use Rattle.usb_world.specs.Worlds.{IsRootPort, root_port_at};
 ghost use Rattle.usb_hub.specs.Port.{IsAsked};
-ghost use Rattle.usb_enum.specs.Stop.{at_port};
-ghost use Rattle.usb_table.specs.Entries.{has_at};
+ghost use Rattle.usb_enum.specs.Stops.{at_port};
+ghost use Rattle.usb_table.specs.TableEntries.{has_at};
 ghost use Rattle.usb_table.specs.Findings.{accepted_device_at};
 ghost use Rattle.usb_table.specs.KnownPorts.{IsAskable, known_port};
 ghost use Rattle.usb_table.specs.Listing.{tier_of};

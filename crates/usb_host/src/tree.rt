@@ -10,7 +10,7 @@ pub struct Tree {
 }
 
 impl Model for Tree {
-    ghost use Rattle.usb_table.specs.Entries.{Entries, Rises};
+    ghost use Rattle.usb_table.specs.TableEntries.{Entries, Rises};
 
     ghost Value = { Entries };
 
@@ -21,7 +21,7 @@ impl Model for Tree {
 
 impl Tree {
     ghost use Rattle.std.specs.Prelude.{◌≡◌};
-    ghost use Rattle.usb_table.specs.Entries.{Rises};
+    ghost use Rattle.usb_table.specs.TableEntries.{Rises};
 
     pub(crate) fn new(entries: Vec<(PortPath, Finding)>) -> Self
         requires { Rises entries.items }

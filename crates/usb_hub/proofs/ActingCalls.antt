@@ -3,38 +3,25 @@ use Rattle.std.proofs.Common.{◌≡◌, ℕ, zero, suc, ◌&&◌, ◌⊎◌, in
 use Rattle.std.proofs.Common.{[], ◌∷◌, ◌++◌, Option, None, Some, option_map, if◌then◌else◌, refl}
 use Rattle.std.proofs.Common.{ap, sym, subst, ◌∙◌}
 use Rattle.std.proofs.lemmas.Option.{same_Some}
-use Rattle.usb_port.specs.PortState.{is_attached}
-use Rattle.usb_request.specs.Codes.{SET_ADDRESS, SET_FEATURE, DEVICE_OUT, PORT_OUT}
-use Rattle.usb_request.specs.Layout.{setup_of, bytes_of}
-use Rattle.usb_request.specs.declared.setup.Setup.{Setup}
-use Rattle.usb_port.specs.declared.call.PortCall.{PortCall}
-use Rattle.usb_device.specs.declared.effect.Effect.TheVariants.{Leaves}
-use Rattle.usb_device.specs.declared.request.Registers.{Registers}
-use Rattle.usb_device.specs.Attempt.{is_whole}
-use Rattle.usb_port.specs.Calls.{is_reset, called_port, set_call}
-use Rattle.usb_device.specs.Effect.{effect_of_request, asked_by_setup}
-use Rattle.usb_device.specs.Request.{outcome, port_named, called_at, Is}
-use Rattle.usb_device.specs.Spec.{Spec}
-use Rattle.usb_device.specs.Tree.{Ports, ended, vacant, taken, before, reset_where, called}
-use Rattle.usb_device.specs.Tree.{changed_at, acted, place, place_at, Location, path_to}
-use Rattle.usb_world.specs.declared.types.Attempt.{Attempt}
-use Rattle.usb_world.specs.Courses.{is_harmless, resets, step_keeps_pending}
-use Rattle.usb_tree.specs.Paths.{is_way, same_number}
-use Rattle.usb_world.specs.OneHolder.{IsMade, IsSetup, HolderIn, setup_asked, token_way}
-use Rattle.usb_world.specs.OneHolder.{payload_way}
-use Rattle.usb_tree.specs.AttemptPackets.{NobodyHolds, deep_at}
-use Rattle.usb_world.specs.PortRequests.{AsksNothing, is_port_request, is_sparing, leaves_step}
-use Rattle.usb_world.specs.Steps.{attempt, root_call, after, at_attempt, damage_in}
-use Rattle.usb_tree.specs.WayEffects.{keeps_pending}
-use Rattle.usb_world.specs.World.{World}
+use Rattle.usb_port.specs.{is_attached, PortCall, is_reset, called_port, set_call}
+use Rattle.usb_request.specs.{SET_ADDRESS, SET_FEATURE, DEVICE_OUT, PORT_OUT, setup_of, bytes_of}
+use Rattle.usb_request.specs.{Setup}
+use Rattle.usb_device.specs.{Leaves, Registers, is_whole, effect_of_request, asked_by_setup}
+use Rattle.usb_device.specs.{outcome, port_named, called_at, Is, Spec, Ports, ended, vacant, taken}
+use Rattle.usb_device.specs.{before, reset_where, called, changed_at, acted, place, place_at}
+use Rattle.usb_device.specs.{Location, path_to}
+use Rattle.usb_world.specs.{Attempt, is_harmless, resets, step_keeps_pending, IsMade, IsSetup}
+use Rattle.usb_world.specs.{HolderIn, setup_asked, token_way, payload_way, AsksNothing}
+use Rattle.usb_world.specs.{is_port_request, is_sparing, leaves_step, attempt, root_call, after}
+use Rattle.usb_world.specs.{at_attempt, damage_in, World}
+use Rattle.usb_tree.specs.{is_way, same_number, NobodyHolds, deep_at, keeps_pending}
 use Rattle.usb_world.proofs.Interface.{holder_or_nobody, nobody_in, others_asked_nothing}
 use Rattle.usb_world.proofs.Interface.{self_asked, setup_place_in, silent_place_in}
 use Rattle.usb_tree.proofs.Interface.{and_false, decided, false_true, or_right}
-use Rattle.usb_transaction.specs.declared.target.Target.{Target}
-use Rattle.usb_transaction.specs.Transactions.{setup_attempt}
+use Rattle.usb_transaction.specs.{Target, setup_attempt}
 use Rattle.usb_address.proofs.Interface.{ClaimedAt, place_ports, claimed_holder, less_one}
 use Rattle.usb_address.proofs.Interface.{port_named-cases, nobody_asks_nothing, unshared_after}
-use Rattle.usb_hub.specs.Moments.{ActsAt}
+use Rattle.usb_hub.specs.{ActsAt}
 
 -- Trees
 
@@ -81,8 +68,7 @@ root_others c (suc i) w (suc m ∷ []) d = split (same_number i m) refl d
     split false e d = record {
       spares = rw e refl;
       rests = rw e (and_false (is_reset c));
-      leaves =
-          rw e refl;
+      leaves = rw e refl;
     }
 root_others c (suc i) w (suc m ∷ n ∷ x) d = split (same_number i m) refl d
   where
@@ -106,8 +92,7 @@ root_acted c (suc i) w = place_called c w.roots i
 pub root_acts : (c : PortCall) (n : ℕ) (w : World) → ActsAt (n ∷ []) c (root_call c n) w
 root_acts c n w = record {
   port = inr (root_acted c n w);
-  about =
-      record { others = root_others c n w; spares = root_spared c n w };
+  about = record { others = root_others c n w; spares = root_spared c n w };
 }
 
 -- A request for a call at the port of a number
@@ -159,8 +144,7 @@ module _ (t : Target) (j : Location) (i : ℕ) (request : Setup) (c : PortCall)
       port = inl (ap (λ k. place k p) (nobody_in a w made x).1);
       about = record {
         others = λ y d. nobody_asks_nothing a w y x made.settled;
-        spares =
-            λ s. (nobody_asks_nothing a w p x made.settled).spares;
+        spares = λ s. (nobody_asks_nothing a w p x made.settled).spares;
       };
     }
 

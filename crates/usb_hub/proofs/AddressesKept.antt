@@ -3,46 +3,28 @@ use Rattle.std.proofs.Common.{◌≡◌, ◌≢◌, ◌⊎◌, inl, inr, ◌∙�
 use Rattle.std.proofs.Common.{if◌then◌else◌}
 use Rattle.std.specs.Prelude.{ℕ, List, None, Some, option_map, Result, Ok, Err, OnOk}
 use Rattle.std.specs.Global.{Vec}
-use Rattle.usb_request.specs.Features.{PORT_ENABLE, PORT_RESET, PORT_POWER}
-use Rattle.usb_request.specs.Codes.{SET_ADDRESS, DEVICE_OUT}
-use Rattle.usb_port.specs.Status.{seen, status_in}
-use Rattle.usb_port.specs.declared.status.PortStatus.{PortStatus}
-use Rattle.usb_request.specs.Layout.{IsToHost}
-use Rattle.usb_request.specs.HubRequests.{clear_hub_feature}
-use Rattle.usb_request.specs.declared.setup.Setup.{Setup}
-use Rattle.usb_request.specs.Requests.{get_port_status, set_port_feature, clear_port_feature}
-use Rattle.usb_request.specs.Requests.{set_address, set_configuration}
-use Rattle.usb_port.specs.declared.call.PortCall.{PortCall}
-use Rattle.usb_port.specs.declared.call.PortCall.TheVariants.{SetPower, SetReset}
+use Rattle.usb_request.specs.{PORT_ENABLE, PORT_RESET, PORT_POWER, SET_ADDRESS, DEVICE_OUT}
+use Rattle.usb_request.specs.{IsToHost, clear_hub_feature, Setup, get_port_status, set_port_feature}
+use Rattle.usb_request.specs.{clear_port_feature, set_address, set_configuration}
+use Rattle.usb_port.specs.{seen, status_in, PortStatus, PortCall, SetPower, SetReset, clear_call}
+use Rattle.usb_port.specs.{is_reset, IsClearFeature}
 use Rattle.usb_port.proofs.Interface.{call_is, clear_no-reset}
-use Rattle.usb_port.specs.Calls.{clear_call, is_reset, IsClearFeature}
-use Rattle.usb_device.specs.Request.{Is}
-use Rattle.usb_device.specs.Rows.{State}
-use Rattle.usb_device.specs.Tree.{Location, path_to, reach_on, state_on}
-use Rattle.usb_world.specs.World.{World, root_port_at}
-use Rattle.usb_world.specs.Steps.{SetsRoot, ClearsRoot, root_call, after}
-use Rattle.usb_world.specs.Addresses.{after_reset, after_taking}
-use Rattle.usb_world.specs.Courses.{is_harmless}
-use Rattle.usb_tree.specs.Paths.{address_of, is_way, same_path}
+use Rattle.usb_device.specs.{Is, State, Location, path_to, reach_on, state_on}
+use Rattle.usb_world.specs.{World, root_port_at, SetsRoot, ClearsRoot, root_call, after}
+use Rattle.usb_world.specs.{after_reset, after_taking, is_harmless}
+use Rattle.usb_tree.specs.{address_of, is_way, same_path}
 use Rattle.usb_tree.proofs.Interface.{false_true}
-use Rattle.usb_transaction.specs.declared.target.Target.{Target}
-use Rattle.usb_transaction.specs.Answerer.{Answerer}
-use Rattle.usb_pipe.specs.declared.fault.PipeFault.{PipeFault}
-use Rattle.usb_pipe.specs.Stages.{Reads}
+use Rattle.usb_transaction.specs.{Target, Answerer}
+use Rattle.usb_pipe.specs.{PipeFault, Reads}
 use Rattle.usb_pipe.proofs.Interface.{host_harmless}
-use Rattle.usb_address.specs.Claims.{AddressMap, map_without}
-use Rattle.usb_address.specs.Ownership.{MapHolds, WhileBusWorks, KeepsAddresses}
+use Rattle.usb_address.specs.{AddressMap, map_without, MapHolds, WhileBusWorks, KeepsAddresses}
 use Rattle.usb_address.proofs.Interface.{answerer_claims, either_alone, gives_address, keeps_none}
 use Rattle.usb_address.proofs.Interface.{not_way, read_keeps, reads_other, reset_till, root_keeps}
 use Rattle.usb_address.proofs.Interface.{root_resets, root_shut, same_setup, is_way-same_path}
 use Rattle.usb_address.proofs.Interface.{write_keeps, write_till}
-use Rattle.usb_hub.specs.declared.port.HubPort.{HubPort}
-use Rattle.usb_hub.specs.declared.port.HubPort.TheVariants.{Root, External}
-use Rattle.usb_hub.specs.Addresses.{StaysAs, EachElsewhere, KeepsDevices, IsBelow, IsClaimed}
-use Rattle.usb_hub.specs.Addresses.{Resets, GivesAddress, KeepsAnswered, KeepsAsked, KeepsSet}
-use Rattle.usb_hub.specs.Addresses.{KeepsCleared}
-use Rattle.usb_hub.specs.Port.{PortRead}
-use Rattle.usb_hub.specs.Requests.{EndsAfter, ReadAs, Commanded}
+use Rattle.usb_hub.specs.{HubPort, Root, External, StaysAs, EachElsewhere, KeepsDevices, IsBelow}
+use Rattle.usb_hub.specs.{IsClaimed, Resets, GivesAddress, KeepsAnswered, KeepsAsked, KeepsSet}
+use Rattle.usb_hub.specs.{KeepsCleared, PortRead, EndsAfter, ReadAs, Commanded}
 use Rattle.usb_hub.proofs.Devices.{not_reset, keeps_devices_none, port_status_keeps}
 use Rattle.usb_hub.proofs.Devices.{clear_feature_keeps, set_stays, reset_stays, root_stays}
 use Rattle.usb_hub.proofs.Devices.{root_elsewhere}

@@ -4,39 +4,22 @@ use Rattle.std.proofs.Common.{refl, ap, sym, subst, ◌∙◌, arith}
 use Rattle.std.proofs.lemmas.Bool.Decides.{nat_tests}
 use Rattle.std.proofs.Common.{◌≤◌, ◌==◌}
 use Rattle.std.specs.Global.{Vec}
-use Rattle.usb_request.specs.Codes.{PORT_OUT, SET_FEATURE}
-use Rattle.usb_request.specs.Layout.{bytes_of, IsToHost}
-use Rattle.usb_request.specs.declared.setup.Setup.{Setup}
-use Rattle.usb_port.specs.declared.call.PortCall.{PortCall}
-use Rattle.usb_port.specs.Calls.{set_call}
-use Rattle.usb_device.specs.Request.{Is}
-use Rattle.usb_device.specs.Tree.{Location, path_to}
-use Rattle.usb_world.specs.declared.types.Attempt.{Attempt}
-use Rattle.usb_world.specs.declared.types.Outcome.{Outcome}
-use Rattle.usb_world.specs.Addresses.{is_setup}
-use Rattle.usb_tree.specs.AttemptPackets.{IsSettled, NobodyHolds}
-use Rattle.usb_world.specs.OneHolder.{HolderIn, IsMade, IsSetup}
-use Rattle.usb_world.specs.PlanCourses.{AtPorts}
-use Rattle.usb_world.specs.Steps.{Course, Step, after, attempt, event, at_attempt, report}
-use Rattle.usb_world.specs.Steps.{root_call}
-use Rattle.usb_world.specs.World.{World}
+use Rattle.usb_request.specs.{PORT_OUT, SET_FEATURE, bytes_of, IsToHost, Setup}
+use Rattle.usb_port.specs.{PortCall, set_call}
+use Rattle.usb_device.specs.{Is, Location, path_to, State}
+use Rattle.usb_world.specs.{Attempt, Outcome, is_setup, HolderIn, IsMade, IsSetup, AtPorts, Course}
+use Rattle.usb_world.specs.{Step, after, attempt, event, at_attempt, report, root_call, World}
+use Rattle.usb_tree.specs.{IsSettled, NobodyHolds}
 use Rattle.usb_world.proofs.Interface.{Allows, course_joined, course_then, holder_or_nobody}
 use Rattle.usb_world.proofs.Interface.{made_of, settled_wider}
 use Rattle.usb_tree.proofs.Interface.{decided}
-use Rattle.usb_backlog.specs.Marks.{CoversCall, Few, KeepsAll, KeepsBy, PortMark, is_marked}
+use Rattle.usb_backlog.specs.{CoversCall, Few, KeepsAll, KeepsBy, PortMark, is_marked}
 use Rattle.usb_backlog.proofs.Interface.{AttemptAllows, Covers, KeepsStep, data_allows}
 use Rattle.usb_backlog.proofs.Interface.{holder_allows, keeps-attempt, keeps-chain, keeps-unheard}
 use Rattle.usb_backlog.proofs.Interface.{payload_sets_none, request_sets_none, sets_none}
-use Rattle.usb_transaction.specs.declared.target.Target.{Target}
-use Rattle.usb_transaction.specs.Leaves.{AcceptedAt}
-use Rattle.usb_transaction.specs.AttemptLog.{AttemptLog}
+use Rattle.usb_transaction.specs.{Target, AcceptedAt, AttemptLog, setup_attempt}
 use Rattle.usb_transaction.proofs.Interface.{trail_course}
-use Rattle.usb_device.specs.Rows.{State}
-use Rattle.usb_transaction.specs.Transactions.{setup_attempt}
-use Rattle.usb_pipe.specs.declared.fault.PipeFault.{PipeFault}
-use Rattle.usb_pipe.specs.Attempts.{IsOfTransfer}
-use Rattle.usb_pipe.specs.Leaves.{IsBehind, IsNoBusFault}
-use Rattle.usb_pipe.specs.Stages.{Reads, Writes}
+use Rattle.usb_pipe.specs.{PipeFault, IsOfTransfer, IsBehind, IsNoBusFault, Reads, Writes}
 use Rattle.usb_pipe.proofs.Interface.{read_attempts, write_attempts}
 use Rattle.usb_address.proofs.Interface.{ClaimedAt, KeepsClaim, claimed_holder, same_setup}
 use Rattle.usb_address.proofs.Interface.{trail_with, unshared_after}
@@ -138,8 +121,7 @@ module _ (m v r : PortMark) (few : Few v r) where
 pub rests_backlog : (t : Target) {w x : World} → Course (IsBehind t) w x → IsSettled w.roots
     → KeepsAll w x
 rests_backlog t c settled = record {
-  all =
-      λ ports m v r few. keeps-chain m v r few ports (behind_keeps m v r few t c settled);
+  all = λ ports m v r few. keeps-chain m v r few ports (behind_keeps m v r few t c settled);
 }
 
 -- up to the moment at which a request was accepted that sets no feature of a port

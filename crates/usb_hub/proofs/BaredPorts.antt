@@ -2,27 +2,18 @@
 use Rattle.std.proofs.Common.{◌≡◌, ◌&&◌, ℕ, zero, suc, Bool, true, false, List, [], ◌∷◌, ◌++◌}
 use Rattle.std.proofs.Common.{Option, None, Some, option_map, Ok, refl, ap, sym, subst, ◌∙◌}
 use Rattle.std.specs.Prelude.{IfSome}
-use Rattle.usb_request.specs.Features.{PORT_ENABLE}
-use Rattle.usb_port.specs.PortState.{PortState}
-use Rattle.usb_port.specs.declared.status.PortStatus.{PortStatus}
-use Rattle.usb_port.specs.declared.call.PortCall.TheVariants.{ClearEnable}
-use Rattle.usb_port.specs.Calls.{clear_call, called_port}
-use Rattle.usb_device.specs.Tree.{Ports, ended, vacant, taken, port_of, place, port_at, reach}
-use Rattle.usb_device.specs.Tree.{reach_at}
-use Rattle.usb_device.specs.View.{port_there}
-use Rattle.usb_tree.specs.Paths.{is_way}
-use Rattle.usb_world.specs.Steps.{after}
-use Rattle.usb_world.specs.World.{World}
+use Rattle.usb_request.specs.{PORT_ENABLE}
+use Rattle.usb_port.specs.{PortState, PortStatus, ClearEnable, clear_call, called_port}
+use Rattle.usb_device.specs.{Ports, ended, vacant, taken, port_of, place, port_at, reach, reach_at}
+use Rattle.usb_device.specs.{port_there}
+use Rattle.usb_tree.specs.{is_way}
+use Rattle.usb_world.specs.{after, World}
 use Rattle.usb_world.proofs.Interface.{course_wider, same_device, way_rest}
 use Rattle.usb_tree.proofs.Interface.{and_false, false_true}
-use Rattle.usb_address.specs.Claims.{AddressMap, map_without}
-use Rattle.usb_address.specs.Ownership.{MapHolds, WhileBusWorks, KeepsAddresses}
+use Rattle.usb_address.specs.{AddressMap, map_without, MapHolds, WhileBusWorks, KeepsAddresses}
 use Rattle.usb_address.proofs.Interface.{bared}
-use Rattle.usb_hub.specs.declared.port.HubPort.{HubPort}
-use Rattle.usb_hub.specs.Addresses.{Isolates}
-use Rattle.usb_hub.specs.Moments.{OnReachedRow, PortStatusAt, ReadsPort, ports_at_step}
-use Rattle.usb_hub.specs.Moments.{PortCallDone, CommandsPort}
-use Rattle.usb_hub.specs.Requests.{TouchesNoPort}
+use Rattle.usb_hub.specs.{HubPort, Isolates, OnReachedRow, PortStatusAt, ReadsPort, ports_at_step}
+use Rattle.usb_hub.specs.{PortCallDone, CommandsPort, TouchesNoPort}
 use Rattle.usb_hub.proofs.CalledPorts.{port_of_place, port_of_called}
 
 -- the port at a path, if there is one, is not enabled
@@ -76,8 +67,7 @@ pub till_bared : (f : AddressMap) (p : List ℕ) (new : World) → WhileBusWorks
     → WhileBusWorks (MapHolds (map_without f p)) new
 till_bared f p new kept bare = record {
   so = λ none. bared f p new bare (kept.so none);
-  single =
-      kept.single;
+  single = kept.single;
 }
 
 -- its status was told, and it is not enabled
@@ -114,8 +104,7 @@ done_bares port old new keeps calls = record {
       calls.done f p ClearEnable (record {
         at = at;
         is = refl;
-        alone =
-            λ resets. absurd (cc resets);
+        alone = λ resets. absurd (cc resets);
         owned = o;
       }) refl in
       till_bared f p new (keeps.kept f o) (shut_since (after done.last done.before) new p done.row

@@ -6,43 +6,25 @@ use Rattle.std.proofs.Common.{arith}
 use Rattle.std.proofs.lemmas.Bool.Decides.{nat_tests}
 use Rattle.std.proofs.lemmas.Option.{same_Some}
 use Rattle.std.specs.Global.{Vec}
-use Rattle.usb_port.specs.PortState.{PortState, status_of}
-use Rattle.usb_request.specs.Layout.{setup_of, bytes_of, IsToHost}
-use Rattle.usb_request.specs.Requests.{get_port_status}
-use Rattle.usb_request.specs.declared.setup.Setup.{Setup}
-use Rattle.usb_port.specs.declared.call.PortCall.{PortCall}
-use Rattle.usb_device.specs.declared.effect.Effect.TheVariants.{Leaves}
-use Rattle.usb_device.specs.declared.request.Registers.{Registers}
-use Rattle.usb_device.specs.Effect.{effect_of_request, asked_by_setup}
-use Rattle.usb_device.specs.Request.{outcome, port_named, called_at, told_port}
-use Rattle.usb_device.specs.Rows.{State}
-use Rattle.usb_device.specs.Spec.{Spec, Hub}
-use Rattle.usb_device.specs.Transfer.{refused, reading, reads_port, first_stage}
-use Rattle.usb_device.specs.Tree.{acted, port_at, path_to, reach_on}
-use Rattle.usb_device.specs.View.{port_there}
-use Rattle.usb_world.specs.Courses.{is_harmless}
-use Rattle.usb_world.specs.Devices.{Was}
-use Rattle.usb_tree.specs.Paths.{address_of}
-use Rattle.usb_tree.specs.AttemptPackets.{IsSettled, deep_at}
-use Rattle.usb_world.specs.PortRequests.{asks_no_port, StillSet}
-use Rattle.usb_world.specs.World.{World}
+use Rattle.usb_port.specs.{PortState, status_of, PortCall}
+use Rattle.usb_request.specs.{setup_of, bytes_of, IsToHost, get_port_status, Setup}
+use Rattle.usb_device.specs.{Leaves, Registers, effect_of_request, asked_by_setup, outcome}
+use Rattle.usb_device.specs.{port_named, called_at, told_port, State, Spec, Hub, refused, reading}
+use Rattle.usb_device.specs.{reads_port, first_stage, acted, port_at, path_to, reach_on, port_there}
+use Rattle.usb_world.specs.{is_harmless, Was, asks_no_port, StillSet, World}
+use Rattle.usb_tree.specs.{address_of, IsSettled, deep_at}
 use Rattle.usb_world.proofs.Interface.{course_bits, course_wider, same_device}
 use Rattle.usb_tree.proofs.Interface.{equal_same}
-use Rattle.usb_transaction.specs.declared.target.Target.{Target}
-use Rattle.usb_transaction.specs.Leaves.{AcceptedAt}
-use Rattle.usb_transaction.specs.Failures.{Listens, NoThreeDamaged}
-use Rattle.usb_pipe.specs.declared.fault.PipeFault.{PipeFault}
+use Rattle.usb_transaction.specs.{Target, AcceptedAt, Listens, NoThreeDamaged}
+use Rattle.usb_pipe.specs.{PipeFault, IsNoBusFault, AnswerRead, WasRefused, ReadLeaves, WriteLeaves}
+use Rattle.usb_pipe.specs.{ControlReadFailure, WriteFailure}
 use Rattle.usb_pipe.specs.declared.fault.PipeFault.TheVariants.{Stalled, Busy, NoAnswer, Broken}
 use Rattle.usb_pipe.specs.declared.fault.PipeFault.TheVariants.{Bus, Memory}
-use Rattle.usb_pipe.specs.Leaves.{IsNoBusFault, AnswerRead, WasRefused, ReadLeaves, WriteLeaves}
-use Rattle.usb_pipe.specs.Failures.{ControlReadFailure, WriteFailure}
 use Rattle.usb_pipe.proofs.Interface.{read_leaves, read_why, write_leaves, write_why}
 use Rattle.usb_address.proofs.Interface.{settled_attempt, place_ports, less_one, port_below_at}
 use Rattle.usb_address.proofs.Interface.{same_setup}
-use Rattle.usb_hub.specs.Addresses.{StaysAs}
-use Rattle.usb_hub.specs.Requests.{Queried, ReadAs, Commanded, said_in}
-use Rattle.usb_hub.specs.declared.port.HubPort.TheVariants.{External}
-use Rattle.usb_hub.specs.CallFailures.{HubServes, NoHubFailed}
+use Rattle.usb_hub.specs.{StaysAs, Queried, ReadAs, Commanded, said_in, External, HubServes}
+use Rattle.usb_hub.specs.{NoHubFailed}
 use Rattle.usb_hub.proofs.ActingCalls.{AsksFor}
 use Rattle.usb_hub.proofs.Devices.{write_stays, stays-spec, stays-registers, called_of_port}
 use Rattle.usb_hub.proofs.Devices.{IsOfPort}
@@ -110,8 +92,7 @@ module _ (t : Target) (number : ℕ) (request : Setup) (c : PortCall)
   spared : is_harmless request ≡ false → (t.addr ≢ 0) × (address_of x.state ≢ 0)
   spared h = (
     x.addressed,
-    λ z. x.addressed
-        (sym (equal_same (address_of x.state) t.addr x.listens.at) ∙ z),
+    λ z. x.addressed (sym (equal_same (address_of x.state) t.addr x.listens.at) ∙ z),
   )
 
   of_port : (spec : Spec) (g : Registers) → IsOfPort (outcome spec g request)

@@ -4,36 +4,24 @@ use Rattle.std.proofs.Common.{◌≡◌, ℕ, zero, suc, ◌&&◌, ◌⊎◌, in
 use Rattle.std.proofs.Common.{false, List, [], ◌∷◌, ◌++◌, Option, None, Some, option_map, refl, ap}
 use Rattle.std.proofs.Common.{sym, subst, ◌∙◌}
 use Rattle.std.proofs.lemmas.Option.{same_Some}
-use Rattle.usb_port.specs.PortState.{PortState, is_attached, powered_on, reset}
-use Rattle.usb_port.specs.declared.status.PortStatus.{PortStatus}
-use Rattle.usb_port.specs.declared.call.PortCall.{PortCall}
-use Rattle.usb_port.specs.declared.call.PortCall.TheVariants.{SetPower, SetReset, ClearEnable}
-use Rattle.usb_port.specs.declared.call.PortCall.TheVariants.{ClearPower, ClearConnectionChange}
-use Rattle.usb_port.specs.declared.call.PortCall.TheVariants.{ClearEnableChange, ClearResetChange}
-use Rattle.usb_port.specs.Calls.{is_reset, called_port}
-use Rattle.usb_device.specs.Tree.{Ports, ended, vacant, taken, Place, empty, full, port_of}
-use Rattle.usb_device.specs.Tree.{reset_where, called, place, place_at, port_at, reach, reach_at}
-use Rattle.usb_device.specs.Tree.{state_at}
-use Rattle.usb_device.specs.Rows.{State}
-use Rattle.usb_device.specs.View.{port_there, state_there}
-use Rattle.usb_world.specs.declared.event.Event.{Event}
-use Rattle.usb_world.specs.declared.types.Attempt.{Attempt}
-use Rattle.usb_world.specs.Courses.{step_keeps_pending, resets}
-use Rattle.usb_tree.specs.Paths.{has_power, pending}
-use Rattle.usb_world.specs.PlanCourses.{spec_of}
-use Rattle.usb_world.specs.PortRequests.{AsksNothing, leaves_step, row_reached}
-use Rattle.usb_world.specs.RestingPorts.{LeavesPortAlone, SameAt, UnchangedOrPending}
-use Rattle.usb_world.specs.RestingPorts.{SameDeviceOrPending}
-use Rattle.usb_world.specs.Steps.{Step, attempt, root_call, event, report, after, with_attempt}
-use Rattle.usb_world.specs.Steps.{at_attempt, after_due_events, after_event, is_due, Course, here}
-use Rattle.usb_world.specs.Steps.{step}
-use Rattle.usb_tree.specs.WayEffects.{keeps_pending}
-use Rattle.usb_world.specs.World.{World}
+use Rattle.usb_port.specs.{PortState, is_attached, powered_on, reset, PortStatus, PortCall}
+use Rattle.usb_port.specs.{SetPower, SetReset, ClearEnable, ClearPower, ClearConnectionChange}
+use Rattle.usb_port.specs.{ClearEnableChange, ClearResetChange, is_reset, called_port}
+use Rattle.usb_device.specs.{Ports, ended, vacant, taken, empty, full, port_of, reset_where, called}
+use Rattle.usb_device.specs.{place, place_at, port_at, reach, reach_at, state_at, State, port_there}
+use Rattle.usb_device.specs.{state_there}
+use Rattle.usb_device.specs.Tree.{Place}
+use Rattle.usb_world.specs.{Event, Attempt, step_keeps_pending, resets, spec_of, AsksNothing}
+use Rattle.usb_world.specs.{leaves_step, row_reached, LeavesPortAlone, SameAt, UnchangedOrPending}
+use Rattle.usb_world.specs.{SameDeviceOrPending, Step, attempt, root_call, event, report, after}
+use Rattle.usb_world.specs.{with_attempt, at_attempt, after_due_events, after_event, is_due, Course}
+use Rattle.usb_world.specs.{here, step, World}
+use Rattle.usb_tree.specs.{has_power, pending, keeps_pending}
 use Rattle.usb_world.proofs.Interface.{MadeOrNot, attempt_cases, course_wider, made_pend}
 use Rattle.usb_world.proofs.Interface.{made_sound, pending_persists, rests_or_pends}
 use Rattle.usb_world.proofs.Interface.{stands_or_pends}
 use Rattle.usb_tree.proofs.Interface.{and_of, both, false_true}
-use Rattle.usb_hub.specs.Moments.{OnReachedRow, PortStatusAt, ports_at_step, ActsAt, PortCallDone}
+use Rattle.usb_hub.specs.{OnReachedRow, PortStatusAt, ports_at_step, ActsAt, PortCallDone}
 
 -- The port of a place
 

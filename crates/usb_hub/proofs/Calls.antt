@@ -5,77 +5,46 @@ use Rattle.std.proofs.Common.{List, [], ◌∷◌, ◌++◌, Option, None, Some,
 use Rattle.std.proofs.Common.{refl, ap, sym, subst, ◌∙◌, arith}
 use Rattle.std.proofs.lemmas.Option.{same_Some}
 use Rattle.std.specs.Prelude.{MatchResult}
-use Rattle.usb_port.specs.Path.{IsPath, IsPortNumber}
-use Rattle.usb_port.specs.PortState.{PortState}
-use Rattle.usb_request.specs.Layout.{setup_of, bytes_of}
-use Rattle.usb_request.specs.Requests.{set_port_feature, clear_port_feature}
-use Rattle.usb_request.specs.declared.setup.Setup.{Setup}
-use Rattle.usb_port.specs.declared.call.PortCall.{PortCall}
-use Rattle.usb_device.specs.declared.effect.Effect.TheVariants.{Calls}
-use Rattle.usb_port.specs.Calls.{set_call, clear_call, is_reset, IsSetFeature, IsClearFeature}
-use Rattle.usb_device.specs.Effect.{effect_of_request, asked_by_setup}
-use Rattle.usb_device.specs.Request.{outcome, port_named, called_at}
-use Rattle.usb_device.specs.Rows.{State}
-use Rattle.usb_device.specs.Transfer.{first_stage, ending}
-use Rattle.usb_device.specs.Tree.{called, acted, place, place_at, reach, Location, path_to}
-use Rattle.usb_device.specs.Tree.{reach_on, state_on, place_on}
-use Rattle.usb_device.specs.View.{state_there}
-use Rattle.usb_world.specs.declared.types.Attempt.{Attempt}
-use Rattle.usb_world.specs.declared.types.BusFault.{BusFault}
-use Rattle.usb_world.specs.declared.types.Outcome.{Outcome}
-use Rattle.usb_world.specs.Courses.{KeepsPendingAt, is_harmless}
-use Rattle.usb_world.specs.Devices.{Was}
-use Rattle.usb_tree.specs.Paths.{address_of, is_way}
-use Rattle.usb_tree.specs.AttemptPackets.{IsSettled}
-use Rattle.usb_world.specs.PortRequests.{is_sparing}
-use Rattle.usb_world.specs.RestingPorts.{LeavesPortAlone}
-use Rattle.usb_world.specs.Steps.{Step, attempt, root_call, after, at_attempt, Course, here}
-use Rattle.usb_world.specs.Steps.{step as step_then, AttemptFails, SetsRoot, ClearsRoot}
-use Rattle.usb_tree.specs.WayEffects.{keeps_pending}
-use Rattle.usb_world.specs.World.{World, Attempted}
+use Rattle.usb_port.specs.{IsPath, IsPortNumber, PortState, PortCall, set_call, clear_call}
+use Rattle.usb_port.specs.{is_reset, IsSetFeature, IsClearFeature, SetPower}
+use Rattle.usb_request.specs.{setup_of, bytes_of, set_port_feature, clear_port_feature, Setup}
+use Rattle.usb_request.specs.{PORT_POWER}
+use Rattle.usb_device.specs.{Calls, effect_of_request, asked_by_setup, outcome, port_named}
+use Rattle.usb_device.specs.{called_at, State, first_stage, ending, called, acted, place, place_at}
+use Rattle.usb_device.specs.{reach, Location, path_to, reach_on, state_on, place_on, state_there}
+use Rattle.usb_world.specs.{Attempt, BusFault, Outcome, KeepsPendingAt, is_harmless, Was}
+use Rattle.usb_world.specs.{is_sparing, LeavesPortAlone, Step, attempt, root_call, after}
+use Rattle.usb_world.specs.{at_attempt, Course, here, step as step_then, AttemptFails, SetsRoot}
+use Rattle.usb_world.specs.{ClearsRoot, World, Attempted}
+use Rattle.usb_tree.specs.{address_of, is_way, IsSettled, keeps_pending}
 use Rattle.usb_world.proofs.Interface.{course_joined, course_wider, made_of, same_is, settled_wider}
 use Rattle.usb_tree.proofs.Interface.{and_of, decided, equal_same, false_true, or_right}
-use Rattle.usb_transaction.specs.declared.target.Target.{Target}
-use Rattle.usb_transaction.specs.declared.fault.TransFault.{TransFault}
+use Rattle.usb_transaction.specs.{Target, TransFault, Answerer, is_at, AcceptedAt, AttemptLog}
+use Rattle.usb_transaction.specs.{start, Transacted, in_attempt, setup_attempt, AttemptsMade}
 use Rattle.usb_transaction.specs.declared.fault.TransFault.TheVariants as trans
-use Rattle.usb_transaction.specs.Answerer.{Answerer}
-use Rattle.usb_transaction.specs.Leaves.{is_at, AcceptedAt}
-use Rattle.usb_transaction.specs.AttemptLog.{AttemptLog, start, Transacted}
-use Rattle.usb_transaction.specs.Transactions.{in_attempt, setup_attempt, AttemptsMade}
 use Rattle.usb_transaction.proofs.Interface.{trail_course}
-use Rattle.usb_pipe.specs.declared.fault.PipeFault.{PipeFault}
+use Rattle.usb_pipe.specs.{PipeFault, as_pipe_fault, FaultAfter, SetUp, Writes, IsBehind}
+use Rattle.usb_pipe.specs.{IsNoBusFault, EffectDone, WriteLeaves}
 use Rattle.usb_pipe.specs.declared.fault.PipeFault.TheVariants.{Stalled, Busy, NoAnswer, Broken}
 use Rattle.usb_pipe.specs.declared.fault.PipeFault.TheVariants.{Bus, Memory}
-use Rattle.usb_pipe.specs.Control.{as_pipe_fault, FaultAfter}
-use Rattle.usb_pipe.specs.Stages.{SetUp, Writes}
-use Rattle.usb_pipe.specs.Leaves.{IsBehind, IsNoBusFault, EffectDone, WriteLeaves}
 use Rattle.usb_pipe.proofs.Interface.{who_writes, write_attempts, write_leaves}
-use Rattle.usb_address.specs.Claims.{AddressMap}
-use Rattle.usb_address.specs.Leaves.{LeavesPipe}
-use Rattle.usb_address.specs.Ownership.{MapHolds, WhileBusWorks}
+use Rattle.usb_address.specs.{AddressMap, LeavesPipe, MapHolds, WhileBusWorks}
 use Rattle.usb_address.proofs.Interface.{ClaimedAt, Fits, KeepsClaim, Resets, settled_attempt}
 use Rattle.usb_address.proofs.Interface.{place_ports, claimed_path, held_of, less_one}
 use Rattle.usb_address.proofs.Interface.{port_named-cases, is_path-empty, no_root, quiet_follows}
 use Rattle.usb_address.proofs.Interface.{reset_follows, resets_leave, same_setup, some, trail_sound}
 use Rattle.usb_address.proofs.Interface.{trail_with, writes_leave}
-use Rattle.usb_hub.specs.Addresses.{IsBelow}
-use Rattle.usb_hub.specs.Moments.{IsAbout, UpToFault, ActsAt, PortCallDone, CommandsPort}
-use Rattle.usb_hub.specs.Requests.{TouchesNoPort, Commanded}
-use Rattle.usb_hub.specs.CallFailures.{HubServes}
-use Rattle.usb_hub.specs.declared.port.HubPort.{HubPort}
-use Rattle.usb_hub.specs.declared.port.HubPort.TheVariants.{Root, External}
+use Rattle.usb_hub.specs.{IsBelow, IsAbout, UpToFault, ActsAt, PortCallDone, CommandsPort}
+use Rattle.usb_hub.specs.{TouchesNoPort, Commanded, HubServes, HubPort, Root, External}
 use Rattle.usb_hub.proofs.ActingCalls.{place_below, place_called, AsksFor, attempt_acts, root_acts}
 use Rattle.usb_hub.proofs.ActingCalls.{root_acted}
 use Rattle.usb_hub.proofs.RestingRequests.{behind_rests, behind_asks_nothing}
 use Rattle.usb_hub.proofs.Backlogs.{acted_keeps, call_keeps, holder_covers, request_keeps}
 use Rattle.usb_hub.proofs.Backlogs.{rests_backlog}
-use Rattle.usb_backlog.specs.Marks.{CoversCall, KeepsAll, KeepsBy, KeepsCall, KeepsFound, PortMark}
-use Rattle.usb_backlog.specs.Marks.{only, ports_at, unmarked}
-use Rattle.usb_backlog.specs.PortSettings.{gives_power}
+use Rattle.usb_backlog.specs.{CoversCall, KeepsAll, KeepsBy, KeepsCall, KeepsFound, PortMark, only}
+use Rattle.usb_backlog.specs.{ports_at, unmarked, gives_power}
 use Rattle.usb_backlog.proofs.Interface.{all_none, few-only, keeps-chain, keeps-root, ports_covered}
 use Rattle.usb_backlog.proofs.Interface.{root_allowed, sets_none}
-use Rattle.usb_request.specs.Features.{PORT_POWER}
-use Rattle.usb_port.specs.declared.call.PortCall.TheVariants.{SetPower}
 use Rattle.usb_world.proofs.Interface.{Allows}
 use Rattle.usb_hub.proofs.CallFailures.{same_port, call_served}
 use Rattle.usb_port.proofs.Interface.{call_is}
@@ -106,8 +75,7 @@ writes_sent t request old (Err why) new n (inl x) = no_set_up x.fault x.told x.s
     no_set_up trans.Stalled e x = record {
       mid = new;
       outcomes = x.last ∷ x.outcomes;
-      trail =
-          x.trail;
+      trail = x.trail;
       behind = here new;
     }
     no_set_up trans.Busy e x = record {
@@ -119,8 +87,7 @@ writes_sent t request old (Err why) new n (inl x) = no_set_up x.fault x.told x.s
     no_set_up trans.NoAnswer e x = record {
       mid = new;
       outcomes = x.last ∷ x.outcomes;
-      trail =
-          x.trail;
+      trail = x.trail;
       behind = here new;
     }
     no_set_up (trans.Bus fault) e x = absurd (subst (λ y. IsNoBusFault {A = Unit {0}} (Err y)) e n)
@@ -171,12 +138,10 @@ sent_up_to t request old fault new (inl x) = no_set_up x.fault x.told x.set_up
           outcomes = x.outcomes;
           trail = x.trail;
           cut = x.mid;
-          behind =
-              here x.mid;
+          behind = here x.mid;
           last = setup_attempt t (bytes_of request);
           refused = x.refused;
-          fails =
-              x.fails;
+          fails = x.fails;
         })
 sent_up_to t request old fault new (inr x) = no_status _ x.fault x.told x.status
   where
@@ -365,8 +330,7 @@ module _ (t : Target) (j : Location) (i : ℕ) (request : Setup) (c : PortCall)
             request c asked (holder_covers m r (path_to j) i c covers) P follows
             accepted_there.trail accepted_there.holder.made first ports;
       };
-      rested = subst (λ w. KeepsAll w new) accepted_there.last
-          (rests_backlog t done.moment.since
+      rested = subst (λ w. KeepsAll w new) accepted_there.last (rests_backlog t done.moment.since
           (subst (λ w. IsSettled w.roots) (sym accepted_there.last)
           (settled_attempt a mid accepted_there.holder.made.settled)));
     }

@@ -2,38 +2,23 @@
 use Rattle.std.proofs.Common.{◌≡◌, ◌≢◌, ◌==◌, ◌&&◌, ℕ, zero, suc, Bool, true, false, List, [], ◌∷◌}
 use Rattle.std.proofs.Common.{Option, None, Some, option_map, Result, refl, ap, sym, subst, ◌∙◌}
 use Rattle.std.proofs.Common.{arith}
-use Rattle.usb_request.specs.Features.{PORT_RESET}
-use Rattle.usb_port.specs.PortState.{PortState}
-use Rattle.usb_port.specs.Status.{status_in}
-use Rattle.usb_port.specs.declared.status.PortStatus.{PortStatus}
-use Rattle.usb_request.specs.Requests.{get_port_status, set_port_feature, clear_port_feature}
-use Rattle.usb_request.specs.declared.setup.Setup.{Setup}
-use Rattle.usb_port.specs.declared.call.PortCall.{PortCall}
-use Rattle.usb_device.specs.declared.request.Registers.{Registers}
-use Rattle.usb_port.specs.Calls.{is_reset, set_call}
-use Rattle.usb_device.specs.Progress.{OnlyControl, OnlyStage}
-use Rattle.usb_device.specs.Request.{Outcome, stalled, answers, takes_address, takes_configuration}
-use Rattle.usb_device.specs.Request.{halts, unhalts, tells_port, calls_port, called_at, outcome}
-use Rattle.usb_device.specs.Request.{port_named}
-use Rattle.usb_device.specs.Rows.{State, begun, accepted}
-use Rattle.usb_device.specs.Spec.{Spec}
-use Rattle.usb_device.specs.Transfer.{first_stage, ending}
-use Rattle.usb_device.specs.Tree.{Ports, Location, reach_on, state_on}
-use Rattle.usb_world.specs.Courses.{is_harmless}
-use Rattle.usb_world.specs.Devices.{Was, EachWas}
-use Rattle.usb_tree.specs.Paths.{address_of, is_way, same_number}
-use Rattle.usb_world.specs.Steps.{root_call, after}
-use Rattle.usb_tree.specs.WayEffects.{call_resets, reset_if}
-use Rattle.usb_world.specs.World.{World}
+use Rattle.usb_request.specs.{PORT_RESET, get_port_status, set_port_feature, clear_port_feature}
+use Rattle.usb_request.specs.{Setup}
+use Rattle.usb_port.specs.{PortState, status_in, PortStatus, PortCall, is_reset, set_call}
+use Rattle.usb_device.specs.{Registers, OnlyControl, OnlyStage, Outcome, stalled, takes_address}
+use Rattle.usb_device.specs.{takes_configuration, halts, unhalts, tells_port, calls_port, called_at}
+use Rattle.usb_device.specs.{outcome, port_named, State, begun, accepted, Spec, first_stage, ending}
+use Rattle.usb_device.specs.{Ports, Location, reach_on, state_on}
+use Rattle.usb_device.specs.Request.{answers}
+use Rattle.usb_world.specs.{is_harmless, Was, EachWas, root_call, after, World}
+use Rattle.usb_tree.specs.{address_of, is_way, same_number, call_resets, reset_if}
 use Rattle.usb_world.proofs.Interface.{call_reach, call_state, each_none, each_wider}
 use Rattle.usb_tree.proofs.Interface.{and_false, false_true}
-use Rattle.usb_transaction.specs.declared.target.Target.{Target}
-use Rattle.usb_pipe.specs.declared.fault.PipeFault.{PipeFault}
-use Rattle.usb_pipe.specs.Leaves.{ReadLeaves, WriteLeaves}
+use Rattle.usb_transaction.specs.{Target}
+use Rattle.usb_pipe.specs.{PipeFault, ReadLeaves, WriteLeaves}
 use Rattle.usb_pipe.proofs.Interface.{given_registers, read_leaves, write_leaves}
 use Rattle.usb_address.proofs.Interface.{same_setup}
-use Rattle.usb_hub.specs.Addresses.{StaysAs, EachElsewhere, KeepsDevices}
-use Rattle.usb_hub.specs.Requests.{ReadAs, Commanded}
+use Rattle.usb_hub.specs.{StaysAs, EachElsewhere, KeepsDevices, ReadAs, Commanded}
 use Rattle.usb_hub.proofs.Settings.{each_leaves, write_so}
 
 pub stays_itself : (j : Location) (s : State) → StaysAs j s s

@@ -1,39 +1,30 @@
 -- What a device of a description answers to requests for data.
-use Rattle.usb_device.specs.Tree.{Location}
+use Rattle.usb_device.specs.{Location, Registers, Spec, Hub, State, Outcome, stalled, unless}
+use Rattle.usb_device.specs.{text_asked, asked_hub_descriptor as hub_row, outcome, refused, reading}
+use Rattle.usb_device.specs.{ending, first_stage}
 use Rattle.std.proofs.Common.{◌≡◌, ℕ, ◌/◌, ◌%◌, ◌==◌, ◌≤◌, ◌<◌, Bool, true, false, List, slice_get}
 use Rattle.std.proofs.Common.{Option, None, Some, option_map, Result, Ok, Err, if◌then◌else◌, refl}
 use Rattle.std.proofs.Common.{ap, sym, ◌∙◌, arith}
 use Rattle.std.proofs.lemmas.Bool.Decides.{nat_tests}
 use Rattle.std.specs.Global.{Vec}
-use Rattle.usb_request.specs.Codes.{DEVICE, CONFIGURATION, STRING, HUB, GET_DESCRIPTOR, HUB_IN}
-use Rattle.usb_port.specs.PortState.{PortState}
-use Rattle.usb_request.specs.Layout.{IsToHost}
-use Rattle.usb_request.specs.declared.setup.Setup.{Setup}
-use Rattle.usb_request.specs.Requests.{descriptor_value, get_device_descriptor}
-use Rattle.usb_request.specs.Requests.{get_configuration_descriptor, get_string_descriptor}
-use Rattle.usb_request.specs.Requests.{get_hub_descriptor}
-use Rattle.usb_device.specs.declared.request.Registers.{Registers}
-use Rattle.usb_device.specs.Spec.{Spec, Hub}
-use Rattle.usb_device.specs.Rows.{State}
-use Rattle.usb_device.specs.Request.{Outcome, stalled, answers, unless, text_asked}
-use Rattle.usb_device.specs.Request.{asked_hub_descriptor as hub_row, outcome}
-use Rattle.usb_device.specs.Transfer.{refused, reading, ending, first_stage}
-use Rattle.usb_world.specs.World.{World}
-use Rattle.usb_world.specs.Devices.{EachWas}
+use Rattle.usb_request.specs.{DEVICE, CONFIGURATION, STRING, HUB, GET_DESCRIPTOR, HUB_IN, IsToHost}
+use Rattle.usb_request.specs.{Setup, descriptor_value, get_device_descriptor}
+use Rattle.usb_request.specs.{get_configuration_descriptor, get_string_descriptor}
+use Rattle.usb_request.specs.{get_hub_descriptor}
+use Rattle.usb_port.specs.{PortState}
+use Rattle.usb_device.specs.Request.{answers}
+use Rattle.usb_world.specs.{World, EachWas}
 use Rattle.usb_world.proofs.Interface.{each_wider}
-use Rattle.usb_transaction.specs.declared.target.Target.{Target}
-use Rattle.usb_transaction.specs.Failures.{NoThreeDamaged}
-use Rattle.usb_pipe.specs.declared.fault.PipeFault.{PipeFault}
+use Rattle.usb_transaction.specs.{Target, NoThreeDamaged}
+use Rattle.usb_pipe.specs.{PipeFault, ReadLeaves, AnswerRead, WasRefused, IsNoBusFault}
+use Rattle.usb_pipe.specs.{ControlReadFailure}
 use Rattle.usb_pipe.specs.declared.fault.PipeFault.TheVariants.{Stalled, Busy, NoAnswer, Broken}
 use Rattle.usb_pipe.specs.declared.fault.PipeFault.TheVariants.{Bus, Memory}
-use Rattle.usb_pipe.specs.Leaves.{ReadLeaves, AnswerRead, WasRefused, IsNoBusFault}
-use Rattle.usb_pipe.specs.Failures.{ControlReadFailure}
 use Rattle.usb_pipe.proofs.Interface.{is_some_byte, read_leaves, read_why}
 use Rattle.usb_address.proofs.Interface.{same_setup}
-use Rattle.usb_hub.specs.GivenAnswers.{unless_refused, device_given, config_given, string_given}
-use Rattle.usb_hub.specs.GivenAnswers.{hub_given, HasText, TextAsked, DeviceAsked, ConfigAsked}
-use Rattle.usb_hub.specs.GivenAnswers.{StringAsked, HubAsked, ReadFailure}
-use Rattle.usb_hub.specs.Requests.{Queried}
+use Rattle.usb_hub.specs.{unless_refused, device_given, config_given, string_given, hub_given}
+use Rattle.usb_hub.specs.{HasText, TextAsked, DeviceAsked, ConfigAsked, StringAsked, HubAsked}
+use Rattle.usb_hub.specs.{ReadFailure, Queried}
 
 -- The outcome of each request
 
@@ -100,8 +91,7 @@ hub_outcome spec g = split spec.stalls.hub spec.hub
         → unless b (hub_row o (record {
           request_type = HUB_IN;
           request = GET_DESCRIPTOR;
-          value =
-              descriptor_value HUB 0;
+          value = descriptor_value HUB 0;
           index = 0;
           length = 9;
         }))

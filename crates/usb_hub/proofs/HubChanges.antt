@@ -1,14 +1,11 @@
 -- What is told where a change was cleared.
 use Rattle.std.proofs.Common.{◌≡◌, ℕ, Result, Ok, Err, refl, subst}
 use Rattle.std.specs.Prelude.{IfErr}
-use Rattle.usb_world.specs.declared.types.BusFault.{BusFault}
-use Rattle.usb_world.specs.World.{World, Failed}
-use Rattle.usb_pipe.specs.Control.{FaultAfter}
-use Rattle.usb_pipe.specs.declared.fault.PipeFault.{PipeFault}
+use Rattle.usb_world.specs.{BusFault, World, Failed}
+use Rattle.usb_pipe.specs.{FaultAfter, PipeFault}
 use Rattle.usb_pipe.specs.declared.fault.PipeFault.TheVariants.{Stalled, Busy, NoAnswer, Broken}
 use Rattle.usb_pipe.specs.declared.fault.PipeFault.TheVariants.{Bus, Memory}
-use Rattle.usb_hub.specs.Changes.{ToldBus, done_or_unknown}
-use Rattle.usb_hub.specs.Requests.{EndsAfter}
+use Rattle.usb_hub.specs.{ToldBus, done_or_unknown, EndsAfter}
 
 -- where the bus gave up, it tells its fault
 pub told_bus : {A : Type 0} (least : ℕ) (old : World) (answer : Result A PipeFault)

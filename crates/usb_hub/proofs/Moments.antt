@@ -4,52 +4,30 @@ use Rattle.std.proofs.Common.{take, slice_get, slice_index_or, Some, option_map,
 use Rattle.std.proofs.Common.{ap, sym, subst, ◌∙◌, arith}
 use Rattle.std.proofs.lemmas.Option.{same_Some, slice_get-get_or}
 use Rattle.std.specs.Global.{Vec}
-use Rattle.usb_port.specs.Path.{IsPath, IsPortNumber}
-use Rattle.usb_port.specs.PortState.{PortState, status_of, off}
-use Rattle.usb_port.specs.Status.{status_in, seen}
-use Rattle.usb_port.specs.declared.status.PortStatus.{PortStatus}
+use Rattle.usb_port.specs.{IsPath, IsPortNumber, PortState, status_of, off, status_in, seen}
+use Rattle.usb_port.specs.{PortStatus}
 use Rattle.usb_port.proofs.Interface.{status_seen}
-use Rattle.usb_request.specs.Layout.{setup_of, bytes_of, IsToHost}
-use Rattle.usb_request.specs.declared.setup.Setup.{Setup}
-use Rattle.usb_request.specs.Requests.{get_port_status}
-use Rattle.usb_device.specs.declared.effect.Effect.TheVariants.{Leaves}
-use Rattle.usb_device.specs.Effect.{effect_of_request, asked_by_setup}
-use Rattle.usb_device.specs.Request.{Is, outcome}
-use Rattle.usb_request.specs.Codes.{PORT_OUT, SET_FEATURE}
-use Rattle.usb_device.specs.Rows.{State}
-use Rattle.usb_device.specs.Transfer.{reading, first_stage}
-use Rattle.usb_device.specs.Tree.{acted, port_at, reach, Location, path_to, reach_on, state_on}
-use Rattle.usb_device.specs.View.{port_there, state_there}
-use Rattle.usb_tree.specs.Paths.{address_of}
-use Rattle.usb_tree.specs.AttemptPackets.{IsSettled}
-use Rattle.usb_world.specs.PortRequests.{asks_no_port}
-use Rattle.usb_world.specs.RestingPorts.{LeavesPortAlone}
-use Rattle.usb_world.specs.World.{World, IsRootPort, root_row, root_port_at as root_port}
-use Rattle.usb_world.specs.Steps.{Course, here}
-use Rattle.usb_world.specs.Devices.{Was}
+use Rattle.usb_request.specs.{setup_of, bytes_of, IsToHost, Setup, get_port_status, PORT_OUT}
+use Rattle.usb_request.specs.{SET_FEATURE}
+use Rattle.usb_device.specs.{Leaves, effect_of_request, asked_by_setup, Is, outcome, State, reading}
+use Rattle.usb_device.specs.{first_stage, acted, port_at, reach, Location, path_to, reach_on}
+use Rattle.usb_device.specs.{state_on, port_there, state_there}
+use Rattle.usb_tree.specs.{address_of, IsSettled}
+use Rattle.usb_world.specs.{asks_no_port, LeavesPortAlone, World, IsRootPort, root_row}
+use Rattle.usb_world.specs.{root_port_at as root_port, Course, here, Was}
 use Rattle.usb_world.proofs.Interface.{same_is}
 use Rattle.usb_tree.proofs.Interface.{equal_same}
-use Rattle.usb_transaction.specs.declared.target.Target.{Target}
-use Rattle.usb_transaction.specs.Answerer.{Answerer}
-use Rattle.usb_transaction.specs.Leaves.{is_at, AcceptedAt}
-use Rattle.usb_transaction.specs.Failures.{NoThreeDamaged}
-use Rattle.usb_pipe.specs.declared.fault.PipeFault.{PipeFault}
-use Rattle.usb_pipe.specs.Leaves.{AnswerRead, ReadLeaves}
+use Rattle.usb_transaction.specs.{Target, Answerer, is_at, AcceptedAt, NoThreeDamaged}
+use Rattle.usb_pipe.specs.{PipeFault, AnswerRead, ReadLeaves}
 use Rattle.usb_pipe.proofs.Interface.{read_leaves, who_reads}
-use Rattle.usb_address.specs.Claims.{AddressMap}
-use Rattle.usb_address.specs.Ownership.{MapHolds, WhileBusWorks}
+use Rattle.usb_address.specs.{AddressMap, MapHolds, WhileBusWorks}
 use Rattle.usb_address.proofs.Interface.{settled_attempt, place_ports, less_one, is_path-empty}
 use Rattle.usb_address.proofs.Interface.{no_root, port_below_at, reads_leave, same_setup}
-use Rattle.usb_hub.specs.Addresses.{IsBelow}
-use Rattle.usb_hub.specs.declared.port.HubPort.{HubPort}
-use Rattle.usb_hub.specs.declared.port.HubPort.TheVariants.{Root, External}
-use Rattle.usb_hub.specs.Moments.{PortStatusAt, ReadsPort}
-use Rattle.usb_hub.specs.Port.{IsPort, RootRead, PortRead}
-use Rattle.usb_hub.specs.Requests.{Queried, ReadAs}
-use Rattle.usb_hub.specs.CallFailures.{HubServes, NoHubFailed}
+use Rattle.usb_hub.specs.{IsBelow, HubPort, Root, External, PortStatusAt, ReadsPort, IsPort}
+use Rattle.usb_hub.specs.{RootRead, PortRead, Queried, ReadAs, HubServes, NoHubFailed}
 use Rattle.usb_hub.proofs.RestingRequests.{behind_asks_nothing, resting_course}
 use Rattle.usb_hub.proofs.Backlogs.{asked_backlog, rests_backlog}
-use Rattle.usb_backlog.specs.Marks.{KeepsAll}
+use Rattle.usb_backlog.specs.{KeepsAll}
 use Rattle.usb_backlog.proofs.Interface.{all_none}
 use Rattle.usb_hub.proofs.Statuses.{row_port, StatusOf, get_port_status-outcome, whole_status}
 use Rattle.usb_hub.proofs.ToldBytes.{IsReadFrom, said}

@@ -1,26 +1,17 @@
 -- A request without data that resets no port asks nothing but of ports below the device that has
 -- its address.
 use Rattle.std.proofs.Common.{◌≡◌, ℕ, ◌⊎◌, inl, inr, true, false, List, Result, refl, ap, ◌∙◌}
-use Rattle.usb_request.specs.Layout.{bytes_of}
-use Rattle.usb_request.specs.declared.setup.Setup.{Setup}
-use Rattle.usb_world.specs.declared.types.Attempt.{Attempt}
-use Rattle.usb_world.specs.Courses.{is_harmless}
-use Rattle.usb_world.specs.OneHolder.{HolderIn}
-use Rattle.usb_tree.specs.AttemptPackets.{NobodyHolds}
-use Rattle.usb_world.specs.PortRequests.{AsksNothing, is_above}
-use Rattle.usb_world.specs.RestingPorts.{LeavesPortAlone}
-use Rattle.usb_world.specs.Steps.{Course, attempt, after, at_attempt}
-use Rattle.usb_world.specs.World.{World, Made}
+use Rattle.usb_request.specs.{bytes_of, Setup}
+use Rattle.usb_world.specs.{Attempt, is_harmless, HolderIn, AsksNothing, is_above, LeavesPortAlone}
+use Rattle.usb_world.specs.{Course, attempt, after, at_attempt, World, Made}
+use Rattle.usb_tree.specs.{NobodyHolds}
 use Rattle.usb_world.proofs.Interface.{course_joined, elsewhere, holder_or_nobody, made_of}
-use Rattle.usb_transaction.specs.declared.target.Target.{Target}
-use Rattle.usb_transaction.specs.Transactions.{setup_attempt}
-use Rattle.usb_pipe.specs.declared.fault.PipeFault.{PipeFault}
-use Rattle.usb_pipe.specs.Stages.{Writes}
-use Rattle.usb_pipe.specs.Leaves.{IsNoBusFault}
-use Rattle.usb_address.specs.Ownership.{MapHolds}
+use Rattle.usb_transaction.specs.{Target, setup_attempt}
+use Rattle.usb_pipe.specs.{PipeFault, Writes, IsNoBusFault}
+use Rattle.usb_address.specs.{MapHolds}
 use Rattle.usb_address.proofs.Interface.{ClaimedAt, KeepsClaim, claimed_holder, nobody_asks_nothing}
 use Rattle.usb_address.proofs.Interface.{quiet_follows, same_setup, trail_with, unshared_after}
-use Rattle.usb_hub.specs.Requests.{TouchesPortsBelow}
+use Rattle.usb_hub.specs.{TouchesPortsBelow}
 use Rattle.usb_hub.proofs.Calls.{Sent, writes_sent}
 use Rattle.usb_hub.proofs.RestingRequests.{behind_asks_nothing}
 

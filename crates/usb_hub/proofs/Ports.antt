@@ -1,18 +1,15 @@
 -- What root calls leave, for whoever calls them as a hub's port.
-use Rattle.std.proofs.Common.{◌≡◌, ◌∙◌, refl, sym, ap, subst, arith, true, false, length-set}
-use Rattle.std.specs.Prelude.{ℕ, ◌+◌, ◌-◌, ◌≤◌, Bool, length, List, Option, Ok, if◌then◌else◌}
-use Rattle.usb_request.specs.Features.{PORT_RESET}
-use Rattle.usb_port.specs.PortState.{PortState}
-use Rattle.usb_port.specs.Calls.{set_call, clear_call, IsSetFeature, IsClearFeature}
-use Rattle.usb_world.specs.World.{World, AttemptsWithin, IsRootPort, root_row, changes}
-use Rattle.usb_world.specs.Steps.{SetsRoot, ClearsRoot}
+use Rattle.std.proofs.Common.{◌≡◌, ◌∙◌, refl, sym, ap, subst, arith, true, length-set}
+use Rattle.std.specs.Prelude.{ℕ, ◌+◌, ◌-◌, ◌≤◌, Bool, length, List, Option, Ok}
+use Rattle.usb_request.specs.{PORT_RESET}
+use Rattle.usb_port.specs.{PortState, set_call, clear_call, IsSetFeature, IsClearFeature}
+use Rattle.usb_world.specs.{World, AttemptsWithin, IsRootPort, root_row, changes, SetsRoot}
+use Rattle.usb_world.specs.{ClearsRoot}
 use Rattle.usb_world.proofs.Interface.{RootCalled, change_most, changes-set, clears_change}
 use Rattle.usb_world.proofs.Interface.{clears_spend, resets_spend, root_called}
-use Rattle.usb_bus.specs.Traces.{Traced, StepRun}
-use Rattle.usb_hub.specs.declared.port.HubPort.{HubPort}
-use Rattle.usb_hub.specs.declared.port.HubPort.TheVariants.{Root, External}
-use Rattle.usb_hub.specs.Port.{IsAsked, IsPort, order_bound, TakesNoTime, RootSet, RootCleared}
-use Rattle.usb_hub.specs.Port.{SetSteps, PortSet, PortCleared}
+use Rattle.usb_bus.specs.{Traced, StepRun}
+use Rattle.usb_hub.specs.{HubPort, Root, External, IsAsked, IsPort, order_bound, TakesNoTime}
+use Rattle.usb_hub.specs.{RootSet, RootCleared, SetSteps, PortSet, PortCleared}
 
 root_call_takes_no_time : (number : ℕ) (p : PortState) (old new : World)
     → RootCalled number p old new → TakesNoTime old new
@@ -24,10 +21,6 @@ root_call_takes_no_time number p old new c = record {
   fault = c.fault;
   roots = ap length c.row ∙ length-set (root_row old) (number - 1) p;
 }
-
-if_one-most : (b : Bool) → (if b then 1 else 0) ≤ 1
-if_one-most true = omega arith
-if_one-most false = omega arith
 
 changes_written : (number : ℕ) (p : PortState) (old new : World) → IsRootPort old number
     → RootCalled number p old new → changes (root_row new) ≤ changes (root_row old) + 1

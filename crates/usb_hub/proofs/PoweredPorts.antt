@@ -3,22 +3,15 @@
 use Rattle.std.proofs.Common.{◌≡◌, ℕ, zero, suc, ◌&&◌, ◌⊎◌, inl, inr, Bool, true, false, List, []}
 use Rattle.std.proofs.Common.{◌∷◌, ◌++◌, Option, None, Some, option_map, refl, ap, sym, subst, ◌∙◌}
 use Rattle.std.proofs.lemmas.Option.{same_Some}
-use Rattle.usb_port.specs.PortState.{PortState, is_attached, speed_of, powered_on}
-use Rattle.usb_port.specs.declared.call.PortCall.TheVariants.{SetPower}
-use Rattle.usb_device.specs.Rows.{State}
-use Rattle.usb_device.specs.Tree.{Ports, ended, vacant, taken, Place, empty, full, port_of, called}
-use Rattle.usb_device.specs.Tree.{place, place_at}
-use Rattle.usb_device.specs.View.{port_there, state_there}
-use Rattle.usb_world.specs.declared.types.Attempt.{Attempt}
-use Rattle.usb_world.specs.Courses.{NoReset, is_made, made_resets, resets}
-use Rattle.usb_tree.specs.Paths.{has_power, pending}
-use Rattle.usb_world.specs.PlanCourses.{spec_of}
-use Rattle.usb_world.specs.PortRequests.{row_reached, StillSet}
-use Rattle.usb_world.specs.RestingPorts.{UnchangedOrPending, SameDeviceOrPending}
-use Rattle.usb_world.specs.SanePorts.{Consistent, ConsistentPlace}
-use Rattle.usb_world.specs.Steps.{Step, attempt, root_call, event, report, after, with_attempt}
-use Rattle.usb_world.specs.Steps.{at_attempt, Course, here, step, WorldInvariant}
-use Rattle.usb_world.specs.World.{World}
+use Rattle.usb_port.specs.{PortState, is_attached, speed_of, powered_on, SetPower}
+use Rattle.usb_device.specs.{State, Ports, ended, vacant, taken, empty, full, port_of, called}
+use Rattle.usb_device.specs.{place, place_at, port_there, state_there}
+use Rattle.usb_device.specs.Tree.{Place}
+use Rattle.usb_world.specs.{Attempt, NoReset, is_made, made_resets, resets, spec_of, row_reached}
+use Rattle.usb_world.specs.{StillSet, UnchangedOrPending, SameDeviceOrPending, Consistent}
+use Rattle.usb_world.specs.{ConsistentPlace, Step, attempt, root_call, event, report, after}
+use Rattle.usb_world.specs.{with_attempt, at_attempt, Course, here, step, WorldInvariant, World}
+use Rattle.usb_tree.specs.{has_power, pending}
 use Rattle.usb_world.proofs.Interface.{MadeOrNot, attempt_cases, between_after, between_course}
 use Rattle.usb_world.proofs.Interface.{between_ready, course_bits, course_wider, made_reach}
 use Rattle.usb_world.proofs.Interface.{made_sound, pending_persists, reach_live, rests_or_pends}
@@ -27,7 +20,7 @@ use Rattle.usb_world.proofs.Interface.{step_pend}
 use Rattle.usb_tree.proofs.Interface.{false_true}
 use Rattle.usb_address.proofs.Interface.{IsUp, NoPower, live_of_up, not_way, pend_of_up}
 use Rattle.usb_address.proofs.Interface.{ready_unpowered}
-use Rattle.usb_hub.specs.Moments.{ports_at_step, ActsAt, PortCallDone}
+use Rattle.usb_hub.specs.{ports_at_step, ActsAt, PortCallDone}
 use Rattle.usb_hub.proofs.CalledPorts.{port_of_place, due_course}
 
 -- Trees
@@ -113,8 +106,7 @@ module _ (q : List ℕ) (n : ℕ) where
       pick None s = absurd (cc (sym o.there ∙ port_of_place m p ∙ ap (option_map port_of) s))
       pick (Some (empty c)) s = inr (
         alive.0,
-        state_of_place v.roots p
-            ∙ ap stands (e ∙ ap (option_map (called SetPower)) s),
+        state_of_place v.roots p ∙ ap stands (e ∙ ap (option_map (called SetPower)) s),
       )
         where
           unpowered : c.power ≡ false
@@ -174,8 +166,7 @@ module _ (q : List ℕ) (n : ℕ) where
         port = still.now;
         there = still.stands;
         off = ready_unpowered w p none still.now still.stands;
-      })
-          (between_ready w between).sane
+      }) (between_ready w between).sane
         where
           none : NoPower (port_there w.roots p)
           none b h = ap (λ x. x.power) (same_Some b o.port (sym h ∙ o.there)) ∙ o.off
@@ -265,8 +256,7 @@ module _ (q : List ℕ) (n : ℕ) where
       pick : SameDeviceOrPending w (after s w) p → PendsOrVacant (after s w)
       pick (inl y) = inr (
         y.0,
-        spec_of-none (state_there (after s w).roots p)
-            (state_there w.roots p) y.1 x.1,
+        spec_of-none (state_there (after s w).roots p) (state_there w.roots p) y.1 x.1,
       )
       pick (inr y) = inl y
 

@@ -1,33 +1,21 @@
 -- Requests that ask nothing of any port.
-use Rattle.usb_device.specs.Tree.{Location}
+use Rattle.usb_device.specs.{Location, State}
 use Rattle.std.proofs.Common.{◌≡◌, ℕ, ◌≤◌, ◌==◌, ◌⊎◌, inl, inr, true, false, List, Result, refl, ap}
 use Rattle.std.proofs.Common.{sym, subst, ◌∙◌, arith}
 use Rattle.std.proofs.lemmas.Bool.Decides.{nat_tests}
 use Rattle.std.specs.Global.{Vec}
-use Rattle.usb_request.specs.Codes.{DEVICE_OUT, PORT_OUT}
-use Rattle.usb_request.specs.Layout.{bytes_of, IsToHost}
-use Rattle.usb_request.specs.declared.setup.Setup.{Setup}
-use Rattle.usb_device.specs.Rows.{State}
-use Rattle.usb_world.specs.declared.types.Attempt.{Attempt}
-use Rattle.usb_world.specs.Addresses.{is_setup}
-use Rattle.usb_tree.specs.AttemptPackets.{IsSettled}
-use Rattle.usb_world.specs.PortRequests.{asks_no_port}
-use Rattle.usb_world.specs.RestingPorts.{LeavesPortAlone}
-use Rattle.usb_world.specs.World.{World}
-use Rattle.usb_world.specs.Steps.{Step, attempt, root_call, event, report, Course}
+use Rattle.usb_request.specs.{DEVICE_OUT, PORT_OUT, bytes_of, IsToHost, Setup}
+use Rattle.usb_world.specs.{Attempt, is_setup, asks_no_port, LeavesPortAlone, World, Step, attempt}
+use Rattle.usb_world.specs.{root_call, event, report, Course}
+use Rattle.usb_tree.specs.{IsSettled}
 use Rattle.usb_world.proofs.Interface.{course_then, data_asks_nothing, payload_asks_nothing}
 use Rattle.usb_world.proofs.Interface.{settled_wider}
-use Rattle.usb_transaction.specs.declared.target.Target.{Target}
-use Rattle.usb_transaction.specs.Leaves.{AcceptedAt}
-use Rattle.usb_transaction.specs.Transactions.{setup_attempt}
+use Rattle.usb_transaction.specs.{Target, AcceptedAt, setup_attempt}
 use Rattle.usb_transaction.proofs.Interface.{trail_course}
-use Rattle.usb_pipe.specs.declared.fault.PipeFault.{PipeFault}
-use Rattle.usb_pipe.specs.Attempts.{IsOfTransfer}
-use Rattle.usb_pipe.specs.Stages.{Reads, Writes}
-use Rattle.usb_pipe.specs.Leaves.{IsBehind, IsNoBusFault}
+use Rattle.usb_pipe.specs.{PipeFault, IsOfTransfer, Reads, Writes, IsBehind, IsNoBusFault}
 use Rattle.usb_pipe.proofs.Interface.{read_attempts, write_attempts}
 use Rattle.usb_address.proofs.Interface.{same_setup}
-use Rattle.usb_hub.specs.Requests.{TouchesNoPort}
+use Rattle.usb_hub.specs.{TouchesNoPort}
 
 -- a step behind a SETUP asks nothing of any port
 pub behind_rests : (t : Target) (x : List ℕ) (s : Step) (w : World) → IsBehind t s w

@@ -3,45 +3,28 @@ use Rattle.std.proofs.Common.{◌≡◌, ℕ, ◌≤◌, ◌⊎◌, inl, inr, na
 use Rattle.std.proofs.Common.{Some, Result, Ok, Err, refl, ap, sym, subst, ◌∙◌, arith, ◌==◌, ◌&&◌}
 use Rattle.std.proofs.Common.{not, None, if◌then◌else◌}
 use Rattle.std.proofs.lemmas.Bool.Decides.{nat_tests}
-use Rattle.usb_port.specs.PortState.{PortState}
-use Rattle.usb_request.specs.declared.setup.Setup.{Setup}
-use Rattle.usb_request.specs.Requests.{set_address, set_configuration}
-use Rattle.usb_device.specs.declared.request.Registers.{Registers}
-use Rattle.usb_device.specs.Spec.{Spec}
-use Rattle.usb_device.specs.Rows.{State, begun, accepted}
-use Rattle.usb_device.specs.Request.{takes_address, unless, outcome, Outcome, stalled}
-use Rattle.usb_device.specs.Request.{takes_configuration, is_value}
-use Rattle.usb_device.specs.Transfer.{refused, ending, first_stage}
-use Rattle.usb_device.specs.Progress.{StatusGiven, seen, unseen, address_then, OnlyControl}
-use Rattle.usb_world.specs.World.{World}
-use Rattle.usb_world.specs.Courses.{is_harmless}
-use Rattle.usb_world.specs.Devices.{Relation, EachWas}
+use Rattle.usb_port.specs.{PortState}
+use Rattle.usb_request.specs.{Setup, set_address, set_configuration, setup_of, bytes_of}
+use Rattle.usb_device.specs.{Registers, Spec, State, begun, accepted, takes_address, unless}
+use Rattle.usb_device.specs.{outcome, Outcome, stalled, takes_configuration, is_value, refused}
+use Rattle.usb_device.specs.{ending, first_stage, StatusGiven, seen, unseen, address_then}
+use Rattle.usb_device.specs.{OnlyControl, PortsOff, EndpointState, rested, asked_by_setup}
+use Rattle.usb_device.specs.{effect_of_request, full, acted, Location, place_on}
+use Rattle.usb_world.specs.{World, is_harmless, Relation, EachWas}
 use Rattle.usb_world.proofs.Interface.{each_both, each_wider}
 use Rattle.usb_tree.proofs.Interface.{decided}
-use Rattle.usb_transaction.specs.declared.target.Target.{Target}
-use Rattle.usb_transaction.specs.Leaves.{is_at, AcceptedAt}
-use Rattle.usb_transaction.specs.Losses.{begins_no_stretch}
-use Rattle.usb_transaction.specs.SparedDevices.{EachSpared}
-use Rattle.usb_transaction.specs.Failures.{NoThreeDamaged}
-use Rattle.usb_pipe.specs.declared.fault.PipeFault.{PipeFault}
+use Rattle.usb_transaction.specs.{Target, is_at, AcceptedAt, begins_no_stretch, EachSpared}
+use Rattle.usb_transaction.specs.{NoThreeDamaged}
+use Rattle.usb_pipe.specs.{PipeFault, IsNoBusFault, WasRefused, EffectDone, EffectOrNone, none}
+use Rattle.usb_pipe.specs.{some, whole, WriteLeaves, LossesOf, TookItOrLost, WriteFailure}
 use Rattle.usb_pipe.specs.declared.fault.PipeFault.TheVariants.{Stalled, Busy, NoAnswer, Broken}
 use Rattle.usb_pipe.specs.declared.fault.PipeFault.TheVariants.{Bus, Memory}
-use Rattle.usb_pipe.specs.Leaves.{IsNoBusFault, WasRefused, EffectDone, EffectOrNone, none, some}
-use Rattle.usb_pipe.specs.Leaves.{whole, WriteLeaves, LossesOf, TookItOrLost}
-use Rattle.usb_pipe.specs.Failures.{WriteFailure}
 use Rattle.usb_pipe.proofs.Interface.{given_registers, write_leaves, write_losses, write_why}
 use Rattle.usb_address.proofs.Interface.{settled_attempt, same_setup}
-use Rattle.usb_request.specs.Layout.{setup_of, bytes_of}
-use Rattle.usb_device.specs.declared.effect.Effect.TheVariants.{PortsOff}
-use Rattle.usb_device.specs.declared.bulk.EndpointState.{EndpointState}
-use Rattle.usb_device.specs.Bulk.{rested}
-use Rattle.usb_device.specs.Effect.{asked_by_setup, effect_of_request}
-use Rattle.usb_device.specs.Tree.{full, acted, Location, place_on}
-use Rattle.usb_tree.specs.AttemptPackets.{IsSettled}
-use Rattle.usb_hub.specs.Requests.{Commanded}
+use Rattle.usb_tree.specs.{IsSettled}
+use Rattle.usb_hub.specs.{Commanded, AddressAsked, takes_value, OnlySet, IsConfigured, WentOff}
+use Rattle.usb_hub.specs.{ConfigurationAsked}
 use Rattle.usb_hub.proofs.RestingRequests.{behind_asks_nothing}
-use Rattle.usb_hub.specs.Settings.{AddressAsked, takes_value, OnlySet, IsConfigured, WentOff}
-use Rattle.usb_hub.specs.Settings.{ConfigurationAsked}
 
 -- A request that resets no port, of every device
 
@@ -411,8 +394,7 @@ set_frame true value row s v h r = (
     fresh = record {
       out = ap (λ y. y.bulk_out) h;
       into = ap (λ y. y.bulk_in) h;
-      changes =
-          ap (λ y. y.changes) h;
+      changes = ap (λ y. y.changes) h;
       held = ap (λ y. y.held) h;
     };
   },

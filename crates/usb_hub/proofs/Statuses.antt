@@ -2,16 +2,11 @@
 use Rattle.std.proofs.Common.{◌≡◌, ℕ, zero, suc, ◌-◌, ◌⊎◌, inl, inr, List, [], slice_get, Option}
 use Rattle.std.proofs.Common.{None, Some, refl, sym, subst, take, ap}
 use Rattle.std.proofs.lemmas.Option.{same_Some}
-use Rattle.usb_port.specs.PortState.{PortState, status_of}
-use Rattle.usb_request.specs.Requests.{get_port_status}
-use Rattle.usb_device.specs.declared.effect.Effect.{Effect}
-use Rattle.usb_device.specs.declared.effect.Effect.TheVariants.{Leaves}
-use Rattle.usb_device.specs.declared.request.Registers.{Registers}
-use Rattle.usb_device.specs.Effect.{effect_of_request}
-use Rattle.usb_device.specs.Request.{outcome, port_named, told_port}
-use Rattle.usb_device.specs.Spec.{Spec}
-use Rattle.usb_device.specs.Transfer.{reading, reads_port, first_stage}
-use Rattle.usb_device.specs.Tree.{Ports, ended, vacant, taken, port_at, row_of}
+use Rattle.usb_port.specs.{PortState, status_of}
+use Rattle.usb_request.specs.{get_port_status}
+use Rattle.usb_device.specs.{Effect, Leaves, Registers, effect_of_request, outcome, port_named}
+use Rattle.usb_device.specs.{told_port, Spec, reading, reads_port, first_stage, Ports, ended}
+use Rattle.usb_device.specs.{vacant, taken, port_at, row_of}
 use Rattle.usb_address.proofs.Interface.{port_named-cases}
 
 same_reading : (a b : List ℕ) (n m k l : ℕ) → reading a n k ≡ reading b m l → a ≡ b
@@ -53,8 +48,7 @@ get_port_status-outcome sp g row n answer h =
     by_row i (Some b) e h = record {
       port = b;
       stands = e;
-      told =
-          sym (same_reading (status_of b) answer 4 4 0 0 h);
+      told = sym (same_reading (status_of b) answer 4 4 0 0 h);
       nothing = refl;
     }
 

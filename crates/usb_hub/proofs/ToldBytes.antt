@@ -1,29 +1,21 @@
 -- What was told of an answer that is to have so many bytes.
-use Rattle.usb_device.specs.Tree.{Location}
+use Rattle.usb_device.specs.{Location, Spec, State, unless, status_bytes, outcome}
 use Rattle.std.proofs.Common.{◌≡◌, inr, ℕ, ◌==◌, ◌≤◌, Bool, true, false, List, [], ◌∷◌, length}
 use Rattle.std.proofs.Common.{take, Option, None, Some, Result, Ok, Err, if◌then◌else◌, refl, ap}
 use Rattle.std.proofs.Common.{sym, subst, ◌∙◌, arith}
 use Rattle.std.proofs.lemmas.Option.{same_Some}
 use Rattle.std.specs.Global.{Vec}
-use Rattle.usb_request.specs.Requests.{get_status}
-use Rattle.usb_port.specs.Status.{has_bit}
-use Rattle.usb_device.specs.Spec.{Spec}
-use Rattle.usb_device.specs.Rows.{State}
-use Rattle.usb_device.specs.Request.{unless, answers, status_bytes, outcome}
-use Rattle.usb_world.specs.World.{World}
-use Rattle.usb_world.specs.Devices.{EachWas}
+use Rattle.usb_request.specs.{get_status}
+use Rattle.usb_port.specs.{has_bit}
+use Rattle.usb_device.specs.Request.{answers}
+use Rattle.usb_world.specs.{World, EachWas}
 use Rattle.usb_world.proofs.Interface.{each_wider}
-use Rattle.usb_transaction.specs.declared.target.Target.{Target}
-use Rattle.usb_transaction.specs.Leaves.{is_at}
-use Rattle.usb_transaction.specs.Failures.{Listens, NoThreeDamaged}
-use Rattle.usb_pipe.specs.declared.fault.PipeFault.{PipeFault}
+use Rattle.usb_transaction.specs.{Target, is_at, Listens, NoThreeDamaged}
+use Rattle.usb_pipe.specs.{PipeFault, CanEnd, IsMaximum}
 use Rattle.usb_pipe.specs.declared.fault.PipeFault.TheVariants.{Stalled, Busy, NoAnswer, Broken}
 use Rattle.usb_pipe.specs.declared.fault.PipeFault.TheVariants.{Bus, Memory}
-use Rattle.usb_pipe.specs.Leaves.{CanEnd, IsMaximum}
-use Rattle.usb_hub.specs.declared.status.DeviceStatus.{DeviceStatus}
-use Rattle.usb_hub.specs.GivenAnswers.{unless_refused, status_given, HasText, TextAsked}
-use Rattle.usb_hub.specs.GivenAnswers.{StatusAsked, ReadFailure}
-use Rattle.usb_hub.specs.Requests.{ReadAs, said_in, device_status}
+use Rattle.usb_hub.specs.{DeviceStatus, unless_refused, status_given, HasText, TextAsked}
+use Rattle.usb_hub.specs.{StatusAsked, ReadFailure, ReadAs, said_in, device_status}
 use Rattle.usb_hub.proofs.GivenAnswers.{AnswersRequest, answer_of, text_asked_of, why_asked_of}
 
 abbrev said_by : {A : Type 0} → (List ℕ → A) → Bool → Vec ℕ → Result A PipeFault

@@ -1,19 +1,13 @@
 -- What the calls on devices and ports leave of devices and of the addresses that they hold.
 use Rattle.std.specs.Prelude.{◌≡◌, ◌≢◌, ◌⊎◌, ℕ, List, [], ◌∷◌, ◌++◌, true, false, None, Some}
 use Rattle.std.specs.Prelude.{Result, Ok, OnOk}
-use Rattle.usb_request.specs.Features.{PORT_ENABLE, PORT_RESET, PORT_POWER}
-use Rattle.usb_port.specs.Path.{IsPath, IsPortNumber}
-use Rattle.usb_port.specs.declared.status.PortStatus.{PortStatus}
-use Rattle.usb_device.specs.Progress.{OnlyStage}
-use Rattle.usb_device.specs.Rows.{State}
-use Rattle.usb_device.specs.Tree.{Location, path_to, reach_on, state_on}
-use Rattle.usb_world.specs.Addresses.{after_reset, after_taking}
-use Rattle.usb_world.specs.Devices.{Relation, Was, EachWas}
-use Rattle.usb_tree.specs.Paths.{is_way}
-use Rattle.usb_world.specs.World.{World}
-use Rattle.usb_pipe.specs.declared.fault.PipeFault.{PipeFault}
-use Rattle.usb_address.specs.Claims.{AddressMap, map_without}
-use Rattle.usb_address.specs.Ownership.{MapHolds, WhileBusWorks, KeepsAddresses}
+use Rattle.usb_request.specs.{PORT_ENABLE, PORT_RESET, PORT_POWER}
+use Rattle.usb_port.specs.{IsPath, IsPortNumber, PortStatus}
+use Rattle.usb_device.specs.{OnlyStage, State, Location, path_to, reach_on, state_on}
+use Rattle.usb_world.specs.{after_reset, after_taking, Relation, Was, EachWas, World}
+use Rattle.usb_tree.specs.{is_way}
+use Rattle.usb_pipe.specs.{PipeFault}
+use Rattle.usb_address.specs.{AddressMap, map_without, MapHolds, WhileBusWorks, KeepsAddresses}
 use Rattle.usb_hub.specs.declared.port.HubPort.{HubPort}
 use Rattle.usb_hub.specs.declared.port.HubPort.TheVariants.{Root, External}
 

@@ -1,12 +1,9 @@
 -- Why a call at a hub's port fails.
 use Rattle.std.specs.Prelude.{◌≡◌, ◌≢◌, ℕ, ◌≤◌, true, false, Some, Result, Ok, Err, ⊤}
-use Rattle.usb_device.specs.Rows.{State}
-use Rattle.usb_device.specs.Spec.{Spec, Hub, IsSpec}
-use Rattle.usb_device.specs.Tree.{Location, reach_on, state_on}
-use Rattle.usb_world.specs.World.{World}
-use Rattle.usb_transaction.specs.declared.target.Target.{Target}
-use Rattle.usb_transaction.specs.Failures.{Listens}
-use Rattle.usb_pipe.specs.declared.fault.PipeFault.{PipeFault}
+use Rattle.usb_device.specs.{State, Spec, Hub, IsSpec, Location, reach_on, state_on}
+use Rattle.usb_world.specs.{World}
+use Rattle.usb_transaction.specs.{Target, Listens}
+use Rattle.usb_pipe.specs.{PipeFault}
 use Rattle.usb_pipe.specs.declared.fault.PipeFault.TheVariants.{Stalled, Busy, NoAnswer, Broken}
 use Rattle.usb_pipe.specs.declared.fault.PipeFault.TheVariants.{Bus, Memory}
 

@@ -1,16 +1,12 @@
 -- What clears changes that ask for nothing else. A hub that does not know a feature answers STALL,
 -- and has no such change.
 use Rattle.std.specs.Prelude.{◌≡◌, ℕ, List, Bool, true, false, slice_index, Result, Ok, Err}
-use Rattle.usb_request.specs.declared.hub_feature.TheConstants.{C_HUB_LOCAL_POWER}
-use Rattle.usb_request.specs.declared.hub_feature.TheConstants.{C_HUB_OVER_CURRENT}
-use Rattle.usb_request.specs.declared.setup.Setup.{Setup}
-use Rattle.usb_request.specs.HubRequests.{get_hub_status, clear_hub_feature}
-use Rattle.usb_request.specs.Requests.{clear_port_feature}
-use Rattle.usb_port.specs.Status.{has_bit}
-use Rattle.usb_world.specs.declared.types.BusFault.{BusFault}
-use Rattle.usb_world.specs.World.{World, Failed}
-use Rattle.usb_transaction.specs.declared.target.Target.{Target}
-use Rattle.usb_pipe.specs.declared.fault.PipeFault.{PipeFault}
+use Rattle.usb_request.specs.{C_HUB_LOCAL_POWER, C_HUB_OVER_CURRENT, Setup, get_hub_status}
+use Rattle.usb_request.specs.{clear_hub_feature, clear_port_feature}
+use Rattle.usb_port.specs.{has_bit}
+use Rattle.usb_world.specs.{BusFault, World, Failed}
+use Rattle.usb_transaction.specs.{Target}
+use Rattle.usb_pipe.specs.{PipeFault}
 use Rattle.usb_pipe.specs.declared.fault.PipeFault.TheVariants.{Stalled, Busy, NoAnswer, Broken}
 use Rattle.usb_pipe.specs.declared.fault.PipeFault.TheVariants.{Bus, Memory}
 use Rattle.usb_hub.specs.declared.port.HubPort.{HubPort}

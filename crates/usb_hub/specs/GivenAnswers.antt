@@ -1,19 +1,13 @@
 -- What a device of a description answers to requests for data (9.4, 11.24.2), seen from where it is
 -- reachable after them.
-use Rattle.usb_device.specs.Tree.{Location}
+use Rattle.usb_device.specs.{Location, Spec, Hub, State, OnlyStage}
 use Rattle.std.specs.Prelude.{◌≡◌, ◌≢◌, ℕ, ◌≤◌, Bool, true, false, if◌then◌else◌, List, take}
 use Rattle.std.specs.Prelude.{slice_get, Option, None, Some, option_map, Result, Ok, Err}
 use Rattle.std.specs.Global.{Vec}
-use Rattle.usb_device.specs.Spec.{Spec, Hub}
-use Rattle.usb_device.specs.Rows.{State}
-use Rattle.usb_device.specs.Progress.{OnlyStage}
-use Rattle.usb_request.specs.Codes.{HUB_LENGTH}
-use Rattle.usb_transaction.specs.declared.target.Target.{Target}
-use Rattle.usb_transaction.specs.Leaves.{is_at}
-use Rattle.usb_transaction.specs.Failures.{Listens}
-use Rattle.usb_pipe.specs.declared.fault.PipeFault.{PipeFault}
+use Rattle.usb_request.specs.{HUB_LENGTH}
+use Rattle.usb_transaction.specs.{Target, is_at, Listens}
+use Rattle.usb_pipe.specs.{PipeFault, CanEnd, IsMaximum}
 use Rattle.usb_pipe.specs.declared.fault.PipeFault.TheVariants.{Stalled, Busy, NoAnswer}
-use Rattle.usb_pipe.specs.Leaves.{CanEnd, IsMaximum}
 use Rattle.usb_hub.specs.declared.status.DeviceStatus.{DeviceStatus}
 
 -- What a description has for each request: None where the device refuses it

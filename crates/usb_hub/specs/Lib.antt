@@ -6,3 +6,23 @@ pub mod Requests
 pub mod Settings
 pub mod CallFailures
 pub mod Changes
+-- the words of this crate, wherever one stands
+pub use Addresses.{EachElsewhere, GivesAddress, IsAt, IsBelow, IsClaimed, Isolates, KeepsAnswered}
+pub use Addresses.{KeepsAsked, KeepsCleared, KeepsDevices, KeepsSet, Resets, StaysAs}
+pub use GivenAnswers.{ConfigAsked, DeviceAsked, HasText, HubAsked, ReadAsked, ReadFailure}
+pub use GivenAnswers.{StatusAsked, StringAsked, TextAsked, config_given, device_given, hub_given}
+pub use GivenAnswers.{status_given, string_given, unless_refused}
+pub use Moments.{ActsAt, CommandsPort, IsAbout, IsCall, OnReachedRow, PortCallDone, PortStatusAt}
+pub use Moments.{ReadsPort, UpToFault, ports_at_step}
+pub use Port.{IsAsked, IsPort, PortCleared, PortRead, PortSet, RootCleared, RootRead, RootSet}
+pub use Port.{SetSteps, TakesNoTime, order_bound, status_bound}
+pub use Requests.{Commanded, EndsAfter, Queried, ReadAs, TouchesNoPort, TouchesPortsBelow}
+pub use Requests.{device_status, said_in}
+pub use Settings.{AddressAsked, ConfigurationAsked, IsConfigured, IsFresh, OnlySet, WentOff}
+pub use Settings.{takes_value}
+pub use CallFailures.{HasPort, HubServes, NoHubFailed}
+pub use Changes.{ClearsEach, ClearsHubChange, ClearsIfReported, ClearsOfHub, ClearsOfPort, ToldBus}
+pub use Changes.{both, done_or_unknown, first_failed, hub_status, not_told, told}
+pub use declared.port.HubPort.{HubPort}
+pub use declared.port.HubPort.TheVariants.{External, Root}
+pub use declared.status.DeviceStatus.{DeviceStatus}

@@ -1,31 +1,17 @@
 -- What was so of a port at a moment of a call on it (11.24.2), and what the call asked of ports.
 use Rattle.std.specs.Prelude.{◌≡◌, ◌⊎◌, ◌≤◌, ℕ, List, [], ◌∷◌, ◌++◌, true, false, Option, None}
 use Rattle.std.specs.Prelude.{Some, option_map, Result, Ok, Err}
-use Rattle.usb_port.specs.PortState.{PortState}
-use Rattle.usb_port.specs.Status.{seen}
-use Rattle.usb_port.specs.declared.status.PortStatus.{PortStatus}
-use Rattle.usb_port.specs.declared.call.PortCall.{PortCall}
-use Rattle.usb_port.specs.Calls.{is_reset}
-use Rattle.usb_device.specs.Tree.{Ports, called, place, path_to}
-use Rattle.usb_device.specs.View.{port_there}
-use Rattle.usb_world.specs.declared.types.Attempt.{Attempt}
-use Rattle.usb_world.specs.declared.types.BusFault.{BusFault}
-use Rattle.usb_world.specs.Courses.{KeepsPendingAt, step_keeps_pending}
-use Rattle.usb_tree.specs.Paths.{is_way}
-use Rattle.usb_world.specs.PortRequests.{AsksNothing, row_reached}
-use Rattle.usb_world.specs.RestingPorts.{LeavesPortAlone}
-use Rattle.usb_world.specs.Steps.{Step, attempt, root_call, event, report, after, at_attempt}
-use Rattle.usb_world.specs.Steps.{Course, AttemptFails}
-use Rattle.usb_tree.specs.WayEffects.{keeps_pending}
-use Rattle.usb_world.specs.World.{World, Attempted}
-use Rattle.usb_address.specs.Claims.{AddressMap}
-use Rattle.usb_backlog.specs.Marks.{KeepsAll, KeepsCall}
-use Rattle.usb_address.specs.Ownership.{MapHolds, WhileBusWorks}
-use Rattle.usb_transaction.specs.declared.target.Target.{Target}
-use Rattle.usb_transaction.specs.Failures.{NoThreeDamaged}
-use Rattle.usb_pipe.specs.declared.fault.PipeFault.{PipeFault}
+use Rattle.usb_port.specs.{PortState, seen, PortStatus, PortCall, is_reset}
+use Rattle.usb_device.specs.{Ports, called, place, path_to, port_there}
+use Rattle.usb_world.specs.{Attempt, BusFault, KeepsPendingAt, step_keeps_pending, AsksNothing}
+use Rattle.usb_world.specs.{row_reached, LeavesPortAlone, Step, attempt, root_call, event, report}
+use Rattle.usb_world.specs.{after, at_attempt, Course, AttemptFails, World, Attempted}
+use Rattle.usb_tree.specs.{is_way, keeps_pending}
+use Rattle.usb_address.specs.{AddressMap, MapHolds, WhileBusWorks}
+use Rattle.usb_backlog.specs.{KeepsAll, KeepsCall}
+use Rattle.usb_transaction.specs.{Target, NoThreeDamaged}
+use Rattle.usb_pipe.specs.{PipeFault, IsNoBusFault}
 use Rattle.usb_pipe.specs.declared.fault.PipeFault.TheVariants.{Bus}
-use Rattle.usb_pipe.specs.Leaves.{IsNoBusFault}
 use Rattle.usb_hub.specs.Addresses.{IsAt}
 use Rattle.usb_hub.specs.Requests.{TouchesNoPort}
 use Rattle.usb_hub.specs.CallFailures.{HubServes, NoHubFailed}

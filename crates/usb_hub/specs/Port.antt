@@ -1,17 +1,13 @@
 -- What the calls on a port leave.
 use Rattle.std.specs.Prelude.{◌≡◌, ℕ, ◌+◌, ◌≤◌, Bool, List, Option, true, Result, Ok, IsOk}
-use Rattle.usb_request.specs.Features.{PORT_RESET, C_PORT_CONNECTION}
-use Rattle.usb_port.specs.Path.{IsPortNumber}
-use Rattle.usb_port.specs.Status.{seen, status_in}
-use Rattle.usb_port.specs.declared.status.PortStatus.{PortStatus}
-use Rattle.usb_world.specs.World.{World, IsRootPort, AttemptsWithin, root_row, roots_of, to_come}
-use Rattle.usb_world.specs.World.{root_port_at, changes}
-use Rattle.usb_world.specs.Steps.{SetsRoot, ClearsRoot}
-use Rattle.usb_bus.specs.Traces.{Traced, StepRun}
-use Rattle.usb_request.specs.Requests.{get_port_status, set_port_feature, clear_port_feature}
-use Rattle.usb_transaction.specs.Transactions.{IsTarget}
-use Rattle.usb_pipe.specs.declared.fault.PipeFault.{PipeFault}
-use Rattle.usb_pipe.specs.Control.{control_bound, write_bound}
+use Rattle.usb_request.specs.{PORT_RESET, C_PORT_CONNECTION, get_port_status, set_port_feature}
+use Rattle.usb_request.specs.{clear_port_feature}
+use Rattle.usb_port.specs.{IsPortNumber, seen, status_in, PortStatus}
+use Rattle.usb_world.specs.{World, IsRootPort, AttemptsWithin, root_row, roots_of, to_come}
+use Rattle.usb_world.specs.{root_port_at, changes, SetsRoot, ClearsRoot}
+use Rattle.usb_bus.specs.{Traced, StepRun}
+use Rattle.usb_transaction.specs.{IsTarget}
+use Rattle.usb_pipe.specs.{PipeFault, control_bound, write_bound}
 use Rattle.usb_hub.specs.declared.port.HubPort.{HubPort}
 use Rattle.usb_hub.specs.declared.port.HubPort.TheVariants.{Root, External}
 use Rattle.usb_hub.specs.Requests.{ReadAs, Commanded}

@@ -2,26 +2,16 @@
 use Rattle.std.specs.Prelude.{◌≡◌, ◌≢◌, ℕ, ◌≤◌, ◌==◌, true, false, if◌then◌else◌, List, length}
 use Rattle.std.specs.Prelude.{slice_index, Some, Result, Ok, Err, IfOk, MatchResult}
 use Rattle.std.specs.Global.{Vec}
-use Rattle.usb_request.specs.declared.setup.Setup.{Setup}
-use Rattle.usb_tree.specs.AttemptPackets.{IsSettled}
-use Rattle.usb_world.specs.Courses.{is_harmless}
-use Rattle.usb_world.specs.PortRequests.{asks_no_port, is_above}
-use Rattle.usb_world.specs.RestingPorts.{LeavesPortAlone}
-use Rattle.usb_world.specs.Steps.{Course}
-use Rattle.usb_world.specs.World.{World}
-use Rattle.usb_transaction.specs.declared.target.Target.{Target}
-use Rattle.usb_transaction.specs.Transactions.{AttemptsMade}
-use Rattle.usb_port.specs.Status.{has_bit}
-use Rattle.usb_address.specs.Claims.{AddressMap}
-use Rattle.usb_backlog.specs.Marks.{KeepsAll}
-use Rattle.usb_request.specs.Codes.{PORT_OUT, SET_FEATURE}
-use Rattle.usb_device.specs.Request.{Is}
-use Rattle.usb_address.specs.Ownership.{MapHolds}
-use Rattle.usb_pipe.specs.declared.fault.PipeFault.{PipeFault}
+use Rattle.usb_request.specs.{Setup, PORT_OUT, SET_FEATURE}
+use Rattle.usb_tree.specs.{IsSettled}
+use Rattle.usb_world.specs.{is_harmless, asks_no_port, is_above, LeavesPortAlone, Course, World}
+use Rattle.usb_transaction.specs.{Target, AttemptsMade}
+use Rattle.usb_port.specs.{has_bit}
+use Rattle.usb_address.specs.{AddressMap, MapHolds}
+use Rattle.usb_backlog.specs.{KeepsAll}
+use Rattle.usb_device.specs.{Is}
+use Rattle.usb_pipe.specs.{PipeFault, FaultAfter, Reads, Writes, IsNoBusFault}
 use Rattle.usb_pipe.specs.declared.fault.PipeFault.TheVariants.{Stalled, Memory}
-use Rattle.usb_pipe.specs.Control.{FaultAfter}
-use Rattle.usb_pipe.specs.Stages.{Reads, Writes}
-use Rattle.usb_pipe.specs.Leaves.{IsNoBusFault}
 use Rattle.usb_hub.specs.declared.status.DeviceStatus.{DeviceStatus}
 
 -- how few attempts came before each end of a request that takes so many transactions at least

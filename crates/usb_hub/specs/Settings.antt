@@ -2,20 +2,13 @@
 -- reachable after them.
 use Rattle.std.specs.Prelude.{◌≡◌, ◌⊎◌, ℕ, ◌==◌, ◌&&◌, not, Bool, true, false, List, None, Some}
 use Rattle.std.specs.Prelude.{Result, Ok, Err}
-use Rattle.usb_port.specs.PortState.{PortState}
-use Rattle.usb_device.specs.Request.{is_value}
-use Rattle.usb_device.specs.Rows.{State}
-use Rattle.usb_device.specs.Bulk.{rested}
-use Rattle.usb_device.specs.Progress.{OnlyControl}
-use Rattle.usb_device.specs.Tree.{Ports, full, all_off, Location, place_on}
-use Rattle.usb_world.specs.World.{World}
-use Rattle.usb_world.specs.Steps.{Course}
-use Rattle.usb_world.specs.RestingPorts.{LeavesPortAlone}
-use Rattle.usb_transaction.specs.declared.target.Target.{Target}
-use Rattle.usb_transaction.specs.Leaves.{is_at}
-use Rattle.usb_pipe.specs.declared.fault.PipeFault.{PipeFault}
+use Rattle.usb_port.specs.{PortState}
+use Rattle.usb_device.specs.{is_value, State, rested, OnlyControl, Ports, full, all_off, Location}
+use Rattle.usb_device.specs.{place_on}
+use Rattle.usb_world.specs.{World, Course, LeavesPortAlone}
+use Rattle.usb_transaction.specs.{Target, is_at}
+use Rattle.usb_pipe.specs.{PipeFault, CanEnd, IsNoBusFault, TookItOrLost}
 use Rattle.usb_pipe.specs.declared.fault.PipeFault.TheVariants.{Stalled}
-use Rattle.usb_pipe.specs.Leaves.{CanEnd, IsNoBusFault, TookItOrLost}
 
 -- A device was asked to take an address: nothing of it changed but where its transfer stands, and
 -- its address to this one. Where that is done, it

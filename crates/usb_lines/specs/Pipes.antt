@@ -1,7 +1,6 @@
 -- What is seen of a reader or a writer.
 use Rattle.std.specs.Prelude.{ℕ, Bool, List, Option}
-use Rattle.usb_bus.specs.declared.watched.Watched.{Watched}
-use Rattle.usb_bus.specs.Watch.{has_failed, inner_of}
+use Rattle.usb_bus.specs.{Watched, has_failed, inner_of}
 
 -- the bytes that a reader has left, or that a writer has, where they are known, and whether it
 -- failed

@@ -4,39 +4,23 @@ use Rattle.std.proofs.Common.{Option, Some, None, Result, Ok, Err, refl, sym, ap
 use Rattle.std.specs.Prelude.{Bool, is_ok, true, false, nat_lt, if◌then◌else◌}
 use Rattle.std.proofs.lemmas.Bool.{cases_lt}
 use Rattle.arrayvec.specs.ArrayVec.{ArrayVec}
-use Rattle.usb_packet.specs.declared.Toggle.{Toggle}
-use Rattle.usb_packet.specs.declared.Toggle.TheVariants.{Zero, One}
-use Rattle.usb_packet.specs.declared.TokenKind.{TokenKind}
-use Rattle.usb_packet.specs.declared.TokenKind.TheVariants.{OutTok, InTok, SetupTok}
-use Rattle.usb_port.specs.declared.call.PortCall.{PortCall}
-use Rattle.usb_request.specs.declared.setup.Setup.{Setup as SetupData}
-use Rattle.usb_world.specs.declared.types.Attempt.{Attempt}
-use Rattle.usb_world.specs.declared.types.BusFault.{BusFault}
-use Rattle.usb_world.specs.declared.types.Outcome.{Outcome}
-use Rattle.usb_wire.specs.declared.answer.Answer.{Answer}
+use Rattle.usb_packet.specs.{Toggle, Zero, One, TokenKind, OutTok, InTok, SetupTok}
+use Rattle.usb_port.specs.{PortCall}
+use Rattle.usb_request.specs.{Setup as SetupData}
+use Rattle.usb_world.specs.{Attempt, BusFault, Outcome}
+use Rattle.usb_wire.specs.{Answer, setup_by, Endpoint, Speed, Question}
 use Rattle.usb_wire.specs.declared.answer.Answer.TheVariants as answer
-use Rattle.usb_wire.specs.QuestionReading.{setup_by}
-use Rattle.usb_wire.specs.declared.question.Endpoint.{Endpoint}
-use Rattle.usb_wire.specs.declared.question.Speed.{Speed}
-use Rattle.usb_wire.specs.declared.question.Question.{Question}
 use Rattle.usb_wire.specs.declared.question.Question.TheVariants.{Hello, Wait, Port}
-use Rattle.usb_run.specs.declared.runs.Item.{Item}
-use Rattle.usb_run.specs.declared.runs.Item.TheVariants.{Listing, Sent, Received, Cleared}
-use Rattle.usb_stream.specs.Stream.{AsksNoQuestion, AsksOnce, AttemptsByLine, AttemptsBy, Calls}
-use Rattle.usb_stream.specs.Stream.{Kept, SaysHello, WritesLines, bus_fault, greeted, kept_of}
-use Rattle.usb_stream.specs.Stream.{question_by, question_for, roots_if, setup_with, line_speed}
-use Rattle.usb_stream.specs.Stream.{streams, unasked, unread_of, written_of}
-use Rattle.usb_stream.specs.declared.bus.StreamBus.{StreamBus}
-use Rattle.usb_stream.specs.declared.fault.LiveFault.{LiveFault}
-use Rattle.usb_live.specs.Course.{LiveCourse, CourseTo, EndsBy, StandsAtStage, Lives, is_nothing}
-use Rattle.usb_live.specs.Course.{is_wait, owed_by, owed_left, questions_in, settles, stage_behind}
-use Rattle.usb_live.specs.Course.{stage_behind_answer, told_text}
-use Rattle.usb_live.specs.declared.end.LiveEnd.{LiveEnd}
-use Rattle.usb_live.specs.declared.end.LiveEnd.TheVariants.{Line, Memory, Rounds}
-use Rattle.usb_live.specs.declared.owed.Owed.{Owed}
+use Rattle.usb_run.specs.{Item, Listing, Sent, Received, Cleared}
+use Rattle.usb_stream.specs.{AsksNoQuestion, AsksOnce, AttemptsByLine, AttemptsBy, Calls, Kept}
+use Rattle.usb_stream.specs.{SaysHello, WritesLines, bus_fault, greeted, kept_of, question_by}
+use Rattle.usb_stream.specs.{question_for, roots_if, setup_with, line_speed, streams, unasked}
+use Rattle.usb_stream.specs.{unread_of, written_of, StreamBus, LiveFault}
+use Rattle.usb_live.specs.{LiveCourse, CourseTo, EndsBy, StandsAtStage, Lives, is_nothing, is_wait}
+use Rattle.usb_live.specs.{owed_by, owed_left, questions_in, settles, stage_behind}
+use Rattle.usb_live.specs.{stage_behind_answer, told_text, LiveEnd, Line, Memory, Rounds, Owed}
+use Rattle.usb_live.specs.{Stage, Asks, EndWanted, Over}
 use Rattle.usb_live.specs.declared.owed.Owed.TheVariants as owed
-use Rattle.usb_live.specs.declared.stage.Stage.{Stage}
-use Rattle.usb_live.specs.declared.stage.Stage.TheVariants.{Asks, EndWanted, Over}
 
 -- ---- how many questions are left
 
@@ -62,8 +46,7 @@ asked_on r0 r1 w0 w1 j k q result c sound plain h =
     let few = c.few in
     record {
       asked = c.asked + questions_in result;
-      course =
-          LiveCourse.asked q result c.course sound plain h;
+      course = LiveCourse.asked q result c.course sound plain h;
       few = omega (arith, fewer, few);
       at = tt;
     }
@@ -79,8 +62,7 @@ wanted_on r0 r1 w0 w1 j k result c sound h =
     let few = c.few in
     record {
       asked = c.asked + questions_in result;
-      course =
-          LiveCourse.wanted result c.course sound h;
+      course = LiveCourse.wanted result c.course sound h;
       few = omega (arith, fewer, few);
       at = tt;
     }
@@ -318,15 +300,7 @@ course_tells EndWanted r w0 w1 j k number (Listing entries taken) done c sound f
       asked = on.asked;
       course = on.course;
       few = on.few;
-      at = record {
-        w = w0;
-        j = j;
-        wanted = c.at;
-        number = number;
-        entries = entries;
-        listed =
-            h;
-      };
+      at = record { w = w0; j = j; wanted = c.at; number = number; entries = entries; listed = h };
     }
 course_tells EndWanted r w0 w1 j k number (Sent path sent) done c sound fits h =
     told_on r w0 w1 j k number (Sent path sent) (Ok done) c sound

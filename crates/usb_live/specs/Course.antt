@@ -2,19 +2,14 @@
 use Rattle.std.specs.Prelude.{◌≡◌, ⊤, ℕ, ◌+◌, ◌≤◌, ◌==◌, ◌&&◌, Bool, true, false, List, length}
 use Rattle.std.specs.Prelude.{flat_map, Option, Some, None, Result, Ok, Err}
 use Rattle.std.specs.Str.{bytes_eq}
-use Rattle.usb_table.specs.Entries.{Entries}
-use Rattle.usb_text.specs.ListingLines.{listing_lines}
-use Rattle.usb_wire.specs.declared.answer.Answer.{Answer}
+use Rattle.usb_table.specs.{Entries}
+use Rattle.usb_text.specs.{listing_lines}
+use Rattle.usb_wire.specs.{Answer, Question}
 use Rattle.usb_wire.specs.declared.answer.Answer.TheVariants as answer
-use Rattle.usb_wire.specs.declared.question.Question.{Question}
 use Rattle.usb_wire.specs.declared.question.Question.TheVariants.{Hello, Wait}
-use Rattle.usb_run.specs.declared.runs.Item.{Item}
-use Rattle.usb_run.specs.declared.runs.Item.TheVariants.{Listing, Sent, Received, Cleared}
-use Rattle.usb_run.specs.declared.transfer.TransferFault.{TransferFault}
-use Rattle.usb_run.specs.ItemLines.{item_lines}
-use Rattle.usb_stream.specs.Stream.{AskedWell, AsksNoQuestion, AsksOnce, Kept, WritesLines, greeted}
-use Rattle.usb_stream.specs.Stream.{questions, streams, unasked}
-use Rattle.usb_stream.specs.declared.fault.LiveFault.{LiveFault}
+use Rattle.usb_run.specs.{Item, Listing, Sent, Received, Cleared, TransferFault, item_lines}
+use Rattle.usb_stream.specs.{AskedWell, AsksNoQuestion, AsksOnce, Kept, WritesLines, greeted}
+use Rattle.usb_stream.specs.{questions, streams, unasked, LiveFault}
 use Rattle.usb_live.specs.declared.end.LiveEnd.{LiveEnd}
 use Rattle.usb_live.specs.declared.end.LiveEnd.TheVariants.{Line, Memory, Rounds}
 use Rattle.usb_live.specs.declared.owed.Owed.{Owed}

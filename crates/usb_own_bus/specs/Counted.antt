@@ -1,7 +1,6 @@
 -- What is counted of attempts.
 use Rattle.std.specs.Prelude.{ℕ, ◌+◌, ◌-◌, ◌^◌, min, Result, Ok, Err}
-use Rattle.usb_world.specs.declared.types.BusFault.{BusFault}
-use Rattle.usb_world.specs.declared.types.Outcome.{Outcome}
+use Rattle.usb_world.specs.{BusFault, Outcome}
 use Rattle.usb_world.specs.declared.types.Outcome.TheVariants.{Payload, Ack, Nak, Stall, Nothing}
 use Rattle.usb_own_bus.specs.declared.counted.Counts.{Counts}
 

@@ -1,7 +1,7 @@
 //! A bus that counts what goes over another one.
 ghost use Rattle.std.specs.Prelude.{◌≡◌, true};
 ghost use Rattle.usb_bus.specs.Traces.{Attempts};
-ghost use Rattle.usb_world.specs.World.{IsAttempt};
+ghost use Rattle.usb_world.specs.Worlds.{IsAttempt};
 ghost use Rattle.usb_own_bus.specs.Counted.{counts_behind, counts_with};
 
 use std::fmt;

@@ -5,24 +5,17 @@ use Rattle.std.proofs.Common.{refl, sym, ap, subst, ◌∙◌, append_assoc, app
 use Rattle.std.proofs.lemmas.Option.{option_and_then_some, same_Some}
 use Rattle.std.proofs.lemmas.Bool.{ltb-true}
 use Rattle.std.specs.Option.{option_and_then}
-use Rattle.usb_packet.specs.declared.Packet.{Packet}
-use Rattle.usb_packet.specs.Text.{text_of}
-use Rattle.usb_world.specs.declared.exchange.ExchangeAnswer.{ExchangeAnswer}
+use Rattle.usb_packet.specs.{Packet, text_of}
+use Rattle.usb_world.specs.{ExchangeAnswer, Mark, Whole, Outgoing}
 use Rattle.usb_world.specs.declared.exchange.ExchangeAnswer.TheVariants.{Nothing, One, Collision}
-use Rattle.usb_world.specs.declared.wire.Mark.{Mark}
-use Rattle.usb_world.specs.declared.wire.Mark.TheVariants.{Whole}
-use Rattle.usb_world.specs.declared.wire.Outgoing.{Outgoing}
-use Rattle.usb_bus.specs.Trace.{answer_text, attempt_line, host_text, mark_text, next_text}
-use Rattle.usb_bus.specs.Trace.{pre_text}
-use Rattle.usb_pcap.specs.declared.attempt.TracedAttempt.{TracedAttempt}
-use Rattle.usb_pcap.specs.Text.{decimal_in, strip}
-use Rattle.usb_pcap.specs.Packet.{packet_in, packet_mark_in}
-use Rattle.usb_pcap.specs.Attempt.{IsAttemptLine, IsMarkedAnswer, IsSent, IsTraced, answer_in}
-use Rattle.usb_pcap.specs.Attempt.{attempt_answered, attempt_begun, attempt_in, behind_pre}
-use Rattle.usb_pcap.specs.Attempt.{data_follow, host_ack_in, host_data_in, host_in, is_ack_packet}
-use Rattle.usb_pcap.specs.Attempt.{is_answer, is_data_packet, kept_where, may_be_marked, next_in}
-use Rattle.usb_pcap.specs.Attempt.{no_time, one_answer, outgoing_of, payload_if, read_attempt}
-use Rattle.usb_pcap.specs.Attempt.{reply_if, sent, traced, whole_line}
+use Rattle.usb_bus.specs.{answer_text, attempt_line, host_text, mark_text, next_text, pre_text}
+use Rattle.usb_pcap.specs.{TracedAttempt, decimal_in, strip, packet_in, packet_mark_in}
+use Rattle.usb_pcap.specs.{IsAttemptLine, IsMarkedAnswer, IsSent, IsTraced, answer_in}
+use Rattle.usb_pcap.specs.{attempt_answered, attempt_begun, attempt_in, behind_pre, data_follow}
+use Rattle.usb_pcap.specs.{host_ack_in, host_data_in, host_in, is_ack_packet, is_answer}
+use Rattle.usb_pcap.specs.{is_data_packet, kept_where, may_be_marked, next_in, no_time, one_answer}
+use Rattle.usb_pcap.specs.{outgoing_of, payload_if, read_attempt, reply_if, sent, traced}
+use Rattle.usb_pcap.specs.{whole_line}
 use Rattle.usb_pcap.proofs.Reading.{decimal_in-some, found_some, if-some, map_some, strip-some}
 use Rattle.usb_pcap.proofs.Packets.{packet_in-some, packet_mark_in-some}
 
@@ -112,8 +105,7 @@ answer_in-some text r e =
     if-some (is_answer s.0.packet) (Some ((One s.0.packet, s.0.mark), s.1)) r e (λ fits_form is.
     let own = next_in-some false text s first in
     subst (AnsweredAs text) (same_Some ((One s.0.packet, s.0.mark), s.1) r is) (
-      own.0
-          ∙ simp append_assoc,
+      own.0 ∙ simp append_assoc,
       (fits_form, own.1),
     )))))
 
@@ -180,8 +172,7 @@ attempt_begun-some number text r few e =
     let told : IsTraced a = record {
       timed = few;
       token = host.1;
-      sends = kind
-          ∙ ap Some (sym more.1);
+      sends = kind ∙ ap Some (sym more.1);
       payload = more.2;
       answer = heard.1;
       reply = end.1;

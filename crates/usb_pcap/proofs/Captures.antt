@@ -12,21 +12,14 @@ use Rattle.std.proofs.lemmas.Bool.Decides.{nat_tests}
 use Rattle.std.proofs.KnownBytes.{Appends-trans, Consumes-trans}
 use Rattle.std.specs.Prelude.{IsErrOf}
 use Rattle.std.specs.Io.KnownBytes.{Appends, Consumes, IsAtEnd}
-use Rattle.usb_bus.specs.Watch.{AppendsFront}
+use Rattle.usb_bus.specs.{AppendsFront}
 use Rattle.usb_bus.proofs.Interface.{front_after_first}
-use Rattle.usb_pcap.specs.declared.capturing.OpenLine.{OpenLine}
-use Rattle.usb_pcap.specs.declared.capturing.PcapFault.{PcapFault}
-use Rattle.usb_pcap.specs.declared.capturing.PcapFault.TheVariants.{Read, Line as BadLine, TooLong}
-use Rattle.usb_pcap.specs.declared.capturing.PcapFault.TheVariants.{Write}
-use Rattle.usb_pcap.specs.declared.attempt.TracedAttempt.{TracedAttempt}
-use Rattle.usb_pcap.specs.Attempt.{IsAttemptLine}
-use Rattle.usb_pcap.specs.Grammar.{fits_form}
-use Rattle.usb_pcap.specs.Report.{IsReport, has_form, plug_form, report_forms}
+use Rattle.usb_pcap.specs.{OpenLine, PcapFault, Read, Line as BadLine, TooLong, Write}
+use Rattle.usb_pcap.specs.{TracedAttempt, IsAttemptLine, fits_form, IsReport, has_form, plug_form}
+use Rattle.usb_pcap.specs.{report_forms, AreRecords, attempt_packets, header, Captures, ComesOf}
+use Rattle.usb_pcap.specs.{IsCapture, IsRunLine, IsTold, LineRecords, RecordsOf, RefusedLine}
+use Rattle.usb_pcap.specs.{StandsBehind, WroteFront, WroteLines, longest, next_number}
 use Rattle.usb_pcap.proofs.Forms.{is_report-complete, is_report-sound, no_plug, plug_taken}
-use Rattle.usb_pcap.specs.Record.{AreRecords, attempt_packets, header}
-use Rattle.usb_pcap.specs.Capture.{Captures, ComesOf, IsCapture, IsRunLine, IsTold, LineRecords}
-use Rattle.usb_pcap.specs.Capture.{RecordsOf, RefusedLine, StandsBehind, WroteFront, WroteLines}
-use Rattle.usb_pcap.specs.Capture.{longest, next_number}
 
 few_taken : (k : ℕ) (l : List ℕ) → length (take k l) < k → length l < k
 few_taken k l h = let e = length-take k l in omega (arith, e)
@@ -62,8 +55,7 @@ taken_long k line front b e full =
     let many = many_taken k line (subst (λ l. length l ≡ k) e full) in
     let long = length-append line (b ∷ []) in (
       e ∙ sym (take-append-le k line (b ∷ []) many),
-      is_more k (length (line ++ b ∷ []))
-          (omega (arith, long)),
+      is_more k (length (line ++ b ∷ [])) (omega (arith, long)),
     )
 
 pub stands_first : (w now : Option (List ℕ)) (s : OpenLine) → Appends w now header → s.number ≡ 1
@@ -368,8 +360,7 @@ attempt_records front line is_long a records e long short of made =
     let few : length line ≤ longest = not_more longest (length line) (sym long ∙ short) in
     LineRecords.attempt a records.items (
       few,
-      subst (λ l. IsAttemptLine l a)
-          (short_whole front line e few) of,
+      subst (λ l. IsAttemptLine l a) (short_whole front line e few) of,
     ) made
 
 pub none_refused : (front line : List ℕ) (is_long : Bool) → front ≡ take longest line

@@ -5,9 +5,8 @@ use Rattle.std.proofs.Common.{None, refl, sym, ap, subst, ◌∙◌, arith, appe
 use Rattle.std.proofs.Common.{length-append}
 use Rattle.std.proofs.lemmas.Bool.{and_parts, eqb-true}
 use Rattle.std.proofs.lemmas.List.{length-take, take-append-drop}
-use Rattle.usb_pcap.specs.Grammar.{IsForm, IsOneOf, IsPiece, Piece, behind_piece, fits_form}
-use Rattle.usb_pcap.specs.Report.{HasForm, IsPlug, IsReport, has_form, plug_form, report_forms}
-use Rattle.usb_pcap.specs.Capture.{longest}
+use Rattle.usb_pcap.specs.{IsForm, IsOneOf, IsPiece, Piece, behind_piece, fits_form, HasForm}
+use Rattle.usb_pcap.specs.{IsPlug, IsReport, has_form, plug_form, report_forms, longest}
 use Rattle.usb_pcap.proofs.Items.{StopsAt, distinct, halts, no_length, piece-complete, piece-sound}
 use Rattle.usb_pcap.proofs.Items.{ports_short}
 

@@ -11,14 +11,11 @@ use Rattle.std.proofs.lemmas.Bool.Decides.{nat_tests}
 use Rattle.std.proofs.lemmas.Fmt.{decimal_by_steps}
 use Rattle.std.specs.Char.{is_ascii_digit}
 use Rattle.std.specs.Option.{option_and_then}
-use Rattle.usb_pcap.specs.declared.item.Item.{Item}
-use Rattle.usb_pcap.specs.declared.item.Item.TheVariants.{Port, Byte, Letter}
-use Rattle.usb_pcap.specs.Text.{decimal_in, if_found, is_digit, number_on, strip, strip_any}
-use Rattle.usb_pcap.specs.Text.{with_digit}
-use Rattle.usb_port.specs.Path.{is_port_digit}
-use Rattle.usb_pcap.specs.Grammar.{AreUnits, IsUnit, IsOneOf, IsPiece, Piece, behind_bytes}
-use Rattle.usb_pcap.specs.Grammar.{behind_escape, behind_item, behind_items, behind_piece}
-use Rattle.usb_pcap.specs.Grammar.{is_escape, is_plain}
+use Rattle.usb_pcap.specs.{Item, Port, Byte, Letter, decimal_in, if_found, is_digit, number_on}
+use Rattle.usb_pcap.specs.{strip, strip_any, with_digit, AreUnits, IsUnit, IsOneOf, IsPiece, Piece}
+use Rattle.usb_pcap.specs.{behind_bytes, behind_escape, behind_item, behind_items, behind_piece}
+use Rattle.usb_pcap.specs.{is_escape, is_plain}
+use Rattle.usb_port.specs.{is_port_digit}
 use Rattle.usb_pcap.proofs.Reading.{decimal_in-some, found_some, if_either, if-some, map_some}
 use Rattle.usb_pcap.proofs.Reading.{strip-some}
 use Rattle.usb_tree.proofs.Interface.{not-true}
@@ -97,8 +94,7 @@ strip_any-sound (w ∷ ws) text rest e =
     (λ r found is. (
       w,
       inl refl,
-      strip-some w text r found
-          ∙ ap (λ l. w ++ l) (same_Some r rest is),
+      strip-some w text r found ∙ ap (λ l. w ++ l) (same_Some r rest is),
     ))
     (λ more. let (first, one, split) = strip_any-sound ws text rest more in (first, inr one, split))
 
@@ -167,8 +163,7 @@ items_step kind n text (Some rest) e more =
     let (items, are, whole) = more rest in (
       item ++ items,
       inr (item, items, is, are, refl),
-      split ∙ ap (λ l. item ++ l) whole
-          ∙ sym (append_assoc item items (behind_items kind n rest)),
+      split ∙ ap (λ l. item ++ l) whole ∙ sym (append_assoc item items (behind_items kind n rest)),
     )
 
 pub items-sound : (kind : Item) (n : ℕ) (text : List ℕ) → (items : List ℕ) × AreUnits kind n items
@@ -387,8 +382,7 @@ piece_bytes-sound text rest e =
     (λ r found is. (
       codes "-",
       inl refl,
-      strip-some (codes "-") text r found
-          ∙ ap (λ l. codes "-" ++ l) (same_Some r rest is),
+      strip-some (codes "-") text r found ∙ ap (λ l. codes "-" ++ l) (same_Some r rest is),
     ))
     (λ more. map_some (λ r. behind_items Byte (length r) r) (behind_item Byte text) rest more
     (λ after found is.
@@ -411,8 +405,7 @@ piece-sound Piece.path (d ∷ text) rest e =
     let (more, are, whole) = items-sound Port 6 text in (
       d ∷ more,
       (d, more, fit, are, refl),
-      ap (λ l. d ∷ l) (whole
-          ∙ ap (λ l. more ++ l) (same_Some (behind_items Port 6 text) rest is)),
+      ap (λ l. d ∷ l) (whole ∙ ap (λ l. more ++ l) (same_Some (behind_items Port 6 text) rest is)),
     ))
 piece-sound Piece.number text rest e =
     map_some (λ (n : ℕ × List ℕ). n.1) (decimal_in text) rest e (λ n found is.
@@ -423,15 +416,13 @@ piece-sound Piece.string text rest e =
     let (items, are, whole) = items-sound Letter (length text) text in (
       items,
       (length text, are),
-      whole ∙ ap (λ l. items ++ l)
-          (same_Some (behind_items Letter (length text) text) rest e),
+      whole ∙ ap (λ l. items ++ l) (same_Some (behind_items Letter (length text) text) rest e),
     )
 piece-sound Piece.name [] rest e = absurd (cc)
 piece-sound Piece.name (c ∷ text) rest e = (
   c ∷ text,
   (λ none. absurd (cc)),
-  sym (ap (λ l. (c ∷ text) ++ l) (sym (same_Some [] rest e))
-      ∙ append-nil (c ∷ text)),
+  sym (ap (λ l. (c ∷ text) ++ l) (sym (same_Some [] rest e)) ∙ append-nil (c ∷ text)),
 )
 
 pub dash_apart : (h : ℕ) → is_digit h ≡ true → (h == 45) ≡ false

@@ -6,20 +6,13 @@ use Rattle.std.proofs.lemmas.Option.{option_and_then_some, same_Some}
 use Rattle.std.proofs.lemmas.Bool.{and_parts, ltb-true}
 use Rattle.std.specs.Option.{option_and_then}
 use Rattle.hex.specs.Hex.{encode_upper, encode_with}
-use Rattle.usb_packet.specs.declared.TokenKind.{TokenKind}
-use Rattle.usb_packet.specs.declared.TokenKind.TheVariants.{OutTok, InTok, SetupTok}
-use Rattle.usb_packet.specs.declared.Toggle.{Toggle}
-use Rattle.usb_packet.specs.declared.Toggle.TheVariants.{Zero, One}
-use Rattle.usb_packet.specs.declared.Packet.{Packet}
-use Rattle.usb_packet.specs.declared.Packet.TheVariants.{Token, Payload, Ack, Nak, Stall}
-use Rattle.usb_packet.specs.Spelling.{HasData, HasFields, IsBytes}
-use Rattle.usb_packet.specs.Text.{data_name, text_of, token_name}
-use Rattle.usb_world.specs.declared.wire.Mark.{Mark}
-use Rattle.usb_world.specs.declared.wire.Mark.TheVariants.{Whole, Lost, PreLost, Flipped}
-use Rattle.usb_bus.specs.Trace.{mark_text}
-use Rattle.usb_pcap.specs.Text.{bytes_on, decimal_in, strip}
-use Rattle.usb_pcap.specs.Packet.{bit_in, data_in, data_of, fitting_token, handshake_in, packet_in}
-use Rattle.usb_pcap.specs.Packet.{packet_mark_in, token_in}
+use Rattle.usb_packet.specs.{TokenKind, OutTok, InTok, SetupTok, Toggle, Zero, One, Packet, Token}
+use Rattle.usb_packet.specs.{Payload, Ack, Nak, Stall, HasData, HasFields, IsBytes, data_name}
+use Rattle.usb_packet.specs.{text_of, token_name}
+use Rattle.usb_world.specs.{Mark, Whole, Lost, PreLost, Flipped}
+use Rattle.usb_bus.specs.{mark_text}
+use Rattle.usb_pcap.specs.{bytes_on, decimal_in, strip, bit_in, data_in, data_of, fitting_token}
+use Rattle.usb_pcap.specs.{handshake_in, packet_in, packet_mark_in, token_in}
 use Rattle.usb_pcap.proofs.Reading.{bytes_on-data, bytes_on-some, decimal_in-some, found_some}
 use Rattle.usb_pcap.proofs.Reading.{if-some, map_some, strip-some}
 

@@ -6,32 +6,20 @@ use Rattle.std.proofs.Common.{sym, ap, ap₂, subst, ◌∙◌, arith, append_as
 use Rattle.std.proofs.Common.{length-append}
 use Rattle.std.proofs.lemmas.Bool.{and_parts, cases_lt, eqb-true, lt-ltb, ltb-true}
 use Rattle.hex.specs.Hex.{encode_upper, encode_with, upper_digits}
-use Rattle.usb_packet.specs.declared.TokenKind.{TokenKind}
-use Rattle.usb_packet.specs.declared.TokenKind.TheVariants.{OutTok, InTok, SetupTok}
-use Rattle.usb_packet.specs.declared.Toggle.{Toggle}
-use Rattle.usb_packet.specs.declared.Toggle.TheVariants.{Zero, One}
-use Rattle.usb_packet.specs.declared.Packet.{Packet}
-use Rattle.usb_packet.specs.declared.Packet.TheVariants.{Token, Sof, Payload, Ack, Nak, Stall, Pre}
-use Rattle.usb_packet.specs.Spelling.{HasData, HasFields, IsBytes}
-use Rattle.usb_packet.specs.Text.{data_name, hex_text, text_of, token_name}
-use Rattle.usb_world.specs.declared.exchange.ExchangeAnswer.{ExchangeAnswer}
+use Rattle.usb_packet.specs.{TokenKind, OutTok, InTok, SetupTok, Toggle, Zero, One, Packet, Token}
+use Rattle.usb_packet.specs.{Sof, Payload, Ack, Nak, Stall, Pre, HasData, HasFields, IsBytes}
+use Rattle.usb_packet.specs.{data_name, hex_text, text_of, token_name}
+use Rattle.usb_world.specs.{ExchangeAnswer, Mark, Whole, Lost, PreLost, Flipped, Outgoing}
+use Rattle.usb_world.specs.{bit_count}
 use Rattle.usb_world.specs.declared.exchange.ExchangeAnswer.TheVariants as answer
-use Rattle.usb_world.specs.declared.wire.Mark.{Mark}
-use Rattle.usb_world.specs.declared.wire.Mark.TheVariants.{Whole, Lost, PreLost, Flipped}
-use Rattle.usb_world.specs.declared.wire.Outgoing.{Outgoing}
-use Rattle.usb_world.specs.Wire.{bit_count}
-use Rattle.usb_bus.specs.Trace.{answer_text, attempt_line, host_text, mark_text, next_text}
-use Rattle.usb_bus.specs.Trace.{pre_text}
-use Rattle.usb_pcap.specs.declared.attempt.TracedAttempt.{TracedAttempt}
-use Rattle.usb_pcap.specs.Text.{bytes_on, is_digit, strip, value_of}
-use Rattle.usb_pcap.specs.Grammar.{Piece}
-use Rattle.usb_pcap.specs.Packet.{bit_in, data_in, handshake_in, packet_in, packet_mark_in}
-use Rattle.usb_pcap.specs.Packet.{token_in}
-use Rattle.usb_pcap.specs.Attempt.{IsAttemptLine, IsMarkedAnswer, IsSent, IsTraced, answer_in}
-use Rattle.usb_pcap.specs.Attempt.{attempt_answered, attempt_begun, attempt_in, behind_pre}
-use Rattle.usb_pcap.specs.Attempt.{data_follow, host_ack_in, host_data_in, host_in, is_ack_packet}
-use Rattle.usb_pcap.specs.Attempt.{is_answer, is_data_packet, may_be_marked, next_in, no_time}
-use Rattle.usb_pcap.specs.Attempt.{payload_if, read_attempt, reply_if, traced}
+use Rattle.usb_bus.specs.{answer_text, attempt_line, host_text, mark_text, next_text, pre_text}
+use Rattle.usb_pcap.specs.{TracedAttempt, bytes_on, is_digit, strip, value_of, Piece, bit_in}
+use Rattle.usb_pcap.specs.{data_in, handshake_in, packet_in, packet_mark_in, token_in}
+use Rattle.usb_pcap.specs.{IsAttemptLine, IsMarkedAnswer, IsSent, IsTraced, answer_in}
+use Rattle.usb_pcap.specs.{attempt_answered, attempt_begun, attempt_in, behind_pre, data_follow}
+use Rattle.usb_pcap.specs.{host_ack_in, host_data_in, host_in, is_ack_packet, is_answer}
+use Rattle.usb_pcap.specs.{is_data_packet, may_be_marked, next_in, no_time, payload_if}
+use Rattle.usb_pcap.specs.{read_attempt, reply_if, traced}
 use Rattle.usb_pcap.proofs.Items.{StopsAt, decimal_in-complete, dash_apart}
 
 -- ---- bytes
@@ -462,8 +450,7 @@ as_told : (a : TracedAttempt) → IsTraced a
     (a.exchange.answer, a.exchange.answer_mark) (a.exchange.reply, [])).0 ≡ a
 as_told a h =
     ap₂ (λ (lost cleared : Bool). record a {
-      exchange =
-          record a.exchange { address_lost = lost; change_cleared = cleared };
+      exchange = record a.exchange { address_lost = lost; change_cleared = cleared };
     }) (sym h.kept)
     (sym h.uncleared)
 

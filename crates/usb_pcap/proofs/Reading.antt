@@ -7,10 +7,9 @@ use Rattle.std.proofs.lemmas.Option.{option_and_then_some, same_Some}
 use Rattle.std.proofs.lemmas.Bool.{and_parts, cases_lt, eqb-true, ltb-true}
 use Rattle.std.proofs.lemmas.Bool.Decides.{nat_tests}
 use Rattle.std.specs.Char.{is_ascii_digit}
-use Rattle.usb_packet.specs.Spelling.{IsBytes}
+use Rattle.usb_packet.specs.{IsBytes}
 use Rattle.hex.specs.Hex.{encode_upper, encode_with, upper_digits}
-use Rattle.usb_pcap.specs.Text.{bytes_on, decimal_in, if_found, is_digit, number_on, strip}
-use Rattle.usb_pcap.specs.Text.{value_of}
+use Rattle.usb_pcap.specs.{bytes_on, decimal_in, if_found, is_digit, number_on, strip, value_of}
 
 -- a test was met, and what it led to
 pub if-some : {A P : Type 0} (b : Bool) (o : Option A) (y : A) → (if b then o else None) ≡ Some y

@@ -1,14 +1,11 @@
 -- Records of packets, one behind the other.
 use Rattle.std.proofs.Common.{◌≡◌, ℕ, List, [], ◌∷◌, ◌++◌, length, Bool, true, refl, sym, ap, subst}
 use Rattle.std.proofs.Common.{◌∙◌, append_assoc, append-nil}
-use Rattle.usb_packet.specs.declared.Packet.{Packet}
-use Rattle.usb_packet.specs.Spelling.{Spells}
-use Rattle.usb_world.specs.declared.wire.Mark.{Mark}
-use Rattle.usb_world.specs.declared.wire.Mark.TheVariants.{Whole, Lost, PreLost, Flipped}
+use Rattle.usb_packet.specs.{Packet, Spells}
+use Rattle.usb_world.specs.{Mark, Whole, Lost, PreLost, Flipped}
 use Rattle.usb_world.proofs.Interface.{bit_within}
-use Rattle.usb_pcap.specs.Attempt.{may_be_marked}
-use Rattle.usb_pcap.specs.Record.{AppendsRecords, AreRecords, HasBit, IsRecord, damaged, own_mark}
-use Rattle.usb_pcap.specs.Record.{record_head}
+use Rattle.usb_pcap.specs.{may_be_marked, AppendsRecords, AreRecords, HasBit, IsRecord, damaged}
+use Rattle.usb_pcap.specs.{own_mark, record_head}
 
 -- four parts, one after the other
 pub four_parts : (a b c d e w x y z : List ℕ) → b ≡ a ++ w → c ≡ b ++ x → d ≡ c ++ y → e ≡ d ++ z
@@ -48,8 +45,7 @@ are_append number (p ∷ ps) qs xs ys (first, rest, one, more, e) h = (
   rest ++ ys,
   one,
   are_append number ps qs rest ys more h,
-  ap (λ l. l ++ ys) e
-      ∙ append_assoc first rest ys,
+  ap (λ l. l ++ ys) e ∙ append_assoc first rest ys,
 )
 
 pub then_records : (number : ℕ) (ps qs : List (Packet × Mark)) (a b c : List ℕ)

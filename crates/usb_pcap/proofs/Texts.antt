@@ -6,7 +6,7 @@ use Rattle.std.proofs.lemmas.List.{take_all}
 use Rattle.std.proofs.lemmas.Bool.{lt-ltb}
 use Rattle.std.specs.Option.{MatchOption}
 use Rattle.std.specs.Cmp.Lexicographic.{pointwise}
-use Rattle.usb_pcap.specs.Text.{bytes_on, is_digit, strip, value_of}
+use Rattle.usb_pcap.specs.{bytes_on, is_digit, strip, value_of}
 
 strip_step : {A : Type 0} (same equal : Bool) (r : Option A) (x : A)
     → r ≡ (if equal then Some x else None) → (if same then r else None)

@@ -2,17 +2,12 @@
 use Rattle.std.specs.Prelude.{◌≡◌, ◌<◌, IfSome, ℕ, nat_lt, Bool, true, false, List, [], ◌∷◌, Option}
 use Rattle.std.specs.Prelude.{Some, None, is_some, codes, option_map, if◌then◌else◌}
 use Rattle.std.specs.Option.{option_and_then}
-use Rattle.usb_packet.specs.declared.TokenKind.TheVariants.{OutTok, InTok, SetupTok}
-use Rattle.usb_packet.specs.declared.Packet.{Packet}
-use Rattle.usb_packet.specs.declared.Packet.TheVariants.{Token, Sof, Payload, Ack, Nak, Stall, Pre}
-use Rattle.usb_packet.specs.Spelling.{HasData, HasFields}
-use Rattle.usb_bus.specs.Trace.{attempt_line}
-use Rattle.usb_world.specs.declared.exchange.ExchangeAnswer.{ExchangeAnswer}
+use Rattle.usb_packet.specs.{OutTok, InTok, SetupTok, Packet, Token, Sof, Payload, Ack, Nak, Stall}
+use Rattle.usb_packet.specs.{Pre, HasData, HasFields}
+use Rattle.usb_bus.specs.{attempt_line}
+use Rattle.usb_world.specs.{ExchangeAnswer, Mark, Whole, Lost, PreLost, Flipped, Outgoing}
+use Rattle.usb_world.specs.{bit_count}
 use Rattle.usb_world.specs.declared.exchange.ExchangeAnswer.TheVariants.{Nothing, One, Collision}
-use Rattle.usb_world.specs.declared.wire.Mark.{Mark}
-use Rattle.usb_world.specs.declared.wire.Mark.TheVariants.{Whole, Lost, PreLost, Flipped}
-use Rattle.usb_world.specs.declared.wire.Outgoing.{Outgoing}
-use Rattle.usb_world.specs.Wire.{bit_count}
 use Rattle.usb_pcap.specs.declared.attempt.TracedAttempt.{TracedAttempt}
 use Rattle.usb_pcap.specs.Text.{decimal_in, if_found, strip}
 use Rattle.usb_pcap.specs.Packet.{packet_in, packet_mark_in}

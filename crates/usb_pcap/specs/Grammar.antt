@@ -6,7 +6,7 @@ use Rattle.usb_pcap.specs.declared.item.Item.{Item}
 use Rattle.usb_pcap.specs.declared.item.Item.TheVariants.{Port, Byte, Letter}
 use Rattle.usb_pcap.specs.declared.part.Part.{Part}
 use Rattle.usb_pcap.specs.declared.part.Part.TheVariants as part
-use Rattle.usb_port.specs.Path.{is_port_digit}
+use Rattle.usb_port.specs.{is_port_digit}
 use Rattle.usb_pcap.specs.Text.{decimal_in, if_found, is_digit, strip, strip_any, value_of}
 
 -- ---- the grammar

@@ -2,15 +2,9 @@
 use Rattle.std.specs.Prelude.{◌≡◌, ℕ, ◌-◌, ◌*◌, ◌/◌, ◌%◌, ◌<◌, Bool, true, false, List, [], ◌∷◌}
 use Rattle.std.specs.Prelude.{◌++◌, length, Option, Some, None, ⊤}
 use Rattle.std.specs.Int.{to_le_bytes, w32}
-use Rattle.usb_packet.specs.declared.Packet.{Packet}
-use Rattle.usb_packet.specs.declared.Packet.TheVariants.{Pre}
-use Rattle.usb_packet.specs.Spelling.{Spells, flipped}
-use Rattle.usb_world.specs.declared.exchange.Exchange.{Exchange}
-use Rattle.usb_world.specs.declared.exchange.ExchangeAnswer.{ExchangeAnswer}
+use Rattle.usb_packet.specs.{Packet, Pre, Spells, flipped}
+use Rattle.usb_world.specs.{Exchange, ExchangeAnswer, Mark, Whole, Lost, PreLost, Flipped, Outgoing}
 use Rattle.usb_world.specs.declared.exchange.ExchangeAnswer.TheVariants.{Nothing, One, Collision}
-use Rattle.usb_world.specs.declared.wire.Mark.{Mark}
-use Rattle.usb_world.specs.declared.wire.Mark.TheVariants.{Whole, Lost, PreLost, Flipped}
-use Rattle.usb_world.specs.declared.wire.Outgoing.{Outgoing}
 
 -- ---- the packets of an attempt, each with what damage did to it
 

@@ -5,44 +5,27 @@ use Rattle.std.specs.Prelude.{Result, Ok, Err}
 use Rattle.std.proofs.Common.{◌≡◌, ℕ, true, false, List, Option, None, Some, refl, sym, subst, ◌∙◌}
 use Rattle.std.proofs.Common.{◌≢◌, ap, ◌⊎◌, inl, inr, [], take}
 use Rattle.arrayvec.specs.ArrayVec.{ArrayVec}
-use Rattle.usb_packet.specs.declared.Toggle.{Toggle}
-use Rattle.usb_packet.specs.declared.Toggle.TheVariants.{One}
-use Rattle.usb_request.specs.Layout.{bytes_of, setup_of, IsToHost}
-use Rattle.usb_request.specs.declared.setup.Setup.{Setup}
-use Rattle.usb_device.specs.Rows.{State}
-use Rattle.usb_device.specs.Tree.{Location, reach_on, state_on}
-use Rattle.usb_world.specs.Courses.{is_harmless}
-use Rattle.usb_world.specs.Devices.{Relation, Was}
-use Rattle.usb_tree.specs.AttemptPackets.{IsSettled}
-use Rattle.usb_tree.specs.Paths.{address_of}
-use Rattle.usb_world.specs.World.{World}
-use Rattle.usb_world.specs.declared.types.Attempt.{Attempt}
+use Rattle.usb_packet.specs.{Toggle, One, flips}
+use Rattle.usb_request.specs.{bytes_of, setup_of, IsToHost, Setup}
+use Rattle.usb_device.specs.{State, Location, reach_on, state_on}
+use Rattle.usb_world.specs.{is_harmless, Relation, Was, World, Attempt}
+use Rattle.usb_tree.specs.{IsSettled, address_of}
 use Rattle.usb_tree.proofs.Interface.{equal_same}
-use Rattle.usb_transaction.specs.Answerer.{Answerer, HadOne, IsAnswer as TransIsAnswer}
-use Rattle.usb_transaction.specs.HeardOutcomes.{heard_as, heard_when_sent}
-use Rattle.usb_transaction.specs.Leaves.{ControlIn, is_at, SourceIn, SinkOut}
-use Rattle.usb_transaction.specs.SparedDevices.{IsSpared}
-use Rattle.usb_transaction.specs.AttemptLog.{TransactionDone, Transacted}
-use Rattle.usb_transaction.specs.Transactions.{in_attempt, out_attempt}
-use Rattle.usb_transaction.specs.declared.fault.TransFault.{TransFault}
+use Rattle.usb_transaction.specs.{Answerer, HadOne, IsAnswer as TransIsAnswer, heard_as}
+use Rattle.usb_transaction.specs.{heard_when_sent, ControlIn, is_at, SourceIn, SinkOut, IsSpared}
+use Rattle.usb_transaction.specs.{TransactionDone, Transacted, in_attempt, out_attempt, TransFault}
+use Rattle.usb_transaction.specs.{Target}
 use Rattle.usb_transaction.specs.declared.fault.TransFault.TheVariants as trans
-use Rattle.usb_transaction.specs.declared.target.Target.{Target}
 use Rattle.usb_transaction.proofs.Interface.{transacted_unshared, control_in_leaves, had_address}
 use Rattle.usb_transaction.proofs.Interface.{had_one, poll_answered, poll_had, read_answered}
 use Rattle.usb_transaction.proofs.Interface.{read_had, set_up_had, sink_over, source_over}
 use Rattle.usb_transaction.proofs.Interface.{wait_answered, write_answered, write_had}
-use Rattle.usb_pipe.specs.Bulk.{Bulk, Sends, Receives}
-use Rattle.usb_pipe.specs.Control.{as_pipe_fault}
-use Rattle.usb_pipe.specs.End.{packet_target}
-use Rattle.usb_pipe.specs.Interrupt.{Interrupt, Polls}
-use Rattle.usb_pipe.specs.Leaves.{IsTransferAnswer}
-use Rattle.usb_pipe.specs.Moves.{Gave, Came, NotGone, NotCame, NoRoomLeft}
+use Rattle.usb_pipe.specs.{Bulk, Sends, Receives, as_pipe_fault, packet_target, Interrupt, Polls}
+use Rattle.usb_pipe.specs.{IsTransferAnswer, Gave, Came, NotGone, NotCame, NoRoomLeft, SetUp, Goes}
+use Rattle.usb_pipe.specs.{DataStage, NoSetUp, Reads, Writes, PipeFault}
 use Rattle.usb_pipe.specs.Moves as moves
-use Rattle.usb_pipe.specs.Stages.{SetUp, Goes, DataStage, NoSetUp, Reads, Writes}
 use Rattle.usb_pipe.specs.Stages as stages
-use Rattle.usb_packet.specs.Toggles.{flips}
 use Rattle.usb_pipe.specs.declared.condition.Condition.TheVariants.{Broken}
-use Rattle.usb_pipe.specs.declared.fault.PipeFault.{PipeFault}
 use Rattle.usb_pipe.specs.declared.fault.PipeFault.TheVariants as pipe_fault
 use Rattle.usb_pipe.proofs.BulkCalls.{send_by, receive_by}
 use Rattle.usb_pipe.proofs.ControlSteps.{ended_settled, ended_unshared, host_harmless}
@@ -171,8 +154,7 @@ answerer_after_passed {t} {old} {mid} {new} x settled single last =
       on = a.on;
       stands = a.stands;
       before = had.state;
-      was_on =
-          had.on;
+      was_on = had.on;
       stood = had.stands;
       at = had.at;
     }
@@ -185,8 +167,7 @@ of_device t max a = record {
   now = a.now;
   on = a.on;
   stands = a.stands;
-  before =
-      a.before;
+  before = a.before;
   was_on = a.was_on;
   stood = a.stood;
   at = a.at;

@@ -6,38 +6,21 @@ use Rattle.std.specs.Global.{Vec}
 use Rattle.std.proofs.lemmas.List.{take_min}
 use Rattle.std.proofs.Math.Seq.{take-append_seam, take-length}
 use Rattle.arrayvec.specs.ArrayVec.{ArrayVec}
-use Rattle.usb_packet.specs.declared.Toggle.{Toggle}
-use Rattle.usb_packet.specs.declared.Toggle.TheVariants.{One}
-use Rattle.usb_request.specs.declared.setup.Setup.{Setup}
-use Rattle.usb_request.specs.Requests.{clear_endpoint_halt}
-use Rattle.usb_request.specs.Layout.{bytes_of}
-use Rattle.usb_world.specs.World.{World}
-use Rattle.usb_world.specs.Steps.{Course, here, Step, attempt}
-use Rattle.usb_world.specs.declared.types.Attempt.{Attempt}
-use Rattle.usb_world.specs.declared.types.BusFault.{BusFault}
-use Rattle.usb_world.specs.declared.types.Outcome.{Outcome}
+use Rattle.usb_packet.specs.{Toggle, One, flips}
+use Rattle.usb_request.specs.{Setup, clear_endpoint_halt, bytes_of}
+use Rattle.usb_world.specs.{World, Course, here, Step, attempt, Attempt, BusFault, Outcome}
 use Rattle.usb_world.proofs.Interface.{course_joined, course_then, course_wider}
-use Rattle.usb_transaction.specs.declared.target.Target.{Target}
-use Rattle.usb_transaction.specs.declared.fault.TransFault.{TransFault}
+use Rattle.usb_transaction.specs.{Target, TransFault, IsOnly, heard_as, heard_when_sent, set_up_as}
+use Rattle.usb_transaction.specs.{TransactionDone, BusFailed, AttemptLog, start as none_yet, next}
+use Rattle.usb_transaction.specs.{KeepsTrying, Transacted, in_attempt, out_attempt, setup_attempt}
 use Rattle.usb_transaction.specs.declared.fault.TransFault.TheVariants as trans
-use Rattle.usb_transaction.specs.Attempts.{IsOnly}
-use Rattle.usb_transaction.specs.HeardOutcomes.{heard_as, heard_when_sent, set_up_as}
-use Rattle.usb_transaction.specs.AttemptLog.{TransactionDone, BusFailed, AttemptLog}
-use Rattle.usb_transaction.specs.AttemptLog.{start as none_yet, next, KeepsTrying, Transacted}
-use Rattle.usb_transaction.specs.Transactions.{in_attempt, out_attempt, setup_attempt}
 use Rattle.usb_transaction.proofs.Interface.{polled_attempts, trail_course}
-use Rattle.usb_pipe.specs.Attempts.{IsOfTransfer, TransferAttempts}
-use Rattle.usb_pipe.specs.Bulk.{Bulk, halt_address, Receives, Clears, Sends}
-use Rattle.usb_pipe.specs.Control.{as_pipe_fault}
-use Rattle.usb_pipe.specs.End.{packet_target}
-use Rattle.usb_pipe.specs.Interrupt.{Interrupt, Polls, PollAsked}
-use Rattle.usb_pipe.specs.Leaves.{IsBehind}
-use Rattle.usb_pipe.specs.Moves.{Came, ReceiveEnds, Gave, SendsAt, SendEnds}
+use Rattle.usb_pipe.specs.{IsOfTransfer, TransferAttempts, Bulk, halt_address, Receives, Clears}
+use Rattle.usb_pipe.specs.{Sends, as_pipe_fault, packet_target, Interrupt, Polls, PollAsked}
+use Rattle.usb_pipe.specs.{IsBehind, Came, ReceiveEnds, Gave, SendsAt, SendEnds, Goes, DataStage}
+use Rattle.usb_pipe.specs.{SetUp, DataLost, NoRoom, Reads, Writes, PipeFault}
 use Rattle.usb_pipe.specs.Moves as moves
-use Rattle.usb_pipe.specs.Stages.{Goes, DataStage, SetUp, DataLost, NoRoom, Reads, Writes}
 use Rattle.usb_pipe.specs.Stages as stages
-use Rattle.usb_packet.specs.Toggles.{flips}
-use Rattle.usb_pipe.specs.declared.fault.PipeFault.{PipeFault}
 use Rattle.usb_pipe.specs.declared.fault.PipeFault.TheVariants as pipe_fault
 use Rattle.usb_pipe.proofs.BulkCalls.{receive_by, clear_by, send_by}
 use Rattle.usb_pipe.proofs.ControlSteps.{transacted_ended}
@@ -106,8 +89,7 @@ idle_kind : {A : Type 0} {K : Step → World → Type 0} {old new : World} {resu
     → new ≡ old → ((fault : BusFault) → result ≡ Err (pipe_fault.Bus fault) → ⊥)
     → TransferAttempts K old result new
 idle_kind {K} {old} kept sound = record {
-  whole =
-      λ n. subst (λ w. Course K old w) (sym kept) (here old);
+  whole = λ n. subst (λ w. Course K old w) (sym kept) (here old);
   cut = λ f e. absurd (sound f e);
 }
 
@@ -148,8 +130,7 @@ module _ (t : Target) (request : Setup) where
       record {
         whole = λ n. course_joined (asked_first x.set_up)
             (behind (course_joined (stage_behind x.data_stage) (out_behind x.status)));
-        cut =
-            λ f e. cc e;
+        cut = λ f e. cc e;
       }
   read_attempts (Err why) old new (inl x) = no_set_up why x.fault old new x.told x.set_up
   read_attempts (Err why) old new (inr (inl x)) =
@@ -162,10 +143,8 @@ module _ (t : Target) (request : Setup) where
   pub write_attempts : (result : Result (Unit {0}) PipeFault) (old new : World)
       → Writes t request old result new → TransferAttempts (IsOfTransfer t request) old result new
   write_attempts (Ok u) old new x = record {
-    whole =
-        λ n. course_joined (asked_first x.set_up) (behind (in_behind One x.status));
-    cut =
-        λ f e. cc e;
+    whole = λ n. course_joined (asked_first x.set_up) (behind (in_behind One x.status));
+    cut = λ f e. cc e;
   }
   write_attempts (Err why) old new (inl x) = no_set_up why x.fault old new x.told x.set_up
   write_attempts (Err why) old new (inr x) = lost_kind K (heard_as One) (in_attempt t 0)
@@ -230,11 +209,7 @@ asked_attempts pipe (Ok (Some packet)) old new x =
     record { whole = λ n. trail_course (λ w made. refl) x.trail; cut = λ f e. cc e }
 asked_attempts pipe (Err why) old new x =
     let y = polled_attempts pipe.toggle (in_attempt pipe.target pipe.ep) (Err x.fault) old new
-    x.polled in record {
-      whole = λ n. y.whole (grind arith);
-      cut =
-          λ f e. y.cut f (grind arith);
-    }
+    x.polled in record { whole = λ n. y.whole (grind arith); cut = λ f e. y.cut f (grind arith) }
 
 pub poll_attempts : (pipe : Interrupt) (result : Result (Option (ArrayVec ℕ)) PipeFault)
     (left : Interrupt) (old new : World)
@@ -299,8 +274,7 @@ module _ (t : Target) (ep : ℕ) (first : Toggle) (total : List ℕ) (old : Worl
   send_ends : (result : Result (Unit {0}) PipeFault) (new : World)
       → SendEnds t ep first total old result new → TransferAttempts Kind old result new
   send_ends (Ok done) new x = record {
-    whole = λ n. gave_course x.gone [] (sym (append-nil total))
-        (λ lt. absurd (omega (arith, lt)));
+    whole = λ n. gave_course x.gone [] (sym (append-nil total)) (λ lt. absurd (omega (arith, lt)));
     cut = λ f e. cc e;
   }
   send_ends (Err why) new x =

@@ -2,8 +2,8 @@
 use Rattle.std.proofs.Common.{◌≡◌, refl, arith, true, false, Bool, ℕ, ◌+◌, ◌*◌, ◌≤◌, nat_le}
 use Rattle.std.proofs.Common.{if◌then◌else◌, mul-le-mul_left}
 use Rattle.std.proofs.lemmas.Bool.{le-leb, leb-true}
-use Rattle.usb_transaction.specs.Transactions.{transaction_bound}
-use Rattle.usb_pipe.specs.Control.{byte_bound, control_bound, write_bound}
+use Rattle.usb_transaction.specs.{transaction_bound}
+use Rattle.usb_pipe.specs.{byte_bound, control_bound, write_bound}
 
 -- where a packet has room for 8 bytes
 pub bound_wide : (max length : ℕ) → 8 ≤ max → control_bound max length ≡ write_bound + 100 * length

@@ -3,16 +3,15 @@ use Rattle.std.proofs.Common.{◌≡◌, ◌≢◌, ◌∙◌, ◌⊎◌, inl, i
 use Rattle.std.proofs.Common.{List, [], ◌∷◌, length, Result, Ok, Err, MatchResult}
 use Rattle.std.specs.Global.{Vec}
 use Rattle.std.specs.Int.{div_ceil}
-use Rattle.usb_packet.specs.declared.Toggle.{Toggle}
-use Rattle.usb_tree.specs.AttemptPackets.{IsSettled}
-use Rattle.usb_world.specs.World.{World}
-use Rattle.usb_transaction.specs.declared.target.Target.{Target}
-use Rattle.usb_pipe.specs.declared.condition.Condition.{Condition}
+use Rattle.usb_packet.specs.{Toggle}
+use Rattle.usb_tree.specs.{IsSettled}
+use Rattle.usb_world.specs.{World}
+use Rattle.usb_transaction.specs.{Target}
+use Rattle.usb_pipe.specs.{Condition, PipeFault, Bulk, Idle, MovedOut, Sends, MovedIn, Receives}
+use Rattle.usb_pipe.specs.{Cleared, Clears, Gave, Came}
 use Rattle.usb_pipe.specs.declared.condition.Condition.TheVariants.{Ready, Halted, Broken}
-use Rattle.usb_pipe.specs.declared.fault.PipeFault.{PipeFault}
 use Rattle.usb_pipe.specs.declared.fault.PipeFault.TheVariants as pipe_fault
-use Rattle.usb_pipe.specs.Bulk.{Bulk, Idle, MovedOut, Sends, MovedIn, Receives, Cleared, Clears}
-use Rattle.usb_pipe.specs.Moves.{Gave, Came, start, packet}
+use Rattle.usb_pipe.specs.Moves.{start, packet}
 use Rattle.usb_pipe.proofs.ControlSteps.{ended_settled}
 
 -- one that works is ready, or halted
@@ -22,8 +21,7 @@ condition_decided c d = grind arith
 pub ready_or : (G : Type 0) (c : Condition) → c ≢ Broken → (c ≡ Ready → G) → (c ≡ Halted → G) → G
 ready_or G c works ready halted = elim (condition_decided c Ready) [
   | inl e ↦ ready e
-  | inr n ↦
-      halted (grind arith)
+  | inr n ↦ halted (grind arith)
 ]
 
 pub send_by : {bytes : List ℕ} {pipe : Bulk} {old : World} {result : Result (Unit {0}) PipeFault}
@@ -35,8 +33,7 @@ pub send_by : {bytes : List ℕ} {pipe : Bulk} {old : World} {result : Result (U
 send_by {bytes} {pipe} G broken nothing moved x =
     elim (condition_decided pipe.condition Broken) [
       | inl e ↦ broken (x.broken e)
-      | inr works ↦
-          by_bytes works bytes refl
+      | inr works ↦ by_bytes works bytes refl
     ]
   where
     by_bytes : pipe.condition ≢ Broken → (b : List ℕ) → bytes ≡ b → G
@@ -71,8 +68,7 @@ pub clear_by : {pipe : Bulk} {old : World} {result : Result (Unit {0}) PipeFault
     → (pipe.condition ≢ Ready → Cleared pipe old result left new → G)
     → Clears pipe old result left new → G
 clear_by {pipe} G ready sent x = elim (condition_decided pipe.condition Ready) [
-  | inl e ↦
-      ready e (x.ready e)
+  | inl e ↦ ready e (x.ready e)
   | inr n ↦ sent n (x.sent n)
 ]
 

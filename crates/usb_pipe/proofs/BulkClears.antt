@@ -1,49 +1,29 @@
 -- What a clear of a halt leaves of each device, why it fails, and the record of a call.
-use Rattle.usb_device.specs.Tree.{Location}
+use Rattle.usb_device.specs.{Location, ServedEndpoint, BulkOut, BulkIn, Registers, Spec, rested}
+use Rattle.usb_device.specs.{bulk_at, is_end, served, outcome, unhalts, on_endpoint, first_stage}
+use Rattle.usb_device.specs.{ending, EndpointState, Changes, State, bulk_of, with_endpoint_state}
+use Rattle.usb_device.specs.{accepted, IsSink, IsSource, level, StatusGiven, OnlyControl, OnlyStage}
 use Rattle.std.proofs.Common.{◌≡◌, ◌≢◌, ◌⊎◌, inl, inr, ◌∙◌, refl, sym, ap, subst, arith, false}
 use Rattle.std.proofs.Common.{true, Bool, ℕ, ◌+◌, ◌*◌, ◌/◌, ◌%◌, ◌<◌, ◌==◌, List, [], ◌∷◌, Option}
 use Rattle.std.proofs.Common.{None, Some, Result, Ok, Err, OnOk, MatchResult}
 use Rattle.std.specs.Prelude.{⊤}
 use Rattle.std.proofs.lemmas.Bool.Decides.{nat_tests}
-use Rattle.usb_descriptor.specs.declared.fault.DescriptorFault.{DescriptorFault}
+use Rattle.usb_descriptor.specs.{DescriptorFault, counts_after, picked, first_from, first_counting}
+use Rattle.usb_descriptor.specs.{in_config, bulk_out_at, bulk_out_of}
+use Rattle.usb_descriptor.specs.{bulk_described as bulk_in_text}
 use Rattle.usb_descriptor.specs.declared.item.Item.{Item}
-use Rattle.usb_descriptor.specs.Choice.{counts_after, picked, first_from, first_counting, in_config}
-use Rattle.usb_descriptor.specs.Choice.{bulk_out_at, bulk_out_of, bulk_described as bulk_in_text}
-use Rattle.usb_request.specs.declared.setup.Setup.{Setup}
-use Rattle.usb_request.specs.Layout.{bytes_of, setup_of}
-use Rattle.usb_request.specs.Requests.{clear_endpoint_halt}
-use Rattle.usb_port.specs.PortState.{PortState}
-use Rattle.usb_device.specs.declared.bulk.ServedEndpoint.{ServedEndpoint}
-use Rattle.usb_device.specs.declared.bulk.ServedEndpoint.TheVariants.{BulkOut, BulkIn}
-use Rattle.usb_device.specs.declared.request.Registers.{Registers}
-use Rattle.usb_device.specs.Spec.{Spec}
-use Rattle.usb_device.specs.Bulk.{rested, bulk_at, is_end, served}
-use Rattle.usb_device.specs.Request.{outcome, unhalts, on_endpoint}
-use Rattle.usb_device.specs.Transfer.{first_stage, ending}
-use Rattle.usb_device.specs.declared.bulk.EndpointState.{EndpointState}
-use Rattle.usb_device.specs.declared.bulk.ServedEndpoint.TheVariants.{Changes}
-use Rattle.usb_device.specs.Rows.{State, bulk_of, with_endpoint_state, accepted}
-use Rattle.usb_device.specs.Progress.{IsSink, IsSource, level, StatusGiven, OnlyControl, OnlyStage}
-use Rattle.usb_world.specs.Courses.{is_harmless}
-use Rattle.usb_world.specs.World.{World}
-use Rattle.usb_world.specs.Devices.{EachWas}
+use Rattle.usb_request.specs.{Setup, bytes_of, setup_of, clear_endpoint_halt}
+use Rattle.usb_port.specs.{PortState}
+use Rattle.usb_world.specs.{is_harmless, World, EachWas}
 use Rattle.usb_world.proofs.Interface.{each_none, each_wider}
-use Rattle.usb_transaction.specs.Answerer.{Answerer}
-use Rattle.usb_transaction.specs.Failures.{NoThreeDamaged}
-use Rattle.usb_transaction.specs.Leaves.{is_at}
-use Rattle.usb_transaction.specs.Transactions.{AttemptsMade}
+use Rattle.usb_transaction.specs.{Answerer, NoThreeDamaged, is_at, AttemptsMade}
 use Rattle.usb_transaction.proofs.Interface.{spared_all}
-use Rattle.usb_pipe.specs.declared.condition.Condition.{Condition}
+use Rattle.usb_pipe.specs.{Condition, PipeFault, Bulk, is_ready, halt_address, cleared, Cleared}
+use Rattle.usb_pipe.specs.{Clears, FaultAfter, WriteFailure, EffectOrNone, none, some, whole}
+use Rattle.usb_pipe.specs.{WasRefused, WriteLeaves, OutPipeInSync, InPipeInSync, ClearLeaves}
+use Rattle.usb_pipe.specs.{IsNoBusFault, OnlyEndpoint, BulkClear, Unshared}
 use Rattle.usb_pipe.specs.declared.condition.Condition.TheVariants.{Ready, Broken}
-use Rattle.usb_pipe.specs.declared.fault.PipeFault.{PipeFault}
 use Rattle.usb_pipe.specs.declared.fault.PipeFault.TheVariants as pipe_fault
-use Rattle.usb_pipe.specs.Bulk.{Bulk, is_ready, halt_address, cleared, Cleared, Clears}
-use Rattle.usb_pipe.specs.Control.{FaultAfter}
-use Rattle.usb_pipe.specs.Failures.{WriteFailure}
-use Rattle.usb_pipe.specs.Leaves.{EffectOrNone, none, some, whole, WasRefused, WriteLeaves}
-use Rattle.usb_pipe.specs.Leaves.{OutPipeInSync, InPipeInSync, ClearLeaves, IsNoBusFault}
-use Rattle.usb_pipe.specs.Leaves.{OnlyEndpoint}
-use Rattle.usb_pipe.specs.Transfers.{BulkClear, Unshared}
 use Rattle.usb_pipe.proofs.Answerers.{who_writes}
 use Rattle.usb_pipe.proofs.BulkCalls.{clear_by}
 use Rattle.usb_pipe.proofs.ControlSteps.{only_stage}
@@ -173,8 +153,7 @@ only_kept Changes s v o = o ∙ ap (λ (e : EndpointState). record s {
 only_rested : (which : ServedEndpoint) (s v : State) → OnlyRested which s v → OnlyEndpoint which s v
 only_rested BulkOut s v o = o ∙ ap (λ (e : EndpointState). record s {
   bulk_out = e;
-  memory =
-      v.memory;
+  memory = v.memory;
   naks = v.naks;
   stage = v.stage;
 }) (sym (ap (λ (x : State). x.bulk_out) o))
@@ -186,8 +165,7 @@ only_rested BulkIn s v o = o ∙ ap (λ (e : EndpointState). record s {
 }) (sym (ap (λ (x : State). x.bulk_in) o))
 only_rested Changes s v o = o ∙ ap (λ (e : EndpointState). record s {
   changes = e;
-  memory =
-      v.memory;
+  memory = v.memory;
   naks = v.naks;
   stage = v.stage;
 }) (sym (ap (λ (x : State). x.changes) o))
@@ -251,11 +229,7 @@ done_leaves pipe done unready j s v x = record {
       v d.is d.given d.rest in
       rw (unready, o) (
         record {
-          endpoint = record {
-            endpoint = f.endpoint.endpoint;
-            not_zero =
-                f.endpoint.not_zero;
-          };
+          endpoint = record { endpoint = f.endpoint.endpoint; not_zero = f.endpoint.not_zero };
           level = λ r. refl;
           halted = λ r. cc r;
         },
@@ -270,8 +244,7 @@ done_leaves pipe done unready j s v x = record {
         record {
           endpoint = record {
             endpoint = f.endpoint.endpoint;
-            not_zero =
-                f.endpoint.not_zero;
+            not_zero = f.endpoint.not_zero;
             alone = f.endpoint.alone;
           };
           level = λ r. level refl refl;
@@ -317,8 +290,7 @@ failed_leaves pipe why old new ends j s v x = record {
       grind (
         arith,
         ends,
-        failed_sink pipe s v f
-            (failed_rests (clear_of pipe) BulkOut s is v (x.failed why refl)),
+        failed_sink pipe s v f (failed_rests (clear_of pipe) BulkOut s is v (x.failed why refl)),
       );
   source = λ at way got f.
       let is = clear_of-in pipe s way f.endpoint in
@@ -402,7 +374,6 @@ clear_told pipe result left old new x =
     record {
       clears = x;
       what = clear_leaves pipe result left old new x;
-      why =
-          λ three. clear_why pipe result left old new three x;
+      why = λ three. clear_why pipe result left old new three x;
       who = clear_who pipe result left old new x;
     }

@@ -1,6 +1,7 @@
 -- Bulk transfers: what sending and receiving leave of each device, in the end and at each moment,
 -- why they fail, and the record of a call.
-use Rattle.usb_device.specs.Tree.{Location}
+use Rattle.usb_device.specs.{Location, advanced, State, IsSink, SinkAt, level, ahead, Joined}
+use Rattle.usb_device.specs.{OnlySink, IsSource, SourceAt, OnlySource}
 use Rattle.std.proofs.Common.{◌≡◌, ◌≢◌, ◌∙◌, ◌⊎◌, inl, inr, refl, sym, ap, subst, arith, false}
 use Rattle.std.proofs.Common.{true, ℕ, ◌+◌, ◌-◌, ◌*◌, ◌<◌, ◌≤◌, List, [], ◌++◌, length, take, drop}
 use Rattle.std.proofs.Common.{Result, Ok, Err, OnOk}
@@ -9,44 +10,29 @@ use Rattle.std.proofs.Common.{length-take, mul-le-mul_right, take-add, take-appe
 use Rattle.std.specs.Global.{Vec}
 use Rattle.std.specs.Int.{div_ceil}
 use Rattle.std.proofs.lemmas.List.{take_min}
-use Rattle.usb_packet.specs.declared.Toggle.{Toggle}
-use Rattle.usb_packet.specs.Toggles.{other, flips}
-use Rattle.usb_device.specs.Bulk.{advanced}
-use Rattle.usb_device.specs.Rows.{State}
-use Rattle.usb_device.specs.Progress.{IsSink, SinkAt, level, ahead, Joined, OnlySink, IsSource}
-use Rattle.usb_device.specs.Progress.{SourceAt, OnlySource}
-use Rattle.usb_tree.specs.AttemptPackets.{IsSettled}
-use Rattle.usb_world.specs.World.{World}
-use Rattle.usb_world.specs.Devices.{EachWas}
+use Rattle.usb_packet.specs.{Toggle, other, flips}
+use Rattle.usb_tree.specs.{IsSettled}
+use Rattle.usb_world.specs.{World, EachWas}
 use Rattle.usb_world.proofs.Interface.{each_joined, each_none, each_wider}
-use Rattle.usb_transaction.specs.declared.target.Target.{Target}
-use Rattle.usb_transaction.specs.declared.fault.TransFault.{TransFault}
+use Rattle.usb_transaction.specs.{Target, TransFault, Answerer, NoThreeDamaged, Listens}
+use Rattle.usb_transaction.specs.{SinkOutFailure, SourceInFailure, heard_as, heard_when_sent, is_at}
+use Rattle.usb_transaction.specs.{SinkEnds, SinkOut, SinkBetween, SourceIn, TransactionDone}
+use Rattle.usb_transaction.specs.{in_attempt, out_attempt}
 use Rattle.usb_transaction.specs.declared.fault.TransFault.TheVariants as trans
-use Rattle.usb_transaction.specs.Answerer.{Answerer}
-use Rattle.usb_transaction.specs.Failures.{NoThreeDamaged, Listens, SinkOutFailure, SourceInFailure}
-use Rattle.usb_transaction.specs.HeardOutcomes.{heard_as, heard_when_sent}
-use Rattle.usb_transaction.specs.Leaves.{is_at, SinkEnds, SinkOut, SinkBetween, SourceIn}
-use Rattle.usb_transaction.specs.AttemptLog.{TransactionDone}
-use Rattle.usb_transaction.specs.Transactions.{in_attempt, out_attempt}
 use Rattle.usb_transaction.proofs.Interface.{at_kept, listens_on, others_stay_then, sink_between}
 use Rattle.usb_transaction.proofs.Interface.{sink_kept, sink_leaves, sink_over, sink_why}
 use Rattle.usb_transaction.proofs.Interface.{trail_unshared, transacted_unshared}
 use Rattle.usb_transaction.proofs.Interface.{source_at_kept, source_kept, source_leaves}
 use Rattle.usb_transaction.proofs.Interface.{source_over, source_why}
 use Rattle.usb_pipe.specs.declared.condition.Condition.TheVariants.{Ready, Halted, Broken}
-use Rattle.usb_pipe.specs.declared.fault.PipeFault.{PipeFault}
+use Rattle.usb_pipe.specs.{PipeFault, Bulk, after_fault, after_transfer, MovedOut, Sends, MovedIn}
+use Rattle.usb_pipe.specs.{Receives, PacketsSent, PacketsReceived, FaultAfter, as_pipe_fault}
+use Rattle.usb_pipe.specs.{packet_target, SendFailure, ReceiveFailure, IsNoBusFault, pipe_known}
+use Rattle.usb_pipe.specs.{came_with, OutPipeInSync, FrontTaken, SendLeaves, SendingLeaves}
+use Rattle.usb_pipe.specs.{InPipeInSync, ReceiveLeaves, Gave, Came, NotGone, WhileSending, AllCame}
+use Rattle.usb_pipe.specs.{NotCame, NoRoomLeft, Unshared, BulkSend, BulkReceive}
 use Rattle.usb_pipe.specs.declared.fault.PipeFault.TheVariants as pipe_fault
-use Rattle.usb_pipe.specs.Bulk.{Bulk, after_fault, after_transfer, MovedOut, Sends, MovedIn}
-use Rattle.usb_pipe.specs.Bulk.{Receives}
-use Rattle.usb_pipe.specs.Packets.{PacketsSent, PacketsReceived}
-use Rattle.usb_pipe.specs.Control.{FaultAfter, as_pipe_fault}
-use Rattle.usb_pipe.specs.End.{packet_target}
-use Rattle.usb_pipe.specs.Failures.{SendFailure, ReceiveFailure}
-use Rattle.usb_pipe.specs.Leaves.{IsNoBusFault, pipe_known, came_with, OutPipeInSync, FrontTaken}
-use Rattle.usb_pipe.specs.Leaves.{SendLeaves, SendingLeaves, InPipeInSync, ReceiveLeaves}
-use Rattle.usb_pipe.specs.Moves.{Gave, Came, start, packet, NotGone, WhileSending, AllCame, NotCame}
-use Rattle.usb_pipe.specs.Moves.{NoRoomLeft}
-use Rattle.usb_pipe.specs.Transfers.{Unshared, BulkSend, BulkReceive}
+use Rattle.usb_pipe.specs.Moves.{start, packet}
 use Rattle.usb_pipe.proofs.Answerers.{who_sends, who_receives}
 use Rattle.usb_pipe.proofs.BulkCalls.{ready_or, send_by, receive_by, gave_settled, received_settled}
 use Rattle.usb_pipe.proofs.ControlSteps.{ended_unshared, transacted_ended, ended_damages}
@@ -102,8 +88,7 @@ module _ {t : Target} {ep : ℕ} {first : Toggle} {n : ℕ} {sent : List ℕ} {j
         memory = v.memory;
         bulk_out = v.bulk_out;
         sink = v.sink;
-        until_halt =
-            v.until_halt;
+        until_halt = v.until_halt;
       }) (x.frame i)
 
 gave_no_packets : (t : Target) (ep : ℕ) (first : Toggle) (j : Location) (s : State)
@@ -112,8 +97,7 @@ unfolding flips
 gave_no_packets t ep first j s = record {
   others = λ h. refl;
   frame = λ i. refl;
-  sink =
-      λ h i e. (sym (append-nil s.sink), e);
+  sink = λ h i e. (sym (append-nil s.sink), e);
   halted = λ h i c. (refl, refl);
 }
 
@@ -172,8 +156,7 @@ none_taken total s v e = record {
   front = [];
   rest = total;
   split = refl;
-  sink = ap (λ x. x.sink) e
-      ∙ sym (append-nil s.sink);
+  sink = ap (λ x. x.sink) e ∙ sym (append-nil s.sink);
 }
 
 fits_packet : (max : ℕ) (rest : List ℕ) → length (take max rest) ≤ max
@@ -194,10 +177,8 @@ module _ (bytes : List ℕ) (pipe left : Bulk) (n : ℕ) (works : pipe.condition
   -- all went
   all_sent : (done : Unit {0}) → bytes ≢ [] → left ≡ record pipe {
     toggle = left.toggle;
-    condition =
-        Ready;
-  } → left.toggle ≡ flips n pipe.toggle
-      → (j : Location) (s v : State) → Given bytes j s v
+    condition = Ready;
+  } → left.toggle ≡ flips n pipe.toggle → (j : Location) (s v : State) → Given bytes j s v
       → SendLeaves bytes pipe (Ok done) left j s v
   all_sent done some e turned j s v x =
       grind (arith, x.sink, x.halted, x.others, x.frame, sink_then)
@@ -349,8 +330,7 @@ next_bytes got bytes xs place max before now =
 next_place : (got bytes xs : List ℕ) (place max : ℕ)
     → bytes ≡ take max (drop (place + length got) xs)
     → advanced (place + length got) max (length xs) ≡ place + length (got ++ bytes)
-next_place got bytes xs place max now =
-    grind (arith, length-append, length-take, length-drop)
+next_place got bytes xs place max now = grind (arith, length-append, length-take, length-drop)
 
 -- What packets that came leave of one device
 
@@ -386,10 +366,8 @@ unfolding flips
 came_none t ep first j s = record {
   others = λ h. refl;
   frame = λ i. refl;
-  source =
-      λ h i place at. (refl, subst (λ k. SourceAt t.max k first s) (omega arith) at);
-  still =
-      λ h i c. (refl, refl);
+  source = λ h i place at. (refl, subst (λ k. SourceAt t.max k first s) (omega arith) at);
+  still = λ h i c. (refl, refl);
 }
 
 came_then : (t : Target) (ep : ℕ) (first : Toggle) (n : ℕ) (got bytes : List ℕ) → 1 ≤ t.max
@@ -599,8 +577,7 @@ module _ (wanted : ℕ) (pipe left : Bulk) (old new : World) (least : 1 ≤ pipe
       each_wider (ReceiveLeaves pipe result left) _
       (λ j s v y. record {
         answered = λ l place f. answered;
-        waited =
-            λ l place f more. waited;
+        waited = λ l place f more. waited;
       }) old new
       (receive_leaves wanted pipe result left old new least x single)
 
@@ -639,8 +616,7 @@ pub sends_by : (bytes : List ℕ) (pipe : Bulk) (old : World) (result : Result (
     → PacketsSent (packet_target pipe.target pipe.max) pipe.ep pipe.toggle bytes old result
     left.toggle new → left ≡ record pipe {
       toggle = left.toggle;
-      condition =
-          after_transfer pipe.condition result;
+      condition = after_transfer pipe.condition result;
     }
     → IsSettled old.roots → Sends bytes pipe old result left new
 sends_by bytes pipe old result left new works some x is settled = record {
@@ -651,8 +627,7 @@ sends_by bytes pipe old result left new works some x is settled = record {
     went = x.moves;
     behind = x.behind;
     settled = settled;
-    room
-        = x.room;
+    room = x.room;
     pipe_left = is;
     toggle = x.turned;
     halted = x.halted;
@@ -664,8 +639,7 @@ pub receives_by : (wanted : ℕ) (pipe : Bulk) (old : World) (result : Result (V
     → PacketsReceived (packet_target pipe.target pipe.max) pipe.ep pipe.toggle wanted old result
     left.toggle new → left ≡ record pipe {
       toggle = left.toggle;
-      condition =
-          after_transfer pipe.condition result;
+      condition = after_transfer pipe.condition result;
     }
     → IsSettled old.roots → Receives wanted pipe old result left new
 receives_by wanted pipe old result left new works some x is settled = record {
@@ -676,8 +650,7 @@ receives_by wanted pipe old result left new works some x is settled = record {
     came = x.moves;
     behind = x.behind;
     settled = settled;
-    most
-        = x.most;
+    most = x.most;
     pipe_left = is;
     toggle = x.turned;
     halted = x.halted;

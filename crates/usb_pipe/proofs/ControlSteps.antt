@@ -5,48 +5,29 @@ use Rattle.std.proofs.Common.{length, Option, None, Some, is_some, refl, sym, su
 use Rattle.std.proofs.Common.{suc, ◌%◌, ◌==◌, not, ap, arith, ◌<◌, ◌≤◌, []}
 use Rattle.std.proofs.lemmas.Bool.Decides.{nat_tests}
 use Rattle.std.proofs.lemmas.Option.{same_Some}
-use Rattle.usb_packet.specs.declared.Toggle.{Toggle}
-use Rattle.usb_packet.specs.declared.Toggle.TheVariants.{Zero, One}
-use Rattle.usb_request.specs.Layout.{bytes_of, setup_of, IsToHost}
-use Rattle.usb_request.specs.declared.setup.Setup.{Setup}
-use Rattle.usb_port.specs.PortState.{PortState}
-use Rattle.usb_device.specs.Attempt.{Way, is_whole, gave, in_law}
-use Rattle.usb_device.specs.Progress.{OnlyControl, OnlyStage}
-use Rattle.usb_device.specs.Rows.{State, Reply, forgotten, is_busy}
-use Rattle.usb_device.specs.Transfer.{reading, max_packet, packet_at, toggle_at}
-use Rattle.usb_device.specs.Tree.{row_of, Location}
+use Rattle.usb_packet.specs.{Toggle, Zero, One, other, flips}
+use Rattle.usb_request.specs.{bytes_of, setup_of, IsToHost, Setup, PORT_RESET, C_PORT_CONNECTION}
+use Rattle.usb_request.specs.{CLEAR_FEATURE, SET_FEATURE, PORT_OUT}
+use Rattle.usb_port.specs.{PortState}
+use Rattle.usb_device.specs.{Way, is_whole, gave, in_law, OnlyControl, OnlyStage, State, Reply}
+use Rattle.usb_device.specs.{forgotten, is_busy, reading, max_packet, packet_at, toggle_at, row_of}
+use Rattle.usb_device.specs.{Location}
 use Rattle.usb_device.specs.declared.transfer.InEndpoint.TheVariants as by
-use Rattle.usb_world.specs.Courses.{is_harmless}
-use Rattle.usb_world.specs.Devices.{Relation, EachWas, DidIn, Was}
-use Rattle.usb_tree.specs.AttemptPackets.{IsSettled}
-use Rattle.usb_world.specs.Wire.{damage_of}
-use Rattle.usb_world.specs.World.{World}
-use Rattle.usb_world.specs.declared.types.Attempt.{Attempt}
-use Rattle.usb_transaction.specs.Failures.{NoThreeDamaged, SetupFailure, ControlInFailure}
-use Rattle.usb_transaction.specs.Failures.{StatusReadFailure}
-use Rattle.usb_transaction.specs.HeardOutcomes.{heard_as}
-use Rattle.usb_transaction.specs.Leaves.{ControlIn, SetupDone, is_at, ReadStatus}
-use Rattle.usb_transaction.specs.Leaves.{IsNotOfBus as TransNotOfBus}
-use Rattle.usb_transaction.specs.Losses.{begins_no_stretch, LossesIn, LosesNone}
-use Rattle.usb_transaction.specs.SparedDevices.{EachSpared, IsSpared}
-use Rattle.usb_transaction.specs.AttemptLog.{TransactionDone, Transacted}
-use Rattle.usb_transaction.specs.Transactions.{in_attempt}
-use Rattle.usb_transaction.specs.declared.fault.TransFault.{TransFault}
+use Rattle.usb_world.specs.{is_harmless, Relation, EachWas, DidIn, Was, damage_of, World, Attempt}
+use Rattle.usb_tree.specs.{IsSettled}
+use Rattle.usb_transaction.specs.{NoThreeDamaged, SetupFailure, ControlInFailure, StatusReadFailure}
+use Rattle.usb_transaction.specs.{heard_as, ControlIn, SetupDone, is_at, ReadStatus}
+use Rattle.usb_transaction.specs.{IsNotOfBus as TransNotOfBus, begins_no_stretch, LossesIn}
+use Rattle.usb_transaction.specs.{LosesNone, EachSpared, IsSpared, TransactionDone, Transacted}
+use Rattle.usb_transaction.specs.{in_attempt, TransFault, Target}
 use Rattle.usb_transaction.specs.declared.fault.TransFault.TheVariants as trans
-use Rattle.usb_transaction.specs.declared.target.Target.{Target}
 use Rattle.usb_transaction.proofs.Interface.{at_end, control_leaves, each_device, over_in}
 use Rattle.usb_transaction.proofs.Interface.{set_up_why, setup_leaves, trail_damages, trail_settled}
 use Rattle.usb_transaction.proofs.Interface.{trail_unshared, others_stay_then, status_leaves}
 use Rattle.usb_transaction.proofs.Interface.{transacted_unshared, control_in_why, in_losses}
 use Rattle.usb_transaction.proofs.Interface.{set_up_losses, spared_joined, spared_wider}
 use Rattle.usb_transaction.proofs.Interface.{read_status_why, out_losses, read_losses}
-use Rattle.usb_pipe.specs.Control.{as_pipe_fault}
-use Rattle.usb_pipe.specs.Leaves.{IsNoBusFault}
-use Rattle.usb_pipe.specs.Stages.{SetUp, Asks, Confirms}
-use Rattle.usb_packet.specs.Toggles.{other, flips}
-use Rattle.usb_request.specs.Features.{PORT_RESET, C_PORT_CONNECTION}
-use Rattle.usb_request.specs.Codes.{CLEAR_FEATURE, SET_FEATURE, PORT_OUT}
-use Rattle.usb_pipe.specs.declared.fault.PipeFault.{PipeFault}
+use Rattle.usb_pipe.specs.{as_pipe_fault, IsNoBusFault, SetUp, Asks, Confirms, PipeFault}
 use Rattle.usb_pipe.proofs.TransactionFaults.{Fell}
 
 -- What a transaction's answer says of its worlds
@@ -119,8 +100,7 @@ reading_stays : (answer : List ℕ) (wanted k max : ℕ) (s : State) (t2 t3 : Wa
     → StageStays (at_reading answer wanted k s) (elim o
     as (λ _. Reply) [
       | None ↦ (None, at_reading answer wanted k s)
-      | Some bytes ↦
-          gave (at_reading answer wanted k s) by.Control max (toggle_at k) bytes t2 t3
+      | Some bytes ↦ gave (at_reading answer wanted k s) by.Control max (toggle_at k) bytes t2 t3
     ]).1
 reading_stays answer wanted k max s t2 t3 None = (reads answer wanted k refl, refl)
 reading_stays answer wanted k max s t2 t3 (Some bytes) =
@@ -209,8 +189,7 @@ asked_leaves t awaited result old new x settled single j v on there =
       kept = λ sound. also (LosesNone t old new) a
           (read_losses t awaited result old new settled (ended_by result sound x) single j v on
           there);
-      losses = λ sound one. also (LossesIn t result old new) a
-          (in_losses t result old new settled
+      losses = λ sound one. also (LossesIn t result old new) a (in_losses t result old new settled
           (subst (λ b. TransactionDone (heard_as b) (in_attempt t 0) old result new) one
           (ended_by result sound x)) single j v on there);
     })
@@ -296,8 +275,7 @@ pub reached_first : (t : Target) (request : Setup) (Q : Relation) {old now : Wor
     → Q j s v) → RequestReached t request Q old now
 reached_first t request Q same settled x f = record {
   settled = ended_settled x settled;
-  damages =
-      ended_damages x;
+  damages = ended_damages x;
   each = only_first t request Q (Ok []) same settled x f;
 }
 
@@ -313,8 +291,7 @@ reached_last {t} {request} {P} S Q {old} {mid} hear a new result others f r x ea
     spared_joined t request (Only t P) S (Only t Q) others
     (λ j s u v y z. record {
       others = others_stay_then t s u v y.others (others j u v z);
-      mine =
-          λ at. f j s u v at (y.mine at) z;
+      mine = λ at. f j s u v at (y.mine at) z;
     }) old mid new
     (r.each (transacted_unshared hear a mid new result x r.settled single)) (each r.settled single)
 

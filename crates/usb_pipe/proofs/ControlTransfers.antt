@@ -13,65 +13,44 @@ use Rattle.std.proofs.lemmas.Bool.{and_parts}
 use Rattle.std.proofs.lemmas.Bool.Decides.{nat_tests}
 use Rattle.std.proofs.lemmas.List.{take_all, length-take}
 use Rattle.std.proofs.lemmas.Nat.{div-add-mod'}
-use Rattle.usb_packet.specs.declared.Toggle.{Toggle}
-use Rattle.usb_packet.specs.declared.Toggle.TheVariants.{One}
-use Rattle.usb_request.specs.Layout.{bytes_of, setup_of, IsToHost}
-use Rattle.usb_request.specs.declared.setup.Setup.{Setup}
-use Rattle.usb_port.specs.PortState.{PortState, status_of}
-use Rattle.usb_device.specs.Progress.{OnlyControl, OnlyStage, ReadingAt, ReadOn, StatusGiven}
-use Rattle.usb_device.specs.Request.{Outcome, stalled, answers, tells_port, Is, asked_descriptor}
-use Rattle.usb_device.specs.Request.{asked_hub_descriptor, port_named, told_port, outcome}
-use Rattle.usb_device.specs.Request.{takes_address, registers_at_setup, address_at_end}
-use Rattle.usb_device.specs.Rows.{State, accepted, begun}
-use Rattle.usb_device.specs.Spec.{Spec}
-use Rattle.usb_device.specs.Transfer.{reading, max_packet, packet_at, Stage, ending, refused}
-use Rattle.usb_device.specs.Transfer.{packets_joined, first_stage, reads_port, packet_count}
-use Rattle.usb_device.specs.Tree.{row_of, Location}
-use Rattle.usb_device.specs.declared.request.Registers.{Registers}
+use Rattle.usb_packet.specs.{Toggle, One, other, flips}
+use Rattle.usb_request.specs.{bytes_of, setup_of, IsToHost, Setup, DEVICE, CONFIGURATION, STRING}
+use Rattle.usb_request.specs.{HUB, GET_STATUS, CLEAR_FEATURE, SET_FEATURE, SET_ADDRESS}
+use Rattle.usb_request.specs.{GET_DESCRIPTOR, GET_CONFIGURATION, SET_CONFIGURATION, DEVICE_IN}
+use Rattle.usb_request.specs.{DEVICE_OUT, ENDPOINT_OUT, HUB_IN, PORT_IN, PORT_OUT, descriptor_value}
+use Rattle.usb_port.specs.{PortState, status_of}
+use Rattle.usb_device.specs.{OnlyControl, OnlyStage, ReadingAt, ReadOn, StatusGiven, Outcome}
+use Rattle.usb_device.specs.{stalled, tells_port, Is, asked_descriptor, asked_hub_descriptor}
+use Rattle.usb_device.specs.{port_named, told_port, outcome, takes_address, registers_at_setup}
+use Rattle.usb_device.specs.{address_at_end, State, accepted, begun, Spec, reading, max_packet}
+use Rattle.usb_device.specs.{packet_at, Stage, ending, refused, packets_joined, first_stage}
+use Rattle.usb_device.specs.{reads_port, packet_count, row_of, Location, Registers}
+use Rattle.usb_device.specs.Request.{answers}
 use Rattle.usb_device.proofs.Interface.{packets_joined-is, packets_joined-whole, packet-further}
 use Rattle.usb_device.proofs.Interface.{packet-fits}
-use Rattle.usb_world.specs.Courses.{is_harmless}
-use Rattle.usb_world.specs.Devices.{Relation, EachWas}
-use Rattle.usb_world.specs.Losses.{one_more}
-use Rattle.usb_tree.specs.AttemptPackets.{IsSettled}
-use Rattle.usb_tree.specs.Paths.{address_of}
-use Rattle.usb_world.specs.Steps.{Course}
-use Rattle.usb_world.specs.World.{World, AttemptsWithin}
+use Rattle.usb_world.specs.{is_harmless, Relation, EachWas, one_more, Course, World, AttemptsWithin}
+use Rattle.usb_tree.specs.{IsSettled, address_of}
 use Rattle.usb_world.proofs.Interface.{course_joined, register_address, spends_none, spends_then}
 use Rattle.usb_world.proofs.Interface.{spends_wider}
 use Rattle.usb_tree.proofs.Interface.{decided, either_of}
-use Rattle.usb_bus.specs.Traces.{Traced, StepRun, still}
+use Rattle.usb_bus.specs.{Traced, StepRun, still}
 use Rattle.usb_bus.proofs.Interface.{traced_then}
-use Rattle.usb_transaction.specs.Answerer.{Answerer}
-use Rattle.usb_transaction.specs.Failures.{NoThreeDamaged, Listens, HasNext, Fits}
-use Rattle.usb_transaction.specs.HeardOutcomes.{set_up_as}
-use Rattle.usb_transaction.specs.Leaves.{ControlIn, AcceptedAt, is_at, CanAccept, CanAnswer}
-use Rattle.usb_transaction.specs.Leaves.{IsInRead, IsNotOfBus as TransNotOfBus}
-use Rattle.usb_transaction.specs.Losses.{begins_no_stretch, LossesIn}
+use Rattle.usb_transaction.specs.{Answerer, NoThreeDamaged, Listens, HasNext, Fits, set_up_as}
+use Rattle.usb_transaction.specs.{ControlIn, AcceptedAt, is_at, CanAccept, CanAnswer, IsInRead}
+use Rattle.usb_transaction.specs.{IsNotOfBus as TransNotOfBus, begins_no_stretch, LossesIn}
+use Rattle.usb_transaction.specs.{EachSpared, Transacted, setup_attempt, AttemptsMade}
+use Rattle.usb_transaction.specs.{transaction_bound, TransFault, Target}
 use Rattle.usb_transaction.specs.Losses as transaction
-use Rattle.usb_transaction.specs.SparedDevices.{EachSpared}
-use Rattle.usb_transaction.specs.AttemptLog.{Transacted}
-use Rattle.usb_transaction.specs.Transactions.{setup_attempt, AttemptsMade, transaction_bound}
-use Rattle.usb_transaction.specs.declared.fault.TransFault.{TransFault}
 use Rattle.usb_transaction.specs.declared.fault.TransFault.TheVariants as trans
-use Rattle.usb_transaction.specs.declared.target.Target.{Target}
 use Rattle.usb_transaction.proofs.Interface.{at_from, spared_all, listens_at, spared_wider}
 use Rattle.usb_transaction.proofs.Interface.{spec_stays, listens_on}
-use Rattle.usb_pipe.specs.Control.{as_pipe_fault, ends_stage, byte_bound, FaultAfter}
-use Rattle.usb_pipe.specs.Failures.{WriteFailure, ControlReadFailure}
-use Rattle.usb_pipe.specs.Leaves.{IsNoBusFault, AcceptedIn, CanEnd, IsBehind, AnswerRead}
-use Rattle.usb_pipe.specs.Leaves.{ReadLeaves, WasRefused, EffectDone, EffectOrNone, WriteLeaves}
-use Rattle.usb_pipe.specs.Leaves.{TookItOrLost, LossesOf, IsMaximum, LossesKept}
-use Rattle.usb_pipe.specs.Stages.{SetUp, Goes, start, packet, DataStage, Reads, Writes, Asks}
-use Rattle.usb_pipe.specs.Stages.{DataEnds, Confirms}
-use Rattle.usb_packet.specs.Toggles.{other, flips}
-use Rattle.usb_request.specs.Codes.{DEVICE, CONFIGURATION, STRING, HUB, GET_STATUS, CLEAR_FEATURE}
-use Rattle.usb_request.specs.Codes.{SET_FEATURE, SET_ADDRESS, GET_DESCRIPTOR, GET_CONFIGURATION}
-use Rattle.usb_request.specs.Codes.{SET_CONFIGURATION, DEVICE_IN, DEVICE_OUT, ENDPOINT_OUT, HUB_IN}
-use Rattle.usb_request.specs.Codes.{PORT_IN, PORT_OUT}
-use Rattle.usb_request.specs.Requests.{descriptor_value}
-use Rattle.usb_pipe.specs.Transfers.{Unshared, ControlRead, ControlWrite}
-use Rattle.usb_pipe.specs.declared.fault.PipeFault.{PipeFault}
+use Rattle.usb_pipe.specs.{as_pipe_fault, ends_stage, byte_bound, FaultAfter, WriteFailure}
+use Rattle.usb_pipe.specs.{ControlReadFailure, IsNoBusFault, AcceptedIn, CanEnd, IsBehind}
+use Rattle.usb_pipe.specs.{AnswerRead, ReadLeaves, WasRefused, EffectDone, EffectOrNone}
+use Rattle.usb_pipe.specs.{WriteLeaves, TookItOrLost, LossesOf, IsMaximum, LossesKept, SetUp, Goes}
+use Rattle.usb_pipe.specs.{DataStage, Reads, Writes, Asks, DataEnds, Confirms, Unshared}
+use Rattle.usb_pipe.specs.{ControlRead, ControlWrite, PipeFault}
+use Rattle.usb_pipe.specs.Stages.{start, packet}
 use Rattle.usb_pipe.specs.declared.fault.PipeFault.TheVariants as pipe_fault
 use Rattle.usb_pipe.proofs.Answerers.{who_reads, who_writes}
 use Rattle.usb_pipe.proofs.Attempts.{in_behind, out_behind, goes_behind, stage_behind}
@@ -136,8 +115,7 @@ outcome-is_reading s g r h =
     (either_way IsReadingOutcome s.stalls.hub _ _ tt (elim s.hub
     as (λ o. IsReadingOutcome (asked_hub_descriptor o r)) [
       | None ↦ tt
-      | Some hub ↦
-          either_way IsReadingOutcome (r.value == descriptor_value HUB 0) _ _ tt tt
+      | Some hub ↦ either_way IsReadingOutcome (r.value == descriptor_value HUB 0) _ _ tt tt
     ]))
     (either_way IsReadingOutcome (Is r PORT_IN GET_STATUS) _ _ (elim (port_named s.hub g r.index)
     as (λ o. IsReadingOutcome (told_port o)) [ None ↦ tt | Some i ↦ tt ])
@@ -190,8 +168,7 @@ is_some_byte wanted h = grind (arith, nat_tests, h)
 closes : (row : List PortState) (wanted : ℕ) (o : Outcome) → wanted ≡ 0
     → (first_stage row wanted o ≡ refused) ⊎ (first_stage row wanted o ≡ ending (address_at_end o))
 closes row wanted o e = elim (first_stage_of row wanted o) [
-  | refuses h ↦
-      inl h
+  | refuses h ↦ inl h
   | answers_with bytes f h ↦ cc (sym f ∙ ap (λ n. n == 0) e)
   | ends h g ↦ inr h
 ]
@@ -204,11 +181,9 @@ asks_for o a e = cc e
 first_stage-address : (row : List PortState) (wanted : ℕ) (o : Outcome) (a : ℕ)
     → first_stage row wanted o ≡ ending (Some a) → o ≡ takes_address a
 first_stage-address row wanted o a e = elim (first_stage_of row wanted o) [
-  | refuses h ↦
-      cc (sym h ∙ e)
+  | refuses h ↦ cc (sym h ∙ e)
   | answers_with bytes f h ↦ cc (sym h ∙ e)
-  | ends h g ↦
-      asks_for o a (cc (sym h ∙ e))
+  | ends h g ↦ asks_for o a (cc (sym h ∙ e))
 ]
 
 -- The packets of an answer
@@ -241,8 +216,7 @@ over_if : (size max came wanted : ℕ) → (nat_lt size max || nat_le wanted cam
 over_if size max came wanted h = grind (
   arith,
   nat_tests,
-  either_of (nat_lt size max)
-      (nat_le wanted came) h,
+  either_of (nat_lt size max) (nat_le wanted came) h,
 )
 
 more_if : (size max came wanted : ℕ) → size ≤ max → (nat_lt size max || nat_le wanted came) ≡ false
@@ -395,8 +369,7 @@ module _ (t : Target) (request : Setup) (host : IsToHost request) (some : 1 ≤ 
       (x : AcceptedAt t (bytes_of request) old now j s u)
       → u ≡ record s {
         naks = s.spec.naks;
-        stage =
-            first_stage (row_of x.holder.below) Wants (outcome s.spec s.registers request);
+        stage = first_stage (row_of x.holder.below) Wants (outcome s.spec s.registers request);
       }
   accepted_is s u x = x.is ∙ ap (λ r. accepted s (row_of x.holder.below) r) same
       ∙ asks_only s (row_of x.holder.below) Wants (outcome s.spec s.registers request)
@@ -410,8 +383,7 @@ module _ (t : Target) (request : Setup) (host : IsToHost request) (some : 1 ≤ 
       let o : Outcome = outcome s.spec s.registers request in
       let e : u ≡ record s {
         naks = s.spec.naks;
-        stage =
-            first_stage (row_of x.holder.below) Wants o;
+        stage = first_stage (row_of x.holder.below) Wants o;
       } = accepted_is s u x in
       record {
         row = row_of x.holder.below;
@@ -448,8 +420,7 @@ module _ (t : Target) (request : Setup) (host : IsToHost request) (some : 1 ≤ 
     told_frame v f = f ∙ ap {A = State} (λ d. record d {
       memory = v.memory;
       naks = v.naks;
-      stage =
-          v.stage;
+      stage = v.stage;
     }) x.frame
 
     -- one more IN
@@ -458,8 +429,7 @@ module _ (t : Target) (request : Setup) (host : IsToHost request) (some : 1 ≤ 
       steady_on : v.registers ≡ u.registers
       steady_on = elim x.far [
         | refuses_at f h none ↦ y.leaves.rests h
-        | answers_at answer f r b so ↦
-            (y.steady (reads answer Wants r.known r.stage)).1
+        | answers_at answer f r b so ↦ (y.steady (reads answer Wants r.known r.stage)).1
       ]
 
       frame_then : OnlyStage s v
@@ -469,8 +439,7 @@ module _ (t : Target) (request : Setup) (host : IsToHost request) (some : 1 ≤ 
       losses_then sound = y.kept sound told_at
           (λ a e. elim x.far [
             | refuses_at f h none ↦ cc (sym h ∙ e)
-            | answers_at answer f r b so ↦
-                cc (sym r.stage ∙ e)
+            | answers_at answer f r b so ↦ cc (sym r.stage ∙ e)
           ]) ∙ x.losses
 
     -- a packet that came
@@ -518,12 +487,7 @@ module _ (t : Target) (request : Setup) (host : IsToHost request) (some : 1 ≤ 
         ] in
         record {
           row = x.row;
-          moment = record {
-            now = first;
-            accepts = x.accepts;
-            since =
-                since fell;
-          };
+          moment = record { now = first; accepts = x.accepts; since = since fell };
           is = is_refused;
         };
     could = could_answer (Vec ℕ) s.spec (as_pipe_fault fault) fault refl
@@ -619,8 +583,7 @@ module _ (t : Target) (request : Setup) (host : IsToHost request) (some : 1 ≤ 
                 answer = answer;
                 is = f;
                 came = so;
-                over =
-                    (y.leaves.done (told_at at x) [] refl).0;
+                over = (y.leaves.done (told_at at x) [] refl).0;
               }
         ]);
     refused = λ e. cc e;
@@ -638,8 +601,7 @@ module _ (t : Target) (request : Setup) (host : IsToHost request) (some : 1 ≤ 
   read_no_set_up fault j s v at x = record {
     frame = elim x.done.kept [
       | inl e ↦ subst (λ d. OnlyStage s d) (sym e) refl
-      | inr a ↦
-          subst (λ d. OnlyStage s d) (sym (accepted_is s v a.at)) refl
+      | inr a ↦ subst (λ d. OnlyStage s d) (sym (accepted_is s v a.at)) refl
     ];
     done = λ b e. cc e;
     refused = λ e. absurd (subst (λ r. CanAccept {A = List ℕ} s.spec r)
@@ -748,8 +710,7 @@ module _ (t : Target) (request : Setup) (result : Result (Vec ℕ) PipeFault) (o
     others = y.others;
     frame = elim (decided (is_at s t)) [
       | inl at ↦ (y.mine at).frame
-      | inr off ↦
-          subst (λ d. OnlyStage s d) (sym (y.others off)) refl
+      | inr off ↦ subst (λ d. OnlyStage s d) (sym (y.others off)) refl
     ];
     done = λ at. (y.mine at).done;
     refused = λ at. (y.mine at).refused;
@@ -765,8 +726,7 @@ module _ (t : Target) (request : Setup) (result : Result (Vec ℕ) PipeFault) (o
       each_read_told (ControlReadFailure t request result)
       (λ j s v y. record {
         answered = λ l. (y.mine l.at).answered least three sound l;
-        waited =
-            λ l. (y.mine l.at).waited least three sound l;
+        waited = λ l. (y.mine l.at).waited least three sound l;
       }) host some same settled x single
 
   pub read_losses : IsToHost request → 1 ≤ request.length → setup_of (bytes_of request) ≡ request
@@ -829,8 +789,7 @@ module _ (t : Target) (request : Setup) (same : setup_of (bytes_of request) ≡ 
     taken_next : request.length ≡ 0 → HasNext t One u
     taken_next nothing = elim (closes (row_of x.holder.below) request.length taken_asked nothing) [
       | inl h ↦ HasNext.refusal (taken_stage ∙ h)
-      | inr h ↦
-          HasNext.status (address_at_end taken_asked) (taken_stage ∙ h) refl
+      | inr h ↦ HasNext.status (address_at_end taken_asked) (taken_stage ∙ h) refl
     ]
 
     -- the registers are as the request left them
@@ -916,10 +875,8 @@ module _ (t : Target) (request : Setup) (same : setup_of (bytes_of request) ≡ 
     answered = λ nothing three sound l e. cc e;
     waited = λ nothing three sound l calm few e. cc e;
     losses = λ plain sound. record {
-      done =
-          λ at d e. took_or_lost at x v (before plain) (y.losses tt refl);
-      failed =
-          λ at why e. cc e;
+      done = λ at d e. took_or_lost at x v (before plain) (y.losses tt refl);
+      failed = λ at why e. cc e;
       none = λ at. none_counted at x v (before plain) (y.losses tt refl);
     };
   }
@@ -939,8 +896,7 @@ module _ (t : Target) (request : Setup) (same : setup_of (bytes_of request) ≡ 
         trans.Stalled refl e in
         record {
           row = row_of x.holder.below;
-          moment =
-              record { now = mid; accepts = taken_accepts at x; since = since fell };
+          moment = record { now = mid; accepts = taken_accepts at x; since = since fell };
           is = sym (taken_stage at x) ∙ y.leaves.stalled (taken_at at x) fell;
         };
     could = could_answer (Unit {0}) s.spec (as_pipe_fault fault) fault refl
@@ -959,10 +915,8 @@ module _ (t : Target) (request : Setup) (same : setup_of (bytes_of request) ≡ 
         let l = y.losses (sound_in (Unit {0}) fault sound) refl in
         record {
           done = λ at d e. cc e;
-          failed =
-              λ at why e. failed_counted at x v (before plain) l u.stage refl;
-          none =
-              λ at. none_counted at x v (before plain) l;
+          failed = λ at why e. failed_counted at x v (before plain) l u.stage refl;
+          none = λ at. none_counted at x v (before plain) l;
         };
   }
     where
@@ -975,10 +929,8 @@ module _ (t : Target) (request : Setup) (same : setup_of (bytes_of request) ≡ 
       → AskedWrite t request (Err (as_pipe_fault fault)) old new j s v
   write_no_set_up fault {old} j s v at x = record {
     failed = λ nothing f e. elim x.done.kept [
-      | inl same_state ↦
-          effect_or_none_same t request f old j s v same_state
-      | inr a ↦
-          kept_then at a.at f v refl refl
+      | inl same_state ↦ effect_or_none_same t request f old j s v same_state
+      | inr a ↦ kept_then at a.at f v refl refl
     ];
     done = λ nothing d e. cc e;
     refused = λ e. absurd (subst (λ r. CanAccept {A = List ℕ} s.spec r)
@@ -1170,10 +1122,8 @@ data_ends {t} {wanted} {mid = mid} {new} {got = got} last o asks is over =
       mid = mid;
       before = o.goes;
       last = last;
-      came =
-          subst (λ x. Asks t x mid (Ok last) new) o.turned asks;
-      kept = is
-          ∙ kept_front wanted got last o.few;
+      came = subst (λ x. Asks t x mid (Ok last) new) o.turned asks;
+      kept = is ∙ kept_front wanted got last o.few;
       ends = over;
     }
 
@@ -1191,8 +1141,7 @@ lost_ends {t} {mid = mid} new {got = got} fault (Err why) err said o asks =
       mid = mid;
       before = o.goes;
       fault = fault;
-      told =
-          said;
+      told = said;
       lost = subst (λ x. Asks t x mid (Err fault) new) o.turned asks;
     })
 lost_ends new fault (Ok bytes) err said o asks = cc
@@ -1211,8 +1160,7 @@ no_room_ends {t} {mid = mid} {new} {got = got} last (Err why) err said o asks =
       mid = mid;
       before = o.goes;
       last = last;
-      told =
-          said;
+      told = said;
       came = subst (λ x. Asks t x mid (Ok last) new) o.turned asks;
     })
 no_room_ends last (Ok bytes) err said o asks = cc
@@ -1260,8 +1208,7 @@ control_read_done t request {old} {first} {second} {new} bytes given confirmed g
     record {
       first = first;
       set_up = taken_request t request bytes given is nothing x;
-      second =
-          second;
+      second = second;
       data_stage = y;
       status = subst (λ b. Confirms t second (Ok b) new) none_came z;
     }
@@ -1297,8 +1244,7 @@ write_at_status t request {old} {mid} new fault bytes given (Err why) is nothing
     inr (record {
       mid = mid;
       set_up = taken_request t request bytes given is nothing x;
-      fault =
-          fault;
+      fault = fault;
       told = told;
       status = y;
     })

@@ -1,28 +1,17 @@
 -- A poll: what it leaves of each device and tells of it, why it fails, and the record of both, from
 -- what its transaction's call tells.
-use Rattle.usb_device.specs.Tree.{Location}
+use Rattle.usb_device.specs.{Location, State, PollAt, NeverTold}
 use Rattle.std.proofs.Common.{◌≡◌, sym, ap, subst, refl, false, arith, ℕ, ◌≤◌, List, Option, Some}
 use Rattle.std.proofs.Common.{None, Result, Ok, Err, OnOk}
 use Rattle.arrayvec.specs.ArrayVec.{ArrayVec}
-use Rattle.usb_device.specs.Rows.{State}
-use Rattle.usb_device.specs.Progress.{PollAt, NeverTold}
-use Rattle.usb_tree.specs.AttemptPackets.{IsSettled}
-use Rattle.usb_world.specs.World.{World}
-use Rattle.usb_world.specs.Devices.{EachWas}
+use Rattle.usb_tree.specs.{IsSettled}
+use Rattle.usb_world.specs.{World, EachWas}
 use Rattle.usb_world.proofs.Interface.{each_wider}
-use Rattle.usb_transaction.specs.declared.fault.TransFault.{TransFault}
-use Rattle.usb_transaction.specs.Answerer.{Answerer}
-use Rattle.usb_transaction.specs.Failures.{NoThreeDamaged, PollFailure}
-use Rattle.usb_transaction.specs.Leaves.{ChangesIn, PollEnds, ToldBy, IsNotOfBus as TransNotOfBus}
-use Rattle.usb_transaction.specs.AttemptLog.{Polled}
-use Rattle.usb_transaction.specs.Transactions.{in_attempt}
+use Rattle.usb_transaction.specs.{TransFault, Answerer, NoThreeDamaged, PollFailure, ChangesIn}
+use Rattle.usb_transaction.specs.{PollEnds, ToldBy, IsNotOfBus as TransNotOfBus, Polled, in_attempt}
 use Rattle.usb_transaction.proofs.Interface.{poll_why, what_poll}
-use Rattle.usb_pipe.specs.declared.fault.PipeFault.{PipeFault}
-use Rattle.usb_pipe.specs.Control.{as_pipe_fault}
-use Rattle.usb_pipe.specs.Failures.{PollingFailure}
-use Rattle.usb_pipe.specs.Interrupt.{Interrupt, Polls}
-use Rattle.usb_pipe.specs.Leaves.{IsNoBusFault, ToldOf, PollTells, PollLeaves}
-use Rattle.usb_pipe.specs.Transfers.{Unshared, InterruptPoll}
+use Rattle.usb_pipe.specs.{PipeFault, as_pipe_fault, PollingFailure, Interrupt, Polls, IsNoBusFault}
+use Rattle.usb_pipe.specs.{ToldOf, PollTells, PollLeaves, Unshared, InterruptPoll}
 use Rattle.usb_pipe.proofs.Answerers.{who_polls}
 use Rattle.usb_pipe.proofs.TransferLosses.{poll_losses}
 
@@ -49,8 +38,7 @@ poll_tells pipe (Ok None) left old new one least settled x single =
     each_wider _ _ (λ j s v y. leaves_by pipe left old new (Ok None) (Ok None) j s v y
     (λ told. (
       told.0,
-      λ got r. subst (λ t. PollAt NeverTold t v)
-          (sym (ap (λ l. l.toggle) x.pipe_left)) told.1,
+      λ got r. subst (λ t. PollAt NeverTold t v) (sym (ap (λ l. l.toggle) x.pipe_left)) told.1,
     ))) old new
     (what_poll pipe.target pipe.ep pipe.toggle old new least settled (Ok None) x.asked one single)
 poll_tells pipe (Ok (Some byte)) left old new one least settled x single =
@@ -87,8 +75,7 @@ polling_why pipe (Err why) left old new one least settled three x sound single =
     let n = x.asked in
     each_wider (PollFailure pipe.target pipe.toggle (Err n.fault)) _
     (λ j s v y. record {
-      answered = λ l h at quiet other e. y.answered l h at quiet n.fault
-          refl;
+      answered = λ l h at quiet other e. y.answered l h at quiet n.fault refl;
     }) old new
     (poll_why pipe.target pipe.toggle (Err n.fault) old new least settled three
     (subst (λ ep. Polled pipe.toggle (in_attempt pipe.target ep) old (Err n.fault) new) one

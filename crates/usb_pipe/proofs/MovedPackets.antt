@@ -10,20 +10,15 @@ use Rattle.std.specs.Int.{div_ceil}
 use Rattle.std.proofs.lemmas.Grind.{div_ceil_times}
 use Rattle.std.proofs.lemmas.List.{take_min}
 use Rattle.std.proofs.lemmas.Nat.{div-mul-add, le-div}
-use Rattle.usb_packet.specs.declared.Toggle.{Toggle}
-use Rattle.usb_packet.specs.Toggles.{other, flips}
-use Rattle.usb_world.specs.World.{World}
-use Rattle.usb_bus.specs.Traces.{StepRun}
+use Rattle.usb_packet.specs.{Toggle, other, flips}
+use Rattle.usb_world.specs.{World}
+use Rattle.usb_bus.specs.{StepRun}
 use Rattle.usb_bus.proofs.Interface.{went_none, went_then, went_wider}
-use Rattle.usb_transaction.specs.Calls.{AsksIn, SendsOut}
-use Rattle.usb_transaction.specs.Transactions.{Ends, AttemptsMade, transaction_bound}
-use Rattle.usb_transaction.specs.declared.target.Target.{Target}
-use Rattle.usb_transaction.specs.declared.fault.TransFault.{TransFault}
-use Rattle.usb_pipe.specs.Bulk.{packets_of, Turned}
-use Rattle.usb_pipe.specs.Control.{FaultAfter, as_pipe_fault}
-use Rattle.usb_pipe.specs.Moves.{Puts, Gave, Fetches, Came, start, packet, AllCame}
-use Rattle.usb_pipe.specs.Packets.{PacketsSent, PacketsReceived}
-use Rattle.usb_pipe.specs.declared.fault.PipeFault.{PipeFault}
+use Rattle.usb_transaction.specs.{AsksIn, SendsOut, Ends, AttemptsMade, transaction_bound, Target}
+use Rattle.usb_transaction.specs.{TransFault}
+use Rattle.usb_pipe.specs.{packets_of, Turned, FaultAfter, as_pipe_fault, Puts, Gave, Fetches, Came}
+use Rattle.usb_pipe.specs.{AllCame, PacketsSent, PacketsReceived, PipeFault}
+use Rattle.usb_pipe.specs.Moves.{start, packet}
 use Rattle.usb_pipe.specs.declared.fault.PipeFault.TheVariants.{Memory}
 
 -- Toggles
@@ -74,8 +69,7 @@ module _ {n : ℕ} {first toggle : Toggle} {old mid : World} {t r : Option (List
   worked_then w = record {
     sound = m.sound w.sound;
     least = omega (arith, m.least, w.least);
-    still =
-        w.still;
+    still = w.still;
   }
 
   lost_ends : (fault : TransFault) (new : World) → Ends {A = List ℕ} mid (Err fault) new
@@ -93,8 +87,7 @@ moved_worked lt m = record { sound = m.sound (m.still lt); least = m.least; stil
 -- How many packets
 
 ceil_is : (a b n : ℕ) → 0 < b → a ≤ n * b → n * b < a + b → div_ceil a b ≡ n
-ceil_is a b n some least most =
-    grind (arith, div_ceil_times)
+ceil_is a b n some least most = grind (arith, div_ceil_times)
 
 pub gave_packets : (t : Target) (ep : ℕ) (first : Toggle) {old : World} {n : ℕ} {sent : List ℕ}
     {new : World} → Gave t ep first old n sent new → sent ≢ [] → div_ceil (length sent) t.max ≡ n
@@ -172,8 +165,7 @@ module _ (t : Target) (ep : ℕ) (first : Toggle) (total : List ℕ) (least : 1 
       omega (arith, l)) in
       let few : 0 < g.packets = omega (
         arith,
-        few_full 0 t.max (length total) least
-            (omega (arith, some)),
+        few_full 0 t.max (length total) least (omega (arith, some)),
         count,
       ) in (
         record {
@@ -333,8 +325,7 @@ module _ (t : Target) (ep : ℕ) (first : Toggle) {old : World} {text : Option (
             last = last;
             came = rw c.moved.turned at x.heard;
             fits = x.short;
-            kept = items
-                ∙ is ∙ ap (λ z. got ++ z) same;
+            kept = items ∙ is ∙ ap (λ z. got ++ z) same;
             ends = inr short;
           })
           (moved_more c.moved next went x.ends e)
@@ -352,11 +343,9 @@ module _ (t : Target) (ep : ℕ) (first : Toggle) {old : World} {text : Option (
         got = got;
         mid = mid;
         before = c.came;
-        fault =
-            fault;
+        fault = fault;
         told = said;
-        lost = subst (λ z. Fetches t ep z mid (Err fault) new)
-            c.moved.turned x.heard;
+        lost = subst (λ z. Fetches t ep z mid (Err fault) new) c.moved.turned x.heard;
       });
       behind = same ∙ c.moved.turned;
       most = tt;
@@ -378,8 +367,7 @@ module _ (t : Target) (ep : ℕ) (first : Toggle) {old : World} {text : Option (
         got = got;
         mid = mid;
         before = c.came;
-        last =
-            last;
+        last = last;
         told = said;
         came = rw c.moved.turned at x.heard;
         fits = x.short;

@@ -1,11 +1,8 @@
 -- The fault of a transfer is that of its last transaction.
 use Rattle.std.proofs.Common.{◌≡◌, arith, List, ℕ, Result, Err}
-use Rattle.usb_device.specs.Spec.{Spec}
-use Rattle.usb_transaction.specs.declared.fault.TransFault.{TransFault}
-use Rattle.usb_transaction.specs.Leaves.{CanAnswer, CanAccept}
-use Rattle.usb_pipe.specs.declared.fault.PipeFault.{PipeFault}
-use Rattle.usb_pipe.specs.Control.{as_pipe_fault}
-use Rattle.usb_pipe.specs.Leaves.{CanEnd}
+use Rattle.usb_device.specs.{Spec}
+use Rattle.usb_transaction.specs.{TransFault, CanAnswer, CanAccept}
+use Rattle.usb_pipe.specs.{PipeFault, as_pipe_fault, CanEnd}
 
 abbrev pub FailsWith : (A : Type 0) → PipeFault → PipeFault → Type 0
 FailsWith A why fault = ◌≡◌ {A = Result A PipeFault} (Err why) (Err fault)

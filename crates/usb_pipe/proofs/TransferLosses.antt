@@ -4,24 +4,16 @@ use Rattle.std.specs.Prelude.{Result, Ok, Err}
 use Rattle.std.proofs.Common.{◌≡◌, ℕ, List, Option, None, Some, refl, subst, ◌∙◌, ◌≢◌, ap, inl, inr}
 use Rattle.std.proofs.Common.{take}
 use Rattle.arrayvec.specs.ArrayVec.{ArrayVec}
-use Rattle.usb_packet.specs.declared.Toggle.{Toggle}
-use Rattle.usb_tree.specs.AttemptPackets.{IsSettled}
-use Rattle.usb_world.specs.World.{World}
-use Rattle.usb_transaction.specs.AttemptLog.{Polled}
-use Rattle.usb_transaction.specs.Transactions.{in_attempt}
-use Rattle.usb_transaction.specs.declared.fault.TransFault.{TransFault}
+use Rattle.usb_packet.specs.{Toggle, flips}
+use Rattle.usb_tree.specs.{IsSettled}
+use Rattle.usb_world.specs.{World}
+use Rattle.usb_transaction.specs.{Polled, in_attempt, TransFault, Target}
 use Rattle.usb_transaction.specs.declared.fault.TransFault.TheVariants as trans
-use Rattle.usb_transaction.specs.declared.target.Target.{Target}
 use Rattle.usb_transaction.proofs.Interface.{other_losses, out_losses}
-use Rattle.usb_pipe.specs.Bulk.{Bulk, Sends, Receives}
-use Rattle.usb_pipe.specs.Control.{as_pipe_fault}
-use Rattle.usb_pipe.specs.End.{packet_target}
-use Rattle.usb_pipe.specs.Interrupt.{Interrupt, PollAsked, Polls}
-use Rattle.usb_pipe.specs.Leaves.{IsNoBusFault}
-use Rattle.usb_pipe.specs.Moves.{Gave, Came, SendEnds, ReceiveEnds}
+use Rattle.usb_pipe.specs.{Bulk, Sends, Receives, as_pipe_fault, packet_target, Interrupt}
+use Rattle.usb_pipe.specs.{PollAsked, Polls, IsNoBusFault, Gave, Came, SendEnds, ReceiveEnds}
+use Rattle.usb_pipe.specs.{PipeFault}
 use Rattle.usb_pipe.specs.Moves as moves
-use Rattle.usb_packet.specs.Toggles.{flips}
-use Rattle.usb_pipe.specs.declared.fault.PipeFault.{PipeFault}
 use Rattle.usb_pipe.proofs.BulkCalls.{send_by, receive_by}
 use Rattle.usb_pipe.proofs.BulkCalls.{received_settled, gave_settled}
 use Rattle.usb_pipe.proofs.ControlSteps.{transacted_ended}

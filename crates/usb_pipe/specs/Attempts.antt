@@ -1,13 +1,8 @@
 -- Which attempts a transfer made, as a course of the world.
 use Rattle.std.specs.Prelude.{◌≡◌, ◌⊎◌, Result, Err}
-use Rattle.usb_request.specs.declared.setup.Setup.{Setup}
-use Rattle.usb_request.specs.Layout.{bytes_of}
-use Rattle.usb_world.specs.declared.types.BusFault.{BusFault}
-use Rattle.usb_world.specs.World.{World}
-use Rattle.usb_world.specs.Steps.{Step, attempt, Course}
-use Rattle.usb_transaction.specs.declared.target.Target.{Target}
-use Rattle.usb_transaction.specs.Attempts.{GivenUp}
-use Rattle.usb_transaction.specs.Transactions.{setup_attempt}
+use Rattle.usb_request.specs.{Setup, bytes_of}
+use Rattle.usb_world.specs.{BusFault, World, Step, attempt, Course}
+use Rattle.usb_transaction.specs.{Target, GivenUp, setup_attempt}
 use Rattle.usb_pipe.specs.declared.fault.PipeFault.{PipeFault}
 use Rattle.usb_pipe.specs.declared.fault.PipeFault.TheVariants.{Bus}
 use Rattle.usb_pipe.specs.Leaves.{IsNoBusFault, IsBehind}

@@ -1,13 +1,9 @@
 -- What a control transfer tells, and how many attempts it may take.
 use Rattle.std.specs.Prelude.{ℕ, ◌+◌, ◌*◌, Bool, ◌||◌, nat_lt, nat_le, if◌then◌else◌}
-use Rattle.usb_world.specs.World.{World, Failed}
-use Rattle.usb_transaction.specs.declared.fault.TransFault.{TransFault}
-use Rattle.usb_transaction.specs.declared.fault.TransFault.TheVariants.{Stalled as TransStalled}
-use Rattle.usb_transaction.specs.declared.fault.TransFault.TheVariants.{Busy as TransBusy}
-use Rattle.usb_transaction.specs.declared.fault.TransFault.TheVariants.{NoAnswer as TransNoAnswer}
-use Rattle.usb_transaction.specs.declared.fault.TransFault.TheVariants.{Bus as TransBus}
-use Rattle.usb_transaction.specs.Transactions.{AttemptsMade, error_limit, transaction_bound}
-use Rattle.usb_transaction.specs.Transactions.{wait_limit}
+use Rattle.usb_world.specs.{World, Failed}
+use Rattle.usb_transaction.specs.{TransFault, Stalled as TransStalled, Busy as TransBusy}
+use Rattle.usb_transaction.specs.{NoAnswer as TransNoAnswer, Bus as TransBus, AttemptsMade}
+use Rattle.usb_transaction.specs.{error_limit, transaction_bound, wait_limit}
 use Rattle.usb_pipe.specs.declared.fault.PipeFault.{PipeFault}
 use Rattle.usb_pipe.specs.declared.fault.PipeFault.TheVariants.{Stalled, Busy, NoAnswer, Broken}
 use Rattle.usb_pipe.specs.declared.fault.PipeFault.TheVariants.{Bus, Memory}

@@ -1,7 +1,6 @@
 -- Where a pipe ends.
 use Rattle.std.specs.Prelude.{ℕ, ◌<◌, ◌≤◌}
-use Rattle.usb_transaction.specs.declared.target.Target.{Target}
-use Rattle.usb_transaction.specs.Transactions.{IsTarget}
+use Rattle.usb_transaction.specs.{Target, IsTarget}
 
 -- an endpoint of a device, with its own maximum
 pub record IsEnd (target : Target) (ep max : ℕ) : Type 0 where

@@ -1,20 +1,16 @@
 -- Why a whole transfer fails, where no three attempts running are damaged and the device stays
 -- reachable.
-use Rattle.usb_device.specs.Tree.{Location}
+use Rattle.usb_device.specs.{Location, tells_changes, State, IsSink, PollAt, NeverTold}
 use Rattle.std.specs.Prelude.{◌≡◌, ◌≢◌, ℕ, ◌+◌, ◌-◌, ◌*◌, ◌<◌, ◌≤◌, length, true, false, Option}
 use Rattle.std.specs.Prelude.{Result, Err}
 use Rattle.arrayvec.specs.ArrayVec.{ArrayVec}
 use Rattle.std.specs.Global.{Vec}
-use Rattle.usb_request.specs.declared.setup.Setup.{Setup}
-use Rattle.usb_device.specs.Bulk.{tells_changes}
-use Rattle.usb_device.specs.Rows.{State}
-use Rattle.usb_device.specs.Progress.{IsSink, PollAt, NeverTold}
-use Rattle.usb_transaction.specs.declared.target.Target.{Target}
-use Rattle.usb_transaction.specs.Failures.{Listens}
+use Rattle.usb_request.specs.{Setup}
+use Rattle.usb_transaction.specs.{Target, Listens}
 use Rattle.usb_pipe.specs.declared.fault.PipeFault.{PipeFault}
 use Rattle.usb_pipe.specs.declared.fault.PipeFault.TheVariants.{Busy, NoAnswer}
-use Rattle.usb_pipe.specs.Bulk.{Bulk}
-use Rattle.usb_pipe.specs.Interrupt.{Interrupt}
+use Rattle.usb_pipe.specs.BulkPipes.{Bulk}
+use Rattle.usb_pipe.specs.InterruptPipes.{Interrupt}
 use Rattle.usb_pipe.specs.Leaves.{IsMaximum, InPipeInSync}
 
 -- a request for data: a device that listens answers, and only a busy one lets the host wait in vain

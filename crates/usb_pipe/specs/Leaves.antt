@@ -4,35 +4,22 @@ use Rattle.std.specs.Prelude.{◌≡◌, ◌≢◌, ◌⊎◌, ◌≤◌, ℕ, �
 use Rattle.std.specs.Prelude.{true, false, Option, None, Some, Result, Ok, Err, ⊤, if◌then◌else◌}
 use Rattle.arrayvec.specs.ArrayVec.{ArrayVec}
 use Rattle.std.specs.Global.{Vec}
-use Rattle.usb_packet.specs.declared.Toggle.{Toggle}
-use Rattle.usb_packet.specs.declared.Toggle.TheVariants.{One}
-use Rattle.usb_request.specs.declared.setup.Setup.{Setup}
-use Rattle.usb_request.specs.Layout.{bytes_of}
-use Rattle.usb_port.specs.PortState.{PortState}
-use Rattle.usb_device.specs.Spec.{Spec}
-use Rattle.usb_device.specs.declared.bulk.EndpointState.{EndpointState}
-use Rattle.usb_device.specs.declared.bulk.ServedEndpoint.{ServedEndpoint}
-use Rattle.usb_device.specs.declared.bulk.ServedEndpoint.TheVariants.{BulkOut, BulkIn}
-use Rattle.usb_device.specs.Request.{outcome, takes_address}
-use Rattle.usb_device.specs.Transfer.{first_stage, reading, ending, refused as stage_refused}
-use Rattle.usb_device.specs.Transfer.{max_packet}
-use Rattle.usb_device.specs.Rows.{State, accepted, endpoint_state, with_endpoint_state}
-use Rattle.usb_device.specs.Bulk.{tells_changes, rested}
-use Rattle.usb_device.specs.Tree.{row_of, Location}
-use Rattle.usb_device.specs.Progress.{IsRead, StatusGiven, IsSink, SinkAt, IsSource, SourceAt}
-use Rattle.usb_device.specs.Progress.{PollAt, NeverTold, OnlyControl, OnlyStage, OnlySink}
-use Rattle.usb_device.specs.Progress.{OnlySource, OnlyChanges}
-use Rattle.usb_world.specs.declared.types.BusFault.{BusFault}
-use Rattle.usb_world.specs.Losses.{one_more}
-use Rattle.usb_world.specs.World.{World}
-use Rattle.usb_world.specs.Steps.{Step, attempt, root_call, event, report, Course}
-use Rattle.usb_transaction.specs.declared.target.Target.{Target}
-use Rattle.usb_transaction.specs.Leaves.{is_at, ToldSince, AcceptedAt}
-use Rattle.usb_transaction.specs.Transactions.{in_attempt, out_attempt}
+use Rattle.usb_packet.specs.{Toggle, One}
+use Rattle.usb_request.specs.{Setup, bytes_of}
+use Rattle.usb_port.specs.{PortState}
+use Rattle.usb_device.specs.{Spec, EndpointState, ServedEndpoint, BulkOut, BulkIn, outcome}
+use Rattle.usb_device.specs.{takes_address, first_stage, reading, ending, refused as stage_refused}
+use Rattle.usb_device.specs.{max_packet, State, accepted, endpoint_state, with_endpoint_state}
+use Rattle.usb_device.specs.{tells_changes, rested, row_of, Location, IsRead, StatusGiven, IsSink}
+use Rattle.usb_device.specs.{SinkAt, IsSource, SourceAt, PollAt, NeverTold, OnlyControl, OnlyStage}
+use Rattle.usb_device.specs.{OnlySink, OnlySource, OnlyChanges}
+use Rattle.usb_world.specs.{BusFault, one_more, World, Step, attempt, root_call, event, report}
+use Rattle.usb_world.specs.{Course}
+use Rattle.usb_transaction.specs.{Target, is_at, ToldSince, AcceptedAt, in_attempt, out_attempt}
 use Rattle.usb_pipe.specs.declared.condition.Condition.TheVariants.{Ready, Halted}
 use Rattle.usb_pipe.specs.declared.condition.Condition.TheVariants.{Broken as BrokenPipe}
-use Rattle.usb_pipe.specs.Bulk.{Bulk, is_ready}
-use Rattle.usb_pipe.specs.Interrupt.{Interrupt}
+use Rattle.usb_pipe.specs.BulkPipes.{Bulk, is_ready}
+use Rattle.usb_pipe.specs.InterruptPipes.{Interrupt}
 use Rattle.usb_pipe.specs.declared.fault.PipeFault.{PipeFault}
 use Rattle.usb_pipe.specs.declared.fault.PipeFault.TheVariants.{Stalled, Busy, NoAnswer, Broken}
 use Rattle.usb_pipe.specs.declared.fault.PipeFault.TheVariants.{Bus, Memory}

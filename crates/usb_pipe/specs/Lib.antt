@@ -1,7 +1,7 @@
 pub mod Control
 pub mod End
-pub mod Interrupt
-pub mod Bulk
+pub mod InterruptPipes
+pub mod BulkPipes
 pub mod Stages
 pub mod Moves
 pub mod Packets
@@ -9,3 +9,28 @@ pub mod Leaves
 pub mod Failures
 pub mod Attempts
 pub mod Transfers
+-- the words of this crate, wherever one stands
+pub use Control.{FaultAfter, as_pipe_fault, ends_stage, write_bound}
+unfoldable pub use Control.{byte_bound, control_bound}
+pub use End.{IsEnd, packet_target}
+pub use InterruptPipes.{Interrupt, NoPoll, PollAsked, Polls, interrupt_made}
+pub use BulkPipes.{Bulk, Cleared, Clears, Idle, MovedIn, MovedOut, Receives, Sends, Turned}
+pub use BulkPipes.{after_failed_clear, after_fault, after_transfer, bulk_made, cleared}
+pub use BulkPipes.{halt_address, is_broken, is_ready, packets_of}
+pub use Stages.{Asks, Confirms, DataEnds, DataLost, DataStage, Goes, NoData, NoRoom, NoSetUp}
+pub use Stages.{NoStatus, NotConfirmed, Reads, SetUp, WasRead, Writes, Written}
+pub use Moves.{AllCame, AllGone, Came, Fetches, Gave, NoRoomLeft, NotCame, NotGone, Puts}
+pub use Moves.{ReceiveEnds, SendEnds, SendsAt, WhileSending, packets_came, packets_gone}
+pub use Packets.{PacketsReceived, PacketsSent}
+pub use Leaves.{AcceptedIn, AnswerRead, BegunAgain, ByteTold, CanEnd, ClearLeaves, EffectDone}
+pub use Leaves.{EffectOrNone, FrontTaken, InPipeInSync, IsBehind, IsMaximum, IsNoBusFault}
+pub use Leaves.{IsTransferAnswer, LossesKept, LossesOf, Moment, OnlyEndpoint, OutPipeInSync}
+pub use Leaves.{PollLeaves, PollTells, ReadLeaves, ReceiveLeaves, SendLeaves, SendingLeaves, ToldOf}
+pub use Leaves.{TookItOrLost, WasRefused, WriteLeaves, came_with, got_after, lost, none, pipe_known}
+pub use Leaves.{some, took, whole}
+pub use Failures.{ControlReadFailure, PollingFailure, ReceiveFailure, SendFailure, WriteFailure}
+pub use Attempts.{IsOfTransfer, TransferAttempts}
+pub use Transfers.{BulkClear, BulkReceive, BulkSend, Completed, ControlRead, ControlWrite}
+pub use Transfers.{InterruptPoll, Undamaged, Unshared}
+pub use declared.condition.Condition.{Condition}
+pub use declared.fault.PipeFault.{PipeFault}

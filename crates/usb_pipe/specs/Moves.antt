@@ -3,19 +3,13 @@ use Rattle.std.specs.Prelude.{◌≡◌, ℕ, ◌+◌, ◌*◌, ◌<◌, ◌≤�
 use Rattle.std.specs.Prelude.{Ok, Err}
 use Rattle.std.proofs.Common.{inl, inr}
 use Rattle.std.specs.Global.{Vec}
-use Rattle.usb_packet.specs.declared.Toggle.{Toggle}
-use Rattle.usb_world.specs.declared.types.Outcome.{Outcome}
-use Rattle.usb_world.specs.World.{World}
-use Rattle.usb_world.specs.Steps.{Step, attempt}
-use Rattle.usb_transaction.specs.declared.target.Target.{Target}
-use Rattle.usb_transaction.specs.declared.fault.TransFault.{TransFault}
-use Rattle.usb_transaction.specs.HeardOutcomes.{heard_as, heard_when_sent}
-use Rattle.usb_transaction.specs.Transactions.{in_attempt, out_attempt}
-use Rattle.usb_transaction.specs.AttemptLog.{AttemptLog, KeepsTrying, Transacted}
+use Rattle.usb_packet.specs.{Toggle, flips}
+use Rattle.usb_world.specs.{Outcome, World, Step, attempt}
+use Rattle.usb_transaction.specs.{Target, TransFault, heard_as, heard_when_sent, in_attempt}
+use Rattle.usb_transaction.specs.{out_attempt, AttemptLog, KeepsTrying, Transacted}
 use Rattle.usb_pipe.specs.declared.fault.PipeFault.{PipeFault}
 use Rattle.usb_pipe.specs.declared.fault.PipeFault.TheVariants.{Memory}
 use Rattle.usb_pipe.specs.Control.{as_pipe_fault}
-use Rattle.usb_packet.specs.Toggles.{flips}
 
 -- Transactions of a bulk endpoint
 

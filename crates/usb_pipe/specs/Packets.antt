@@ -3,16 +3,14 @@ use Rattle.std.specs.Prelude.{◌≡◌, ◌≢◌, ℕ, ◌*◌, ◌≤◌, Lis
 use Rattle.std.specs.Prelude.{MatchResult}
 use Rattle.std.specs.Global.{Vec}
 use Rattle.std.specs.Int.{div_ceil}
-use Rattle.usb_packet.specs.declared.Toggle.{Toggle}
-use Rattle.usb_world.specs.World.{World}
-use Rattle.usb_transaction.specs.declared.target.Target.{Target}
-use Rattle.usb_transaction.specs.Transactions.{AttemptsMade}
+use Rattle.usb_packet.specs.{Toggle, flips}
+use Rattle.usb_world.specs.{World}
+use Rattle.usb_transaction.specs.{Target, AttemptsMade}
 use Rattle.usb_pipe.specs.declared.fault.PipeFault.{PipeFault}
 use Rattle.usb_pipe.specs.declared.fault.PipeFault.TheVariants.{Stalled, Memory}
-use Rattle.usb_pipe.specs.Bulk.{packets_of, Turned}
+use Rattle.usb_pipe.specs.BulkPipes.{packets_of, Turned}
 use Rattle.usb_pipe.specs.Control.{FaultAfter}
 use Rattle.usb_pipe.specs.Moves.{SendEnds, packets_gone, ReceiveEnds, packets_came}
-use Rattle.usb_packet.specs.Toggles.{flips}
 
 -- some bytes were sent, each packet but the last of the maximum
 pub record PacketsSent (t : Target) (ep : ℕ) (first : Toggle) (bytes : List ℕ) (old : World)

@@ -2,20 +2,14 @@
 use Rattle.std.specs.Prelude.{◌≡◌, ℕ, ◌+◌, ◌⊎◌, List, [], ◌++◌, length, take, true, false, Result}
 use Rattle.std.specs.Prelude.{Ok, Err}
 use Rattle.std.specs.Global.{Vec}
-use Rattle.usb_packet.specs.declared.Toggle.{Toggle}
-use Rattle.usb_packet.specs.declared.Toggle.TheVariants.{One}
-use Rattle.usb_request.specs.declared.setup.Setup.{Setup}
-use Rattle.usb_request.specs.Layout.{bytes_of}
-use Rattle.usb_world.specs.World.{World}
-use Rattle.usb_transaction.specs.declared.target.Target.{Target}
-use Rattle.usb_transaction.specs.declared.fault.TransFault.{TransFault}
-use Rattle.usb_transaction.specs.HeardOutcomes.{heard_as, heard_when_sent, set_up_as}
-use Rattle.usb_transaction.specs.Transactions.{setup_attempt, in_attempt, out_attempt}
-use Rattle.usb_transaction.specs.AttemptLog.{Transacted}
+use Rattle.usb_packet.specs.{Toggle, One, flips}
+use Rattle.usb_request.specs.{Setup, bytes_of}
+use Rattle.usb_world.specs.{World}
+use Rattle.usb_transaction.specs.{Target, TransFault, heard_as, heard_when_sent, set_up_as}
+use Rattle.usb_transaction.specs.{setup_attempt, in_attempt, out_attempt, Transacted}
 use Rattle.usb_pipe.specs.declared.fault.PipeFault.{PipeFault}
 use Rattle.usb_pipe.specs.declared.fault.PipeFault.TheVariants.{Memory}
 use Rattle.usb_pipe.specs.Control.{as_pipe_fault, ends_stage}
-use Rattle.usb_packet.specs.Toggles.{flips}
 
 -- Transactions of endpoint 0
 

@@ -4,23 +4,17 @@ use Rattle.std.specs.Prelude.{◌≡◌, ◌≢◌, ℕ, ◌≤◌, List, [], le
 use Rattle.std.specs.Prelude.{OnOk, IfOk, MatchResult}
 use Rattle.arrayvec.specs.ArrayVec.{ArrayVec}
 use Rattle.std.specs.Global.{Vec}
-use Rattle.usb_request.specs.declared.setup.Setup.{Setup}
-use Rattle.usb_world.specs.Courses.{is_harmless}
-use Rattle.usb_world.specs.Devices.{EachWas}
-use Rattle.usb_tree.specs.AttemptPackets.{IsSettled}
-use Rattle.usb_world.specs.World.{World}
-use Rattle.usb_transaction.specs.declared.target.Target.{Target}
-use Rattle.usb_transaction.specs.Answerer.{Answerer}
-use Rattle.usb_transaction.specs.Losses.{begins_no_stretch}
-use Rattle.usb_transaction.specs.SparedDevices.{EachSpared}
-use Rattle.usb_transaction.specs.Transactions.{AttemptsMade}
-use Rattle.usb_transaction.specs.Failures.{NoThreeDamaged}
+use Rattle.usb_request.specs.{Setup}
+use Rattle.usb_world.specs.{is_harmless, EachWas, World}
+use Rattle.usb_tree.specs.{IsSettled}
+use Rattle.usb_transaction.specs.{Target, Answerer, begins_no_stretch, EachSpared, AttemptsMade}
+use Rattle.usb_transaction.specs.{NoThreeDamaged}
 use Rattle.usb_pipe.specs.declared.condition.Condition.TheVariants.{Ready}
 use Rattle.usb_pipe.specs.declared.fault.PipeFault.{PipeFault}
 use Rattle.usb_pipe.specs.declared.fault.PipeFault.TheVariants.{Memory}
-use Rattle.usb_pipe.specs.Bulk.{Bulk, Sends, Receives, Clears}
+use Rattle.usb_pipe.specs.BulkPipes.{Bulk, Sends, Receives, Clears}
 use Rattle.usb_pipe.specs.Control.{FaultAfter}
-use Rattle.usb_pipe.specs.Interrupt.{Interrupt, Polls}
+use Rattle.usb_pipe.specs.InterruptPipes.{Interrupt, Polls}
 use Rattle.usb_pipe.specs.Stages.{Reads, Writes}
 use Rattle.usb_pipe.specs.Leaves.{IsNoBusFault, ReadLeaves, WriteLeaves, LossesOf, LossesKept}
 use Rattle.usb_pipe.specs.Leaves.{SendLeaves, ReceiveLeaves, ClearLeaves, PollLeaves}

@@ -1,6 +1,6 @@
 //! Bulk pipes (5.8).
 ghost use Rattle.std.specs.Prelude.{◌≡◌, ◌<◌, true};
-ghost use Rattle.usb_pipe.specs.Bulk.{halt_address};
+ghost use Rattle.usb_pipe.specs.BulkPipes.{halt_address};
 
 use crate::condition::Condition;
 use crate::control::control_none;
@@ -29,7 +29,7 @@ pub struct BulkPipe {
 }
 
 impl Model for BulkPipe {
-    ghost use Rattle.usb_pipe.specs.Bulk.{Bulk};
+    ghost use Rattle.usb_pipe.specs.BulkPipes.{Bulk};
     ghost use Rattle.usb_pipe.specs.End.{IsEnd};
 
     ghost Value = { Bulk };
@@ -46,7 +46,7 @@ impl BulkPipe {
     ghost use Rattle.usb_bus.specs.Traces.{Steps};
     ghost use Rattle.usb_transaction.specs.Transactions.{IsTarget, transaction_bound};
     ghost use Rattle.usb_pipe.specs.declared.condition.Condition.TheVariants.{Ready};
-    ghost use Rattle.usb_pipe.specs.Bulk.{Bulk, Cleared, bulk_made};
+    ghost use Rattle.usb_pipe.specs.BulkPipes.{Bulk, Cleared, bulk_made};
     ghost use Rattle.usb_pipe.specs.Control.{write_bound};
     ghost use Rattle.usb_pipe.specs.End.{packet_target};
     ghost use Rattle.usb_pipe.specs.Transfers.{BulkSend, BulkReceive, BulkClear};

@@ -1,6 +1,6 @@
 //! Whether a bulk pipe may move packets.
 ghost use Rattle.std.specs.Prelude.{◌≡◌};
-ghost use Rattle.usb_pipe.specs.Bulk.{is_broken, after_fault, after_transfer, after_failed_clear};
+ghost use Rattle.usb_pipe.specs.BulkPipes.{is_broken, after_fault, after_transfer, after_failed_clear};
 
 use crate::PipeFault;
 

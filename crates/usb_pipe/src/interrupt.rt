@@ -18,7 +18,7 @@ pub struct InterruptPipe {
 }
 
 impl Model for InterruptPipe {
-    ghost use Rattle.usb_pipe.specs.Interrupt.{Interrupt};
+    ghost use Rattle.usb_pipe.specs.InterruptPipes.{Interrupt};
     ghost use Rattle.usb_pipe.specs.End.{IsEnd};
 
     ghost Value = { Interrupt };
@@ -34,7 +34,7 @@ impl InterruptPipe {
     ghost use Rattle.usb_bus.specs.Traces.{Steps};
     ghost use Rattle.usb_transaction.specs.Transactions.{IsTarget, transaction_bound};
     ghost use Rattle.usb_pipe.specs.End.{packet_target};
-    ghost use Rattle.usb_pipe.specs.Interrupt.{Interrupt, interrupt_made};
+    ghost use Rattle.usb_pipe.specs.InterruptPipes.{Interrupt, interrupt_made};
     ghost use Rattle.usb_pipe.specs.Transfers.{InterruptPoll};
 
     /// A pipe to an endpoint, 1 to 15, with its maximum packet, 1 to 64 bytes.

@@ -10,11 +10,11 @@ ghost use Rattle.usb_request.specs.declared.setup.Setup.{Setup as ARequest};
 ghost use Rattle.usb_request.specs.Layout.{IsToHost, bytes_of, setup_of};
 ghost use Rattle.usb_request.specs.Requests.{clear_endpoint_halt};
 ghost use Rattle.usb_tree.specs.AttemptPackets.{IsSettled};
-ghost use Rattle.usb_world.specs.World.{World};
+ghost use Rattle.usb_world.specs.Worlds.{World};
 ghost use Rattle.usb_world.specs.Courses.{is_harmless};
 ghost use Rattle.usb_world.specs.Devices.{EachWas};
 ghost use Rattle.usb_transaction.specs.declared.target.Target.{Target as ATarget};
-ghost use Rattle.usb_transaction.specs.Answerer.{HadOne};
+ghost use Rattle.usb_transaction.specs.Answerers.{HadOne};
 ghost use Rattle.usb_transaction.specs.Attempts.{IsOnly};
 ghost use Rattle.usb_transaction.specs.Transactions.{in_attempt};
 ghost use Rattle.usb_pipe.specs.declared.fault.PipeFault.{PipeFault as AFault};
@@ -23,8 +23,8 @@ ghost use Rattle.usb_pipe.specs.End.{packet_target};
 ghost use Rattle.usb_pipe.specs.Moves.{WhileSending, SendsAt};
 ghost use Rattle.usb_packet.specs.Toggles.{flips};
 ghost use Rattle.usb_pipe.specs.Attempts.{IsOfTransfer, TransferAttempts};
-ghost use Rattle.usb_pipe.specs.Bulk.{Bulk as ABulk, Sends, Receives, Clears, halt_address};
-ghost use Rattle.usb_pipe.specs.Interrupt.{Interrupt as APipe, Polls};
+ghost use Rattle.usb_pipe.specs.BulkPipes.{Bulk as ABulk, Sends, Receives, Clears, halt_address};
+ghost use Rattle.usb_pipe.specs.InterruptPipes.{Interrupt as APipe, Polls};
 ghost use Rattle.usb_pipe.specs.Leaves.{IsTransferAnswer, SendingLeaves};
 
 /// At each moment of a send the bytes before the packet that is on its way have joined what the

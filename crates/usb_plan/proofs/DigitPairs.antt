@@ -10,7 +10,7 @@ use Rattle.hex.specs.Hex.{decode_pairs}
 use Rattle.hex.proofs.HexLemmas.{decode_of-even}
 use Rattle.hex.proofs.Pairs.{prepend, decode_step, decode_err, decode_done}
 use Rattle.hex.specs.declared.error.FromHexError.{FromHexError}
-use Rattle.usb_plan.specs.declared.digits.TheConstants.{DIGITS}
+use Rattle.usb_plan.specs.{DIGITS}
 
 -- the digit that an entry of the table is
 digit_of : ℕ → Option ℕ

@@ -6,7 +6,7 @@ use Rattle.std.specs.Str.{bytes_eq}
 use Rattle.std.specs.Map.{keys_of}
 use Rattle.toml.specs.declared.value.Value.{Value}
 use Rattle.toml.specs.View.{members_view}
-use Rattle.usb_plan.specs.Keys.{only_named}
+use Rattle.usb_plan.specs.{only_named}
 
 any_map : (k : List ℕ) (names : List (Bor (List ℕ)))
     → list_any (bytes_eq k) (map (λ n. n.now) names) ≡ list_any (λ n. bytes_eq k n.now) names

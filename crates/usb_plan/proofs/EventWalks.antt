@@ -14,8 +14,7 @@ use Rattle.std.proofs.lemmas.Map.Text.{is_eq-slice_cmp}
 use Rattle.toml.specs.Data.{Data, Members, no_members, member, get_member}
 use Rattle.toml.specs.View.{view, members_view}
 use Rattle.toml.proofs.Views.{Entry}
-use Rattle.usb_plan.specs.Keys.{only_named}
-use Rattle.usb_plan.specs.EventMembers.{EventValues, event_values, with_value, all_event_keys}
+use Rattle.usb_plan.specs.{only_named, EventValues, event_values, with_value, all_event_keys}
 use Rattle.usb_device.proofs.Interface.{bytes_eq-sym}
 
 abbrev pub no_values : EventValues

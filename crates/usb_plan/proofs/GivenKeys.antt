@@ -6,17 +6,13 @@ use Rattle.std.specs.Str.{bytes_eq}
 use Rattle.std.specs.List.{list_any}
 use Rattle.toml.specs.Data.{Data, Members, no_members, member, get_member}
 use Rattle.usb_plan.specs.declared.entry_fault.EntryFault.{EntryFault}
-use Rattle.usb_plan.specs.declared.entry_fault.EntryFault.TheVariants.{BadValue}
+use Rattle.usb_plan.specs.{BadValue, OtherKeys, Alone, PathDevice, PathBytes, PathPackets}
+use Rattle.usb_plan.specs.{only_named, keys_at, EventValues, event_values, all_event_keys, verb_at}
+use Rattle.usb_plan.specs.{action_of, other_keys, SceneData, keys_of, event_keys, verb_fits}
+use Rattle.usb_plan.specs.{keys_given, after_at, event_room, event_with, event_given, event_of}
+use Rattle.usb_plan.specs.{event_in}
 use Rattle.usb_plan.specs.declared.verb.Verb.{Verb}
-use Rattle.usb_plan.specs.declared.action.OtherKeys.{OtherKeys}
-use Rattle.usb_plan.specs.declared.action.OtherKeys.TheVariants.{Alone, Path, PathDevice, PathBytes}
-use Rattle.usb_plan.specs.declared.action.OtherKeys.TheVariants.{PathPackets}
-use Rattle.usb_plan.specs.Keys.{only_named, keys_at}
-use Rattle.usb_plan.specs.EventMembers.{EventValues, event_values, all_event_keys}
-use Rattle.usb_plan.specs.Verb.{verb_at, action_of, other_keys}
-use Rattle.usb_plan.specs.Scene.{SceneData}
-use Rattle.usb_plan.specs.Action.{keys_of, event_keys, verb_fits, keys_given}
-use Rattle.usb_plan.specs.Event.{after_at, event_room, event_with, event_given, event_of, event_in}
+use Rattle.usb_plan.specs.declared.action.OtherKeys.TheVariants.{Path}
 use Rattle.usb_plan.proofs.EventWalks.{same_text, at_first, at_later}
 use Rattle.usb_device.proofs.Interface.{bytes_eq-sym}
 

@@ -8,17 +8,11 @@ use Rattle.toml.specs.declared.value.Value.{Value}
 use Rattle.toml.specs.View.{view}
 use Rattle.usb_plan.specs.declared.entry_fault.EntryFault.{EntryFault}
 use Rattle.usb_plan.specs.declared.fault.Place.TheVariants as place
-use Rattle.usb_plan.specs.declared.fault.PlanFault.{PlanFault}
-use Rattle.usb_world.specs.declared.event.Event.{Event}
-use Rattle.usb_plan.specs.EntryFault.{entry_at}
-use Rattle.usb_device.specs.Spec.{Spec}
-use Rattle.usb_world.specs.declared.damage.Damage.{Damage}
-use Rattle.usb_world.specs.PluggedDevices.{PluggedMap, plugged_by, plugged_after}
-use Rattle.usb_world.specs.PlanData.{event_fits, events_fit, damage_fits, damages_fit}
-use Rattle.usb_plan.specs.Device.{device_in, devices_from}
-use Rattle.usb_plan.specs.Scene.{scene_after}
-use Rattle.usb_plan.specs.Event.{event_in, events_from}
-use Rattle.usb_plan.specs.Damage.{damage_entry, last_from, damages_from}
+use Rattle.usb_plan.specs.{PlanFault, entry_at, device_in, devices_from, scene_after, event_in}
+use Rattle.usb_plan.specs.{events_from, damage_entry, last_from, damages_from}
+use Rattle.usb_world.specs.{Event, Damage, PluggedMap, plugged_by, plugged_after, event_fits}
+use Rattle.usb_world.specs.{events_fit, damage_fits, damages_fit}
+use Rattle.usb_device.specs.{Spec}
 use Rattle.usb_plan.proofs.Steps.{view_drop}
 
 pub events_fit-push : (roots : ℕ) (devices : List Spec) (tree : PluggedMap) (events : List Event)

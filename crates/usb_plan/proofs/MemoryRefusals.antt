@@ -1,29 +1,20 @@
 -- What was read is what is spelled, but where memory was refused.
 use Rattle.std.proofs.Common.{◌≡◌, ◌≢◌, ℕ, List, [], ◌∷◌, ◌++◌, Bool, Option, Some, None, Result}
 use Rattle.std.proofs.Common.{Ok, Err, refl, ap, sym, ◌∙◌, IsErrAnd}
-use Rattle.usb_device.specs.Spec.{Hub}
+use Rattle.usb_device.specs.{Hub}
 use Rattle.usb_plan.specs.declared.entry_fault.EntryFault.{EntryFault}
-use Rattle.usb_plan.specs.declared.entry_fault.EntryFault.TheVariants.{Memory, MissingKey, BadValue}
-use Rattle.usb_plan.specs.declared.entry_fault.EntryFault.TheVariants.{BadHex, UnknownDevice}
-use Rattle.usb_plan.specs.declared.entry_fault.EntryFault.TheVariants.{BadPath, PortTaken}
-use Rattle.usb_plan.specs.declared.entry_fault.EntryFault.TheVariants.{PortEmpty}
+use Rattle.usb_plan.specs.{Memory, MissingKey, BadValue, BadHex, UnknownDevice, BadPath, PortTaken}
+use Rattle.usb_plan.specs.{PortEmpty, PlanFault, Identity, DeviceTexts, fault_in_part, sooner}
+use Rattle.usb_plan.specs.{least_fault, least, at, entry_at, ◌>>=◌, EqualUnless, send, event_with}
+use Rattle.usb_plan.specs.{bulk_with, class_at, hub_with, with_text, identity_with}
+use Rattle.usb_plan.specs.{device_texts_with, device_with}
 use Rattle.usb_plan.specs.declared.fault.Place.{Place}
-use Rattle.usb_plan.specs.declared.fault.PlanFault.{PlanFault}
 use Rattle.usb_plan.specs.declared.fault.PlanFault.TheVariants as fault
-use Rattle.usb_plan.specs.declared.device.Identity.{Identity}
-use Rattle.usb_plan.specs.declared.device.DeviceTexts.{DeviceTexts}
 use Rattle.usb_plan.specs.declared.quirks.Quirks.{Quirks}
 use Rattle.usb_plan.specs.declared.bulk.Bulk.{Bulk}
-use Rattle.usb_world.specs.declared.event.Action.{Action}
+use Rattle.usb_world.specs.{Action}
 use Rattle.toml.specs.Data.{Data}
-use Rattle.usb_plan.specs.EntryFault.{fault_in_part, sooner, least_fault, least, at, entry_at}
-use Rattle.usb_plan.specs.EntryFault.{◌>>=◌, EqualUnless}
-use Rattle.usb_plan.specs.Action.{send}
-use Rattle.usb_plan.specs.Event.{event_with}
-use Rattle.usb_plan.specs.Bulk.{bulk_with}
-use Rattle.usb_plan.specs.Hub.{class_at, hub_with}
-use Rattle.usb_plan.specs.Texts.{with_text}
-use Rattle.usb_plan.specs.Device.{Texts, identity_with, device_texts_with, device_with}
+use Rattle.usb_plan.specs.Device.{Texts}
 
 pub equal_unless : {A E : Type 0} (m : E) (r s : Result A E) → EqualUnless m r s → r ≢ Err m → r ≡ s
 equal_unless m (Ok x) s h ne = sym h

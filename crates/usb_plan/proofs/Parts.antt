@@ -2,61 +2,43 @@
 use Rattle.std.proofs.Common.{◌≡◌, ◌+◌, ◌-◌, ◌^◌, ℕ, ℤ, pos, negsuc, ◌<◌, ◌≤◌, List, [], ◌∷◌}
 use Rattle.std.proofs.Common.{length, Bool, true, false, ◌&&◌, ◌||◌, cond, Option, Some, None}
 use Rattle.std.proofs.Common.{ok_or, Result, Ok, Err, refl, ap, sym, subst, ◌∙◌, not, IfOk, IfSome}
-use Rattle.std.proofs.Common.{arith, codes, nat_le, nat_lt, ◌==◌, inl, inr, ◌⊎◌, slice_get, zero}
+use Rattle.std.proofs.Common.{arith, codes, nat_le, nat_lt, ◌==◌, slice_get, zero}
 use Rattle.std.proofs.Common.{suc}
 use Rattle.std.proofs.lemmas.Bool.{and_parts, or_parts, leb-true, ltb-true, lt-ltb, le-leb}
 use Rattle.std.proofs.lemmas.List.Quantifiers.{position-Some}
 use Rattle.std.specs.Str.{bytes_eq}
 use Rattle.toml.specs.Data.{Data, Members, get_member, as_integer}
-use Rattle.usb_port.specs.Path.{path_of}
+use Rattle.usb_port.specs.{path_of}
 use Rattle.usb_plan.specs.declared.entry_fault.EntryFault.{EntryFault}
-use Rattle.usb_plan.specs.declared.entry_fault.EntryFault.TheVariants.{MissingKey, BadValue}
-use Rattle.usb_plan.specs.declared.entry_fault.EntryFault.TheVariants.{UnknownDevice, BadPath}
-use Rattle.usb_plan.specs.declared.entry_fault.EntryFault.TheVariants.{PortTaken, PortEmpty}
+use Rattle.usb_plan.specs.{MissingKey, BadValue, UnknownDevice, BadPath, PortTaken, PortEmpty}
+use Rattle.usb_plan.specs.{Identity, DeviceTexts, SceneData, Way, fault_in_part, sooner}
+use Rattle.usb_plan.specs.{least_fault, entry_at, ◌>>=◌, read_text, number_in, number_at, number_or}
+use Rattle.usb_plan.specs.{class_at, hub_at, no_hub, is_low_speed, is_other, quirks_with, quirks_of}
+use Rattle.usb_plan.specs.{naks_at, bulk_with, read_bulk, halt_at, halt_in, name_in, name_at}
+use Rattle.usb_plan.specs.{speed_at, descriptor_at, with_quirks, with_halt, with_hub, named_device}
+use Rattle.usb_plan.specs.{HubFits, FewNaks, HaltsLater, identity_with, identity_of}
+use Rattle.usb_plan.specs.{device_of_parts, device_with, read_device, device_in, read_path}
+use Rattle.usb_plan.specs.{free_path, taken_path, verb_at, other_keys, action_of, EventValues}
+use Rattle.usb_plan.specs.{event_values, device_index_at, bytes_at, packets_at, plug_of, unplug_of}
+use Rattle.usb_plan.specs.{send_of, receive_of, clear_of, keys_of, after_at, event_room, event_with}
+use Rattle.usb_plan.specs.{event_of, event_in, attempt_at, packet_number, way_at, no_bit, flip_at}
+use Rattle.usb_plan.specs.{harm_of, harm_by, damage_with, read_damage, damage_entry, limit_at}
+use Rattle.usb_plan.specs.{roots_at, top_with, top_of, TopFits}
 use Rattle.usb_plan.specs.declared.plan.Top.{Top}
-use Rattle.usb_plan.specs.declared.device.Identity.{Identity}
-use Rattle.usb_plan.specs.declared.device.DeviceTexts.{DeviceTexts}
 use Rattle.usb_plan.specs.declared.quirks.Quirks.{Quirks}
 use Rattle.usb_plan.specs.declared.bulk.Bulk.{Bulk}
 use Rattle.usb_plan.specs.declared.fault.Place.{Place}
-use Rattle.usb_world.specs.declared.event.Event.{Event}
-use Rattle.usb_world.specs.declared.event.Action.{Action}
+use Rattle.usb_world.specs.{Event, Action, Plug, Unplug, Send, Receive, Clear, Damage, Harm, Lose}
+use Rattle.usb_world.specs.{LosePre, Flip, is_rooted, has_port, is_taken, action_fits, event_fits}
+use Rattle.usb_world.specs.{harm_fits, damage_fits}
 use Rattle.usb_world.specs.declared.event.Action.TheVariants.{Change, Ask}
-use Rattle.usb_world.specs.declared.event.Change.TheVariants.{Plug, Unplug}
-use Rattle.usb_world.specs.declared.event.Ask.TheVariants.{Send, Receive, Clear}
-use Rattle.usb_world.specs.declared.damage.Damage.{Damage}
-use Rattle.usb_world.specs.declared.damage.Harm.{Harm}
-use Rattle.usb_world.specs.declared.damage.Harm.TheVariants.{Lose, LosePre, Flip}
-use Rattle.usb_plan.specs.Scene.{SceneData}
-use Rattle.usb_world.specs.PluggedDevices.{is_rooted, has_port}
 use Rattle.usb_plan.specs.declared.verb.Verb.{Verb}
 use Rattle.usb_plan.specs.declared.verb.Verb.TheVariants as verb
-use Rattle.usb_plan.specs.declared.damage.Way.{Way}
 use Rattle.usb_plan.specs.declared.damage.Way.TheVariants as way
-use Rattle.usb_plan.specs.EntryFault.{fault_in_part, sooner, least_fault, entry_at, ◌>>=◌}
-use Rattle.usb_plan.specs.Value.{read_text, number_in, number_at, number_or}
-use Rattle.usb_device.specs.Spec.{Spec, Hub, hub_fits, has_hub_class, function, is_named}
-use Rattle.usb_plan.specs.Hub.{class_at, hub_at, no_hub, is_low_speed, is_other}
-use Rattle.usb_device.specs.declared.spec.Stalls.{Stalls}
-use Rattle.usb_plan.specs.Quirks.{quirks_with, quirks_of, naks_at}
-use Rattle.usb_plan.specs.Bulk.{bulk_with, read_bulk, halt_at, halt_in}
-use Rattle.usb_world.specs.PlanData.{is_taken, action_fits, event_fits, harm_fits, damage_fits}
+use Rattle.usb_device.specs.{Spec, Hub, hub_fits, has_hub_class, function, is_named, Stalls}
 use Rattle.usb_plan.specs.Device as device
-use Rattle.usb_plan.specs.Device.{name_in, name_at, speed_at, descriptor_at, with_quirks, with_halt}
-use Rattle.usb_plan.specs.Device.{with_hub, named_device, HubFits, FewNaks, HaltsLater}
-use Rattle.usb_plan.specs.Device.{identity_with, identity_of, device_of_parts, device_with}
-use Rattle.usb_plan.specs.Device.{read_device, device_in}
-use Rattle.usb_plan.specs.Path.{read_path, free_path, taken_path}
-use Rattle.usb_plan.specs.Verb.{verb_at, other_keys, action_of}
-use Rattle.usb_plan.specs.EventMembers.{EventValues, event_values}
 use Rattle.usb_plan.specs.Action as action
-use Rattle.usb_plan.specs.Action.{device_index_at, bytes_at, packets_at, plug_of, unplug_of}
-use Rattle.usb_plan.specs.Action.{send_of, receive_of, clear_of, keys_of}
-use Rattle.usb_plan.specs.Event.{after_at, event_room, event_with, event_of, event_in}
 use Rattle.usb_plan.specs.Damage as damage
-use Rattle.usb_plan.specs.Damage.{attempt_at, packet_number, way_at, no_bit, flip_at, harm_of}
-use Rattle.usb_plan.specs.Damage.{harm_by, damage_with, read_damage, damage_entry}
-use Rattle.usb_plan.specs.Plan.{limit_at, roots_at, top_with, top_of, TopFits}
 
 -- a value was good, and what was asked for after it
 pub record IsGoodThen {A B E : Type 0} (r : Result A E) (f : A → Result B E) (y : B) : Type 0 where
@@ -101,12 +83,6 @@ pub entry_at_ok : {A : Type 0} (p : Place) (r : Result A EntryFault) (x : A) →
 unfolding entry_at
 entry_at_ok p (Ok a) x h = cc
 entry_at_ok p (Err k) x h = cc
-
--- which way a test went
-pub cond_cases : {X : Type 0} (b : Bool) (x y z : X) → cond b x y ≡ z → ((b ≡ true) × (x ≡ z))
-    ⊎ ((b ≡ false) × (y ≡ z))
-cond_cases true x y z h = inl (refl, h)
-cond_cases false x y z h = inr (refl, h)
 
 ok_if : {A : Type 0} (b : Bool) (x : Result A EntryFault) (k : EntryFault) (y : A)
     → cond b x (Err k) ≡ Ok y → (b ≡ true) × (x ≡ Ok y)
@@ -356,8 +332,7 @@ free_path_ok scene (Ok path) p h =
     let empty = ok_unless (is_taken scene.plugged path) (Ok path) PortTaken p test.1 in
     let same : path ≡ p = cc empty.1 in
     rw (← same) (record {
-      port = not_false (has_port scene.roots scene.devices scene.plugged path)
-          test.0;
+      port = not_false (has_port scene.roots scene.devices scene.plugged path) test.0;
       free = empty.0;
     })
   where
@@ -419,8 +394,7 @@ plug_ok path device a h =
       index = e2.value;
       path_is = e1.good;
       device_is = e2.good;
-      action_is =
-          cc e2.rest;
+      action_is = cc e2.rest;
     }
 
 plug_of_ok : (scene : SceneData) (v : EventValues) (a : Action) → plug_of scene v ≡ Ok a
@@ -485,8 +459,7 @@ receive_ok path packets a h =
       count = e2.value;
       path_is = e1.good;
       packets_is = e2.good;
-      action_is =
-          cc e2.rest;
+      action_is = cc e2.rest;
     }
 
 receive_of_ok : (scene : SceneData) (v : EventValues) (a : Action) → receive_of scene v ≡ Ok a
@@ -686,7 +659,6 @@ top_of_ok ms top h =
     let roots = roots_at_ok (get_member (codes "roots") ms) top.roots is.1 in
     record {
       limit = limit_at_ok (get_member (codes "limit") ms) top.limit is.0;
-      some_root =
-          roots.0;
+      some_root = roots.0;
       few_roots = roots.1;
     }

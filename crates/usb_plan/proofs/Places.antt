@@ -12,9 +12,9 @@ use Rattle.std.specs.declared.cmp.Ordering.{Ordering}
 use Rattle.std.specs.declared.cmp.Ordering.TheVariants.{Less, Equal, Greater}
 use Rattle.std.specs.Ordering.{nat_cmp, ordering_then, is_le, is_eq}
 use Rattle.std.specs.Cmp.{nat_cmp_is}
-use Rattle.usb_port.specs.Order.{path_cmp}
-use Rattle.usb_world.specs.PluggedDevices.{PluggedMap, plugged_without}
-use Rattle.usb_plan.specs.Plugged.{first_through}
+use Rattle.usb_port.specs.{path_cmp}
+use Rattle.usb_world.specs.{PluggedMap, plugged_without}
+use Rattle.usb_plan.specs.{first_through}
 use Rattle.usb_world.proofs.Interface.{found_same, self_found}
 
 abbrev through : List ℕ → List ℕ → Bool

@@ -5,16 +5,13 @@ use Rattle.std.proofs.lemmas.List.{drop_more, drop_all, length_push, length-map}
 use Rattle.std.proofs.lemmas.Bool.{le-leb, lt-leb}
 use Rattle.std.proofs.lemmas.List.Folds.{list_all-map}
 use Rattle.std.specs.List.{list_all, list_any}
-use Rattle.usb_plan.specs.Plan.{is_table}
-use Rattle.usb_plan.specs.declared.entry_fault.EntryFault.TheVariants.{BadValue, Memory}
+use Rattle.usb_plan.specs.{is_table, BadValue, Memory, fault_in_part, sooner, least_fault}
+use Rattle.usb_plan.specs.{EqualUnless, read_items, hex_in, data_list, texts_from, with_text}
+use Rattle.usb_plan.specs.{texts_in, names, is_stall}
 use Rattle.toml.specs.Data.{Data}
 use Rattle.usb_plan.specs.declared.entry_fault.EntryFault.{EntryFault}
-use Rattle.usb_plan.specs.EntryFault.{fault_in_part, sooner, least_fault, EqualUnless}
-use Rattle.usb_plan.specs.Value.{read_items, hex_in, data_list}
 use Rattle.toml.specs.declared.value.Value.{Value}
 use Rattle.toml.specs.View.{view, items_view}
-use Rattle.usb_plan.specs.Texts.{texts_from, with_text, texts_in}
-use Rattle.usb_plan.specs.Quirks.{names, is_stall}
 
 -- at most n texts
 abbrev pub AtMost : ℕ → Result (List (List ℕ)) EntryFault → Type 0

@@ -5,9 +5,9 @@ use Rattle.std.proofs.Math.Nat.{min-eq_left, min-eq_right}
 use Rattle.std.proofs.lemmas.Bool.{leb-true, leb-false}
 use Rattle.std.proofs.lemmas.List.{take_more}
 use Rattle.std.proofs.lemmas.List.Recursion.{max_push}
-use Rattle.usb_device.specs.Spec.{Spec}
-use Rattle.usb_world.specs.declared.event.Event.{Event}
-use Rattle.usb_plan.specs.Attempts.{plugged_total, greatest_total}
+use Rattle.usb_device.specs.{Spec}
+use Rattle.usb_world.specs.{Event}
+use Rattle.usb_plan.specs.{plugged_total, greatest_total}
 
 pub greatest_total-more : (devices : List Spec) (events : List Event) (i : ℕ) (e : Event)
     → i < length events → e ≡ get_or events i e → greatest_total devices (take (i + 1) events)
@@ -26,8 +26,7 @@ saturated-add_by s x top false h =
     let more = leb-false s top h in
     rw (
       min-eq_right {n = top} {m = s} (omega (arith, more)),
-      min-eq_right {n = top} {m = top + x}
-          (omega arith),
+      min-eq_right {n = top} {m = top + x} (omega arith),
       min-eq_right {n = top} {m = s + x} (omega (arith, more)),
     )
 
@@ -42,8 +41,7 @@ saturated-times_by m top false h =
     let more = leb-false m top h in
     rw (
       min-eq_right {n = top} {m = m} (omega (arith, more)),
-      min-eq_right {n = top} {m =
-          top * 1000} (omega arith),
+      min-eq_right {n = top} {m = top * 1000} (omega arith),
       min-eq_right {n = top} {m = m * 1000} (omega (arith, more)),
     )
 
@@ -53,8 +51,7 @@ min-add_by a s top false h =
     let more = leb-false s top h in
     rw (
       min-eq_right {n = top} {m = s} (omega (arith, more)),
-      min-eq_right {n = top} {m = a + top}
-          (omega arith),
+      min-eq_right {n = top} {m = a + top} (omega arith),
       min-eq_right {n = top} {m = a + s} (omega (arith, more)),
     )
 

@@ -15,10 +15,8 @@ use Rattle.usb_plan.specs.Keys.{keys_at}
 use Rattle.usb_plan.specs.Value.{read_text, number_at, hex_bytes}
 use Rattle.usb_plan.specs.Path.{read_path, free_path, taken_path}
 use Rattle.usb_plan.specs.Scene.{SceneData}
-use Rattle.usb_world.specs.declared.event.Action.{Action}
+use Rattle.usb_world.specs.{Action, Plug, Unplug, Send, Receive, Clear}
 use Rattle.usb_world.specs.declared.event.Action.TheVariants.{Change, Ask}
-use Rattle.usb_world.specs.declared.event.Change.TheVariants.{Plug, Unplug}
-use Rattle.usb_world.specs.declared.event.Ask.TheVariants.{Send, Receive, Clear}
 
 -- the key `device`: the index of the device of that name
 unfoldable pub device_index_at : SceneData → Option Data → Result ℕ EntryFault

@@ -2,14 +2,9 @@
 use Rattle.std.specs.Prelude.{ℕ, ◌+◌, ◌*◌, List, [], ◌∷◌, length, Option, Some, None, slice_get}
 use Rattle.std.specs.Prelude.{max, min, ◌^◌, ◌-◌}
 use Rattle.std.specs.List.{sum_by}
-use Rattle.usb_world.specs.declared.event.Action.{Action}
+use Rattle.usb_world.specs.{Action, Plug, Unplug, Send, Receive, Event, PlanData}
 use Rattle.usb_world.specs.declared.event.Action.TheVariants.{Change, Ask}
-use Rattle.usb_world.specs.declared.event.Change.TheVariants.{Plug, Unplug}
-use Rattle.usb_world.specs.declared.event.Ask.TheVariants.{Send, Receive}
-use Rattle.usb_world.specs.declared.event.Event.{Event}
-use Rattle.usb_device.specs.SaidLengths.{said_lengths}
-use Rattle.usb_device.specs.Spec.{Spec}
-use Rattle.usb_world.specs.PlanData.{PlanData}
+use Rattle.usb_device.specs.{said_lengths, Spec}
 
 abbrev pub total_at : Option Spec → ℕ
 total_at (Some device) = said_lengths device

@@ -12,9 +12,7 @@ use Rattle.usb_plan.specs.declared.fault.PlanFault.{PlanFault}
 use Rattle.usb_plan.specs.EntryFault.{fault_in_part, least_fault, entry_at, ◌>>=◌}
 use Rattle.usb_plan.specs.Keys.{keys_at}
 use Rattle.usb_plan.specs.Value.{read_text, number_at}
-use Rattle.usb_world.specs.declared.damage.Damage.{Damage}
-use Rattle.usb_world.specs.declared.damage.Harm.{Harm}
-use Rattle.usb_world.specs.declared.damage.Harm.TheVariants.{Lose, LosePre, Flip}
+use Rattle.usb_world.specs.{Damage, Harm, Lose, LosePre, Flip}
 
 -- the key `attempt`: after the last one
 unfoldable pub attempt_at : ℕ → Option Data → Result ℕ EntryFault

@@ -19,7 +19,7 @@ use Rattle.usb_plan.specs.Texts.{texts_in}
 use Rattle.usb_plan.specs.Hub.{class_at, hub_at}
 use Rattle.usb_plan.specs.Quirks.{quirks_of}
 use Rattle.usb_plan.specs.Bulk.{read_bulk}
-use Rattle.usb_device.specs.Spec.{Spec, Hub, hub_fits, function, is_named}
+use Rattle.usb_device.specs.{Spec, Hub, hub_fits, function, is_named}
 
 unfoldable pub name_in : List Spec → List ℕ → Result (List ℕ) EntryFault
 name_in earlier text = if length text == 0 || is_named earlier text then Err BadValue else Ok text

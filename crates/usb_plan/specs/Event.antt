@@ -13,9 +13,8 @@ use Rattle.usb_plan.specs.Verb.{verb_at, other_keys, action_of}
 use Rattle.usb_plan.specs.EventMembers.{EventValues, event_values}
 use Rattle.usb_plan.specs.Action.{keys_of, keys_given}
 use Rattle.usb_plan.specs.Scene.{SceneData, scene_after}
-use Rattle.usb_device.specs.Spec.{Spec}
-use Rattle.usb_world.specs.declared.event.Action.{Action}
-use Rattle.usb_world.specs.declared.event.Event.{Event}
+use Rattle.usb_device.specs.{Spec}
+use Rattle.usb_world.specs.{Action, Event}
 
 -- the key `after`
 unfoldable pub after_at : Option Data → Result ℕ EntryFault

@@ -6,7 +6,7 @@ use Rattle.usb_plan.specs.declared.entry_fault.EntryFault.{EntryFault}
 use Rattle.usb_plan.specs.declared.entry_fault.EntryFault.TheVariants.{BadValue}
 use Rattle.usb_plan.specs.EntryFault.{◌>>=◌}
 use Rattle.usb_plan.specs.Value.{number_in, hex_in}
-use Rattle.usb_device.specs.Spec.{Hub, has_hub_class, agrees, usual_hub}
+use Rattle.usb_device.specs.{Hub, has_hub_class, agrees, usual_hub}
 
 -- without `ports` there is no `hub_descriptor`
 unfoldable pub no_hub : Option Data → Result (Option Hub) EntryFault

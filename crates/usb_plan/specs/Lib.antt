@@ -17,3 +17,50 @@ pub mod Event
 pub mod Damage
 pub mod Plan
 pub mod Attempts
+-- the words of this crate, wherever one stands
+pub use Place.{place_text}
+pub use EntryFault.{EqualUnless, hex_fault, rank, ◌>>=◌}
+unfoldable pub use EntryFault.{at, entry_at, fault_in_part, least, least_fault, sooner}
+pub use Value.{data_list, hex_read}
+unfoldable pub use Value.{hex_bytes, hex_in, number_at, number_in, number_or, read_items, read_text}
+unfoldable pub use Value.{text_in}
+unfoldable pub use Keys.{keys_at, only_named}
+unfoldable pub use Texts.{texts_from, texts_in, with_text}
+unfoldable pub use Hub.{class_at, hub_at, hub_in, hub_of, hub_with, is_low_speed, is_other, no_hub}
+unfoldable pub use Quirks.{flag_at, is_stall, is_word, naks_at, names, quirks_of, quirks_with}
+unfoldable pub use Quirks.{stalls_at, stalls_in, stalls_named}
+unfoldable pub use Bulk.{bulk_with, halt_at, halt_in, read_bulk, source_at}
+pub use Device.{FewNaks, HaltsLater, HubFits, device_keys, named_device, outer_of}
+unfoldable pub use Device.{configs_at, descriptor_at, device_in, device_of_parts, device_room}
+unfoldable pub use Device.{device_texts_of, device_texts_with, device_with, devices_from}
+unfoldable pub use Device.{identity_of, identity_with, name_at, name_in, read_device, speed_at}
+unfoldable pub use Device.{strings_at, with_halt, with_hub, with_quirks}
+pub use Scene.{SceneData, scene_after}
+unfoldable pub use Path.{free_path, read_path, taken_path}
+unfoldable pub use Plugged.{first_through}
+pub use EventMembers.{EventValues, all_event_keys, found}
+unfoldable pub use EventMembers.{event_values, with_value}
+pub use Action.{event_keys, other_names}
+unfoldable pub use Action.{bytes_at, clear_of, device_index_at, keys_given, keys_of, packets_at}
+unfoldable pub use Action.{plug, plug_of, receive, receive_of, send, send_of, unplug_of, verb_fits}
+unfoldable pub use Verb.{action_of, other_keys, verb_at, verb_named}
+unfoldable pub use Event.{after_at, event_given, event_in, event_of, event_room, event_with}
+unfoldable pub use Event.{events_from}
+pub use Damage.{damage_keys}
+unfoldable pub use Damage.{attempt_at, damage_entry, damage_room, damage_with, damages_from}
+unfoldable pub use Damage.{flip_at, harm_by, harm_of, last_from, no_bit, packet_number, read_damage}
+unfoldable pub use Damage.{way_at, way_named}
+pub use Plan.{TopFits, is_table, top_keys, values_in}
+unfoldable pub use Plan.{entries_at, entries_in, limit_at, plan_of, plan_with, read, roots_at}
+unfoldable pub use Plan.{spelled_plan, top_of, top_with, values_at}
+pub use Attempts.{enough_for, moved_in, total_after, total_at}
+unfoldable pub use Attempts.{bound_of, greatest_total, moved, plugged_total}
+pub use declared.action.OtherKeys.{OtherKeys}
+pub use declared.action.OtherKeys.TheVariants.{Alone, PathBytes, PathDevice, PathPackets}
+pub use declared.damage.Way.{Way}
+pub use declared.device.DeviceTexts.{DeviceTexts}
+pub use declared.device.Identity.{Identity}
+pub use declared.digits.TheConstants.{DIGITS}
+pub use declared.entry_fault.EntryFault.TheVariants.{BadHex, BadPath, BadValue, Memory, MissingKey}
+pub use declared.entry_fault.EntryFault.TheVariants.{PortEmpty, PortTaken, UnknownDevice}
+pub use declared.fault.PlanFault.{PlanFault}

@@ -1,15 +1,14 @@
 -- The key `path` of an event.
 use Rattle.std.specs.Prelude.{ℕ, List, not, Option, ok_or, Result, Ok, Err, if◌then◌else◌}
 use Rattle.toml.specs.Data.{Data}
-use Rattle.usb_port.specs.Path.{path_of}
+use Rattle.usb_port.specs.{path_of}
 use Rattle.usb_plan.specs.declared.entry_fault.EntryFault.{EntryFault}
 use Rattle.usb_plan.specs.declared.entry_fault.EntryFault.TheVariants.{BadPath, PortTaken}
 use Rattle.usb_plan.specs.declared.entry_fault.EntryFault.TheVariants.{PortEmpty}
 use Rattle.usb_plan.specs.EntryFault.{◌>>=◌}
 use Rattle.usb_plan.specs.Value.{read_text}
 use Rattle.usb_plan.specs.Scene.{SceneData}
-use Rattle.usb_world.specs.PluggedDevices.{is_rooted, has_port}
-use Rattle.usb_world.specs.PlanData.{is_taken}
+use Rattle.usb_world.specs.{is_rooted, has_port, is_taken}
 
 -- a path whose first number is a root port's
 unfoldable pub read_path : SceneData → Option Data → Result (List ℕ) EntryFault

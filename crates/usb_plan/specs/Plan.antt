@@ -16,7 +16,7 @@ use Rattle.usb_plan.specs.Value.{read_items, number_at, data_list}
 use Rattle.usb_plan.specs.Device.{devices_from}
 use Rattle.usb_plan.specs.Event.{events_from}
 use Rattle.usb_plan.specs.Damage.{damages_from}
-use Rattle.usb_world.specs.PlanData.{PlanData}
+use Rattle.usb_world.specs.{PlanData}
 
 -- the key `limit`
 unfoldable pub limit_at : Option Data → Result ℕ EntryFault

@@ -9,8 +9,7 @@ use Rattle.usb_plan.specs.declared.entry_fault.EntryFault.TheVariants.{BadValue}
 use Rattle.usb_plan.specs.declared.quirks.Quirks.{Quirks}
 use Rattle.usb_plan.specs.EntryFault.{fault_in_part, least_fault, ◌>>=◌}
 use Rattle.usb_plan.specs.Value.{read_items, number_or}
-use Rattle.usb_device.specs.Spec.{no_stalls}
-use Rattle.usb_device.specs.declared.spec.Stalls.{Stalls}
+use Rattle.usb_device.specs.{no_stalls, Stalls}
 
 -- a key that is true or false; absent it is false
 unfoldable pub flag_at : Option Data → Result Bool EntryFault

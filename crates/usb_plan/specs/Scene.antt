@@ -1,8 +1,7 @@
 -- What an event meets.
 use Rattle.std.specs.Prelude.{ℕ, List, []}
-use Rattle.usb_device.specs.Spec.{Spec}
-use Rattle.usb_world.specs.declared.event.Event.{Event}
-use Rattle.usb_world.specs.PluggedDevices.{PluggedMap, plugged_by}
+use Rattle.usb_device.specs.{Spec}
+use Rattle.usb_world.specs.{Event, PluggedMap, plugged_by}
 
 -- the number of root ports, the devices of the plan, and which of these are plugged where
 pub record SceneData : Type 0 where

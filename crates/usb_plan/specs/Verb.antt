@@ -14,7 +14,7 @@ use Rattle.usb_plan.specs.EntryFault.{◌>>=◌}
 use Rattle.usb_plan.specs.EventMembers.{EventValues}
 use Rattle.usb_plan.specs.Scene.{SceneData}
 use Rattle.usb_plan.specs.Value.{read_text}
-use Rattle.usb_world.specs.declared.event.Action.{Action}
+use Rattle.usb_world.specs.{Action}
 use Rattle.usb_world.specs.declared.event.Action.TheVariants.{Ask}
 use Rattle.usb_world.specs.declared.event.Ask.TheVariants as ask
 

@@ -2,7 +2,7 @@
 
 ghost use Rattle.std.specs.Prelude.{◌≡◌, ◌≤◌, ◌<◌, ◌^◌, IfOk, option_map, map, Ok, [], true, length};
 ghost use Rattle.toml.specs.View.{view, table_view};
-ghost use Rattle.usb_world.specs.PlanData.{damages_fit};
+ghost use Rattle.usb_world.specs.Plans.{damages_fit};
 ghost use Rattle.usb_plan.specs.EntryFault.{EqualUnless};
 ghost use Rattle.usb_plan.specs.declared.fault.PlanFault.TheVariants.{Memory as NoMemory};
 ghost use Rattle.usb_plan.specs.Damage.{attempt_at, packet_number, way_named, way_at, no_bit, flip_at, harm_of, harm_by, damage_room, damage_with, read_damage, damage_entry, damages_from};

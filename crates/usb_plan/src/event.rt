@@ -3,7 +3,7 @@
 ghost use Rattle.std.specs.Prelude.{◌≡◌, ◌≤◌, IfOk, option_map, map, Ok, [], true, length};
 ghost use Rattle.usb_plan.specs.declared.fault.PlanFault.TheVariants.{Memory as NoMemory};
 ghost use Rattle.toml.specs.View.{view, table_view};
-ghost use Rattle.usb_world.specs.PlanData.{events_fit};
+ghost use Rattle.usb_world.specs.Plans.{events_fit};
 ghost use Rattle.usb_plan.specs.Action.{keys_of, keys_given};
 ghost use Rattle.usb_plan.specs.Verb.{action_of, other_keys};
 ghost use Rattle.usb_plan.specs.EventMembers.{found};

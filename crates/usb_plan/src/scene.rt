@@ -3,7 +3,7 @@
 ghost use Rattle.std.specs.Prelude.{◌≡◌, [], OnOk, option_map, position};
 ghost use Rattle.std.specs.Str.{bytes_eq};
 ghost use Rattle.usb_world.specs.PluggedDevices.{is_rooted, has_port, parent_has, device_indexed, spec_port_count, plugged_after};
-ghost use Rattle.usb_world.specs.PlanData.{is_taken};
+ghost use Rattle.usb_world.specs.Plans.{is_taken};
 
 use crate::plugged::Plugged;
 use std::alloc::{AllocError, Global};

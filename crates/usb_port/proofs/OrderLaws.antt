@@ -12,8 +12,8 @@ use Rattle.std.proofs.lemmas.List.Elements.{All-head, All-tail, All-take}
 use Rattle.std.proofs.lemmas.Bool.{and_parts, and_from, lt-ltb, ltb-true, cases_order}
 use Rattle.std.proofs.Math.Seq.{take-append_seam, get_or-append_seam}
 use Rattle.std.proofs.Math.Nat.{mul-le-mul_right, pow-suc}
-use Rattle.usb_port.specs.Path.{IsPath, IsPortNumber}
-use Rattle.usb_port.specs.Order.{path_cmp, is_below, parent_of, port_on_hub, digits_worth, rank_of}
+use Rattle.usb_port.specs.{IsPath, IsPortNumber, path_cmp, is_below, parent_of, port_on_hub}
+use Rattle.usb_port.specs.{digits_worth, rank_of}
 
 pub taken_if : {X : Type 0} (b : Bool) (x : Option X) (y : X) → cond b x None ≡ Some y → (b ≡ true)
     × (x ≡ Some y)

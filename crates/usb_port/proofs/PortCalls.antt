@@ -1,7 +1,6 @@
 -- The calls of a port, by their features.
 use Rattle.std.proofs.Common.{◌≡◌, ℕ, true, false, Option, None, Some, is_some, refl, arith}
-use Rattle.usb_port.specs.declared.call.PortCall.{PortCall}
-use Rattle.usb_port.specs.Calls.{clear_call, is_reset}
+use Rattle.usb_port.specs.{PortCall, clear_call, is_reset}
 
 -- a call that is there
 pub call_is : (o : Option PortCall) → is_some o ≡ true → (c : PortCall) × (o ≡ Some c)

@@ -1,7 +1,6 @@
 -- The bits of a status, read back.
 use Rattle.std.proofs.Common.{◌≡◌, ◌+◌, ◌*◌, Bool, true, false, ◌&&◌, refl}
-use Rattle.usb_port.specs.PortState.{PortState, bit, status_of, is_attached, is_low}
-use Rattle.usb_port.specs.Status.{has_bit, status_in, seen}
+use Rattle.usb_port.specs.{PortState, bit, status_of, is_attached, is_low, has_bit, status_in, seen}
 
 low_of_two : (b c : Bool) → has_bit (bit b + 2 * bit c) 0 ≡ b
 unfolding has_bit

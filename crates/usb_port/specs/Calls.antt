@@ -2,10 +2,10 @@
 -- (11.24).
 use Rattle.std.specs.Prelude.{◌≡◌, ℕ, Bool, true, false, ◌==◌, if◌then◌else◌, Option, None, Some}
 use Rattle.std.specs.Prelude.{is_some}
-use Rattle.usb_request.specs.Features.{PORT_ENABLE, PORT_RESET, PORT_POWER, C_PORT_CONNECTION}
-use Rattle.usb_request.specs.Features.{C_PORT_ENABLE, C_PORT_RESET}
-use Rattle.usb_port.specs.PortState.{PortState, powered_on, reset, disabled, powered_off}
-use Rattle.usb_port.specs.PortState.{connection_cleared, enable_cleared, reset_cleared}
+use Rattle.usb_request.specs.{PORT_ENABLE, PORT_RESET, PORT_POWER, C_PORT_CONNECTION, C_PORT_ENABLE}
+use Rattle.usb_request.specs.{C_PORT_RESET}
+use Rattle.usb_port.specs.PortStates.{PortState, powered_on, reset, disabled, powered_off}
+use Rattle.usb_port.specs.PortStates.{connection_cleared, enable_cleared, reset_cleared}
 use Rattle.usb_port.specs.declared.call.PortCall.{PortCall}
 use Rattle.usb_port.specs.declared.call.PortCall.TheVariants.{SetPower, SetReset, ClearEnable}
 use Rattle.usb_port.specs.declared.call.PortCall.TheVariants.{ClearPower, ClearConnectionChange}

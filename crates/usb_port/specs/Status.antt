@@ -1,6 +1,6 @@
 -- What the bits of a port's status say.
 use Rattle.std.specs.Prelude.{ℕ, ◌/◌, ◌%◌, ◌^◌, ◌==◌, Bool, false, ◌&&◌, List, slice_index}
-use Rattle.usb_port.specs.PortState.{PortState, is_attached, is_low}
+use Rattle.usb_port.specs.PortStates.{PortState, is_attached, is_low}
 use Rattle.usb_port.specs.declared.status.PortStatus.{PortStatus}
 
 unfoldable pub has_bit : ℕ → ℕ → Bool

@@ -1,6 +1,6 @@
 //! The four bytes of a port's status, read.
 ghost use Rattle.std.specs.Prelude.{◌≡◌, ◌<◌};
-ghost use Rattle.usb_port.specs.PortState.{PortState, status_of};
+ghost use Rattle.usb_port.specs.PortStates.{PortState, status_of};
 ghost use Rattle.usb_port.specs.Status.{has_bit, status_in, seen};
 
 /// What a port's status says (11.24.2.7).

@@ -10,8 +10,8 @@ use Rattle.std.specs.FinSet.{empty, contains, insert, remove, contains-empty, co
 use Rattle.std.specs.FinSet.{contains-remove, same_set, nat_cmp-IsAntisymmetric}
 use Rattle.std.proofs.lemmas.Bool.{eq-eqb, ne_eqb, cases_lt, cases_order}
 use Rattle.std.proofs.lemmas.List.{get_or_past, get_or-replicate, length-replicate}
-use Rattle.usb_resources.specs.Pool.{IsAddress, IsFull, HasAddresses, Takes, Releases, IsLeastUnset}
-use Rattle.usb_resources.specs.Pool.{marked_from, addresses_marked}
+use Rattle.usb_resources.specs.{IsAddress, IsFull, HasAddresses, Takes, Releases, IsLeastUnset}
+use Rattle.usb_resources.specs.{marked_from, addresses_marked}
 
 tied : (a b : ℕ) → a ≡ b → eq_by_cmp nat_cmp a b ≡ true
 tied a b e = unsigned_tied a b ∙ eq-eqb a b e

@@ -2,16 +2,11 @@
 use Rattle.std.proofs.Common.{◌≡◌, refl, ℕ, List, length, Option, None, Some, Result}
 use Rattle.std.specs.Global.{Vec}
 use Rattle.usb_world.specs.declared.event.Ask.{Ask}
-use Rattle.usb_world.specs.declared.event.Ask.TheVariants.{Show, Send, Receive, Clear}
-use Rattle.usb_host.specs.declared.fault.HostFault.{HostFault}
-use Rattle.usb_host.specs.HostCalls.{ClearTells, ReceiveTells, SendTells}
-use Rattle.usb_host.specs.HostState.{HostState}
-use Rattle.usb_run.specs.declared.runs.Item.{Item}
-use Rattle.usb_run.specs.declared.runs.Item.TheVariants.{Sent, Received, Cleared}
-use Rattle.usb_run.specs.declared.runs.RunFault.{RunFault}
-use Rattle.usb_run.specs.declared.transfer.TransferFault.{TransferFault}
-use Rattle.usb_run.specs.Run.{listing_of}
-use Rattle.usb_run.specs.Transfers.{IsItemOf, StopsAt, Transfers, sent_count}
+use Rattle.usb_world.specs.{Show, Send, Receive, Clear}
+use Rattle.usb_host.specs.{HostFault, ClearTells, ReceiveTells, SendTells, HostState}
+use Rattle.usb_run.specs.{Item, Sent, Received, Cleared, RunFault, TransferFault, listing_of}
+use Rattle.usb_run.specs.{IsItemOf, StopsAt, sent_count}
+use Rattle.usb_run.specs.Transfers.{Transfers}
 
 -- no item, a listing, or what a transfer came to
 pub data AskAnswered (due : Option Ask) (item : Option Item) (old new : HostState) : Type 0 where

@@ -3,7 +3,7 @@ use Rattle.std.specs.Prelude.{◌≡◌, ℕ, ◌+◌, List, [], ◌∷◌, ◌+
 use Rattle.usb_run.specs.declared.runs.Item.{Item}
 use Rattle.usb_run.specs.declared.runs.Item.TheVariants.{Listing, Sent, Received, Cleared}
 use Rattle.usb_run.specs.TransferLines.{sent_line, received_line, cleared_line}
-use Rattle.usb_text.specs.ListingLines.{listing_lines}
+use Rattle.usb_text.specs.{listing_lines}
 
 -- the lines of an item; the number is that of a listing
 abbrev pub item_lines : ℕ → Item → List (List ℕ)

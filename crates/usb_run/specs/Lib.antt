@@ -6,3 +6,28 @@ pub mod RunSegments
 pub mod Transcript
 pub mod Reports
 pub mod Moments
+-- the words of this crate, wherever one stands
+pub use TransferLines.{cleared_end, failed_end, fault_word, received_end, sent_end}
+unfoldable pub use TransferLines.{cleared_line, received_line, sent_line}
+pub use Run.{IsBegun, IsCaused, RunsOn, Spent, items_left, listing_of, round_fault, run_fault}
+pub use ItemLines.{IsLine, item_lines, number_of}
+pub use Transfers.{Does, Gives, IsItemOf, StopsAt, TransferStops, answer_of_pipe, failed}
+pub use Transfers.{fault_in_run, sent_count, transfer_ended}
+pub use RunSegments.{Arrives, Comes, EndsSettling, Knowing, Knows, LeavesSettled, OneRound, Ran}
+pub use RunSegments.{Reaches, RoundFails, Rounds, Settled, Settles, Settling, Unsettled, idle, more}
+pub use RunSegments.{none, silent}
+pub use Transcript.{AppendsText, CutsText, Makes, Next, NextAsked, NextEvent, Prints, PutsLine}
+pub use Transcript.{RunStops, RunsTo, StoppedRun, asked, at_event, begun, behind, in_item, in_last}
+pub use Transcript.{in_round, in_text, item_text, itself, last, never, on_the_way, shown, told}
+pub use Transcript.{unwritten}
+unfoldable pub use Transcript.{items_text, listings}
+pub use Reports.{EndsWell, Finishes, Opens, RunsWell}
+pub use Moments.{IsListingOf, ListsPlugged, ListsRight, TellsRight}
+pub use declared.mode.Mode.{Mode}
+pub use declared.mode.Mode.TheVariants.{Tree}
+pub use declared.runs.Item.{Item}
+pub use declared.runs.Item.TheVariants.{Cleared, Listing, Received, Sent}
+pub use declared.runs.Report.{Report}
+pub use declared.runs.RunFault.{RunFault}
+pub use declared.runs.RunFault.TheVariants.{LimitReached, Memory, TraceFailed}
+pub use declared.transfer.TransferFault.{TransferFault}

@@ -2,15 +2,9 @@
 use Rattle.std.specs.Prelude.{◌≤◌, ⊤, List, All, Option, Some, is_ok}
 use Rattle.std.specs.List.{AllByRecursion}
 use Rattle.usb_world.specs.declared.event.Ask.{Ask}
-use Rattle.usb_world.specs.declared.event.Ask.TheVariants.{Show, Send, Receive, Clear}
-use Rattle.usb_world.specs.PlanData.{PlanData}
-use Rattle.usb_world.specs.Steps.{opening}
-use Rattle.usb_world.specs.World.{World}
-use Rattle.usb_table.specs.Deliveries.{Delivered, Collected, Restarted, bytes_in}
-use Rattle.usb_table.specs.Listing.{Lists, tree_after}
-use Rattle.usb_host.specs.HostState.{HostState}
-use Rattle.usb_host.specs.Soundness.{IsFairTo}
-use Rattle.usb_host.specs.Transfers.{table_in}
+use Rattle.usb_world.specs.{Show, Send, Receive, Clear, PlanData, opening, World}
+use Rattle.usb_table.specs.{Delivered, Collected, Restarted, bytes_in, Lists, tree_after}
+use Rattle.usb_host.specs.{HostState, IsFairTo, table_in}
 use Rattle.usb_run.specs.RunSegments.{Settled}
 use Rattle.usb_run.specs.declared.runs.Item.{Item}
 use Rattle.usb_run.specs.declared.runs.Item.TheVariants.{Listing, Sent, Received, Cleared}

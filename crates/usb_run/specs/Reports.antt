@@ -1,13 +1,9 @@
 -- Where a plan's run begins, and where it ends, with its report.
 use Rattle.std.specs.Prelude.{◌≡◌, ◌≢◌, ◌⊎◌, ℕ, List, reverse, Option, Bool, false, Result, Err}
 use Rattle.std.specs.Prelude.{IfOk, IfErr}
-use Rattle.usb_world.specs.PlanData.{PlanData, IsPlan}
-use Rattle.usb_world.specs.PlanCourses.{AtPorts}
-use Rattle.usb_world.specs.Steps.{opening}
-use Rattle.usb_world.specs.World.{World}
-use Rattle.usb_bus.specs.Traces.{Traced}
-use Rattle.usb_host.specs.HostState.{HostState, opening_host as host_opening}
-use Rattle.usb_host.specs.Soundness.{HostInvariant}
+use Rattle.usb_world.specs.{PlanData, IsPlan, AtPorts, opening, World}
+use Rattle.usb_bus.specs.{Traced}
+use Rattle.usb_host.specs.{HostState, opening_host as host_opening, HostInvariant}
 use Rattle.usb_plan.specs.declared.fault.PlanFault.TheVariants as plan
 use Rattle.usb_run.specs.declared.runs.Item.{Item}
 use Rattle.usb_run.specs.declared.runs.Report.{Report}

@@ -1,12 +1,9 @@
 -- What runs leave of a bus's world.
 use Rattle.std.specs.Prelude.{◌≡◌, ℕ, ◌+◌, Some, Bool, false, Result, OnOk, IfErr, if◌then◌else◌}
-use Rattle.usb_world.specs.PlanData.{PlanData}
-use Rattle.usb_world.specs.World.{World, AttemptsWithin, to_come}
-use Rattle.usb_world.specs.declared.types.BusFault.{BusFault}
+use Rattle.usb_world.specs.{PlanData, World, AttemptsWithin, to_come, BusFault}
 use Rattle.usb_world.specs.declared.types.BusFault.TheVariants as bus
-use Rattle.usb_host.specs.declared.fault.HostFault.{HostFault}
+use Rattle.usb_host.specs.{HostFault, HostState}
 use Rattle.usb_host.specs.declared.fault.HostFault.TheVariants as host
-use Rattle.usb_host.specs.HostState.{HostState}
 use Rattle.usb_run.specs.declared.runs.Item.{Item}
 use Rattle.usb_run.specs.declared.runs.Item.TheVariants.{Listing}
 use Rattle.usb_run.specs.declared.runs.RunFault.{RunFault}

@@ -1,17 +1,11 @@
 -- How a run goes up to its next item: the host settles, then an event comes.
 use Rattle.std.specs.Prelude.{◌≡◌, false, Option, None, Some, Result, Ok, Err}
 use Rattle.usb_world.specs.declared.event.Ask.{Ask}
-use Rattle.usb_world.specs.declared.types.BusFault.{BusFault}
-use Rattle.usb_bus.specs.Traces.{TakesEvent}
-use Rattle.usb_table.specs.Listing.{Matches}
-use Rattle.usb_host.specs.declared.fault.HostFault.{HostFault}
-use Rattle.usb_host.specs.declared.host.Round.{Round}
-use Rattle.usb_host.specs.declared.host.Round.TheVariants.{Quiet}
-use Rattle.usb_host.specs.Agreement.{Agrees}
-use Rattle.usb_host.specs.HostCalls.{RoundTells}
-use Rattle.usb_host.specs.HostState.{HostState}
-use Rattle.usb_host.specs.Progress.{OnlyBusSteps}
-use Rattle.usb_host.specs.Soundness.{RefusalsJustified, IsAtRest, IsFairTo, HostInvariant}
+use Rattle.usb_world.specs.{BusFault}
+use Rattle.usb_bus.specs.{TakesEvent}
+use Rattle.usb_table.specs.{Matches}
+use Rattle.usb_host.specs.{HostFault, Round, Quiet, Agrees, RoundTells, HostState, OnlyBusSteps}
+use Rattle.usb_host.specs.{RefusalsJustified, IsAtRest, IsFairTo, HostInvariant}
 use Rattle.usb_run.specs.declared.runs.RunFault.{RunFault}
 use Rattle.usb_run.specs.Run.{round_fault}
 use Rattle.usb_run.specs.Transfers.{IsItemOf}

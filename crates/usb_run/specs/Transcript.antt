@@ -4,11 +4,9 @@ use Rattle.std.specs.Prelude.{IsSome, Result, Ok, Err, OnOk, OnErr}
 use Rattle.std.specs.List.{concat}
 use Rattle.std.specs.Io.KnownBytes.{Appends}
 use Rattle.usb_world.specs.declared.event.Ask.{Ask}
-use Rattle.usb_world.specs.declared.types.BusFault.{BusFault}
-use Rattle.usb_bus.specs.Watch.{AppendsFront}
-use Rattle.usb_world.specs.Steps.{PutLine}
-use Rattle.usb_host.specs.HostState.{HostState}
-use Rattle.usb_host.specs.Progress.{OnlyBusSteps}
+use Rattle.usb_world.specs.{BusFault, PutLine}
+use Rattle.usb_bus.specs.{AppendsFront}
+use Rattle.usb_host.specs.{HostState, OnlyBusSteps}
 use Rattle.usb_run.specs.declared.runs.Item.{Item}
 use Rattle.usb_run.specs.declared.runs.RunFault.{RunFault}
 use Rattle.usb_run.specs.declared.mode.Mode.{Mode}

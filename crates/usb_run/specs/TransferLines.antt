@@ -1,8 +1,8 @@
 -- The printed lines of transfers, each with its newline.
 use Rattle.std.specs.Prelude.{ℕ, List, ◌++◌, Result, Ok, Err, codes, decimal}
 use Rattle.std.specs.Global.{Vec}
-use Rattle.usb_packet.specs.Text.{hex_text}
-use Rattle.usb_port.specs.Path.{path_text}
+use Rattle.usb_packet.specs.{hex_text}
+use Rattle.usb_port.specs.{path_text}
 use Rattle.usb_run.specs.declared.transfer.TransferFault.{TransferFault}
 use Rattle.usb_run.specs.declared.transfer.TransferFault.TheVariants.{NoDevice, NoEndpoint}
 use Rattle.usb_run.specs.declared.transfer.TransferFault.TheVariants.{Stalled as EndpointStalled}

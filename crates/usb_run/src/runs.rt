@@ -3,7 +3,7 @@ ghost use Rattle.std.specs.Prelude.{◌≡◌, ◌≢◌, ◌+◌, ◌≤◌, �
 ghost use Rattle.std.proofs.Props.{props};
 ghost use Rattle.usb_device.specs.TreeCodes.{ports_code};
 ghost use Rattle.usb_world.specs.Wire.{AtMostTwoRunning};
-ghost use Rattle.usb_world.specs.World.{root_row, to_come, changes};
+ghost use Rattle.usb_world.specs.Worlds.{root_row, to_come, changes};
 ghost use Rattle.usb_sim.specs.Sim.{world_of, trace_of};
 ghost use Rattle.std.specs.Io.KnownBytes.{Appends};
 ghost use Rattle.usb_bus.specs.Watch.{inner_of, has_failed, tells_failure, AppendsFront};

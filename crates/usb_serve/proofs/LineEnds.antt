@@ -5,23 +5,16 @@ use Rattle.std.proofs.lemmas.List.Elements.{All-from_recursion}
 use Rattle.std.specs.Global.{Vec}
 use Rattle.std.specs.List.{concat, AllByRecursion}
 use Rattle.std.specs.Prelude.{All, codes, decimal, ◌==◌}
-use Rattle.usb_port.specs.Path.{path_text}
-use Rattle.usb_enum.specs.declared.cause.Cause.{Cause}
-use Rattle.usb_enum.specs.declared.finding.Accepted.{Accepted}
-use Rattle.usb_enum.specs.declared.finding.Finding.{Finding}
+use Rattle.usb_port.specs.{path_text}
+use Rattle.usb_enum.specs.{Cause, Accepted, Finding, HubFacts}
 use Rattle.usb_enum.specs.declared.finding.Finding.TheVariants.{Device, Refused}
-use Rattle.usb_enum.specs.declared.hub.HubFacts.{HubFacts}
-use Rattle.usb_table.specs.Entries.{Entries}
-use Rattle.usb_run.specs.declared.runs.Item.{Item}
-use Rattle.usb_run.specs.declared.runs.Item.TheVariants.{Listing, Sent, Received, Cleared}
-use Rattle.usb_run.specs.declared.transfer.TransferFault.{TransferFault}
-use Rattle.usb_run.specs.TransferLines.{sent_line, received_line, cleared_line, sent_end}
-use Rattle.usb_run.specs.TransferLines.{received_end, cleared_end}
-use Rattle.usb_text.specs.ListingLines.{address_line, config_line, config_lines, hub_line}
-use Rattle.usb_text.specs.ListingLines.{hub_lines, string_line, string_lines, device_lines}
-use Rattle.usb_text.specs.ListingLines.{refused_line, finding_lines, entry_lines, listing_line}
-use Rattle.usb_text.specs.ListingLines.{listing_lines}
-use Rattle.usb_run.specs.ItemLines.{IsLine, item_lines}
+use Rattle.usb_table.specs.{Entries}
+use Rattle.usb_run.specs.{Item, Listing, Sent, Received, Cleared, TransferFault, sent_line}
+use Rattle.usb_run.specs.{received_line, cleared_line, sent_end, received_end, cleared_end, IsLine}
+use Rattle.usb_run.specs.{item_lines}
+use Rattle.usb_text.specs.{address_line, config_line, config_lines, hub_line, hub_lines}
+use Rattle.usb_text.specs.{string_line, string_lines, device_lines, refused_line, finding_lines}
+use Rattle.usb_text.specs.{entry_lines, listing_line, listing_lines}
 
 -- a newline behind any bytes, or an end that has one
 line_end : (xs : List ℕ) → IsLine (xs ++ codes "\n")

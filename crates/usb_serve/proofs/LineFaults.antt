@@ -1,14 +1,11 @@
 -- A line of report is cut only where the writer failed.
 use Rattle.std.proofs.Common.{◌≡◌, ◌≢◌, ◌∙◌, refl, sym, ap, inl, inr, Option, None, Some, Ok, Err}
 use Rattle.std.specs.Prelude.{◌⊎◌, IsSome, is_some}
-use Rattle.usb_world.specs.declared.types.BusFault.{BusFault}
-use Rattle.usb_world.specs.Steps.{LineEnds, PutLine}
-use Rattle.usb_world.specs.World.{World}
-use Rattle.usb_host.specs.HostState.{HostState}
-use Rattle.usb_serve.specs.declared.serving.ServeFault.{ServeFault}
+use Rattle.usb_world.specs.{BusFault, LineEnds, PutLine, World}
+use Rattle.usb_host.specs.{HostState}
+use Rattle.usb_serve.specs.{ServeFault, report_fault}
 use Rattle.usb_serve.specs.declared.serving.ServeFault.TheVariants as serve
-use Rattle.usb_serve.specs.ServeResults.{report_fault}
-use Rattle.usb_run.specs.Transcript.{told}
+use Rattle.usb_run.specs.{told}
 
 pub is_write : (fault : ServeFault) → (fault ≡ serve.Write) ⊎ (fault ≢ serve.Write)
 is_write serve.Read = inr (λ e. cc e)

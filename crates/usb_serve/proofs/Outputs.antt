@@ -1,7 +1,7 @@
 -- What has gone out of what was held.
 use Rattle.std.proofs.Common.{◌∙◌, ℕ, List, [], Option, None, Some, sym, append-nil}
 use Rattle.std.specs.Io.KnownBytes.{Keeps, append_known}
-use Rattle.usb_serve.specs.Outputs.{LeavesFront}
+use Rattle.usb_serve.specs.{LeavesFront}
 
 -- all has gone out
 pub front_of_all : (held out : Option (List ℕ)) → Keeps held out → LeavesFront held out

@@ -2,27 +2,19 @@
 use Rattle.std.proofs.Common.{◌≡◌, ◌≢◌, ◌∙◌, refl, ap, subst, arith, inl, inr, ℕ, ◌≤◌, List, []}
 use Rattle.std.proofs.Common.{◌∷◌, Option, None, Some, Result, Ok, Err}
 use Rattle.std.specs.Prelude.{IsUtf8}
-use Rattle.usb_device.specs.Spec.{function}
-use Rattle.usb_device.specs.Rows.{fresh}
-use Rattle.usb_device.specs.Tree.{changed_at, new_ports, row_of}
-use Rattle.usb_world.specs.PlanData.{PlanData}
-use Rattle.usb_world.specs.World.{World, change_of, changes, root_row}
-use Rattle.usb_world.specs.Steps.{after, event, opening, after_event}
+use Rattle.usb_device.specs.{function, fresh, changed_at, new_ports, row_of}
+use Rattle.usb_world.specs.{PlanData, World, change_of, changes, root_row, after, event, opening}
+use Rattle.usb_world.specs.{after_event}
 use Rattle.usb_world.specs.declared.event.Action.TheVariants as act
 use Rattle.usb_world.specs.declared.event.Change.TheVariants as change
 use Rattle.usb_world.specs.declared.event.Ask.{Ask}
-use Rattle.usb_host.specs.HostState.{HostState, opening_host as host_opening, with_power}
-use Rattle.usb_plan.specs.declared.fault.PlanFault.{PlanFault}
+use Rattle.usb_host.specs.{HostState, opening_host as host_opening, with_power}
+use Rattle.usb_plan.specs.{PlanFault, spelled_plan}
 use Rattle.usb_plan.specs.declared.fault.PlanFault.TheVariants as plan_fault
-use Rattle.usb_plan.specs.Plan.{spelled_plan}
-use Rattle.usb_run.specs.declared.runs.RunFault.TheVariants.{LimitReached, TraceFailed}
-use Rattle.usb_run.specs.declared.mode.Mode.{Mode}
-use Rattle.usb_run.specs.declared.mode.Mode.TheVariants.{Tree}
-use Rattle.usb_serve.specs.declared.serving.ServeFault.{ServeFault}
+use Rattle.usb_run.specs.{LimitReached, TraceFailed, Mode, Tree, Arrives, Ran, idle, silent}
+use Rattle.usb_run.specs.{Reaches, EndsWell}
+use Rattle.usb_serve.specs.{ServeFault, IsServed, IsUnread, IsWritten, of_plan, unread}
 use Rattle.usb_serve.specs.declared.serving.ServeFault.TheVariants as serve
-use Rattle.usb_run.specs.RunSegments.{Arrives, Ran, idle, silent, Reaches}
-use Rattle.usb_serve.specs.ServedRuns.{IsServed, IsUnread, IsWritten, of_plan, unread}
-use Rattle.usb_run.specs.Reports.{EndsWell}
 
 -- Events before their time
 
@@ -76,20 +68,17 @@ both_at_once k is (silent due before arrives none) =
     absurd (omega (
       arith,
       arrives_one arrives,
-      ap (λ (w : World). changes (root_row w)) is
-          ∙ both_set,
+      ap (λ (w : World). changes (root_row w)) is ∙ both_set,
     ))
 
 -- nor do they come before an event that asks for an item
 pub both_before : (due : Option Ask) (k : HostState) → k.world ≡ refused_world
     → Reaches refused_host (Ok (Some due)) k → ⊥
-both_before due k is reaches = absurd
-    (omega (
-      arith,
-      arrives_one reaches.arrives,
-      ap (λ (w : World). changes (root_row w)) is
-          ∙ both_set,
-    ))
+both_before due k is reaches = absurd (omega (
+  arith,
+  arrives_one reaches.arrives,
+  ap (λ (w : World). changes (root_row w)) is ∙ both_set,
+))
 
 -- Faults without a cause
 

@@ -7,29 +7,22 @@ use Rattle.std.specs.List.{concat}
 use Rattle.std.specs.Prelude.{◌⊎◌, IfErr, OnOk}
 use Rattle.std.specs.Io.KnownBytes.{Appends}
 use Rattle.std.proofs.KnownBytes.{Appends-nil, Appends-trans}
-use Rattle.usb_bus.specs.Watch.{AppendsFront}
+use Rattle.usb_bus.specs.{AppendsFront}
 use Rattle.usb_bus.proofs.Interface.{front_after_first}
-use Rattle.usb_world.specs.PlanData.{PlanData}
-use Rattle.usb_world.specs.World.{World, to_come}
-use Rattle.usb_host.specs.HostState.{HostState}
-use Rattle.usb_plan.specs.Attempts.{bound_of}
-use Rattle.usb_run.specs.declared.runs.Item.{Item}
-use Rattle.usb_run.specs.declared.runs.Item.TheVariants.{Listing, Sent, Received, Cleared}
-use Rattle.usb_run.specs.declared.runs.RunFault.{RunFault}
+use Rattle.usb_world.specs.{PlanData, World, to_come}
+use Rattle.usb_host.specs.{HostState}
+use Rattle.usb_plan.specs.{bound_of}
+use Rattle.usb_run.specs.{Item, Listing, Sent, Received, Cleared, RunFault, Tree, IsCaused}
+use Rattle.usb_run.specs.{items_left, Opens, item_lines, number_of, Knows, CutsText, RunsTo, Next}
+use Rattle.usb_run.specs.{AppendsText, StoppedRun, begun, behind, never, item_text, items_text}
+use Rattle.usb_run.specs.{listings}
 use Rattle.usb_run.specs.declared.runs.RunFault.TheVariants as run
-use Rattle.usb_run.specs.declared.mode.Mode.TheVariants.{Tree, Run}
-use Rattle.usb_serve.specs.declared.serving.ServeFault.{ServeFault}
+use Rattle.usb_run.specs.declared.mode.Mode.TheVariants.{Run}
+use Rattle.usb_serve.specs.{ServeFault, IsWritten, TreeText, IsCausedInRun, IsCausedInTree, RunEnds}
+use Rattle.usb_serve.specs.{at_write, of_run}
 use Rattle.usb_serve.specs.declared.serving.ServeFault.TheVariants as serve
-use Rattle.usb_text.specs.ListingLines.{bound_line}
-use Rattle.usb_run.specs.Run.{IsCaused, items_left}
-use Rattle.usb_serve.specs.ServedRuns.{IsWritten, TreeText}
-use Rattle.usb_run.specs.Reports.{Opens}
-use Rattle.usb_serve.specs.ServeResults.{IsCausedInRun, IsCausedInTree}
-use Rattle.usb_run.specs.ItemLines.{item_lines, number_of}
-use Rattle.usb_run.specs.RunSegments.{Knows}
-use Rattle.usb_run.specs.Transcript.{CutsText, RunsTo, Next, AppendsText, StoppedRun, Transcript}
-use Rattle.usb_run.specs.Transcript.{begun, behind, never, item_text, items_text, listings}
-use Rattle.usb_serve.specs.ServedTranscripts.{RunEnds, at_write, of_run}
+use Rattle.usb_text.specs.{bound_line}
+use Rattle.usb_run.specs.Transcript.{Transcript}
 use Rattle.usb_run.proofs.Interface.{at_fault, run_limit}
 use Rattle.usb_serve.proofs.LineFaults.{is_write}
 use Rattle.usb_run.proofs.Interface.{knows_opened, limit_opened}
@@ -109,8 +102,7 @@ run_begun was old knows few = record {
   items = [];
   so_far = begun;
   knows = knows;
-  numbered =
-      record { number_is = refl; few = few_left was old.world few };
+  numbered = record { number_is = refl; few = few_left was old.world few };
 }
 
 pub run_told : {was : Bool} {old : HostState} {number : ℕ} {over : Bool} {h : HostState}
@@ -150,8 +142,7 @@ pub run_unwritten : {was : Bool} {old : HostState} {number : ℕ} {over : Bool} 
 run_unwritten r item on k result said other is next =
     record {
       items = r.items;
-      ends = ends_failed of_run at_write result said is
-          (unwritten_next other r.so_far next);
+      ends = ends_failed of_run at_write result said is (unwritten_next other r.so_far next);
     }
 
 pub run_cut : {was : Bool} {old : HostState} {number : ℕ} {over : Bool} {h : HostState}
@@ -357,8 +348,7 @@ tree_over {plan} {before} {h = h} {now = now} r on k (Err fault) s next single f
     (behind (λ cut. cut) over) tt single
     (inr (
       over,
-      front_after_first before now s (items_text r.items) (bound_line (bound_of plan))
-          r.text front,
+      front_after_first before now s (items_text r.items) (bound_line (bound_of plan)) r.text front,
     ))
 
 -- where memory was refused for the bound's line

@@ -2,13 +2,10 @@
 use Rattle.std.proofs.Common.{◌≡◌, ◌∙◌, inl, inr, ℕ, List, Option, Result, Ok, Err, sym}
 use Rattle.std.specs.Prelude.{IsErrOf, OnOk, OnErr}
 use Rattle.std.specs.Io.KnownBytes.{Keeps}
-use Rattle.usb_bus.specs.declared.watched.WriteFailed.{WriteFailed}
-use Rattle.usb_run.specs.declared.runs.RunFault.TheVariants.{TraceFailed}
-use Rattle.usb_run.specs.declared.mode.Mode.{Mode}
-use Rattle.usb_serve.specs.declared.serving.ServeFault.{ServeFault}
+use Rattle.usb_bus.specs.{WriteFailed}
+use Rattle.usb_run.specs.{TraceFailed, Mode}
+use Rattle.usb_serve.specs.{ServeFault, LeavesFront, IsServed, IsServedThrough, TellsWriter}
 use Rattle.usb_serve.specs.declared.serving.ServeFault.TheVariants as serve
-use Rattle.usb_serve.specs.Outputs.{LeavesFront}
-use Rattle.usb_serve.specs.ServedRuns.{IsServed, IsServedThrough, TellsWriter}
 
 module _ (told result : Result (Unit {0}) ServeFault) where
   -- a fault that is none of the writer is what serving told

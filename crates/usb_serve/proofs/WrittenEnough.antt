@@ -1,18 +1,13 @@
 -- What serves a plan of at most 127 plugs whose limit is its bound never tells its limit.
 use Rattle.std.proofs.Common.{◌≢◌, ◌≤◌, ℕ, subst, inl, inr, List, Option, Result, Err}
 use Rattle.std.specs.Prelude.{IfErr}
-use Rattle.usb_world.specs.PlanData.{PlanData}
-use Rattle.usb_host.specs.Plugs.{plug_events}
-use Rattle.usb_plan.specs.Attempts.{bound_of}
-use Rattle.usb_run.specs.declared.runs.RunFault.TheVariants.{LimitReached}
-use Rattle.usb_run.specs.declared.mode.Mode.{Mode}
-use Rattle.usb_run.specs.declared.mode.Mode.TheVariants.{Tree, Run}
-use Rattle.usb_serve.specs.declared.serving.ServeFault.{ServeFault}
+use Rattle.usb_world.specs.{PlanData}
+use Rattle.usb_host.specs.{plug_events}
+use Rattle.usb_plan.specs.{bound_of}
+use Rattle.usb_run.specs.{LimitReached, Mode, Tree, never}
+use Rattle.usb_run.specs.declared.mode.Mode.TheVariants.{Run}
+use Rattle.usb_serve.specs.{ServeFault, IsWritten, IsCausedInRun, IsCausedInTree, at_write, of_run}
 use Rattle.usb_serve.specs.declared.serving.ServeFault.TheVariants as serve
-use Rattle.usb_serve.specs.ServedRuns.{IsWritten}
-use Rattle.usb_serve.specs.ServeResults.{IsCausedInRun, IsCausedInTree}
-use Rattle.usb_run.specs.Transcript.{never}
-use Rattle.usb_serve.specs.ServedTranscripts.{at_write, of_run}
 use Rattle.usb_run.proofs.Interface.{not_limited}
 
 -- in both modes of `serve`

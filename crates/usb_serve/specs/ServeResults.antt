@@ -1,12 +1,11 @@
 -- What serving a plan tells and writes.
 use Rattle.std.specs.Prelude.{◌≡◌, ◌≢◌, Bool, true, false, Some, Result, Ok, Err, IsErrOf}
-use Rattle.usb_world.specs.World.{World}
-use Rattle.usb_world.specs.declared.types.BusFault.{BusFault}
+use Rattle.usb_world.specs.{World, BusFault}
 use Rattle.usb_world.specs.declared.types.BusFault.TheVariants as bus
 use Rattle.usb_serve.specs.declared.input.InputFault.{InputFault}
 use Rattle.usb_serve.specs.declared.input.InputFault.TheVariants as input
 use Rattle.usb_run.specs.declared.runs.RunFault.TheVariants as run
-use Rattle.usb_run.specs.Run.{IsCaused}
+use Rattle.usb_run.specs.{IsCaused}
 use Rattle.usb_serve.specs.declared.serving.ServeFault.{ServeFault}
 use Rattle.usb_serve.specs.declared.serving.ServeFault.TheVariants.{Read, TooLong, Run, Write}
 use Rattle.usb_serve.specs.declared.serving.ServeFault.TheVariants.{Memory}

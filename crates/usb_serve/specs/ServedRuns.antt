@@ -2,27 +2,21 @@
 use Rattle.std.specs.Prelude.{◌≡◌, ◌≢◌, ◌≤◌, ⊤, ◌⊎◌, ℕ, List, ◌++◌, Option, true, false, Result, Ok}
 use Rattle.std.specs.Prelude.{Err, IfErr, IfSome, IsUtf8}
 use Rattle.std.specs.Io.KnownBytes.{Appends, Keeps}
-use Rattle.usb_world.specs.PlanData.{PlanData}
-use Rattle.usb_bus.specs.Watch.{AppendsFront}
-use Rattle.usb_host.specs.HostState.{HostState}
-use Rattle.usb_host.specs.Plugs.{plug_events}
-use Rattle.usb_plan.specs.declared.fault.PlanFault.{PlanFault}
+use Rattle.usb_world.specs.{PlanData}
+use Rattle.usb_bus.specs.{AppendsFront}
+use Rattle.usb_host.specs.{HostState, plug_events}
+use Rattle.usb_plan.specs.{PlanFault, bound_of, spelled_plan}
 use Rattle.usb_plan.specs.declared.fault.PlanFault.TheVariants as plan
-use Rattle.usb_plan.specs.Attempts.{bound_of}
-use Rattle.usb_plan.specs.Plan.{spelled_plan}
-use Rattle.usb_run.specs.declared.runs.Item.{Item}
-use Rattle.usb_run.specs.declared.runs.RunFault.TheVariants.{LimitReached, Memory, TraceFailed}
-use Rattle.usb_run.specs.declared.mode.Mode.{Mode}
-use Rattle.usb_run.specs.declared.mode.Mode.TheVariants.{Tree, Run}
+use Rattle.usb_run.specs.{Item, LimitReached, Memory, TraceFailed, Mode, Tree, ListsRight, RunsTo}
+use Rattle.usb_run.specs.{items_text, never, Opens}
+use Rattle.usb_run.specs.declared.mode.Mode.TheVariants.{Run}
 use Rattle.usb_serve.specs.declared.serving.ServeFault.{ServeFault}
 use Rattle.usb_serve.specs.declared.serving.ServeFault.TheVariants as serve
-use Rattle.usb_run.specs.Moments.{ListsRight}
 use Rattle.usb_serve.specs.Outputs.{LeavesFront}
 use Rattle.usb_serve.specs.ServeResults.{IsCausedInRun, IsCausedInTree, IsOfRun}
-use Rattle.usb_text.specs.ListingLines.{bound_line}
-use Rattle.usb_run.specs.Transcript.{RunsTo, Transcript, items_text, never}
+use Rattle.usb_text.specs.{bound_line}
+use Rattle.usb_run.specs.Transcript.{Transcript}
 use Rattle.usb_serve.specs.ServedTranscripts.{at_write, of_run}
-use Rattle.usb_run.specs.Reports.{Opens}
 
 -- what is written in mode Run: the text of a run of the plan, at no attempt of which two reachable
 -- devices held one address, and which tells what is right

@@ -1,13 +1,11 @@
 -- How a run with its text ends, to the one who is served.
 use Rattle.std.specs.Prelude.{◌≡◌, List, Bool, Result}
-use Rattle.usb_host.specs.HostState.{HostState}
-use Rattle.usb_run.specs.declared.runs.Item.{Item}
-use Rattle.usb_run.specs.declared.runs.RunFault.{RunFault}
+use Rattle.usb_host.specs.{HostState}
+use Rattle.usb_run.specs.{Item, RunFault, RunsTo}
 use Rattle.usb_run.specs.declared.mode.Mode.TheVariants.{Run}
 use Rattle.usb_serve.specs.declared.serving.ServeFault.{ServeFault}
 use Rattle.usb_serve.specs.declared.serving.ServeFault.TheVariants.{Write}
 use Rattle.usb_serve.specs.declared.serving.ServeFault.TheVariants as serve
-use Rattle.usb_run.specs.Transcript.{RunsTo}
 
 -- to the one who is served
 abbrev pub of_run : RunFault → ServeFault

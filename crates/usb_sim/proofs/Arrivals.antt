@@ -6,25 +6,17 @@ use Rattle.std.proofs.Common.{drop, flat_map, ◌-◌, ◌≤◌, ◌==◌, IsEr
 use Rattle.std.specs.Io.KnownBytes.{Appends}
 use Rattle.std.specs.Option.{option_to_list}
 use Rattle.std.proofs.KnownBytes.{Appends-trans, Appends-nil}
-use Rattle.usb_device.specs.Tree.{Ports}
-use Rattle.usb_device.specs.Delivery.{held_addresses, repeats}
-use Rattle.usb_world.specs.declared.event.Event.{Event}
+use Rattle.usb_device.specs.{Ports, held_addresses, repeats}
+use Rattle.usb_world.specs.{Event, BusFault, LimitReached, Memory, TraceFailed, Exchange, Attempt}
+use Rattle.usb_world.specs.{exchange_in, ports_in, counted, after_clearing, World, Coming}
+use Rattle.usb_world.specs.{next_came, after_change, is_due, has_due, after_event}
+use Rattle.usb_world.specs.{after_first_event, after_due_events, at_attempt, damage_in, made_in}
+use Rattle.usb_world.specs.{with_attempt, outcome_made, outcome_in, ask_of}
 use Rattle.usb_world.specs.declared.event.Ask.{Ask}
-use Rattle.usb_world.specs.declared.types.BusFault.{BusFault}
-use Rattle.usb_world.specs.declared.types.BusFault.TheVariants.{LimitReached, Memory, TraceFailed}
-use Rattle.usb_world.specs.declared.exchange.Exchange.{Exchange}
-use Rattle.usb_world.specs.declared.types.Attempt.{Attempt}
-use Rattle.usb_world.specs.Exchange.{exchange_in, ports_in}
-use Rattle.usb_world.specs.Losses.{counted, after_clearing}
-use Rattle.usb_world.specs.World.{World}
-use Rattle.usb_world.specs.Steps.{Coming, next_came, after_change, is_due, has_due, after_event}
-use Rattle.usb_world.specs.Steps.{after_first_event, after_due_events, at_attempt, damage_in}
-use Rattle.usb_world.specs.Steps.{made_in, with_attempt, outcome_made, outcome_in, ask_of}
-use Rattle.usb_bus.specs.Lines.{action_line, next_due, lines_between, made_line, step_lines}
-use Rattle.usb_bus.specs.Watch.{AppendsFront, WritesText}
+use Rattle.usb_bus.specs.{action_line, next_due, lines_between, made_line, step_lines, AppendsFront}
+use Rattle.usb_bus.specs.{WritesText, attempt_line}
 use Rattle.usb_bus.proofs.Interface.{appends_front, front_after_first}
 use Rattle.std.proofs.lemmas.Bool.{eq-eqb}
-use Rattle.usb_bus.specs.Trace.{attempt_line}
 use Rattle.usb_world.proofs.Interface.{first_fault}
 use Rattle.usb_tree.proofs.Interface.{if-false, if-true, unequal}
 
@@ -132,8 +124,7 @@ minus_next m n le = omega (arith, le)
 later_none : (w : World) → Later w w
 later_none w = record {
   onward = omega arith;
-  left =
-      ap (λ n. drop n w.left) (sym (minus_same w.taken));
+  left = ap (λ n. drop n w.left) (sym (minus_same w.taken));
   devices = refl;
 }
 
@@ -209,8 +200,7 @@ pub due_begins : (w : World) (had : Option (List ℕ)) → DueSoFar w w had had
 due_begins w had = record {
   after = refl;
   later = later_none w;
-  written =
-      subst (Appends had had) (no_lines w w refl) (Appends-nil had);
+  written = subst (Appends had had) (no_lines w w refl) (Appends-nil had);
 }
 
 took_is : (w v : World) (e : Event) (events : List Event) → w.left ≡ e ∷ events
@@ -293,10 +283,7 @@ writes_memory (Err TraceFailed) t s text is h = cc is
 pub due_cut : (r : Result (Option (Option Ask)) BusFault) (f : BusFault) (first w v : World)
     (had has now : Option (List ℕ)) → r ≡ Err f → DueSoFar first w had has → has_due w ≡ true
     → IfErr r (λ x. x ≢ LimitReached) → (r ≡ Err Memory → v ≡ record w { fault = Some Memory })
-    → (r ≡ Err TraceFailed → v ≡ record (after_first_event w.left w) {
-      fault =
-          Some TraceFailed;
-    })
+    → (r ≡ Err TraceFailed → v ≡ record (after_first_event w.left w) { fault = Some TraceFailed })
     → WritesText r has now (lines_between w v) → WritesText r had now (lines_between first v)
 due_cut (Ok x) f first w v had has now is d h other kept cut text = cc is
 due_cut (Err LimitReached) f first w v had has now is d h other kept cut text = absurd (other refl)
@@ -327,10 +314,7 @@ pub coming_cut : (r : Result (Option (Option Ask)) BusFault) (f : BusFault) (fir
     → r ≡ Err f → Coming first w → has_due w ≡ true → w.fault ≡ None
     → IfErr r (λ x. x ≢ LimitReached)
     → (r ≡ Err Memory → v ≡ record w { fault = Some Memory })
-    → (r ≡ Err TraceFailed → v ≡ record (after_first_event w.left w) {
-      fault =
-          Some TraceFailed;
-    })
+    → (r ≡ Err TraceFailed → v ≡ record (after_first_event w.left w) { fault = Some TraceFailed })
     → Coming first (record v { fault = None })
 coming_cut (Ok x) f first w v is c h sound other kept cut = cc is
 coming_cut (Err LimitReached) f first w v is c h sound other kept cut = absurd (other refl)
@@ -375,8 +359,7 @@ get_or-head left rest e f split h = h ∙ ap (λ (l : List Event). get_or l 0 f)
 pub lines_alone : (a : Attempt) (w v : World) → v.attempts ≡ w.attempts
     → lines_between w v ≡ step_lines a w v
 unfolding step_lines
-lines_alone a w v e = sym (append-nil (lines_between w v))
-    ∙ ap (λ l. lines_between w v ++ l)
+lines_alone a w v e = sym (append-nil (lines_between w v)) ∙ ap (λ l. lines_between w v ++ l)
     (sym (if-true (v.attempts == w.attempts) [] (made_line a (at_attempt w))
     (eq-eqb v.attempts w.attempts e)))
 
@@ -405,10 +388,8 @@ pub made_in-attempt : (a : Attempt) (w mid : World) (x : Exchange) (roots : Port
     → record mid {
       roots = roots;
       attempts = mid.attempts + 1;
-      losses =
-          counted x.address_lost (after_clearing x.change_cleared mid.losses);
-      shared =
-          mid.shared || repeats (held_addresses mid.roots);
+      losses = counted x.address_lost (after_clearing x.change_cleared mid.losses);
+      shared = mid.shared || repeats (held_addresses mid.roots);
     } ≡ with_attempt a (at_attempt w)
 unfolding with_attempt exchange_in
 made_in-attempt a w mid x roots em ex er =
@@ -416,10 +397,8 @@ made_in-attempt a w mid x roots em ex er =
     = λ y r. record mid {
       roots = r;
       attempts = mid.attempts + 1;
-      losses =
-          counted y.address_lost (after_clearing y.change_cleared mid.losses);
-      shared =
-          mid.shared || repeats (held_addresses mid.roots);
+      losses = counted y.address_lost (after_clearing y.change_cleared mid.losses);
+      shared = mid.shared || repeats (held_addresses mid.roots);
     } in
     ap₂ made ex er ∙ ap (λ (v : World). with_attempt a v) em
 

@@ -5,26 +5,18 @@ use Rattle.std.specs.Prelude.{◌==◌}
 use Rattle.std.proofs.lemmas.Bool.{eq-eqb}
 use Rattle.std.proofs.Common.{arith, ℕ}
 use Rattle.usb_world.specs.declared.event.Ask.{Ask}
-use Rattle.usb_world.specs.declared.types.Attempt.{Attempt}
-use Rattle.usb_world.specs.declared.types.Outcome.{Outcome}
-use Rattle.usb_world.specs.declared.types.BusFault.{BusFault}
-use Rattle.usb_world.specs.declared.types.BusFault.TheVariants.{LimitReached, Memory, TraceFailed}
-use Rattle.usb_world.specs.World.{World}
-use Rattle.usb_world.specs.Steps.{at_attempt, with_attempt, attempted, attempt, event, event_taken}
-use Rattle.usb_world.specs.Steps.{after_first_event, after, fault_of, Left, Coming, at_event}
-use Rattle.usb_world.specs.Steps.{at_packet, at_line, AttemptFails, IsCut, damage_in}
-use Rattle.usb_device.specs.Tree.{Ports}
+use Rattle.usb_world.specs.{Attempt, Outcome, BusFault, LimitReached, Memory, TraceFailed, World}
+use Rattle.usb_world.specs.{at_attempt, with_attempt, attempted, attempt, event, event_taken}
+use Rattle.usb_world.specs.{after_first_event, after, fault_of, Left, Coming, at_event, at_packet}
+use Rattle.usb_world.specs.{at_line, AttemptFails, IsCut, damage_in, AttemptEnds, AttemptsWithin}
+use Rattle.usb_world.specs.{to_come, EventEnds}
+use Rattle.usb_device.specs.{Ports, held_addresses, repeats}
 use Rattle.std.specs.Prelude.{List, IfOk, IsSome, is_some, ◌+◌}
-use Rattle.usb_world.specs.World.{AttemptEnds, AttemptsWithin, to_come}
-use Rattle.usb_world.specs.Steps.{EventEnds}
 use Rattle.usb_world.proofs.Interface.{spends_none, spends_wider}
 use Rattle.usb_tree.proofs.Interface.{unequal}
-use Rattle.usb_bus.specs.Lines.{step_lines}
-use Rattle.usb_bus.specs.Watch.{WritesText}
-use Rattle.usb_sim.specs.Parts.{AttemptMade, OneEventCame}
-use Rattle.usb_bus.specs.Traces.{Attempts, TakesEvent}
+use Rattle.usb_bus.specs.{step_lines, WritesText, Attempts, TakesEvent}
+use Rattle.usb_sim.specs.{AttemptMade, OneEventCame}
 use Rattle.usb_sim.proofs.Arrivals.{writes_none, writes_alone}
-use Rattle.usb_device.specs.Delivery.{held_addresses, repeats}
 
 pub after_fault : (a : Attempt) (w : World) (f : BusFault) → w.fault ≡ Some f
     → w ≡ after (attempt a) w
@@ -94,8 +86,7 @@ left_at_packet (Err f) a w m v k is e cut made =
     let P : World → Type 0 = λ x. IsCut a (damage_in x) x.roots k in
     let left : World → World = λ x. record x {
       roots = k;
-      shared =
-          x.shared || repeats (held_addresses x.roots);
+      shared = x.shared || repeats (held_addresses x.roots);
     } in
     at_packet k is (subst P e cut) (made ∙ ap left e)
 
@@ -116,16 +107,14 @@ fails_at (Err Memory) a w m is below other left =
       below = below;
       left = record m { fault = None };
       so_far = left;
-      told =
-          ap (λ x. record m { fault = x }) is;
+      told = ap (λ x. record m { fault = x }) is;
     }
 fails_at (Err TraceFailed) a w m is below other left =
     record {
       below = below;
       left = record m { fault = None };
       so_far = left;
-      told =
-          ap (λ x. record m { fault = x }) is;
+      told = ap (λ x. record m { fault = x }) is;
     }
 
 -- What an attempt is, at each of its ends
@@ -262,8 +251,7 @@ pub taken_takes : (r : Result (Option (Option Ask)) BusFault) (w v : World) (t s
 taken_takes r w v t s sound came = record {
   took = record {
     spends = came.spends;
-    ends = event_ends r w v sound came.told came.none came.one
-        came.other;
+    ends = event_ends r w v sound came.told came.none came.one came.other;
     again = λ x h. absurd (cc (sound, h));
   };
   asked = came.asked;

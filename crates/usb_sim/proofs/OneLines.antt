@@ -8,9 +8,8 @@ use Rattle.std.proofs.lemmas.Bool.Decides.{nat_tests}
 use Rattle.std.proofs.lemmas.List.Folds.{list_all-append}
 use Rattle.std.proofs.lemmas.Str.{inside_one}
 use Rattle.hex.specs.Hex.{encode_with, upper_digits}
-use Rattle.usb_port.specs.Path.{path_text}
-use Rattle.usb_bus.specs.Shown.{escaped, is_unbroken, is_escaped, shown_char, shown_name}
-use Rattle.usb_bus.specs.Trace.{plug_line}
+use Rattle.usb_port.specs.{path_text}
+use Rattle.usb_bus.specs.{escaped, is_unbroken, is_escaped, shown_char, shown_name, plug_line}
 
 abbrev HasNoNewline : List ℕ → Type 0
 HasNoNewline bytes = is_unbroken bytes ≡ true

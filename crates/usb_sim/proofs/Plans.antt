@@ -3,15 +3,11 @@ use Rattle.std.proofs.Common.{◌≡◌, ℕ, List, [], ◌∷◌, true, ◌&&�
 use Rattle.std.proofs.Common.{sym, subst}
 use Rattle.std.proofs.lemmas.Bool.{and_parts, and_from}
 use Rattle.std.specs.List.{list_all}
-use Rattle.usb_device.specs.Spec.{Spec}
-use Rattle.usb_world.specs.declared.event.Event.{Event}
-use Rattle.usb_world.specs.declared.event.Action.{Action}
+use Rattle.usb_device.specs.{Spec}
+use Rattle.usb_world.specs.{Event, Action, Plug, Unplug, PluggedMap, plugged_after, has_port}
+use Rattle.usb_world.specs.{after_most, PlanData, IsPlan, is_taken, action_fits, event_fits}
+use Rattle.usb_world.specs.{events_fit, can_be_done, can_come}
 use Rattle.usb_world.specs.declared.event.Action.TheVariants.{Change, Ask}
-use Rattle.usb_world.specs.declared.event.Change.TheVariants.{Plug, Unplug}
-use Rattle.usb_world.specs.PluggedDevices.{PluggedMap, plugged_after, has_port}
-use Rattle.usb_world.specs.PlanLimits.{after_most}
-use Rattle.usb_world.specs.PlanData.{PlanData, IsPlan, is_taken, action_fits, event_fits}
-use Rattle.usb_world.specs.PlanData.{events_fit, can_be_done, can_come}
 
 action_done : (roots : ℕ) (devices : List Spec) (tree : PluggedMap) (a : Action)
     → action_fits roots devices tree a ≡ true → can_be_done (length devices) a ≡ true

@@ -1,3 +1,8 @@
 pub mod Tracer
 pub mod Sim
 pub mod Parts
+-- the words of this crate, wherever one stands
+pub use Tracer.{writer_in}
+pub use Sim.{device_at, registers_of, trace_of, tracer_of, world_of, writer_of}
+pub use Parts.{AttemptMade, EventsCame, OneEventCame, RefusesAttempt}
+pub use declared.tracer.Trace.{Ghosts}

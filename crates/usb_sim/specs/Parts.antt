@@ -2,19 +2,14 @@
 -- behind them.
 use Rattle.std.specs.Prelude.{◌≡◌, ◌≢◌, ℕ, ◌+◌, List, Option, None, Some, Result, Ok, Err, OnOk}
 use Rattle.std.specs.Prelude.{OnErr, IfOk, IfErr, IsSome}
-use Rattle.usb_world.specs.declared.types.Attempt.{Attempt}
+use Rattle.usb_world.specs.{Attempt, BusFault, LimitReached, Memory, TraceFailed, Outcome, World}
+use Rattle.usb_world.specs.{AnswerFits, AttemptsWithin, to_come, Coming, Left, after, attempt}
+use Rattle.usb_world.specs.{fault_of, outcome_in, at_attempt, after_first_event, with_attempt}
 use Rattle.usb_world.specs.declared.event.Ask.{Ask}
-use Rattle.usb_world.specs.declared.types.BusFault.{BusFault}
-use Rattle.usb_world.specs.declared.types.BusFault.TheVariants.{LimitReached, Memory, TraceFailed}
-use Rattle.usb_world.specs.declared.types.Outcome.{Outcome}
-use Rattle.usb_world.specs.World.{World, AnswerFits, AttemptsWithin, to_come}
-use Rattle.usb_world.specs.Steps.{Coming, Left, after, attempt, fault_of, outcome_in, at_attempt}
-use Rattle.usb_world.specs.Steps.{after_first_event, with_attempt}
 use Rattle.usb_sim.specs.declared.sim.SimBus.{SimBus}
 use Rattle.usb_sim.specs.declared.tracer.Trace.{Ghosts}
-use Rattle.usb_bus.specs.Lines.{lines_between, next_due, step_lines}
+use Rattle.usb_bus.specs.{lines_between, next_due, step_lines, WritesText}
 use Rattle.usb_sim.specs.Sim.{world_of, tracer_of}
-use Rattle.usb_bus.specs.Watch.{WritesText}
 
 -- the next event came, if one was left; or memory was refused and it did not come, or its line was
 -- not written

@@ -2,11 +2,11 @@
 use Rattle.std.specs.Prelude.{ℕ, List, Option}
 use Rattle.usb_sim.specs.declared.tracer.Trace.{Ghosts}
 use Rattle.usb_sim.specs.declared.tracer.Tracer.{Tracer}
-use Rattle.usb_device.specs.Tree.{Plugged, device_there}
-use Rattle.usb_bus.specs.declared.watched.Watched.{Watched}
+use Rattle.usb_device.specs.{Plugged, device_there}
+use Rattle.usb_bus.specs.{Watched}
 use Rattle.usb_sim.specs.declared.sim.SimBus.{SimBus}
 use Rattle.usb_sim.specs.Tracer.{writer_in}
-use Rattle.usb_world.specs.World.{World}
+use Rattle.usb_world.specs.{World}
 
 abbrev pub world_of : {T : Type 0} {g : Ghosts T} → SimBus T g → World
 world_of s = record {

@@ -1,9 +1,9 @@
 //! A simulated bus: the devices that a plan's events plug at its root ports, and the trace of its attempts.
 ghost use Rattle.std.specs.Prelude.{◌≡◌, ◌+◌, ◌≤◌, length, IfOk, IfErr, None, Some, option_map, false, true, All};
 ghost use Rattle.std.specs.List.{list_all};
-ghost use Rattle.usb_world.specs.PlanData.{can_come};
+ghost use Rattle.usb_world.specs.Plans.{can_come};
 ghost use Rattle.usb_world.specs.PlanLimits.{attempt_most, damage_most, event_most};
-ghost use Rattle.usb_device.specs.Spec.{IsSpec};
+ghost use Rattle.usb_device.specs.DeviceSpecs.{IsSpec};
 ghost use Rattle.usb_device.specs.Tree.{new_ports, row_of};
 ghost use Rattle.usb_device.specs.HolderIndex.{IsIndexOf};
 ghost use Rattle.usb_world.specs.Losses.{AreOfDamages};

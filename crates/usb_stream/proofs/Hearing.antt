@@ -1,26 +1,20 @@
 -- How lines are heard, one after the other, and what a question leaves.
 use Rattle.std.proofs.Common.{add-one, ◌≡◌, ◌≢◌, ◌∙◌, inl, inr, ℕ, ◌+◌, ◌-◌, ◌≤◌, ◌⊎◌, List, []}
-use Rattle.std.proofs.Common.{◌∷◌, ◌++◌, Option, Some, None, refl, sym, ap, subst, arith}
+use Rattle.std.proofs.Common.{◌∷◌, ◌++◌, Option, Some, refl, sym, ap, subst, arith}
 use Rattle.std.proofs.Common.{append-nil}
 use Rattle.std.specs.Prelude.{slice_set}
 use Rattle.std.proofs.lemmas.List.Elements.{All-nil}
 use Rattle.std.proofs.KnownBytes.{Appends-nil, Consumes-nil, Consumes-trans}
 use Rattle.std.specs.Io.KnownBytes.{Appends, Consumes}
-use Rattle.usb_bus.specs.Watch.{AppendsFront}
-use Rattle.usb_lines.specs.Lines.{IsUnbroken, ReadLine, ReadLong, ReadPart, ReadToEnd}
-use Rattle.usb_wire.specs.declared.answer.Answer.{Answer}
+use Rattle.usb_bus.specs.{AppendsFront}
+use Rattle.usb_lines.specs.{IsUnbroken}
+use Rattle.usb_wire.specs.{Answer, Changed, Answered, Asked, question_line, Question}
 use Rattle.usb_wire.specs.declared.answer.Answer.TheVariants as answer
-use Rattle.usb_wire.specs.declared.answer.Said.TheVariants.{Changed, Answered}
-use Rattle.usb_wire.specs.declared.question.Asked.{Asked}
 use Rattle.usb_wire.specs.declared.question.Asked.TheVariants as asked
-use Rattle.usb_wire.specs.Questions.{kind_asked, question_line}
-use Rattle.usb_wire.specs.declared.question.Question.{Question}
-use Rattle.usb_stream.specs.declared.fault.LiveFault.{LiveFault}
-use Rattle.usb_stream.specs.declared.fault.LiveFault.TheVariants.{LimitReached, Write}
+use Rattle.usb_stream.specs.{LiveFault, LimitReached, Write, AsksNoMore}
+use Rattle.usb_stream.specs.{AnswerLinesRead, Kept, ReadLines, ReadOne, SaidLine, Says}
+use Rattle.usb_stream.specs.{StatusesRead, WholeLines, counted_on, streams, questions}
 use Rattle.usb_stream.specs.declared.fault.LiveFault.TheVariants as fault
-use Rattle.usb_stream.specs.Stream.{AskedWell, AsksNoMore, AsksNoQuestion, AnswerLinesRead, Kept}
-use Rattle.usb_stream.specs.Stream.{ReadLines, ReadOne, SaidLine, Says, StatusesRead, WholeLines}
-use Rattle.usb_stream.specs.Stream.{counted_on, streams, questions}
 
 -- a status is a line: the end is none
 said_changed : (a : Asked) (roots : ℕ) (unread left : Option (List ℕ)) (number : ℕ)
@@ -57,8 +51,7 @@ told_more : (a : Asked) (fn l : Kept) (r0 r1 r2 : Option (List ℕ)) (number : �
     → Says a fn.roots r1 r2 (Changed number status)
     → ToldSo a r0 r2 fn (record l {
       statuses = slice_set l.statuses (number - 1) status;
-      lines =
-          counted_on l.lines 1;
+      lines = counted_on l.lines 1;
     })
 told_more a fn l r0 r1 r2 number status so says =
     let line = said_changed a fn.roots r1 r2 number status says in
@@ -84,8 +77,7 @@ hear_more a fn l n r0 r1 r2 number status st so same kept says is =
     let new : record n { statuses = st }
     ≡ record l {
       statuses = slice_set l.statuses (number - 1) status;
-      lines =
-          counted_on l.lines 1;
+      lines = counted_on l.lines 1;
     } =
     ap (λ (k : Kept). record k { statuses = st }) kept
     ∙ ap (λ s. record l { statuses = s; lines = counted_on l.lines 1 }) set in
@@ -177,28 +169,6 @@ read_so a r0 r1 r2 fn l n so kept one =
     subst (ReadLines r0 r2 fn.lines) (sym (ap (λ (k : Kept). k.lines) kept))
     (lines_read_last a r0 r1 r2 fn l one.line so one.unbroken one.read)
 
--- ---- one line that says nothing
-
-pub one_whole : (r0 r1 : Option (List ℕ)) (line : List ℕ) → ReadLine r0 r1 line → ReadOne r0 r1
-one_whole r0 r1 line h = record { line = line; unbroken = h.unbroken; read = inl h.read }
-
-pub one_long : (r0 r1 : Option (List ℕ)) (line : List ℕ) → ReadLong r0 r1 line → ReadOne r0 r1
-one_long r0 r1 line h = record {
-  line = line ++ h.more ∷ [];
-  unbroken = h.unbroken;
-  read =
-      inr h.read;
-}
-
-pub one_ended : (r0 r1 : Option (List ℕ)) → Consumes r0 r1 [] → ReadOne r0 r1
-one_ended r0 r1 h = record { line = []; unbroken = All-nil _; read = inr h }
-
-pub one_part : (r0 r1 : Option (List ℕ)) → ReadPart r0 r1 → ReadOne r0 r1
-one_part r0 r1 h = record { line = h.bytes; unbroken = h.unbroken; read = inr h.read }
-
-pub one_cut : (r0 r1 : Option (List ℕ)) → ReadToEnd r0 r1 → ReadOne r0 r1
-one_cut r0 r1 h = record { line = h.bytes; unbroken = h.unbroken; read = inr h.read }
-
 -- ---- a question
 
 nothing_of : (w : Option (List ℕ)) (line : List ℕ) → AppendsFront w w line
@@ -261,8 +231,7 @@ pub not_heard : (q : Question) (r0 r1 w0 w1 : Option (List ℕ)) (k : Kept) (f :
     → AsksNoMore q (streams r0 r1 w0 w1) k f (record k {
       left = k.left - 1;
       statuses = st;
-      lines =
-          lines;
+      lines = lines;
       fault = Some f;
     })
 not_heard q r0 r1 w0 w1 k f st lines gone some other read = record {
@@ -273,30 +242,3 @@ not_heard q r0 r1 w0 w1 k f st lines gone some other read = record {
   spent = omega (arith, some, one_gone f other);
   roots = refl;
 }
-
-pub heard_well : (q : Question) (r0 r1 w0 w1 : Option (List ℕ)) (k : Kept) (got : Answer)
-    (st : List (List ℕ)) (lines : ℕ) → Appends w0 w1 (question_line q ++ 10 ∷ [])
-    → k.left ≢ 0 → k.fault ≡ None → AnswerLinesRead (kind_asked q) k.roots r0 r1 k.statuses k.lines
-    got st lines
-    → AskedWell q (streams r0 r1 w0 w1) k got (record k {
-      left = k.left - 1;
-      statuses = st;
-      lines =
-          lines;
-    })
-heard_well q r0 r1 w0 w1 k got st lines gone some sound heard = record {
-  written = gone;
-  heard = heard;
-  one = omega (arith, some);
-  roots = refl;
-  sound = sound;
-}
-
-pub asked_none : (r w : Option (List ℕ)) (k : Kept) → AsksNoQuestion (streams r r w w) k k
-asked_none r w k = record { same = refl; read = Consumes-nil r; written = Appends-nil w }
-
--- the answer to the hello is 1 to 7 root ports
-pub roots_within : (roots n : ℕ) (r0 r1 : Option (List ℕ))
-    → Says asked.Hello n r0 r1 (Answered (answer.Roots roots)) → (1 ≤ roots) × (roots ≤ 7)
-roots_within roots n r0 r1 (inl line) = line.may
-roots_within roots n r0 r1 (inr end) = let is = end.is in cc

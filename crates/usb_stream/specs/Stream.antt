@@ -5,40 +5,24 @@ use Rattle.std.specs.Prelude.{replicate, slice_index_or, slice_set, Option, Some
 use Rattle.std.specs.Prelude.{Err}
 use Rattle.std.specs.Io.KnownBytes.{Appends, Consumes, IsAtEnd}
 use Rattle.arrayvec.specs.ArrayVec.{ArrayVec}
-use Rattle.usb_packet.specs.declared.Toggle.{Toggle}
-use Rattle.usb_request.specs.declared.setup.Setup.{Setup as SetupData}
-use Rattle.usb_packet.specs.declared.Toggle.TheVariants.{Zero, One}
-use Rattle.usb_packet.specs.declared.TokenKind.{TokenKind}
-use Rattle.usb_packet.specs.declared.TokenKind.TheVariants.{OutTok, InTok, SetupTok}
-use Rattle.usb_port.specs.declared.call.PortCall.{PortCall}
-use Rattle.usb_bus.specs.Watch.{AppendsFront, inner_of}
-use Rattle.usb_lines.specs.Lines.{IsUnbroken}
-use Rattle.usb_wire.specs.Answers.{IsSaidLine, MaySay}
-use Rattle.usb_wire.specs.QuestionReading.{setup_by}
-use Rattle.usb_wire.specs.Questions.{kind_asked, question_line}
-use Rattle.usb_wire.specs.declared.answer.Answer.{Answer}
+use Rattle.usb_packet.specs.{Toggle, Zero, One, TokenKind, OutTok, InTok, SetupTok}
+use Rattle.usb_request.specs.{Setup as SetupData}
+use Rattle.usb_port.specs.{PortCall}
+use Rattle.usb_bus.specs.{AppendsFront, inner_of}
+use Rattle.usb_lines.specs.{IsUnbroken}
+use Rattle.usb_wire.specs.{IsSaidLine, MaySay, setup_by, kind_asked, question_line, Answer, Said}
+use Rattle.usb_wire.specs.{Changed, Answered, Asked, DataPacket, Endpoint, Question, Speed, Full}
+use Rattle.usb_wire.specs.{Low, LowBelowHub}
 use Rattle.usb_wire.specs.declared.answer.Answer.TheVariants as answer
-use Rattle.usb_wire.specs.declared.answer.Said.{Said}
-use Rattle.usb_wire.specs.declared.answer.Said.TheVariants.{Changed, Answered}
-use Rattle.usb_wire.specs.declared.question.Asked.{Asked}
 use Rattle.usb_wire.specs.declared.question.Asked.TheVariants as asked
-use Rattle.usb_wire.specs.declared.question.DataPacket.{DataPacket}
-use Rattle.usb_wire.specs.declared.question.Endpoint.{Endpoint}
-use Rattle.usb_wire.specs.declared.question.Question.{Question}
 use Rattle.usb_wire.specs.declared.question.Question.TheVariants.{Hello, Setup, Out, In, Port}
-use Rattle.usb_wire.specs.declared.question.Speed.{Speed}
-use Rattle.usb_wire.specs.declared.question.Speed.TheVariants.{Full, Low, LowBelowHub}
-use Rattle.usb_world.specs.declared.types.Attempt.{Attempt}
-use Rattle.usb_world.specs.declared.types.Outcome.{Outcome}
+use Rattle.usb_world.specs.{Attempt, Outcome, no_losses, World, BusFault}
 use Rattle.usb_world.specs.declared.types.Outcome.TheVariants.{Payload, Ack, Nak, Stall, Nothing}
 use Rattle.usb_stream.specs.declared.bus.StreamBus.{StreamBus}
 use Rattle.usb_stream.specs.declared.fault.LiveFault.{LiveFault}
 use Rattle.usb_stream.specs.declared.fault.LiveFault.TheVariants.{LimitReached, Write}
 use Rattle.usb_stream.specs.declared.fault.LiveFault.TheVariants as fault
-use Rattle.usb_device.specs.Tree.{new_ports}
-use Rattle.usb_world.specs.Losses.{no_losses}
-use Rattle.usb_world.specs.World.{World}
-use Rattle.usb_world.specs.declared.types.BusFault.{BusFault}
+use Rattle.usb_device.specs.{new_ports}
 use Rattle.usb_world.specs.declared.types.BusFault.TheVariants as bus
 
 -- ---- attempts as questions

@@ -3,7 +3,7 @@ ghost use Rattle.std.specs.Prelude.{◌≡◌, ◌≤◌, length, IfSome};
 ghost use Rattle.usb_packet.specs.Spelling.{IsBytes};
 ghost use Rattle.usb_wire.specs.Questions.{IsEndpoint, IsQuestion, kind_asked};
 ghost use Rattle.usb_wire.specs.declared.question.Asked.TheVariants as asked;
-ghost use Rattle.usb_world.specs.World.{FitsMaximum, IsAttempt};
+ghost use Rattle.usb_world.specs.Worlds.{FitsMaximum, IsAttempt};
 ghost use Rattle.usb_stream.specs.Stream.{question_of_out, outcome_for, question_for, question_of_setup, line_speed};
 
 use arrayvec::ArrayVec;

@@ -3,7 +3,7 @@ ghost use Rattle.std.specs.Prelude.{◌≡◌, ◌≢◌, ◌-◌, ◌≤◌, �
 ghost use Rattle.std.specs.Io.KnownBytes.{Appends};
 ghost use Rattle.usb_bus.specs.Watch.{AppendsFront, inner_of};
 ghost use Rattle.usb_port.specs.Calls.{IsClearFeature, IsSetFeature, clear_call, set_call};
-ghost use Rattle.usb_world.specs.World.{FitsMaximum, IsAttempt};
+ghost use Rattle.usb_world.specs.Worlds.{FitsMaximum, IsAttempt};
 ghost use Rattle.usb_wire.specs.Questions.{IsQuestion, kind_asked, question_line};
 ghost use Rattle.usb_wire.specs.declared.question.Question.TheVariants as question;
 

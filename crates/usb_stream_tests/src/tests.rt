@@ -1,5 +1,5 @@
 //! A test is a loop over rows: what a far end says, and what the bus before it asks and gives.
-ghost use Rattle.usb_world.specs.World.{IsAttempt};
+ghost use Rattle.usb_world.specs.Worlds.{IsAttempt};
 
 use arrayvec::ArrayVec;
 use std::alloc::{AllocError, Global};

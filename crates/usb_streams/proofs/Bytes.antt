@@ -5,13 +5,11 @@ use Rattle.std.proofs.Common.{append-nil, append_assoc, length-append}
 use Rattle.std.proofs.Math.Seq.{take-add}
 use Rattle.std.proofs.lemmas.List.{drop-drop}
 use Rattle.std.specs.Prelude.{if◌then◌else◌}
-use Rattle.usb_device.specs.Rows.{State}
-use Rattle.usb_pipe.specs.declared.condition.Condition.{Condition}
+use Rattle.usb_device.specs.{State}
+use Rattle.usb_pipe.specs.{Condition, Bulk}
 use Rattle.usb_pipe.specs.declared.condition.Condition.TheVariants.{Ready, Halted, Broken}
-use Rattle.usb_pipe.specs.Bulk.{Bulk}
-use Rattle.usb_streams.specs.Stretches.{ToldItem}
-use Rattle.usb_streams.specs.Streams.{IsAtWork, IsFailedFront, Joins, TookSent, bytes_for, is_done}
-use Rattle.usb_streams.specs.Streams.{sent_to}
+use Rattle.usb_streams.specs.{ToldItem, IsAtWork, IsFailedFront, Joins, TookSent, bytes_for}
+use Rattle.usb_streams.specs.{is_done, sent_to}
 
 -- the next bytes, and the next ones behind them
 pub next_joined : (a b source : List ℕ) (got : ℕ) → a ≡ take (length a) (drop got source)
@@ -32,8 +30,7 @@ joins_behind true bytes first taken old new is e =
 joins_behind false bytes first taken old new is e = (
   taken ++ e.0,
   (e.0, e.1, e.2, refl),
-  e.3 ∙ ap (λ l. l ++ e.0) is
-      ∙ append_assoc first taken e.0,
+  e.3 ∙ ap (λ l. l ++ e.0) is ∙ append_assoc first taken e.0,
 )
 
 -- where there is nothing to join nothing joins
@@ -93,8 +90,7 @@ took_none path left s = record {
   front = [];
   failed = refl;
   sink = sym (append-nil s.sink);
-  works =
-      λ works. refl;
+  works = λ works. refl;
 }
 
 -- the pipe stays

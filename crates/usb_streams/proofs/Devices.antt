@@ -1,22 +1,15 @@
 -- One device over the parts of a stretch, one after the other.
 use Rattle.std.proofs.Common.{◌≡◌, ◌∙◌, refl, sym, ap, subst, ℕ, ◌+◌, List, [], ◌∷◌, ◌++◌, length}
 use Rattle.std.proofs.Common.{drop, take, Option, None, Some, append-nil, length-append, arith}
-use Rattle.usb_device.specs.Rows.{State}
-use Rattle.usb_device.specs.Spec.{Spec}
-use Rattle.usb_device.specs.Tree.{Location}
-use Rattle.usb_world.specs.Devices.{Was}
-use Rattle.usb_pipe.specs.Bulk.{Bulk}
-use Rattle.usb_pipe.specs.Leaves.{InPipeInSync}
-use Rattle.usb_table.specs.declared.pipes.Pipes.{Pipes}
-use Rattle.usb_table.specs.Deliveries.{pipe_in, pipe_out}
-use Rattle.usb_table.specs.Levels.{FitsIn, SparesBulk}
-use Rattle.usb_table.specs.Transfers.{SameSettings}
+use Rattle.usb_device.specs.{State, Spec, Location}
+use Rattle.usb_world.specs.{Was}
+use Rattle.usb_pipe.specs.{Bulk, InPipeInSync}
+use Rattle.usb_table.specs.{Pipes, pipe_in, pipe_out, FitsIn, SparesBulk, SameSettings}
 use Rattle.usb_table.proofs.Interface.{still_source}
-use Rattle.usb_host.specs.BulkPipes.{SameBulk}
-use Rattle.usb_host.specs.HostState.{HostState}
-use Rattle.usb_streams.specs.Stretches.{ToldItem}
-use Rattle.usb_streams.specs.Streams.{AreTaken, ClearsNoIn, ClearsNoOut, GaveNextBy, Joins, Streams}
-use Rattle.usb_streams.specs.Streams.{StreamsAt, bytes_for, bytes_from, is_done, received_from}
+use Rattle.usb_host.specs.{SameBulk, HostState}
+use Rattle.usb_streams.specs.{ToldItem, AreTaken, ClearsNoIn, ClearsNoOut, GaveNextBy, Joins}
+use Rattle.usb_streams.specs.{StreamsAt, bytes_for, bytes_from, is_done, received_from}
+use Rattle.usb_streams.specs.Streams.{Streams}
 use Rattle.usb_streams.proofs.Bytes.{SinkStep, joins_behind, next_joined, took_none, took_stay}
 use Rattle.usb_streams.proofs.Bytes.{took_then}
 

@@ -4,29 +4,19 @@ use Rattle.std.proofs.Common.{◌≡◌, ◌≢◌, ◌∙◌, ◌⊎◌, inl, i
 use Rattle.std.proofs.Common.{List, [], ◌∷◌, ◌++◌, length, take, Result, Ok, Err}
 use Rattle.std.specs.Prelude.{is_ok}
 use Rattle.std.specs.Int.{div_ceil}
-use Rattle.usb_packet.specs.declared.Toggle.{Toggle}
-use Rattle.usb_packet.specs.Toggles.{flips}
-use Rattle.usb_device.specs.Progress.{IsSink}
-use Rattle.usb_device.specs.Rows.{State}
-use Rattle.usb_device.specs.Tree.{Location}
-use Rattle.usb_world.specs.declared.types.BusFault.{BusFault}
-use Rattle.usb_tree.specs.AttemptPackets.{IsSettled}
-use Rattle.usb_world.specs.Devices.{EachWas}
-use Rattle.usb_world.specs.World.{World}
+use Rattle.usb_packet.specs.{Toggle, flips}
+use Rattle.usb_device.specs.{IsSink, State, Location}
+use Rattle.usb_world.specs.{BusFault, EachWas, World}
+use Rattle.usb_tree.specs.{IsSettled}
 use Rattle.usb_world.proofs.Interface.{each_joined, each_none, each_wider}
-use Rattle.usb_transaction.specs.declared.target.Target.{Target}
-use Rattle.usb_transaction.specs.Leaves.{is_at, SinkOut}
+use Rattle.usb_transaction.specs.{Target, is_at, SinkOut}
 use Rattle.usb_transaction.proofs.Interface.{sink_leaves, sink_over, trail_settled, trail_unshared}
 use Rattle.usb_transaction.proofs.Interface.{transacted_unshared}
-use Rattle.usb_pipe.specs.declared.condition.Condition.{Condition}
+use Rattle.usb_pipe.specs.{Condition, PipeFault, Bulk, MovedOut, Sends, after_fault, FaultAfter}
+use Rattle.usb_pipe.specs.{packet_target, OutPipeInSync, Gave, NotGone}
 use Rattle.usb_pipe.specs.declared.condition.Condition.TheVariants.{Ready, Halted, Broken}
-use Rattle.usb_pipe.specs.declared.fault.PipeFault.{PipeFault}
 use Rattle.usb_pipe.specs.declared.fault.PipeFault.TheVariants as pipe_fault
-use Rattle.usb_pipe.specs.Bulk.{Bulk, MovedOut, Sends, after_fault}
-use Rattle.usb_pipe.specs.Control.{FaultAfter}
-use Rattle.usb_pipe.specs.End.{packet_target}
-use Rattle.usb_pipe.specs.Leaves.{OutPipeInSync}
-use Rattle.usb_pipe.specs.Moves.{Gave, start, packet, NotGone}
+use Rattle.usb_pipe.specs.Moves.{start, packet}
 use Rattle.usb_table.proofs.Interface.{empty_or_not}
 
 -- What was given to an endpoint that is halted

@@ -4,59 +4,36 @@ use Rattle.std.proofs.Common.{[], length, Option, None, Some, Result, Ok, Err, a
 use Rattle.std.specs.BTreeMap.{is_at as ties}
 use Rattle.std.specs.Global.{Vec}
 use Rattle.std.specs.Prelude.{is_ok, is_some, if◌then◌else◌}
-use Rattle.usb_port.specs.Order.{path_cmp}
-use Rattle.usb_device.specs.declared.bulk.EndpointState.{EndpointState}
-use Rattle.usb_device.specs.Rows.{State}
-use Rattle.usb_device.specs.Tree.{Location, path_to, reach, reach_on, state_on}
-use Rattle.usb_device.specs.View.{state_there}
+use Rattle.usb_port.specs.{path_cmp}
+use Rattle.usb_device.specs.{EndpointState, State, Location, path_to, reach, reach_on, state_on}
+use Rattle.usb_device.specs.{state_there}
 use Rattle.usb_world.specs.declared.event.Ask.{Ask}
-use Rattle.usb_world.specs.declared.event.Ask.TheVariants.{Show, Send, Receive, Clear}
-use Rattle.usb_world.specs.declared.types.BusFault.{BusFault}
-use Rattle.usb_world.specs.Devices.{EachWas, Was}
-use Rattle.usb_tree.specs.Paths.{address_of}
-use Rattle.usb_world.specs.World.{World}
-use Rattle.usb_transaction.specs.declared.target.Target.{Target}
-use Rattle.usb_transaction.specs.Leaves.{is_at}
+use Rattle.usb_world.specs.{Show, Send, Receive, Clear, BusFault, EachWas, Was, World}
+use Rattle.usb_tree.specs.{address_of}
+use Rattle.usb_transaction.specs.{Target, is_at}
 use Rattle.usb_pipe.specs.declared.condition.Condition.TheVariants.{Ready}
-use Rattle.usb_pipe.specs.declared.fault.PipeFault.{PipeFault}
+use Rattle.usb_pipe.specs.{PipeFault, Bulk, Sends, OutPipeInSync}
 use Rattle.usb_pipe.specs.declared.fault.PipeFault.TheVariants as pipe_fault
-use Rattle.usb_pipe.specs.Bulk.{Bulk, Sends}
-use Rattle.usb_pipe.specs.Leaves.{OutPipeInSync}
-use Rattle.usb_enum.specs.declared.finding.Accepted.{Accepted}
-use Rattle.usb_table.specs.declared.fault.EndpointFault.{EndpointFault}
-use Rattle.usb_table.specs.declared.fault.EndpointFault.TheVariants.{Pipe}
-use Rattle.usb_table.specs.declared.pipes.BulkPipes.{BulkPipes}
-use Rattle.usb_table.specs.declared.pipes.Pipes.{Pipes}
-use Rattle.usb_table.specs.declared.pipes.Pipes.TheVariants.{Hub, Function, Absent}
-use Rattle.usb_table.specs.Deliveries.{ChangesAt, GaveBy, HaltClearedBy, HaltsCleared, JoinsSink}
-use Rattle.usb_table.specs.Deliveries.{TookBytes, bytes_in, pipe_in, pipe_out}
-use Rattle.usb_table.specs.Entries.{Entries}
-use Rattle.usb_table.specs.Findings.{accepted_device_at, out_endpoint}
-use Rattle.usb_table.specs.KnownPorts.{is_below_hub}
-use Rattle.usb_table.specs.Levels.{PipesInSync, FitsOut}
-use Rattle.usb_table.specs.Pipes.{ArePipesIf, ArePipesTo, IsPipe}
-use Rattle.usb_table.specs.Table.{GoesThrough, pipes_at}
-use Rattle.usb_table.specs.Transfers.{ClearedAfter, ClearedBy, ClearedIf, PipesCleared}
-use Rattle.usb_table.specs.Transfers.{PipesReceived, PipesSent, ReceivedBy, SameSettings, SentBy}
-use Rattle.usb_table.specs.Transfers.{endpoint_answer}
+use Rattle.usb_enum.specs.{Accepted}
+use Rattle.usb_table.specs.{EndpointFault, Pipe, BulkPipes, Pipes, Hub, Function, Absent, ChangesAt}
+use Rattle.usb_table.specs.{GaveBy, HaltClearedBy, HaltsCleared, JoinsSink, TookBytes, bytes_in}
+use Rattle.usb_table.specs.{pipe_in, pipe_out, Entries, accepted_device_at, out_endpoint}
+use Rattle.usb_table.specs.{is_below_hub, PipesInSync, FitsOut, ArePipesIf, ArePipesTo, IsPipe}
+use Rattle.usb_table.specs.{GoesThrough, pipes_at, ClearedAfter, ClearedBy, ClearedIf, PipesCleared}
+use Rattle.usb_table.specs.{PipesReceived, PipesSent, ReceivedBy, SameSettings, SentBy}
+use Rattle.usb_table.specs.{endpoint_answer}
 use Rattle.usb_table.proofs.Interface.{held_address, path_itself, path_tied, done_through}
-use Rattle.usb_host.specs.HostState.{HostState}
-use Rattle.usb_host.specs.Ownership.{claims}
-use Rattle.usb_host.specs.ToldFaults.{host_told}
-use Rattle.usb_host.specs.Transfers.{table_in}
-use Rattle.usb_run.specs.declared.runs.Item.{Item}
+use Rattle.usb_host.specs.{HostState, claims, host_told, table_in, ClearTells, ReceiveTells}
+use Rattle.usb_host.specs.{SendTells}
+use Rattle.usb_run.specs.{Item, RunFault, TransferFault, Knows, IsItemOf, failed, sent_count}
+use Rattle.usb_run.specs.{transfer_ended}
 use Rattle.usb_run.specs.declared.runs.Item.TheVariants as item
-use Rattle.usb_run.specs.declared.runs.RunFault.{RunFault}
-use Rattle.usb_run.specs.declared.transfer.TransferFault.{TransferFault}
-use Rattle.usb_run.specs.RunSegments.{Knows}
-use Rattle.usb_host.specs.HostCalls.{ClearTells, ReceiveTells, SendTells}
-use Rattle.usb_run.specs.Transfers.{IsItemOf, Transfers, failed, sent_count, transfer_ended}
+use Rattle.usb_run.specs.Transfers.{Transfers}
 use Rattle.usb_run.proofs.Interface.{AskAnswered, silent, listed, sent, received, cleared, answered}
 use Rattle.usb_run.proofs.Interface.{count_done, told_cleared, told_received, told_sent}
 use Rattle.usb_run.proofs.Interface.{no_bus_fault}
-use Rattle.usb_streams.specs.Stretches.{ToldItem}
-use Rattle.usb_streams.specs.Streams.{ClearsNoIn, ClearsNoOut, GaveNextBy, IsAtWork, Joins}
-use Rattle.usb_streams.specs.Streams.{StreamsAt, bytes_for, bytes_from, is_done}
+use Rattle.usb_streams.specs.{ToldItem, ClearsNoIn, ClearsNoOut, GaveNextBy, IsAtWork, Joins}
+use Rattle.usb_streams.specs.{StreamsAt, bytes_for, bytes_from, is_done}
 use Rattle.usb_streams.proofs.Bytes.{SinkStep, joins_none, sink_step_none}
 use Rattle.usb_streams.proofs.Devices.{DeviceMoves, gave_no_bytes}
 use Rattle.usb_streams.proofs.HaltedSends.{NoneSent, empty_stuck, failed_stuck, none_sent}
@@ -298,8 +275,7 @@ module _ (path : List ℕ) (t : ToldItem) (pipes left : Pipes) (s v : State) whe
       (λ none. gave_no_bytes (pipe_in pipes) (pipe_in left) (record { row = 0; rest = [] }) s v
       (ap pipe_in kept) (
         ap (λ (d : State). d.spec) same,
-        ap (λ (d : State). d.registers)
-            same,
+        ap (λ (d : State). d.registers) same,
       )
       (ap (λ (d : State). d.place) same) (ap (λ (d : State). d.bulk_in) same))
       (ap (λ (d : State). d.spec) same)
@@ -458,8 +434,7 @@ module _ (path : List ℕ) (device : Accepted) (old new : HostState)
           moved path (record {
             due = Some (Receive path packets);
             asked = old;
-            item =
-                item.Received path told;
+            item = item.Received path told;
           }) before left s v [] (bytes_in told) refl
           (ap (λ (b : Bool). if b then bytes_in told else []) (path_itself path))
           (joins_none (is_ok told) [] s.sink v.sink refl kept.0)
@@ -489,8 +464,7 @@ module _ (path : List ℕ) (device : Accepted) (old new : HostState)
           moved path (record {
             due = Some (Clear path);
             asked = old;
-            item =
-                item.Cleared path told;
+            item = item.Cleared path told;
           })
           before left s v [] [] refl refl
           (joins_none (is_ok told) [] s.sink v.sink refl cleared.sink)

@@ -2,22 +2,14 @@
 use Rattle.std.proofs.Common.{◌≡◌, ◌∙◌, refl, sym, ap, subst, Bool, true, false, ℕ, Option, None}
 use Rattle.std.proofs.Common.{Some, option_map}
 use Rattle.std.specs.Prelude.{is_some, if◌then◌else◌}
-use Rattle.usb_packet.specs.declared.Toggle.TheVariants.{Zero}
-use Rattle.usb_packet.specs.Toggles.{other}
-use Rattle.usb_device.specs.declared.bulk.EndpointState.{EndpointState}
-use Rattle.usb_device.specs.Bulk.{rested}
-use Rattle.usb_device.specs.Progress.{SourceAt}
-use Rattle.usb_device.specs.Rows.{State}
+use Rattle.usb_packet.specs.{Zero, other}
+use Rattle.usb_device.specs.{EndpointState, rested, SourceAt, State}
 use Rattle.usb_pipe.specs.declared.condition.Condition.TheVariants.{Ready}
-use Rattle.usb_pipe.specs.Bulk.{Bulk}
-use Rattle.usb_pipe.specs.Leaves.{InPipeInSync}
-use Rattle.usb_descriptor.specs.Choice.{status_endpoint_of}
-use Rattle.usb_enum.specs.declared.finding.Accepted.{Accepted}
-use Rattle.usb_enum.specs.Device.{configuration_of}
-use Rattle.usb_table.specs.declared.pipes.Pipes.TheVariants.{Function}
-use Rattle.usb_table.specs.Deliveries.{pipe_in}
-use Rattle.usb_table.specs.Findings.{in_endpoint, out_endpoint}
-use Rattle.usb_table.specs.Pipes.{new_bulk, new_pipes_to, new_status}
+use Rattle.usb_pipe.specs.{Bulk, InPipeInSync}
+use Rattle.usb_descriptor.specs.{status_endpoint_of}
+use Rattle.usb_enum.specs.{Accepted, configuration_of}
+use Rattle.usb_table.specs.{Function, pipe_in, in_endpoint, out_endpoint, new_bulk, new_pipes_to}
+use Rattle.usb_table.specs.{new_status}
 
 -- new pipes
 
@@ -47,23 +39,20 @@ new_in device below pipe e = by_hub (is_some device.hub) refl
         ap (λ (b : Bool). if b then new_status device below status
         else Function (record {
           out = new_bulk device false (out_endpoint device);
-          into =
-              new_bulk device true (in_endpoint device);
+          into = new_bulk device true (in_endpoint device);
         })) is in
         absurd (cc (sym (ap pipe_in there) ∙ e, none_of_hub device below status))
     by_hub false is =
         let there : new_pipes_to device below
         ≡ Function (record {
           out = new_bulk device false (out_endpoint device);
-          into =
-              new_bulk device true (in_endpoint device);
+          into = new_bulk device true (in_endpoint device);
         }) =
         ap (λ (b : Bool). if b then new_status device below
         (status_endpoint_of (configuration_of device))
         else Function (record {
           out = new_bulk device false (out_endpoint device);
-          into =
-              new_bulk device true (in_endpoint device);
+          into = new_bulk device true (in_endpoint device);
         })) is in
         new_end device (in_endpoint device) pipe (sym (ap pipe_in there) ∙ e)
 

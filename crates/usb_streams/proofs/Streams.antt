@@ -1,35 +1,20 @@
 -- Over a stretch of a run transfers join end to end.
 use Rattle.std.proofs.Common.{◌≡◌, ◌⊎◌, inl, inr, ◌∙◌, refl, sym, ap, subst, true, ℕ, List, [], ◌∷◌}
 use Rattle.std.proofs.Common.{Option, None, Some, Ok}
-use Rattle.usb_device.specs.Rows.{State}
-use Rattle.usb_device.specs.Tree.{Location, path_to, reach, reach_on, state_on}
-use Rattle.usb_device.specs.View.{state_there}
+use Rattle.usb_device.specs.{State, Location, path_to, reach, reach_on, state_on, state_there}
 use Rattle.usb_world.specs.declared.event.Ask.{Ask}
-use Rattle.usb_world.specs.Devices.{Was}
-use Rattle.usb_world.specs.World.{World}
-use Rattle.usb_enum.specs.declared.finding.Accepted.{Accepted}
-use Rattle.usb_table.specs.declared.pipes.Pipes.{Pipes}
-use Rattle.usb_table.specs.declared.pipes.Pipes.TheVariants.{Hub, Function, Absent}
-use Rattle.usb_table.specs.Deliveries.{pipe_in, pipe_out}
-use Rattle.usb_table.specs.Findings.{accepted_device_at}
-use Rattle.usb_table.specs.KnownPorts.{is_below_hub}
-use Rattle.usb_table.specs.Levels.{PipesInSync, FitsIn, SparesBulk}
-use Rattle.usb_table.specs.Table.{pipes_at}
+use Rattle.usb_world.specs.{Was, World}
+use Rattle.usb_enum.specs.{Accepted}
+use Rattle.usb_table.specs.{Pipes, Hub, Function, Absent, pipe_in, pipe_out, accepted_device_at}
+use Rattle.usb_table.specs.{is_below_hub, PipesInSync, FitsIn, SparesBulk, pipes_at}
 use Rattle.usb_table.proofs.Interface.{spares-same}
-use Rattle.usb_host.specs.BulkPipes.{RenewedAt, StayedAt}
-use Rattle.usb_host.specs.declared.host.Round.{Round}
-use Rattle.usb_host.specs.HostState.{HostState}
-use Rattle.usb_host.specs.Transfers.{table_in}
+use Rattle.usb_host.specs.{RenewedAt, StayedAt, Round, HostState, table_in, RoundTells}
 use Rattle.usb_host.proofs.Interface.{stay_event}
-use Rattle.usb_run.specs.declared.runs.Item.{Item}
-use Rattle.usb_host.specs.HostCalls.{RoundTells}
-use Rattle.usb_run.specs.RunSegments.{Comes, Knows, Settled}
-use Rattle.usb_run.specs.Transcript.{AppendsText}
-use Rattle.usb_run.specs.Transfers.{IsItemOf}
+use Rattle.usb_run.specs.{Item, Comes, Knows, Settled, AppendsText, IsItemOf}
 use Rattle.usb_run.proofs.Interface.{arrival_knows, came_running, came_still, comes_onward}
-use Rattle.usb_streams.specs.Stretches.{LiesBetween, round, silent, last, wrote, Stretch, begun}
-use Rattle.usb_streams.specs.Stretches.{further, more, ToldItem}
-use Rattle.usb_streams.specs.Streams.{StartsAt, StoodAt, StoodOrFound, Streams, StreamsAt}
+use Rattle.usb_streams.specs.{LiesBetween, round, silent, last, wrote, Stretch, begun, further}
+use Rattle.usb_streams.specs.{more, ToldItem, StartsAt, StoodAt, StoodOrFound, StreamsAt}
+use Rattle.usb_streams.specs.Streams.{Streams}
 use Rattle.usb_streams.proofs.Devices.{DeviceMoves, DeviceStays, streams_at_then, spares_stays}
 use Rattle.usb_streams.proofs.Devices.{streams_move, streams_none, streams_stay}
 use Rattle.usb_streams.proofs.Items.{MovesAt, item_moves}

@@ -2,22 +2,16 @@
 use Rattle.std.proofs.Common.{◌≡◌, refl, sym, ap, subst, Bool, false, ℕ, List, [], ◌∷◌, Option}
 use Rattle.std.proofs.Common.{None, Some, Ok}
 use Rattle.usb_world.specs.declared.event.Ask.{Ask}
-use Rattle.usb_host.specs.declared.host.Round.{Round}
-use Rattle.usb_host.specs.HostState.{HostState}
-use Rattle.usb_run.specs.declared.runs.Item.{Item}
-use Rattle.usb_run.specs.declared.mode.Mode.{Mode}
-use Rattle.usb_run.specs.Run.{listing_of}
-use Rattle.usb_host.specs.HostCalls.{RoundTells}
-use Rattle.usb_run.specs.RunSegments.{Knows, Ran, idle, silent as ran_silent, Rounds, none}
-use Rattle.usb_run.specs.RunSegments.{more as one_more, Settles}
-use Rattle.usb_run.specs.Transcript.{AppendsText, Makes, asked, last as run_last, Transcript}
-use Rattle.usb_run.specs.Transcript.{begun as run_begun, told as run_told, shown}
-use Rattle.usb_run.specs.Transfers.{IsItemOf}
+use Rattle.usb_host.specs.{Round, HostState, RoundTells}
+use Rattle.usb_run.specs.{Item, Mode, listing_of, Knows, Ran, idle, silent as ran_silent, Rounds}
+use Rattle.usb_run.specs.{none, more as one_more, Settles, AppendsText, Makes, asked}
+use Rattle.usb_run.specs.{last as run_last, begun as run_begun, told as run_told, shown, IsItemOf}
+use Rattle.usb_run.specs.Transcript.{Transcript}
 use Rattle.usb_run.proofs.Interface.{RunsOnward, arrival_knows, called_onward, comes_onward}
 use Rattle.usb_run.proofs.Interface.{item_called, item_keeps_sound, knows_then, puts_knows}
 use Rattle.usb_run.proofs.Interface.{puts_onward, round_called}
-use Rattle.usb_streams.specs.Stretches.{IsStretch, LiesBetween, round, silent, last, wrote, Stretch}
-use Rattle.usb_streams.specs.Stretches.{begun, further, more, ToldItem}
+use Rattle.usb_streams.specs.{IsStretch, LiesBetween, round, silent, last, wrote, Stretch, begun}
+use Rattle.usb_streams.specs.{further, more, ToldItem}
 
 -- A part
 

@@ -1,2 +1,9 @@
 pub mod Stretches
 pub mod Streams
+-- the words of this crate, wherever one stands
+pub use Stretches.{AreMade, IsStretch, LiesBetween, Stretch, ToldItem, begun, further, last, more}
+pub use Stretches.{round, silent, wrote}
+pub use Streams.{ClearsNoIn, ClearsNoOut, FoundSince, GaveNext, GaveNextBy, IsAtWork, Joins}
+pub use Streams.{StartsAt, StoodAt, StoodOrFound, StreamsAt, TookSent, bytes_for, bytes_from}
+pub use Streams.{is_done}
+unfoldable pub use Streams.{AreTaken, IsFailedFront, received_from, sent_to}

@@ -4,28 +4,17 @@ use Rattle.std.specs.Prelude.{◌≡◌, ◌⊎◌, ⊤, ℕ, ◌+◌, List, [],
 use Rattle.std.specs.Prelude.{true, false, if◌then◌else◌, Option, None, Some, Ok, is_ok}
 use Rattle.std.specs.BTreeMap.{is_at}
 use Rattle.std.specs.List.{AllByRecursion}
-use Rattle.usb_port.specs.Order.{path_cmp}
-use Rattle.usb_device.specs.Rows.{State}
-use Rattle.usb_device.specs.Tree.{Location, path_to, reach_on, state_on}
+use Rattle.usb_port.specs.{path_cmp}
+use Rattle.usb_device.specs.{State, Location, path_to, reach_on, state_on}
 use Rattle.usb_world.specs.declared.event.Ask.{Ask}
-use Rattle.usb_world.specs.declared.event.Ask.TheVariants.{Send, Clear}
-use Rattle.usb_world.specs.Devices.{Was}
+use Rattle.usb_world.specs.{Send, Clear, Was}
 use Rattle.usb_pipe.specs.declared.condition.Condition.TheVariants.{Ready}
-use Rattle.usb_pipe.specs.Bulk.{Bulk}
-use Rattle.usb_pipe.specs.Leaves.{InPipeInSync}
-use Rattle.usb_enum.specs.declared.finding.Accepted.{Accepted}
-use Rattle.usb_table.specs.declared.pipes.Pipes.{Pipes}
-use Rattle.usb_table.specs.Deliveries.{bytes_in, pipe_in, pipe_out}
-use Rattle.usb_table.specs.Findings.{accepted_device_at}
-use Rattle.usb_table.specs.Levels.{FitsIn}
-use Rattle.usb_table.specs.Table.{pipes_at}
-use Rattle.usb_host.specs.BulkPipes.{RenewedAt}
-use Rattle.usb_host.specs.declared.host.Round.{Round}
-use Rattle.usb_host.specs.HostState.{HostState}
-use Rattle.usb_host.specs.Transfers.{table_in}
-use Rattle.usb_run.specs.declared.runs.Item.{Item}
-use Rattle.usb_run.specs.declared.runs.Item.TheVariants.{Listing, Sent, Received, Cleared}
-use Rattle.usb_host.specs.HostCalls.{RoundTells}
+use Rattle.usb_pipe.specs.{Bulk, InPipeInSync}
+use Rattle.usb_enum.specs.{Accepted}
+use Rattle.usb_table.specs.{Pipes, bytes_in, pipe_in, pipe_out, accepted_device_at, FitsIn}
+use Rattle.usb_table.specs.{pipes_at}
+use Rattle.usb_host.specs.{RenewedAt, Round, HostState, table_in, RoundTells}
+use Rattle.usb_run.specs.{Item, Listing, Sent, Received, Cleared}
 use Rattle.usb_streams.specs.Stretches.{ToldItem, Stretch}
 
 -- Bytes

@@ -1,13 +1,8 @@
 -- Stretches of a run, with what was told in them.
 use Rattle.std.specs.Prelude.{◌≡◌, ℕ, Bool, true, false, Option, None, Some, List, [], ◌∷◌, Ok, map}
 use Rattle.usb_world.specs.declared.event.Ask.{Ask}
-use Rattle.usb_host.specs.declared.host.Round.{Round}
-use Rattle.usb_host.specs.HostState.{HostState}
-use Rattle.usb_run.specs.declared.runs.Item.{Item}
-use Rattle.usb_host.specs.HostCalls.{RoundTells}
-use Rattle.usb_run.specs.RunSegments.{Comes, Settled}
-use Rattle.usb_run.specs.Transcript.{AppendsText}
-use Rattle.usb_run.specs.Transfers.{IsItemOf}
+use Rattle.usb_host.specs.{Round, HostState, RoundTells}
+use Rattle.usb_run.specs.{Item, Comes, Settled, AppendsText, IsItemOf}
 
 -- an event that asked for an item, the host that it asked, and the item
 pub record ToldItem : Type 0 where

@@ -2,23 +2,15 @@
 use Rattle.std.proofs.Common.{◌≡◌, refl, sym, ap, subst, ◌||◌, Bool, true, false, ℕ, Option, None}
 use Rattle.std.proofs.Common.{Some, Result, Err}
 use Rattle.std.specs.Prelude.{not, is_some, IfSome}
-use Rattle.usb_world.specs.World.{World}
-use Rattle.usb_pipe.specs.Bulk.{Bulk}
-use Rattle.usb_pipe.specs.Interrupt.{Interrupt}
-use Rattle.usb_enum.specs.declared.finding.Accepted.{Accepted}
-use Rattle.usb_enum.specs.declared.finding.Finding.{Finding}
+use Rattle.usb_world.specs.{World}
+use Rattle.usb_pipe.specs.{Bulk, Interrupt}
+use Rattle.usb_enum.specs.{Accepted, Finding}
 use Rattle.usb_enum.specs.declared.finding.Finding.TheVariants.{Device, Refused}
-use Rattle.usb_table.specs.declared.fault.EndpointFault.{EndpointFault}
-use Rattle.usb_table.specs.declared.fault.EndpointFault.TheVariants.{NoDevice, NoEndpoint}
-use Rattle.usb_table.specs.declared.pipes.BulkPipes.{BulkPipes}
-use Rattle.usb_table.specs.declared.pipes.Pipes.{Pipes}
-use Rattle.usb_table.specs.declared.pipes.Pipes.TheVariants.{Hub, Function, Absent}
-use Rattle.usb_table.specs.Deliveries.{pipe_in, pipe_out}
-use Rattle.usb_table.specs.Findings.{out_endpoint, in_endpoint}
-use Rattle.usb_table.specs.Pipes.{IsBulkPipe, IsPipe, ArePipesIf, ArePipesOf, ArePipesTo}
-use Rattle.usb_table.specs.Transfers.{ClearedIf, ClearedInOrder, EndpointFaultAllowed, NotTried}
-use Rattle.usb_table.specs.Transfers.{PipeDid, PipesCleared, PipesThrough, ThroughIf, both_sides}
-use Rattle.usb_table.specs.Transfers.{one_side}
+use Rattle.usb_table.specs.{EndpointFault, NoDevice, NoEndpoint, BulkPipes, Pipes, Hub, Function}
+use Rattle.usb_table.specs.{Absent, pipe_in, pipe_out, out_endpoint, in_endpoint, IsBulkPipe}
+use Rattle.usb_table.specs.{IsPipe, ArePipesIf, ArePipesOf, ArePipesTo, ClearedIf, ClearedInOrder}
+use Rattle.usb_table.specs.{EndpointFaultAllowed, NotTried, PipeDid, PipesCleared, PipesThrough}
+use Rattle.usb_table.specs.{ThroughIf, both_sides, one_side}
 
 -- The pipe of one way
 
@@ -161,8 +153,7 @@ module _ (old : World) (result : Result (Unit {0}) EndpointFault) (new : World)
 
   both_there : (device : Accepted) (pipes left : Pipes) → found ≡ Some device
       → ArePipesTo device below_hub pipes → PipesCleared pipes old result left new → R pipes left
-  both_there device (Hub pipe) left e are x =
-      both_idle (Hub pipe) left NoEndpoint (λ w. tt) x
+  both_there device (Hub pipe) left e are x = both_idle (Hub pipe) left NoEndpoint (λ w. tt) x
   both_there device (Function pipes) left e are x =
       subst (R (Function pipes)) (sym x.1)
       (both_if device e (is_some pipes.out || is_some pipes.into) pipes x.0 are x.2)

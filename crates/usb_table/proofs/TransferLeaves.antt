@@ -6,31 +6,21 @@ use Rattle.std.proofs.lemmas.Grind.{common_steps}
 use Rattle.std.specs.Global.{Vec}
 use Rattle.std.specs.Int.{div_ceil}
 use Rattle.std.specs.Prelude.{IfErr}
-use Rattle.usb_world.specs.declared.types.BusFault.{BusFault}
-use Rattle.usb_world.specs.World.{World, Failed, AttemptsWithin}
+use Rattle.usb_world.specs.{BusFault, World, Failed, AttemptsWithin}
 use Rattle.usb_world.proofs.Interface.{course_joined, each_joined, spends_none, spends_wider}
-use Rattle.usb_bus.specs.Traces.{Traced}
-use Rattle.usb_transaction.specs.Transactions.{transaction_bound}
-use Rattle.usb_pipe.specs.Bulk.{Bulk}
-use Rattle.usb_pipe.specs.Control.{write_bound}
-use Rattle.usb_pipe.specs.declared.fault.PipeFault.{PipeFault}
+use Rattle.usb_bus.specs.{Traced}
+use Rattle.usb_transaction.specs.{transaction_bound}
+use Rattle.usb_pipe.specs.{Bulk, write_bound, PipeFault}
 use Rattle.usb_pipe.specs.declared.fault.PipeFault.TheVariants as pipe_fault
 use Rattle.usb_address.proofs.Interface.{keeps_then}
 use Rattle.usb_backlog.proofs.Interface.{all_then}
-use Rattle.usb_enum.specs.declared.finding.Accepted.{Accepted}
-use Rattle.usb_table.specs.declared.fault.EndpointFault.{EndpointFault}
-use Rattle.usb_table.specs.declared.fault.EndpointFault.TheVariants.{Pipe}
-use Rattle.usb_table.specs.declared.pipes.Pipes.{Pipes}
-use Rattle.usb_table.specs.declared.pipes.Pipes.TheVariants.{Function}
-use Rattle.usb_table.specs.Findings.{accepted_device_at}
-use Rattle.usb_table.specs.KnownPorts.{is_below_hub}
-use Rattle.usb_table.specs.Levels.{TableClears, TableReceives, TableSends, Transferred}
-use Rattle.usb_table.specs.Pipes.{IsBulkPipe, ArePipesIf}
-use Rattle.usb_table.specs.Table.{Table, GoesThrough, pipes_at}
-use Rattle.usb_table.specs.Transfers.{ClearedAfter, ClearedBy, EndpointFaultAllowed, OnlyTransfers}
-use Rattle.usb_table.specs.Transfers.{PipeFaultAllowed, PipeDid, PipesCleared, PipesReceived}
-use Rattle.usb_table.specs.Transfers.{PipesSent, PipesThrough, ReceivedThrough, SameSettings}
-use Rattle.usb_table.specs.Transfers.{SentThrough, both_sides, endpoint_answer}
+use Rattle.usb_enum.specs.{Accepted}
+use Rattle.usb_table.specs.{EndpointFault, Pipe, Pipes, Function, accepted_device_at, is_below_hub}
+use Rattle.usb_table.specs.{TableClears, TableReceives, TableSends, Transferred, IsBulkPipe}
+use Rattle.usb_table.specs.{ArePipesIf, Table, GoesThrough, pipes_at, ClearedAfter, ClearedBy}
+use Rattle.usb_table.specs.{EndpointFaultAllowed, OnlyTransfers, PipeFaultAllowed, PipeDid}
+use Rattle.usb_table.specs.{PipesCleared, PipesReceived, PipesSent, PipesThrough, ReceivedThrough}
+use Rattle.usb_table.specs.{SameSettings, SentThrough, both_sides, endpoint_answer}
 use Rattle.usb_table.proofs.transfers.DevicesKept.{PipeKeeps, clear_keeps, receive_keeps}
 use Rattle.usb_table.proofs.transfers.DevicesKept.{same_spares, send_keeps}
 use Rattle.usb_table.proofs.levels.KeptPipes.{ready_or_not}
@@ -47,8 +37,7 @@ record LeavesTransfer {A : Type 0} (n : ℕ) (found : Option Accepted) (pipes : 
   spends : AttemptsWithin n old new
   told : IfErr result (λ fault. EndpointFaultAllowed fault new)
   worlds : OnlyTransfers old new
-  moves : ((left ≡ pipes) × (new ≡ old))
-      ⊎ ((device : Accepted) × (found ≡ Some device)
+  moves : ((left ≡ pipes) × (new ≡ old)) ⊎ ((device : Accepted) × (found ≡ Some device)
       × EachMoves device.address (new.fault ≡ None) pipes left old new)
 
 same_spends : (n : ℕ) (old new : World) → new ≡ old → AttemptsWithin n old new
@@ -165,8 +154,7 @@ cleared_by : (pipe left : Option Bulk) (old : World) (answer : Result (Unit {0})
 cleared_by None left old answer new x =
     record { worlds = same_spares old new x.2; told = λ fault e. absurd (cc (sym x.0 ∙ e)) }
 cleared_by (Some pipe) None old answer new x = absurd x
-cleared_by (Some pipe) (Some left) old answer new x =
-    clear_keeps pipe old answer left new x.clears
+cleared_by (Some pipe) (Some left) old answer new x = clear_keeps pipe old answer left new x.clears
 
 -- one that is done made no attempt, or the bus is at work
 done_or_same : (pipe left : Option Bulk) (old : World) (done : Unit {0}) (new : World)

@@ -2,21 +2,16 @@
 use Rattle.std.specs.Prelude.{◌≡◌, ◌≢◌, ◌⊎◌, ℕ, ◌+◌, List, [], ◌++◌, length, take, drop, Bool, true}
 use Rattle.std.specs.Prelude.{false, Option, Some, None, Result, Ok, Err, IsSome}
 use Rattle.std.specs.Global.{Vec}
-use Rattle.usb_device.specs.declared.bulk.EndpointState.{EndpointState}
-use Rattle.usb_device.specs.Bulk.{rested}
-use Rattle.usb_device.specs.Progress.{OnlySink, OnlySource}
-use Rattle.usb_device.specs.Rows.{State}
-use Rattle.usb_device.specs.Tree.{reach, Location, path_to}
-use Rattle.usb_world.specs.Devices.{EachWas}
-use Rattle.usb_world.specs.World.{World}
+use Rattle.usb_device.specs.{EndpointState, rested, OnlySink, OnlySource, State, reach, Location}
+use Rattle.usb_device.specs.{path_to}
+use Rattle.usb_world.specs.{EachWas, World}
 use Rattle.usb_pipe.specs.declared.condition.Condition.TheVariants.{Ready}
-use Rattle.usb_pipe.specs.Bulk.{Bulk, cleared}
-use Rattle.usb_pipe.specs.Leaves.{InPipeInSync, FrontTaken}
+use Rattle.usb_pipe.specs.{Bulk, cleared, InPipeInSync, FrontTaken}
 use Rattle.usb_table.specs.declared.pipes.Pipes.{Pipes}
 use Rattle.usb_table.specs.declared.pipes.Pipes.TheVariants.{Hub, Function, Absent}
 use Rattle.usb_table.specs.Findings.{accepted_device_at}
 use Rattle.usb_table.specs.Levels.{FitsIn, PipesInSync}
-use Rattle.usb_table.specs.Table.{Table, pipes_at}
+use Rattle.usb_table.specs.Tables.{Table, pipes_at}
 
 -- the bulk pipes to what stands at a path
 abbrev pub pipe_out : Pipes → Option Bulk

@@ -4,15 +4,12 @@ use Rattle.std.specs.Prelude.{is_some, if◌then◌else◌}
 use Rattle.std.specs.BTreeMap.{is_at}
 use Rattle.std.specs.List.{count_by}
 use Rattle.std.specs.Map.{lookup}
-use Rattle.usb_port.specs.Order.{path_cmp}
-use Rattle.usb_descriptor.specs.Choice.{bulk_out_of, bulk_in_of}
-use Rattle.usb_enum.specs.declared.cause.Cause.{Cause}
+use Rattle.usb_port.specs.{path_cmp}
+use Rattle.usb_descriptor.specs.{bulk_out_of, bulk_in_of}
+use Rattle.usb_enum.specs.{Cause, Accepted, Finding, is_device, HasFacts, configuration_of}
 use Rattle.usb_enum.specs.declared.cause.Cause.TheVariants as cause
-use Rattle.usb_enum.specs.declared.finding.Accepted.{Accepted}
-use Rattle.usb_enum.specs.declared.finding.Finding.{Finding}
 use Rattle.usb_enum.specs.declared.finding.Finding.TheVariants.{Device, Refused}
-use Rattle.usb_enum.specs.Device.{is_device, HasFacts, configuration_of}
-use Rattle.usb_table.specs.Entries.{Entries}
+use Rattle.usb_table.specs.TableEntries.{Entries}
 
 -- the device descriptor is good, and a hub, and nothing else, has facts and a status endpoint
 pub record IsSoundDevice (device : Accepted) : Type 0 where

@@ -5,19 +5,18 @@ use Rattle.std.specs.BTreeMap.{is_at, insert_entry}
 use Rattle.std.specs.List.Sorted.{IsStrictlySortedBy}
 use Rattle.std.specs.Map.{keys_of, lookup, remove_entry}
 use Rattle.std.specs.Ordering.{nat_cmp}
-use Rattle.usb_port.specs.Order.{path_cmp}
-use Rattle.usb_enum.specs.declared.cause.Cause.TheVariants.{Silent}
-use Rattle.usb_enum.specs.declared.finding.Finding.{Finding}
+use Rattle.usb_port.specs.{path_cmp}
+use Rattle.usb_enum.specs.{Silent, Finding}
 use Rattle.usb_enum.specs.declared.finding.Finding.TheVariants.{Refused}
 use Rattle.usb_table.specs.declared.entry.Entry.{Entry}
 use Rattle.usb_table.specs.declared.indexes.Indexes.{Indexes}
 use Rattle.usb_table.specs.declared.pipes.Pipes.{Pipes}
 use Rattle.usb_table.specs.declared.pipes.Pipes.TheVariants.{Absent}
-use Rattle.usb_table.specs.Entries.{Entries}
+use Rattle.usb_table.specs.TableEntries.{Entries}
 use Rattle.usb_table.specs.Findings.{IsSoundFinding, address_found}
 use Rattle.usb_table.specs.KnownPorts.{is_below_hub}
-use Rattle.usb_table.specs.Pipes.{ArePipesOf}
-use Rattle.usb_table.specs.Table.{Table}
+use Rattle.usb_table.specs.TablePipes.{ArePipesOf}
+use Rattle.usb_table.specs.Tables.{Table}
 
 -- what stands under each key
 abbrev pub TableSlots : Type 0

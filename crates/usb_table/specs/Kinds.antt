@@ -2,7 +2,7 @@
 use Rattle.std.specs.Prelude.{ℕ, List, Bool, Option, Some, None}
 use Rattle.std.specs.declared.ops.Bound.{Bound}
 use Rattle.std.specs.declared.ops.Bound.TheVariants.{Excluded, Unbounded}
-use Rattle.usb_enum.specs.declared.finding.Finding.{Finding}
+use Rattle.usb_enum.specs.{Finding}
 use Rattle.usb_table.specs.declared.kind.Kind.{Kind}
 use Rattle.usb_table.specs.declared.kind.Kind.TheVariants.{Hub, Waiting}
 use Rattle.usb_table.specs.Findings.{is_hub, is_waiting}

@@ -3,20 +3,14 @@ use Rattle.std.specs.Prelude.{ℕ, ◌≤◌, List, length, Bool, true, false, O
 use Rattle.std.specs.Prelude.{nat_le, if◌then◌else◌}
 use Rattle.std.specs.BTreeMap.{is_at}
 use Rattle.std.specs.Map.{lookup}
-use Rattle.usb_port.specs.Order.{path_cmp, parent_of, port_on_hub}
-use Rattle.usb_port.specs.Path.{IsPortNumber}
-use Rattle.usb_resources.specs.Power.{supply_of}
-use Rattle.usb_transaction.specs.declared.target.Target.{Target}
-use Rattle.usb_transaction.specs.Transactions.{IsTarget}
-use Rattle.usb_hub.specs.declared.port.HubPort.{HubPort}
-use Rattle.usb_hub.specs.declared.port.HubPort.TheVariants.{Root, External}
-use Rattle.usb_enum.specs.declared.finding.Accepted.{Accepted}
-use Rattle.usb_enum.specs.declared.finding.Finding.{Finding}
+use Rattle.usb_port.specs.{path_cmp, parent_of, port_on_hub, IsPortNumber}
+use Rattle.usb_resources.specs.{supply_of}
+use Rattle.usb_transaction.specs.{Target, IsTarget}
+use Rattle.usb_hub.specs.{HubPort, Root, External}
+use Rattle.usb_enum.specs.{Accepted, Finding, HubFacts, target_of}
 use Rattle.usb_enum.specs.declared.finding.Finding.TheVariants.{Device, Refused}
-use Rattle.usb_enum.specs.declared.hub.HubFacts.{HubFacts}
-use Rattle.usb_enum.specs.Device.{target_of}
 use Rattle.usb_table.specs.declared.known.KnownPort.{KnownPort}
-use Rattle.usb_table.specs.Entries.{Entries}
+use Rattle.usb_table.specs.TableEntries.{Entries}
 
 -- the port is one of a hub other than the root
 abbrev pub is_below_hub : List ℕ → Bool

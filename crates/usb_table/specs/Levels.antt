@@ -4,36 +4,24 @@ use Rattle.std.specs.Prelude.{is_some, Result, IsOk, IfErr}
 use Rattle.std.specs.Global.{Vec}
 use Rattle.std.specs.BTreeMap.{is_at}
 use Rattle.arrayvec.specs.ArrayVec.{ArrayVec}
-use Rattle.usb_port.specs.Order.{path_cmp}
-use Rattle.usb_port.specs.PortState.{PortState}
-use Rattle.usb_device.specs.Bulk.{tells_changes, change_bits}
-use Rattle.usb_device.specs.Progress.{PollAt, NeverTold}
-use Rattle.usb_device.specs.Rows.{State}
-use Rattle.usb_device.specs.Tree.{Ports, full, row_of, place, reach, Location, path_to, reach_on}
-use Rattle.usb_device.specs.Tree.{state_on}
-use Rattle.usb_device.specs.View.{state_there}
-use Rattle.usb_world.specs.Devices.{EachWas}
-use Rattle.usb_world.specs.Steps.{at_attempt}
-use Rattle.usb_world.specs.World.{World}
-use Rattle.usb_bus.specs.Traces.{StepRun}
-use Rattle.usb_transaction.specs.Failures.{NoThreeDamaged, Listens}
-use Rattle.usb_transaction.specs.Transactions.{transaction_bound}
-use Rattle.usb_pipe.specs.Bulk.{Bulk}
-use Rattle.usb_pipe.specs.Control.{write_bound}
-use Rattle.usb_pipe.specs.Interrupt.{Interrupt}
-use Rattle.usb_pipe.specs.Leaves.{OutPipeInSync, InPipeInSync, PollTells}
-use Rattle.usb_pipe.specs.declared.fault.PipeFault.{PipeFault}
-use Rattle.usb_address.specs.Ownership.{MapHolds}
-use Rattle.usb_hub.specs.Requests.{TouchesNoPort}
-use Rattle.usb_hub.specs.CallFailures.{NoHubFailed}
-use Rattle.usb_enum.specs.declared.finding.Accepted.{Accepted}
-use Rattle.usb_enum.specs.Device.{target_of}
+use Rattle.usb_port.specs.{path_cmp, PortState}
+use Rattle.usb_device.specs.{tells_changes, change_bits, PollAt, NeverTold, State, Ports, full}
+use Rattle.usb_device.specs.{row_of, place, reach, Location, path_to, reach_on, state_on}
+use Rattle.usb_device.specs.{state_there}
+use Rattle.usb_world.specs.{EachWas, at_attempt, World}
+use Rattle.usb_bus.specs.{StepRun}
+use Rattle.usb_transaction.specs.{NoThreeDamaged, Listens, transaction_bound}
+use Rattle.usb_pipe.specs.{Bulk, write_bound, Interrupt, OutPipeInSync, InPipeInSync, PollTells}
+use Rattle.usb_pipe.specs.{PipeFault}
+use Rattle.usb_address.specs.{MapHolds}
+use Rattle.usb_hub.specs.{TouchesNoPort, NoHubFailed}
+use Rattle.usb_enum.specs.{Accepted, target_of}
 use Rattle.usb_table.specs.declared.pipes.Pipes.{Pipes}
 use Rattle.usb_table.specs.declared.pipes.Pipes.TheVariants.{Hub, Function, Absent}
 use Rattle.usb_table.specs.Findings.{accepted_device_at}
 use Rattle.usb_table.specs.KnownPorts.{is_below_hub}
 use Rattle.usb_table.specs.Listing.{entry_address}
-use Rattle.usb_table.specs.Table.{Table, pipes_at}
+use Rattle.usb_table.specs.Tables.{Table, pipes_at}
 use Rattle.usb_table.specs.declared.fault.EndpointFault.{EndpointFault}
 use Rattle.usb_table.specs.Transfers.{EndpointFaultAllowed, OnlyTransfers, PipesCleared}
 use Rattle.usb_table.specs.Transfers.{PipesPolled, PipesReceived, PipesSent, PollTook}

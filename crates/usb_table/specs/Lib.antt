@@ -1,5 +1,5 @@
 pub mod Deliveries
-pub mod Entries
+pub mod TableEntries
 pub mod Findings
 pub mod Keys
 pub mod Kinds
@@ -7,6 +7,45 @@ pub mod KnownPorts
 pub mod Levels
 pub mod Listing
 pub mod NextEntries
-pub mod Pipes
-pub mod Table
+pub mod TablePipes
+pub mod Tables
 pub mod Transfers
+-- the words of this crate, wherever one stands
+pub use Deliveries.{ChangesAt, Collected, Delivered, GaveBy, GaveBytes, HaltCleared, HaltClearedBy}
+pub use Deliveries.{HaltsCleared, JoinsSink, Restarted, TookBytes, TransfersAt, bytes_in, pipe_in}
+pub use Deliveries.{pipe_out}
+pub use TableEntries.{Entries, Replaced, Rises, has_at, is_at_or_below, without}
+pub use Findings.{HasDevice, HasNewAddress, HasNoDevice, IsSoundDevice, IsSoundFinding}
+pub use Findings.{accepted_device_at, accepted_device_of, address_found, at_full_speed, in_endpoint}
+pub use Findings.{is_hub, is_no_address, is_waiting, out_endpoint}
+unfoldable pub use Findings.{has_address}
+pub use Keys.{AddressKeys, AreIndexes, ArePiped, Enters, IsPiped, PathKeys, Slots, TableSlots}
+pub use Keys.{UpdatesAddress, address_in, entries_of, finding_under, findings, key_of_address}
+pub use Keys.{key_of_path, pipings, table_of, under, values_by_path, with_address, without_address}
+pub use Kinds.{fits, start_after}
+pub use KnownPorts.{IsAskable, IsPortOf, is_below_hub, known_port, port_below, port_found}
+pub use KnownPorts.{port_of_finding, port_of_hub, root_port}
+pub use Levels.{AllInSync, BitsOf, Call, FitsIn, FitsOut, HubTold, InSyncAt, IsHeld, IsListening}
+pub use Levels.{KeepsInSync, KeepsMoved, KeepsPolled, PipesInSync, SparesBulk, StatusPipeInSync}
+pub use Levels.{TableClears, TablePolls, TableReceives, TableSends, Transferred}
+pub use Listing.{IsFoundLike, IsLike, IsListedPort, IsPortBelow, Lists, ListsEach, ListsLike}
+pub use Listing.{Matches, NoneWaits, SpecTree, entry_address, finding_at, hub_facts_at}
+pub use Listing.{hub_facts_in, supply_at, supply_below, tier_of, tree_after, tree_in}
+pub use NextEntries.{ComesAfter, IsLast, IsNext, Stands}
+pub use TablePipes.{ArePipesIf, ArePipesOf, ArePipesTo, IsBulkPipe, IsPipe, IsStatusPipe, both_made}
+pub use TablePipes.{new_bulk, new_pipes, new_pipes_to, new_status, pipes_made}
+pub use Tables.{ArePipesAt, GoesThrough, Table, TakesOut, empty, entered, pipes_at, removed}
+pub use Transfers.{ClearedAfter, ClearedBy, ClearedIf, ClearedInOrder, ClearedInTurn}
+pub use Transfers.{ClearedThrough, EndpointFaultAllowed, KeepsSettings, NotPolled, NotTried}
+pub use Transfers.{OnlyTransfers, PipeDid, PipeFaultAllowed, PipesCleared, PipesPolled}
+pub use Transfers.{PipesReceived, PipesSent, PipesThrough, PollTook, PolledThrough, ReceivedBy}
+pub use Transfers.{ReceivedThrough, SameSettings, SentBy, SentThrough, ThroughIf, both_sides}
+pub use Transfers.{endpoint_answer, one_side}
+pub use declared.entry.Entry.{Entry}
+pub use declared.fault.EndpointFault.{EndpointFault}
+pub use declared.fault.EndpointFault.TheVariants.{NoDevice, NoEndpoint, Pipe}
+pub use declared.indexes.Indexes.{Indexes}
+pub use declared.known.KnownPort.{KnownPort}
+pub use declared.pipes.BulkPipes.{BulkPipes}
+pub use declared.pipes.Pipes.{Pipes}
+pub use declared.pipes.Pipes.TheVariants.{Absent, Function, Hub}

@@ -4,25 +4,15 @@ use Rattle.std.specs.Prelude.{IsSome, IfSome, IsSomeAnd, unwrap_or, option_map, 
 use Rattle.std.specs.Prelude.{true, false}
 use Rattle.std.specs.Map.{lookup}
 use Rattle.std.specs.BTreeMap.{is_at}
-use Rattle.usb_port.specs.Order.{path_cmp, parent_of, port_on_hub}
-use Rattle.usb_resources.specs.Pool.{IsAddress}
-use Rattle.usb_resources.specs.Power.{supply_of}
-use Rattle.usb_device.specs.Spec.{Spec}
-use Rattle.usb_device.specs.Tree.{reach}
-use Rattle.usb_device.specs.View.{state_there}
-use Rattle.usb_world.specs.PlanData.{PlanData}
-use Rattle.usb_world.specs.PluggedDevices.{device_indexed, index_at, plugged_by}
-use Rattle.usb_world.specs.PlanCourses.{spec_of}
-use Rattle.usb_world.specs.World.{World, roots_of}
-use Rattle.usb_enum.specs.declared.cause.Cause.{Cause}
-use Rattle.usb_enum.specs.declared.cause.Cause.TheVariants.{NoAddress}
-use Rattle.usb_enum.specs.declared.finding.Accepted.{Accepted}
-use Rattle.usb_enum.specs.declared.finding.Finding.{Finding}
+use Rattle.usb_port.specs.{path_cmp, parent_of, port_on_hub}
+use Rattle.usb_resources.specs.{IsAddress, supply_of}
+use Rattle.usb_device.specs.{Spec, reach, state_there}
+use Rattle.usb_world.specs.{PlanData, device_indexed, index_at, plugged_by, spec_of, World}
+use Rattle.usb_world.specs.{roots_of}
+use Rattle.usb_enum.specs.{Cause, NoAddress, Accepted, Finding, HubFacts, IsRight, IsSet}
+use Rattle.usb_enum.specs.{IsDisabledAt}
 use Rattle.usb_enum.specs.declared.finding.Finding.TheVariants.{Device, Refused}
-use Rattle.usb_enum.specs.declared.hub.HubFacts.{HubFacts}
-use Rattle.usb_enum.specs.Verdicts.{IsRight, IsSet}
-use Rattle.usb_enum.specs.Places.{IsDisabledAt}
-use Rattle.usb_table.specs.Entries.{Entries, Rises}
+use Rattle.usb_table.specs.TableEntries.{Entries, Rises}
 use Rattle.usb_table.specs.Findings.{accepted_device_of, accepted_device_at}
 use Rattle.usb_table.specs.Keys.{address_in}
 

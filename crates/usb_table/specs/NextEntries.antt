@@ -3,9 +3,9 @@ use Rattle.std.specs.Prelude.{◌≡◌, ◌≢◌, ⊤, ℕ, List, Bool, true, 
 use Rattle.std.specs.BTreeMap.{is_at}
 use Rattle.std.specs.Map.{lookup}
 use Rattle.std.specs.declared.cmp.Ordering.TheVariants.{Less}
-use Rattle.usb_port.specs.Order.{path_cmp}
-use Rattle.usb_enum.specs.declared.finding.Finding.{Finding}
-use Rattle.usb_table.specs.Entries.{Entries}
+use Rattle.usb_port.specs.{path_cmp}
+use Rattle.usb_enum.specs.{Finding}
+use Rattle.usb_table.specs.TableEntries.{Entries}
 
 -- the path comes after the last one, where there is one
 abbrev pub ComesAfter : Option (List ℕ) → List ℕ → Type 0

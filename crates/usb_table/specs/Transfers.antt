@@ -1,23 +1,19 @@
 -- What transfers to the devices of the table leave.
-use Rattle.usb_device.specs.Tree.{Location}
+use Rattle.usb_device.specs.{Location, State}
 use Rattle.std.specs.Prelude.{◌≡◌, ⊤, ℕ, ◌*◌, List, length, Bool, true, false, not, ◌||◌, Option}
 use Rattle.std.specs.Prelude.{Some, None, is_some, Result, Ok, Err, IfSome, MatchResult}
 use Rattle.std.specs.Global.{Vec}
 use Rattle.std.specs.Int.{div_ceil}
 use Rattle.arrayvec.specs.ArrayVec.{ArrayVec}
-use Rattle.usb_device.specs.Rows.{State}
-use Rattle.usb_world.specs.Devices.{EachWas}
-use Rattle.usb_tree.specs.AttemptPackets.{IsSettled}
-use Rattle.usb_world.specs.World.{World, AttemptsWithin, Failed}
-use Rattle.usb_transaction.specs.Transactions.{AttemptsMade, transaction_bound}
-use Rattle.usb_pipe.specs.Control.{FaultAfter, write_bound}
-use Rattle.usb_pipe.specs.Bulk.{Bulk, Sends, Receives, Clears}
-use Rattle.usb_pipe.specs.Interrupt.{Interrupt, Polls}
-use Rattle.usb_pipe.specs.declared.fault.PipeFault.{PipeFault}
+use Rattle.usb_world.specs.{EachWas, World, AttemptsWithin, Failed}
+use Rattle.usb_tree.specs.{IsSettled}
+use Rattle.usb_transaction.specs.{AttemptsMade, transaction_bound}
+use Rattle.usb_pipe.specs.{FaultAfter, write_bound, Bulk, Sends, Receives, Clears, Interrupt, Polls}
+use Rattle.usb_pipe.specs.{PipeFault}
 use Rattle.usb_pipe.specs.declared.fault.PipeFault.TheVariants as pipe
-use Rattle.usb_address.specs.Ownership.{KeepsAddresses}
-use Rattle.usb_backlog.specs.Marks.{KeepsAll}
-use Rattle.usb_hub.specs.Requests.{TouchesNoPort}
+use Rattle.usb_address.specs.{KeepsAddresses}
+use Rattle.usb_backlog.specs.{KeepsAll}
+use Rattle.usb_hub.specs.{TouchesNoPort}
 use Rattle.usb_table.specs.declared.fault.EndpointFault.{EndpointFault}
 use Rattle.usb_table.specs.declared.fault.EndpointFault.TheVariants.{NoDevice, NoEndpoint, Pipe}
 use Rattle.usb_table.specs.declared.pipes.BulkPipes.{BulkPipes}

@@ -1,7 +1,7 @@
 //! What stands at a port, with the host's pipes to it.
 ghost use Rattle.std.specs.Prelude.{◌≡◌};
 ghost use Rattle.usb_table.specs.Findings.{IsSoundFinding};
-ghost use Rattle.usb_table.specs.Pipes.{ArePipesOf, new_pipes};
+ghost use Rattle.usb_table.specs.TablePipes.{ArePipesOf, new_pipes};
 
 use crate::pipes::{Pipes, pipes_to};
 use usb_enum::Finding;

@@ -2,7 +2,7 @@
 ghost use Rattle.std.specs.Prelude.{◌≡◌, Some, None, IfSome, IfNone, IsSome, OnOk, OnErr};
 ghost use Rattle.std.specs.Prelude.{false, true};
 ghost use Rattle.std.specs.List.{list_any};
-ghost use Rattle.usb_table.specs.Entries.{is_at_or_below};
+ghost use Rattle.usb_table.specs.TableEntries.{is_at_or_below};
 ghost use Rattle.usb_table.specs.Keys.{key_of_path, key_of_address};
 ghost use Rattle.usb_table.specs.Keys.{with_address, without_address, UpdatesAddress, Enters};
 

@@ -2,11 +2,11 @@
 //!
 //! Each call does nothing; what it ensures is for proofs to cite.
 ghost use Rattle.std.specs.Prelude.{ℕ};
-ghost use Rattle.usb_world.specs.PlanData.{PlanData, IsPlan};
+ghost use Rattle.usb_world.specs.Plans.{PlanData, IsPlan};
 ghost use Rattle.usb_world.specs.PlanCourses.{AtPorts};
 ghost use Rattle.usb_world.specs.Steps.{AnyStep, Course, opening};
-ghost use Rattle.usb_world.specs.World.{World};
-ghost use Rattle.usb_table.specs.Entries.{Entries};
+ghost use Rattle.usb_world.specs.Worlds.{World};
+ghost use Rattle.usb_table.specs.TableEntries.{Entries};
 ghost use Rattle.usb_table.specs.Listing.{SpecTree, tree_after, Lists, ListsLike, Matches, NoneWaits};
 
 /// Two right listings of what is plugged list the same findings at the same paths, but for the

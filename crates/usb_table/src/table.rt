@@ -4,14 +4,14 @@ ghost use Rattle.std.specs.Prelude.{IfSome, IfNone, IfOk, IfErr, OnOk, OnErr};
 ghost use Rattle.std.specs.BTreeMap.{is_at};
 ghost use Rattle.std.specs.Map.{lookup};
 ghost use Rattle.usb_port.specs.Order.{path_cmp};
-ghost use Rattle.usb_table.specs.Entries.{Rises, has_at};
+ghost use Rattle.usb_table.specs.TableEntries.{Rises, has_at};
 ghost use Rattle.usb_table.specs.Findings.{IsSoundFinding, is_hub, is_waiting};
 ghost use Rattle.usb_table.specs.Findings.{HasNewAddress, HasDevice, HasNoDevice};
 ghost use Rattle.usb_table.specs.Kinds.{fits};
 ghost use Rattle.usb_table.specs.KnownPorts.{IsAskable, known_port};
 ghost use Rattle.usb_table.specs.NextEntries.{IsNext, IsLast};
-ghost use Rattle.usb_table.specs.Table.{ArePipesAt, GoesThrough, TakesOut};
-ghost use Rattle.usb_table.specs.Table.{empty, entered};
+ghost use Rattle.usb_table.specs.Tables.{ArePipesAt, GoesThrough, TakesOut};
+ghost use Rattle.usb_table.specs.Tables.{empty, entered};
 ghost use Rattle.usb_table.specs.Levels.{TablePolls, TableSends, TableReceives, TableClears};
 
 use crate::entry::Entry;
@@ -41,7 +41,7 @@ pub struct DeviceTable {
 
 impl Model for DeviceTable {
     ghost use Rattle.slab.specs.Slab.{get};
-    ghost use Rattle.usb_table.specs.Table.{Table};
+    ghost use Rattle.usb_table.specs.Tables.{Table};
 
     ghost Value = { Table };
 

@@ -2,7 +2,7 @@
 use Rattle.std.proofs.Common.{◌≡◌, ◌∙◌, ap, suc, zero, arith, ℕ, ◌+◌, ◌<◌, List, [], ◌∷◌, ◌++◌}
 use Rattle.std.proofs.Common.{length, take, get_or}
 use Rattle.std.specs.Prelude.{◌==◌}
-use Rattle.usb_text.specs.ListingLines.{config_line, config_lines}
+use Rattle.usb_text.specs.{config_line, config_lines}
 
 -- the lines up to a text, and that text's line
 pub config_lines-take : (path : List ℕ) (index chosen : ℕ) (texts : List (List ℕ)) (i : ℕ)

@@ -2,7 +2,7 @@
 use Rattle.std.proofs.Common.{◌≡◌, ◌<◌, ◌/◌, ◌%◌, ◌∙◌, ℕ, List, [], ◌∷◌, ◌++◌, length, slice_index}
 use Rattle.std.proofs.Common.{refl, ap, sym, arith, append_assoc, append-nil}
 use Rattle.hex.specs.Hex.{encode_with, encode_upper, upper_digits}
-use Rattle.usb_packet.specs.Text.{hex_text}
+use Rattle.usb_packet.specs.{hex_text}
 
 encode_upper-append : (xs ys : List ℕ) → encode_upper (xs ++ ys) ≡ encode_upper xs ++ encode_upper
     ys

@@ -1,9 +1,7 @@
 -- What the program prints for a packet that is written in hexadecimal digits.
 use Rattle.std.specs.Prelude.{◌≡◌, ℕ, List, [], ◌∷◌, ◌++◌, Ok, is_err, true}
 use Rattle.hex.specs.Hex.{decode_of, encode_upper}
-use Rattle.usb_packet.specs.declared.Packet.{Packet}
-use Rattle.usb_packet.specs.Spelling.{Spells, Faults}
-use Rattle.usb_packet.specs.Text.{text_of}
+use Rattle.usb_packet.specs.{Packet, Spells, Faults, text_of}
 use Rattle.usb_text.specs.declared.line.LineFault.{LineFault}
 use Rattle.usb_text.specs.declared.line.LineFault.TheVariants.{BadHex, Packet as PacketRefused}
 use Rattle.usb_text.specs.declared.line.LineFault.TheVariants.{Memory}

@@ -2,18 +2,12 @@
 use Rattle.std.specs.Prelude.{ℕ, ◌+◌, ◌/◌, ◌%◌, ◌==◌, ◌&&◌, not, nat_le, Bool, List, [], ◌∷◌, ◌++◌}
 use Rattle.std.specs.Prelude.{Option, None, Some, codes, decimal, flat_map, if◌then◌else◌}
 use Rattle.hex.specs.Hex.{encode_upper}
-use Rattle.usb_packet.specs.Text.{hex_text}
-use Rattle.usb_port.specs.Path.{path_text}
-use Rattle.usb_enum.specs.declared.cause.Cause.{Cause}
-use Rattle.usb_enum.specs.declared.cause.Cause.TheVariants.{Silent, Busy, Stalled, BadDevice}
-use Rattle.usb_enum.specs.declared.cause.Cause.TheVariants.{TooDeep, BadConfiguration, NoPower}
-use Rattle.usb_enum.specs.declared.cause.Cause.TheVariants.{BadHub, Lost, NoAddress}
-use Rattle.usb_enum.specs.declared.cause.Request.{Request}
+use Rattle.usb_packet.specs.{hex_text}
+use Rattle.usb_port.specs.{path_text}
+use Rattle.usb_enum.specs.{Cause, Silent, Busy, Stalled, BadDevice, TooDeep, BadConfiguration}
+use Rattle.usb_enum.specs.{NoPower, BadHub, Lost, NoAddress, Request, Accepted, Finding, HubFacts}
 use Rattle.usb_enum.specs.declared.cause.Request.TheVariants as request
-use Rattle.usb_enum.specs.declared.finding.Accepted.{Accepted}
-use Rattle.usb_enum.specs.declared.finding.Finding.{Finding}
 use Rattle.usb_enum.specs.declared.finding.Finding.TheVariants.{Device, Refused}
-use Rattle.usb_enum.specs.declared.hub.HubFacts.{HubFacts}
 
 unfoldable pub speed_word : Bool → List ℕ
 speed_word low = if low then codes "low" else codes "full"

@@ -1,37 +1,21 @@
 -- Address losses over a transaction, seen from the device at the target's address.
-use Rattle.usb_device.specs.Tree.{Location}
+use Rattle.usb_device.specs.{Location, Registers, Stage, ending, State, ends_with_address}
 use Rattle.std.proofs.Common.{◌≡◌, ◌≢◌, ℕ, true, false, List, [], Some, Result, Ok, Err, refl, sym}
 use Rattle.std.proofs.Common.{subst, ap, ◌∙◌}
-use Rattle.usb_packet.specs.declared.Toggle.{Toggle}
-use Rattle.usb_packet.specs.declared.Toggle.TheVariants.{One}
-use Rattle.usb_request.specs.Layout.{setup_of}
-use Rattle.usb_device.specs.Tree.{Location}
-use Rattle.usb_device.specs.declared.request.Registers.{Registers}
-use Rattle.usb_device.specs.Transfer.{Stage, ending}
-use Rattle.usb_device.specs.Rows.{State, ends_with_address}
-use Rattle.usb_world.specs.declared.types.Attempt.{Attempt}
-use Rattle.usb_world.specs.declared.types.Outcome.{Outcome}
+use Rattle.usb_packet.specs.{Toggle, One}
+use Rattle.usb_request.specs.{setup_of}
+use Rattle.usb_world.specs.{Attempt, Outcome, TookOrLost, took, lost as lost_it, one_more, IsMade}
+use Rattle.usb_world.specs.{World, attempt, after, outcome_in, Relation, EachWas}
 use Rattle.usb_world.specs.declared.types.Outcome.TheVariants.{Payload}
-use Rattle.usb_world.specs.Losses.{TookOrLost, took, lost as lost_it, one_more}
-use Rattle.usb_tree.specs.AttemptPackets.{IsSettled}
-use Rattle.usb_world.specs.OneHolder.{IsMade}
-use Rattle.usb_world.specs.World.{World}
-use Rattle.usb_world.specs.Steps.{attempt, after, outcome_in}
-use Rattle.usb_world.specs.Devices.{Relation, EachWas}
+use Rattle.usb_tree.specs.{IsSettled}
 use Rattle.usb_world.proofs.Interface.{CountsNone, Counts, EndsWithAddress, StaysEndless, brings}
 use Rattle.usb_world.proofs.Interface.{each_counts, got_it, got_none, in_counts, made_of}
 use Rattle.usb_world.proofs.Interface.{out_counts, set_up_counts}
 use Rattle.usb_tree.proofs.Interface.{false_true, not-true}
-use Rattle.usb_transaction.specs.declared.target.Target.{Target}
-use Rattle.usb_transaction.specs.declared.fault.TransFault.{TransFault}
-use Rattle.usb_transaction.specs.declared.fault.TransFault.TheVariants.{Stalled, Busy, NoAnswer}
-use Rattle.usb_transaction.specs.declared.fault.TransFault.TheVariants.{Bus}
-use Rattle.usb_transaction.specs.HeardOutcomes.{heard_as}
-use Rattle.usb_transaction.specs.Leaves.{is_at}
-use Rattle.usb_transaction.specs.Losses.{begins_no_stretch, LossesIn, LosesNone}
-use Rattle.usb_transaction.specs.AttemptLog.{AttemptLog, start, next, IsNoEnd, LastOutcome}
-use Rattle.usb_transaction.specs.AttemptLog.{TransactionDone}
-use Rattle.usb_transaction.specs.Transactions.{packed, setup_attempt, in_attempt, out_attempt}
+use Rattle.usb_transaction.specs.{Target, TransFault, Stalled, Busy, NoAnswer, Bus, heard_as, is_at}
+use Rattle.usb_transaction.specs.{begins_no_stretch, LossesIn, LosesNone, AttemptLog, start, next}
+use Rattle.usb_transaction.specs.{IsNoEnd, LastOutcome, TransactionDone, packed, setup_attempt}
+use Rattle.usb_transaction.specs.{in_attempt, out_attempt}
 use Rattle.usb_transaction.proofs.DeviceRuns.{Any, EachIf, IsEnd, RunThrough, at_end, at_from}
 use Rattle.usb_transaction.proofs.DeviceRuns.{each_device, over_last, tells_end}
 use Rattle.usb_transaction.proofs.LastOutcomes.{read_last}
@@ -143,10 +127,8 @@ module _ (t : Target) (result : Result (List ℕ) TransFault) {old new : World} 
   fits outcomes w u i (got_it o e) c is =
       (λ bytes r. took_from w u i is e, λ fault r. absurd (unended fault outcomes (rw (r, o) at c)))
   fits outcomes w u i (got_none o g r l) c is = (
-    λ bytes q. false_true (sym o ∙ ap brings
-        (read_last One (outcome_in a w) bytes (rw q at c).0)),
-    λ fault q. ap (λ y. y.losses) is
-        ∙ l ∙ i.2,
+    λ bytes q. false_true (sym o ∙ ap brings (read_last One (outcome_in a w) bytes (rw q at c).0)),
+    λ fault q. ap (λ y. y.losses) is ∙ l ∙ i.2,
   )
 
   ends_lost : Fits v
@@ -165,13 +147,11 @@ in_losses t result old new settled e single =
     each_device _ (LossesIn t result old new) old new
     (λ j s v x. record {
       done = λ at n stage. (ends_lost t result x at n stage).0;
-      failed =
-          λ at n stage. (ends_lost t result x at n stage).1;
+      failed = λ at n stage. (ends_lost t result x at n stage).1;
       none = none_lost t x;
     })
     (over t old settled single (Answers result) e (
-      tells_end (heard_as One) result e.last e.outcomes
-          e.onward e.tells,
+      tells_end (heard_as One) result e.last e.outcomes e.onward e.tells,
       e.tells,
     ))
 

@@ -1,48 +1,34 @@
 -- Bulk endpoints over a transaction: what IN and OUT leave of them, and why one fails.
-use Rattle.usb_device.specs.Tree.{Location}
+use Rattle.usb_device.specs.{Location, advanced, turned, State, Reply, forgotten, rest_of, sunk}
+use Rattle.usb_device.specs.{sink_row, data_row, Way, is_whole, heard, gave, in_law, out_law}
+use Rattle.usb_device.specs.{taken_of, IsSource, SourceAt, SourceOn, OnlySource, IsSink, SinkAt}
+use Rattle.usb_device.specs.{level, ahead, Joined, OnlySink}
 use Rattle.std.proofs.Common.{◌≡◌, inl, inr, ℕ, ◌+◌, ◌<◌, ◌≤◌, ◌==◌, nat_le, nat_lt, if◌then◌else◌}
 use Rattle.std.proofs.Common.{Bool, true, false, List, ◌∷◌, ◌++◌, length, take, drop, Option, None}
 use Rattle.std.proofs.Common.{Some, Result, Ok, Err, refl, sym, subst, ap, ◌∙◌, arith, length-drop}
 use Rattle.std.proofs.lemmas.List.{length-take}
 use Rattle.std.proofs.lemmas.Bool.Decides.{nat_tests}
 use Rattle.arrayvec.specs.ArrayVec.{ArrayVec}
-use Rattle.usb_packet.specs.declared.Toggle.{Toggle}
-use Rattle.usb_port.specs.PortState.{PortState}
+use Rattle.usb_packet.specs.{Toggle, other, is_same}
+use Rattle.usb_port.specs.{PortState}
 use Rattle.usb_device.specs.declared.answer.Answer.TheVariants as answer
 use Rattle.usb_device.specs.declared.transfer.InEndpoint.TheVariants as by
 use Rattle.usb_device.specs.declared.transfer.RememberedPacket.TheVariants as memory
-use Rattle.usb_packet.specs.Toggles.{other, is_same}
-use Rattle.usb_device.specs.Bulk.{advanced, turned}
-use Rattle.usb_device.specs.Rows.{State, Reply, forgotten, rest_of, sunk, sink_row, data_row}
-use Rattle.usb_device.specs.Attempt.{Way, whole, is_whole, heard, gave, in_law, out_law}
-use Rattle.usb_device.specs.Progress.{taken_of, IsSource, SourceAt, SourceOn, OnlySource, IsSink}
-use Rattle.usb_device.specs.Progress.{SinkAt, level, ahead, Joined, OnlySink}
+use Rattle.usb_device.specs.Attempt.{whole}
 use Rattle.usb_device.proofs.Interface.{bulk_law_is, is_same-refl, other_toggle, other-other}
 use Rattle.usb_device.proofs.Interface.{same_number, source_on}
-use Rattle.usb_world.specs.declared.types.Attempt.{Attempt}
-use Rattle.usb_world.specs.declared.types.Outcome.{Outcome}
-use Rattle.usb_world.specs.Devices.{Relation, Was, EachWas, DidIn, DidOut}
-use Rattle.usb_world.specs.OneHolder.{got}
-use Rattle.usb_tree.specs.AttemptPackets.{IsSettled}
-use Rattle.usb_world.specs.Steps.{attempt, after, outcome_in, damage_in}
-use Rattle.usb_world.specs.World.{World, Made}
+use Rattle.usb_world.specs.{Attempt, Outcome, Relation, Was, EachWas, DidIn, DidOut, got, attempt}
+use Rattle.usb_world.specs.{after, outcome_in, damage_in, World, Made}
+use Rattle.usb_tree.specs.{IsSettled}
 use Rattle.usb_world.proofs.Interface.{remembers, settled_memory}
 use Rattle.usb_tree.proofs.Interface.{decided, false_true}
-use Rattle.usb_transaction.specs.declared.target.Target.{Target}
-use Rattle.usb_transaction.specs.declared.heard_outcome.HeardOutcome.{HeardOutcome}
-use Rattle.usb_transaction.specs.declared.heard_outcome.HeardOutcome.TheVariants.{Moved, NotReady}
-use Rattle.usb_transaction.specs.declared.heard_outcome.HeardOutcome.TheVariants.{Repeat, Refused}
-use Rattle.usb_transaction.specs.declared.heard_outcome.HeardOutcome.TheVariants.{Lost}
-use Rattle.usb_transaction.specs.declared.fault.TransFault.{TransFault}
-use Rattle.usb_transaction.specs.declared.fault.TransFault.TheVariants.{Stalled, Busy, NoAnswer}
-use Rattle.usb_transaction.specs.declared.fault.TransFault.TheVariants.{Bus}
-use Rattle.usb_transaction.specs.Failures.{NoThreeDamaged, Listens, SourceInFailure, SinkOutFailure}
-use Rattle.usb_transaction.specs.HeardOutcomes.{heard_as, heard_when_sent}
-use Rattle.usb_transaction.specs.Leaves.{is_at, SourceCut, none_came, one_came, SourceEnds}
-use Rattle.usb_transaction.specs.Leaves.{SourceIn, SourceBetween, SinkEnds, SinkOut, SinkBetween}
-use Rattle.usb_transaction.specs.AttemptLog.{AttemptLog, waits_with, waits_in, IsNoEnd, KeepsTrying}
-use Rattle.usb_transaction.specs.AttemptLog.{TransactionDone, Transacted}
-use Rattle.usb_transaction.specs.Transactions.{in_attempt, out_attempt, packed}
+use Rattle.usb_transaction.specs.{Target, HeardOutcome, Moved, NotReady, Repeat, Refused, Lost}
+use Rattle.usb_transaction.specs.{TransFault, Stalled, Busy, NoAnswer, Bus, NoThreeDamaged, Listens}
+use Rattle.usb_transaction.specs.{SourceInFailure, SinkOutFailure, heard_as, heard_when_sent, is_at}
+use Rattle.usb_transaction.specs.{SourceCut, none_came, one_came, SourceEnds, SourceIn}
+use Rattle.usb_transaction.specs.{SourceBetween, SinkEnds, SinkOut, SinkBetween, AttemptLog}
+use Rattle.usb_transaction.specs.{waits_with, waits_in, IsNoEnd, KeepsTrying, TransactionDone}
+use Rattle.usb_transaction.specs.{Transacted, in_attempt, out_attempt, packed}
 use Rattle.usb_transaction.proofs.DeviceRuns.{Any, EachIf, IsEnd, IsOfBus, RunThrough, asked_in}
 use Rattle.usb_transaction.proofs.DeviceRuns.{delivered_out, at_end, each_device, heeded, in_others}
 use Rattle.usb_transaction.proofs.DeviceRuns.{listens_on, of_bus, out_others, over_in}
@@ -57,8 +43,7 @@ use Rattle.usb_transaction.proofs.Trails.{run_short}
 abbrev stepped : ℕ → State → Bool → State
 stepped most s came = if came then record s {
   memory = memory.Nothing;
-  place =
-      advanced s.place most (length s.spec.source);
+  place = advanced s.place most (length s.spec.source);
   bulk_in = turned s.bulk_in;
 } else s
 
@@ -251,8 +236,7 @@ module _ (t : Target) (ep : ℕ) (awaited : Toggle) where
     others = away;
     frame = λ most i. elim (decided (is_at s t)) [
       | inl h ↦ (left h most i).0
-      | inr h ↦
-          subst (OnlySource s) (sym (away h)) refl
+      | inr h ↦ subst (OnlySource s) (sym (away h)) refl
     ];
     source = λ h most n i. (left h most i).1 n;
     stalled = λ h most i. (left h most i).2;
@@ -368,8 +352,7 @@ module _ (t : Target) (ep : ℕ) (awaited : Toggle) (old : World) (three : NoThr
       (λ outcomes w u y trail made so d n.
       let g = did_in t ep awaited most w j u y d so.0.0.at so.0.1 in (
         stays_in t ep g so.0,
-        subst (λ z. had < length z.source) (sym (ap (λ z. z.spec) (kept g).0))
-            so.1,
+        subst (λ z. had < length z.source) (sym (ap (λ z. z.spec) (kept g).0)) so.1,
         next_stands had (waits_in (heard_as awaited) outcomes) w trail made
             (λ e. (e, so.0.0)) m so.1 g n so.2,
       ))
@@ -592,8 +575,7 @@ module _ (t : Target) (ep : ℕ) (toggle : Toggle) (bytes : List ℕ) where
     others = away;
     frame = λ most i. elim (decided (is_at s t)) [
       | inl h ↦ (left h most i).0
-      | inr h ↦
-          subst (OnlySink s) (sym (away h)) refl
+      | inr h ↦ subst (OnlySink s) (sym (away h)) refl
     ];
     sink = λ h most before i fits. (left h most i).1 before;
     halted = λ h most i c. (left h most i).2 c rests;

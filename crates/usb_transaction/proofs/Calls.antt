@@ -3,45 +3,33 @@
 use Rattle.std.proofs.Common.{◌≡◌, ◌≢◌, ◌⊎◌, inl, inr, ℕ, Bool, true, false, ◌&&◌, List, ◌∷◌}
 use Rattle.std.proofs.Common.{length, None, Some, Ok, Err, if◌then◌else◌, refl, sym, subst, ap, ◌∙◌}
 use Rattle.std.proofs.Common.{arith, ◌≤◌, [], Option, Result}
-use Rattle.usb_packet.specs.declared.Toggle.{Toggle}
-use Rattle.usb_request.specs.Layout.{setup_of}
-use Rattle.usb_device.specs.declared.answer.Answer.{Answer}
+use Rattle.usb_packet.specs.{Toggle, One}
+use Rattle.usb_request.specs.{setup_of}
+use Rattle.usb_device.specs.{Answer, Way, is_whole, heard, State, Reply, accepted, forgotten}
+use Rattle.usb_device.specs.{row_of, Location, reach_on, state_on}
 use Rattle.usb_device.specs.declared.answer.Answer.TheVariants as answer
-use Rattle.usb_device.specs.Attempt.{Way, is_whole, heard}
-use Rattle.usb_device.specs.Rows.{State, Reply, accepted, forgotten}
-use Rattle.usb_device.specs.Tree.{row_of, Location, reach_on, state_on}
-use Rattle.usb_world.specs.declared.types.Attempt.{Attempt}
-use Rattle.usb_world.specs.declared.types.Outcome.{Outcome}
+use Rattle.usb_world.specs.{Attempt, Outcome, is_harmless, IsMade, AttemptAnswerer, IsSetup, got}
+use Rattle.usb_world.specs.{hears_attempt, token_way, payload_way, answer_way, World, at_attempt}
+use Rattle.usb_world.specs.{damage_in, outcome_in, with_attempt, attempt, after, Course, here, Was}
+use Rattle.usb_world.specs.{DidIn, DidOut, EachWas}
 use Rattle.usb_world.specs.declared.types.Outcome.TheVariants as outcome
-use Rattle.usb_tree.specs.Paths.{address_of}
-use Rattle.usb_tree.specs.AttemptPackets.{IsSettled, deep_at}
-use Rattle.usb_world.specs.Courses.{is_harmless}
-use Rattle.usb_world.specs.OneHolder.{IsMade, AttemptAnswerer, IsSetup, got, hears_attempt}
-use Rattle.usb_world.specs.OneHolder.{token_way, payload_way, answer_way}
-use Rattle.usb_world.specs.World.{World}
-use Rattle.usb_world.specs.Steps.{at_attempt, damage_in, outcome_in, with_attempt, attempt, after}
-use Rattle.usb_world.specs.Steps.{Course, here}
-use Rattle.usb_world.specs.Devices.{Was, DidIn, DidOut, EachWas}
+use Rattle.usb_tree.specs.{address_of, IsSettled, deep_at}
 use Rattle.usb_world.proofs.Interface.{course_then, due_back, each_in, each_out, given_by}
 use Rattle.usb_world.proofs.Interface.{got_given, holder_in, in_in, is_state, made_is, made_of}
 use Rattle.usb_world.proofs.Interface.{made_unshared, one_answers, out_in, setup_in, setup_sound_in}
 use Rattle.usb_world.proofs.Interface.{stands, state_stands, stays_reachable_in, third, each_beside}
 use Rattle.usb_tree.proofs.Interface.{decided, equal_same, same_equal}
-use Rattle.usb_transaction.specs.declared.target.Target.{Target}
-use Rattle.usb_transaction.specs.declared.fault.TransFault.{TransFault}
-use Rattle.usb_transaction.specs.declared.fault.TransFault.TheVariants.{Stalled, Busy, NoAnswer}
-use Rattle.usb_transaction.specs.declared.fault.TransFault.TheVariants.{Bus}
-use Rattle.usb_transaction.specs.declared.heard_outcome.HeardOutcome.{HeardOutcome}
-use Rattle.usb_transaction.specs.declared.heard_outcome.HeardOutcome.TheVariants.{Lost, Moved}
-use Rattle.usb_transaction.specs.Answerer.{Answerer, HadOne, IsAnswer}
-use Rattle.usb_transaction.specs.HeardOutcomes.{heard_as, polled_as, heard_when_sent, set_up_as}
-use Rattle.usb_transaction.specs.Leaves.{is_at, ControlIn, ReadStatus, SourceIn, SinkOut, ChangesIn}
-use Rattle.usb_transaction.specs.AskedDevices.{AskedLast, SetupAccepted, Answered, Took, IsUnheard}
-use Rattle.usb_transaction.specs.AttemptLog.{AttemptLog, start, next, waits_with, waits_in, IsNoEnd}
-use Rattle.usb_transaction.specs.AttemptLog.{KeepsTrying, TransactionDone, Transacted, Waiting}
-use Rattle.usb_transaction.specs.AttemptLog.{Polled}
-use Rattle.usb_transaction.specs.Transactions.{packed, setup_attempt, in_attempt, out_attempt}
-use Rattle.usb_transaction.specs.Transactions.{SetupEnds}
+use Rattle.usb_transaction.specs.{Target, TransFault, Stalled, Busy, NoAnswer, Bus, HeardOutcome}
+use Rattle.usb_transaction.specs.{Lost, Moved, Answerer, HadOne, IsAnswer, heard_as, polled_as}
+use Rattle.usb_transaction.specs.{heard_when_sent, set_up_as, is_at, ControlIn, ReadStatus}
+use Rattle.usb_transaction.specs.{SourceIn, SinkOut, ChangesIn, AskedLast, SetupAccepted, Answered}
+use Rattle.usb_transaction.specs.{Took, IsUnheard, AttemptLog, start, next, waits_with, waits_in}
+use Rattle.usb_transaction.specs.{IsNoEnd, KeepsTrying, TransactionDone, Transacted, Waiting}
+use Rattle.usb_transaction.specs.{Polled, packed, setup_attempt, in_attempt, out_attempt, SetupEnds}
+use Rattle.usb_transaction.specs.{IsUnhindered, MeansOfSetup, SetsUp, InLeaves, InFailure}
+use Rattle.usb_transaction.specs.{MeansOfIn, AsksIn, OutLeaves, OutFailure, MeansOfOut, SendsOut}
+use Rattle.usb_transaction.specs.{PollsIn, ControlInFailure, StatusReadFailure, SourceInFailure}
+use Rattle.usb_transaction.specs.{SinkOutFailure}
 use Rattle.usb_transaction.proofs.DeviceRuns.{Deeds, EachIf, Run, had_address, in_others, more}
 use Rattle.usb_transaction.proofs.DeviceRuns.{none, out_others, over_trail}
 use Rattle.usb_transaction.proofs.LastOutcomes.{read_last, sent_last, set_up_last, sent_empty}
@@ -50,12 +38,6 @@ use Rattle.usb_transaction.proofs.SetupTransactions.{SetupResult, accepting, set
 use Rattle.usb_transaction.proofs.SetupTransactions.{setup_leaves}
 use Rattle.usb_transaction.proofs.Trails.{few_waits, last_erred, trail_settled, ended_of}
 use Rattle.std.specs.Prelude.{IfOk, IfSome, OnOk}
-use Rattle.usb_packet.specs.declared.Toggle.TheVariants.{One}
-use Rattle.usb_transaction.specs.Calls.{IsUnhindered, MeansOfSetup, SetsUp, InLeaves, InFailure}
-use Rattle.usb_transaction.specs.Calls.{MeansOfIn, AsksIn, OutLeaves, OutFailure, MeansOfOut}
-use Rattle.usb_transaction.specs.Calls.{SendsOut, PollsIn}
-use Rattle.usb_transaction.specs.Failures.{ControlInFailure, StatusReadFailure, SourceInFailure}
-use Rattle.usb_transaction.specs.Failures.{SinkOutFailure}
 use Rattle.usb_transaction.proofs.BulkTransactions.{sink_leaves, sink_why, source_leaves}
 use Rattle.usb_transaction.proofs.BulkTransactions.{source_why}
 use Rattle.usb_transaction.proofs.ControlTransactions.{control_in_why, control_leaves}
@@ -84,8 +66,7 @@ last_attempt {a} {old} settled (next {outcomes = os} w t made) h =
       before = t;
       is_last = refl;
       came = refl;
-      made =
-          made_of a w (trail_settled t settled) made;
+      made = made_of a w (trail_settled t settled) made;
       single = h;
     }
 
@@ -325,8 +306,7 @@ module _ (t : Target) (a : Attempt) (its : a.addr ≡ t.addr) (Did : Deeds)
         omega (
           arith,
           few_waits hear e.outcomes e.onward,
-          sym (ap (λ h. waits_with h (waits_in hear e.outcomes)) (ap hear n ∙ lost))
-              ∙ e.tells,
+          sym (ap (λ h. waits_with h (waits_in hear e.outcomes)) (ap hear n ∙ lost)) ∙ e.tells,
         )))
     fault_had NoAnswer y e = absurd y
     fault_had (Bus fault) y e = absurd y

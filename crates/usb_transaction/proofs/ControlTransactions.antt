@@ -3,48 +3,33 @@
 use Rattle.std.proofs.Common.{◌≡◌, ◌≢◌, ◌⊎◌, inl, inr, ℕ, ◌+◌, ◌-◌, ◌<◌, ◌≤◌, nat_le, ◌&&◌}
 use Rattle.std.proofs.Common.{if◌then◌else◌, Bool, true, false, List, [], ◌∷◌, length, Option, None}
 use Rattle.std.proofs.Common.{Some, is_some, Result, Ok, Err, refl, sym, subst, ap, ◌∙◌, arith}
-use Rattle.usb_packet.specs.declared.Toggle.{Toggle}
-use Rattle.usb_packet.specs.declared.Toggle.TheVariants.{Zero, One}
-use Rattle.usb_packet.specs.Toggles.{is_same}
-use Rattle.usb_port.specs.PortState.{PortState}
-use Rattle.usb_device.specs.declared.answer.Answer.{Answer}
+use Rattle.usb_packet.specs.{Toggle, Zero, One, is_same}
+use Rattle.usb_port.specs.{PortState}
+use Rattle.usb_device.specs.{Answer, RememberedPacket, Stage, idle, refused, reading, read, ending}
+use Rattle.usb_device.specs.{max_packet, packet_at, toggle_at, Spec, State, Reply, forgotten}
+use Rattle.usb_device.specs.{is_busy, nak_row, acknowledged, out_row, Way, lost, is_whole, heard}
+use Rattle.usb_device.specs.{gave, in_stage_law, in_law, out_law, Registers, row_of, Location}
+use Rattle.usb_device.specs.{reach_on, state_on, held_addresses, repeats, address_then, taken_of}
+use Rattle.usb_device.specs.{ReadingAt, ReadOn, StatusOn, StatusGiven, seen, unseen, OnlyControl}
+use Rattle.usb_device.specs.{IsRead, OnlyStage}
 use Rattle.usb_device.specs.declared.answer.Answer.TheVariants as answer
 use Rattle.usb_device.specs.declared.transfer.InEndpoint.TheVariants as by
-use Rattle.usb_device.specs.declared.transfer.RememberedPacket.{RememberedPacket}
-use Rattle.usb_device.specs.Transfer.{Stage, idle, refused, reading, read, ending, max_packet}
-use Rattle.usb_device.specs.Transfer.{packet_at, toggle_at}
-use Rattle.usb_device.specs.Spec.{Spec}
-use Rattle.usb_device.specs.Rows.{State, Reply, forgotten, is_busy, nak_row, acknowledged, out_row}
-use Rattle.usb_device.specs.Attempt.{Way, whole, broken, lost, is_whole, heard, gave, in_stage_law}
-use Rattle.usb_device.specs.Attempt.{in_law, out_law}
-use Rattle.usb_device.specs.declared.request.Registers.{Registers}
+use Rattle.usb_device.specs.Attempt.{whole, broken}
 use Rattle.usb_device.proofs.Interface.{control_read, is_same-refl}
-use Rattle.usb_device.specs.Tree.{row_of, Location, reach_on, state_on}
-use Rattle.usb_device.specs.Delivery.{held_addresses, repeats}
-use Rattle.usb_tree.specs.AttemptPackets.{IsSettled}
-use Rattle.usb_tree.specs.Paths.{address_of}
-use Rattle.usb_device.specs.Progress.{address_then, taken_of, ReadingAt, ReadOn, StatusOn}
-use Rattle.usb_device.specs.Progress.{StatusGiven, seen, unseen, OnlyControl, IsRead, OnlyStage}
-use Rattle.usb_world.specs.declared.types.Outcome.{Outcome}
+use Rattle.usb_tree.specs.{IsSettled, address_of}
+use Rattle.usb_world.specs.{Outcome, AttemptAnswerer, got, BusFault, World, Made, at_attempt}
+use Rattle.usb_world.specs.{attempt, after, outcome_in, damage_in, Was, EachWas, DidIn, DidOut}
+use Rattle.usb_world.specs.{Attempt}
 use Rattle.usb_world.specs.declared.types.Outcome.TheVariants.{Payload, Nak, Stall, Nothing, Ack}
-use Rattle.usb_world.specs.OneHolder.{AttemptAnswerer, got}
-use Rattle.usb_world.specs.declared.types.BusFault.{BusFault}
-use Rattle.usb_world.specs.World.{World, Made}
-use Rattle.usb_world.specs.Steps.{at_attempt, attempt, after, outcome_in, damage_in}
-use Rattle.usb_world.specs.Devices.{Was, EachWas, DidIn, DidOut}
-use Rattle.usb_transaction.specs.declared.target.Target.{Target}
-use Rattle.usb_transaction.specs.declared.heard_outcome.HeardOutcome.{HeardOutcome}
-use Rattle.usb_transaction.specs.declared.heard_outcome.HeardOutcome.TheVariants.{Moved, NotReady}
-use Rattle.usb_transaction.specs.declared.heard_outcome.HeardOutcome.TheVariants.{Repeat, Refused}
-use Rattle.usb_transaction.specs.declared.heard_outcome.HeardOutcome.TheVariants.{Lost}
-use Rattle.usb_transaction.specs.declared.fault.TransFault.{TransFault}
-use Rattle.usb_transaction.specs.declared.fault.TransFault.TheVariants.{Stalled, Busy, NoAnswer}
-use Rattle.usb_transaction.specs.declared.fault.TransFault.TheVariants.{Bus}
-use Rattle.usb_transaction.specs.HeardOutcomes.{heard_as, heard_when_sent}
-use Rattle.usb_transaction.specs.AttemptLog.{AttemptLog, start, next, IsNoEnd, waits_with, waits_in}
-use Rattle.usb_transaction.specs.AttemptLog.{TransactionDone, Transacted}
-use Rattle.usb_transaction.specs.Failures.{NoThreeDamaged, Listens, Fits, HasNext, data_stage}
-use Rattle.usb_transaction.specs.Failures.{status, refusal, ControlInFailure, StatusReadFailure}
+use Rattle.usb_transaction.specs.{Target, HeardOutcome, Moved, NotReady, Repeat, Refused, Lost}
+use Rattle.usb_transaction.specs.{TransFault, Stalled, Busy, NoAnswer, Bus, heard_as}
+use Rattle.usb_transaction.specs.{heard_when_sent, AttemptLog, start, next, IsNoEnd, waits_with}
+use Rattle.usb_transaction.specs.{waits_in, TransactionDone, Transacted, NoThreeDamaged, Listens}
+use Rattle.usb_transaction.specs.{Fits, HasNext, status, refusal, ControlInFailure}
+use Rattle.usb_transaction.specs.{StatusReadFailure, packed, in_attempt, out_attempt, is_at}
+use Rattle.usb_transaction.specs.{IsNotOfBus, CanAnswer, ReadCut, none_came, one_came, ReadEnds}
+use Rattle.usb_transaction.specs.{StatusEnds, ControlIn, IsInRead, over, ReadStatus}
+use Rattle.usb_transaction.specs.Failures.{data_stage}
 use Rattle.std.proofs.lemmas.Bool.Decides.{nat_tests}
 use Rattle.arrayvec.specs.ArrayVec.{ArrayVec}
 use Rattle.usb_transaction.proofs.DeviceRuns.{IsEnd, IsOfBus, Run, RunThrough, as_whole, asked_in}
@@ -57,11 +42,7 @@ use Rattle.usb_transaction.proofs.LastOutcomes.{heard_taken, no_packet, packet_h
 use Rattle.usb_transaction.proofs.LastOutcomes.{sent_last}
 use Rattle.usb_transaction.proofs.Trails.{LostRun, as_transacted, damaged_more, lost_run_none}
 use Rattle.usb_transaction.proofs.Trails.{run_short, trail_settled}
-use Rattle.usb_world.specs.declared.types.Attempt.{Attempt}
-use Rattle.usb_transaction.specs.Transactions.{packed, in_attempt, out_attempt}
-use Rattle.usb_transaction.specs.Leaves.{is_at, IsNotOfBus, CanAnswer, ReadCut, none_came, one_came}
-use Rattle.usb_transaction.specs.Leaves.{ReadEnds, StatusEnds, ControlIn, IsInRead}
-use Rattle.usb_transaction.specs.Leaves.{data_stage as in_stage, over, ReadStatus}
+use Rattle.usb_transaction.specs.Leaves.{data_stage as in_stage}
 use Rattle.usb_world.proofs.Interface.{data_back, due_back, in_in, made_of, made_unshared}
 use Rattle.usb_world.proofs.Interface.{one_answers, one_state, stands, state_stands}
 use Rattle.usb_world.proofs.Interface.{stays_reachable_in}
@@ -351,8 +332,7 @@ module _ (t : Target) (awaited : Toggle) where
       | inl e ↦
           elim (y.there (at_from t s u e at)) [
             | inl f ↦ inl (f ∙ e)
-            | inr free ↦
-                inr (subst Free (ap (λ z. z.spec) x.frame) free)
+            | inr free ↦ inr (subst Free (ap (λ z. z.spec) x.frame) free)
           ]
       | inr free ↦ inr free
     ];
@@ -360,8 +340,7 @@ module _ (t : Target) (awaited : Toggle) where
         let before = x.reading at text wanted n e r in
         let later = y.reading (at_from t s u before.1 at) text wanted n e before.0 in (
           reads_from text wanted n s u v came (ap (λ z. z.spec) x.frame) later.0,
-          later.1
-              ∙ before.1,
+          later.1 ∙ before.1,
         );
     status = λ at e a h. let before = x.status at e a h in
         status_from a s u v came before.1 (y.status (at_from t s u before.1 at) e a before.0);
@@ -381,8 +360,7 @@ trail_begun : (t : Target) {old new : World} {o : Outcome} {outcomes : List Outc
     × ((j : Location) → reach_on new.roots j ≡ true → reach_on (at_attempt old).roots j ≡ true)
 trail_begun t settled (next w start made) single = (
   (made_unshared (in_attempt t 0) w made single).single,
-  data_back (in_attempt t 0) w
-      (made_of (in_attempt t 0) w settled made) refl,
+  data_back (in_attempt t 0) w (made_of (in_attempt t 0) w settled made) refl,
 )
 trail_begun t settled (next w (next x r before) made) single =
     let b = trail_begun t settled (next x r before)
@@ -428,8 +406,7 @@ stalled_refused t {old} settled (next {outcomes} w r made) stall single j s on t
     ∙ ap stands h.stands) tt in
     let refuses : _ = refused_back t was.so (
       same_equal (address_of h.own) t.addr h.at,
-      gave_stall h.own _ _ (gives_in t.max h.own (row_of h.below) _ _ _) (sym x.outcome
-          ∙ stall),
+      gave_stall h.own _ _ (gives_in t.max h.own (row_of h.below) _ _ _) (sym x.outcome ∙ stall),
     ) in
     let b = trail_begun t settled (next w r made) single in
     let far : _ = b.1 h.spot (stays_reachable_in (in_attempt t 0) w h) in
@@ -642,8 +619,7 @@ next_kept t awaited place u v x l (data_stage text wanted n e r some short) =
     let q = x.reading l.at text wanted n e r in
     let spec : v.spec ≡ u.spec = ap (λ z. z.spec) x.frame in (
       listens_on t place u v spec q.1 l,
-      data_stage text wanted n e q.0 (rw spec some)
-          (rw spec short),
+      data_stage text wanted n e q.0 (rw spec some) (rw spec short),
     )
 next_kept t awaited place u v x l (status a h e) = let q = x.status l.at e a h in
     (listens_on t place u v (ap (λ z. z.spec) x.frame) q.1 l, status a q.0 e)
@@ -685,8 +661,7 @@ module _ (t : Target) (awaited : Toggle) (old : World) (never : NoThreeDamaged o
   unfolding waits_in
   waits_none = record {
     few = omega arith;
-    behind =
-        λ miss. (0, lost_run_none old.damages old.attempts, omega arith, λ pos. omega arith);
+    behind = λ miss. (0, lost_run_none old.damages old.attempts, omega arith, λ pos. omega arith);
   }
 
   one_more : (outcomes : List Outcome) (w : World) (u v : State) → AttemptLog a old outcomes w
@@ -752,8 +727,7 @@ module _ (t : Target) (awaited : Toggle) (old : World) (never : NoThreeDamaged o
         × Waits outcomes w u) ((l, h), calm, waits_none)
         (λ outcomes w u y trail made i d n. (
           stays w u y d n i.0,
-          ap (λ z. z.spec.busy) (did_step t awaited w j u y d).frame
-              ∙ i.1,
+          ap (λ z. z.spec.busy) (did_step t awaited w j u y d).frame ∙ i.1,
           one_more outcomes w u y trail made i.0 i.1 i.2 d n,
         )) (λ y. ⊥) v
         (λ outcomes w u trail i d end told. too_many outcomes w u v
@@ -924,8 +898,7 @@ kept_twice s u v x y = record {
   frame = y.frame ∙ ap {A = State} (λ z. record z {
     memory = v.memory;
     naks = v.naks;
-    stage =
-        v.stage;
+    stage = v.stage;
   }) x.frame;
   moves = moves_twice s u v x.moves y.moves;
   naks = omega (arith, x.naks, y.naks);
@@ -1004,13 +977,11 @@ module _ (t : Target) (result : Result (List ℕ) TransFault) (old new : World) 
       left at k y = record {
         others = λ h. mine t s at h;
         frame = k.frame;
-        kept =
-            only_moved s v k.moves;
+        kept = only_moved s v k.moves;
         done = λ h. y.0;
         stalled = λ h. y.1;
         could = λ h. y.2;
-        naks =
-            k.naks;
+        naks = k.naks;
       }
 
       pick : (is_at s t ≡ true) ⊎ (is_at s t ≡ false) → ReadStatus t result j s v
@@ -1036,11 +1007,9 @@ module _ (t : Target) (result : Result (List ℕ) TransFault) (old new : World) 
             others = λ h. refl;
             frame = refl;
             kept = inl refl;
-            done =
-                λ at. mine t s at away;
+            done = λ at. mine t s at away;
             stalled = λ at. mine t s at away;
-            could =
-                λ at. mine t s at away;
+            could = λ at. mine t s at away;
             naks = omega arith;
           })
 

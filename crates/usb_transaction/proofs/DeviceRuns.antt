@@ -4,37 +4,23 @@ use Rattle.std.proofs.lemmas.Bool.Decides.{nat_tests}
 use Rattle.std.proofs.Common.{◌≡◌, ◌≢◌, inl, inr, ◌&&◌, ◌||◌, not, nat_lt, if◌then◌else◌, ℕ, ◌+◌}
 use Rattle.std.proofs.Common.{◌<◌, ◌≤◌, ◌==◌, List, [], ◌∷◌, true, false, Option, None, Some}
 use Rattle.std.proofs.Common.{Result, Ok, Err, refl, sym, subst, ap, ◌∙◌, arith}
-use Rattle.usb_packet.specs.declared.Toggle.{Toggle}
-use Rattle.usb_device.specs.Rows.{State, Reply, is_busy}
-use Rattle.usb_device.specs.Attempt.{Way, whole, broken, in_law, out_law}
-use Rattle.usb_device.specs.Tree.{row_of, Location, reach_on, state_on}
-use Rattle.usb_port.specs.PortState.{PortState}
-use Rattle.usb_world.specs.declared.types.Attempt.{Attempt}
-use Rattle.usb_world.specs.declared.types.BusFault.{BusFault}
-use Rattle.usb_world.specs.declared.types.Outcome.{Outcome}
+use Rattle.usb_packet.specs.{Toggle}
+use Rattle.usb_device.specs.{State, Reply, is_busy, Way, in_law, out_law, row_of, Location}
+use Rattle.usb_device.specs.{reach_on, state_on}
+use Rattle.usb_device.specs.Attempt.{whole, broken}
+use Rattle.usb_port.specs.{PortState}
+use Rattle.usb_world.specs.{Attempt, BusFault, Outcome, IsMade, got, World, Made, attempt, after}
+use Rattle.usb_world.specs.{outcome_in, damage_in, Relation, Was, EachWas, DidIn, DidOut}
 use Rattle.usb_world.specs.declared.types.Outcome.TheVariants.{Nak, Stall}
-use Rattle.usb_tree.specs.AttemptPackets.{IsSettled, deep_at}
-use Rattle.usb_tree.specs.Paths.{address_of}
-use Rattle.usb_world.specs.OneHolder.{IsMade, got}
-use Rattle.usb_world.specs.World.{World, Made}
-use Rattle.usb_world.specs.Steps.{attempt, after, outcome_in, damage_in}
-use Rattle.usb_world.specs.Devices.{Relation, Was, EachWas, DidIn, DidOut}
+use Rattle.usb_tree.specs.{IsSettled, deep_at, address_of}
 use Rattle.usb_world.proofs.Interface.{AttemptCut, cut_or_same, each_in, each_out, made_of}
 use Rattle.usb_world.proofs.Interface.{made_unshared, made_whole, unmade}
 use Rattle.usb_tree.proofs.Interface.{decided, neither, false_true}
-use Rattle.usb_transaction.specs.declared.target.Target.{Target}
-use Rattle.usb_transaction.specs.declared.heard_outcome.HeardOutcome.{HeardOutcome}
-use Rattle.usb_transaction.specs.declared.heard_outcome.HeardOutcome.TheVariants.{Moved, Lost}
-use Rattle.usb_transaction.specs.declared.fault.TransFault.{TransFault}
-use Rattle.usb_transaction.specs.declared.fault.TransFault.TheVariants.{Stalled, Busy, NoAnswer}
-use Rattle.usb_transaction.specs.declared.fault.TransFault.TheVariants.{Bus}
-use Rattle.usb_transaction.specs.HeardOutcomes.{polled_as}
-use Rattle.usb_transaction.specs.Failures.{NoThreeDamaged, Listens}
-use Rattle.usb_transaction.specs.Leaves.{IsNotOfBus, is_at}
-use Rattle.usb_transaction.specs.AttemptLog.{AttemptLog, start, next, waits_with, errors_running}
-use Rattle.usb_transaction.specs.AttemptLog.{waits_in, IsNoEnd, KeepsTrying, LastOutcome}
-use Rattle.usb_transaction.specs.AttemptLog.{TransactionDone, BusFailed, Transacted, Polled}
-use Rattle.usb_transaction.specs.Transactions.{packed, in_attempt, out_attempt}
+use Rattle.usb_transaction.specs.{Target, HeardOutcome, Moved, Lost, TransFault, Stalled, Busy}
+use Rattle.usb_transaction.specs.{NoAnswer, Bus, polled_as, NoThreeDamaged, Listens, IsNotOfBus}
+use Rattle.usb_transaction.specs.{is_at, AttemptLog, start, next, waits_with, errors_running}
+use Rattle.usb_transaction.specs.{waits_in, IsNoEnd, KeepsTrying, LastOutcome, TransactionDone}
+use Rattle.usb_transaction.specs.{BusFailed, Transacted, Polled, packed, in_attempt, out_attempt}
 use Rattle.usb_transaction.proofs.Trails.{LostRun, last_erred, last_waited, lost_more}
 use Rattle.usb_transaction.proofs.Trails.{lost_run_none, run_short, trail_settled}
 
@@ -265,8 +251,7 @@ pub had_address : (t : Target) (s v : State) → (is_at s t ≡ false → v ≡ 
     → is_at s t ≡ true
 had_address t s v f h = elim (decided (is_at s t)) [
   | inl y ↦ y
-  | inr y ↦
-      ap (λ x. is_at x t) (sym (f y)) ∙ h
+  | inr y ↦ ap (λ x. is_at x t) (sym (f y)) ∙ h
 ]
 
 -- it goes on listening where its description and its address stay
@@ -338,8 +323,7 @@ asked_in t ep w j u v (DidIn.silent d q o e) at = (
     first = broken;
     second = broken;
     third = broken;
-    heard =
-        λ n l. false_true (sym l.loud ∙ q);
+    heard = λ n l. false_true (sym l.loud ∙ q);
     gave = o;
     is = e;
   },
@@ -350,8 +334,7 @@ asked_in t ep w j u v (DidIn.asked d q b below stood x o e) at = (
     first = x.first;
     second = x.second;
     third = x.third;
-    heard =
-        λ n l. x.heard n l.hears;
+    heard = λ n l. x.heard n l.hears;
     gave = o;
     is = e;
   },
@@ -373,8 +356,7 @@ delivered_out t ep toggle bytes w j u v (DidOut.silent d q o e) at =
       first = broken;
       second = broken;
       third = broken;
-      heard =
-          λ n l. false_true (sym l.loud ∙ q);
+      heard = λ n l. false_true (sym l.loud ∙ q);
       gave = o;
       is = e;
     }

@@ -2,19 +2,12 @@
 use Rattle.std.proofs.Common.{◌≡◌, refl, sym, ℕ, List, [], Option, None, Some, Result, Ok, Err}
 use Rattle.std.proofs.Common.{arith}
 use Rattle.arrayvec.specs.ArrayVec.{ArrayVec}
-use Rattle.usb_packet.specs.declared.Toggle.{Toggle}
-use Rattle.usb_device.specs.declared.answer.Answer.{Answer}
-use Rattle.usb_device.specs.Progress.{taken_of}
-use Rattle.usb_world.specs.declared.types.Outcome.{Outcome}
+use Rattle.usb_packet.specs.{Toggle}
+use Rattle.usb_device.specs.{Answer, taken_of}
+use Rattle.usb_world.specs.{Outcome, got}
 use Rattle.usb_world.specs.declared.types.Outcome.TheVariants.{Payload, Ack, Nak, Stall}
-use Rattle.usb_world.specs.OneHolder.{got}
-use Rattle.usb_transaction.specs.declared.heard_outcome.HeardOutcome.{HeardOutcome}
-use Rattle.usb_transaction.specs.declared.heard_outcome.HeardOutcome.TheVariants.{Moved, NotReady}
-use Rattle.usb_transaction.specs.declared.heard_outcome.HeardOutcome.TheVariants.{Refused}
-use Rattle.usb_transaction.specs.declared.fault.TransFault.{TransFault}
-use Rattle.usb_transaction.specs.HeardOutcomes.{heard_as, polled_as, heard_when_sent, set_up_as}
-use Rattle.usb_transaction.specs.Transactions.{packed}
-use Rattle.usb_transaction.specs.AttemptLog.{IsNoEnd}
+use Rattle.usb_transaction.specs.{HeardOutcome, Moved, NotReady, Refused, TransFault, heard_as}
+use Rattle.usb_transaction.specs.{polled_as, heard_when_sent, set_up_as, packed, IsNoEnd}
 
 -- What an outcome is by how it is heard
 

@@ -3,42 +3,28 @@ use Rattle.std.proofs.Common.{◌≡◌, ◌≢◌, ◌+◌, ◌≤◌, ◌⊎�
 use Rattle.std.proofs.Common.{if◌then◌else◌, Bool, true, false, List, [], ◌∷◌, length, Option, None}
 use Rattle.std.proofs.Common.{Some, Result, Ok, Err, refl, sym, subst, ap, ◌∙◌, arith}
 use Rattle.arrayvec.specs.ArrayVec.{ArrayVec}
-use Rattle.usb_packet.specs.declared.Toggle.{Toggle}
-use Rattle.usb_port.specs.PortState.{PortState}
-use Rattle.usb_device.specs.declared.answer.Answer.{Answer}
+use Rattle.usb_packet.specs.{Toggle, other, is_same}
+use Rattle.usb_port.specs.{PortState}
+use Rattle.usb_device.specs.{Answer, tells_changes, change_bits, State, Reply, forgotten}
+use Rattle.usb_device.specs.{acknowledged, payload, Way, is_whole, heard, gave, held_law, in_law}
+use Rattle.usb_device.specs.{Ports, full, row_of, place_on, Location, PollAt, level, told, ahead}
+use Rattle.usb_device.specs.{NeverTold, PollOn, OnlyChanges}
 use Rattle.usb_device.specs.declared.answer.Answer.TheVariants as answer
 use Rattle.usb_device.specs.declared.transfer.InEndpoint.TheVariants as by
-use Rattle.usb_packet.specs.Toggles.{other, is_same}
-use Rattle.usb_device.specs.Bulk.{tells_changes, change_bits}
-use Rattle.usb_device.specs.Rows.{State, Reply, forgotten, acknowledged, payload}
-use Rattle.usb_device.specs.Attempt.{Way, whole, is_whole, heard, gave, held_law, in_law}
-use Rattle.usb_device.specs.Tree.{Ports, full, row_of, place_on, Location}
-use Rattle.usb_device.specs.Progress.{PollAt, level, told, ahead, NeverTold, PollOn, OnlyChanges}
+use Rattle.usb_device.specs.Attempt.{whole}
 use Rattle.usb_device.proofs.Interface.{at_least_one, is_same-refl, law_is, other-other, poll_on}
-use Rattle.usb_world.specs.declared.types.Attempt.{Attempt}
-use Rattle.usb_world.specs.declared.types.Outcome.{Outcome}
+use Rattle.usb_world.specs.{Attempt, Outcome, EachWas, DidIn, got, attempt, after, outcome_in}
+use Rattle.usb_world.specs.{damage_in, at_attempt, with_attempt, World, Made}
 use Rattle.usb_world.specs.declared.types.Outcome.TheVariants.{Payload, Stall}
-use Rattle.usb_world.specs.Devices.{EachWas, DidIn}
-use Rattle.usb_world.specs.OneHolder.{got}
-use Rattle.usb_tree.specs.AttemptPackets.{IsSettled}
-use Rattle.usb_world.specs.Steps.{attempt, after, outcome_in, damage_in, at_attempt, with_attempt}
-use Rattle.usb_world.specs.World.{World, Made}
+use Rattle.usb_tree.specs.{IsSettled}
 use Rattle.usb_world.proofs.Interface.{got_nak, got_payload, got_stall, made_step, ready_taken}
 use Rattle.usb_tree.proofs.Interface.{decided, false_true}
-use Rattle.usb_transaction.specs.declared.fault.TransFault.{TransFault}
-use Rattle.usb_transaction.specs.declared.fault.TransFault.TheVariants.{Stalled, Busy, NoAnswer}
-use Rattle.usb_transaction.specs.declared.fault.TransFault.TheVariants.{Bus}
-use Rattle.usb_transaction.specs.declared.heard_outcome.HeardOutcome.{HeardOutcome}
-use Rattle.usb_transaction.specs.declared.heard_outcome.HeardOutcome.TheVariants.{Moved, Repeat}
-use Rattle.usb_transaction.specs.declared.heard_outcome.HeardOutcome.TheVariants.{Lost}
-use Rattle.usb_transaction.specs.declared.target.Target.{Target}
-use Rattle.usb_transaction.specs.Failures.{NoThreeDamaged, Listens, PollFailure}
-use Rattle.usb_transaction.specs.HeardOutcomes.{polled, polled_as}
-use Rattle.usb_transaction.specs.Leaves.{IsNotOfBus, is_at, ToldIn, ToldSince, ToldBy, ToldSome}
-use Rattle.usb_transaction.specs.Leaves.{none_came, one_came, PollEnds, ChangesIn}
-use Rattle.usb_transaction.specs.AttemptLog.{AttemptLog, IsNoEnd, Polled, waits_with, waits_in}
-use Rattle.usb_transaction.specs.AttemptLog.{errors_running}
-use Rattle.usb_transaction.specs.Transactions.{packed, in_attempt}
+use Rattle.usb_transaction.specs.{TransFault, Stalled, Busy, NoAnswer, Bus, HeardOutcome, Moved}
+use Rattle.usb_transaction.specs.{Repeat, Lost, Target, NoThreeDamaged, Listens, PollFailure}
+use Rattle.usb_transaction.specs.{polled, polled_as, IsNotOfBus, is_at, ToldIn, ToldSince, ToldBy}
+use Rattle.usb_transaction.specs.{ToldSome, none_came, one_came, PollEnds, ChangesIn, AttemptLog}
+use Rattle.usb_transaction.specs.{IsNoEnd, Polled, waits_with, waits_in, errors_running, packed}
+use Rattle.usb_transaction.specs.{in_attempt}
 use Rattle.usb_transaction.proofs.DeviceRuns.{AttemptDelivered, IsOfBus, IsPollEnd, RunThrough}
 use Rattle.usb_transaction.proofs.DeviceRuns.{AttemptLeft, as_whole, asked_in, at_end, each_device}
 use Rattle.usb_transaction.proofs.DeviceRuns.{in_others, listens_on, of_bus, one_wait, over_polled}
@@ -121,8 +107,7 @@ step_byte t s true held b =
       heeds = λ c. never_lost b (is_same t s.changes.toggle);
       unstalled = λ q e. cc e;
       even = λ q n. elim (rw (q, is_same-refl t) at n) [ ];
-      behind =
-          λ q n. inl (ap other q ∙ other-other t);
+      behind = λ q n. inl (ap other q ∙ other-other t);
     }
 step_byte t s false held b =
     record {
@@ -131,8 +116,7 @@ step_byte t s false held b =
       heeds = λ c. never_lost b (is_same t s.changes.toggle);
       unstalled = λ q e. cc e;
       even = λ q n. elim (rw (q, is_same-refl t) at n) [ ];
-      behind =
-          λ q n. inr (q, refl);
+      behind = λ q n. inr (q, refl);
     }
 
 poll_step : (t : Toggle) (s : State) → tells_changes s.spec s.registers ≡ true
@@ -145,8 +129,7 @@ poll_step t s h row max m t1 t2 t3 o v e f =
       frame = refl;
       quiet = refl;
       heeds = λ c. false_true c;
-      unstalled =
-          λ q e. cc e;
+      unstalled = λ q e. cc e;
       even = λ q n. (q, refl);
       behind = λ q n. inr (q, refl);
     })
@@ -154,8 +137,7 @@ poll_step t s h row max m t1 t2 t3 o v e f =
       frame = refl;
       quiet = refl;
       heeds = λ c l. cc l;
-      unstalled =
-          λ q. false_true (sym q ∙ e);
+      unstalled = λ q. false_true (sym q ∙ e);
       even = λ q n. elim n [ ];
       behind = λ q n. elim n [ ];
     })
@@ -194,8 +176,7 @@ module _ (Told : ℕ → Type 0) (bits : ℕ) (t : Toggle) (max : ℕ) (m : 1 �
         | inl h ↦
             inr (
               (on.0 h).between,
-              λ n. rw (ap {B = ℕ} length (on.0 h).came, at_least_one max m, h)
-                  at n,
+              λ n. rw (ap {B = ℕ} length (on.0 h).came, at_least_one max m, h) at n,
             )
         | inr h ↦ inl (on.1 h)
       ]
@@ -234,8 +215,7 @@ module _ (Told : ℕ → Type 0) (bits : ℕ) (t : Toggle) (max : ℕ) (m : 1 �
       → PollOn (ToldSome Told) bits t x v → Says o
   says o x e so on = rw e (
     λ n. goes_on x on n,
-    λ result outcomes is. ends result x outcomes so on
-        is,
+    λ result outcomes is. ends result x outcomes so on is,
   )
 
 -- The events that are due come with an attempt
@@ -299,8 +279,7 @@ module _ (t : Target) (toggle : Toggle) (old : World) (m : 1 ≤ t.max) (j : Loc
           b = b;
           s = u;
           below = below;
-          stood =
-              stood;
+          stood = stood;
           told = refl;
           later = later;
           since = since;
@@ -347,8 +326,7 @@ module _ (t : Target) (toggle : Toggle) (old : World) (m : 1 ≤ t.max) (j : Loc
         (λ b below stood. record {
           told = told_here b below stood (after (attempt a) w)
               (outcome_in a w ∷ []) (AttemptLog.next w AttemptLog.start made);
-          came =
-              due_came a w made;
+          came = due_came a w made;
         }) d
         (poll_at-wider (ToldSome (ToldSince a old w j))
         (ToldSome (ToldSince a old (after (attempt a) w) j))
@@ -436,8 +414,7 @@ module _ (t : Target) (toggle : Toggle) (old : World) (m : 1 ≤ t.max) (j : Loc
             e.0,
             (
               y.1.0 + 1,
-              damaged_more trail made y.1.0
-                  (λ none. false_true (sym e.1 ∙ came_whole none)) y.1.1,
+              damaged_more trail made y.1.0 (λ none. false_true (sym e.1 ∙ came_whole none)) y.1.1,
               omega (arith, one, y.1.2),
             ),
           )
@@ -475,8 +452,7 @@ module _ (t : Target) (toggle : Toggle) (old : World) (m : 1 ≤ t.max) (j : Loc
             let y : _ = step outcomes w r u x i.0 d in
             let whole_then : _ = is_clear outcomes w r u x i.0 d l in (
               frame outcomes w r u x i.0 d,
-              y.quiet
-                  ∙ i.1,
+              y.quiet ∙ i.1,
               lost_more r made hear (λ none. y.heeds (whole_then none)) i.2,
               stands_on (waits_in hear outcomes) w u x _ r made whole_then y n i.3,
             )
@@ -519,10 +495,8 @@ poll_leaves t toggle result old new m settled x single =
     record {
       others = away;
       frame = λ h. elim (decided (is_at s t)) [
-        | inl at ↦
-            (left t toggle old m j s at h result new v run).0
-        | inr y ↦
-            subst (OnlyChanges s) (sym (away y)) refl
+        | inl at ↦ (left t toggle old m j s at h result new v run).0
+        | inr y ↦ subst (OnlyChanges s) (sym (away y)) refl
       ];
       poll = λ at h. (left t toggle old m j s at h result new v run).1;
     })

@@ -4,49 +4,31 @@ use Rattle.std.proofs.Common.{◌≡◌, ◌⊎◌, inl, inr, ℕ, ◌==◌, ◌
 use Rattle.std.proofs.Common.{List, [], ◌∷◌, length, Option, None, Some, Result, Ok, Err, refl, sym}
 use Rattle.std.proofs.Common.{subst, ap, ◌∙◌, arith}
 use Rattle.std.proofs.lemmas.Option.{same_Some}
-use Rattle.usb_request.specs.Codes.{GET_STATUS, CLEAR_FEATURE, SET_FEATURE, SET_ADDRESS}
-use Rattle.usb_request.specs.Codes.{GET_DESCRIPTOR, GET_CONFIGURATION, SET_CONFIGURATION, DEVICE_IN}
-use Rattle.usb_request.specs.Codes.{DEVICE_OUT, ENDPOINT_OUT, HUB_IN, PORT_IN, PORT_OUT}
-use Rattle.usb_port.specs.PortState.{PortState}
-use Rattle.usb_request.specs.declared.setup.Setup.{Setup}
-use Rattle.usb_request.specs.Layout.{setup_of}
-use Rattle.usb_port.specs.declared.call.PortCall.{PortCall}
-use Rattle.usb_port.specs.Calls.{set_call, clear_call}
-use Rattle.usb_device.specs.declared.effect.Effect.TheVariants.{Leaves}
-use Rattle.usb_device.specs.declared.request.Registers.{Registers}
-use Rattle.usb_device.specs.Spec.{Spec}
-use Rattle.usb_device.specs.Request.{Outcome, takes_configuration, Is, outcome, registers_at_setup}
-use Rattle.usb_device.specs.Request.{port_feature}
-use Rattle.usb_device.specs.Rows.{State, with_endpoints, begun, accepted}
-use Rattle.usb_device.specs.Effect.{effect_of_request, asked_by_setup}
-use Rattle.usb_device.specs.Attempt.{Way, whole, is_whole, setup_law}
-use Rattle.usb_device.specs.Tree.{Place, Ports, full, acted, row_of, Location, path_to, reach_on}
-use Rattle.usb_device.specs.Tree.{state_on, place_on}
-use Rattle.usb_world.specs.declared.types.Attempt.{Attempt}
+use Rattle.usb_request.specs.{GET_STATUS, CLEAR_FEATURE, SET_FEATURE, SET_ADDRESS, GET_DESCRIPTOR}
+use Rattle.usb_request.specs.{GET_CONFIGURATION, SET_CONFIGURATION, DEVICE_IN, DEVICE_OUT}
+use Rattle.usb_request.specs.{ENDPOINT_OUT, HUB_IN, PORT_IN, PORT_OUT, Setup, setup_of}
+use Rattle.usb_port.specs.{PortState, PortCall, set_call, clear_call}
+use Rattle.usb_device.specs.{Leaves, Registers, Spec, Outcome, takes_configuration, Is, outcome}
+use Rattle.usb_device.specs.{registers_at_setup, port_feature, State, with_endpoints, begun}
+use Rattle.usb_device.specs.{accepted, effect_of_request, asked_by_setup, Way, is_whole, setup_law}
+use Rattle.usb_device.specs.{Ports, full, acted, row_of, Location, path_to, reach_on, state_on}
+use Rattle.usb_device.specs.{place_on}
+use Rattle.usb_device.specs.Attempt.{whole}
+use Rattle.usb_device.specs.Tree.{Place}
+use Rattle.usb_world.specs.{Attempt, is_harmless, resets, Relation, Was, EachWas, DidSetup, IsMade}
+use Rattle.usb_world.specs.{IsSetup, HolderIn, got, token_way, payload_way, answer_way, at_attempt}
+use Rattle.usb_world.specs.{damage_in, outcome_in, attempt, after, World}
 use Rattle.usb_world.specs.declared.types.Outcome as bus
 use Rattle.usb_world.specs.declared.types.Outcome.TheVariants.{Ack, Nothing}
-use Rattle.usb_world.specs.Courses.{is_harmless, resets}
-use Rattle.usb_world.specs.Devices.{Relation, Was, EachWas, DidSetup}
-use Rattle.usb_world.specs.OneHolder.{IsMade, IsSetup, HolderIn, got, token_way, payload_way}
-use Rattle.usb_world.specs.OneHolder.{answer_way}
-use Rattle.usb_tree.specs.AttemptPackets.{IsSettled, deep_at}
-use Rattle.usb_tree.specs.Paths.{address_of}
-use Rattle.usb_world.specs.Steps.{at_attempt, damage_in, outcome_in, attempt, after}
-use Rattle.usb_tree.specs.WayEffects.{IsNew}
-use Rattle.usb_world.specs.World.{World}
+use Rattle.usb_tree.specs.{IsSettled, deep_at, address_of, IsNew}
 use Rattle.usb_world.proofs.Interface.{each_setup, made_is, made_reach, made_true, quiet_resets}
 use Rattle.usb_world.proofs.Interface.{register_address, setup_in, setup_place_in, setup_sound_in}
 use Rattle.usb_world.proofs.Interface.{stands, state_stands, step_new}
 use Rattle.usb_tree.proofs.Interface.{decided, equal_same, false_true}
-use Rattle.usb_transaction.specs.declared.fault.TransFault.{TransFault}
-use Rattle.usb_transaction.specs.declared.fault.TransFault.TheVariants.{Stalled, Busy}
-use Rattle.usb_transaction.specs.declared.target.Target.{Target}
-use Rattle.usb_transaction.specs.Failures.{NoThreeDamaged, Listens, SetupFailure}
-use Rattle.usb_transaction.specs.HeardOutcomes.{set_up_as}
-use Rattle.usb_transaction.specs.Leaves.{is_at, CanAccept, AcceptedAt, AcceptedSince, SetupDone}
-use Rattle.usb_transaction.specs.SparedDevices.{IsSpared, EachSpared}
-use Rattle.usb_transaction.specs.AttemptLog.{AttemptLog, TransactionDone, Transacted, waits_in}
-use Rattle.usb_transaction.specs.Transactions.{setup_attempt}
+use Rattle.usb_transaction.specs.{TransFault, Stalled, Busy, Target, NoThreeDamaged, Listens}
+use Rattle.usb_transaction.specs.{SetupFailure, set_up_as, is_at, CanAccept, AcceptedAt}
+use Rattle.usb_transaction.specs.{AcceptedSince, SetupDone, IsSpared, EachSpared, AttemptLog}
+use Rattle.usb_transaction.specs.{TransactionDone, Transacted, waits_in, setup_attempt}
 use Rattle.usb_transaction.proofs.DeviceRuns.{IsEnd, IsOfBus, RunThrough, AttemptLeft, at_end}
 use Rattle.usb_transaction.proofs.DeviceRuns.{heeded, listens_at, of_bus, over_end}
 use Rattle.usb_transaction.proofs.DeviceRuns.{over_transaction, stays_away}
@@ -90,8 +72,7 @@ configured_again s g r c =
 asks_again : (s : Spec) (g : Registers) (r : Setup) (o : Outcome) → outcome s g r ≡ o
     → outcome s (registers_at_setup g o) r ≡ o
 asks_again s g r (takes_configuration c) e = elim (configured_again s g r c) [
-  | inl h ↦ h
-      ∙ e
+  | inl h ↦ h ∙ e
   | inr h ↦ ap (λ k. outcome s k r) (rw e at h) ∙ e
 ]
 asks_again s g r o e = e
@@ -166,10 +147,8 @@ module _ (t : Target) (request : Setup) where
   was_spared s v f x h = (
     (x h).0,
     λ none. elim (decided (is_at s t)) [
-      | inl y ↦
-          (x h).0 (sym (equal_same (address_of s) t.addr y) ∙ none)
-      | inr y ↦
-          (x h).1 (ap (λ d. address_of d) (f y) ∙ none)
+      | inl y ↦ (x h).0 (sym (equal_same (address_of s) t.addr y) ∙ none)
+      | inr y ↦ (x h).1 (ap (λ d. address_of d) (f y) ∙ none)
     ],
   )
 
@@ -247,8 +226,7 @@ module _ (t : Target) (bytes : List ℕ) (eight : length bytes ≡ 8) (w : World
   unmoved s e n h = record {
     others = λ away. e;
     same = kept_as_before bytes s v (inl e);
-    kept =
-        inl e;
+    kept = inl e;
     answered = λ at. inl (n at);
     heeds = h;
   }
@@ -286,8 +264,7 @@ module _ (t : Target) (bytes : List ℕ) (eight : length bytes ≡ 8) (w : World
           holder = h;
           there = refl;
           is = e;
-          left = l
-              ∙ ap (λ d. Some (full b d (acted (asked_by_setup s (setup_of bytes)) below)))
+          left = l ∙ ap (λ d. Some (full b d (acted (asked_by_setup s (setup_of bytes)) below)))
               (sym e);
         } in
         record {

@@ -2,28 +2,17 @@
 -- damages errors run.
 use Rattle.std.proofs.Common.{◌≡◌, ◌≢◌, ℕ, zero, suc, ◌+◌, ◌<◌, ◌≤◌, List, [], ◌∷◌, false, Option}
 use Rattle.std.proofs.Common.{None, Some, Result, Ok, Err, refl, subst, ◌∙◌, arith}
-use Rattle.usb_packet.specs.declared.Toggle.{Toggle}
-use Rattle.usb_world.specs.declared.damage.Damage.{Damage}
-use Rattle.usb_world.specs.declared.types.Attempt.{Attempt}
-use Rattle.usb_world.specs.declared.types.BusFault.{BusFault}
-use Rattle.usb_world.specs.declared.types.Outcome.{Outcome}
-use Rattle.usb_tree.specs.AttemptPackets.{IsSettled}
-use Rattle.usb_world.specs.Wire.{damage_of}
-use Rattle.usb_world.specs.World.{World, Made}
-use Rattle.usb_world.specs.Steps.{Step, attempt, after, outcome_in, damage_in, Course, here}
+use Rattle.usb_packet.specs.{Toggle}
+use Rattle.usb_world.specs.{Damage, Attempt, BusFault, Outcome, damage_of, World, Made, Step}
+use Rattle.usb_world.specs.{attempt, after, outcome_in, damage_in, Course, here}
+use Rattle.usb_tree.specs.{IsSettled}
 use Rattle.usb_world.proofs.Interface.{AttemptCut, course_then, cut_or_same, made_damages}
 use Rattle.usb_world.proofs.Interface.{made_unshared, made_whole, settled_course, unmade}
-use Rattle.usb_transaction.specs.declared.heard_outcome.HeardOutcome.{HeardOutcome}
-use Rattle.usb_transaction.specs.declared.heard_outcome.HeardOutcome.TheVariants.{Moved, Refused}
-use Rattle.usb_transaction.specs.declared.heard_outcome.HeardOutcome.TheVariants.{Lost}
-use Rattle.usb_transaction.specs.declared.fault.TransFault.{TransFault}
-use Rattle.usb_transaction.specs.declared.fault.TransFault.TheVariants.{Bus}
-use Rattle.usb_transaction.specs.Attempts.{IsOnly, GivenUp, TransactionAttempts}
-use Rattle.usb_transaction.specs.Failures.{NoThreeDamaged}
-use Rattle.usb_transaction.specs.Leaves.{IsNotOfBus}
-use Rattle.usb_transaction.specs.AttemptLog.{AttemptLog, start, next, errors_with, waits_with}
-use Rattle.usb_transaction.specs.AttemptLog.{errors_running, waits_in, IsNoEnd, KeepsTrying}
-use Rattle.usb_transaction.specs.AttemptLog.{TransactionDone, BusFailed, Transacted, Polled}
+use Rattle.usb_transaction.specs.{HeardOutcome, Moved, Refused, Lost, TransFault, Bus, IsOnly}
+use Rattle.usb_transaction.specs.{GivenUp, TransactionAttempts, NoThreeDamaged, IsNotOfBus}
+use Rattle.usb_transaction.specs.{AttemptLog, start, next, errors_with, waits_with, errors_running}
+use Rattle.usb_transaction.specs.{waits_in, IsNoEnd, KeepsTrying, TransactionDone, BusFailed}
+use Rattle.usb_transaction.specs.{Transacted, Polled}
 
 -- A trail is a course of steps each of which is the attempt
 
@@ -86,8 +75,7 @@ module _ {A : Type 0} (a : Attempt) (old new : World) where
       → AttemptLog a old outcomes new → TransactionAttempts (IsOnly a) old result new
   ended_attempts result sound t = record {
     whole = λ n. only_course a _ old new t;
-    cut =
-        λ fault e. absurd (sound fault e);
+    cut = λ fault e. absurd (sound fault e);
   }
 
   -- and where it did
@@ -163,8 +151,7 @@ pub record LostRun (damages : List Damage) (n attempts : ℕ) : Type 0 where
 pub lost_run_none : (damages : List Damage) (attempts : ℕ) → LostRun damages 0 attempts
 lost_run_none damages attempts = record {
   enough = omega arith;
-  each =
-      λ m k e lt. absurd (omega (arith, lt));
+  each = λ m k e lt. absurd (omega (arith, lt));
 }
 
 -- there are at most two

@@ -3,28 +3,18 @@ use Rattle.std.proofs.Common.{◌≡◌, inl, inr, refl, sym, subst, ap, ◌∙�
 use Rattle.std.specs.Prelude.{ℕ, ◌+◌, ◌*◌, ◌<◌, ◌≤◌, ◌⊎◌, length, List, [], ◌∷◌, true, false}
 use Rattle.std.specs.Prelude.{Option, None, Some, Result, Ok, Err}
 use Rattle.arrayvec.specs.ArrayVec.{ArrayVec}
-use Rattle.usb_packet.specs.declared.Toggle.{Toggle}
-use Rattle.usb_world.specs.declared.types.Attempt.{Attempt}
-use Rattle.usb_world.specs.declared.types.BusFault.{BusFault}
-use Rattle.usb_world.specs.declared.types.Outcome.{Outcome}
+use Rattle.usb_packet.specs.{Toggle}
+use Rattle.usb_world.specs.{Attempt, BusFault, Outcome, World, Made, AttemptsWithin, Attempted}
+use Rattle.usb_world.specs.{IsAttempt, FitsMaximum, attempt, after, AttemptFails}
 use Rattle.usb_world.specs.declared.types.Outcome.TheVariants.{Nak, Stall}
-use Rattle.usb_world.specs.World.{World, Made, AttemptsWithin, Attempted, IsAttempt, FitsMaximum}
-use Rattle.usb_world.specs.Steps.{attempt, after, AttemptFails}
 use Rattle.usb_world.proofs.Interface.{spends_none, spends_then, spends_wider}
-use Rattle.usb_bus.specs.Traces.{Attempts, Traced, still, attempted, StepRun}
-use Rattle.usb_transaction.specs.declared.heard_outcome.HeardOutcome.{HeardOutcome}
-use Rattle.usb_transaction.specs.declared.heard_outcome.HeardOutcome.TheVariants.{Moved, NotReady}
-use Rattle.usb_transaction.specs.declared.heard_outcome.HeardOutcome.TheVariants.{Repeat, Lost}
-use Rattle.usb_transaction.specs.declared.tries.Tries.{Tries}
-use Rattle.usb_transaction.specs.declared.fault.TransFault.{TransFault}
-use Rattle.usb_transaction.specs.declared.fault.TransFault.TheVariants.{Stalled, Busy, NoAnswer}
-use Rattle.usb_transaction.specs.declared.fault.TransFault.TheVariants.{Bus}
-use Rattle.usb_transaction.specs.HeardOutcomes.{heard_as, polled_as, set_up_as, acks}
-use Rattle.usb_transaction.specs.AttemptLog.{AttemptLog, start, next, errors_with, waits_with}
-use Rattle.usb_transaction.specs.AttemptLog.{errors_running, waits_in, IsNoEnd, KeepsTrying}
-use Rattle.usb_transaction.specs.AttemptLog.{LastOutcome, TransactionDone, BusFailed, Transacted}
-use Rattle.usb_transaction.specs.AttemptLog.{Waiting, Polled}
-use Rattle.usb_transaction.specs.Transactions.{packed, AttemptsMade, Ends, transaction_bound}
+use Rattle.usb_bus.specs.{Attempts, Traced, still, attempted, StepRun}
+use Rattle.usb_transaction.specs.{HeardOutcome, Moved, NotReady, Repeat, Lost, Tries, TransFault}
+use Rattle.usb_transaction.specs.{Stalled, Busy, NoAnswer, Bus, heard_as, polled_as, set_up_as}
+use Rattle.usb_transaction.specs.{acks, AttemptLog, start, next, errors_with, waits_with}
+use Rattle.usb_transaction.specs.{errors_running, waits_in, IsNoEnd, KeepsTrying, LastOutcome}
+use Rattle.usb_transaction.specs.{TransactionDone, BusFailed, Transacted, Waiting, Polled, packed}
+use Rattle.usb_transaction.specs.{AttemptsMade, Ends, transaction_bound}
 use Rattle.usb_transaction.proofs.LastOutcomes.{heard_moved}
 
 -- One more attempt, and what the host got
@@ -182,8 +172,7 @@ module _ {hear : Outcome → HeardOutcome} {a : Attempt} {t : Tries} {old mid : 
         (record {
           few = two;
           calm = s.calm;
-          going = going_error t.errors t.waits two s.calm s.going
-              one lost;
+          going = going_error t.errors t.waits two s.calm s.going one lost;
           traced = attempted a (Ok o) one.fits s.traced one.made;
         })
 
@@ -207,8 +196,7 @@ module _ {hear : Outcome → HeardOutcome} {a : Attempt} {t : Tries} {old mid : 
     ended result tells = record {
       outcomes = s.going.outcomes;
       last = o;
-      trail =
-          trail_more s.going.trail one;
+      trail = trail_more s.going.trail one;
       onward = s.going.onward;
       tells = tells;
     }
@@ -292,8 +280,7 @@ module _ {a : Attempt} {n : ℕ} {old mid : World} {first before : Option (List 
   set_up_ended {o} result one tells = record {
     outcomes = (s.going few).outcomes;
     last = o;
-    trail =
-        trail_more (s.going few).trail one;
+    trail = trail_more (s.going few).trail one;
     onward = (s.going few).onward;
     tells = tells;
   }
@@ -344,8 +331,7 @@ trail_worked n le (next w t made) = let x = trail_lasted t in
     record {
       sound = x.sound made.sound;
       least = omega (arith, x.least, made.one, le);
-      still =
-          made.still;
+      still = made.still;
     }
 
 -- an outcome is at most one error and one wait

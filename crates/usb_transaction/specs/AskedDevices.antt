@@ -1,20 +1,14 @@
 -- What an answer of a transaction says of the device that was asked: the one that holds the
 -- target's address.
 use Rattle.std.specs.Prelude.{◌≡◌, ◌≢◌, ◌⊎◌, ℕ, List, None, Some, true, false}
-use Rattle.usb_packet.specs.declared.Toggle.{Toggle}
-use Rattle.usb_request.specs.Layout.{setup_of}
-use Rattle.usb_device.specs.declared.answer.Answer.{Answer}
-use Rattle.usb_device.specs.Rows.{accepted}
-use Rattle.usb_device.specs.Tree.{row_of, reach_on, state_on}
-use Rattle.usb_world.specs.declared.types.Attempt.{Attempt}
-use Rattle.usb_world.specs.declared.types.Outcome.{Outcome}
-use Rattle.usb_tree.specs.AttemptPackets.{deep_at}
-use Rattle.usb_world.specs.OneHolder.{HolderIn, hears_attempt, in_alone, out_alone}
-use Rattle.usb_world.specs.World.{World}
-use Rattle.usb_world.specs.Steps.{at_attempt, damage_in, Step, attempt, root_call, event, report}
-use Rattle.usb_world.specs.Steps.{after}
+use Rattle.usb_packet.specs.{Toggle}
+use Rattle.usb_request.specs.{setup_of}
+use Rattle.usb_device.specs.{Answer, accepted, row_of, reach_on, state_on}
+use Rattle.usb_world.specs.{Attempt, Outcome, HolderIn, hears_attempt, in_alone, out_alone, World}
+use Rattle.usb_world.specs.{at_attempt, damage_in, Step, attempt, root_call, event, report, after}
+use Rattle.usb_tree.specs.{deep_at}
 use Rattle.usb_transaction.specs.declared.target.Target.{Target}
-use Rattle.usb_transaction.specs.AttemptLog.{AttemptLog}
+use Rattle.usb_transaction.specs.AttemptLogs.{AttemptLog}
 use Rattle.usb_transaction.specs.Transactions.{setup_attempt, in_attempt, out_attempt}
 
 -- the last attempt of a transaction, and the one device that held its address then: it is not

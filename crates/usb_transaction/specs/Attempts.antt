@@ -1,9 +1,7 @@
 -- Which attempts a transaction made, as a course of the world.
 use Rattle.std.specs.Prelude.{◌≡◌, None, Result, Err}
-use Rattle.usb_world.specs.declared.types.Attempt.{Attempt}
-use Rattle.usb_world.specs.declared.types.BusFault.{BusFault}
-use Rattle.usb_world.specs.World.{World, Attempted, IsAttempt}
-use Rattle.usb_world.specs.Steps.{Step, attempt, Course, AttemptFails}
+use Rattle.usb_world.specs.{Attempt, BusFault, World, Attempted, IsAttempt, Step, attempt, Course}
+use Rattle.usb_world.specs.{AttemptFails}
 use Rattle.usb_transaction.specs.declared.fault.TransFault.{TransFault}
 use Rattle.usb_transaction.specs.declared.fault.TransFault.TheVariants.{Bus}
 use Rattle.usb_transaction.specs.Leaves.{IsNotOfBus}

@@ -1,28 +1,23 @@
 -- What each call tells: what was heard, what it leaves of each device, why it failed and who
 -- answered.
-use Rattle.usb_device.specs.Tree.{Location}
+use Rattle.usb_device.specs.{Location, State}
 use Rattle.std.specs.Prelude.{◌≡◌, ◌≢◌, ◌≤◌, ℕ, List, [], length, false, Option, Result, Ok, Err}
 use Rattle.std.specs.Prelude.{IfOk, IfSome, OnOk, ⊤}
-use Rattle.usb_packet.specs.declared.Toggle.{Toggle}
-use Rattle.usb_packet.specs.declared.Toggle.TheVariants.{One}
-use Rattle.usb_request.specs.Layout.{setup_of}
+use Rattle.usb_packet.specs.{Toggle, One}
+use Rattle.usb_request.specs.{setup_of}
 use Rattle.usb_device.specs.declared.answer.Answer.TheVariants as answer
-use Rattle.usb_device.specs.Rows.{State}
-use Rattle.usb_world.specs.Courses.{is_harmless}
-use Rattle.usb_world.specs.Devices.{EachWas}
-use Rattle.usb_world.specs.Steps.{Course}
-use Rattle.usb_world.specs.World.{World}
+use Rattle.usb_world.specs.{is_harmless, EachWas, Course, World}
 use Rattle.usb_transaction.specs.declared.target.Target.{Target}
 use Rattle.usb_transaction.specs.declared.fault.TransFault.{TransFault}
 use Rattle.usb_transaction.specs.declared.fault.TransFault.TheVariants.{Stalled, Busy, NoAnswer}
 use Rattle.usb_transaction.specs.declared.fault.TransFault.TheVariants.{Bus}
-use Rattle.usb_transaction.specs.Answerer.{Answerer}
+use Rattle.usb_transaction.specs.Answerers.{Answerer}
 use Rattle.usb_transaction.specs.HeardOutcomes.{heard_as, heard_when_sent, set_up_as}
 use Rattle.usb_transaction.specs.AskedDevices.{SetupAccepted, Answered, Took, IsUnheard}
 use Rattle.usb_transaction.specs.Leaves.{IsNotOfBus, ControlIn, ReadStatus, SourceIn, SinkOut}
 use Rattle.usb_transaction.specs.Leaves.{ChangesIn, SetupDone}
 use Rattle.usb_transaction.specs.SparedDevices.{EachSpared}
-use Rattle.usb_transaction.specs.AttemptLog.{Transacted, Polled}
+use Rattle.usb_transaction.specs.AttemptLogs.{Transacted, Polled}
 use Rattle.usb_transaction.specs.Transactions.{Ends, SetupEnds, packed, setup_attempt, in_attempt}
 use Rattle.usb_transaction.specs.Transactions.{out_attempt}
 use Rattle.usb_transaction.specs.Failures.{NoThreeDamaged, SetupFailure, ControlInFailure}

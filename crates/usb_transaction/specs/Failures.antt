@@ -1,17 +1,11 @@
 -- Why a transaction fails, where no three attempts running are damaged.
-use Rattle.usb_device.specs.Tree.{Location}
+use Rattle.usb_device.specs.{Location, tells_changes, State, ending, refused, max_packet, packet_at}
+use Rattle.usb_device.specs.{toggle_at, ReadingAt, IsSource, SourceAt, IsSink, PollAt, NeverTold}
 use Rattle.std.specs.Prelude.{◌≡◌, ◌≢◌, ℕ, ◌≤◌, ◌<◌, List, length, true, false, Option, Some}
 use Rattle.std.specs.Prelude.{is_some, Result, Err}
-use Rattle.usb_packet.specs.declared.Toggle.{Toggle}
-use Rattle.usb_packet.specs.declared.Toggle.TheVariants.{One}
-use Rattle.usb_device.specs.Bulk.{tells_changes}
-use Rattle.usb_device.specs.Rows.{State}
-use Rattle.usb_device.specs.Transfer.{ending, refused, max_packet, packet_at, toggle_at}
-use Rattle.usb_device.specs.Progress.{ReadingAt, IsSource, SourceAt, IsSink, PollAt, NeverTold}
-use Rattle.usb_world.specs.Wire.{AtMostTwoRunning}
-use Rattle.usb_tree.specs.AttemptPackets.{deep_at}
-use Rattle.usb_world.specs.OneHolder.{hears_attempt}
-use Rattle.usb_world.specs.World.{World}
+use Rattle.usb_packet.specs.{Toggle, One}
+use Rattle.usb_world.specs.{AtMostTwoRunning, hears_attempt, World}
+use Rattle.usb_tree.specs.{deep_at}
 use Rattle.usb_transaction.specs.declared.target.Target.{Target}
 use Rattle.usb_transaction.specs.declared.fault.TransFault.{TransFault}
 use Rattle.usb_transaction.specs.declared.fault.TransFault.TheVariants.{Busy, NoAnswer}

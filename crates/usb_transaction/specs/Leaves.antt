@@ -1,32 +1,22 @@
 -- One device over a transaction: what it was before, seen from where it is reachable after it.
 use Rattle.std.specs.Prelude.{◌≡◌, ◌≢◌, ◌⊎◌, ◌==◌, ◌≤◌, ℕ, ◌+◌, List, length, Bool, true, false}
 use Rattle.std.specs.Prelude.{Option, None, Some, Result, Ok, Err, ⊤}
-use Rattle.usb_packet.specs.declared.Toggle.{Toggle}
-use Rattle.usb_packet.specs.declared.Toggle.TheVariants.{One}
-use Rattle.usb_port.specs.PortState.{PortState}
-use Rattle.usb_request.specs.Layout.{setup_of}
-use Rattle.usb_device.specs.Spec.{Spec}
-use Rattle.usb_packet.specs.Toggles.{other}
-use Rattle.usb_device.specs.Bulk.{advanced, tells_changes, change_bits}
-use Rattle.usb_device.specs.Effect.{asked_by_setup}
-use Rattle.usb_device.specs.Rows.{State, accepted}
-use Rattle.usb_device.specs.Transfer.{ending, reading, refused as stage_refused, toggle_at}
-use Rattle.usb_device.specs.Tree.{Ports, full, acted, row_of, Location, place_on}
-use Rattle.usb_device.specs.Progress.{ReadingAt, ReadOn, StatusOn, StatusGiven, IsRead, IsSource}
-use Rattle.usb_device.specs.Progress.{SourceAt, SourceOn, IsSink, SinkAt, Joined, PollAt, NeverTold}
-use Rattle.usb_device.specs.Progress.{ToldByte, OnlyControl, OnlyStage, OnlySource, OnlySink}
-use Rattle.usb_device.specs.Progress.{OnlyChanges}
-use Rattle.usb_world.specs.declared.types.Attempt.{Attempt}
-use Rattle.usb_world.specs.declared.types.Outcome.{Outcome}
-use Rattle.usb_tree.specs.Paths.{address_of}
-use Rattle.usb_world.specs.World.{World}
-use Rattle.usb_world.specs.OneHolder.{HolderIn}
-use Rattle.usb_world.specs.Steps.{at_attempt, attempt, after}
+use Rattle.usb_packet.specs.{Toggle, One, other}
+use Rattle.usb_port.specs.{PortState}
+use Rattle.usb_request.specs.{setup_of}
+use Rattle.usb_device.specs.{Spec, advanced, tells_changes, change_bits, asked_by_setup, State}
+use Rattle.usb_device.specs.{accepted, ending, reading, refused as stage_refused, toggle_at, Ports}
+use Rattle.usb_device.specs.{full, acted, row_of, Location, place_on, ReadingAt, ReadOn, StatusOn}
+use Rattle.usb_device.specs.{StatusGiven, IsRead, IsSource, SourceAt, SourceOn, IsSink, SinkAt}
+use Rattle.usb_device.specs.{Joined, PollAt, NeverTold, ToldByte, OnlyControl, OnlyStage}
+use Rattle.usb_device.specs.{OnlySource, OnlySink, OnlyChanges}
+use Rattle.usb_world.specs.{Attempt, Outcome, World, HolderIn, at_attempt, attempt, after}
+use Rattle.usb_tree.specs.{address_of}
 use Rattle.usb_transaction.specs.declared.target.Target.{Target}
 use Rattle.usb_transaction.specs.declared.fault.TransFault.{TransFault}
 use Rattle.usb_transaction.specs.declared.fault.TransFault.TheVariants.{Stalled, Busy, NoAnswer}
 use Rattle.usb_transaction.specs.declared.fault.TransFault.TheVariants.{Bus}
-use Rattle.usb_transaction.specs.AttemptLog.{AttemptLog}
+use Rattle.usb_transaction.specs.AttemptLogs.{AttemptLog}
 use Rattle.usb_transaction.specs.Transactions.{in_attempt, setup_attempt}
 
 -- the call did not end because the bus gave up

@@ -1,11 +1,37 @@
 pub mod HeardOutcomes
 pub mod Transactions
-pub mod AttemptLog
+pub mod AttemptLogs
 pub mod AskedDevices
 pub mod Leaves
 pub mod Failures
 pub mod Losses
-pub mod Answerer
+pub mod Answerers
 pub mod SparedDevices
 pub mod Calls
 pub mod Attempts
+-- the words of this crate, wherever one stands
+pub use HeardOutcomes.{acks, heard_as, heard_when_sent, polled, polled_as, set_up_as, toggle_after}
+pub use Transactions.{AttemptsMade, Ends, IsTarget, SetupEnds, error_limit, in_attempt, out_attempt}
+pub use Transactions.{packed, setup_attempt, transaction_bound, wait_limit}
+pub use AttemptLogs.{AttemptLog, BusFailed, IsNoEnd, LastOutcome, Polled, Transacted}
+pub use AttemptLogs.{TransactionDone, Waiting, errors_with, next, start, waits_with}
+unfoldable pub use AttemptLogs.{KeepsTrying, errors_running, waits_in}
+pub use AskedDevices.{Answered, AskedLast, IsUnheard, SetupAccepted, Took}
+pub use Leaves.{AcceptedAt, AcceptedSince, CanAccept, CanAnswer, ChangesIn, ControlIn, IsInRead}
+pub use Leaves.{IsNotOfBus, PollCut, PollEnds, ReadCut, ReadEnds, ReadStatus, SetupDone}
+pub use Leaves.{SinkBetween, SinkEnds, SinkOut, SourceBetween, SourceCut, SourceEnds, SourceIn}
+pub use Leaves.{StatusEnds, ToldBy, ToldIn, ToldSince, ToldSome, is_at, none_came, one_came, over}
+pub use Failures.{ControlInFailure, Fits, HasNext, Listens, NoThreeDamaged, PollFailure}
+pub use Failures.{SetupFailure, SinkOutFailure, SourceInFailure, StatusReadFailure, refusal, status}
+pub use Losses.{LosesNone, LossesIn, begins_no_stretch}
+pub use Answerers.{Answerer, HadOne, IsAnswer}
+pub use SparedDevices.{EachSpared, IsSpared}
+pub use Calls.{AsksIn, InFailure, InLeaves, IsUnhindered, MeansOfIn, MeansOfOut, MeansOfSetup}
+pub use Calls.{OutFailure, OutLeaves, PollsIn, SendsOut, SetsUp}
+pub use Attempts.{GivenUp, IsOnly, TransactionAttempts}
+pub use declared.fault.TransFault.{TransFault}
+pub use declared.fault.TransFault.TheVariants.{Bus, Busy, NoAnswer, Stalled}
+pub use declared.heard_outcome.HeardOutcome.{HeardOutcome}
+pub use declared.heard_outcome.HeardOutcome.TheVariants.{Lost, Moved, NotReady, Refused, Repeat}
+pub use declared.target.Target.{Target}
+pub use declared.tries.Tries.{Tries}

@@ -1,15 +1,10 @@
 -- Address losses over a transaction: a device that was to take an address at the host's ACK of its
 -- status stage did not see it (9.4.6).
-use Rattle.usb_device.specs.Tree.{Location}
+use Rattle.usb_device.specs.{Location, Is, State, ending}
 use Rattle.std.specs.Prelude.{◌≡◌, ◌≢◌, ◌==◌, ◌&&◌, not, ℕ, Bool, true, List, Some, Result, Ok, Err}
-use Rattle.usb_request.specs.Codes.{PORT_OUT, CLEAR_FEATURE}
-use Rattle.usb_request.specs.Features.{C_PORT_CONNECTION}
-use Rattle.usb_request.specs.declared.setup.Setup.{Setup}
-use Rattle.usb_device.specs.Request.{Is}
-use Rattle.usb_device.specs.Rows.{State}
-use Rattle.usb_device.specs.Transfer.{ending}
+use Rattle.usb_request.specs.{PORT_OUT, CLEAR_FEATURE, C_PORT_CONNECTION, Setup}
 pub use Rattle.usb_world.specs.Losses.{TookOrLost, took, lost}
-use Rattle.usb_world.specs.World.{World}
+use Rattle.usb_world.specs.{World}
 use Rattle.usb_transaction.specs.declared.target.Target.{Target}
 use Rattle.usb_transaction.specs.declared.fault.TransFault.{TransFault}
 use Rattle.usb_transaction.specs.Leaves.{is_at}

@@ -1,13 +1,10 @@
 -- Devices that a request leaves where they are: PORT_RESET of a hub's port gives the device there
 -- address 0 (11.24.2.13), and no other request resets one.
 use Rattle.std.specs.Prelude.{◌≡◌, ◌≢◌, Some, true, false}
-use Rattle.usb_request.specs.declared.setup.Setup.{Setup}
-use Rattle.usb_device.specs.Rows.{State}
-use Rattle.usb_device.specs.Tree.{Location, reach_on, state_on}
-use Rattle.usb_tree.specs.Paths.{address_of}
-use Rattle.usb_world.specs.Courses.{is_harmless}
-use Rattle.usb_world.specs.Devices.{Relation, Was}
-use Rattle.usb_world.specs.World.{World}
+use Rattle.usb_request.specs.{Setup}
+use Rattle.usb_device.specs.{State, Location, reach_on, state_on}
+use Rattle.usb_tree.specs.{address_of}
+use Rattle.usb_world.specs.{is_harmless, Relation, Was, World}
 use Rattle.usb_transaction.specs.declared.target.Target.{Target}
 
 -- after such a reset, asked of a device with an address, one that has an address was not reset

@@ -1,11 +1,8 @@
 -- What a transaction tells.
 use Rattle.std.specs.Prelude.{◌≡◌, ℕ, ◌+◌, ◌<◌, ◌≤◌, List, Some, None, true, Result, Ok, Err}
 use Rattle.arrayvec.specs.ArrayVec.{ArrayVec}
-use Rattle.usb_packet.specs.declared.Toggle.{Toggle}
-use Rattle.usb_packet.specs.declared.Toggle.TheVariants.{Zero}
-use Rattle.usb_packet.specs.declared.TokenKind.TheVariants.{OutTok, InTok, SetupTok}
-use Rattle.usb_world.specs.declared.types.Attempt.{Attempt}
-use Rattle.usb_world.specs.World.{World, Failed}
+use Rattle.usb_packet.specs.{Toggle, Zero, OutTok, InTok, SetupTok}
+use Rattle.usb_world.specs.{Attempt, World, Failed}
 use Rattle.usb_transaction.specs.declared.target.Target.{Target}
 use Rattle.usb_transaction.specs.declared.fault.TransFault.{TransFault}
 use Rattle.usb_transaction.specs.declared.fault.TransFault.TheVariants.{Stalled, Busy, NoAnswer}

@@ -1,6 +1,6 @@
 //! The attempts that a transaction makes.
 ghost use Rattle.std.specs.Prelude.{◌≡◌, ◌<◌, ◌≤◌, length};
-ghost use Rattle.usb_world.specs.World.{IsAttempt};
+ghost use Rattle.usb_world.specs.Worlds.{IsAttempt};
 ghost use Rattle.usb_transaction.specs.Transactions.{IsTarget, setup_attempt, in_attempt, out_attempt};
 
 use crate::Target;

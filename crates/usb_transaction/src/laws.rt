@@ -11,16 +11,16 @@ ghost use Rattle.usb_world.specs.Courses.{is_harmless};
 ghost use Rattle.usb_world.specs.Devices.{EachWas};
 ghost use Rattle.usb_tree.specs.AttemptPackets.{IsSettled};
 ghost use Rattle.usb_world.specs.Steps.{Course};
-ghost use Rattle.usb_world.specs.World.{World};
+ghost use Rattle.usb_world.specs.Worlds.{World};
 ghost use Rattle.usb_transaction.specs.declared.heard_outcome.HeardOutcome.{HeardOutcome as AHeardOutcome};
 ghost use Rattle.usb_transaction.specs.declared.fault.TransFault.{TransFault as AFault};
 ghost use Rattle.usb_transaction.specs.declared.target.Target.{Target as ATarget};
-ghost use Rattle.usb_transaction.specs.Answerer.{HadOne, IsAnswer};
+ghost use Rattle.usb_transaction.specs.Answerers.{HadOne, IsAnswer};
 ghost use Rattle.usb_transaction.specs.Attempts.{IsOnly, TransactionAttempts};
 ghost use Rattle.usb_transaction.specs.HeardOutcomes.{heard_as, heard_when_sent, set_up_as};
 ghost use Rattle.usb_transaction.specs.Losses.{begins_no_stretch, LossesIn, LosesNone};
 ghost use Rattle.usb_transaction.specs.Leaves.{SourceBetween, SinkBetween};
-ghost use Rattle.usb_transaction.specs.AttemptLog.{AttemptLog, KeepsTrying, TransactionDone, Transacted, Polled};
+ghost use Rattle.usb_transaction.specs.AttemptLogs.{AttemptLog, KeepsTrying, TransactionDone, Transacted, Polled};
 ghost use Rattle.usb_transaction.specs.Transactions.{setup_attempt, in_attempt, out_attempt};
 
 /// A transaction makes one attempt, again and again, and no other step. Where the bus gave up, it

@@ -1,7 +1,7 @@
 -- Two numbers, or two paths, are the same or not.
 use Rattle.std.proofs.Common.{◌≡◌, ℕ, zero, suc, ◌==◌, true, false, List, [], ◌∷◌, refl, arith}
 use Rattle.std.proofs.lemmas.Bool.Decides.{nat_tests}
-use Rattle.usb_tree.specs.Paths.{same_number, same_path}
+use Rattle.usb_tree.specs.{same_number, same_path}
 
 pub equal_same : (n x : ℕ) → (n == x) ≡ true → n ≡ x
 equal_same n x h = grind (arith, nat_tests)

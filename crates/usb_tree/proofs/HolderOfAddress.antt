@@ -2,13 +2,10 @@
 use Rattle.std.proofs.Common.{◌≡◌, ℕ, zero, suc, Bool, true, false, ◌&&◌, ◌==◌, [], ◌∷◌, None, Some}
 use Rattle.std.proofs.Common.{◌⊎◌, inl, inr, refl, sym, ap, ◌∙◌, arith}
 use Rattle.std.proofs.lemmas.Option.{same_Some}
-use Rattle.usb_port.specs.PortState.{PortState}
-use Rattle.usb_device.specs.Rows.{State}
-use Rattle.usb_device.specs.Tree.{Ports, ended, vacant, taken, reach_at, state_at, place_at}
-use Rattle.usb_device.specs.Tree.{path_to}
-use Rattle.usb_tree.specs.Paths.{address_of}
-use Rattle.usb_tree.specs.AttemptPackets.{NobodyHolds}
-use Rattle.usb_tree.specs.FoundHolder.{Found}
+use Rattle.usb_port.specs.{PortState}
+use Rattle.usb_device.specs.{State, Ports, ended, vacant, taken, reach_at, state_at, place_at}
+use Rattle.usb_device.specs.{path_to}
+use Rattle.usb_tree.specs.{address_of, NobodyHolds, Found}
 use Rattle.usb_tree.proofs.Booleans.{false_true}
 use Rattle.usb_device.proofs.Interface.{nat_eq-true_sym}
 
@@ -19,8 +16,7 @@ found_next : (n : ℕ) (b : PortState) (k : Ports) → Found n k → Found n (va
 unfolding reach_at place_at
 found_next n b k f = record {
   spot = record { row = suc f.spot.row; rest = f.spot.rest };
-  port =
-      f.port;
+  port = f.port;
   own = f.own;
   below = f.below;
   on = f.on;
@@ -46,8 +42,7 @@ found_below : (n : ℕ) (b : PortState) (s : State) (a k : Ports) → b.enable �
 unfolding reach_at place_at
 found_below n b s a k e f = record {
   spot = record { row = 0; rest = path_to f.spot };
-  port =
-      f.port;
+  port = f.port;
   own = f.own;
   below = f.below;
   on = rw e f.on;

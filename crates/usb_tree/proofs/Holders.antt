@@ -3,11 +3,10 @@ use Rattle.std.proofs.Common.{◌≡◌, ℕ, zero, suc, ◌+◌, ◌≤◌, ◌
 use Rattle.std.proofs.Common.{true, false, List, [], ◌∷◌, ◌++◌, Some, option_map, refl, ap, sym}
 use Rattle.std.proofs.Common.{subst, ◌∙◌, arith}
 use Rattle.std.proofs.lemmas.Option.{same_Some}
-use Rattle.usb_port.specs.PortState.{PortState}
-use Rattle.usb_device.specs.Rows.{State}
-use Rattle.usb_device.specs.Tree.{Ports, ended, vacant, taken, reach_at, state_at, path_to}
-use Rattle.usb_device.specs.Delivery.{held_addresses, has, repeats}
-use Rattle.usb_tree.specs.Paths.{address_of, HoldsAddress, Two}
+use Rattle.usb_port.specs.{PortState}
+use Rattle.usb_device.specs.{State, Ports, ended, vacant, taken, reach_at, state_at, path_to}
+use Rattle.usb_device.specs.{held_addresses, has, repeats}
+use Rattle.usb_tree.specs.{address_of, HoldsAddress, Two}
 use Rattle.usb_tree.proofs.Booleans.{false_true, both, neither, and_of, or_left, or_right}
 use Rattle.usb_tree.proofs.Booleans.{either_of}
 use Rattle.usb_tree.proofs.Equality.{equal_same}
@@ -204,8 +203,7 @@ holds_address_behind : (b : PortState) (s : State) (a k : Ports) (n : ℕ) → H
     → HoldsAddress (taken b s a k) n
 unfolding reach_at state_at
 holds_address_behind b s a k n h = record {
-  spot =
-      record { row = suc h.spot.row; rest = h.spot.rest };
+  spot = record { row = suc h.spot.row; rest = h.spot.rest };
   on = h.on;
   at = h.at;
 }
@@ -238,8 +236,7 @@ unfolding held_addresses reach_at state_at
 holder_of ended n h = false_true h
 holder_of (vacant b k) n h =
     let x : _ = holder_of k n h in record {
-      spot =
-          record { row = suc x.spot.row; rest = x.spot.rest };
+      spot = record { row = suc x.spot.row; rest = x.spot.rest };
       on = x.on;
       at = x.at;
     }
@@ -300,8 +297,7 @@ twice_two (vacant b k) h =
     record {
       n = t.n;
       one = holds_address_beyond b k t.n t.one;
-      other =
-          holds_address_beyond b k t.n t.other;
+      other = holds_address_beyond b k t.n t.other;
       differ = t.differ;
     }
 twice_two (taken b s a k) h = split b.enable refl h (twice_two a) (twice_two k)
@@ -310,8 +306,7 @@ twice_two (taken b s a k) h = split b.enable refl h (twice_two a) (twice_two k)
     deeper e t = record {
       n = t.n;
       one = holds_address_below b s a k t.n e t.one;
-      other =
-          holds_address_below b s a k t.n e t.other;
+      other = holds_address_below b s a k t.n e t.other;
       differ = t.differ;
     }
 
@@ -319,8 +314,7 @@ twice_two (taken b s a k) h = split b.enable refl h (twice_two a) (twice_two k)
     onward t = record {
       n = t.n;
       one = holds_address_behind b s a k t.n t.one;
-      other =
-          holds_address_behind b s a k t.n t.other;
+      other = holds_address_behind b s a k t.n t.other;
       differ = t.differ;
     }
 
@@ -337,18 +331,14 @@ twice_two (taken b s a k) h = split b.enable refl h (twice_two a) (twice_two k)
         with_it (inl y) = record {
           n = address_of s;
           one = at_it b s a k e;
-          other =
-              holds_address_below b s a k (address_of s) e (holder_of a (address_of s) y);
-          differ =
-              refl;
+          other = holds_address_below b s a k (address_of s) e (holder_of a (address_of s) y);
+          differ = refl;
         }
         with_it (inr y) = record {
           n = address_of s;
           one = at_it b s a k e;
-          other =
-              holds_address_behind b s a k (address_of s) (holder_of k (address_of s) y);
-          differ =
-              refl;
+          other = holds_address_behind b s a k (address_of s) (holder_of k (address_of s) y);
+          differ = refl;
         }
 
         without : (repeats (held_addresses a) ≡ true)
@@ -359,8 +349,7 @@ twice_two (taken b s a k) h = split b.enable refl h (twice_two a) (twice_two k)
         without (inr (inr y)) = record {
           n = y.0;
           one = holds_address_below b s a k y.0 e (holder_of a y.0 y.1);
-          other =
-              holds_address_behind b s a k y.0 (holder_of k y.0 y.2);
+          other = holds_address_behind b s a k y.0 (holder_of k y.0 y.2);
           differ = refl;
         }
 

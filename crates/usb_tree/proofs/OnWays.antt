@@ -1,13 +1,9 @@
 -- A packet spares what is pending, leaves a port, resets none, by what each device on the way asks.
 use Rattle.std.proofs.Common.{◌≡◌, ℕ, zero, suc, ◌||◌, not, Bool, true, false}
 use Rattle.std.proofs.Common.{List, [], ◌∷◌, ◌++◌, Some, refl, ap}
-use Rattle.usb_device.specs.declared.delivery.Sent.{Sent}
-use Rattle.usb_device.specs.Rows.{State}
-use Rattle.usb_device.specs.Tree.{Ports, ended, vacant, taken, state_at}
-use Rattle.usb_device.specs.Delivery.{effect_of}
-use Rattle.usb_tree.specs.WayEffects.{effect_resets, resets_at, effect_keeps_pending}
-use Rattle.usb_tree.specs.WayEffects.{packet_keeps_pending}
-use Rattle.usb_tree.specs.WayEffects.{leaves_port, way_leaves}
+use Rattle.usb_device.specs.{Sent, State, Ports, ended, vacant, taken, state_at, effect_of}
+use Rattle.usb_tree.specs.{effect_resets, resets_at, effect_keeps_pending, packet_keeps_pending}
+use Rattle.usb_tree.specs.{leaves_port, way_leaves}
 use Rattle.usb_tree.proofs.Booleans.{and_of, or_right, neither_of, and_none}
 
 -- so of each device on the way to a path, with its port there and the rest of the path

@@ -1,9 +1,8 @@
 -- A device that is reset or not, or forgets what it remembers.
 use Rattle.std.proofs.Common.{◌≡◌, Bool, true, false, Option, None, Some, option_map, refl, sym, ap}
-use Rattle.usb_device.specs.Rows.{State, forgotten}
+use Rattle.usb_device.specs.{State, forgotten}
 use Rattle.usb_device.specs.declared.transfer.RememberedPacket.TheVariants.{Nothing}
-use Rattle.usb_tree.specs.Paths.{address_of}
-use Rattle.usb_tree.specs.WayEffects.{reset_if}
+use Rattle.usb_tree.specs.{address_of, reset_if}
 use Rattle.usb_tree.proofs.Booleans.{false_true}
 
 pub forgotten-nothing : (s : State) → s.memory ≡ Nothing → forgotten s ≡ s

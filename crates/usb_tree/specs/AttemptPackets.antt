@@ -1,17 +1,12 @@
 -- The host's packets of an attempt, as they go out, and the tree after them.
 use Rattle.std.specs.Prelude.{◌≡◌, ℕ, ◌==◌, Bool, true, false, List, [], ◌∷◌, Option, None, Some}
 use Rattle.std.specs.Prelude.{option_map, if◌then◌else◌, ⊤}
-use Rattle.usb_packet.specs.declared.Packet.TheVariants.{Token, Payload, Ack}
-use Rattle.usb_port.specs.PortState.{PortState}
-use Rattle.usb_device.specs.declared.answer.Answer.{Answer}
-use Rattle.usb_device.specs.declared.delivery.Content.{Content}
-use Rattle.usb_device.specs.declared.delivery.Content.TheVariants.{Whole, Broken}
-use Rattle.usb_device.specs.declared.delivery.Sent.{Sent}
-use Rattle.usb_device.specs.Rows.{State, Reply}
-use Rattle.usb_device.specs.Attempt.{is_own}
-use Rattle.usb_device.specs.Tree.{Ports, reach_at, state_at, Location, reach_on, state_on}
-use Rattle.usb_device.specs.Delivery.{after_packet, answers, all_forgotten, held_addresses, repeats}
-use Rattle.usb_device.specs.Delivery.{hears, reply_to}
+use Rattle.usb_packet.specs.{Token, Payload, Ack}
+use Rattle.usb_port.specs.{PortState}
+use Rattle.usb_device.specs.{Answer, Content, Whole, Broken, Sent, State, Reply, is_own, Ports}
+use Rattle.usb_device.specs.{reach_at, state_at, Location, reach_on, state_on, after_packet}
+use Rattle.usb_device.specs.{all_forgotten, held_addresses, repeats, hears, reply_to}
+use Rattle.usb_device.specs.Delivery.{answers}
 use Rattle.usb_tree.specs.WayEffects.{resets_at, packet_keeps_pending}
 use Rattle.usb_tree.specs.Paths.{address_of}
 

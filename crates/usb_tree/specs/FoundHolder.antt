@@ -1,8 +1,7 @@
 -- A reachable device that holds an address.
 use Rattle.std.specs.Prelude.{◌≡◌, ℕ, true, Some}
-use Rattle.usb_port.specs.PortState.{PortState}
-use Rattle.usb_device.specs.Rows.{State}
-use Rattle.usb_device.specs.Tree.{Ports, Location, full, reach_on, place_on}
+use Rattle.usb_port.specs.{PortState}
+use Rattle.usb_device.specs.{State, Ports, Location, full, reach_on, place_on}
 use Rattle.usb_tree.specs.Paths.{address_of}
 
 pub record Found (n : ℕ) (k : Ports) : Type 0 where

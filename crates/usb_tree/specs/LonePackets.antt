@@ -1,15 +1,11 @@
 -- A packet that is for one device of a tree at most, at a path; the empty path is the whole tree's.
 use Rattle.std.specs.Prelude.{◌≡◌, ℕ, zero, suc, ◌&&◌, Bool, true, false, List, [], ◌∷◌, ◌++◌}
 use Rattle.std.specs.Prelude.{Option, None, Some, ⊤}
-use Rattle.usb_device.specs.declared.delivery.Sent.{Sent}
+use Rattle.usb_device.specs.{Sent, State, Ports, Location, changed, put, device_there, state_at}
+use Rattle.usb_device.specs.{reach_at, reach_on, effect_by, all_reached, keeps_others}
 use Rattle.usb_device.specs.declared.transfer.RememberedPacket.TheVariants.{Nothing}
-use Rattle.usb_device.specs.Rows.{State}
-use Rattle.usb_device.specs.Tree.{Ports, Location, changed, put, device_there, state_at, reach_at}
-use Rattle.usb_device.specs.Tree.{reach_on}
-use Rattle.usb_device.specs.Route.{effect_by}
 use Rattle.usb_tree.specs.Paths.{same_number, same_path}
 use Rattle.usb_tree.specs.AttemptPackets.{deep_at, calls_on, IsSettled, OneHolds}
-use Rattle.usb_device.specs.Holders.{all_reached, keeps_others}
 
 -- no other device remembers anything
 abbrev pub OthersForgot : Ports → Location → Type 0

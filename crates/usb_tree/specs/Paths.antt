@@ -2,8 +2,7 @@
 -- connection is pending on it.
 use Rattle.std.specs.Prelude.{◌≡◌, ℕ, zero, suc, ◌&&◌, ◌||◌, Bool, true, false, List, [], ◌∷◌, Some}
 use Rattle.std.specs.Prelude.{option_map}
-use Rattle.usb_device.specs.Rows.{State}
-use Rattle.usb_device.specs.Tree.{Ports, ended, vacant, taken, Location, reach_on, state_on}
+use Rattle.usb_device.specs.{State, Ports, ended, vacant, taken, Location, reach_on, state_on}
 
 -- whether a port stands at a path, and it and each port on its way is powered
 unfoldable pub has_power_at : Ports → ℕ → List ℕ → Bool

@@ -3,19 +3,12 @@
 -- leaves what is pending.
 use Rattle.std.specs.Prelude.{◌≡◌, ℕ, zero, suc, ◌&&◌, ◌||◌, not, Bool, true, false, List, [], ◌∷◌}
 use Rattle.std.specs.Prelude.{Option, None, Some}
-use Rattle.usb_port.specs.PortState.{is_attached}
+use Rattle.usb_port.specs.{is_attached, PortCall, SetReset, ClearPower, ClearConnectionChange}
+use Rattle.usb_port.specs.{is_reset}
 use Rattle.usb_device.specs.declared.transfer.RememberedPacket.TheVariants.{Nothing}
-use Rattle.usb_device.specs.Rows.{State, reset_state}
-use Rattle.usb_port.specs.declared.call.PortCall.{PortCall}
-use Rattle.usb_port.specs.declared.call.PortCall.TheVariants.{SetReset, ClearPower}
-use Rattle.usb_port.specs.declared.call.PortCall.TheVariants.{ClearConnectionChange}
-use Rattle.usb_device.specs.declared.effect.Effect.{Effect}
-use Rattle.usb_device.specs.declared.effect.Effect.TheVariants.{Leaves, Calls, PortsOff}
-use Rattle.usb_device.specs.Tree.{Ports, ended, vacant, taken, all_off, Place, empty, full}
-use Rattle.usb_device.specs.Tree.{place_at}
-use Rattle.usb_port.specs.Calls.{is_reset}
-use Rattle.usb_device.specs.Delivery.{effect_of}
-use Rattle.usb_device.specs.declared.delivery.Sent.{Sent}
+use Rattle.usb_device.specs.{State, reset_state, Effect, Leaves, Calls, PortsOff, Ports, ended}
+use Rattle.usb_device.specs.{vacant, taken, all_off, empty, full, place_at, effect_of, Sent}
+use Rattle.usb_device.specs.Tree.{Place}
 use Rattle.usb_tree.specs.Paths.{same_number}
 
 -- a device that was just reset: at address 0, not configured, it remembers nothing, and its ports

@@ -6,31 +6,20 @@ use Rattle.std.specs.List.{list_all}
 use Rattle.std.specs.Str.{bytes_eq}
 use Rattle.std.proofs.lemmas.Bool.{and_parts, leb-true}
 use Rattle.std.proofs.lemmas.Bool.Decides.{nat_tests}
-use Rattle.usb_packet.specs.declared.Toggle.{Toggle}
-use Rattle.usb_packet.specs.declared.Toggle.TheVariants.{Zero, One}
-use Rattle.usb_port.specs.Path.{path_of}
-use Rattle.usb_wire.specs.declared.answer.Answer.{Answer}
-use Rattle.usb_wire.specs.declared.answer.Answer.TheVariants.{Roots, Ack, Nak, Stall, Nothing, Data}
-use Rattle.usb_wire.specs.declared.answer.Answer.TheVariants.{Done, Show, End, Send, Receive, Clear}
-use Rattle.usb_wire.specs.declared.answer.Said.{Said}
-use Rattle.usb_wire.specs.declared.answer.Said.TheVariants.{Changed}
-use Rattle.usb_wire.specs.declared.fault.WireFault.{WireFault}
-use Rattle.usb_wire.specs.declared.fault.WireFault.TheVariants.{LineTooLong, BadCharacter, NoAnswer}
-use Rattle.usb_wire.specs.declared.fault.WireFault.TheVariants.{BadHex, BadLength, BadNumber}
-use Rattle.usb_wire.specs.declared.fault.WireFault.TheVariants.{BadPath}
-use Rattle.usb_wire.specs.declared.question.Asked.{Asked}
+use Rattle.usb_packet.specs.{Toggle, Zero, One}
+use Rattle.usb_port.specs.{path_of}
+use Rattle.usb_wire.specs.{Answer, Roots, Ack, Nak, Stall, Nothing, Data, Done, Show, End, Send}
+use Rattle.usb_wire.specs.{Receive, Clear, Said, Changed, WireFault, LineTooLong, BadCharacter}
+use Rattle.usb_wire.specs.{NoAnswer, BadHex, BadLength, BadNumber, BadPath, Asked, send_limit}
+use Rattle.usb_wire.specs.{Field, Form, argument_fault, bytes_field, fault_by, line_fault}
+use Rattle.usb_wire.specs.{fields_in, forms, packets_field, path_field, root_field, roots_field}
+use Rattle.usb_wire.specs.{status_field, words_fault, hex_length, hex_value, is_dash, is_hex}
+use Rattle.usb_wire.specs.{number_within, alone, said_of, bytes_of_word, clear_answer, count_in}
+use Rattle.usb_wire.specs.{data_answer, fault_in, line_says, number_of_word, path_in, status_change}
+use Rattle.usb_wire.specs.{receive_answer, roots_answer, send_answer, status_of_word, text_of_line}
+use Rattle.usb_wire.specs.{three_say, with_one, with_two, words_say, all_printable, words}
 use Rattle.usb_wire.specs.declared.question.Asked.TheVariants.{Hello, Attempt, Port, Wait}
-use Rattle.usb_wire.specs.Answers.{send_limit}
-use Rattle.usb_wire.specs.Faults.{Field, Form, argument_fault, bytes_field, fault_by, line_fault}
-use Rattle.usb_wire.specs.Faults.{fields_in, forms, packets_field, path_field, root_field}
-use Rattle.usb_wire.specs.Faults.{roots_field, status_field, words_fault}
-use Rattle.usb_wire.specs.Fields.{hex_length, hex_value, is_dash, is_hex, number_within}
-use Rattle.usb_wire.specs.Reading.{◌>>=◌, alone, said_of, bytes_of_word, clear_answer, count_in}
-use Rattle.usb_wire.specs.Reading.{data_answer, fault_in, line_says, number_of_word, path_in}
-use Rattle.usb_wire.specs.Reading.{status_change, receive_answer, roots_answer, send_answer}
-use Rattle.usb_wire.specs.Reading.{status_of_word, text_of_line, three_say, with_one, with_two}
-use Rattle.usb_wire.specs.Reading.{words_say}
-use Rattle.usb_wire.specs.Words.{all_printable, words}
+use Rattle.usb_wire.specs.Reading.{◌>>=◌}
 use Rattle.usb_wire.proofs.FieldLemmas.{value-hex}
 
 -- ---- faults of readings one after the other

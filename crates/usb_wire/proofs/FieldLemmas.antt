@@ -24,11 +24,11 @@ use Rattle.hex.specs.declared.error.FromHexError.{FromHexError}
 use Rattle.hex.specs.Hex.{decode_of, decode_sized, encode_upper, encode_with, is_hex_digit, IsBytes}
 use Rattle.hex.proofs.HexLemmas.{decode_of-digits, decode_of-encode_upper, decode_of-ok}
 use Rattle.hex.proofs.HexLemmas.{decode_sized-twice}
-use Rattle.usb_packet.specs.Text.{hex_text}
-use Rattle.usb_port.specs.Path.{IsPortNumber, path_text}
-use Rattle.usb_wire.specs.Fields.{hex_length, hex_value, is_dash, is_decimal, is_hex, number_within}
-use Rattle.usb_wire.specs.declared.fault.WireFault.TheVariants.{BadHex, BadLength}
-use Rattle.usb_wire.specs.Reading.{◌>>=◌, bytes_of_word, count_in, status_of_word}
+use Rattle.usb_packet.specs.{hex_text}
+use Rattle.usb_port.specs.{IsPortNumber, path_text}
+use Rattle.usb_wire.specs.{hex_length, hex_value, is_dash, is_decimal, is_hex, number_within}
+use Rattle.usb_wire.specs.{BadHex, BadLength, bytes_of_word, count_in, status_of_word}
+use Rattle.usb_wire.specs.Reading.{◌>>=◌}
 use Rattle.usb_wire.proofs.WordLemmas.{all_visible, is_visible}
 
 -- a Bool is one of two
@@ -304,8 +304,7 @@ all_visible-path_text (n ∷ []) h = rw (number_visible n (All-head IsPortNumber
 all_visible-path_text (n ∷ m ∷ p) h =
     rw (
       number_visible n (All-head IsPortNumber n (m ∷ p) h),
-      all_visible-path_text (m ∷ p)
-          (All-tail IsPortNumber n (m ∷ p) h),
+      all_visible-path_text (m ∷ p) (All-tail IsPortNumber n (m ∷ p) h),
     ) refl
 
 -- ---- readings
@@ -397,8 +396,7 @@ decoded-counted word n h some =
             bytes = value.0;
             value = value.1;
             count = size;
-            decoded =
-                decode_sized-twice word n (omega (arith, twice, size)) ∙ found;
+            decoded = decode_sized-twice word n (omega (arith, twice, size)) ∙ found;
           }
     ]
 

@@ -13,36 +13,22 @@ use Rattle.std.proofs.lemmas.List.Folds.{list_all-append}
 use Rattle.std.proofs.lemmas.Option.{same_Some}
 use Rattle.std.proofs.lemmas.Str.Pattern.{IsSplitOnceResult, split_parts}
 use Rattle.hex.specs.Hex.{IsBytes}
-use Rattle.usb_packet.specs.declared.TokenKind.{TokenKind}
-use Rattle.usb_packet.specs.declared.TokenKind.TheVariants.{OutTok, InTok, SetupTok}
-use Rattle.usb_packet.specs.declared.Toggle.{Toggle}
-use Rattle.usb_packet.specs.declared.Toggle.TheVariants.{Zero, One}
-use Rattle.usb_packet.specs.Text.{data_name, hex_text, token_name}
+use Rattle.usb_packet.specs.{TokenKind, OutTok, InTok, SetupTok, Toggle, Zero, One, data_name}
+use Rattle.usb_packet.specs.{hex_text, token_name}
 use Rattle.usb_packet.proofs.SpellingLemmas.{IsBytes-cons, IsBytes-none}
-use Rattle.usb_port.specs.declared.call.PortCall.{PortCall}
-use Rattle.usb_port.specs.declared.call.PortCall.TheVariants.{SetPower, SetReset, ClearEnable}
-use Rattle.usb_port.specs.declared.call.PortCall.TheVariants.{ClearPower, ClearConnectionChange}
-use Rattle.usb_port.specs.declared.call.PortCall.TheVariants.{ClearEnableChange, ClearResetChange}
-use Rattle.usb_request.specs.declared.setup.Setup.{Setup as SetupData}
-use Rattle.usb_request.specs.Layout.{bytes_of, setup_of}
-use Rattle.usb_wire.specs.declared.fault.WireFault.{WireFault}
-use Rattle.usb_wire.specs.declared.fault.WireFault.TheVariants.{LineTooLong, BadCharacter}
-use Rattle.usb_wire.specs.declared.question.Endpoint.{Endpoint}
-use Rattle.usb_wire.specs.declared.question.Question.{Question}
+use Rattle.usb_port.specs.{PortCall, SetPower, SetReset, ClearEnable, ClearPower}
+use Rattle.usb_port.specs.{ClearConnectionChange, ClearEnableChange, ClearResetChange}
+use Rattle.usb_request.specs.{Setup as SetupData, bytes_of, setup_of}
+use Rattle.usb_wire.specs.{WireFault, LineTooLong, BadCharacter, Endpoint, Question, Speed, Full}
+use Rattle.usb_wire.specs.{Low, LowBelowHub, hex_value, after_pre, asked_in, behind_pre_word}
+use Rattle.usb_wire.specs.{call_in, cut_at, data_behind, endpoint_in, in_question, out_question}
+use Rattle.usb_wire.specs.{port_question, question_of, setup_by, setup_in, setup_question}
+use Rattle.usb_wire.specs.{toggle_named, token_behind, token_of_words, IsEndpoint, IsQuestion}
+use Rattle.usb_wire.specs.{IsQuestionLine, IsSetupData, call_text, data_with, between_text}
+use Rattle.usb_wire.specs.{question_bytes, question_line, question_in_digits, speed_text}
+use Rattle.usb_wire.specs.{token_text, bytes_of_word, number_of_word, text_of_line, all_printable}
 use Rattle.usb_wire.specs.declared.question.Question.TheVariants.{Hello, Setup, Out, In, Port, Wait}
-use Rattle.usb_wire.specs.declared.question.Speed.{Speed}
-use Rattle.usb_wire.specs.declared.question.Speed.TheVariants.{Full, Low, LowBelowHub}
-use Rattle.usb_wire.specs.Fields.{hex_value}
-use Rattle.usb_wire.specs.QuestionReading.{◌>>=◌, after_pre, asked_in, behind_pre_word, call_in}
-use Rattle.usb_wire.specs.QuestionReading.{cut_at, data_behind, endpoint_in, in_question}
-use Rattle.usb_wire.specs.QuestionReading.{out_question, port_question, question_of, setup_by}
-use Rattle.usb_wire.specs.QuestionReading.{setup_in, setup_question, toggle_named, token_behind}
-use Rattle.usb_wire.specs.QuestionReading.{token_of_words}
-use Rattle.usb_wire.specs.Questions.{IsEndpoint, IsQuestion, IsQuestionLine, IsSetupData, call_text}
-use Rattle.usb_wire.specs.Questions.{data_with, between_text, question_bytes, question_line}
-use Rattle.usb_wire.specs.Questions.{question_in_digits, speed_text, token_text}
-use Rattle.usb_wire.specs.Reading.{bytes_of_word, number_of_word, text_of_line}
-use Rattle.usb_wire.specs.Words.{all_printable}
+use Rattle.usb_wire.specs.QuestionReading.{◌>>=◌}
 use Rattle.usb_wire.proofs.FieldLemmas.{all_digits-decimal, all_visible-decimal, hex_value-hex_text}
 use Rattle.usb_wire.proofs.ReadLaws.{IsVisibleWord, bytes_word, decimal-is_word, read_bytes}
 use Rattle.usb_wire.proofs.ReadLaws.{read_number}
@@ -375,8 +361,7 @@ setup_given Zero digits xs setup given e =
     (record {
       zero_toggle = refl;
       fits = whole.fits;
-      value = given.value
-          ∙ ap Some (sym whole.again);
+      value = given.value ∙ ap Some (sym whole.again);
     }))
     (λ e. none_not_some setup e)
 
@@ -752,8 +737,7 @@ setup_read_back speed e digits s h fits value =
       device_cut e (behind_device speed Zero digits) h,
       endpoint_read e h,
       data_reached_at speed Zero digits,
-      read_bytes 64 digits (bytes_of s)
-          value few,
+      read_bytes 64 digits (bytes_of s) value few,
       setup_back s fits,
     ) refl
 
@@ -838,7 +822,6 @@ pub IsQuestionLine-question_line : (q : Question) → IsQuestion q
     → IsQuestionLine (question_line q) q
 IsQuestionLine-question_line q h = record {
   digits = hex_text (question_bytes q);
-  spelled =
-      hex_value-hex_text (question_bytes q) (question_small q h);
+  spelled = hex_value-hex_text (question_bytes q) (question_small q h);
   written = refl;
 }

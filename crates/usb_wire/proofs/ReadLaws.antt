@@ -5,28 +5,18 @@ use Rattle.std.proofs.Common.{codes, decimal, length-append, lit<, lit≤}
 use Rattle.std.proofs.lemmas.Bool.{le-ltb}
 use Rattle.std.proofs.lemmas.Fmt.{length-decimal-le}
 use Rattle.hex.specs.Hex.{IsBytes}
-use Rattle.usb_packet.specs.declared.Toggle.{Toggle}
-use Rattle.usb_packet.specs.declared.Toggle.TheVariants.{Zero, One}
-use Rattle.usb_packet.specs.Text.{data_name, hex_text}
-use Rattle.usb_port.specs.Path.{IsPath, path_text}
+use Rattle.usb_packet.specs.{Toggle, Zero, One, data_name, hex_text}
+use Rattle.usb_port.specs.{IsPath, path_text}
 use Rattle.usb_port.proofs.Paths.{length-path_text, reads_back}
-use Rattle.usb_wire.specs.declared.answer.Answer.{Answer}
-use Rattle.usb_wire.specs.declared.answer.Answer.TheVariants.{Roots, Ack, Nak, Stall, Nothing, Data}
-use Rattle.usb_wire.specs.declared.answer.Answer.TheVariants.{Done, Show, End, Send, Receive, Clear}
-use Rattle.usb_wire.specs.declared.answer.Said.{Said}
-use Rattle.usb_wire.specs.declared.answer.Said.TheVariants.{Changed, Answered}
-use Rattle.usb_wire.specs.declared.fault.WireFault.TheVariants.{BadNumber, BadPath}
-use Rattle.usb_wire.specs.declared.question.Asked.{Asked}
+use Rattle.usb_wire.specs.{Answer, Roots, Ack, Nak, Stall, Nothing, Data, Done, Show, End, Send}
+use Rattle.usb_wire.specs.{Receive, Clear, Said, Changed, Answered, BadNumber, BadPath, Asked}
+use Rattle.usb_wire.specs.{MayAnswer, IsSaidLine, MayPush, MaySay, answer_bytes, answer_in_digits}
+use Rattle.usb_wire.specs.{said_bytes, said_line, said_in_digits, send_limit, hex_value, alone}
+use Rattle.usb_wire.specs.{bytes_of_word, clear_answer, data_answer, line_says, number_of_word}
+use Rattle.usb_wire.specs.{path_in, status_change, receive_answer, roots_answer, send_answer}
+use Rattle.usb_wire.specs.{status_of_word, text_of_line, three_say, with_one, with_two, words_say}
+use Rattle.usb_wire.specs.{all_printable, words}
 use Rattle.usb_wire.specs.declared.question.Asked.TheVariants.{Hello, Attempt, Port, Wait}
-use Rattle.usb_wire.specs.Answers.{MayAnswer, IsSaidLine, MayPush, MaySay, answer_bytes}
-use Rattle.usb_wire.specs.Answers.{answer_in_digits, said_bytes, said_line, said_in_digits}
-use Rattle.usb_wire.specs.Answers.{send_limit}
-use Rattle.usb_wire.specs.Fields.{hex_value}
-use Rattle.usb_wire.specs.Reading.{alone, bytes_of_word, clear_answer, data_answer, line_says}
-use Rattle.usb_wire.specs.Reading.{number_of_word, path_in, status_change, receive_answer}
-use Rattle.usb_wire.specs.Reading.{roots_answer, send_answer, status_of_word, text_of_line}
-use Rattle.usb_wire.specs.Reading.{three_say, with_one, with_two, words_say}
-use Rattle.usb_wire.specs.Words.{all_printable, words}
 use Rattle.usb_wire.proofs.FieldLemmas.{Counted, all_visible-decimal, all_visible-hex}
 use Rattle.usb_wire.proofs.FieldLemmas.{all_visible-path_text, bytes_of_word-value}
 use Rattle.usb_wire.proofs.FieldLemmas.{hex_value-hex_text, hex_value-length, spelled-value}
@@ -47,8 +37,7 @@ bytes_word most word xs e few =
     let spelled = spelled-value word xs e in
     record {
       visible = all_visible-hex word spelled.hex;
-      short =
-          omega (arith, hex_value-length word xs e);
+      short = omega (arith, hex_value-length word xs e);
     }
 
 pub decimal-is_word : (most n : ℕ) → 4 ≤ most → n ≤ 1000 → IsVisibleWord most (decimal n)
@@ -306,7 +295,6 @@ pub IsSaidLine-said_line : (asked : Asked) (count : ℕ) (s : Said) → MaySay a
     → IsSaidLine (said_line s) s
 IsSaidLine-said_line asked count s may = record {
   digits = hex_text (said_bytes s);
-  spelled =
-      hex_value-hex_text (said_bytes s) (small_bytes asked count s may);
+  spelled = hex_value-hex_text (said_bytes s) (small_bytes asked count s may);
   written = refl;
 }

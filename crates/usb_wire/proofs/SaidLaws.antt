@@ -8,33 +8,23 @@ use Rattle.std.specs.Result.{result_unwrap_or}
 use Rattle.std.specs.Str.{bytes_eq}
 use Rattle.std.proofs.lemmas.Bool.{and_parts, eqb-true, ltb-false}
 use Rattle.std.proofs.lemmas.Slice.Eq.{bytes_eq-Decides}
-use Rattle.usb_packet.specs.declared.Toggle.{Toggle}
-use Rattle.usb_packet.specs.declared.Toggle.TheVariants.{Zero, One}
-use Rattle.usb_port.specs.Path.{IsPath, path_of, path_text}
+use Rattle.usb_packet.specs.{Toggle, Zero, One}
+use Rattle.usb_port.specs.{IsPath, path_of, path_text}
 use Rattle.usb_port.proofs.Paths.{some_if}
-use Rattle.usb_wire.specs.declared.answer.Answer.{Answer}
-use Rattle.usb_wire.specs.declared.answer.Answer.TheVariants.{Roots, Ack, Nak, Stall, Nothing, Data}
-use Rattle.usb_wire.specs.declared.answer.Answer.TheVariants.{Done, Show, End, Send, Receive, Clear}
-use Rattle.usb_wire.specs.declared.answer.Said.{Said}
-use Rattle.usb_wire.specs.declared.answer.Said.TheVariants.{Changed, Answered}
-use Rattle.usb_wire.specs.declared.fault.WireFault.{WireFault}
-use Rattle.usb_wire.specs.declared.fault.WireFault.TheVariants.{LineTooLong, BadCharacter, NoAnswer}
-use Rattle.usb_wire.specs.declared.fault.WireFault.TheVariants.{BadHex, BadLength, BadNumber}
-use Rattle.usb_wire.specs.declared.fault.WireFault.TheVariants.{BadPath}
-use Rattle.usb_wire.specs.declared.question.Asked.{Asked}
+use Rattle.usb_wire.specs.{Answer, Roots, Ack, Nak, Stall, Nothing, Data, Done, Show, End, Send}
+use Rattle.usb_wire.specs.{Receive, Clear, Said, Changed, Answered, WireFault, LineTooLong}
+use Rattle.usb_wire.specs.{BadCharacter, NoAnswer, BadHex, BadLength, BadNumber, BadPath, Asked}
+use Rattle.usb_wire.specs.{One as OneWord, Two as TwoWords, Three as ThreeWords, More as MoreWords}
+use Rattle.usb_wire.specs.{AreAtMost, MayAnswer, IsSaidLine, MayPush, MaySay, answer_bytes}
+use Rattle.usb_wire.specs.{answer_in_digits, send_limit, hex_length, hex_value, is_dash, is_hex}
+use Rattle.usb_wire.specs.{number_within, alone, said_of, bytes_of_word, clear_answer, count_in}
+use Rattle.usb_wire.specs.{data_answer, line_says, may_push, number_of_word, path_in, status_change}
+use Rattle.usb_wire.specs.{receive_answer, roots_answer, send_answer, shape_says, status_of_word}
+use Rattle.usb_wire.specs.{text_of_line, three_say, with_one, with_two, words_say, AreWords}
+use Rattle.usb_wire.specs.{all_printable, words}
 use Rattle.usb_wire.specs.declared.question.Asked.TheVariants.{Hello, Attempt, Port, Wait}
 use Rattle.usb_wire.specs.declared.words.Words.{Words}
-use Rattle.usb_wire.specs.declared.words.Words.TheVariants.{One as OneWord, Two as TwoWords}
-use Rattle.usb_wire.specs.declared.words.Words.TheVariants.{Three as ThreeWords, More as MoreWords}
-use Rattle.usb_wire.specs.Answers.{AreAtMost, MayAnswer, IsSaidLine, MayPush, MaySay, answer_bytes}
-use Rattle.usb_wire.specs.Answers.{answer_in_digits, send_limit}
-use Rattle.usb_wire.specs.Fields.{hex_length, hex_value, is_dash, is_hex, number_within}
-use Rattle.usb_wire.specs.Reading.{◌>>=◌, alone, said_of, bytes_of_word, clear_answer, count_in}
-use Rattle.usb_wire.specs.Reading.{data_answer, line_says, may_push, number_of_word, path_in}
-use Rattle.usb_wire.specs.Reading.{status_change, receive_answer, roots_answer, send_answer}
-use Rattle.usb_wire.specs.Reading.{shape_says, status_of_word, text_of_line, three_say, with_one}
-use Rattle.usb_wire.specs.Reading.{with_two, words_say}
-use Rattle.usb_wire.specs.Words.{AreWords, all_printable, words}
+use Rattle.usb_wire.specs.Reading.{◌>>=◌}
 use Rattle.usb_wire.proofs.FieldLemmas.{IsNumberWord, Spelled, numbered-within, spelled-value}
 use Rattle.usb_wire.proofs.WordLemmas.{joined-words}
 
@@ -271,8 +261,7 @@ clear_says count word a e =
     (plain_line Wait count _ (Clear p) (record {
       may = found.is;
       none = refl;
-      text =
-          ap (λ t. codes "clear " ++ t) (sym found.text);
+      text = ap (λ t. codes "clear " ++ t) (sym found.text);
     })))
 
 -- three words, as the table writes them
@@ -334,11 +323,7 @@ pushed_says asked count first second s may small e =
     said_is asked count (codes "port" ∷ first ∷ second ∷ []) (Changed n xs) s
     (same_Ok (Changed n xs) s is) (
       (may, number.low, number.high, sent.four, sent.small.small),
-      record {
-        digits = second;
-        spelled = sent.value;
-        written = sym text;
-      },
+      record { digits = second; spelled = sent.value; written = sym text },
     )))
 
 one_says : (asked : Asked) (count : ℕ) (word argument : List ℕ) (a : Answer)

@@ -11,7 +11,7 @@ use Rattle.std.proofs.lemmas.Bool.Decides.{nat_tests}
 use Rattle.std.proofs.lemmas.List.Folds.{list_all-append}
 use Rattle.std.proofs.lemmas.List.Splits.{join_with_byte-slice_split, length-slice_split}
 use Rattle.std.proofs.lemmas.Str.Pattern.{IsSplitOnceResult, split_parts}
-use Rattle.usb_wire.specs.Words.{all_printable, is_printable, words}
+use Rattle.usb_wire.specs.{all_printable, is_printable, words}
 
 -- there is no space in the text
 abbrev pub HasNoSpace : List ℕ → Type 0

@@ -1,8 +1,7 @@
 -- What the far end says, and the line of it.
 use Rattle.std.specs.Prelude.{◌≡◌, ℕ, ◌≤◌, List, [], ◌++◌, length, codes, decimal, Some}
-use Rattle.usb_packet.specs.Spelling.{IsBytes}
-use Rattle.usb_packet.specs.Text.{data_name, hex_text}
-use Rattle.usb_port.specs.Path.{IsPath, path_text}
+use Rattle.usb_packet.specs.{IsBytes, data_name, hex_text}
+use Rattle.usb_port.specs.{IsPath, path_text}
 use Rattle.usb_wire.specs.declared.answer.Answer.{Answer}
 use Rattle.usb_wire.specs.declared.answer.Answer.TheVariants.{Roots, Ack, Nak, Stall, Nothing, Data}
 use Rattle.usb_wire.specs.declared.answer.Answer.TheVariants.{Done, Show, End, Send, Receive, Clear}

@@ -3,14 +3,10 @@ use Rattle.std.specs.Prelude.{ℕ, ◌==◌, List, [], ◌∷◌, length, codes,
 use Rattle.std.specs.Prelude.{if◌then◌else◌}
 use Rattle.std.specs.Result.{result_ok}
 use Rattle.std.specs.Str.{bytes_eq}
-use Rattle.usb_packet.specs.declared.Toggle.{Toggle}
-use Rattle.usb_packet.specs.declared.Toggle.TheVariants.{Zero, One}
-use Rattle.usb_port.specs.declared.call.PortCall.{PortCall}
-use Rattle.usb_port.specs.declared.call.PortCall.TheVariants.{SetPower, SetReset, ClearEnable}
-use Rattle.usb_port.specs.declared.call.PortCall.TheVariants.{ClearPower, ClearConnectionChange}
-use Rattle.usb_port.specs.declared.call.PortCall.TheVariants.{ClearEnableChange, ClearResetChange}
-use Rattle.usb_request.specs.declared.setup.Setup.{Setup as SetupData}
-use Rattle.usb_request.specs.Layout.{setup_of}
+use Rattle.usb_packet.specs.{Toggle, Zero, One}
+use Rattle.usb_port.specs.{PortCall, SetPower, SetReset, ClearEnable, ClearPower}
+use Rattle.usb_port.specs.{ClearConnectionChange, ClearEnableChange, ClearResetChange}
+use Rattle.usb_request.specs.{Setup as SetupData, setup_of}
 use Rattle.usb_wire.specs.declared.question.Endpoint.{Endpoint}
 use Rattle.usb_wire.specs.declared.question.Question.{Question}
 use Rattle.usb_wire.specs.declared.question.Question.TheVariants.{Hello, Setup, Out, In, Port, Wait}

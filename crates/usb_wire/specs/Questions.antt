@@ -1,16 +1,10 @@
 -- The questions of the host, and the line of each.
 use Rattle.std.specs.Prelude.{◌≡◌, ℕ, ◌^◌, ◌<◌, ◌≤◌, List, [], ◌++◌, codes, decimal, Some}
-use Rattle.usb_packet.specs.declared.TokenKind.{TokenKind}
-use Rattle.usb_packet.specs.declared.TokenKind.TheVariants.{OutTok, InTok, SetupTok}
-use Rattle.usb_packet.specs.declared.Toggle.{Toggle}
-use Rattle.usb_packet.specs.declared.Toggle.TheVariants.{Zero}
-use Rattle.usb_packet.specs.Text.{data_name, hex_text, token_name}
-use Rattle.usb_port.specs.declared.call.PortCall.{PortCall}
-use Rattle.usb_port.specs.declared.call.PortCall.TheVariants.{SetPower, SetReset, ClearEnable}
-use Rattle.usb_port.specs.declared.call.PortCall.TheVariants.{ClearPower, ClearConnectionChange}
-use Rattle.usb_port.specs.declared.call.PortCall.TheVariants.{ClearEnableChange, ClearResetChange}
-use Rattle.usb_request.specs.Layout.{bytes_of}
-use Rattle.usb_request.specs.declared.setup.Setup.{Setup as SetupData}
+use Rattle.usb_packet.specs.{TokenKind, OutTok, InTok, SetupTok, Toggle, Zero, data_name, hex_text}
+use Rattle.usb_packet.specs.{token_name}
+use Rattle.usb_port.specs.{PortCall, SetPower, SetReset, ClearEnable, ClearPower}
+use Rattle.usb_port.specs.{ClearConnectionChange, ClearEnableChange, ClearResetChange}
+use Rattle.usb_request.specs.{bytes_of, Setup as SetupData}
 use Rattle.usb_wire.specs.Answers.{IsData}
 use Rattle.usb_wire.specs.Fields.{hex_value}
 use Rattle.usb_wire.specs.declared.question.Asked.{Asked}

@@ -2,9 +2,8 @@
 use Rattle.std.specs.Prelude.{ℕ, ◌&&◌, ◌||◌, nat_lt, ◌==◌, Bool, true, false, List, [], ◌∷◌, length}
 use Rattle.std.specs.Prelude.{codes, Option, Some, None, ok_or, Result, Ok, Err, if◌then◌else◌}
 use Rattle.std.specs.Str.{bytes_eq}
-use Rattle.usb_packet.specs.declared.Toggle.{Toggle}
-use Rattle.usb_packet.specs.declared.Toggle.TheVariants.{Zero, One as OneToggle}
-use Rattle.usb_port.specs.Path.{path_of}
+use Rattle.usb_packet.specs.{Toggle, Zero, One as OneToggle}
+use Rattle.usb_port.specs.{path_of}
 use Rattle.usb_wire.specs.declared.answer.Answer.{Answer}
 use Rattle.usb_wire.specs.declared.answer.Answer.TheVariants.{Roots, Ack, Nak, Stall, Nothing, Data}
 use Rattle.usb_wire.specs.declared.answer.Answer.TheVariants.{Done, Show, End, Send, Receive, Clear}

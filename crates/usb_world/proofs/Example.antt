@@ -2,35 +2,22 @@
 -- after the host's
 -- first ACK of the status stage was lost, or one of its bits was flipped.
 use Rattle.std.proofs.Common.{◌≡◌, ℕ, true, false, List, [], ◌∷◌, None, Some, refl}
-use Rattle.usb_packet.specs.declared.TokenKind.TheVariants.{OutTok, InTok, SetupTok}
-use Rattle.usb_packet.specs.declared.Toggle.TheVariants.{Zero, One as Data1}
-use Rattle.usb_port.specs.declared.call.PortCall.TheVariants.{SetPower, SetReset}
-use Rattle.usb_device.specs.Spec.{Spec, function}
-use Rattle.usb_device.specs.Tree.{ended, vacant, changed_at, reach_at, state_at, reach, all_off}
-use Rattle.usb_device.specs.Rows.{received, unread, fresh, reset_state, awaits_address}
-use Rattle.usb_device.specs.Request.{outcome}
-use Rattle.usb_device.specs.Effect.{asks}
-use Rattle.usb_device.specs.Delivery.{answer_of, effect_of, after_packet, answers, all_forgotten}
-use Rattle.usb_device.specs.Delivery.{held_addresses, repeats, has_loss, clears_change}
-use Rattle.usb_device.specs.Bulk.{change_bits}
-use Rattle.usb_request.specs.Layout.{setup_of}
-use Rattle.usb_port.specs.PortState.{status_of}
-use Rattle.usb_world.specs.declared.damage.Harm.{Harm}
-use Rattle.usb_world.specs.declared.damage.Harm.TheVariants.{Lose, Flip}
+use Rattle.usb_packet.specs.{OutTok, InTok, SetupTok, Zero, One as Data1}
+use Rattle.usb_port.specs.{SetPower, SetReset, status_of}
+use Rattle.usb_device.specs.{Spec, function, ended, vacant, changed_at, reach_at, state_at, reach}
+use Rattle.usb_device.specs.{all_off, received, unread, fresh, reset_state, awaits_address, outcome}
+use Rattle.usb_device.specs.{asks, answer_of, effect_of, after_packet, all_forgotten}
+use Rattle.usb_device.specs.{held_addresses, repeats, has_loss, clears_change, change_bits}
+use Rattle.usb_device.specs.Delivery.{answers}
+use Rattle.usb_request.specs.{setup_of}
+use Rattle.usb_world.specs.{Harm, Lose, Flip, Plug, Attempt, damage_of, harm_to, mark_of, bit_count}
+use Rattle.usb_world.specs.{marked, marked_some, is_read, token_of, payload_of, answer_place}
+use Rattle.usb_world.specs.{answer_mark, reply_of, outcome_of, ports_in, lost_in, no_losses}
+use Rattle.usb_world.specs.{one_more, World, after_event, after_due_events, at_attempt}
+use Rattle.usb_world.specs.{with_attempt, outcome_in, attempt, root_call, event, after, address_at}
 use Rattle.usb_world.specs.declared.event.Action.TheVariants.{Change}
-use Rattle.usb_world.specs.declared.event.Change.TheVariants.{Plug}
-use Rattle.usb_world.specs.declared.types.Attempt.{Attempt}
 use Rattle.usb_world.specs.declared.types.Outcome.TheVariants as got
-use Rattle.usb_world.specs.Wire.{damage_of, harm_to, mark_of, bit_count, marked, marked_some}
-use Rattle.usb_world.specs.Wire.{is_read}
-use Rattle.usb_world.specs.Exchange.{token_of, payload_of, answer_place, answer_mark, reply_of}
-use Rattle.usb_world.specs.Exchange.{outcome_of, ports_in, lost_in}
-use Rattle.usb_world.specs.Losses.{no_losses, one_more}
-use Rattle.usb_tree.specs.Paths.{pending_at, pending}
-use Rattle.usb_world.specs.World.{World}
-use Rattle.usb_world.specs.Steps.{after_event, after_due_events, at_attempt, with_attempt}
-use Rattle.usb_world.specs.Steps.{outcome_in, attempt, root_call, event, after}
-use Rattle.usb_world.specs.Courses.{address_at}
+use Rattle.usb_tree.specs.{pending_at, pending}
 
 abbrev function_spec : Spec
 function_spec = function (0x66 ∷ 0x6e ∷ []) (0x12 ∷ 1 ∷ 0 ∷ 2 ∷ 0 ∷ 0 ∷ 0 ∷ 0x40 ∷ 0x34 ∷ 0x12 ∷
@@ -40,13 +27,12 @@ function_spec = function (0x66 ∷ 0x6e ∷ []) (0x12 ∷ 1 ∷ 0 ∷ 2 ∷ 0 �
 abbrev example_start : Harm → World
 example_start harm = record {
   roots = vacant (record {
-    attached = Rattle.usb_port.specs.PortState.nothing;
+    attached = Rattle.usb_port.specs.PortStates.nothing;
     power = false;
     enable = false;
     connection_changed = false;
     enable_changed = false;
-    reset_changed =
-        false;
+    reset_changed = false;
   }) ended;
   devices = function_spec ∷ [];
   left = record { after = 0; action = Change (Plug (1 ∷ []) 0) } ∷ [];
@@ -90,8 +76,7 @@ status_out = record {
   low = false;
   pre = false;
   max = 64;
-  payload =
-      Some (Data1, record { items = [] });
+  payload = Some (Data1, record { items = [] });
 }
 
 abbrev example_plugged : Harm → World

@@ -2,32 +2,21 @@
 -- which then hears packets
 -- only behind PRE.
 use Rattle.std.proofs.Common.{◌≡◌, ℕ, Bool, true, false, List, [], ◌∷◌, None, Some, refl}
-use Rattle.usb_packet.specs.declared.TokenKind.TheVariants.{InTok, SetupTok}
-use Rattle.usb_packet.specs.declared.Toggle.TheVariants.{Zero, One as Data1}
-use Rattle.usb_device.specs.Spec.{Spec, function, usual_hub}
-use Rattle.usb_device.specs.Tree.{ended, vacant, taken, changed_at, reach_at, state_at, reach}
-use Rattle.usb_device.specs.Tree.{all_off}
-use Rattle.usb_device.specs.Rows.{received, unread, fresh, reset_state, awaits_address}
-use Rattle.usb_device.specs.Request.{outcome}
-use Rattle.usb_device.specs.Effect.{asks}
-use Rattle.usb_device.specs.Delivery.{answer_of, effect_of, after_packet, answers, all_forgotten}
-use Rattle.usb_device.specs.Delivery.{held_addresses, repeats, has_loss, clears_change}
-use Rattle.usb_device.specs.Bulk.{change_bits}
-use Rattle.usb_request.specs.Layout.{setup_of}
-use Rattle.usb_port.specs.PortState.{full, low, nothing, status_of}
-use Rattle.usb_world.specs.declared.damage.Damage.{Damage}
-use Rattle.usb_world.specs.declared.damage.Harm.TheVariants.{LosePre}
-use Rattle.usb_world.specs.declared.types.Attempt.{Attempt}
+use Rattle.usb_packet.specs.{InTok, SetupTok, Zero, One as Data1}
+use Rattle.usb_device.specs.{Spec, function, usual_hub, ended, vacant, taken, changed_at, reach_at}
+use Rattle.usb_device.specs.{state_at, reach, all_off, received, unread, fresh, reset_state}
+use Rattle.usb_device.specs.{awaits_address, outcome, asks, answer_of, effect_of, after_packet}
+use Rattle.usb_device.specs.{all_forgotten, held_addresses, repeats, has_loss, clears_change}
+use Rattle.usb_device.specs.{change_bits}
+use Rattle.usb_device.specs.Delivery.{answers}
+use Rattle.usb_request.specs.{setup_of}
+use Rattle.usb_port.specs.{full, low, nothing, status_of}
+use Rattle.usb_world.specs.{Damage, LosePre, Attempt, damage_of, harm_to, mark_of, bit_count}
+use Rattle.usb_world.specs.{marked, marked_some, is_read, token_of, payload_of, answer_place}
+use Rattle.usb_world.specs.{answer_mark, reply_of, outcome_of, ports_in, lost_in, no_losses}
+use Rattle.usb_world.specs.{one_more, World, after_event, after_due_events, at_attempt}
+use Rattle.usb_world.specs.{with_attempt, outcome_in, attempt, after, address_at}
 use Rattle.usb_world.specs.declared.types.Outcome.TheVariants as got
-use Rattle.usb_world.specs.Wire.{damage_of, harm_to, mark_of, bit_count, marked, marked_some}
-use Rattle.usb_world.specs.Wire.{is_read}
-use Rattle.usb_world.specs.Exchange.{token_of, payload_of, answer_place, answer_mark, reply_of}
-use Rattle.usb_world.specs.Exchange.{outcome_of, ports_in, lost_in}
-use Rattle.usb_world.specs.Losses.{no_losses, one_more}
-use Rattle.usb_world.specs.World.{World}
-use Rattle.usb_world.specs.Steps.{after_event, after_due_events, at_attempt, with_attempt}
-use Rattle.usb_world.specs.Steps.{outcome_in, attempt, after}
-use Rattle.usb_world.specs.Courses.{address_at}
 
 abbrev example_hub : Spec
 example_hub = record (function (0x68 ∷ 0x75 ∷ 0x62 ∷ 0x32 ∷ [])
@@ -65,8 +54,7 @@ hub_start damages = record {
         attached = nothing;
         power = true;
         enable = false;
-        connection_changed =
-            false;
+        connection_changed = false;
         enable_changed = false;
         reset_changed = false;
       }) ended))
@@ -115,8 +103,7 @@ hub_asks_in pre = record {
   low = true;
   pre = pre;
   max = 8;
-  payload =
-      None;
+  payload = None;
 }
 
 abbrev get_device : List ℕ

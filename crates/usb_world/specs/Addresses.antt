@@ -1,15 +1,12 @@
 -- Which steps keep the addresses that devices hold, and which give one (9.4.6).
 use Rattle.std.specs.Prelude.{◌≡◌, ◌⊎◌, ℕ, ◌==◌, ◌&&◌, not, Bool, true, false, List, Option, None}
 use Rattle.std.specs.Prelude.{Some, if◌then◌else◌}
-use Rattle.usb_packet.specs.declared.TokenKind.{TokenKind}
-use Rattle.usb_packet.specs.declared.TokenKind.TheVariants.{OutTok, InTok, SetupTok}
-use Rattle.usb_device.specs.Rows.{State, is_busy, ends_with_address}
-use Rattle.usb_device.specs.Attempt.{is_whole}
-use Rattle.usb_device.specs.Tree.{Ports, reach_at, state_at}
+use Rattle.usb_packet.specs.{TokenKind, OutTok, InTok, SetupTok}
+use Rattle.usb_device.specs.{State, is_busy, ends_with_address, is_whole, Ports, reach_at, state_at}
 use Rattle.usb_world.specs.declared.damage.Damage.{Damage}
 use Rattle.usb_world.specs.declared.types.Attempt.{Attempt}
-use Rattle.usb_tree.specs.Paths.{address_of, same_path, is_way}
-use Rattle.usb_world.specs.World.{World}
+use Rattle.usb_tree.specs.{address_of, same_path, is_way}
+use Rattle.usb_world.specs.Worlds.{World}
 use Rattle.usb_world.specs.Steps.{at_attempt, Step, attempt, root_call, event, report}
 use Rattle.usb_world.specs.Courses.{QuietStep}
 use Rattle.usb_world.specs.OneHolder.{token_way, answer_way, reply_way}

@@ -1,28 +1,18 @@
 -- What steps do on the way to a path, and which device stands there after them.
 use Rattle.std.specs.Prelude.{◌≡◌, ◌⊎◌, ℕ, zero, suc, ◌==◌, ◌&&◌, not, Bool, true, false, List, []}
 use Rattle.std.specs.Prelude.{◌∷◌, ◌++◌, Option, None, Some, option_map, ⊤}
-use Rattle.usb_port.specs.declared.call.PortCall.{PortCall}
+use Rattle.usb_port.specs.{PortCall, is_reset}
 use Rattle.arrayvec.specs.ArrayVec.{ArrayVec}
-use Rattle.usb_packet.specs.declared.Toggle.{Toggle}
-use Rattle.usb_packet.specs.declared.TokenKind.{TokenKind}
-use Rattle.usb_packet.specs.declared.TokenKind.TheVariants.{OutTok, InTok, SetupTok}
-use Rattle.usb_request.specs.Features.{PORT_RESET}
-use Rattle.usb_request.specs.Codes.{SET_FEATURE, PORT_OUT}
-use Rattle.usb_port.specs.Calls.{is_reset}
-use Rattle.usb_request.specs.Layout.{setup_of}
-use Rattle.usb_request.specs.declared.setup.Setup.{Setup}
-use Rattle.usb_device.specs.Request.{Is}
-use Rattle.usb_device.specs.Spec.{Spec}
-use Rattle.usb_device.specs.Tree.{Ports, reach, place}
+use Rattle.usb_packet.specs.{Toggle, TokenKind, OutTok, InTok, SetupTok}
+use Rattle.usb_request.specs.{PORT_RESET, SET_FEATURE, PORT_OUT, setup_of, Setup}
+use Rattle.usb_device.specs.{Is, Spec, Ports, reach, place, state_there}
 use Rattle.usb_world.specs.declared.event.Event.{Event}
 use Rattle.usb_world.specs.declared.types.Attempt.{Attempt}
 use Rattle.usb_world.specs.declared.types.BusFault.{BusFault}
-use Rattle.usb_device.specs.View.{state_there}
-use Rattle.usb_tree.specs.Paths.{has_power, pending, address_of, same_path}
-use Rattle.usb_tree.specs.WayEffects.{IsNew, call_resets, call_keeps_pending}
-use Rattle.usb_tree.specs.AttemptPackets.{attempt_resets, attempt_keeps_pending}
-use Rattle.usb_world.specs.World.{World}
-use Rattle.usb_world.specs.Exchange.{token_out, payload_out}
+use Rattle.usb_tree.specs.{has_power, pending, address_of, same_path, IsNew, call_resets}
+use Rattle.usb_tree.specs.{call_keeps_pending, attempt_resets, attempt_keeps_pending}
+use Rattle.usb_world.specs.Worlds.{World}
+use Rattle.usb_world.specs.Exchanges.{token_out, payload_out}
 use Rattle.usb_world.specs.Steps.{names_path, at_attempt, damage_in, Step, attempt, root_call}
 use Rattle.usb_world.specs.Steps.{event, report}
 

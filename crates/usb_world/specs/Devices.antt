@@ -1,16 +1,15 @@
 -- One device over attempts: what it was before, seen from where it is reachable now.
 use Rattle.std.specs.Prelude.{◌≡◌, ◌==◌, ℕ, List, true, false, None, Some}
-use Rattle.usb_packet.specs.declared.Toggle.{Toggle}
-use Rattle.usb_port.specs.PortState.{PortState}
-use Rattle.usb_device.specs.Rows.{State}
-use Rattle.usb_device.specs.Attempt.{Way, whole, setup_law, out_law, in_law}
-use Rattle.usb_device.specs.Tree.{Ports, Location, full, row_of, reach_on, state_on, place_on}
+use Rattle.usb_packet.specs.{Toggle}
+use Rattle.usb_port.specs.{PortState}
+use Rattle.usb_device.specs.{State, Way, setup_law, out_law, in_law, Ports, Location, full, row_of}
+use Rattle.usb_device.specs.{reach_on, state_on, place_on}
+use Rattle.usb_device.specs.Attempt.{whole}
 use Rattle.usb_world.specs.declared.types.Attempt.{Attempt}
 use Rattle.usb_world.specs.declared.types.Outcome.TheVariants.{Nothing}
-use Rattle.usb_tree.specs.Paths.{address_of}
-use Rattle.usb_tree.specs.AttemptPackets.{deep_at}
+use Rattle.usb_tree.specs.{address_of, deep_at}
 use Rattle.usb_world.specs.OneHolder.{got, hears_attempt}
-use Rattle.usb_world.specs.World.{World}
+use Rattle.usb_world.specs.Worlds.{World}
 use Rattle.usb_world.specs.Steps.{at_attempt, damage_in, outcome_in}
 
 -- a relation of the device on a spot before and after

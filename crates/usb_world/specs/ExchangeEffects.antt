@@ -1,14 +1,11 @@
 -- What an attempt, and a packet of it, leaves of the root ports with all that is plugged.
 use Rattle.std.specs.Prelude.{◌≡◌, Option}
-use Rattle.usb_device.specs.declared.delivery.Heard.{Heard}
-use Rattle.usb_device.specs.declared.delivery.Sent.{Sent}
-use Rattle.usb_device.specs.Tree.{Ports, row_of}
-use Rattle.usb_device.specs.Delivery.{both, heard_of, figure}
+use Rattle.usb_device.specs.{Heard, Sent, Ports, row_of, both, heard_of, figure}
 use Rattle.usb_world.specs.declared.damage.Damage.{Damage}
 use Rattle.usb_world.specs.declared.exchange.Exchange.{Exchange}
 use Rattle.usb_world.specs.declared.types.Attempt.{Attempt}
-use Rattle.usb_tree.specs.AttemptPackets.{after_sent, answers_to}
-use Rattle.usb_world.specs.Exchange.{exchange_in, ended_in, ports_in}
+use Rattle.usb_tree.specs.{after_sent, answers_to}
+use Rattle.usb_world.specs.Exchanges.{exchange_in, ended_in, ports_in}
 
 -- the same devices stand at the same ports, and the root ports themselves are as they were
 pub record StaysPlugged (old new : Ports) : Type 0 where

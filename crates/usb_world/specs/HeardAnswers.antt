@@ -1,7 +1,6 @@
 -- What is heard of the answers, as packets.
-use Rattle.usb_device.specs.declared.delivery.Heard.{Heard}
+use Rattle.usb_device.specs.{Heard, packet_of}
 use Rattle.usb_device.specs.declared.delivery.Heard.TheVariants as below
-use Rattle.usb_device.specs.ReceivedBytes.{packet_of}
 use Rattle.usb_world.specs.declared.exchange.ExchangeAnswer.{ExchangeAnswer}
 use Rattle.usb_world.specs.declared.exchange.ExchangeAnswer.TheVariants.{Nothing, One, Collision}
 

@@ -1,9 +1,7 @@
 -- What the host has to say in an attempt of which nothing is damaged, and what became of a device.
 use Rattle.std.specs.Prelude.{ℕ, nat_eq, ◌&&◌, Bool, Some}
 use Rattle.std.specs.Option.{option_eq}
-use Rattle.usb_device.specs.declared.alone.HostSide.{HostSide}
-use Rattle.usb_device.specs.declared.alone.DeviceSide.{DeviceSide}
-use Rattle.usb_device.specs.Holders.{keeps_others}
+use Rattle.usb_device.specs.{HostSide, DeviceSide, keeps_others}
 use Rattle.usb_world.specs.declared.types.Attempt.{Attempt}
 
 abbrev pub host_side : Attempt → HostSide

@@ -1,9 +1,9 @@
-pub mod World
+pub mod Worlds
 pub mod PluggedDevices
-pub mod PlanData
+pub mod Plans
 pub mod PlanLimits
 pub mod Wire
-pub mod Exchange
+pub mod Exchanges
 pub mod HeardAnswers
 pub mod Losses
 pub mod Steps
@@ -21,3 +21,72 @@ pub mod PlanCourses
 pub mod RestingPorts
 pub mod Silence
 pub mod HostSides
+-- the words of this crate, wherever one stands
+pub use Worlds.{AnswerFits, AttemptEnds, Attempted, AttemptsWithin, Failed, FitsMaximum, IsAttempt}
+pub use Worlds.{IsRootPort, Made, World, root_row, roots_of, sends_data, to_come}
+unfoldable pub use Worlds.{change_of, changes, root_port_at}
+pub use PluggedDevices.{PluggedMap, device_indexed, has_port, hub_ports, index_at, is_rooted}
+pub use PluggedDevices.{plugged_after}
+unfoldable pub use PluggedDevices.{parent_has, plugged_by, plugged_without, spec_port_count}
+pub use Plans.{IsPlan, PlanData, action_fits, ask_fits, can_be_done, can_come, damage_fits}
+pub use Plans.{damages_fit, event_fits, events_fit, harm_fits, is_taken, plan_data}
+pub use PlanLimits.{after_most, attempt_most, damage_most, event_most}
+pub use Wire.{AtMostTwoRunning}
+unfoldable pub use Wire.{bit_count, damage_of, damages_until, harm_to, has_its_bit, is_read}
+unfoldable pub use Wire.{mark_of, marked, marked_some}
+pub use Exchanges.{ack_if, answered_in, blank, cleared_in, clears_at, ended_in, goes_out, heard_all}
+pub use Exchanges.{heard_in, is_lost, mark_in, outcome_heard, payload_in, payload_out}
+pub use Exchanges.{place_of_answer, readable, reply_in, reply_out, sent_as, token_out}
+unfoldable pub use Exchanges.{answer_mark, answer_place, exchange_in, lost_in, outcome_of}
+unfoldable pub use Exchanges.{payload_of, ports_in, reply_of, token_of}
+pub use HeardAnswers.{heard_above}
+pub use Losses.{AreOfDamages, TookOrLost, after_clearing, counted, lost, no_losses, took}
+unfoldable pub use Losses.{one_more}
+pub use Steps.{AnyStep, AttemptFails, ClearsRoot, Coming, Course, EventCame, EventEnds, GaveUp}
+pub use Steps.{IsCut, Left, LineEnds, NoneLeft, PutLine, SetsRoot, Step, TookEvent, WorldInvariant}
+pub use Steps.{after_change, after_first_event, at_event, at_line, at_packet, attempt, attempted}
+pub use Steps.{damage_in, event, event_taken, fault_of, here, is_due, made_in, names_path}
+pub use Steps.{next_came, nothing_yet, opening, outcome_made, report, root_call, step, waits}
+pub use Steps.{way_of, with_plugged}
+unfoldable pub use Steps.{after, after_due_events, after_event, ask_of, at_attempt, has_due}
+unfoldable pub use Steps.{outcome_in, with_attempt}
+pub use SanePorts.{HasItsPorts, IsSanePort}
+unfoldable pub use SanePorts.{Consistent, ConsistentPlace}
+pub use SaneProofs.{Consistent-prop, IsSpec-prop, all_prop}
+pub use CutPackets.{IsStopped}
+pub use ExchangeEffects.{Exchanged, PacketWent, PacketsWent, StaysPlugged}
+pub use Route.{holder_path, way_in}
+pub use Courses.{HoldsMapped, Injective, KeepsPendingAt, NoReset, NoneNames, QuietStep, Reached}
+pub use Courses.{Undisturbed, UndisturbedOrPends, address_at, at_path, is_harmless, is_made}
+pub use Courses.{is_quiet, made_keeps_pending, made_resets, quiet_data, root_keeps_pending}
+pub use Courses.{root_resets}
+unfoldable pub use Courses.{resets, step_keeps_pending}
+pub use OneHolder.{AttemptAnswerer, HolderIn, IsIn, IsMade, IsOut, IsSetup, answer_way, content_way}
+pub use OneHolder.{got, hears_attempt, in_alone, out_alone, payload_way, reply_way, setup_asked}
+pub use OneHolder.{token_way, way_back, way_to}
+pub use Addresses.{GivesNoAddress, MovesData, NoneTakes, after_reset, after_taking, ends_status}
+pub use Addresses.{is_setup}
+pub use PortRequests.{AsksNothing, LeavesPort, StillSet, asks_no_port, is_above, is_port_request}
+pub use PortRequests.{is_sparing, made_leaves, root_leaves, row_reached, sent_leaves}
+unfoldable pub use PortRequests.{leaves_step}
+pub use Devices.{DidIn, DidOut, DidSetup, EachWas, Relation, Was, Ways}
+pub use PlanCourses.{AtPorts, FollowsPlan, PlugsAtPort, spec_of}
+pub use RestingPorts.{LeavesPortAlone, SameAt, SameDeviceOrPending, UnchangedOrPending}
+pub use Silence.{silent_exchange}
+pub use HostSides.{host_side, keeps_address}
+pub use declared.damage.Damage.{Damage}
+pub use declared.damage.Harm.{Harm}
+pub use declared.damage.Harm.TheVariants.{Flip, Lose, LosePre}
+pub use declared.event.Action.{Action}
+pub use declared.event.Ask.TheVariants.{Clear, Receive, Send, Show}
+pub use declared.event.Change.TheVariants.{Plug, Unplug}
+pub use declared.event.Event.{Event}
+pub use declared.exchange.Exchange.{Exchange}
+pub use declared.exchange.ExchangeAnswer.{ExchangeAnswer}
+pub use declared.types.Attempt.{Attempt}
+pub use declared.types.BusFault.{BusFault}
+pub use declared.types.BusFault.TheVariants.{LimitReached, Memory, TraceFailed}
+pub use declared.types.Outcome.{Outcome}
+pub use declared.wire.Mark.{Mark}
+pub use declared.wire.Mark.TheVariants.{Flipped, Lost, PreLost, Whole}
+pub use declared.wire.Outgoing.{Outgoing}

@@ -1,11 +1,10 @@
 -- How often a device lost the host's ACK at which it was to take its address.
 use Rattle.std.specs.Prelude.{◌≡◌, ℕ, ◌+◌, ◌≤◌, max, Bool, List, if◌then◌else◌}
-use Rattle.usb_device.specs.Rows.{State}
-use Rattle.usb_device.specs.Transfer.{idle}
+use Rattle.usb_device.specs.{State, idle}
 use Rattle.usb_world.specs.declared.damage.Damage.{Damage}
 use Rattle.usb_world.specs.Wire.{damages_until}
 use Rattle.usb_world.specs.declared.losses.Losses.{Losses}
-use Rattle.usb_world.specs.World.{World}
+use Rattle.usb_world.specs.Worlds.{World}
 
 abbrev pub no_losses : Losses
 no_losses = record { all = 0; run = 0; worst = 0 }

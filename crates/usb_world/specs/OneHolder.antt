@@ -2,33 +2,23 @@
 -- alone.
 use Rattle.std.specs.Prelude.{◌≡◌, ℕ, nat_le, ◌&&◌, ◌||◌, not, if◌then◌else◌, Bool, false, List}
 use Rattle.std.specs.Prelude.{length, Option, None, Some}
-use Rattle.usb_packet.specs.declared.Toggle.{Toggle}
-use Rattle.usb_packet.specs.declared.Toggle.TheVariants.{Zero}
-use Rattle.usb_packet.specs.declared.TokenKind.TheVariants.{OutTok, InTok, SetupTok}
-use Rattle.usb_port.specs.PortState.{PortState}
-use Rattle.usb_device.specs.declared.answer.Answer.{Answer}
+use Rattle.usb_packet.specs.{Toggle, Zero, OutTok, InTok, SetupTok}
+use Rattle.usb_port.specs.{PortState}
+use Rattle.usb_device.specs.{Answer, Content, Sent, Effect, Leaves, asked_by_setup, State, Reply}
+use Rattle.usb_device.specs.{Way, lost, is_whole, out_law, in_law, Ports, hears}
 use Rattle.usb_device.specs.declared.answer.Answer.TheVariants as answer
-use Rattle.usb_device.specs.declared.delivery.Content.{Content}
 use Rattle.usb_device.specs.declared.delivery.Content.TheVariants as content
-use Rattle.usb_device.specs.declared.delivery.Sent.{Sent}
-use Rattle.usb_request.specs.Layout.{setup_of}
-use Rattle.usb_device.specs.declared.effect.Effect.{Effect}
-use Rattle.usb_device.specs.declared.effect.Effect.TheVariants.{Leaves}
-use Rattle.usb_device.specs.Effect.{asked_by_setup}
-use Rattle.usb_device.specs.Rows.{State, Reply}
-use Rattle.usb_device.specs.Attempt.{Way, whole, broken, lost, is_whole, out_law, in_law}
-use Rattle.usb_device.specs.Tree.{Ports}
-use Rattle.usb_device.specs.Delivery.{hears}
+use Rattle.usb_request.specs.{setup_of}
+use Rattle.usb_device.specs.Attempt.{whole, broken}
 use Rattle.usb_world.specs.declared.types.Attempt.{Attempt}
 use Rattle.usb_world.specs.declared.types.Outcome.{Outcome}
 use Rattle.usb_world.specs.declared.types.Outcome.TheVariants as outcome
 use Rattle.usb_world.specs.declared.damage.Damage.{Damage}
 use Rattle.usb_world.specs.declared.wire.Mark.{Mark}
 use Rattle.usb_world.specs.declared.wire.Mark.TheVariants as mark
-use Rattle.usb_world.specs.Exchange.{token_out, payload_out, reply_out, mark_in}
-use Rattle.usb_tree.specs.AttemptPackets.{IsSettled}
-use Rattle.usb_tree.specs.FoundHolder.{Found}
-use Rattle.usb_world.specs.World.{World}
+use Rattle.usb_world.specs.Exchanges.{token_out, payload_out, reply_out, mark_in}
+use Rattle.usb_tree.specs.{IsSettled, Found}
+use Rattle.usb_world.specs.Worlds.{World}
 use Rattle.usb_world.specs.Steps.{at_attempt, attempt, after}
 
 -- how a packet of the host comes to a device: not at all where it does not go out, or the device

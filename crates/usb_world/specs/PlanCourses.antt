@@ -1,14 +1,13 @@
 -- What the events that came have left of a plan.
 use Rattle.std.specs.Prelude.{◌≡◌, ◌≤◌, List, length, drop, All, ⊤}
-use Rattle.usb_port.specs.Path.{IsPath}
-use Rattle.usb_device.specs.Spec.{Spec}
-use Rattle.usb_device.specs.Rows.{State}
+use Rattle.usb_port.specs.{IsPath}
+use Rattle.usb_device.specs.{Spec, State}
 use Rattle.usb_world.specs.declared.event.Event.{Event}
 use Rattle.usb_world.specs.declared.event.Action.{Action}
 use Rattle.usb_world.specs.declared.event.Action.TheVariants.{Change, Ask}
 use Rattle.usb_world.specs.declared.event.Change.TheVariants.{Plug, Unplug}
-use Rattle.usb_world.specs.PlanData.{PlanData}
-use Rattle.usb_world.specs.World.{World}
+use Rattle.usb_world.specs.Plans.{PlanData}
+use Rattle.usb_world.specs.Worlds.{World}
 
 -- a device's description
 abbrev pub spec_of : State → Spec

@@ -5,8 +5,8 @@ use Rattle.std.specs.List.{starts_with}
 use Rattle.std.specs.Ordering.{is_eq}
 use Rattle.std.specs.Map.{lookup}
 use Rattle.std.specs.BTreeMap.{insert_entry}
-use Rattle.usb_port.specs.Order.{path_cmp, parent_of, port_on_hub}
-use Rattle.usb_device.specs.Spec.{Spec, Hub}
+use Rattle.usb_port.specs.{path_cmp, parent_of, port_on_hub}
+use Rattle.usb_device.specs.{Spec, Hub}
 use Rattle.usb_world.specs.declared.event.Event.{Event}
 use Rattle.usb_world.specs.declared.event.Action.{Action}
 use Rattle.usb_world.specs.declared.event.Action.TheVariants.{Change, Ask}

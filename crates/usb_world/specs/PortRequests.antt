@@ -1,21 +1,15 @@
 -- What requests ask of ports, and which ports a step leaves alone.
 use Rattle.std.specs.Prelude.{◌≡◌, ℕ, zero, suc, ◌==◌, ◌&&◌, ◌||◌, not, Bool, true, false, List, []}
 use Rattle.std.specs.Prelude.{◌∷◌, Option, None, Some}
-use Rattle.usb_request.specs.Features.{PORT_ENABLE, PORT_RESET, PORT_POWER, C_PORT_ENABLE}
-use Rattle.usb_request.specs.Features.{C_PORT_RESET}
-use Rattle.usb_request.specs.Codes.{CLEAR_FEATURE, SET_FEATURE, SET_CONFIGURATION, DEVICE_OUT}
-use Rattle.usb_request.specs.Codes.{PORT_OUT}
-use Rattle.usb_port.specs.PortState.{PortState}
-use Rattle.usb_request.specs.declared.setup.Setup.{Setup}
-use Rattle.usb_device.specs.Request.{Is}
-use Rattle.usb_device.specs.declared.delivery.Sent.{Sent}
-use Rattle.usb_device.specs.Tree.{Ports, reach}
+use Rattle.usb_request.specs.{PORT_ENABLE, PORT_RESET, PORT_POWER, C_PORT_ENABLE, C_PORT_RESET}
+use Rattle.usb_request.specs.{CLEAR_FEATURE, SET_FEATURE, SET_CONFIGURATION, DEVICE_OUT, PORT_OUT}
+use Rattle.usb_request.specs.{Setup}
+use Rattle.usb_port.specs.{PortState}
+use Rattle.usb_device.specs.{Is, Sent, Ports, reach}
 use Rattle.usb_world.specs.declared.types.Attempt.{Attempt}
-use Rattle.usb_world.specs.Exchange.{token_out, payload_out}
-use Rattle.usb_tree.specs.Paths.{is_way, same_number, same_path}
-use Rattle.usb_tree.specs.AttemptPackets.{after_sent}
-use Rattle.usb_tree.specs.WayEffects.{way_leaves}
-use Rattle.usb_world.specs.World.{World}
+use Rattle.usb_world.specs.Exchanges.{token_out, payload_out}
+use Rattle.usb_tree.specs.{is_way, same_number, same_path, after_sent, way_leaves}
+use Rattle.usb_world.specs.Worlds.{World}
 use Rattle.usb_world.specs.Steps.{at_attempt, damage_in, Step, attempt, root_call, event, report}
 use Rattle.usb_world.specs.Courses.{at_path, resets, step_keeps_pending}
 

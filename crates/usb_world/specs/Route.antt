@@ -1,9 +1,8 @@
 -- The way of an attempt to the device that holds its address.
 use Rattle.std.specs.Prelude.{ℕ, Bool, true, false, List, []}
-use Rattle.usb_device.specs.declared.holders.Holder.{Holder}
+use Rattle.usb_device.specs.{Holder, holder_in}
 use Rattle.usb_device.specs.declared.holders.Holder.TheVariants.{Nobody, One, Several}
 use Rattle.usb_device.specs.declared.holders.Holders.{Holders}
-use Rattle.usb_device.specs.HolderIndex.{holder_in}
 
 -- the path of the one holder, or the whole tree's: where two devices hold one address, also for the
 -- others

@@ -6,9 +6,8 @@ use native.Mathlib.Nat.{ℕ_set}
 use denote.Struct.Props.{props}
 use Rattle.std.specs.Prelude.{ℕ, zero, suc, ◌≤◌, List, length, Option, None, Some, All}
 use Rattle.std.specs.Option.{IfSome}
-use Rattle.usb_device.specs.Spec.{Hub, IsHub, Spec, IsSpec}
-use Rattle.usb_port.specs.PortState.{PortState, Attached, nothing, full, low}
-use Rattle.usb_device.specs.Tree.{Ports, ended, vacant, taken, row_of}
+use Rattle.usb_device.specs.{Hub, IsHub, Spec, IsSpec, Ports, ended, vacant, taken, row_of}
+use Rattle.usb_port.specs.{PortState, Attached, nothing, full, low}
 use Rattle.usb_world.specs.PluggedDevices.{hub_ports}
 use Rattle.usb_world.specs.SanePorts.{IsSanePort, Consistent}
 

@@ -6,7 +6,7 @@ use Rattle.usb_world.specs.declared.exchange.Exchange.{Exchange}
 use Rattle.usb_world.specs.declared.exchange.ExchangeAnswer.TheVariants.{Nothing}
 use Rattle.usb_world.specs.declared.wire.Mark.TheVariants.{Whole}
 use Rattle.usb_world.specs.Wire.{marked}
-use Rattle.usb_world.specs.Exchange.{token_of, payload_in}
+use Rattle.usb_world.specs.Exchanges.{token_of, payload_in}
 
 -- the host's token and data, and nothing else
 abbrev pub silent_exchange : Attempt → Option Damage → Exchange

@@ -2,13 +2,9 @@
 use Rattle.std.specs.Prelude.{◌≡◌, ◌≢◌, ℕ, ◌+◌, ◌-◌, ◌==◌, nat_le, Bool, true, false, ◌&&◌, ◌||◌}
 use Rattle.std.specs.Prelude.{not, if◌then◌else◌, List, [], ◌∷◌, slice_get, slice_set, Option, Some}
 use Rattle.std.specs.Prelude.{None, is_some, Result, Ok, Err, IfErr, All, ⊤}
-use Rattle.usb_port.specs.declared.call.PortCall.{PortCall}
-use Rattle.usb_device.specs.declared.delivery.Sent.{Sent}
-use Rattle.usb_device.specs.Spec.{Spec, IsSpec}
-use Rattle.usb_port.specs.Calls.{set_call, clear_call, port_by, is_clearing}
-use Rattle.usb_device.specs.Tree.{Ports, new_ports, called, replaced, changed}
-use Rattle.usb_device.specs.Delivery.{held_addresses, repeats, all_forgotten}
-use Rattle.usb_device.specs.StoppedPackets.{Stopped}
+use Rattle.usb_port.specs.{PortCall, set_call, clear_call, port_by, is_clearing}
+use Rattle.usb_device.specs.{Sent, Spec, IsSpec, Ports, new_ports, called, replaced, changed}
+use Rattle.usb_device.specs.{held_addresses, repeats, all_forgotten, Stopped}
 use Rattle.usb_world.specs.declared.damage.Damage.{Damage}
 use Rattle.usb_world.specs.declared.event.Ask.{Ask as Asked}
 use Rattle.usb_world.specs.declared.event.Event.{Event}
@@ -21,14 +17,13 @@ use Rattle.usb_world.specs.declared.types.Outcome.{Outcome}
 use Rattle.usb_world.specs.declared.types.BusFault.{BusFault}
 use Rattle.usb_world.specs.declared.types.BusFault.TheVariants.{LimitReached, Memory, TraceFailed}
 use Rattle.usb_world.specs.Wire.{damage_of}
-use Rattle.usb_world.specs.Exchange.{heard_in, mark_in, lost_in, cleared_in, exchange_in, ports_in}
-use Rattle.usb_world.specs.Exchange.{outcome_of, token_out, payload_out}
+use Rattle.usb_world.specs.Exchanges.{heard_in, mark_in, lost_in, cleared_in, exchange_in, ports_in}
+use Rattle.usb_world.specs.Exchanges.{outcome_of, token_out, payload_out}
 use Rattle.usb_world.specs.Losses.{no_losses, counted, after_clearing}
-use Rattle.usb_tree.specs.Paths.{is_way}
+use Rattle.usb_tree.specs.{is_way, IsSettled, after_sent}
 use Rattle.usb_world.specs.SanePorts.{Consistent}
-use Rattle.usb_tree.specs.AttemptPackets.{IsSettled, after_sent}
-use Rattle.usb_world.specs.PlanData.{PlanData}
-use Rattle.usb_world.specs.World.{World, root_row, root_port_at, to_come, AttemptsWithin, Failed}
+use Rattle.usb_world.specs.Plans.{PlanData}
+use Rattle.usb_world.specs.Worlds.{World, root_row, root_port_at, to_come, AttemptsWithin, Failed}
 
 -- Events
 

@@ -5,10 +5,10 @@ ghost use Rattle.usb_device.specs.LentPackets.{broken};
 ghost use Rattle.usb_device.specs.Tree.{device_there};
 ghost use Rattle.usb_device.specs.Delivery.{all_forgotten, has_loss};
 ghost use Rattle.usb_device.specs.Route.{address_by};
-ghost use Rattle.usb_world.specs.World.{IsAttempt, FitsMaximum};
+ghost use Rattle.usb_world.specs.Worlds.{IsAttempt, FitsMaximum};
 ghost use Rattle.usb_world.specs.Wire.{has_its_bit, marked, marked_some};
 ghost use Rattle.usb_world.specs.declared.wire.Mark.TheVariants.{Flipped};
-ghost use Rattle.usb_world.specs.Exchange.{ack_if, blank, token_of, payload_of, answer_place, answer_mark, reply_of, outcome_of, goes_out, token_out, payload_out, sent_as, is_lost, clears_at};
+ghost use Rattle.usb_world.specs.Exchanges.{ack_if, blank, token_of, payload_of, answer_place, answer_mark, reply_of, outcome_of, goes_out, token_out, payload_out, sent_as, is_lost, clears_at};
 ghost use Rattle.usb_tree.specs.AttemptPackets.{IsSettled, after_sent};
 ghost use Rattle.usb_world.specs.ExchangeEffects.{StaysPlugged, PacketWent, PacketsWent, Exchanged};
 ghost use Rattle.usb_world.specs.CutPackets.{IsStopped};
@@ -301,7 +301,7 @@ pub(crate) fn make_silence(attempt: &Attempt, damage: Option<Damage>, exchange: 
 }
 
 /// The place of the devices' answer among the packets of an attempt, counted from 1.
-#[tactic(auto, unfolding(crate::specs::Exchange::answer_place))]
+#[tactic(auto, unfolding(crate::specs::Exchanges::answer_place))]
 fn answer_place(payload: &Option<Outgoing>) -> u8
     ensures value { result ≡ answer_place payload.now }
     ensures most { result ≤ 3 }
@@ -313,7 +313,7 @@ fn answer_place(payload: &Option<Outgoing>) -> u8
 }
 
 /// The mark that a harm leaves on the answer of one device.
-#[tactic(auto, unfolding(crate::specs::Exchange::answer_mark))]
+#[tactic(auto, unfolding(crate::specs::Exchanges::answer_mark))]
 fn answer_mark(harm: Option<Harm>, answer: &ExchangeAnswer) -> Mark
     ensures { result ≡ answer_mark harm answer.now }
 {
@@ -487,7 +487,7 @@ fn acknowledge(
 }
 
 /// The token as damage leaves it.
-#[tactic(auto, unfolding(crate::specs::Exchange::token_of, crate::specs::Wire::marked))]
+#[tactic(auto, unfolding(crate::specs::Exchanges::token_of, crate::specs::Wire::marked))]
 fn put_token(attempt: &Attempt, damage: Option<Damage>, token: &mut Outgoing)
     requires { IsAttempt attempt.now }
     ensures value { token.new ≡ marked damage 1 attempt.now.pre (token_of attempt.now) }
@@ -503,7 +503,7 @@ fn put_token(attempt: &Attempt, damage: Option<Damage>, token: &mut Outgoing)
 }
 
 /// The host's data as damage leaves them, where it sends some.
-#[tactic(auto, unfolding(crate::specs::Exchange::payload_of, crate::specs::Wire::marked_some))]
+#[tactic(auto, unfolding(crate::specs::Exchanges::payload_of, crate::specs::Wire::marked_some))]
 fn put_payload(attempt: &Attempt, damage: Option<Damage>, payload: &mut Option<Outgoing>)
     ensures value { payload.new ≡ marked_some damage 2 attempt.now.pre (payload_of attempt.now) }
     ensures fields { IfSome payload.new (λ s. HasFields s.packet) }
@@ -531,7 +531,7 @@ fn copied(bytes: &ArrayVec<u8, 64>) -> ArrayVec<u8, 64>
 }
 
 /// Whether the host reads data of at most `max` bytes, and so answers by ACK.
-#[tactic(auto, unfolding(crate::specs::Exchange::reply_of))]
+#[tactic(auto, unfolding(crate::specs::Exchanges::reply_of))]
 fn is_acknowledged(answer: &ExchangeAnswer, mark: Mark, max: u8) -> bool
     ensures { ack_if result ≡ reply_of answer.now mark max }
 {
@@ -565,7 +565,7 @@ fn put_reply(
 
 /// What an attempt gives the host: data of at most `max` bytes, or a handshake, where it reads the
 /// answer.
-#[tactic(auto, unfolding(crate::specs::Exchange::outcome_of))]
+#[tactic(auto, unfolding(crate::specs::Exchanges::outcome_of))]
 pub fn outcome_of(answer: &ExchangeAnswer, mark: Mark, max: u8) -> Outcome
     ensures value { result ≡ outcome_of answer.now mark max }
     ensures fits { FitsMaximum max result }

@@ -3,10 +3,10 @@
 //! Each call does nothing; what it ensures is for a reader, and for proofs to cite.
 ghost use Rattle.std.specs.Prelude.{◌≡◌, ◌<◌, ◌≤◌, ℕ, suc, false, true, List, [], ◌∷◌, ◌++◌, length, take, Option, Some, is_some, option_map};
 ghost use Rattle.usb_packet.specs.declared.Toggle.{Toggle};
-ghost use Rattle.usb_port.specs.PortState.{PortState};
+ghost use Rattle.usb_port.specs.PortStates.{PortState};
 ghost use Rattle.usb_device.specs.Delivery.{held_addresses, repeats};
 ghost use Rattle.usb_device.specs.Rows.{State};
-ghost use Rattle.usb_device.specs.Spec.{Spec};
+ghost use Rattle.usb_device.specs.DeviceSpecs.{Spec};
 ghost use Rattle.usb_device.specs.Tree.{Ports, full, path_to, place_on, reach, reach_on, row_of, state_on, Location};
 ghost use Rattle.usb_device.specs.View.{port_there, state_there};
 ghost use Rattle.usb_world.specs.declared.damage.Damage.{Damage};
@@ -15,16 +15,16 @@ ghost use Rattle.usb_world.specs.declared.types.Attempt.{Attempt};
 ghost use Rattle.usb_world.specs.Addresses.{GivesNoAddress};
 ghost use Rattle.usb_world.specs.Courses.{Injective, UndisturbedOrPends, NoReset, HoldsMapped, Reached, KeepsPendingAt, Undisturbed, resets};
 ghost use Rattle.usb_world.specs.Devices.{DidIn, DidOut, DidSetup, EachWas, Was};
-ghost use Rattle.usb_world.specs.Exchange.{heard_in, payload_out, token_out};
+ghost use Rattle.usb_world.specs.Exchanges.{heard_in, payload_out, token_out};
 ghost use Rattle.usb_tree.specs.Paths.{is_way, has_power, pending};
 ghost use Rattle.usb_world.specs.OneHolder.{IsIn, IsMade, IsOut, IsSetup};
 ghost use Rattle.usb_tree.specs.AttemptPackets.{IsSettled, after_sent, answers_to};
-ghost use Rattle.usb_world.specs.PlanData.{IsPlan, PlanData};
+ghost use Rattle.usb_world.specs.Plans.{IsPlan, PlanData};
 ghost use Rattle.usb_world.specs.PluggedDevices.{index_at, device_indexed, hub_ports, plugged_by};
 ghost use Rattle.usb_world.specs.PlanCourses.{AtPorts, FollowsPlan, spec_of};
 ghost use Rattle.usb_world.specs.RestingPorts.{LeavesPortAlone, UnchangedOrPending, SameDeviceOrPending};
 ghost use Rattle.usb_world.specs.Steps.{AnyStep, Course, WorldInvariant, Step, after, attempt, made_in, opening, at_attempt};
-ghost use Rattle.usb_world.specs.World.{IsAttempt, World};
+ghost use Rattle.usb_world.specs.Worlds.{IsAttempt, World};
 
 /// A device becomes reachable in one way only: by PORT_RESET at its own port, which leaves it at address 0, without
 /// a configuration, its ports off.

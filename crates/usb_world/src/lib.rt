@@ -1,6 +1,6 @@
 //! The world of a bus: what is plugged and what happens to it, what an attempt does to it, and the laws of both.
 //!
-//! A world is plain data (`specs/World.antt`); a step of it is a function (`specs/Steps.antt`). What runs a world
+//! A world is plain data (`specs/Worlds.antt`); a step of it is a function (`specs/Steps.antt`). What runs a world
 //! stands in the crates above.
 //!
 //! # What is proved

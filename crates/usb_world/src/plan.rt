@@ -22,7 +22,7 @@ pub struct Plan {
 }
 
 impl Model for Plan {
-    ghost use Rattle.usb_world.specs.PlanData.{PlanData, IsPlan, plan_data};
+    ghost use Rattle.usb_world.specs.Plans.{PlanData, IsPlan, plan_data};
 
     ghost Value = { PlanData };
 
@@ -33,7 +33,7 @@ impl Model for Plan {
 
 impl Plan {
     ghost use Rattle.std.specs.Prelude.{◌≡◌, ◌≤◌, length};
-    ghost use Rattle.usb_world.specs.PlanData.{PlanData, IsPlan, plan_data};
+    ghost use Rattle.usb_world.specs.Plans.{PlanData, IsPlan, plan_data};
     ghost use Rattle.usb_world.specs.PlanCourses.{AtPorts};
     ghost use Rattle.usb_world.specs.PlanLimits.{event_most, damage_most};
 

@@ -1,10 +1,8 @@
 use Rattle.std.proofs.Common.{List, OnErr, sym, subst, ap, ◌∙◌}
 use Rattle.usb_device.specs.declared.ports.Place.{Place as Kept}
-use Rattle.usb_device.specs.Tree.{Plugged, before}
-use Rattle.usb_device.specs.Places.{ports_kept, stood, standing}
-use Rattle.usb_device.specs.StoppedPackets.{Stopped, StoppedDevice}
-use Rattle.usb_device.proofs.StoppedPackets.{stopped_on_err, stopped_first, stopped_further}
-use Rattle.usb_device.proofs.StoppedPackets.{stopped_at, stopped_place}
+use Rattle.usb_device.specs.{Plugged, before, ports_kept, stood, standing, Stopped, StoppedDevice}
+use Rattle.usb_device.proofs.packets.StoppedPackets.{stopped_on_err, stopped_first, stopped_further}
+use Rattle.usb_device.proofs.packets.StoppedPackets.{stopped_at, stopped_place}
 use Rattle.usb_device.proofs.+deliver.Goals as goal
 
 pub delivery::deliver_all-returns-in_err-deliver-in-Some-clause-stopped :

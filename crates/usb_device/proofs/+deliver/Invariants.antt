@@ -1,6 +1,6 @@
 use Rattle.std.proofs.Common.{◌+◌, ◌*◌}
-use Rattle.usb_device.specs.Places.{ports_kept}
-use Rattle.usb_device.proofs.Nodes.{nodes, nodes_in}
+use Rattle.usb_device.specs.{ports_kept}
+use Rattle.usb_device.proofs.places.Nodes.{nodes, nodes_in}
 use Rattle.usb_device.proofs.+deliver.Given as goal
 
 abbrev pub decreases-delivery::deliver_all : goal.decreases-delivery::deliver_all

@@ -1,6 +1,6 @@
 use Rattle.std.proofs.Common.{◌+◌, ◌*◌}
-use Rattle.usb_device.specs.Places.{ports_kept}
-use Rattle.usb_device.proofs.Nodes.{nodes, nodes_in}
+use Rattle.usb_device.specs.{ports_kept}
+use Rattle.usb_device.proofs.places.Nodes.{nodes, nodes_in}
 use Rattle.usb_device.proofs.+losing.Given as goal
 
 abbrev pub decreases-between::any_loses : goal.decreases-between::any_loses

@@ -1,6 +1,6 @@
 use Rattle.std.proofs.Common.{◌+◌, ◌*◌}
-use Rattle.usb_device.specs.Places.{ports_kept}
-use Rattle.usb_device.proofs.Nodes.{nodes}
+use Rattle.usb_device.specs.{ports_kept}
+use Rattle.usb_device.proofs.places.Nodes.{nodes}
 use Rattle.usb_device.proofs.+over.Given as goal
 
 abbrev pub decreases-between::forget_all : goal.decreases-between::forget_all

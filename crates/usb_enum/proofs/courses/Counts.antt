@@ -2,11 +2,11 @@
 use Rattle.std.proofs.Common.{subst, arith}
 use Rattle.std.proofs.Math.Nat.{mul-le-mul_right, suc-mul}
 use Rattle.std.specs.Prelude.{ℕ, ◌+◌, ◌*◌, ◌≤◌, List, Option}
-use Rattle.usb_world.specs.World.{World}
-use Rattle.usb_bus.specs.Traces.{StepRun}
+use Rattle.usb_world.specs.{World}
+use Rattle.usb_bus.specs.{StepRun}
 use Rattle.usb_bus.proofs.Interface.{went_then, went_wider}
-use Rattle.usb_pipe.specs.Control.{control_bound}
-use Rattle.usb_enum.specs.Bounds.{read_bound}
+use Rattle.usb_pipe.specs.{control_bound}
+use Rattle.usb_enum.specs.{read_bound}
 use Rattle.usb_pipe.proofs.Interface.{bound_wide}
 
 pub went_on_more : (k m n : ℕ) (a b c : World) {t r s : Option (List ℕ)} → StepRun m a t b r

@@ -1,15 +1,11 @@
 -- What went between two states of a bus that is at work, as a course of steps.
 use Rattle.std.proofs.Common.{◌≡◌, ℕ, List, Option, None, Some, Result, Ok, Err, refl, ap, sym}
 use Rattle.std.proofs.Common.{subst, ◌∙◌}
-use Rattle.usb_world.specs.declared.types.Attempt.{Attempt}
-use Rattle.usb_world.specs.declared.types.BusFault.{BusFault}
-use Rattle.usb_world.specs.declared.types.Outcome.{Outcome}
-use Rattle.usb_world.specs.PlanData.{PlanData, IsPlan}
-use Rattle.usb_world.specs.Steps.{Step, AnyStep, Course, here, attempt, root_call, after, opening}
-use Rattle.usb_world.specs.World.{World}
+use Rattle.usb_world.specs.{Attempt, BusFault, Outcome, PlanData, IsPlan, Step, AnyStep, Course}
+use Rattle.usb_world.specs.{here, attempt, root_call, after, opening, World}
 use Rattle.usb_world.proofs.Interface.{between_course, between_opening, course_then}
-use Rattle.usb_bus.specs.Traces.{Attempts, Traced, still, attempted, called, StepRun}
-use Rattle.usb_enum.specs.PresentDevices.{IsInOrder, IsOrderly, IsRegular}
+use Rattle.usb_bus.specs.{Attempts, Traced, still, attempted, called, StepRun}
+use Rattle.usb_enum.specs.{IsInOrder, IsOrderly, IsRegular}
 
 -- the bus was at work, and these were its steps
 pub record AtWork (old new : World) : Type 0 where

@@ -1,10 +1,9 @@
 -- The damages are the same all along, also where the bus gave up.
 use Rattle.std.proofs.Common.{◌≡◌, ℕ, List, Option, refl, ◌∙◌}
-use Rattle.usb_world.specs.Steps.{after_event, with_attempt}
-use Rattle.usb_world.specs.World.{World}
-use Rattle.usb_transaction.specs.Failures.{NoThreeDamaged}
+use Rattle.usb_world.specs.{after_event, with_attempt, World}
+use Rattle.usb_transaction.specs.{NoThreeDamaged}
 use Rattle.usb_pipe.proofs.Interface.{never_three}
-use Rattle.usb_bus.specs.Traces.{StepRun}
+use Rattle.usb_bus.specs.{StepRun}
 use Rattle.usb_bus.proofs.Interface.{OverFaults, over_traced}
 
 same_damages : OverFaults (λ w v. v.damages ≡ w.damages)

@@ -4,52 +4,31 @@ use Rattle.std.proofs.Common.{zero, suc, true, false, List, [], ◌∷◌, ◌++
 use Rattle.std.proofs.Common.{is_some, option_map, Result, Ok, Err, refl, ap, sym, subst, ◌∙◌}
 use Rattle.std.specs.Prelude.{IsSome, IsSomeAnd}
 use Rattle.std.proofs.lemmas.Option.{same_Some}
-use Rattle.usb_port.specs.Order.{parent_of}
-use Rattle.usb_port.specs.PortState.{PortState}
+use Rattle.usb_port.specs.{parent_of, PortState, PortCall}
 use Rattle.usb_port.proofs.Interface.{parent}
-use Rattle.usb_port.specs.declared.call.PortCall.{PortCall}
-use Rattle.usb_device.specs.Rows.{State}
-use Rattle.usb_device.specs.Tree.{Ports, ended, vacant, taken, reach, state_at, port_at, Location}
-use Rattle.usb_device.specs.Tree.{path_to, reach_on, state_on}
-use Rattle.usb_device.specs.View.{state_there, port_there}
-use Rattle.usb_world.specs.Courses.{KeepsPendingAt}
-use Rattle.usb_world.specs.Devices.{Was}
-use Rattle.usb_tree.specs.Paths.{is_way, has_power, pending}
-use Rattle.usb_tree.specs.AttemptPackets.{deep_at}
-use Rattle.usb_world.specs.PlanCourses.{spec_of}
-use Rattle.usb_world.specs.RestingPorts.{LeavesPortAlone, SameAt, UnchangedOrPending}
-use Rattle.usb_world.specs.RestingPorts.{SameDeviceOrPending}
-use Rattle.usb_world.specs.SanePorts.{Consistent}
-use Rattle.usb_world.specs.Steps.{Course}
-use Rattle.usb_world.specs.World.{World}
+use Rattle.usb_device.specs.{State, Ports, ended, vacant, taken, reach, state_at, port_at, Location}
+use Rattle.usb_device.specs.{path_to, reach_on, state_on, state_there, port_there, Spec}
+use Rattle.usb_world.specs.{KeepsPendingAt, Was, spec_of, LeavesPortAlone, SameAt}
+use Rattle.usb_world.specs.{UnchangedOrPending, SameDeviceOrPending, Consistent, Course, World}
+use Rattle.usb_tree.specs.{is_way, has_power, pending, deep_at}
 use Rattle.usb_world.proofs.Interface.{course_wider, pending_persists, reach_live, rests_or_pends}
 use Rattle.usb_world.proofs.Interface.{stands_or_pends}
 use Rattle.usb_tree.proofs.Interface.{false_true}
-use Rattle.usb_bus.specs.Traces.{StepRun}
-use Rattle.usb_transaction.specs.declared.target.Target.{Target}
-use Rattle.usb_address.specs.Claims.{AddressMap}
+use Rattle.usb_bus.specs.{StepRun}
+use Rattle.usb_transaction.specs.{Target}
+use Rattle.usb_address.specs.{AddressMap}
 use Rattle.usb_address.proofs.Interface.{live_port, not_way, pend_or_live}
-use Rattle.usb_pipe.specs.declared.fault.PipeFault.{PipeFault}
+use Rattle.usb_pipe.specs.{PipeFault}
 use Rattle.usb_pipe.specs.declared.fault.PipeFault.TheVariants as pipe
-use Rattle.usb_hub.specs.declared.port.HubPort.{HubPort}
-use Rattle.usb_hub.specs.declared.port.HubPort.TheVariants.{Root, External}
-use Rattle.usb_hub.specs.Addresses.{IsAt, IsBelow, StaysAs}
-use Rattle.usb_hub.specs.CallFailures.{HasPort, HubServes, NoHubFailed}
+use Rattle.usb_hub.specs.{HubPort, Root, External, IsAt, IsBelow, StaysAs, HasPort, HubServes}
+use Rattle.usb_hub.specs.{NoHubFailed}
 use Rattle.usb_hub.proofs.Interface.{stays-registers, stays-spec}
-use Rattle.usb_enum.specs.declared.cause.Cause.{Cause}
-use Rattle.usb_enum.specs.declared.fault.EnumFault.{EnumFault}
+use Rattle.usb_enum.specs.{Cause, EnumFault, Stop, IsSpare, AtPort, CalledAt, StatusAt, ServesAt}
+use Rattle.usb_enum.specs.{HasServer, IsFairAt, PendingOr, FaultsFor, StopsFor, StopsFairly}
+use Rattle.usb_enum.specs.{Faulted, OnlyAt, IsOccupied, IsReachedAt, AtPath, at_port}
+use Rattle.usb_enum.specs.{FaultAllowedAt, FaultAllowed}
 use Rattle.usb_enum.specs.declared.fault.EnumFault.TheVariants as fault
-use Rattle.usb_enum.specs.declared.stop.Stop.{Stop}
 use Rattle.usb_enum.specs.declared.stop.Stop.TheVariants.{Refused, Fault}
-use Rattle.usb_device.specs.Spec.{Spec}
-use Rattle.usb_enum.specs.Addresses.{IsSpare, AtPort}
-use Rattle.usb_enum.specs.Calls.{CalledAt, StatusAt}
-use Rattle.usb_enum.specs.FairEnumerations.{ServesAt, HasServer, IsFairAt, PendingOr, FaultsFor}
-use Rattle.usb_enum.specs.FairEnumerations.{StopsFor, StopsFairly, Faulted}
-use Rattle.usb_enum.specs.Frames.{OnlyAt}
-use Rattle.usb_enum.specs.Places.{IsOccupied, IsReachedAt}
-use Rattle.usb_enum.specs.PresentDevices.{AtPath}
-use Rattle.usb_enum.specs.Stop.{at_port, FaultAllowedAt, FaultAllowed}
 use Rattle.usb_enum.proofs.courses.Courses.{went_sound, went_in_order, went_course}
 use Rattle.usb_enum.proofs.courses.Damages.{went_three}
 use Rattle.usb_enum.proofs.courses.Losses.{few_before}

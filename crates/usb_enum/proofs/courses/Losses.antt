@@ -3,22 +3,17 @@
 use Rattle.std.proofs.Common.{◌≡◌, ◌≤◌, Bool, true, false, [], ◌∷◌, length, Option, None, Some}
 use Rattle.std.proofs.Common.{refl, ap, sym, subst, ◌∙◌, arith}
 use Rattle.usb_device.proofs.Interface.{row_of-after, row_of-forgotten}
-use Rattle.usb_device.specs.declared.delivery.Sent.{Sent}
-use Rattle.usb_port.specs.Calls.{is_clearing}
-use Rattle.usb_device.specs.Tree.{Ports, called, row_of}
-use Rattle.usb_world.specs.declared.damage.Damage.{Damage}
+use Rattle.usb_device.specs.{Sent, Ports, called, row_of}
+use Rattle.usb_port.specs.{is_clearing}
+use Rattle.usb_world.specs.{Damage, Attempt, lost_in, cleared_in, token_out, payload_out, reply_out}
+use Rattle.usb_world.specs.{ports_in, one_more, counted, after_clearing, AnyStep, after_event}
+use Rattle.usb_world.specs.{at_attempt, damage_in, with_attempt, Step, after, Course, World}
+use Rattle.usb_world.specs.{roots_of}
 use Rattle.usb_world.specs.declared.losses.Losses.{Losses}
-use Rattle.usb_world.specs.declared.types.Attempt.{Attempt}
-use Rattle.usb_world.specs.Exchange.{lost_in, cleared_in, token_out, payload_out, reply_out}
-use Rattle.usb_world.specs.Exchange.{ports_in}
-use Rattle.usb_world.specs.Losses.{one_more, counted, after_clearing}
-use Rattle.usb_world.specs.Steps.{AnyStep, after_event, at_attempt, damage_in, with_attempt, Step}
-use Rattle.usb_world.specs.Steps.{after, Course}
-use Rattle.usb_tree.specs.AttemptPackets.{after_sent, after_attempt}
-use Rattle.usb_world.specs.World.{World, roots_of}
+use Rattle.usb_tree.specs.{after_sent, after_attempt}
 use Rattle.usb_world.proofs.Interface.{OverSteps, happened_long, over_course, over_step, row_long}
 use Rattle.usb_world.proofs.Interface.{with_limit_told}
-use Rattle.usb_enum.specs.Losses.{FewLosses}
+use Rattle.usb_enum.specs.{FewLosses}
 
 -- the same damages and number of root ports, and a worst stretch that is no shorter
 pub record IsLater (w v : World) : Type 0 where
@@ -35,8 +30,7 @@ later_then w m v x y = let a = x.worst in let b = y.worst in
     record {
       damages = y.damages ∙ x.damages;
       roots = y.roots ∙ x.roots;
-      worst =
-          omega (arith, a, b);
+      worst = omega (arith, a, b);
     }
 
 sent_row : (o : Option Sent) (k : Ports) → row_of (after_sent o k) ≡ row_of k

@@ -2,37 +2,24 @@
 use Rattle.std.proofs.Common.{◌≡◌, inl, inr, ◌≤◌, ◌==◌, ℕ, Bool, true, false, [], None, Some}
 use Rattle.std.proofs.Common.{Result, refl, ap, sym, subst, ◌∙◌, arith}
 use Rattle.std.specs.Global.{Vec}
-use Rattle.usb_port.specs.declared.status.PortStatus.{PortStatus}
-use Rattle.usb_request.specs.declared.setup.Setup.{Setup}
-use Rattle.usb_request.specs.Layout.{bytes_of}
-use Rattle.usb_request.specs.Requests.{clear_port_feature, get_device_descriptor, get_port_status}
-use Rattle.usb_request.specs.Requests.{set_port_feature}
-use Rattle.usb_port.specs.declared.call.PortCall.{PortCall}
-use Rattle.usb_port.specs.Calls.{set_call, clear_call, is_clearing}
+use Rattle.usb_port.specs.{PortStatus, PortCall, set_call, clear_call, is_clearing}
+use Rattle.usb_request.specs.{Setup, bytes_of, clear_port_feature, get_device_descriptor}
+use Rattle.usb_request.specs.{get_port_status, set_port_feature}
 use Rattle.usb_world.specs.declared.losses.Losses.{Losses}
-use Rattle.usb_world.specs.declared.types.Attempt.{Attempt}
-use Rattle.usb_world.specs.Losses.{one_more, counted, after_clearing}
-use Rattle.usb_world.specs.OneHolder.{IsMade, IsOut}
-use Rattle.usb_tree.specs.AttemptPackets.{IsSettled}
-use Rattle.usb_world.specs.Steps.{Step, attempt, root_call, event, report, after, Course}
-use Rattle.usb_world.specs.World.{World}
+use Rattle.usb_world.specs.{Attempt, one_more, counted, after_clearing, IsMade, IsOut, Step}
+use Rattle.usb_world.specs.{attempt, root_call, event, report, after, Course, World}
+use Rattle.usb_tree.specs.{IsSettled}
 use Rattle.usb_world.proofs.Interface.{MadeOrNot, attempt_cases, in_clears, kept_course, loses}
 use Rattle.usb_world.proofs.Interface.{losses_as, made_here, out_counts, set_up_counts}
 use Rattle.usb_world.proofs.Interface.{settled_after}
 use Rattle.usb_tree.proofs.Interface.{not-true}
-use Rattle.usb_transaction.specs.declared.target.Target.{Target}
-use Rattle.usb_transaction.specs.Losses.{begins_no_stretch}
-use Rattle.usb_transaction.specs.Transactions.{in_attempt, out_attempt, setup_attempt}
+use Rattle.usb_transaction.specs.{Target, begins_no_stretch, in_attempt, out_attempt, setup_attempt}
 use Rattle.usb_address.proofs.Interface.{same_setup}
-use Rattle.usb_pipe.specs.declared.fault.PipeFault.{PipeFault}
-use Rattle.usb_pipe.specs.Attempts.{IsOfTransfer}
-use Rattle.usb_pipe.specs.Leaves.{IsBehind}
+use Rattle.usb_pipe.specs.{PipeFault, IsOfTransfer, IsBehind}
 use Rattle.usb_pipe.proofs.Interface.{read_attempts, write_attempts}
-use Rattle.usb_hub.specs.declared.port.HubPort.{HubPort}
-use Rattle.usb_hub.specs.declared.port.HubPort.TheVariants.{Root, External}
-use Rattle.usb_hub.specs.Port.{PortRead, PortSet, PortCleared}
-use Rattle.usb_hub.specs.Requests.{Queried, Commanded}
-use Rattle.usb_enum.specs.Losses.{NoNewStretch}
+use Rattle.usb_hub.specs.{HubPort, Root, External, PortRead, PortSet, PortCleared, Queried}
+use Rattle.usb_hub.specs.{Commanded}
+use Rattle.usb_enum.specs.{NoNewStretch}
 use Rattle.usb_enum.proofs.devices.Frames.{ends_without_fault}
 
 pub no_stretch_none : (w : World) → NoNewStretch w w
@@ -71,8 +58,7 @@ in_goes t w m = record {
 
 out_goes : (t : Target) {toggle : _} (a : Attempt) → a ≡ out_attempt t 0 toggle [] → (w : World)
     → IsMade a w → NoNewStretch w (after (attempt a) w)
-out_goes t {toggle} a e w m = goes_same w _
-    (out_counts a [] (subst (λ x. IsOut x toggle []) (sym e)
+out_goes t {toggle} a e w m = goes_same w _ (out_counts a [] (subst (λ x. IsOut x toggle []) (sym e)
     (record { kind = refl; payload = refl })) w m)
 
 -- Transfers of a request that clears no change of connection

@@ -3,18 +3,13 @@
 use Rattle.std.proofs.Common.{◌≡◌, ◌⊎◌, ◌≤◌, ℕ, inl, Bool, true, false, List, [], ◌∷◌, ◌++◌, Option}
 use Rattle.std.proofs.Common.{None, Some, if◌then◌else◌, refl, ap, sym, subst, ◌∙◌, arith}
 use Rattle.std.proofs.lemmas.Option.{same_Some}
-use Rattle.usb_world.specs.declared.types.BusFault.{BusFault}
-use Rattle.usb_world.specs.Addresses.{after_reset, after_taking}
-use Rattle.usb_tree.specs.Paths.{same_path, is_way}
-use Rattle.usb_world.specs.World.{World}
-use Rattle.usb_address.specs.Claims.{AddressMap}
-use Rattle.usb_address.specs.Ownership.{MapHolds, Enumerating, WhileBusWorks, KeepsAddresses}
+use Rattle.usb_world.specs.{BusFault, after_reset, after_taking, World}
+use Rattle.usb_tree.specs.{same_path, is_way}
+use Rattle.usb_address.specs.{AddressMap, MapHolds, Enumerating, WhileBusWorks, KeepsAddresses}
 use Rattle.usb_address.proofs.Interface.{after_a_reset, after_an_address, after_taking-zero}
 use Rattle.usb_address.proofs.Interface.{after_taking-not_both, is_way-same_path}
-use Rattle.usb_hub.specs.declared.port.HubPort.{HubPort}
-use Rattle.usb_hub.specs.declared.port.HubPort.TheVariants.{Root, External}
-use Rattle.usb_hub.specs.Addresses.{IsAt, IsClaimed, Resets, GivesAddress}
-use Rattle.usb_enum.specs.Addresses.{IsSpare, Within, TakesAddress}
+use Rattle.usb_hub.specs.{HubPort, Root, External, IsAt, IsClaimed, Resets, GivesAddress}
+use Rattle.usb_enum.specs.{IsSpare, Within, TakesAddress}
 use Rattle.usb_tree.proofs.Interface.{self_number, self_path}
 
 -- Till a fault
@@ -37,14 +32,12 @@ having f p address w t = split w.fault refl
     split None e = let now = t.so e in record {
       has = now.has;
       is = now.is;
-      owned =
-          record { so = λ none. now.owned; single = t.single };
+      owned = record { so = λ none. now.owned; single = t.single };
     }
     split (Some fault) e = record {
       has = 0;
       is = inl refl;
-      owned =
-          record { so = λ none. absurd cc; single = t.single };
+      owned = record { so = λ none. absurd cc; single = t.single };
     }
 
 -- Paths
@@ -73,8 +66,7 @@ within_none port address w = record { stays = λ f p spare t. t }
 pub within_then : (port : HubPort) (address : ℕ) (a b c : World) → Within port address a b
     → Within port address b c → Within port address a c
 within_then port address a b c m n = record {
-  stays =
-      λ f p spare t. n.stays f p spare (m.stays f p spare t);
+  stays = λ f p spare t. n.stays f p spare (m.stays f p spare t);
 }
 
 pub takes_after : (port : HubPort) (address : ℕ) (a b c : World) → Within port address a b
@@ -85,8 +77,7 @@ takes_after port address a b c m n =
 pub takes_then : (port : HubPort) (address : ℕ) (a b c : World) → TakesAddress port address a b
     → KeepsAddresses b c → TakesAddress port address a c
 takes_then port address a b c m n = record {
-  took =
-      λ f p spare t. n.kept (after_taking f p address) (m.took f p spare t);
+  took = λ f p spare t. n.kept (after_taking f p address) (m.took f p spare t);
 }
 
 -- What each call does

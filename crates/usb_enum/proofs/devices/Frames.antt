@@ -4,54 +4,35 @@ use Rattle.std.proofs.Common.{[], Option, None, Some, option_map, Result, Ok, Er
 use Rattle.std.proofs.Common.{refl, ap, sym, subst, ◌∙◌}
 use Rattle.std.specs.Global.{Vec}
 use Rattle.std.specs.Prelude.{IfErr}
-use Rattle.usb_request.specs.Features.{PORT_POWER, PORT_ENABLE, PORT_RESET, C_PORT_RESET}
-use Rattle.usb_request.specs.Requests.{set_port_feature, set_configuration, set_address}
-use Rattle.usb_request.specs.declared.setup.Setup.{Setup}
-use Rattle.usb_device.specs.Rows.{State}
-use Rattle.usb_device.specs.Spec.{Spec}
-use Rattle.usb_device.specs.Tree.{Location, path_to, reach_on, state_on}
-use Rattle.usb_port.specs.declared.call.PortCall.{PortCall}
-use Rattle.usb_port.specs.declared.call.PortCall.TheVariants.{SetReset, ClearEnable}
-use Rattle.usb_port.specs.declared.call.PortCall.TheVariants.{ClearResetChange}
-use Rattle.usb_port.specs.Calls.{set_call, clear_call}
-use Rattle.usb_world.specs.Addresses.{after_taking}
-use Rattle.usb_world.specs.Devices.{Relation, Was, EachWas}
-use Rattle.usb_tree.specs.Paths.{address_of, is_way, same_path}
-use Rattle.usb_world.specs.PortRequests.{is_above}
-use Rattle.usb_world.specs.RestingPorts.{LeavesPortAlone}
-use Rattle.usb_world.specs.Steps.{Course, here}
-use Rattle.usb_tree.specs.WayEffects.{keeps_pending}
-use Rattle.usb_world.specs.World.{World}
+use Rattle.usb_request.specs.{PORT_POWER, PORT_ENABLE, PORT_RESET, C_PORT_RESET, set_port_feature}
+use Rattle.usb_request.specs.{set_configuration, set_address, Setup}
+use Rattle.usb_device.specs.{State, Spec, Location, path_to, reach_on, state_on}
+use Rattle.usb_port.specs.{PortCall, SetReset, ClearEnable, ClearResetChange, set_call, clear_call}
+use Rattle.usb_port.specs.{PortStatus}
+use Rattle.usb_world.specs.{after_taking, Relation, Was, EachWas, is_above, LeavesPortAlone, Course}
+use Rattle.usb_world.specs.{here, World}
+use Rattle.usb_tree.specs.{address_of, is_way, same_path, keeps_pending}
 use Rattle.usb_world.proofs.Interface.{course_joined, course_wider, each_joined, each_none}
 use Rattle.usb_world.proofs.Interface.{each_wider}
 use Rattle.usb_tree.proofs.Interface.{and_false, decided, equal_same, false_true, self_path}
-use Rattle.usb_bus.specs.Traces.{StepRun}
-use Rattle.usb_transaction.specs.declared.target.Target.{Target}
-use Rattle.usb_address.specs.Claims.{AddressMap, Unused}
-use Rattle.usb_address.specs.Ownership.{MapHolds, Enumerating, WhileBusWorks, KeepsAddresses}
+use Rattle.usb_bus.specs.{StepRun}
+use Rattle.usb_transaction.specs.{Target}
+use Rattle.usb_address.specs.{AddressMap, Unused, MapHolds, Enumerating, WhileBusWorks}
+use Rattle.usb_address.specs.{KeepsAddresses}
 use Rattle.usb_address.proofs.Interface.{after_taking-zero, keeps_none, keeps_then}
 use Rattle.usb_address.proofs.Interface.{is_way-same_path}
-use Rattle.usb_pipe.specs.declared.fault.PipeFault.{PipeFault}
+use Rattle.usb_pipe.specs.{PipeFault, FaultAfter, IsNoBusFault}
 use Rattle.usb_pipe.specs.declared.fault.PipeFault.TheVariants.{Stalled, Busy, NoAnswer, Broken}
 use Rattle.usb_pipe.specs.declared.fault.PipeFault.TheVariants.{Bus, Memory}
-use Rattle.usb_pipe.specs.Control.{FaultAfter}
-use Rattle.usb_pipe.specs.Leaves.{IsNoBusFault}
-use Rattle.usb_hub.specs.declared.port.HubPort.{HubPort}
-use Rattle.usb_hub.specs.declared.port.HubPort.TheVariants.{Root, External}
-use Rattle.usb_hub.specs.Addresses.{StaysAs, EachElsewhere, KeepsDevices, KeepsAsked, KeepsCleared}
-use Rattle.usb_hub.specs.Addresses.{Resets, GivesAddress}
-use Rattle.usb_port.specs.declared.status.PortStatus.{PortStatus}
-use Rattle.usb_hub.specs.GivenAnswers.{ReadAsked, TextAsked, HasText}
-use Rattle.usb_hub.specs.Moments.{IsCall, CommandsPort}
-use Rattle.usb_hub.specs.Port.{PortRead}
-use Rattle.usb_hub.specs.Requests.{TouchesNoPort, TouchesPortsBelow, EndsAfter, Queried, Commanded}
-use Rattle.usb_hub.specs.Settings.{AddressAsked, ConfigurationAsked}
+use Rattle.usb_hub.specs.{HubPort, Root, External, StaysAs, EachElsewhere, KeepsDevices, KeepsAsked}
+use Rattle.usb_hub.specs.{KeepsCleared, Resets, GivesAddress, ReadAsked, TextAsked, HasText, IsCall}
+use Rattle.usb_hub.specs.{CommandsPort, PortRead, TouchesNoPort, TouchesPortsBelow, EndsAfter}
+use Rattle.usb_hub.specs.{Queried, Commanded, AddressAsked, ConfigurationAsked}
 use Rattle.usb_hub.proofs.Interface.{power_backlog, stays_as_same, stays-registers, stays-spec}
 use Rattle.usb_hub.proofs.Interface.{stays_itself, stays_joined, keeps_devices_none}
-use Rattle.usb_enum.specs.Addresses.{IsSpare, Within, TakesAddress, OnlyCalls, AtPort}
-use Rattle.usb_enum.specs.Frames.{FoundAt, OnlyAsks, OnlyTells, StaysBut, OnlySets, OnlyAt}
-use Rattle.usb_backlog.specs.Marks.{KeepsAll}
-use Rattle.usb_backlog.specs.PortSettings.{gives_power}
+use Rattle.usb_enum.specs.{IsSpare, Within, TakesAddress, OnlyCalls, AtPort, FoundAt, OnlyAsks}
+use Rattle.usb_enum.specs.{OnlyTells, StaysBut, OnlySets, OnlyAt}
+use Rattle.usb_backlog.specs.{KeepsAll, gives_power}
 use Rattle.usb_backlog.proofs.Interface.{all_none, all_then, found_all, found_called, found_then}
 use Rattle.usb_enum.proofs.courses.Courses.{went_sound}
 use Rattle.usb_enum.proofs.devices.Enumerations.{Having, having, at_taking, within_none}
@@ -84,8 +65,7 @@ pub asks_none : (w : World) → OnlyAsks w w
 asks_none w = record {
   addresses = keeps_none w;
   devices = keeps_devices_none w;
-  ports =
-      λ none x. here w;
+  ports = λ none x. here w;
   backlog = λ none. all_none w;
 }
 
@@ -132,8 +112,7 @@ status_asks port outcome old new read ends keeps =
       addresses = keeps.keeps;
       devices = keeps.devices;
       ports = by_port port read;
-      backlog =
-          by_backlog port read;
+      backlog = by_backlog port read;
     }
   where
     by_port : (port : HubPort) → PortRead port old outcome new → new.fault ≡ None
@@ -213,8 +192,7 @@ power_tells hub port old result new ordered keeps devices = record {
 stays_but : (address : ℕ) (j : Location) (s v : State) → StaysAs j s v → StaysBut address j s v
 stays_but address j s v x = record {
   spec = stays-spec s v x;
-  same =
-      ap (λ r. r.address) (stays-registers s v x);
+  same = ap (λ r. r.address) (stays-registers s v x);
   stays = λ apart. x;
 }
 
@@ -266,10 +244,8 @@ configuration_sets t value result old new ordered what keeps = record {
       each_wider (ConfigurationAsked t value result new) (StaysBut t.addr)
       (λ j s v x. record {
         spec = ap (λ y. y.spec) x.frame;
-        same =
-            ap (λ y. y.registers.address) x.frame;
-        stays =
-            λ apart. stays_as_same j s v (x.others apart);
+        same = ap (λ y. y.registers.address) x.frame;
+        stays = λ apart. stays_as_same j s v (x.others apart);
       }) old new (what single);
   ports = λ none. ordered.elsewhere refl (ends_without_fault 2 result old new ordered.ends none);
   backlog = λ none f q held own. found_all q
@@ -324,8 +300,7 @@ calls_none port address w = record {
 pub at_port_none : (port : HubPort) (address : ℕ) (w : World) → AtPort port address w w
 at_port_none port address w = record {
   within = within_none port address w;
-  only =
-      calls_none port address w;
+  only = calls_none port address w;
 }
 
 pub calls_then : (port : HubPort) (address n : ℕ) (old mid new : World) {r s : Option (List ℕ)}

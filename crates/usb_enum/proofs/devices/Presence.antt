@@ -4,40 +4,23 @@ use Rattle.std.proofs.Common.{◌∷◌, Option, None, Some, option_map, Ok, if�
 use Rattle.std.proofs.Common.{subst, ◌∙◌}
 use Rattle.std.proofs.lemmas.Bool.{eq-eqb}
 use Rattle.std.proofs.lemmas.Option.{same_Some}
-use Rattle.usb_port.specs.PortState.{PortState, is_low, is_attached, speed_of}
-use Rattle.usb_port.specs.Status.{seen}
-use Rattle.usb_port.specs.declared.status.PortStatus.{PortStatus}
-use Rattle.usb_device.specs.Rows.{State}
-use Rattle.usb_device.specs.Spec.{Spec}
-use Rattle.usb_device.specs.Tree.{Ports, ended, vacant, taken, reach, reach_at, state_at, port_at}
-use Rattle.usb_device.specs.Tree.{Location}
-use Rattle.usb_device.specs.View.{state_there, port_there}
-use Rattle.usb_world.specs.Addresses.{after_taking}
-use Rattle.usb_tree.specs.Paths.{address_of, same_path}
-use Rattle.usb_world.specs.Devices.{Relation, Was, EachWas}
-use Rattle.usb_world.specs.PlanCourses.{spec_of}
-use Rattle.usb_world.specs.SanePorts.{IsSanePort, Consistent}
-use Rattle.usb_world.specs.Steps.{AnyStep, Course}
-use Rattle.usb_world.specs.World.{World}
+use Rattle.usb_port.specs.{PortState, is_low, is_attached, speed_of, seen, PortStatus}
+use Rattle.usb_device.specs.{State, Spec, Ports, ended, vacant, taken, reach, reach_at, state_at}
+use Rattle.usb_device.specs.{port_at, Location, state_there, port_there}
+use Rattle.usb_world.specs.{after_taking, Relation, Was, EachWas, spec_of, IsSanePort, Consistent}
+use Rattle.usb_world.specs.{AnyStep, Course, World}
+use Rattle.usb_tree.specs.{address_of, same_path}
 use Rattle.usb_world.proofs.Interface.{between_course, course_wider, each_wider, same_device}
 use Rattle.usb_world.proofs.Interface.{undisturbed_keeps}
 use Rattle.usb_tree.proofs.Interface.{both, false_true, self_path}
-use Rattle.usb_bus.specs.Traces.{StepRun}
-use Rattle.usb_transaction.specs.declared.target.Target.{Target}
-use Rattle.usb_address.specs.Claims.{AddressMap}
-use Rattle.usb_address.specs.Ownership.{MapHolds, Enumerating, WhileBusWorks, KeepsAddresses}
-use Rattle.usb_hub.specs.declared.port.HubPort.{HubPort}
-use Rattle.usb_hub.specs.Addresses.{Resets, StaysAs, KeepsDevices}
-use Rattle.usb_hub.specs.Moments.{PortStatusAt}
-use Rattle.usb_hub.specs.Settings.{AddressAsked}
+use Rattle.usb_bus.specs.{StepRun}
+use Rattle.usb_transaction.specs.{Target}
+use Rattle.usb_address.specs.{AddressMap, MapHolds, Enumerating, WhileBusWorks, KeepsAddresses}
+use Rattle.usb_hub.specs.{HubPort, Resets, StaysAs, KeepsDevices, PortStatusAt, AddressAsked}
 use Rattle.usb_hub.proofs.Interface.{stays-registers, stays-spec}
-use Rattle.usb_enum.specs.declared.addressed.Addressed.{Addressed}
-use Rattle.usb_enum.specs.Addresses.{IsSpare, Within}
-use Rattle.usb_enum.specs.Calls.{StatusAt}
-use Rattle.usb_enum.specs.LearnedFacts.{Learned}
-use Rattle.usb_enum.specs.PresentDevices.{AnswersSo, IsRegular, AtPath, Finds, HasDescriptor}
-use Rattle.usb_enum.specs.PresentDevices.{HasHead, HasSpeed, IsAddressed, AwaitsAddress}
-use Rattle.usb_enum.specs.Readings.{AtMaximum}
+use Rattle.usb_enum.specs.{Addressed, IsSpare, Within, StatusAt, Learned, AnswersSo, IsRegular}
+use Rattle.usb_enum.specs.{AtPath, Finds, HasDescriptor, HasHead, HasSpeed, IsAddressed}
+use Rattle.usb_enum.specs.{AwaitsAddress, AtMaximum}
 use Rattle.usb_enum.proofs.courses.Courses.{went_sound, went_regular}
 use Rattle.usb_enum.proofs.devices.Enumerations.{having, at_taking, within-keeps_addresses}
 use Rattle.usb_enum.proofs.devices.Enumerations.{within_reset}
@@ -204,8 +187,7 @@ answered_finds So t port address n {old} {mid} {new} is answered went within kee
         path_on (Learned So t) (λ s. address_of s ≡ h.has) (λ s. So s.spec
         × (address_of s ≡ t.addr))
         (λ j s v x at. (
-          subst So (sym (stays-spec s v x.frame))
-              (x.so (eq-eqb (address_of s) t.addr (at ∙ has))),
+          subst So (sym (stays-spec s v x.frame)) (x.so (eq-eqb (address_of s) t.addr (at ∙ has))),
           ap (λ r. r.address) (stays-registers s v x.frame) ∙ at ∙ has,
         ))
         p mid new (answered.learns single)
@@ -286,8 +268,7 @@ granted target address old new none j s v x is =
     (record {
       speed = is.low;
       head = is.head;
-      allowed =
-          (x.done (eq-eqb (address_of s) target.addr (is.zero ∙ sym none)) refl).0;
+      allowed = (x.done (eq-eqb (address_of s) target.addr (is.zero ∙ sym none)) refl).0;
     })
 
 addressed_granted : (device : Addressed) (s : State)

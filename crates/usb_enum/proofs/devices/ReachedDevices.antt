@@ -3,48 +3,29 @@
 use Rattle.std.proofs.Common.{◌≡◌, ◌⊎◌, inl, inr, ℕ, zero, suc, true, false, List, [], ◌∷◌, Option}
 use Rattle.std.proofs.Common.{None, Some, option_map, Result, Ok, Err, refl, ap, sym, subst, ◌∙◌}
 use Rattle.std.specs.Prelude.{IfSome, IsSome}
-use Rattle.usb_request.specs.Features.{PORT_ENABLE, C_PORT_RESET}
-use Rattle.usb_port.specs.PortState.{PortState}
-use Rattle.usb_port.specs.declared.status.PortStatus.{PortStatus}
-use Rattle.usb_request.specs.Requests.{set_address}
-use Rattle.usb_port.specs.declared.call.PortCall.TheVariants.{ClearEnable, ClearResetChange}
-use Rattle.usb_port.specs.Calls.{clear_call, called_port}
-use Rattle.usb_device.specs.Rows.{State}
-use Rattle.usb_device.specs.Tree.{Ports, ended as no_more, vacant, taken, reach_at, state_at}
-use Rattle.usb_device.specs.View.{state_there, port_there}
-use Rattle.usb_port.specs.declared.call.PortCall.{PortCall}
-use Rattle.usb_world.specs.Addresses.{after_taking}
-use Rattle.usb_world.specs.Courses.{KeepsPendingAt}
-use Rattle.usb_tree.specs.Paths.{has_power, pending}
-use Rattle.usb_world.specs.PlanCourses.{spec_of}
-use Rattle.usb_world.specs.RestingPorts.{LeavesPortAlone, UnchangedOrPending, SameDeviceOrPending}
-use Rattle.usb_world.specs.Steps.{Course}
-use Rattle.usb_world.specs.World.{World}
+use Rattle.usb_request.specs.{PORT_ENABLE, C_PORT_RESET, set_address}
+use Rattle.usb_port.specs.{PortState, PortStatus, ClearEnable, ClearResetChange, clear_call}
+use Rattle.usb_port.specs.{called_port, PortCall}
+use Rattle.usb_device.specs.{State, Ports, ended as no_more, vacant, taken, reach_at, state_at}
+use Rattle.usb_device.specs.{state_there, port_there}
+use Rattle.usb_world.specs.{after_taking, KeepsPendingAt, spec_of, LeavesPortAlone}
+use Rattle.usb_world.specs.{UnchangedOrPending, SameDeviceOrPending, Course, World}
+use Rattle.usb_tree.specs.{has_power, pending, keeps_pending}
 use Rattle.usb_world.proofs.Interface.{course_wider, pending_persists, rests_or_pends}
 use Rattle.usb_world.proofs.Interface.{stands_or_pends, step_pend}
 use Rattle.usb_tree.proofs.Interface.{both, decided, false_true}
-use Rattle.usb_tree.specs.WayEffects.{keeps_pending}
-use Rattle.usb_bus.specs.Traces.{StepRun}
-use Rattle.usb_address.specs.Claims.{AddressMap}
-use Rattle.usb_address.specs.Ownership.{Enumerating, WhileBusWorks}
-use Rattle.usb_transaction.specs.declared.target.Target.{Target}
-use Rattle.usb_pipe.specs.declared.fault.PipeFault.{PipeFault}
-use Rattle.usb_hub.specs.declared.port.HubPort.{HubPort}
-use Rattle.usb_hub.specs.Moments.{OnReachedRow, PortStatusAt, IsCall, CommandsPort, PortCallDone}
-use Rattle.usb_hub.specs.Requests.{TouchesNoPort, Commanded}
+use Rattle.usb_bus.specs.{StepRun}
+use Rattle.usb_address.specs.{AddressMap, Enumerating, WhileBusWorks}
+use Rattle.usb_transaction.specs.{Target}
+use Rattle.usb_pipe.specs.{PipeFault}
+use Rattle.usb_hub.specs.{HubPort, OnReachedRow, PortStatusAt, IsCall, CommandsPort, PortCallDone}
+use Rattle.usb_hub.specs.{TouchesNoPort, Commanded}
 use Rattle.usb_hub.proofs.Interface.{Called, StandsSo, StandsTold, disabled_port, done_stands}
 use Rattle.usb_hub.proofs.Interface.{enabled_reach, told_stands}
-use Rattle.usb_enum.specs.declared.cause.Cause.{Cause}
-use Rattle.usb_enum.specs.declared.fault.EnumFault.{EnumFault}
-use Rattle.usb_enum.specs.declared.finding.Finding.{Finding}
+use Rattle.usb_enum.specs.{Cause, EnumFault, Finding, IsSpare, TakesAddress, AtPort, CalledAt}
+use Rattle.usb_enum.specs.{StatusAt, SettlesReset, Disables, OnlyAsks, OnlySets, IsKnownAs}
+use Rattle.usb_enum.specs.{IsOccupied, IsReachedAt, IsInOrder, ReachesDevice, at_port}
 use Rattle.usb_enum.specs.declared.finding.Finding.TheVariants.{Refused}
-use Rattle.usb_enum.specs.Addresses.{IsSpare, TakesAddress, AtPort}
-use Rattle.usb_enum.specs.Calls.{CalledAt, StatusAt, SettlesReset}
-use Rattle.usb_enum.specs.Findings.{Disables}
-use Rattle.usb_enum.specs.Frames.{OnlyAsks, OnlySets}
-use Rattle.usb_enum.specs.Places.{IsKnownAs, IsOccupied, IsReachedAt}
-use Rattle.usb_enum.specs.PresentDevices.{IsInOrder, ReachesDevice}
-use Rattle.usb_enum.specs.Stop.{at_port}
 use Rattle.usb_enum.proofs.courses.Courses.{went_sound, went_in_order}
 use Rattle.usb_enum.proofs.devices.Enumerations.{having, at_taking}
 use Rattle.usb_enum.proofs.devices.Frames.{called_is, ends_without_fault, held_there, is_above-self}

@@ -1,10 +1,9 @@
 -- Where no address was shared up to the end of a call, none was before it.
 use Rattle.std.proofs.Common.{◌≡◌, ℕ, false, List, Option}
-use Rattle.usb_device.specs.Delivery.{held_addresses, repeats}
-use Rattle.usb_world.specs.Steps.{after_event, at_attempt, with_attempt}
-use Rattle.usb_world.specs.World.{World}
+use Rattle.usb_device.specs.{held_addresses, repeats}
+use Rattle.usb_world.specs.{after_event, at_attempt, with_attempt, World}
 use Rattle.usb_tree.proofs.Interface.{neither}
-use Rattle.usb_bus.specs.Traces.{StepRun}
+use Rattle.usb_bus.specs.{StepRun}
 use Rattle.usb_bus.proofs.Interface.{OverFaults, over_traced}
 
 unshared_back : OverFaults (λ w v. v.shared ≡ false → w.shared ≡ false)

@@ -2,23 +2,18 @@
 use Rattle.std.proofs.Common.{◌≡◌, ◌≢◌, ◌⊎◌, ◌∙◌, inl, inr, refl, sym, ap, add-one, subst}
 use Rattle.std.specs.Prelude.{ℕ, ◌+◌, List, Bool, true, false, ◌&&◌, ◌==◌, Result, Ok, Err}
 use Rattle.std.specs.Prelude.{if◌then◌else◌, IfOk}
-use Rattle.usb_world.specs.World.{World}
-use Rattle.usb_transaction.specs.declared.target.Target.{Target}
-use Rattle.usb_pipe.specs.declared.fault.PipeFault.{PipeFault}
+use Rattle.usb_world.specs.{World}
+use Rattle.usb_transaction.specs.{Target}
+use Rattle.usb_pipe.specs.{PipeFault}
 use Rattle.std.specs.Global.{Vec}
-use Rattle.usb_request.specs.Features.{PORT_POWER}
-use Rattle.usb_request.specs.Requests.{get_hub_descriptor, set_port_feature}
-use Rattle.usb_hub.specs.Requests.{Queried, Commanded}
-use Rattle.usb_descriptor.specs.Hub.{hub_spelled, port_count}
-use Rattle.usb_resources.specs.Power.{supply_of}
-use Rattle.usb_enum.specs.declared.cause.Cause.{Cause}
+use Rattle.usb_request.specs.{PORT_POWER, get_hub_descriptor, set_port_feature}
+use Rattle.usb_hub.specs.{Queried, Commanded}
+use Rattle.usb_descriptor.specs.{hub_spelled, port_count}
+use Rattle.usb_resources.specs.{supply_of}
+use Rattle.usb_enum.specs.{Cause, Stop, is_hub_device, fits_tier, CountTold, IsPowered, Powered}
+use Rattle.usb_enum.specs.{CauseAllowedAtStart, CauseAllowedOfDevice, answered_or}
 use Rattle.usb_enum.specs.declared.cause.Cause.TheVariants as cause
-use Rattle.usb_enum.specs.declared.stop.Stop.{Stop}
 use Rattle.usb_enum.specs.declared.stop.Stop.TheVariants.{Refused, Fault}
-use Rattle.usb_enum.specs.Device.{is_hub_device, fits_tier}
-use Rattle.usb_enum.specs.Hub.{CountTold, IsPowered, Powered}
-use Rattle.usb_enum.specs.Reasons.{CauseAllowedAtStart}
-use Rattle.usb_enum.specs.Stop.{CauseAllowedOfDevice, answered_or}
 use Rattle.usb_enum.proofs.stops.Reasons.{because_plain}
 use Rattle.usb_enum.proofs.refusals.Refusals.{answered_ok}
 use Rattle.usb_enum.proofs.stops.ToldFailures.{plain_fits}

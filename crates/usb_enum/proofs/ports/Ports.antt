@@ -2,15 +2,12 @@
 use Rattle.std.proofs.Common.{◌≡◌, refl, sym, subst, arith}
 use Rattle.std.specs.Prelude.{◌-◌, List, Result, Ok, Err, false, slice_index_or}
 use Rattle.std.proofs.Common.{get_or-set_same}
-use Rattle.usb_port.specs.PortState.{PortState, off}
-use Rattle.usb_request.specs.Features.{PORT_ENABLE}
-use Rattle.usb_world.specs.World.{World, root_row, root_port_at}
-use Rattle.usb_pipe.specs.declared.fault.PipeFault.{PipeFault}
-use Rattle.usb_hub.specs.declared.port.HubPort.{HubPort}
-use Rattle.usb_hub.specs.declared.port.HubPort.TheVariants.{Root, External}
-use Rattle.usb_hub.specs.Port.{IsPort, PortCleared}
-use Rattle.usb_enum.specs.Findings.{IsDisabled}
-use Rattle.usb_enum.specs.Stop.{at_port}
+use Rattle.usb_port.specs.{PortState, off}
+use Rattle.usb_request.specs.{PORT_ENABLE}
+use Rattle.usb_world.specs.{World, root_row, root_port_at}
+use Rattle.usb_pipe.specs.{PipeFault}
+use Rattle.usb_hub.specs.{HubPort, Root, External, IsPort, PortCleared}
+use Rattle.usb_enum.specs.{IsDisabled, at_port}
 
 -- where the call worked
 pub disabled : (port : HubPort) (old new : World) (result : Result (Unit {0}) PipeFault)

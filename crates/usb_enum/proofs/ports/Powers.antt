@@ -7,53 +7,32 @@ use Rattle.std.proofs.Common.{◌∙◌, arith}
 use Rattle.std.proofs.lemmas.Bool.Decides.{nat_tests}
 use Rattle.std.proofs.lemmas.Option.{same_Some}
 use Rattle.std.specs.Global.{Vec}
-use Rattle.usb_request.specs.Features.{PORT_POWER}
-use Rattle.usb_request.specs.Codes.{SET_ADDRESS, DEVICE_OUT}
-use Rattle.usb_port.specs.PortState.{PortState, powered_off}
-use Rattle.usb_request.specs.Requests.{set_port_feature, set_configuration, get_hub_descriptor}
-use Rattle.usb_request.specs.Requests.{get_status}
-use Rattle.usb_request.specs.declared.setup.Setup.{Setup}
-use Rattle.usb_port.specs.declared.call.PortCall.TheVariants.{SetPower}
-use Rattle.usb_device.specs.declared.request.Registers.{Registers}
-use Rattle.usb_device.specs.Request.{Is, port_named}
-use Rattle.usb_device.specs.Rows.{State}
-use Rattle.usb_device.specs.Spec.{Hub}
-use Rattle.usb_device.specs.Tree.{Ports, ended, vacant, taken, port_of, all_off, place_at, Location}
-use Rattle.usb_device.specs.Tree.{path_to, state_on}
-use Rattle.usb_device.specs.View.{port_there, state_there}
-use Rattle.usb_world.specs.Courses.{is_harmless}
-use Rattle.usb_world.specs.Devices.{Was, EachWas}
-use Rattle.usb_tree.specs.Paths.{address_of, is_way, same_number}
-use Rattle.usb_world.specs.PluggedDevices.{hub_ports}
-use Rattle.usb_world.specs.PlanCourses.{spec_of}
-use Rattle.usb_world.specs.RestingPorts.{LeavesPortAlone, UnchangedOrPending}
-use Rattle.usb_world.specs.Steps.{AnyStep, Course, step}
-use Rattle.usb_world.specs.World.{World}
+use Rattle.usb_request.specs.{PORT_POWER, SET_ADDRESS, DEVICE_OUT, set_port_feature}
+use Rattle.usb_request.specs.{set_configuration, get_hub_descriptor, get_status, Setup}
+use Rattle.usb_port.specs.{PortState, powered_off, SetPower}
+use Rattle.usb_device.specs.{Registers, Is, port_named, State, Hub, Ports, ended, vacant, taken}
+use Rattle.usb_device.specs.{port_of, all_off, place_at, Location, path_to, state_on, port_there}
+use Rattle.usb_device.specs.{state_there}
+use Rattle.usb_world.specs.{is_harmless, Was, EachWas, hub_ports, spec_of, LeavesPortAlone}
+use Rattle.usb_world.specs.{UnchangedOrPending, AnyStep, Course, step, World}
+use Rattle.usb_tree.specs.{address_of, is_way, same_number}
 use Rattle.usb_world.proofs.Interface.{course_joined, course_wider, pending_persists, ports_stand}
 use Rattle.usb_world.proofs.Interface.{rests_or_pends}
 use Rattle.usb_tree.proofs.Interface.{and_false, equal_same, false_true}
-use Rattle.usb_bus.specs.Traces.{StepRun}
-use Rattle.usb_transaction.specs.declared.target.Target.{Target}
-use Rattle.usb_transaction.specs.Answerer.{Answerer}
-use Rattle.usb_transaction.specs.Leaves.{is_at}
-use Rattle.usb_pipe.specs.declared.fault.PipeFault.{PipeFault}
+use Rattle.usb_bus.specs.{StepRun}
+use Rattle.usb_transaction.specs.{Target, Answerer, is_at}
+use Rattle.usb_pipe.specs.{PipeFault}
 use Rattle.usb_pipe.proofs.Interface.{who_writes}
-use Rattle.usb_address.specs.Claims.{AddressMap}
-use Rattle.usb_address.specs.Ownership.{MapHolds, WhileBusWorks, KeepsAddresses}
+use Rattle.usb_address.specs.{AddressMap, MapHolds, WhileBusWorks, KeepsAddresses}
 use Rattle.usb_address.proofs.Interface.{KeepsClaim, NoPower, place_ports, claimed_path}
 use Rattle.usb_address.proofs.Interface.{quiet_follows, read_keeps, same_setup, stays_unpowered}
-use Rattle.usb_hub.specs.Moments.{PortCallDone}
-use Rattle.usb_hub.specs.Requests.{TouchesNoPort, Queried, Commanded}
-use Rattle.usb_hub.specs.Settings.{ConfigurationAsked, WentOff}
+use Rattle.usb_hub.specs.{PortCallDone, TouchesNoPort, Queried, Commanded, ConfigurationAsked}
+use Rattle.usb_hub.specs.{WentOff}
 use Rattle.usb_hub.proofs.Interface.{AsksFor, hub_done, hub_named, hub_rests, spec_of-none}
 use Rattle.usb_hub.proofs.Interface.{place_below, port_of_place, powered_stands, set_asks}
 use Rattle.usb_hub.proofs.Interface.{set_keeps}
-use Rattle.usb_enum.specs.declared.hub.HubFacts.{HubFacts}
-use Rattle.usb_enum.specs.Findings.{EmptiesPorts}
-use Rattle.usb_enum.specs.Frames.{OnlyAsks}
-use Rattle.usb_enum.specs.Hub.{IsPowered, Powered, Started}
-use Rattle.usb_enum.specs.Places.{IsKnownAs, HasEmptyPorts}
-use Rattle.usb_enum.specs.PresentDevices.{IsInOrder, IsOrderly}
+use Rattle.usb_enum.specs.{HubFacts, EmptiesPorts, OnlyAsks, IsPowered, Powered, Started, IsKnownAs}
+use Rattle.usb_enum.specs.{HasEmptyPorts, IsInOrder, IsOrderly}
 use Rattle.usb_enum.proofs.courses.Courses.{orderly_on, went_in_order}
 use Rattle.usb_enum.proofs.devices.Frames.{ends_without_fault as sound_end}
 
@@ -142,8 +121,7 @@ vacant_on p {old} {new} c (inr x) = pick (rests_or_pends p c x.0)
     pick : UnchangedOrPending old new p → IsKnownAs new p None
     pick (inl y) = inr (
       y.0,
-      spec_of-none (state_there new.roots p) (state_there old.roots p)
-          y.1.what x.1,
+      spec_of-none (state_there new.roots p) (state_there old.roots p) y.1.what x.1,
     )
     pick (inr y) = inl y
 

@@ -7,21 +7,15 @@ use Rattle.std.specs.Prelude.{◌||◌, nat_lt, nat_le, slice_get, slice_index, 
 use Rattle.std.proofs.lemmas.List.{length-map}
 use Rattle.std.proofs.lemmas.List.Quantifiers.{position-Some}
 use Rattle.std.proofs.lemmas.Option.{same_Some}
-use Rattle.usb_descriptor.specs.Config.{configuration_value}
-use Rattle.usb_descriptor.specs.Device.{device_head_of, configuration_count}
-use Rattle.usb_device.specs.Bulk.{bulk_at, bulk_in as bulk_of_text, text_with, total_of}
-use Rattle.usb_device.specs.Bulk.{has_value as carries}
-use Rattle.usb_device.specs.declared.request.Registers.{Registers}
-use Rattle.usb_device.specs.Spec.{Spec}
+use Rattle.usb_descriptor.specs.{configuration_value, device_head_of, configuration_count}
+use Rattle.usb_device.specs.{bulk_at, bulk_in as bulk_of_text, text_with, total_of}
+use Rattle.usb_device.specs.{has_value as carries, Registers, Spec}
 use Rattle.usb_tree.proofs.Interface.{and_false, neither, same_equal}
-use Rattle.usb_enum.specs.declared.cause.Cause.{Cause}
-use Rattle.usb_enum.specs.declared.cause.Cause.TheVariants.{Silent, Busy, Stalled, BadDevice}
-use Rattle.usb_enum.specs.declared.cause.Cause.TheVariants.{TooDeep, BadHub}
+use Rattle.usb_enum.specs.{Cause, Silent, Busy, Stalled, BadDevice, TooDeep, BadHub, verdict}
+use Rattle.usb_enum.specs.{read_verdict, set_verdict, first_fault, texts_below, texts_of, text_read}
+use Rattle.usb_enum.specs.{is_good_text, is_good_hub, is_device, is_hub_device, choice_of, needs_of}
+use Rattle.usb_enum.specs.{any_has_value}
 use Rattle.usb_enum.specs.declared.cause.Request.TheVariants as request
-use Rattle.usb_enum.specs.Verdicts.{verdict, read_verdict, set_verdict, first_fault, texts_below}
-use Rattle.usb_enum.specs.Verdicts.{texts_of, text_read, is_good_text, is_good_hub}
-use Rattle.usb_enum.specs.Device.{is_device, is_hub_device}
-use Rattle.usb_enum.specs.Text.{choice_of, needs_of, any_has_value}
 use Rattle.usb_enum.proofs.readings.SettingValues.{each_good, IsFresh, fresh_text, mapped_at}
 use Rattle.usb_enum.proofs.readings.SettingValues.{IsConfigurationRead, good_read, less_than}
 use Rattle.usb_pipe.proofs.Interface.{is_some_byte}

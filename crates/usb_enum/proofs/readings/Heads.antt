@@ -1,5 +1,5 @@
 -- What a device's descriptor says of it, as it was read.
-use Rattle.usb_device.specs.Tree.{Location}
+use Rattle.usb_device.specs.{Location, Spec, State, max_packet}
 use Rattle.std.proofs.Common.{◌≡◌, ℕ, ◌==◌, ◌&&◌, ◌||◌, not, nat_lt, inl, inr, Bool, true, false}
 use Rattle.std.proofs.Common.{List, length, slice_index, take, if◌then◌else◌, Some, Result, Ok, Err}
 use Rattle.std.proofs.Common.{is_ok, refl, ap, sym, subst, ◌∙◌, arith}
@@ -7,27 +7,15 @@ use Rattle.std.proofs.lemmas.Bool.Decides.{nat_tests}
 use Rattle.std.proofs.lemmas.List.{get_or-take, take-take}
 use Rattle.std.proofs.lemmas.Option.{same_Some}
 use Rattle.std.specs.Global.{Vec}
-use Rattle.usb_request.specs.Codes.{DEVICE}
-use Rattle.usb_descriptor.specs.declared.fault.DescriptorFault.TheVariants.{Short, WrongType}
-use Rattle.usb_descriptor.specs.declared.fault.DescriptorFault.TheVariants.{Length, MaxPacket}
-use Rattle.usb_descriptor.specs.Device.{device_head_of, is_max_packet}
-use Rattle.usb_device.specs.Spec.{Spec}
-use Rattle.usb_device.specs.Rows.{State}
-use Rattle.usb_device.specs.Transfer.{max_packet}
-use Rattle.usb_world.specs.World.{World}
-use Rattle.usb_world.specs.Devices.{EachWas}
+use Rattle.usb_request.specs.{DEVICE}
+use Rattle.usb_descriptor.specs.{Short, WrongType, Length, MaxPacket, device_head_of, is_max_packet}
+use Rattle.usb_world.specs.{World, EachWas}
 use Rattle.usb_world.proofs.Interface.{each_wider}
-use Rattle.usb_transaction.specs.declared.target.Target.{Target}
-use Rattle.usb_pipe.specs.declared.fault.PipeFault.{PipeFault}
-use Rattle.usb_pipe.specs.Leaves.{IsMaximum}
-use Rattle.usb_hub.specs.GivenAnswers.{device_given, HasText, DeviceAsked}
-use Rattle.usb_hub.specs.Addresses.{KeepsAnswered}
-use Rattle.usb_hub.specs.Requests.{EndsAfter}
-use Rattle.usb_enum.specs.declared.cause.Cause.{Cause}
-use Rattle.usb_enum.specs.LearnedFacts.{Learned}
-use Rattle.usb_enum.specs.PresentDevices.{AnswersSo, HasHead, HasDescriptor}
-use Rattle.usb_enum.specs.Readings.{AtMaximum}
-use Rattle.usb_enum.specs.Stop.{answered_or}
+use Rattle.usb_transaction.specs.{Target}
+use Rattle.usb_pipe.specs.{PipeFault, IsMaximum}
+use Rattle.usb_hub.specs.{device_given, HasText, DeviceAsked, KeepsAnswered, EndsAfter}
+use Rattle.usb_enum.specs.{Cause, Learned, AnswersSo, HasHead, HasDescriptor, AtMaximum}
+use Rattle.usb_enum.specs.{answered_or}
 use Rattle.usb_enum.proofs.refusals.Refusals.{answered_ok}
 use Rattle.usb_enum.proofs.readings.Readings.{given_allows}
 use Rattle.usb_enum.proofs.Targets.{head_maximum}
@@ -73,8 +61,7 @@ head_answered t max bytes stalled outcome old new e good =
       loud = loud;
       free = free;
       device = device;
-      head =
-          ap (device_head_of t.low) (sym (first (inr (omega arith)))) ∙ good;
+      head = ap (device_head_of t.low) (sym (first (inr (omega arith)))) ∙ good;
     })
     stalled outcome old new e
 
@@ -92,8 +79,7 @@ bytes_answered t bytes front stalled outcome old new e is =
 
 -- The maximum packet that the head names is the device's own
 
-head_value : (a b c d : Bool) (n max : ℕ)
-    → (if a then Err Short else (if b then Err WrongType
+head_value : (a b c d : Bool) (n max : ℕ) → (if a then Err Short else (if b then Err WrongType
     else (if c then Err Length else (if d then Err MaxPacket else Ok n)))) ≡ Ok max → n ≡ max
 head_value true b c d n max e = absurd cc
 head_value false true c d n max e = absurd cc

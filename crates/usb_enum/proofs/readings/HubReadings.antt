@@ -7,25 +7,18 @@ use Rattle.std.proofs.lemmas.Option.{same_Some}
 use Rattle.std.specs.Prelude.{slice_index, nat_lt, length}
 use Rattle.std.specs.Option.{IfSome}
 use Rattle.std.specs.Global.{Vec}
-use Rattle.usb_request.specs.Codes.{HUB_CLASS}
-use Rattle.usb_resources.specs.Power.{supply_of}
-use Rattle.usb_descriptor.specs.Choice.{status_endpoint_of}
-use Rattle.usb_descriptor.specs.Hub.{hub_spelled, port_count}
-use Rattle.usb_device.specs.Spec.{Spec, Hub, IsHub, IsSpec, agrees, hub_fits, has_hub_class}
-use Rattle.usb_world.specs.Devices.{EachWas}
-use Rattle.usb_world.specs.World.{World}
-use Rattle.usb_transaction.specs.declared.target.Target.{Target}
-use Rattle.usb_bus.specs.Traces.{StepRun}
-use Rattle.usb_pipe.specs.declared.fault.PipeFault.{PipeFault}
-use Rattle.usb_hub.specs.declared.status.DeviceStatus.{DeviceStatus}
-use Rattle.usb_hub.specs.Addresses.{KeepsDevices}
-use Rattle.usb_hub.specs.GivenAnswers.{hub_given, status_given, HubAsked, StatusAsked}
-use Rattle.usb_enum.specs.declared.cause.Cause.{Cause}
-use Rattle.usb_enum.specs.Verdicts.{gives_hub, facts_of}
-use Rattle.usb_enum.specs.Device.{is_hub_device}
-use Rattle.usb_enum.specs.LearnedFacts.{DeviceFact}
-use Rattle.usb_enum.specs.Readings.{AtMaximum, Ruled, HasPorts, HasSupply, IsGoodHub}
-use Rattle.usb_enum.specs.Stop.{answered_or}
+use Rattle.usb_request.specs.{HUB_CLASS}
+use Rattle.usb_resources.specs.{supply_of}
+use Rattle.usb_descriptor.specs.{status_endpoint_of, hub_spelled, port_count}
+use Rattle.usb_device.specs.{Spec, Hub, IsHub, IsSpec, agrees, hub_fits, has_hub_class}
+use Rattle.usb_world.specs.{EachWas, World}
+use Rattle.usb_transaction.specs.{Target}
+use Rattle.usb_bus.specs.{StepRun}
+use Rattle.usb_pipe.specs.{PipeFault}
+use Rattle.usb_hub.specs.{DeviceStatus, KeepsDevices, hub_given, status_given, HubAsked}
+use Rattle.usb_hub.specs.{StatusAsked}
+use Rattle.usb_enum.specs.{Cause, gives_hub, facts_of, is_hub_device, DeviceFact, AtMaximum, Ruled}
+use Rattle.usb_enum.specs.{HasPorts, HasSupply, IsGoodHub, answered_or}
 use Rattle.usb_enum.proofs.refusals.Refusals.{answered_ok}
 use Rattle.usb_enum.proofs.readings.Readings.{given_allows, answer_learned, text_learned, learns_on}
 use Rattle.usb_enum.proofs.readings.Readings.{learns_kept}
@@ -41,8 +34,7 @@ ports_learned t stalled outcome bytes hub old new answered good same =
     (λ spec text given first. record {
       text = text;
       given = given;
-      good = ap hub_spelled (sym first)
-          ∙ sym good ∙ ap Ok (same ∙ first);
+      good = ap hub_spelled (sym first) ∙ sym good ∙ ap Ok (same ∙ first);
       said = ap port_count (same ∙ first);
     })
 

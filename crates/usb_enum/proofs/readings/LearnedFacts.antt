@@ -1,13 +1,11 @@
 -- How what is learned of a device joins, from one call to the next.
-use Rattle.usb_device.specs.Tree.{Location}
+use Rattle.usb_device.specs.{Location, Spec, State}
 use Rattle.std.proofs.Common.{◌≡◌, false, ◌==◌, ap, subst, ◌∙◌}
-use Rattle.usb_device.specs.Spec.{Spec}
-use Rattle.usb_device.specs.Rows.{State}
-use Rattle.usb_world.specs.World.{World}
+use Rattle.usb_world.specs.{World}
 use Rattle.usb_world.proofs.Interface.{each_joined, each_wider}
-use Rattle.usb_transaction.specs.declared.target.Target.{Target}
+use Rattle.usb_transaction.specs.{Target}
 use Rattle.usb_hub.proofs.Interface.{stays-registers, stays-spec, stays_joined}
-use Rattle.usb_enum.specs.LearnedFacts.{Learned, DeviceFact}
+use Rattle.usb_enum.specs.{Learned, DeviceFact}
 
 pub learned-wider : (A B : Spec → Type 0) (t : Target) → ((x : Spec) → A x → B x)
     → (j : Location) (s v : State) → Learned A t j s v → Learned B t j s v

@@ -8,22 +8,14 @@ use Rattle.std.specs.List.{starts_with, filter}
 use Rattle.std.specs.Ordering.{match_ordering}
 use Rattle.std.proofs.lemmas.List.Elements.{All-head, All-tail}
 use Rattle.std.proofs.lemmas.Option.{same_Some}
-use Rattle.usb_port.specs.Order.{path_cmp}
-use Rattle.usb_device.specs.Spec.{Spec}
-use Rattle.usb_device.specs.Rows.{State}
-use Rattle.usb_device.specs.SaidLengths.{said_lengths}
-use Rattle.usb_device.specs.View.{state_there}
-use Rattle.usb_world.specs.declared.event.Action.{Action}
+use Rattle.usb_port.specs.{path_cmp}
+use Rattle.usb_device.specs.{Spec, State, said_lengths, state_there}
+use Rattle.usb_world.specs.{Action, Plug, Unplug, Event, spec_of, PluggedMap, index_at}
+use Rattle.usb_world.specs.{device_indexed, plugged_after, plugged_by, plugged_without, World}
 use Rattle.usb_world.specs.declared.event.Action.TheVariants.{Change, Ask}
-use Rattle.usb_world.specs.declared.event.Change.TheVariants.{Plug, Unplug}
-use Rattle.usb_world.specs.declared.event.Event.{Event}
-use Rattle.usb_world.specs.PlanCourses.{spec_of}
-use Rattle.usb_world.specs.PluggedDevices.{PluggedMap, index_at, device_indexed, plugged_after}
-use Rattle.usb_world.specs.PluggedDevices.{plugged_by, plugged_without}
-use Rattle.usb_world.specs.World.{World}
 use Rattle.usb_world.proofs.Interface.{course_joined, devices_left}
-use Rattle.usb_bus.specs.Traces.{StepRun}
-use Rattle.usb_enum.specs.TextLengths.{PlugsWithin, HasPlanWithin}
+use Rattle.usb_bus.specs.{StepRun}
+use Rattle.usb_enum.specs.{PlugsWithin, HasPlanWithin}
 use Rattle.usb_enum.proofs.courses.Courses.{went_course}
 
 -- each index that is plugged is so

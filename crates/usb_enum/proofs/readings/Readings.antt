@@ -5,27 +5,20 @@ use Rattle.std.proofs.Common.{Err, is_ok, refl, ap, sym, subst, ◌∙◌, arith
 use Rattle.std.proofs.lemmas.Bool.{and_from}
 use Rattle.std.proofs.lemmas.Option.{same_Some}
 use Rattle.std.specs.Global.{Vec}
-use Rattle.usb_descriptor.specs.Config.{config_head_of, config_of, configuration_value, total_in}
-use Rattle.usb_device.specs.Spec.{Spec}
-use Rattle.usb_device.specs.Rows.{State}
-use Rattle.usb_world.specs.Devices.{EachWas}
-use Rattle.usb_world.specs.World.{World}
+use Rattle.usb_descriptor.specs.{config_head_of, config_of, configuration_value, total_in}
+use Rattle.usb_device.specs.{Spec, State}
+use Rattle.usb_world.specs.{EachWas, World}
 use Rattle.usb_world.proofs.Interface.{each_joined, each_none, each_wider}
-use Rattle.usb_transaction.specs.declared.target.Target.{Target}
-use Rattle.usb_bus.specs.Traces.{StepRun}
-use Rattle.usb_pipe.specs.declared.fault.PipeFault.{PipeFault}
+use Rattle.usb_transaction.specs.{Target}
+use Rattle.usb_bus.specs.{StepRun}
+use Rattle.usb_pipe.specs.{PipeFault}
 use Rattle.usb_pipe.specs.declared.fault.PipeFault.TheVariants.{Stalled}
-use Rattle.usb_hub.specs.Addresses.{StaysAs, KeepsDevices}
-use Rattle.usb_hub.specs.GivenAnswers.{unless_refused, config_given, HasText, ReadAsked, TextAsked}
-use Rattle.usb_hub.specs.GivenAnswers.{ConfigAsked}
+use Rattle.usb_hub.specs.{StaysAs, KeepsDevices, unless_refused, config_given, HasText, ReadAsked}
+use Rattle.usb_hub.specs.{TextAsked, ConfigAsked}
 use Rattle.usb_hub.proofs.Interface.{stays_joined}
-use Rattle.usb_enum.specs.declared.cause.Cause.{Cause}
-use Rattle.usb_enum.specs.Verdicts.{text_read, is_good_text, texts_below, config_fault, first_fault}
-use Rattle.usb_enum.specs.Verdicts.{text_fault}
-use Rattle.usb_enum.specs.LearnedFacts.{Learned, DeviceFact}
-use Rattle.usb_enum.specs.Readings.{AtMaximum, HasTotal, HasConfiguration, HasConfigurations}
-use Rattle.usb_enum.specs.Stop.{answered_or}
-use Rattle.usb_enum.specs.Text.{config_text_of, any_has_value}
+use Rattle.usb_enum.specs.{Cause, text_read, is_good_text, texts_below, config_fault, first_fault}
+use Rattle.usb_enum.specs.{text_fault, Learned, DeviceFact, AtMaximum, HasTotal, HasConfiguration}
+use Rattle.usb_enum.specs.{HasConfigurations, answered_or, config_text_of, any_has_value}
 use Rattle.usb_enum.proofs.refusals.Refusals.{answered_ok}
 use Rattle.usb_enum.proofs.readings.LearnedFacts.{learns_then, learns_wider}
 use Rattle.usb_enum.proofs.devices.SharedAddresses.{went_unshared}
@@ -109,8 +102,7 @@ total_learned t stalled index total outcome bytes old new answered head =
     (λ spec text given first. record {
       text = text;
       given = given;
-      head =
-          ap config_head_of (sym first) ∙ head;
+      head = ap config_head_of (sym first) ∙ head;
     })
 
 -- bytes that are a configuration text

@@ -10,21 +10,15 @@ use Rattle.std.proofs.lemmas.Bool.{and_parts, and_from, cases_order}
 use Rattle.std.proofs.lemmas.Bool.Decides.{nat_tests}
 use Rattle.std.proofs.lemmas.List.{get_or-take, length-take, take_min}
 use Rattle.std.proofs.lemmas.Option.{same_Some}
-use Rattle.usb_descriptor.specs.declared.fault.DescriptorFault.{DescriptorFault}
-use Rattle.usb_descriptor.specs.Config.{config_head_of, config_of, configuration_value, total_in}
+use Rattle.usb_descriptor.specs.{DescriptorFault, config_head_of, config_of, configuration_value}
+use Rattle.usb_descriptor.specs.{total_in}
 use Rattle.usb_descriptor.proofs.Interface.{header_of}
 use Rattle.usb_device.specs.Bulk as device
-use Rattle.usb_device.specs.Request.{is_value}
-use Rattle.usb_device.specs.Spec.{Spec}
-use Rattle.usb_device.specs.Bulk.{total_of}
+use Rattle.usb_device.specs.{is_value, Spec, total_of}
 use Rattle.usb_tree.proofs.Interface.{or_left, or_right, same_equal}
-use Rattle.usb_enum.specs.declared.cause.Cause.{Cause}
-use Rattle.usb_enum.specs.declared.cause.Cause.TheVariants.{Stalled, BadConfiguration}
+use Rattle.usb_enum.specs.{Cause, Stalled, BadConfiguration, text_read, is_good_text, texts_below}
+use Rattle.usb_enum.specs.{text_fault, config_fault, first_fault, HasConfigurations, any_has_value}
 use Rattle.usb_enum.specs.declared.cause.Request.TheVariants as request
-use Rattle.usb_enum.specs.Verdicts.{text_read, is_good_text, texts_below, text_fault, config_fault}
-use Rattle.usb_enum.specs.Verdicts.{first_fault}
-use Rattle.usb_enum.specs.Readings.{HasConfigurations}
-use Rattle.usb_enum.specs.Text.{any_has_value}
 
 -- Each of some configurations that are good
 
@@ -51,8 +45,7 @@ pub record IsFresh (spec : Spec) (i : ℕ) (text : List ℕ) : Type 0 where
   pub good : is_good_text text ≡ true
   pub first : any_has_value (configuration_value (text_read text)) (texts_below spec i) ≡ false
 
-fresh_by : (refused good old : Bool) (i : ℕ)
-    → (if refused then Some (Stalled request.Config)
+fresh_by : (refused good old : Bool) (i : ℕ) → (if refused then Some (Stalled request.Config)
     else (if good && not old then None else Some (BadConfiguration i))) ≡ None → (good ≡ true)
     × (old ≡ false)
 fresh_by true good old i h = absurd cc
@@ -87,8 +80,7 @@ mapped_at f (x ∷ xs) (suc n) zero less = record {
   text = x;
   stands = refl;
   read = refl;
-  below =
-      omega arith;
+  below = omega arith;
 }
 mapped_at f (x ∷ xs) (suc n) (suc i) less =
     let rest = mapped_at f xs n i (omega (arith, less)) in
@@ -96,8 +88,7 @@ mapped_at f (x ∷ xs) (suc n) (suc i) less =
       text = rest.text;
       stands = rest.stands;
       read = rest.read;
-      below =
-          omega (arith, rest.below);
+      below = omega (arith, rest.below);
     }
 
 -- Its value

@@ -1,26 +1,17 @@
 -- How what is learned of a device joins where it is configured.
-use Rattle.usb_device.specs.Tree.{Location}
+use Rattle.usb_device.specs.{Location, Spec, OnlyStage, State}
 use Rattle.std.proofs.Common.{◌≡◌, ℕ, ◌==◌, List, Option, Result, Ok, false, refl, ap, subst, ◌∙◌}
-use Rattle.usb_descriptor.specs.Config.{configuration_value}
-use Rattle.usb_descriptor.specs.Device.{configuration_count}
-use Rattle.usb_device.specs.Spec.{Spec}
-use Rattle.usb_device.specs.Progress.{OnlyStage}
-use Rattle.usb_device.specs.Rows.{State}
-use Rattle.usb_world.specs.Devices.{EachWas}
-use Rattle.usb_world.specs.World.{World}
+use Rattle.usb_descriptor.specs.{configuration_value, configuration_count}
+use Rattle.usb_world.specs.{EachWas, World}
 use Rattle.usb_world.proofs.Interface.{each_joined, each_wider}
-use Rattle.usb_bus.specs.Traces.{StepRun}
-use Rattle.usb_transaction.specs.declared.target.Target.{Target}
-use Rattle.usb_pipe.specs.declared.fault.PipeFault.{PipeFault}
-use Rattle.usb_hub.specs.Settings.{ConfigurationAsked, IsFresh}
+use Rattle.usb_bus.specs.{StepRun}
+use Rattle.usb_transaction.specs.{Target}
+use Rattle.usb_pipe.specs.{PipeFault}
+use Rattle.usb_hub.specs.{ConfigurationAsked, IsFresh}
 use Rattle.usb_hub.proofs.Interface.{stays-registers, stays-spec}
-use Rattle.usb_enum.specs.declared.finding.Accepted.{Accepted}
-use Rattle.usb_enum.specs.declared.strings.StringIndexes.{StringIndexes}
-use Rattle.usb_enum.specs.Verdicts.{strings_by}
-use Rattle.usb_enum.specs.Device.{string_indexes, configuration_of}
-use Rattle.usb_enum.specs.LearnedFacts.{Learned, DeviceFact}
-use Rattle.usb_enum.specs.PresentDevices.{HasReadings, LearnedSet, LearnsSet, TellsPorts}
-use Rattle.usb_enum.specs.Readings.{AtMaximum, HasConfigurations}
+use Rattle.usb_enum.specs.{Accepted, StringIndexes, strings_by, string_indexes, configuration_of}
+use Rattle.usb_enum.specs.{Learned, DeviceFact, HasReadings, LearnedSet, LearnsSet, TellsPorts}
+use Rattle.usb_enum.specs.{AtMaximum, HasConfigurations}
 use Rattle.usb_enum.proofs.devices.SharedAddresses.{went_unshared}
 
 -- where nothing changed but where its transfer stands
@@ -59,8 +50,7 @@ learned_after A B t value j s u v a b = record {
   so = λ at.
       let so = a.so at in (
         (so.0, subst B a.spec (b.so (ap (λ n. n == t.addr) a.address ∙ at))),
-        ap (λ r. r.configuration) (stays-registers u v b.frame)
-            ∙ so.1,
+        ap (λ r. r.configuration) (stays-registers u v b.frame) ∙ so.1,
         fresh_on u v b.frame so.2,
       );
 }
@@ -70,8 +60,7 @@ learned_set-wider : (A B : Spec → Type 0) (t : Target) (value : ℕ) → ((x :
 learned_set-wider A B t value f j s v l = record {
   spec = l.spec;
   address = l.address;
-  so =
-      λ at. let so = l.so at in (f s.spec so.0, so.1, so.2);
+  so = λ at. let so = l.so at in (f s.spec so.0, so.1, so.2);
 }
 
 -- it was read, and then it was configured

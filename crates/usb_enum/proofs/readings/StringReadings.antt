@@ -3,26 +3,18 @@ use Rattle.std.proofs.Common.{◌≡◌, ℕ, ◌==◌, ◌||◌, not, Bool, tru
 use Rattle.std.proofs.Common.{slice_get, Option, None, Some, is_some, option_map, option_and_then}
 use Rattle.std.proofs.Common.{Result, Ok, Err, refl, ap, sym, ◌∙◌, arith}
 use Rattle.std.specs.Global.{Vec}
-use Rattle.usb_device.specs.Spec.{Spec}
-use Rattle.usb_world.specs.Devices.{EachWas}
-use Rattle.usb_world.specs.World.{World}
-use Rattle.usb_transaction.specs.declared.target.Target.{Target}
-use Rattle.usb_bus.specs.Traces.{StepRun}
-use Rattle.usb_pipe.specs.declared.fault.PipeFault.{PipeFault}
+use Rattle.usb_device.specs.{Spec}
+use Rattle.usb_world.specs.{EachWas, World}
+use Rattle.usb_transaction.specs.{Target}
+use Rattle.usb_bus.specs.{StepRun}
+use Rattle.usb_pipe.specs.{PipeFault}
 use Rattle.usb_pipe.specs.declared.fault.PipeFault.TheVariants as pipe
-use Rattle.usb_hub.specs.GivenAnswers.{unless_refused, string_given, HasText, StringAsked}
-use Rattle.usb_enum.specs.declared.strings.StringIndexes.{StringIndexes}
-use Rattle.usb_enum.specs.declared.strings.Strings.{Strings}
-use Rattle.usb_enum.specs.Verdicts.{string_read, string_at, strings_by}
-use Rattle.usb_enum.specs.Frames.{OnlyAsks}
-use Rattle.usb_enum.specs.LearnedFacts.{DeviceFact}
-use Rattle.usb_enum.specs.Parts.{Answered, Ending, StopsRead}
-use Rattle.usb_enum.specs.Readings.{AtMaximum, HasString, bytes_given, language_of, string_in}
-use Rattle.usb_enum.specs.Readings.{no_strings}
-use Rattle.usb_enum.specs.Refusals.{no_fault}
-use Rattle.usb_enum.specs.Stop.{stop_of}
-use Rattle.usb_enum.specs.StringRequests.{AsksLanguage, AsksString, ReadsString, named}
-use Rattle.usb_enum.specs.Text.{string_units, first_language_of}
+use Rattle.usb_hub.specs.{unless_refused, string_given, HasText, StringAsked}
+use Rattle.usb_enum.specs.{StringIndexes, Strings, string_read, string_at, strings_by, OnlyAsks}
+use Rattle.usb_enum.specs.{DeviceFact, Answered, Ending, StopsRead, AtMaximum, HasString}
+use Rattle.usb_enum.specs.{bytes_given, language_of, string_in, no_strings, no_fault, stop_of}
+use Rattle.usb_enum.specs.{AsksLanguage, AsksString, ReadsString, named, string_units}
+use Rattle.usb_enum.specs.{first_language_of}
 use Rattle.usb_enum.proofs.readings.LearnedFacts.{learns_wider}
 use Rattle.usb_enum.proofs.readings.Readings.{learns_none, learns_on, refusal_learned, text_learned}
 

@@ -1,16 +1,12 @@
 -- That the strings of a device are asked for in its first language.
 use Rattle.std.proofs.Common.{◌≡◌, ℕ, None, Some, Result, Ok, Err, subst}
 use Rattle.std.specs.Global.{Vec}
-use Rattle.usb_request.specs.Requests.{get_string_descriptor}
-use Rattle.usb_world.specs.World.{World}
-use Rattle.usb_transaction.specs.declared.target.Target.{Target}
-use Rattle.usb_pipe.specs.declared.fault.PipeFault.{PipeFault}
-use Rattle.usb_pipe.specs.Stages.{Reads}
-use Rattle.usb_enum.specs.declared.strings.StringIndexes.{StringIndexes}
-use Rattle.usb_enum.specs.declared.strings.Strings.{Strings}
-use Rattle.usb_enum.specs.LastRequests.{Leads}
-use Rattle.usb_enum.specs.Stop.{stop_of}
-use Rattle.usb_enum.specs.StringRequests.{AsksString, given, refused, EndsWithStrings}
+use Rattle.usb_request.specs.{get_string_descriptor}
+use Rattle.usb_world.specs.{World}
+use Rattle.usb_transaction.specs.{Target}
+use Rattle.usb_pipe.specs.{PipeFault, Reads}
+use Rattle.usb_enum.specs.{StringIndexes, Strings, Leads, stop_of, AsksString, given, refused}
+use Rattle.usb_enum.specs.{EndsWithStrings}
 use Rattle.usb_enum.proofs.courses.LastRequests.{leads_then}
 use Rattle.usb_enum.proofs.readings.StringReadings.{stall_alone}
 
@@ -39,6 +35,5 @@ pub ends_after : {t : Target} {indexes : StringIndexes} {old mid new : World} {s
 ends_after led ends = record {
   before = ends.before;
   led = leads_then led ends.led;
-  read =
-      ends.read;
+  read = ends.read;
 }

@@ -8,48 +8,26 @@ use Rattle.std.proofs.lemmas.Option.{get_or_from_slice_get, same_Some, slice_get
 use Rattle.std.specs.Global.{Vec}
 use Rattle.std.specs.List.{sum_by}
 use Rattle.std.specs.Prelude.{IsErrAnd, OnOk}
-use Rattle.usb_request.specs.declared.setup.Setup.{Setup}
-use Rattle.usb_request.specs.Layout.{IsToHost}
-use Rattle.usb_request.specs.Requests.{get_configuration_descriptor}
-use Rattle.usb_descriptor.specs.Config.{total_in}
-use Rattle.usb_device.specs.Progress.{OnlyStage}
-use Rattle.usb_device.specs.Rows.{State}
-use Rattle.usb_device.specs.SaidLengths.{said_length, said_lengths}
-use Rattle.usb_device.specs.Spec.{Spec, IsSpec}
-use Rattle.usb_device.specs.Tree.{Location, path_to, reach_on, state_on}
-use Rattle.usb_world.specs.Addresses.{after_taking}
-use Rattle.usb_world.specs.Devices.{Was, EachWas}
-use Rattle.usb_tree.specs.Paths.{address_of}
-use Rattle.usb_world.specs.World.{World}
+use Rattle.usb_request.specs.{Setup, IsToHost, get_configuration_descriptor}
+use Rattle.usb_descriptor.specs.{total_in}
+use Rattle.usb_device.specs.{OnlyStage, State, said_length, said_lengths, Spec, IsSpec, Location}
+use Rattle.usb_device.specs.{path_to, reach_on, state_on}
+use Rattle.usb_world.specs.{after_taking, Was, EachWas, World}
+use Rattle.usb_tree.specs.{address_of}
 use Rattle.usb_world.proofs.Interface.{same_is}
 use Rattle.usb_tree.proofs.Interface.{equal_same}
-use Rattle.usb_bus.specs.Traces.{StepRun}
-use Rattle.usb_transaction.specs.declared.target.Target.{Target}
-use Rattle.usb_transaction.specs.Answerer.{Answerer, HadOne}
-use Rattle.usb_transaction.specs.Leaves.{is_at}
-use Rattle.usb_pipe.specs.declared.fault.PipeFault.{PipeFault}
-use Rattle.usb_pipe.specs.Control.{control_bound}
-use Rattle.usb_pipe.specs.Stages.{Reads}
+use Rattle.usb_bus.specs.{StepRun}
+use Rattle.usb_transaction.specs.{Target, Answerer, HadOne, is_at}
+use Rattle.usb_pipe.specs.{PipeFault, control_bound, Reads}
 use Rattle.usb_pipe.proofs.Interface.{who_reads}
-use Rattle.usb_address.specs.Claims.{AddressMap}
-use Rattle.usb_address.specs.Ownership.{MapHolds, Enumerating, WhileBusWorks, KeepsAddresses}
+use Rattle.usb_address.specs.{AddressMap, MapHolds, Enumerating, WhileBusWorks, KeepsAddresses}
 use Rattle.usb_address.proofs.Interface.{same_setup}
-use Rattle.usb_hub.specs.declared.port.HubPort.{HubPort}
-use Rattle.usb_hub.specs.Addresses.{KeepsDevices}
-use Rattle.usb_hub.specs.GivenAnswers.{config_given, TextAsked, ConfigAsked}
-use Rattle.usb_hub.specs.Requests.{Queried}
+use Rattle.usb_hub.specs.{HubPort, KeepsDevices, config_given, TextAsked, ConfigAsked, Queried}
 use Rattle.usb_hub.proofs.Interface.{stays-registers, stays-spec}
-use Rattle.usb_enum.specs.declared.addressed.Addressed.{Addressed}
-use Rattle.usb_enum.specs.declared.cause.Cause.{Cause}
-use Rattle.usb_enum.specs.declared.stop.Stop.{Stop}
-use Rattle.usb_enum.specs.Addresses.{IsSpare}
-use Rattle.usb_enum.specs.Bounds.{read_bound, text_bound, texts_bound, pass_bound, configured_by}
-use Rattle.usb_enum.specs.LearnedFacts.{Learned, DeviceFact}
-use Rattle.usb_enum.specs.PresentDevices.{AtPath, HasTaken, IsAddressed, IsRegular}
-use Rattle.usb_enum.specs.Readings.{AtMaximum, HasTotal}
-use Rattle.usb_enum.specs.Stop.{answered_or}
-use Rattle.usb_enum.specs.TextLengths.{SaysWithin, HasPlanWithin, EachAt, SomeAt, IsAnswered}
-use Rattle.usb_enum.specs.TextLengths.{ReadsText, FewFor, FewFrom}
+use Rattle.usb_enum.specs.{Addressed, Cause, Stop, IsSpare, read_bound, text_bound, texts_bound}
+use Rattle.usb_enum.specs.{pass_bound, configured_by, Learned, DeviceFact, AtPath, HasTaken}
+use Rattle.usb_enum.specs.{IsAddressed, IsRegular, AtMaximum, HasTotal, answered_or, SaysWithin}
+use Rattle.usb_enum.specs.{HasPlanWithin, EachAt, SomeAt, IsAnswered, ReadsText, FewFor, FewFrom}
 use Rattle.usb_enum.proofs.courses.Counts.{read_went}
 use Rattle.usb_enum.proofs.courses.Courses.{went_regular, went_sound}
 use Rattle.usb_enum.proofs.devices.Frames.{held_there}
@@ -131,8 +109,7 @@ head_unread t index old new r why same went =
       total = 0;
       count = omega (arith, went.spends.most);
       said = inl refl;
-      read =
-          not_ok r _ why same;
+      read = not_ok r _ why same;
     }
 
 -- it was asked for after its head was read
@@ -159,8 +136,7 @@ module _ (t : Target) (index total : ℕ) (old mid new : World) {a b c d : Optio
       total = total;
       count = counted;
       said = inr head_said;
-      read =
-          not_ok r _ why same;
+      read = not_ok r _ why same;
     }
 
     pub text_malformed : (why : Stop) → ReadsText t index old (Err why) new
@@ -301,8 +277,7 @@ texts_failed t n k old mid new r before went now =
           now.count,
           all.there,
           says.few,
-          totals_within_said (n + 1)
-              (before.bytes + now.total) was.before.spec all,
+          totals_within_said (n + 1) (before.bytes + now.total) was.before.spec all,
           says.within,
         )
 
@@ -324,8 +299,7 @@ few_then f h t n old mid new begun went le =
 pub few_wider : (f h : ℕ → ℕ) (t : Target) (old new : World) → FewFor f t old new
     → ((most : ℕ) → f most ≤ h most) → FewFor h t old new
 few_wider f h t old new made le = record {
-  few =
-      λ most single each. omega (arith, made.few most single each, le most);
+  few = λ most single each. omega (arith, made.few most single each, le most);
 }
 
 -- The device that took the address

@@ -5,42 +5,24 @@ use Rattle.std.proofs.Common.{Some, Result, Ok, Err, is_ok, refl, ap, sym, subst
 use Rattle.std.specs.Prelude.{IfOk}
 use Rattle.std.proofs.lemmas.Bool.{eq-eqb}
 use Rattle.std.proofs.lemmas.List.{get_or-take}
-use Rattle.usb_descriptor.specs.Config.{configuration_value}
-use Rattle.usb_descriptor.specs.Device.{device_head_of, configuration_count}
-use Rattle.usb_device.specs.Rows.{State}
-use Rattle.usb_device.specs.Tree.{Ports, Location}
-use Rattle.usb_device.specs.View.{state_there}
-use Rattle.usb_device.specs.Spec.{Spec, IsSpec}
-use Rattle.usb_resources.specs.Power.{supply_of}
-use Rattle.usb_transaction.specs.declared.target.Target.{Target}
-use Rattle.usb_world.specs.Addresses.{after_taking}
-use Rattle.usb_tree.specs.Paths.{address_of}
-use Rattle.usb_world.specs.PluggedDevices.{hub_ports}
-use Rattle.usb_world.specs.SanePorts.{Consistent}
-use Rattle.usb_world.specs.World.{World}
+use Rattle.usb_descriptor.specs.{configuration_value, device_head_of, configuration_count}
+use Rattle.usb_device.specs.{State, Ports, Location, state_there, Spec, IsSpec}
+use Rattle.usb_resources.specs.{supply_of}
+use Rattle.usb_transaction.specs.{Target}
+use Rattle.usb_world.specs.{after_taking, hub_ports, Consistent, World}
+use Rattle.usb_tree.specs.{address_of}
 use Rattle.usb_world.proofs.Interface.{sane_spec}
 use Rattle.usb_tree.proofs.Interface.{self_path}
-use Rattle.usb_bus.specs.Traces.{StepRun}
-use Rattle.usb_address.specs.Ownership.{KeepsAddresses}
-use Rattle.usb_hub.specs.declared.port.HubPort.{HubPort}
-use Rattle.usb_enum.specs.declared.addressed.Addressed.{Addressed}
-use Rattle.usb_enum.specs.declared.cause.Cause.TheVariants.{TooDeep}
-use Rattle.usb_enum.specs.declared.finding.Accepted.{Accepted}
-use Rattle.usb_enum.specs.declared.hub.HubFacts.{HubFacts}
-use Rattle.usb_enum.specs.declared.stop.Stop.{Stop}
+use Rattle.usb_bus.specs.{StepRun}
+use Rattle.usb_address.specs.{KeepsAddresses}
+use Rattle.usb_hub.specs.{HubPort}
+use Rattle.usb_enum.specs.{Addressed, TooDeep, Accepted, HubFacts, Stop, Within, verdict}
+use Rattle.usb_enum.specs.{is_good_hub, facts_of, texts_below, texts_of, first_fault, strings_by}
+use Rattle.usb_enum.specs.{IsAs, is_device, is_hub_device, fits_tier, needs_pre, string_indexes}
+use Rattle.usb_enum.specs.{configuration_of, HasFacts, OnlySets, IsAccepted, IsListed, IsOwn}
+use Rattle.usb_enum.specs.{IsWhole, Finds, HasHead, HasTaken, IsAddressed, HasReadings, LearnedSet}
+use Rattle.usb_enum.specs.{TellsPorts, AtMaximum, IsGoodHub, EndsWithStrings, choice_of}
 use Rattle.usb_enum.specs.declared.stop.Stop.TheVariants.{Refused}
-use Rattle.usb_enum.specs.Addresses.{Within}
-use Rattle.usb_enum.specs.Verdicts.{verdict, is_good_hub, facts_of, texts_below, texts_of}
-use Rattle.usb_enum.specs.Verdicts.{first_fault, strings_by, IsAs}
-use Rattle.usb_enum.specs.Device.{is_device, is_hub_device, fits_tier, needs_pre, string_indexes}
-use Rattle.usb_enum.specs.Device.{configuration_of, HasFacts}
-use Rattle.usb_enum.specs.Frames.{OnlySets}
-use Rattle.usb_enum.specs.Findings.{IsAccepted, IsListed, IsOwn, IsWhole}
-use Rattle.usb_enum.specs.PresentDevices.{Finds, HasHead, HasTaken, IsAddressed, HasReadings}
-use Rattle.usb_enum.specs.PresentDevices.{LearnedSet, TellsPorts}
-use Rattle.usb_enum.specs.Readings.{AtMaximum, IsGoodHub}
-use Rattle.usb_enum.specs.StringRequests.{EndsWithStrings}
-use Rattle.usb_enum.specs.Text.{choice_of}
 use Rattle.usb_enum.proofs.courses.Courses.{went_in_order, went_regular}
 use Rattle.usb_enum.proofs.devices.Enumerations.{within-keeps_addresses, takes_then}
 use Rattle.usb_enum.proofs.readings.Heads.{head_packet}
@@ -66,20 +48,17 @@ front_indexes d =
     ap (λ n. record {
       manufacturer = n;
       product = slice_index (take 18 d) 15;
-      serial_number =
-          slice_index (take 18 d) 16;
+      serial_number = slice_index (take 18 d) 16;
     }) (slice_index-take d 14 (omega arith))
     ∙ ap (λ n. record {
       manufacturer = slice_index d 14;
       product = n;
-      serial_number =
-          slice_index (take 18 d) 16;
+      serial_number = slice_index (take 18 d) 16;
     }) (slice_index-take d 15 (omega arith))
     ∙ ap (λ n. record {
       manufacturer = slice_index d 14;
       product = slice_index d 15;
-      serial_number =
-          n;
+      serial_number = n;
     }) (slice_index-take d 16 (omega arith))
 
 -- Tier
@@ -115,16 +94,14 @@ facts_told : (spec : Spec) (bytes text : List ℕ) (told : Option HubFacts) → 
 facts_told spec bytes text (Some facts) ruled same has tells =
     let is : IsGoodHub text facts spec = tells ruled in
     record {
-      good = good_not_refused (is_hub_device spec.descriptor) (is_good_hub spec text)
-          is.good;
+      good = good_not_refused (is_hub_device spec.descriptor) (is_good_hub spec text) is.good;
       facts = sym is.told;
     }
 facts_told spec bytes text None ruled same has tells = record {
   good = no_hub (is_hub_device spec.descriptor) (is_good_hub spec text) (sym same ∙ has);
   facts = sym (ap (λ b. if b then Some (record {
     ports = hub_ports spec.hub;
-    supply =
-        supply_of false spec.self_powered;
+    supply = supply_of false spec.self_powered;
   }) else None) (sym same ∙ has));
 }
 
@@ -210,8 +187,7 @@ accepted_own_device tier supply addressed device j s v whole is learned found ru
       ),
       record {
         address = learned.address ∙ found.address ∙ sym is.address;
-        configuration =
-            learned_of.1;
+        configuration = learned_of.1;
       },
       learned_of.2,
     )

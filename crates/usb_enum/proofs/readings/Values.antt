@@ -1,9 +1,9 @@
 -- Texts whose values differ, one by one.
 use Rattle.std.proofs.Common.{◌≡◌, refl}
 use Rattle.std.specs.Prelude.{ℕ, List, [], ◌∷◌, ◌++◌, false, ◌==◌}
-use Rattle.usb_descriptor.specs.Config.{configuration_value}
+use Rattle.usb_descriptor.specs.{configuration_value}
 use Rattle.usb_tree.proofs.Interface.{neither, swapped}
-use Rattle.usb_enum.specs.Text.{any_has_value, ValuesDiffer}
+use Rattle.usb_enum.specs.{any_has_value, ValuesDiffer}
 
 has_one_more : (value : ℕ) (texts : List (List ℕ)) (text : List ℕ)
     → any_has_value value texts ≡ false → (configuration_value text == value) ≡ false

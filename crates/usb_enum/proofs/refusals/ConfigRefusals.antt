@@ -5,30 +5,20 @@ use Rattle.std.proofs.Common.{sym, subst, ◌∙◌}
 use Rattle.std.specs.Prelude.{⊤}
 use Rattle.std.proofs.lemmas.Option.{same_Some}
 use Rattle.std.specs.Global.{Vec}
-use Rattle.usb_descriptor.specs.declared.fault.DescriptorFault.{DescriptorFault}
-use Rattle.usb_descriptor.specs.Config.{config_head_of, config_of, configuration_value, total_in}
-use Rattle.usb_device.specs.Spec.{Spec}
-use Rattle.usb_world.specs.Devices.{EachWas}
-use Rattle.usb_world.specs.World.{World}
-use Rattle.usb_transaction.specs.declared.target.Target.{Target}
-use Rattle.usb_transaction.specs.Failures.{NoThreeDamaged}
-use Rattle.usb_bus.specs.Traces.{StepRun}
-use Rattle.usb_pipe.specs.declared.fault.PipeFault.{PipeFault}
-use Rattle.usb_hub.specs.GivenAnswers.{unless_refused, config_given, HasText, ConfigAsked}
-use Rattle.usb_hub.specs.GivenAnswers.{ReadFailure}
-use Rattle.usb_enum.specs.declared.cause.Cause.{Cause}
-use Rattle.usb_enum.specs.declared.cause.Cause.TheVariants.{Stalled, BadConfiguration}
+use Rattle.usb_descriptor.specs.{DescriptorFault, config_head_of, config_of, configuration_value}
+use Rattle.usb_descriptor.specs.{total_in}
+use Rattle.usb_device.specs.{Spec}
+use Rattle.usb_world.specs.{EachWas, World}
+use Rattle.usb_transaction.specs.{Target, NoThreeDamaged}
+use Rattle.usb_bus.specs.{StepRun}
+use Rattle.usb_pipe.specs.{PipeFault}
+use Rattle.usb_hub.specs.{unless_refused, config_given, HasText, ConfigAsked, ReadFailure}
+use Rattle.usb_enum.specs.{Cause, Stalled, BadConfiguration, EnumFault, Stop, text_read}
+use Rattle.usb_enum.specs.{is_good_text, texts_below, text_fault, config_fault, first_fault}
+use Rattle.usb_enum.specs.{DeviceFact, FailureReason, AtMaximum, HasTotal, HasConfiguration}
+use Rattle.usb_enum.specs.{HasConfigurations, Refuses, answered_or, config_text_of, any_has_value}
 use Rattle.usb_enum.specs.declared.cause.Request.TheVariants as request
-use Rattle.usb_enum.specs.declared.fault.EnumFault.{EnumFault}
-use Rattle.usb_enum.specs.declared.stop.Stop.{Stop}
 use Rattle.usb_enum.specs.declared.stop.Stop.TheVariants.{Refused, Fault}
-use Rattle.usb_enum.specs.Verdicts.{text_read, is_good_text, texts_below, text_fault, config_fault}
-use Rattle.usb_enum.specs.Verdicts.{first_fault}
-use Rattle.usb_enum.specs.LearnedFacts.{DeviceFact, FailureReason}
-use Rattle.usb_enum.specs.Readings.{AtMaximum, HasTotal, HasConfiguration, HasConfigurations}
-use Rattle.usb_enum.specs.Refusals.{Refuses}
-use Rattle.usb_enum.specs.Stop.{answered_or}
-use Rattle.usb_enum.specs.Text.{config_text_of, any_has_value}
 use Rattle.usb_enum.proofs.readings.Readings.{given_allows, learns_on, text_learned}
 use Rattle.usb_enum.proofs.refusals.Refusals.{answered_ok, learned_explains, fault_explains}
 use Rattle.usb_enum.proofs.refusals.Refusals.{explains_on, request_refused}

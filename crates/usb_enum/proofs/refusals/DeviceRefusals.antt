@@ -1,5 +1,5 @@
 -- Why a device is refused by its device descriptor.
-use Rattle.usb_device.specs.Tree.{path_to}
+use Rattle.usb_device.specs.{path_to, Spec}
 use Rattle.std.proofs.Common.{◌≡◌, ◌≤◌, ◌<◌, ℕ, option_map, nat_lt, inl, inr, Bool, true, false}
 use Rattle.std.proofs.Common.{if◌then◌else◌, List, length, take, None, Some, Result, Ok, Err, is_ok}
 use Rattle.std.proofs.Common.{refl, ap, sym, subst, ◌∙◌, arith}
@@ -8,46 +8,27 @@ use Rattle.std.specs.Global.{Vec}
 use Rattle.std.specs.Result.{result_eq}
 use Rattle.std.proofs.lemmas.Bool.Decides.{nat_tests}
 use Rattle.std.proofs.lemmas.List.{take-take, take_all}
-use Rattle.usb_request.specs.Requests.{get_device_descriptor}
-use Rattle.usb_descriptor.specs.declared.fault.DescriptorFault.{DescriptorFault}
-use Rattle.usb_descriptor.specs.declared.fault.DescriptorFault.TheVariants.{Short}
-use Rattle.usb_descriptor.specs.Device.{device_head_of, device_spelled, device_after}
-use Rattle.usb_device.specs.Spec.{Spec}
-use Rattle.usb_world.specs.declared.types.BusFault.{BusFault}
-use Rattle.usb_world.specs.Devices.{EachWas}
-use Rattle.usb_tree.specs.Paths.{address_of}
-use Rattle.usb_world.specs.World.{World}
+use Rattle.usb_request.specs.{get_device_descriptor}
+use Rattle.usb_descriptor.specs.{DescriptorFault, Short, device_head_of, device_spelled}
+use Rattle.usb_descriptor.specs.{device_after}
+use Rattle.usb_world.specs.{BusFault, EachWas, World}
+use Rattle.usb_tree.specs.{address_of}
 use Rattle.usb_tree.proofs.Interface.{equal_same, false_true}
-use Rattle.usb_transaction.specs.declared.target.Target.{Target}
-use Rattle.usb_transaction.specs.Answerer.{HadOne}
-use Rattle.usb_transaction.specs.Failures.{NoThreeDamaged}
-use Rattle.usb_address.specs.Claims.{AddressMap}
-use Rattle.usb_address.specs.Ownership.{MapHolds}
+use Rattle.usb_transaction.specs.{Target, HadOne, NoThreeDamaged}
+use Rattle.usb_address.specs.{AddressMap, MapHolds}
 use Rattle.usb_address.proofs.Interface.{same_setup}
-use Rattle.usb_pipe.specs.Control.{FaultAfter}
-use Rattle.usb_pipe.specs.Stages.{Reads}
-use Rattle.usb_pipe.specs.Leaves.{IsTransferAnswer}
+use Rattle.usb_pipe.specs.{FaultAfter, Reads, IsTransferAnswer, PipeFault}
 use Rattle.usb_pipe.proofs.Interface.{who_read_had}
-use Rattle.usb_pipe.specs.declared.fault.PipeFault.{PipeFault}
 use Rattle.usb_pipe.specs.declared.fault.PipeFault.TheVariants as pipe
-use Rattle.usb_hub.specs.GivenAnswers.{unless_refused, device_given, HasText, DeviceAsked}
-use Rattle.usb_hub.specs.GivenAnswers.{ReadFailure}
-use Rattle.usb_hub.specs.Addresses.{IsClaimed, KeepsAnswered}
-use Rattle.usb_hub.specs.Requests.{Queried, EndsAfter}
-use Rattle.usb_enum.specs.declared.cause.Cause.{Cause}
-use Rattle.usb_enum.specs.declared.cause.Cause.TheVariants.{Stalled, BadDevice}
+use Rattle.usb_hub.specs.{unless_refused, device_given, HasText, DeviceAsked, ReadFailure}
+use Rattle.usb_hub.specs.{IsClaimed, KeepsAnswered, Queried, EndsAfter}
+use Rattle.usb_enum.specs.{Cause, Stalled, BadDevice, Stop, is_device, device_bytes, FailureReason}
+use Rattle.usb_enum.specs.{Both, StopsDescriptor, AnswersSo, HasDescriptor, AtMaximum}
+use Rattle.usb_enum.specs.{DescriptorRead, DescriptorTold, bad_front, IsResponsive, IsRefusedFor}
+use Rattle.usb_enum.specs.{Refuses, FindsDescriptor, RefusesDescriptor, head_fault, device_fault}
+use Rattle.usb_enum.specs.{stop_of, answered_or}
 use Rattle.usb_enum.specs.declared.cause.Request.TheVariants as request
-use Rattle.usb_enum.specs.declared.stop.Stop.{Stop}
 use Rattle.usb_enum.specs.declared.stop.Stop.TheVariants.{Refused}
-use Rattle.usb_enum.specs.Device.{is_device, device_bytes}
-use Rattle.usb_enum.specs.LearnedFacts.{FailureReason}
-use Rattle.usb_enum.specs.Parts.{Both, StopsDescriptor}
-use Rattle.usb_enum.specs.PresentDevices.{AnswersSo, HasDescriptor}
-use Rattle.usb_enum.specs.Readings.{AtMaximum}
-use Rattle.usb_enum.specs.Reasons.{DescriptorRead, DescriptorTold, bad_front}
-use Rattle.usb_enum.specs.Refusals.{IsResponsive, IsRefusedFor, Refuses, FindsDescriptor}
-use Rattle.usb_enum.specs.Refusals.{RefusesDescriptor, head_fault, device_fault}
-use Rattle.usb_enum.specs.Stop.{stop_of, answered_or}
 use Rattle.usb_enum.proofs.readings.Heads.{answered}
 use Rattle.usb_enum.proofs.courses.Stretches.{device_goes}
 use Rattle.usb_enum.proofs.refusals.Refusals.{answered_ok, FailsForSpec, answered_err}

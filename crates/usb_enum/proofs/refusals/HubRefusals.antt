@@ -4,26 +4,16 @@ use Rattle.std.proofs.Common.{Option, None, Some, option_map, Result, Ok, Err, i
 use Rattle.std.proofs.Common.{◌∙◌}
 use Rattle.std.proofs.lemmas.Option.{same_Some}
 use Rattle.std.specs.Global.{Vec}
-use Rattle.usb_descriptor.specs.declared.fault.DescriptorFault.{DescriptorFault}
-use Rattle.usb_descriptor.specs.Hub.{hub_spelled}
-use Rattle.usb_device.specs.Spec.{Spec, Hub}
-use Rattle.usb_world.specs.Devices.{EachWas}
-use Rattle.usb_world.specs.World.{World}
-use Rattle.usb_transaction.specs.declared.target.Target.{Target}
-use Rattle.usb_transaction.specs.Failures.{NoThreeDamaged}
-use Rattle.usb_pipe.specs.declared.fault.PipeFault.{PipeFault}
-use Rattle.usb_hub.specs.declared.status.DeviceStatus.{DeviceStatus}
-use Rattle.usb_hub.specs.GivenAnswers.{unless_refused, hub_given, status_given, HasText, HubAsked}
-use Rattle.usb_hub.specs.GivenAnswers.{StatusAsked, ReadFailure}
-use Rattle.usb_enum.specs.declared.cause.Cause.{Cause}
-use Rattle.usb_enum.specs.declared.cause.Cause.TheVariants.{BadHub}
-use Rattle.usb_enum.specs.declared.stop.Stop.{Stop}
+use Rattle.usb_descriptor.specs.{DescriptorFault, hub_spelled}
+use Rattle.usb_device.specs.{Spec, Hub}
+use Rattle.usb_world.specs.{EachWas, World}
+use Rattle.usb_transaction.specs.{Target, NoThreeDamaged}
+use Rattle.usb_pipe.specs.{PipeFault}
+use Rattle.usb_hub.specs.{DeviceStatus, unless_refused, hub_given, status_given, HasText, HubAsked}
+use Rattle.usb_hub.specs.{StatusAsked, ReadFailure}
+use Rattle.usb_enum.specs.{Cause, BadHub, Stop, gives_hub, FailureReason, AtMaximum, Refuses}
+use Rattle.usb_enum.specs.{hub_fault, answered_or}
 use Rattle.usb_enum.specs.declared.stop.Stop.TheVariants.{Refused}
-use Rattle.usb_enum.specs.Verdicts.{gives_hub}
-use Rattle.usb_enum.specs.LearnedFacts.{FailureReason}
-use Rattle.usb_enum.specs.Readings.{AtMaximum}
-use Rattle.usb_enum.specs.Refusals.{Refuses, hub_fault}
-use Rattle.usb_enum.specs.Stop.{answered_or}
 use Rattle.usb_enum.proofs.readings.Readings.{given_allows, text_learned}
 use Rattle.usb_enum.proofs.refusals.Refusals.{answered_ok, learned_explains, request_refused}
 

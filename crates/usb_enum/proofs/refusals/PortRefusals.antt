@@ -3,38 +3,26 @@ use Rattle.std.proofs.Common.{◌≡◌, ◌≤◌, ◌+◌, ℕ, ◌==◌, ◌&
 use Rattle.std.proofs.Common.{if◌then◌else◌, Option, None, Some, Result, Err, refl, ap, sym, subst}
 use Rattle.std.proofs.Common.{◌∙◌, arith}
 use Rattle.std.specs.Prelude.{unwrap_or, is_some, ⊤}
-use Rattle.usb_request.specs.Features.{PORT_POWER}
-use Rattle.usb_port.specs.Path.{IsPortNumber}
-use Rattle.usb_descriptor.specs.Choice.{status_endpoint_of}
-use Rattle.usb_device.specs.Spec.{Spec, IsSpec}
-use Rattle.usb_device.specs.Rows.{State}
-use Rattle.usb_device.specs.declared.request.Registers.{Registers}
-use Rattle.usb_device.specs.Tree.{Location, reach_on, state_on}
-use Rattle.usb_world.specs.Devices.{Was}
-use Rattle.usb_tree.specs.AttemptPackets.{deep_at}
-use Rattle.usb_world.specs.World.{World}
+use Rattle.usb_request.specs.{PORT_POWER, set_port_feature}
+use Rattle.usb_port.specs.{IsPortNumber}
+use Rattle.usb_descriptor.specs.{status_endpoint_of}
+use Rattle.usb_device.specs.{Spec, IsSpec, State, Registers, Location, reach_on, state_on}
+use Rattle.usb_world.specs.{Was, World}
+use Rattle.usb_tree.specs.{deep_at}
 use Rattle.usb_world.proofs.Interface.{each_wider}
-use Rattle.usb_transaction.specs.declared.target.Target.{Target}
-use Rattle.usb_bus.specs.Traces.{StepRun}
+use Rattle.usb_transaction.specs.{Target}
+use Rattle.usb_bus.specs.{StepRun}
 use Rattle.usb_bus.proofs.Interface.{went_then}
-use Rattle.usb_request.specs.Requests.{set_port_feature}
-use Rattle.usb_pipe.specs.declared.fault.PipeFault.{PipeFault}
+use Rattle.usb_pipe.specs.{PipeFault}
 use Rattle.usb_pipe.specs.declared.fault.PipeFault.TheVariants as pipe
-use Rattle.usb_hub.specs.declared.port.HubPort.TheVariants.{External}
-use Rattle.usb_hub.specs.Addresses.{StaysAs, KeepsDevices}
-use Rattle.usb_hub.specs.Requests.{Commanded}
-use Rattle.usb_hub.specs.CallFailures.{HasPort, HubServes, NoHubFailed}
+use Rattle.usb_hub.specs.{External, StaysAs, KeepsDevices, Commanded, HasPort, HubServes}
+use Rattle.usb_hub.specs.{NoHubFailed}
 use Rattle.usb_hub.proofs.Interface.{hub_sets, stays-registers, stays-spec}
-use Rattle.usb_enum.specs.declared.cause.Cause.{Cause}
-use Rattle.usb_enum.specs.declared.cause.Cause.TheVariants.{BadHub}
-use Rattle.usb_enum.specs.declared.stop.Stop.{Stop}
+use Rattle.usb_enum.specs.{Cause, BadHub, Stop, gives_hub, Learned, DeviceFact, HearsSet}
+use Rattle.usb_enum.specs.{FailureReason, ExplainsSet, AtMaximum, HasPorts, IsResponsive}
+use Rattle.usb_enum.specs.{IsRefusedFor, Refuses, RefusesNoPort, no_fault, hub_fault, start_fault}
+use Rattle.usb_enum.specs.{stop_of, answered_or}
 use Rattle.usb_enum.specs.declared.stop.Stop.TheVariants.{Refused, Fault}
-use Rattle.usb_enum.specs.Verdicts.{gives_hub}
-use Rattle.usb_enum.specs.LearnedFacts.{Learned, DeviceFact, HearsSet, FailureReason, ExplainsSet}
-use Rattle.usb_enum.specs.Readings.{AtMaximum, HasPorts}
-use Rattle.usb_enum.specs.Refusals.{IsResponsive, IsRefusedFor, Refuses, RefusesNoPort, no_fault}
-use Rattle.usb_enum.specs.Refusals.{hub_fault, start_fault}
-use Rattle.usb_enum.specs.Stop.{stop_of, answered_or}
 use Rattle.usb_enum.proofs.readings.HubReadings.{had_ports}
 use Rattle.usb_enum.proofs.refusals.Refusals.{answered_err, explains_set, explains_set_on}
 
@@ -108,8 +96,7 @@ has_earlier spec m n least fewer h = record {
   hub = h.hub;
   is = h.is;
   least = least;
-  most =
-      omega (arith, fewer, h.most);
+  most = omega (arith, fewer, h.most);
   idle = h.idle;
   ruled = h.ruled;
 }
@@ -178,8 +165,7 @@ module _ (text : List ℕ) where
         is = had.is;
         least = fits.0;
         most = omega (arith, had.count);
-        idle =
-            r.free;
+        idle = r.free;
         ruled = ruled;
       }
 

@@ -1,36 +1,23 @@
 -- How what a refusal tells of a device joins, and why a request for data fails.
-use Rattle.usb_device.specs.Tree.{Location}
+use Rattle.usb_device.specs.{Location, Spec, IsSpec, State, Registers, max_packet}
 use Rattle.std.proofs.Common.{◌≡◌, ◌⊎◌, inl, ◌≤◌, ℕ, ◌==◌, ◌&&◌, ◌||◌, not, Bool, true, false, List}
 use Rattle.std.proofs.Common.{if◌then◌else◌, Option, None, Some, Result, Ok, Err, refl, ap, sym}
 use Rattle.std.proofs.Common.{subst, ◌∙◌}
 use Rattle.std.specs.Prelude.{unwrap_or, IfOk, IfErr, IsErrAnd, MatchResult, ⊤}
-use Rattle.usb_device.specs.Spec.{Spec, IsSpec}
-use Rattle.usb_device.specs.Rows.{State}
-use Rattle.usb_device.specs.declared.request.Registers.{Registers}
-use Rattle.usb_device.specs.Transfer.{max_packet}
-use Rattle.usb_world.specs.Devices.{Relation, EachWas}
-use Rattle.usb_tree.specs.Paths.{address_of}
-use Rattle.usb_tree.specs.AttemptPackets.{deep_at}
-use Rattle.usb_world.specs.World.{World}
+use Rattle.usb_world.specs.{Relation, EachWas, World}
+use Rattle.usb_tree.specs.{address_of, deep_at}
 use Rattle.usb_world.proofs.Interface.{each_both, each_joined, each_none, each_wider}
 use Rattle.usb_tree.proofs.Interface.{false_true}
-use Rattle.usb_transaction.specs.declared.target.Target.{Target}
-use Rattle.usb_transaction.specs.Leaves.{is_at}
-use Rattle.usb_transaction.specs.Failures.{NoThreeDamaged}
-use Rattle.usb_bus.specs.Traces.{StepRun}
-use Rattle.usb_pipe.specs.declared.fault.PipeFault.{PipeFault}
+use Rattle.usb_transaction.specs.{Target, is_at, NoThreeDamaged}
+use Rattle.usb_bus.specs.{StepRun}
+use Rattle.usb_pipe.specs.{PipeFault, IsMaximum}
 use Rattle.usb_pipe.specs.declared.fault.PipeFault.TheVariants as pipe
-use Rattle.usb_pipe.specs.Leaves.{IsMaximum}
-use Rattle.usb_hub.specs.GivenAnswers.{ReadAsked, ReadFailure}
+use Rattle.usb_hub.specs.{ReadAsked, ReadFailure}
 use Rattle.usb_hub.proofs.Interface.{stays-registers, stays-spec}
-use Rattle.usb_enum.specs.declared.cause.Cause.{Cause}
-use Rattle.usb_enum.specs.declared.fault.EnumFault.{EnumFault}
-use Rattle.usb_enum.specs.declared.stop.Stop.{Stop}
+use Rattle.usb_enum.specs.{Cause, EnumFault, Stop, Learned, DeviceFact, Hears, HearsSet, Explained}
+use Rattle.usb_enum.specs.{FailureReason, ExplainsSet, IsResponsive, IsRefusedFor, Refuses, stop_of}
+use Rattle.usb_enum.specs.{answered_or}
 use Rattle.usb_enum.specs.declared.stop.Stop.TheVariants.{Refused, Fault}
-use Rattle.usb_enum.specs.LearnedFacts.{Learned, DeviceFact, Hears, HearsSet, Explained}
-use Rattle.usb_enum.specs.LearnedFacts.{FailureReason, ExplainsSet}
-use Rattle.usb_enum.specs.Refusals.{IsResponsive, IsRefusedFor, Refuses}
-use Rattle.usb_enum.specs.Stop.{stop_of, answered_or}
 use Rattle.usb_enum.proofs.courses.Damages.{went_three}
 use Rattle.usb_enum.proofs.devices.SharedAddresses.{went_unshared}
 
@@ -70,10 +57,8 @@ learned_explains A B t old new f x three single =
     each_wider (Learned A t) (Explained Hears B t)
     (λ j s v l. record {
       spec = stays-spec s v l.frame;
-      address =
-          ap (λ (r : Registers). r.address) (stays-registers s v l.frame);
-      so =
-          λ h ruled. f s.spec (l.so h.at);
+      address = ap (λ (r : Registers). r.address) (stays-registers s v l.frame);
+      so = λ h ruled. f s.spec (l.so h.at);
     }) old new (x single)
 
 -- a fault is no refusal
@@ -90,8 +75,7 @@ explains_none So t w all three single =
     each_none (Explained Hears So t) (λ j s. record {
       spec = refl;
       address = refl;
-      so =
-          λ h ruled. all s.spec;
+      so = λ h ruled. all s.spec;
     }) w
 
 pub explains_set_none : (So : Spec → Type 0) (t : Target) (w : World) → ((spec : Spec) → So spec)
@@ -100,8 +84,7 @@ explains_set_none So t w all three single =
     each_none (Explained HearsSet So t) (λ j s. record {
       spec = refl;
       address = refl;
-      so =
-          λ h ruled. all s.spec;
+      so = λ h ruled. all s.spec;
     }) w
 
 pub explains_wider : (A B : Spec → Type 0) (t : Target) (old new : World)
@@ -111,8 +94,7 @@ explains_wider A B t old new f x three single =
     (λ j s v e. record {
       spec = e.spec;
       address = e.address;
-      so =
-          λ h ruled. f s.spec (e.so h ruled);
+      so = λ h ruled. f s.spec (e.so h ruled);
     }) old new (x three single)
 
 -- of a device that is configured as of any
@@ -123,8 +105,7 @@ explains_set A B t old new f x three single =
     (λ j s v e. record {
       spec = e.spec;
       address = e.address;
-      so =
-          λ h ruled. f s.spec (e.so h.hears ruled);
+      so = λ h ruled. f s.spec (e.so h.hears ruled);
     }) old new (x three single)
 
 -- after what was learned
@@ -253,10 +234,8 @@ module _ {A X : Type 0} (given : Spec → Option X) (Has : State → A → Type 
         (Explained Hears So t)
         (λ j s v x y. record {
           spec = ap (λ z. z.spec) x.frame;
-          address =
-              ap (λ z. z.registers.address) x.frame;
-          so =
-              λ h ruled. f s.spec (read_fails fault j s v x y h ruled);
+          address = ap (λ z. z.registers.address) x.frame;
+          so = λ h ruled. f s.spec (read_fails fault j s v x y h ruled);
         })
         old new (subst (λ r. EachWas (ReadAsked given Has t r) old new) is (what single))
         (subst (λ r. EachWas (ReadFailure t wanted r) old new) is (why three least single))

@@ -1,42 +1,28 @@
 -- Why a device that has its address is refused.
-use Rattle.usb_device.specs.Tree.{Location}
+use Rattle.usb_device.specs.{Location, is_value, State, Spec, IsSpec}
 use Rattle.std.proofs.Common.{◌≡◌, ◌≢◌, ◌⊎◌, inl, inr, ◌<◌, ℕ, ◌==◌, ◌&&◌, not, Bool, true, false}
 use Rattle.std.proofs.Common.{List, [], length, slice_index_or, if◌then◌else◌, Option, None, Some}
 use Rattle.std.proofs.Common.{Result, Ok, Err, refl, ap, sym, subst, ◌∙◌}
 use Rattle.std.specs.Prelude.{unwrap_or}
 use Rattle.std.specs.Option.{option_or}
-use Rattle.usb_descriptor.specs.Config.{configuration_value}
-use Rattle.usb_descriptor.specs.Device.{configuration_count}
-use Rattle.usb_device.specs.Request.{is_value}
-use Rattle.usb_device.specs.Rows.{State}
-use Rattle.usb_device.specs.Spec.{Spec, IsSpec}
-use Rattle.usb_world.specs.Devices.{EachWas}
-use Rattle.usb_tree.specs.Paths.{address_of}
-use Rattle.usb_world.specs.World.{World}
+use Rattle.usb_descriptor.specs.{configuration_value, configuration_count}
+use Rattle.usb_world.specs.{EachWas, World}
+use Rattle.usb_tree.specs.{address_of}
 use Rattle.usb_world.proofs.Interface.{each_joined}
 use Rattle.usb_tree.proofs.Interface.{and_of, equal_same, false_true, unequal}
-use Rattle.usb_transaction.specs.declared.target.Target.{Target}
-use Rattle.usb_transaction.specs.Failures.{NoThreeDamaged}
-use Rattle.usb_bus.specs.Traces.{StepRun}
-use Rattle.usb_pipe.specs.declared.fault.PipeFault.{PipeFault}
+use Rattle.usb_transaction.specs.{Target, NoThreeDamaged}
+use Rattle.usb_bus.specs.{StepRun}
+use Rattle.usb_pipe.specs.{PipeFault, WriteFailure}
 use Rattle.usb_pipe.specs.declared.fault.PipeFault.TheVariants as pipe
-use Rattle.usb_pipe.specs.Failures.{WriteFailure}
-use Rattle.usb_hub.specs.Settings.{ConfigurationAsked, takes_value}
-use Rattle.usb_enum.specs.declared.cause.Cause.{Cause}
-use Rattle.usb_enum.specs.declared.cause.Cause.TheVariants.{Stalled, TooDeep, NoPower}
+use Rattle.usb_hub.specs.{ConfigurationAsked, takes_value}
+use Rattle.usb_enum.specs.{Cause, Stalled, TooDeep, NoPower, Stop, texts_below, first_fault}
+use Rattle.usb_enum.specs.{is_hub_device, fits_tier, DeviceFact, Hears, HearsSet, Explained}
+use Rattle.usb_enum.specs.{FailureReason, ExplainsSet, LearnedSet, LearnsSet, AtMaximum}
+use Rattle.usb_enum.specs.{HasConfigurations, IsResponsive, IsRefusedFor, Refuses, no_fault}
+use Rattle.usb_enum.specs.{setting_fault, start_fault, chosen_fault, configured_fault, stop_of}
+use Rattle.usb_enum.specs.{answered_or, choice_of}
 use Rattle.usb_enum.specs.declared.cause.Request.TheVariants as request
-use Rattle.usb_enum.specs.declared.stop.Stop.{Stop}
 use Rattle.usb_enum.specs.declared.stop.Stop.TheVariants.{Refused, Fault}
-use Rattle.usb_enum.specs.Verdicts.{texts_below, first_fault}
-use Rattle.usb_enum.specs.Device.{is_hub_device, fits_tier}
-use Rattle.usb_enum.specs.LearnedFacts.{DeviceFact, Hears, HearsSet, Explained, FailureReason}
-use Rattle.usb_enum.specs.LearnedFacts.{ExplainsSet}
-use Rattle.usb_enum.specs.PresentDevices.{LearnedSet, LearnsSet}
-use Rattle.usb_enum.specs.Readings.{AtMaximum, HasConfigurations}
-use Rattle.usb_enum.specs.Refusals.{IsResponsive, IsRefusedFor, Refuses, no_fault, setting_fault}
-use Rattle.usb_enum.specs.Refusals.{start_fault, chosen_fault, configured_fault}
-use Rattle.usb_enum.specs.Stop.{stop_of, answered_or}
-use Rattle.usb_enum.specs.Text.{choice_of}
 use Rattle.usb_enum.proofs.courses.Damages.{went_three}
 use Rattle.usb_enum.proofs.refusals.Refusals.{answered_err, each_joint, hears_on, explains_none}
 use Rattle.usb_enum.proofs.refusals.Refusals.{explains_wider, explains_on, learned_explains}

@@ -4,21 +4,15 @@ use Rattle.std.proofs.Common.{subst, ◌∙◌}
 use Rattle.std.specs.Prelude.{IsErrAnd, ⊤}
 use Rattle.std.proofs.lemmas.Option.{same_Some}
 use Rattle.std.specs.Global.{Vec}
-use Rattle.usb_device.specs.Spec.{Spec}
-use Rattle.usb_world.specs.Devices.{EachWas}
-use Rattle.usb_world.specs.World.{World}
+use Rattle.usb_device.specs.{Spec}
+use Rattle.usb_world.specs.{EachWas, World}
 use Rattle.usb_tree.proofs.Interface.{false_true}
-use Rattle.usb_transaction.specs.declared.target.Target.{Target}
-use Rattle.usb_transaction.specs.Failures.{NoThreeDamaged}
-use Rattle.usb_pipe.specs.declared.fault.PipeFault.{PipeFault}
+use Rattle.usb_transaction.specs.{Target, NoThreeDamaged}
+use Rattle.usb_pipe.specs.{PipeFault}
 use Rattle.usb_pipe.specs.declared.fault.PipeFault.TheVariants as pipe
-use Rattle.usb_hub.specs.GivenAnswers.{string_given, HasText, StringAsked, ReadFailure}
-use Rattle.usb_enum.specs.declared.stop.Stop.{Stop}
-use Rattle.usb_enum.specs.Frames.{OnlyAsks}
-use Rattle.usb_enum.specs.LearnedFacts.{DeviceFact, FailureReason}
-use Rattle.usb_enum.specs.Parts.{Ending, KeepingSteps, StopsRead}
-use Rattle.usb_enum.specs.Refusals.{IsResponsive, IsRefusedFor, Refuses, no_fault}
-use Rattle.usb_enum.specs.Stop.{stop_of}
+use Rattle.usb_hub.specs.{string_given, HasText, StringAsked, ReadFailure}
+use Rattle.usb_enum.specs.{Stop, OnlyAsks, DeviceFact, FailureReason, Ending, KeepingSteps}
+use Rattle.usb_enum.specs.{StopsRead, IsResponsive, IsRefusedFor, Refuses, no_fault, stop_of}
 use Rattle.usb_enum.proofs.courses.LastRequests.{leads_went}
 use Rattle.usb_enum.proofs.Parts.{asking, part_fails, steps_then}
 use Rattle.usb_enum.proofs.readings.Readings.{learns_on}

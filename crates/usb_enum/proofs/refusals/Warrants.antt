@@ -4,33 +4,22 @@ use Rattle.std.proofs.Common.{take, Option, None, Some, Result, Ok, Err, is_ok, 
 use Rattle.std.specs.Option.{option_or}
 use Rattle.std.specs.Prelude.{IfErr, IfOk, MatchResult}
 use Rattle.std.proofs.lemmas.Option.{same_Some}
-use Rattle.usb_descriptor.specs.Device.{device_head_of}
-use Rattle.usb_device.specs.Spec.{Spec}
-use Rattle.usb_world.specs.Addresses.{after_taking}
-use Rattle.usb_world.specs.World.{World}
-use Rattle.usb_bus.specs.Traces.{StepRun}
-use Rattle.usb_transaction.specs.declared.target.Target.{Target}
-use Rattle.usb_address.specs.Claims.{AddressMap}
-use Rattle.usb_address.specs.Ownership.{Enumerating, WhileBusWorks}
-use Rattle.usb_hub.specs.declared.port.HubPort.{HubPort}
-use Rattle.usb_enum.specs.declared.addressed.Addressed.{Addressed}
-use Rattle.usb_enum.specs.declared.cause.Cause.{Cause}
-use Rattle.usb_enum.specs.declared.cause.Cause.TheVariants.{Silent, Busy, Stalled, BadDevice}
-use Rattle.usb_enum.specs.declared.cause.Cause.TheVariants.{NoAddress}
+use Rattle.usb_descriptor.specs.{device_head_of}
+use Rattle.usb_device.specs.{Spec}
+use Rattle.usb_world.specs.{after_taking, World}
+use Rattle.usb_bus.specs.{StepRun}
+use Rattle.usb_transaction.specs.{Target}
+use Rattle.usb_address.specs.{AddressMap, Enumerating, WhileBusWorks}
+use Rattle.usb_hub.specs.{HubPort}
+use Rattle.usb_enum.specs.{Addressed, Cause, Silent, Busy, Stalled, BadDevice, NoAddress, Stop}
+use Rattle.usb_enum.specs.{AtPort, verdict, gives_head, IsRight, is_device, IsFairAt, PendingOr}
+use Rattle.usb_enum.specs.{StopsFairly, OnlySets, FailureReason, AtPath, Awaits, HasHead, HasTaken}
+use Rattle.usb_enum.specs.{Refuses, head_fault, early_fault, device_fault, addressed_fault}
+use Rattle.usb_enum.specs.{unaddressed_fault, cause_in, whole_fault, configured_fault}
+use Rattle.usb_enum.specs.{CauseAllowedOfDevice}
 use Rattle.usb_enum.specs.declared.cause.Request.TheVariants as request
 use Rattle.usb_enum.specs.declared.finding.Finding.TheVariants.{Refused as RefusedFinding}
-use Rattle.usb_enum.specs.declared.stop.Stop.{Stop}
 use Rattle.usb_enum.specs.declared.stop.Stop.TheVariants.{Refused, Fault}
-use Rattle.usb_enum.specs.Addresses.{AtPort}
-use Rattle.usb_enum.specs.Verdicts.{verdict, gives_head, IsRight}
-use Rattle.usb_enum.specs.Device.{is_device}
-use Rattle.usb_enum.specs.FairEnumerations.{IsFairAt, PendingOr, StopsFairly}
-use Rattle.usb_enum.specs.Frames.{OnlySets}
-use Rattle.usb_enum.specs.LearnedFacts.{FailureReason}
-use Rattle.usb_enum.specs.PresentDevices.{AtPath, Awaits, HasHead, HasTaken}
-use Rattle.usb_enum.specs.Refusals.{Refuses, head_fault, early_fault, device_fault, addressed_fault}
-use Rattle.usb_enum.specs.Refusals.{unaddressed_fault, cause_in, whole_fault, configured_fault}
-use Rattle.usb_enum.specs.Stop.{CauseAllowedOfDevice}
 use Rattle.usb_enum.proofs.courses.Courses.{regular_order, went_sound}
 use Rattle.usb_enum.proofs.courses.Fairness.{fair_then, faults_for_told, pends_reached}
 use Rattle.usb_enum.proofs.readings.Heads.{head_packet}
@@ -204,12 +193,7 @@ module _ (port : HubPort) (address tier supply m n : ℕ) (device : Addressed) {
             low = is.low;
             address = is.address;
             so = record {
-              granted = record {
-                speed = is.low;
-                head = is.head;
-                allowed =
-                    is.allowed;
-              };
+              granted = record { speed = is.low; head = is.head; allowed = is.allowed };
               bytes = is.bytes;
             };
           }

@@ -1,26 +1,16 @@
 -- What the end of an enumeration that is given up leaves.
 use Rattle.std.proofs.Common.{◌≡◌, ℕ, List, Option, None, Result, Ok, Err, refl, subst, sym}
 use Rattle.std.specs.Prelude.{IfErr, IsErrAnd}
-use Rattle.usb_port.specs.Calls.{clear_call}
-use Rattle.usb_request.specs.Features.{PORT_ENABLE}
-use Rattle.usb_world.specs.World.{World}
-use Rattle.usb_bus.specs.Traces.{StepRun}
-use Rattle.usb_pipe.specs.declared.fault.PipeFault.{PipeFault}
-use Rattle.usb_pipe.specs.Control.{FaultAfter}
-use Rattle.usb_hub.specs.declared.port.HubPort.{HubPort}
-use Rattle.usb_hub.specs.Addresses.{KeepsCleared}
-use Rattle.usb_hub.specs.Moments.{CommandsPort}
-use Rattle.usb_enum.specs.declared.cause.Cause.{Cause}
-use Rattle.usb_enum.specs.declared.fault.EnumFault.{EnumFault}
-use Rattle.usb_enum.specs.declared.finding.Finding.{Finding}
+use Rattle.usb_port.specs.{clear_call}
+use Rattle.usb_request.specs.{PORT_ENABLE}
+use Rattle.usb_world.specs.{World}
+use Rattle.usb_bus.specs.{StepRun}
+use Rattle.usb_pipe.specs.{PipeFault, FaultAfter}
+use Rattle.usb_hub.specs.{HubPort, KeepsCleared, CommandsPort}
+use Rattle.usb_enum.specs.{Cause, EnumFault, Finding, Stop, AtPort, OnlyCalls, Within, Closes}
+use Rattle.usb_enum.specs.{Faulted, NoNewStretch, at_port, FaultAllowedAt}
 use Rattle.usb_enum.specs.declared.finding.Finding.TheVariants.{Refused as RefusedFinding}
-use Rattle.usb_enum.specs.declared.stop.Stop.{Stop}
 use Rattle.usb_enum.specs.declared.stop.Stop.TheVariants.{Refused, Fault}
-use Rattle.usb_enum.specs.Addresses.{AtPort, OnlyCalls, Within}
-use Rattle.usb_enum.specs.Findings.{Closes}
-use Rattle.usb_enum.specs.FairEnumerations.{Faulted}
-use Rattle.usb_enum.specs.Losses.{NoNewStretch}
-use Rattle.usb_enum.specs.Stop.{at_port, FaultAllowedAt}
 use Rattle.usb_enum.proofs.stops.Endings.{ends_refused, ends_fault}
 use Rattle.usb_enum.proofs.devices.Enumerations.{within_none, within_kept}
 use Rattle.usb_enum.proofs.courses.Fairness.{called_faulted}

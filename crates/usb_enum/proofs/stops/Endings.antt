@@ -1,47 +1,30 @@
-use Rattle.usb_enum.specs.Device.{IsStarted}
+use Rattle.usb_enum.specs.{IsStarted, Cause, EnumFault, Accepted, Finding, Stop, IsSpare, Within}
+use Rattle.usb_enum.specs.{TakesAddress, OnlyCalls, AtPort, EndsOwned, EndsEnumeration}
+use Rattle.usb_enum.specs.{KeepsEnumerated, IsRight, FaultsFor, HubPends, IsFairAt, PendingOr}
+use Rattle.usb_enum.specs.{StopsFairly, StopsFor, OnlyAt, unaddressed_bound, Begins, Closes}
+use Rattle.usb_enum.specs.{Disables, GivesUp, IsFair, IsLeft, IsOwn, FindingIsTrue, FewAttempts}
+use Rattle.usb_enum.specs.{FindingStands, JustifiesRefusal, HasEmptyPorts, IsOccupied, IsPlaced}
+use Rattle.usb_enum.specs.{AtPath, Finds, IsInOrder, IsRegular, ReachesDevice, at_port, AsksStrings}
+use Rattle.usb_enum.specs.{FewFrom}
 -- How an enumeration ends: who holds which address then.
 use Rattle.std.proofs.Common.{◌≡◌, ◌≢◌, ◌⊎◌, ◌≤◌, ◌+◌, inl, inr, ℕ, Bool, true, false, List, Option}
 use Rattle.std.proofs.Common.{None, Some, Result, Ok, Err, if◌then◌else◌, refl, ap, sym, subst, ◌∙◌}
 use Rattle.std.proofs.Common.{arith}
-use Rattle.usb_world.specs.Addresses.{after_taking}
-use Rattle.usb_device.specs.Rows.{State}
-use Rattle.usb_device.specs.Spec.{Spec}
-use Rattle.usb_device.specs.View.{state_there}
-use Rattle.usb_tree.specs.Paths.{is_way, pending}
-use Rattle.usb_world.specs.World.{World}
+use Rattle.usb_world.specs.{after_taking, World}
+use Rattle.usb_device.specs.{State, Spec, state_there}
+use Rattle.usb_tree.specs.{is_way, pending}
 use Rattle.usb_tree.proofs.Interface.{false_true}
-use Rattle.usb_bus.specs.Traces.{StepRun}
+use Rattle.usb_bus.specs.{StepRun}
 use Rattle.usb_resources.specs.Pool as pool
-use Rattle.usb_resources.specs.Pool.{Addresses, IsFull, IsTaken, HasAddresses}
-use Rattle.usb_pipe.specs.declared.fault.PipeFault.{PipeFault}
-use Rattle.usb_address.specs.Claims.{AddressMap, Free, map_without}
-use Rattle.usb_address.specs.Ownership.{MapHolds, MapHoldsExcept, Enumerating, WhileBusWorks}
+use Rattle.usb_resources.specs.{Addresses, IsFull, IsTaken, HasAddresses}
+use Rattle.usb_pipe.specs.{PipeFault}
+use Rattle.usb_address.specs.{AddressMap, Free, map_without, MapHolds, MapHoldsExcept, Enumerating}
+use Rattle.usb_address.specs.{WhileBusWorks}
 use Rattle.usb_address.proofs.Interface.{enumerating_begins, owned_as}
-use Rattle.usb_hub.specs.declared.port.HubPort.{HubPort}
-use Rattle.usb_hub.specs.Addresses.{IsAt, Isolates}
-use Rattle.usb_hub.specs.Port.{order_bound}
-use Rattle.usb_enum.specs.declared.cause.Cause.{Cause}
-use Rattle.usb_enum.specs.declared.fault.EnumFault.{EnumFault}
+use Rattle.usb_hub.specs.{HubPort, IsAt, Isolates, order_bound}
 use Rattle.usb_enum.specs.declared.fault.EnumFault.TheVariants as fault
-use Rattle.usb_enum.specs.declared.finding.Accepted.{Accepted}
-use Rattle.usb_enum.specs.declared.finding.Finding.{Finding}
 use Rattle.usb_enum.specs.declared.finding.Finding.TheVariants.{Device, Refused}
-use Rattle.usb_enum.specs.declared.stop.Stop.{Stop}
 use Rattle.usb_enum.specs.declared.stop.Stop.TheVariants as stop
-use Rattle.usb_enum.specs.Addresses.{IsSpare, Within, TakesAddress, OnlyCalls, AtPort, EndsOwned}
-use Rattle.usb_enum.specs.Addresses.{EndsEnumeration, KeepsEnumerated}
-use Rattle.usb_enum.specs.Verdicts.{IsRight}
-use Rattle.usb_enum.specs.FairEnumerations.{FaultsFor, HubPends, IsFairAt, PendingOr, StopsFairly}
-use Rattle.usb_enum.specs.FairEnumerations.{StopsFor}
-use Rattle.usb_enum.specs.Frames.{OnlyAt}
-use Rattle.usb_enum.specs.Bounds.{unaddressed_bound}
-use Rattle.usb_enum.specs.Findings.{Begins, Closes, Disables, GivesUp, IsFair, IsLeft, IsOwn}
-use Rattle.usb_enum.specs.Findings.{FindingIsTrue, FewAttempts, FindingStands, JustifiesRefusal}
-use Rattle.usb_enum.specs.Places.{HasEmptyPorts, IsOccupied, IsPlaced}
-use Rattle.usb_enum.specs.PresentDevices.{AtPath, Finds, IsInOrder, IsRegular, ReachesDevice}
-use Rattle.usb_enum.specs.Stop.{at_port}
-use Rattle.usb_enum.specs.StringRequests.{AsksStrings}
-use Rattle.usb_enum.specs.TextLengths.{FewFrom}
 use Rattle.usb_enum.proofs.devices.Enumerations.{till_weaker, having, at_taking}
 use Rattle.usb_enum.proofs.courses.Courses.{regular_order, went_sound}
 use Rattle.usb_enum.proofs.courses.Fairness.{fair_before, fair_then, pends_on}
@@ -80,8 +63,7 @@ owned_but : (f : AddressMap) (p : List ℕ) (address : ℕ) (w : World) → Enum
 owned_but f p address w e = record {
   claims = after_taking f p e.has;
   owned = e.owned;
-  others =
-      but_taken f p e.has;
+  others = but_taken f p e.has;
 }
 
 -- there is no finding
@@ -316,8 +298,7 @@ module _ (port : HubPort) (addresses : Addresses) (address : ℕ) (zero_is : IsT
         let is = spare f p start.at start.free start.taken in
         omega (
           arith,
-          from.few f p is (first f p old is start.owned) (regular_order start.order)
-              most plan,
+          from.few f p is (first f p old is start.owned) (regular_order start.order) most plan,
           closing,
           examined_most port most wide,
         );

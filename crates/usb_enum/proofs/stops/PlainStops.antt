@@ -2,22 +2,17 @@
 use Rattle.std.proofs.Common.{◌≡◌, inl, inr, ℕ, ◌==◌, ◌&&◌, Bool, true, false, if◌then◌else◌, List}
 use Rattle.std.proofs.Common.{Some, Result, Ok, Err, refl, subst, sym, ◌∙◌}
 use Rattle.std.specs.Prelude.{IfOk, IfSome, IsErrAnd, MatchResult, unwrap_or}
-use Rattle.usb_resources.specs.Pool.{Addresses, IsFull}
-use Rattle.usb_pipe.specs.declared.fault.PipeFault.{PipeFault}
+use Rattle.usb_resources.specs.{Addresses, IsFull}
+use Rattle.usb_pipe.specs.{PipeFault}
 use Rattle.usb_pipe.specs.declared.fault.PipeFault.TheVariants as pipe
 use Rattle.usb_tree.proofs.Interface.{both, equal_same}
-use Rattle.usb_enum.specs.declared.cause.Cause.{Cause}
+use Rattle.usb_enum.specs.{Cause, EnumFault, Finding, Stop, LAST_TIER, device_bytes, fits_tier}
+use Rattle.usb_enum.specs.{is_device, is_hub_device, HandsOn, IsFound, FitsStop, IsHubStop, IsPlain}
+use Rattle.usb_enum.specs.{IsPlainStop, IsStopWithout, answered_or, stop_of}
 use Rattle.usb_enum.specs.declared.cause.Cause.TheVariants as cause
-use Rattle.usb_enum.specs.declared.fault.EnumFault.{EnumFault}
 use Rattle.usb_enum.specs.declared.fault.EnumFault.TheVariants as fault
-use Rattle.usb_enum.specs.declared.finding.Finding.{Finding}
 use Rattle.usb_enum.specs.declared.finding.Finding.TheVariants as finding
-use Rattle.usb_enum.specs.declared.stop.Stop.{Stop}
 use Rattle.usb_enum.specs.declared.stop.Stop.TheVariants.{Refused, Fault}
-use Rattle.usb_enum.specs.Device.{LAST_TIER, device_bytes, fits_tier, is_device, is_hub_device}
-use Rattle.usb_enum.specs.Findings.{HandsOn, IsFound}
-use Rattle.usb_enum.specs.Stop.{FitsStop, IsHubStop, IsPlain, IsPlainStop, IsStopWithout}
-use Rattle.usb_enum.specs.Stop.{answered_or, stop_of}
 use Rattle.usb_enum.proofs.ports.Hubs.{not_last}
 use Rattle.usb_enum.proofs.refusals.Refusals.{answered_err}
 use Rattle.usb_enum.proofs.stops.ToldFailures.{plain_fits}
@@ -100,8 +95,7 @@ deep_stop_fits tier bytes stop is = split (is_hub_device bytes && tier == LAST_T
 
 -- what the bytes of a device descriptor tell
 
-pub device_good : (low : Bool) (bytes : List ℕ)
-    → MatchResult (device_bytes low bytes)
+pub device_good : (low : Bool) (bytes : List ℕ) → MatchResult (device_bytes low bytes)
     (λ found. IfSome found (λ good. is_device low good ≡ true)) IsPlainStop
 device_good low bytes = split (is_device low bytes) refl
   where

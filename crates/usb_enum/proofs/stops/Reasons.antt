@@ -3,37 +3,25 @@ use Rattle.std.proofs.Common.{◌≡◌, ◌≢◌, ◌⊎◌, inl, inr, ℕ, �
 use Rattle.std.proofs.Common.{List, length, Some, Result, Ok, Err, refl, sym, subst, ◌∙◌}
 use Rattle.std.specs.Prelude.{unwrap_or, IfErr, MatchResult, ⊤}
 use Rattle.std.specs.Global.{Vec}
-use Rattle.usb_request.specs.declared.setup.Setup.{Setup}
-use Rattle.usb_request.specs.Requests.{get_status}
-use Rattle.usb_world.specs.World.{World}
-use Rattle.usb_transaction.specs.declared.target.Target.{Target}
-use Rattle.usb_transaction.specs.Transactions.{AttemptsMade}
-use Rattle.usb_port.specs.declared.status.PortStatus.{PortStatus}
-use Rattle.usb_pipe.specs.declared.fault.PipeFault.{PipeFault}
+use Rattle.usb_request.specs.{Setup, get_status}
+use Rattle.usb_world.specs.{World}
+use Rattle.usb_transaction.specs.{Target, AttemptsMade}
+use Rattle.usb_port.specs.{PortStatus}
+use Rattle.usb_pipe.specs.{PipeFault, FaultAfter, Reads, WasRead, Writes}
 use Rattle.usb_pipe.specs.declared.fault.PipeFault.TheVariants as pipe
-use Rattle.usb_pipe.specs.Control.{FaultAfter}
-use Rattle.usb_pipe.specs.Stages.{Reads, WasRead, Writes}
-use Rattle.usb_hub.specs.declared.port.HubPort.{HubPort}
-use Rattle.usb_hub.specs.declared.status.DeviceStatus.{DeviceStatus}
-use Rattle.usb_hub.specs.Port.{PortCleared, PortRead, PortSet}
-use Rattle.usb_hub.specs.Requests.{Queried, EndsAfter, Commanded, ReadAs, device_status, said_in}
-use Rattle.usb_enum.specs.declared.cause.Cause.{Cause}
+use Rattle.usb_hub.specs.{HubPort, DeviceStatus, PortCleared, PortRead, PortSet, Queried, EndsAfter}
+use Rattle.usb_hub.specs.{Commanded, ReadAs, device_status, said_in}
+use Rattle.usb_enum.specs.{Cause, Request, EnumFault, Stop, Leads, FailsAs, EndsFailing}
+use Rattle.usb_enum.specs.{EndsReading, IsAny, IsNamed, DescriptorRead, TextRead, BadDescriptor}
+use Rattle.usb_enum.specs.{bad_head, bad_front, BadText, bad_total, bad_text, repeated, Because}
+use Rattle.usb_enum.specs.{CauseAllowed, HubFails, no_descriptor, bad_descriptor, no_status}
+use Rattle.usb_enum.specs.{no_power, CauseAllowedOfHub, CauseAllowedAtStart, PortFails, FaultBy}
+use Rattle.usb_enum.specs.{IsSpokenTo, RefusedEarly, answered, not_enabled, CauseAllowedAt}
+use Rattle.usb_enum.specs.{NoAnswerTold, CanFail, FaultAllowedAt, FaultAllowed, IsPlain, StopFaults}
+use Rattle.usb_enum.specs.{CauseAllowedIn, CauseAllowedWithout, answered_or, at_port, stop_of}
 use Rattle.usb_enum.specs.declared.cause.Cause.TheVariants as cause
-use Rattle.usb_enum.specs.declared.cause.Request.{Request}
-use Rattle.usb_enum.specs.declared.fault.EnumFault.{EnumFault}
 use Rattle.usb_enum.specs.declared.fault.EnumFault.TheVariants as fault
-use Rattle.usb_enum.specs.declared.stop.Stop.{Stop}
 use Rattle.usb_enum.specs.declared.stop.Stop.TheVariants.{Refused, Fault}
-use Rattle.usb_enum.specs.LastRequests.{Leads}
-use Rattle.usb_enum.specs.Reasons.{FailsAs, EndsFailing, EndsReading, IsAny, IsNamed}
-use Rattle.usb_enum.specs.Reasons.{DescriptorRead, TextRead, BadDescriptor, bad_head, bad_front}
-use Rattle.usb_enum.specs.Reasons.{BadText, bad_total, bad_text, repeated, Because, CauseAllowed}
-use Rattle.usb_enum.specs.Reasons.{HubFails, no_descriptor, bad_descriptor, no_status, no_power}
-use Rattle.usb_enum.specs.Reasons.{CauseAllowedOfHub, CauseAllowedAtStart, PortFails, FaultBy}
-use Rattle.usb_enum.specs.Reasons.{IsSpokenTo, RefusedEarly, answered, not_enabled, CauseAllowedAt}
-use Rattle.usb_enum.specs.Reasons.{NoAnswerTold}
-use Rattle.usb_enum.specs.Stop.{CanFail, FaultAllowedAt, FaultAllowed, IsPlain, StopFaults}
-use Rattle.usb_enum.specs.Stop.{CauseAllowedIn, CauseAllowedWithout, answered_or, at_port, stop_of}
 use Rattle.usb_enum.proofs.courses.LastRequests.{leads_none, leads_then}
 use Rattle.usb_enum.proofs.refusals.Refusals.{answered_err, answered_ok}
 use Rattle.usb_enum.proofs.stops.ToldFailures.{clear_fails, plain_fits, read_fails, set_fails}
@@ -55,8 +43,7 @@ pub reading : {t : Target} {setup : Setup} {bytes : List ℕ} {old new : World}
 reading {t} {setup} {bytes} {old} {new} read = record {
   before = old;
   led = leads_none old;
-  read =
-      read;
+  read = read;
 }
 
 pub failing_after : {t : Target} {Is : Setup → Type 0} {why : PipeFault} {old mid new : World}
@@ -64,8 +51,7 @@ pub failing_after : {t : Target} {Is : Setup → Type 0} {why : PipeFault} {old 
 failing_after led ends = record {
   before = ends.before;
   led = leads_then led ends.led;
-  setup =
-      ends.setup;
+  setup = ends.setup;
   is = ends.is;
   failed = ends.failed;
 }
@@ -75,8 +61,7 @@ pub reading_after : {t : Target} {setup : Setup} {bytes : List ℕ} {old mid new
 reading_after led ends = record {
   before = ends.before;
   led = leads_then led ends.led;
-  read =
-      ends.read;
+  read = ends.read;
 }
 
 pub descriptor_after : {t : Target} {bytes : List ℕ} {old mid new : World} → Leads old mid
@@ -84,8 +69,7 @@ pub descriptor_after : {t : Target} {bytes : List ℕ} {old mid new : World} →
 descriptor_after led got = record {
   all = got.all;
   read = reading_after led got.read;
-  front =
-      got.front;
+  front = got.front;
 }
 
 pub text_after : {t : Target} {index : ℕ} {text : List ℕ} {old mid new : World} → Leads old mid
@@ -204,8 +188,7 @@ said_err (Err fault) size why other is = cc
 
 -- what it failed as
 abbrev StatusFails : Target → World → World → PipeFault → Type 0
-StatusFails t old new why = (answer : Result (Vec ℕ) PipeFault)
-    × (Reads t get_status old answer new
+StatusFails t old new why = (answer : Result (Vec ℕ) PipeFault) × (Reads t get_status old answer new
     × (said_in device_status get_status.length answer ≡ Err why))
 
 status_failed : (t : Target) (why : PipeFault) (old new : World) → why ≢ pipe.Stalled
@@ -363,8 +346,7 @@ fault_after port fault.ParentLost old mid new led by =
       led = leads_then led by.led;
       why = by.why;
       lost = by.lost;
-      failed =
-          by.failed;
+      failed = by.failed;
     }
 fault_after port (fault.Bus why) old mid new led by = by
 fault_after port fault.Memory old mid new led by = by
@@ -483,8 +465,7 @@ pub silent_after : {port : HubPort} {address : ℕ} {old mid new : World} → Le
 silent_after led told = record {
   target = told.target;
   is = told.is;
-  failed =
-      failing_after led told.failed;
+  failed = failing_after led told.failed;
 }
 
 early_plain : {port : HubPort} {address : ℕ} {old new : World} (why : Cause)

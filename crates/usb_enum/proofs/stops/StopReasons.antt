@@ -7,66 +7,38 @@ use Rattle.std.specs.Option.{option_or}
 use Rattle.std.specs.Prelude.{unwrap_or}
 use Rattle.std.proofs.lemmas.Bool.{eq-eqb}
 use Rattle.std.proofs.lemmas.Option.{same_Some}
-use Rattle.usb_request.specs.Features.{PORT_RESET, C_PORT_RESET}
-use Rattle.usb_port.specs.PortState.{PortState, is_attached, speed_of, reset}
-use Rattle.usb_port.specs.declared.status.PortStatus.{PortStatus}
-use Rattle.usb_request.specs.Requests.{set_address}
-use Rattle.usb_descriptor.specs.Device.{device_head_of}
-use Rattle.usb_port.specs.declared.call.PortCall.TheVariants.{SetReset}
-use Rattle.usb_port.specs.Calls.{set_call, clear_call, called_port}
-use Rattle.usb_device.specs.Rows.{State}
-use Rattle.usb_device.specs.Spec.{Spec, IsSpec}
-use Rattle.usb_device.specs.Tree.{Ports, ended, vacant, taken, reach, state_at, port_at, Location}
-use Rattle.usb_device.specs.Tree.{path_to, reach_on, state_on}
-use Rattle.usb_device.specs.View.{state_there, port_there}
-use Rattle.usb_world.specs.Addresses.{after_taking}
-use Rattle.usb_world.specs.Devices.{Relation, Was, EachWas}
-use Rattle.usb_tree.specs.Paths.{address_of, has_power, has_power_at, pending}
-use Rattle.usb_world.specs.Losses.{one_more}
-use Rattle.usb_tree.specs.AttemptPackets.{deep_at}
-use Rattle.usb_world.specs.RestingPorts.{UnchangedOrPending}
-use Rattle.usb_world.specs.SanePorts.{Consistent}
-use Rattle.usb_world.specs.World.{World}
+use Rattle.usb_request.specs.{PORT_RESET, C_PORT_RESET, set_address}
+use Rattle.usb_port.specs.{PortState, is_attached, speed_of, reset, PortStatus, SetReset, set_call}
+use Rattle.usb_port.specs.{clear_call, called_port}
+use Rattle.usb_descriptor.specs.{device_head_of}
+use Rattle.usb_device.specs.{State, Spec, IsSpec, Ports, ended, vacant, taken, reach, state_at}
+use Rattle.usb_device.specs.{port_at, Location, path_to, reach_on, state_on, state_there}
+use Rattle.usb_device.specs.{port_there}
+use Rattle.usb_world.specs.{after_taking, Relation, Was, EachWas, one_more, UnchangedOrPending}
+use Rattle.usb_world.specs.{Consistent, World}
+use Rattle.usb_tree.specs.{address_of, has_power, has_power_at, pending, deep_at}
 use Rattle.usb_world.proofs.Interface.{course_wider, pending_persists, rests_or_pends, sane_spec}
 use Rattle.usb_tree.proofs.Interface.{both, decided, false_true}
-use Rattle.usb_bus.specs.Traces.{StepRun}
+use Rattle.usb_bus.specs.{StepRun}
 use Rattle.usb_bus.proofs.Interface.{went_then}
-use Rattle.usb_transaction.specs.declared.target.Target.{Target}
-use Rattle.usb_transaction.specs.Failures.{Listens, NoThreeDamaged}
-use Rattle.usb_address.specs.Claims.{AddressMap}
-use Rattle.usb_address.specs.Ownership.{Enumerating, WhileBusWorks}
+use Rattle.usb_transaction.specs.{Target, Listens, NoThreeDamaged}
+use Rattle.usb_address.specs.{AddressMap, Enumerating, WhileBusWorks}
 use Rattle.usb_address.proofs.Interface.{speed_attached}
-use Rattle.usb_pipe.specs.declared.fault.PipeFault.{PipeFault}
+use Rattle.usb_pipe.specs.{PipeFault, WriteFailure, CanEnd, TookItOrLost, took, lost}
 use Rattle.usb_pipe.specs.declared.fault.PipeFault.TheVariants as pipe
-use Rattle.usb_hub.specs.declared.port.HubPort.{HubPort}
-use Rattle.usb_hub.specs.declared.port.HubPort.TheVariants.{Root, External}
-use Rattle.usb_hub.specs.Addresses.{IsAt}
-use Rattle.usb_hub.specs.Moments.{PortCallDone, PortStatusAt}
-use Rattle.usb_hub.specs.Requests.{Commanded}
-use Rattle.usb_hub.specs.Settings.{AddressAsked}
+use Rattle.usb_hub.specs.{HubPort, Root, External, IsAt, PortCallDone, PortStatusAt, Commanded}
+use Rattle.usb_hub.specs.{AddressAsked}
 use Rattle.usb_hub.proofs.Interface.{Called, StandsSo, done_stands}
-use Rattle.usb_pipe.specs.Failures.{WriteFailure}
-use Rattle.usb_pipe.specs.Leaves.{CanEnd, TookItOrLost, took, lost}
-use Rattle.usb_enum.specs.declared.cause.Cause.{Cause}
-use Rattle.usb_enum.specs.declared.cause.Cause.TheVariants.{Lost, Stalled}
+use Rattle.usb_enum.specs.{Cause, Lost, Stalled, EnumFault, Stop, IsSpare, AtPort, CalledAt}
+use Rattle.usb_enum.specs.{SettlesReset, StatusAt, IsUnaddressed, needs_pre, IsFairAt, PendingOr}
+use Rattle.usb_enum.specs.{StopsFor, StopsFairly, Missed, Misses, OnlyAsks, Hears, Explained}
+use Rattle.usb_enum.specs.{FailureReason, NoNewStretch, IsOccupied, IsReachedAt, AtPath, HasHead}
+use Rattle.usb_enum.specs.{AwaitsAddress, Awaits, WasReset, IsResponsive, IsRefusedFor, Refuses}
+use Rattle.usb_enum.specs.{no_fault, head_fault, early_fault, address_fault, device_fault}
+use Rattle.usb_enum.specs.{addressed_fault, NoDescriptor, RefusesDescriptor, stop_of, answered_or}
+use Rattle.usb_enum.specs.{StopFaults}
 use Rattle.usb_enum.specs.declared.cause.Request.TheVariants as request
-use Rattle.usb_enum.specs.declared.fault.EnumFault.{EnumFault}
-use Rattle.usb_enum.specs.declared.stop.Stop.{Stop}
 use Rattle.usb_enum.specs.declared.stop.Stop.TheVariants.{Refused, Fault}
-use Rattle.usb_enum.specs.Addresses.{IsSpare, AtPort}
-use Rattle.usb_enum.specs.Calls.{CalledAt, SettlesReset, StatusAt}
-use Rattle.usb_enum.specs.Device.{IsUnaddressed, needs_pre}
-use Rattle.usb_enum.specs.FairEnumerations.{IsFairAt, PendingOr, StopsFor, StopsFairly, Missed}
-use Rattle.usb_enum.specs.FairEnumerations.{Misses}
-use Rattle.usb_enum.specs.Frames.{OnlyAsks}
-use Rattle.usb_enum.specs.LearnedFacts.{Hears, Explained, FailureReason}
-use Rattle.usb_enum.specs.Losses.{NoNewStretch}
-use Rattle.usb_enum.specs.Places.{IsOccupied, IsReachedAt}
-use Rattle.usb_enum.specs.PresentDevices.{AtPath, HasHead, AwaitsAddress, Awaits, WasReset}
-use Rattle.usb_enum.specs.Refusals.{IsResponsive, IsRefusedFor, Refuses, no_fault, head_fault}
-use Rattle.usb_enum.specs.Refusals.{early_fault, address_fault, device_fault, addressed_fault}
-use Rattle.usb_enum.specs.Refusals.{NoDescriptor, RefusesDescriptor}
-use Rattle.usb_enum.specs.Stop.{stop_of, answered_or, StopFaults}
 use Rattle.usb_enum.proofs.courses.Courses.{regular_order, went_course, went_sound}
 use Rattle.usb_enum.proofs.devices.Enumerations.{having, at_taking, within_kept}
 use Rattle.usb_enum.proofs.courses.Fairness.{fair_before, fair_then, fair_single, faults_for_told}
@@ -442,8 +414,7 @@ module _ (port : HubPort) (address m n : ℕ) (target : Target)
             (so s.spot s.before v s.so (record {
               at = heard.at;
               loud = waits.head.loud;
-              hears =
-                  heard.hears;
+              hears = heard.hears;
             }) (sane_spec mid.roots s.spot.row s.spot.rest s.before
             (here.order sound).sane s.stands) waits)
 
@@ -626,8 +597,7 @@ module _ (port : HubPort) (address l m n : ℕ) (target : Target) {old mid given
         ap (λ k. k.worst) losses in
         record {
           run = omega (arith, x, y, run);
-          worst =
-              λ some. omega (arith, x, y, run, most, worst);
+          worst = λ some. omega (arith, x, y, run, most, worst);
         }
 
     pub pass_misses : Misses port address 1 old new
@@ -663,11 +633,7 @@ misses_none port address w = record {
   missed =
       λ f p fair held. inr (
         held,
-        record {
-          run = omega arith;
-          worst =
-              λ some. absurd (omega (arith, some));
-        },
+        record { run = omega arith; worst = λ some. absurd (omega (arith, some)) },
       );
 }
 

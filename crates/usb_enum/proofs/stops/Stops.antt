@@ -2,30 +2,21 @@
 use Rattle.std.proofs.Common.{◌≡◌, inl, inr, ℕ, ◌==◌, ◌&&◌, Bool, true, false, if◌then◌else◌, List}
 use Rattle.std.proofs.Common.{[], slice_index_or, Some, Result, Ok, Err, refl, sym, subst}
 use Rattle.std.specs.Prelude.{IfErr}
-use Rattle.usb_resources.specs.Pool.{Addresses, IsFree, IsFull}
-use Rattle.usb_world.specs.World.{World}
+use Rattle.usb_resources.specs.{Addresses, IsFree, IsFull}
+use Rattle.usb_world.specs.{World}
 use Rattle.usb_tree.proofs.Interface.{both, equal_same}
-use Rattle.usb_transaction.specs.declared.target.Target.{Target}
-use Rattle.usb_hub.specs.declared.port.HubPort.{HubPort}
-use Rattle.usb_enum.specs.declared.cause.Cause.{Cause}
+use Rattle.usb_transaction.specs.{Target}
+use Rattle.usb_hub.specs.{HubPort}
+use Rattle.usb_enum.specs.{Cause, EnumFault, Finding, Stop, LAST_TIER, fits_tier, is_hub_device}
+use Rattle.usb_enum.specs.{GivesUp, Leads, DescriptorRead, CauseAllowed, CauseAllowedAtStart}
+use Rattle.usb_enum.specs.{AllTexts, RefusedAs, by_answer, too_deep, bad_hub, StoppedAs}
+use Rattle.usb_enum.specs.{StopsDevice, FaultBy, IsSpokenTo, CauseAllowedAt, early, late}
+use Rattle.usb_enum.specs.{StopsAtPort, StoppedFor, StoppedWithout, HasReason, refused_for}
+use Rattle.usb_enum.specs.{refused_early, none_free, EndsFor, FaultAllowedAt, CauseAllowedIn}
+use Rattle.usb_enum.specs.{CauseAllowedWithout, CauseAllowedOfDevice, choice_of}
 use Rattle.usb_enum.specs.declared.cause.Cause.TheVariants as cause
-use Rattle.usb_enum.specs.declared.fault.EnumFault.{EnumFault}
-use Rattle.usb_enum.specs.declared.finding.Finding.{Finding}
 use Rattle.usb_enum.specs.declared.finding.Finding.TheVariants as finding
-use Rattle.usb_enum.specs.declared.stop.Stop.{Stop}
 use Rattle.usb_enum.specs.declared.stop.Stop.TheVariants.{Refused, Fault}
-use Rattle.usb_enum.specs.Device.{LAST_TIER, fits_tier, is_hub_device}
-use Rattle.usb_enum.specs.Findings.{GivesUp}
-use Rattle.usb_enum.specs.LastRequests.{Leads}
-use Rattle.usb_enum.specs.Reasons.{DescriptorRead, CauseAllowed, CauseAllowedAtStart, AllTexts}
-use Rattle.usb_enum.specs.Reasons.{RefusedAs, by_answer, too_deep, bad_hub, StoppedAs, StopsDevice}
-use Rattle.usb_enum.specs.Reasons.{FaultBy, IsSpokenTo, CauseAllowedAt, early, late, StopsAtPort}
-use Rattle.usb_enum.specs.Reasons.{StoppedFor}
-use Rattle.usb_enum.specs.Reasons.{StoppedWithout, HasReason, refused_for, refused_early, none_free}
-use Rattle.usb_enum.specs.Reasons.{EndsFor}
-use Rattle.usb_enum.specs.Stop.{FaultAllowedAt, CauseAllowedIn, CauseAllowedWithout}
-use Rattle.usb_enum.specs.Stop.{CauseAllowedOfDevice}
-use Rattle.usb_enum.specs.Text.{choice_of}
 use Rattle.usb_enum.proofs.ports.Hubs.{told_of_hub}
 use Rattle.usb_enum.proofs.courses.LastRequests.{leads_then}
 use Rattle.usb_enum.proofs.stops.Reasons.{because_after, because_plain, fault_after, fault_by}
@@ -141,8 +132,7 @@ pub early_stops : (port : HubPort) (address tier supply : ℕ) (stop : Stop) (ol
 early_stops port address tier supply stop old new told =
     record {
       fits = told_in tier stop port address old new told;
-      because =
-          early_for port address tier supply stop old new told;
+      because = early_for port address tier supply stop old new told;
     }
 
 -- The whole

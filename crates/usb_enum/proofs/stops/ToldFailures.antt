@@ -1,19 +1,15 @@
 -- What a failed call tells, in the words of the calls above it.
 use Rattle.std.proofs.Common.{ℕ, Result, Ok, Err, refl, sym, subst}
 use Rattle.std.specs.Prelude.{◌≡◌, IfErr, IsErr, IsErrAnd}
-use Rattle.usb_world.specs.World.{World}
-use Rattle.usb_port.specs.declared.status.PortStatus.{PortStatus}
-use Rattle.usb_pipe.specs.declared.fault.PipeFault.{PipeFault}
+use Rattle.usb_world.specs.{World}
+use Rattle.usb_port.specs.{PortStatus}
+use Rattle.usb_pipe.specs.{PipeFault, FaultAfter}
 use Rattle.usb_pipe.specs.declared.fault.PipeFault.TheVariants as pipe
-use Rattle.usb_pipe.specs.Control.{FaultAfter}
-use Rattle.usb_hub.specs.declared.port.HubPort.{HubPort}
-use Rattle.usb_hub.specs.declared.port.HubPort.TheVariants.{Root, External}
-use Rattle.usb_hub.specs.Port.{PortRead, PortSet, PortCleared}
-use Rattle.usb_enum.specs.declared.cause.Cause.{Cause}
+use Rattle.usb_hub.specs.{HubPort, Root, External, PortRead, PortSet, PortCleared}
+use Rattle.usb_enum.specs.{Cause, EnumFault, CanFail, FitsTier, IsPlain, FaultAllowedAt}
+use Rattle.usb_enum.specs.{FaultAllowed, at_port}
 use Rattle.usb_enum.specs.declared.cause.Cause.TheVariants as cause
-use Rattle.usb_enum.specs.declared.fault.EnumFault.{EnumFault}
 use Rattle.usb_enum.specs.declared.fault.EnumFault.TheVariants as fault
-use Rattle.usb_enum.specs.Stop.{CanFail, FitsTier, IsPlain, FaultAllowedAt, FaultAllowed, at_port}
 
 pub plain_fits : (tier : ℕ) (why : Cause) → IsPlain why → FitsTier tier why
 plain_fits tier cause.Silent plain = plain

@@ -5,17 +5,13 @@ use Rattle.std.proofs.Common.{take, slice_index_or, if◌then◌else◌, Option,
 use Rattle.std.proofs.Common.{refl, ap, sym, ◌∙◌}
 use Rattle.std.specs.Option.{option_or}
 use Rattle.std.proofs.lemmas.Option.{same_Some}
-use Rattle.usb_descriptor.specs.Device.{configuration_count}
-use Rattle.usb_device.specs.Spec.{Spec}
+use Rattle.usb_descriptor.specs.{configuration_count}
+use Rattle.usb_device.specs.{Spec}
 use Rattle.usb_tree.proofs.Interface.{decided}
-use Rattle.usb_enum.specs.declared.cause.Cause.{Cause}
-use Rattle.usb_enum.specs.declared.cause.Cause.TheVariants.{Stalled, TooDeep, NoPower, BadHub}
+use Rattle.usb_enum.specs.{Cause, Stalled, TooDeep, NoPower, BadHub, verdict, is_good_hub}
+use Rattle.usb_enum.specs.{texts_below, texts_of, first_fault, read_verdict, set_verdict, is_device}
+use Rattle.usb_enum.specs.{is_hub_device, chosen_fault, configured_fault, choice_of}
 use Rattle.usb_enum.specs.declared.cause.Request.TheVariants as request
-use Rattle.usb_enum.specs.Verdicts.{verdict, is_good_hub, texts_below, texts_of, first_fault}
-use Rattle.usb_enum.specs.Verdicts.{read_verdict, set_verdict}
-use Rattle.usb_enum.specs.Device.{is_device, is_hub_device}
-use Rattle.usb_enum.specs.Refusals.{chosen_fault, configured_fault}
-use Rattle.usb_enum.specs.Text.{choice_of}
 use Rattle.usb_enum.proofs.readings.Truths.{front_count, front_hub}
 use Rattle.usb_enum.proofs.verdicts.VerdictRows.{GaveHead, GaveDevice, rows_after, row_too_deep}
 

@@ -7,13 +7,11 @@ use Rattle.usb_descriptor.specs.Hub as hub
 use Rattle.usb_descriptor.specs.Item as item
 use Rattle.usb_descriptor.specs.Text as string
 use Rattle.usb_descriptor.specs.Words as words
-use Rattle.usb_device.specs.Spec.{Spec, function, usual_hub, no_stalls}
-use Rattle.usb_enum.specs.declared.cause.Cause.TheVariants.{Silent, Busy, Stalled, BadDevice}
-use Rattle.usb_enum.specs.declared.cause.Cause.TheVariants.{TooDeep, BadConfiguration, NoPower}
-use Rattle.usb_enum.specs.declared.cause.Cause.TheVariants.{BadHub}
+use Rattle.usb_device.specs.{Spec, function, usual_hub, no_stalls}
+use Rattle.usb_enum.specs.{Silent, Busy, Stalled, BadDevice, TooDeep, BadConfiguration, NoPower}
+use Rattle.usb_enum.specs.{BadHub, verdict, first_fault, config_fault, text_read, string_at}
 use Rattle.usb_enum.specs.declared.cause.Request.TheVariants as request
 use Rattle.usb_enum.specs.Text as text
-use Rattle.usb_enum.specs.Verdicts.{verdict, first_fault, config_fault, text_read, string_at}
 
 -- a device descriptor of a class, with its product string and so many configurations
 abbrev pub device_bytes : ℕ → ℕ → ℕ → List ℕ
@@ -75,8 +73,7 @@ pub record Examples : Type 0 where
       ≡ Err (Stalled request.Device)
   pub bad_head : verdict (record small { descriptor = 18 ∷ 1 ∷ [] }) 2 500 ≡ Err BadDevice
   pub stalled_address : verdict (record unconfigured {
-    stalls =
-        record no_stalls { address = true };
+    stalls = record no_stalls { address = true };
   }) 2 500 ≡ Err (Stalled request.Address)
   pub bad_device : verdict unconfigured 2 500 ≡ Err BadDevice
   pub too_deep : verdict two_ports 7 500 ≡ Err TooDeep
@@ -125,16 +122,13 @@ examples =
 
 -- string 0 names a language, and string 1 is read; without string 0 it is not
 product : string_at (record small {
-  strings =
-      (4 ∷ 3 ∷ 9 ∷ 4 ∷ []) ∷ (8 ∷ 3 ∷ 65 ∷ 0 ∷ 34 ∷ 0 ∷ 10 ∷ 0 ∷ []) ∷ [];
-}) 1
-    ≡ Some (65 ∷ 34 ∷ 10 ∷ [])
+  strings = (4 ∷ 3 ∷ 9 ∷ 4 ∷ []) ∷ (8 ∷ 3 ∷ 65 ∷ 0 ∷ 34 ∷ 0 ∷ 10 ∷ 0 ∷ []) ∷ [];
+}) 1 ≡ Some (65 ∷ 34 ∷ 10 ∷ [])
 unfolding string_at string.string_of words.words_of
 product = refl
 
 no_language : string_at (record small {
-  strings =
-      (2 ∷ 3 ∷ []) ∷ (8 ∷ 3 ∷ 65 ∷ 0 ∷ 34 ∷ 0 ∷ 10 ∷ 0 ∷ []) ∷ [];
+  strings = (2 ∷ 3 ∷ []) ∷ (8 ∷ 3 ∷ 65 ∷ 0 ∷ 34 ∷ 0 ∷ 10 ∷ 0 ∷ []) ∷ [];
 }) 1 ≡ None
 unfolding string_at string.string_of words.words_of
 no_language = refl

@@ -4,14 +4,11 @@ use Rattle.std.proofs.Common.{false, [], take, slice_index_or, None, Some, Err, 
 use Rattle.std.proofs.Common.{sym, ◌∙◌, arith}
 use Rattle.std.specs.Option.{option_or}
 use Rattle.std.proofs.lemmas.Bool.{cases_order}
-use Rattle.usb_descriptor.specs.Device.{device_head_of, configuration_count}
-use Rattle.usb_device.specs.Spec.{Spec}
-use Rattle.usb_enum.specs.declared.cause.Cause.{Cause}
-use Rattle.usb_enum.specs.declared.cause.Cause.TheVariants.{Silent, TooDeep}
-use Rattle.usb_enum.specs.Device.{is_device, is_hub_device}
-use Rattle.usb_enum.specs.Text.{choice_of}
-use Rattle.usb_enum.specs.Verdicts.{verdict, is_good_hub, texts_of, config_fault, first_fault}
-use Rattle.usb_enum.specs.Verdicts.{read_verdict, set_verdict}
+use Rattle.usb_descriptor.specs.{device_head_of, configuration_count}
+use Rattle.usb_device.specs.{Spec}
+use Rattle.usb_enum.specs.{Cause, Silent, TooDeep, is_device, is_hub_device, choice_of, verdict}
+use Rattle.usb_enum.specs.{is_good_hub, texts_of, config_fault, first_fault, read_verdict}
+use Rattle.usb_enum.specs.{set_verdict}
 
 -- it answers with the head of a device descriptor
 pub record GaveHead (spec : Spec) : Type 0 where

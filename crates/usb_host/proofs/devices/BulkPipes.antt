@@ -4,45 +4,26 @@ use Rattle.std.proofs.Common.{◌≡◌, ◌⊎◌, inl, inr, refl, sym, ap, sub
 use Rattle.std.proofs.Common.{List, Option, None, Some, option_map, Result}
 use Rattle.std.specs.BTreeMap.{is_at}
 use Rattle.arrayvec.specs.ArrayVec.{ArrayVec}
-use Rattle.usb_port.specs.Order.{path_cmp}
-use Rattle.usb_device.specs.Bulk.{rested}
-use Rattle.usb_device.specs.Rows.{State}
-use Rattle.usb_device.specs.Tree.{reach}
-use Rattle.usb_device.specs.View.{state_there}
-use Rattle.usb_world.specs.Devices.{Was, EachWas}
-use Rattle.usb_tree.specs.Paths.{address_of, is_way}
-use Rattle.usb_world.specs.Steps.{AnyStep, Course, after, event, here}
-use Rattle.usb_world.specs.World.{World}
+use Rattle.usb_port.specs.{path_cmp}
+use Rattle.usb_device.specs.{rested, State, reach, state_there}
+use Rattle.usb_world.specs.{Was, EachWas, AnyStep, Course, after, event, here, World}
+use Rattle.usb_tree.specs.{address_of, is_way}
 use Rattle.usb_world.proofs.Interface.{course_joined, each_wider, way_itself}
 use Rattle.usb_tree.proofs.Interface.{decided}
-use Rattle.usb_address.specs.Ownership.{MapHolds}
-use Rattle.usb_pipe.specs.declared.fault.PipeFault.{PipeFault}
-use Rattle.usb_hub.specs.Addresses.{StaysAs, EachElsewhere, KeepsDevices}
-use Rattle.usb_enum.specs.declared.cause.Cause.{Cause}
-use Rattle.usb_enum.specs.declared.finding.Accepted.{Accepted}
-use Rattle.usb_enum.specs.declared.finding.Finding.{Finding}
+use Rattle.usb_address.specs.{MapHolds}
+use Rattle.usb_pipe.specs.{PipeFault}
+use Rattle.usb_hub.specs.{StaysAs, EachElsewhere, KeepsDevices}
+use Rattle.usb_enum.specs.{Cause, Accepted, Finding}
 use Rattle.usb_enum.specs.declared.finding.Finding.TheVariants.{Device, Refused}
 use Rattle.usb_enum.proofs.Interface.{went_course, went_sound}
-use Rattle.usb_table.specs.declared.pipes.Pipes.{Pipes}
-use Rattle.usb_table.specs.declared.pipes.Pipes.TheVariants.{Hub, Function, Absent}
-use Rattle.usb_table.specs.Deliveries.{pipe_out, pipe_in}
-use Rattle.usb_table.specs.Entries.{Entries, has_at, without}
-use Rattle.usb_table.specs.Findings.{accepted_device_of, accepted_device_at}
-use Rattle.usb_table.specs.Keys.{address_in}
-use Rattle.usb_table.specs.KnownPorts.{is_below_hub}
-use Rattle.usb_table.specs.Levels.{SparesBulk}
-use Rattle.usb_table.specs.Listing.{finding_at}
-use Rattle.usb_table.specs.Pipes.{new_pipes, new_pipes_to}
-use Rattle.usb_table.specs.Table.{Table, GoesThrough, entered, pipes_at}
-use Rattle.usb_table.specs.Transfers.{PipesPolled}
+use Rattle.usb_table.specs.{Pipes, Hub, Function, Absent, pipe_out, pipe_in, Entries, has_at}
+use Rattle.usb_table.specs.{without, accepted_device_of, accepted_device_at, address_in}
+use Rattle.usb_table.specs.{is_below_hub, SparesBulk, finding_at, new_pipes, new_pipes_to, Table}
+use Rattle.usb_table.specs.{GoesThrough, entered, pipes_at, PipesPolled}
 use Rattle.usb_table.proofs.Interface.{path_tied, pipes_at-entered, pipes_at-entered_elsewhere}
 use Rattle.usb_table.proofs.Interface.{spares-same, spares-stage, spares-then}
-use Rattle.usb_host.specs.BulkPipes.{SameBulk, EndpointsStayed, EndpointsBegan, StayedAt, RenewedAt}
-use Rattle.usb_host.specs.BulkPipes.{KeepsBulk}
-use Rattle.usb_host.specs.HostState.{HostState}
-use Rattle.usb_host.specs.Ownership.{claims}
-use Rattle.usb_host.specs.Progress.{HostSteps, OnlyBusSteps}
-use Rattle.usb_host.specs.Transfers.{table_in}
+use Rattle.usb_host.specs.{SameBulk, EndpointsStayed, EndpointsBegan, StayedAt, RenewedAt}
+use Rattle.usb_host.specs.{KeepsBulk, HostState, claims, HostSteps, OnlyBusSteps, table_in}
 use Rattle.usb_host.proofs.entries.Agreements.{lookup-insert_entry_elsewhere}
 use Rattle.usb_host.proofs.entries.EntryClaims.{lookup-insert_entry_here}
 use Rattle.usb_host.proofs.parts.Events.{event_same}
@@ -75,8 +56,7 @@ began_on path w v began stayed x s is on stands =
     let fresh : (was.before.bulk_out ≡ rested) × (was.before.bulk_in ≡ rested) =
     began x was.before is was.on was.stands in (
       ap (λ (t : State). t.bulk_out) was.so ∙ fresh.0,
-      ap (λ (t : State). t.bulk_in) was.so
-          ∙ fresh.1,
+      ap (λ (t : State). t.bulk_in) was.so ∙ fresh.1,
     )
 
 stayed_none : (path : List ℕ) (w v : World) → v ≡ w → EndpointsStayed path w v
@@ -300,8 +280,7 @@ module _ (first : List ℕ) (f : Finding) (a b : HostState)
   pub bulk_entered : Course AnyStep a.world b.world → MapHolds (claims a.entries) a.world
       → ((device : Accepted) → f ≡ Device device → EndpointsBegan first b.world) → KeepsBulk a b
   bulk_entered course held began = record {
-    each =
-        λ path device at. pick path device at (is_at (path_cmp path) first) refl;
+    each = λ path device at. pick path device at (is_at (path_cmp path) first) refl;
   }
     where
       found : (device : Accepted) → f ≡ Device device → RenewedAt first device a b
@@ -337,8 +316,7 @@ bulk_none h = record {
       (record {
         listed = at;
         pipes = record { out = refl; into = refl };
-        endpoints =
-            stayed_none path h.world h.world refl;
+        endpoints = stayed_none path h.world h.world refl;
       });
 }
 
@@ -378,8 +356,7 @@ module _ (a b c : HostState) (first : Course AnyStep a.world b.world)
 
   bulk_joins : KeepsBulk a b → KeepsBulk b c → KeepsBulk a c
   bulk_joins x y = record {
-    each = λ path device at. part_then x path device
-        (y.each path device at);
+    each = λ path device at. part_then x path device (y.each path device at);
   }
 
 -- as long as the bus is at work
@@ -393,8 +370,7 @@ bulk_then m n a b c first second still =
 pub bulk_stopped : (a b : HostState) (stopped : Bool) → KeepsBulk a b
     → KeepsBulk a (record b { stopped = stopped })
 bulk_stopped a b stopped x = record {
-  each =
-      λ path device at. pick path device (x.each path device at);
+  each = λ path device at. pick path device (x.each path device at);
 }
   where
     pick : (path : List ℕ) (device : Accepted) → StayedAt path device a b
@@ -403,8 +379,7 @@ bulk_stopped a b stopped x = record {
     pick path device (inl y) = inl (record {
       listed = y.listed;
       pipes = y.pipes;
-      endpoints =
-          y.endpoints;
+      endpoints = y.endpoints;
     })
     pick path device (inr y) = inr (record {
       moment = y.moment;

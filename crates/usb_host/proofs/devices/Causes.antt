@@ -3,60 +3,34 @@ use Rattle.std.proofs.Common.{◌≡◌, ◌⊎◌, inl, inr, ◌≤◌, refl, s
 use Rattle.std.proofs.Common.{List, [], ◌∷◌, ◌++◌, length, Option, None, Some, Result, Ok, Err}
 use Rattle.std.specs.Prelude.{⊤, IsSomeAnd, IfErr}
 use Rattle.std.specs.BTreeMap.{insert_entry}
-use Rattle.usb_port.specs.Order.{path_cmp, parent_of, port_on_hub}
-use Rattle.usb_request.specs.Features.{PORT_ENABLE}
+use Rattle.usb_port.specs.{path_cmp, parent_of, port_on_hub, PortStatus, ClearEnable, clear_call}
+use Rattle.usb_request.specs.{PORT_ENABLE}
 use Rattle.usb_port.proofs.Interface.{rejoined}
-use Rattle.usb_port.specs.declared.status.PortStatus.{PortStatus}
-use Rattle.usb_device.specs.Spec.{Spec}
-use Rattle.usb_port.specs.declared.call.PortCall.TheVariants.{ClearEnable}
-use Rattle.usb_port.specs.Calls.{clear_call}
-use Rattle.usb_tree.specs.Paths.{is_way, pending}
-use Rattle.usb_world.specs.World.{World}
+use Rattle.usb_device.specs.{Spec}
+use Rattle.usb_tree.specs.{is_way, pending}
+use Rattle.usb_world.specs.{World}
 use Rattle.usb_world.proofs.Interface.{course_wider, way_apart, way_parent}
 use Rattle.usb_tree.proofs.Interface.{decided}
-use Rattle.usb_address.specs.Ownership.{KeepsAddresses}
-use Rattle.usb_pipe.specs.declared.fault.PipeFault.{PipeFault}
+use Rattle.usb_address.specs.{KeepsAddresses}
+use Rattle.usb_pipe.specs.{PipeFault, FaultAfter, IsNoBusFault}
 use Rattle.usb_pipe.specs.declared.fault.PipeFault.TheVariants as pipe
-use Rattle.usb_pipe.specs.Control.{FaultAfter}
-use Rattle.usb_pipe.specs.Leaves.{IsNoBusFault}
-use Rattle.usb_hub.specs.CallFailures.{NoHubFailed}
-use Rattle.usb_transaction.specs.declared.target.Target.{Target}
-use Rattle.usb_hub.specs.declared.port.HubPort.{HubPort}
-use Rattle.usb_hub.specs.declared.port.HubPort.TheVariants.{Root, External}
-use Rattle.usb_hub.specs.Addresses.{IsAt, KeepsDevices}
-use Rattle.usb_hub.specs.Moments.{CommandsPort}
-use Rattle.usb_hub.specs.Port.{PortCleared}
-use Rattle.usb_hub.specs.Requests.{TouchesNoPort}
-use Rattle.usb_resources.specs.Pool.{IsFull}
-use Rattle.usb_enum.specs.declared.cause.Cause.TheVariants.{Lost}
-use Rattle.usb_enum.specs.declared.fault.EnumFault.{EnumFault}
-use Rattle.usb_enum.specs.declared.fault.EnumFault.TheVariants.{ParentLost, Bus, Memory}
-use Rattle.usb_enum.specs.declared.finding.Finding.{Finding}
+use Rattle.usb_hub.specs.{NoHubFailed, HubPort, Root, External, IsAt, KeepsDevices, CommandsPort}
+use Rattle.usb_hub.specs.{PortCleared, TouchesNoPort}
+use Rattle.usb_transaction.specs.{Target}
+use Rattle.usb_resources.specs.{IsFull}
+use Rattle.usb_enum.specs.{Lost, EnumFault, ParentLost, Bus, Memory, Finding, IsRight, HasServer}
+use Rattle.usb_enum.specs.{ServesAt, Enumerates, IsFair, IsKnownAs, FaultAllowedAt}
 use Rattle.usb_enum.specs.declared.finding.Finding.TheVariants.{Refused}
-use Rattle.usb_enum.specs.Verdicts.{IsRight}
-use Rattle.usb_enum.specs.FairEnumerations.{HasServer, ServesAt}
-use Rattle.usb_enum.specs.Findings.{Enumerates, IsFair}
-use Rattle.usb_enum.specs.Places.{IsKnownAs}
-use Rattle.usb_enum.specs.Stop.{FaultAllowedAt}
 use Rattle.usb_enum.proofs.Interface.{pends_there, went_sound}
-use Rattle.usb_table.specs.declared.known.KnownPort.{KnownPort}
-use Rattle.usb_table.specs.Entries.{Entries, has_at, without}
-use Rattle.usb_table.specs.Table.{Table, entered, pipes_at}
-use Rattle.usb_table.specs.KnownPorts.{port_below, IsAskable}
-use Rattle.usb_table.specs.Listing.{finding_at, tier_of}
+use Rattle.usb_table.specs.{KnownPort, Entries, has_at, without, Table, entered, pipes_at}
+use Rattle.usb_table.specs.{port_below, IsAskable, finding_at, tier_of}
 use Rattle.usb_host.specs.Accounts.{Accounts}
-use Rattle.usb_host.specs.Agreement.{Agrees}
-use Rattle.usb_backlog.specs.Marks.{KeepsAll}
-use Rattle.usb_host.specs.PortHandling.{RestElsewhere, IsLost, HoldsAt, Watches, Tidies}
-use Rattle.usb_host.specs.PortHandling.{ClearsChange, IsOpen, PortCaused, FindsSound, Disabled}
-use Rattle.usb_host.specs.PortHandling.{Climbs}
-use Rattle.usb_host.specs.HostState.{HostState}
-use Rattle.usb_host.specs.Ownership.{claims, KeepsPort, DropsHub}
-use Rattle.usb_host.specs.Ports.{StandsAt}
-use Rattle.usb_host.specs.Progress.{HostSteps, OnlyBusSteps}
-use Rattle.usb_host.specs.Transfers.{table_in}
-use Rattle.usb_host.specs.Soundness.{known_supply, RefusalsJustified, CausesBut, IsJustifiedAt}
-use Rattle.usb_host.specs.Soundness.{IsFairTo, HostInvariant, IsSoundBut, IsDroppable, DropsSound}
+use Rattle.usb_host.specs.{Agrees, RestElsewhere, IsLost, HoldsAt, Watches, Tidies, ClearsChange}
+use Rattle.usb_host.specs.{IsOpen, PortCaused, FindsSound, Disabled, Climbs, HostState, claims}
+use Rattle.usb_host.specs.{KeepsPort, DropsHub, StandsAt, HostSteps, OnlyBusSteps, table_in}
+use Rattle.usb_host.specs.{known_supply, RefusalsJustified, CausesBut, IsJustifiedAt, IsFairTo}
+use Rattle.usb_host.specs.{HostInvariant, IsSoundBut, IsDroppable, DropsSound}
+use Rattle.usb_backlog.specs.{KeepsAll}
 use Rattle.usb_host.proofs.devices.BulkPipes.{AllStay, bulk_stays, stay_forgotten, stay_joined}
 use Rattle.usb_host.proofs.devices.BulkPipes.{stay_refused, stay_rests}
 use Rattle.usb_host.proofs.entries.EntryClaims.{lookup-insert_entry_here}
@@ -417,8 +391,7 @@ module _ (n : ℕ) (path : List ℕ) (port : KnownPort) (a b : HostState) (s : S
       → pending a.world.roots path ≡ true → CausesBut path a.world a.entries → Disabled true path b
   told_caused calls pends caused =
       let o = claimed n path port a b s r went addresses devices d in (
-        pends_there path ClearEnable a.world b.world refl
-            (calls.done o.claims path ClearEnable
+        pends_there path ClearEnable a.world b.world refl (calls.done o.claims path ClearEnable
             (is_call n path port a b s r went addresses devices d) refl) pends,
         causes_rests_but n a b r went s.agrees fair.still path (told_rests (Ok tt) calls tt) d.but
             caused,

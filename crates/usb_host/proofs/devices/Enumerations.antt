@@ -1,13 +1,10 @@
 -- What requests to a port and an enumeration take at most.
 use Rattle.std.proofs.Common.{◌≡◌}
-use Rattle.usb_hub.specs.Port.{status_bound}
-use Rattle.usb_hub.specs.declared.port.HubPort.{HubPort}
-use Rattle.usb_hub.specs.declared.port.HubPort.TheVariants.{Root, External}
-use Rattle.usb_enum.specs.Bounds.{IsWide, enumeration_bound, widest_enumeration, read_bound}
+use Rattle.usb_hub.specs.{status_bound, HubPort, Root, External}
+use Rattle.usb_enum.specs.{IsWide, enumeration_bound, widest_enumeration, read_bound}
 use Rattle.usb_enum.proofs.Interface.{enumeration_most, status_most}
-use Rattle.usb_table.specs.KnownPorts.{IsAskable}
-use Rattle.usb_host.specs.HostState.{HostState}
-use Rattle.usb_host.specs.Progress.{HostSteps, HostRuns}
+use Rattle.usb_table.specs.{IsAskable}
+use Rattle.usb_host.specs.{HostState, HostSteps, HostRuns}
 use Rattle.usb_host.proofs.StepSums.{goes_by}
 
 pub askable_wide : (port : HubPort) → IsAskable port → IsWide port

@@ -1,10 +1,10 @@
 -- Where damage is fair up to the end of a call, it is so up to each part of the call, and from
 -- there on.
 use Rattle.std.proofs.Common.{List, Option, ℕ}
-use Rattle.usb_world.specs.World.{World}
-use Rattle.usb_bus.specs.Traces.{StepRun}
+use Rattle.usb_world.specs.{World}
+use Rattle.usb_bus.specs.{StepRun}
 use Rattle.usb_enum.proofs.Interface.{few_before, went_course, went_sound, went_three}
-use Rattle.usb_host.specs.Soundness.{IsFairTo}
+use Rattle.usb_host.specs.{IsFairTo}
 
 module _ (n : ℕ) (old mid new : World) {t s : Option (List ℕ)} where
   -- up to a part
@@ -12,8 +12,7 @@ module _ (n : ℕ) (old mid new : World) {t s : Option (List ℕ)} where
   fair_before went f = record {
     still = went_sound n mid new went f.still;
     few = f.few;
-    kept =
-        few_before (went_course n mid new went f.still) f.kept;
+    kept = few_before (went_course n mid new went f.still) f.kept;
   }
 
   -- from there on
@@ -21,6 +20,5 @@ module _ (n : ℕ) (old mid new : World) {t s : Option (List ℕ)} where
   fair_after went f = record {
     still = f.still;
     few = went_three n old mid went f.few;
-    kept =
-        f.kept;
+    kept = f.kept;
   }

@@ -4,34 +4,22 @@ use Rattle.std.proofs.Common.{true, false, List, [], ◌∷◌, Option, None, So
 use Rattle.std.specs.Prelude.{unwrap_or}
 use Rattle.std.specs.Map.{lookup, remove_entry}
 use Rattle.std.specs.BTreeMap.{is_at}
-use Rattle.usb_port.specs.Order.{path_cmp}
-use Rattle.usb_device.specs.Rows.{State}
-use Rattle.usb_device.specs.Tree.{reach}
-use Rattle.usb_device.specs.View.{state_there}
-use Rattle.usb_tree.specs.Paths.{is_way}
-use Rattle.usb_world.specs.SanePorts.{Consistent}
-use Rattle.usb_world.specs.World.{World}
+use Rattle.usb_port.specs.{path_cmp}
+use Rattle.usb_device.specs.{State, reach, state_there}
+use Rattle.usb_tree.specs.{is_way}
+use Rattle.usb_world.specs.{Consistent, World}
 use Rattle.usb_world.proofs.Interface.{at_or_below_way}
 use Rattle.usb_tree.proofs.Interface.{decided, false_true}
-use Rattle.usb_hub.specs.Addresses.{StaysAs, EachElsewhere, KeepsDevices}
-use Rattle.usb_enum.specs.declared.cause.Cause.{Cause}
-use Rattle.usb_enum.specs.declared.finding.Accepted.{Accepted}
-use Rattle.usb_enum.specs.declared.finding.Finding.{Finding}
+use Rattle.usb_hub.specs.{StaysAs, EachElsewhere, KeepsDevices}
+use Rattle.usb_enum.specs.{Cause, Accepted, Finding, IsOwn}
 use Rattle.usb_enum.specs.declared.finding.Finding.TheVariants.{Device, Refused}
-use Rattle.usb_enum.specs.Findings.{IsOwn}
 use Rattle.usb_enum.proofs.Interface.{ruled_there}
-use Rattle.usb_table.specs.declared.pipes.Pipes.{Pipes}
-use Rattle.usb_table.specs.declared.pipes.Pipes.TheVariants.{Absent}
-use Rattle.usb_table.specs.Entries.{Entries, has_at, is_at_or_below, without}
-use Rattle.usb_table.specs.Findings.{accepted_device_of}
-use Rattle.usb_table.specs.Levels.{AllInSync, PipesInSync, InSyncAt}
-use Rattle.usb_table.specs.Listing.{finding_at}
-use Rattle.usb_table.specs.Table.{Table, TakesOut, entered, pipes_at}
+use Rattle.usb_table.specs.{Pipes, Absent, Entries, has_at, is_at_or_below, without}
+use Rattle.usb_table.specs.{accepted_device_of, AllInSync, PipesInSync, InSyncAt, finding_at, Table}
+use Rattle.usb_table.specs.{TakesOut, entered, pipes_at}
 use Rattle.usb_table.proofs.Interface.{level_beside, level_elsewhere, level_entered, level_stays}
 use Rattle.usb_table.proofs.Interface.{path_tied}
-use Rattle.usb_host.specs.HostState.{HostState}
-use Rattle.usb_host.specs.Progress.{OnlyBusSteps}
-use Rattle.usb_host.specs.Transfers.{table_in}
+use Rattle.usb_host.specs.{HostState, OnlyBusSteps, table_in}
 use Rattle.usb_host.proofs.entries.Agreements.{lookup-without}
 use Rattle.usb_host.proofs.knowledge.Places.{finding-none}
 
@@ -90,8 +78,7 @@ pipes_apart q path finding old new t away =
 none_level : (path : List ℕ) (t : Table) (w : World) → finding_at path t.entries ≡ None
     → InSyncAt path t w
 none_level path t w none = record {
-  level =
-      λ device s at on stands. absurd (cc (ap accepted_device_of none, at));
+  level = λ device s at on stands. absurd (cc (ap accepted_device_of none, at));
 }
 
 -- what stood at a path is forgotten

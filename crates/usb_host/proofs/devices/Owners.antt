@@ -3,27 +3,21 @@
 use Rattle.std.proofs.Common.{◌≡◌, ◌∙◌, refl, sym, ap, subst, arith, length-append, Bool, true}
 use Rattle.std.proofs.Common.{false, ℕ, ◌+◌, List, [], ◌∷◌, length, Option, None, Some, Result, Ok}
 use Rattle.std.proofs.Common.{Err, is_err, if◌then◌else◌}
-use Rattle.usb_device.specs.Tree.{reach}
-use Rattle.usb_world.specs.declared.types.BusFault.{BusFault}
-use Rattle.usb_tree.specs.Paths.{is_way}
-use Rattle.usb_world.specs.World.{World, roots_of}
+use Rattle.usb_device.specs.{reach}
+use Rattle.usb_world.specs.{BusFault, World, roots_of}
+use Rattle.usb_tree.specs.{is_way}
 use Rattle.usb_world.proofs.Interface.{way_apart, way_shorter}
-use Rattle.usb_address.specs.Claims.{AddressMap, map_without}
-use Rattle.usb_address.specs.Ownership.{MapHolds, MapHoldsExcept, WhileBusWorks, KeepsAddresses}
+use Rattle.usb_address.specs.{AddressMap, map_without, MapHolds, MapHoldsExcept, WhileBusWorks}
+use Rattle.usb_address.specs.{KeepsAddresses}
 use Rattle.usb_address.proofs.Interface.{bared, owned_as}
-use Rattle.usb_hub.specs.declared.port.HubPort.{HubPort}
-use Rattle.usb_hub.specs.declared.port.HubPort.TheVariants.{Root, External}
-use Rattle.usb_hub.specs.Addresses.{IsAt, Isolates}
-use Rattle.usb_enum.specs.declared.cause.Cause.{Cause}
+use Rattle.usb_hub.specs.{HubPort, Root, External, IsAt, Isolates}
+use Rattle.usb_enum.specs.{Cause}
 use Rattle.usb_enum.specs.declared.finding.Finding.TheVariants.{Refused}
 use Rattle.std.specs.BTreeMap.{insert_entry}
-use Rattle.usb_port.specs.Order.{path_cmp}
-use Rattle.usb_table.specs.Entries.{Entries, has_at, without}
-use Rattle.usb_host.specs.HostState.{HostState}
-use Rattle.usb_host.specs.Ownership.{claims, IsOwned, IsIsolated, HostMapHolds, StaysOwned}
-use Rattle.usb_host.specs.Ownership.{StaysSingle, KeepsOwned}
-use Rattle.usb_host.specs.declared.fault.HostFault.{HostFault}
-use Rattle.usb_host.specs.declared.host.Round.{Round}
+use Rattle.usb_port.specs.{path_cmp}
+use Rattle.usb_table.specs.{Entries, has_at, without}
+use Rattle.usb_host.specs.{HostState, claims, IsOwned, IsIsolated, HostMapHolds, StaysOwned}
+use Rattle.usb_host.specs.{StaysSingle, KeepsOwned, HostFault, Round}
 use Rattle.usb_host.proofs.entries.EntryClaims.{claims-without, claims-refused}
 use Rattle.usb_host.proofs.entries.Roots.{rooted_kept}
 
@@ -45,13 +39,11 @@ opened_by p f w t None is =
     record {
       claims = o.claims;
       owned = record { so = λ none. o.owned; single = t.single };
-      others =
-          o.others;
+      others = o.others;
     }
 opened_by p f w t (Some fault) is = record {
   claims = f;
-  owned =
-      record { so = λ none. absurd (cc (none, is)); single = t.single };
+  owned = record { so = λ none. absurd (cc (none, is)); single = t.single };
   others = λ x away. refl;
 }
 
@@ -62,11 +54,7 @@ opened_if_owned p f w t = opened_by p f w t w.fault refl
 opened_closed : (p : List ℕ) (f : AddressMap) (w : World) → Opened p f w
     → WhileBusWorks (MapHoldsExcept p f) w
 opened_closed p f w o = record {
-  so = λ none. record {
-    claims = o.claims;
-    owned = o.owned.so none;
-    others = o.others;
-  };
+  so = λ none. record { claims = o.claims; owned = o.owned.so none; others = o.others };
   single = o.owned.single;
 }
 
@@ -81,8 +69,7 @@ but_kept p f old new k t =
     opened_closed p f new (record {
       claims = o.claims;
       owned = k.kept o.claims o.owned;
-      others =
-          o.others;
+      others = o.others;
     })
 
 -- nor of what is further above
@@ -93,8 +80,7 @@ but_above p q f w on t =
     opened_closed p f w (record {
       claims = o.claims;
       owned = o.owned;
-      others =
-          λ x away. o.others x (way_apart p q x on away);
+      others = λ x away. o.others x (way_apart p q x on away);
     })
 
 -- Nothing is reachable at a path or below it
@@ -124,8 +110,7 @@ at_others f g (External hub port) p others at =
       is_path = at.is_path;
       number = at.number;
       path = at.path;
-      held =
-          others at.hub away ∙ at.held;
+      held = others at.hub away ∙ at.held;
     }
 
 pub bare_port : (port : HubPort) (p : List ℕ) (f : AddressMap) (old new : World)
@@ -142,8 +127,7 @@ bare_none p f w none t =
     let o = opened_if_owned p f w t in
     bare_as p f w w o (record {
       so = λ h. bared o.claims p w none (o.owned.so h);
-      single =
-          t.single;
+      single = t.single;
     })
 
 -- The table follows
@@ -194,8 +178,7 @@ stays_owned_none h = record { stays = λ o. o; rooted = λ r. r }
 pub stays_owned_then : (a b c : HostState) → StaysOwned a b → StaysOwned b c → StaysOwned a c
 stays_owned_then a b c p q = record {
   stays = λ o. q.stays (p.stays o);
-  rooted =
-      λ r. q.rooted (p.rooted r);
+  rooted = λ r. q.rooted (p.rooted r);
 }
 
 pub single_then : (a b c : HostState) → StaysOwned a b → StaysSingle b c → StaysSingle a c
@@ -218,7 +201,6 @@ round_owning (Ok done) a b c going world entries stops k o =
     }
 round_owning (Err fault) a b c going world entries stops k o =
     record {
-      single = subst (λ (w : World). w.shared ≡ false) (sym world)
-          (k.single (o.owned going));
+      single = subst (λ (w : World). w.shared ≡ false) (sym world) (k.single (o.owned going));
       owned = λ on. absurd (cc (on, stops));
     }

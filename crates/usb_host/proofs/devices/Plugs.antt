@@ -10,48 +10,29 @@ use Rattle.std.specs.Ordering.{match_ordering}
 use Rattle.std.proofs.lemmas.Bool.{eq-eqb}
 use Rattle.std.proofs.lemmas.List.Sums.{sum_by-cons}
 use Rattle.std.proofs.lemmas.Map.Steps.{le-length_from_below}
-use Rattle.usb_port.specs.Order.{path_cmp}
-use Rattle.usb_port.specs.PortState.{is_attached}
-use Rattle.usb_port.specs.declared.call.PortCall.{PortCall}
-use Rattle.usb_port.specs.declared.call.PortCall.TheVariants.{ClearConnectionChange, ClearEnable}
-use Rattle.usb_port.specs.declared.status.PortStatus.{PortStatus}
-use Rattle.usb_resources.specs.Pool.{IsFull}
-use Rattle.usb_device.specs.Rows.{State}
-use Rattle.usb_device.specs.View.{state_there}
-use Rattle.usb_world.specs.declared.event.Action.{Action}
+use Rattle.usb_port.specs.{path_cmp, is_attached, PortCall, ClearConnectionChange, ClearEnable}
+use Rattle.usb_port.specs.{PortStatus}
+use Rattle.usb_resources.specs.{IsFull}
+use Rattle.usb_device.specs.{State, state_there}
+use Rattle.usb_world.specs.{Action, Plug, Unplug, Event, AtPorts, spec_of, PlanData, IsPlan}
+use Rattle.usb_world.specs.{PluggedMap, device_indexed, index_at, plugged_after, plugged_by}
+use Rattle.usb_world.specs.{plugged_without, AnyStep, Course, opening, World}
 use Rattle.usb_world.specs.declared.event.Action.TheVariants.{Change, Ask}
-use Rattle.usb_world.specs.declared.event.Change.TheVariants.{Plug, Unplug}
-use Rattle.usb_world.specs.declared.event.Event.{Event}
-use Rattle.usb_tree.specs.Paths.{is_way}
-use Rattle.usb_world.specs.PlanCourses.{AtPorts, spec_of}
-use Rattle.usb_world.specs.PlanData.{PlanData, IsPlan}
-use Rattle.usb_world.specs.PluggedDevices.{PluggedMap, device_indexed, index_at, plugged_after}
-use Rattle.usb_world.specs.PluggedDevices.{plugged_by, plugged_without}
-use Rattle.usb_world.specs.Steps.{AnyStep, Course, opening}
-use Rattle.usb_world.specs.World.{World}
+use Rattle.usb_tree.specs.{is_way}
 use Rattle.usb_world.proofs.Interface.{course_joined, course_taken, course_then, course_wider}
 use Rattle.usb_world.proofs.Interface.{devices_left, way_itself}
 use Rattle.usb_tree.proofs.Interface.{both, decided, or_left, or_right}
 use Rattle.usb_address.proofs.Interface.{attached_there}
-use Rattle.usb_hub.specs.Moments.{PortCallDone, PortStatusAt}
-use Rattle.usb_enum.specs.declared.cause.Cause.TheVariants.{Lost, NoAddress}
-use Rattle.usb_enum.specs.declared.finding.Accepted.{Accepted}
-use Rattle.usb_enum.specs.declared.finding.Finding.{Finding}
+use Rattle.usb_hub.specs.{PortCallDone, PortStatusAt}
+use Rattle.usb_enum.specs.{Lost, NoAddress, Accepted, Finding, IsOrderly}
 use Rattle.usb_enum.specs.declared.finding.Finding.TheVariants.{Device, Refused}
-use Rattle.usb_enum.specs.PresentDevices.{IsOrderly}
 use Rattle.usb_enum.proofs.Interface.{orderly_on, went_course, went_sound}
-use Rattle.usb_table.specs.Entries.{Entries, has_at, without}
-use Rattle.usb_table.specs.Findings.{accepted_device_at, accepted_device_of}
-use Rattle.usb_table.specs.Keys.{address_in}
-use Rattle.usb_table.specs.Listing.{entry_address, finding_at}
+use Rattle.usb_table.specs.{Entries, has_at, without, accepted_device_at, accepted_device_of}
+use Rattle.usb_table.specs.{address_in, entry_address, finding_at}
 use Rattle.usb_table.proofs.Interface.{path_tied}
-use Rattle.usb_host.specs.Agreement.{Agrees}
-use Rattle.usb_host.specs.HostState.{HostState}
-use Rattle.usb_host.specs.Ownership.{HasLost}
-use Rattle.usb_host.specs.Plugs.{HasPlugs, KeepsPlugs, PlugsAt, WasPlugged, is_plug, plug_events}
-use Rattle.usb_host.specs.Ports.{EntersOne}
-use Rattle.usb_host.specs.Progress.{HostSteps, OnlyBusSteps}
-use Rattle.usb_host.specs.Service.{ClearsAndReads, DoneWhere}
+use Rattle.usb_host.specs.{Agrees, HostState, HasLost, HasPlugs, KeepsPlugs, PlugsAt, WasPlugged}
+use Rattle.usb_host.specs.{is_plug, plug_events, EntersOne, HostSteps, OnlyBusSteps, ClearsAndReads}
+use Rattle.usb_host.specs.{DoneWhere}
 use Rattle.usb_host.proofs.entries.Agreements.{lookup-insert_entry_elsewhere}
 use Rattle.usb_host.proofs.entries.Balances.{accounts_listed, one_when}
 use Rattle.usb_host.proofs.devices.BulkPipes.{accepted_device_of-some}
@@ -374,8 +355,7 @@ plugs_lost hub a b onward lost plan is paths course =
         (path_tied p lost.path tie) at in
         inr (cc (
           here,
-          lookup-insert_entry_here lost.path (Refused Lost)
-              (without lost.path a.entries),
+          lookup-insert_entry_here lost.path (Refused Lost) (without lost.path a.entries),
         ))
     pick p f false apart at =
         inl (was_listed lost.path p a.entries f

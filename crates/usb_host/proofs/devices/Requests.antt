@@ -1,49 +1,31 @@
 -- What requests to a port keep, as the host tells of them.
-use Rattle.usb_device.specs.Tree.{path_to}
+use Rattle.usb_device.specs.{path_to, port_there}
 use Rattle.std.proofs.Common.{◌≡◌, inl, inr, refl, sym, ap, subst, ◌∙◌, ℕ, true, false, List, []}
 use Rattle.std.proofs.Common.{◌∷◌, ◌++◌, Option, None, Some, Result, Ok, Err}
 use Rattle.std.specs.Prelude.{IfOk, OnOk}
 use Rattle.std.specs.Global.{Vec}
-use Rattle.usb_request.specs.Features.{PORT_ENABLE, C_PORT_CONNECTION, C_PORT_ENABLE, C_PORT_RESET}
-use Rattle.usb_port.specs.declared.status.PortStatus.{PortStatus}
-use Rattle.usb_port.specs.Status.{status_in}
-use Rattle.usb_port.specs.declared.call.PortCall.{PortCall}
-use Rattle.usb_port.specs.declared.call.PortCall.TheVariants.{ClearEnable, ClearConnectionChange}
-use Rattle.usb_port.specs.declared.call.PortCall.TheVariants.{ClearResetChange}
-use Rattle.usb_port.specs.Calls.{clear_call, is_reset}
-use Rattle.usb_backlog.specs.PortSettings.{gives_power}
-use Rattle.usb_device.specs.View.{port_there}
-use Rattle.usb_tree.specs.Paths.{pending}
-use Rattle.usb_world.specs.Steps.{here}
-use Rattle.usb_world.specs.World.{World}
+use Rattle.usb_request.specs.{PORT_ENABLE, C_PORT_CONNECTION, C_PORT_ENABLE, C_PORT_RESET}
+use Rattle.usb_port.specs.{PortStatus, status_in, PortCall, ClearEnable, ClearConnectionChange}
+use Rattle.usb_port.specs.{ClearResetChange, clear_call, is_reset}
+use Rattle.usb_backlog.specs.{gives_power, KeepsAll}
+use Rattle.usb_tree.specs.{pending}
+use Rattle.usb_world.specs.{here, World}
 use Rattle.usb_world.proofs.Interface.{course_joined, course_wider, pending_persists}
-use Rattle.usb_bus.specs.Traces.{StepRun}
-use Rattle.usb_address.specs.Claims.{AddressMap}
-use Rattle.usb_address.specs.Ownership.{MapHolds, WhileBusWorks, KeepsAddresses}
+use Rattle.usb_bus.specs.{StepRun}
+use Rattle.usb_address.specs.{AddressMap, MapHolds, WhileBusWorks, KeepsAddresses}
 use Rattle.usb_address.proofs.Interface.{keeps_none, keeps_then, live_port}
-use Rattle.usb_transaction.specs.Failures.{NoThreeDamaged}
-use Rattle.usb_pipe.specs.declared.fault.PipeFault.{PipeFault}
+use Rattle.usb_transaction.specs.{NoThreeDamaged}
+use Rattle.usb_pipe.specs.{PipeFault, IsNoBusFault}
 use Rattle.usb_pipe.specs.declared.fault.PipeFault.TheVariants as pipe
-use Rattle.usb_pipe.specs.Leaves.{IsNoBusFault}
-use Rattle.usb_hub.specs.declared.port.HubPort.{HubPort}
-use Rattle.usb_hub.specs.declared.port.HubPort.TheVariants.{Root, External}
-use Rattle.usb_hub.specs.Addresses.{IsAt, KeepsDevices, KeepsAsked, KeepsCleared}
-use Rattle.usb_hub.specs.Moments.{ReadsPort, CommandsPort, IsCall}
-use Rattle.usb_hub.specs.Port.{PortRead}
-use Rattle.usb_hub.specs.Requests.{TouchesNoPort, said_in}
-use Rattle.usb_hub.specs.CallFailures.{NoHubFailed}
+use Rattle.usb_hub.specs.{HubPort, Root, External, IsAt, KeepsDevices, KeepsAsked, KeepsCleared}
+use Rattle.usb_hub.specs.{ReadsPort, CommandsPort, IsCall, PortRead, TouchesNoPort, said_in}
+use Rattle.usb_hub.specs.{NoHubFailed}
 use Rattle.usb_hub.proofs.Interface.{keeps_devices_none}
-use Rattle.usb_backlog.specs.Marks.{KeepsAll}
 use Rattle.usb_backlog.proofs.Interface.{all_none, all_then}
-use Rattle.usb_enum.specs.declared.fault.EnumFault.{EnumFault}
-use Rattle.usb_enum.specs.declared.fault.EnumFault.TheVariants.{ParentLost}
-use Rattle.usb_enum.specs.Stop.{CanFail, fault_at_port, at_port}
-use Rattle.usb_enum.specs.PresentDevices.{IsInOrder}
+use Rattle.usb_enum.specs.{EnumFault, ParentLost, CanFail, fault_at_port, at_port, IsInOrder}
 use Rattle.usb_enum.proofs.Interface.{devices_then, went_in_order, went_sound, went_three}
-use Rattle.usb_host.specs.PortHandling.{LetsGoOn, RestElsewhere, HasWay, IsLost, Watches, Tidies}
-use Rattle.usb_host.specs.PortHandling.{ClearsChange, Decides}
-use Rattle.usb_host.specs.Ownership.{BaresPort}
-use Rattle.usb_host.specs.Backlog.{ClearsReset, ClearsConnection}
+use Rattle.usb_host.specs.{LetsGoOn, RestElsewhere, HasWay, IsLost, Watches, Tidies, ClearsChange}
+use Rattle.usb_host.specs.{Decides, BaresPort, ClearsReset, ClearsConnection}
 use Rattle.usb_host.proofs.payments.Backlogs.{call_all, connection_done, reset_done}
 use Rattle.usb_host.proofs.rests.Clearings.{cleared_way, told_decides, decided_stays}
 use Rattle.usb_host.proofs.OwnedPorts.{bares_after}
@@ -284,8 +266,7 @@ module _ (port : HubPort) (m n : ℕ) (old mid new : World) {t s r q : Option (L
         at = at;
         is = refl;
         alone = λ resets. absurd (cc resets);
-        owned =
-            owned;
+        owned = owned;
       }
 
       bares_kept : (result : Result PortStatus EnumFault) → BaresPort port mid result new
@@ -320,8 +301,7 @@ module _ (port : HubPort) (m n : ℕ) (old mid new : World) {t s r q : Option (L
         at = at;
         is = refl;
         alone = λ resets. absurd (cc resets);
-        owned =
-            asked.keeps.kept f owned;
+        owned = asked.keeps.kept f owned;
       }
 
       goes_by : (result : Result (Unit {0}) PipeFault) → LetsGoOn (disabled_so status result)
@@ -414,8 +394,7 @@ resets_done port old mid new first calls f p at owned =
     (calls.done f p ClearResetChange (record {
       at = at;
       is = refl;
-      alone =
-          λ resets. absurd (cc resets);
+      alone = λ resets. absurd (cc resets);
       owned = first.addresses.kept f owned;
     }) refl)
 
@@ -428,8 +407,7 @@ module _ (port : HubPort) (old mid asked_at : World) (status : PortStatus)
     at = at;
     is = refl;
     alone = λ resets. absurd (cc resets);
-    owned =
-        owned;
+    owned = owned;
   }
 
   pub changes_done : (new : World) → KeepsAll asked_at new → ClearsConnection port status old new
@@ -450,7 +428,6 @@ module _ (port : HubPort) (old mid asked_at : World) (status : PortStatus)
       (disables.backlog f p ClearEnable (record {
         at = at;
         is = refl;
-        alone =
-            λ resets. absurd (cc resets);
+        alone = λ resets. absurd (cc resets);
         owned = kept.kept f (k.kept f owned);
       }) tt))

@@ -10,16 +10,14 @@ use Rattle.std.specs.Cmp.Lexicographic.{pointwise, same_text, texts_ties}
 use Rattle.std.specs.declared.cmp.Ordering.{Ordering}
 use Rattle.std.specs.declared.cmp.Ordering.TheVariants.{Less, Equal, Greater}
 use Rattle.std.proofs.lemmas.Map.Entries.{lookup-filter-keys}
-use Rattle.usb_port.specs.Order.{path_cmp, is_below, parent_of, port_on_hub}
-use Rattle.usb_port.specs.Path.{IsPath}
+use Rattle.usb_port.specs.{path_cmp, is_below, parent_of, port_on_hub, IsPath}
 use Rattle.usb_port.proofs.Interface.{is_below-extension, rejoined}
-use Rattle.usb_enum.specs.declared.finding.Finding.{Finding}
-use Rattle.usb_table.specs.Entries.{Entries, has_at, is_at_or_below, without}
-use Rattle.usb_table.specs.declared.known.KnownPort.{KnownPort}
-use Rattle.usb_table.specs.KnownPorts.{known_port, port_below, port_found, is_below_hub}
+use Rattle.usb_enum.specs.{Finding}
+use Rattle.usb_table.specs.{Entries, has_at, is_at_or_below, without, KnownPort, known_port}
+use Rattle.usb_table.specs.{port_below, port_found, is_below_hub}
 use Rattle.usb_table.proofs.Interface.{path_tied}
 use Rattle.usb_tree.proofs.Interface.{neither}
-use Rattle.usb_host.specs.Agreement.{Nested}
+use Rattle.usb_host.specs.{Nested}
 
 -- what goes on from a path's hub goes on from the path too
 under : (q hub path rest : List ℕ) → parent_of q ≡ Some hub → hub ≡ path ++ rest

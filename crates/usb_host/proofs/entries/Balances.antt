@@ -13,20 +13,16 @@ use Rattle.std.specs.declared.cmp.Ordering.TheVariants.{Less, Equal, Greater}
 use Rattle.std.specs.FinSet.{empty, contains, contains-empty}
 use Rattle.std.proofs.lemmas.Bool.{eq-eqb, ne_eqb, eqb-true, eqb-false, cases_order}
 use Rattle.std.proofs.lemmas.List.Sums.{sum_by-cons}
-use Rattle.usb_port.specs.Order.{path_cmp}
-use Rattle.usb_resources.specs.Pool.{Addresses, IsAddress, IsFull, IsTaken, HasAddresses}
-use Rattle.usb_enum.specs.declared.finding.Finding.{Finding}
+use Rattle.usb_port.specs.{path_cmp}
+use Rattle.usb_resources.specs.{Addresses, IsAddress, IsFull, IsTaken, HasAddresses}
+use Rattle.usb_enum.specs.{Finding, TakesFor}
 use Rattle.usb_enum.specs.declared.finding.Finding.TheVariants.{Device, Refused}
-use Rattle.usb_table.specs.Findings.{has_address, address_found}
-use Rattle.usb_table.specs.Keys.{address_in}
-use Rattle.usb_table.specs.Listing.{entry_address}
+use Rattle.usb_table.specs.{has_address, address_found, address_in, entry_address, Entries, Rises}
+use Rattle.usb_table.specs.{has_at, is_at_or_below, Table, TakesOut}
 use Rattle.usb_table.proofs.Interface.{path_itself, path_tied}
 use Rattle.usb_tree.proofs.Interface.{neither}
 use Rattle.usb_host.specs.Accounts.{Accounts}
-use Rattle.usb_table.specs.Entries.{Entries, Rises, has_at, is_at_or_below}
-use Rattle.usb_table.specs.Table.{Table, TakesOut}
-use Rattle.usb_enum.specs.Findings.{TakesFor}
-use Rattle.usb_host.specs.HostState.{Frees}
+use Rattle.usb_host.specs.{Frees}
 
 unfoldable pub one_when : Bool → ℕ
 one_when b = cond b 1 0

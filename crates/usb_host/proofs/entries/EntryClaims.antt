@@ -6,24 +6,20 @@ use Rattle.std.specs.BTreeMap.{is_at, insert_entry}
 use Rattle.std.specs.Ordering.{match_ordering}
 use Rattle.std.specs.declared.cmp.Ordering.{Ordering}
 use Rattle.std.specs.declared.cmp.Ordering.TheVariants.{Less, Equal, Greater}
-use Rattle.usb_port.specs.Order.{path_cmp}
-use Rattle.usb_resources.specs.Pool.{Addresses, IsTaken}
-use Rattle.usb_world.specs.Addresses.{after_taking}
-use Rattle.usb_world.specs.Courses.{Injective}
-use Rattle.usb_tree.specs.Paths.{is_way, same_path}
+use Rattle.usb_port.specs.{path_cmp}
+use Rattle.usb_resources.specs.{Addresses, IsTaken}
+use Rattle.usb_world.specs.{after_taking, Injective}
+use Rattle.usb_tree.specs.{is_way, same_path}
 use Rattle.usb_world.proofs.Interface.{at_or_below_way, same_is, way_itself}
 use Rattle.usb_tree.proofs.Interface.{self_path}
-use Rattle.usb_address.specs.Claims.{Free, map_without}
-use Rattle.usb_enum.specs.declared.cause.Cause.{Cause}
-use Rattle.usb_enum.specs.declared.finding.Accepted.{Accepted}
-use Rattle.usb_enum.specs.declared.finding.Finding.{Finding}
+use Rattle.usb_address.specs.{Free, map_without}
+use Rattle.usb_enum.specs.{Cause, Accepted, Finding}
 use Rattle.usb_enum.specs.declared.finding.Finding.TheVariants.{Device, Refused}
-use Rattle.usb_table.specs.Entries.{Entries, has_at, is_at_or_below, without}
-use Rattle.usb_table.specs.Findings.{address_found, has_address}
-use Rattle.usb_table.specs.Keys.{address_in}
+use Rattle.usb_table.specs.{Entries, has_at, is_at_or_below, without, address_found, has_address}
+use Rattle.usb_table.specs.{address_in}
 use Rattle.usb_table.proofs.Interface.{has_its, path_itself, path_tied}
 use Rattle.usb_host.specs.Accounts.{Accounts}
-use Rattle.usb_host.specs.Ownership.{claims}
+use Rattle.usb_host.specs.{claims}
 use Rattle.usb_host.proofs.entries.Agreements.{lookup-without, lookup-insert_entry_elsewhere}
 use Rattle.usb_host.proofs.entries.Balances.{accounts_once, accounts_taken}
 

@@ -8,19 +8,13 @@ use Rattle.std.specs.Ordering.{match_ordering}
 use Rattle.std.specs.declared.cmp.Ordering.{Ordering}
 use Rattle.std.specs.declared.cmp.Ordering.TheVariants.{Less, Equal, Greater}
 use Rattle.std.proofs.lemmas.List.Sums.{sum_by-cons}
-use Rattle.usb_port.specs.Order.{path_cmp}
-use Rattle.usb_tree.specs.Paths.{is_way}
-use Rattle.usb_enum.specs.declared.cause.Cause.TheVariants.{Lost}
-use Rattle.usb_enum.specs.declared.finding.Finding.{Finding}
+use Rattle.usb_port.specs.{path_cmp}
+use Rattle.usb_tree.specs.{is_way}
+use Rattle.usb_enum.specs.{Lost, Finding, HubFacts}
 use Rattle.usb_enum.specs.declared.finding.Finding.TheVariants.{Device, Refused}
-use Rattle.usb_enum.specs.declared.hub.HubFacts.{HubFacts}
-use Rattle.usb_table.specs.Entries.{Entries, is_at_or_below, without}
-use Rattle.usb_table.specs.Findings.{is_hub}
-use Rattle.usb_table.specs.Listing.{finding_at, hub_facts_at, hub_facts_in}
-use Rattle.usb_host.specs.Backlog.{FindsNone, hubs}
-use Rattle.usb_host.specs.HostState.{HostState}
-use Rattle.usb_host.specs.Ports.{EntersOne}
-use Rattle.usb_host.specs.Progress.{HostSteps, OnlyBusSteps}
+use Rattle.usb_table.specs.{Entries, is_at_or_below, without, is_hub, finding_at, hub_facts_at}
+use Rattle.usb_table.specs.{hub_facts_in}
+use Rattle.usb_host.specs.{FindsNone, hubs, HostState, EntersOne, HostSteps, OnlyBusSteps}
 use Rattle.usb_host.proofs.entries.Balances.{one_when-most, one_when}
 use Rattle.usb_world.proofs.Interface.{at_or_below_way}
 use Rattle.usb_table.proofs.Interface.{path_tied}

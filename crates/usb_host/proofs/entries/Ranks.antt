@@ -3,10 +3,9 @@ use Rattle.std.proofs.Common.{◌≡◌, refl, arith, ℕ, ◌+◌, ◌*◌, ◌
 use Rattle.std.specs.Prelude.{IfSome, ◌^◌}
 use Rattle.std.proofs.Math.Nat.{mul-le-mul_right}
 use Rattle.std.proofs.lemmas.Nat.{row_fits}
-use Rattle.usb_port.specs.Path.{IsPath}
-use Rattle.usb_port.specs.Order.{rank_of}
+use Rattle.usb_port.specs.{IsPath, rank_of}
 use Rattle.usb_port.proofs.Interface.{bound, rank_of-less}
-use Rattle.usb_table.specs.NextEntries.{ComesAfter}
+use Rattle.usb_table.specs.{ComesAfter}
 
 -- how many paths are at most as far as the last one
 abbrev pub rank_after : Option (List ℕ) → ℕ

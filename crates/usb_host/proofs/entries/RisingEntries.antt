@@ -12,9 +12,9 @@ use Rattle.std.specs.declared.cmp.Ordering.TheVariants.{Less, Equal, Greater}
 use Rattle.std.proofs.lemmas.List.Elements.{All-from_recursion, recursion_from_All}
 use Rattle.std.proofs.lemmas.List.Kept.{IsStrictlySortedBy-filter}
 use Rattle.std.proofs.lemmas.Map.Views.{All-keys-insert_entry}
-use Rattle.usb_port.specs.Order.{path_cmp}
-use Rattle.usb_enum.specs.declared.finding.Finding.{Finding}
-use Rattle.usb_table.specs.Entries.{Entries, Rises, is_at_or_below, without}
+use Rattle.usb_port.specs.{path_cmp}
+use Rattle.usb_enum.specs.{Finding}
+use Rattle.usb_table.specs.{Entries, Rises, is_at_or_below, without}
 
 pub rises_none : Rises []
 unfolding IsStrictlySortedBy

@@ -3,27 +3,20 @@ use Rattle.std.proofs.Common.{◌≡◌, refl, sym, ap, subst, ℕ, ◌≤◌, B
 use Rattle.std.proofs.Common.{◌∷◌, ◌++◌, length, Option, None, Some, Result, Ok, Err, arith}
 use Rattle.std.specs.Prelude.{IsSome, OnOk, IsErr}
 use Rattle.std.specs.BTreeMap.{is_at, insert_entry}
-use Rattle.usb_port.specs.Order.{path_cmp, parent_of, port_on_hub}
+use Rattle.usb_port.specs.{path_cmp, parent_of, port_on_hub}
 use Rattle.usb_port.proofs.Interface.{rejoined}
-use Rattle.usb_tree.specs.Paths.{is_way}
-use Rattle.usb_world.specs.World.{World, roots_of}
+use Rattle.usb_tree.specs.{is_way}
+use Rattle.usb_world.specs.{World, roots_of}
 use Rattle.usb_world.proofs.Interface.{way_rest}
 use Rattle.usb_tree.proofs.Interface.{false_true}
-use Rattle.usb_hub.specs.declared.port.HubPort.TheVariants.{Root}
-use Rattle.usb_hub.specs.Port.{IsPort}
-use Rattle.usb_enum.specs.declared.cause.Cause.TheVariants.{NoAddress}
-use Rattle.usb_enum.specs.declared.finding.Finding.{Finding}
+use Rattle.usb_hub.specs.{Root, IsPort}
+use Rattle.usb_enum.specs.{NoAddress, Finding}
 use Rattle.usb_enum.specs.declared.finding.Finding.TheVariants.{Refused}
-use Rattle.usb_table.specs.declared.known.KnownPort.{KnownPort}
-use Rattle.usb_table.specs.Entries.{Entries, without, is_at_or_below}
-use Rattle.usb_table.specs.KnownPorts.{known_port, root_port, port_below, is_below_hub}
-use Rattle.usb_table.specs.Listing.{finding_at}
+use Rattle.usb_table.specs.{KnownPort, Entries, without, is_at_or_below, known_port, root_port}
+use Rattle.usb_table.specs.{port_below, is_below_hub, finding_at}
 use Rattle.usb_table.proofs.Interface.{path_tied, port_found-some}
-use Rattle.usb_host.specs.Agreement.{Agrees, Nested}
-use Rattle.usb_host.specs.HostState.{HostState, opening_host}
-use Rattle.usb_host.specs.Ownership.{IsRooted, root_of}
-use Rattle.usb_host.specs.Ports.{StandsAt, StandsNowhere, Waits}
-use Rattle.usb_host.specs.Soundness.{Accounted}
+use Rattle.usb_host.specs.{Agrees, Nested, HostState, opening_host, IsRooted, root_of, StandsAt}
+use Rattle.usb_host.specs.{StandsNowhere, Waits, Accounted}
 use Rattle.usb_host.proofs.entries.Agreements.{lookup-without, lookup-insert_entry_elsewhere}
 use Rattle.usb_host.proofs.PortLocations.{root_alone}
 

@@ -9,11 +9,10 @@ use Rattle.std.specs.Cmp.Lexicographic.{pointwise, same_text, texts_ties}
 use Rattle.std.specs.declared.cmp.Ordering.{Ordering}
 use Rattle.std.specs.declared.cmp.Ordering.TheVariants.{Less, Equal, Greater}
 use Rattle.std.proofs.lemmas.List.Sums.{sum_by-cons}
-use Rattle.usb_port.specs.Order.{path_cmp}
-use Rattle.usb_enum.specs.declared.finding.Finding.{Finding}
-use Rattle.usb_table.specs.Entries.{Entries, is_at_or_below, without}
-use Rattle.usb_table.specs.Findings.{is_waiting}
-use Rattle.usb_host.specs.Progress.{waiting}
+use Rattle.usb_port.specs.{path_cmp}
+use Rattle.usb_enum.specs.{Finding}
+use Rattle.usb_table.specs.{Entries, is_at_or_below, without, is_waiting}
+use Rattle.usb_host.specs.{waiting}
 use Rattle.usb_host.proofs.entries.Balances.{one_when-most, one_when}
 
 waiting-cons : (e : List ℕ × Finding) (es : Entries)

@@ -3,48 +3,30 @@ use Rattle.std.proofs.Common.{◌≡◌, ◌≤◌, refl, sym, ap, subst, ◌∙
 use Rattle.std.proofs.Common.{List, length, Option, None, Some, Result, Ok, Err}
 use Rattle.std.specs.Prelude.{IsSome, IsSomeAnd, IfOk, IsErr}
 use Rattle.std.specs.BTreeMap.{insert_entry}
-use Rattle.usb_port.specs.Order.{path_cmp, parent_of, port_on_hub}
-use Rattle.usb_port.specs.declared.call.PortCall.TheVariants.{ClearEnable}
-use Rattle.usb_port.specs.Calls.{clear_call}
-use Rattle.usb_request.specs.Features.{PORT_ENABLE}
-use Rattle.usb_tree.specs.Paths.{is_way, pending}
-use Rattle.usb_enum.specs.PresentDevices.{IsOrderly}
-use Rattle.usb_world.specs.World.{World, roots_of}
-use Rattle.usb_bus.specs.Traces.{StepRun}
-use Rattle.usb_address.specs.Ownership.{KeepsAddresses}
-use Rattle.usb_pipe.specs.declared.fault.PipeFault.{PipeFault}
+use Rattle.usb_port.specs.{path_cmp, parent_of, port_on_hub, ClearEnable, clear_call}
+use Rattle.usb_request.specs.{PORT_ENABLE}
+use Rattle.usb_tree.specs.{is_way, pending}
+use Rattle.usb_enum.specs.{IsOrderly, Lost, Finding}
+use Rattle.usb_world.specs.{World, roots_of}
+use Rattle.usb_bus.specs.{StepRun}
+use Rattle.usb_address.specs.{KeepsAddresses}
+use Rattle.usb_pipe.specs.{PipeFault, FaultAfter, IsNoBusFault}
 use Rattle.usb_pipe.specs.declared.fault.PipeFault.TheVariants as pipe
-use Rattle.usb_pipe.specs.Control.{FaultAfter}
-use Rattle.usb_pipe.specs.Leaves.{IsNoBusFault}
-use Rattle.usb_backlog.specs.Marks.{KeepsAll}
-use Rattle.usb_hub.specs.Addresses.{KeepsDevices}
-use Rattle.usb_hub.specs.Moments.{CommandsPort, IsCall}
-use Rattle.usb_hub.specs.Port.{PortCleared}
-use Rattle.usb_enum.specs.declared.cause.Cause.TheVariants.{Lost}
-use Rattle.usb_enum.specs.declared.finding.Finding.{Finding}
+use Rattle.usb_backlog.specs.{KeepsAll}
+use Rattle.usb_hub.specs.{KeepsDevices, CommandsPort, IsCall, PortCleared}
 use Rattle.usb_enum.specs.declared.finding.Finding.TheVariants.{Refused}
 use Rattle.usb_enum.proofs.Interface.{disabled_known, went_sound}
-use Rattle.usb_table.specs.declared.known.KnownPort.{KnownPort}
-use Rattle.usb_table.specs.Entries.{has_at, without}
-use Rattle.usb_table.specs.Findings.{accepted_device_of}
-use Rattle.usb_table.specs.KnownPorts.{known_port, port_below}
-use Rattle.usb_table.specs.Listing.{finding_at}
-use Rattle.usb_host.specs.PortHandling.{IsDroppedAt, Disabled, DisablesOnWay}
-use Rattle.usb_host.specs.HostState.{HostState}
-use Rattle.usb_host.specs.Ownership.{claims, DropsHub, root_of}
-use Rattle.usb_host.specs.Ports.{StandsAt, StandsNowhere}
-use Rattle.usb_host.specs.Progress.{HostSteps, OnlyBusSteps}
-use Rattle.usb_host.specs.Soundness.{HostInvariant, IsSoundBut, IsDroppable, IsFairTo, CausesBut}
-use Rattle.usb_host.specs.Soundness.{PortsListed, KnownBut, DevicesAccurate}
-use Rattle.usb_host.specs.declared.fault.HostFault.{HostFault}
+use Rattle.usb_table.specs.{KnownPort, has_at, without, accepted_device_of, known_port, port_below}
+use Rattle.usb_table.specs.{finding_at, AllInSync, Table, entered, pipes_at}
+use Rattle.usb_host.specs.{IsDroppedAt, Disabled, DisablesOnWay, HostState, claims, DropsHub}
+use Rattle.usb_host.specs.{root_of, StandsAt, StandsNowhere, HostSteps, OnlyBusSteps, HostInvariant}
+use Rattle.usb_host.specs.{IsSoundBut, IsDroppable, IsFairTo, CausesBut, PortsListed, KnownBut}
+use Rattle.usb_host.specs.{DevicesAccurate, HostFault, table_in}
 use Rattle.usb_host.proofs.payments.Backlogs.{call_all}
 use Rattle.usb_host.proofs.entries.EntryClaims.{lookup-insert_entry_here}
 use Rattle.usb_host.proofs.devices.Fairness.{fair_before, fair_after}
 use Rattle.usb_host.proofs.OwnedPorts.{root_done}
 use Rattle.usb_host.proofs.devices.Owners.{Opened, opened_if_owned, at_others}
-use Rattle.usb_table.specs.Levels.{AllInSync}
-use Rattle.usb_table.specs.Table.{Table, entered, pipes_at}
-use Rattle.usb_host.specs.Transfers.{table_in}
 use Rattle.usb_host.proofs.devices.LevelPipes.{level_forgotten, level_refused}
 use Rattle.usb_host.proofs.knowledge.Places.{known_dropped, known_found, truthful_dropped}
 use Rattle.usb_host.proofs.knowledge.Places.{truthful_found}

@@ -1,14 +1,9 @@
 -- A port was served, and where its hub is lost, that was dropped: what is known stays so.
 use Rattle.std.proofs.Common.{ℕ, List, Result, Ok, Err}
-use Rattle.usb_enum.specs.declared.fault.EnumFault.{EnumFault}
-use Rattle.usb_enum.specs.declared.fault.EnumFault.TheVariants.{ParentLost, Bus, Memory}
+use Rattle.usb_enum.specs.{EnumFault, ParentLost, Bus, Memory}
 use Rattle.usb_enum.proofs.Interface.{went_sound}
-use Rattle.usb_host.specs.PortHandling.{LetsGoOn, ServesSound, DropsLost}
-use Rattle.usb_host.specs.HostState.{HostState}
-use Rattle.usb_host.specs.Ports.{EndsAs}
-use Rattle.usb_host.specs.Progress.{HostSteps}
-use Rattle.usb_host.specs.Soundness.{PartKeepsInvariant}
-use Rattle.usb_host.specs.declared.fault.HostFault.{HostFault}
+use Rattle.usb_host.specs.{LetsGoOn, ServesSound, DropsLost, HostState, EndsAs, HostSteps}
+use Rattle.usb_host.specs.{PartKeepsInvariant, HostFault}
 use Rattle.usb_host.proofs.devices.BulkPipes.{bulk_then}
 use Rattle.usb_host.proofs.devices.Fairness.{fair_before, fair_after}
 use Rattle.usb_host.proofs.devices.Plugs.{plugs_then}

@@ -3,47 +3,26 @@ use Rattle.std.proofs.Common.{◌≡◌, ◌≤◌, ◌⊎◌, inl, inr, refl, s
 use Rattle.std.proofs.Common.{List, Option, None, Some, Result, Ok, Err}
 use Rattle.std.specs.Prelude.{IsSome, IsSomeAnd, option_map, unwrap_or}
 use Rattle.std.specs.BTreeMap.{insert_entry}
-use Rattle.usb_port.specs.Order.{path_cmp}
-use Rattle.usb_device.specs.Tree.{reach}
-use Rattle.usb_device.specs.View.{state_there}
-use Rattle.usb_tree.specs.Paths.{is_way}
-use Rattle.usb_world.specs.World.{World}
+use Rattle.usb_port.specs.{path_cmp}
+use Rattle.usb_device.specs.{reach, state_there}
+use Rattle.usb_tree.specs.{is_way}
+use Rattle.usb_world.specs.{World, WorldInvariant}
 use Rattle.usb_tree.proofs.Interface.{decided}
-use Rattle.usb_resources.specs.Pool.{Addresses, IsTaken}
-use Rattle.usb_enum.specs.declared.fault.EnumFault.{EnumFault}
-use Rattle.usb_enum.specs.declared.fault.EnumFault.TheVariants.{ParentLost, Bus, Memory}
-use Rattle.usb_enum.specs.declared.finding.Accepted.{Accepted}
-use Rattle.usb_enum.specs.declared.finding.Finding.{Finding}
+use Rattle.usb_resources.specs.{Addresses, IsTaken}
+use Rattle.usb_enum.specs.{EnumFault, ParentLost, Bus, Memory, Accepted, Finding, HubFacts}
+use Rattle.usb_enum.specs.{IsFindingOf, Begins, Enumerates, IsOwn, OnlyAt, IsPlaced, FaultAllowedAt}
 use Rattle.usb_enum.specs.declared.finding.Finding.TheVariants.{Device, Refused}
-use Rattle.usb_enum.specs.declared.hub.HubFacts.{HubFacts}
-use Rattle.usb_enum.specs.Verdicts.{IsFindingOf}
-use Rattle.usb_enum.specs.Findings.{Begins, Enumerates, IsOwn}
-use Rattle.usb_enum.specs.Frames.{OnlyAt}
-use Rattle.usb_enum.specs.Places.{IsPlaced}
-use Rattle.usb_enum.specs.Stop.{FaultAllowedAt}
 use Rattle.usb_enum.proofs.Interface.{regular_order, went_course, went_in_order, went_sound}
-use Rattle.usb_table.specs.declared.known.KnownPort.{KnownPort}
-use Rattle.usb_table.specs.Entries.{Entries, has_at}
-use Rattle.usb_table.specs.Findings.{accepted_device_of}
-use Rattle.usb_table.specs.KnownPorts.{known_port}
-use Rattle.usb_table.specs.Listing.{hub_facts_in, tier_of}
+use Rattle.usb_table.specs.{KnownPort, Entries, has_at, accepted_device_of, known_port}
+use Rattle.usb_table.specs.{hub_facts_in, tier_of, AllInSync, InSyncAt, Table, entered}
 use Rattle.usb_host.specs.Accounts.{Accounts}
-use Rattle.usb_host.specs.PortHandling.{IsOpen, InvariantAfterPort}
-use Rattle.usb_host.specs.HostState.{HostState}
-use Rattle.usb_host.specs.Ownership.{claims, KeepsPort}
-use Rattle.usb_host.specs.Ports.{StandsAt}
-use Rattle.usb_host.specs.Progress.{HostSteps}
-use Rattle.usb_host.specs.Soundness.{PortsListed, KnownBut, DevicesAccurate, TruthfulBut}
-use Rattle.usb_host.specs.Soundness.{IsAccurateAt, known_supply}
-use Rattle.usb_host.specs.BulkPipes.{KeepsBulk}
+use Rattle.usb_host.specs.{IsOpen, InvariantAfterPort, HostState, claims, KeepsPort, StandsAt}
+use Rattle.usb_host.specs.{HostSteps, PortsListed, KnownBut, DevicesAccurate, TruthfulBut}
+use Rattle.usb_host.specs.{IsAccurateAt, known_supply, KeepsBulk, table_in}
 use Rattle.usb_host.proofs.devices.BulkPipes.{bulk_entered, bulk_stays, accepted_device_of-some}
 use Rattle.usb_host.proofs.devices.BulkPipes.{stay_unfound}
 use Rattle.usb_host.proofs.entries.Agreements.{known_entered, shorter_apart}
 use Rattle.usb_host.proofs.entries.EntryClaims.{claims_free, claims_taken, lookup-insert_entry_here}
-use Rattle.usb_world.specs.Steps.{WorldInvariant}
-use Rattle.usb_table.specs.Levels.{AllInSync, InSyncAt}
-use Rattle.usb_table.specs.Table.{Table, entered}
-use Rattle.usb_host.specs.Transfers.{table_in}
 use Rattle.usb_host.proofs.devices.LevelPipes.{level_found, level_gone, level_but}
 use Rattle.usb_host.proofs.knowledge.Places.{finding-none, known_found, truthful_found}
 use Rattle.usb_host.proofs.knowledge.RestedWorlds.{elsewhere_still, lost_sound}

@@ -2,21 +2,16 @@
 use Rattle.std.proofs.Common.{◌≡◌, refl, subst, arith, Bool, true, false, ℕ, ◌≤◌, List, [], ◌∷◌}
 use Rattle.std.proofs.Common.{◌++◌, length, Option, Some, sym}
 use Rattle.std.proofs.lemmas.List.Elements.{All-cons, All-nil}
-use Rattle.usb_world.specs.World.{World, IsRootPort}
+use Rattle.usb_world.specs.{World, IsRootPort}
 use Rattle.std.specs.Map.{lookup}
 use Rattle.std.specs.BTreeMap.{is_at}
-use Rattle.usb_port.specs.Order.{path_cmp, parent_of, port_on_hub}
+use Rattle.usb_port.specs.{path_cmp, parent_of, port_on_hub, IsPortNumber}
 use Rattle.usb_port.proofs.Interface.{parent}
-use Rattle.usb_hub.specs.declared.port.HubPort.TheVariants.{Root}
-use Rattle.usb_table.specs.declared.known.KnownPort.{KnownPort}
-use Rattle.usb_table.specs.Entries.{Entries}
-use Rattle.usb_table.specs.KnownPorts.{known_port, is_below_hub, port_below}
+use Rattle.usb_hub.specs.{Root}
+use Rattle.usb_table.specs.{KnownPort, Entries, known_port, is_below_hub, port_below}
 use Rattle.usb_table.proofs.Interface.{port_found-some}
-use Rattle.usb_resources.specs.Power.{supply_of}
-use Rattle.usb_port.specs.Path.{IsPortNumber}
-use Rattle.usb_host.specs.Agreement.{Agrees}
-use Rattle.usb_host.specs.HostState.{HostState}
-use Rattle.usb_host.specs.Ports.{IsDue, IsPortAt}
+use Rattle.usb_resources.specs.{supply_of}
+use Rattle.usb_host.specs.{Agrees, HostState, IsDue, IsPortAt}
 
 pub below_due : (hub : List ℕ) (n : ℕ) (es : Entries) (port : KnownPort) (w : World)
     → 1 ≤ length hub → known_port (hub ++ n ∷ []) es ≡ Some port → IsDue w port.port

@@ -2,37 +2,22 @@
 use Rattle.std.proofs.Common.{◌≡◌, ◌⊎◌, inl, inr, List, [], ◌∷◌, ℕ, zero, suc, true, false, Option}
 use Rattle.std.proofs.Common.{None, Some, option_map, refl, ap, sym, subst, ◌∙◌}
 use Rattle.std.specs.Prelude.{⊤, IfSome}
-use Rattle.usb_resources.specs.Pool.{Addresses}
-use Rattle.usb_device.specs.Rows.{State}
-use Rattle.usb_device.specs.Spec.{Spec}
-use Rattle.usb_device.specs.declared.request.Registers.{Registers}
-use Rattle.usb_device.specs.Tree.{Location, path_to, reach_on, state_on}
-use Rattle.usb_device.specs.View.{state_there}
-use Rattle.usb_world.specs.Courses.{KeepsPendingAt}
-use Rattle.usb_world.specs.Devices.{Was}
-use Rattle.usb_tree.specs.Paths.{has_power, pending}
-use Rattle.usb_world.specs.PlanCourses.{spec_of}
-use Rattle.usb_world.specs.RestingPorts.{SameAt, LeavesPortAlone, UnchangedOrPending}
-use Rattle.usb_world.specs.RestingPorts.{SameDeviceOrPending}
-use Rattle.usb_world.specs.Steps.{Course}
-use Rattle.usb_world.specs.World.{World, roots_of}
+use Rattle.usb_resources.specs.{Addresses}
+use Rattle.usb_device.specs.{State, Spec, Registers, Location, path_to, reach_on, state_on}
+use Rattle.usb_device.specs.{state_there}
+use Rattle.usb_world.specs.{KeepsPendingAt, Was, spec_of, SameAt, LeavesPortAlone}
+use Rattle.usb_world.specs.{UnchangedOrPending, SameDeviceOrPending, Course, World, roots_of}
+use Rattle.usb_tree.specs.{has_power, pending}
 use Rattle.usb_world.proofs.Interface.{course_wider, pending_persists, rests_or_pends}
 use Rattle.usb_world.proofs.Interface.{stands_or_pends}
 use Rattle.usb_tree.proofs.Interface.{false_true}
-use Rattle.usb_enum.specs.declared.cause.Cause.{Cause}
-use Rattle.usb_enum.specs.declared.finding.Accepted.{Accepted}
-use Rattle.usb_enum.specs.declared.finding.Finding.{Finding}
+use Rattle.usb_enum.specs.{Cause, Accepted, Finding, IsFindingOf, IsRight, IsThere, IsKnownAs}
 use Rattle.usb_enum.specs.declared.finding.Finding.TheVariants.{Device, Refused}
-use Rattle.usb_enum.specs.Verdicts.{IsFindingOf, IsRight}
-use Rattle.usb_table.specs.Entries.{Entries}
-use Rattle.usb_table.specs.Listing.{finding_at, IsListedPort, tier_of}
-use Rattle.usb_table.specs.Transfers.{SameSettings}
-use Rattle.usb_enum.specs.Places.{IsThere, IsKnownAs}
+use Rattle.usb_table.specs.{Entries, finding_at, IsListedPort, tier_of, SameSettings}
 use Rattle.usb_enum.proofs.Interface.{some_of}
-use Rattle.usb_host.specs.Soundness.{PortsListed, known_supply, IsTruthOf, IsAccurateAt}
-use Rattle.usb_host.specs.Soundness.{DevicesAccurate, IsJustifiedAt, RefusalsJustified, Elsewhere}
-use Rattle.usb_host.specs.Soundness.{KnownBut, TruthfulBut, CausesBut, EachStill, EachStillBut}
-use Rattle.usb_host.specs.Soundness.{Accounted}
+use Rattle.usb_host.specs.{PortsListed, known_supply, IsTruthOf, IsAccurateAt, DevicesAccurate}
+use Rattle.usb_host.specs.{IsJustifiedAt, RefusalsJustified, Elsewhere, KnownBut, TruthfulBut}
+use Rattle.usb_host.specs.{CausesBut, EachStill, EachStillBut, Accounted}
 use Rattle.usb_host.proofs.knowledge.SettledListings.{listed_port}
 
 pub none_same : (o u : Option State) → option_map spec_of u ≡ option_map spec_of o → o ≡ None

@@ -5,24 +5,19 @@ use Rattle.std.proofs.Common.{ap, sym, subst, ◌∙◌, arith, append-nil, leng
 use Rattle.std.specs.Prelude.{⊤, IsSomeAnd, unwrap_or, option_map}
 use Rattle.std.proofs.lemmas.Bool.{lt-ltb}
 use Rattle.std.specs.BTreeMap.{is_at, insert_entry}
-use Rattle.usb_port.specs.Order.{path_cmp, parent_of, port_on_hub}
+use Rattle.usb_port.specs.{path_cmp, parent_of, port_on_hub}
 use Rattle.usb_port.proofs.Interface.{rejoined}
-use Rattle.usb_tree.specs.Paths.{is_way, pending, same_number}
-use Rattle.usb_world.specs.World.{World, roots_of}
+use Rattle.usb_tree.specs.{is_way, pending, same_number}
+use Rattle.usb_world.specs.{World, roots_of}
 use Rattle.usb_world.proofs.Interface.{at_or_below_way, way_itself, way_parent, way_rest, way_trans}
 use Rattle.usb_tree.proofs.Interface.{and_of, both, decided, false_true}
-use Rattle.usb_enum.specs.declared.finding.Finding.{Finding}
+use Rattle.usb_enum.specs.{Finding, IsFindingOf, IsRight, IsKnownAs}
 use Rattle.usb_enum.specs.declared.finding.Finding.TheVariants.{Device, Refused}
-use Rattle.usb_enum.specs.Verdicts.{IsFindingOf, IsRight}
-use Rattle.usb_table.specs.declared.known.KnownPort.{KnownPort}
-use Rattle.usb_table.specs.Entries.{Entries, has_at, without}
-use Rattle.usb_table.specs.Findings.{accepted_device_of}
-use Rattle.usb_table.specs.Listing.{finding_at, hub_facts_in, IsPortBelow, IsListedPort, tier_of}
+use Rattle.usb_table.specs.{KnownPort, Entries, has_at, without, accepted_device_of, finding_at}
+use Rattle.usb_table.specs.{hub_facts_in, IsPortBelow, IsListedPort, tier_of}
 use Rattle.usb_table.proofs.Interface.{path_tied}
-use Rattle.usb_enum.specs.Places.{IsKnownAs}
-use Rattle.usb_host.specs.Soundness.{PortsListed, known_supply, IsAccurateAt, DevicesAccurate}
-use Rattle.usb_host.specs.Soundness.{IsJustifiedAt, RefusalsJustified, KnownBut, TruthfulBut}
-use Rattle.usb_host.specs.Soundness.{CausesBut}
+use Rattle.usb_host.specs.{PortsListed, known_supply, IsAccurateAt, DevicesAccurate, IsJustifiedAt}
+use Rattle.usb_host.specs.{RefusalsJustified, KnownBut, TruthfulBut, CausesBut}
 use Rattle.usb_host.proofs.entries.Agreements.{lookup-without, lookup-insert_entry_elsewhere}
 use Rattle.usb_host.proofs.entries.Agreements.{known_away, known_entered}
 use Rattle.usb_host.proofs.entries.EntryClaims.{lookup-none_there, lookup-insert_entry_here}
@@ -90,8 +85,7 @@ pub listed_as : (roots : ℕ) (es fs : Entries) (path : List ℕ)
 listed_as roots es fs path same port =
     record {
       some = port.some;
-      port = port_as roots es fs (port_on_hub path) (parent_of path) same
-          port.port;
+      port = port_as roots es fs (port_on_hub path) (parent_of path) same port.port;
     }
 
 -- The ports at a path and below it
@@ -179,8 +173,7 @@ is_told_at-same : (w : World) (es fs : Entries) (path : List ℕ)
 is_told_at-same w es fs path same supply told device s at on stands =
     let t = told device s (ap accepted_device_of (sym same) ∙ at) on stands in
     record {
-      found = subst (λ n. IsFindingOf s.spec (tier_of path) n (Device device)) (sym supply)
-          t.found;
+      found = subst (λ n. IsFindingOf s.spec (tier_of path) n (Device device)) (sym supply) t.found;
       set = t.set;
     }
 
@@ -310,12 +303,11 @@ module _ (first : List ℕ) (f : Finding) (es : Entries) (some : 1 ≤ length fi
       pick : (b : Bool) → is_at (path_cmp path) first ≡ b → (is_way first path ≡ true)
           ⊎ (is_way first path ≡ false) → IsAccurateAt w entered path
       pick true tie on = subst (IsAccurateAt w entered) (sym (path_tied path first tie)) here
-      pick false apart (inl way) = λ device s at on stands. absurd
-          (cc (
-            ap accepted_device_of (finding-entered path apart
-                ∙ finding-none first path es gone way),
-            at,
-          ))
+      pick false apart (inl way) = λ device s at on stands. absurd (cc (
+        ap accepted_device_of (finding-entered path apart
+            ∙ finding-none first path es gone way),
+        at,
+      ))
       pick false apart (inr away) = is_told_at-same w es entered path (finding-entered path apart)
           (supply-entered path away) (told path)
 

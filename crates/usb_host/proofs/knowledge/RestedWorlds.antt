@@ -1,38 +1,26 @@
 -- What a host knows stays so as the world alone goes on, and a hub that is lost may be dropped.
-use Rattle.usb_device.specs.Tree.{Location}
+use Rattle.usb_device.specs.{Location, State}
 use Rattle.std.proofs.Common.{◌≡◌, inl, inr, refl, sym, ap, subst, ◌∙◌, arith, length-append, ℕ}
 use Rattle.std.proofs.Common.{Bool, true, false, List, [], ◌∷◌, length, Option, None, Some, Err}
 use Rattle.std.specs.Prelude.{IsSome, IsSomeAnd}
-use Rattle.usb_port.specs.Order.{parent_of, port_on_hub}
+use Rattle.usb_port.specs.{parent_of, port_on_hub}
 use Rattle.usb_port.proofs.Interface.{rejoined}
-use Rattle.usb_device.specs.Rows.{State}
-use Rattle.usb_world.specs.Devices.{Was}
-use Rattle.usb_tree.specs.Paths.{is_way}
-use Rattle.usb_world.specs.World.{World}
+use Rattle.usb_world.specs.{Was, World}
+use Rattle.usb_tree.specs.{is_way}
 use Rattle.usb_world.proofs.Interface.{way_apart, way_parent, way_shorter}
-use Rattle.usb_address.specs.Ownership.{KeepsAddresses}
-use Rattle.usb_hub.specs.Addresses.{StaysAs, EachElsewhere, KeepsDevices}
-use Rattle.usb_hub.specs.Requests.{TouchesNoPort}
+use Rattle.usb_address.specs.{KeepsAddresses}
+use Rattle.usb_hub.specs.{StaysAs, EachElsewhere, KeepsDevices, TouchesNoPort}
 use Rattle.usb_hub.proofs.Interface.{stays-registers, stays-spec}
-use Rattle.usb_enum.specs.declared.fault.EnumFault.{EnumFault}
-use Rattle.usb_enum.specs.declared.fault.EnumFault.TheVariants.{ParentLost, Bus, Memory}
-use Rattle.usb_enum.specs.declared.finding.Finding.{Finding}
+use Rattle.usb_enum.specs.{EnumFault, ParentLost, Bus, Memory, Finding, IsKnownAs, IsOccupied}
+use Rattle.usb_enum.specs.{FaultAllowedAt}
 use Rattle.usb_enum.specs.declared.finding.Finding.TheVariants.{Device, Refused}
-use Rattle.usb_enum.specs.Places.{IsKnownAs, IsOccupied}
-use Rattle.usb_enum.specs.Stop.{FaultAllowedAt}
 use Rattle.usb_enum.proofs.Interface.{went_in_order, went_sound}
-use Rattle.usb_table.specs.declared.known.KnownPort.{KnownPort}
-use Rattle.usb_table.specs.KnownPorts.{known_port, port_below, port_found, is_below_hub}
-use Rattle.usb_table.specs.Listing.{finding_at}
-use Rattle.usb_table.specs.Transfers.{SameSettings}
-use Rattle.usb_host.specs.Agreement.{Agrees}
-use Rattle.usb_host.specs.PortHandling.{LetsGoOn, RestElsewhere, InvariantAfterPort}
-use Rattle.usb_host.specs.HostState.{HostState}
-use Rattle.usb_host.specs.Ports.{StandsAt}
-use Rattle.usb_host.specs.Progress.{HostSteps, OnlyBusSteps}
-use Rattle.usb_host.specs.Soundness.{PortsListed, KnownBut, DevicesAccurate, TruthfulBut}
-use Rattle.usb_host.specs.Soundness.{HostInvariant, IsSoundBut, IsDroppable, EachStill}
-use Rattle.usb_host.specs.Soundness.{EachStillBut}
+use Rattle.usb_table.specs.{KnownPort, known_port, port_below, port_found, is_below_hub, finding_at}
+use Rattle.usb_table.specs.{SameSettings}
+use Rattle.usb_host.specs.{Agrees, LetsGoOn, RestElsewhere, InvariantAfterPort, HostState, StandsAt}
+use Rattle.usb_host.specs.{HostSteps, OnlyBusSteps, PortsListed, KnownBut, DevicesAccurate}
+use Rattle.usb_host.specs.{TruthfulBut, HostInvariant, IsSoundBut, IsDroppable, EachStill}
+use Rattle.usb_host.specs.{EachStillBut}
 use Rattle.usb_host.proofs.OwnedPorts.{owned_rests, but_rests}
 use Rattle.usb_host.proofs.devices.LevelPipes.{level_rests}
 use Rattle.usb_host.proofs.devices.Owners.{but_all, but_above}
@@ -164,8 +152,7 @@ droppable_above path hub h above known agrees s = record {
     away : is_way path hub ≡ false
     away = way_shorter path hub (omega (
       arith,
-      ap length (rejoined path hub above)
-          ∙ length-append hub (port_on_hub path ∷ []),
+      ap length (rejoined path hub above) ∙ length-append hub (port_on_hub path ∷ []),
     ))
 
     there : h.world.fault ≡ None → IsOccupied h.world hub

@@ -3,36 +3,23 @@
 use Rattle.std.proofs.Common.{◌≡◌, ◌≤◌, ◌⊎◌, inl, inr, refl, sym, ap, subst, ◌∙◌, ℕ, true, false}
 use Rattle.std.proofs.Common.{List, Option, None, Some, Result, Ok, Err}
 use Rattle.std.specs.Prelude.{IsSome, IfErr}
-use Rattle.usb_port.specs.Order.{parent_of, port_on_hub}
-use Rattle.usb_port.specs.declared.status.PortStatus.{PortStatus}
-use Rattle.usb_tree.specs.Paths.{is_way}
-use Rattle.usb_enum.specs.PresentDevices.{IsOrderly}
-use Rattle.usb_world.specs.World.{World, roots_of}
+use Rattle.usb_port.specs.{parent_of, port_on_hub, PortStatus}
+use Rattle.usb_tree.specs.{is_way}
+use Rattle.usb_enum.specs.{IsOrderly, EnumFault, IsKnownAs, FaultAllowedAt}
+use Rattle.usb_world.specs.{World, roots_of}
 use Rattle.usb_tree.proofs.Interface.{decided}
-use Rattle.usb_hub.specs.declared.port.HubPort.TheVariants.{Root}
-use Rattle.usb_hub.specs.Port.{IsPort}
+use Rattle.usb_hub.specs.{Root, IsPort}
 use Rattle.usb_hub.proofs.Interface.{is_port-spends}
-use Rattle.usb_enum.specs.declared.fault.EnumFault.{EnumFault}
-use Rattle.usb_enum.specs.Places.{IsKnownAs}
-use Rattle.usb_enum.specs.Stop.{FaultAllowedAt}
 use Rattle.usb_enum.proofs.Interface.{went_in_order, went_sound}
-use Rattle.usb_table.specs.declared.known.KnownPort.{KnownPort}
-use Rattle.usb_table.specs.Entries.{without}
-use Rattle.usb_table.specs.KnownPorts.{known_port, root_port, port_below}
-use Rattle.usb_table.specs.Listing.{finding_at, IsListedPort}
-use Rattle.usb_host.specs.Agreement.{Agrees}
-use Rattle.usb_host.specs.PortHandling.{HasWay, Watches, Tidies, ClearsChange, Decides, IsOpen}
-use Rattle.usb_host.specs.PortHandling.{InvariantAfterPort}
-use Rattle.usb_host.specs.HostState.{HostState}
-use Rattle.usb_host.specs.Ownership.{claims, StaysOwned}
-use Rattle.usb_host.specs.Ports.{Forgets, StandsAt}
-use Rattle.usb_host.specs.Progress.{HostSteps, OnlyBusSteps}
-use Rattle.usb_host.specs.Soundness.{PortsListed, KnownBut, DevicesAccurate, HostInvariant}
+use Rattle.usb_table.specs.{KnownPort, without, known_port, root_port, port_below, finding_at}
+use Rattle.usb_table.specs.{IsListedPort, AllInSync}
+use Rattle.usb_host.specs.{Agrees, HasWay, Watches, Tidies, ClearsChange, Decides, IsOpen}
+use Rattle.usb_host.specs.{InvariantAfterPort, HostState, claims, StaysOwned, Forgets, StandsAt}
+use Rattle.usb_host.specs.{HostSteps, OnlyBusSteps, PortsListed, KnownBut, DevicesAccurate}
+use Rattle.usb_host.specs.{HostInvariant, table_in}
 use Rattle.usb_host.proofs.devices.BulkPipes.{AllStay, stay_forgotten, stay_joined, stay_rests}
 use Rattle.usb_host.proofs.rests.Clearings.{known_way}
 use Rattle.usb_host.proofs.OwnedPorts.{stays_bare, owned_rests}
-use Rattle.usb_table.specs.Levels.{AllInSync}
-use Rattle.usb_host.specs.Transfers.{table_in}
 use Rattle.usb_host.proofs.devices.LevelPipes.{level_rests, level_forgotten}
 use Rattle.usb_host.proofs.devices.Owners.{but_all}
 use Rattle.usb_host.proofs.knowledge.Places.{known_dropped, known_vacant, truthful_dropped}
@@ -258,14 +245,11 @@ module _ (n : ℕ) (path : List ℕ) (port : KnownPort) (a b c : HostState) (sta
         owned = owned;
         but = record {
           owned = but_all path (claims c.entries) c.world owned;
-          rooted =
-              stays.rooted i.rooted;
+          rooted = stays.rooted i.rooted;
           order = forgot_order;
           known = forgot_known;
-          truthful =
-              λ still y away. forgot_truthful still y;
-          level =
-              λ still y away. forgot_level still y;
+          truthful = λ still y away. forgot_truthful still y;
+          level = λ still y away. forgot_level still y;
         };
         there = λ still. subst (λ b. Decides b c.world path) on (forgot_decides still);
       }

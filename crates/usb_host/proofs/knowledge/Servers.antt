@@ -4,38 +4,23 @@ use Rattle.std.proofs.Common.{zero, suc, Bool, true, false, List, [], ◌∷◌,
 use Rattle.std.proofs.Common.{Some, refl, ap, sym, subst, ◌∙◌, length-append}
 use Rattle.std.specs.Prelude.{IsSomeAnd, slice_index_or}
 use Rattle.std.proofs.lemmas.Bool.{eq-eqb, lt-ltb}
-use Rattle.usb_port.specs.Order.{parent_of, port_on_hub}
+use Rattle.usb_port.specs.{parent_of, port_on_hub}
 use Rattle.usb_port.proofs.Interface.{rejoined}
-use Rattle.usb_resources.specs.Pool.{IsAddress}
-use Rattle.usb_resources.specs.Power.{supply_of}
-use Rattle.usb_descriptor.specs.Config.{configuration_value}
-use Rattle.usb_device.specs.Spec.{Spec, Hub}
-use Rattle.usb_device.specs.Tree.{reach}
-use Rattle.usb_tree.specs.Paths.{address_of, is_way, pending}
-use Rattle.usb_tree.specs.AttemptPackets.{deep_at}
-use Rattle.usb_world.specs.PluggedDevices.{hub_ports}
-use Rattle.usb_world.specs.Steps.{WorldInvariant}
-use Rattle.usb_world.specs.World.{World}
+use Rattle.usb_resources.specs.{IsAddress, supply_of}
+use Rattle.usb_descriptor.specs.{configuration_value}
+use Rattle.usb_device.specs.{Spec, Hub, reach}
+use Rattle.usb_tree.specs.{address_of, is_way, pending, deep_at}
+use Rattle.usb_world.specs.{hub_ports, WorldInvariant, World}
 use Rattle.usb_world.proofs.Interface.{sane_spec, way_shorter}
 use Rattle.usb_tree.proofs.Interface.{and_of, false_true}
-use Rattle.usb_hub.specs.declared.port.HubPort.TheVariants.{External}
-use Rattle.usb_enum.specs.declared.finding.Accepted.{Accepted}
+use Rattle.usb_hub.specs.{External}
+use Rattle.usb_enum.specs.{Accepted, HubFacts, facts_of, is_hub_device, target_of, configuration_of}
+use Rattle.usb_enum.specs.{HasServer, ServesAt, IsKnownAs}
 use Rattle.usb_enum.specs.declared.finding.Finding.TheVariants.{Device}
-use Rattle.usb_enum.specs.declared.hub.HubFacts.{HubFacts}
-use Rattle.usb_enum.specs.Verdicts.{facts_of}
-use Rattle.usb_enum.specs.Device.{is_hub_device, target_of, configuration_of}
-use Rattle.usb_enum.specs.FairEnumerations.{HasServer, ServesAt}
-use Rattle.usb_enum.specs.Places.{IsKnownAs}
-use Rattle.usb_table.specs.declared.known.KnownPort.{KnownPort}
-use Rattle.usb_table.specs.Entries.{Entries}
-use Rattle.usb_table.specs.Findings.{accepted_device_of}
-use Rattle.usb_table.specs.Keys.{address_in}
-use Rattle.usb_table.specs.KnownPorts.{IsAskable, root_port, port_below, is_below_hub}
-use Rattle.usb_table.specs.Listing.{finding_at, tier_of}
+use Rattle.usb_table.specs.{KnownPort, Entries, accepted_device_of, address_in, IsAskable}
+use Rattle.usb_table.specs.{root_port, port_below, is_below_hub, finding_at, tier_of}
 use Rattle.usb_table.proofs.Interface.{FoundPort, port_found-some}
-use Rattle.usb_host.specs.HostState.{HostState}
-use Rattle.usb_host.specs.Ports.{StandsAt}
-use Rattle.usb_host.specs.Soundness.{IsAccurateAt, known_supply, IsSoundBut}
+use Rattle.usb_host.specs.{HostState, StandsAt, IsAccurateAt, known_supply, IsSoundBut}
 use Rattle.usb_enum.proofs.Interface.{AcceptsChosen, accepts, chosen_some, has_chosen}
 use Rattle.usb_host.proofs.entries.Roots.{accounted}
 use Rattle.usb_host.proofs.knowledge.SettledListings.{listed_port, listed_address, port_number}
@@ -69,14 +54,11 @@ facts_port spec facts n e least most = pick (is_hub_device spec.descriptor) e
 
     pick : (b : Bool) → (if b then Some (record {
       ports = hub_ports spec.hub;
-      supply =
-          supply_of false spec.self_powered;
-    }) else None) ≡ Some facts → (hub : Hub)
-        × (spec.hub ≡ Some hub) × (n ≤ hub.ports)
+      supply = supply_of false spec.self_powered;
+    }) else None) ≡ Some facts → (hub : Hub) × (spec.hub ≡ Some hub) × (n ≤ hub.ports)
     pick true h = let same : record {
       ports = hub_ports spec.hub;
-      supply =
-          supply_of false spec.self_powered;
+      supply = supply_of false spec.self_powered;
     } ≡ facts = cc h in
         by_hub spec.hub refl (ap (λ (f : HubFacts). f.ports) (sym same))
     pick false h = absurd (cc h)
@@ -147,8 +129,7 @@ module _ (path : List ℕ) (port : KnownPort) (h : HostState) (s : StandsAt path
       away : is_way path hub ≡ false
       away = way_shorter path hub (omega (
         arith,
-        ap length (rejoined path hub above)
-            ∙ length-append hub (port_on_hub path ∷ []),
+        ap length (rejoined path hub above) ∙ length-append hub (port_on_hub path ∷ []),
       ))
 
       known : IsKnownAs h.world hub (Some (Device device))

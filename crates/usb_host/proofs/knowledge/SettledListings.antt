@@ -5,38 +5,24 @@ use Rattle.std.proofs.Common.{ap, sym, subst, ◌∙◌, arith}
 use Rattle.std.specs.Prelude.{⊤, IsSome, IsSomeAnd, unwrap_or, nat_le}
 use Rattle.std.proofs.lemmas.Bool.{le-leb}
 use Rattle.std.proofs.lemmas.List.Elements.{All-get_or}
-use Rattle.usb_port.specs.Order.{parent_of, port_on_hub}
-use Rattle.usb_port.specs.Path.{IsPath, IsPortNumber}
-use Rattle.usb_resources.specs.Pool.{Addresses, IsAddress}
-use Rattle.usb_resources.specs.Power.{supply_of}
-use Rattle.usb_device.specs.Rows.{State}
-use Rattle.usb_device.specs.Spec.{Spec}
-use Rattle.usb_device.specs.Tree.{Ports, ended, vacant, taken, reach, reach_at, state_at}
-use Rattle.usb_device.specs.View.{state_there}
-use Rattle.usb_tree.specs.Paths.{pending}
-use Rattle.usb_world.specs.PlanCourses.{spec_of}
-use Rattle.usb_world.specs.PluggedDevices.{hub_ports}
-use Rattle.usb_world.specs.World.{World, roots_of}
+use Rattle.usb_port.specs.{parent_of, port_on_hub, IsPath, IsPortNumber}
+use Rattle.usb_resources.specs.{Addresses, IsAddress, supply_of}
+use Rattle.usb_device.specs.{State, Spec, Ports, ended, vacant, taken, reach, reach_at, state_at}
+use Rattle.usb_device.specs.{state_there}
+use Rattle.usb_tree.specs.{pending}
+use Rattle.usb_world.specs.{spec_of, hub_ports, World, roots_of}
 use Rattle.usb_world.proofs.Interface.{same_is}
 use Rattle.usb_tree.proofs.Interface.{both, false_true}
-use Rattle.usb_enum.specs.declared.cause.Cause.{Cause}
-use Rattle.usb_enum.specs.declared.finding.Accepted.{Accepted}
-use Rattle.usb_enum.specs.declared.finding.Finding.{Finding}
+use Rattle.usb_enum.specs.{Cause, Accepted, Finding, HubFacts, facts_of, IsRight, is_hub_device}
+use Rattle.usb_enum.specs.{IsThere, IsKnownAs}
 use Rattle.usb_enum.specs.declared.finding.Finding.TheVariants.{Device, Refused}
-use Rattle.usb_enum.specs.declared.hub.HubFacts.{HubFacts}
-use Rattle.usb_enum.specs.Verdicts.{facts_of, IsRight}
-use Rattle.usb_enum.specs.Device.{is_hub_device}
-use Rattle.usb_table.specs.declared.known.KnownPort.{KnownPort}
-use Rattle.usb_table.specs.Entries.{Entries}
-use Rattle.usb_table.specs.Findings.{accepted_device_of}
-use Rattle.usb_table.specs.KnownPorts.{port_below, port_found, port_of_hub, is_below_hub}
-use Rattle.usb_table.specs.Listing.{tree_in, finding_at, entry_address, hub_facts_in, IsPortBelow}
-use Rattle.usb_table.specs.Listing.{IsListedPort, tier_of, supply_below, supply_at, ListsEach}
-use Rattle.usb_table.specs.Listing.{Matches}
+use Rattle.usb_table.specs.{KnownPort, Entries, accepted_device_of, port_below, port_found}
+use Rattle.usb_table.specs.{port_of_hub, is_below_hub, tree_in, finding_at, entry_address}
+use Rattle.usb_table.specs.{hub_facts_in, IsPortBelow, IsListedPort, tier_of, supply_below}
+use Rattle.usb_table.specs.{supply_at, ListsEach, Matches}
 use Rattle.usb_table.proofs.Interface.{FoundPort, port_found-some}
-use Rattle.usb_enum.specs.Places.{IsThere, IsKnownAs}
-use Rattle.usb_host.specs.Soundness.{PortsListed, known_supply, IsTruthOf, DevicesAccurate}
-use Rattle.usb_host.specs.Soundness.{RefusalsJustified, Accounted, IsAtRest}
+use Rattle.usb_host.specs.{PortsListed, known_supply, IsTruthOf, DevicesAccurate, RefusalsJustified}
+use Rattle.usb_host.specs.{Accounted, IsAtRest}
 use Rattle.usb_host.proofs.entries.EntryClaims.{claims_distinct, claims_taken}
 
 -- A reachable device stands
@@ -160,10 +146,8 @@ facts_supply spec facts h = pick (is_hub_device spec.descriptor) h
   where
     pick : (b : Bool) → (if b then Some (record {
       ports = hub_ports spec.hub;
-      supply =
-          supply_of false spec.self_powered;
-    }) else None) ≡ Some facts
-        → facts.supply ≡ supply_of false spec.self_powered
+      supply = supply_of false spec.self_powered;
+    }) else None) ≡ Some facts → facts.supply ≡ supply_of false spec.self_powered
     pick true h = cc h
     pick false h = absurd (cc h)
 
@@ -228,11 +212,9 @@ module _ (w : World) (entries : Entries) (addresses : Addresses)
           (Refused cause) at)) ∙ pends)
       pick (inr (inl x)) = inl x
       pick (inr (inr x)) = inr (record {
-        none =
-            rest.none_waiting path (at ∙ ap (λ f. Some f) x.refused);
+        none = rest.none_waiting path (at ∙ ap (λ f. Some f) x.refused);
         head = x.head;
-        refused =
-            x.refused;
+        refused = x.refused;
       })
 
   right_there : (path : List ℕ) (spec : Spec) → IsListedPort (roots_of w) entries path

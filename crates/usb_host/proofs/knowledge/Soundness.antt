@@ -3,36 +3,23 @@ use Rattle.std.proofs.Common.{◌≡◌, ◌∙◌, refl, sym, ap, subst, ℕ, L
 use Rattle.std.proofs.Common.{None, Some, Result, Ok, Err}
 use Rattle.std.specs.Prelude.{IsSome}
 use Rattle.std.specs.BTreeMap.{is_at}
-use Rattle.usb_port.specs.Order.{path_cmp}
-use Rattle.usb_world.specs.declared.types.BusFault.{BusFault}
-use Rattle.usb_tree.specs.Paths.{pending, is_way}
-use Rattle.usb_world.specs.Steps.{event_taken, event, after, step, here as no_more, AnyStep}
-use Rattle.usb_world.specs.World.{World, roots_of}
+use Rattle.usb_port.specs.{path_cmp}
+use Rattle.usb_world.specs.{BusFault, event_taken, event, after, step, here as no_more, AnyStep}
+use Rattle.usb_world.specs.{World, roots_of}
+use Rattle.usb_tree.specs.{pending, is_way}
 use Rattle.usb_world.proofs.Interface.{course_wider, first_fault, way_itself}
 use Rattle.usb_tree.proofs.Interface.{false_true}
-use Rattle.usb_transaction.specs.Failures.{NoThreeDamaged}
-use Rattle.usb_address.specs.Ownership.{KeepsAddresses}
-use Rattle.usb_enum.specs.declared.finding.Finding.{Finding}
-use Rattle.usb_enum.specs.Places.{IsKnownAs, IsOccupied}
-use Rattle.usb_enum.specs.PresentDevices.{IsInOrder}
+use Rattle.usb_transaction.specs.{NoThreeDamaged}
+use Rattle.usb_address.specs.{KeepsAddresses}
+use Rattle.usb_enum.specs.{Finding, IsKnownAs, IsOccupied, IsInOrder}
 use Rattle.usb_enum.proofs.Interface.{orderly_on, step_later, went_in_order, went_sound}
-use Rattle.usb_table.specs.Entries.{Entries}
-use Rattle.usb_table.specs.Listing.{finding_at}
-use Rattle.usb_table.specs.Levels.{AllInSync, IsHeld, KeepsInSync}
-use Rattle.usb_table.specs.Table.{Table}
+use Rattle.usb_table.specs.{Entries, finding_at, AllInSync, IsHeld, KeepsInSync, Table}
 use Rattle.usb_table.proofs.Interface.{all_kept, path_tied}
-use Rattle.usb_host.specs.declared.fault.HostFault.{HostFault}
-use Rattle.usb_host.specs.declared.host.Round.{Round}
-use Rattle.usb_host.specs.Agreement.{Agrees}
-use Rattle.usb_host.specs.BulkPipes.{KeepsBulk}
-use Rattle.usb_host.specs.HostState.{HostState}
-use Rattle.usb_host.specs.Plugs.{KeepsPlugs}
-use Rattle.usb_host.specs.Ownership.{claims, StaysOwned}
-use Rattle.usb_host.specs.Transfers.{table_in}
-use Rattle.usb_host.specs.Progress.{HostSteps, HostRuns}
-use Rattle.usb_host.specs.Soundness.{PortsListed, DevicesAccurate, Accounted, RefusalsJustified}
-use Rattle.usb_host.specs.Soundness.{HostInvariant, IsSoundBut, IsFairTo, KeepsInvariant, PartStays}
-use Rattle.usb_host.specs.Soundness.{PartKeepsInvariant, IsDroppable, DropsSound, RoundsSound}
+use Rattle.usb_host.specs.{HostFault, Round, Agrees, KeepsBulk, HostState, KeepsPlugs, claims}
+use Rattle.usb_host.specs.{StaysOwned, table_in, HostSteps, HostRuns, PortsListed, DevicesAccurate}
+use Rattle.usb_host.specs.{Accounted, RefusalsJustified, HostInvariant, IsSoundBut, IsFairTo}
+use Rattle.usb_host.specs.{KeepsInvariant, PartStays, PartKeepsInvariant, IsDroppable, DropsSound}
+use Rattle.usb_host.specs.{RoundsSound}
 use Rattle.usb_host.proofs.devices.BulkPipes.{bulk_none, bulk_stopped, bulk_then}
 use Rattle.usb_host.proofs.parts.Events.{known_event, truthful_event, causes_event, level_event}
 use Rattle.usb_host.proofs.devices.Fairness.{fair_before, fair_after}
@@ -62,8 +49,7 @@ pub part_none : (h : HostState) → PartStays h h
 part_none h = record {
   sound = sound_none h;
   bulk = λ s still. bulk_none h;
-  plugs =
-      λ s still. plugs_none h;
+  plugs = λ s still. plugs_none h;
 }
 
 pub part_then : (m n : ℕ) (a b c : HostState) → HostSteps m a b → HostSteps n b c → PartStays a b
@@ -251,8 +237,7 @@ sound_stopped b stopped s = record {
   owned = s.owned;
   rooted = s.rooted;
   order = s.order;
-  known =
-      s.known;
+  known = s.known;
   truthful = s.truthful;
   level = s.level;
 }
@@ -261,8 +246,7 @@ stays_stopped : (a b : HostState) (stopped : Bool) → KeepsInvariant a b
     → KeepsInvariant a (record b { stopped = stopped })
 stays_stopped a b stopped x = record {
   sound = λ s. sound_stopped b stopped (x.sound s);
-  caused =
-      x.caused;
+  caused = x.caused;
 }
 
 pub rounds_stopped : (result : Result Round HostFault) (a b : HostState) (stopped : Bool)
@@ -271,10 +255,8 @@ rounds_stopped (Ok round) a b stopped x =
     record {
       keeps = record {
         sound = stays_stopped a b stopped x.keeps.sound;
-        bulk =
-            λ s still. bulk_stopped a b stopped (x.keeps.bulk s still);
-        plugs =
-            λ s still. plugs_stopped a b stopped (x.keeps.plugs s still);
+        bulk = λ s still. bulk_stopped a b stopped (x.keeps.bulk s still);
+        plugs = λ s still. plugs_stopped a b stopped (x.keeps.plugs s still);
       };
       rest = x.rest;
     }

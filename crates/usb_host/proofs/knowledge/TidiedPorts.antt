@@ -4,37 +4,26 @@ use Rattle.std.proofs.Common.{◌≡◌, ◌⊎◌, inl, inr, ◌&&◌, ◌||◌
 use Rattle.std.proofs.Common.{◌∷◌, ◌++◌, Option, None, Some, option_map, refl, ap, sym, subst, ◌∙◌}
 use Rattle.std.proofs.Common.{append-nil}
 use Rattle.std.specs.Prelude.{IsSome, IfSome}
-use Rattle.usb_port.specs.PortState.{PortState}
-use Rattle.usb_port.specs.declared.call.PortCall.{PortCall}
-use Rattle.usb_port.specs.declared.call.PortCall.TheVariants.{ClearEnableChange, ClearResetChange}
-use Rattle.usb_port.specs.Calls.{called_port}
-use Rattle.usb_device.specs.Rows.{State}
-use Rattle.usb_device.specs.Tree.{Ports, ended, vacant, taken, Place, empty, full, port_of, called}
-use Rattle.usb_device.specs.Tree.{place, reach, reach_at, state_at, port_at}
-use Rattle.usb_device.specs.View.{port_there, state_there}
-use Rattle.usb_world.specs.declared.types.Attempt.{Attempt}
-use Rattle.usb_world.specs.Courses.{step_keeps_pending}
-use Rattle.usb_tree.specs.Paths.{has_power, pending, is_way}
-use Rattle.usb_world.specs.PortRequests.{row_reached}
-use Rattle.usb_world.specs.PlanCourses.{spec_of}
-use Rattle.usb_world.specs.RestingPorts.{LeavesPortAlone, SameDeviceOrPending}
-use Rattle.usb_world.specs.Steps.{Step, attempt, root_call, event, report, after, with_attempt}
-use Rattle.usb_world.specs.Steps.{at_attempt, Course, here, step}
-use Rattle.usb_tree.specs.WayEffects.{keeps_pending}
-use Rattle.usb_world.specs.World.{World}
+use Rattle.usb_port.specs.{PortState, PortCall, ClearEnableChange, ClearResetChange, called_port}
+use Rattle.usb_device.specs.{State, Ports, ended, vacant, taken, empty, full, port_of, called}
+use Rattle.usb_device.specs.{place, reach, reach_at, state_at, port_at, port_there, state_there}
+use Rattle.usb_device.specs.Tree.{Place}
+use Rattle.usb_world.specs.{Attempt, step_keeps_pending, row_reached, spec_of, LeavesPortAlone}
+use Rattle.usb_world.specs.{SameDeviceOrPending, Step, attempt, root_call, event, report, after}
+use Rattle.usb_world.specs.{with_attempt, at_attempt, Course, here, step, World}
+use Rattle.usb_tree.specs.{has_power, pending, is_way, keeps_pending}
 use Rattle.usb_world.proofs.Interface.{MadeOrNot, attempt_cases, course_wider, made_live, made_pend}
 use Rattle.usb_world.proofs.Interface.{made_sound, pending_persists, root_live, root_pend, stands}
 use Rattle.usb_world.proofs.Interface.{stands_or_pends, way_rest}
 use Rattle.usb_tree.proofs.Interface.{and_of, both, either_of, false_true, or_left, or_right}
-use Rattle.usb_hub.specs.Moments.{PortCallDone, ActsAt}
+use Rattle.usb_hub.specs.{PortCallDone, ActsAt}
 use Rattle.usb_hub.proofs.Interface.{due_course, enabled_reach, port_of_place, row_reached-back}
 use Rattle.usb_hub.proofs.Interface.{state_of_place}
-use Rattle.usb_enum.specs.declared.finding.Finding.{Finding}
+use Rattle.usb_enum.specs.{Finding, IsKnownAs}
 use Rattle.usb_enum.specs.declared.finding.Finding.TheVariants.{Device, Refused}
-use Rattle.usb_enum.specs.Places.{IsKnownAs}
 use Rattle.usb_address.proofs.Interface.{place_ports, live_below, not_way, pend-below}
 use Rattle.usb_address.proofs.Interface.{port_there-below, reach_below, state_below}
-use Rattle.usb_host.specs.PortHandling.{HoldsAt}
+use Rattle.usb_host.specs.{HoldsAt}
 use Rattle.usb_host.proofs.parts.Events.{event_calm}
 use Rattle.usb_host.proofs.knowledge.KnowledgeKept.{known_stays}
 
@@ -120,8 +109,7 @@ known_same x (Some (Refused cause)) w v e h =
 pub holds_at_then : (x : List ℕ) (w m v : World) → HoldsAt x w m → HoldsAt x m v → HoldsAt x w v
 holds_at_then x w m v a b = record {
   known = λ o k. b.known o (a.known o k);
-  pends =
-      λ h. b.pends (a.pends h);
+  pends = λ h. b.pends (a.pends h);
   stands = λ on. first (a.stands on);
 }
   where
@@ -146,8 +134,7 @@ holds_same x w v e = record {
   known = λ o k. known_same x o w v e k;
   pends = λ h. ap (λ k. pending k x) e ∙ h;
   stands = λ on. inl (
-    ap (λ k. has_power k x) e
-        ∙ on,
+    ap (λ k. has_power k x) e ∙ on,
     ap (λ k. option_map spec_of (state_there k x)) e,
   );
 }
@@ -180,8 +167,7 @@ module _ (t : Tidy) (p : List ℕ) where
         a.live_on x.0,
         (
           subst IsSome (sym a.state) x.1.0,
-          kept_disabled (port_there w.roots p)
-              (port_there v.roots p) a.port x.1.1,
+          kept_disabled (port_there w.roots p) (port_there v.roots p) a.port x.1.1,
         ),
       )
 
@@ -189,8 +175,7 @@ module _ (t : Tidy) (p : List ℕ) where
   holds_port w v a = record {
     known = λ o k. at_port o w v a k;
     pends = a.pend_on;
-    stands =
-        λ on. inl (a.live_on on, ap (option_map spec_of) a.state);
+    stands = λ on. inl (a.live_on on, ap (option_map spec_of) a.state);
   }
 
   module _ (m : ℕ) (l : List ℕ) (is : p ≡ m ∷ l) (i : ℕ) (r : List ℕ) where
@@ -203,8 +188,7 @@ module _ (t : Tidy) (p : List ℕ) where
         a.below
 
     pend_x : (w v : World) → Alike w v → pending w.roots x ≡ true → pending v.roots x ≡ true
-    pend_x w v a h = pend-below v.roots m l i r
-        ∙ pick (either_of (pending w.roots (m ∷ l))
+    pend_x w v a h = pend-below v.roots m l i r ∙ pick (either_of (pending w.roots (m ∷ l))
         (has_power w.roots (m ∷ l) && pending (place_ports (place w.roots (m ∷ l))) (i ∷ r))
         (sym (pend-below w.roots m l i r) ∙ h))
       where
@@ -273,8 +257,7 @@ module _ (t : Tidy) (p : List ℕ) where
     holds_below w v a = record {
       known = λ o k. below_port o w v a k;
       pends = pend_x w v a;
-      stands =
-          λ on. inl (live_x w v a on, ap (option_map spec_of) (state_x w v a));
+      stands = λ on. inl (live_x w v a on, ap (option_map spec_of) (state_x w v a));
     }
 
   -- at the port and below it
@@ -325,8 +308,7 @@ module _ (t : Tidy) (q : List ℕ) (n : ℕ) where
   still_enabled o u b (inl e) is on = (b, e ∙ is, on)
   still_enabled o u b (inr e) is on = (
     called_port (tidy_call t) b,
-    e
-        ∙ ap (option_map (called_port (tidy_call t))) is,
+    e ∙ ap (option_map (called_port (tidy_call t))) is,
     tidied_enable t b ∙ on,
   )
 

@@ -8,46 +8,28 @@ use Rattle.std.specs.Prelude.{IsSome}
 use Rattle.std.proofs.lemmas.Bool.{cases_lt, eq-eqb, eqb-true, le-leb}
 use Rattle.std.proofs.lemmas.List.Elements.{All-append, All-cons, All-nil}
 use Rattle.std.proofs.lemmas.Option.{same_Some, slice_get_within}
-use Rattle.usb_port.specs.Order.{parent_of, port_on_hub}
-use Rattle.usb_port.specs.Path.{IsPath, IsPortNumber}
-use Rattle.usb_port.specs.PortState.{PortState, has_change}
-use Rattle.usb_port.specs.Status.{has_bit}
+use Rattle.usb_port.specs.{parent_of, port_on_hub, IsPath, IsPortNumber, PortState, has_change}
+use Rattle.usb_port.specs.{has_bit}
 use Rattle.usb_port.proofs.Interface.{parent, rejoined}
-use Rattle.usb_device.specs.Bulk.{change_bits, changed_bit}
-use Rattle.usb_device.specs.Rows.{State}
-use Rattle.usb_device.specs.Spec.{Spec}
-use Rattle.usb_device.specs.Tree.{Ports, full, place, reach, row_of}
-use Rattle.usb_device.specs.View.{port_there, state_there}
-use Rattle.usb_tree.specs.Paths.{is_way}
-use Rattle.usb_world.specs.PluggedDevices.{hub_ports}
-use Rattle.usb_world.specs.PortRequests.{row_reached}
-use Rattle.usb_world.specs.SanePorts.{Consistent}
-use Rattle.usb_world.specs.Steps.{at_attempt}
+use Rattle.usb_device.specs.{change_bits, changed_bit, State, Spec, Ports, full, place, reach}
+use Rattle.usb_device.specs.{row_of, port_there, state_there}
+use Rattle.usb_tree.specs.{is_way}
+use Rattle.usb_world.specs.{hub_ports, row_reached, Consistent, at_attempt}
 use Rattle.usb_world.proofs.Interface.{course_taken, ports_counted, ready_taken, stands, way_parent}
 use Rattle.usb_world.proofs.Interface.{reach_on_way}
 use Rattle.usb_hub.proofs.Interface.{port_of_place, sane_there, state_of_place}
-use Rattle.usb_descriptor.specs.Device.{device_head_of, configuration_count}
-use Rattle.usb_enum.specs.declared.cause.Cause.{Cause}
-use Rattle.usb_enum.specs.declared.cause.Cause.TheVariants.{Silent, Busy, Stalled, BadDevice}
-use Rattle.usb_enum.specs.declared.cause.Cause.TheVariants.{TooDeep}
+use Rattle.usb_descriptor.specs.{device_head_of, configuration_count}
+use Rattle.usb_enum.specs.{Cause, Silent, Busy, Stalled, BadDevice, TooDeep, is_device}
+use Rattle.usb_enum.specs.{is_hub_device, facts_of, first_fault, read_verdict, verdict, Accepted}
+use Rattle.usb_enum.specs.{Finding, HubFacts}
 use Rattle.usb_enum.specs.declared.cause.Request.TheVariants as request
-use Rattle.usb_enum.specs.Device.{is_device, is_hub_device}
-use Rattle.usb_enum.specs.Verdicts.{facts_of, first_fault, read_verdict, verdict}
-use Rattle.usb_enum.specs.declared.finding.Accepted.{Accepted}
-use Rattle.usb_enum.specs.declared.finding.Finding.{Finding}
 use Rattle.usb_enum.specs.declared.finding.Finding.TheVariants.{Device}
-use Rattle.usb_enum.specs.declared.hub.HubFacts.{HubFacts}
 use Rattle.usb_enum.proofs.Interface.{orderly_on}
-use Rattle.usb_table.specs.Findings.{accepted_device_of}
-use Rattle.usb_table.specs.declared.known.KnownPort.{KnownPort}
-use Rattle.usb_table.specs.KnownPorts.{is_below_hub, known_port, port_below, port_found}
-use Rattle.usb_table.specs.Levels.{BitsOf}
-use Rattle.usb_table.specs.Listing.{finding_at, tier_of}
+use Rattle.usb_table.specs.{accepted_device_of, KnownPort, is_below_hub, known_port, port_below}
+use Rattle.usb_table.specs.{port_found, BitsOf, finding_at, tier_of}
 use Rattle.usb_table.proofs.Interface.{FoundPort, port_found-some}
-use Rattle.usb_host.specs.Agreement.{Agrees}
-use Rattle.usb_host.specs.Budget.{ShowsChange, ShowsTold}
-use Rattle.usb_host.specs.HostState.{HostState}
-use Rattle.usb_host.specs.Soundness.{HostInvariant, IsTruthOf, known_supply}
+use Rattle.usb_host.specs.{Agrees, ShowsChange, ShowsTold, HostState, HostInvariant, IsTruthOf}
+use Rattle.usb_host.specs.{known_supply}
 use Rattle.usb_host.proofs.payments.Backlogs.{full_of, port_of-place, steady_place}
 use Rattle.usb_host.proofs.rests.CalmPorts.{ready_none}
 use Rattle.usb_host.proofs.ParentPaths.{parent_length}

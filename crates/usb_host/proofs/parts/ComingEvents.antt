@@ -2,16 +2,12 @@
 use Rattle.std.proofs.Common.{◌≡◌, sym, ap, subst, false, Option, Result, Ok}
 use Rattle.std.specs.Prelude.{is_some}
 use Rattle.usb_world.specs.declared.event.Ask.{Ask}
-use Rattle.usb_world.specs.declared.types.BusFault.{BusFault}
-use Rattle.usb_bus.specs.Traces.{TakesEvent}
-use Rattle.usb_address.specs.Ownership.{MapHolds, WhileBusWorks}
+use Rattle.usb_world.specs.{BusFault}
+use Rattle.usb_bus.specs.{TakesEvent}
+use Rattle.usb_address.specs.{MapHolds, WhileBusWorks}
 use Rattle.usb_address.proofs.Interface.{event_keeps}
-use Rattle.usb_table.specs.Entries.{Entries}
-use Rattle.usb_host.specs.Agreement.{Agrees}
-use Rattle.usb_host.specs.HostState.{HostState}
-use Rattle.usb_host.specs.Ownership.{HostMapHolds, claims}
-use Rattle.usb_host.specs.Progress.{OnlyBusSteps}
-use Rattle.usb_host.specs.Soundness.{KeepsInvariant}
+use Rattle.usb_table.specs.{Entries}
+use Rattle.usb_host.specs.{Agrees, HostState, HostMapHolds, claims, OnlyBusSteps, KeepsInvariant}
 use Rattle.usb_host.proofs.knowledge.Soundness.{sound_event}
 
 -- what it knew is so as before, where the event came or none was left

@@ -1,22 +1,13 @@
 -- What is known of ports and devices stays so as an event comes.
 use Rattle.std.proofs.Common.{◌≡◌, List, [], ℕ, refl, ap, ◌∙◌, sym}
-use Rattle.usb_resources.specs.Pool.{Addresses}
-use Rattle.usb_device.specs.Rows.{State}
-use Rattle.usb_device.specs.Tree.{path_to}
-use Rattle.usb_world.specs.Courses.{resets, step_keeps_pending}
-use Rattle.usb_world.specs.Devices.{EachWas}
-use Rattle.usb_world.specs.PortRequests.{leaves_step}
-use Rattle.usb_world.specs.RestingPorts.{LeavesPortAlone}
-use Rattle.usb_world.specs.Steps.{event, after, Course, here, step}
-use Rattle.usb_world.specs.World.{World, roots_of}
+use Rattle.usb_resources.specs.{Addresses}
+use Rattle.usb_device.specs.{State, path_to}
+use Rattle.usb_world.specs.{resets, step_keeps_pending, EachWas, leaves_step, LeavesPortAlone}
+use Rattle.usb_world.specs.{event, after, Course, here, step, World, roots_of}
 use Rattle.usb_world.proofs.Interface.{course_wider, each_wider, taken_state, unreset_reach}
 use Rattle.usb_enum.proofs.Interface.{course_later}
-use Rattle.usb_table.specs.Entries.{Entries}
-use Rattle.usb_table.specs.Levels.{AllInSync}
-use Rattle.usb_table.specs.Table.{Table}
-use Rattle.usb_table.specs.Transfers.{SameSettings}
-use Rattle.usb_host.specs.Soundness.{PortsListed, DevicesAccurate, RefusalsJustified, EachStill}
-use Rattle.usb_host.specs.Soundness.{Accounted}
+use Rattle.usb_table.specs.{Entries, AllInSync, Table, SameSettings}
+use Rattle.usb_host.specs.{PortsListed, DevicesAccurate, RefusalsJustified, EachStill, Accounted}
 use Rattle.usb_host.proofs.knowledge.KnowledgeKept.{known_each, truthful_stays, causes_stay}
 
 -- an event asks nothing of any port

@@ -1,5 +1,5 @@
 -- A host that was just made.
-use Rattle.usb_bus.specs.Traces.{Traced}
+use Rattle.usb_bus.specs.{Traced}
 use Rattle.usb_enum.proofs.Interface.{traced_in_order}
 use Rattle.std.proofs.Common.{◌≡◌, ◌⊎◌, ◌∙◌, ◌<◌, inl, inr, refl, sym, ap, arith, zero, suc, ℕ}
 use Rattle.std.proofs.Common.{List, Option, None, ◌∷◌, Bool, true, ◌&&◌, ◌||◌, if◌then◌else◌}
@@ -7,20 +7,16 @@ use Rattle.std.specs.Prelude.{[], false, All, length, nat_lt}
 use Rattle.std.specs.FinSet as set
 use Rattle.std.proofs.lemmas.Bool.{lt-ltb}
 use Rattle.std.proofs.lemmas.List.Elements.{All-head, All-tail}
-use Rattle.usb_port.specs.Order.{parent_of, port_on_hub}
-use Rattle.usb_port.specs.PortState.{PortState, powered_on, is_attached, speed_of}
-use Rattle.usb_device.specs.Rows.{forgotten}
-use Rattle.usb_device.specs.Tree.{Ports, ended, vacant, taken, row_of, reach, reach_at, state_at}
-use Rattle.usb_device.specs.Delivery.{all_forgotten}
-use Rattle.usb_tree.specs.Paths.{has_power_at, pending_at}
-use Rattle.usb_world.specs.SanePorts.{Consistent}
+use Rattle.usb_port.specs.{parent_of, port_on_hub, PortState, powered_on, is_attached, speed_of}
+use Rattle.usb_device.specs.{forgotten, Ports, ended, vacant, taken, row_of, reach, reach_at}
+use Rattle.usb_device.specs.{state_at, all_forgotten}
+use Rattle.usb_tree.specs.{has_power_at, pending_at}
+use Rattle.usb_world.specs.{Consistent, World}
 use Rattle.usb_tree.proofs.Interface.{false_true}
-use Rattle.usb_world.specs.World.{World}
-use Rattle.usb_resources.specs.Pool.{Addresses}
-use Rattle.usb_table.specs.Table.{Table, empty}
-use Rattle.usb_host.specs.HostState.{HostState, opening_host, with_power}
-use Rattle.usb_host.specs.Ownership.{HostMapHolds, IsUntouched}
-use Rattle.usb_host.specs.Soundness.{HostInvariant, IsUnpowered, PortsListed}
+use Rattle.usb_resources.specs.{Addresses}
+use Rattle.usb_table.specs.{Table, empty}
+use Rattle.usb_host.specs.{HostState, opening_host, with_power, HostMapHolds, IsUntouched}
+use Rattle.usb_host.specs.{HostInvariant, IsUnpowered, PortsListed}
 use Rattle.usb_host.proofs.entries.Roots.{rooted_opening}
 use Rattle.usb_device.proofs.Interface.{power_enable}
 
@@ -29,8 +25,7 @@ going w t table addresses = record {
   world = w;
   trace = t;
   entries = table.entries;
-  pipes =
-      table.pipes;
+  pipes = table.pipes;
   addresses = addresses;
   stopped = false;
 }
@@ -48,11 +43,6 @@ powered_is_opening w0 w t0 t table addresses e silent f h =
     ∙ ap (λ s. going (world_powered w0) t0 empty s) h
 
 -- Power moves no device
-
-enable_by : (p b : Bool) (x y : PortState) → x.enable ≡ b → y.enable ≡ b
-    → (if p then x else y).enable ≡ b
-enable_by true b x y left right = left
-enable_by false b x y left right = right
 
 reach-with_power : (k : Ports) (i : ℕ) (r : List ℕ) → reach_at (with_power k) i r ≡ reach_at k i r
 unfolding with_power reach_at
@@ -99,8 +89,7 @@ power_given b = pick b.power refl
     pick : (p : Bool) → b.power ≡ p
         → (if p then b else record b {
           power = true;
-          connection_changed =
-              is_attached b.attached || b.connection_changed;
+          connection_changed = is_attached b.attached || b.connection_changed;
         }).power ≡ true
     pick true is = is
     pick false is = refl

@@ -1,13 +1,11 @@
 -- The root ports get power one by one.
 use Rattle.std.proofs.Common.{◌≡◌, ◌∙◌, refl, sym, ap, arith, suc, zero}
 use Rattle.std.specs.Prelude.{ℕ, ◌-◌, ◌≤◌, [], length}
-use Rattle.usb_request.specs.Features.{PORT_POWER}
-use Rattle.usb_port.specs.PortState.{powered_on}
-use Rattle.usb_port.specs.declared.call.PortCall.TheVariants.{SetPower}
-use Rattle.usb_device.specs.Tree.{Ports, ended, vacant, taken, called, changed_at, row_of}
-use Rattle.usb_world.specs.World.{World, roots_of}
-use Rattle.usb_world.specs.Steps.{SetsRoot, after, root_call}
-use Rattle.usb_host.specs.HostState.{with_power}
+use Rattle.usb_request.specs.{PORT_POWER}
+use Rattle.usb_port.specs.{powered_on, SetPower}
+use Rattle.usb_device.specs.{Ports, ended, vacant, taken, called, changed_at, row_of}
+use Rattle.usb_world.specs.{World, roots_of, SetsRoot, after, root_call}
+use Rattle.usb_host.specs.{with_power}
 
 -- the first so many ports have power
 pub powered_upto : ℕ → Ports → Ports

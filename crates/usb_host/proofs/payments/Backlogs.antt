@@ -2,33 +2,24 @@
 use Rattle.std.proofs.Common.{◌≡◌, inl, inr, ℕ, zero, suc, true, false, List, [], ◌∷◌, Option, None}
 use Rattle.std.proofs.Common.{Some, is_some, option_map, refl, ap, sym, subst, ◌∙◌, arith}
 use Rattle.std.proofs.lemmas.Option.{same_Some}
-use Rattle.usb_port.specs.PortState.{PortState, is_attached}
-use Rattle.usb_port.specs.declared.status.PortStatus.{PortStatus}
-use Rattle.usb_port.specs.declared.call.PortCall.{PortCall}
-use Rattle.usb_port.specs.declared.call.PortCall.TheVariants.{ClearConnectionChange}
-use Rattle.usb_port.specs.declared.call.PortCall.TheVariants.{ClearResetChange}
-use Rattle.usb_port.specs.Calls.{is_reset}
-use Rattle.usb_device.specs.Rows.{State}
-use Rattle.usb_device.specs.Tree.{Ports, Place, empty, full, port_of, called, place}
-use Rattle.usb_device.specs.View.{port_there}
-use Rattle.usb_world.specs.PlanCourses.{AtPorts}
-use Rattle.usb_world.specs.SanePorts.{Consistent, ConsistentPlace}
-use Rattle.usb_world.specs.Steps.{after}
-use Rattle.usb_world.specs.World.{World}
+use Rattle.usb_port.specs.{PortState, is_attached, PortStatus, PortCall, ClearConnectionChange}
+use Rattle.usb_port.specs.{ClearResetChange, is_reset}
+use Rattle.usb_device.specs.{State, Ports, empty, full, port_of, called, place, port_there}
+use Rattle.usb_device.specs.Tree.{Place}
+use Rattle.usb_world.specs.{AtPorts, Consistent, ConsistentPlace, after, World}
 use Rattle.usb_world.proofs.Interface.{course_then, stands}
 use Rattle.usb_tree.proofs.Interface.{both}
 use Rattle.usb_address.proofs.Interface.{attached_there}
-use Rattle.usb_backlog.specs.Marks.{KeepsAll, KeepsBy, KeepsCall, KeepsFound, only, unmarked}
-use Rattle.usb_backlog.specs.PortSettings.{gives_power}
-use Rattle.usb_backlog.specs.Units.{KeepsPlain, PaysBare, PaysLook, PaysStray}
+use Rattle.usb_backlog.specs.{KeepsAll, KeepsBy, KeepsCall, KeepsFound, only, unmarked, gives_power}
+use Rattle.usb_backlog.specs.{KeepsPlain, PaysBare, PaysLook, PaysStray}
 use Rattle.usb_backlog.proofs.Interface.{ClearedAt, all_then, bare_pays, cleared_at, few-changed}
 use Rattle.usb_backlog.proofs.Interface.{few-none, few-only, found_all, found_pays, found_then}
 use Rattle.usb_backlog.proofs.Interface.{tidied_pays}
-use Rattle.usb_hub.specs.Moments.{PortCallDone, PortStatusAt}
+use Rattle.usb_hub.specs.{PortCallDone, PortStatusAt}
 use Rattle.usb_hub.proofs.Interface.{port_of_place, sane_there, state_of_place}
-use Rattle.usb_enum.specs.PresentDevices.{IsOrderly}
+use Rattle.usb_enum.specs.{IsOrderly}
 use Rattle.usb_enum.proofs.Interface.{orderly_on}
-use Rattle.usb_host.specs.Backlog.{ResetCleared, ChangeCleared}
+use Rattle.usb_host.specs.{ResetCleared, ChangeCleared}
 
 -- a call that gives no power and resets nothing adds nothing, whatever is marked
 pub call_all : (p : List ℕ) (c : PortCall) {a b : World} → (gives_power c ≡ true → ⊥)
@@ -37,8 +28,7 @@ call_all p c quiet plain x = record {
   all =
       λ ports m v r few. x.covered ports m v r few (record {
         power = λ g. absurd (quiet g);
-        reset =
-            λ g. absurd (plain g);
+        reset = λ g. absurd (plain g);
       });
 }
 
@@ -163,8 +153,7 @@ module _ (j : ℕ) (e : List ℕ) (status : PortStatus) (old mid : World) (ports
         strays = omega (arith, before.strays, pays.strays);
         paid = elim pays.paid [
           | inl y ↦ inl (omega (arith, before.strays, y))
-          | inr y ↦
-              inr (omega (arith, before.onward, y))
+          | inr y ↦ inr (omega (arith, before.onward, y))
         ];
       }
 
@@ -194,8 +183,7 @@ module _ (j : ℕ) (e : List ℕ) (status : PortStatus) (old mid : World) (ports
         there.3 in
         record {
           looks = omega (arith, before.looks, before.onward, pays.looks);
-          strays =
-              omega (arith, before.strays, pays.strays);
+          strays = omega (arith, before.strays, pays.strays);
         }
 
     -- none was
@@ -210,8 +198,7 @@ module _ (j : ℕ) (e : List ℕ) (status : PortStatus) (old mid : World) (ports
             | inl y ↦ inl (omega (arith, before.looks, y))
             | inr z ↦ elim z [
               | inl y ↦ inr (inl (omega (arith, before.strays, y)))
-              | inr y ↦
-                  inr (inr (omega (arith, before.onward, y)))
+              | inr y ↦ inr (inr (omega (arith, before.onward, y)))
             ]
           ];
         }

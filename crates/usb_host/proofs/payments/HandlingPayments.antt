@@ -3,38 +3,24 @@ use Rattle.std.proofs.Common.{◌≡◌, ◌≤◌, ◌⊎◌, ◌∙◌, inl, i
 use Rattle.std.proofs.Common.{◌*◌, false, List, [], ◌∷◌, ◌++◌, Option, None, Some, Result, Ok, Err}
 use Rattle.std.specs.Prelude.{IsErr, IsSome, IsSomeAnd, OnOk, IfErr, IfOk, is_some, length}
 use Rattle.std.proofs.Math.Nat.{mul-le-mul_left}
-use Rattle.usb_port.specs.Order.{parent_of, port_on_hub}
-use Rattle.usb_port.specs.Path.{IsPath}
-use Rattle.usb_tree.specs.Paths.{is_way}
-use Rattle.usb_world.specs.PlanCourses.{AtPorts}
-use Rattle.usb_world.specs.PlanData.{PlanData}
+use Rattle.usb_port.specs.{parent_of, port_on_hub, IsPath}
+use Rattle.usb_tree.specs.{is_way}
+use Rattle.usb_world.specs.{AtPorts, PlanData}
 use Rattle.usb_world.proofs.Interface.{way_shorter}
-use Rattle.usb_backlog.specs.Marks.{KeepsAll, KeepsBy, unmarked}
-use Rattle.usb_backlog.specs.Units.{KeepsPlain, PaysBare, PaysLook}
+use Rattle.usb_backlog.specs.{KeepsAll, KeepsBy, unmarked, KeepsPlain, PaysBare, PaysLook}
 use Rattle.usb_backlog.proofs.Interface.{few-none}
-use Rattle.usb_enum.specs.Stop.{FaultAllowedAt}
-use Rattle.usb_enum.specs.declared.fault.EnumFault.{EnumFault}
-use Rattle.usb_enum.specs.declared.fault.EnumFault.TheVariants.{ParentLost, Bus, Memory}
+use Rattle.usb_enum.specs.{FaultAllowedAt, EnumFault, ParentLost, Bus, Memory, Finding}
 use Rattle.usb_enum.proofs.Interface.{went_sound}
-use Rattle.usb_table.specs.declared.known.KnownPort.{KnownPort}
-use Rattle.usb_table.specs.Entries.{Entries, without}
-use Rattle.usb_table.specs.KnownPorts.{is_below_hub, known_port, port_below}
-use Rattle.usb_table.specs.Listing.{finding_at, hub_facts_at, hub_facts_in}
+use Rattle.usb_table.specs.{KnownPort, Entries, without, is_below_hub, known_port, port_below}
+use Rattle.usb_table.specs.{finding_at, hub_facts_at, hub_facts_in}
 use Rattle.usb_table.proofs.Interface.{FoundPort, port_found-some}
-use Rattle.usb_enum.specs.declared.finding.Finding.{Finding}
-use Rattle.usb_host.specs.Backlog.{FindsNone, ServePaid, hubs, found, bare, tidied, calm}
-use Rattle.usb_host.specs.Bounds.{deciding_bound, drop_bound, handling_bound, serving_bound}
-use Rattle.usb_host.specs.Budget.{NumberPaid, Pays, PaysPart, PortPaid, Weights, WorksOn}
-use Rattle.usb_host.specs.Budget.{handling_most, hub_weight, paid, idle}
-use Rattle.usb_host.specs.HostState.{HostState}
-use Rattle.usb_host.specs.PortHandling.{ServesSound}
-use Rattle.usb_host.specs.Ports.{EndsAs, StandsAt}
-use Rattle.usb_host.specs.Progress.{HostSteps}
-use Rattle.usb_host.specs.Service.{FinishesAt, HandlesBelow, HandlesNumber, HandlesPort, HasHub}
-use Rattle.usb_host.specs.Service.{ServedAt, ServesPort, StaysOrForgets, port_known, port_unknown}
-use Rattle.usb_host.specs.declared.fault.HostFault.{HostFault}
-use Rattle.usb_host.specs.declared.host.Round.{Round}
-use Rattle.usb_host.specs.declared.host.Round.TheVariants.{Worked, Quiet}
+use Rattle.usb_host.specs.{FindsNone, ServePaid, hubs, found, bare, tidied, calm, deciding_bound}
+use Rattle.usb_host.specs.{drop_bound, handling_bound, serving_bound, NumberPaid, Pays, PaysPart}
+use Rattle.usb_host.specs.{PortPaid, Weights, WorksOn, handling_most, hub_weight, paid, idle}
+use Rattle.usb_host.specs.{HostState, ServesSound, EndsAs, StandsAt, HostSteps, FinishesAt}
+use Rattle.usb_host.specs.{HandlesBelow, HandlesNumber, HandlesPort, HasHub, ServedAt, ServesPort}
+use Rattle.usb_host.specs.{StaysOrForgets, port_known, port_unknown, HostFault, Round, Worked}
+use Rattle.usb_host.specs.{Quiet}
 use Rattle.usb_host.proofs.ParentPaths.{parent_length}
 use Rattle.usb_host.proofs.RoundParts.{part-fails, part-none, part-wider}
 use Rattle.usb_host.proofs.payments.Payments.{few_stop, looks_pay, is_err-if_ok, pays_part_failed}
@@ -155,8 +141,7 @@ module _ (path : List ℕ) (port : KnownPort) (a b d : HostState) (s : StandsAt 
       → b.world.attempts ≤ a.world.attempts + (257200 + 100 * c.most)
   few_served c plan served x w = omega (
     arith,
-    x.pays.few w.sound c.most
-        (λ still. works_on-plan c plan a w),
+    x.pays.few w.sound c.most (λ still. works_on-plan c plan a w),
   )
 
   module _ (c : Weights) (plan : PlanData) (w : WorksOn c plan a) (still : d.world.fault ≡ None)

@@ -7,44 +7,23 @@ use Rattle.std.specs.List.{count_by}
 use Rattle.std.proofs.lemmas.Bool.{le-ltb, lt-ltb, ltb-true}
 use Rattle.std.proofs.lemmas.List.Sums.{count_by-le-length, sum_by-cons}
 use Rattle.arrayvec.specs.ArrayVec.{ArrayVec}
-use Rattle.usb_port.specs.Path.{IsPath}
-use Rattle.usb_port.specs.Order.{rank_of}
-use Rattle.usb_world.specs.declared.event.Action.{Action}
+use Rattle.usb_port.specs.{IsPath, rank_of}
+use Rattle.usb_world.specs.{Action, Plug, Unplug, Event, PlanData, World}
 use Rattle.usb_world.specs.declared.event.Action.TheVariants.{Change, Ask}
-use Rattle.usb_world.specs.declared.event.Change.TheVariants.{Plug, Unplug}
-use Rattle.usb_world.specs.declared.event.Event.{Event}
-use Rattle.usb_world.specs.PlanData.{PlanData}
-use Rattle.usb_world.specs.World.{World}
 use Rattle.usb_world.proofs.Interface.{course_joined}
-use Rattle.usb_bus.specs.Traces.{StepRun}
-use Rattle.usb_backlog.specs.Marks.{KeepsAll, KeepsBy, unmarked}
+use Rattle.usb_bus.specs.{StepRun}
+use Rattle.usb_backlog.specs.{KeepsAll, KeepsBy, unmarked}
 use Rattle.usb_backlog.proofs.Interface.{few-none}
-use Rattle.usb_pipe.specs.declared.fault.PipeFault.{PipeFault}
-use Rattle.usb_pipe.specs.Leaves.{ByteTold, PollTells}
-use Rattle.usb_enum.specs.declared.hub.HubFacts.{HubFacts}
+use Rattle.usb_pipe.specs.{PipeFault, ByteTold, PollTells}
+use Rattle.usb_enum.specs.{HubFacts}
 use Rattle.usb_enum.proofs.Interface.{went_course, went_sound}
-use Rattle.usb_table.specs.Entries.{Entries}
-use Rattle.usb_table.specs.Levels.{BitsOf, HubTold, KeepsPolled}
-use Rattle.usb_table.specs.Listing.{finding_at, hub_facts_at}
-use Rattle.usb_table.specs.NextEntries.{ComesAfter}
-use Rattle.usb_table.specs.Table.{pipes_at}
-use Rattle.usb_table.specs.Transfers.{PipesPolled}
-use Rattle.usb_host.specs.Agreement.{Agrees}
-use Rattle.usb_host.specs.Backlog.{hubs}
-use Rattle.usb_host.specs.Bounds.{drop_bound}
-use Rattle.usb_host.specs.Budget.{Costs, HubPaid, Pays, PaysPart, RoundPaid, ShowsTold, StopsWithin}
-use Rattle.usb_host.specs.Budget.{ToldPaid, Weights, WorksOn, debt, event_weight, hubs_most}
-use Rattle.usb_host.specs.Budget.{poll_most, told_most}
-use Rattle.usb_host.specs.HostState.{HostState}
-use Rattle.usb_host.specs.Plugs.{PlugsAt, WasPlugged}
-use Rattle.usb_host.specs.Progress.{HostSteps, either}
-use Rattle.usb_host.specs.Service.{first_byte}
-use Rattle.usb_host.specs.Soundness.{DropsSound, IsDroppable, HostInvariant, PartStays}
-use Rattle.usb_host.specs.Soundness.{KeepsInvariant}
-use Rattle.usb_host.specs.Transfers.{table_in}
-use Rattle.usb_host.specs.declared.fault.HostFault.{HostFault}
-use Rattle.usb_host.specs.declared.host.Round.{Round}
-use Rattle.usb_host.specs.declared.host.Round.TheVariants.{Worked, Quiet}
+use Rattle.usb_table.specs.{Entries, BitsOf, HubTold, KeepsPolled, finding_at, hub_facts_at}
+use Rattle.usb_table.specs.{ComesAfter, pipes_at, PipesPolled}
+use Rattle.usb_host.specs.{Agrees, hubs, drop_bound, Costs, HubPaid, Pays, PaysPart, RoundPaid}
+use Rattle.usb_host.specs.{ShowsTold, StopsWithin, ToldPaid, Weights, WorksOn, debt, event_weight}
+use Rattle.usb_host.specs.{hubs_most, poll_most, told_most, HostState, PlugsAt, WasPlugged}
+use Rattle.usb_host.specs.{HostSteps, either, first_byte, DropsSound, IsDroppable, HostInvariant}
+use Rattle.usb_host.specs.{PartStays, KeepsInvariant, table_in, HostFault, Round, Worked, Quiet}
 use Rattle.usb_host.proofs.services.HubServices.{hub_tells}
 use Rattle.usb_host.proofs.RoundParts.{hub_listed}
 use Rattle.usb_host.proofs.payments.Payments.{costs_more, costs_none, costs_pays, few_stop}
@@ -161,8 +140,7 @@ module _ (hub : List ℕ) (a b : HostState) (agrees : Agrees a.entries a.address
         → IsErr other → PaysPart poll_most (HubPaid hub) a other d
     told_fails result x other e = record {
       stops = told_stop result x;
-      pays =
-          λ c plan w still. is_err-if_ok other (λ y. HubPaid hub c y a d) e;
+      pays = λ c plan w still. is_err-if_ok other (λ y. HubPaid hub c y a d) e;
     }
 
     told_paid : (c : Weights) (plan : PlanData) → WorksOn c plan a → b.world.fault ≡ None
@@ -267,8 +245,7 @@ module _ {X : Type 0} (p q : X → Bool) (more : (x : X) → p x ≡ true → q 
         arith,
         one_less (p x) (q x) (more x),
         count_less xs,
-        sum_by-cons (λ (y : X). cond (p y) 1 0)
-            x xs,
+        sum_by-cons (λ (y : X). cond (p y) 1 0) x xs,
         sum_by-cons (λ (y : X). cond (q y) 1 0) x xs,
       )
 
@@ -311,8 +288,7 @@ module _ {X : Type 0} (p : X → Bool) where
       omega (
         arith,
         count_taken m n xs (omega (arith, le)),
-        sum_by-cons (λ (y : X). cond (p y) 1 0) x
-            (take m xs),
+        sum_by-cons (λ (y : X). cond (p y) 1 0) x (take m xs),
         sum_by-cons (λ (y : X). cond (p y) 1 0) x (take n xs),
       )
 
@@ -467,8 +443,7 @@ module _ (m n : ℕ) (last : Option (List ℕ)) (hub : List ℕ) (round : Round)
       → IsErr other → PaysPart hubs_most Done a other d
   hubs_failed result x other Done e = record {
     stops = hubs_stop result x;
-    pays =
-        λ c plan w still. is_err-if_ok other (λ y. Done c y a d) e;
+    pays = λ c plan w still. is_err-if_ok other (λ y. Done c y a d) e;
   }
 
   pub hubs_next : (one : Round) → rank_after last ≤ rank_of hub

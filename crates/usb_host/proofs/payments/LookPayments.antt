@@ -1,28 +1,17 @@
 -- What a look at a port pays of what is left to do.
 use Rattle.std.proofs.Common.{◌≡◌, inl, inr, ap, sym, subst, ◌∙◌, ℕ, true, List, None, Result, Ok}
 use Rattle.std.proofs.Common.{Err}
-use Rattle.usb_port.specs.declared.status.PortStatus.{PortStatus}
-use Rattle.usb_world.specs.PlanCourses.{AtPorts}
-use Rattle.usb_world.specs.World.{World}
-use Rattle.usb_backlog.specs.Marks.{KeepsFound}
-use Rattle.usb_backlog.specs.Units.{PaysBare, PaysLook}
-use Rattle.usb_hub.specs.Moments.{PortStatusAt}
-use Rattle.usb_enum.specs.declared.fault.EnumFault.{EnumFault}
-use Rattle.usb_enum.specs.declared.fault.EnumFault.TheVariants.{ParentLost, Bus, Memory}
-use Rattle.usb_enum.specs.PresentDevices.{IsOrderly}
-use Rattle.usb_enum.specs.TextLengths.{HasPlanWithin}
+use Rattle.usb_port.specs.{PortStatus}
+use Rattle.usb_world.specs.{AtPorts, World}
+use Rattle.usb_backlog.specs.{KeepsFound, PaysBare, PaysLook}
+use Rattle.usb_hub.specs.{PortStatusAt}
+use Rattle.usb_enum.specs.{EnumFault, ParentLost, Bus, Memory, IsOrderly, HasPlanWithin}
 use Rattle.usb_enum.proofs.Interface.{went_course, went_sound}
 use Rattle.usb_world.proofs.Interface.{course_joined, course_wider}
-use Rattle.usb_table.specs.declared.known.KnownPort.{KnownPort}
-use Rattle.usb_host.specs.Backlog.{ChangeCleared, ClearsConnection, FindsNone, LookPaid, LookPays}
-use Rattle.usb_host.specs.Backlog.{seen, unseen}
-use Rattle.usb_host.specs.Bounds.{clearing_bound}
-use Rattle.usb_host.specs.HostState.{HostState}
-use Rattle.usb_host.specs.Ownership.{claims}
-use Rattle.usb_host.specs.PortHandling.{ClearsChange}
-use Rattle.usb_host.specs.Ports.{StandsAt}
-use Rattle.usb_host.specs.Progress.{HostSteps}
-use Rattle.usb_host.specs.Soundness.{HostInvariant}
+use Rattle.usb_table.specs.{KnownPort}
+use Rattle.usb_host.specs.{ChangeCleared, ClearsConnection, FindsNone, LookPaid, LookPays, seen}
+use Rattle.usb_host.specs.{unseen, clearing_bound, HostState, claims, ClearsChange, StandsAt}
+use Rattle.usb_host.specs.{HostSteps, HostInvariant}
 use Rattle.usb_host.proofs.payments.Backlogs.{told_pays_bare, told_keeps, told_looks}
 use Rattle.usb_host.proofs.PortLocations.{stands_at-claim}
 

@@ -4,23 +4,16 @@ use Rattle.std.proofs.Common.{Result, Ok, Err}
 use Rattle.std.specs.Prelude.{IfOk, IsErr}
 use Rattle.std.proofs.Math.Nat.{mul-le-mul_left}
 use Rattle.std.proofs.lemmas.List.Elements.{All-drop}
-use Rattle.usb_world.specs.declared.types.BusFault.{BusFault}
-use Rattle.usb_world.specs.PlanData.{PlanData}
-use Rattle.usb_world.specs.PlanCourses.{AtPorts, FollowsPlan, PlugsAtPort}
-use Rattle.usb_world.specs.Steps.{AnyStep, Course, opening}
-use Rattle.usb_world.specs.World.{World}
+use Rattle.usb_world.specs.{BusFault, PlanData, AtPorts, FollowsPlan, PlugsAtPort, AnyStep, Course}
+use Rattle.usb_world.specs.{opening, World}
 use Rattle.usb_world.proofs.Interface.{course_joined}
 use Rattle.usb_world.proofs.Interface.{events_went}
-use Rattle.usb_backlog.specs.Marks.{looks_by, strays_by, unmarked}
-use Rattle.usb_enum.specs.TextLengths.{HasPlanWithin}
+use Rattle.usb_backlog.specs.{looks_by, strays_by, unmarked}
+use Rattle.usb_enum.specs.{HasPlanWithin}
 use Rattle.usb_enum.proofs.Interface.{traced_faulted, went_course}
-use Rattle.usb_host.specs.Backlog.{hubs}
-use Rattle.usb_host.specs.Budget.{Costs, Pays, PaysPart, StopsWithin, Weights, WorksOn}
-use Rattle.usb_host.specs.Budget.{event_weight, hub_weight, look_weight, stray_weight}
-use Rattle.usb_host.specs.HostState.{HostState}
-use Rattle.usb_host.specs.Progress.{HostSteps}
-use Rattle.usb_host.specs.Soundness.{HostInvariant}
-use Rattle.usb_host.specs.declared.fault.HostFault.{HostFault}
+use Rattle.usb_host.specs.{hubs, Costs, Pays, PaysPart, StopsWithin, Weights, WorksOn, event_weight}
+use Rattle.usb_host.specs.{hub_weight, look_weight, stray_weight, HostState, HostSteps}
+use Rattle.usb_host.specs.{HostInvariant, HostFault}
 use Rattle.usb_host.proofs.payments.Ledgers.{sums_costs, sums_look, sums_plain}
 
 -- A host at work on a plan
@@ -46,12 +39,7 @@ ports_after n c plan a b went x work =
 pub works_on-plan : (c : Weights) (plan : PlanData) (h : HostState) → WorksOn c plan h
     → HasPlanWithin c.most h.world
 works_on-plan c plan h x = record {
-  planned = record {
-    plan = plan;
-    is = x.is;
-    paths = x.paths;
-    course = x.course;
-  };
+  planned = record { plan = plan; is = x.is; paths = x.paths; course = x.course };
   plugs = x.within;
 }
 
@@ -173,8 +161,7 @@ pub pays_where : {A : Type 0} (most : Weights → ℕ) (Done : Weights → A →
     → (HostInvariant a → PaysPart most Done a result b) → PaysPart most Done a result b
 pays_where most Done a result b f = record {
   stops = λ c plan w. (f w.sound).stops c plan w;
-  pays =
-      λ c plan w still. (f w.sound).pays c plan w still;
+  pays = λ c plan w still. (f w.sound).pays c plan w still;
 }
 
 -- Parts that failed, and those that did nothing

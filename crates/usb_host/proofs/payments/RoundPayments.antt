@@ -2,21 +2,15 @@
 use Rattle.std.proofs.Common.{◌≡◌, refl, sym, subst, arith, ℕ, Bool, List, None, Some, Result, Ok}
 use Rattle.std.proofs.Common.{Err}
 use Rattle.std.specs.Prelude.{IfOk, IsErr, OnOk}
-use Rattle.usb_world.specs.PlanData.{PlanData}
-use Rattle.usb_enum.specs.declared.cause.Cause.TheVariants.{NoAddress}
+use Rattle.usb_world.specs.{PlanData}
+use Rattle.usb_enum.specs.{NoAddress}
 use Rattle.usb_enum.specs.declared.finding.Finding.TheVariants.{Refused}
 use Rattle.usb_enum.proofs.Interface.{went_sound}
-use Rattle.usb_table.specs.Listing.{finding_at}
-use Rattle.usb_host.specs.Budget.{Affords, Costs, PaysPart, PaysRound, RootsPaid, RoundPaid, Stops}
-use Rattle.usb_host.specs.Budget.{StopsWithin, Weights, event_weight, handling_most, hubs_most}
-use Rattle.usb_host.specs.HostState.{HostState}
-use Rattle.usb_host.specs.Plugs.{HasPlugs}
-use Rattle.usb_host.specs.Ports.{Waits}
-use Rattle.usb_host.specs.Progress.{HostSteps, either}
-use Rattle.usb_host.specs.Soundness.{LooksKeep, NoneWait, PartStays}
-use Rattle.usb_host.specs.declared.fault.HostFault.{HostFault}
-use Rattle.usb_host.specs.declared.host.Round.{Round}
-use Rattle.usb_host.specs.declared.host.Round.TheVariants.{Worked, Quiet}
+use Rattle.usb_table.specs.{finding_at}
+use Rattle.usb_host.specs.{Affords, Costs, PaysPart, PaysRound, RootsPaid, RoundPaid, Stops}
+use Rattle.usb_host.specs.{StopsWithin, Weights, event_weight, handling_most, hubs_most, HostState}
+use Rattle.usb_host.specs.{HasPlugs, Waits, HostSteps, either, LooksKeep, NoneWait, PartStays}
+use Rattle.usb_host.specs.{HostFault, Round, Worked, Quiet}
 use Rattle.usb_host.proofs.rests.RestingRounds.{done}
 use Rattle.usb_host.proofs.entries.Roots.{on_failed}
 use Rattle.usb_host.proofs.payments.Payments.{costs_none, few_stop, is_err-if_ok, pays_costs}
@@ -191,8 +185,7 @@ pays_stopped c plan result a b stopped x =
 pub stopped_pays : (c : Weights) (plan : PlanData) (fault : HostFault) (h : HostState)
     → PaysRound c plan h (Err fault) h
 stopped_pays c plan fault h = record {
-  most =
-      few_stop c (event_weight c) h h (omega arith) (omega arith);
+  most = few_stop c (event_weight c) h h (omega arith) (omega arith);
   pays = λ still. tt;
   plugs = tt;
 }

@@ -2,26 +2,18 @@
 use Rattle.std.proofs.Common.{◌≡◌, ◌⊎◌, inl, inr, refl, sym, subst, arith, ℕ, ◌+◌, ◌*◌, true, false}
 use Rattle.std.proofs.Common.{List, Result, Ok, Err}
 use Rattle.std.specs.Prelude.{OnOk}
-use Rattle.usb_port.specs.declared.status.PortStatus.{PortStatus}
-use Rattle.usb_world.specs.PlanCourses.{AtPorts}
+use Rattle.usb_port.specs.{PortStatus}
+use Rattle.usb_world.specs.{AtPorts}
 use Rattle.usb_tree.proofs.Interface.{decided}
 use Rattle.usb_bus.proofs.Interface.{went_then, went_wider}
-use Rattle.usb_pipe.specs.Control.{write_bound}
-use Rattle.usb_hub.specs.Moments.{PortStatusAt}
-use Rattle.usb_enum.specs.Bounds.{read_bound}
-use Rattle.usb_enum.specs.PresentDevices.{IsOrderly}
-use Rattle.usb_enum.specs.declared.fault.EnumFault.{EnumFault}
-use Rattle.usb_enum.specs.declared.fault.EnumFault.TheVariants.{ParentLost, Bus, Memory}
-use Rattle.usb_table.specs.declared.known.KnownPort.{KnownPort}
-use Rattle.usb_host.specs.Backlog.{ClearsReset, FindsNone, LookPaid, LookPays, ServePaid, ServePays}
-use Rattle.usb_host.specs.Backlog.{seen, unseen, found, bare, tidied, calm}
-use Rattle.usb_host.specs.Bounds.{clearing_bound, deciding_bound}
-use Rattle.usb_host.specs.HostState.{HostState}
-use Rattle.usb_host.specs.Ownership.{claims, IsOwned}
-use Rattle.usb_host.specs.PortHandling.{Tidies, Watches}
-use Rattle.usb_host.specs.Ports.{StandsAt}
-use Rattle.usb_host.specs.Progress.{HostSteps, OnlyBusSteps}
-use Rattle.usb_host.specs.Soundness.{HostInvariant}
+use Rattle.usb_pipe.specs.{write_bound}
+use Rattle.usb_hub.specs.{PortStatusAt}
+use Rattle.usb_enum.specs.{read_bound, IsOrderly, EnumFault, ParentLost, Bus, Memory}
+use Rattle.usb_table.specs.{KnownPort}
+use Rattle.usb_host.specs.{ClearsReset, FindsNone, LookPaid, LookPays, ServePaid, ServePays, seen}
+use Rattle.usb_host.specs.{unseen, found, bare, tidied, calm, clearing_bound, deciding_bound}
+use Rattle.usb_host.specs.{HostState, claims, IsOwned, Tidies, Watches, StandsAt, HostSteps}
+use Rattle.usb_host.specs.{OnlyBusSteps, HostInvariant}
 use Rattle.usb_host.proofs.payments.Backlogs.{plain_of, told_keeps, told_resets, told_steady}
 use Rattle.usb_host.proofs.OwnedPorts.{owned_rests}
 use Rattle.usb_host.proofs.entries.HubCounts.{hubs-rest, none_rests}

@@ -4,27 +4,18 @@ use Rattle.std.proofs.Common.{zero, suc, below_more, ◌+◌, ◌-◌, ◌*◌, 
 use Rattle.std.proofs.Common.{◌++◌, Option, None, Some, Result, Ok}
 use Rattle.std.specs.Prelude.{IsErr, slice_index_or}
 use Rattle.std.proofs.lemmas.Option.{same_Some, slice_get-get_or}
-use Rattle.usb_port.specs.PortState.{PortState, off}
-use Rattle.usb_port.specs.Status.{has_bit, seen}
-use Rattle.usb_port.specs.declared.status.PortStatus.{PortStatus}
-use Rattle.usb_device.specs.View.{port_there}
-use Rattle.usb_world.specs.PlanData.{PlanData}
-use Rattle.usb_world.specs.PortRequests.{StillSet, row_reached}
-use Rattle.usb_world.specs.World.{World, root_port_at, root_row, roots_of}
+use Rattle.usb_port.specs.{PortState, off, has_bit, seen, PortStatus}
+use Rattle.usb_device.specs.{port_there}
+use Rattle.usb_world.specs.{PlanData, StillSet, row_reached, World, root_port_at, root_row}
+use Rattle.usb_world.specs.{roots_of}
 use Rattle.usb_world.proofs.Interface.{course_bits, course_wider, same_device}
-use Rattle.usb_hub.specs.Moments.{PortStatusAt}
-use Rattle.usb_hub.specs.Requests.{TouchesNoPort}
+use Rattle.usb_hub.specs.{PortStatusAt, TouchesNoPort}
 use Rattle.usb_hub.proofs.Interface.{row_port}
 use Rattle.usb_enum.proofs.Interface.{went_sound}
-use Rattle.usb_host.specs.Budget.{Costs, NumberPaid, Pays, PaysPart, PortPaid, RootsPaid}
-use Rattle.usb_host.specs.Budget.{ShowsChange, ShowsTold, StopsWithin, ToldPaid, Weights, WorksOn}
-use Rattle.usb_host.specs.Budget.{debt, event_weight, handling_most, told_most, paid, idle}
-use Rattle.usb_host.specs.HostState.{HostState}
-use Rattle.usb_host.specs.Progress.{HostSteps}
-use Rattle.usb_host.specs.Soundness.{PartStays}
-use Rattle.usb_host.specs.declared.fault.HostFault.{HostFault}
-use Rattle.usb_host.specs.declared.host.Round.{Round}
-use Rattle.usb_host.specs.declared.host.Round.TheVariants.{Worked, Quiet}
+use Rattle.usb_host.specs.{Costs, NumberPaid, Pays, PaysPart, PortPaid, RootsPaid, ShowsChange}
+use Rattle.usb_host.specs.{ShowsTold, StopsWithin, ToldPaid, Weights, WorksOn, debt, event_weight}
+use Rattle.usb_host.specs.{handling_most, told_most, paid, idle, HostState, HostSteps, PartStays}
+use Rattle.usb_host.specs.{HostFault, Round, Worked, Quiet}
 use Rattle.usb_host.proofs.payments.Payments.{costs_more, costs_none, costs_pays, costs_then}
 use Rattle.usb_host.proofs.payments.Payments.{few_stop, is_err-if_ok, pays_none, stops_after}
 use Rattle.usb_host.proofs.payments.Payments.{works_on}
@@ -116,8 +107,7 @@ roots_cost c Quiet a b x = subst (λ (h : HostState). Costs c 0 a h) (sym x) (co
 
 pub roots_none : (h : HostState) → RootsSoFar Quiet h h
 roots_none h = record {
-  stops = λ c plan w. few_stop c (handling_most c) h h (omega arith)
-      (omega arith);
+  stops = λ c plan w. few_stop c (handling_most c) h h (omega arith) (omega arith);
   pays = λ c plan w still. refl;
 }
 
@@ -139,8 +129,7 @@ module _ (m n : ℕ) (round : Round) (number : ℕ) (a b d : HostState) (first :
       → IsErr other → PaysPart handling_most Done a other d
   roots_failed result x other Done e = record {
     stops = roots_stop result x;
-    pays =
-        λ c plan w still. is_err-if_ok other (λ y. Done c y a d) e;
+    pays = λ c plan w still. is_err-if_ok other (λ y. Done c y a d) e;
   }
 
   pub roots_next : (done : Unit {0}) → ShowsChange b.world (number ∷ [])
@@ -183,8 +172,7 @@ told_so_far_none hub bits h = record {
   costs = λ c plan w still. costs_none c 2000 h;
   shown = λ c plan w still x. inl (record {
     same = refl;
-    clear =
-        λ n least less. absurd (omega (arith, least, less));
+    clear = λ n least less. absurd (omega (arith, least, less));
   });
 }
 
@@ -244,8 +232,7 @@ module _ (m n : ℕ) (hub : List ℕ) (bits number : ℕ) (least : 1 ≤ number)
         → IsErr other → PaysPart told_most Done a other d
     told_failed result x other Done e = record {
       stops = told_stop result x;
-      pays =
-          λ c plan w still. is_err-if_ok other (λ y. Done c y a d) e;
+      pays = λ c plan w still. is_err-if_ok other (λ y. Done c y a d) e;
     }
 
     pub told_next : (round : Round) → has_bit bits number ≡ true

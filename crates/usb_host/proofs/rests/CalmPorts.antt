@@ -2,13 +2,10 @@
 use Rattle.std.proofs.Common.{◌≡◌, ◌≤◌, ◌&&◌, ◌||◌, ◌∙◌, ℕ, zero, suc, false, List, [], ◌∷◌, ◌++◌}
 use Rattle.std.proofs.Common.{refl, ap, arith, subst}
 use Rattle.std.specs.Prelude.{IfSome}
-use Rattle.usb_device.specs.Tree.{Ports, ended, vacant, taken, port_at, place}
-use Rattle.usb_device.specs.View.{port_there}
-use Rattle.usb_tree.specs.Paths.{pending, pending_at, has_power}
-use Rattle.usb_world.specs.PortRequests.{leaves_step}
-use Rattle.usb_world.specs.RestingPorts.{LeavesPortAlone}
-use Rattle.usb_world.specs.Steps.{after_event, at_attempt, with_attempt, Course}
-use Rattle.usb_world.specs.World.{World}
+use Rattle.usb_device.specs.{Ports, ended, vacant, taken, port_at, place, port_there}
+use Rattle.usb_tree.specs.{pending, pending_at, has_power}
+use Rattle.usb_world.specs.{leaves_step, LeavesPortAlone, after_event, at_attempt, with_attempt}
+use Rattle.usb_world.specs.{Course, World}
 use Rattle.usb_world.proofs.Interface.{OverEvents, OverSteps, made_port, over_course, over_ready}
 use Rattle.usb_world.proofs.Interface.{root_port}
 use Rattle.usb_tree.proofs.Interface.{and_false, and_none}
@@ -36,8 +33,7 @@ ready_none w =
 
 -- The port
 
-calm_steps : (p : List ℕ)
-    → OverSteps (LeavesPortAlone p) (IfNoneCame
+calm_steps : (p : List ℕ) → OverSteps (LeavesPortAlone p) (IfNoneCame
     (λ w v. port_there v.roots p ≡ port_there w.roots p))
 unfolding with_attempt leaves_step
 calm_steps p = record {

@@ -4,36 +4,26 @@ use Rattle.std.proofs.Common.{◌≡◌, ◌⊎◌, inl, inr, ◌&&◌, ℕ, Boo
 use Rattle.std.proofs.Common.{Option, None, Some, is_some, option_map, refl, ap, sym, subst, ◌∙◌}
 use Rattle.std.specs.Prelude.{IsSome}
 use Rattle.std.proofs.lemmas.Option.{same_Some}
-use Rattle.usb_port.specs.PortState.{PortState, is_attached}
-use Rattle.usb_port.specs.declared.status.PortStatus.{PortStatus}
-use Rattle.usb_port.specs.declared.call.PortCall.{PortCall}
-use Rattle.usb_port.specs.declared.call.PortCall.TheVariants.{ClearEnable, ClearConnectionChange}
-use Rattle.usb_port.specs.Calls.{called_port}
-use Rattle.usb_device.specs.Rows.{State}
-use Rattle.usb_device.specs.Tree.{Ports, Place, empty, full, port_of, called, place}
-use Rattle.usb_device.specs.View.{port_there, state_there}
-use Rattle.usb_world.specs.declared.types.Attempt.{Attempt}
-use Rattle.usb_world.specs.Courses.{step_keeps_pending}
-use Rattle.usb_tree.specs.Paths.{has_power, pending, is_way}
-use Rattle.usb_world.specs.PortRequests.{AsksNothing}
-use Rattle.usb_world.specs.RestingPorts.{UnchangedOrPending}
-use Rattle.usb_world.specs.SanePorts.{Consistent}
-use Rattle.usb_world.specs.Steps.{Step, attempt, root_call, event, report, after, with_attempt}
-use Rattle.usb_world.specs.Steps.{at_attempt, Course, here, step}
-use Rattle.usb_world.specs.World.{World}
+use Rattle.usb_port.specs.{PortState, is_attached, PortStatus, PortCall, ClearEnable}
+use Rattle.usb_port.specs.{ClearConnectionChange, called_port}
+use Rattle.usb_device.specs.{State, Ports, empty, full, port_of, called, place, port_there}
+use Rattle.usb_device.specs.{state_there}
+use Rattle.usb_device.specs.Tree.{Place}
+use Rattle.usb_world.specs.{Attempt, step_keeps_pending, AsksNothing, UnchangedOrPending}
+use Rattle.usb_world.specs.{Consistent, Step, attempt, root_call, event, report, after}
+use Rattle.usb_world.specs.{with_attempt, at_attempt, Course, here, step, World}
+use Rattle.usb_tree.specs.{has_power, pending, is_way}
 use Rattle.usb_world.proofs.Interface.{MadeOrNot, attempt_cases, course_wider, kept_course}
 use Rattle.usb_world.proofs.Interface.{made_pend, made_sound, pending_persists, rests_or_pends}
 use Rattle.usb_world.proofs.Interface.{step_pend}
-use Rattle.usb_hub.specs.Moments.{PortStatusAt, PortCallDone, ActsAt, ports_at_step}
-use Rattle.usb_hub.specs.Requests.{TouchesNoPort}
+use Rattle.usb_hub.specs.{PortStatusAt, PortCallDone, ActsAt, ports_at_step, TouchesNoPort}
 use Rattle.usb_hub.proofs.Interface.{StandsSo, StandsTold, done_stands, due_course, port_of_place}
 use Rattle.usb_hub.proofs.Interface.{told_stands}
-use Rattle.usb_enum.specs.declared.finding.Finding.{Finding}
-use Rattle.usb_enum.specs.Places.{IsKnownAs}
+use Rattle.usb_enum.specs.{Finding, IsKnownAs}
 use Rattle.usb_enum.proofs.Interface.{pends_there, some_of}
 use Rattle.usb_address.proofs.Interface.{IsUp, attached_there, live_of_up, live_port, not_way}
 use Rattle.usb_address.proofs.Interface.{pend_down, pend_or_live, up_of_live}
-use Rattle.usb_host.specs.PortHandling.{HasWay, Decides}
+use Rattle.usb_host.specs.{HasWay, Decides}
 use Rattle.usb_host.proofs.knowledge.KnowledgeKept.{none_same}
 
 -- The port's power stays, and what is pending above it

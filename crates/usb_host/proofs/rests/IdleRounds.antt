@@ -2,17 +2,11 @@
 use Rattle.std.proofs.Common.{◌≡◌, ◌∙◌, refl, sym, ap, arith, subst, zero, suc, Bool, true, false}
 use Rattle.std.proofs.Common.{if◌then◌else◌, Option, Result, Ok, Err, is_err}
 use Rattle.std.specs.Prelude.{ℕ, ◌-◌, List, [], ◌∷◌, slice_index_or}
-use Rattle.usb_port.specs.PortState.{PortState, off}
-use Rattle.usb_world.specs.World.{World, root_row, root_port_at, change_of, changes}
-use Rattle.usb_enum.specs.declared.finding.Finding.{Finding}
-use Rattle.usb_table.specs.Entries.{Entries}
-use Rattle.usb_table.specs.NextEntries.{IsNext}
-use Rattle.usb_host.specs.HostState.{HostState}
-use Rattle.usb_host.specs.Progress.{either}
-use Rattle.usb_host.specs.Soundness.{NoneWait}
-use Rattle.usb_host.specs.declared.fault.HostFault.{HostFault}
-use Rattle.usb_host.specs.declared.host.Round.{Round}
-use Rattle.usb_host.specs.declared.host.Round.TheVariants.{Quiet}
+use Rattle.usb_port.specs.{PortState, off}
+use Rattle.usb_world.specs.{World, root_row, root_port_at, change_of, changes}
+use Rattle.usb_enum.specs.{Finding}
+use Rattle.usb_table.specs.{Entries, IsNext}
+use Rattle.usb_host.specs.{HostState, either, NoneWait, HostFault, Round, Quiet}
 use Rattle.usb_host.proofs.rests.RestingRounds.{ok_is}
 
 changes-zero : (ps : List PortState) (i : ℕ) → changes ps ≡ 0

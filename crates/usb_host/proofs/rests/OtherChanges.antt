@@ -2,33 +2,21 @@
 -- tells none.
 use Rattle.std.proofs.Common.{◌≡◌, ◌&&◌, Bool, true, false, not, ◌+◌, ◌*◌, arith, refl, ap, ℕ, List}
 use Rattle.std.proofs.Common.{Option, is_some, Result, Ok}
-use Rattle.usb_port.specs.declared.status.PortStatus.{PortStatus}
-use Rattle.usb_world.specs.World.{World}
-use Rattle.usb_bus.specs.Traces.{StepRun}
-use Rattle.usb_address.specs.Claims.{map_without}
-use Rattle.usb_address.specs.Ownership.{KeepsAddresses}
+use Rattle.usb_port.specs.{PortStatus}
+use Rattle.usb_world.specs.{World}
+use Rattle.usb_bus.specs.{StepRun}
+use Rattle.usb_address.specs.{map_without, KeepsAddresses}
 use Rattle.usb_address.proofs.Interface.{keeps_none, keeps_then}
-use Rattle.usb_transaction.specs.declared.target.Target.{Target}
-use Rattle.usb_pipe.specs.Control.{control_bound, write_bound}
-use Rattle.usb_hub.specs.declared.port.HubPort.{HubPort}
-use Rattle.usb_hub.specs.declared.port.HubPort.TheVariants.{Root, External}
-use Rattle.usb_hub.specs.Addresses.{Isolates}
-use Rattle.usb_hub.specs.Moments.{PortStatusAt}
+use Rattle.usb_transaction.specs.{Target}
+use Rattle.usb_pipe.specs.{control_bound, write_bound}
+use Rattle.usb_hub.specs.{HubPort, Root, External, Isolates, PortStatusAt}
 use Rattle.usb_hub.proofs.Interface.{keeps_devices_none}
-use Rattle.usb_enum.specs.declared.fault.EnumFault.{EnumFault}
-use Rattle.usb_enum.specs.Bounds.{read_bound}
-use Rattle.usb_enum.specs.declared.finding.Accepted.{Accepted}
-use Rattle.usb_enum.specs.Stop.{CanFail}
+use Rattle.usb_enum.specs.{EnumFault, read_bound, Accepted, CanFail}
 use Rattle.usb_enum.proofs.Interface.{devices_then, status_most}
-use Rattle.usb_table.specs.KnownPorts.{IsAskable}
-use Rattle.usb_table.specs.declared.known.KnownPort.{KnownPort}
-use Rattle.usb_host.specs.Changes.{HasOnlyWorldChanges, KeepsEach, was_disabled}
-use Rattle.usb_host.specs.HostState.{HostState}
-use Rattle.usb_host.specs.Ownership.{claims, IsOwned}
-use Rattle.usb_host.specs.PortHandling.{Watches}
-use Rattle.usb_host.specs.Ports.{ProgressOrLost, StandsAt}
-use Rattle.usb_host.specs.Progress.{HostRuns, HostSteps, OnlyBusSteps}
-use Rattle.usb_host.specs.Soundness.{HostInvariant}
+use Rattle.usb_table.specs.{IsAskable, KnownPort}
+use Rattle.usb_host.specs.{HasOnlyWorldChanges, KeepsEach, was_disabled, HostState, claims, IsOwned}
+use Rattle.usb_host.specs.{Watches, ProgressOrLost, StandsAt, HostRuns, HostSteps, OnlyBusSteps}
+use Rattle.usb_host.specs.{HostInvariant}
 use Rattle.usb_host.proofs.payments.Backlogs.{told_steady}
 use Rattle.usb_host.proofs.StepSums.{goes_by}
 use Rattle.usb_host.proofs.services.ServedWork.{rests_holds, served_after}
@@ -73,8 +61,7 @@ pub failed_changed : (port : HubPort) (status : PortStatus) (device : Option Acc
 failed_changed (Root number) status device is = absurd (cc is)
 failed_changed (External hub number) status device is = (
   tt,
-  and_first status.enable_changed (status.connected &&
-      (not status.enabled && is_some device)) is,
+  and_first status.enable_changed (status.connected && (not status.enabled && is_some device)) is,
 )
   where
     and_first : (b c : Bool) → (b && c) ≡ true → b ≡ true
@@ -108,6 +95,5 @@ failed_served n port a b c result status r g device failed served =
 pub bares_kept : (port : HubPort) (a b c : World) → Isolates port a b → KeepsAddresses b c
     → Isolates port a c
 bares_kept port a b c x k = record {
-  bares =
-      λ f p at o. k.kept (map_without f p) (x.bares f p at o);
+  bares = λ f p at o. k.kept (map_without f p) (x.bares f p at o);
 }

@@ -6,56 +6,32 @@ use Rattle.std.proofs.Common.{Result, Ok, Err, refl, ap, sym, subst, arith, inl,
 use Rattle.std.specs.Prelude.{IfSome}
 use Rattle.std.specs.Option.{option_or}
 use Rattle.std.proofs.lemmas.Bool.{eq-eqb, ne_eqb}
-use Rattle.usb_port.specs.PortState.{PortState, has_change}
-use Rattle.usb_descriptor.specs.declared.fault.DescriptorFault.{DescriptorFault}
+use Rattle.usb_port.specs.{PortState, has_change}
+use Rattle.usb_descriptor.specs.{DescriptorFault, Interface, Endpoint, Other, status_endpoint_of}
+use Rattle.usb_descriptor.specs.{status_at, first_counting, first_from, picked, counts_after}
+use Rattle.usb_descriptor.specs.{in_config, packet_size, config_of, config_after, config_head_of}
+use Rattle.usb_descriptor.specs.{configuration_value, items_of}
 use Rattle.usb_descriptor.specs.declared.item.Item.{Item}
-use Rattle.usb_descriptor.specs.declared.item.Item.TheVariants.{Interface, Endpoint, Other}
-use Rattle.usb_descriptor.specs.Choice.{status_endpoint_of, status_at, first_counting, first_from}
-use Rattle.usb_descriptor.specs.Choice.{picked, counts_after, in_config, packet_size}
-use Rattle.usb_descriptor.specs.Config.{config_of, config_after, config_head_of}
-use Rattle.usb_descriptor.specs.Config.{configuration_value}
-use Rattle.usb_descriptor.specs.Item.{items_of}
 use Rattle.usb_descriptor.proofs.Interface.{header_of}
-use Rattle.usb_device.specs.declared.request.Registers.{Registers}
-use Rattle.usb_device.specs.Bulk.{tells_changes}
-use Rattle.usb_device.specs.Rows.{State}
-use Rattle.usb_device.specs.Spec.{Spec, Hub, IsSpec, IsHub}
-use Rattle.usb_device.specs.Tree.{reach, Location, path_to, reach_on, state_on}
-use Rattle.usb_device.specs.View.{port_there}
-use Rattle.usb_tree.specs.Paths.{address_of, pending}
-use Rattle.usb_world.specs.PluggedDevices.{hub_ports}
-use Rattle.usb_world.specs.World.{World, roots_of}
+use Rattle.usb_device.specs.{Registers, tells_changes, State, Spec, Hub, IsSpec, IsHub, reach}
+use Rattle.usb_device.specs.{Location, path_to, reach_on, state_on, port_there}
+use Rattle.usb_tree.specs.{address_of, pending, IsSettled, deep_at}
+use Rattle.usb_world.specs.{hub_ports, World, roots_of}
 use Rattle.usb_world.proofs.Interface.{sane_spec}
 use Rattle.usb_tree.proofs.Interface.{and_of, neither, false_true}
-use Rattle.usb_transaction.specs.declared.target.Target.{Target}
-use Rattle.usb_transaction.specs.Leaves.{is_at as has_address}
-use Rattle.usb_transaction.specs.Transactions.{in_attempt}
-use Rattle.usb_transaction.specs.AttemptLog.{AttemptLog, Waiting}
+use Rattle.usb_transaction.specs.{Target, is_at as has_address, in_attempt, AttemptLog, Waiting}
 use Rattle.usb_world.specs.declared.types.Outcome.TheVariants.{Nak}
-use Rattle.usb_tree.specs.AttemptPackets.{IsSettled, deep_at}
-use Rattle.usb_resources.specs.Pool.{Addresses}
-use Rattle.usb_resources.specs.Power.{supply_of}
-use Rattle.usb_pipe.specs.Interrupt.{Interrupt}
-use Rattle.usb_enum.specs.declared.finding.Accepted.{Accepted}
-use Rattle.usb_enum.specs.declared.finding.Finding.{Finding}
+use Rattle.usb_resources.specs.{Addresses, supply_of}
+use Rattle.usb_pipe.specs.{Interrupt}
+use Rattle.usb_enum.specs.{Accepted, Finding, HubFacts, facts_of, is_hub_device, configuration_of}
+use Rattle.usb_enum.specs.{IsKnownAs}
 use Rattle.usb_enum.specs.declared.finding.Finding.TheVariants.{Device, Refused}
-use Rattle.usb_enum.specs.declared.hub.HubFacts.{HubFacts}
-use Rattle.usb_enum.specs.Verdicts.{facts_of}
-use Rattle.usb_enum.specs.Device.{is_hub_device, configuration_of}
-use Rattle.usb_enum.specs.Places.{IsKnownAs}
-use Rattle.usb_table.specs.declared.pipes.Pipes.{Pipes}
-use Rattle.usb_table.specs.declared.pipes.Pipes.TheVariants.{Hub as HubPipe, Function, Absent}
-use Rattle.usb_table.specs.Entries.{Entries}
-use Rattle.usb_table.specs.Findings.{accepted_device_of, accepted_device_at}
-use Rattle.usb_table.specs.KnownPorts.{is_below_hub}
-use Rattle.usb_table.specs.Levels.{IsListening}
-use Rattle.usb_table.specs.Listing.{finding_at, hub_facts_in, hub_facts_at, tier_of}
-use Rattle.usb_table.specs.Pipes.{IsStatusPipe, ArePipesTo, ArePipesIf}
-use Rattle.usb_table.specs.Transfers.{PipesPolled, PolledThrough}
-use Rattle.usb_host.specs.Agreement.{Agrees}
-use Rattle.usb_host.specs.HostState.{HostState}
-use Rattle.usb_host.specs.Soundness.{Accounted, HostInvariant, IsSilent, PortsListed, IsTruthOf}
-use Rattle.usb_host.specs.Soundness.{DevicesAccurate, known_supply}
+use Rattle.usb_table.specs.{Pipes, Hub as HubPipe, Function, Absent, Entries, accepted_device_of}
+use Rattle.usb_table.specs.{accepted_device_at, is_below_hub, IsListening, finding_at, hub_facts_in}
+use Rattle.usb_table.specs.{hub_facts_at, tier_of, IsStatusPipe, ArePipesTo, ArePipesIf}
+use Rattle.usb_table.specs.{PipesPolled, PolledThrough}
+use Rattle.usb_host.specs.{Agrees, HostState, Accounted, HostInvariant, IsSilent, PortsListed}
+use Rattle.usb_host.specs.{IsTruthOf, DevicesAccurate, known_supply}
 use Rattle.usb_host.proofs.entries.Roots.{accounted}
 use Rattle.usb_enum.proofs.Interface.{accepts}
 use Rattle.usb_host.proofs.knowledge.Servers.{server_hears, is_below_hub-deep}
@@ -101,8 +77,7 @@ pub status_of : (text : List ℕ) (e : ℕ × ℕ) → status_endpoint_of text �
 unfolding status_endpoint_of config_of first_counting
 status_of text e h = record {
   one = one (config_of text) h;
-  valued =
-      valued (config_head_of text) refl h;
+  valued = valued (config_head_of text) refl h;
 }
   where
     one : (r : Result (List ℕ) DescriptorFault) → in_config status_at r ≡ Some e → e.0 ≡ 1
@@ -140,10 +115,8 @@ facts_ports spec facts h = pick (is_hub_device spec.descriptor) h
   where
     pick : (b : Bool) → (if b then Some (record {
       ports = hub_ports spec.hub;
-      supply =
-          supply_of false spec.self_powered;
-    }) else None) ≡ Some facts
-        → facts.ports ≡ hub_ports spec.hub
+      supply = supply_of false spec.self_powered;
+    }) else None) ≡ Some facts → facts.ports ≡ hub_ports spec.hub
     pick true h = cc h
     pick false h = absurd (cc h)
 
@@ -210,8 +183,7 @@ module _ (w : World) (entries : Entries) (addresses : Addresses)
         state = there.0;
         on = on;
         stands = there.1;
-        tells =
-            truthful (path_to j) device there.0 (ap accepted_device_of found) on there.1;
+        tells = truthful (path_to j) device there.0 (ap accepted_device_of found) on there.1;
       }
 
   heard_by : (j : Location) (device : Accepted) → ReachedAt w entries j device

@@ -1,8 +1,8 @@
 -- Ports none of which has its change bit set.
 use Rattle.std.proofs.Common.{◌≡◌, refl, arith, subst, suc, zero, false}
 use Rattle.std.specs.Prelude.{ℕ, ◌+◌, ◌-◌, ◌<◌, ◌≤◌, List, [], ◌∷◌, length, slice_index_or}
-use Rattle.usb_port.specs.PortState.{PortState, off}
-use Rattle.usb_world.specs.World.{World, root_row, roots_of, root_port_at, change_of, changes}
+use Rattle.usb_port.specs.{PortState, off}
+use Rattle.usb_world.specs.{World, root_row, roots_of, root_port_at, change_of, changes}
 
 no_change : (p : PortState) → p.connection_changed ≡ false → change_of p ≡ 0
 unfolding change_of

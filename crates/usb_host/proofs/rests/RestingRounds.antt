@@ -6,38 +6,25 @@ use Rattle.std.specs.Prelude.{IfSome, IfNone, IsSome, IsSomeAnd}
 use Rattle.std.specs.Ordering.{is_eq}
 use Rattle.std.specs.declared.cmp.Ordering.{Ordering}
 use Rattle.std.specs.declared.cmp.Ordering.TheVariants.{Less, Equal, Greater}
-use Rattle.usb_port.specs.Order.{path_cmp, parent_of, port_on_hub}
-use Rattle.usb_port.specs.PortState.{PortState}
+use Rattle.usb_port.specs.{path_cmp, parent_of, port_on_hub, PortState}
 use Rattle.usb_port.proofs.Interface.{rejoined}
-use Rattle.usb_resources.specs.Pool.{Addresses, IsFull}
-use Rattle.usb_device.specs.Tree.{row_of, port_at}
-use Rattle.usb_device.specs.View.{port_there}
-use Rattle.usb_tree.specs.Paths.{pending}
-use Rattle.usb_world.specs.World.{World, root_row, roots_of, change_of, changes}
+use Rattle.usb_resources.specs.{Addresses, IsFull}
+use Rattle.usb_device.specs.{row_of, port_at, port_there}
+use Rattle.usb_tree.specs.{pending}
+use Rattle.usb_world.specs.{World, root_row, roots_of, change_of, changes}
 use Rattle.usb_world.proofs.Interface.{course_joined, course_wider, pending_persists}
 use Rattle.usb_tree.proofs.Interface.{false_true}
-use Rattle.usb_hub.specs.Requests.{TouchesNoPort}
+use Rattle.usb_hub.specs.{TouchesNoPort}
 use Rattle.usb_hub.proofs.Interface.{row_port}
 use Rattle.usb_enum.proofs.Interface.{went_sound}
-use Rattle.usb_enum.specs.declared.cause.Cause.TheVariants.{NoAddress}
-use Rattle.usb_enum.specs.declared.finding.Finding.{Finding}
+use Rattle.usb_enum.specs.{NoAddress, Finding, HubFacts}
 use Rattle.usb_enum.specs.declared.finding.Finding.TheVariants.{Device, Refused}
-use Rattle.usb_enum.specs.declared.hub.HubFacts.{HubFacts}
-use Rattle.usb_table.specs.Entries.{Entries}
-use Rattle.usb_table.specs.Findings.{is_hub, is_waiting}
-use Rattle.usb_table.specs.Listing.{hub_facts_in, hub_facts_at, IsListedPort, IsPortBelow}
-use Rattle.usb_table.specs.Listing.{ListsEach}
-use Rattle.usb_table.specs.NextEntries.{ComesAfter, Stands, IsNext, IsLast}
+use Rattle.usb_table.specs.{Entries, is_hub, is_waiting, hub_facts_in, hub_facts_at, IsListedPort}
+use Rattle.usb_table.specs.{IsPortBelow, ListsEach, ComesAfter, Stands, IsNext, IsLast}
 use Rattle.usb_table.proofs.Interface.{path_tied}
-use Rattle.usb_host.specs.Agreement.{Agrees}
-use Rattle.usb_host.specs.HostState.{HostState}
-use Rattle.usb_host.specs.Ownership.{IsRooted}
-use Rattle.usb_host.specs.Progress.{HostRuns, Did, Remains, either}
-use Rattle.usb_host.specs.declared.fault.HostFault.{HostFault}
-use Rattle.usb_host.specs.Soundness.{HostInvariant, IsSilent, IsAtRest, NoneWaiting, KeepsInvariant}
-use Rattle.usb_host.specs.Soundness.{RootsRest, HubKeeps, HubsKeep, LooksKeep}
-use Rattle.usb_host.specs.declared.host.Round.{Round}
-use Rattle.usb_host.specs.declared.host.Round.TheVariants.{Worked, Quiet}
+use Rattle.usb_host.specs.{Agrees, HostState, IsRooted, HostRuns, Did, Remains, either, HostFault}
+use Rattle.usb_host.specs.{HostInvariant, IsSilent, IsAtRest, NoneWaiting, KeepsInvariant}
+use Rattle.usb_host.specs.{RootsRest, HubKeeps, HubsKeep, LooksKeep, Round, Worked, Quiet}
 use Rattle.usb_host.proofs.entries.Balances.{accounts_listed}
 use Rattle.usb_host.proofs.rests.CalmPorts.{calm_port, pend-no_change}
 use Rattle.usb_host.proofs.rests.Polls.{hub_there}

@@ -5,32 +5,21 @@ use Rattle.std.proofs.Common.{Err}
 use Rattle.std.specs.Prelude.{IsSome}
 use Rattle.std.proofs.lemmas.Bool.{eq-eqb, ne_eqb}
 use Rattle.std.proofs.lemmas.Nat.{and_mask}
-use Rattle.usb_port.specs.Status.{has_bit}
+use Rattle.usb_port.specs.{has_bit}
 use Rattle.arrayvec.specs.ArrayVec.{ArrayVec}
-use Rattle.usb_device.specs.Tree.{row_of}
-use Rattle.usb_world.specs.World.{World}
-use Rattle.usb_pipe.specs.Control.{FaultAfter}
-use Rattle.usb_pipe.specs.Leaves.{ByteTold, PollTells}
-use Rattle.usb_pipe.specs.declared.fault.PipeFault.{PipeFault}
+use Rattle.usb_device.specs.{row_of}
+use Rattle.usb_world.specs.{World}
+use Rattle.usb_pipe.specs.{FaultAfter, ByteTold, PollTells, PipeFault}
 use Rattle.usb_pipe.specs.declared.fault.PipeFault.TheVariants.{Stalled, Busy, NoAnswer, Broken}
 use Rattle.usb_pipe.specs.declared.fault.PipeFault.TheVariants.{Bus, Memory}
-use Rattle.usb_hub.specs.CallFailures.{NoHubFailed}
+use Rattle.usb_hub.specs.{NoHubFailed}
 use Rattle.usb_enum.proofs.Interface.{went_sound}
-use Rattle.usb_enum.specs.declared.finding.Accepted.{Accepted}
-use Rattle.usb_enum.specs.declared.hub.HubFacts.{HubFacts}
-use Rattle.usb_table.specs.Findings.{accepted_device_of, accepted_device_at}
-use Rattle.usb_table.specs.Levels.{BitsOf, HubTold, KeepsPolled}
-use Rattle.usb_table.specs.Listing.{hub_facts_at}
-use Rattle.usb_table.specs.Table.{pipes_at}
-use Rattle.usb_table.specs.Transfers.{PipesPolled}
-use Rattle.usb_host.specs.HostState.{HostState}
-use Rattle.usb_host.specs.Ownership.{HasLost}
-use Rattle.usb_host.specs.Progress.{AddsNoWork, HostProgress, HostRuns, HostSteps, Remains, waiting}
-use Rattle.usb_host.specs.Service.{PolledOnce, PollsHub, ServedTold, first_byte, not_heard}
-use Rattle.usb_host.specs.Service.{told_none, told_some}
-use Rattle.usb_host.specs.Soundness.{HostInvariant}
-use Rattle.usb_host.specs.Transfers.{table_in}
-use Rattle.usb_host.specs.declared.host.Round.TheVariants.{Worked, Quiet}
+use Rattle.usb_enum.specs.{Accepted, HubFacts}
+use Rattle.usb_table.specs.{accepted_device_of, accepted_device_at, BitsOf, HubTold, KeepsPolled}
+use Rattle.usb_table.specs.{hub_facts_at, pipes_at, PipesPolled}
+use Rattle.usb_host.specs.{HostState, HasLost, AddsNoWork, HostProgress, HostRuns, HostSteps}
+use Rattle.usb_host.specs.{Remains, waiting, PolledOnce, PollsHub, ServedTold, first_byte}
+use Rattle.usb_host.specs.{not_heard, told_none, told_some, HostInvariant, table_in, Worked, Quiet}
 use Rattle.usb_host.proofs.rests.Polls.{hub_there}
 use Rattle.usb_host.proofs.knowledge.ToldBits.{none_own}
 

@@ -2,21 +2,13 @@
 use Rattle.std.proofs.Common.{◌≡◌, ◌∙◌, ◌+◌, arith, refl, sym, ap, subst, Bool, false, List, ℕ}
 use Rattle.std.proofs.Common.{Option, Some, Result, Ok, Err, is_err}
 use Rattle.std.specs.Prelude.{[], IfOk, IsErr}
-use Rattle.usb_table.specs.NextEntries.{ComesAfter}
-use Rattle.usb_world.specs.PlanData.{PlanData}
-use Rattle.usb_world.specs.World.{changes, root_row}
+use Rattle.usb_table.specs.{ComesAfter}
+use Rattle.usb_world.specs.{PlanData, changes, root_row}
 use Rattle.usb_enum.proofs.Interface.{went_sound}
-use Rattle.usb_host.specs.Bounds.{hubs_bound, looks_bound, roots_bound, round_bound}
-use Rattle.usb_host.specs.Budget.{Affords, PaysRound, Weights}
-use Rattle.usb_host.specs.HostState.{HostState}
-use Rattle.usb_host.specs.Ports.{Waits}
-use Rattle.usb_host.specs.Progress.{HostProgress, Did, Remains, either}
-use Rattle.usb_host.specs.Service.{DidParts, LookedAgain, LookedOnce, LooksAgain, ServesEach}
-use Rattle.usb_host.specs.Service.{ServesHubs, WentByParts, next_device}
-use Rattle.usb_host.specs.Soundness.{Part}
-use Rattle.usb_host.specs.declared.fault.HostFault.{HostFault}
-use Rattle.usb_host.specs.declared.host.Round.{Round}
-use Rattle.usb_host.specs.declared.host.Round.TheVariants.{Worked, Quiet}
+use Rattle.usb_host.specs.{hubs_bound, looks_bound, roots_bound, round_bound, Affords, PaysRound}
+use Rattle.usb_host.specs.{Weights, HostState, Waits, HostProgress, Did, Remains, either, DidParts}
+use Rattle.usb_host.specs.{LookedAgain, LookedOnce, LooksAgain, ServesEach, ServesHubs, WentByParts}
+use Rattle.usb_host.specs.{next_device, Part, HostFault, Round, Worked, Quiet}
 use Rattle.usb_host.proofs.rests.IdleRounds.{all_idle, hubs_idle, looks_idle, roots_idle}
 use Rattle.usb_host.proofs.StepSums.{did_then}
 use Rattle.usb_host.proofs.RoundParts.{part-fails, part-then, parts_fail, parts_keep}

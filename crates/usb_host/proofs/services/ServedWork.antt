@@ -1,16 +1,11 @@
 -- That the host gets on where a port is served, and where a hub is polled.
 use Rattle.std.proofs.Common.{◌≡◌, ◌⊎◌, inl, sym, ap, subst, arith, true, false, ℕ, Result, Ok, Err}
-use Rattle.usb_port.specs.Status.{seen}
-use Rattle.usb_port.specs.declared.status.PortStatus.{PortStatus}
-use Rattle.usb_world.specs.World.{World, root_port_at}
-use Rattle.usb_hub.specs.declared.port.HubPort.{HubPort}
-use Rattle.usb_hub.specs.declared.port.HubPort.TheVariants.{Root, External}
-use Rattle.usb_enum.specs.declared.fault.EnumFault.{EnumFault}
-use Rattle.usb_enum.specs.declared.fault.EnumFault.TheVariants.{ParentLost, Bus, Memory}
-use Rattle.usb_host.specs.HostState.{HostState}
-use Rattle.usb_enum.specs.Stop.{FaultAllowedAt}
-use Rattle.usb_host.specs.Ports.{Gained, ProgressOnOk, IsDue, ProgressOrLost, Shown}
-use Rattle.usb_host.specs.Progress.{AddsNoWork, HostProgress, HostRuns, OnlyBusSteps, waiting}
+use Rattle.usb_port.specs.{seen, PortStatus}
+use Rattle.usb_world.specs.{World, root_port_at}
+use Rattle.usb_hub.specs.{HubPort, Root, External}
+use Rattle.usb_enum.specs.{EnumFault, ParentLost, Bus, Memory, FaultAllowedAt}
+use Rattle.usb_host.specs.{HostState, Gained, ProgressOnOk, IsDue, ProgressOrLost, Shown}
+use Rattle.usb_host.specs.{AddsNoWork, HostProgress, HostRuns, OnlyBusSteps, waiting}
 use Rattle.usb_host.proofs.StepSums.{advances_after, advances_then}
 use Rattle.usb_host.proofs.HostProgress.{served_any}
 

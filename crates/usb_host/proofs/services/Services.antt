@@ -4,38 +4,22 @@ use Rattle.std.proofs.Common.{length-append, ◌<◌, ◌≤◌, not, cond, Bool
 use Rattle.std.proofs.Common.{[], ◌∷◌, ◌++◌, Some, Result, Ok, Err}
 use Rattle.std.specs.Prelude.{OnOk}
 use Rattle.std.specs.BTreeMap.{insert_entry}
-use Rattle.usb_port.specs.Order.{path_cmp, parent_of, port_on_hub}
+use Rattle.usb_port.specs.{path_cmp, parent_of, port_on_hub, IsPath, IsPortNumber, is_reset}
+use Rattle.usb_port.specs.{PortCall, PortStatus}
 use Rattle.usb_port.proofs.Interface.{parent, rejoined}
-use Rattle.usb_port.specs.Path.{IsPath, IsPortNumber}
-use Rattle.usb_port.specs.Calls.{is_reset}
-use Rattle.usb_port.specs.declared.call.PortCall.{PortCall}
-use Rattle.usb_port.specs.declared.status.PortStatus.{PortStatus}
-use Rattle.usb_tree.specs.Paths.{is_way}
-use Rattle.usb_world.specs.World.{World}
+use Rattle.usb_tree.specs.{is_way}
+use Rattle.usb_world.specs.{World}
 use Rattle.usb_world.proofs.Interface.{at_or_below_way, way_parent, way_trans}
-use Rattle.usb_address.specs.Claims.{AddressMap}
-use Rattle.usb_address.specs.Ownership.{MapHolds, WhileBusWorks}
-use Rattle.usb_hub.specs.declared.port.HubPort.{HubPort}
-use Rattle.usb_hub.specs.Addresses.{IsAt}
-use Rattle.usb_hub.specs.Moments.{CommandsPort, PortCallDone, PortStatusAt}
-use Rattle.usb_enum.specs.declared.fault.EnumFault.{EnumFault}
-use Rattle.usb_enum.specs.declared.fault.EnumFault.TheVariants.{ParentLost, Bus, Memory}
-use Rattle.usb_enum.specs.declared.cause.Cause.TheVariants.{Lost}
-use Rattle.usb_enum.specs.declared.finding.Finding.{Finding}
+use Rattle.usb_address.specs.{AddressMap, MapHolds, WhileBusWorks}
+use Rattle.usb_hub.specs.{HubPort, IsAt, CommandsPort, PortCallDone, PortStatusAt}
+use Rattle.usb_enum.specs.{EnumFault, ParentLost, Bus, Memory, Lost, Finding}
 use Rattle.usb_enum.specs.declared.finding.Finding.TheVariants.{Refused}
-use Rattle.usb_table.specs.declared.known.KnownPort.{KnownPort}
-use Rattle.usb_table.specs.Entries.{Entries, is_at_or_below, without}
-use Rattle.usb_host.specs.HostState.{HostState}
-use Rattle.usb_host.specs.Ownership.{claims, HasLost, IsOwned}
-use Rattle.usb_host.specs.PortHandling.{Watches}
-use Rattle.usb_host.specs.Ports.{EndsAs, EntersOne, StandsAt}
-use Rattle.usb_host.specs.Progress.{HostProgress, HostSteps, OnlyBusSteps}
-use Rattle.usb_host.specs.Soundness.{HostInvariant}
-use Rattle.usb_host.specs.Service.{DoneWhere, EndsAt, HandlesAt, LookedAt, LookedOnce, LookedOrLost}
-use Rattle.usb_host.specs.Service.{LosesParent, Renews, ServedAt, ServedOrLost, StaysOrForgets}
-use Rattle.usb_host.specs.Service.{TidiesTold, was_tidied, was_looked_at, was_lost, looked_once}
-use Rattle.usb_host.specs.Service.{lost_once}
-use Rattle.usb_host.specs.declared.fault.HostFault.{HostFault}
+use Rattle.usb_table.specs.{KnownPort, Entries, is_at_or_below, without}
+use Rattle.usb_host.specs.{HostState, claims, HasLost, IsOwned, Watches, EndsAs, EntersOne}
+use Rattle.usb_host.specs.{StandsAt, HostProgress, HostSteps, OnlyBusSteps, HostInvariant}
+use Rattle.usb_host.specs.{DoneWhere, EndsAt, HandlesAt, LookedAt, LookedOnce, LookedOrLost}
+use Rattle.usb_host.specs.{LosesParent, Renews, ServedAt, ServedOrLost, StaysOrForgets, TidiesTold}
+use Rattle.usb_host.specs.{was_tidied, was_looked_at, was_lost, looked_once, lost_once, HostFault}
 use Rattle.usb_host.proofs.OwnedPorts.{owned_rests}
 use Rattle.usb_host.proofs.StepSums.{host_rests_then}
 use Rattle.usb_host.proofs.knowledge.ServedPorts.{rests_stands}
@@ -53,8 +37,7 @@ call_done port c old new other calls f p at owned =
       at = at;
       is = refl;
       alone = λ resets. absurd (other resets);
-      owned =
-          owned;
+      owned = owned;
     }) refl
 
 pub done_so : (b : Bool) (p : List ℕ) (c : PortCall) (old new : World) → b ≡ true
@@ -115,8 +98,7 @@ pub renews_one : (path : List ℕ) (old : Entries) (c d : HostState) → c.entri
     → EntersOne path c d → Renews true path old d.entries
 renews_one path old c d gone one = (
   one.finding,
-  one.entries
-      ∙ ap (λ (es : Entries). insert_entry path_cmp es path one.finding) gone,
+  one.entries ∙ ap (λ (es : Entries). insert_entry path_cmp es path one.finding) gone,
 )
 
 pub renews_by : (b : Bool) (path : List ℕ) (old new : Entries) (c : Bool) → b ≡ c

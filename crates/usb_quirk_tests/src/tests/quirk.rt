@@ -1,6 +1,6 @@
 //! A bus around another one, with a hub at address 1 that tells a change until that is cleared.
 ghost use Rattle.std.specs.Prelude.{false};
-ghost use Rattle.usb_world.specs.World.{IsAttempt};
+ghost use Rattle.usb_world.specs.Worlds.{IsAttempt};
 
 use arrayvec::ArrayVec;
 use usb_bus::{Attempt, Bus, BusFault, Outcome};

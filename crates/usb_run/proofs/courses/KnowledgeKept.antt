@@ -3,27 +3,19 @@
 use Rattle.std.proofs.Common.{◌≡◌, ◌∙◌, sym, ap, subst, Bool, false, ℕ, List, Option, None, Some}
 use Rattle.std.proofs.Common.{Result, Ok}
 use Rattle.std.specs.Prelude.{is_some}
-use Rattle.usb_device.specs.Tree.{Ports}
+use Rattle.usb_device.specs.{Ports}
 use Rattle.usb_world.specs.declared.event.Ask.{Ask}
-use Rattle.usb_tree.specs.Paths.{pending}
-use Rattle.usb_world.specs.Steps.{EventEnds}
-use Rattle.usb_world.specs.Wire.{AtMostTwoRunning}
-use Rattle.usb_world.specs.World.{World, roots_of}
+use Rattle.usb_tree.specs.{pending}
+use Rattle.usb_world.specs.{EventEnds, AtMostTwoRunning, World, roots_of}
 use Rattle.usb_address.proofs.Interface.{event_keeps}
 use Rattle.usb_enum.proofs.Interface.{course_later, few_before}
-use Rattle.usb_table.specs.Entries.{Entries}
-use Rattle.usb_table.specs.Listing.{IsListedPort}
-use Rattle.usb_host.specs.Agreement.{Agrees}
-use Rattle.usb_host.specs.declared.fault.HostFault.{HostFault}
-use Rattle.usb_host.specs.HostState.{HostState}
-use Rattle.usb_host.specs.Soundness.{IsAtRest, IsFairTo, HostInvariant, KeepsInvariant}
+use Rattle.usb_table.specs.{Entries, IsListedPort}
+use Rattle.usb_host.specs.{Agrees, HostFault, HostState, IsAtRest, IsFairTo, HostInvariant}
+use Rattle.usb_host.specs.{KeepsInvariant, TransferTells}
 use Rattle.usb_host.proofs.Interface.{accounted, settled_matches, sound_event, sound_none}
-use Rattle.usb_run.specs.declared.runs.Item.{Item}
-use Rattle.usb_run.specs.RunSegments.{Arrives, Comes, Knows, LeavesSettled, Ran, idle, silent}
-use Rattle.usb_run.specs.RunSegments.{Reaches, Rounds, none, more, Settled, Settles}
-use Rattle.usb_run.specs.Transcript.{AppendsText, Makes, asked, last}
-use Rattle.usb_host.specs.HostCalls.{TransferTells}
-use Rattle.usb_run.specs.Transfers.{IsItemOf}
+use Rattle.usb_run.specs.{Item, Arrives, Comes, Knows, LeavesSettled, Ran, idle, silent, Reaches}
+use Rattle.usb_run.specs.{Rounds, none, more, Settled, Settles, AppendsText, Makes, asked, last}
+use Rattle.usb_run.specs.{IsItemOf}
 use Rattle.usb_run.proofs.AskedCalls.{answered, Calls, no_call, sends, receives, clears, item_calls}
 use Rattle.usb_run.proofs.courses.RunCourses.{RunsOnward, called_onward, comes_onward}
 use Rattle.usb_run.proofs.courses.RunCourses.{settles_onward}
@@ -50,8 +42,7 @@ fair_from : (w v : World) → RunsOnward w v → IsFairTo v v → IsFairTo w v
 fair_from w v on fair = record {
   still = fair.still;
   few = subst AtMostTwoRunning (course_later (on fair.still).course).damages fair.few;
-  kept =
-      fair.kept;
+  kept = fair.kept;
 }
 
 pub stays_sound_then : (a b c : HostState) → RunsOnward a.world b.world → RunsOnward b.world c.world

@@ -3,15 +3,11 @@ use Rattle.std.proofs.Common.{◌≡◌, refl, sym, ap, subst, false, ℕ, List,
 use Rattle.std.proofs.Common.{Err}
 use Rattle.std.specs.Prelude.{OnOk, IsSome, is_some}
 use Rattle.usb_world.specs.declared.event.Ask.{Ask}
-use Rattle.usb_world.specs.declared.types.BusFault.{BusFault}
-use Rattle.usb_world.specs.declared.types.BusFault.TheVariants.{LimitReached, Memory, TraceFailed}
-use Rattle.usb_world.specs.PlanData.{PlanData}
-use Rattle.usb_world.specs.Steps.{TookEvent, after, event, opening}
-use Rattle.usb_world.specs.World.{World}
-use Rattle.usb_address.specs.Ownership.{MapHolds, WhileBusWorks}
+use Rattle.usb_world.specs.{BusFault, LimitReached, Memory, TraceFailed, PlanData, TookEvent, after}
+use Rattle.usb_world.specs.{event, opening, World}
+use Rattle.usb_address.specs.{MapHolds, WhileBusWorks}
 use Rattle.usb_address.proofs.Interface.{event_keeps, opening_reach, opening_settled}
-use Rattle.usb_host.specs.HostState.{HostState}
-use Rattle.usb_host.specs.Ownership.{IsUntouched, HostMapHolds, claims}
+use Rattle.usb_host.specs.{HostState, IsUntouched, HostMapHolds, claims}
 
 -- before anything came, nothing is reachable
 pub untouched : (plan : PlanData) → IsUntouched (opening plan)

@@ -1,11 +1,8 @@
 -- Rounds come to an end.
 use Rattle.std.proofs.Common.{◌≡◌, ◌≢◌, refl, ap, arith, ℕ, ◌+◌, ◌-◌, ◌*◌, ◌≤◌, ◌<◌, Ok}
-use Rattle.usb_world.specs.World.{to_come}
-use Rattle.usb_host.specs.declared.host.Round.{Round}
-use Rattle.usb_host.specs.declared.host.Round.TheVariants.{Worked, Quiet}
-use Rattle.usb_host.specs.HostState.{HostState}
-use Rattle.usb_host.specs.Progress.{HostProgress, Remains, idle_work}
-use Rattle.usb_host.specs.HostCalls.{RoundTells}
+use Rattle.usb_world.specs.{to_come}
+use Rattle.usb_host.specs.{Round, Worked, Quiet, HostState, HostProgress, Remains, idle_work}
+use Rattle.usb_host.specs.{RoundTells}
 
 -- what is left to do, and the attempts and the events that may still come
 abbrev pub rounds_left : HostState → ℕ
@@ -33,8 +30,7 @@ event_falls old new round g remains other =
     let same : idle_work new ≡ idle_work (record old {
       world = new.world;
       trace = new.trace;
-      pipes =
-          new.pipes;
+      pipes = new.pipes;
     }) = ap idle_work remains in
     omega (
       arith,

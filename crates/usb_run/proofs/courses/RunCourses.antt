@@ -2,20 +2,15 @@
 use Rattle.std.proofs.Common.{◌≡◌, ℕ, List, Bool, Option, None, Some, Result, Ok, Err, refl, ap}
 use Rattle.std.proofs.Common.{sym, subst, ◌∙◌}
 use Rattle.usb_world.specs.declared.event.Ask.{Ask}
-use Rattle.usb_world.specs.declared.types.Attempt.{Attempt}
-use Rattle.usb_world.specs.declared.types.BusFault.{BusFault}
-use Rattle.usb_world.specs.declared.types.Outcome.{Outcome}
-use Rattle.usb_world.specs.Steps.{AnyStep, Course, here, step, attempt, root_call, event, after}
-use Rattle.usb_world.specs.World.{World}
+use Rattle.usb_world.specs.{Attempt, BusFault, Outcome, AnyStep, Course, here, step, attempt}
+use Rattle.usb_world.specs.{root_call, event, after, World}
 use Rattle.usb_world.proofs.Interface.{course_joined}
-use Rattle.usb_bus.specs.Traces.{Attempts, TakesEvent, Traced, still, attempted, called}
-use Rattle.usb_host.specs.HostState.{HostState}
-use Rattle.usb_run.specs.declared.runs.Item.{Item}
-use Rattle.usb_run.specs.declared.runs.RunFault.{RunFault}
-use Rattle.usb_run.specs.declared.mode.Mode.{Mode}
-use Rattle.usb_run.specs.RunSegments.{Arrives, Comes, Ran, idle, silent, Reaches, Settles}
-use Rattle.usb_run.specs.Transcript.{Makes, asked, last, RunStops, in_round, at_event, in_item}
-use Rattle.usb_run.specs.Transcript.{in_last, AppendsText, CutsText, Transcript, begun, told}
+use Rattle.usb_bus.specs.{Attempts, TakesEvent, Traced, still, attempted, called}
+use Rattle.usb_host.specs.{HostState}
+use Rattle.usb_run.specs.{Item, RunFault, Mode, Arrives, Comes, Ran, idle, silent, Reaches, Settles}
+use Rattle.usb_run.specs.{Makes, asked, last, RunStops, in_round, at_event, in_item, in_last}
+use Rattle.usb_run.specs.{AppendsText, CutsText, begun, told}
+use Rattle.usb_run.specs.Transcript.{Transcript}
 use Rattle.usb_run.proofs.courses.RunParts.{Called, item_called, settles_called, stop_called}
 use Rattle.usb_run.proofs.courses.RunParts.{unsettled_called}
 use Rattle.usb_enum.proofs.Interface.{sound_before}
@@ -67,8 +62,7 @@ pub takes_onward : (w v : World) (result : Result (Option (Option Ask)) BusFault
 takes_onward w v (Ok due) takes h =
     record {
       sound = sound_before w v (Ok due) h takes.took.again;
-      course =
-          subst (Course AnyStep w) (sym takes.exact) (step event tt (here (after event w)));
+      course = subst (Course AnyStep w) (sym takes.exact) (step event tt (here (after event w)));
     }
 takes_onward w v (Err fault) takes h = absurd (cc (h, takes.took.ends.told))
 

@@ -3,28 +3,16 @@ use Rattle.std.proofs.Common.{◌≡◌, refl, sym, ap, subst, arith, ℕ, ◌+�
 use Rattle.std.proofs.Common.{false, Option, None, Some, Result, Ok, Err}
 use Rattle.std.specs.Prelude.{IsSome, IsTrue}
 use Rattle.usb_world.specs.declared.event.Ask.{Ask}
-use Rattle.usb_world.specs.declared.types.BusFault.{BusFault}
-use Rattle.usb_world.specs.World.{World, AttemptsWithin, to_come}
+use Rattle.usb_world.specs.{BusFault, World, AttemptsWithin, to_come}
 use Rattle.usb_world.proofs.Interface.{spends_none, spends_then}
-use Rattle.usb_bus.specs.Traces.{TakesEvent}
+use Rattle.usb_bus.specs.{TakesEvent}
 use Rattle.usb_bus.proofs.Interface.{went_none, went_then}
-use Rattle.usb_host.specs.Agreement.{Agrees}
-use Rattle.usb_host.specs.Bounds.{round_bound}
-use Rattle.usb_host.specs.declared.fault.HostFault.{HostFault}
-use Rattle.usb_host.specs.declared.host.Round.{Round}
-use Rattle.usb_host.specs.HostState.{HostState}
-use Rattle.usb_host.specs.Progress.{HostSteps, OnlyBusSteps}
-use Rattle.usb_run.specs.declared.runs.Item.{Item}
-use Rattle.usb_run.specs.declared.runs.RunFault.{RunFault}
-use Rattle.usb_run.specs.Run.{Spent}
-use Rattle.usb_host.specs.HostCalls.{RoundTells}
+use Rattle.usb_host.specs.{Agrees, round_bound, HostFault, Round, HostState, HostSteps}
+use Rattle.usb_host.specs.{OnlyBusSteps, RoundTells, TransferTells}
+use Rattle.usb_run.specs.{Item, RunFault, Spent, Arrives, Ran, idle, Reaches, Rounds, none, more}
+use Rattle.usb_run.specs.{Settled, Settles, Settling, Unsettled, Makes, asked, last, RunStops}
+use Rattle.usb_run.specs.{in_round, at_event, in_item, in_last, Does, IsItemOf, StopsAt}
 use Rattle.usb_run.specs.RunSegments as run
-use Rattle.usb_run.specs.RunSegments.{Arrives, Ran, idle, Reaches, Rounds, none, more, Settled}
-use Rattle.usb_run.specs.RunSegments.{Settles, Settling, Unsettled}
-use Rattle.usb_run.specs.Transcript.{Makes, asked, last, RunStops, in_round, at_event, in_item}
-use Rattle.usb_run.specs.Transcript.{in_last}
-use Rattle.usb_host.specs.HostCalls.{TransferTells}
-use Rattle.usb_run.specs.Transfers.{Does, IsItemOf, StopsAt}
 use Rattle.usb_run.proofs.AskedCalls.{AskAnswered, silent, listed, sent, received, cleared}
 use Rattle.usb_run.proofs.AskedCalls.{answered, Calls, no_call, sends, receives, clears, item_calls}
 use Rattle.usb_run.proofs.AskedCalls.{stop_calls}
@@ -145,8 +133,7 @@ arrives_taken old mid new result {w} {t} settles settled agrees rests same trace
       mid = mid;
       settles = settles;
       settled = settled;
-      comes =
-          record { takes = subst P same (subst Q trace takes); rests = rests; agrees = agrees };
+      comes = record { takes = subst P same (subst Q trace takes); rests = rests; agrees = agrees };
     }
 
 -- Counts

@@ -3,15 +3,11 @@ use Rattle.std.proofs.Common.{◌≡◌, ◌≢◌, ◌∙◌, refl, sym, ap, su
 use Rattle.std.proofs.Common.{Err, IsErrAnd}
 use Rattle.std.specs.Prelude.{IfErr}
 use Rattle.usb_world.specs.declared.types.BusFault.TheVariants as bus
-use Rattle.usb_world.specs.World.{World}
-use Rattle.usb_host.specs.HostState.{HostState}
-use Rattle.usb_run.specs.declared.runs.Item.{Item}
-use Rattle.usb_run.specs.declared.runs.RunFault.{RunFault}
-use Rattle.usb_run.specs.declared.runs.RunFault.TheVariants.{TraceFailed}
-use Rattle.usb_run.specs.declared.mode.Mode.{Mode}
-use Rattle.usb_run.specs.Run.{IsCaused, Spent}
-use Rattle.usb_run.specs.Transcript.{RunsTo, StoppedRun, behind, on_the_way, unwritten, in_text}
-use Rattle.usb_run.specs.Transcript.{Transcript, begun, told}
+use Rattle.usb_world.specs.{World}
+use Rattle.usb_host.specs.{HostState}
+use Rattle.usb_run.specs.{Item, RunFault, TraceFailed, Mode, IsCaused, Spent, RunsTo, StoppedRun}
+use Rattle.usb_run.specs.{behind, on_the_way, unwritten, in_text, begun, told}
+use Rattle.usb_run.specs.Transcript.{Transcript}
 use Rattle.usb_run.proofs.courses.RunParts.{makes_spent, stops_spent}
 
 -- what is so of the fault that is told is so of the result

@@ -3,33 +3,21 @@ use Rattle.std.proofs.Common.{◌≡◌, ◌∙◌, refl, sym, ap, ap₂, subst,
 use Rattle.std.proofs.Common.{Option, Result, Err, false}
 use Rattle.std.proofs.lemmas.List.Elements.{All-cons, All-nil}
 use Rattle.std.specs.Prelude.{All, IfErr}
-use Rattle.usb_device.specs.Tree.{new_ports, row_of}
-use Rattle.usb_world.specs.PlanData.{PlanData, IsPlan}
-use Rattle.usb_world.specs.PlanCourses.{AtPorts}
-use Rattle.usb_world.specs.Steps.{opening}
+use Rattle.usb_device.specs.{new_ports, row_of}
+use Rattle.usb_world.specs.{PlanData, IsPlan, AtPorts, opening, BusFault, LimitReached, Memory}
+use Rattle.usb_world.specs.{TraceFailed, World, Failed}
 use Rattle.usb_enum.proofs.Interface.{opening_in_order}
-use Rattle.usb_world.specs.declared.types.BusFault.{BusFault}
-use Rattle.usb_world.specs.declared.types.BusFault.TheVariants.{LimitReached, Memory, TraceFailed}
-use Rattle.usb_world.specs.World.{World, Failed}
-use Rattle.usb_host.specs.HostState.{HostState, opening_host as host_opening}
-use Rattle.usb_host.specs.Ownership.{IsUntouched}
-use Rattle.usb_host.specs.Soundness.{HostInvariant, IsUnpowered, RefusalsJustified}
-use Rattle.usb_run.specs.declared.runs.RunFault.{RunFault}
-use Rattle.usb_run.specs.declared.runs.RunFault.TheVariants.{Memory as NoMemory}
-use Rattle.usb_run.specs.declared.transfer.TransferFault.{TransferFault}
-use Rattle.usb_run.specs.Transfers.{transfer_ended, answer_of_pipe, failed}
-use Rattle.usb_pipe.specs.declared.fault.PipeFault.{PipeFault}
+use Rattle.usb_host.specs.{HostState, opening_host as host_opening, IsUntouched, HostInvariant}
+use Rattle.usb_host.specs.{IsUnpowered, RefusalsJustified, HostFault, IsOfPipe, RoundFaultAllowed}
+use Rattle.usb_host.specs.{TransferFaultAllowed, is_final, RoundTells, Round}
+use Rattle.usb_run.specs.{RunFault, Memory as NoMemory, TransferFault, transfer_ended}
+use Rattle.usb_run.specs.{answer_of_pipe, failed, Knows, OneRound, IsCaused, RunsOn, round_fault}
+use Rattle.usb_run.specs.{run_fault, Opens}
+use Rattle.usb_pipe.specs.{PipeFault}
 use Rattle.usb_pipe.specs.declared.fault.PipeFault.TheVariants as pipe
-use Rattle.usb_host.specs.declared.fault.HostFault.{HostFault}
 use Rattle.usb_host.specs.declared.fault.HostFault.TheVariants as host
-use Rattle.usb_host.specs.ToldFaults.{IsOfPipe, RoundFaultAllowed, TransferFaultAllowed, is_final}
-use Rattle.usb_bus.specs.Traces.{Traced}
-use Rattle.usb_host.specs.HostCalls.{RoundTells}
-use Rattle.usb_run.specs.RunSegments.{Knows, OneRound}
+use Rattle.usb_bus.specs.{Traced}
 use Rattle.usb_run.proofs.courses.RunParts.{round_running}
-use Rattle.usb_host.specs.declared.host.Round.{Round}
-use Rattle.usb_run.specs.Run.{IsCaused, RunsOn, round_fault, run_fault}
-use Rattle.usb_run.specs.Reports.{Opens}
 use Rattle.usb_run.proofs.courses.Ownership.{untouched}
 
 -- a fault that a bus told has its cause
@@ -147,8 +135,7 @@ opens_with plan w t h {before} same silent opens traced sound rules paths =
       sound = sound (subst IsUntouched (sym same) (untouched plan))
           (subst IsUnpowered (sym same) (record {
             off = off_new plan.roots;
-            order =
-                opening_in_order plan rules refl;
+            order = opening_in_order plan rules refl;
           }));
       rules = rules;
       paths = paths;
@@ -170,6 +157,5 @@ pub knows_opened : (plan : PlanData) (h : HostState) {before : Option (List ℕ)
     → Opens plan before h → Knows h
 knows_opened plan h opens = record {
   sound = opens.sound;
-  causes =
-      λ fair. opened_causes plan h opens;
+  causes = λ fair. opened_causes plan h opens;
 }

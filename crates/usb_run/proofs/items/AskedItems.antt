@@ -2,13 +2,9 @@
 use Rattle.std.proofs.Common.{◌≡◌, refl, sym, subst, false, Option, None, Some, Result, Ok, Err}
 use Rattle.std.proofs.Common.{IsErrAnd}
 use Rattle.usb_world.specs.declared.event.Ask.{Ask}
-use Rattle.usb_world.specs.declared.event.Ask.TheVariants.{Show}
-use Rattle.usb_host.specs.HostState.{HostState}
-use Rattle.usb_run.specs.declared.runs.Item.{Item}
-use Rattle.usb_run.specs.declared.runs.RunFault.{RunFault}
-use Rattle.usb_run.specs.declared.runs.RunFault.TheVariants.{Memory}
-use Rattle.usb_run.specs.Run.{RunsOn, listing_of}
-use Rattle.usb_run.specs.Transfers.{Does, Gives}
+use Rattle.usb_world.specs.{Show}
+use Rattle.usb_host.specs.{HostState}
+use Rattle.usb_run.specs.{Item, RunFault, Memory, RunsOn, listing_of, Does, Gives}
 use Rattle.usb_run.proofs.endings.Ends.{error_runs_on}
 
 abbrev ItemAsked : Option Ask → HostState → Result (Option Item) RunFault → HostState → Type 0

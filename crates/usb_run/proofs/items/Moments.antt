@@ -2,35 +2,21 @@
 use Rattle.std.proofs.Common.{◌≡◌, ◌∙◌, refl, sym, ap, subst, true, false, length, List, [], ◌∷◌}
 use Rattle.std.proofs.Common.{Bool, Option, None, Some, Result, Ok, Err}
 use Rattle.std.specs.List.{AllByRecursion}
-use Rattle.usb_device.specs.Spec.{Spec}
-use Rattle.usb_device.specs.Tree.{Ports}
-use Rattle.usb_world.specs.declared.event.Action.{Action}
+use Rattle.usb_device.specs.{Spec, Ports}
+use Rattle.usb_world.specs.{Action, Show, Send, Receive, Clear, Event, BusFault, PlanData, IsPlan}
+use Rattle.usb_world.specs.{AtPorts, after, ask_of, event, event_taken, after_change, opening}
+use Rattle.usb_world.specs.{after_event, after_first_event, World}
 use Rattle.usb_world.specs.declared.event.Action.TheVariants as act
 use Rattle.usb_world.specs.declared.event.Ask.{Ask}
-use Rattle.usb_world.specs.declared.event.Ask.TheVariants.{Show, Send, Receive, Clear}
-use Rattle.usb_world.specs.declared.event.Event.{Event}
-use Rattle.usb_world.specs.declared.types.BusFault.{BusFault}
-use Rattle.usb_world.specs.PlanData.{PlanData, IsPlan}
-use Rattle.usb_world.specs.PlanCourses.{AtPorts}
-use Rattle.usb_world.specs.Steps.{after, ask_of, event, event_taken, after_change, opening}
-use Rattle.usb_world.specs.Steps.{after_event, after_first_event}
-use Rattle.usb_world.specs.World.{World}
-use Rattle.usb_bus.specs.Lines.{next_due}
-use Rattle.usb_table.specs.Deliveries.{Delivered}
+use Rattle.usb_bus.specs.{next_due}
+use Rattle.usb_table.specs.{Delivered}
 use Rattle.usb_table.proofs.Interface.{lists_of_plan}
-use Rattle.usb_host.specs.HostState.{HostState}
-use Rattle.usb_host.specs.Soundness.{IsFairTo}
-use Rattle.usb_host.specs.Transfers.{table_in}
-use Rattle.usb_run.specs.declared.runs.Item.{Item}
+use Rattle.usb_host.specs.{HostState, IsFairTo, table_in}
+use Rattle.usb_run.specs.{Item, RunFault, Mode, IsListingOf, ListsRight, TellsRight, Reaches}
+use Rattle.usb_run.specs.{Settled, listing_of, Makes, asked, last, RunsTo, StoppedRun, behind}
+use Rattle.usb_run.specs.{on_the_way, unwritten, in_text, begun, told, IsItemOf, sent_count}
 use Rattle.usb_run.specs.declared.runs.Item.TheVariants as item
-use Rattle.usb_run.specs.declared.runs.RunFault.{RunFault}
-use Rattle.usb_run.specs.declared.mode.Mode.{Mode}
-use Rattle.usb_run.specs.Moments.{IsListingOf, ListsRight, TellsRight}
-use Rattle.usb_run.specs.RunSegments.{Reaches, Settled}
-use Rattle.usb_run.specs.Run.{listing_of}
-use Rattle.usb_run.specs.Transcript.{Makes, asked, last, RunsTo, StoppedRun, behind, on_the_way}
-use Rattle.usb_run.specs.Transcript.{unwritten, in_text, Transcript, begun, told}
-use Rattle.usb_run.specs.Transfers.{IsItemOf, sent_count}
+use Rattle.usb_run.specs.Transcript.{Transcript}
 use Rattle.usb_run.proofs.AskedCalls.{AskAnswered, silent, listed, sent, received, cleared}
 use Rattle.usb_run.proofs.AskedCalls.{answered}
 use Rattle.usb_run.proofs.courses.KnowledgeKept.{arrival_settled, fair_after, fair_before}
@@ -185,8 +171,7 @@ module _ (plan : PlanData) (rules : IsPlan plan) (paths : AtPorts plan.events) (
       let here = onward_then (opening plan) old.world h.world before (transcript_onward t) in
       let later = onward_then k.world new.world end (puts_onward puts) on in (
         made_right here makes later,
-        items_right before t
-            (onward_then h.world k.world end (makes_onward makes) later),
+        items_right before t (onward_then h.world k.world end (makes_onward makes) later),
       )
 
   stopped_right : {mode : Mode} {IsOf : RunFault → Type 0} {IsCut : Type 0} {was : Bool}
@@ -202,8 +187,7 @@ module _ (plan : PlanData) (rules : IsPlan plan) (paths : AtPorts plan.events) (
       let here = onward_then (opening plan) old.world h.world before (transcript_onward t) in
       let later = onward_then k.world new.world end (cuts_onward cuts) on in (
         made_right here makes later,
-        items_right before t
-            (onward_then h.world k.world end (makes_onward makes) later),
+        items_right before t (onward_then h.world k.world end (makes_onward makes) later),
       )
 
   run_right : {A E : Type 0} (mode : Mode) (words : RunFault → E) (CutsAt : E → Type 0) (was : Bool)

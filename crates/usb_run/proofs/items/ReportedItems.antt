@@ -7,24 +7,15 @@ use Rattle.std.proofs.lemmas.List.{get_or-reverse, length-reverse}
 use Rattle.std.proofs.lemmas.List.Elements.{All-from_recursion}
 use Rattle.std.specs.List.{AllByRecursion}
 use Rattle.std.specs.Prelude.{All, IfErr, IfOk}
-use Rattle.usb_world.specs.PlanData.{PlanData}
-use Rattle.usb_world.specs.Wire.{AtMostTwoRunning}
-use Rattle.usb_world.specs.World.{World, AttemptsWithin}
+use Rattle.usb_world.specs.{PlanData, AtMostTwoRunning, World, AttemptsWithin}
 use Rattle.usb_world.proofs.Interface.{spends_none}
-use Rattle.usb_host.specs.HostState.{HostState}
-use Rattle.usb_run.specs.declared.runs.Item.{Item}
-use Rattle.usb_run.specs.declared.runs.Report.{Report}
+use Rattle.usb_host.specs.{HostState}
+use Rattle.usb_run.specs.{Item, Report, RunFault, Memory, TraceFailed, Tree, IsListingOf}
+use Rattle.usb_run.specs.{ListsPlugged, Knows, EndsWell, Finishes, Opens, RunsWell, Next}
+use Rattle.usb_run.specs.{AppendsText, begun, behind, itself, never, told, Mode, IsCaused, Spent}
 use Rattle.usb_world.specs.declared.types.BusFault.TheVariants as bus
-use Rattle.usb_run.specs.declared.runs.RunFault.{RunFault}
-use Rattle.usb_run.specs.declared.runs.RunFault.TheVariants.{Memory, TraceFailed}
-use Rattle.usb_run.specs.declared.mode.Mode.TheVariants.{Tree}
-use Rattle.usb_run.specs.Moments.{IsListingOf, ListsPlugged}
-use Rattle.usb_run.specs.RunSegments.{Knows}
-use Rattle.usb_run.specs.Reports.{EndsWell, Finishes, Opens, Reports, RunsWell}
-use Rattle.usb_run.specs.Transcript.{Next, AppendsText, Transcript, begun, behind, itself, never}
-use Rattle.usb_run.specs.Transcript.{told}
-use Rattle.usb_run.specs.declared.mode.Mode.{Mode}
-use Rattle.usb_run.specs.Run.{IsCaused, Spent}
+use Rattle.usb_run.specs.Reports.{Reports}
+use Rattle.usb_run.specs.Transcript.{Transcript}
 use Rattle.usb_run.proofs.endings.Causes.{at_fault, run_limit, untold_trace}
 use Rattle.usb_run.proofs.endings.Ends.{limit_opened}
 use Rattle.usb_run.proofs.courses.KnowledgeKept.{makes_knows}
@@ -108,8 +99,7 @@ report_over {h = h} r on k report next made attempts losses worst = record {
     items_made = made ∙ r.in_order;
     attempts = attempts;
     losses = losses;
-    worst =
-        worst;
+    worst = worst;
   };
   caused = tt;
 }
@@ -185,8 +175,7 @@ runs_plugged plan report runs few = λ worst.
     (runs.lists (record {
       still = done_still runs.finishes.ends;
       few = few;
-      kept =
-          subst (λ n. n ≤ 2) told.worst worst;
+      kept = subst (λ n. n ≤ 2) told.worst worst;
     }))
 
 pub ends_plugged : (plan : PlanData) (result : Result Report RunFault) → EndsWell plan result

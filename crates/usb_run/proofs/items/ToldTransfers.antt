@@ -3,24 +3,14 @@ use Rattle.std.proofs.Common.{◌≡◌, ◌≢◌, ◌∙◌, refl, sym, ap, su
 use Rattle.std.proofs.Common.{Result, Ok, Err}
 use Rattle.std.specs.Global.{Vec}
 use Rattle.std.specs.Prelude.{is_ok}
-use Rattle.usb_world.specs.declared.types.BusFault.{BusFault}
-use Rattle.usb_world.specs.World.{World}
+use Rattle.usb_world.specs.{BusFault, World}
 use Rattle.usb_pipe.specs.declared.fault.PipeFault.TheVariants as pipe_fault
-use Rattle.usb_table.specs.declared.fault.EndpointFault.{EndpointFault}
-use Rattle.usb_table.specs.declared.fault.EndpointFault.TheVariants.{Pipe}
-use Rattle.usb_table.specs.declared.pipes.Pipes.{Pipes}
-use Rattle.usb_table.specs.Deliveries.{Delivered, Collected, Restarted, bytes_in}
+use Rattle.usb_table.specs.{EndpointFault, Pipe, Pipes, Delivered, Collected, Restarted, bytes_in}
 use Rattle.usb_table.proofs.Interface.{sent_delivers, received_collects, cleared_restarts}
-use Rattle.usb_host.specs.declared.fault.HostFault.{HostFault}
-use Rattle.usb_host.specs.HostState.{HostState}
-use Rattle.usb_host.specs.Ownership.{claims}
-use Rattle.usb_host.specs.Soundness.{HostInvariant}
-use Rattle.usb_host.specs.ToldFaults.{host_told}
-use Rattle.usb_host.specs.Transfers.{MovesThrough, table_in}
-use Rattle.usb_run.specs.declared.runs.RunFault.{RunFault}
-use Rattle.usb_run.specs.declared.transfer.TransferFault.{TransferFault}
-use Rattle.usb_host.specs.HostCalls.{ClearTells, ReceiveTells, SendTells}
-use Rattle.usb_run.specs.Transfers.{Transfers, transfer_ended, failed, sent_count}
+use Rattle.usb_host.specs.{HostFault, HostState, claims, HostInvariant, host_told, MovesThrough}
+use Rattle.usb_host.specs.{table_in, ClearTells, ReceiveTells, SendTells}
+use Rattle.usb_run.specs.{RunFault, TransferFault, transfer_ended, failed, sent_count}
+use Rattle.usb_run.specs.Transfers.{Transfers}
 
 -- What is told of an answer of the table's
 

@@ -6,17 +6,13 @@ use Rattle.std.proofs.Common.{◌<◌}
 use Rattle.std.specs.Global.{Vec}
 use Rattle.std.specs.Io.KnownBytes.{Appends}
 use Rattle.std.proofs.KnownBytes.{Appends-nil, Appends-trans}
-use Rattle.usb_bus.specs.Watch.{AppendsFront}
+use Rattle.usb_bus.specs.{AppendsFront}
 use Rattle.usb_bus.proofs.Interface.{front_after}
-use Rattle.usb_world.specs.World.{World}
-use Rattle.usb_world.specs.declared.types.BusFault.{BusFault}
-use Rattle.usb_host.specs.HostState.{HostState}
-use Rattle.usb_host.specs.Progress.{OnlyBusSteps}
-use Rattle.usb_run.specs.declared.runs.Item.{Item}
-use Rattle.usb_run.specs.declared.runs.RunFault.{RunFault}
-use Rattle.usb_run.specs.declared.mode.Mode.{Mode}
-use Rattle.usb_run.specs.Transcript.{CutsText, RunsTo, Next, AppendsText, StoppedRun, RunStops}
-use Rattle.usb_run.specs.Transcript.{Transcript, told, on_the_way, unwritten, in_text, shown}
+use Rattle.usb_world.specs.{World, BusFault}
+use Rattle.usb_host.specs.{HostState, OnlyBusSteps}
+use Rattle.usb_run.specs.{Item, RunFault, Mode, CutsText, RunsTo, Next, AppendsText, StoppedRun}
+use Rattle.usb_run.specs.{RunStops, told, on_the_way, unwritten, in_text, shown}
+use Rattle.usb_run.specs.Transcript.{Transcript}
 
 -- nothing is written
 pub appends_no_text : (h : HostState) → AppendsText [] h h

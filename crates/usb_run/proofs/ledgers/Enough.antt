@@ -4,20 +4,11 @@ use Rattle.std.proofs.Common.{length, false, Option, Result, Err}
 use Rattle.std.proofs.Math.Nat.{le_trans}
 use Rattle.std.specs.Prelude.{IfErr}
 use Rattle.std.specs.List.{sum_by}
-use Rattle.usb_world.specs.PlanData.{PlanData}
-use Rattle.usb_host.specs.Budget.{Weights, event_weight}
-use Rattle.usb_host.specs.Plugs.{plug_events}
-use Rattle.usb_host.specs.HostState.{HostState}
-use Rattle.usb_plan.specs.Attempts.{bound_of, enough_for, greatest_total, moved}
-use Rattle.usb_run.specs.declared.runs.Item.{Item}
-use Rattle.usb_run.specs.declared.runs.Report.{Report}
-use Rattle.usb_run.specs.declared.runs.RunFault.{RunFault}
-use Rattle.usb_run.specs.declared.runs.RunFault.TheVariants.{LimitReached}
-use Rattle.usb_run.specs.declared.mode.Mode.{Mode}
-use Rattle.usb_run.specs.declared.mode.Mode.TheVariants.{Tree}
-use Rattle.usb_run.specs.Run.{IsCaused}
-use Rattle.usb_run.specs.Reports.{EndsWell, Opens}
-use Rattle.usb_run.specs.Transcript.{RunsTo, itself, never}
+use Rattle.usb_world.specs.{PlanData}
+use Rattle.usb_host.specs.{Weights, event_weight, plug_events, HostState}
+use Rattle.usb_plan.specs.{bound_of, enough_for, greatest_total, moved}
+use Rattle.usb_run.specs.{Item, Report, RunFault, LimitReached, Mode, Tree, IsCaused, EndsWell}
+use Rattle.usb_run.specs.{Opens, RunsTo, itself, never}
 use Rattle.usb_run.proofs.ledgers.Ledgers.{Paid, carries_paid, most_owed, opens_paid}
 use Rattle.usb_run.proofs.ledgers.PlanWeights.{bound_uncut, weights}
 use Rattle.usb_run.proofs.ledgers.RunBounds.{run_few}

@@ -4,16 +4,11 @@ use Rattle.std.proofs.Common.{Option, None, Some, refl, sym, subst, arith}
 use Rattle.std.specs.List.{sum_by}
 use Rattle.std.proofs.lemmas.List.Elements.{All-tail}
 use Rattle.std.proofs.lemmas.List.Sums.{sum_by-cons}
-use Rattle.usb_world.specs.declared.event.Event.{Event}
-use Rattle.usb_world.specs.declared.types.Attempt.{Attempt}
-use Rattle.usb_world.specs.declared.types.BusFault.{BusFault}
-use Rattle.usb_world.specs.declared.types.BusFault.TheVariants.{LimitReached}
-use Rattle.usb_world.specs.PlanCourses.{AtPorts, PlugsAtPort}
-use Rattle.usb_world.specs.Steps.{AnyStep, Course, Step, here, step, attempt, root_call, event}
-use Rattle.usb_world.specs.Steps.{report, after, attempted, after_due_events, event_taken, is_due}
-use Rattle.usb_world.specs.Steps.{at_attempt, after_event, after_first_event, with_attempt}
-use Rattle.usb_world.specs.World.{World}
-use Rattle.usb_plan.specs.Attempts.{moved}
+use Rattle.usb_world.specs.{Event, Attempt, BusFault, LimitReached, AtPorts, PlugsAtPort, AnyStep}
+use Rattle.usb_world.specs.{Course, Step, here, step, attempt, root_call, event, report, after}
+use Rattle.usb_world.specs.{attempted, after_due_events, event_taken, is_due, at_attempt}
+use Rattle.usb_world.specs.{after_event, after_first_event, with_attempt, World}
+use Rattle.usb_plan.specs.{moved}
 
 -- what is so of the events to come, and stays so where the first one comes
 module _ (P : List Event → Type 0) (tail : (e : Event) (events : List Event) → P (e ∷ events)

@@ -3,42 +3,23 @@ use Rattle.std.proofs.Common.{◌≡◌, ◌≢◌, ◌≤◌, ◌∙◌, ℕ, �
 use Rattle.std.proofs.Common.{[], ◌∷◌, length, Option, None, Some, Result, Ok, Err}
 use Rattle.std.specs.List.{sum_by}
 use Rattle.std.proofs.lemmas.List.Sums.{sum_by-cons}
-use Rattle.usb_world.specs.declared.event.Action.{Action}
+use Rattle.usb_world.specs.{Action, Send, Receive, Clear, Event, BusFault, PlanData, IsPlan}
+use Rattle.usb_world.specs.{AtPorts, AnyStep, Course, after, ask_of, event, event_taken, opening}
+use Rattle.usb_world.specs.{after_event, after_first_event, World, to_come}
 use Rattle.usb_world.specs.declared.event.Action.TheVariants as action
 use Rattle.usb_world.specs.declared.event.Ask.{Ask}
-use Rattle.usb_world.specs.declared.event.Ask.TheVariants.{Send, Receive, Clear}
-use Rattle.usb_world.specs.declared.event.Event.{Event}
-use Rattle.usb_world.specs.declared.types.BusFault.{BusFault}
-use Rattle.usb_world.specs.PlanData.{PlanData, IsPlan}
-use Rattle.usb_world.specs.PlanCourses.{AtPorts}
-use Rattle.usb_world.specs.Steps.{AnyStep, Course, after, ask_of, event, event_taken, opening}
-use Rattle.usb_world.specs.Steps.{after_event, after_first_event}
-use Rattle.usb_world.specs.World.{World, to_come}
 use Rattle.usb_world.proofs.Interface.{course_joined}
-use Rattle.usb_backlog.specs.Marks.{KeepsBy, looks_by, strays_by, unmarked}
+use Rattle.usb_backlog.specs.{KeepsBy, looks_by, strays_by, unmarked}
 use Rattle.usb_backlog.proofs.Interface.{few-none, keeps-event}
-use Rattle.usb_bus.specs.Lines.{next_due}
-use Rattle.usb_bus.specs.Traces.{Traced, still}
-use Rattle.usb_transaction.specs.Transactions.{transaction_bound}
-use Rattle.usb_host.specs.declared.fault.HostFault.{HostFault}
-use Rattle.usb_host.specs.declared.host.Round.{Round}
-use Rattle.usb_host.specs.declared.host.Round.TheVariants.{Worked, Quiet}
-use Rattle.usb_host.specs.Backlog.{hubs}
-use Rattle.usb_host.specs.Bounds.{clear_bound}
-use Rattle.usb_host.specs.Budget.{Affords, Costs, PaysRound, RoundPaid, Weights, debt, event_weight}
-use Rattle.usb_host.specs.Budget.{hub_weight, look_weight, stray_weight}
-use Rattle.usb_host.specs.Plugs.{HasPlugs, plug_events}
-use Rattle.usb_host.specs.HostState.{HostState, opening_host as host_opening}
-use Rattle.usb_host.specs.Soundness.{HostInvariant}
+use Rattle.usb_bus.specs.{next_due, Traced, still}
+use Rattle.usb_transaction.specs.{transaction_bound}
+use Rattle.usb_host.specs.{HostFault, Round, Worked, Quiet, hubs, clear_bound, Affords, Costs}
+use Rattle.usb_host.specs.{PaysRound, RoundPaid, Weights, debt, event_weight, hub_weight}
+use Rattle.usb_host.specs.{look_weight, stray_weight, HasPlugs, plug_events, HostState}
+use Rattle.usb_host.specs.{opening_host as host_opening, HostInvariant, RoundTells, TransferTells}
 use Rattle.usb_host.proofs.Interface.{plugs_opening, plugs_same}
-use Rattle.usb_plan.specs.Attempts.{moved, moved_in}
-use Rattle.usb_run.specs.declared.runs.Item.{Item}
-use Rattle.usb_run.specs.declared.runs.RunFault.{RunFault}
-use Rattle.usb_host.specs.HostCalls.{RoundTells}
-use Rattle.usb_run.specs.RunSegments.{Comes}
-use Rattle.usb_run.specs.Reports.{Opens}
-use Rattle.usb_host.specs.HostCalls.{TransferTells}
-use Rattle.usb_run.specs.Transfers.{IsItemOf, StopsAt}
+use Rattle.usb_plan.specs.{moved, moved_in}
+use Rattle.usb_run.specs.{Item, RunFault, Comes, Opens, IsItemOf, StopsAt}
 use Rattle.usb_run.proofs.AskedCalls.{answered, Calls, no_call, sends, receives, clears, item_calls}
 use Rattle.usb_run.proofs.AskedCalls.{stop_calls}
 use Rattle.usb_run.proofs.ledgers.EventsLeft.{moved_left, at_ports-course}
@@ -185,8 +166,7 @@ module _ (c : Weights) (plan : PlanData) where
   paid_less h r q less x = record {
     few = x.few;
     affords = x.affords;
-    owes =
-        λ none. room_within (weight_owed c h) q r most less (x.owes none);
+    owes = λ none. room_within (weight_owed c h) q r most less (x.owes none);
   }
 
   -- A round
@@ -377,8 +357,7 @@ module _ (c : Weights) (plan : PlanData) where
   written_paid a trace x = record {
     few = x.few;
     affords = λ none. so (x.affords none);
-    owes =
-        x.owes;
+    owes = x.owes;
   }
     where
       so : Affords c plan a → Affords c plan (record a { trace = trace })

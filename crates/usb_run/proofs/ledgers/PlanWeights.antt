@@ -4,29 +4,21 @@ use Rattle.std.proofs.Common.{slice_get, Option, None, Some, false, refl, arith}
 use Rattle.std.specs.Prelude.{All, IfSome}
 use Rattle.std.specs.List.{sum_by}
 use Rattle.std.proofs.lemmas.List.Elements.{All-cons, All-nil}
-use Rattle.usb_device.specs.Spec.{Spec}
-use Rattle.usb_device.specs.SaidLengths.{said_lengths}
-use Rattle.usb_device.specs.Tree.{new_ports, row_of}
-use Rattle.usb_world.specs.declared.event.Action.{Action}
+use Rattle.usb_device.specs.{Spec, said_lengths, new_ports, row_of}
+use Rattle.usb_world.specs.{Action, Plug, Unplug, Event, PlanData, IsPlan, change_of, changes}
 use Rattle.usb_world.specs.declared.event.Action.TheVariants.{Change, Ask}
-use Rattle.usb_world.specs.declared.event.Change.TheVariants.{Plug, Unplug}
-use Rattle.usb_world.specs.declared.event.Event.{Event}
-use Rattle.usb_world.specs.PlanData.{PlanData, IsPlan}
-use Rattle.usb_world.specs.World.{change_of, changes}
-use Rattle.usb_backlog.specs.Marks.{PortMark, after_first, looks_by, strays_by}
-use Rattle.usb_enum.specs.TextLengths.{PlugsWithin}
-use Rattle.usb_host.specs.Budget.{Weights}
-use Rattle.usb_host.specs.HostState.{with_power}
-use Rattle.usb_plan.specs.Attempts.{bound_of, enough_for, greatest_total, moved, plugged_total}
-use Rattle.usb_plan.specs.Attempts.{total_after, total_at}
+use Rattle.usb_backlog.specs.{PortMark, after_first, looks_by, strays_by}
+use Rattle.usb_enum.specs.{PlugsWithin}
+use Rattle.usb_host.specs.{Weights, with_power}
+use Rattle.usb_plan.specs.{bound_of, enough_for, greatest_total, moved, plugged_total, total_after}
+use Rattle.usb_plan.specs.{total_at}
 use Rattle.usb_run.proofs.ledgers.Sums.{uncut}
 
 -- the weights of a plan
 abbrev pub weights : PlanData → Weights
 weights plan = record {
   polls = 768 * length plan.events;
-  most =
-      greatest_total plan.devices plan.events;
+  most = greatest_total plan.devices plan.events;
 }
 
 -- The greatest total is that of no device that is plugged

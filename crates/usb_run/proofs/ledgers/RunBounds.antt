@@ -2,20 +2,14 @@
 use Rattle.std.proofs.Common.{◌≡◌, ◌≤◌, ℕ, refl, sym, subst, List, Bool, false, Option, None, Some}
 use Rattle.std.proofs.Common.{Result, Ok, Err}
 use Rattle.usb_world.specs.declared.event.Ask.{Ask}
-use Rattle.usb_world.specs.declared.types.BusFault.{BusFault}
-use Rattle.usb_host.specs.declared.fault.HostFault.{HostFault}
-use Rattle.usb_host.specs.declared.host.Round.{Round}
-use Rattle.usb_host.specs.HostState.{HostState}
-use Rattle.usb_run.specs.declared.runs.Item.{Item}
-use Rattle.usb_run.specs.declared.runs.RunFault.{RunFault}
-use Rattle.usb_run.specs.declared.mode.Mode.{Mode}
-use Rattle.usb_host.specs.HostCalls.{RoundTells}
-use Rattle.usb_run.specs.RunSegments.{Arrives, Comes, EndsSettling, Ran, idle, silent, Reaches}
-use Rattle.usb_run.specs.RunSegments.{Rounds, none, more, Settles, Unsettled}
-use Rattle.usb_run.specs.Transcript.{AppendsText, CutsText, Makes, asked, last, RunsTo, StoppedRun}
-use Rattle.usb_run.specs.Transcript.{behind, on_the_way, unwritten, in_text, RunStops, in_round}
-use Rattle.usb_run.specs.Transcript.{at_event, in_item, in_last, Transcript, begun, told}
-use Rattle.usb_run.specs.Transfers.{IsItemOf, StopsAt}
+use Rattle.usb_world.specs.{BusFault}
+use Rattle.usb_host.specs.{HostFault, Round, HostState, RoundTells}
+use Rattle.usb_run.specs.{Item, RunFault, Mode, Arrives, Comes, EndsSettling, Ran, idle, silent}
+use Rattle.usb_run.specs.{Reaches, Rounds, none, more, Settles, Unsettled, AppendsText, CutsText}
+use Rattle.usb_run.specs.{Makes, asked, last, RunsTo, StoppedRun, behind, on_the_way, unwritten}
+use Rattle.usb_run.specs.{in_text, RunStops, in_round, at_event, in_item, in_last, begun, told}
+use Rattle.usb_run.specs.{IsItemOf, StopsAt}
+use Rattle.usb_run.specs.Transcript.{Transcript}
 
 -- at most so many attempts were made
 abbrev pub Few : ℕ → HostState → Type 0

@@ -4,14 +4,9 @@ use Rattle.std.proofs.Common.{◌≡◌, ◌≤◌, ℕ, refl, sym, subst, arith
 use Rattle.std.proofs.Common.{Ok, Err}
 use Rattle.std.specs.Prelude.{length}
 use Rattle.usb_world.specs.declared.event.Ask.{Ask}
-use Rattle.usb_world.specs.PlanData.{PlanData}
-use Rattle.usb_world.specs.World.{changes, root_row, to_come}
-use Rattle.usb_host.specs.declared.fault.HostFault.{HostFault}
-use Rattle.usb_host.specs.declared.host.Round.{Round}
-use Rattle.usb_host.specs.HostState.{HostState}
-use Rattle.usb_host.specs.HostCalls.{RoundTells}
-use Rattle.usb_run.specs.RunSegments.{Comes}
-use Rattle.usb_run.specs.Reports.{Opens}
+use Rattle.usb_world.specs.{PlanData, changes, root_row, to_come}
+use Rattle.usb_host.specs.{HostFault, Round, HostState, RoundTells}
+use Rattle.usb_run.specs.{Comes, Opens}
 use Rattle.usb_run.proofs.ledgers.PlanWeights.{changes-opening}
 use Rattle.usb_run.proofs.ledgers.RunBounds.{Carries}
 use Rattle.usb_run.proofs.ledgers.Sums.{still_within}
@@ -50,8 +45,7 @@ carries_void = record {
     entries = x.entries;
     changed = x.changed;
     few = x.few;
-    none =
-        x.none;
+    none = x.none;
   };
 }
 

@@ -1,10 +1,10 @@
 //! The simulated bus as the host sees it.
 ghost use Rattle.std.specs.Prelude.{◌≡◌, ◌+◌, ◌-◌, ◌<◌, ◌≤◌, ◌∷◌, [], length, slice_index_or, true, false, None};
-ghost use Rattle.usb_port.specs.PortState.{off, status_of};
+ghost use Rattle.usb_port.specs.PortStates.{off, status_of};
 ghost use Rattle.usb_device.specs.HolderIndex.{IsIndexOf};
 ghost use Rattle.usb_device.specs.Tree.{row_of, changed, called};
 ghost use Rattle.usb_port.specs.Calls.{IsSetFeature, IsClearFeature};
-ghost use Rattle.usb_world.specs.World.{Attempted, IsAttempt, IsRootPort};
+ghost use Rattle.usb_world.specs.Worlds.{Attempted, IsAttempt, IsRootPort};
 ghost use Rattle.usb_world.specs.Steps.{AttemptFails, SetsRoot, ClearsRoot, after, root_call};
 ghost use Rattle.usb_bus.specs.Traces.{Attempts};
 ghost use Rattle.usb_world.specs.declared.types.BusFault.TheVariants.{TraceFailed};
@@ -48,7 +48,7 @@ impl<T: Trace> Bus for SimBus<T> {
         self.roots.count() as u8
     }
 
-    #[tactic(auto, unfolding(usb_world::specs::World::root_port_at))]
+    #[tactic(auto, unfolding(usb_world::specs::Worlds::root_port_at))]
     fn root_status(&self, port: u8) -> [u8; 4] {
         status_of(&self.roots, port)
     }

@@ -13,7 +13,7 @@ pub struct Descriptions {
 
 impl Model for Descriptions {
     ghost use Rattle.std.specs.Prelude.{List, map};
-    ghost use Rattle.usb_device.specs.Spec.{Spec};
+    ghost use Rattle.usb_device.specs.DeviceSpecs.{Spec};
 
     ghost Value = { List Spec };
 

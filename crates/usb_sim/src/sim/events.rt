@@ -2,9 +2,9 @@
 ghost use Rattle.std.specs.Prelude.{◌≡◌, ◌+◌, ◌<◌, ◌≤◌, [], ◌∷◌, ◌++◌, length, true, Ok, Some, None, OnOk, OnErr, IsTrue, IsSome};
 ghost use Rattle.usb_device.specs.HolderIndex.{IsIndexOf};
 ghost use Rattle.usb_device.specs.Tree.{row_of, changed, replaced};
-ghost use Rattle.usb_world.specs.World.{changes, to_come};
+ghost use Rattle.usb_world.specs.Worlds.{changes, to_come};
 ghost use Rattle.usb_world.specs.Steps.{after, event, after_change, has_due};
-ghost use Rattle.usb_world.specs.PlanData.{can_be_done};
+ghost use Rattle.usb_world.specs.Plans.{can_be_done};
 ghost use Rattle.usb_bus.specs.Lines.{event_line};
 ghost use Rattle.usb_bus.specs.Trace.{plug_line, unplug_line};
 ghost use Rattle.usb_bus.specs.Traces.{TakesEvent};

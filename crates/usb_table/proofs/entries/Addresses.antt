@@ -2,10 +2,10 @@
 use Rattle.std.proofs.Common.{◌≡◌, ◌≢◌, ◌∙◌, refl, sym, ap, ℕ, List, Option, Some, None}
 use Rattle.std.specs.Prelude.{IsSome, is_some}
 use Rattle.std.specs.Option.{option_map}
-use Rattle.usb_enum.specs.declared.finding.Finding.{Finding}
-use Rattle.usb_table.specs.Findings.{address_found, HasDevice, HasNoDevice}
-use Rattle.usb_table.specs.Keys.{Slots, PathKeys, AddressKeys, key_of_path, key_of_address}
-use Rattle.usb_table.specs.Keys.{finding_under, entries_of, address_in, AreIndexes}
+use Rattle.usb_enum.specs.{Finding}
+use Rattle.usb_table.specs.{address_found, HasDevice, HasNoDevice, Slots, PathKeys, AddressKeys}
+use Rattle.usb_table.specs.{key_of_path, key_of_address, finding_under, entries_of, address_in}
+use Rattle.usb_table.specs.{AreIndexes}
 use Rattle.usb_table.proofs.entries.Keys.{entries-lookup, entries_of-key, some_address}
 use Rattle.usb_table.proofs.entries.Keys.{finding_stands}
 

@@ -7,23 +7,13 @@ use Rattle.std.specs.BTreeMap.{is_at, insert_entry}
 use Rattle.std.specs.Ordering.{match_ordering}
 use Rattle.std.specs.declared.cmp.Ordering.{Ordering}
 use Rattle.std.specs.declared.cmp.Ordering.TheVariants.{Less, Equal, Greater}
-use Rattle.usb_port.specs.Order.{path_cmp}
-use Rattle.usb_device.specs.Rows.{State}
-use Rattle.usb_device.specs.Spec.{IsSpec}
-use Rattle.usb_device.specs.Tree.{reach}
-use Rattle.usb_device.specs.View.{state_there}
-use Rattle.usb_world.specs.World.{World}
-use Rattle.usb_enum.specs.declared.finding.Accepted.{Accepted}
-use Rattle.usb_enum.specs.declared.finding.Finding.{Finding}
+use Rattle.usb_port.specs.{path_cmp}
+use Rattle.usb_device.specs.{State, IsSpec, reach, state_there}
+use Rattle.usb_world.specs.{World}
+use Rattle.usb_enum.specs.{Accepted, Finding, IsOwn}
 use Rattle.usb_enum.specs.declared.finding.Finding.TheVariants.{Device, Refused}
-use Rattle.usb_enum.specs.Findings.{IsOwn}
-use Rattle.usb_table.specs.declared.pipes.Pipes.{Pipes}
-use Rattle.usb_table.specs.declared.pipes.Pipes.TheVariants.{Absent}
-use Rattle.usb_table.specs.Findings.{accepted_device_of, accepted_device_at}
-use Rattle.usb_table.specs.KnownPorts.{is_below_hub}
-use Rattle.usb_table.specs.Levels.{PipesInSync, InSyncAt}
-use Rattle.usb_table.specs.Pipes.{new_pipes}
-use Rattle.usb_table.specs.Table.{Table, pipes_at, entered}
+use Rattle.usb_table.specs.{Pipes, Absent, accepted_device_of, accepted_device_at, is_below_hub}
+use Rattle.usb_table.specs.{PipesInSync, InSyncAt, new_pipes, Table, pipes_at, entered}
 use Rattle.usb_table.proofs.levels.NewPipes.{new_level}
 use Rattle.usb_table.proofs.entries.Paths.{path_tied, path_itself}
 

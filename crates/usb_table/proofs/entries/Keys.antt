@@ -17,17 +17,13 @@ use Rattle.std.proofs.lemmas.List.Elements.{All-head, All-tail}
 use Rattle.std.proofs.lemmas.Map.Keys.{IsDistinct-from_sorted}
 use Rattle.std.proofs.lemmas.Map.Made.{lookup-map_values}
 use Rattle.std.proofs.lemmas.Map.Views.{All-values_from_lookup}
-use Rattle.usb_port.specs.Order.{path_cmp}
-use Rattle.usb_enum.specs.declared.cause.Cause.TheVariants.{Silent}
-use Rattle.usb_enum.specs.declared.finding.Finding.{Finding}
+use Rattle.usb_port.specs.{path_cmp}
+use Rattle.usb_enum.specs.{Silent, Finding}
 use Rattle.usb_enum.specs.declared.finding.Finding.TheVariants.{Refused}
-use Rattle.usb_table.specs.declared.pipes.Pipes.{Pipes}
-use Rattle.usb_table.specs.Table.{Table}
-use Rattle.usb_table.specs.Entries.{Entries, Rises, has_at, is_at_or_below}
-use Rattle.usb_table.specs.declared.entry.Entry.{Entry}
-use Rattle.usb_table.specs.Keys.{TableSlots, Slots, PathKeys, AddressKeys, key_of_path}
-use Rattle.usb_table.specs.Keys.{key_of_address, under, values_by_path, findings, finding_under}
-use Rattle.usb_table.specs.Keys.{entries_of, address_in, with_address, without_address}
+use Rattle.usb_table.specs.{Pipes, Table, Entries, Rises, has_at, is_at_or_below, Entry, TableSlots}
+use Rattle.usb_table.specs.{Slots, PathKeys, AddressKeys, key_of_path, key_of_address, under}
+use Rattle.usb_table.specs.{values_by_path, findings, finding_under, entries_of, address_in}
+use Rattle.usb_table.specs.{with_address, without_address}
 
 -- Tests of keys
 

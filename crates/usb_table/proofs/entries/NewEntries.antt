@@ -11,19 +11,15 @@ use Rattle.std.specs.Cmp.Lexicographic.{pointwise, texts_ties}
 use Rattle.std.proofs.lemmas.Bool.{eq-eqb}
 use Rattle.std.proofs.lemmas.Option.{same_Some}
 use Rattle.std.proofs.lemmas.List.Sums.{sum_by-cons}
-use Rattle.usb_port.specs.Order.{path_cmp, is_below}
-use Rattle.usb_enum.specs.declared.cause.Cause.TheVariants.{Silent}
-use Rattle.usb_enum.specs.declared.finding.Finding.{Finding}
+use Rattle.usb_port.specs.{path_cmp, is_below}
+use Rattle.usb_enum.specs.{Silent, Finding}
 use Rattle.usb_enum.specs.declared.finding.Finding.TheVariants.{Device, Refused}
 use Rattle.usb_tree.proofs.Interface.{neither}
-use Rattle.usb_table.specs.declared.indexes.Indexes.{Indexes}
-use Rattle.usb_table.specs.declared.pipes.Pipes.TheVariants.{Absent}
-use Rattle.usb_table.specs.Entries.{Entries, has_at, is_at_or_below}
-use Rattle.usb_table.specs.Findings.{address_found, has_address, HasNewAddress}
-use Rattle.usb_table.specs.declared.entry.Entry.{Entry}
-use Rattle.usb_table.specs.Keys.{IsPiped, TableSlots, Slots, PathKeys, AddressKeys, key_of_path}
-use Rattle.usb_table.specs.Keys.{key_of_address, findings, pipings, values_by_path, entries_of}
-use Rattle.usb_table.specs.Keys.{table_of, address_in, AreIndexes, ArePiped, UpdatesAddress, Enters}
+use Rattle.usb_table.specs.{Indexes, Absent, Entries, has_at, is_at_or_below, address_found}
+use Rattle.usb_table.specs.{has_address, HasNewAddress, Entry, IsPiped, TableSlots, Slots, PathKeys}
+use Rattle.usb_table.specs.{AddressKeys, key_of_path, key_of_address, findings, pipings}
+use Rattle.usb_table.specs.{values_by_path, entries_of, table_of, address_in, AreIndexes, ArePiped}
+use Rattle.usb_table.specs.{UpdatesAddress, Enters}
 use Rattle.usb_table.proofs.entries.Keys.{number_tied, number_itself, same_or_not, entries_of-key}
 use Rattle.usb_table.proofs.entries.Keys.{entries-has_at, values_by_path-insert, agree}
 use Rattle.usb_table.proofs.entries.Keys.{some_address, none_or, findings-standing, same_table}
@@ -148,8 +144,7 @@ module _ (old new : Slots) (before after : Indexes) (path : List ℕ) (key : ℕ
     named = named;
     addressed = λ a k. (
       to_address (address_found finding) refl enters.address_keys a k,
-      λ h. from_by (address_found finding) refl enters.address_keys free a k h
-          (same_or_not k key),
+      λ h. from_by (address_found finding) refl enters.address_keys free a k h (same_or_not k key),
     );
   }
 

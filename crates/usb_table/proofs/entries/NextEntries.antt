@@ -14,13 +14,11 @@ use Rattle.std.proofs.lemmas.Bool.{and_parts, and_from}
 use Rattle.std.proofs.lemmas.Map.{lookup-none}
 use Rattle.std.proofs.lemmas.Map.Entries.{none_below_head, none_past_head, lookup_head, lookup_tail}
 use Rattle.std.proofs.lemmas.Map.Keys.{IsDistinct-from_sorted, sorted_tail}
-use Rattle.usb_port.specs.Order.{path_cmp}
-use Rattle.usb_enum.specs.declared.finding.Finding.{Finding}
+use Rattle.usb_port.specs.{path_cmp}
+use Rattle.usb_enum.specs.{Finding}
 use Rattle.usb_table.proofs.entries.Paths.{path_tied, path_itself}
-use Rattle.usb_table.specs.Entries.{Entries, Rises}
-use Rattle.usb_table.specs.Keys.{Slots, PathKeys, entries_of, finding_under}
-use Rattle.usb_table.specs.Kinds.{start_after}
-use Rattle.usb_table.specs.NextEntries.{ComesAfter, Stands, IsNext, IsLast}
+use Rattle.usb_table.specs.{Entries, Rises, Slots, PathKeys, entries_of, finding_under, start_after}
+use Rattle.usb_table.specs.{ComesAfter, Stands, IsNext, IsLast}
 
 -- the path comes after the last one, where there is one
 abbrev pub is_after : Option (List ℕ) → List ℕ → Bool
@@ -105,8 +103,7 @@ module _ (kind : Finding → Bool) (last : Option (List ℕ)) (e : List ℕ × F
     in_tail_by q fails s false tie =
         record {
           finding = s.finding;
-          found = sym (lookup_tail (is_at (path_cmp q)) e es tie)
-              ∙ s.found;
+          found = sym (lookup_tail (is_at (path_cmp q)) e es tie) ∙ s.found;
           fits = s.fits;
           after = s.after;
         }
@@ -119,16 +116,14 @@ module _ (kind : Finding → Bool) (last : Option (List ℕ)) (e : List ℕ × F
         → IsNext kind last (e ∷ es) e.0
     next_here rises pass = record {
       stands = here pass;
-      least =
-          λ other s. path_cmp-not_less other e es s.finding rises s.found;
+      least = λ other s. path_cmp-not_less other e es s.finding rises s.found;
     }
 
     next_later : (path : List ℕ) → Rises (e ∷ es) → (is_after last e.0 && kind e.1) ≡ false
         → IsNext kind last es path → IsNext kind last (e ∷ es) path
     next_later path rises fails next = record {
       stands = later path rises next.stands;
-      least =
-          λ other s. next.least other (in_tail other fails s);
+      least = λ other s. next.least other (in_tail other fails s);
     }
 
     next_step : (path : List ℕ) → Rises (e ∷ es)

@@ -3,7 +3,7 @@ use Rattle.std.proofs.Common.{◌≡◌, ◌∙◌, sym, true, ℕ, List}
 use Rattle.std.specs.BTreeMap.{is_at}
 use Rattle.std.specs.Cmp.{eq_by_cmp_equiv}
 use Rattle.std.specs.Cmp.Lexicographic.{nat_list_cmp_total, same_text, texts_ties}
-use Rattle.usb_port.specs.Order.{path_cmp}
+use Rattle.usb_port.specs.{path_cmp}
 
 pub path_tied : (q k : List ℕ) → is_at (path_cmp q) k ≡ true → q ≡ k
 path_tied q k tie = same_text q k (sym (texts_ties q k ∙ tie))

@@ -9,19 +9,14 @@ use Rattle.std.specs.Cmp.Lexicographic.{pointwise, same_text}
 use Rattle.std.proofs.lemmas.Map.Entries.{lookup-filter-keys}
 use Rattle.std.proofs.lemmas.Bool.{leb-true}
 use Rattle.std.proofs.lemmas.Option.{same_Some}
-use Rattle.usb_port.specs.Order.{path_cmp, is_below, parent_of, port_on_hub}
+use Rattle.usb_port.specs.{path_cmp, is_below, parent_of, port_on_hub}
 use Rattle.usb_port.proofs.Interface.{is_below-extension, rejoined}
-use Rattle.usb_hub.specs.declared.port.HubPort.TheVariants.{External}
-use Rattle.usb_enum.specs.declared.finding.Accepted.{Accepted}
-use Rattle.usb_enum.specs.declared.finding.Finding.{Finding}
+use Rattle.usb_hub.specs.{External}
+use Rattle.usb_enum.specs.{Accepted, Finding, HubFacts, target_of}
 use Rattle.usb_enum.specs.declared.finding.Finding.TheVariants.{Device, Refused}
-use Rattle.usb_enum.specs.declared.hub.HubFacts.{HubFacts}
-use Rattle.usb_enum.specs.Device.{target_of}
 use Rattle.usb_table.proofs.entries.Paths.{path_tied}
-use Rattle.usb_table.specs.Entries.{Entries, is_at_or_below, without}
-use Rattle.usb_table.specs.KnownPorts.{known_port, port_below, port_found, is_below_hub}
-use Rattle.usb_table.specs.KnownPorts.{port_of_hub}
-use Rattle.usb_table.specs.declared.known.KnownPort.{KnownPort}
+use Rattle.usb_table.specs.{Entries, is_at_or_below, without, known_port, port_below, port_found}
+use Rattle.usb_table.specs.{is_below_hub, port_of_hub, KnownPort}
 
 -- a longer path is not at a shorter one or above it
 is_below-short : (hub path : List ℕ) → length hub < length path → (same under : Bool)
@@ -86,8 +81,7 @@ port_of_hub-some device below_hub n port (Some facts) told e = pick (nat_le n fa
     pick : (fits : Bool) → nat_le n facts.ports ≡ fits
         → (if fits then Some (record {
           port = External (target_of device below_hub) n;
-          supply =
-              facts.supply;
+          supply = facts.supply;
         }) else None) ≡ Some port
         → FoundPort (Some (Device device)) below_hub n port
     pick true fits e = record {
@@ -95,8 +89,7 @@ port_of_hub-some device below_hub n port (Some facts) told e = pick (nat_le n fa
       facts = facts;
       stands = refl;
       told = told;
-      most =
-          leb-true n facts.ports fits;
+      most = leb-true n facts.ports fits;
       is = sym (same_Some _ port e);
     }
     pick false fits e = absurd (cc e)

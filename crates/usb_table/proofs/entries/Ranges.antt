@@ -15,10 +15,9 @@ use Rattle.std.specs.Cmp.Lexicographic.{pointwise, same_text}
 use Rattle.std.specs.declared.cmp.Ordering.TheVariants.{Less, Equal, Greater}
 use Rattle.std.proofs.lemmas.Bool.{or_cases, or_from, and_from, eq-eqb, cases_Bool, cases_order}
 use Rattle.std.proofs.lemmas.Map.Keys.{sorted_head, sorted_tail}
-use Rattle.usb_port.specs.Order.{path_cmp, is_below}
+use Rattle.usb_port.specs.{path_cmp, is_below}
 use Rattle.usb_port.proofs.Interface.{is_below-extension}
-use Rattle.usb_table.specs.Entries.{is_at_or_below}
-use Rattle.usb_table.specs.Keys.{PathKeys}
+use Rattle.usb_table.specs.{is_at_or_below, PathKeys}
 use Rattle.usb_tree.proofs.Interface.{or_left, or_right}
 
 -- ---- paths

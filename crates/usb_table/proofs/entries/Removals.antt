@@ -4,12 +4,11 @@ use Rattle.std.specs.Prelude.{ℕ, ◌+◌, List, [], ◌∷◌, length, Bool, t
 use Rattle.std.specs.List.{filter}
 use Rattle.std.specs.Map.{lookup, remove_entry}
 use Rattle.std.specs.BTreeMap.{is_at}
-use Rattle.usb_port.specs.Order.{path_cmp}
-use Rattle.usb_enum.specs.declared.finding.Finding.{Finding}
+use Rattle.usb_port.specs.{path_cmp}
+use Rattle.usb_enum.specs.{Finding}
 use Rattle.usb_tree.proofs.Interface.{neither}
 use Rattle.usb_table.proofs.entries.Paths.{path_tied}
-use Rattle.usb_table.specs.Entries.{Entries, has_at, is_at_or_below, without}
-use Rattle.usb_table.specs.Table.{Table, TakesOut}
+use Rattle.usb_table.specs.{Entries, has_at, is_at_or_below, without, Table, TakesOut}
 
 length_without : (test : List ℕ → Bool) (es : Entries) (v : Finding) → lookup test es ≡ Some v
     → length (remove_entry test es) + 1 ≡ length es

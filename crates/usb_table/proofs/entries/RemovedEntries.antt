@@ -6,17 +6,12 @@ use Rattle.std.specs.Map.{keys_of, remove_entry}
 use Rattle.std.specs.BTreeMap.{is_at}
 use Rattle.std.specs.List.Sorted.{IsStrictlySortedBy}
 use Rattle.std.specs.Ordering.{nat_cmp}
-use Rattle.usb_port.specs.Order.{path_cmp}
-use Rattle.usb_enum.specs.declared.cause.Cause.TheVariants.{Silent}
-use Rattle.usb_enum.specs.declared.finding.Finding.{Finding}
+use Rattle.usb_port.specs.{path_cmp}
+use Rattle.usb_enum.specs.{Silent, Finding}
 use Rattle.usb_enum.specs.declared.finding.Finding.TheVariants.{Refused}
-use Rattle.usb_table.specs.declared.pipes.Pipes.TheVariants.{Absent}
-use Rattle.usb_table.specs.Findings.{address_found}
-use Rattle.usb_table.specs.declared.entry.Entry.{Entry}
-use Rattle.usb_table.specs.Keys.{TableSlots, Slots, PathKeys, AddressKeys, key_of_path}
-use Rattle.usb_table.specs.Keys.{key_of_address, findings, pipings, values_by_path, table_of}
-use Rattle.usb_table.specs.Keys.{address_in, AreIndexes, ArePiped, UpdatesAddress}
-use Rattle.usb_table.specs.Table.{removed}
+use Rattle.usb_table.specs.{Absent, address_found, Entry, TableSlots, Slots, PathKeys, AddressKeys}
+use Rattle.usb_table.specs.{key_of_path, key_of_address, findings, pipings, values_by_path}
+use Rattle.usb_table.specs.{table_of, address_in, AreIndexes, ArePiped, UpdatesAddress, removed}
 use Rattle.usb_table.proofs.entries.Keys.{number_tied, number_itself, same_or_not}
 use Rattle.usb_table.proofs.entries.Keys.{values_by_path-remove, agree, findings-standing}
 use Rattle.usb_table.proofs.entries.Keys.{same_table}

@@ -4,16 +4,13 @@ use Rattle.std.proofs.Common.{if◌then◌else◌, List, [], ◌∷◌, Option, 
 use Rattle.std.specs.Prelude.{nat_le, slice_index, IfSome}
 use Rattle.std.specs.Option.{option_or}
 use Rattle.std.proofs.lemmas.Bool.Decides.{nat_tests}
-use Rattle.usb_descriptor.specs.declared.fault.DescriptorFault.{DescriptorFault}
+use Rattle.usb_descriptor.specs.{DescriptorFault, Interface, Endpoint, Other, counts_after, picked}
+use Rattle.usb_descriptor.specs.{first_from, first_counting, is_bulk_size, bulk_described}
+use Rattle.usb_descriptor.specs.{bulk_out_at, bulk_in_at, packet_size, status_at, in_config}
+use Rattle.usb_descriptor.specs.{bulk_out_of, bulk_in_of, status_endpoint_of, config_of, items_of}
+use Rattle.usb_descriptor.specs.{is_in, endpoint_number, is_bulk, is_interrupt, transfer_of}
+use Rattle.usb_descriptor.specs.{max_packet_size}
 use Rattle.usb_descriptor.specs.declared.item.Item.{Item}
-use Rattle.usb_descriptor.specs.declared.item.Item.TheVariants.{Interface, Endpoint, Other}
-use Rattle.usb_descriptor.specs.Choice.{counts_after, picked, first_from, first_counting}
-use Rattle.usb_descriptor.specs.Choice.{is_bulk_size, bulk_described, bulk_out_at, bulk_in_at}
-use Rattle.usb_descriptor.specs.Choice.{packet_size, status_at, in_config, bulk_out_of, bulk_in_of}
-use Rattle.usb_descriptor.specs.Choice.{status_endpoint_of}
-use Rattle.usb_descriptor.specs.Config.{config_of}
-use Rattle.usb_descriptor.specs.Item.{items_of, is_in, endpoint_number, is_bulk, is_interrupt}
-use Rattle.usb_descriptor.specs.Item.{transfer_of, max_packet_size}
 
 -- what is so of each that is picked, is so of the first that counts
 

@@ -1,28 +1,19 @@
 -- What each call through pipes leaves of the device at their other ends: it is as far as the pipes.
-use Rattle.usb_device.specs.Tree.{Location}
+use Rattle.usb_device.specs.{Location, EndpointState, Registers, advanced, bulk_at, tells_changes}
+use Rattle.usb_device.specs.{SourceAt, PollAt, NeverTold, OnlyStage, OnlySink, OnlySource, State}
+use Rattle.usb_device.specs.{Spec}
 use Rattle.std.proofs.Common.{◌≡◌, ◌∙◌, refl, sym, ap, subst, Bool, true, false}
 use Rattle.std.specs.Prelude.{ℕ, ◌+◌, ◌==◌, ◌<◌, ◌&&◌, List, [], length, Option, None, Some, Result}
 use Rattle.std.specs.Prelude.{Ok, Err, IsOk}
 use Rattle.std.specs.Global.{Vec}
 use Rattle.arrayvec.specs.ArrayVec.{ArrayVec}
-use Rattle.usb_packet.specs.declared.Toggle.{Toggle}
-use Rattle.usb_device.specs.declared.bulk.EndpointState.{EndpointState}
-use Rattle.usb_device.specs.declared.request.Registers.{Registers}
-use Rattle.usb_device.specs.Bulk.{advanced, bulk_at, tells_changes}
-use Rattle.usb_device.specs.Progress.{SourceAt, PollAt, NeverTold, OnlyStage, OnlySink, OnlySource}
-use Rattle.usb_device.specs.Rows.{State}
-use Rattle.usb_device.specs.Spec.{Spec}
-use Rattle.usb_tree.specs.Paths.{address_of}
-use Rattle.usb_world.specs.World.{World}
-use Rattle.usb_pipe.specs.declared.fault.PipeFault.{PipeFault}
-use Rattle.usb_pipe.specs.Bulk.{Bulk}
-use Rattle.usb_pipe.specs.Interrupt.{Interrupt}
-use Rattle.usb_pipe.specs.Leaves.{OutPipeInSync, InPipeInSync, pipe_known, came_with, got_after}
-use Rattle.usb_pipe.specs.Leaves.{SendLeaves, ReceiveLeaves, ClearLeaves, PollLeaves}
-use Rattle.usb_table.specs.declared.pipes.Pipes.{Pipes}
-use Rattle.usb_table.specs.declared.pipes.Pipes.TheVariants.{Hub, Function, Absent}
-use Rattle.usb_table.specs.Levels.{StatusPipeInSync, FitsOut, FitsIn, PipesInSync}
-use Rattle.usb_table.specs.Transfers.{SameSettings}
+use Rattle.usb_packet.specs.{Toggle}
+use Rattle.usb_tree.specs.{address_of}
+use Rattle.usb_world.specs.{World}
+use Rattle.usb_pipe.specs.{PipeFault, Bulk, Interrupt, OutPipeInSync, InPipeInSync, pipe_known}
+use Rattle.usb_pipe.specs.{came_with, got_after, SendLeaves, ReceiveLeaves, ClearLeaves, PollLeaves}
+use Rattle.usb_table.specs.{Pipes, Hub, Function, Absent, StatusPipeInSync, FitsOut, FitsIn}
+use Rattle.usb_table.specs.{PipesInSync, SameSettings}
 use Rattle.usb_table.proofs.transfers.HaltClears.{ClearSpares}
 use Rattle.usb_table.proofs.transfers.DevicesKept.{RanAs}
 
@@ -47,8 +38,7 @@ still_sink : (pipe : Bulk) (s v : State) → SameSettings root s v → v.bulk_ou
 still_sink pipe s v k e f = record {
   endpoint = record {
     endpoint = same_end false s v k ∙ f.endpoint.endpoint;
-    not_zero =
-        f.endpoint.not_zero;
+    not_zero = f.endpoint.not_zero;
   };
   level = λ ready. ap (λ (x : EndpointState). x.toggle) e ∙ f.level ready;
   halted = λ halts. ap (λ (x : EndpointState). x.halted) e ∙ f.halted halts;
@@ -100,10 +90,8 @@ still_status : (pipe : Interrupt) (s v : State) → SameSettings root s v → v.
     → v.held ≡ s.held → StatusPipeInSync pipe s → StatusPipeInSync pipe v
 still_status pipe s v k e held f = record {
   tells = same_tells s v k ∙ f.tells;
-  level =
-      still_poll pipe.toggle s v e held f.level;
-  runs = ap (λ (x : EndpointState). x.halted) e
-      ∙ f.runs;
+  level = still_poll pipe.toggle s v e held f.level;
+  runs = ap (λ (x : EndpointState). x.halted) e ∙ f.runs;
 }
 
 -- where nothing changed but where the device's transfer stands
@@ -148,8 +136,7 @@ poll_moves pipe left old new (Ok got) j s v x ran = record {
   same = ap (λ (g : Registers). g.address) ran.1;
   itself = λ e at f. record {
     tells = same_tells s v (ran.0, ran.1) ∙ f.tells;
-    level =
-        x.level at f.tells f.level got refl;
+    level = x.level at f.tells f.level got refl;
     runs = ran.2 ∙ f.runs;
   };
 }
@@ -157,8 +144,7 @@ poll_moves pipe left old new (Err why) j s v x ran =
     record {
       others = x.others;
       same = ap (λ (g : Registers). g.address) ran.1;
-      itself =
-          λ e at f. absurd (cc e);
+      itself = λ e at f. absurd (cc e);
     }
 
 pub send_moves : (ends : Type 0) (bytes : List ℕ) (pipe left : Bulk) (into : Option Bulk)
@@ -193,8 +179,7 @@ receive_moves ends pipe left out answer j s v is x k = record {
         still_out out s v k (ap (λ (d : State). d.bulk_out) frame) f.0,
         (
           got,
-          known_itself ends answer left v (λ b. InPipeInSync b got) is e
-              (x.fits at f.1.0 f.1.1),
+          known_itself ends answer left v (λ b. InPipeInSync b got) is e (x.fits at f.1.0 f.1.1),
         ),
       );
 }

@@ -2,19 +2,12 @@
 use Rattle.std.proofs.Common.{◌≡◌, ◌≢◌, zero, suc, refl, sym, inl, inr, ap, subst, ◌∙◌}
 use Rattle.std.specs.Option.{option_map}
 use Rattle.std.specs.Prelude.{◌⊎◌, ℕ, List, [], ◌∷◌, Bool, true, false, Option, Some, None}
-use Rattle.usb_pipe.specs.Bulk.{Bulk, bulk_made}
-use Rattle.usb_pipe.specs.Interrupt.{Interrupt, interrupt_made}
-use Rattle.usb_pipe.specs.declared.condition.Condition.{Condition}
+use Rattle.usb_pipe.specs.{Bulk, bulk_made, Interrupt, interrupt_made, Condition}
 use Rattle.usb_pipe.specs.declared.condition.Condition.TheVariants.{Ready, Halted, Broken}
-use Rattle.usb_enum.specs.declared.finding.Accepted.{Accepted}
-use Rattle.usb_enum.specs.declared.finding.Finding.{Finding}
+use Rattle.usb_enum.specs.{Accepted, Finding}
 use Rattle.usb_enum.specs.declared.finding.Finding.TheVariants.{Device, Refused}
-use Rattle.usb_table.specs.declared.pipes.BulkPipes.{BulkPipes}
-use Rattle.usb_table.specs.declared.pipes.Pipes.{Pipes}
-use Rattle.usb_table.specs.declared.pipes.Pipes.TheVariants.{Hub, Function, Absent}
-use Rattle.usb_table.specs.Findings.{out_endpoint, in_endpoint}
-use Rattle.usb_table.specs.Pipes.{IsStatusPipe, IsPipe, ArePipesTo, ArePipesOf, both_made}
-use Rattle.usb_table.specs.Pipes.{pipes_made}
+use Rattle.usb_table.specs.{BulkPipes, Pipes, Hub, Function, Absent, out_endpoint, in_endpoint}
+use Rattle.usb_table.specs.{IsStatusPipe, IsPipe, ArePipesTo, ArePipesOf, both_made, pipes_made}
 
 pub broken_or_not : (c : Condition) → (c ≡ Broken) ⊎ (c ≢ Broken)
 broken_or_not Ready = inr (λ h. cc)

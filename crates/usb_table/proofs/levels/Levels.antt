@@ -4,27 +4,18 @@ use Rattle.std.proofs.Common.{◌==◌, eq-eqb}
 use Rattle.std.proofs.lemmas.Option.{same_Some}
 use Rattle.std.specs.Prelude.{List, [], ◌∷◌, Option, Some, None, option_map}
 use Rattle.std.specs.BTreeMap.{is_at}
-use Rattle.usb_port.specs.Order.{path_cmp}
-use Rattle.usb_device.specs.Rows.{State}
-use Rattle.usb_device.specs.Tree.{reach, Location, path_to, reach_on, state_on}
-use Rattle.usb_device.specs.View.{state_there}
-use Rattle.usb_world.specs.Devices.{Was, EachWas}
-use Rattle.usb_tree.specs.Paths.{address_of, is_way}
-use Rattle.usb_world.specs.World.{World}
+use Rattle.usb_port.specs.{path_cmp}
+use Rattle.usb_device.specs.{State, reach, Location, path_to, reach_on, state_on, state_there}
+use Rattle.usb_world.specs.{Was, EachWas, World}
+use Rattle.usb_tree.specs.{address_of, is_way}
 use Rattle.usb_world.proofs.Interface.{same_is}
 use Rattle.usb_tree.proofs.Interface.{equal_same, false_true}
-use Rattle.usb_hub.specs.Addresses.{StaysAs, EachElsewhere}
-use Rattle.usb_enum.specs.declared.finding.Accepted.{Accepted}
-use Rattle.usb_enum.specs.declared.finding.Finding.{Finding}
+use Rattle.usb_hub.specs.{StaysAs, EachElsewhere}
+use Rattle.usb_enum.specs.{Accepted, Finding}
 use Rattle.usb_enum.specs.declared.finding.Finding.TheVariants.{Device, Refused}
-use Rattle.usb_table.specs.declared.pipes.Pipes.{Pipes}
-use Rattle.usb_table.specs.Entries.{Entries}
-use Rattle.usb_table.specs.Findings.{accepted_device_of, accepted_device_at}
-use Rattle.usb_table.specs.Keys.{address_in}
-use Rattle.usb_table.specs.Levels.{PipesInSync, InSyncAt, AllInSync, IsHeld, KeepsInSync}
-use Rattle.usb_table.specs.Listing.{finding_at, entry_address}
-use Rattle.usb_table.specs.Table.{Table, pipes_at, GoesThrough}
-use Rattle.usb_table.specs.Transfers.{OnlyTransfers}
+use Rattle.usb_table.specs.{Pipes, Entries, accepted_device_of, accepted_device_at, address_in}
+use Rattle.usb_table.specs.{PipesInSync, InSyncAt, AllInSync, IsHeld, KeepsInSync, finding_at}
+use Rattle.usb_table.specs.{entry_address, Table, pipes_at, GoesThrough, OnlyTransfers}
 use Rattle.usb_table.proofs.levels.FittingPipes.{PipesMove, still_level}
 use Rattle.usb_table.proofs.entries.Paths.{path_itself, path_tied}
 
@@ -50,8 +41,7 @@ at_some_port : (table : Table) (w : World) (path : List ℕ)
 at_some_port table w [] f = record { level = λ device s e on there. false_true on }
 at_some_port table w (zero ∷ p) f = record { level = λ device s e on there. false_true on }
 at_some_port table w (suc j ∷ p) f = record {
-  level =
-      λ device s e on there. f (record { row = j; rest = p }) refl device s e on there;
+  level = λ device s e on there. f (record { row = j; rest = p }) refl device s e on there;
 }
 
 -- what is reached at a path holds the address of the path's entry

@@ -1,25 +1,18 @@
 -- What transfers leave of the pipes to a device.
-use Rattle.usb_device.specs.Tree.{Location}
+use Rattle.usb_device.specs.{Location, State}
 use Rattle.std.proofs.Common.{◌≡◌, ◌≢◌, inl, inr, refl, sym, subst, arith, Bool, true, false}
 use Rattle.std.specs.Prelude.{ℕ, ◌≤◌, List, Option, Some, None, Result, Ok, Err}
 use Rattle.std.specs.Global.{Vec}
-use Rattle.usb_world.specs.declared.types.BusFault.{BusFault}
-use Rattle.usb_device.specs.Rows.{State}
-use Rattle.usb_world.specs.Devices.{Relation, EachWas}
-use Rattle.usb_world.specs.World.{World}
+use Rattle.usb_world.specs.{BusFault, Relation, EachWas, World}
 use Rattle.usb_world.proofs.Interface.{each_both, each_none}
-use Rattle.usb_transaction.specs.declared.target.Target.{Target}
-use Rattle.usb_pipe.specs.declared.fault.PipeFault.{PipeFault}
+use Rattle.usb_transaction.specs.{Target}
+use Rattle.usb_pipe.specs.{PipeFault, Bulk, Sends, Receives, Clears, pipe_known, SendLeaves}
+use Rattle.usb_pipe.specs.{ReceiveLeaves, ClearLeaves}
 use Rattle.usb_pipe.specs.declared.fault.PipeFault.TheVariants as pipe_fault
-use Rattle.usb_pipe.specs.Bulk.{Bulk, Sends, Receives, Clears}
-use Rattle.usb_pipe.specs.Leaves.{pipe_known, SendLeaves, ReceiveLeaves, ClearLeaves}
 use Rattle.usb_pipe.proofs.Interface.{clear_leaves, receive_leaves, send_leaves}
-use Rattle.usb_enum.specs.declared.finding.Accepted.{Accepted}
+use Rattle.usb_enum.specs.{Accepted}
 use Rattle.usb_enum.proofs.Interface.{each_joint}
-use Rattle.usb_table.specs.declared.pipes.Pipes.{Pipes}
-use Rattle.usb_table.specs.declared.pipes.Pipes.TheVariants.{Function}
-use Rattle.usb_table.specs.Pipes.{IsBulkPipe}
-use Rattle.usb_table.specs.Transfers.{SameSettings, both_sides}
+use Rattle.usb_table.specs.{Pipes, Function, IsBulkPipe, SameSettings, both_sides}
 use Rattle.usb_table.proofs.transfers.HaltClears.{ClearSpares, cleared_apart}
 use Rattle.usb_table.proofs.levels.FittingPipes.{PipesMove, send_moves, receive_moves}
 use Rattle.usb_table.proofs.levels.KeptPipes.{ready_or_not}

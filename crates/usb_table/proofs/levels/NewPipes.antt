@@ -3,25 +3,18 @@ use Rattle.std.proofs.Common.{◌≡◌, ◌∙◌, refl, sym, ap, subst, Bool, 
 use Rattle.std.proofs.Common.{if◌then◌else◌, [], length, Option, None, Some}
 use Rattle.std.specs.Prelude.{nat_lt, slice_index, slice_index_or, is_some, IfSome}
 use Rattle.std.proofs.lemmas.Bool.{and_parts}
-use Rattle.usb_request.specs.Codes.{HUB_CLASS}
-use Rattle.usb_descriptor.specs.Choice.{bulk_out_of, bulk_in_of, status_endpoint_of}
-use Rattle.usb_device.specs.declared.bulk.EndpointState.{EndpointState}
-use Rattle.usb_device.specs.Bulk.{tells_changes, bulk_in as bulk_of_text}
-use Rattle.usb_device.specs.Progress.{PollAt, SourceAt}
-use Rattle.usb_device.specs.Rows.{State, bulk_of}
-use Rattle.usb_device.specs.Spec.{Hub as HubSpec, IsSpec, has_hub_class, hub_fits}
+use Rattle.usb_request.specs.{HUB_CLASS}
+use Rattle.usb_descriptor.specs.{bulk_out_of, bulk_in_of, status_endpoint_of}
+use Rattle.usb_device.specs.{EndpointState, tells_changes, bulk_in as bulk_of_text, PollAt}
+use Rattle.usb_device.specs.{SourceAt, State, bulk_of, Hub as HubSpec, IsSpec, has_hub_class}
+use Rattle.usb_device.specs.{hub_fits}
 use Rattle.usb_tree.proofs.Interface.{and_false}
-use Rattle.usb_hub.specs.Settings.{IsFresh}
-use Rattle.usb_enum.specs.declared.finding.Accepted.{Accepted}
+use Rattle.usb_hub.specs.{IsFresh}
+use Rattle.usb_enum.specs.{Accepted, HubFacts, IsAs, texts_of, is_good_hub, gives_hub}
+use Rattle.usb_enum.specs.{configuration_of, is_hub_device, IsOwn}
 use Rattle.usb_enum.specs.declared.finding.Finding.TheVariants.{Device}
-use Rattle.usb_enum.specs.declared.hub.HubFacts.{HubFacts}
-use Rattle.usb_enum.specs.Verdicts.{IsAs, texts_of, is_good_hub, gives_hub}
-use Rattle.usb_enum.specs.Device.{configuration_of, is_hub_device}
-use Rattle.usb_enum.specs.Findings.{IsOwn}
-use Rattle.usb_table.specs.declared.pipes.Pipes.TheVariants.{Function}
-use Rattle.usb_table.specs.Findings.{at_full_speed}
-use Rattle.usb_table.specs.Levels.{FitsOut, FitsIn, PipesInSync}
-use Rattle.usb_table.specs.Pipes.{new_status, new_bulk, new_pipes}
+use Rattle.usb_table.specs.{Function, at_full_speed, FitsOut, FitsIn, PipesInSync, new_status}
+use Rattle.usb_table.specs.{new_bulk, new_pipes}
 use Rattle.usb_enum.proofs.Interface.{AcceptsChosen, HasChosen, accepts, chosen_bulk, has_chosen}
 use Rattle.usb_table.proofs.levels.Endpoints.{bulk_out_end, bulk_in_end}
 use Rattle.usb_pipe.proofs.Interface.{is_some_byte}
@@ -153,8 +146,7 @@ module _ (tier supply : ℕ) (device : Accepted) (below_hub : Bool) (s : State)
       },
     )
 
-  by_kind : (b : Bool) → is_some device.hub ≡ b
-      → PipesInSync (if b then new_status device below_hub
+  by_kind : (b : Bool) → is_some device.hub ≡ b → PipesInSync (if b then new_status device below_hub
       (status_endpoint_of (configuration_of device))
       else Function (record {
         out = new_bulk device false (if b then None else at_full_speed device.low

@@ -7,21 +7,14 @@ use Rattle.std.specs.Prelude.{IfSome, is_some, unwrap_or, option_map}
 use Rattle.std.specs.BTreeMap.{is_at}
 use Rattle.slab.specs.Slab.{Slab, get, with_value}
 use Rattle.slab.proofs.SlabLemmas.{Updates-with_value}
-use Rattle.usb_port.specs.Order.{path_cmp}
-use Rattle.usb_enum.specs.declared.cause.Cause.TheVariants.{Silent}
-use Rattle.usb_enum.specs.declared.finding.Finding.{Finding}
+use Rattle.usb_port.specs.{path_cmp}
+use Rattle.usb_enum.specs.{Silent, Finding}
 use Rattle.usb_enum.specs.declared.finding.Finding.TheVariants.{Refused}
-use Rattle.usb_table.specs.declared.pipes.Pipes.{Pipes}
-use Rattle.usb_table.specs.declared.pipes.Pipes.TheVariants.{Absent}
-use Rattle.usb_table.specs.Findings.{accepted_device_of}
-use Rattle.usb_table.specs.declared.entry.Entry.{Entry}
-use Rattle.usb_table.specs.Keys.{IsPiped, TableSlots, PathKeys, AddressKeys, key_of_path, under}
-use Rattle.usb_table.specs.Keys.{entries_of, findings, pipings, table_of, AreIndexes, ArePiped}
-use Rattle.usb_table.specs.KnownPorts.{is_below_hub}
-use Rattle.usb_table.specs.Listing.{finding_at}
-use Rattle.usb_table.specs.Deliveries.{pipe_in, pipe_out}
-use Rattle.usb_table.specs.Pipes.{ArePipesIf, ArePipesOf, pipes_made}
-use Rattle.usb_table.specs.Table.{pipes_at, ArePipesAt, GoesThrough}
+use Rattle.usb_table.specs.{Pipes, Absent, accepted_device_of, Entry, IsPiped, TableSlots, PathKeys}
+use Rattle.usb_table.specs.{AddressKeys, key_of_path, under, entries_of, findings, pipings}
+use Rattle.usb_table.specs.{table_of, AreIndexes, ArePiped, is_below_hub, finding_at, pipe_in}
+use Rattle.usb_table.specs.{pipe_out, ArePipesIf, ArePipesOf, pipes_made, pipes_at, ArePipesAt}
+use Rattle.usb_table.specs.{GoesThrough}
 use Rattle.usb_table.proofs.levels.KeptPipes.{same_keep}
 use Rattle.usb_table.proofs.ThroughPipes.{faces}
 use Rattle.usb_table.proofs.entries.Keys.{same_or_not, entries-lookup, values_by_path-lookup}

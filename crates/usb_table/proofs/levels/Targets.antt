@@ -2,11 +2,10 @@
 use Rattle.std.proofs.Common.{arith}
 use Rattle.std.specs.Prelude.{◌≤◌, ◌<◌, Bool}
 use Rattle.std.proofs.lemmas.Bool.{and_parts}
-use Rattle.usb_transaction.specs.Transactions.{IsTarget}
-use Rattle.usb_enum.specs.declared.finding.Accepted.{Accepted}
-use Rattle.usb_enum.specs.Device.{target_of}
+use Rattle.usb_transaction.specs.{IsTarget}
+use Rattle.usb_enum.specs.{Accepted, target_of}
 use Rattle.usb_enum.proofs.Interface.{device_fits}
-use Rattle.usb_table.specs.Findings.{IsSoundDevice}
+use Rattle.usb_table.specs.{IsSoundDevice}
 
 pub sound_target_fits : (device : Accepted) (below_hub : Bool) → IsSoundDevice device
     → device.address < 128 → IsTarget (target_of device below_hub)
@@ -16,8 +15,7 @@ sound_target_fits device below_hub sound address =
       addr_fits = address;
       max_least = omega (arith, fits.0);
       max_most = fits.1;
-      pre_low =
-          λ h. (and_parts device.low below_hub h).0;
+      pre_low = λ h. (and_parts device.low below_hub h).0;
     }
 
 pub sound_target_wide : (device : Accepted) (below_hub : Bool) → IsSoundDevice device

@@ -5,19 +5,14 @@ use Rattle.std.specs.Prelude.{IsSome, IsSomeAnd}
 use Rattle.std.specs.Map.{lookup}
 use Rattle.std.specs.BTreeMap.{is_at}
 use Rattle.std.specs.List.Sorted.{IsStrictlySortedBy}
-use Rattle.usb_port.specs.Order.{path_cmp, parent_of, port_on_hub}
-use Rattle.usb_resources.specs.Pool.{IsAddress}
-use Rattle.usb_resources.specs.Power.{supply_of}
-use Rattle.usb_device.specs.Spec.{Spec}
-use Rattle.usb_enum.specs.declared.cause.Cause.TheVariants.{Silent}
-use Rattle.usb_enum.specs.declared.finding.Accepted.{Accepted}
-use Rattle.usb_enum.specs.declared.finding.Finding.{Finding}
+use Rattle.usb_port.specs.{path_cmp, parent_of, port_on_hub}
+use Rattle.usb_resources.specs.{IsAddress, supply_of}
+use Rattle.usb_device.specs.{Spec}
+use Rattle.usb_enum.specs.{Silent, Accepted, Finding, texts_of, strings_of, facts_of, IsRight}
 use Rattle.usb_enum.specs.declared.finding.Finding.TheVariants.{Device, Refused}
-use Rattle.usb_enum.specs.Verdicts.{texts_of, strings_of, facts_of, IsRight}
 use Rattle.usb_enum.proofs.Interface.{examples, row_silent, small, two_ports}
-use Rattle.usb_table.specs.Entries.{Entries, Rises}
-use Rattle.usb_table.specs.Listing.{SpecTree, finding_at, entry_address, IsListedPort, tier_of}
-use Rattle.usb_table.specs.Listing.{supply_at, ListsEach, Lists}
+use Rattle.usb_table.specs.{Entries, Rises, SpecTree, finding_at, entry_address, IsListedPort}
+use Rattle.usb_table.specs.{tier_of, supply_at, ListsEach, Lists}
 use Rattle.usb_table.proofs.entries.Paths.{path_tied}
 
 abbrev silent_function : Spec
@@ -56,8 +51,7 @@ by_path P first second none path = pick (is_at (path_cmp path) (1 ∷ []))
     pick false false x y = none path x y
 
 abbrev IsFoundAt : List ℕ → Type 0
-IsFoundAt path = (spec : Spec) → tree path ≡ Some spec
-    → IsSomeAnd (finding_at path example_entries)
+IsFoundAt path = (spec : Spec) → tree path ≡ Some spec → IsSomeAnd (finding_at path example_entries)
     (IsRight (ListsEach example_entries) spec (tier_of path) (supply_at tree path))
 
 found_first : IsFoundAt (1 ∷ [])
@@ -67,13 +61,7 @@ found_first spec at =
     subst (λ s. IsRight (ListsEach example_entries) s 2 500 (Device listed_hub)) same
     (inl (
       examples.hub,
-      record {
-        low = refl;
-        bytes = refl;
-        configs = refl;
-        strings = refl;
-        hub = refl;
-      },
+      record { low = refl; bytes = refl; configs = refl; strings = refl; hub = refl },
     ))
 
 found_second : IsFoundAt (1 ∷ 2 ∷ [])

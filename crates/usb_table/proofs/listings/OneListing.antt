@@ -2,16 +2,13 @@
 use Rattle.std.proofs.Common.{◌≡◌, inl, inr, ◌≤◌, ◌<◌, ◌+◌, ℕ, zero, suc, List, length, Option}
 use Rattle.std.proofs.Common.{None, Some, refl, ap, sym, subst, ◌∙◌, arith}
 use Rattle.std.specs.Prelude.{IsSome, IsSomeAnd}
-use Rattle.usb_port.specs.Order.{parent_of, port_on_hub}
-use Rattle.usb_device.specs.Spec.{Spec}
-use Rattle.usb_enum.specs.declared.finding.Finding.{Finding}
+use Rattle.usb_port.specs.{parent_of, port_on_hub}
+use Rattle.usb_device.specs.{Spec}
+use Rattle.usb_enum.specs.{Finding, HubFacts, IsFindingOf, IsRight}
 use Rattle.usb_enum.specs.declared.finding.Finding.TheVariants.{Device, Refused}
-use Rattle.usb_enum.specs.declared.hub.HubFacts.{HubFacts}
-use Rattle.usb_enum.specs.Verdicts.{IsFindingOf, IsRight}
-use Rattle.usb_table.specs.Entries.{Entries}
-use Rattle.usb_table.specs.Listing.{SpecTree, finding_at, hub_facts_in, hub_facts_at, IsPortBelow}
-use Rattle.usb_table.specs.Listing.{IsListedPort, tier_of, supply_at, ListsEach, Lists, NoneWaits}
-use Rattle.usb_table.specs.Listing.{IsFoundLike, ListsLike}
+use Rattle.usb_table.specs.{Entries, SpecTree, finding_at, hub_facts_in, hub_facts_at, IsPortBelow}
+use Rattle.usb_table.specs.{IsListedPort, tier_of, supply_at, ListsEach, Lists, NoneWaits}
+use Rattle.usb_table.specs.{IsFoundLike, ListsLike}
 use Rattle.usb_table.proofs.entries.Ports.{parent_shorter}
 
 found_like : (spec : Spec) (tier supply : ℕ) (f g : Finding) → IsFindingOf spec tier supply f
@@ -86,8 +83,7 @@ port_moved : (roots : ℕ) (a b : Entries) (path : List ℕ)
     → IsListedPort roots a path → IsListedPort roots b path
 port_moved roots a b path like h = record {
   some = h.some;
-  port =
-      pick (parent_of path) refl h.port;
+  port = pick (parent_of path) refl h.port;
 }
   where
     pick : (o : Option (List ℕ)) → parent_of path ≡ o → IsPortBelow roots a o (port_on_hub path)

@@ -1,13 +1,9 @@
 -- A listing of a world in a plan's course is one of what the plan's events have left.
 use Rattle.std.proofs.Common.{◌≡◌, ℕ, List, subst, ◌∙◌}
-use Rattle.usb_world.specs.PlanData.{PlanData, IsPlan}
-use Rattle.usb_world.specs.PlanCourses.{AtPorts}
-use Rattle.usb_world.specs.Steps.{AnyStep, Course, opening}
-use Rattle.usb_world.specs.World.{World, roots_of}
+use Rattle.usb_world.specs.{PlanData, IsPlan, AtPorts, AnyStep, Course, opening, World, roots_of}
 use Rattle.usb_world.proofs.Interface.{devices_left, new_long}
 use Rattle.usb_enum.proofs.Interface.{course_later}
-use Rattle.usb_table.specs.Entries.{Entries}
-use Rattle.usb_table.specs.Listing.{SpecTree, tree_after, tree_in, Lists, Matches}
+use Rattle.usb_table.specs.{Entries, SpecTree, tree_after, tree_in, Lists, Matches}
 
 -- trees that are the same path by path have the same listings
 lists_moved : (m n : ℕ) (a b : SpecTree) (entries : Entries) → m ≡ n

@@ -3,26 +3,18 @@ use Rattle.std.proofs.Common.{◌≡◌, ◌≢◌, refl, sym, ap, subst, Bool, 
 use Rattle.std.proofs.Common.{List, [], Option, None, Some, Result, Ok, Err}
 use Rattle.std.specs.Global.{Vec}
 use Rattle.std.specs.Prelude.{is_ok, is_some}
-use Rattle.usb_device.specs.Rows.{State}
-use Rattle.usb_device.specs.Tree.{reach, Location}
-use Rattle.usb_world.specs.declared.types.BusFault.{BusFault}
-use Rattle.usb_tree.specs.Paths.{address_of}
-use Rattle.usb_world.specs.World.{World}
-use Rattle.usb_transaction.specs.declared.target.Target.{Target}
-use Rattle.usb_pipe.specs.declared.fault.PipeFault.{PipeFault}
+use Rattle.usb_device.specs.{State, reach, Location}
+use Rattle.usb_world.specs.{BusFault, World}
+use Rattle.usb_tree.specs.{address_of}
+use Rattle.usb_transaction.specs.{Target}
+use Rattle.usb_pipe.specs.{PipeFault, Bulk, Receives, InPipeInSync, ReceiveLeaves, pipe_known}
 use Rattle.usb_pipe.specs.declared.fault.PipeFault.TheVariants as pipe_fault
-use Rattle.usb_pipe.specs.Bulk.{Bulk, Receives}
-use Rattle.usb_pipe.specs.Leaves.{InPipeInSync, ReceiveLeaves, pipe_known}
 use Rattle.usb_pipe.proofs.Interface.{receive_leaves, who_receives}
-use Rattle.usb_enum.specs.declared.finding.Accepted.{Accepted}
-use Rattle.usb_table.specs.declared.fault.EndpointFault.{EndpointFault}
-use Rattle.usb_table.specs.declared.fault.EndpointFault.TheVariants.{Pipe}
-use Rattle.usb_table.specs.Deliveries.{GaveBytes, GaveBy, TransfersAt, Collected, bytes_in, pipe_in}
-use Rattle.usb_table.specs.Findings.{accepted_device_at}
-use Rattle.usb_table.specs.KnownPorts.{is_below_hub}
-use Rattle.usb_table.specs.Levels.{PipesInSync, FitsIn, IsHeld, InSyncAt}
-use Rattle.usb_table.specs.Table.{Table, pipes_at, ArePipesAt}
-use Rattle.usb_table.specs.Transfers.{PipesReceived, ReceivedThrough, endpoint_answer}
+use Rattle.usb_enum.specs.{Accepted}
+use Rattle.usb_table.specs.{EndpointFault, Pipe, GaveBytes, GaveBy, TransfersAt, Collected}
+use Rattle.usb_table.specs.{bytes_in, pipe_in, accepted_device_at, is_below_hub, PipesInSync}
+use Rattle.usb_table.specs.{FitsIn, IsHeld, InSyncAt, Table, pipes_at, ArePipesAt, PipesReceived}
+use Rattle.usb_table.specs.{ReceivedThrough, endpoint_answer}
 use Rattle.usb_table.proofs.levels.MovedPipes.{known_left}
 use Rattle.usb_table.proofs.transfers.PathTransfers.{PathReaches, answers_there, changes_there}
 use Rattle.usb_table.proofs.transfers.PathTransfers.{done_through, levels_there, none_changes}
@@ -65,15 +57,13 @@ module _ (path : List ℕ) (packets : ℕ) (old new : Table) (before after : Wor
           record {
             had = fit;
             next = λ got f. x.done at got f bytes refl;
-            has =
-                λ got f. x.fits at got f;
+            has = λ got f. x.fits at got f;
             rest = x.frame fit.1.endpoint;
           }
       given (Err why) left known s fit j v x at = record {
         had = fit;
         next = λ got f. refl;
-        has =
-            λ got f. subst (λ (l : Bulk). InPipeInSync l (got + 0) v) known (x.fits at got f);
+        has = λ got f. subst (λ (l : Bulk). InPipeInSync l (got + 0) v) known (x.fits at got f);
         rest = x.frame fit.1.endpoint;
       }
 

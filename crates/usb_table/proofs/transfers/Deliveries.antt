@@ -2,23 +2,16 @@
 use Rattle.std.proofs.Common.{◌≡◌, ◌≢◌, refl, sym, ap, subst, Bool, true, false, ℕ, ◌==◌}
 use Rattle.std.proofs.Common.{append-nil, List, [], Some, Result, Ok, Err}
 use Rattle.std.specs.Prelude.{is_ok, is_some}
-use Rattle.usb_device.specs.Rows.{State}
-use Rattle.usb_device.specs.Tree.{reach, Location}
-use Rattle.usb_tree.specs.Paths.{address_of}
-use Rattle.usb_world.specs.World.{World}
-use Rattle.usb_transaction.specs.declared.target.Target.{Target}
-use Rattle.usb_pipe.specs.declared.fault.PipeFault.{PipeFault}
-use Rattle.usb_pipe.specs.Bulk.{Bulk, Sends}
-use Rattle.usb_pipe.specs.Leaves.{OutPipeInSync, SendLeaves}
+use Rattle.usb_device.specs.{State, reach, Location}
+use Rattle.usb_tree.specs.{address_of}
+use Rattle.usb_world.specs.{World}
+use Rattle.usb_transaction.specs.{Target}
+use Rattle.usb_pipe.specs.{PipeFault, Bulk, Sends, OutPipeInSync, SendLeaves}
 use Rattle.usb_pipe.proofs.Interface.{send_leaves, who_sends}
-use Rattle.usb_enum.specs.declared.finding.Accepted.{Accepted}
-use Rattle.usb_table.specs.declared.fault.EndpointFault.{EndpointFault}
-use Rattle.usb_table.specs.Deliveries.{TookBytes, Delivered}
-use Rattle.usb_table.specs.Findings.{accepted_device_at}
-use Rattle.usb_table.specs.KnownPorts.{is_below_hub}
-use Rattle.usb_table.specs.Levels.{PipesInSync, IsHeld, InSyncAt}
-use Rattle.usb_table.specs.Table.{Table, pipes_at, ArePipesAt}
-use Rattle.usb_table.specs.Transfers.{PipesSent, SentThrough}
+use Rattle.usb_enum.specs.{Accepted}
+use Rattle.usb_table.specs.{EndpointFault, TookBytes, Delivered, accepted_device_at, is_below_hub}
+use Rattle.usb_table.specs.{PipesInSync, IsHeld, InSyncAt, Table, pipes_at, ArePipesAt, PipesSent}
+use Rattle.usb_table.specs.{SentThrough}
 use Rattle.usb_table.proofs.transfers.PathTransfers.{PathReaches, answers_there, changes_there}
 use Rattle.usb_table.proofs.transfers.PathTransfers.{done_through, levels_there, none_changes}
 use Rattle.usb_table.proofs.ThroughPipes.{through_pipes}
@@ -26,13 +19,7 @@ use Rattle.usb_table.proofs.ThroughPipes.{through_pipes}
 module _ (path bytes : List ℕ) (old new : Table) (before after : World) where
   none_taken : (s : State) → TookBytes false bytes s s
   none_taken s = record {
-    joins = record {
-      front = [];
-      rest = bytes;
-      split = refl;
-      sink =
-          sym (append-nil s.sink);
-    };
+    joins = record { front = []; rest = bytes; split = refl; sink = sym (append-nil s.sink) };
     rest = refl;
   }
 
@@ -59,13 +46,11 @@ module _ (path bytes : List ℕ) (old new : Table) (before after : World) where
           → TookBytes (is_ok answer) bytes s v
       taken (Ok u) left s fit j v x at = record {
         joins = x.done at fit u refl;
-        rest =
-            x.frame fit.endpoint;
+        rest = x.frame fit.endpoint;
       }
       taken (Err why) left s fit j v x at = record {
         joins = x.failed at fit why refl;
-        rest =
-            x.frame fit.endpoint;
+        rest = x.frame fit.endpoint;
       }
 
       reached : (answer : Result (Unit {0}) PipeFault) (left : Bulk)

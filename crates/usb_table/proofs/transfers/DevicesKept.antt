@@ -4,70 +4,45 @@ use Rattle.std.proofs.Common.{◌≡◌, ◌≢◌, ◌⊎◌, inl, inr, ℕ, �
 use Rattle.std.proofs.Common.{Some, Result, Ok, Err, refl, ap, sym, subst, ◌∙◌}
 use Rattle.std.specs.Global.{Vec}
 use Rattle.arrayvec.specs.ArrayVec.{ArrayVec}
-use Rattle.usb_packet.specs.declared.Toggle.{Toggle}
-use Rattle.usb_packet.specs.declared.Toggle.TheVariants.{One}
-use Rattle.usb_port.specs.PortState.{PortState}
-use Rattle.usb_request.specs.Codes.{PORT_OUT, SET_FEATURE}
-use Rattle.usb_request.specs.Layout.{bytes_of}
-use Rattle.usb_request.specs.Requests.{clear_endpoint_halt}
-use Rattle.usb_request.specs.declared.setup.Setup.{Setup}
-use Rattle.usb_device.specs.declared.bulk.ServedEndpoint.{ServedEndpoint}
-use Rattle.usb_device.specs.declared.bulk.ServedEndpoint.TheVariants.{BulkOut, BulkIn, Changes}
-use Rattle.usb_device.specs.declared.bulk.EndpointState.{EndpointState}
-use Rattle.usb_device.specs.Bulk.{rested}
-use Rattle.usb_device.specs.Progress.{OnlyControl}
-use Rattle.usb_device.specs.Request.{Is, Outcome, stalled, answers, takes_address}
-use Rattle.usb_device.specs.Request.{takes_configuration, halts, unhalts, tells_port, calls_port}
-use Rattle.usb_device.specs.Request.{on_endpoint, outcome}
-use Rattle.usb_device.specs.Rows.{State, with_endpoint_state, begun, accepted}
-use Rattle.usb_device.specs.Spec.{Spec}
-use Rattle.usb_device.specs.declared.request.Registers.{Registers}
-use Rattle.usb_device.specs.Transfer.{first_stage, ending}
-use Rattle.usb_device.specs.Tree.{Location, reach_on, state_on}
-use Rattle.usb_world.specs.declared.types.Attempt.{Attempt}
-use Rattle.usb_world.specs.declared.types.BusFault.{BusFault}
-use Rattle.usb_world.specs.Addresses.{is_setup}
-use Rattle.usb_world.specs.Devices.{EachWas, DidIn, DidOut}
-use Rattle.usb_world.specs.OneHolder.{IsMade, IsIn, IsOut}
-use Rattle.usb_tree.specs.AttemptPackets.{IsSettled}
-use Rattle.usb_world.specs.PortRequests.{asks_no_port}
-use Rattle.usb_world.specs.RestingPorts.{LeavesPortAlone}
-use Rattle.usb_world.specs.Steps.{Step, attempt, root_call, event, report, after, at_attempt}
-use Rattle.usb_world.specs.Steps.{with_attempt, Course, here, step}
-use Rattle.usb_world.specs.World.{World, Failed}
+use Rattle.usb_packet.specs.{Toggle, One}
+use Rattle.usb_port.specs.{PortState}
+use Rattle.usb_request.specs.{PORT_OUT, SET_FEATURE, bytes_of, clear_endpoint_halt, Setup}
+use Rattle.usb_device.specs.{ServedEndpoint, BulkOut, BulkIn, Changes, EndpointState, rested}
+use Rattle.usb_device.specs.{OnlyControl, Is, Outcome, stalled, takes_address, takes_configuration}
+use Rattle.usb_device.specs.{halts, unhalts, tells_port, calls_port, on_endpoint, outcome, State}
+use Rattle.usb_device.specs.{with_endpoint_state, begun, accepted, Spec, Registers, first_stage}
+use Rattle.usb_device.specs.{ending, Location, reach_on, state_on}
+use Rattle.usb_device.specs.Request.{answers}
+use Rattle.usb_world.specs.{Attempt, BusFault, is_setup, EachWas, DidIn, DidOut, IsMade, IsIn}
+use Rattle.usb_world.specs.{IsOut, asks_no_port, LeavesPortAlone, Step, attempt, root_call, event}
+use Rattle.usb_world.specs.{report, after, at_attempt, with_attempt, Course, here, step, World}
+use Rattle.usb_world.specs.{Failed}
+use Rattle.usb_tree.specs.{IsSettled}
 use Rattle.usb_world.proofs.Interface.{AttemptCut, MadeOrNot, attempt_cases, cut_or_same}
 use Rattle.usb_world.proofs.Interface.{data_asks_nothing, each_in, each_joined, each_none, each_out}
 use Rattle.usb_world.proofs.Interface.{each_wider, made_here, made_is, made_whole, ready_shared}
 use Rattle.usb_world.proofs.Interface.{settled_after, settled_course, settled_wider, unmade}
 use Rattle.usb_tree.proofs.Interface.{neither, unequal}
-use Rattle.usb_backlog.specs.Marks.{Few, KeepsAll, PortMark}
+use Rattle.usb_backlog.specs.{Few, KeepsAll, PortMark}
 use Rattle.usb_backlog.proofs.Interface.{KeepsStep, all_none, data_allows, keeps-attempt}
 use Rattle.usb_backlog.proofs.Interface.{keeps-chain}
-use Rattle.usb_transaction.specs.Attempts.{IsOnly, GivenUp}
-use Rattle.usb_transaction.specs.HeardOutcomes.{heard_as, set_up_as}
-use Rattle.usb_transaction.specs.Transactions.{in_attempt, setup_attempt}
-use Rattle.usb_transaction.specs.declared.target.Target.{Target}
+use Rattle.usb_transaction.specs.{IsOnly, GivenUp, heard_as, set_up_as, in_attempt, setup_attempt}
+use Rattle.usb_transaction.specs.{Target}
 use Rattle.usb_transaction.proofs.Interface.{trail_settled, trail_unshared, transacted_unshared}
-use Rattle.usb_pipe.specs.declared.fault.PipeFault.{PipeFault}
+use Rattle.usb_pipe.specs.{PipeFault, TransferAttempts, Bulk, Sends, Receives, Clears, Cleared}
+use Rattle.usb_pipe.specs.{halt_address, FaultAfter, packet_target, Interrupt, Polls, SendsAt}
+use Rattle.usb_pipe.specs.{WriteLeaves, Writes}
 use Rattle.usb_pipe.specs.declared.fault.PipeFault.TheVariants as pipe_fault
-use Rattle.usb_pipe.specs.Attempts.{TransferAttempts}
-use Rattle.usb_pipe.specs.Bulk.{Bulk, Sends, Receives, Clears, Cleared, halt_address}
-use Rattle.usb_pipe.specs.Control.{FaultAfter}
-use Rattle.usb_pipe.specs.End.{packet_target}
-use Rattle.usb_pipe.specs.Interrupt.{Interrupt, Polls}
-use Rattle.usb_pipe.specs.Moves.{SendsAt}
-use Rattle.usb_pipe.specs.Leaves.{WriteLeaves}
-use Rattle.usb_pipe.specs.Stages.{Writes}
 use Rattle.usb_pipe.proofs.Interface.{given_registers, harmless, poll_attempts, receive_attempts}
 use Rattle.usb_pipe.proofs.Interface.{send_attempts}
-use Rattle.usb_address.specs.Ownership.{KeepsAddresses}
+use Rattle.usb_address.specs.{KeepsAddresses}
 use Rattle.usb_address.proofs.Interface.{Ran, clears_keep, in_kept, keeps_none, out_kept}
 use Rattle.usb_address.proofs.Interface.{polls_keep, receives_keep, sends_keep}
-use Rattle.usb_hub.specs.Requests.{TouchesNoPort, Commanded}
+use Rattle.usb_hub.specs.{TouchesNoPort, Commanded}
 use Rattle.usb_hub.proofs.Interface.{each_leaves, order_elsewhere, write_backlog, write_rests}
 use Rattle.usb_hub.proofs.Interface.{write_so}
 use Rattle.usb_enum.proofs.Interface.{ends_without_fault}
-use Rattle.usb_table.specs.Transfers.{SameSettings, KeepsSettings, OnlyTransfers}
+use Rattle.usb_table.specs.{SameSettings, KeepsSettings, OnlyTransfers}
 use Rattle.usb_table.proofs.levels.KeptPipes.{broken_or_not, ready_or_not, empty_or_not}
 use Rattle.usb_table.proofs.levels.KeptPipes.{none_or_some}
 
@@ -90,8 +65,7 @@ as_it_was s v e = (ap (λ x. x.spec) e, ap (λ x. x.registers) e, ap (λ x. x.ch
 ran_same : (s u v : State) → v ≡ u → Ran s u → Ran s v
 ran_same s u v e h = (
   ap (λ x. x.spec) e ∙ h.0,
-  ap (λ x. x.registers) e
-      ∙ h.1,
+  ap (λ x. x.registers) e ∙ h.1,
   ap (λ x. x.changes.halted) e ∙ h.2,
 )
 
@@ -291,8 +265,7 @@ only_transfers : (old new : World) → KeepsAddresses old new → Spared old new
 only_transfers old new addresses x = record {
   addresses = addresses;
   devices = record {
-    same = λ single.
-        each_wider RanAs SameSettings (λ j s v k. (k.0, k.1)) old new (x.ran single);
+    same = λ single. each_wider RanAs SameSettings (λ j s v k. (k.0, k.1)) old new (x.ran single);
   };
   rests = x.rests;
   backlog = x.backlog;

@@ -1,25 +1,15 @@
 -- A clear of the halt of one endpoint leaves the endpoint of the other direction.
-use Rattle.usb_device.specs.Tree.{Location}
+use Rattle.usb_device.specs.{Location, ServedEndpoint, BulkOut, BulkIn, Registers, RememberedPacket}
+use Rattle.usb_device.specs.{rested, IsSink, IsSource, OnlyControl, outcome, unhalts, State}
+use Rattle.usb_device.specs.{with_endpoint_state, begun, accepted, Stage}
 use Rattle.std.proofs.Common.{◌≡◌, ◌∙◌, refl, ap, true, false}
 use Rattle.std.specs.Prelude.{ℕ, List, Result}
-use Rattle.usb_port.specs.PortState.{PortState}
-use Rattle.usb_request.specs.declared.setup.Setup.{Setup}
-use Rattle.usb_device.specs.declared.bulk.ServedEndpoint.{ServedEndpoint}
-use Rattle.usb_device.specs.declared.bulk.ServedEndpoint.TheVariants.{BulkOut, BulkIn}
-use Rattle.usb_device.specs.declared.request.Registers.{Registers}
-use Rattle.usb_device.specs.declared.transfer.RememberedPacket.{RememberedPacket}
-use Rattle.usb_device.specs.Bulk.{rested}
-use Rattle.usb_device.specs.Progress.{IsSink, IsSource, OnlyControl}
-use Rattle.usb_device.specs.Request.{outcome, unhalts}
-use Rattle.usb_device.specs.Rows.{State, with_endpoint_state, begun, accepted}
-use Rattle.usb_device.specs.Transfer.{Stage}
-use Rattle.usb_world.specs.Devices.{EachWas}
-use Rattle.usb_world.specs.World.{World}
+use Rattle.usb_port.specs.{PortState}
+use Rattle.usb_request.specs.{Setup}
+use Rattle.usb_world.specs.{EachWas, World}
 use Rattle.usb_world.proofs.Interface.{each_wider}
-use Rattle.usb_transaction.specs.declared.target.Target.{Target}
-use Rattle.usb_pipe.specs.declared.fault.PipeFault.{PipeFault}
-use Rattle.usb_pipe.specs.Bulk.{Bulk, halt_address, Cleared}
-use Rattle.usb_pipe.specs.Leaves.{WriteLeaves}
+use Rattle.usb_transaction.specs.{Target}
+use Rattle.usb_pipe.specs.{PipeFault, Bulk, halt_address, Cleared, WriteLeaves}
 use Rattle.usb_pipe.proofs.Interface.{clear_of-in, asks_out, clear_of, harmless}
 use Rattle.usb_hub.proofs.Interface.{each_leaves, write_so}
 use Rattle.usb_table.proofs.transfers.DevicesKept.{cleared_ordered, clear_length}
@@ -31,8 +21,7 @@ module _ {X : Type 0} (seen : State → X) (blind : (s : State) (m : RememberedP
       memory = m;
       naks = n;
       stage = g;
-      registers =
-          r;
+      registers = r;
     }) ≡ seen s) where
   control_keeps : (s v : State) → OnlyControl s v → seen v ≡ seen s
   control_keeps s v o = ap seen o ∙ blind s v.memory v.naks v.stage v.registers

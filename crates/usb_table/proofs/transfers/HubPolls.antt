@@ -6,52 +6,29 @@ use Rattle.std.proofs.lemmas.Option.{same_Some}
 use Rattle.std.specs.Prelude.{List, ◌||◌, not, Option, Some, None, IfSome, is_some, option_map}
 use Rattle.std.specs.Prelude.{Result, Ok, Err, IsOk, MatchResult, if◌then◌else◌}
 use Rattle.arrayvec.specs.ArrayVec.{ArrayVec}
-use Rattle.usb_device.specs.Rows.{State}
-use Rattle.usb_device.specs.Spec.{Spec}
-use Rattle.usb_device.specs.Tree.{place, reach, Location, path_to}
-use Rattle.usb_device.specs.View.{state_there}
-use Rattle.usb_world.specs.declared.types.Attempt.{Attempt}
-use Rattle.usb_world.specs.declared.types.Outcome.{Outcome}
-use Rattle.usb_world.specs.Addresses.{is_setup}
-use Rattle.usb_world.specs.Devices.{Was, EachWas}
-use Rattle.usb_tree.specs.Paths.{address_of}
-use Rattle.usb_tree.specs.AttemptPackets.{IsSettled, deep_at}
-use Rattle.usb_world.specs.RestingPorts.{LeavesPortAlone}
-use Rattle.usb_world.specs.Steps.{Course, here, attempt, at_attempt}
-use Rattle.usb_world.specs.World.{World}
+use Rattle.usb_device.specs.{State, Spec, place, reach, Location, path_to, state_there}
+use Rattle.usb_world.specs.{Attempt, Outcome, is_setup, Was, EachWas, LeavesPortAlone, Course, here}
+use Rattle.usb_world.specs.{attempt, at_attempt, World}
+use Rattle.usb_tree.specs.{address_of, IsSettled, deep_at}
 use Rattle.usb_world.proofs.Interface.{course_then, data_asks_nothing, each_none}
 use Rattle.usb_tree.proofs.Interface.{equal_same}
-use Rattle.usb_bus.specs.Traces.{StepRun}
-use Rattle.usb_transaction.specs.Transactions.{AttemptsMade, transaction_bound}
-use Rattle.usb_transaction.specs.declared.target.Target.{Target}
-use Rattle.usb_transaction.specs.Answerer.{Answerer}
-use Rattle.usb_transaction.specs.Leaves.{is_at}
-use Rattle.usb_transaction.specs.AttemptLog.{AttemptLog}
-use Rattle.usb_transaction.specs.Failures.{NoThreeDamaged, Listens}
+use Rattle.usb_bus.specs.{StepRun}
+use Rattle.usb_transaction.specs.{AttemptsMade, transaction_bound, Target, Answerer, is_at}
+use Rattle.usb_transaction.specs.{AttemptLog, NoThreeDamaged, Listens}
 use Rattle.usb_transaction.proofs.Interface.{trail_settled}
-use Rattle.usb_pipe.specs.declared.fault.PipeFault.{PipeFault}
+use Rattle.usb_pipe.specs.{PipeFault, FaultAfter, Interrupt, Polls, IsNoBusFault, PollLeaves}
+use Rattle.usb_pipe.specs.{PollTells, ToldOf, PollingFailure}
 use Rattle.usb_pipe.specs.declared.fault.PipeFault.TheVariants as why
-use Rattle.usb_pipe.specs.Control.{FaultAfter}
-use Rattle.usb_pipe.specs.Interrupt.{Interrupt, Polls}
-use Rattle.usb_pipe.specs.Leaves.{IsNoBusFault, PollLeaves, PollTells, ToldOf}
-use Rattle.usb_pipe.specs.Failures.{PollingFailure}
 use Rattle.usb_pipe.proofs.Interface.{poll_tells, polling_why, who_polls}
-use Rattle.usb_hub.specs.CallFailures.{NoHubFailed}
-use Rattle.usb_enum.specs.declared.finding.Accepted.{Accepted}
-use Rattle.usb_enum.specs.Device.{configuration_of}
+use Rattle.usb_hub.specs.{NoHubFailed}
+use Rattle.usb_enum.specs.{Accepted, configuration_of}
 use Rattle.usb_enum.proofs.Interface.{each_joint}
-use Rattle.usb_table.specs.declared.pipes.Pipes.{Pipes}
-use Rattle.usb_table.specs.declared.pipes.Pipes.TheVariants.{Hub, Function, Absent}
-use Rattle.usb_table.specs.Findings.{accepted_device_at}
-use Rattle.usb_table.specs.KnownPorts.{is_below_hub}
-use Rattle.usb_table.specs.Levels.{StatusPipeInSync, PipesInSync, InSyncAt, IsHeld, KeepsInSync}
-use Rattle.usb_table.specs.Levels.{BitsOf, HubTold, IsListening, KeepsPolled, TablePolls}
-use Rattle.usb_table.specs.Levels.{SparesBulk}
-use Rattle.usb_table.specs.Listing.{entry_address}
-use Rattle.usb_table.specs.Pipes.{IsStatusPipe, ArePipesIf, ArePipesTo}
-use Rattle.usb_table.specs.Table.{Table, pipes_at, GoesThrough}
-use Rattle.usb_table.specs.Transfers.{NotPolled, OnlyTransfers, PipesPolled, PollTook}
-use Rattle.usb_table.specs.Transfers.{PolledThrough}
+use Rattle.usb_table.specs.{Pipes, Hub, Function, Absent, accepted_device_at, is_below_hub}
+use Rattle.usb_table.specs.{StatusPipeInSync, PipesInSync, InSyncAt, IsHeld, KeepsInSync, BitsOf}
+use Rattle.usb_table.specs.{HubTold, IsListening, KeepsPolled, TablePolls, SparesBulk}
+use Rattle.usb_table.specs.{entry_address, IsStatusPipe, ArePipesIf, ArePipesTo, Table, pipes_at}
+use Rattle.usb_table.specs.{GoesThrough, NotPolled, OnlyTransfers, PipesPolled, PollTook}
+use Rattle.usb_table.specs.{PolledThrough}
 use Rattle.usb_table.proofs.levels.Endpoints.{status_end}
 use Rattle.usb_table.proofs.levels.FittingPipes.{PipesMove, poll_moves}
 use Rattle.usb_table.proofs.levels.Levels.{address_found, held_address, entry_address-one_path}
@@ -154,8 +131,7 @@ module _ (path : List ℕ) (device : Accepted) (pipe rest : Interrupt) (old new 
       → result ≡ Ok got → HubTold path before result after
   hub_told held level got e = record {
     reached = ap (reach after.roots) is ∙ who.on;
-    tells =
-        tells_of who.spot is result told;
+    tells = tells_of who.spot is result told;
   }
     where
       who : Answerer pipe.target before after
@@ -295,8 +271,7 @@ module _ (path : List ℕ) (old new : Table) (before after : World)
         (same_spares before after x.2);
     told = λ held level d e hub ok. absurd (none d e hub);
     why = λ held level three d e hub heard. absurd (none d e hub);
-    spares = λ held level.
-        rw x.2 (each_none SparesBulk (λ j s. spares-same j s s refl) before);
+    spares = λ held level. rw x.2 (each_none SparesBulk (λ j s. spares-same j s s refl) before);
   }
 
   polled_to : (device : Accepted) (pipes left : Pipes)

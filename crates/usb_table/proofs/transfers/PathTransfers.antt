@@ -3,29 +3,17 @@
 use Rattle.std.proofs.Common.{◌≡◌, ◌≢◌, ◌∙◌, refl, sym, ap, subst, true, false, ℕ, ◌==◌, eq-eqb}
 use Rattle.std.proofs.Common.{List, Option, None, Some}
 use Rattle.std.specs.Prelude.{Result, Ok, Err, is_ok, option_map}
-use Rattle.usb_device.specs.Rows.{State}
-use Rattle.usb_device.specs.Tree.{reach, Location, path_to, reach_on, state_on}
-use Rattle.usb_device.specs.View.{state_there}
-use Rattle.usb_world.specs.declared.types.BusFault.{BusFault}
-use Rattle.usb_world.specs.Devices.{Relation, Was, EachWas}
-use Rattle.usb_tree.specs.Paths.{address_of}
-use Rattle.usb_world.specs.World.{World}
+use Rattle.usb_device.specs.{State, reach, Location, path_to, reach_on, state_on, state_there}
+use Rattle.usb_world.specs.{BusFault, Relation, Was, EachWas, World}
+use Rattle.usb_tree.specs.{address_of}
 use Rattle.usb_tree.proofs.Interface.{equal_same}
-use Rattle.usb_transaction.specs.declared.target.Target.{Target}
-use Rattle.usb_transaction.specs.Answerer.{Answerer}
-use Rattle.usb_pipe.specs.declared.fault.PipeFault.{PipeFault}
+use Rattle.usb_transaction.specs.{Target, Answerer}
+use Rattle.usb_pipe.specs.{PipeFault}
 use Rattle.usb_pipe.specs.declared.fault.PipeFault.TheVariants as pipe_fault
-use Rattle.usb_enum.specs.declared.finding.Accepted.{Accepted}
-use Rattle.usb_table.specs.declared.fault.EndpointFault.{EndpointFault}
-use Rattle.usb_table.specs.declared.fault.EndpointFault.TheVariants.{Pipe}
-use Rattle.usb_table.specs.Deliveries.{ChangesAt}
-use Rattle.usb_table.specs.Findings.{accepted_device_at}
-use Rattle.usb_table.specs.Levels.{PipesInSync, IsHeld, InSyncAt}
-use Rattle.usb_table.specs.Listing.{entry_address}
-use Rattle.usb_table.specs.KnownPorts.{is_below_hub}
-use Rattle.usb_table.specs.Pipes.{ArePipesIf}
-use Rattle.usb_table.specs.Table.{Table, ArePipesAt, pipes_at}
-use Rattle.usb_table.specs.Transfers.{endpoint_answer}
+use Rattle.usb_enum.specs.{Accepted}
+use Rattle.usb_table.specs.{EndpointFault, Pipe, ChangesAt, accepted_device_at, PipesInSync, IsHeld}
+use Rattle.usb_table.specs.{InSyncAt, entry_address, is_below_hub, ArePipesIf, Table, ArePipesAt}
+use Rattle.usb_table.specs.{pipes_at, endpoint_answer}
 use Rattle.usb_table.proofs.levels.Levels.{address_found, by_decision, held_address}
 use Rattle.usb_table.proofs.levels.Levels.{entry_address-one_path}
 
@@ -56,8 +44,7 @@ none_changes path So old new same so = subst (EachWas (ChangesAt path So) old) (
       on = on;
       stands = there;
       so = record {
-        itself = λ e. so s (ap (reach old.roots) e ∙ on) (ap (state_there old.roots) e
-            ∙ there);
+        itself = λ e. so s (ap (reach old.roots) e ∙ on) (ap (state_there old.roots) e ∙ there);
         others = λ far. refl;
       };
     }

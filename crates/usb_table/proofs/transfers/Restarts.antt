@@ -2,37 +2,21 @@
 use Rattle.std.proofs.Common.{◌≡◌, ◌≢◌, inl, inr, ◌∙◌, refl, sym, ap, subst, Bool, true, false, ℕ}
 use Rattle.std.proofs.Common.{◌==◌, List, Option, None, Some, Result, Ok, Err}
 use Rattle.std.specs.Prelude.{is_ok, is_some, if◌then◌else◌}
-use Rattle.usb_device.specs.declared.bulk.EndpointState.{EndpointState as End}
-use Rattle.usb_device.specs.Bulk.{rested}
-use Rattle.usb_device.specs.Rows.{State}
-use Rattle.usb_device.specs.Tree.{Location}
-use Rattle.usb_world.specs.declared.types.BusFault.{BusFault}
-use Rattle.usb_world.specs.Devices.{EachWas}
-use Rattle.usb_tree.specs.Paths.{address_of}
-use Rattle.usb_world.specs.World.{World}
+use Rattle.usb_device.specs.{EndpointState as End, rested, State, Location}
+use Rattle.usb_world.specs.{BusFault, EachWas, World}
+use Rattle.usb_tree.specs.{address_of}
 use Rattle.usb_world.proofs.Interface.{each_joined, each_none, each_wider}
-use Rattle.usb_transaction.specs.declared.target.Target.{Target}
-use Rattle.usb_pipe.specs.declared.condition.Condition.{Condition}
+use Rattle.usb_transaction.specs.{Target}
+use Rattle.usb_pipe.specs.{Condition, PipeFault, Bulk, Clears, is_ready, BegunAgain, pipe_known}
 use Rattle.usb_pipe.specs.declared.condition.Condition.TheVariants.{Ready, Halted, Broken}
-use Rattle.usb_pipe.specs.declared.fault.PipeFault.{PipeFault}
 use Rattle.usb_pipe.specs.declared.fault.PipeFault.TheVariants as pipe_fault
-use Rattle.usb_pipe.specs.Bulk.{Bulk, Clears, is_ready}
-use Rattle.usb_pipe.specs.Leaves.{BegunAgain, pipe_known}
-use Rattle.usb_enum.specs.declared.finding.Accepted.{Accepted}
-use Rattle.usb_table.specs.declared.fault.EndpointFault.{EndpointFault}
-use Rattle.usb_table.specs.declared.fault.EndpointFault.TheVariants.{Pipe}
-use Rattle.usb_table.specs.declared.pipes.BulkPipes.{BulkPipes}
-use Rattle.usb_table.specs.declared.pipes.Pipes.{Pipes}
-use Rattle.usb_table.specs.declared.pipes.Pipes.TheVariants.{Function}
-use Rattle.usb_table.specs.Deliveries.{HaltCleared, HaltClearedBy, HaltsCleared, TransfersAt}
-use Rattle.usb_table.specs.Deliveries.{Restarted, pipe_out, pipe_in}
-use Rattle.usb_table.specs.Findings.{out_endpoint, in_endpoint, accepted_device_at}
-use Rattle.usb_table.specs.KnownPorts.{is_below_hub}
-use Rattle.usb_table.specs.Levels.{PipesInSync, IsHeld, InSyncAt}
-use Rattle.usb_table.specs.Pipes.{IsBulkPipe, IsPipe}
-use Rattle.usb_table.specs.Table.{Table, pipes_at, ArePipesAt}
-use Rattle.usb_table.specs.Transfers.{ClearedBy, ClearedAfter, PipesCleared, both_sides}
-use Rattle.usb_table.specs.Transfers.{endpoint_answer}
+use Rattle.usb_enum.specs.{Accepted}
+use Rattle.usb_table.specs.{EndpointFault, Pipe, BulkPipes, Pipes, Function, HaltCleared}
+use Rattle.usb_table.specs.{HaltClearedBy, HaltsCleared, TransfersAt, Restarted, pipe_out, pipe_in}
+use Rattle.usb_table.specs.{out_endpoint, in_endpoint, accepted_device_at, is_below_hub}
+use Rattle.usb_table.specs.{PipesInSync, IsHeld, InSyncAt, IsBulkPipe, IsPipe, Table, pipes_at}
+use Rattle.usb_table.specs.{ArePipesAt, ClearedBy, ClearedAfter, PipesCleared, both_sides}
+use Rattle.usb_table.specs.{endpoint_answer}
 use Rattle.usb_table.proofs.levels.FittingPipes.{PipesMove, clear_out_moves, clear_in_moves}
 use Rattle.usb_table.proofs.levels.KeptPipes.{ready_or_not}
 use Rattle.usb_table.proofs.levels.MovedPipes.{EachMoves, clear_whole, known_left}
@@ -303,8 +287,7 @@ module _ (ends : Type 0) where
 
 module _ (path : List ℕ) (old : Table) (before after : World) where
   abbrev Cleared : Bool → Pipes → Pipes → Type 0
-  Cleared done pipes left =
-      TransfersAt path done (HaltsCleared done pipes left) old before after
+  Cleared done pipes left = TransfersAt path done (HaltsCleared done pipes left) old before after
 
   not_cleared : (result : Result (Unit {0}) EndpointFault) (pipes : Pipes) (fault : EndpointFault)
       → result ≡ Err fault → after ≡ before → PathReaches path before (PipesInSync pipes)

@@ -1,17 +1,14 @@
 -- What leaves the bulk endpoints of devices as they were.
 use Rattle.std.proofs.Common.{◌≡◌, ◌∙◌, sym, ap}
-use Rattle.usb_device.specs.Progress.{OnlyChanges, OnlyStage}
-use Rattle.usb_device.specs.Rows.{State}
-use Rattle.usb_device.specs.Tree.{Location}
-use Rattle.usb_table.specs.Levels.{SparesBulk}
+use Rattle.usb_device.specs.{OnlyChanges, OnlyStage, State, Location}
+use Rattle.usb_table.specs.{SparesBulk}
 
 -- a device that stays as it was
 pub spares-same : (j : Location) (s v : State) → v ≡ s → SparesBulk j s v
 spares-same j s v e = e ∙ ap (λ (u : State). record s {
   memory = u.memory;
   naks = u.naks;
-  stage =
-      u.stage;
+  stage = u.stage;
   changes = u.changes;
   held = u.held;
 }) (sym e)
@@ -21,8 +18,7 @@ pub spares-changes : (j : Location) (s v : State) → OnlyChanges s v → Spares
 spares-changes j s v e = e ∙ ap (λ (u : State). record s {
   memory = v.memory;
   naks = u.naks;
-  stage =
-      u.stage;
+  stage = u.stage;
   changes = v.changes;
   held = v.held;
 }) (sym e)
@@ -32,8 +28,7 @@ pub spares-stage : (j : Location) (s v : State) → OnlyStage s v → SparesBulk
 spares-stage j s v e = e ∙ ap (λ (u : State). record s {
   memory = v.memory;
   naks = v.naks;
-  stage =
-      v.stage;
+  stage = v.stage;
   changes = u.changes;
   held = u.held;
 }) (sym e)

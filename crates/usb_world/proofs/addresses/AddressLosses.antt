@@ -4,26 +4,18 @@ use Rattle.std.proofs.Common.{◌≡◌, ℕ, ◌+◌, ◌&&◌, not, if◌then�
 use Rattle.std.proofs.Common.{Option, None, Some, option_map, is_some, refl, ap, sym, subst, ◌∙◌}
 use Rattle.std.proofs.Common.{arith}
 use Rattle.usb_packet.specs.declared.Packet.TheVariants as packet
-use Rattle.usb_packet.specs.declared.TokenKind.{TokenKind}
-use Rattle.usb_packet.specs.declared.TokenKind.TheVariants.{InTok}
-use Rattle.usb_port.specs.PortState.{PortState}
-use Rattle.usb_device.specs.declared.delivery.Content.{Content}
-use Rattle.usb_device.specs.declared.delivery.Content.TheVariants.{Whole, Broken}
-use Rattle.usb_device.specs.declared.delivery.Sent.{Sent}
-use Rattle.usb_device.specs.Rows.{State, Reply, received, awaits_address}
-use Rattle.usb_device.specs.Attempt.{whole, broken, lost, is_whole, through}
-use Rattle.usb_device.specs.Tree.{Ports, full, row_of, place_at}
-use Rattle.usb_device.specs.Delivery.{is_heard, has_loss}
-use Rattle.usb_world.specs.declared.damage.Damage.{Damage}
-use Rattle.usb_world.specs.declared.types.Attempt.{Attempt}
-use Rattle.usb_world.specs.Wire.{harm_to, mark_of, marked, marked_some}
-use Rattle.usb_world.specs.World.{IsAttempt, sends_data}
-use Rattle.usb_world.specs.Exchange.{lost_in, is_lost, goes_out, token_of, payload_of, token_out}
-use Rattle.usb_world.specs.Exchange.{payload_out, reply_in, reply_out, readable, ack_if}
-use Rattle.usb_world.specs.Exchange.{answered_in, heard_in, mark_in, place_of_answer, outcome_of}
-use Rattle.usb_tree.specs.AttemptPackets.{after_sent, heard_by, deep_at, IfOut, IsTokenFor}
-use Rattle.usb_tree.specs.AttemptPackets.{IsAckOut, IsSettled}
-use Rattle.usb_world.specs.OneHolder.{way_to, token_way, reply_way, IsIn}
+use Rattle.usb_packet.specs.{TokenKind, InTok}
+use Rattle.usb_port.specs.{PortState}
+use Rattle.usb_device.specs.{Content, Whole, Broken, Sent, State, Reply, received, awaits_address}
+use Rattle.usb_device.specs.{lost, is_whole, through, Ports, full, row_of, place_at, is_heard}
+use Rattle.usb_device.specs.{has_loss}
+use Rattle.usb_device.specs.Attempt.{whole, broken}
+use Rattle.usb_world.specs.{Damage, Attempt, harm_to, mark_of, marked, marked_some, IsAttempt}
+use Rattle.usb_world.specs.{sends_data, lost_in, is_lost, goes_out, token_of, payload_of, token_out}
+use Rattle.usb_world.specs.{payload_out, reply_in, reply_out, readable, ack_if, answered_in}
+use Rattle.usb_world.specs.{heard_in, mark_in, place_of_answer, outcome_of, way_to, token_way}
+use Rattle.usb_world.specs.{reply_way, IsIn}
+use Rattle.usb_tree.specs.{after_sent, heard_by, deep_at, IfOut, IsTokenFor, IsAckOut, IsSettled}
 use Rattle.usb_tree.proofs.Interface.{false_true, and_false}
 use Rattle.usb_world.proofs.courses.StepInvariants.{rests}
 use Rattle.usb_world.proofs.packets.AttemptPackets.{ack_calls, sent_out}
@@ -174,8 +166,7 @@ module _ (a : Attempt) (d : Option Damage) (k : Ports) (h : Holder a.addr k) (in
       ∙ ap plugged_on (z.place ∙ ap (option_map (place_after_sent o deep)) stands_now
       ∙ ap (λ x. Some x) (sent_stands deep b o asked.1 below_now)))
 
-  pub holder_loss : s.spec.silent ≡ false
-      → lost_in a d k ≡ (is_some (reply_in a d k) &&
+  pub holder_loss : s.spec.silent ≡ false → lost_in a d k ≡ (is_some (reply_in a d k) &&
       (awaits_address asked.1 && not (is_whole (reply_way a d k deep s))))
   unfolding lost_in
   holder_loss loud =

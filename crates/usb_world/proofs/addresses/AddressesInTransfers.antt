@@ -2,37 +2,23 @@
 use Rattle.std.proofs.Common.{◌≡◌, ℕ, zero, suc, ◌==◌, ◌&&◌, if◌then◌else◌, inl, inr, Bool, true}
 use Rattle.std.proofs.Common.{false, List, [], ◌∷◌, Option, None, Some, option_map, refl, ap, sym}
 use Rattle.std.proofs.Common.{subst, ◌∙◌, arith}
-use Rattle.usb_packet.specs.declared.Packet.TheVariants.{Token, Payload, Ack}
-use Rattle.usb_packet.specs.declared.TokenKind.{TokenKind}
-use Rattle.usb_packet.specs.declared.TokenKind.TheVariants.{OutTok, InTok, SetupTok}
-use Rattle.usb_port.specs.PortState.{PortState}
-use Rattle.usb_device.specs.declared.delivery.Content.{Content}
-use Rattle.usb_device.specs.declared.delivery.Content.TheVariants.{Whole, Broken}
-use Rattle.usb_device.specs.declared.delivery.Sent.{Sent}
-use Rattle.usb_device.specs.declared.effect.Effect.TheVariants.{Leaves}
-use Rattle.usb_device.specs.declared.transfer.RememberedPacket.{RememberedPacket}
+use Rattle.usb_packet.specs.{Token, Payload, Ack, TokenKind, OutTok, InTok, SetupTok}
+use Rattle.usb_port.specs.{PortState}
+use Rattle.usb_device.specs.{Content, Whole, Broken, Sent, Leaves, RememberedPacket, State, Reply}
+use Rattle.usb_device.specs.{received, unread, forgotten, answered, unless_busy, in_row}
+use Rattle.usb_device.specs.{in_other_row, bulk_ack_row, token_row, after_memory, awaits_control}
+use Rattle.usb_device.specs.{ends_with_address, awaits_address, asks, asked_by_data, Ports, empty}
+use Rattle.usb_device.specs.{full, row_of, reach_at, state_at, place_at, hears, reply_to, answer_of}
+use Rattle.usb_device.specs.{asked_by, effect_of}
 use Rattle.usb_device.specs.declared.transfer.RememberedPacket.TheVariants.{Nothing, SetupSeen}
-use Rattle.usb_device.specs.Rows.{State, Reply, received, unread, forgotten, answered, unless_busy}
-use Rattle.usb_device.specs.Rows.{in_row, in_other_row, bulk_ack_row, token_row, after_memory}
-use Rattle.usb_device.specs.Rows.{awaits_control, ends_with_address, awaits_address}
-use Rattle.usb_device.specs.Effect.{asks, asked_by_data}
-use Rattle.usb_device.specs.Tree.{Ports, Place, empty, full, row_of, reach_at, state_at, place_at}
-use Rattle.usb_device.specs.Delivery.{hears, reply_to, answer_of, asked_by, effect_of}
+use Rattle.usb_device.specs.Tree.{Place}
 use Rattle.usb_device.proofs.Interface.{keeps-received}
-use Rattle.usb_world.specs.declared.damage.Damage.{Damage}
-use Rattle.usb_world.specs.declared.types.Attempt.{Attempt}
-use Rattle.usb_world.specs.Wire.{mark_of, harm_to, marked}
-use Rattle.usb_world.specs.Exchange.{token_of, token_out, payload_out, reply_out, ports_in}
-use Rattle.usb_tree.specs.Paths.{address_of}
-use Rattle.usb_tree.specs.WayEffects.{resets_at, reset_if}
-use Rattle.usb_tree.specs.AttemptPackets.{after_sent, deep_at, sent_resets, attempt_resets}
-use Rattle.usb_tree.specs.AttemptPackets.{IsDataOut, IfOut, IsSettled}
-use Rattle.usb_world.specs.World.{World}
-use Rattle.usb_world.specs.Steps.{at_attempt, damage_in, with_attempt, Step, attempt, root_call}
-use Rattle.usb_world.specs.Steps.{event, report, after, Course}
-use Rattle.usb_world.specs.Courses.{HoldsMapped, Injective}
-use Rattle.usb_world.specs.Addresses.{is_setup, NoneTakes, MovesData, GivesNoAddress}
-use Rattle.usb_tree.specs.WayEffects.{effect_resets}
+use Rattle.usb_world.specs.{Damage, Attempt, mark_of, harm_to, marked, token_of, token_out}
+use Rattle.usb_world.specs.{payload_out, reply_out, ports_in, World, at_attempt, damage_in}
+use Rattle.usb_world.specs.{with_attempt, Step, attempt, root_call, event, report, after, Course}
+use Rattle.usb_world.specs.{HoldsMapped, Injective, is_setup, NoneTakes, MovesData, GivesNoAddress}
+use Rattle.usb_tree.specs.{address_of, resets_at, reset_if, after_sent, deep_at, sent_resets}
+use Rattle.usb_tree.specs.{attempt_resets, IsDataOut, IfOut, IsSettled, effect_resets}
 use Rattle.usb_tree.proofs.Interface.{resets_if}
 use Rattle.usb_world.proofs.packets.AwaitedAcks.{none_awaited_answer, data_no_control_in}
 use Rattle.usb_tree.proofs.Interface.{false_true, and_false}
@@ -125,8 +111,7 @@ rested_asked : (n : ℕ) (s x : State) → x.memory ≡ Nothing → AddressAfter
 unfolding awaits_address
 rested_asked n s x m = (
   ap saw_setup m,
-  λ c. ap (λ y. awaits_control y && ends_with_address x.stage)
-      m,
+  λ c. ap (λ y. awaits_control y && ends_with_address x.stage) m,
 )
 
 stayed_asked : (n : ℕ) (s x : State) → AddressStays s x → address_of s ≡ n → AddressAfterData n s x

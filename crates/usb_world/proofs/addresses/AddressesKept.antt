@@ -2,57 +2,34 @@
 use Rattle.std.proofs.Common.{◌≡◌, ℕ, zero, suc, ◌+◌, ◌==◌, ◌&&◌, ◌||◌, not, nat_lt, if◌then◌else◌}
 use Rattle.std.proofs.Common.{◌⊎◌, inl, inr, Bool, true, false, List, [], ◌∷◌, ◌++◌, length, Option}
 use Rattle.std.proofs.Common.{None, Some, option_map, refl, ap, sym, ◌∙◌}
-use Rattle.usb_packet.specs.declared.Packet.{Packet}
-use Rattle.usb_packet.specs.declared.Packet.TheVariants.{Token, Payload, Ack, Sof, Nak, Stall, Pre}
-use Rattle.usb_packet.specs.declared.Toggle.{Toggle}
-use Rattle.usb_packet.specs.declared.Toggle.TheVariants.{Zero, One as Data1}
-use Rattle.usb_packet.specs.declared.TokenKind.{TokenKind}
-use Rattle.usb_packet.specs.declared.TokenKind.TheVariants.{OutTok, InTok, SetupTok}
+use Rattle.usb_packet.specs.{Packet, Token, Payload, Ack, Sof, Nak, Stall, Pre, Toggle, Zero}
+use Rattle.usb_packet.specs.{One as Data1, TokenKind, OutTok, InTok, SetupTok, is_same}
 use Rattle.arrayvec.specs.ArrayVec.{ArrayVec}
-use Rattle.usb_port.specs.PortState.{PortState}
-use Rattle.usb_device.specs.declared.answer.Answer.{Answer}
+use Rattle.usb_port.specs.{PortState, PortCall, is_reset}
+use Rattle.usb_device.specs.{Answer, Content, Whole, Broken, Sent, RememberedPacket, is_ack, State}
+use Rattle.usb_device.specs.{Reply, received, unread, forgotten, payload_row, token_row, status_row}
+use Rattle.usb_device.specs.{out_row, sink_row, sunk, out_bulk_row, bulk_of, is_busy, nak_row}
+use Rattle.usb_device.specs.{unless_busy, accepted, Stage, idle, refused, reading, read, ending}
+use Rattle.usb_device.specs.{Ports, ended, vacant, taken, empty, full, called, changed, reach}
+use Rattle.usb_device.specs.{reach_at, state_at, place_at, row_of, path_to, state_on, hears}
+use Rattle.usb_device.specs.{reply_to, answer_of, listed, held_addresses, repeats, state_there}
 use Rattle.usb_device.specs.declared.answer.Answer.TheVariants as answer
-use Rattle.usb_port.specs.declared.call.PortCall.{PortCall}
-use Rattle.usb_device.specs.declared.delivery.Content.{Content}
-use Rattle.usb_device.specs.declared.delivery.Content.TheVariants.{Whole, Broken}
-use Rattle.usb_device.specs.declared.delivery.Sent.{Sent}
-use Rattle.usb_device.specs.declared.transfer.RememberedPacket.{RememberedPacket}
 use Rattle.usb_device.specs.declared.transfer.RememberedPacket.TheVariants.{Nothing, SetupSeen}
 use Rattle.usb_device.specs.declared.transfer.RememberedPacket.TheVariants.{OutSeen, AckAwaited}
-use Rattle.usb_device.specs.PacketFrames.{is_ack}
-use Rattle.usb_port.specs.Calls.{is_reset}
-use Rattle.usb_device.specs.Rows.{State, Reply, received, unread, forgotten, payload_row, token_row}
-use Rattle.usb_device.specs.Rows.{status_row, out_row, sink_row, sunk, out_bulk_row, bulk_of}
-use Rattle.usb_device.specs.Rows.{is_busy, nak_row, unless_busy, accepted}
-use Rattle.usb_packet.specs.Toggles.{is_same}
-use Rattle.usb_device.specs.Transfer.{Stage, idle, refused, reading, read, ending}
-use Rattle.usb_request.specs.Layout.{setup_of}
-use Rattle.usb_device.specs.Tree.{Ports, ended, vacant, taken, Place, empty, full, called, changed}
-use Rattle.usb_device.specs.Tree.{reach, reach_at, state_at, place_at, row_of, path_to, state_on}
-use Rattle.usb_device.specs.Delivery.{hears, reply_to, answer_of, answers, listed, held_addresses}
-use Rattle.usb_device.specs.Delivery.{repeats}
+use Rattle.usb_request.specs.{setup_of}
+use Rattle.usb_device.specs.Tree.{Place}
+use Rattle.usb_device.specs.Delivery.{answers}
 use Rattle.usb_device.proofs.Interface.{keeps-received}
-use Rattle.usb_world.specs.declared.damage.Damage.{Damage}
-use Rattle.usb_world.specs.declared.types.Attempt.{Attempt}
-use Rattle.usb_world.specs.declared.types.BusFault.{BusFault}
-use Rattle.usb_world.specs.declared.wire.Mark.{Mark}
+use Rattle.usb_world.specs.{Damage, Attempt, BusFault, Mark, mark_of, harm_to, marked, marked_some}
+use Rattle.usb_world.specs.{token_of, payload_of, reply_of, sent_as, goes_out, token_out}
+use Rattle.usb_world.specs.{payload_out, reply_out, heard_all, mark_in, place_of_answer, ports_in}
+use Rattle.usb_world.specs.{World, after_event, at_attempt, damage_in, with_attempt, event_taken}
+use Rattle.usb_world.specs.{Step, attempt, root_call, event, report, after, is_made, made_resets}
+use Rattle.usb_world.specs.{root_resets, resets, address_at, HoldsMapped, Injective, is_quiet}
+use Rattle.usb_world.specs.{QuietStep, quiet_data}
 use Rattle.usb_world.specs.declared.wire.Mark.TheVariants as mark
-use Rattle.usb_world.specs.Wire.{mark_of, harm_to, marked, marked_some}
-use Rattle.usb_world.specs.Exchange.{token_of, payload_of, reply_of, sent_as, goes_out, token_out}
-use Rattle.usb_world.specs.Exchange.{payload_out, reply_out, heard_all, mark_in, place_of_answer}
-use Rattle.usb_world.specs.Exchange.{ports_in}
-use Rattle.usb_device.specs.View.{state_there}
-use Rattle.usb_tree.specs.Paths.{address_of, Two}
-use Rattle.usb_tree.specs.WayEffects.{resets_at, call_resets}
-use Rattle.usb_tree.specs.AttemptPackets.{after_sent, answers_to, after_attempt, deep_at}
-use Rattle.usb_tree.specs.AttemptPackets.{sent_resets, attempt_resets}
-use Rattle.usb_world.specs.World.{World}
-use Rattle.usb_world.specs.Steps.{after_event, at_attempt, damage_in, with_attempt, event_taken}
-use Rattle.usb_world.specs.Steps.{Step, attempt}
-use Rattle.usb_world.specs.Steps.{root_call, event, report, after}
-use Rattle.usb_world.specs.Courses.{is_made, made_resets, root_resets, resets, address_at}
-use Rattle.usb_world.specs.Courses.{HoldsMapped}
-use Rattle.usb_world.specs.Courses.{Injective, is_quiet, QuietStep, quiet_data}
+use Rattle.usb_tree.specs.{address_of, Two, resets_at, call_resets, after_sent, answers_to}
+use Rattle.usb_tree.specs.{after_attempt, deep_at, sent_resets, attempt_resets}
 use Rattle.usb_tree.proofs.Interface.{false_true, both, and_of, decided, neither_of}
 use Rattle.usb_world.proofs.events.PlugEvents.{happened_there}
 use Rattle.usb_world.proofs.ports.PortCalls.{call_state}

@@ -3,27 +3,19 @@ use Rattle.std.proofs.Common.{◌≡◌, ℕ, zero, suc, ◌==◌, nat_le, ◌&&
 use Rattle.std.proofs.Common.{inr, Bool, true, false, List, [], ◌∷◌, length, take, Option, None}
 use Rattle.std.proofs.Common.{Some, option_map, refl, ap, ap₂, sym, ◌∙◌, arith}
 use Rattle.std.proofs.lemmas.Bool.Decides.{nat_tests}
-use Rattle.usb_packet.specs.declared.Toggle.{Toggle}
-use Rattle.usb_port.specs.PortState.{PortState}
+use Rattle.usb_packet.specs.{Toggle}
+use Rattle.usb_port.specs.{PortState}
 use Rattle.usb_device.specs.declared.answer.Answer.TheVariants as answer
-use Rattle.usb_device.specs.declared.transfer.InEndpoint.{InEndpoint}
+use Rattle.usb_device.specs.{InEndpoint, tells_changes, change_bits, Stage, ending, State, Reply}
+use Rattle.usb_device.specs.{forgotten, is_busy, nak_row, bulk_of, rest_of, acknowledged}
+use Rattle.usb_device.specs.{ends_with_address, Way, is_whole, heard, gave, in_law, in_stage_law}
+use Rattle.usb_device.specs.{in_control_law, in_other_law, in_bulk_law, source_law, changes_law}
+use Rattle.usb_device.specs.{held_law, Ports, row_of, reach_at, state_at}
 use Rattle.usb_device.specs.declared.transfer.InEndpoint.TheVariants as by
-use Rattle.usb_device.specs.Bulk.{tells_changes, change_bits}
-use Rattle.usb_device.specs.Transfer.{Stage, ending}
-use Rattle.usb_device.specs.Rows.{State, Reply, forgotten, is_busy, nak_row, bulk_of, rest_of}
-use Rattle.usb_device.specs.Rows.{acknowledged, ends_with_address}
-use Rattle.usb_device.specs.Attempt.{Way, is_whole, heard, gave, in_law, in_stage_law}
-use Rattle.usb_device.specs.Attempt.{in_control_law, in_other_law, in_bulk_law, source_law}
-use Rattle.usb_device.specs.Attempt.{changes_law, held_law}
-use Rattle.usb_device.specs.Tree.{Ports, row_of, reach_at, state_at}
-use Rattle.usb_world.specs.declared.types.Attempt.{Attempt}
-use Rattle.usb_tree.specs.Paths.{address_of, same_number, same_path}
-use Rattle.usb_tree.specs.AttemptPackets.{deep_at}
-use Rattle.usb_world.specs.World.{World}
-use Rattle.usb_world.specs.Steps.{at_attempt, damage_in, with_attempt, attempt, after}
-use Rattle.usb_world.specs.Courses.{HoldsMapped}
-use Rattle.usb_world.specs.OneHolder.{token_way, answer_way, reply_way, IsIn, HolderIn}
-use Rattle.usb_world.specs.Addresses.{is_setup, after_taking, ends_status}
+use Rattle.usb_world.specs.{Attempt, World, at_attempt, damage_in, with_attempt, attempt, after}
+use Rattle.usb_world.specs.{HoldsMapped, token_way, answer_way, reply_way, IsIn, HolderIn, is_setup}
+use Rattle.usb_world.specs.{after_taking, ends_status}
+use Rattle.usb_tree.specs.{address_of, same_number, same_path, deep_at}
 use Rattle.usb_tree.proofs.Interface.{false_true, decided}
 use Rattle.usb_tree.proofs.Interface.{is_twice-one_path}
 use Rattle.usb_world.proofs.courses.Courses.{made_reach}
@@ -209,11 +201,9 @@ module _ (a : Attempt) (w : World) (h : HolderIn a w) (into : IsIn a) (n : ℕ)
       | m ∷ x ↦ elim m
           as (λ _. Option ℕ) [
             | zero ↦ None
-            | suc u ↦
-                option_map address_of (state_at (after (attempt a) w).roots u x)
+            | suc u ↦ option_map address_of (state_at (after (attempt a) w).roots u x)
           ]
-    ]) z ∙ there
-        ∙ ap (λ x. if x then Some taken else f (suc i ∷ e)) (sym d)
+    ]) z ∙ there ∙ ap (λ x. if x then Some taken else f (suc i ∷ e)) (sym d)
 
     kept_there : (i : ℕ) (e : List ℕ) → same_path (suc j ∷ p) (suc i ∷ e) ≡ false
         → reach_at (after (attempt a) w).roots i e ≡ true

@@ -4,44 +4,23 @@ use Rattle.std.proofs.Common.{◌≡◌, ◌≢◌, inl, inr, ℕ, ◌+◌, ◌=
 use Rattle.std.proofs.Common.{Bool, true, false, List, [], Option, None, Some, is_some, refl, ap}
 use Rattle.std.proofs.Common.{ap₂, sym, subst, ◌∙◌, arith}
 use Rattle.std.proofs.lemmas.Option.{same_Some}
-use Rattle.usb_request.specs.Codes.{CLEAR_FEATURE, PORT_OUT}
-use Rattle.usb_request.specs.Features.{C_PORT_CONNECTION}
-use Rattle.usb_packet.specs.declared.Packet.TheVariants.{Token}
-use Rattle.usb_packet.specs.declared.Toggle.{Toggle}
-use Rattle.usb_packet.specs.declared.Toggle.TheVariants.{One}
-use Rattle.usb_packet.specs.declared.TokenKind.TheVariants.{InTok, SetupTok}
-use Rattle.usb_port.specs.PortState.{PortState}
-use Rattle.usb_request.specs.declared.setup.Setup.{Setup}
-use Rattle.usb_request.specs.Layout.{setup_of}
-use Rattle.usb_port.specs.declared.call.PortCall.{PortCall}
-use Rattle.usb_device.specs.declared.effect.Effect.{Effect}
-use Rattle.usb_port.specs.Calls.{set_call, clear_call, is_clearing}
-use Rattle.usb_device.specs.Request.{Is}
-use Rattle.usb_device.specs.Transfer.{ending}
-use Rattle.usb_device.specs.Rows.{State, Reply, received, unread, forgotten, is_busy, nak_row}
-use Rattle.usb_device.specs.Rows.{ack_row, awaits_address, ends_with_address}
-use Rattle.usb_device.specs.Attempt.{Way, whole, is_whole, heard, through, in_stage_law, in_law}
+use Rattle.usb_request.specs.{CLEAR_FEATURE, PORT_OUT, C_PORT_CONNECTION, Setup, setup_of}
+use Rattle.usb_packet.specs.{Token, Toggle, One, InTok, SetupTok}
+use Rattle.usb_port.specs.{PortState, PortCall, set_call, clear_call, is_clearing}
+use Rattle.usb_device.specs.{Effect, Is, ending, State, Reply, received, unread, forgotten, is_busy}
+use Rattle.usb_device.specs.{nak_row, ack_row, awaits_address, ends_with_address, Way, is_whole}
+use Rattle.usb_device.specs.{heard, through, in_stage_law, in_law, Sent, Ports, row_of, state_on}
+use Rattle.usb_device.specs.{asks_clearing}
+use Rattle.usb_device.specs.Attempt.{whole}
 use Rattle.usb_device.specs.declared.answer.Answer.TheVariants as answer
-use Rattle.usb_device.specs.declared.delivery.Sent.{Sent}
-use Rattle.usb_device.specs.Tree.{Ports, row_of, state_on}
-use Rattle.usb_device.specs.Delivery.{asks_clearing}
-use Rattle.usb_world.specs.declared.damage.Damage.{Damage}
-use Rattle.usb_world.specs.declared.types.Attempt.{Attempt}
-use Rattle.usb_world.specs.declared.types.Outcome.{Outcome}
+use Rattle.usb_world.specs.{Damage, Attempt, Outcome, marked_some, token_of, token_out, reply_in}
+use Rattle.usb_world.specs.{ack_if, clears_at, lost_in, is_lost, cleared_in, reply_out, answered_in}
+use Rattle.usb_world.specs.{place_of_answer, heard_in, mark_in, TookOrLost, took, lost as lost_it}
+use Rattle.usb_world.specs.{counted, after_clearing, got, token_way, answer_way, reply_way, IsMade}
+use Rattle.usb_world.specs.{IsOut, IsIn, HolderIn, is_setup, EachWas, World, at_attempt, damage_in}
+use Rattle.usb_world.specs.{with_attempt, attempt, after, outcome_in}
 use Rattle.usb_world.specs.declared.types.Outcome.TheVariants.{Payload, Nothing}
-use Rattle.usb_world.specs.Wire.{marked_some}
-use Rattle.usb_world.specs.Exchange.{token_of, token_out, reply_in, ack_if, clears_at, lost_in}
-use Rattle.usb_world.specs.Exchange.{is_lost, cleared_in, reply_out, answered_in, place_of_answer}
-use Rattle.usb_world.specs.Exchange.{heard_in, mark_in}
-use Rattle.usb_world.specs.Losses.{TookOrLost, took, lost as lost_it, counted, after_clearing}
-use Rattle.usb_world.specs.OneHolder.{got, token_way, answer_way, reply_way, IsMade, IsOut, IsIn}
-use Rattle.usb_world.specs.OneHolder.{HolderIn}
-use Rattle.usb_tree.specs.Paths.{address_of}
-use Rattle.usb_tree.specs.AttemptPackets.{after_sent, deep_at, IfOut}
-use Rattle.usb_world.specs.Addresses.{is_setup}
-use Rattle.usb_world.specs.Devices.{EachWas}
-use Rattle.usb_world.specs.World.{World}
-use Rattle.usb_world.specs.Steps.{at_attempt, damage_in, with_attempt, attempt, after, outcome_in}
+use Rattle.usb_tree.specs.{address_of, after_sent, deep_at, IfOut}
 use Rattle.usb_tree.proofs.Interface.{false_true, not-true, decided, and_none}
 use Rattle.usb_world.proofs.packets.AwaitedAcks.{IsNoControlIn}
 use Rattle.usb_world.proofs.addresses.AddressLosses.{no_control_in_unlost, holder_loss}
@@ -185,8 +164,7 @@ status_stage n s awaits max whole z e =
     elim (nat_le 0 max) as (λ x. Status s awaits z
     (if x then Payload One (record { items = [] }) else Nothing)
     (if x && is_whole z then forgotten (ack_row s s.stage) else s)) [
-      | true ↦
-          gave_it refl e refl
+      | true ↦ gave_it refl e refl
       | false ↦ gave_none refl refl refl
     ]
 status_stage n s awaits max y z e = gave_none refl refl refl
@@ -302,8 +280,7 @@ module _ (a : Attempt) (w : World) (into : IsIn a) (zeroth : a.ep ≡ 0) (h : Ho
       where
         unawaited : ends_with_address s.stage ≡ false
             → (brings (outcome_in a w) && (awaits && not (is_whole reply))) ≡ false
-        unawaited f = and_none (brings (outcome_in a w)) _
-            (ap (λ x. x && not (is_whole reply))
+        unawaited f = and_none (brings (outcome_in a w)) _ (ap (λ x. x && not (is_whole reply))
             (endless_awaits _ (ap ends_with_address
             (token_stage token s (row_of below) s.registers.address) ∙ f)))
 
@@ -329,8 +306,7 @@ module _ (a : Attempt) (w : World) (into : IsIn a) (zeroth : a.ep ≡ 0) (h : Ho
           record {
             none = λ f. (
               (
-                ap (λ y. ends_with_address y.stage) e
-                    ∙ f,
+                ap (λ y. ends_with_address y.stage) e ∙ f,
                 ap (λ y. y.registers) e,
               ),
               none,

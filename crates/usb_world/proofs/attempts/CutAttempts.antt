@@ -2,17 +2,12 @@
 -- written; or it changed no device.
 use Rattle.std.proofs.Common.{◌≡◌, ◌≢◌, ℕ, ◌||◌, List, false, inl, inr, Option, None, Some, Err}
 use Rattle.std.proofs.Common.{refl, sym, subst, ap, ◌∙◌}
-use Rattle.usb_device.specs.Delivery.{held_addresses, repeats}
-use Rattle.usb_device.specs.Tree.{Ports, path_to, reach_on, state_on}
-use Rattle.usb_world.specs.declared.types.Attempt.{Attempt}
-use Rattle.usb_world.specs.declared.types.BusFault.{BusFault}
-use Rattle.usb_world.specs.declared.types.BusFault.TheVariants.{LimitReached, Memory, TraceFailed}
-use Rattle.usb_tree.specs.AttemptPackets.{IsSettled}
-use Rattle.usb_world.specs.OneHolder.{IsMade}
-use Rattle.usb_world.specs.World.{World, IsAttempt, Attempted}
-use Rattle.usb_world.specs.Devices.{Relation, EachWas}
-use Rattle.usb_world.specs.Steps.{at_attempt, damage_in, with_attempt, attempt, after, Left}
-use Rattle.usb_world.specs.Steps.{at_event, at_packet, at_line, GaveUp, AttemptFails}
+use Rattle.usb_device.specs.{held_addresses, repeats, Ports, path_to, reach_on, state_on}
+use Rattle.usb_world.specs.{Attempt, BusFault, LimitReached, Memory, TraceFailed, IsMade, World}
+use Rattle.usb_world.specs.{IsAttempt, Attempted, Relation, EachWas, at_attempt, damage_in}
+use Rattle.usb_world.specs.{with_attempt, attempt, after, Left, at_event, at_packet, at_line}
+use Rattle.usb_world.specs.{GaveUp, AttemptFails}
+use Rattle.usb_tree.specs.{IsSettled}
 use Rattle.usb_world.proofs.addresses.AddressesKept.{StandsAfter, stood_events, ready_stood}
 use Rattle.usb_world.proofs.courses.LiftedSteps.{MadeOrNot, attempt_cases, over_coming}
 use Rattle.usb_tree.proofs.Interface.{neither}
@@ -62,8 +57,7 @@ made_cut a w m u =
 packet_cut : (a : Attempt) (w x : World) (k : Ports) → k ≡ (at_attempt w).roots
     → x ≡ record (at_attempt w) {
       roots = k;
-      shared =
-          (at_attempt w).shared || repeats (held_addresses (at_attempt w).roots);
+      shared = (at_attempt w).shared || repeats (held_addresses (at_attempt w).roots);
     } → x.shared ≡ false
     → AttemptCut a w x
 packet_cut a w x k e is single =

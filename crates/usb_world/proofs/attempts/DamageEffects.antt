@@ -5,24 +5,17 @@ use Rattle.std.proofs.Common.{◌∙◌, arith, length-append, drop, drop-cons, 
 use Rattle.std.proofs.Common.{drop_of_length-le}
 use Rattle.std.proofs.lemmas.Bool.Decides.{nat_tests}
 use Rattle.std.proofs.lemmas.Bool.{ltb-true, eq-eqb}
-use Rattle.usb_check.specs.Bits.{low_bits, bits_of_bytes}
-use Rattle.usb_check.specs.Polynomial.{generator5, generator16}
+use Rattle.usb_check.specs.{low_bits, bits_of_bytes, generator5, generator16}
 use Rattle.usb_check.proofs.Interface.{length-bits_of_bytes, length-low_bits}
-use Rattle.usb_packet.specs.declared.Packet.{Packet}
-use Rattle.usb_packet.specs.declared.Packet.TheVariants.{Token, Sof, Payload, Ack, Nak, Stall, Pre}
-use Rattle.usb_packet.specs.Spelling.{Spells, Follows}
-use Rattle.usb_world.specs.declared.damage.Damage.{Damage}
+use Rattle.usb_packet.specs.{Packet, Token, Sof, Payload, Ack, Nak, Stall, Pre, Spells, Follows}
+use Rattle.usb_world.specs.{Damage, Attempt, IsAttempt, lost_in, AreOfDamages, no_losses, counted}
+use Rattle.usb_world.specs.{one_more, after_clearing, damage_of, damages_until, bit_count}
 use Rattle.usb_world.specs.declared.losses.Losses.{Losses}
-use Rattle.usb_device.specs.Tree.{Ports}
-use Rattle.usb_world.specs.declared.types.Attempt.{Attempt}
-use Rattle.usb_world.specs.World.{IsAttempt}
-use Rattle.usb_world.specs.Exchange.{lost_in}
-use Rattle.usb_tree.specs.AttemptPackets.{IsSettled}
+use Rattle.usb_device.specs.{Ports}
+use Rattle.usb_tree.specs.{IsSettled}
 use Rattle.usb_world.proofs.addresses.AddressLosses.{lost_in-none}
 use Rattle.usb_tree.proofs.Interface.{unequal}
 use Rattle.usb_tree.proofs.Interface.{if-true, if-false}
-use Rattle.usb_world.specs.Losses.{AreOfDamages, no_losses, counted, one_more, after_clearing}
-use Rattle.usb_world.specs.Wire.{damage_of, damages_until, bit_count}
 use Rattle.usb_packet.proofs.Interface.{carried}
 
 -- ---- bits

@@ -1,25 +1,16 @@
 -- What the code of an attempt does, packet by packet, is the attempt.
 use Rattle.std.proofs.Common.{◌≡◌, ◌+◌, List, [], ◌∷◌, ◌++◌, false, Option, Some, None, Result, Ok}
 use Rattle.std.proofs.Common.{Err, OnOk, OnErr, refl, sym, subst, ap, ap₂, ◌∙◌}
-use Rattle.usb_device.specs.declared.answer.Answer.{Answer}
-use Rattle.usb_device.specs.declared.delivery.Heard.{Heard}
-use Rattle.usb_device.specs.declared.delivery.Sent.{Sent}
-use Rattle.usb_device.specs.Tree.{Ports, ended, vacant, taken, row_of}
-use Rattle.usb_device.specs.Delivery.{all_forgotten, heard_of, both, heard_joined, delivered}
-use Rattle.usb_device.specs.Delivery.{figure}
+use Rattle.usb_device.specs.{Answer, Heard, Sent, Ports, ended, vacant, taken, row_of}
+use Rattle.usb_device.specs.{all_forgotten, heard_of, both, heard_joined, delivered, figure}
 use Rattle.usb_device.proofs.Interface.{figure-after, heard_of-append, row_of-forgotten}
-use Rattle.usb_world.specs.declared.damage.Damage.{Damage}
-use Rattle.usb_world.specs.declared.exchange.Exchange.{Exchange}
-use Rattle.usb_world.specs.declared.types.Attempt.{Attempt}
-use Rattle.usb_world.specs.Wire.{harm_to, marked, marked_some}
-use Rattle.usb_world.specs.HeardAnswers.{heard_above}
-use Rattle.usb_tree.specs.AttemptPackets.{IsSettled, after_sent, answers_to}
+use Rattle.usb_world.specs.{Damage, Exchange, Attempt, harm_to, marked, marked_some, heard_above}
+use Rattle.usb_world.specs.{StaysPlugged, PacketWent, PacketsWent, Exchanged, token_of, payload_of}
+use Rattle.usb_world.specs.{answer_place, answer_mark, reply_of, goes_out, heard_all, token_out}
+use Rattle.usb_world.specs.{payload_out, heard_in, mark_in, reply_in, answered_in, is_lost, lost_in}
+use Rattle.usb_world.specs.{clears_at, cleared_in, exchange_in, ended_in, ports_in}
+use Rattle.usb_tree.specs.{IsSettled, after_sent, answers_to}
 use Rattle.usb_world.proofs.packets.AttemptPackets.{after_attempt-settled}
-use Rattle.usb_world.specs.ExchangeEffects.{StaysPlugged, PacketWent, PacketsWent, Exchanged}
-use Rattle.usb_world.specs.Exchange.{token_of, payload_of, answer_place, answer_mark, reply_of}
-use Rattle.usb_world.specs.Exchange.{goes_out, heard_all, token_out, payload_out, heard_in, mark_in}
-use Rattle.usb_world.specs.Exchange.{reply_in, answered_in, is_lost, lost_in, clears_at, cleared_in}
-use Rattle.usb_world.specs.Exchange.{exchange_in, ended_in, ports_in}
 
 pub heard_all_of : (xs : List Answer) → heard_above (heard_of xs) ≡ heard_all xs
 heard_all_of [] = refl

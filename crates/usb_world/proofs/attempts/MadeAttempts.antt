@@ -1,11 +1,8 @@
 -- What an attempt that is made, or is not, leaves of a world besides its devices.
 use Rattle.std.proofs.Common.{◌≡◌, ◌==◌, true, false, None, Some, is_some, refl, sym, ap, ◌∙◌}
-use Rattle.usb_device.specs.Delivery.{held_addresses, repeats}
-use Rattle.usb_world.specs.declared.types.Attempt.{Attempt}
-use Rattle.usb_world.specs.declared.types.BusFault.{BusFault}
-use Rattle.usb_world.specs.declared.types.BusFault.TheVariants.{LimitReached}
-use Rattle.usb_world.specs.Steps.{attempt, after, with_attempt, at_attempt}
-use Rattle.usb_world.specs.World.{World, Made}
+use Rattle.usb_device.specs.{held_addresses, repeats}
+use Rattle.usb_world.specs.{Attempt, LimitReached, attempt, after, with_attempt}
+use Rattle.usb_world.specs.{at_attempt, World, Made}
 use Rattle.usb_tree.proofs.Interface.{false_true, neither}
 use Rattle.usb_world.proofs.events.DueEvents.{ready_beside, ready_shared}
 use Rattle.usb_tree.proofs.Interface.{unequal}
@@ -15,11 +12,6 @@ pub limited : (a : Attempt) (w : World) → w.fault ≡ None → (w.attempts == 
     → after (attempt a) w ≡ record w { fault = Some LimitReached }
 unfolding after
 limited a w sound full = rw (sound, full) refl
-
-pub after-faulted : (a : Attempt) (w : World) (fault : BusFault) → w.fault ≡ Some fault
-    → after (attempt a) w ≡ w
-unfolding after
-after-faulted a w fault e = rw e refl
 
 -- one that ended well is its packets, after the events that were due
 pub made_step : (a : Attempt) (w : World) → Made w (after (attempt a) w)

@@ -1,15 +1,11 @@
 -- What the host got tells what was answered, and whether it acknowledges.
 use Rattle.std.proofs.Common.{◌≡◌, ◌≢◌, ℕ, Bool, true, false, Option, None, Some, arith}
 use Rattle.arrayvec.specs.ArrayVec.{ArrayVec}
-use Rattle.usb_packet.specs.declared.Toggle.{Toggle}
-use Rattle.usb_device.specs.declared.answer.Answer.{Answer}
+use Rattle.usb_packet.specs.{Toggle}
+use Rattle.usb_device.specs.{Answer}
 use Rattle.usb_device.specs.declared.answer.Answer.TheVariants as answer
-use Rattle.usb_world.specs.declared.exchange.ExchangeAnswer.{ExchangeAnswer}
-use Rattle.usb_world.specs.declared.types.Outcome.{Outcome}
+use Rattle.usb_world.specs.{ExchangeAnswer, Outcome, Mark, ack_if, reply_of, outcome_of, got}
 use Rattle.usb_world.specs.declared.types.Outcome.TheVariants.{Payload, Ack, Nak, Stall, Nothing}
-use Rattle.usb_world.specs.declared.wire.Mark.{Mark}
-use Rattle.usb_world.specs.Exchange.{ack_if, reply_of, outcome_of}
-use Rattle.usb_world.specs.OneHolder.{got}
 
 abbrev pub given_by : Outcome → Option Answer
 given_by (Payload t b) = Some (answer.Data t b)

@@ -1,27 +1,17 @@
 -- Only the host's data can be refused memory on their way: no sink grows at a token or at an ACK.
 use Rattle.std.proofs.Common.{◌≡◌, ℕ, ◌&&◌, Bool, true, false, not, if◌then◌else◌, length, nat_le}
 use Rattle.std.proofs.Common.{Option, None, Some, Result, Ok, Err, OnErr, refl, sym, subst, ap, ◌∙◌}
-use Rattle.usb_packet.specs.declared.Packet.{Packet}
+use Rattle.usb_packet.specs.{Packet}
 use Rattle.usb_packet.specs.declared.Packet.TheVariants as packet
-use Rattle.usb_device.specs.declared.delivery.Content.{Content}
+use Rattle.usb_device.specs.{Content, Sent, State, sink_grows, Ports, all_forgotten, Stopped}
+use Rattle.usb_device.specs.{behind_empty, behind, below, here}
 use Rattle.usb_device.specs.declared.delivery.Content.TheVariants as content
-use Rattle.usb_device.specs.declared.delivery.Sent.{Sent}
-use Rattle.usb_device.specs.Rows.{State, sink_grows}
-use Rattle.usb_device.specs.Tree.{Ports}
-use Rattle.usb_device.specs.Delivery.{all_forgotten}
-use Rattle.usb_device.specs.StoppedPackets.{Stopped, behind_empty, behind, below, here}
-use Rattle.usb_world.specs.declared.damage.Damage.{Damage}
-use Rattle.usb_world.specs.declared.exchange.ExchangeAnswer.{ExchangeAnswer}
+use Rattle.usb_world.specs.{Damage, ExchangeAnswer, Attempt, Mark, Outgoing, is_read, marked}
+use Rattle.usb_world.specs.{marked_some, token_of, reply_of, sent_as, goes_out, token_out}
+use Rattle.usb_world.specs.{payload_out, IsStopped, IsCut}
 use Rattle.usb_world.specs.declared.exchange.ExchangeAnswer.TheVariants as heard
-use Rattle.usb_world.specs.declared.types.Attempt.{Attempt}
-use Rattle.usb_world.specs.declared.wire.Mark.{Mark}
 use Rattle.usb_world.specs.declared.wire.Mark.TheVariants as mark
-use Rattle.usb_world.specs.declared.wire.Outgoing.{Outgoing}
-use Rattle.usb_world.specs.Wire.{is_read, marked, marked_some}
-use Rattle.usb_world.specs.Exchange.{token_of, reply_of, sent_as, goes_out, token_out, payload_out}
-use Rattle.usb_tree.specs.AttemptPackets.{after_sent}
-use Rattle.usb_world.specs.CutPackets.{IsStopped}
-use Rattle.usb_world.specs.Steps.{IsCut}
+use Rattle.usb_tree.specs.{after_sent}
 use Rattle.usb_tree.proofs.Interface.{false_true, and_false}
 
 -- whether a device's sink grows at what goes out
@@ -78,8 +68,7 @@ still_reply s heard.Collision m max = refl
 still_reply s (heard.One (packet.Payload t bytes)) m max =
     elim (is_read m && nat_le (length bytes.items) max)
     as (λ x. grows_some s (if x then Some packet.Ack else None) ≡ false) [
-      | true ↦
-          and_false (not s.spec.silent)
+      | true ↦ and_false (not s.spec.silent)
       | false ↦ refl
     ]
 still_reply s (heard.One packet.Ack) m max = refl
@@ -116,7 +105,6 @@ over_cut a d k j m (Err x) e h = record {
   sent = h.sent;
   went = h.went;
   tree = j;
-  stopped =
-      h.stopped;
+  stopped = h.stopped;
   is = e;
 }

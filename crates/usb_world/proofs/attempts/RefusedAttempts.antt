@@ -2,21 +2,13 @@
 use Rattle.std.proofs.Common.{◌≡◌, ℕ, zero, suc, true, false, List, [], ◌∷◌, Option, None, Some}
 use Rattle.std.proofs.Common.{is_some, option_map, Result, Ok, Err, OnOk, refl, sym, subst, ap, ◌∙◌}
 use Rattle.std.specs.Prelude.{All}
-use Rattle.usb_device.specs.Spec.{IsSpec}
-use Rattle.usb_device.specs.Rows.{State}
-use Rattle.usb_device.specs.Tree.{Ports, reach, state_at}
-use Rattle.usb_world.specs.declared.types.Attempt.{Attempt}
-use Rattle.usb_world.specs.declared.types.BusFault.{BusFault}
-use Rattle.usb_world.specs.declared.types.BusFault.TheVariants.{LimitReached, Memory, TraceFailed}
-use Rattle.usb_world.specs.declared.types.Outcome.{Outcome}
-use Rattle.usb_tree.specs.Paths.{address_of}
-use Rattle.usb_tree.specs.AttemptPackets.{IsSettled}
-use Rattle.usb_world.specs.SanePorts.{Consistent}
-use Rattle.usb_world.specs.World.{World, IsAttempt, Attempted}
-use Rattle.usb_world.specs.Courses.{address_at, HoldsMapped, Injective}
-use Rattle.usb_world.specs.Steps.{AnyStep, WorldInvariant, after, at_attempt, damage_in}
-use Rattle.usb_world.specs.Steps.{with_attempt, Left, at_event, at_packet, at_line, GaveUp}
-use Rattle.usb_world.specs.Steps.{AttemptFails, attempt, IsCut}
+use Rattle.usb_device.specs.{IsSpec, State, Ports, reach, state_at}
+use Rattle.usb_world.specs.{Attempt, BusFault, LimitReached, Memory, TraceFailed, Outcome}
+use Rattle.usb_world.specs.{Consistent, World, IsAttempt, Attempted, address_at, HoldsMapped}
+use Rattle.usb_world.specs.{Injective, AnyStep, WorldInvariant, after, at_attempt, damage_in}
+use Rattle.usb_world.specs.{with_attempt, Left, at_event, at_packet, at_line, GaveUp, AttemptFails}
+use Rattle.usb_world.specs.{attempt, IsCut}
+use Rattle.usb_tree.specs.{address_of, IsSettled}
 use Rattle.usb_world.proofs.courses.StepInvariants.{between_ready, between_steps}
 use Rattle.usb_world.proofs.addresses.AddressesKept.{own_steps, ready_unshared, ready_own}
 use Rattle.usb_world.proofs.courses.LiftedSteps.{over_coming}

@@ -4,30 +4,19 @@ use Rattle.std.proofs.Common.{◌++◌, Option, None, Some, option_map, refl, ap
 use Rattle.std.proofs.Common.{arith}
 use Rattle.std.proofs.lemmas.Bool.Decides.{nat_tests}
 use Rattle.arrayvec.specs.ArrayVec.{ArrayVec}
-use Rattle.usb_device.specs.declared.delivery.Sent.{Sent}
+use Rattle.usb_device.specs.{Sent, Ports, held_addresses, all_reached, paths_at, holder_among}
+use Rattle.usb_device.specs.{holder_of}
 use Rattle.usb_device.specs.declared.holders.Holder.TheVariants.{Nobody}
-use Rattle.usb_device.specs.Tree.{Ports}
-use Rattle.usb_device.specs.Delivery.{held_addresses}
-use Rattle.usb_device.specs.Holders.{all_reached, paths_at, holder_among, holder_of}
 use Rattle.usb_device.proofs.Interface.{way_addresses, held-reached}
-use Rattle.usb_world.specs.declared.types.Attempt.{Attempt}
-use Rattle.usb_world.specs.declared.damage.Damage.{Damage}
-use Rattle.usb_world.specs.declared.exchange.Exchange.{Exchange}
-use Rattle.usb_world.specs.declared.exchange.ExchangeAnswer.{ExchangeAnswer}
+use Rattle.usb_world.specs.{Attempt, Damage, Exchange, ExchangeAnswer, Mark, Whole, Outgoing}
+use Rattle.usb_world.specs.{harm_to, marked, marked_some, token_of, payload_in, token_out}
+use Rattle.usb_world.specs.{payload_out, reply_out, heard_all, heard_in, mark_in, reply_in, lost_in}
+use Rattle.usb_world.specs.{cleared_in, answered_in, goes_out, is_lost, clears_at, answer_mark}
+use Rattle.usb_world.specs.{reply_of, place_of_answer, exchange_in, ports_in, Exchanged}
+use Rattle.usb_world.specs.{StaysPlugged, silent_exchange}
 use Rattle.usb_world.specs.declared.exchange.ExchangeAnswer.TheVariants.{Nothing}
-use Rattle.usb_world.specs.declared.wire.Mark.{Mark}
-use Rattle.usb_world.specs.declared.wire.Mark.TheVariants.{Whole}
-use Rattle.usb_world.specs.declared.wire.Outgoing.{Outgoing}
-use Rattle.usb_world.specs.Wire.{harm_to, marked, marked_some}
-use Rattle.usb_world.specs.Exchange.{token_of, payload_in, token_out, payload_out, reply_out}
-use Rattle.usb_world.specs.Exchange.{heard_all, heard_in, mark_in, reply_in, lost_in, cleared_in}
-use Rattle.usb_world.specs.Exchange.{answered_in, goes_out, is_lost, clears_at, answer_mark}
-use Rattle.usb_world.specs.Exchange.{reply_of, place_of_answer, exchange_in, ports_in}
-use Rattle.usb_tree.specs.AttemptPackets.{after_sent, answers_to, IfOut, IsSettled, IsTokenFor}
-use Rattle.usb_tree.specs.AttemptPackets.{NobodyHolds}
-use Rattle.usb_world.specs.ExchangeEffects.{Exchanged, StaysPlugged}
-use Rattle.usb_world.specs.Silence.{silent_exchange}
-use Rattle.usb_tree.specs.Paths.{address_of}
+use Rattle.usb_tree.specs.{after_sent, answers_to, IfOut, IsSettled, IsTokenFor, NobodyHolds}
+use Rattle.usb_tree.specs.{address_of}
 use Rattle.usb_world.proofs.courses.Courses.{goes}
 use Rattle.usb_tree.proofs.Interface.{swapped}
 use Rattle.usb_tree.proofs.Interface.{occurs, one_if, occurs-reached}
@@ -103,8 +92,7 @@ module _ (a : Attempt) (d : Option Damage) (k : Ports) (settled : IsSettled k)
   q = payload_out a d
 
   token_unheard : after_sent t k ≡ k
-  token_unheard = (sent_to_nobody t k settled
-      (λ x o s w. token_calls a.addr x.content s
+  token_unheard = (sent_to_nobody t k settled (λ x o s w. token_calls a.addr x.content s
       (subst (IfOut (IsTokenFor a.addr)) o (goes a d k).token) (nobody w.0 w.1 s w.2 w.3))).0
 
   unheard : (ports_in a d k ≡ k) × (answers_to t k ≡ []) × (answers_to q (after_sent t k) ≡ [])

@@ -2,36 +2,21 @@
 use Rattle.std.proofs.Common.{◌≡◌, ℕ, ◌+◌, ◌≤◌, ◌==◌, not, if◌then◌else◌, ◌⊎◌, inl, inr, Bool, true}
 use Rattle.std.proofs.Common.{false, List, ◌∷◌, ◌++◌, Option, None, Some, refl, subst, ap, ◌∙◌}
 use Rattle.std.proofs.Common.{arith}
-use Rattle.usb_packet.specs.declared.Packet.{Packet}
-use Rattle.usb_packet.specs.declared.Packet.TheVariants.{Token}
-use Rattle.usb_packet.specs.declared.TokenKind.TheVariants.{OutTok}
-use Rattle.usb_port.specs.PortState.{PortState}
-use Rattle.usb_device.specs.declared.delivery.Content.{Content}
+use Rattle.usb_packet.specs.{Packet, Token, OutTok}
+use Rattle.usb_port.specs.{PortState}
+use Rattle.usb_device.specs.{Content, Sent, Effect, Leaves, RememberedPacket, State, Reply}
+use Rattle.usb_device.specs.{forgotten, received, unread, token_row, sink_grows, Ports, ended}
+use Rattle.usb_device.specs.{vacant, taken, full, before, acted, row_of, hears, reply_to, answer_of}
+use Rattle.usb_device.specs.{effect_of, after_packet, delivered_device, on_port, all_forgotten}
+use Rattle.usb_device.specs.{held_addresses, repeats, Stopped, behind_empty, behind, below, here}
 use Rattle.usb_device.specs.declared.delivery.Content.TheVariants as content
 use Rattle.usb_device.specs.declared.delivery.Heard.TheVariants.{NoAnswer}
-use Rattle.usb_device.specs.declared.delivery.Sent.{Sent}
-use Rattle.usb_device.specs.declared.effect.Effect.{Effect}
-use Rattle.usb_device.specs.declared.effect.Effect.TheVariants.{Leaves}
-use Rattle.usb_device.specs.declared.transfer.RememberedPacket.{RememberedPacket}
 use Rattle.usb_device.specs.declared.transfer.RememberedPacket.TheVariants.{Nothing, SetupSeen}
 use Rattle.usb_device.specs.declared.transfer.RememberedPacket.TheVariants.{OutSeen, AckAwaited}
-use Rattle.usb_device.specs.Rows.{State, Reply, forgotten, received, unread, token_row, sink_grows}
-use Rattle.usb_device.specs.Tree.{Ports, ended, vacant, taken, full, before, acted, row_of}
-use Rattle.usb_device.specs.Delivery.{hears, reply_to, answer_of, effect_of, after_packet}
-use Rattle.usb_device.specs.Delivery.{delivered_device, on_port, all_forgotten, held_addresses}
-use Rattle.usb_device.specs.Delivery.{repeats}
-use Rattle.usb_device.specs.StoppedPackets.{Stopped, behind_empty, behind, below, here}
-use Rattle.usb_world.specs.declared.damage.Damage.{Damage}
-use Rattle.usb_world.specs.declared.types.Attempt.{Attempt}
-use Rattle.usb_world.specs.declared.wire.Mark.{Mark}
-use Rattle.usb_world.specs.declared.wire.Mark.TheVariants.{Whole, Lost, PreLost, Flipped}
-use Rattle.usb_world.specs.Wire.{marked, mark_of, harm_to}
-use Rattle.usb_world.specs.Exchange.{token_of, sent_as, token_out}
-use Rattle.usb_tree.specs.Paths.{address_of}
-use Rattle.usb_tree.specs.AttemptPackets.{IfOut, IsTokenFor, IsDataOut, IsSettled, after_sent}
-use Rattle.usb_tree.specs.AttemptPackets.{calls_on}
-use Rattle.usb_world.specs.World.{IsAttempt}
-use Rattle.usb_world.specs.Steps.{IsCut}
+use Rattle.usb_world.specs.{Damage, Attempt, Mark, Whole, Lost, PreLost, Flipped, marked, mark_of}
+use Rattle.usb_world.specs.{harm_to, token_of, sent_as, token_out, IsAttempt, IsCut}
+use Rattle.usb_tree.specs.{address_of, IfOut, IsTokenFor, IsDataOut, IsSettled, after_sent}
+use Rattle.usb_tree.specs.{calls_on}
 use Rattle.usb_tree.proofs.Interface.{false_true, decided}
 use Rattle.usb_world.proofs.courses.StepInvariants.{Rests, rests}
 use Rattle.usb_tree.proofs.Interface.{one_if, occurs, occurs-most, occurs_append}
@@ -238,8 +223,7 @@ unfolding unread
 broken_forgets s row h = elim s.spec.silent
     as (λ x. forgotten (if x then s else forgotten s) ≡ s) [
       | true ↦ forgotten-nothing s h
-      | false ↦
-          forgotten-nothing s h
+      | false ↦ forgotten-nothing s h
     ]
 
 answer_forgets : (q : Sent) → IsForgotten q.content → (deep : Bool) (s : State) (a : Ports)

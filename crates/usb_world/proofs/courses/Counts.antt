@@ -4,27 +4,21 @@ use Rattle.std.proofs.lemmas.Option.{same_Some}
 use Rattle.std.specs.Prelude.{ℕ, ◌+◌, ◌-◌, ◌<◌, ◌≤◌, List, [], ◌∷◌, length, Bool, true, false}
 use Rattle.std.specs.Prelude.{slice_set, slice_index_or, is_some, if◌then◌else◌, ◌&&◌, ◌==◌, Option}
 use Rattle.std.specs.Prelude.{Some, None}
-use Rattle.usb_port.specs.PortState.{PortState, is_attached, off}
+use Rattle.usb_port.specs.{PortState, is_attached, off, PortCall, called_port, port_by, is_reset}
+use Rattle.usb_port.specs.{set_call, clear_call, IsSetFeature, IsClearFeature}
 use Rattle.std.proofs.Common.{length-set}
-use Rattle.usb_request.specs.Features.{PORT_ENABLE, PORT_RESET, PORT_POWER, C_PORT_CONNECTION}
-use Rattle.usb_request.specs.Features.{C_PORT_ENABLE, C_PORT_RESET}
-use Rattle.usb_port.specs.declared.call.PortCall.{PortCall}
-use Rattle.usb_port.specs.Calls.{called_port, port_by, is_reset, set_call, clear_call, IsSetFeature}
-use Rattle.usb_port.specs.Calls.{IsClearFeature}
-use Rattle.usb_device.specs.Rows.{State}
-use Rattle.usb_device.specs.Tree.{Ports, ended, vacant, taken, new_ports, first_ports, all_off}
-use Rattle.usb_device.specs.Tree.{acted, Place, empty, full, before, reset_where, called, replaced}
-use Rattle.usb_device.specs.Tree.{changed, changed_at, row_of}
+use Rattle.usb_request.specs.{PORT_ENABLE, PORT_RESET, PORT_POWER, C_PORT_CONNECTION, C_PORT_ENABLE}
+use Rattle.usb_request.specs.{C_PORT_RESET}
+use Rattle.usb_device.specs.{State, Ports, ended, vacant, taken, new_ports, first_ports, all_off}
+use Rattle.usb_device.specs.{acted, empty, full, before, reset_where, called, replaced, changed}
+use Rattle.usb_device.specs.{changed_at, row_of, Spec, Hub, Effect}
+use Rattle.usb_device.specs.Tree.{Place}
 use Rattle.usb_world.proofs.courses.LiftedSteps.{happened_by}
 use Rattle.usb_tree.proofs.Interface.{false_true}
-use Rattle.usb_world.specs.World.{World, roots_of, root_row, to_come, change_of, AttemptsWithin}
-use Rattle.usb_world.specs.World.{IsRootPort, changes, root_port_at}
-use Rattle.usb_device.specs.Spec.{Spec, Hub}
-use Rattle.usb_device.specs.declared.effect.Effect.{Effect}
+use Rattle.usb_world.specs.{World, roots_of, root_row, to_come, change_of, AttemptsWithin}
+use Rattle.usb_world.specs.{IsRootPort, changes, root_port_at, hub_ports, Action, after_change}
+use Rattle.usb_world.specs.{SetsRoot, ClearsRoot, root_call, after}
 use Rattle.usb_device.specs.declared.effect.Effect.TheVariants as effect
-use Rattle.usb_world.specs.PluggedDevices.{hub_ports}
-use Rattle.usb_world.specs.declared.event.Action.{Action}
-use Rattle.usb_world.specs.Steps.{after_change, SetsRoot, ClearsRoot, root_call, after}
 
 pub spends_none : (w : World) → AttemptsWithin 0 w w
 spends_none w = record {
@@ -71,9 +65,6 @@ changes-set [] i p lt = absurd (omega (arith, lt))
 changes-set (q ∷ ps) zero p lt = omega arith
 changes-set (q ∷ ps) (suc i) p lt = omega (arith, changes-set ps i p (omega (arith, lt)))
 
-none_not_call : (c : PortCall) → None ≡ Some c → ⊥
-none_not_call c e = cc
-
 -- a call at a port of a row is a row of the port table there
 row_reset : (x : Bool) (b : PortState) (s : State) (a k : Ports)
     → row_of (before (reset_where x b s a) k) ≡ b ∷ row_of k
@@ -116,8 +107,7 @@ called_root (suc i) c w is = record {
   limit = refl;
   taken = refl;
   left = refl;
-  fault =
-      refl;
+  fault = refl;
 }
 
 -- a call at a root port, and its row of the port table

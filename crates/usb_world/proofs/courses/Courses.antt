@@ -2,37 +2,23 @@
 use Rattle.std.proofs.Common.{◌≡◌, ℕ, zero, suc, ◌+◌, ◌&&◌, nat_le, length, if◌then◌else◌, ◌⊎◌, inl}
 use Rattle.std.proofs.Common.{inr, true, false, List, [], ◌∷◌, ◌++◌, Option, None, Some, refl, ap}
 use Rattle.std.proofs.Common.{sym, subst, ◌∙◌, append_assoc, Bool}
-use Rattle.usb_port.specs.declared.call.PortCall.{PortCall}
-use Rattle.usb_device.specs.declared.delivery.Content.TheVariants.{Whole}
-use Rattle.usb_device.specs.Spec.{Spec}
-use Rattle.usb_device.specs.Tree.{Ports, called, changed, reach, place}
-use Rattle.usb_packet.specs.declared.Packet.{Packet}
+use Rattle.usb_port.specs.{PortCall}
+use Rattle.usb_device.specs.{Whole, Spec, Ports, called, changed, reach, place}
+use Rattle.usb_packet.specs.{Packet, Toggle}
 use Rattle.usb_packet.specs.declared.Packet.TheVariants as packet
-use Rattle.usb_packet.specs.declared.Toggle.{Toggle}
 use Rattle.arrayvec.specs.ArrayVec.{ArrayVec}
-use Rattle.usb_world.specs.declared.damage.Damage.{Damage}
-use Rattle.usb_world.specs.declared.event.Event.{Event}
-use Rattle.usb_world.specs.declared.event.Action.{Action}
-use Rattle.usb_world.specs.declared.exchange.ExchangeAnswer.{ExchangeAnswer}
+use Rattle.usb_world.specs.{Damage, Event, Action, ExchangeAnswer, Attempt, Mark, is_read, mark_of}
+use Rattle.usb_world.specs.{harm_to, marked, marked_some, token_of, payload_of, reply_of, goes_out}
+use Rattle.usb_world.specs.{token_out, payload_out, reply_out, heard_in, mark_in, place_of_answer}
+use Rattle.usb_world.specs.{ports_in, World, after_change, names_path, after_event, at_attempt}
+use Rattle.usb_world.specs.{damage_in, with_attempt, Step, attempt, root_call, event, report, after}
+use Rattle.usb_world.specs.{Course, here, step, NoneNames, Undisturbed, is_made, made_resets}
+use Rattle.usb_world.specs.{made_keeps_pending, root_resets, root_keeps_pending, resets}
+use Rattle.usb_world.specs.{step_keeps_pending, Reached, UndisturbedOrPends, NoReset}
+use Rattle.usb_world.specs.{KeepsPendingAt}
 use Rattle.usb_world.specs.declared.exchange.ExchangeAnswer.TheVariants.{Nothing, One, Collision}
-use Rattle.usb_world.specs.declared.types.Attempt.{Attempt}
-use Rattle.usb_world.specs.declared.wire.Mark.{Mark}
-use Rattle.usb_world.specs.Wire.{is_read, mark_of, harm_to, marked, marked_some}
-use Rattle.usb_world.specs.Exchange.{token_of, payload_of, reply_of, goes_out, token_out}
-use Rattle.usb_world.specs.Exchange.{payload_out, reply_out, heard_in, mark_in, place_of_answer}
-use Rattle.usb_world.specs.Exchange.{ports_in}
-use Rattle.usb_tree.specs.Paths.{has_power, pending}
-use Rattle.usb_tree.specs.WayEffects.{IsNew}
-use Rattle.usb_tree.specs.AttemptPackets.{IfOut, IsTokenFor, IsDataOut, IsAckOut, IsAttemptAt}
-use Rattle.usb_world.specs.World.{World}
-use Rattle.usb_world.specs.Steps.{after_change, names_path, after_event, at_attempt, damage_in}
-use Rattle.usb_world.specs.Steps.{with_attempt, Step}
-use Rattle.usb_world.specs.Steps.{attempt, root_call, event, report, after, Course, here, step}
-use Rattle.usb_world.specs.Courses.{NoneNames, Undisturbed, is_made, made_resets}
-use Rattle.usb_world.specs.Courses.{made_keeps_pending}
-use Rattle.usb_world.specs.Courses.{root_resets, root_keeps_pending, resets, step_keeps_pending}
-use Rattle.usb_world.specs.Courses.{Reached}
-use Rattle.usb_world.specs.Courses.{UndisturbedOrPends, NoReset, KeepsPendingAt}
+use Rattle.usb_tree.specs.{has_power, pending, IsNew, IfOut, IsTokenFor, IsDataOut, IsAckOut}
+use Rattle.usb_tree.specs.{IsAttemptAt}
 use Rattle.usb_tree.proofs.Interface.{false_true, both, decided}
 use Rattle.usb_world.proofs.courses.LiftedSteps.{OverSteps, with_limit_told, with_call, over_step}
 use Rattle.usb_world.proofs.courses.LiftedSteps.{over_course, made_after}
@@ -99,8 +85,7 @@ payload_goes : (a : Attempt) (d : Option Damage) → IfOut IsDataOut (payload_ou
 unfolding payload_of marked_some marked
 payload_goes a d = go a.payload
   where
-    go : (o : Option (Toggle × ArrayVec ℕ))
-        → IfOut IsDataOut (goes_out a (marked_some d 2 a.pre
+    go : (o : Option (Toggle × ArrayVec ℕ)) → IfOut IsDataOut (goes_out a (marked_some d 2 a.pre
         (elim o [ None ↦ None | Some p ↦ Some (packet.Payload p.0 p.1) ])))
     go None = tt
     go (Some x) = sent_out IsDataOut tt a.low a.pre
@@ -141,8 +126,7 @@ pub goes : (a : Attempt) (d : Option Damage) (k : Ports)
 goes a d k = record {
   token = token_out-token a d;
   payload = payload_goes a d;
-  reply =
-      ack_goes a d k;
+  reply = ack_goes a d k;
 }
 
 -- An attempt that is made

@@ -2,25 +2,15 @@
 use Rattle.std.proofs.Common.{◌≡◌, ◌⊎◌, inl, inr, ℕ, ◌==◌, ◌&&◌, ◌∙◌, not, if◌then◌else◌, Bool}
 use Rattle.std.proofs.Common.{true, false, List, [], ◌∷◌, Option, None, Some, is_some, slice_get}
 use Rattle.std.proofs.Common.{refl, ap}
-use Rattle.usb_port.specs.declared.call.PortCall.{PortCall}
-use Rattle.usb_port.specs.Calls.{is_clearing}
-use Rattle.usb_device.specs.Spec.{Spec}
-use Rattle.usb_device.specs.Tree.{Ports, called, replaced, changed}
-use Rattle.usb_world.specs.declared.event.Action.{Action}
+use Rattle.usb_port.specs.{PortCall, is_clearing}
+use Rattle.usb_device.specs.{Spec, Ports, called, replaced, changed}
+use Rattle.usb_world.specs.{Action, Plug, Unplug, Event, Attempt, BusFault, LimitReached, is_made}
+use Rattle.usb_world.specs.{after_clearing, with_plugged, after_change, way_of, names_path, is_due}
+use Rattle.usb_world.specs.{after_event, after_first_event, after_due_events, at_attempt}
+use Rattle.usb_world.specs.{with_attempt, attempted, event_taken, Step, attempt, root_call, event}
+use Rattle.usb_world.specs.{report, after, Course, here, step, Coming, nothing_yet, next_came}
+use Rattle.usb_world.specs.{World}
 use Rattle.usb_world.specs.declared.event.Action.TheVariants.{Change, Ask}
-use Rattle.usb_world.specs.declared.event.Change.TheVariants.{Plug, Unplug}
-use Rattle.usb_world.specs.declared.event.Event.{Event}
-use Rattle.usb_world.specs.declared.types.Attempt.{Attempt}
-use Rattle.usb_world.specs.declared.types.BusFault.{BusFault}
-use Rattle.usb_world.specs.declared.types.BusFault.TheVariants.{LimitReached}
-use Rattle.usb_world.specs.Courses.{is_made}
-use Rattle.usb_world.specs.Losses.{after_clearing}
-use Rattle.usb_world.specs.Steps.{with_plugged, after_change, way_of, names_path, is_due}
-use Rattle.usb_world.specs.Steps.{after_event, after_first_event, after_due_events, at_attempt}
-use Rattle.usb_world.specs.Steps.{with_attempt, attempted, event_taken, Step, attempt, root_call}
-use Rattle.usb_world.specs.Steps.{event, report, after, Course, here, step, Coming, nothing_yet}
-use Rattle.usb_world.specs.Steps.{next_came}
-use Rattle.usb_world.specs.World.{World}
 
 abbrev pub with_limit_told : World → World
 with_limit_told w = record w { fault = Some LimitReached }

@@ -1,33 +1,21 @@
 -- What is so between two steps stays so.
 use Rattle.std.proofs.Common.{◌≡◌, ℕ, zero, suc, Bool, true, false, ◌&&◌, List, [], ◌∷◌, ◌≤◌, refl}
 use Rattle.std.proofs.Common.{ap, sym, arith}
-use Rattle.usb_port.specs.PortState.{is_attached}
-use Rattle.usb_device.specs.Spec.{Spec, Hub, IsSpec}
-use Rattle.usb_port.specs.declared.call.PortCall.{PortCall}
-use Rattle.usb_device.specs.declared.transfer.RememberedPacket.{RememberedPacket}
+use Rattle.usb_port.specs.{is_attached, PortCall, called_port, is_reset}
+use Rattle.usb_device.specs.{Spec, Hub, IsSpec, RememberedPacket, fresh, reset_state, Ports, ended}
+use Rattle.usb_device.specs.{vacant, taken, empty, full, before, new_ports, first_ports, all_off}
+use Rattle.usb_device.specs.{changed, changed_at, called, replaced, reset_where, all_forgotten}
 use Rattle.usb_device.specs.declared.transfer.RememberedPacket.TheVariants.{Nothing}
-use Rattle.usb_device.specs.Rows.{fresh, reset_state}
-use Rattle.usb_port.specs.Calls.{called_port, is_reset}
-use Rattle.usb_device.specs.Tree.{Ports, ended, vacant, taken, Place, empty, full, before}
-use Rattle.usb_device.specs.Tree.{new_ports, first_ports, all_off, changed, changed_at, called}
-use Rattle.usb_device.specs.Tree.{replaced, reset_where}
-use Rattle.usb_device.specs.Delivery.{all_forgotten}
-use Rattle.usb_world.specs.declared.damage.Damage.{Damage}
-use Rattle.usb_world.specs.declared.event.Action.{Action}
+use Rattle.usb_device.specs.Tree.{Place}
+use Rattle.usb_world.specs.{Damage, Action, Plug, Unplug, Attempt, ports_in, token_out, payload_out}
+use Rattle.usb_world.specs.{reply_out, Consistent, PlanData, World, after_change, with_plugged}
+use Rattle.usb_world.specs.{after_event, at_attempt, damage_in, with_attempt, Step, after, AnyStep}
+use Rattle.usb_world.specs.{Course, here, step, WorldInvariant, opening}
 use Rattle.usb_world.specs.declared.event.Action.TheVariants.{Change, Ask}
-use Rattle.usb_world.specs.declared.event.Change.TheVariants.{Plug, Unplug}
-use Rattle.usb_world.specs.declared.types.Attempt.{Attempt}
 use Rattle.std.proofs.lemmas.List.Elements.{All-head, All-tail}
 use Rattle.std.specs.Prelude.{Option, None, Some, slice_get, All, ⊤}
 use Rattle.std.specs.Option.{IfSome}
-use Rattle.usb_world.specs.Exchange.{ports_in, token_out, payload_out, reply_out}
-use Rattle.usb_tree.specs.AttemptPackets.{IsSettled}
-use Rattle.usb_world.specs.SanePorts.{Consistent}
-use Rattle.usb_world.specs.PlanData.{PlanData}
-use Rattle.usb_world.specs.World.{World}
-use Rattle.usb_world.specs.Steps.{after_change, with_plugged, after_event, at_attempt, damage_in}
-use Rattle.usb_world.specs.Steps.{with_attempt, Step, after, AnyStep, Course, here, step}
-use Rattle.usb_world.specs.Steps.{WorldInvariant, opening}
+use Rattle.usb_tree.specs.{IsSettled}
 use Rattle.usb_world.proofs.ports.SanePorts.{sane_path, sane_new_ports, sane_called, sane_replaced}
 use Rattle.usb_world.proofs.packets.AttemptPackets.{after_attempt-settled, attempt_sane}
 use Rattle.usb_world.proofs.courses.LiftedSteps.{OverSteps, Keeps, with_call, with_limit_told}
@@ -189,8 +177,7 @@ pub between_opening : (p : PlanData) → All IsSpec p.devices → WorldInvariant
 between_opening p r = record {
   settled = settled_new p.roots;
   sane = sane_new_ports p.roots;
-  ruled =
-      r;
+  ruled = r;
 }
 
 pub settled_steps : {K : Step → World → Type 0} → OverSteps K (Keeps (λ w. IsSettled w.roots))

@@ -1,8 +1,6 @@
 -- What the events that come before an attempt, or as a step, leave of a world as it was.
 use Rattle.std.proofs.Common.{◌≡◌, List, [], ◌∷◌, refl, ap, ◌∙◌}
-use Rattle.usb_world.specs.declared.event.Event.{Event}
-use Rattle.usb_world.specs.World.{World}
-use Rattle.usb_world.specs.Steps.{after_event, after_first_event, at_attempt, Coming}
+use Rattle.usb_world.specs.{Event, World, after_event, after_first_event, at_attempt, Coming}
 use Rattle.usb_world.proofs.courses.LiftedSteps.{OverEvents, over_ready, over_coming}
 
 -- a world but for its ports, the events to come, how many came, and when the last one did

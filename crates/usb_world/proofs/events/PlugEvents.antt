@@ -1,14 +1,12 @@
 -- What a plug or an unplug does to reachable, live and pending.
 use Rattle.std.proofs.Common.{◌≡◌, ◌∙◌, ℕ, zero, suc, ◌&&◌, ◌||◌, ◌⊎◌, inl, inr, Bool, true, false}
 use Rattle.std.proofs.Common.{List, [], ◌∷◌, slice_get, is_some, Option, None, Some, refl, ap, sym}
-use Rattle.usb_device.specs.Spec.{Spec}
-use Rattle.usb_device.specs.Tree.{Ports, ended, vacant, taken, Place, empty, full, before, port_of}
-use Rattle.usb_device.specs.Tree.{replaced, changed, changed_at, reach, reach_at}
-use Rattle.usb_world.specs.declared.event.Action.{Action}
+use Rattle.usb_device.specs.{Spec, Ports, ended, vacant, taken, empty, full, before, port_of}
+use Rattle.usb_device.specs.{replaced, changed, changed_at, reach, reach_at}
+use Rattle.usb_device.specs.Tree.{Place}
+use Rattle.usb_world.specs.{Action, Plug, Unplug, with_plugged, after_change, way_of, names_path}
 use Rattle.usb_world.specs.declared.event.Action.TheVariants.{Change, Ask}
-use Rattle.usb_world.specs.declared.event.Change.TheVariants.{Plug, Unplug}
-use Rattle.usb_world.specs.Steps.{with_plugged, after_change, way_of, names_path}
-use Rattle.usb_tree.specs.Paths.{has_power, has_power_at, pending, pending_at, is_way, on_way}
+use Rattle.usb_tree.specs.{has_power, has_power_at, pending, pending_at, is_way, on_way}
 use Rattle.usb_tree.proofs.Interface.{both, decided, and_kept, and_false, or-rises, or_right}
 use Rattle.usb_tree.proofs.Interface.{false_true}
 use Rattle.usb_world.proofs.ways.WayChanges.{changed_apart, SameThere, changed_there}

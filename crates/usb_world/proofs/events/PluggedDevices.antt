@@ -7,25 +7,16 @@ use Rattle.std.proofs.lemmas.Bool.{ltb-true}
 use Rattle.std.proofs.lemmas.List.Elements.{All-head, All-tail}
 use Rattle.std.proofs.lemmas.Option.{slice_get_cases}
 use Rattle.std.proofs.Math.Seq.{take-append_seam, drop-append_seam}
-use Rattle.usb_device.specs.Spec.{Spec}
-use Rattle.usb_device.specs.Tree.{Ports, called, replaced, changed}
-use Rattle.usb_device.specs.View.{state_there}
-use Rattle.usb_world.specs.declared.event.Action.{Action}
+use Rattle.usb_device.specs.{Spec, Ports, called, replaced, changed, state_there}
+use Rattle.usb_world.specs.{Action, Plug, Unplug, Event, after_most, PlanData, IsPlan, is_taken}
+use Rattle.usb_world.specs.{action_fits, event_fits, events_fit, PluggedMap, plugged_by}
+use Rattle.usb_world.specs.{plugged_after, index_at, device_indexed, is_rooted, has_port}
+use Rattle.usb_world.specs.{FollowsPlan, AtPorts, PlugsAtPort, spec_of, World, NoneNames}
+use Rattle.usb_world.specs.{Undisturbed, names_path, way_of, after_change, with_plugged}
+use Rattle.usb_world.specs.{after_event, at_attempt, damage_in, with_attempt, AnyStep, Course}
+use Rattle.usb_world.specs.{opening, ports_in}
 use Rattle.usb_world.specs.declared.event.Action.TheVariants.{Change, Ask}
-use Rattle.usb_world.specs.declared.event.Change.TheVariants.{Plug, Unplug}
-use Rattle.usb_world.specs.declared.event.Event.{Event}
-use Rattle.usb_world.specs.PlanLimits.{after_most}
-use Rattle.usb_world.specs.PlanData.{PlanData, IsPlan, is_taken, action_fits, event_fits}
-use Rattle.usb_world.specs.PlanData.{events_fit}
-use Rattle.usb_world.specs.PluggedDevices.{PluggedMap, plugged_by, plugged_after, index_at}
-use Rattle.usb_world.specs.PluggedDevices.{device_indexed, is_rooted, has_port}
-use Rattle.usb_world.specs.PlanCourses.{FollowsPlan, AtPorts, PlugsAtPort, spec_of}
-use Rattle.usb_world.specs.World.{World}
-use Rattle.usb_world.specs.Courses.{NoneNames, Undisturbed}
-use Rattle.usb_world.specs.Steps.{names_path, way_of, after_change, with_plugged, after_event}
-use Rattle.usb_world.specs.Steps.{at_attempt, damage_in, with_attempt, AnyStep, Course, opening}
-use Rattle.usb_world.specs.Exchange.{ports_in}
-use Rattle.usb_tree.specs.Paths.{is_way}
+use Rattle.usb_tree.specs.{is_way}
 use Rattle.usb_tree.proofs.Interface.{false_true, both}
 use Rattle.usb_world.proofs.courses.LiftedSteps.{OverSteps, Keeps, keeps_events, happened_by}
 use Rattle.usb_world.proofs.courses.LiftedSteps.{over_course}
@@ -61,8 +52,7 @@ module _ (J : World → Type 0) (by_event : (e : Event) (events : List Event) (w
           left = refl;
           taken = refl;
           devices = refl;
-          shape =
-              same;
+          shape = same;
         });
     root = λ c n w k.
         let same : shape (changed (called c) w.roots (n ∷ [])) ≡ shape w.roots =
@@ -95,8 +85,7 @@ went_rest : (plan : PlanData) (past : List Event) (w v : World) → SameShape w 
     → Went plan past v
 went_rest plan past w v a h = record {
   split = h.split ∙ ap (λ l. past ++ l) (sym a.left);
-  count =
-      a.taken ∙ h.count;
+  count = a.taken ∙ h.count;
   devices = a.devices ∙ h.devices;
 }
 
@@ -164,8 +153,7 @@ standing_plug ds n k tree e d h is s =
         shape_event (Some t) k e in
         rw same (record {
           fits = fits_there (Some t) (shape k) n e s.fits;
-          agrees =
-              agrees_plug ds (shape k) tree e d t g p f s.agrees;
+          agrees = agrees_plug ds (shape k) tree e d t g p f s.agrees;
         })
 
 standing_unplug : (ds : List Spec) (n : ℕ) (k : Ports) (tree : PluggedMap) (e : List ℕ)
@@ -242,8 +230,7 @@ left_opening plan is paths = record {
   went = went_opening plan;
   stands = rw (shape_new plan.roots) (record {
     fits = fits_gaps plan.roots;
-    agrees =
-        gaps_agree plan.devices plan.roots;
+    agrees = gaps_agree plan.devices plan.roots;
   });
   rest = is.events;
   paths = paths;

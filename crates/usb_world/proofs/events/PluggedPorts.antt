@@ -2,25 +2,16 @@
 -- or takes it away.
 use Rattle.std.proofs.Common.{◌≡◌, ℕ, zero, suc, if◌then◌else◌, ◌&&◌, Bool, true, false, List, []}
 use Rattle.std.proofs.Common.{◌∷◌, Option, None, Some, option_map, refl, ap, ap₂, ◌∙◌}
-use Rattle.usb_port.specs.PortState.{is_attached}
-use Rattle.usb_port.specs.declared.call.PortCall.{PortCall}
-use Rattle.usb_device.specs.declared.effect.Effect.{Effect}
-use Rattle.usb_device.specs.declared.effect.Effect.TheVariants.{Leaves, Calls, PortsOff}
-use Rattle.usb_device.specs.declared.delivery.Sent.{Sent}
-use Rattle.usb_device.specs.Spec.{Spec, Hub}
-use Rattle.usb_device.specs.Rows.{fresh, reset_state}
-use Rattle.usb_port.specs.Calls.{called_port, is_reset}
-use Rattle.usb_device.specs.Tree.{Ports, ended, vacant, taken, Place, empty, full, before, all_off}
-use Rattle.usb_device.specs.Tree.{new_ports, first_ports, called, reset_where, replaced, changed}
-use Rattle.usb_device.specs.Tree.{changed_at, acted, state_at}
-use Rattle.usb_device.specs.Delivery.{answer_of, effect_of, after_packet, all_forgotten}
-use Rattle.usb_device.specs.View.{state_there}
-use Rattle.usb_world.specs.declared.damage.Damage.{Damage}
-use Rattle.usb_world.specs.declared.types.Attempt.{Attempt}
-use Rattle.usb_world.specs.Exchange.{ports_in, token_out, payload_out, reply_out}
-use Rattle.usb_tree.specs.AttemptPackets.{after_sent, after_attempt}
-use Rattle.usb_world.specs.PluggedDevices.{hub_ports}
-use Rattle.usb_world.specs.PlanCourses.{spec_of}
+use Rattle.usb_port.specs.{is_attached, PortCall, called_port, is_reset}
+use Rattle.usb_device.specs.{Effect, Leaves, Calls, PortsOff, Sent, Spec, Hub, fresh, reset_state}
+use Rattle.usb_device.specs.{Ports, ended, vacant, taken, empty, full, before, all_off, new_ports}
+use Rattle.usb_device.specs.{first_ports, called, reset_where, replaced, changed, changed_at, acted}
+use Rattle.usb_device.specs.{state_at, answer_of, effect_of, after_packet, all_forgotten}
+use Rattle.usb_device.specs.{state_there}
+use Rattle.usb_device.specs.Tree.{Place}
+use Rattle.usb_world.specs.{Damage, Attempt, ports_in, token_out, payload_out, reply_out, hub_ports}
+use Rattle.usb_world.specs.{spec_of}
+use Rattle.usb_tree.specs.{after_sent, after_attempt}
 use Rattle.usb_world.proofs.events.PluggedShapes.{Shape, bare, gap, stands, spec_at, spec_there}
 use Rattle.usb_world.proofs.events.PluggedShapes.{gaps, put_first, put_at, shape_with}
 use Rattle.usb_device.proofs.Interface.{answer-spec}

@@ -2,9 +2,9 @@
 use Rattle.std.proofs.Common.{◌≡◌, ℕ, zero, suc, ◌&&◌, Bool, true, false, List, [], ◌∷◌, ◌++◌}
 use Rattle.std.proofs.Common.{Option, None, Some, ◌<◌, refl, ap, sym, arith}
 use Rattle.std.specs.Prelude.{⊤}
-use Rattle.usb_device.specs.Spec.{Spec}
-use Rattle.usb_tree.specs.Paths.{same_number, same_path, is_way, on_way}
-use Rattle.usb_world.specs.PluggedDevices.{hub_ports}
+use Rattle.usb_device.specs.{Spec}
+use Rattle.usb_tree.specs.{same_number, same_path, is_way, on_way}
+use Rattle.usb_world.specs.{hub_ports}
 use Rattle.usb_tree.proofs.Interface.{false_true}
 
 -- a row of ports: no port more, an empty port, or a port with a device and that device's ports

@@ -13,13 +13,12 @@ use Rattle.std.proofs.lemmas.List.Elements.{All-head, All-tail}
 use Rattle.std.proofs.lemmas.Map.Entries.{lookup-filter-keys}
 use Rattle.std.proofs.lemmas.Map.Lookups.{exact_bytes}
 use Rattle.std.proofs.lemmas.Map.Text.{is_eq-slice_cmp}
-use Rattle.usb_port.specs.Order.{path_cmp, parent_of, port_on_hub}
-use Rattle.usb_port.specs.Path.{IsPath, IsPortNumber}
+use Rattle.usb_port.specs.{path_cmp, parent_of, port_on_hub, IsPath, IsPortNumber}
 use Rattle.usb_port.proofs.Interface.{is_path, rejoined}
-use Rattle.usb_device.specs.Spec.{Spec}
-use Rattle.usb_tree.specs.Paths.{same_path, is_way}
-use Rattle.usb_world.specs.PluggedDevices.{PluggedMap, index_at, device_indexed, plugged_without}
-use Rattle.usb_world.specs.PluggedDevices.{spec_port_count, is_rooted, parent_has, has_port}
+use Rattle.usb_device.specs.{Spec}
+use Rattle.usb_tree.specs.{same_path, is_way}
+use Rattle.usb_world.specs.{PluggedMap, index_at, device_indexed, plugged_without, spec_port_count}
+use Rattle.usb_world.specs.{is_rooted, parent_has, has_port}
 use Rattle.usb_tree.proofs.Interface.{false_true, both, either_of, decided}
 use Rattle.usb_world.proofs.ports.RootResets.{same_is}
 use Rattle.usb_world.proofs.ways.Ways.{way_starts}

@@ -2,23 +2,15 @@
 use Rattle.std.proofs.Common.{◌≡◌, ℕ, zero, suc, ◌==◌, ◌&&◌, ◌⊎◌, inl, inr, Bool, true, false, List}
 use Rattle.std.proofs.Common.{[], ◌∷◌, Option, None, Some, is_some, refl, ap, ap₂, sym, subst, ◌∙◌}
 use Rattle.std.proofs.lemmas.Option.{same_Some}
-use Rattle.usb_packet.specs.declared.Toggle.{Toggle}
-use Rattle.usb_device.specs.Rows.{State, Reply}
-use Rattle.usb_device.specs.Attempt.{Way, whole}
-use Rattle.usb_device.specs.Tree.{Ports, ended, vacant, taken, reach_at, state_at, state_on}
-use Rattle.usb_device.specs.Tree.{Location, path_to, reach_on}
-use Rattle.usb_world.specs.declared.types.Attempt.{Attempt}
-use Rattle.usb_world.specs.declared.damage.Damage.{Damage}
-use Rattle.usb_tree.specs.Paths.{address_of, same_number, same_path}
-use Rattle.usb_tree.specs.WayEffects.{reset_if}
-use Rattle.usb_tree.specs.AttemptPackets.{deep_at, NobodyHolds}
-use Rattle.usb_world.specs.World.{World}
-use Rattle.usb_world.specs.Steps.{at_attempt, damage_in, attempt, after}
-use Rattle.usb_world.specs.Courses.{made_resets, resets}
-use Rattle.usb_world.specs.Addresses.{is_setup}
-use Rattle.usb_world.specs.OneHolder.{token_way, payload_way, answer_way, reply_way, IsSetup, IsOut}
-use Rattle.usb_world.specs.OneHolder.{IsIn, hears_attempt, IsMade, HolderIn}
-use Rattle.usb_world.specs.Devices.{Relation, Was, EachWas, Ways, DidIn, DidOut, DidSetup}
+use Rattle.usb_packet.specs.{Toggle}
+use Rattle.usb_device.specs.{State, Reply, Way, Ports, ended, vacant, taken, reach_at, state_at}
+use Rattle.usb_device.specs.{state_on, Location, path_to, reach_on}
+use Rattle.usb_device.specs.Attempt.{whole}
+use Rattle.usb_world.specs.{Attempt, Damage, World, at_attempt, damage_in, attempt, after}
+use Rattle.usb_world.specs.{made_resets, resets, is_setup, token_way, payload_way, answer_way}
+use Rattle.usb_world.specs.{reply_way, IsSetup, IsOut, IsIn, hears_attempt, IsMade, HolderIn}
+use Rattle.usb_world.specs.{Relation, Was, EachWas, Ways, DidIn, DidOut, DidSetup}
+use Rattle.usb_tree.specs.{address_of, same_number, same_path, reset_if, deep_at, NobodyHolds}
 use Rattle.usb_tree.proofs.Interface.{false_true, both, decided}
 use Rattle.usb_world.proofs.courses.Courses.{made_reach}
 use Rattle.usb_world.proofs.addresses.AddressesKept.{ready_stood}
@@ -106,8 +98,7 @@ ways_whole a w x s = record {
   first = whole;
   second = whole;
   third = whole;
-  heard =
-      λ n g. (refl, refl, refl);
+  heard = λ n g. (refl, refl, refl);
 }
 
 abbrev Clear : Attempt → World → Location → State → Type 0
@@ -119,8 +110,7 @@ ways_as a w x s t1 t2 t3 c = record {
   first = t1;
   second = t2;
   third = t3;
-  heard =
-      λ n g. elim (c (n, g)) [ ];
+  heard = λ n g. elim (c (n, g)) [ ];
 }
 
 clear_or_not : (a : Attempt) (w : World) (x : Location) (s : State) → Clear a w x s

@@ -4,37 +4,21 @@ use Rattle.std.proofs.Common.{◌≡◌, ℕ, zero, suc, ◌==◌, ◌&&◌, ◌
 use Rattle.std.proofs.Common.{inr, Bool, true, false, List, [], ◌∷◌, ◌++◌, Option, None, Some}
 use Rattle.std.proofs.Common.{is_some, refl, ap, ap₂, sym, subst, ◌∙◌}
 use Rattle.std.proofs.lemmas.Option.{same_Some}
-use Rattle.usb_request.specs.Features.{PORT_ENABLE, PORT_RESET, PORT_POWER, C_PORT_ENABLE}
-use Rattle.usb_request.specs.Features.{C_PORT_RESET}
-use Rattle.usb_request.specs.Codes.{CLEAR_FEATURE, SET_FEATURE, SET_CONFIGURATION, DEVICE_OUT}
-use Rattle.usb_request.specs.Codes.{PORT_OUT}
-use Rattle.usb_request.specs.declared.setup.Setup.{Setup}
-use Rattle.usb_request.specs.Layout.{setup_of}
-use Rattle.usb_port.specs.declared.call.PortCall.{PortCall}
-use Rattle.usb_port.specs.declared.call.PortCall.TheVariants.{SetPower, SetReset, ClearEnable}
-use Rattle.usb_port.specs.declared.call.PortCall.TheVariants.{ClearEnableChange, ClearResetChange}
-use Rattle.usb_device.specs.declared.delivery.Sent.{Sent}
-use Rattle.usb_device.specs.declared.effect.Effect.{Effect}
-use Rattle.usb_device.specs.declared.effect.Effect.TheVariants.{Leaves, Calls}
+use Rattle.usb_request.specs.{PORT_ENABLE, PORT_RESET, PORT_POWER, C_PORT_ENABLE, C_PORT_RESET}
+use Rattle.usb_request.specs.{CLEAR_FEATURE, SET_FEATURE, SET_CONFIGURATION, DEVICE_OUT, PORT_OUT}
+use Rattle.usb_request.specs.{Setup, setup_of}
+use Rattle.usb_port.specs.{PortCall, SetPower, SetReset, ClearEnable, ClearEnableChange}
+use Rattle.usb_port.specs.{ClearResetChange, set_call, clear_call}
+use Rattle.usb_device.specs.{Sent, Effect, Leaves, Calls, Is, State, Ports, state_at, path_to}
+use Rattle.usb_device.specs.{effect_of, after_packet}
 use Rattle.usb_device.specs.declared.transfer.RememberedPacket.TheVariants.{Nothing}
-use Rattle.usb_port.specs.Calls.{set_call, clear_call}
-use Rattle.usb_device.specs.Request.{Is}
-use Rattle.usb_device.specs.Rows.{State}
-use Rattle.usb_device.specs.Tree.{Ports, state_at, path_to}
-use Rattle.usb_device.specs.Delivery.{effect_of, after_packet}
-use Rattle.usb_world.specs.declared.types.Attempt.{Attempt}
-use Rattle.usb_world.specs.Exchange.{token_out, payload_out}
-use Rattle.usb_tree.specs.Paths.{same_number, same_path, is_way}
-use Rattle.usb_tree.specs.AttemptPackets.{after_sent, IsTokenFor, IfOut, IsSettled, OneHolds}
-use Rattle.usb_tree.specs.AttemptPackets.{sent_keeps_pending, sent_resets}
-use Rattle.usb_tree.specs.WayEffects.{effect_resets, resets_at, keeps_pending, effect_keeps_pending}
-use Rattle.usb_tree.specs.WayEffects.{leaves_port}
-use Rattle.usb_world.specs.World.{World}
-use Rattle.usb_world.specs.Steps.{at_attempt, damage_in, attempt}
-use Rattle.usb_world.specs.Courses.{is_made, made_resets, resets, step_keeps_pending}
-use Rattle.usb_world.specs.OneHolder.{IsSetup, HolderIn}
-use Rattle.usb_world.specs.PortRequests.{sent_leaves, leaves_step, AsksNothing, is_port_request}
-use Rattle.usb_world.specs.PortRequests.{is_sparing, is_above}
+use Rattle.usb_world.specs.{Attempt, token_out, payload_out, World, at_attempt, damage_in, attempt}
+use Rattle.usb_world.specs.{is_made, made_resets, resets, step_keeps_pending, IsSetup, HolderIn}
+use Rattle.usb_world.specs.{sent_leaves, leaves_step, AsksNothing, is_port_request, is_sparing}
+use Rattle.usb_world.specs.{is_above}
+use Rattle.usb_tree.specs.{same_number, same_path, is_way, after_sent, IsTokenFor, IfOut, IsSettled}
+use Rattle.usb_tree.specs.{OneHolds, sent_keeps_pending, sent_resets, effect_resets, resets_at}
+use Rattle.usb_tree.specs.{keeps_pending, effect_keeps_pending, leaves_port}
 use Rattle.usb_tree.proofs.Interface.{false_true, both, decided, either_of, and_false, or_left}
 use Rattle.usb_tree.proofs.Interface.{or_right, not-true}
 use Rattle.usb_world.proofs.packets.AttemptPackets.{calm_sent, token_out as token_calm}
@@ -144,8 +128,7 @@ sparing_value r h e = pick (either_of (Is r PORT_OUT SET_FEATURE &&
         (r.value == PORT_ENABLE || (r.value == C_PORT_ENABLE || r.value == C_PORT_RESET)))
         ≡ true) → (r.value == PORT_ENABLE ||
         (r.value == C_PORT_ENABLE || r.value == C_PORT_RESET)) ≡ true
-    pick (inl y) = false_true (ap (λ x. x == 1)
-        (sym (three (both (Is r PORT_OUT SET_FEATURE)
+    pick (inl y) = false_true (ap (λ x. x == 1) (sym (three (both (Is r PORT_OUT SET_FEATURE)
         (r.value == PORT_RESET || r.value == PORT_POWER) y).0))
         ∙ (both (r.request_type == PORT_OUT) (r.request == CLEAR_FEATURE) e).1)
     pick (inr y) = (both (Is r PORT_OUT CLEAR_FEATURE)
@@ -250,8 +233,7 @@ module _ (a : Attempt) (w : World) (h : HolderIn a w) where
   elsewhere (zero ∷ x) u = record {
     spares = refl;
     rests = and_false (is_made w.fault w);
-    leaves =
-        refl;
+    leaves = refl;
   }
   elsewhere (suc i ∷ x) u = record {
     spares = one_spares i x sent (λ m r z. not_under i x u m r z);
@@ -315,8 +297,7 @@ module _ (a : Attempt) (w : World) (h : HolderIn a w) where
           → made_resets a (at_attempt w) x ≡ false
       other_rests [] d = refl
       other_rests (zero ∷ x) d = refl
-      other_rests (suc i ∷ x) d = one_rests i x sent
-          (λ c m r z. data_allows (rest_test c m r)
+      other_rests (suc i ∷ x) d = one_rests i x sent (λ c m r z. data_allows (rest_test c m r)
           (rest_there c m r (ap (same_path port_path) (sym z) ∙ d)))
 
       module _ (asked : is_port_request r0 ≡ true) where
@@ -402,8 +383,7 @@ module _ (a : Attempt) (w : World) (h : HolderIn a w) where
 
         pub self_spared : is_sparing r0 ≡ true → step_keeps_pending (attempt a) w port_path ≡ true
         unfolding step_keeps_pending
-        self_spared y = one_spares j (p ++ (n ∷ [])) sent
-            (λ m r z. data_allows (spare_test m r)
+        self_spared y = one_spares j (p ++ (n ∷ [])) sent (λ m r z. data_allows (spare_test m r)
             (subst (λ v. Allows (spare_test m v) r0) (sym (ends_there (suc j ∷ p) n (suc m) r z))
             (self_there y m)))
 

@@ -2,24 +2,14 @@
 use Rattle.std.proofs.Common.{◌≡◌, ◌≤◌, ◌⊎◌, inl, inr, ℕ, false, List, [], ◌∷◌, ◌++◌, length}
 use Rattle.std.proofs.Common.{Option, None, Some, is_some, refl, ap, ap₂, sym, ◌∙◌, arith}
 use Rattle.arrayvec.specs.ArrayVec.{ArrayVec}
-use Rattle.usb_packet.specs.declared.Packet.TheVariants.{Token}
+use Rattle.usb_packet.specs.{Token, Toggle, TokenKind, OutTok, InTok, SetupTok}
 use Rattle.usb_packet.specs.declared.Packet.TheVariants as packet
-use Rattle.usb_packet.specs.declared.Toggle.{Toggle}
-use Rattle.usb_packet.specs.declared.TokenKind.{TokenKind}
-use Rattle.usb_packet.specs.declared.TokenKind.TheVariants.{OutTok, InTok, SetupTok}
-use Rattle.usb_device.specs.declared.answer.Answer.{Answer}
-use Rattle.usb_device.specs.Tree.{Ports, row_of}
-use Rattle.usb_device.specs.Delivery.{held_addresses, repeats, listed}
-use Rattle.usb_world.specs.declared.types.Attempt.{Attempt}
-use Rattle.usb_world.specs.declared.damage.Damage.{Damage}
+use Rattle.usb_device.specs.{Answer, Ports, row_of, held_addresses, repeats, listed}
+use Rattle.usb_world.specs.{Attempt, Damage, heard_all, heard_in, token_out, payload_out, reply_out}
+use Rattle.usb_world.specs.{exchange_in, IsMade, at_attempt, damage_in, made_in, with_attempt}
+use Rattle.usb_world.specs.{attempt, after, World, IsAttempt, sends_data}
 use Rattle.usb_world.specs.declared.exchange.ExchangeAnswer.TheVariants.{Collision}
-use Rattle.usb_world.specs.Exchange.{heard_all, heard_in, token_out, payload_out, reply_out}
-use Rattle.usb_world.specs.Exchange.{exchange_in}
-use Rattle.usb_tree.specs.FoundHolder.{Found}
-use Rattle.usb_world.specs.OneHolder.{IsMade}
-use Rattle.usb_tree.specs.AttemptPackets.{after_sent, answers_to, IsSettled, NobodyHolds}
-use Rattle.usb_world.specs.Steps.{at_attempt, damage_in, made_in, with_attempt, attempt, after}
-use Rattle.usb_world.specs.World.{World, IsAttempt, sends_data}
+use Rattle.usb_tree.specs.{Found, after_sent, answers_to, IsSettled, NobodyHolds}
 use Rattle.usb_tree.proofs.Interface.{false_true, neither}
 use Rattle.usb_world.proofs.holders.OneDevice.{nobody_answers}
 use Rattle.usb_world.proofs.holders.OneHolder.{sent_heard, asked_heard, token_of-fields, data_is}

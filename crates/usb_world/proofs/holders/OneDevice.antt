@@ -3,28 +3,19 @@ use Rattle.std.proofs.Common.{◌≡◌, ℕ, zero, suc, ◌==◌, ◌&&◌, ◌
 use Rattle.std.proofs.Common.{inr, Bool, true, false, List, [], ◌∷◌, ◌++◌, Option, None, Some}
 use Rattle.std.proofs.Common.{option_map, is_some, refl, ap, sym, subst, ◌∙◌}
 use Rattle.std.proofs.lemmas.Option.{same_Some}
-use Rattle.usb_packet.specs.declared.Packet.{Packet}
-use Rattle.usb_packet.specs.declared.Packet.TheVariants.{Token, Payload, Ack, Sof, Nak, Stall, Pre}
-use Rattle.usb_device.specs.declared.answer.Answer.{Answer}
-use Rattle.usb_device.specs.declared.delivery.Content.{Content}
-use Rattle.usb_device.specs.declared.delivery.Content.TheVariants.{Whole, Broken}
-use Rattle.usb_device.specs.declared.delivery.Sent.{Sent}
-use Rattle.usb_device.specs.declared.effect.Effect.TheVariants.{Leaves}
+use Rattle.usb_packet.specs.{Packet, Token, Payload, Ack, Sof, Nak, Stall, Pre}
+use Rattle.usb_device.specs.{Answer, Content, Whole, Broken, Sent, Leaves, State, forgotten}
+use Rattle.usb_device.specs.{reset_state, asks, asked_by_packet, Ports, ended, vacant, taken, empty}
+use Rattle.usb_device.specs.{full, acted, reach_at, state_at, place_at, Location, place_on}
+use Rattle.usb_device.specs.{reach_on, hears, asked_by, answer_of, effect_of, after_packet, listed}
+use Rattle.usb_device.specs.{all_forgotten, forgotten_place}
 use Rattle.usb_device.specs.declared.transfer.RememberedPacket.TheVariants.{Nothing}
-use Rattle.usb_device.specs.Rows.{State, forgotten, reset_state}
-use Rattle.usb_device.specs.Effect.{asks, asked_by_packet}
-use Rattle.usb_device.specs.Tree.{Ports, ended, vacant, taken, Place, empty, full, acted, reach_at}
-use Rattle.usb_device.specs.Tree.{state_at, place_at, Location, place_on, reach_on}
-use Rattle.usb_device.specs.Delivery.{hears, asked_by, answer_of, effect_of, after_packet, answers}
-use Rattle.usb_device.specs.Delivery.{listed, all_forgotten}
-use Rattle.usb_tree.specs.Paths.{address_of, same_number, same_path}
-use Rattle.usb_tree.specs.WayEffects.{resets_at, reset_if}
-use Rattle.usb_device.specs.View.{forgotten_place}
-use Rattle.usb_tree.specs.AttemptPackets.{after_sent, answers_to, after_attempt, deep_at, calls_on}
-use Rattle.usb_tree.specs.AttemptPackets.{IsTokenFor, IsDataOut, IsAckOut, IfOut, IsAttemptAt}
-use Rattle.usb_tree.specs.AttemptPackets.{sent_resets, attempt_resets, IsSettled, NobodyHolds}
-use Rattle.usb_tree.specs.AttemptPackets.{OneHolds}
-use Rattle.usb_tree.specs.LonePackets.{OthersForgot, OthersUncalled}
+use Rattle.usb_device.specs.Tree.{Place}
+use Rattle.usb_device.specs.Delivery.{answers}
+use Rattle.usb_tree.specs.{address_of, same_number, same_path, resets_at, reset_if, after_sent}
+use Rattle.usb_tree.specs.{answers_to, after_attempt, deep_at, calls_on, IsTokenFor, IsDataOut}
+use Rattle.usb_tree.specs.{IsAckOut, IfOut, IsAttemptAt, sent_resets, attempt_resets, IsSettled}
+use Rattle.usb_tree.specs.{NobodyHolds, OneHolds, OthersForgot, OthersUncalled}
 use Rattle.usb_tree.proofs.Interface.{false_true, both, and_of, decided}
 use Rattle.usb_tree.proofs.Interface.{is_twice-one_path}
 use Rattle.usb_world.proofs.packets.PacketEffects.{packet_state, true_deep, heard_state}
@@ -89,8 +80,7 @@ unfolding asks
 rested_asks (Whole p) s n = elim s.spec.silent
     as (λ x. (if x then Leaves else asked_by_packet s p) ≡ Leaves) [
       | true ↦ refl
-      | false ↦
-          rested_packet s p n
+      | false ↦ rested_packet s p n
     ]
 rested_asks Broken s n = refl
 
@@ -99,8 +89,7 @@ pub rested_effect : (q : Sent) (deep : Bool) (s : State) → s.memory ≡ Nothin
 unfolding effect_of
 rested_effect q deep s n = elim (hears q deep s)
     as (λ x. (if x then asked_by q.content s else Leaves) ≡ Leaves) [
-      | true ↦
-          rested_asks q.content s n
+      | true ↦ rested_asks q.content s n
       | false ↦ refl
     ]
 
@@ -194,10 +183,8 @@ others_answer q deep (vacant b k) (suc j) p h c = others_answer q deep k j p h (
 others_answer q deep (taken b s a k) zero [] h c =
     rw (
       h,
-      rest_answers q true a (λ i e t f on. c zero (suc i ∷ e) t refl f
-          (and_of b.enable _ h on)),
-      rest_answers q deep k
-          (λ i e t f on. c (suc i) e t refl f on),
+      rest_answers q true a (λ i e t f on. c zero (suc i ∷ e) t refl f (and_of b.enable _ h on)),
+      rest_answers q deep k (λ i e t f on. c (suc i) e t refl f on),
     ) refl
 others_answer q deep (taken b s a k) zero (zero ∷ p) h c = false_true h
 others_answer q deep (taken b s a k) zero (suc j ∷ p) h c =
@@ -214,8 +201,7 @@ others_answer q deep (taken b s a k) zero (suc j ∷ p) h c =
           e,
           rested_answer q deep s a rest.0 rest.1,
           ih,
-          rest_answers q deep k
-              (λ i e t f on. c (suc i) e t refl f on),
+          rest_answers q deep k (λ i e t f on. c (suc i) e t refl f on),
           true_deep p,
         )
         (append_nil (answer_at q true (place_at a j p)))

@@ -3,57 +3,41 @@ use Rattle.std.proofs.Common.{◌≡◌, ℕ, ◌+◌, ◌==◌, nat_lt, ◌&&�
 use Rattle.std.proofs.Common.{List, [], ◌∷◌, ◌++◌, length, Option, None, Some, option_map, refl, ap}
 use Rattle.std.proofs.Common.{ap₂, sym, subst, ◌∙◌}
 use Rattle.arrayvec.specs.ArrayVec.{ArrayVec}
-use Rattle.usb_packet.specs.declared.Packet.{Packet}
-use Rattle.usb_packet.specs.declared.Packet.TheVariants.{Token}
+use Rattle.usb_packet.specs.{Packet, Token, Toggle, Zero, One as Data1, TokenKind, OutTok, InTok}
+use Rattle.usb_packet.specs.{SetupTok, is_same}
 use Rattle.usb_packet.specs.declared.Packet.TheVariants as packet
-use Rattle.usb_packet.specs.declared.Toggle.{Toggle}
-use Rattle.usb_packet.specs.declared.Toggle.TheVariants.{Zero, One as Data1}
-use Rattle.usb_packet.specs.declared.TokenKind.{TokenKind}
-use Rattle.usb_packet.specs.declared.TokenKind.TheVariants.{OutTok, InTok, SetupTok}
-use Rattle.usb_port.specs.PortState.{PortState}
-use Rattle.usb_device.specs.declared.answer.Answer.{Answer}
+use Rattle.usb_port.specs.{PortState}
+use Rattle.usb_device.specs.{Answer, Sent, Stage, idle, refused, reading, read, ending, State}
+use Rattle.usb_device.specs.{Reply, received, unread, forgotten, accepted, is_busy, nak_row}
+use Rattle.usb_device.specs.{unless_busy, out_row, status_row, sink_row, sunk, out_bulk_row}
+use Rattle.usb_device.specs.{bulk_of, data_row, Way, lost, is_whole, through, heard, is_good, sends}
+use Rattle.usb_device.specs.{acked, setup_exchange, out_exchange, in_exchange, setup_law, out_law}
+use Rattle.usb_device.specs.{in_law, Ports, full, acted, row_of, state_at, place_at, state_on}
+use Rattle.usb_device.specs.{is_heard, answer_of, effect_of, after_packet, listed, held_addresses}
+use Rattle.usb_device.specs.{repeats, forgotten_place}
 use Rattle.usb_device.specs.declared.answer.Answer.TheVariants as answer
 use Rattle.usb_device.specs.declared.delivery.Content.TheVariants as content
-use Rattle.usb_device.specs.declared.delivery.Sent.{Sent}
 use Rattle.usb_device.specs.declared.transfer.RememberedPacket.TheVariants as memory
-use Rattle.usb_request.specs.Layout.{setup_of}
-use Rattle.usb_packet.specs.Toggles.{is_same}
-use Rattle.usb_device.specs.Transfer.{Stage, idle, refused, reading, read, ending}
-use Rattle.usb_device.specs.Rows.{State, Reply, received, unread, forgotten, accepted, is_busy}
-use Rattle.usb_device.specs.Rows.{nak_row, unless_busy, out_row, status_row, sink_row, sunk}
-use Rattle.usb_device.specs.Rows.{out_bulk_row, bulk_of, data_row}
-use Rattle.usb_device.specs.Attempt.{Way, whole, broken, lost, is_whole, through, heard, is_good}
-use Rattle.usb_device.specs.Attempt.{sends, acked, setup_exchange, out_exchange, in_exchange}
-use Rattle.usb_device.specs.Attempt.{setup_law, out_law, in_law}
-use Rattle.usb_device.specs.Tree.{Ports, full, acted, row_of, state_at, place_at, state_on}
-use Rattle.usb_device.specs.Delivery.{is_heard, answer_of, effect_of, after_packet, listed}
-use Rattle.usb_device.specs.Delivery.{held_addresses, repeats}
+use Rattle.usb_request.specs.{setup_of}
+use Rattle.usb_device.specs.Attempt.{whole, broken}
 use Rattle.usb_device.proofs.Interface.{in_is, keeps-received, out_is, row_of-after, setup_is}
-use Rattle.usb_world.specs.declared.types.Attempt.{Attempt}
+use Rattle.usb_world.specs.{Attempt, Damage, ExchangeAnswer, Mark, is_read, mark_of, harm_to}
+use Rattle.usb_world.specs.{marked, marked_some, token_of, payload_of, reply_of, outcome_heard}
+use Rattle.usb_world.specs.{outcome_of, sent_as, goes_out, heard_all, token_out, payload_out}
+use Rattle.usb_world.specs.{reply_out, heard_in, mark_in, place_of_answer, ports_in, content_way}
+use Rattle.usb_world.specs.{way_to, way_back, got, token_way, payload_way, answer_way, reply_way}
+use Rattle.usb_world.specs.{out_alone, in_alone, IsSetup, IsOut, IsIn}
 use Rattle.usb_world.specs.declared.types.Outcome.TheVariants as outcome
-use Rattle.usb_world.specs.declared.damage.Damage.{Damage}
-use Rattle.usb_world.specs.declared.exchange.ExchangeAnswer.{ExchangeAnswer}
 use Rattle.usb_world.specs.declared.exchange.ExchangeAnswer.TheVariants.{Nothing}
-use Rattle.usb_world.specs.declared.wire.Mark.{Mark}
 use Rattle.usb_world.specs.declared.wire.Mark.TheVariants as mark
-use Rattle.usb_world.specs.Wire.{is_read, mark_of, harm_to, marked, marked_some}
-use Rattle.usb_tree.specs.Paths.{address_of}
-use Rattle.usb_device.specs.View.{forgotten_place}
-use Rattle.usb_world.specs.Exchange.{token_of, payload_of, reply_of, outcome_heard, outcome_of}
-use Rattle.usb_world.specs.Exchange.{sent_as, goes_out, heard_all, token_out, payload_out}
-use Rattle.usb_world.specs.Exchange.{reply_out, heard_in, mark_in, place_of_answer, ports_in}
-use Rattle.usb_tree.specs.AttemptPackets.{after_sent, answers_to, heard_by, deep_at, IsSettled}
-use Rattle.usb_tree.specs.AttemptPackets.{NobodyHolds, OneHolds}
-use Rattle.usb_world.specs.OneHolder.{content_way, way_to, way_back, got, token_way, payload_way}
-use Rattle.usb_world.specs.OneHolder.{answer_way, reply_way, out_alone, in_alone, IsSetup, IsOut}
-use Rattle.usb_world.specs.OneHolder.{IsIn}
+use Rattle.usb_tree.specs.{address_of, after_sent, answers_to, heard_by, deep_at, IsSettled}
+use Rattle.usb_tree.specs.{NobodyHolds, OneHolds, Found}
 use Rattle.usb_tree.proofs.Interface.{false_true}
 use Rattle.usb_world.proofs.packets.AttemptPackets.{CalmOut, token_out as token_calm}
 use Rattle.usb_world.proofs.holders.OneDevice.{settled_memory, nobody_answers, one_device, stands}
 use Rattle.usb_world.proofs.holders.OneDevice.{state_stands, append_nil, answers_at, place_after}
 use Rattle.usb_world.proofs.holders.OneDevice.{OneActs}
 use Rattle.usb_world.proofs.courses.Courses.{goes}
-use Rattle.usb_tree.specs.FoundHolder.{Found}
 use Rattle.usb_world.proofs.packets.PacketPlaces.{place_after_sent}
 
 -- what a device that stands deep or not, with these ports, makes of an attempt with it alone

@@ -3,44 +3,31 @@ use Rattle.std.proofs.Common.{◌≡◌, ℕ, suc, ◌+◌, ◌&&◌, not, if◌
 use Rattle.std.proofs.Common.{[], ◌∷◌, ◌++◌, Option, None, Some, is_some, refl, ap, ap₂, sym, subst}
 use Rattle.std.proofs.Common.{◌∙◌}
 use Rattle.arrayvec.specs.ArrayVec.{ArrayVec}
-use Rattle.usb_packet.specs.declared.Packet.{Packet}
-use Rattle.usb_packet.specs.declared.Packet.TheVariants.{Token}
+use Rattle.usb_packet.specs.{Packet, Token, Toggle, InTok}
 use Rattle.usb_packet.specs.declared.Packet.TheVariants as packet
-use Rattle.usb_packet.specs.declared.Toggle.{Toggle}
-use Rattle.usb_packet.specs.declared.TokenKind.TheVariants.{InTok}
-use Rattle.usb_port.specs.PortState.{PortState}
-use Rattle.usb_request.specs.Layout.{setup_of}
+use Rattle.usb_port.specs.{PortState}
+use Rattle.usb_request.specs.{setup_of}
 use Rattle.usb_device.specs.declared.answer.Answer.TheVariants as answer
-use Rattle.usb_device.specs.declared.delivery.Content.{Content}
+use Rattle.usb_device.specs.{Content, Sent, State, Reply, forgotten, accepted, data_row, Way, lost}
+use Rattle.usb_device.specs.{through, heard, is_good, acked, setup_law, out_law, in_law, Ports}
+use Rattle.usb_device.specs.{row_of, state_at, state_on, hears, reply_to, listed, held_addresses}
+use Rattle.usb_device.specs.{repeats}
 use Rattle.usb_device.specs.declared.delivery.Content.TheVariants as content
-use Rattle.usb_device.specs.declared.delivery.Sent.{Sent}
-use Rattle.usb_device.specs.Rows.{State, Reply, forgotten, accepted, data_row}
-use Rattle.usb_device.specs.Attempt.{Way, whole, lost, through, heard, is_good, acked, setup_law}
-use Rattle.usb_device.specs.Attempt.{out_law, in_law}
-use Rattle.usb_device.specs.Tree.{Ports, row_of, state_at, state_on}
-use Rattle.usb_device.specs.Delivery.{hears, reply_to, listed, held_addresses, repeats}
+use Rattle.usb_device.specs.Attempt.{whole}
 use Rattle.usb_device.proofs.Interface.{silent-stays, silent-unread}
-use Rattle.usb_world.specs.declared.types.Attempt.{Attempt}
-use Rattle.usb_world.specs.declared.types.BusFault.TheVariants.{LimitReached}
+use Rattle.usb_world.specs.{Attempt, LimitReached, Damage, ExchangeAnswer, mark_of, harm_to, marked}
+use Rattle.usb_world.specs.{marked_some, token_of, payload_of, reply_of, answer_mark, goes_out}
+use Rattle.usb_world.specs.{heard_all, token_out, payload_out, reply_out, heard_in, mark_in}
+use Rattle.usb_world.specs.{place_of_answer, ports_in, reply_in, World, Made, is_made, resets}
+use Rattle.usb_world.specs.{AnyStep, at_attempt, damage_in, with_attempt, outcome_in, attempt}
+use Rattle.usb_world.specs.{after, way_to, way_back, token_way, answer_way, reply_way, out_alone}
+use Rattle.usb_world.specs.{in_alone, IsSetup, IsOut, IsIn, hears_attempt, IsMade, HolderIn}
+use Rattle.usb_world.specs.{payload_way, got}
 use Rattle.usb_world.specs.declared.types.Outcome.TheVariants as outcome
-use Rattle.usb_world.specs.declared.damage.Damage.{Damage}
-use Rattle.usb_world.specs.declared.exchange.ExchangeAnswer.{ExchangeAnswer}
 use Rattle.usb_world.specs.declared.exchange.ExchangeAnswer.TheVariants.{Nothing, One, Collision}
 use Rattle.usb_world.specs.declared.wire.Mark.TheVariants as mark
-use Rattle.usb_world.specs.Wire.{mark_of, harm_to, marked, marked_some}
-use Rattle.usb_tree.specs.Paths.{same_number, same_path}
-use Rattle.usb_tree.specs.WayEffects.{reset_if}
-use Rattle.usb_world.specs.Exchange.{token_of, payload_of, reply_of, answer_mark, goes_out}
-use Rattle.usb_world.specs.Exchange.{heard_all, token_out, payload_out, reply_out, heard_in}
-use Rattle.usb_world.specs.Exchange.{mark_in, place_of_answer, ports_in, reply_in}
-use Rattle.usb_tree.specs.AttemptPackets.{heard_by, deep_at, attempt_resets, IsSettled, NobodyHolds}
-use Rattle.usb_world.specs.World.{World, Made}
-use Rattle.usb_world.specs.Courses.{is_made, resets}
-use Rattle.usb_world.specs.Steps.{AnyStep, at_attempt, damage_in, with_attempt, outcome_in, attempt}
-use Rattle.usb_world.specs.Steps.{after}
-use Rattle.usb_world.specs.OneHolder.{way_to, way_back, token_way, answer_way, reply_way, out_alone}
-use Rattle.usb_world.specs.OneHolder.{in_alone, IsSetup, IsOut, IsIn, hears_attempt, IsMade}
-use Rattle.usb_world.specs.OneHolder.{HolderIn, payload_way, got}
+use Rattle.usb_tree.specs.{same_number, same_path, reset_if, heard_by, deep_at, attempt_resets}
+use Rattle.usb_tree.specs.{IsSettled, NobodyHolds}
 use Rattle.usb_tree.proofs.Interface.{false_true, neither}
 use Rattle.usb_world.proofs.courses.StepInvariants.{settled_steps}
 use Rattle.usb_world.proofs.courses.LiftedSteps.{over_ready, made_sound}
@@ -77,8 +64,7 @@ silent_heard None deep s row h = refl
 silent_heard (Some q) deep s row h =
     elim (hears q deep s) as (λ x. ◌≡◌ {A = Reply}
     (if x then reply_to q.content s row else (None, s)) (None, s)) [
-      | true ↦
-          silent_reply q.content s row h
+      | true ↦ silent_reply q.content s row h
       | false ↦ refl
     ]
 
@@ -137,8 +123,7 @@ payload_some a g = go a.payload g
     go : (o : Option (Toggle × ArrayVec ℕ)) → is_some o ≡ true
         → is_some (elim o as (λ _. Option Packet) [
           | None ↦ None
-          | Some x ↦
-              Some (packet.Payload x.0 x.1)
+          | Some x ↦ Some (packet.Payload x.0 x.1)
         ]) ≡ true
     go None g = g
     go (Some x) g = refl
@@ -173,12 +158,10 @@ ack_whole : (row : List PortState) (max : ℕ) (t2 t3 : Way) (r : Reply)
     → acked row max t2 t3 r ≡ acked row max t2 whole r
 ack_whole row max t2 t3 r c = go (is_good max (heard t2 r.0)) c
   where
-    go : (g : Bool) → (g ≡ true → t3 ≡ whole)
-        → ◌≡◌ {A = Reply} (
-          heard t2 r.0,
-          forgotten
-              (if g then (through t3 r.1 row packet.Ack).1 else r.1),
-        )
+    go : (g : Bool) → (g ≡ true → t3 ≡ whole) → ◌≡◌ {A = Reply} (
+      heard t2 r.0,
+      forgotten (if g then (through t3 r.1 row packet.Ack).1 else r.1),
+    )
         (heard t2 r.0, forgotten (if g then (through whole r.1 row packet.Ack).1 else r.1))
     go true c = ap (λ t. replied (heard t2 r.0) (forgotten (through t r.1 row packet.Ack).1))
         (c refl)
@@ -200,11 +183,10 @@ module _ (a : Attempt) (k : Ports) (h : Holder a.addr k) (loud : h.own.spec.sile
       ∙ ap (setup_law s (row_of below) bytes whole whole) ways.answer)
       (setup_one a None k h loud bytes i)
 
-  pub out_sound : (t : Toggle) (bytes : List ℕ) → IsOut a t bytes
-      → ExchangedWithHolder a None k h (
-        (data_row s a.ep t bytes).0,
-        forgotten (data_row s a.ep t bytes).1,
-      )
+  pub out_sound : (t : Toggle) (bytes : List ℕ) → IsOut a t bytes → ExchangedWithHolder a None k h (
+    (data_row s a.ep t bytes).0,
+    forgotten (data_row s a.ep t bytes).1,
+  )
   out_sound t bytes i =
       subst (ExchangedWithHolder a None k h)
       (ap₂ (λ x y. out_law s a.ep t bytes x y (answer_way a None k)) ways.token
@@ -263,8 +245,7 @@ pub made_of : (a : Attempt) (w : World) → IsSettled w.roots → Made w (after 
     → IsMade a w
 made_of a w h m = record {
   sound = m.sound;
-  within =
-      λ e. false_true (ap is_some (sym m.still ∙ after-limit_fault a w m.sound e));
+  within = λ e. false_true (ap is_some (sym m.still ∙ after-limit_fault a w m.sound e));
   settled = h;
 }
 
@@ -305,8 +286,7 @@ module _ (a : Attempt) (w : World) (h : HolderIn a w) where
   holder_in = record {
     settled = ready_settled w h.made.settled;
     single = unshared;
-    found =
-        h.found;
+    found = h.found;
   }
 
   pub exchanged_in : (r : Reply) → ExchangedWithHolder a (damage_in (at_attempt w))
@@ -314,8 +294,7 @@ module _ (a : Attempt) (w : World) (h : HolderIn a w) where
   unfolding outcome_in with_attempt
   exchanged_in r x = record {
     outcome = x.outcome;
-    state =
-        ap (λ v. state_at v.roots j p) (made_is a w h.made) ∙ x.state;
+    state = ap (λ v. state_at v.roots j p) (made_is a w h.made) ∙ x.state;
   }
 
   pub setup_in : s.spec.silent ≡ false → (bytes : List ℕ) → IsSetup a bytes
@@ -372,8 +351,7 @@ module _ (a : Attempt) (w : World) (h : HolderIn a w) where
     setup_sound_in bytes i = undamaged_in (
       Some answer.Ack,
       accepted s (row_of below) (setup_of bytes),
-    )
-        (setup_sound a (at_attempt w).roots holder_in loud hears_it bytes i)
+    ) (setup_sound a (at_attempt w).roots holder_in loud hears_it bytes i)
 
     pub out_sound_in : (t : Toggle) (bytes : List ℕ) → IsOut a t bytes
         → ExchangedIn a w h ((data_row s a.ep t bytes).0, forgotten (data_row s a.ep t bytes).1)

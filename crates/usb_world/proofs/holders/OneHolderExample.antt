@@ -1,22 +1,15 @@
 -- A function behind an enabled root port, at address 0, as the one holder: SET_ADDRESS is answered,
 -- and awaits its status stage.
 use Rattle.std.proofs.Common.{◌≡◌, ℕ, true, false, List, [], ◌∷◌, None, Some, ◌==◌, refl, ap}
-use Rattle.usb_packet.specs.declared.TokenKind.TheVariants.{SetupTok}
-use Rattle.usb_packet.specs.declared.Toggle.TheVariants.{Zero}
-use Rattle.usb_port.specs.PortState.{PortState}
+use Rattle.usb_packet.specs.{SetupTok, Zero}
+use Rattle.usb_port.specs.{PortState}
 use Rattle.usb_device.specs.declared.answer.Answer.TheVariants as answer
-use Rattle.usb_device.specs.Spec.{Spec, function}
-use Rattle.usb_device.specs.Tree.{ended, taken, reach_at, place_at, row_of}
-use Rattle.usb_device.specs.Rows.{fresh, accepted}
-use Rattle.usb_device.specs.Delivery.{held_addresses, repeats, all_forgotten}
-use Rattle.usb_request.specs.Layout.{setup_of}
-use Rattle.usb_world.specs.declared.types.Attempt.{Attempt}
+use Rattle.usb_device.specs.{Spec, function, ended, taken, reach_at, place_at, row_of, fresh}
+use Rattle.usb_device.specs.{accepted, held_addresses, repeats, all_forgotten}
+use Rattle.usb_request.specs.{setup_of}
+use Rattle.usb_world.specs.{Attempt, damage_of, no_losses, World, after_due_events, at_attempt}
+use Rattle.usb_world.specs.{with_attempt, outcome_in, after, HolderIn}
 use Rattle.usb_world.specs.declared.types.Outcome.TheVariants as outcome
-use Rattle.usb_world.specs.Wire.{damage_of}
-use Rattle.usb_world.specs.Losses.{no_losses}
-use Rattle.usb_world.specs.World.{World}
-use Rattle.usb_world.specs.Steps.{after_due_events, at_attempt, with_attempt, outcome_in, after}
-use Rattle.usb_world.specs.OneHolder.{HolderIn}
 use Rattle.usb_tree.proofs.Interface.{false_true}
 use Rattle.usb_world.proofs.holders.OneHolderAttempts.{setup_sound_in, ExchangedIn}
 
@@ -26,10 +19,9 @@ alone_spec = function (0x66 ∷ 0x6e ∷ []) (0x12 ∷ 1 ∷ 0 ∷ 2 ∷ 0 ∷ 0
 
 abbrev example_port : PortState
 example_port = record {
-  attached = Rattle.usb_port.specs.PortState.full;
+  attached = Rattle.usb_port.specs.PortStates.full;
   power = true;
-  enable =
-      true;
+  enable = true;
   connection_changed = false;
   enable_changed = false;
   reset_changed = false;
@@ -61,8 +53,7 @@ asks = record {
   low = false;
   pre = false;
   max = 64;
-  payload =
-      Some (Zero, record { items = bytes });
+  payload = Some (Zero, record { items = bytes });
 }
 
 fresh_count : world_here.attempts ≡ world_here.limit → ⊥

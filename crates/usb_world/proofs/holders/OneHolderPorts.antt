@@ -5,43 +5,28 @@ use Rattle.std.proofs.Common.{inr, Bool, true, false, List, [], ◌∷◌, ◌++
 use Rattle.std.proofs.Common.{Some, option_map, is_some, refl, ap, ap₂, sym, subst, ◌∙◌}
 use Rattle.std.proofs.lemmas.Option.{same_Some}
 use Rattle.arrayvec.specs.ArrayVec.{ArrayVec}
-use Rattle.usb_packet.specs.declared.Packet.{Packet}
-use Rattle.usb_packet.specs.declared.Packet.TheVariants.{Token}
+use Rattle.usb_packet.specs.{Packet, Token, Toggle, Zero, OutTok, SetupTok}
 use Rattle.usb_packet.specs.declared.Packet.TheVariants as packet
-use Rattle.usb_packet.specs.declared.Toggle.{Toggle}
-use Rattle.usb_packet.specs.declared.Toggle.TheVariants.{Zero}
-use Rattle.usb_packet.specs.declared.TokenKind.TheVariants.{OutTok, SetupTok}
-use Rattle.usb_port.specs.PortState.{PortState}
-use Rattle.usb_request.specs.Layout.{setup_of}
-use Rattle.usb_device.specs.declared.delivery.Content.{Content}
+use Rattle.usb_port.specs.{PortState}
+use Rattle.usb_request.specs.{setup_of}
+use Rattle.usb_device.specs.{Content, Sent, Effect, Leaves, Calls, PortsOff, State, Reply, received}
+use Rattle.usb_device.specs.{unread, forgotten, asks, asked_by_setup, asked_by_packet, Way, lost}
+use Rattle.usb_device.specs.{is_whole, through, is_own, Ports, ended, vacant, taken, empty, full}
+use Rattle.usb_device.specs.{acted, all_off, row_of, reach_at, state_at, place_at, is_heard}
+use Rattle.usb_device.specs.{asked_by, effect_of, after_packet, all_forgotten, forgotten_place}
 use Rattle.usb_device.specs.declared.delivery.Content.TheVariants as content
-use Rattle.usb_device.specs.declared.delivery.Sent.{Sent}
-use Rattle.usb_device.specs.declared.effect.Effect.{Effect}
-use Rattle.usb_device.specs.declared.effect.Effect.TheVariants.{Leaves, Calls, PortsOff}
 use Rattle.usb_device.specs.declared.transfer.RememberedPacket.TheVariants as memory
-use Rattle.usb_device.specs.Rows.{State, Reply, received, unread, forgotten}
-use Rattle.usb_device.specs.Effect.{asks, asked_by_setup, asked_by_packet}
-use Rattle.usb_device.specs.Attempt.{Way, whole, broken, lost, is_whole, through, is_own}
-use Rattle.usb_device.specs.Tree.{Ports, ended, vacant, taken, Place, empty, full, acted, all_off}
-use Rattle.usb_device.specs.Tree.{row_of, reach_at, state_at, place_at}
-use Rattle.usb_device.specs.Delivery.{is_heard, asked_by, effect_of, after_packet, all_forgotten}
-use Rattle.usb_device.specs.View.{forgotten_place}
-use Rattle.usb_world.specs.declared.types.Attempt.{Attempt}
-use Rattle.usb_world.specs.declared.damage.Damage.{Damage}
-use Rattle.usb_world.specs.declared.exchange.ExchangeAnswer.{ExchangeAnswer}
+use Rattle.usb_device.specs.Attempt.{whole, broken}
+use Rattle.usb_device.specs.Tree.{Place}
+use Rattle.usb_world.specs.{Attempt, Damage, ExchangeAnswer, Mark, is_read, mark_of, harm_to}
+use Rattle.usb_world.specs.{marked, marked_some, token_of, payload_of, reply_of, sent_as, goes_out}
+use Rattle.usb_world.specs.{token_out, payload_out, reply_out, heard_in, mark_in, place_of_answer}
+use Rattle.usb_world.specs.{ports_in, World, at_attempt, damage_in, with_attempt, attempt, after}
+use Rattle.usb_world.specs.{way_to, token_way, payload_way, IsSetup, IsOut, IsIn, HolderIn}
+use Rattle.usb_world.specs.{out_alone, in_alone, setup_asked}
 use Rattle.usb_world.specs.declared.exchange.ExchangeAnswer.TheVariants as heard
-use Rattle.usb_world.specs.declared.wire.Mark.{Mark}
 use Rattle.usb_world.specs.declared.wire.Mark.TheVariants as mark
-use Rattle.usb_world.specs.Wire.{is_read, mark_of, harm_to, marked, marked_some}
-use Rattle.usb_tree.specs.Paths.{address_of}
-use Rattle.usb_world.specs.Exchange.{token_of, payload_of, reply_of, sent_as, goes_out, token_out}
-use Rattle.usb_world.specs.Exchange.{payload_out, reply_out, heard_in, mark_in, place_of_answer}
-use Rattle.usb_world.specs.Exchange.{ports_in}
-use Rattle.usb_tree.specs.AttemptPackets.{deep_at, IsSettled, NobodyHolds, OneHolds}
-use Rattle.usb_world.specs.World.{World}
-use Rattle.usb_world.specs.Steps.{at_attempt, damage_in, with_attempt, attempt, after}
-use Rattle.usb_world.specs.OneHolder.{way_to, token_way, payload_way, IsSetup, IsOut, IsIn}
-use Rattle.usb_world.specs.OneHolder.{HolderIn, out_alone, in_alone, setup_asked}
+use Rattle.usb_tree.specs.{address_of, deep_at, IsSettled, NobodyHolds, OneHolds}
 use Rattle.usb_tree.proofs.Interface.{false_true, both, and_of, decided}
 use Rattle.usb_tree.proofs.Interface.{is_twice-one_path}
 use Rattle.usb_world.proofs.packets.AttemptPackets.{CalmOut, token_out as token_calm}
@@ -191,8 +176,7 @@ payload_no_token a = go a.payload
     go : (o : Option (Toggle × ArrayVec ℕ))
         → no_token (elim o as (λ _. Option Packet) [
           | None ↦ None
-          | Some x ↦
-              Some (packet.Payload x.0 x.1)
+          | Some x ↦ Some (packet.Payload x.0 x.1)
         ]) ≡ true
     go None = refl
     go (Some x) = refl
@@ -295,8 +279,7 @@ payload_asks-leaves : (s : State) (t : Toggle) (bytes : ArrayVec ℕ) → s.memo
 unfolding asks
 payload_asks-leaves s t bytes n = elim s.spec.silent
     as (λ x. (if x then Leaves else asked_by_packet s (packet.Payload t bytes)) ≡ Leaves) [
-      | true ↦
-          refl
+      | true ↦ refl
       | false ↦ rw n refl
     ]
 
@@ -540,8 +523,7 @@ module _ (a : Attempt) (w : World) (h : HolderIn a w) where
       (deep_at false p) s t bytes).1 below))
       (out_place a (damage_in (at_attempt w)) (at_attempt w).roots there loud t bytes i)
 
-  pub in_place_in : s.spec.silent ≡ false → IsIn a
-      → place_at (after (attempt a) w).roots j p
+  pub in_place_in : s.spec.silent ≡ false → IsIn a → place_at (after (attempt a) w).roots j p
       ≡ Some (full b (in_alone a (damage_in (at_attempt w)) (at_attempt w).roots
       (deep_at false p) s (row_of below)).1 below)
   in_place_in loud i =

@@ -3,18 +3,12 @@
 use Rattle.std.proofs.Common.{◌≡◌, ℕ, true, false, List, Option, Some, option_map, sym, ap, ap₂}
 use Rattle.std.proofs.Common.{◌∙◌}
 use Rattle.std.proofs.lemmas.Option.{same_Some}
-use Rattle.usb_device.specs.Rows.{State}
-use Rattle.usb_device.specs.Tree.{Ports, reach_at, state_at, Location, path_to, reach_on, state_on}
-use Rattle.usb_device.specs.Delivery.{held_addresses, repeats}
-use Rattle.usb_world.specs.declared.types.Attempt.{Attempt}
-use Rattle.usb_world.specs.declared.damage.Damage.{Damage}
-use Rattle.usb_world.specs.Exchange.{token_out, payload_out, reply_out, ports_in}
-use Rattle.usb_tree.specs.AttemptPackets.{after_sent}
-use Rattle.usb_world.specs.World.{World}
-use Rattle.usb_world.specs.Steps.{at_attempt, damage_in, with_attempt, attempt, after}
-use Rattle.usb_world.specs.OneHolder.{IsMade, HolderIn}
-use Rattle.usb_world.specs.Addresses.{is_setup}
-use Rattle.usb_tree.specs.Paths.{address_of}
+use Rattle.usb_device.specs.{State, Ports, reach_at, state_at, Location, path_to, reach_on}
+use Rattle.usb_device.specs.{state_on, held_addresses, repeats}
+use Rattle.usb_world.specs.{Attempt, Damage, token_out, payload_out, reply_out, ports_in, World}
+use Rattle.usb_world.specs.{at_attempt, damage_in, with_attempt, attempt, after, IsMade, HolderIn}
+use Rattle.usb_world.specs.{is_setup}
+use Rattle.usb_tree.specs.{after_sent, address_of}
 use Rattle.usb_world.proofs.addresses.AddressesInTransfers.{data_calm}
 use Rattle.usb_world.proofs.addresses.AddressesKept.{ready_stood}
 use Rattle.usb_world.proofs.packets.AttemptPackets.{forgotten_ports}

@@ -1,33 +1,20 @@
 -- What an attempt's packets do to reachable, live and pending.
 use Rattle.std.proofs.Common.{◌≡◌, ℕ, zero, suc, if◌then◌else◌, Bool, true, false, List, [], ◌∷◌}
 use Rattle.std.proofs.Common.{Option, None, Some, option_map, refl, ap, sym, ◌∙◌}
-use Rattle.usb_packet.specs.declared.Packet.{Packet}
-use Rattle.usb_packet.specs.declared.Packet.TheVariants.{Token, Payload, Ack, Sof, Nak, Stall, Pre}
-use Rattle.usb_port.specs.PortState.{PortState, powered_off}
-use Rattle.usb_device.specs.declared.delivery.Content.{Content}
-use Rattle.usb_device.specs.declared.delivery.Content.TheVariants.{Whole, Broken}
-use Rattle.usb_device.specs.declared.delivery.Sent.{Sent}
-use Rattle.usb_device.specs.declared.effect.Effect.{Effect}
-use Rattle.usb_device.specs.declared.effect.Effect.TheVariants.{Leaves}
-use Rattle.usb_device.specs.declared.transfer.RememberedPacket.{RememberedPacket}
+use Rattle.usb_packet.specs.{Packet, Token, Payload, Ack, Sof, Nak, Stall, Pre}
+use Rattle.usb_port.specs.{PortState, powered_off}
+use Rattle.usb_device.specs.{Content, Whole, Broken, Sent, Effect, Leaves, RememberedPacket, State}
+use Rattle.usb_device.specs.{Reply, forgotten, received, unread, answered, is_own, asks, Ports}
+use Rattle.usb_device.specs.{ended, vacant, taken, full, all_off, acted, row_of, reach_at, state_at}
+use Rattle.usb_device.specs.{port_at, place_at, hears, reply_to, answer_of, asked_by, effect_of}
+use Rattle.usb_device.specs.{after_packet, all_forgotten, forgotten_place}
 use Rattle.usb_device.specs.declared.transfer.RememberedPacket.TheVariants.{Nothing}
-use Rattle.usb_device.specs.Rows.{State, Reply, forgotten, received, unread, answered}
-use Rattle.usb_device.specs.Attempt.{is_own}
-use Rattle.usb_device.specs.Effect.{asks}
-use Rattle.usb_device.specs.Tree.{Ports, ended, vacant, taken, full, all_off, acted, row_of}
-use Rattle.usb_device.specs.Tree.{reach_at, state_at, port_at, place_at}
-use Rattle.usb_device.specs.Delivery.{hears, reply_to, answer_of, asked_by, effect_of, after_packet}
-use Rattle.usb_device.specs.Delivery.{all_forgotten}
-use Rattle.usb_device.specs.View.{forgotten_place}
-use Rattle.usb_world.specs.declared.wire.Mark.{Mark}
+use Rattle.usb_world.specs.{Mark, sent_as, Consistent}
 use Rattle.usb_world.specs.declared.wire.Mark.TheVariants as mark
-use Rattle.usb_world.specs.Exchange.{sent_as}
-use Rattle.usb_tree.specs.Paths.{has_power_at, pending_at}
-use Rattle.usb_tree.specs.WayEffects.{IsNew, effect_resets, effect_keeps_pending}
-use Rattle.usb_world.specs.SanePorts.{Consistent}
-use Rattle.usb_tree.specs.AttemptPackets.{after_sent, after_attempt, calls_on, IsTokenFor, IsAckOut}
-use Rattle.usb_tree.specs.AttemptPackets.{IfOut, IsAttemptAt, sent_resets, sent_keeps_pending}
-use Rattle.usb_tree.specs.AttemptPackets.{attempt_resets, attempt_keeps_pending, IsSettled}
+use Rattle.usb_tree.specs.{has_power_at, pending_at, IsNew, effect_resets, effect_keeps_pending}
+use Rattle.usb_tree.specs.{after_sent, after_attempt, calls_on, IsTokenFor, IsAckOut, IfOut}
+use Rattle.usb_tree.specs.{IsAttemptAt, sent_resets, sent_keeps_pending, attempt_resets}
+use Rattle.usb_tree.specs.{attempt_keeps_pending, IsSettled}
 use Rattle.usb_tree.proofs.Interface.{false_true}
 use Rattle.usb_tree.proofs.Interface.{spares_if, resets_if}
 use Rattle.usb_world.proofs.packets.PacketEffects.{packet_way, packet_kept}
@@ -50,8 +37,7 @@ calm_content q c deep s = elim (hears q deep s)
 
 pub silent_calm : (s : State) → (if s.spec.silent then Leaves else Leaves) ≡ Leaves
 silent_calm s = elim s.spec.silent as (λ x. (if x then Leaves else Leaves) ≡ Leaves) [
-  | true ↦
-      refl
+  | true ↦ refl
   | false ↦ refl
 ]
 
@@ -223,8 +209,7 @@ pub rested_answer : (q : Sent) (deep : Bool) (s : State) (a : Ports) → s.memor
 unfolding answer_of
 rested_answer q deep s a n own = elim (hears q deep s)
     as (λ x. (if x then reply_to q.content s (row_of a) else (None, s)) ≡ (None, s)) [
-      | true ↦
-          rested_reply q.content s (row_of a) n own
+      | true ↦ rested_reply q.content s (row_of a) n own
       | false ↦ refl
     ]
 

@@ -2,34 +2,21 @@
 use Rattle.std.proofs.Common.{◌≡◌, ℕ, zero, suc, ◌==◌, ◌&&◌, ◌||◌, if◌then◌else◌, Bool, true, false}
 use Rattle.std.proofs.Common.{List, [], length, Option, None, Some, ◌⊎◌, inl, inr, refl, ap, sym}
 use Rattle.std.proofs.Common.{◌∙◌, arith}
-use Rattle.usb_packet.specs.declared.Toggle.{Toggle}
-use Rattle.usb_packet.specs.declared.Toggle.TheVariants.{Zero}
-use Rattle.usb_packet.specs.declared.TokenKind.{TokenKind}
-use Rattle.usb_packet.specs.declared.TokenKind.TheVariants.{OutTok, InTok, SetupTok}
-use Rattle.usb_packet.specs.declared.Packet.{Packet}
-use Rattle.usb_packet.specs.declared.Packet.TheVariants.{Token, Payload, Sof, Nak, Stall, Pre}
+use Rattle.usb_packet.specs.{Toggle, Zero, TokenKind, OutTok, InTok, SetupTok, Packet, Token}
+use Rattle.usb_packet.specs.{Payload, Sof, Nak, Stall, Pre}
 use Rattle.usb_packet.specs.declared.Packet.TheVariants as packet
-use Rattle.usb_port.specs.PortState.{PortState, is_attached}
-use Rattle.usb_request.specs.Layout.{setup_of}
-use Rattle.usb_port.specs.declared.call.PortCall.{PortCall}
-use Rattle.usb_device.specs.declared.delivery.Content.{Content}
-use Rattle.usb_device.specs.declared.delivery.Content.TheVariants.{Whole, Broken}
-use Rattle.usb_device.specs.declared.delivery.Sent.{Sent}
+use Rattle.usb_port.specs.{PortState, is_attached, PortCall, called_port, is_reset}
+use Rattle.usb_request.specs.{setup_of}
+use Rattle.usb_device.specs.{Content, Whole, Broken, Sent, Effect, Leaves, Calls, PortsOff}
+use Rattle.usb_device.specs.{RememberedPacket, Outcome, outcome, State, Reply, received, unread}
+use Rattle.usb_device.specs.{answered, forgotten, reset_state, accepted, begun, payload_row}
+use Rattle.usb_device.specs.{data_row, in_other_row, after_memory, awaits_control}
+use Rattle.usb_device.specs.{ends_with_address, awaits_address, Ports, ended, vacant, taken, before}
+use Rattle.usb_device.specs.{all_off, acted, called, reset_where, changed_at, row_of, is_heard}
+use Rattle.usb_device.specs.{hears, reply_to, answer_of, effect_of, after_packet, has_loss}
 use Rattle.usb_device.specs.declared.answer.Answer.TheVariants as answer
-use Rattle.usb_device.specs.declared.effect.Effect.{Effect}
-use Rattle.usb_device.specs.declared.effect.Effect.TheVariants.{Leaves, Calls, PortsOff}
-use Rattle.usb_device.specs.declared.transfer.RememberedPacket.{RememberedPacket}
 use Rattle.usb_device.specs.declared.transfer.RememberedPacket.TheVariants.{SetupSeen, OutSeen}
-use Rattle.usb_port.specs.Calls.{called_port, is_reset}
-use Rattle.usb_device.specs.Request.{Outcome, outcome}
-use Rattle.usb_device.specs.Rows.{State, Reply, received, unread, answered, forgotten, reset_state}
-use Rattle.usb_device.specs.Rows.{accepted, begun, payload_row, data_row, in_other_row}
-use Rattle.usb_device.specs.Rows.{after_memory, awaits_control, ends_with_address, awaits_address}
-use Rattle.usb_device.specs.Tree.{Ports, ended, vacant, taken, before, all_off, acted, called}
-use Rattle.usb_device.specs.Tree.{reset_where, changed_at, row_of}
-use Rattle.usb_device.specs.Delivery.{is_heard, hears, reply_to, answer_of, effect_of, after_packet}
-use Rattle.usb_device.specs.Delivery.{has_loss}
-use Rattle.usb_tree.specs.AttemptPackets.{after_sent, IfOut, IsDataOut, IsAckOut}
+use Rattle.usb_tree.specs.{after_sent, IfOut, IsDataOut, IsAckOut}
 use Rattle.usb_tree.proofs.Interface.{neither}
 use Rattle.usb_world.proofs.courses.StepInvariants.{Rests}
 use Rattle.usb_world.proofs.packets.AttemptPackets.{token_out as token_rests}
@@ -109,14 +96,12 @@ none_awaited_reply (Whole p) c s row h = elim s.spec.silent
     as (λ x. awaits_address (if◌then◌else◌ {A = Reply} x (None, s)
     (answered (forgotten s) row s.memory p)).1 ≡ false) [
       | true ↦ h
-      | false ↦
-          none_awaited _ (memory_answered (forgotten s) row refl p c s.memory)
+      | false ↦ none_awaited _ (memory_answered (forgotten s) row refl p c s.memory)
     ]
 none_awaited_reply Broken c s row h = elim s.spec.silent
     as (λ x. awaits_address (if x then s else forgotten s) ≡ false) [
       | true ↦ h
-      | false ↦
-          none_awaited (forgotten s) refl
+      | false ↦ none_awaited (forgotten s) refl
     ]
 
 pub none_awaited_answer : (q : Sent) → ReadsNoControlIn q.content

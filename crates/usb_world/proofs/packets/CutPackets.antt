@@ -2,33 +2,19 @@
 use Rattle.std.proofs.Common.{◌≡◌, ℕ, if◌then◌else◌, Bool, true, false, Option, None, Some, is_some}
 use Rattle.std.proofs.Common.{refl, sym, subst, ap, ◌∙◌}
 use Rattle.arrayvec.specs.ArrayVec.{ArrayVec}
-use Rattle.usb_packet.specs.declared.Packet.{Packet}
+use Rattle.usb_packet.specs.{Packet, Toggle, TokenKind, OutTok, InTok, SetupTok}
 use Rattle.usb_packet.specs.declared.Packet.TheVariants as packet
-use Rattle.usb_packet.specs.declared.Toggle.{Toggle}
-use Rattle.usb_packet.specs.declared.TokenKind.{TokenKind}
-use Rattle.usb_packet.specs.declared.TokenKind.TheVariants.{OutTok, InTok, SetupTok}
-use Rattle.usb_port.specs.PortState.{PortState}
+use Rattle.usb_port.specs.{PortState}
 use Rattle.usb_device.specs.declared.delivery.Content.TheVariants as content
 use Rattle.usb_device.specs.declared.delivery.Heard.TheVariants.{NoAnswer}
-use Rattle.usb_device.specs.declared.delivery.Sent.{Sent}
-use Rattle.usb_device.specs.declared.effect.Effect.{Effect}
-use Rattle.usb_device.specs.declared.effect.Effect.TheVariants.{Leaves}
-use Rattle.usb_device.specs.declared.transfer.RememberedPacket.{RememberedPacket}
+use Rattle.usb_device.specs.{Sent, Effect, Leaves, RememberedPacket, State, Ports, ended, vacant}
+use Rattle.usb_device.specs.{taken, full, before, acted, answer_of, effect_of, after_packet}
+use Rattle.usb_device.specs.{delivered_device, on_port, Stopped, behind_empty, behind, below, here}
 use Rattle.usb_device.specs.declared.transfer.RememberedPacket.TheVariants.{Nothing}
-use Rattle.usb_device.specs.Rows.{State}
-use Rattle.usb_device.specs.Tree.{Ports, ended, vacant, taken, full, before, acted}
-use Rattle.usb_device.specs.Delivery.{answer_of, effect_of, after_packet, delivered_device, on_port}
-use Rattle.usb_device.specs.StoppedPackets.{Stopped, behind_empty, behind, below, here}
-use Rattle.usb_world.specs.declared.damage.Damage.{Damage}
-use Rattle.usb_world.specs.declared.types.Attempt.{Attempt}
-use Rattle.usb_world.specs.declared.wire.Mark.{Mark}
-use Rattle.usb_world.specs.declared.wire.Mark.TheVariants.{Whole, Lost, PreLost, Flipped}
-use Rattle.usb_world.specs.Wire.{marked, marked_some, mark_of, harm_to}
-use Rattle.usb_world.specs.Exchange.{token_of, payload_of, goes_out, sent_as, token_out}
-use Rattle.usb_world.specs.Exchange.{payload_out}
-use Rattle.usb_tree.specs.AttemptPackets.{IfOut, IsDataOut, IsSettled, after_sent}
-use Rattle.usb_world.specs.World.{IsAttempt, sends_data}
-use Rattle.usb_world.specs.Steps.{IsCut}
+use Rattle.usb_world.specs.{Damage, Attempt, Mark, Whole, Lost, PreLost, Flipped, marked}
+use Rattle.usb_world.specs.{marked_some, mark_of, harm_to, token_of, payload_of, goes_out, sent_as}
+use Rattle.usb_world.specs.{token_out, payload_out, IsAttempt, sends_data, IsCut}
+use Rattle.usb_tree.specs.{IfOut, IsDataOut, IsSettled, after_sent}
 use Rattle.usb_tree.proofs.Interface.{false_true}
 use Rattle.usb_world.proofs.courses.StepInvariants.{Rests, rests}
 use Rattle.usb_world.proofs.courses.Courses.{goes}
@@ -72,8 +58,7 @@ unfolding All
 mild_taken b s z e a c k m own after calm x y =
     rw calm (record {
       all = (after, x.all, y.all);
-      alike =
-          alike_taken b s z a c k m own x.alike y.alike;
+      alike = alike_taken b s z a c k m own x.alike y.alike;
     })
 
 pub mild_packet : {old new : RememberedPacket → Bool} (q : Sent) → Mild old new q.content
@@ -112,8 +97,7 @@ mild_stopped {old} {new} q w (behind {deep} {k} {m} b s a st) h =
     reply : MildAnswer old new q deep s a
     reply = mild_answer q w deep s a h.0
 
-    split : (x : Bool) → SameDevices k m
-        → SameDevices (taken b s a k) (before
+    split : (x : Bool) → SameDevices k m → SameDevices (taken b s a k) (before
         (if x then on_port b (delivered_device q deep (record { own = s; ports = a }))
         else (NoAnswer, full b s a)).1 m)
     split true rest = rw reply.calm (alike_taken b s (answer_of q deep s a).1 a
@@ -167,8 +151,7 @@ payload_out-none : (a : Attempt) (d : Option Damage) → is_some a.payload ≡ f
 unfolding payload_of marked_some
 payload_out-none a d h = go a.payload h
   where
-    go : (o : Option (Toggle × ArrayVec ℕ)) → is_some o ≡ false
-        → goes_out a (marked_some d 2 a.pre
+    go : (o : Option (Toggle × ArrayVec ℕ)) → is_some o ≡ false → goes_out a (marked_some d 2 a.pre
         (elim o [ None ↦ None | Some p ↦ Some (packet.Payload p.0 p.1) ])) ≡ None
     go None g = refl
     go (Some x) g = false_true (sym g)

@@ -2,47 +2,31 @@
 use Rattle.std.proofs.Common.{◌≡◌, ℕ, ◌/◌, ◌%◌, ◌==◌, ◌&&◌, not, nat_le, if◌then◌else◌, Bool, true}
 use Rattle.std.proofs.Common.{false, List, [], ◌∷◌, length, slice_get, Option, None, Some, refl}
 use Rattle.std.proofs.Common.{sym, ◌∙◌}
-use Rattle.usb_packet.specs.declared.Packet.TheVariants.{Payload}
+use Rattle.usb_packet.specs.{Payload, Toggle, Zero, One}
 use Rattle.usb_packet.specs.declared.Packet.TheVariants as packet
-use Rattle.usb_packet.specs.declared.Toggle.{Toggle}
-use Rattle.usb_packet.specs.declared.Toggle.TheVariants.{Zero, One}
-use Rattle.usb_request.specs.Codes.{DEVICE, CONFIGURATION, STRING, HUB, GET_STATUS, CLEAR_FEATURE}
-use Rattle.usb_request.specs.Codes.{SET_FEATURE, SET_ADDRESS, GET_DESCRIPTOR, GET_CONFIGURATION}
-use Rattle.usb_request.specs.Codes.{SET_CONFIGURATION, DEVICE_IN, DEVICE_OUT, ENDPOINT_OUT, HUB_IN}
-use Rattle.usb_request.specs.Codes.{PORT_IN, PORT_OUT}
-use Rattle.usb_request.specs.Features.{PORT_ENABLE, PORT_RESET, PORT_POWER, C_PORT_CONNECTION}
-use Rattle.usb_request.specs.Features.{C_PORT_ENABLE, C_PORT_RESET}
-use Rattle.usb_request.specs.Requests.{descriptor_value}
-use Rattle.usb_request.specs.declared.setup.Setup.{Setup}
-use Rattle.usb_request.specs.Layout.{setup_of}
-use Rattle.usb_device.specs.declared.bulk.ServedEndpoint.{ServedEndpoint}
-use Rattle.usb_port.specs.declared.call.PortCall.{PortCall}
-use Rattle.usb_port.specs.declared.call.PortCall.TheVariants.{SetPower, SetReset, ClearEnable}
-use Rattle.usb_port.specs.declared.call.PortCall.TheVariants.{ClearPower, ClearConnectionChange}
-use Rattle.usb_port.specs.declared.call.PortCall.TheVariants.{ClearEnableChange, ClearResetChange}
-use Rattle.usb_device.specs.declared.delivery.Content.{Content}
-use Rattle.usb_device.specs.declared.delivery.Content.TheVariants.{Whole, Broken}
-use Rattle.usb_device.specs.declared.delivery.Sent.{Sent}
-use Rattle.usb_device.specs.declared.effect.Effect.{Effect}
-use Rattle.usb_device.specs.declared.effect.Effect.TheVariants.{Leaves, Calls, PortsOff}
-use Rattle.usb_device.specs.declared.request.Registers.{Registers}
-use Rattle.usb_device.specs.declared.transfer.RememberedPacket.{RememberedPacket}
+use Rattle.usb_request.specs.{DEVICE, CONFIGURATION, STRING, HUB, GET_STATUS, CLEAR_FEATURE}
+use Rattle.usb_request.specs.{SET_FEATURE, SET_ADDRESS, GET_DESCRIPTOR, GET_CONFIGURATION}
+use Rattle.usb_request.specs.{SET_CONFIGURATION, DEVICE_IN, DEVICE_OUT, ENDPOINT_OUT, HUB_IN}
+use Rattle.usb_request.specs.{PORT_IN, PORT_OUT, PORT_ENABLE, PORT_RESET, PORT_POWER}
+use Rattle.usb_request.specs.{C_PORT_CONNECTION, C_PORT_ENABLE, C_PORT_RESET, descriptor_value}
+use Rattle.usb_request.specs.{Setup, setup_of}
+use Rattle.usb_device.specs.{ServedEndpoint, Content, Whole, Broken, Sent, Effect, Leaves, Calls}
+use Rattle.usb_device.specs.{PortsOff, Registers, RememberedPacket, Spec, Hub, Outcome, stalled}
+use Rattle.usb_device.specs.{takes_address, takes_configuration, halts, unhalts, tells_port}
+use Rattle.usb_device.specs.{calls_port, Is, unless, text_asked, asked_descriptor, asked_status}
+use Rattle.usb_device.specs.{asked_address, asked_configuration, endpoint_of, on_endpoint}
+use Rattle.usb_device.specs.{asked_hub_descriptor, port_named, told_port, called_at}
+use Rattle.usb_device.specs.{asked_port_status, port_feature, outcome, is_value, State, asks}
+use Rattle.usb_device.specs.{asked_by_data, asked_by_setup, effect_of_request, Ports, hears}
+use Rattle.usb_device.specs.{asked_by, effect_of}
+use Rattle.usb_port.specs.{PortCall, SetPower, SetReset, ClearEnable, ClearPower}
+use Rattle.usb_port.specs.{ClearConnectionChange, ClearEnableChange, ClearResetChange, is_reset}
+use Rattle.usb_port.specs.{set_call, clear_call}
 use Rattle.usb_device.specs.declared.transfer.RememberedPacket.TheVariants.{Nothing, SetupSeen}
 use Rattle.usb_device.specs.declared.transfer.RememberedPacket.TheVariants.{OutSeen, AckAwaited}
-use Rattle.usb_device.specs.Spec.{Spec, Hub}
-use Rattle.usb_port.specs.Calls.{is_reset, set_call, clear_call}
-use Rattle.usb_device.specs.Request.{Outcome, stalled, answers, takes_address, takes_configuration}
-use Rattle.usb_device.specs.Request.{halts, unhalts, tells_port, calls_port, Is, unless, text_asked}
-use Rattle.usb_device.specs.Request.{asked_descriptor, asked_status, asked_address}
-use Rattle.usb_device.specs.Request.{asked_configuration, endpoint_of, on_endpoint}
-use Rattle.usb_device.specs.Request.{asked_hub_descriptor, port_named, told_port, called_at}
-use Rattle.usb_device.specs.Request.{asked_port_status, port_feature, outcome, is_value}
-use Rattle.usb_device.specs.Rows.{State}
-use Rattle.usb_device.specs.Effect.{asks, asked_by_data, asked_by_setup, effect_of_request}
-use Rattle.usb_device.specs.Tree.{Ports}
-use Rattle.usb_device.specs.Delivery.{hears, asked_by, effect_of}
-use Rattle.usb_tree.specs.WayEffects.{effect_resets, resets_at}
-use Rattle.usb_world.specs.Courses.{is_harmless}
+use Rattle.usb_device.specs.Request.{answers}
+use Rattle.usb_tree.specs.{effect_resets, resets_at}
+use Rattle.usb_world.specs.{is_harmless}
 use Rattle.usb_tree.proofs.Interface.{resets_if}
 use Rattle.usb_tree.proofs.Interface.{false_true, and_false}
 
@@ -216,8 +200,7 @@ content_resets : (c : Content) (s : State) → IsHarmlessOut c → no_reset (ask
 unfolding asks
 content_resets (Whole (Payload t b)) s h = elim s.spec.silent
     as (λ x. no_reset (if x then Leaves else asked_by_data s s.memory t b.items) ≡ true) [
-      | true ↦
-          refl
+      | true ↦ refl
       | false ↦ data_resets s s.memory t b.items h
     ]
 content_resets Broken s h = refl
@@ -233,8 +216,7 @@ no_reset_asked : (q : Sent) → IsHarmlessOut q.content → (deep : Bool) (s : S
 unfolding effect_of
 no_reset_asked q c deep s = elim (hears q deep s)
     as (λ x. no_reset (if x then asked_by q.content s else Leaves) ≡ true) [
-      | true ↦
-          content_resets q.content s c
+      | true ↦ content_resets q.content s c
       | false ↦ refl
     ]
 

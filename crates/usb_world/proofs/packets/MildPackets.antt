@@ -2,30 +2,19 @@
 -- configuration.
 use Rattle.std.proofs.Common.{◌≡◌, ℕ, ◌==◌, ◌&&◌, not, nat_lt, if◌then◌else◌, Bool, true, false}
 use Rattle.std.proofs.Common.{List, [], ◌∷◌, length, Option, None, Some, refl, sym, ◌∙◌}
-use Rattle.usb_packet.specs.declared.Packet.{Packet}
-use Rattle.usb_packet.specs.declared.Packet.TheVariants.{Token, Payload, Ack, Sof, Nak, Stall, Pre}
-use Rattle.usb_packet.specs.declared.Toggle.{Toggle}
-use Rattle.usb_packet.specs.declared.Toggle.TheVariants.{Zero, One}
-use Rattle.usb_packet.specs.declared.TokenKind.TheVariants.{OutTok, SetupTok}
-use Rattle.usb_port.specs.PortState.{PortState}
-use Rattle.usb_device.specs.declared.delivery.Content.{Content}
-use Rattle.usb_device.specs.declared.delivery.Content.TheVariants.{Whole, Broken}
-use Rattle.usb_device.specs.declared.delivery.Sent.{Sent}
-use Rattle.usb_device.specs.declared.effect.Effect.TheVariants.{Leaves}
+use Rattle.usb_packet.specs.{Packet, Token, Payload, Ack, Sof, Nak, Stall, Pre, Toggle, Zero, One}
+use Rattle.usb_packet.specs.{OutTok, SetupTok, is_same}
+use Rattle.usb_port.specs.{PortState}
+use Rattle.usb_device.specs.{Content, Whole, Broken, Sent, Leaves, RememberedPacket, Stage, idle}
+use Rattle.usb_device.specs.{refused, reading, read, ending, asks, asked_by_data, State, Reply}
+use Rattle.usb_device.specs.{received, unread, forgotten, payload_row, data_row, status_row}
+use Rattle.usb_device.specs.{out_row, sink_row, sunk, out_bulk_row, bulk_of, is_busy, nak_row}
+use Rattle.usb_device.specs.{unless_busy, token_row, sink_grows, payload_sinks, Ports, row_of}
+use Rattle.usb_device.specs.{hears, reply_to, asked_by, answer_of, effect_of}
 use Rattle.usb_device.specs.declared.answer.Answer.TheVariants as answer
-use Rattle.usb_device.specs.declared.transfer.RememberedPacket.{RememberedPacket}
 use Rattle.usb_device.specs.declared.transfer.RememberedPacket.TheVariants.{Nothing, SetupSeen}
 use Rattle.usb_device.specs.declared.transfer.RememberedPacket.TheVariants.{OutSeen, AckAwaited}
-use Rattle.usb_packet.specs.Toggles.{is_same}
-use Rattle.usb_device.specs.Transfer.{Stage, idle, refused, reading, read, ending}
-use Rattle.usb_device.specs.Effect.{asks, asked_by_data}
-use Rattle.usb_device.specs.Rows.{State, Reply, received, unread, forgotten, payload_row, data_row}
-use Rattle.usb_device.specs.Rows.{status_row, out_row, sink_row, sunk, out_bulk_row, bulk_of}
-use Rattle.usb_device.specs.Rows.{is_busy, nak_row, unless_busy, token_row, sink_grows}
-use Rattle.usb_device.specs.Rows.{payload_sinks}
-use Rattle.usb_device.specs.Tree.{Ports, row_of}
-use Rattle.usb_device.specs.Delivery.{hears, reply_to, asked_by, answer_of, effect_of}
-use Rattle.usb_tree.specs.AttemptPackets.{IsDataOut}
+use Rattle.usb_tree.specs.{IsDataOut}
 use Rattle.usb_tree.proofs.Interface.{false_true}
 use Rattle.usb_world.proofs.packets.AttemptPackets.{silent_calm}
 use Rattle.usb_world.proofs.ways.AlikeTrees.{self_of}
@@ -205,8 +194,7 @@ mild_data (Whole (Payload t b)) h = record {
   after = λ s row h. refl;
   calm = λ s h. elim s.spec.silent
       as (λ x. (if x then Leaves else asked_by_data s s.memory t b.items) ≡ Leaves) [
-        | true ↦
-            refl
+        | true ↦ refl
         | false ↦ calm_data s s.memory t b.items h
       ];
 }

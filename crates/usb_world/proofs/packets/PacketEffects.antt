@@ -2,18 +2,13 @@
 use Rattle.std.proofs.Common.{◌≡◌, ℕ, zero, suc, ◌&&◌, ◌||◌, not, if◌then◌else◌, inl, inr, Bool}
 use Rattle.std.proofs.Common.{true, false, List, [], ◌∷◌, Option, None, Some, option_map, refl, ap}
 use Rattle.std.proofs.Common.{sym, ◌∙◌}
-use Rattle.usb_port.specs.PortState.{PortState}
-use Rattle.usb_device.specs.declared.effect.Effect.{Effect}
-use Rattle.usb_device.specs.declared.effect.Effect.TheVariants.{Leaves, Calls, PortsOff}
-use Rattle.usb_device.specs.Rows.{State}
-use Rattle.usb_device.specs.Tree.{Ports, ended, vacant, taken, full, reach_at, state_at, place_at}
-use Rattle.usb_device.specs.Tree.{acted, Place, empty}
-use Rattle.usb_device.specs.Delivery.{answer_of, effect_of, after_packet}
-use Rattle.usb_device.specs.declared.delivery.Sent.{Sent}
-use Rattle.usb_tree.specs.Paths.{has_power_at, pending_at}
-use Rattle.usb_tree.specs.WayEffects.{IsNew, takes_reset, effect_resets, resets_at, reset_if}
-use Rattle.usb_tree.specs.WayEffects.{effect_keeps_pending, packet_keeps_pending}
-use Rattle.usb_tree.specs.AttemptPackets.{deep_at}
+use Rattle.usb_port.specs.{PortState}
+use Rattle.usb_device.specs.{Effect, Leaves, Calls, PortsOff, State, Ports, ended, vacant, taken}
+use Rattle.usb_device.specs.{full, reach_at, state_at, place_at, acted, empty, answer_of, effect_of}
+use Rattle.usb_device.specs.{after_packet, Sent}
+use Rattle.usb_device.specs.Tree.{Place}
+use Rattle.usb_tree.specs.{has_power_at, pending_at, IsNew, takes_reset, effect_resets, resets_at}
+use Rattle.usb_tree.specs.{reset_if, effect_keeps_pending, packet_keeps_pending, deep_at}
 use Rattle.usb_tree.proofs.Interface.{both, and_kept, or-rises, either_of, neither, false_true}
 use Rattle.usb_world.proofs.ports.PortCalls.{off_way, ResetIf, same_reset, call_way, KeepsPending}
 use Rattle.usb_world.proofs.ports.PortCalls.{pending_kept, call_kept}
@@ -83,8 +78,7 @@ packet_takes q deep (taken b s a k) (suc j) = elim b.enable
     as (λ x. takes_reset (place_at (met x q deep b s a (after_packet q deep k)) (suc j) [])
     ≡ takes_reset (place_at k j [])) [
       | true ↦ packet_takes q deep k j
-      | false ↦
-          packet_takes q deep k j
+      | false ↦ packet_takes q deep k j
     ]
 
 packet_asks : (e : Effect) (q : Sent) (deep : Bool) (k : Ports) (j : ℕ) (p : List ℕ)
@@ -201,8 +195,7 @@ packet_way q deep (taken b s a k) zero (suc j ∷ p) = split b.enable (packet_wa
     split true ih =
         let asked : _ = acted_way (effect_of q deep s) (after_packet q true a) j p in
         let same : _ = packet_asks (effect_of q deep s) q true a j p in (
-          asked.0
-              ∙ ap (λ x. option_map (reset_if x) (state_at (after_packet q true a) j p)) same
+          asked.0 ∙ ap (λ x. option_map (reset_if x) (state_at (after_packet q true a) j p)) same
               ∙ ap (option_map (reset_if (effect_resets (effect_of q deep s) a j p))) ih.0
               ∙ reset_then (effect_resets (effect_of q deep s) a j p) (resets_at q true a j p)
               (heard_state q (deep_at true p) (reach_at a j p) (place_at a j p))
@@ -219,8 +212,7 @@ packet_way q deep (taken b s a k) zero (suc j ∷ p) = split b.enable (packet_wa
               [ inl y ↦ asked.2 (same ∙ y) | inr y ↦ asked.3 (ih.2 y) ],
         )
     split false ih = (
-      heard_state-unheard q true a j p
-          ∙ reset_if-false (heard_state q true false (place_at a j p)),
+      heard_state-unheard q true a j p ∙ reset_if-false (heard_state q true false (place_at a j p)),
       λ f h. h,
       λ f. false_true f,
     )

@@ -2,15 +2,11 @@
 -- that nobody asks anything of.
 use Rattle.std.proofs.Common.{◌≡◌, ℕ, zero, suc, ◌&&◌, ◌||◌, not, if◌then◌else◌, Bool, true, false}
 use Rattle.std.proofs.Common.{List, [], ◌∷◌, Option, None, Some, option_map, refl, ap, ◌∙◌}
-use Rattle.usb_device.specs.declared.delivery.Sent.{Sent}
-use Rattle.usb_device.specs.declared.effect.Effect.{Effect}
-use Rattle.usb_device.specs.declared.effect.Effect.TheVariants.{Leaves, Calls, PortsOff}
-use Rattle.usb_device.specs.Tree.{Ports, ended, vacant, taken, Place, empty, full, acted, reach_at}
-use Rattle.usb_device.specs.Tree.{port_at, place_at}
-use Rattle.usb_device.specs.Delivery.{effect_of, after_packet, answer_of}
-use Rattle.usb_tree.specs.Paths.{has_power_at, pending_at}
-use Rattle.usb_tree.specs.WayEffects.{leaves_port, way_leaves}
-use Rattle.usb_tree.specs.AttemptPackets.{deep_at}
+use Rattle.usb_device.specs.{Sent, Effect, Leaves, Calls, PortsOff, Ports, ended, vacant, taken}
+use Rattle.usb_device.specs.{empty, full, acted, reach_at, port_at, place_at, effect_of}
+use Rattle.usb_device.specs.{after_packet, answer_of}
+use Rattle.usb_device.specs.Tree.{Place}
+use Rattle.usb_tree.specs.{has_power_at, pending_at, leaves_port, way_leaves, deep_at}
 use Rattle.usb_tree.proofs.Interface.{false_true, both}
 use Rattle.usb_world.proofs.packets.PacketEffects.{true_deep, met, met_either}
 use Rattle.usb_world.proofs.ways.WayChanges.{SamePorts, same_way-behind, same_ports, passed_ports}

@@ -2,20 +2,13 @@
 -- asks.
 use Rattle.std.proofs.Common.{◌≡◌, ℕ, zero, suc, ◌&&◌, Bool, true, false, List, [], ◌∷◌, Option}
 use Rattle.std.proofs.Common.{None, Some, refl, ap, ◌∙◌}
-use Rattle.usb_device.specs.declared.delivery.Sent.{Sent}
-use Rattle.usb_device.specs.declared.effect.Effect.TheVariants.{Leaves}
-use Rattle.usb_device.specs.Rows.{State}
-use Rattle.usb_device.specs.Tree.{Ports, ended, vacant, taken, state_at}
-use Rattle.usb_device.specs.Delivery.{effect_of, asks_clearing, clears_change}
-use Rattle.usb_world.specs.declared.types.Attempt.{Attempt}
-use Rattle.usb_tree.specs.WayEffects.{effect_resets, effect_keeps_pending, leaves_port}
-use Rattle.usb_world.specs.Exchange.{token_out, payload_out, clears_at}
-use Rattle.usb_tree.specs.AttemptPackets.{after_sent, sent_resets, sent_keeps_pending}
-use Rattle.usb_world.specs.World.{World}
-use Rattle.usb_world.specs.Steps.{at_attempt, damage_in, attempt}
-use Rattle.usb_world.specs.Courses.{is_made, made_resets, made_keeps_pending, resets}
-use Rattle.usb_world.specs.Courses.{step_keeps_pending}
-use Rattle.usb_world.specs.PortRequests.{sent_leaves, made_leaves, leaves_step, AsksNothing}
+use Rattle.usb_device.specs.{Sent, Leaves, State, Ports, ended, vacant, taken, state_at, effect_of}
+use Rattle.usb_device.specs.{asks_clearing, clears_change}
+use Rattle.usb_world.specs.{Attempt, token_out, payload_out, clears_at, World, at_attempt}
+use Rattle.usb_world.specs.{damage_in, attempt, is_made, made_resets, made_keeps_pending, resets}
+use Rattle.usb_world.specs.{step_keeps_pending, sent_leaves, made_leaves, leaves_step, AsksNothing}
+use Rattle.usb_tree.specs.{effect_resets, effect_keeps_pending, leaves_port, after_sent}
+use Rattle.usb_tree.specs.{sent_resets, sent_keeps_pending}
 use Rattle.usb_tree.proofs.Interface.{and_false, neither_of}
 use Rattle.usb_tree.proofs.Interface.{spares_if, way_leaves-on_way, resets_if}
 use Rattle.usb_world.proofs.packets.AttemptPackets.{CalmOut}
@@ -78,10 +71,8 @@ pub none_asks_nothing : (a : Attempt) (w : World) (p : List ℕ)
 unfolding step_keeps_pending resets leaves_step
 none_asks_nothing a w p c = record {
   spares = by_spares p;
-  rests =
-      ap (λ x. is_made w.fault w && x) (by_resets p) ∙ and_false (is_made w.fault w);
-  leaves =
-      by_leaves p;
+  rests = ap (λ x. is_made w.fault w && x) (by_resets p) ∙ and_false (is_made w.fault w);
+  leaves = by_leaves p;
 }
   where
     by_spares : (p : List ℕ) → made_keeps_pending a (at_attempt w) p ≡ true

@@ -1,18 +1,10 @@
 -- Attempts that ask nothing of ports.
 use Rattle.std.proofs.Common.{◌≡◌, ℕ, true, false, List, Option, refl, ap, subst, Bool}
-use Rattle.usb_packet.specs.declared.TokenKind.{TokenKind}
-use Rattle.usb_packet.specs.declared.TokenKind.TheVariants.{OutTok, InTok, SetupTok}
-use Rattle.usb_device.specs.declared.delivery.Sent.{Sent}
-use Rattle.usb_device.specs.Tree.{Ports}
-use Rattle.usb_device.specs.Delivery.{effect_of}
-use Rattle.usb_world.specs.declared.damage.Damage.{Damage}
-use Rattle.usb_world.specs.declared.types.Attempt.{Attempt}
-use Rattle.usb_world.specs.Exchange.{token_out, payload_out}
-use Rattle.usb_tree.specs.AttemptPackets.{after_sent, IfOut, IsDataOut, IsSettled}
-use Rattle.usb_world.specs.World.{World}
-use Rattle.usb_world.specs.Steps.{at_attempt, damage_in, attempt}
-use Rattle.usb_world.specs.Addresses.{is_setup}
-use Rattle.usb_world.specs.PortRequests.{AsksNothing}
+use Rattle.usb_packet.specs.{TokenKind, OutTok, InTok, SetupTok, Toggle}
+use Rattle.usb_device.specs.{Sent, Ports, effect_of}
+use Rattle.usb_world.specs.{Damage, Attempt, token_out, payload_out, World, at_attempt, damage_in}
+use Rattle.usb_world.specs.{attempt, is_setup, AsksNothing}
+use Rattle.usb_tree.specs.{after_sent, IfOut, IsDataOut, IsSettled}
 use Rattle.usb_world.proofs.addresses.AddressesInTransfers.{If, WaitsNone, data_effect, none_waits}
 use Rattle.usb_world.proofs.holders.OneHolderAttempts.{ready_settled}
 use Rattle.usb_world.proofs.courses.Courses.{goes}
@@ -21,7 +13,6 @@ use Rattle.usb_world.proofs.ports.PortRequests.{payload_no_port_allows, payload_
 use Rattle.usb_world.proofs.packets.PacketWays.{NoneAsks, none_asks_nothing}
 use Rattle.usb_world.proofs.packets.PacketPlaces.{left_is, is_left}
 use Rattle.arrayvec.specs.ArrayVec.{ArrayVec}
-use Rattle.usb_packet.specs.declared.Toggle.{Toggle}
 
 -- an attempt that asks nothing of ports, where no device remembers a packet before it
 abbrev pub data_asks_no_port : TokenKind → Option (Toggle × ArrayVec ℕ) → Bool

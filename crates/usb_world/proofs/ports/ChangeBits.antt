@@ -3,32 +3,18 @@
 use Rattle.std.proofs.Common.{◌≡◌, ℕ, zero, suc, ◌&&◌, ◌||◌, not, Bool, true, false, List, [], ◌∷◌}
 use Rattle.std.proofs.Common.{◌++◌, Option, None, Some, refl, ap, sym, subst, ◌∙◌, inl, inr}
 use Rattle.std.proofs.lemmas.Option.{same_Some}
-use Rattle.usb_port.specs.PortState.{PortState, plugged, unplugged}
-use Rattle.usb_port.specs.declared.call.PortCall.{PortCall}
-use Rattle.usb_device.specs.declared.delivery.Sent.{Sent}
-use Rattle.usb_device.specs.declared.effect.Effect.{Effect}
-use Rattle.usb_device.specs.declared.effect.Effect.TheVariants.{Leaves, Calls, PortsOff}
-use Rattle.usb_port.specs.Calls.{is_reset}
-use Rattle.usb_device.specs.Rows.{fresh}
-use Rattle.usb_device.specs.Spec.{Spec}
-use Rattle.usb_device.specs.Tree.{Ports, ended, vacant, taken, Place, empty, full, before, port_of}
-use Rattle.usb_device.specs.Tree.{called, replaced, changed, changed_at, port_at, place_at}
-use Rattle.usb_device.specs.Delivery.{effect_of}
-use Rattle.usb_device.specs.View.{port_there}
-use Rattle.usb_world.specs.declared.event.Action.{Action}
-use Rattle.usb_world.specs.declared.types.Attempt.{Attempt}
-use Rattle.usb_world.specs.Exchange.{token_out, payload_out, reply_out, ports_in}
-use Rattle.usb_tree.specs.Paths.{is_way, same_number}
-use Rattle.usb_tree.specs.AttemptPackets.{after_sent, after_attempt, sent_resets, IsAttemptAt}
-use Rattle.usb_tree.specs.WayEffects.{effect_resets, resets_at, leaves_port, way_leaves}
-use Rattle.usb_tree.specs.WayEffects.{takes_reset}
-use Rattle.usb_world.specs.World.{World}
-use Rattle.usb_world.specs.Steps.{after_change, way_of, names_path, after_event, at_attempt}
-use Rattle.usb_world.specs.Steps.{damage_in}
-use Rattle.usb_world.specs.Steps.{with_attempt, Course}
-use Rattle.usb_world.specs.Courses.{made_resets, root_resets}
-use Rattle.usb_world.specs.PortRequests.{sent_leaves, made_leaves, root_leaves, leaves_step}
-use Rattle.usb_world.specs.PortRequests.{LeavesPort, row_reached, StillSet}
+use Rattle.usb_port.specs.{PortState, plugged, unplugged, PortCall, is_reset}
+use Rattle.usb_device.specs.{Sent, Effect, Leaves, Calls, PortsOff, fresh, Spec, Ports, ended}
+use Rattle.usb_device.specs.{vacant, taken, empty, full, before, port_of, called, replaced, changed}
+use Rattle.usb_device.specs.{changed_at, port_at, place_at, effect_of, port_there}
+use Rattle.usb_device.specs.Tree.{Place}
+use Rattle.usb_world.specs.{Action, Attempt, token_out, payload_out, reply_out, ports_in, World}
+use Rattle.usb_world.specs.{after_change, way_of, names_path, after_event, at_attempt, damage_in}
+use Rattle.usb_world.specs.{with_attempt, Course, made_resets, root_resets, sent_leaves}
+use Rattle.usb_world.specs.{made_leaves, root_leaves, leaves_step, LeavesPort, row_reached}
+use Rattle.usb_world.specs.{StillSet}
+use Rattle.usb_tree.specs.{is_way, same_number, after_sent, after_attempt, sent_resets, IsAttemptAt}
+use Rattle.usb_tree.specs.{effect_resets, resets_at, leaves_port, way_leaves, takes_reset}
 use Rattle.usb_tree.proofs.Interface.{false_true, both, and_false, or_right, not-true, decided}
 use Rattle.usb_world.proofs.ways.WayChanges.{SamePorts, same_ports, changed_there, root_there}
 use Rattle.usb_world.proofs.ports.RootResets.{same_number-is}
@@ -45,8 +31,7 @@ still_set-same b o h = record {
   stands = h;
   power = λ e. e;
   connection = λ e. e;
-  enable =
-      λ e. e;
+  enable = λ e. e;
   reset = λ e. e;
 }
 
@@ -58,11 +43,9 @@ still_then b o v x f =
       now = y.now;
       stands = y.stands;
       power = λ e. y.power (x.power e);
-      connection =
-          λ e. y.connection (x.connection e);
+      connection = λ e. y.connection (x.connection e);
       enable = λ e. y.enable (x.enable e);
-      reset =
-          λ e. y.reset (x.reset e);
+      reset = λ e. y.reset (x.reset e);
     }
 
 -- Events
@@ -74,8 +57,7 @@ still_unplugged c b h =
       now = unplugged c;
       stands = refl;
       power = λ e. e;
-      connection =
-          λ e. or_right c.power c.connection_changed e;
+      connection = λ e. or_right c.power c.connection_changed e;
       enable = λ e. e;
       reset = λ e. e;
     })

@@ -2,26 +2,18 @@
 use Rattle.std.proofs.Common.{◌≡◌, ℕ, zero, suc, ◌&&◌, if◌then◌else◌, ◌⊎◌, inl, inr, Bool, true}
 use Rattle.std.proofs.Common.{false, List, [], ◌∷◌, ◌++◌, Option, None, Some, option_map, refl, ap}
 use Rattle.std.proofs.Common.{ap₂, sym, subst, ◌∙◌}
-use Rattle.usb_port.specs.PortState.{PortState}
-use Rattle.usb_request.specs.Layout.{setup_of}
-use Rattle.usb_device.specs.declared.request.Registers.{Registers}
-use Rattle.usb_device.specs.Request.{Outcome, stalled, answers, takes_address, takes_configuration}
-use Rattle.usb_device.specs.Request.{halts, unhalts, tells_port, calls_port, outcome}
-use Rattle.usb_device.specs.Request.{registers_at_setup}
-use Rattle.usb_device.specs.Rows.{State, accepted}
-use Rattle.usb_device.specs.Attempt.{Way, is_whole, heard, setup_law}
+use Rattle.usb_port.specs.{PortState}
+use Rattle.usb_request.specs.{setup_of}
+use Rattle.usb_device.specs.{Registers, Outcome, stalled, takes_address, takes_configuration, halts}
+use Rattle.usb_device.specs.{unhalts, tells_port, calls_port, outcome, registers_at_setup, State}
+use Rattle.usb_device.specs.{accepted, Way, is_whole, heard, setup_law, Ports, ended, vacant, taken}
+use Rattle.usb_device.specs.{row_of, reach_at, state_at, place_at, reach, place, path_to}
+use Rattle.usb_device.specs.Request.{answers}
 use Rattle.usb_device.specs.declared.answer.Answer.TheVariants.{Ack}
-use Rattle.usb_device.specs.Tree.{Ports, ended, vacant, taken, row_of, reach_at, state_at, place_at}
-use Rattle.usb_device.specs.Tree.{reach, place, path_to}
-use Rattle.usb_world.specs.declared.types.Attempt.{Attempt}
-use Rattle.usb_tree.specs.Paths.{address_of, same_number, same_path, is_way}
-use Rattle.usb_tree.specs.WayEffects.{IsNew, reset_if}
-use Rattle.usb_tree.specs.AttemptPackets.{deep_at}
-use Rattle.usb_world.specs.World.{World}
-use Rattle.usb_world.specs.Steps.{at_attempt, damage_in, with_attempt, attempt, after}
-use Rattle.usb_world.specs.Courses.{is_made, made_resets, resets, address_at, HoldsMapped}
-use Rattle.usb_world.specs.OneHolder.{IsSetup, HolderIn, token_way, payload_way, answer_way}
-use Rattle.usb_world.specs.Addresses.{after_reset}
+use Rattle.usb_world.specs.{Attempt, World, at_attempt, damage_in, with_attempt, attempt, after}
+use Rattle.usb_world.specs.{is_made, made_resets, resets, address_at, HoldsMapped, IsSetup}
+use Rattle.usb_world.specs.{HolderIn, token_way, payload_way, answer_way, after_reset}
+use Rattle.usb_tree.specs.{address_of, same_number, same_path, is_way, IsNew, reset_if, deep_at}
 use Rattle.usb_tree.proofs.Interface.{false_true, both, decided, and_false}
 use Rattle.usb_world.proofs.holders.OneDevice.{state_stands}
 use Rattle.usb_world.proofs.courses.Courses.{made_reach, step_new}

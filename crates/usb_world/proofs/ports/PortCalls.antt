@@ -1,18 +1,13 @@
 -- What a call at a port does to reachable, live and pending, and to the devices and ports.
 use Rattle.std.proofs.Common.{◌≡◌, ℕ, zero, suc, ◌&&◌, ◌||◌, if◌then◌else◌, Bool, true, false, List}
 use Rattle.std.proofs.Common.{[], ◌∷◌, option_map, refl, ap, sym, ◌∙◌}
-use Rattle.usb_port.specs.PortState.{PortState, is_attached, powered_off}
-use Rattle.usb_port.specs.declared.call.PortCall.{PortCall}
-use Rattle.usb_port.specs.declared.call.PortCall.TheVariants.{SetPower, SetReset, ClearEnable}
-use Rattle.usb_port.specs.declared.call.PortCall.TheVariants.{ClearPower, ClearConnectionChange}
-use Rattle.usb_port.specs.declared.call.PortCall.TheVariants.{ClearEnableChange, ClearResetChange}
-use Rattle.usb_device.specs.Rows.{reset_state}
-use Rattle.usb_device.specs.Tree.{Ports, ended, vacant, taken, empty, full, called, reset_where}
-use Rattle.usb_device.specs.Tree.{before, all_off, changed_at, reach_at, state_at, place_at}
-use Rattle.usb_port.specs.Calls.{called_port, is_reset}
-use Rattle.usb_tree.specs.Paths.{has_power_at, pending_at, same_number}
-use Rattle.usb_tree.specs.WayEffects.{IsNew, call_resets, reset_if, keeps_pending}
-use Rattle.usb_tree.specs.WayEffects.{call_keeps_pending}
+use Rattle.usb_port.specs.{PortState, is_attached, powered_off, PortCall, SetPower, SetReset}
+use Rattle.usb_port.specs.{ClearEnable, ClearPower, ClearConnectionChange, ClearEnableChange}
+use Rattle.usb_port.specs.{ClearResetChange, called_port, is_reset}
+use Rattle.usb_device.specs.{reset_state, Ports, ended, vacant, taken, empty, full, called}
+use Rattle.usb_device.specs.{reset_where, before, all_off, changed_at, reach_at, state_at, place_at}
+use Rattle.usb_tree.specs.{has_power_at, pending_at, same_number, IsNew, call_resets, reset_if}
+use Rattle.usb_tree.specs.{keeps_pending, call_keeps_pending}
 use Rattle.usb_tree.proofs.Interface.{both, and_of, and_false, and_wider, or_right, or_wider}
 use Rattle.usb_tree.proofs.Interface.{false_true}
 use Rattle.usb_world.proofs.ways.WayChanges.{SamePorts, same_way-other_port, same_way-behind}
@@ -47,8 +42,7 @@ called_port-enable : (c : PortCall) (b : PortState) → (is_reset c && sees b) �
 called_port-enable SetPower b = elim b.power
     as (λ x. false ≡ false → (if x then b else record b {
       power = true;
-      connection_changed =
-          is_attached b.attached || b.connection_changed;
+      connection_changed = is_attached b.attached || b.connection_changed;
     }).enable ≡ true → b.enable ≡ true)
     [ true ↦ λ h g. g | false ↦ λ h g. g ]
 called_port-enable SetReset b = elim (sees b)
@@ -164,8 +158,7 @@ called_power SetPower b p h g = lit b.power refl
   where
     lit : (x : Bool) → b.power ≡ x → (if x then b else record b {
       power = true;
-      connection_changed =
-          is_attached b.attached || b.connection_changed;
+      connection_changed = is_attached b.attached || b.connection_changed;
     }).power ≡ true
     lit true e = e
     lit false e = refl
@@ -187,8 +180,7 @@ called_change SetPower b p h g = lit b.power
   where
     lit : (x : Bool) → (if x then b else record b {
       power = true;
-      connection_changed =
-          is_attached b.attached || b.connection_changed;
+      connection_changed = is_attached b.attached || b.connection_changed;
     }).connection_changed ≡ true
     lit true = g
     lit false = or_right (is_attached b.attached) b.connection_changed g

@@ -4,44 +4,27 @@ use Rattle.std.proofs.Common.{if◌then◌else◌, Bool, true, false, List, [], 
 use Rattle.std.proofs.Common.{Option, None, Some, is_some, refl, ap, arith}
 use Rattle.std.proofs.lemmas.Option.{same_Some}
 use Rattle.arrayvec.specs.ArrayVec.{ArrayVec}
-use Rattle.usb_packet.specs.declared.Packet.TheVariants.{Payload}
+use Rattle.usb_packet.specs.{Payload, Toggle, Zero, One}
 use Rattle.usb_packet.specs.declared.Packet.TheVariants as packet
-use Rattle.usb_packet.specs.declared.Toggle.{Toggle}
-use Rattle.usb_packet.specs.declared.Toggle.TheVariants.{Zero, One}
-use Rattle.usb_request.specs.Codes.{DEVICE, CONFIGURATION, STRING, HUB, GET_STATUS, CLEAR_FEATURE}
-use Rattle.usb_request.specs.Codes.{SET_FEATURE, SET_ADDRESS, GET_DESCRIPTOR, GET_CONFIGURATION}
-use Rattle.usb_request.specs.Codes.{SET_CONFIGURATION, DEVICE_IN, DEVICE_OUT, ENDPOINT_OUT, HUB_IN}
-use Rattle.usb_request.specs.Codes.{PORT_IN, PORT_OUT}
-use Rattle.usb_request.specs.Requests.{descriptor_value}
-use Rattle.usb_request.specs.declared.setup.Setup.{Setup}
-use Rattle.usb_request.specs.Layout.{setup_of}
-use Rattle.usb_device.specs.declared.bulk.ServedEndpoint.{ServedEndpoint}
-use Rattle.usb_port.specs.declared.call.PortCall.{PortCall}
-use Rattle.usb_device.specs.declared.delivery.Content.{Content}
-use Rattle.usb_device.specs.declared.delivery.Content.TheVariants.{Whole, Broken}
-use Rattle.usb_device.specs.declared.delivery.Sent.{Sent}
-use Rattle.usb_device.specs.declared.effect.Effect.{Effect}
-use Rattle.usb_device.specs.declared.effect.Effect.TheVariants.{Leaves, Calls, PortsOff}
-use Rattle.usb_device.specs.declared.request.Registers.{Registers}
-use Rattle.usb_device.specs.declared.transfer.RememberedPacket.{RememberedPacket}
+use Rattle.usb_request.specs.{DEVICE, CONFIGURATION, STRING, HUB, GET_STATUS, CLEAR_FEATURE}
+use Rattle.usb_request.specs.{SET_FEATURE, SET_ADDRESS, GET_DESCRIPTOR, GET_CONFIGURATION}
+use Rattle.usb_request.specs.{SET_CONFIGURATION, DEVICE_IN, DEVICE_OUT, ENDPOINT_OUT, HUB_IN}
+use Rattle.usb_request.specs.{PORT_IN, PORT_OUT, descriptor_value, Setup, setup_of}
+use Rattle.usb_device.specs.{ServedEndpoint, Content, Whole, Broken, Sent, Effect, Leaves, Calls}
+use Rattle.usb_device.specs.{PortsOff, Registers, RememberedPacket, Spec, Hub, Outcome, stalled}
+use Rattle.usb_device.specs.{takes_address, takes_configuration, halts, unhalts, Is, unless}
+use Rattle.usb_device.specs.{text_asked, asked_descriptor, asked_status, asked_address}
+use Rattle.usb_device.specs.{asked_configuration, endpoint_of, on_endpoint, asked_hub_descriptor}
+use Rattle.usb_device.specs.{port_named, told_port, called_at, asked_port_status, port_feature}
+use Rattle.usb_device.specs.{outcome, is_value, State, asks, asked_by_data, asked_by_setup}
+use Rattle.usb_device.specs.{effect_of_request, hears, asked_by, effect_of}
+use Rattle.usb_port.specs.{PortCall, set_call, clear_call}
 use Rattle.usb_device.specs.declared.transfer.RememberedPacket.TheVariants.{Nothing, SetupSeen}
 use Rattle.usb_device.specs.declared.transfer.RememberedPacket.TheVariants.{OutSeen, AckAwaited}
-use Rattle.usb_device.specs.Spec.{Spec, Hub}
-use Rattle.usb_port.specs.Calls.{set_call, clear_call}
-use Rattle.usb_device.specs.Request.{Outcome, stalled, answers, takes_address, takes_configuration}
-use Rattle.usb_device.specs.Request.{halts, unhalts, Is, unless, text_asked, asked_descriptor}
-use Rattle.usb_device.specs.Request.{asked_status, asked_address, asked_configuration, endpoint_of}
-use Rattle.usb_device.specs.Request.{on_endpoint, asked_hub_descriptor, port_named, told_port}
-use Rattle.usb_device.specs.Request.{called_at, asked_port_status, port_feature, outcome, is_value}
-use Rattle.usb_device.specs.Rows.{State}
-use Rattle.usb_device.specs.Effect.{asks, asked_by_data, asked_by_setup, effect_of_request}
-use Rattle.usb_device.specs.Delivery.{hears, asked_by, effect_of}
-use Rattle.usb_world.specs.declared.damage.Damage.{Damage}
-use Rattle.usb_world.specs.declared.types.Attempt.{Attempt}
-use Rattle.usb_world.specs.Wire.{mark_of, harm_to, marked, marked_some}
-use Rattle.usb_world.specs.Exchange.{payload_of, goes_out, payload_out}
-use Rattle.usb_tree.specs.AttemptPackets.{IfOut}
-use Rattle.usb_world.specs.PortRequests.{asks_no_port}
+use Rattle.usb_device.specs.Request.{answers}
+use Rattle.usb_world.specs.{Damage, Attempt, mark_of, harm_to, marked, marked_some, payload_of}
+use Rattle.usb_world.specs.{goes_out, payload_out, asks_no_port}
+use Rattle.usb_tree.specs.{IfOut}
 use Rattle.usb_world.proofs.packets.AttemptPackets.{sent_out}
 use Rattle.usb_tree.proofs.Interface.{false_true, both}
 use Rattle.usb_world.proofs.packets.PacketPlaces.{is_left}
@@ -178,8 +161,7 @@ data_allowed T s (AckAwaited g) t b h = h.rests
 data_allowed T s SetupSeen One b h = h.rests
 data_allowed T s SetupSeen Zero b h = elim (length b == 8)
     as (λ x. T (if x then asked_by_setup s (setup_of b) else Leaves) ≡ true) [
-      | true ↦
-          setup_allowed T (setup_of b) h s
+      | true ↦ setup_allowed T (setup_of b) h s
       | false ↦ h.rests
     ]
 
@@ -188,8 +170,7 @@ content_allowed : (T : Effect → Bool) (c : Content) (s : State) → AllowsOut 
 unfolding asks
 content_allowed T (Whole (Payload t b)) s h = elim s.spec.silent
     as (λ x. T (if x then Leaves else asked_by_data s s.memory t b.items) ≡ true) [
-      | true ↦
-          h.rests
+      | true ↦ h.rests
       | false ↦ data_allowed T s s.memory t b.items h
     ]
 content_allowed T Broken s h = h
@@ -205,8 +186,7 @@ pub sent_allowed : (T : Effect → Bool) → T Leaves ≡ true → (q : Sent) �
 unfolding effect_of
 sent_allowed T l q c deep s = elim (hears q deep s)
     as (λ x. T (if x then asked_by q.content s else Leaves) ≡ true) [
-      | true ↦
-          content_allowed T q.content s c
+      | true ↦ content_allowed T q.content s c
       | false ↦ l
     ]
 
@@ -221,8 +201,7 @@ pub payload_allowed : (T : Effect → Bool) → T Leaves ≡ true → (a : Attem
 unfolding payload_of marked_some marked
 payload_allowed T e a d h = go a.payload h
   where
-    go : (o : Option (Toggle × ArrayVec ℕ)) → PayloadAllows T o
-        → IfOut (AllowsOut T) (goes_out a
+    go : (o : Option (Toggle × ArrayVec ℕ)) → PayloadAllows T o → IfOut (AllowsOut T) (goes_out a
         (marked_some d 2 a.pre (elim o [ None ↦ None | Some p ↦ Some (packet.Payload p.0 p.1) ])))
     go None h = tt
     go (Some x) h = sent_out (AllowsOut T) e a.low a.pre
@@ -244,8 +223,7 @@ no_port_allows r h =
       rests = refl;
       off = λ e. not-contradiction (Is r DEVICE_OUT SET_CONFIGURATION) two.1 e;
       set = λ e c i x y. not-contradiction (Is r PORT_OUT SET_FEATURE) one.0 e;
-      clear =
-          λ e c i x y. not-contradiction (Is r PORT_OUT CLEAR_FEATURE) two.0 e;
+      clear = λ e c i x y. not-contradiction (Is r PORT_OUT CLEAR_FEATURE) two.0 e;
     }
 
 pub payload_no_port_allows : (o : Option (Toggle × ArrayVec ℕ)) → payload_asks_no_port o ≡ true

@@ -1,26 +1,16 @@
 -- Why the laws of requests have their premises: what is not so without them.
 use Rattle.std.proofs.Common.{◌≡◌, true, false, [], ◌∷◌, None, Some, refl}
-use Rattle.usb_packet.specs.declared.TokenKind.TheVariants.{OutTok}
-use Rattle.usb_packet.specs.declared.Toggle.TheVariants.{Zero}
+use Rattle.usb_packet.specs.{OutTok, Zero}
 use Rattle.usb_device.specs.declared.transfer.RememberedPacket.TheVariants.{SetupSeen}
-use Rattle.usb_device.specs.Spec.{Spec, function, usual_hub}
-use Rattle.usb_device.specs.Tree.{Ports, ended, vacant, taken, place_at}
-use Rattle.usb_device.specs.Rows.{fresh, received, unread}
-use Rattle.usb_device.specs.Request.{outcome}
-use Rattle.usb_device.specs.Effect.{asks}
-use Rattle.usb_device.specs.Delivery.{answer_of, effect_of, after_packet}
-use Rattle.usb_request.specs.Layout.{setup_of}
-use Rattle.usb_port.specs.PortState.{full, nothing}
-use Rattle.usb_world.specs.declared.damage.Harm.TheVariants.{Lose}
-use Rattle.usb_world.specs.declared.types.Attempt.{Attempt}
-use Rattle.usb_world.specs.Wire.{damage_of, harm_to, mark_of, bit_count, marked, marked_some}
-use Rattle.usb_world.specs.Exchange.{token_of, payload_of}
-use Rattle.usb_world.specs.Losses.{no_losses}
-use Rattle.usb_tree.specs.Paths.{pending_at, pending}
-use Rattle.usb_tree.specs.WayEffects.{resets_at}
-use Rattle.usb_world.specs.World.{World}
-use Rattle.usb_world.specs.Steps.{after_due_events, at_attempt, attempt}
-use Rattle.usb_world.specs.Courses.{resets}
+use Rattle.usb_device.specs.{Spec, function, usual_hub, Ports, ended, vacant, taken, place_at}
+use Rattle.usb_device.specs.{fresh, received, unread, outcome, asks, answer_of, effect_of}
+use Rattle.usb_device.specs.{after_packet}
+use Rattle.usb_request.specs.{setup_of}
+use Rattle.usb_port.specs.{full, nothing}
+use Rattle.usb_world.specs.{Lose, Attempt, damage_of, harm_to, mark_of, bit_count, marked}
+use Rattle.usb_world.specs.{marked_some, token_of, payload_of, no_losses, World, after_due_events}
+use Rattle.usb_world.specs.{at_attempt, attempt, resets}
+use Rattle.usb_tree.specs.{pending_at, pending, resets_at}
 use Rattle.usb_world.proofs.ports.ToldChanges.{change_told_at, change_told}
 use Rattle.usb_world.proofs.packets.RestingAttempts.{data_asks_no_port}
 
@@ -30,8 +20,7 @@ unpowered = vacant (record {
   attached = nothing;
   power = false;
   enable = false;
-  connection_changed =
-      true;
+  connection_changed = true;
   enable_changed = false;
   reset_changed = false;
 }) ended
@@ -58,8 +47,7 @@ awaiting = record {
       })
       (record (fresh asked_hub) {
         registers = record { address = 1; configuration = 1 };
-        memory =
-            SetupSeen;
+        memory = SetupSeen;
       })
       (taken (record {
         attached = full;
@@ -90,8 +78,7 @@ sends_out = record {
   low = false;
   pre = false;
   max = 64;
-  payload =
-      Some (Zero, record { items = 0x23 ∷ 3 ∷ 4 ∷ 0 ∷ 1 ∷ 0 ∷ 0 ∷ 0 ∷ [] });
+  payload = Some (Zero, record { items = 0x23 ∷ 3 ∷ 4 ∷ 0 ∷ 1 ∷ 0 ∷ 0 ∷ 0 ∷ [] });
 }
 
 resets_by_out : (data_asks_no_port sends_out.kind sends_out.payload ≡ true)

@@ -2,23 +2,14 @@
 -- way.
 use Rattle.std.proofs.Common.{◌≡◌, inl, inr, ℕ, zero, suc, true, false, List, [], ◌∷◌, option_map}
 use Rattle.std.proofs.Common.{refl, ap, sym, ◌∙◌}
-use Rattle.usb_port.specs.declared.call.PortCall.{PortCall}
-use Rattle.usb_device.specs.Spec.{Spec}
-use Rattle.usb_device.specs.Tree.{Ports, called, changed, reach}
-use Rattle.usb_device.specs.View.{state_there}
-use Rattle.usb_world.specs.declared.event.Action.{Action}
-use Rattle.usb_world.specs.declared.types.Attempt.{Attempt}
-use Rattle.usb_world.specs.Exchange.{token_out, payload_out, reply_out, ports_in}
-use Rattle.usb_tree.specs.Paths.{has_power}
-use Rattle.usb_world.specs.PlanCourses.{spec_of}
-use Rattle.usb_world.specs.World.{World}
-use Rattle.usb_world.specs.Steps.{after_change, names_path, after_event, at_attempt, damage_in}
-use Rattle.usb_world.specs.Steps.{with_attempt}
-use Rattle.usb_world.specs.Steps.{Course}
-use Rattle.usb_world.specs.Courses.{UndisturbedOrPends, KeepsPendingAt}
-use Rattle.usb_world.specs.PortRequests.{made_leaves, root_leaves, leaves_step}
-use Rattle.usb_world.specs.RestingPorts.{SameAt, LeavesPortAlone, UnchangedOrPending}
-use Rattle.usb_world.specs.RestingPorts.{SameDeviceOrPending}
+use Rattle.usb_port.specs.{PortCall}
+use Rattle.usb_device.specs.{Spec, Ports, called, changed, reach, state_there}
+use Rattle.usb_world.specs.{Action, Attempt, token_out, payload_out, reply_out, ports_in, spec_of}
+use Rattle.usb_world.specs.{World, after_change, names_path, after_event, at_attempt, damage_in}
+use Rattle.usb_world.specs.{with_attempt, Course, UndisturbedOrPends, KeepsPendingAt, made_leaves}
+use Rattle.usb_world.specs.{root_leaves, leaves_step, SameAt, LeavesPortAlone, UnchangedOrPending}
+use Rattle.usb_world.specs.{SameDeviceOrPending}
+use Rattle.usb_tree.specs.{has_power}
 use Rattle.usb_world.proofs.ways.WayChanges.{root_there}
 use Rattle.usb_world.proofs.events.PlugEvents.{happened_there}
 use Rattle.usb_world.proofs.events.PluggedShapes.{spec_there}
@@ -74,8 +65,7 @@ made_same : (a : Attempt) (w : World) (p : List ℕ) → made_leaves a w p ≡ t
 made_same a w p h = record {
   port = made_port a w p h;
   on = made_on a w p h;
-  what =
-      made_what a w p;
+  what = made_what a w p;
 }
 
 -- Steps

@@ -2,16 +2,14 @@
 use Rattle.std.proofs.Common.{◌≡◌, ℕ, zero, suc, ◌&&◌, if◌then◌else◌, ◌⊎◌, inl, inr, Bool, true}
 use Rattle.std.proofs.Common.{false, List, [], ◌∷◌, ◌++◌, Option, None, Some, option_map, refl, ap}
 use Rattle.std.proofs.Common.{sym, subst, ◌∙◌}
-use Rattle.usb_port.specs.declared.call.PortCall.{PortCall}
-use Rattle.usb_port.specs.declared.call.PortCall.TheVariants.{SetReset}
-use Rattle.usb_device.specs.Tree.{Ports, ended, vacant, taken, Place, empty, full, called}
-use Rattle.usb_device.specs.Tree.{changed_at, reach_at, state_at, place_at}
-use Rattle.usb_tree.specs.Paths.{address_of, same_number, same_path, is_way}
-use Rattle.usb_tree.specs.WayEffects.{IsNew, takes_reset, call_resets}
-use Rattle.usb_world.specs.World.{World}
-use Rattle.usb_world.specs.Steps.{root_call, after}
-use Rattle.usb_world.specs.Courses.{root_resets, resets, HoldsMapped, Injective}
-use Rattle.usb_world.specs.Addresses.{after_reset, after_taking}
+use Rattle.usb_port.specs.{PortCall, SetReset}
+use Rattle.usb_device.specs.{Ports, ended, vacant, taken, empty, full, called, changed_at, reach_at}
+use Rattle.usb_device.specs.{state_at, place_at}
+use Rattle.usb_device.specs.Tree.{Place}
+use Rattle.usb_tree.specs.{address_of, same_number, same_path, is_way, IsNew, takes_reset}
+use Rattle.usb_tree.specs.{call_resets}
+use Rattle.usb_world.specs.{World, root_call, after, root_resets, resets, HoldsMapped, Injective}
+use Rattle.usb_world.specs.{after_reset, after_taking}
 use Rattle.usb_tree.proofs.Interface.{false_true, both, and_false, decided}
 use Rattle.usb_world.proofs.ports.PortCalls.{off_way, call_new, call_reach, call_state}
 use Rattle.usb_world.proofs.holders.OneDevice.{stands, state_stands}

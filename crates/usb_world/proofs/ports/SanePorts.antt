@@ -4,27 +4,20 @@ use Rattle.std.proofs.Common.{[], ◌∷◌, ◌++◌, ◌<◌, length, Option, 
 use Rattle.std.proofs.Common.{refl, ap, sym, subst, ◌∙◌, arith}
 use Rattle.std.specs.Option.{IfSome}
 use Rattle.std.specs.Prelude.{⊤}
-use Rattle.usb_port.specs.PortState.{PortState, is_attached, speed_of, plugged, unplugged}
-use Rattle.usb_port.specs.PortState.{powered_off}
-use Rattle.usb_port.specs.declared.call.PortCall.{PortCall}
-use Rattle.usb_port.specs.declared.call.PortCall.TheVariants.{SetPower, SetReset, ClearEnable}
-use Rattle.usb_port.specs.declared.call.PortCall.TheVariants.{ClearPower, ClearConnectionChange}
-use Rattle.usb_port.specs.declared.call.PortCall.TheVariants.{ClearEnableChange, ClearResetChange}
-use Rattle.usb_device.specs.declared.effect.Effect.{Effect}
-use Rattle.usb_device.specs.declared.effect.Effect.TheVariants.{Leaves, Calls, PortsOff}
-use Rattle.usb_device.specs.declared.delivery.Sent.{Sent}
-use Rattle.usb_device.specs.Spec.{Spec, Hub, IsSpec}
-use Rattle.usb_device.specs.Rows.{State, fresh, reset_state}
-use Rattle.usb_port.specs.Calls.{called_port, is_reset}
-use Rattle.usb_device.specs.Tree.{Ports, ended, vacant, taken, Place, empty, full, before, all_off}
-use Rattle.usb_device.specs.Tree.{new_ports, first_ports, called, reset_where, replaced, changed}
-use Rattle.usb_device.specs.Tree.{changed_at, acted, reach_at, state_at, port_at, place_at, row_of}
-use Rattle.usb_device.specs.Delivery.{answer_of, effect_of, after_packet, all_forgotten}
+use Rattle.usb_port.specs.{PortState, is_attached, speed_of, plugged, unplugged, powered_off}
+use Rattle.usb_port.specs.{PortCall, SetPower, SetReset, ClearEnable, ClearPower}
+use Rattle.usb_port.specs.{ClearConnectionChange, ClearEnableChange, ClearResetChange, called_port}
+use Rattle.usb_port.specs.{is_reset}
+use Rattle.usb_device.specs.{Effect, Leaves, Calls, PortsOff, Sent, Spec, Hub, IsSpec, State, fresh}
+use Rattle.usb_device.specs.{reset_state, Ports, ended, vacant, taken, empty, full, before, all_off}
+use Rattle.usb_device.specs.{new_ports, first_ports, called, reset_where, replaced, changed}
+use Rattle.usb_device.specs.{changed_at, acted, reach_at, state_at, port_at, place_at, row_of}
+use Rattle.usb_device.specs.{answer_of, effect_of, after_packet, all_forgotten}
+use Rattle.usb_device.specs.Tree.{Place}
 use Rattle.usb_device.proofs.Interface.{answer-spec, row_of-after, row_of-forgotten}
-use Rattle.usb_tree.specs.Paths.{has_power_at}
-use Rattle.usb_world.specs.PluggedDevices.{hub_ports}
-use Rattle.usb_world.specs.PlanCourses.{spec_of}
-use Rattle.usb_world.specs.SanePorts.{IsSanePort, Consistent, ConsistentPlace, HasItsPorts}
+use Rattle.usb_tree.specs.{has_power_at}
+use Rattle.usb_world.specs.{hub_ports, spec_of, IsSanePort, Consistent, ConsistentPlace}
+use Rattle.usb_world.specs.{HasItsPorts}
 use Rattle.usb_tree.proofs.Interface.{both, and_of, false_true}
 use Rattle.usb_world.proofs.courses.Counts.{acted_long, first_long, off_long, row_long_at}
 
@@ -39,8 +32,7 @@ sane_row SetPower b h = lit b.power refl
     lit : (x : Bool) → b.power ≡ x → IsSanePort
         (if x then b else record b {
           power = true;
-          connection_changed =
-              is_attached b.attached || b.connection_changed;
+          connection_changed = is_attached b.attached || b.connection_changed;
         })
     lit true e = h
     lit false e = record {
@@ -54,24 +46,20 @@ sane_row SetReset b h = lit (b.power && is_attached b.attached) refl
         → IsSanePort (if x then record b { enable = true; reset_changed = true } else b)
     lit true e = record {
       enabled = λ g. e;
-      changed =
-          λ g. (both b.power (is_attached b.attached) e).0;
+      changed = λ g. (both b.power (is_attached b.attached) e).0;
       steady = h.steady;
     }
     lit false e = h
 sane_row ClearEnable b h = record {
   enabled = λ g. false_true g;
   changed = h.changed;
-  steady =
-      h.steady;
+  steady = h.steady;
 }
 sane_row ClearPower b h = sane_off b
 sane_row ClearConnectionChange b h = record {
   enabled = h.enabled;
-  changed =
-      λ g. h.changed (wider b.connection_changed b.enable_changed b.reset_changed g);
-  steady =
-      h.steady;
+  changed = λ g. h.changed (wider b.connection_changed b.enable_changed b.reset_changed g);
+  steady = h.steady;
 }
   where
     wider : (x y z : Bool) → ((false || y) || z) ≡ true → ((x || y) || z) ≡ true
@@ -79,10 +67,8 @@ sane_row ClearConnectionChange b h = record {
     wider false y z g = g
 sane_row ClearEnableChange b h = record {
   enabled = h.enabled;
-  changed =
-      λ g. h.changed (wider b.connection_changed b.enable_changed b.reset_changed g);
-  steady =
-      refl;
+  changed = λ g. h.changed (wider b.connection_changed b.enable_changed b.reset_changed g);
+  steady = refl;
 }
   where
     wider : (x y z : Bool) → ((x || false) || z) ≡ true → ((x || y) || z) ≡ true
@@ -91,10 +77,8 @@ sane_row ClearEnableChange b h = record {
     wider false false z g = g
 sane_row ClearResetChange b h = record {
   enabled = h.enabled;
-  changed =
-      λ g. h.changed (wider b.connection_changed b.enable_changed b.reset_changed g);
-  steady =
-      h.steady;
+  changed = λ g. h.changed (wider b.connection_changed b.enable_changed b.reset_changed g);
+  steady = h.steady;
 }
   where
     wider : (x y z : Bool) → ((x || y) || false) ≡ true → ((x || y) || z) ≡ true
@@ -106,11 +90,9 @@ row_attached : (c : PortCall) (b : PortState) → (called_port c b).attached ≡
 row_attached SetPower b = elim b.power
     as (λ x. (if x then b else record b {
       power = true;
-      connection_changed =
-          is_attached b.attached || b.connection_changed;
+      connection_changed = is_attached b.attached || b.connection_changed;
     }).attached ≡ b.attached) [
-      | true ↦
-          refl
+      | true ↦ refl
       | false ↦ refl
     ]
 row_attached SetReset b = elim (b.power && is_attached b.attached)
@@ -160,11 +142,7 @@ pub sane_new_ports : (n : ℕ) → Consistent (new_ports n)
 unfolding Consistent new_ports
 sane_new_ports zero = tt
 sane_new_ports (suc n) = (
-  record {
-    enabled = λ h. false_true h;
-    changed = λ h. false_true h;
-    steady = refl;
-  },
+  record { enabled = λ h. false_true h; changed = λ h. false_true h; steady = refl },
   refl,
   sane_new_ports n,
 )
@@ -185,8 +163,7 @@ sane_called c (full b s a) h = split (is_reset c && (b.power && is_attached b.at
       row_attached c b ∙ h.1,
       sane_all_off a h.2,
       h.3,
-      off_long a
-          ∙ h.4,
+      off_long a ∙ h.4,
     )
     split false = (sane_row c b h.0, row_attached c b ∙ h.1, h.2, h.3, h.4)
 

@@ -1,11 +1,10 @@
 -- Where a change of connection is told, it is pending.
 use Rattle.std.proofs.Common.{◌≡◌, ℕ, zero, suc, ◌&&◌, ◌||◌, ◌⊎◌, inl, inr, Bool, true, false, List}
 use Rattle.std.proofs.Common.{[], ◌∷◌, Some, refl, ap, sym, ◌∙◌}
-use Rattle.usb_port.specs.PortState.{PortState}
-use Rattle.usb_device.specs.Tree.{Ports, ended, vacant, taken, port_at}
-use Rattle.usb_device.specs.View.{port_there}
-use Rattle.usb_tree.specs.Paths.{pending_at, pending, is_way}
-use Rattle.usb_world.specs.SanePorts.{IsSanePort, Consistent}
+use Rattle.usb_port.specs.{PortState}
+use Rattle.usb_device.specs.{Ports, ended, vacant, taken, port_at, port_there}
+use Rattle.usb_tree.specs.{pending_at, pending, is_way}
+use Rattle.usb_world.specs.{IsSanePort, Consistent}
 use Rattle.usb_tree.proofs.Interface.{and_of, or_left}
 use Rattle.usb_tree.proofs.Interface.{self_number}
 

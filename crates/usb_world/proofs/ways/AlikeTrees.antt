@@ -3,14 +3,10 @@
 use Rattle.std.proofs.Common.{◌≡◌, ℕ, zero, suc, ◌&&◌, List, [], ◌∷◌, length, Option, None, Some}
 use Rattle.std.proofs.Common.{option_map, refl, ap, sym, subst, ◌∙◌}
 use Rattle.std.proofs.lemmas.Option.{same_Some}
-use Rattle.usb_port.specs.PortState.{PortState}
-use Rattle.usb_device.specs.Spec.{IsSpec, Spec}
-use Rattle.usb_device.specs.Rows.{State, forgotten}
-use Rattle.usb_device.specs.Tree.{Ports, ended, vacant, taken, reach_at, state_at, port_at, row_of}
-use Rattle.usb_device.specs.Delivery.{all_forgotten}
-use Rattle.usb_world.specs.PluggedDevices.{hub_ports}
-use Rattle.usb_world.specs.SanePorts.{Consistent, HasItsPorts}
-use Rattle.usb_device.specs.declared.request.Registers.{Registers}
+use Rattle.usb_port.specs.{PortState}
+use Rattle.usb_device.specs.{IsSpec, Spec, State, forgotten, Ports, ended, vacant, taken, reach_at}
+use Rattle.usb_device.specs.{state_at, port_at, row_of, all_forgotten, Registers}
+use Rattle.usb_world.specs.{hub_ports, Consistent, HasItsPorts}
 
 -- a device's description, with its address and configuration
 abbrev pub self_of : State → Spec × Registers

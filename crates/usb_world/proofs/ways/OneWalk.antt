@@ -5,44 +5,30 @@ use Rattle.std.proofs.Common.{[], ◌∷◌, ◌++◌, Option, None, Some, optio
 use Rattle.std.proofs.Common.{sym, subst, ◌∙◌}
 use Rattle.std.specs.Option.{option_eq}
 use Rattle.std.proofs.lemmas.Option.{same_Some}
-use Rattle.usb_port.specs.PortState.{PortState}
+use Rattle.usb_port.specs.{PortState}
 use Rattle.usb_device.specs.declared.answer.Answer.TheVariants as answer
-use Rattle.usb_device.specs.declared.alone.HostSide.{HostSide}
-use Rattle.usb_device.specs.declared.alone.DeviceSide.{DeviceSide}
-use Rattle.usb_device.specs.declared.delivery.Heard.{Heard}
+use Rattle.usb_device.specs.{HostSide, DeviceSide, Heard, Sent, Ports, ended, vacant, taken}
+use Rattle.usb_device.specs.{Plugged, empty, full, before, changed_at, changed, plugged_at}
+use Rattle.usb_device.specs.{device_there, place_at, taken_sent, all_forgotten, heard_of}
+use Rattle.usb_device.specs.{heard_from, both, has_loss, asks_clearing, keeps_others, answer_by}
+use Rattle.usb_device.specs.{effect_by, RefusedBy, forgotten_in, address_by, token_sent, ack_sent}
+use Rattle.usb_device.specs.{after_packet_at, answer_from, asked_from, RefusedFrom, takes_data}
+use Rattle.usb_device.specs.{after_token, after_data, heard_of_both, acknowledges, after_reply}
+use Rattle.usb_device.specs.{side_of, heard_at, side_at, RefusedAt, left_in, cut_in}
 use Rattle.usb_device.specs.declared.delivery.Heard.TheVariants as below
-use Rattle.usb_device.specs.declared.delivery.Sent.{Sent}
-use Rattle.usb_device.specs.Tree.{Ports, ended, vacant, taken, Plugged, Place, empty, full, before}
-use Rattle.usb_device.specs.Tree.{changed_at, changed, plugged_at, device_there, place_at}
-use Rattle.usb_device.specs.Delivery.{taken_sent, all_forgotten, heard_of, heard_from, both}
-use Rattle.usb_device.specs.Delivery.{has_loss, asks_clearing}
-use Rattle.usb_device.specs.Holders.{keeps_others}
-use Rattle.usb_device.specs.Route.{answer_by, effect_by, RefusedBy, forgotten_in, address_by}
-use Rattle.usb_device.specs.AloneAttempts.{token_sent, ack_sent, after_packet_at, answer_from}
-use Rattle.usb_device.specs.AloneAttempts.{asked_from, RefusedFrom, takes_data, after_token}
-use Rattle.usb_device.specs.AloneAttempts.{after_data, heard_of_both, acknowledges, after_reply}
-use Rattle.usb_device.specs.AloneAttempts.{side_of, heard_at, side_at, RefusedAt, left_in, cut_in}
+use Rattle.usb_device.specs.Tree.{Place}
 use Rattle.usb_device.proofs.Interface.{changed_at-twice, heard_of-append, figure-after}
 use Rattle.usb_device.proofs.Interface.{row_of-after}
-use Rattle.usb_world.specs.declared.types.Attempt.{Attempt}
-use Rattle.usb_world.specs.declared.exchange.Exchange.{Exchange}
-use Rattle.usb_world.specs.declared.exchange.ExchangeAnswer.{ExchangeAnswer}
+use Rattle.usb_world.specs.{Attempt, Exchange, ExchangeAnswer, Whole, Outgoing, harm_to, mark_of}
+use Rattle.usb_world.specs.{is_read, marked, marked_some, ack_if, token_of, payload_of}
+use Rattle.usb_world.specs.{answer_place, answer_mark, reply_of, goes_out, token_out, payload_out}
+use Rattle.usb_world.specs.{heard_in, place_of_answer, mark_in, reply_in, reply_out, answered_in}
+use Rattle.usb_world.specs.{is_lost, lost_in, clears_at, cleared_in, exchange_in, ended_in}
+use Rattle.usb_world.specs.{ports_in, StaysPlugged, Exchanged, IsStopped, heard_above, host_side}
+use Rattle.usb_world.specs.{keeps_address, IsCut}
 use Rattle.usb_world.specs.declared.exchange.ExchangeAnswer.TheVariants.{Nothing, One, Collision}
-use Rattle.usb_world.specs.declared.wire.Mark.TheVariants.{Whole}
-use Rattle.usb_world.specs.declared.wire.Outgoing.{Outgoing}
-use Rattle.usb_world.specs.Wire.{harm_to, mark_of, is_read, marked, marked_some}
-use Rattle.usb_tree.specs.AttemptPackets.{IsSettled, after_sent, answers_to, deep_at}
-use Rattle.usb_world.specs.Exchange.{ack_if, token_of, payload_of, answer_place, answer_mark}
-use Rattle.usb_world.specs.Exchange.{reply_of, goes_out, token_out, payload_out, heard_in}
-use Rattle.usb_world.specs.Exchange.{place_of_answer, mark_in, reply_in, reply_out, answered_in}
-use Rattle.usb_world.specs.Exchange.{is_lost, lost_in, clears_at, cleared_in, exchange_in, ended_in}
-use Rattle.usb_world.specs.Exchange.{ports_in}
-use Rattle.usb_world.specs.ExchangeEffects.{StaysPlugged, Exchanged}
-use Rattle.usb_world.specs.CutPackets.{IsStopped}
-use Rattle.usb_world.specs.HeardAnswers.{heard_above}
-use Rattle.usb_world.specs.HostSides.{host_side, keeps_address}
-use Rattle.usb_tree.specs.LonePackets.{Alone, AloneAt, IsQuiet, KeptAt, is_whole_tree, is_deep}
-use Rattle.usb_world.specs.Steps.{IsCut}
+use Rattle.usb_tree.specs.{IsSettled, after_sent, answers_to, deep_at, Alone, AloneAt, IsQuiet}
+use Rattle.usb_tree.specs.{KeptAt, is_whole_tree, is_deep}
 use Rattle.usb_tree.proofs.Interface.{false_true, both as both_true}
 use Rattle.usb_world.proofs.attempts.Exchanges.{heard_all_of, plugged_further, over_plugged}
 use Rattle.usb_world.proofs.attempts.Exchanges.{over_settled}
@@ -142,8 +128,7 @@ after_sent-plugged : (o : Option Sent) (k : Ports) → StaysPlugged k (after_sen
 after_sent-plugged None k = record { row = refl; figure = refl }
 after_sent-plugged (Some q) k = record {
   row = row_of-after q false k;
-  figure =
-      figure-after q false k;
+  figure = figure-after q false k;
 }
 
 -- ---- no damage

@@ -2,39 +2,27 @@
 use Rattle.std.proofs.Common.{◌≡◌, ◌<◌, ℕ, zero, suc, ◌&&◌, ◌||◌, if◌then◌else◌, Bool, true, false}
 use Rattle.std.proofs.Common.{List, [], ◌∷◌, Option, None, Some, is_some, option_map, Result, Ok}
 use Rattle.std.proofs.Common.{Err, OnOk, OnErr, refl, ap, sym, subst, ◌∙◌}
-use Rattle.usb_port.specs.PortState.{PortState}
-use Rattle.usb_device.specs.declared.answer.Answer.{Answer}
-use Rattle.usb_device.specs.declared.delivery.Heard.{Heard}
+use Rattle.usb_port.specs.{PortState}
+use Rattle.usb_device.specs.{Answer, Heard, Sent, State, awaits_address, awaits_control}
+use Rattle.usb_device.specs.{ends_with_address, Stopped, behind_empty, behind, below, here, Ports}
+use Rattle.usb_device.specs.{ended, vacant, taken, Plugged, empty, full, before, acted, changed_at}
+use Rattle.usb_device.specs.{changed, plugged_at, device_there, reach_at, state_at, place_at}
+use Rattle.usb_device.specs.{row_of, listed, held_addresses, repeats, answer_of, effect_of}
+use Rattle.usb_device.specs.{after_packet, delivered_place, delivered_device, on_port, heard_of}
+use Rattle.usb_device.specs.{heard_from, both, all_forgotten, has_loss, asks_clearing}
+use Rattle.usb_device.specs.{clears_change, figure, sent_in, answer_by, RefusedBy, effect_by}
+use Rattle.usb_device.specs.{forgotten_in, holds_by, is_held_at, Holder, holder_of, holder_in}
+use Rattle.usb_device.specs.{IsIndexOf}
 use Rattle.usb_device.specs.declared.delivery.Heard.TheVariants.{NoAnswer}
-use Rattle.usb_device.specs.declared.delivery.Sent.{Sent}
 use Rattle.usb_device.specs.declared.transfer.RememberedPacket.TheVariants.{Nothing}
-use Rattle.usb_device.specs.Rows.{State, awaits_address, awaits_control, ends_with_address}
-use Rattle.usb_device.specs.StoppedPackets.{Stopped, behind_empty, behind, below, here}
-use Rattle.usb_device.specs.Tree.{Ports, ended, vacant, taken, Plugged, Place, empty, full, before}
-use Rattle.usb_device.specs.Tree.{acted, changed_at, changed, plugged_at, device_there, reach_at}
-use Rattle.usb_device.specs.Tree.{state_at, place_at, row_of}
-use Rattle.usb_device.specs.Delivery.{listed, held_addresses, repeats, answer_of, effect_of}
-use Rattle.usb_device.specs.Delivery.{after_packet, delivered_place, delivered_device, on_port}
-use Rattle.usb_device.specs.Delivery.{heard_of, heard_from, both, all_forgotten, has_loss}
-use Rattle.usb_device.specs.Delivery.{asks_clearing, clears_change, figure}
-use Rattle.usb_device.specs.Route.{sent_in, answer_by, RefusedBy, effect_by, forgotten_in, holds_by}
-use Rattle.usb_device.specs.Route.{is_held_at}
-use Rattle.usb_device.specs.declared.holders.Holder.{Holder}
+use Rattle.usb_device.specs.Tree.{Place}
 use Rattle.usb_device.specs.declared.holders.Holder.TheVariants.{Nobody, One, Several}
 use Rattle.usb_device.specs.declared.holders.Holders.{Holders}
-use Rattle.usb_device.specs.Holders.{holder_of}
-use Rattle.usb_device.specs.HolderIndex.{holder_in, IsIndexOf}
 use Rattle.usb_device.proofs.Interface.{figure-after, one_is_held, row_of-after}
-use Rattle.usb_world.specs.declared.types.Attempt.{Attempt}
-use Rattle.usb_world.specs.declared.damage.Damage.{Damage}
-use Rattle.usb_tree.specs.Paths.{address_of}
-use Rattle.usb_tree.specs.AttemptPackets.{after_sent, answers_to, deep_at, IfOut, IsTokenFor}
-use Rattle.usb_tree.specs.AttemptPackets.{IsDataOut, IsAckOut, IsSettled}
-use Rattle.usb_world.specs.Exchange.{token_out, clears_at}
-use Rattle.usb_world.specs.CutPackets.{IsStopped}
-use Rattle.usb_world.specs.Route.{holder_path, way_in}
-use Rattle.usb_tree.specs.LonePackets.{OthersForgot, Alone, AloneAt, IsWayTo, is_whole_tree}
-use Rattle.usb_tree.specs.LonePackets.{is_deep}
+use Rattle.usb_world.specs.{Attempt, Damage, token_out, clears_at, IsStopped, holder_path, way_in}
+use Rattle.usb_tree.specs.{address_of, after_sent, answers_to, deep_at, IfOut, IsTokenFor}
+use Rattle.usb_tree.specs.{IsDataOut, IsAckOut, IsSettled, OthersForgot, Alone, AloneAt, IsWayTo}
+use Rattle.usb_tree.specs.{is_whole_tree, is_deep}
 use Rattle.usb_tree.proofs.Interface.{false_true, both as both_true, and_of, or_nothing}
 use Rattle.usb_world.proofs.packets.PacketEffects.{true_deep}
 use Rattle.usb_world.proofs.packets.AttemptPackets.{rested_answer, ack_calls}
@@ -60,8 +48,7 @@ others_packet q deep (vacant b k) (suc j) p h c =
 others_packet q deep (taken b s a k) zero [] h c =
     rw (
       h,
-      rest_packet q true a (λ i e t f on. c zero (suc i ∷ e) t refl f
-          (and_of b.enable _ h on)),
+      rest_packet q true a (λ i e t f on. c zero (suc i ∷ e) t refl f (and_of b.enable _ h on)),
       rest_packet q deep k (λ i e t f on. c (suc i) e t refl f on),
     )
     refl
@@ -97,8 +84,7 @@ others_packet q deep (taken b s a k) (suc j) p h c =
         rw (
           rested_answer q deep s a rest.0 rest.1,
           rested_effect q deep s rest.0,
-          rest_packet q true a (λ i x t f on. c zero (suc i ∷ x) t refl f
-              (and_of b.enable _ e on)),
+          rest_packet q true a (λ i x t f on. c zero (suc i ∷ x) t refl f (and_of b.enable _ e on)),
           ih,
         ) refl
     split false e ih = ap (taken b s a) ih
@@ -149,8 +135,7 @@ others_clear q deep (taken b s a k) zero [] h c =
     rw (
       h,
       rest_clears q true a (λ i e t f. c zero (suc i ∷ e) t refl f),
-      rest_clears q deep k
-          (λ i e t f. c (suc i) e t refl f),
+      rest_clears q deep k (λ i e t f. c (suc i) e t refl f),
     ) (twice (asks_clearing (effect_of q deep s)))
   where
     twice : (x : Bool) → ((x || false) || false) ≡ x
@@ -162,20 +147,16 @@ others_clear q deep (taken b s a k) zero (suc j ∷ p) h c =
     rw (
       on.0,
       rested_effect q deep s (c zero [] s refl refl),
-      others_clear q true a j p on.1
-          (λ i e t d f. c zero (suc i ∷ e) t d f),
-      rest_clears q deep k
-          (λ i e t f. c (suc i) e t refl f),
+      others_clear q true a j p on.1 (λ i e t d f. c zero (suc i ∷ e) t d f),
+      rest_clears q deep k (λ i e t f. c (suc i) e t refl f),
       true_deep p,
     )
     (or_nothing (asks_clearing (effect_by q true (plugged_at a j p))))
 others_clear q deep (taken b s a k) (suc j) p h c =
     rw (
       rested_effect q deep s (c zero [] s refl refl),
-      rest_clears q true a
-          (λ i e t f. c zero (suc i ∷ e) t refl f),
-      others_clear q deep k j p h
-          (λ i e. c (suc i) e),
+      rest_clears q true a (λ i e t f. c zero (suc i ∷ e) t refl f),
+      others_clear q deep k j p h (λ i e. c (suc i) e),
     ) (first b.enable
     (asks_clearing (effect_by q (deep_at deep p) (plugged_at k j p))))
   where
@@ -214,8 +195,7 @@ others_forget (taken b s a k) zero (suc j ∷ p) h c =
     let on : _ = both_true b.enable (reach_at a j p) h in
     rw (
       forgotten-nothing s (c zero [] s refl refl),
-      others_forget a j p on.1
-          (λ i e t d f. c zero (suc i ∷ e) t d f),
+      others_forget a j p on.1 (λ i e t d f. c zero (suc i ∷ e) t d f),
       rest_forget k (λ i e t f. c (suc i) e t refl f),
     )
     refl
@@ -223,8 +203,7 @@ others_forget (taken b s a k) (suc j) p h c =
     rw (
       forgotten-nothing s (c zero [] s refl refl),
       rest_forget a (λ i e t f. c zero (suc i ∷ e) t refl f),
-      others_forget k j p h
-          (λ i e. c (suc i) e),
+      others_forget k j p h (λ i e. c (suc i) e),
     ) refl
 
 pub rest_awaits : (s : State) → s.memory ≡ Nothing → awaits_address s ≡ false
@@ -266,8 +245,7 @@ others_loss (taken b s a k) zero (suc j ∷ p) h c =
     let on : _ = both_true b.enable (reach_at a j p) h in
     rw (
       rest_awaits s (c zero [] s refl refl),
-      others_loss a j p on.1
-          (λ i e t d f. c zero (suc i ∷ e) t d f),
+      others_loss a j p on.1 (λ i e t d f. c zero (suc i ∷ e) t d f),
       rest_loss k (λ i e t f. c (suc i) e t refl f),
     )
     (or_nothing (loss_by (plugged_at a j p)))
@@ -403,8 +381,7 @@ alone_less o k (zero ∷ p) h = h
 alone_less o k (suc j ∷ p) h = record {
   on = h.on;
   forgot = h.forgot;
-  uncalled =
-      λ q e i x t d f on. false_true (ap is_some e);
+  uncalled = λ q e i x t d f on. false_true (ap is_some e);
 }
 
 pub alone_sent : (o : Option Sent) (k : Ports) (p : List ℕ) → AloneAt o k p
@@ -417,8 +394,7 @@ alone_sent o k (suc j ∷ p) h =
     record {
       on = x.on;
       forgot = x.forgot;
-      uncalled =
-          λ q e i x t d f on. false_true (ap is_some e);
+      uncalled = λ q e i x t d f on. false_true (ap is_some e);
     }
 
 pub alone_after : {A E : Type 0} (r : Result A E) (o : Option Sent) (k m : Ports) (p : List ℕ)
@@ -454,8 +430,7 @@ alone_data o k (zero ∷ p) h is = h
 alone_data o k (suc j ∷ p) h is = record {
   on = h.on;
   forgot = h.forgot;
-  uncalled =
-      λ q e i x t d f on. payload_calls q.content t (subst (IfOut IsDataOut) e is);
+  uncalled = λ q e i x t d f on. payload_calls q.content t (subst (IfOut IsDataOut) e is);
 }
 
 pub alone_ack : (o : Option Sent) (k : Ports) (p : List ℕ) → AloneAt None k p → IfOut IsAckOut o
@@ -465,8 +440,7 @@ alone_ack o k (zero ∷ p) h is = h
 alone_ack o k (suc j ∷ p) h is = record {
   on = h.on;
   forgot = h.forgot;
-  uncalled =
-      λ q e i x t d f on. ack_calls q.content t (subst (IfOut IsAckOut) e is);
+  uncalled = λ q e i x t d f on. ack_calls q.content t (subst (IfOut IsAckOut) e is);
 }
 
 pub alone_token : (a : Attempt) (d : Option Damage) (k : Ports) (p : List ℕ) → IsSettled k

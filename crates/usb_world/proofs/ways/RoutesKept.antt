@@ -5,27 +5,21 @@ use Rattle.std.proofs.Common.{ap, ap₂, sym, subst, ◌∙◌}
 use Rattle.std.proofs.lemmas.Option.{same_Some}
 use Rattle.std.specs.Option.{option_eq}
 use Rattle.arrayvec.specs.ArrayVec.{ArrayVec}
-use Rattle.usb_port.specs.PortState.{PortState}
-use Rattle.usb_device.specs.declared.delivery.Sent.{Sent}
-use Rattle.usb_device.specs.declared.effect.Effect.TheVariants.{Leaves}
-use Rattle.usb_device.specs.Rows.{State, forgotten}
-use Rattle.usb_device.specs.Tree.{Ports, ended, vacant, taken, Place, empty, full, before, acted}
-use Rattle.usb_device.specs.Tree.{put, changed, changed_at, changed_in, device_there, plugged_at}
-use Rattle.usb_device.specs.Tree.{reach_at, place_at, Location, state_at}
-use Rattle.usb_device.specs.Delivery.{answer_of, all_forgotten}
-use Rattle.usb_device.specs.Holders.{path_below, reached, all_reached, ReachedSame, keeps_others}
-use Rattle.usb_device.specs.HolderIndex.{IsIndexOf, IsIndexWithout}
+use Rattle.usb_port.specs.{PortState}
+use Rattle.usb_device.specs.{Sent, Leaves, State, forgotten, Ports, ended, vacant, taken, empty}
+use Rattle.usb_device.specs.{full, before, acted, put, changed, changed_at, changed_in}
+use Rattle.usb_device.specs.{device_there, plugged_at, reach_at, place_at, Location, state_at}
+use Rattle.usb_device.specs.{answer_of, all_forgotten, path_below, reached, all_reached}
+use Rattle.usb_device.specs.{ReachedSame, keeps_others, IsIndexOf, IsIndexWithout, sent_in}
+use Rattle.usb_device.specs.{effect_by, forgotten_in, address_by}
+use Rattle.usb_device.specs.Tree.{Place}
 use Rattle.usb_device.specs.declared.holders.Holders.{Holders}
-use Rattle.usb_device.specs.Route.{sent_in, effect_by, forgotten_in, address_by}
 use Rattle.usb_device.proofs.Interface.{changed_at-port, changed_at-same, changed_at-twice}
 use Rattle.usb_device.proofs.Interface.{changed_at-zero, index_around, reached-acted, reached-both}
 use Rattle.usb_device.proofs.Interface.{same_index}
-use Rattle.usb_world.specs.declared.types.Attempt.{Attempt}
-use Rattle.usb_world.specs.declared.damage.Damage.{Damage}
-use Rattle.usb_tree.specs.Paths.{address_of}
-use Rattle.usb_tree.specs.AttemptPackets.{after_sent, deep_at, IsSettled}
-use Rattle.usb_world.specs.Exchange.{token_out, payload_out, reply_out, ended_in, ports_in}
-use Rattle.usb_tree.specs.LonePackets.{Alone, is_whole_tree, IsWayTo, without_port, IsQuiet, KeptAt}
+use Rattle.usb_world.specs.{Attempt, Damage, token_out, payload_out, reply_out, ended_in, ports_in}
+use Rattle.usb_tree.specs.{address_of, after_sent, deep_at, IsSettled, Alone, is_whole_tree}
+use Rattle.usb_tree.specs.{IsWayTo, without_port, IsQuiet, KeptAt}
 use Rattle.usb_tree.proofs.Interface.{false_true, both}
 use Rattle.usb_world.proofs.packets.AttemptPackets.{token_out as token_calm, ack_out as ack_calm}
 use Rattle.usb_world.proofs.holders.OneDevice.{stands, state_stands}

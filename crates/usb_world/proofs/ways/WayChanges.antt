@@ -1,17 +1,13 @@
 -- A change at a place: a way that does not lead there stays. One walk answers all that is asked.
 use Rattle.std.proofs.Common.{◌≡◌, ℕ, zero, suc, ◌&&◌, ◌||◌, false, List, [], ◌∷◌}
 use Rattle.std.proofs.Common.{not, true, refl, ap, sym}
-use Rattle.usb_port.specs.PortState.{PortState}
-use Rattle.usb_port.specs.declared.call.PortCall.{PortCall}
-use Rattle.usb_device.specs.Rows.{State}
-use Rattle.usb_device.specs.Tree.{Ports, ended, vacant, taken, Place, empty, full, before}
-use Rattle.usb_device.specs.Tree.{changed_at}
-use Rattle.usb_device.specs.Tree.{called, reach_at, state_at, port_at}
-use Rattle.usb_device.specs.Tree.{changed, reach}
-use Rattle.usb_device.specs.View.{port_there, state_there}
-use Rattle.usb_world.specs.PortRequests.{root_leaves}
-use Rattle.usb_world.specs.Steps.{way_of}
-use Rattle.usb_tree.specs.Paths.{has_power_at, pending_at, is_way, on_way, same_number}
+use Rattle.usb_port.specs.{PortState, PortCall}
+use Rattle.usb_device.specs.{State, Ports, ended, vacant, taken, empty, full, before, changed_at}
+use Rattle.usb_device.specs.{called, reach_at, state_at, port_at, changed, reach, port_there}
+use Rattle.usb_device.specs.{state_there}
+use Rattle.usb_device.specs.Tree.{Place}
+use Rattle.usb_world.specs.{root_leaves, way_of}
+use Rattle.usb_tree.specs.{has_power_at, pending_at, is_way, on_way, same_number}
 use Rattle.usb_tree.proofs.Interface.{false_true, not-true}
 
 -- the ports on the way to a path are what they were: it is reached, live and pending as it was, and

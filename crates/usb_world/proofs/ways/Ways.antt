@@ -6,22 +6,17 @@ use Rattle.std.proofs.Common.{slice_get, nat_eq}
 use Rattle.std.specs.Cmp.Lexicographic.{pointwise, same_text, bytes_decides}
 use Rattle.std.specs.List.{starts_with}
 use Rattle.std.proofs.lemmas.Bool.{eqb-true, eq-eqb}
-use Rattle.usb_port.specs.Order.{is_below as is_port_below, parent_of, port_on_hub}
+use Rattle.usb_port.specs.{is_below as is_port_below, parent_of, port_on_hub}
 use Rattle.usb_port.proofs.Interface.{is_below-extension, rejoined}
-use Rattle.usb_device.specs.Spec.{Spec}
-use Rattle.usb_device.specs.Tree.{Ports, ended, vacant, taken, reach, reach_at}
-use Rattle.usb_world.specs.declared.event.Action.{Action}
+use Rattle.usb_device.specs.{Spec, Ports, ended, vacant, taken, reach, reach_at}
+use Rattle.usb_world.specs.{Action, Plug, Unplug, Event, NoneNames, Undisturbed, names_path, way_of}
+use Rattle.usb_world.specs.{World}
 use Rattle.usb_world.specs.declared.event.Action.TheVariants.{Change, Ask}
-use Rattle.usb_world.specs.declared.event.Change.TheVariants.{Plug, Unplug}
-use Rattle.usb_world.specs.declared.event.Event.{Event}
-use Rattle.usb_world.specs.Courses.{NoneNames, Undisturbed}
-use Rattle.usb_tree.specs.Paths.{is_way, same_path, same_number}
-use Rattle.usb_world.specs.Steps.{names_path, way_of}
-use Rattle.usb_world.specs.World.{World}
+use Rattle.usb_tree.specs.{is_way, same_number}
 use Rattle.usb_world.proofs.ports.RootResets.{same_number-is}
 use Rattle.usb_tree.proofs.Interface.{false_true, both, or_left, or_right, either_of, same_bools}
 use Rattle.usb_tree.proofs.Interface.{and_kept}
-use Rattle.usb_tree.proofs.Interface.{self_number, self_path}
+use Rattle.usb_tree.proofs.Interface.{self_number}
 
 -- a way goes on to the path
 pub way_rest : (p x : List ℕ) → is_way p x ≡ true → (rest : List ℕ) × (x ≡ p ++ rest)
@@ -84,12 +79,6 @@ pub at_or_below_way : (x p : List ℕ) → (pointwise nat_eq x p || is_port_belo
 at_or_below_way x p =
     same_bools (pointwise nat_eq x p || is_port_below x p) (is_way p x) (below_rest x p)
     (λ h. let rest = way_rest p x h in rest_below x p rest.0 rest.1)
-
-is_port_below-longer : (x p rest : List ℕ) → x ≡ p ++ rest → not (same_path p x) ≡ true
-    → is_port_below x p ≡ true
-is_port_below-longer x p [] e h = false_true
-    (sym (ap (λ (l : List ℕ). not (same_path p l)) (e ∙ append-nil p) ∙ ap not (self_path p)) ∙ h)
-is_port_below-longer x p (n ∷ rest) e h = (is_below-extension x p).1 (n ∷ rest, e, omega arith)
 
 -- Above
 
@@ -171,7 +160,6 @@ pub undisturbed_on_way : (x p : List ℕ) (w v : World) → is_way x p ≡ true 
 undisturbed_on_way x p w v on u = record {
   events = u.events;
   split = u.split;
-  silent =
-      none_above w.devices u.events x p on u.silent;
+  silent = none_above w.devices u.events x p on u.silent;
   devices = u.devices;
 }

@@ -1,5 +1,5 @@
 use Rattle.std.proofs.Common.{ℕ, List, Bor, ap, flat_map}
-use Rattle.usb_bus.specs.Watch.{has_failed, known_text}
+use Rattle.usb_bus.specs.{has_failed, known_text}
 use Rattle.usb_bus.proofs.Fronts.{puts_then}
 use Rattle.usb_bus.proofs.watched.+put_each.Goals as goal
 

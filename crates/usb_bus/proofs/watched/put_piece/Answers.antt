@@ -12,8 +12,7 @@ parts-preserved g c =
       gone = (
         done ++ take n rest,
         moves_front _ done rest n split,
-        Appends-trans _ _ _ _ _ appended
-            c.in-Ok.ensures.bytes,
+        Appends-trans _ _ _ _ _ appended c.in-Ok.ensures.bytes,
       );
       unmarked = unmarked_by _ _ n _ c.in-Ok.ensures.mark c.in-Ok.n-test.1
           ∙ c.parts.invariant.unmarked;

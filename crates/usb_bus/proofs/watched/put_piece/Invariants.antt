@@ -1,6 +1,6 @@
 use Rattle.std.proofs.Common.{◌≡◌, ℕ, List, ◌++◌, length}
 use Rattle.std.specs.Io.KnownBytes.{Appends}
-use Rattle.usb_bus.specs.Watch.{inner_of, has_failed}
+use Rattle.usb_bus.specs.{inner_of, has_failed}
 use Rattle.usb_bus.proofs.watched.put_piece.Given as goal
 
 -- what is gone from the piece has been appended

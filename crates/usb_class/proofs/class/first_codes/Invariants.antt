@@ -1,6 +1,6 @@
 use Rattle.std.proofs.Common.{◌≡◌}
-use Rattle.usb_descriptor.specs.Item.{items_of}
-use Rattle.usb_class.specs.Classes.{first_codes}
+use Rattle.usb_descriptor.specs.{items_of}
+use Rattle.usb_class.specs.{first_codes}
 use Rattle.usb_class.proofs.class.first_codes.Given as goal
 
 abbrev pub invariant-loop-item : goal.invariant-loop-item

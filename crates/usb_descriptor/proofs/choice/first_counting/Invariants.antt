@@ -1,7 +1,5 @@
 use Rattle.std.proofs.Common.{◌≡◌}
-use Rattle.usb_descriptor.specs.Item.{items_of}
-use Rattle.usb_descriptor.specs.Choice.{first_counting, first_from}
-use Rattle.usb_descriptor.specs.Pick.{pick_of}
+use Rattle.usb_descriptor.specs.{items_of, first_counting, first_from, pick_of}
 use Rattle.usb_descriptor.proofs.choice.first_counting.Given as goal
 
 abbrev pub invariant-loop-item : goal.invariant-loop-item

@@ -1,6 +1,6 @@
 use Rattle.std.proofs.Common.{◌≡◌, ◌||◌, false, ap, sym, ◌∙◌}
-use Rattle.usb_device.specs.Holders.{reached_at_path, meets_again}
-use Rattle.usb_device.proofs.PartedIndexes.{noted_shared}
+use Rattle.usb_device.specs.{reached_at_path, meets_again}
+use Rattle.usb_device.proofs.places.PartedIndexes.{noted_shared}
 use Rattle.usb_device.proofs.holders.index_with.Goals as goal
 
 pub returns-else-shared-clause-shared : goal.returns-else-shared-clause-shared

@@ -1,5 +1,5 @@
 use Rattle.std.proofs.Common.{◌≡◌, [], Some, take}
-use Rattle.usb_device.specs.Holders.{path_further}
+use Rattle.usb_device.specs.{path_further}
 use Rattle.usb_device.proofs.holders.path_of.Given as goal
 
 abbrev pub invariant-numbers : goal.invariant-numbers

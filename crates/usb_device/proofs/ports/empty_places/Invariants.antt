@@ -1,6 +1,5 @@
 use Rattle.std.proofs.Common.{◌≡◌}
-use Rattle.usb_device.specs.Tree.{new_ports}
-use Rattle.usb_device.specs.Places.{ports_kept}
+use Rattle.usb_device.specs.{new_ports, ports_kept}
 use Rattle.usb_device.proofs.ports.empty_places.Given as goal
 
 abbrev pub invariant-places : goal.invariant-places

@@ -1,7 +1,7 @@
 use Rattle.std.proofs.Common.{◌≡◌, ℕ, ◌+◌, ◌<◌, ◌≤◌, Option, Some, map, get_or, length, List, Bor}
 use Rattle.std.proofs.Common.{sym, subst, ◌∙◌, arith}
 use Rattle.std.proofs.lemmas.List.{get_or-map, length-map}
-use Rattle.usb_diagnosis.specs.Nearest.{edits_between}
+use Rattle.usb_diagnosis.specs.{edits_between}
 use Rattle.usb_diagnosis.proofs.BestSoFar.{BestSoFar, best_kept, best_found, best_of_all}
 use Rattle.usb_diagnosis.proofs.nearest.nearest.Goals.{then-edits-fewest, else-edits-fewest}
 use Rattle.usb_diagnosis.proofs.nearest.nearest.Goals as goal

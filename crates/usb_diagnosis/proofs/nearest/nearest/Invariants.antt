@@ -1,5 +1,5 @@
 use Rattle.std.proofs.Common.{map, get_or}
-use Rattle.usb_diagnosis.specs.Nearest.{edits_between}
+use Rattle.usb_diagnosis.specs.{edits_between}
 use Rattle.usb_diagnosis.proofs.BestSoFar.{BestSoFar}
 use Rattle.usb_diagnosis.proofs.nearest.nearest.Given as goal
 

@@ -1,6 +1,6 @@
 use Rattle.std.proofs.Common.{◌≡◌, ◌+◌, ◌≤◌, take}
 use Rattle.std.specs.List.{fold}
-use Rattle.usb_diagnosis.specs.Place.{behind}
+use Rattle.usb_diagnosis.specs.{behind}
 use Rattle.usb_diagnosis.proofs.place.behind_all.Given as goal
 
 -- the line and the column behind the bytes so far, of which there are no fewer

@@ -1,5 +1,5 @@
 use Rattle.std.proofs.Common.{◌≡◌, ◌++◌, flat_map, take, string_bytes}
-use Rattle.usb_diagnosis.specs.Shown.{char_shown}
+use Rattle.usb_diagnosis.specs.{char_shown}
 use Rattle.usb_diagnosis.proofs.shown.push_letters.Given as goal
 
 -- the letters so far are written

@@ -1,5 +1,5 @@
 use Rattle.std.proofs.Common.{◌≡◌, ◌++◌}
-use Rattle.usb_drawing.specs.Art.{trunks}
+use Rattle.usb_drawing.specs.{trunks}
 use Rattle.usb_drawing.proofs.art.push_trunks.Given as goal
 
 -- the trunks of the levels so far are written

@@ -1,7 +1,7 @@
 use Rattle.std.proofs.Common.{refl}
-use Rattle.usb_bus.specs.Watch.{inner_of}
+use Rattle.usb_bus.specs.{inner_of}
 use Rattle.usb_run.proofs.Interface.{at_fault}
-use Rattle.usb_drawing.specs.DrawnRuns.{IsDrawn, of_plan, unread}
+use Rattle.usb_drawing.specs.{IsDrawn, of_plan, unread}
 use Rattle.usb_drawing.proofs.drawing.draw.Goals as goal
 
 pub returns-in_err-plan-clause-drawn : goal.returns-in_err-plan-clause-drawn

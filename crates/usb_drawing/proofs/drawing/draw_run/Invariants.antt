@@ -1,6 +1,6 @@
 use Rattle.std.proofs.Common.{◌≡◌}
-use Rattle.usb_bus.specs.Watch.{inner_of, has_failed}
-use Rattle.usb_run.specs.Run.{items_left}
+use Rattle.usb_bus.specs.{inner_of, has_failed}
+use Rattle.usb_run.specs.{items_left}
 use Rattle.usb_drawing.proofs.DrawnItems.{DrawnSoFar}
 use Rattle.usb_drawing.proofs.drawing.draw_run.Given as goal
 

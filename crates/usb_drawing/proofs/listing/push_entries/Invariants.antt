@@ -1,5 +1,5 @@
 use Rattle.std.proofs.Common.{◌≡◌, ◌++◌, length}
-use Rattle.usb_drawing.specs.Drawings.{deepest, drawn_entries}
+use Rattle.usb_drawing.specs.{deepest, drawn_entries}
 use Rattle.usb_drawing.proofs.listing.push_entries.Given as goal
 
 -- the lines of all entries but the rest are written

@@ -1,5 +1,5 @@
 use Rattle.std.proofs.Common.{◌≡◌, ◌++◌}
-use Rattle.usb_drawing.specs.Drawings.{gap}
+use Rattle.usb_drawing.specs.{gap}
 use Rattle.usb_drawing.proofs.listing.push_gap.Given as goal
 
 abbrev pub invariant-levels : goal.invariant-levels

@@ -1,6 +1,6 @@
 use Rattle.std.proofs.Common.{◌≡◌, ◌++◌, flat_map}
-use Rattle.usb_descriptor.specs.Item.{items_of}
-use Rattle.usb_entry.specs.Text.{item_line}
+use Rattle.usb_descriptor.specs.{items_of}
+use Rattle.usb_entry.specs.{item_line}
 use Rattle.usb_entry.proofs.item.push_items.Given as goal
 
 -- the lines of the items so far are written

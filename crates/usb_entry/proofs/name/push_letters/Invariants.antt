@@ -1,5 +1,5 @@
 use Rattle.std.proofs.Common.{◌≡◌, ◌++◌, flat_map, take}
-use Rattle.usb_entry.specs.Text.{char_text}
+use Rattle.usb_entry.specs.{char_text}
 use Rattle.usb_entry.proofs.name.push_letters.Given as goal
 
 -- the letters so far are written

@@ -1,6 +1,6 @@
 use Rattle.std.proofs.Common.{◌+◌, ◌<◌, ◌++◌, ◌∷◌, [], sym, arith, subst, length}
 use Rattle.std.proofs.lemmas.Result.{err_from_is_err_and}
-use Rattle.usb_descriptor.specs.Device.{configuration_count}
+use Rattle.usb_descriptor.specs.{configuration_count}
 use Rattle.usb_entry.proofs.Readings.{next_fault, read_so_far_zero, read_so_far_more, ReadSoFar}
 use Rattle.usb_entry.proofs.reading.entry_of.Goals as goal
 

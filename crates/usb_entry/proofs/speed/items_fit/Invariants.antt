@@ -1,6 +1,6 @@
 use Rattle.std.proofs.Common.{◌≡◌}
-use Rattle.usb_descriptor.specs.Item.{items_of}
-use Rattle.usb_entry.specs.Speed.{items_fit}
+use Rattle.usb_descriptor.specs.{items_of}
+use Rattle.usb_entry.specs.{items_fit}
 use Rattle.usb_entry.proofs.speed.items_fit.Given as goal
 
 abbrev pub invariant-loop-item : goal.invariant-loop-item

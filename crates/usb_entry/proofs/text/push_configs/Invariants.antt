@@ -1,5 +1,5 @@
 use Rattle.std.proofs.Common.{◌≡◌, ◌++◌, flat_map, take}
-use Rattle.usb_entry.specs.Text.{configuration_lines}
+use Rattle.usb_entry.specs.{configuration_lines}
 use Rattle.usb_entry.proofs.text.push_configs.Given as goal
 
 -- the lines of the configurations so far are written

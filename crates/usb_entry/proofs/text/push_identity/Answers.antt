@@ -1,7 +1,7 @@
 use Rattle.std.proofs.Common.{◌++◌}
 use Rattle.std.specs.Prelude.{codes}
-use Rattle.usb_entry.specs.Speed.{is_taken_low}
-use Rattle.usb_entry.specs.Text.{descriptor_line, head_line, identity_lines, name_line, speed_line}
+use Rattle.usb_entry.specs.{is_taken_low, descriptor_line, head_line, identity_lines, name_line}
+use Rattle.usb_entry.specs.{speed_line}
 use Rattle.usb_entry.proofs.Pieces.{last_one, pieces_more}
 use Rattle.usb_entry.proofs.text.push_identity.Goals as goal
 

@@ -1,12 +1,9 @@
-use Rattle.usb_enum.specs.Stop.{IsPlainStop}
+use Rattle.usb_enum.specs.{IsPlainStop, Memory, configuration_bound, DeviceFact, AtMaximum}
+use Rattle.usb_enum.specs.{HasConfigurations, any_has_value, TextRead, none_yet}
+use Rattle.usb_enum.specs.{one_more as one_more_text, repeated}
 use Rattle.std.proofs.Common.{◌≡◌, ◌∙◌, ◌+◌, ℕ, [], false, true, ap, arith, length, subst, sym}
 use Rattle.std.proofs.lemmas.Grind.{common_steps}
-use Rattle.usb_enum.specs.declared.fault.EnumFault.TheVariants.{Memory}
 use Rattle.usb_enum.specs.declared.stop.Stop.TheVariants.{Fault}
-use Rattle.usb_enum.specs.Bounds.{configuration_bound}
-use Rattle.usb_enum.specs.LearnedFacts.{DeviceFact}
-use Rattle.usb_enum.specs.Readings.{AtMaximum, HasConfigurations}
-use Rattle.usb_enum.specs.Text.{any_has_value}
 use Rattle.usb_enum.proofs.refusals.ConfigRefusals.{reading_failed, reading_refused}
 use Rattle.usb_enum.proofs.refusals.ConfigRefusals.{repeated_refused}
 use Rattle.usb_enum.proofs.Parts.{asking, part_fails, steps_again, steps_more, steps_none}
@@ -17,7 +14,6 @@ use Rattle.usb_enum.proofs.refusals.Refusals.{handed_match}
 use Rattle.usb_enum.proofs.readings.TextLengths.{texts_ended, texts_failed, texts_read_more}
 use Rattle.usb_enum.proofs.readings.TextLengths.{texts_none}
 use Rattle.usb_enum.proofs.readings.Values.{values_differ-push}
-use Rattle.usb_enum.specs.Reasons.{TextRead, none_yet, one_more as one_more_text, repeated}
 use Rattle.usb_enum.proofs.courses.LastRequests.{leads_none, leads_went}
 use Rattle.usb_enum.proofs.stops.Reasons.{told_after}
 use Rattle.usb_enum.proofs.configurations.read_configurations.Goals as goal

@@ -1,11 +1,6 @@
 use Rattle.std.proofs.Common.{◌≡◌, ◌*◌, length, true}
-use Rattle.usb_enum.specs.Bounds.{configuration_bound}
-use Rattle.usb_enum.specs.Frames.{OnlyAsks}
-use Rattle.usb_enum.specs.LearnedFacts.{DeviceFact}
-use Rattle.usb_enum.specs.Parts.{KeepingSteps}
-use Rattle.usb_enum.specs.Readings.{AtMaximum, HasConfigurations}
-use Rattle.usb_enum.specs.Text.{ValuesDiffer}
-use Rattle.usb_enum.specs.Reasons.{TextsAsked}
+use Rattle.usb_enum.specs.{configuration_bound, OnlyAsks, DeviceFact, KeepingSteps, AtMaximum}
+use Rattle.usb_enum.specs.{HasConfigurations, ValuesDiffer, TextsAsked}
 use Rattle.usb_enum.proofs.readings.TextLengths.{TextsRead}
 use Rattle.usb_enum.proofs.configurations.read_configurations.Given as goal
 

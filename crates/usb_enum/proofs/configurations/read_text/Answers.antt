@@ -1,11 +1,8 @@
 use Rattle.usb_enum.proofs.stops.PlainStops.{answered_plain}
-use Rattle.usb_enum.specs.Stop.{IsPlainStop}
+use Rattle.usb_enum.specs.{IsPlainStop, TextRead, bad_text, AtMaximum, HasTotal, config_fault}
+use Rattle.usb_enum.specs.{Refuses, Stalled}
 use Rattle.std.proofs.Common.{◌∙◌, List, ℕ, arith, refl, subst, sym}
-use Rattle.usb_hub.specs.GivenAnswers.{config_given}
-use Rattle.usb_enum.specs.Reasons.{TextRead, bad_text}
-use Rattle.usb_enum.specs.Readings.{AtMaximum, HasTotal}
-use Rattle.usb_enum.specs.Verdicts.{config_fault}
-use Rattle.usb_enum.specs.Refusals.{Refuses}
+use Rattle.usb_hub.specs.{config_given}
 use Rattle.usb_enum.proofs.refusals.ConfigRefusals.{config_refused, text_refused}
 use Rattle.usb_enum.proofs.Parts.{asking, part_fails, steps_asked, steps_then, steps_wider}
 use Rattle.usb_enum.proofs.readings.Readings.{configuration_learned, good_bytes}
@@ -13,7 +10,6 @@ use Rattle.usb_enum.proofs.refusals.Refusals.{explains_on}
 use Rattle.usb_enum.proofs.readings.TextLengths.{config_there, head_unread, text_malformed}
 use Rattle.usb_enum.proofs.readings.TextLengths.{text_unread, text_was_read}
 use Rattle.usb_enum.proofs.stops.ToldFailures.{handed_on}
-use Rattle.usb_enum.specs.declared.cause.Cause.TheVariants.{Stalled}
 use Rattle.usb_enum.specs.declared.cause.Request.TheVariants.{Config}
 use Rattle.usb_enum.proofs.courses.LastRequests.{leads_went}
 use Rattle.usb_enum.proofs.stops.Reasons.{read_stop_told, reading_after, told_after, was_read}

@@ -1,15 +1,13 @@
 use Rattle.usb_enum.proofs.stops.PlainStops.{answered_plain}
-use Rattle.usb_enum.specs.Stop.{IsPlainStop}
+use Rattle.usb_enum.specs.{IsPlainStop, bad_total, Stalled}
 use Rattle.std.proofs.Common.{◌∙◌, ap, refl, sym}
-use Rattle.usb_descriptor.specs.Config.{config_head_of}
-use Rattle.usb_enum.specs.Reasons.{bad_total}
-use Rattle.usb_hub.specs.GivenAnswers.{config_given}
+use Rattle.usb_descriptor.specs.{config_head_of}
+use Rattle.usb_hub.specs.{config_given}
 use Rattle.usb_enum.proofs.refusals.ConfigRefusals.{config_refused, total_refused}
 use Rattle.usb_enum.proofs.Parts.{part_fails, steps_asked}
 use Rattle.usb_enum.proofs.readings.Readings.{total_learned}
 use Rattle.usb_enum.proofs.refusals.Refusals.{handed_match}
 use Rattle.usb_enum.proofs.readings.TextLengths.{config_there}
-use Rattle.usb_enum.specs.declared.cause.Cause.TheVariants.{Stalled}
 use Rattle.usb_enum.specs.declared.cause.Request.TheVariants.{Config}
 use Rattle.usb_enum.proofs.stops.Reasons.{read_stop_told, was_read}
 use Rattle.usb_enum.proofs.configurations.total_length.Goals as goal

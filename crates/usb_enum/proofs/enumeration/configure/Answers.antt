@@ -1,16 +1,12 @@
-use Rattle.usb_enum.specs.Device.{IsStarted}
-use Rattle.usb_enum.specs.declared.cause.Cause.TheVariants.{Stalled}
+use Rattle.usb_enum.specs.{IsStarted, Stalled, FitsStop, Memory, DeviceFact, AtMaximum}
+use Rattle.usb_enum.specs.{HasConfigurations, configured_fault, configured_by, texts_bound}
+use Rattle.usb_enum.specs.{CauseAllowedAtStart, lacks_power, ReadsStrings}
 use Rattle.usb_enum.proofs.stops.PlainStops.{answered_plain, deep_stop_fits, hub_stop_fits}
 use Rattle.usb_enum.proofs.stops.PlainStops.{plain_stop_fits}
-use Rattle.usb_enum.specs.Stop.{FitsStop}
 use Rattle.std.proofs.Common.{◌∙◌, ℕ, [], ap, arith, refl, slice_index_or, subst, sym}
 use Rattle.std.proofs.lemmas.List.{get_or_read}
-use Rattle.usb_descriptor.specs.Config.{configuration_value}
-use Rattle.usb_enum.specs.declared.fault.EnumFault.TheVariants.{Memory}
+use Rattle.usb_descriptor.specs.{configuration_value}
 use Rattle.usb_enum.specs.declared.stop.Stop.TheVariants.{Fault}
-use Rattle.usb_enum.specs.LearnedFacts.{DeviceFact}
-use Rattle.usb_enum.specs.Readings.{AtMaximum, HasConfigurations}
-use Rattle.usb_enum.specs.Refusals.{configured_fault}
 use Rattle.usb_enum.proofs.refusals.Refusals.{answered_ok, fault_explains, handed_match}
 use Rattle.usb_enum.proofs.refusals.SettingRefusals.{deep_refused, read_refused, power_refused}
 use Rattle.usb_enum.proofs.refusals.SettingRefusals.{set_refused, hub_refused, strings_refused}
@@ -19,14 +15,11 @@ use Rattle.usb_bus.proofs.Interface.{went_then}
 use Rattle.usb_enum.proofs.devices.Frames.{sets_asked, sets_at, sets_told}
 use Rattle.usb_enum.proofs.Parts.{part_fails, setting, steps_as, steps_joined, steps_none}
 use Rattle.usb_enum.proofs.Parts.{steps_set, steps_then, steps_wider}
-use Rattle.usb_enum.specs.Bounds.{configured_by, texts_bound}
 use Rattle.usb_enum.proofs.ports.Powers.{empties_ports}
 use Rattle.usb_enum.proofs.readings.TextLengths.{few_then, few_wider}
 use Rattle.usb_enum.specs.declared.cause.Request.TheVariants.{SetConfig}
-use Rattle.usb_enum.specs.Reasons.{CauseAllowedAtStart, lacks_power}
 use Rattle.usb_enum.proofs.stops.Reasons.{told_after, write_stop_told}
 use Rattle.usb_enum.proofs.stops.Stops.{fits_stop, hub_stops, stops_by}
-use Rattle.usb_enum.specs.StringRequests.{ReadsStrings}
 use Rattle.usb_enum.proofs.courses.LastRequests.{leads_went}
 use Rattle.usb_enum.proofs.enumeration.configure.Goals as goal
 
@@ -168,8 +161,7 @@ returns-in_err-hub-clause-part g c known =
       told = hub_stops t device.bytes c.args.tier c.args.supply stop old mid before asked fits
           is_hub configs (record {
             asked = read.ends.told;
-            all = c.in_ok-configs.ensures.all.0
-                ∙ c.configurations.ensures;
+            all = c.in_ok-configs.ensures.all.0 ∙ c.configurations.ensures;
           }) c.in-Some.chosen choice (leads_went read.steps.went)
           (leads_went (set.steps known)) (subst
           (λ text. CauseAllowedAtStart t text stop before asked)

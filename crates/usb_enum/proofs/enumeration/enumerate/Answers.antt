@@ -3,16 +3,15 @@ use Rattle.std.proofs.Common.{arith, subst}
 use Rattle.usb_bus.proofs.Interface.{went_wider}
 use Rattle.usb_hub.proofs.Interface.{is_asked_stays}
 use Rattle.usb_enum.proofs.courses.Counts.{went_on_more}
-use Rattle.usb_resources.specs.Pool.{HasAddresses, IsFull}
+use Rattle.usb_resources.specs.{HasAddresses, IsFull}
 use Rattle.usb_enum.proofs.stops.Endings.{zero_untaken, zero_before, free_untaken, enumerated}
 use Rattle.usb_enum.proofs.stops.Endings.{given_up, none_true, found_true, device_placed, few_made}
 use Rattle.usb_enum.proofs.stops.Endings.{few_unaddressed, refused_placed, device_warranted}
 use Rattle.usb_enum.proofs.stops.Endings.{stopped_warranted, strings_asked, no_strings_asked}
 use Rattle.usb_enum.proofs.stops.Endings.{gives_left, device_left}
 use Rattle.usb_enum.proofs.devices.Frames.{calls_then}
-use Rattle.usb_enum.specs.Refusals.{unaddressed_fault, whole_fault}
+use Rattle.usb_enum.specs.{unaddressed_fault, whole_fault, CauseAllowedIn, CauseAllowedWithout}
 use Rattle.usb_enum.proofs.refusals.Warrants.{unaddressed_right, whole_right}
-use Rattle.usb_enum.specs.Stop.{CauseAllowedIn, CauseAllowedWithout}
 use Rattle.usb_enum.proofs.courses.LastRequests.{leads_went}
 use Rattle.usb_enum.proofs.stops.Stops.{given_told, gives_reason, stopped_reasoned, stopped_without}
 use Rattle.usb_enum.proofs.stops.Stops.{without_reasoned}

@@ -1,8 +1,7 @@
 use Rattle.usb_enum.proofs.stops.PlainStops.{plain_stop_fits, whole_only}
-use Rattle.usb_enum.specs.Stop.{FitsStop}
+use Rattle.usb_enum.specs.{FitsStop, addressed_fault, whole_fault, StopsExamining}
 use Rattle.std.proofs.Common.{arith, inr}
 use Rattle.usb_enum.proofs.devices.Frames.{at_configured}
-use Rattle.usb_enum.specs.Refusals.{addressed_fault, whole_fault}
 use Rattle.usb_enum.proofs.courses.Counts.{went_on_more}
 use Rattle.usb_enum.proofs.courses.Fairness.{stops_wider}
 use Rattle.usb_enum.proofs.Parts.{part_fails, steps_wider}
@@ -10,7 +9,6 @@ use Rattle.usb_enum.proofs.refusals.Refusals.{by_error, handed_match, matched_ok
 use Rattle.usb_enum.proofs.readings.TextLengths.{examined_few}
 use Rattle.usb_enum.proofs.readings.Truths.{accepted}
 use Rattle.usb_enum.proofs.refusals.Warrants.{addressed_verdict, configured_stops, matched}
-use Rattle.usb_enum.specs.Parts.{StopsExamining}
 use Rattle.usb_enum.proofs.stops.Stops.{device_stops, early_stops}
 use Rattle.usb_enum.proofs.enumeration.examine.Goals as goal
 

@@ -3,10 +3,9 @@ use Rattle.usb_hub.proofs.Interface.{asked_port}
 use Rattle.usb_enum.proofs.stops.PlainStops.{handed_none}
 use Rattle.std.proofs.Common.{◌∙◌, Result, arith, refl, subst, sym}
 use Rattle.std.specs.Prelude.{IfErr}
-use Rattle.usb_port.specs.declared.call.PortCall.TheVariants.{ClearEnable}
-use Rattle.usb_request.specs.Features.{PORT_ENABLE}
-use Rattle.usb_enum.specs.declared.fault.EnumFault.{EnumFault}
-use Rattle.usb_enum.specs.Reasons.{FaultBy}
+use Rattle.usb_port.specs.{ClearEnable}
+use Rattle.usb_request.specs.{PORT_ENABLE}
+use Rattle.usb_enum.specs.{EnumFault, FaultBy}
 use Rattle.usb_enum.proofs.courses.Stretches.{clear_goes}
 use Rattle.usb_bus.proofs.Interface.{went_none, went_wider}
 use Rattle.usb_enum.proofs.stops.Closings.{closed_fault, closed_handed, closed_lost, closed_refused}

@@ -1,8 +1,6 @@
-use Rattle.usb_enum.specs.Device.{is_hub_device}
-use Rattle.usb_enum.specs.Stop.{IsHubStop}
+use Rattle.usb_enum.specs.{is_hub_device, IsHubStop, Started}
 use Rattle.std.proofs.Common.{◌∙◌, refl, subst, sym, ◌≡◌, true}
 use Rattle.std.proofs.lemmas.Option.{same_Some}
-use Rattle.usb_enum.specs.Hub.{Started}
 use Rattle.usb_enum.proofs.Parts.{part_handed, steps_none, telling}
 use Rattle.usb_enum.proofs.readings.Readings.{learns_none}
 use Rattle.usb_enum.proofs.refusals.Refusals.{handed_match}
@@ -22,8 +20,7 @@ pub returns-in_err-start_hub-clause-hub : goal.returns-in_err-start_hub-clause-h
 returns-in_err-start_hub-clause-hub g c =
     handed_match c.from_residual.result _ (λ stop. (is_hub_device c.args.device.now.bytes ≡ true)
     × IsHubStop stop) c.in_err-start_hub.field-0.0 c.from_residual.ensures.1 (
-      sym c.is_hub.ensures
-          ∙ c.if-not-is_hub.false,
+      sym c.is_hub.ensures ∙ c.if-not-is_hub.false,
       c.in_err-start_hub.ensures.facts,
     )
 

@@ -1,4 +1,4 @@
-use Rattle.usb_enum.specs.Refusals.{early_fault, unaddressed_fault}
+use Rattle.usb_enum.specs.{early_fault, unaddressed_fault}
 use Rattle.usb_enum.proofs.courses.Fairness.{stops_wider}
 use Rattle.usb_enum.proofs.refusals.Warrants.{none_free, unaddressed_early}
 use Rattle.std.proofs.Common.{inl, inr, refl}

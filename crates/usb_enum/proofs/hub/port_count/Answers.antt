@@ -1,16 +1,14 @@
 use Rattle.usb_enum.proofs.stops.PlainStops.{answered_hub}
-use Rattle.usb_enum.specs.Stop.{IsHubStop}
+use Rattle.usb_enum.specs.{IsHubStop, BadHub, bad_descriptor, no_descriptor}
 use Rattle.std.proofs.Common.{◌∙◌, inl, ap, refl, sym}
-use Rattle.usb_descriptor.specs.Hub.{hub_spelled}
-use Rattle.usb_enum.specs.declared.cause.Cause.TheVariants.{BadHub}
-use Rattle.usb_hub.specs.GivenAnswers.{hub_given}
+use Rattle.usb_descriptor.specs.{hub_spelled}
+use Rattle.usb_hub.specs.{hub_given}
 use Rattle.usb_enum.proofs.ports.Hubs.{count_told}
 use Rattle.usb_enum.proofs.readings.HubReadings.{ports_learned}
 use Rattle.usb_enum.proofs.refusals.HubRefusals.{count_unanswered, count_refused}
 use Rattle.usb_enum.proofs.Parts.{part_fails, steps_asked}
 use Rattle.usb_enum.proofs.refusals.Refusals.{handed_match}
-use Rattle.usb_request.specs.Requests.{get_hub_descriptor}
-use Rattle.usb_enum.specs.Reasons.{bad_descriptor, no_descriptor}
+use Rattle.usb_request.specs.{get_hub_descriptor}
 use Rattle.usb_enum.proofs.stops.Reasons.{bad_hub_told, reads_failed, was_read}
 use Rattle.usb_enum.proofs.hub.port_count.Goals as goal
 

@@ -1,10 +1,8 @@
-use Rattle.usb_request.specs.Requests.{get_status}
-use Rattle.usb_hub.specs.Requests.{ReadAs, device_status}
+use Rattle.usb_request.specs.{get_status}
+use Rattle.usb_hub.specs.{ReadAs, device_status, status_given}
 use Rattle.usb_enum.proofs.stops.PlainStops.{answered_hub}
-use Rattle.usb_enum.specs.Stop.{IsHubStop}
+use Rattle.usb_enum.specs.{IsHubStop, BadHub}
 use Rattle.std.proofs.Common.{◌≡◌, ◌∙◌, Some, sym, subst}
-use Rattle.usb_enum.specs.declared.cause.Cause.TheVariants.{BadHub}
-use Rattle.usb_hub.specs.GivenAnswers.{status_given}
 use Rattle.usb_enum.proofs.devices.Frames.{answer_asks}
 use Rattle.usb_enum.proofs.courses.Counts.{read_went}
 use Rattle.usb_enum.proofs.readings.HubReadings.{supply_learned}

@@ -1,15 +1,12 @@
 use Rattle.usb_enum.proofs.ports.Hubs.{powered_by}
-use Rattle.usb_enum.specs.Stop.{IsHubStop}
+use Rattle.usb_enum.specs.{IsHubStop, StopsPower, no_power}
 use Rattle.usb_enum.proofs.stops.PlainStops.{answered_hub}
 use Rattle.usb_enum.proofs.refusals.Warrants.{matched}
 use Rattle.std.proofs.Common.{◌∙◌, sym}
-use Rattle.usb_enum.specs.Parts.{StopsPower}
 use Rattle.usb_enum.proofs.devices.Frames.{power_tells}
 use Rattle.usb_enum.proofs.refusals.PortRefusals.{power_explains}
 use Rattle.usb_enum.proofs.refusals.Refusals.{by_error}
-use Rattle.usb_request.specs.Features.{PORT_POWER}
-use Rattle.usb_request.specs.Requests.{set_port_feature}
-use Rattle.usb_enum.specs.Reasons.{no_power}
+use Rattle.usb_request.specs.{PORT_POWER, set_port_feature}
 use Rattle.usb_enum.proofs.stops.Reasons.{bad_hub_told, writes_failed}
 use Rattle.usb_enum.proofs.hub.power_port.Goals as goal
 

@@ -1,7 +1,6 @@
-use Rattle.usb_enum.specs.Stop.{IsHubStop}
+use Rattle.usb_enum.specs.{IsHubStop, Powered}
 use Rattle.std.proofs.Common.{ℕ, arith, refl, subst}
-use Rattle.usb_pipe.specs.Control.{write_bound}
-use Rattle.usb_enum.specs.Hub.{Powered}
+use Rattle.usb_pipe.specs.{write_bound}
 use Rattle.usb_enum.proofs.ports.Hubs.{powered_more}
 use Rattle.usb_enum.proofs.Parts.{part_fails, steps_again, steps_more, steps_none, steps_times}
 use Rattle.usb_enum.proofs.Parts.{telling}

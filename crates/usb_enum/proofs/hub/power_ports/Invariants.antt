@@ -1,8 +1,6 @@
 use Rattle.std.proofs.Common.{◌*◌, ◌≡◌, true}
-use Rattle.usb_pipe.specs.Control.{write_bound}
-use Rattle.usb_enum.specs.Frames.{OnlyTells}
-use Rattle.usb_enum.specs.Hub.{Powered}
-use Rattle.usb_enum.specs.Parts.{KeepingSteps}
+use Rattle.usb_pipe.specs.{write_bound}
+use Rattle.usb_enum.specs.{OnlyTells, Powered, KeepingSteps}
 use Rattle.usb_enum.proofs.hub.power_ports.Given as goal
 
 abbrev pub invariant-ports : goal.invariant-ports

@@ -1,4 +1,4 @@
-use Rattle.usb_enum.specs.Stop.{IsHubStop}
+use Rattle.usb_enum.specs.{IsHubStop}
 use Rattle.std.proofs.Common.{inl, arith, refl, rules}
 use Rattle.usb_enum.proofs.devices.Frames.{tells_asked}
 use Rattle.usb_enum.proofs.readings.HubReadings.{hub_learned}

@@ -1,8 +1,8 @@
 use Rattle.std.proofs.Common.{refl}
-use Rattle.usb_request.specs.Features.{PORT_RESET}
+use Rattle.usb_request.specs.{PORT_RESET}
 use Rattle.usb_hub.proofs.Interface.{reset_went}
 use Rattle.usb_enum.proofs.devices.Frames.{at_reset, reset_calls}
-use Rattle.usb_port.specs.declared.call.PortCall.TheVariants.{SetReset}
+use Rattle.usb_port.specs.{SetReset}
 use Rattle.usb_enum.proofs.courses.Stretches.{set_goes}
 use Rattle.usb_enum.proofs.stops.Reasons.{call_ends, port_set_fault}
 use Rattle.usb_enum.proofs.passes.begin_reset.Goals as goal

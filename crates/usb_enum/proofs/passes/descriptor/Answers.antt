@@ -1,22 +1,18 @@
 use Rattle.usb_enum.proofs.stops.PlainStops.{answered_plain, device_good}
-use Rattle.usb_enum.specs.Stop.{IsPlainStop}
+use Rattle.usb_enum.specs.{IsPlainStop, Stop, is_device, bad_front, Stalled}
 use Rattle.std.proofs.Common.{◌≡◌, ◌<◌, ◌∙◌, ℕ, true, length, List, Err, Option, Result, ap, refl}
 use Rattle.std.proofs.Common.{subst, sym, take}
 use Rattle.std.specs.Prelude.{IfSome, MatchResult}
 use Rattle.usb_pipe.specs.declared.fault.PipeFault.TheVariants.{NoAnswer}
-use Rattle.usb_enum.specs.declared.stop.Stop.{Stop}
-use Rattle.usb_enum.specs.Device.{is_device}
-use Rattle.usb_enum.specs.Reasons.{bad_front}
 use Rattle.usb_enum.proofs.refusals.DeviceRefusals.{descriptor_unanswered, descriptor_none}
 use Rattle.usb_enum.proofs.refusals.DeviceRefusals.{descriptor_refused, device_read, no_answer}
 use Rattle.usb_enum.proofs.refusals.DeviceRefusals.{some_answer, answered_who, refused_who}
 use Rattle.usb_enum.proofs.refusals.DeviceRefusals.{short_device}
 use Rattle.usb_enum.proofs.readings.Heads.{bytes_answered}
-use Rattle.usb_hub.specs.GivenAnswers.{device_given}
+use Rattle.usb_hub.specs.{device_given}
 use Rattle.usb_enum.proofs.Parts.{part_fails, steps_asked}
 use Rattle.usb_enum.proofs.refusals.Refusals.{handed_match}
-use Rattle.usb_request.specs.Requests.{get_device_descriptor}
-use Rattle.usb_enum.specs.declared.cause.Cause.TheVariants.{Stalled}
+use Rattle.usb_request.specs.{get_device_descriptor}
 use Rattle.usb_enum.specs.declared.cause.Request.TheVariants.{Device}
 use Rattle.usb_enum.proofs.stops.Reasons.{read_stop_told, unanswered_ends_failing, was_read}
 use Rattle.usb_enum.proofs.passes.descriptor.Goals as goal

@@ -1,15 +1,13 @@
 use Rattle.usb_enum.proofs.stops.PlainStops.{answered_plain}
-use Rattle.usb_enum.specs.Stop.{IsPlainStop}
+use Rattle.usb_enum.specs.{IsPlainStop, bad_head, Stalled}
 use Rattle.std.proofs.Common.{◌≤◌, ◌∙◌, ap, arith, refl, sym}
-use Rattle.usb_descriptor.specs.Device.{device_head_of}
-use Rattle.usb_enum.specs.Reasons.{bad_head}
+use Rattle.usb_descriptor.specs.{device_head_of}
 use Rattle.usb_enum.proofs.refusals.DeviceRefusals.{head_unanswered, head_refused}
 use Rattle.usb_enum.proofs.readings.Heads.{head_answered}
-use Rattle.usb_hub.specs.GivenAnswers.{device_given}
+use Rattle.usb_hub.specs.{device_given}
 use Rattle.usb_enum.proofs.Parts.{part_fails, steps_asked}
 use Rattle.usb_enum.proofs.refusals.Refusals.{handed_match}
 use Rattle.usb_enum.proofs.courses.Stretches.{device_goes}
-use Rattle.usb_enum.specs.declared.cause.Cause.TheVariants.{Stalled}
 use Rattle.usb_enum.specs.declared.cause.Request.TheVariants.{Device}
 use Rattle.usb_enum.proofs.stops.Reasons.{read_stop_told, was_read}
 use Rattle.usb_enum.proofs.passes.first_maximum.Goals as goal

@@ -1,6 +1,5 @@
-use Rattle.usb_enum.specs.declared.cause.Cause.TheVariants.{Stalled}
+use Rattle.usb_enum.specs.{Stalled, IsPlainStop, addressed_fault, early_fault}
 use Rattle.usb_enum.proofs.stops.PlainStops.{answered_plain}
-use Rattle.usb_enum.specs.Stop.{IsPlainStop}
 use Rattle.std.proofs.Common.{◌∙◌, inl, inr, arith, refl, sym}
 use Rattle.usb_enum.proofs.devices.Presence.{address_finds}
 use Rattle.usb_enum.proofs.devices.ReachedDevices.{reaches_addressed, reaches_rest}
@@ -8,7 +7,6 @@ use Rattle.usb_enum.proofs.devices.Enumerations.{takes_after, takes_answered}
 use Rattle.usb_enum.proofs.devices.Frames.{at_asked}
 use Rattle.usb_enum.proofs.Parts.{enumerating, part_fails, steps_addressed, steps_as, steps_then}
 use Rattle.usb_enum.proofs.Parts.{steps_wider}
-use Rattle.usb_enum.specs.Refusals.{addressed_fault, early_fault}
 use Rattle.usb_enum.proofs.courses.Fairness.{stops_wider}
 use Rattle.usb_enum.proofs.refusals.Refusals.{answered_ok, handed_match}
 use Rattle.usb_enum.proofs.stops.StopReasons.{address_stops, addressed_early, descriptor_stops}

@@ -1,18 +1,14 @@
-use Rattle.usb_enum.specs.Stop.{IsPlainStop}
+use Rattle.usb_enum.specs.{IsPlainStop, pass_bound, Misses, addressed_fault, Silent, NoAnswerTold}
+use Rattle.usb_enum.specs.{RefusedEarly, answered}
 use Rattle.std.proofs.Common.{◌≡◌, ◌⊎◌, ℕ, inl, inr, arith, refl, subst}
 use Rattle.usb_hub.proofs.Interface.{is_asked_stays}
-use Rattle.usb_enum.specs.Bounds.{pass_bound}
 use Rattle.usb_enum.proofs.devices.Enumerations.{takes_after}
 use Rattle.usb_enum.proofs.Parts.{enumerating, part_fails, steps_again, steps_more, steps_none}
 use Rattle.usb_enum.proofs.Parts.{steps_times}
 use Rattle.usb_enum.proofs.devices.Presence.{finds_after}
 use Rattle.usb_enum.proofs.devices.ReachedDevices.{reaches_device_after}
-use Rattle.usb_enum.specs.FairEnumerations.{Misses}
-use Rattle.usb_enum.specs.Refusals.{addressed_fault}
 use Rattle.usb_enum.proofs.refusals.Refusals.{handed_match}
 use Rattle.usb_enum.proofs.stops.StopReasons.{misses_none, misses_then, stops_then, thrice_missed}
-use Rattle.usb_enum.specs.declared.cause.Cause.TheVariants.{Silent}
-use Rattle.usb_enum.specs.Reasons.{NoAnswerTold, RefusedEarly, answered}
 use Rattle.usb_enum.proofs.courses.LastRequests.{leads_went}
 use Rattle.usb_enum.proofs.stops.Reasons.{at_after, descriptor_after, silent_after}
 use Rattle.usb_enum.proofs.passes.passes.Goals as goal

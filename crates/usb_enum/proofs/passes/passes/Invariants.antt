@@ -1,9 +1,5 @@
 use Rattle.std.proofs.Common.{◌≡◌, ◌⊎◌, ◌*◌, true}
-use Rattle.usb_enum.specs.Addresses.{AtPort}
-use Rattle.usb_enum.specs.Bounds.{pass_bound}
-use Rattle.usb_enum.specs.FairEnumerations.{Misses}
-use Rattle.usb_enum.specs.Parts.{KeepingSteps}
-use Rattle.usb_enum.specs.Reasons.{NoAnswerTold}
+use Rattle.usb_enum.specs.{AtPort, pass_bound, Misses, KeepingSteps, NoAnswerTold}
 use Rattle.usb_enum.proofs.passes.passes.Given as goal
 
 abbrev pub invariant-loop-pass : goal.invariant-loop-pass

@@ -1,21 +1,19 @@
-use Rattle.usb_enum.specs.Stop.{IsPlainStop}
+use Rattle.usb_enum.specs.{IsPlainStop, no_fault, not_enabled}
 use Rattle.std.proofs.Common.{arith, subst}
-use Rattle.usb_request.specs.Features.{PORT_RESET, C_PORT_RESET}
+use Rattle.usb_request.specs.{PORT_RESET, C_PORT_RESET}
 use Rattle.usb_hub.proofs.Interface.{is_asked_stays}
 use Rattle.usb_enum.proofs.devices.Frames.{at_asked}
 use Rattle.usb_enum.proofs.Parts.{enumerating, part_fails, steps_as, steps_joined, steps_then}
 use Rattle.usb_enum.proofs.Parts.{steps_wider}
 use Rattle.usb_enum.proofs.devices.Presence.{reset_finds}
 use Rattle.usb_enum.proofs.devices.ReachedDevices.{done_at, reset_reaches}
-use Rattle.usb_port.specs.Calls.{set_call, clear_call}
-use Rattle.usb_enum.specs.Refusals.{no_fault}
+use Rattle.usb_port.specs.{set_call, clear_call}
 use Rattle.usb_enum.specs.declared.stop.Stop.TheVariants.{Fault}
 use Rattle.usb_enum.proofs.courses.Fairness.{called_faulted, faulted_after, status_faulted}
 use Rattle.usb_enum.proofs.courses.Fairness.{stops_faulted}
 use Rattle.usb_enum.proofs.stops.StopReasons.{reset_goes, reset_lost, settle_failed, unfalse}
 use Rattle.usb_tree.proofs.Interface.{not-true}
-use Rattle.usb_hub.specs.Port.{PortRead}
-use Rattle.usb_enum.specs.Reasons.{not_enabled}
+use Rattle.usb_hub.specs.{PortRead}
 use Rattle.usb_enum.proofs.courses.LastRequests.{leads_went}
 use Rattle.usb_enum.proofs.stops.Reasons.{fault_after, fault_by}
 use Rattle.usb_enum.proofs.stops.ToldFailures.{handed_on}

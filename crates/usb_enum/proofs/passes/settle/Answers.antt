@@ -1,10 +1,10 @@
 use Rattle.std.proofs.Common.{refl}
-use Rattle.usb_request.specs.Features.{C_PORT_RESET}
+use Rattle.usb_request.specs.{C_PORT_RESET}
 use Rattle.usb_world.proofs.Interface.{each_none}
-use Rattle.usb_hub.specs.Addresses.{StaysAs}
+use Rattle.usb_hub.specs.{StaysAs}
 use Rattle.usb_enum.proofs.devices.Frames.{at_reset_cleared}
 use Rattle.usb_enum.proofs.Parts.{enumerating, steps_none}
-use Rattle.usb_port.specs.declared.call.PortCall.TheVariants.{ClearResetChange}
+use Rattle.usb_port.specs.{ClearResetChange}
 use Rattle.usb_enum.proofs.courses.Stretches.{clear_goes}
 use Rattle.usb_enum.proofs.stops.Reasons.{call_ends, port_cleared_fault}
 use Rattle.usb_enum.proofs.passes.settle.Goals as goal

@@ -1,19 +1,17 @@
-use Rattle.usb_enum.specs.Stop.{IsPlainStop}
+use Rattle.usb_enum.specs.{IsPlainStop, early_fault, no_fault, needs_pre}
 use Rattle.std.proofs.Common.{◌≡◌, inl, ◌&&◌, ◌∙◌, ap, arith, refl, sym}
 use Rattle.usb_enum.proofs.devices.Frames.{at_asked}
 use Rattle.usb_enum.proofs.Parts.{enumerating, part_fails, steps_as, steps_then, steps_wider}
 use Rattle.usb_enum.proofs.devices.Presence.{unaddressed_finds}
-use Rattle.usb_enum.specs.Refusals.{early_fault, no_fault}
 use Rattle.usb_enum.proofs.courses.Fairness.{stops_wider}
 use Rattle.usb_enum.proofs.devices.ReachedDevices.{reaches_rest}
 use Rattle.usb_enum.proofs.refusals.Refusals.{handed_match}
 use Rattle.usb_enum.proofs.courses.Courses.{went_sound}
 use Rattle.usb_enum.proofs.stops.StopReasons.{head_stops}
 use Rattle.usb_enum.proofs.courses.Stretches.{no_stretch_then}
-use Rattle.usb_enum.specs.Device.{needs_pre}
 use Rattle.usb_enum.proofs.courses.LastRequests.{leads_went}
 use Rattle.usb_enum.proofs.stops.Reasons.{at_after, stop_told_at, told_faults}
-use Rattle.usb_transaction.specs.declared.target.Target.{Target}
+use Rattle.usb_transaction.specs.{Target}
 use Rattle.usb_enum.proofs.passes.unaddressed.Goals as goal
 use Rattle.usb_enum.proofs.passes.unaddressed.Goals.{then-low, else-low}
 

@@ -1,7 +1,5 @@
-use Rattle.usb_enum.specs.Stop.{IsPlainStop}
+use Rattle.usb_enum.specs.{IsPlainStop, bytes_given, first_language_of}
 use Rattle.std.proofs.Common.{◌∙◌, ap, option_and_then, sym}
-use Rattle.usb_enum.specs.Readings.{bytes_given}
-use Rattle.usb_enum.specs.Text.{first_language_of}
 use Rattle.usb_enum.proofs.Parts.{part_handed}
 use Rattle.usb_enum.proofs.readings.StringReadings.{language_asked}
 use Rattle.usb_enum.proofs.stops.ToldFailures.{handed_on}

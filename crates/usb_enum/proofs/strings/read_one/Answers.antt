@@ -1,11 +1,7 @@
-use Rattle.usb_enum.specs.Stop.{IsPlainStop}
+use Rattle.usb_enum.specs.{IsPlainStop, Memory, AtMaximum, HasString, bytes_given, no_fault}
+use Rattle.usb_enum.specs.{unnamed, string_units}
 use Rattle.std.proofs.Common.{◌∙◌, ap, option_and_then, refl, sym}
-use Rattle.usb_enum.specs.declared.fault.EnumFault.TheVariants.{Memory}
 use Rattle.usb_enum.specs.declared.stop.Stop.TheVariants.{Fault}
-use Rattle.usb_enum.specs.Readings.{AtMaximum, HasString, bytes_given}
-use Rattle.usb_enum.specs.Refusals.{no_fault}
-use Rattle.usb_enum.specs.StringRequests.{unnamed}
-use Rattle.usb_enum.specs.Text.{string_units}
 use Rattle.usb_enum.proofs.Parts.{asking, part_fails, part_handed, steps_none}
 use Rattle.usb_enum.proofs.refusals.Refusals.{fault_explains}
 use Rattle.usb_enum.proofs.readings.StringReadings.{string_named, unnamed_learned}

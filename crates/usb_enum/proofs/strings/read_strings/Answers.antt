@@ -1,8 +1,6 @@
-use Rattle.usb_enum.specs.Stop.{IsPlainStop}
+use Rattle.usb_enum.specs.{IsPlainStop, DeviceFact, AtMaximum, language_of, AsksLanguage, asked}
+use Rattle.usb_enum.specs.{unnamed}
 use Rattle.std.proofs.Common.{◌≡◌, ℕ, Option, None, Some, arith, refl, subst}
-use Rattle.usb_enum.specs.LearnedFacts.{DeviceFact}
-use Rattle.usb_enum.specs.Readings.{AtMaximum, language_of}
-use Rattle.usb_enum.specs.StringRequests.{AsksLanguage, asked, unnamed}
 use Rattle.usb_enum.proofs.Parts.{asking, part_fails, steps_joined, steps_none, steps_then}
 use Rattle.usb_enum.proofs.Parts.{steps_wider}
 use Rattle.usb_enum.proofs.refusals.StringRefusals.{string_stops, strings_read}

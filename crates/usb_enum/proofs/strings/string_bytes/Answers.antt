@@ -1,11 +1,11 @@
 use Rattle.usb_enum.proofs.stops.PlainStops.{stop_plain}
 use Rattle.std.proofs.Common.{◌∙◌, sym}
-use Rattle.usb_hub.specs.GivenAnswers.{string_given}
+use Rattle.usb_hub.specs.{string_given}
 use Rattle.usb_enum.proofs.Parts.{steps_asked}
 use Rattle.usb_enum.proofs.readings.StringRequests.{string_given as asked_given, string_refused}
 use Rattle.usb_enum.proofs.readings.StringReadings.{string_learned, no_string_learned}
 use Rattle.usb_enum.proofs.refusals.StringRefusals.{string_unrefused}
-use Rattle.usb_request.specs.Requests.{get_string_descriptor}
+use Rattle.usb_request.specs.{get_string_descriptor}
 use Rattle.usb_enum.proofs.stops.Reasons.{string_told}
 use Rattle.usb_enum.proofs.strings.string_bytes.Goals as goal
 

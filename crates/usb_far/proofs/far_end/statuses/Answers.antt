@@ -1,10 +1,10 @@
 use Rattle.std.proofs.Common.{◌∙◌, map, ap, arith, refl}
 use Rattle.std.proofs.lemmas.List.{take_all}
 use Rattle.std.specs.Prelude.{slice_index_or}
-use Rattle.usb_port.specs.PortState.{off, status_of}
-use Rattle.usb_world.specs.World.{root_port_at, root_row}
-use Rattle.usb_sim.specs.Sim.{world_of}
-use Rattle.usb_far.specs.FarEnd.{statuses}
+use Rattle.usb_port.specs.{off, status_of}
+use Rattle.usb_world.specs.{root_port_at, root_row}
+use Rattle.usb_sim.specs.{world_of}
+use Rattle.usb_far.specs.{statuses}
 use Rattle.usb_far.proofs.Deeds.{status_more}
 use Rattle.usb_far.proofs.far_end.statuses.Goals as goal
 
@@ -16,8 +16,7 @@ ports-preserved g c =
     c.root_status.result (omega (
       arith,
       c.ports-test.true,
-      c.root_ports-before-end.ensures.count
-          refl,
+      c.root_ports-before-end.ensures.count refl,
     ))
     c.ports.invariant (c.root_status.ensures refl
     ∙ ap (λ k. status_of (slice_index_or (root_row (world_of c.args.bus.now)) k off))

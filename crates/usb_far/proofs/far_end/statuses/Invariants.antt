@@ -1,7 +1,7 @@
 use Rattle.std.proofs.Common.{◌≡◌, take, map}
-use Rattle.usb_port.specs.PortState.{status_of}
-use Rattle.usb_world.specs.World.{root_row}
-use Rattle.usb_sim.specs.Sim.{world_of}
+use Rattle.usb_port.specs.{status_of}
+use Rattle.usb_world.specs.{root_row}
+use Rattle.usb_sim.specs.{world_of}
 use Rattle.usb_far.proofs.far_end.statuses.Given as goal
 
 -- those so far

@@ -1,5 +1,5 @@
 use Rattle.std.proofs.Common.{◌≡◌, ◌∙◌, Option, Some, None, inr, refl, sym}
-use Rattle.usb_wire.specs.declared.question.Question.{Question}
+use Rattle.usb_wire.specs.{Question}
 use Rattle.usb_far.proofs.Lines.{only_one}
 use Rattle.usb_far.proofs.serving.question_in.Goals as goal
 

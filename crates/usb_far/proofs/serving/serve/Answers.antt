@@ -1,5 +1,5 @@
 use Rattle.std.proofs.Common.{arith}
-use Rattle.usb_far.specs.Serving.{scene}
+use Rattle.usb_far.specs.{scene}
 use Rattle.usb_far.proofs.Lines.{served_none, served_more, served_one}
 use Rattle.usb_far.proofs.serving.serve.Goals as goal
 

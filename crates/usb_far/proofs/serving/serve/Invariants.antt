@@ -1,5 +1,5 @@
 use Rattle.std.proofs.Common.{◌-◌}
-use Rattle.usb_far.specs.Serving.{ServedSome, scene}
+use Rattle.usb_far.specs.{ServedSome, scene}
 use Rattle.usb_far.proofs.serving.serve.Given as goal
 
 -- the lines so far were answered

@@ -1,7 +1,7 @@
 use Rattle.std.proofs.Common.{arith, refl, subst}
-use Rattle.usb_request.specs.declared.hub_feature.TheConstants.{C_HUB_LOCAL_POWER}
+use Rattle.usb_request.specs.{C_HUB_LOCAL_POWER}
 use Rattle.usb_bus.proofs.Interface.{went_then, went_wider}
-use Rattle.usb_hub.specs.Changes.{ClearsIfReported, both, first_failed}
+use Rattle.usb_hub.specs.{ClearsIfReported, both, first_failed}
 use Rattle.std.proofs.lemmas.Result.{err_from_is_err_and}
 use Rattle.usb_hub.proofs.changes.clear_each.Goals as goal
 

@@ -1,8 +1,7 @@
 use Rattle.std.proofs.Common.{arith, subst}
-use Rattle.usb_request.specs.HubRequests.{get_hub_status}
+use Rattle.usb_request.specs.{get_hub_status}
 use Rattle.usb_bus.proofs.Interface.{went_then, went_wider}
-use Rattle.usb_hub.specs.Changes.{hub_status, not_told, told}
-use Rattle.usb_hub.specs.Requests.{ReadAs}
+use Rattle.usb_hub.specs.{hub_status, not_told, told, ReadAs}
 use Rattle.usb_hub.proofs.HubChanges.{told_bus}
 use Rattle.usb_hub.proofs.changes.clear_hub_changes.Goals as goal
 

@@ -22,7 +22,6 @@ pub returns-in-External-clause-cleared : goal.returns-in-External-clause-cleared
 returns-in-External-clause-cleared g c known =
     rw c.in-External.is (record {
       answer = c.clear_hub_port-cleared.result;
-      ordered =
-          c.clear_hub_port-cleared.ensures.ordered known;
+      ordered = c.clear_hub_port-cleared.ensures.ordered known;
       is = c.done_or_unknown.ensures;
     })

@@ -1,5 +1,5 @@
 use Rattle.std.proofs.Common.{arith, refl}
-use Rattle.usb_pipe.specs.Control.{write_bound}
+use Rattle.usb_pipe.specs.{write_bound}
 use Rattle.usb_bus.proofs.Interface.{went_none, went_wider}
 use Rattle.usb_hub.proofs.AddressesKept.{hub_feature_keeps}
 use Rattle.usb_hub.proofs.HubChanges.{told_done}
@@ -24,7 +24,6 @@ pub returns-clause-cleared : goal.returns-clause-cleared
 returns-clause-cleared g c known =
     rw c.if-not-told.false (record {
       answer = c.order-cleared.result;
-      ordered =
-          rw c.clear_hub_feature.ensures.setup at (c.order-cleared.ensures.ordered known);
+      ordered = rw c.clear_hub_feature.ensures.setup at (c.order-cleared.ensures.ordered known);
       is = c.done_or_unknown.ensures;
     })

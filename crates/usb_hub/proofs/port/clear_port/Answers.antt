@@ -1,4 +1,4 @@
-use Rattle.usb_bus.specs.Traces.{still}
+use Rattle.usb_bus.specs.{still}
 use Rattle.usb_bus.proofs.Interface.{traced_cleared}
 use Rattle.usb_hub.proofs.Calls.{root_clears, hub_clears}
 use Rattle.usb_hub.proofs.AddressesKept.{root_clear_keeps_port}

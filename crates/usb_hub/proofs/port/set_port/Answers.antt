@@ -1,4 +1,4 @@
-use Rattle.usb_bus.specs.Traces.{still}
+use Rattle.usb_bus.specs.{still}
 use Rattle.usb_bus.proofs.Interface.{traced_set}
 use Rattle.usb_hub.proofs.Calls.{root_sets, hub_sets}
 use Rattle.usb_hub.proofs.Ports.{asked_port, port_set-root, set_went-root}

@@ -1,5 +1,5 @@
 use Rattle.std.proofs.Common.{subst, arith}
-use Rattle.usb_hub.specs.Requests.{Queried}
+use Rattle.usb_hub.specs.{Queried}
 use Rattle.usb_hub.proofs.GivenAnswers.{config_asked, config_why}
 use Rattle.usb_hub.proofs.requests.get_config.Goals as goal
 

@@ -1,5 +1,5 @@
 use Rattle.std.proofs.Common.{subst}
-use Rattle.usb_hub.specs.Requests.{Queried}
+use Rattle.usb_hub.specs.{Queried}
 use Rattle.usb_hub.proofs.GivenAnswers.{device_asked, device_why}
 use Rattle.usb_hub.proofs.requests.get_device.Goals as goal
 

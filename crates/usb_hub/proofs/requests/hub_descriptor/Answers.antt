@@ -1,5 +1,5 @@
 use Rattle.std.proofs.Common.{subst}
-use Rattle.usb_hub.specs.Requests.{Queried}
+use Rattle.usb_hub.specs.{Queried}
 use Rattle.usb_hub.proofs.GivenAnswers.{hub_asked, hub_why}
 use Rattle.usb_hub.proofs.requests.hub_descriptor.Goals as goal
 

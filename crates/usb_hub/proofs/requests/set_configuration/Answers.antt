@@ -1,5 +1,5 @@
 use Rattle.std.proofs.Common.{subst}
-use Rattle.usb_hub.specs.Requests.{Commanded}
+use Rattle.usb_hub.specs.{Commanded}
 use Rattle.usb_hub.proofs.Settings.{configuration_asked, configuration_why}
 use Rattle.usb_hub.proofs.requests.set_configuration.Goals as goal
 

@@ -1,7 +1,7 @@
 use Rattle.std.proofs.Common.{◌≡◌, ◌≤◌, ◌-◌, length}
-use Rattle.usb_bus.specs.Watch.{has_failed, inner_of}
+use Rattle.usb_bus.specs.{has_failed, inner_of}
 use Rattle.std.specs.Io.KnownBytes.{Consumes}
-use Rattle.usb_lines.specs.Lines.{IsUnbroken}
+use Rattle.usb_lines.specs.{IsUnbroken}
 use Rattle.usb_lines.proofs.line.read_line.Given as goal
 
 -- what was read is the line so far

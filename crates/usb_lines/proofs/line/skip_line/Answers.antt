@@ -1,7 +1,7 @@
 use Rattle.std.proofs.Common.{◌≡◌, ◌∙◌, ◌+◌, [], ◌∷◌, ◌++◌, ap, rules}
 use Rattle.std.proofs.lemmas.List.{length_push}
 use Rattle.std.proofs.KnownBytes.{Consumes-trans}
-use Rattle.usb_bus.specs.Watch.{has_failed, inner_of}
+use Rattle.usb_bus.specs.{has_failed, inner_of}
 use Rattle.usb_lines.proofs.LineLemmas.{unbroken_more}
 use Rattle.usb_lines.proofs.line.skip_line.Goals as goal
 

@@ -1,4 +1,4 @@
-use Rattle.usb_bus.specs.Watch.{inner_of}
+use Rattle.usb_bus.specs.{inner_of}
 use Rattle.usb_live.proofs.host.live.Given as goal
 
 -- the course begins here

@@ -1,11 +1,8 @@
-use Rattle.std.proofs.Common.{◌≡◌, ◌+◌, ◌*◌, ◌∙◌, ℕ, ap, sym, refl, arith, length, take, drop}
+use Rattle.std.proofs.Common.{◌≡◌, ◌+◌, ◌*◌, ◌∙◌, ℕ, ap, sym, arith, length, take}
 use Rattle.std.proofs.Common.{length-set}
 use Rattle.std.proofs.lemmas.List.{drop-set-lt}
 use Rattle.usb_packet.proofs.TextLemmas.{encode_upper-set, drop_more_both, encode_upper_none}
 use Rattle.usb_packet.proofs.text.write_digits.Goals as goal
-
-pub bytes-init : goal.bytes-init
-bytes-init c = record { room = refl; behind = refl; text = refl }
 
 pub bytes-preserved : goal.bytes-preserved
 bytes-preserved c =
@@ -29,10 +26,3 @@ returns-clause-text c =
     ap (λ (n : ℕ). take (2 * n) c.bytes.digits) (sym end)
     ∙ sym (encode_upper_none c.args.bytes.now (take (2 * c.bytes.i) c.bytes.digits) c.bytes.i
     c.bytes-test.false) ∙ c.bytes.invariant.text
-
-pub returns-clause-behind : goal.returns-clause-behind
-returns-clause-behind c =
-    let end : c.bytes.i ≡ length c.args.bytes.now =
-    omega (arith, c.bytes-test.false, c.bytes.auto.i-end) in
-    ap (λ (n : ℕ). drop (2 * n) c.bytes.digits) (sym end) ∙ c.bytes.invariant.behind
-    ∙ ap (λ (n : ℕ). drop (2 * n) c.args.digits.now) end

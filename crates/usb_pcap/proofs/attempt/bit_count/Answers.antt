@@ -1,6 +1,6 @@
 use Rattle.std.proofs.Common.{rules, arith}
 use Rattle.std.proofs.lemmas.Grind.{common_steps}
-use Rattle.usb_world.specs.Wire.{bit_count}
+use Rattle.usb_world.specs.{bit_count}
 use Rattle.usb_pcap.proofs.attempt.bit_count.Goals as goal
 
 pub returns-in-Payload : goal.returns-in-Payload

@@ -1,7 +1,7 @@
 use Rattle.std.proofs.Common.{ℕ, ◌≤◌, List, length}
 use Rattle.std.specs.Io.KnownBytes.{Consumes}
-use Rattle.usb_bus.specs.Watch.{inner_of}
-use Rattle.usb_pcap.specs.Capture.{StandsBehind}
+use Rattle.usb_bus.specs.{inner_of}
+use Rattle.usb_pcap.specs.{StandsBehind}
 use Rattle.usb_pcap.proofs.capturing.capture.Given as goal
 
 -- what was read so far is taken, a byte or more each time

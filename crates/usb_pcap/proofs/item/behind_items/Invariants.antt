@@ -1,5 +1,5 @@
 use Rattle.std.proofs.Common.{◌≡◌, ◌-◌}
-use Rattle.usb_pcap.specs.Grammar.{behind_items}
+use Rattle.usb_pcap.specs.{behind_items}
 use Rattle.usb_pcap.proofs.item.behind_items.Given as goal
 
 -- the rest is behind so many items

@@ -1,5 +1,5 @@
 use Rattle.std.proofs.Common.{◌≡◌, ℕ, List, option_map, subst}
-use Rattle.usb_pcap.specs.Text.{strip}
+use Rattle.usb_pcap.specs.{strip}
 use Rattle.usb_pcap.proofs.Texts.{strip_result}
 use Rattle.usb_pcap.proofs.part.behind_word.Goals as goal
 

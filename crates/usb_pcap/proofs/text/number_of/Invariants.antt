@@ -1,5 +1,5 @@
 use Rattle.std.proofs.Common.{◌≡◌, drop}
-use Rattle.usb_pcap.specs.Text.{number_on}
+use Rattle.usb_pcap.specs.{number_on}
 use Rattle.usb_pcap.proofs.text.number_of.Given as goal
 
 -- the rest is read behind the value so far

@@ -1,7 +1,6 @@
 use Rattle.std.proofs.Common.{arith, rules, Ok, ◌≡◌, true}
 use Rattle.usb_bus.proofs.Interface.{went_then, went_wider}
-use Rattle.usb_pipe.specs.Control.{control_bound}
-use Rattle.usb_pipe.specs.Stages.{Reads}
+use Rattle.usb_pipe.specs.{control_bound, Reads}
 use Rattle.usb_pipe.proofs.ControlTransfers.{read_at_status, control_read_done, read_told}
 use Rattle.usb_pipe.proofs.control.control_in.Given as given
 use Rattle.usb_pipe.proofs.control.control_in.Goals as goal

@@ -1,9 +1,8 @@
 use Rattle.std.proofs.Common.{arith, ◌+◌, ◌≡◌, true}
 use Rattle.usb_bus.proofs.Interface.{went_then, went_wider}
 use Rattle.std.proofs.Common.{rules, Ok}
-use Rattle.usb_transaction.specs.Transactions.{transaction_bound}
-use Rattle.usb_pipe.specs.Control.{write_bound}
-use Rattle.usb_pipe.specs.Stages.{Writes}
+use Rattle.usb_transaction.specs.{transaction_bound}
+use Rattle.usb_pipe.specs.{write_bound, Writes}
 use Rattle.usb_pipe.proofs.ControlTransfers.{write_at_status, write_told}
 use Rattle.usb_pipe.proofs.control.control_none.Given as given
 use Rattle.usb_pipe.proofs.control.control_none.Goals as goal

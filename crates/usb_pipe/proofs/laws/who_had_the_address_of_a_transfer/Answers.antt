@@ -7,7 +7,6 @@ returns c = record {
   reads = who_read_had;
   writes = who_write_had;
   sends = who_send_had;
-  receives =
-      who_receive_had;
+  receives = who_receive_had;
   polls = who_poll_had;
 }

@@ -1,6 +1,6 @@
 use Rattle.std.proofs.Common.{rules, ◌≤◌, ◌≡◌, ◌-◌, ◌++◌, take, length, arith, sym, ap, ◌∙◌, true}
 use Rattle.std.proofs.Common.{false}
-use Rattle.usb_pipe.specs.Control.{ends_stage}
+use Rattle.usb_pipe.specs.{ends_stage}
 use Rattle.usb_pipe.proofs.ControlTransfers.{read_progress_none, onward_more, onward_went}
 use Rattle.usb_pipe.proofs.ControlTransfers.{data_ends, lost_ends, no_room_ends}
 use Rattle.usb_pipe.proofs.stage.data_stage.Goals as goal

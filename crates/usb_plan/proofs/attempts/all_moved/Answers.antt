@@ -2,7 +2,7 @@ use Rattle.std.proofs.Common.{◌-◌, ◌^◌, take}
 use Rattle.std.proofs.lemmas.List.{take_all}
 use Rattle.std.proofs.lemmas.List.Sums.{sum_by_more}
 use Rattle.std.specs.List.{sum_by}
-use Rattle.usb_plan.specs.Attempts.{moved}
+use Rattle.usb_plan.specs.{moved}
 use Rattle.usb_plan.proofs.Totals.{saturated-add}
 use Rattle.usb_plan.proofs.attempts.all_moved.Goals as goal
 
@@ -17,6 +17,5 @@ events-preserved c =
 pub returns : goal.returns
 returns c = rw (
   c.events.invariant,
-  take_all c.events.event-index c.args.events.now
-      c.events-test.false,
+  take_all c.events.event-index c.args.events.now c.events-test.false,
 )

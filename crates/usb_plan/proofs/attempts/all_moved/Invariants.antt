@@ -1,6 +1,6 @@
 use Rattle.std.proofs.Common.{◌≡◌, ◌-◌, ◌^◌, take, min}
 use Rattle.std.specs.List.{sum_by}
-use Rattle.usb_plan.specs.Attempts.{moved}
+use Rattle.usb_plan.specs.{moved}
 use Rattle.usb_plan.proofs.attempts.all_moved.Given as goal
 
 abbrev pub invariant-events : goal.invariant-events

@@ -1,6 +1,6 @@
 use Rattle.std.proofs.Common.{refl, sym, arith}
 use Rattle.std.proofs.Math.Nat.{max-le}
-use Rattle.usb_plan.specs.Attempts.{greatest_total}
+use Rattle.usb_plan.specs.{greatest_total}
 use Rattle.usb_plan.proofs.Totals.{greatest_total-more}
 use Rattle.usb_plan.proofs.attempts.greatest_total.Goals as goal
 

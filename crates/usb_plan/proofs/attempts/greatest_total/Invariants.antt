@@ -1,5 +1,5 @@
 use Rattle.std.proofs.Common.{◌≡◌, ◌≤◌, take}
-use Rattle.usb_plan.specs.Attempts.{greatest_total}
+use Rattle.usb_plan.specs.{greatest_total}
 use Rattle.usb_plan.proofs.attempts.greatest_total.Given as goal
 
 abbrev pub invariant-events : goal.invariant-events

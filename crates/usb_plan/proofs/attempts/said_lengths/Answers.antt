@@ -1,7 +1,7 @@
 use Rattle.std.proofs.Common.{arith}
 use Rattle.std.proofs.lemmas.List.{take_all}
 use Rattle.std.proofs.lemmas.List.Sums.{sum_by_more}
-use Rattle.usb_device.specs.SaidLengths.{said_length, said_lengths}
+use Rattle.usb_device.specs.{said_length, said_lengths}
 use Rattle.usb_plan.proofs.attempts.said_lengths.Goals as goal
 
 pub texts-preserved : goal.texts-preserved
@@ -24,7 +24,6 @@ pub returns-clause-value : goal.returns-clause-value
 unfolding said_lengths
 returns-clause-value c = rw (
   c.texts.invariant.so_far,
-  take_all c.texts.text-index
-      c.configs-texts.result.now c.texts-test.false,
+  take_all c.texts.text-index c.configs-texts.result.now c.texts-test.false,
   c.configs-texts.ensures.value,
 )

@@ -1,6 +1,6 @@
 use Rattle.std.proofs.Common.{◌≡◌, ◌≤◌, ◌*◌, take}
 use Rattle.std.specs.List.{sum_by}
-use Rattle.usb_device.specs.SaidLengths.{said_length}
+use Rattle.usb_device.specs.{said_length}
 use Rattle.usb_plan.proofs.attempts.said_lengths.Given as goal
 
 abbrev pub invariant-texts : goal.invariant-texts

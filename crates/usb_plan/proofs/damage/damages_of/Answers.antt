@@ -2,7 +2,7 @@ use Rattle.std.proofs.Common.{◌≡◌, ◌+◌, ◌∙◌, sym, length, arith}
 use Rattle.toml.specs.Data.{as_table}
 use Rattle.toml.specs.View.{view}
 use Rattle.usb_plan.specs.declared.fault.PlanFault.TheVariants as fault
-use Rattle.usb_plan.specs.Damage.{damage_entry, last_from}
+use Rattle.usb_plan.specs.{damage_entry, last_from}
 use Rattle.usb_plan.proofs.Parts.{damage_entry_ok, entry_at_ok}
 use Rattle.usb_plan.proofs.MemoryRefusals.{unless_handed}
 use Rattle.usb_plan.proofs.Growth.{damages_from-step, damages_from-fault, damages_from-end}

@@ -1,7 +1,7 @@
 use Rattle.std.proofs.Common.{◌≡◌, ◌+◌, ◌<◌, ◌^◌, [], map, drop, true}
 use Rattle.toml.specs.View.{view}
-use Rattle.usb_world.specs.PlanData.{damages_fit}
-use Rattle.usb_plan.specs.Damage.{damages_from, last_from}
+use Rattle.usb_world.specs.{damages_fit}
+use Rattle.usb_plan.specs.{damages_from, last_from}
 use Rattle.usb_plan.proofs.damage.damages_of.Given as goal
 
 abbrev pub invariant-loop-i : goal.invariant-loop-i

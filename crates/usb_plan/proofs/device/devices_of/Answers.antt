@@ -3,9 +3,7 @@ use Rattle.toml.specs.Data.{as_table}
 use Rattle.toml.specs.View.{view}
 use Rattle.usb_plan.specs.declared.fault.Place.TheVariants as place
 use Rattle.usb_plan.specs.declared.fault.PlanFault.TheVariants as fault
-use Rattle.usb_plan.specs.declared.entry_fault.EntryFault.TheVariants.{Memory}
-use Rattle.usb_plan.specs.EntryFault.{EqualUnless}
-use Rattle.usb_plan.specs.Device.{device_in}
+use Rattle.usb_plan.specs.{Memory, EqualUnless, device_in}
 use Rattle.usb_plan.proofs.Parts.{device_in_ok, entry_at_ok}
 use Rattle.usb_plan.proofs.MemoryRefusals.{entry_at_told, entry_at_read, unless_handed}
 use Rattle.usb_plan.proofs.Growth.{devices_from-step, devices_from-fault, devices_from-end}

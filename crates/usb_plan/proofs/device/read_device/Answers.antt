@@ -1,7 +1,6 @@
 use Rattle.std.proofs.Common.{◌∙◌, sym}
 use Rattle.toml.specs.View.{table_view}
-use Rattle.usb_plan.specs.declared.entry_fault.EntryFault.TheVariants.{Memory}
-use Rattle.usb_plan.specs.Device.{read_device}
+use Rattle.usb_plan.specs.{Memory, read_device}
 use Rattle.usb_plan.proofs.Parts.{identity_of_ok, quirks_of_ok, read_bulk_ok}
 use Rattle.usb_plan.proofs.MemoryRefusals.{unless_ok, device_unless}
 use Rattle.usb_plan.proofs.device.read_device.Goals as goal

@@ -1,13 +1,10 @@
 use Rattle.std.proofs.Common.{◌+◌, ◌∙◌, sym, ap, refl, [], length}
 use Rattle.toml.specs.Data.{as_table}
 use Rattle.toml.specs.View.{view}
-use Rattle.usb_world.specs.PluggedDevices.{plugged_by, plugged_after}
+use Rattle.usb_world.specs.{plugged_by, plugged_after}
 use Rattle.usb_plan.specs.declared.fault.Place.TheVariants as place
 use Rattle.usb_plan.specs.declared.fault.PlanFault.TheVariants as fault
-use Rattle.usb_plan.specs.declared.entry_fault.EntryFault.TheVariants.{Memory}
-use Rattle.usb_plan.specs.EntryFault.{EqualUnless}
-use Rattle.usb_plan.specs.Scene.{SceneData, scene_after}
-use Rattle.usb_plan.specs.Event.{event_in}
+use Rattle.usb_plan.specs.{Memory, EqualUnless, SceneData, scene_after, event_in}
 use Rattle.usb_plan.proofs.Parts.{event_in_ok, entry_at_ok}
 use Rattle.usb_plan.proofs.MemoryRefusals.{entry_at_told, entry_at_read, unless_handed}
 use Rattle.usb_plan.proofs.Growth.{events_from-step, events_from-fault, events_from-end}
@@ -60,8 +57,7 @@ loop-i-preserved c =
           c.loop-i.done c.in_ok-event.event c.loop-i.invariant.fit follows.fits);
       scene = rw c.in_ok-push.ensures.ok (c.in_ok-apply.ensures
           ∙ (ap (λ (s : SceneData). record s {
-            plugged =
-                plugged_after c.in_ok-event.event.action s.plugged;
+            plugged = plugged_after c.in_ok-event.event.action s.plugged;
           }) c.loop-i.invariant.scene
           ∙ ap (λ t. record { roots = c.args.roots; devices = c.args.devices.now; plugged = t })
           (sym grown)));

@@ -1,8 +1,7 @@
 use Rattle.std.proofs.Common.{◌≡◌, ◌+◌, [], map, drop, true}
 use Rattle.toml.specs.View.{view}
-use Rattle.usb_plan.specs.Scene.{scene_after}
-use Rattle.usb_world.specs.PlanData.{events_fit}
-use Rattle.usb_plan.specs.Event.{events_from}
+use Rattle.usb_plan.specs.{scene_after, events_from}
+use Rattle.usb_world.specs.{events_fit}
 use Rattle.usb_plan.proofs.event.events_of.Given as goal
 
 abbrev pub invariant-loop-i : goal.invariant-loop-i

@@ -5,6 +5,5 @@ use Rattle.usb_plan.proofs.quirks.naks_at.Goals as goal
 pub overflow_cast-result : goal.overflow_cast-result
 overflow_cast-result c = omega (
   arith,
-  number_or_ok 0 0 200 _ c.in_ok-naks.naks (omega arith)
-      (sym c.in_ok-naks.ensures),
+  number_or_ok 0 0 200 _ c.in_ok-naks.naks (omega arith) (sym c.in_ok-naks.ensures),
 )

@@ -1,7 +1,6 @@
 use Rattle.std.proofs.Common.{◌+◌, ◌∙◌, sym, refl, arith}
 use Rattle.toml.specs.View.{view}
-use Rattle.usb_plan.specs.declared.entry_fault.EntryFault.TheVariants.{Memory}
-use Rattle.usb_plan.specs.Value.{hex_in}
+use Rattle.usb_plan.specs.{Memory, hex_in}
 use Rattle.usb_plan.proofs.Steps.{AtMost-with_text, AtMost-unless, texts_from-step, texts_from-end}
 use Rattle.usb_plan.proofs.MemoryRefusals.{with_text_is, unless_equal}
 use Rattle.usb_plan.proofs.texts.texts_of.Goals as goal

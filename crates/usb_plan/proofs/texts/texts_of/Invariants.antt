@@ -1,7 +1,6 @@
 use Rattle.std.proofs.Common.{◌≡◌, ◌≢◌, Ok, Err, [], map, drop}
 use Rattle.toml.specs.View.{view}
-use Rattle.usb_plan.specs.declared.entry_fault.EntryFault.TheVariants.{Memory}
-use Rattle.usb_plan.specs.Texts.{texts_from}
+use Rattle.usb_plan.specs.{Memory, texts_from}
 use Rattle.usb_plan.proofs.Steps.{AtMost}
 use Rattle.usb_plan.proofs.texts.texts_of.Given as goal
 

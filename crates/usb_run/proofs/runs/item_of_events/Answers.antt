@@ -1,9 +1,7 @@
 use Rattle.std.proofs.Common.{◌<◌, subst, ap, arith, Ok}
 use Rattle.std.specs.Prelude.{is_some}
-use Rattle.usb_world.specs.World.{to_come}
-use Rattle.usb_run.specs.RunSegments.{Arrives, idle}
-use Rattle.usb_run.specs.Transcript.{asked, in_item}
-use Rattle.usb_run.specs.Transfers.{IsItemOf}
+use Rattle.usb_world.specs.{to_come}
+use Rattle.usb_run.specs.{Arrives, idle, asked, in_item, IsItemOf}
 use Rattle.usb_run.proofs.endings.Ends.{error_runs_on}
 use Rattle.usb_run.proofs.courses.KnowledgeKept.{ran_knows}
 use Rattle.usb_run.proofs.items.Moments.{item_right}
@@ -15,8 +13,7 @@ pub events-init : goal.events-init
 events-init g c = record {
   running = c.requires.running;
   goes = λ s. idle;
-  spent =
-      spent_none c.args.host.now;
+  spent = spent_none c.args.host.now;
   owning = λ o. o;
 }
 

@@ -1,8 +1,7 @@
 use Rattle.std.proofs.Common.{◌≡◌, false}
-use Rattle.usb_world.specs.World.{to_come}
-use Rattle.usb_host.specs.Ownership.{HostMapHolds}
-use Rattle.usb_run.specs.Run.{Spent}
-use Rattle.usb_run.specs.RunSegments.{Knows, Ran}
+use Rattle.usb_world.specs.{to_come}
+use Rattle.usb_host.specs.{HostMapHolds}
+use Rattle.usb_run.specs.{Spent, Knows, Ran}
 use Rattle.usb_run.proofs.runs.item_of_events.Given as goal
 
 abbrev pub invariant-events : goal.invariant-events

@@ -1,8 +1,6 @@
 use Rattle.std.proofs.Common.{refl}
-use Rattle.usb_sim.specs.Sim.{world_of}
-use Rattle.usb_run.specs.RunSegments.{idle}
-use Rattle.usb_run.specs.Run.{run_fault}
-use Rattle.usb_run.specs.Transcript.{at_event, in_round}
+use Rattle.usb_sim.specs.{world_of}
+use Rattle.usb_run.specs.{idle, run_fault, at_event, in_round}
 use Rattle.usb_run.proofs.courses.RunParts.{arrives_taken, arrival_reaches, settling_spent}
 use Rattle.usb_run.proofs.courses.RunParts.{taken_fewer, taken_spent}
 use Rattle.usb_run.proofs.endings.Ends.{failed_is_caused, error_runs_on}

@@ -1,8 +1,8 @@
 use Rattle.std.proofs.Common.{◌≡◌, ◌≢◌, ◌∙◌, ap, inl, refl, subst, Some, Err}
 use Rattle.usb_world.specs.declared.types.BusFault.TheVariants as bus
-use Rattle.usb_world.specs.World.{World}
-use Rattle.usb_host.specs.HostState.{HostState}
-use Rattle.usb_run.specs.declared.runs.RunFault.TheVariants.{Memory}
+use Rattle.usb_world.specs.{World}
+use Rattle.usb_host.specs.{HostState}
+use Rattle.usb_run.specs.{Memory}
 use Rattle.usb_run.proofs.endings.Ends.{knows_opened}
 use Rattle.usb_run.proofs.ledgers.Enough.{ends_enough}
 use Rattle.usb_run.proofs.items.ReportedItems.{ends_plugged, ends_untraced, reports_limit}

@@ -1,5 +1,5 @@
 use Rattle.std.proofs.Common.{refl, ◌∙◌, sym, ap, Some}
-use Rattle.usb_run.specs.declared.runs.Item.TheVariants.{Sent}
+use Rattle.usb_run.specs.{Sent}
 use Rattle.usb_run.proofs.endings.Ends.{error_runs_on, answered_goes, answered_caused}
 use Rattle.usb_run.proofs.runs.send.Goals as goal
 

@@ -1,10 +1,9 @@
 use Rattle.std.proofs.Common.{◌≡◌, ◌≢◌, ◌≤◌, ◌∙◌, rules, sym, ap, subst, true}
 use denote.Enum.Bare.{sameb}
-use Rattle.usb_world.specs.World.{World}
+use Rattle.usb_world.specs.{World}
 use Rattle.usb_host.specs.contracts.host.Round.{the_type}
-use Rattle.usb_host.specs.declared.host.Round.{Round}
-use Rattle.usb_host.specs.declared.host.Round.TheVariants.{Quiet}
-use Rattle.usb_run.specs.RunSegments.{EndsSettling, none, more}
+use Rattle.usb_host.specs.{Round, Quiet}
+use Rattle.usb_run.specs.{EndsSettling, none, more}
 use Rattle.usb_run.proofs.endings.Ends.{error_runs_on}
 use Rattle.usb_run.proofs.courses.KnowledgeKept.{settles_leaves}
 use Rattle.usb_run.proofs.courses.RoundEnds.{rounds_fall}
@@ -62,8 +61,7 @@ returns-in_err-round-clause-on g c =
     (record {
       before = c.rounds.host;
       rounds = c.rounds.invariant.goes;
-      last =
-          c.in_err-round.ensures.on.goes;
+      last = c.in_err-round.ensures.on.goes;
     })
     c.in_err-round.ensures.on.caused
 
@@ -83,8 +81,7 @@ returns-then-events_taken-taken-clause-on g c =
         before = old;
         rounds = c.rounds.invariant.goes;
         round = round;
-        last =
-            c.in_ok-round.ensures.on.goes;
+        last = c.in_ok-round.ensures.on.goes;
         ends = record { quiet = quiet; none = none };
       };
       running = c.in_ok-round.ensures.on.running;

@@ -1,6 +1,6 @@
 use Rattle.std.proofs.Common.{◌≡◌, false}
-use Rattle.usb_host.specs.Ownership.{HostMapHolds}
-use Rattle.usb_run.specs.RunSegments.{Rounds}
+use Rattle.usb_host.specs.{HostMapHolds}
+use Rattle.usb_run.specs.{Rounds}
 use Rattle.usb_run.proofs.courses.RoundEnds.{rounds_left}
 use Rattle.usb_run.proofs.runs.settle.Given as goal
 

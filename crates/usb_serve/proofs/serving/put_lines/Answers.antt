@@ -3,8 +3,8 @@ use Rattle.std.proofs.Common.{suc, List, ℕ, length, get_or, ◌<◌}
 use Rattle.std.specs.Global.{Vec}
 use Rattle.std.specs.Io.KnownBytes.{Appends}
 use Rattle.std.specs.Prelude.{All}
-use Rattle.usb_bus.specs.Watch.{AppendsFront}
-use Rattle.usb_run.specs.ItemLines.{IsLine}
+use Rattle.usb_bus.specs.{AppendsFront}
+use Rattle.usb_run.specs.{IsLine}
 use Rattle.usb_serve.proofs.LineFaults.{line_calm, line_kept}
 use Rattle.usb_run.proofs.Interface.{texts_split, flat_map-take, puts_line, cuts_line}
 use Rattle.usb_serve.proofs.serving.put_lines.Goals as goal

@@ -1,6 +1,6 @@
 use Rattle.std.proofs.Common.{◌≡◌, flat_map, take, None}
 use Rattle.std.specs.Prelude.{◌⊎◌}
-use Rattle.usb_run.specs.Transcript.{AppendsText}
+use Rattle.usb_run.specs.{AppendsText}
 use Rattle.usb_serve.proofs.serving.put_lines.Given as goal
 
 -- the lines so far are written

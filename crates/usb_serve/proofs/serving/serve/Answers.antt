@@ -1,7 +1,8 @@
 use Rattle.std.proofs.Common.{refl, sym, subst}
-use Rattle.usb_bus.specs.Watch.{inner_of}
-use Rattle.usb_run.specs.declared.mode.Mode.TheVariants.{Tree, Run}
-use Rattle.usb_serve.specs.ServedRuns.{IsWritten, of_plan, unread}
+use Rattle.usb_bus.specs.{inner_of}
+use Rattle.usb_run.specs.{Tree}
+use Rattle.usb_run.specs.declared.mode.Mode.TheVariants.{Run}
+use Rattle.usb_serve.specs.{IsWritten, of_plan, unread}
 use Rattle.usb_serve.proofs.WrittenEnough.{written_enough}
 use Rattle.usb_serve.proofs.serving.serve.Goals as goal
 
@@ -36,7 +37,6 @@ returns-in-Tree-clause-writer g c = record {
 pub returns-clause-writer : goal.returns-clause-writer
 returns-clause-writer g c = record {
   write = c.serve_run.ensures.write;
-  trace =
-      c.serve_run.ensures.trace;
+  trace = c.serve_run.ensures.trace;
   at_limit = c.serve_run.ensures.at_limit;
 }

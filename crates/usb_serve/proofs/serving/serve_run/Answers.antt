@@ -1,6 +1,5 @@
 use Rattle.std.proofs.Common.{ap}
-use Rattle.usb_bus.specs.declared.watched.Watched.{Watched}
-use Rattle.usb_bus.specs.Watch.{inner_of}
+use Rattle.usb_bus.specs.{Watched, inner_of}
 use Rattle.usb_run.proofs.Interface.{knows_opened}
 use Rattle.usb_serve.proofs.ServedItems.{run_unopened, run_written}
 use Rattle.usb_serve.proofs.serving.serve_run.Goals as goal

@@ -1,10 +1,8 @@
 use Rattle.std.proofs.Common.{◌≡◌, subst}
-use Rattle.usb_bus.specs.Watch.{inner_of}
-use Rattle.usb_serve.specs.declared.output.Output.{Output}
-use Rattle.usb_run.specs.declared.runs.RunFault.TheVariants.{TraceFailed}
+use Rattle.usb_bus.specs.{inner_of}
+use Rattle.usb_serve.specs.{Output, held, IsServed}
+use Rattle.usb_run.specs.{TraceFailed}
 use Rattle.usb_serve.specs.declared.serving.ServeFault.TheVariants as serve
-use Rattle.usb_serve.specs.Outputs.{held}
-use Rattle.usb_serve.specs.ServedRuns.{IsServed}
 use Rattle.usb_serve.proofs.ServedThrough.{told_as, through}
 use Rattle.usb_serve.proofs.serving.serve_through.Goals as goal
 

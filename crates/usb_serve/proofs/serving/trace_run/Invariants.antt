@@ -1,6 +1,5 @@
 use Rattle.std.proofs.Common.{◌≡◌, false}
-use Rattle.usb_run.specs.Run.{items_left}
-use Rattle.usb_run.specs.RunSegments.{Knows}
+use Rattle.usb_run.specs.{items_left, Knows}
 use Rattle.usb_serve.proofs.ServedItems.{RunSoFar}
 use Rattle.usb_serve.proofs.serving.trace_run.Given as goal
 

@@ -1,6 +1,6 @@
 use Rattle.std.proofs.Common.{flat_map, take, drop, suc}
 use Rattle.usb_bus.proofs.Interface.{front_after}
-use Rattle.usb_bus.specs.Watch.{AppendsFront}
+use Rattle.usb_bus.specs.{AppendsFront}
 use Rattle.std.proofs.Common.{subst}
 use Rattle.usb_run.proofs.Interface.{texts_split}
 use Rattle.usb_serve.proofs.serving.write_lines.Goals as goal

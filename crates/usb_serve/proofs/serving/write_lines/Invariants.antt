@@ -1,6 +1,6 @@
 use Rattle.std.proofs.Common.{◌≡◌, flat_map, take}
 use Rattle.std.specs.Io.KnownBytes.{Appends}
-use Rattle.usb_bus.specs.Watch.{inner_of, has_failed}
+use Rattle.usb_bus.specs.{inner_of, has_failed}
 use Rattle.usb_serve.proofs.serving.write_lines.Given as goal
 
 -- the lines so far are written

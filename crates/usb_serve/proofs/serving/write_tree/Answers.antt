@@ -1,10 +1,10 @@
 use Rattle.std.proofs.Common.{◌≡◌, ◌∙◌, refl, subst, ap, Ok, IsErrAnd}
 use Rattle.std.specs.Io.KnownBytes.{Appends}
 use Rattle.std.specs.Prelude.{OnOk, is_some}
-use Rattle.usb_bus.specs.Watch.{AppendsFront, inner_of}
-use Rattle.usb_plan.specs.Attempts.{bound_of}
-use Rattle.usb_text.specs.ListingLines.{bound_line}
-use Rattle.usb_run.specs.Transcript.{Next}
+use Rattle.usb_bus.specs.{AppendsFront, inner_of}
+use Rattle.usb_plan.specs.{bound_of}
+use Rattle.usb_text.specs.{bound_line}
+use Rattle.usb_run.specs.{Next}
 use Rattle.usb_serve.proofs.ServedItems.{tree_begun, tree_cut, tree_over, tree_stopped, tree_told}
 use Rattle.usb_serve.proofs.ServedItems.{tree_unbound, tree_unlined, tree_unopened}
 use Rattle.usb_serve.proofs.serving.write_tree.Goals as goal

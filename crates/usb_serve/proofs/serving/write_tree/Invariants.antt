@@ -1,6 +1,6 @@
 use Rattle.std.proofs.Common.{◌≡◌}
-use Rattle.usb_bus.specs.Watch.{inner_of, has_failed}
-use Rattle.usb_run.specs.Run.{items_left}
+use Rattle.usb_bus.specs.{inner_of, has_failed}
+use Rattle.usb_run.specs.{items_left}
 use Rattle.usb_serve.proofs.ServedItems.{TreeSoFar}
 use Rattle.usb_serve.proofs.serving.write_tree.Given as goal
 

@@ -1,5 +1,5 @@
 use Rattle.std.proofs.Common.{◌≡◌, take}
-use Rattle.usb_bus.specs.Lines.{shown_names}
+use Rattle.usb_bus.specs.{shown_names}
 use Rattle.usb_sim.proofs.shown.shown_names.Given as goal
 
 abbrev pub invariant-devices : goal.invariant-devices

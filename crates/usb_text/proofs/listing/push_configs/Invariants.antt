@@ -1,5 +1,5 @@
 use Rattle.std.proofs.Common.{◌≡◌, ◌++◌, take}
-use Rattle.usb_text.specs.ListingLines.{config_lines}
+use Rattle.usb_text.specs.{config_lines}
 use Rattle.usb_text.proofs.listing.push_configs.Given as goal
 
 -- the lines of the texts so far are written

@@ -1,5 +1,5 @@
 use Rattle.std.proofs.Common.{◌≡◌, ◌++◌, flat_map, take}
-use Rattle.usb_text.specs.ListingLines.{entry_lines}
+use Rattle.usb_text.specs.{entry_lines}
 use Rattle.usb_text.proofs.listing.push_entries.Given as goal
 
 -- the lines of the entries so far are written

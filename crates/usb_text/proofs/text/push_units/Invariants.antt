@@ -1,5 +1,5 @@
 use Rattle.std.proofs.Common.{◌≡◌, ◌++◌, flat_map, take}
-use Rattle.usb_text.specs.ListingLines.{unit_text}
+use Rattle.usb_text.specs.{unit_text}
 use Rattle.usb_text.proofs.text.push_units.Given as goal
 
 -- the units so far are written

@@ -1,6 +1,5 @@
 use Rattle.std.proofs.Common.{◌≡◌, ◌+◌, ◌*◌, ◌-◌, true, ◌<◌}
-use Rattle.usb_transaction.specs.HeardOutcomes.{polled_as}
-use Rattle.usb_transaction.specs.Transactions.{in_attempt, transaction_bound}
+use Rattle.usb_transaction.specs.{polled_as, in_attempt, transaction_bound}
 use Rattle.usb_transaction.proofs.TransactionTries.{TryStands}
 use Rattle.usb_transaction.proofs.poll.poll_in.Given as goal
 

@@ -1,8 +1,6 @@
 use Rattle.std.proofs.Common.{Ok, Err, refl, sym, ap, ◌∙◌, rules}
 use Rattle.std.proofs.lemmas.Result.{err_from_is_err_and}
-use Rattle.usb_transaction.specs.HeardOutcomes.{heard_as}
-use Rattle.usb_transaction.specs.declared.fault.TransFault.TheVariants.{Stalled, Busy, NoAnswer}
-use Rattle.usb_transaction.specs.declared.fault.TransFault.TheVariants.{Bus}
+use Rattle.usb_transaction.specs.{heard_as, Stalled, Busy, NoAnswer, Bus}
 use Rattle.usb_transaction.proofs.Calls.{asks_in}
 use Rattle.usb_transaction.proofs.LastOutcomes.{heard_stall}
 use Rattle.usb_transaction.proofs.TransactionTries.{attempted_once, read_fits, stands_error}
@@ -15,8 +13,7 @@ pub tries-init : goal.tries-init
 tries-init g c = (
   refl,
   (search rules, search rules),
-  λ known. stands_new c.new-tries.result _
-      c.new-tries.ensures,
+  λ known. stands_new c.new-tries.result _ c.new-tries.ensures,
 )
 
 pub tries-preserved-in-Continue-1 : goal.tries-preserved-in-Continue-1

@@ -1,6 +1,5 @@
 use Rattle.std.proofs.Common.{◌≡◌, Err, Ok, [], length, sym, ◌∙◌, arith, rules}
-use Rattle.usb_transaction.specs.declared.fault.TransFault.TheVariants.{Bus, NoAnswer}
-use Rattle.usb_transaction.specs.HeardOutcomes.{set_up_as}
+use Rattle.usb_transaction.specs.{Bus, NoAnswer, set_up_as}
 use Rattle.usb_transaction.proofs.Calls.{sets_up}
 use Rattle.usb_transaction.proofs.TransactionTries.{ends_of, attempted_once, set_up_again}
 use Rattle.usb_transaction.proofs.TransactionTries.{set_up_cut, set_up_new, set_up_spent}

@@ -1,5 +1,5 @@
 use Rattle.std.proofs.Common.{◌≡◌, true}
-use Rattle.usb_transaction.specs.Transactions.{setup_attempt}
+use Rattle.usb_transaction.specs.{setup_attempt}
 use Rattle.usb_transaction.proofs.TransactionTries.{SetUpStands}
 use Rattle.usb_transaction.proofs.set_up.setup.Given as goal
 

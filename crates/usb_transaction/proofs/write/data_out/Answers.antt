@@ -1,9 +1,6 @@
 use Rattle.std.proofs.Common.{[], Ok, Err, refl, sym, ap, rules}
 use Rattle.std.proofs.lemmas.Result.{err_from_is_err_and}
-use Rattle.usb_transaction.specs.HeardOutcomes.{heard_when_sent}
-use Rattle.usb_transaction.specs.Transactions.{packed}
-use Rattle.usb_transaction.specs.declared.fault.TransFault.TheVariants.{Stalled, Busy, NoAnswer}
-use Rattle.usb_transaction.specs.declared.fault.TransFault.TheVariants.{Bus}
+use Rattle.usb_transaction.specs.{heard_when_sent, packed, Stalled, Busy, NoAnswer, Bus}
 use Rattle.usb_transaction.proofs.Calls.{sends_out}
 use Rattle.usb_transaction.proofs.LastOutcomes.{sent_last, sent_stall}
 use Rattle.usb_transaction.proofs.TransactionTries.{attempted_once, stands_error, stands_new}
@@ -15,8 +12,7 @@ pub tries-init : goal.tries-init
 tries-init g c = (
   refl,
   (search rules, search rules),
-  λ known. stands_new c.new-tries.result _
-      c.new-tries.ensures,
+  λ known. stands_new c.new-tries.result _ c.new-tries.ensures,
 )
 
 pub tries-preserved-in-Continue-1 : goal.tries-preserved-in-Continue-1

@@ -1,6 +1,5 @@
 use Rattle.std.proofs.Common.{◌≡◌, ◌+◌, ◌*◌, ◌-◌, true, ◌<◌}
-use Rattle.usb_transaction.specs.HeardOutcomes.{heard_when_sent}
-use Rattle.usb_transaction.specs.Transactions.{out_attempt, transaction_bound}
+use Rattle.usb_transaction.specs.{heard_when_sent, out_attempt, transaction_bound}
 use Rattle.usb_transaction.proofs.TransactionTries.{TryStands}
 use Rattle.usb_transaction.proofs.write.data_out.Given as goal
 

@@ -1,6 +1,5 @@
 use Rattle.std.proofs.Common.{◌≡◌, ◌^◌, ◌<◌, ◌∙◌, ap, refl, sym, arith, true}
-use Rattle.usb_wire.specs.Reading.{number_of_word}
-use Rattle.usb_wire.specs.Fields.{is_decimal}
+use Rattle.usb_wire.specs.{number_of_word, is_decimal}
 use Rattle.usb_wire.proofs.FieldLemmas.{within-unparsed}
 use Rattle.usb_wire.proofs.field.number_of_word.Goals as goal
 

@@ -1,6 +1,6 @@
 use Rattle.std.proofs.Common.{◌≡◌, ◌∙◌, Ok, ap, sym}
-use Rattle.usb_wire.specs.Reading.{◌>>=◌, line_says, result_map, text_of_line, words_say}
-use Rattle.usb_wire.specs.Words.{words}
+use Rattle.usb_wire.specs.Reading.{◌>>=◌}
+use Rattle.usb_wire.specs.{line_says, result_map, text_of_line, words_say, words}
 use Rattle.usb_wire.proofs.SaidLaws.{words_say-shape}
 use Rattle.usb_wire.proofs.reading.line_says.Goals as goal
 

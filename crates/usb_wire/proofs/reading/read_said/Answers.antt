@@ -1,5 +1,5 @@
 use Rattle.std.proofs.Common.{◌<◌, ◌∙◌, ap, arith}
-use Rattle.usb_wire.specs.Reading.{fault_in}
+use Rattle.usb_wire.specs.{fault_in}
 use Rattle.usb_wire.proofs.FaultLaws.{faults-line}
 use Rattle.usb_wire.proofs.ReadLaws.{line_says-said}
 use Rattle.usb_wire.proofs.SaidLaws.{said-result}

@@ -1,6 +1,6 @@
 use Rattle.std.proofs.Common.{◌≡◌, ◌∙◌, true, sym}
 use Rattle.std.proofs.lemmas.Str.{IsUtf8-from_ascii}
-use Rattle.usb_wire.specs.Words.{all_printable}
+use Rattle.usb_wire.specs.{all_printable}
 use Rattle.usb_wire.proofs.WordLemmas.{IsAscii-printable}
 use Rattle.usb_wire.proofs.reading.text_of_line.Goals as goal
 

@@ -1,6 +1,6 @@
 use Rattle.std.proofs.Common.{◌≡◌, ◌∙◌, ap, codes, subst, IfOk}
 use Rattle.clap.specs.Simple.{app_of}
-use Rattle.usb_words.specs.CommandLine.{with_text}
+use Rattle.usb_words.specs.{with_text}
 use Rattle.usb_words.proofs.words.first_commands.Goals as goal
 
 pub returns : goal.returns

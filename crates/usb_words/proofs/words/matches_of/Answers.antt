@@ -2,7 +2,7 @@ use Rattle.std.proofs.Common.{◌≡◌, ◌∙◌, sym, ap, subst, refl, List, 
 use Rattle.clap.specs.Walk.{Text}
 use Rattle.clap.specs.Simple.{App, HasMatchesOf, is_simple, subcommand_of, subcommand_rows_of}
 use Rattle.clap.specs.declared.parser.matches.ArgMatches.{ArgMatches}
-use Rattle.usb_words.specs.CommandLine.{program_app}
+use Rattle.usb_words.specs.{program_app}
 use Rattle.usb_words.proofs.words.matches_of.Goals as goal
 
 program_is_simple : is_simple program_app ≡ true

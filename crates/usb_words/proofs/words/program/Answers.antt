@@ -1,6 +1,6 @@
 use Rattle.std.proofs.Common.{◌≡◌, ◌∙◌, ap, ap₂, codes, subst, IfOk}
 use Rattle.clap.specs.Simple.{app_of, with_subcommand}
-use Rattle.usb_words.specs.CommandLine.{with_text}
+use Rattle.usb_words.specs.{with_text}
 use Rattle.usb_words.proofs.words.program.Goals as goal
 
 pub returns : goal.returns

@@ -6,7 +6,7 @@ use Rattle.clap.specs.declared.parser.matches.ArgMatches.{ArgMatches}
 use Rattle.clap.specs.declared.parser.matches.ArgMatches.TheViews.{out-ArgMatches, out-SubCommand}
 use Rattle.std.specs.Box.{box_value}
 use Rattle.clap.proofs.WalkLemmas.{first_value-rows, one_text-rows}
-use Rattle.usb_words.specs.CommandLine.{HasSubcommand, program_app}
+use Rattle.usb_words.specs.{HasSubcommand, program_app}
 use Rattle.usb_words.proofs.Numbers.{number_text}
 use Rattle.usb_words.proofs.words.words_of.Goals as goal
 

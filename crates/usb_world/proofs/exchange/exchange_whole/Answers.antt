@@ -1,9 +1,6 @@
 use Rattle.std.proofs.Common.{◌+◌, None, refl, ap, sym, ◌∙◌}
 use Rattle.usb_device.proofs.Interface.{stopped_on_err}
-use Rattle.usb_world.specs.Wire.{marked_some}
-use Rattle.usb_world.specs.Exchange.{ack_if}
-use Rattle.usb_world.specs.declared.exchange.Exchange.{Exchange}
-use Rattle.usb_world.specs.declared.wire.Mark.TheVariants.{Whole}
+use Rattle.usb_world.specs.{marked_some, ack_if, Exchange, Whole}
 use Rattle.usb_world.proofs.attempts.Exchanges.{over_settled}
 use Rattle.usb_world.proofs.ways.OneWalk.{CutShort, Walked, walk_over, walk_cut, walked_made}
 use Rattle.usb_world.proofs.ways.OneWalk.{walked_kept, made_plugged, made_settled, cut_plugged}

@@ -1,6 +1,5 @@
 use Rattle.std.proofs.Common.{◌≡◌, true, subst}
-use Rattle.usb_world.specs.declared.wire.Mark.{Mark}
-use Rattle.usb_world.specs.Wire.{has_its_bit}
+use Rattle.usb_world.specs.{Mark, has_its_bit}
 use Rattle.usb_world.proofs.exchange.goes_out.Goals as goal
 
 pub broken-requires-clause-bit : goal.broken-requires-clause-bit

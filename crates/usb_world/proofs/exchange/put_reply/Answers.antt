@@ -1,6 +1,5 @@
 use Rattle.std.proofs.Common.{Some, ap, sym, ◌∙◌}
-use Rattle.usb_world.specs.Wire.{marked_some}
-use Rattle.usb_world.specs.Exchange.{ack_if}
+use Rattle.usb_world.specs.{marked_some, ack_if}
 use Rattle.usb_world.proofs.exchange.put_reply.Goals as goal
 
 pub returns-then-acknowledged-clause-value : goal.returns-then-acknowledged-clause-value

@@ -1,11 +1,8 @@
 use Rattle.std.proofs.Common.{◌∙◌, ◌+◌, Option, sym, subst, ap, ap₂}
-use Rattle.usb_device.specs.declared.delivery.Sent.{Sent}
-use Rattle.usb_world.specs.Wire.{harm_to, marked_some}
-use Rattle.usb_world.specs.Exchange.{answer_mark, clears_at, goes_out}
-use Rattle.usb_device.specs.Delivery.{both, heard_of}
-use Rattle.usb_world.specs.declared.wire.Outgoing.{Outgoing}
-use Rattle.usb_tree.specs.AttemptPackets.{after_sent, answers_to, IfOut, IsDataOut, IsAckOut}
-use Rattle.usb_world.specs.CutPackets.{IsStopped}
+use Rattle.usb_device.specs.{Sent, both, heard_of}
+use Rattle.usb_world.specs.{harm_to, marked_some, answer_mark, clears_at, goes_out, Outgoing}
+use Rattle.usb_world.specs.{IsStopped}
+use Rattle.usb_tree.specs.{after_sent, answers_to, IfOut, IsDataOut, IsAckOut}
 use Rattle.usb_world.proofs.attempts.Exchanges.{Makes, made_exchange, made_ports, plugged_further}
 use Rattle.usb_world.proofs.attempts.Refusals.{token_not_stopped, reply_not_stopped}
 use Rattle.usb_world.proofs.ways.Routes.{alone_data, alone_ack}

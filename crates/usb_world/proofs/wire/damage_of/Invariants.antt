@@ -1,5 +1,5 @@
 use Rattle.std.proofs.Common.{◌≡◌, drop}
-use Rattle.usb_world.specs.Wire.{damage_of}
+use Rattle.usb_world.specs.{damage_of}
 use Rattle.usb_world.proofs.wire.damage_of.Given as goal
 
 -- the damages so far are to other attempts

@@ -1,6 +1,6 @@
 use Rattle.std.proofs.Common.{length, ap, arith}
-use Rattle.usb_device.specs.Tree.{row_of}
-use Rattle.usb_device.proofs.Loans.{child-within}
+use Rattle.usb_device.specs.{row_of}
+use Rattle.usb_device.proofs.packets.Loans.{child-within}
 use Rattle.usb_device.proofs.children.DeviceParent.place_of.Goals as goal
 
 pub place_mut-requires : goal.place_mut-requires

@@ -1,7 +1,7 @@
 use Rattle.std.proofs.Common.{◌≡◌, ◌<◌, length, false, arith}
 use Rattle.std.proofs.lemmas.Grind.{common_steps}
 use Rattle.std.proofs.lemmas.List.Elements.{All-push}
-use Rattle.usb_device.specs.Spec.{is_named, IsSpec}
+use Rattle.usb_device.specs.{is_named, IsSpec}
 use Rattle.usb_device.proofs.Names.{names_differ-push}
 use Rattle.usb_device.proofs.devices.Devices.push.Goals as goal
 

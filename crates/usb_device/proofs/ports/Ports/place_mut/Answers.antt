@@ -1,7 +1,7 @@
 use Rattle.std.proofs.Common.{refl, ap, ◌<◌, length, arith}
-use Rattle.usb_device.specs.Tree.{row_of}
-use Rattle.usb_device.proofs.FirstPlaces.{length-row}
-use Rattle.usb_device.proofs.Loans.{written, loan_read}
+use Rattle.usb_device.specs.{row_of}
+use Rattle.usb_device.proofs.places.FirstPlaces.{length-row}
+use Rattle.usb_device.proofs.packets.Loans.{written, loan_read}
 use Rattle.usb_device.proofs.ports.Ports.place_mut.Goals as goal
 
 pub index_mut-requires : goal.index_mut-requires

@@ -5,8 +5,8 @@ use Rattle.std.specs.List.{HoldsAt, AllWithin}
 use Rattle.std.proofs.lemmas.Iterator.{cases_from_any, YieldsList-from_slice}
 use Rattle.std.proofs.lemmas.Bool.{false≢true}
 use Rattle.std.proofs.lemmas.Bool.Decides.{same_from_decides, Decides-by_or, Decides-eqb}
-use Rattle.usb_descriptor.specs.Config.{configuration_value}
-use Rattle.usb_enum.specs.Text.{any_has_value}
+use Rattle.usb_descriptor.specs.{configuration_value}
+use Rattle.usb_enum.specs.{any_has_value}
 use Rattle.usb_enum.proofs.text.ConfigTexts.has_value.Goals as goal
 
 abbrev Has : ℕ → List ℕ → Type 0

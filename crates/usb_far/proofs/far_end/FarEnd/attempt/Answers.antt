@@ -1,5 +1,5 @@
 use Rattle.std.proofs.Common.{refl}
-use Rattle.usb_far.specs.FarEnd.{played_of}
+use Rattle.usb_far.specs.{played_of}
 use Rattle.usb_far.proofs.Deeds.{played_attempt}
 use Rattle.usb_far.proofs.far_end.FarEnd.attempt.Goals as goal
 

@@ -1,5 +1,5 @@
 use Rattle.std.proofs.Common.{refl}
-use Rattle.usb_far.specs.FarEnd.{played_of}
+use Rattle.usb_far.specs.{played_of}
 use Rattle.usb_far.proofs.Deeds.{port_called}
 use Rattle.usb_far.proofs.far_end.FarEnd.call.Goals as goal
 

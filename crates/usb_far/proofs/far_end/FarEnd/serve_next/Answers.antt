@@ -1,6 +1,6 @@
 use Rattle.std.proofs.Common.{ap, Err}
-use Rattle.usb_lines.specs.Pipes.{pipe_of}
-use Rattle.usb_far.specs.FarEnd.{played_of}
+use Rattle.usb_lines.specs.{pipe_of}
+use Rattle.usb_far.specs.{played_of}
 use Rattle.usb_far.proofs.Lines.{not_read}
 use Rattle.usb_far.proofs.far_end.FarEnd.serve_next.Goals as goal
 

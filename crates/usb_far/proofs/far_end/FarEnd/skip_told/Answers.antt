@@ -1,6 +1,6 @@
 use Rattle.std.proofs.Common.{◌∙◌, refl, sym, ap, Err}
-use Rattle.usb_lines.specs.Pipes.{pipe_of}
-use Rattle.usb_far.specs.FarEnd.{played_of}
+use Rattle.usb_lines.specs.{pipe_of}
+use Rattle.usb_far.specs.{played_of}
 use Rattle.usb_far.proofs.Lines.{not_skipped, told_long, too_long}
 use Rattle.usb_far.proofs.far_end.FarEnd.skip_told.Goals as goal
 

@@ -1,5 +1,5 @@
 use Rattle.std.proofs.Common.{◌∙◌, inr, refl, sym}
-use Rattle.usb_far.specs.FarEnd.{played_of}
+use Rattle.usb_far.specs.{played_of}
 use Rattle.usb_far.proofs.Deeds.{event_wanted, nothing_wanted, too_much_wanted}
 use Rattle.usb_far.proofs.far_end.FarEnd.wait.Goals as goal
 

@@ -1,9 +1,8 @@
 use Rattle.std.proofs.Common.{arith, rules, ap, sym, ◌∙◌}
-use Rattle.usb_host.specs.Bounds.{clear_bound}
+use Rattle.usb_host.specs.{clear_bound, HostState}
 use Rattle.std.proofs.lemmas.Bool.{false≢true}
 use Rattle.std.proofs.lemmas.Grind.{common_steps}
 use Rattle.usb_backlog.proofs.Interface.{all_none}
-use Rattle.usb_host.specs.HostState.{HostState}
 use Rattle.usb_host.proofs.StepSums.{host_goes_none}
 use Rattle.usb_host.proofs.devices.Owners.{owning_kept}
 use Rattle.usb_host.proofs.knowledge.Soundness.{sound_none, sound_kept}
@@ -22,8 +21,7 @@ returns-then-self-clause-tells g c known = record {
   keeps = record {
     owning = λ o. o;
     sound = sound_none _;
-    backlog =
-        λ still. all_none c.args.self.now.world;
+    backlog = λ still. all_none c.args.self.now.world;
   };
 }
 

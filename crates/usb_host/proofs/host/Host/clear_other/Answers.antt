@@ -1,5 +1,5 @@
 use Rattle.std.proofs.Common.{refl}
-use Rattle.usb_pipe.specs.Control.{write_bound}
+use Rattle.usb_pipe.specs.{write_bound}
 use Rattle.usb_host.proofs.PortRequests.{others_by, others_none}
 use Rattle.usb_host.proofs.host.Host.clear_other.Goals as goal
 

@@ -1,6 +1,6 @@
 use Rattle.std.proofs.Common.{◌∙◌, ◌*◌, arith}
 use Rattle.std.proofs.lemmas.Result.{err_from_is_err_and}
-use Rattle.usb_pipe.specs.Control.{write_bound}
+use Rattle.usb_pipe.specs.{write_bound}
 use Rattle.usb_host.proofs.PortRequests.{others_fail, others_then}
 use Rattle.usb_host.proofs.host.Host.clear_others.Goals as goal
 

@@ -1,8 +1,8 @@
 use Rattle.std.proofs.Common.{◌+◌, ◌*◌, refl, subst}
 use Rattle.usb_address.proofs.Interface.{keeps_none}
-use Rattle.usb_table.specs.KnownPorts.{IsAskable}
-use Rattle.usb_pipe.specs.Control.{write_bound}
-use Rattle.usb_enum.specs.Bounds.{read_bound}
+use Rattle.usb_table.specs.{IsAskable}
+use Rattle.usb_pipe.specs.{write_bound}
+use Rattle.usb_enum.specs.{read_bound}
 use Rattle.usb_host.proofs.rests.OtherChanges.{own_goes}
 use Rattle.usb_host.proofs.PortRequests.{own_by, requested-none}
 use Rattle.usb_host.proofs.host.Host.clear_own.Goals as goal

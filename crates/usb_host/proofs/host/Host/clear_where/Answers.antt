@@ -5,8 +5,7 @@ pub returns-then-asked-clause-clears : goal.returns-then-asked-clause-clears
 returns-then-asked-clause-clears g c known =
     record {
       so = λ yes. c.clear.ensures.clears known;
-      not =
-          λ no. absurd (cc (no, c.if-asked.true));
+      not = λ no. absurd (cc (no, c.if-asked.true));
     }
 
 pub returns-else-asked-clause-clears : goal.returns-else-asked-clause-clears

@@ -1,14 +1,11 @@
 use Rattle.usb_host.proofs.PortLocations.{placed}
 use Rattle.std.proofs.Common.{refl, sym, subst, Err}
-use Rattle.usb_request.specs.Features.{PORT_ENABLE}
-use Rattle.usb_pipe.specs.Control.{write_bound}
-use Rattle.usb_host.specs.HostState.{HostState}
-use Rattle.usb_port.specs.Calls.{clear_call}
-use Rattle.usb_hub.specs.Addresses.{KeepsCleared}
+use Rattle.usb_request.specs.{PORT_ENABLE}
+use Rattle.usb_pipe.specs.{write_bound}
+use Rattle.usb_host.specs.{HostState, Bus, StandsAt}
+use Rattle.usb_port.specs.{clear_call}
+use Rattle.usb_hub.specs.{KeepsCleared, CommandsPort}
 use Rattle.usb_hub.proofs.Interface.{keeps_devices_none}
-use Rattle.usb_hub.specs.Moments.{CommandsPort}
-use Rattle.usb_host.specs.declared.fault.HostFault.TheVariants.{Bus}
-use Rattle.usb_host.specs.Ports.{StandsAt}
 use Rattle.usb_host.proofs.OwnedPorts.{none_disabled, cleared_enable_disabled, port_failed}
 use Rattle.usb_host.proofs.OwnedPorts.{not_disabled}
 use Rattle.usb_host.proofs.devices.Causes.{told_caused, untold_caused}

@@ -1,6 +1,6 @@
 use Rattle.std.proofs.Common.{◌≡◌, ◌≤◌, length, true}
-use Rattle.usb_tree.specs.Paths.{is_way}
-use Rattle.usb_host.specs.Progress.{OnlyBusSteps}
+use Rattle.usb_tree.specs.{is_way}
+use Rattle.usb_host.specs.{OnlyBusSteps}
 use Rattle.usb_host.proofs.PortDrops.{ClimbedTo}
 use Rattle.usb_host.proofs.host.Host.disable_upward.Given as goal
 

@@ -1,10 +1,7 @@
 use Rattle.std.proofs.Common.{◌≡◌, ap, refl, sym, subst, Some, false}
 use Rattle.std.proofs.lemmas.Result.{err_from_is_err_and}
-use Rattle.usb_table.specs.Entries.{has_at}
-use Rattle.usb_table.specs.KnownPorts.{known_port}
-use Rattle.usb_table.specs.Table.{Table}
-use Rattle.usb_host.specs.HostState.{HostState}
-use Rattle.usb_host.specs.Ports.{StandsAt}
+use Rattle.usb_table.specs.{has_at, known_port, Table}
+use Rattle.usb_host.specs.{HostState, StandsAt}
 use Rattle.usb_host.proofs.entries.Agreements.{nested_entered, known_some}
 use Rattle.usb_host.proofs.entries.Balances.{accounts_entered, range_claimed}
 use Rattle.usb_host.proofs.PortLooks.{discover_done, discover_fails, discover_lost}

@@ -1,14 +1,11 @@
 use Rattle.std.proofs.Common.{◌≡◌, ◌∙◌, ap, refl, sym, subst, false}
 use Rattle.std.proofs.lemmas.Result.{err_from_is_err_and}
 use Rattle.std.specs.Prelude.{IsSome}
-use Rattle.usb_enum.specs.declared.cause.Cause.TheVariants.{Lost}
+use Rattle.usb_enum.specs.{Lost}
 use Rattle.usb_enum.specs.declared.finding.Finding.TheVariants.{Refused}
-use Rattle.usb_table.specs.Entries.{Entries, has_at, without}
-use Rattle.usb_table.specs.KnownPorts.{known_port}
-use Rattle.usb_table.specs.Table.{Table, entered}
+use Rattle.usb_table.specs.{Entries, has_at, without, known_port, Table, entered}
 use Rattle.usb_table.proofs.Interface.{known_port-without}
-use Rattle.usb_host.specs.HostState.{HostState}
-use Rattle.usb_host.specs.Transfers.{table_in}
+use Rattle.usb_host.specs.{HostState, table_in}
 use Rattle.usb_host.proofs.entries.Agreements.{nested_entered}
 use Rattle.usb_host.proofs.entries.Balances.{accounts_entered}
 use Rattle.usb_host.proofs.PortDrops.{drop_done, drop_unlisted, drop_untold}

@@ -1,9 +1,8 @@
 use Rattle.std.proofs.Common.{◌≡◌, ◌∙◌, ap, subst, sym, Err}
 use Rattle.std.specs.Prelude.{IfErr}
-use Rattle.usb_port.specs.Order.{parent_of}
-use Rattle.usb_enum.specs.declared.fault.EnumFault.{EnumFault}
-use Rattle.usb_enum.specs.declared.fault.EnumFault.TheVariants.{Bus, Memory, ParentLost}
-use Rattle.usb_host.specs.Ports.{Broke}
+use Rattle.usb_port.specs.{parent_of}
+use Rattle.usb_enum.specs.{EnumFault, Bus, Memory, ParentLost}
+use Rattle.usb_host.specs.{Broke}
 use Rattle.usb_host.proofs.PortDrops.{finish_done, finish_lost, no_parent}
 use Rattle.usb_host.proofs.PortServes.{finish_fails}
 use Rattle.usb_host.proofs.host.Host.drop_lost_parent.Goals as goal

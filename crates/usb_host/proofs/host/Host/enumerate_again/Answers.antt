@@ -1,5 +1,5 @@
 use Rattle.std.proofs.lemmas.Result.{err_from_is_err_and}
-use Rattle.usb_host.specs.Bounds.{clearing_bound}
+use Rattle.usb_host.specs.{clearing_bound}
 use Rattle.usb_host.proofs.PortLooks.{look_done, look_fails}
 use Rattle.usb_host.proofs.PortLocations.{placed, placed_on}
 use Rattle.usb_host.proofs.host.Host.enumerate_again.Goals as goal

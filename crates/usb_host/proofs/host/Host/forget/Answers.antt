@@ -1,15 +1,12 @@
 use Rattle.std.proofs.Common.{◌≡◌, ◌∙◌, List, ℕ, sym, ap, subst}
 use Rattle.std.proofs.lemmas.Grind.{common_steps}
 use Rattle.std.proofs.Common.{arith, rules}
-use Rattle.usb_resources.specs.Pool.{Addresses, HasAddresses, IsFull}
+use Rattle.usb_resources.specs.{Addresses, HasAddresses, IsFull}
 use Rattle.usb_table.proofs.Interface.{none_apart}
-use Rattle.usb_table.specs.Entries.{Entries, without}
-use Rattle.usb_table.specs.Table.{Table, pipes_at}
+use Rattle.usb_table.specs.{Entries, without, Table, pipes_at}
 use Rattle.usb_world.proofs.Interface.{at_or_below_way}
 use Rattle.usb_host.specs.Accounts.{Accounts}
-use Rattle.usb_host.specs.Agreement.{Agrees}
-use Rattle.usb_host.specs.HostState.{HostState}
-use Rattle.usb_host.specs.Transfers.{table_in}
+use Rattle.usb_host.specs.{Agrees, HostState, table_in}
 use Rattle.usb_host.proofs.entries.Agreements.{nested_without}
 use Rattle.usb_host.proofs.entries.RisingEntries.{rises_without}
 use Rattle.usb_host.proofs.host.Host.forget.Goals as goal

@@ -1,16 +1,14 @@
 use Rattle.std.proofs.Common.{◌≡◌, length, ℕ, List, false}
-use Rattle.usb_resources.specs.Pool.{IsFull, HasAddresses}
+use Rattle.usb_resources.specs.{IsFull, HasAddresses}
 use Rattle.usb_host.specs.Accounts.{Accounts}
-use Rattle.usb_table.specs.Entries.{is_at_or_below, without}
-use Rattle.usb_table.specs.Table.{pipes_at}
+use Rattle.usb_table.specs.{is_at_or_below, without, pipes_at}
 use Rattle.usb_host.proofs.host.Host.forget.Given as goal
 
 abbrev pub invariant-entries : goal.invariant-entries
 invariant-entries g l = record {
   others : l.self-inside ≡ record l.initial.self-inside {
     table = l.self-inside.table;
-    pool =
-        l.self-inside.pool;
+    pool = l.self-inside.pool;
   };
   rest : without l.path l.self-inside.table.entries
       ≡ without l.path l.initial.self-inside.table.entries;

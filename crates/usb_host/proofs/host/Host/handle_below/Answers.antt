@@ -1,10 +1,9 @@
 use Rattle.std.proofs.Common.{◌≡◌, ◌∙◌, ap, refl, sym, subst, ◌++◌, ◌∷◌, [], length, ℕ, List, ◌<◌}
 use Rattle.std.proofs.Common.{None, Some}
 use Rattle.std.specs.Prelude.{IsSome, IsTrue}
-use Rattle.usb_port.specs.Order.{parent_of}
-use Rattle.usb_port.specs.Path.{IsPortNumber}
+use Rattle.usb_port.specs.{parent_of, IsPortNumber}
 use Rattle.usb_port.proofs.Interface.{parent}
-use Rattle.usb_table.specs.KnownPorts.{known_port}
+use Rattle.usb_table.specs.{known_port}
 use Rattle.usb_host.proofs.payments.HandlingPayments.{number_handled, number_stops, number_unknown}
 use Rattle.usb_host.proofs.knowledge.Hubs.{below_due}
 use Rattle.usb_host.proofs.services.Services.{pushed_part}

@@ -1,8 +1,6 @@
 use Rattle.std.proofs.Common.{◌≡◌, ℕ, List, subst, true}
-use Rattle.usb_world.specs.World.{root_port_at}
-use Rattle.usb_host.specs.Agreement.{Agrees}
-use Rattle.usb_host.specs.HostState.{HostState}
-use Rattle.usb_host.specs.Service.{HandlesPort}
+use Rattle.usb_world.specs.{root_port_at}
+use Rattle.usb_host.specs.{Agrees, HostState, HandlesPort}
 use Rattle.usb_host.proofs.knowledge.Hubs.{root_stands}
 use Rattle.usb_host.proofs.host.Host.handle_root.Goals as goal
 

@@ -1,6 +1,6 @@
 use Rattle.std.proofs.Common.{arith}
 use Rattle.std.proofs.lemmas.Result.{err_from_is_err_and}
-use Rattle.usb_host.specs.Bounds.{clearing_bound}
+use Rattle.usb_host.specs.{clearing_bound}
 use Rattle.usb_host.proofs.entries.HubCounts.{hubs-rest}
 use Rattle.usb_host.proofs.PortLooks.{error_look_done, error_look_fails}
 use Rattle.usb_host.proofs.PortLocations.{placed, placed_on}

@@ -1,7 +1,7 @@
 use Rattle.std.proofs.Common.{◌≡◌, ◌∙◌, ◌-◌, ◌+◌, ℕ, ap, arith, refl, sym, subst}
-use Rattle.usb_request.specs.Features.{PORT_POWER}
-use Rattle.usb_world.specs.World.{World, roots_of}
-use Rattle.usb_bus.specs.Traces.{Traced, still}
+use Rattle.usb_request.specs.{PORT_POWER}
+use Rattle.usb_world.specs.{World, roots_of}
+use Rattle.usb_bus.specs.{Traced, still}
 use Rattle.usb_bus.proofs.Interface.{traced_set}
 use Rattle.usb_host.proofs.parts.Powers.{powered_none, powered_length, powers_one, powered_all}
 use Rattle.usb_host.proofs.parts.Powers.{powered_world}
@@ -9,17 +9,14 @@ use Rattle.usb_host.proofs.entries.Agreements.{nested_none}
 use Rattle.usb_host.proofs.entries.RisingEntries.{rises_none}
 use Rattle.usb_host.proofs.entries.Balances.{accounts_none, range_none}
 use Rattle.usb_host.proofs.parts.Openings.{powered_is_opening, owning_opening, sound_opening}
-use Rattle.usb_host.specs.HostState.{HostState}
-use Rattle.usb_host.specs.Ownership.{HostMapHolds}
-use Rattle.usb_host.specs.Soundness.{HostInvariant}
+use Rattle.usb_host.specs.{HostState, HostMapHolds, HostInvariant}
 use Rattle.usb_host.proofs.host.Host.new.Goals as goal
 
 pub ports-init : goal.ports-init
 ports-init g c = record {
   powered = λ known. powered_none _;
   traced = λ known. still;
-  silent =
-      λ known. refl;
+  silent = λ known. refl;
 }
 
 pub root_set-requires-clause-port : goal.root_set-requires-clause-port
@@ -53,8 +50,7 @@ invariant_of-result g c = rw (c.new-2.ensures, c.new.ensures.empty)
       rises = rises_none;
       range = range_none;
       accounts = accounts_none;
-      nested =
-          nested_none;
+      nested = nested_none;
     })
 
 pub returns : goal.returns
@@ -66,8 +62,7 @@ returns g c known =
       arith,
       c.ports-test.false,
       c.ports.auto.port-end,
-      c.root_ports-roots.ensures.count
-          known,
+      c.root_ports-roots.ensures.count known,
       c.root_ports-roots.ensures.least,
     ) in
     let opens = powered_is_opening w0 _ _ _ _ _

@@ -1,5 +1,5 @@
 use Rattle.std.proofs.Common.{◌≡◌, ◌-◌, true}
-use Rattle.usb_bus.specs.Traces.{Traced}
+use Rattle.usb_bus.specs.{Traced}
 use Rattle.usb_host.proofs.parts.Powers.{powered_world}
 use Rattle.usb_host.proofs.host.Host.new.Given as goal
 

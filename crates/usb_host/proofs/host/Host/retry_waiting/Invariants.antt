@@ -1,8 +1,7 @@
 use Rattle.std.proofs.Common.{◌≡◌, ◌-◌, true}
 use Rattle.std.specs.Prelude.{IfSome}
-use Rattle.usb_port.specs.Path.{IsPath}
-use Rattle.usb_host.specs.Soundness.{NoneWait}
-use Rattle.usb_host.specs.declared.host.Round.TheVariants.{Quiet}
+use Rattle.usb_port.specs.{IsPath}
+use Rattle.usb_host.specs.{NoneWait, Quiet}
 use Rattle.usb_host.proofs.entries.Ranks.{rank_after}
 use Rattle.usb_host.proofs.RoundLoops.{WaitingHandled}
 use Rattle.usb_host.proofs.host.Host.retry_waiting.Given as goal

@@ -1,13 +1,8 @@
 use Rattle.std.proofs.Common.{arith, rules, ◌≡◌, ap, refl, sym, subst, ◌∙◌}
 use Rattle.std.specs.Prelude.{IfOk}
 use Rattle.std.proofs.lemmas.Grind.{common_steps}
-use Rattle.usb_host.specs.Bounds.{round_bound}
-use Rattle.usb_host.specs.Budget.{PaysRound}
-use Rattle.usb_host.specs.HostState.{HostState}
+use Rattle.usb_host.specs.{round_bound, PaysRound, HostState, HostSteps, DidParts, RoundsSound}
 use Rattle.usb_host.proofs.payments.RoundPayments.{pays_stopped, stopped_pays}
-use Rattle.usb_host.specs.Progress.{HostSteps}
-use Rattle.usb_host.specs.Service.{DidParts}
-use Rattle.usb_host.specs.Soundness.{RoundsSound}
 use Rattle.usb_host.proofs.rests.IdleRounds.{round_rests}
 use Rattle.usb_host.proofs.StepSums.{host_goes_none}
 use Rattle.usb_host.proofs.devices.Owners.{round_owning}
@@ -46,8 +41,7 @@ returns-clause-tells g c known =
     let value = c.is_err-self-inside.ensures.value in
     let sound : RoundsSound a result b = record {
       keeps = x.keeps.part.sound;
-      rest =
-          x.keeps.rest;
+      rest = x.keeps.rest;
     } in
     record {
       stopped = returns-clause-stopped g c;

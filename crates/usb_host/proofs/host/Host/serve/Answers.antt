@@ -1,6 +1,6 @@
 use Rattle.std.proofs.Common.{◌∙◌, sym}
 use Rattle.std.proofs.lemmas.Result.{err_from_is_err_and}
-use Rattle.usb_enum.specs.Bounds.{read_bound}
+use Rattle.usb_enum.specs.{read_bound}
 use Rattle.usb_host.proofs.PortServes.{serve_failed, serve_fails, serve_looked, serve_settled}
 use Rattle.usb_host.proofs.PortLocations.{placed, placed_on}
 use Rattle.usb_host.proofs.host.Host.serve.Goals as goal

@@ -1,9 +1,8 @@
 use Rattle.std.proofs.Common.{◌∙◌, ap, refl, rules, arith, sym, subst}
 use Rattle.std.proofs.lemmas.Grind.{common_steps}
 use Rattle.std.specs.Prelude.{IsSome}
-use Rattle.usb_table.specs.Listing.{hub_facts_at}
-use Rattle.usb_host.specs.HostState.{HostState}
-use Rattle.usb_host.specs.Service.{first_byte}
+use Rattle.usb_table.specs.{hub_facts_at}
+use Rattle.usb_host.specs.{HostState, first_byte}
 use Rattle.usb_host.proofs.HubPolls.{poll_cut, poll_lost, poll_quiet, poll_served, poll_undropped}
 use Rattle.usb_host.proofs.HubPolls.{poll_unserved}
 use Rattle.usb_host.proofs.services.HubServices.{failed_more}

@@ -1,5 +1,5 @@
 use Rattle.std.proofs.Common.{arith, refl}
-use Rattle.usb_table.specs.Findings.{is_hub}
+use Rattle.usb_table.specs.{is_hub}
 use Rattle.usb_host.proofs.rests.IdleRounds.{none_next}
 use Rattle.usb_host.proofs.entries.Ranks.{rank_most, rank_rises}
 use Rattle.usb_host.proofs.rests.RestingRounds.{next_listed}

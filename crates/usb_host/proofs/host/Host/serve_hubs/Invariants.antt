@@ -1,7 +1,7 @@
 use Rattle.std.proofs.Common.{◌≡◌, ◌-◌, true}
 use Rattle.std.specs.Prelude.{[], IfSome}
-use Rattle.usb_port.specs.Path.{IsPath}
-use Rattle.usb_host.specs.declared.host.Round.TheVariants.{Quiet}
+use Rattle.usb_port.specs.{IsPath}
+use Rattle.usb_host.specs.{Quiet}
 use Rattle.usb_host.proofs.entries.Ranks.{rank_after}
 use Rattle.usb_host.proofs.RoundLoops.{HubsHandled}
 use Rattle.usb_host.proofs.host.Host.serve_hubs.Given as goal

@@ -8,8 +8,7 @@ returns-then-not-push-clause-serves g c known =
     record {
       goes = host_goes_none _ c.args.self.now;
       holds = omega arith;
-      owned =
-          stays_owned_none _;
+      owned = stays_owned_none _;
     }
 
 pub returns-in_default-clause-serves : goal.returns-in_default-clause-serves
@@ -17,6 +16,5 @@ returns-in_default-clause-serves g c known =
     record {
       goes = host_goes_none _ c.args.self.now;
       holds = omega arith;
-      owned =
-          stays_owned_none _;
+      owned = stays_owned_none _;
     }

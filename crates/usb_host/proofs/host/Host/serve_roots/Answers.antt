@@ -1,6 +1,6 @@
 use Rattle.std.proofs.Common.{◌∙◌, ap, arith, sym}
-use Rattle.usb_world.specs.World.{roots_of}
-use Rattle.usb_host.specs.HostState.{HostState}
+use Rattle.usb_world.specs.{roots_of}
+use Rattle.usb_host.specs.{HostState}
 use Rattle.usb_host.proofs.RoundLoops.{roots_begin, roots_cut, roots_end, roots_handled}
 use Rattle.usb_host.proofs.RoundLoops.{roots_steady}
 use Rattle.usb_host.proofs.host.Host.serve_roots.Goals as goal

@@ -1,5 +1,5 @@
 use Rattle.std.proofs.Common.{sym}
-use Rattle.usb_stream.specs.Stream.{kept_of, unread_of, written_of}
+use Rattle.usb_stream.specs.{kept_of, unread_of, written_of}
 use Rattle.usb_live.proofs.Courses.{opens}
 use Rattle.usb_live.proofs.bus.CourseBus.open.Goals as goal
 

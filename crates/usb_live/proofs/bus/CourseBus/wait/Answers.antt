@@ -1,7 +1,7 @@
 use Rattle.std.proofs.Common.{◌∙◌, refl, subst, sym}
 use Rattle.std.proofs.Math.Logic.{∥∥₁_map}
-use Rattle.usb_stream.specs.Stream.{kept_of, unread_of, written_of}
-use Rattle.usb_live.specs.Course.{CourseTo}
+use Rattle.usb_stream.specs.{kept_of, unread_of, written_of}
+use Rattle.usb_live.specs.{CourseTo}
 use Rattle.usb_live.proofs.Courses.{nothing_is, wait_on}
 use Rattle.usb_live.proofs.bus.CourseBus.wait.Goals as goal
 

@@ -1,5 +1,5 @@
 use Rattle.std.proofs.Math.Logic.{∥∥₁_map}
-use Rattle.usb_port.specs.Calls.{clear_call}
+use Rattle.usb_port.specs.{clear_call}
 use Rattle.usb_live.proofs.Courses.{call_on}
 use Rattle.usb_live.proofs.bus.CourseBusBus.root_clear.Goals as goal
 

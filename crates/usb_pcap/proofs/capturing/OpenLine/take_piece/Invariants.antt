@@ -1,6 +1,6 @@
 use Rattle.std.proofs.Common.{ℕ, List, Option, ◌++◌, take}
-use Rattle.usb_bus.specs.Watch.{inner_of}
-use Rattle.usb_pcap.specs.Capture.{StandsBehind}
+use Rattle.usb_bus.specs.{inner_of}
+use Rattle.usb_pcap.specs.{StandsBehind}
 use Rattle.usb_pcap.proofs.capturing.OpenLine.take_piece.Given as goal
 
 -- the bytes so far are taken

@@ -12,14 +12,12 @@ pub returns-then-is_broken : goal.returns-then-is_broken
 returns-then-is_broken g c = record {
   same = refl;
   steps = λ known. went_wider 0 _ went_none (omega arith);
-  transfer =
-      λ known. send_told _ _ _ _ _ _ (search rules);
+  transfer = λ known. send_told _ _ _ _ _ _ (search rules);
 }
 
 pub returns-then-is_empty : goal.returns-then-is_empty
 returns-then-is_empty g c = record {
   same = refl;
   steps = λ known. went_wider 0 _ went_none (omega arith);
-  transfer =
-      λ known. send_told _ _ _ _ _ _ (grind (arith, common_steps));
+  transfer = λ known. send_told _ _ _ _ _ _ (grind (arith, common_steps));
 }

@@ -1,7 +1,7 @@
 use Rattle.std.proofs.Common.{◌≡◌, [], ap, sym, arith, ◌∙◌}
 use Rattle.std.proofs.lemmas.Grind.{common_steps}
 use Rattle.toml.specs.View.{members_view}
-use Rattle.usb_plan.specs.EventMembers.{found}
+use Rattle.usb_plan.specs.{found}
 use Rattle.usb_plan.proofs.EventWalks.{walked, walked_is}
 use Rattle.usb_plan.proofs.members.EventMembers.of.Goals as goal
 

@@ -1,6 +1,6 @@
 use Rattle.std.proofs.Common.{◌≡◌}
 use Rattle.toml.specs.View.{members_view}
-use Rattle.usb_plan.specs.EventMembers.{found}
+use Rattle.usb_plan.specs.{found}
 use Rattle.usb_plan.proofs.EventWalks.{walked, no_values}
 use Rattle.usb_plan.proofs.members.EventMembers.of.Given as goal
 

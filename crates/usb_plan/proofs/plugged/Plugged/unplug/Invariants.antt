@@ -1,5 +1,5 @@
 use Rattle.std.proofs.Common.{◌≡◌, length}
-use Rattle.usb_world.specs.PluggedDevices.{plugged_without}
+use Rattle.usb_world.specs.{plugged_without}
 use Rattle.usb_plan.proofs.plugged.Plugged.unplug.Given as goal
 
 abbrev pub invariant-places : goal.invariant-places

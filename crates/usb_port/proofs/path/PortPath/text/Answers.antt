@@ -1,6 +1,6 @@
 use Rattle.std.proofs.Common.{◌∙◌, ap, sym, arith, length, take, get_or}
 use Rattle.std.proofs.lemmas.List.{take_more, length-take-le}
-use Rattle.usb_port.specs.Path.{path_text, with_number}
+use Rattle.usb_port.specs.{path_text, with_number}
 use Rattle.usb_port.proofs.Paths.{with_number-path_text, length-path_text}
 use Rattle.usb_port.proofs.path.PortPath.text.Goals as goal
 

@@ -1,5 +1,5 @@
 use Rattle.std.proofs.Common.{◌≡◌, take}
-use Rattle.usb_port.specs.Path.{path_text}
+use Rattle.usb_port.specs.{path_text}
 use Rattle.usb_port.proofs.path.PortPath.text.Given as goal
 
 abbrev pub invariant-loop-number : goal.invariant-loop-number

@@ -1,5 +1,5 @@
 use Rattle.std.proofs.Common.{ap, ◌∙◌}
-use Rattle.usb_port.specs.Status.{status_in}
+use Rattle.usb_port.specs.{status_in}
 use Rattle.usb_port.proofs.StatusLaws.{status_seen}
 use Rattle.usb_port.proofs.status.PortStatus.from_bytes.Goals as goal
 

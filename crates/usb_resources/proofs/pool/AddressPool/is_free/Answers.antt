@@ -1,6 +1,6 @@
 use Rattle.std.proofs.Common.{not, ap, sym, subst, ◌∙◌}
 use Rattle.std.specs.FinSet.{contains}
-use Rattle.usb_resources.specs.Pool.{HasAddresses}
+use Rattle.usb_resources.specs.{HasAddresses}
 use Rattle.usb_resources.proofs.Marks.{contains_marked, has_addresses}
 use Rattle.usb_resources.proofs.pool.AddressPool.is_free.Goals as goal
 

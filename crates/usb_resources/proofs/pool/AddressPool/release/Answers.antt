@@ -1,5 +1,5 @@
 use Rattle.std.proofs.Common.{false, subst, ◌∙◌, arith, length-set, set, get_or-set_other}
-use Rattle.usb_resources.specs.Pool.{Releases, addresses_marked}
+use Rattle.usb_resources.specs.{Releases, addresses_marked}
 use Rattle.usb_resources.proofs.Marks.{releases, has_addresses}
 use Rattle.usb_resources.proofs.pool.AddressPool.release.Goals as goal
 

@@ -1,6 +1,6 @@
 use Rattle.std.proofs.Common.{true, subst, refl, ◌∙◌, arith, length-set, set, get_or-set_other}
 use Rattle.std.proofs.Common.{false}
-use Rattle.usb_resources.specs.Pool.{HasAddresses, Takes, IsFull, addresses_marked}
+use Rattle.usb_resources.specs.{HasAddresses, Takes, IsFull, addresses_marked}
 use Rattle.usb_resources.proofs.Marks.{marks_take, full, has_addresses}
 use Rattle.usb_resources.proofs.pool.AddressPool.take.Goals as goal
 
@@ -22,8 +22,7 @@ returns-clause-range c =
 pub returns-in_err-number-clause-none : goal.returns-in_err-number-clause-none
 returns-in_err-number-clause-none c =
     rw c.from_residual.ensures (
-      subst IsFull c.self.view_is
-          (full c.self.inside.taken c.in_err-number.ensures.none),
+      subst IsFull c.self.view_is (full c.self.inside.taken c.in_err-number.ensures.none),
       refl,
     )
 

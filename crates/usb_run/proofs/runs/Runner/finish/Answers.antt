@@ -1,5 +1,5 @@
 use Rattle.std.proofs.Common.{refl, sym, subst, Ok}
-use Rattle.usb_run.specs.Transcript.{Next}
+use Rattle.usb_run.specs.{Next}
 use Rattle.usb_run.proofs.items.ReportedItems.{ReportSoFar, report_begun, report_over}
 use Rattle.usb_run.proofs.items.ReportedItems.{report_refused, report_stopped, report_told}
 use Rattle.usb_run.proofs.runs.Runner.finish.Goals as goal

@@ -1,7 +1,5 @@
 use Rattle.std.proofs.Common.{◌≡◌, sym, subst, true, None, Ok, IsErrAnd}
-use Rattle.usb_run.specs.RunSegments.{Reaches}
-use Rattle.usb_run.specs.declared.runs.RunFault.TheVariants.{Memory}
-use Rattle.usb_run.specs.Transcript.{Makes, NextAsked, in_last, last}
+use Rattle.usb_run.specs.{Reaches, Memory, Makes, NextAsked, in_last, last}
 use Rattle.usb_run.proofs.items.Moments.{reaches_over}
 use Rattle.usb_run.proofs.courses.RunParts.{few_events}
 use Rattle.usb_run.proofs.items.Transcripts.{next_failed}

@@ -1,7 +1,6 @@
 use Rattle.std.proofs.Common.{ap, refl, subst, sym, ◌∙◌, ◌+◌, ◌≤◌}
-use Rattle.usb_world.specs.World.{World, to_come}
-use Rattle.usb_host.specs.HostState.{HostState}
-use Rattle.usb_host.specs.Ownership.{IsUntouched}
+use Rattle.usb_world.specs.{World, to_come}
+use Rattle.usb_host.specs.{HostState, IsUntouched}
 use Rattle.usb_run.proofs.endings.Ends.{opens_with}
 use Rattle.usb_run.proofs.courses.Ownership.{untouched}
 use Rattle.usb_run.proofs.runs.Runner.with_bus.Goals as goal

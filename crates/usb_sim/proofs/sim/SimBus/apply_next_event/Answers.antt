@@ -1,5 +1,5 @@
 use Rattle.std.proofs.Common.{sym}
-use Rattle.usb_sim.specs.Sim.{world_of}
+use Rattle.usb_sim.specs.{world_of}
 use Rattle.usb_sim.proofs.Endings.{again_takes, taken_takes}
 use Rattle.usb_sim.proofs.sim.SimBus.apply_next_event.Goals as goal
 

@@ -1,9 +1,8 @@
 use Rattle.std.proofs.Common.{◌≡◌, length, sym, subst, ap, ◌∙◌, arith, [], ◌∷◌}
-use Rattle.usb_device.specs.Tree.{row_of, called}
-use Rattle.usb_tree.specs.AttemptPackets.{IsSettled}
-use Rattle.usb_world.specs.SanePorts.{Consistent}
+use Rattle.usb_device.specs.{row_of, called}
+use Rattle.usb_tree.specs.{IsSettled}
+use Rattle.usb_world.specs.{Consistent, AreOfDamages}
 use Rattle.usb_world.specs.declared.losses.Losses.{Losses}
-use Rattle.usb_world.specs.Losses.{AreOfDamages}
 use Rattle.usb_world.proofs.Interface.{losses_cleared, row_long, sane_called_at, settled_called}
 use Rattle.usb_sim.proofs.sim.SimBus.call_root.Goals as goal
 

@@ -1,19 +1,11 @@
 use Rattle.std.proofs.Common.{rules, ◌≡◌, ◌+◌, ◌||◌, List, Bool, Option, None, refl, sym, subst, ap}
 use Rattle.std.proofs.Common.{ap₂, ◌∙◌, arith, length}
-use Rattle.usb_device.specs.Tree.{Ports, row_of}
-use Rattle.usb_world.specs.declared.types.Attempt.{Attempt}
-use Rattle.usb_world.specs.declared.damage.Damage.{Damage}
-use Rattle.usb_world.specs.declared.exchange.Exchange.{Exchange}
+use Rattle.usb_device.specs.{Ports, row_of}
+use Rattle.usb_world.specs.{Attempt, Damage, Exchange, damage_of, exchange_in, ports_in, lost_in}
+use Rattle.usb_world.specs.{AreOfDamages, counted, World, Consistent, made_in, IsCut}
 use Rattle.usb_world.specs.declared.losses.Losses.{Losses}
-use Rattle.usb_world.specs.Wire.{damage_of}
-use Rattle.usb_world.specs.Exchange.{exchange_in, ports_in, lost_in}
-use Rattle.usb_world.specs.Losses.{AreOfDamages, counted}
-use Rattle.usb_world.specs.World.{World}
-use Rattle.usb_sim.specs.Sim.{world_of}
-use Rattle.usb_bus.specs.Lines.{lines_between, step_lines}
-use Rattle.usb_bus.specs.Watch.{tells_failure, AppendsFront}
-use Rattle.usb_world.specs.SanePorts.{Consistent}
-use Rattle.usb_world.specs.Steps.{made_in, IsCut}
+use Rattle.usb_sim.specs.{world_of}
+use Rattle.usb_bus.specs.{lines_between, step_lines, tells_failure, AppendsFront}
 use Rattle.usb_sim.proofs.Endings.{without_fault, left_at_event, left_at_packet, left_at_line}
 use Rattle.usb_world.proofs.Interface.{losses_after, losses_cleared, sane_ports, spends_wider}
 use Rattle.usb_world.proofs.Interface.{until_most}
@@ -165,8 +157,7 @@ returns-clause-made g c =
     let world : Losses → Bool → World
     = λ l s. record (world_of mid) {
       roots = c.make_exchange_by.new.roots;
-      attempts =
-          mid.attempts + 1;
+      attempts = mid.attempts + 1;
       losses = l;
       shared = mid.shared || s;
     } in
@@ -216,8 +207,7 @@ returns-in_err-put_attempt-clause-made g c =
     let world : Losses → Bool → World
     = λ l s. record (world_of mid) {
       roots = c.make_exchange_by.new.roots;
-      attempts =
-          mid.attempts + 1;
+      attempts = mid.attempts + 1;
       losses = l;
       shared = mid.shared || s;
     } in
@@ -267,8 +257,7 @@ returns-in_err-make_exchange_by-clause-made g c =
     let world : Bool → World
     = λ s. record (world_of mid) {
       roots = c.make_exchange_by.new.roots;
-      shared =
-          mid.shared || s;
+      shared = mid.shared || s;
     } in
     let same : mid.attempts ≡ c.args.self.now.attempts =
     omega (

@@ -1,6 +1,6 @@
 use Rattle.std.proofs.Common.{rules, sym, ◌∙◌}
-use Rattle.usb_world.specs.Steps.{nothing_yet}
-use Rattle.usb_sim.specs.Sim.{world_of}
+use Rattle.usb_world.specs.{nothing_yet}
+use Rattle.usb_sim.specs.{world_of}
 use Rattle.usb_world.proofs.Interface.{spends_none, spends_then}
 use Rattle.usb_sim.proofs.Arrivals.{came_next, coming_cut, on_err_holds, due_begins, due_goes_on}
 use Rattle.usb_sim.proofs.Arrivals.{due_ends, due_cut, writes_told}

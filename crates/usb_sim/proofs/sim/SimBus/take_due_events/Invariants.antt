@@ -1,7 +1,6 @@
 use Rattle.std.proofs.Common.{◌≡◌, None}
-use Rattle.usb_world.specs.World.{AttemptsWithin, to_come}
-use Rattle.usb_world.specs.Steps.{Coming}
-use Rattle.usb_sim.specs.Sim.{world_of, trace_of}
+use Rattle.usb_world.specs.{AttemptsWithin, to_come, Coming}
+use Rattle.usb_sim.specs.{world_of, trace_of}
 use Rattle.usb_sim.proofs.Arrivals.{DueSoFar}
 use Rattle.usb_sim.proofs.sim.SimBus.take_due_events.Given as goal
 

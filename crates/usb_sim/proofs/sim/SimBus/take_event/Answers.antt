@@ -2,19 +2,14 @@ use Rattle.std.proofs.Common.{rules, ◌≡◌, refl, sym, subst, suc, true, len
 use Rattle.std.proofs.Common.{Bool, Some, None, Option, Ok, Result, List}
 use Rattle.std.proofs.lemmas.Bool.{and_parts}
 use Rattle.std.specs.List.{list_all}
-use Rattle.usb_device.specs.Tree.{row_of}
-use Rattle.usb_tree.specs.AttemptPackets.{IsSettled}
-use Rattle.usb_world.specs.SanePorts.{Consistent}
-use Rattle.usb_world.specs.PlanData.{can_come}
+use Rattle.usb_device.specs.{row_of}
+use Rattle.usb_tree.specs.{IsSettled}
+use Rattle.usb_world.specs.{Consistent, can_come, Event, after_change, BusFault, TraceFailed}
 use Rattle.usb_world.proofs.Interface.{came_spends, happened_long, sane_happened, settled_happened}
 use Rattle.usb_world.proofs.Interface.{spends_none}
-use Rattle.usb_world.specs.declared.event.Event.{Event}
-use Rattle.usb_world.specs.Steps.{after_change}
 use Rattle.usb_world.specs.declared.event.Ask.{Ask}
-use Rattle.usb_world.specs.declared.types.BusFault.{BusFault}
-use Rattle.usb_world.specs.declared.types.BusFault.TheVariants.{TraceFailed}
-use Rattle.usb_bus.specs.Watch.{tells_failure}
-use Rattle.usb_sim.specs.Sim.{world_of}
+use Rattle.usb_bus.specs.{tells_failure}
+use Rattle.usb_sim.specs.{world_of}
 use Rattle.usb_sim.proofs.Arrivals.{came_sound, came_faulted, appends_event, writes_event}
 use Rattle.usb_sim.proofs.Arrivals.{writes_none, due_next, popped, get_or-head, next_none, due_none}
 use Rattle.usb_sim.proofs.sim.SimBus.take_event.Goals as goal

@@ -1,11 +1,10 @@
 use Rattle.std.proofs.Common.{◌≡◌, length, arith, ap, sym, subst, ◌∙◌}
 use Rattle.std.specs.Prelude.{All}
-use Rattle.usb_device.specs.Spec.{IsSpec}
-use Rattle.usb_device.specs.Tree.{row_of}
-use Rattle.usb_tree.specs.AttemptPackets.{IsSettled}
-use Rattle.usb_world.specs.SanePorts.{Consistent}
+use Rattle.usb_device.specs.{IsSpec, row_of}
+use Rattle.usb_tree.specs.{IsSettled}
+use Rattle.usb_world.specs.{Consistent}
 use Rattle.usb_world.proofs.Interface.{new_long, sane_new_ports, settled_new}
-use Rattle.usb_bus.specs.Lines.{shown_names}
+use Rattle.usb_bus.specs.{shown_names}
 use Rattle.usb_sim.proofs.Plans.{copies_come}
 use Rattle.usb_sim.proofs.sim.SimBus.with_tracer.Goals as goal
 

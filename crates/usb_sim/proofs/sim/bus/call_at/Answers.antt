@@ -1,5 +1,5 @@
 use Rattle.std.proofs.Common.{[], ◌∷◌, refl, sym}
-use Rattle.usb_device.specs.Tree.{called}
+use Rattle.usb_device.specs.{called}
 use Rattle.usb_device.proofs.Interface.{index_around, index_called}
 use Rattle.usb_sim.proofs.sim.bus.call_at.Goals as goal
 

@@ -1,6 +1,6 @@
 use Rattle.std.proofs.Common.{◌∙◌, subst}
-use Rattle.usb_bus.specs.Watch.{AppendsFront, inner_of}
-use Rattle.usb_stream.specs.Stream.{kept_of}
+use Rattle.usb_bus.specs.{AppendsFront, inner_of}
+use Rattle.usb_stream.specs.{kept_of}
 use Rattle.usb_stream.proofs.Hearing.{asks_no_more_at_limit, not_written}
 use Rattle.usb_stream.proofs.bus.StreamBus.exchange.Goals as goal
 

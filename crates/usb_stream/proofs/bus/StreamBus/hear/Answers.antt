@@ -1,6 +1,6 @@
 use Rattle.std.proofs.Common.{◌∙◌, refl}
-use Rattle.usb_bus.specs.Watch.{inner_of}
-use Rattle.usb_stream.specs.Stream.{kept_of}
+use Rattle.usb_bus.specs.{inner_of}
+use Rattle.usb_stream.specs.{kept_of}
 use Rattle.usb_stream.proofs.Hearing.{hear_more, hear_same, heard_so, read_all, read_so}
 use Rattle.usb_stream.proofs.Hearing.{told_so_none}
 use Rattle.usb_stream.proofs.bus.StreamBus.hear.Goals as goal

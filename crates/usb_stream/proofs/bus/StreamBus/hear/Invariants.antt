@@ -1,6 +1,6 @@
 use Rattle.std.proofs.Common.{◌≡◌}
-use Rattle.usb_bus.specs.Watch.{inner_of}
-use Rattle.usb_stream.specs.Stream.{kept_of}
+use Rattle.usb_bus.specs.{inner_of}
+use Rattle.usb_stream.specs.{kept_of}
 use Rattle.usb_stream.proofs.Hearing.{ToldSo}
 use Rattle.usb_stream.proofs.bus.StreamBus.hear.Given as goal
 

@@ -1,5 +1,5 @@
 use Rattle.std.proofs.Common.{refl}
-use Rattle.usb_stream.specs.Stream.{kept_of}
+use Rattle.usb_stream.specs.{kept_of}
 use Rattle.usb_stream.proofs.bus.StreamBus.open.Goals as goal
 
 pub returns : goal.returns

@@ -5,8 +5,8 @@ use Rattle.std.specs.List.Sorted.{IsStrictlySortedBy}
 use Rattle.std.specs.Map.{keys_of}
 use Rattle.std.specs.Map.Iter.{deref_pair}
 use Rattle.std.proofs.lemmas.Map.Iter.{rest_more, rest_all}
-use Rattle.usb_port.specs.Order.{path_cmp}
-use Rattle.usb_table.specs.Keys.{PathKeys}
+use Rattle.usb_port.specs.{path_cmp}
+use Rattle.usb_table.specs.{PathKeys}
 use Rattle.usb_table.proofs.entries.Ranges.{away_if_first, from_path, has_path_below, FirstIsAway}
 use Rattle.usb_table.proofs.indexes.Indexes.first_at.Goals as goal
 

@@ -1,4 +1,4 @@
-use Rattle.usb_bus.specs.Traces.{still}
+use Rattle.usb_bus.specs.{still}
 use Rattle.usb_table.proofs.pipes.Pipes.send.Goals as goal
 
 pub returns-in-Absent-clause-traced : goal.returns-in-Absent-clause-traced

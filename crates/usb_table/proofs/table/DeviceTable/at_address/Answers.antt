@@ -1,9 +1,7 @@
 -- The slab has what the address's key names.
 use Rattle.std.proofs.Common.{◌≡◌, ◌∙◌, sym, ap, subst, ℕ, Some, None}
 use Rattle.slab.specs.Slab.{get}
-use Rattle.usb_table.specs.Findings.{HasDevice, HasNoDevice}
-use Rattle.usb_table.specs.Keys.{findings, key_of_address}
-use Rattle.usb_table.specs.Table.{Table}
+use Rattle.usb_table.specs.{HasDevice, HasNoDevice, findings, key_of_address, Table}
 use Rattle.usb_table.proofs.entries.Addresses.{addressed_stands, has_device}
 use Rattle.usb_table.proofs.entries.Addresses.{key_of_address-no_device}
 use Rattle.usb_table.proofs.entries.Keys.{findings-standing, some_standing}

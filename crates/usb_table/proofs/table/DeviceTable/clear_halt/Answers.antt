@@ -1,10 +1,8 @@
 use Rattle.std.proofs.Common.{◌≡◌, sym, true, refl, arith, Err}
 use Rattle.slab.specs.Slab.{get, with_value}
-use Rattle.usb_bus.specs.Traces.{still}
+use Rattle.usb_bus.specs.{still}
 use Rattle.usb_world.proofs.Interface.{spends_none, spends_wider}
-use Rattle.usb_table.specs.declared.pipes.Pipes.{Pipes}
-use Rattle.usb_table.specs.declared.fault.EndpointFault.TheVariants.{NoDevice}
-use Rattle.usb_table.specs.Transfers.{PipesCleared}
+use Rattle.usb_table.specs.{Pipes, NoDevice, PipesCleared}
 use Rattle.usb_table.proofs.levels.PipeCalls.{CallThrough, through_none, through_slot}
 use Rattle.usb_table.proofs.TransferLeaves.{table_clears}
 use Rattle.usb_table.proofs.table.DeviceTable.clear_halt.Goals as goal

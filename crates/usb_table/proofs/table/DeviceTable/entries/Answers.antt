@@ -4,9 +4,8 @@ use Rattle.std.specs.BTreeMap as tree
 use Rattle.std.specs.Map.Iter.{deref_pair}
 use Rattle.std.proofs.lemmas.Map.Views.{All-turn}
 use Rattle.slab.specs.Slab.{get}
-use Rattle.usb_port.specs.Order.{path_cmp}
-use Rattle.usb_table.specs.Keys.{findings}
-use Rattle.usb_table.specs.Table.{Table, ArePipesAt}
+use Rattle.usb_port.specs.{path_cmp}
+use Rattle.usb_table.specs.{findings, Table, ArePipesAt}
 use Rattle.usb_table.proofs.entries.Keys.{entries_rise, some_standing}
 use Rattle.usb_table.proofs.levels.PipeCalls.{are_pipes_at}
 use Rattle.usb_table.proofs.table.DeviceTable.entries.Goals as goal

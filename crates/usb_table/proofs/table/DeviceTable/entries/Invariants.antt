@@ -1,6 +1,6 @@
 use Rattle.std.proofs.Common.{◌≡◌, ◌++◌}
 use Rattle.slab.specs.Slab.{get}
-use Rattle.usb_table.specs.Keys.{entries_of, findings}
+use Rattle.usb_table.specs.{entries_of, findings}
 use Rattle.usb_table.proofs.table.DeviceTable.entries.Given as goal
 
 abbrev pub invariant-entries : goal.invariant-entries

@@ -1,7 +1,7 @@
 -- The slab has what the path's key names.
 use Rattle.std.proofs.Common.{◌∙◌, sym, ap, Some}
 use Rattle.slab.specs.Slab.{get}
-use Rattle.usb_table.specs.Keys.{findings}
+use Rattle.usb_table.specs.{findings}
 use Rattle.usb_table.proofs.entries.Keys.{entries_of-key, entries_of-no_key, findings-standing}
 use Rattle.usb_table.proofs.table.DeviceTable.get.Goals as goal
 

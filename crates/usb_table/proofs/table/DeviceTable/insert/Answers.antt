@@ -2,13 +2,9 @@
 use Rattle.std.proofs.Common.{◌≡◌, ◌≢◌, ◌∙◌, sym, ap, subst, false, ℕ, Option, Some, None}
 use Rattle.std.specs.Prelude.{Result, Ok, Err, OnErr, IfSome}
 use Rattle.slab.specs.Slab.{Slab, get, Updates}
-use Rattle.usb_table.specs.Entries.{has_at}
-use Rattle.usb_table.specs.Findings.{address_found, HasNewAddress}
-use Rattle.usb_table.specs.declared.entry.Entry.{Entry}
-use Rattle.usb_table.specs.Keys.{IsPiped, findings, key_of_path, key_of_address, Enters}
-use Rattle.usb_table.specs.KnownPorts.{is_below_hub}
-use Rattle.usb_table.specs.Pipes.{ArePipesOf, new_pipes}
-use Rattle.usb_table.specs.Table.{Table, entered}
+use Rattle.usb_table.specs.{has_at, address_found, HasNewAddress, Entry, IsPiped, findings}
+use Rattle.usb_table.specs.{key_of_path, key_of_address, Enters, is_below_hub, ArePipesOf}
+use Rattle.usb_table.specs.{new_pipes, Table, entered}
 use Rattle.usb_table.proofs.entries.NewEntries.{came_indexes, came_piped, came_table, away_key}
 use Rattle.usb_table.proofs.entries.NewEntries.{free_key}
 use Rattle.usb_table.proofs.table.DeviceTable.insert.Goals as goal
@@ -44,8 +40,7 @@ returns-in_err-insert-clause-err c = on_err c.from_residual-in_err-insert.result
 abbrev new_standing : goal.After-insert_reserved → Entry
 new_standing c = record {
   finding = c.args.finding;
-  pipes =
-      new_pipes c.args.finding (is_below_hub c.args.path);
+  pipes = new_pipes c.args.finding (is_below_hub c.args.path);
 }
 
 -- the entry that came, for the lemmas
@@ -72,8 +67,7 @@ came c =
     let is : c.new-entry.result ≡ new_standing c =
     subst (λ b. c.new-entry.result ≡ record {
       finding = c.args.finding;
-      pipes =
-          new_pipes c.args.finding b;
+      pipes = new_pipes c.args.finding b;
     }) c.is_below_hub.ensures c.new-entry.ensures.value in
     record {
       vacant = subst (λ (t : Slab Entry). get t c.vacant_key-key.result ≡ None) kept

@@ -8,10 +8,8 @@ use Rattle.std.specs.Map.Iter.{deref_pair}
 use Rattle.std.proofs.lemmas.Map.Iter.{rest_more, rest_all}
 use Rattle.std.proofs.lemmas.Map.Views.{All-turn}
 use Rattle.slab.specs.Slab.{get}
-use Rattle.usb_port.specs.Order.{path_cmp}
-use Rattle.usb_table.specs.Keys.{PathKeys, findings, finding_under, entries_of}
-use Rattle.usb_table.specs.Table.{Table}
-use Rattle.usb_table.specs.Kinds.{fits}
+use Rattle.usb_port.specs.{path_cmp}
+use Rattle.usb_table.specs.{PathKeys, findings, finding_under, entries_of, Table, fits}
 use Rattle.usb_table.proofs.entries.Keys.{entries_rise, finding_stands, findings-standing}
 use Rattle.usb_table.proofs.entries.Keys.{some_standing}
 use Rattle.usb_table.proofs.entries.NextEntries.{first_from, first_behind, next_is, last_is}

@@ -1,8 +1,7 @@
 use Rattle.std.proofs.Common.{◌≡◌, None}
 use Rattle.std.specs.Prelude.{option_copied}
 use Rattle.slab.specs.Slab.{get}
-use Rattle.usb_table.specs.Keys.{entries_of, findings}
-use Rattle.usb_table.specs.Kinds.{fits}
+use Rattle.usb_table.specs.{entries_of, findings, fits}
 use Rattle.usb_table.proofs.entries.NextEntries.{first_from}
 use Rattle.usb_table.proofs.table.DeviceTable.next_of.Given as goal
 

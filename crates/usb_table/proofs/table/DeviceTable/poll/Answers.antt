@@ -1,8 +1,7 @@
 use Rattle.std.proofs.Common.{◌≡◌, sym, true, refl, arith, Ok, None}
 use Rattle.slab.specs.Slab.{get, with_value}
 use Rattle.usb_bus.proofs.Interface.{went_none, went_wider}
-use Rattle.usb_table.specs.declared.pipes.Pipes.{Pipes}
-use Rattle.usb_table.specs.Transfers.{PipesPolled}
+use Rattle.usb_table.specs.{Pipes, PipesPolled}
 use Rattle.usb_table.proofs.levels.PipeCalls.{CallThrough, through_none, through_slot}
 use Rattle.usb_table.proofs.transfers.HubPolls.{table_polls}
 use Rattle.usb_table.proofs.table.DeviceTable.poll.Goals as goal

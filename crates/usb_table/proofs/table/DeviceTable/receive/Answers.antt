@@ -1,9 +1,7 @@
 use Rattle.std.proofs.Common.{◌≡◌, sym, true, refl, Err}
 use Rattle.slab.specs.Slab.{get, with_value}
-use Rattle.usb_bus.specs.Traces.{still}
-use Rattle.usb_table.specs.declared.pipes.Pipes.{Pipes}
-use Rattle.usb_table.specs.declared.fault.EndpointFault.TheVariants.{NoDevice}
-use Rattle.usb_table.specs.Transfers.{PipesReceived}
+use Rattle.usb_bus.specs.{still}
+use Rattle.usb_table.specs.{Pipes, NoDevice, PipesReceived}
 use Rattle.usb_table.proofs.levels.PipeCalls.{CallThrough, faces_at, through_none, through_slot}
 use Rattle.usb_table.proofs.TransferLeaves.{table_receives}
 use Rattle.usb_table.proofs.table.DeviceTable.receive.Goals as goal

@@ -5,10 +5,8 @@ use Rattle.std.specs.BTreeMap.{BTreeMap, is_at}
 use Rattle.std.specs.List.Sorted.{IsStrictlySortedBy}
 use Rattle.std.specs.Map.{keys_of}
 use Rattle.slab.specs.Slab.{get}
-use Rattle.usb_port.specs.Order.{path_cmp}
-use Rattle.usb_table.specs.Findings.{address_found}
-use Rattle.usb_table.specs.Keys.{PathKeys, findings, key_of_path, UpdatesAddress}
-use Rattle.usb_table.specs.Table.{removed}
+use Rattle.usb_port.specs.{path_cmp}
+use Rattle.usb_table.specs.{address_found, PathKeys, findings, key_of_path, UpdatesAddress, removed}
 use Rattle.usb_table.proofs.entries.Keys.{entries_of-key, findings-standing, entries-has_at}
 use Rattle.usb_table.proofs.entries.RemovedEntries.{gone_indexes, gone_piped, gone_table}
 use Rattle.usb_table.proofs.table.DeviceTable.take_at.Goals as goal

@@ -1,5 +1,5 @@
 use Rattle.std.proofs.Common.{rules, refl, sym}
-use Rattle.usb_sim.specs.Sim.{world_of}
+use Rattle.usb_sim.specs.{world_of}
 use Rattle.usb_sim.proofs.Endings.{after_fault, after-limit, again_attempts, limit_attempts}
 use Rattle.usb_sim.proofs.Endings.{made_attempts, never_limit}
 use Rattle.usb_sim.proofs.sim.bus.SimBusBus.attempt.Goals as goal
@@ -11,8 +11,7 @@ returns-in-Some-clause-attempts g c = again_attempts c.args.attempt.now (world_o
 pub returns-in-Some-clause-refuses : goal.returns-in-Some-clause-refuses
 returns-in-Some-clause-refuses g c = record {
   limit = λ _. (
-    after_fault c.args.attempt.now (world_of c.args.self.now) c.in-Some.fault
-        c.in-Some.is,
+    after_fault c.args.attempt.now (world_of c.args.self.now) c.in-Some.fault c.in-Some.is,
     refl,
   );
   again = λ _. refl;
@@ -25,8 +24,7 @@ returns-then-self-clause-attempts g c = limit_attempts c.args.attempt.now (world
 pub returns-then-self-clause-refuses : goal.returns-then-self-clause-refuses
 returns-then-self-clause-refuses g c = record {
   limit = λ _. (
-    after-limit c.args.attempt.now (world_of c.args.self.now) c.in_default.is
-        c.if-self.true,
+    after-limit c.args.attempt.now (world_of c.args.self.now) c.in_default.is c.if-self.true,
     refl,
   );
   again = search rules;

@@ -1,5 +1,5 @@
 use Rattle.std.proofs.Common.{refl, sym, ◌∙◌}
-use Rattle.usb_sim.specs.Sim.{world_of}
+use Rattle.usb_sim.specs.{world_of}
 use Rattle.usb_world.proofs.Interface.{clear_ends, clear_none}
 use Rattle.usb_sim.proofs.sim.bus.SimBusBus.root_clear.Goals as goal
 

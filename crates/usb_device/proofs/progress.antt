@@ -1,0 +1,4 @@
+-- How far transfers are.
+pub mod BulkProgress
+pub mod ChangesProgress
+pub mod ControlProgress

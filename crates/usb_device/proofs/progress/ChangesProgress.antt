@@ -1,0 +1,138 @@
+-- IN 1 of a configured hub, one attempt after another.
+use Rattle.std.proofs.Common.{◌≡◌, ◌≢◌, ◌≤◌, ◌&&◌, ◌==◌, ℕ, nat_le, if◌then◌else◌, Bool, true}
+use Rattle.std.proofs.Common.{false, List, [], ◌∷◌, Option, None, Some, refl, ap, sym, subst, ◌∙◌}
+use Rattle.std.proofs.Common.{arith}
+use Rattle.std.proofs.lemmas.Bool.Decides.{nat_tests}
+use Rattle.usb_packet.specs.{Toggle, Zero, One, other, is_same}
+use Rattle.usb_port.specs.{PortState}
+use Rattle.usb_device.specs.declared.answer.Answer.TheVariants.{Nak, Stall}
+use Rattle.usb_device.specs.declared.transfer.InEndpoint.TheVariants as by
+use Rattle.usb_device.specs.{tells_changes, change_bits, State, Reply, forgotten, payload}
+use Rattle.usb_device.specs.{acknowledged, bulk_of, Way, lost, is_whole, heard, gave, held_law}
+use Rattle.usb_device.specs.{changes_law, in_bulk_law, in_law, PollAt, level, told, ahead}
+use Rattle.usb_device.specs.{NeverTold, PollOn}
+use Rattle.usb_device.specs.Attempt.{whole, broken}
+use Rattle.usb_device.proofs.progress.BulkProgress.{other-other}
+use Rattle.usb_device.proofs.progress.ControlProgress.{is_same-refl}
+
+pub other_toggle : (t : Toggle) → is_same t (other t) ≡ false
+other_toggle Zero = refl
+other_toggle One = refl
+
+true_not_false : {A : Type 0} (b : Bool) → b ≡ true → b ≡ false → A
+true_not_false b h k = absurd cc
+
+pub law_is : (s : State) → tells_changes s.spec s.registers ≡ true
+    → (row : List PortState) (max : ℕ) (t2 t3 : Way) → in_law s row 1 max whole t2 t3
+    ≡ changes_law s row max t2 t3
+law_is s h row max t2 t3 = ap (λ z. if z then changes_law s row max t2 t3 else in_bulk_law s 1
+    (bulk_of s true) max t2 t3) h
+
+-- what is so of a reply
+abbrev PollReply : (ℕ → Type 0) → ℕ → Toggle → Reply → Type 0
+PollReply Told bits t r = PollOn Told bits t r.0 r.1
+
+-- the hub after a byte, by whether the ACK came
+abbrev after_poll_byte : State → Bool → State
+after_poll_byte s came = if came then forgotten (acknowledged s by.Changes) else s
+
+-- ---- a byte with the toggle that the host awaits
+
+poll_between : (bits : ℕ) (t : Toggle) (s : State) → s.held ≡ Some bits → s.changes.toggle ≡ t
+    → (came : Bool) → PollAt NeverTold (other t) (after_poll_byte s came)
+poll_between bits t s h q true = level refl (ap other q)
+poll_between bits t s h q false = ahead bits h (q ∙ sym (other-other t))
+
+gave_awaited : (Told : ℕ → Type 0) (bits b : ℕ) (t : Toggle) (s : State) → Told b → s.held ≡ Some b
+    → s.changes.toggle ≡ t
+    → (heard fits came : Bool) → PollOn Told bits t
+    (if heard then Some (payload s.changes.toggle (b ∷ [])) else None)
+    (after_poll_byte s (heard && fits && came))
+gave_awaited Told bits b t s so h q false fits came = told b so h q
+gave_awaited Told bits b t s so h q true fits came = (
+  λ e. record { bits = b; so = so; came = refl; between = poll_between b t s h q (fits && came) },
+  λ e. true_not_false (is_same t s.changes.toggle) (ap (is_same t) q ∙ is_same-refl t) e,
+)
+
+-- ---- a byte with the other one
+
+poll_caught_up : (Told : ℕ → Type 0) (b : ℕ) (t : Toggle) (s : State) → s.held ≡ Some b
+    → s.changes.toggle ≡ other t → (came : Bool) → PollAt Told t (after_poll_byte s came)
+poll_caught_up Told b t s h q true = level refl (ap other q ∙ other-other t)
+poll_caught_up Told b t s h q false = ahead b h q
+
+gave_again : (Told : ℕ → Type 0) (bits b : ℕ) (t : Toggle) (s : State) → s.held ≡ Some b
+    → s.changes.toggle ≡ other t
+    → (heard fits came : Bool) → PollOn Told bits t
+    (if heard then Some (payload s.changes.toggle (b ∷ [])) else None)
+    (after_poll_byte s (heard && fits && came))
+gave_again Told bits b t s h q false fits came = ahead b h q
+gave_again Told bits b t s h q true fits came = (
+  λ e. true_not_false (is_same t s.changes.toggle) e (ap (is_same t) q ∙ other_toggle t),
+  λ e. poll_caught_up Told b t s h q (fits && came),
+)
+
+-- ---- by what is held
+
+poll_stalled : (Told : ℕ → Type 0) (bits : ℕ) (t : Toggle) (s : State) → PollAt Told t s
+    → s.changes.halted ≡ true → (t2 : Way) → PollReply Told bits t (heard t2 (Some Stall), s)
+poll_stalled Told bits t s at h whole = (at, h)
+poll_stalled Told bits t s at h broken = at
+poll_stalled Told bits t s at h lost = at
+
+no_change_on : (Told : ℕ → Type 0) (bits : ℕ) (t : Toggle) (s : State) → s.held ≡ None
+    → s.changes.toggle ≡ t → bits ≡ 0 → (t2 : Way) → PollReply Told bits t (heard t2 (Some Nak), s)
+no_change_on Told bits t s h q z whole = (z, level h q)
+no_change_on Told bits t s h q z broken = level h q
+no_change_on Told bits t s h q z lost = level h q
+
+some_bits : (bits : ℕ) → (bits == 0) ≡ false → bits ≢ 0
+some_bits bits z e = true_not_false (bits == 0) (rw e refl) z
+
+by_bits : (Told : ℕ → Type 0) (bits : ℕ) (t : Toggle) (s : State) → (bits ≢ 0 → Told bits)
+    → s.held ≡ None → s.changes.toggle ≡ t → (max : ℕ) (t2 t3 : Way) (none : Bool)
+    → (bits == 0) ≡ none
+    → PollReply Told bits t (if none then (heard t2 (Some Nak), s) else gave
+    (record s { held = Some bits }) by.Changes max s.changes.toggle (bits ∷ []) t2 t3)
+by_bits Told bits t s so h q max t2 t3 true z =
+    no_change_on Told bits t s h q (grind (arith, nat_tests)) t2
+by_bits Told bits t s so h q max t2 t3 false z =
+    gave_awaited Told bits bits t (record s { held = Some bits }) (so (some_bits bits z)) refl q
+    (is_whole t2) (nat_le 1 max) (is_whole t3)
+
+by_held : (Told : ℕ → Type 0) (t : Toggle) (s : State) (row : List PortState)
+    → (change_bits row ≢ 0 → Told (change_bits row)) → PollAt Told t s
+    → (max : ℕ) (t2 t3 : Way) (held : Option ℕ) → s.held ≡ held
+    → PollReply Told (change_bits row) t (held_law s row held max t2 t3)
+by_held Told t s row so (level h q) max t2 t3 None e =
+    by_bits Told (change_bits row) t s so h q max t2 t3 (change_bits row == 0) refl
+by_held Told t s row so (level h q) max t2 t3 (Some b) e = absurd cc
+by_held Told t s row so (told b th h q) max t2 t3 None e = absurd cc
+by_held Told t s row so (told b th h q) max t2 t3 (Some c) e =
+    let same : b ≡ c = cc in
+    gave_awaited Told (change_bits row) c t s (subst Told same th) e q (is_whole t2) (nat_le 1 max)
+    (is_whole t3)
+by_held Told t s row so (ahead b h q) max t2 t3 None e = absurd cc
+by_held Told t s row so (ahead b h q) max t2 t3 (Some c) e =
+    gave_again Told (change_bits row) c t s e q (is_whole t2) (nat_le 1 max) (is_whole t3)
+
+by_halt : (Told : ℕ → Type 0) (bits : ℕ) (t : Toggle) (s : State) → PollAt Told t s
+    → (t2 : Way) (rest : Reply) → PollReply Told bits t rest → (halted : Bool)
+    → s.changes.halted ≡ halted
+    → PollReply Told bits t (if halted then (heard t2 (Some Stall), s) else rest)
+by_halt Told bits t s at t2 rest h true e = poll_stalled Told bits t s at e t2
+by_halt Told bits t s at t2 rest h false e = h
+
+-- of anything that is so of the bits that the ports told, where some is set: no byte is given of
+-- none
+pub poll_on : (Told : ℕ → Type 0) (t : Toggle) (s : State) → tells_changes s.spec s.registers ≡ true
+    → (row : List PortState) → (change_bits row ≢ 0 → Told (change_bits row)) → PollAt Told t s
+    → (max : ℕ) → 1 ≤ max → (t1 t2 t3 : Way)
+    → PollOn Told (change_bits row) t (in_law s row 1 max t1 t2 t3).0
+    (in_law s row 1 max t1 t2 t3).1
+poll_on Told t s h row so at max m broken t2 t3 = at
+poll_on Told t s h row so at max m lost t2 t3 = at
+poll_on Told t s h row so at max m whole t2 t3 =
+    subst (PollReply Told (change_bits row) t) (sym (law_is s h row max t2 t3))
+    (by_halt Told (change_bits row) t s at t2 (held_law s row s.held max t2 t3)
+    (by_held Told t s row so at max t2 t3 s.held refl) s.changes.halted refl)

@@ -1,0 +1,120 @@
+-- What a failed transfer means.
+use Rattle.std.specs.Prelude.{◌≡◌, ◌≢◌, ◌⊎◌, ℕ, Option, Some, None, unwrap_or, Result, Ok, Err, ⊤}
+use Rattle.usb_enum.specs.Device.{LAST_TIER}
+use Rattle.usb_world.specs.{World, Failed}
+use Rattle.usb_hub.specs.{HubPort, Root, External}
+use Rattle.usb_pipe.specs.{PipeFault}
+use Rattle.usb_pipe.specs.declared.fault.PipeFault.TheVariants as pipe
+use Rattle.usb_enum.specs.declared.cause.Cause.{Cause}
+use Rattle.usb_enum.specs.declared.cause.Cause.TheVariants as cause
+use Rattle.usb_enum.specs.declared.fault.EnumFault.{EnumFault}
+use Rattle.usb_enum.specs.declared.fault.EnumFault.TheVariants as fault
+use Rattle.usb_enum.specs.declared.stop.Stop.{Stop}
+use Rattle.usb_enum.specs.declared.stop.Stop.TheVariants.{Refused, Fault}
+
+-- silence and 256 waits refuse the device; a STALL means what the request says
+abbrev pub stop_of : PipeFault → Option Stop
+stop_of pipe.Stalled = None
+stop_of pipe.Busy = Some (Refused cause.Busy)
+stop_of pipe.NoAnswer = Some (Refused cause.Silent)
+stop_of pipe.Broken = Some (Refused cause.Silent)
+stop_of (pipe.Bus f) = Some (Fault (fault.Bus f))
+stop_of pipe.Memory = Some (Fault fault.Memory)
+
+abbrev pub answered_or : {X : Type 0} → Cause → Result X PipeFault → Result X Stop
+answered_or stalled (Ok answer) = Ok answer
+answered_or stalled (Err f) = Err (unwrap_or (stop_of f) (Refused stalled))
+
+-- a hub whose port request fails is lost
+abbrev pub fault_at_port : PipeFault → EnumFault
+fault_at_port pipe.Stalled = fault.ParentLost
+fault_at_port pipe.Busy = fault.ParentLost
+fault_at_port pipe.NoAnswer = fault.ParentLost
+fault_at_port pipe.Broken = fault.ParentLost
+fault_at_port (pipe.Bus f) = fault.Bus f
+fault_at_port pipe.Memory = fault.Memory
+
+abbrev pub at_port : {X : Type 0} → Result X PipeFault → Result X EnumFault
+at_port (Ok answer) = Ok answer
+at_port (Err f) = Err (fault_at_port f)
+
+-- a request to a hub's port may fail; a root port is a register
+abbrev pub CanFail : HubPort → Type 0
+CanFail (Root number) = ⊥
+CanFail (External hub port) = ⊤
+
+-- the bus tells its fault, and a parent is lost where it can fail
+abbrev pub FaultAllowedAt : HubPort → EnumFault → World → Type 0
+FaultAllowedAt port fault.ParentLost w = CanFail port
+FaultAllowedAt port (fault.Bus f) w = Failed f w
+FaultAllowedAt port fault.Memory w = ⊤
+
+-- the same where no port is asked
+abbrev pub FaultAllowed : EnumFault → World → Type 0
+FaultAllowed fault.ParentLost w = ⊥
+FaultAllowed (fault.Bus f) w = Failed f w
+FaultAllowed fault.Memory w = ⊤
+
+-- a hub is too deep in the last tier, and bad in those above alone; there was an address
+abbrev pub FitsTier : ℕ → Cause → Type 0
+FitsTier tier cause.Silent = ⊤
+FitsTier tier cause.Busy = ⊤
+FitsTier tier (cause.Stalled request) = ⊤
+FitsTier tier cause.BadDevice = ⊤
+FitsTier tier cause.TooDeep = tier ≡ LAST_TIER
+FitsTier tier (cause.BadConfiguration index) = ⊤
+FitsTier tier cause.NoPower = ⊤
+FitsTier tier cause.BadHub = tier ≢ LAST_TIER
+FitsTier tier cause.Lost = ⊤
+FitsTier tier cause.NoAddress = ⊥
+
+-- a cause that does not hang on the tier or on the addresses
+abbrev pub IsPlain : Cause → Type 0
+IsPlain cause.Silent = ⊤
+IsPlain cause.Busy = ⊤
+IsPlain (cause.Stalled request) = ⊤
+IsPlain cause.BadDevice = ⊤
+IsPlain cause.TooDeep = ⊥
+IsPlain (cause.BadConfiguration index) = ⊤
+IsPlain cause.NoPower = ⊤
+IsPlain cause.BadHub = ⊥
+IsPlain cause.Lost = ⊤
+IsPlain cause.NoAddress = ⊥
+
+-- so it is at a stop
+abbrev pub IsPlainStop : Stop → Type 0
+IsPlainStop (Refused why) = IsPlain why
+IsPlainStop (Fault f) = ⊤
+
+-- a hub is asked: it is bad, or the cause is a plain one
+abbrev pub IsHubStop : Stop → Type 0
+IsHubStop (Refused why) = (why ≡ cause.BadHub) ⊎ IsPlain why
+IsHubStop (Fault f) = ⊤
+
+-- no address was free, or the cause is a plain one
+abbrev pub IsStopWithout : Stop → Type 0
+IsStopWithout (Refused why) = (why ≡ cause.NoAddress) ⊎ IsPlain why
+IsStopWithout (Fault f) = ⊤
+
+-- the cause fits the tier
+abbrev pub FitsStop : ℕ → Stop → Type 0
+FitsStop tier (Refused why) = FitsTier tier why
+FitsStop tier (Fault f) = ⊤
+
+-- a stop that is no refusal is told by the bus
+abbrev pub StopFaults : Stop → World → Type 0
+StopFaults (Refused why) w = ⊤
+StopFaults (Fault f) w = FaultAllowed f w
+
+abbrev pub CauseAllowedOfDevice : ℕ → Stop → World → Type 0
+CauseAllowedOfDevice tier (Refused cause) w = FitsTier tier cause
+CauseAllowedOfDevice tier (Fault f) w = FaultAllowed f w
+
+abbrev pub CauseAllowedIn : HubPort → ℕ → Stop → World → Type 0
+CauseAllowedIn port tier (Refused cause) w = FitsTier tier cause
+CauseAllowedIn port tier (Fault f) w = FaultAllowedAt port f w
+
+-- where no address was free
+abbrev pub CauseAllowedWithout : HubPort → Stop → World → Type 0
+CauseAllowedWithout port (Refused why) w = (why ≡ cause.NoAddress) ⊎ IsPlain why
+CauseAllowedWithout port (Fault f) w = FaultAllowedAt port f w
