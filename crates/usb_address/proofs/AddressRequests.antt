@@ -1,13 +1,13 @@
 -- Which requests ask a device to take an address.
-use Rattle.std.proofs.Common.{◌≡◌, ℕ, ◌/◌, ◌%◌, ◌==◌, ◌&&◌, not, nat_le, if◌then◌else◌, Bool, true}
-use Rattle.std.proofs.Common.{false, List, [], ◌∷◌, Option, None, Some, slice_get, refl}
-use Rattle.usb_request.specs.{DEVICE, CONFIGURATION, STRING, HUB, GET_STATUS, CLEAR_FEATURE}
+use Rattle.std.proofs.Common.{◌≡◌, ℕ, ◌==◌, ◌&&◌, not, nat_le, if◌then◌else◌, Bool, true}
+use Rattle.std.proofs.Common.{false, List, [], ◌∷◌, Option, None, Some, slice_get, refl, rules}
+use Rattle.usb_request.specs.{HUB, GET_STATUS, CLEAR_FEATURE}
 use Rattle.usb_request.specs.{SET_FEATURE, SET_ADDRESS, GET_DESCRIPTOR, GET_CONFIGURATION}
 use Rattle.usb_request.specs.{SET_CONFIGURATION, DEVICE_IN, DEVICE_OUT, ENDPOINT_OUT, HUB_IN}
 use Rattle.usb_request.specs.{PORT_IN, PORT_OUT, descriptor_value, Setup}
 use Rattle.usb_port.specs.{PortState, PortCall, set_call, clear_call}
 use Rattle.usb_device.specs.{ServedEndpoint, Registers, Spec, Hub, Outcome, stalled, takes_address}
-use Rattle.usb_device.specs.{takes_configuration, halts, unhalts, tells_port, calls_port, Is}
+use Rattle.usb_device.specs.{takes_configuration, halts, unhalts, tells_port, Is}
 use Rattle.usb_device.specs.{unless, text_asked, asked_descriptor, asked_status, asked_address}
 use Rattle.usb_device.specs.{is_value, asked_configuration, endpoint_of, on_endpoint}
 use Rattle.usb_device.specs.{asked_hub_descriptor, port_named, told_port, called_at}
@@ -35,16 +35,7 @@ module _ (Q : ℕ → Type 0) where
       split (Some text) = tt
 
   descriptor_only : (s : Spec) (value : ℕ) → TakesOnly Q (asked_descriptor s value)
-  descriptor_only s value =
-      only_if (value == descriptor_value DEVICE 0) (unless s.stalls.device (answers s.descriptor)) _
-      (only_unless s.stalls.device (answers s.descriptor) tt)
-      (only_if (value / 256 == CONFIGURATION)
-      (unless s.stalls.config (text_asked s.configs (value % 256))) _
-      (only_unless s.stalls.config (text_asked s.configs (value % 256))
-      (text_only s.configs (value % 256)))
-      (only_if (value / 256 == STRING) (unless s.stalls.string (text_asked s.strings (value % 256)))
-      stalled (only_unless s.stalls.string (text_asked s.strings (value % 256))
-      (text_only s.strings (value % 256))) tt))
+  descriptor_only s value = search (rules, only_if, only_unless, text_only)
 
   endpoint_only : (f : ServedEndpoint → Outcome) → ((x : ServedEndpoint) → TakesOnly Q (f x))
       → (o : Option ServedEndpoint) → TakesOnly Q (on_endpoint f o)
@@ -61,9 +52,8 @@ module _ (Q : ℕ → Type 0) where
   told_only (Some i) = tt
 
   called_only : (c : Option PortCall) (o : Option ℕ) → TakesOnly Q (called_at c o)
-  called_only None o = tt
   called_only (Some c) None = tt
-  called_only (Some c) (Some i) = tt
+  called_only c o = tt
 
   address_only : (b : Bool) (x y : Outcome) → (b ≡ true → TakesOnly Q x) → TakesOnly Q y
       → TakesOnly Q (if b then x else y)
@@ -119,11 +109,7 @@ module _ (Q : ℕ → Type 0) where
 
   pub first_aims : (row : List PortState) (wanted : ℕ) (o : Outcome) → TakesOnly Q o
       → Aims Q (first_stage row wanted o)
-  first_aims row wanted stalled h = tt
   first_aims row wanted (answers bytes) h = reads_aim wanted bytes
   first_aims row wanted (takes_address a) h = h
-  first_aims row wanted (takes_configuration c) h = tt
-  first_aims row wanted (halts x) h = tt
-  first_aims row wanted (unhalts x) h = tt
   first_aims row wanted (tells_port i) h = port_aims wanted (slice_get row i)
-  first_aims row wanted (calls_port c i) h = tt
+  first_aims row wanted o h = tt

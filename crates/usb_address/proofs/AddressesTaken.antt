@@ -1,10 +1,10 @@
 -- SET_ADDRESS: the one device at the target's address takes the new one, or none does, whatever is
 -- lost.
 use Rattle.std.proofs.Common.{◌≡◌, ℕ, zero, suc, ◌⊎◌, inl, inr, Bool, true, false, List, [], ◌∷◌}
-use Rattle.std.proofs.Common.{Option, None, Some, option_map, if◌then◌else◌, Result, Ok, Err, refl}
+use Rattle.std.proofs.Common.{Option, None, Some, option_map, if◌then◌else◌, Result, Err, refl}
 use Rattle.std.proofs.Common.{ap, sym, subst, ◌∙◌}
 use Rattle.std.proofs.lemmas.Option.{same_Some}
-use Rattle.usb_device.specs.{State, ends_with_address, Stage, idle, refused, reading, read, ending}
+use Rattle.usb_device.specs.{State, ends_with_address, Stage, ending}
 use Rattle.usb_device.specs.{state_at, Location, path_to, reach_on, state_on}
 use Rattle.usb_world.specs.{Attempt, BusFault, Outcome, World, Made, at_attempt, damage_in, attempt}
 use Rattle.usb_world.specs.{after, HoldsMapped, IsIn, IsMade, HolderIn, is_setup, NoneTakes}
@@ -13,7 +13,7 @@ use Rattle.usb_tree.specs.{address_of, same_path, deep_at, NobodyHolds}
 use Rattle.usb_world.proofs.Interface.{data_own, holder_or_nobody, made_of, ready_own, seen, stands}
 use Rattle.usb_world.proofs.Interface.{state_stands, taken_distinct, unseen}
 use Rattle.usb_tree.proofs.Interface.{decided, false_true, same_equal, self_path}
-use Rattle.usb_transaction.specs.{TransFault, Stalled, Busy, NoAnswer, Bus, AttemptLog, start, next}
+use Rattle.usb_transaction.specs.{TransFault, Bus, AttemptLog, start, next}
 use Rattle.usb_transaction.specs.{BusFailed, Transacted}
 use Rattle.usb_address.specs.Aims.{Aims}
 use Rattle.usb_address.specs.{AllAim, Never, LeavesTrans, MapHolds}
@@ -22,12 +22,8 @@ use Rattle.usb_address.proofs.Steps.{unshared_after}
 use Rattle.usb_address.proofs.Trails.{cut_off_unshared}
 
 ends_some : (g : Stage) → ends_with_address g ≡ true → (c : ℕ) × (g ≡ ending (Some c))
-ends_some idle h = false_true h
-ends_some refused h = false_true h
-ends_some (reading a w k) h = false_true h
-ends_some read h = false_true h
-ends_some (ending None) h = false_true h
 ends_some (ending (Some c)) h = (c, refl)
+ends_some g h = false_true h
 
 module _ (f : List ℕ → Option ℕ) (p : List ℕ) (b : ℕ) (a : Attempt) (is : IsIn a) (at : (q : List ℕ)
     → f q ≡ Some a.addr → q ≡ p) (free : (q r : List ℕ) → f q ≡ Some b → f r ≡ Some a.addr
@@ -187,8 +183,5 @@ module _ (f : List ℕ → Option ℕ) (p : List ℕ) (b : ℕ) (a : Attempt) (i
 
   pub taking_transacted : (hear : _) (old : World) (answer : Result (List ℕ) TransFault)
       (new : World) → Transacted hear a old answer new → Taking old → LeavesTrans Taking answer new
-  taking_transacted hear old (Ok bytes) new e x = trail_on e.trail x
-  taking_transacted hear old (Err Stalled) new e x = trail_on e.trail x
-  taking_transacted hear old (Err Busy) new e x = trail_on e.trail x
-  taking_transacted hear old (Err NoAnswer) new e x = trail_on e.trail x
   taking_transacted hear old (Err (Bus fault)) new c x = cut hear old fault new c x
+  taking_transacted hear old answer new e x = trail_on e.trail x

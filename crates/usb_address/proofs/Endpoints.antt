@@ -18,8 +18,8 @@ use Rattle.usb_pipe.specs.{Condition, PipeFault, Bulk, halt_address, packets_of,
 use Rattle.usb_pipe.specs.{Cleared, Clears, FaultAfter, packet_target, Interrupt, PollAsked, Polls}
 use Rattle.usb_pipe.specs.{Gave, Came, Puts, Fetches, SendEnds, NotCame, NoRoomLeft, ReceiveEnds}
 use Rattle.usb_pipe.specs.declared.condition.Condition.TheVariants as condition
-use Rattle.usb_pipe.specs.declared.fault.PipeFault.TheVariants.{Stalled, Busy, NoAnswer, Broken}
-use Rattle.usb_pipe.specs.declared.fault.PipeFault.TheVariants.{Bus, Memory}
+use Rattle.usb_pipe.specs.declared.fault.PipeFault.TheVariants.{Stalled, Broken}
+use Rattle.usb_pipe.specs.declared.fault.PipeFault.TheVariants.{Bus}
 use Rattle.usb_pipe.specs.Moves as moves
 use Rattle.usb_pipe.proofs.Interface.{harmless}
 use Rattle.usb_address.specs.{AddressMap, LeavesTrans, LeavesPipe, MapHolds, WhileBusWorks}
@@ -41,12 +41,10 @@ module _ (g : BusFault) where
 
   none_transacted : (hear : _) (a : Attempt) (old : World) → old.fault ≡ Some g
       → (fault : TransFault) (new : World) → Transacted hear a old (Err fault) new → new ≡ old
-  none_transacted hear a old e trans.Stalled new x = absurd (cc (e, trail_sound x.trail))
-  none_transacted hear a old e trans.Busy new x = absurd (cc (e, trail_sound x.trail))
-  none_transacted hear a old e trans.NoAnswer new x = absurd (cc (e, trail_sound x.trail))
   none_transacted hear a old e (trans.Bus fault) new x =
       let same : x.mid ≡ old = none_made a old e x.outcomes x.mid x.trail in
       (x.refused.again g (ap (λ w. w.fault) same ∙ e)).1 ∙ same
+  none_transacted hear a old e fault new x = absurd (cc (e, trail_sound x.trail))
 
 -- A call that leaves each device at its own address, and does nothing on such a bus
 
@@ -77,11 +75,7 @@ some_worked k n old new (Err why) w = w
 other_call : (A B : Type 0) (P : World → Type 0) (why : PipeFault) (w : World)
     → LeavesPipe {A = A} P (Err why) w → LeavesPipe {A = B} P (Err why) w
 other_call A B P Stalled w h = h
-other_call A B P Busy w h = h
-other_call A B P NoAnswer w h = h
-other_call A B P Broken w h = h
-other_call A B P (Bus fault) w h = h
-other_call A B P Memory w h = h
+other_call A B P why w h = h
 
 pub same_keeps : (old new : World) → new ≡ old → KeepsAddresses old new
 same_keeps old new same = subst (λ w. KeepsAddresses old w) (sym same) (keeps_none old)
@@ -158,9 +152,8 @@ sends_keep bytes pipe old result left new x = split pipe.condition refl
         sent.went)
 
     split : (c : Condition) → pipe.condition ≡ c → KeepsAddresses old new
-    split condition.Ready e = some (λ h. absurd (cc (e, h))) bytes refl
-    split condition.Halted e = some (λ h. absurd (cc (e, h))) bytes refl
     split condition.Broken e = same_keeps old new (x.broken e).world_kept
+    split c e = some (λ h. absurd (cc (e, h))) bytes refl
 
 -- Packets to the host: INs of another endpoint than 0
 
@@ -237,9 +230,8 @@ receives_keep wanted pipe far old result left new x = split pipe.condition refl
         result received.came)
 
     split : (c : Condition) → pipe.condition ≡ c → KeepsAddresses old new
-    split condition.Ready e = some (λ h. absurd (cc (e, h))) wanted refl
-    split condition.Halted e = some (λ h. absurd (cc (e, h))) wanted refl
     split condition.Broken e = same_keeps old new (x.broken e).2
+    split c e = some (λ h. absurd (cc (e, h))) wanted refl
 
 -- The clear of a halt: a request that neither resets a port nor gives an address
 
@@ -261,5 +253,4 @@ clears_keep pipe old result left new x = split pipe.condition refl
 
     split : (c : Condition) → pipe.condition ≡ c → KeepsAddresses old new
     split condition.Ready e = same_keeps old new (x.ready e).world_kept
-    split condition.Halted e = asked (x.sent (λ h. absurd (cc (e, h))))
-    split condition.Broken e = asked (x.sent (λ h. absurd (cc (e, h))))
+    split c e = asked (x.sent (λ h. absurd (cc (e, h))))

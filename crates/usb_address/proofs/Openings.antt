@@ -1,5 +1,5 @@
 -- The world of a plan before anything came: no device stands, so none is reached.
-use Rattle.std.proofs.Common.{◌≡◌, ℕ, zero, suc, false, List, [], ◌∷◌, refl, ap}
+use Rattle.std.proofs.Common.{◌≡◌, ℕ, zero, suc, false, List, ◌∷◌, refl, ap}
 use Rattle.std.specs.Prelude.{⊤}
 use Rattle.usb_device.specs.{all_forgotten, Ports, ended, vacant, taken, new_ports, reach, reach_at}
 use Rattle.usb_tree.specs.{IsSettled}
@@ -19,15 +19,13 @@ vacant_settled (taken b s a k) h = elim h [ ]
 
 vacant_reach_at : (k : Ports) → IsVacant k → (i : ℕ) (p : List ℕ) → reach_at k i p ≡ false
 unfolding reach_at
-vacant_reach_at ended h i p = refl
-vacant_reach_at (vacant b k) h zero p = refl
 vacant_reach_at (vacant b k) h (suc i) p = vacant_reach_at k h i p
 vacant_reach_at (taken b s a k) h i p = elim h [ ]
+vacant_reach_at k h i p = refl
 
 pub vacant_reach : (k : Ports) → IsVacant k → (p : List ℕ) → reach k p ≡ false
-vacant_reach k h [] = refl
-vacant_reach k h (zero ∷ p) = refl
 vacant_reach k h (suc i ∷ p) = vacant_reach_at k h i p
+vacant_reach k h p = refl
 
 pub new_vacant : (n : ℕ) → IsVacant (new_ports n)
 unfolding new_ports

@@ -1,22 +1,22 @@
 -- Endpoints other than 0 take no part in who has which address, whatever is lost.
-use Rattle.std.proofs.Common.{◌≡◌, ◌≢◌, ℕ, zero, suc, ◌==◌, ◌&&◌, nat_lt, if◌then◌else◌, Bool, true}
-use Rattle.std.proofs.Common.{false, List, [], ◌∷◌, length, Option, None, Some, option_map, Result}
-use Rattle.std.proofs.Common.{Ok, Err, refl, ap, sym, subst, ◌∙◌}
+use Rattle.std.proofs.Common.{◌≡◌, ◌≢◌, ℕ, zero, suc, ◌==◌, if◌then◌else◌, Bool, true}
+use Rattle.std.proofs.Common.{false, List, [], ◌∷◌, Option, None, Some, option_map, Result}
+use Rattle.std.proofs.Common.{Ok, Err, refl, ap, sym, subst, ◌∙◌, rules}
 use Rattle.arrayvec.specs.ArrayVec.{ArrayVec}
-use Rattle.usb_packet.specs.{Toggle, Zero, One as Data1, is_same}
+use Rattle.usb_packet.specs.{Toggle, One as Data1}
 use Rattle.usb_port.specs.{PortState}
 use Rattle.usb_device.specs.declared.answer.Answer.TheVariants as answer
-use Rattle.usb_device.specs.{Stage, idle, refused, reading, read, ending, State, Reply, forgotten}
-use Rattle.usb_device.specs.{is_busy, nak_row, unless_busy, out_row, status_row, sink_row, sunk}
-use Rattle.usb_device.specs.{out_bulk_row, bulk_of, data_row, Way, is_whole, heard, in_law, out_law}
-use Rattle.usb_device.specs.{Ports, ended, vacant, taken, row_of, reach_at, state_at, Location}
+use Rattle.usb_device.specs.{Stage, reading, read, State, Reply}
+use Rattle.usb_device.specs.{out_row, status_row, sink_row}
+use Rattle.usb_device.specs.{out_bulk_row, data_row, Way, in_law, out_law}
+use Rattle.usb_device.specs.{Ports, vacant, taken, row_of, reach_at, state_at, Location}
 use Rattle.usb_device.specs.{Registers}
 use Rattle.usb_world.specs.{Attempt, Outcome, World, attempt, after, HoldsMapped, Was, EachWas}
 use Rattle.usb_world.specs.{DidIn, DidOut, IsOut, IsIn, IsMade}
 use Rattle.usb_tree.specs.{address_of}
 use Rattle.usb_world.proofs.Interface.{each_in, each_out, made_of}
 use Rattle.usb_tree.proofs.Interface.{both, false_true, unequal}
-use Rattle.usb_transaction.specs.{TransFault, Stalled, Busy, NoAnswer, Bus, in_attempt, polled_as}
+use Rattle.usb_transaction.specs.{TransFault, Stalled, Bus, in_attempt, polled_as}
 use Rattle.usb_transaction.specs.{AttemptLog, start, next, Transacted, Polled}
 use Rattle.usb_pipe.specs.{PipeFault, as_pipe_fault, Interrupt, PollAsked, Polls}
 use Rattle.usb_address.specs.{LeavesTrans, LeavesPipe, MapHolds}
@@ -38,41 +38,26 @@ module _ (s : State) where
 
   module _ (t : Toggle) (bytes : List ℕ) where
     status_keeps : (t : Toggle) (bytes : List ℕ) → Kept (status_row s t bytes)
-    status_keeps Zero b = refl
     status_keeps Data1 [] = refl
-    status_keeps Data1 (x ∷ b) = refl
+    status_keeps t b = refl
 
     out_row_keeps : (g : Stage) → Kept (out_row s g t bytes)
-    out_row_keeps idle = refl
-    out_row_keeps refused = refl
     out_row_keeps (reading a w k) = status_keeps t bytes
     out_row_keeps read = status_keeps t bytes
-    out_row_keeps (ending a) = refl
+    out_row_keeps g = refl
 
     sink_keeps : (max : ℕ) → Kept (sink_row s max t bytes)
-    sink_keeps max =
-        kept_if s.bulk_out.halted (Some answer.Stall, s) _ refl
-        (kept_if (nat_lt max (length bytes)) (None, s) _ refl
-        (kept_if (is_same t s.bulk_out.toggle) (Some answer.Ack, sunk s bytes) (Some answer.Ack, s)
-        refl refl))
+    sink_keeps max = search rules
 
     out_bulk_keeps : (e : ℕ) (o : Option (ℕ × ℕ)) → Kept (out_bulk_row s e o t bytes)
     out_bulk_keeps e None = refl
-    out_bulk_keeps e (Some end) = kept_if (end.0 == e) (sink_row s end.1 t bytes) (None, s)
-        (sink_keeps end.1) refl
+    out_bulk_keeps e (Some end) = search (rules, kept_if, sink_keeps)
 
     data_keeps : (e : ℕ) → Kept (data_row s e t bytes)
-    data_keeps e =
-        kept_if (e == 0) (unless_busy s (out_row s s.stage t bytes))
-        (out_bulk_row s e (bulk_of s false) t bytes)
-        (kept_if (is_busy s) (nak_row s) (out_row s s.stage t bytes) refl (out_row_keeps s.stage))
-        (out_bulk_keeps e (bulk_of s false))
+    data_keeps e = search (rules, out_row_keeps, out_bulk_keeps)
 
     out_far : (e : ℕ) (x y z : Way) → Kept (out_law s e t bytes x y z)
-    out_far e x y z = kept_if (is_whole x && is_whole y) (
-      heard z (data_row s e t bytes).0,
-      forgotten (data_row s e t bytes).1,
-    ) (None, s) (data_keeps e) refl
+    out_far e x y z = search (rules, kept_if, data_keeps)
 
 -- Attempts
 
@@ -99,21 +84,17 @@ out_address a t bytes w i s v (DidOut.asked d q x o same) = ap address_of same
 pub reach_stands : (k : Ports) (i : ℕ) (e : List ℕ) → reach_at k i e ≡ true → state_at k i e ≡ None
     → ⊥
 unfolding reach_at state_at
-reach_stands ended i e on h = cc on
-reach_stands (vacant b k) zero e on h = cc on
 reach_stands (vacant b k) (suc i) e on h = reach_stands k i e on h
 reach_stands (taken b s a k) zero [] on h = cc h
-reach_stands (taken b s a k) zero (zero ∷ e) on h = cc on
 reach_stands (taken b s a k) zero (suc j ∷ e) on h =
     reach_stands a j e (both b.enable (reach_at a j e) on).1 h
 reach_stands (taken b s a k) (suc i) e on h = reach_stands k i e on h
+reach_stands k i e on h = cc on
 
 -- what an attempt leaves each device's address as, where it keeps it
 keeps_own : (R : Location → State → State → Type 0)
     → ((i : Location) (s v : State) → R i s v → address_of v ≡ address_of s)
     → (f : List ℕ → Option ℕ) (w u : World) → EachWas R w u → HoldsMapped f w → HoldsMapped f u
-keeps_own R same f w u each own [] on = false_true on
-keeps_own R same f w u each own (zero ∷ e) on = false_true on
 keeps_own R same f w u each own (suc i ∷ e) on = go (state_at u.roots i e) refl
   where
     go : (o : Option State) → state_at u.roots i e ≡ o
@@ -125,6 +106,7 @@ keeps_own R same f w u each own (suc i ∷ e) on = go (state_at u.roots i e) ref
         ap (option_map address_of) h ∙ ap (λ n. Some n)
         (same (record { row = i; rest = e }) x.before v x.so)
         ∙ sym (ap (option_map address_of) x.stands) ∙ own (suc i ∷ e) x.on
+keeps_own R same f w u each own x on = false_true on
 
 far_own : (f : List ℕ → Option ℕ) (a : Attempt) (w : World) → IsOffEndpointZero a → IsMade a w
     → (after (attempt a) w).shared ≡ false → HoldsMapped f w → HoldsMapped f (after (attempt a) w)
@@ -150,12 +132,9 @@ trail_far f a far (next w t made) o =
 pub far_transacted : (f : List ℕ → Option ℕ) (a : Attempt) → IsOffEndpointZero a
     → (hear : _) (old : World) (answer : Result (List ℕ) TransFault) (new : World)
     → Transacted hear a old answer new → MapHolds f old → LeavesTrans (MapHolds f) answer new
-far_transacted f a far hear old (Ok bytes) new e o = trail_far f a far e.trail o
-far_transacted f a far hear old (Err Stalled) new e o = trail_far f a far e.trail o
-far_transacted f a far hear old (Err Busy) new e o = trail_far f a far e.trail o
-far_transacted f a far hear old (Err NoAnswer) new e o = trail_far f a far e.trail o
 far_transacted f a far hear old (Err (Bus fault)) new c o =
     cut_off_unshared f a hear old fault new c (trail_far f a far c.trail o)
+far_transacted f a far hear old answer new e o = trail_far f a far e.trail o
 
 -- Polls
 
@@ -177,12 +156,8 @@ module _ (f : List ℕ → Option ℕ) (p : Interrupt) (far : p.ep ≢ 0) where
       → LeavesPipe {A = Option (ArrayVec ℕ)} (MapHolds f) (Err why) new
   told Stalled why new e h = subst (λ x. LeavesPipe {A = Option (ArrayVec ℕ)} (MapHolds f) (Err x)
       new) (sym e) h
-  told Busy why new e h = subst (λ x. LeavesPipe {A = Option (ArrayVec ℕ)} (MapHolds f) (Err x) new)
-      (sym e) h
-  told NoAnswer why new e h = subst (λ x. LeavesPipe {A = Option (ArrayVec ℕ)} (MapHolds f) (Err x)
-      new) (sym e) h
-  told (Bus fault) why new e h = subst (λ x. LeavesPipe {A = Option (ArrayVec ℕ)} (MapHolds f)
-      (Err x) new) (sym e) h
+  told fault why new e h =
+      subst (λ x. LeavesPipe {A = Option (ArrayVec ℕ)} (MapHolds f) (Err x) new) (sym e) h
 
   asked : (old : World) (result : Result (Option (ArrayVec ℕ)) PipeFault) (new : World)
       → PollAsked p old result new → MapHolds f old → LeavesPipe (MapHolds f) result new

@@ -6,9 +6,8 @@ use Rattle.std.proofs.Common.{ap, sym, subst, ◌∙◌}
 use Rattle.std.proofs.lemmas.Option.{same_Some}
 use Rattle.usb_packet.specs.{One}
 use Rattle.usb_request.specs.{SET_ADDRESS, DEVICE_OUT, setup_of, bytes_of, Setup}
-use Rattle.usb_device.specs.{outcome, Is, State, empty, full, reach, Location, path_to, reach_on}
-use Rattle.usb_device.specs.{state_on, place_on}
-use Rattle.usb_device.specs.Tree.{Place}
+use Rattle.usb_device.specs.{outcome, Is, State, full, reach, Location, path_to, reach_on, state_on}
+use Rattle.usb_device.specs.{place_on, Place}
 use Rattle.usb_world.specs.{Attempt, BusFault, Outcome, World, Made, at_attempt, attempt, after}
 use Rattle.usb_world.specs.{outcome_in, HoldsMapped, resets, address_at, IsSetup, IsMade, HolderIn}
 use Rattle.usb_world.specs.{after_reset}
@@ -17,8 +16,8 @@ use Rattle.usb_tree.specs.{address_of, same_path, same_number, is_way, NobodyHol
 use Rattle.usb_world.proofs.Interface.{holder_or_nobody, hub_reset, hub_rest, made_of, nobody_in}
 use Rattle.usb_world.proofs.Interface.{ready_own, reset_distinct, stands, state_stands, step_new}
 use Rattle.usb_tree.proofs.Interface.{and_of, both, decided, false_true}
-use Rattle.usb_transaction.specs.{Target, TransFault, Stalled, Busy, NoAnswer, Bus, set_up_as}
-use Rattle.usb_transaction.specs.{setup_attempt, AttemptLog, start, next, BusFailed}
+use Rattle.usb_transaction.specs.{Target, TransFault, Bus, set_up_as, setup_attempt, AttemptLog}
+use Rattle.usb_transaction.specs.{start, next, BusFailed}
 use Rattle.usb_pipe.specs.{PipeFault, SetUp, Asks, Writes}
 use Rattle.usb_address.specs.Aims.{Aims}
 use Rattle.usb_address.specs.{AllAim, TakesOnly, Never, LeavesTrans, LeavesPipe, MapHolds}
@@ -38,9 +37,8 @@ is_way-same_path (m ∷ p) (k ∷ x) h = let z : _ = both (same_number m k) (sam
 
 new_place_address : (o : Option Place) → IsNew o → (v : State) → stands o ≡ Some v
     → address_of v ≡ 0
-new_place_address None h v e = elim h [ ]
-new_place_address (Some (empty b)) h v e = elim h [ ]
 new_place_address (Some (full b s a)) h v e = ap address_of (sym (same_Some s v e)) ∙ h.0
+new_place_address o h v e = elim h [ ]
 
 pub owned_as : (f g : List ℕ → Option ℕ) (w : World) → ((x : List ℕ) → f x ≡ g x) → MapHolds f w
     → MapHolds g w
@@ -102,9 +100,8 @@ module _ (q : List ℕ) (n : ℕ) (t : Target) (request : Setup) (same : setup_o
       split : (y z : Bool) → (if y then Some 0 else if z then None
           else (if y then Some 0 else if z then None else h x))
           ≡ (if y then Some 0 else if z then None else h x)
-      split true z = refl
       split false true = refl
-      split false false = refl
+      split y z = refl
 
   Step : (List ℕ → Option ℕ) → World → Type 0
   Step h w = MapHolds h w ⊎ MapHolds (after_reset h p) w
@@ -223,26 +220,18 @@ module _ (q : List ℕ) (n : ℕ) (t : Target) (request : Setup) (same : setup_o
     abbrev Calms : World → Type 0
     Calms w = Resets w × AllAim Never t.addr w
 
+    wider : (g : List ℕ → Option ℕ) (new : World) → (MapHolds g new → Resets new)
+        → (answer : Result (List ℕ) TransFault) → LeavesTrans (Calm g t) answer new
+        → LeavesTrans Resets answer new
+    wider g new so (Err (Bus fault)) x = x
+    wider g new so answer x = so x.0
+
     status : (old : World) (answer : Result (List ℕ) TransFault) (new : World)
         → Asks t One old answer new → Calms old → LeavesTrans Resets answer new
-    status old answer new e (inl o, h) = wider answer (asks_leaves f t One old answer new e (o, h))
-      where
-        wider : (answer : Result (List ℕ) TransFault) → LeavesTrans (Calm f t) answer new
-            → LeavesTrans Resets answer new
-        wider (Ok bytes) x = inl x.0
-        wider (Err Stalled) x = inl x.0
-        wider (Err Busy) x = inl x.0
-        wider (Err NoAnswer) x = inl x.0
-        wider (Err (Bus fault)) x = x
-    status old answer new e (inr o, h) = wider answer (asks_leaves r t One old answer new e (o, h))
-      where
-        wider : (answer : Result (List ℕ) TransFault) → LeavesTrans (Calm r t) answer new
-            → LeavesTrans Resets answer new
-        wider (Ok bytes) x = inr x.0
-        wider (Err Stalled) x = inr x.0
-        wider (Err Busy) x = inr x.0
-        wider (Err NoAnswer) x = inr x.0
-        wider (Err (Bus fault)) x = x
+    status old answer new e (inl o, h) = wider f new (λ x. inl x) answer
+        (asks_leaves f t One old answer new e (o, h))
+    status old answer new e (inr o, h) = wider r new (λ x. inr x) answer
+        (asks_leaves r t One old answer new e (o, h))
 
     cut : (old : World) (fault : BusFault) (new : World) → BusFailed set_up_as a old fault new
         → Resets old → new.shared ≡ false
@@ -254,10 +243,8 @@ module _ (q : List ℕ) (n : ℕ) (t : Target) (request : Setup) (same : setup_o
 
     no_set_up : (old : World) (fault : TransFault) (new : World)
         → SetUp t request old (Err fault) new → Resets old → FaultLeaves Resets fault new
-    no_set_up old Stalled new e x = trail_on e.trail x
-    no_set_up old Busy new e x = trail_on e.trail x
-    no_set_up old NoAnswer new e x = trail_on e.trail x
     no_set_up old (Bus fault) new c x = cut old fault new c x
+    no_set_up old fault new e x = trail_on e.trail x
 
     done : (old mid : World) → SetUp t request old (Ok []) mid → Resets old → Calms mid
     done old mid e x = (

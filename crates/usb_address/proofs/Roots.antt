@@ -2,7 +2,7 @@
 use Rattle.std.proofs.Common.{◌≡◌, ℕ, zero, suc, ◌⊎◌, inl, inr, true, false, List, [], ◌∷◌, Some}
 use Rattle.std.proofs.Common.{slice_index_or, refl, sym, subst, ◌∙◌}
 use Rattle.usb_port.specs.{PortCall, SetReset, is_reset, off}
-use Rattle.usb_device.specs.{Ports, ended, vacant, taken, reach, reach_at, row_of}
+use Rattle.usb_device.specs.{Ports, vacant, taken, reach, reach_at, row_of}
 use Rattle.usb_world.specs.{after_reset, resets, root_call, after, World, root_port_at}
 use Rattle.usb_tree.specs.{is_way, same_number}
 use Rattle.usb_world.proofs.Interface.{same_number-is, reset_distinct, reset_own, rest_own}
@@ -77,24 +77,21 @@ module _ (n : ℕ) (w : World) where
 shut_index : (k : Ports) (i : ℕ) (r : List ℕ) → (slice_index_or (row_of k) i off).enable ≡ false
     → reach_at k i r ≡ false
 unfolding row_of reach_at
-shut_index ended i r h = refl
-shut_index (vacant b k) zero r h = refl
 shut_index (vacant b k) (suc i) r h = shut_index k i r h
 shut_index (taken b s a k) zero [] h = h
-shut_index (taken b s a k) zero (zero ∷ r) h = refl
 shut_index (taken b s a k) zero (suc m ∷ r) h = rw h refl
 shut_index (taken b s a k) (suc i) r h = shut_index k i r h
+shut_index k i r h = refl
 
 reach-root_disabled : (n : ℕ) (w : World) → (root_port_at w n).enable ≡ false → (x : List ℕ)
     → is_way (n ∷ []) x ≡ true → reach w.roots x ≡ false
 unfolding root_port_at is_way
-reach-root_disabled n w h [] way = refl
-reach-root_disabled n w h (zero ∷ r) way = refl
 reach-root_disabled zero w h (suc i ∷ r) way = false_true way
 reach-root_disabled (suc j) w h (suc i ∷ r) way =
     rw (same_number-is j i (both (same_number j i) true way).0)
     (shut_index w.roots j r (subst (λ k. (slice_index_or (row_of w.roots) k off).enable ≡ false)
     (less_one j) h))
+reach-root_disabled n w h x way = refl
 
 pub root_shut : (f : AddressMap) (n : ℕ) (w : World) → (root_port_at w n).enable ≡ false
     → WhileBusWorks (MapHolds f) w → WhileBusWorks (MapHolds (map_without f (n ∷ []))) w

@@ -1,27 +1,24 @@
 -- A device's status stage after an attempt: the one it had, or none that ends with an address.
-use Rattle.std.proofs.Common.{◌≡◌, ℕ, ◌+◌, ◌==◌, ◌&&◌, nat_lt, nat_le, if◌then◌else◌, Bool, true}
-use Rattle.std.proofs.Common.{false, List, [], ◌∷◌, length, take, Option, None, Some, is_some, refl}
-use Rattle.usb_packet.specs.{Toggle, Zero, One as Data1, is_same}
+use Rattle.std.proofs.Common.{◌≡◌, ℕ, ◌+◌, ◌&&◌, nat_le, if◌then◌else◌, Bool, true}
+use Rattle.std.proofs.Common.{false, List, [], ◌∷◌, Option, None, Some, is_some, refl}
+use Rattle.std.proofs.Common.{length, rules}
+use Rattle.usb_packet.specs.{Toggle, One as Data1}
 use Rattle.usb_port.specs.{PortState}
 use Rattle.usb_device.specs.declared.answer.Answer.TheVariants as answer
-use Rattle.usb_device.specs.{InEndpoint, tells_changes, change_bits, Stage, idle, refused, reading}
+use Rattle.usb_device.specs.{InEndpoint, Stage, reading}
 use Rattle.usb_device.specs.{read, ending, max_packet, packet_at, toggle_at, State, Reply}
-use Rattle.usb_device.specs.{forgotten, is_busy, nak_row, unless_busy, out_row, status_row, ack_row}
-use Rattle.usb_device.specs.{sink_row, sunk, out_bulk_row, bulk_ack_row, bulk_of, rest_of, data_row}
-use Rattle.usb_device.specs.{acknowledged, ends_with_address, Way, is_whole, heard, gave}
-use Rattle.usb_device.specs.{in_stage_law, source_law, held_law, changes_law, in_bulk_law}
+use Rattle.usb_device.specs.{forgotten, out_row, status_row, ack_row}
+use Rattle.usb_device.specs.{sink_row, out_bulk_row, bulk_ack_row, bulk_of, data_row}
+use Rattle.usb_device.specs.{acknowledged, ends_with_address, Way, is_whole, gave}
+use Rattle.usb_device.specs.{in_stage_law, source_law, held_law, in_bulk_law}
 use Rattle.usb_device.specs.{in_other_law, in_control_law, in_law, out_law}
 use Rattle.usb_device.specs.declared.transfer.InEndpoint.TheVariants as by
 use Rattle.usb_address.specs.Aims.{Aims}
 use Rattle.usb_address.specs.{Never}
 
 pub none_takes : (g : Stage) → Aims Never g → ends_with_address g ≡ false
-none_takes idle h = refl
-none_takes refused h = refl
-none_takes (reading a w k) h = refl
-none_takes read h = refl
-none_takes (ending None) h = refl
 none_takes (ending (Some a)) h = elim h [ ]
+none_takes g h = refl
 
 module _ (Q : ℕ → Type 0) where
   abbrev Keeps : Reply → Type 0
@@ -32,16 +29,14 @@ module _ (Q : ℕ → Type 0) where
   keeps_if false x y h g = g
 
   acked : (s : State) (g : Stage) → Aims Q s.stage → Aims Q (ack_row s g).stage
-  acked s idle h = h
-  acked s refused h = h
   acked s (reading a w k) h = split (is_some (packet_at (max_packet s.spec) w a k))
     where
       split : (b : Bool) → Aims Q (if b then record s { stage = reading a w (k + 1) } else s).stage
       split true = tt
       split false = h
-  acked s read h = h
   acked s (ending None) h = tt
   acked s (ending (Some a)) h = tt
+  acked s g h = h
 
   bulk_acked : (s : State) (o : Option (ℕ × ℕ)) → Aims Q s.stage → Aims Q (bulk_ack_row s o).stage
   bulk_acked s None h = h
@@ -65,8 +60,6 @@ module _ (Q : ℕ → Type 0) where
 
   module _ (s : State) (max : ℕ) (x y : Way) (h : Aims Q s.stage) where
     in_stage : (g : Stage) → Keeps (in_stage_law s g max x y)
-    in_stage idle = h
-    in_stage refused = h
     in_stage (reading a w k) = split (packet_at (max_packet s.spec) w a k)
       where
         split : (o : Option (List ℕ)) → Keeps (elim o
@@ -76,88 +69,52 @@ module _ (Q : ℕ → Type 0) where
             ])
         split None = h
         split (Some bytes) = gives s by.Control max (toggle_at k) bytes x y h
-    in_stage read = h
     in_stage (ending a) = gives s by.Control max Data1 [] x y h
+    in_stage g = h
 
     source_keeps : (most : ℕ) → Keeps (source_law s most max x y)
-    source_keeps most =
-        keeps_if s.bulk_in.halted (heard x (Some answer.Stall), s) _ h
-        (keeps_if (length (rest_of s) == 0) (heard x (Some answer.Nak), s)
-        (gave s by.Bulk max s.bulk_in.toggle (take most (rest_of s)) x y) h
-        (gives s by.Bulk max s.bulk_in.toggle (take most (rest_of s)) x y h))
+    source_keeps most = search (rules, keeps_if, gives)
 
     bulk_keeps : (e : ℕ) (o : Option (ℕ × ℕ)) → Keeps (in_bulk_law s e o max x y)
     bulk_keeps e None = h
-    bulk_keeps e (Some end) = keeps_if (end.0 == e) (source_law s end.1 max x y) (None, s)
-        (source_keeps end.1) h
+    bulk_keeps e (Some end) = search (rules, keeps_if, source_keeps)
 
     held_keeps : (row : List PortState) (o : Option ℕ) → Keeps (held_law s row o max x y)
-    held_keeps row None =
-        keeps_if (change_bits row == 0) (heard x (Some answer.Nak), s)
-        (gave (record s { held = Some (change_bits row) }) by.Changes max s.changes.toggle
-        (change_bits row ∷ []) x y) h
-        (gives (record s { held = Some (change_bits row) }) by.Changes max s.changes.toggle
-        (change_bits row ∷ []) x y h)
+    held_keeps row None = search (rules, keeps_if, gives)
     held_keeps row (Some bits) = gives s by.Changes max s.changes.toggle (bits ∷ []) x y h
 
     other_keeps : (row : List PortState) (e : ℕ) → Keeps (in_other_law s row e max x y)
-    other_keeps row e =
-        keeps_if (e == 1 && tells_changes s.spec s.registers) (changes_law s row max x y)
-        (in_bulk_law s e (bulk_of s true) max x y)
-        (keeps_if s.changes.halted (heard x (Some answer.Stall), s) (held_law s row s.held max x y)
-        h (held_keeps row s.held))
-        (bulk_keeps e (bulk_of s true))
+    other_keeps row e = search (rules, keeps_if, held_keeps, bulk_keeps)
 
     control_keeps : Keeps (in_control_law s max x y)
-    control_keeps = keeps_if (is_busy s) (heard x (Some answer.Nak), (nak_row s).1)
-        (in_stage_law s s.stage max x y) h (in_stage s.stage)
+    control_keeps = search (rules, keeps_if, in_stage)
 
   pub in_keeps : (s : State) (row : List PortState) (e max : ℕ) (z x y : Way) → Aims Q s.stage
       → Aims Q (in_law s row e max z x y).1.stage
-  in_keeps s row e max z x y h =
-      keeps_if (is_whole z) (if e == 0 then in_control_law s max x y else in_other_law s row e max x
-      y) (None, s)
-      (keeps_if (e == 0) (in_control_law s max x y) (in_other_law s row e max x y)
-      (control_keeps s max x y h) (other_keeps s max x y h row e)) h
+  in_keeps s row e max z x y h = search (rules, keeps_if, control_keeps, other_keeps)
 
   -- OUT
 
   module _ (s : State) (t : Toggle) (bytes : List ℕ) (h : Aims Q s.stage) where
     status_keeps : (t : Toggle) (bytes : List ℕ) → Keeps (status_row s t bytes)
-    status_keeps Zero b = h
     status_keeps Data1 [] = tt
-    status_keeps Data1 (x ∷ b) = h
+    status_keeps t b = h
 
     out_row_keeps : (g : Stage) → Keeps (out_row s g t bytes)
-    out_row_keeps idle = h
-    out_row_keeps refused = h
     out_row_keeps (reading a w k) = status_keeps t bytes
     out_row_keeps read = status_keeps t bytes
-    out_row_keeps (ending a) = h
+    out_row_keeps g = h
 
     sink_keeps : (max : ℕ) → Keeps (sink_row s max t bytes)
-    sink_keeps max =
-        keeps_if s.bulk_out.halted (Some answer.Stall, s) _ h
-        (keeps_if (nat_lt max (length bytes)) (None, s) _ h
-        (keeps_if (is_same t s.bulk_out.toggle) (Some answer.Ack, sunk s bytes) (Some answer.Ack, s)
-        h h))
+    sink_keeps max = search (rules, keeps_if)
 
     out_bulk_keeps : (e : ℕ) (o : Option (ℕ × ℕ)) → Keeps (out_bulk_row s e o t bytes)
     out_bulk_keeps e None = h
-    out_bulk_keeps e (Some end) = keeps_if (end.0 == e) (sink_row s end.1 t bytes) (None, s)
-        (sink_keeps end.1) h
+    out_bulk_keeps e (Some end) = search (rules, keeps_if, sink_keeps)
 
     data_keeps : (e : ℕ) → Keeps (data_row s e t bytes)
-    data_keeps e =
-        keeps_if (e == 0) (unless_busy s (out_row s s.stage t bytes))
-        (out_bulk_row s e (bulk_of s false) t bytes)
-        (keeps_if (is_busy s) (nak_row s) (out_row s s.stage t bytes) h (out_row_keeps s.stage))
-        (out_bulk_keeps e (bulk_of s false))
+    data_keeps e = search (rules, keeps_if, out_row_keeps, out_bulk_keeps)
 
   pub out_keeps : (s : State) (e : ℕ) (t : Toggle) (bytes : List ℕ) (x y z : Way) → Aims Q s.stage
       → Aims Q (out_law s e t bytes x y z).1.stage
-  out_keeps s e t bytes x y z h =
-      keeps_if (is_whole x && is_whole y) (
-        heard z (data_row s e t bytes).0,
-        forgotten (data_row s e t bytes).1,
-      ) (None, s) (data_keeps s t bytes h e) h
+  out_keeps s e t bytes x y z h = search (rules, keeps_if, data_keeps)

@@ -1,6 +1,6 @@
 -- What is so in the middle of an enumeration at a port: the device there, if one is reached, has
 -- address 0 or the one that is set aside for it.
-use Rattle.std.proofs.Common.{◌≡◌, ℕ, zero, suc, ◌⊎◌, inl, inr, Bool, true, false, List, [], ◌∷◌}
+use Rattle.std.proofs.Common.{◌≡◌, ℕ, suc, ◌⊎◌, inl, inr, Bool, true, false, List, ◌∷◌}
 use Rattle.std.proofs.Common.{Option, None, Some, option_map, if◌then◌else◌, refl, ap, sym, ◌∙◌}
 use Rattle.std.proofs.lemmas.Option.{same_Some}
 use Rattle.usb_device.specs.{State as Device, reach, state_at}
@@ -15,13 +15,12 @@ use Rattle.usb_address.proofs.PortResets.{owned_as}
 -- where a device is reached there is an address
 reach-has_address : (w : World) (q : List ℕ) → reach w.roots q ≡ true → address_at w.roots q ≡ None
     → ⊥
-reach-has_address w [] on h = cc on
-reach-has_address w (zero ∷ q) on h = cc on
 reach-has_address w (suc i ∷ q) on h = go (state_at w.roots i q) refl h
   where
     go : (o : Option Device) → state_at w.roots i q ≡ o → option_map address_of o ≡ None → ⊥
     go None e h = reach_stands w.roots i q on e
     go (Some v) e h = cc h
+reach-has_address w q on h = cc on
 
 -- a claim may be made where none is, and no device is reached
 pub weaken : (f : List ℕ → Option ℕ) (p : List ℕ) (n : ℕ) (w : World) → f p ≡ None → Unused f n
@@ -96,9 +95,8 @@ after_a_reset f p a c w free is (inr o) =
         split : (y z : Bool) → is_way p x ≡ z
             → (if y then Some 0 else if z then None else (if y then Some c else f x))
             ≡ (if y then Some 0 else f x)
-        split true z e = refl
         split false true e = sym (free x e)
-        split false false e = refl
+        split y z e = refl
 
 -- SET_ADDRESS leaves it so
 pub after_an_address : (f : List ℕ → Option ℕ) (p : List ℕ) (a c : ℕ) (w : World) → (c ≡ 0)

@@ -6,7 +6,7 @@ use Rattle.usb_packet.specs.{Toggle}
 use Rattle.usb_request.specs.{setup_of}
 use Rattle.usb_world.specs.{Attempt, BusFault, Outcome, World, attempt, after, is_quiet, IsSetup}
 use Rattle.usb_world.specs.{IsOut, IsIn, IsMade, is_setup}
-use Rattle.usb_world.specs.declared.types.Outcome.TheVariants.{Ack, Payload, Nak, Stall, Nothing}
+use Rattle.usb_world.specs.declared.types.Outcome.TheVariants.{Ack}
 use Rattle.usb_world.proofs.Interface.{made_of, quiet_resets}
 use Rattle.usb_transaction.specs.{TransFault, Stalled, Busy, NoAnswer, Bus, set_up_as, AttemptLog}
 use Rattle.usb_transaction.specs.{start, next, BusFailed, Transacted, LastOutcome}
@@ -55,12 +55,9 @@ pub data_transacted : (f : List ℕ → Option ℕ) (a : Attempt) → IsData a
     → (hear : _) (old : World) (answer : Result (List ℕ) TransFault) (new : World)
     → Transacted hear a old answer new → MapHolds f old → AllAim Never a.addr old
     → LeavesTrans (λ w. MapHolds f w × AllAim Never a.addr w) answer new
-data_transacted f a d hear old (Ok bytes) new e o h = trail_data f a d e.trail o h
-data_transacted f a d hear old (Err Stalled) new e o h = trail_data f a d e.trail o h
-data_transacted f a d hear old (Err Busy) new e o h = trail_data f a d e.trail o h
-data_transacted f a d hear old (Err NoAnswer) new e o h = trail_data f a d e.trail o h
 data_transacted f a d hear old (Err (Bus fault)) new c o h =
     cut_off_unshared f a hear old fault new c (trail_data f a d c.trail o h).0
+data_transacted f a d hear old answer new e o h = trail_data f a d e.trail o h
 
 -- SETUP of a request that resets no device
 
@@ -72,11 +69,8 @@ trail_quiet f a q (next w t made) o = quiet_owned f a w q made (trail_quiet f a 
 
 pub setup_acked : (o : Outcome) (bytes : List ℕ) (os : List Outcome)
     → LastOutcome set_up_as (Ok bytes) o os → o ≡ Ack
-setup_acked (Payload t b) bytes os h = cc
 setup_acked Ack bytes os h = refl
-setup_acked Nak bytes os h = cc
-setup_acked Stall bytes os h = cc
-setup_acked Nothing bytes os h = cc
+setup_acked o bytes os h = cc
 
 last_set_up : (f : List ℕ → Option ℕ) (Q : ℕ → Type 0) (a : Attempt) (bytes : List ℕ)
     → is_quiet (attempt a) ≡ true → IsSetup a bytes

@@ -12,8 +12,7 @@ use Rattle.usb_transaction.specs.{start, next}
 use Rattle.usb_transaction.specs.declared.fault.TransFault.TheVariants as trans
 use Rattle.usb_pipe.specs.{PipeFault, FaultAfter, SetUp, NoSetUp, NoStatus, NoData, NotConfirmed}
 use Rattle.usb_pipe.specs.{Reads, Writes}
-use Rattle.usb_pipe.specs.declared.fault.PipeFault.TheVariants.{Stalled, Busy, NoAnswer, Broken}
-use Rattle.usb_pipe.specs.declared.fault.PipeFault.TheVariants.{Bus, Memory}
+use Rattle.usb_pipe.specs.declared.fault.PipeFault.TheVariants.{Bus}
 use Rattle.usb_address.specs.{AddressMap, LeavesPipe, MapHolds, WhileBusWorks, KeepsAddresses}
 use Rattle.usb_address.proofs.Transfers.{reads_leave, writes_leave}
 
@@ -33,9 +32,6 @@ trail_sound (next w (next v t m) made) = trail_sound (next v t m)
 module _ (t : Target) (request : Setup) (old new : World) (g : BusFault) (e : old.fault ≡ Some g)
   where
     set_up_nothing : (fault : TransFault) → SetUp t request old (Err fault) new → new ≡ old
-    set_up_nothing trans.Stalled x = absurd (cc (e, trail_sound x.trail))
-    set_up_nothing trans.Busy x = absurd (cc (e, trail_sound x.trail))
-    set_up_nothing trans.NoAnswer x = absurd (cc (e, trail_sound x.trail))
     set_up_nothing (trans.Bus fault) x = cut x.outcomes x.mid x.trail (λ h. (x.refused.again g h).1)
       where
         cut : (os : List Outcome) (mid : World)
@@ -43,6 +39,7 @@ module _ (t : Target) (request : Setup) (old new : World) (g : BusFault) (e : ol
             → (mid.fault ≡ Some g → new ≡ mid) → new ≡ old
         cut [] mid start again = again e
         cut (o ∷ os) mid made again = absurd (cc (e, trail_sound made))
+    set_up_nothing fault x = absurd (cc (e, trail_sound x.trail))
 
     read_nothing : (result : Result (Vec ℕ) PipeFault) → Reads t request old result new → new ≡ old
     read_nothing (Ok bytes) x = absurd (cc (e, trail_sound x.set_up.trail))
@@ -69,16 +66,11 @@ module _ (P : World → Type 0) (alone : (w : World) → P w → w.shared ≡ fa
   pub till : {A : Type 0} (k n : ℕ) (result : Result A PipeFault)
       → MatchResult result (λ _. AttemptsMade k old new) (λ fault. FaultAfter n old fault new)
       → LeavesPipe P result new → WhileBusWorks P new
-  till k n (Ok x) ends p = record { so = λ h. p; single = alone new p }
-  till k n (Err Stalled) ends p = record { so = λ h. p; single = alone new p }
-  till k n (Err Busy) ends p = record { so = λ h. p; single = alone new p }
-  till k n (Err NoAnswer) ends p = record { so = λ h. p; single = alone new p }
-  till k n (Err Broken) ends p = record { so = λ h. p; single = alone new p }
   till k n (Err (Bus fault)) ends single = record {
     so = λ h. absurd (cc (h, ends.told));
     single = single;
   }
-  till k n (Err Memory) ends p = record { so = λ h. p; single = alone new p }
+  till k n result ends p = record { so = λ h. p; single = alone new p }
 
   pub still : (g : BusFault) → old.fault ≡ Some g → old.shared ≡ false → new ≡ old
       → WhileBusWorks P new

@@ -6,13 +6,12 @@ use Rattle.usb_packet.specs.{Toggle, One, flips}
 use Rattle.usb_request.specs.{SET_ADDRESS, DEVICE_OUT, setup_of, bytes_of, Setup}
 use Rattle.usb_device.specs.{outcome, Is}
 use Rattle.usb_world.specs.{World, is_harmless, IsSetup, after_taking}
-use Rattle.usb_transaction.specs.{Target, TransFault, Stalled as TransStalled, Busy as TransBusy}
-use Rattle.usb_transaction.specs.{NoAnswer as TransNoAnswer, Bus as TransBus, heard_as}
+use Rattle.usb_transaction.specs.{Target, TransFault, Stalled as TransStalled}
+use Rattle.usb_transaction.specs.{Bus as TransBus, heard_as}
 use Rattle.usb_transaction.specs.{heard_when_sent, setup_attempt, in_attempt, out_attempt}
 use Rattle.usb_pipe.specs.{PipeFault, as_pipe_fault, SetUp, Asks, Confirms, NoSetUp, Writes, Goes}
 use Rattle.usb_pipe.specs.{DataStage, DataLost, NoRoom, Reads}
-use Rattle.usb_pipe.specs.declared.fault.PipeFault.TheVariants.{Stalled, Busy, NoAnswer, Broken}
-use Rattle.usb_pipe.specs.declared.fault.PipeFault.TheVariants.{Bus, Memory}
+use Rattle.usb_pipe.specs.declared.fault.PipeFault.TheVariants.{Stalled}
 use Rattle.usb_pipe.specs.Stages.{start, packet}
 use Rattle.usb_address.specs.{AllAim, TakesOnly, Never, LeavesTrans, LeavesPipe, MapHolds}
 use Rattle.usb_address.proofs.AddressRequests.{outcome_only}
@@ -27,14 +26,9 @@ FaultLeaves P fault w = LeavesTrans {A = List ℕ} P (Err fault) w
 pub of_fault : (P Q : World → Type 0) (w : World) → (P w → Q w)
     → (fault : TransFault) (why : PipeFault) → why ≡ as_pipe_fault fault → FaultLeaves P fault w
     → LeavesPipe {A = Unit {0}} Q (Err why) w
-of_fault P Q w g TransStalled why e h = subst (λ x. LeavesPipe {A = Unit {0}} Q (Err x) w) (sym e)
-    (g h)
-of_fault P Q w g TransBusy why e h = subst (λ x. LeavesPipe {A = Unit {0}} Q (Err x) w) (sym e)
-    (g h)
-of_fault P Q w g TransNoAnswer why e h = subst (λ x. LeavesPipe {A = Unit {0}} Q (Err x) w) (sym e)
-    (g h)
 of_fault P Q w g (TransBus fault) why e h = subst (λ x. LeavesPipe {A = Unit {0}} Q (Err x) w)
     (sym e) h
+of_fault P Q w g fault why e h = subst (λ x. LeavesPipe {A = Unit {0}} Q (Err x) w) (sym e) (g h)
 
 -- The stages
 
@@ -80,6 +74,11 @@ module _ (f : List ℕ → Option ℕ) (t : Target) (request : Setup) (same : se
       (λ s. subst (λ r. TakesOnly Q (outcome s.spec s.registers r)) (sym same)
       (outcome_only Q s.spec s.registers request q)) old answer new e o
 
+  unaddressed : (Q : ℕ → Type 0) (fault : TransFault) (w : World)
+      → SetUpLeaves f Q t.addr (Err fault) w → FaultLeaves (MapHolds f) fault w
+  unaddressed Q TransStalled w h = h
+  unaddressed Q fault w h = h
+
   module _ (other : Is request DEVICE_OUT SET_ADDRESS ≡ false) where
     never : Is request DEVICE_OUT SET_ADDRESS ≡ true → ⊥
     never h = cc (other, h)
@@ -91,14 +90,7 @@ module _ (f : List ℕ → Option ℕ) (t : Target) (request : Setup) (same : se
     no_set_up : (old : World) (why : PipeFault) (new : World) → NoSetUp t request old why new
         → MapHolds f old → LeavesPipe {A = Unit {0}} (MapHolds f) (Err why) new
     no_set_up old why new n o = of_fault (MapHolds f) (MapHolds f) new (λ x. x) n.fault why n.told
-        (err n.fault (calm_set_up old (Err n.fault) new n.set_up o))
-      where
-        err : (fault : TransFault) → SetUpLeaves f Never t.addr (Err fault) new
-            → FaultLeaves (MapHolds f) fault new
-        err TransStalled h = h
-        err TransBusy h = h
-        err TransNoAnswer h = h
-        err (TransBus fault) h = h
+        (unaddressed Never n.fault new (calm_set_up old (Err n.fault) new n.set_up o))
 
     -- a request without data
     pub writes_leave : (old : World) (result : Result (Unit {0}) PipeFault) (new : World)
@@ -133,11 +125,7 @@ module _ (f : List ℕ → Option ℕ) (t : Target) (request : Setup) (same : se
     err_of : (why : PipeFault) (new : World) → LeavesPipe {A = Unit {0}} (MapHolds f) (Err why) new
         → LeavesPipe {A = Vec ℕ} (MapHolds f) (Err why) new
     err_of Stalled new h = h
-    err_of Busy new h = h
-    err_of NoAnswer new h = h
-    err_of Broken new h = h
-    err_of (Bus fault) new h = h
-    err_of Memory new h = h
+    err_of why new h = h
 
     pub reads_leave : (old : World) (result : Result (Vec ℕ) PipeFault) (new : World)
         → Reads t request old result new → MapHolds f old → LeavesPipe (MapHolds f) result new
@@ -181,20 +169,13 @@ module _ (f : List ℕ → Option ℕ) (t : Target) (request : Setup) (same : se
         (record { kind = refl; payload = refl }) at free differ (heard_as One) old answer new e
         (inl x)
 
-    unaddressed : (fault : TransFault) (w : World)
-        → SetUpLeaves f (λ a. a ≡ request.value) t.addr (Err fault) w
-        → FaultLeaves (MapHolds f) fault w
-    unaddressed TransStalled w h = h
-    unaddressed TransBusy w h = h
-    unaddressed TransNoAnswer w h = h
-    unaddressed (TransBus fault) w h = h
-
     pub gives_address : (old : World) (result : Result (Unit {0}) PipeFault) (new : World)
         → Writes t request old result new → MapHolds f old → LeavesPipe Gives result new
     gives_address old (Ok u) new x o =
         given new (status x.mid (Ok x.given) new x.status (aimed old (Ok []) x.mid x.set_up o))
     gives_address old (Err why) new (inl n) o = of_fault (MapHolds f) Gives new (λ x. inl x) n.fault
-        why n.told (unaddressed n.fault new (aimed old (Err n.fault) new n.set_up o))
+        why n.told (unaddressed (λ a. a ≡ request.value) n.fault new
+        (aimed old (Err n.fault) new n.set_up o))
     gives_address old (Err why) new (inr n) o =
         of_fault (Taking f p request.value (in_attempt t 0) (record { kind = refl; payload = refl })
         at free differ) Gives new (given new) n.fault why n.told

@@ -143,22 +143,19 @@ pend_down k (m ∷ p) (n ∷ r) h = pend-below k m p n r
 live_port_at : (k : Ports) (j : ℕ) (p : List ℕ) → has_power_at k j p ≡ true → (b : PortState)
     × (port_at k j p ≡ Some b) × (b.power ≡ true)
 unfolding has_power_at port_at
-live_port_at ended j p h = false_true h
 live_port_at (vacant b k) zero [] h = (b, refl, h)
-live_port_at (vacant b k) zero (m ∷ p) h = false_true h
 live_port_at (vacant b k) (suc j) p h = live_port_at k j p h
 live_port_at (taken b s a k) zero [] h = (b, refl, h)
-live_port_at (taken b s a k) zero (zero ∷ p) h = false_true h
 live_port_at (taken b s a k) zero (suc i ∷ p) h =
     live_port_at a i p (both b.power (has_power_at a i p) h).1
 live_port_at (taken b s a k) (suc j) p h = live_port_at k j p h
+live_port_at k j p h = false_true h
 
 -- a port that is powered on its whole way stands, and has power
 pub live_port : (k : Ports) (p : List ℕ) → has_power k p ≡ true → (b : PortState)
     × (port_there k p ≡ Some b) × (b.power ≡ true)
-live_port k [] h = false_true h
-live_port k (zero ∷ p) h = false_true h
 live_port k (suc j ∷ p) h = live_port_at k j p h
+live_port k p h = false_true h
 
 row_live_at : (k : Ports) (j : ℕ) (b : PortState) → port_at k j [] ≡ Some b
     → (has_power_at k j [] ≡ b.power) × (pending_at k j [] ≡ (b.power && b.connection_changed))
@@ -250,20 +247,17 @@ speed_attached false = refl
 attached_at : (k : Ports) (j : ℕ) (p : List ℕ) (b : PortState) → Consistent k
     → port_at k j p ≡ Some b → is_attached b.attached ≡ is_some (state_at k j p)
 unfolding Consistent port_at state_at
-attached_at ended j p b h e = absurd (cc e)
 attached_at (vacant c k) zero [] b h e = ap (λ x. is_attached x.attached) (sym (same_Some c b e))
     ∙ ap is_attached h.1
-attached_at (vacant c k) zero (m ∷ p) b h e = absurd (cc e)
 attached_at (vacant c k) (suc j) p b h e = attached_at k j p b h.2 e
 attached_at (taken c s a k) zero [] b h e = ap (λ x. is_attached x.attached) (sym (same_Some c b e))
     ∙ ap is_attached h.1 ∙ speed_attached s.spec.low
-attached_at (taken c s a k) zero (zero ∷ p) b h e = absurd (cc e)
 attached_at (taken c s a k) zero (suc i ∷ p) b h e = attached_at a i p b h.2 e
 attached_at (taken c s a k) (suc j) p b h e = attached_at k j p b h.3 e
+attached_at k j p b h e = absurd (cc e)
 
 -- a port sees something attached just where a device stands
 pub attached_there : (k : Ports) (p : List ℕ) (b : PortState) → Consistent k
     → port_there k p ≡ Some b → is_attached b.attached ≡ is_some (state_there k p)
-attached_there k [] b h e = absurd (cc e)
-attached_there k (zero ∷ p) b h e = absurd (cc e)
 attached_there k (suc j ∷ p) b h e = attached_at k j p b h e
+attached_there k p b h e = absurd (cc e)

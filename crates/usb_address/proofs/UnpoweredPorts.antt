@@ -4,7 +4,7 @@ use Rattle.std.proofs.Common.{◌≡◌, ℕ, zero, suc, false, List, [], ◌∷
 use Rattle.std.proofs.Common.{subst, ◌∙◌, refl}
 use Rattle.std.proofs.lemmas.Option.{same_Some}
 use Rattle.usb_port.specs.{PortState, plugged, unplugged, off}
-use Rattle.usb_device.specs.{fresh, Spec, Hub, Ports, ended, vacant, taken, new_ports, first_ports}
+use Rattle.usb_device.specs.{fresh, Spec, Hub, Ports, vacant, taken, new_ports, first_ports}
 use Rattle.usb_device.specs.{replaced, changed, changed_at, port_at, port_there}
 use Rattle.usb_world.specs.{Action, leaves_step, LeavesPort, after_change, after_event, at_attempt}
 use Rattle.usb_world.specs.{Course, World}
@@ -25,10 +25,9 @@ as_unpowered c d same h b e = ap (λ x. x.power) (sym (same_Some d b e)) ∙ sam
 
 new_unpowered : (n j : ℕ) (p : List ℕ) → NoPower (port_at (new_ports n) j p)
 unfolding new_ports port_at
-new_unpowered zero j p = no_power_none
 new_unpowered (suc n) zero [] = λ b e. ap (λ x. x.power) (sym (same_Some off b e))
-new_unpowered (suc n) zero (m ∷ p) = no_power_none
 new_unpowered (suc n) (suc j) p = new_unpowered n j p
+new_unpowered n j p = no_power_none
 
 first_unpowered : (hub : Option Hub) (j : ℕ) (p : List ℕ) → NoPower (port_at (first_ports hub) j p)
 unfolding port_at
@@ -38,18 +37,11 @@ first_unpowered (Some hub) j p = new_unpowered hub.ports j p
 event_unpowered : (o : Option Spec) (k : Ports) (i : ℕ) (e : List ℕ) (j : ℕ) (p : List ℕ)
     → NoPower (port_at k j p) → NoPower (port_at (changed_at (replaced o) k i e) j p)
 unfolding changed_at port_at fresh
-event_unpowered o ended i e j p h = h
 event_unpowered None (vacant c k) zero [] zero [] h = as_unpowered c (unplugged c) refl h
-event_unpowered None (vacant c k) zero [] zero (m ∷ p) h = h
 event_unpowered (Some s) (vacant c k) zero [] zero [] h =
     as_unpowered c (plugged s.low (unplugged c)) refl h
-event_unpowered (Some s) (vacant c k) zero [] zero (zero ∷ p) h = h
 event_unpowered (Some s) (vacant c k) zero [] zero (suc m ∷ p) h = first_unpowered s.hub m p
-event_unpowered None (vacant c k) zero [] (suc j) p h = h
-event_unpowered (Some s) (vacant c k) zero [] (suc j) p h = h
-event_unpowered o (vacant c k) zero (n ∷ e) j p h = h
 event_unpowered o (vacant c k) (suc i) e zero [] h = h
-event_unpowered o (vacant c k) (suc i) e zero (m ∷ p) h = h
 event_unpowered o (vacant c k) (suc i) e (suc j) p h = event_unpowered o k i e j p h
 event_unpowered None (taken c s a k) zero [] zero [] h = as_unpowered c (unplugged c) refl h
 event_unpowered None (taken c s a k) zero [] zero (m ∷ p) h = no_power_none
@@ -57,26 +49,16 @@ event_unpowered (Some t) (taken c s a k) zero [] zero [] h =
     as_unpowered c (plugged t.low (unplugged c)) refl h
 event_unpowered (Some t) (taken c s a k) zero [] zero (zero ∷ p) h = no_power_none
 event_unpowered (Some t) (taken c s a k) zero [] zero (suc m ∷ p) h = first_unpowered t.hub m p
-event_unpowered None (taken c s a k) zero [] (suc j) p h = h
-event_unpowered (Some t) (taken c s a k) zero [] (suc j) p h = h
-event_unpowered o (taken c s a k) zero (zero ∷ e) j p h = h
-event_unpowered o (taken c s a k) zero (suc m ∷ e) zero [] h = h
-event_unpowered o (taken c s a k) zero (suc m ∷ e) zero (zero ∷ p) h = h
 event_unpowered o (taken c s a k) zero (suc m ∷ e) zero (suc n ∷ p) h =
     event_unpowered o a m e n p h
-event_unpowered o (taken c s a k) zero (suc m ∷ e) (suc j) p h = h
-event_unpowered o (taken c s a k) (suc i) e zero [] h = h
 event_unpowered o (taken c s a k) (suc i) e zero (zero ∷ p) h = h
-event_unpowered o (taken c s a k) (suc i) e zero (suc n ∷ p) h = h
 event_unpowered o (taken c s a k) (suc i) e (suc j) p h = event_unpowered o k i e j p h
+event_unpowered o k i e j p h = h
 
 replaced_unpowered : (o : Option Spec) (k : Ports) (x p : List ℕ) → NoPower (port_there k p)
     → NoPower (port_there (changed (replaced o) k x) p)
-replaced_unpowered o k [] p h = h
-replaced_unpowered o k (zero ∷ x) p h = h
-replaced_unpowered o k (suc i ∷ x) [] h = h
-replaced_unpowered o k (suc i ∷ x) (zero ∷ p) h = h
 replaced_unpowered o k (suc i ∷ x) (suc j ∷ p) h = event_unpowered o k i x j p h
+replaced_unpowered o k x p h = h
 
 happened_unpowered : (a : Action) (d : List Spec) (k : Ports) (p : List ℕ)
     → NoPower (port_there k p) → NoPower (port_there (after_change a d k) p)

@@ -1,12 +1,11 @@
 -- What calls at ports add to what is left to do, where ports are marked.
 use Rattle.std.proofs.Common.{◌≡◌, ◌≤◌, ℕ, zero, suc, ◌+◌, ◌&&◌, ◌||◌, not, if◌then◌else◌, Bool}
 use Rattle.std.proofs.Common.{true, false, [], refl, ap, ◌∙◌, arith}
-use Rattle.usb_port.specs.{PortState, is_attached, bit, PortCall, SetPower, SetReset, ClearEnable}
-use Rattle.usb_port.specs.{ClearPower, ClearConnectionChange, ClearEnableChange, ClearResetChange}
-use Rattle.usb_port.specs.{called_port, is_reset}
+use Rattle.usb_port.specs.{PortState, is_attached, bit, PortCall, SetPower, SetReset, ClearPower}
+use Rattle.usb_port.specs.{ClearConnectionChange, called_port, is_reset}
 use Rattle.usb_device.specs.{Effect, Leaves, Calls, PortsOff, State, Ports, ended, vacant, taken}
 use Rattle.usb_device.specs.{empty, full, before, all_off, acted, called, changed_at, reset_where}
-use Rattle.usb_device.specs.Tree.{Place}
+use Rattle.usb_device.specs.{Place}
 use Rattle.usb_tree.proofs.Interface.{both, false_true}
 use Rattle.usb_backlog.specs.{charged, devices_in, PortMark, below_first, after_first, allowed}
 use Rattle.usb_backlog.specs.{devices_by, looks_by, ports_by, strays_by, gives_power}
@@ -44,147 +43,68 @@ bit-or_less : (x y z : Bool) → bit y ≤ bit z → bit (x || y) ≤ bit (x || 
 bit-or_less true y z h = omega arith
 bit-or_less false y z h = h
 
+either_port : (P : PortState → Type 0) (x : Bool) (b c : PortState) → P b → P c
+    → P (if x then b else c)
+either_port P true b c h g = h
+either_port P false b c h g = g
+
+abbrev with_power : PortState → PortState
+with_power b = record b {
+  power = true;
+  connection_changed = is_attached b.attached || b.connection_changed;
+}
+
+abbrev when_reset : PortState → PortState
+when_reset b = record b { enable = true; reset_changed = true }
+
 -- the change of connection, unless the port is marked and given power
 connection-called : (x : Bool) (c : PortCall) → (x || not (gives_power c)) ≡ true
     → (b : PortState) (n : ℕ) → charged (x || (called_port c b).connection_changed) n
     ≤ charged (x || b.connection_changed) n
-connection-called true c h b n = omega arith
 connection-called false SetPower h b n = false_true h
-connection-called false SetReset h b n = split (b.power && is_attached b.attached)
-  where
-    split : (x : Bool) → charged (if x then record b { enable = true; reset_changed = true }
-        else b).connection_changed n ≤ charged b.connection_changed n
-    split true = omega arith
-    split false = omega arith
-connection-called false ClearEnable h b n = omega arith
-connection-called false ClearPower h b n = omega arith
-connection-called false ClearConnectionChange h b n = omega arith
-connection-called false ClearEnableChange h b n = omega arith
-connection-called false ClearResetChange h b n = omega arith
+connection-called false SetReset h b n =
+    either_port (λ c. charged c.connection_changed n ≤ charged b.connection_changed n)
+    (b.power && is_attached b.attached) (when_reset b) b (omega arith) (omega arith)
+connection-called x c h b n = omega arith
 
 -- the change of an empty port, which counts what it sees
 seen-called : (x : Bool) (c : PortCall) (b : PortState)
     → bit (x || (is_attached (called_port c b).attached || (called_port c b).connection_changed))
     ≤ bit (x || (is_attached b.attached || b.connection_changed))
-seen-called true c b = omega arith
-seen-called false SetPower b = split b.power
+seen-called false SetPower b =
+    either_port (λ c. bit (is_attached c.attached || c.connection_changed)
+    ≤ bit (is_attached b.attached || b.connection_changed)) b.power b (with_power b) (omega arith)
+    (twice (is_attached b.attached) b.connection_changed)
   where
     twice : (x y : Bool) → bit (x || (x || y)) ≤ bit (x || y)
     twice true y = omega arith
-    twice false y = omega arith
-
-    split : (x : Bool) → bit (is_attached (if x then b else record b {
-      power = true;
-      connection_changed = is_attached b.attached || b.connection_changed;
-    }).attached ||
-        (if x then b else record b {
-          power = true;
-          connection_changed = is_attached b.attached || b.connection_changed;
-        }).connection_changed)
-        ≤ bit (is_attached b.attached || b.connection_changed)
-    split true = omega arith
-    split false = twice (is_attached b.attached) b.connection_changed
-seen-called false SetReset b = split (b.power && is_attached b.attached)
-  where
-    split : (x : Bool) → bit (is_attached (if x then record b {
-      enable = true;
-      reset_changed = true;
-    } else b).attached || (if x then record b { enable = true; reset_changed = true }
-        else b).connection_changed)
-        ≤ bit (is_attached b.attached || b.connection_changed)
-    split true = omega arith
-    split false = omega arith
-seen-called false ClearEnable b = omega arith
+    twice x y = omega arith
+seen-called false SetReset b =
+    either_port (λ c. bit (is_attached c.attached || c.connection_changed)
+    ≤ bit (is_attached b.attached || b.connection_changed)) (b.power && is_attached b.attached)
+    (when_reset b) b (omega arith) (omega arith)
 seen-called false ClearPower b = bit-or_less (is_attached b.attached) false b.connection_changed
     (omega arith)
 seen-called false ClearConnectionChange b =
     bit-or_less (is_attached b.attached) false b.connection_changed (omega arith)
-seen-called false ClearEnableChange b = omega arith
-seen-called false ClearResetChange b = omega arith
+seen-called x c b = omega arith
 
 enable-called : (c : PortCall) (b : PortState) → bit (called_port c b).enable_changed
     ≤ bit b.enable_changed
-enable-called SetPower b = split b.power
-  where
-    split : (x : Bool) → bit (if x then b else record b {
-      power = true;
-      connection_changed = is_attached b.attached || b.connection_changed;
-    }).enable_changed ≤ bit b.enable_changed
-    split true = omega arith
-    split false = omega arith
-enable-called SetReset b = split (b.power && is_attached b.attached)
-  where
-    split : (x : Bool) → bit (if x then record b { enable = true; reset_changed = true }
-        else b).enable_changed ≤ bit b.enable_changed
-    split true = omega arith
-    split false = omega arith
-enable-called ClearEnable b = omega arith
-enable-called ClearPower b = omega arith
-enable-called ClearConnectionChange b = omega arith
-enable-called ClearEnableChange b = omega arith
-enable-called ClearResetChange b = omega arith
+enable-called SetPower b = either_port (λ c. bit c.enable_changed ≤ bit b.enable_changed) b.power b
+    (with_power b) (omega arith) (omega arith)
+enable-called SetReset b =
+    either_port (λ c. bit c.enable_changed ≤ bit b.enable_changed)
+    (b.power && is_attached b.attached) (when_reset b) b (omega arith) (omega arith)
+enable-called c b = omega arith
 
 -- the change of reset, unless the port is marked and reset
 reset-called : (x : Bool) (c : PortCall) → (x || not (is_reset c)) ≡ true → (b : PortState)
     → bit (x || (called_port c b).reset_changed) ≤ bit (x || b.reset_changed)
-reset-called true c h b = omega arith
-reset-called false SetPower h b = split b.power
-  where
-    split : (x : Bool) → bit (if x then b else record b {
-      power = true;
-      connection_changed = is_attached b.attached || b.connection_changed;
-    }).reset_changed ≤ bit b.reset_changed
-    split true = omega arith
-    split false = omega arith
+reset-called false SetPower h b = either_port (λ c. bit c.reset_changed ≤ bit b.reset_changed)
+    b.power b (with_power b) (omega arith) (omega arith)
 reset-called false SetReset h b = false_true h
-reset-called false ClearEnable h b = omega arith
-reset-called false ClearPower h b = omega arith
-reset-called false ClearConnectionChange h b = omega arith
-reset-called false ClearEnableChange h b = omega arith
-reset-called false ClearResetChange h b = omega arith
-
--- All ports go off
-
-or-true : (x : Bool) → (x || true) ≡ true
-or-true true = refl
-or-true false = refl
-
-less-off : (m v r : PortMark) (k : Ports) → Less m v r k (all_off k)
-unfolding looks_by strays_by devices_by ports_by devices_in all_off
-less-off m v r ended = less-same m v r ended
-less-off m v r (vacant b k) =
-    let more : Less (after_first m) (after_first v) (after_first r) k (all_off k) =
-    less-off (after_first m) (after_first v) (after_first r) k in
-    record {
-      whole = more.whole;
-      looks = more.looks;
-      strays = omega (
-        arith,
-        more.strays,
-        seen-called (v zero []) ClearPower b,
-        reset-called (r zero []) ClearPower (or-true (r zero [])) b,
-      );
-      devices = λ d. more.devices (after_first d);
-      ports = λ d. omega (arith, more.ports (after_first d));
-    }
-less-off m v r (taken b s a k) =
-    let more : Less (after_first m) (after_first v) (after_first r) k (all_off k) =
-    less-off (after_first m) (after_first v) (after_first r) k in
-    record {
-      whole = omega (arith, more.whole);
-      looks = omega (
-        arith,
-        more.looks,
-        connection-called (m zero []) ClearPower (or-true (m zero [])) b (1 + devices_in a),
-      );
-      strays = omega (
-        arith,
-        more.strays,
-        reset-called (r zero []) ClearPower (or-true (r zero [])) b,
-      );
-      devices = λ d. omega (arith, more.devices (after_first d));
-      ports = λ d. omega (arith, more.ports (after_first d));
-    }
+reset-called x c h b = omega arith
 
 -- One call
 
@@ -243,6 +163,27 @@ less-empty m v r c b k reset = record {
   ports = λ d. refl;
 }
 
+-- All ports go off
+
+or-true : (x : Bool) → (x || true) ≡ true
+or-true true = refl
+or-true false = refl
+
+less-off : (m v r : PortMark) (k : Ports) → Less m v r k (all_off k)
+unfolding all_off
+less-off m v r ended = less-same m v r ended
+less-off m v r (vacant b k) = less-then (less-empty m v r ClearPower b k (or-true (r zero [])))
+    (less-after m v r (empty (called_port ClearPower b)) k (all_off k)
+    (less-off (after_first m) (after_first v) (after_first r) k))
+less-off m v r (taken b s a k) =
+    less-then
+    (less-taken m v r b (called_port ClearPower b) s s a a k
+    (connection-called (m zero []) ClearPower (or-true (m zero [])) b) (enable-called ClearPower b)
+    (reset-called (r zero []) ClearPower (or-true (r zero [])) b)
+    (less-same (below_first m) (below_first v) (below_first r) a))
+    (less-after m v r (full (called_port ClearPower b) s a) k (all_off k)
+    (less-off (after_first m) (after_first v) (after_first r) k))
+
 -- it gives power to a marked port alone, and resets one alone
 pub less-called : (m v r : PortMark) (c : PortCall) (k : Ports) (i : ℕ)
     → (m i [] || not (gives_power c)) ≡ true → (r i [] || not (is_reset c)) ≡ true
@@ -256,15 +197,15 @@ less-called m v r c (vacant b k) (suc i) power reset =
 less-called m v r c (taken b s a k) zero power reset =
     split (is_reset c && (b.power && is_attached b.attached))
   where
+    own : (t : State) (d : Ports) → Less (below_first m) (below_first v) (below_first r) a d
+        → Less m v r (taken b s a k) (taken (called_port c b) t d k)
+    own t d below = less-taken m v r b (called_port c b) s t a d k
+        (connection-called (m zero []) c power b) (enable-called c b)
+        (reset-called (r zero []) c reset b) below
+
     split : (x : Bool) → Less m v r (taken b s a k) (before (reset_where x (called_port c b) s a) k)
-    split true = less-taken m v r b (called_port c b) s _ a (all_off a) k
-        (connection-called (m zero []) c power b) (enable-called c b)
-        (reset-called (r zero []) c reset b)
-        (less-off (below_first m) (below_first v) (below_first r) a)
-    split false = less-taken m v r b (called_port c b) s s a a k
-        (connection-called (m zero []) c power b) (enable-called c b)
-        (reset-called (r zero []) c reset b)
-        (less-same (below_first m) (below_first v) (below_first r) a)
+    split true = own _ (all_off a) (less-off (below_first m) (below_first v) (below_first r) a)
+    split false = own s a (less-same (below_first m) (below_first v) (below_first r) a)
 less-called m v r c (taken b s a k) (suc i) power reset =
     less-after m v r (full b s a) k _ (less-called (after_first m) (after_first v) (after_first r) c
     k i power reset)

@@ -39,25 +39,20 @@ own-most x o = omega (arith, charged-most x (1 + devices_in (first_ports o)), de
 pub devices_in-plugged : (s : Spec) (k : Ports) (i : ℕ) (p : List ℕ)
     → devices_in (changed_at (replaced (Some s)) k i p) ≤ devices_in k + 1
 unfolding devices_in changed_at fresh
-devices_in-plugged s ended i p = omega arith
 devices_in-plugged s (vacant b k) zero [] = omega (arith, devices_in-first s.hub)
-devices_in-plugged s (vacant b k) zero (n ∷ p) = omega arith
 devices_in-plugged s (vacant b k) (suc i) p = devices_in-plugged s k i p
 devices_in-plugged s (taken b t a k) zero [] = omega (arith, devices_in-first s.hub)
-devices_in-plugged s (taken b t a k) zero (zero ∷ p) = omega arith
 devices_in-plugged s (taken b t a k) zero (suc j ∷ p) = omega (arith, devices_in-plugged s a j p)
 devices_in-plugged s (taken b t a k) (suc i) p = omega (arith, devices_in-plugged s k i p)
+devices_in-plugged s k i p = omega arith
 
 -- An unplug
 
 pub devices_in-unplugged : (k : Ports) (i : ℕ) (p : List ℕ)
     → devices_in (changed_at (replaced None) k i p) ≤ devices_in k
 unfolding devices_in changed_at
-devices_in-unplugged ended i p = omega arith
 devices_in-unplugged (vacant b k) zero [] = omega arith
-devices_in-unplugged (vacant b k) zero (n ∷ p) = omega arith
 devices_in-unplugged (vacant b k) (suc i) p = devices_in-unplugged k i p
-devices_in-unplugged (taken b t a k) zero [] = omega arith
-devices_in-unplugged (taken b t a k) zero (zero ∷ p) = omega arith
 devices_in-unplugged (taken b t a k) zero (suc j ∷ p) = omega (arith, devices_in-unplugged a j p)
 devices_in-unplugged (taken b t a k) (suc i) p = omega (arith, devices_in-unplugged k i p)
+devices_in-unplugged k i p = omega arith

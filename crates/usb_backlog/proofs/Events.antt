@@ -47,14 +47,12 @@ strays_by-first v r h (Some hub) = h hub.ports
 looks_by-plugged : (m : PortMark) (s : Spec) (k : Ports) (i : ℕ) (p : List ℕ)
     → looks_by m (changed_at (replaced (Some s)) k i p) ≤ looks_by m k + 1 + length p
 unfolding looks_by changed_at fresh
-looks_by-plugged m s ended i p = omega arith
 looks_by-plugged m s (vacant b k) zero [] =
     omega (
       arith,
       looks_by-first (below_first m) s.hub,
       own-most (m zero [] || (b.power || (b.power || b.connection_changed))) s.hub,
     )
-looks_by-plugged m s (vacant b k) zero (n ∷ p) = omega arith
 looks_by-plugged m s (vacant b k) (suc i) p = looks_by-plugged (after_first m) s k i p
 looks_by-plugged m s (taken b t a k) zero [] =
     omega (
@@ -62,7 +60,6 @@ looks_by-plugged m s (taken b t a k) zero [] =
       looks_by-first (below_first m) s.hub,
       own-most (m zero [] || (b.power || (b.power || b.connection_changed))) s.hub,
     )
-looks_by-plugged m s (taken b t a k) zero (zero ∷ p) = omega arith
 looks_by-plugged m s (taken b t a k) zero (suc j ∷ p) =
     let one : charged (m zero [] || b.connection_changed)
     (1 + devices_in (changed_at (replaced (Some s)) a j p))
@@ -73,37 +70,32 @@ looks_by-plugged m s (taken b t a k) zero (suc j ∷ p) =
     omega (arith, looks_by-plugged (below_first m) s a j p, one)
 looks_by-plugged m s (taken b t a k) (suc i) p =
     omega (arith, looks_by-plugged (after_first m) s k i p)
+looks_by-plugged m s k i p = omega arith
 
 devices_by-plugged : (m : PortMark) (s : Spec) (k : Ports) (i : ℕ) (p : List ℕ)
     → devices_by m (changed_at (replaced (Some s)) k i p) ≤ devices_by m k + 1
 unfolding devices_by changed_at fresh
-devices_by-plugged m s ended i p = omega arith
 devices_by-plugged m s (vacant b k) zero [] =
     omega (arith, devices_by-first (below_first m) s.hub, charged-most (m zero []) 1)
-devices_by-plugged m s (vacant b k) zero (n ∷ p) = omega arith
 devices_by-plugged m s (vacant b k) (suc i) p = devices_by-plugged (after_first m) s k i p
 devices_by-plugged m s (taken b t a k) zero [] =
     omega (arith, devices_by-first (below_first m) s.hub)
-devices_by-plugged m s (taken b t a k) zero (zero ∷ p) = omega arith
 devices_by-plugged m s (taken b t a k) zero (suc j ∷ p) =
     omega (arith, devices_by-plugged (below_first m) s a j p)
 devices_by-plugged m s (taken b t a k) (suc i) p =
     omega (arith, devices_by-plugged (after_first m) s k i p)
+devices_by-plugged m s k i p = omega arith
 
 strays_by-plugged : (v r : PortMark) → Few v r → (s : Spec) (k : Ports) (i : ℕ) (p : List ℕ)
     → strays_by v r (changed_at (replaced (Some s)) k i p) ≤ strays_by v r k + 1
 unfolding strays_by changed_at fresh
 strays_by-plugged v r h s ended i p = omega arith
-strays_by-plugged v r h s (vacant b k) zero [] =
-    omega (arith, strays_by-first (below_first v) (below_first r) (h zero []) s.hub)
 strays_by-plugged v r h s (vacant b k) zero (n ∷ p) = omega arith
 strays_by-plugged v r h s (vacant b k) (suc i) p =
     omega (
       arith,
       strays_by-plugged (after_first v) (after_first r) (λ i p n. h (suc i) p n) s k i p,
     )
-strays_by-plugged v r h s (taken b t a k) zero [] =
-    omega (arith, strays_by-first (below_first v) (below_first r) (h zero []) s.hub)
 strays_by-plugged v r h s (taken b t a k) zero (zero ∷ p) = omega arith
 strays_by-plugged v r h s (taken b t a k) zero (suc j ∷ p) =
     omega (
@@ -115,18 +107,16 @@ strays_by-plugged v r h s (taken b t a k) (suc i) p =
       arith,
       strays_by-plugged (after_first v) (after_first r) (λ i p n. h (suc i) p n) s k i p,
     )
+strays_by-plugged v r h s k i p =
+    omega (arith, strays_by-first (below_first v) (below_first r) (h zero []) s.hub)
 
 -- An unplug
 
 looks_by-unplugged : (m : PortMark) (k : Ports) (i : ℕ) (p : List ℕ)
     → looks_by m (changed_at (replaced None) k i p) ≤ looks_by m k
 unfolding looks_by changed_at
-looks_by-unplugged m ended i p = omega arith
 looks_by-unplugged m (vacant b k) zero [] = omega arith
-looks_by-unplugged m (vacant b k) zero (n ∷ p) = omega arith
 looks_by-unplugged m (vacant b k) (suc i) p = looks_by-unplugged (after_first m) k i p
-looks_by-unplugged m (taken b t a k) zero [] = omega arith
-looks_by-unplugged m (taken b t a k) zero (zero ∷ p) = omega arith
 looks_by-unplugged m (taken b t a k) zero (suc j ∷ p) =
     let less : charged (m zero [] || b.connection_changed)
     (1 + devices_in (changed_at (replaced None) a j p))
@@ -137,20 +127,18 @@ looks_by-unplugged m (taken b t a k) zero (suc j ∷ p) =
     omega (arith, looks_by-unplugged (below_first m) a j p, less)
 looks_by-unplugged m (taken b t a k) (suc i) p =
     omega (arith, looks_by-unplugged (after_first m) k i p)
+looks_by-unplugged m k i p = omega arith
 
 devices_by-unplugged : (m : PortMark) (k : Ports) (i : ℕ) (p : List ℕ)
     → devices_by m (changed_at (replaced None) k i p) ≤ devices_by m k
 unfolding devices_by changed_at
-devices_by-unplugged m ended i p = omega arith
 devices_by-unplugged m (vacant b k) zero [] = omega arith
-devices_by-unplugged m (vacant b k) zero (n ∷ p) = omega arith
 devices_by-unplugged m (vacant b k) (suc i) p = devices_by-unplugged (after_first m) k i p
-devices_by-unplugged m (taken b t a k) zero [] = omega arith
-devices_by-unplugged m (taken b t a k) zero (zero ∷ p) = omega arith
 devices_by-unplugged m (taken b t a k) zero (suc j ∷ p) =
     omega (arith, devices_by-unplugged (below_first m) a j p)
 devices_by-unplugged m (taken b t a k) (suc i) p =
     omega (arith, devices_by-unplugged (after_first m) k i p)
+devices_by-unplugged m k i p = omega arith
 
 bit-one : (x : Bool) → bit x ≤ 1
 bit-one true = omega arith
@@ -159,19 +147,17 @@ bit-one false = omega arith
 strays_by-unplugged : (v r : PortMark) (k : Ports) (i : ℕ) (p : List ℕ)
     → strays_by v r (changed_at (replaced None) k i p) ≤ strays_by v r k + 1
 unfolding strays_by changed_at
-strays_by-unplugged v r ended i p = omega arith
 strays_by-unplugged v r (vacant b k) zero [] =
     omega (arith, bit-one (v zero [] || (b.power || b.connection_changed)))
-strays_by-unplugged v r (vacant b k) zero (n ∷ p) = omega arith
 strays_by-unplugged v r (vacant b k) (suc i) p =
     omega (arith, strays_by-unplugged (after_first v) (after_first r) k i p)
 strays_by-unplugged v r (taken b t a k) zero [] =
     omega (arith, bit-one (v zero [] || (b.power || b.connection_changed)))
-strays_by-unplugged v r (taken b t a k) zero (zero ∷ p) = omega arith
 strays_by-unplugged v r (taken b t a k) zero (suc j ∷ p) =
     omega (arith, strays_by-unplugged (below_first v) (below_first r) a j p)
 strays_by-unplugged v r (taken b t a k) (suc i) p =
     omega (arith, strays_by-unplugged (after_first v) (after_first r) k i p)
+strays_by-unplugged v r k i p = omega arith
 
 -- An event
 
@@ -187,24 +173,21 @@ module _ (m v r : PortMark) (few : Few v r) where
 
   adds-plugged : (o : Option Spec) (path : List ℕ) (k : Ports) → length path ≤ 7
       → Adds k (with_plugged o path k)
-  adds-plugged None path k h = adds-none k
-  adds-plugged (Some s) [] k h = adds-none k
-  adds-plugged (Some s) (zero ∷ p) k h = adds-none k
   adds-plugged (Some s) (suc i ∷ p) k h = record {
     looks = omega (arith, looks_by-plugged m s k i p, h);
     strays = strays_by-plugged v r few s k i p;
     devices = λ d. devices_by-plugged d s k i p;
   }
+  adds-plugged o path k h = adds-none k
 
   adds-unplugged : (path : List ℕ) (devices : List Spec) (k : Ports)
       → Adds k (after_change (Change (Unplug path)) devices k)
-  adds-unplugged [] devices k = adds-none k
-  adds-unplugged (zero ∷ p) devices k = adds-none k
   adds-unplugged (suc i ∷ p) devices k = record {
     looks = omega (arith, looks_by-unplugged m k i p);
     strays = strays_by-unplugged v r k i p;
     devices = λ d. omega (arith, devices_by-unplugged d k i p);
   }
+  adds-unplugged path devices k = adds-none k
 
   adds-happened : (action : Action) (devices : List Spec) (k : Ports) → PlugsAtPort action
       → Adds k (after_change action devices k)

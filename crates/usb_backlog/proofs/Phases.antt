@@ -9,19 +9,16 @@ use Rattle.usb_backlog.proofs.Events.{keeps-none, keeps-then}
 use Rattle.usb_backlog.proofs.Places.{few-none, few-reset, few-vacant, just_covers, ports_cover}
 
 pub few-only : (p : List ℕ) → Few unmarked (only p)
-few-only [] = few-none
-few-only (zero ∷ e) = few-none
 few-only (suc j ∷ e) = few-reset j e
+few-only p = few-none
 
 pub few-changed : (p : List ℕ) → Few (only p) unmarked
-few-changed [] = few-none
-few-changed (zero ∷ e) = few-none
 few-changed (suc j ∷ e) = few-vacant j e
+few-changed p = few-none
 
 pub is_itself : (p : List ℕ) → is_marked (only p) p ≡ true
-is_itself [] = refl
-is_itself (zero ∷ e) = refl
 is_itself (suc j ∷ e) = just_covers j e
+is_itself p = refl
 
 pub all_none : (w : World) → KeepsAll w w
 all_none w = record { all = λ ports m v r few. keeps-none m v r few w ports }

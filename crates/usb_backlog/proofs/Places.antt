@@ -1,11 +1,11 @@
 -- What marks count for, by what stands at the port that is marked.
 use Rattle.std.proofs.Common.{◌≡◌, ◌≤◌, ℕ, zero, suc, ◌+◌, ◌&&◌, ◌||◌, Bool, true, false, List, []}
-use Rattle.std.proofs.Common.{◌∷◌, ◌++◌, None, Some, is_some, refl, ap, sym, subst, ◌∙◌, arith}
+use Rattle.std.proofs.Common.{◌∷◌, ◌++◌, Option, None, Some, is_some, refl, ap, sym, subst, ◌∙◌}
+use Rattle.std.proofs.Common.{arith}
 use Rattle.std.proofs.lemmas.Option.{same_Some}
 use Rattle.usb_port.specs.{PortState, is_attached, bit}
 use Rattle.usb_device.specs.{State, Ports, ended, vacant, taken, empty, full, new_ports, place_at}
-use Rattle.usb_device.specs.{port_of}
-use Rattle.usb_device.specs.Tree.{Place}
+use Rattle.usb_device.specs.{port_of, Place}
 use Rattle.usb_tree.specs.{same_number, same_path}
 use Rattle.usb_world.proofs.Interface.{same_is}
 use Rattle.usb_tree.proofs.Interface.{both, false_true, self_number, self_path}
@@ -17,13 +17,11 @@ use Rattle.usb_backlog.specs.{shifted, strays_by, unmarked}
 
 charged-marked : (x y : Bool) (n : ℕ) → charged y n ≤ charged (x || y) n
 charged-marked true true n = omega arith
-charged-marked true false n = omega arith
-charged-marked false y n = omega arith
+charged-marked x y n = omega arith
 
 bit-marked : (x y : Bool) → bit y ≤ bit (x || y)
 bit-marked true true = omega arith
-bit-marked true false = omega arith
-bit-marked false y = omega arith
+bit-marked x y = omega arith
 
 pub looks_by-less : (m : PortMark) (k : Ports) → looks_by unmarked k ≤ looks_by m k
 unfolding looks_by
@@ -80,37 +78,29 @@ pub looks_by-found : (k : Ports) (i : ℕ) (e : List ℕ) (b : PortState) (s : S
     → place_at k i e ≡ Some (full b s a) → b.connection_changed ≡ false
     → looks_by (ports_of i e) k + 1 ≤ looks_by (just i e) k
 unfolding looks_by place_at
-looks_by-found ended i e b s a at h = false_true (ap is_some at)
 looks_by-found (vacant c k) zero [] b s a at h = absurd (cc at)
-looks_by-found (vacant c k) zero (n ∷ e) b s a at h = false_true (ap is_some at)
 looks_by-found (vacant c k) (suc i) e b s a at h = looks_by-found k i e b s a at h
 looks_by-found (taken c t d k) zero [] b s a at h =
     let off : charged c.connection_changed (1 + devices_in d) ≡ 0 =
-    ap (λ x. charged x (1 + devices_in d)) (ap change (same_Some (full c t d) (full b s a) at)
-    ∙ h) in
+    ap (λ x. charged x (1 + devices_in d)) (ap (λ q. (port_of q).connection_changed)
+    (same_Some (full c t d) (full b s a) at) ∙ h) in
     omega (arith, off, looks_by-row d)
-  where
-    change : Place → Bool
-    change (empty b) = b.connection_changed
-    change (full b s a) = b.connection_changed
-looks_by-found (taken c t d k) zero (zero ∷ e) b s a at h = false_true (ap is_some at)
 looks_by-found (taken c t d k) zero (suc j ∷ e) b s a at h =
     omega (arith, looks_by-found d j e b s a at h)
 looks_by-found (taken c t d k) (suc i) e b s a at h = omega (arith, looks_by-found k i e b s a at h)
+looks_by-found k i e b s a at h = false_true (ap is_some at)
 
 -- where no device stands, they come to nothing
 pub looks_by-nowhere : (k : Ports) (i : ℕ) (e : List ℕ) → devices_by (just i e) k ≡ 0
     → looks_by (ports_of i e) k ≡ looks_by unmarked k
 unfolding looks_by devices_by
-looks_by-nowhere ended i e h = refl
-looks_by-nowhere (vacant c k) zero e h = refl
 looks_by-nowhere (vacant c k) (suc i) e h = looks_by-nowhere k i e h
 looks_by-nowhere (taken c t d k) zero [] h = absurd (omega (arith, h))
-looks_by-nowhere (taken c t d k) zero (zero ∷ e) h = refl
 looks_by-nowhere (taken c t d k) zero (suc j ∷ e) h =
     omega (arith, looks_by-nowhere d j e (omega (arith, h)))
 looks_by-nowhere (taken c t d k) (suc i) e h =
     omega (arith, looks_by-nowhere k i e (omega (arith, h)))
+looks_by-nowhere k i e h = refl
 
 -- One port
 
@@ -118,15 +108,14 @@ looks_by-nowhere (taken c t d k) (suc i) e h =
 pub looks_by-set : (k : Ports) (i : ℕ) (e : List ℕ) (q : Place) → place_at k i e ≡ Some q
     → (port_of q).connection_changed ≡ true → looks_by (just i e) k ≡ looks_by unmarked k
 unfolding looks_by place_at
-looks_by-set ended i e q at h = false_true (ap is_some at)
 looks_by-set (vacant c k) zero e q at h = refl
 looks_by-set (vacant c k) (suc i) e q at h = looks_by-set k i e q at h
 looks_by-set (taken c t d k) zero [] q at h =
     ap (λ x. charged x (1 + devices_in d) + looks_by unmarked d + looks_by unmarked k)
     (sym (ap (λ x. (port_of x).connection_changed) (same_Some (full c t d) q at) ∙ h))
-looks_by-set (taken c t d k) zero (zero ∷ e) q at h = false_true (ap is_some at)
 looks_by-set (taken c t d k) zero (suc j ∷ e) q at h = omega (arith, looks_by-set d j e q at h)
 looks_by-set (taken c t d k) (suc i) e q at h = omega (arith, looks_by-set k i e q at h)
+looks_by-set k i e q at h = false_true (ap is_some at)
 
 bit-or_true : (x y : Bool) → y ≡ true → bit (x || y) ≡ 1
 bit-or_true true y h = refl
@@ -136,19 +125,17 @@ pub strays_by-set : (k : Ports) (i : ℕ) (e : List ℕ) (q : Place) → place_a
     → (port_of q).connection_changed ≡ true → strays_by (just i e) unmarked k
     ≡ strays_by unmarked unmarked k
 unfolding strays_by place_at
-strays_by-set ended i e q at h = false_true (ap is_some at)
 strays_by-set (vacant c k) zero [] q at h =
     omega (
       arith,
       bit-or_true (is_attached c.attached) c.connection_changed
           (ap (λ x. (port_of x).connection_changed) (same_Some (empty c) q at) ∙ h),
     )
-strays_by-set (vacant c k) zero (n ∷ e) q at h = false_true (ap is_some at)
 strays_by-set (vacant c k) (suc i) e q at h = omega (arith, strays_by-set k i e q at h)
 strays_by-set (taken c t d k) zero [] q at h = refl
-strays_by-set (taken c t d k) zero (zero ∷ e) q at h = false_true (ap is_some at)
 strays_by-set (taken c t d k) zero (suc j ∷ e) q at h = omega (arith, strays_by-set d j e q at h)
 strays_by-set (taken c t d k) (suc i) e q at h = omega (arith, strays_by-set k i e q at h)
+strays_by-set k i e q at h = false_true (ap is_some at)
 
 -- the change of an empty port that is cleared, and sees nothing, is paid
 pub strays_by-cleared : (k : Ports) (i : ℕ) (e : List ℕ) (b : PortState)
@@ -156,19 +143,17 @@ pub strays_by-cleared : (k : Ports) (i : ℕ) (e : List ℕ) (b : PortState)
     → b.connection_changed ≡ false
     → strays_by unmarked unmarked k + 1 ≡ strays_by (just i e) unmarked k
 unfolding strays_by place_at
-strays_by-cleared ended i e b at f h = false_true (ap is_some at)
 strays_by-cleared (vacant c k) zero [] b at f h =
     let same : c ≡ b = ap port_of (same_Some (empty c) (empty b) at) in
     let none : bit (is_attached c.attached || c.connection_changed) ≡ 0 = rw (same, f, h) refl in
     omega (arith, none)
-strays_by-cleared (vacant c k) zero (n ∷ e) b at f h = false_true (ap is_some at)
 strays_by-cleared (vacant c k) (suc i) e b at f h = omega (arith, strays_by-cleared k i e b at f h)
 strays_by-cleared (taken c t d k) zero [] b at f h = absurd (cc at)
-strays_by-cleared (taken c t d k) zero (zero ∷ e) b at f h = false_true (ap is_some at)
 strays_by-cleared (taken c t d k) zero (suc j ∷ e) b at f h =
     omega (arith, strays_by-cleared d j e b at f h)
 strays_by-cleared (taken c t d k) (suc i) e b at f h =
     omega (arith, strays_by-cleared k i e b at f h)
+strays_by-cleared k i e b at f h = false_true (ap is_some at)
 
 -- a mark counts for one at most
 bit-or_most : (x y : Bool) → bit (x || y) ≤ bit y + 1
@@ -178,53 +163,43 @@ bit-or_most false y = omega arith
 pub strays_by-reset : (k : Ports) (i : ℕ) (e : List ℕ) → strays_by unmarked (just i e) k
     ≤ strays_by unmarked unmarked k + 1
 unfolding strays_by
-strays_by-reset ended i e = omega arith
 strays_by-reset (vacant c k) zero [] = omega (arith, bit-or_most true c.reset_changed)
-strays_by-reset (vacant c k) zero (n ∷ e) = omega arith
 strays_by-reset (vacant c k) (suc i) e = omega (arith, strays_by-reset k i e)
 strays_by-reset (taken c t d k) zero [] = omega (arith, bit-or_most true c.reset_changed)
-strays_by-reset (taken c t d k) zero (zero ∷ e) = omega arith
 strays_by-reset (taken c t d k) zero (suc j ∷ e) = omega (arith, strays_by-reset d j e)
 strays_by-reset (taken c t d k) (suc i) e = omega (arith, strays_by-reset k i e)
+strays_by-reset k i e = omega arith
+
+strays_by-marked : (k : Ports) (i : ℕ) (e : List ℕ) (q : Place) → place_at k i e ≡ Some q
+    → strays_by unmarked (just i e) k + bit (port_of q).reset_changed
+    ≡ strays_by unmarked unmarked k + 1
+unfolding strays_by place_at
+strays_by-marked (vacant c k) zero [] q at =
+    let same : bit c.reset_changed ≡ bit (port_of q).reset_changed =
+    ap (λ x. bit (port_of x).reset_changed) (same_Some (empty c) q at) in
+    omega (arith, same)
+strays_by-marked (vacant c k) (suc i) e q at = omega (arith, strays_by-marked k i e q at)
+strays_by-marked (taken c t d k) zero [] q at =
+    let same : bit c.reset_changed ≡ bit (port_of q).reset_changed =
+    ap (λ x. bit (port_of x).reset_changed) (same_Some (full c t d) q at) in
+    omega (arith, same)
+strays_by-marked (taken c t d k) zero (suc j ∷ e) q at = omega (arith, strays_by-marked d j e q at)
+strays_by-marked (taken c t d k) (suc i) e q at = omega (arith, strays_by-marked k i e q at)
+strays_by-marked k i e q at = false_true (ap is_some at)
 
 pub strays_by-told : (k : Ports) (i : ℕ) (e : List ℕ) (q : Place) → place_at k i e ≡ Some q
     → (port_of q).reset_changed ≡ true → strays_by unmarked (just i e) k
     ≡ strays_by unmarked unmarked k
-unfolding strays_by place_at
-strays_by-told ended i e q at h = false_true (ap is_some at)
-strays_by-told (vacant c k) zero [] q at h =
-    let set : bit c.reset_changed ≡ 1 =
-    ap bit (ap (λ x. (port_of x).reset_changed) (same_Some (empty c) q at) ∙ h) in
-    omega (arith, set)
-strays_by-told (vacant c k) zero (n ∷ e) q at h = false_true (ap is_some at)
-strays_by-told (vacant c k) (suc i) e q at h = omega (arith, strays_by-told k i e q at h)
-strays_by-told (taken c t d k) zero [] q at h =
-    let set : bit c.reset_changed ≡ 1 =
-    ap bit (ap (λ x. (port_of x).reset_changed) (same_Some (full c t d) q at) ∙ h) in
-    omega (arith, set)
-strays_by-told (taken c t d k) zero (zero ∷ e) q at h = false_true (ap is_some at)
-strays_by-told (taken c t d k) zero (suc j ∷ e) q at h = omega (arith, strays_by-told d j e q at h)
-strays_by-told (taken c t d k) (suc i) e q at h = omega (arith, strays_by-told k i e q at h)
+strays_by-told k i e q at h =
+    let set : bit (port_of q).reset_changed ≡ 1 = ap bit h in
+    omega (arith, set, strays_by-marked k i e q at)
 
 pub strays_by-tidied : (k : Ports) (i : ℕ) (e : List ℕ) (q : Place) → place_at k i e ≡ Some q
     → (port_of q).reset_changed ≡ false → strays_by unmarked unmarked k + 1
     ≡ strays_by unmarked (just i e) k
-unfolding strays_by place_at
-strays_by-tidied ended i e q at h = false_true (ap is_some at)
-strays_by-tidied (vacant c k) zero [] q at h =
-    let set : bit c.reset_changed ≡ 0 =
-    ap bit (ap (λ x. (port_of x).reset_changed) (same_Some (empty c) q at) ∙ h) in
-    omega (arith, set)
-strays_by-tidied (vacant c k) zero (n ∷ e) q at h = false_true (ap is_some at)
-strays_by-tidied (vacant c k) (suc i) e q at h = omega (arith, strays_by-tidied k i e q at h)
-strays_by-tidied (taken c t d k) zero [] q at h =
-    let set : bit c.reset_changed ≡ 0 =
-    ap bit (ap (λ x. (port_of x).reset_changed) (same_Some (full c t d) q at) ∙ h) in
-    omega (arith, set)
-strays_by-tidied (taken c t d k) zero (zero ∷ e) q at h = false_true (ap is_some at)
-strays_by-tidied (taken c t d k) zero (suc j ∷ e) q at h =
-    omega (arith, strays_by-tidied d j e q at h)
-strays_by-tidied (taken c t d k) (suc i) e q at h = omega (arith, strays_by-tidied k i e q at h)
+strays_by-tidied k i e q at h =
+    let set : bit (port_of q).reset_changed ≡ 0 = ap bit h in
+    omega (arith, set, strays_by-marked k i e q at)
 
 -- The device at a place
 
@@ -234,49 +209,34 @@ devices_by-none ended = refl
 devices_by-none (vacant b k) = devices_by-none k
 devices_by-none (taken b s a k) = omega (arith, devices_by-none a, devices_by-none k)
 
+abbrev device_count : Option Place → ℕ
+device_count (Some (full b s a)) = 1
+device_count o = 0
+
+devices_by-place : (k : Ports) (i : ℕ) (e : List ℕ)
+    → devices_by (just i e) k ≡ device_count (place_at k i e)
+unfolding devices_by place_at
+devices_by-place ended i e = refl
+devices_by-place (vacant c k) zero [] = devices_by-none k
+devices_by-place (vacant c k) zero (n ∷ e) = devices_by-none k
+devices_by-place (vacant c k) (suc i) e = devices_by-place k i e
+devices_by-place (taken c t d k) zero (suc j ∷ e) =
+    omega (arith, devices_by-place d j e, devices_by-none k)
+devices_by-place (taken c t d k) (suc i) e =
+    omega (arith, devices_by-place k i e, devices_by-none d)
+devices_by-place (taken c t d k) zero e = omega (arith, devices_by-none d, devices_by-none k)
+
 pub devices_by-there : (k : Ports) (i : ℕ) (e : List ℕ) (b : PortState) (s : State) (a : Ports)
     → place_at k i e ≡ Some (full b s a) → devices_by (just i e) k ≡ 1
-unfolding devices_by place_at
-devices_by-there ended i e b s a at = false_true (ap is_some at)
-devices_by-there (vacant c k) zero [] b s a at = absurd (cc at)
-devices_by-there (vacant c k) zero (n ∷ e) b s a at = false_true (ap is_some at)
-devices_by-there (vacant c k) (suc i) e b s a at = devices_by-there k i e b s a at
-devices_by-there (taken c t d k) zero [] b s a at =
-    omega (arith, devices_by-none d, devices_by-none k)
-devices_by-there (taken c t d k) zero (zero ∷ e) b s a at = false_true (ap is_some at)
-devices_by-there (taken c t d k) zero (suc j ∷ e) b s a at =
-    omega (arith, devices_by-there d j e b s a at, devices_by-none k)
-devices_by-there (taken c t d k) (suc i) e b s a at =
-    omega (arith, devices_by-there k i e b s a at, devices_by-none d)
+devices_by-there k i e b s a at = devices_by-place k i e ∙ ap device_count at
 
 pub devices_by-empty : (k : Ports) (i : ℕ) (e : List ℕ) (b : PortState)
     → place_at k i e ≡ Some (empty b) → devices_by (just i e) k ≡ 0
-unfolding devices_by place_at
-devices_by-empty ended i e b at = refl
-devices_by-empty (vacant c k) zero [] b at = devices_by-none k
-devices_by-empty (vacant c k) zero (n ∷ e) b at = devices_by-none k
-devices_by-empty (vacant c k) (suc i) e b at = devices_by-empty k i e b at
-devices_by-empty (taken c t d k) zero [] b at = absurd (cc at)
-devices_by-empty (taken c t d k) zero (zero ∷ e) b at = false_true (ap is_some at)
-devices_by-empty (taken c t d k) zero (suc j ∷ e) b at =
-    omega (arith, devices_by-empty d j e b at, devices_by-none k)
-devices_by-empty (taken c t d k) (suc i) e b at =
-    omega (arith, devices_by-empty k i e b at, devices_by-none d)
+devices_by-empty k i e b at = devices_by-place k i e ∙ ap device_count at
 
 pub devices_by-nowhere : (k : Ports) (i : ℕ) (e : List ℕ) → place_at k i e ≡ None
     → devices_by (just i e) k ≡ 0
-unfolding devices_by place_at
-devices_by-nowhere ended i e at = refl
-devices_by-nowhere (vacant c k) zero [] at = absurd (cc at)
-devices_by-nowhere (vacant c k) zero (n ∷ e) at = devices_by-none k
-devices_by-nowhere (vacant c k) (suc i) e at = devices_by-nowhere k i e at
-devices_by-nowhere (taken c t d k) zero [] at = absurd (cc at)
-devices_by-nowhere (taken c t d k) zero (zero ∷ e) at =
-    omega (arith, devices_by-none d, devices_by-none k)
-devices_by-nowhere (taken c t d k) zero (suc j ∷ e) at =
-    omega (arith, devices_by-nowhere d j e at, devices_by-none k)
-devices_by-nowhere (taken c t d k) (suc i) e at =
-    omega (arith, devices_by-nowhere k i e at, devices_by-none d)
+devices_by-nowhere k i e at = devices_by-place k i e ∙ ap device_count at
 
 -- The port at a place
 
@@ -289,31 +249,28 @@ ports_by-none (taken b s a k) = omega (arith, ports_by-none a, ports_by-none k)
 pub ports_by-there : (k : Ports) (i : ℕ) (e : List ℕ) (q : Place) → place_at k i e ≡ Some q
     → ports_by (just i e) k ≡ 1
 unfolding ports_by place_at
-ports_by-there ended i e q at = false_true (ap is_some at)
 ports_by-there (vacant c k) zero [] q at = omega (arith, ports_by-none k)
-ports_by-there (vacant c k) zero (n ∷ e) q at = false_true (ap is_some at)
 ports_by-there (vacant c k) (suc i) e q at = omega (arith, ports_by-there k i e q at)
 ports_by-there (taken c t d k) zero [] q at = omega (arith, ports_by-none d, ports_by-none k)
-ports_by-there (taken c t d k) zero (zero ∷ e) q at = false_true (ap is_some at)
 ports_by-there (taken c t d k) zero (suc j ∷ e) q at =
     omega (arith, ports_by-there d j e q at, ports_by-none k)
 ports_by-there (taken c t d k) (suc i) e q at =
     omega (arith, ports_by-there k i e q at, ports_by-none d)
+ports_by-there k i e q at = false_true (ap is_some at)
 
 pub ports_by-nowhere : (k : Ports) (i : ℕ) (e : List ℕ) → place_at k i e ≡ None
     → ports_by (just i e) k ≡ 0
 unfolding ports_by place_at
 ports_by-nowhere ended i e at = refl
-ports_by-nowhere (vacant c k) zero [] at = absurd (cc at)
 ports_by-nowhere (vacant c k) zero (n ∷ e) at = omega (arith, ports_by-none k)
 ports_by-nowhere (vacant c k) (suc i) e at = omega (arith, ports_by-nowhere k i e at)
-ports_by-nowhere (taken c t d k) zero [] at = absurd (cc at)
 ports_by-nowhere (taken c t d k) zero (zero ∷ e) at =
     omega (arith, ports_by-none d, ports_by-none k)
 ports_by-nowhere (taken c t d k) zero (suc j ∷ e) at =
     omega (arith, ports_by-nowhere d j e at, ports_by-none k)
 ports_by-nowhere (taken c t d k) (suc i) e at =
     omega (arith, ports_by-nowhere k i e at, ports_by-none d)
+ports_by-nowhere k i e at = absurd (cc at)
 
 -- At most one port of a new device is marked
 

@@ -36,20 +36,11 @@ sets_none (Calls c i) = not (sets_feature c)
 sets_none PortsOff = true
 
 none_allowed : (m r : ℕ → Bool) (e : Effect) → sets_none e ≡ true → allowed m r e ≡ true
-none_allowed m r Leaves h = refl
 none_allowed m r (Calls SetPower i) h = false_true h
 none_allowed m r (Calls SetReset i) h = false_true h
-none_allowed m r (Calls ClearEnable i) h =
+none_allowed m r (Calls c i) h =
     and_of (m i || true) (r i || true) (or_right (m i) true refl) (or_right (r i) true refl)
-none_allowed m r (Calls ClearPower i) h =
-    and_of (m i || true) (r i || true) (or_right (m i) true refl) (or_right (r i) true refl)
-none_allowed m r (Calls ClearConnectionChange i) h =
-    and_of (m i || true) (r i || true) (or_right (m i) true refl) (or_right (r i) true refl)
-none_allowed m r (Calls ClearEnableChange i) h =
-    and_of (m i || true) (r i || true) (or_right (m i) true refl) (or_right (r i) true refl)
-none_allowed m r (Calls ClearResetChange i) h =
-    and_of (m i || true) (r i || true) (or_right (m i) true refl) (or_right (r i) true refl)
-none_allowed m r PortsOff h = refl
+none_allowed m r e h = refl
 
 clears_none : (f : ℕ) (c : PortCall) → clear_call f ≡ Some c → not (sets_feature c) ≡ true
 clears_none f c h = split (f == PORT_ENABLE) (f == PORT_POWER) (f == C_PORT_CONNECTION)
@@ -112,12 +103,7 @@ sets_as f c d x y = subst (λ z. ((gives_power z || not (gives_power c)) &&
     itself : (c : PortCall) → ((gives_power c || not (gives_power c)) &&
         (is_reset c || not (is_reset c))) ≡ true
     itself SetPower = refl
-    itself SetReset = refl
-    itself ClearEnable = refl
-    itself ClearPower = refl
-    itself ClearConnectionChange = refl
-    itself ClearEnableChange = refl
-    itself ClearResetChange = refl
+    itself c = refl
 
 same_number-suc : (m n : ℕ) → suc m ≡ suc n → same_number m n ≡ true
 same_number-suc m n e = subst (λ x. same_number m x ≡ true) (ap pred e) (self_number m)
@@ -129,22 +115,16 @@ same_number-suc m n e = subst (λ x. same_number m x ≡ true) (ap pred e) (self
 power_not_configuration : {A : Type 0} (q : Setup) → Is q PORT_OUT SET_FEATURE ≡ true
     → Is q DEVICE_OUT SET_CONFIGURATION ≡ true → A
 power_not_configuration q x y = false_true
-    (ap (λ z. z == DEVICE_OUT) (sym (equal q.request_type PORT_OUT
+    (ap (λ z. z == DEVICE_OUT) (sym (equal_same q.request_type PORT_OUT
     (both (q.request_type == PORT_OUT) (q.request == SET_FEATURE) x).0))
     ∙ (both (q.request_type == DEVICE_OUT) (q.request == SET_CONFIGURATION) y).0)
-  where
-    equal : (m n : ℕ) → (m == n) ≡ true → m ≡ n
-    equal m n e = equal_same m n e
 
 apart_clear : {A : Type 0} (q : Setup) → Is q PORT_OUT SET_FEATURE ≡ true
     → Is q PORT_OUT CLEAR_FEATURE ≡ true → A
 apart_clear q x y = false_true (ap (λ z. z == CLEAR_FEATURE)
-    (sym (equal q.request SET_FEATURE (both (q.request_type == PORT_OUT)
+    (sym (equal_same q.request SET_FEATURE (both (q.request_type == PORT_OUT)
     (q.request == SET_FEATURE) x).1))
     ∙ (both (q.request_type == PORT_OUT) (q.request == CLEAR_FEATURE) y).1)
-  where
-    equal : (m n : ℕ) → (m == n) ≡ true → m ≡ n
-    equal m n e = equal_same m n e
 
 request_only_at : (q : Setup) (n : ℕ) (d : PortCall) → Is q PORT_OUT SET_FEATURE ≡ true
     → q.index ≡ suc n → set_call q.value ≡ Some d → Allows (only_at n d) q

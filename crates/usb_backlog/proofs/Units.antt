@@ -4,12 +4,11 @@ use Rattle.std.proofs.Common.{◌∷◌, Option, None, Some, refl, arith}
 use Rattle.std.proofs.lemmas.Bool.Decides.{nat_tests}
 use Rattle.usb_tree.proofs.Interface.{decided, equal_same}
 use Rattle.usb_port.specs.{PortState, is_attached}
-use Rattle.usb_device.specs.{State, Ports, empty, full, port_of, place_at}
-use Rattle.usb_device.specs.Tree.{Place}
+use Rattle.usb_device.specs.{State, Ports, empty, full, port_of, place_at, Place}
 use Rattle.usb_world.specs.{World, AtPorts}
 use Rattle.usb_backlog.specs.{KeepsAll, KeepsBy, KeepsFound, devices_by, just, looks_by, only}
 use Rattle.usb_backlog.specs.{ports_at, ports_by, strays_by, unmarked, PaysBare, PaysLook}
-use Rattle.usb_backlog.specs.{PaysStray}
+use Rattle.usb_backlog.specs.{PaysStray, PortMark}
 use Rattle.usb_backlog.proofs.Places.{devices_by-empty, devices_by-nowhere, devices_by-there}
 use Rattle.usb_backlog.proofs.Places.{few-none, looks_by-found, looks_by-less, looks_by-nowhere}
 use Rattle.usb_backlog.proofs.Places.{looks_by-set, ports_by-nowhere, ports_by-there}
@@ -20,6 +19,16 @@ module _ (j : ℕ) (e : List ℕ) where
   abbrev p : List ℕ
   p = suc j ∷ e
 
+  -- a look is paid
+  abbrev LookPaid : World → World → Type 0
+  LookPaid old mid = looks_by (ports_at p) mid.roots + 1 + 7 * old.taken ≤ looks_by unmarked
+      old.roots + 7 * mid.taken
+
+  -- a change is paid that asks for none, or an event came
+  abbrev StrayPaid : World → World → Type 0
+  StrayPaid old mid = (strays_by unmarked unmarked mid.roots + 1 + old.taken ≤ strays_by unmarked
+      unmarked old.roots + mid.taken) ⊎ (old.taken + 1 ≤ mid.taken)
+
   -- what the clearing of a change of connection at the port leaves, at the moment of it
   pub record ClearedAt (old mid : World) : Type 0 where
     pub onward : old.taken ≤ mid.taken
@@ -29,12 +38,25 @@ module _ (j : ℕ) (e : List ℕ) where
         old.roots + mid.taken
     -- a device stood there, and a look is paid; or none did, and a change is paid that asks for
     -- none, or an event came
-    pub paid : (looks_by (ports_at p) mid.roots + 1 + 7 * old.taken ≤ looks_by unmarked old.roots +
-        7 * mid.taken)
-        ⊎ ((devices_by (only p) mid.roots ≡ 0)
-        × ((strays_by unmarked unmarked mid.roots + 1 + old.taken
-        ≤ strays_by unmarked unmarked old.roots + mid.taken)
-        ⊎ (old.taken + 1 ≤ mid.taken)))
+    pub paid : LookPaid old mid ⊎ ((devices_by (only p) mid.roots ≡ 0) × StrayPaid old mid)
+
+  -- a port that is gone went by an event
+  gone_came : (m v r : PortMark) (old mid : World) (q : Place) → place_at old.roots j e ≡ Some q
+      → KeepsBy m v r old mid → place_at mid.roots j e ≡ None → old.taken + 1 ≤ mid.taken
+  gone_came m v r old mid q was keeps at = pick (decided (mid.taken == old.taken))
+    where
+      pick : ((mid.taken == old.taken) ≡ true) ⊎ ((mid.taken == old.taken) ≡ false)
+          → old.taken + 1 ≤ mid.taken
+      pick (inl same) =
+          let there : ports_by (just j e) old.roots ≡ 1 = ports_by-there old.roots j e q was in
+          let none : ports_by (just j e) mid.roots ≡ 0 = ports_by-nowhere mid.roots j e at in
+          absurd (omega (
+            arith,
+            there,
+            none,
+            keeps.still (equal_same mid.taken old.taken same) (just j e),
+          ))
+      pick (inr apart) = grind (arith, nat_tests, apart, keeps.onward)
 
   -- the change was set there; no more was left to do but by events, where the port is marked; and
   -- in the end it is cleared
@@ -51,88 +73,47 @@ module _ (j : ℕ) (e : List ℕ) where
       strays_set : strays_by (just j e) unmarked old.roots ≡ strays_by unmarked unmarked old.roots
       strays_set = strays_by-set old.roots j e q was set
 
-      -- a port that is gone went by an event
-      came : place_at mid.roots j e ≡ None → ((mid.taken == old.taken) ≡ true)
-          ⊎ ((mid.taken == old.taken) ≡ false) → old.taken + 1 ≤ mid.taken
-      came at (inl same) =
-          let there : ports_by (just j e) old.roots ≡ 1 = ports_by-there old.roots j e q was in
-          let none : ports_by (just j e) mid.roots ≡ 0 = ports_by-nowhere mid.roots j e at in
-          absurd (omega (
-            arith,
-            there,
-            none,
-            keeps.still (equal_same mid.taken old.taken same) (just j e),
-          ))
-      came at (inr apart) = grind (arith, nat_tests, apart, keeps.onward)
+      strays : strays_by unmarked unmarked mid.roots + old.taken ≤ strays_by unmarked unmarked
+          old.roots + mid.taken
+      strays = omega (
+        arith,
+        keeps.strays,
+        strays_set,
+        strays_by-less (just j e) unmarked mid.roots,
+      )
 
-      pick : (o : Option Place) → place_at mid.roots j e ≡ o → ClearedAt old mid
-      pick None at =
-          let gone : devices_by (just j e) mid.roots ≡ 0 = devices_by-nowhere mid.roots j e at in
-          record {
-            onward = keeps.onward;
-            looks = omega (
-              arith,
-              keeps.looks,
-              looks_set,
-              looks_by-nowhere mid.roots j e gone,
-              looks_by-less (just j e) mid.roots,
-            );
-            strays = omega (
-              arith,
-              keeps.strays,
-              strays_set,
-              strays_by-less (just j e) unmarked mid.roots,
-            );
-            paid = inr (gone, inr (came at (decided (mid.taken == old.taken))));
-          }
-      pick (Some (empty b)) at =
-          let gone : devices_by (just j e) mid.roots ≡ 0 = devices_by-empty mid.roots j e b at in
-          record {
-            onward = keeps.onward;
-            looks = omega (
-              arith,
-              keeps.looks,
-              looks_set,
-              looks_by-nowhere mid.roots j e gone,
-              looks_by-less (just j e) mid.roots,
-            );
-            strays = omega (
-              arith,
-              keeps.strays,
-              strays_set,
-              strays_by-less (just j e) unmarked mid.roots,
-            );
-            paid = inr (
-              gone,
-              inl (omega (
-                arith,
-                keeps.strays,
-                strays_set,
-                strays_by-cleared mid.roots j e b at (bare b at) (cleared (empty b) at),
-              )),
-            );
-          }
-      pick (Some (full b s a)) at = record {
+      nowhere : devices_by (just j e) mid.roots ≡ 0 → StrayPaid old mid → ClearedAt old mid
+      nowhere gone paid = record {
         onward = keeps.onward;
         looks = omega (
           arith,
           keeps.looks,
           looks_set,
-          looks_by-found mid.roots j e b s a at (cleared (full b s a) at),
+          looks_by-nowhere mid.roots j e gone,
+          looks_by-less (just j e) mid.roots,
         );
-        strays = omega (
-          arith,
-          keeps.strays,
-          strays_set,
-          strays_by-less (just j e) unmarked mid.roots,
-        );
-        paid = inl (omega (
-          arith,
-          keeps.looks,
-          looks_set,
-          looks_by-found mid.roots j e b s a at (cleared (full b s a) at),
-        ));
+        strays = strays;
+        paid = inr (gone, paid);
       }
+
+      pick : (o : Option Place) → place_at mid.roots j e ≡ o → ClearedAt old mid
+      pick None at = nowhere (devices_by-nowhere mid.roots j e at)
+          (inr (gone_came (only p) (only p) unmarked old mid q was keeps at))
+      pick (Some (empty b)) at = nowhere (devices_by-empty mid.roots j e b at) (inl (omega (
+        arith,
+        keeps.strays,
+        strays_set,
+        strays_by-cleared mid.roots j e b at (bare b at) (cleared (empty b) at),
+      )))
+      pick (Some (full b s a)) at =
+          let found : looks_by (ports_at p) mid.roots + 1 ≤ looks_by (just j e) mid.roots =
+          looks_by-found mid.roots j e b s a at (cleared (full b s a) at) in
+          record {
+            onward = keeps.onward;
+            looks = omega (arith, keeps.looks, looks_set, found);
+            strays = strays;
+            paid = inl (omega (arith, keeps.looks, looks_set, found));
+          }
 
   -- the look that follows: a device was seen at the port, and is entered or refused; the marks are
   -- dropped
@@ -161,12 +142,8 @@ module _ (j : ℕ) (e : List ℕ) where
       there : devices_by (just j e) seen.roots ≡ 1
       there = devices_by-there seen.roots j e b s a at
 
-      pick : (looks_by (ports_at p) mid.roots + 1 + 7 * old.taken ≤ looks_by unmarked old.roots +
-          7 * mid.taken)
-          ⊎ ((devices_by (only p) mid.roots ≡ 0)
-          × ((strays_by unmarked unmarked mid.roots + 1 + old.taken
-          ≤ strays_by unmarked unmarked old.roots + mid.taken)
-          ⊎ (old.taken + 1 ≤ mid.taken))) → PaysLook old new
+      pick : LookPaid old mid ⊎ ((devices_by (only p) mid.roots ≡ 0) × StrayPaid old mid)
+          → PaysLook old new
       pick (inl paid) = record {
         looks =
             omega (
@@ -211,12 +188,7 @@ module _ (j : ℕ) (e : List ℕ) where
       all : KeepsBy (ports_at p) unmarked unmarked mid new
       all = y.all ports (ports_at p) unmarked unmarked few-none
 
-      pick : (looks_by (ports_at p) mid.roots + 1 + 7 * old.taken ≤ looks_by unmarked old.roots +
-          7 * mid.taken)
-          ⊎ ((devices_by (only p) mid.roots ≡ 0)
-          × ((strays_by unmarked unmarked mid.roots + 1 + old.taken
-          ≤ strays_by unmarked unmarked old.roots + mid.taken)
-          ⊎ (old.taken + 1 ≤ mid.taken)))
+      pick : LookPaid old mid ⊎ ((devices_by (only p) mid.roots ≡ 0) × StrayPaid old mid)
           → (looks_by unmarked new.roots + 1 + 7 * old.taken ≤ looks_by unmarked old.roots + 7 *
           new.taken)
           ⊎ (strays_by unmarked unmarked new.roots + 1 + old.taken ≤ strays_by unmarked unmarked
@@ -245,24 +217,12 @@ module _ (j : ℕ) (e : List ℕ) where
       told : strays_by unmarked (just j e) old.roots ≡ strays_by unmarked unmarked old.roots
       told = strays_by-told old.roots j e q was set
 
-      came : place_at mid.roots j e ≡ None → ((mid.taken == old.taken) ≡ true)
-          ⊎ ((mid.taken == old.taken) ≡ false) → old.taken + 1 ≤ new.taken
-      came at (inl same) =
-          let there : ports_by (just j e) old.roots ≡ 1 = ports_by-there old.roots j e q was in
-          let none : ports_by (just j e) mid.roots ≡ 0 = ports_by-nowhere mid.roots j e at in
-          absurd (omega (
-            arith,
-            there,
-            none,
-            keeps.still (equal_same mid.taken old.taken same) (just j e),
-          ))
-      came at (inr apart) = let later : old.taken + 1 ≤ mid.taken =
-          grind (arith, nat_tests, apart, keeps.onward) in omega (arith, later, since.onward)
-
       pick : (o : Option Place) → place_at mid.roots j e ≡ o
           → (strays_by unmarked unmarked new.roots + 1 + old.taken ≤ strays_by unmarked unmarked
           old.roots + new.taken) ⊎ (old.taken + 1 ≤ new.taken)
-      pick None at = inr (came at (decided (mid.taken == old.taken)))
+      pick None at = let came : old.taken + 1 ≤ mid.taken =
+          gone_came unmarked unmarked (only p) old mid q was keeps at in
+          inr (omega (arith, came, since.onward))
       pick (Some o) at = inl (omega (
         arith,
         keeps.strays,

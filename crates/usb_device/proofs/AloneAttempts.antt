@@ -1,11 +1,10 @@
 -- A whole attempt at one device: the token and the ACK ask nothing of its ports.
-use Rattle.std.proofs.Common.{◌≡◌, Bool, true, false, if◌then◌else◌, refl}
+use Rattle.std.proofs.Common.{◌≡◌, Bool, true, if◌then◌else◌, refl}
 use Rattle.usb_device.specs.{HostSide, Leaves, asks, State, hears, effect_of, token_sent, ack_sent}
 
 either-leaves : (x y : Bool) → (if x then (if y then Leaves else Leaves) else Leaves) ≡ Leaves
 either-leaves true true = refl
-either-leaves true false = refl
-either-leaves false y = refl
+either-leaves x y = refl
 
 pub effect_of-token : (x : HostSide) (deep : Bool) (s : State)
     → effect_of (token_sent x) deep s ≡ Leaves

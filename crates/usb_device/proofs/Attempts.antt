@@ -5,23 +5,21 @@ use Rattle.std.proofs.lemmas.Bool.Decides.{nat_tests}
 use Rattle.usb_packet.specs.{OutTok, InTok, SetupTok, Toggle, Zero, One, Packet, Token, Payload}
 use Rattle.usb_packet.specs.declared.Packet.TheVariants as packet
 use Rattle.usb_request.specs.{setup_of}
-use Rattle.usb_device.specs.{Answer, RememberedPacket, InEndpoint, BulkOut, BulkIn, Changes}
-use Rattle.usb_device.specs.{tells_changes, change_bits, Outcome, stalled, takes_address}
-use Rattle.usb_device.specs.{takes_configuration, halts, unhalts, tells_port, calls_port, outcome}
-use Rattle.usb_device.specs.{Stage, idle, refused, reading, read, ending, max_packet, packet_at}
-use Rattle.usb_device.specs.{toggle_at, State, Reply, received, answered, unread, forgotten}
-use Rattle.usb_device.specs.{accepted, payload, is_busy, nak_row, unless_busy, gives, in_row, begun}
-use Rattle.usb_device.specs.{data_row, token_row, source_row, changes_row, held_row, in_other_row}
-use Rattle.usb_device.specs.{in_bulk_row, acknowledged, bulk_of, rest_of, Way, lost, heard, acked}
+use Rattle.usb_device.specs.{Answer, RememberedPacket, InEndpoint, BulkOut, Changes, tells_changes}
+use Rattle.usb_device.specs.{change_bits, Outcome, halts, unhalts, outcome, Stage, idle, refused}
+use Rattle.usb_device.specs.{reading, read, ending, max_packet, packet_at, toggle_at, State, Reply}
+use Rattle.usb_device.specs.{received, answered, unread, forgotten, accepted, payload, is_busy}
+use Rattle.usb_device.specs.{nak_row, unless_busy, gives, in_row, begun, data_row, token_row}
+use Rattle.usb_device.specs.{source_row, changes_row, held_row, in_other_row, in_bulk_row}
+use Rattle.usb_device.specs.{acknowledged, bulk_of, rest_of, Way, lost, heard, acked}
 use Rattle.usb_device.specs.{setup_exchange, out_exchange, in_exchange, setup_law, out_law, gave}
 use Rattle.usb_device.specs.{in_stage_law, source_law, changes_law, held_law, in_other_law}
-use Rattle.usb_device.specs.{in_bulk_law, in_control_law, in_law, is_own}
+use Rattle.usb_device.specs.{in_bulk_law, in_control_law, in_law, is_own, through, is_whole}
 use Rattle.usb_device.specs.declared.answer.Answer.TheVariants.{Ack, Nak, Stall}
 use Rattle.usb_device.specs.declared.transfer.RememberedPacket.TheVariants.{Nothing, SetupSeen}
 use Rattle.usb_device.specs.declared.transfer.RememberedPacket.TheVariants.{OutSeen, AckAwaited}
 use Rattle.usb_device.specs.declared.transfer.InEndpoint.TheVariants as by
 use Rattle.usb_port.specs.{PortState}
-use Rattle.usb_device.specs.Request.{answers}
 use Rattle.usb_device.specs.Attempt.{whole, broken}
 
 pub same_number : (n : ℕ) → (n == n) ≡ true
@@ -65,12 +63,7 @@ silent_or_row d false row h = h
 rested-row : (d : State) (row : List PortState) (p : Packet) → is_own d p ≡ false
     → answered (forgotten d) row Nothing p ≡ (None, forgotten d)
 rested-row d row (Token kind a e) h = rw h refl
-rested-row d row (Payload t b) h = refl
-rested-row d row packet.Ack h = refl
-rested-row d row (packet.Sof n) h = refl
-rested-row d row packet.Nak h = refl
-rested-row d row packet.Stall h = refl
-rested-row d row packet.Pre h = refl
+rested-row d row p h = refl
 
 pub received-not_own : (d : State) (row : List PortState) (p : Packet) → is_own d p ≡ false
     → received (forgotten d) row p ≡ (None, forgotten d)
@@ -96,8 +89,7 @@ setup_data d row s loud len = rw (loud, len) refl
 forgotten_none : (t : Way) (d : State) → attempt_reply (heard t None) (forgotten d)
     ≡ (None, forgotten d)
 forgotten_none whole d = refl
-forgotten_none broken d = refl
-forgotten_none lost d = refl
+forgotten_none t d = refl
 
 abbrev finished : Way → Reply → Reply
 finished t reply = (heard t reply.0, forgotten reply.1)
@@ -106,21 +98,27 @@ rested_data : (d : State) (row : List PortState) (t : Toggle) (b : List ℕ)
     → received (forgotten d) row (Payload t (record { items = b })) ≡ (None, forgotten d)
 rested_data d row t b = received-not_own d row (Payload t (record { items = b })) refl
 
+rested_through : (d : State) (row : List PortState) (t : Toggle) (b : List ℕ) (t2 : Way)
+    → through t2 (forgotten d) row (Payload t (record { items = b })) ≡ (None, forgotten d)
+rested_through d row t b whole = rested_data d row t b
+rested_through d row t b broken = ap (attempt_reply None) (unread-rested d)
+rested_through d row t b lost = refl
+
+-- the data, where the token did not come whole
+rested_text : (d : State) (row : List PortState) (t : Toggle) (b : List ℕ) (t1 t2 : Way)
+    → through t2 (if is_whole t1 then forgotten d else (through t1 (forgotten d) row packet.Pre).1)
+    row (Payload t (record { items = b })) ≡ (None, forgotten d)
+rested_text d row t b broken t2 =
+    ap (λ x. through t2 x row (Payload t (record { items = b }))) (unread-rested d)
+    ∙ rested_through d row t b t2
+rested_text d row t b t1 t2 = rested_through d row t b t2
+
 -- a request leaves nothing remembered
 begun-rests : (d : State) (row : List PortState) (n : ℕ) (o : Outcome)
     → forgotten (begun (forgotten d) row n o) ≡ begun (forgotten d) row n o
-begun-rests d row n stalled = refl
-begun-rests d row n (answers bytes) = refl
-begun-rests d row n (takes_address a) = refl
-begun-rests d row n (takes_configuration c) = refl
 begun-rests d row n (halts BulkOut) = refl
-begun-rests d row n (halts BulkIn) = refl
 begun-rests d row n (unhalts BulkOut) = refl
-begun-rests d row n (unhalts BulkIn) = refl
-begun-rests d row n (halts Changes) = refl
-begun-rests d row n (unhalts Changes) = refl
-begun-rests d row n (tells_port i) = refl
-begun-rests d row n (calls_port c i) = refl
+begun-rests d row n o = refl
 
 pub setup_is : (d : State) (row : List PortState) (s : List ℕ) → d.spec.silent ≡ false
     → length s ≡ 8 → (t1 t2 t3 : Way) → setup_exchange (forgotten d) row d.registers.address s t1 t2
@@ -131,24 +129,10 @@ setup_is d row s loud len whole whole t3 =
     ∙ ap (attempt_reply (heard t3 (Some Ack)))
     (begun-rests d row (setup_of s).length (outcome d.spec d.registers (setup_of s)))
 setup_is d row s loud len whole broken t3 =
-    ap (λ r. finished t3 (attempt_reply None (unread r.1))) (setup_token d row loud)
-    ∙ ap (λ x. finished t3 (attempt_reply None x)) (unread-is d SetupSeen loud)
-    ∙ forgotten_none t3 d
-setup_is d row s loud len whole lost t3 =
-    ap (λ r. finished t3 (attempt_reply None r.1)) (setup_token d row loud) ∙ forgotten_none t3 d
-setup_is d row s loud len broken whole t3 =
-    ap (λ x. finished t3 (received x row (Payload Zero (record { items = s })))) (unread-rested d)
-    ∙ ap (finished t3) (rested_data d row Zero s) ∙ forgotten_none t3 d
-setup_is d row s loud len broken broken t3 =
-    ap (λ x. finished t3 (attempt_reply None (unread x))) (unread-rested d)
-    ∙ ap (λ x. finished t3 (attempt_reply None x)) (unread-rested d) ∙ forgotten_none t3 d
-setup_is d row s loud len broken lost t3 =
-    ap (λ x. finished t3 (attempt_reply None x)) (unread-rested d) ∙ forgotten_none t3 d
-setup_is d row s loud len lost whole t3 = ap (finished t3) (rested_data d row Zero s)
-    ∙ forgotten_none t3 d
-setup_is d row s loud len lost broken t3 =
-    ap (λ x. finished t3 (attempt_reply None x)) (unread-rested d) ∙ forgotten_none t3 d
-setup_is d row s loud len lost lost t3 = forgotten_none t3 d
+    simp (setup_token d row loud, unread-is d SetupSeen loud) (forgotten_none t3 d)
+setup_is d row s loud len whole lost t3 = simp (setup_token d row loud) (forgotten_none t3 d)
+setup_is d row s loud len t1 t2 t3 =
+    ap (finished t3) (rested_text d row Zero s t1 t2) ∙ forgotten_none t3 d
 
 -- ---- OUT
 
@@ -173,24 +157,10 @@ out_is d row e t b loud whole whole t3 =
     (out_token d row e loud)
     ∙ ap (finished t3) (out_data d row e t b loud)
 out_is d row e t b loud whole broken t3 =
-    ap (λ r. finished t3 (attempt_reply None (unread r.1))) (out_token d row e loud)
-    ∙ ap (λ x. finished t3 (attempt_reply None x)) (unread-is d (OutSeen e) loud)
-    ∙ forgotten_none t3 d
-out_is d row e t b loud whole lost t3 = ap (λ r. finished t3 (attempt_reply None r.1))
-    (out_token d row e loud) ∙ forgotten_none t3 d
-out_is d row e t b loud broken whole t3 =
-    ap (λ x. finished t3 (received x row (Payload t (record { items = b })))) (unread-rested d)
-    ∙ ap (finished t3) (rested_data d row t b) ∙ forgotten_none t3 d
-out_is d row e t b loud broken broken t3 =
-    ap (λ x. finished t3 (attempt_reply None (unread x))) (unread-rested d)
-    ∙ ap (λ x. finished t3 (attempt_reply None x)) (unread-rested d) ∙ forgotten_none t3 d
-out_is d row e t b loud broken lost t3 =
-    ap (λ x. finished t3 (attempt_reply None x)) (unread-rested d) ∙ forgotten_none t3 d
-out_is d row e t b loud lost whole t3 = ap (finished t3) (rested_data d row t b)
-    ∙ forgotten_none t3 d
-out_is d row e t b loud lost broken t3 =
-    ap (λ x. finished t3 (attempt_reply None x)) (unread-rested d) ∙ forgotten_none t3 d
-out_is d row e t b loud lost lost t3 = forgotten_none t3 d
+    simp (out_token d row e loud, unread-is d (OutSeen e) loud) (forgotten_none t3 d)
+out_is d row e t b loud whole lost t3 = simp (out_token d row e loud) (forgotten_none t3 d)
+out_is d row e t b loud t1 t2 t3 =
+    ap (finished t3) (rested_text d row t b t1 t2) ∙ forgotten_none t3 d
 
 -- ---- IN
 
@@ -203,29 +173,25 @@ in_token d row e loud = rw (loud, same_number d.registers.address) refl
 acked-none : (row : List PortState) (max : ℕ) (t2 t3 : Way) (d : State)
     → acked row max t2 t3 (None, d) ≡ (None, forgotten d)
 acked-none row max whole t3 d = refl
-acked-none row max broken t3 d = refl
-acked-none row max lost t3 d = refl
+acked-none row max t2 t3 d = refl
 
 stalls : (row : List PortState) (max : ℕ) (t2 t3 : Way) (d : State)
     → acked row max t2 t3 (attempt_reply (Some Stall) (forgotten d))
     ≡ attempt_reply (heard t2 (Some Stall)) (forgotten d)
 stalls row max whole t3 d = refl
-stalls row max broken t3 d = refl
-stalls row max lost t3 d = refl
+stalls row max t2 t3 d = refl
 
 acked-nak : (row : List PortState) (max : ℕ) (t2 t3 : Way) (d : State)
     → acked row max t2 t3 (attempt_reply (Some Nak) (forgotten d))
     ≡ attempt_reply (heard t2 (Some Nak)) (forgotten d)
 acked-nak row max whole t3 d = refl
-acked-nak row max broken t3 d = refl
-acked-nak row max lost t3 d = refl
+acked-nak row max t2 t3 d = refl
 
 naks : (row : List PortState) (max : ℕ) (t2 t3 : Way) (d : State)
     → acked row max t2 t3 (nak_row (forgotten d)) ≡ attempt_reply (heard t2 (Some Nak))
     (nak_row (forgotten d)).1
 naks row max whole t3 d = refl
-naks row max broken t3 d = refl
-naks row max lost t3 d = refl
+naks row max t2 t3 d = refl
 
 ack_came : (d : State) (row : List PortState) (giver : InEndpoint) → d.spec.silent ≡ false
     → received (remembering d (AckAwaited giver)) row packet.Ack
@@ -237,8 +203,6 @@ gave_is : (d : State) (row : List PortState) (giver : InEndpoint) (t : Toggle) (
     (max : ℕ) → d.spec.silent ≡ false → (t2 t3 : Way)
     → acked row max t2 t3 (gives (forgotten d) giver t bytes) ≡ gave (forgotten d) giver max t bytes
     t2 t3
-gave_is d row giver t bytes max loud broken t3 = refl
-gave_is d row giver t bytes max loud lost t3 = refl
 gave_is d row giver t bytes max loud whole whole =
     elim (nat_le (length bytes) max)
     as (λ b. attempt_reply (Some (payload t bytes))
@@ -266,6 +230,7 @@ gave_is d row giver t bytes max loud whole lost =
     (AckAwaited giver))) ≡ attempt_reply (Some (payload t bytes))
     (if b && false then forgotten (acknowledged (forgotten d) giver) else forgotten d))
     [ true ↦ refl | false ↦ refl ]
+gave_is d row giver t bytes max loud t2 t3 = refl
 
 abbrev with_stage : State → Stage → State
 with_stage d s = record (forgotten d) { stage = s }

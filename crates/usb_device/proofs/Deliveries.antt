@@ -7,7 +7,7 @@ use Rattle.usb_device.specs.{Plugged, empty, full, before, row_of, Content, answ
 use Rattle.usb_device.specs.{listed, heard_from, heard_of, both, heard_joined, with_answer}
 use Rattle.usb_device.specs.{taken_content, delivered, delivered_device, delivered_place, Place}
 use Rattle.usb_device.specs.{answers}
-use Rattle.usb_device.specs.declared.delivery.Heard.TheVariants.{NoAnswer, One, Collision}
+use Rattle.usb_device.specs.declared.delivery.Heard.TheVariants.{NoAnswer, One}
 use Rattle.usb_device.specs.declared.ports.Place.{Place as Kept}
 use Rattle.usb_device.proofs.packets.Rows.{row_of-after}
 use Rattle.usb_device.proofs.packets.Strays.{reply-unread, asks-stray}
@@ -24,27 +24,19 @@ answer_of-after q deep s a below = rw (row_of-after q below a) refl
 
 pub both-none : (h : Heard) → both h NoAnswer ≡ h
 both-none NoAnswer = refl
-both-none (One x) = refl
-both-none Collision = refl
+both-none h = refl
 
 both-joined : (a b c : Heard) → both (both a b) c ≡ both a (both b c)
-both-joined NoAnswer b c = refl
-both-joined Collision b c = refl
-both-joined (One x) NoAnswer c = refl
-both-joined (One x) Collision c = refl
 both-joined (One x) (One y) NoAnswer = refl
-both-joined (One x) (One y) (One z) = refl
-both-joined (One x) (One y) Collision = refl
+both-joined a b c = refl
 
 both-swapped : (h : Heard) (x : Answer) → both h (One x) ≡ both (One x) h
 both-swapped NoAnswer x = refl
-both-swapped (One y) x = refl
-both-swapped Collision x = refl
+both-swapped h x = refl
 
 heard-more : (x : Answer) (xs : List Answer) → heard_of (x ∷ xs) ≡ both (One x) (heard_of xs)
-heard-more x [] = refl
 heard-more x (y ∷ []) = refl
-heard-more x (y ∷ z ∷ more) = refl
+heard-more x xs = refl
 
 pub heard_of-append : (xs ys : List Answer) → heard_of (xs ++ ys) ≡ both (heard_of xs) (heard_of ys)
 heard_of-append [] ys = refl

@@ -1,7 +1,7 @@
 -- Marks tell which addresses stand twice.
 use Rattle.std.proofs.Common.{◌≡◌, ◌<◌, ℕ, zero, suc, ◌==◌, ◌||◌, if◌then◌else◌, Bool, true, false}
 use Rattle.std.proofs.Common.{List, [], ◌∷◌, ◌++◌, Option, None, Some, length, slice_set}
-use Rattle.std.proofs.Common.{slice_index_or, refl, ap, ap₂, sym, ◌∙◌, arith}
+use Rattle.std.proofs.Common.{slice_index_or, refl, ap, ap₂, sym, ◌∙◌, arith, rules}
 use Rattle.std.proofs.lemmas.Bool.Decides.{nat_tests}
 use Rattle.usb_port.specs.{PortState}
 use Rattle.usb_device.specs.declared.ports.Place.{Place as Kept}
@@ -15,9 +15,8 @@ meets [] marks = false
 meets (n ∷ ns) marks = slice_index_or marks n false || meets ns (slice_set marks n true)
 
 length-set : (m : List Bool) (i : ℕ) (b : Bool) → length (slice_set m i b) ≡ length m
-length-set [] i b = refl
-length-set (x ∷ m) zero b = refl
 length-set (x ∷ m) (suc i) b = ap suc (length-set m i b)
+length-set m i b = refl
 
 -- ---- the addresses of a row of ports that begins with a place
 
@@ -49,29 +48,16 @@ bytes-none (p ∷ ps) h = absurd (omega (arith, h))
 -- ---- what the marks tell
 
 pub or_assoc : (a b c : Bool) → ((a || b) || c) ≡ (a || (b || c))
-or_assoc true b c = refl
-or_assoc false b c = refl
+or_assoc a b c = search rules
 
 second_first : (a b c : Bool) → (a || (b || c)) ≡ (b || (a || c))
-second_first true true c = refl
-second_first true false c = refl
-second_first false true c = refl
-second_first false false c = refl
+second_first a b c = search rules
 
 first_and_rest : (a b c d e : Bool) → ((a || b) || (c || (d || e))) ≡ ((b || c) || ((a || d) || e))
-first_and_rest true true c d e = refl
-first_and_rest true false true d e = refl
-first_and_rest true false false d e = refl
-first_and_rest false true c d e = refl
-first_and_rest false false true d e = refl
-first_and_rest false false false d e = refl
+first_and_rest a b c d e = search rules
 
 first_behind : (a b c d e : Bool) → ((a || b) || (c || (d || e))) ≡ ((a || c) || (d || (b || e)))
-first_behind true b c d e = refl
-first_behind false true true d e = refl
-first_behind false true false true e = refl
-first_behind false true false false e = refl
-first_behind false false c d e = refl
+first_behind a b c d e = search rules
 
 pub or-false : (a b : Bool) → (a || b) ≡ false → (a ≡ false) × (b ≡ false)
 or-false true b h = cc
@@ -89,11 +75,7 @@ pub nat_eq-sym : (x y : ℕ) → (x == y) ≡ (y == x)
 nat_eq-sym x y = grind (arith, nat_tests)
 
 shuffle : (a b c d : Bool) → ((a || b) || (c || d)) ≡ ((a || c) || (b || d))
-shuffle true b c d = refl
-shuffle false true true d = refl
-shuffle false true false d = refl
-shuffle false false true d = refl
-shuffle false false false d = refl
+shuffle a b c d = search rules
 
 share-more : (xs ys : List ℕ) (x : ℕ) → share xs (x ∷ ys) ≡ (has x xs || share xs ys)
 share-more [] ys x = refl
@@ -103,11 +85,7 @@ share-more (z ∷ zs) ys x =
     ∙ ap (λ b. (b || has x zs) || (has z ys || share zs ys)) (nat_eq-sym z x)
 
 rest_of_it : (h s t u : Bool) → (h || ((t || s) || u)) ≡ ((h || s) || (t || u))
-rest_of_it true s t u = refl
-rest_of_it false true true u = refl
-rest_of_it false true false u = refl
-rest_of_it false false true u = refl
-rest_of_it false false false u = refl
+rest_of_it h s t u = search rules
 
 index-set : (m : List Bool) (i n : ℕ) → i < length m → slice_index_or (slice_set m i true) n false
     ≡ ((n == i) || slice_index_or m n false)

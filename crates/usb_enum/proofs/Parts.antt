@@ -11,12 +11,12 @@ use Rattle.usb_transaction.specs.{Target}
 use Rattle.usb_address.specs.{KeepsAddresses}
 use Rattle.usb_pipe.specs.{PipeFault, control_bound}
 use Rattle.usb_hub.specs.{HubPort, GivesAddress, TextAsked, Queried, Commanded, AddressAsked}
-use Rattle.usb_hub.specs.{ConfigurationAsked}
+use Rattle.usb_hub.specs.{ConfigurationAsked, HasText}
 use Rattle.usb_enum.specs.{AtPort, read_bound, OnlyAsks, OnlySets, OnlyTells, Ending, KeepingSteps}
 use Rattle.usb_enum.proofs.courses.Counts.{read_went, went_again, went_times}
 use Rattle.usb_enum.proofs.devices.Frames.{asks_none, asks_then, at_addressed, at_port_none}
 use Rattle.usb_enum.proofs.devices.Frames.{at_port_then, configuration_sets, sets_asked, sets_then}
-use Rattle.usb_enum.proofs.devices.Frames.{tells_none, tells_then, text_asks}
+use Rattle.usb_enum.proofs.devices.Frames.{tells_none, tells_then, answer_asks}
 use Rattle.usb_enum.proofs.refusals.Refusals.{handed_match}
 
 -- What is kept where nothing went, and from one part to the next
@@ -113,7 +113,8 @@ pub steps_asked : (given : Spec → Option (List ℕ)) {t : Target} {request : S
 steps_asked given {t} {request} {wanted} bytes {outcome} {old} {new} wide went asked what keeps =
     record {
       went = read_went t.max bytes old new wide went;
-      keeps = text_asks given t request wanted outcome old new asked what keeps;
+      keeps = answer_asks given (λ s b. HasText (given s.spec) t wanted s b.items) t request outcome
+          outcome old new asked what keeps;
     }
 
 -- SET_ADDRESS, at address 0

@@ -1,10 +1,10 @@
 -- That the host gets on by a look at a port.
-use Rattle.std.proofs.Common.{◌≡◌, ◌∙◌, refl, sym, ap, subst, arith, inl, inr, true, false, Bool, ℕ}
-use Rattle.std.proofs.Common.{◌+◌, ◌≤◌, ◌⊎◌, List, Some, Ok, Err, Result}
-use Rattle.std.specs.BTreeMap.{insert_entry, is_at}
+use Rattle.std.proofs.Common.{◌≡◌, ◌∙◌, refl, ap, arith, inl, inr, true, false, Bool, ℕ}
+use Rattle.std.proofs.Common.{◌+◌, ◌≤◌, ◌⊎◌, List, Ok, Err, Result}
+use Rattle.std.specs.BTreeMap.{insert_entry}
 use Rattle.std.specs.Prelude.{OnOk}
-use Rattle.std.specs.Map.{lookup}
 use Rattle.usb_port.specs.{path_cmp}
+use Rattle.usb_world.proofs.Interface.{way_itself}
 use Rattle.usb_resources.specs.{IsFull}
 use Rattle.usb_enum.specs.declared.cause.Cause.TheVariants as cause
 use Rattle.usb_enum.specs.{EnumFault, ParentLost, Bus, Memory, Finding}
@@ -13,8 +13,9 @@ use Rattle.usb_table.specs.{Entries, Replaced, without, is_waiting}
 use Rattle.usb_host.specs.{HostState, work, HostFault, Waits, Gained, ProgressOrLost, EndsAs}
 use Rattle.usb_host.specs.{EntersOne, HostRuns, OnlyBusSteps, AddsNoWork, HostProgress, waiting}
 use Rattle.usb_host.proofs.StepSums.{advances_then}
-use Rattle.usb_host.proofs.entries.WaitingDevices.{waiting-without, waiting-without_one}
-use Rattle.usb_host.proofs.entries.WaitingDevices.{waiting-entered, waiting-entered_other}
+use Rattle.usb_host.proofs.entries.KindCounts.{counted-entered, counted-without}
+use Rattle.usb_host.proofs.entries.KindCounts.{counted-without_one}
+use Rattle.usb_host.proofs.entries.WaitingDevices.{waiting-entered_other}
 
 waiting_is : (f : Finding) → is_waiting f ≡ true → f ≡ Refused cause.NoAddress
 waiting_is (Device device) h = absurd (cc h)
@@ -29,25 +30,25 @@ waiting_is (Refused cause.BadHub) h = absurd (cc h)
 waiting_is (Refused cause.Lost) h = absurd (cc h)
 waiting_is (Refused cause.NoAddress) h = refl
 
-other_by : (path : List ℕ) (c d : HostState) (e : EntersOne path c d) → (IsFull c.addresses → ⊥)
-    → (b : Bool) → is_waiting e.finding ≡ b → waiting d.entries ≤ waiting c.entries
-other_by path c d e free true h = absurd (free (e.waits (waiting_is e.finding h)))
-other_by path c d e free false h =
-    let left = ap waiting e.entries in
-    omega (arith, left, waiting-entered_other path e.finding c.entries h)
+other_by : (path : List ℕ) (c : HostState) {d : HostState} (e : EntersOne path c d)
+    → (IsFull c.addresses → ⊥) → (b : Bool) → is_waiting e.finding ≡ b
+    → waiting d.entries ≤ waiting c.entries
+other_by path c e free true h = absurd (free (e.waits (waiting_is e.finding h)))
+other_by path c e free false h =
+    omega (arith, ap waiting e.entries, waiting-entered_other path e.finding c.entries h)
 
 -- where an address is free, what is entered does not wait
 pub enters_other : (path : List ℕ) (c d : HostState) → EntersOne path c d → (IsFull c.addresses → ⊥)
     → waiting d.entries ≤ waiting c.entries
-enters_other path c d e free = other_by path c d e free (is_waiting e.finding) refl
+enters_other path c d e free = other_by path c e free (is_waiting e.finding) refl
 
 pub enters_few : (path : List ℕ) (c d : HostState) → EntersOne path c d
     → waiting d.entries ≤ waiting c.entries + 1
 enters_few path c d e =
-    let left = ap waiting e.entries in
-    omega (arith, left, waiting-entered path e.finding c.entries)
+    omega (arith, ap waiting e.entries, counted-entered is_waiting path e.finding c.entries)
 
-module _ (path : List ℕ) (m n : ℕ) (a b c d : HostState) (g : HostRuns m a b) (r : OnlyBusSteps a b)
+module _ (path : List ℕ) (m : ℕ) {n : ℕ} (a b : HostState) {c d : HostState} (g : HostRuns m a b)
+    (r : OnlyBusSteps a b)
     (others : c ≡ record b { entries = c.entries; pipes = c.pipes; addresses = c.addresses })
     (rest : c.entries ≡ without path b.entries) (h : HostRuns n c d) where
   world_is : c.world ≡ b.world
@@ -63,13 +64,7 @@ module _ (path : List ℕ) (m n : ℕ) (a b c d : HostState) (g : HostRuns m a b
       ap (λ (x : HostState). x.world.attempts) others in
       omega (
         arith,
-        gained,
-        few,
-        same,
-        left,
-        done,
-        made,
-        waiting-without path b.entries,
+        counted-without is_waiting path b.entries,
         h.went.spends.served,
         h.went.spends.later,
       )
@@ -78,21 +73,14 @@ module _ (path : List ℕ) (m n : ℕ) (a b c d : HostState) (g : HostRuns m a b
   looks_waits w fewer =
       let same : waiting b.entries ≡ waiting a.entries =
       ap (λ (x : HostState). waiting x.entries) r in
-      let found = subst (λ (es : Entries). lookup (is_at (path_cmp path)) es
-      ≡ Some (Refused cause.NoAddress)) (sym (ap (λ (x : HostState). x.entries) r)) w.entry in
+      let found = rw (← (ap (λ (x : HostState). x.entries) r)) at w.entry in
       let left : waiting c.entries ≡ waiting (without path b.entries) = ap waiting rest in
       let done : work c.world ≡ work b.world = ap work world_is in
       let made : c.world.attempts ≡ b.world.attempts =
       ap (λ (x : HostState). x.world.attempts) others in
-      let gone = waiting-without_one path (Refused cause.NoAddress) b.entries refl found in
       omega (
         arith,
-        fewer,
-        same,
-        left,
-        done,
-        made,
-        gone,
+        counted-without_one is_waiting path path _ b.entries (way_itself path) refl found,
         h.went.spends.served,
         h.went.spends.later,
         g.went.spends.served,
@@ -106,8 +94,7 @@ module _ (path : List ℕ) (m n : ℕ) (a b c d : HostState) (g : HostRuns m a b
       → HostProgress a d
   looks gains freed few other (inl due) = looks_due (gains due) few
   looks gains freed few other (inr w) =
-      looks_waits w (other (λ full. w.free (subst (λ (x : HostState). IsFull x.addresses) r
-      (freed full))))
+      looks_waits w (other (λ full. w.free (rw r at (freed full))))
 
 pub served_any : (result : Result (Unit {0}) EnumFault) (a d : HostState) → HostProgress a d
     → ProgressOrLost result a d
@@ -132,9 +119,9 @@ handled (Ok done) served a b c ends holds s =
 handled (Err fault) served a b c ends holds s = tt
 
 -- what stood at the port and below it is forgotten
-pub without_rests : (path : List ℕ) (a b c : HostState) → OnlyBusSteps a b
-    → c.entries ≡ without path b.entries → c.entries ≡ without path a.entries
-without_rests path a b c r rest = rest ∙ ap (λ (x : HostState). without path x.entries) r
+pub without_rests : (path : List ℕ) (a : HostState) {b : HostState} (c : HostState)
+    → OnlyBusSteps a b → c.entries ≡ without path b.entries → c.entries ≡ without path a.entries
+without_rests path a c r rest = rest ∙ ap (λ (x : HostState). without path x.entries) r
 
 pub renews : (path : List ℕ) (a b c d : HostState) → OnlyBusSteps a b
     → c.entries ≡ without path b.entries → EntersOne path c d
@@ -142,5 +129,5 @@ pub renews : (path : List ℕ) (a b c d : HostState) → OnlyBusSteps a b
 renews path a b c d r rest one = inr (
   one.finding,
   one.entries ∙ ap (λ (es : Entries). insert_entry path_cmp es path one.finding)
-      (without_rests path a b c r rest),
+      (without_rests path a c r rest),
 )

@@ -1,29 +1,28 @@
 -- What the poll of a hub leaves, and what follows it.
-use Rattle.std.proofs.Common.{◌≡◌, ◌+◌, ◌≤◌, arith, refl, sym, subst, ℕ, List, Option, None, Some}
+use Rattle.std.proofs.Common.{◌≡◌, ◌+◌, ◌≤◌, arith, refl, ℕ, List, Option, None, Some}
 use Rattle.std.proofs.Common.{Result, Ok, Err}
 use Rattle.std.specs.Prelude.{IsErr, IsSome, ◌≢◌}
 use Rattle.arrayvec.specs.ArrayVec.{ArrayVec}
 use Rattle.usb_pipe.specs.{PipeFault}
 use Rattle.usb_hub.specs.{NoHubFailed}
-use Rattle.usb_table.specs.{Entries, KeepsPolled, finding_at, hub_facts_at, GoesThrough, pipes_at}
+use Rattle.usb_table.specs.{KeepsPolled, finding_at, hub_facts_at, GoesThrough, pipes_at}
 use Rattle.usb_table.specs.{PipesPolled}
-use Rattle.usb_host.specs.{Agrees, drop_bound, hub_poll_bound, told_bound, HubPaid, poll_most}
-use Rattle.usb_host.specs.{HostState, StaysOwned, HostRuns, HostSteps, DropsOne, ServesHub}
-use Rattle.usb_host.specs.{ServesTold, first_byte, HostInvariant, table_in, HostFault, Round, Quiet}
-use Rattle.usb_host.specs.{Worked}
+use Rattle.usb_host.specs.{Agrees, hub_poll_bound, told_bound, HubPaid, HostState, StaysOwned}
+use Rattle.usb_host.specs.{HostRuns, HostSteps, DropsOne, ServesHub, ServesTold, first_byte}
+use Rattle.usb_host.specs.{HostInvariant, table_in, HostFault, Round, Quiet, Worked, claims}
 use Rattle.usb_host.proofs.OwnedPorts.{dropped_hub_owned}
 use Rattle.usb_host.proofs.payments.HubPayments.{drop_paid_fails, drop_pays, poll_fails, poll_none}
 use Rattle.usb_host.proofs.payments.HubPayments.{tells_shows, told_fails, told_pays}
 use Rattle.usb_host.proofs.services.HubServices.{hub_tells, polls_lost, polls_quiet, polls_told}
 use Rattle.usb_host.proofs.services.HubServices.{told_of_ports}
 use Rattle.usb_host.proofs.StepSums.{host_goes_then, goes_wider}
-use Rattle.usb_host.proofs.devices.Owners.{single_kept, single_then, stays_kept}
+use Rattle.usb_host.proofs.devices.Owners.{single_then, stays_kept}
 use Rattle.usb_host.proofs.RoundParts.{hub_fails, hub_gone, hub_listed, hub_quiet, hub_told}
 use Rattle.usb_host.proofs.RoundParts.{part-fails, polled_hub_not_failed}
 use Rattle.usb_host.proofs.payments.Payments.{is_err-if_ok, pays_where}
 use Rattle.usb_host.proofs.knowledge.Soundness.{sound_kept}
 
-module _ (hub : List ℕ) (a b : HostState) (agrees : Agrees a.entries a.addresses)
+module _ {hub : List ℕ} (a b : HostState) (agrees : Agrees a.entries a.addresses)
     (same : b.entries ≡ a.entries) (pool : b.addresses ≡ a.addresses)
     (stopped : b.stopped ≡ a.stopped) (went : HostSteps 768 a b)
     (through : GoesThrough hub (table_in a) (table_in b))
@@ -32,22 +31,24 @@ module _ (hub : List ℕ) (a b : HostState) (agrees : Agrees a.entries a.address
   poll_goes = record { went = went; going = stopped }
 
   -- the bus made no more steps
-  pub poll_cut : (answer : Result (Option (ArrayVec ℕ)) PipeFault)
+  pub poll_cut : {answer : Result (Option (ArrayVec ℕ)) PipeFault}
       → KeepsPolled hub (table_in a) a.world answer (table_in b) b.world → (fault : HostFault)
       → ServesHub hub a (Err fault) b
-  poll_cut answer keeps fault = record {
-    keeps = hub_fails (Err fault) a b refl hub (record {
-      goes = goes_wider 768 hub_poll_bound a b poll_goes (omega arith);
-      owned = single_kept a b same keeps.levels.worlds.addresses;
+  poll_cut keeps fault = record {
+    keeps = hub_fails refl (record {
+      goes = goes_wider poll_goes (omega arith);
+      owned = record {
+        single = λ o. (keeps.levels.worlds.addresses.kept (claims a.entries) o).single;
+      };
       sound = tt;
     });
     polls = tt;
     pays = poll_fails hub a b agrees same pool went (Err fault) refl;
   }
 
-  module _ (got : Option (ArrayVec ℕ))
-      (asks : PipesPolled (pipes_at hub (table_in a)) a.world (Ok got)
-      (pipes_at hub (table_in b)) b.world)
+  module _ {got : Option (ArrayVec ℕ)}
+      (asks : PipesPolled (pipes_at hub (table_in a)) a.world (Ok got) (pipes_at hub (table_in b))
+      b.world)
       (keeps : KeepsPolled hub (table_in a) a.world (Ok got) (table_in b) b.world) where
     told_owned : StaysOwned a b
     told_owned = stays_kept a b same went.spends.roots keeps.levels.worlds.addresses
@@ -55,58 +56,57 @@ module _ (hub : List ℕ) (a b : HostState) (agrees : Agrees a.entries a.address
     -- it told nothing
     pub poll_quiet : got ≡ None → ServesHub hub a (Ok Quiet) b
     poll_quiet none = record {
-      keeps = hub_quiet hub (Ok got) a b agrees same pool stopped went keeps through asks
+      keeps = hub_quiet a b agrees same pool stopped went keeps through asks
           (pipes_at hub (table_in a)) (pipes_at hub (table_in b)) refl through.fits
-          (subst (λ o. PipesPolled (pipes_at hub (table_in a)) a.world (Ok o)
-          (pipes_at hub (table_in b)) b.world) none asks);
-      polls = polls_quiet hub a b same pool stopped went listed got asks keeps none;
-      pays = poll_none hub a b agrees same pool went got keeps
-          (hub_tells hub a b same pool stopped went listed got asks keeps);
+          (rw none at asks);
+      polls = polls_quiet hub a b same pool stopped went listed asks keeps none;
+      pays = poll_none hub a b agrees same pool went keeps
+          (hub_tells hub a b same pool stopped went listed asks keeps);
     }
 
     -- it told of changes, which were served
-    module _ (packet : ArrayVec ℕ) (byte : ℕ) (is : got ≡ Some packet)
-        (read : byte ≡ first_byte packet.items) (still : b.world.fault ≡ None) (d : HostState) where
+    module _ {packet : ArrayVec ℕ} {byte : ℕ} (is : got ≡ Some packet)
+        (read : byte ≡ first_byte packet.items) (still : b.world.fault ≡ None)
+        (d : HostState) where
       of_ports : HostInvariant a → byte ≢ 1
       of_ports s =
-          told_of_ports hub a b same pool stopped went listed got asks keeps packet byte is read
+          told_of_ports hub a b same pool stopped went listed asks keeps packet is read
           still s
 
       pub poll_served : a.world.attempts + 1 ≤ b.world.attempts → ServesTold hub byte b (Ok tt) d
           → ServesHub hub a (Ok Worked) d
       poll_served more y = record {
-        keeps = hub_told hub (Ok got) a b agrees same pool stopped went keeps through asks d refl
-            y.goes y.owned (λ s. (y.ports (of_ports s)).part.sound);
-        polls = polls_told hub a b same pool stopped went listed got asks keeps packet byte
-            told_bound d is read y.goes more y.holds
+        keeps = hub_told a b agrees same pool stopped went keeps through asks d refl y.goes y.owned
+            (λ s. (y.ports (of_ports s)).part.sound);
+        polls = polls_told hub a b same pool stopped went listed asks keeps packet byte d is read
+            y.goes more y.holds
             (λ s. (y.ports (of_ports s)).served
             ((sound_kept 768 hub _ a b agrees same went keeps.levels (λ _. refl)).sound s));
-        pays = pays_where poll_most (HubPaid hub) a (Ok Worked) d
+        pays = pays_where (HubPaid hub)
             (λ s. told_pays hub a b agrees same pool went d told_bound y.goes.went byte (Ok got)
-            refl keeps tt (y.ports (of_ports s)).pays
+            refl keeps (y.ports (of_ports s)).pays
             (tells_shows hub a b agrees same pool stopped went listed got asks keeps packet byte is
             read));
       }
 
       -- and could not be
-      pub poll_unserved : (fault : HostFault) (other : Result Round HostFault) → IsErr other
+      pub poll_unserved : {fault : HostFault} (other : Result Round HostFault) → IsErr other
           → ServesTold hub byte b (Err fault) d → ServesHub hub a other d
-      poll_unserved fault other e y = record {
-        keeps = hub_fails other a d e hub (part-fails {A = Unit {0}} hub_poll_bound hub_poll_bound
-            a d fault other (record {
-              goes = host_goes_then hub_poll_bound 768 told_bound a b d poll_goes y.goes
-                  (omega arith);
-              owned = single_then a b d told_owned y.owned;
+      poll_unserved {fault = fault} other e y = record {
+        keeps = hub_fails e (part-fails {A = Unit {0}} {k = hub_poll_bound} {m = hub_poll_bound}
+            {a = a} {b = d} {fault = fault} other (record {
+              goes = host_goes_then poll_goes y.goes (omega arith);
+              owned = single_then told_owned y.owned;
               sound = tt;
             }) e (omega arith));
         polls = is_err-if_ok other _ e;
-        pays = pays_where poll_most (HubPaid hub) a other d
+        pays = pays_where (HubPaid hub)
             (λ s. told_fails hub a b agrees same pool went d told_bound y.goes.went byte (Ok got)
-            refl keeps (Err fault) (y.ports (of_ports s)).pays other e);
+            refl keeps (y.ports (of_ports s)).pays other e);
       }
 
   -- it did not answer
-  module _ (why : PipeFault) (asks : PipesPolled (pipes_at hub (table_in a)) a.world (Err why)
+  module _ {why : PipeFault} (asks : PipesPolled (pipes_at hub (table_in a)) a.world (Err why)
       (pipes_at hub (table_in b)) b.world)
       (keeps : KeepsPolled hub (table_in a) a.world (Err why) (table_in b) b.world)
       (d : HostState) where
@@ -119,26 +119,23 @@ module _ (hub : List ℕ) (a b : HostState) (agrees : Agrees a.entries a.address
     pub poll_lost : a.world.attempts + 1 ≤ b.world.attempts → DropsOne hub b (Ok tt) d
         → ServesHub hub a (Ok Worked) d
     poll_lost more y = record {
-      keeps = hub_gone hub (Err why) a b agrees same pool stopped went keeps through asks d
-          not_served listed y.goes y.owned y.sound;
-      polls = polls_lost hub a b same pool stopped went listed why asks keeps drop_bound d
-          not_served y.goes more y.holds y.owned.lost;
-      pays = drop_pays hub a b agrees same pool went d y.goes.went (Err why) keeps listed y.sound
-          y.hubs;
+      keeps = hub_gone a b agrees same pool stopped went keeps through asks d not_served listed
+          y.goes y.owned y.sound;
+      polls = polls_lost hub a b same pool stopped went listed why asks keeps d not_served y.goes
+          more y.holds y.owned.lost;
+      pays = drop_pays hub a b agrees same pool went d y.goes.went keeps listed y.sound y.hubs;
     }
 
-    pub poll_undropped : (fault : HostFault) (other : Result Round HostFault) → IsErr other
+    pub poll_undropped : {fault : HostFault} (other : Result Round HostFault) → IsErr other
         → DropsOne hub b (Err fault) d → ServesHub hub a other d
-    poll_undropped fault other e y =
-        let there = subst (λ (es : Entries). IsSome (finding_at hub es)) (sym same)
-        (hub_listed (finding_at hub a.entries) listed) in
+    poll_undropped {fault = fault} other e y =
+        let there = rw (← same) at (hub_listed (finding_at hub a.entries) listed) in
         let polled = stays_kept a b same went.spends.roots keeps.levels.worlds.addresses in
         record {
-          keeps = hub_fails other a d e hub (part-fails {A = Unit {0}} hub_poll_bound
-              hub_poll_bound a d fault other (record {
-                goes = host_goes_then hub_poll_bound 768 drop_bound a b d poll_goes y.goes
-                    (omega arith);
-                owned = dropped_hub_owned hub a b (Err fault) d there polled y.owned;
+          keeps = hub_fails e (part-fails {A = Unit {0}} {k = hub_poll_bound} {m = hub_poll_bound}
+              {a = a} {b = d} {fault = fault} other (record {
+                goes = host_goes_then poll_goes y.goes (omega arith);
+                owned = dropped_hub_owned hub a d there polled y.owned;
                 sound = tt;
               }) e (omega arith));
           polls = is_err-if_ok other _ e;

@@ -6,8 +6,8 @@ use Rattle.std.specs.BTreeMap.{insert_entry}
 use Rattle.usb_port.specs.{path_cmp, parent_of, port_on_hub, IsPath}
 use Rattle.usb_request.specs.{PORT_ENABLE}
 use Rattle.usb_tree.specs.{is_way}
-use Rattle.usb_world.specs.{World, roots_of, after_taking}
-use Rattle.usb_world.proofs.Interface.{way_itself, way_parent}
+use Rattle.usb_world.specs.{World, roots_of}
+use Rattle.usb_world.proofs.Interface.{way_itself}
 use Rattle.usb_resources.specs.{Addresses}
 use Rattle.usb_address.specs.{AddressMap, map_without, MapHolds, MapHoldsExcept, WhileBusWorks}
 use Rattle.usb_address.specs.{KeepsAddresses}
@@ -28,7 +28,7 @@ use Rattle.usb_host.proofs.devices.Owners.{till_as, but_all, but_kept, but_above
 use Rattle.usb_host.proofs.devices.Owners.{bare_none, forgotten, refused}
 use Rattle.usb_host.proofs.PortLocations.{stands_at-claim, nowhere_reached}
 use Rattle.usb_host.proofs.entries.Roots.{rooted_kept, rooted_dropped, rooted_came, rooted_stands}
-use Rattle.usb_host.proofs.entries.Roots.{root_parent, root_way, on_failed}
+use Rattle.usb_host.proofs.entries.Roots.{root_way, on_failed}
 
 -- A call that failed
 
@@ -39,64 +39,57 @@ match_err (Err x) P Q e q = q
 
 -- Only the world goes on
 
-pub owned_rests : (a b : HostState) → OnlyBusSteps a b → KeepsAddresses a.world b.world → IsOwned a
-    → IsOwned b
-owned_rests a b r k o = subst (λ (es : Entries). WhileBusWorks (MapHolds (claims es)) b.world)
-    (sym (ap (λ (h : HostState). h.entries) r)) (k.kept (claims a.entries) o)
+pub owned_rests : (a : HostState) {b : HostState} → OnlyBusSteps a b
+    → KeepsAddresses a.world b.world → IsOwned a → IsOwned b
+owned_rests a {b = b} r k o = rw (ap (λ (h : HostState). h.entries) r) (k.kept (claims a.entries) o)
 
 pub but_rests : (path : List ℕ) (a b : HostState) → OnlyBusSteps a b
     → KeepsAddresses a.world b.world → WhileBusWorks (MapHoldsExcept path (claims a.entries))
     a.world → WhileBusWorks (MapHoldsExcept path (claims b.entries)) b.world
-but_rests path a b r k o =
-    subst (λ (es : Entries). WhileBusWorks (MapHoldsExcept path (claims es)) b.world)
-    (sym (ap (λ (h : HostState). h.entries) r))
-    (but_kept path (claims a.entries) a.world b.world k o)
+but_rests path a b r k o = rw (ap (λ (h : HostState). h.entries) r) (but_kept k o)
 
 pub port_owned : (path : List ℕ) (result : Result (Unit {0}) EnumFault) (h : HostState) → IsOwned h
     → PortOwned path result h
 port_owned path (Ok done) h o = o
-port_owned path (Err ParentLost) h o = but_all path (claims h.entries) h.world o
+port_owned path (Err ParentLost) h o = but_all o
 port_owned path (Err (Bus fault)) h o = o.single
 port_owned path (Err Memory) h o = o.single
 
-pub rests_keeps_port : (path : List ℕ) (a : HostState) (result : Result (Unit {0}) EnumFault)
+pub rests_keeps_port : (path : List ℕ) (a : HostState) {result : Result (Unit {0}) EnumFault}
     (b : HostState) → OnlyBusSteps a b → roots_of b.world ≡ roots_of a.world
     → KeepsAddresses a.world b.world → KeepsPort path a result b
-rests_keeps_port path a result b r roots k = record {
-  ends = λ o. port_owned path result b (owned_rests a b r k o);
+rests_keeps_port path a {result = result} b r roots k = record {
+  ends = λ o. port_owned path result b (owned_rests a r k o);
   rooted = rooted_kept a b (ap (λ (h : HostState). h.entries) r) roots;
 }
 
-pub stays_keeps_port : (path : List ℕ) (a b : HostState) → StaysOwned a b
+pub stays_keeps_port : (path : List ℕ) (a : HostState) {b : HostState} → StaysOwned a b
     → KeepsPort path a (Ok tt) b
-stays_keeps_port path a b s = record { ends = s.stays; rooted = s.rooted }
+stays_keeps_port path a s = record { ends = s.stays; rooted = s.rooted }
 
 -- another part comes first
-pub port_then : (path : List ℕ) (a b : HostState) (result : Result (Unit {0}) EnumFault)
-    (c : HostState) → StaysOwned a b → KeepsPort path b result c → KeepsPort path a result c
-port_then path a b result c s k = record {
-  ends = λ o. k.ends (s.stays o);
-  rooted = λ r. k.rooted (s.rooted r);
-}
+pub port_then : {path : List ℕ} {a b : HostState} {result : Result (Unit {0}) EnumFault}
+    {c : HostState} → StaysOwned a b → KeepsPort path b result c → KeepsPort path a result c
+port_then s k = record { ends = λ o. k.ends (s.stays o); rooted = λ r. k.rooted (s.rooted r) }
 
 pub stays_rests : (a b : HostState) → OnlyBusSteps a b → roots_of b.world ≡ roots_of a.world
     → KeepsAddresses a.world b.world → StaysOwned a b
 stays_rests a b r roots k = record {
-  stays = owned_rests a b r k;
+  stays = owned_rests a r k;
   rooted = rooted_kept a b (ap (λ (h : HostState). h.entries) r) roots;
 }
 
 -- A port is cleared, and what was there is forgotten
 
-pub bares_after : (port : HubPort) (a b c : World) → KeepsAddresses a b → Isolates port b c
+pub bares_after : {port : HubPort} {a b c : World} → KeepsAddresses a b → Isolates port b c
     → Isolates port a c
-bares_after port a b c k x = record { bares = λ f p at o. x.bares f p at (k.kept f o) }
+bares_after k x = record { bares = λ f p at o. x.bares f p at (k.kept f o) }
 
-pub stays_bare : (path : List ℕ) (port : KnownPort) (a b c : HostState) → StandsAt path port a
+pub stays_bare : (path : List ℕ) {port : KnownPort} (a b c : HostState) → StandsAt path port a
     → OnlyBusSteps a b → roots_of b.world ≡ roots_of a.world → Isolates port.port a.world b.world
     → c ≡ record b { entries = c.entries; pipes = c.pipes; addresses = c.addresses }
     → c.entries ≡ without path b.entries → StaysOwned a c
-stays_bare path port a b c s r roots bares others rest = record {
+stays_bare path a b c s r roots bares others rest = record {
   stays = stays;
   rooted = rooted_dropped path a c (rest ∙ ap (λ (h : HostState). without path h.entries) r)
       (ap (λ (h : HostState). roots_of h.world) others ∙ roots);
@@ -105,34 +98,31 @@ stays_bare path port a b c s r roots bares others rest = record {
     stays : IsOwned a → IsOwned c
     stays o =
         let bare : WhileBusWorks (MapHolds (map_without (claims a.entries) path)) b.world =
-        bares.bares (claims a.entries) path (stands_at-claim path port a s) o in
-        forgotten path b c others rest (subst
-        (λ (es : Entries). WhileBusWorks (MapHolds (map_without (claims es) path)) b.world)
-        (sym (ap (λ (h : HostState). h.entries) r)) bare)
+        bares.bares (claims a.entries) path (stands_at-claim s) o in
+        forgotten path b c others rest (rw (ap (λ (h : HostState). h.entries) r) bare)
 
 -- What an enumeration leaves, and what is entered
 
-enumerated_owned : (path : List ℕ) (port : KnownPort) (h : HostState) (pool : Addresses)
-    (result : Result Finding EnumFault) (w : World)
+enumerated_owned : {path : List ℕ} {port : KnownPort} (h : HostState) {pool : Addresses}
+    {result : Result Finding EnumFault} {w : World}
     → KeepsEnumerated port.port pool h.world result w → StandsAt path port h
     → has_at path h.entries ≡ false → Accounts h.entries pool → IsOwned h
     → EndsOwned (claims h.entries) path result w
-enumerated_owned path port h pool result w k s away accounts o =
-    k.ends (claims h.entries) path (stands_at-claim path port h s) (claims_free path h.entries away)
-    (claims_taken h.entries pool accounts) o
+enumerated_owned {path = path} h k s away accounts o =
+    k.ends (claims h.entries) path (stands_at-claim s) (claims_free path h.entries away)
+    (claims_taken accounts) o
 
 found_single : (f : AddressMap) (p : List ℕ) (finding : Finding) (w : World)
     → EndsOwned f p (Ok finding) w → w.shared ≡ false
 found_single f p (Device device) w ends = ends.single
 found_single f p (Refused cause) w ends = ends.single
 
-found_entered : (path : List ℕ) (finding : Finding) (es new : Entries) (w : World)
+found_entered : (path : List ℕ) (finding : Finding) (es : Entries) {new : Entries} (w : World)
     → has_at path es ≡ false → new ≡ insert_entry path_cmp es path finding
     → EndsOwned (claims es) path (Ok finding) w → WhileBusWorks (MapHolds (claims new)) w
-found_entered path (Device device) es new w away is ends =
-    till_as (after_taking (claims es) path device.address) (claims new) w
-    (λ x. sym (ap (λ (l : Entries). claims l x) is ∙ claims-device path device es x)) ends
-found_entered path (Refused cause) es new w away is ends = refused path cause es new w away is ends
+found_entered path (Device device) es w away is ends =
+    till_as (λ x. sym (ap (λ (l : Entries). claims l x) is ∙ claims-device path device es x)) ends
+found_entered path (Refused cause) es w away is ends = refused path cause es away is ends
 
 port_owned_none : (path : List ℕ) (fault : EnumFault) (h : HostState)
     → EndsOwned (claims h.entries) path (Err fault) h.world → PortOwned path (Err fault) h
@@ -140,41 +130,40 @@ port_owned_none path ParentLost h ends = ends
 port_owned_none path (Bus fault) h ends = ends
 port_owned_none path Memory h ends = ends
 
-module _ (path : List ℕ) (port : KnownPort) (a b : HostState) where
-  pub found_ends : (finding : Finding) (pool : Addresses)
+module _ {path : List ℕ} {port : KnownPort} {a : HostState} (b : HostState) where
+  pub found_ends : (finding : Finding) {pool : Addresses}
       → KeepsEnumerated port.port pool a.world (Ok finding) b.world → StandsAt path port a
       → has_at path a.entries ≡ false → Accounts a.entries pool
       → b.entries ≡ insert_entry path_cmp a.entries path finding
       → roots_of b.world ≡ roots_of a.world → KeepsPort path a (Ok tt) b
-  found_ends finding pool k s away accounts is roots = record {
-    ends = λ o. found_entered path finding a.entries b.entries b.world away is
-        (enumerated_owned path port a pool (Ok finding) b.world k s away accounts o);
+  found_ends finding k s away accounts is roots = record {
+    ends = λ o. found_entered path finding a.entries b.world away is
+        (enumerated_owned a k s away accounts o);
     rooted = λ r. rooted_came path finding a b is roots (rooted_stands path port a s r) r;
   }
 
   -- for what is found there is no memory
-  pub found_lost : (finding : Finding) (pool : Addresses)
+  pub found_lost : (finding : Finding) {pool : Addresses}
       → KeepsEnumerated port.port pool a.world (Ok finding) b.world → StandsAt path port a
-      → has_at path a.entries ≡ false → Accounts a.entries pool
-      → b.entries ≡ a.entries → roots_of b.world ≡ roots_of a.world
-      → KeepsPort path a (Err Memory) b
-  found_lost finding pool k s away accounts same roots = record {
+      → has_at path a.entries ≡ false → Accounts a.entries pool → b.entries ≡ a.entries
+      → roots_of b.world ≡ roots_of a.world → KeepsPort path a (Err Memory) b
+  found_lost finding k s away accounts same roots = record {
     ends = λ o. found_single (claims a.entries) path finding b.world
-        (enumerated_owned path port a pool (Ok finding) b.world k s away accounts o);
+        (enumerated_owned a k s away accounts o);
     rooted = rooted_kept a b same roots;
   }
 
-  pub found_fails : (fault : EnumFault) (pool : Addresses)
+  pub found_fails : (fault : EnumFault) {pool : Addresses}
       → KeepsEnumerated port.port pool a.world (Err fault) b.world → StandsAt path port a
-      → has_at path a.entries ≡ false → Accounts a.entries pool
-      → b.entries ≡ a.entries → roots_of b.world ≡ roots_of a.world → KeepsPort path a (Err fault) b
-  found_fails fault pool k s away accounts same roots =
+      → has_at path a.entries ≡ false → Accounts a.entries pool → b.entries ≡ a.entries
+      → roots_of b.world ≡ roots_of a.world → KeepsPort path a (Err fault) b
+  found_fails fault k s away accounts same roots =
       record { ends = ends; rooted = rooted_kept a b same roots }
     where
       ends : IsOwned a → PortOwned path (Err fault) b
       ends o = port_owned_none path fault b
           (subst (λ (es : Entries). EndsOwned (claims es) path (Err fault) b.world) (sym same)
-          (enumerated_owned path port a pool (Err fault) b.world k s away accounts o))
+          (enumerated_owned a k s away accounts o))
 
 -- A port was served; where its hub is lost, that is dropped
 
@@ -184,29 +173,20 @@ pub keeps_owned : (result : Result (Unit {0}) HostFault) (a c : HostState)
 keeps_owned (Ok done) a c f g = record { stays = f; rooted = g }
 keeps_owned (Err fault) a c f g = record { single = f }
 
-pub port_finished : (path : List ℕ) (port : KnownPort) (served : Result (Unit {0}) EnumFault)
-    (a b : HostState) (result : Result (Unit {0}) HostFault) (c : HostState) → StandsAt path port a
-    → roots_of b.world ≡ roots_of a.world
-    → KeepsPort path a served b → FinishesPort path served b result c → KeepsOwned a result c
-port_finished path port served a b result c s roots k f =
+pub port_finished : (path : List ℕ) (port : KnownPort) {served : Result (Unit {0}) EnumFault}
+    (a : HostState) {b : HostState} (result : Result (Unit {0}) HostFault) (c : HostState)
+    → StandsAt path port a → roots_of b.world ≡ roots_of a.world → KeepsPort path a served b
+    → FinishesPort path served b result c → KeepsOwned a result c
+port_finished path port a result c s roots k f =
     keeps_owned result a c (λ o. f.ends (k.ends o))
     (λ r. f.rooted (k.rooted r) (λ lost. subst (λ n. root_of path ≤ n) (sym roots)
     (rooted_stands path port a s r)))
 
-pub hub_dropped : (path hub : List ℕ) (a : HostState) (result : Result (Unit {0}) HostFault)
-    (b : HostState) → parent_of path ≡ Some hub → DropsHub hub a result b
-    → FinishesPort path (Err ParentLost) a result b
-hub_dropped path hub a result b above d = record {
-  ends = λ o. d.ends (but_above hub path (claims a.entries) a.world (way_parent path hub above) o);
-  rooted = λ r at. d.rooted r (subst (λ n. n ≤ roots_of a.world) (root_parent path hub above)
-      (at refl));
-}
-
 -- The way up from a hub
 
-pub none_disabled : (path : List ℕ) (h : HostState) → StandsNowhere path h
+pub none_disabled : {path : List ℕ} {h : HostState} → StandsNowhere path h
     → KeepsDisabled path h (Ok false) h
-none_disabled path h s = record {
+none_disabled {path = path} {h = h} s = record {
   keeps = keeps_none h.world;
   done = λ e. absurd (cc e);
   none = λ e root. record {
@@ -217,69 +197,52 @@ none_disabled path h s = record {
 
 bare_rests : (path : List ℕ) (a b : HostState) → OnlyBusSteps a b
     → WhileBusWorks (MapHolds (map_without (claims a.entries) path)) b.world → IsIsolated path b
-bare_rests path a b r t = subst (λ (es : Entries). WhileBusWorks
-    (MapHolds (map_without (claims es) path)) b.world) (sym (ap (λ (h : HostState). h.entries) r))
-    t
+bare_rests path a b r t = rw (ap (λ (h : HostState). h.entries) r) t
 
 port_bared : (path : List ℕ) (port : KnownPort) (a b : HostState) → StandsAt path port a
     → OnlyBusSteps a b → Isolates port.port a.world b.world → BaresAbove path path a b
 port_bared path port a b s r bares = record {
   on = way_itself path;
-  bares =
-      λ o. bare_rests path a b r (bare_port port.port path (claims a.entries) a.world b.world bares
-      (stands_at-claim path port a s) o);
+  bares = λ o. bare_rests path a b r (bare_port port.port path bares (stands_at-claim s) o);
 }
 
-pub cleared_enable_disabled : (path : List ℕ) (port : KnownPort) (a b : HostState)
+pub cleared_enable_disabled : {path : List ℕ} {port : KnownPort} (a b : HostState)
     → StandsAt path port a → OnlyBusSteps a b
     → KeepsCleared port.port PORT_ENABLE a.world (Ok tt) b.world → KeepsDisabled path a (Ok true) b
-cleared_enable_disabled path port a b s r k = record {
+cleared_enable_disabled {path = path} {port = port} a b s r k = record {
   keeps = k.keeps;
   done = λ e. port_bared path port a b s r (k.bare refl refl);
   none = λ e root. absurd (cc e);
 }
 
 -- a root port is a register, and never fails
-pub root_done : (path : List ℕ) (es : Entries) (port : KnownPort) (feature : ℕ) (old new : World)
+pub root_done : (path : List ℕ) (es : Entries) {port : KnownPort} (feature : ℕ) (old new : World)
     (fault : PipeFault) → (above : Option (List ℕ)) → parent_of path ≡ above → above ≡ None
     → port_below above (port_on_hub path) es ≡ Some port
     → PortCleared port.port feature old (Err fault) new → ⊥
-root_done path es port feature old new fault None above root e clears =
+root_done path es {port = port} feature old new fault None above root e clears =
     let same : root_port (port_on_hub path) ≡ port = cc e in
-    let done = subst (λ (p : KnownPort). PortCleared p.port feature old (Err fault) new) (sym same)
-    clears in
+    let done = rw (← same) at clears in
     absurd (cc done.done)
-root_done path es port feature old new fault (Some hub) above root e clears = absurd (cc root)
+root_done path es feature old new fault (Some hub) above root e clears = absurd (cc root)
 
-pub port_failed : (path : List ℕ) (port : KnownPort) (a b : HostState) (feature : ℕ)
+pub port_failed : {path : List ℕ} {port : KnownPort} (a b : HostState) (feature : ℕ)
     (fault : PipeFault) → StandsAt path port a
     → PortCleared port.port feature a.world (Err fault) b.world → KeepsAddresses a.world b.world
     → KeepsDisabled path a (Ok false) b
-port_failed path port a b feature fault s clears k = record {
+port_failed {path = path} a b feature fault s clears k = record {
   keeps = k;
   done = λ e. absurd (cc e);
-  none = λ e root. absurd (root_done path a.entries port feature a.world b.world fault
-      (parent_of path) refl root s.known clears);
-}
-
-pub not_disabled : (path : List ℕ) (a b : HostState) (fault : HostFault)
-    → KeepsAddresses a.world b.world → KeepsDisabled path a (Err fault) b
-not_disabled path a b fault k = record {
-  keeps = k;
-  done = λ e. absurd (cc e);
-  none = λ e root. absurd (cc e);
+  none = λ e root. absurd (root_done path a.entries feature a.world b.world fault (parent_of path)
+      refl root s.known clears);
 }
 
 -- what was disabled stands above where the way up began
-pub bares_above : (first path : List ℕ) (a b c : HostState) → is_way path first ≡ true
+pub bares_above : (first path : List ℕ) (a b : HostState) {c : HostState} → is_way path first ≡ true
     → OnlyBusSteps a b → KeepsAddresses a.world b.world → BaresAbove path path b c
     → BaresAbove first path a c
-bares_above first path a b c on r k x =
-    record {
-      on = on;
-      bares = λ o. x.bares (but_above path first (claims b.entries) b.world on
-          (but_rests first a b r k o));
-    }
+bares_above first path a b on r k x =
+    record { on = on; bares = λ o. x.bares (but_above path on (but_rests first a b r k o)) }
 
 -- A hub is dropped
 
@@ -287,8 +250,7 @@ pub drop_not_done : (hub : List ℕ) (a : HostState) (result : Result (Unit {0})
     (b : HostState) → IsErr result → KeepsAddresses a.world b.world → DropsHub hub a result b
 drop_not_done hub a result b e k = record {
   lost = on_failed result (HasLost hub a.entries b.entries) e;
-  ends = λ o. match_err result (λ _. IsOwned b) (b.world.shared ≡ false) e
-      (but_kept hub (claims a.entries) a.world b.world k o).single;
+  ends = λ o. match_err result (λ _. IsOwned b) (b.world.shared ≡ false) e (but_kept k o).single;
   rooted = λ r at. on_failed result (IsRooted b) e;
 }
 
@@ -296,15 +258,14 @@ drop_not_done hub a result b e k = record {
 pub drop_ends : (hub lost : List ℕ) (a b c d : HostState) → IsPath lost → OnlyBusSteps a b
     → roots_of b.world ≡ roots_of a.world → BaresAbove hub lost a b
     → c ≡ record b { entries = c.entries; pipes = c.pipes; addresses = c.addresses }
-    → c.entries ≡ without lost b.entries → has_at lost c.entries ≡ false
-    → d.world ≡ c.world → d.entries ≡ insert_entry path_cmp c.entries lost (Refused Lost)
-    → DropsHub hub a (Ok tt) d
+    → c.entries ≡ without lost b.entries → has_at lost c.entries ≡ false → d.world ≡ c.world
+    → d.entries ≡ insert_entry path_cmp c.entries lost (Refused Lost) → DropsHub hub a (Ok tt) d
 drop_ends hub lost a b c d path r roots x others rest away same is = record {
   lost = record {
     path = lost;
     above = x.on;
-    entries = is ∙ ap (λ (es : Entries). insert_entry path_cmp es lost (Refused Lost)) (rest
-        ∙ ap (λ (h : HostState). without lost h.entries) r);
+    entries = is ∙ ap (λ (es : Entries). insert_entry path_cmp es lost (Refused Lost)) (rest ∙ ap
+        (λ (h : HostState). without lost h.entries) r);
   };
   ends = ends;
   rooted = rooted;
@@ -317,20 +278,19 @@ drop_ends hub lost a b c d path r roots x others rest away same is = record {
     rooted q at =
         let here : root_of lost ≤ roots_of a.world =
         subst (λ n. n ≤ roots_of a.world) (root_way lost hub path.0 x.on) at in
-        rooted_came lost (Refused Lost) c d is (ap (λ (w : World). roots_of w) same)
-        (subst (λ n. root_of lost ≤ n) (sym still) here)
+        rooted_came lost (Refused Lost) c d is (ap (λ (w : World). roots_of w) same) (rw still here)
         (rooted_dropped lost a c (rest ∙ ap (λ (h : HostState). without lost h.entries) r) still q)
 
     ends : IsOwnedBut hub a → IsOwned d
-    ends o = subst (WhileBusWorks (MapHolds (claims d.entries))) (sym same)
-        (refused lost Lost c.entries d.entries c.world away is
+    ends o = rw same (refused lost Lost c.entries away is
         (forgotten lost b c others rest (x.bares o)))
 
 -- a hub that is known does not answer
 
-pub dropped_hub_owned : (hub : List ℕ) (a b : HostState) (result : Result (Unit {0}) HostFault)
-    (c : HostState) → IsSome (finding_at hub b.entries) → StaysOwned a b → DropsHub hub b result c
+pub dropped_hub_owned : (hub : List ℕ) (a : HostState) {b : HostState}
+    {result : Result (Unit {0}) HostFault} (c : HostState)
+    → IsSome (finding_at hub b.entries) → StaysOwned a b → DropsHub hub b result c
     → KeepsOwned a result c
-dropped_hub_owned hub a b result c listed s d =
-    keeps_owned result a c (λ o. d.ends (but_all hub (claims b.entries) b.world (s.stays o)))
+dropped_hub_owned hub a {result = result} c listed s d =
+    keeps_owned result a c (λ o. d.ends (but_all {p = hub} (s.stays o)))
     (λ r. d.rooted (s.rooted r) (s.rooted r hub listed))

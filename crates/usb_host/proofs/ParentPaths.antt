@@ -4,16 +4,17 @@ use Rattle.std.proofs.Common.{length, Some}
 use Rattle.usb_port.specs.{parent_of, port_on_hub}
 use Rattle.usb_port.proofs.Interface.{rejoined}
 
-long : (path hub : List ℕ) → parent_of path ≡ Some hub → 2 ≤ length path
+long : (path : List ℕ) {hub : List ℕ} → parent_of path ≡ Some hub → 2 ≤ length path
 unfolding parent_of
-long [] hub is = absurd (cc is)
-long (n ∷ []) hub is = absurd (cc is)
-long (n ∷ m ∷ rest) hub is = omega arith
+long [] is = absurd (cc is)
+long (n ∷ []) is = absurd (cc is)
+long (n ∷ m ∷ rest) is = omega arith
 
 -- a parent is one number shorter
-pub parent_length : (path hub : List ℕ) → parent_of path ≡ Some hub → (length path ≡ length hub + 1)
+pub parent_length : (path : List ℕ) {hub : List ℕ} → parent_of path ≡ Some hub
+    → (length path ≡ length hub + 1)
     × (1 ≤ length hub)
-parent_length path hub is =
-    let e : length path ≡ length hub + 1 = ap length (rejoined path hub is)
-    ∙ length-append hub (port_on_hub path ∷ []) in
-    (e, omega (arith, e, long path hub is))
+parent_length path {hub = hub} is =
+    let e : length path ≡ length hub + 1 = ap length (rejoined path hub is) ∙ length-append hub
+    (port_on_hub path ∷ []) in
+    (e, omega (arith, long path is))

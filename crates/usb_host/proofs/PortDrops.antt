@@ -16,7 +16,7 @@ use Rattle.usb_backlog.proofs.Interface.{all_none, all_then}
 use Rattle.usb_enum.specs.{Lost, ParentLost}
 use Rattle.usb_enum.specs.declared.finding.Finding.TheVariants.{Refused}
 use Rattle.usb_enum.proofs.Interface.{devices_then, went_sound}
-use Rattle.usb_table.specs.{without, hub_facts_at, Table, entered}
+use Rattle.usb_table.specs.{without, Table, entered, is_waiting}
 use Rattle.usb_host.specs.{drop_bound, HostState, Climbs, DisablesOnWay, Forgets, AddsNoWork}
 use Rattle.usb_host.specs.{HostRuns, OnlyBusSteps, waiting, DropsOne, FinishesAt, CausesBut}
 use Rattle.usb_host.specs.{DropsSound, IsDroppable, IsFairTo, table_in, HostFault}
@@ -26,14 +26,17 @@ use Rattle.usb_host.proofs.ParentPaths.{parent_length}
 use Rattle.usb_host.proofs.knowledge.DroppedHubs.{climb_caused, climb_sound, done_caused, if_err}
 use Rattle.usb_host.proofs.knowledge.DroppedHubs.{top_absurd}
 use Rattle.usb_host.proofs.payments.HandlingPayments.{hubs_dropped}
-use Rattle.usb_host.proofs.OwnedPorts.{bares_above, drop_ends, drop_not_done, hub_dropped}
-use Rattle.usb_host.proofs.OwnedPorts.{match_err}
+use Rattle.usb_host.proofs.OwnedPorts.{bares_above, drop_ends, drop_not_done, match_err}
 use Rattle.usb_host.proofs.entries.HubCounts.{hubs-dropped}
 use Rattle.usb_host.proofs.StepSums.{goes_forgotten, host_goes_none, host_goes_then}
 use Rattle.usb_host.proofs.devices.Plugs.{plugs_none}
 use Rattle.usb_host.proofs.services.ServedWork.{rests_holds}
 use Rattle.usb_host.proofs.services.Services.{loses_parent}
-use Rattle.usb_host.proofs.entries.WaitingDevices.{waiting-entered_other, waiting-without}
+use Rattle.usb_world.proofs.Interface.{way_parent}
+use Rattle.usb_host.proofs.devices.Owners.{but_above}
+use Rattle.usb_host.proofs.entries.Roots.{root_parent}
+use Rattle.usb_host.proofs.entries.KindCounts.{counted-without}
+use Rattle.usb_host.proofs.entries.WaitingDevices.{waiting-entered_other}
 
 -- The way up
 
@@ -50,7 +53,7 @@ pub record ClimbedTo (first path : List ℕ) (a b : HostState) : Type 0 where
 
 pub climbed_none : (first : List ℕ) (h : HostState) → ClimbedTo first first h h
 climbed_none first h = record {
-  goes = host_goes_none ((7 - length first) * write_bound) h;
+  goes = host_goes_none;
   keeps = keeps_none h.world;
   devices = keeps_devices_none h.world;
   sound = λ d. d;
@@ -58,13 +61,11 @@ climbed_none first h = record {
   caused = λ d fair pends caused. (pends, caused);
 }
 
-module _ (first path : List ℕ) (a b c : HostState) (x : ClimbedTo first path a b)
-    (most : length path ≤ 7) (result : Result Bool HostFault)
+module _ {first path : List ℕ} {a b c : HostState} (x : ClimbedTo first path a b)
+    (most : length path ≤ 7) {result : Result Bool HostFault}
     (y : DisablesOnWay path b result c) where
   climb_goes : 1 ≤ length path → HostRuns drop_bound a c
-  climb_goes least =
-      host_goes_then drop_bound ((7 - length path) * write_bound) write_bound a b c x.goes y.goes
-      (omega (arith, least, most))
+  climb_goes least = host_goes_then x.goes y.goes (omega arith)
 
   climb_devices : KeepsDevices a.world c.world
   climb_devices = devices_then write_bound a.world b.world c.world x.devices y.goes.went y.devices
@@ -77,25 +78,23 @@ module _ (first path : List ℕ) (a b c : HostState) (x : ClimbedTo first path a
       all_then (x.backlog d (went_sound write_bound b.world c.world y.goes.went still))
       (y.backlog (x.sound d) still)
 
-  pub climbed_on : (above : List ℕ) → result ≡ Ok false → parent_of path ≡ Some above
+  pub climbed_on : {above : List ℕ} → result ≡ Ok false → parent_of path ≡ Some above
       → ClimbedTo first above a c
-  climbed_on above is parent =
-      let one = parent_length path above parent in
+  climbed_on is parent =
       record {
-        goes = host_goes_then ((7 - length above) * write_bound) ((7 - length path) * write_bound)
-            write_bound a b c x.goes y.goes (omega (arith, one, most));
+        goes = host_goes_then x.goes y.goes (omega (arith, parent_length path parent));
         keeps = climb_keeps;
         devices = climb_devices;
-        sound = λ d. climb_sound path above b result c parent y is (x.sound d);
+        sound = λ d. climb_sound b c parent y is (x.sound d);
         backlog = climb_backlog;
         caused = λ d fair pends caused.
-            climb_caused path above b result c a.world x.goes.went y.goes.went parent y is
-            (x.sound d) fair (λ before. x.caused d before pends caused);
+            climb_caused b c x.goes.went y.goes.went parent y is (x.sound d) fair
+            (λ before. x.caused d before pends caused);
       }
 
   module _ (least : 1 ≤ length path) where
-    pub climb_fails : (other : Result (List ℕ) HostFault) → IsErr other → Climbs first a other c
-    climb_fails other e = record {
+    pub climb_fails : {other : Result (List ℕ) HostFault} → IsErr other → Climbs first a other c
+    climb_fails {other = other} e = record {
       goes = climb_goes least;
       bares = match_err other _ _ e climb_keeps;
       devices = climb_devices;
@@ -109,12 +108,12 @@ module _ (first path : List ℕ) (a b c : HostState) (x : ClimbedTo first path a
       pub climb_done : result ≡ Ok true → Climbs first a (Ok path) c
       climb_done is = record {
         goes = climb_goes least;
-        bares = bares_above first path a b c on r x.keeps (y.owned.done is);
+        bares = bares_above first path a b on r x.keeps (y.owned.done is);
         devices = climb_devices;
         sound = λ d. y.done (x.sound d) is;
         backlog = climb_backlog;
         caused = λ d fair pends caused.
-            done_caused path b result c a.world x.goes.went y.goes.went y is (x.sound d) fair
+            done_caused b c x.goes.went y.goes.went y is (x.sound d) fair
             (λ before. x.caused d before pends caused);
       }
 
@@ -122,17 +121,17 @@ module _ (first path : List ℕ) (a b c : HostState) (x : ClimbedTo first path a
       pub climb_top : result ≡ Ok false → parent_of path ≡ None → Climbs first a (Ok path) c
       climb_top is root = record {
         goes = climb_goes least;
-        bares = bares_above first path a b c on r x.keeps (y.owned.none is root);
+        bares = bares_above first path a b on r x.keeps (y.owned.none is root);
         devices = climb_devices;
-        sound = λ d. absurd (top_absurd path b result c root y is (x.sound d));
+        sound = λ d. absurd (top_absurd root y is (x.sound d));
         backlog = climb_backlog;
-        caused = λ d fair pends caused. absurd (top_absurd path b result c root y is (x.sound d));
+        caused = λ d fair pends caused. absurd (top_absurd root y is (x.sound d));
       }
 
 -- A hub is dropped
 
-not_dropped : (hub : List ℕ) (fault : HostFault) (a b : HostState) → DropsSound hub a (Err fault) b
-not_dropped hub fault a b = record {
+not_dropped : {hub : List ℕ} {fault : HostFault} {a b : HostState} → DropsSound hub a (Err fault) b
+not_dropped = record {
   sound = λ d. tt;
   backlog = λ d. tt;
   bulk = λ d. tt;
@@ -141,26 +140,24 @@ not_dropped hub fault a b = record {
 }
 
 -- no port was told
-pub drop_untold : (hub : List ℕ) (fault : HostFault) (a b : HostState) → OnlyBusSteps a b
+pub drop_untold : (hub : List ℕ) {fault : HostFault} {a b : HostState} → OnlyBusSteps a b
     → Climbs hub a (Err fault) b → DropsOne hub a (Err fault) b
-drop_untold hub fault a b r x = record {
+drop_untold hub {fault = fault} {a = a} {b = b} r x = record {
   goes = x.goes;
-  holds = rests_holds drop_bound a b x.goes r;
+  holds = rests_holds a b x.goes r;
   hubs = tt;
   owned = drop_not_done hub a (Err fault) b refl x.bares;
-  sound = not_dropped hub fault a b;
+  sound = not_dropped;
 }
 
-module _ (hub lost : List ℕ) (a b c d : HostState) (r : OnlyBusSteps a b)
-    (x : Climbs hub a (Ok lost) b)
-    (f : Forgets lost b c)
+module _ {hub lost : List ℕ} {a b c : HostState} (d : HostState) (r : OnlyBusSteps a b)
+    (x : Climbs hub a (Ok lost) b) (f : Forgets lost b c)
     (others : d ≡ record c { entries = d.entries; pipes = d.pipes; addresses = d.addresses }) where
   drop_world : d.world ≡ c.world
   drop_world = ap (λ (h : HostState). h.world) others
 
   drop_goes : HostRuns drop_bound a d
-  drop_goes =
-      goes_forgotten drop_bound a c d (goes_forgotten drop_bound a b c x.goes f.others) others
+  drop_goes = goes_forgotten a (goes_forgotten a x.goes f.others) others
 
   drop_holds : waiting d.entries ≤ waiting c.entries → AddsNoWork a d
   drop_holds fewer =
@@ -170,10 +167,7 @@ module _ (hub lost : List ℕ) (a b c d : HostState) (r : OnlyBusSteps a b)
       let left : waiting c.entries ≡ waiting (without lost b.entries) = ap waiting f.rest in
       rw there (omega (
         arith,
-        before,
-        left,
-        fewer,
-        waiting-without lost b.entries,
+        counted-without is_waiting lost b.entries,
         x.goes.went.spends.served,
         x.goes.went.spends.later,
       ))
@@ -181,18 +175,17 @@ module _ (hub lost : List ℕ) (a b c d : HostState) (r : OnlyBusSteps a b)
   -- there is no memory to list it as lost
   pub drop_unlisted : (fault : HostFault) → d.entries ≡ c.entries → DropsOne hub a (Err fault) d
   drop_unlisted fault same =
-      let fewer = ap waiting same in
       let world = drop_world ∙ ap (λ (h : HostState). h.world) f.others in
       record {
         goes = drop_goes;
-        holds = drop_holds (omega (arith, fewer));
+        holds = drop_holds (omega (arith, ap waiting same));
         hubs = tt;
         owned = record {
           lost = tt;
           ends = λ o. ap (λ (w : World). w.shared) world ∙ (x.bares.bares o).single;
           rooted = λ q at. tt;
         };
-        sound = not_dropped hub fault a d;
+        sound = not_dropped;
       }
 
   pub drop_done : IsPath lost → table_in d ≡ entered lost (Refused Lost) (table_in c)
@@ -201,25 +194,23 @@ module _ (hub lost : List ℕ) (a b c d : HostState) (r : OnlyBusSteps a b)
       let entries : d.entries ≡ insert_entry path_cmp c.entries lost (Refused Lost) =
       ap (λ (t : Table). t.entries) table in
       let more = waiting-entered_other lost (Refused Lost) c.entries refl in
-      let entry = ap waiting entries in
       let left = f.rest ∙ ap (λ (h : HostState). without lost h.entries) r in
       let drops = drop_ends hub lost a b c d path r x.goes.went.spends.roots x.bares f.others
       f.rest f.gone drop_world entries in
       record {
         goes = drop_goes;
-        holds = drop_holds (omega (arith, more, entry));
-        hubs = λ some.
-            hubs-dropped lost hub a.entries c.entries d.entries x.bares.on left entries some;
+        holds = drop_holds (omega (arith, ap waiting entries));
+        hubs = λ some. hubs-dropped lost hub a.entries c.entries x.bares.on left entries some;
         owned = drops;
-        sound = lost_drops lost b c d path.0 f.others f.rest f.pipes f.gone drop_world table hub a
-            r x.goes.went.spends.onward x drops;
+        sound = lost_drops lost b c d path.0 f.others f.rest f.pipes f.gone drop_world table hub a r
+            x.goes.went.spends.onward x drops;
       }
 
 -- A port was handled
 
 pub finish_done : (path : List ℕ) (h : HostState) → FinishesAt path (Ok tt) h (Ok tt) h
 finish_done path h = record {
-  goes = host_goes_none drop_bound h;
+  goes = host_goes_none;
   holds = omega arith;
   drops = record {
     owned = record { ends = λ o. o; rooted = λ r within. r };
@@ -234,30 +225,31 @@ finish_done path h = record {
 }
 
 -- its hub was lost, and is dropped
-pub finish_lost : (path hub : List ℕ) (a b : HostState) (result : Result (Unit {0}) HostFault)
+pub finish_lost : (path : List ℕ) {hub : List ℕ} {a b : HostState}
+    {result : Result (Unit {0}) HostFault}
     → parent_of path ≡ Some hub → DropsOne hub a result b
     → FinishesAt path (Err ParentLost) a result b
-finish_lost path hub a b result above x =
+finish_lost path {hub = hub} {a = a} {b = b} {result = result} above x =
     let at = λ (p : IsSomeAnd (parent_of path) (λ hub. IsDroppable hub a)).
     subst (λ o. IsSomeAnd o (λ hub. IsDroppable hub a)) above p in
     record {
       goes = x.goes;
       holds = x.holds;
       drops = record {
-        owned = hub_dropped path hub a result b above x.owned;
+        owned = record {
+          ends = λ o. x.owned.ends (but_above hub (way_parent path hub above) o);
+          rooted = λ r at. x.owned.rooted r (rw (root_parent path hub above) at (at refl));
+        };
         sound = λ p. x.sound.sound (at p);
         backlog = λ p. x.sound.backlog (at p);
         bulk = λ p. x.sound.bulk (at p);
         plugs = x.sound.plugs;
         caused = λ p fair q.
-            let e = subst (λ o. IsSomeAnd o (λ hub. (pending a.world.roots hub ≡ true)
-            × CausesBut hub a.world a.entries)) above q in
+            let e = rw above at q in
             x.sound.caused (at p) fair e.0 e.1;
       };
       left = loses_parent path hub a.entries b.entries result above x.owned.lost;
-      fewer = λ is has.
-          hubs_dropped result hub a b x.hubs
-          (subst (λ o. IsSomeAnd o (λ hub. IsSome (hub_facts_at hub a.entries))) above has);
+      fewer = λ is has. hubs_dropped result hub a b x.hubs (rw above at has);
     }
 
 -- a port whose hub was lost is no root port

@@ -19,13 +19,13 @@ use Rattle.usb_enum.specs.{EnumFault, ParentLost, Bus, Memory, Finding, FaultAll
 use Rattle.usb_table.specs.{KnownPort, Entries, address_in, known_port, root_port, port_below}
 use Rattle.usb_table.specs.{port_found, is_below_hub, IsAskable}
 use Rattle.usb_table.proofs.Interface.{FoundPort, port_found-some}
-use Rattle.usb_host.specs.{Agrees, HostState, claims, IsPortAt, StandsAt, StandsNowhere, Broke}
+use Rattle.usb_host.specs.{HostState, claims, IsPortAt, StandsAt, StandsNowhere, Broke}
 use Rattle.usb_host.specs.{HostSteps, OnlyBusSteps}
 
 pub root_alone : (path : List ℕ) → 1 ≤ length path → parent_of path ≡ None
     → path ≡ port_on_hub path ∷ []
 unfolding parent_of port_on_hub
-root_alone [] some none = absurd (omega (arith, some))
+root_alone [] some none = absurd (omega arith)
 root_alone (n ∷ []) some none = refl
 root_alone (n ∷ m ∷ rest) some none =
     let long : nat_lt 1 (length (n ∷ m ∷ rest)) ≡ true =
@@ -37,11 +37,10 @@ root_alone (n ∷ m ∷ rest) some none =
 
 at_found : (f : AddressMap) (hub path : List ℕ) (n : ℕ) → IsPath hub → path ≡ hub ++ n ∷ []
     → (port : KnownPort) → IsAskable port.port → (found : Option Finding) (below_hub : Bool)
-    → f hub ≡ address_in found
-    → port_found found below_hub n ≡ Some port → IsAt f port.port path
+    → f hub ≡ address_in found → port_found found below_hub n ≡ Some port → IsAt f port.port path
 at_found f hub path n is joined port askable found below_hub held e =
     let x : FoundPort found below_hub n port = port_found-some found below_hub n port e in
-    let asked = subst (λ (p : KnownPort). IsAskable p.port) x.is askable in
+    let asked = rw x.is at askable in
     subst (λ (p : KnownPort). IsAt f p.port path) (sym x.is)
     (record {
       hub = hub;
@@ -62,9 +61,10 @@ at_known path es port is askable (Some hub) above e =
     (rejoined path hub above) port askable (lookup (is_at (path_cmp hub)) es) (is_below_hub hub)
     refl e
 
-pub stands_at-claim : (path : List ℕ) (port : KnownPort) (h : HostState) → StandsAt path port h
+pub stands_at-claim : {path : List ℕ} {port : KnownPort} {h : HostState} → StandsAt path port h
     → IsAt (claims h.entries) port.port path
-stands_at-claim path port h s = at_known path h.entries port s.is s.askable (parent_of path) refl
+stands_at-claim {path = path} {port = port} {h = h} s = at_known path h.entries port s.is s.askable
+    (parent_of path) refl
     s.known
 
 -- a port that is known stands where the bus does what its world does
@@ -79,40 +79,40 @@ placed {modelled} {path} {port} {h} known s = record {
 }
 
 -- and it stands where it stood while the host keeps what it knows
-pub placed_on : (modelled : Bool) (n : ℕ) (path : List ℕ) (port : KnownPort) (a b : HostState)
+pub placed_on : (modelled : Bool) (n : ℕ) {path : List ℕ} {port : KnownPort} {a b : HostState}
     → OnlyBusSteps a b → (modelled ≡ true → HostSteps n a b) → IsPortAt modelled path port a
     → IsPortAt modelled path port b
-placed_on modelled n path port a b r went s = record {
+placed_on modelled n {path = path} {port = port} {a = a} {b = b} r went s = record {
   is = s.is;
   known = ap (λ (h : HostState). known_port path h.entries) r ∙ s.known;
   asked = is_asked_stays modelled n port.port a.world b.world (λ known. (went known).spends)
       s.asked;
   askable = s.askable;
-  agrees = subst (λ (h : HostState). Agrees h.entries h.addresses) (sym r) s.agrees;
+  agrees = rw r s.agrees;
 }
 
 -- a root port is a register, and never fails
-pub lost_above : (path : List ℕ) (es : Entries) (port : KnownPort) (w : World)
+pub lost_above : (path : List ℕ) (es : Entries) {port : KnownPort} (w : World)
     → FaultAllowedAt port.port ParentLost w → (above : Option (List ℕ)) → parent_of path ≡ above
     → port_below above (port_on_hub path) es ≡ Some port → IsSome above
-lost_above path es port w lost None above e =
+lost_above path es {port = port} w lost None above e =
     let same : root_port (port_on_hub path) ≡ port = cc e in
     absurd (subst (λ (p : KnownPort). FaultAllowedAt p.port ParentLost w) (sym same) lost)
-lost_above path es port w lost (Some hub) above e = refl
+lost_above path es w lost (Some hub) above e = refl
 
-pub broke : (path : List ℕ) (port : KnownPort) (h : HostState) (fault : EnumFault) (w : World)
+pub broke : {path : List ℕ} {port : KnownPort} (h : HostState) (fault : EnumFault) (w : World)
     → StandsAt path port h → FaultAllowedAt port.port fault w → Broke path fault w
-broke path port h ParentLost w s told = lost_above path h.entries port w told (parent_of path) refl
+broke {path = path} h ParentLost w s told = lost_above path h.entries w told (parent_of path) refl
     s.known
-broke path port h (Bus fault) w s told = told
-broke path port h Memory w s told = told
+broke h (Bus fault) w s told = told
+broke h Memory w s told = told
 
-pub breaks : (path : List ℕ) (port : KnownPort) (h : HostState)
+pub breaks : {path : List ℕ} {port : KnownPort} {h : HostState}
     (served : Result (Unit {0}) EnumFault) (w : World) → StandsAt path port h
     → IfErr served (λ fault. FaultAllowedAt port.port fault w)
     → IfErr served (λ fault. Broke path fault w)
-breaks path port h (Ok done) w s told = tt
-breaks path port h (Err fault) w s told = broke path port h fault w s told
+breaks (Ok done) w s told = tt
+breaks {h = h} (Err fault) w s told = broke h fault w s told
 
 -- No device is at a port that the root has not
 
@@ -120,19 +120,18 @@ beyond_reach : (k : Ports) (i : ℕ) (r : List ℕ) → length (row_of k) ≤ i 
 unfolding row_of reach_at
 beyond_reach ended i r le = refl
 beyond_reach (vacant b k) zero r le = refl
-beyond_reach (vacant b k) (suc i) r le = beyond_reach k i r (omega (arith, le))
-beyond_reach (taken b s a k) zero r le = absurd (omega (arith, le))
-beyond_reach (taken b s a k) (suc i) r le = beyond_reach k i r (omega (arith, le))
+beyond_reach (vacant b k) (suc i) r le = beyond_reach k i r (omega arith)
+beyond_reach (taken b s a k) zero r le = absurd (omega arith)
+beyond_reach (taken b s a k) (suc i) r le = beyond_reach k i r (omega arith)
 
 beyond_path : (k : Ports) (n : ℕ) (r : List ℕ) → length (row_of k) < n → reach k (n ∷ r) ≡ false
 beyond_path k zero r lt = refl
-beyond_path k (suc i) r lt = beyond_reach k i r (omega (arith, lt))
+beyond_path k (suc i) r lt = beyond_reach k i r (omega arith)
 
 pub nowhere_reached : (path : List ℕ) (h : HostState) → StandsNowhere path h → parent_of path ≡ None
     → (x : List ℕ) → is_way path x ≡ true → reach h.world.roots x ≡ false
 nowhere_reached path h s none x way =
     let rest = way_rest path x way in
-    let whole : x ≡ port_on_hub path ∷ rest.0 = rest.1
-    ∙ ap (λ (l : List ℕ). l ++ rest.0) (root_alone path s.is.0 none) in
-    subst (λ (l : List ℕ). reach h.world.roots l ≡ false) (sym whole)
-    (beyond_path h.world.roots (port_on_hub path) rest.0 (s.beyond none))
+    let whole : x ≡ port_on_hub path ∷ rest.0 = rest.1 ∙ ap (λ (l : List ℕ). l ++ rest.0)
+    (root_alone path s.is.0 none) in
+    rw whole (beyond_path h.world.roots (port_on_hub path) rest.0 (s.beyond none))

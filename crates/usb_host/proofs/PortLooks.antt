@@ -1,19 +1,19 @@
 -- What a look at a port leaves.
-use Rattle.std.proofs.Common.{◌≡◌, ◌∙◌, ◌⊎◌, ◌+◌, ◌≤◌, arith, inl, inr, sym, ap, subst, true, false}
+use Rattle.std.proofs.Common.{◌≡◌, ◌∙◌, ◌⊎◌, ◌+◌, ◌≤◌, arith, inl, inr, ap, true, false}
 use Rattle.std.proofs.Common.{Bool, ℕ, List, None, Result, Ok, Err}
 use Rattle.std.specs.Prelude.{OnOk}
-use Rattle.usb_port.specs.{PortStatus}
+use Rattle.usb_port.specs.{PortStatus, path_cmp}
 use Rattle.usb_tree.proofs.Interface.{decided}
-use Rattle.usb_hub.specs.{Isolates, IsAsked}
+use Rattle.usb_hub.specs.{Isolates}
 use Rattle.usb_resources.specs.{IsFull}
 use Rattle.usb_enum.specs.{enumeration_bound, widest_enumeration, Enumerates, FaultAllowedAt}
 use Rattle.usb_enum.specs.{EnumFault, Memory, Finding}
 use Rattle.usb_enum.proofs.Interface.{went_sound}
 use Rattle.usb_table.specs.{KnownPort, Replaced, has_at, without, known_port, tier_of, Table}
-use Rattle.usb_table.specs.{entered}
+use Rattle.usb_table.specs.{entered, Entries}
 use Rattle.usb_table.proofs.Interface.{known_port-without}
 use Rattle.usb_host.specs.Accounts.{Accounts}
-use Rattle.usb_host.specs.{PaysAtLook, hubs, clearing_bound, look_bound, HostState, IsOwned}
+use Rattle.usb_host.specs.{PaysAtLook, hubs, clearing_bound, HostState, IsOwned}
 use Rattle.usb_host.specs.{KeepsPort, StaysOwned, claims, IsOpen, ServesSound, KeepsPlugs, Entered}
 use Rattle.usb_host.specs.{Forgets, Gained, IsPortAt, Requested, ProgressOrLost, StandsAt, Waits}
 use Rattle.usb_host.specs.{HostRuns, HostSteps, OnlyBusSteps, waiting, ClearsError, ClearsPort}
@@ -37,65 +37,62 @@ use Rattle.usb_host.proofs.PortRequests.{requested-fails, requested-then}
 use Rattle.usb_host.proofs.knowledge.ServedPorts.{cleared_lost, cleared_stay, forgot_open}
 use Rattle.usb_host.proofs.knowledge.ServedPorts.{forgot_sound, forgot_stay}
 use Rattle.usb_host.proofs.services.ServedWork.{failed_on_way, lost_on}
-use Rattle.usb_host.proofs.services.Services.{cleared_failed, found_failed, renews_by, renews_one}
+use Rattle.usb_host.proofs.services.Services.{cleared_failed, found_failed, renews_by}
+use Rattle.std.specs.BTreeMap.{insert_entry}
 use Rattle.usb_host.proofs.PortLocations.{stands_at-claim}
 
 -- What is there is found
 
-module _ (path : List ℕ) (port : KnownPort) (a b : HostState) (s : StandsAt path port a)
+module _ {path : List ℕ} {port : KnownPort} {a b : HostState} (s : StandsAt path port a)
     (away : has_at path a.entries ≡ false) (accounts : Accounts a.entries a.addresses)
     (went : HostSteps (enumeration_bound port.port) a b) (same : b.stopped ≡ a.stopped) where
   found_goes : HostRuns widest_enumeration a b
   found_goes = enumeration_goes port.port a b s.askable went same
 
-  pub discover_fails : (fault : EnumFault)
+  pub discover_fails : {fault : EnumFault}
       → Enumerates port.port a.addresses (tier_of path) port.supply a.world (Err fault) b.world
       → b.entries ≡ a.entries → b.pipes ≡ a.pipes → b.addresses ≡ a.addresses
       → FaultAllowedAt port.port fault b.world → Discovers path port a (Err fault) b
-  discover_fails fault x entries pipes pool told =
-      let owned = found_fails path port a b fault a.addresses x.addresses s away accounts entries
+  discover_fails {fault = fault} x entries pipes pool told =
+      let owned = found_fails b fault x.addresses s away accounts entries
       went.spends.roots in
       record {
         requested = record { goes = found_goes; told = told };
         owned = owned;
-        sound = unfound_finds (enumeration_bound port.port) path port a b s away accounts went
-            fault x entries pipes pool told owned;
+        sound = unfound_finds s away accounts went fault x entries pipes pool told owned;
       }
 
   -- for what was found there is no memory
-  pub discover_lost : (f : Finding)
+  pub discover_lost : {f : Finding}
       → Enumerates port.port a.addresses (tier_of path) port.supply a.world (Ok f) b.world
       → b.entries ≡ a.entries → Discovers path port a (Err Memory) b
-  discover_lost f x entries = record {
+  discover_lost {f = f} x entries = record {
     requested = record { goes = found_goes; told = tt };
-    owned = found_lost path port a b f a.addresses x.addresses s away accounts entries
-        went.spends.roots;
-    sound = unentered_finds (enumeration_bound port.port) path port a b s away accounts went f x;
+    owned = found_lost b f x.addresses s away accounts entries went.spends.roots;
+    sound = unentered_finds s away accounts went f x;
   }
 
-  pub discover_done : (f : Finding)
+  pub discover_done : {f : Finding}
       → Enumerates port.port a.addresses (tier_of path) port.supply a.world (Ok f) b.world
       → table_in b ≡ entered path f (table_in a) → Discovers path port a (Ok tt) b
-  discover_done f x table =
-      let owned = found_ends path port a b f a.addresses x.addresses s away accounts
-      (ap (λ (t : Table). t.entries) table) went.spends.roots in
+  discover_done {f = f} x table =
+      let owned = found_ends b f x.addresses s away accounts (ap (λ (t : Table). t.entries) table)
+      went.spends.roots in
       record {
         requested = record { goes = found_goes; told = tt };
         owned = owned;
-        sound = entered_finds (enumeration_bound port.port) path port a b s away accounts went f x
-            table owned;
+        sound = entered_finds s away accounts went f x table owned;
       }
 
 -- What was there is forgotten
 
 -- the port stands where it stood
-pub forgot_placed : (modelled : Bool) (path : List ℕ) (port : KnownPort) (a b : HostState)
+pub forgot_placed : {modelled : Bool} {path : List ℕ} {port : KnownPort} {a b : HostState}
     → Forgets path a b → IsPortAt modelled path port a → IsPortAt modelled path port b
-forgot_placed modelled path port a b f s = record {
+forgot_placed {path = path} {a = a} f s = record {
   is = s.is;
   known = ap (known_port path) f.rest ∙ known_port-without path a.entries ∙ s.known;
-  asked = subst (λ w. IsAsked modelled w port.port) (sym (ap (λ (h : HostState). h.world) f.others))
-      s.asked;
+  asked = rw (ap (λ (h : HostState). h.world) f.others) s.asked;
   askable = s.askable;
   agrees = f.agrees;
 }
@@ -103,131 +100,124 @@ forgot_placed modelled path port a b f s = record {
 entered_few : (path : List ℕ) (c d : HostState) (result : Result (Unit {0}) EnumFault)
     → Entered path c result d → waiting d.entries ≤ waiting c.entries + 1
 entered_few path c d (Ok done) e = enters_few path c d e
-entered_few path c d (Err fault) e = let same = ap waiting e in omega (arith, same)
+entered_few path c d (Err fault) e = omega (arith, ap waiting e)
 
 entered_other : (path : List ℕ) (c d : HostState) (result : Result (Unit {0}) EnumFault)
-    → Entered path c result d → (IsFull c.addresses → ⊥)
-    → waiting d.entries ≤ waiting c.entries
+    → Entered path c result d → (IsFull c.addresses → ⊥) → waiting d.entries ≤ waiting c.entries
 entered_other path c d (Ok done) e free = enters_other path c d e free
-entered_other path c d (Err fault) e free = let same = ap waiting e in omega (arith, same)
+entered_other path c d (Err fault) e free = omega (arith, ap waiting e)
 
 pub entered_hubs : (path : List ℕ) (c d : HostState) (result : Result (Unit {0}) EnumFault)
     → Entered path c result d → hubs d.entries ≤ hubs c.entries + 1
 entered_hubs path c d (Ok done) e = hubs-found path c d e
-entered_hubs path c d (Err fault) e = let same = ap hubs e in omega (arith, same)
+entered_hubs path c d (Err fault) e = omega (arith, ap hubs e)
 
-module _ (path : List ℕ) (port : KnownPort) (on : Bool) (b d : HostState)
-    (result : Result (Unit {0}) EnumFault) (x : RenewsPort path port on b result d) where
+module _ {path : List ℕ} {port : KnownPort} {on : Bool} {b d : HostState}
+    {result : Result (Unit {0}) EnumFault} (x : RenewsPort path port on b result d) where
   renew_cases : (P : Result (Unit {0}) EnumFault → HostState → Type 0)
       → (on ≡ true → P result d) → (on ≡ false → P (Ok tt) x.mid) → P result d
   renew_cases P found none = elim (decided on) [
     | inl e ↦ found e
     | inr e ↦
         let rests = x.none e in
-        subst (λ r. P r d) (sym rests.0) (subst (P (Ok tt)) (sym rests.1) (none e))
+        rw rests.0 (rw rests.1 (none e))
   ]
 
   -- after a request
-  module _ (n : ℕ) (a : HostState) (r : OnlyBusSteps a b) (goes : HostRuns n a b) where
+  module _ {n : ℕ} {a : HostState} (r : OnlyBusSteps a b) (goes : HostRuns n a b) where
     forgot_goes : HostRuns n a x.mid
-    forgot_goes = goes_forgotten n a b x.mid goes x.forgot.others
+    forgot_goes = goes_forgotten a goes x.forgot.others
 
-    renew_requested : (k : ℕ) → n + widest_enumeration ≤ k → Requested port.port k a result d
-    renew_requested k le =
+    renew_requested : {k : ℕ} → n + widest_enumeration ≤ k → Requested port.port k a result d
+    renew_requested {k = k} le =
         renew_cases (λ q h. Requested port.port k a q h)
-        (λ on. requested-then {A = Unit {0}} port.port k n widest_enumeration a x.mid d tt result
+        (λ on. requested-then {A = Unit {0}} {k = k} {m = n} {a = a} {x = tt}
         (record { goes = forgot_goes; told = tt }) (x.found on).requested le)
-        (λ off. record { goes = goes_wider n k a x.mid forgot_goes (omega (arith, le)); told = tt })
+        (λ off. record { goes = goes_wider forgot_goes (omega arith); told = tt })
 
     renew_on : {Due : Type 0} → (Due → Gained a.world b.world) → Due ⊎ Waits path a
         → ProgressOrLost result a d
     renew_on gains due =
         renew_cases (λ q h. ProgressOrLost q a h)
-        (λ on. served_any result a d (looks path n widest_enumeration a b x.mid d goes r
-        x.forgot.others x.forgot.rest (x.found on).requested.goes gains x.forgot.full
+        (λ on. served_any result a d (looks path n a b goes r x.forgot.others x.forgot.rest
+        (x.found on).requested.goes gains x.forgot.full
         (entered_few path x.mid d result (x.entered on))
         (entered_other path x.mid d result (x.entered on)) due))
-        (λ off. looks path n 0 a b x.mid x.mid goes r x.forgot.others x.forgot.rest
-        (host_goes_none 0 x.mid) gains x.forgot.full (omega arith) (λ free. omega arith) due)
+        (λ off. looks path n a b goes r x.forgot.others x.forgot.rest
+        (host_goes_none {n = 0} {h = x.mid}) gains x.forgot.full (omega arith) (λ free. omega arith)
+        due)
 
     renew_hubs : hubs d.entries ≤ hubs a.entries + 1
     renew_hubs =
         let fewer = hubs-gone path a b x.mid r x.forgot.rest in
         renew_cases (λ q h. hubs h.entries ≤ hubs a.entries + 1)
-        (λ on. omega (arith, fewer, entered_hubs path x.mid d result (x.entered on)))
-        (λ off. omega (arith, fewer))
+        (λ on. omega (arith, entered_hubs path x.mid d result (x.entered on))) (λ off. omega arith)
 
     renew_owned : StandsAt path port a → Isolates port.port a.world b.world
         → KeepsPort path a result d
     renew_owned s bares =
-        let gone : StaysOwned a x.mid = stays_bare path port a b x.mid s r goes.went.spends.roots
+        let gone : StaysOwned a x.mid = stays_bare path a b x.mid s r goes.went.spends.roots
         bares x.forgot.others x.forgot.rest in
-        renew_cases (λ q h. KeepsPort path a q h)
-        (λ on. port_then path a x.mid result d gone (x.found on).owned)
-        (λ off. stays_keeps_port path a x.mid gone)
+        renew_cases (λ q h. KeepsPort path a q h) (λ on. port_then gone (x.found on).owned)
+        (λ off. stays_keeps_port path a gone)
 
 -- A look
 
 -- the change was not cleared
-pub look_fails : (path : List ℕ) (port : KnownPort) (a b : HostState) (fault : EnumFault)
+pub look_fails : {path : List ℕ} (port : KnownPort) {a b : HostState} {fault : EnumFault}
     → StandsAt path port a → OnlyBusSteps a b → ClearsPort port.port a (Err fault) b
     → LooksAt path port a (Err fault) b
-look_fails path port a b fault s r x =
+look_fails {path = path} port {a = a} {b = b} {fault = fault} s r x =
     let went = x.requested.goes.went in
     let told = x.requested.told in
     record {
-      requested = requested-fails (Unit {0}) port.port look_bound clearing_bound a b fault
-          x.requested (omega arith);
+      requested = requested-fails (Unit {0}) x.requested (omega arith);
       on = λ due. lost_on PortStatus port.port a b fault r x.gains told;
-      owned = rests_keeps_port path a (Err fault) b r went.spends.roots x.keeps.bares;
+      owned = rests_keeps_port path a b r went.spends.roots x.keeps.bares;
       sound = record {
-        sound = cleared_lost clearing_bound path port a b s r went fault x.keeps told;
-        bulk = λ i on still.
-            bulk_stays a b (cleared_stay clearing_bound path port a b s r went fault x.keeps i);
-        plugs = λ i still. plugs_rests clearing_bound a b went r;
-        caused = cleared_caused clearing_bound path port a b s r went fault x.keeps told;
+        sound = cleared_lost s r went fault x.keeps told;
+        bulk = λ i on still. bulk_stays a b (cleared_stay s r went x.keeps i);
+        plugs = λ i still. plugs_rests a b went r;
+        caused = cleared_caused s r went fault x.keeps told;
       };
       renewed = tt;
       pays = record {
         pays = λ i still before status ports at changed.
-            look_lost path port a b s went i before status ports at
-            (none_rests clearing_bound a b went r) fault x.keeps;
+            look_lost a b s went i before status ports at (none_rests a went r) fault x.keeps;
         few = λ i most plan. omega (arith, went.spends.most);
       };
-      hubs = omega (arith, hubs-rest a b r);
-      looked = λ o. cleared_failed path port a b s r clearing_bound went o fault;
+      hubs = omega (arith, hubs-rest a r);
+      looked = λ o. cleared_failed s r went o fault;
     }
 
 -- it was, and what was there is forgotten
-module _ (path : List ℕ) (port : KnownPort) (a b c : HostState) (s : StandsAt path port a)
-    (r : OnlyBusSteps a b) (status : PortStatus) (x : ClearsPort port.port a (Ok status) b)
+module _ {path : List ℕ} {port : KnownPort} {a b c : HostState} (s : StandsAt path port a)
+    (r : OnlyBusSteps a b) {status : PortStatus} (x : ClearsPort port.port a (Ok status) b)
     (f : Forgets path b c) where
   look_went : HostSteps clearing_bound a b
   look_went = x.requested.goes.went
 
   look_goes : HostRuns clearing_bound a c
-  look_goes = goes_forgotten clearing_bound a b c x.requested.goes f.others
+  look_goes = goes_forgotten a x.requested.goes f.others
 
   look_left : c.entries ≡ without path a.entries
-  look_left = without_rests path a b c r f.rest
+  look_left = without_rests path a c r f.rest
 
   -- no device is connected
   bare_sound : status.connected ≡ false → ServesSound path a (Ok tt) c
   bare_sound off = record {
-    sound = λ i. forgot_sound clearing_bound path port a b c status s r look_went x.keeps f i off;
-    bulk = λ i on still.
-        bulk_stays a c
-        (forgot_stay clearing_bound path port a b c status s r look_went x.keeps f i);
-    plugs = λ i still. plugs_forgot clearing_bound path a b c look_goes.went r f.rest;
+    sound = λ i. forgot_sound s r look_went x.keeps f i off;
+    bulk = λ i on still. bulk_stays a c (forgot_stay s r look_went x.keeps f i);
+    plugs = λ i still. plugs_forgot path a c look_goes.went r f.rest;
     caused = λ i fair caused.
-        forgot_caused clearing_bound path port a b s r look_went c status x.keeps f.others f.rest i
+        forgot_caused s r look_went c x.keeps f.others f.rest i
         (fault_none_back b c f.others fair.still) caused;
   }
 
   bare_pays : PaysAtLook path a (Ok tt) c
   bare_pays = record {
     pays = λ i still before told ports at changed.
-        look_bare path port a b s look_went i before told ports at changed status x.paid c f.others
+        look_bare a b s look_went i before told ports at changed status x.paid c f.others
         (record { went = look_goes.went; hubs = hubs-gone path a b c r f.rest }) still;
     few = λ i most plan. omega (arith, look_goes.went.spends.most);
   }
@@ -236,14 +226,14 @@ module _ (path : List ℕ) (port : KnownPort) (a b c : HostState) (s : StandsAt 
   bare_looked off o = record {
     status = status;
     mid = b.world;
-    cleared = x.reads (claims a.entries) path (stands_at-claim path port a s) o;
-    renewed = renews_by status.connected path a.entries c.entries false off look_left;
+    cleared = x.reads (claims a.entries) path (stands_at-claim s) o;
+    renewed = renews_by path a.entries c.entries off look_left;
   }
 
   -- one is
   module _ (on : status.connected ≡ true) where
     look_opens : HostInvariant a → IsOpen path c
-    look_opens i = forgot_open clearing_bound path port a b c status s r look_went x.keeps f i on
+    look_opens i = forgot_open s r look_went x.keeps f i on
 
     found_plugs : (result : Result (Unit {0}) EnumFault) (d : HostState)
         → HostSteps widest_enumeration c d → Entered path c result d → HostInvariant a
@@ -251,120 +241,105 @@ module _ (path : List ℕ) (port : KnownPort) (a b c : HostState) (s : StandsAt 
     found_plugs (Ok done) d then e i still =
         let here = went_sound widest_enumeration c.world d.world then still in
         let order = i.order (went_sound clearing_bound a.world c.world look_goes.went here) in
-        plugs_found clearing_bound widest_enumeration path status a b c d look_goes.went then r
+        plugs_found widest_enumeration path status a b c d look_goes.went then r
         f.others f.rest f.gone f.agrees
-        (x.reads (claims a.entries) path (stands_at-claim path port a s) i.owned) order on e
+        (x.reads (claims a.entries) path (stands_at-claim s) i.owned) order on e
     found_plugs (Err fault) d then e i still =
         plugs_then clearing_bound widest_enumeration a c d look_goes.went then still
-        (plugs_forgot clearing_bound path a b c look_goes.went r f.rest)
-        (plugs_kept c d then.spends.onward e)
+        (plugs_forgot path a c look_goes.went r f.rest) (plugs_kept c d then.spends.onward e)
 
-    found_renewed : (result : Result (Unit {0}) EnumFault) (d : HostState)
-        → Entered path c result d → OnOk result (Replaced path (without path a.entries) d.entries)
+    found_renewed : (result : Result (Unit {0}) EnumFault) (d : HostState) → Entered path c result d
+        → OnOk result (Replaced path (without path a.entries) d.entries)
     found_renewed (Ok done) d e = renews path a b c d r f.rest e
     found_renewed (Err fault) d e = tt
 
-    found_looked : (result : Result (Unit {0}) EnumFault) (d : HostState)
-        → Entered path c result d → IsOwned a → LookedOrLost path a result d
+    found_looked : (result : Result (Unit {0}) EnumFault) (d : HostState) → Entered path c result d
+        → IsOwned a → LookedOrLost path a result d
     found_looked (Ok done) d e o = record {
       status = status;
       mid = b.world;
-      cleared = x.reads (claims a.entries) path (stands_at-claim path port a s) o;
-      renewed = renews_by status.connected path a.entries d.entries true on
-          (renews_one path a.entries c d look_left e);
+      cleared = x.reads (claims a.entries) path (stands_at-claim s) o;
+      renewed = renews_by path a.entries d.entries on (
+        e.finding,
+        e.entries ∙ ap (λ (es : Entries). insert_entry path_cmp es path e.finding) look_left,
+      );
     }
     found_looked (Err fault) d e o = found_failed path a c d fault look_left e
 
-    module _ (result : Result (Unit {0}) EnumFault) (d : HostState)
+    module _ {result : Result (Unit {0}) EnumFault} (d : HostState)
         (e : Entered path c result d) (z : Discovers path port c result d) where
       found_sound : ServesSound path a result d
       found_sound = record {
         sound = λ i. z.sound.sound (look_opens i);
         bulk = λ i goes still.
             bulk_then clearing_bound widest_enumeration a c d look_goes.went
-            z.requested.goes.went still (bulk_stays a c
-            (forgot_stay clearing_bound path port a b c status s r look_went x.keeps f i))
+            z.requested.goes.went still (bulk_stays a c (forgot_stay s r look_went x.keeps f i))
             (z.sound.bulk (look_opens i) goes still);
         plugs = λ i still. found_plugs result d z.requested.goes.went e i still;
         caused = λ i fair caused.
-            let half = fair_before widest_enumeration a.world c.world d.world
-            z.requested.goes.went fair in
-            let causes = forgot_caused clearing_bound path port a b s r look_went c status x.keeps
-            f.others f.rest i (fault_none_back b c f.others half.still) caused in
-            z.sound.caused (look_opens i)
-            (fair_after clearing_bound a.world c.world d.world look_goes.went fair)
-            (λ y away. causes y);
+            let causes = forgot_caused s r look_went c x.keeps
+            f.others f.rest i (fault_none_back b c f.others
+            (fair_before z.requested.goes.went fair).still) caused in
+            z.sound.caused (look_opens i) (fair_after look_goes.went fair) (λ y away. causes y);
       }
 
       found_pays : PaysAtLook path a result d
       found_pays = record {
         pays = λ i still before told ports at changed.
-            look_pays path port a b s look_went i before told ports at changed status x.paid c
+            look_pays a b s look_went i before told ports at changed status x.paid c
             f.others widest_enumeration result d z.requested.goes.went on
             (z.sound.backlog (look_opens i) still) still;
         few = λ i most plan.
             omega (
               arith,
               look_goes.went.spends.most,
-              z.sound.few (look_opens i) most
-                  (plan_within-went most clearing_bound a c look_goes.went plan),
+              z.sound.few (look_opens i) most (plan_within-went most a c look_goes.went plan),
             );
       }
 
-pub look_done : (path : List ℕ) (port : KnownPort) (a b d : HostState)
-    (result : Result (Unit {0}) EnumFault) (status : PortStatus) → StandsAt path port a
+pub look_done : {path : List ℕ} {port : KnownPort} {a b d : HostState}
+    (result : Result (Unit {0}) EnumFault) {status : PortStatus} → StandsAt path port a
     → OnlyBusSteps a b → ClearsPort port.port a (Ok status) b
     → RenewsPort path port status.connected b result d → LooksAt path port a result d
-look_done path port a b d result status s r x y = record {
-  requested = renew_requested path port status.connected b d result y clearing_bound a r
-      x.requested.goes look_bound (omega arith);
-  on = renew_on path port status.connected b d result y clearing_bound a r x.requested.goes x.gains;
-  owned = renew_owned path port status.connected b d result y clearing_bound a r x.requested.goes s
-      x.keeps.bares;
+look_done {path = path} {a = a} {d = d} result {status = status} s r x y = record {
+  requested = renew_requested y r x.requested.goes (omega arith);
+  on = renew_on y r x.requested.goes x.gains;
+  owned = renew_owned y r x.requested.goes s x.keeps.bares;
   sound = cases (λ q h. ServesSound path a q h)
-      (λ on. found_sound path port a b y.mid s r status x y.forgot on result d (y.entered on)
-      (y.found on))
-      (bare_sound path port a b y.mid s r status x y.forgot);
+      (λ on. found_sound s r x y.forgot on d (y.entered on) (y.found on))
+      (bare_sound s r x y.forgot);
   renewed = cases (λ q h. OnOk q (Replaced path (without path a.entries) h.entries))
-      (λ on. found_renewed path port a b y.mid s r status x y.forgot on result d (y.entered on))
-      (λ off. inl (without_rests path a b y.mid r y.forgot.rest));
-  pays = cases (λ q h. PaysAtLook path a q h)
-      (λ on. found_pays path port a b y.mid s r status x y.forgot on result d (y.entered on)
-      (y.found on))
-      (λ off. bare_pays path port a b y.mid s r status x y.forgot);
-  hubs = renew_hubs path port status.connected b d result y clearing_bound a r x.requested.goes;
+      (λ on. found_renewed s r x y.forgot on result d (y.entered on))
+      (λ off. inl (without_rests path a y.mid r y.forgot.rest));
+  pays = cases (λ q h. PaysAtLook path a q h) (λ on. found_pays s r x y.forgot on d (y.entered on)
+      (y.found on)) (λ off. bare_pays s r x y.forgot);
+  hubs = renew_hubs y r x.requested.goes;
   looked = cases (λ q h. IsOwned a → LookedOrLost path a q h)
-      (λ on. found_looked path port a b y.mid s r status x y.forgot on result d (y.entered on))
-      (bare_looked path port a b y.mid s r status x y.forgot);
+      (λ on. found_looked s r x y.forgot on result d (y.entered on)) (bare_looked s r x y.forgot);
 }
   where
     cases : (P : Result (Unit {0}) EnumFault → HostState → Type 0)
         → (status.connected ≡ true → P result d) → (status.connected ≡ false → P (Ok tt) y.mid)
         → P result d
-    cases = renew_cases path port status.connected b d result y
+    cases = renew_cases y
 
 -- One after an error
 
-pub error_look_fails : (path : List ℕ) (port : KnownPort) (a b : HostState) (fault : EnumFault)
+pub error_look_fails : (path : List ℕ) (port : KnownPort) {a b : HostState} {fault : EnumFault}
     → OnlyBusSteps a b → ClearsError port.port a (Err fault) b
     → LooksAfterError path port a (Err fault) b
-error_look_fails path port a b fault r x = record {
-  requested = requested-fails (Unit {0}) port.port look_bound clearing_bound a b fault x.requested
-      (omega arith);
+error_look_fails path port {a = a} {b = b} {fault = fault} r x = record {
+  requested = requested-fails (Unit {0}) x.requested (omega arith);
   on = λ can. failed_on_way PortStatus a b fault r (x.gains can);
-  owned = rests_keeps_port path a (Err fault) b r x.requested.goes.went.spends.roots x.bares;
+  owned = rests_keeps_port path a b r x.requested.goes.went.spends.roots x.bares;
 }
 
-pub error_look_done : (path : List ℕ) (port : KnownPort) (a b d : HostState)
-    (result : Result (Unit {0}) EnumFault) (status : PortStatus) → StandsAt path port a
+pub error_look_done : {path : List ℕ} {port : KnownPort} {a b d : HostState}
+    {result : Result (Unit {0}) EnumFault} {status : PortStatus} → StandsAt path port a
     → OnlyBusSteps a b → ClearsError port.port a (Ok status) b
     → RenewsPort path port status.connected b result d → LooksAfterError path port a result d
-error_look_done path port a b d result status s r x y = record {
-  requested = renew_requested path port status.connected b d result y clearing_bound a r
-      x.requested.goes look_bound (omega arith);
-  on = λ can.
-      renew_on path port status.connected b d result y clearing_bound a r x.requested.goes x.gains
-      (inl can);
-  owned = renew_owned path port status.connected b d result y clearing_bound a r x.requested.goes s
-      x.bares;
+error_look_done s r x y = record {
+  requested = renew_requested y r x.requested.goes (omega arith);
+  on = λ can. renew_on y r x.requested.goes x.gains (inl can);
+  owned = renew_owned y r x.requested.goes s x.bares;
 }

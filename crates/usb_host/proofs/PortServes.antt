@@ -8,7 +8,7 @@ use Rattle.usb_pipe.specs.{write_bound}
 use Rattle.usb_enum.specs.{read_bound, EnumFault, ParentLost, Accepted}
 use Rattle.usb_enum.proofs.Interface.{went_sound}
 use Rattle.usb_table.specs.{KnownPort}
-use Rattle.usb_host.specs.{hubs, drop_bound, handling_bound, look_bound, serving_bound}
+use Rattle.usb_host.specs.{hubs, drop_bound, handling_bound, look_bound}
 use Rattle.usb_host.specs.{was_disabled, HostState, KeepsPort, PortOwned, ServesSound, Watches}
 use Rattle.usb_host.specs.{EndsAs, IsDue, StandsAt, StandsNowhere, Waits, HostSteps, OnlyBusSteps}
 use Rattle.usb_host.specs.{ClearsOwn, SettlesPort, ShowsPort, TidiesPort, EndsAt, FinishesAt}
@@ -42,136 +42,122 @@ use Rattle.usb_host.proofs.services.Services.{serves_tidied, status_failed}
 -- A port is served
 
 -- its status was not told
-pub serve_fails : (path : List ℕ) (port : KnownPort) (a b : HostState) (fault : EnumFault)
+pub serve_fails : {path : List ℕ} (port : KnownPort) {a b : HostState} {fault : EnumFault}
     → StandsAt path port a → OnlyBusSteps a b → ShowsPort port.port a (Err fault) b
     → ServesPort path port a (Err fault) b
-serve_fails path port a b fault s r x =
-    let watches = shows_watches port.port a b (Err fault) x in
+serve_fails {path = path} port {a = a} {b = b} {fault = fault} s r x =
+    let watches = shows_watches x in
     let went = x.requested.goes.went in
     let told = x.requested.told in
     record {
-      requested = requested-fails (Unit {0}) port.port serving_bound (read_bound 4) a b fault
-          x.requested (omega arith);
-      on = λ due. status_lost_on port.port a b r fault (shows_shown port.port a b (Err fault) x);
-      owned = rests_keeps_port path a (Err fault) b r went.spends.roots watches.addresses;
+      requested = requested-fails (Unit {0}) x.requested (omega arith);
+      on = λ due. status_lost_on port.port a b r fault (shows_shown x);
+      owned = rests_keeps_port path a b r went.spends.roots watches.addresses;
       sound = record {
-        sound = watched_lost (read_bound 4) path port a b s r went fault watches told;
-        bulk = λ i on still.
-            bulk_stays a b
-            (watched_stay (read_bound 4) path port a b s r went (Err fault) watches i);
-        plugs = λ i still. plugs_rests (read_bound 4) a b went r;
-        caused = watched_caused (read_bound 4) path port a b s r went fault watches told;
+        sound = watched_lost s r went fault watches told;
+        bulk = λ i on still. bulk_stays a b (watched_stay s r went watches i);
+        plugs = λ i still. plugs_rests a b went r;
+        caused = watched_caused s r went fault watches told;
       };
       pays = record {
-        pays = λ i ports still. status_lost path port a b s r went i ports fault watches;
+        pays = λ i ports still. status_lost s r went i ports fault watches;
         few = λ i most plan. omega (arith, went.spends.most);
       };
-      hubs = omega (arith, hubs-rest a b r);
-      served = λ i. status_failed path port a b s r (read_bound 4) went i.owned fault;
+      hubs = omega (arith, hubs-rest a r);
+      served = λ i. status_failed s r went i.owned fault;
     }
 
-module _ (path : List ℕ) (port : KnownPort) (a b : HostState) (s : StandsAt path port a)
-    (r : OnlyBusSteps a b) (status : PortStatus) (x : ShowsPort port.port a (Ok status) b) where
+module _ {path : List ℕ} {port : KnownPort} {a b : HostState} (s : StandsAt path port a)
+    (r : OnlyBusSteps a b) {status : PortStatus} (x : ShowsPort port.port a (Ok status) b) where
   shown_watches : Watches port.port a.world (Ok status) b.world
-  shown_watches = shows_watches port.port a b (Ok status) x
+  shown_watches = shows_watches x
 
   shown_went : HostSteps (read_bound 4) a b
   shown_went = x.requested.goes.went
 
   shown_sound : HostInvariant a → HostInvariant b
-  shown_sound i = watched_sound (read_bound 4) path port a b s r shown_went status shown_watches i
+  shown_sound i = watched_sound s r shown_went shown_watches i
 
   -- a change of connection was told
-  pub serve_looked : status.connection_changed ≡ true → (result : Result (Unit {0}) EnumFault)
-      (d : HostState) → LooksAt path port b result d → ServesPort path port a result d
-  serve_looked changed result d y =
+  pub serve_looked : status.connection_changed ≡ true → {result : Result (Unit {0}) EnumFault}
+      {d : HostState} → LooksAt path port b result d → ServesPort path port a result d
+  serve_looked changed {result = result} {d = d} y =
       let then = y.requested.goes.went in
       record {
-        requested = requested-then port.port serving_bound (read_bound 4) look_bound a b d status
-            result x.requested y.requested (omega arith);
+        requested = requested-then x.requested y.requested (omega arith);
         on = λ due.
-            looked_on (read_bound 4) port.port a b d result status r
-            (shows_shown port.port a b (Ok status) x) x.requested.goes y.on due;
-        owned = port_then path a b result d
-            (stays_rests a b r shown_went.spends.roots shown_watches.addresses) y.owned;
+            looked_on port.port a b d result status r (shows_shown x) x.requested.goes y.on due;
+        owned = port_then (stays_rests a b r shown_went.spends.roots shown_watches.addresses)
+            y.owned;
         sound = record {
           sound = λ i. y.sound.sound (shown_sound i);
           bulk = λ i on still.
               bulk_then (read_bound 4) look_bound a b d shown_went then still (bulk_stays a b
-              (watched_stay (read_bound 4) path port a b s r shown_went (Ok status) shown_watches
-              i)) (y.sound.bulk (shown_sound i) on still);
+              (watched_stay s r shown_went shown_watches i))
+              (y.sound.bulk (shown_sound i) on still);
           plugs = λ i still.
               plugs_then (read_bound 4) look_bound a b d shown_went then still
-              (plugs_rests (read_bound 4) a b shown_went r) (y.sound.plugs (shown_sound i) still);
+              (plugs_rests a b shown_went r) (y.sound.plugs (shown_sound i) still);
           caused = λ i fair caused.
-              let half = fair_before look_bound a.world b.world d.world then fair in
-              y.sound.caused (shown_sound i)
-              (fair_after (read_bound 4) a.world b.world d.world shown_went fair)
-              (causes_rests (read_bound 4) a b r shown_went s.agrees half.still
-              (shown_watches.rests tt) i caused);
+              let half = fair_before {n = look_bound} {old = a.world} {mid = b.world}
+              {new = d.world} then fair in
+              y.sound.caused (shown_sound i) (fair_after shown_went fair)
+              (causes_rests a r shown_went s.agrees half.still (shown_watches.rests tt) i caused);
         };
         pays = record {
           pays = λ i ports still.
-              after_look path port a b s r shown_went i ports status shown_watches result d
+              after_look s r shown_went i ports shown_watches result d
               (y.pays.pays (shown_sound i) still a.world status ports
-              (told_there path port a b s r shown_went i ports status shown_watches) changed);
+              (told_there s r shown_went i ports shown_watches) changed);
           few = λ i most plan.
               omega (
                 arith,
                 shown_went.spends.most,
-                y.pays.few (shown_sound i) most
-                    (plan_within-went most (read_bound 4) a b shown_went plan),
+                y.pays.few (shown_sound i) most (plan_within-went most a b shown_went plan),
               );
         };
-        hubs = omega (arith, hubs-rest a b r, y.hubs);
+        hubs = omega (arith, hubs-rest a r, y.hubs);
         served = λ i.
-            serves_looked path port a b s r (read_bound 4) shown_went i.owned status shown_watches
+            serves_looked s r shown_went i.owned shown_watches
             changed result d y.looked;
       }
 
   -- none was
-  module _ (steady : status.connection_changed ≡ false) (result : Result (Unit {0}) EnumFault)
-      (d : HostState) (q : OnlyBusSteps b d) (y : SettlesPort port.port status b result d) where
+  module _ (steady : status.connection_changed ≡ false) {result : Result (Unit {0}) EnumFault}
+      {d : HostState} (q : OnlyBusSteps b d) (y : SettlesPort port.port status b result d) where
     settled_went : HostSteps (4 * write_bound) b d
     settled_went = y.requested.goes.went
 
     settled_tidies : HostInvariant a → TidiesPort port.port status b result d
-    settled_tidies i = y.tidies (watched_plain path port a b.world s i.owned status shown_watches)
+    settled_tidies i = y.tidies (watched_plain path a s i.owned status shown_watches)
 
     settled_stands : StandsAt path port b
-    settled_stands = rests_stands (read_bound 4) path port a b s r shown_went
+    settled_stands = rests_stands s r shown_went
 
     settled_sound : ServesSound path a result d
     settled_sound = record {
       sound = λ i.
-          tidied_port (4 * write_bound) path port b d settled_stands q settled_went result
-          (settled_tidies i).tidies y.requested.told (shown_sound i);
+          tidied_port settled_stands q settled_went result (settled_tidies i).tidies
+          y.requested.told (shown_sound i);
       bulk = λ i on still.
-          bulk_stays a d (stay_joined a b d
-          (watched_stay (read_bound 4) path port a b s r shown_went (Ok status) shown_watches i)
-          (tidied_stay (4 * write_bound) path port b d settled_stands q settled_went result
-          (settled_tidies i).tidies (shown_sound i)));
+          bulk_stays a d (stay_joined a b d (watched_stay s r shown_went shown_watches i)
+          (tidied_stay settled_stands q settled_went (settled_tidies i).tidies (shown_sound i)));
       plugs = λ i still.
           plugs_then (read_bound 4) (4 * write_bound) a b d shown_went settled_went still
-          (plugs_rests (read_bound 4) a b shown_went r)
-          (plugs_rests (4 * write_bound) b d settled_went q);
+          (plugs_rests a b shown_went r) (plugs_rests b d settled_went q);
       caused = λ i fair caused.
-          let half = fair_before (4 * write_bound) a.world b.world d.world settled_went fair in
-          tidied_caused (4 * write_bound) path port b d settled_stands q settled_went result
-          (settled_tidies i).tidies y.requested.told (shown_sound i)
-          (fair_after (read_bound 4) a.world b.world d.world shown_went fair)
-          (causes_rests (read_bound 4) a b r shown_went s.agrees half.still
+          tidied_caused settled_stands q settled_went result (settled_tidies i).tidies
+          y.requested.told (shown_sound i) (fair_after shown_went fair)
+          (causes_rests a r shown_went s.agrees (fair_before settled_went fair).still
           (shown_watches.rests tt) i caused);
     }
 
     pub serve_settled : ServesPort path port a result d
     serve_settled = record {
-      requested = requested-then port.port serving_bound (read_bound 4) (4 * write_bound) a b d
-          status result x.requested y.requested (omega arith);
+      requested = requested-then x.requested y.requested (omega arith);
       on = λ due.
-          tidied_on (4 * write_bound) port.port a b d result status r q
-          (shows_shown port.port a b (Ok status) x) y.requested.goes steady due;
-      owned = rests_keeps_port path a result d (host_rests_then a b d r q)
+          tidied_on port.port a b d result status r q (shows_shown x) y.requested.goes steady due;
+      owned = rests_keeps_port path a d (host_rests_then a d r q)
           (settled_went.spends.roots ∙ shown_went.spends.roots)
           (keeps_then a.world b.world d.world shown_watches.addresses y.keeps.addresses);
       sound = settled_sound;
@@ -180,34 +166,32 @@ module _ (path : List ℕ) (port : KnownPort) (a b : HostState) (s : StandsAt pa
             let t = settled_tidies i in
             let order = i.order (went_sound (read_bound 4) a.world b.world shown_went
             (went_sound (4 * write_bound) b.world d.world settled_went still)) in
-            after_tidy path port a b s r shown_went i ports status shown_watches steady d
-            (none_rests (2 * write_bound) b d t.requested.goes.went q) order result t.tidies
+            after_tidy s r shown_went i ports shown_watches steady d
+            (none_rests b t.requested.goes.went q) order result t.tidies
             t.clears.reset t.clears.calm;
         few = λ i most plan. omega (arith, shown_went.spends.most, settled_went.spends.most);
       };
-      hubs = omega (arith, hubs-rest a b r, hubs-rest b d q);
+      hubs = omega (arith, hubs-rest a r, hubs-rest b q);
       served = λ i.
-          serves_tidied path port a b s r (read_bound 4) shown_went i.owned status shown_watches
+          serves_tidied s r shown_went i.owned shown_watches
           steady result d q (settled_tidies i).clears;
     }
 
   -- its hub has disabled it on an error: no hub of a world does
   module _ (device : Option Accepted) (failed : was_disabled port.port status device ≡ true) where
     not_failed : HostInvariant a → ⊥
-    not_failed i = none_failed path port a b.world s i status shown_watches device failed
+    not_failed i = none_failed path port a s i status shown_watches device failed
 
-    pub serve_failed : (result : Result (Unit {0}) EnumFault) (d : HostState)
+    pub serve_failed : {result : Result (Unit {0}) EnumFault} {d : HostState}
         → LooksAfterError path port b result d → hubs d.entries ≤ hubs b.entries + 1
         → ServesPort path port a result d
-    serve_failed result d y few = record {
-      requested = requested-then port.port serving_bound (read_bound 4) look_bound a b d status
-          result x.requested y.requested (omega arith);
+    serve_failed {result = result} {d = d} y few = record {
+      requested = requested-then x.requested y.requested (omega arith);
       on = λ due.
-          failed_served (read_bound 4) port.port a b d result status r x.requested.goes device
+          failed_served port.port a b d result status r x.requested.goes device
           failed
           y.on;
-      owned = port_then path a b result d
-          (stays_rests a b r shown_went.spends.roots shown_watches.addresses) y.owned;
+      owned = port_then (stays_rests a b r shown_went.spends.roots shown_watches.addresses) y.owned;
       sound = record {
         sound = λ i. absurd (not_failed i);
         bulk = λ i. absurd (not_failed i);
@@ -215,19 +199,19 @@ module _ (path : List ℕ) (port : KnownPort) (a b : HostState) (s : StandsAt pa
         caused = λ i. absurd (not_failed i);
       };
       pays = record { pays = λ i. absurd (not_failed i); few = λ i. absurd (not_failed i) };
-      hubs = omega (arith, hubs-rest a b r, few);
+      hubs = omega (arith, hubs-rest a r);
       served = λ i. absurd (not_failed i);
     }
 
 -- Where its hub was lost, that was dropped
 
 -- the host stopped as the port was served
-pub finish_fails : (path : List ℕ) (served : Result (Unit {0}) EnumFault) (fault : HostFault)
+pub finish_fails : (path : List ℕ) {served : Result (Unit {0}) EnumFault} {fault : HostFault}
     (h : HostState) → (served ≡ Err ParentLost → ⊥)
     → (PortOwned path served h → h.world.shared ≡ false) → EndsAt path served h (Err fault) h
     → FinishesAt path served h (Err fault) h
-finish_fails path served fault h other single left = record {
-  goes = host_goes_none drop_bound h;
+finish_fails path h other single left = record {
+  goes = host_goes_none;
   holds = omega arith;
   drops = record {
     owned = record { ends = single; rooted = λ r at. tt };
@@ -241,35 +225,32 @@ finish_fails path served fault h other single left = record {
   fewer = λ is. absurd (other is);
 }
 
-module _ (path : List ℕ) (port : KnownPort) (a b d : HostState) (s : StandsAt path port a)
-    (served : Result (Unit {0}) EnumFault) (result : Result (Unit {0}) HostFault)
+module _ {path : List ℕ} {port : KnownPort} {a b d : HostState} (s : StandsAt path port a)
+    {served : Result (Unit {0}) EnumFault} {result : Result (Unit {0}) HostFault}
     (ends : EndsAs served result) (y : FinishesAt path served b result d) where
   -- a part of what is done at a port
-  finished_part : (n : ℕ) → HostSteps n a b → n + drop_bound ≤ handling_bound
+  finished_part : {n : ℕ} → HostSteps n a b → n + drop_bound ≤ handling_bound
       → b.stopped ≡ a.stopped → KeepsPort path a served b → ServesSound path a served b
       → Part handling_bound a result d
-  finished_part n went le same owned sound = record {
-    goes = host_goes_then handling_bound n drop_bound a b d (record { went = went; going = same })
-        y.goes le;
-    owned = port_finished path port served a b result d s went.spends.roots owned y.drops.owned;
-    sound = finished_sound path n drop_bound served result a b d went y.goes.went ends sound
-        y.drops;
+  finished_part {n = n} went le same owned sound = record {
+    goes = host_goes_then {m = n} (record { went = went; going = same }) y.goes le;
+    owned = port_finished path port a result d s went.spends.roots owned y.drops.owned;
+    sound = finished_sound n served result a b d went y.goes.went ends sound y.drops;
   }
 
   pub look_finished : LooksAt path port a served b → Part handling_bound a result d
   look_finished x =
-      finished_part look_bound x.requested.goes.went (omega arith) x.requested.goes.going x.owned
+      finished_part x.requested.goes.went (omega arith) x.requested.goes.going x.owned
       x.sound
 
   pub handle_finished : ServesPort path port a served b
       → HandlesPort path (IsDue a.world port.port) a result d
   handle_finished x = record {
-    part = finished_part serving_bound x.requested.goes.went (omega arith) x.requested.goes.going
-        x.owned x.sound;
+    part = finished_part x.requested.goes.went (omega arith) x.requested.goes.going x.owned x.sound;
     handled = handles_at path (IsDue a.world port.port) result a d
         (handled result served a b d ends y.holds x.on)
         (λ i. handled_at path served result a b d ends y.left (x.served i));
-    pays = handling_pays path port a b d s x.requested.goes.went y.goes.went served result ends
+    pays = handling_pays a b d s x.requested.goes.went y.goes.went served result ends
         x.requested.told x.sound x y;
   }
 
@@ -278,33 +259,30 @@ module _ (path : List ℕ) (port : KnownPort) (a b d : HostState) (s : StandsAt 
   own_finished r x =
       let roots = x.requested.goes.went.spends.roots in
       record {
-        goes = host_goes_then handling_bound (read_bound 4 + 2 * write_bound) drop_bound a b d
-            x.requested.goes y.goes (omega arith);
-        holds = no_work_then a b d
-            (rests_holds (read_bound 4 + 2 * write_bound) a b x.requested.goes r) y.holds;
-        owned = port_finished path port served a b result d s roots
-            (rests_keeps_port path a served b r roots x.addresses) y.drops.owned;
+        goes = host_goes_then x.requested.goes y.goes (omega arith);
+        holds = no_work_then a b d (rests_holds a b x.requested.goes r) y.holds;
+        owned = port_finished path port a result d s roots
+            (rests_keeps_port path a {result = served} b r roots x.addresses) y.drops.owned;
       }
 
 -- A second look
 
 -- the port stands nowhere
-pub look_nowhere : (path : List ℕ) (h : HostState) → StandsNowhere path h → Waits path h
+pub look_nowhere : {path : List ℕ} {h : HostState} → StandsNowhere path h → Waits path h
     → LooksOnceMore path h (Ok Quiet) h
-look_nowhere path h none waits = record {
-  part = part-none handling_bound Quiet h;
+look_nowhere {path = path} {h = h} none waits = record {
+  part = part-none;
   did = record { did = refl; some = λ r. absurd (waits_somewhere path h none waits r) };
   looked = λ s. absurd (waits_somewhere path h none waits s.rooted);
 }
 
-module _ (path : List ℕ) (port : KnownPort) (a b d : HostState) (s : StandsAt path port a)
-    (served : Result (Unit {0}) EnumFault) where
-  pub look_once_fails : (fault : HostFault) (ends : EndsAs served (Err fault))
+module _ {path : List ℕ} {port : KnownPort} {a b d : HostState} (s : StandsAt path port a)
+    {served : Result (Unit {0}) EnumFault} where
+  pub look_once_fails : {fault : HostFault} (ends : EndsAs served (Err fault))
       → FinishesAt path served b (Err fault) d → LooksAt path port a served b
-      → (other : Result Round HostFault) → IsErr other → LooksOnceMore path a other d
-  look_once_fails fault ends y x other e = record {
-    part = part-fails handling_bound handling_bound a d fault other
-        (look_finished path port a b d s served (Err fault) ends y x) e (omega arith);
+      → {other : Result Round HostFault} → IsErr other → LooksOnceMore path a other d
+  look_once_fails ends y x {other = other} e = record {
+    part = part-fails other (look_finished s ends y x) e (omega arith);
     did = is_err-if_ok other _ e;
     looked = is_err-if_ok other _ e;
   }
@@ -312,8 +290,7 @@ module _ (path : List ℕ) (port : KnownPort) (a b d : HostState) (s : StandsAt 
   pub look_once : EndsAs served (Ok tt) → FinishesAt path served b (Ok tt) d → Waits path a
       → LooksAt path port a served b → LooksOnceMore path a (Ok Worked) d
   look_once ends y waits x = record {
-    part = part-wider Round handling_bound handling_bound a d tt Worked
-        (look_finished path port a b d s served (Ok tt) ends y x) (omega arith);
+    part = part-wider Round (look_finished s ends y x) (omega arith);
     did = record {
       did = advances_then a b d (served_on served tt a b ends (x.on (inr waits))) y.holds;
       some = λ r is. cc is;

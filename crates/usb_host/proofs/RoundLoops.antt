@@ -10,30 +10,29 @@ use Rattle.usb_resources.specs.{IsFull}
 use Rattle.usb_enum.proofs.Interface.{went_sound}
 use Rattle.usb_table.specs.{is_hub, is_waiting, ComesAfter, IsLast, IsNext}
 use Rattle.usb_host.specs.{Agrees, handling_bound, hub_poll_bound, hubs_bound, looks_bound}
-use Rattle.usb_host.specs.{roots_bound, told_bound, RootsPaid, RoundPaid, ToldPaid, Weights}
-use Rattle.usb_host.specs.{HostState, IsRooted, Waits, AddsNoWork, Did, either, HandlesNumber}
-use Rattle.usb_host.specs.{HandlesPort, HubsPolled, LookedAgain, LooksAgain, LooksOnceMore}
-use Rattle.usb_host.specs.{RootsServed, ServedTold, ServesEach, ServesHub, ServesHubs, ServesPorts}
-use Rattle.usb_host.specs.{ServesRoots, bit_clear, bit_set, next_hub, no_device, no_hub, no_root}
-use Rattle.usb_host.specs.{none_yet, root_changed, root_steady, HostInvariant, NoneWait, Part}
-use Rattle.usb_host.specs.{HostFault, Round, Quiet, Worked}
+use Rattle.usb_host.specs.{RootsPaid, RoundPaid, ToldPaid, Weights, HostState, IsRooted, Waits}
+use Rattle.usb_host.specs.{AddsNoWork, Did, either, HandlesNumber, HandlesPort, HubsPolled}
+use Rattle.usb_host.specs.{LookedAgain, LooksAgain, LooksOnceMore, RootsServed, ServedTold}
+use Rattle.usb_host.specs.{ServesEach, ServesHub, ServesHubs, ServesPorts, ServesRoots, bit_clear}
+use Rattle.usb_host.specs.{bit_set, next_hub, no_device, no_hub, no_root, none_yet, root_changed}
+use Rattle.usb_host.specs.{root_steady, HostInvariant, NoneWait, Part, HostFault, Round, Quiet}
+use Rattle.usb_host.specs.{Worked, hubs_most, handling_most}
 use Rattle.usb_host.proofs.payments.HubPayments.{HubsSoFar, hubs_all, hubs_failed, hubs_next}
-use Rattle.usb_host.proofs.payments.HubPayments.{hubs_none, rank_before}
 use Rattle.usb_host.proofs.rests.IdleRounds.{none_next, none_shows}
 use Rattle.usb_host.proofs.StepSums.{did_holds, did_then, no_work_then, worked_after}
 use Rattle.usb_host.proofs.RoundParts.{hubs_fail, looks_fail, part-fails, part-none, part-then}
 use Rattle.usb_host.proofs.RoundParts.{part-wider}
-use Rattle.usb_host.proofs.payments.Payments.{is_err-if_ok}
+use Rattle.usb_host.proofs.payments.Payments.{is_err-if_ok, costs_none, few_stop}
 use Rattle.usb_host.proofs.rests.QuietPorts.{none_changed}
 use Rattle.usb_host.proofs.entries.Ranks.{rank_after, rank_after_most, rank_more, rank_most}
-use Rattle.usb_host.proofs.entries.Ranks.{rank_within}
+use Rattle.usb_host.proofs.entries.Ranks.{rank_within, rank_rises}
 use Rattle.usb_host.proofs.rests.RestingRounds.{Polled, calm_then, none_waits, ok_is, polled_all}
 use Rattle.usb_host.proofs.rests.RestingRounds.{polled_then, quiet_second}
 use Rattle.usb_host.proofs.entries.Roots.{on_failed}
 use Rattle.usb_host.proofs.payments.RoundPayments.{one_waits}
 use Rattle.usb_host.proofs.services.RoundServices.{looked_then}
 use Rattle.usb_host.proofs.payments.ToldPayments.{RootsSoFar, ToldSoFar, root_shows, roots_failed}
-use Rattle.usb_host.proofs.payments.ToldPayments.{roots_next, roots_none, told_all, told_clear}
+use Rattle.usb_host.proofs.payments.ToldPayments.{roots_next, told_all, told_clear}
 use Rattle.usb_host.proofs.payments.ToldPayments.{told_failed, told_next, told_so_far_none}
 
 -- Root ports
@@ -51,23 +50,25 @@ pub record RootsHandled (n : ℕ) (round : Round) (a b : HostState) : Type 0 whe
 
 pub roots_begin : (h : HostState) → RootsHandled 1 Quiet h h
 roots_begin h = record {
-  part = part-none 0 Quiet h;
+  part = part-none;
   did = refl;
   same = λ quiet. refl;
-  unchanged = λ quiet k least below. absurd (omega (arith, least, below));
+  unchanged = λ quiet k least below. absurd (omega arith);
   served = λ s. no_root h;
-  pays = roots_none h;
+  pays = record {
+    stops = λ c plan w. few_stop c (handling_most c) h h (omega arith) (omega arith);
+    pays = λ c plan w still. refl;
+  };
   idle = λ none. refl;
 }
 
-module _ (n : ℕ) (round : Round) (a b : HostState) (x : RootsHandled n round a b)
+module _ {n : ℕ} {round : Round} {a b : HostState} (x : RootsHandled n round a b)
     (least : 1 ≤ n) where
   -- the next one had not changed
   pub roots_steady : (root_port_at b.world n).connection_changed ≡ false
       → RootsHandled (n + 1) round a b
   roots_steady steady = record {
-    part = part-wider Round ((n + 1 - 1) * handling_bound) ((n - 1) * handling_bound) a b round
-        round x.part (omega (arith, least));
+    part = part-wider Round x.part (omega arith);
     did = x.did;
     same = x.same;
     unchanged = λ quiet k first below.
@@ -80,51 +81,46 @@ module _ (n : ℕ) (round : Round) (a b : HostState) (x : RootsHandled n round a
     idle = x.idle;
   }
 
-  module _ (d : HostState) (on : (root_port_at b.world n).connection_changed ≡ true) where
+  module _ {d : HostState} (on : (root_port_at b.world n).connection_changed ≡ true) where
     -- it had, and was handled
     pub roots_handled : n ≤ roots_of b.world
         → HandlesPort (n ∷ []) ((root_port_at b.world n).connection_changed ≡ true) b (Ok tt) d
         → RootsHandled (n + 1) Worked a d
     roots_handled most y = record {
-      part = part-then ((n + 1 - 1) * handling_bound) ((n - 1) * handling_bound) handling_bound a b
-          d round (Ok Worked) x.part
-          (part-wider Round handling_bound handling_bound b d tt Worked y.part (omega arith))
-          (omega (arith, least));
-      did = worked_after ((n - 1) * handling_bound) round a b d x.part.goes x.did
-          (y.handled.advances on);
+      part = part-then (Ok Worked) x.part
+          (part-wider Round {k = handling_bound} {y = Worked} y.part (omega arith)) (omega arith);
+      did = worked_after round a b d x.part.goes x.did (y.handled.advances on);
       same = λ quiet. absurd (cc quiet);
       unchanged = λ quiet. absurd (cc quiet);
       served = λ s.
           root_changed n round (x.served s) on (y.handled.served (x.part.sound.sound.sound s));
-      pays = roots_next ((n - 1) * handling_bound) handling_bound round n a b d x.part.goes.went
-          y.part.goes.went x.part.sound x.pays tt (root_shows b.world n least most on) y.pays;
+      pays = roots_next n a b d x.part.goes.went y.part.goes.went x.part.sound x.pays
+          (root_shows b.world n least most on) y.pays;
       idle = λ none. absurd (none_shows a b n (x.same (x.idle none)) none on);
     }
 
-    pub roots_cut : n ≤ 7 → (fault : HostFault) (other : Result Round HostFault) → IsErr other
+    pub roots_cut : n ≤ 7 → {fault : HostFault} {other : Result Round HostFault} → IsErr other
         → HandlesPort (n ∷ []) ((root_port_at b.world n).connection_changed ≡ true) b (Err fault) d
         → ServesEach a other d
-    roots_cut most fault other e y = record {
-      part = part-fails roots_bound (n * handling_bound) a d fault other
-          (part-then (n * handling_bound) ((n - 1) * handling_bound) handling_bound a b d round
-          _ x.part y.part (omega (arith, least))) e (omega (arith, most));
+    roots_cut most {other = other} e y = record {
+      part = part-fails other (part-then {k = n * handling_bound} _ x.part y.part (omega arith)) e
+          (omega arith);
       serves = is_err-if_ok other (λ r. ServesRoots r a d) e;
-      pays = roots_failed ((n - 1) * handling_bound) handling_bound round n a b d x.part.goes.went
-          y.part.goes.went x.part.sound x.pays (Err fault) y.pays other RootsPaid e;
+      pays = roots_failed n a b d x.part.goes.went y.part.goes.went x.part.sound x.pays y.pays other
+          RootsPaid e;
       idle = λ none. absurd (none_shows a b n (x.same (x.idle none)) none on);
     }
 
 -- all of them were
-pub roots_end : (n : ℕ) (round : Round) (a b : HostState) → RootsHandled n round a b → n ≤ 8
+pub roots_end : {n : ℕ} (round : Round) {a b : HostState} → RootsHandled n round a b → n ≤ 8
     → n ≡ roots_of a.world + 1 → ServesEach a (Ok round) b
-roots_end n round a b x most end = record {
-  part = part-wider Round roots_bound ((n - 1) * handling_bound) a b round round x.part
-      (omega (arith, most));
+roots_end {n = n} round {a = a} {b = b} x most end = record {
+  part = part-wider Round x.part (omega arith);
   serves = record {
     did = x.did;
     none = λ quiet. record {
       same = x.same quiet;
-      none = none_changed a.world n (omega (arith, end)) (x.unchanged quiet);
+      none = none_changed a.world n (omega arith) (x.unchanged quiet);
     };
     served = λ s. subst (λ k. RootsServed k round a b) end (x.served s);
   };
@@ -141,48 +137,43 @@ pub record PortsHandled (hub : List ℕ) (bits n : ℕ) (a b : HostState) : Type
   pub served : HostInvariant a → ServedTold hub bits n a b
   pub pays : ToldSoFar hub bits n a b
 
-pub ports_begin : (hub : List ℕ) (bits : ℕ) (h : HostState) → PortsHandled hub bits 1 h h
-ports_begin hub bits h = record {
-  part = part-none 0 tt h;
+pub ports_begin : {hub : List ℕ} {bits : ℕ} (h : HostState) → PortsHandled hub bits 1 h h
+ports_begin h = record {
+  part = part-none;
   holds = omega arith;
   served = λ s. none_yet h;
-  pays = told_so_far_none hub bits h;
+  pays = told_so_far_none h;
 }
 
-module _ (hub : List ℕ) (bits n : ℕ) (a b : HostState) (x : PortsHandled hub bits n a b)
+module _ {hub : List ℕ} {bits n : ℕ} {a b : HostState} (x : PortsHandled hub bits n a b)
     (least : 1 ≤ n) where
   -- of the next one it did not tell
   pub ports_clear : has_bit bits n ≡ false → PortsHandled hub bits (n + 1) a b
   ports_clear off = record {
-    part = part-wider (Unit {0}) ((n + 1 - 1) * handling_bound) ((n - 1) * handling_bound) a b tt
-        tt x.part (omega (arith, least));
+    part = part-wider (Unit {0}) x.part (omega arith);
     holds = x.holds;
     served = λ s. bit_clear n (x.served s) off;
-    pays = told_clear hub bits n a b off x.pays;
+    pays = told_clear bits n a b off x.pays;
   }
 
-  module _ (most : n ≤ 7) (d : HostState) where
+  module _ (most : n ≤ 7) {d : HostState} where
     -- it did, and that was handled
-    pub ports_handled : (round : Round) → has_bit bits n ≡ true
-        → HandlesNumber hub n b (Ok round) d → PortsHandled hub bits (n + 1) a d
-    ports_handled round on y = record {
-      part = part-then ((n + 1 - 1) * handling_bound) ((n - 1) * handling_bound) handling_bound a b
-          d tt (Ok tt) x.part
-          (part-wider (Unit {0}) handling_bound handling_bound b d round tt y.part (omega arith))
-          (omega (arith, least));
-      holds = no_work_then a b d x.holds
-          (did_holds handling_bound round b d y.part.goes y.handled.did);
+    pub ports_handled : {round : Round} → has_bit bits n ≡ true → HandlesNumber hub n b (Ok round) d
+        → PortsHandled hub bits (n + 1) a d
+    ports_handled {round = round} on y = record {
+      part = part-then (Ok tt) x.part
+          (part-wider (Unit {0}) {k = handling_bound} {y = tt} y.part (omega arith)) (omega arith);
+      holds = no_work_then a b d x.holds (did_holds round b d y.part.goes y.handled.did);
       served = λ s. bit_set n (x.served s) on (y.handled.served (x.part.sound.sound.sound s));
       pays = told_next ((n - 1) * handling_bound) handling_bound hub bits n least most a b d
           x.part.goes.went y.part.goes.went x.part.sound x.pays round on y.pays;
     }
 
-    pub ports_cut : (fault : HostFault) (other : Result (Unit {0}) HostFault) → IsErr other
+    pub ports_cut : {fault : HostFault} {other : Result (Unit {0}) HostFault} → IsErr other
         → HandlesNumber hub n b (Err fault) d → ServesPorts hub bits a other d
-    ports_cut fault other e y = record {
-      part = part-fails told_bound (n * handling_bound) a d fault other
-          (part-then (n * handling_bound) ((n - 1) * handling_bound) handling_bound a b d tt
-          _ x.part y.part (omega (arith, least))) e (omega (arith, most));
+    ports_cut {fault = fault} {other = other} e y = record {
+      part = part-fails other (part-then {k = n * handling_bound} _ x.part y.part (omega arith)) e
+          (omega arith);
       holds = on_failed other (AddsNoWork a d) e;
       served = on_failed other (HostInvariant a → ServedTold hub bits 8 a d) e;
       pays = told_failed ((n - 1) * handling_bound) handling_bound hub bits n least most a b d
@@ -190,14 +181,13 @@ module _ (hub : List ℕ) (bits n : ℕ) (a b : HostState) (x : PortsHandled hub
           (λ (c : Weights) done. ToldPaid hub bits c) e;
     }
 
-pub ports_end : (hub : List ℕ) (bits n : ℕ) (a b : HostState) → PortsHandled hub bits n a b → n ≡ 8
-    → ServesPorts hub bits a (Ok tt) b
-ports_end hub bits n a b x end = record {
-  part = part-wider (Unit {0}) told_bound ((n - 1) * handling_bound) a b tt tt x.part
-      (omega (arith, end));
+pub ports_end : {hub : List ℕ} (bits : ℕ) {n : ℕ} {a b : HostState} → PortsHandled hub bits n a b
+    → n ≡ 8 → ServesPorts hub bits a (Ok tt) b
+ports_end {hub = hub} bits {a = a} {b = b} x end = record {
+  part = part-wider (Unit {0}) x.part (omega arith);
   holds = x.holds;
   served = λ s. subst (λ k. ServedTold hub bits k a b) end (x.served s);
-  pays = told_all hub bits tt a b (subst (λ k. ToldSoFar hub bits k a b) end x.pays);
+  pays = told_all a b (rw end at x.pays);
 }
 
 -- Hubs
@@ -214,70 +204,67 @@ pub record HubsHandled (last : Option (List ℕ)) (round : Round) (a b : HostSta
 
 pub hubs_begin : (h : HostState) → HubsHandled None Quiet h h
 hubs_begin h = record {
-  part = part-none 0 Quiet h;
+  part = part-none;
   did = refl;
   calm = λ quiet still x. here h.world;
   polled = λ s quiet still taken hub first. absurd (first tt);
   polls = λ s still. no_hub h;
-  pays = hubs_none h;
+  pays = record {
+    stops = λ c plan w. few_stop c (hubs_most c) h h (omega arith) (omega arith);
+    pays = λ c plan w still. record { polls = 0; few = omega arith; paid = costs_none c 0 h };
+  };
 }
 
-module _ (last : Option (List ℕ)) (hub : List ℕ) (round : Round) (a b d : HostState)
+module _ {last : Option (List ℕ)} {hub : List ℕ} {round : Round} {a b d : HostState}
     (x : HubsHandled last round a b) (before : IfSome last IsPath) (path : IsPath hub)
     (next : IsNext is_hub last b.entries hub) where
-  pub hubs_handled : (one : Round) → ServesHub hub b (Ok one) d
+  pub hubs_handled : {one : Round} → ServesHub hub b (Ok one) d
       → HubsHandled (Some hub) (either round one) a d
-  hubs_handled one y =
+  hubs_handled {one = one} y =
       let first = x.part.goes in
       let second = y.keeps.part.goes in
       record {
-        part = part-then (rank_after (Some hub) * hub_poll_bound)
-            (rank_after last * hub_poll_bound) hub_poll_bound a b d round (Ok (either round one))
-            x.part (part-wider Round hub_poll_bound hub_poll_bound b d one (either round one)
-            y.keeps.part (omega arith))
-            (rank_more hub_poll_bound last hub before path next.stands.after);
-        did = did_then (rank_after last * hub_poll_bound) hub_poll_bound round one a b d first
-            second x.did y.polls.did;
+        part = part-then (Ok (either round one)) x.part
+            (part-wider Round {k = hub_poll_bound} {y = either round one} y.keeps.part
+            (omega arith)) (rank_more hub_poll_bound last hub before path next.stands.after);
+        did = did_then round one a b d first second x.did y.polls.did;
         calm = λ quiet still.
-            calm_then (rank_after last * hub_poll_bound) hub_poll_bound round one a b d first
+            calm_then round one a b d first
             second quiet still x.calm y.keeps.calm;
         polled = λ s quiet still taken.
-            polled_then (rank_after last * hub_poll_bound) hub_poll_bound round one a b d first
-            second quiet still last hub next taken s x.part.sound.sound y.polls.did x.polled
+            polled_then round one a b d first
+            second quiet still next taken s x.part.sound.sound y.polls.did x.polled
             y.keeps;
         polls = λ s still.
             next_hub last hub round one
             (x.polls s (went_sound hub_poll_bound b.world d.world second.went still)) next
             (y.polls.polled (x.part.sound.sound.sound s) still);
-        pays = hubs_next (rank_after last * hub_poll_bound) hub_poll_bound last hub round a b d
-            first.went second.went x.part.sound x.pays one
-            (rank_before last hub before path next.stands.after) y.pays;
+        pays = hubs_next hub a b d first.went second.went x.part.sound x.pays one
+            (omega (arith, rank_rises last hub before path next.stands.after)) y.pays;
       }
 
-  pub hubs_cut : (fault : HostFault) (other : Result Round HostFault) → IsErr other
+  pub hubs_cut : {fault : HostFault} {other : Result Round HostFault} → IsErr other
       → ServesHub hub b (Err fault) d → (a.entries ≡ [] → b ≡ a) → ServesHubs a other d
-  hubs_cut fault other e y idle = record {
-    keeps = hubs_fail other a d e (part-fails hubs_bound
-        (rank_after (Some hub) * hub_poll_bound) a d fault other
-        (part-then (rank_after (Some hub) * hub_poll_bound) (rank_after last * hub_poll_bound)
-        hub_poll_bound a b d round _ x.part y.keeps.part
+  hubs_cut {other = other} e y idle = record {
+    keeps = hubs_fail e (part-fails {k = hubs_bound} other
+        (part-then {k = rank_after (Some hub) * hub_poll_bound} _ x.part y.keeps.part
         (rank_more hub_poll_bound last hub before path next.stands.after)) e
         (rank_within hub_poll_bound (rank_after (Some hub)) (rank_most hub path)));
     did = is_err-if_ok other (λ r. Did r a d) e;
     polls = is_err-if_ok other _ e;
-    pays = hubs_failed (rank_after last * hub_poll_bound) hub_poll_bound last hub round a b d
-        x.part.goes.went y.keeps.part.goes.went x.part.sound x.pays (Err fault) y.pays other
+    pays = hubs_failed hub a b d x.part.goes.went y.keeps.part.goes.went x.part.sound x.pays y.pays
+        other
         RoundPaid e;
-    idle = λ none. absurd (none_next is_hub last a b hub (idle none) none next);
+    idle = λ none. absurd (none_next (idle none) none next);
   }
 
-pub hubs_all_handled : (last : Option (List ℕ)) (round : Round) (a b : HostState)
+pub hubs_all_handled : (last : Option (List ℕ)) (round : Round) {a b : HostState}
     → HubsHandled last round a b → IfSome last IsPath → IsLast is_hub last b.entries
     → Agrees b.entries b.addresses → (a.entries ≡ [] → (round ≡ Quiet) × (b ≡ a))
     → ServesHubs a (Ok round) b
-hubs_all_handled last round a b x path none agrees idle = record {
+hubs_all_handled last round {a = a} {b = b} x path none agrees idle = record {
   keeps = record {
-    part = part-wider Round hubs_bound (rank_after last * hub_poll_bound) a b round round x.part
+    part = part-wider Round x.part
         (rank_within hub_poll_bound (rank_after last) (rank_after_most last path));
     calm = λ is still. x.calm (ok_is round Quiet is) still;
     silent = λ s is still taken.
@@ -301,57 +288,52 @@ pub record WaitingHandled (last : Option (List ℕ)) (round : Round) (a b : Host
 
 pub waiting_begin : (h : HostState) → WaitingHandled None Quiet h h
 waiting_begin h = record {
-  part = part-none 0 Quiet h;
+  part = part-none;
   did = refl;
   none = λ r quiet. (refl, refl);
   looked = λ s. no_device h;
 }
 
-module _ (last : Option (List ℕ)) (path : List ℕ) (round : Round) (a b d : HostState)
+module _ {last : Option (List ℕ)} {path : List ℕ} {round : Round} {a b d : HostState}
     (x : WaitingHandled last round a b) (before : IfSome last IsPath) (is : IsPath path)
     (waits : Waits path b) (after : ComesAfter last path) where
-  pub waiting_handled : (one : Round) → LooksOnceMore path b (Ok one) d
+  pub waiting_handled : {one : Round} → LooksOnceMore path b (Ok one) d
       → WaitingHandled (Some path) (either round one) a d
-  waiting_handled one y = record {
-    part = part-then (rank_after (Some path) * handling_bound) (rank_after last * handling_bound)
-        handling_bound a b d round (Ok (either round one)) x.part
-        (part-wider Round handling_bound handling_bound b d one (either round one) y.part
-        (omega arith)) (rank_more handling_bound last path before is after);
-    did = did_then (rank_after last * handling_bound) handling_bound round one a b d x.part.goes
-        y.part.goes x.did y.did.did;
+  waiting_handled {one = one} y = record {
+    part = part-then (Ok (either round one)) x.part
+        (part-wider Round {k = handling_bound} {y = either round one} y.part (omega arith))
+        (rank_more handling_bound last path before is after);
+    did = did_then round one a b d x.part.goes y.part.goes x.did y.did.did;
     none = λ r quiet. absurd (y.did.some (x.part.owned.rooted r) (quiet_second round one quiet));
     looked = λ s.
         let once = y.looked (x.part.sound.sound.sound s) in
         looked_then last path round one a b d (x.looked s) waits after once.0 once.1;
   }
 
-  pub waiting_cut : (fault : HostFault) (other : Result Round HostFault) → IsErr other
+  pub waiting_cut : {fault : HostFault} {other : Result Round HostFault} → IsErr other
       → LooksOnceMore path b (Err fault) d → (NoneWait a.entries → b ≡ a) → LooksAgain a other d
-  waiting_cut fault other e y idle = record {
-    keeps = looks_fail other a d e (part-fails looks_bound
-        (rank_after (Some path) * handling_bound) a d fault other
-        (part-then (rank_after (Some path) * handling_bound) (rank_after last * handling_bound)
-        handling_bound a b d round _ x.part y.part
+  waiting_cut {other = other} e y idle = record {
+    keeps = looks_fail e (part-fails {k = looks_bound} other
+        (part-then {k = rank_after (Some path) * handling_bound} _ x.part y.part
         (rank_more handling_bound last path before is after)) e
         (rank_within handling_bound (rank_after (Some path)) (rank_most path is)))
-        (λ none. one_waits a b path (idle none) waits none);
+        (λ none. one_waits (idle none) waits none);
     did = is_err-if_ok other (λ r. Did r a d) e;
     looked = is_err-if_ok other _ e;
   }
 
-pub waiting_end : (last : Option (List ℕ)) (round : Round) (a b : HostState)
+pub waiting_end : {last : Option (List ℕ)} {round : Round} {a b : HostState}
     → WaitingHandled last round a b → IfSome last IsPath → Agrees b.entries b.addresses
     → (IsFull b.addresses ⊎ IsLast is_waiting last b.entries)
     → (NoneWait a.entries → (round ≡ Quiet) × (b ≡ a)) → LooksAgain a (Ok round) b
-waiting_end last round a b x path agrees all idle = record {
+waiting_end {last = last} {round = round} x path agrees all idle = record {
   keeps = record {
-    part = part-wider Round looks_bound (rank_after last * handling_bound) a b round round x.part
+    part = part-wider Round x.part
         (rank_within handling_bound (rank_after last) (rank_after_most last path));
     rest = λ r is.
         let rests = x.none r (ok_is round Quiet is) in (
           rests.0,
-          none_waits b.entries b.addresses agrees
-              (subst (λ l. IsFull b.addresses ⊎ IsLast is_waiting l b.entries) rests.1 all),
+          none_waits agrees (rw rests.1 at all),
         );
     idle = λ none. (ap (λ (r : Round). Ok r) (idle none).0, (idle none).1);
   };

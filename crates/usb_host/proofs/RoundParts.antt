@@ -1,5 +1,5 @@
 -- What the parts of a round keep.
-use Rattle.std.proofs.Common.{◌≡◌, ◌∙◌, ◌+◌, ◌≤◌, arith, refl, sym, ap, subst, ℕ, Bool, true, false}
+use Rattle.std.proofs.Common.{◌≡◌, ◌∙◌, ◌+◌, ◌≤◌, arith, refl, ap, ℕ, Bool, true, false}
 use Rattle.std.proofs.Common.{List, Option, None, Some, is_some, Result, Ok, Err}
 use Rattle.std.specs.Prelude.{IsErr, IsOk, IsSome}
 use Rattle.arrayvec.specs.ArrayVec.{ArrayVec}
@@ -37,76 +37,64 @@ use Rattle.usb_host.proofs.knowledge.Soundness.{occupied_kept, sound_dropped}
 
 -- One part after another
 
-pub part-none : {A : Type 0} (n : ℕ) (x : A) (h : HostState) → Part n h (Ok x) h
-part-none n x h = record {
-  goes = host_goes_none n h;
-  owned = stays_owned_none h;
-  sound = part_none h;
-}
+pub part-none : {A : Type 0} {n : ℕ} {x : A} {h : HostState} → Part n h (Ok x) h
+part-none {h = h} = record { goes = host_goes_none; owned = stays_owned_none; sound = part_none h }
 
-pub part-then : {A B : Type 0} (k m n : ℕ) (a b c : HostState) (x : A) (result : Result B HostFault)
+pub part-then : {A B : Type 0} {k m n : ℕ} {a b c : HostState} {x : A} (result : Result B HostFault)
     → Part m a (Ok x) b → Part n b result c → m + n ≤ k → Part k a result c
-part-then k m n a b c x (Ok y) p q le = record {
-  goes = host_goes_then k m n a b c p.goes q.goes le;
-  owned = stays_owned_then a b c p.owned q.owned;
-  sound = part_then m n a b c p.goes.went q.goes.went p.sound q.sound;
+part-then {m = m} {a = a} {b = b} {c = c} (Ok y) p q le = record {
+  goes = host_goes_then p.goes q.goes le;
+  owned = stays_owned_then p.owned q.owned;
+  sound = part_then m a b c p.goes.went q.goes.went p.sound q.sound;
 }
-part-then k m n a b c x (Err fault) p q le = record {
-  goes = host_goes_then k m n a b c p.goes q.goes le;
-  owned = single_then a b c p.owned q.owned;
+part-then (Err fault) p q le = record {
+  goes = host_goes_then p.goes q.goes le;
+  owned = single_then p.owned q.owned;
   sound = tt;
 }
 
-pub part-wider : {A : Type 0} (B : Type 0) (k m : ℕ) (a b : HostState) (x : A) (y : B)
+pub part-wider : {A : Type 0} (B : Type 0) {k m : ℕ} {a b : HostState} {x : A} {y : B}
     → Part m a (Ok x) b → m ≤ k → Part k a (Ok y) b
-part-wider B k m a b x y p le = record {
-  goes = goes_wider m k a b p.goes le;
-  owned = p.owned;
-  sound = p.sound;
-}
+part-wider B p le = record { goes = goes_wider p.goes le; owned = p.owned; sound = p.sound }
 
-pub part-fails : {A B : Type 0} (k m : ℕ) (a b : HostState) (fault : HostFault)
+pub part-fails : {A B : Type 0} {k m : ℕ} {a b : HostState} {fault : HostFault}
     (other : Result B HostFault) → Part {A = A} m a (Err fault) b → IsErr other → m ≤ k
     → Part k a other b
-part-fails k m a b fault (Ok y) p e le = absurd (cc e)
-part-fails k m a b fault (Err why) p e le = record {
-  goes = goes_wider m k a b p.goes le;
-  owned = p.owned;
-  sound = tt;
-}
+part-fails (Ok y) p e le = absurd (cc e)
+part-fails (Err why) p e le = record { goes = goes_wider p.goes le; owned = p.owned; sound = tt }
 
 -- Parts that failed
 
-not_done : {A : Type 0} (result : Result A HostFault) (x : A) {P : Type 0} → IsErr result
+not_done : {A : Type 0} (result : Result A HostFault) {x : A} {P : Type 0} → IsErr result
     → result ≡ Ok x → P
-not_done (Ok y) x e is = absurd (cc e)
-not_done (Err fault) x e is = absurd (cc is)
+not_done (Ok y) e is = absurd (cc e)
+not_done (Err fault) e is = absurd (cc is)
 
-module _ (result : Result Round HostFault) (a c : HostState) (e : IsErr result) where
-  pub hub_fails : (hub : List ℕ) → Part hub_poll_bound a result c → HubKeeps hub a result c
-  hub_fails hub x = record {
+module _ {result : Result Round HostFault} {a c : HostState} (e : IsErr result) where
+  pub hub_fails : {hub : List ℕ} → Part hub_poll_bound a result c → HubKeeps hub a result c
+  hub_fails x = record {
     part = x;
-    calm = λ is. not_done result Quiet e is;
-    silent = λ s is. not_done result Quiet e is;
+    calm = λ is. not_done result e is;
+    silent = λ s is. not_done result e is;
   }
 
   pub hubs_fail : Part hubs_bound a result c → HubsKeep a result c
   hubs_fail x = record {
     part = x;
-    calm = λ is. not_done result Quiet e is;
-    silent = λ s is. not_done result Quiet e is;
+    calm = λ is. not_done result e is;
+    silent = λ s is. not_done result e is;
     agrees = on_failed result (Agrees c.entries c.addresses) e;
   }
 
   pub looks_fail : Part looks_bound a result c → (NoneWait a.entries → ⊥) → LooksKeep a result c
   looks_fail x waits = record {
     part = x;
-    rest = λ r is. not_done result Quiet e is;
+    rest = λ r is. not_done result e is;
     idle = λ none. absurd (waits none);
   }
 
   pub parts_fail : Part round_bound a result c → PartsKeep a result c
-  parts_fail x = record { part = x; rest = λ s is. not_done result Quiet e is }
+  parts_fail x = record { part = x; rest = λ s is. not_done result e is }
 
 -- A hub is polled
 
@@ -118,8 +106,8 @@ polled_hub_not_failed pipes left Stalled old new x still served = served
 polled_hub_not_failed pipes left Busy old new x still served = served
 polled_hub_not_failed pipes left NoAnswer old new x still served = served
 polled_hub_not_failed pipes left Broken old new x still served = served
-polled_hub_not_failed (HubPipe pipe) left (Bus fault) old new x still served = let told =
-    x.2.polls.ends.told in cc (told, still)
+polled_hub_not_failed (HubPipe pipe) left (Bus fault) old new x still served = cc
+    (x.2.polls.ends.told, still)
 polled_hub_not_failed (Function pipes) left (Bus fault) old new x still served = cc (x.0)
 polled_hub_not_failed Absent left (Bus fault) old new x still served = cc (x.0)
 polled_hub_not_failed (HubPipe pipe) left Memory old new x still served = x.2.polls.room refl
@@ -140,16 +128,15 @@ part_where a c f = record {
   plugs = λ s still. (f s).plugs s still;
 }
 
-module _ (hub : List ℕ) (answer : Result (Option (ArrayVec ℕ)) PipeFault) (a b : HostState)
+module _ {hub : List ℕ} {answer : Result (Option (ArrayVec ℕ)) PipeFault} (a b : HostState)
     (agrees : Agrees a.entries a.addresses) (same : b.entries ≡ a.entries)
-    (pool : b.addresses ≡ a.addresses) (stopped : b.stopped ≡ a.stopped)
-    (went : HostSteps 768 a b) (keeps : KeepsPolled hub (table_in a) a.world answer (table_in b)
-    b.world) (through : GoesThrough hub (table_in a) (table_in b))
+    (pool : b.addresses ≡ a.addresses) (stopped : b.stopped ≡ a.stopped) (went : HostSteps 768 a b)
+    (keeps : KeepsPolled hub (table_in a) a.world answer (table_in b) b.world)
+    (through : GoesThrough hub (table_in a) (table_in b))
     (asks : PipesPolled (pipes_at hub (table_in a)) a.world answer (pipes_at hub (table_in b))
     b.world) where
   agrees_on : Agrees b.entries b.addresses
-  agrees_on = subst (λ (es : Entries). Agrees es b.addresses) (sym same)
-      (subst (Agrees a.entries) (sym pool) agrees)
+  agrees_on = rw same (rw pool agrees)
 
   polled : StaysOwned a b
   polled = stays_kept a b same went.spends.roots keeps.levels.worlds.addresses
@@ -178,16 +165,11 @@ module _ (hub : List ℕ) (answer : Result (Option (ArrayVec ℕ)) PipeFault) (a
       → ArePipesIf (accepted_device_at hub a.entries) (is_below_hub hub) pipes
       → PipesPolled pipes a.world (Ok None) left b.world → HubKeeps hub a (Ok Quiet) b
   hub_quiet pipes left ok are asked = record {
-    part = record {
-      goes = goes_wider 768 hub_poll_bound a b goes (omega arith);
-      owned = polled;
-      sound = part ok;
-    };
+    part = record { goes = goes_wider goes (omega arith); owned = polled; sound = part ok };
     calm = λ is still. keeps.levels.worlds.rests still;
     silent = λ s is still none.
-        poll_silent b agrees_on ((sound ok).sound s) still hub pipes left a.world
-        (subst (λ (es : Entries). ArePipesIf (accepted_device_at hub es) (is_below_hub hub)
-        pipes) (sym same) are) asked none;
+        poll_silent b agrees_on ((sound ok).sound s) still hub pipes left a.world (rw same are)
+        asked none;
   }
 
   -- it told of changes, and its ports were handled
@@ -195,10 +177,9 @@ module _ (hub : List ℕ) (answer : Result (Option (ArrayVec ℕ)) PipeFault) (a
       → (HostInvariant a → PartStays b c) → HubKeeps hub a (Ok Worked) c
   hub_told c ok q owned told = record {
     part = record {
-      goes = host_goes_then hub_poll_bound 768 told_bound a b c goes q (omega arith);
-      owned = stays_owned_then a b c polled owned;
-      sound = part_where a c
-          (λ s. part_then 768 told_bound a b c goes.went q.went (part ok) (told s));
+      goes = host_goes_then goes q (omega arith);
+      owned = stays_owned_then polled owned;
+      sound = part_where a c (λ s. part_then 768 a b c goes.went q.went (part ok) (told s));
     };
     calm = λ is. absurd (cc is);
     silent = λ s is. absurd (cc is);
@@ -223,12 +204,11 @@ module _ (hub : List ℕ) (answer : Result (Option (ArrayVec ℕ)) PipeFault) (a
           let known = known_kept 768 hub (IsOk answer) a b agrees same went keeps.levels s still in
           let truthful = truthful_kept 768 hub (IsOk answer) a b agrees same went keeps.levels s
           still in
-          let on = reached_at b.world b.entries b.addresses (accounted b agrees_on rooted) known
-          truthful hub there.device found none in
+          let on = reached_at b.world (accounted b agrees_on rooted) known
+          truthful hub found none in
           failed still (keeps.why held (s.level (went_sound 768 a.world b.world went still) hub) few
           there.device (ap accepted_device_of there.found) (ap is_some there.told)
-          (heard_at b.world b.entries b.addresses (accounted b agrees_on rooted) known truthful hub
-          there.device found on))
+          (heard_at b.world (accounted b agrees_on rooted) known truthful hub found on))
 
       pick : (o : Option HubFacts) → hub_facts_at hub a.entries ≡ o → IsSome o → (p : Bool)
           → pending b.world.roots hub ≡ p → p ≡ true
@@ -243,21 +223,19 @@ module _ (hub : List ℕ) (answer : Result (Option (ArrayVec ℕ)) PipeFault) (a
       → DropsSound hub b (Ok tt) c → HubKeeps hub a (Ok Worked) c
   hub_gone c failed listed q drops dropped =
       let there : IsSome (finding_at hub b.entries) =
-      subst (λ (es : Entries). IsSome (finding_at hub es)) (sym same)
-      (hub_listed (finding_at hub a.entries) listed) in
+      rw same (hub_listed (finding_at hub a.entries) listed) in
       record {
         part = record {
-          goes = host_goes_then hub_poll_bound 768 drop_bound a b c goes q (omega arith);
-          owned = dropped_hub_owned hub a b (Ok tt) c there polled drops;
-          sound = sound_dropped (Ok tt) hub 768 drop_bound a b c goes q
+          goes = host_goes_then goes q (omega arith);
+          owned = dropped_hub_owned hub a c there polled drops;
+          sound = sound_dropped (Ok tt) 768 a b c goes q
               (λ s. record {
                 listed = there;
                 but = but_kept 768 hub (IsOk answer) a b agrees same went keeps.levels s;
                 there = λ still.
                     occupied_kept 768 hub (IsOk answer) a b agrees same went keeps.levels s there
                     still agrees_on;
-              })
-              (caused_kept 768 hub (IsOk answer) a b agrees same went keeps.levels) bulk
+              }) (caused_kept 768 hub (IsOk answer) a b agrees same went keeps.levels) bulk
               (plugs_kept a b went.spends.onward same) dropped (pends failed listed);
         };
         calm = λ is. absurd (cc is);
@@ -271,19 +249,16 @@ pub parts_keep : (roots hubs looks : Round) (a b c d : HostState)
     → HubsKeep b (Ok hubs) c → LooksKeep c (Ok looks) d
     → PartsKeep a (Ok (either (either roots hubs) looks)) d
 parts_keep roots hubs looks a b c d none x y z = record {
-  part = part-then round_bound (roots_bound + hubs_bound) looks_bound a c d hubs
-      (Ok (either (either roots hubs) looks))
-      (part-then (roots_bound + hubs_bound) roots_bound hubs_bound a b c roots (Ok hubs) x y.part
-      (omega arith))
-      (part-wider Round looks_bound looks_bound c d looks (either (either roots hubs) looks) z.part
+  part = part-then (Ok (either (either roots hubs) looks))
+      (part-then {k = roots_bound + hubs_bound} (Ok hubs) x y.part (omega arith))
+      (part-wider Round {k = looks_bound} {y = either (either roots hubs) looks} z.part
       (omega arith)) (omega arith);
   rest = λ s is taken still.
       let all : either (either roots hubs) looks ≡ Quiet =
       ok_is (either (either roots hubs) looks) Quiet is in
       let both : either roots hubs ≡ Quiet = quiet_first (either roots hubs) looks all in
-      let first : roots ≡ Quiet = quiet_first roots hubs both in
-      at_rest a b c d (none (ap done first)) y.part.sound.sound
-      (subst (λ (r : Round). HubsKeep b (Ok r) c) (quiet_second roots hubs both) y)
-      (subst (λ (r : Round). LooksKeep c (Ok r) d) (quiet_second (either roots hubs) looks all) z)
+      at_rest a b c d (none (ap done (quiet_first roots hubs both))) y.part.sound.sound
+      (rw (quiet_second roots hubs both) at y)
+      (rw (quiet_second (either roots hubs) looks all) at z)
       s taken still;
 }

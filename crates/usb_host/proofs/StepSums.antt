@@ -1,31 +1,31 @@
 -- How the parts of a round join.
-use Rattle.std.proofs.Common.{◌≡◌, ◌∙◌, refl, sym, ap, subst, arith, ℕ, ◌+◌, ◌≤◌}
+use Rattle.std.proofs.Common.{◌≡◌, ◌∙◌, refl, ap, arith, ℕ, ◌+◌, ◌≤◌}
 use Rattle.usb_bus.proofs.Interface.{went_none, went_then, went_wider}
 use Rattle.usb_host.specs.{HostState, HostSteps, HostRuns, HostProgress, AddsNoWork, OnlyBusSteps}
 use Rattle.usb_host.specs.{Remains, Did, either, waiting, Round, Worked, Quiet}
 
-pub host_goes_none : (n : ℕ) (h : HostState) → HostRuns n h h
-host_goes_none n h = record { went = went_wider 0 n went_none (omega arith); going = refl }
+pub host_goes_none : {n : ℕ} {h : HostState} → HostRuns n h h
+host_goes_none {n = n} = record { went = went_wider 0 n went_none (omega arith); going = refl }
 
-pub host_goes_then : (k m n : ℕ) (a b c : HostState) → HostRuns m a b → HostRuns n b c → m + n ≤ k
+pub host_goes_then : {k m n : ℕ} {a b c : HostState} → HostRuns m a b → HostRuns n b c → m + n ≤ k
     → HostRuns k a c
-host_goes_then k m n a b c p q le = record {
+host_goes_then {k = k} {m = m} {n = n} p q le = record {
   went = went_wider (m + n) k (went_then m n p.went q.went) le;
   going = q.going ∙ p.going;
 }
 
-pub goes_wider : (m k : ℕ) (a b : HostState) → HostRuns m a b → m ≤ k → HostRuns k a b
-goes_wider m k a b p le = record { went = went_wider m k p.went le; going = p.going }
+pub goes_wider : {m k : ℕ} {a b : HostState} → HostRuns m a b → m ≤ k → HostRuns k a b
+goes_wider {m = m} {k = k} p le = record { went = went_wider m k p.went le; going = p.going }
 
 -- what is forgotten takes no attempt
-pub goes_forgotten : (n : ℕ) (a b c : HostState) → HostRuns n a b
+pub goes_forgotten : {n : ℕ} (a : HostState) {b c : HostState} → HostRuns n a b
     → c ≡ record b { entries = c.entries; pipes = c.pipes; addresses = c.addresses }
     → HostRuns n a c
-goes_forgotten n a b c g others = subst (λ (x : HostState). HostRuns n a x) (sym others)
-    (record { went = g.went; going = g.going })
+goes_forgotten {n = n} a g others = rw others (record { went = g.went; going = g.going })
 
-pub host_rests_then : (a b c : HostState) → OnlyBusSteps a b → OnlyBusSteps b c → OnlyBusSteps a c
-host_rests_then a b c p q = q ∙ ap (λ (h : HostState). record h {
+pub host_rests_then : (a : HostState) {b : HostState} (c : HostState) → OnlyBusSteps a b
+    → OnlyBusSteps b c → OnlyBusSteps a c
+host_rests_then a c p q = q ∙ ap (λ (h : HostState). record h {
   world = c.world;
   trace = c.trace;
 }) p
@@ -37,37 +37,37 @@ remains_then a b c p q = q ∙ ap (λ (h : HostState). record h {
   pipes = c.pipes;
 }) p
 
-pub remains_holds : (n : ℕ) (a b : HostState) → HostRuns n a b → Remains a b → AddsNoWork a b
-remains_holds n a b g r =
+pub remains_holds : {n : ℕ} (a b : HostState) → HostRuns n a b → Remains a b → AddsNoWork a b
+remains_holds a b g r =
     let same : waiting b.entries ≡ waiting a.entries =
     ap (λ (h : HostState). waiting h.entries) r in
-    omega (arith, same, g.went.spends.served, g.went.spends.later)
+    omega (arith, g.went.spends.served, g.went.spends.later)
 
 pub advances_then : (a b c : HostState) → HostProgress a b → AddsNoWork b c → HostProgress a c
-advances_then a b c p q = omega (arith, p, q)
+advances_then a b c p q = omega arith
 
 pub advances_after : (a b c : HostState) → AddsNoWork a b → HostProgress b c → HostProgress a c
-advances_after a b c p q = omega (arith, p, q)
+advances_after a b c p q = omega arith
 
 pub no_work_then : (a b c : HostState) → AddsNoWork a b → AddsNoWork b c → AddsNoWork a c
-no_work_then a b c p q = omega (arith, p, q)
+no_work_then a b c p q = omega arith
 
-pub did_holds : (n : ℕ) (r : Round) (a b : HostState) → HostRuns n a b → Did r a b → AddsNoWork a b
-did_holds n Worked a b g d = omega (arith, d)
-did_holds n Quiet a b g d = remains_holds n a b g d
+pub did_holds : {n : ℕ} (r : Round) (a b : HostState) → HostRuns n a b → Did r a b → AddsNoWork a b
+did_holds Worked a b g d = omega arith
+did_holds Quiet a b g d = remains_holds a b g d
 
 -- a part that worked comes after another part
-pub worked_after : (n : ℕ) (r : Round) (a b c : HostState) → HostRuns n a b → Did r a b
+pub worked_after : {n : ℕ} (r : Round) (a b c : HostState) → HostRuns n a b → Did r a b
     → HostProgress b c → HostProgress a c
-worked_after n r a b c g d on = advances_after a b c (did_holds n r a b g d) on
+worked_after r a b c g d on = advances_after a b c (did_holds r a b g d) on
 
-pub did_then : (m n : ℕ) (r s : Round) (a b c : HostState) → HostRuns m a b → HostRuns n b c
+pub did_then : {m n : ℕ} (r s : Round) (a b c : HostState) → HostRuns m a b → HostRuns n b c
     → Did r a b → Did s b c → Did (either r s) a c
-did_then m n Worked s a b c p q ab bc = advances_then a b c ab (did_holds n s b c q bc)
-did_then m n Quiet Worked a b c p q ab bc = advances_after a b c (remains_holds m a b p ab) bc
-did_then m n Quiet Quiet a b c p q ab bc = remains_then a b c ab bc
+did_then Worked s a b c p q ab bc = advances_then a b c ab (did_holds s b c q bc)
+did_then Quiet Worked a b c p q ab bc = advances_after a b c (remains_holds a b p ab) bc
+did_then Quiet Quiet a b c p q ab bc = remains_then a b c ab bc
 
 -- a call on the bus alone
-pub goes_by : (n k : ℕ) (a b : HostState) → HostSteps n a b → n ≤ k → b.stopped ≡ a.stopped
+pub goes_by : {n k : ℕ} (a b : HostState) → HostSteps n a b → n ≤ k → b.stopped ≡ a.stopped
     → HostRuns k a b
-goes_by n k a b w le e = record { went = went_wider n k w le; going = e }
+goes_by {n = n} {k = k} a b w le e = record { went = went_wider n k w le; going = e }

@@ -1,6 +1,6 @@
 -- A hub that answers a poll with NAK has no port whose change bits are set.
 use Rattle.std.proofs.Common.{◌≡◌, ◌≤◌, ◌<◌, ◌==◌, ◌∙◌, if◌then◌else◌, ℕ, zero, suc, Bool, true}
-use Rattle.std.proofs.Common.{false, List, [], ◌∷◌, ◌++◌, Option, None, Some, refl, ap, sym, subst}
+use Rattle.std.proofs.Common.{false, List, [], ◌∷◌, ◌++◌, Option, None, Some, refl, ap, sym}
 use Rattle.std.proofs.Common.{arith, slice_get}
 use Rattle.std.specs.Prelude.{IfSome}
 use Rattle.std.proofs.lemmas.Bool.{eqb-true}
@@ -76,16 +76,15 @@ bit_by (Some p) weight h = pick (has_change p) h
 bits_clear : (row : List PortState) → change_bits row ≡ 0 → (i : ℕ) → i < 7
     → IfSome (slice_get row i) (λ b. has_change b ≡ false)
 unfolding change_bits
-bits_clear row h zero lt = bit_by (slice_get row 0) 1 (omega (arith, h))
-bits_clear row h (suc zero) lt = bit_by (slice_get row 1) 3 (omega (arith, h))
-bits_clear row h (suc (suc zero)) lt = bit_by (slice_get row 2) 7 (omega (arith, h))
-bits_clear row h (suc (suc (suc zero))) lt = bit_by (slice_get row 3) 15 (omega (arith, h))
-bits_clear row h (suc (suc (suc (suc zero)))) lt = bit_by (slice_get row 4) 31 (omega (arith, h))
-bits_clear row h (suc (suc (suc (suc (suc zero))))) lt =
-    bit_by (slice_get row 5) 63 (omega (arith, h))
+bits_clear row h zero lt = bit_by (slice_get row 0) 1 (omega arith)
+bits_clear row h (suc zero) lt = bit_by (slice_get row 1) 3 (omega arith)
+bits_clear row h (suc (suc zero)) lt = bit_by (slice_get row 2) 7 (omega arith)
+bits_clear row h (suc (suc (suc zero))) lt = bit_by (slice_get row 3) 15 (omega arith)
+bits_clear row h (suc (suc (suc (suc zero)))) lt = bit_by (slice_get row 4) 31 (omega arith)
+bits_clear row h (suc (suc (suc (suc (suc zero))))) lt = bit_by (slice_get row 5) 63 (omega arith)
 bits_clear row h (suc (suc (suc (suc (suc (suc zero)))))) lt =
-    bit_by (slice_get row 6) 127 (omega (arith, h))
-bits_clear row h (suc (suc (suc (suc (suc (suc (suc i))))))) lt = absurd (omega (arith, lt))
+    bit_by (slice_get row 6) 127 (omega arith)
+bits_clear row h (suc (suc (suc (suc (suc (suc (suc i))))))) lt = absurd (omega arith)
 
 -- The ports of the device
 
@@ -124,18 +123,18 @@ module _ (t : Target) (w : World) (made : IsMade (in_attempt t 1) w) (j : Locati
 
   clear : (b : PortState) (s : State) (below : Ports) → place_on (at_attempt w).roots j
       ≡ Some (full b s below) → change_bits (row_of below) ≡ 0 → AreClear now j
-  clear b s below stood none zero least most = absurd (omega (arith, least))
+  clear b s below stood none zero least most = absurd (omega arith)
   clear b s below stood none (suc i) least most =
-      subst (λ (o : Option PortState). IfSome o (λ b. has_change b ≡ false))
-      (sym (left_as (suc i) ∙ port_of_row (at_attempt w).roots j.row j.rest b s below i stood))
-      (bits_clear (row_of below) none i (omega (arith, most)))
+      rw (left_as (suc i) ∙ port_of_row (at_attempt w).roots j.row j.rest b s below i stood)
+      (bits_clear (row_of below) none i (omega arith))
 
-  did_clear : (s v : State) → DidIn (in_attempt t 1) w j s v → outcome_in (in_attempt t 1) w
+  did_clear : {s : State} (v : State) → DidIn (in_attempt t 1) w j s v
+      → outcome_in (in_attempt t 1) w
       ≡ outcome.Nak → is_at v t ≡ true → tells_changes v.spec v.registers ≡ true → AreClear now j
-  did_clear s v (DidIn.other d e) nak at tells =
+  did_clear v (DidIn.other d e) nak at tells =
       false_true (sym (ap (λ (x : State). is_at x t) e ∙ d) ∙ at)
-  did_clear s v (DidIn.silent d q o e) nak at tells = absurd (cc (o, nak))
-  did_clear s v (DidIn.asked d q b below stood x o e) nak at tells =
+  did_clear v (DidIn.silent d q o e) nak at tells = absurd (cc (o, nak))
+  did_clear {s = s} v (DidIn.asked d q b below stood x o e) nak at tells =
       let ran = in_kept s (row_of below) 1 t.max x.first x.second x.third refl in
       let same : tells_changes v.spec v.registers ≡ tells_changes s.spec s.registers =
       ap (λ (d : State). tells_changes d.spec d.registers) e ∙ cc (ran.0, ran.1) in
@@ -147,13 +146,13 @@ module _ (t : Target) (w : World) (made : IsMade (in_attempt t 1) w) (j : Locati
 -- the last attempt of a poll was answered NAK by the hub that has the address
 pub nak_clears : (t : Target) {old new : World} {last : Outcome} {outcomes : List Outcome}
     → AttemptLog (in_attempt t 1) old (last ∷ outcomes) new → last ≡ outcome.Nak
-    → IsSettled old.roots → new.shared ≡ false
-    → (j : Location) (v : State) → reach_on new.roots j ≡ true → state_on new.roots j ≡ Some v
-    → is_at v t ≡ true → tells_changes v.spec v.registers ≡ true → AreClear new j
+    → IsSettled old.roots → new.shared ≡ false → (j : Location) (v : State)
+    → reach_on new.roots j ≡ true → state_on new.roots j ≡ Some v → is_at v t ≡ true
+    → tells_changes v.spec v.registers ≡ true → AreClear new j
 nak_clears t (next w trail step) nak settled single j v on stands at tells =
     let made : IsMade (in_attempt t 1) w = made_of (in_attempt t 1) w (trail_settled trail settled)
     step in
     let was : Was (DidIn (in_attempt t 1) w) w j v =
     each_in (in_attempt t 1) w made (record { kind = refl; payload = refl }) single j v on
     stands in
-    did_clear t w made j was.before v was.so nak at tells
+    did_clear t w made j v was.so nak at tells

@@ -189,11 +189,16 @@ module _ (t : Target) (j : Location) (i : ℕ) (request : Setup) (c : PortCall)
           split true = request_there
           split false = inl refl
 
-      loud_port : s.spec.silent ≡ false
-          → (place (after (attempt a) w).roots port ≡ place (at_attempt w).roots port)
+      abbrev Acted : Type 0
+      Acted = (place (after (attempt a) w).roots port ≡ place (at_attempt w).roots port)
           ⊎ (place (after (attempt a) w).roots port
           ≡ option_map (called c) (place (at_attempt w).roots port))
-      loud_port h = pick asked_there
+
+      loud_port : s.spec.silent ≡ false → Acted
+      loud_port h = elim asked_there [
+        | inl x ↦ inl (left ∙ x ∙ sym stood)
+        | inr x ↦ inr (left ∙ x ∙ ap (option_map (called c)) (sym stood))
+      ]
         where
           left : place (after (attempt a) w).roots port
               ≡ place_at (acted (setup_asked a (damage_in (at_attempt w))
@@ -202,25 +207,9 @@ module _ (t : Target) (j : Location) (i : ℕ) (request : Setup) (c : PortCall)
               ∙ ap (λ o. place_at (place_ports o) i [])
               (setup_place_in a w holder h (bytes_of request) is)
 
-          pick : Called (acted (setup_asked a (damage_in (at_attempt w))
-              (deep_at false holder.spot.rest) s (bytes_of request)) below)
-              → (place (after (attempt a) w).roots port ≡ place (at_attempt w).roots port)
-              ⊎ (place (after (attempt a) w).roots port
-              ≡ option_map (called c) (place (at_attempt w).roots port))
-          pick (inl x) = inl (left ∙ x ∙ sym stood)
-          pick (inr x) = inr (left ∙ x ∙ ap (option_map (called c)) (sym stood))
-
-      port_acted : (place (after (attempt a) w).roots port ≡ place (at_attempt w).roots port)
-          ⊎ (place (after (attempt a) w).roots port
-          ≡ option_map (called c) (place (at_attempt w).roots port))
-      port_acted = pick (decided s.spec.silent)
-        where
-          pick : (s.spec.silent ≡ true) ⊎ (s.spec.silent ≡ false)
-              → (place (after (attempt a) w).roots port ≡ place (at_attempt w).roots port)
-              ⊎ (place (after (attempt a) w).roots port
-              ≡ option_map (called c) (place (at_attempt w).roots port))
-          pick (inl h) = inl (silent_port h)
-          pick (inr h) = loud_port h
+      port_acted : Acted
+      port_acted = elim (decided s.spec.silent)
+          [ inl h ↦ inl (silent_port h) | inr h ↦ loud_port h ]
 
       hub_acts : ActsAt port c (attempt a) w
       hub_acts = record {
@@ -234,10 +223,9 @@ module _ (t : Target) (j : Location) (i : ℕ) (request : Setup) (c : PortCall)
       }
 
     pub attempt_acts : ClaimedAt (path_to j) t.addr w → ActsAt p c (attempt a) w
-    attempt_acts claimed = pick (holder_or_nobody a w made
-        (unshared_after claimed.claims a w claimed.owned))
-      where
-        pick : HolderIn a w ⊎ NobodyHolds a.addr (at_attempt w).roots → ActsAt p c (attempt a) w
-        pick (inl x) = subst (λ q. ActsAt (q ++ (suc i ∷ [])) c (attempt a) w)
-            (claimed_holder (path_to j) t.addr w claimed a refl x) (hub_acts x)
-        pick (inr x) = nobody_acts x
+    attempt_acts claimed =
+        elim (holder_or_nobody a w made (unshared_after claimed.claims a w claimed.owned)) [
+          | inl x ↦ subst (λ q. ActsAt (q ++ (suc i ∷ [])) c (attempt a) w)
+              (claimed_holder (path_to j) t.addr w claimed a refl x) (hub_acts x)
+          | inr x ↦ nobody_acts x
+        ]

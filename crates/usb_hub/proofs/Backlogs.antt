@@ -1,5 +1,5 @@
 -- What calls on devices and at ports add to what is left to do.
-use Rattle.std.proofs.Common.{◌≡◌, ℕ, suc, ◌⊎◌, inl, inr, true, false, List, [], ◌∷◌, ◌++◌, Result}
+use Rattle.std.proofs.Common.{◌≡◌, ℕ, suc, inl, inr, true, false, List, [], ◌∷◌, ◌++◌, Result}
 use Rattle.std.proofs.Common.{refl, ap, sym, subst, ◌∙◌, arith}
 use Rattle.std.proofs.lemmas.Bool.Decides.{nat_tests}
 use Rattle.std.proofs.Common.{◌≤◌, ◌==◌}
@@ -7,14 +7,14 @@ use Rattle.std.specs.Global.{Vec}
 use Rattle.usb_request.specs.{PORT_OUT, SET_FEATURE, bytes_of, IsToHost, Setup}
 use Rattle.usb_port.specs.{PortCall, set_call}
 use Rattle.usb_device.specs.{Is, Location, path_to, State}
-use Rattle.usb_world.specs.{Attempt, Outcome, is_setup, HolderIn, IsMade, IsSetup, AtPorts, Course}
-use Rattle.usb_world.specs.{Step, after, attempt, event, at_attempt, report, root_call, World}
-use Rattle.usb_tree.specs.{IsSettled, NobodyHolds}
+use Rattle.usb_world.specs.{Attempt, Outcome, HolderIn, IsMade, IsSetup, AtPorts, Course}
+use Rattle.usb_world.specs.{Step, after, attempt, event, report, root_call, World}
+use Rattle.usb_tree.specs.{IsSettled}
 use Rattle.usb_world.proofs.Interface.{Allows, course_joined, course_then, holder_or_nobody}
 use Rattle.usb_world.proofs.Interface.{made_of, settled_wider}
 use Rattle.usb_tree.proofs.Interface.{decided}
 use Rattle.usb_backlog.specs.{CoversCall, Few, KeepsAll, KeepsBy, PortMark, is_marked}
-use Rattle.usb_backlog.proofs.Interface.{AttemptAllows, Covers, KeepsStep, data_allows}
+use Rattle.usb_backlog.proofs.Interface.{Covers, KeepsStep, data_allows}
 use Rattle.usb_backlog.proofs.Interface.{holder_allows, keeps-attempt, keeps-chain, keeps-unheard}
 use Rattle.usb_backlog.proofs.Interface.{payload_sets_none, request_sets_none, sets_none}
 use Rattle.usb_transaction.specs.{Target, AcceptedAt, AttemptLog, setup_attempt}
@@ -24,6 +24,7 @@ use Rattle.usb_pipe.proofs.Interface.{read_attempts, write_attempts}
 use Rattle.usb_address.proofs.Interface.{ClaimedAt, KeepsClaim, claimed_holder, same_setup}
 use Rattle.usb_address.proofs.Interface.{trail_with, unshared_after}
 use Rattle.usb_hub.proofs.ActingCalls.{AsksFor}
+use Rattle.usb_hub.proofs.RestingRequests.{no_set_up}
 
 is_set_up : (t : Target) (request : Setup)
     → IsSetup (setup_attempt t (bytes_of request)) (bytes_of request)
@@ -35,12 +36,7 @@ module _ (m v r : PortMark) (few : Few v r) where
   pub behind_step : (t : Target) (s : Step) (w : World) → IsBehind t s w → IsSettled w.roots
       → KeepsStep m v r few s w
   behind_step t (attempt a) w k h =
-      λ ports. keeps-attempt m v r few a w ports (data_allows m r a w (kind k refl refl) h)
-    where
-      kind : {b d : Attempt} → (a ≡ b) ⊎ (a ≡ d) → is_setup b.kind ≡ false → is_setup d.kind ≡ false
-          → is_setup a.kind ≡ false
-      kind (inl e) f g = ap (λ y. is_setup y.kind) e ∙ f
-      kind (inr e) f g = ap (λ y. is_setup y.kind) e ∙ g
+      λ ports. keeps-attempt m v r few a w ports (data_allows m r a w (no_set_up k refl refl) h)
   behind_step t (root_call c n) w k h = elim k [ ]
   behind_step t event w k h = elim k [ ]
   behind_step t (report l) w k h = elim k [ ]
@@ -74,45 +70,43 @@ module _ (m v r : PortMark) (few : Few v r) where
     holder_keeps : (w : World) (x : HolderIn a w) → path_to x.spot ≡ q
         → KeepsStep m v r few (attempt a) w
     holder_keeps w x same ports = keeps-attempt m v r few a w ports
-        (pick (decided (Is request PORT_OUT SET_FEATURE)))
-      where
-        pick : (Is request PORT_OUT SET_FEATURE ≡ true) ⊎ (Is request PORT_OUT SET_FEATURE ≡ false)
-            → AttemptAllows m r a w
-        pick (inl h) =
-            holder_allows m r a w x (bytes_of request) (is_set_up t request)
-            (ap (λ q. Is q PORT_OUT SET_FEATURE) (same_setup request) ∙ h)
-            i (ap (λ q. q.index) (same_setup request) ∙ asked.names) c
-            (ap (λ q. set_call q.value) (same_setup request) ∙ asked.sets h)
-            (covers x.spot same)
-        pick (inr h) = payload_sets_none m r a w
-            (subst (Allows sets_none) (sym (same_setup request)) (request_sets_none request h))
+        (elim (decided (Is request PORT_OUT SET_FEATURE)) [
+          | inl h ↦
+              holder_allows m r a w x (bytes_of request) (is_set_up t request)
+              (ap (λ q. Is q PORT_OUT SET_FEATURE) (same_setup request) ∙ h)
+              i (ap (λ q. q.index) (same_setup request) ∙ asked.names) c
+              (ap (λ q. set_call q.value) (same_setup request) ∙ asked.sets h)
+              (covers x.spot same)
+          | inr h ↦ payload_sets_none m r a w
+              (subst (Allows sets_none) (sym (same_setup request)) (request_sets_none request h))
+        ])
 
     call_step : (w : World) → IsMade a w → ClaimedAt q t.addr w → KeepsStep m v r few (attempt a) w
-    call_step w made claimed = pick (holder_or_nobody a w made
-        (unshared_after claimed.claims a w claimed.owned))
-      where
-        pick : HolderIn a w ⊎ NobodyHolds a.addr (at_attempt w).roots
-            → KeepsStep m v r few (attempt a) w
-        pick (inl x) = holder_keeps w x (claimed_holder q t.addr w claimed a refl x)
-        pick (inr x) = λ ports. keeps-unheard m v r few a w ports made x
+    call_step w made claimed =
+        elim (holder_or_nobody a w made (unshared_after claimed.claims a w claimed.owned)) [
+          | inl x ↦ holder_keeps w x (claimed_holder q t.addr w claimed a refl x)
+          | inr x ↦ λ ports. keeps-unheard m v r few a w ports made x
+        ]
 
     module _ (P : World → Type 0) (follows : KeepsClaim t request q P) where
+      calls : {old mid : World} {outcomes : List Outcome} → AttemptLog a old outcomes mid → P old
+          → P mid × Course (KeepsStep m v r few) old mid
+      calls tr first = trail_with P follows.onward
+          (λ w made x. let k : ClaimedAt q t.addr w = follows.claimed w x in
+          call_step w (made_of a w k.owned.settled made) k) tr first
+
       pub call_keeps : {old mid new : World} {outcomes : List Outcome}
           → AttemptLog a old outcomes mid → Course (IsBehind t) mid new → P old → AtPorts old.left
           → KeepsBy m v r old new
       call_keeps {old} {mid} tr behind first ports =
-          let x : P mid × Course (KeepsStep m v r few) old mid =
-          trail_with P follows.onward (λ w made x. let k : ClaimedAt q t.addr w =
-          follows.claimed w x in call_step w (made_of a w k.owned.settled made) k) tr first in
+          let x : P mid × Course (KeepsStep m v r few) old mid = calls tr first in
           keeps-chain m v r few ports (course_joined x.1
           (behind_keeps t behind (follows.claimed mid x.0).owned.settled))
 
       pub acted_keeps : {old mid : World} {outcomes : List Outcome} → AttemptLog a old outcomes mid
           → IsMade a mid → P old → AtPorts old.left → KeepsBy m v r old (after (attempt a) mid)
       acted_keeps {old} {mid} tr there first ports =
-          let x : P mid × Course (KeepsStep m v r few) old mid =
-          trail_with P follows.onward (λ w made x. let k : ClaimedAt q t.addr w =
-          follows.claimed w x in call_step w (made_of a w k.owned.settled made) k) tr first in
+          let x : P mid × Course (KeepsStep m v r few) old mid = calls tr first in
           keeps-chain m v r few ports (course_then (attempt a) x.1
           (call_step mid there (follows.claimed mid x.0)))
 

@@ -1,17 +1,17 @@
 -- Why a call at a hub's port fails.
 use Rattle.std.proofs.Common.{◌≡◌, ◌≢◌, ℕ, suc, ◌-◌, ◌==◌, ◌≤◌, ◌&&◌, ◌||◌, nat_le, not, inr, true}
-use Rattle.std.proofs.Common.{false, List, [], ◌∷◌, ◌++◌, length, take, slice_get, Option, None}
+use Rattle.std.proofs.Common.{false, List, [], ◌∷◌, ◌++◌, length, slice_get, Option, None}
 use Rattle.std.proofs.Common.{Some, if◌then◌else◌, Result, Ok, Err, refl, ap, sym, subst, ◌∙◌}
 use Rattle.std.proofs.Common.{arith}
 use Rattle.std.proofs.lemmas.Bool.Decides.{nat_tests}
 use Rattle.std.proofs.lemmas.Option.{same_Some}
 use Rattle.std.specs.Global.{Vec}
 use Rattle.usb_port.specs.{PortState, status_of, PortCall}
-use Rattle.usb_request.specs.{setup_of, bytes_of, IsToHost, get_port_status, Setup}
+use Rattle.usb_request.specs.{setup_of, bytes_of, get_port_status, Setup}
 use Rattle.usb_device.specs.{Leaves, Registers, effect_of_request, asked_by_setup, outcome}
-use Rattle.usb_device.specs.{port_named, called_at, told_port, State, Spec, Hub, refused, reading}
+use Rattle.usb_device.specs.{port_named, called_at, told_port, State, Spec, Hub, refused}
 use Rattle.usb_device.specs.{reads_port, first_stage, acted, port_at, path_to, reach_on, port_there}
-use Rattle.usb_world.specs.{is_harmless, Was, asks_no_port, StillSet, World}
+use Rattle.usb_world.specs.{is_harmless, Was, StillSet, World}
 use Rattle.usb_tree.specs.{address_of, IsSettled, deep_at}
 use Rattle.usb_world.proofs.Interface.{course_bits, course_wider, same_device}
 use Rattle.usb_tree.proofs.Interface.{equal_same}
@@ -19,7 +19,6 @@ use Rattle.usb_transaction.specs.{Target, AcceptedAt, Listens, NoThreeDamaged}
 use Rattle.usb_pipe.specs.{PipeFault, IsNoBusFault, AnswerRead, WasRefused, ReadLeaves, WriteLeaves}
 use Rattle.usb_pipe.specs.{ControlReadFailure, WriteFailure}
 use Rattle.usb_pipe.specs.declared.fault.PipeFault.TheVariants.{Stalled, Busy, NoAnswer, Broken}
-use Rattle.usb_pipe.specs.declared.fault.PipeFault.TheVariants.{Bus, Memory}
 use Rattle.usb_pipe.proofs.Interface.{read_leaves, read_why, write_leaves, write_why}
 use Rattle.usb_address.proofs.Interface.{settled_attempt, place_ports, less_one, port_below_at}
 use Rattle.usb_address.proofs.Interface.{same_setup}
@@ -28,7 +27,8 @@ use Rattle.usb_hub.specs.{NoHubFailed}
 use Rattle.usb_hub.proofs.ActingCalls.{AsksFor}
 use Rattle.usb_hub.proofs.Devices.{write_stays, stays-spec, stays-registers, called_of_port}
 use Rattle.usb_hub.proofs.Devices.{IsOfPort}
-use Rattle.usb_hub.proofs.Statuses.{row_port, StatusOf, get_port_status-outcome, whole_status}
+use Rattle.usb_hub.proofs.Statuses.{row_port, read_status, came_status, status_host, status_some}
+use Rattle.usb_hub.proofs.Statuses.{status_few, status_length, status_plain}
 use Rattle.usb_hub.proofs.RestingRequests.{behind_asks_nothing, resting_course}
 
 pub same_port : (a b : Target) (m n : ℕ) → External a m ≡ External b n → (b ≡ a) × (n ≡ m)
@@ -131,7 +131,6 @@ module _ (t : Target) (number : ℕ) (request : Setup) (c : PortCall)
 
   pub call_served : (result : Result (Unit {0}) PipeFault) → Commanded t request old result new
       → NoHubFailed result
-  call_served (Ok u) ordered = tt
   call_served (Err Stalled) ordered = not_refused (Err Stalled) ordered refl
   call_served (Err Busy) ordered = (why_left (Err Busy) ordered tt).waited
       (heard (Err Busy) ordered) (was_idle t number new x (left (Err Busy) ordered).before
@@ -141,8 +140,7 @@ module _ (t : Target) (number : ℕ) (request : Setup) (c : PortCall)
       (heard (Err NoAnswer) ordered) refl
   call_served (Err Broken) ordered = (left (Err Broken) ordered).so.could
       (heard (Err Broken) ordered).at
-  call_served (Err (Bus fault)) ordered = tt
-  call_served (Err Memory) ordered = tt
+  call_served result ordered = tt
 
 -- The status of a port
 
@@ -164,24 +162,6 @@ module _ (t : Target) (i : ℕ) (old new : World) (three : NoThreeDamaged old)
   abbrev request : Setup
   request = get_port_status (suc i)
 
-  host : IsToHost request
-  unfolding get_port_status
-  host = omega arith
-
-  length_is : request.length ≡ 4
-  unfolding get_port_status
-  length_is = refl
-
-  some_bytes : 1 ≤ request.length
-  some_bytes = subst (λ n. 1 ≤ n) (sym length_is) (omega arith)
-
-  few_bytes : request.length ≤ 8
-  few_bytes = subst (λ n. n ≤ 8) (sym length_is) (omega arith)
-
-  plain : asks_no_port request ≡ true
-  unfolding get_port_status
-  plain = refl
-
   asks_status : (spec : Spec) (g : Registers)
       → outcome spec g request ≡ told_port (port_named spec.hub g (suc i))
   unfolding get_port_status outcome
@@ -189,7 +169,8 @@ module _ (t : Target) (i : ℕ) (old new : World) (three : NoThreeDamaged old)
 
   module _ (answer : Result (Vec ℕ) PipeFault) (asked : Queried t request old answer new) where
     read : Was (ReadLeaves t request answer old new) old x.spot x.state
-    read = read_leaves t request answer old new host some_bytes (same_setup request) asked.settled
+    read = read_leaves t request answer old new (status_host (suc i)) (status_some (suc i))
+        (same_setup request) asked.settled
         asked.stages single x.spot x.state x.on x.stands
 
     read_stays : StaysAs x.spot read.before x.state
@@ -199,7 +180,8 @@ module _ (t : Target) (i : ℕ) (old new : World) (three : NoThreeDamaged old)
     read_heard = listened t (suc i) new x read.before read_stays
 
     read_cause : IsNoBusFault answer → Was (ControlReadFailure t request answer) old x.spot x.state
-    read_cause n = read_why t request answer old new most host some_bytes (same_setup request)
+    read_cause n = read_why t request answer old new most (status_host (suc i))
+        (status_some (suc i)) (same_setup request)
         asked.settled three asked.stages n single x.spot x.state x.on x.stands
 
     cause_left : (n : IsNoBusFault answer) → ControlReadFailure t request answer x.spot read.before
@@ -237,7 +219,7 @@ module _ (t : Target) (i : ℕ) (old new : World) (three : NoThreeDamaged old)
             (subst (λ o. first_stage r.row 4 o ≡ refused)
             (asks_status read.before.spec read.before.registers)
             (subst (λ n. first_stage r.row n (outcome read.before.spec read.before.registers
-            request) ≡ refused) length_is r.is)))
+            request) ≡ refused) (status_length (suc i)) r.is)))
 
         none : port_there now.roots (path_to x.spot ++ (suc i ∷ [])) ≡ None
         none =
@@ -259,26 +241,16 @@ module _ (t : Target) (i : ℕ) (old new : World) (three : NoThreeDamaged old)
 
         still : StillSet b (port_there now.roots ((path_to x.spot) ++ (suc i ∷ [])))
         still = course_bits (path_to x.spot) (suc i)
-            (course_wider (λ s w k. k.leaves) (resting_course t request plain old now accepted_there
+            (course_wider (λ s w k. k.leaves) (resting_course t request (status_plain (suc i)) old
+                now accepted_there
             ((path_to x.spot) ++ (suc i ∷ [])))) now_on b stood
 
   told_status : (bytes : Vec ℕ) → Queried t request old (Ok bytes) new → length bytes.items ≡ 4
-  told_status bytes asked = ap length came ∙ status_of-length status.port
+  told_status bytes asked = ap length (came_status (suc i) done) ∙ status_of-length
+      (read_status (suc i) done).port
     where
       done : AnswerRead t request bytes.items old new x.spot (read (Ok bytes) asked).before x.state
       done = (read (Ok bytes) asked).so.done (read_heard (Ok bytes) asked).at bytes refl
-
-      status : StatusOf done.row (suc i - 1) done.answer
-          (effect_of_request (outcome (read (Ok bytes) asked).before.spec
-          (read (Ok bytes) asked).before.registers request))
-      status = get_port_status-outcome _ _ done.row (suc i) done.answer
-          (subst (λ n. first_stage done.row n (outcome (read (Ok bytes) asked).before.spec
-          (read (Ok bytes) asked).before.registers request) ≡ reading done.answer n 0)
-          length_is done.is)
-
-      came : bytes.items ≡ status_of status.port
-      came = done.came (inr few_bytes) ∙ ap (λ n. take n done.answer) length_is
-          ∙ ap (take 4) status.told ∙ whole_status status.port
 
   same_four : (n : ℕ) → n ≡ 4 → (n == 4) ≡ true
   same_four n e = grind (arith, nat_tests, e)
@@ -289,19 +261,19 @@ module _ (t : Target) (i : ℕ) (old new : World) (three : NoThreeDamaged old)
       rw (same_four (length bytes.items) (told_status bytes asked)) tt
   answer_served says (Err Stalled) asked = row_stands (Err Stalled) asked refl
   answer_served says (Err Busy) asked =
-      (cause_left (Err Busy) asked tt).waited (read_heard (Err Busy) asked) (inr few_bytes)
+      (cause_left (Err Busy) asked tt).waited (read_heard (Err Busy) asked)
+          (inr (status_few (suc i)))
       (was_idle t (suc i) new x (read (Err Busy) asked).before (read_stays (Err Busy) asked))
       (was_ruled t (suc i) new x (read (Err Busy) asked).before (read_stays (Err Busy) asked)) refl
   answer_served says (Err NoAnswer) asked =
       (cause_left (Err NoAnswer) asked tt).answered (read_heard (Err NoAnswer) asked)
-      (inr few_bytes) refl
+      (inr (status_few (suc i))) refl
   answer_served says (Err Broken) asked =
       (read (Err Broken) asked).so.could (read_heard (Err Broken) asked).at
-  answer_served says (Err (Bus fault)) asked = tt
-  answer_served says (Err Memory) asked = tt
+  answer_served says answer asked = tt
 
   pub status_served : {A : Type 0} (says : List ℕ → A) (result : Result A PipeFault)
       → ReadAs says t request old result new → NoHubFailed result
   status_served says result told = subst NoHubFailed (sym told.told)
-      (subst (λ n. NoHubFailed (said_in says n told.answer)) (sym length_is)
+      (subst (λ n. NoHubFailed (said_in says n told.answer)) (sym (status_length (suc i)))
       (answer_served says told.answer told.asked))

@@ -9,13 +9,12 @@ use Rattle.usb_port.specs.{SetPower, SetReset, ClearEnable, ClearPower, ClearCon
 use Rattle.usb_port.specs.{ClearEnableChange, ClearResetChange, is_reset, called_port}
 use Rattle.usb_device.specs.{Ports, ended, vacant, taken, empty, full, port_of, reset_where, called}
 use Rattle.usb_device.specs.{place, place_at, port_at, reach, reach_at, state_at, State, port_there}
-use Rattle.usb_device.specs.{state_there}
-use Rattle.usb_device.specs.Tree.{Place}
+use Rattle.usb_device.specs.{state_there, Place}
 use Rattle.usb_world.specs.{Event, Attempt, step_keeps_pending, resets, spec_of, AsksNothing}
 use Rattle.usb_world.specs.{leaves_step, row_reached, LeavesPortAlone, SameAt, UnchangedOrPending}
-use Rattle.usb_world.specs.{SameDeviceOrPending, Step, attempt, root_call, event, report, after}
-use Rattle.usb_world.specs.{with_attempt, at_attempt, after_due_events, after_event, is_due, Course}
-use Rattle.usb_world.specs.{here, step, World}
+use Rattle.usb_world.specs.{Step, attempt, root_call, event, report, after, with_attempt}
+use Rattle.usb_world.specs.{at_attempt, after_due_events, after_event, is_due, Course, here, step}
+use Rattle.usb_world.specs.{World}
 use Rattle.usb_tree.specs.{has_power, pending, keeps_pending}
 use Rattle.usb_world.proofs.Interface.{MadeOrNot, attempt_cases, course_wider, made_pend}
 use Rattle.usb_world.proofs.Interface.{made_sound, pending_persists, rests_or_pends}
@@ -132,11 +131,8 @@ module _ (p : List ℕ) (c : PortCall) where
   then_so : (K L M : World → World → Type 0) (w m v : World) → (K w m → L m v → M w v)
       → StandsSo K w m → (has_power m.roots p ≡ true → StandsSo L m v)
       → (pending m.roots p ≡ true → pending v.roots p ≡ true) → StandsSo M w v
-  then_so K L M w m v joins (inl x) on pending = pick (on x.0)
-    where
-      pick : StandsSo L m v → StandsSo M w v
-      pick (inl y) = inl (y.0, joins x.1 y.1, y.2 ∙ x.2)
-      pick (inr y) = inr y
+  then_so K L M w m v joins (inl x) on pending =
+      elim (on x.0) [ inl y ↦ inl (y.0, joins x.1 y.1, y.2 ∙ x.2) | inr y ↦ inr y ]
   then_so K L M w m v joins (inr x) on pending = inr (pending x)
 
   -- the port that a step's own change comes to is as it was; or a change is pending after the step;
@@ -153,12 +149,11 @@ module _ (p : List ℕ) (c : PortCall) where
     where
       made : w.fault ≡ None → after (attempt a) w ≡ with_attempt a (at_attempt w)
           → Met (attempt a) w
-      made sound is = pick (rests_or_pends p (due_course p w.left w refl sound) on)
-        where
-          pick : UnchangedOrPending w (at_attempt w) p → Met (attempt a) w
-          pick (inl y) = same y.1.port
-          pick (inr y) = pends (subst (λ v. pending v.roots p ≡ true) (sym is)
-              (made_pend a (at_attempt w) p sp y))
+      made sound is = elim (rests_or_pends p (due_course p w.left w refl sound) on) [
+        | inl y ↦ same y.1.port
+        | inr y ↦ pends (subst (λ v. pending v.roots p ≡ true) (sym is)
+            (made_pend a (at_attempt w) p sp y))
+      ]
 
       cases : MadeOrNot a w (after (attempt a) w) → Met (attempt a) w
       cases (inl e) = nothing (ap (λ v. v.roots) e)
@@ -178,14 +173,11 @@ module _ (p : List ℕ) (c : PortCall) where
 
   port_kept : (s : Step) (w : World) → ActsAt p c s w → port_there (ports_at_step s w) p
       ≡ port_there w.roots p → KeptOrCalled w (after s w)
-  port_kept s w k e = pick k.port
-    where
-      pick : (place (after s w).roots p ≡ place (ports_at_step s w) p)
-          ⊎ (place (after s w).roots p ≡ option_map (called c) (place (ports_at_step s w) p))
-          → KeptOrCalled w (after s w)
-      pick (inl x) = inl (port_after s w _ x ∙ sym (port_of_place (ports_at_step s w) p) ∙ e)
-      pick (inr x) = inr (port_after s w _ x ∙ port_of_called c (place (ports_at_step s w) p)
-          ∙ ap (option_map (called_port c)) (sym (port_of_place (ports_at_step s w) p) ∙ e))
+  port_kept s w k e = elim k.port [
+    | inl x ↦ inl (port_after s w _ x ∙ sym (port_of_place (ports_at_step s w) p) ∙ e)
+    | inr x ↦ inr (port_after s w _ x ∙ port_of_called c (place (ports_at_step s w) p)
+        ∙ ap (option_map (called_port c)) (sym (port_of_place (ports_at_step s w) p) ∙ e))
+  ]
 
   module _ (keeps : keeps_pending c [] ≡ true) where
     -- what one step leaves, where it says so of the port that it comes to
@@ -194,7 +186,10 @@ module _ (p : List ℕ) (c : PortCall) where
         → ((after s w).roots ≡ w.roots → K w (after s w))
         → has_power w.roots p ≡ true → StandsSo K w (after s w)
     step_so K s w k there idle on =
-        pick (stands_or_pends p (step s (k.about.spares keeps) (here (after s w))) on)
+        elim (stands_or_pends p (step s (k.about.spares keeps) (here (after s w))) on) [
+          | inl x ↦ by_met x.0 x.1 (step_met s w (k.about.spares keeps) on)
+          | inr x ↦ inr x
+        ]
       where
         by_met : has_power (after s w).roots p ≡ true
             → option_map spec_of (state_there (after s w).roots p)
@@ -202,10 +197,6 @@ module _ (p : List ℕ) (c : PortCall) where
         by_met l what (same e) = inl (l, there e, what)
         by_met l what (pends e) = inr e
         by_met l what (nothing e) = inl (l, idle e, what)
-
-        pick : SameDeviceOrPending w (after s w) p → StandsSo K w (after s w)
-        pick (inl x) = by_met x.0 x.1 (step_met s w (k.about.spares keeps) on)
-        pick (inr x) = inr x
 
     steps_so : {w v : World} → Course (ActsAt p c) w v → has_power w.roots p ≡ true
         → StandsSo KeptOrCalled w v
@@ -236,12 +227,8 @@ module _ (p : List ℕ) (c : PortCall) where
 
       since_so : has_power (after x.last x.before).roots p ≡ true
           → StandsSo KeptOrCalled (after x.last x.before) new
-      since_so on = pick (rests_or_pends p (x.since p) on)
-        where
-          pick : UnchangedOrPending (after x.last x.before) new p
-              → StandsSo KeptOrCalled (after x.last x.before) new
-          pick (inl y) = inl (y.0, inl y.1.port, y.1.what)
-          pick (inr y) = inr y
+      since_so on = elim (rests_or_pends p (x.since p) on)
+          [ inl y ↦ inl (y.0, inl y.1.port, y.1.what) | inr y ↦ inr y ]
 
       now_called : has_power old.roots p ≡ true → StandsSo Called old (after x.last x.before)
       now_called on =

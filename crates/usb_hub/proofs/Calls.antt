@@ -20,14 +20,15 @@ use Rattle.usb_tree.specs.{address_of, is_way, IsSettled, keeps_pending}
 use Rattle.usb_world.proofs.Interface.{course_joined, course_wider, made_of, same_is, settled_wider}
 use Rattle.usb_tree.proofs.Interface.{and_of, decided, equal_same, false_true, or_right}
 use Rattle.usb_transaction.specs.{Target, TransFault, Answerer, is_at, AcceptedAt, AttemptLog}
-use Rattle.usb_transaction.specs.{start, Transacted, in_attempt, setup_attempt, AttemptsMade}
+use Rattle.usb_transaction.specs.{BusFailed, start, Transacted, in_attempt, setup_attempt}
+use Rattle.usb_transaction.specs.{AttemptsMade}
 use Rattle.usb_transaction.specs.declared.fault.TransFault.TheVariants as trans
 use Rattle.usb_transaction.proofs.Interface.{trail_course}
-use Rattle.usb_pipe.specs.{PipeFault, as_pipe_fault, FaultAfter, SetUp, Writes, IsBehind}
+use Rattle.usb_pipe.specs.{PipeFault, as_pipe_fault, FaultAfter, Writes, IsBehind}
 use Rattle.usb_pipe.specs.{IsNoBusFault, EffectDone, WriteLeaves}
-use Rattle.usb_pipe.specs.declared.fault.PipeFault.TheVariants.{Stalled, Busy, NoAnswer, Broken}
-use Rattle.usb_pipe.specs.declared.fault.PipeFault.TheVariants.{Bus, Memory}
-use Rattle.usb_pipe.proofs.Interface.{who_writes, write_attempts, write_leaves}
+use Rattle.usb_pipe.specs.declared.fault.PipeFault.TheVariants.{Broken}
+use Rattle.usb_pipe.specs.declared.fault.PipeFault.TheVariants.{Bus}
+use Rattle.usb_pipe.proofs.Interface.{transacted_ended, who_writes, write_attempts, write_leaves}
 use Rattle.usb_address.specs.{AddressMap, LeavesPipe, MapHolds, WhileBusWorks}
 use Rattle.usb_address.proofs.Interface.{ClaimedAt, Fits, KeepsClaim, Resets, settled_attempt}
 use Rattle.usb_address.proofs.Interface.{place_ports, claimed_path, held_of, less_one}
@@ -68,44 +69,17 @@ writes_sent t request old (Ok u) new n x =
       trail = x.set_up.trail;
       behind = trail_course (λ w made. inl refl) x.status.trail;
     }
-writes_sent t request old (Err why) new n (inl x) = no_set_up x.fault x.told x.set_up
-  where
-    no_set_up : (fault : TransFault) → why ≡ as_pipe_fault fault
-        → SetUp t request old (Err fault) new → Sent t request old new
-    no_set_up trans.Stalled e x = record {
-      mid = new;
-      outcomes = x.last ∷ x.outcomes;
-      trail = x.trail;
-      behind = here new;
-    }
-    no_set_up trans.Busy e x = record {
-      mid = new;
-      outcomes = x.last ∷ x.outcomes;
-      trail = x.trail;
-      behind = here new;
-    }
-    no_set_up trans.NoAnswer e x = record {
-      mid = new;
-      outcomes = x.last ∷ x.outcomes;
-      trail = x.trail;
-      behind = here new;
-    }
-    no_set_up (trans.Bus fault) e x = absurd (subst (λ y. IsNoBusFault {A = Unit {0}} (Err y)) e n)
+writes_sent t request old (Err why) new n (inl x) =
+    let e = transacted_ended (Unit {0}) why x.fault x.told n x.set_up in
+    record { mid = new; outcomes = e.last ∷ e.outcomes; trail = e.trail; behind = here new }
 writes_sent t request old (Err why) new n (inr x) =
     record {
       mid = x.mid;
       outcomes = x.set_up.last ∷ x.set_up.outcomes;
       trail = x.set_up.trail;
-      behind = no_status _ x.fault x.told x.status;
+      behind = trail_course (λ w made. inl refl)
+          (transacted_ended (Unit {0}) why x.fault x.told n x.status).trail;
     }
-  where
-    no_status : (hear : _) (fault : TransFault) → why ≡ as_pipe_fault fault
-        → Transacted hear (in_attempt t 0) x.mid (Err fault) new → Course (IsBehind t) x.mid new
-    no_status hear trans.Stalled e x = trail_course (λ w made. inl refl) x.trail
-    no_status hear trans.Busy e x = trail_course (λ w made. inl refl) x.trail
-    no_status hear trans.NoAnswer e x = trail_course (λ w made. inl refl) x.trail
-    no_status hear (trans.Bus fault) e x =
-        absurd (subst (λ y. IsNoBusFault {A = Unit {0}} (Err y)) e n)
 
 -- where the bus gave up, up to the attempt that it refused
 record SentUpTo (t : Target) (request : Setup) (old : World) (fault : BusFault) (new : World) :
@@ -119,49 +93,39 @@ record SentUpTo (t : Target) (request : Setup) (old : World) (fault : BusFault) 
   refused : Attempted last cut (Err fault) new
   fails : cut.fault ≡ None → AttemptFails last cut (Err fault) new
 
-bus_fault_is : (f g : BusFault) → Bus f ≡ as_pipe_fault (trans.Bus g) → g ≡ f
-bus_fault_is f g e = cc e
+bus_failed : {hear : _} {a : Attempt} {old new : World} (fault : BusFault) (f : TransFault)
+    → Bus fault ≡ as_pipe_fault f → Transacted hear a old (Err f) new → BusFailed hear a old fault
+        new
+bus_failed {hear} {a} {old} {new} fault (trans.Bus g) e x =
+    let same : g ≡ fault = cc e in subst (λ f. BusFailed hear a old f new) same x
+bus_failed fault f e x = absurd (cc e)
 
 sent_up_to : (t : Target) (request : Setup) (old : World) (fault : BusFault) (new : World)
     → Writes t request old (Err (Bus fault)) new → SentUpTo t request old fault new
-sent_up_to t request old fault new (inl x) = no_set_up x.fault x.told x.set_up
-  where
-    no_set_up : (f : TransFault) → Bus fault ≡ as_pipe_fault f → SetUp t request old (Err f) new
-        → SentUpTo t request old fault new
-    no_set_up trans.Stalled e x = absurd (cc e)
-    no_set_up trans.Busy e x = absurd (cc e)
-    no_set_up trans.NoAnswer e x = absurd (cc e)
-    no_set_up (trans.Bus g) e x =
-        subst (λ f. SentUpTo t request old f new) (bus_fault_is fault g e)
-        (record {
-          mid = x.mid;
-          outcomes = x.outcomes;
-          trail = x.trail;
-          cut = x.mid;
-          behind = here x.mid;
-          last = setup_attempt t (bytes_of request);
-          refused = x.refused;
-          fails = x.fails;
-        })
-sent_up_to t request old fault new (inr x) = no_status _ x.fault x.told x.status
-  where
-    no_status : (hear : _) (f : TransFault) → Bus fault ≡ as_pipe_fault f
-        → Transacted hear (in_attempt t 0) x.mid (Err f) new → SentUpTo t request old fault new
-    no_status hear trans.Stalled e y = absurd (cc e)
-    no_status hear trans.Busy e y = absurd (cc e)
-    no_status hear trans.NoAnswer e y = absurd (cc e)
-    no_status hear (trans.Bus g) e y =
-        subst (λ f. SentUpTo t request old f new) (bus_fault_is fault g e)
-        (record {
-          mid = x.mid;
-          outcomes = x.set_up.last ∷ x.set_up.outcomes;
-          trail = x.set_up.trail;
-          cut = y.mid;
-          behind = trail_course (λ w made. inl refl) y.trail;
-          last = in_attempt t 0;
-          refused = y.refused;
-          fails = y.fails;
-        })
+sent_up_to t request old fault new (inl x) =
+    let b = bus_failed fault x.fault x.told x.set_up in
+    record {
+      mid = b.mid;
+      outcomes = b.outcomes;
+      trail = b.trail;
+      cut = b.mid;
+      behind = here b.mid;
+      last = setup_attempt t (bytes_of request);
+      refused = b.refused;
+      fails = b.fails;
+    }
+sent_up_to t request old fault new (inr x) =
+    let b = bus_failed fault x.fault x.told x.status in
+    record {
+      mid = x.mid;
+      outcomes = x.set_up.last ∷ x.set_up.outcomes;
+      trail = x.set_up.trail;
+      cut = b.mid;
+      behind = trail_course (λ w made. inl refl) b.trail;
+      last = in_attempt t 0;
+      refused = b.refused;
+      fails = b.fails;
+    }
 
 -- what comes behind is about each port
 behind_about : (t : Target) (p : List ℕ) (c : PortCall) {w v : World} → Course (IsBehind t) w v
@@ -432,12 +396,9 @@ sound_of : (k n : ℕ) (old new : World) (result : Result (Unit {0}) PipeFault) 
     → MatchResult result (λ done. AttemptsMade k old new) (λ fault. FaultAfter n old fault new)
     → old.fault ≡ None
 sound_of k n old new (Ok u) s x = x.sound
-sound_of k n old new (Err Stalled) s x = x.sound
-sound_of k n old new (Err Busy) s x = x.sound
-sound_of k n old new (Err NoAnswer) s x = x.sound
-sound_of k n old new (Err Broken) s x = elim x [ ]
-sound_of k n old new (Err (Bus fault)) s x = elim s [ ]
-sound_of k n old new (Err Memory) s x = x.sound
+sound_of k n old new (Err Broken) s x = absurd x
+sound_of k n old new (Err (Bus fault)) s x = absurd s
+sound_of k n old new (Err fault) s x = x.sound
 
 module _ (t : Target) (c : PortCall) (request : Setup) (f : AddressMap) (old : World)
     (result : Result (Unit {0}) PipeFault) (new : World)
@@ -461,47 +422,38 @@ module _ (t : Target) (c : PortCall) (request : Setup) (f : AddressMap) (old : W
         (at_path at.hub n asked at.is_path at.number at.held
         (λ h x z. subst (λ y. is_way y x ≡ true) at.path (alone h x z)))
 
-  pub done_below : (n : ℕ) → AsksFor request c n → (p : List ℕ) → IsBelow f t.addr n p
-      → (is_reset c ≡ true → (x : List ℕ) → f x ≡ Some 0 → is_way p x ≡ true) → result ≡ Ok tt
-      → PortCallDone p c old new
-  done_below n asked p at alone is = below (λ p. PortCallDone p c old new) there n asked p at alone
-    where
-      ordered_so : Commanded t request old (Ok tt) new
-      ordered_so = subst (λ r. Commanded t request old r new) is ordered
+  module _ (n : ℕ) (asked : AsksFor request c n) (p : List ℕ) (at : IsBelow f t.addr n p)
+      (alone : is_reset c ≡ true → (x : List ℕ) → f x ≡ Some 0 → is_way p x ≡ true) where
+    pub done_below : result ≡ Ok tt → PortCallDone p c old new
+    done_below is =
+        let so : Commanded t request old (Ok tt) new = rw is at ordered in
+        below (λ p. PortCallDone p c old new) (λ j i asked r. hub_done t j i request c asked r.P
+        r.follows old new so r.first (r.leaves (Ok tt) new so.stages) r.addressed) n asked p at
+        alone
 
-      there : (j : Location) (i : ℕ) (asked : AsksFor request c (suc i))
-          → Route t request (path_to j) old → PortCallDone (path_to j ++ (suc i ∷ [])) c old new
-      there j i asked r = hub_done t j i request c asked r.P r.follows old new ordered_so r.first
-          (r.leaves (Ok tt) new ordered_so.stages) r.addressed
+    module _ (sound : IsNoBusFault result) where
+      pub rests_below : (x : List ℕ) → is_way p x ≡ false → Course (LeavesPortAlone x) old new
+      rests_below =
+          below (λ p. (x : List ℕ) → is_way p x ≡ false → Course (LeavesPortAlone x) old new)
+          (λ j i asked r. hub_rests t j i request c asked r.P r.follows old result new sound
+          ordered.stages r.first) n asked p at alone
 
-  pub rests_below : IsNoBusFault result → (n : ℕ) → AsksFor request c n → (p : List ℕ)
-      → IsBelow f t.addr n p → (is_reset c ≡ true → (x : List ℕ) → f x ≡ Some 0 → is_way p x ≡ true)
-      → (x : List ℕ) → is_way p x ≡ false → Course (LeavesPortAlone x) old new
-  rests_below sound n asked p at alone =
-      below (λ p. (x : List ℕ) → is_way p x ≡ false → Course (LeavesPortAlone x) old new)
-      (λ j i asked r. hub_rests t j i request c asked r.P r.follows old result new sound
-      ordered.stages r.first) n asked p at alone
+      pub backlog_below : KeepsCall p c old new
+      backlog_below =
+          below (λ p. KeepsCall p c old new)
+          (λ j i asked r. let s : Sent t request old new =
+          writes_sent t request old result new sound ordered.stages in
+          record {
+            covered = λ ports m v r0 few covers. call_keeps m v r0 few t (path_to j) i request c
+                asked (holder_covers m r0 (path_to j) i c covers) r.P r.follows s.trail s.behind
+                r.first ports;
+          }) n asked p at alone
 
-  pub backlog_below : IsNoBusFault result → (n : ℕ) → AsksFor request c n → (p : List ℕ)
-      → IsBelow f t.addr n p → (is_reset c ≡ true → (x : List ℕ) → f x ≡ Some 0 → is_way p x ≡ true)
-      → KeepsCall p c old new
-  backlog_below sound n asked p at alone =
-      below (λ p. KeepsCall p c old new)
-      (λ j i asked r. let s : Sent t request old new =
-      writes_sent t request old result new sound ordered.stages in
-      record {
-        covered = λ ports m v r0 few covers. call_keeps m v r0 few t (path_to j) i request c
-            asked (holder_covers m r0 (path_to j) i c covers) r.P r.follows s.trail s.behind r.first
-            ports;
-      }) n asked p at alone
-
-  pub spares_below : IsNoBusFault result → (n : ℕ) → AsksFor request c n → (p : List ℕ)
-      → IsBelow f t.addr n p → (is_reset c ≡ true → (x : List ℕ) → f x ≡ Some 0 → is_way p x ≡ true)
-      → keeps_pending c [] ≡ true → Course (KeepsPendingAt p) old new
-  spares_below sound n asked p at alone =
-      below (λ p. keeps_pending c [] ≡ true → Course (KeepsPendingAt p) old new)
-      (λ j i asked r. hub_spares t j i request c asked r.P r.follows old result new sound
-      ordered.stages r.first) n asked p at alone
+      pub spares_below : keeps_pending c [] ≡ true → Course (KeepsPendingAt p) old new
+      spares_below =
+          below (λ p. keeps_pending c [] ≡ true → Course (KeepsPendingAt p) old new)
+          (λ j i asked r. hub_spares t j i request c asked r.P r.follows old result new sound
+          ordered.stages r.first) n asked p at alone
 
 -- up to a fault of the bus
 module _ (t : Target) (c : PortCall) (request : Setup) (f : AddressMap) (old : World)
@@ -510,29 +462,27 @@ module _ (t : Target) (c : PortCall) (request : Setup) (f : AddressMap) (old : W
   cut_there : SentUpTo t request old fault new
   cut_there = sent_up_to t request old fault new ordered.stages
 
-  about_below : (n : ℕ) → AsksFor request c n → (p : List ℕ) → IsBelow f t.addr n p
-      → (is_reset c ≡ true → (x : List ℕ) → f x ≡ Some 0 → is_way p x ≡ true)
-      → (outcomes : List Outcome) (mid cut : World)
-      → AttemptLog (setup_attempt t (bytes_of request)) old outcomes mid
-      → Course (IsBehind t) mid cut → Course (IsAbout p c) old cut
-  about_below n asked p at alone [] w cut start behind = behind_about t p c behind ordered.settled
-  about_below n asked p at alone (o ∷ outcomes) w cut tr behind =
-      below t c request f old (Err (Bus fault)) new ordered (till.so (trail_sound tr))
-      (λ p. Course (IsAbout p c) old cut)
-      (λ j i asked r. hub_about t j i request c asked r.P r.follows tr behind r.first) n asked p at
-      alone
+  module _ (n : ℕ) (asked : AsksFor request c n) (p : List ℕ) (at : IsBelow f t.addr n p)
+      (alone : is_reset c ≡ true → (x : List ℕ) → f x ≡ Some 0 → is_way p x ≡ true) where
+    about_below : (outcomes : List Outcome) (mid cut : World)
+        → AttemptLog (setup_attempt t (bytes_of request)) old outcomes mid
+        → Course (IsBehind t) mid cut → Course (IsAbout p c) old cut
+    about_below [] w cut start behind = behind_about t p c behind ordered.settled
+    about_below (o ∷ outcomes) w cut tr behind =
+        below t c request f old (Err (Bus fault)) new ordered (till.so (trail_sound tr))
+        (λ p. Course (IsAbout p c) old cut)
+        (λ j i asked r. hub_about t j i request c asked r.P r.follows tr behind r.first) n asked p
+        at alone
 
-  pub cut_below : (n : ℕ) → AsksFor request c n → (p : List ℕ) → IsBelow f t.addr n p
-      → (is_reset c ≡ true → (x : List ℕ) → f x ≡ Some 0 → is_way p x ≡ true)
-      → UpToFault (IsAbout p c) old fault new
-  cut_below n asked p at alone = record {
-    mid = cut_there.cut;
-    course = about_below n asked p at alone cut_there.outcomes cut_there.mid cut_there.cut
-        cut_there.trail cut_there.behind;
-    last = cut_there.last;
-    refused = cut_there.refused;
-    fails = cut_there.fails;
-  }
+    pub cut_below : UpToFault (IsAbout p c) old fault new
+    cut_below = record {
+      mid = cut_there.cut;
+      course = about_below cut_there.outcomes cut_there.mid cut_there.cut cut_there.trail
+          cut_there.behind;
+      last = cut_there.last;
+      refused = cut_there.refused;
+      fails = cut_there.fails;
+    }
 
 module _ (port : HubPort) (hub : Target) (number : ℕ) (call : Option PortCall) (request : Setup)
     (some_call : (c : PortCall) × (call ≡ Some c)) (asks : (c : PortCall) → call ≡ Some c
@@ -545,14 +495,14 @@ module _ (port : HubPort) (hub : Target) (number : ℕ) (call : Option PortCall)
         (x.owned.so (sound_of 2 1 old new result (subst IsNoBusFault (sym is) tt) ordered.ends))
         number (asks c x.is) p x.at x.alone is;
     rests = λ f p c x sound. rests_below hub c request f old result new ordered
-        (x.owned.so (sound_of 2 1 old new result sound ordered.ends)) sound number (asks c x.is) p
-        x.at x.alone;
+        (x.owned.so (sound_of 2 1 old new result sound ordered.ends)) number (asks c x.is) p x.at
+        x.alone sound;
     spares = λ f p c x sound. spares_below hub c request f old result new ordered
-        (x.owned.so (sound_of 2 1 old new result sound ordered.ends)) sound number (asks c x.is) p
-        x.at x.alone;
+        (x.owned.so (sound_of 2 1 old new result sound ordered.ends)) number (asks c x.is) p x.at
+        x.alone sound;
     backlog = λ f p c x sound. backlog_below hub c request f old result new ordered
-        (x.owned.so (sound_of 2 1 old new result sound ordered.ends)) sound number (asks c x.is) p
-        x.at x.alone;
+        (x.owned.so (sound_of 2 1 old new result sound ordered.ends)) number (asks c x.is) p x.at
+        x.alone sound;
     cut = λ f p c x fault is. cut_below hub c request f old fault new
         (subst (λ r. Commanded hub request old r new) is ordered) x.owned number (asks c x.is) p
         x.at x.alone;

@@ -15,6 +15,7 @@ use Rattle.usb_tree.specs.{address_of, is_way, same_number, call_resets, reset_i
 use Rattle.usb_world.proofs.Interface.{call_reach, call_state, each_none, each_wider}
 use Rattle.usb_tree.proofs.Interface.{and_false, false_true}
 use Rattle.usb_transaction.specs.{Target}
+use Rattle.usb_transaction.proofs.Interface.{was_then}
 use Rattle.usb_pipe.specs.{PipeFault, ReadLeaves, WriteLeaves}
 use Rattle.usb_pipe.proofs.Interface.{given_registers, read_leaves, write_leaves}
 use Rattle.usb_address.proofs.Interface.{same_setup}
@@ -78,25 +79,15 @@ port_begun_stays : (o : Outcome) → IsOfPort o
     → (s v : State) (row : List PortState) (n : ℕ) (j : Location) → OnlyControl (begun s row n o) v
     → v.registers ≡ (begun s row n o).registers → StaysAs j s v
 port_begun_stays stalled is s v row n j frame same = control_stays j s v frame same
-port_begun_stays (answers bytes) is s v row n j frame same = elim is [ ]
-port_begun_stays (takes_address a) is s v row n j frame same = elim is [ ]
-port_begun_stays (takes_configuration c) is s v row n j frame same = elim is [ ]
-port_begun_stays (halts x) is s v row n j frame same = elim is [ ]
-port_begun_stays (unhalts x) is s v row n j frame same = elim is [ ]
-port_begun_stays (tells_port i) is s v row n j frame same = elim is [ ]
 port_begun_stays (calls_port c i) is s v row n j frame same = control_stays j s v frame same
+port_begun_stays o is s v row n j frame same = absurd is
 
 port_takes_no_address : (o : Outcome) → IsOfPort o
     → (row : List PortState) (n : ℕ) (address : Option ℕ) → first_stage row n o ≡ ending address
     → address ≡ None
 port_takes_no_address stalled is row n address e = absurd cc
-port_takes_no_address (answers bytes) is row n address e = elim is [ ]
-port_takes_no_address (takes_address a) is row n address e = elim is [ ]
-port_takes_no_address (takes_configuration c) is row n address e = elim is [ ]
-port_takes_no_address (halts x) is row n address e = elim is [ ]
-port_takes_no_address (unhalts x) is row n address e = elim is [ ]
-port_takes_no_address (tells_port i) is row n address e = elim is [ ]
 port_takes_no_address (calls_port c i) is row n address e = cc
+port_takes_no_address o is row n address e = absurd is
 
 module _ (t : Target) (request : Setup) (of_port : (spec : Spec) (g : Registers)
     → IsOfPort (outcome spec g request)) (old new : World) (j : Location) (s v : State) where
@@ -157,13 +148,8 @@ reset_stays hub port old result new addressed ordered single j s on there named 
     let was : Was (WriteLeaves hub request result old new) old j s =
     write_leaves hub request result old new refl (same_setup request) ordered.settled
     ordered.stages single j s on there (λ h. (addressed, named)) in
-    record {
-      before = was.before;
-      on = was.on;
-      stands = was.stands;
-      so = write_stays hub request (λ spec g. called_of_port (set_call PORT_RESET)
-          (port_named spec.hub g port)) old new j was.before s result was.so;
-    }
+    was_then was (write_stays hub request (λ spec g. called_of_port (set_call PORT_RESET)
+    (port_named spec.hub g port)) old new j was.before s result was.so)
 
 -- the status of one
 pub port_status_keeps : (hub : Target) (port : ℕ) (old : World)
@@ -182,10 +168,8 @@ port_status_keeps hub port old result new told = record {
 
 reset_if-kept : (o : Option State) (b : _) (s : State) → b ≡ false
     → option_map (reset_if b) o ≡ Some s → o ≡ Some s
-reset_if-kept None true s e h = absurd cc
-reset_if-kept None false s e h = absurd cc
-reset_if-kept (Some v) true s e h = absurd cc
 reset_if-kept (Some v) false s e h = h
+reset_if-kept o b s e h = absurd cc
 
 call_rests : (c : PortCall) (k : Ports) (i j : ℕ) (p : List ℕ) → is_reset c ≡ false
     → call_resets c k i j p ≡ false

@@ -3,7 +3,7 @@ use Rattle.usb_device.specs.{Location, Registers, Spec, Hub, State, Outcome, sta
 use Rattle.usb_device.specs.{text_asked, asked_hub_descriptor as hub_row, outcome, refused, reading}
 use Rattle.usb_device.specs.{ending, first_stage}
 use Rattle.std.proofs.Common.{◌≡◌, ℕ, ◌/◌, ◌%◌, ◌==◌, ◌≤◌, ◌<◌, Bool, true, false, List, slice_get}
-use Rattle.std.proofs.Common.{Option, None, Some, option_map, Result, Ok, Err, if◌then◌else◌, refl}
+use Rattle.std.proofs.Common.{Option, None, Some, option_map, Result, Err, if◌then◌else◌, refl}
 use Rattle.std.proofs.Common.{ap, sym, ◌∙◌, arith}
 use Rattle.std.proofs.lemmas.Bool.Decides.{nat_tests}
 use Rattle.std.specs.Global.{Vec}
@@ -18,8 +18,7 @@ use Rattle.usb_world.proofs.Interface.{each_wider}
 use Rattle.usb_transaction.specs.{Target, NoThreeDamaged}
 use Rattle.usb_pipe.specs.{PipeFault, ReadLeaves, AnswerRead, WasRefused, IsNoBusFault}
 use Rattle.usb_pipe.specs.{ControlReadFailure}
-use Rattle.usb_pipe.specs.declared.fault.PipeFault.TheVariants.{Stalled, Busy, NoAnswer, Broken}
-use Rattle.usb_pipe.specs.declared.fault.PipeFault.TheVariants.{Bus, Memory}
+use Rattle.usb_pipe.specs.declared.fault.PipeFault.TheVariants.{Bus}
 use Rattle.usb_pipe.proofs.Interface.{is_some_byte, read_leaves, read_why}
 use Rattle.usb_address.proofs.Interface.{same_setup}
 use Rattle.usb_hub.specs.{unless_refused, device_given, config_given, string_given, hub_given}
@@ -179,11 +178,6 @@ module _ (given : Spec → Option (List ℕ)) (t : Target) (request : Setup)
 
       split : (result : Result (Vec ℕ) PipeFault) → Queried t request old result new
           → EachWas (ReadFailure t request.length result) old new
-      split (Ok bytes) asked = sound (Ok bytes) tt asked
-      split (Err Stalled) asked = sound (Err Stalled) tt asked
-      split (Err Busy) asked = sound (Err Busy) tt asked
-      split (Err NoAnswer) asked = sound (Err NoAnswer) tt asked
-      split (Err Broken) asked = sound (Err Broken) tt asked
       split (Err (Bus fault)) asked =
           each_wider (ReadLeaves t request (Err (Bus fault)) old new)
           (ReadFailure t request.length (Err (Bus fault)))
@@ -191,7 +185,7 @@ module _ (given : Spec → Option (List ℕ)) (t : Target) (request : Setup)
           old new
           (read_leaves t request (Err (Bus fault)) old new host some (same_setup request)
           asked.settled asked.stages single)
-      split (Err Memory) asked = sound (Err Memory) tt asked
+      split result asked = sound result tt asked
 
 -- The requests
 

@@ -3,8 +3,8 @@ use Rattle.std.proofs.Common.{◌≡◌, ℕ, Result, Ok, Err, refl, subst}
 use Rattle.std.specs.Prelude.{IfErr}
 use Rattle.usb_world.specs.{BusFault, World, Failed}
 use Rattle.usb_pipe.specs.{FaultAfter, PipeFault}
-use Rattle.usb_pipe.specs.declared.fault.PipeFault.TheVariants.{Stalled, Busy, NoAnswer, Broken}
-use Rattle.usb_pipe.specs.declared.fault.PipeFault.TheVariants.{Bus, Memory}
+use Rattle.usb_pipe.specs.declared.fault.PipeFault.TheVariants.{Stalled}
+use Rattle.usb_pipe.specs.declared.fault.PipeFault.TheVariants.{Bus}
 use Rattle.usb_hub.specs.{ToldBus, done_or_unknown, EndsAfter}
 
 -- where the bus gave up, it tells its fault
@@ -12,16 +12,12 @@ pub told_bus : {A : Type 0} (least : ℕ) (old : World) (answer : Result A PipeF
     (fault : PipeFault) (new : World) → EndsAfter least old answer new → answer ≡ Err fault
     → ToldBus (done_or_unknown (Err fault)) new
 told_bus least old (Ok x) fault new ends is told e = absurd (cc is)
-told_bus least old (Err why) Stalled new ends is told e = absurd (cc e)
-told_bus least old (Err why) Busy new ends is told e = absurd (cc e)
-told_bus least old (Err why) NoAnswer new ends is told e = absurd (cc e)
-told_bus least old (Err why) Broken new ends is told e = absurd (cc e)
 told_bus least old (Err why) (Bus given) new ends is told e =
     let same : why ≡ Bus given = cc is in
     let as_told : given ≡ told = cc e in
     subst (λ (f : BusFault). Failed f new) as_told
     (subst (λ (f : PipeFault). FaultAfter 1 old f new) same ends)
-told_bus least old (Err why) Memory new ends is told e = absurd (cc e)
+told_bus least old (Err why) fault new ends is told e = absurd (cc e)
 
 pub told_done : (least : ℕ) (old : World) (answer : Result (Unit {0}) PipeFault) (new : World)
     → EndsAfter least old answer new → ToldBus (done_or_unknown answer) new
@@ -35,8 +31,4 @@ pub done_fault_after : (least : ℕ) (old : World) (answer : Result (Unit {0}) P
     → IfErr (done_or_unknown answer) (λ fault. FaultAfter 1 old fault new)
 done_fault_after least old (Ok done) new ends = tt
 done_fault_after least old (Err Stalled) new ends = tt
-done_fault_after least old (Err Busy) new ends = ends
-done_fault_after least old (Err NoAnswer) new ends = ends
-done_fault_after least old (Err Broken) new ends = ends
-done_fault_after least old (Err (Bus fault)) new ends = ends
-done_fault_after least old (Err Memory) new ends = ends
+done_fault_after least old (Err fault) new ends = ends

@@ -1,19 +1,19 @@
 -- What was so of a port at a moment of a call on it.
-use Rattle.std.proofs.Common.{◌≡◌, ℕ, zero, suc, ◌-◌, ◌≤◌, inr, true, false, List, [], ◌∷◌, ◌++◌}
-use Rattle.std.proofs.Common.{take, slice_get, slice_index_or, Some, option_map, Result, Ok, refl}
+use Rattle.std.proofs.Common.{◌≡◌, ℕ, zero, suc, ◌-◌, ◌≤◌, true, false, List, [], ◌∷◌, ◌++◌}
+use Rattle.std.proofs.Common.{slice_get, slice_index_or, Some, option_map, Result, Ok, refl}
 use Rattle.std.proofs.Common.{ap, sym, subst, ◌∙◌, arith}
 use Rattle.std.proofs.lemmas.Option.{same_Some, slice_get-get_or}
 use Rattle.std.specs.Global.{Vec}
-use Rattle.usb_port.specs.{IsPath, IsPortNumber, PortState, status_of, off, status_in, seen}
+use Rattle.usb_port.specs.{IsPath, IsPortNumber, PortState, off, status_in, seen}
 use Rattle.usb_port.specs.{PortStatus}
 use Rattle.usb_port.proofs.Interface.{status_seen}
-use Rattle.usb_request.specs.{setup_of, bytes_of, IsToHost, Setup, get_port_status, PORT_OUT}
+use Rattle.usb_request.specs.{setup_of, bytes_of, Setup, get_port_status, PORT_OUT}
 use Rattle.usb_request.specs.{SET_FEATURE}
-use Rattle.usb_device.specs.{Leaves, effect_of_request, asked_by_setup, Is, outcome, State, reading}
-use Rattle.usb_device.specs.{first_stage, acted, port_at, reach, Location, path_to, reach_on}
+use Rattle.usb_device.specs.{Leaves, effect_of_request, asked_by_setup, Is, outcome, State}
+use Rattle.usb_device.specs.{acted, port_at, reach, Location, path_to, reach_on}
 use Rattle.usb_device.specs.{state_on, port_there, state_there}
 use Rattle.usb_tree.specs.{address_of, IsSettled}
-use Rattle.usb_world.specs.{asks_no_port, LeavesPortAlone, World, IsRootPort, root_row}
+use Rattle.usb_world.specs.{LeavesPortAlone, World, IsRootPort, root_row}
 use Rattle.usb_world.specs.{root_port_at as root_port, Course, here, Was}
 use Rattle.usb_world.proofs.Interface.{same_is}
 use Rattle.usb_tree.proofs.Interface.{equal_same}
@@ -29,7 +29,8 @@ use Rattle.usb_hub.proofs.RestingRequests.{behind_asks_nothing, resting_course}
 use Rattle.usb_hub.proofs.Backlogs.{asked_backlog, rests_backlog}
 use Rattle.usb_backlog.specs.{KeepsAll}
 use Rattle.usb_backlog.proofs.Interface.{all_none}
-use Rattle.usb_hub.proofs.Statuses.{row_port, StatusOf, get_port_status-outcome, whole_status}
+use Rattle.usb_hub.proofs.Statuses.{row_port, StatusOf, read_status, came_status, status_host}
+use Rattle.usb_hub.proofs.Statuses.{status_some, status_plain}
 use Rattle.usb_hub.proofs.ToldBytes.{IsReadFrom, said}
 use Rattle.usb_hub.proofs.CallFailures.{same_port, status_served}
 
@@ -72,26 +73,13 @@ module _ (t : Target) (j : Location) (i : ℕ) (old new : World) (bytes : Vec �
   abbrev request : Setup
   request = get_port_status (suc i)
 
-  host : IsToHost request
-  unfolding get_port_status
-  host = omega arith
-
-  length_is : request.length ≡ 4
-  unfolding get_port_status
-  length_is = refl
-
-  plain : asks_no_port request ≡ true
-  unfolding get_port_status
-  plain = refl
-
   sets_no_port : Is request PORT_OUT SET_FEATURE ≡ false
   unfolding get_port_status
   sets_no_port = refl
 
   was : Was (ReadLeaves t request (Ok bytes) old new) old j a.now
-  was = read_leaves t request (Ok bytes) old new host
-      (subst (λ n. 1 ≤ n) (sym length_is) (omega arith)) (same_setup request) told.settled
-      told.stages single j a.now a.on a.stands
+  was = read_leaves t request (Ok bytes) old new (status_host (suc i)) (status_some (suc i))
+      (same_setup request) told.settled told.stages single j a.now a.on a.stands
 
   asked_it : is_at was.before t ≡ true
   asked_it = subst (λ s. is_at s t ≡ true) (same_Some a.before was.before (sym a.stood
@@ -108,16 +96,10 @@ module _ (t : Target) (j : Location) (i : ℕ) (old new : World) (bytes : Vec �
 
   status : StatusOf done.row (suc i - 1) done.answer
       (effect_of_request (outcome was.before.spec was.before.registers request))
-  status = get_port_status-outcome was.before.spec was.before.registers done.row (suc i) done.answer
-      (subst (λ n. first_stage done.row n (outcome was.before.spec was.before.registers request)
-      ≡ reading done.answer n 0) length_is done.is)
+  status = read_status (suc i) done
 
   effect : asked_by_setup was.before (setup_of (bytes_of request)) ≡ Leaves
   effect = ap (asked_by_setup was.before) (same_setup request) ∙ status.nothing
-
-  came : bytes.items ≡ status_of status.port
-  came = done.came (inr (subst (λ n. n ≤ 8) (sym length_is) (omega arith)))
-      ∙ ap (λ n. take n done.answer) length_is ∙ ap (take 4) status.told ∙ whole_status status.port
 
   in_row : port_at accepted_there.holder.below i [] ≡ Some status.port
   unfolding accepted_there
@@ -131,12 +113,13 @@ module _ (t : Target) (j : Location) (i : ℕ) (old new : World) (bytes : Vec �
       ∙ ap (λ x. port_at (acted x accepted_there.holder.below) i []) effect ∙ in_row
 
   told_there : PortStatusAt ((path_to j) ++ (suc i ∷ [])) (status_in bytes.items) old new
+  unfolding status
   told_there = record {
     now = now;
     port = status.port;
     stood = stood;
-    is = ap status_in came ∙ status_seen status.port;
-    before = resting_course t request plain old now accepted_there;
+    is = ap status_in (came_status (suc i) done) ∙ status_seen status.port;
+    before = resting_course t request (status_plain (suc i)) old now accepted_there;
     since = λ x. behind_asks_nothing t x done.moment.since
         (subst (λ w. IsSettled w.roots) (sym accepted_there.last)
         (settled_attempt _ accepted_there.mid accepted_there.holder.made.settled));
@@ -195,10 +178,7 @@ hub_tells hub_port hub port old result new is told =
     rw is (record {
       tells = λ f p at o status e. tells f p at o status
           (subst (λ r. ReadAs status_in hub (get_port_status port) old r new) e told);
-      why =
-          λ h n same three single most serves b stood. port_status_why hub port old result new told
-          h
-          n same three single most serves b stood;
+      why = port_status_why hub port old result new told;
     })
   where
     tells : (f : AddressMap) (p : List ℕ) → IsBelow f hub.addr port p

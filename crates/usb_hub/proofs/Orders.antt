@@ -1,10 +1,9 @@
 -- A request without data that resets no port asks nothing but of ports below the device that has
 -- its address.
-use Rattle.std.proofs.Common.{◌≡◌, ℕ, ◌⊎◌, inl, inr, true, false, List, Result, refl, ap, ◌∙◌}
+use Rattle.std.proofs.Common.{◌≡◌, ℕ, inl, inr, true, false, List, Result, refl, ap, ◌∙◌}
 use Rattle.usb_request.specs.{bytes_of, Setup}
-use Rattle.usb_world.specs.{Attempt, is_harmless, HolderIn, AsksNothing, is_above, LeavesPortAlone}
-use Rattle.usb_world.specs.{Course, attempt, after, at_attempt, World, Made}
-use Rattle.usb_tree.specs.{NobodyHolds}
+use Rattle.usb_world.specs.{Attempt, is_harmless, AsksNothing, is_above, LeavesPortAlone}
+use Rattle.usb_world.specs.{Course, attempt, after, World, Made}
 use Rattle.usb_world.proofs.Interface.{course_joined, elsewhere, holder_or_nobody, made_of}
 use Rattle.usb_transaction.specs.{Target, setup_attempt}
 use Rattle.usb_pipe.specs.{PipeFault, Writes, IsNoBusFault}
@@ -19,13 +18,12 @@ use Rattle.usb_hub.proofs.RestingRequests.{behind_asks_nothing}
 attempt_elsewhere : (a : Attempt) (w : World) (q x : List ℕ) → ClaimedAt q a.addr w
     → Made w (after (attempt a) w) → is_above q x ≡ false → AsksNothing (attempt a) w x
 attempt_elsewhere a w q x claimed made apart =
-    pick (holder_or_nobody a w (made_of a w claimed.owned.settled made)
-    (unshared_after claimed.claims a w claimed.owned))
-  where
-    pick : HolderIn a w ⊎ NobodyHolds a.addr (at_attempt w).roots → AsksNothing (attempt a) w x
-    pick (inl h) = elsewhere a w h x (ap (λ y. is_above y x)
-        (claimed_holder q a.addr w claimed a refl h) ∙ apart)
-    pick (inr h) = nobody_asks_nothing a w x h claimed.owned.settled
+    elim (holder_or_nobody a w (made_of a w claimed.owned.settled made)
+    (unshared_after claimed.claims a w claimed.owned)) [
+      | inl h ↦ elsewhere a w h x (ap (λ y. is_above y x)
+          (claimed_holder q a.addr w claimed a refl h) ∙ apart)
+      | inr h ↦ nobody_asks_nothing a w x h claimed.owned.settled
+    ]
 
 pub order_elsewhere : (t : Target) (request : Setup) (result : Result (Unit {0}) PipeFault)
     (old new : World) → Writes t request old result new → is_harmless request ≡ true

@@ -5,12 +5,11 @@ use Rattle.std.proofs.Common.{◌∷◌, ◌++◌, Option, None, Some, option_ma
 use Rattle.std.proofs.lemmas.Option.{same_Some}
 use Rattle.usb_port.specs.{PortState, is_attached, speed_of, powered_on, SetPower}
 use Rattle.usb_device.specs.{State, Ports, ended, vacant, taken, empty, full, port_of, called}
-use Rattle.usb_device.specs.{place, place_at, port_there, state_there}
-use Rattle.usb_device.specs.Tree.{Place}
+use Rattle.usb_device.specs.{place, place_at, port_there, state_there, Place}
 use Rattle.usb_world.specs.{Attempt, NoReset, is_made, made_resets, resets, spec_of, row_reached}
-use Rattle.usb_world.specs.{StillSet, UnchangedOrPending, SameDeviceOrPending, Consistent}
-use Rattle.usb_world.specs.{ConsistentPlace, Step, attempt, root_call, event, report, after}
-use Rattle.usb_world.specs.{with_attempt, at_attempt, Course, here, step, WorldInvariant, World}
+use Rattle.usb_world.specs.{StillSet, UnchangedOrPending, Consistent, ConsistentPlace, Step}
+use Rattle.usb_world.specs.{attempt, root_call, event, report, after, with_attempt, at_attempt}
+use Rattle.usb_world.specs.{Course, here, step, WorldInvariant, World}
 use Rattle.usb_tree.specs.{has_power, pending}
 use Rattle.usb_world.proofs.Interface.{MadeOrNot, attempt_cases, between_after, between_course}
 use Rattle.usb_world.proofs.Interface.{between_ready, course_bits, course_wider, made_reach}
@@ -102,38 +101,26 @@ module _ (q : List ℕ) (n : ℕ) where
   unfolding ConsistentPlace
   powers m v sane o e sane_after on = pick (place m p) refl
     where
+      unpowered : (x : Place) → place m p ≡ Some x → (port_of x).power ≡ false
+      unpowered x s = ap (λ b. b.power) (same_Some (port_of x) o.port
+          (sym (port_of_place m p ∙ ap (option_map port_of) s) ∙ o.there)) ∙ o.off
+
+      alive : (x : Place) → place m p ≡ Some x → port_of (called SetPower x) ≡ powered_on
+          (port_of x)
+          → (has_power v.roots p ≡ true)
+          × ((powered_on (port_of x)).connection_changed ≡ true → pending v.roots p ≡ true)
+      alive x s is = live_there v.roots q n (powered_on (port_of x)) sane_after on
+          (port_of_place v.roots p ∙ ap (option_map port_of) (e
+          ∙ ap (option_map (called SetPower)) s) ∙ ap Some is) (rw (unpowered x s) refl)
+
       pick : (x : Option Place) → place m p ≡ x → PendsOrVacant v
       pick None s = absurd (cc (sym o.there ∙ port_of_place m p ∙ ap (option_map port_of) s))
       pick (Some (empty c)) s = inr (
-        alive.0,
+        (alive (empty c) s refl).0,
         state_of_place v.roots p ∙ ap stands (e ∙ ap (option_map (called SetPower)) s),
       )
+      pick (Some (full c t a)) s = inl ((alive (full c t a) s refl).1 changed)
         where
-          unpowered : c.power ≡ false
-          unpowered = ap (λ b. b.power) (same_Some c o.port
-              (sym (port_of_place m p ∙ ap (option_map port_of) s) ∙ o.there)) ∙ o.off
-
-          after_port : port_there v.roots p ≡ Some (powered_on c)
-          after_port = port_of_place v.roots p
-              ∙ ap (option_map port_of) (e ∙ ap (option_map (called SetPower)) s)
-
-          alive : (has_power v.roots p ≡ true)
-              × ((powered_on c).connection_changed ≡ true → pending v.roots p ≡ true)
-          alive = live_there v.roots q n (powered_on c) sane_after on after_port (rw unpowered refl)
-      pick (Some (full c t a)) s = inl (alive.1 changed)
-        where
-          unpowered : c.power ≡ false
-          unpowered = ap (λ b. b.power) (same_Some c o.port
-              (sym (port_of_place m p ∙ ap (option_map port_of) s) ∙ o.there)) ∙ o.off
-
-          after_port : port_there v.roots p ≡ Some (powered_on c)
-          after_port = port_of_place v.roots p
-              ∙ ap (option_map port_of) (e ∙ ap (option_map (called SetPower)) s)
-
-          alive : (has_power v.roots p ≡ true)
-              × ((powered_on c).connection_changed ≡ true → pending v.roots p ≡ true)
-          alive = live_there v.roots q n (powered_on c) sane_after on after_port (rw unpowered refl)
-
           seen : (low : Bool) → is_attached (speed_of low) ≡ true
           seen true = refl
           seen false = refl
@@ -142,7 +129,7 @@ module _ (q : List ℕ) (n : ℕ) where
           attached = ap is_attached (sane_there m p (full c t a) sane s).1 ∙ seen t.spec.low
 
           changed : (powered_on c).connection_changed ≡ true
-          changed = rw (unpowered, attached) refl
+          changed = rw (unpowered (full c t a) s, attached) refl
 
   -- what a step finds there: a port without power; or it comes to nothing
   data Finds (s : Step) (w : World) : Type 0 where
@@ -250,15 +237,14 @@ module _ (q : List ℕ) (n : ℕ) where
   vacant_step : (s : Step) (w : World) → ActsAt p SetPower s w → PendsOrVacant w
       → PendsOrVacant (after s w)
   vacant_step s w k (inl x) = inl (step_pend s w p (k.about.spares refl) x)
-  vacant_step s w k (inr x) = pick (stands_or_pends p
-      (step s (k.about.spares refl) (here (after s w))) x.0)
-    where
-      pick : SameDeviceOrPending w (after s w) p → PendsOrVacant (after s w)
-      pick (inl y) = inr (
-        y.0,
-        spec_of-none (state_there (after s w).roots p) (state_there w.roots p) y.1 x.1,
-      )
-      pick (inr y) = inl y
+  vacant_step s w k (inr x) =
+      elim (stands_or_pends p (step s (k.about.spares refl) (here (after s w))) x.0) [
+        | inl y ↦ inr (
+          y.0,
+          spec_of-none (state_there (after s w).roots p) (state_there w.roots p) y.1 x.1,
+        )
+        | inr y ↦ inl y
+      ]
 
   acts_row : {w v : World} → Course (ActsAt p SetPower) w v → row_reached v.roots q ≡ true
       → row_reached w.roots q ≡ true
@@ -282,15 +268,17 @@ module _ (q : List ℕ) (n : ℕ) where
         (here (after x.last x.before))) row_now
 
     now_vacant : PendsOrVacant (after x.last x.before)
-    now_vacant = pick (so_far x.repeats between row_before (inl o))
-      where
-        pick : SoFar x.before → PendsOrVacant (after x.last x.before)
-        pick (inl y) = off_called x.last x.before x.acts x.done (between_course x.repeats between)
-            row_now y
-        pick (inr y) = vacant_step x.last x.before x.acts y
+    now_vacant = elim (so_far x.repeats between row_before (inl o)) [
+      | inl y ↦ off_called x.last x.before x.acts x.done (between_course x.repeats between) row_now
+          y
+      | inr y ↦ vacant_step x.last x.before x.acts y
+    ]
 
     since_vacant : PendsOrVacant new
-    since_vacant = pick now_vacant
+    since_vacant = elim now_vacant [
+      | inl y ↦ inl (pending_persists p (course_wider (λ s w k. k.spares) (x.since p)) y)
+      | inr y ↦ later y.1 (rests_or_pends p (x.since p) y.0)
+    ]
       where
         later : state_there (after x.last x.before).roots p ≡ None
             → UnchangedOrPending (after x.last x.before) new p → PendsOrVacant new
@@ -300,10 +288,6 @@ module _ (q : List ℕ) (n : ℕ) where
               (state_there (after x.last x.before).roots p) z.1.what h,
         )
         later h (inr z) = inl z
-
-        pick : PendsOrVacant (after x.last x.before) → PendsOrVacant new
-        pick (inl y) = inl (pending_persists p (course_wider (λ s w k. k.spares) (x.since p)) y)
-        pick (inr y) = later y.1 (rests_or_pends p (x.since p) y.0)
 
 pub powered_stands : (p : List ℕ) (old new : World) → PortCallDone p SetPower old new
     → WorldInvariant old → (b : PortState) → port_there old.roots p ≡ Some b → b.power ≡ false

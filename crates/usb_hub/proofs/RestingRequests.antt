@@ -17,15 +17,16 @@ use Rattle.usb_pipe.proofs.Interface.{read_attempts, write_attempts}
 use Rattle.usb_address.proofs.Interface.{same_setup}
 use Rattle.usb_hub.specs.{TouchesNoPort}
 
+-- an attempt behind a SETUP is none
+pub no_set_up : {a b d : Attempt} → (a ≡ b) ⊎ (a ≡ d) → is_setup b.kind ≡ false
+    → is_setup d.kind ≡ false → is_setup a.kind ≡ false
+no_set_up (inl e) f g = ap (λ y. is_setup y.kind) e ∙ f
+no_set_up (inr e) f g = ap (λ y. is_setup y.kind) e ∙ g
+
 -- a step behind a SETUP asks nothing of any port
 pub behind_rests : (t : Target) (x : List ℕ) (s : Step) (w : World) → IsBehind t s w
     → IsSettled w.roots → LeavesPortAlone x s w
-behind_rests t x (attempt a) w k h = data_asks_nothing a w x (kind k refl refl) h
-  where
-    kind : {b d : Attempt} → (a ≡ b) ⊎ (a ≡ d) → is_setup b.kind ≡ false → is_setup d.kind ≡ false
-        → is_setup a.kind ≡ false
-    kind (inl e) f g = ap (λ y. is_setup y.kind) e ∙ f
-    kind (inr e) f g = ap (λ y. is_setup y.kind) e ∙ g
+behind_rests t x (attempt a) w k h = data_asks_nothing a w x (no_set_up k refl refl) h
 behind_rests t x (root_call c n) w k h = elim k [ ]
 behind_rests t x event w k h = elim k [ ]
 behind_rests t x (report l) w k h = elim k [ ]

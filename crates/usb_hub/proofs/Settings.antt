@@ -17,8 +17,7 @@ use Rattle.usb_transaction.specs.{Target, is_at, AcceptedAt, begins_no_stretch, 
 use Rattle.usb_transaction.specs.{NoThreeDamaged}
 use Rattle.usb_pipe.specs.{PipeFault, IsNoBusFault, WasRefused, EffectDone, EffectOrNone, none}
 use Rattle.usb_pipe.specs.{some, whole, WriteLeaves, LossesOf, TookItOrLost, WriteFailure}
-use Rattle.usb_pipe.specs.declared.fault.PipeFault.TheVariants.{Stalled, Busy, NoAnswer, Broken}
-use Rattle.usb_pipe.specs.declared.fault.PipeFault.TheVariants.{Bus, Memory}
+use Rattle.usb_pipe.specs.declared.fault.PipeFault.TheVariants.{Bus}
 use Rattle.usb_pipe.proofs.Interface.{given_registers, write_leaves, write_losses, write_why}
 use Rattle.usb_address.proofs.Interface.{settled_attempt, same_setup}
 use Rattle.usb_tree.specs.{IsSettled}
@@ -59,13 +58,12 @@ module _ (t : Target) (request : Setup) (old new : World) (j : Location) (s v : 
 
   pub write_so : (result : Result (Unit {0}) PipeFault) → WriteLeaves t request result old new j s v
       → Q
-  write_so (Ok u) x = pick (decided (is_at s t))
-    where
-      pick : (is_at s t ≡ true) ⊎ (is_at s t ≡ false) → Q
-      pick (inl at) = let d : EffectDone t request old new j s v = x.done at u refl in
-          ends d.row d.address d.is d.rest d.given
-      pick (inr at) = rests (subst (OnlyControl s) (sym (x.others at)) refl)
-          (ap (λ y. y.registers) (x.others at))
+  write_so (Ok u) x = elim (decided (is_at s t)) [
+    | inl at ↦ let d : EffectDone t request old new j s v = x.done at u refl in
+        ends d.row d.address d.is d.rest d.given
+    | inr at ↦ rests (subst (OnlyControl s) (sym (x.others at)) refl)
+        (ap (λ y. y.registers) (x.others at))
+  ]
   write_so (Err fault) x = failed_so fault (x.failed fault refl)
 
 -- what is said where the bus did not give up, and holds of a device where it did
@@ -77,13 +75,8 @@ module _ (t : Target) (request : Setup) (R : Result (Unit {0}) PipeFault → Rel
       → EachWas (R (Err (Bus fault))) old new)
       → (result : Result (Unit {0}) PipeFault) → Commanded t request old result new
       → EachWas (R result) old new
-  or_of_bus sound cut (Ok tt) x = sound (Ok tt) tt x
-  or_of_bus sound cut (Err Stalled) x = sound (Err Stalled) tt x
-  or_of_bus sound cut (Err Busy) x = sound (Err Busy) tt x
-  or_of_bus sound cut (Err NoAnswer) x = sound (Err NoAnswer) tt x
-  or_of_bus sound cut (Err Broken) x = sound (Err Broken) tt x
   or_of_bus sound cut (Err (Bus fault)) x = cut fault x
-  or_of_bus sound cut (Err Memory) x = sound (Err Memory) tt x
+  or_of_bus sound cut result x = sound result tt x
 
 abbrev Loses : Target → Setup → World → World → Result (Unit {0}) PipeFault → Relation
 Loses t request old new result j s v = IsNoBusFault result → LossesOf t request result old new j s v
@@ -93,45 +86,29 @@ module _ (t : Target) (request : Setup) (harmless : is_harmless request ≡ true
   -- why it failed
   pub each_why : (result : Result (Unit {0}) PipeFault) → Commanded t request old result new
       → NoThreeDamaged old → EachWas (WriteFailure t result) old new
-  each_why result ordered three = or_of_bus t request (WriteFailure t) old new single sound cut
-      result ordered
-    where
-      sound : (result : Result (Unit {0}) PipeFault) → IsNoBusFault result
-          → Commanded t request old result new → EachWas (WriteFailure t result) old new
-      sound result n x = all_spared t request (WriteFailure t result) old new harmless
-          (write_why t request result old new nothing (same_setup request) x.settled three x.stages
-          n single)
-
-      cut : (fault : _) → Commanded t request old (Err (Bus fault)) new
-          → EachWas (WriteFailure t (Err (Bus fault))) old new
-      cut fault x =
-          each_wider (WriteLeaves t request (Err (Bus fault)) old new)
-          (WriteFailure t (Err (Bus fault))) (λ j s v w. record {
-            answered = λ l e. absurd cc;
-            waited = λ l b n e. absurd cc;
-          }) old new
-          (each_leaves t request harmless nothing (Err (Bus fault)) old new x single)
+  each_why result ordered three =
+      or_of_bus t request (WriteFailure t) old new single
+      (λ result n x. all_spared t request (WriteFailure t result) old new harmless
+      (write_why t request result old new nothing (same_setup request) x.settled three x.stages n
+      single))
+      (λ fault x. each_wider (WriteLeaves t request (Err (Bus fault)) old new)
+      (WriteFailure t (Err (Bus fault)))
+      (λ j s v w. record { answered = λ l e. absurd cc; waited = λ l b n e. absurd cc }) old new
+      (each_leaves t request harmless nothing (Err (Bus fault)) old new x single)) result ordered
 
   -- what it lost, where the bus did not give up
   each_loses : begins_no_stretch request ≡ true → (result : Result (Unit {0}) PipeFault)
       → Commanded t request old result new → EachWas (Loses t request old new result) old new
-  each_loses plain result ordered = or_of_bus t request (Loses t request old new) old new single
-      sound cut result ordered
-    where
-      sound : (result : Result (Unit {0}) PipeFault) → IsNoBusFault result
-          → Commanded t request old result new → EachWas (Loses t request old new result) old new
-      sound result n x =
-          each_wider (LossesOf t request result old new) (Loses t request old new result)
-          (λ j s v y n. y) old new
-          (all_spared t request (LossesOf t request result old new) old new harmless
-          (write_losses t request result old new (same_setup request) plain x.settled x.stages
-          n single))
-
-      cut : (fault : _) → Commanded t request old (Err (Bus fault)) new
-          → EachWas (Loses t request old new (Err (Bus fault))) old new
-      cut fault x = each_wider (WriteLeaves t request (Err (Bus fault)) old new)
-          (Loses t request old new (Err (Bus fault))) (λ j s v w n. elim n [ ]) old new
-          (each_leaves t request harmless nothing (Err (Bus fault)) old new x single)
+  each_loses plain result ordered =
+      or_of_bus t request (Loses t request old new) old new single
+      (λ result n x. each_wider (LossesOf t request result old new)
+      (Loses t request old new result) (λ j s v y n. y) old new
+      (all_spared t request (LossesOf t request result old new) old new harmless
+      (write_losses t request result old new (same_setup request) plain x.settled x.stages n
+          single)))
+      (λ fault x. each_wider (WriteLeaves t request (Err (Bus fault)) old new)
+      (Loses t request old new (Err (Bus fault))) (λ j s v w n. absurd n) old new
+      (each_leaves t request harmless nothing (Err (Bus fault)) old new x single)) result ordered
 
 -- SET_ADDRESS
 
@@ -244,7 +221,8 @@ module _ (t : Target) (a : ℕ) (most : a ≤ 127) (old new : World) where
         → (s.spec.stalls.address ≡ false) × TookItOrLost a old new s v
     address_done (Ok u) x y at e =
         let d : EffectDone t request old new j s v = x.done at u refl in
-        let free : s.spec.stalls.address ≡ false = (ended_of s v d.row d.address d.is d.given).0 in (
+        let free : s.spec.stalls.address ≡ false = (ended_of s v d.row d.address d.is d.given).0 in
+            (
           free,
           (y tt).done at u refl a (address_outcome s.spec s.registers a most
               ∙ ap (λ b. unless b (takes_address a)) free),

@@ -1,12 +1,15 @@
 -- What a hub tells of its ports (11.24.2.7).
 use Rattle.std.proofs.Common.{◌≡◌, ℕ, zero, suc, ◌-◌, ◌⊎◌, inl, inr, List, [], slice_get, Option}
-use Rattle.std.proofs.Common.{None, Some, refl, sym, subst, take, ap}
+use Rattle.std.proofs.Common.{None, Some, refl, sym, subst, take, ap, true, ◌≤◌, ◌∙◌, arith}
 use Rattle.std.proofs.lemmas.Option.{same_Some}
 use Rattle.usb_port.specs.{PortState, status_of}
-use Rattle.usb_request.specs.{get_port_status}
+use Rattle.usb_request.specs.{IsToHost, get_port_status}
 use Rattle.usb_device.specs.{Effect, Leaves, Registers, effect_of_request, outcome, port_named}
 use Rattle.usb_device.specs.{told_port, Spec, reading, reads_port, first_stage, Ports, ended}
-use Rattle.usb_device.specs.{vacant, taken, port_at, row_of}
+use Rattle.usb_device.specs.{vacant, taken, port_at, row_of, Location, State}
+use Rattle.usb_world.specs.{World, asks_no_port}
+use Rattle.usb_transaction.specs.{Target}
+use Rattle.usb_pipe.specs.{AnswerRead}
 use Rattle.usb_address.proofs.Interface.{port_named-cases}
 
 same_reading : (a b : List ℕ) (n m k l : ℕ) → reading a n k ≡ reading b m l → a ≡ b
@@ -27,6 +30,25 @@ row_port (taken b s a k) zero = refl
 row_port (taken b s a k) (suc i) = row_port k i
 
 -- The status of a port
+
+module _ (n : ℕ) where
+  pub status_host : IsToHost (get_port_status n)
+  unfolding get_port_status
+  status_host = omega arith
+
+  pub status_length : (get_port_status n).length ≡ 4
+  unfolding get_port_status
+  status_length = refl
+
+  pub status_plain : asks_no_port (get_port_status n) ≡ true
+  unfolding get_port_status
+  status_plain = refl
+
+  pub status_some : 1 ≤ (get_port_status n).length
+  status_some = rw status_length (omega arith)
+
+  pub status_few : (get_port_status n).length ≤ 8
+  status_few = rw status_length (omega arith)
 
 -- what the hub told
 pub record StatusOf (row : List PortState) (i : ℕ) (answer : List ℕ) (o : Effect) : Type 0 where
@@ -58,3 +80,16 @@ get_port_status-outcome sp g row n answer h =
     by_port (Some i) (inl x) h = absurd (cc x)
     by_port (Some i) (inr x) h = subst (λ i. StatusOf row i answer Leaves) (same_Some i (n - 1) x)
         (by_row i (slice_get row i) refl h)
+
+-- an answer that was read tells the status of a port
+module _ {t : Target} (n : ℕ) {bytes : List ℕ} {old new : World} {j : Location} {s v : State}
+    (done : AnswerRead t (get_port_status n) bytes old new j s v) where
+  pub read_status : StatusOf done.row (n - 1) done.answer
+      (effect_of_request (outcome s.spec s.registers (get_port_status n)))
+  read_status = get_port_status-outcome s.spec s.registers done.row n done.answer
+      (subst (λ m. first_stage done.row m (outcome s.spec s.registers (get_port_status n))
+      ≡ reading done.answer m 0) (status_length n) done.is)
+
+  pub came_status : bytes ≡ status_of read_status.port
+  came_status = done.came (inr (status_few n)) ∙ ap (λ m. take m done.answer) (status_length n)
+      ∙ ap (take 4) read_status.told ∙ whole_status read_status.port

@@ -12,8 +12,7 @@ use Rattle.usb_world.specs.{World, EachWas}
 use Rattle.usb_world.proofs.Interface.{each_wider}
 use Rattle.usb_transaction.specs.{Target, is_at, Listens, NoThreeDamaged}
 use Rattle.usb_pipe.specs.{PipeFault, CanEnd, IsMaximum}
-use Rattle.usb_pipe.specs.declared.fault.PipeFault.TheVariants.{Stalled, Busy, NoAnswer, Broken}
-use Rattle.usb_pipe.specs.declared.fault.PipeFault.TheVariants.{Bus, Memory}
+use Rattle.usb_pipe.specs.declared.fault.PipeFault.TheVariants.{Stalled, Busy, NoAnswer}
 use Rattle.usb_hub.specs.{DeviceStatus, unless_refused, status_given, HasText, TextAsked}
 use Rattle.usb_hub.specs.{StatusAsked, ReadFailure, ReadAs, said_in, device_status}
 use Rattle.usb_hub.proofs.GivenAnswers.{AnswersRequest, answer_of, text_asked_of, why_asked_of}
@@ -66,11 +65,7 @@ said_could read size spec (Ok bytes) could = split (length bytes.items == size)
     split true = could
     split false = could
 said_could read size spec (Err Stalled) could = could
-said_could read size spec (Err Busy) could = could
-said_could read size spec (Err NoAnswer) could = could
-said_could read size spec (Err Broken) could = could
-said_could read size spec (Err (Bus fault)) could = could
-said_could read size spec (Err Memory) could = could
+said_could read size spec (Err fault) could = could
 
 -- The status of a device (9.4.5)
 

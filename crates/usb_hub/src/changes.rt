@@ -49,7 +49,7 @@ pub fn clear_port_change<B: Bus>(bus: &mut B, port: HubPort, feature: u16) -> Re
 /// # Errors
 ///
 /// Those of `control_in` and `control_none` but `Stalled`.
-#[tactic(auto, using(usb_address::proofs::Interface::keeps_then))]
+#[tactic(auto, using(usb_address::proofs::Interface::keeps_then, usb_bus::proofs::Interface::went_wider))]
 pub fn clear_hub_changes<B: Bus>(alloc: Global, bus: &mut B, hub: Target) -> Result<(), PipeFault>
     requires { IsTarget hub }
     ensures steps { B.modelled ≡ true
@@ -79,7 +79,7 @@ fn own_status<B: Bus>(alloc: Global, bus: &mut B, hub: Target) -> Result<HubStat
 }
 
 /// Clears each change that a hub told of itself (11.24.2.1).
-#[tactic(auto, using(usb_address::proofs::Interface::keeps_then))]
+#[tactic(auto, using(usb_address::proofs::Interface::keeps_then, usb_bus::proofs::Interface::went_wider))]
 fn clear_each<B: Bus>(bus: &mut B, hub: Target, status: HubStatus) -> Result<(), PipeFault>
     requires { IsTarget hub }
     ensures steps { B.modelled ≡ true → Steps B.world B.trace (2 * write_bound) bus.old bus.new }
@@ -93,7 +93,7 @@ fn clear_each<B: Bus>(bus: &mut B, hub: Target, status: HubStatus) -> Result<(),
 }
 
 /// Clears a change of a hub where it was told (11.24.2.1).
-#[tactic(auto, using(usb_address::proofs::Interface::keeps_none))]
+#[tactic(auto, using(usb_address::proofs::Interface::keeps_none, usb_bus::proofs::Interface::went_wider, usb_bus::proofs::Interface::went_none))]
 fn clear_told<B: Bus>(bus: &mut B, hub: Target, told: bool, feature: u16) -> Result<(), PipeFault>
     requires { IsTarget hub }
     ensures steps { B.modelled ≡ true → Steps B.world B.trace write_bound bus.old bus.new }

@@ -24,6 +24,7 @@ use usb_pipe::{Bus, PipeFault, Setup, Target};
 /// # Errors
 ///
 /// Those of `control_in`.
+#[tactic(auto, using(crate::proofs::GivenAnswers::device_asked, crate::proofs::GivenAnswers::device_why))]
 pub fn get_device<B: Bus>(
     alloc: Global,
     bus: &mut B,
@@ -53,6 +54,7 @@ pub fn get_device<B: Bus>(
 /// # Errors
 ///
 /// Those of `control_in`.
+#[tactic(auto, using(crate::proofs::GivenAnswers::config_asked, crate::proofs::GivenAnswers::config_why))]
 pub fn get_config<B: Bus>(
     alloc: Global,
     bus: &mut B,
@@ -87,6 +89,7 @@ pub fn get_config<B: Bus>(
 /// # Errors
 ///
 /// Those of `control_in`.
+#[tactic(auto, using(crate::proofs::GivenAnswers::string_asked, crate::proofs::GivenAnswers::string_why))]
 pub fn get_string<B: Bus>(
     alloc: Global,
     bus: &mut B,
@@ -119,6 +122,7 @@ pub fn get_string<B: Bus>(
 /// # Errors
 ///
 /// Those of `control_in`.
+#[tactic(auto, using(crate::proofs::GivenAnswers::hub_asked, crate::proofs::GivenAnswers::hub_why))]
 pub fn hub_descriptor<B: Bus>(
     alloc: Global,
     bus: &mut B,
@@ -171,7 +175,7 @@ pub fn get_status<B: Bus>(
 /// # Errors
 ///
 /// Those of `control_none`; after `Busy` and `NoAnswer` the device may have the address.
-#[tactic(auto, using(crate::proofs::AddressesKept::address_given))]
+#[tactic(auto, using(crate::proofs::AddressesKept::address_given, crate::proofs::Settings::address_asked, crate::proofs::Settings::address_why))]
 pub fn set_address<B: Bus>(bus: &mut B, target: Target, address: u8) -> Result<(), PipeFault>
     requires target { IsTarget target }
     requires least { 1 ≤ address }
@@ -197,7 +201,7 @@ pub fn set_address<B: Bus>(bus: &mut B, target: Target, address: u8) -> Result<(
 /// # Errors
 ///
 /// Those of `control_none`; after `Busy` and `NoAnswer` the device may be configured.
-#[tactic(auto, using(crate::proofs::AddressesKept::configured))]
+#[tactic(auto, using(crate::proofs::AddressesKept::configured, crate::proofs::Settings::configuration_asked, crate::proofs::Settings::configuration_why))]
 pub fn set_configuration<B: Bus>(bus: &mut B, target: Target, value: u8) -> Result<(), PipeFault>
     requires target { IsTarget target }
     ensures steps { B.modelled ≡ true → Steps B.world B.trace write_bound bus.old bus.new }

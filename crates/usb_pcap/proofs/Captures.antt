@@ -75,25 +75,32 @@ stands_first w now s h number front long = record {
   number = number;
 }
 
+stands_on : (w now : Option (List ℕ)) (text : List ℕ) (b : ℕ) (s t : OpenLine) → b ≢ 10
+    → (h : StandsBehind w now text s) → t.number ≡ s.number
+    → t.front.items ≡ take longest (h.line ++ b ∷ [])
+    → t.is_long ≡ nat_lt longest (length (h.line ++ b ∷ []))
+    → StandsBehind w now (text ++ b ∷ []) t
+stands_on w now text b s t other h number begins long = record {
+  n = h.n;
+  front = h.front;
+  line = h.line ++ b ∷ [];
+  file = h.file;
+  split = ap (λ l. l ++ b ∷ []) h.split ∙ append_assoc h.front h.line (b ∷ []);
+  captured = h.captured;
+  gone = h.gone;
+  one = All-push (λ x. x ≢ 10) h.line b h.one other;
+  begins = begins;
+  long = long;
+  number = number ∙ h.number;
+}
+
 pub stands_more : (w now : Option (List ℕ)) (text : List ℕ) (b : ℕ) (s t : OpenLine) → b ≢ 10
     → StandsBehind w now text s → t.number ≡ s.number
     → length s.front.items < longest → t.front.items ≡ s.front.items ++ b ∷ []
     → t.is_long ≡ s.is_long → StandsBehind w now (text ++ b ∷ []) t
 stands_more w now text b s t other h number room front long =
     let more = taken_more longest h.line s.front.items b h.begins room in
-    record {
-      n = h.n;
-      front = h.front;
-      line = h.line ++ b ∷ [];
-      file = h.file;
-      split = ap (λ l. l ++ b ∷ []) h.split ∙ append_assoc h.front h.line (b ∷ []);
-      captured = h.captured;
-      gone = h.gone;
-      one = All-push (λ x. x ≢ 10) h.line b h.one other;
-      begins = front ∙ more.0;
-      long = long ∙ h.long ∙ more.1;
-      number = number ∙ h.number;
-    }
+    stands_on w now text b s t other h number (front ∙ more.0) (long ∙ h.long ∙ more.1)
 
 pub stands_long : (w now : Option (List ℕ)) (text : List ℕ) (b : ℕ) (s t : OpenLine) → b ≢ 10
     → StandsBehind w now text s → t.number ≡ s.number
@@ -101,19 +108,7 @@ pub stands_long : (w now : Option (List ℕ)) (text : List ℕ) (b : ℕ) (s t :
     → StandsBehind w now (text ++ b ∷ []) t
 stands_long w now text b s t other h number full front long =
     let more = taken_long longest h.line s.front.items b h.begins full in
-    record {
-      n = h.n;
-      front = h.front;
-      line = h.line ++ b ∷ [];
-      file = h.file;
-      split = ap (λ l. l ++ b ∷ []) h.split ∙ append_assoc h.front h.line (b ∷ []);
-      captured = h.captured;
-      gone = h.gone;
-      one = All-push (λ x. x ≢ 10) h.line b h.one other;
-      begins = front ∙ more.0;
-      long = long ∙ sym more.1;
-      number = number ∙ h.number;
-    }
+    stands_on w now text b s t other h number (front ∙ more.0) (long ∙ sym more.1)
 
 -- the records of a line, by its first bytes
 abbrev TellsRecords : OpenLine → List ℕ → Type 0
@@ -219,15 +214,13 @@ pub comes_more : (w now : Option (List ℕ)) (text rest : List ℕ) (f : PcapFau
     → ComesOf w now text (Err f) s → ComesOf w now (text ++ rest) (Err f) t
 comes_more w now text rest (BadLine number) s t (n, e, h) = (n, e, refused_more w now text rest n h)
 comes_more w now text rest Write s t (n, h) = (n, front_more w now text rest n h)
-comes_more w now text rest Read s t h = absurd h
-comes_more w now text rest TooLong s t h = absurd h
+comes_more w now text rest _ s t h = absurd h
 
 pub comes_captures : (w now : Option (List ℕ)) (text : List ℕ) (f : PcapFault) (s : OpenLine)
     → ComesOf w now text (Err f) s → Captures w now text (Err f)
 comes_captures w now text (BadLine number) s (n, e, h) = (n, e, inl h)
 comes_captures w now text Write s h = h
-comes_captures w now text Read s h = absurd h
-comes_captures w now text TooLong s h = absurd h
+comes_captures w now text _ s h = absurd h
 
 -- what was read is a front of the text
 pub comes_front : (a b w now : Option (List ℕ)) (done : List ℕ) (f : PcapFault) (s : OpenLine)

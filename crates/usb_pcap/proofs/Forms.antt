@@ -24,20 +24,12 @@ all_stop p (w ∷ ws) = first_stops p w && all_stop p ws
 abbrev is_free : Piece → Bool
 is_free (Piece.word w) = true
 is_free (Piece.one_of words) = true
-is_free Piece.path = false
-is_free Piece.number = false
-is_free Piece.bytes = false
-is_free Piece.string = false
-is_free Piece.name = false
+is_free _ = false
 
 abbrev stops_before : Piece → Piece → Bool
 stops_before p (Piece.word w) = first_stops p w
 stops_before p (Piece.one_of words) = all_stop p words
-stops_before p Piece.path = false
-stops_before p Piece.number = false
-stops_before p Piece.bytes = false
-stops_before p Piece.string = false
-stops_before p Piece.name = false
+stops_before p _ = false
 
 abbrev stopped_by : Piece → List Piece → Bool
 stopped_by p [] = true
@@ -51,11 +43,7 @@ free_stops : (p : Piece) (rest : List ℕ) → is_free p ≡ true → StopsAt p 
 free_stops p [] h = tt
 free_stops (Piece.word w) (c ∷ rest) h = refl
 free_stops (Piece.one_of words) (c ∷ rest) h = refl
-free_stops Piece.path (c ∷ rest) h = absurd (cc)
-free_stops Piece.number (c ∷ rest) h = absurd (cc)
-free_stops Piece.bytes (c ∷ rest) h = absurd (cc)
-free_stops Piece.string (c ∷ rest) h = absurd (cc)
-free_stops Piece.name (c ∷ rest) h = absurd (cc)
+free_stops _ (c ∷ rest) h = absurd (cc)
 
 word_stops : (p : Piece) (w more rest : List ℕ) → first_stops p w ≡ true → rest ≡ w ++ more
     → StopsAt p rest
@@ -76,11 +64,7 @@ next_stops : (p q : Piece) (first more rest : List ℕ) → stops_before p q ≡
 next_stops p (Piece.word w) first more rest h is e =
     word_stops p w more rest h (e ∙ ap (λ l. l ++ more) is)
 next_stops p (Piece.one_of words) first more rest h is e = one_stops p words first more rest h is e
-next_stops p Piece.path first more rest h is e = absurd (cc)
-next_stops p Piece.number first more rest h is e = absurd (cc)
-next_stops p Piece.bytes first more rest h is e = absurd (cc)
-next_stops p Piece.string first more rest h is e = absurd (cc)
-next_stops p Piece.name first more rest h is e = absurd (cc)
+next_stops p _ first more rest h is e = absurd (cc)
 
 or_cases : {P : Type 0} (a b : Bool) → (a || b) ≡ true → (a ≡ true → P) → (b ≡ true → P) → P
 or_cases true b h k l = k refl

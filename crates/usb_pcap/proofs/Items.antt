@@ -102,17 +102,13 @@ strip_any-sound (w ∷ ws) text rest e =
 
 escape-sound : (s : ℕ) (text rest : List ℕ) → s ≡ 92 → behind_escape text ≡ Some rest
     → (item : List ℕ) × IsUnit Letter item × (s ∷ text ≡ item ++ rest)
-escape-sound s [] rest back e = absurd (cc)
-escape-sound s (u ∷ []) rest back e = absurd (cc)
-escape-sound s (u ∷ a ∷ []) rest back e = absurd (cc)
-escape-sound s (u ∷ a ∷ b ∷ []) rest back e = absurd (cc)
-escape-sound s (u ∷ a ∷ b ∷ c ∷ []) rest back e = absurd (cc)
 escape-sound s (u ∷ a ∷ b ∷ c ∷ d ∷ text) rest back e =
     if-some (u == 117 && is_escape a b c d) (Some text) rest e (λ fit is.
     let both = and_parts (u == 117) (is_escape a b c d) fit in
     let small = eqb-true u 117 both.0 in
     let same = same_Some text rest is in
     (92 ∷ 117 ∷ a ∷ b ∷ c ∷ d ∷ [], inr (a, b, c, d, both.1, refl), cc))
+escape-sound s _ rest back e = absurd (cc)
 
 item-sound : (kind : Item) (text rest : List ℕ) → behind_item kind text ≡ Some rest
     → (item : List ℕ) × IsUnit kind item × (text ≡ item ++ rest)
@@ -455,13 +451,8 @@ piece_bytes-complete text rest (inr (n, first, more, is, are, e)) stop =
     (item-complete Byte first (more ++ rest) is) ∙ ap Some all)
 
 abbrev pub distinct : Piece → Bool
-distinct (Piece.word w) = true
 distinct (Piece.one_of words) = distinct_words words
-distinct Piece.path = true
-distinct Piece.number = true
-distinct Piece.bytes = true
-distinct Piece.string = true
-distinct Piece.name = true
+distinct _ = true
 
 pub piece-complete : (piece : Piece) (text rest : List ℕ) → distinct piece ≡ true
     → IsPiece piece text → StopsAt piece rest → behind_piece piece (text ++ rest) ≡ Some rest

@@ -138,13 +138,9 @@ data_in-complete toggle (b ∷ bytes) rest small few end =
     (bytes_on-complete (b ∷ bytes) [] rest small (omega (arith, few)) end)
 
 abbrev is_spoken : Packet → Bool
-is_spoken (Token kind addr ep) = true
 is_spoken (Sof frame) = false
-is_spoken (Payload toggle bytes) = true
-is_spoken Ack = true
-is_spoken Nak = true
-is_spoken Stall = true
 is_spoken Pre = false
+is_spoken _ = true
 
 token_begun : (kind : TokenKind) (text : List ℕ) → packet_in (token_name kind ++ text)
     ≡ token_in kind text
@@ -195,10 +191,8 @@ abbrev EndsWord : List ℕ → Type 0
 EndsWord rest = (rest ≡ []) ⊎ ((more : List ℕ) × (rest ≡ codes " / " ++ more))
 
 abbrev IsSmallMark : Mark → Type 0
-IsSmallMark Whole = Unit {0}
-IsSmallMark Lost = Unit {0}
-IsSmallMark PreLost = Unit {0}
 IsSmallMark (Flipped bit) = bit < 65536
+IsSmallMark _ = Unit {0}
 
 bit_in-complete : (bit : ℕ) (rest : List ℕ) → bit < 65536
     → bit_in (decimal bit ++ (codes "]" ++ rest)) ≡ Some (Flipped bit, rest)
@@ -237,27 +231,18 @@ mark-complete (Flipped bit) rest small end = flip_begun ((decimal bit ++ codes "
 mark_blank : (m : Mark) (rest : List ℕ) → EndsWord rest → Blank (mark_text m ++ rest)
 mark_blank Whole rest (inl e) = subst Blank (sym e) tt
 mark_blank Whole rest (inr (more, e)) = subst Blank (sym e) refl
-mark_blank Lost rest end = refl
-mark_blank PreLost rest end = refl
-mark_blank (Flipped bit) rest end = refl
+mark_blank _ rest end = refl
 
 few_bits : (p : Packet) → HasData p → bit_count p ≤ 536
 unfolding bit_count
-few_bits (Token kind addr ep) fits_form = omega arith
-few_bits (Sof frame) fits_form = omega arith
 few_bits (Payload toggle bytes) fits_form = let few = fits_form.0 in omega (arith, few)
-few_bits Ack fits_form = omega arith
-few_bits Nak fits_form = omega arith
-few_bits Stall fits_form = omega arith
-few_bits Pre fits_form = omega arith
+few_bits _ fits_form = omega arith
 
 mark_small : (pre : Bool) (m : Mark) (p : Packet) → HasData p → may_be_marked pre m p ≡ true
     → IsSmallMark m
-mark_small pre Whole p fits_form h = tt
-mark_small pre Lost p fits_form h = tt
-mark_small pre PreLost p fits_form h = tt
 mark_small pre (Flipped bit) p fits_form h = let few = few_bits p fits_form in let below =
     ltb-true bit (bit_count p) h in omega (arith, few, below)
+mark_small pre _ p fits_form h = tt
 
 -- ---- packets of the host
 
@@ -291,55 +276,32 @@ next_in-complete pre s rest sends spoken end =
     ap (next_in pre) (append_assoc (codes " / ") (host_text pre s) rest)
     ∙ next_begun pre (host_text pre s ++ rest) ∙ host_in-complete pre s rest sends spoken end
 
-data_spoken : (p : Packet) → is_data_packet p ≡ true → is_spoken p ≡ true
-data_spoken (Token kind addr ep) h = refl
-data_spoken (Sof frame) h = absurd (cc)
-data_spoken (Payload toggle bytes) h = refl
-data_spoken Ack h = refl
-data_spoken Nak h = refl
-data_spoken Stall h = refl
-data_spoken Pre h = absurd (cc)
-
-ack_spoken : (p : Packet) → is_ack_packet p ≡ true → is_spoken p ≡ true
-ack_spoken (Token kind addr ep) h = refl
-ack_spoken (Sof frame) h = absurd (cc)
-ack_spoken (Payload toggle bytes) h = refl
-ack_spoken Ack h = refl
-ack_spoken Nak h = refl
-ack_spoken Stall h = refl
-ack_spoken Pre h = absurd (cc)
-
-answer_spoken : (p : Packet) → is_answer p ≡ true → is_spoken p ≡ true
-answer_spoken (Token kind addr ep) h = refl
-answer_spoken (Sof frame) h = absurd (cc)
-answer_spoken (Payload toggle bytes) h = refl
-answer_spoken Ack h = refl
-answer_spoken Nak h = refl
-answer_spoken Stall h = refl
-answer_spoken Pre h = absurd (cc)
-
-token_spoken : (p : Packet) (b : Bool) → data_follow p ≡ Some b → is_spoken p ≡ true
-token_spoken (Token kind addr ep) b h = refl
-token_spoken (Sof frame) b h = absurd (cc)
-token_spoken (Payload toggle bytes) b h = refl
-token_spoken Ack b h = refl
-token_spoken Nak b h = refl
-token_spoken Stall b h = refl
-token_spoken Pre b h = absurd (cc)
+-- neither a start of frame nor a PRE alone
+spoken : (f : Packet → Bool) → ((frame : ℕ) → f (Sof frame) ≡ false) → f Pre ≡ false → (p : Packet)
+    → f p ≡ true → is_spoken p ≡ true
+spoken f sof pre (Sof frame) h = cc (sym (sof frame) ∙ h)
+spoken f sof pre Pre h = cc (sym pre ∙ h)
+spoken f sof pre _ h = refl
 
 host_data-complete : (pre : Bool) (s : Outgoing) (rest : List ℕ) → IsSent pre s
     → is_data_packet s.packet ≡ true → EndsWord rest
     → host_data_in pre (next_text pre (Some s) ++ rest) ≡ Some (s, rest)
 unfolding host_data_in
 host_data-complete pre s rest sends is end =
-    rw (next_in-complete pre s rest sends (data_spoken s.packet is) end, is) refl
+    rw (
+      next_in-complete pre s rest sends (spoken is_data_packet (λ _. refl) refl s.packet is) end,
+      is,
+    ) refl
 
 host_ack-complete : (pre : Bool) (s : Outgoing) (rest : List ℕ) → IsSent pre s
     → is_ack_packet s.packet ≡ true → EndsWord rest
     → host_ack_in pre (next_text pre (Some s) ++ rest) ≡ Some (s, rest)
 unfolding host_ack_in
 host_ack-complete pre s rest sends is end =
-    rw (next_in-complete pre s rest sends (ack_spoken s.packet is) end, is) refl
+    rw (
+      next_in-complete pre s rest sends (spoken is_ack_packet (λ _. refl) refl s.packet is) end,
+      is,
+    ) refl
 
 -- ---- answers
 
@@ -349,14 +311,12 @@ HasNoWord text = (strip (codes " / none") text ≡ None) × (strip (codes " / co
 no_word : (p : Packet) (text : List ℕ) → is_answer p ≡ true
     → HasNoWord (codes " / " ++ (text_of p ++ text))
 unfolding strip
-no_word (Token kind addr ep) text h = absurd (cc)
-no_word (Sof frame) text h = absurd (cc)
 no_word (Payload Zero bytes) text h = (refl, refl)
 no_word (Payload One bytes) text h = (refl, refl)
 no_word Ack text h = (refl, refl)
 no_word Nak text h = (refl, refl)
 no_word Stall text h = (refl, refl)
-no_word Pre text h = absurd (cc)
+no_word _ text h = absurd (cc)
 
 answer_behind : (text rest : List ℕ) (p : Packet) (m : Mark) → HasNoWord text
     → next_in false text ≡ Some (record { packet = p; mark = m }, rest) → is_answer p ≡ true
@@ -391,7 +351,7 @@ answer_in-complete (answer.One p) m rest (is, sends) end =
     answer_behind (codes " / " ++ (text_of p ++ (mark_text m ++ rest))) rest p m
     (no_word p (mark_text m ++ rest) is)
     (subst (λ t. next_in false t ≡ Some (s, rest)) own
-    (next_in-complete false s rest sends (answer_spoken p is) end)) is
+    (next_in-complete false s rest sends (spoken is_answer (λ _. refl) refl p is) end)) is
 
 -- ---- whole lines
 
@@ -422,12 +382,7 @@ pre_read true p m b text h = refl
 pre_read false (Token OutTok addr ep) m b text h = refl
 pre_read false (Token InTok addr ep) m b text h = refl
 pre_read false (Token SetupTok addr ep) m b text h = refl
-pre_read false (Sof frame) m b text h = absurd (cc)
-pre_read false (Payload toggle bytes) m b text h = absurd (cc)
-pre_read false Ack m b text h = absurd (cc)
-pre_read false Nak m b text h = absurd (cc)
-pre_read false Stall m b text h = absurd (cc)
-pre_read false Pre m b text h = absurd (cc)
+pre_read false _ m b text h = absurd (cc)
 
 -- from the answer, from the host's data and from the token on
 abbrev answer_on : TracedAttempt → List ℕ
@@ -469,7 +424,8 @@ begun-complete a h =
     let one : is_some (strip (codes "PRE ") (token_on a)) ≡ a.pre =
     pre_read a.pre a.exchange.token.packet a.exchange.token.mark _ (payload_on a) h.sends in
     let two = host_in-complete a.pre a.exchange.token (payload_on a) h.token
-    (token_spoken a.exchange.token.packet _ h.sends)
+    (spoken (λ p. is_some (data_follow p)) (λ _. refl) refl a.exchange.token.packet
+    (ap is_some h.sends))
     (payload_end a.pre a.exchange.payload
     (answer_text a.exchange.answer ++ (mark_text a.exchange.answer_mark ++ next_text a.pre
     a.exchange.reply))) in

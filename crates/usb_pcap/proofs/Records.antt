@@ -2,7 +2,7 @@
 use Rattle.std.proofs.Common.{◌≡◌, ℕ, List, [], ◌∷◌, ◌++◌, length, Bool, true, refl, sym, ap, subst}
 use Rattle.std.proofs.Common.{◌∙◌, append_assoc, append-nil}
 use Rattle.usb_packet.specs.{Packet, Spells}
-use Rattle.usb_world.specs.{Mark, Whole, Lost, PreLost, Flipped}
+use Rattle.usb_world.specs.{Mark, Flipped}
 use Rattle.usb_world.proofs.Interface.{bit_within}
 use Rattle.usb_pcap.specs.{may_be_marked, AppendsRecords, AreRecords, HasBit, IsRecord, damaged}
 use Rattle.usb_pcap.specs.{own_mark, record_head}
@@ -63,18 +63,14 @@ none_added number a = record { bytes = []; records = refl; appended = sym (appen
 -- a packet's own mark is one that it may have, as is that of the PRE before it
 pub own_may : (pre : Bool) (m : Mark) (p : Packet) → may_be_marked pre m p ≡ true
     → may_be_marked true (own_mark m) p ≡ true
-own_may pre Whole p h = refl
-own_may pre Lost p h = refl
-own_may pre PreLost p h = refl
 own_may pre (Flipped bit) p h = h
+own_may pre _ p h = refl
 
 -- a flipped bit of a packet is one of its bytes
 pub may-bit : (m : Mark) (p : Packet) (bytes : List ℕ) → may_be_marked true m p ≡ true
     → Spells bytes p → HasBit m bytes
-may-bit Whole p bytes h spelled = tt
-may-bit Lost p bytes h spelled = tt
-may-bit PreLost p bytes h spelled = tt
 may-bit (Flipped bit) p bytes h spelled = bit_within bytes p bit spelled h
+may-bit _ p bytes h spelled = tt
 
 pub from_nothing : (number : ℕ) (ps : List (Packet × Mark)) (a b : List ℕ) → a ≡ []
     → AppendsRecords number ps a b → AreRecords number ps b

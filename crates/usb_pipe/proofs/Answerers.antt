@@ -180,8 +180,7 @@ trans_answer : (why : PipeFault) (fault : TransFault) → why ≡ as_pipe_fault 
     → IsTransferAnswer why → TransIsAnswer fault
 trans_answer why trans.Stalled e y = tt
 trans_answer why trans.Busy e y = tt
-trans_answer why trans.NoAnswer e y = absurd (subst IsTransferAnswer e y)
-trans_answer why (trans.Bus fault) e y = absurd (subst IsTransferAnswer e y)
+trans_answer why fault e y = absurd (subst IsTransferAnswer e y)
 
 -- a last transaction that failed
 failed_had : {t : Target} (hear : _) (a : Attempt) {old mid : World} (new : World)

@@ -130,45 +130,34 @@ clear_of-in pipe s is i = outcome-clear_halt s.spec s.registers (halt_address pi
 abbrev OnlyRested : ServedEndpoint → State → State → Type 0
 OnlyRested which s v = OnlyStage (with_endpoint_state s which rested) v
 
-only_kept : (which : ServedEndpoint) (s v : State) → OnlyStage s v → OnlyEndpoint which s v
-only_kept BulkOut s v o = o ∙ ap (λ (e : EndpointState). record s {
+only_with : (which : ServedEndpoint) (s : State) (x : EndpointState) (v : State)
+    → OnlyStage (with_endpoint_state s which x) v → OnlyEndpoint which s v
+only_with BulkOut s x v o = o ∙ ap (λ (e : EndpointState). record s {
   bulk_out = e;
   memory = v.memory;
   naks = v.naks;
   stage = v.stage;
 }) (sym (ap (λ (x : State). x.bulk_out) o))
-only_kept BulkIn s v o = o ∙ ap (λ (e : EndpointState). record s {
+only_with BulkIn s x v o = o ∙ ap (λ (e : EndpointState). record s {
   bulk_in = e;
   memory = v.memory;
   naks = v.naks;
   stage = v.stage;
 }) (sym (ap (λ (x : State). x.bulk_in) o))
-only_kept Changes s v o = o ∙ ap (λ (e : EndpointState). record s {
+only_with Changes s x v o = o ∙ ap (λ (e : EndpointState). record s {
   changes = e;
   memory = v.memory;
   naks = v.naks;
   stage = v.stage;
 }) (sym (ap (λ (x : State). x.changes) o))
 
+only_kept : (which : ServedEndpoint) (s v : State) → OnlyStage s v → OnlyEndpoint which s v
+only_kept BulkOut s v o = only_with BulkOut s s.bulk_out v o
+only_kept BulkIn s v o = only_with BulkIn s s.bulk_in v o
+only_kept Changes s v o = only_with Changes s s.changes v o
+
 only_rested : (which : ServedEndpoint) (s v : State) → OnlyRested which s v → OnlyEndpoint which s v
-only_rested BulkOut s v o = o ∙ ap (λ (e : EndpointState). record s {
-  bulk_out = e;
-  memory = v.memory;
-  naks = v.naks;
-  stage = v.stage;
-}) (sym (ap (λ (x : State). x.bulk_out) o))
-only_rested BulkIn s v o = o ∙ ap (λ (e : EndpointState). record s {
-  bulk_in = e;
-  memory = v.memory;
-  naks = v.naks;
-  stage = v.stage;
-}) (sym (ap (λ (x : State). x.bulk_in) o))
-only_rested Changes s v o = o ∙ ap (λ (e : EndpointState). record s {
-  changes = e;
-  memory = v.memory;
-  naks = v.naks;
-  stage = v.stage;
-}) (sym (ap (λ (x : State). x.changes) o))
+only_rested which s v o = only_with which s rested v o
 
 only_either : (which : ServedEndpoint) (s v : State) → OnlyStage s v ⊎ OnlyRested which s v
     → OnlyEndpoint which s v

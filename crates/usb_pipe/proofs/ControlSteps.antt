@@ -26,7 +26,7 @@ use Rattle.usb_transaction.proofs.Interface.{set_up_why, setup_leaves, trail_dam
 use Rattle.usb_transaction.proofs.Interface.{trail_unshared, others_stay_then, status_leaves}
 use Rattle.usb_transaction.proofs.Interface.{transacted_unshared, control_in_why, in_losses}
 use Rattle.usb_transaction.proofs.Interface.{set_up_losses, spared_joined, spared_wider}
-use Rattle.usb_transaction.proofs.Interface.{read_status_why, out_losses, read_losses}
+use Rattle.usb_transaction.proofs.Interface.{read_status_why, out_losses, read_losses, was_then}
 use Rattle.usb_pipe.specs.{as_pipe_fault, IsNoBusFault, SetUp, Asks, Confirms, PipeFault}
 use Rattle.usb_pipe.proofs.TransactionFaults.{Fell}
 
@@ -161,10 +161,6 @@ also : {R : Relation} (S : Relation) {w : World} {j : Location} {v : State} (a :
 also S {j = j} {v} a b = subst (λ d. S j d v)
     (same_Some b.before a.before (sym b.stands ∙ a.stands)) b.so
 
-so_too : {R : Relation} (T : Relation) {w : World} {j : Location} {v : State} (a : Was R w j v)
-    → T j a.before v → Was T w j v
-so_too T a x = record { before = a.before; on = a.on; stands = a.stands; so = x }
-
 -- an IN of endpoint 0; with DATA1 it may end a request without data
 pub record ControlInAsked (t : Target) (awaited : Toggle) (result : Result (List ℕ) TransFault)
     (old new : World) (j : Location) (s v : State) : Type 0 where
@@ -180,7 +176,7 @@ pub asked_leaves : (t : Target) (awaited : Toggle) (result : Result (List ℕ) T
 asked_leaves t awaited result old new x settled single j v on there =
     let a : Was (ControlIn t awaited result) old j v =
     control_leaves t awaited result old new settled x single j v on there in
-    so_too (ControlInAsked t awaited result old new) a (record {
+    was_then a (record {
       leaves = a.so;
       steady = also Steady a (each_steady t awaited result old new settled x single j v on there);
       why = λ three sound. also (ControlInFailure t awaited result) a
@@ -207,7 +203,7 @@ pub confirmed_leaves : (t : Target) (result : Result (List ℕ) TransFault) (old
 confirmed_leaves t result old new x settled single j v on there =
     let a : Was (ReadStatus t result) old j v = status_leaves t result old new settled x single j v
     on there in
-    so_too (Confirmed t result old new) a (record {
+    was_then a (record {
       leaves = a.so;
       why = λ three sound. also (StatusReadFailure t result) a
           (read_status_why t result old new settled three (ended_by result sound x) single j v on
@@ -236,7 +232,7 @@ requested_leaves t request result old new same settled x single j v on there spa
     let a : Was (SetupDone t bytes result old new) old j v =
     setup_leaves t bytes result old new (bytes_of-length request) settled x single j v on there
     is_spared in
-    so_too (Requested t request result old new) a (record {
+    was_then a (record {
       done = a.so;
       why = λ three sound. also (SetupFailure t result) a
           (set_up_why t bytes result old new (bytes_of-length request) settled three

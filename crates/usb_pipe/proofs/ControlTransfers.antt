@@ -62,7 +62,7 @@ use Rattle.usb_pipe.proofs.ControlSteps.{confirmed_leaves, Requested, Only, only
 use Rattle.usb_pipe.proofs.ControlSteps.{RequestReached, reached_first, reached_last, reached_more}
 use Rattle.usb_pipe.proofs.ControlSteps.{either_way, host_stretch}
 use Rattle.usb_pipe.proofs.MovedPackets.{flips_more}
-use Rattle.usb_pipe.proofs.TransactionFaults.{fell_same_fault, could_answer, could_accept, Fell}
+use Rattle.usb_pipe.proofs.TransactionFaults.{fell, could_answer, could_accept, Fell}
 
 -- What a request for data asks: bytes, or a refusal
 
@@ -478,16 +478,15 @@ module _ (t : Target) (request : Setup) (host : IsToHost request) (some : 1 ≤ 
     frame = frame_then at x y;
     done = λ b e. cc e;
     refused = λ e.
-        let fell : Fell fault trans.Stalled = fell_same_fault (Vec ℕ) (as_pipe_fault fault) fault
-        trans.Stalled refl e in
+        let down : Fell fault trans.Stalled = fell fault trans.Stalled e in
         let is_refused = elim x.far
         as (λ _. first_stage x.row Wants (outcome s.spec s.registers request) ≡ refused) [
           | refuses_at f h none ↦ f
-          | answers_at answer f r b so ↦ cc (sym r.stage ∙ y.leaves.stalled (told_at at x) fell)
+          | answers_at answer f r b so ↦ cc (sym r.stage ∙ y.leaves.stalled (told_at at x) down)
         ] in
         record {
           row = x.row;
-          moment = record { now = first; accepts = x.accepts; since = since fell };
+          moment = record { now = first; accepts = x.accepts; since = since down };
           is = is_refused;
         };
     could = could_answer (Vec ℕ) s.spec (as_pipe_fault fault) fault refl
@@ -496,12 +495,12 @@ module _ (t : Target) (request : Setup) (host : IsToHost request) (some : 1 ≤ 
     answered = λ least three sound l m e.
         (y.why (never_three old mid undamaged three) (sound_in (Vec ℕ) fault sound)).answered
         (told_listens at x l) (has_next least m)
-        (fell_same_fault (Vec ℕ) (as_pipe_fault fault) fault trans.NoAnswer refl e);
+        (fell fault trans.NoAnswer e);
     waited = λ least three sound l m calm few e.
         (y.why (never_three old mid undamaged three) (sound_in (Vec ℕ) fault sound)).waited
         (told_listens at x l) (has_next least m) (told_calm at x calm)
         (omega (arith, x.naks, few))
-        (fell_same_fault (Vec ℕ) (as_pipe_fault fault) fault trans.Busy refl e);
+        (fell fault trans.Busy e);
     losses = λ sound. losses_then at x y (sound_in (Vec ℕ) fault sound);
   }
     where
@@ -542,19 +541,17 @@ module _ (t : Target) (request : Setup) (host : IsToHost request) (some : 1 ≤ 
   read_unconfirmed n {old = old} {mid = mid} fault undamaged j s u v at x y = record {
     frame = told_frame at x v y.leaves.frame;
     done = λ b e. cc e;
-    refused = λ e. absurd (y.leaves.stalled (told_at at x) in_read
-        (fell_same_fault (Vec ℕ) (as_pipe_fault fault) fault trans.Stalled refl e));
+    refused = λ e. absurd (y.leaves.stalled (told_at at x) in_read (fell fault trans.Stalled e));
     could = could_answer (Vec ℕ) s.spec (as_pipe_fault fault) fault refl
         (subst (λ d. CanAnswer {A = List ℕ} d (Err fault)) (told_spec at x)
         (y.leaves.could (told_at at x)));
     answered = λ least three sound l m e.
         (y.why (never_three old mid undamaged three) (sound_in (Vec ℕ) fault sound)).answered
-        (told_listens at x l) in_read (fell_same_fault (Vec ℕ) (as_pipe_fault fault) fault
-        trans.NoAnswer refl e);
+        (told_listens at x l) in_read (fell fault trans.NoAnswer e);
     waited = λ least three sound l m calm few e.
         (y.why (never_three old mid undamaged three) (sound_in (Vec ℕ) fault sound)).waited
         (told_listens at x l) in_read (told_calm at x calm) (omega (arith, x.naks, few))
-        (fell_same_fault (Vec ℕ) (as_pipe_fault fault) fault trans.Busy refl e);
+        (fell fault trans.Busy e);
     losses = λ sound. y.kept (sound_in (Vec ℕ) fault sound) ∙ x.losses;
   }
     where
@@ -604,14 +601,13 @@ module _ (t : Target) (request : Setup) (host : IsToHost request) (some : 1 ≤ 
       | inr a ↦ subst (λ d. OnlyStage s d) (sym (accepted_is s v a.at)) refl
     ];
     done = λ b e. cc e;
-    refused = λ e. absurd (subst (λ r. CanAccept {A = List ℕ} s.spec r)
-        (fell_same_fault (Vec ℕ) (as_pipe_fault fault) fault trans.Stalled refl e)
+    refused = λ e. absurd (subst (λ r. CanAccept {A = List ℕ} s.spec r) (fell fault trans.Stalled e)
         (x.done.could at));
     could = could_accept (Vec ℕ) s.spec (as_pipe_fault fault) fault refl (x.done.could at);
     answered = λ least three sound l m e. (x.why three (sound_in (Vec ℕ) fault sound)).answered l
-        (fell_same_fault (Vec ℕ) (as_pipe_fault fault) fault trans.NoAnswer refl e);
+        (fell fault trans.NoAnswer e);
     waited = λ least three sound l m calm few e. subst (λ r. CanAccept {A = List ℕ} s.spec r)
-        (fell_same_fault (Vec ℕ) (as_pipe_fault fault) fault trans.Busy refl e) (x.done.could at);
+        (fell fault trans.Busy e) (x.done.could at);
     losses = λ sound. x.kept (host_stretch request host) (sound_in (Vec ℕ) fault sound);
   }
 
@@ -809,12 +805,8 @@ module _ (t : Target) (request : Setup) (same : setup_of (bytes_of request) ≡ 
               (subst (λ d. StatusGiven (address_at_end taken_asked) d v) taken_is
               (y.status taken_at refl (address_at_end taken_asked) (taken_stage ∙ h)))
         ]
-    effect_then nothing trans.Stalled v y =
-        kept_then pipe_fault.Stalled v y.frame (y.failed refl trans.Stalled refl tt)
-    effect_then nothing trans.Busy v y = kept_then pipe_fault.Busy v y.frame
-        (y.failed refl trans.Busy refl tt)
-    effect_then nothing trans.NoAnswer v y =
-        kept_then pipe_fault.NoAnswer v y.frame (y.failed refl trans.NoAnswer refl tt)
+    effect_then nothing fault v y =
+        kept_then (as_pipe_fault fault) v y.frame (y.failed refl fault refl tt)
 
     module _ {new : World} (v : State) where
       effect_done : (given : List ℕ) → Course (IsBehind t) mid new → request.length ≡ 0
@@ -892,12 +884,11 @@ module _ (t : Target) (request : Setup) (same : setup_of (bytes_of request) ≡ 
         (effect_then at x nothing fault v y.leaves);
     done = λ nothing d e. cc e;
     refused = λ e.
-        let fell : Fell fault trans.Stalled = fell_same_fault (Unit {0}) (as_pipe_fault fault) fault
-        trans.Stalled refl e in
+        let down : Fell fault trans.Stalled = fell fault trans.Stalled e in
         record {
           row = row_of x.holder.below;
-          moment = record { now = mid; accepts = taken_accepts at x; since = since fell };
-          is = sym (taken_stage at x) ∙ y.leaves.stalled (taken_at at x) fell;
+          moment = record { now = mid; accepts = taken_accepts at x; since = since down };
+          is = sym (taken_stage at x) ∙ y.leaves.stalled (taken_at at x) down;
         };
     could = could_answer (Unit {0}) s.spec (as_pipe_fault fault) fault refl
         (subst (λ d. CanAnswer {A = List ℕ} d (Err fault)) (taken_spec at x)
@@ -905,12 +896,12 @@ module _ (t : Target) (request : Setup) (same : setup_of (bytes_of request) ≡ 
     answered = λ nothing three sound l e.
         (y.why (never_three old mid undamaged three) (sound_in (Unit {0}) fault sound)).answered
         (listens l) (taken_next at x nothing)
-        (fell_same_fault (Unit {0}) (as_pipe_fault fault) fault trans.NoAnswer refl e);
+        (fell fault trans.NoAnswer e);
     waited = λ nothing three sound l calm few e.
         (y.why (never_three old mid undamaged three) (sound_in (Unit {0}) fault sound)).waited
         (listens l) (taken_next at x nothing) (ap (λ d. d.busy) (taken_spec at x) ∙ calm)
         (subst (λ n. n ≤ 200) (sym (ap (λ d. d.naks) (taken_is at x))) few)
-        (fell_same_fault (Unit {0}) (as_pipe_fault fault) fault trans.Busy refl e);
+        (fell fault trans.Busy e);
     losses = λ plain sound.
         let l = y.losses (sound_in (Unit {0}) fault sound) refl in
         record {
@@ -933,14 +924,13 @@ module _ (t : Target) (request : Setup) (same : setup_of (bytes_of request) ≡ 
       | inr a ↦ kept_then at a.at f v refl refl
     ];
     done = λ nothing d e. cc e;
-    refused = λ e. absurd (subst (λ r. CanAccept {A = List ℕ} s.spec r)
-        (fell_same_fault (Unit {0}) (as_pipe_fault fault) fault trans.Stalled refl e)
+    refused = λ e. absurd (subst (λ r. CanAccept {A = List ℕ} s.spec r) (fell fault trans.Stalled e)
         (x.done.could at));
     could = could_accept (Unit {0}) s.spec (as_pipe_fault fault) fault refl (x.done.could at);
     answered = λ nothing three sound l e. (x.why three (sound_in (Unit {0}) fault sound)).answered l
-        (fell_same_fault (Unit {0}) (as_pipe_fault fault) fault trans.NoAnswer refl e);
+        (fell fault trans.NoAnswer e);
     waited = λ nothing three sound l calm few e. subst (λ r. CanAccept {A = List ℕ} s.spec r)
-        (fell_same_fault (Unit {0}) (as_pipe_fault fault) fault trans.Busy refl e)
+        (fell fault trans.Busy e)
         (x.done.could at);
     losses = λ plain sound. let kept = x.kept plain (sound_in (Unit {0}) fault sound) in
         record { done = λ at d e. cc e; failed = λ at why e. kept; none = λ at unasked. kept };
@@ -1266,7 +1256,8 @@ write_told t request {old} new bytes result nothing is sent settled ended room x
       what = write_leaves t request result old new nothing same settled x;
       why = λ three. write_why t request result old new nothing same settled three x;
       who = elim result as (λ r. Writes t request old r new
-          → OnOk r ((is_harmless request ≡ false → t.addr ≢ 0) → Unshared new (Answerer t old new))) [
+          → OnOk r ((is_harmless request ≡ false → t.addr ≢ 0) → Unshared new (Answerer t old new)))
+              [
             | Ok done ↦ λ y addressed. who_writes t request done old new same addressed settled y
             | Err why ↦ λ y. tt
           ] x;

@@ -88,6 +88,7 @@ impl BulkPipe {
     /// before it were taken, and after `Busy` and `NoAnswer` perhaps it too. `Broken` where the
     /// pipe is broken, also for no bytes. `Bus` where the bus makes no more steps: a front of the
     /// bytes was taken, too. It never answers `Memory`.
+    #[tactic(auto, using(usb_bus::proofs::Interface::went_wider, usb_bus::proofs::Interface::went_none))]
     pub fn send<B: Bus>(&mut self, bus: &mut B, bytes: &[u8]) -> Result<(), PipeFault>
         requires writes { self.old.is_in ≡ false }
         ensures same { bulk_made self.new ≡ bulk_made self.old }
@@ -117,6 +118,7 @@ impl BulkPipe {
     /// `Stalled`, `Busy` and `NoAnswer` where the transaction of a packet ended so, `Memory` where
     /// the bytes find no room: what came before is dropped. `Broken` where the pipe is broken, also
     /// for no packets. `Bus` where the bus makes no more steps.
+    #[tactic(auto, using(usb_bus::proofs::Interface::went_wider, usb_bus::proofs::Interface::went_none))]
     pub fn receive<B: Bus>(
         &mut self,
         alloc: Global,
@@ -159,6 +161,7 @@ impl BulkPipe {
     /// `Stalled`, and then the pipe is as it was; `Busy` and `NoAnswer`, and then it is broken, as
     /// the device may have cleared its halt; `Bus` where the bus makes no more steps. It never
     /// answers `Broken` or `Memory`.
+    #[tactic(auto, using(usb_bus::proofs::Interface::went_wider, usb_bus::proofs::Interface::went_none))]
     pub fn clear_halt<B: Bus>(&mut self, bus: &mut B) -> Result<(), PipeFault>
         ensures same { bulk_made self.new ≡ bulk_made self.old }
         ensures steps { B.modelled ≡ true → Steps B.world B.trace write_bound bus.old bus.new }

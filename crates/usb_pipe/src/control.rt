@@ -25,7 +25,7 @@ use usb_transaction::{Bus, Target, data_in, data_out, setup as send_setup};
 ///
 /// `Stalled`, `Busy` and `NoAnswer` where a transaction ended so, `Memory` where the answer's
 /// bytes find no room, `Bus` where the bus makes no more steps. It never answers `Broken`.
-#[tactic(auto, unfolding(crate::specs::Control::control_bound))]
+#[tactic(auto, using(usb_bus::proofs::Interface::went_wider), unfolding(crate::specs::Control::control_bound))]
 pub fn control_in<B: Bus>(
     alloc: Global,
     bus: &mut B,
@@ -59,6 +59,7 @@ pub fn control_in<B: Bus>(
 /// `Stalled`, `Busy` and `NoAnswer` where a transaction ended so, `Bus` where the bus makes no more
 /// steps. It never answers `Broken` or `Memory`. After `Busy` and `NoAnswer` the device may have
 /// done what was asked.
+#[tactic(auto, using(usb_bus::proofs::Interface::went_wider))]
 pub fn control_none<B: Bus>(bus: &mut B, target: Target, setup: Setup) -> Result<(), PipeFault>
     requires target { IsTarget target }
     requires writes { IsToDevice setup }

@@ -36,6 +36,7 @@ pub(crate) fn send_packets<B: Bus>(
 }
 
 /// Takes packets until there are as many as are wanted, or a short one came.
+#[tactic(auto, using(crate::proofs::MovedPackets::moved_all))]
 pub(crate) fn receive_packets<B: Bus>(
     alloc: Global,
     bus: &mut B,

@@ -1,15 +1,14 @@
 -- Lists of devices and events grow at their end.
 use Rattle.std.proofs.Common.{◌≡◌, ℕ, ◌+◌, ◌<◌, ◌≤◌, List, [], ◌∷◌, ◌++◌, length, get_or, drop, map}
-use Rattle.std.proofs.Common.{true, Result, Ok, Err, refl, sym, ◌∙◌}
+use Rattle.std.proofs.Common.{true, Result, Ok, refl}
 use Rattle.std.proofs.lemmas.Bool.{and_parts}
 use Rattle.std.proofs.lemmas.List.{drop_all}
 use Rattle.toml.specs.Data.{as_table}
 use Rattle.toml.specs.declared.value.Value.{Value}
 use Rattle.toml.specs.View.{view}
-use Rattle.usb_plan.specs.declared.entry_fault.EntryFault.{EntryFault}
 use Rattle.usb_plan.specs.declared.fault.Place.TheVariants as place
 use Rattle.usb_plan.specs.{PlanFault, entry_at, device_in, devices_from, scene_after, event_in}
-use Rattle.usb_plan.specs.{events_from, damage_entry, last_from, damages_from}
+use Rattle.usb_plan.specs.{events_from, damage_entry, last_from, damages_from, ◌>>=◌}
 use Rattle.usb_world.specs.{Event, Damage, PluggedMap, plugged_by, plugged_after, event_fits}
 use Rattle.usb_world.specs.{events_fit, damage_fits, damages_fit}
 use Rattle.usb_device.specs.{Spec}
@@ -42,99 +41,41 @@ damages_fit-push last (x ∷ damages) d h new =
     let parts = and_parts (damage_fits last x) (damages_fit x.attempt damages) h in
     rw (parts.0, damages_fit-push x.attempt damages d parts.1 new)
 
-pub devices_from-step : (done : List Spec) (vs : List Value) (i : ℕ) (v : Value)
-    (r : Result Spec EntryFault) (s : Spec) (total : Result (List Spec) PlanFault) → i < length vs
-    → v ≡ get_or vs i v → r ≡ device_in done (as_table (view v)) → entry_at (place.Device (i + 1)) r
-    ≡ Ok s
-    → devices_from (i + 1) done (map view (drop i vs)) ≡ total
-    → devices_from (i + 1 + 1) (done ++ s ∷ []) (map view (drop (i + 1) vs)) ≡ total
+pub devices_from-next : (done : List Spec) (vs : List Value) (i : ℕ) (v : Value)
+    (r : Result Spec PlanFault) → i < length vs → v ≡ get_or vs i v
+    → entry_at (place.Device (i + 1)) (device_in done (as_table (view v))) ≡ r
+    → devices_from (i + 1) done (map view (drop i vs))
+    ≡ (r >>= λ s. devices_from (i + 1 + 1) (done ++ s ∷ []) (map view (drop (i + 1) vs)))
 unfolding devices_from
-devices_from-step done vs i v r s total lt is e ok so_far =
-    let good : entry_at (place.Device (i + 1)) (device_in done (as_table (view v))) ≡ Ok s =
-    rw (← e) ok in
-    let one : devices_from (i + 1) done (map view (drop i vs)) ≡ devices_from (i + 1 + 1)
-    (done ++ s ∷ []) (map view (drop (i + 1) vs)) = rw (view_drop vs i v lt is, good) refl in
-    sym one ∙ so_far
-
-pub devices_from-fault : (done : List Spec) (vs : List Value) (i : ℕ) (v : Value)
-    (r : Result Spec EntryFault) (f : PlanFault) (total : Result (List Spec) PlanFault)
-    → i < length vs → v ≡ get_or vs i v → r ≡ device_in done (as_table (view v))
-    → entry_at (place.Device (i + 1)) r ≡ Err f
-    → devices_from (i + 1) done (map view (drop i vs)) ≡ total → Err f ≡ total
-unfolding devices_from
-devices_from-fault done vs i v r f total lt is e err so_far =
-    let bad : entry_at (place.Device (i + 1)) (device_in done (as_table (view v))) ≡ Err f =
-    rw (← e) err in
-    let one : devices_from (i + 1) done (map view (drop i vs)) ≡ Err f =
-    rw (view_drop vs i v lt is, bad) refl in
-    sym one ∙ so_far
+devices_from-next done vs i v r lt is e = rw (view_drop vs i v lt is, e) refl
 
 pub devices_from-end : (n : ℕ) (done : List Spec) (vs : List Value) (i : ℕ) → length vs ≤ i
     → devices_from n done (map view (drop i vs)) ≡ Ok done
 unfolding devices_from
 devices_from-end n done vs i le = rw (drop_all i vs le)
 
-pub events_from-step : (roots : ℕ) (specs : List Spec) (done : List Event) (vs : List Value) (i : ℕ)
-    (v : Value) (r : Result Event EntryFault) (s : Event) (total : Result (List Event) PlanFault)
-    → i < length vs → v ≡ get_or vs i v → r ≡ event_in (scene_after roots specs done) (length done)
-    (as_table (view v)) → entry_at (place.Event (i + 1)) r ≡ Ok s
-    → events_from roots specs (i + 1) done (map view (drop i vs)) ≡ total
-    → events_from roots specs (i + 1 + 1) (done ++ s ∷ []) (map view (drop (i + 1) vs)) ≡ total
+pub events_from-next : (roots : ℕ) (specs : List Spec) (done : List Event) (vs : List Value) (i : ℕ)
+    (v : Value) (r : Result Event PlanFault) → i < length vs → v ≡ get_or vs i v
+    → entry_at (place.Event (i + 1)) (event_in (scene_after roots specs done) (length done)
+    (as_table (view v))) ≡ r
+    → events_from roots specs (i + 1) done (map view (drop i vs)) ≡ (r >>= λ e. events_from roots
+    specs (i + 1 + 1) (done ++ e ∷ []) (map view (drop (i + 1) vs)))
 unfolding events_from
-events_from-step roots specs done vs i v r s total lt is e ok so_far =
-    let good : entry_at (place.Event (i + 1)) (event_in (scene_after roots specs done) (length done)
-    (as_table (view v))) ≡ Ok s = rw (← e) ok in
-    let one : events_from roots specs (i + 1) done (map view (drop i vs))
-    ≡ events_from roots specs (i + 1 + 1) (done ++ s ∷ []) (map view (drop (i + 1) vs)) =
-    rw (view_drop vs i v lt is, good) refl in
-    sym one ∙ so_far
-
-pub events_from-fault : (roots : ℕ) (specs : List Spec) (done : List Event) (vs : List Value)
-    (i : ℕ) (v : Value) (r : Result Event EntryFault) (f : PlanFault)
-    (total : Result (List Event) PlanFault) → i < length vs → v ≡ get_or vs i v
-    → r ≡ event_in (scene_after roots specs done) (length done) (as_table (view v))
-    → entry_at (place.Event (i + 1)) r ≡ Err f
-    → events_from roots specs (i + 1) done (map view (drop i vs)) ≡ total → Err f ≡ total
-unfolding events_from
-events_from-fault roots specs done vs i v r f total lt is e err so_far =
-    let bad : entry_at (place.Event (i + 1)) (event_in (scene_after roots specs done) (length done)
-    (as_table (view v))) ≡ Err f = rw (← e) err in
-    let one : events_from roots specs (i + 1) done (map view (drop i vs)) ≡ Err f =
-    rw (view_drop vs i v lt is, bad) refl in
-    sym one ∙ so_far
+events_from-next roots specs done vs i v r lt is e = rw (view_drop vs i v lt is, e) refl
 
 pub events_from-end : (roots : ℕ) (specs : List Spec) (n : ℕ) (done : List Event) (vs : List Value)
     (i : ℕ) → length vs ≤ i → events_from roots specs n done (map view (drop i vs)) ≡ Ok done
 unfolding events_from
 events_from-end roots specs n done vs i le = rw (drop_all i vs le)
 
-pub damages_from-step : (done : List Damage) (vs : List Value) (i : ℕ) (v : Value)
-    (r : Result Damage EntryFault) (s : Damage) (total : Result (List Damage) PlanFault)
-    → i < length vs → v ≡ get_or vs i v → r ≡ damage_entry (last_from 0 done) (length done)
-    (as_table (view v)) → entry_at (place.Damage (i + 1)) r ≡ Ok s
-    → damages_from (i + 1) done (map view (drop i vs)) ≡ total
-    → damages_from (i + 1 + 1) (done ++ s ∷ []) (map view (drop (i + 1) vs)) ≡ total
+pub damages_from-next : (done : List Damage) (vs : List Value) (i : ℕ) (v : Value)
+    (r : Result Damage PlanFault) → i < length vs → v ≡ get_or vs i v
+    → entry_at (place.Damage (i + 1)) (damage_entry (last_from 0 done) (length done)
+    (as_table (view v))) ≡ r
+    → damages_from (i + 1) done (map view (drop i vs))
+    ≡ (r >>= λ s. damages_from (i + 1 + 1) (done ++ s ∷ []) (map view (drop (i + 1) vs)))
 unfolding damages_from
-damages_from-step done vs i v r s total lt is e ok so_far =
-    let good : entry_at (place.Damage (i + 1))
-    (damage_entry (last_from 0 done) (length done) (as_table (view v))) ≡ Ok s = rw (← e) ok in
-    let one : damages_from (i + 1) done (map view (drop i vs)) ≡ damages_from (i + 1 + 1)
-    (done ++ s ∷ []) (map view (drop (i + 1) vs)) = rw (view_drop vs i v lt is, good) refl in
-    sym one ∙ so_far
-
-pub damages_from-fault : (done : List Damage) (vs : List Value) (i : ℕ) (v : Value)
-    (r : Result Damage EntryFault) (f : PlanFault) (total : Result (List Damage) PlanFault)
-    → i < length vs → v ≡ get_or vs i v → r ≡ damage_entry (last_from 0 done) (length done)
-    (as_table (view v)) → entry_at (place.Damage (i + 1)) r ≡ Err f
-    → damages_from (i + 1) done (map view (drop i vs)) ≡ total → Err f ≡ total
-unfolding damages_from
-damages_from-fault done vs i v r f total lt is e err so_far =
-    let bad : entry_at (place.Damage (i + 1))
-    (damage_entry (last_from 0 done) (length done) (as_table (view v))) ≡ Err f =
-    rw (← e) err in
-    let one : damages_from (i + 1) done (map view (drop i vs)) ≡ Err f =
-    rw (view_drop vs i v lt is, bad) refl in
-    sym one ∙ so_far
+damages_from-next done vs i v r lt is e = rw (view_drop vs i v lt is, e) refl
 
 pub damages_from-end : (n : ℕ) (done : List Damage) (vs : List Value) (i : ℕ) → length vs ≤ i
     → damages_from n done (map view (drop i vs)) ≡ Ok done

@@ -3,8 +3,8 @@ use Rattle.std.proofs.Common.{◌≡◌, ◌≢◌, ℕ, List, [], ◌∷◌, �
 use Rattle.std.proofs.Common.{Ok, Err, refl, ap, sym, ◌∙◌, IsErrAnd}
 use Rattle.usb_device.specs.{Hub}
 use Rattle.usb_plan.specs.declared.entry_fault.EntryFault.{EntryFault}
-use Rattle.usb_plan.specs.{Memory, MissingKey, BadValue, BadHex, UnknownDevice, BadPath, PortTaken}
-use Rattle.usb_plan.specs.{PortEmpty, PlanFault, Identity, DeviceTexts, fault_in_part, sooner}
+use Rattle.usb_plan.specs.{Memory}
+use Rattle.usb_plan.specs.{PlanFault, Identity, DeviceTexts, fault_in_part, sooner}
 use Rattle.usb_plan.specs.{least_fault, least, at, entry_at, ◌>>=◌, EqualUnless, send, event_with}
 use Rattle.usb_plan.specs.{bulk_with, class_at, hub_with, with_text, identity_with}
 use Rattle.usb_plan.specs.{device_texts_with, device_with}
@@ -54,13 +54,7 @@ bind_err (Err k) f e h = cc
 least-memory : (k : EntryFault) → least k Memory ≡ Memory
 unfolding least
 least-memory Memory = refl
-least-memory MissingKey = refl
-least-memory BadValue = refl
-least-memory BadHex = refl
-least-memory UnknownDevice = refl
-least-memory BadPath = refl
-least-memory PortTaken = refl
-least-memory PortEmpty = refl
+least-memory _ = refl
 
 sooner-memory : (f : Option EntryFault) → sooner f (Err Memory) ≡ Err Memory
 unfolding sooner
@@ -70,13 +64,7 @@ sooner-memory (Some k) = ap Err (least-memory k)
 memory-least : (k : EntryFault) → least Memory k ≡ Memory
 unfolding least
 memory-least Memory = refl
-memory-least MissingKey = refl
-memory-least BadValue = refl
-memory-least BadHex = refl
-memory-least UnknownDevice = refl
-memory-least BadPath = refl
-memory-least PortTaken = refl
-memory-least PortEmpty = refl
+memory-least _ = refl
 
 memory-sooner : (others : Result (Unit {0}) EntryFault) → sooner (Some Memory) others ≡ Err Memory
 unfolding sooner
@@ -98,83 +86,37 @@ unfolding hub_with
 hub_with_unless ports read spelled h = unless_through Memory Memory (hub_with ports) read spelled
     refl h
 
-send-memory : (path : Result (List ℕ) EntryFault) → send path (Err Memory) ≡ Err Memory
-unfolding send fault_in_part
-send-memory path = bind_err _ _ Memory (least_fault-memory (fault_in_part path ∷ []) [])
-
 pub send_unless : (path bytes b : Result (List ℕ) EntryFault) → EqualUnless Memory bytes b
     → EqualUnless Memory (send path bytes) (send path b)
-send_unless path bytes b h = unless_through Memory Memory (send path) bytes b (send-memory path) h
-
-event_with-memory : (after : Result ℕ EntryFault) (keys room : Result (Unit {0}) EntryFault)
-    → event_with (Err Memory) after keys room ≡ Err Memory
-unfolding event_with fault_in_part
-event_with-memory after keys room = bind_err _ _ Memory
-    (least_fault-memory [] (fault_in_part after ∷ fault_in_part keys ∷ fault_in_part room ∷ []))
+unfolding send fault_in_part
+send_unless path bytes b h = unless_through Memory Memory (send path) bytes b
+    (bind_err _ _ Memory (least_fault-memory (_ ∷ []) _)) h
 
 pub event_unless : (action a : Result Action EntryFault) (after : Result ℕ EntryFault)
     (keys room : Result (Unit {0}) EntryFault) → EqualUnless Memory action a
     → EqualUnless Memory (event_with action after keys room) (event_with a after keys room)
+unfolding event_with fault_in_part
 event_unless action a after keys room h =
     unless_through Memory Memory (λ x. event_with x after keys room) action a
-    (event_with-memory after keys room) h
-
-bulk_with-memory : (halt_after : Result (Option ℕ) EntryFault) → bulk_with (Err Memory) halt_after
-    ≡ Err Memory
-unfolding bulk_with fault_in_part
-bulk_with-memory halt_after = bind_err _ _ Memory
-    (least_fault-memory [] (fault_in_part halt_after ∷ []))
+    (bind_err _ _ Memory (least_fault-memory [] _)) h
 
 pub bulk_unless : (source s : Result (List ℕ) EntryFault)
     (halt_after : Result (Option ℕ) EntryFault) → EqualUnless Memory source s
     → EqualUnless Memory (bulk_with source halt_after) (bulk_with s halt_after)
+unfolding bulk_with fault_in_part
 bulk_unless source s halt_after h = unless_through Memory Memory (λ x. bulk_with x halt_after)
-    source s (bulk_with-memory halt_after) h
-
-device_texts-configs : (strings : Result Texts EntryFault) → device_texts_with (Err Memory) strings
-    ≡ Err Memory
-unfolding device_texts_with fault_in_part
-device_texts-configs strings = bind_err _ _ Memory
-    (least_fault-memory [] (fault_in_part strings ∷ []))
-
-device_texts-strings : (configs : Result Texts EntryFault) → device_texts_with configs (Err Memory)
-    ≡ Err Memory
-unfolding device_texts_with fault_in_part
-device_texts-strings configs = bind_err _ _ Memory
-    (least_fault-memory (fault_in_part configs ∷ []) [])
+    source s (bind_err _ _ Memory (least_fault-memory [] _)) h
 
 pub device_texts_unless : (configs c strings s : Result Texts EntryFault)
     → EqualUnless Memory configs c → EqualUnless Memory strings s
     → EqualUnless Memory (device_texts_with configs strings) (device_texts_with c s)
+unfolding device_texts_with fault_in_part
 device_texts_unless configs c strings s h g =
     unless_then Memory _ (device_texts_with c strings) _
     (unless_through Memory Memory (λ x. device_texts_with x strings) configs c
-    (device_texts-configs strings) h)
-    (unless_through Memory Memory (device_texts_with c) strings s (device_texts-strings c) g)
-
-identity-name : (low : Result Bool EntryFault) (descriptor : Result (List ℕ) EntryFault)
-    (class : Result (Unit {0}) EntryFault) (hub : Result (Option Hub) EntryFault)
-    → identity_with (Err Memory) low descriptor class hub ≡ Err Memory
-unfolding identity_with fault_in_part
-identity-name low descriptor class hub =
-    bind_err _ _ Memory (least_fault-memory [] (fault_in_part low ∷ fault_in_part descriptor ∷
-    fault_in_part class ∷ fault_in_part hub ∷ []))
-
-identity-descriptor : (name : Result (List ℕ) EntryFault) (low : Result Bool EntryFault)
-    (class : Result (Unit {0}) EntryFault) (hub : Result (Option Hub) EntryFault)
-    → identity_with name low (Err Memory) class hub ≡ Err Memory
-unfolding identity_with fault_in_part
-identity-descriptor name low class hub =
-    bind_err _ _ Memory (least_fault-memory (fault_in_part name ∷ fault_in_part low ∷ [])
-    (fault_in_part class ∷ fault_in_part hub ∷ []))
-
-identity-hub : (name : Result (List ℕ) EntryFault) (low : Result Bool EntryFault)
-    (descriptor : Result (List ℕ) EntryFault) (class : Result (Unit {0}) EntryFault)
-    → identity_with name low descriptor class (Err Memory) ≡ Err Memory
-unfolding identity_with fault_in_part
-identity-hub name low descriptor class =
-    bind_err _ _ Memory (least_fault-memory (fault_in_part name ∷ fault_in_part low ∷ fault_in_part
-    descriptor ∷ fault_in_part class ∷ []) [])
+    (bind_err _ _ Memory (least_fault-memory [] _)) h)
+    (unless_through Memory Memory (device_texts_with c) strings s
+    (bind_err _ _ Memory (least_fault-memory (_ ∷ []) _)) g)
 
 -- the class is asked of the descriptor that was read
 pub identity_unless : (name n : Result (List ℕ) EntryFault) (low : Result Bool EntryFault)
@@ -183,40 +125,17 @@ pub identity_unless : (name n : Result (List ℕ) EntryFault) (low : Result Bool
     → EqualUnless Memory descriptor d → EqualUnless Memory hub h
     → EqualUnless Memory (identity_with name low descriptor (class_at ports low descriptor) hub)
     (identity_with n low d (class_at ports low d) h)
+unfolding identity_with fault_in_part
 identity_unless name n low descriptor d ports hub h name_is descriptor_is hub_is =
     unless_then Memory _ (identity_with n low descriptor (class_at ports low descriptor) hub) _
     (unless_through Memory Memory (λ x. identity_with x low descriptor
-    (class_at ports low descriptor) hub) name n
-    (identity-name low descriptor (class_at ports low descriptor) hub) name_is)
+    (class_at ports low descriptor) hub) name n (bind_err _ _ Memory (least_fault-memory [] _))
+    name_is)
     (unless_then Memory _ (identity_with n low d (class_at ports low d) hub) _
     (unless_through Memory Memory (λ x. identity_with n low x (class_at ports low x) hub) descriptor
-    d (identity-descriptor n low (class_at ports low (Err Memory)) hub) descriptor_is)
+    d (bind_err _ _ Memory (least_fault-memory (_ ∷ _ ∷ []) _)) descriptor_is)
     (unless_through Memory Memory (identity_with n low d (class_at ports low d)) hub h
-    (identity-hub n low d (class_at ports low d)) hub_is))
-
-device-identity : (texts : Result DeviceTexts EntryFault) (quirks : Result Quirks EntryFault)
-    (bulk : Result Bulk EntryFault) (keys room : Result (Unit {0}) EntryFault)
-    → device_with (Err Memory) texts quirks bulk keys room ≡ Err Memory
-unfolding device_with fault_in_part
-device-identity texts quirks bulk keys room =
-    bind_err _ _ Memory (least_fault-memory [] (fault_in_part texts ∷ fault_in_part quirks ∷
-    fault_in_part bulk ∷ fault_in_part keys ∷ fault_in_part room ∷ []))
-
-device-texts : (identity : Result Identity EntryFault) (quirks : Result Quirks EntryFault)
-    (bulk : Result Bulk EntryFault) (keys room : Result (Unit {0}) EntryFault)
-    → device_with identity (Err Memory) quirks bulk keys room ≡ Err Memory
-unfolding device_with fault_in_part
-device-texts identity quirks bulk keys room =
-    bind_err _ _ Memory (least_fault-memory (fault_in_part identity ∷ [])
-    (fault_in_part quirks ∷ fault_in_part bulk ∷ fault_in_part keys ∷ fault_in_part room ∷ []))
-
-device-bulk : (identity : Result Identity EntryFault) (texts : Result DeviceTexts EntryFault)
-    (quirks : Result Quirks EntryFault) (keys room : Result (Unit {0}) EntryFault)
-    → device_with identity texts quirks (Err Memory) keys room ≡ Err Memory
-unfolding device_with fault_in_part
-device-bulk identity texts quirks keys room =
-    bind_err _ _ Memory (least_fault-memory (fault_in_part identity ∷ fault_in_part texts ∷
-    fault_in_part quirks ∷ []) (fault_in_part keys ∷ fault_in_part room ∷ []))
+    (bind_err _ _ Memory (least_fault-memory (_ ∷ _ ∷ _ ∷ _ ∷ []) _)) hub_is))
 
 pub device_unless : (identity i : Result Identity EntryFault)
     (texts c : Result DeviceTexts EntryFault) (quirks : Result Quirks EntryFault)
@@ -224,15 +143,16 @@ pub device_unless : (identity i : Result Identity EntryFault)
     → EqualUnless Memory identity i → EqualUnless Memory texts c → EqualUnless Memory bulk b
     → EqualUnless Memory (device_with identity texts quirks bulk keys room)
     (device_with i c quirks b keys room)
+unfolding device_with fault_in_part
 device_unless identity i texts c quirks bulk b keys room identity_is texts_is bulk_is =
     unless_then Memory _ (device_with i texts quirks bulk keys room) _
     (unless_through Memory Memory (λ x. device_with x texts quirks bulk keys room) identity i
-    (device-identity texts quirks bulk keys room) identity_is)
+    (bind_err _ _ Memory (least_fault-memory [] _)) identity_is)
     (unless_then Memory _ (device_with i c quirks bulk keys room) _
     (unless_through Memory Memory (λ x. device_with i x quirks bulk keys room) texts c
-    (device-texts i quirks bulk keys room) texts_is)
+    (bind_err _ _ Memory (least_fault-memory (_ ∷ []) _)) texts_is)
     (unless_through Memory Memory (λ x. device_with i c quirks x keys room) bulk b
-    (device-bulk i c quirks keys room) bulk_is))
+    (bind_err _ _ Memory (least_fault-memory (_ ∷ _ ∷ _ ∷ []) _)) bulk_is))
 
 texts-memory : (text : Result (List ℕ) EntryFault) → with_text (Err Memory) text ≡ Err Memory
 unfolding with_text fault_in_part

@@ -14,13 +14,14 @@ use Rattle.usb_plan.specs.{MissingKey, BadValue, UnknownDevice, BadPath, PortTak
 use Rattle.usb_plan.specs.{Identity, DeviceTexts, SceneData, Way, fault_in_part, sooner}
 use Rattle.usb_plan.specs.{least_fault, entry_at, ◌>>=◌, read_text, number_in, number_at, number_or}
 use Rattle.usb_plan.specs.{class_at, hub_at, no_hub, is_low_speed, is_other, quirks_with, quirks_of}
-use Rattle.usb_plan.specs.{naks_at, bulk_with, read_bulk, halt_at, halt_in, name_in, name_at}
+use Rattle.usb_plan.specs.{flag_at, stalls_at, source_at, naks_at, bulk_with, read_bulk, halt_at}
+use Rattle.usb_plan.specs.{halt_in, name_in, name_at}
 use Rattle.usb_plan.specs.{speed_at, descriptor_at, with_quirks, with_halt, with_hub, named_device}
 use Rattle.usb_plan.specs.{HubFits, FewNaks, HaltsLater, identity_with, identity_of}
 use Rattle.usb_plan.specs.{device_of_parts, device_with, read_device, device_in, read_path}
-use Rattle.usb_plan.specs.{free_path, taken_path, verb_at, other_keys, action_of, EventValues}
+use Rattle.usb_plan.specs.{free_path, taken_path, verb_at, action_of, EventValues}
 use Rattle.usb_plan.specs.{event_values, device_index_at, bytes_at, packets_at, plug_of, unplug_of}
-use Rattle.usb_plan.specs.{send_of, receive_of, clear_of, keys_of, after_at, event_room, event_with}
+use Rattle.usb_plan.specs.{send_of, receive_of, clear_of, after_at, event_room, event_with}
 use Rattle.usb_plan.specs.{event_of, event_in, attempt_at, packet_number, way_at, no_bit, flip_at}
 use Rattle.usb_plan.specs.{harm_of, harm_by, damage_with, read_damage, damage_entry, limit_at}
 use Rattle.usb_plan.specs.{roots_at, top_with, top_of, TopFits}
@@ -35,7 +36,7 @@ use Rattle.usb_world.specs.declared.event.Action.TheVariants.{Change, Ask}
 use Rattle.usb_plan.specs.declared.verb.Verb.{Verb}
 use Rattle.usb_plan.specs.declared.verb.Verb.TheVariants as verb
 use Rattle.usb_plan.specs.declared.damage.Way.TheVariants as way
-use Rattle.usb_device.specs.{Spec, Hub, hub_fits, has_hub_class, function, is_named, Stalls}
+use Rattle.usb_device.specs.{Spec, Hub, hub_fits, has_hub_class, function, is_named}
 use Rattle.usb_plan.specs.Device as device
 use Rattle.usb_plan.specs.Action as action
 use Rattle.usb_plan.specs.Damage as damage
@@ -161,23 +162,17 @@ naks_at_ok : (o : Option Data) (n : ℕ) → naks_at o ≡ Ok n → n ≤ 200
 unfolding naks_at
 naks_at_ok o n h = number_or_ok 0 0 200 o n (omega arith) h
 
-quirks_with_ok : (a b c : Result Bool EntryFault) (n : Result ℕ EntryFault)
-    (s : Result Stalls EntryFault) (q : Quirks) → quirks_with a b c n s ≡ Ok q → n ≡ Ok q.naks
-unfolding quirks_with
-quirks_with_ok a b c n s q h =
-    let e0 = bind_good (least_fault _) _ q h in
-    let e1 = bind_good a _ q e0.rest in
-    let e2 = bind_good b _ q e1.rest in
-    let e3 = bind_good c _ q e2.rest in
-    let e4 = bind_good n _ q e3.rest in
-    let e5 = bind_good s _ q e4.rest in
-    let same : e4.value ≡ q.naks = cc e5.rest in
-    e4.good ∙ ap Ok same
-
 pub quirks_of_ok : (ms : Members) (q : Quirks) → quirks_of ms ≡ Ok q → FewNaks q
-unfolding quirks_of
-quirks_of_ok ms q h = naks_at_ok (get_member (codes "naks") ms) q.naks
-    (quirks_with_ok _ _ _ _ _ q h)
+unfolding quirks_of quirks_with
+quirks_of_ok ms q h =
+    let e0 = bind_good (least_fault _) _ q h in
+    let e1 = bind_good (flag_at (get_member (codes "self_powered") ms)) _ q e0.rest in
+    let e2 = bind_good (flag_at (get_member (codes "busy") ms)) _ q e1.rest in
+    let e3 = bind_good (flag_at (get_member (codes "silent") ms)) _ q e2.rest in
+    let e4 = bind_good (naks_at (get_member (codes "naks") ms)) _ q e3.rest in
+    let e5 = bind_good (stalls_at (get_member (codes "stalls") ms)) _ q e4.rest in
+    let same : e4.value ≡ q.naks = cc e5.rest in
+    naks_at_ok (get_member (codes "naks") ms) q.naks (e4.good ∙ ap Ok same)
 
 number_in_least : (low high : ℕ) (r : Result ℕ EntryFault) (o : Option ℤ) → r ≡ number_in low high o
     → IfOk r (λ n. low ≤ n)
@@ -195,20 +190,14 @@ halt_at_ok None h e = let same : None ≡ h = cc in rw (← same) tt
 halt_at_ok (Some d) h e = halt_in_ok (number_in 1 65535 (as_integer d)) h e
     (number_in_least 1 65535 _ (as_integer d) refl)
 
-bulk_with_ok : (s : Result (List ℕ) EntryFault) (p : Result (Option ℕ) EntryFault) (b : Bulk)
-    → bulk_with s p ≡ Ok b → p ≡ Ok b.halt_after
-unfolding bulk_with
-bulk_with_ok s p b h =
-    let e0 = bind_good (least_fault _) _ b h in
-    let e1 = bind_good s _ b e0.rest in
-    let e2 = bind_good p _ b e1.rest in
-    let same : e2.value ≡ b.halt_after = cc e2.rest in
-    e2.good ∙ ap Ok same
-
 pub read_bulk_ok : (ms : Members) (b : Bulk) → read_bulk ms ≡ Ok b → HaltsLater b
-unfolding read_bulk
-read_bulk_ok ms b h = halt_at_ok (get_member (codes "halt_after") ms) b.halt_after
-    (bulk_with_ok _ _ b h)
+unfolding read_bulk bulk_with
+read_bulk_ok ms b h =
+    let e0 = bind_good (least_fault _) _ b h in
+    let e1 = bind_good (source_at (get_member (codes "source") ms)) _ b e0.rest in
+    let e2 = bind_good (halt_at (get_member (codes "halt_after") ms)) _ b e1.rest in
+    let same : e2.value ≡ b.halt_after = cc e2.rest in
+    halt_at_ok (get_member (codes "halt_after") ms) b.halt_after (e2.good ∙ ap Ok same)
 
 class_at_ok : (ports descriptor : Option Data) (low : Bool) (bytes : List ℕ) (u : Unit {0})
     (hub : Option Hub) → class_at ports (Ok low) (Ok bytes) ≡ Ok u
@@ -374,39 +363,18 @@ packets_at_ok o n h = (number_at_ok 0 1000 o n h).1
 abbrev pub FitsScene : SceneData → Action → Type 0
 FitsScene scene a = action_fits scene.roots scene.devices scene.plugged a ≡ true
 
-record PlugIs (path : Result (List ℕ) EntryFault) (device : Result ℕ EntryFault) (a : Action) :
-    Type 0 where
-  at : List ℕ
-  index : ℕ
-  path_is : path ≡ Ok at
-  device_is : device ≡ Ok index
-  action_is : Change (Plug at index) ≡ a
-
-plug_ok : (path : Result (List ℕ) EntryFault) (device : Result ℕ EntryFault) (a : Action)
-    → action.plug path device ≡ Ok a → PlugIs path device a
-unfolding action.plug
-plug_ok path device a h =
-    let e0 = bind_good (least_fault _) _ a h in
-    let e1 = bind_good path _ a e0.rest in
-    let e2 = bind_good device _ a e1.rest in
-    record {
-      at = e1.value;
-      index = e2.value;
-      path_is = e1.good;
-      device_is = e2.good;
-      action_is = cc e2.rest;
-    }
-
 plug_of_ok : (scene : SceneData) (v : EventValues) (a : Action) → plug_of scene v ≡ Ok a
     → FitsScene scene a
-unfolding plug_of
+unfolding plug_of action.plug
 plug_of_ok scene v a h =
-    let plug = plug_ok (free_path scene (read_path scene v.path)) (device_index_at scene v.device) a
-    h in
-    let path = free_path_ok scene (read_path scene v.path) plug.at plug.path_is in
-    let device = lt-ltb plug.index (length scene.devices)
-    (device_index_at_ok scene v.device plug.index plug.device_is) in
-    rw (← plug.action_is) (rw (path.port, path.free, device))
+    let e0 = bind_good (least_fault _) _ a h in
+    let e1 = bind_good (free_path scene (read_path scene v.path)) _ a e0.rest in
+    let e2 = bind_good (device_index_at scene v.device) _ a e1.rest in
+    let same : Change (Plug e1.value e2.value) ≡ a = cc e2.rest in
+    let path = free_path_ok scene (read_path scene v.path) e1.value e1.good in
+    let device = lt-ltb e2.value (length scene.devices)
+    (device_index_at_ok scene v.device e2.value e2.good) in
+    rw (← same) (rw (path.port, path.free, device))
 
 unplug_of_ok : (scene : SceneData) (v : EventValues) (a : Action) → unplug_of scene v ≡ Ok a
     → FitsScene scene a
@@ -417,59 +385,26 @@ unplug_of_ok scene v a h =
     let held = taken_path_ok scene (read_path scene v.path) path.value path.good in
     rw (← same) (rw (read_path_ok scene v.path path.value held.0, held.1))
 
-record SendIs (path : Result (List ℕ) EntryFault) (a : Action) : Type 0 where
-  at : List ℕ
-  sent : List ℕ
-  path_is : path ≡ Ok at
-  action_is : Ask (Send at sent) ≡ a
-
-send_ok : (path bytes : Result (List ℕ) EntryFault) (a : Action) → action.send path bytes ≡ Ok a
-    → SendIs path a
-unfolding action.send
-send_ok path bytes a h =
-    let e0 = bind_good (least_fault _) _ a h in
-    let e1 = bind_good path _ a e0.rest in
-    let e2 = bind_good bytes _ a e1.rest in
-    record { at = e1.value; sent = e2.value; path_is = e1.good; action_is = cc e2.rest }
-
 send_of_ok : (scene : SceneData) (v : EventValues) (a : Action) → send_of scene v ≡ Ok a
     → FitsScene scene a
-unfolding send_of
+unfolding send_of action.send
 send_of_ok scene v a h =
-    let send = send_ok (read_path scene v.path) (bytes_at v.bytes) a h in
-    rw (← send.action_is) (read_path_ok scene v.path send.at send.path_is)
-
-record ReceiveIs (path : Result (List ℕ) EntryFault) (packets : Result ℕ EntryFault) (a : Action) :
-    Type 0 where
-  at : List ℕ
-  count : ℕ
-  path_is : path ≡ Ok at
-  packets_is : packets ≡ Ok count
-  action_is : Ask (Receive at count) ≡ a
-
-receive_ok : (path : Result (List ℕ) EntryFault) (packets : Result ℕ EntryFault) (a : Action)
-    → action.receive path packets ≡ Ok a → ReceiveIs path packets a
-unfolding action.receive
-receive_ok path packets a h =
     let e0 = bind_good (least_fault _) _ a h in
-    let e1 = bind_good path _ a e0.rest in
-    let e2 = bind_good packets _ a e1.rest in
-    record {
-      at = e1.value;
-      count = e2.value;
-      path_is = e1.good;
-      packets_is = e2.good;
-      action_is = cc e2.rest;
-    }
+    let e1 = bind_good (read_path scene v.path) _ a e0.rest in
+    let e2 = bind_good (bytes_at v.bytes) _ a e1.rest in
+    let same : Ask (Send e1.value e2.value) ≡ a = cc e2.rest in
+    rw (← same) (read_path_ok scene v.path e1.value e1.good)
 
 receive_of_ok : (scene : SceneData) (v : EventValues) (a : Action) → receive_of scene v ≡ Ok a
     → FitsScene scene a
-unfolding receive_of
+unfolding receive_of action.receive
 receive_of_ok scene v a h =
-    let receive = receive_ok (read_path scene v.path) (packets_at v.packets) a h in
-    let few = le-leb receive.count 1000 (packets_at_ok v.packets receive.count receive.packets_is)
-    in
-    rw (← receive.action_is) (rw (read_path_ok scene v.path receive.at receive.path_is, few))
+    let e0 = bind_good (least_fault _) _ a h in
+    let e1 = bind_good (read_path scene v.path) _ a e0.rest in
+    let e2 = bind_good (packets_at v.packets) _ a e1.rest in
+    let same : Ask (Receive e1.value e2.value) ≡ a = cc e2.rest in
+    let few = le-leb e2.value 1000 (packets_at_ok v.packets e2.value e2.good) in
+    rw (← same) (rw (read_path_ok scene v.path e1.value e1.good, few))
 
 clear_of_ok : (scene : SceneData) (v : EventValues) (a : Action) → clear_of scene v ≡ Ok a
     → FitsScene scene a
@@ -489,27 +424,6 @@ action_of_ok verb.Receive scene v a h = receive_of_ok scene v a h
 action_of_ok verb.Clear scene v a h = clear_of_ok scene v a h
 action_of_ok _ scene v a h = subst (λ r. IfOk r (FitsScene scene)) h refl
 
-record EventIs (action : Result Action EntryFault) (after : Result ℕ EntryFault)
-    (room : Result (Unit {0}) EntryFault) (e : Event) : Type 0 where
-  action_is : action ≡ Ok e.action
-  after_is : after ≡ Ok e.after
-  room_is : room ≡ Ok tt
-
-event_with_ok : (action : Result Action EntryFault) (after : Result ℕ EntryFault)
-    (keys left : Result (Unit {0}) EntryFault) (e : Event) → event_with action after keys left
-    ≡ Ok e → EventIs action after left e
-unfolding event_with
-event_with_ok action after keys left e h =
-    let e0 = bind_good (least_fault _) _ e h in
-    let e1 = bind_good after _ e e0.rest in
-    let e2 = bind_good action _ e e1.rest in
-    let left_good = good_part _ e0.value 3 left e0.good refl in
-    record {
-      action_is = e2.good ∙ (let same : e2.value ≡ e.action = cc e2.rest in ap Ok same);
-      after_is = e1.good ∙ (let same : e1.value ≡ e.after = cc e2.rest in ap Ok same);
-      room_is = left_good.1;
-    }
-
 -- the event may come where so much is plugged, and there is room for it
 pub record EventFits (scene : SceneData) (count : ℕ) (e : Event) : Type 0 where
   pub room : count < 10000
@@ -517,16 +431,22 @@ pub record EventFits (scene : SceneData) (count : ℕ) (e : Event) : Type 0 wher
 
 event_of_ok : (v : Verb) (scene : SceneData) (count : ℕ) (ms : Members) (e : Event)
     → event_of v scene count ms ≡ Ok e → EventFits scene count e
-unfolding event_of
+unfolding event_of event_with
 event_of_ok v scene count ms e h =
-    let is = event_with_ok (action_of v scene (event_values ms))
-    (after_at (get_member (codes "after") ms)) (keys_of (other_keys v) ms) (event_room count) e
-    h in
+    let e0 = bind_good (least_fault _) _ e h in
+    let e1 = bind_good (after_at (get_member (codes "after") ms)) _ e e0.rest in
+    let e2 = bind_good (action_of v scene (event_values ms)) _ e e1.rest in
+    let left = good_part _ e0.value 3 (event_room count) e0.good refl in
+    let same_after : e1.value ≡ e.after = cc e2.rest in
+    let same_action : e2.value ≡ e.action = cc e2.rest in
     let after = le-leb e.after 1000000000 (after_at_ok (get_member (codes "after") ms) e.after
-    is.after_is) in
+    (e1.good ∙ ap Ok same_after)) in
     record {
-      room = event_room_ok count tt is.room_is;
-      fits = rw (after, action_of_ok v scene (event_values ms) e.action is.action_is);
+      room = event_room_ok count left.0 left.1;
+      fits = rw (
+        after,
+        action_of_ok v scene (event_values ms) e.action (e2.good ∙ ap Ok same_action),
+      );
     }
 
 pub event_in_ok : (scene : SceneData) (count : ℕ) (o : Option Members) (e : Event)
@@ -575,30 +495,6 @@ damage_room_ok : (count : ℕ) (u : Unit {0}) → damage.damage_room count ≡ O
 unfolding damage.damage_room
 damage_room_ok count u h = ltb-true count 10000 (ok_if (nat_lt count 10000) (Ok tt) BadValue u h).0
 
-record DamageIs (attempt packet : Result ℕ EntryFault) (harm : Result Harm EntryFault)
-    (room : Result (Unit {0}) EntryFault) (d : Damage) : Type 0 where
-  attempt_is : attempt ≡ Ok d.attempt
-  packet_is : packet ≡ Ok d.packet
-  harm_is : harm ≡ Ok d.harm
-  room_is : room ≡ Ok tt
-
-damage_with_ok : (attempt packet : Result ℕ EntryFault) (harm : Result Harm EntryFault)
-    (keys left : Result (Unit {0}) EntryFault) (d : Damage)
-    → damage_with attempt packet harm keys left ≡ Ok d → DamageIs attempt packet harm left d
-unfolding damage_with
-damage_with_ok attempt packet harm keys left d h =
-    let e0 = bind_good (least_fault _) _ d h in
-    let e1 = bind_good attempt _ d e0.rest in
-    let e2 = bind_good packet _ d e1.rest in
-    let e3 = bind_good harm _ d e2.rest in
-    let left_good = good_part _ e0.value 4 left e0.good refl in
-    record {
-      attempt_is = e1.good ∙ (let same : e1.value ≡ d.attempt = cc e3.rest in ap Ok same);
-      packet_is = e2.good ∙ (let same : e2.value ≡ d.packet = cc e3.rest in ap Ok same);
-      harm_is = e3.good ∙ (let same : e3.value ≡ d.harm = cc e3.rest in ap Ok same);
-      room_is = left_good.1;
-    }
-
 -- the damage may stand after that attempt, and there is room for it
 pub record Comes (last count : ℕ) (d : Damage) : Type 0 where
   pub room : count < 10000
@@ -607,15 +503,25 @@ pub record Comes (last count : ℕ) (d : Damage) : Type 0 where
 
 read_damage_ok : (last count : ℕ) (ms : Members) (d : Damage) → read_damage last count ms ≡ Ok d
     → Comes last count d
-unfolding read_damage
+unfolding read_damage damage_with
 read_damage_ok last count ms d h =
-    let is = damage_with_ok _ _ _ _ (damage.damage_room count) d h in
-    let attempt = attempt_at_ok last (get_member (codes "attempt") ms) d.attempt is.attempt_is in
-    let packet = packet_number_ok (get_member (codes "packet") ms) d.packet is.packet_is in
+    let how = harm_by (way_at (get_member (codes "how") ms)) (get_member (codes "bit") ms) in
+    let e0 = bind_good (least_fault _) _ d h in
+    let e1 = bind_good (attempt_at last (get_member (codes "attempt") ms)) _ d e0.rest in
+    let e2 = bind_good (packet_number (get_member (codes "packet") ms)) _ d e1.rest in
+    let e3 = bind_good how _ d e2.rest in
+    let left = good_part _ e0.value 4 (damage.damage_room count) e0.good refl in
+    let same_attempt : e1.value ≡ d.attempt = cc e3.rest in
+    let same_packet : e2.value ≡ d.packet = cc e3.rest in
+    let same_harm : e3.value ≡ d.harm = cc e3.rest in
+    let attempt = attempt_at_ok last (get_member (codes "attempt") ms) d.attempt
+    (e1.good ∙ ap Ok same_attempt) in
+    let packet = packet_number_ok (get_member (codes "packet") ms) d.packet
+    (e2.good ∙ ap Ok same_packet) in
     let harm = harm_by_ok (way_at (get_member (codes "how") ms)) (get_member (codes "bit") ms)
-    d.harm is.harm_is in
+    d.harm (e3.good ∙ ap Ok same_harm) in
     record {
-      room = damage_room_ok count tt is.room_is;
+      room = damage_room_ok count left.0 left.1;
       fits = rw (
         lt-ltb last d.attempt attempt.0,
         le-leb 1 d.packet packet.0,
@@ -639,26 +545,18 @@ roots_at_ok : (o : Option Data) (n : ℕ) → roots_at o ≡ Ok n → (1 ≤ n) 
 unfolding roots_at
 roots_at_ok o n h = number_at_ok 1 7 o n h
 
-top_with_ok : (limit roots : Result ℕ EntryFault)
-    (devices events damages keys : Result (Unit {0}) EntryFault) (top : Top)
-    → top_with limit roots devices events damages keys ≡ Ok top → (limit ≡ Ok top.limit)
-    × (roots ≡ Ok top.roots)
-unfolding top_with
-top_with_ok limit roots devices events damages keys top h =
+pub top_of_ok : (ms : Members) (top : Top) → top_of ms ≡ Ok top → TopFits top
+unfolding top_of top_with
+top_of_ok ms top h =
     let e0 = bind_good (least_fault _) _ top h in
-    let e1 = bind_good limit _ top e0.rest in
-    let e2 = bind_good roots _ top e1.rest in
+    let e1 = bind_good (limit_at (get_member (codes "limit") ms)) _ top e0.rest in
+    let e2 = bind_good (roots_at (get_member (codes "roots") ms)) _ top e1.rest in
     let same_limit : e1.value ≡ top.limit = cc e2.rest in
     let same_roots : e2.value ≡ top.roots = cc e2.rest in
-    (e1.good ∙ ap Ok same_limit, e2.good ∙ ap Ok same_roots)
-
-pub top_of_ok : (ms : Members) (top : Top) → top_of ms ≡ Ok top → TopFits top
-unfolding top_of
-top_of_ok ms top h =
-    let is = top_with_ok _ _ _ _ _ _ top h in
-    let roots = roots_at_ok (get_member (codes "roots") ms) top.roots is.1 in
+    let roots = roots_at_ok (get_member (codes "roots") ms) top.roots (e2.good
+    ∙ ap Ok same_roots) in
     record {
-      limit = limit_at_ok (get_member (codes "limit") ms) top.limit is.0;
+      limit = limit_at_ok (get_member (codes "limit") ms) top.limit (e1.good ∙ ap Ok same_limit);
       some_root = roots.0;
       few_roots = roots.1;
     }

@@ -1,6 +1,7 @@
 -- How events come, and what an attempt makes of the world.
-use Rattle.std.proofs.Common.{◌≡◌, ℕ, ◌+◌, List, [], ◌∷◌, ◌++◌, length, true, false, ◌||◌, Option}
-use Rattle.std.proofs.Common.{Some, None, Result, Ok, Err, IfErr, OnErr, ◌≢◌, refl, sym, ap, ap₂}
+use Rattle.std.proofs.Common.{◌≡◌, ℕ, ◌+◌, List, [], ◌∷◌, ◌++◌, length, Bool, true, false, ◌||◌}
+use Rattle.std.proofs.Common.{Option}
+use Rattle.std.proofs.Common.{Some, None, Result, Ok, Err, refl, sym, ap, ap₂}
 use Rattle.std.proofs.Common.{◌∙◌, subst, arith, get_or, append_assoc, append-nil, zero, suc, take}
 use Rattle.std.proofs.Common.{drop, flat_map, ◌-◌, ◌≤◌, ◌==◌, IsErrAnd}
 use Rattle.std.specs.Io.KnownBytes.{Appends}
@@ -8,59 +9,58 @@ use Rattle.std.specs.Option.{option_to_list}
 use Rattle.std.proofs.KnownBytes.{Appends-trans, Appends-nil}
 use Rattle.usb_device.specs.{Ports, held_addresses, repeats}
 use Rattle.usb_world.specs.{Event, BusFault, LimitReached, Memory, TraceFailed, Exchange, Attempt}
-use Rattle.usb_world.specs.{exchange_in, ports_in, counted, after_clearing, World, Coming}
-use Rattle.usb_world.specs.{next_came, after_change, is_due, has_due, after_event}
-use Rattle.usb_world.specs.{after_first_event, after_due_events, at_attempt, damage_in, made_in}
-use Rattle.usb_world.specs.{with_attempt, outcome_made, outcome_in, ask_of}
+use Rattle.usb_world.specs.{Damage, exchange_in, ports_in, counted, after_clearing, World, Coming}
+use Rattle.usb_world.specs.{AttemptsWithin, nothing_yet, next_came, after_change, is_due, has_due}
+use Rattle.usb_world.specs.{after_event, after_first_event, after_due_events, at_attempt, damage_in}
+use Rattle.usb_world.specs.{made_in, with_attempt, outcome_made, outcome_in, ask_of}
+use Rattle.usb_world.specs.declared.losses.Losses.{Losses}
 use Rattle.usb_world.specs.declared.event.Ask.{Ask}
 use Rattle.usb_bus.specs.{action_line, next_due, lines_between, made_line, step_lines, AppendsFront}
 use Rattle.usb_bus.specs.{WritesText, attempt_line}
+use Rattle.usb_sim.specs.{EventsCame, OneEventCame}
 use Rattle.usb_bus.proofs.Interface.{appends_front, front_after_first}
 use Rattle.std.proofs.lemmas.Bool.{eq-eqb}
-use Rattle.usb_world.proofs.Interface.{first_fault}
+use Rattle.usb_world.proofs.Interface.{first_fault, spends_none, spends_then}
 use Rattle.usb_tree.proofs.Interface.{if-false, if-true, unequal}
 
 -- the next event came
-pub took_first-arrival : (w : World) (e : Event) (events left : List Event) (roots : Ports)
-    → w.left ≡ e ∷ events → left ≡ events → roots ≡ after_change e.action w.devices w.roots
-    → record w { roots = roots; left = left; taken = w.taken + 1; attempts_then = w.attempts }
+took_first-arrival : (w : World) (e : Event) (rest : List Event) (roots : Ports) → w.left ≡ e ∷ rest
+    → roots ≡ after_change e.action w.devices w.roots
+    → record w { roots = roots; left = rest; taken = w.taken + 1; attempts_then = w.attempts }
     ≡ after_first_event w.left w
 unfolding after_event
-took_first-arrival w e events left roots split rest h =
-    let made : Ports → List Event → World
-    = λ r l. record w { roots = r; left = l; taken = w.taken + 1; attempts_then = w.attempts } in
-    rw split (ap₂ made h rest)
+took_first-arrival w e rest roots split h =
+    let made : Ports → World
+    = λ r. record w { roots = r; left = rest; taken = w.taken + 1; attempts_then = w.attempts } in
+    rw split (ap made h)
 
 -- the same with a fault
-pub came_faulted : (w : World) (e : Event) (events left : List Event) (roots : Ports)
-    (f : Option BusFault) → w.left ≡ e ∷ events → left ≡ events
-    → roots ≡ after_change e.action w.devices w.roots
+pub came_faulted : (w : World) (e : Event) (rest : List Event) (roots : Ports)
+    (f : Option BusFault) → w.left ≡ e ∷ rest → roots ≡ after_change e.action w.devices w.roots
     → record w {
       roots = roots;
-      left = left;
+      left = rest;
       taken = w.taken + 1;
       attempts_then = w.attempts;
       fault = f;
     } ≡ record (after_first_event w.left w) { fault = f }
-came_faulted w e events left roots f split rest h =
+came_faulted w e rest roots f split h =
     let faulted : World → World = λ x. record x { fault = f } in
-    ap faulted (took_first-arrival w e events left roots split rest h)
+    ap faulted (took_first-arrival w e rest roots split h)
 
-pub came_sound : (w : World) (e : Event) (events left : List Event) (roots : Ports) → w.fault ≡ None
-    → w.left ≡ e ∷ events → left ≡ events
-    → roots ≡ after_change e.action w.devices w.roots
+pub came_sound : (w : World) (e : Event) (rest : List Event) (roots : Ports) → w.fault ≡ None
+    → w.left ≡ e ∷ rest → roots ≡ after_change e.action w.devices w.roots
     → record w {
       roots = roots;
-      left = left;
+      left = rest;
       taken = w.taken + 1;
       attempts_then = w.attempts;
       fault = None;
     } ≡ after_first_event w.left w
-came_sound w e events left roots sound split rest h =
+came_sound w e rest roots sound split h =
     let faulted : Option BusFault → World =
     λ o. record (after_first_event w.left w) { fault = o } in
-    came_faulted w e events left roots None split rest h
-    ∙ ap faulted (sym (first_fault w.left w ∙ sound))
+    came_faulted w e rest roots None split h ∙ ap faulted (sym (first_fault w.left w ∙ sound))
 
 pub due_next : (w : World) (e : Event) (events : List Event) → w.left ≡ e ∷ events
     → Some (ask_of e.action) ≡ next_due w
@@ -158,19 +158,19 @@ more_lines first w v e events so split one =
     ∙ ap (λ n. n - first.taken) (sym one))
 
 -- only how many events came is told
-pub lines_same : (w u v : World) → v.taken ≡ u.taken → lines_between w u ≡ lines_between w v
+lines_same : (w u v : World) → v.taken ≡ u.taken → lines_between w u ≡ lines_between w v
 unfolding lines_between
 lines_same w u v e = ap (λ n. flat_map (λ x. action_line x.action w.devices)
     (take (n - w.taken) w.left)) (sym e)
 
 -- the line of one event
-pub one_line : (w v : World) (e : Event) (events : List Event) → w.left ≡ e ∷ events
+one_line : (w v : World) (e : Event) (events : List Event) → w.left ≡ e ∷ events
     → v.taken ≡ w.taken + 1 → action_line e.action w.devices ≡ lines_between w v
 one_line w v e events split one = ap (λ l. l ++ action_line e.action w.devices) (no_lines w w refl)
     ∙ more_lines w w v e events (later_none w) split one
 
 -- the lines of one event more are those of all
-pub lines_on : (first w v : World) (e : Event) (events : List Event) → Later first w
+lines_on : (first w v : World) (e : Event) (events : List Event) → Later first w
     → w.left ≡ e ∷ events → v.taken ≡ w.taken + 1 → lines_between first w ++ lines_between w v
     ≡ lines_between first v
 lines_on first w v e events so split one =
@@ -185,19 +185,25 @@ next_at : (w : World) (left : List Event) → w.left ≡ left
 next_at w [] e h = cc h
 next_at w (x ∷ events) e h = (x, events, e)
 
-pub next_due_event : (w : World) → has_due w ≡ true → (e : Event) × (events : List Event)
+next_due_event : (w : World) → has_due w ≡ true → (e : Event) × (events : List Event)
     × (w.left ≡ e ∷ events)
 unfolding has_due
 next_due_event w h = next_at w w.left refl h
 
 -- what has come so far of what was due at first
 pub record DueSoFar (first now : World) (had has : Option (List ℕ)) : Type 0 where
+  pub spends : AttemptsWithin 0 first now
+  pub sound : now.fault ≡ None
+  pub coming : Coming first now
   pub after : after_due_events first.left first ≡ after_due_events now.left now
   pub later : Later first now
   pub written : Appends had has (lines_between first now)
 
-pub due_begins : (w : World) (had : Option (List ℕ)) → DueSoFar w w had had
-due_begins w had = record {
+pub due_begins : (w : World) (had : Option (List ℕ)) → w.fault ≡ None → DueSoFar w w had had
+due_begins w had sound = record {
+  spends = spends_none w;
+  sound = sound;
+  coming = nothing_yet w;
   after = refl;
   later = later_none w;
   written = subst (Appends had had) (no_lines w w refl) (Appends-nil had);
@@ -211,43 +217,42 @@ took_is w v e events split is =
     let same = is ∙ ap (λ l. after_first_event l w) split in
     (ap (λ x. x.taken) same, ap (λ x. x.left) same, ap (λ x. x.devices) same)
 
-pub due_goes_on : (first w v : World) (had has now : Option (List ℕ)) → DueSoFar first w had has
-    → has_due w ≡ true → v ≡ after_first_event w.left w → Appends has now (lines_between w v)
+came_next : (first w v : World) → Coming first w → has_due w ≡ true
+    → v ≡ after_first_event w.left w → Coming first v
+came_next first w v c h e = subst (Coming first) (sym e) (next_came c h)
+
+pub due_goes_on : (first w v : World) (had has now : Option (List ℕ)) (due : Option (Option Ask))
+    → DueSoFar first w had has → has_due w ≡ true → OneEventCame w has (Ok due) v now
     → DueSoFar first v had now
-due_goes_on first w v had has now d h is line =
+due_goes_on first w v had has now due d h came =
     let (e, events, split) = next_due_event w h in
-    let t = took_is w v e events split is in
+    let t = took_is w v e events split came.exact in
     record {
-      after = d.after ∙ due_step w h ∙ ap (λ x. after_due_events x.left x) (sym is);
+      spends = spends_then 0 0 first w v d.spends came.spends;
+      sound = came.told;
+      coming = came_next first w v d.coming h came.exact;
+      after = d.after ∙ due_step w h ∙ ap (λ x. after_due_events x.left x) (sym came.exact);
       later = later_next first w v e events d.later split t.0 t.1 t.2;
       written = subst (Appends had now) (lines_on first w v e events d.later split t.0)
-          (Appends-trans had has now _ _ d.written line);
+          (Appends-trans had has now _ _ d.written came.text);
     }
 
 -- the same fault, told by another call
-pub writes_told : {A B : Type 0} (r : Result A BusFault) (q : Result B BusFault)
-    (a b : Option (List ℕ)) (text : List ℕ) → (f : BusFault) → r ≡ Err f → IsErrAnd q (λ x. x ≡ f)
-    → WritesText r a b text → WritesText q a b text
-writes_told r (Ok x) a b text f e is w = absurd is
-writes_told (Ok y) (Err x) a b text f e is w = cc e
-writes_told (Err LimitReached) (Err LimitReached) a b text f e is w = w
-writes_told (Err Memory) (Err Memory) a b text f e is w = w
-writes_told (Err TraceFailed) (Err TraceFailed) a b text f e is w = w
-writes_told (Err LimitReached) (Err Memory) a b text f e is w = cc (e, is)
-writes_told (Err LimitReached) (Err TraceFailed) a b text f e is w = cc (e, is)
-writes_told (Err Memory) (Err LimitReached) a b text f e is w = cc (e, is)
-writes_told (Err Memory) (Err TraceFailed) a b text f e is w = cc (e, is)
-writes_told (Err TraceFailed) (Err LimitReached) a b text f e is w = cc (e, is)
-writes_told (Err TraceFailed) (Err Memory) a b text f e is w = cc (e, is)
+err_is : {A : Type 0} (q : Result A BusFault) (f : BusFault) → IsErrAnd q (λ x. x ≡ f) → q ≡ Err f
+err_is (Ok x) f is = absurd is
+err_is (Err x) f is = ap Err is
+
+pub writes_told : {A : Type 0} (f : BusFault) (q : Result A BusFault) (a b : Option (List ℕ))
+    (text : List ℕ) → IsErrAnd q (λ x. x ≡ f) → WritesText {A = A} (Err f) a b text
+    → WritesText q a b text
+writes_told f q a b text is w = subst (λ r. WritesText r a b text) (sym (err_is q f is)) w
 
 -- where no event came nothing is written
 pub writes_none : {A : Type 0} (r : Result A BusFault) (w v : World) (t : Option (List ℕ))
     → v.taken ≡ w.taken → WritesText r t t (lines_between w v)
-writes_none (Ok x) w v t e = subst (Appends t t) (no_lines w v e) (Appends-nil t)
-writes_none (Err LimitReached) w v t e = subst (Appends t t) (no_lines w v e) (Appends-nil t)
-writes_none (Err Memory) w v t e = subst (Appends t t) (no_lines w v e) (Appends-nil t)
 writes_none (Err TraceFailed) w v t e = appends_front t t [] (lines_between w v) (lines_between w v)
     refl (Appends-nil t)
+writes_none _ w v t e = subst (Appends t t) (no_lines w v e) (Appends-nil t)
 
 -- one event came: its line, or a front of it
 pub appends_event : (w v : World) (e : Event) (events : List Event) (t s : Option (List ℕ))
@@ -255,53 +260,24 @@ pub appends_event : (w v : World) (e : Event) (events : List Event) (t s : Optio
     → Appends t s (lines_between w v)
 appends_event w v e events t s split one h = subst (Appends t s) (one_line w v e events split one) h
 
+pub writes_line : {A : Type 0} (r : Result A BusFault) (t s : Option (List ℕ)) (text : List ℕ)
+    → IsErrAnd r (λ x. x ≡ TraceFailed) → AppendsFront t s text → WritesText r t s text
+writes_line (Ok x) t s text is h = absurd is
+writes_line (Err TraceFailed) t s text is h = h
+writes_line (Err f) t s text is h = cc is
+
 pub writes_event : {A : Type 0} (r : Result A BusFault) (w v : World) (e : Event)
     (events : List Event) (t s : Option (List ℕ)) → w.left ≡ e ∷ events → v.taken ≡ w.taken + 1
     → IsErrAnd r (λ x. x ≡ TraceFailed)
     → AppendsFront t s (action_line e.action w.devices) → WritesText r t s (lines_between w v)
-writes_event (Ok x) w v e events t s split one is h = absurd is
-writes_event (Err LimitReached) w v e events t s split one is h = cc is
-writes_event (Err Memory) w v e events t s split one is h = cc is
-writes_event (Err TraceFailed) w v e events t s split one is h =
-    subst (AppendsFront t s) (one_line w v e events split one) h
-
-pub writes_line : {A : Type 0} (r : Result A BusFault) (t s : Option (List ℕ)) (text : List ℕ)
-    → IsErrAnd r (λ x. x ≡ TraceFailed) → AppendsFront t s text → WritesText r t s text
-writes_line (Ok x) t s text is h = absurd is
-writes_line (Err LimitReached) t s text is h = cc is
-writes_line (Err Memory) t s text is h = cc is
-writes_line (Err TraceFailed) t s text is h = h
+writes_event r w v e events t s split one is h = writes_line r t s (lines_between w v) is
+    (subst (AppendsFront t s) (one_line w v e events split one) h)
 
 pub writes_memory : {A : Type 0} (r : Result A BusFault) (t s : Option (List ℕ)) (text : List ℕ)
     → IsErrAnd r (λ x. x ≡ Memory) → Appends t s text → WritesText r t s text
 writes_memory (Ok x) t s text is h = absurd is
-writes_memory (Err LimitReached) t s text is h = h
-writes_memory (Err Memory) t s text is h = h
 writes_memory (Err TraceFailed) t s text is h = cc is
-
--- an event that was due did not come whole
-pub due_cut : (r : Result (Option (Option Ask)) BusFault) (f : BusFault) (first w v : World)
-    (had has now : Option (List ℕ)) → r ≡ Err f → DueSoFar first w had has → has_due w ≡ true
-    → IfErr r (λ x. x ≢ LimitReached) → (r ≡ Err Memory → v ≡ record w { fault = Some Memory })
-    → (r ≡ Err TraceFailed → v ≡ record (after_first_event w.left w) { fault = Some TraceFailed })
-    → WritesText r has now (lines_between w v) → WritesText r had now (lines_between first v)
-due_cut (Ok x) f first w v had has now is d h other kept cut text = cc is
-due_cut (Err LimitReached) f first w v had has now is d h other kept cut text = absurd (other refl)
-due_cut (Err Memory) f first w v had has now is d h other kept cut text =
-    let same : v.taken ≡ w.taken = ap (λ (x : World). x.taken) (kept refl) in
-    subst (Appends had now) (append-nil (lines_between first w) ∙ lines_same first w v same)
-    (Appends-trans had has now (lines_between first w) [] d.written
-    (subst (Appends has now) (sym (no_lines w v same)) text))
-due_cut (Err TraceFailed) f first w v had has now is d h other kept cut text =
-    let (e, events, split) = next_due_event w h in
-    let one : v.taken ≡ w.taken + 1 = ap (λ (x : World). x.taken) (cut refl)
-    ∙ (took_is w (after_first_event w.left w) e events split refl).0 in
-    subst (AppendsFront had now) (lines_on first w v e events d.later split one)
-    (front_after_first had has now _ _ d.written text)
-
-pub came_next : (first w v : World) → Coming first w → has_due w ≡ true
-    → v ≡ after_first_event w.left w → Coming first v
-came_next first w v c h e = subst (Coming first) (sym e) (next_came c h)
+writes_memory (Err f) t s text is h = h
 
 unfaulted : (w v : World) (f : BusFault) → w.fault ≡ None → v ≡ record w { fault = Some f }
     → record v { fault = None } ≡ w
@@ -309,25 +285,46 @@ unfaulted w v f sound e =
     let faulted : Option BusFault → World → World = λ o x. record x { fault = o } in
     ap (faulted None) e ∙ ap (λ o. faulted o w) (sym sound)
 
--- an event that was cut came, or it did not
-pub coming_cut : (r : Result (Option (Option Ask)) BusFault) (f : BusFault) (first w v : World)
-    → r ≡ Err f → Coming first w → has_due w ≡ true → w.fault ≡ None
-    → IfErr r (λ x. x ≢ LimitReached)
-    → (r ≡ Err Memory → v ≡ record w { fault = Some Memory })
-    → (r ≡ Err TraceFailed → v ≡ record (after_first_event w.left w) { fault = Some TraceFailed })
-    → Coming first (record v { fault = None })
-coming_cut (Ok x) f first w v is c h sound other kept cut = cc is
-coming_cut (Err LimitReached) f first w v is c h sound other kept cut = absurd (other refl)
-coming_cut (Err Memory) f first w v is c h sound other kept cut =
-    subst (Coming first) (sym (unfaulted w v Memory sound (kept refl))) c
-coming_cut (Err TraceFailed) f first w v is c h sound other kept cut =
-    came_next first w (record v { fault = None }) c h
-    (unfaulted (after_first_event w.left w) v TraceFailed (first_fault w.left w ∙ sound)
-    (cut refl))
+-- an event that was due did not come whole
+cut_by : {A : Type 0} (f : BusFault) (first w v : World) (had has now : Option (List ℕ))
+    → DueSoFar first w had has → has_due w ≡ true → OneEventCame w has (Err f) v now
+    → EventsCame {A = A} first had (Err f) v now
+cut_by LimitReached first w v had has now d h came = absurd (came.other refl)
+cut_by Memory first w v had has now d h came =
+    let same : v.taken ≡ w.taken = ap (λ (x : World). x.taken) (came.kept refl) in
+    record {
+      spends = spends_then 0 0 first w v d.spends came.spends;
+      told = came.told;
+      exact = tt;
+      cut = subst (Coming first) (sym (unfaulted w v Memory d.sound (came.kept refl))) d.coming;
+      other = came.other;
+      text = subst (Appends had now) (append-nil (lines_between first w)
+          ∙ lines_same first w v same)
+          (Appends-trans had has now (lines_between first w) [] d.written
+          (subst (Appends has now) (sym (no_lines w v same)) came.text));
+    }
+cut_by TraceFailed first w v had has now d h came =
+    let (e, events, split) = next_due_event w h in
+    let one : v.taken ≡ w.taken + 1 = ap (λ (x : World). x.taken) (came.cut refl)
+    ∙ (took_is w (after_first_event w.left w) e events split refl).0 in
+    record {
+      spends = spends_then 0 0 first w v d.spends came.spends;
+      told = came.told;
+      exact = tt;
+      cut = came_next first w (record v { fault = None }) d.coming h
+          (unfaulted (after_first_event w.left w) v TraceFailed
+          (first_fault w.left w ∙ d.sound) (came.cut refl));
+      other = came.other;
+      text = subst (AppendsFront had now) (lines_on first w v e events d.later split one)
+          (front_after_first had has now _ _ d.written came.text);
+    }
 
-pub on_err_holds : {A E : Type 0} {P : Type 0} (r : Result A E) → P → OnErr r P
-on_err_holds (Ok x) h = tt
-on_err_holds (Err x) h = h
+pub due_cut : {A : Type 0} (q : Result A BusFault) (f : BusFault) (first w v : World)
+    (had has now : Option (List ℕ)) → IsErrAnd q (λ x. x ≡ f) → DueSoFar first w had has
+    → has_due w ≡ true → OneEventCame w has (Err f) v now → EventsCame first had q v now
+due_cut q f first w v had has now is d h came =
+    subst (λ r. EventsCame first had r v now) (sym (err_is q f is))
+    (cut_by f first w v had has now d h came)
 
 pub due_ends : (first w : World) (had has : Option (List ℕ)) → DueSoFar first w had has
     → has_due w ≡ false → w ≡ at_attempt first
@@ -346,14 +343,25 @@ pub due_none : (w : World) → length w.left ≡ 0 → None ≡ next_due w
 unfolding next_due
 due_none w h = rw (length-no_events w.left h) refl
 
--- the first event leaves
-pub popped : (left rest : List Event) (o : Option Event) (e : Event)
-    → left ≡ option_to_list o ++ rest → o ≡ Some e → left ≡ e ∷ rest
-popped left rest o e h is = h ∙ ap (λ (x : Option Event). option_to_list x ++ rest) is
+-- the first event left, and what is done is what it does
+pub record FirstCame (w : World) (rest : List Event) (e : Event) (roots : Ports) : Type 0 where
+  pub split : w.left ≡ e ∷ rest
+  pub done : roots ≡ after_change e.action w.devices w.roots
+  pub fewer : length rest + 1 ≡ length w.left
 
-pub get_or-head : (left rest : List Event) (e f : Event) → left ≡ e ∷ rest → f ≡ get_or left 0 f
-    → f ≡ e
-get_or-head left rest e f split h = h ∙ ap (λ (l : List Event). get_or l 0 f) split
+pub first_came : (w : World) (rest : List Event) (o : Option Event) (e f : Event) (roots : Ports)
+    → w.left ≡ option_to_list o ++ rest → o ≡ Some e → f ≡ get_or w.left 0 f
+    → roots ≡ after_change f.action w.devices w.roots → FirstCame w rest e roots
+first_came w rest o e f roots items is at done =
+    let split : w.left ≡ e ∷ rest =
+    items ∙ ap (λ (x : Option Event). option_to_list x ++ rest) is in
+    let same : f ≡ e = at ∙ ap (λ (l : List Event). get_or l 0 f) split in
+    let size : length w.left ≡ suc (length rest) = ap length split in
+    record {
+      split = split;
+      done = done ∙ ap (λ (x : Event). after_change x.action w.devices w.roots) same;
+      fewer = omega (arith, size);
+    }
 
 -- the lines of a step in which no attempt was made, and of one in which one was made
 pub lines_alone : (a : Attempt) (w v : World) → v.attempts ≡ w.attempts
@@ -368,7 +376,7 @@ pub writes_alone : {A : Type 0} (r : Result A BusFault) (a : Attempt) (w v : Wor
     → WritesText r t s (step_lines a w v)
 writes_alone r a w v t s e h = subst (WritesText r t s) (lines_alone a w v e) h
 
-pub lines_made : (a : Attempt) (w mid v : World) (n : ℕ) (x : Exchange) → mid ≡ at_attempt w
+lines_made : (a : Attempt) (w mid v : World) (n : ℕ) (x : Exchange) → mid ≡ at_attempt w
     → n ≡ mid.attempts + 1 → mid.attempts ≡ w.attempts → v.attempts ≡ w.attempts + 1
     → v.taken ≡ mid.taken
     → x ≡ made_in a mid → lines_between w mid ++ (attempt_line n a.pre x ++ 10 ∷ [])
@@ -383,7 +391,7 @@ lines_made a w mid v n x em en same one taken ex =
     (unequal v.attempts w.attempts (λ e. absurd (omega (arith, e, one))))))
 
 -- the attempt is made where the due events came
-pub made_in-attempt : (a : Attempt) (w mid : World) (x : Exchange) (roots : Ports)
+made_in-attempt : (a : Attempt) (w mid : World) (x : Exchange) (roots : Ports)
     → mid ≡ at_attempt w → x ≡ made_in a mid → roots ≡ ports_in a (damage_in mid) mid.roots
     → record mid {
       roots = roots;
@@ -402,8 +410,48 @@ made_in-attempt a w mid x roots em ex er =
     } in
     ap₂ made ex er ∙ ap (λ (v : World). with_attempt a v) em
 
-pub outcome_made_in : (a : Attempt) (w mid : World) (x : Exchange) → mid ≡ at_attempt w
+outcome_made_in : (a : Attempt) (w mid : World) (x : Exchange) → mid ≡ at_attempt w
     → x ≡ made_in a mid → outcome_made a x ≡ outcome_in a w
 unfolding outcome_in exchange_in
 outcome_made_in a w mid x em ex = ap (λ (y : Exchange). outcome_made a y) (ex
     ∙ ap (λ (v : World). made_in a v) em)
+
+-- what the attempt makes behind the due events
+pub record MadeThere (a : Attempt) (w mid v : World) (n : ℕ) (x : Exchange) : Type 0 where
+  pub exact : v ≡ with_attempt a (at_attempt w)
+  pub outcome : outcome_made a x ≡ outcome_in a w
+  pub lines : lines_between w mid ++ (attempt_line n a.pre x ++ 10 ∷ [])
+      ≡ step_lines a w (record mid { attempts = n })
+
+pub made_there : (a : Attempt) (w mid : World) (d : Option Damage) (x : Exchange) (roots : Ports)
+    (losses : Losses) (shared : Bool) → mid ≡ at_attempt w → mid.fault ≡ None
+    → mid.attempts ≡ w.attempts → d ≡ damage_in mid → x ≡ exchange_in a d mid.roots
+    → roots ≡ ports_in a d mid.roots
+    → losses ≡ counted x.address_lost (after_clearing x.change_cleared mid.losses)
+    → shared ≡ repeats (held_addresses mid.roots)
+    → MadeThere a w mid (record mid {
+      roots = roots;
+      attempts = mid.attempts + 1;
+      losses = losses;
+      shared = mid.shared || shared;
+      fault = None;
+    }) (mid.attempts + 1) x
+made_there a w mid d x roots losses shared em sound same ed ex er el es =
+    let made : x ≡ made_in a mid = ex ∙ ap (λ (o : Option Damage). exchange_in a o mid.roots) ed in
+    let ports : roots ≡ ports_in a (damage_in mid) mid.roots =
+    er ∙ ap (λ (o : Option Damage). ports_in a o mid.roots) ed in
+    let world : Losses → Bool → Option BusFault → World = λ l s f. record mid {
+      roots = roots;
+      attempts = mid.attempts + 1;
+      losses = l;
+      shared = mid.shared || s;
+      fault = f;
+    } in
+    record {
+      exact = ap (world losses shared) (sym sound)
+          ∙ ap₂ (λ (l : Losses) (s : Bool). world l s mid.fault) el es
+          ∙ made_in-attempt a w mid x roots em made ports;
+      outcome = outcome_made_in a w mid x em made;
+      lines = lines_made a w mid (record mid { attempts = mid.attempts + 1 }) (mid.attempts + 1) x
+          em refl same (omega (arith, same)) refl made;
+    }

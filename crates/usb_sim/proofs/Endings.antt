@@ -102,20 +102,12 @@ pub fails_at : (r : Result Outcome BusFault) (a : Attempt) (w m : World) → m.f
     → IfErr r (λ x. Left a w x (record m { fault = None })) → AttemptFails a w r m
 fails_at (Ok o) a w m is below other left = tt
 fails_at (Err LimitReached) a w m is below other left = absurd (other refl)
-fails_at (Err Memory) a w m is below other left =
-    record {
-      below = below;
-      left = record m { fault = None };
-      so_far = left;
-      told = ap (λ x. record m { fault = x }) is;
-    }
-fails_at (Err TraceFailed) a w m is below other left =
-    record {
-      below = below;
-      left = record m { fault = None };
-      so_far = left;
-      told = ap (λ x. record m { fault = x }) is;
-    }
+fails_at (Err f) a w m is below other left = record {
+  below = below;
+  left = record m { fault = None };
+  so_far = left;
+  told = ap (λ x. record m { fault = x }) is;
+}
 
 -- What an attempt is, at each of its ends
 
@@ -241,10 +233,8 @@ event_ends (Err f) w v sound told none one other =
 -- the limit is told of no event, and of no attempt below it
 pub never_limit : {A : Type 0} (r : Result A BusFault) {P : Type 0}
     → IfErr r (λ x. x ≢ LimitReached) → r ≡ Err LimitReached → P
-never_limit (Ok x) other e = cc e
 never_limit (Err LimitReached) other e = absurd (other refl)
-never_limit (Err Memory) other e = cc e
-never_limit (Err TraceFailed) other e = cc e
+never_limit _ other e = cc e
 
 pub taken_takes : (r : Result (Option (Option Ask)) BusFault) (w v : World) (t s : Option (List ℕ))
     → w.fault ≡ None → OneEventCame w t r v s → TakesEvent w t r v s

@@ -17,7 +17,7 @@ use Rattle.usb_device.specs.declared.transfer.RememberedPacket.TheVariants as me
 use Rattle.usb_device.specs.Attempt.{whole}
 use Rattle.usb_device.proofs.Interface.{bulk_law_is, is_same-refl, other_toggle, other-other}
 use Rattle.usb_device.proofs.Interface.{same_number, source_on}
-use Rattle.usb_world.specs.{Attempt, Outcome, Relation, Was, EachWas, DidIn, DidOut, got, attempt}
+use Rattle.usb_world.specs.{Attempt, Outcome, Relation, EachWas, DidIn, DidOut, got, attempt}
 use Rattle.usb_world.specs.{after, outcome_in, damage_in, World, Made}
 use Rattle.usb_tree.specs.{IsSettled}
 use Rattle.usb_world.proofs.Interface.{remembers, settled_memory}
@@ -33,7 +33,7 @@ use Rattle.usb_transaction.proofs.DeviceRuns.{Any, EachIf, IsEnd, IsOfBus, RunTh
 use Rattle.usb_transaction.proofs.DeviceRuns.{delivered_out, at_end, each_device, heeded, in_others}
 use Rattle.usb_transaction.proofs.DeviceRuns.{listens_on, of_bus, out_others, over_in}
 use Rattle.usb_transaction.proofs.DeviceRuns.{over_in_trail, over_out, over_out_trail, spared}
-use Rattle.usb_transaction.proofs.DeviceRuns.{stays_away, stopped}
+use Rattle.usb_transaction.proofs.DeviceRuns.{stays_away, stopped, was_then}
 use Rattle.usb_transaction.proofs.Trails.{LostRun, as_transacted, damaged_more, lost_run_none}
 use Rattle.usb_transaction.proofs.Trails.{run_short}
 
@@ -605,14 +605,9 @@ each_rests : (R S : Relation) (old new : World) → IsSettled old.roots
     → ((j : Location) (s v : State) → forgotten s ≡ s → R j s v → S j s v) → EachIf Any R old new
     → EachWas S old new
 each_rests R S old new settled f x j v on there =
-    let was : Was R old j v = x j v on there tt in
-    record {
-      before = was.before;
-      on = was.on;
-      stands = was.stands;
-      so = f j was.before v (remembers was.before
-          (settled_memory old.roots j.row j.rest was.before settled was.stands)) was.so;
-    }
+    let was = x j v on there tt in
+    was_then was (f j was.before v (remembers was.before
+    (settled_memory old.roots j.row j.rest was.before settled was.stands)) was.so)
 
 -- whatever its answer is
 pub sink_leaves : (t : Target) (ep : ℕ) (toggle : Toggle) (bytes : List ℕ)

@@ -26,10 +26,10 @@ use Rattle.usb_transaction.specs.{SourceIn, SinkOut, ChangesIn, AskedLast, Setup
 use Rattle.usb_transaction.specs.{Took, IsUnheard, AttemptLog, start, next, waits_with, waits_in}
 use Rattle.usb_transaction.specs.{IsNoEnd, KeepsTrying, TransactionDone, Transacted, Waiting}
 use Rattle.usb_transaction.specs.{Polled, packed, setup_attempt, in_attempt, out_attempt, SetupEnds}
-use Rattle.usb_transaction.specs.{IsUnhindered, MeansOfSetup, SetsUp, InLeaves, InFailure}
+use Rattle.usb_transaction.specs.{MeansOfSetup, SetsUp, InLeaves, InFailure}
 use Rattle.usb_transaction.specs.{MeansOfIn, AsksIn, OutLeaves, OutFailure, MeansOfOut, SendsOut}
 use Rattle.usb_transaction.specs.{PollsIn, ControlInFailure, StatusReadFailure, SourceInFailure}
-use Rattle.usb_transaction.specs.{SinkOutFailure}
+use Rattle.usb_transaction.specs.{SinkOutFailure, Ends}
 use Rattle.usb_transaction.proofs.DeviceRuns.{Deeds, EachIf, Run, had_address, in_others, more}
 use Rattle.usb_transaction.proofs.DeviceRuns.{none, out_others, over_trail}
 use Rattle.usb_transaction.proofs.LastOutcomes.{read_last, sent_last, set_up_last, sent_empty}
@@ -430,29 +430,6 @@ brings_nothing hear a empty old new (Err fault) x = tt
 
 module _ (t : Target) (ep : ℕ) (awaited : Toggle) (old new : World) (settled : IsSettled old.roots)
   where
-    what_in : (result : Result (List ℕ) TransFault)
-        → Transacted (heard_as awaited) (in_attempt t ep) old result new → new.shared ≡ false
-        → EachWas (InLeaves t ep awaited result) old new
-    what_in result x single =
-        each_beside (SourceIn t ep awaited result) (ControlIn t awaited result)
-        (InLeaves t ep awaited result) (ep ≡ 0) (λ j s v b c. record { control = c; bulk = b })
-        old new (source_leaves t ep awaited result old new settled x single)
-        (λ z. control_leaves t awaited result old new settled
-        (subst (λ k. Transacted (heard_as awaited) (in_attempt t k) old result new) z x) single)
-
-    why_in : (result : Result (List ℕ) TransFault)
-        → Transacted (heard_as awaited) (in_attempt t ep) old result new
-        → IsUnhindered old result new
-        → EachWas (InFailure t ep awaited result) old new
-    why_in result x u =
-        let e = ended_of result x u.whole in
-        each_beside (SourceInFailure t ep awaited result) (ControlInFailure t awaited result)
-        (InFailure t ep awaited result) (ep ≡ 0) (λ j s v b c. record { control = c; bulk = b })
-        old new (source_why t ep awaited result old new settled u.few e u.single)
-        (λ z. control_in_why t awaited result old new settled u.few
-        (subst (λ k. TransactionDone (heard_as awaited) (in_attempt t k) old result new) z e)
-        u.single)
-
     who_in : (result : Result (List ℕ) TransFault)
         → Transacted (heard_as awaited) (in_attempt t ep) old result new
         → OnOk result (new.shared ≡ false → Answerer t old new)
@@ -466,18 +443,33 @@ module _ (t : Target) (ep : ℕ) (awaited : Toggle) (old new : World) (settled :
     means_in (Err Stalled) x = read_stalled t ep awaited old new settled x
     means_in result x = tt
 
-    pub asks_in : (result : Result (List ℕ) TransFault)
-        → Transacted (heard_as awaited) (in_attempt t ep) old result new
+    pub asks_in : {toggle : Toggle} → toggle ≡ awaited → (result : Result (List ℕ) TransFault)
+        → Transacted (heard_as toggle) (in_attempt t ep) old result new
         → IfOk result (λ bytes. length bytes ≤ t.max) → AsksIn t ep awaited old result new
-    asks_in result x short = record {
-      heard = x;
-      ends = ends_of (heard_as awaited) (in_attempt t ep) old new result x;
-      short = short;
-      what = what_in result x;
-      why = why_in result x;
-      who = who_in result x;
-      means = means_in result x;
-    }
+    asks_in same result heard short =
+        let x : Transacted (heard_as awaited) (in_attempt t ep) old result new = rw same at heard in
+        record {
+          heard = x;
+          ends = ends_of (heard_as awaited) (in_attempt t ep) old new result x;
+          short = short;
+          what = λ single. each_beside (SourceIn t ep awaited result) (ControlIn t awaited result)
+              (InLeaves t ep awaited result) (ep ≡ 0)
+                  (λ j s v b c. record { control = c; bulk = b })
+              old new (source_leaves t ep awaited result old new settled x single)
+              (λ z. control_leaves t awaited result old new settled
+              (subst (λ k. Transacted (heard_as awaited) (in_attempt t k) old result new) z x)
+                  single);
+          why = λ u. let e = ended_of result x u.whole in
+              each_beside (SourceInFailure t ep awaited result) (ControlInFailure t awaited result)
+              (InFailure t ep awaited result) (ep ≡ 0)
+                  (λ j s v b c. record { control = c; bulk = b })
+              old new (source_why t ep awaited result old new settled u.few e u.single)
+              (λ z. control_in_why t awaited result old new settled u.few
+              (subst (λ k. TransactionDone (heard_as awaited) (in_attempt t k) old result new) z e)
+              u.single);
+          who = who_in result x;
+          means = means_in result x;
+        }
 
 -- OUT
 
@@ -490,32 +482,7 @@ module _ (t : Target) (ep : ℕ) (toggle : Toggle) (bytes : List ℕ) (old new :
       → Transacted heard_when_sent (out_attempt t ep toggle bytes) old result new
       → EndsRead ep toggle bytes → Transacted heard_when_sent (out_attempt t 0 One []) old result
       new
-  status_out result x z =
-      subst (λ l. Transacted heard_when_sent (out_attempt t 0 One l) old result new) z.2
-      (subst (λ g. Transacted heard_when_sent (out_attempt t 0 g bytes) old result new) z.1
-      (subst (λ k. Transacted heard_when_sent (out_attempt t k toggle bytes) old result new)
-      z.0 x))
-
-  what_out : (result : Result (List ℕ) TransFault)
-      → Transacted heard_when_sent (out_attempt t ep toggle bytes) old result new
-      → new.shared ≡ false → EachWas (OutLeaves t ep toggle bytes result) old new
-  what_out result x single =
-      each_beside (SinkOut t ep toggle bytes result) (ReadStatus t result)
-      (OutLeaves t ep toggle bytes result) (EndsRead ep toggle bytes)
-      (λ j s v b c. record { control = λ f g h. c (f, g, h); bulk = b }) old new
-      (sink_leaves t ep toggle bytes result old new settled x single)
-      (λ z. status_leaves t result old new settled (status_out result x z) single)
-
-  why_out : (result : Result (List ℕ) TransFault)
-      → Transacted heard_when_sent (out_attempt t ep toggle bytes) old result new
-      → IsUnhindered old result new → EachWas (OutFailure t ep toggle bytes result) old new
-  why_out result x u =
-      each_beside (SinkOutFailure t ep toggle bytes result) (StatusReadFailure t result)
-      (OutFailure t ep toggle bytes result) (EndsRead ep toggle bytes)
-      (λ j s v b c. record { control = λ f g h. c (f, g, h); bulk = b }) old new
-      (sink_why t ep toggle bytes result old new settled u.few (ended_of result x u.whole) u.single)
-      (λ z. read_status_why t result old new settled u.few
-      (ended_of result (status_out result x z) u.whole) u.single)
+  status_out result x z = rw (z.0, z.1, z.2) at x
 
   who_out : (result : Result (List ℕ) TransFault)
       → Transacted heard_when_sent (out_attempt t ep toggle bytes) old result new
@@ -538,8 +505,18 @@ module _ (t : Target) (ep : ℕ) (toggle : Toggle) (bytes : List ℕ) (old new :
     ends = ends_of heard_when_sent (out_attempt t ep toggle bytes) old new result x;
     nothing = brings_nothing heard_when_sent (out_attempt t ep toggle bytes) sent_empty old new
         result x;
-    what = what_out result x;
-    why = why_out result x;
+    what = λ single. each_beside (SinkOut t ep toggle bytes result) (ReadStatus t result)
+        (OutLeaves t ep toggle bytes result) (EndsRead ep toggle bytes)
+        (λ j s v b c. record { control = λ f g h. c (f, g, h); bulk = b }) old new
+        (sink_leaves t ep toggle bytes result old new settled x single)
+        (λ z. status_leaves t result old new settled (status_out result x z) single);
+    why = λ u. each_beside (SinkOutFailure t ep toggle bytes result) (StatusReadFailure t result)
+        (OutFailure t ep toggle bytes result) (EndsRead ep toggle bytes)
+        (λ j s v b c. record { control = λ f g h. c (f, g, h); bulk = b }) old new
+        (sink_why t ep toggle bytes result old new settled u.few (ended_of result x u.whole)
+        u.single)
+        (λ z. read_status_why t result old new settled u.few
+        (ended_of result (status_out result x z) u.whole) u.single);
     who = who_out result x;
     means = means_out result x;
   }
@@ -563,11 +540,11 @@ module _ (t : Target) (bytes : List ℕ) (old new : World) (eight : length bytes
   means_setup result x = tt
 
   pub sets_up : (result : Result (List ℕ) TransFault)
-      → Transacted set_up_as (setup_attempt t bytes) old result new → SetupEnds old result new
-      → SetsUp t bytes old result new
+      → Transacted set_up_as (setup_attempt t bytes) old result new
+      → (Ends old result new → SetupEnds old result new) → SetsUp t bytes old result new
   sets_up result x ends = record {
     heard = x;
-    ends = ends;
+    ends = ends (ends_of set_up_as (setup_attempt t bytes) old new result x);
     nothing = brings_nothing set_up_as (setup_attempt t bytes) set_up_empty old new result x;
     what = setup_leaves t bytes result old new eight settled x;
     why = λ u. set_up_why t bytes result old new eight settled u.few (ended_of result x u.whole)
@@ -593,16 +570,18 @@ module _ (t : Target) (ep : ℕ) (toggle : Toggle) (old new : World) (least : 1 
   who_poll (Ok (Some bytes)) x = poll_answered t ep toggle bytes old new settled x
   who_poll (Err fault) x = tt
 
-  pub polls_in : (result : Result (Option (List ℕ)) TransFault)
-      → Polled toggle (in_attempt t ep) old result new
+  pub polls_in : {now : Toggle} → now ≡ toggle → (result : Result (Option (List ℕ)) TransFault)
+      → Polled now (in_attempt t ep) old result new
       → IfOk result (λ got. IfSome got (λ bytes. length bytes ≤ t.max))
       → PollsIn t ep toggle old result new
-  polls_in result x short = record {
-    heard = x;
-    ends = poll_ends toggle (in_attempt t ep) old new result x;
-    short = short;
-    what = what_poll result x;
-    why = λ one u. poll_why t toggle result old new least settled u.few
-        (subst (λ k. Polled toggle (in_attempt t k) old result new) one x) u.whole u.single;
-    who = who_poll result x;
-  }
+  polls_in same result heard short =
+      let x : Polled toggle (in_attempt t ep) old result new = rw same at heard in
+      record {
+        heard = x;
+        ends = poll_ends toggle (in_attempt t ep) old new result x;
+        short = short;
+        what = what_poll result x;
+        why = λ one u. poll_why t toggle result old new least settled u.few
+            (subst (λ k. Polled toggle (in_attempt t k) old result new) one x) u.whole u.single;
+        who = who_poll result x;
+      }

@@ -32,12 +32,12 @@ use Rattle.usb_transaction.specs.{StatusEnds, ControlIn, IsInRead, over, ReadSta
 use Rattle.usb_transaction.specs.Failures.{data_stage}
 use Rattle.std.proofs.lemmas.Bool.Decides.{nat_tests}
 use Rattle.arrayvec.specs.ArrayVec.{ArrayVec}
-use Rattle.usb_transaction.proofs.DeviceRuns.{IsEnd, IsOfBus, Run, RunThrough, as_whole, asked_in}
+use Rattle.usb_transaction.proofs.DeviceRuns.{IsEnd, Run, as_whole, asked_in}
 use Rattle.usb_transaction.proofs.DeviceRuns.{at_end, at_from, each_device, had_address, heeded}
 use Rattle.usb_transaction.proofs.DeviceRuns.{listens_on, mine, not_busy, of_bus, one_wait}
 use Rattle.usb_transaction.proofs.DeviceRuns.{others_stay_then, over_in, over_in_trail, positive}
 use Rattle.usb_transaction.proofs.DeviceRuns.{delivered_out, out_others, over_out, spared}
-use Rattle.usb_transaction.proofs.DeviceRuns.{stays_away}
+use Rattle.usb_transaction.proofs.DeviceRuns.{Through, stays_away, was_then}
 use Rattle.usb_transaction.proofs.LastOutcomes.{heard_taken, no_packet, packet_heard, packet_in}
 use Rattle.usb_transaction.proofs.LastOutcomes.{sent_last}
 use Rattle.usb_transaction.proofs.Trails.{LostRun, as_transacted, damaged_more, lost_run_none}
@@ -481,8 +481,8 @@ module _ (t : Target) (awaited : Toggle) (result : Result (List ℕ) TransFault)
         naks = x.naks;
       }
 
-  control_in : (old new : World) → RunThrough (DidIn (in_attempt t 0)) (in_attempt t 0)
-      (heard_as awaited) (IsEnd (heard_as awaited) result) (IsOfBus result) old new j s v
+  control_in : (old new : World)
+      → Through (DidIn (in_attempt t 0)) (in_attempt t 0) (heard_as awaited) result old new j s v
       → ControlIn t awaited result j s v
   unfolding waits_in
   control_in old new run =
@@ -717,8 +717,7 @@ module _ (t : Target) (awaited : Toggle) (old : World) (never : NoThreeDamaged o
 
   -- where it does not answer, or waits too long
   why : (result : Result (List ℕ) TransFault) (new : World) (v : State)
-      → RunThrough (DidIn a) a hear (IsEnd hear result) (IsOfBus result) old new j s v
-      → ControlInFailure t awaited result j s v
+      → Through (DidIn a) a hear result old new j s v → ControlInFailure t awaited result j s v
   why result new v run = record {
     answered = λ l h silent. heeded (λ u. Listens t j u × HasNext t awaited u) stays (l, h) never
         (λ w u y d i sound. (heeds_in w u y d i sound).0) (ending (Err NoAnswer) silent);
@@ -735,10 +734,9 @@ module _ (t : Target) (awaited : Toggle) (old : World) (never : NoThreeDamaged o
         (λ gave outcomes w i. gave tt) (ending (Err Busy) busy);
   }
     where
-      ending : (r : Result (List ℕ) TransFault) → result ≡ r
-          → RunThrough (DidIn a) a hear (IsEnd hear r) (IsOfBus r) old new j s v
-      ending r e = subst (λ y. RunThrough (DidIn a) a hear (IsEnd hear y) (IsOfBus y) old new j s v)
-          e run
+      ending : (r : Result (List ℕ) TransFault) → result ≡ r → Through (DidIn a) a hear r old new j
+          s v
+      ending r e = subst (λ y. Through (DidIn a) a hear y old new j s v) e run
 
 -- Each device
 
@@ -747,17 +745,10 @@ pub control_leaves : (t : Target) (awaited : Toggle) (result : Result (List ℕ)
     → Transacted (heard_as awaited) (in_attempt t 0) old result new → new.shared ≡ false
     → EachWas (ControlIn t awaited result) old new
 control_leaves t awaited result old new settled x single j v on there =
-    let was : Was (λ j s v. RunThrough (DidIn (in_attempt t 0)) (in_attempt t 0) (heard_as awaited)
-    (IsEnd (heard_as awaited) result) (IsOfBus result) old new j s v) old j v =
-    over_in t 0 old new settled single (heard_as awaited) result x j v on there tt in
-    record {
-      before = was.before;
-      on = was.on;
-      stands = was.stands;
-      so = control_in t awaited result j was.before v
-          (λ at e. stalled (subst (λ r. Transacted (heard_as awaited) (in_attempt t 0) old r new) e
-          x) was.before was.stands at) old new was.so;
-    }
+    let was = over_in t 0 old new settled single (heard_as awaited) result x j v on there tt in
+    was_then was (control_in t awaited result j was.before v
+    (λ at e. stalled (subst (λ r. Transacted (heard_as awaited) (in_attempt t 0) old r new) e x)
+    was.before was.stands at) old new was.so)
   where
     stalled : TransactionDone (heard_as awaited) (in_attempt t 0) old (Err Stalled) new
         → (s : State) → state_on old.roots j ≡ Some s → is_at s t ≡ true → s.stage ≡ refused
@@ -775,9 +766,7 @@ pub control_in_why : (t : Target) (awaited : Toggle) (result : Result (List ℕ)
     → TransactionDone (heard_as awaited) (in_attempt t 0) old result new → new.shared ≡ false
     → EachWas (ControlInFailure t awaited result) old new
 control_in_why t awaited result old new settled never e single =
-    each_device (λ j s v. RunThrough (DidIn (in_attempt t 0)) (in_attempt t 0) (heard_as awaited)
-    (IsEnd (heard_as awaited) result) (IsOfBus result) old new j s v)
-    (ControlInFailure t awaited result) old new
+    each_device _ (ControlInFailure t awaited result) old new
     (λ j s v run. why t awaited old never j s result new v run)
     (over_in t 0 old new settled single (heard_as awaited) result (as_transacted result e))
 
@@ -966,8 +955,8 @@ out_told s u v o outcomes m x loud (Err (Bus fault)) e = (λ b h. cc h, λ h r. 
 
 module _ (t : Target) (result : Result (List ℕ) TransFault) (old new : World) where
   abbrev Over : Location → State → State → Type 0
-  Over = RunThrough (DidOut (out_attempt t 0 One []) One []) (out_attempt t 0 One [])
-      heard_when_sent (IsEnd heard_when_sent result) (IsOfBus result) old new
+  Over = Through (DidOut (out_attempt t 0 One []) One []) (out_attempt t 0 One []) heard_when_sent
+      result old new
 
   read_status : (j : Location) (s v : State) → Over j s v → ReadStatus t result j s v
   unfolding waits_in
@@ -1031,12 +1020,11 @@ module _ (t : Target) (result : Result (List ℕ) TransFault) (old new : World) 
   }
     where
       ends : (fault : TransFault) → result ≡ Err fault
-          → RunThrough (DidOut (out_attempt t 0 One []) One []) (out_attempt t 0 One [])
-          heard_when_sent (IsEnd heard_when_sent (Err fault)) (IsOfBus {A = List ℕ} (Err fault))
-          old new j s v
-      ends fault r = subst (λ q. RunThrough (DidOut (out_attempt t 0 One []) One [])
-          (out_attempt t 0 One []) heard_when_sent (IsEnd heard_when_sent q) (IsOfBus q) old new j
-          s v) r x
+          → Through (DidOut (out_attempt t 0 One []) One []) (out_attempt t 0 One [])
+              heard_when_sent
+          (Err fault) old new j s v
+      ends fault r = subst (λ q. Through (DidOut (out_attempt t 0 One []) One [])
+          (out_attempt t 0 One []) heard_when_sent q old new j s v) r x
 
 -- each device
 
@@ -1045,7 +1033,7 @@ pub status_leaves : (t : Target) (result : Result (List ℕ) TransFault) (old ne
     → Transacted heard_when_sent (out_attempt t 0 One []) old result new → new.shared ≡ false
     → EachWas (ReadStatus t result) old new
 status_leaves t result old new settled x single =
-    each_device (Over t result old new) (ReadStatus t result) old new (read_status t result old new)
+    each_device _ (ReadStatus t result) old new (read_status t result old new)
     (over_out t 0 One [] old new settled single heard_when_sent result x)
 
 pub read_status_why : (t : Target) (result : Result (List ℕ) TransFault) (old new : World)
@@ -1053,6 +1041,5 @@ pub read_status_why : (t : Target) (result : Result (List ℕ) TransFault) (old 
     → TransactionDone heard_when_sent (out_attempt t 0 One []) old result new → new.shared ≡ false
     → EachWas (StatusReadFailure t result) old new
 read_status_why t result old new settled never e single =
-    each_device (Over t result old new) (StatusReadFailure t result) old new
-    (why_status t result old new never) (over_out t 0 One [] old new settled single
-    heard_when_sent result (as_transacted result e))
+    each_device _ (StatusReadFailure t result) old new (why_status t result old new never)
+    (over_out t 0 One [] old new settled single heard_when_sent result (as_transacted result e))

@@ -36,11 +36,25 @@ EachIf P R old new = (j : Location) (s : State) → reach_on new.roots j ≡ tru
 abbrev pub Any : State → Type 0
 Any s = Unit {0}
 
+-- of the device that stood there this is so, too
+pub was_then : {R S : Relation} {w : World} {j : Location} {u v : State} (x : Was R w j u)
+    → S j x.before v → Was S w j v
+was_then x so = record { before = x.before; on = x.on; stands = x.stands; so = so }
+
 pub each_device : (R S : Relation) (old new : World)
     → ((j : Location) (s v : State) → R j s v → S j s v) → EachIf Any R old new → EachWas S old new
-each_device R S old new f x j v on there =
-    let was : Was R old j v = x j v on there tt in
-    record { before = was.before; on = was.on; stands = was.stands; so = f j was.before v was.so }
+each_device R S old new f x j v on there = let was = x j v on there tt in
+    was_then was (f j was.before v was.so)
+
+-- what is so of it over two spans, one behind the other
+pub each_if-joined : {P : State → Type 0} {R S T : Relation} (old mid new : World)
+    → ((j : Location) (u v : State) → S j u v → P v → P u)
+    → ((j : Location) (s u v : State) → R j s u → S j u v → T j s v)
+    → EachIf P R old mid → EachIf P S mid new → EachIf P T old new
+each_if-joined old mid new back f x y j v on there h =
+    let later = y j v on there h in
+    let sooner = x j later.before later.on later.stands (back j later.before v later.so h) in
+    was_then sooner (f j sooner.before later.before v sooner.so later.so)
 
 -- the device over the attempts of a trail: it was s, and each attempt did something to it
 pub data Run (Did : Deeds) (a : Attempt) (old : World) (j : Location) (s : State) : List Outcome
@@ -86,6 +100,12 @@ IsPollEnd toggle (Err fault) o outcomes = IsEnd (polled_as toggle) (Err fault) o
 abbrev pub IsOfBus : {A : Type 0} → Result A TransFault → Type 0
 IsOfBus result = IsNotOfBus result → ⊥
 
+-- the device over a transaction with this answer
+abbrev pub Through : Deeds → Attempt → (Outcome → HeardOutcome) → Result (List ℕ) TransFault → World
+    → World → Relation
+Through Did a hear result old new =
+    RunThrough Did a hear (IsEnd hear result) (IsOfBus result) old new
+
 pub of_bus : {A : Type 0} (P : Result A TransFault → Type 0)
     → ((fault : BusFault) → P (Err (Bus fault))) → (result : Result A TransFault) → IsOfBus result
     → P result
@@ -111,42 +131,23 @@ module _ (Did : Deeds) (a : Attempt) (P : State → Type 0)
   where
     pub over_trail : {new : World} {outcomes : List Outcome} → AttemptLog a old outcomes new
         → new.shared ≡ false → EachIf P (λ j s v. Run Did a old j s outcomes new v) old new
-    over_trail start single j v on there h = record {
-      before = v;
-      on = on;
-      stands = there;
-      so = none;
-    }
-    over_trail (next w t made) single j v on there h =
-        let later : Was (Did w) w j v = does w (made_of a w (trail_settled t settled) made) single j
-        v
-        on there h in
-        let sooner : _ = over_trail t (made_unshared a w made single).before j later.before later.on
-        later.stands (back w j later.before v later.so h) in
-        record {
-          before = sooner.before;
-          on = sooner.on;
-          stands = sooner.stands;
-          so = more w later.before v t made sooner.so later.so;
-        }
+    over_trail start single =
+        λ j v on there h. record { before = v; on = on; stands = there; so = none }
+    over_trail (next w t made) single =
+        each_if-joined old w (after (attempt a) w) (back w) (λ j s u v r d. more w u v t made r d)
+        (over_trail t (made_unshared a w made single).before)
+        (does w (made_of a w (trail_settled t settled) made) single)
 
     pub over_last : (hear : Outcome → HeardOutcome) (Last : Outcome → List Outcome → Type 0)
         (GaveUp : Type 0) {new : World} {o : Outcome} {outcomes : List Outcome} → new.shared ≡ false
         → AttemptLog a old (o ∷ outcomes) new
         → KeepsTrying hear outcomes → Last o outcomes
         → EachIf P (RunThrough Did a hear Last GaveUp old new) old new
-    over_last hear Last GaveUp single (next w t made) onward is j v on there h =
-        let later : Was (Did w) w j v = does w (made_of a w (trail_settled t settled) made) single j
-        v
-        on there h in
-        let sooner : _ = over_trail t (made_unshared a w made single).before j later.before later.on
-        later.stands (back w j later.before v later.so h) in
-        record {
-          before = sooner.before;
-          on = sooner.on;
-          stands = sooner.stands;
-          so = last w later.before t sooner.so onward later.so is (λ n. (made, refl));
-        }
+    over_last hear Last GaveUp single (next w t made) onward is =
+        each_if-joined old w (after (attempt a) w) (back w)
+            (λ j s u v r d. last w u t r onward d is (λ n. (made, refl)))
+        (over_trail t (made_unshared a w made single).before)
+        (does w (made_of a w (trail_settled t settled) made) single)
 
     module _ (hear : Outcome → HeardOutcome) (new : World) (single : new.shared ≡ false) where
       -- the attempt that the bus gave up was made all the same, or not
@@ -154,45 +155,32 @@ module _ (Did : Deeds) (a : Attempt) (P : State → Type 0)
           → GaveUp → ((o : Outcome) (outcomes : List Outcome) → Last o outcomes)
           → BusFailed hear a old fault new
           → EachIf P (RunThrough Did a hear Last GaveUp old new) old new
-      over_cut Last GaveUp fault gave is c j v on there h =
+      over_cut Last GaveUp fault gave is c =
           pick (cut_or_same a c.mid fault new c.fits (trail_settled c.trail settled) c.refused
-          c.fails
-          single)
+          c.fails single)
         where
-          pick : AttemptCut a c.mid new → Was (RunThrough Did a hear Last GaveUp old new) old j v
+          pick : AttemptCut a c.mid new → EachIf P (RunThrough Did a hear Last GaveUp old new) old
+              new
           pick (unmade u each) =
-              let later : Was (λ j s x. x ≡ s) c.mid j v = each j v on there in
-              let sooner : _ = over_trail c.trail u j later.before later.on later.stands
-              (subst P later.so h) in
-              record {
-                before = sooner.before;
-                on = sooner.on;
-                stands = sooner.stands;
-                so = stopped gave (subst (λ x. Run Did a old j sooner.before c.outcomes c.mid x)
-                    (sym later.so) sooner.so) c.onward;
-              }
+              each_if-joined old c.mid new (λ j u v e. subst P e)
+              (λ j s u v r e. stopped gave (subst (Run Did a old j s c.outcomes c.mid) (sym e) r)
+              c.onward) (over_trail c.trail u) (λ j v on there h. each j v on there)
           pick (made_whole u m x r) =
-              let later : Was (Did c.mid) c.mid j v = does c.mid m x j v (ap (λ k. reach_on k j) r
-              ∙ on) (ap (λ k. state_on k j) r ∙ there) h in
-              let sooner : _ = over_trail c.trail u j later.before later.on later.stands
-              (back c.mid j later.before v later.so h) in
-              record {
-                before = sooner.before;
-                on = sooner.on;
-                stands = sooner.stands;
-                so = last c.mid later.before c.trail sooner.so c.onward later.so
-                    (is (outcome_in a c.mid) c.outcomes) (λ n. absurd (n gave));
-              }
+              each_if-joined old c.mid new (back c.mid)
+              (λ j s u v run d. last c.mid u c.trail run c.onward d
+              (is (outcome_in a c.mid) c.outcomes) (λ n. absurd (n gave))) (over_trail c.trail u)
+              (λ j v on there. does c.mid m x j v (ap (λ k. reach_on k j) r ∙ on)
+              (ap (λ k. state_on k j) r ∙ there))
 
       pub over_end : (result : Result (List ℕ) TransFault) → TransactionDone hear a old result new
-          → EachIf P (RunThrough Did a hear (IsEnd hear result) (IsOfBus result) old new) old new
+          → EachIf P (Through Did a hear result old new) old new
       over_end result e = over_last hear (IsEnd hear result) (IsOfBus result) single e.trail
           e.onward
           (tells_end hear result e.last e.outcomes e.onward e.tells)
 
       pub over_transaction : (result : Result (List ℕ) TransFault)
           → Transacted hear a old result new
-          → EachIf P (RunThrough Did a hear (IsEnd hear result) (IsOfBus result) old new) old new
+          → EachIf P (Through Did a hear result old new) old new
       over_transaction (Err (Bus fault)) x =
           over_cut (IsEnd hear (Err (Bus fault))) (IsOfBus {A = List ℕ} (Err (Bus fault))) fault
           (λ n. n) (λ o outcomes. tt) x
@@ -391,8 +379,7 @@ module _ (t : Target) (ep : ℕ) (old new : World) (settled : IsSettled old.root
 
   pub over_in : (hear : Outcome → HeardOutcome) (result : Result (List ℕ) TransFault)
       → Transacted hear a_in old result new
-      → EachIf Any (RunThrough (DidIn a_in) a_in hear (IsEnd hear result) (IsOfBus result) old new)
-      old new
+      → EachIf Any (Through (DidIn a_in) a_in hear result old new) old new
   over_in hear result x = over_transaction (DidIn a_in) a_in Any (λ w j u v d h. tt) does_in old
       settled hear new single result x
 
@@ -420,8 +407,7 @@ module _ (t : Target) (ep : ℕ) (toggle : Toggle) (bytes : List ℕ) (old new :
 
   pub over_out : (hear : Outcome → HeardOutcome) (result : Result (List ℕ) TransFault)
       → Transacted hear a_out old result new
-      → EachIf Any (RunThrough (DidOut a_out toggle bytes) a_out hear (IsEnd hear result)
-      (IsOfBus result) old new) old new
+      → EachIf Any (Through (DidOut a_out toggle bytes) a_out hear result old new) old new
   over_out hear result x = over_transaction (DidOut a_out toggle bytes) a_out Any
       (λ w j u v d h. tt) does_out old settled hear new single result x
 
@@ -444,8 +430,7 @@ module _ {Did : Deeds} {a : Attempt} {hear : Outcome → HeardOutcome} {old new 
   -- attempts
   pub heeded : NoThreeDamaged old → ((w : World) (u x : State) → Did w j u x → Is u
       → damage_in w ≡ None → hear (outcome_in a w) ≢ Lost)
-      → RunThrough Did a hear (IsEnd hear (Err NoAnswer)) (IsOfBus {A = List ℕ} (Err NoAnswer)) old
-      new j s v → ⊥
+      → Through Did a hear (Err NoAnswer) old new j s v → ⊥
   unfolding errors_running
   heeded three heeds x =
       at_end hear (λ outcomes w u. Is u × LostRun old.damages (errors_running hear outcomes)
@@ -470,8 +455,7 @@ module _ {Did : Deeds} {a : Attempt} {hear : Outcome → HeardOutcome} {old new 
   -- where each wait is one fewer of those it has left, there are no more
   pub spared : (left : State → ℕ) → ((w : World) (u x : State) → Did w j u x → Is u → (n : ℕ)
       → waits_with (hear (outcome_in a w)) n + left x ≤ n + left u) → left s < 256
-      → RunThrough Did a hear (IsEnd hear (Err Busy)) (IsOfBus {A = List ℕ} (Err Busy)) old new j s
-      v → ⊥
+      → Through Did a hear (Err Busy) old new j s v → ⊥
   unfolding waits_in
   spared left spares few x =
       at_end hear (λ outcomes w u. Is u × (waits_in hear outcomes + left u ≤ left s))

@@ -13,6 +13,7 @@ pub use Rattle.usb_transaction.proofs.ControlTransactions.{control_leaves, read_
 pub use Rattle.usb_transaction.proofs.ControlTransactions.{status_leaves}
 pub use Rattle.usb_transaction.proofs.DeviceRuns.{at_end, at_from, each_device, had_address}
 pub use Rattle.usb_transaction.proofs.DeviceRuns.{listens_at, listens_on, others_stay_then, over_in}
+pub use Rattle.usb_transaction.proofs.DeviceRuns.{was_then}
 pub use Rattle.usb_transaction.proofs.Polls.{poll_why}
 pub use Rattle.usb_transaction.proofs.SetupTransactions.{set_up_why, setup_leaves, spared_all}
 pub use Rattle.usb_transaction.proofs.SetupTransactions.{spared_joined, spared_wider, spec_stays}

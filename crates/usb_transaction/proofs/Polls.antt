@@ -487,9 +487,7 @@ pub poll_leaves : (t : Target) (toggle : Toggle) (result : Result (Option (List 
     → Polled toggle (in_attempt t 1) old result new → new.shared ≡ false
     → EachWas (ChangesIn t toggle old result new) old new
 poll_leaves t toggle result old new m settled x single =
-    each_device (RunThrough (DidIn (in_attempt t 1)) (in_attempt t 1) (polled_as toggle)
-    (IsPollEnd toggle result) (IsOfBus result) old new) (ChangesIn t toggle old result new)
-    old new
+    each_device _ (ChangesIn t toggle old result new) old new
     (λ j s v run.
     let away : (is_at s t ≡ false → v ≡ s) = stays_away t (λ w u x. in_others t 1 w j u x) run in
     record {
@@ -507,8 +505,7 @@ pub poll_why : (t : Target) (toggle : Toggle) (result : Result (Option (List ℕ
     → Polled toggle (in_attempt t 1) old result new → IsNotOfBus result → new.shared ≡ false
     → EachWas (PollFailure t toggle result) old new
 poll_why t toggle result old new m settled three x sound single =
-    each_device (RunThrough (DidIn (in_attempt t 1)) (in_attempt t 1) (polled_as toggle)
-    (IsPollEnd toggle result) (IsOfBus result) old new) (PollFailure t toggle result) old new
+    each_device _ (PollFailure t toggle result) old new
     (λ j s v run. record {
       answered = λ l h start quiet fault e.
           answers t toggle old m j s l.at h three l start quiet fault (subst IsNotOfBus e sound) new

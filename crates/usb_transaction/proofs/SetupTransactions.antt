@@ -12,9 +12,8 @@ use Rattle.usb_device.specs.{Leaves, Registers, Spec, Outcome, takes_configurati
 use Rattle.usb_device.specs.{registers_at_setup, port_feature, State, with_endpoints, begun}
 use Rattle.usb_device.specs.{accepted, effect_of_request, asked_by_setup, Way, is_whole, setup_law}
 use Rattle.usb_device.specs.{Ports, full, acted, row_of, Location, path_to, reach_on, state_on}
-use Rattle.usb_device.specs.{place_on}
+use Rattle.usb_device.specs.{place_on, Place}
 use Rattle.usb_device.specs.Attempt.{whole}
-use Rattle.usb_device.specs.Tree.{Place}
 use Rattle.usb_world.specs.{Attempt, is_harmless, resets, Relation, Was, EachWas, DidSetup, IsMade}
 use Rattle.usb_world.specs.{IsSetup, HolderIn, got, token_way, payload_way, answer_way, at_attempt}
 use Rattle.usb_world.specs.{damage_in, outcome_in, attempt, after, World}
@@ -29,8 +28,9 @@ use Rattle.usb_transaction.specs.{TransFault, Stalled, Busy, Target, NoThreeDama
 use Rattle.usb_transaction.specs.{SetupFailure, set_up_as, is_at, CanAccept, AcceptedAt}
 use Rattle.usb_transaction.specs.{AcceptedSince, SetupDone, IsSpared, EachSpared, AttemptLog}
 use Rattle.usb_transaction.specs.{TransactionDone, Transacted, waits_in, setup_attempt}
-use Rattle.usb_transaction.proofs.DeviceRuns.{IsEnd, IsOfBus, RunThrough, AttemptLeft, at_end}
-use Rattle.usb_transaction.proofs.DeviceRuns.{heeded, listens_at, of_bus, over_end}
+use Rattle.usb_transaction.proofs.DeviceRuns.{IsEnd, IsOfBus, AttemptLeft, at_end}
+use Rattle.usb_transaction.proofs.DeviceRuns.{each_if-joined, heeded, listens_at, of_bus, over_end}
+use Rattle.usb_transaction.proofs.DeviceRuns.{Through, was_then}
 use Rattle.usb_transaction.proofs.DeviceRuns.{over_transaction, stays_away}
 
 -- A request asks the same once it was accepted
@@ -132,9 +132,8 @@ LeavesOthers t R = (j : Location) (s v : State) → R j s v → is_at s t ≡ fa
 module _ (t : Target) (request : Setup) where
   pub spared_wider : (R S : Relation) → ((j : Location) (s v : State) → R j s v → S j s v)
       → (old new : World) → EachSpared t request R old new → EachSpared t request S old new
-  spared_wider R S f old new e j s on there x =
-      let was : Was R old j s = e j s on there x in
-      record { before = was.before; on = was.on; stands = was.stands; so = f j was.before s was.so }
+  spared_wider R S f old new e j s on there x = let was = e j s on there x in
+      was_then was (f j was.before s was.so)
 
   -- of a request that resets none it is so of each device
   pub spared_all : (R : Relation) (old new : World) → is_harmless request ≡ true
@@ -155,17 +154,9 @@ module _ (t : Target) (request : Setup) where
   pub spared_joined : (R S T : Relation) → LeavesOthers t S
       → ((j : Location) (s u v : State) → R j s u → S j u v → T j s v) → (old mid new : World)
       → EachSpared t request R old mid → EachWas S mid new → EachSpared t request T old new
-  spared_joined R S T others f old mid new e g j s on there x =
-      let later : Was S mid j s = g j s on there in
-      let sooner : Was R old j later.before =
-      e j later.before later.on later.stands
-      (was_spared later.before s (others j later.before s later.so) x) in
-      record {
-        before = sooner.before;
-        on = sooner.on;
-        stands = sooner.stands;
-        so = f j sooner.before later.before s sooner.so later.so;
-      }
+  spared_joined R S T others f old mid new e g =
+      each_if-joined old mid new (λ j u v y. was_spared u v (others j u v y)) f e
+          (λ j s on there x. g j s on there)
 
 -- One attempt
 
@@ -317,12 +308,7 @@ accepting t bytes eight w m u j v on there x =
     let was : Was (DidSetup (setup_attempt t bytes) bytes w) w j v =
     each_setup (setup_attempt t bytes) w bytes m
     (record { kind = refl; ep = refl; payload = refl; whole = eight }) u j v rest on there in
-    record {
-      before = was.before;
-      on = was.on;
-      stands = was.stands;
-      so = accepts t bytes eight w m u j v on there rest was.before was.so;
-    }
+    was_then was (accepts t bytes eight w m u j v on there rest was.before was.so)
 
 -- The transaction
 
@@ -400,8 +386,7 @@ module _ (t : Target) (bytes : List ℕ) (old : World) (j : Location) (s : State
       by o h (Err fault) end told = (λ got e. cc e, tt)
 
   set_up_done : (result : Result (List ℕ) TransFault) (new : World) (v : State)
-      → RunThrough (SetupResult t bytes) (setup_attempt t bytes) set_up_as (IsEnd set_up_as result)
-      (IsOfBus result) old new j s v
+      → Through (SetupResult t bytes) (setup_attempt t bytes) set_up_as result old new j s v
       → SetupDone t bytes result old new j s v
   set_up_done result new v run =
       let away : (is_at s t ≡ false → v ≡ s) = stays_away t (λ w u x d. d.others) run in
@@ -427,9 +412,7 @@ pub setup_leaves : (t : Target) (bytes : List ℕ) (result : Result (List ℕ) T
     → Transacted set_up_as (setup_attempt t bytes) old result new → new.shared ≡ false
     → EachSpared t (setup_of bytes) (SetupDone t bytes result old new) old new
 setup_leaves t bytes result old new eight settled x single =
-    spared_wider t (setup_of bytes) (RunThrough (SetupResult t bytes) (setup_attempt t bytes)
-    set_up_as (IsEnd set_up_as result) (IsOfBus result) old new)
-    (SetupDone t bytes result old new)
+    spared_wider t (setup_of bytes) _ (SetupDone t bytes result old new)
     (λ j s v run. set_up_done t bytes old j s result new v run) old new
     (over_transaction (SetupResult t bytes) (setup_attempt t bytes) (IsSpared t (setup_of bytes))
     (λ w j u v d. was_spared t (setup_of bytes) u v d.others) (accepting t bytes eight) old
@@ -441,14 +424,14 @@ pub set_up_why : (t : Target) (bytes : List ℕ) (result : Result (List ℕ) Tra
     → TransactionDone set_up_as (setup_attempt t bytes) old result new → new.shared ≡ false
     → EachSpared t (setup_of bytes) (SetupFailure t result) old new
 set_up_why t bytes result old new eight settled three x single =
-    spared_wider t (setup_of bytes) (RunThrough (SetupResult t bytes) (setup_attempt t bytes)
-    set_up_as (IsEnd set_up_as result) (IsOfBus result) old new) (SetupFailure t result)
+    spared_wider t (setup_of bytes) _ (SetupFailure t result)
     (λ j s v run. record {
       answered = λ l e.
           heeded (Listens t j) (λ w u y d n k. listens_at t j u y d.same.spec d.same.address k) l
           three (λ w u y d k none q. cc (sym (ap set_up_as (d.heeds k none)) ∙ q))
-          (subst (λ r. RunThrough (SetupResult t bytes) (setup_attempt t bytes) set_up_as
-          (IsEnd set_up_as r) (IsOfBus r) old new j s v) e run);
+          (subst (λ r. Through (SetupResult t bytes) (setup_attempt t bytes) set_up_as r old new j s
+              v)
+          e run);
     }) old new
     (over_end (SetupResult t bytes) (setup_attempt t bytes) (IsSpared t (setup_of bytes))
     (λ w j u v d. was_spared t (setup_of bytes) u v d.others) (accepting t bytes eight) old

@@ -4,8 +4,8 @@ use Rattle.std.specs.Prelude.{ℕ, ◌+◌, ◌*◌, ◌<◌, ◌≤◌, ◌⊎�
 use Rattle.std.specs.Prelude.{Option, None, Some, Result, Ok, Err}
 use Rattle.arrayvec.specs.ArrayVec.{ArrayVec}
 use Rattle.usb_packet.specs.{Toggle}
-use Rattle.usb_world.specs.{Attempt, BusFault, Outcome, World, Made, AttemptsWithin, Attempted}
-use Rattle.usb_world.specs.{IsAttempt, FitsMaximum, attempt, after, AttemptFails}
+use Rattle.usb_world.specs.{Attempt, BusFault, Outcome, World, AttemptsWithin}
+use Rattle.usb_world.specs.{IsAttempt, FitsMaximum, attempt, after}
 use Rattle.usb_world.specs.declared.types.Outcome.TheVariants.{Nak, Stall}
 use Rattle.usb_world.proofs.Interface.{spends_none, spends_then, spends_wider}
 use Rattle.usb_bus.specs.{Attempts, Traced, still, attempted, StepRun}
@@ -19,29 +19,16 @@ use Rattle.usb_transaction.proofs.LastOutcomes.{heard_moved}
 
 -- One more attempt, and what the host got
 
-pub record AttemptedOnce (a : Attempt) (mid : World) (before : Option (List ℕ)) (o : Outcome)
-    (new : World) (now : Option (List ℕ)) : Type 0 where
-  pub fits : IsAttempt a
-  pub made : Attempts a mid before (Ok o) new now
-
-pub attempted_once : {a b : Attempt} {mid new : World} {o : Outcome} {before now : Option (List ℕ)}
-    → b ≡ a
-    → IsAttempt b → Attempts b mid before (Ok o) new now → AttemptedOnce a mid before o new now
-attempted_once {mid = mid} {new = new} {o = o} {before = before} {now = now} is fits x =
-    subst (λ y. AttemptedOnce y mid before o new now) is (record { fits = fits; made = x })
-
 trail_more : {a : Attempt} {old mid new : World} {outcomes : List Outcome} {o : Outcome}
     {before now : Option (List ℕ)} → AttemptLog a old outcomes mid
-    → AttemptedOnce a mid before o new now → AttemptLog a old (o ∷ outcomes) new
-trail_more {a} {old} {mid} {new} {outcomes} {o} t one =
-    subst (λ w. AttemptLog a old (o ∷ outcomes) w) (sym one.made.exact)
-    (subst (λ x. AttemptLog a old (x ∷ outcomes) (after (attempt a) mid)) (sym one.made.outcome)
-    (next mid t (subst (λ w. Made mid w) one.made.exact one.made.counts.ends)))
+    → Attempts a mid before (Ok o) new now → AttemptLog a old (o ∷ outcomes) new
+trail_more t made = rw (made.exact, made.outcome) (next _ t (rw made.exact at made.counts.ends))
 
 -- It goes on: so many errors run, after so many NAKs and repeats; between the worlds lie at most
 -- three attempts for each of these and one for each error running
 pub record TryingOn (hear : Outcome → HeardOutcome) (a : Attempt) (errors waits : ℕ)
     (old now : World) : Type 0 where
+  pub fits : IsAttempt a
   pub outcomes : List Outcome
   pub trail : AttemptLog a old outcomes now
   pub onward : KeepsTrying hear outcomes
@@ -49,9 +36,11 @@ pub record TryingOn (hear : Outcome → HeardOutcome) (a : Attempt) (errors wait
   waited : waits_in hear outcomes ≡ waits
   pub spends : AttemptsWithin (3 * waits + errors) old now
 
-trying_none : {hear : Outcome → HeardOutcome} {a : Attempt} (w : World) → TryingOn hear a 0 0 w w
+trying_none : {hear : Outcome → HeardOutcome} {a : Attempt} (w : World) → IsAttempt a
+    → TryingOn hear a 0 0 w w
 unfolding errors_running waits_in KeepsTrying
-trying_none w = record {
+trying_none w fits = record {
+  fits = fits;
   outcomes = [];
   trail = start;
   onward = tt;
@@ -62,13 +51,15 @@ trying_none w = record {
 
 going_more : {hear : Outcome → HeardOutcome} {a : Attempt} {o : Outcome} {errors waits : ℕ}
     {old mid new : World} {before now : Option (List ℕ)} (e w : ℕ)
-    → TryingOn hear a errors waits old mid → AttemptedOnce a mid before o new now → IsNoEnd (hear o)
+    → TryingOn hear a errors waits old mid → Attempts a mid before (Ok o) new now → IsNoEnd (hear o)
     → errors_with (hear o) errors ≡ e → waits_with (hear o) waits ≡ w → e < 3 → w < 256
     → 3 * waits + errors + 1 ≤ 3 * w + e → TryingOn hear a e w old new
 unfolding errors_running waits_in KeepsTrying
-going_more {hear} {a} {o} {errors} {waits} {old} {mid} {new} e w g one on x y few calm le = record {
+going_more {hear} {a} {o} {errors} {waits} {old} {mid} {new} e w g made on x y few calm le = record
+    {
+  fits = g.fits;
   outcomes = o ∷ g.outcomes;
-  trail = trail_more g.trail one;
+  trail = trail_more g.trail made;
   onward = (
     on,
     subst (λ n. n < 3) (sym running) few,
@@ -78,7 +69,7 @@ going_more {hear} {a} {o} {errors} {waits} {old} {mid} {new} e w g one on x y fe
   running = running;
   waited = waited;
   spends = spends_wider (3 * waits + errors + 1) (3 * w + e) old new
-      (spends_then (3 * waits + errors) 1 old mid new g.spends one.made.counts.spends) le;
+      (spends_then (3 * waits + errors) 1 old mid new g.spends made.counts.spends) le;
 }
   where
     running : errors_with (hear o) (errors_running hear g.outcomes) ≡ e
@@ -89,10 +80,10 @@ going_more {hear} {a} {o} {errors} {waits} {old} {mid} {new} e w g one on x y fe
 
 going_error : {hear : Outcome → HeardOutcome} {a : Attempt} {o : Outcome} (errors waits : ℕ)
     {old mid new : World} {before now : Option (List ℕ)} → errors + 1 < 3 → waits < 256
-    → TryingOn hear a errors waits old mid → AttemptedOnce a mid before o new now → Lost ≡ hear o
+    → TryingOn hear a errors waits old mid → Attempts a mid before (Ok o) new now → Lost ≡ hear o
     → TryingOn hear a (errors + 1) waits old new
-going_error errors waits few calm g one lost =
-    going_more (errors + 1) waits g one (subst (λ h. IsNoEnd h) lost tt)
+going_error errors waits few calm g made lost =
+    going_more (errors + 1) waits g made (subst (λ h. IsNoEnd h) lost tt)
     (ap (λ h. errors_with h errors) (sym lost)) (ap (λ h. waits_with h waits) (sym lost)) few
     calm (omega arith)
 
@@ -104,18 +95,17 @@ third_error {hear} errors waits g lost third =
     ap (λ x. errors_with x (errors_running hear g.outcomes)) (sym lost) ∙ ap (λ n. n + 1) g.running
     ∙ third
 
-pub going_cut_off : {hear : Outcome → HeardOutcome} {a b : Attempt} {fault : BusFault}
-    {errors waits : ℕ} {old mid new : World} {before now : Option (List ℕ)} → b ≡ a
-    → TryingOn hear a errors waits old mid → IsAttempt b → Attempts b mid before (Err fault) new now
-    → BusFailed hear a old fault new
-going_cut_off {fault = fault} {mid = mid} {new = new} is g fits x = record {
-  fits = subst IsAttempt is fits;
+going_cut_off : {hear : Outcome → HeardOutcome} {a : Attempt} {fault : BusFault} {errors waits : ℕ}
+    {old mid new : World} {before now : Option (List ℕ)} → TryingOn hear a errors waits old mid
+    → Attempts a mid before (Err fault) new now → BusFailed hear a old fault new
+going_cut_off {mid = mid} g x = record {
+  fits = g.fits;
   outcomes = g.outcomes;
   mid = mid;
   trail = g.trail;
   onward = g.onward;
-  refused = subst (λ y. Attempted y mid (Err fault) new) is x.counts;
-  fails = subst (λ y. mid.fault ≡ None → AttemptFails y mid (Err fault) new) is x.fails;
+  refused = x.counts;
+  fails = x.fails;
 }
 
 -- A loop of tries: how it stands, with what it wrote
@@ -128,9 +118,14 @@ pub record TryStands (hear : Outcome → HeardOutcome) (a : Attempt) (t : Tries)
   pub traced : Traced old first now text
 
 pub stands_new : {hear : Outcome → HeardOutcome} {a : Attempt} {text : Option (List ℕ)} (t : Tries)
-    (w : World) → t ≡ record { errors = 0; waits = 0 } → TryStands hear a t w text w text
-stands_new {hear} {a} {text} t w is = subst (λ x. TryStands hear a x w text w text) (sym is)
-    (record { few = omega arith; calm = omega arith; going = trying_none w; traced = still })
+    (w : World) → IsAttempt a → t ≡ record { errors = 0; waits = 0 } → TryStands hear a t w text w
+        text
+stands_new t w fits is = rw is (record {
+  few = omega arith;
+  calm = omega arith;
+  going = trying_none w fits;
+  traced = still;
+})
 
 -- a NAK or a repeat
 abbrev pub IsWait : HeardOutcome → Type 0
@@ -157,23 +152,21 @@ module _ {hear : Outcome → HeardOutcome} {a : Attempt} {t : Tries} {old mid : 
     traced = attempted b r fits s.traced x;
   }
 
-  pub told_cut : {b : Attempt} {fault : BusFault} {new : World} {now : Option (List ℕ)} → b ≡ a
-      → IsAttempt b → Attempts b mid before (Err fault) new now
-      → Transacted hear a old (Err (Bus fault)) new
-  told_cut is fits x = going_cut_off is s.going fits x
+  pub told_cut : {fault : BusFault} {new : World} {now : Option (List ℕ)}
+      → Attempts a mid before (Err fault) new now → Transacted hear a old (Err (Bus fault)) new
+  told_cut x = going_cut_off s.going x
 
   module _ {o : Outcome} {new : World} {now : Option (List ℕ)}
-      (one : AttemptedOnce a mid before o new now) where
+      (made : Attempts a mid before (Ok o) new now) where
     pub stands_error : (u : Tries) → Lost ≡ hear o → u ≡ record t { errors = t.errors + 1 }
         → u.errors < 3 → TryStands hear a u old first new now
     stands_error u lost is few =
         let two : t.errors + 1 < 3 = subst (λ x. x.errors < 3) is few in
-        subst (λ x. TryStands hear a x old first new now) (sym is)
-        (record {
+        rw is (record {
           few = two;
           calm = s.calm;
-          going = going_error t.errors t.waits two s.calm s.going one lost;
-          traced = attempted a (Ok o) one.fits s.traced one.made;
+          going = going_error t.errors t.waits two s.calm s.going made lost;
+          traced = attempted a (Ok o) s.going.fits s.traced made;
         })
 
     pub stands_waited : (h : HeardOutcome) (u : Tries) → h ≡ hear o → IsWait h
@@ -182,13 +175,12 @@ module _ {hear : Outcome → HeardOutcome} {a : Attempt} {t : Tries} {old mid : 
     stands_waited h u heard wait is calm =
         let less : t.waits + 1 < 256 = subst (λ x. x.waits < 256) is calm in
         let w : Waits (hear o) = subst Waits heard (waits_of h wait) in
-        subst (λ x. TryStands hear a x old first new now) (sym is)
-        (record {
+        rw is (record {
           few = omega arith;
           calm = less;
-          going = going_more 0 (t.waits + 1) s.going one w.on (w.none t.errors) (w.more t.waits)
+          going = going_more 0 (t.waits + 1) s.going made w.on (w.none t.errors) (w.more t.waits)
               (omega arith) less (omega (arith, s.few));
-          traced = attempted a (Ok o) one.fits s.traced one.made;
+          traced = attempted a (Ok o) s.going.fits s.traced made;
         })
 
     ended : (result : Result (List ℕ) TransFault) → LastOutcome hear result o s.going.outcomes
@@ -196,7 +188,7 @@ module _ {hear : Outcome → HeardOutcome} {a : Attempt} {t : Tries} {old mid : 
     ended result tells = record {
       outcomes = s.going.outcomes;
       last = o;
-      trail = trail_more s.going.trail one;
+      trail = trail_more s.going.trail made;
       onward = s.going.onward;
       tells = tells;
     }
@@ -229,11 +221,11 @@ module _ {hear : Outcome → HeardOutcome} {a : Attempt} {t : Tries} {old mid : 
 -- a poll that a NAK ended
 pub told_waiting : {toggle : Toggle} {a : Attempt} {t : Tries} {o : Outcome} {old mid new : World}
     {first before now : Option (List ℕ)} → TryStands (polled_as toggle) a t old first mid before
-    → AttemptedOnce a mid before o new now → o ≡ Nak → Waiting toggle a old new
-told_waiting {toggle} {a} {t} {o} {old} {mid} {new} s one is = record {
+    → Attempts a mid before (Ok o) new now → o ≡ Nak → Waiting toggle a old new
+told_waiting {toggle} {a} {t} {o} {old} {mid} {new} s made is = record {
   outcomes = s.going.outcomes;
   trail = subst (λ x. AttemptLog a old (x ∷ s.going.outcomes) new) is
-      (trail_more s.going.trail one);
+      (trail_more s.going.trail made);
   onward = s.going.onward;
 }
 
@@ -253,10 +245,11 @@ pub record SetUpStands (a : Attempt) (n : ℕ) (old : World) (first : Option (Li
   pub ended : n ≡ 3 → TransactionDone set_up_as a old (Err NoAnswer) now
   pub traced : Traced old first now text
 
-pub set_up_new : {a : Attempt} {text : Option (List ℕ)} (w : World) → SetUpStands a 0 w text w text
-set_up_new w = record {
+pub set_up_new : {a : Attempt} {text : Option (List ℕ)} (w : World) → IsAttempt a
+    → SetUpStands a 0 w text w text
+set_up_new w fits = record {
   spends = spends_none w;
-  going = λ n. trying_none w;
+  going = λ n. trying_none w fits;
   ended = λ e. absurd (omega (arith, e));
   traced = still;
 }
@@ -264,8 +257,8 @@ set_up_new w = record {
 module _ {a : Attempt} {n : ℕ} {old mid : World} {first before : Option (List ℕ)} (few : n < 3)
     (s : SetUpStands a n old first mid before) where
   pub set_up_went : {b : Attempt} {r : Result Outcome BusFault} {new : World}
-      {now : Option (List ℕ)} → IsAttempt b → Attempts b mid before r new now
-      → StepRun 3 old first new now
+      {now : Option (List ℕ)}
+      → IsAttempt b → Attempts b mid before r new now → StepRun 3 old first new now
   set_up_went {b} {r} {new} fits x = record {
     spends =
         spends_wider (n + 1) 3 old new (spends_then n 1 old mid new s.spends x.counts.spends)
@@ -274,37 +267,36 @@ module _ {a : Attempt} {n : ℕ} {old mid : World} {first before : Option (List 
   }
 
   set_up_ended : {o : Outcome} {new : World} {now : Option (List ℕ)}
-      (result : Result (List ℕ) TransFault) → AttemptedOnce a mid before o new now
+      (result : Result (List ℕ) TransFault) → Attempts a mid before (Ok o) new now
       → LastOutcome set_up_as result o (s.going few).outcomes
       → TransactionDone set_up_as a old result new
-  set_up_ended {o} result one tells = record {
+  set_up_ended {o} result made tells = record {
     outcomes = (s.going few).outcomes;
     last = o;
-    trail = trail_more (s.going few).trail one;
+    trail = trail_more (s.going few).trail made;
     onward = (s.going few).onward;
     tells = tells;
   }
 
   pub set_up_again : {o : Outcome} {new : World} {now : Option (List ℕ)}
-      → AttemptedOnce a mid before o new now → acks o ≡ false
+      → Attempts a mid before (Ok o) new now → acks o ≡ false
       → SetUpStands a (n + 1) old first new now
-  set_up_again {o} {new} one not = record {
-    spends = spends_then n 1 old mid new s.spends one.made.counts.spends;
-    going = λ more. going_error n 0 more (omega arith) (s.going few) one (set_up_lost o not);
-    ended = λ third. set_up_ended (Err NoAnswer) one
+  set_up_again {o} {new} made not = record {
+    spends = spends_then n 1 old mid new s.spends made.counts.spends;
+    going = λ more. going_error n 0 more (omega arith) (s.going few) made (set_up_lost o not);
+    ended = λ third. set_up_ended (Err NoAnswer) made
         (third_error n 0 (s.going few) (set_up_lost o not) third);
-    traced = attempted a (Ok o) one.fits s.traced one.made;
+    traced = attempted a (Ok o) (s.going few).fits s.traced made;
   }
 
   pub set_up_told : {o : Outcome} {new : World} {now : Option (List ℕ)}
-      → AttemptedOnce a mid before o new now → acks o ≡ true
+      → Attempts a mid before (Ok o) new now → acks o ≡ true
       → Transacted set_up_as a old (Ok []) new
-  set_up_told {o} one is = set_up_ended (Ok []) one (set_up_moved o is)
+  set_up_told {o} made is = set_up_ended (Ok []) made (set_up_moved o is)
 
-  pub set_up_cut : {b : Attempt} {fault : BusFault} {new : World} {now : Option (List ℕ)} → b ≡ a
-      → IsAttempt b → Attempts b mid before (Err fault) new now
-      → Transacted set_up_as a old (Err (Bus fault)) new
-  set_up_cut is fits x = going_cut_off is (s.going few) fits x
+  pub set_up_cut : {fault : BusFault} {new : World} {now : Option (List ℕ)}
+      → Attempts a mid before (Err fault) new now → Transacted set_up_as a old (Err (Bus fault)) new
+  set_up_cut x = going_cut_off (s.going few) x
 
 -- all three
 pub set_up_spent : {a : Attempt} {n : ℕ} {old now : World} {first text : Option (List ℕ)} → n ≤ 3

@@ -6,6 +6,7 @@ ghost use Rattle.usb_transaction.specs.Transactions.{IsTarget, error_limit};
 
 use crate::attempt::attempt_of_setup;
 use crate::heard_outcome::is_ack;
+use crate::tries::ERROR_LIMIT;
 use crate::{Done, Target, TransFault};
 use usb_bus::Bus;
 
@@ -25,7 +26,7 @@ pub fn setup<B: Bus>(bus: &mut B, target: Target, bytes: [u8; 8]) -> Result<Done
         → SetsUp target bytes (B.world bus.old) result (B.world bus.new) }
 {
     let attempt = attempt_of_setup(target, bytes);
-    for _error in 0..3u8 {
+    for _error in 0..ERROR_LIMIT {
         match bus.attempt(&attempt) {
             Ok(outcome) => {
                 if is_ack(&outcome) {

@@ -5,6 +5,12 @@ ghost use Rattle.usb_transaction.specs.Transactions.{error_limit, wait_limit};
 
 use crate::TransFault;
 
+/// So many errors running end a transaction.
+pub(crate) const ERROR_LIMIT: u8 = 3;
+
+/// So many NAKs and discarded repeats together end it.
+const WAIT_LIMIT: u16 = 256;
+
 /// The errors running, and the NAKs and discarded repeats together, of one transaction.
 #[derive(Drop)]
 pub(crate) struct Tries {
@@ -22,7 +28,7 @@ impl Tries {
         }
     }
 
-    /// Counts an error. The third one running ends the transaction.
+    /// Counts an error, which may end the transaction.
     pub(crate) fn error(&mut self) -> Result<(), TransFault>
         requires { self.old.errors < error_limit }
         ensures count { self.new ≡ record self.old { errors = self.old.errors + 1 } }
@@ -30,14 +36,14 @@ impl Tries {
             (λ fault. (fault ≡ NoAnswer) × (self.new.errors ≡ error_limit)) }
     {
         self.errors += 1;
-        if self.errors == 3 {
+        if self.errors == ERROR_LIMIT {
             return Err(TransFault::NoAnswer);
         }
         Ok(())
     }
 
-    /// Counts a NAK or a discarded repeat, after which no errors are running. The 256th one ends
-    /// the transaction.
+    /// Counts a NAK or a discarded repeat, after which no errors are running. It may end the
+    /// transaction.
     pub(crate) fn wait(&mut self) -> Result<(), TransFault>
         requires { self.old.waits < wait_limit }
         ensures count { self.new ≡ record self.old { errors = 0; waits = self.old.waits + 1 } }
@@ -46,7 +52,7 @@ impl Tries {
     {
         self.errors = 0;
         self.waits += 1;
-        if self.waits == 256 {
+        if self.waits == WAIT_LIMIT {
             return Err(TransFault::Busy);
         }
         Ok(())

@@ -62,18 +62,16 @@ here_is m n h = rw h (ap one_if (same_number n))
 pub occurs-reached : (k : Ports) (j : ℕ) (p : List ℕ) (n : ℕ) → reach_at k j p ≡ true
     → option_map address_of (state_at k j p) ≡ Some n → 1 ≤ occurs n (held_addresses k)
 unfolding reach_at state_at
-occurs-reached ended j p n h e = false_true h
-occurs-reached (vacant b k) zero p n h e = false_true h
 occurs-reached (vacant b k) (suc j) p n h e =
     omega (arith, occurs_vacant n b k, occurs-reached k j p n h e)
 occurs-reached (taken b s a k) zero [] n h e =
     omega (arith, occurs_on n b s a k h, here_is (address_of s) n (same_Some (address_of s) n e))
-occurs-reached (taken b s a k) zero (zero ∷ p) n h e = false_true h
 occurs-reached (taken b s a k) zero (suc j ∷ p) n h e =
     let on : _ = both b.enable (reach_at a j p) h in
     omega (arith, occurs_on n b s a k on.0, occurs-reached a j p n on.1 e)
 occurs-reached (taken b s a k) (suc j) p n h e =
     omega (arith, occurs_rest n b s a k, occurs-reached k j p n h e)
+occurs-reached k j p n h e = false_true h
 
 -- two reachable devices that hold one address are one, or it is counted twice
 abbrev pub SameOr : ℕ → List ℕ → ℕ → List ℕ → ℕ → Ports → Type 0
@@ -86,14 +84,12 @@ pub same_or_twice : (k : Ports) (i : ℕ) (p : List ℕ) (j : ℕ) (q : List ℕ
 unfolding reach_at state_at
 same_or_twice ended i p j q n h e g f = false_true h
 same_or_twice (vacant b k) zero p j q n h e g f = false_true h
-same_or_twice (vacant b k) (suc i) p zero q n h e g f = false_true g
 same_or_twice (vacant b k) (suc i) p (suc j) q n h e g f = pick (same_or_twice k i p j q n h e g f)
   where
     pick : SameOr i p j q n k → SameOr (suc i) p (suc j) q n (vacant b k)
     pick (inl y) = inl (ap (λ x. suc x) y.0, y.1)
     pick (inr y) = inr (omega (arith, y, occurs_vacant n b k))
 same_or_twice (taken b s a k) zero [] zero [] n h e g f = inl (refl, refl)
-same_or_twice (taken b s a k) zero [] zero (zero ∷ q) n h e g f = false_true g
 same_or_twice (taken b s a k) zero [] zero (suc j ∷ q) n h e g f =
     inr (omega (
       arith,
@@ -116,7 +112,6 @@ same_or_twice (taken b s a k) zero (suc i ∷ p) zero [] n h e g f =
       here_is (address_of s) n (same_Some (address_of s) n f),
       occurs-reached a i p n (both b.enable (reach_at a i p) h).1 e,
     ))
-same_or_twice (taken b s a k) zero (suc i ∷ p) zero (zero ∷ q) n h e g f = false_true g
 same_or_twice (taken b s a k) zero (suc i ∷ p) zero (suc j ∷ q) n h e g f =
     pick (same_or_twice a i p j q n (both b.enable (reach_at a i p) h).1 e
     (both b.enable (reach_at a j q) g).1 f)
@@ -138,7 +133,6 @@ same_or_twice (taken b s a k) (suc i) p zero [] n h e g f =
       here_is (address_of s) n (same_Some (address_of s) n f),
       occurs-reached k i p n h e,
     ))
-same_or_twice (taken b s a k) (suc i) p zero (zero ∷ q) n h e g f = false_true g
 same_or_twice (taken b s a k) (suc i) p zero (suc j ∷ q) n h e g f =
     inr (omega (
       arith,
@@ -152,6 +146,7 @@ same_or_twice (taken b s a k) (suc i) p (suc j) q n h e g f =
     pick : SameOr i p j q n k → SameOr (suc i) p (suc j) q n (taken b s a k)
     pick (inl y) = inl (ap (λ x. suc x) y.0, y.1)
     pick (inr y) = inr (omega (arith, y, occurs_rest n b s a k))
+same_or_twice k i p j q n h e g f = false_true g
 
 has_not : (n : ℕ) (xs : List ℕ) → has n xs ≡ false → occurs n xs ≡ 0
 unfolding occurs

@@ -1,7 +1,7 @@
 -- A packet spares what is pending, leaves a port, resets none, by what each device on the way asks.
 use Rattle.std.proofs.Common.{◌≡◌, ℕ, zero, suc, ◌||◌, not, Bool, true, false}
 use Rattle.std.proofs.Common.{List, [], ◌∷◌, ◌++◌, Some, refl, ap}
-use Rattle.usb_device.specs.{Sent, State, Ports, ended, vacant, taken, state_at, effect_of}
+use Rattle.usb_device.specs.{Sent, State, Ports, vacant, taken, state_at, effect_of}
 use Rattle.usb_tree.specs.{effect_resets, resets_at, effect_keeps_pending, packet_keeps_pending}
 use Rattle.usb_tree.specs.{leaves_port, way_leaves}
 use Rattle.usb_tree.proofs.Booleans.{and_of, or_right, neither_of, and_none}
@@ -18,44 +18,35 @@ pub spares_if : (q : Sent) (deep : Bool) (k : Ports) (j : ℕ) (p : List ℕ)
     → OnWay (λ t m r. (dp : Bool) → effect_keeps_pending (effect_of q dp t) m r ≡ true) k j p
     → packet_keeps_pending q deep k j p ≡ true
 unfolding packet_keeps_pending state_at
-spares_if q deep ended j p c = refl
-spares_if q deep (vacant b k) zero p c = refl
 spares_if q deep (vacant b k) (suc j) p c = spares_if q deep k j p c
-spares_if q deep (taken b s a k) zero [] c = refl
-spares_if q deep (taken b s a k) zero (zero ∷ p) c = refl
 spares_if q deep (taken b s a k) zero (suc j ∷ p) c =
     or_off b.enable _ (and_of (effect_keeps_pending (effect_of q deep s) j p) _
     (c [] j p s refl refl deep)
     (spares_if q true a j p (λ e m r t z at. c (suc j ∷ e) m r t (ap (λ x. suc j ∷ x) z) at)))
 spares_if q deep (taken b s a k) (suc j) p c = spares_if q deep k j p c
+spares_if q deep k j p c = refl
 
 pub way_leaves-on_way : (q : Sent) (deep : Bool) (k : Ports) (j : ℕ) (p : List ℕ)
     → OnWay (λ t m r. (dp : Bool) → leaves_port (effect_of q dp t) m ≡ true) k j p
     → way_leaves q deep k j p ≡ true
 unfolding way_leaves state_at
-way_leaves-on_way q deep ended j p c = refl
-way_leaves-on_way q deep (vacant b k) zero p c = refl
 way_leaves-on_way q deep (vacant b k) (suc j) p c = way_leaves-on_way q deep k j p c
-way_leaves-on_way q deep (taken b s a k) zero [] c = refl
-way_leaves-on_way q deep (taken b s a k) zero (zero ∷ p) c = refl
 way_leaves-on_way q deep (taken b s a k) zero (suc j ∷ p) c =
     or_off b.enable _ (and_of (leaves_port (effect_of q deep s) j) _ (c [] j p s refl refl deep)
     (way_leaves-on_way q true a j p (λ e m r t z at. c (suc j ∷ e) m r t (ap (λ x. suc j ∷ x) z)
     at)))
 way_leaves-on_way q deep (taken b s a k) (suc j) p c = way_leaves-on_way q deep k j p c
+way_leaves-on_way q deep k j p c = refl
 
 pub resets_if : (q : Sent) (deep : Bool) (k : Ports) (j : ℕ) (p : List ℕ)
     → OnWay (λ t m r. (dp : Bool) (a : Ports) → effect_resets (effect_of q dp t) a m r ≡ false)
     k j p
     → resets_at q deep k j p ≡ false
 unfolding resets_at state_at
-resets_if q deep ended j p c = refl
-resets_if q deep (vacant b k) zero p c = refl
 resets_if q deep (vacant b k) (suc j) p c = resets_if q deep k j p c
-resets_if q deep (taken b s a k) zero [] c = refl
-resets_if q deep (taken b s a k) zero (zero ∷ p) c = refl
 resets_if q deep (taken b s a k) zero (suc j ∷ p) c =
     and_none b.enable _ (neither_of (effect_resets (effect_of q deep s) a j p) _
     (c [] j p s refl refl deep a)
     (resets_if q true a j p (λ e m r t z at. c (suc j ∷ e) m r t (ap (λ x. suc j ∷ x) z) at)))
 resets_if q deep (taken b s a k) (suc j) p c = resets_if q deep k j p c
+resets_if q deep k j p c = refl

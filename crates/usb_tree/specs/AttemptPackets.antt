@@ -5,8 +5,7 @@ use Rattle.usb_packet.specs.{Token, Payload, Ack}
 use Rattle.usb_port.specs.{PortState}
 use Rattle.usb_device.specs.{Answer, Content, Whole, Broken, Sent, State, Reply, is_own, Ports}
 use Rattle.usb_device.specs.{reach_at, state_at, Location, reach_on, state_on, after_packet}
-use Rattle.usb_device.specs.{all_forgotten, held_addresses, repeats, hears, reply_to}
-use Rattle.usb_device.specs.Delivery.{answers}
+use Rattle.usb_device.specs.{all_forgotten, held_addresses, repeats, hears, reply_to, answers}
 use Rattle.usb_tree.specs.WayEffects.{resets_at, packet_keeps_pending}
 use Rattle.usb_tree.specs.Paths.{address_of}
 

@@ -7,8 +7,7 @@ use Rattle.usb_port.specs.{is_attached, PortCall, SetReset, ClearPower, ClearCon
 use Rattle.usb_port.specs.{is_reset}
 use Rattle.usb_device.specs.declared.transfer.RememberedPacket.TheVariants.{Nothing}
 use Rattle.usb_device.specs.{State, reset_state, Effect, Leaves, Calls, PortsOff, Ports, ended}
-use Rattle.usb_device.specs.{vacant, taken, all_off, empty, full, place_at, effect_of, Sent}
-use Rattle.usb_device.specs.Tree.{Place}
+use Rattle.usb_device.specs.{vacant, taken, all_off, empty, full, place_at, effect_of, Sent, Place}
 use Rattle.usb_tree.specs.Paths.{same_number}
 
 -- a device that was just reset: at address 0, not configured, it remembers nothing, and its ports

@@ -1,8 +1,7 @@
 -- Bytes in hexadecimal digits, one after the other.
-use Rattle.std.proofs.Common.{◌≡◌, ℕ, ◌+◌, ◌<◌, List, [], ◌∷◌, ◌++◌, length, get_or, drop, sym, ap}
-use Rattle.std.proofs.Common.{◌∙◌, append_assoc, add-one, drop-cons, length-append}
+use Rattle.std.proofs.Common.{◌≡◌, ℕ, ◌+◌, List, [], ◌∷◌, ◌++◌, length, ap}
+use Rattle.std.proofs.Common.{◌∙◌, length-append}
 use Rattle.hex.specs.Hex.{encode_upper, encode_with}
-use Rattle.usb_packet.proofs.Interface.{encode_upper_byte}
 
 pub length-encode_upper-more : (line line' : List ℕ) (byte : ℕ)
     → line' ≡ line ++ encode_upper (byte ∷ []) → length line' ≡ length line + 2

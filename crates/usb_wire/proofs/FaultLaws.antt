@@ -99,50 +99,19 @@ fault_in-path : (word : List ℕ) → fault_in (path_in word)
 unfolding path_in
 fault_in-path word = fault_in-ok_or (path_of word) BadPath
 
--- ---- the rows of each form, by what is so of its words
+-- ---- the rows of a form, by what is so of its words
 
-roots_table : (n : Bool) → first_fault_of (if n then Some BadNumber else None) None
-    ≡ (if n || false then Some BadNumber else None)
-roots_table true = refl
-roots_table false = refl
-
-data_table : (h l : Bool) → first_fault_of (if not h then Some BadHex else if l then Some BadLength
-    else None) None ≡ (if not h || false then Some BadHex else if l || false then Some BadLength
-    else None)
-data_table true true = refl
-data_table true false = refl
-data_table false l = refl
-
-clear_table : (p : Bool) → first_fault_of (if p then Some BadPath else None) None
-    ≡ (if p || false then Some BadPath else None)
-clear_table true = refl
-clear_table false = refl
-
-send_table : (h l p : Bool) → first_fault_of
-    (if not h then Some BadHex else if l then Some BadLength else None)
-    (first_fault_of (if p then Some BadPath else None) None)
-    ≡ (if not h || false then Some BadHex else if l || false then Some BadLength else if p ||
-    false then Some BadPath else None)
-send_table true true p = refl
-send_table true false true = refl
-send_table true false false = refl
-send_table false l p = refl
-
-receive_table : (n p : Bool) → first_fault_of (if n then Some BadNumber else None)
-    (first_fault_of (if p then Some BadPath else None) None)
-    ≡ (if n || false then Some BadNumber else if p || false then Some BadPath else None)
-receive_table true p = refl
-receive_table false true = refl
-receive_table false false = refl
-
-push_table : (h l n : Bool) → first_fault_of (if not h then Some BadHex else if not l then Some
-    BadLength else None) (first_fault_of (if n then Some BadNumber else None) None)
-    ≡ (if not h || false then Some BadHex else if not l || false then Some BadLength else if n ||
-    false then Some BadNumber else None)
-push_table true false n = refl
-push_table true true true = refl
-push_table true true false = refl
-push_table false l n = refl
+faults_table : (h l n m p : Bool) → first_fault_of (if h then Some BadHex else if l then Some
+    BadLength else if n then Some BadNumber else None)
+    (first_fault_of (if m then Some BadNumber else if p then Some BadPath else None) None)
+    ≡ (if h || false then Some BadHex else if l || false then Some BadLength else if n ||
+    (m || false) then Some BadNumber else if p || false then Some BadPath else None)
+faults_table true l n m p = refl
+faults_table false true n m p = refl
+faults_table false false true m p = refl
+faults_table false false false true p = refl
+faults_table false false false false true = refl
+faults_table false false false false false = refl
 
 -- ---- the readers of each form
 
@@ -164,126 +133,97 @@ receive_given n p = Ok (Receive p n)
 abbrev push_given : List ℕ → ℕ → Result Said WireFault
 push_given xs number = Ok (Changed number xs)
 
+-- one reading, and two
+one_read : {A B : Type 0} (r : Result A WireFault) (f : A → Result B WireFault)
+    (o : Option WireFault) → fault_in r ≡ o → ((x : A) → fault_in (f x) ≡ None)
+    → fault_in (r >>= f) ≡ first_fault_of o None
+one_read r f o e h = fault_in-then r f None h ∙ ap (λ x. first_fault_of x None) e
+
+two_read : {A B C : Type 0} (r : Result A WireFault) (s : Result B WireFault)
+    (f : A → B → Result C WireFault) (o p : Option WireFault) → fault_in r ≡ o → fault_in s ≡ p
+    → ((x : A) (y : B) → fault_in (f x y) ≡ None)
+    → fault_in (r >>= (λ x. s >>= f x)) ≡ first_fault_of o (first_fault_of p None)
+two_read r s f o p e k h =
+    fault_in-then r (λ x. s >>= f x) (first_fault_of p None) (λ x. one_read s (f x) p k (h x))
+    ∙ ap (λ x. first_fault_of x (first_fault_of p None)) e
+
 faults-roots : (count : ℕ) (word : List ℕ) → fault_in (roots_answer word)
     ≡ argument_fault count (roots_field ∷ []) (word ∷ [])
 unfolding roots_answer
 faults-roots count word =
-    fault_in-then (number_of_word 1 7 word) roots_given None (λ _. refl)
-    ∙ ap (λ o. first_fault_of o None) (fault_in-number 1 7 word)
-    ∙ roots_table (is_none (number_within 1 7 word))
+    one_read (number_of_word 1 7 word) roots_given _ (fault_in-number 1 7 word) (λ _. refl)
+    ∙ faults_table false false (is_none (number_within 1 7 word)) false false
 
 faults-data : (count : ℕ) (toggle : Toggle) (word : List ℕ) → fault_in (data_answer toggle word)
     ≡ argument_fault count (bytes_field 64 ∷ []) (word ∷ [])
 unfolding data_answer
 faults-data count toggle word =
-    fault_in-then (bytes_of_word 64 word) (data_result toggle) None (λ _. refl)
-    ∙ ap (λ o. first_fault_of o None) (fault_in-bytes 64 word)
-    ∙ data_table (is_dash word || is_hex word) (nat_lt 64 (hex_length word))
+    one_read (bytes_of_word 64 word) (data_result toggle) _ (fault_in-bytes 64 word) (λ _. refl)
+    ∙ faults_table (not (is_dash word || is_hex word)) (nat_lt 64 (hex_length word)) false false
+    false
 
 faults-clear : (count : ℕ) (word : List ℕ) → fault_in (clear_answer word)
     ≡ argument_fault count (path_field ∷ []) (word ∷ [])
 unfolding clear_answer
-faults-clear count word =
-    fault_in-then (path_in word) clear_given None (λ _. refl)
-    ∙ ap (λ o. first_fault_of o None) (fault_in-path word)
-    ∙ clear_table (is_none (path_of word))
-
-path_last : {B : Type 0} (word : List ℕ) (f : List ℕ → Result B WireFault)
-    → ((p : List ℕ) → fault_in (f p) ≡ None) → fault_in (path_in word >>= f)
-    ≡ first_fault_of (if is_none (path_of word) then Some BadPath else None) None
-path_last word f h = fault_in-then (path_in word) f None h
-    ∙ ap (λ o. first_fault_of o None) (fault_in-path word)
+faults-clear count word = one_read (path_in word) clear_given _ (fault_in-path word) (λ _. refl)
+    ∙ faults_table false false false false (is_none (path_of word))
 
 faults-send : (count : ℕ) (first second : List ℕ) → fault_in (send_answer first second)
     ≡ argument_fault count (path_field ∷ bytes_field send_limit ∷ []) (first ∷ second ∷ [])
 unfolding send_answer
 faults-send count first second =
-    let last : Option WireFault = first_fault_of
-    (if is_none (path_of first) then Some BadPath else None) None in
-    fault_in-then (bytes_of_word send_limit second) (λ xs. path_in first >>= send_given xs) last
-    (λ xs. path_last first (send_given xs) (λ _. refl))
-    ∙ ap (λ o. first_fault_of o last) (fault_in-bytes send_limit second)
-    ∙ send_table (is_dash second || is_hex second) (nat_lt send_limit (hex_length second))
-    (is_none (path_of first))
+    two_read (bytes_of_word send_limit second) (path_in first) send_given _ _
+    (fault_in-bytes send_limit second) (fault_in-path first) (λ _ _. refl)
+    ∙ faults_table (not (is_dash second || is_hex second)) (nat_lt send_limit (hex_length second))
+    false false (is_none (path_of first))
 
 faults-receive : (count : ℕ) (first second : List ℕ) → fault_in (receive_answer first second)
     ≡ argument_fault count (path_field ∷ packets_field ∷ []) (first ∷ second ∷ [])
 unfolding receive_answer
 faults-receive count first second =
-    let last : Option WireFault = first_fault_of
-    (if is_none (path_of first) then Some BadPath else None) None in
-    fault_in-then (number_of_word 0 1000 second) (λ n. path_in first >>= receive_given n) last
-    (λ n. path_last first (receive_given n) (λ _. refl))
-    ∙ ap (λ o. first_fault_of o last) (fault_in-number 0 1000 second)
-    ∙ receive_table (is_none (number_within 0 1000 second)) (is_none (path_of first))
+    two_read (number_of_word 0 1000 second) (path_in first) receive_given _ _
+    (fault_in-number 0 1000 second) (fault_in-path first) (λ _ _. refl)
+    ∙ faults_table false false (is_none (number_within 0 1000 second)) false
+    (is_none (path_of first))
 
 faults-status_change : (count : ℕ) (first second : List ℕ)
     → fault_in (status_change count first second)
     ≡ argument_fault count (root_field ∷ status_field ∷ []) (first ∷ second ∷ [])
 unfolding status_change
 faults-status_change count first second =
-    let last : Option WireFault = first_fault_of (if is_none (number_within 1 count first) then Some
-    BadNumber else None) None in
-    fault_in-then (status_of_word second) (λ xs. number_of_word 1 count first >>= push_given xs)
-    last (λ xs. fault_in-then (number_of_word 1 count first) (push_given xs) None (λ _. refl)
-    ∙ ap (λ o. first_fault_of o None) (fault_in-number 1 count first))
-    ∙ ap (λ o. first_fault_of o last) (fault_in-status second)
-    ∙ push_table (is_dash second || is_hex second) (hex_length second == 4)
-    (is_none (number_within 1 count first))
+    two_read (status_of_word second) (number_of_word 1 count first) push_given _ _
+    (fault_in-status second) (fault_in-number 1 count first) (λ _ _. refl)
+    ∙ faults_table (not (is_dash second || is_hex second)) (not (hex_length second == 4)) false
+    (is_none (number_within 1 count first)) false
 
 -- ---- lines of one word, of two, of three
 
-attempt_alone : (count : ℕ) (a n s o : Bool)
-    → fault_in (said_of (if a then Ok Ack else if n then Ok Nak else if s then Ok Stall else if o
-    then Ok Nothing else Err NoAnswer))
-    ≡ fault_by count (if a then Some [] else if n then Some [] else if s then Some [] else if o
-    then Some [] else None) []
-attempt_alone count true n s o = refl
-attempt_alone count false true s o = refl
-attempt_alone count false false true o = refl
-attempt_alone count false false false true = refl
-attempt_alone count false false false false = refl
-
-port_alone : (count : ℕ) (d : Bool) → fault_in (said_of (if d then Ok Done else Err NoAnswer))
-    ≡ fault_by count (if d then Some [] else None) []
-port_alone count true = refl
-port_alone count false = refl
-
-wait_alone : (count : ℕ) (d s e : Bool)
-    → fault_in (said_of (if d then Ok Done else if s then Ok Show else if e then Ok End else Err
-    NoAnswer))
-    ≡ fault_by count (if d then Some [] else if s then Some [] else if e then Some [] else None) []
-wait_alone count true s e = refl
-wait_alone count false true e = refl
-wait_alone count false false true = refl
-wait_alone count false false false = refl
+-- one form, if its test holds, or another
+form_or : (count : ℕ) (b : Bool) (r s : Result Answer WireFault) (fields : List Field)
+    (others : Option (List Field)) (arguments : List (List ℕ))
+    → fault_in r ≡ argument_fault count fields arguments
+    → fault_in (said_of s) ≡ fault_by count others arguments
+    → fault_in (said_of (if b then r else s))
+    ≡ fault_by count (if b then Some fields else others) arguments
+form_or count true r s fields others arguments h k = fault_in-said_of r ∙ h
+form_or count false r s fields others arguments h k = k
 
 faults-alone : (asked : Asked) (count : ℕ) (word : List ℕ) → fault_in (said_of (alone asked word))
     ≡ words_fault asked count (word ∷ [])
 unfolding alone
 faults-alone Hello count word = refl
-faults-alone Attempt count word = attempt_alone count (bytes_eq word (codes "ACK"))
-    (bytes_eq word (codes "NAK")) (bytes_eq word (codes "STALL")) (bytes_eq word (codes "none"))
-faults-alone Port count word = port_alone count (bytes_eq word (codes "ok"))
-faults-alone Wait count word = wait_alone count (bytes_eq word (codes "ok"))
-    (bytes_eq word (codes "show")) (bytes_eq word (codes "end"))
-
--- one form, if its test holds
-one_form : (count : ℕ) (b : Bool) (r : Result Answer WireFault) (fields : List Field)
-    (arguments : List (List ℕ)) → fault_in r ≡ argument_fault count fields arguments
-    → fault_in (said_of (if b then r else Err NoAnswer))
-    ≡ fault_by count (if b then Some fields else None) arguments
-one_form count true r fields arguments h = fault_in-said_of r ∙ h
-one_form count false r fields arguments h = refl
-
-two_forms : (count : ℕ) (b d : Bool) (r s : Result Answer WireFault) (fields others : List Field)
-    (arguments : List (List ℕ))
-    → fault_in r ≡ argument_fault count fields arguments
-    → fault_in s ≡ argument_fault count others arguments
-    → fault_in (said_of (if b then r else if d then s else Err NoAnswer))
-    ≡ fault_by count (if b then Some fields else if d then Some others else None) arguments
-two_forms count true d r s fields others arguments h k = fault_in-said_of r ∙ h
-two_forms count false d r s fields others arguments h k = one_form count d s others arguments k
+faults-alone Attempt count word =
+    form_or count (bytes_eq word (codes "ACK")) (Ok Ack) _ [] _ [] refl
+    (form_or count (bytes_eq word (codes "NAK")) (Ok Nak) _ [] _ [] refl
+    (form_or count (bytes_eq word (codes "STALL")) (Ok Stall) _ [] _ [] refl
+    (form_or count (bytes_eq word (codes "none")) (Ok Nothing) (Err NoAnswer) [] None [] refl
+    refl)))
+faults-alone Port count word =
+    form_or count (bytes_eq word (codes "ok")) (Ok Done) (Err NoAnswer) [] None [] refl refl
+faults-alone Wait count word =
+    form_or count (bytes_eq word (codes "ok")) (Ok Done) _ [] _ [] refl
+    (form_or count (bytes_eq word (codes "show")) (Ok Show) _ [] _ [] refl
+    (form_or count (bytes_eq word (codes "end")) (Ok End) (Err NoAnswer) [] None [] refl refl))
 
 -- a push, or another form
 push_or : (count : ℕ) (b : Bool) (r : Result Said WireFault) (s : Result Said WireFault)
@@ -299,17 +239,17 @@ faults-one : (asked : Asked) (count : ℕ) (word argument : List ℕ)
     ≡ words_fault asked count (word ∷ argument ∷ [])
 unfolding with_one
 faults-one Hello count word argument =
-    one_form count (bytes_eq word (codes "roots")) (roots_answer argument) (roots_field ∷ [])
-    (argument ∷ []) (faults-roots count argument)
+    form_or count (bytes_eq word (codes "roots")) (roots_answer argument) (Err NoAnswer)
+    (roots_field ∷ []) None (argument ∷ []) (faults-roots count argument) refl
 faults-one Attempt count word argument =
-    two_forms count (bytes_eq word (codes "DATA0")) (bytes_eq word (codes "DATA1"))
-    (data_answer Zero argument) (data_answer One argument) (bytes_field 64 ∷ [])
-    (bytes_field 64 ∷ []) (argument ∷ [])
-    (faults-data count Zero argument) (faults-data count One argument)
+    form_or count (bytes_eq word (codes "DATA0")) (data_answer Zero argument) _
+    (bytes_field 64 ∷ []) _ (argument ∷ []) (faults-data count Zero argument)
+    (form_or count (bytes_eq word (codes "DATA1")) (data_answer One argument) (Err NoAnswer)
+    (bytes_field 64 ∷ []) None (argument ∷ []) (faults-data count One argument) refl)
 faults-one Port count word argument = refl
 faults-one Wait count word argument =
-    one_form count (bytes_eq word (codes "clear")) (clear_answer argument) (path_field ∷ [])
-    (argument ∷ []) (faults-clear count argument)
+    form_or count (bytes_eq word (codes "clear")) (clear_answer argument) (Err NoAnswer)
+    (path_field ∷ []) None (argument ∷ []) (faults-clear count argument) refl
 
 faults-three : (asked : Asked) (count : ℕ) (word first second : List ℕ)
     → fault_in (three_say asked count word first second)
@@ -325,18 +265,15 @@ faults-three Port count word first second =
     (root_field ∷ status_field ∷ []) None (first ∷ second ∷ [])
     (faults-status_change count first second) refl
 faults-three Wait count word first second =
-    let sends = bytes_eq word (codes "send") in
-    let receives = bytes_eq word (codes "receive") in
-    push_or count (bytes_eq word (codes "port")) (status_change count first second)
-    (said_of (if sends then send_answer first second else if receives then receive_answer first
-    second else Err NoAnswer)) (root_field ∷ status_field ∷ [])
-    (if sends then Some (path_field ∷ bytes_field send_limit ∷ []) else if receives then Some
-    (path_field ∷ packets_field ∷ []) else None) (first ∷ second ∷ [])
+    push_or count (bytes_eq word (codes "port")) (status_change count first second) _
+    (root_field ∷ status_field ∷ []) _ (first ∷ second ∷ [])
     (faults-status_change count first second)
-    (two_forms count sends receives (send_answer first second) (receive_answer first second)
-    (path_field ∷ bytes_field send_limit ∷ []) (path_field ∷ packets_field ∷ [])
-    (first ∷ second ∷ [])
-    (faults-send count first second) (faults-receive count first second))
+    (form_or count (bytes_eq word (codes "send")) (send_answer first second) _
+    (path_field ∷ bytes_field send_limit ∷ []) _ (first ∷ second ∷ [])
+    (faults-send count first second)
+    (form_or count (bytes_eq word (codes "receive")) (receive_answer first second) (Err NoAnswer)
+    (path_field ∷ packets_field ∷ []) None (first ∷ second ∷ [])
+    (faults-receive count first second) refl))
 
 -- ---- lines of more words have no form
 
@@ -358,9 +295,7 @@ fields_in-long (f ∷ fs) word arguments short long =
 
 short_forms : (asked : Asked) → list_all is_short (forms asked) ≡ true
 short_forms Hello = refl
-short_forms Attempt = refl
-short_forms Port = refl
-short_forms Wait = refl
+short_forms _ = refl
 
 faults-words : (asked : Asked) (count : ℕ) (ws : List (List ℕ))
     → fault_in (words_say asked count ws) ≡ words_fault asked count ws

@@ -29,7 +29,8 @@ use Rattle.usb_wire.specs.{question_bytes, question_line, question_in_digits, sp
 use Rattle.usb_wire.specs.{token_text, bytes_of_word, number_of_word, text_of_line, all_printable}
 use Rattle.usb_wire.specs.declared.question.Question.TheVariants.{Hello, Setup, Out, In, Port, Wait}
 use Rattle.usb_wire.specs.QuestionReading.{◌>>=◌}
-use Rattle.usb_wire.proofs.FieldLemmas.{all_digits-decimal, all_visible-decimal, hex_value-hex_text}
+use Rattle.usb_wire.proofs.FieldLemmas.{Ok-from_result_ok as ok_read, all_digits-decimal}
+use Rattle.usb_wire.proofs.FieldLemmas.{all_visible-decimal, hex_value-hex_text}
 use Rattle.usb_wire.proofs.ReadLaws.{IsVisibleWord, bytes_word, decimal-is_word, read_bytes}
 use Rattle.usb_wire.proofs.ReadLaws.{read_number}
 use Rattle.usb_wire.proofs.SaidLaws.{IsDataWord, bytes_of_word-data}
@@ -50,10 +51,10 @@ cut_at-none : (mark : ℕ) (text : List ℕ) → HasNo mark text → cut_at mark
 unfolding cut_at
 cut_at-none mark [] h = refl
 cut_at-none mark (c ∷ text) h =
-    ap (λ b. if b then Some ([], text) else option_map (λ cut. (c ∷ cut.0, cut.1))
-    (cut_at mark text)) (other_unit mark c (h 0 (omega arith)))
-    ∙ ap (option_map (λ cut. (c ∷ cut.0, cut.1)))
-    (cut_at-none mark text (λ i less. h (suc i) (omega arith)))
+    rw (
+      other_unit mark c (h 0 (omega arith)),
+      cut_at-none mark text (λ i less. h (suc i) (omega arith)),
+    ) refl
 
 same_unit : (mark : ℕ) → (mark == mark) ≡ true
 same_unit mark = grind (arith, nat_tests)
@@ -61,13 +62,12 @@ same_unit mark = grind (arith, nat_tests)
 cut_at-mark : (mark : ℕ) (text rest : List ℕ) → HasNo mark text → cut_at mark (text ++ mark ∷ rest)
     ≡ Some (text, rest)
 unfolding cut_at
-cut_at-mark mark [] rest h = ap (λ b. if b then Some ([], rest) else option_map
-    (λ cut. (mark ∷ cut.0, cut.1)) (cut_at mark rest)) (same_unit mark)
+cut_at-mark mark [] rest h = rw (same_unit mark) refl
 cut_at-mark mark (c ∷ text) rest h =
-    ap (λ b. if b then Some ([], text ++ mark ∷ rest) else option_map (λ cut. (c ∷ cut.0, cut.1))
-    (cut_at mark (text ++ mark ∷ rest))) (other_unit mark c (h 0 (omega arith)))
-    ∙ ap (option_map (λ cut. (c ∷ cut.0, cut.1)))
-    (cut_at-mark mark text rest (λ i less. h (suc i) (omega arith)))
+    rw (
+      other_unit mark c (h 0 (omega arith)),
+      cut_at-mark mark text rest (λ i less. h (suc i) (omega arith)),
+    ) refl
 
 -- what `split_once` gives
 pub cut_at-split_once : (mark : ℕ) (text : List ℕ) (r : Option (Bor (List ℕ) × Bor (List ℕ)))
@@ -114,9 +114,12 @@ if_some_cases false o p y e k l = l e
 none_not_some : {A P : Type 0} (y : A) → ◌≡◌ {A = Option A} None (Some y) → P
 none_not_some y e = absurd (cc)
 
-ok_read : {A : Type 0} (r : Result A WireFault) (y : A) → result_ok r ≡ Some y → r ≡ Ok y
-ok_read (Ok x) y e = ap Ok (same_Some x y e)
-ok_read (Err fault) y e = absurd (cc)
+-- the word is the name, or another
+by_word : {A : Type 0} (P : List ℕ → Type 0) (word name : List ℕ) (r s : Option A) (y : A)
+    → (if bytes_eq word name then r else s) ≡ Some y → (r ≡ Some y → P name)
+    → (s ≡ Some y → P word) → P word
+by_word P word name r s y e k l = if_some_cases (bytes_eq word name) r s y e
+    (λ same e. subst P (sym (word_is word name same)) (k e)) l
 
 -- ---- endpoints
 
@@ -190,8 +193,7 @@ token_word InTok = codes "IN"
 named_token : (kind : TokenKind) (rest : List ℕ) → token_word kind ++ 32 ∷ rest ≡ token_name kind ++
     rest
 named_token SetupTok rest = refl
-named_token OutTok rest = refl
-named_token InTok rest = refl
+named_token _ rest = refl
 
 token_spelled : (kind : TokenKind) (e : Endpoint) (rest : List ℕ)
     → token_word kind ++ 32 ∷ (endpoint_text e ++ rest) ≡ token_text kind e ++ rest
@@ -214,13 +216,11 @@ toggle_found : (word : List ℕ) (t : Toggle) (rest : List ℕ) → toggle_named
     → word ++ 32 ∷ rest ≡ data_name t ++ rest
 unfolding toggle_named
 toggle_found word t rest e =
-    if_some_cases (bytes_eq word (codes "DATA0")) (Some Zero) _ t e
-    (λ same is. subst (λ t. word ++ 32 ∷ rest ≡ data_name t ++ rest) (same_Some Zero t is)
-    (ap (λ w. w ++ 32 ∷ rest) (word_is word (codes "DATA0") same))) (λ e.
-    if_some_cases (bytes_eq word (codes "DATA1")) (Some One) _ t e
-    (λ same is. subst (λ t. word ++ 32 ∷ rest ≡ data_name t ++ rest) (same_Some One t is)
-    (ap (λ w. w ++ 32 ∷ rest) (word_is word (codes "DATA1") same))) (λ e.
-    none_not_some t e))
+    let P : List ℕ → Type 0 = λ w. w ++ 32 ∷ rest ≡ data_name t ++ rest in
+    by_word P word (codes "DATA0") (Some Zero) _ t e
+    (λ is. ap (λ t. data_name t ++ rest) (same_Some Zero t is)) (λ e.
+    by_word P word (codes "DATA1") (Some One) _ t e
+    (λ is. ap (λ t. data_name t ++ rest) (same_Some One t is)) (λ e. none_not_some t e))
 
 pre_found : (text rest : List ℕ) → behind_pre_word text ≡ Some rest → text ≡ codes "PRE " ++ rest
 unfolding behind_pre_word
@@ -336,15 +336,7 @@ is_eight (a ∷ b ∷ c ∷ d ∷ e ∷ f ∷ g ∷ h ∷ []) size small =
       again = rw (value.low, value.high, index.low, index.high, count.low, count.high) refl;
       fits = (small 0, small 1, value.few, index.few, count.few);
     }
-is_eight [] size small = absurd (omega arith)
-is_eight (a ∷ []) size small = absurd (omega arith)
-is_eight (a ∷ b ∷ []) size small = absurd (omega arith)
-is_eight (a ∷ b ∷ c ∷ []) size small = absurd (omega arith)
-is_eight (a ∷ b ∷ c ∷ d ∷ []) size small = absurd (omega arith)
-is_eight (a ∷ b ∷ c ∷ d ∷ e ∷ []) size small = absurd (omega arith)
-is_eight (a ∷ b ∷ c ∷ d ∷ e ∷ f ∷ []) size small = absurd (omega arith)
-is_eight (a ∷ b ∷ c ∷ d ∷ e ∷ f ∷ g ∷ []) size small = absurd (omega arith)
-is_eight (a ∷ b ∷ c ∷ d ∷ e ∷ f ∷ g ∷ h ∷ i ∷ xs) size small = absurd (omega arith)
+is_eight _ size small = absurd (omega arith)
 
 record GivenSetup (t : Toggle) (digits : List ℕ) (setup : SetupData) : Type 0 where
   zero_toggle : t ≡ Zero
@@ -403,31 +395,19 @@ setup_found speed text q e =
     (spoken speed SetupTok dev text cut.0 cut.1 Zero sent.1 (cut_at-some 32 text cut found)
     device.text behind))))))
 
-call_at : (text name : List ℕ) (a b : PortCall) → bytes_eq text name ≡ true → name ≡ call_text a
-    → ◌≡◌ {A = Option PortCall} (Some a) (Some b) → text ≡ call_text b
-call_at text name a b same is e = word_is text name same ∙ is ∙ ap call_text (same_Some a b e)
+call_if : (text : List ℕ) (a b : PortCall) (r : Option PortCall)
+    → (if bytes_eq text (call_text a) then Some a else r) ≡ Some b → (r ≡ Some b
+    → text ≡ call_text b) → text ≡ call_text b
+call_if text a b r e k = by_word (λ t. t ≡ call_text b) text (call_text a) (Some a) r b e
+    (λ is. ap call_text (same_Some a b is)) k
 
 call_found : (text : List ℕ) (call : PortCall) → call_in text ≡ Some call → text ≡ call_text call
 unfolding call_in
 call_found text call e =
-    if_some_cases (bytes_eq text (codes "set PORT_POWER")) (Some SetPower) _ call e
-    (λ same is. call_at text (codes "set PORT_POWER") SetPower call same refl is) (λ e.
-    if_some_cases (bytes_eq text (codes "set PORT_RESET")) (Some SetReset) _ call e
-    (λ same is. call_at text (codes "set PORT_RESET") SetReset call same refl is) (λ e.
-    if_some_cases (bytes_eq text (codes "clear PORT_ENABLE")) (Some ClearEnable) _ call e
-    (λ same is. call_at text (codes "clear PORT_ENABLE") ClearEnable call same refl is) (λ e.
-    if_some_cases (bytes_eq text (codes "clear PORT_POWER")) (Some ClearPower) _ call e
-    (λ same is. call_at text (codes "clear PORT_POWER") ClearPower call same refl is) (λ e.
-    if_some_cases (bytes_eq text (codes "clear C_PORT_CONNECTION")) (Some ClearConnectionChange) _
-    call e (λ same is. call_at text (codes "clear C_PORT_CONNECTION") ClearConnectionChange call
-    same refl is) (λ e.
-    if_some_cases (bytes_eq text (codes "clear C_PORT_ENABLE")) (Some ClearEnableChange) _ call e
-    (λ same is. call_at text (codes "clear C_PORT_ENABLE") ClearEnableChange call same refl is)
-    (λ e.
-    if_some_cases (bytes_eq text (codes "clear C_PORT_RESET")) (Some ClearResetChange) _ call e
-    (λ same is. call_at text (codes "clear C_PORT_RESET") ClearResetChange call same refl is)
-    (λ e.
-    none_not_some call e)))))))
+    call_if text SetPower call _ e (λ e. call_if text SetReset call _ e (λ e.
+    call_if text ClearEnable call _ e (λ e. call_if text ClearPower call _ e (λ e.
+    call_if text ClearConnectionChange call _ e (λ e. call_if text ClearEnableChange call _ e (λ e.
+    call_if text ClearResetChange call _ e (λ e. none_not_some call e)))))))
 
 three_parts : (front first last : List ℕ) → front ++ (first ++ 32 ∷ last) ≡ front ++ first ++
     codes " " ++ last
@@ -452,25 +432,15 @@ port_found text q e =
     subst (IsAsked _) (same_Some (Port n call) q is)
     (asked_with _ (codes "-") (Port n call) (number.low, number.high) refl line_is))))
 
-word_at_front : (speed : Speed) (word name text : List ℕ) (q : Question) → bytes_eq word name ≡ true
-    → IsAsked (speed_text speed ++ (name ++ 32 ∷ text)) q
-    → IsAsked (speed_text speed ++ (word ++ 32 ∷ text)) q
-word_at_front speed word name text q same h =
-    subst (λ w. IsAsked (speed_text speed ++ (w ++ 32 ∷ text)) q) (sym (word_is word name same)) h
-
 token_found : (speed : Speed) (word text : List ℕ) (q : Question) → token_of_words speed word text
     ≡ Some q → IsAsked (speed_text speed ++ (word ++ 32 ∷ text)) q
 unfolding token_of_words
 token_found speed word text q e =
-    if_some_cases (bytes_eq word (codes "SETUP")) (setup_question speed text) _ q e
-    (λ same e. word_at_front speed word (codes "SETUP") text q same
-    (setup_found speed text q e)) (λ e.
-    if_some_cases (bytes_eq word (codes "OUT")) (out_question speed text) _ q e
-    (λ same e. word_at_front speed word (codes "OUT") text q same (out_found speed text q e))
+    let P : List ℕ → Type 0 = λ w. IsAsked (speed_text speed ++ (w ++ 32 ∷ text)) q in
+    by_word P word (codes "SETUP") (setup_question speed text) _ q e (setup_found speed text q)
     (λ e.
-    if_some_cases (bytes_eq word (codes "IN")) (in_question speed text) _ q e
-    (λ same e. word_at_front speed word (codes "IN") text q same (in_found speed text q e))
-    (λ e.
+    by_word P word (codes "OUT") (out_question speed text) _ q e (out_found speed text q) (λ e.
+    by_word P word (codes "IN") (in_question speed text) _ q e (in_found speed text q) (λ e.
     none_not_some q e)))
 
 behind_found : (speed : Speed) (text : List ℕ) (q : Question) → token_behind speed text ≡ Some q
@@ -482,27 +452,16 @@ behind_found speed text q e =
     (ap (λ t. speed_text speed ++ t) (cut_at-some 32 text cut found))
     (token_found speed cut.0 cut.1 q e))
 
-asked_of_cut : (text : List ℕ) (cut : List ℕ × List ℕ) (name : List ℕ) (q : Question)
-    → cut_at 32 text ≡ Some cut → bytes_eq cut.0 name ≡ true → IsAsked (name ++ 32 ∷ cut.1) q
-    → IsAsked text q
-asked_of_cut text cut name q found same h =
-    asked_same_line text (name ++ 32 ∷ cut.1) q (cut_at-some 32 text cut found
-    ∙ ap (λ w. w ++ 32 ∷ cut.1) (word_is cut.0 name same)) h
-
 several_found : (text : List ℕ) (q : Question) → asked_in text ≡ Some q → IsAsked text q
 unfolding asked_in
 several_found text q e =
     bind_some (cut_at 32 text) _ q e (λ cut found e.
-    if_some_cases (bytes_eq cut.0 (codes "port")) (port_question cut.1) _ q e
-    (λ same e. asked_of_cut text cut (codes "port") q found same (port_found cut.1 q e)) (λ e.
-    if_some_cases (bytes_eq cut.0 (codes "low")) (token_behind Low cut.1) _ q e
-    (λ same e. asked_of_cut text cut (codes "low") q found same (behind_found Low cut.1 q e))
-    (λ e.
-    if_some_cases (bytes_eq cut.0 (codes "PRE")) (token_behind LowBelowHub cut.1) _ q e
-    (λ same e. asked_of_cut text cut (codes "PRE") q found same
-    (behind_found LowBelowHub cut.1 q e)) (λ e.
+    let P : List ℕ → Type 0 = λ w. IsAsked (w ++ 32 ∷ cut.1) q in
     asked_same_line text (cut.0 ++ 32 ∷ cut.1) q (cut_at-some 32 text cut found)
-    (token_found Full cut.0 cut.1 q e)))))
+    (by_word P cut.0 (codes "port") (port_question cut.1) _ q e (port_found cut.1 q) (λ e.
+    by_word P cut.0 (codes "low") (token_behind Low cut.1) _ q e (behind_found Low cut.1 q) (λ e.
+    by_word P cut.0 (codes "PRE") (token_behind LowBelowHub cut.1) _ q e
+    (behind_found LowBelowHub cut.1 q) (λ e. token_found Full cut.0 cut.1 q e)))))
 
 text_read : (l p : Bool) (line text : List ℕ)
     → ◌≡◌ {A = Result (List ℕ) WireFault} (if l then Err LineTooLong else if p then Ok line else Err
@@ -521,13 +480,12 @@ question_found line q e =
     bind_some (result_ok (text_of_line line)) _ q e (λ text read e.
     asked_same_line line text q (text_of_line-ok line text (ok_read (text_of_line line) text read))
     (
-    if_some_cases (bytes_eq text (codes "wait")) (Some Wait) _ q e
-    (λ same is. subst (IsAsked text) (same_Some Wait q is)
-    (asked_with text (codes "-") Wait tt refl (word_is text (codes "wait") same))) (λ e.
-    if_some_cases (bytes_eq text (codes "usbplan live 1")) (Some Hello) _ q e
-    (λ same is. subst (IsAsked text) (same_Some Hello q is)
-    (asked_with text (codes "-") Hello tt refl (word_is text (codes "usbplan live 1") same)))
-    (λ e.
+    by_word (λ t. IsAsked t q) text (codes "wait") (Some Wait) _ q e
+    (λ is. subst (IsAsked _) (same_Some Wait q is)
+    (asked_with (codes "wait") (codes "-") Wait tt refl refl)) (λ e.
+    by_word (λ t. IsAsked t q) text (codes "usbplan live 1") (Some Hello) _ q e
+    (λ is. subst (IsAsked _) (same_Some Hello q is)
+    (asked_with (codes "usbplan live 1") (codes "-") Hello tt refl refl)) (λ e.
     several_found text q e))))
 
 pub question_read-some : (line : List ℕ) (r : Option Question) → r ≡ question_of line
@@ -555,18 +513,15 @@ fine_word word w = record { short = w.short; printable = all_printable-visible w
 
 fine_speed : (speed : Speed) → Fine 9 (speed_text speed)
 fine_speed Full = record { short = lit≤ tt; printable = refl }
-fine_speed Low = record { short = lit≤ tt; printable = refl }
-fine_speed LowBelowHub = record { short = lit≤ tt; printable = refl }
+fine_speed _ = record { short = lit≤ tt; printable = refl }
 
 fine_pre : (speed : Speed) → Fine 9 (between_text speed)
 fine_pre Full = record { short = lit≤ tt; printable = refl }
-fine_pre Low = record { short = lit≤ tt; printable = refl }
-fine_pre LowBelowHub = record { short = lit≤ tt; printable = refl }
+fine_pre _ = record { short = lit≤ tt; printable = refl }
 
 fine_name : (kind : TokenKind) → Fine 9 (token_name kind)
 fine_name SetupTok = record { short = lit≤ tt; printable = refl }
-fine_name OutTok = record { short = lit≤ tt; printable = refl }
-fine_name InTok = record { short = lit≤ tt; printable = refl }
+fine_name _ = record { short = lit≤ tt; printable = refl }
 
 fine_data : (t : Toggle) → Fine 9 (data_name t)
 fine_data Zero = record { short = lit≤ tt; printable = refl }
@@ -574,12 +529,7 @@ fine_data One = record { short = lit≤ tt; printable = refl }
 
 fine_call : (call : PortCall) → Fine 40 (call_text call)
 fine_call SetPower = record { short = lit≤ tt; printable = refl }
-fine_call SetReset = record { short = lit≤ tt; printable = refl }
-fine_call ClearEnable = record { short = lit≤ tt; printable = refl }
-fine_call ClearPower = record { short = lit≤ tt; printable = refl }
-fine_call ClearConnectionChange = record { short = lit≤ tt; printable = refl }
-fine_call ClearEnableChange = record { short = lit≤ tt; printable = refl }
-fine_call ClearResetChange = record { short = lit≤ tt; printable = refl }
+fine_call _ = record { short = lit≤ tt; printable = refl }
 
 fine_blank : Fine 1 (codes " ")
 fine_blank = record { short = lit≤ tt; printable = refl }
@@ -632,14 +582,9 @@ token_reached : (speed : Speed) (kind : TokenKind) (rest : List ℕ)
     ≡ token_of_words speed (token_word kind) rest
 unfolding asked_in cut_at token_behind
 token_reached Full SetupTok rest = refl
-token_reached Full OutTok rest = refl
-token_reached Full InTok rest = refl
 token_reached Low SetupTok rest = refl
-token_reached Low OutTok rest = refl
-token_reached Low InTok rest = refl
 token_reached LowBelowHub SetupTok rest = refl
-token_reached LowBelowHub OutTok rest = refl
-token_reached LowBelowHub InTok rest = refl
+token_reached _ _ rest = refl
 
 endpoint_visible : (e : Endpoint) → IsEndpoint e → all_visible (endpoint_text e) ≡ true
 endpoint_visible e h =
@@ -661,28 +606,20 @@ behind_device LowBelowHub t digits = codes "/ PRE " ++ data_with t digits
 pre_is : (speed : Speed) (t : Toggle) (digits : List ℕ) → between_text speed ++ data_with t digits
     ≡ 32 ∷ behind_device speed t digits
 pre_is Full t digits = refl
-pre_is Low t digits = refl
-pre_is LowBelowHub t digits = refl
+pre_is _ t digits = refl
 
 data_reached_at : (speed : Speed) (t : Toggle) (digits : List ℕ)
     → data_behind speed (behind_device speed t digits) ≡ Some (t, digits)
 unfolding data_behind cut_at after_pre behind_pre_word toggle_named
 data_reached_at Full Zero digits = refl
-data_reached_at Full One digits = refl
 data_reached_at Low Zero digits = refl
-data_reached_at Low One digits = refl
 data_reached_at LowBelowHub Zero digits = refl
-data_reached_at LowBelowHub One digits = refl
+data_reached_at _ _ digits = refl
 
 call_read : (call : PortCall) → call_in (call_text call) ≡ Some call
 unfolding call_in
 call_read SetPower = refl
-call_read SetReset = refl
-call_read ClearEnable = refl
-call_read ClearPower = refl
-call_read ClearConnectionChange = refl
-call_read ClearEnableChange = refl
-call_read ClearResetChange = refl
+call_read _ = refl
 
 port_cut : (rest : List ℕ) → cut_at 32 (codes "port " ++ rest) ≡ Some (codes "port", rest)
 unfolding cut_at
@@ -810,12 +747,9 @@ small_setup s h =
     IsBytes-cons s.request_type (s.request ∷ v) h.0 (IsBytes-cons s.request v h.1 small_v)
 
 question_small : (q : Question) → IsQuestion q → IsBytes (question_bytes q)
-question_small Hello h = IsBytes-none
 question_small (Setup speed endpoint setup) h = small_setup setup h.1
 question_small (Out speed endpoint sent) h = h.1.1
-question_small (In speed endpoint most) h = IsBytes-none
-question_small (Port number call) h = IsBytes-none
-question_small Wait h = IsBytes-none
+question_small _ h = IsBytes-none
 
 -- the line that is written asks what it was written for
 pub IsQuestionLine-question_line : (q : Question) → IsQuestion q

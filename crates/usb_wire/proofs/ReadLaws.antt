@@ -141,11 +141,7 @@ push_said : (asked : Asked) (count number : ℕ) (status digits : List ℕ) → 
     ≡ Ok (Changed number status)
 unfolding words_say three_say status_change
 push_said Hello count number status digits may low high small e four = absurd may
-push_said Attempt count number status digits may low high small e four =
-    rw (read_status digits status e four, read_number 1 count number low high (omega arith)) refl
-push_said Port count number status digits may low high small e four =
-    rw (read_status digits status e four, read_number 1 count number low high (omega arith)) refl
-push_said Wait count number status digits may low high small e four =
+push_said _ count number status digits may low high small e four =
     rw (read_status digits status e four, read_number 1 count number low high (omega arith)) refl
 
 read_changed : (asked : Asked) (count number : ℕ) (status digits : List ℕ) → MayPush asked
@@ -158,11 +154,6 @@ read_changed asked count number status digits may low high small e four =
     (bytes_word 500 digits status e (omega (arith, four)))
     (push_said asked count number status digits may low high small e four)
 
-roots_said : (count n : ℕ) → 1 ≤ n → n ≤ 7 → words_say Hello count (codes "roots" ∷ decimal n ∷ [])
-    ≡ Ok (Answered (Roots n))
-unfolding words_say with_one roots_answer
-roots_said count n low high = rw (read_number 1 7 n low high (omega arith)) refl
-
 data_said : (count : ℕ) (toggle : Toggle) (xs digits : List ℕ) → hex_value digits ≡ Some xs
     → length xs ≤ 64
     → words_say Attempt count (printed_data toggle ∷ digits ∷ [])
@@ -171,81 +162,55 @@ unfolding words_say with_one data_answer
 data_said count Zero xs digits e few = rw (read_bytes 64 digits xs e few) refl
 data_said count One xs digits e few = rw (read_bytes 64 digits xs e few) refl
 
-clear_said : (count : ℕ) (p : List ℕ) → IsPath p
-    → words_say Wait count (codes "clear" ∷ path_text p ∷ []) ≡ Ok (Answered (Clear p))
-unfolding words_say with_one clear_answer
-clear_said count p h = rw (read_path p h) refl
-
-send_said : (count : ℕ) (p xs digits : List ℕ) → IsPath p → hex_value digits ≡ Some xs
-    → length xs ≤ send_limit
-    → words_say Wait count (codes "send" ∷ path_text p ∷ digits ∷ [])
-    ≡ Ok (Answered (Send p (record { items = xs })))
-unfolding words_say three_say with_two send_answer
-send_said count p xs digits h e few = rw (read_bytes send_limit digits xs e few, read_path p h) refl
-
-receive_said : (count : ℕ) (p : List ℕ) (n : ℕ) → IsPath p → n ≤ 1000
-    → words_say Wait count (codes "receive" ∷ path_text p ∷ decimal n ∷ [])
-    ≡ Ok (Answered (Receive p n))
-unfolding words_say three_say with_two receive_answer
-receive_said count p n h few = rw (read_number 0 1000 n (omega arith) few few, read_path p h) refl
-
 data_front : (toggle : Toggle) → IsFront (data_name toggle) (printed_data toggle)
 data_front Zero = record { short = lit≤ tt; printable = refl; cut = λ rest. refl }
 data_front One = record { short = lit≤ tt; printable = refl; cut = λ rest. refl }
 
--- a line that is one word
-read_one : (asked : Asked) (count : ℕ) (line : List ℕ) (s : Said) → length line ≤ 1024
-    → all_printable line ≡ true → words_say asked count (words line) ≡ Ok s
-    → ReadsLine asked count line s
-read_one asked count line s short printable says = record {
-  short = short;
-  printable = printable;
-  says = says;
-}
-
 read_answer : (asked : Asked) (count : ℕ) (digits : List ℕ) (a : Answer) → MayAnswer asked a
     → hex_value digits ≡ Some (answer_bytes a)
     → ReadsLine asked count (answer_in_digits digits a) (Answered a)
-unfolding words_say alone
+unfolding words_say alone with_one roots_answer clear_answer three_say with_two send_answer
+    receive_answer
 read_answer Hello count digits (Roots n) h e =
     read_two Hello count (codes "roots ") (codes "roots") (decimal n) (Answered (Roots n))
     (record { short = lit≤ tt; printable = refl; cut = λ rest. refl })
-    (decimal-is_word 1001 n (omega arith) (omega (arith, h.1))) (roots_said count n h.0 h.1)
-read_answer Attempt count digits Ack h e = read_one Attempt count (codes "ACK") (Answered Ack)
-    (lit≤ tt) refl refl
-read_answer Attempt count digits Nak h e = read_one Attempt count (codes "NAK") (Answered Nak)
-    (lit≤ tt) refl refl
-read_answer Attempt count digits Stall h e = read_one Attempt count (codes "STALL") (Answered Stall)
-    (lit≤ tt) refl refl
-read_answer Attempt count digits Nothing h e =
-    read_one Attempt count (codes "none") (Answered Nothing) (lit≤ tt) refl refl
+    (decimal-is_word 1001 n (omega arith) (omega (arith, h.1)))
+    (rw (read_number 1 7 n h.0 h.1 (omega arith)) refl)
+read_answer Attempt count digits Ack h e = record { short = lit≤ tt; printable = refl; says = refl }
+read_answer Attempt count digits Nak h e = record { short = lit≤ tt; printable = refl; says = refl }
+read_answer Attempt count digits Stall h e = record {
+  short = lit≤ tt;
+  printable = refl;
+  says = refl;
+}
+read_answer Attempt count digits Nothing h e = record {
+  short = lit≤ tt;
+  printable = refl;
+  says = refl;
+}
 read_answer Attempt count digits (Data sent) h e =
     read_two Attempt count (data_name sent.toggle) (printed_data sent.toggle) digits
     (Answered (Data sent)) (data_front sent.toggle)
     (bytes_word 500 digits sent.bytes.items e (omega (arith, h.0)))
     (data_said count sent.toggle sent.bytes.items digits e h.0)
-read_answer Port count digits Done h e = read_one Port count (codes "ok") (Answered Done) (lit≤ tt)
-    refl refl
-read_answer Wait count digits Done h e = read_one Wait count (codes "ok") (Answered Done) (lit≤ tt)
-    refl refl
-read_answer Wait count digits Show h e = read_one Wait count (codes "show") (Answered Show)
-    (lit≤ tt) refl refl
-read_answer Wait count digits End h e = read_one Wait count (codes "end") (Answered End) (lit≤ tt)
-    refl refl
+read_answer Port count digits Done h e = record { short = lit≤ tt; printable = refl; says = refl }
+read_answer Wait count digits Done h e = record { short = lit≤ tt; printable = refl; says = refl }
+read_answer Wait count digits Show h e = record { short = lit≤ tt; printable = refl; says = refl }
+read_answer Wait count digits End h e = record { short = lit≤ tt; printable = refl; says = refl }
 read_answer Wait count digits (Send p sent) h e =
     read_three Wait count (codes "send ") (codes "send") (path_text p) digits
     (Answered (Send p sent)) (record { short = lit≤ tt; printable = refl; cut = λ rest. refl })
     (path_text-is_word 13 p (omega arith) h.0) (bytes_word 500 digits sent.items e h.1.0)
-    (send_said count p sent.items digits h.0 e h.1.0)
+    (rw (read_bytes send_limit digits sent.items e h.1.0, read_path p h.0) refl)
 read_answer Wait count digits (Receive p n) h e =
     read_three Wait count (codes "receive ") (codes "receive") (path_text p) (decimal n)
     (Answered (Receive p n)) (record { short = lit≤ tt; printable = refl; cut = λ rest. refl })
     (path_text-is_word 13 p (omega arith) h.0) (decimal-is_word 1001 n (omega arith) h.1)
-    (receive_said count p n h.0 h.1)
+    (rw (read_number 0 1000 n (omega arith) h.1 h.1, read_path p h.0) refl)
 read_answer Wait count digits (Clear p) h e =
     read_two Wait count (codes "clear ") (codes "clear") (path_text p) (Answered (Clear p))
     (record { short = lit≤ tt; printable = refl; cut = λ rest. refl })
-    (path_text-is_word 1001 p (omega arith) h) (clear_said count p h)
+    (path_text-is_word 1001 p (omega arith) h) (rw (read_path p h) refl)
 read_answer _ count digits _ h e = absurd h
 
 read_line : (asked : Asked) (count : ℕ) (line : List ℕ) (s : Said) → ReadsLine asked count line s
@@ -275,16 +240,7 @@ answer_small Attempt (Data sent) h = h.1
 answer_small Wait (Send p sent) h = h.1.1
 answer_small _ (Data sent) h = absurd h
 answer_small _ (Send p sent) h = absurd h
-answer_small _ (Roots n) h = none_small
-answer_small _ Ack h = none_small
-answer_small _ Nak h = none_small
-answer_small _ Stall h = none_small
-answer_small _ Nothing h = none_small
-answer_small _ Done h = none_small
-answer_small _ Show h = none_small
-answer_small _ End h = none_small
-answer_small _ (Receive p n) h = none_small
-answer_small _ (Clear p) h = none_small
+answer_small _ _ h = none_small
 
 small_bytes : (asked : Asked) (count : ℕ) (s : Said) → MaySay asked count s → IsBytes (said_bytes s)
 small_bytes asked count (Changed number status) h = h.4

@@ -1,5 +1,5 @@
 -- What is read of a line may be said, and stands there.
-use Rattle.std.proofs.Common.{◌≡◌, ℕ, ◌^◌, ◌<◌, ◌≤◌, Bool, true, false, ◌&&◌, ◌||◌, ◌==◌, nat_lt}
+use Rattle.std.proofs.Common.{◌≡◌, ℕ, ◌^◌, ◌<◌, ◌≤◌, Bool, true, false, ◌&&◌, ◌==◌, nat_lt}
 use Rattle.std.proofs.Common.{if◌then◌else◌, List, [], ◌∷◌, ◌++◌, length, Option, Some, None, ok_or}
 use Rattle.std.proofs.Common.{Result, Ok, Err, IfOk, refl, sym, subst, ap, ◌∙◌, arith, append_assoc}
 use Rattle.std.proofs.Common.{codes, decimal}
@@ -14,9 +14,9 @@ use Rattle.usb_port.proofs.Paths.{some_if}
 use Rattle.usb_wire.specs.{Answer, Roots, Ack, Nak, Stall, Nothing, Data, Done, Show, End, Send}
 use Rattle.usb_wire.specs.{Receive, Clear, Said, Changed, Answered, WireFault, LineTooLong}
 use Rattle.usb_wire.specs.{BadCharacter, NoAnswer, BadHex, BadLength, BadNumber, BadPath, Asked}
-use Rattle.usb_wire.specs.{One as OneWord, Two as TwoWords, Three as ThreeWords, More as MoreWords}
+use Rattle.usb_wire.specs.{More as MoreWords}
 use Rattle.usb_wire.specs.{AreAtMost, MayAnswer, IsSaidLine, MayPush, MaySay, answer_bytes}
-use Rattle.usb_wire.specs.{answer_in_digits, send_limit, hex_length, hex_value, is_dash, is_hex}
+use Rattle.usb_wire.specs.{answer_in_digits, send_limit, hex_value}
 use Rattle.usb_wire.specs.{number_within, alone, said_of, bytes_of_word, clear_answer, count_in}
 use Rattle.usb_wire.specs.{data_answer, line_says, may_push, number_of_word, path_in, status_change}
 use Rattle.usb_wire.specs.{receive_answer, roots_answer, send_answer, shape_says, status_of_word}
@@ -25,7 +25,8 @@ use Rattle.usb_wire.specs.{all_printable, words}
 use Rattle.usb_wire.specs.declared.question.Asked.TheVariants.{Hello, Attempt, Port, Wait}
 use Rattle.usb_wire.specs.declared.words.Words.{Words}
 use Rattle.usb_wire.specs.Reading.{◌>>=◌}
-use Rattle.usb_wire.proofs.FieldLemmas.{IsNumberWord, Spelled, numbered-within, spelled-value}
+use Rattle.usb_wire.proofs.FieldLemmas.{IsNumberWord, Spelled, counted-count_in, numbered-within}
+use Rattle.usb_wire.proofs.FieldLemmas.{spelled-value}
 use Rattle.usb_wire.proofs.WordLemmas.{joined-words}
 
 -- ---- what was read, step by step
@@ -66,67 +67,39 @@ pub record IsDataWord (most : ℕ) (word xs : List ℕ) : Type 0 where
   pub value : hex_value word ≡ Some xs
   pub few : AreAtMost most xs
 
-hex_is_data_word : (most : ℕ) (word xs : List ℕ) → hex_value word ≡ Some xs
-    → nat_lt most (hex_length word) ≡ false
-    → IsDataWord most word xs
-hex_is_data_word most word xs e few =
-    let spelled = spelled-value word xs e in
-    let count = spelled.count in
-    let fits : hex_length word ≤ most = ltb-false most (hex_length word) few in
-    record { value = e; few = (omega (arith, count, fits), spelled.small) }
-
 few_bytes : (b : Bool) (r : Result (List ℕ) WireFault) (xs : List ℕ)
     → (if b then Err BadLength else r) ≡ Ok xs → (b ≡ false) × (r ≡ Ok xs)
 few_bytes true r xs e = absurd (cc)
 few_bytes false r xs e = (refl, e)
 
-data_counted : (most : ℕ) (hex : Bool) (n : ℕ) (o : Option (List ℕ)) (xs : List ℕ)
-    → ((if hex then Ok n else Err BadHex) >>=
-    (λ count. if nat_lt most count then Err BadLength else ok_or o BadHex)) ≡ Ok xs
-    → (nat_lt most n ≡ false) × (o ≡ Some xs)
-data_counted most true n o xs e =
-    let parts = few_bytes (nat_lt most n) (ok_or o BadHex) xs e in
-    (parts.0, ok_or_ok o BadHex xs parts.1)
-data_counted most false n o xs e = absurd (cc)
-
 pub bytes_of_word-data : (most : ℕ) (word xs : List ℕ) → bytes_of_word most word ≡ Ok xs
     → IsDataWord most word xs
-unfolding bytes_of_word count_in
+unfolding bytes_of_word
 bytes_of_word-data most word xs e =
-    let parts = data_counted most (is_dash word || is_hex word) (hex_length word) (hex_value word)
-    xs e in
-    hex_is_data_word most word xs parts.1 parts.0
+    bind-ok (count_in word) _ xs e (λ n counted e.
+    let parts = few_bytes (nat_lt most n) (ok_or (hex_value word) BadHex) xs e in
+    let value = ok_or_ok (hex_value word) BadHex xs parts.1 in
+    let spelled = spelled-value word xs value in
+    let same = (counted-count_in word n counted).count in
+    let fits : n ≤ most = ltb-false most n parts.0 in
+    let count = spelled.count in
+    record { value = value; few = (omega (arith, same, count, fits), spelled.small) })
 
 record IsStatusWord (word xs : List ℕ) : Type 0 where
   value : hex_value word ≡ Some xs
   four : length xs ≡ 4
   small : Spelled word xs
 
-if_ok_four : (b : Bool) (r : Result (List ℕ) WireFault) (xs : List ℕ)
-    → (if b then r else Err BadLength) ≡ Ok xs → (b ≡ true) × (r ≡ Ok xs)
-if_ok_four true r xs e = (refl, e)
-if_ok_four false r xs e = absurd (cc)
-
-status_counted : (hex : Bool) (n : ℕ) (o : Option (List ℕ)) (xs : List ℕ)
-    → ((if hex then Ok n else Err BadHex) >>=
-    (λ count. if count == 4 then ok_or o BadHex else Err BadLength)) ≡ Ok xs
-    → ((n == 4) ≡ true) × (o ≡ Some xs)
-status_counted true n o xs e =
-    let parts = if_ok_four (n == 4) (ok_or o BadHex) xs e in
-    (parts.0, ok_or_ok o BadHex xs parts.1)
-status_counted false n o xs e = absurd (cc)
-
 status_word : (word xs : List ℕ) → status_of_word word ≡ Ok xs → IsStatusWord word xs
-unfolding status_of_word count_in
+unfolding status_of_word
 status_word word xs e =
-    let parts = status_counted (is_dash word || is_hex word) (hex_length word) (hex_value word) xs
-    e in
-    let spelled = spelled-value word xs parts.1 in
-    record {
-      value = parts.1;
-      four = sym spelled.count ∙ eqb-true (hex_length word) 4 parts.0;
-      small = spelled;
-    }
+    bind-ok (count_in word) _ xs e (λ n counted e.
+    if_ok (n == 4) (ok_or (hex_value word) BadHex) _ xs e (λ four e.
+    let value = ok_or_ok (hex_value word) BadHex xs e in
+    let spelled = spelled-value word xs value in
+    let same = (counted-count_in word n counted).count in
+    record { value = value; four = sym spelled.count ∙ same ∙ eqb-true n 4 four; small = spelled })
+    (λ e. none_ok BadLength xs e))
 
 pub number_of_word-ok : (least most : ℕ) (word : List ℕ) (n : ℕ) → most < 2 ^ 64
     → number_of_word least most word ≡ Ok n → IsNumberWord least most word n
@@ -156,46 +129,30 @@ plain_line : (asked : Asked) (count : ℕ) (line : List ℕ) (a : Answer) → Pl
 plain_line asked count line a h =
     (h.may, record { digits = codes "-"; spelled = ap Some (sym h.none); written = h.text })
 
-plain_at : (asked : Asked) (word text : List ℕ) (a b : Answer) → bytes_eq word text ≡ true
-    → ◌≡◌ {A = Result Answer WireFault} (Ok a) (Ok b) → Plain asked text a → Plain asked word b
-plain_at asked word text a b same e h =
-    subst (Plain asked word) (same_Ok a b e)
-    (subst (λ w. Plain asked w a) (sym (word_is word text same)) h)
-
-plain : (asked : Asked) (a : Answer) → MayAnswer asked a → answer_bytes a ≡ []
-    → Plain asked (answer_in_digits (codes "-") a) a
-plain asked a may none = record { may = may; none = none; text = refl }
+-- the word of an answer, or another
+word_plain : (asked : Asked) (word : List ℕ) (a b : Answer) (r : Result Answer WireFault)
+    → (if bytes_eq word (answer_in_digits (codes "-") a) then Ok a else r) ≡ Ok b
+    → MayAnswer asked a → answer_bytes a ≡ [] → (r ≡ Ok b → Plain asked word b)
+    → Plain asked word b
+word_plain asked word a b r e may none k =
+    let text : List ℕ = answer_in_digits (codes "-") a in
+    if_ok (bytes_eq word text) (Ok a) r b e (λ same e. subst (Plain asked word) (same_Ok a b e)
+    (record { may = may; none = none; text = word_is word text same })) k
 
 alone_says : (asked : Asked) (word : List ℕ) (a : Answer) → alone asked word ≡ Ok a
     → Plain asked word a
 unfolding alone
 alone_says Hello word a e = none_ok NoAnswer a e
 alone_says Attempt word a e =
-    if_ok (bytes_eq word (codes "ACK")) (Ok Ack) _ a e
-    (λ same e. plain_at Attempt word (codes "ACK") Ack a same e (plain Attempt Ack tt refl))
-    (λ e.
-    if_ok (bytes_eq word (codes "NAK")) (Ok Nak) _ a e
-    (λ same e. plain_at Attempt word (codes "NAK") Nak a same e (plain Attempt Nak tt refl))
-    (λ e.
-    if_ok (bytes_eq word (codes "STALL")) (Ok Stall) _ a e
-    (λ same e. plain_at Attempt word (codes "STALL") Stall a same e
-    (plain Attempt Stall tt refl)) (λ e.
-    if_ok (bytes_eq word (codes "none")) (Ok Nothing) _ a e
-    (λ same e. plain_at Attempt word (codes "none") Nothing a same e
-    (plain Attempt Nothing tt refl)) (λ e.
-    none_ok NoAnswer a e))))
-alone_says Port word a e =
-    if_ok (bytes_eq word (codes "ok")) (Ok Done) _ a e
-    (λ same e. plain_at Port word (codes "ok") Done a same e (plain Port Done tt refl))
-    (λ e. none_ok NoAnswer a e)
+    word_plain Attempt word Ack a _ e tt refl (λ e.
+    word_plain Attempt word Nak a _ e tt refl (λ e.
+    word_plain Attempt word Stall a _ e tt refl (λ e.
+    word_plain Attempt word Nothing a _ e tt refl (λ e. none_ok NoAnswer a e))))
+alone_says Port word a e = word_plain Port word Done a _ e tt refl (λ e. none_ok NoAnswer a e)
 alone_says Wait word a e =
-    if_ok (bytes_eq word (codes "ok")) (Ok Done) _ a e
-    (λ same e. plain_at Wait word (codes "ok") Done a same e (plain Wait Done tt refl)) (λ e.
-    if_ok (bytes_eq word (codes "show")) (Ok Show) _ a e
-    (λ same e. plain_at Wait word (codes "show") Show a same e (plain Wait Show tt refl)) (λ e.
-    if_ok (bytes_eq word (codes "end")) (Ok End) _ a e
-    (λ same e. plain_at Wait word (codes "end") End a same e (plain Wait End tt refl)) (λ e.
-    none_ok NoAnswer a e)))
+    word_plain Wait word Done a _ e tt refl (λ e.
+    word_plain Wait word Show a _ e tt refl (λ e.
+    word_plain Wait word End a _ e tt refl (λ e. none_ok NoAnswer a e)))
 
 -- ---- lines
 
@@ -351,9 +308,6 @@ two_says : (asked : Asked) (count : ℕ) (word first second : List ℕ) (a : Ans
     → with_two asked word first second ≡ Ok a
     → WordsSay asked count (word ∷ first ∷ second ∷ []) (Answered a)
 unfolding with_two
-two_says Hello count word first second a e = none_ok NoAnswer a e
-two_says Attempt count word first second a e = none_ok NoAnswer a e
-two_says Port count word first second a e = none_ok NoAnswer a e
 two_says Wait count word first second a e =
     let arguments : List (List ℕ) = first ∷ second ∷ [] in
     if_ok (bytes_eq word (codes "send")) (send_answer first second) _ a e
@@ -363,12 +317,11 @@ two_says Wait count word first second a e =
     (λ same e. says_same_word Wait count word (codes "receive") arguments _ same
     (receive_says count first second a e)) (λ e.
     none_ok NoAnswer a e))
+two_says _ count word first second a e = none_ok NoAnswer a e
 
 may_push-true : (asked : Asked) → may_push asked ≡ true → MayPush asked
 may_push-true Hello h = absurd (cc)
-may_push-true Attempt h = tt
-may_push-true Port h = tt
-may_push-true Wait h = tt
+may_push-true _ h = tt
 
 three_says : (asked : Asked) (count : ℕ) (word first second : List ℕ) (s : Said) → count < 256
     → three_say asked count word first second ≡ Ok s
@@ -401,20 +354,15 @@ words_says asked count (word ∷ first ∷ second ∷ third ∷ more) s small e 
 many_words : (asked : Asked) (count : ℕ) (ws : List (List ℕ)) → 4 ≤ length ws
     → words_say asked count ws ≡ Err NoAnswer
 unfolding words_say
-many_words asked count [] h = absurd (omega arith)
-many_words asked count (word ∷ []) h = absurd (omega arith)
-many_words asked count (word ∷ argument ∷ []) h = absurd (omega arith)
-many_words asked count (word ∷ first ∷ second ∷ []) h = absurd (omega arith)
 many_words asked count (word ∷ first ∷ second ∷ third ∷ more) h = refl
+many_words asked count _ h = absurd (omega arith)
 
 -- words by their shape
 pub words_say-shape : (asked : Asked) (count : ℕ) (ws : List (List ℕ)) (shape : Words)
     → AreWords ws shape → words_say asked count ws ≡ shape_says asked count shape
 unfolding words_say shape_says
-words_say-shape asked count ws (OneWord word) h = ap (words_say asked count) h
-words_say-shape asked count ws (TwoWords word argument) h = ap (words_say asked count) h
-words_say-shape asked count ws (ThreeWords word first second) h = ap (words_say asked count) h
 words_say-shape asked count ws MoreWords h = many_words asked count ws h
+words_say-shape asked count ws _ h = ap (words_say asked count) h
 
 text_is : (l p : Bool) (line : List ℕ) (f : List ℕ → Result Said WireFault) (s : Said)
     → ((if l then Err LineTooLong else if p then Ok line else Err BadCharacter) >>= f) ≡ Ok s

@@ -7,8 +7,7 @@ use Rattle.usb_port.specs.{SetPower, SetReset, status_of}
 use Rattle.usb_device.specs.{Spec, function, ended, vacant, changed_at, reach_at, state_at, reach}
 use Rattle.usb_device.specs.{all_off, received, unread, fresh, reset_state, awaits_address, outcome}
 use Rattle.usb_device.specs.{asks, answer_of, effect_of, after_packet, all_forgotten}
-use Rattle.usb_device.specs.{held_addresses, repeats, has_loss, clears_change, change_bits}
-use Rattle.usb_device.specs.Delivery.{answers}
+use Rattle.usb_device.specs.{held_addresses, repeats, has_loss, clears_change, change_bits, answers}
 use Rattle.usb_request.specs.{setup_of}
 use Rattle.usb_world.specs.{Harm, Lose, Flip, Plug, Attempt, damage_of, harm_to, mark_of, bit_count}
 use Rattle.usb_world.specs.{marked, marked_some, is_read, token_of, payload_of, answer_place}

@@ -1,8 +1,7 @@
 -- What is so of every port, whatever came.
 use Rattle.std.specs.Prelude.{◌≡◌, ◌&&◌, true, false, length, ⊤}
 use Rattle.usb_port.specs.{PortState, nothing, is_attached, speed_of, has_change}
-use Rattle.usb_device.specs.{Spec, IsSpec, Ports, ended, vacant, taken, empty, full, row_of}
-use Rattle.usb_device.specs.Tree.{Place}
+use Rattle.usb_device.specs.{Spec, IsSpec, Ports, ended, vacant, taken, empty, full, row_of, Place}
 use Rattle.usb_world.specs.PluggedDevices.{hub_ports}
 
 -- an enabled port is powered and sees something attached; only a powered port tells of a change,

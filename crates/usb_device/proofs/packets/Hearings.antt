@@ -1,16 +1,12 @@
 -- What is heard has its packet identifier.
 use Rattle.std.proofs.Common.{◌≡◌, refl, ap}
-use Rattle.usb_device.specs.declared.answer.AnswerPid.TheVariants.{Ack, Nak, Stall, Data}
+use Rattle.usb_device.specs.declared.answer.AnswerPid.TheVariants.{Ack}
 use Rattle.usb_device.specs.{HeardPid, Room, heard_with, pid_heard}
-use Rattle.usb_device.specs.declared.hearing.HeardPid.TheVariants.{Nothing, One, Collision}
+use Rattle.usb_device.specs.declared.hearing.HeardPid.TheVariants.{One}
 
 pub pid_of-with : (p : HeardPid) (room : Room) → pid_heard (heard_with p room) ≡ p
-pid_of-with Nothing room = refl
 pid_of-with (One Ack) room = refl
-pid_of-with (One Nak) room = refl
-pid_of-with (One Stall) room = refl
-pid_of-with (One (Data toggle)) room = refl
-pid_of-with Collision room = refl
+pid_of-with p room = refl
 
 pub heard_with-pid : (p : HeardPid) (room : Room)
     → heard_with (pid_heard (heard_with p room)) room ≡ heard_with p room

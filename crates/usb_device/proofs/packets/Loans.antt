@@ -3,7 +3,7 @@ use Rattle.std.proofs.Common.{◌≡◌, ℕ, zero, suc, ◌<◌, ◌-◌, List,
 use Rattle.std.proofs.Common.{length, slice_index_or, slice_set, IsSome, refl, ap, sym, ◌∙◌, arith}
 use Rattle.usb_port.specs.{PortState}
 use Rattle.usb_device.specs.declared.ports.Place.{Place as Kept}
-use Rattle.usb_device.specs.{Ports, ended, vacant, taken, Plugged, port_of, before, plugged_at}
+use Rattle.usb_device.specs.{Ports, vacant, taken, Plugged, port_of, before, plugged_at}
 use Rattle.usb_device.specs.{plugged_in, row_of, device_there, standing, stood, ports_kept, holding}
 use Rattle.usb_device.specs.{with_device}
 use Rattle.usb_device.proofs.places.FirstPlaces.{changed_at-head, changed_at-tail, plugged_at-head}
@@ -46,11 +46,10 @@ loan_read (q ∷ ps) (suc i) p h e = loan_read ps i p (omega (arith, h)) e
 -- where a device is, a port is
 plugged_at-within : (k : Ports) (i : ℕ) → IsSome (plugged_at k i []) → i < length (row_of k)
 unfolding plugged_at row_of
-plugged_at-within ended i h = cc
-plugged_at-within (vacant b k) zero h = cc
 plugged_at-within (vacant b k) (suc i) h = omega (arith, plugged_at-within k i h)
 plugged_at-within (taken b s a k) zero h = omega arith
 plugged_at-within (taken b s a k) (suc i) h = omega (arith, plugged_at-within k i h)
+plugged_at-within k i h = cc
 
 pub child-within : (k : Ports) (n : ℕ) → IsSome (device_there k (n ∷ []))
     → n - 1 < length (row_of k)

@@ -1,6 +1,6 @@
 -- A packet that is for none of the devices that it reaches.
 use Rattle.std.proofs.Common.{◌≡◌, ℕ, ◌==◌, ◌&&◌, ◌||◌, if◌then◌else◌, Bool, true, false, List, []}
-use Rattle.std.proofs.Common.{◌∷◌, ◌++◌, Option, None, refl, ap, ap₂, sym, ◌∙◌}
+use Rattle.std.proofs.Common.{◌∷◌, ◌++◌, Option, None, refl, ap, sym, ◌∙◌}
 use Rattle.usb_port.specs.{PortState}
 use Rattle.usb_packet.specs.{Toggle, TokenKind, Packet, Token, Payload}
 use Rattle.usb_packet.specs.declared.Packet.TheVariants as packet
@@ -12,25 +12,17 @@ use Rattle.usb_device.specs.{listed, all_forgotten, held_addresses, has, awaits_
 use Rattle.usb_device.specs.{is_for, concerns, concerns_some, answers}
 use Rattle.usb_device.specs.declared.transfer.RememberedPacket.TheVariants.{Nothing, SetupSeen}
 use Rattle.usb_device.specs.declared.transfer.RememberedPacket.TheVariants.{OutSeen, AckAwaited}
-use Rattle.usb_device.proofs.MarkedAddresses.{has-append}
+use Rattle.usb_device.proofs.MarkedAddresses.{has-append, or-false}
 
 -- ---- at one device
 
 answered-stray : (d : State) (row : List PortState) (m : RememberedPacket) (p : Packet)
     → is_for d m p ≡ false → answered d row m p ≡ (None, d)
 answered-stray d row m (Token kind a e) h = rw h refl
-answered-stray d row Nothing (Payload t bytes) h = refl
 answered-stray d row SetupSeen (Payload t bytes) h = cc
 answered-stray d row (OutSeen e) (Payload t bytes) h = cc
-answered-stray d row (AckAwaited giver) (Payload t bytes) h = refl
-answered-stray d row Nothing packet.Ack h = refl
-answered-stray d row SetupSeen packet.Ack h = refl
-answered-stray d row (OutSeen e) packet.Ack h = refl
 answered-stray d row (AckAwaited giver) packet.Ack h = cc
-answered-stray d row m (packet.Sof n) h = refl
-answered-stray d row m packet.Nak h = refl
-answered-stray d row m packet.Stall h = refl
-answered-stray d row m packet.Pre h = refl
+answered-stray d row m p h = refl
 
 abbrev stray_reply : Option Answer → State → Reply
 stray_reply answer s = (answer, s)
@@ -88,19 +80,12 @@ answer-stray q deep s a h = if-heard s (hears q deep s) (reply_to q.content s (r
 
 asked-stray : (d : State) (m : RememberedPacket) (t : Toggle) (bytes : List ℕ)
     → awaits_data m ≡ false → asked_by_data d m t bytes ≡ Leaves
-asked-stray d Nothing t bytes h = refl
 asked-stray d SetupSeen t bytes h = cc
-asked-stray d (OutSeen e) t bytes h = refl
-asked-stray d (AckAwaited giver) t bytes h = refl
+asked-stray d m t bytes h = refl
 
 packet-asked : (s : State) (p : Packet) → is_for s s.memory p ≡ false → asked_by_packet s p ≡ Leaves
-packet-asked s (Token kind a e) h = refl
 packet-asked s (Payload t bytes) h = asked-stray s s.memory t bytes.items h
-packet-asked s packet.Ack h = refl
-packet-asked s (packet.Sof n) h = refl
-packet-asked s packet.Nak h = refl
-packet-asked s packet.Stall h = refl
-packet-asked s packet.Pre h = refl
+packet-asked s p h = refl
 
 if-leaves : (b : Bool) (e : Effect) → e ≡ Leaves → (if b then e else Leaves) ≡ Leaves
 if-leaves true e h = h
@@ -123,14 +108,6 @@ effect-stray q deep s h = if-leaves (hears q deep s) (asked_by q.content s)
 
 -- ---- down the tree
 
-left : (x y : Bool) → (x || y) ≡ false → x ≡ false
-left true y h = h
-left false y h = refl
-
-right : (x y : Bool) → (x || y) ≡ false → y ≡ false
-right true y h = cc
-right false y h = h
-
 forgotten-step : (q : Sent) (deep : Bool) (b : PortState) (s : State) (a k : Ports) (e : Bool)
     → ((e && (concerns q.content s || concerns_some q.content a)) || concerns_some q.content k)
     ≡ false
@@ -141,18 +118,12 @@ forgotten-step : (q : Sent) (deep : Bool) (b : PortState) (s : State) (a k : Por
     s a (after_packet q deep k)) ≡ taken b (forgotten s) (all_forgotten a) (all_forgotten k)
 unfolding all_forgotten
 forgotten-step q deep b s a k true h below further =
-    let here = left (concerns q.content s || concerns_some q.content a) (concerns_some q.content k)
-    h in
+    let all = or-false (concerns q.content s || concerns_some q.content a)
+    (concerns_some q.content k) h in
+    let here = or-false (concerns q.content s) (concerns_some q.content a) all.0 in
     ap (λ x. taken b x (all_forgotten (acted (effect_of q deep s) (after_packet q true a)))
-    (all_forgotten (after_packet q deep k)))
-    (answer-stray q deep s a (left (concerns q.content s) (concerns_some q.content a) here)).1
-    ∙ ap (λ x. taken b (forgotten s) (all_forgotten (acted x (after_packet q true a)))
-    (all_forgotten (after_packet q deep k)))
-    (effect-stray q deep s (left (concerns q.content s) (concerns_some q.content a) here))
-    ∙ ap₂ (λ x y. taken b (forgotten s) x y)
-    (below (right (concerns q.content s) (concerns_some q.content a) here))
-    (further (right (concerns q.content s || concerns_some q.content a)
-    (concerns_some q.content k) h))
+    (all_forgotten (after_packet q deep k))) (answer-stray q deep s a here.0).1
+    ∙ rw (effect-stray q deep s here.0, below here.1, further all.1) refl
 forgotten-step q deep b s a k false h below further =
     ap (λ y. taken b (forgotten s) (all_forgotten a) y) (further h)
 
@@ -172,13 +143,10 @@ answers-step : (q : Sent) (deep : Bool) (s : State) (a k : Ports) (e : Bool)
     → (if e then listed (answer_of q deep s a).0 (answers q true a ++ answers q deep k) else answers
     q deep k) ≡ []
 answers-step q deep s a k true h below further =
-    let here = left (concerns q.content s || concerns_some q.content a) (concerns_some q.content k)
-    h in
-    ap (λ x. listed x (answers q true a ++ answers q deep k))
-    (answer-stray q deep s a (left (concerns q.content s) (concerns_some q.content a) here)).0
-    ∙ ap₂ (λ x y. x ++ y) (below (right (concerns q.content s) (concerns_some q.content a) here))
-    (further (right (concerns q.content s || concerns_some q.content a)
-    (concerns_some q.content k) h))
+    let all = or-false (concerns q.content s || concerns_some q.content a)
+    (concerns_some q.content k) h in
+    let here = or-false (concerns q.content s) (concerns_some q.content a) all.0 in
+    rw ((answer-stray q deep s a here.0).0, below here.1, further all.1) refl
 answers-step q deep s a k false h below further = further h
 
 pub answers-stray : (q : Sent) (deep : Bool) (k : Ports) → concerns_some q.content k ≡ false
@@ -228,12 +196,7 @@ broken-concerns (taken b s a k) = either-concerns b.enable false (concerns_some 
 
 rested-is : (s : State) (p : Packet) → is_token p ≡ false → is_for (forgotten s) Nothing p ≡ false
 rested-is s (Token kind a e) h = cc
-rested-is s (Payload t bytes) h = refl
-rested-is s packet.Ack h = refl
-rested-is s (packet.Sof n) h = refl
-rested-is s packet.Nak h = refl
-rested-is s packet.Stall h = refl
-rested-is s packet.Pre h = refl
+rested-is s p h = refl
 
 pub rested-concerns : (p : Packet) (k : Ports) → is_token p ≡ false
     → concerns_some (Whole p) (all_forgotten k) ≡ false

@@ -19,10 +19,8 @@ pub changed_at-head : (f : Place → Place) (q : Place) (k : Ports) (p : List �
     → changed_at f (before q k) 0 p ≡ before (changed_in f q p) k
 unfolding changed_at
 changed_at-head f (empty b) k [] = refl
-changed_at-head f (empty b) k (n ∷ p) = refl
-changed_at-head f (full b s a) k [] = refl
 changed_at-head f (full b s a) k (zero ∷ p) = refl
-changed_at-head f (full b s a) k (suc j ∷ p) = refl
+changed_at-head f q k p = refl
 
 pub changed_at-tail : (f : Place → Place) (q : Place) (k : Ports) (i : ℕ) (p : List ℕ)
     → changed_at f (before q k) (suc i) p ≡ before q (changed_at f k i p)
@@ -47,64 +45,51 @@ changed_at-none f (q ∷ ps) i p h = absurd (omega (arith, h))
 
 pub changed_at-same : (k : Ports) (j : ℕ) (p : List ℕ) → changed_at (λ x. x) k j p ≡ k
 unfolding changed_at
-changed_at-same ended j p = refl
 changed_at-same (vacant b k) zero [] = refl
-changed_at-same (vacant b k) zero (n ∷ p) = refl
 changed_at-same (vacant b k) (suc j) p = ap (vacant b) (changed_at-same k j p)
-changed_at-same (taken b s a k) zero [] = refl
-changed_at-same (taken b s a k) zero (zero ∷ p) = refl
 changed_at-same (taken b s a k) zero (suc j ∷ p) = ap (λ x. taken b s x k) (changed_at-same a j p)
 changed_at-same (taken b s a k) (suc j) p = ap (taken b s a) (changed_at-same k j p)
+changed_at-same k j p = refl
 
 pub changed_at-twice : (f g : Place → Place) (k : Ports) (j : ℕ) (p : List ℕ)
     → changed_at f (changed_at g k j p) j p ≡ changed_at (λ x. f (g x)) k j p
 unfolding changed_at
-changed_at-twice f g ended j p = refl
 changed_at-twice f g (vacant b k) zero [] = changed_at-head f (g (empty b)) k []
-changed_at-twice f g (vacant b k) zero (n ∷ p) = refl
 changed_at-twice f g (vacant b k) (suc j) p = ap (vacant b) (changed_at-twice f g k j p)
 changed_at-twice f g (taken b s a k) zero [] = changed_at-head f (g (full b s a)) k []
-changed_at-twice f g (taken b s a k) zero (zero ∷ p) = refl
 changed_at-twice f g (taken b s a k) zero (suc j ∷ p) =
     ap (λ x. taken b s x k) (changed_at-twice f g a j p)
 changed_at-twice f g (taken b s a k) (suc j) p = ap (taken b s a) (changed_at-twice f g k j p)
+changed_at-twice f g k j p = refl
 
 -- the place of a port of the device at a path
 pub changed_at-port : (f : Place → Place) (k : Ports) (j : ℕ) (p : List ℕ) (n : ℕ)
     → changed_at f k j (p ++ n ∷ []) ≡ changed_at (λ q. changed_in f q (n ∷ [])) k j p
 unfolding changed_at
-changed_at-port f ended j p n = refl
 changed_at-port f (vacant b k) zero [] n = refl
-changed_at-port f (vacant b k) zero (m ∷ p) n = refl
 changed_at-port f (vacant b k) (suc j) p n = ap (vacant b) (changed_at-port f k j p n)
 changed_at-port f (taken b s a k) zero [] zero = refl
-changed_at-port f (taken b s a k) zero [] (suc n) = refl
-changed_at-port f (taken b s a k) zero (zero ∷ p) n = refl
 changed_at-port f (taken b s a k) zero (suc j ∷ p) n =
     ap (λ x. taken b s x k) (changed_at-port f a j p n)
 changed_at-port f (taken b s a k) (suc j) p n = ap (taken b s a) (changed_at-port f k j p n)
+changed_at-port f k j p n = refl
 
 -- no port has the number 0
 pub changed_at-zero : (f : Place → Place) (k : Ports) (j : ℕ) (p : List ℕ)
     → changed_at f k j (p ++ 0 ∷ []) ≡ k
 unfolding changed_at
-changed_at-zero f ended j p = refl
 changed_at-zero f (vacant b k) zero [] = refl
-changed_at-zero f (vacant b k) zero (m ∷ p) = refl
 changed_at-zero f (vacant b k) (suc j) p = ap (vacant b) (changed_at-zero f k j p)
-changed_at-zero f (taken b s a k) zero [] = refl
-changed_at-zero f (taken b s a k) zero (zero ∷ p) = refl
 changed_at-zero f (taken b s a k) zero (suc j ∷ p) =
     ap (λ x. taken b s x k) (changed_at-zero f a j p)
 changed_at-zero f (taken b s a k) (suc j) p = ap (taken b s a) (changed_at-zero f k j p)
+changed_at-zero f k j p = refl
 
 pub plugged_at-head : (q : Place) (k : Ports) (p : List ℕ) → plugged_at (before q k) 0 p
     ≡ plugged_in q p
 unfolding plugged_at
-plugged_at-head (empty b) k p = refl
-plugged_at-head (full b s a) k [] = refl
 plugged_at-head (full b s a) k (zero ∷ p) = refl
-plugged_at-head (full b s a) k (suc j ∷ p) = refl
+plugged_at-head q k p = refl
 
 pub plugged_at-tail : (q : Place) (k : Ports) (i : ℕ) (p : List ℕ)
     → plugged_at (before q k) (suc i) p ≡ plugged_at k i p

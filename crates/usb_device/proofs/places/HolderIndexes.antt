@@ -11,7 +11,7 @@ use Rattle.usb_device.specs.{ports_kept, held_addresses, held_in, repeats, AreBy
 use Rattle.usb_device.specs.{reached, reached_in, all_reached, paths_at, holder_among, IsIndex}
 use Rattle.usb_device.specs.{AreNobody, is_known, joined_holder, noted, meets_again, released}
 use Rattle.usb_device.specs.{IsIndexOf}
-use Rattle.usb_device.specs.declared.holders.Holder.TheVariants.{Nobody, One, Several}
+use Rattle.usb_device.specs.declared.holders.Holder.TheVariants.{Nobody, Several}
 use Rattle.usb_device.specs.declared.holders.Holders.{Holders}
 use Rattle.usb_device.proofs.MarkedAddresses.{or_assoc, held-before, meets, met_none_of}
 use Rattle.usb_device.proofs.MarkedAddresses.{bytes-before, bytes-none, same_numbers}
@@ -41,9 +41,8 @@ met-append (x ∷ xs) ys h =
     (meets_again ys (noted xs (with_one x h))))
 
 pub length-put : (h : List Holder) (i : ℕ) (x : Holder) → length (slice_set h i x) ≡ length h
-length-put [] i x = refl
-length-put (y ∷ h) zero x = refl
 length-put (y ∷ h) (suc i) x = ap suc (length-put h i x)
+length-put h i x = refl
 
 pub length-noted : (xs : NumberedWays) (h : List Holder) → length (noted xs h) ≡ length h
 length-noted [] h = refl
@@ -167,11 +166,9 @@ several_stay [] = refl
 several_stay (w ∷ ws) = several_stay ws
 
 pub all_among : (ws : List IndexWay) → all_joined Nobody ws ≡ holder_among ws
-all_among [] = refl
-all_among (None ∷ []) = refl
-all_among (Some p ∷ []) = refl
 all_among (None ∷ v ∷ ws) = several_stay ws
 all_among (Some p ∷ v ∷ ws) = several_stay ws
+all_among ws = refl
 
 -- ---- the addresses
 
@@ -212,9 +209,8 @@ marks_of h = map is_known h
 
 pub known_at : (h : List Holder) (n : ℕ)
     → slice_index_or (marks_of h) n false ≡ is_known (slice_index_or h n Nobody)
-known_at [] n = refl
-known_at (x ∷ h) zero = refl
 known_at (x ∷ h) (suc n) = known_at h n
+known_at h n = refl
 
 known_put : (h : List Holder) (n : ℕ) (x : Holder) → is_known x ≡ true
     → marks_of (slice_set h n x) ≡ slice_set (marks_of h) n true
@@ -224,9 +220,7 @@ known_put (y ∷ h) (suc n) x e = ap (λ l. is_known y ∷ l) (known_put h n x e
 
 joined_known : (x : Holder) (w : IndexWay) → is_known (joined_holder x w) ≡ true
 joined_known Nobody None = refl
-joined_known Nobody (Some p) = refl
-joined_known (One p) w = refl
-joined_known Several w = refl
+joined_known x w = refl
 
 pub met_marks : (xs : NumberedWays) (h : List Holder)
     → meets_again xs h ≡ meets (way_addresses xs) (marks_of h)

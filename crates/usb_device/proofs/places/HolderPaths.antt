@@ -21,14 +21,18 @@ abbrev In : ℕ × HolderWay → List (ℕ × HolderWay) → Type 0
 In x [] = ⊥
 In x (y ∷ ys) = (x ≡ y) ⊎ In x ys
 
-in_append : (x : ℕ × HolderWay) (xs ys : List (ℕ × HolderWay)) → In x (xs ++ ys) → In x xs ⊎ In x ys
-in_append x [] ys h = inr h
-in_append x (z ∷ xs) ys (inl e) = inl (inl e)
-in_append x (z ∷ xs) ys (inr h) = further (in_append x xs ys h)
+-- by where it is among what is at an enabled port, below it and behind it
+in_if : (P : Type 0) (e : Bool) (x y : ℕ × HolderWay) (ys zs : List (ℕ × HolderWay))
+    → (e ≡ true → x ≡ y → P) → (e ≡ true → In x ys → P) → (In x zs → P)
+    → In x (if e then y ∷ (ys ++ zs) else zs) → P
+in_if P true x y ys zs here below behind (inl is) = here refl is
+in_if P true x y ys zs here below behind (inr h) = split ys (below refl) h
   where
-    further : In x xs ⊎ In x ys → ((x ≡ z) ⊎ In x xs) ⊎ In x ys
-    further (inl h) = inl (inr h)
-    further (inr h) = inr h
+    split : (ys : List (ℕ × HolderWay)) → (In x ys → P) → In x (ys ++ zs) → P
+    split [] below h = behind h
+    split (z ∷ ys) below (inl is) = below (inl is)
+    split (z ∷ ys) below (inr h) = split ys (λ g. below (inr g)) h
+in_if P false x y ys zs here below behind h = behind h
 
 -- a device that holds an address, by its path from a row of ports, whose first one has a number,
 -- below another path
@@ -81,20 +85,12 @@ record StandsBelow (w : HolderWay) (f : ℕ) (k : Ports) (a : ℕ) (q : ArrayVec
   is : w ≡ Some above
   among : HolderAmong a f k above.items q.items
 
-later : (w : HolderWay) (f : ℕ) (b : PortState) (k : Ports) (a : ℕ) (q : ArrayVec ℕ)
-    → StandsBelow w (f + 1) k a q → StandsBelow w f (vacant b k) a q
-later w f b k a q h = record {
+later : (w : HolderWay) (f : ℕ) (x : Place) (k : Ports) (a : ℕ) (q : ArrayVec ℕ)
+    → StandsBelow w (f + 1) k a q → StandsBelow w f (before x k) a q
+later w f x k a q h = record {
   above = h.above;
   is = h.is;
-  among = holder_later a f (empty b) k h.above.items q.items h.among;
-}
-
-later_taken : (w : HolderWay) (f : ℕ) (b : PortState) (s : State) (below k : Ports) (a : ℕ)
-    (q : ArrayVec ℕ) → StandsBelow w (f + 1) k a q → StandsBelow w f (taken b s below k) a q
-later_taken w f b s below k a q h = record {
-  above = h.above;
-  is = h.is;
-  among = holder_later a f (full b s below) k h.above.items q.items h.among;
+  among = holder_later a f x k h.above.items q.items h.among;
 }
 
 stands_below-here : (w : HolderWay) (f : ℕ) (b : PortState) (s : State) (below k : Ports) (a : ℕ)
@@ -139,45 +135,14 @@ stands_below : (w : HolderWay) (f : ℕ) (k : Ports) (a : ℕ) (q : ArrayVec ℕ
     → In (a, Some q) (reached w f k) → StandsBelow w f k a q
 unfolding reached
 stands_below w f ended a q h = absurd h
-stands_below w f (vacant b k) a q h = later w f b k a q (stands_below w (f + 1) k a q h)
+stands_below w f (vacant b k) a q h = later w f (empty b) k a q (stands_below w (f + 1) k a q h)
 stands_below w f (taken b s below k) a q h =
-    split b.enable refl h (stands_below (path_below w f) 1 below a q) (stands_below w (f + 1) k a q)
-  where
-    off : In (a, Some q) (reached w (f + 1) k)
-        → (In (a, Some q) (reached w (f + 1) k) → StandsBelow w (f + 1) k a q)
-        → StandsBelow w f (taken b s below k) a q
-    off h ih = later_taken w f b s below k a q (ih h)
-
-    behind : b.enable ≡ true → In (a, Some q) (reached (path_below w f) 1 below)
-        ⊎ In (a, Some q) (reached w (f + 1) k)
-        → (In (a, Some q) (reached (path_below w f) 1 below)
-        → StandsBelow (path_below w f) 1 below a q)
-        → (In (a, Some q) (reached w (f + 1) k) → StandsBelow w (f + 1) k a q)
-        → StandsBelow w f (taken b s below k) a q
-    behind on (inl h) below_is ih = deeper w f b s below k a q on (below_is h)
-    behind on (inr h) below_is ih = off h ih
-
-    first : b.enable ≡ true → In (a, Some q) ((s.registers.address, path_below w f) ∷
-        (reached (path_below w f) 1 below ++ reached w (f + 1) k))
-        → (In (a, Some q) (reached (path_below w f) 1 below)
-        → StandsBelow (path_below w f) 1 below a q)
-        → (In (a, Some q) (reached w (f + 1) k) → StandsBelow w (f + 1) k a q)
-        → StandsBelow w f (taken b s below k) a q
-    first on (inl e) below_is ih = stands_below-here w f b s below k a q on
-        (ap (λ (x : ℕ × HolderWay). x.0) e) (sym (ap (λ (x : ℕ × HolderWay). x.1) e))
-    first on (inr h) below_is ih = behind on
-        (in_append (a, Some q) (reached (path_below w f) 1 below) (reached w (f + 1) k) h) below_is
-        ih
-
-    split : (e : Bool) → b.enable ≡ e
-        → In (a, Some q) (if e then (s.registers.address, path_below w f) ∷
-        (reached (path_below w f) 1 below ++ reached w (f + 1) k) else reached w (f + 1) k)
-        → (In (a, Some q) (reached (path_below w f) 1 below)
-        → StandsBelow (path_below w f) 1 below a q)
-        → (In (a, Some q) (reached w (f + 1) k) → StandsBelow w (f + 1) k a q)
-        → StandsBelow w f (taken b s below k) a q
-    split true on h below_is ih = first on h below_is ih
-    split false on h below_is ih = off h ih
+    in_if (StandsBelow w f (taken b s below k) a q) b.enable (a, Some q)
+    (s.registers.address, path_below w f) (reached (path_below w f) 1 below) (reached w (f + 1) k)
+    (λ on e. stands_below-here w f b s below k a q on (ap (λ (x : ℕ × HolderWay). x.0) e)
+    (sym (ap (λ (x : ℕ × HolderWay). x.1) e)))
+    (λ on g. deeper w f b s below k a q on (stands_below (path_below w f) 1 below a q g))
+    (λ g. later w f (full b s below) k a q (stands_below w (f + 1) k a q g)) h
 
 -- ---- the one at an address
 
@@ -197,11 +162,9 @@ paths_at-in n w ws (x ∷ xs) e = split (x.0 == n) refl (paths_at-in n w ws xs) 
 
 holder_among-one : (ws : List HolderWay) (p : ArrayVec ℕ) → holder_among ws ≡ One p
     → ws ≡ Some p ∷ []
-holder_among-one [] p e = cc
 holder_among-one (None ∷ []) p e = cc
 holder_among-one (Some q ∷ []) p e = let f : q ≡ p = cc e in ap (λ x. Some x ∷ []) f
-holder_among-one (None ∷ v ∷ ws) p e = cc
-holder_among-one (Some q ∷ v ∷ ws) p e = cc
+holder_among-one ws p e = cc
 
 held_by_path : (n : ℕ) (k : Ports) (p : List ℕ) → HolderAmong n 1 k [] p → is_held_at n k p ≡ true
 held_by_path n k [] h = cc h.joined

@@ -97,14 +97,12 @@ device-beyond ps n p pos h = device-path (ports_kept ps) n p pos
 
 reach_at-head : (q : Place) (k : Ports) (p : List ℕ) → reach_at (before q k) 0 p ≡ reach_in q p
 unfolding reach_at
-reach_at-head (empty b) k p = refl
-reach_at-head (full b s a) k [] = refl
 reach_at-head (full b s a) k (zero ∷ p) = no_way b.enable
   where
     no_way : (e : Bool) → false ≡ (e && false)
     no_way true = refl
     no_way false = refl
-reach_at-head (full b s a) k (suc j ∷ p) = refl
+reach_at-head q k p = refl
 
 pub reach_at-tail : (q : Place) (k : Ports) (i : ℕ) (p : List ℕ)
     → reach_at (before q k) (suc i) p ≡ reach_at k i p

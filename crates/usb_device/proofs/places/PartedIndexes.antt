@@ -2,14 +2,14 @@
 use Rattle.std.proofs.Common.{◌≡◌, ◌+◌, ◌<◌, ℕ, zero, suc, ◌==◌, ◌&&◌, ◌||◌, if◌then◌else◌, Bool}
 use Rattle.std.proofs.Common.{true, false, List, [], ◌∷◌, ◌++◌, Option, None, Some, length}
 use Rattle.std.proofs.Common.{slice_index_or, slice_set, append_assoc, refl, ap, sym, subst, ◌∙◌}
-use Rattle.std.proofs.Common.{arith}
+use Rattle.std.proofs.Common.{arith, rules}
 use Rattle.arrayvec.specs.ArrayVec.{ArrayVec}
 use Rattle.usb_device.specs.{Holder, Ports, ended, vacant, taken, Plugged, put, changed, changed_at}
 use Rattle.usb_device.specs.{plugged_at, reach_at, held_addresses, has, repeats, AreBytes}
 use Rattle.usb_device.specs.{path_below, path_further, reached, reached_from, reached_there}
 use Rattle.usb_device.specs.{reached_at_path, all_reached, paths_at, holder_among, IsIndex}
 use Rattle.usb_device.specs.{is_known, joined_holder, noted, meets_again, held_from, released}
-use Rattle.usb_device.specs.declared.holders.Holder.TheVariants.{Nobody, One, Several}
+use Rattle.usb_device.specs.declared.holders.Holder.TheVariants.{Nobody, Several}
 use Rattle.usb_device.proofs.MarkedAddresses.{share, Marks, meets-is, twice-middle, or-false}
 use Rattle.usb_device.proofs.MarkedAddresses.{unshared, nat_eq-sym}
 use Rattle.usb_device.proofs.places.HolderIndexes.{length-put, length-noted, length-released}
@@ -116,18 +116,15 @@ parted_at w n (taken b s a k) (suc i) p m e =
 
 parted_at_path : (k : Ports) (p : List ℕ)
     → Parted (all_reached k) (reached_at_path k p) (all_reached (changed (put None) k p))
-parted_at_path k [] = parted_none (all_reached k) [] refl
-parted_at_path k (zero ∷ p) = parted_none (all_reached k) [] refl
 parted_at_path k (suc i ∷ p) = parted_at (Some (record { items = [] })) 1 k i p (suc i)
     (omega arith)
+parted_at_path k p = parted_none (all_reached k) [] refl
 
 -- ---- who holds an address, along a list with another one in its middle
 
 joined_twice : (x : Holder) (v w : PlacedWay) → joined_holder (joined_holder x v) w ≡ Several
 joined_twice Nobody None w = refl
-joined_twice Nobody (Some p) w = refl
-joined_twice (One p) v w = refl
-joined_twice Several v w = refl
+joined_twice x v w = refl
 
 joined-one : (x : Holder) (w : PlacedWay) (ws : List PlacedWay)
     → all_joined (joined_holder x w) ws ≡ joined_holder (all_joined x ws) w
@@ -213,9 +210,7 @@ released_at (m ∷ ns) h n small =
     split : (b c : Bool) → (if c then Nobody else (if b then Nobody else slice_index_or h n Nobody))
         ≡ (if b || c then Nobody else slice_index_or h n Nobody)
     split true true = refl
-    split true false = refl
-    split false true = refl
-    split false false = refl
+    split b c = refl
 
 -- without those in the middle, where no address stands twice
 released_middle : (h : List Holder) (xs ys zs : PlacedWays) → length h ≡ 256
@@ -246,11 +241,9 @@ has_ways (w ∷ ws) = true
 
 -- the marks of an index are of the addresses
 known_among : (ws : List PlacedWay) → is_known (holder_among ws) ≡ has_ways ws
-known_among [] = refl
 known_among (None ∷ []) = refl
 known_among (Some p ∷ []) = refl
-known_among (None ∷ w ∷ ws) = refl
-known_among (Some p ∷ w ∷ ws) = refl
+known_among ws = refl
 
 has-paths : (n : ℕ) (xs : PlacedWays) → has_ways (paths_at n xs) ≡ has n (way_addresses xs)
 has-paths n [] = refl
@@ -269,12 +262,7 @@ marks_index h xs is n small =
     known_at h n ∙ ap is_known (is n small) ∙ known_among (paths_at n xs) ∙ has-paths n xs
 
 last_first : (a b c : Bool) → (a || (b || c)) ≡ (b || (c || a))
-last_first true true c = refl
-last_first true false true = refl
-last_first true false false = refl
-last_first false true c = refl
-last_first false false true = refl
-last_first false false false = refl
+last_first a b c = search rules
 
 met_middle : (h : List Holder) (xs ys zs : PlacedWays) → length h ≡ 256
     → AreBytes (way_addresses ys)

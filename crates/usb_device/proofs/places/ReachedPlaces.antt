@@ -5,8 +5,7 @@ use Rattle.std.proofs.Common.{None, Some, append-nil, refl, ap, sym, ◌∙◌}
 use Rattle.std.proofs.lemmas.Bool.Decides.{nat_tests}
 use Rattle.arrayvec.specs.ArrayVec.{ArrayVec}
 use Rattle.usb_port.specs.{PortState, is_attached, powered_on, unplugged, PortCall, SetPower}
-use Rattle.usb_port.specs.{SetReset, ClearEnable, ClearPower, ClearConnectionChange}
-use Rattle.usb_port.specs.{ClearEnableChange, ClearResetChange}
+use Rattle.usb_port.specs.{SetReset, ClearEnable, ClearPower}
 use Rattle.usb_device.specs.{Ports, ended, vacant, taken, Plugged, empty, full, port_of, before}
 use Rattle.usb_device.specs.{acted, called, put, changed, changed_at, place_at, Effect, Leaves}
 use Rattle.usb_device.specs.{Calls, PortsOff, IsIndexOf, IsIndexWithout, path_below, reached}
@@ -39,14 +38,11 @@ pub reached-both : (f g : Place → Place) (w : Option (ArrayVec ℕ)) (n : ℕ)
     → ((q : Place) → place_at k j p ≡ Some q → ReachedSame (f q) (g q))
     → reached w n (changed_at f k j p) ≡ reached w n (changed_at g k j p)
 unfolding reached place_at changed_at
-reached-both f g w n ended j p h = refl
 reached-both f g w n (vacant b k) zero [] h =
     reached-same_head w n (f (empty b)) (g (empty b)) k (h (empty b) refl)
-reached-both f g w n (vacant b k) zero (m ∷ p) h = refl
 reached-both f g w n (vacant b k) (suc j) p h = reached-both f g w (n + 1) k j p h
 reached-both f g w n (taken b s a k) zero [] h =
     reached-same_head w n (f (full b s a)) (g (full b s a)) k (h (full b s a) refl)
-reached-both f g w n (taken b s a k) zero (zero ∷ p) h = refl
 reached-both f g w n (taken b s a k) zero (suc j ∷ p) h =
     ap (λ y. if b.enable then (s.registers.address, path_below w n) ∷ (y ++ reached w (n + 1) k)
     else reached w (n + 1) k) (reached-both f g (path_below w n) 1 a j p h)
@@ -54,6 +50,7 @@ reached-both f g w n (taken b s a k) (suc j) p h =
     ap (λ y. if b.enable
     then (s.registers.address, path_below w n) ∷ (reached (path_below w n) 1 a ++ y)
     else y) (reached-both f g w (n + 1) k j p h)
+reached-both f g w n k j p h = refl
 
 pub reached-changed : (f : Place → Place) (w : Option (ArrayVec ℕ)) (n : ℕ) (k : Ports) (j : ℕ)
     (p : List ℕ)
@@ -83,9 +80,7 @@ called-same SetPower (full b s a) h w n =
 called-same SetReset (full b s a) h w n = cc
 called-same ClearEnable (full b s a) h w n = cc
 called-same ClearPower (full b s a) h w n = cc
-called-same ClearConnectionChange (full b s a) h w n = refl
-called-same ClearEnableChange (full b s a) h w n = refl
-called-same ClearResetChange (full b s a) h w n = refl
+called-same c q h w n = refl
 
 -- without what is on a port, another change at that port is not seen, and at another one none that
 -- leaves the same devices reached
@@ -187,11 +182,10 @@ index_called h c k m port e is x = same_index h k m (ap all_reached is ∙ reach
 without-changed : (f : Place → Place) (k : Ports) (p : List ℕ)
     → all_reached (changed (put None) (changed f k p) p) ≡ all_reached (changed (put None) k p)
 unfolding reached
-without-changed f k [] = refl
-without-changed f k (zero ∷ p) = refl
 without-changed f k (suc i ∷ p) =
     ap all_reached (changed_at-twice (put None) f k i p)
     ∙ reached-both (λ x. put None (f x)) (put None) _ 1 k i p (λ q at w n. refl)
+without-changed f k p = refl
 
 -- is that of the tree with whatever stands there then
 pub index_around : (h : Holders) (f : Place → Place) (k m : Ports) (p : List ℕ) → m ≡ changed f k p
@@ -203,9 +197,8 @@ index_around h f k m p e is =
 plugged-same : (t : Plugged) (k : Ports) (p : List ℕ)
     → all_reached (changed (put (Some t)) k p) ≡ all_reached (changed (put None) k p)
 unfolding reached
-plugged-same t k [] = refl
-plugged-same t k (zero ∷ p) = refl
 plugged-same t k (suc i ∷ p) = reached-both (put (Some t)) (put None) _ 1 k i p (λ q at w n. refl)
+plugged-same t k p = refl
 
 -- where a device is plugged, its port is not enabled
 pub index_plugged : (h : Holders) (t : Plugged) (k m : Ports) (p : List ℕ)

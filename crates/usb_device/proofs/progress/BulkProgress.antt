@@ -9,10 +9,10 @@ use Rattle.usb_port.specs.{PortState}
 use Rattle.usb_device.specs.declared.answer.Answer.TheVariants.{Nak, Stall}
 use Rattle.usb_device.specs.declared.transfer.InEndpoint.TheVariants as by
 use Rattle.usb_device.specs.{advanced, State, Reply, forgotten, payload, bulk_ack_row, bulk_of}
-use Rattle.usb_device.specs.{rest_of, Way, lost, is_whole, heard, gave, source_law, changes_law}
+use Rattle.usb_device.specs.{rest_of, Way, is_whole, heard, gave, source_law, changes_law}
 use Rattle.usb_device.specs.{in_control_law, in_other_law, in_bulk_law, in_law, taken_of, IsSource}
 use Rattle.usb_device.specs.{SourceAt, level, ahead, SourceOn}
-use Rattle.usb_device.specs.Attempt.{whole, broken}
+use Rattle.usb_device.specs.Attempt.{whole}
 use Rattle.usb_device.proofs.Attempts.{same_number}
 
 pub other-other : (t : Toggle) → other (other t) ≡ t
@@ -24,21 +24,15 @@ taken : (t : Toggle) (max : ℕ) (b : List ℕ) (way : Way)
     → taken_of t max (heard way (Some (payload t b)))
     ≡ (if is_whole way && nat_le (length b) max then Some b else None)
 taken Zero max b whole = refl
-taken Zero max b broken = refl
-taken Zero max b lost = refl
 taken One max b whole = refl
-taken One max b broken = refl
-taken One max b lost = refl
+taken t max b way = refl
 
 -- data with the other one
 taken_of-none : (t : Toggle) (max : ℕ) (b : List ℕ) (way : Way)
     → taken_of t max (heard way (Some (payload (other t) b))) ≡ None
 taken_of-none Zero max b whole = refl
-taken_of-none Zero max b broken = refl
-taken_of-none Zero max b lost = refl
 taken_of-none One max b whole = refl
-taken_of-none One max b broken = refl
-taken_of-none One max b lost = refl
+taken_of-none t max b way = refl
 
 drop-not_empty : (place : ℕ) (xs : List ℕ) → (length (drop place xs) == 0) ≡ false
     → place < length xs
@@ -134,14 +128,12 @@ gave_on e most got t s i m (ahead g p q) max t2 t3 h =
 source_stalled : (most got : ℕ) (t : Toggle) (s : State) → SourceAt most got t s
     → (max : ℕ) (t2 : Way) → SourceReply most got t s max (heard t2 (Some Stall), s)
 source_stalled most got t s at max whole = at
-source_stalled most got t s at max broken = at
-source_stalled most got t s at max lost = at
+source_stalled most got t s at max t2 = at
 
 busy_on : (most got : ℕ) (t : Toggle) (s : State) → SourceAt most got t s → (max : ℕ) (t2 : Way)
     → SourceReply most got t s max (heard t2 (Some Nak), s)
 busy_on most got t s at max whole = at
-busy_on most got t s at max broken = at
-busy_on most got t s at max lost = at
+busy_on most got t s at max t2 = at
 
 by_rest : (most got : ℕ) (t : Toggle) (s : State) → SourceAt most got t s
     → (max : ℕ) (t2 : Way) (given : Reply) (halted empty : Bool)
@@ -156,12 +148,11 @@ pub source_on : (e most got : ℕ) (t : Toggle) (s : State) → IsSource e most 
     → SourceAt most got t s → (row : List PortState) (max : ℕ) (t1 t2 t3 : Way)
     → SourceOn most got t s (taken_of t max (in_law s row e max t1 t2 t3).0)
     (in_law s row e max t1 t2 t3).1
-source_on e most got t s i m at row max broken t2 t3 = at
-source_on e most got t s i m at row max lost t2 t3 = at
 source_on e most got t s i m at row max whole t2 t3 =
     let given = gave s by.Bulk max s.bulk_in.toggle (take most (rest_of s)) t2 t3 in
     subst (SourceReply most got t s max) (sym (bulk_law_is e most s i row max t2 t3))
     (by_rest most got t s at max t2 given s.bulk_in.halted (length (rest_of s) == 0)
     (gave_on e most got t s i m at max t2 t3))
+source_on e most got t s i m at row max t1 t2 t3 = at
 
 pub ruleset sources = source_on

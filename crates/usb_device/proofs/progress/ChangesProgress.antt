@@ -8,10 +8,10 @@ use Rattle.usb_port.specs.{PortState}
 use Rattle.usb_device.specs.declared.answer.Answer.TheVariants.{Nak, Stall}
 use Rattle.usb_device.specs.declared.transfer.InEndpoint.TheVariants as by
 use Rattle.usb_device.specs.{tells_changes, change_bits, State, Reply, forgotten, payload}
-use Rattle.usb_device.specs.{acknowledged, bulk_of, Way, lost, is_whole, heard, gave, held_law}
+use Rattle.usb_device.specs.{acknowledged, bulk_of, Way, is_whole, heard, gave, held_law}
 use Rattle.usb_device.specs.{changes_law, in_bulk_law, in_law, PollAt, level, told, ahead}
 use Rattle.usb_device.specs.{NeverTold, PollOn}
-use Rattle.usb_device.specs.Attempt.{whole, broken}
+use Rattle.usb_device.specs.Attempt.{whole}
 use Rattle.usb_device.proofs.progress.BulkProgress.{other-other}
 use Rattle.usb_device.proofs.progress.ControlProgress.{is_same-refl}
 
@@ -77,14 +77,12 @@ gave_again Told bits b t s h q true fits came = (
 poll_stalled : (Told : ℕ → Type 0) (bits : ℕ) (t : Toggle) (s : State) → PollAt Told t s
     → s.changes.halted ≡ true → (t2 : Way) → PollReply Told bits t (heard t2 (Some Stall), s)
 poll_stalled Told bits t s at h whole = (at, h)
-poll_stalled Told bits t s at h broken = at
-poll_stalled Told bits t s at h lost = at
+poll_stalled Told bits t s at h t2 = at
 
 no_change_on : (Told : ℕ → Type 0) (bits : ℕ) (t : Toggle) (s : State) → s.held ≡ None
     → s.changes.toggle ≡ t → bits ≡ 0 → (t2 : Way) → PollReply Told bits t (heard t2 (Some Nak), s)
 no_change_on Told bits t s h q z whole = (z, level h q)
-no_change_on Told bits t s h q z broken = level h q
-no_change_on Told bits t s h q z lost = level h q
+no_change_on Told bits t s h q z t2 = level h q
 
 some_bits : (bits : ℕ) → (bits == 0) ≡ false → bits ≢ 0
 some_bits bits z e = true_not_false (bits == 0) (rw e refl) z
@@ -130,9 +128,8 @@ pub poll_on : (Told : ℕ → Type 0) (t : Toggle) (s : State) → tells_changes
     → (max : ℕ) → 1 ≤ max → (t1 t2 t3 : Way)
     → PollOn Told (change_bits row) t (in_law s row 1 max t1 t2 t3).0
     (in_law s row 1 max t1 t2 t3).1
-poll_on Told t s h row so at max m broken t2 t3 = at
-poll_on Told t s h row so at max m lost t2 t3 = at
 poll_on Told t s h row so at max m whole t2 t3 =
     subst (PollReply Told (change_bits row) t) (sym (law_is s h row max t2 t3))
     (by_halt Told (change_bits row) t s at t2 (held_law s row s.held max t2 t3)
     (by_held Told t s row so at max t2 t3 s.held refl) s.changes.halted refl)
+poll_on Told t s h row so at max m t1 t2 t3 = at

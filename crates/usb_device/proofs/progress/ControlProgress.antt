@@ -5,12 +5,12 @@ use Rattle.std.proofs.Common.{refl, ap, sym, subst, ◌∙◌, arith}
 use Rattle.std.proofs.lemmas.Bool.Decides.{nat_tests}
 use Rattle.usb_packet.specs.{Toggle, Zero, One, is_same}
 use Rattle.usb_device.specs.{Answer, Stage, reading, max_packet, packet_at, toggle_at, State, Reply}
-use Rattle.usb_device.specs.{forgotten, is_busy, nak_row, ack_row, Way, lost, is_whole, heard, gave}
+use Rattle.usb_device.specs.{forgotten, is_busy, nak_row, ack_row, Way, is_whole, heard, gave}
 use Rattle.usb_device.specs.{in_stage_law, in_law, taken_of, ReadingAt, ReadOn}
 use Rattle.usb_device.specs.declared.answer.Answer.TheVariants.{Nak}
 use Rattle.usb_device.specs.declared.transfer.InEndpoint.TheVariants as by
 use Rattle.usb_port.specs.{PortState}
-use Rattle.usb_device.specs.Attempt.{whole, broken}
+use Rattle.usb_device.specs.Attempt.{whole}
 
 abbrev progress_stage : State → Stage → State
 progress_stage d s = record d { stage = s }
@@ -29,10 +29,9 @@ even-suc k = grind (arith, nat_tests)
 
 alternate : (b c : Bool) → b ≡ not c → is_same (if b then One else Zero) (if c then One else Zero)
     ≡ false
-alternate true true h = cc
 alternate true false h = refl
 alternate false true h = refl
-alternate false false h = cc
+alternate b c h = cc
 
 turns : (n k : ℕ) → n ≡ k + 1 → is_same (toggle_at n) (toggle_at k) ≡ false
 turns n k e = ap (λ m. is_same (toggle_at m) (toggle_at k)) e
@@ -139,9 +138,7 @@ packet_read_given : (answer bytes : List ℕ) (wanted n k max : ℕ) (s : State)
     (gave (progress_stage s (reading answer wanted k)) by.Control max (toggle_at k) bytes t2 t3)
 packet_read_given answer bytes wanted n k max s h near whole t3 =
     heard_given answer bytes wanted n k max s h near t3
-packet_read_given answer bytes wanted n k max s h near broken t3 =
-    near_stays answer wanted n k s near
-packet_read_given answer bytes wanted n k max s h near lost t3 = near_stays answer wanted n k s near
+packet_read_given answer bytes wanted n k max s h near t2 t3 = near_stays answer wanted n k s near
 
 read_at : (answer : List ℕ) (wanted n k max : ℕ) (s : State) → Near answer wanted n k s
     → (t2 t3 : Way) (o : Option (List ℕ)) → packet_at (max_packet s.spec) wanted answer k ≡ o
@@ -159,8 +156,7 @@ read_busy : (answer : List ℕ) (wanted n k max : ℕ) (s : State) → Near answ
     → (t2 : Way) → ReadAdvances answer wanted n max (progress_stage s (reading answer wanted k))
     (heard t2 (Some Nak), (nak_row (progress_stage s (reading answer wanted k))).1)
 read_busy answer wanted n k max s near whole = near_stays answer wanted n k (nak_row s).1 near
-read_busy answer wanted n k max s near broken = near_stays answer wanted n k (nak_row s).1 near
-read_busy answer wanted n k max s near lost = near_stays answer wanted n k (nak_row s).1 near
+read_busy answer wanted n k max s near t2 = near_stays answer wanted n k (nak_row s).1 near
 
 read_control : (answer : List ℕ) (wanted n k max : ℕ) (s : State) → Near answer wanted n k s
     → (t2 t3 : Way) (busy : Bool) → ReadAdvances answer wanted n max
@@ -178,8 +174,7 @@ read_in : (answer : List ℕ) (wanted n k : ℕ) (s : State) → Near answer wan
     (in_law (progress_stage s (reading answer wanted k)) row 0 max t1 t2 t3)
 read_in answer wanted n k s near row max whole t2 t3 =
     read_control answer wanted n k max s near t2 t3 (is_busy s)
-read_in answer wanted n k s near row max broken t2 t3 = near_stays answer wanted n k s near
-read_in answer wanted n k s near row max lost t2 t3 = near_stays answer wanted n k s near
+read_in answer wanted n k s near row max t1 t2 t3 = near_stays answer wanted n k s near
 
 pub control_read : (answer : List ℕ) (wanted n : ℕ) (s : State) → ReadingAt answer wanted n s
     → (row : List PortState) (max : ℕ) (t1 t2 t3 : Way)

@@ -19,13 +19,11 @@ pub read_went : (max bytes : ℕ) (a b : World) {t s : Option (List ℕ)} → 8 
 read_went max bytes a b {t} {s} wide p = subst (λ n. StepRun n a t b s) (bound_wide max bytes wide)
     p
 
-one_more_time : (k n : ℕ) → k * n + n ≤ (k + 1) * n
-one_more_time k n = omega (arith, suc-mul k n)
-
 -- so many steps of one count, and one more
 pub went_again : (k n : ℕ) (a b c : World) {t r s : Option (List ℕ)} → StepRun (k * n) a t b r
     → StepRun n b r c s → StepRun ((k + 1) * n) a t c s
-went_again k n a b c p q = went_on_more ((k + 1) * n) (k * n) n a b c p q (one_more_time k n)
+went_again k n a b c p q = went_on_more ((k + 1) * n) (k * n) n a b c p q
+    (omega (arith, suc-mul k n))
 
 -- and no more of them than there may be
 pub went_times : (k m n : ℕ) (a b : World) {t s : Option (List ℕ)} → StepRun (k * n) a t b s → k ≤ m

@@ -1,21 +1,21 @@
 -- What stays fair in an enumeration from one call to the next, and when a hub is lost.
-use Rattle.std.proofs.Common.{◌≡◌, ◌⊎◌, inl, inr, ◌≤◌, ◌&&◌, ◌||◌, not, if◌then◌else◌, ◌==◌, ℕ}
+use Rattle.std.proofs.Common.{◌≡◌, ◌≢◌, ◌⊎◌, inl, inr, ◌≤◌, ◌&&◌, ◌||◌, not, if◌then◌else◌, ◌==◌, ℕ}
 use Rattle.std.proofs.Common.{zero, suc, true, false, List, [], ◌∷◌, ◌++◌, Option, None, Some}
 use Rattle.std.proofs.Common.{is_some, option_map, Result, Ok, Err, refl, ap, sym, subst, ◌∙◌}
 use Rattle.std.specs.Prelude.{IsSome, IsSomeAnd}
 use Rattle.std.proofs.lemmas.Option.{same_Some}
 use Rattle.usb_port.specs.{parent_of, PortState, PortCall}
 use Rattle.usb_port.proofs.Interface.{parent}
-use Rattle.usb_device.specs.{State, Ports, ended, vacant, taken, reach, state_at, port_at, Location}
+use Rattle.usb_device.specs.{State, Ports, ended, vacant, taken, state_at, port_at, Location}
 use Rattle.usb_device.specs.{path_to, reach_on, state_on, state_there, port_there, Spec}
-use Rattle.usb_world.specs.{KeepsPendingAt, Was, spec_of, LeavesPortAlone, SameAt}
-use Rattle.usb_world.specs.{UnchangedOrPending, SameDeviceOrPending, Consistent, Course, World}
+use Rattle.usb_world.specs.{KeepsPendingAt, Was, spec_of, LeavesPortAlone, SameAt, Consistent}
+use Rattle.usb_world.specs.{Course, World}
 use Rattle.usb_tree.specs.{is_way, has_power, pending, deep_at}
 use Rattle.usb_world.proofs.Interface.{course_wider, pending_persists, reach_live, rests_or_pends}
 use Rattle.usb_world.proofs.Interface.{stands_or_pends}
 use Rattle.usb_tree.proofs.Interface.{false_true}
 use Rattle.usb_bus.specs.{StepRun}
-use Rattle.usb_transaction.specs.{Target}
+use Rattle.usb_transaction.specs.{Target, Listens}
 use Rattle.usb_address.specs.{AddressMap}
 use Rattle.usb_address.proofs.Interface.{live_port, not_way, pend_or_live}
 use Rattle.usb_pipe.specs.{PipeFault}
@@ -24,17 +24,37 @@ use Rattle.usb_hub.specs.{HubPort, Root, External, IsAt, IsBelow, StaysAs, HasPo
 use Rattle.usb_hub.specs.{NoHubFailed}
 use Rattle.usb_hub.proofs.Interface.{stays-registers, stays-spec}
 use Rattle.usb_enum.specs.{Cause, EnumFault, Stop, IsSpare, AtPort, CalledAt, StatusAt, ServesAt}
-use Rattle.usb_enum.specs.{HasServer, IsFairAt, PendingOr, FaultsFor, StopsFor, StopsFairly}
-use Rattle.usb_enum.specs.{Faulted, OnlyAt, IsOccupied, IsReachedAt, AtPath, at_port}
-use Rattle.usb_enum.specs.{FaultAllowedAt, FaultAllowed}
+use Rattle.usb_enum.specs.{HasServer, IsFairAt, PendingOr, FaultsFor, StopsFairly, Faulted, OnlyAt}
+use Rattle.usb_enum.specs.{IsOccupied, IsReachedAt, AtPath, at_port, FaultAllowedAt, FaultAllowed}
 use Rattle.usb_enum.specs.declared.fault.EnumFault.TheVariants as fault
 use Rattle.usb_enum.specs.declared.stop.Stop.TheVariants.{Refused, Fault}
 use Rattle.usb_enum.proofs.courses.Courses.{went_sound, went_in_order, went_course}
 use Rattle.usb_enum.proofs.courses.Damages.{went_three}
 use Rattle.usb_enum.proofs.courses.Losses.{few_before}
-use Rattle.usb_enum.proofs.devices.ReachedDevices.{some_of, is_some-state, occupied_on}
+use Rattle.usb_enum.proofs.devices.ReachedDevices.{some_of, is_some-value, occupied_on}
 
 -- The hub of a port
+
+-- it serves the port as long as it stays as it was
+abbrev pub serves_still : (t : Target) (port : ℕ) (new : World) (j : Location) (s v : State)
+    → v.spec ≡ s.spec → v.registers ≡ s.registers → reach_on new.roots j ≡ true
+    → state_on new.roots j ≡ Some v → Listens t j s → t.addr ≢ 0 → s.registers.configuration ≢ 0
+    → HasPort s.spec port → HubServes t port new
+serves_still t port new j s v spec registers on there listens addressed configured has = record {
+  spot = j;
+  state = v;
+  on = on;
+  stands = there;
+  listens = record {
+    at = ap (λ r. r.address == t.addr) registers ∙ listens.at;
+    loud = ap (λ x. x.silent) spec ∙ listens.loud;
+    hears = ap (λ (x : Spec). if t.low then x.low && (not (deep_at false j.rest) || t.pre)
+        else not x.low) spec ∙ listens.hears;
+  };
+  addressed = addressed;
+  configured = λ z. configured (sym (ap (λ r. r.configuration) registers) ∙ z);
+  has = subst (λ x. HasPort x port) (sym spec) has;
+}
 
 module _ (f : AddressMap) (hub : Target) (n : ℕ) (p : List ℕ) (at : IsBelow f hub.addr n p) where
   pub parent_is : parent_of p ≡ Some at.hub
@@ -70,45 +90,26 @@ module _ (f : AddressMap) (hub : Target) (n : ℕ) (p : List ℕ) (at : IsBelow 
           let registers : v.registers ≡ was.serves.state.registers =
           stays-registers before.before v before.so ∙ ap (λ s. s.registers) is in
           record {
-            serves = record {
-              spot = j;
-              state = v;
-              on = on;
-              stands = there;
-              listens = record {
-                at = ap (λ r. r.address == hub.addr) registers ∙ was.serves.listens.at;
-                loud = ap (λ x. x.silent) spec ∙ was.serves.listens.loud;
-                hears = ap (λ (x : Spec). if hub.low then x.low &&
-                    (not (deep_at false j.rest) || hub.pre) else not x.low) spec
-                    ∙ was.serves.listens.hears;
-              };
-              addressed = was.serves.addressed;
-              configured = λ z. was.serves.configured (sym (ap (λ r. r.configuration) registers)
-                  ∙ z);
-              has = subst (λ x. HasPort x n) (sym spec) was.serves.has;
-            };
+            serves = serves_still hub n new j was.serves.state v spec registers on there
+                was.serves.listens was.serves.addressed was.serves.configured was.serves.has;
             there = was.there;
             wide = was.wide;
           }
 
       hub_same : SameAt old.roots new.roots at.hub → ServesAt hub n at.hub new
       hub_same same =
-          let on : reach_on new.roots j ≡ true = subst (λ q. reach new.roots q ≡ reach old.roots q)
-          was.there same.on ∙ was.serves.on in
-          let what = subst (λ q. option_map spec_of (state_there new.roots q)
-          ≡ option_map spec_of (state_there old.roots q)) was.there same.what in
-          let v = is_some-state (state_on new.roots j)
+          let on : reach_on new.roots j ≡ true = (rw was.there at same.on) ∙ was.serves.on in
+          let what = rw was.there at same.what in
+          let v = is_some-value (state_on new.roots j)
           (some_of (state_on old.roots j) (state_on new.roots j) what
           (ap is_some was.serves.stands)) in
           hub_served v.0 on v.1
 
       serves_on : (pending new.roots at.hub ≡ true) ⊎ ServesAt hub n at.hub new
-      serves_on = pick (rests_or_pends at.hub hub_asks hub_live)
-        where
-          pick : UnchangedOrPending old new at.hub → (pending new.roots at.hub ≡ true)
-              ⊎ ServesAt hub n at.hub new
-          pick (inl y) = inr (hub_same y.1)
-          pick (inr y) = inl y
+      serves_on = elim (rests_or_pends at.hub hub_asks hub_live) [
+        | inl y ↦ inr (hub_same y.1)
+        | inr y ↦ inl y
+      ]
 
 pub server_on : (f : AddressMap) (port : HubPort) (p : List ℕ) → IsAt f port p → (old new : World)
     → Consistent old.roots → OnlyAt p old new → HasServer port p old → HasServer port p new
@@ -116,12 +117,10 @@ server_on f (Root n) p at old new sane only server = tt
 server_on f (External hub n) p at old new sane only server =
     let P : World → List ℕ → Type 0 = λ w q. (pending w.roots q ≡ true) ⊎ ServesAt hub n q w in
     subst (λ o. IsSomeAnd o (P new)) (sym (parent_is f hub n p at))
-    (pick (subst (λ o. IsSomeAnd o (P old)) (parent_is f hub n p at) server))
-  where
-    pick : (pending old.roots at.hub ≡ true) ⊎ ServesAt hub n at.hub old
-        → (pending new.roots at.hub ≡ true) ⊎ ServesAt hub n at.hub new
-    pick (inl h) = inl (hub_pends_on f hub n p at old new only h)
-    pick (inr h) = serves_on f hub n p at old new only sane h
+    (elim (subst (λ o. IsSomeAnd o (P old)) (parent_is f hub n p at) server) [
+      | inl h ↦ inl (hub_pends_on f hub n p at old new only h)
+      | inr h ↦ serves_on f hub n p at old new only sane h
+    ])
 
 -- a hub that serves its port is not lost
 pub lost_hub_faults : (f : AddressMap) (port : HubPort) (p : List ℕ) → IsAt f port p
@@ -135,13 +134,11 @@ lost_hub_faults f (Root n) p at fault.ParentLost new told server denies = absurd
 lost_hub_faults f (External hub n) p at fault.ParentLost new told server denies =
     let P : List ℕ → Type 0 = λ q. (pending new.roots q ≡ true) ⊎ ServesAt hub n q new in
     subst (λ o. IsSomeAnd o (λ q. pending new.roots q ≡ true)) (sym (parent_is f hub n p at))
-    (pick (subst (λ o. IsSomeAnd o P) (parent_is f hub n p at) server))
-  where
-    pick : (pending new.roots at.hub ≡ true) ⊎ ServesAt hub n at.hub new
-        → pending new.roots at.hub ≡ true
-    pick (inl h) = h
-    pick (inr h) = subst (λ q. pending new.roots q ≡ true) (sym h.there)
-        (denies hub n refl refl h.serves (at.path ∙ ap (λ q. q ++ (n ∷ [])) h.there) h.wide)
+    (elim (subst (λ o. IsSomeAnd o P) (parent_is f hub n p at) server) [
+      | inl h ↦ h
+      | inr h ↦ subst (λ q. pending new.roots q ≡ true) (sym h.there)
+          (denies hub n refl refl h.serves (at.path ∙ ap (λ q. q ++ (n ∷ [])) h.there) h.wide)
+    ])
 
 -- a served call loses no hub
 pub parent_lost_not_served : {A : Type 0} (outcome : Result A PipeFault) (why : EnumFault)
@@ -217,17 +214,16 @@ pub called_faulted : (port : HubPort) (address n : ℕ) (call : Option PortCall)
     {old new : World} {a b : Option (List ℕ)} → StepRun n old a new b → AtPort port address old new
     → FaultAllowedAt port why new → CalledAt port call old (Err why) new
     → Faulted port address why old new
-called_faulted port address n call why {old} {new} went at told called = record { why = lost }
-  where
-    lost : (f : AddressMap) (p : List ℕ) → IsFairAt f port p address old new → FaultsFor p why new
-    lost f p fair =
-        lost_hub_faults f port p fair.spare.at why new told
-        (server_on f port p fair.spare.at old new
-        (fair.order (went_sound n old new went fair.working)).sane
-        (fair_only f port p address fair at) fair.server)
-        (λ hub i is parent serves there wide. absurd
-        (parent_lost_not_served called.outcome why called.told parent
-        (called.calls.why hub i is fair.few (fair_single f port p address fair at) serves)))
+called_faulted port address n call why {old} {new} went at told called = record {
+  why = λ f p fair.
+      lost_hub_faults f port p fair.spare.at why new told
+      (server_on f port p fair.spare.at old new
+      (fair.order (went_sound n old new went fair.working)).sane
+      (fair_only f port p address fair at) fair.server)
+      (λ hub i is parent serves there wide. absurd
+      (parent_lost_not_served called.outcome why called.told parent
+      (called.calls.why hub i is fair.few (fair_single f port p address fair at) serves)));
+}
 
 -- a port stands where its change of connection is pending and that of its hub is not, and where a
 -- device stands
@@ -242,52 +238,24 @@ state_port (taken b s a k) zero (zero ∷ p) h = false_true h
 state_port (taken b s a k) zero (suc i ∷ p) h = state_port a i p h
 state_port (taken b s a k) (suc j) p h = state_port k j p h
 
-is_some-port : (o : Option PortState) → IsSome o → (b : PortState) × (o ≡ Some b)
-is_some-port None some = false_true some
-is_some-port (Some b) some = (b, refl)
-
 pub state_there-port : (k : Ports) (p : List ℕ) → IsSome (state_there k p) → (b : PortState)
     × (port_there k p ≡ Some b)
 state_there-port k [] some = false_true some
 state_there-port k (zero ∷ p) some = false_true some
-state_there-port k (suc j ∷ p) some = is_some-port (port_at k j p) (state_port k j p some)
+state_there-port k (suc j ∷ p) some = is_some-value (port_at k j p) (state_port k j p some)
 
 -- where no change is pending at its hub
 occupied_port_there : (w : World) (j : Location) (n : ℕ) → IsOccupied w (path_to j ++ (n ∷ []))
     → (pending w.roots (path_to j) ≡ true) ⊎ IsSome (port_there w.roots (path_to j ++ (n ∷ [])))
-occupied_port_there w j n (inl h) = pick (pend_or_live w.roots (path_to j) n h)
-  where
-    pick : (has_power w.roots (path_to j ++ (n ∷ [])) ≡ true) ⊎ (pending w.roots (path_to j) ≡ true)
-        → (pending w.roots (path_to j) ≡ true) ⊎ IsSome (port_there w.roots (path_to j ++ (n ∷ [])))
-    pick (inl on) = inr (subst IsSome (sym (live_port w.roots (path_to j ++ (n ∷ [])) on).1) refl)
-    pick (inr above) = inl above
+occupied_port_there w j n (inl h) = elim (pend_or_live w.roots (path_to j) n h) [
+  | inl on ↦ inr (subst IsSome (sym (live_port w.roots (path_to j ++ (n ∷ [])) on).1) refl)
+  | inr above ↦ inl above
+]
 occupied_port_there w j n (inr h) = inr (state_port w.roots j.row (j.rest ++ (n ∷ [])) h.1)
 
 module _ (port : HubPort) (address n : ℕ) (why : EnumFault) {old new : World}
     {a b : Option (List ℕ)} (went : StepRun n old a new b) (at : AtPort port address old new)
     (told : FaultAllowedAt port why new) (shown : StatusAt port old (Err why) new) where
-  status_denies : (f : AddressMap) (p : List ℕ) → IsFairAt f port p address old new
-      → (hub : Target) (i : ℕ) → port ≡ External hub i → why ≡ fault.ParentLost
-      → (serves : HubServes hub i new) → p ≡ path_to serves.spot ++ (i ∷ []) → 8 ≤ hub.max
-      → pending new.roots (path_to serves.spot) ≡ true
-  status_denies f p fair hub i is parent serves there wide =
-      pick (occupied_port_there old serves.spot i (subst (IsOccupied old) there fair.occupied))
-    where
-      off : is_way p (path_to serves.spot) ≡ false
-      off = ap (λ x. is_way x (path_to serves.spot)) there ∙ not_way (path_to serves.spot) i
-
-      pick : (pending old.roots (path_to serves.spot) ≡ true)
-          ⊎ IsSome (port_there old.roots (path_to serves.spot ++ (i ∷ [])))
-          → pending new.roots (path_to serves.spot) ≡ true
-      pick (inl h) = pending_persists (path_to serves.spot)
-          (course_wider (λ s w k. k.spares) ((fair_only f port p address fair at).others
-          (path_to serves.spot) off)) h
-      pick (inr h) =
-          let b = is_some-port (port_there old.roots (path_to serves.spot ++ (i ∷ []))) h in
-          absurd (parent_lost_not_served shown.outcome why shown.told parent
-          (shown.tells.why hub i is fair.few (fair_single f port p address fair at) wide
-          serves b.0 b.1))
-
   pub status_faulted : Faulted port address why old new
   status_faulted = record {
     why = λ f p fair.
@@ -295,7 +263,17 @@ module _ (port : HubPort) (address n : ℕ) (why : EnumFault) {old new : World}
         (server_on f port p fair.spare.at old new
         (fair.order (went_sound n old new went fair.working)).sane
         (fair_only f port p address fair at) fair.server)
-        (status_denies f p fair);
+        (λ hub i is parent serves there wide.
+        let above = path_to serves.spot in
+        elim (occupied_port_there old serves.spot i (subst (IsOccupied old) there fair.occupied)) [
+          | inl h ↦ pending_persists above (course_wider (λ s w k. k.spares)
+              ((fair_only f port p address fair at).others above
+              (ap (λ x. is_way x above) there ∙ not_way above i))) h
+          | inr h ↦ (let b = is_some-value (port_there old.roots (above ++ (i ∷ []))) h in
+              absurd (parent_lost_not_served shown.outcome why shown.told parent
+              (shown.tells.why hub i is fair.few (fair_single f port p address fair at) wide
+              serves b.0 b.1)))
+        ]);
   }
 
 -- What ends an enumeration
@@ -304,20 +282,12 @@ pub pends_on : (So : Spec → Type 0) (p : List ℕ) {old new : World}
     → Course (KeepsPendingAt p) old new → IsOccupied old p → PendingOr So p old → PendingOr So p new
 pends_on So p c (inl pending) so = inl (pending_persists p c pending)
 pends_on So p c (inr is) (inl pending) = inl (pending_persists p c pending)
-pends_on So p {old} {new} c (inr is) (inr so) = pick (stands_or_pends p c is.0)
-  where
-    pick : SameDeviceOrPending old new p → PendingOr So p new
-    pick (inr y) = inl y
-    pick (inl y) =
-        let s = is_some-state (state_there old.roots p) is.1 in
-        inr (λ v there.
-        subst So (same_Some s.0.spec v.spec (sym (ap (option_map spec_of) s.1) ∙ sym y.1
-        ∙ ap (option_map spec_of) there)) (so s.0 s.1))
-
-pub pends_wider : (A B : Spec → Type 0) (p : List ℕ) (w : World) → ((spec : Spec) → A spec → B spec)
-    → PendingOr A p w → PendingOr B p w
-pends_wider A B p w f (inl pending) = inl pending
-pends_wider A B p w f (inr so) = inr (λ s there. f s.spec (so s there))
+pends_on So p {old} {new} c (inr is) (inr so) = elim (stands_or_pends p c is.0) [
+  | inr y ↦ inl y
+  | inl y ↦ (let s = is_some-value (state_there old.roots p) is.1 in
+      inr (λ v there. subst So (same_Some s.0.spec v.spec (sym (ap (option_map spec_of) s.1)
+      ∙ sym y.1 ∙ ap (option_map spec_of) there)) (so s.0 s.1)))
+]
 
 -- what is so of the device that is reached is so of the one that stands there
 pub pends_reached : (So : Spec → Type 0) (p : List ℕ) (w : World) → IsReachedAt w p
@@ -325,24 +295,16 @@ pub pends_reached : (So : Spec → Type 0) (p : List ℕ) (w : World) → IsReac
 pends_reached So p w (inl pending) so = inl pending
 pends_reached So p w (inr is) so = inr (λ s there. so s is.1 there)
 
-stop_wider : (A B : Spec → Option Cause) (f : AddressMap) (p : List ℕ) (old new : World)
-    → ((spec : Spec) (cause : Cause) → A spec ≡ Some cause → B spec ≡ Some cause) → (stop : Stop)
-    → StopsFor A f p old stop new → StopsFor B f p old stop new
-stop_wider A B f p old new more (Refused cause) stops =
-    λ held. pends_wider (λ spec. A spec ≡ Some cause) (λ spec. B spec ≡ Some cause) p new
-    (λ spec. more spec cause) (stops held)
-stop_wider A B f p old new more (Fault why) stops = stops
-
 pub stops_wider : (A B : Spec → Option Cause) (port : HubPort) (address : ℕ) (stop : Stop)
     (old new : World) → ((spec : Spec) (cause : Cause) → A spec ≡ Some cause → B spec ≡ Some cause)
     → StopsFairly A port address stop old new → StopsFairly B port address stop old new
-stops_wider A B port address stop old new more stops =
-    record { why = λ f p fair. stop_wider A B f p old new more stop (stops.why f p fair) }
-
-pub stops_faulted : (wrong : Spec → Option Cause) (port : HubPort) (address : ℕ) (why : EnumFault)
-    (old new : World) → Faulted port address why old new
-    → StopsFairly wrong port address (Fault why) old new
-stops_faulted wrong port address why old new faulted = record { why = faulted.why }
+stops_wider A B port address (Refused cause) old new more stops = record {
+  why = λ f p fair held. elim (stops.why f p fair held) [
+    | inl pending ↦ inl pending
+    | inr so ↦ inr (λ s there. more s.spec cause (so s there))
+  ];
+}
+stops_wider A B port address (Fault why) old new more stops = record { why = stops.why }
 
 pub faulted_after : (port : HubPort) (address m n : ℕ) (why : EnumFault) {old mid new : World}
     {a b c d : Option (List ℕ)} → StepRun m old a mid b → StepRun n mid c new d

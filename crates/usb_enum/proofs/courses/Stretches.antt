@@ -9,9 +9,8 @@ use Rattle.usb_world.specs.declared.losses.Losses.{Losses}
 use Rattle.usb_world.specs.{Attempt, one_more, counted, after_clearing, IsMade, IsOut, Step}
 use Rattle.usb_world.specs.{attempt, root_call, event, report, after, Course, World}
 use Rattle.usb_tree.specs.{IsSettled}
-use Rattle.usb_world.proofs.Interface.{MadeOrNot, attempt_cases, in_clears, kept_course, loses}
-use Rattle.usb_world.proofs.Interface.{losses_as, made_here, out_counts, set_up_counts}
-use Rattle.usb_world.proofs.Interface.{settled_after}
+use Rattle.usb_world.proofs.Interface.{attempt_cases, in_clears, kept_course, loses, losses_as}
+use Rattle.usb_world.proofs.Interface.{made_here, out_counts, set_up_counts, settled_after}
 use Rattle.usb_tree.proofs.Interface.{not-true}
 use Rattle.usb_transaction.specs.{Target, begins_no_stretch, in_attempt, out_attempt, setup_attempt}
 use Rattle.usb_address.proofs.Interface.{same_setup}
@@ -36,11 +35,10 @@ goes_same w v same = record { run = rw same (omega arith) }
 -- where it is made
 attempt_goes : (a : Attempt) (w : World) → IsSettled w.roots
     → (IsMade a w → NoNewStretch w (after (attempt a) w)) → NoNewStretch w (after (attempt a) w)
-attempt_goes a w settled made = pick (attempt_cases a w)
-  where
-    pick : MadeOrNot a w (after (attempt a) w) → NoNewStretch w (after (attempt a) w)
-    pick (inl e) = goes_same w (after (attempt a) w) (ap (λ v. v.losses) e)
-    pick (inr m) = made (made_here a w m.0 settled)
+attempt_goes a w settled made = elim (attempt_cases a w) [
+  | inl e ↦ goes_same w (after (attempt a) w) (ap (λ v. v.losses) e)
+  | inr m ↦ made (made_here a w m.0 settled)
+]
 
 counted_run : (lost : Bool) (l : Losses) → l.run ≤ (counted lost l).run
 unfolding one_more

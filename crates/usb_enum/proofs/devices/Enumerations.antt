@@ -1,16 +1,17 @@
 -- How the device at a port that is being enumerated comes to hold its address, from one call to the
 -- next.
-use Rattle.std.proofs.Common.{◌≡◌, ◌⊎◌, ◌≤◌, ℕ, inl, Bool, true, false, List, [], ◌∷◌, ◌++◌, Option}
-use Rattle.std.proofs.Common.{None, Some, if◌then◌else◌, refl, ap, sym, subst, ◌∙◌, arith}
+use Rattle.std.proofs.Common.{◌≡◌, ◌⊎◌, ◌≤◌, ℕ, inl, inr, true, false, List, [], ◌∷◌, ◌++◌, Option}
+use Rattle.std.proofs.Common.{None, Some, refl, ap, sym, subst, ◌∙◌, arith}
 use Rattle.std.proofs.lemmas.Option.{same_Some}
 use Rattle.usb_world.specs.{BusFault, after_reset, after_taking, World}
 use Rattle.usb_tree.specs.{same_path, is_way}
-use Rattle.usb_address.specs.{AddressMap, MapHolds, Enumerating, WhileBusWorks, KeepsAddresses}
+use Rattle.usb_address.specs.{AddressMap, Unused, MapHolds, Enumerating, WhileBusWorks}
+use Rattle.usb_address.specs.{KeepsAddresses}
 use Rattle.usb_address.proofs.Interface.{after_a_reset, after_an_address, after_taking-zero}
 use Rattle.usb_address.proofs.Interface.{after_taking-not_both, is_way-same_path}
 use Rattle.usb_hub.specs.{HubPort, Root, External, IsAt, IsClaimed, Resets, GivesAddress}
 use Rattle.usb_enum.specs.{IsSpare, Within, TakesAddress}
-use Rattle.usb_tree.proofs.Interface.{self_number, self_path}
+use Rattle.usb_tree.proofs.Interface.{decided, self_number, self_path}
 
 -- Till a fault
 
@@ -84,77 +85,76 @@ takes_then port address a b c m n = record {
 
 pub within_kept : (port : HubPort) (address : ℕ) (old new : World) → KeepsAddresses old new
     → Within port address old new
-within_kept port address old new keeps = record { stays = stays }
-  where
-    stays : (f : AddressMap) (p : List ℕ) → IsSpare f port p address
-        → WhileBusWorks (Enumerating f p address) old → WhileBusWorks (Enumerating f p address) new
-    stays f p spare t =
-        let h = having f p address old t in
-        till_weaker (MapHolds (after_taking f p h.has)) (Enumerating f p address) new
-        (λ o. record { has = h.has; is = h.is; owned = o })
-        (keeps.kept (after_taking f p h.has) h.owned)
+within_kept port address old new keeps = record {
+  stays = λ f p spare t.
+      let h = having f p address old t in
+      till_weaker (MapHolds (after_taking f p h.has)) (Enumerating f p address) new
+      (λ o. record { has = h.has; is = h.is; owned = o })
+      (keeps.kept (after_taking f p h.has) h.owned);
+}
 
 pub within-keeps_addresses : (port : HubPort) (address : ℕ) (a b c : World)
     → Within port address a b → KeepsAddresses b c → Within port address a c
 within-keeps_addresses port address a b c within keeps =
     within_then port address a b c within (within_kept port address b c keeps)
 
+-- only the port that is being enumerated may claim address 0
+pub zero_there : (f : AddressMap) (p : List ℕ) (has : ℕ) → Unused f 0 → (x : List ℕ)
+    → after_taking f p has x ≡ Some 0 → is_way p x ≡ true
+zero_there f p has none x e = subst (λ y. is_way p y ≡ true)
+    (sym (after_taking-zero f p has x none e)) (is_way-same_path p p (self_path p))
+
 pub within_reset : (port : HubPort) (address : ℕ) (old new : World) → Resets port old new
     → Within port address old new
-within_reset port address old new resets = record { stays = stays }
-  where
-    stays : (f : AddressMap) (p : List ℕ) → IsSpare f port p address
-        → WhileBusWorks (Enumerating f p address) old → WhileBusWorks (Enumerating f p address) new
-    stays f p spare t =
-        let h = having f p address old t in
-        let g : AddressMap = after_taking f p h.has in
-        let only : (x : List ℕ) → g x ≡ Some 0 → is_way p x ≡ true =
-        λ x e. subst (λ y. is_way p y ≡ true) (sym (after_taking-zero f p h.has x spare.none e))
-        (is_way-same_path p p (self_path p)) in
-        till_weaker (λ w. MapHolds g w ⊎ MapHolds (after_reset g p) w) (Enumerating f p address) new
-        (after_a_reset f p address h.has new spare.free h.is)
-        (resets.resets g p (at_taking f port p h.has spare.at) only h.owned)
+within_reset port address old new resets = record {
+  stays = λ f p spare t.
+      let h = having f p address old t in
+      let g : AddressMap = after_taking f p h.has in
+      till_weaker (λ w. MapHolds g w ⊎ MapHolds (after_reset g p) w) (Enumerating f p address) new
+      (after_a_reset f p address h.has new spare.free h.is)
+      (resets.resets g p (at_taking f port p h.has spare.at) (zero_there f p h.has spare.none)
+      h.owned);
+}
 
 -- SET_ADDRESS, at address 0
 pub within_given : (port : HubPort) (target address : ℕ) (old new : World) → target ≡ 0
     → 1 ≤ address → GivesAddress target address old new → Within port address old new
-within_given port target address old new zero_is least gives = record { stays = stays }
-  where
-    other : address ≡ 0 → ⊥
-    other e = omega (arith, e, least)
+within_given port target address old new zero_is least gives = record {
+  stays = λ f p spare t.
+      let h = having f p address old t in
+      let g : AddressMap = after_taking f p h.has in
+      till_weaker (λ w. MapHolds g w ⊎ MapHolds (after_taking g p address) w)
+      (Enumerating f p address) new (after_an_address f p address h.has new h.is)
+      (gives.gives g p
+      (λ x e. after_taking-zero f p h.has x spare.none (e ∙ ap Some zero_is))
+      (λ x y e k. after_taking-not_both f p address h.has x y spare.none spare.spare
+      (λ z. omega (arith, z, least)) h.is e (k ∙ ap Some zero_is))
+      (λ e. omega (arith, e, zero_is, least))
+      h.owned);
+}
 
-    stays : (f : AddressMap) (p : List ℕ) → IsSpare f port p address
-        → WhileBusWorks (Enumerating f p address) old → WhileBusWorks (Enumerating f p address) new
-    stays f p spare t =
-        let h = having f p address old t in
-        let g : AddressMap = after_taking f p h.has in
-        let zero_at : (x : List ℕ) (n : ℕ) → n ≡ 0 → g x ≡ Some n → g x ≡ Some 0 = λ x n e k. k
-        ∙ ap Some e in
-        till_weaker (λ w. MapHolds g w ⊎ MapHolds (after_taking g p address) w)
-        (Enumerating f p address) new (after_an_address f p address h.has new h.is)
-        (gives.gives g p
-        (λ x e. after_taking-zero f p h.has x spare.none (zero_at x target zero_is e))
-        (λ x y e k. after_taking-not_both f p address h.has x y spare.none spare.spare other h.is e
-        (zero_at y target zero_is k))
-        (λ e. other (sym e ∙ zero_is))
-        h.owned)
+-- Who holds which address
+
+-- whoever answered at address 0, or at the one that is set aside, is the device at the port
+pub answered_has : (f : AddressMap) (port : HubPort) (p : List ℕ) (address has n : ℕ)
+    → IsSpare f port p address → (n ≡ 0) ⊎ (n ≡ address) → (q : List ℕ)
+    × (after_taking f p has q ≡ Some n) → has ≡ n
+answered_has f port p address has n spare is who = elim (decided (same_path p who.0)) [
+  | inl e ↦ same_Some has n (rw e at who.1)
+  | inr e ↦ (let other = rw e at who.1 in elim is [
+    | inl none_yet ↦ absurd (spare.none who.0 (other ∙ ap Some none_yet))
+    | inr own ↦ absurd (spare.spare who.0 (other ∙ ap Some own))
+  ])
+]
 
 -- whoever answered at the address stands at the port
 pub takes_answered : (port : HubPort) (address : ℕ) (old new : World) → KeepsAddresses old new
     → IsClaimed address old → TakesAddress port address old new
-takes_answered port address old new keeps answers = record { took = took }
-  where
-    took : (f : AddressMap) (p : List ℕ) → IsSpare f port p address
-        → WhileBusWorks (Enumerating f p address) old
-        → WhileBusWorks (MapHolds (after_taking f p address)) new
-    took f p spare t =
-        let h = having f p address old t in
-        let who = answers.held (after_taking f p h.has) h.owned in
-        keeps.kept (after_taking f p address)
-        (subst (λ n. WhileBusWorks (MapHolds (after_taking f p n)) old)
-        (it h.has who.0 (same_path p who.0) who.1) h.owned)
-      where
-        it : (has : ℕ) (q : List ℕ) (same : Bool) → (if same then Some has else f q) ≡ Some address
-            → has ≡ address
-        it has q true e = same_Some has address e
-        it has q false e = elim (spare.spare q e) [ ]
+takes_answered port address old new keeps answers = record {
+  took = λ f p spare t.
+      let h = having f p address old t in
+      keeps.kept (after_taking f p address)
+      (subst (λ n. WhileBusWorks (MapHolds (after_taking f p n)) old)
+      (answered_has f port p address h.has address spare (inr refl)
+      (answers.held (after_taking f p h.has) h.owned)) h.owned);
+}

@@ -1,16 +1,14 @@
 -- What calls leave of all other devices and ports, from one call to the next.
-use Rattle.std.proofs.Common.{◌≡◌, ◌⊎◌, inl, inr, ◌==◌, ◌&&◌, ◌≤◌, not, ℕ, Bool, true, false, List}
-use Rattle.std.proofs.Common.{[], Option, None, Some, option_map, Result, Ok, Err, if◌then◌else◌}
-use Rattle.std.proofs.Common.{refl, ap, sym, subst, ◌∙◌}
+use Rattle.std.proofs.Common.{◌≡◌, inl, inr, ◌==◌, ◌&&◌, ◌≤◌, not, ℕ, true, false, List, [], Option}
+use Rattle.std.proofs.Common.{None, Some, option_map, Result, Ok, Err, if◌then◌else◌, refl, ap, sym}
+use Rattle.std.proofs.Common.{subst, ◌∙◌}
 use Rattle.std.specs.Global.{Vec}
 use Rattle.std.specs.Prelude.{IfErr}
-use Rattle.usb_request.specs.{PORT_POWER, PORT_ENABLE, PORT_RESET, C_PORT_RESET, set_port_feature}
+use Rattle.usb_request.specs.{PORT_POWER, PORT_ENABLE, PORT_RESET, set_port_feature}
 use Rattle.usb_request.specs.{set_configuration, set_address, Setup}
 use Rattle.usb_device.specs.{State, Spec, Location, path_to, reach_on, state_on}
-use Rattle.usb_port.specs.{PortCall, SetReset, ClearEnable, ClearResetChange, set_call, clear_call}
-use Rattle.usb_port.specs.{PortStatus}
-use Rattle.usb_world.specs.{after_taking, Relation, Was, EachWas, is_above, LeavesPortAlone, Course}
-use Rattle.usb_world.specs.{here, World}
+use Rattle.usb_port.specs.{PortCall, SetReset, ClearEnable, set_call, clear_call, PortStatus}
+use Rattle.usb_world.specs.{after_taking, Relation, Was, EachWas, is_above, here, World}
 use Rattle.usb_tree.specs.{address_of, is_way, same_path, keeps_pending}
 use Rattle.usb_world.proofs.Interface.{course_joined, course_wider, each_joined, each_none}
 use Rattle.usb_world.proofs.Interface.{each_wider}
@@ -19,25 +17,24 @@ use Rattle.usb_bus.specs.{StepRun}
 use Rattle.usb_transaction.specs.{Target}
 use Rattle.usb_address.specs.{AddressMap, Unused, MapHolds, Enumerating, WhileBusWorks}
 use Rattle.usb_address.specs.{KeepsAddresses}
-use Rattle.usb_address.proofs.Interface.{after_taking-zero, keeps_none, keeps_then}
-use Rattle.usb_address.proofs.Interface.{is_way-same_path}
+use Rattle.usb_address.proofs.Interface.{keeps_none, keeps_then, is_way-same_path}
 use Rattle.usb_pipe.specs.{PipeFault, FaultAfter, IsNoBusFault}
 use Rattle.usb_pipe.specs.declared.fault.PipeFault.TheVariants.{Stalled, Busy, NoAnswer, Broken}
 use Rattle.usb_pipe.specs.declared.fault.PipeFault.TheVariants.{Bus, Memory}
 use Rattle.usb_hub.specs.{HubPort, Root, External, StaysAs, EachElsewhere, KeepsDevices, KeepsAsked}
-use Rattle.usb_hub.specs.{KeepsCleared, Resets, GivesAddress, ReadAsked, TextAsked, HasText, IsCall}
-use Rattle.usb_hub.specs.{CommandsPort, PortRead, TouchesNoPort, TouchesPortsBelow, EndsAfter}
-use Rattle.usb_hub.specs.{Queried, Commanded, AddressAsked, ConfigurationAsked}
+use Rattle.usb_hub.specs.{KeepsCleared, Resets, GivesAddress, ReadAsked, IsCall, CommandsPort}
+use Rattle.usb_hub.specs.{PortRead, TouchesNoPort, TouchesPortsBelow, EndsAfter, Queried, Commanded}
+use Rattle.usb_hub.specs.{AddressAsked, ConfigurationAsked}
 use Rattle.usb_hub.proofs.Interface.{power_backlog, stays_as_same, stays-registers, stays-spec}
 use Rattle.usb_hub.proofs.Interface.{stays_itself, stays_joined, keeps_devices_none}
-use Rattle.usb_enum.specs.{IsSpare, Within, TakesAddress, OnlyCalls, AtPort, FoundAt, OnlyAsks}
-use Rattle.usb_enum.specs.{OnlyTells, StaysBut, OnlySets, OnlyAt}
+use Rattle.usb_enum.specs.{IsSpare, TakesAddress, OnlyCalls, AtPort, FoundAt, OnlyAsks, OnlyTells}
+use Rattle.usb_enum.specs.{StaysBut, OnlySets, OnlyAt}
 use Rattle.usb_backlog.specs.{KeepsAll, gives_power}
 use Rattle.usb_backlog.proofs.Interface.{all_none, all_then, found_all, found_called, found_then}
 use Rattle.usb_enum.proofs.courses.Courses.{went_sound}
 use Rattle.usb_enum.proofs.devices.Enumerations.{Having, having, at_taking, within_none}
 use Rattle.usb_enum.proofs.devices.Enumerations.{within_then, within-keeps_addresses, within_kept}
-use Rattle.usb_enum.proofs.devices.Enumerations.{within_reset, within_given}
+use Rattle.usb_enum.proofs.devices.Enumerations.{within_reset, within_given, zero_there}
 use Rattle.usb_enum.proofs.readings.Readings.{devices_then}
 use Rattle.usb_enum.proofs.devices.SharedAddresses.{went_unshared}
 
@@ -94,15 +91,6 @@ answer_asks given Has t request outcome answer old new asked what keeps = record
   backlog = λ none. asked.backlog (ends_without_fault 3 answer old new asked.ends none);
 }
 
-pub text_asks : (given : Spec → Option (List ℕ)) (t : Target) (request : Setup) (wanted : ℕ)
-    (outcome : Result (Vec ℕ) PipeFault) (old new : World)
-    → Queried t request old outcome new
-    → (new.shared ≡ false → EachWas (TextAsked given t wanted outcome) old new)
-    → KeepsAddresses old new → OnlyAsks old new
-text_asks given t request wanted outcome old new =
-    answer_asks given (λ s bytes. HasText (given s.spec) t wanted s bytes.items) t request outcome
-    outcome old new
-
 -- a port's status; that of a root port is a register
 pub status_asks : (port : HubPort) (outcome : Result PortStatus PipeFault) (old new : World)
     → PortRead port old outcome new → IfErr outcome (λ why. FaultAfter 1 old why new)
@@ -111,22 +99,17 @@ status_asks port outcome old new read ends keeps =
     record {
       addresses = keeps.keeps;
       devices = keeps.devices;
-      ports = by_port port read;
-      backlog = by_backlog port read;
+      ports = λ none. (by_port port read none).0;
+      backlog = λ none. (by_port port read none).1;
     }
   where
     by_port : (port : HubPort) → PortRead port old outcome new → new.fault ≡ None
-        → TouchesNoPort old new
-    by_port (Root number) read none = λ x. subst (λ w. Course (LeavesPortAlone x) old w)
-        (sym read.same) (here old)
+        → TouchesNoPort old new × KeepsAll old new
+    by_port (Root number) read none = subst (λ w. TouchesNoPort old w × KeepsAll old w)
+        (sym read.same) (λ x. here old, all_none old)
     by_port (External hub n) told none =
-        told.asked.rests (ends_without_fault 3 told.answer old new told.asked.ends none)
-
-    by_backlog : (port : HubPort) → PortRead port old outcome new → new.fault ≡ None
-        → KeepsAll old new
-    by_backlog (Root number) read none = subst (KeepsAll old) (sym read.same) (all_none old)
-    by_backlog (External hub n) told none =
-        told.asked.backlog (ends_without_fault 3 told.answer old new told.asked.ends none)
+        let sound = ends_without_fault 3 told.answer old new told.asked.ends none in
+        (told.asked.rests sound, told.asked.backlog sound)
 
 -- Requests to a hub about its ports
 
@@ -333,12 +316,6 @@ at_asked port address old new asks = record {
   };
 }
 
--- only the port that is being enumerated may claim address 0
-zero_there : (f : AddressMap) (p : List ℕ) (has : ℕ) → Unused f 0 → (x : List ℕ)
-    → after_taking f p has x ≡ Some 0 → is_way p x ≡ true
-zero_there f p has none x e = subst (λ y. is_way p y ≡ true)
-    (sym (after_taking-zero f p has x none e)) (is_way-same_path p p (self_path p))
-
 -- the call is one at the port of the path
 pub called_is : (f : AddressMap) (port : HubPort) (p : List ℕ) (address : ℕ) (w : World)
     → IsSpare f port p address → (h : Having f p address w)
@@ -373,7 +350,8 @@ module _ (port : HubPort) (address : ℕ) (call : Option PortCall) (c : PortCall
       }
 
 -- the clearing of a change bit or of PORT_ENABLE
-clear_calls : (port : HubPort) (address : ℕ) (call : Option PortCall) (c : PortCall) → call ≡ Some c
+pub clear_calls : (port : HubPort) (address : ℕ) (call : Option PortCall) (c : PortCall)
+    → call ≡ Some c
     → keeps_pending c [] ≡ true → gives_power c ≡ false
     → (feature : ℕ) (old : World) (result : Result (Unit {0}) PipeFault) (new : World)
     → IfErr result (λ why. FaultAfter 1 old why new) → CommandsPort port call old result new
@@ -383,18 +361,6 @@ clear_calls port address call c is spared quiet feature old result new ends call
       called_at port address call c is spared quiet old result new ends calls f p spare t none
       (λ h. elsewhere_of p old new (keeps.devices.stays
       (keeps.keeps.kept (after_taking f p h.has) h.owned).single));
-}
-
--- C_PORT_RESET
-pub at_reset_cleared : (port : HubPort) (address : ℕ) (old : World)
-    (result : Result (Unit {0}) PipeFault) (new : World)
-    → IfErr result (λ why. FaultAfter 1 old why new)
-    → CommandsPort port (clear_call C_PORT_RESET) old result new
-    → KeepsCleared port C_PORT_RESET old result new → AtPort port address old new
-at_reset_cleared port address old result new ends calls keeps = record {
-  within = within_kept port address old new keeps.keeps;
-  only = clear_calls port address (clear_call C_PORT_RESET) ClearResetChange refl refl refl 20 old
-      result new ends calls keeps;
 }
 
 -- PORT_ENABLE
@@ -430,42 +396,32 @@ at_reset port address old new resets only =
 
 pub but_taken : (f : AddressMap) (p : List ℕ) (a : ℕ) (x : List ℕ) → is_way p x ≡ false
     → after_taking f p a x ≡ f x
-but_taken f p a x off = split (same_path p x) refl
-  where
-    split : (same : Bool) → same_path p x ≡ same → (if same then Some a else f x) ≡ f x
-    split true e = false_true (sym off ∙ is_way-same_path p x e)
-    split false e = refl
+but_taken f p a x off = elim (decided (same_path p x)) [
+  | inl e ↦ false_true (sym off ∙ is_way-same_path p x e)
+  | inr e ↦ rw e refl
+]
 
 -- no device elsewhere has an address that is not claimed
 unheld : (f : AddressMap) (p : List ℕ) (has n : ℕ) (w : World) → MapHolds (after_taking f p has) w
     → Unused f n
     → (j : Location) (s : State) → is_way p (path_to j) ≡ false → reach_on w.roots j ≡ true
     → state_on w.roots j ≡ Some s → (address_of s == n) ≡ false
-unheld f p has n w own unused j s apart on there = pick (decided (address_of s == n))
-  where
-    pick : ((address_of s == n) ≡ true) ⊎ ((address_of s == n) ≡ false)
-        → (address_of s == n) ≡ false
-    pick (inl e) =
-        elim (unused (path_to j) (sym (but_taken f p has (path_to j) apart)
-        ∙ sym (own.own (path_to j) on) ∙ ap (option_map address_of) there
-        ∙ ap (λ m. Some m) (equal_same (address_of s) n e))) [ ]
-    pick (inr e) = e
+unheld f p has n w own unused j s apart on there = elim (decided (address_of s == n)) [
+  | inl e ↦ absurd (unused (path_to j) (sym (but_taken f p has (path_to j) apart)
+      ∙ sym (own.own (path_to j) on) ∙ ap (option_map address_of) there
+      ∙ ap (λ m. Some m) (equal_same (address_of s) n e)))
+  | inr e ↦ e
+]
 
 -- so a call that changes only a device at such an address leaves those elsewhere as they were
-module _ (f : AddressMap) (p : List ℕ) (has n : ℕ) (old new : World)
-    (own : MapHolds (after_taking f p has) old) (unused : Unused f n) where
-  unheld_stays : (R : Relation) → ((j : Location) (s v : State) → R j s v
-      → (address_of s == n) ≡ false → StaysAs j s v) → EachWas R old new
-      → EachElsewhere p StaysAs old new
-  unheld_stays R stays was j s apart on there =
-      let w : Was R old j s = was j s on there in
-      record {
-        before = w.before;
-        on = w.on;
-        stands = w.stands;
-        so = stays j w.before s w.so (unheld f p has n old own unused j w.before apart w.on
-            w.stands);
-      }
+unheld_stays : (f : AddressMap) (p : List ℕ) (has n : ℕ) (old new : World)
+    → MapHolds (after_taking f p has) old → Unused f n → (R : Relation)
+    → ((j : Location) (s v : State) → R j s v → (address_of s == n) ≡ false → StaysAs j s v)
+    → EachWas R old new → EachElsewhere p StaysAs old new
+unheld_stays f p has n old new own unused R stays was j s apart on there =
+    let w : Was R old j s = was j s on there in
+    let off = unheld f p has n old own unused j w.before apart w.on w.stands in
+    record { before = w.before; on = w.on; stands = w.stands; so = stays j w.before s w.so off }
 
 -- SET_ADDRESS, at address 0
 pub at_addressed : (port : HubPort) (address m : ℕ) (target : Target)
@@ -477,25 +433,21 @@ pub at_addressed : (port : HubPort) (address m : ℕ) (target : Target)
     → AtPort port address old new
 unfolding set_address
 at_addressed port address m target result old mid new at zero_is least went ordered what gives =
-    at_port_then port address m old mid new at went
-    (record { within = within; only = record { at = only } })
-  where
-    within : Within port address mid new
-    within = within_given port target.addr address mid new zero_is least gives
-
-    only : (f : AddressMap) (p : List ℕ) → IsSpare f port p address
-        → WhileBusWorks (Enumerating f p address) mid → new.fault ≡ None → OnlyAt p mid new
-    only f p spare t none =
-        let h = having f p address mid t in
-        let sound = went_sound m mid new went none in
-        only_at_rest p mid new (ordered.rests refl (ends_without_fault 2 result mid new ordered.ends
-        none)) (ordered.backlog refl (ends_without_fault 2 result mid new ordered.ends
-        none))
-        (unheld_stays f p h.has 0 mid new (h.owned.so sound) spare.none
-        (AddressAsked target address result mid new)
-        (λ j s v x apart. stays_as_same j s v (x.others (ap (λ a. address_of s == a) zero_is
-        ∙ apart)))
-        (what (within.stays f p spare t).single))
+    let within = within_given port target.addr address mid new zero_is least gives in
+    at_port_then port address m old mid new at went (record {
+      within = within;
+      only = record {
+        at = λ f p spare t none.
+            let h = having f p address mid t in
+            let sound = ends_without_fault 2 result mid new ordered.ends none in
+            only_at_rest p mid new (ordered.rests refl sound) (ordered.backlog refl sound)
+            (unheld_stays f p h.has 0 mid new (h.owned.so (went_sound m mid new went none))
+            spare.none (AddressAsked target address result mid new)
+            (λ j s v x apart. stays_as_same j s v (x.others (ap (λ a. address_of s == a) zero_is
+            ∙ apart)))
+            (what (within.stays f p spare t).single));
+      };
+    })
 
 pub held_there : (f : AddressMap) (p : List ℕ) (address : ℕ)
     → after_taking f p address p ≡ Some address
@@ -508,15 +460,10 @@ is_above-self p = ap (λ b. is_way p p && not b) (self_path p) ∙ and_false (is
 pub at_configured : (port : HubPort) (address n : ℕ) (old mid new : World) {r s : Option (List ℕ)}
     → AtPort port address old mid → TakesAddress port address old mid → StepRun n mid r new s
     → OnlySets address mid new → AtPort port address old new
-at_configured port address n old mid new at takes went sets =
-    record {
-      within = within-keeps_addresses port address old mid new at.within sets.addresses;
-      only = record { at = only };
-    }
-  where
-    only : (f : AddressMap) (p : List ℕ) → IsSpare f port p address
-        → WhileBusWorks (Enumerating f p address) old → new.fault ≡ None → OnlyAt p old new
-    only f p spare t none =
+at_configured port address n old mid new at takes went sets = record {
+  within = within-keeps_addresses port address old mid new at.within sets.addresses;
+  only = record {
+    at = λ f p spare t none.
         let sound = went_sound n mid new went none in
         let taken = takes.took f p spare t in
         let own = taken.so sound in
@@ -528,4 +475,6 @@ at_configured port address n old mid new at takes went sets =
               (λ j s v x apart. x.stays apart)
               (sets.devices (sets.addresses.kept (after_taking f p address) taken).single);
           backlog = sets.backlog none (after_taking f p address) p (held_there f p address) own;
-        })
+        });
+  };
+}

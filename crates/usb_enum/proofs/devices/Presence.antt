@@ -6,59 +6,67 @@ use Rattle.std.proofs.lemmas.Bool.{eq-eqb}
 use Rattle.std.proofs.lemmas.Option.{same_Some}
 use Rattle.usb_port.specs.{PortState, is_low, is_attached, speed_of, seen, PortStatus}
 use Rattle.usb_device.specs.{State, Spec, Ports, ended, vacant, taken, reach, reach_at, state_at}
-use Rattle.usb_device.specs.{port_at, Location, state_there, port_there}
+use Rattle.usb_device.specs.{port_at, Location, path_to, reach_on, state_on, state_there}
+use Rattle.usb_device.specs.{port_there}
 use Rattle.usb_world.specs.{after_taking, Relation, Was, EachWas, spec_of, IsSanePort, Consistent}
 use Rattle.usb_world.specs.{AnyStep, Course, World}
-use Rattle.usb_tree.specs.{address_of, same_path}
+use Rattle.usb_tree.specs.{address_of}
 use Rattle.usb_world.proofs.Interface.{between_course, course_wider, each_wider, same_device}
 use Rattle.usb_world.proofs.Interface.{undisturbed_keeps}
 use Rattle.usb_tree.proofs.Interface.{both, false_true, self_path}
 use Rattle.usb_bus.specs.{StepRun}
 use Rattle.usb_transaction.specs.{Target}
-use Rattle.usb_address.specs.{AddressMap, MapHolds, Enumerating, WhileBusWorks, KeepsAddresses}
+use Rattle.usb_address.specs.{AddressMap, MapHolds, KeepsAddresses}
 use Rattle.usb_hub.specs.{HubPort, Resets, StaysAs, KeepsDevices, PortStatusAt, AddressAsked}
 use Rattle.usb_hub.proofs.Interface.{stays-registers, stays-spec}
-use Rattle.usb_enum.specs.{Addressed, IsSpare, Within, StatusAt, Learned, AnswersSo, IsRegular}
-use Rattle.usb_enum.specs.{AtPath, Finds, HasDescriptor, HasHead, HasSpeed, IsAddressed}
-use Rattle.usb_enum.specs.{AwaitsAddress, AtMaximum}
+use Rattle.usb_enum.specs.{Addressed, Within, StatusAt, Learned, AnswersSo, IsRegular, AtPath}
+use Rattle.usb_enum.specs.{Finds, HasDescriptor, HasHead, HasSpeed, IsAddressed, AwaitsAddress}
+use Rattle.usb_enum.specs.{AtMaximum}
 use Rattle.usb_enum.proofs.courses.Courses.{went_sound, went_regular}
-use Rattle.usb_enum.proofs.devices.Enumerations.{having, at_taking, within-keeps_addresses}
-use Rattle.usb_enum.proofs.devices.Enumerations.{within_reset}
+use Rattle.usb_enum.proofs.devices.Enumerations.{answered_has, having, at_taking}
+use Rattle.usb_enum.proofs.devices.Enumerations.{within-keeps_addresses, within_reset}
 use Rattle.usb_enum.proofs.readings.Heads.{head_packet}
 use Rattle.usb_enum.proofs.devices.ReachedDevices.{done_at}
 
 -- Over calls that tell of each device
 
--- a device at a path, reachable there
-pub record StoodReached (p : List ℕ) (w : World) (R : State → Type 0) : Type 0 where
+-- a device at a place, before a call that tells of each
+pub record StoodAt (p : List ℕ) (w : World) (R : Location → State → Type 0) : Type 0 where
+  pub spot : Location
+  pub path : p ≡ path_to spot
   pub before : State
-  pub on : reach w.roots p ≡ true
-  pub stands : state_there w.roots p ≡ Some before
-  pub so : R before
+  pub on : reach_on w.roots spot ≡ true
+  pub stands : state_on w.roots spot ≡ Some before
+  pub so : R spot before
 
--- whoever is reachable at the path was so before
-pub stood_before : (R : Relation) (p : List ℕ) (old new : World) → EachWas R old new → (v : State)
-    → reach new.roots p ≡ true → state_there new.roots p ≡ Some v
-    → StoodReached p old (λ s. (x : Location) × R x s v)
-stood_before R [] old new was v on there = false_true on
-stood_before R (zero ∷ p) old new was v on there = false_true on
-stood_before R (suc j ∷ p) old new was v on there =
-    let w : Was R old (record { row = j; rest = p }) v =
-    was (record { row = j; rest = p }) v on there in
+pub stood_at : (R : Relation) (p : List ℕ) (old new : World) → EachWas R old new → (v : State)
+    → reach new.roots p ≡ true → state_there new.roots p ≡ Some v → StoodAt p old (λ j s. R j s v)
+stood_at R [] old new was v on there = false_true on
+stood_at R (zero ∷ p) old new was v on there = false_true on
+stood_at R (suc j ∷ e) old new was v on there =
+    let w : Was R old (record { row = j; rest = e }) v =
+    was (record { row = j; rest = e }) v on there in
     record {
+      spot = record { row = j; rest = e };
+      path = refl;
       before = w.before;
       on = w.on;
       stands = w.stands;
-      so = (record { row = j; rest = p }, w.so);
+      so = w.so;
     }
+
+-- what is so of its place is so of its path
+pub at_place : (A : State → Type 0) (p : List ℕ) (w : World) (R : Location → State → Type 0)
+    → AtPath A p w → (s : StoodAt p w R) → A s.before
+at_place A p w R is s = subst (λ x. AtPath A x w) s.path is s.before s.on s.stands
 
 -- what was so of it stays so, as the call tells
 pub path_on : (R : Relation) (A B : State → Type 0)
     → ((j : Location) (s v : State) → R j s v → A s → B v) → (p : List ℕ) (old new : World)
     → EachWas R old new → AtPath A p old → AtPath B p new
 path_on R A B f p old new was a v on there =
-    let s = stood_before R p old new was v on there in
-    f s.so.0 s.before v s.so.1 (a s.before s.on s.stands)
+    let s = stood_at R p old new was v on there in
+    f s.spot s.before v s.so (at_place A p old (λ j s. R j s v) a s)
 
 -- Its speed, as its port shows it
 
@@ -125,40 +133,21 @@ pub reset_finds : (port : HubPort) (address l m n : ℕ) (status : PortStatus)
     → Within port address old new → new.fault ≡ None
     → Finds (HasSpeed status.low_speed) port address old new
 reset_finds port address l m n status {old} {set} {told} {new} first second third resets shown keeps
-    within none = record { found = found }
-  where
-    found : (f : AddressMap) (p : List ℕ) → IsSpare f port p address
-        → WhileBusWorks (Enumerating f p address) old → IsRegular old
-        → AtPath (HasSpeed status.low_speed) p new
-    found f p spare t order =
-        let none_told = went_sound n told new third none in
-        let none_set = went_sound m set told second none_told in
-        let h = having f p address set ((within_reset port address old set resets).stays f p spare
-        t) in
-        let port_told = shown.tells.tells (after_taking f p h.has) p
-        (at_taking f port p h.has spare.at) h.owned status
-        (done_at shown.outcome status shown.told) in
-        let single = (within.stays f p spare t).single in
-        path_on StaysAs (HasSpeed status.low_speed) (HasSpeed status.low_speed)
-        (λ j s v x low. ap (λ y. y.low) (stays-spec s v x) ∙ low) p told new
-        (keeps.stays single)
-        (told_speed p status set told port_told none_set (went_regular l old set first order))
+    within none = record {
+      found = λ f p spare t order.
+          let none_set = went_sound m set told second (went_sound n told new third none) in
+          let h = having f p address set
+          ((within_reset port address old set resets).stays f p spare t) in
+          let port_told = shown.tells.tells (after_taking f p h.has) p
+          (at_taking f port p h.has spare.at) h.owned status
+          (done_at shown.outcome status shown.told) in
+          path_on StaysAs (HasSpeed status.low_speed) (HasSpeed status.low_speed)
+          (λ j s v x low. ap (λ y. y.low) (stays-spec s v x) ∙ low) p told new
+          (keeps.stays (within.stays f p spare t).single)
+          (told_speed p status set told port_told none_set (went_regular l old set first order));
+    }
 
 -- Who holds which address
-
--- whoever answered at address 0, or at the one that is set aside, is the device at the port
-pub answered_has : (f : AddressMap) (port : HubPort) (p : List ℕ) (address has n : ℕ)
-    → IsSpare f port p address → (n ≡ 0) ⊎ (n ≡ address) → (q : List ℕ)
-    × (after_taking f p has q ≡ Some n) → has ≡ n
-answered_has f port p address has n spare is who = by_path (same_path p who.0) who.0 who.1
-  where
-    unclaimed : (n ≡ 0) ⊎ (n ≡ address) → (q : List ℕ) → f q ≡ Some n → ⊥
-    unclaimed (inl e) q h = spare.none q (h ∙ ap Some e)
-    unclaimed (inr e) q h = spare.spare q (h ∙ ap Some e)
-
-    by_path : (same : Bool) (q : List ℕ) → (if same then Some has else f q) ≡ Some n → has ≡ n
-    by_path true q e = same_Some has n e
-    by_path false q e = elim (unclaimed is q e) [ ]
 
 pub held_at : (f : AddressMap) (p : List ℕ) (has : ℕ) (w : World)
     → MapHolds (after_taking f p has) w → AtPath (λ s. address_of s ≡ has) p w
@@ -173,25 +162,22 @@ pub answered_finds : (So : Spec → Type 0) (t : Target) (port : HubPort) (addre
     → Within port address old mid → KeepsAddresses mid new
     → Finds (λ s. So s.spec × (address_of s ≡ t.addr)) port address old new
 answered_finds So t port address n {old} {mid} {new} is answered went within keeps =
-    record { found = found }
-  where
-    found : (f : AddressMap) (p : List ℕ) → IsSpare f port p address
-        → WhileBusWorks (Enumerating f p address) old → IsRegular old
-        → AtPath (λ s. So s.spec × (address_of s ≡ t.addr)) p new
-    found f p spare t0 order =
-        let h = having f p address mid (within.stays f p spare t0) in
-        let claims : AddressMap = after_taking f p h.has in
-        let has = answered_has f port p address h.has t.addr spare is
-        (answered.who.held claims h.owned) in
-        let single = (keeps.kept claims h.owned).single in
-        path_on (Learned So t) (λ s. address_of s ≡ h.has) (λ s. So s.spec
-        × (address_of s ≡ t.addr))
-        (λ j s v x at. (
-          subst So (sym (stays-spec s v x.frame)) (x.so (eq-eqb (address_of s) t.addr (at ∙ has))),
-          ap (λ r. r.address) (stays-registers s v x.frame) ∙ at ∙ has,
-        ))
-        p mid new (answered.learns single)
-        (held_at f p h.has mid (h.owned.so (went_sound n mid new went answered.still)))
+    record {
+      found = λ f p spare t0 order.
+          let h = having f p address mid (within.stays f p spare t0) in
+          let claims : AddressMap = after_taking f p h.has in
+          let has = answered_has f port p address h.has t.addr spare is
+          (answered.who.held claims h.owned) in
+          path_on (Learned So t) (λ s. address_of s ≡ h.has) (λ s. So s.spec
+          × (address_of s ≡ t.addr))
+          (λ j s v x at. (
+            subst So (sym (stays-spec s v x.frame)) (x.so (eq-eqb (address_of s) t.addr
+                (at ∙ has))),
+            ap (λ r. r.address) (stays-registers s v x.frame) ∙ at ∙ has,
+          ))
+          p mid new (answered.learns (keeps.kept claims h.owned).single)
+          (held_at f p h.has mid (h.owned.so (went_sound n mid new went answered.still)));
+    }
 
 -- Over calls that come later
 
@@ -211,15 +197,6 @@ pub finds_both : (A B C : State → Type 0) (port : HubPort) (address : ℕ) (ol
 finds_both A B C port address old new f a b = record {
   found = λ g p spare t order s on there. f s (a.found g p spare t order s on there)
       (b.found g p spare t order s on there);
-}
-
--- after another call that leaves the port in the midst of its enumeration
-pub finds_after : (A : State → Type 0) (port : HubPort) (address n : ℕ) {old mid new : World}
-    {b c : Option (List ℕ)} → StepRun n old b mid c → Within port address old mid
-    → Finds A port address mid new → Finds A port address old new
-finds_after A port address n {old} {mid} {new} went within finds = record {
-  found = λ g p spare t order. finds.found g p spare (within.stays g p spare t)
-      (went_regular n old mid went order);
 }
 
 -- The target of a device that has no address yet

@@ -1,15 +1,14 @@
 -- That an occupied port stays occupied, and how the device there comes to be reached, from one call
 -- to the next.
-use Rattle.std.proofs.Common.{◌≡◌, ◌⊎◌, inl, inr, ℕ, zero, suc, true, false, List, [], ◌∷◌, Option}
-use Rattle.std.proofs.Common.{None, Some, option_map, Result, Ok, Err, refl, ap, sym, subst, ◌∙◌}
+use Rattle.std.proofs.Common.{◌≡◌, inl, inr, ℕ, zero, suc, true, false, List, [], ◌∷◌, Option, None}
+use Rattle.std.proofs.Common.{Some, option_map, Result, Ok, Err, refl, ap, sym, subst, ◌∙◌}
 use Rattle.std.specs.Prelude.{IfSome, IsSome}
 use Rattle.usb_request.specs.{PORT_ENABLE, C_PORT_RESET, set_address}
 use Rattle.usb_port.specs.{PortState, PortStatus, ClearEnable, ClearResetChange, clear_call}
 use Rattle.usb_port.specs.{called_port, PortCall}
 use Rattle.usb_device.specs.{State, Ports, ended as no_more, vacant, taken, reach_at, state_at}
 use Rattle.usb_device.specs.{state_there, port_there}
-use Rattle.usb_world.specs.{after_taking, KeepsPendingAt, spec_of, LeavesPortAlone}
-use Rattle.usb_world.specs.{UnchangedOrPending, SameDeviceOrPending, Course, World}
+use Rattle.usb_world.specs.{after_taking, KeepsPendingAt, spec_of, LeavesPortAlone, Course, World}
 use Rattle.usb_tree.specs.{has_power, pending, keeps_pending}
 use Rattle.usb_world.proofs.Interface.{course_wider, pending_persists, rests_or_pends}
 use Rattle.usb_world.proofs.Interface.{stands_or_pends, step_pend}
@@ -18,15 +17,14 @@ use Rattle.usb_bus.specs.{StepRun}
 use Rattle.usb_address.specs.{AddressMap, Enumerating, WhileBusWorks}
 use Rattle.usb_transaction.specs.{Target}
 use Rattle.usb_pipe.specs.{PipeFault}
-use Rattle.usb_hub.specs.{HubPort, OnReachedRow, PortStatusAt, IsCall, CommandsPort, PortCallDone}
+use Rattle.usb_hub.specs.{HubPort, OnReachedRow, PortStatusAt, CommandsPort, PortCallDone}
 use Rattle.usb_hub.specs.{TouchesNoPort, Commanded}
-use Rattle.usb_hub.proofs.Interface.{Called, StandsSo, StandsTold, disabled_port, done_stands}
-use Rattle.usb_hub.proofs.Interface.{enabled_reach, told_stands}
-use Rattle.usb_enum.specs.{Cause, EnumFault, Finding, IsSpare, TakesAddress, AtPort, CalledAt}
-use Rattle.usb_enum.specs.{StatusAt, SettlesReset, Disables, OnlyAsks, OnlySets, IsKnownAs}
-use Rattle.usb_enum.specs.{IsOccupied, IsReachedAt, IsInOrder, ReachesDevice, at_port}
+use Rattle.usb_hub.proofs.Interface.{disabled_port, done_stands, enabled_reach, told_stands}
+use Rattle.usb_enum.specs.{Cause, EnumFault, IsSpare, TakesAddress, AtPort, CalledAt, StatusAt}
+use Rattle.usb_enum.specs.{SettlesReset, Disables, OnlyAsks, OnlySets, IsKnownAs, IsOccupied}
+use Rattle.usb_enum.specs.{IsReachedAt, ReachesDevice, at_port}
 use Rattle.usb_enum.specs.declared.finding.Finding.TheVariants.{Refused}
-use Rattle.usb_enum.proofs.courses.Courses.{went_sound, went_in_order}
+use Rattle.usb_enum.proofs.courses.Courses.{went_sound}
 use Rattle.usb_enum.proofs.devices.Enumerations.{having, at_taking}
 use Rattle.usb_enum.proofs.devices.Frames.{called_is, ends_without_fault, held_there, is_above-self}
 
@@ -45,9 +43,9 @@ some_of None b same some = false_true some
 some_of (Some s) None same some = absurd cc
 some_of (Some s) (Some v) same some = refl
 
-pub is_some-state : (o : Option State) → IsSome o → (s : State) × (o ≡ Some s)
-is_some-state None some = false_true some
-is_some-state (Some s) some = (s, refl)
+pub is_some-value : {A : Type 0} (o : Option A) → IsSome o → (x : A) × (o ≡ Some x)
+is_some-value None some = false_true some
+is_some-value (Some x) some = (x, refl)
 
 -- a reachable device stands
 pub reach-state : (k : Ports) (j : ℕ) (p : List ℕ) → reach_at k j p ≡ true → IsSome (state_at k j p)
@@ -65,21 +63,19 @@ reach-state (taken b s a k) (suc j) p on = reach-state k j p on
 pub occupied_on : (p : List ℕ) {old new : World} → Course (KeepsPendingAt p) old new
     → IsOccupied old p → IsOccupied new p
 occupied_on p c (inl pending) = inl (pending_persists p c pending)
-occupied_on p {old} {new} c (inr is) = pick (stands_or_pends p c is.0)
-  where
-    pick : SameDeviceOrPending old new p → IsOccupied new p
-    pick (inl y) = inr (y.0, some_of (state_there old.roots p) (state_there new.roots p) y.1 is.1)
-    pick (inr y) = inl y
+occupied_on p {old} {new} c (inr is) = elim (stands_or_pends p c is.0) [
+  | inl y ↦ inr (y.0, some_of (state_there old.roots p) (state_there new.roots p) y.1 is.1)
+  | inr y ↦ inl y
+]
 
 -- where nothing is asked of a port, the device there stays reached
 pub reached_on : (p : List ℕ) {old new : World} → Course (LeavesPortAlone p) old new
     → IsReachedAt old p → IsReachedAt new p
 reached_on p c (inl pending) = inl (pending_persists p (course_wider (λ s w k. k.spares) c) pending)
-reached_on p {old} {new} c (inr is) = pick (rests_or_pends p c is.0)
-  where
-    pick : UnchangedOrPending old new p → IsReachedAt new p
-    pick (inl y) = inr (y.0, y.1.on ∙ is.1)
-    pick (inr y) = inl y
+reached_on p c (inr is) = elim (rests_or_pends p c is.0) [
+  | inl y ↦ inr (y.0, y.1.on ∙ is.1)
+  | inr y ↦ inl y
+]
 
 -- PORT_RESET, its status and the clearing of C_PORT_RESET
 
@@ -88,7 +84,7 @@ enabled_at : (p : List ℕ) (w : World) (b : PortState) → has_power w.roots p 
     → OnReachedRow w p → port_there w.roots p ≡ Some b → b.enable ≡ true
     → IsSome (state_there w.roots p) → IsReachedAt w p
 enabled_at p w b on row there enabled some =
-    let s = is_some-state (state_there w.roots p) some in
+    let s = is_some-value (state_there w.roots p) some in
     inr (on, enabled_reach w p row b there enabled s.0 s.1)
 
 pub reset_reaches : (port : HubPort) (address l m n : ℕ) (status : PortStatus)
@@ -98,74 +94,52 @@ pub reset_reaches : (port : HubPort) (address l m n : ℕ) (status : PortStatus)
     → AtPort port address told new → StatusAt port set (Ok status) told → status.enabled ≡ true
     → SettlesReset port status.reset_changed told (Ok tt) new → ReachesDevice port address old new
 reset_reaches port address l m n status {old} {set} {told} {new} first second third at_set asks
-    at_told at_settle shown enabled settles = record { reached = reached }
+    at_told at_settle shown enabled settles = record {
+      reached = λ f p spare t order occupied none.
+          let none_told = went_sound n told new third none in
+          let none_set = went_sound m set told second none_told in
+          let later = at_told.within.stays f p spare t in
+          let h = having f p address set (at_set.within.stays f p spare t) in
+          let seen : PortStatusAt p status set told = shown.tells.tells (after_taking f p h.has) p
+          (at_taking f port p h.has spare.at) h.owned status
+          (done_at shown.outcome status shown.told) in
+          let is_enabled : seen.port.enable ≡ true = sym (ap (λ x. x.enabled) seen.is) ∙ enabled in
+          let pends : pending told.roots p ≡ true → IsReachedAt new p = λ x.
+          inl (pending_persists p (at_settle.only.at f p spare later none).spares x) in
+          elim (occupied_on p (at_set.only.at f p spare t none_set).spares occupied) [
+            | inl x ↦ pends (pending_persists p
+                (course_wider (λ s w k. k.spares) (asks.ports none_told p)) x)
+            | inr is ↦ elim (told_stands p status set told seen is.0) [
+              | inr y ↦ pends y
+              | inl y ↦ (let some =
+                  some_of (state_there set.roots p) (state_there told.roots p) y.2 is.1 in
+                  elim (decided status.reset_changed) [
+                    | inl e ↦ by_clear f p spare later seen.port is_enabled (settles.set e) y.0 y.1
+                        some
+                    | inr e ↦ subst (λ w. IsReachedAt w p) (sym (settles.unset e).1)
+                        (enabled_at p told seen.port y.0 seen.row y.1 is_enabled some)
+                  ])
+            ]
+          ];
+    }
   where
-    reached : (f : AddressMap) (p : List ℕ) → IsSpare f port p address
-        → WhileBusWorks (Enumerating f p address) old → IsInOrder old → IsOccupied old p
-        → new.fault ≡ None → IsReachedAt new p
-    reached f p spare t order occupied none =
-        by_set (occupied_on p (at_set.only.at f p spare t none_set).spares occupied)
-      where
-        none_told : told.fault ≡ None
-        none_told = went_sound n told new third none
-
-        none_set : set.fault ≡ None
-        none_set = went_sound m set told second none_told
-
-        later : WhileBusWorks (Enumerating f p address) told
-        later = at_told.within.stays f p spare t
-
-        pends_on : pending told.roots p ≡ true → IsReachedAt new p
-        pends_on pending = inl (pending_persists p (at_settle.only.at f p spare later none).spares
-            pending)
-
-        seen_at : PortStatusAt p status set told
-        seen_at =
-            let h = having f p address set (at_set.within.stays f p spare t) in
-            shown.tells.tells (after_taking f p h.has) p (at_taking f port p h.has spare.at) h.owned
-            status (done_at shown.outcome status shown.told)
-
-        is_enabled : seen_at.port.enable ≡ true
-        is_enabled = sym (ap (λ x. x.enabled) seen_at.is) ∙ enabled
-
-        by_clear : (cleared : CalledAt port (clear_call C_PORT_RESET) told (Ok tt) new)
-            → has_power told.roots p ≡ true → port_there told.roots p ≡ Some seen_at.port
-            → IsSome (state_there told.roots p) → IsReachedAt new p
-        by_clear cleared on there some = pick (done_stands p ClearResetChange refl told new done on)
-          where
-            done : PortCallDone p ClearResetChange told new
-            done =
-                let h = having f p address told later in
-                cleared.calls.done (after_taking f p h.has) p ClearResetChange
-                (called_is f port p address told spare h (clear_call C_PORT_RESET)
-                ClearResetChange refl) (done_at cleared.outcome tt cleared.told)
-
-            pick : StandsSo p ClearResetChange (Called p ClearResetChange) told new
-                → IsReachedAt new p
-            pick (inl y) =
-                enabled_at p new (called_port ClearResetChange seen_at.port) y.0 done.row (y.1
-                ∙ ap (option_map (called_port ClearResetChange)) there) is_enabled
-                (some_of (state_there told.roots p) (state_there new.roots p) y.2 some)
-            pick (inr y) = inl y
-
-        by_told : StandsTold p seen_at.port set told → IsSome (state_there set.roots p)
-            → IsReachedAt new p
-        by_told (inr y) some = pends_on y
-        by_told (inl y) some = settled (decided status.reset_changed)
-          where
-            there : IsSome (state_there told.roots p)
-            there = some_of (state_there set.roots p) (state_there told.roots p) y.2 some
-
-            settled : (status.reset_changed ≡ true) ⊎ (status.reset_changed ≡ false)
-                → IsReachedAt new p
-            settled (inl e) = by_clear (settles.set e) y.0 y.1 there
-            settled (inr e) = subst (λ w. IsReachedAt w p) (sym (settles.unset e).1)
-                (enabled_at p told seen_at.port y.0 seen_at.row y.1 is_enabled there)
-
-        by_set : IsOccupied set p → IsReachedAt new p
-        by_set (inl pending) = pends_on (pending_persists p
-            (course_wider (λ s w k. k.spares) (asks.ports none_told p)) pending)
-        by_set (inr is) = by_told (told_stands p status set told seen_at is.0) is.1
+    by_clear : (f : AddressMap) (p : List ℕ) → IsSpare f port p address
+        → WhileBusWorks (Enumerating f p address) told → (b : PortState) → b.enable ≡ true
+        → CalledAt port (clear_call C_PORT_RESET) told (Ok tt) new
+        → has_power told.roots p ≡ true → port_there told.roots p ≡ Some b
+        → IsSome (state_there told.roots p) → IsReachedAt new p
+    by_clear f p spare later b is_enabled cleared on there some =
+        let h = having f p address told later in
+        let done : PortCallDone p ClearResetChange told new =
+        cleared.calls.done (after_taking f p h.has) p ClearResetChange
+        (called_is f port p address told spare h (clear_call C_PORT_RESET)
+        ClearResetChange refl) (done_at cleared.outcome tt cleared.told) in
+        elim (done_stands p ClearResetChange refl told new done on) [
+          | inl y ↦ enabled_at p new (called_port ClearResetChange b) y.0 done.row
+              (y.1 ∙ ap (option_map (called_port ClearResetChange)) there) is_enabled
+              (some_of (state_there told.roots p) (state_there new.roots p) y.2 some)
+          | inr y ↦ inl y
+        ]
 
 -- Over calls that come later
 
@@ -188,32 +162,17 @@ reaches_addressed port address n given target result mid new went ordered reache
     reaches_rest port address n went (λ none. ordered.rests refl
     (ends_without_fault 2 result mid new ordered.ends none)) reaches
 
--- after calls at the port
-pub reaches_device_after : (port : HubPort) (address m n : ℕ) {old mid new : World}
-    {a b c d : Option (List ℕ)} → StepRun m old a mid b → StepRun n mid c new d
-    → AtPort port address old mid → ReachesDevice port address mid new
-    → ReachesDevice port address old new
-reaches_device_after port address m n {old} {mid} {new} sooner later at reaches = record {
-  reached = λ f p spare t order occupied none.
-      reaches.reached f p spare (at.within.stays f p spare t) (went_in_order m old mid sooner order)
-      (occupied_on p (at.only.at f p spare t (went_sound n mid new later none)).spares occupied)
-      none;
-}
-
 -- where the device that took the address is configured
 pub reaches_set : (port : HubPort) (address n : ℕ) {old mid new : World} {b c : Option (List ℕ)}
     → StepRun n mid b new c → TakesAddress port address old mid → OnlySets address mid new
     → ReachesDevice port address old mid → ReachesDevice port address old new
-reaches_set port address n {old} {mid} {new} went takes sets reaches = record { reached = reached }
-  where
-    reached : (f : AddressMap) (p : List ℕ) → IsSpare f port p address
-        → WhileBusWorks (Enumerating f p address) old → IsInOrder old → IsOccupied old p
-        → new.fault ≡ None → IsReachedAt new p
-    reached f p spare t order occupied none =
-        let sound = went_sound n mid new went none in
-        let own = (takes.took f p spare t).so sound in
-        reached_on p (sets.ports none (after_taking f p address) p (held_there f p address) own p
-        (is_above-self p)) (reaches.reached f p spare t order occupied sound)
+reaches_set port address n {old} {mid} {new} went takes sets reaches = record {
+  reached = λ f p spare t order occupied none.
+      let sound = went_sound n mid new went none in
+      let own = (takes.took f p spare t).so sound in
+      reached_on p (sets.ports none (after_taking f p address) p (held_there f p address) own p
+      (is_above-self p)) (reaches.reached f p spare t order occupied sound);
+}
 
 -- The clearing of PORT_ENABLE
 
@@ -229,20 +188,17 @@ pends_there p c old new keeps d h =
 pub disabled_known : (p : List ℕ) (cause : Cause) (old new : World)
     → PortCallDone p ClearEnable old new → IsOccupied old p → IsKnownAs new p (Some (Refused cause))
 disabled_known p cause old new d (inl x) = inl (pends_there p ClearEnable old new refl d x)
-disabled_known p cause old new d (inr x) = pick (done_stands p ClearEnable refl old new d x.0)
-  where
-    pick : StandsSo p ClearEnable (Called p ClearEnable) old new
-        → IsKnownAs new p (Some (Refused cause))
-    pick (inl y) =
-        inr (
-          y.0,
-          (
-            some_of (state_there old.roots p) (state_there new.roots p) y.2 x.1,
-            subst (λ o. IfSome o (λ b. b.enable ≡ false)) (sym y.1)
-                (disabled_port (port_there old.roots p)),
-          ),
-        )
-    pick (inr y) = inl y
+disabled_known p cause old new d (inr x) = elim (done_stands p ClearEnable refl old new d x.0) [
+  | inl y ↦ inr (
+    y.0,
+    (
+      some_of (state_there old.roots p) (state_there new.roots p) y.2 x.1,
+      subst (λ o. IfSome o (λ b. b.enable ≡ false)) (sym y.1)
+          (disabled_port (port_there old.roots p)),
+    ),
+  )
+  | inr y ↦ inl y
+]
 
 pub clear_enable_disables : (port : HubPort) (address : ℕ) (cause : Cause) (old : World)
     (result : Result (Unit {0}) PipeFault) (new : World)
@@ -250,19 +206,12 @@ pub clear_enable_disables : (port : HubPort) (address : ℕ) (cause : Cause) (ol
     → Disables port address old (Ok (Refused cause)) new
 clear_enable_disables port address cause old result new calls ok = record {
   there = λ f p spare t occupied finding e.
-      let call_is : IsCall (after_taking f p (having f p address old t).has) port p
-      (clear_call PORT_ENABLE) ClearEnable old =
-      called_is f port p address old spare (having f p address old t) (clear_call PORT_ENABLE)
-      ClearEnable refl in
-      subst (λ x. IsKnownAs new p (Some x)) (same finding e)
-      (disabled_known p cause old new
-      (calls.done (after_taking f p (having f p address old t).has) p ClearEnable call_is ok)
+      let h = having f p address old t in
+      subst (λ x. IsKnownAs new p (Some x)) (let same : Refused cause ≡ finding = cc in same)
+      (disabled_known p cause old new (calls.done (after_taking f p h.has) p ClearEnable
+      (called_is f port p address old spare h (clear_call PORT_ENABLE) ClearEnable refl) ok)
       occupied);
 }
-  where
-    same : (finding : Finding) → (let r : Result Finding EnumFault = Ok (Refused cause) in
-        r ≡ Ok finding) → Refused cause ≡ finding
-    same finding e = cc
 
 -- where there is no finding
 pub disables_none : (port : HubPort) (address : ℕ) (old : World) (why : EnumFault) (new : World)

@@ -1,8 +1,8 @@
 -- What a hub tells, and what its refusal means.
 use Rattle.std.proofs.Common.{◌≡◌, ◌≢◌, ◌⊎◌, ◌∙◌, inl, inr, refl, sym, ap, add-one, subst}
-use Rattle.std.specs.Prelude.{ℕ, ◌+◌, List, Bool, true, false, ◌&&◌, ◌==◌, Result, Ok, Err}
-use Rattle.std.specs.Prelude.{if◌then◌else◌, IfOk}
+use Rattle.std.specs.Prelude.{ℕ, ◌+◌, List, Bool, true, false, ◌&&◌, ◌==◌, Result, Ok, Err, IfOk}
 use Rattle.usb_world.specs.{World}
+use Rattle.usb_tree.proofs.Interface.{decided}
 use Rattle.usb_transaction.specs.{Target}
 use Rattle.usb_pipe.specs.{PipeFault}
 use Rattle.std.specs.Global.{Vec}
@@ -25,15 +25,27 @@ unfolding supply_of
 hub_supply true = inl refl
 hub_supply false = inr refl
 
-not_last_by : (hub : Bool) (tier : ℕ) (done : Unit {0}) → hub ≡ true
-    → (if hub && tier == 7 then Err (Refused cause.TooDeep) else Ok done) ≡ Ok done → tier ≢ 7
-not_last_by true tier done is fits e = let last = rw e at fits in absurd cc
-not_last_by false tier done is fits e = absurd cc
+-- a device that fits its tier is no hub in the last
+pub fits_tier-hub : (tier : ℕ) (bytes : List ℕ) → fits_tier tier bytes ≡ Ok tt
+    → (is_hub_device bytes && tier == 7) ≡ false
+fits_tier-hub tier bytes e = elim (decided (is_hub_device bytes && tier == 7)) [
+  | inl deep ↦ (let fails = rw deep at e in absurd cc)
+  | inr shallow ↦ shallow
+]
 
--- a hub that fits its tier is not in the last
 pub not_last : (tier : ℕ) (bytes : List ℕ) → is_hub_device bytes ≡ true
     → fits_tier tier bytes ≡ Ok tt → tier ≢ 7
-not_last tier bytes = not_last_by (is_hub_device bytes) tier tt
+not_last tier bytes is fits last =
+    let shallow = rw (is, last) at (fits_tier-hub tier bytes fits) in absurd cc
+
+-- one that does not fit is one
+pub deep_is : (tier : ℕ) (bytes : List ℕ) (stop : Stop) → fits_tier tier bytes ≡ Err stop
+    → (stop ≡ Refused cause.TooDeep) × ((is_hub_device bytes && tier == 7) ≡ true)
+deep_is tier bytes stop e = elim (decided (is_hub_device bytes && tier == 7)) [
+  | inl deep ↦ (let fails = rw deep at e in
+      let same : stop ≡ Refused cause.TooDeep = cc in (same, deep))
+  | inr shallow ↦ (let fits = rw shallow at e in absurd cc)
+]
 
 pub told_of_hub : (tier : ℕ) (bytes : List ℕ) (stop : Stop) (t : Target) (text : List ℕ)
     (old new : World) → fits_tier tier bytes ≡ Ok tt → is_hub_device bytes ≡ true
@@ -46,7 +58,7 @@ told_of_hub tier bytes (Fault fault) t text old new fits is told = told
 
 -- the descriptor that a hub told
 pub count_told : (hub : Target) (stalled : Cause) (outcome : Result (Vec ℕ) PipeFault)
-    (bytes : Vec ℕ) (view : List ℕ) (old new : World) → answered_or stalled outcome ≡ Ok bytes
+    (bytes : Vec ℕ) (view : List ℕ) (old new : World) → Ok bytes ≡ answered_or stalled outcome
     → Queried hub get_hub_descriptor old outcome new → Ok view ≡ hub_spelled bytes.items
     → view ≡ bytes.items → CountTold hub old new (port_count view)
 count_told hub stalled outcome bytes view old new answered asked good same = record {
@@ -63,7 +75,7 @@ pub powered_by : (hub : Target) (port : ℕ) (old new : World) (outcome : Result
     → IfOk result (λ _. IsPowered hub port old new)
 powered_by hub port old new outcome (Ok done) is ordered =
     subst (λ r. Commanded hub (set_port_feature PORT_POWER port) old r new)
-    (answered_ok cause.BadHub outcome tt (sym is)) ordered
+    (answered_ok cause.BadHub outcome tt is) ordered
 powered_by hub port old new outcome (Err stop) is ordered = tt
 
 -- one port more

@@ -1,7 +1,6 @@
 -- What clearing PORT_ENABLE leaves.
-use Rattle.std.proofs.Common.{◌≡◌, refl, sym, subst, arith}
+use Rattle.std.proofs.Common.{◌≡◌, refl, sym, subst, arith, get_or-set_same}
 use Rattle.std.specs.Prelude.{◌-◌, List, Result, Ok, Err, false, slice_index_or}
-use Rattle.std.proofs.Common.{get_or-set_same}
 use Rattle.usb_port.specs.{PortState, off}
 use Rattle.usb_request.specs.{PORT_ENABLE}
 use Rattle.usb_world.specs.{World, root_row, root_port_at}
@@ -11,7 +10,7 @@ use Rattle.usb_enum.specs.{IsDisabled, at_port}
 
 -- where the call worked
 pub disabled : (port : HubPort) (old new : World) (result : Result (Unit {0}) PipeFault)
-    (done : Unit {0}) → at_port result ≡ Ok done → IsPort old port
+    (done : Unit {0}) → Ok done ≡ at_port result → IsPort old port
     → PortCleared port PORT_ENABLE old result new → IsDisabled port new
 unfolding root_port_at
 disabled (Root number) old new result done worked is cleared =

@@ -2,7 +2,7 @@
 -- none, and those that have it.
 use Rattle.std.proofs.Common.{◌≡◌, ◌≤◌, ◌<◌, ◌-◌, ◌==◌, ◌&&◌, ◌⊎◌, inl, inr, not, nat_le, ℕ, zero}
 use Rattle.std.proofs.Common.{suc, Bool, true, false, List, [], ◌∷◌, ◌++◌, Option, None, Some}
-use Rattle.std.proofs.Common.{is_some, option_map, Result, Ok, if◌then◌else◌, refl, ap, sym, subst}
+use Rattle.std.proofs.Common.{option_map, Result, Ok, if◌then◌else◌, refl, ap, sym, subst}
 use Rattle.std.proofs.Common.{◌∙◌, arith}
 use Rattle.std.proofs.lemmas.Bool.Decides.{nat_tests}
 use Rattle.std.proofs.lemmas.Option.{same_Some}
@@ -14,7 +14,7 @@ use Rattle.usb_device.specs.{Registers, Is, port_named, State, Hub, Ports, ended
 use Rattle.usb_device.specs.{port_of, all_off, place_at, Location, path_to, state_on, port_there}
 use Rattle.usb_device.specs.{state_there}
 use Rattle.usb_world.specs.{is_harmless, Was, EachWas, hub_ports, spec_of, LeavesPortAlone}
-use Rattle.usb_world.specs.{UnchangedOrPending, AnyStep, Course, step, World}
+use Rattle.usb_world.specs.{AnyStep, Course, step, World}
 use Rattle.usb_tree.specs.{address_of, is_way, same_number}
 use Rattle.usb_world.proofs.Interface.{course_joined, course_wider, pending_persists, ports_stand}
 use Rattle.usb_world.proofs.Interface.{rests_or_pends}
@@ -35,6 +35,7 @@ use Rattle.usb_enum.specs.{HubFacts, EmptiesPorts, OnlyAsks, IsPowered, Powered,
 use Rattle.usb_enum.specs.{HasEmptyPorts, IsInOrder, IsOrderly}
 use Rattle.usb_enum.proofs.courses.Courses.{orderly_on, went_in_order}
 use Rattle.usb_enum.proofs.devices.Frames.{ends_without_fault as sound_end}
+use Rattle.usb_enum.proofs.devices.ReachedDevices.{is_some-value}
 
 -- Numbers
 
@@ -52,11 +53,10 @@ less_or : (i n : ℕ) → i < suc n → (i < n) ⊎ (n ≡ i)
 less_or zero zero h = inr refl
 less_or zero (suc n) h = inl (omega arith)
 less_or (suc i) zero h = absurd (omega (arith, h))
-less_or (suc i) (suc n) h = pick (less_or i n (omega (arith, h)))
-  where
-    pick : (i < n) ⊎ (n ≡ i) → (suc i < suc n) ⊎ (suc n ≡ suc i)
-    pick (inl x) = inl (omega (arith, x))
-    pick (inr x) = inr (ap suc x)
+less_or (suc i) (suc n) h = elim (less_or i n (omega (arith, h))) [
+  | inl x ↦ inl (omega (arith, x))
+  | inr x ↦ inr (ap suc x)
+]
 
 -- two ports of one device
 siblings : (e : List ℕ) (n i : ℕ) → same_number n i ≡ false
@@ -78,16 +78,12 @@ all_off_power (taken c s a k) (suc i) b h = all_off_power k i b h
 
 pub off_unpowered : (new : World) (j : Location) → WentOff new j → (i : ℕ)
     → NoPower (port_there new.roots (path_to j ++ (suc i ∷ [])))
-off_unpowered new j off i = stays_unpowered (path_to j ++ (suc i ∷ []))
-    (course_wider (λ s w k. k.leaves) (off.since (path_to j ++ (suc i ∷ [])))) then_off
-  where
-    then_off : NoPower (port_there off.now.roots (path_to j ++ (suc i ∷ [])))
-    then_off =
-        subst NoPower
-        (sym (port_of_place off.now.roots (path_to j ++ (suc i ∷ []))
-        ∙ ap (option_map port_of) (place_below off.now.roots j.row j.rest i []
-        ∙ ap (λ o. place_at (place_ports o) i []) off.off)))
-        (all_off_power off.ports i)
+off_unpowered new j off i = let port = path_to j ++ (suc i ∷ []) in
+    stays_unpowered port (course_wider (λ s w k. k.leaves) (off.since port))
+    (subst NoPower (sym (port_of_place off.now.roots port
+    ∙ ap (option_map port_of) (place_below off.now.roots j.row j.rest i []
+    ∙ ap (λ o. place_at (place_ports o) i []) off.off)))
+    (all_off_power off.ports i))
 
 -- A port that the hub has stands there
 
@@ -106,24 +102,16 @@ port_within (Some hub) g i h = within (split (not (g.configuration == 0)) (nat_l
     within : nat_le (suc i) hub.ports ≡ true → i < hub.ports
     within e = grind (arith, nat_tests, e)
 
-there_is : (o : Option PortState) → is_some o ≡ true → (b : PortState) × (o ≡ Some b)
-there_is None h = false_true h
-there_is (Some b) h = (b, refl)
-
 -- Ports of a hub at a path
 
 -- a port that is known as empty, and of which nothing is asked
 pub vacant_on : (p : List ℕ) {old new : World} → Course (LeavesPortAlone p) old new
     → IsKnownAs old p None → IsKnownAs new p None
 vacant_on p {old} {new} c (inl x) = inl (pending_persists p (course_wider (λ s w k. k.spares) c) x)
-vacant_on p {old} {new} c (inr x) = pick (rests_or_pends p c x.0)
-  where
-    pick : UnchangedOrPending old new p → IsKnownAs new p None
-    pick (inl y) = inr (
-      y.0,
-      spec_of-none (state_there new.roots p) (state_there old.roots p) y.1.what x.1,
-    )
-    pick (inr y) = inl y
+vacant_on p {old} {new} c (inr x) = elim (rests_or_pends p c x.0) [
+  | inl y ↦ inr (y.0, spec_of-none (state_there new.roots p) (state_there old.roots p) y.1.what x.1)
+  | inr y ↦ inl y
+]
 
 power_course : {p : List ℕ} {old new : World} → PortCallDone p SetPower old new
     → Course AnyStep old new
@@ -168,7 +156,7 @@ module _ (t : Target) (f : AddressMap) (j : Location) (held : f (path_to j) ≡ 
 
       stood : (b : PortState) × (port_there old.roots (port n) ≡ Some b)
       stood =
-          there_is (port_there old.roots (port n))
+          is_some-value (port_there old.roots (port n))
           (ports_stand old.roots j.row j.rest has.0.spec n was.order.sane
           (ap (option_map spec_of) has.1.0) (port_within has.0.spec.hub has.0.registers n
           has.1.1))
@@ -187,16 +175,14 @@ module _ (t : Target) (f : AddressMap) (j : Location) (held : f (path_to j) ≡ 
         sound = ordered.ends.still;
         owned = owned;
         order = orderly_on was.order (power_course done);
-        powered = λ i below. by_number i (less_or i n below);
+        powered = λ i below. elim (less_or i n below) [
+          | inl less ↦ vacant_on (port i) (rests i (apart_less n i less)) (was.powered i less)
+          | inr same ↦ subst (λ i. IsKnownAs new (port i) None) same now_powered
+        ];
         off = λ i above. stays_unpowered (port i)
             (course_wider (λ s w k. k.leaves) (rests i (apart_more n i (omega (arith, above)))))
             (was.off i (omega (arith, above)));
       }
-        where
-          by_number : (i : ℕ) → (i < n) ⊎ (n ≡ i) → IsKnownAs new (port i) None
-          by_number i (inl below) = vacant_on (port i) (rests i (apart_less n i below))
-              (was.powered i below)
-          by_number i (inr same) = subst (λ i. IsKnownAs new (port i) None) same now_powered
 
   pub all_given : (n : ℕ) (old new : World) → Powered t n old new → Given 0 old → Given n new
   all_given zero old new same was = subst (Given 0) (sym same) was
@@ -204,20 +190,14 @@ module _ (t : Target) (f : AddressMap) (j : Location) (held : f (path_to j) ≡ 
 
 -- The reads of a hub's descriptor and status
 
-asked_keeps : (t : Target) (request : Setup) (old : World) (answer : Result (Vec ℕ) PipeFault)
-    (new : World) → is_harmless request ≡ true → Is request DEVICE_OUT SET_ADDRESS ≡ false
-    → Queried t request old answer new → KeepsAddresses old new
-asked_keeps t request old answer new harmless other asked =
-    read_keeps t request (same_setup request) harmless other 3 1 old new answer asked.ends
-    asked.stages
-
 module _ (t : Target) (f : AddressMap) (j : Location) (held : f (path_to j) ≡ Some t.addr) where
   asked_on : (request : Setup) (old : World) (answer : Result (Vec ℕ) PipeFault) (new : World)
       → is_harmless request ≡ true → Is request DEVICE_OUT SET_ADDRESS ≡ false → new.fault ≡ None
       → Queried t request old answer new → Given t f j held 0 old → Given t f j held 0 new
   asked_on request old answer new harmless other none asked was = record {
     sound = none;
-    owned = ((asked_keeps t request old answer new harmless other asked).kept f
+    owned = ((read_keeps t request (same_setup request) harmless other 3 1 old new answer asked.ends
+        asked.stages).kept f
         (record { so = λ h. was.owned; single = was.owned.single })).so none;
     order = orderly_on was.order (rests []);
     powered = λ i below. absurd (omega (arith, below));

@@ -56,8 +56,7 @@ module _ (spec : Spec) (supply chosen : ℕ) (loud : spec.silent ≡ false) (fre
           free = free;
           good = good;
           within = e ∙ ap Some same;
-          hub = subst (λ i. (is_hub_device spec.descriptor &&
-              not (is_good_hub spec (slice_index_or (texts_of spec) i []))) ≡ false) same b.0;
+          hub = rw same at b.0;
         }
 
     read_by : (o : Option Cause) → first_fault spec (configuration_count spec.descriptor) ≡ o

@@ -1,10 +1,10 @@
 -- What a device's descriptor says of it, as it was read.
 use Rattle.usb_device.specs.{Location, Spec, State, max_packet}
-use Rattle.std.proofs.Common.{◌≡◌, ℕ, ◌==◌, ◌&&◌, ◌||◌, not, nat_lt, inl, inr, Bool, true, false}
-use Rattle.std.proofs.Common.{List, length, slice_index, take, if◌then◌else◌, Some, Result, Ok, Err}
+use Rattle.std.proofs.Common.{◌≡◌, ℕ, ◌==◌, ◌&&◌, ◌||◌, not, nat_lt, inr, Bool, true, false, List}
+use Rattle.std.proofs.Common.{length, slice_index, take, if◌then◌else◌, Some, Result, Ok, Err}
 use Rattle.std.proofs.Common.{is_ok, refl, ap, sym, subst, ◌∙◌, arith}
 use Rattle.std.proofs.lemmas.Bool.Decides.{nat_tests}
-use Rattle.std.proofs.lemmas.List.{get_or-take, take-take}
+use Rattle.std.proofs.lemmas.List.{get_or-take}
 use Rattle.std.proofs.lemmas.Option.{same_Some}
 use Rattle.std.specs.Global.{Vec}
 use Rattle.usb_request.specs.{DEVICE}
@@ -14,8 +14,7 @@ use Rattle.usb_world.proofs.Interface.{each_wider}
 use Rattle.usb_transaction.specs.{Target}
 use Rattle.usb_pipe.specs.{PipeFault, IsMaximum}
 use Rattle.usb_hub.specs.{device_given, HasText, DeviceAsked, KeepsAnswered, EndsAfter}
-use Rattle.usb_enum.specs.{Cause, Learned, AnswersSo, HasHead, HasDescriptor, AtMaximum}
-use Rattle.usb_enum.specs.{answered_or}
+use Rattle.usb_enum.specs.{Cause, Learned, AnswersSo, HasHead, answered_or}
 use Rattle.usb_enum.proofs.refusals.Refusals.{answered_ok}
 use Rattle.usb_enum.proofs.readings.Readings.{given_allows}
 use Rattle.usb_enum.proofs.Targets.{head_maximum}
@@ -35,7 +34,7 @@ module _ (So : Spec → Type 0) (t : Target) (n : ℕ) (bytes : Vec ℕ)
   }
 
   pub answered : (stalled : Cause) (outcome : Result (Vec ℕ) PipeFault) (old new : World)
-      → answered_or stalled outcome ≡ Ok bytes → EndsAfter 3 old outcome new
+      → Ok bytes ≡ answered_or stalled outcome → EndsAfter 3 old outcome new
       → KeepsAnswered t.addr old outcome new
       → (new.shared ≡ false → EachWas (DeviceAsked t n outcome) old new) → AnswersSo So t old new
   answered stalled outcome old new e ends addresses what =
@@ -50,7 +49,7 @@ module _ (So : Spec → Type 0) (t : Target) (n : ℕ) (bytes : Vec ℕ)
       }
 
 pub head_answered : (t : Target) (max : ℕ) (bytes : Vec ℕ) (stalled : Cause)
-    (outcome : Result (Vec ℕ) PipeFault) (old new : World) → answered_or stalled outcome ≡ Ok bytes
+    (outcome : Result (Vec ℕ) PipeFault) (old new : World) → Ok bytes ≡ answered_or stalled outcome
     → device_head_of t.low bytes.items ≡ Ok max
     → EndsAfter 3 old outcome new → KeepsAnswered t.addr old outcome new
     → (new.shared ≡ false → EachWas (DeviceAsked t 8 outcome) old new)
@@ -63,18 +62,6 @@ head_answered t max bytes stalled outcome old new e good =
       device = device;
       head = ap (device_head_of t.low) (sym (first (inr (omega arith)))) ∙ good;
     })
-    stalled outcome old new e
-
-pub bytes_answered : (t : Target) (bytes : Vec ℕ) (front : List ℕ) (stalled : Cause)
-    (outcome : Result (Vec ℕ) PipeFault) (old new : World) → answered_or stalled outcome ≡ Ok bytes
-    → front ≡ take 18 bytes.items
-    → EndsAfter 3 old outcome new → KeepsAnswered t.addr old outcome new
-    → (new.shared ≡ false → EachWas (DeviceAsked t 18 outcome) old new)
-    → AnswersSo (AtMaximum t (HasDescriptor front)) t old new
-bytes_answered t bytes front stalled outcome old new e is =
-    answered (AtMaximum t (HasDescriptor front)) t 18 bytes
-    (λ s loud free device first max. is ∙ ap (take 18) (first (inl max))
-    ∙ take-take 18 18 s.spec.descriptor (omega arith))
     stalled outcome old new e
 
 -- The maximum packet that the head names is the device's own

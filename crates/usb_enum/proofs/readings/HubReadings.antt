@@ -1,8 +1,7 @@
 -- What is learned of a hub.
 use Rattle.std.proofs.Common.{◌≡◌, ℕ, ◌==◌, not, true, false, List, take, Option, None, Some}
-use Rattle.std.proofs.Common.{option_map, is_some, Result, Ok, refl, ap, sym, subst, ◌∙◌, arith}
+use Rattle.std.proofs.Common.{option_map, is_some, Result, Ok, refl, ap, sym, subst, ◌∙◌}
 use Rattle.std.proofs.lemmas.Bool.{and_parts, and_from}
-use Rattle.std.proofs.lemmas.Bool.Decides.{nat_tests}
 use Rattle.std.proofs.lemmas.Option.{same_Some}
 use Rattle.std.specs.Prelude.{slice_index, nat_lt, length}
 use Rattle.std.specs.Option.{IfSome}
@@ -12,6 +11,7 @@ use Rattle.usb_resources.specs.{supply_of}
 use Rattle.usb_descriptor.specs.{status_endpoint_of, hub_spelled, port_count}
 use Rattle.usb_device.specs.{Spec, Hub, IsHub, IsSpec, agrees, hub_fits, has_hub_class}
 use Rattle.usb_world.specs.{EachWas, World}
+use Rattle.usb_tree.proofs.Interface.{equal_same}
 use Rattle.usb_transaction.specs.{Target}
 use Rattle.usb_bus.specs.{StepRun}
 use Rattle.usb_pipe.specs.{PipeFault}
@@ -24,7 +24,7 @@ use Rattle.usb_enum.proofs.readings.Readings.{given_allows, answer_learned, text
 use Rattle.usb_enum.proofs.readings.Readings.{learns_kept}
 
 pub ports_learned : (t : Target) (stalled : Cause) (outcome : Result (Vec ℕ) PipeFault)
-    (bytes : Vec ℕ) (hub : List ℕ) (old new : World) → answered_or stalled outcome ≡ Ok bytes
+    (bytes : Vec ℕ) (hub : List ℕ) (old new : World) → Ok bytes ≡ answered_or stalled outcome
     → Ok hub ≡ hub_spelled bytes.items → hub ≡ bytes.items
     → (new.shared ≡ false → EachWas (HubAsked t outcome) old new)
     → DeviceFact (AtMaximum t (HasPorts (port_count hub))) t old new
@@ -39,7 +39,7 @@ ports_learned t stalled outcome bytes hub old new answered good same =
     })
 
 pub supply_learned : (t : Target) (stalled : Cause) (outcome : Result DeviceStatus PipeFault)
-    (status : DeviceStatus) (old new : World) → answered_or stalled outcome ≡ Ok status
+    (status : DeviceStatus) (old new : World) → Ok status ≡ answered_or stalled outcome
     → (new.shared ≡ false → EachWas (StatusAsked t outcome) old new)
     → DeviceFact (HasSupply (supply_of false status.self_powered)) t old new
 supply_learned t stalled outcome status old new answered =
@@ -80,11 +80,8 @@ hub_gives spec text g status good = rw (g.is, g.allowed, status, g.descriptor, g
 
 ports_agree : (ports : ℕ) (text : List ℕ) → hub_spelled (take 9 text) ≡ Ok (take 9 text)
     → agrees ports text ≡ true → port_count (take 9 text) ≡ ports
-ports_agree ports text good agree = same (port_count (take 9 text)) ports
-    (rw (agrees, good) at agree)
-  where
-    same : (m n : ℕ) → (m == n) ≡ true → m ≡ n
-    same m n h = grind (arith, nat_tests, h)
+ports_agree ports text good agree =
+    equal_same (port_count (take 9 text)) ports (rw (agrees, good) at agree)
 
 hub_class : (spec : Spec) (hub : Hub) → spec.hub ≡ Some hub
     → hub_fits spec.low spec.descriptor spec.hub ≡ true → is_hub_device spec.descriptor ≡ true

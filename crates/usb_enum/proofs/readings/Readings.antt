@@ -1,5 +1,5 @@
 -- What is learned of a device by a request for data, and of its configurations.
-use Rattle.std.proofs.Common.{◌≡◌, ◌+◌, ℕ, inl, zero, suc, Bool, true, false, if◌then◌else◌, List}
+use Rattle.std.proofs.Common.{◌≡◌, ◌==◌, ◌+◌, ℕ, inl, inr, zero, suc, Bool, true, false, List}
 use Rattle.std.proofs.Common.{[], ◌∷◌, ◌++◌, map, take, slice_get, Option, None, Some, Result, Ok}
 use Rattle.std.proofs.Common.{Err, is_ok, refl, ap, sym, subst, ◌∙◌, arith}
 use Rattle.std.proofs.lemmas.Bool.{and_from}
@@ -8,6 +8,7 @@ use Rattle.std.specs.Global.{Vec}
 use Rattle.usb_descriptor.specs.{config_head_of, config_of, configuration_value, total_in}
 use Rattle.usb_device.specs.{Spec, State}
 use Rattle.usb_world.specs.{EachWas, World}
+use Rattle.usb_tree.proofs.Interface.{decided}
 use Rattle.usb_world.proofs.Interface.{each_joined, each_none, each_wider}
 use Rattle.usb_transaction.specs.{Target}
 use Rattle.usb_bus.specs.{StepRun}
@@ -15,12 +16,11 @@ use Rattle.usb_pipe.specs.{PipeFault}
 use Rattle.usb_pipe.specs.declared.fault.PipeFault.TheVariants.{Stalled}
 use Rattle.usb_hub.specs.{StaysAs, KeepsDevices, unless_refused, config_given, HasText, ReadAsked}
 use Rattle.usb_hub.specs.{TextAsked, ConfigAsked}
-use Rattle.usb_hub.proofs.Interface.{stays_joined}
+use Rattle.usb_hub.proofs.Interface.{stays-registers, stays-spec, stays_joined}
 use Rattle.usb_enum.specs.{Cause, text_read, is_good_text, texts_below, config_fault, first_fault}
 use Rattle.usb_enum.specs.{text_fault, Learned, DeviceFact, AtMaximum, HasTotal, HasConfiguration}
 use Rattle.usb_enum.specs.{HasConfigurations, answered_or, config_text_of, any_has_value}
 use Rattle.usb_enum.proofs.refusals.Refusals.{answered_ok}
-use Rattle.usb_enum.proofs.readings.LearnedFacts.{learns_then, learns_wider}
 use Rattle.usb_enum.proofs.devices.SharedAddresses.{went_unshared}
 use Rattle.usb_enum.proofs.verdicts.VerdictRows.{first_none}
 
@@ -35,9 +35,13 @@ pub learns_on : (A B C : Spec → Type 0) (t : Target) (n : ℕ) (old mid new : 
     {r s : Option (List ℕ)} → ((spec : Spec) → A spec → B spec → C spec) → DeviceFact A t old mid
     → StepRun n mid r new s → DeviceFact B t mid new
     → DeviceFact C t old new
-learns_on A B C t n old mid new f a went b =
-    learns_wider (λ x. A x × B x) C t old new (λ x both. f x both.0 both.1)
-    (learns_then A B t old mid new (went_unshared n mid new went) a b)
+learns_on A B C t n old mid new f a went b single =
+    each_joined (Learned A t) (Learned B t) (Learned C t)
+    (λ j s u v x y. record {
+      frame = stays_joined j s u v x.frame y.frame;
+      so = λ at. f s.spec (x.so at) (subst B (stays-spec s u x.frame)
+          (y.so (ap (λ r. r.address == t.addr) (stays-registers s u x.frame) ∙ at)));
+    }) old mid new (a (went_unshared n mid new went single)) (b single)
 
 -- a call that leaves each device as it was, after others
 
@@ -93,7 +97,7 @@ text_learned given So t wanted outcome bytes old new is f =
 
 pub total_learned : (t : Target) (stalled : Cause) (index total : ℕ)
     (outcome : Result (Vec ℕ) PipeFault) (bytes : Vec ℕ) (old new : World)
-    → answered_or stalled outcome ≡ Ok bytes → config_head_of bytes.items ≡ Ok total
+    → Ok bytes ≡ answered_or stalled outcome → config_head_of bytes.items ≡ Ok total
     → (new.shared ≡ false → EachWas (ConfigAsked t index 9 outcome) old new)
     → DeviceFact (AtMaximum t (HasTotal index total)) t old new
 total_learned t stalled index total outcome bytes old new answered head =
@@ -108,11 +112,10 @@ total_learned t stalled index total outcome bytes old new answered head =
 -- bytes that are a configuration text
 pub good_bytes : (bytes text : List ℕ) → Some text ≡ config_text_of bytes
     → (is_ok (config_of bytes) ≡ true) × (text ≡ bytes)
-good_bytes bytes text = split (is_ok (config_of bytes))
-  where
-    split : (b : Bool) → Some text ≡ (if b then Some bytes else None) → (b ≡ true) × (text ≡ bytes)
-    split true is = (refl, same_Some text bytes is)
-    split false is = absurd cc
+good_bytes bytes text is = elim (decided (is_ok (config_of bytes))) [
+  | inl good ↦ (good, same_Some text bytes (rw good at is))
+  | inr bad ↦ (let none = rw bad at is in absurd cc)
+]
 
 -- what was read of a configuration is as long as its head says
 configuration_of_total : (index total : ℕ) (bytes text whole : List ℕ) (spec : Spec)
@@ -135,7 +138,7 @@ configuration_of_total index total bytes text whole spec head given first good =
     }
 
 -- the first so many bytes of a configuration
-record HasBytes (index total : ℕ) (bytes : List ℕ) (spec : Spec) : Type 0 where
+pub record HasBytes (index total : ℕ) (bytes : List ℕ) (spec : Spec) : Type 0 where
   pub text : List ℕ
   pub given : config_given index spec ≡ Some text
   pub first : bytes ≡ take total text
@@ -143,7 +146,7 @@ record HasBytes (index total : ℕ) (bytes : List ℕ) (spec : Spec) : Type 0 wh
 pub configuration_learned : (t : Target) (stalled : Cause) (index total n : ℕ)
     (outcome : Result (Vec ℕ) PipeFault) (bytes : Vec ℕ) (text : List ℕ) (old mid new : World)
     {r s : Option (List ℕ)}
-    → answered_or stalled outcome ≡ Ok bytes → Some text ≡ config_text_of bytes.items
+    → Ok bytes ≡ answered_or stalled outcome → Some text ≡ config_text_of bytes.items
     → DeviceFact (AtMaximum t (HasTotal index total)) t old mid → StepRun n mid r new s
     → (new.shared ≡ false → EachWas (ConfigAsked t index total outcome) mid new)
     → DeviceFact (AtMaximum t (HasConfiguration index text)) t old new
@@ -196,14 +199,11 @@ configurations_more : (count : ℕ) (texts : List (List ℕ)) (text : List ℕ) 
     → HasConfigurations (count + 1) (texts ++ text ∷ []) spec
 configurations_more count texts text spec differs before now =
     let given = given_allows spec.stalls.config (slice_get spec.configs count) now.text now.given in
-    let Differs : List ℕ → List (List ℕ) → Type 0 = λ x xs. any_has_value (configuration_value x) xs
-    ≡ false in
     let one_more : count + 1 ≡ suc count = omega arith in
     record {
       good = first_none spec count before.good
           (config_faultless spec count now.text now.given now.good
-          (subst (Differs (text_read now.text)) before.read
-          (subst (λ x. Differs x texts) now.read differs)));
+          (rw (before.read, now.read) at differs));
       read = ap (λ x. texts ++ x ∷ []) now.read
           ∙ ap (λ xs. xs ++ text_read now.text ∷ []) before.read
           ∙ sym (ap (λ n. texts_below spec n) one_more

@@ -1,5 +1,5 @@
 -- The value of a configuration that was read is one that its device takes.
-use Rattle.std.proofs.Common.{◌≡◌, ◌≢◌, ◌⊎◌, inl, inr, ◌<◌, ℕ, zero, suc, ◌==◌, ◌&&◌, ◌||◌, not}
+use Rattle.std.proofs.Common.{◌≡◌, ◌≢◌, inl, inr, ◌<◌, ℕ, zero, suc, ◌==◌, ◌&&◌, ◌||◌, not}
 use Rattle.std.proofs.Common.{Bool, true, false, List, [], ◌∷◌, map, take, length, slice_get}
 use Rattle.std.proofs.Common.{slice_index_or, if◌then◌else◌, Option, None, Some, Result, Ok, Err}
 use Rattle.std.proofs.Common.{is_ok, refl, ap, sym, subst, ◌∙◌, arith, ◌≤◌, min, ◌+◌, ◌*◌}
@@ -8,7 +8,7 @@ use Rattle.std.specs.List.{list_any}
 use Rattle.std.specs.Option.{option_or}
 use Rattle.std.proofs.lemmas.Bool.{and_parts, and_from, cases_order}
 use Rattle.std.proofs.lemmas.Bool.Decides.{nat_tests}
-use Rattle.std.proofs.lemmas.List.{get_or-take, length-take, take_min}
+use Rattle.std.proofs.lemmas.List.{get_or-take, get_or_read, length-take, take_min}
 use Rattle.std.proofs.lemmas.Option.{same_Some}
 use Rattle.usb_descriptor.specs.{DescriptorFault, config_head_of, config_of, configuration_value}
 use Rattle.usb_descriptor.specs.{total_in}
@@ -30,15 +30,13 @@ pub each_good : (spec : Spec) (n i : ℕ) → i < n → first_fault spec n ≡ N
     → config_fault spec i ≡ None
 unfolding first_fault
 each_good spec zero i below h = absurd (omega (arith, below))
-each_good spec (suc n) i below h = pick (cases_order i n)
-    (λ less. each_good spec n i less (or_none (first_fault spec n) (config_fault spec n) h).0)
-  where
-    pick : (i ≡ n) ⊎ ((i < n) ⊎ (n < i)) → (i < n → config_fault spec i ≡ None)
-        → config_fault spec i ≡ None
-    pick (inl e) earlier = ap (config_fault spec) e
-        ∙ (or_none (first_fault spec n) (config_fault spec n) h).1
-    pick (inr (inl less)) earlier = earlier less
-    pick (inr (inr more)) earlier = absurd (omega (arith, below, more))
+each_good spec (suc n) i below h =
+    let parts = or_none (first_fault spec n) (config_fault spec n) h in
+    elim (cases_order i n) [
+      | inl e ↦ ap (config_fault spec) e ∙ parts.1
+      | inr (inl less) ↦ each_good spec n i less parts.0
+      | inr (inr more) ↦ absurd (omega (arith, below, more))
+    ]
 
 -- the text of an index is good, and no earlier one has its value
 pub record IsFresh (spec : Spec) (i : ℕ) (text : List ℕ) : Type 0 where
@@ -90,6 +88,12 @@ mapped_at f (x ∷ xs) (suc n) (suc i) less =
       read = rest.read;
       below = omega (arith, rest.below);
     }
+
+-- read of one list, it is that of another that is the same
+pub text_at : (xs ys : List (List ℕ)) (i : ℕ) (x : List ℕ) → x ≡ slice_index_or xs i x → xs ≡ ys
+    → i < length ys → x ≡ slice_index_or ys i []
+text_at xs ys i x is same inside =
+    get_or_read ys i x inside (is ∙ ap (λ texts. slice_index_or texts i x) same) []
 
 -- Its value
 

@@ -55,14 +55,6 @@ learned_after A B t value j s u v a b = record {
       );
 }
 
-learned_set-wider : (A B : Spec → Type 0) (t : Target) (value : ℕ) → ((x : Spec) → A x → B x)
-    → (j : Location) (s v : State) → LearnedSet A t value j s v → LearnedSet B t value j s v
-learned_set-wider A B t value f j s v l = record {
-  spec = l.spec;
-  address = l.address;
-  so = λ at. let so = l.so at in (f s.spec so.0, so.1, so.2);
-}
-
 -- it was read, and then it was configured
 pub set_learned : (A : Spec → Type 0) (t : Target) (value l : ℕ)
     (outcome : Result (Unit {0}) PipeFault) (before given set : World) {b c : Option (List ℕ)}
@@ -85,25 +77,6 @@ set_then A B t value m before set told a went b single =
     (b single)
 
 -- its configurations were read, it was configured, and its ports and its strings were read
-pub learns_set : (A B C So : Spec → Type 0) (t : Target) (value l m n : ℕ)
-    {before given set told new : World} {b c d e : Option (List ℕ)}
-    → ((x : Spec) → A x → x.stalls.set_config ≡ false → B x → C x → So x)
-    → DeviceFact A t before given → StepRun l given b set c
-    → (set.shared ≡ false → EachWas (ConfigurationAsked t value (Ok tt) set) given set)
-    → StepRun m set c told d → DeviceFact B t set told → StepRun n told d new e
-    → DeviceFact C t told new
-    → LearnsSet So t value before new
-learns_set A B C So t value l m n {before} {given} {set} {told} {new} f configs went_set asked
-    went_told ports went strings single =
-    each_wider (LearnedSet (λ x. (Allowed A x × B x) × C x) t value) (LearnedSet So t value)
-    (learned_set-wider (λ x. (Allowed A x × B x) × C x) So t value
-    (λ x y. f x y.0.0.0 y.0.0.1 y.0.1 y.1)) before new
-    (set_then (λ x. Allowed A x × B x) C t value n before told new
-    (set_then (Allowed A) B t value m before set told
-    (set_learned A t value l (Ok tt) before given set configs went_set refl asked) went_told
-    ports) went strings single)
-
--- the same of what is listed
 pub listed_learns : (t : Target) (bytes : List ℕ) (device : Accepted) (count value l m n : ℕ)
     (text : List ℕ) (indexes : StringIndexes) (outcome : Result (Unit {0}) PipeFault)
     {before given set told new : World} {b c d e : Option (List ℕ)}
@@ -120,25 +93,30 @@ pub listed_learns : (t : Target) (bytes : List ℕ) (device : Accepted) (count v
     (configuration_value (configuration_of device)) before new
 listed_learns t bytes device count value l m n text indexes outcome {before} {given} {set} {told}
     {new} same_count configs went_set same_value done asked went_told same_text ports went
-    same_indexes strings =
-    let chosen = configuration_value (configuration_of device) in
-    let asked_value = subst (λ r. set.shared ≡ false
-    → EachWas (ConfigurationAsked t value r set) given set) done asked in
-    learns_set (AtMaximum t (HasConfigurations (configuration_count bytes) device.configs))
-    (AtMaximum t (TellsPorts (configuration_of device) device.hub))
-    (AtMaximum t (λ spec. device.strings ≡ strings_by spec (string_indexes bytes)))
-    (AtMaximum t (HasReadings bytes device)) t chosen l m n
-    (λ x read no hub texts most. record {
-      configs = read most;
-      allowed = no;
-      ports = hub most;
-      strings = texts most;
-    })
-    (subst (λ k. DeviceFact (AtMaximum t (HasConfigurations k device.configs)) t before given)
-    same_count configs) went_set
-    (subst (λ k. set.shared ≡ false → EachWas (ConfigurationAsked t k (Ok tt) set) given set)
-    same_value asked_value) went_told
-    (subst (λ x. DeviceFact (AtMaximum t (TellsPorts x device.hub)) t set told) same_text ports)
-    went
-    (subst (λ x. DeviceFact (AtMaximum t (λ spec. device.strings ≡ strings_by spec x)) t told new)
-    same_indexes strings)
+    same_indexes strings single =
+    let Texts : Spec → Type 0 = AtMaximum t (HasConfigurations count device.configs) in
+    let Ports : Spec → Type 0 = AtMaximum t (TellsPorts text device.hub) in
+    let Named : Spec → Type 0 = AtMaximum t (λ spec. device.strings ≡ strings_by spec indexes) in
+    each_wider (LearnedSet (λ x. (Allowed Texts x × Ports x) × Named x) t value)
+    (LearnedSet (AtMaximum t (HasReadings bytes device)) t
+    (configuration_value (configuration_of device)))
+    (λ j s v x. record {
+      spec = x.spec;
+      address = x.address;
+      so = λ at.
+          let so = x.so at in (
+            (λ most. record {
+              configs = subst (λ k. HasConfigurations k device.configs s.spec) same_count
+                  (so.0.0.0.0 most);
+              allowed = so.0.0.0.1;
+              ports = subst (λ y. TellsPorts y device.hub s.spec) same_text (so.0.0.1 most);
+              strings = so.0.1 most ∙ ap (strings_by s.spec) same_indexes;
+            }),
+            so.1 ∙ same_value,
+            so.2,
+          );
+    }) before new
+    (set_then (λ x. Allowed Texts x × Ports x) Named t value n before told new
+    (set_then (Allowed Texts) Ports t value m before set told
+    (set_learned Texts t value l outcome before given set configs went_set done asked) went_told
+    ports) went strings single)

@@ -1,44 +1,30 @@
 -- What is learned of a device's strings.
-use Rattle.std.proofs.Common.{◌≡◌, ℕ, ◌==◌, ◌||◌, not, Bool, true, false, if◌then◌else◌, List, take}
-use Rattle.std.proofs.Common.{slice_get, Option, None, Some, is_some, option_map, option_and_then}
-use Rattle.std.proofs.Common.{Result, Ok, Err, refl, ap, sym, ◌∙◌, arith}
+use Rattle.std.proofs.Common.{◌≡◌, inl, inr, ℕ, ◌==◌, ◌||◌, not, false, if◌then◌else◌, List, take}
+use Rattle.std.proofs.Common.{Option, None, Some, is_some, option_map, option_and_then}
+use Rattle.std.proofs.Common.{Ok, refl, ap, sym, ◌∙◌, arith}
 use Rattle.std.specs.Global.{Vec}
 use Rattle.usb_device.specs.{Spec}
-use Rattle.usb_world.specs.{EachWas, World}
+use Rattle.usb_world.specs.{World}
+use Rattle.usb_tree.proofs.Interface.{decided}
 use Rattle.usb_transaction.specs.{Target}
 use Rattle.usb_bus.specs.{StepRun}
 use Rattle.usb_pipe.specs.{PipeFault}
 use Rattle.usb_pipe.specs.declared.fault.PipeFault.TheVariants as pipe
-use Rattle.usb_hub.specs.{unless_refused, string_given, HasText, StringAsked}
+use Rattle.usb_hub.specs.{string_given}
 use Rattle.usb_enum.specs.{StringIndexes, Strings, string_read, string_at, strings_by, OnlyAsks}
 use Rattle.usb_enum.specs.{DeviceFact, Answered, Ending, StopsRead, AtMaximum, HasString}
 use Rattle.usb_enum.specs.{bytes_given, language_of, string_in, no_strings, no_fault, stop_of}
 use Rattle.usb_enum.specs.{AsksLanguage, AsksString, ReadsString, named, string_units}
 use Rattle.usb_enum.specs.{first_language_of}
 use Rattle.usb_enum.proofs.readings.LearnedFacts.{learns_wider}
-use Rattle.usb_enum.proofs.readings.Readings.{learns_none, learns_on, refusal_learned, text_learned}
+use Rattle.usb_enum.proofs.readings.Readings.{learns_none, learns_on}
 
 -- One string
 
-string_read-given : (spec : Spec) (index : ℕ)
+pub string_read-given : (spec : Spec) (index : ℕ)
     → string_read spec index ≡ option_map (take 255) (string_given index spec)
-string_read-given spec index = split spec.stalls.string (slice_get spec.strings index)
-  where
-    split : (refused : Bool) (text : Option (List ℕ))
-        → (if refused then None else option_map (take 255) text)
-        ≡ option_map (take 255) (unless_refused refused text)
-    split true text = refl
-    split false text = refl
-
--- its first bytes
-pub string_learned : (t : Target) (index : ℕ) (outcome : Result (Vec ℕ) PipeFault) (bytes : Vec ℕ)
-    (old new : World) → outcome ≡ Ok bytes
-    → (new.shared ≡ false → EachWas (StringAsked t index outcome) old new)
-    → DeviceFact (AtMaximum t (HasString index (Some bytes))) t old new
-string_learned t index outcome bytes old new is =
-    text_learned (string_given index) (HasString index (Some bytes)) t 255 outcome bytes old new is
-    (λ spec text given first. ap Some first
-    ∙ sym (string_read-given spec index ∙ ap (option_map (take 255)) given))
+string_read-given spec index =
+    elim (decided spec.stalls.string) [ inl e ↦ rw e refl | inr e ↦ rw e refl ]
 
 -- only a STALL is no stop
 pub stall_alone : (fault : PipeFault) → stop_of fault ≡ None → fault ≡ pipe.Stalled
@@ -48,17 +34,6 @@ stall_alone pipe.NoAnswer none = absurd cc
 stall_alone pipe.Broken none = absurd cc
 stall_alone (pipe.Bus fault) none = absurd cc
 stall_alone pipe.Memory none = absurd cc
-
--- that it is not given
-pub no_string_learned : (t : Target) (index : ℕ) (outcome : Result (Vec ℕ) PipeFault)
-    (fault : PipeFault) (old new : World) → outcome ≡ Err fault → stop_of fault ≡ None
-    → (new.shared ≡ false → EachWas (StringAsked t index outcome) old new)
-    → DeviceFact (AtMaximum t (HasString index None)) t old new
-no_string_learned t index outcome fault old new is none =
-    refusal_learned (string_given index) (λ s b. HasText (string_given index s.spec) t 255 s
-    b.items) t outcome old new (AtMaximum t (HasString index None)) (is
-    ∙ ap Err (stall_alone fault none))
-    (λ spec given max. sym (string_read-given spec index ∙ ap (option_map (take 255)) given))
 
 nonzero : (index : ℕ) → (index ≡ 0 → ⊥) → (index == 0) ≡ false
 nonzero index given = grind (arith, given)
@@ -112,12 +87,7 @@ unfolding string_at
 at_language spec index language is =
     ap (λ o. if index == 0 || not (is_some o) then None else option_and_then string_units
     (string_read spec index)) (sym is)
-    ∙ split (index == 0) (option_and_then string_units (string_read spec index))
-  where
-    split : (b : Bool) (string : Option (List ℕ)) → (if b || false then None else string)
-        ≡ (if b then None else string)
-    split true string = refl
-    split false string = refl
+    ∙ elim (decided (index == 0)) [ inl e ↦ rw e refl | inr e ↦ rw e refl ]
 
 string_at-no_language : (spec : Spec) (index : ℕ) → None ≡ language_of spec
     → string_at spec index ≡ None
@@ -125,11 +95,7 @@ unfolding string_at
 string_at-no_language spec index is =
     ap (λ o. if index == 0 || not (is_some o) then None else option_and_then string_units
     (string_read spec index)) (sym is)
-    ∙ split (index == 0) (option_and_then string_units (string_read spec index))
-  where
-    split : (b : Bool) (string : Option (List ℕ)) → (if b || true then None else string) ≡ None
-    split true string = refl
-    split false string = refl
+    ∙ elim (decided (index == 0)) [ inl e ↦ rw e refl | inr e ↦ rw e refl ]
 
 string_at-zero : (spec : Spec) (index : ℕ) → index ≡ 0 → string_at spec index ≡ None
 unfolding string_at

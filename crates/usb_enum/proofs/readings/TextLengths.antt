@@ -67,7 +67,7 @@ text_there given t request wanted outcome bytes old new host is asked what singl
 
 pub config_there : (t : Target) (stalled : Cause) (index wanted : ℕ)
     (outcome : Result (Vec ℕ) PipeFault) (bytes : Vec ℕ) (old new : World)
-    → answered_or stalled outcome ≡ Ok bytes
+    → Ok bytes ≡ answered_or stalled outcome
     → Queried t (get_configuration_descriptor index wanted) old outcome new
     → (new.shared ≡ false → EachWas (ConfigAsked t index wanted outcome) old new)
     → IsAnswered t new
@@ -138,9 +138,6 @@ module _ (t : Target) (index total : ℕ) (old mid new : World) {a b c d : Optio
       said = inr head_said;
       read = not_ok r _ why same;
     }
-
-    pub text_malformed : (why : Stop) → ReadsText t index old (Err why) new
-    text_malformed why = record { total = total; count = counted; said = inr head_said; read = tt }
 
     pub text_was_read : (text : List ℕ) → KeepsDevices mid new → IsAnswered t new
         → ReadsText t index old (Ok text) new
@@ -219,19 +216,15 @@ texts_read_more t n k old mid new text before went now =
 -- how many and how long they are
 texts_within : (t : Target) (n : ℕ) (old new : World) (most : ℕ) (before : TextsRead t n old new)
     → new.shared ≡ false → EachAt (SaysWithin t most) t old → (n ≤ 8) × (before.bytes ≤ most)
-texts_within t n old new most before single each = pick before.said
-  where
-    pick : ((n ≡ 0) × (before.bytes ≡ 0))
-        ⊎ (new.shared ≡ false → SomeAt (AtMaximum t (HasTotals n before.bytes)) t old) → (n ≤ 8)
-        × (before.bytes ≤ most)
-    pick (inl none) = (omega (arith, none.0), omega (arith, none.1))
-    pick (inr some) =
-        let s = some single in
-        let says : SaysWithin t most s.state.spec = each s.spot s.state s.on s.stands s.at in
-        let has : HasTotals n before.bytes s.state.spec = s.so says.max in (
-          omega (arith, has.there, says.few),
-          omega (arith, totals_within_said n before.bytes s.state.spec has, says.within),
-        )
+texts_within t n old new most before single each = elim before.said [
+  | inl none ↦ (omega (arith, none.0), omega (arith, none.1))
+  | inr some ↦ (let s = some single in
+      let says : SaysWithin t most s.state.spec = each s.spot s.state s.on s.stands s.at in
+      let has : HasTotals n before.bytes s.state.spec = s.so says.max in (
+        omega (arith, has.there, says.few),
+        omega (arith, totals_within_said n before.bytes s.state.spec has, says.within),
+      ))
+]
 
 pub texts_ended : (t : Target) (n : ℕ) (old new : World) → TextsRead t n old new
     → FewFor texts_bound t old new
@@ -247,39 +240,35 @@ pub texts_failed : (t : Target) (n k : ℕ) (old mid new : World) {a b : Option 
     → ReadsText t n mid r new → FewFor texts_bound t old new
 texts_failed t n k old mid new r before went now =
     record {
-      few = λ most single each. by_said most single each
-          (went_unshared k mid new went single) now.said;
+      few = λ most single each.
+          let back = went_unshared k mid new went single in
+          elim now.said [
+            | inl none ↦ (let within = texts_within t n old mid most before back each in
+                omega (arith, before.count, now.count, none, within.0, within.1))
+            | inr some ↦ (let s = some single in
+                let was : Was (Learned (AtMaximum t (HasTotals n before.bytes)) t) old s.spot
+                s.state =
+                before.learned back s.spot s.state s.on s.stands in
+                let at : is_at was.before t ≡ true =
+                sym (is_at-only_stage t was.before s.state was.so.frame) ∙ s.at in
+                let says : SaysWithin t most was.before.spec =
+                each s.spot was.before was.on was.stands at in
+                let next : HasTotal n now.total was.before.spec =
+                subst (AtMaximum t (HasTotal n now.total))
+                (stays-spec was.before s.state was.so.frame) s.so says.max in
+                let all : HasTotals (n + 1) (before.bytes + now.total) was.before.spec =
+                totals_more n before.bytes now.total was.before.spec (was.so.so at says.max) next in
+                omega (
+                  arith,
+                  before.count,
+                  now.count,
+                  all.there,
+                  says.few,
+                  totals_within_said (n + 1) (before.bytes + now.total) was.before.spec all,
+                  says.within,
+                ))
+          ];
     }
-  where
-    by_said : (most : ℕ) → new.shared ≡ false → EachAt (SaysWithin t most) t old
-        → mid.shared ≡ false → (now.total ≡ 0)
-        ⊎ (new.shared ≡ false → SomeAt (AtMaximum t (HasTotal n now.total)) t mid)
-        → new.attempts ≤ old.attempts + texts_bound most
-    by_said most single each back (inl none) =
-        let within = texts_within t n old mid most before back each in
-        omega (arith, before.count, now.count, none, within.0, within.1)
-    by_said most single each back (inr some) =
-        let s = some single in
-        let was : Was (Learned (AtMaximum t (HasTotals n before.bytes)) t) old s.spot s.state =
-        before.learned back s.spot s.state s.on s.stands in
-        let at : is_at was.before t ≡ true =
-        sym (is_at-only_stage t was.before s.state was.so.frame) ∙ s.at in
-        let says : SaysWithin t most was.before.spec =
-        each s.spot was.before was.on was.stands at in
-        let next : HasTotal n now.total was.before.spec =
-        subst (AtMaximum t (HasTotal n now.total)) (stays-spec was.before s.state was.so.frame)
-        s.so says.max in
-        let all : HasTotals (n + 1) (before.bytes + now.total) was.before.spec =
-        totals_more n before.bytes now.total was.before.spec (was.so.so at says.max) next in
-        omega (
-          arith,
-          before.count,
-          now.count,
-          all.there,
-          says.few,
-          totals_within_said (n + 1) (before.bytes + now.total) was.before.spec all,
-          says.within,
-        )
 
 -- More calls
 

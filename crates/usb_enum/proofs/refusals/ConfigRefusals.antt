@@ -1,8 +1,7 @@
 -- Why a configuration is refused.
-use Rattle.std.proofs.Common.{◌≡◌, ◌<◌, ◌≤◌, ℕ, ◌&&◌, not, Bool, true, false, if◌then◌else◌, List}
-use Rattle.std.proofs.Common.{take, slice_get, Option, None, Some, Result, Ok, Err, is_ok, refl, ap}
-use Rattle.std.proofs.Common.{sym, subst, ◌∙◌}
-use Rattle.std.specs.Prelude.{⊤}
+use Rattle.std.proofs.Common.{◌≡◌, inl, inr, ◌<◌, ◌≤◌, ℕ, ◌&&◌, not, Bool, true, false}
+use Rattle.std.proofs.Common.{if◌then◌else◌, List, take, slice_get, Option, None, Some, Result, Ok}
+use Rattle.std.proofs.Common.{Err, is_ok, refl, ap, sym, ◌∙◌}
 use Rattle.std.proofs.lemmas.Option.{same_Some}
 use Rattle.std.specs.Global.{Vec}
 use Rattle.usb_descriptor.specs.{DescriptorFault, config_head_of, config_of, configuration_value}
@@ -13,15 +12,15 @@ use Rattle.usb_transaction.specs.{Target, NoThreeDamaged}
 use Rattle.usb_bus.specs.{StepRun}
 use Rattle.usb_pipe.specs.{PipeFault}
 use Rattle.usb_hub.specs.{unless_refused, config_given, HasText, ConfigAsked, ReadFailure}
-use Rattle.usb_enum.specs.{Cause, Stalled, BadConfiguration, EnumFault, Stop, text_read}
-use Rattle.usb_enum.specs.{is_good_text, texts_below, text_fault, config_fault, first_fault}
-use Rattle.usb_enum.specs.{DeviceFact, FailureReason, AtMaximum, HasTotal, HasConfiguration}
-use Rattle.usb_enum.specs.{HasConfigurations, Refuses, answered_or, config_text_of, any_has_value}
+use Rattle.usb_enum.specs.{Cause, Stalled, BadConfiguration, Stop, text_read, is_good_text}
+use Rattle.usb_enum.specs.{texts_below, text_fault, config_fault, first_fault, DeviceFact}
+use Rattle.usb_enum.specs.{FailureReason, AtMaximum, HasTotal, HasConfiguration, HasConfigurations}
+use Rattle.usb_enum.specs.{Refuses, answered_or, config_text_of, any_has_value}
 use Rattle.usb_enum.specs.declared.cause.Request.TheVariants as request
 use Rattle.usb_enum.specs.declared.stop.Stop.TheVariants.{Refused, Fault}
-use Rattle.usb_enum.proofs.readings.Readings.{given_allows, learns_on, text_learned}
-use Rattle.usb_enum.proofs.refusals.Refusals.{answered_ok, learned_explains, fault_explains}
-use Rattle.usb_enum.proofs.refusals.Refusals.{explains_on, request_refused}
+use Rattle.usb_enum.proofs.readings.Readings.{HasBytes, given_allows, learns_on, text_learned}
+use Rattle.usb_tree.proofs.Interface.{decided}
+use Rattle.usb_enum.proofs.refusals.Refusals.{answered_ok, learned_explains, request_refused}
 use Rattle.usb_enum.proofs.verdicts.VerdictRows.{first_fault-next}
 
 -- One configuration
@@ -73,7 +72,7 @@ IsBad t index = AtMaximum t (λ spec. config_fault spec index ≡ Some (BadConfi
 
 -- a request for one failed
 pub config_refused : (t : Target) (index wanted : ℕ) (outcome : Result (Vec ℕ) PipeFault)
-    (stop : Stop) (old new : World) → answered_or (Stalled request.Config) outcome ≡ Err stop
+    (stop : Stop) (old new : World) → Err stop ≡ answered_or (Stalled request.Config) outcome
     → 8 ≤ t.max
     → (new.shared ≡ false → EachWas (ConfigAsked t index wanted outcome) old new)
     → (NoThreeDamaged old → 8 ≤ t.max → new.shared ≡ false
@@ -88,7 +87,7 @@ config_refused t index wanted outcome stop old new is least what why =
 -- its head is malformed
 pub total_refused : (t : Target) (stalled : Cause) (index : ℕ) (outcome : Result (Vec ℕ) PipeFault)
     (bytes : Vec ℕ) (fault : DescriptorFault) (old new : World)
-    → answered_or stalled outcome ≡ Ok bytes → config_head_of bytes.items ≡ Err fault
+    → Ok bytes ≡ answered_or stalled outcome → config_head_of bytes.items ≡ Err fault
     → (new.shared ≡ false → EachWas (ConfigAsked t index 9 outcome) old new)
     → FailureReason (Refuses t (λ spec. config_fault spec index)
     (Refused (BadConfiguration index))) t old new
@@ -106,20 +105,13 @@ total_refused t stalled index outcome bytes fault old new answered head what =
 -- what was read is no configuration text
 
 bad_bytes : (bytes : List ℕ) → config_text_of bytes ≡ None → is_ok (config_of bytes) ≡ false
-bad_bytes bytes = split (is_ok (config_of bytes))
-  where
-    split : (b : Bool) → (if b then Some bytes else None) ≡ None → b ≡ false
-    split true is = absurd cc
-    split false is = refl
-
--- the first so many bytes of a configuration
-record HasStart (index total : ℕ) (bytes : List ℕ) (spec : Spec) : Type 0 where
-  pub text : List ℕ
-  pub given : config_given index spec ≡ Some text
-  pub first : bytes ≡ take total text
+bad_bytes bytes none = elim (decided (is_ok (config_of bytes))) [
+  | inl good ↦ (let some = rw good at none in absurd cc)
+  | inr bad ↦ bad
+]
 
 text_malformed : (index total : ℕ) (bytes : List ℕ) (spec : Spec) → HasTotal index total spec
-    → HasStart index total bytes spec → config_text_of bytes ≡ None
+    → HasBytes index total bytes spec → config_text_of bytes ≡ None
     → config_fault spec index ≡ Some (BadConfiguration index)
 unfolding text_read
 text_malformed index total bytes spec head start none =
@@ -133,7 +125,7 @@ text_malformed index total bytes spec head start none =
 pub text_refused : (t : Target) (stalled : Cause) (index total n : ℕ)
     (outcome : Result (Vec ℕ) PipeFault) (bytes : Vec ℕ) (old mid new : World)
     {r s : Option (List ℕ)}
-    → answered_or stalled outcome ≡ Ok bytes → config_text_of bytes.items ≡ None
+    → Ok bytes ≡ answered_or stalled outcome → config_text_of bytes.items ≡ None
     → DeviceFact (AtMaximum t (HasTotal index total)) t old mid → StepRun n mid r new s
     → (new.shared ≡ false → EachWas (ConfigAsked t index total outcome) mid new)
     → FailureReason (Refuses t (λ spec. config_fault spec index)
@@ -141,16 +133,16 @@ pub text_refused : (t : Target) (stalled : Cause) (index total n : ℕ)
 text_refused t stalled index total n outcome bytes old mid new answered none head went what =
     learned_explains (IsBad t index) (Refuses t (λ spec. config_fault spec index)
     (Refused (BadConfiguration index))) t old new (λ spec bad r. bad r.max)
-    (learns_on (AtMaximum t (HasTotal index total)) (AtMaximum t (HasStart index total bytes.items))
+    (learns_on (AtMaximum t (HasTotal index total)) (AtMaximum t (HasBytes index total bytes.items))
     (IsBad t index) t n old mid new
     (λ spec h s max. text_malformed index total bytes.items spec (h max) (s max) none) head went
-    (text_learned (config_given index) (HasStart index total bytes.items) t total outcome bytes mid
+    (text_learned (config_given index) (HasBytes index total bytes.items) t total outcome bytes mid
     new (answered_ok stalled outcome bytes answered)
     (λ spec whole given first. record { text = whole; given = given; first = first }) what))
 
 -- The first bad one
 
-first_refused : (t : Target) (i count : ℕ) (texts : List (List ℕ)) → i < count
+pub first_refused : (t : Target) (i count : ℕ) (texts : List (List ℕ)) → i < count
     → (stop : Stop) (spec : Spec) → AtMaximum t (HasConfigurations i texts) spec
     → Refuses t (λ spec. config_fault spec i) stop spec
     → Refuses t (λ spec. first_fault spec count) stop spec
@@ -158,28 +150,14 @@ first_refused t i count texts below (Refused cause) spec before refused r =
     first_fault-next spec i count cause below (before r.max).good (refused r)
 first_refused t i count texts below (Fault fault) spec before refused r = tt
 
-pub reading_refused : (t : Target) (i count m n : ℕ) (texts : List (List ℕ)) (stop : Stop)
-    (old mid new : World) {q r s u : Option (List ℕ)} → i < count
-    → DeviceFact (AtMaximum t (HasConfigurations i texts)) t old mid → StepRun m old q mid r
-    → StepRun n mid s new u → FailureReason (Refuses t (λ spec. config_fault spec i) stop) t mid new
-    → FailureReason (Refuses t (λ spec. first_fault spec count) stop) t old new
-reading_refused t i count m n texts stop old mid new below =
-    explains_on (AtMaximum t (HasConfigurations i texts))
-    (Refuses t (λ spec. config_fault spec i) stop)
-    (Refuses t (λ spec. first_fault spec count) stop) t m n old mid new
-    (first_refused t i count texts below stop)
-
 repeated_first : (t : Target) (i count : ℕ) (texts : List (List ℕ)) (text : List ℕ) → i < count
     → any_has_value (configuration_value text) texts ≡ true → (spec : Spec)
     → HasConfigurations i texts spec → HasConfiguration i text spec
     → first_fault spec count ≡ Some (BadConfiguration i)
 repeated_first t i count texts text below again spec before now =
-    let Again : List ℕ → List (List ℕ) → Type 0 = λ x xs. any_has_value (configuration_value x) xs
-    ≡ true in
     first_fault-next spec i count (BadConfiguration i) below before.good
     (config_repeated spec i now.text now.given now.good
-    (subst (Again (text_read now.text)) before.read
-    (subst (λ x. Again x texts) now.read again)))
+    (rw (before.read, now.read) at again))
 
 pub repeated_refused : (t : Target) (i count n : ℕ) (texts : List (List ℕ)) (text : List ℕ)
     (old mid new : World) {r s : Option (List ℕ)} → i < count
@@ -196,14 +174,3 @@ repeated_refused t i count n texts text old mid new below again before went now 
     (learns_on (AtMaximum t (HasConfigurations i texts)) (AtMaximum t (HasConfiguration i text))
     First t n old mid new (λ spec b h max. repeated_first t i count texts text below again
     spec (b max) (h max)) before went now)
-
--- it was read, and then memory was refused
-pub reading_failed : (t : Target) (i count n : ℕ) (text : List ℕ) (texts : List (List ℕ))
-    (fault : EnumFault) (old mid new : World) {r s : Option (List ℕ)}
-    → DeviceFact (AtMaximum t (HasConfigurations i texts)) t old mid → StepRun n mid r new s
-    → DeviceFact (AtMaximum t (HasConfiguration i text)) t mid new
-    → FailureReason (Refuses t (λ spec. first_fault spec count) (Fault fault)) t old new
-reading_failed t i count n text texts fault old mid new before went now =
-    fault_explains (λ spec. ⊤) t (λ spec. first_fault spec count) fault old new
-    (learns_on (AtMaximum t (HasConfigurations i texts)) (AtMaximum t (HasConfiguration i text))
-    (λ spec. ⊤) t n old mid new (λ spec a b. tt) before went now)

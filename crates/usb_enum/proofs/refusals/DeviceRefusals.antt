@@ -13,7 +13,7 @@ use Rattle.usb_descriptor.specs.{DescriptorFault, Short, device_head_of, device_
 use Rattle.usb_descriptor.specs.{device_after}
 use Rattle.usb_world.specs.{BusFault, EachWas, World}
 use Rattle.usb_tree.specs.{address_of}
-use Rattle.usb_tree.proofs.Interface.{equal_same, false_true}
+use Rattle.usb_tree.proofs.Interface.{decided, equal_same, false_true}
 use Rattle.usb_transaction.specs.{Target, HadOne, NoThreeDamaged}
 use Rattle.usb_address.specs.{AddressMap, MapHolds}
 use Rattle.usb_address.proofs.Interface.{same_setup}
@@ -32,8 +32,7 @@ use Rattle.usb_enum.specs.declared.stop.Stop.TheVariants.{Refused}
 use Rattle.usb_enum.proofs.readings.Heads.{answered}
 use Rattle.usb_enum.proofs.courses.Stretches.{device_goes}
 use Rattle.usb_enum.proofs.refusals.Refusals.{answered_ok, FailsForSpec, answered_err}
-use Rattle.usb_enum.proofs.refusals.Refusals.{learned_explains, failure_explains, stop_explains}
-use Rattle.usb_enum.proofs.refusals.Refusals.{request_refused}
+use Rattle.usb_enum.proofs.refusals.Refusals.{learned_explains, failure_explains}
 
 device_stalls : {X : Type 0} (refused : Bool) (given : X) → unless_refused refused (Some given)
     ≡ None → refused ≡ true
@@ -42,7 +41,8 @@ device_stalls false given none = absurd cc
 
 -- Its head
 
-head_failed : (low : Bool) (spec : Spec) (fault : PipeFault) → FailsForSpec device_given fault spec
+pub head_failed : (low : Bool) (spec : Spec) (fault : PipeFault) → FailsForSpec device_given fault
+    spec
     → IsRefusedFor (head_fault low) (unwrap_or (stop_of fault) (Refused (Stalled request.Device)))
     spec
 unfolding head_fault
@@ -60,20 +60,8 @@ head_malformed : (low : Bool) (spec : Spec) → spec.silent ≡ false → spec.b
 unfolding head_fault
 head_malformed low spec loud free device bad = rw (loud, free, device, bad) refl
 
-pub head_unanswered : (t : Target) (outcome : Result (Vec ℕ) PipeFault) (stop : Stop)
-    (old new : World) → answered_or (Stalled request.Device) outcome ≡ Err stop → 8 ≤ t.max
-    → (new.shared ≡ false → EachWas (DeviceAsked t 8 outcome) old new)
-    → (NoThreeDamaged old → 8 ≤ t.max → new.shared ≡ false
-    → EachWas (ReadFailure t 8 outcome) old new)
-    → FailureReason (IsRefusedFor (head_fault t.low) stop) t old new
-head_unanswered t outcome stop old new is least what why =
-    stop_explains device_given (λ s bytes. HasText (device_given s.spec) t 8 s bytes.items) t 8
-    outcome old new what least why
-    (IsRefusedFor (head_fault t.low)) (Stalled request.Device) stop is
-    (λ spec fault fails. head_failed t.low spec fault (fails (inr (omega arith))))
-
 pub head_refused : (t : Target) (bytes : Vec ℕ) (fault : DescriptorFault) (stalled : Cause)
-    (outcome : Result (Vec ℕ) PipeFault) (old new : World) → answered_or stalled outcome ≡ Ok bytes
+    (outcome : Result (Vec ℕ) PipeFault) (old new : World) → Ok bytes ≡ answered_or stalled outcome
     → device_head_of t.low bytes.items ≡ Err fault
     → EndsAfter 3 old outcome new → KeepsAnswered t.addr old outcome new
     → (new.shared ≡ false → EachWas (DeviceAsked t 8 outcome) old new)
@@ -88,7 +76,7 @@ head_refused t bytes fault stalled outcome old new e bad ends addresses what =
 
 -- The whole descriptor
 
-device_ungiven : (low : Bool) (spec : Spec) → device_given spec ≡ None
+pub device_ungiven : (low : Bool) (spec : Spec) → device_given spec ≡ None
     → device_fault low spec ≡ Some (Stalled request.Device)
 unfolding device_fault
 device_ungiven low spec none = rw (device_stalls spec.stalls.device spec.descriptor none) refl
@@ -97,17 +85,6 @@ device_malformed : (low : Bool) (spec : Spec) → spec.stalls.device ≡ false
     → is_device low (take 18 spec.descriptor) ≡ false → device_fault low spec ≡ Some BadDevice
 unfolding device_fault
 device_malformed low spec device bad = rw (device, bad) refl
-
-pub descriptor_unanswered : (t : Target) (outcome : Result (Vec ℕ) PipeFault) (stop : Stop)
-    (old new : World) → answered_or (Stalled request.Device) outcome ≡ Err stop → 8 ≤ t.max
-    → (new.shared ≡ false → EachWas (DeviceAsked t 18 outcome) old new)
-    → (NoThreeDamaged old → 8 ≤ t.max → new.shared ≡ false
-    → EachWas (ReadFailure t 18 outcome) old new)
-    → FailureReason (Refuses t (device_fault t.low) stop) t old new
-descriptor_unanswered t outcome stop old new is least what why =
-    request_refused device_given (λ s bytes. HasText (device_given s.spec) t 18 s bytes.items) t 18
-    outcome old new what least why
-    (device_fault t.low) (Stalled request.Device) stop is (device_ungiven t.low)
 
 -- a responsive device gives an answer
 pub descriptor_none : (t : Target) (outcome : Result (Vec ℕ) PipeFault) (old new : World)
@@ -150,7 +127,7 @@ module _ (t : Target) (outcome : Result (Vec ℕ) PipeFault) (old new : World)
         (addresses.keeps.kept f o).single);
   }
 
-  pub refused_who : (stop : Stop) → answered_or (Stalled request.Device) outcome ≡ Err stop
+  pub refused_who : (stop : Stop) → Err stop ≡ answered_or (Stalled request.Device) outcome
       → (outcome ≡ Err pipe.NoAnswer → ⊥) → (cause : Cause) → stop ≡ Refused cause
       → IsClaimed t.addr old
   refused_who stop told some cause is = let failed =
@@ -170,14 +147,12 @@ module _ (t : Target) (outcome : Result (Vec ℕ) PipeFault) (old new : World)
       by_fault (pipe.Bus why) e k = absurd cc
       by_fault pipe.Memory e k = absurd cc
 
-  pub answered_who : (stalled : Cause) (bytes : Vec ℕ) → answered_or stalled outcome ≡ Ok bytes
+  pub answered_who : (stalled : Cause) (bytes : Vec ℕ) → Ok bytes ≡ answered_or stalled outcome
       → IsClaimed t.addr old
-  answered_who stalled bytes told =
-      (subst (λ r. KeepsAnswered t.addr old r new) (answered_ok stalled outcome bytes told)
-      addresses).who
+  answered_who stalled bytes told = (rw (answered_ok stalled outcome bytes told) at addresses).who
 
 pub descriptor_refused : (t : Target) (bytes : Vec ℕ) (stalled : Cause)
-    (outcome : Result (Vec ℕ) PipeFault) (old new : World) → answered_or stalled outcome ≡ Ok bytes
+    (outcome : Result (Vec ℕ) PipeFault) (old new : World) → Ok bytes ≡ answered_or stalled outcome
     → is_device t.low (take 18 bytes.items) ≡ false
     → EndsAfter 3 old outcome new → KeepsAnswered t.addr old outcome new
     → (new.shared ≡ false → EachWas (DeviceAsked t 18 outcome) old new)
@@ -231,10 +206,7 @@ pub device_read : (t : Target) (front : List ℕ) (old new : World) → Descript
     → (is_device t.low front ≡ false → RefusesDescriptor t (Refused BadDevice) old new)
     → MatchResult (device_bytes t.low front) (Both (DescriptorTold t) (FindsDescriptor t) old new)
     (StopsDescriptor t old new)
-device_read t front old new read found bad = split (is_device t.low front) refl
-  where
-    split : (is : Bool) → is_device t.low front ≡ is
-        → MatchResult (if is then Ok (Some front) else Err (Refused BadDevice))
-        (Both (DescriptorTold t) (FindsDescriptor t) old new) (StopsDescriptor t old new)
-    split true e = record { told = read; so = found }
-    split false e = record { told = bad_front front read e; so = bad e }
+device_read t front old new read found bad = elim (decided (is_device t.low front)) [
+  | inl e ↦ rw e (record { told = read; so = found })
+  | inr e ↦ rw e (record { told = bad_front front read e; so = bad e })
+]

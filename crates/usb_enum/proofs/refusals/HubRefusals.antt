@@ -1,5 +1,5 @@
 -- Why a hub is refused by what it gives.
-use Rattle.std.proofs.Common.{◌≡◌, ◌≤◌, ℕ, ◌&&◌, not, Bool, true, false, if◌then◌else◌, List, take}
+use Rattle.std.proofs.Common.{◌≡◌, ℕ, ◌&&◌, not, Bool, true, false, if◌then◌else◌, List, take}
 use Rattle.std.proofs.Common.{Option, None, Some, option_map, Result, Ok, Err, is_ok, refl, ap, sym}
 use Rattle.std.proofs.Common.{◌∙◌}
 use Rattle.std.proofs.lemmas.Option.{same_Some}
@@ -7,36 +7,32 @@ use Rattle.std.specs.Global.{Vec}
 use Rattle.usb_descriptor.specs.{DescriptorFault, hub_spelled}
 use Rattle.usb_device.specs.{Spec, Hub}
 use Rattle.usb_world.specs.{EachWas, World}
-use Rattle.usb_transaction.specs.{Target, NoThreeDamaged}
+use Rattle.usb_tree.proofs.Interface.{and_false}
+use Rattle.usb_transaction.specs.{Target}
 use Rattle.usb_pipe.specs.{PipeFault}
-use Rattle.usb_hub.specs.{DeviceStatus, unless_refused, hub_given, status_given, HasText, HubAsked}
-use Rattle.usb_hub.specs.{StatusAsked, ReadFailure}
-use Rattle.usb_enum.specs.{Cause, BadHub, Stop, gives_hub, FailureReason, AtMaximum, Refuses}
-use Rattle.usb_enum.specs.{hub_fault, answered_or}
+use Rattle.usb_hub.specs.{unless_refused, hub_given, HubAsked}
+use Rattle.usb_enum.specs.{Cause, BadHub, gives_hub, FailureReason, AtMaximum, Refuses, hub_fault}
+use Rattle.usb_enum.specs.{answered_or}
 use Rattle.usb_enum.specs.declared.stop.Stop.TheVariants.{Refused}
 use Rattle.usb_enum.proofs.readings.Readings.{given_allows, text_learned}
-use Rattle.usb_enum.proofs.refusals.Refusals.{answered_ok, learned_explains, request_refused}
+use Rattle.usb_enum.proofs.refusals.Refusals.{answered_ok, learned_explains}
 
 not_all : (a b c : Bool) → a ≡ false → (a && b && c) ≡ false
-not_all true b c h = absurd cc
-not_all false b c h = refl
+not_all a b c h = rw h refl
 
 not_second : (a b c : Bool) → b ≡ false → (a && b && c) ≡ false
-not_second true b c h = ap (λ x. x && c) h
-not_second false b c h = refl
+not_second a b c h = rw (h, and_false a) refl
 
 not_third : (a b c : Bool) → c ≡ false → (a && b && c) ≡ false
-not_third true true c h = h
-not_third true false c h = refl
-not_third false b c h = refl
+not_third a b c h = rw h (and_false (a && b))
 
-unless_refused-not : {X : Type 0} (refused : Bool) (given : X) → unless_refused refused (Some given)
-    ≡ None → not refused ≡ false
+pub unless_refused-not : {X : Type 0} (refused : Bool) (given : X) → unless_refused refused (Some
+    given) ≡ None → not refused ≡ false
 unless_refused-not true given none = refl
 unless_refused-not false given none = absurd cc
 
 -- it does not give its descriptor
-hub_ungiven : (spec : Spec) (o : Option Hub)
+pub hub_ungiven : (spec : Spec) (o : Option Hub)
     → unless_refused spec.stalls.hub (option_map (λ (hub : Hub). hub.descriptor) o) ≡ None
     → gives_hub spec o ≡ false
 hub_ungiven spec None none = refl
@@ -55,29 +51,18 @@ hub_malformed spec (Some hub) text is bad =
     (ap (λ x. is_ok (hub_spelled (take 9 x))) (same_Some hub.descriptor text is) ∙ bad)
 
 -- it does not give its status
-status_ungiven : (spec : Spec) (o : Option Hub) → not spec.stalls.status ≡ false
+pub status_ungiven : (spec : Spec) (o : Option Hub) → not spec.stalls.status ≡ false
     → gives_hub spec o ≡ false
 status_ungiven spec None h = refl
 status_ungiven spec (Some hub) h = not_second (not spec.stalls.hub) (not spec.stalls.status)
     (is_ok (hub_spelled (take 9 hub.descriptor))) h
 
-bad_hub : (spec : Spec) → gives_hub spec spec.hub ≡ false → hub_fault spec ≡ Some BadHub
+pub bad_hub : (spec : Spec) → gives_hub spec spec.hub ≡ false → hub_fault spec ≡ Some BadHub
 bad_hub spec bad = ap (λ b. if b then None else Some BadHub) bad
-
-pub count_unanswered : (t : Target) (outcome : Result (Vec ℕ) PipeFault) (stop : Stop)
-    (old new : World) → answered_or BadHub outcome ≡ Err stop → 8 ≤ t.max
-    → (new.shared ≡ false → EachWas (HubAsked t outcome) old new)
-    → (NoThreeDamaged old → 8 ≤ t.max → new.shared ≡ false
-    → EachWas (ReadFailure t 9 outcome) old new)
-    → FailureReason (Refuses t hub_fault stop) t old new
-count_unanswered t outcome stop old new is least what why =
-    request_refused hub_given (λ s bytes. HasText (hub_given s.spec) t 9 s bytes.items) t 9 outcome
-    old new what least why
-    hub_fault BadHub stop is (λ spec none. bad_hub spec (hub_ungiven spec spec.hub none))
 
 pub count_refused : (t : Target) (stalled : Cause) (outcome : Result (Vec ℕ) PipeFault)
     (bytes : Vec ℕ) (fault : DescriptorFault) (old new : World)
-    → answered_or stalled outcome ≡ Ok bytes → hub_spelled bytes.items ≡ Err fault
+    → Ok bytes ≡ answered_or stalled outcome → hub_spelled bytes.items ≡ Err fault
     → (new.shared ≡ false → EachWas (HubAsked t outcome) old new)
     → FailureReason (Refuses t hub_fault (Refused BadHub)) t old new
 count_refused t stalled outcome bytes fault old new answered bad what =
@@ -90,15 +75,3 @@ count_refused t stalled outcome bytes fault old new answered bad what =
     (given_allows spec.stalls.hub (option_map (λ (hub : Hub). hub.descriptor) spec.hub) text
     given).1 (ap is_ok (ap hub_spelled (sym first) ∙ bad))))
     what)
-
-pub supply_unanswered : (t : Target) (outcome : Result DeviceStatus PipeFault) (stop : Stop)
-    (old new : World) → answered_or BadHub outcome ≡ Err stop → 8 ≤ t.max
-    → (new.shared ≡ false → EachWas (StatusAsked t outcome) old new)
-    → (NoThreeDamaged old → 8 ≤ t.max → new.shared ≡ false
-    → EachWas (ReadFailure t 2 outcome) old new)
-    → FailureReason (Refuses t hub_fault stop) t old new
-supply_unanswered t outcome stop old new is least what why =
-    request_refused status_given (λ s status. status_given s.spec ≡ Some status) t 2 outcome old new
-    what least why
-    hub_fault BadHub stop is (λ spec none. bad_hub spec
-    (status_ungiven spec spec.hub (unless_refused-not spec.stalls.status _ none)))

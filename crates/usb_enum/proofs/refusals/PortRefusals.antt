@@ -1,30 +1,28 @@
 -- A hub is not refused for the ports that it has.
-use Rattle.std.proofs.Common.{◌≡◌, ◌≤◌, ◌+◌, ℕ, ◌==◌, ◌&&◌, ◌||◌, not, Bool, true, false, List}
-use Rattle.std.proofs.Common.{if◌then◌else◌, Option, None, Some, Result, Err, refl, ap, sym, subst}
-use Rattle.std.proofs.Common.{◌∙◌, arith}
+use Rattle.std.proofs.Common.{◌≡◌, ◌≤◌, ◌+◌, ℕ, ◌&&◌, not, Bool, true, false, List, if◌then◌else◌}
+use Rattle.std.proofs.Common.{Option, None, Some, Result, Err, refl, ap, subst, arith}
 use Rattle.std.specs.Prelude.{unwrap_or, is_some, ⊤}
 use Rattle.usb_request.specs.{PORT_POWER, set_port_feature}
 use Rattle.usb_port.specs.{IsPortNumber}
 use Rattle.usb_descriptor.specs.{status_endpoint_of}
-use Rattle.usb_device.specs.{Spec, IsSpec, State, Registers, Location, reach_on, state_on}
+use Rattle.usb_device.specs.{Spec, IsSpec, Registers}
 use Rattle.usb_world.specs.{Was, World}
-use Rattle.usb_tree.specs.{deep_at}
 use Rattle.usb_world.proofs.Interface.{each_wider}
 use Rattle.usb_transaction.specs.{Target}
 use Rattle.usb_bus.specs.{StepRun}
 use Rattle.usb_bus.proofs.Interface.{went_then}
 use Rattle.usb_pipe.specs.{PipeFault}
 use Rattle.usb_pipe.specs.declared.fault.PipeFault.TheVariants as pipe
-use Rattle.usb_hub.specs.{External, StaysAs, KeepsDevices, Commanded, HasPort, HubServes}
-use Rattle.usb_hub.specs.{NoHubFailed}
+use Rattle.usb_hub.specs.{External, StaysAs, KeepsDevices, Commanded, HasPort, NoHubFailed}
 use Rattle.usb_hub.proofs.Interface.{hub_sets, stays-registers, stays-spec}
-use Rattle.usb_enum.specs.{Cause, BadHub, Stop, gives_hub, Learned, DeviceFact, HearsSet}
+use Rattle.usb_enum.specs.{Cause, BadHub, Stop, gives_hub, Learned, DeviceFact, Hears, HearsSet}
 use Rattle.usb_enum.specs.{FailureReason, ExplainsSet, AtMaximum, HasPorts, IsResponsive}
 use Rattle.usb_enum.specs.{IsRefusedFor, Refuses, RefusesNoPort, no_fault, hub_fault, start_fault}
 use Rattle.usb_enum.specs.{stop_of, answered_or}
 use Rattle.usb_enum.specs.declared.stop.Stop.TheVariants.{Refused, Fault}
+use Rattle.usb_enum.proofs.courses.Fairness.{serves_still}
 use Rattle.usb_enum.proofs.readings.HubReadings.{had_ports}
-use Rattle.usb_enum.proofs.refusals.Refusals.{answered_err, explains_set, explains_set_on}
+use Rattle.usb_enum.proofs.refusals.Refusals.{answered_err, explained_wider, explains_set_on}
 
 -- One port
 
@@ -37,30 +35,10 @@ served_stop spec pipe.Broken served = absurd served
 served_stop spec (pipe.Bus fault) served = tt
 served_stop spec pipe.Memory served = tt
 
--- a responsive hub that stays as it was serves its port
-serves_port : (t : Target) (port : ℕ) (new : World) (j : Location) (s v : State) → v.spec ≡ s.spec
-    → v.registers ≡ s.registers → reach_on new.roots j ≡ true → state_on new.roots j ≡ Some v
-    → HearsSet t j s → IsResponsive t s.spec → HasPort s.spec port → HubServes t port new
-serves_port t port new j s v spec registers on there h r has = record {
-  spot = j;
-  state = v;
-  on = on;
-  stands = there;
-  listens = record {
-    at = ap (λ (g : Registers). g.address == t.addr) registers ∙ h.hears.at;
-    loud = ap (λ (x : Spec). x.silent) spec ∙ r.loud;
-    hears = ap (λ (x : Spec). if t.low then x.low && (not (deep_at false j.rest) || t.pre) else not
-        x.low) spec ∙ h.hears.hears;
-  };
-  addressed = h.addressed;
-  configured = λ z. h.configured (sym (ap (λ (g : Registers). g.configuration) registers) ∙ z);
-  has = subst (λ x. HasPort x port) (sym spec) has;
-}
-
 -- it was given power
 pub power_explains : (t : Target) (port : ℕ) (outcome : Result (Unit {0}) PipeFault) (stop : Stop)
     (old new : World) → Commanded t (set_port_feature PORT_POWER port) old outcome new
-    → answered_or BadHub outcome ≡ Err stop → KeepsDevices old new
+    → Err stop ≡ answered_or BadHub outcome → KeepsDevices old new
     → ExplainsSet (RefusesNoPort t port stop) t old new
 power_explains t port outcome stop old new ordered is keeps three single j v on there =
     let was : Was StaysAs old j v = keeps.stays single j v on there in
@@ -76,8 +54,10 @@ power_explains t port outcome stop old new ordered is keeps three single j v on 
             let served : NoHubFailed outcome =
             (hub_sets (External t port) t port PORT_POWER old outcome new refl refl ordered).why
             t port refl three single
-            (serves_port t port new j was.before v (stays-spec was.before v was.so)
-            (stays-registers was.before v was.so) on there h r has) in
+            (serves_still t port new j was.before v (stays-spec was.before v was.so)
+            (stays-registers was.before v was.so) on there
+            (record { at = h.hears.at; loud = r.loud; hears = h.hears.hears }) h.addressed
+            h.configured has) in
             subst (λ x. IsRefusedFor no_fault x was.before.spec) failed.2
             (served_stop was.before.spec failed.0 (subst NoHubFailed failed.1 served));
       };
@@ -138,8 +118,8 @@ module _ (text : List ℕ) where
   pub asked_explains : (t : Target) (stop : Stop) (old new : World)
       → FailureReason (Refuses t hub_fault stop) t old new
       → ExplainsSet (Refuses t (start_fault text) stop) t old new
-  asked_explains t stop old new = explains_set (Refuses t hub_fault stop)
-      (Refuses t (start_fault text) stop) t old new (start_refused t stop)
+  asked_explains t stop old new = explained_wider Hears HearsSet (Refuses t hub_fault stop)
+      (Refuses t (start_fault text) stop) t old new (λ j s h. h.hears) (start_refused t stop)
 
   pub supply_explains : (t : Target) (ports m n : ℕ) (stop : Stop) (old mid new : World)
       {q r s u : Option (List ℕ)} → StepRun m old q mid r

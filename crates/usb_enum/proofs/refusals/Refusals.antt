@@ -1,13 +1,13 @@
 -- How what a refusal tells of a device joins, and why a request for data fails.
 use Rattle.usb_device.specs.{Location, Spec, IsSpec, State, Registers, max_packet}
-use Rattle.std.proofs.Common.{◌≡◌, ◌⊎◌, inl, ◌≤◌, ℕ, ◌==◌, ◌&&◌, ◌||◌, not, Bool, true, false, List}
+use Rattle.std.proofs.Common.{◌≡◌, ◌⊎◌, inl, inr, ◌≤◌, ℕ, ◌==◌, ◌&&◌, ◌||◌, not, true, false, List}
 use Rattle.std.proofs.Common.{if◌then◌else◌, Option, None, Some, Result, Ok, Err, refl, ap, sym}
 use Rattle.std.proofs.Common.{subst, ◌∙◌}
 use Rattle.std.specs.Prelude.{unwrap_or, IfOk, IfErr, IsErrAnd, MatchResult, ⊤}
 use Rattle.usb_world.specs.{Relation, EachWas, World}
 use Rattle.usb_tree.specs.{address_of, deep_at}
 use Rattle.usb_world.proofs.Interface.{each_both, each_joined, each_none, each_wider}
-use Rattle.usb_tree.proofs.Interface.{false_true}
+use Rattle.usb_tree.proofs.Interface.{decided, false_true}
 use Rattle.usb_transaction.specs.{Target, is_at, NoThreeDamaged}
 use Rattle.usb_bus.specs.{StepRun}
 use Rattle.usb_pipe.specs.{PipeFault, IsMaximum}
@@ -69,43 +69,24 @@ fault_explains A t wrong fault old new = learned_explains A (Refuses t wrong (Fa
     new (λ spec a r. tt)
 
 -- where nothing went, what is so of every description
-pub explains_none : (So : Spec → Type 0) (t : Target) (w : World) → ((spec : Spec) → So spec)
-    → FailureReason So t w w
-explains_none So t w all three single =
-    each_none (Explained Hears So t) (λ j s. record {
-      spec = refl;
-      address = refl;
-      so = λ h ruled. all s.spec;
-    }) w
+pub explained_none : (Heard : Target → Location → State → Type 0) (So : Spec → Type 0) (t : Target)
+    (w : World) → ((spec : Spec) → So spec) → NoThreeDamaged w → w.shared ≡ false
+    → EachWas (Explained Heard So t) w w
+explained_none Heard So t w all three single = each_none (Explained Heard So t)
+    (λ j s. record { spec = refl; address = refl; so = λ h ruled. all s.spec }) w
 
-pub explains_set_none : (So : Spec → Type 0) (t : Target) (w : World) → ((spec : Spec) → So spec)
-    → ExplainsSet So t w w
-explains_set_none So t w all three single =
-    each_none (Explained HearsSet So t) (λ j s. record {
-      spec = refl;
-      address = refl;
-      so = λ h ruled. all s.spec;
-    }) w
-
-pub explains_wider : (A B : Spec → Type 0) (t : Target) (old new : World)
-    → ((spec : Spec) → A spec → B spec) → FailureReason A t old new → FailureReason B t old new
-explains_wider A B t old new f x three single =
-    each_wider (Explained Hears A t) (Explained Hears B t)
+-- of one that hears in the one way as of one that hears in the other
+pub explained_wider : (Heard Hearing : Target → Location → State → Type 0) (A B : Spec → Type 0)
+    (t : Target) (old new : World) → ((j : Location) (s : State) → Hearing t j s → Heard t j s)
+    → ((spec : Spec) → A spec → B spec)
+    → (NoThreeDamaged old → new.shared ≡ false → EachWas (Explained Heard A t) old new)
+    → NoThreeDamaged old → new.shared ≡ false → EachWas (Explained Hearing B t) old new
+explained_wider Heard Hearing A B t old new at f x three single =
+    each_wider (Explained Heard A t) (Explained Hearing B t)
     (λ j s v e. record {
       spec = e.spec;
       address = e.address;
-      so = λ h ruled. f s.spec (e.so h ruled);
-    }) old new (x three single)
-
--- of a device that is configured as of any
-pub explains_set : (A B : Spec → Type 0) (t : Target) (old new : World)
-    → ((spec : Spec) → A spec → B spec) → FailureReason A t old new → ExplainsSet B t old new
-explains_set A B t old new f x three single =
-    each_wider (Explained Hears A t) (Explained HearsSet B t)
-    (λ j s v e. record {
-      spec = e.spec;
-      address = e.address;
-      so = λ h ruled. f s.spec (e.so h.hears ruled);
+      so = λ h ruled. f s.spec (e.so (at j s h) ruled);
     }) old new (x three single)
 
 -- after what was learned
@@ -189,13 +170,13 @@ responsive_stop given t wrong stalled spec r f (pipe.Bus fault) why = tt
 responsive_stop given t wrong stalled spec r f pipe.Memory why = tt
 
 pub answered_err : {A : Type 0} (stalled : Cause) (outcome : Result A PipeFault) (stop : Stop)
-    → answered_or stalled outcome ≡ Err stop → (fault : PipeFault) × (outcome ≡ Err fault)
+    → Err stop ≡ answered_or stalled outcome → (fault : PipeFault) × (outcome ≡ Err fault)
     × (unwrap_or (stop_of fault) (Refused stalled) ≡ stop)
 answered_err stalled (Ok given) stop is = absurd cc
 answered_err stalled (Err fault) stop is = (fault, refl, cc)
 
 pub answered_ok : {A : Type 0} (stalled : Cause) (outcome : Result A PipeFault) (answer : A)
-    → answered_or stalled outcome ≡ Ok answer → outcome ≡ Ok answer
+    → Ok answer ≡ answered_or stalled outcome → outcome ≡ Ok answer
 answered_ok stalled (Ok given) answer is = cc
 answered_ok stalled (Err fault) answer is = absurd cc
 
@@ -207,17 +188,18 @@ module _ {A X : Type 0} (given : Spec → Option X) (Has : State → A → Type 
       → FailsForSpec given fault s.spec
   read_fails pipe.Stalled j s v x y h ruled max =
       ((x.could h.at).0, (x.could h.at).1, x.stalled h.at refl)
-  read_fails pipe.Busy j s v x y h ruled max = (x.could h.at, pick s.spec.busy refl)
-    where
-      pick : (b : Bool) → s.spec.busy ≡ b → b ≡ true
-      pick true e = refl
-      pick false e = absurd (y.waited (record { at = h.at; loud = x.could h.at; hears = h.hears })
+  read_fails pipe.Busy j s v x y h ruled max = (
+    x.could h.at,
+    elim (decided s.spec.busy) [
+      | inl e ↦ e
+      | inr e ↦ absurd (y.waited (record { at = h.at; loud = x.could h.at; hears = h.hears })
           max e ruled.naks refl)
-  read_fails pipe.NoAnswer j s v x y h ruled max = pick s.spec.silent refl
-    where
-      pick : (b : Bool) → s.spec.silent ≡ b → b ≡ true
-      pick true e = refl
-      pick false e = absurd (y.answered (record { at = h.at; loud = e; hears = h.hears }) max refl)
+    ],
+  )
+  read_fails pipe.NoAnswer j s v x y h ruled max = elim (decided s.spec.silent) [
+    | inl e ↦ e
+    | inr e ↦ absurd (y.answered (record { at = h.at; loud = e; hears = h.hears }) max refl)
+  ]
   read_fails pipe.Broken j s v x y h ruled max = x.could h.at
   read_fails (pipe.Bus fault) j s v x y h ruled max = tt
   read_fails pipe.Memory j s v x y h ruled max = tt
@@ -242,7 +224,7 @@ module _ {A X : Type 0} (given : Spec → Option X) (Has : State → A → Type 
 
     -- by its answer to the host
     pub stop_explains : (So : Stop → Spec → Type 0) (stalled : Cause) (stop : Stop)
-        → answered_or stalled outcome ≡ Err stop
+        → Err stop ≡ answered_or stalled outcome
         → ((spec : Spec) (fault : PipeFault) → (((max_packet spec ≡ t.max) ⊎ (wanted ≤ 8))
         → FailsForSpec given fault spec) → So (unwrap_or (stop_of fault) (Refused stalled))
         spec) → FailureReason (So stop) t old new
@@ -252,7 +234,7 @@ module _ {A X : Type 0} (given : Spec → Option X) (Has : State → A → Type 
         (λ spec why. subst (λ x. So x spec) failed.2 (f spec failed.0 why))
 
     pub request_refused : (wrong : Spec → Option Cause) (stalled : Cause) (stop : Stop)
-        → answered_or stalled outcome ≡ Err stop
+        → Err stop ≡ answered_or stalled outcome
         → ((spec : Spec) → given spec ≡ None → wrong spec ≡ Some stalled)
         → FailureReason (Refuses t wrong stop) t old new
     request_refused wrong stalled stop is f = stop_explains (Refuses t wrong) stalled stop is

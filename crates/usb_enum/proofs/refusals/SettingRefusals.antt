@@ -1,6 +1,6 @@
 -- Why a device that has its address is refused.
 use Rattle.usb_device.specs.{Location, is_value, State, Spec, IsSpec}
-use Rattle.std.proofs.Common.{◌≡◌, ◌≢◌, ◌⊎◌, inl, inr, ◌<◌, ℕ, ◌==◌, ◌&&◌, not, Bool, true, false}
+use Rattle.std.proofs.Common.{◌≡◌, ◌≢◌, inl, inr, ◌<◌, ℕ, ◌==◌, ◌&&◌, not, true, false}
 use Rattle.std.proofs.Common.{List, [], length, slice_index_or, if◌then◌else◌, Option, None, Some}
 use Rattle.std.proofs.Common.{Result, Ok, Err, refl, ap, sym, subst, ◌∙◌}
 use Rattle.std.specs.Prelude.{unwrap_or}
@@ -24,29 +24,20 @@ use Rattle.usb_enum.specs.{answered_or, choice_of}
 use Rattle.usb_enum.specs.declared.cause.Request.TheVariants as request
 use Rattle.usb_enum.specs.declared.stop.Stop.TheVariants.{Refused, Fault}
 use Rattle.usb_enum.proofs.courses.Damages.{went_three}
-use Rattle.usb_enum.proofs.refusals.Refusals.{answered_err, each_joint, hears_on, explains_none}
-use Rattle.usb_enum.proofs.refusals.Refusals.{explains_wider, explains_on, learned_explains}
+use Rattle.usb_enum.proofs.refusals.Refusals.{answered_err, each_joint, hears_on, explained_none}
+use Rattle.usb_enum.proofs.refusals.Refusals.{explained_wider, explains_on, learned_explains}
 use Rattle.usb_enum.proofs.readings.Settings.{Allowed}
 use Rattle.usb_enum.proofs.readings.SettingValues.{chosen_value}
+use Rattle.usb_enum.proofs.ports.Hubs.{deep_is, fits_tier-hub}
 use Rattle.usb_enum.proofs.devices.SharedAddresses.{went_unshared}
 
 -- What is wrong with a description, row by row
-
-deep_by : (deep : Bool) (done : Unit {0}) (rest : Option Cause) (cause : Cause)
-    → (if deep then Err (Refused TooDeep) else Ok done) ≡ Err (Refused cause)
-    → (if deep then Some TooDeep else rest) ≡ Some cause
-deep_by true done rest cause is = cc
-deep_by false done rest cause is = absurd cc
 
 module _ (tier supply : ℕ) (bytes : List ℕ) (spec : Spec) where
   refused_deep : (stop : Stop) → fits_tier tier bytes ≡ Err stop
       → IsRefusedFor (configured_fault tier supply bytes) stop spec
   unfolding configured_fault
-  refused_deep (Refused cause) is = deep_by (is_hub_device bytes && tier == 7) tt
-      (option_or (first_fault spec (configuration_count bytes))
-      (chosen_fault (is_hub_device bytes) (texts_below spec (configuration_count bytes))
-      (choice_of supply (texts_below spec (configuration_count bytes))) spec)) cause is
-  refused_deep (Fault fault) is = tt
+  refused_deep stop is = let deep = deep_is tier bytes stop is in rw (deep.0, deep.1) refl
 
   -- where it is not too deep
   module _ (shallow : (is_hub_device bytes && tier == 7) ≡ false) where
@@ -72,10 +63,6 @@ module _ (tier supply : ℕ) (bytes : List ℕ) (spec : Spec) where
 
 -- SET_CONFIGURATION
 
-setting_stalled : (spec : Spec) → spec.stalls.set_config ≡ true
-    → setting_fault spec ≡ Some (Stalled request.SetConfig)
-setting_stalled spec h = ap (λ b. if b then Some (Stalled request.SetConfig) else None) h
-
 -- a device that has an address takes the value of one of its configurations
 takes_value-true : (t : Target) (value : ℕ) (s : State) → t.addr ≢ 0
     → (address_of s == t.addr) ≡ true → is_value s.spec.configs value ≡ true
@@ -93,12 +80,10 @@ module _ (t : Target) (value : ℕ) (last : World) (some : t.addr ≢ 0) where
       → is_value s.spec.configs value ≡ true → IsResponsive t s.spec
       → IsRefusedFor setting_fault (unwrap_or (stop_of fault)
       (Refused (Stalled request.SetConfig))) s.spec
-  setting_stop pipe.Stalled j s v x y h ruled taken r = pick (x.stalled h.at refl)
-    where
-      pick : (s.spec.stalls.set_config ≡ true) ⊎ (takes_value s value ≡ false)
-          → setting_fault s.spec ≡ Some (Stalled request.SetConfig)
-      pick (inl e) = setting_stalled s.spec e
-      pick (inr e) = false_true (sym e ∙ takes_value-true t value s some h.at taken)
+  setting_stop pipe.Stalled j s v x y h ruled taken r = elim (x.stalled h.at refl) [
+    | inl e ↦ ap (λ b. if b then Some (Stalled request.SetConfig) else None) e
+    | inr e ↦ false_true (sym e ∙ takes_value-true t value s some h.at taken)
+  ]
   setting_stop pipe.Busy j s v x y h ruled taken r =
       absurd (y.waited (record { at = h.at; loud = r.loud; hears = h.hears }) r.free ruled.naks
       refl)
@@ -113,7 +98,7 @@ RefusesValue t value stop spec = is_value spec.configs value ≡ true
     → Refuses t setting_fault stop spec
 
 setting_refused : (t : Target) (value : ℕ) (outcome : Result (Unit {0}) PipeFault) (stop : Stop)
-    (old new : World) → t.addr ≢ 0 → answered_or (Stalled request.SetConfig) outcome ≡ Err stop
+    (old new : World) → t.addr ≢ 0 → Err stop ≡ answered_or (Stalled request.SetConfig) outcome
     → (new.shared ≡ false → EachWas (ConfigurationAsked t value outcome new) old new)
     → (NoThreeDamaged old → new.shared ≡ false → EachWas (WriteFailure t outcome) old new)
     → FailureReason (RefusesValue t value stop) t old new
@@ -181,17 +166,12 @@ module _ (t : Target) (tier supply : ℕ) (bytes : List ℕ) where
   -- it is too deep
   pub deep_refused : (stop : Stop) (w : World) → fits_tier tier bytes ≡ Err stop
       → FailureReason (Refuses t wrong stop) t w w
-  deep_refused stop w is = explains_none (Refuses t wrong stop) t w
+  deep_refused stop w is = explained_none Hears (Refuses t wrong stop) t w
       (λ spec r. refused_deep tier supply bytes spec stop is)
 
   module _ (fits : fits_tier tier bytes ≡ Ok tt) where
     shallow : (is_hub_device bytes && tier == 7) ≡ false
-    shallow = split (is_hub_device bytes && tier == 7) fits
-      where
-        split : (deep : Bool) → (let done : Result (Unit {0}) Stop =
-            if deep then Err (Refused TooDeep) else Ok tt in done ≡ Ok tt) → deep ≡ false
-        split true is = absurd cc
-        split false is = refl
+    shallow = fits_tier-hub tier bytes fits
 
     -- a configuration is bad
     pub read_refused : (count : ℕ) (stop : Stop) (old new : World)
@@ -199,8 +179,8 @@ module _ (t : Target) (tier supply : ℕ) (bytes : List ℕ) where
         → FailureReason (Refuses t (λ spec. first_fault spec count) stop) t old new
         → FailureReason (Refuses t wrong stop) t old new
     read_refused count stop old new same =
-        explains_wider (Refuses t (λ spec. first_fault spec count) stop) (Refuses t wrong stop) t
-        old new (so stop)
+        explained_wider Hears Hears (Refuses t (λ spec. first_fault spec count) stop)
+        (Refuses t wrong stop) t old new (λ j s h. h) (so stop)
       where
         so : (stop : Stop) (spec : Spec) → Refuses t (λ spec. first_fault spec count) stop spec
             → Refuses t wrong stop spec
@@ -242,7 +222,7 @@ module _ (t : Target) (tier supply : ℕ) (bytes : List ℕ) where
             (old mid new : World) {q r s u : Option (List ℕ)} → t.addr ≢ 0 → chosen < length texts
             → value ≡ configuration_value (slice_index_or texts chosen []) → value < 256
             → DeviceFact Read t old mid → StepRun m old q mid r → StepRun n mid s new u
-            → answered_or (Stalled request.SetConfig) outcome ≡ Err stop
+            → Err stop ≡ answered_or (Stalled request.SetConfig) outcome
             → (new.shared ≡ false → EachWas (ConfigurationAsked t value outcome new) mid new)
             → (NoThreeDamaged mid → new.shared ≡ false → EachWas (WriteFailure t outcome) mid new)
             → FailureReason (Refuses t wrong stop) t old new

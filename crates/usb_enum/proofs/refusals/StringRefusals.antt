@@ -1,25 +1,23 @@
 -- A device is never refused for a string.
-use Rattle.std.proofs.Common.{◌≡◌, ◌+◌, ◌≤◌, ℕ, inl, false, List, Option, Some, Result, Err, sym}
-use Rattle.std.proofs.Common.{subst, ◌∙◌}
+use Rattle.std.proofs.Common.{◌≡◌, ◌+◌, ◌≤◌, ℕ, List, Option, Some, Result, Err, sym, subst, ◌∙◌}
 use Rattle.std.specs.Prelude.{IsErrAnd, ⊤}
 use Rattle.std.proofs.lemmas.Option.{same_Some}
-use Rattle.std.specs.Global.{Vec}
 use Rattle.usb_device.specs.{Spec}
-use Rattle.usb_world.specs.{EachWas, World}
+use Rattle.usb_world.specs.{World}
 use Rattle.usb_tree.proofs.Interface.{false_true}
-use Rattle.usb_transaction.specs.{Target, NoThreeDamaged}
+use Rattle.usb_transaction.specs.{Target}
 use Rattle.usb_pipe.specs.{PipeFault}
 use Rattle.usb_pipe.specs.declared.fault.PipeFault.TheVariants as pipe
-use Rattle.usb_hub.specs.{string_given, HasText, StringAsked, ReadFailure}
-use Rattle.usb_enum.specs.{Stop, OnlyAsks, DeviceFact, FailureReason, Ending, KeepingSteps}
-use Rattle.usb_enum.specs.{StopsRead, IsResponsive, IsRefusedFor, Refuses, no_fault, stop_of}
+use Rattle.usb_hub.specs.{string_given}
+use Rattle.usb_enum.specs.{Stop, OnlyAsks, DeviceFact, Ending, KeepingSteps, StopsRead}
+use Rattle.usb_enum.specs.{IsResponsive, IsRefusedFor, Refuses, no_fault, stop_of}
 use Rattle.usb_enum.proofs.courses.LastRequests.{leads_went}
 use Rattle.usb_enum.proofs.Parts.{asking, part_fails, steps_then}
 use Rattle.usb_enum.proofs.readings.Readings.{learns_on}
 use Rattle.usb_enum.proofs.stops.Reasons.{told_after}
-use Rattle.usb_enum.proofs.refusals.Refusals.{FailsForSpec, explains_on, failure_explains}
+use Rattle.usb_enum.proofs.refusals.Refusals.{FailsForSpec, explains_on}
 
-never_stop : (t : Target) (index : ℕ) (spec : Spec) → IsResponsive t spec
+pub never_stop : (t : Target) (index : ℕ) (spec : Spec) → IsResponsive t spec
     → (fault : PipeFault) (stop : Stop) → stop_of fault ≡ Some stop
     → FailsForSpec (string_given index) fault spec → IsRefusedFor no_fault stop spec
 never_stop t index spec r pipe.Stalled stop is why = absurd cc
@@ -30,19 +28,6 @@ never_stop t index spec r (pipe.Bus fault) stop is why =
     subst (λ s. IsRefusedFor no_fault s spec) (same_Some _ _ is) tt
 never_stop t index spec r pipe.Memory stop is why =
     subst (λ s. IsRefusedFor no_fault s spec) (same_Some _ _ is) tt
-
-pub string_unrefused : (t : Target) (index : ℕ) (outcome : Result (Vec ℕ) PipeFault)
-    (fault : PipeFault) (stop : Stop) (old new : World) → outcome ≡ Err fault
-    → stop_of fault ≡ Some stop → 8 ≤ t.max
-    → (new.shared ≡ false → EachWas (StringAsked t index outcome) old new)
-    → (NoThreeDamaged old → 8 ≤ t.max → new.shared ≡ false
-    → EachWas (ReadFailure t 255 outcome) old new)
-    → FailureReason (Refuses t no_fault stop) t old new
-string_unrefused t index outcome fault stop old new is told least what why =
-    failure_explains (string_given index) (λ s bytes. HasText (string_given index s.spec) t 255 s
-    bytes.items) t 255 outcome old new what least why
-    (Refuses t no_fault stop) fault is (λ spec fails r. never_stop t index spec r fault stop told
-    (fails (inl r.max)))
 
 -- a read that stops behind others
 pub string_stops : {A B : Type 0} (So : Spec → Type 0) {t : Target} {m n k : ℕ}

@@ -9,14 +9,12 @@ use Rattle.usb_device.specs.{Spec}
 use Rattle.usb_world.specs.{after_taking, World}
 use Rattle.usb_bus.specs.{StepRun}
 use Rattle.usb_transaction.specs.{Target}
-use Rattle.usb_address.specs.{AddressMap, Enumerating, WhileBusWorks}
 use Rattle.usb_hub.specs.{HubPort}
 use Rattle.usb_enum.specs.{Addressed, Cause, Silent, Busy, Stalled, BadDevice, NoAddress, Stop}
-use Rattle.usb_enum.specs.{AtPort, verdict, gives_head, IsRight, is_device, IsFairAt, PendingOr}
-use Rattle.usb_enum.specs.{StopsFairly, OnlySets, FailureReason, AtPath, Awaits, HasHead, HasTaken}
-use Rattle.usb_enum.specs.{Refuses, head_fault, early_fault, device_fault, addressed_fault}
-use Rattle.usb_enum.specs.{unaddressed_fault, cause_in, whole_fault, configured_fault}
-use Rattle.usb_enum.specs.{CauseAllowedOfDevice}
+use Rattle.usb_enum.specs.{AtPort, verdict, gives_head, IsRight, is_device, StopsFairly, OnlySets}
+use Rattle.usb_enum.specs.{FailureReason, Awaits, HasTaken, Refuses, head_fault, early_fault}
+use Rattle.usb_enum.specs.{device_fault, addressed_fault, unaddressed_fault, cause_in, whole_fault}
+use Rattle.usb_enum.specs.{configured_fault, CauseAllowedOfDevice}
 use Rattle.usb_enum.specs.declared.cause.Request.TheVariants as request
 use Rattle.usb_enum.specs.declared.finding.Finding.TheVariants.{Refused as RefusedFinding}
 use Rattle.usb_enum.specs.declared.stop.Stop.TheVariants.{Refused, Fault}
@@ -25,9 +23,9 @@ use Rattle.usb_enum.proofs.courses.Fairness.{fair_then, faults_for_told, pends_r
 use Rattle.usb_enum.proofs.readings.Heads.{head_packet}
 use Rattle.usb_enum.proofs.devices.Presence.{Granted}
 use Rattle.usb_enum.proofs.devices.ReachedDevices.{reaches_set}
-use Rattle.usb_enum.proofs.stops.StopReasons.{IsTargeted, explained_at, early_none, addressed_early}
+use Rattle.usb_enum.proofs.stops.StopReasons.{explained_at, early_none, addressed_early}
 use Rattle.usb_enum.proofs.verdicts.VerdictCauses.{verdict_refused}
-use Rattle.usb_enum.proofs.verdicts.VerdictRows.{GaveHead}
+use Rattle.usb_enum.proofs.verdicts.VerdictRows.{gave_head}
 
 -- The rows up to the device descriptor
 
@@ -112,33 +110,21 @@ unaddressed_early spec cause e = ap (λ o. option_or o (Some NoAddress)) e
 
 pub none_free : (port : HubPort) (target : Target) (old new : World) → Awaits target port 0 old new
     → StopsFairly unaddressed_fault port 0 (Refused NoAddress) old new
-none_free port target old new awaits = record { why = why }
-  where
-    why : (f : AddressMap) (p : List ℕ) → IsFairAt f port p 0 old new
-        → WhileBusWorks (Enumerating f p 0) old
-        → PendingOr (λ spec. unaddressed_fault spec ≡ Some NoAddress) p new
-    why f p fair held =
-        pends_reached (λ spec. unaddressed_fault spec ≡ Some NoAddress) p new
-        (awaits.reaches.reached f p fair.spare held fair.order fair.occupied fair.working)
-        (λ s on there.
-        let is = awaits.found.found f p fair.spare held (regular_order fair.order) s on there in
-        ap (λ o. option_or o (Some NoAddress))
-        (early_none target.low target.max s.spec is.low is.head))
+none_free port target old new awaits = record {
+  why = λ f p fair held.
+      pends_reached (λ spec. unaddressed_fault spec ≡ Some NoAddress) p new
+      (awaits.reaches.reached f p fair.spare held fair.order fair.occupied fair.working)
+      (λ s on there.
+      let is = awaits.found.found f p fair.spare held (regular_order fair.order) s on there in
+      ap (λ o. option_or o (Some NoAddress))
+      (early_none target.low target.max s.spec is.low is.head));
+}
 
 -- A device that is configured
 
 record Described (device : Addressed) (spec : Spec) : Type 0 where
   granted : Granted device.target.low device.target.max spec
   bytes : device.bytes ≡ take 18 spec.descriptor
-
-gave_head : (low : Bool) (max : ℕ) (spec : Spec) → spec.low ≡ low → HasHead low max spec
-    → GaveHead spec
-gave_head low max spec same head = record {
-  loud = head.loud;
-  free = head.free;
-  device = head.device;
-  head = ap (λ b. is_ok (device_head_of b (take 8 spec.descriptor))) same ∙ ap is_ok head.head;
-}
 
 module _ (port : HubPort) (address tier supply m n : ℕ) (device : Addressed) {old mid new : World}
     {a b c d : Option (List ℕ)} (first : StepRun m old a mid b) (second : StepRun n mid c new d)
@@ -163,48 +149,34 @@ module _ (port : HubPort) (address tier supply m n : ℕ) (device : Addressed) {
       (gave_head device.target.low device.target.max spec g.speed g.head) g.allowed front
       so.1.bytes fault)
 
-  configured_refused : (cause : Cause) → FailureReason (Refuses device.target wrong (Refused cause))
-      device.target mid new → (f : AddressMap) (p : List ℕ) → IsFairAt f port p address old new
-      → PendingOr (λ spec. whole_fault tier supply spec ≡ Some cause) p new
-  configured_refused cause explains f p fair =
-      pends_reached (λ spec. whole_fault tier supply spec ≡ Some cause) p new
-      ((reaches_set port address n second taken.takes sets taken.reaches).reached f p fair.spare
-      fair.held fair.order fair.occupied fair.working)
-      (λ s on there. is_whole s.spec cause
-      (explained_at (Refuses device.target wrong (Refused cause)) (Described device) device.target f
-      port p mid new fair.spare.at taken.pre here.few single (here.order sound).sane explains
-      targeted s on there))
-    where
-      sound : mid.fault ≡ None
-      sound = went_sound n mid new second fair.working
-
-      here : IsFairAt f port p address mid new
-      here = fair_then f port p address m n first second fair at
-
-      single : new.shared ≡ false
-      single = (sets.addresses.kept (after_taking f p address)
-          (taken.takes.took f p fair.spare fair.held)).single
-
-      targeted : AtPath (IsTargeted (Described device) device.target) p mid
-      targeted s on there =
-          let is = taken.found.found f p fair.spare fair.held (regular_order fair.order) s on
-          there in
-          record {
-            low = is.low;
-            address = is.address;
-            so = record {
-              granted = record { speed = is.low; head = is.head; allowed = is.allowed };
-              bytes = is.bytes;
-            };
-          }
-
   pub configured_stops : (stop : Stop) → CauseAllowedOfDevice tier stop new
       → FailureReason (Refuses device.target wrong stop) device.target mid new
       → StopsFairly (whole_fault tier supply) port address stop old new
   configured_stops (Fault why) told explains =
       record { why = λ f p fair. faults_for_told p why new told }
-  configured_stops (Refused cause) told explains =
-      record { why = λ f p fair held. configured_refused cause explains f p fair }
+  configured_stops (Refused cause) told explains = record {
+    why = λ f p fair held.
+        let here = fair_then f port p address m n first second fair at in
+        let single = (sets.addresses.kept (after_taking f p address)
+        (taken.takes.took f p fair.spare fair.held)).single in
+        pends_reached (λ spec. whole_fault tier supply spec ≡ Some cause) p new
+        ((reaches_set port address n second taken.takes sets taken.reaches).reached f p fair.spare
+        fair.held fair.order fair.occupied fair.working)
+        (λ s on there. is_whole s.spec cause
+        (explained_at (Refuses device.target wrong (Refused cause)) (Described device) device.target
+        f port p mid new fair.spare.at taken.pre here.few single
+        (here.order (went_sound n mid new second fair.working)).sane explains
+        (λ s on there.
+        let is = taken.found.found f p fair.spare fair.held (regular_order fair.order) s on there in
+        record {
+          low = is.low;
+          address = is.address;
+          so = record {
+            granted = record { speed = is.low; head = is.head; allowed = is.allowed };
+            bytes = is.bytes;
+          };
+        }) s on there));
+  }
 
 pub matched : {A E : Type 0} (r : Result A E) (P : A → Type 0) (Q : E → Type 0) → IfOk r P
     → IfErr r Q → MatchResult r P Q

@@ -7,7 +7,7 @@ use Rattle.usb_world.specs.{World}
 use Rattle.usb_bus.specs.{StepRun}
 use Rattle.usb_pipe.specs.{PipeFault, FaultAfter}
 use Rattle.usb_hub.specs.{HubPort, KeepsCleared, CommandsPort}
-use Rattle.usb_enum.specs.{Cause, EnumFault, Finding, Stop, AtPort, OnlyCalls, Within, Closes}
+use Rattle.usb_enum.specs.{Cause, EnumFault, Finding, Stop, AtPort, Closes}
 use Rattle.usb_enum.specs.{Faulted, NoNewStretch, at_port, FaultAllowedAt}
 use Rattle.usb_enum.specs.declared.finding.Finding.TheVariants.{Refused as RefusedFinding}
 use Rattle.usb_enum.specs.declared.stop.Stop.TheVariants.{Refused, Fault}
@@ -45,26 +45,19 @@ module _ (port : HubPort) (address : ℕ) (cause : Cause) (old : World)
       → Err why ≡ at_port outcome → FaultAllowedAt port why new
       → (new.fault ≡ None → NoNewStretch old new)
       → Closes port address (Refused cause) old (Err why) new
-  closed_lost n why went told fault goes = record {
-    ends = ends_fault port address old new why within;
-    only = only;
-    there = disables_none port address old why new;
-    lost = λ other given is e. subst (λ x. Faulted port address x old new) (same why given e)
-        (called_faulted port address n (clear_call PORT_ENABLE) why went at fault
-        (record { outcome = outcome; told = told; calls = calls; goes = goes }));
-  }
-    where
-      within : Within port address old new
-      within = within_kept port address old new keeps.keeps
-
-      only : OnlyCalls port address old new
-      only = disable_calls port address old outcome new ends calls keeps
-
-      at : AtPort port address old new
-      at = record { within = within; only = only }
-
-      same : (x y : EnumFault) → (let r : Result Finding EnumFault = Err x in r ≡ Err y) → x ≡ y
-      same x y e = cc
+  closed_lost n why went told fault goes =
+      let at : AtPort port address old new = record {
+        within = within_kept port address old new keeps.keeps;
+        only = disable_calls port address old outcome new ends calls keeps;
+      } in record {
+        ends = ends_fault port address old new why at.within;
+        only = at.only;
+        there = disables_none port address old why new;
+        lost = λ other given is e. subst (λ x. Faulted port address x old new)
+            (let same : why ≡ given = cc in same)
+            (called_faulted port address n (clear_call PORT_ENABLE) why went at fault
+            (record { outcome = outcome; told = told; calls = calls; goes = goes }));
+      }
 
 -- an error that is handed on
 pub closed_handed : (port : HubPort) (address : ℕ) (stop : Stop) (old : World)

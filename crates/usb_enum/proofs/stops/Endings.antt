@@ -1,23 +1,20 @@
-use Rattle.usb_enum.specs.{IsStarted, Cause, EnumFault, Accepted, Finding, Stop, IsSpare, Within}
-use Rattle.usb_enum.specs.{TakesAddress, OnlyCalls, AtPort, EndsOwned, EndsEnumeration}
-use Rattle.usb_enum.specs.{KeepsEnumerated, IsRight, FaultsFor, HubPends, IsFairAt, PendingOr}
-use Rattle.usb_enum.specs.{StopsFairly, StopsFor, OnlyAt, unaddressed_bound, Begins, Closes}
-use Rattle.usb_enum.specs.{Disables, GivesUp, IsFair, IsLeft, IsOwn, FindingIsTrue, FewAttempts}
-use Rattle.usb_enum.specs.{FindingStands, JustifiesRefusal, HasEmptyPorts, IsOccupied, IsPlaced}
-use Rattle.usb_enum.specs.{AtPath, Finds, IsInOrder, IsRegular, ReachesDevice, at_port, AsksStrings}
-use Rattle.usb_enum.specs.{FewFrom}
+use Rattle.usb_enum.specs.{Cause, EnumFault, Accepted, Finding, Stop, IsSpare, Within, TakesAddress}
+use Rattle.usb_enum.specs.{OnlyCalls, AtPort, EndsOwned, EndsEnumeration, KeepsEnumerated, IsRight}
+use Rattle.usb_enum.specs.{FaultsFor, HubPends, IsFairAt, StopsFairly, StopsFor, OnlyAt}
+use Rattle.usb_enum.specs.{unaddressed_bound, Closes, Disables, GivesUp, IsFair, IsLeft, IsOwn}
+use Rattle.usb_enum.specs.{FindingIsTrue, FewAttempts, FindingStands, JustifiesRefusal}
+use Rattle.usb_enum.specs.{HasEmptyPorts, IsOccupied, IsPlaced, AtPath, Finds, IsInOrder}
+use Rattle.usb_enum.specs.{ReachesDevice, FewFrom, EndsFor, Enumerates}
 -- How an enumeration ends: who holds which address then.
-use Rattle.std.proofs.Common.{◌≡◌, ◌≢◌, ◌⊎◌, ◌≤◌, ◌+◌, inl, inr, ℕ, Bool, true, false, List, Option}
-use Rattle.std.proofs.Common.{None, Some, Result, Ok, Err, if◌then◌else◌, refl, ap, sym, subst, ◌∙◌}
-use Rattle.std.proofs.Common.{arith}
+use Rattle.std.proofs.Common.{◌≡◌, ◌⊎◌, ◌≤◌, ◌+◌, inl, inr, ℕ, true, List, Option, None, Some}
+use Rattle.std.proofs.Common.{Result, Ok, Err, refl, ap, sym, subst, ◌∙◌, arith}
 use Rattle.usb_world.specs.{after_taking, World}
 use Rattle.usb_device.specs.{State, Spec, state_there}
 use Rattle.usb_tree.specs.{is_way, pending}
-use Rattle.usb_tree.proofs.Interface.{false_true}
+use Rattle.usb_tree.proofs.Interface.{decided, false_true}
 use Rattle.usb_bus.specs.{StepRun}
 use Rattle.usb_resources.specs.Pool as pool
 use Rattle.usb_resources.specs.{Addresses, IsFull, IsTaken, HasAddresses}
-use Rattle.usb_pipe.specs.{PipeFault}
 use Rattle.usb_address.specs.{AddressMap, Free, map_without, MapHolds, MapHoldsExcept, Enumerating}
 use Rattle.usb_address.specs.{WhileBusWorks}
 use Rattle.usb_address.proofs.Interface.{enumerating_begins, owned_as}
@@ -28,7 +25,7 @@ use Rattle.usb_enum.specs.declared.stop.Stop.TheVariants as stop
 use Rattle.usb_enum.proofs.devices.Enumerations.{till_weaker, having, at_taking}
 use Rattle.usb_enum.proofs.courses.Courses.{regular_order, went_sound}
 use Rattle.usb_enum.proofs.courses.Fairness.{fair_before, fair_then, pends_on}
-use Rattle.usb_enum.proofs.devices.Frames.{but_taken}
+use Rattle.usb_enum.proofs.devices.Frames.{but_taken, calls_then}
 use Rattle.usb_enum.proofs.devices.ReachedDevices.{occupied_on}
 use Rattle.usb_enum.proofs.Targets.{examined_most}
 
@@ -36,34 +33,23 @@ use Rattle.usb_enum.proofs.Targets.{examined_most}
 
 cleared_taken : (f : AddressMap) (p : List ℕ) (a : ℕ) → Free f p → (x : List ℕ)
     → map_without (after_taking f p a) p x ≡ f x
-cleared_taken f p a free x = split (is_way p x) refl
-  where
-    split : (way : Bool) → is_way p x ≡ way → (if way then None else after_taking f p a x) ≡ f x
-    split true e = sym (free x e)
-    split false e = but_taken f p a x e
+cleared_taken f p a free x = elim (decided (is_way p x)) [
+  | inl e ↦ rw e (sym (free x e))
+  | inr e ↦ rw e (but_taken f p a x e)
+]
 
 -- Given up
 
 -- the port is disabled
 pub ends_refused : (port : HubPort) (address : ℕ) (old new : World) (cause : Cause)
     → Isolates port old new → EndsEnumeration port address old (Ok (Refused cause)) new
-ends_refused port address old new cause bares = record { ends = ends }
-  where
-    ends : (f : AddressMap) (p : List ℕ) → IsSpare f port p address
-        → WhileBusWorks (Enumerating f p address) old → WhileBusWorks (MapHolds f) new
-    ends f p spare t =
-        let h = having f p address old t in
-        let g : AddressMap = after_taking f p h.has in
-        till_weaker (MapHolds (map_without g p)) (MapHolds f) new
-        (owned_as (map_without g p) f new (cleared_taken f p h.has spare.free))
-        (bares.bares g p (at_taking f port p h.has spare.at) h.owned)
-
-owned_but : (f : AddressMap) (p : List ℕ) (address : ℕ) (w : World) → Enumerating f p address w
-    → MapHoldsExcept p f w
-owned_but f p address w e = record {
-  claims = after_taking f p e.has;
-  owned = e.owned;
-  others = but_taken f p e.has;
+ends_refused port address old new cause bares = record {
+  ends = λ f p spare t.
+      let h = having f p address old t in
+      let g : AddressMap = after_taking f p h.has in
+      till_weaker (MapHolds (map_without g p)) (MapHolds f) new
+      (owned_as (map_without g p) f new (cleared_taken f p h.has spare.free))
+      (bares.bares g p (at_taking f port p h.has spare.at) h.owned);
 }
 
 -- there is no finding
@@ -75,15 +61,13 @@ ends_fault port address old new why within =
     by_fault : (f : AddressMap) (p : List ℕ) (why : EnumFault)
         → WhileBusWorks (Enumerating f p address) new → EndsOwned f p (Err why) new
     by_fault f p fault.ParentLost t = till_weaker (Enumerating f p address) (MapHoldsExcept p f) new
-        (owned_but f p address new) t
+        (λ e. record {
+          claims = after_taking f p e.has;
+          owned = e.owned;
+          others = but_taken f p e.has;
+        }) t
     by_fault f p (fault.Bus why) t = t.single
     by_fault f p fault.Memory t = t.single
-
--- where a request to the port was answered
-pub port_done : (outcome : Result (Unit {0}) PipeFault) (done : Unit {0})
-    → at_port outcome ≡ Ok done → outcome ≡ Ok tt
-port_done (Ok tt) done e = refl
-port_done (Err why) done e = absurd cc
 
 -- then no device was found
 pub gives_up_no_device : (port : HubPort) (stop : Stop) (old new : World)
@@ -95,17 +79,8 @@ gives_up_no_device port (stop.Refused cause) old new (Err why) device gives e = 
 gives_up_no_device port (stop.Fault why) old new result device gives e = let is = gives.0 in
     absurd cc
 
-pub none_true : (port : HubPort) (addresses : Addresses) (tier supply : ℕ) (stop : Stop)
-    (old mid new : World) (result : Result Finding EnumFault) → GivesUp port stop mid result new
-    → FindingIsTrue port addresses tier supply old result new
-none_true port addresses tier supply stop old mid new result gives =
-    record {
-      truth = λ f p at bare claimed t order device e.
-          elim (gives_up_no_device port stop mid new result device gives e) [ ];
-    }
-
 -- and the port of a refused one is disabled
-pub gives_left : (port : HubPort) (stop : Stop) (old new : World)
+gives_left : (port : HubPort) (stop : Stop) (old new : World)
     (result : Result Finding EnumFault) (finding : Finding) → GivesUp port stop old result new
     → result ≡ Ok finding → IsLeft port finding new
 gives_left port stop old new result (Device device) gives e =
@@ -115,34 +90,6 @@ gives_left port (stop.Refused cause) old new (Err why) (Refused other) gives e =
 gives_left port (stop.Fault why) old new result (Refused other) gives e = let is = gives.0 in
     absurd cc
 
-same_found : (a b : Accepted) → (let r : Result Finding EnumFault = Ok (Device a) in
-    r ≡ Ok (Device b)) → a ≡ b
-same_found a b e = cc
-
-pub device_left : (port : HubPort) (device : Accepted) (new : World)
-    → IsStarted device.address device.hub → (finding : Finding)
-    → (let r : Result Finding EnumFault = Ok (Device device) in r ≡ Ok finding)
-    → IsLeft port finding new
-device_left port device new served finding e =
-    subst (λ f. IsLeft port f new) (let same : Device device ≡ finding = cc in same) served
-
--- how the strings of an accepted device were asked for
-pub strings_asked : (port : HubPort) (old new : World) (device : Accepted)
-    → AsksStrings port old new device → (other : Accepted)
-    → (let r : Result Finding EnumFault = Ok (Device device) in r ≡ Ok (Device other))
-    → AsksStrings port old new other
-strings_asked port old new device asked other e =
-    subst (AsksStrings port old new) (same_found device other e) asked
-
-pub no_strings_asked : (port : HubPort) (stop : Stop) (old mid new : World)
-    (result : Result Finding EnumFault) → GivesUp port stop mid result new → (device : Accepted)
-    → result ≡ Ok (Device device) → AsksStrings port old new device
-no_strings_asked port stop old mid new result gives device e =
-    elim (gives_up_no_device port stop mid new result device gives e) [ ]
-
-device_same : (a b : Accepted) → Device a ≡ Device b → a ≡ b
-device_same a b e = cc
-
 -- The addresses that are taken
 
 pub zero_untaken : (addresses : Addresses) → HasAddresses addresses → IsTaken addresses 0 → ⊥
@@ -150,10 +97,8 @@ zero_untaken addresses has taken = omega (arith, (has 0 taken).0)
 
 pub zero_before : (old new : Addresses) (a : ℕ) → pool.Takes old a new → HasAddresses new
     → IsTaken old 0 → ⊥
-zero_before old new a takes has taken = zero_untaken new has (takes.others 0 differs ∙ taken)
-  where
-    differs : 0 ≢ a
-    differs = omega (arith, takes.free.0.0)
+zero_before old new a takes has taken =
+    zero_untaken new has (takes.others 0 (omega (arith, takes.free.0.0)) ∙ taken)
 
 pub free_untaken : (old new : Addresses) (a : ℕ) → pool.Takes old a new → IsTaken old a → ⊥
 free_untaken old new a takes taken = false_true (sym takes.free.1 ∙ taken)
@@ -189,60 +134,41 @@ module _ (port : HubPort) (addresses : Addresses) (address : ℕ) (zero_is : IsT
   first f p w is t = till_weaker (MapHolds f) (Enumerating f p address) w
       (enumerating_begins f p address w is.free is.none) t
 
+  only_calls : (old new : World) → OnlyCalls port address old new → (f : AddressMap) (p : List ℕ)
+      → IsAt f port p → Free f p → ((x : List ℕ) (a : ℕ) → f x ≡ Some a → IsTaken addresses a)
+      → WhileBusWorks (MapHolds f) old → new.fault ≡ None → OnlyAt p old new
+  only_calls old new calls f p at bare claimed t =
+      let is = spare f p at bare claimed in calls.at f p is (first f p old is t)
+
   pub enumerated : (old new : World) (device : Accepted) → device.address ≡ address
       → TakesAddress port address old new → OnlyCalls port address old new
       → KeepsEnumerated port addresses old (Ok (Device device)) new
-  enumerated old new device same takes calls = record { ends = ends; only = only }
-    where
-      ends : (f : AddressMap) (p : List ℕ) → IsAt f port p → Free f p
-          → ((x : List ℕ) (a : ℕ) → f x ≡ Some a → IsTaken addresses a)
-          → WhileBusWorks (MapHolds f) old
-          → WhileBusWorks (MapHolds (after_taking f p device.address)) new
-      ends f p at bare claimed t =
-          let is = spare f p at bare claimed in
-          rw same (takes.took f p is (first f p old is t))
+  enumerated old new device same takes calls = record {
+    ends = λ f p at bare claimed t.
+        let is = spare f p at bare claimed in
+        rw same (takes.took f p is (first f p old is t));
+    only = only_calls old new calls;
+  }
 
-      only : (f : AddressMap) (p : List ℕ) → IsAt f port p → Free f p
-          → ((x : List ℕ) (a : ℕ) → f x ≡ Some a → IsTaken addresses a)
-          → WhileBusWorks (MapHolds f) old → new.fault ≡ None → OnlyAt p old new
-      only f p there bare claimed t none =
-          let is = spare f p there bare claimed in
-          calls.at f p is (first f p old is t) none
-
-  pub given_up : (old mid new : World) (result : Result Finding EnumFault)
+  given_up : (old mid new : World) (result : Result Finding EnumFault)
       → Within port address old mid → EndsEnumeration port address mid result new
       → OnlyCalls port address old new → KeepsEnumerated port addresses old result new
-  given_up old mid new result within ended calls = record { ends = ends; only = only }
-    where
-      ends : (f : AddressMap) (p : List ℕ) → IsAt f port p → Free f p
-          → ((x : List ℕ) (a : ℕ) → f x ≡ Some a → IsTaken addresses a)
-          → WhileBusWorks (MapHolds f) old
-          → EndsOwned f p result new
-      ends f p at bare claimed t =
-          let is = spare f p at bare claimed in
-          ended.ends f p is (within.stays f p is (first f p old is t))
-
-      only : (f : AddressMap) (p : List ℕ) → IsAt f port p → Free f p
-          → ((x : List ℕ) (a : ℕ) → f x ≡ Some a → IsTaken addresses a)
-          → WhileBusWorks (MapHolds f) old → new.fault ≡ None → OnlyAt p old new
-      only f p there bare claimed t none =
-          let is = spare f p there bare claimed in
-          calls.at f p is (first f p old is t) none
+  given_up old mid new result within ended calls = record {
+    ends = λ f p at bare claimed t.
+        let is = spare f p at bare claimed in
+        ended.ends f p is (within.stays f p is (first f p old is t));
+    only = only_calls old new calls;
+  }
 
   pub found_true : (tier supply : ℕ) (old new : World) (device : Accepted)
       → Finds (IsOwn tier supply device) port address old new
       → FindingIsTrue port addresses tier supply old (Ok (Device device)) new
-  found_true tier supply old new device finds = record { truth = truth }
-    where
-      truth : (f : AddressMap) (p : List ℕ) → IsAt f port p → Free f p
-          → ((x : List ℕ) (a : ℕ) → f x ≡ Some a → IsTaken addresses a)
-          → WhileBusWorks (MapHolds f) old → IsRegular old
-          → (other : Accepted) → (let r : Result Finding EnumFault = Ok (Device device) in
-          r ≡ Ok (Device other)) → AtPath (IsOwn tier supply other) p new
-      truth f p at bare claimed t order other e =
-          let is = spare f p at bare claimed in
-          subst (λ x. AtPath (IsOwn tier supply x) p new) (same_found device other e)
-          (finds.found f p is (first f p old is t) order)
+  found_true tier supply old new device finds = record {
+    truth = λ f p at bare claimed t order other e.
+        let is = spare f p at bare claimed in
+        subst (λ x. AtPath (IsOwn tier supply x) p new) (let same : device ≡ other = cc in same)
+        (finds.found f p is (first f p old is t) order);
+  }
 
   -- What is found is there
 
@@ -251,43 +177,33 @@ module _ (port : HubPort) (addresses : Addresses) (address : ℕ) (zero_is : IsT
       → WhileBusWorks (Enumerating f p address) old → IsInOrder old → IsOccupied old p
       → new.fault ≡ None → HasEmptyPorts p device.hub new)
       → FindingStands port addresses old (Ok (Device device)) new
-  device_placed old new device reaches ports = record { placed = placed }
-    where
-      same : (finding : Finding) → (let r : Result Finding EnumFault = Ok (Device device) in
-          r ≡ Ok finding) → Device device ≡ finding
-      same finding e = cc
+  device_placed old new device reaches ports = record {
+    placed = λ f p start occupied none finding e.
+        let is = spare f p start.at start.free start.taken in
+        let t = first f p old is start.owned in
+        subst (λ x. IsPlaced p x new) (let same : Device device ≡ finding = cc in same) (record {
+          there = reaches.reached f p is t start.order occupied none;
+          below = λ other found. subst (λ (d : Accepted). HasEmptyPorts p d.hub new)
+              (let same : device ≡ other = cc in same) (ports f p is t start.order occupied none);
+        });
+  }
 
-      placed : (f : AddressMap) (p : List ℕ) → Begins f port p addresses old → IsOccupied old p
-          → new.fault ≡ None → (finding : Finding)
-          → (let r : Result Finding EnumFault = Ok (Device device) in r ≡ Ok finding)
-          → IsPlaced p finding new
-      placed f p start occupied none finding e =
-          let is = spare f p start.at start.free start.taken in
-          let t = first f p old is start.owned in
-          subst (λ x. IsPlaced p x new) (same finding e) (record {
-            there = reaches.reached f p is t start.order occupied none;
-            below = λ other found. subst (λ (d : Accepted). HasEmptyPorts p d.hub new)
-                (device_same device other found) (ports f p is t start.order occupied none);
-          })
-
-  pub refused_placed : (last : Stop) (n : ℕ) (old mid new : World)
+  refused_placed : (last : Stop) (n : ℕ) (old mid new : World)
       (result : Result Finding EnumFault) {a b : Option (List ℕ)} → AtPort port address old mid
       → StepRun n mid a new b → Disables port address mid result new
       → GivesUp port last mid result new → FindingStands port addresses old result new
-  refused_placed last n old mid new result at went disables gives = record { placed = placed }
-    where
-      placed : (f : AddressMap) (p : List ℕ) → Begins f port p addresses old → IsOccupied old p
-          → new.fault ≡ None → (finding : Finding) → result ≡ Ok finding → IsPlaced p finding new
-      placed f p start occupied none finding e =
-          let is = spare f p start.at start.free start.taken in
-          let t = first f p old is start.owned in
-          record {
-            there = disables.there f p is (at.within.stays f p is t)
-                (occupied_on p (at.only.at f p is t (went_sound n mid new went none)).spares
-                occupied) finding e;
-            below = λ device found. elim (gives_up_no_device port last mid new result device gives
-                (e ∙ ap Ok found)) [ ];
-          }
+  refused_placed last n old mid new result at went disables gives = record {
+    placed = λ f p start occupied none finding e.
+        let is = spare f p start.at start.free start.taken in
+        let t = first f p old is start.owned in
+        record {
+          there = disables.there f p is (at.within.stays f p is t)
+              (occupied_on p (at.only.at f p is t (went_sound n mid new went none)).spares
+              occupied) finding e;
+          below = λ device found. elim (gives_up_no_device port last mid new result device gives
+              (e ∙ ap Ok found)) [ ];
+        };
+  }
 
   -- How few attempts are made
 
@@ -356,14 +272,12 @@ module _ (port : HubPort) (addresses : Addresses) (address : ℕ) (zero_is : IsT
       caused : (why : Cause) → StopsFor wrong f p old (stop.Refused why) mid → (s : State)
           → state_there new.roots p ≡ Some s → (pending new.roots p ≡ true)
           ⊎ IsRight (IsFull addresses) s.spec tier supply (Refused why)
-      caused why so s there = pick (pends_on (λ spec. wrong spec ≡ Some why) p
+      caused why so s there = elim (pends_on (λ spec. wrong spec ≡ Some why) p
           (closes.only.at f p here.spare here.held here.working).spares here.occupied
-          (so (zero_begun f p old new fair)))
-        where
-          pick : PendingOr (λ spec. wrong spec ≡ Some why) p new → (pending new.roots p ≡ true)
-              ⊎ IsRight (IsFull addresses) s.spec tier supply (Refused why)
-          pick (inl h) = inl h
-          pick (inr is) = inr (right s.spec why (is s there))
+          (so (zero_begun f p old new fair))) [
+            | inl h ↦ inl h
+            | inr is ↦ inr (right s.spec why (is s there))
+          ]
 
     cause_of : (x : Stop) → last ≡ x → (f : AddressMap) (p : List ℕ)
         → IsFair f port p addresses old new → (cause : Cause) (s : State)
@@ -391,5 +305,21 @@ module _ (port : HubPort) (addresses : Addresses) (address : ℕ) (zero_is : IsT
     parent_of_stop (stop.Refused why) is f p fair e =
         (closes.lost why fault.ParentLost is e).why f p (here f p fair)
 
-    pub stopped_warranted : JustifiesRefusal port addresses tier supply old result new
-    stopped_warranted = record { cause = cause_of last refl; parent = parent_of_stop last refl }
+    -- all that is so in the end
+    pub stopped_ends : EndsFor port addresses tier supply old result new
+        → FewAttempts port addresses old new
+        → Enumerates port addresses tier supply old result new
+    stopped_ends ended few = record {
+      addresses = given_up old mid new result at.within closes.ends
+          (calls_then port address n old mid new at later closes.only);
+      own = record {
+        truth = λ f p there bare claimed t order device e.
+            absurd (gives_up_no_device port last mid new result device gives e);
+      };
+      places = refused_placed last n old mid new result at later closes.there gives;
+      warrants = record { cause = cause_of last refl; parent = parent_of_stop last refl };
+      ended = ended;
+      few = few;
+      strings = λ device e. absurd (gives_up_no_device port last mid new result device gives e);
+      left = λ finding is. gives_left port last mid new result finding gives is;
+    }

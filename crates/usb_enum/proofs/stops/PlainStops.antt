@@ -1,11 +1,11 @@
 -- What a stop is, whatever the bus does.
-use Rattle.std.proofs.Common.{◌≡◌, inl, inr, ℕ, ◌==◌, ◌&&◌, Bool, true, false, if◌then◌else◌, List}
+use Rattle.std.proofs.Common.{◌≡◌, inl, inr, ℕ, ◌==◌, Bool, true, List}
 use Rattle.std.proofs.Common.{Some, Result, Ok, Err, refl, subst, sym, ◌∙◌}
 use Rattle.std.specs.Prelude.{IfOk, IfSome, IsErrAnd, MatchResult, unwrap_or}
 use Rattle.usb_resources.specs.{Addresses, IsFull}
 use Rattle.usb_pipe.specs.{PipeFault}
 use Rattle.usb_pipe.specs.declared.fault.PipeFault.TheVariants as pipe
-use Rattle.usb_tree.proofs.Interface.{both, equal_same}
+use Rattle.usb_tree.proofs.Interface.{both, decided, equal_same}
 use Rattle.usb_enum.specs.{Cause, EnumFault, Finding, Stop, LAST_TIER, device_bytes, fits_tier}
 use Rattle.usb_enum.specs.{is_device, is_hub_device, HandsOn, IsFound, FitsStop, IsHubStop, IsPlain}
 use Rattle.usb_enum.specs.{IsPlainStop, IsStopWithout, answered_or, stop_of}
@@ -13,14 +13,14 @@ use Rattle.usb_enum.specs.declared.cause.Cause.TheVariants as cause
 use Rattle.usb_enum.specs.declared.fault.EnumFault.TheVariants as fault
 use Rattle.usb_enum.specs.declared.finding.Finding.TheVariants as finding
 use Rattle.usb_enum.specs.declared.stop.Stop.TheVariants.{Refused, Fault}
-use Rattle.usb_enum.proofs.ports.Hubs.{not_last}
+use Rattle.usb_enum.proofs.ports.Hubs.{deep_is, not_last}
 use Rattle.usb_enum.proofs.refusals.Refusals.{answered_err}
 use Rattle.usb_enum.proofs.stops.ToldFailures.{plain_fits}
 
 -- by an answer
 
 pub answered_plain : {A : Type 0} (stalled : Cause) (outcome : Result A PipeFault) (stop : Stop)
-    → IsPlain stalled → answered_or stalled outcome ≡ Err stop → IsPlainStop stop
+    → IsPlain stalled → Err stop ≡ answered_or stalled outcome → IsPlainStop stop
 answered_plain stalled outcome stop plain is = let f = answered_err stalled outcome stop is in
     subst IsPlainStop f.2 (by f.0)
   where
@@ -33,7 +33,7 @@ answered_plain stalled outcome stop plain is = let f = answered_err stalled outc
     by pipe.Memory = tt
 
 pub answered_hub : {A : Type 0} (outcome : Result A PipeFault) (stop : Stop)
-    → answered_or cause.BadHub outcome ≡ Err stop → IsHubStop stop
+    → Err stop ≡ answered_or cause.BadHub outcome → IsHubStop stop
 answered_hub outcome stop is = let f = answered_err cause.BadHub outcome stop is in
     subst IsHubStop f.2 (by f.0)
   where
@@ -46,17 +46,15 @@ answered_hub outcome stop is = let f = answered_err cause.BadHub outcome stop is
     by pipe.Memory = tt
 
 pub stop_plain : (why : PipeFault) (stop : Stop) → stop_of why ≡ Some stop → IsPlainStop stop
-stop_plain pipe.Stalled stop is = absurd cc
-stop_plain pipe.Busy stop is = subst IsPlainStop (let same : Refused cause.Busy ≡ stop = cc in same)
-    tt
-stop_plain pipe.NoAnswer stop is = subst IsPlainStop (let same : Refused cause.Silent ≡ stop = cc in
-    same) tt
-stop_plain pipe.Broken stop is = subst IsPlainStop (let same : Refused cause.Silent ≡ stop = cc in
-    same) tt
-stop_plain (pipe.Bus why) stop is = subst IsPlainStop (let same : Fault (fault.Bus why) ≡ stop =
-    cc in same) tt
-stop_plain pipe.Memory stop is = subst IsPlainStop (let same : Fault fault.Memory ≡ stop = cc in
-    same) tt
+stop_plain why stop is = subst (λ o. IfSome o IsPlainStop) is (by why)
+  where
+    by : (why : PipeFault) → IfSome (stop_of why) IsPlainStop
+    by pipe.Stalled = tt
+    by pipe.Busy = tt
+    by pipe.NoAnswer = tt
+    by pipe.Broken = tt
+    by (pipe.Bus why) = tt
+    by pipe.Memory = tt
 
 -- a plain one fits each tier, and comes also where no address is free
 
@@ -80,30 +78,15 @@ hub_stop_fits tier bytes (Fault why) fits is told = tt
 
 pub deep_stop_fits : (tier : ℕ) (bytes : List ℕ) (stop : Stop) → fits_tier tier bytes ≡ Err stop
     → FitsStop tier stop
-deep_stop_fits tier bytes stop is = split (is_hub_device bytes && tier == LAST_TIER) refl is
-  where
-    deep : (is_hub_device bytes && tier == LAST_TIER) ≡ true → FitsStop tier (Refused cause.TooDeep)
-    deep e = let both_so = both (is_hub_device bytes) (tier == LAST_TIER) e in
-        equal_same tier LAST_TIER both_so.1
-
-    split : (b : Bool) → (is_hub_device bytes && tier == LAST_TIER) ≡ b
-        → (let r : Result (Unit {0}) Stop = if b then Err (Refused cause.TooDeep) else Ok tt in
-        r ≡ Err stop) → FitsStop tier stop
-    split true e r = subst (FitsStop tier) (let same : Refused cause.TooDeep ≡ stop = cc in same)
-        (deep e)
-    split false e r = absurd cc
+deep_stop_fits tier bytes stop is = let deep = deep_is tier bytes stop is in
+    rw deep.0 (equal_same tier LAST_TIER (both (is_hub_device bytes) (tier == LAST_TIER) deep.1).1)
 
 -- what the bytes of a device descriptor tell
 
 pub device_good : (low : Bool) (bytes : List ℕ) → MatchResult (device_bytes low bytes)
     (λ found. IfSome found (λ good. is_device low good ≡ true)) IsPlainStop
-device_good low bytes = split (is_device low bytes) refl
-  where
-    split : (is : Bool) → is_device low bytes ≡ is
-        → MatchResult (if is then Ok (Some bytes) else Err (Refused cause.BadDevice))
-        (λ found. IfSome found (λ good. is_device low good ≡ true)) IsPlainStop
-    split true e = e
-    split false e = tt
+device_good low bytes =
+    elim (decided (is_device low bytes)) [ inl good ↦ rw good good | inr bad ↦ rw bad tt ]
 
 -- the second of two
 pub whole_only : {A E : Type 0} (result : Result A E) (P Q : A → Type 0)

@@ -1,12 +1,11 @@
 -- How the reasons of a stop come from answers, and how they join.
 use Rattle.std.proofs.Common.{◌≡◌, ◌≢◌, ◌⊎◌, inl, inr, ℕ, ◌==◌, Bool, true, false, if◌then◌else◌}
-use Rattle.std.proofs.Common.{List, length, Some, Result, Ok, Err, refl, sym, subst, ◌∙◌}
-use Rattle.std.specs.Prelude.{unwrap_or, IfErr, MatchResult, ⊤}
+use Rattle.std.proofs.Common.{List, length, Option, Some, Result, Ok, Err, refl, sym, subst, ◌∙◌}
+use Rattle.std.specs.Prelude.{unwrap_or, IfErr, IfSome, MatchResult, ⊤}
 use Rattle.std.specs.Global.{Vec}
 use Rattle.usb_request.specs.{Setup, get_status}
 use Rattle.usb_world.specs.{World}
 use Rattle.usb_transaction.specs.{Target, AttemptsMade}
-use Rattle.usb_port.specs.{PortStatus}
 use Rattle.usb_pipe.specs.{PipeFault, FaultAfter, Reads, WasRead, Writes}
 use Rattle.usb_pipe.specs.declared.fault.PipeFault.TheVariants as pipe
 use Rattle.usb_hub.specs.{HubPort, DeviceStatus, PortCleared, PortRead, PortSet, Queried, EndsAfter}
@@ -18,13 +17,14 @@ use Rattle.usb_enum.specs.{CauseAllowed, HubFails, no_descriptor, bad_descriptor
 use Rattle.usb_enum.specs.{no_power, CauseAllowedOfHub, CauseAllowedAtStart, PortFails, FaultBy}
 use Rattle.usb_enum.specs.{IsSpokenTo, RefusedEarly, answered, not_enabled, CauseAllowedAt}
 use Rattle.usb_enum.specs.{NoAnswerTold, CanFail, FaultAllowedAt, FaultAllowed, IsPlain, StopFaults}
-use Rattle.usb_enum.specs.{CauseAllowedIn, CauseAllowedWithout, answered_or, at_port, stop_of}
+use Rattle.usb_enum.specs.{CauseAllowedIn, CauseAllowedWithout, answered_or, at_port, fault_at_port}
+use Rattle.usb_enum.specs.{stop_of}
 use Rattle.usb_enum.specs.declared.cause.Cause.TheVariants as cause
 use Rattle.usb_enum.specs.declared.fault.EnumFault.TheVariants as fault
 use Rattle.usb_enum.specs.declared.stop.Stop.TheVariants.{Refused, Fault}
 use Rattle.usb_enum.proofs.courses.LastRequests.{leads_none, leads_then}
 use Rattle.usb_enum.proofs.refusals.Refusals.{answered_err, answered_ok}
-use Rattle.usb_enum.proofs.stops.ToldFailures.{clear_fails, plain_fits, read_fails, set_fails}
+use Rattle.usb_enum.proofs.stops.ToldFailures.{plain_fits, port_can_fail}
 
 -- Requests
 
@@ -78,7 +78,7 @@ text_after led got = record { size = got.size; read = reading_after led got.read
 
 -- a request that was answered
 pub was_read : {t : Target} {setup : Setup} {outcome : Result (Vec ℕ) PipeFault} {old new : World}
-    (stalled : Cause) (bytes : Vec ℕ) → answered_or stalled outcome ≡ Ok bytes
+    (stalled : Cause) (bytes : Vec ℕ) → Ok bytes ≡ answered_or stalled outcome
     → Queried t setup old outcome new → EndsReading t setup bytes.items old new
 was_read {t} {setup} {outcome} {old} {new} stalled bytes is asked =
     reading (subst (λ r. Reads t setup old r new) (answered_ok stalled outcome bytes is)
@@ -89,7 +89,7 @@ was_read {t} {setup} {outcome} {old} {new} stalled bytes is asked =
 -- by each fault
 stop_by : {A : Type 0} (P : Stop → Type 0) (Failed_as : PipeFault → Type 0) (stalled : Cause)
     (outcome : Result A PipeFault) (stop : Stop) (m n : ℕ) (old new : World)
-    → answered_or stalled outcome ≡ Err stop
+    → Err stop ≡ answered_or stalled outcome
     → ((why : PipeFault) → outcome ≡ Err why → Failed_as why)
     → MatchResult outcome (λ _. AttemptsMade m old new) (λ why. FaultAfter n old why new)
     → (Failed_as pipe.Stalled → P (Refused stalled))
@@ -115,7 +115,7 @@ stop_by {A} P Failed_as stalled outcome stop m n old new is failed ends by_stall
 -- of a request that a refusal names
 stop_told : {A : Type 0} (t : Target) (setup : Setup) (named : Request)
     (outcome : Result A PipeFault) (stop : Stop) (m n : ℕ) (old new : World)
-    → answered_or (cause.Stalled named) outcome ≡ Err stop → IsNamed named setup
+    → Err stop ≡ answered_or (cause.Stalled named) outcome → IsNamed named setup
     → ((why : PipeFault) → outcome ≡ Err why → FailsAs t setup why old new)
     → MatchResult outcome (λ _. AttemptsMade m old new) (λ why. FaultAfter n old why new)
     → CauseAllowed t stop old new
@@ -127,7 +127,7 @@ stop_told t setup named outcome stop m n old new is names failed ends =
 
 -- of a request to a hub
 pub bad_hub_told : {A : Type 0} (t : Target) (setup : Setup) (outcome : Result A PipeFault)
-    (stop : Stop) (m n : ℕ) (old new : World) → answered_or cause.BadHub outcome ≡ Err stop
+    (stop : Stop) (m n : ℕ) (old new : World) → Err stop ≡ answered_or cause.BadHub outcome
     → ((why : PipeFault) → outcome ≡ Err why → FailsAs t setup why old new)
     → MatchResult outcome (λ _. AttemptsMade m old new) (λ why. FaultAfter n old why new)
     → (EndsFailing t (λ x. x ≡ setup) pipe.Stalled old new → HubFails t old new)
@@ -155,7 +155,7 @@ writes_failed t setup outcome old new stages why is =
 pub read_stop_told : {t : Target} {setup : Setup} {outcome : Result (Vec ℕ) PipeFault}
     {old new : World}
     (named : Request) (stop : Stop) → IsNamed named setup
-    → answered_or (cause.Stalled named) outcome ≡ Err stop → Queried t setup old outcome new
+    → Err stop ≡ answered_or (cause.Stalled named) outcome → Queried t setup old outcome new
     → CauseAllowed t stop old new
 read_stop_told {t} {setup} {outcome} {old} {new} named stop names is asked =
     stop_told t setup named outcome stop 3 1 old new is names
@@ -163,7 +163,7 @@ read_stop_told {t} {setup} {outcome} {old} {new} named stop names is asked =
 
 pub write_stop_told : {t : Target} {setup : Setup} {outcome : Result (Unit {0}) PipeFault}
     {old new : World} (named : Request) (stop : Stop) → IsNamed named setup
-    → answered_or (cause.Stalled named) outcome ≡ Err stop → Commanded t setup old outcome new
+    → Err stop ≡ answered_or (cause.Stalled named) outcome → Commanded t setup old outcome new
     → CauseAllowed t stop old new
 write_stop_told {t} {setup} {outcome} {old} {new} named stop names is ordered =
     stop_told t setup named outcome stop 2 1 old new is names
@@ -179,11 +179,7 @@ said_err (Ok bytes) size why other is = pick (length bytes.items == size) is
         if b then Ok (device_status bytes.items) else Err pipe.Stalled in r ≡ Err why)
         → Ok bytes ≡ Err why
     pick true e = absurd cc
-    pick false e = elim (other (same e)) [ ]
-      where
-        same : (let r : Result DeviceStatus PipeFault = Err pipe.Stalled in r ≡ Err why)
-            → why ≡ pipe.Stalled
-        same e = cc
+    pick false e = absurd (other cc)
 said_err (Err fault) size why other is = cc
 
 -- what it failed as
@@ -198,7 +194,7 @@ status_failed t why old new other f =
     f.1.0)
 
 pub status_told : (t : Target) (outcome : Result DeviceStatus PipeFault) (stop : Stop)
-    (old new : World) → answered_or cause.BadHub outcome ≡ Err stop
+    (old new : World) → Err stop ≡ answered_or cause.BadHub outcome
     → ReadAs device_status t get_status old outcome new → CauseAllowedOfHub t stop old new
 status_told t outcome stop old new is told =
     stop_by (λ s. CauseAllowedOfHub t s old new) (StatusFails t old new) cause.BadHub outcome stop 3
@@ -216,21 +212,20 @@ pub string_told : (t : Target) (setup : Setup) (outcome : Result (Vec ℕ) PipeF
     → stop_of fault_is ≡ Some stop → Reads t setup old outcome new → EndsAfter 3 old outcome new
     → CauseAllowed t stop old new
 string_told t setup outcome fault_is stop old new is some stages ends =
-    by fault_is stop some (reads_failed t setup outcome old new stages fault_is is)
-    (subst (λ r. EndsAfter 3 old r new) is ends)
+    subst Told some (by fault_is (reads_failed t setup outcome old new stages fault_is is)
+    (subst (λ r. EndsAfter 3 old r new) is ends))
   where
-    by : (why : PipeFault) (s : Stop) → stop_of why ≡ Some s → FailsAs t setup why old new
-        → FaultAfter 1 old why new → CauseAllowed t s old new
-    by pipe.Stalled s e failed after = absurd cc
-    by pipe.Busy s e failed after = subst (λ x. CauseAllowed t x old new)
-        (let same : Refused cause.Busy ≡ s = cc in same) (failing IsAny pipe.Busy tt failed)
-    by pipe.NoAnswer s e failed after = subst (λ x. CauseAllowed t x old new)
-        (let same : Refused cause.Silent ≡ s = cc in same) (failing IsAny pipe.NoAnswer tt failed)
-    by pipe.Broken s e failed after = absurd after
-    by (pipe.Bus why) s e failed after = subst (λ x. CauseAllowed t x old new)
-        (let same : Fault (fault.Bus why) ≡ s = cc in same) after
-    by pipe.Memory s e failed after = subst (λ x. CauseAllowed t x old new)
-        (let same : Fault fault.Memory ≡ s = cc in same) tt
+    Told : Option Stop → Type 0
+    Told o = IfSome o (λ s. CauseAllowed t s old new)
+
+    by : (why : PipeFault) → FailsAs t setup why old new → FaultAfter 1 old why new
+        → Told (stop_of why)
+    by pipe.Stalled failed after = tt
+    by pipe.Busy failed after = failing IsAny pipe.Busy tt failed
+    by pipe.NoAnswer failed after = failing IsAny pipe.NoAnswer tt failed
+    by pipe.Broken failed after = absurd after
+    by (pipe.Bus why) failed after = after
+    by pipe.Memory failed after = tt
 
 -- that there was no answer
 pub unanswered_ends_failing : (t : Target) (setup : Setup) (outcome : Result (Vec ℕ) PipeFault)
@@ -319,18 +314,7 @@ told_faults (Fault why) t old new told = told
 -- At a port
 
 pub port_fails : {port : HubPort} {old new : World} → PortFails port old new → CanFail port
-port_fails {port} {old} {new} f = pick f.failed
-  where
-    acted : (feature : ℕ) → PortSet port feature f.before (Err f.why) new
-        ⊎ PortCleared port feature f.before (Err f.why) new → CanFail port
-    acted feature (inl set) = set_fails port feature f.before new (Err f.why) set refl
-    acted feature (inr cleared) = clear_fails port feature f.before new (Err f.why) cleared refl
-
-    pick : PortRead port f.before (Err f.why) new
-        ⊎ ((feature : ℕ) × (PortSet port feature f.before (Err f.why) new
-        ⊎ PortCleared port feature f.before (Err f.why) new)) → CanFail port
-    pick (inl read) = read_fails port f.before new (Err f.why) read refl
-    pick (inr act) = acted act.0 act.1
+port_fails {port} {old} {new} f = port_can_fail port f.why f.before new f.failed
 
 pub fault_by : (port : HubPort) (why : EnumFault) (old new : World) → FaultBy port why old new
     → FaultAllowedAt port why new
@@ -359,81 +343,40 @@ fault_told_by port (fault.Bus why) old new told = told
 fault_told_by port fault.Memory old new told = told
 
 -- what failed at the port
+abbrev AtPortFails : HubPort → PipeFault → World → World → Type 0
+AtPortFails port why old new = PortRead port old (Err why) new
+    ⊎ ((feature : ℕ) × (PortSet port feature old (Err why) new
+    ⊎ PortCleared port feature old (Err why) new))
+
+lost_by : {port : HubPort} {old new : World} (why : PipeFault) → fault_at_port why ≡
+    fault.ParentLost
+    → AtPortFails port why old new → PortFails port old new
+lost_by {old = old} why lost failed =
+    record { before = old; led = leads_none old; why = why; lost = lost; failed = failed }
+
 called_by : {A : Type 0} (port : HubPort) (outcome : Result A PipeFault) (old new : World)
     → IfErr outcome (λ why. FaultAfter 1 old why new)
-    → ((why : PipeFault) → outcome ≡ Err why → PortRead port old (Err why) new
-    ⊎ ((feature : ℕ) × (PortSet port feature old (Err why) new
-    ⊎ PortCleared port feature old (Err why) new)))
+    → ((why : PipeFault) → outcome ≡ Err why → AtPortFails port why old new)
     → IfErr (at_port outcome) (λ why. FaultBy port why old new)
 called_by port (Ok x) old new ends f = tt
-called_by port (Err pipe.Stalled) old new ends f = record {
-  before = old;
-  led = leads_none old;
-  why = pipe.Stalled;
-  lost = refl;
-  failed = f pipe.Stalled refl;
-}
-called_by port (Err pipe.Busy) old new ends f = record {
-  before = old;
-  led = leads_none old;
-  why = pipe.Busy;
-  lost = refl;
-  failed = f pipe.Busy refl;
-}
-called_by port (Err pipe.NoAnswer) old new ends f = record {
-  before = old;
-  led = leads_none old;
-  why = pipe.NoAnswer;
-  lost = refl;
-  failed = f pipe.NoAnswer refl;
-}
-called_by port (Err pipe.Broken) old new ends f = record {
-  before = old;
-  led = leads_none old;
-  why = pipe.Broken;
-  lost = refl;
-  failed = f pipe.Broken refl;
-}
+called_by port (Err pipe.Stalled) old new ends f = lost_by pipe.Stalled refl (f pipe.Stalled refl)
+called_by port (Err pipe.Busy) old new ends f = lost_by pipe.Busy refl (f pipe.Busy refl)
+called_by port (Err pipe.NoAnswer) old new ends f =
+    lost_by pipe.NoAnswer refl (f pipe.NoAnswer refl)
+called_by port (Err pipe.Broken) old new ends f = lost_by pipe.Broken refl (f pipe.Broken refl)
 called_by port (Err (pipe.Bus why)) old new ends f = ends
 called_by port (Err pipe.Memory) old new ends f = tt
-
-pub read_by : (port : HubPort) (outcome : Result PortStatus PipeFault) (old new : World)
-    → IfErr outcome (λ why. FaultAfter 1 old why new) → PortRead port old outcome new
-    → IfErr (at_port outcome) (λ why. FaultBy port why old new)
-read_by port outcome old new ends read =
-    called_by port outcome old new ends
-    (λ why is. inl (subst (λ r. PortRead port old r new) is read))
-
-pub port_set_fault : (port : HubPort) (feature : ℕ) (outcome : Result (Unit {0}) PipeFault)
-    (old new : World) → IfErr outcome (λ why. FaultAfter 1 old why new)
-    → PortSet port feature old outcome new
-    → IfErr (at_port outcome) (λ why. FaultBy port why old new)
-port_set_fault port feature outcome old new ends set =
-    called_by port outcome old new ends
-    (λ why is. inr (feature, inl (subst (λ r. PortSet port feature old r new) is set)))
-
-pub port_cleared_fault : (port : HubPort) (feature : ℕ) (outcome : Result (Unit {0}) PipeFault)
-    (old new : World) → IfErr outcome (λ why. FaultAfter 1 old why new)
-    → PortCleared port feature old outcome new
-    → IfErr (at_port outcome) (λ why. FaultBy port why old new)
-port_cleared_fault port feature outcome old new ends cleared =
-    called_by port outcome old new ends
-    (λ why is. inr (feature, inr (subst (λ r. PortCleared port feature old r new) is cleared)))
 
 -- how a call at the port ends
 pub call_ends : {A : Type 0} (port : HubPort) (result : Result A EnumFault)
     (outcome : Result A PipeFault) (old new : World) → result ≡ at_port outcome
-    → IfErr (at_port outcome) (λ why. FaultBy port why old new)
+    → IfErr outcome (λ why. FaultAfter 1 old why new)
+    → ((why : PipeFault) → outcome ≡ Err why → AtPortFails port why old new)
     → MatchResult result (λ done. ⊤) (λ why. FaultBy port why old new)
-call_ends {A} port result outcome old new is by = told result (subst Told (sym is) by)
-  where
-    Told : Result A EnumFault → Type 0
-    Told r = IfErr r (λ why. FaultBy port why old new)
-
-    told : (r : Result A EnumFault) → Told r
-        → MatchResult r (λ done. ⊤) (λ why. FaultBy port why old new)
-    told (Ok done) by = tt
-    told (Err why) by = by
+call_ends {A} port (Ok done) outcome old new is ends f = tt
+call_ends {A} port (Err why) outcome old new is ends f =
+    subst (λ (r : Result A EnumFault). IfErr r (λ why. FaultBy port why old new)) (sym is)
+    (called_by port outcome old new ends f)
 
 early_after : {port : HubPort} {address : ℕ} {why : Cause} {old mid new : World} → Leads old mid
     → RefusedEarly port address mid new why → RefusedEarly port address old new why

@@ -14,8 +14,7 @@ use Rattle.usb_descriptor.specs.{device_head_of}
 use Rattle.usb_device.specs.{State, Spec, IsSpec, Ports, ended, vacant, taken, reach, state_at}
 use Rattle.usb_device.specs.{port_at, Location, path_to, reach_on, state_on, state_there}
 use Rattle.usb_device.specs.{port_there}
-use Rattle.usb_world.specs.{after_taking, Relation, Was, EachWas, one_more, UnchangedOrPending}
-use Rattle.usb_world.specs.{Consistent, World}
+use Rattle.usb_world.specs.{after_taking, Relation, Was, EachWas, one_more, Consistent, World}
 use Rattle.usb_tree.specs.{address_of, has_power, has_power_at, pending, deep_at}
 use Rattle.usb_world.proofs.Interface.{course_wider, pending_persists, rests_or_pends, sane_spec}
 use Rattle.usb_tree.proofs.Interface.{both, decided, false_true}
@@ -28,26 +27,26 @@ use Rattle.usb_pipe.specs.{PipeFault, WriteFailure, CanEnd, TookItOrLost, took, 
 use Rattle.usb_pipe.specs.declared.fault.PipeFault.TheVariants as pipe
 use Rattle.usb_hub.specs.{HubPort, Root, External, IsAt, PortCallDone, PortStatusAt, Commanded}
 use Rattle.usb_hub.specs.{AddressAsked}
-use Rattle.usb_hub.proofs.Interface.{Called, StandsSo, done_stands}
+use Rattle.usb_hub.proofs.Interface.{done_stands}
 use Rattle.usb_enum.specs.{Cause, Lost, Stalled, EnumFault, Stop, IsSpare, AtPort, CalledAt}
 use Rattle.usb_enum.specs.{SettlesReset, StatusAt, IsUnaddressed, needs_pre, IsFairAt, PendingOr}
 use Rattle.usb_enum.specs.{StopsFor, StopsFairly, Missed, Misses, OnlyAsks, Hears, Explained}
-use Rattle.usb_enum.specs.{FailureReason, NoNewStretch, IsOccupied, IsReachedAt, AtPath, HasHead}
-use Rattle.usb_enum.specs.{AwaitsAddress, Awaits, WasReset, IsResponsive, IsRefusedFor, Refuses}
-use Rattle.usb_enum.specs.{no_fault, head_fault, early_fault, address_fault, device_fault}
-use Rattle.usb_enum.specs.{addressed_fault, NoDescriptor, RefusesDescriptor, stop_of, answered_or}
-use Rattle.usb_enum.specs.{StopFaults}
+use Rattle.usb_enum.specs.{FailureReason, NoNewStretch, IsReachedAt, AtPath, HasHead, AwaitsAddress}
+use Rattle.usb_enum.specs.{Awaits, WasReset, IsResponsive, IsRefusedFor, Refuses, no_fault}
+use Rattle.usb_enum.specs.{head_fault, early_fault, address_fault, device_fault, addressed_fault}
+use Rattle.usb_enum.specs.{NoDescriptor, RefusesDescriptor, stop_of, answered_or, StopFaults}
 use Rattle.usb_enum.specs.declared.cause.Request.TheVariants as request
 use Rattle.usb_enum.specs.declared.stop.Stop.TheVariants.{Refused, Fault}
 use Rattle.usb_enum.proofs.courses.Courses.{regular_order, went_course, went_sound}
-use Rattle.usb_enum.proofs.devices.Enumerations.{having, at_taking, within_kept}
+use Rattle.usb_enum.proofs.devices.Enumerations.{answered_has, having, at_taking, within_kept}
 use Rattle.usb_enum.proofs.courses.Fairness.{fair_before, fair_then, fair_single, faults_for_told}
 use Rattle.usb_enum.proofs.courses.Fairness.{pends_reached, state_there-port, held_spare}
 use Rattle.usb_enum.proofs.devices.Frames.{called_is, ends_without_fault as ended_call}
 use Rattle.usb_enum.proofs.readings.Heads.{head_packet}
 use Rattle.usb_enum.proofs.courses.Losses.{course_later}
-use Rattle.usb_enum.proofs.devices.Presence.{Granted, granted, held_at, path_on, answered_has}
-use Rattle.usb_enum.proofs.devices.ReachedDevices.{done_at, reached_on, reach-state, is_some-state}
+use Rattle.usb_enum.proofs.devices.Presence.{Granted, StoodAt, granted, held_at, path_on, stood_at}
+use Rattle.usb_enum.proofs.devices.Presence.{at_place}
+use Rattle.usb_enum.proofs.devices.ReachedDevices.{done_at, reached_on, reach-state, is_some-value}
 use Rattle.usb_enum.proofs.courses.Stretches.{no_stretch_none, no_stretch_then}
 use Rattle.usb_enum.proofs.refusals.Refusals.{answered_err, each_joint}
 
@@ -97,68 +96,46 @@ pub reset_lost : (port : HubPort) (address m n : ℕ) (status : PortStatus) {old
     → CalledAt port (set_call PORT_RESET) old (Ok tt) set → StatusAt port set (Ok status) told
     → status.enabled ≡ false → StopsFairly no_fault port address (Refused Lost) old told
 reset_lost port address m n status {old} {set} {told} first second at_set asks called shown off =
-    record { why = λ f p fair held. inl (pends f p fair) }
-  where
-    pends : (f : AddressMap) (p : List ℕ) → IsFairAt f port p address old told
-        → pending told.roots p ≡ true
-    pends f p fair = by_old fair.occupied
-      where
-        none_set : set.fault ≡ None
-        none_set = went_sound n set told second fair.working
-
-        later : pending set.roots p ≡ true → pending told.roots p ≡ true
-        later h = pending_persists p (course_wider (λ s w k. k.spares) (asks.ports fair.working p))
-            h
-
-        done : PortCallDone p SetReset old set
-        done =
-            let h = having f p address old fair.held in
-            called.calls.done (after_taking f p h.has) p SetReset
-            (called_is f port p address old fair.spare h (set_call PORT_RESET) SetReset refl)
-            (done_at called.outcome tt called.told)
-
-        seen_at : PortStatusAt p status set told
-        seen_at =
-            let h = having f p address set (at_set.within.stays f p fair.spare fair.held) in
-            shown.tells.tells (after_taking f p h.has) p (at_taking f port p h.has fair.spare.at)
-            h.owned status (done_at shown.outcome status shown.told)
-
-        by_rest : (b : PortState) → b.enable ≡ true → port_there set.roots p ≡ Some b
-            → UnchangedOrPending set seen_at.now p → pending told.roots p ≡ true
-        by_rest b on there (inr h) = pending_persists p
-            (course_wider (λ s w k. k.spares) (seen_at.since p)) h
-        by_rest b on there (inl y) =
-            let same = same_Some b seen_at.port (sym there ∙ sym y.1.port ∙ seen_at.stood) in
-            false_true (sym off ∙ ap (λ x. x.enabled) seen_at.is ∙ ap (λ x. x.enable) (sym same)
-            ∙ on)
-
-        by_set : has_power old.roots p ≡ true → (s : State) → state_there old.roots p ≡ Some s
-            → (b : PortState) → port_there old.roots p ≡ Some b
-            → StandsSo p SetReset (Called p SetReset) old set → pending told.roots p ≡ true
-        by_set on s there b at (inr h) = later h
-        by_set on s there b at (inl y) =
-            by_rest (reset b) (reset_enables old.roots p b s
-            (fair.order (went_sound m old set first none_set)).sane on at there) (y.1
-            ∙ ap (option_map (called_port SetReset)) at)
-            (rests_or_pends p (seen_at.before p) y.0)
-
-        by_old : IsOccupied old p → pending told.roots p ≡ true
-        by_old (inl h) = later (pending_persists p
-            (at_set.only.at f p fair.spare fair.held none_set).spares h)
-        by_old (inr is) =
-            let s = is_some-state (state_there old.roots p) is.1 in
-            let b = state_there-port old.roots p is.1 in
-            by_set is.0 s.0 s.1 b.0 b.1 (done_stands p SetReset refl old set done is.0)
+    record {
+      why = λ f p fair held.
+          let none_set = went_sound n set told second fair.working in
+          let later : pending set.roots p ≡ true → pending told.roots p ≡ true = λ x.
+          pending_persists p (course_wider (λ s w k. k.spares) (asks.ports fair.working p)) x in
+          let h = having f p address old fair.held in
+          let done : PortCallDone p SetReset old set = called.calls.done (after_taking f p h.has) p
+          SetReset (called_is f port p address old fair.spare h (set_call PORT_RESET) SetReset refl)
+          (done_at called.outcome tt called.told) in
+          let k = having f p address set (at_set.within.stays f p fair.spare fair.held) in
+          let seen : PortStatusAt p status set told = shown.tells.tells (after_taking f p k.has) p
+          (at_taking f port p k.has fair.spare.at) k.owned status
+          (done_at shown.outcome status shown.told) in
+          inl (elim fair.occupied [
+            | inl x ↦ later (pending_persists p
+                (at_set.only.at f p fair.spare fair.held none_set).spares x)
+            | inr is ↦ elim (done_stands p SetReset refl old set done is.0) [
+              | inr x ↦ later x
+              | inl y ↦ (let s = is_some-value (state_there old.roots p) is.1 in
+                  let b = state_there-port old.roots p is.1 in
+                  elim (rests_or_pends p (seen.before p) y.0) [
+                    | inr x ↦ pending_persists p (course_wider (λ s w k. k.spares) (seen.since p)) x
+                    | inl z ↦ (let same = same_Some (reset b.0) seen.port
+                        (sym (y.1 ∙ ap (option_map (called_port SetReset)) b.1) ∙ sym z.1.port
+                        ∙ seen.stood) in
+                        false_true (sym off ∙ ap (λ x. x.enabled) seen.is
+                        ∙ ap (λ x. x.enable) (sym same) ∙ reset_enables old.roots p b.0 s.0
+                        (fair.order (went_sound m old set first none_set)).sane is.0 b.1 s.1))
+                  ])
+            ]
+          ]);
+    }
 
 pub settle_failed : (port : HubPort) (changed : Bool) (why : EnumFault) (old new : World)
     → SettlesReset port changed old (Err why) new
     → CalledAt port (clear_call C_PORT_RESET) old (Err why) new
-settle_failed port changed why old new settles = pick (decided changed)
-  where
-    pick : (changed ≡ true) ⊎ (changed ≡ false)
-        → CalledAt port (clear_call C_PORT_RESET) old (Err why) new
-    pick (inl e) = settles.set e
-    pick (inr e) = let done = (settles.unset e).0 in absurd cc
+settle_failed port changed why old new settles = elim (decided changed) [
+  | inl e ↦ settles.set e
+  | inr e ↦ (let done = (settles.unset e).0 in absurd cc)
+]
 
 pub unfalse : (b : Bool) → not b ≡ false → b ≡ true
 unfalse true h = refl
@@ -174,11 +151,10 @@ reset_goes port l m n status old set {told} {new} first second third called show
     let none_told = went_sound n told new third none in
     let none_set = went_sound m set told second none_told in
     no_stretch_then old set new (called.goes none_set)
-    (no_stretch_then set told new (shown.goes none_told) (pick (decided status.reset_changed)))
-  where
-    pick : (status.reset_changed ≡ true) ⊎ (status.reset_changed ≡ false) → NoNewStretch told new
-    pick (inl e) = (settles.set e).goes none
-    pick (inr e) = subst (NoNewStretch told) (sym (settles.unset e).1) (no_stretch_none told)
+    (no_stretch_then set told new (shown.goes none_told) (elim (decided status.reset_changed) [
+      | inl e ↦ (settles.set e).goes none
+      | inr e ↦ subst (NoNewStretch told) (sym (settles.unset e).1) (no_stretch_none told)
+    ]))
 
 -- The device at the port hears its target
 
@@ -220,36 +196,6 @@ pub record IsTargeted (A : Spec → Type 0) (t : Target) (s : State) : Type 0 wh
   pub address : address_of s ≡ t.addr
   pub so : A s.spec
 
--- a device at a place, before a call that tells of each
-pub record StoodAt (p : List ℕ) (w : World) (R : Location → State → Type 0) : Type 0 where
-  pub spot : Location
-  pub path : p ≡ path_to spot
-  pub before : State
-  pub on : reach_on w.roots spot ≡ true
-  pub stands : state_on w.roots spot ≡ Some before
-  pub so : R spot before
-
-pub stood_at : (R : Relation) (p : List ℕ) (old new : World) → EachWas R old new → (v : State)
-    → reach new.roots p ≡ true → state_there new.roots p ≡ Some v → StoodAt p old (λ j s. R j s v)
-stood_at R [] old new was v on there = false_true on
-stood_at R (zero ∷ p) old new was v on there = false_true on
-stood_at R (suc j ∷ e) old new was v on there =
-    let w : Was R old (record { row = j; rest = e }) v =
-    was (record { row = j; rest = e }) v on there in
-    record {
-      spot = record { row = j; rest = e };
-      path = refl;
-      before = w.before;
-      on = w.on;
-      stands = w.stands;
-      so = w.so;
-    }
-
--- what is so of its place is so of its path
-at_place : (A : State → Type 0) (p : List ℕ) (w : World) (R : Location → State → Type 0)
-    → AtPath A p w → (s : StoodAt p w R) → A s.before
-at_place A p w R is s = subst (λ x. AtPath A x w) s.path is s.before s.on s.stands
-
 pub explained_at : (So A : Spec → Type 0) (t : Target) (f : AddressMap) (port : HubPort)
     (p : List ℕ) (mid new : World) → IsAt f port p → t.pre ≡ (t.low && needs_pre port)
     → NoThreeDamaged mid → new.shared ≡ false → Consistent mid.roots → FailureReason So t mid new
@@ -269,11 +215,7 @@ explained_at So A t f port p mid new at pre three single sane explains is v on t
 zero_held : (f : AddressMap) (p : List ℕ) (w : World) → w.fault ≡ None
     → WhileBusWorks (Enumerating f p 0) w → AtPath (λ s. address_of s ≡ 0) p w
 zero_held f p w none t s on there = let e = t.so none in held_at f p e.has w e.owned s on there
-    ∙ pick e.is
-  where
-    pick : {n : ℕ} → (n ≡ 0) ⊎ (n ≡ 0) → n ≡ 0
-    pick (inl e) = e
-    pick (inr e) = e
+    ∙ elim e.is [ inl none_yet ↦ none_yet | inr none_yet ↦ none_yet ]
 
 -- Its head
 
@@ -287,34 +229,29 @@ pub head_stops : (port : HubPort) (address m n : ℕ) (low pre : Bool) (stop : S
 head_stops port address m n low pre (Fault why) first second at at_zero asks was is told explains =
     record { why = λ f p fair. faults_for_told p why _ told }
 head_stops port address m n low pre (Refused cause) {old} {mid} {new} first second at at_zero asks
-    was is told explains = record { why = why }
-  where
-    t : Target
-    t = record { addr = 0; max = 8; low = low; pre = pre }
-
-    why : (f : AddressMap) (p : List ℕ) → IsFairAt f port p address old new
-        → WhileBusWorks (Enumerating f p 0) old
-        → PendingOr (λ spec. early_fault spec ≡ Some cause) p new
-    why f p fair held =
-        let spare = held_spare f port p address fair.spare in
-        let sound = went_sound n mid new second fair.working in
-        let here = fair_then f port p address m n first second fair at in
-        let zero = zero_held f p mid sound (at_zero.within.stays f p spare held) in
-        let speed = (was.speed sound).found f p spare held (regular_order fair.order) in
-        let single = ((within_kept port address mid new asks.addresses).stays f p fair.spare
-        here.held).single in
-        pends_reached (λ spec. early_fault spec ≡ Some cause) p new
-        (reached_on p (asks.ports fair.working p)
-        (was.reaches.reached f p spare held fair.order fair.occupied sound))
-        (λ s on there.
-        let so = explained_at (λ spec. head_fault low spec ≡ Some cause) (λ spec. spec.low ≡ low) t
-        f port p mid new fair.spare.at is here.few single (here.order sound).sane explains
-        (λ z up at_z. record {
-          low = speed z up at_z;
-          address = zero z up at_z;
-          so = speed z up at_z;
-        }) s on there in
-        subst (λ x. head_fault x s.spec ≡ Some cause) (sym so.1) so.0)
+    was is told explains = record {
+      why = λ f p fair held.
+          let spare = held_spare f port p address fair.spare in
+          let sound = went_sound n mid new second fair.working in
+          let here = fair_then f port p address m n first second fair at in
+          let zero = zero_held f p mid sound (at_zero.within.stays f p spare held) in
+          let speed = (was.speed sound).found f p spare held (regular_order fair.order) in
+          let single = ((within_kept port address mid new asks.addresses).stays f p fair.spare
+          here.held).single in
+          pends_reached (λ spec. early_fault spec ≡ Some cause) p new
+          (reached_on p (asks.ports fair.working p)
+          (was.reaches.reached f p spare held fair.order fair.occupied sound))
+          (λ s on there.
+          let so = explained_at (λ spec. head_fault low spec ≡ Some cause) (λ spec. spec.low ≡ low)
+          (record { addr = 0; max = 8; low = low; pre = pre }) f port p mid new fair.spare.at is
+          here.few single (here.order sound).sane explains
+          (λ z up at_z. record {
+            low = speed z up at_z;
+            address = zero z up at_z;
+            so = speed z up at_z;
+          }) s on there in
+          subst (λ x. head_fault x s.spec ≡ Some cause) (sym so.1) so.0);
+    }
 
 -- What is wrong up to the whole device descriptor
 
@@ -383,42 +320,26 @@ module _ (port : HubPort) (address m n : ℕ) (target : Target)
         → WhileBusWorks (Enumerating f p 0) old
         → PendingOr (λ spec. addressed_fault spec ≡ Some cause) p new
     address_refused f p fair cause so held =
+        let here = fair_then f port p address m n first second fair at in
+        let single = fair_single f port p address fair at_new in
+        let each : EachWas Both mid new = each_joint (AddressAsked target address outcome mid new)
+        (WriteFailure target outcome) Both (λ j s v x y. (x, y)) mid new (what single)
+        (why here.few single) in
         pends_reached (λ spec. addressed_fault spec ≡ Some cause) p new
-        (address_reached f p fair held) (λ v on there. at_state v
-        (stood_at Both p mid new each v on there))
-      where
-        sound : mid.fault ≡ None
-        sound = went_sound n mid new second fair.working
+        (address_reached f p fair held) (λ v on there.
+        let s : StoodAt p mid (λ j s. Both j s v) = stood_at Both p mid new each v on there in
+        let waits = at_place (AwaitsAddress target) p mid (λ j s. Both j s v)
+        (awaits.found.found f p (held_spare f port p address fair.spare) held
+        (regular_order fair.order)) s in
+        let heard = hears_there f port s.spot target s.before
+        (subst (IsAt f port) s.path fair.spare.at) is.pre waits.low (waits.zero ∙ sym is.zero) in
+        subst (λ x. addressed_fault x ≡ Some cause) (sym (ap (λ y. y.spec) s.so.0.frame))
+        (so s.spot s.before v s.so
+        (record { at = heard.at; loud = waits.head.loud; hears = heard.hears })
+        (sane_spec mid.roots s.spot.row s.spot.rest s.before
+        (here.order (went_sound n mid new second fair.working)).sane s.stands) waits))
 
-        here : IsFairAt f port p address mid new
-        here = fair_then f port p address m n first second fair at
-
-        single : new.shared ≡ false
-        single = fair_single f port p address fair at_new
-
-        each : EachWas Both mid new
-        each = each_joint (AddressAsked target address outcome mid new)
-            (WriteFailure target outcome) Both (λ j s v x y. (x, y)) mid new (what single)
-            (why here.few single)
-
-        at_state : (v : State) → StoodAt p mid (λ j s. Both j s v)
-            → addressed_fault v.spec ≡ Some cause
-        at_state v s =
-            let waits = at_place (AwaitsAddress target) p mid (λ j s. Both j s v)
-            (awaits.found.found f p (held_spare f port p address fair.spare) held
-            (regular_order fair.order)) s in
-            let heard = hears_there f port s.spot target s.before
-            (subst (IsAt f port) s.path fair.spare.at) is.pre waits.low (waits.zero
-            ∙ sym is.zero) in
-            subst (λ x. addressed_fault x ≡ Some cause) (sym (ap (λ y. y.spec) s.so.0.frame))
-            (so s.spot s.before v s.so (record {
-              at = heard.at;
-              loud = waits.head.loud;
-              hears = heard.hears;
-            }) (sane_spec mid.roots s.spot.row s.spot.rest s.before
-            (here.order sound).sane s.stands) waits)
-
-    pub address_stops : (stop : Stop) → answered_or (Stalled request.Address) outcome ≡ Err stop
+    pub address_stops : (stop : Stop) → Err stop ≡ answered_or (Stalled request.Address) outcome
         → StopsFairly addressed_fault port address stop old new
     address_stops stop told = record {
       why = λ f p fair. let failed =
@@ -500,45 +421,33 @@ module _ (port : HubPort) (address l m n : ℕ) (target : Target) {old mid given
       max = head_packet spec target.low target.max g.speed g.head;
     }
 
-  descriptor_refused_for : (cause : Cause) → RefusesDescriptor named (Refused cause) given new
-      → (f : AddressMap) (p : List ℕ) → IsFairAt f port p address old new
-      → WhileBusWorks (Enumerating f p 0) old
-      → PendingOr (λ spec. addressed_fault spec ≡ Some cause) p new
-  descriptor_refused_for cause refuses f p fair held =
-      pends_reached (λ spec. addressed_fault spec ≡ Some cause) p new (named_reached f p fair held)
-      (λ s on there. by_spec s.spec
-      (explained_at (Refuses named (device_fault target.low) (Refused cause))
-      (Granted target.low target.max) named f port p given new fair.spare.at is.pre
-      (fair_given f p fair held).few (single_new f p fair held)
-      ((fair_given f p fair held).order (sound_given f p fair held)).sane refuses.why targeted s on
-      there))
-    where
-      by_spec : (spec : Spec) → Refuses named (device_fault target.low) (Refused cause) spec
-          × Granted target.low target.max spec → addressed_fault spec ≡ Some cause
-      by_spec spec so =
-          addressed_device spec cause (early_none target.low target.max spec so.1.speed so.1.head)
-          so.1.allowed
-          (ap (λ x. device_fault x spec) so.1.speed ∙ so.0 (responsive f p fair held spec so.1))
-
-      targeted : AtPath (IsTargeted (Granted target.low target.max) named) p given
-      targeted s on there =
-          let have = having f p address given (at_given.within.stays f p fair.spare fair.held) in
-          let who = (refuses.who cause refl).held (after_taking f p have.has) have.owned in
-          let g = granted_there f p fair held s on there in
-          record {
-            low = g.speed;
-            address = held_at f p have.has given (have.owned.so (sound_given f p fair held)) s on
-                there ∙ answered_has f port p address have.has address fair.spare (inr refl) who;
-            so = g;
-          }
-
   pub descriptor_stops : (stop : Stop) → StopFaults stop new
       → RefusesDescriptor named stop given new
       → StopsFairly addressed_fault port address stop old new
   descriptor_stops (Fault why) told refuses =
       record { why = λ f p fair. faults_for_told p why new told }
-  descriptor_stops (Refused cause) told refuses =
-      record { why = descriptor_refused_for cause refuses }
+  descriptor_stops (Refused cause) told refuses = record {
+    why = λ f p fair held.
+        let have = having f p address given (at_given.within.stays f p fair.spare fair.held) in
+        let who = (refuses.who cause refl).held (after_taking f p have.has) have.owned in
+        pends_reached (λ spec. addressed_fault spec ≡ Some cause) p new (named_reached f p fair
+        held) (λ s on there.
+        let so = explained_at (Refuses named (device_fault target.low) (Refused cause))
+        (Granted target.low target.max) named f port p given new fair.spare.at is.pre
+        (fair_given f p fair held).few (single_new f p fair held)
+        ((fair_given f p fair held).order (sound_given f p fair held)).sane refuses.why
+        (λ z up at_z.
+        let g = granted_there f p fair held z up at_z in
+        record {
+          low = g.speed;
+          address = held_at f p have.has given (have.owned.so (sound_given f p fair held)) z up at_z
+              ∙ answered_has f port p address have.has address fair.spare (inr refl) who;
+          so = g;
+        }) s on there in
+        addressed_device s.spec cause (early_none target.low target.max s.spec so.1.speed so.1.head)
+        so.1.allowed
+        (ap (λ x. device_fault x s.spec) so.1.speed ∙ so.0 (responsive f p fair held s.spec so.1)));
+  }
 
   -- where it gives none, it missed its address
 
@@ -606,25 +515,23 @@ module _ (port : HubPort) (address l m n : ℕ) (target : Target) {old mid given
         missed : (f : AddressMap) (p : List ℕ) → IsFairAt f port p address old new
             → WhileBusWorks (Enumerating f p 0) old → (pending new.roots p ≡ true)
             ⊎ (WhileBusWorks (Enumerating f p 0) new × Missed 1 old new)
-        missed f p fair held = by_reach (named_reached f p fair held)
+        missed f p fair held = elim (named_reached f p fair held) [
+          | inl pending ↦ inl pending
+          | inr on ↦ inr (by_path p refl on.1)
+        ]
           where
             by_path : (x : List ℕ) → p ≡ x → reach new.roots x ≡ true
                 → WhileBusWorks (Enumerating f p 0) new × Missed 1 old new
             by_path [] path on = false_true on
             by_path (zero ∷ q) path on = false_true on
             by_path (suc j ∷ q) path on =
-                let v = is_some-state (state_at new.roots j q) (reach-state new.roots j q on) in
+                let v = is_some-value (state_at new.roots j q) (reach-state new.roots j q on) in
                 let x = still_held f p fair held (record { row = j; rest = q }) path v.0 on v.1 in (
                   x.0,
                   counted_more x.1 (awaits.goes (went_sound m mid given second
                       (sound_given f p fair held))) (none.goes fair.working)
                       (course_later (went_course n given new third fair.working)).worst,
                 )
-
-            by_reach : IsReachedAt new p → (pending new.roots p ≡ true)
-                ⊎ (WhileBusWorks (Enumerating f p 0) new × Missed 1 old new)
-            by_reach (inl pending) = inl pending
-            by_reach (inr on) = inr (by_path p refl on.1)
 
 -- Pass after pass
 
@@ -656,28 +563,17 @@ module _ (port : HubPort) (address k m n : ℕ) {old mid new : World} {a b c d :
       h
 
   pub misses_then : Misses port address 1 mid new → Misses port address (k + 1) old new
-  misses_then next = record { missed = missed }
-    where
-      missed : (f : AddressMap) (p : List ℕ) → IsFairAt f port p address old new
-          → WhileBusWorks (Enumerating f p 0) old → (pending new.roots p ≡ true)
-          ⊎ (WhileBusWorks (Enumerating f p 0) new × Missed (k + 1) old new)
-      missed f p fair held = pick (before.missed f p
-          (fair_before f port p address m n first second fair) held)
-        where
-          more : Missed k old mid → (pending new.roots p ≡ true)
-              ⊎ (WhileBusWorks (Enumerating f p 0) new × Missed 1 mid new)
-              → (pending new.roots p ≡ true) ⊎ (WhileBusWorks (Enumerating f p 0) new
-              × Missed (k + 1) old new)
-          more x (inl h) = inl h
-          more x (inr y) = inr (y.0, missed_then k old mid new x y.1)
-
-          pick : (pending mid.roots p ≡ true)
-              ⊎ (WhileBusWorks (Enumerating f p 0) mid × Missed k old mid)
-              → (pending new.roots p ≡ true) ⊎ (WhileBusWorks (Enumerating f p 0) new
-              × Missed (k + 1) old new)
-          pick (inl h) = inl (pends_later f p fair h)
-          pick (inr x) = more x.1 (next.missed f p (fair_then f port p address m n first second fair
-              at) x.0)
+  misses_then next = record {
+    missed = λ f p fair held.
+        elim (before.missed f p (fair_before f port p address m n first second fair) held) [
+          | inl h ↦ inl (pends_later f p fair h)
+          | inr x ↦ elim (next.missed f p
+              (fair_then f port p address m n first second fair at) x.0) [
+                | inl h ↦ inl h
+                | inr y ↦ inr (y.0, missed_then k old mid new x.1 y.1)
+              ]
+        ];
+  }
 
   pub stops_then : (wrong : Spec → Option Cause) (stop : Stop)
       → StopsFairly wrong port address stop mid new → StopsFairly wrong port address stop old new
@@ -687,26 +583,20 @@ module _ (port : HubPort) (address k m n : ℕ) {old mid new : World} {a b c d :
       }
   stops_then wrong (Refused cause) stops =
       record {
-        why = λ f p fair held. pick f p fair
-            (before.missed f p (fair_before f port p address m n first second fair) held);
+        why = λ f p fair held.
+            elim (before.missed f p (fair_before f port p address m n first second fair) held) [
+              | inl h ↦ inl (pends_later f p fair h)
+              | inr x ↦ stops.why f p (fair_then f port p address m n first second fair at) x.0
+            ];
       }
-    where
-      pick : (f : AddressMap) (p : List ℕ) → IsFairAt f port p address old new
-          → (pending mid.roots p ≡ true) ⊎ (WhileBusWorks (Enumerating f p 0) mid
-          × Missed k old mid) → PendingOr (λ spec. wrong spec ≡ Some cause) p new
-      pick f p fair (inl h) = inl (pends_later f p fair h)
-      pick f p fair (inr x) = stops.why f p (fair_then f port p address m n first second fair at)
-          x.0
 
 pub thrice_missed : (wrong : Spec → Option Cause) (port : HubPort) (address : ℕ) (cause : Cause)
     (old new : World) → Misses port address 3 old new
     → StopsFairly wrong port address (Refused cause) old new
 thrice_missed wrong port address cause old new misses =
-    record { why = λ f p fair held. pick f p fair (misses.missed f p fair held) }
-  where
-    pick : (f : AddressMap) (p : List ℕ) → IsFairAt f port p address old new
-        → (pending new.roots p ≡ true) ⊎ (WhileBusWorks (Enumerating f p 0) new × Missed 3 old new)
-        → PendingOr (λ spec. wrong spec ≡ Some cause) p new
-    pick f p fair (inl h) = inl h
-    pick f p fair (inr x) = let worst = x.1.worst (omega arith) in let kept = fair.kept in
-        absurd (omega (arith, worst, kept))
+    record {
+      why = λ f p fair held. elim (misses.missed f p fair held) [
+        | inl h ↦ inl h
+        | inr x ↦ absurd (omega (arith, x.1.worst (omega arith), fair.kept))
+      ];
+    }

@@ -1,5 +1,5 @@
 -- Why the parts of an enumeration behind the device descriptor stop, and the whole.
-use Rattle.std.proofs.Common.{◌≡◌, inl, inr, ℕ, ◌==◌, ◌&&◌, Bool, true, false, if◌then◌else◌, List}
+use Rattle.std.proofs.Common.{◌≡◌, inl, inr, ℕ, ◌==◌, true, List}
 use Rattle.std.proofs.Common.{[], slice_index_or, Some, Result, Ok, Err, refl, sym, subst}
 use Rattle.std.specs.Prelude.{IfErr}
 use Rattle.usb_resources.specs.{Addresses, IsFree, IsFull}
@@ -12,12 +12,12 @@ use Rattle.usb_enum.specs.{GivesUp, Leads, DescriptorRead, CauseAllowed, CauseAl
 use Rattle.usb_enum.specs.{AllTexts, RefusedAs, by_answer, too_deep, bad_hub, StoppedAs}
 use Rattle.usb_enum.specs.{StopsDevice, FaultBy, IsSpokenTo, CauseAllowedAt, early, late}
 use Rattle.usb_enum.specs.{StopsAtPort, StoppedFor, StoppedWithout, HasReason, refused_for}
-use Rattle.usb_enum.specs.{refused_early, none_free, EndsFor, FaultAllowedAt, CauseAllowedIn}
-use Rattle.usb_enum.specs.{CauseAllowedWithout, CauseAllowedOfDevice, choice_of}
+use Rattle.usb_enum.specs.{refused_early, none_free, EndsFor, FaultAllowedAt}
+use Rattle.usb_enum.specs.{CauseAllowedWithout, choice_of}
 use Rattle.usb_enum.specs.declared.cause.Cause.TheVariants as cause
 use Rattle.usb_enum.specs.declared.finding.Finding.TheVariants as finding
 use Rattle.usb_enum.specs.declared.stop.Stop.TheVariants.{Refused, Fault}
-use Rattle.usb_enum.proofs.ports.Hubs.{told_of_hub}
+use Rattle.usb_enum.proofs.ports.Hubs.{deep_is, told_of_hub}
 use Rattle.usb_enum.proofs.courses.LastRequests.{leads_then}
 use Rattle.usb_enum.proofs.stops.Reasons.{because_after, because_plain, fault_after, fault_by}
 use Rattle.usb_enum.proofs.stops.Reasons.{fault_told_by, told_in, told_without}
@@ -25,42 +25,23 @@ use Rattle.usb_enum.proofs.stops.ToldFailures.{fault_at, plain_fits}
 
 -- By an answer
 
-told_fits : (tier : ℕ) (stop : Stop) (t : Target) (old new : World) → CauseAllowed t stop old new
-    → CauseAllowedOfDevice tier stop new
-told_fits tier (Refused why) t old new told = plain_fits tier why (because_plain why t old new told)
-told_fits tier (Fault why) t old new told = told
-
-stop_told_as : (t : Target) (bytes : List ℕ) (tier supply : ℕ) (stop : Stop) (old new : World)
-    → CauseAllowed t stop old new → StoppedAs t bytes tier supply stop old new
-stop_told_as t bytes tier supply (Refused why) old new told = by_answer told
-stop_told_as t bytes tier supply (Fault why) old new told = told
-
 pub stops_by : (t : Target) (bytes : List ℕ) (tier supply : ℕ) (stop : Stop) (old new : World)
     → CauseAllowed t stop old new → StopsDevice t bytes tier supply old new stop
-stops_by t bytes tier supply stop old new told = record {
-  fits = told_fits tier stop t old new told;
-  because = stop_told_as t bytes tier supply stop old new told;
+stops_by t bytes tier supply (Refused why) old new told = record {
+  fits = plain_fits tier why (because_plain why t old new told);
+  because = by_answer told;
 }
+stops_by t bytes tier supply (Fault why) old new told = record { fits = told; because = told }
 
 -- In the last tier
 
 pub fits_stop : (t : Target) (bytes : List ℕ) (tier supply : ℕ) (stop : Stop) (w : World)
     → fits_tier tier bytes ≡ Err stop → StopsDevice t bytes tier supply w w stop
-fits_stop t bytes tier supply stop w is = split (is_hub_device bytes && tier == LAST_TIER) refl is
-  where
-    deep : (is_hub_device bytes && tier == LAST_TIER) ≡ true
-        → StopsDevice t bytes tier supply w w (Refused cause.TooDeep)
-    deep e =
-        let both_so = both (is_hub_device bytes) (tier == LAST_TIER) e in
-        let last = equal_same tier LAST_TIER both_so.1 in
-        record { fits = last; because = too_deep last both_so.0 refl }
-
-    split : (b : Bool) → (is_hub_device bytes && tier == LAST_TIER) ≡ b
-        → (let r : Result (Unit {0}) Stop = if b then Err (Refused cause.TooDeep) else Ok tt in
-        r ≡ Err stop) → StopsDevice t bytes tier supply w w stop
-    split true e r = subst (StopsDevice t bytes tier supply w w) (let same : Refused cause.TooDeep
-        ≡ stop = cc in same) (deep e)
-    split false e r = absurd cc
+fits_stop t bytes tier supply stop w is =
+    let deep = deep_is tier bytes stop is in
+    let parts = both (is_hub_device bytes) (tier == LAST_TIER) deep.1 in
+    let last = equal_same tier LAST_TIER parts.1 in
+    rw deep.0 (record { fits = last; because = too_deep last parts.0 refl })
 
 -- As a hub
 
@@ -99,41 +80,25 @@ module _ (t : Target) (bytes : List ℕ) (tier supply : ℕ) where
 
 -- At the port
 
-device_in : (port : HubPort) (tier : ℕ) (stop : Stop) (w : World) → CauseAllowedOfDevice tier stop w
-    → CauseAllowedIn port tier stop w
-device_in port tier (Refused why) w told = told
-device_in port tier (Fault why) w told = fault_at port why w told
-
-device_for : (port : HubPort) (address tier supply : ℕ) (t : Target) (bytes : List ℕ) (stop : Stop)
-    (old mid new : World) → IsSpokenTo port address t → DescriptorRead t bytes old mid
-    → StoppedAs t bytes tier supply stop mid new
-    → StoppedFor port address tier supply stop old new
-device_for port address tier supply t bytes (Refused why) old mid new is read told =
-    late t bytes mid is read told
-device_for port address tier supply t bytes (Fault why) old mid new is read told =
-    fault_told_by port why old new told
-
 pub device_stops : (port : HubPort) (address tier supply : ℕ) (t : Target) (bytes : List ℕ)
     (stop : Stop) (old mid new : World) → IsSpokenTo port address t → DescriptorRead t bytes old mid
     → StopsDevice t bytes tier supply mid new stop
     → StopsAtPort port address tier supply old new stop
-device_stops port address tier supply t bytes stop old mid new is read told = record {
-  fits = device_in port tier stop new told.fits;
-  because = device_for port address tier supply t bytes stop old mid new is read told.because;
+device_stops port address tier supply t bytes (Refused why) old mid new is read told =
+    record { fits = told.fits; because = late t bytes mid is read told.because }
+device_stops port address tier supply t bytes (Fault why) old mid new is read told = record {
+  fits = fault_at port why new told.fits;
+  because = fault_told_by port why old new told.because;
 }
-
-early_for : (port : HubPort) (address tier supply : ℕ) (stop : Stop) (old new : World)
-    → CauseAllowedAt port address stop old new → StoppedFor port address tier supply stop old new
-early_for port address tier supply (Refused why) old new told = early told
-early_for port address tier supply (Fault why) old new told = told
 
 pub early_stops : (port : HubPort) (address tier supply : ℕ) (stop : Stop) (old new : World)
     → CauseAllowedAt port address stop old new → StopsAtPort port address tier supply old new stop
-early_stops port address tier supply stop old new told =
-    record {
-      fits = told_in tier stop port address old new told;
-      because = early_for port address tier supply stop old new told;
-    }
+early_stops port address tier supply (Refused why) old new told = record {
+  fits = told_in tier (Refused why) port address old new told;
+  because = early told;
+}
+early_stops port address tier supply (Fault why) old new told =
+    record { fits = told_in tier (Fault why) port address old new told; because = told }
 
 -- The whole
 
@@ -165,13 +130,10 @@ module _ (port : HubPort) (addresses : Addresses) (tier supply : ℕ) where
   gives_reason (Refused why) old mid new (Ok (finding.Refused other)) first led reason gives =
       record {
         moment = mid;
-        reason = subst (HasReason port addresses tier supply old mid) (same other why gives.0)
-            reason;
+        reason = subst (HasReason port addresses tier supply old mid)
+            (let same : why ≡ other = cc gives.0 in same) reason;
         led = led;
       }
-    where
-      same : (x y : Cause) → finding.Refused x ≡ finding.Refused y → y ≡ x
-      same x y e = cc
   gives_reason (Refused why) old mid new (Err fault) first led reason gives =
       fault_after port fault old mid new first gives
   gives_reason (Fault why) old mid new result first led reason gives =
@@ -182,8 +144,7 @@ module _ (port : HubPort) (addresses : Addresses) (tier supply : ℕ) where
 pub stopped_without : (port : HubPort) (stop : Stop) (old new : World)
     → StoppedWithout port stop old new → CauseAllowedWithout port stop new
 stopped_without port stop old new (inl none) =
-    subst (λ s. CauseAllowedWithout port s new) (sym none)
-    (inl refl)
+    subst (λ s. CauseAllowedWithout port s new) (sym none) (inl refl)
 stopped_without port stop old new (inr told) = told_without stop port 0 old new told
 
 -- what is told of its end

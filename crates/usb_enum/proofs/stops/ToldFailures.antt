@@ -1,13 +1,12 @@
 -- What a failed call tells, in the words of the calls above it.
-use Rattle.std.proofs.Common.{ℕ, Result, Ok, Err, refl, sym, subst}
-use Rattle.std.specs.Prelude.{◌≡◌, IfErr, IsErr, IsErrAnd}
+use Rattle.std.proofs.Common.{◌⊎◌, inl, inr, ℕ, Result, Ok, Err, sym, subst}
+use Rattle.std.specs.Prelude.{◌≡◌, IfErr, IsErrAnd}
 use Rattle.usb_world.specs.{World}
-use Rattle.usb_port.specs.{PortStatus}
-use Rattle.usb_pipe.specs.{PipeFault, FaultAfter}
+use Rattle.usb_pipe.specs.{PipeFault}
 use Rattle.usb_pipe.specs.declared.fault.PipeFault.TheVariants as pipe
 use Rattle.usb_hub.specs.{HubPort, Root, External, PortRead, PortSet, PortCleared}
 use Rattle.usb_enum.specs.{Cause, EnumFault, CanFail, FitsTier, IsPlain, FaultAllowedAt}
-use Rattle.usb_enum.specs.{FaultAllowed, at_port}
+use Rattle.usb_enum.specs.{FaultAllowed}
 use Rattle.usb_enum.specs.declared.cause.Cause.TheVariants as cause
 use Rattle.usb_enum.specs.declared.fault.EnumFault.TheVariants as fault
 
@@ -30,39 +29,18 @@ fault_at port (fault.Bus why) w told = told
 fault_at port fault.Memory w told = told
 
 -- what is asked of a root port is done
+pub root_fails : (number feature : ℕ) (why : PipeFault) (old new : World)
+    → PortSet (Root number) feature old (Err why) new
+    ⊎ PortCleared (Root number) feature old (Err why) new → ⊥
+root_fails number feature why old new (inl set) = let done = set.done in absurd cc
+root_fails number feature why old new (inr cleared) = let done = cleared.done in absurd cc
 
-pub read_fails : (port : HubPort) (old new : World) (outcome : Result PortStatus PipeFault)
-    → PortRead port old outcome new → IsErr outcome → CanFail port
-read_fails (Root number) old new (Ok status) read failed = absurd cc
-read_fails (Root number) old new (Err why) read failed = let done = read.status in absurd cc
-read_fails (External hub port) old new outcome read failed = tt
-
-pub set_fails : (port : HubPort) (feature : ℕ) (old new : World)
-    (outcome : Result (Unit {0}) PipeFault) → PortSet port feature old outcome new → IsErr outcome
-    → CanFail port
-set_fails (Root number) feature old new (Ok done) set failed = absurd cc
-set_fails (Root number) feature old new (Err why) set failed = let done = set.done in absurd cc
-set_fails (External hub port) feature old new outcome set failed = tt
-
-pub clear_fails : (port : HubPort) (feature : ℕ) (old new : World)
-    (outcome : Result (Unit {0}) PipeFault) → PortCleared port feature old outcome new
-    → IsErr outcome → CanFail port
-clear_fails (Root number) feature old new (Ok done) cleared failed = absurd cc
-clear_fails (Root number) feature old new (Err why) cleared failed = let done = cleared.done in
-    absurd cc
-clear_fails (External hub port) feature old new outcome cleared failed = tt
-
-pub port_told : {A : Type 0} (port : HubPort) (n : ℕ) (old new : World)
-    (outcome : Result A PipeFault) → (IsErr outcome → CanFail port)
-    → IfErr outcome (λ why. FaultAfter n old why new)
-    → IfErr (at_port outcome) (λ why. FaultAllowedAt port why new)
-port_told port n old new (Ok answer) can told = tt
-port_told port n old new (Err pipe.Stalled) can told = can refl
-port_told port n old new (Err pipe.Busy) can told = can refl
-port_told port n old new (Err pipe.NoAnswer) can told = can refl
-port_told port n old new (Err pipe.Broken) can told = can refl
-port_told port n old new (Err (pipe.Bus why)) can told = told
-port_told port n old new (Err pipe.Memory) can told = tt
+pub port_can_fail : (port : HubPort) (why : PipeFault) (old new : World)
+    → PortRead port old (Err why) new ⊎ ((feature : ℕ) × (PortSet port feature old (Err why) new
+    ⊎ PortCleared port feature old (Err why) new)) → CanFail port
+port_can_fail (External hub port) why old new failed = tt
+port_can_fail (Root number) why old new (inl read) = let done = read.status in absurd cc
+port_can_fail (Root number) why old new (inr act) = root_fails number act.0 why old new act.1
 
 -- an error that is handed on
 

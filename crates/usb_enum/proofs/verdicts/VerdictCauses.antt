@@ -1,6 +1,6 @@
 -- What is wrong with a device behind its device descriptor is the verdict on it, where the rows
 -- before do not hold.
-use Rattle.std.proofs.Common.{◌≡◌, ◌⊎◌, inl, inr, ℕ, ◌==◌, ◌&&◌, not, Bool, true, false, List, []}
+use Rattle.std.proofs.Common.{◌≡◌, inl, inr, ℕ, ◌==◌, ◌&&◌, not, Bool, true, false, List, []}
 use Rattle.std.proofs.Common.{take, slice_index_or, if◌then◌else◌, Option, None, Some, Ok, Err}
 use Rattle.std.proofs.Common.{refl, ap, sym, ◌∙◌}
 use Rattle.std.specs.Option.{option_or}
@@ -13,7 +13,7 @@ use Rattle.usb_enum.specs.{texts_below, texts_of, first_fault, read_verdict, set
 use Rattle.usb_enum.specs.{is_hub_device, chosen_fault, configured_fault, choice_of}
 use Rattle.usb_enum.specs.declared.cause.Request.TheVariants as request
 use Rattle.usb_enum.proofs.readings.Truths.{front_count, front_hub}
-use Rattle.usb_enum.proofs.verdicts.VerdictRows.{GaveHead, GaveDevice, rows_after, row_too_deep}
+use Rattle.usb_enum.proofs.verdicts.VerdictRows.{GaveHead, rows_after, row_too_deep}
 
 set_config_cause : (stalled hub good : Bool) (chosen : ℕ) (cause : Cause)
     → option_or (if stalled then Some (Stalled request.SetConfig) else None)
@@ -67,7 +67,15 @@ module _ (spec : Spec) (tier supply : ℕ) where
       → bytes ≡ take 18 spec.descriptor
       → configured_fault tier supply bytes spec ≡ Some cause → verdict spec tier supply ≡ Err cause
   verdict_refused bytes cause head address whole front fault =
-      pick (decided (is_hub_device spec.descriptor && tier == 7))
+      elim (decided (is_hub_device spec.descriptor && tier == 7)) [
+        | inl deep ↦ row_too_deep spec tier supply head address whole deep
+            ∙ ap (λ c. Err c) (same_Some TooDeep cause
+            (sym (ap (λ b. if b then Some TooDeep else rest) deep) ∙ is))
+        | inr shallow ↦ rows_after spec tier supply
+            (record { first = head; address = address; whole = whole; shallow = shallow })
+            ∙ read_is spec supply (first_fault spec (configuration_count spec.descriptor)) cause
+            (sym (ap (λ b. if b then Some TooDeep else rest) shallow) ∙ is)
+      ]
     where
       rest : Option Cause
       rest = option_or (first_fault spec (configuration_count spec.descriptor))
@@ -76,20 +84,3 @@ module _ (spec : Spec) (tier supply : ℕ) where
 
       is : (if is_hub_device spec.descriptor && tier == 7 then Some TooDeep else rest) ≡ Some cause
       is = sym (row_front bytes front) ∙ fault
-
-      pick : ((is_hub_device spec.descriptor && tier == 7) ≡ true)
-          ⊎ ((is_hub_device spec.descriptor && tier == 7) ≡ false)
-          → verdict spec tier supply ≡ Err cause
-      pick (inl deep) = row_too_deep spec tier supply head address whole deep
-          ∙ ap (λ c. Err c) (same_Some TooDeep cause
-          (sym (ap (λ b. if b then Some TooDeep else rest) deep) ∙ is))
-      pick (inr shallow) =
-          let gave : GaveDevice spec tier = record {
-            first = head;
-            address = address;
-            whole = whole;
-            shallow = shallow;
-          } in
-          rows_after spec tier supply gave
-          ∙ read_is spec supply (first_fault spec (configuration_count spec.descriptor)) cause
-          (sym (ap (λ b. if b then Some TooDeep else rest) shallow) ∙ is)

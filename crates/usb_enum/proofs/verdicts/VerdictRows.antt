@@ -1,5 +1,5 @@
 -- The verdict on a device, row by row: what it is where the rows before do not hold.
-use Rattle.std.proofs.Common.{◌≡◌, ◌⊎◌, inl, inr, ◌<◌, ℕ, zero, suc, ◌+◌, ◌==◌, ◌&&◌, not, true}
+use Rattle.std.proofs.Common.{◌≡◌, inl, inr, ◌<◌, ℕ, zero, suc, ◌+◌, ◌==◌, ◌&&◌, not, Bool, true}
 use Rattle.std.proofs.Common.{false, [], take, slice_index_or, None, Some, Err, Ok, is_ok, refl, ap}
 use Rattle.std.proofs.Common.{sym, ◌∙◌, arith}
 use Rattle.std.specs.Option.{option_or}
@@ -8,7 +8,7 @@ use Rattle.usb_descriptor.specs.{device_head_of, configuration_count}
 use Rattle.usb_device.specs.{Spec}
 use Rattle.usb_enum.specs.{Cause, Silent, TooDeep, is_device, is_hub_device, choice_of, verdict}
 use Rattle.usb_enum.specs.{is_good_hub, texts_of, config_fault, first_fault, read_verdict}
-use Rattle.usb_enum.specs.{set_verdict}
+use Rattle.usb_enum.specs.{set_verdict, HasHead}
 
 -- it answers with the head of a device descriptor
 pub record GaveHead (spec : Spec) : Type 0 where
@@ -16,6 +16,15 @@ pub record GaveHead (spec : Spec) : Type 0 where
   pub free : spec.busy ≡ false
   pub device : spec.stalls.device ≡ false
   pub head : is_ok (device_head_of spec.low (take 8 spec.descriptor)) ≡ true
+
+pub gave_head : (low : Bool) (max : ℕ) (spec : Spec) → spec.low ≡ low → HasHead low max spec
+    → GaveHead spec
+gave_head low max spec same head = record {
+  loud = head.loud;
+  free = head.free;
+  device = head.device;
+  head = ap (λ b. is_ok (device_head_of b (take 8 spec.descriptor))) same ∙ ap is_ok head.head;
+}
 
 -- it takes an address and gives its device descriptor, and is not too deep
 pub record GaveDevice (spec : Spec) (tier : ℕ) : Type 0 where
@@ -71,32 +80,21 @@ pub first_fault-next : (spec : Spec) (i n : ℕ) (cause : Cause) → i < n → f
     → config_fault spec i ≡ Some cause → first_fault spec n ≡ Some cause
 unfolding first_fault
 first_fault-next spec i zero cause l h k = absurd (omega (arith, l))
-first_fault-next spec i (suc n) cause l h k =
-    pick (cases_order i n) (λ m. first_fault-next spec i n cause m h k)
-  where
-    pick : (i ≡ n) ⊎ ((i < n) ⊎ (n < i)) → (i < n → first_fault spec n ≡ Some cause)
-        → option_or (first_fault spec n) (config_fault spec n) ≡ Some cause
-    pick (inl e) on = ap (λ j. option_or (first_fault spec j) (config_fault spec j)) (sym e)
-        ∙ ap (λ o. option_or o (config_fault spec i)) h ∙ k
-    pick (inr (inl m)) on = ap (λ o. option_or o (config_fault spec n)) (on m)
-    pick (inr (inr m)) on = absurd (omega (arith, l, m))
-
-rows_read : (spec : Spec) (tier supply : ℕ) → GaveDevice spec tier
-    → first_fault spec (configuration_count spec.descriptor) ≡ None
-    → verdict spec tier supply ≡ set_verdict spec (texts_of spec) (choice_of supply (texts_of spec))
-rows_read spec tier supply h good = rows_after spec tier supply h
-    ∙ ap (read_verdict spec supply) good
+first_fault-next spec i (suc n) cause l h k = elim (cases_order i n) [
+  | inl e ↦ ap (λ j. option_or (first_fault spec j) (config_fault spec j)) (sym e)
+      ∙ ap (λ o. option_or o (config_fault spec i)) h ∙ k
+  | inr (inl m) ↦ ap (λ o. option_or o (config_fault spec n))
+      (first_fault-next spec i n cause m h k)
+  | inr (inr m) ↦ absurd (omega (arith, l, m))
+]
 
 -- With a configuration
-
-rows_chosen : (spec : Spec) (tier supply chosen : ℕ) → GaveTexts spec tier supply chosen
-    → verdict spec tier supply ≡ set_verdict spec (texts_of spec) (Some chosen)
-rows_chosen spec tier supply chosen h = rows_read spec tier supply h.device h.good
-    ∙ ap (set_verdict spec (texts_of spec)) h.within
 
 pub row_accepted : (spec : Spec) (tier supply chosen : ℕ) → GaveTexts spec tier supply chosen
     → spec.stalls.set_config ≡ false
     → (is_hub_device spec.descriptor && not
     (is_good_hub spec (slice_index_or (texts_of spec) chosen []))) ≡ false
     → verdict spec tier supply ≡ Ok chosen
-row_accepted spec tier supply chosen h a b = rows_chosen spec tier supply chosen h ∙ rw (a, b) refl
+row_accepted spec tier supply chosen h a b = rows_after spec tier supply h.device
+    ∙ ap (read_verdict spec supply) h.good ∙ ap (set_verdict spec (texts_of spec)) h.within
+    ∙ rw (a, b) refl

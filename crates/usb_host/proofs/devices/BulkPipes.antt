@@ -18,7 +18,7 @@ use Rattle.usb_enum.specs.declared.finding.Finding.TheVariants.{Device, Refused}
 use Rattle.usb_enum.proofs.Interface.{went_course, went_sound}
 use Rattle.usb_table.specs.{Pipes, Hub, Function, Absent, pipe_out, pipe_in, Entries, has_at}
 use Rattle.usb_table.specs.{without, accepted_device_of, accepted_device_at, address_in}
-use Rattle.usb_table.specs.{is_below_hub, SparesBulk, finding_at, new_pipes, new_pipes_to, Table}
+use Rattle.usb_table.specs.{is_below_hub, SparesBulk, finding_at, new_pipes, Table}
 use Rattle.usb_table.specs.{GoesThrough, entered, pipes_at, PipesPolled}
 use Rattle.usb_table.proofs.Interface.{path_tied, pipes_at-entered, pipes_at-entered_elsewhere}
 use Rattle.usb_table.proofs.Interface.{spares-same, spares-stage, spares-then}
@@ -32,20 +32,19 @@ use Rattle.usb_host.proofs.knowledge.SettledListings.{reached_there}
 
 -- Pipes
 
-pub same_bulk : (p q : Pipes) → q ≡ p → SameBulk p q
-same_bulk p q e = record { out = ap pipe_out e; into = ap pipe_in e }
+pub same_bulk : {p q : Pipes} → q ≡ p → SameBulk p q
+same_bulk e = record { out = ap pipe_out e; into = ap pipe_in e }
 
-bulk_joined : (p q r : Pipes) → SameBulk p q → SameBulk q r → SameBulk p r
-bulk_joined p q r x y = record { out = y.out ∙ x.out; into = y.into ∙ x.into }
+bulk_joined : {p q r : Pipes} → SameBulk p q → SameBulk q r → SameBulk p r
+bulk_joined x y = record { out = y.out ∙ x.out; into = y.into ∙ x.into }
 
 -- a poll moves no bulk pipe
-pub polled_bulk : (pipes left : Pipes) (old new : World)
+pub polled_bulk : (pipes : Pipes) {left : Pipes} (old new : World)
     (result : Result (Option (ArrayVec ℕ)) PipeFault) → PipesPolled pipes old result left new
     → SameBulk pipes left
-polled_bulk (Hub pipe) left old new result x =
-    record { out = ap pipe_out x.1; into = ap pipe_in x.1 }
-polled_bulk (Function pipes) left old new result x = same_bulk (Function pipes) left x.1
-polled_bulk Absent left old new result x = same_bulk Absent left x.1
+polled_bulk (Hub pipe) old new result x = record { out = ap pipe_out x.1; into = ap pipe_in x.1 }
+polled_bulk (Function pipes) old new result x = same_bulk x.1
+polled_bulk Absent old new result x = same_bulk x.1
 
 -- The endpoints of a path
 
@@ -59,8 +58,8 @@ began_on path w v began stayed x s is on stands =
       ap (λ (t : State). t.bulk_in) was.so ∙ fresh.1,
     )
 
-stayed_none : (path : List ℕ) (w v : World) → v ≡ w → EndpointsStayed path w v
-stayed_none path w v same = subst (EndpointsStayed path w) (sym same)
+stayed_none : (path : List ℕ) (w : World) {v : World} → v ≡ w → EndpointsStayed path w v
+stayed_none path w same = subst (EndpointsStayed path w) (sym same)
     (λ x s is on stands. record {
       before = s;
       on = on;
@@ -105,8 +104,7 @@ stay_joined a b c x y = record {
       let early : StayedAt path device a b = x.each path device late.listed in
       record {
         listed = early.listed;
-        pipes = bulk_joined (pipes_at path (table_in a)) (pipes_at path (table_in b))
-            (pipes_at path (table_in c)) early.pipes late.pipes;
+        pipes = bulk_joined early.pipes late.pipes;
         endpoints = stayed_joined path a.world b.world c.world early.endpoints late.endpoints;
       };
 }
@@ -115,10 +113,10 @@ pub bulk_stays : (a b : HostState) → AllStay a b → KeepsBulk a b
 bulk_stays a b x = record { each = λ path device at. inl (x.each path device at) }
 
 -- entries and bulk pipes are as they were
-stay_same : (a b : HostState) → b.entries ≡ a.entries
+stay_same : {a b : HostState} → b.entries ≡ a.entries
     → ((path : List ℕ) → SameBulk (pipes_at path (table_in a)) (pipes_at path (table_in b)))
     → EachWas SparesBulk a.world b.world → AllStay a b
-stay_same a b same pipes each = record {
+stay_same same pipes each = record {
   each = λ path device at. record {
     listed = ap (λ (es : Entries). accepted_device_at path es) (sym same) ∙ at;
     pipes = pipes path;
@@ -126,17 +124,14 @@ stay_same a b same pipes each = record {
   };
 }
 
-stays_each : (w v : World) → EachWas StaysAs w v → EachWas SparesBulk w v
-stays_each w v each = each_wider StaysAs SparesBulk (λ j s v x. spares-stage j s v x) w v each
-
 -- only the world goes on, and devices stay as they were
 pub stay_rests : (a b : HostState) → OnlyBusSteps a b → KeepsDevices a.world b.world
     → b.world.shared ≡ false → AllStay a b
 stay_rests a b r devices single =
-    stay_same a b (ap (λ (h : HostState). h.entries) r)
-    (λ path. same_bulk (pipes_at path (table_in a)) (pipes_at path (table_in b))
-    (ap (λ (h : HostState). pipes_at path (table_in h)) r))
-    (stays_each a.world b.world (devices.stays single))
+    stay_same (ap (λ (h : HostState). h.entries) r)
+    (λ path. same_bulk (ap (λ (h : HostState). pipes_at path (table_in h)) r))
+    (each_wider StaysAs SparesBulk (λ j s v x. spares-stage j s v x) a.world b.world
+    (devices.stays single))
 
 -- the hub at a path is polled
 pub stay_polled : (hub : List ℕ) (a b : HostState) (result : Result (Option (ArrayVec ℕ)) PipeFault)
@@ -144,16 +139,13 @@ pub stay_polled : (hub : List ℕ) (a b : HostState) (result : Result (Option (A
     → PipesPolled (pipes_at hub (table_in a)) a.world result (pipes_at hub (table_in b)) b.world
     → EachWas SparesBulk a.world b.world → AllStay a b
 stay_polled hub a b result goes polled each =
-    stay_same a b goes.entries (λ path. pick path (is_at (path_cmp hub) path) refl) each
+    stay_same goes.entries (λ path. pick path (is_at (path_cmp hub) path) refl) each
   where
     pick : (path : List ℕ) (tied : Bool) → is_at (path_cmp hub) path ≡ tied
         → SameBulk (pipes_at path (table_in a)) (pipes_at path (table_in b))
-    pick path true tie = subst (λ (p : List ℕ). SameBulk (pipes_at p (table_in a))
-        (pipes_at p (table_in b))) (path_tied hub path tie)
-        (polled_bulk (pipes_at hub (table_in a)) (pipes_at hub (table_in b)) a.world b.world result
-        polled)
-    pick path false apart = same_bulk (pipes_at path (table_in a)) (pipes_at path (table_in b))
-        (goes.others path apart)
+    pick path true tie = rw (path_tied hub path tie) at (polled_bulk (pipes_at hub (table_in a))
+        {left = pipes_at hub (table_in b)} a.world b.world result polled)
+    pick path false apart = same_bulk (goes.others path apart)
 
 -- an event comes
 pub stay_event : (a b : HostState) → b.entries ≡ a.entries → b.pipes ≡ a.pipes
@@ -161,15 +153,14 @@ pub stay_event : (a b : HostState) → b.entries ≡ a.entries → b.pipes ≡ a
 stay_event a b same pipes_same is =
     let table : table_in b ≡ table_in a = ap (λ es. record { entries = es; pipes = b.pipes }) same
     ∙ ap (λ ps. record { entries = a.entries; pipes = ps }) pipes_same in
-    stay_same a b same (λ path. same_bulk (pipes_at path (table_in a)) (pipes_at path (table_in b))
-    (ap (pipes_at path) table))
-    (subst (EachWas SparesBulk a.world) (sym is) (each_wider (λ x s v. v ≡ s) SparesBulk spares-same
-    a.world (after event a.world) (event_same a.world)))
+    stay_same same (λ path. same_bulk (ap (pipes_at path) table))
+    (rw is (each_wider (λ x s v. v ≡ s) SparesBulk spares-same a.world (after event a.world)
+    (event_same a.world)))
 
 -- what is listed after what stood at a path is forgotten stands elsewhere
-listed_away : (first path : List ℕ) (es : Entries) (device : Accepted) → has_at first es ≡ false
+listed_away : (first path : List ℕ) (es : Entries) {device : Accepted} → has_at first es ≡ false
     → accepted_device_at path es ≡ Some device → is_way first path ≡ false
-listed_away first path es device gone at = pick (decided (is_way first path))
+listed_away first path es gone at = pick (decided (is_way first path))
   where
     pick : (is_way first path ≡ true) ⊎ (is_way first path ≡ false) → is_way first path ≡ false
     pick (inl way) = absurd (cc (ap accepted_device_of (finding-none first path es gone way), at))
@@ -181,13 +172,13 @@ pub stay_forgotten : (first : List ℕ) (a b : HostState) → b.world ≡ a.worl
     → AllStay a b
 stay_forgotten first a b same rest gone pipes = record {
   each = λ path device at.
-      let away : is_way first path ≡ false = listed_away first path b.entries device gone at in
+      let away : is_way first path ≡ false = listed_away first path b.entries {device = device}
+      gone at in
       record {
         listed = sym (ap accepted_device_of (ap (λ (es : Entries). finding_at path es) rest
             ∙ finding-kept first path a.entries away)) ∙ at;
-        pipes = same_bulk (pipes_at path (table_in a)) (pipes_at path (table_in b))
-            (pipes path away);
-        endpoints = stayed_none path a.world b.world same;
+        pipes = same_bulk (pipes path away);
+        endpoints = stayed_none path a.world same;
       };
 }
 
@@ -202,10 +193,9 @@ stay_unfound first a b same pipes_same gone each = record {
       ∙ ap (λ ps. record { entries = a.entries; pipes = ps }) pipes_same in
       record {
         listed = listed;
-        pipes = same_bulk (pipes_at path (table_in a)) (pipes_at path (table_in b))
-            (ap (pipes_at path) table);
+        pipes = same_bulk (ap (pipes_at path) table);
         endpoints = stayed_elsewhere first path a.world b.world each
-            (listed_away first path a.entries device gone listed);
+            (listed_away first path a.entries gone listed);
       };
 }
 
@@ -219,31 +209,30 @@ beside : (first path : List ℕ) (f : Finding) (a b : HostState) (device : Accep
     → StayedAt path device a b
 beside first path f a b device table apart at endpoints =
     let listed : accepted_device_at path a.entries ≡ Some device =
-    sym (ap (λ (t : Table). accepted_device_at path t.entries) table
-    ∙ ap accepted_device_of (lookup-insert_entry_elsewhere path first f a.entries apart))
-    ∙ at in
+    sym (ap (λ (t : Table). accepted_device_at path t.entries) table ∙ ap accepted_device_of
+    (lookup-insert_entry_elsewhere path first f a.entries apart)) ∙ at in
     record {
       listed = listed;
-      pipes = same_bulk (pipes_at path (table_in a)) (pipes_at path (table_in b))
+      pipes = same_bulk
           (ap (pipes_at path) table ∙ pipes_at-entered_elsewhere first f (table_in a) path apart);
       endpoints = endpoints listed;
     }
 
 -- the accepted device of a finding is what was found
-pub accepted_device_of-some : (f : Finding) (device : Accepted)
+pub accepted_device_of-some : (f : Finding) {device : Accepted}
     → accepted_device_of (Some f) ≡ Some device → f ≡ Device device
-accepted_device_of-some (Device d) device e = ap Device (cc e)
-accepted_device_of-some (Refused cause) device e = absurd (cc e)
+accepted_device_of-some (Device d) e = ap Device (cc e)
+accepted_device_of-some (Refused cause) e = absurd (cc e)
 
 -- at the path itself
-entered_there : (first path : List ℕ) (f : Finding) (a b : HostState) (device : Accepted)
+entered_there : (first : List ℕ) {path : List ℕ} (f : Finding) (a b : HostState) (device : Accepted)
     → table_in b ≡ entered first f (table_in a) → path ≡ first → accepted_device_at path b.entries
     ≡ Some device → f ≡ Device device
-entered_there first path f a b device table is at =
+entered_there first f a b device table is at =
     let there : accepted_device_at first b.entries ≡ Some device =
     subst (λ (p : List ℕ). accepted_device_at p b.entries ≡ Some device) is at in
-    accepted_device_of-some f device (sym (ap (λ (t : Table). accepted_device_at first t.entries)
-    table ∙ ap accepted_device_of (lookup-insert_entry_here first f a.entries)) ∙ there)
+    accepted_device_of-some f (sym (ap (λ (t : Table). accepted_device_at first t.entries) table
+    ∙ ap accepted_device_of (lookup-insert_entry_here first f a.entries)) ∙ there)
 
 -- a device that is refused has no pipes
 pub stay_refused : (first : List ℕ) (cause : Cause) (a b : HostState)
@@ -254,10 +243,9 @@ stay_refused first cause a b table same =
     pick : (path : List ℕ) (device : Accepted) → accepted_device_at path b.entries ≡ Some device
         → (tied : Bool) → is_at (path_cmp path) first ≡ tied → StayedAt path device a b
     pick path device at true tie = absurd
-        (cc (entered_there first path (Refused cause) a b device table (path_tied path first tie)
-        at))
+        (cc (entered_there first (Refused cause) a b device table (path_tied path first tie) at))
     pick path device at false apart = beside first path (Refused cause) a b device table apart at
-        (λ listed. stayed_none path a.world b.world same)
+        (λ listed. stayed_none path a.world same)
 
 -- whoever is reached holds the address of its entry
 unreached : (w : World) (path : List ℕ) (es : Entries) → MapHolds (claims es) w
@@ -290,9 +278,8 @@ module _ (first : List ℕ) (f : Finding) (a b : HostState)
         none = unreached a.world first a.entries held
             (finding-none first first a.entries gone (way_itself first));
         behind = course;
-        pipes = same_bulk (new_pipes_to device (is_below_hub first)) (pipes_at first (table_in b))
-            (ap (pipes_at first) table ∙ pipes_at-entered first f (table_in a)
-            ∙ ap (λ g. new_pipes g (is_below_hub first)) is);
+        pipes = same_bulk (ap (pipes_at first) table ∙ pipes_at-entered first f (table_in a) ∙ ap
+            (λ g. new_pipes g (is_below_hub first)) is);
         endpoints = began device is;
       }
 
@@ -301,12 +288,11 @@ module _ (first : List ℕ) (f : Finding) (a b : HostState)
           ⊎ RenewedAt path device a b
       pick path device at true tie =
           let is : path ≡ first = path_tied path first tie in
-          inr (subst (λ (p : List ℕ). RenewedAt p device a b) (sym is)
-          (found device (entered_there first path f a b device table is at)))
+          inr (rw is (found device (entered_there first f a b device table is at)))
       pick path device at false apart =
           inl (beside first path f a b device table apart at
           (λ listed. stayed_elsewhere first path a.world b.world each
-          (listed_away first path a.entries device gone listed)))
+          (listed_away first path a.entries gone listed)))
 
 -- One part after another
 
@@ -316,34 +302,32 @@ bulk_none h = record {
       (record {
         listed = at;
         pipes = record { out = refl; into = refl };
-        endpoints = stayed_none path h.world h.world refl;
+        endpoints = stayed_none path h.world {v = h.world} refl;
       });
 }
 
 module _ (a b c : HostState) (first : Course AnyStep a.world b.world)
     (second : Course AnyStep b.world c.world) where
-  stayed_then : (path : List ℕ) (device : Accepted) → StayedAt path device a b
+  stayed_then : (path : List ℕ) {device : Accepted} → StayedAt path device a b
       ⊎ RenewedAt path device a b → StayedAt path device b c → StayedAt path device a c
       ⊎ RenewedAt path device a c
-  stayed_then path device (inl x) y = inl (record {
+  stayed_then path (inl x) y = inl (record {
     listed = x.listed;
-    pipes = bulk_joined (pipes_at path (table_in a)) (pipes_at path (table_in b))
-        (pipes_at path (table_in c)) x.pipes y.pipes;
+    pipes = bulk_joined x.pipes y.pipes;
     endpoints = stayed_joined path a.world b.world c.world x.endpoints y.endpoints;
   })
-  stayed_then path device (inr x) y = inr (record {
+  stayed_then path (inr x) y = inr (record {
     moment = x.moment;
     before = x.before;
     none = x.none;
     behind = course_joined x.behind second;
-    pipes = bulk_joined (new_pipes_to device (is_below_hub path)) (pipes_at path (table_in b))
-        (pipes_at path (table_in c)) x.pipes y.pipes;
+    pipes = bulk_joined x.pipes y.pipes;
     endpoints = began_on path b.world c.world x.endpoints y.endpoints;
   })
 
   part_then : KeepsBulk a b → (path : List ℕ) (device : Accepted) → StayedAt path device b c
       ⊎ RenewedAt path device b c → StayedAt path device a c ⊎ RenewedAt path device a c
-  part_then x path device (inl y) = stayed_then path device (x.each path device y.listed) y
+  part_then x path device (inl y) = stayed_then path (x.each path device y.listed) y
   part_then x path device (inr y) =
       inr (record {
         moment = y.moment;

@@ -23,7 +23,7 @@ use Rattle.usb_enum.specs.{ServesAt, Enumerates, IsFair, IsKnownAs, FaultAllowed
 use Rattle.usb_enum.specs.declared.finding.Finding.TheVariants.{Refused}
 use Rattle.usb_enum.proofs.Interface.{pends_there, went_sound}
 use Rattle.usb_table.specs.{KnownPort, Entries, has_at, without, Table, entered, pipes_at}
-use Rattle.usb_table.specs.{port_below, IsAskable, finding_at, tier_of}
+use Rattle.usb_table.specs.{IsAskable, finding_at, tier_of}
 use Rattle.usb_host.specs.Accounts.{Accounts}
 use Rattle.usb_host.specs.{Agrees, RestElsewhere, IsLost, HoldsAt, Watches, Tidies, ClearsChange}
 use Rattle.usb_host.specs.{IsOpen, PortCaused, FindsSound, Disabled, Climbs, HostState, claims}
@@ -68,41 +68,40 @@ causes_gone path w es gone caused x = pick (decided (is_way path x))
 
 -- A hub that fails
 
-joined_as : (path hub : List ℕ) (port : KnownPort) (h : HostState) (s : StandsAt path port h)
-    (p : HubPort) → IsAt (claims h.entries) p path → parent_of path ≡ Some hub
+joined_as : (path hub : List ℕ) {port : KnownPort} (h : HostState) (s : StandsAt path port h)
+    {p : HubPort} → IsAt (claims h.entries) p path → parent_of path ≡ Some hub
     → (target : Target) (n : ℕ) → p ≡ External target n → path ≡ hub ++ n ∷ []
-joined_as path hub port h s p at above target n is =
+joined_as path hub h s at above target n is =
     by_port (subst (λ q. IsAt (claims h.entries) q path) is at)
   where
     by_port : IsAt (claims h.entries) (External target n) path → path ≡ hub ++ n ∷ []
     by_port x = x.path ∙ ap (λ l. l ++ n ∷ [])
         (push-same_front x.hub hub n (port_on_hub path) (sym x.path ∙ rejoined path hub above))
 
-module _ (path : List ℕ) (port : KnownPort) (h : HostState) (s : StandsAt path port h)
+module _ {path : List ℕ} {port : KnownPort} {h : HostState} (s : StandsAt path port h)
     (i : IsSoundBut path h) (still : h.world.fault ≡ None) where
   -- a hub that is lost pends
   pub hub_pends : (hub : List ℕ) → parent_of path ≡ Some hub
       → FaultAllowedAt port.port ParentLost h.world → IsLost port.port path h.world
       → pending h.world.roots hub ≡ true
-  hub_pends hub above told lost = by_port port.port refl told (hub_server path port h s i still)
-      lost s.askable
+  hub_pends hub above told lost = by_port port.port refl told (hub_server h s i still) lost
+      s.askable
     where
       by_port : (p : HubPort) → port.port ≡ p → FaultAllowedAt p ParentLost h.world
           → HasServer p path h.world → IsLost p path h.world → IsAskable p
           → pending h.world.roots hub ≡ true
       by_port (Root number) is told server lost askable = absurd told
       by_port (External target n) is told server lost askable =
-          pick (subst (λ o. IsSomeAnd o (λ q. (pending h.world.roots q ≡ true)
-          ⊎ ServesAt target n q h.world)) above server)
+          pick (rw above at server)
         where
           pick : (pending h.world.roots hub ≡ true) ⊎ ServesAt target n hub h.world
               → pending h.world.roots hub ≡ true
           pick (inl x) = x
           pick (inr x) =
-              let joined = joined_as path hub port h s port.port (stands_at-claim path port h s)
+              let joined = joined_as path hub h s (stands_at-claim s)
               above target n is in
-              subst (λ l. pending h.world.roots l ≡ true) (sym x.there)
-              (lost target n refl x.wide x.serves (joined ∙ ap (λ l. l ++ n ∷ []) x.there))
+              rw x.there (lost target n refl x.wide x.serves
+              (joined ∙ ap (λ l. l ++ n ∷ []) x.there))
 
   pub lost_caused : (fault : EnumFault) → FaultAllowedAt port.port fault h.world
       → (fault ≡ ParentLost → IsLost port.port path h.world)
@@ -112,8 +111,8 @@ module _ (path : List ℕ) (port : KnownPort) (h : HostState) (s : StandsAt path
       by_parent : (o : Option (List ℕ)) → parent_of path ≡ o
           → IsSomeAnd o (λ hub. (pending h.world.roots hub ≡ true)
           × CausesBut hub h.world h.entries)
-      by_parent None above = absurd (cc (lost_above path h.entries port h.world told None above
-          (subst (λ o. port_below o (port_on_hub path) h.entries ≡ Some port) above s.known)))
+      by_parent None above = absurd (cc (lost_above path h.entries h.world told None above
+          (rw above at s.known)))
       by_parent (Some hub) above = (
         hub_pends hub above told (lost refl),
         causes_above hub path h.world h.entries (way_parent path hub above) (caused refl),
@@ -123,7 +122,7 @@ module _ (path : List ℕ) (port : KnownPort) (h : HostState) (s : StandsAt path
 
 -- The world alone goes on
 
-module _ (n : ℕ) (a b : HostState) (r : OnlyBusSteps a b) (went : HostSteps n a b)
+module _ {n : ℕ} (a : HostState) {b : HostState} (r : OnlyBusSteps a b) (went : HostSteps n a b)
     (agrees : Agrees a.entries a.addresses) (still : b.world.fault ≡ None) where
   before : a.world.fault ≡ None
   before = went_sound n a.world b.world went still
@@ -131,36 +130,36 @@ module _ (n : ℕ) (a b : HostState) (r : OnlyBusSteps a b) (went : HostSteps n 
   pub causes_rests : TouchesNoPort a.world b.world → HostInvariant a
       → RefusalsJustified a.world a.entries → RefusalsJustified b.world b.entries
   causes_rests rests i caused =
-      subst (RefusalsJustified b.world) (sym (ap (λ (h : HostState). h.entries) r))
-      (causes_stay a.world b.world a.entries a.addresses (accounted a agrees i.rooted)
-      (i.known before) (λ path port. course_wider (λ s u x. x.spares) (rests path)) caused)
+      rw (ap (λ (h : HostState). h.entries) r) (causes_stay a.world b.world
+      (accounted a agrees i.rooted) (i.known before)
+      (λ path port. course_wider (λ s u x. x.spares) (rests path)) caused)
 
-  pub causes_rests_but : (path : List ℕ) → RestElsewhere path a.world b.world → IsSoundBut path a
+  pub causes_rests_but : {path : List ℕ} → RestElsewhere path a.world b.world → IsSoundBut path a
       → CausesBut path a.world a.entries → CausesBut path b.world b.entries
-  causes_rests_but path rests i caused =
-      subst (CausesBut path b.world) (sym (ap (λ (h : HostState). h.entries) r))
-      (causes_but_stay path a.world b.world a.entries a.addresses (accounted a agrees i.rooted)
-      (i.known before) (λ x away. course_wider (λ s u y. y.spares) (rests x away)) caused)
+  causes_rests_but {path = path} rests i caused =
+      rw (ap (λ (h : HostState). h.entries) r) (causes_but_stay path a.world b.world
+      (accounted a agrees i.rooted) (i.known before)
+      (λ x away. course_wider (λ s u y. y.spares) (rests x away)) caused)
 
   -- a port is tidied
   pub causes_tidied : (path : List ℕ) → RestElsewhere path a.world b.world
       → ((x : List ℕ) → is_way path x ≡ true → HoldsAt x a.world b.world) → HostInvariant a
       → RefusalsJustified a.world a.entries → RefusalsJustified b.world b.entries
   causes_tidied path rests holds i caused =
-      subst (RefusalsJustified b.world) (sym (ap (λ (h : HostState). h.entries) r)) each
+      rw (ap (λ (h : HostState). h.entries) r) each
     where
       each : RefusalsJustified b.world a.entries
       each x cause s at there = pick (decided (is_way path x)) cause s at there
         where
           known : IsKnownAs a.world x (finding_at x a.entries)
-          known = i.known before x (listed_port a.world a.entries a.addresses
-              (accounted a agrees i.rooted) x (Refused cause) at)
+          known = i.known before x (listed_port a.world (accounted a agrees i.rooted) x
+              (Refused cause) at)
 
           pick : (is_way path x ≡ true) ⊎ (is_way path x ≡ false)
               → IsJustifiedAt b.world a.entries x
           pick (inl way) = let k = holds x way in
               cause_stands x a.entries a.world b.world k.pends k.stands known (caused x)
-          pick (inr away) = cause_stays x a.entries a.world b.world
+          pick (inr away) = cause_stays x a.entries
               (course_wider (λ s u y. y.spares) (rests x away)) known (caused x)
 
 -- At a port
@@ -172,10 +171,10 @@ pub fault_none_back : (b c : HostState) → c ≡ record b {
 } → c.world.fault ≡ None → b.world.fault ≡ None
 fault_none_back b c others still = ap (λ (h : HostState). h.world.fault) (sym others) ∙ still
 
-module _ (n : ℕ) (path : List ℕ) (port : KnownPort) (a b : HostState) (s : StandsAt path port a)
+module _ {n : ℕ} {path : List ℕ} {port : KnownPort} {a b : HostState} (s : StandsAt path port a)
     (r : OnlyBusSteps a b) (went : HostSteps n a b) where
   stands_then : StandsAt path port b
-  stands_then = rests_stands n path port a b s r went
+  stands_then = rests_stands s r went
 
   -- its status was not told
   pub watched_caused : (fault : EnumFault) → Watches port.port a.world (Err fault) b.world
@@ -183,11 +182,10 @@ module _ (n : ℕ) (path : List ℕ) (port : KnownPort) (a b : HostState) (s : S
       → RefusalsJustified a.world a.entries → PortCaused path (Err fault) b
   watched_caused ParentLost w told i fair caused =
       let known = i.known (went_sound n a.world b.world went fair.still) in
-      let sound = sound_rests n a b r went w.addresses w.devices (w.rests tt) i in
-      lost_caused path port b stands_then (but_of_sound path b sound) fair.still ParentLost told
-      (λ e. w.lost path (stands_way path port a s known) fair.few fair.still sound.owned.single
-      refl)
-      (λ e x away. causes_rests n a b r went s.agrees fair.still (w.rests tt) i caused x)
+      let sound = sound_rests a r went w.addresses w.devices (w.rests tt) i in
+      lost_caused stands_then (but_of_sound path sound) fair.still ParentLost told
+      (λ e. w.lost path (stands_way a s known) fair.few fair.still sound.owned.single refl)
+      (λ e x away. causes_rests a r went s.agrees fair.still (w.rests tt) i caused x)
   watched_caused (Bus fault) w told i fair caused = tt
   watched_caused Memory w told i fair caused = tt
 
@@ -197,16 +195,16 @@ module _ (n : ℕ) (path : List ℕ) (port : KnownPort) (a b : HostState) (s : S
       → IfErr result (λ fault. FaultAllowedAt port.port fault b.world) → HostInvariant a
       → IsFairTo a.world b.world → RefusalsJustified a.world a.entries → PortCaused path result b
   tidied_caused (Ok tt) t told i fair caused =
-      causes_tidied n a b r went s.agrees fair.still path
-      (t.others (claims a.entries) path (stands_at-claim path port a s) i.owned tt)
-      (t.stays (claims a.entries) path (stands_at-claim path port a s) i.owned refl) i caused
+      causes_tidied a r went s.agrees fair.still path
+      (t.others (claims a.entries) path (stands_at-claim s) i.owned tt)
+      (t.stays (claims a.entries) path (stands_at-claim s) i.owned refl) i caused
   tidied_caused (Err ParentLost) t told i fair caused =
-      let rests = t.others (claims a.entries) path (stands_at-claim path port a s) i.owned tt in
-      let but = sound_rests_but n a b r went t.addresses path t.devices (λ still. rests)
-      (but_of_sound path a i) in
-      lost_caused path port b stands_then but fair.still ParentLost told
+      let rests = t.others (claims a.entries) path (stands_at-claim s) i.owned tt in
+      let but = sound_rests_but a r went t.addresses t.devices (λ still. rests)
+      (but_of_sound path i) in
+      lost_caused stands_then but fair.still ParentLost told
       (λ e. t.lost path fair.few fair.still but.owned.single refl)
-      (λ e. causes_rests_but n a b r went s.agrees fair.still path rests (but_of_sound path a i)
+      (λ e. causes_rests_but a r went s.agrees fair.still rests (but_of_sound path i)
       (λ x away. caused x))
   tidied_caused (Err (Bus fault)) t told i fair caused = tt
   tidied_caused (Err Memory) t told i fair caused = tt
@@ -216,31 +214,28 @@ module _ (n : ℕ) (path : List ℕ) (port : KnownPort) (a b : HostState) (s : S
       → FaultAllowedAt port.port fault b.world → HostInvariant a → IsFairTo a.world b.world
       → RefusalsJustified a.world a.entries → PortCaused path (Err fault) b
   cleared_caused ParentLost x told i fair caused =
-      let rests = x.others (claims a.entries) path (stands_at-claim path port a s) i.owned tt in
+      let rests = x.others (claims a.entries) path (stands_at-claim s) i.owned tt in
       let known = i.known (went_sound n a.world b.world went fair.still) in
-      let but = sound_rests_but n a b r went x.bares path x.devices (λ still. rests)
-      (but_of_sound path a i) in
-      lost_caused path port b stands_then but fair.still ParentLost told
-      (λ e. x.lost (claims a.entries) path (stands_at-claim path port a s) i.owned
-      (stands_way path port a s known) fair.few fair.still but.owned.single refl)
-      (λ e. causes_rests_but n a b r went s.agrees fair.still path rests (but_of_sound path a i)
+      let but = sound_rests_but a r went x.bares x.devices (λ still. rests) (but_of_sound path i) in
+      lost_caused stands_then but fair.still ParentLost told
+      (λ e. x.lost (claims a.entries) path (stands_at-claim s) i.owned (stands_way a s known)
+      fair.few fair.still but.owned.single refl)
+      (λ e. causes_rests_but a r went s.agrees fair.still rests (but_of_sound path i)
       (λ x away. caused x))
   cleared_caused (Bus fault) x told i fair caused = tt
   cleared_caused Memory x told i fair caused = tt
 
   -- it was cleared, and what was there is forgotten
-  pub forgot_caused : (c : HostState) (status : PortStatus)
+  pub forgot_caused : (c : HostState) {status : PortStatus}
       → ClearsChange port.port a.world (Ok status) b.world
       → c ≡ record b { entries = c.entries; pipes = c.pipes; addresses = c.addresses }
       → c.entries ≡ without path b.entries → HostInvariant a → b.world.fault ≡ None
       → RefusalsJustified a.world a.entries → RefusalsJustified c.world c.entries
-  forgot_caused c status x others rest i still caused =
-      let rests = x.others (claims a.entries) path (stands_at-claim path port a s) i.owned tt in
-      let there = causes_rests_but n a b r went s.agrees still path rests (but_of_sound path a i)
+  forgot_caused c x others rest i still caused =
+      let rests = x.others (claims a.entries) path (stands_at-claim s) i.owned tt in
+      let there = causes_rests_but a r went s.agrees still rests (but_of_sound path i)
       (λ x away. caused x) in
-      let world_is : c.world ≡ b.world = ap (λ (h : HostState). h.world) others in
-      subst (λ w. RefusalsJustified w c.entries) (sym world_is)
-      (subst (RefusalsJustified b.world) (sym rest)
+      rw (ap (λ (h : HostState). h.world) others) (rw rest
       (causes_dropped path b.world b.entries there))
 
 -- What is found there
@@ -251,7 +246,7 @@ right_free full spec tier supply f (inl x) = inl x
 right_free full spec tier supply f (inr x) =
     inr (record { none = tt; head = x.head; refused = x.refused })
 
-module _ (n : ℕ) (path : List ℕ) (port : KnownPort) (a b : HostState) (s : StandsAt path port a)
+module _ (n : ℕ) {path : List ℕ} {port : KnownPort} (a b : HostState) (s : StandsAt path port a)
     (gone : has_at path a.entries ≡ false) (accounts : Accounts a.entries a.addresses)
     (went : HostSteps n a b) (o : IsOpen path a) (fair : IsFairTo a.world b.world) where
   sound_before : a.world.fault ≡ None
@@ -261,28 +256,28 @@ module _ (n : ℕ) (path : List ℕ) (port : KnownPort) (a b : HostState) (s : S
   is_fair = record {
     begins = begins n path port a.addresses a b s gone accounts went o;
     occupied = o.there sound_before;
-    server = hub_server path port a s o.but sound_before;
+    server = hub_server a s o.but sound_before;
     few = fair.few;
     kept = fair.kept;
     working = fair.still;
   }
 
-  found_causes : (result : Result Finding EnumFault)
+  found_causes : {result : Result Finding EnumFault}
       → Enumerates port.port a.addresses (tier_of path) port.supply a.world result b.world
       → CausesBut path a.world a.entries → CausesBut path b.world a.entries
-  found_causes result e caused =
-      let only = found_only n path port a.addresses a b s gone accounts went o result e
+  found_causes e caused =
+      let only = found_only n path port a.addresses a b s gone accounts went o e
       fair.still in
-      causes_but_stay path a.world b.world a.entries a.addresses (accounted a s.agrees o.but.rooted)
-      (o.but.known sound_before) (λ x away. course_wider (λ s u y. y.spares)
-      (only.others x away)) caused
+      causes_but_stay path a.world b.world (accounted a s.agrees o.but.rooted)
+      (o.but.known sound_before) (λ x away. course_wider (λ s u y. y.spares) (only.others x away))
+      caused
 
   pub entered_caused : (f : Finding) → Enumerates port.port a.addresses (tier_of path) port.supply
       a.world (Ok f) b.world → b.entries ≡ insert_entry path_cmp a.entries path f
       → CausesBut path a.world a.entries → PortCaused path (Ok tt) b
   entered_caused f e is caused =
-      subst (RefusalsJustified b.world) (sym is) (causes_found path f a.entries s.is.0 gone b.world
-      (causes_gone path b.world a.entries gone (found_causes (Ok f) e caused)) here)
+      rw is (causes_found path f a.entries s.is.0 gone b.world
+      (causes_gone path b.world a.entries gone (found_causes e caused)) here)
     where
       here : IsJustifiedAt b.world (insert_entry path_cmp a.entries path f) path
       here cause t at there = pick (e.warrants.cause (claims a.entries) path is_fair cause t
@@ -297,10 +292,8 @@ module _ (n : ℕ) (path : List ℕ) (port : KnownPort) (a b : HostState) (s : S
               ⊎ IsRight ⊤ t.spec (tier_of path)
               (known_supply path (insert_entry path_cmp a.entries path f)) (Refused cause)
           pick (inl x) = inl x
-          pick (inr x) = inr (subst (λ m. IsRight ⊤ t.spec (tier_of path) m (Refused cause))
-              (sym (supply_found path port f a.entries s.known))
-              (right_free (IsFull a.addresses) t.spec (tier_of path) port.supply (Refused cause)
-              x))
+          pick (inr x) = inr (rw (supply_found path f a.entries s.known)
+              (right_free (IsFull a.addresses) t.spec (tier_of path) port.supply (Refused cause) x))
 
   pub unfound_caused : (fault : EnumFault)
       → Enumerates port.port a.addresses (tier_of path) port.supply a.world (Err fault) b.world
@@ -311,20 +304,19 @@ module _ (n : ℕ) (path : List ℕ) (port : KnownPort) (a b : HostState) (s : S
       by_parent : (p : Option (List ℕ)) → parent_of path ≡ p
           → IsSomeAnd p (λ hub. (pending b.world.roots hub ≡ true)
           × CausesBut hub b.world b.entries)
-      by_parent None above = absurd (cc (lost_above path a.entries port b.world told None above
-          (subst (λ p. port_below p (port_on_hub path) a.entries ≡ Some port) above s.known)))
+      by_parent None above = absurd (cc (lost_above path a.entries b.world told None above
+          (rw above at s.known)))
       by_parent (Some hub) above = (
-        subst (λ p. IsSomeAnd p (λ q. pending b.world.roots q ≡ true)) above
-            (e.warrants.parent (claims a.entries) path is_fair refl),
+        rw above at (e.warrants.parent (claims a.entries) path is_fair refl),
         subst (CausesBut hub b.world) (sym same)
             (causes_above hub path b.world a.entries (way_parent path hub above)
-            (found_causes (Err ParentLost) e caused)),
+            (found_causes e caused)),
       )
   unfound_caused (Bus fault) e same told caused = tt
   unfound_caused Memory e same told caused = tt
 
 -- what was found at a port is entered, or its hub is lost
-module _ (n : ℕ) (path : List ℕ) (port : KnownPort) (a b : HostState) (s : StandsAt path port a)
+module _ {n : ℕ} {path : List ℕ} {port : KnownPort} {a b : HostState} (s : StandsAt path port a)
     (gone : has_at path a.entries ≡ false) (accounts : Accounts a.entries a.addresses)
     (went : HostSteps n a b) where
   pub entered_finds : (f : Finding) → Enumerates port.port a.addresses (tier_of path) port.supply
@@ -334,11 +326,11 @@ module _ (n : ℕ) (path : List ℕ) (port : KnownPort) (a b : HostState) (s : S
     sound = λ o. entered_sound n path port a.addresses a b s gone accounts went o f e table keeps;
     bulk = λ o on still. entered_bulk n path port a.addresses a b s gone accounts went o f e table
         still;
-    backlog = λ o still. (found_only n path port a.addresses a b s gone accounts went o (Ok f) e
+    backlog = λ o still. (found_only n path port a.addresses a b s gone accounts went o e
         still).backlog;
     few = λ o most plan. e.few.few (claims a.entries) path (askable_wide port.port s.askable)
         (begins n path port a.addresses a b s gone accounts went o) most plan;
-    caused = λ o fair caused. entered_caused n path port a b s gone accounts went o fair f e
+    caused = λ o fair caused. entered_caused n a b s gone accounts went o fair f e
         (ap (λ (t : Table). t.entries) table) caused;
   }
 
@@ -348,7 +340,7 @@ module _ (n : ℕ) (path : List ℕ) (port : KnownPort) (a b : HostState) (s : S
   unentered_finds f e = record {
     sound = λ o. tt;
     bulk = λ o on. absurd on;
-    backlog = λ o still. (found_only n path port a.addresses a b s gone accounts went o (Ok f) e
+    backlog = λ o still. (found_only n path port a.addresses a b s gone accounts went o e
         still).backlog;
     few = λ o most plan. e.few.few (claims a.entries) path (askable_wide port.port s.askable)
         (begins n path port a.addresses a b s gone accounts went o) most plan;
@@ -363,53 +355,51 @@ module _ (n : ℕ) (path : List ℕ) (port : KnownPort) (a b : HostState) (s : S
   unfound_finds fault e same pipes_same pool_same told keeps = record {
     sound = λ o. unfound_sound n path port a.addresses a b s gone accounts went o fault e same
         pipes_same pool_same told keeps;
-    bulk = λ o on still. unfound_bulk n path port a.addresses a b s gone accounts went o fault e
-        same pipes_same still;
-    backlog = λ o still. (found_only n path port a.addresses a b s gone accounts went o (Err fault)
-        e still).backlog;
+    bulk = λ o on still. unfound_bulk n path port a.addresses a b s gone accounts went o e same
+        pipes_same still;
+    backlog = λ o still. (found_only n path port a.addresses a b s gone accounts went o e
+        still).backlog;
     few = λ o most plan. e.few.few (claims a.entries) path (askable_wide port.port s.askable)
         (begins n path port a.addresses a b s gone accounts went o) most plan;
-    caused = λ o fair caused. unfound_caused n path port a b s gone accounts went o fair fault e
-        same told caused;
+    caused = λ o fair caused. unfound_caused n a b s gone accounts went o fair fault e same told
+        caused;
   }
 
 -- A hub is dropped
 
-module _ (n : ℕ) (path : List ℕ) (port : KnownPort) (a b : HostState) (s : StandsAt path port a)
+module _ (n : ℕ) {path : List ℕ} {port : KnownPort} (a b : HostState) (s : StandsAt path port a)
     (r : OnlyBusSteps a b) (went : HostSteps n a b) (addresses : KeepsAddresses a.world b.world)
     (devices : KeepsDevices a.world b.world) (d : IsDroppable path a)
     (fair : IsFairTo a.world b.world) where
-  told_rests : (result : Result (Unit {0}) PipeFault)
+  told_rests : {result : Result (Unit {0}) PipeFault}
       → CommandsPort port.port (clear_call PORT_ENABLE) a.world result b.world → IsNoBusFault result
       → RestElsewhere path a.world b.world
-  told_rests result calls sound =
-      let o = claimed n path port a b s r went addresses devices d in
-      calls.rests o.claims path ClearEnable (is_call n path port a b s r went addresses devices d)
+  told_rests calls sound =
+      calls.rests (claimed s r went addresses devices d).claims path ClearEnable
+      (is_call s r went addresses devices d)
       sound
 
   pub told_caused : CommandsPort port.port (clear_call PORT_ENABLE) a.world (Ok tt) b.world
       → pending a.world.roots path ≡ true → CausesBut path a.world a.entries → Disabled true path b
-  told_caused calls pends caused =
-      let o = claimed n path port a b s r went addresses devices d in (
-        pends_there path ClearEnable a.world b.world refl (calls.done o.claims path ClearEnable
-            (is_call n path port a b s r went addresses devices d) refl) pends,
-        causes_rests_but n a b r went s.agrees fair.still path (told_rests (Ok tt) calls tt) d.but
-            caused,
-      )
+  told_caused calls pends caused = (
+    pends_there path ClearEnable a.world b.world refl
+        (calls.done (claimed s r went addresses devices d).claims path ClearEnable
+        (is_call s r went addresses devices d) refl) pends,
+    causes_rests_but a r went s.agrees fair.still (told_rests calls tt) d.but caused,
+  )
 
   -- it could not be told
-  pub untold_caused : (fault : PipeFault) → CommandsPort port.port (clear_call PORT_ENABLE) a.world
+  pub untold_caused : {fault : PipeFault} → CommandsPort port.port (clear_call PORT_ENABLE) a.world
       (Err fault) b.world → FaultAfter 1 a.world fault b.world
       → PortCleared port.port PORT_ENABLE a.world (Err fault) b.world
       → CausesBut path a.world a.entries → Disabled false path b
-  untold_caused fault calls told cleared caused = by_parent (parent_of path) refl
+  untold_caused {fault = fault} calls told cleared caused = by_parent (parent_of path) refl
     where
       rests : RestElsewhere path a.world b.world
-      rests = told_rests (Err fault) calls (fault_after-no_bus (Unit {0}) fault a.world b.world told
-          fair.still)
+      rests = told_rests calls (fault_after-no_bus (Unit {0}) fault a.world b.world told fair.still)
 
       but : IsSoundBut path b
-      but = sound_rests_but n a b r went addresses path devices (λ still. rests) d.but
+      but = sound_rests_but a r went addresses devices (λ still. rests) d.but
 
       unserved : (hub : Target) (number : ℕ) → port.port ≡ External hub number → (f : PipeFault)
           → f ≡ fault → NoHubFailed {A = Unit {0}} (Err f) → ⊥
@@ -417,11 +407,8 @@ module _ (n : ℕ) (path : List ℕ) (port : KnownPort) (a b : HostState) (s : S
       unserved hub number is pipe.Busy e h = h
       unserved hub number is pipe.NoAnswer e h = h
       unserved hub number is pipe.Broken e h = h
-      unserved hub number is (pipe.Bus g) e h =
-          absurd (cc (fair.still, (subst (λ x. FaultAfter 1 a.world x b.world) (sym e) told).told))
-      unserved hub number is pipe.Memory e h =
-          (subst (λ p. PortCleared p PORT_ENABLE a.world (Err fault) b.world) is cleared).room
-          (ap Err (sym e))
+      unserved hub number is (pipe.Bus g) e h = absurd (cc (fair.still, (rw (← e) at told).told))
+      unserved hub number is pipe.Memory e h = (rw is at cleared).room (ap Err (sym e))
 
       lost : IsLost port.port path b.world
       lost hub number is most serves joined =
@@ -436,21 +423,13 @@ module _ (n : ℕ) (path : List ℕ) (port : KnownPort) (a b : HostState) (s : S
       by_parent : (o : Option (List ℕ)) → parent_of path ≡ o
           → IsSomeAnd o (λ hub. (pending b.world.roots hub ≡ true)
           × CausesBut hub b.world b.entries)
-      by_parent None above = absurd (root_done path a.entries port PORT_ENABLE a.world b.world fault
-          None above refl (subst (λ o. port_below o (port_on_hub path) a.entries ≡ Some port)
-          above s.known) cleared)
+      by_parent None above = absurd (root_done path a.entries PORT_ENABLE a.world b.world fault None
+          above refl (rw above at s.known) cleared)
       by_parent (Some hub) above = (
-        hub_pends path port b (rests_stands n path port a b s r went) but fair.still hub above
-            (by_port port.port cleared) lost,
+        hub_pends (rests_stands s r went) but fair.still hub above (by_port port.port cleared) lost,
         causes_above hub path b.world b.entries (way_parent path hub above)
-            (causes_rests_but n a b r went s.agrees fair.still path rests d.but caused),
+            (causes_rests_but a r went s.agrees fair.still rests d.but caused),
       )
-
-fair_same : (b c : HostState) (first w : World)
-    → c ≡ record b { entries = c.entries; pipes = c.pipes; addresses = c.addresses } → w ≡ c.world
-    → IsFairTo first w → IsFairTo first b.world
-fair_same b c first w others here fair =
-    subst (IsFairTo first) (here ∙ ap (λ (h : HostState). h.world) others) fair
 
 module _ (lost : List ℕ) (b c d : HostState) (least : 1 ≤ length lost)
     (others : c ≡ record b { entries = c.entries; pipes = c.pipes; addresses = c.addresses })
@@ -468,11 +447,9 @@ module _ (lost : List ℕ) (b c d : HostState) (least : 1 ≤ length lost)
   lost_causes : pending b.world.roots lost ≡ true → CausesBut lost b.world b.entries
       → RefusalsJustified d.world d.entries
   lost_causes pends caused =
-      subst (λ w. RefusalsJustified w d.entries) (sym world_same)
-      (subst (RefusalsJustified b.world) (sym is)
-      (causes_found lost (Refused Lost) c.entries least gone b.world
-      (subst (RefusalsJustified b.world) (sym rest)
-      (causes_dropped lost b.world b.entries caused)) (λ cause s at there. inl pends)))
+      rw world_same (rw is (causes_found lost (Refused Lost) c.entries least gone b.world
+      (subst (RefusalsJustified b.world) (sym rest) (causes_dropped lost b.world b.entries caused))
+      (λ cause s at there. inl pends)))
 
   -- no bulk pipe but those of what is dropped has changed
   lost_stay : (a : HostState) → OnlyBusSteps a b → KeepsDevices a.world b.world
@@ -480,8 +457,7 @@ module _ (lost : List ℕ) (b c d : HostState) (least : 1 ≤ length lost)
   lost_stay a r devices single =
       stay_joined a c d
       (stay_joined a b c (stay_rests a b r devices (ap (λ (w : World). w.shared) (sym world_same)
-      ∙ single)) (stay_forgotten lost b c (ap (λ (h : HostState). h.world) others) rest
-      gone pipes))
+      ∙ single)) (stay_forgotten lost b c (ap (λ (h : HostState). h.world) others) rest gone pipes))
       (stay_refused lost Lost c d table same)
 
   -- it is listed as lost
@@ -491,11 +467,10 @@ module _ (lost : List ℕ) (b c d : HostState) (least : 1 ≤ length lost)
     sound = λ p. lost_sound_there hub lost a b c d least (climbs.sound p) others rest pipes gone
         same table p drops;
     bulk = λ p still. bulk_stays a d (lost_stay a r climbs.devices (drops.ends p.but.owned).single);
-    plugs = plugs_lost hub a d (subst (λ (w : World). a.world.taken ≤ w.taken) (sym world_same)
-        onward) drops.lost;
+    plugs = plugs_lost a d (rw world_same onward) drops.lost;
     backlog = λ p still. subst (KeepsAll a.world) (sym world_same)
         (climbs.backlog p (ap (λ (w : World). w.fault) (sym world_same) ∙ still));
     caused = λ p fair pends caused. let x =
-        climbs.caused p (fair_same b c a.world d.world others same fair) pends caused in
+        climbs.caused p (rw (same ∙ ap (λ (h : HostState). h.world) others) at fair) pends caused in
         lost_causes x.0 x.1;
   }

@@ -14,10 +14,10 @@ askable_wide (External hub port) h = h.wide
 pub enumeration_goes : (port : HubPort) (a b : HostState) → IsAskable port
     → HostSteps (enumeration_bound port) a b → b.stopped ≡ a.stopped
     → HostRuns widest_enumeration a b
-enumeration_goes port a b askable w e = goes_by (enumeration_bound port) widest_enumeration a b w
+enumeration_goes port a b askable w e = goes_by a b w
     (enumeration_most port (askable_wide port askable)) e
 
 pub status_read_goes : (port : HubPort) (a b : HostState) → IsAskable port
     → HostSteps (status_bound port) a b → b.stopped ≡ a.stopped → HostRuns (read_bound 4) a b
-status_read_goes port a b askable w e = goes_by (status_bound port) (read_bound 4) a b w
-    (status_most port (askable_wide port askable)) e
+status_read_goes port a b askable w e = goes_by a b w (status_most port (askable_wide port askable))
+    e

@@ -6,7 +6,7 @@ use Rattle.usb_bus.specs.{StepRun}
 use Rattle.usb_enum.proofs.Interface.{few_before, went_course, went_sound, went_three}
 use Rattle.usb_host.specs.{IsFairTo}
 
-module _ (n : ℕ) (old mid new : World) {t s : Option (List ℕ)} where
+module _ {n : ℕ} {old mid new : World} {t s : Option (List ℕ)} where
   -- up to a part
   pub fair_before : StepRun n mid t new s → IsFairTo old new → IsFairTo old mid
   fair_before went f = record {

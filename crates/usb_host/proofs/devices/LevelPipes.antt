@@ -29,8 +29,8 @@ pub level_rests : (a b : HostState) → OnlyBusSteps a b → KeepsDevices a.worl
     → b.world.shared ≡ false → (path : List ℕ) → InSyncAt path (table_in a) a.world
     → InSyncAt path (table_in b) b.world
 level_rests a b r devices single path l =
-    subst (λ (t : Table). InSyncAt path t b.world) (sym (ap (λ (h : HostState). table_in h) r))
-    (level_stays (table_in a) a.world b.world (devices.stays single) path l)
+    rw (ap (λ (h : HostState). table_in h) r) (level_stays (table_in a) a.world b.world
+    (devices.stays single) path l)
 
 -- What is taken out
 
@@ -42,7 +42,7 @@ remove_entry-apart : (q first : List ℕ) (e : List ℕ × Pipes) (es : List (Li
     ≡ lookup (is_at (path_cmp q)) (e ∷ es)
 remove_entry-apart q first e es apart more true tie =
     let other : is_at (path_cmp q) e.0 ≡ false =
-    subst (λ (r : List ℕ). is_at (path_cmp q) r ≡ false) (path_tied first e.0 tie) apart in
+    rw (path_tied first e.0 tie) at apart in
     rw other refl
 remove_entry-apart q first e es apart more false tie =
     ap (λ found. cond (is_at (path_cmp q) e.0) (Some e.1) found) more
@@ -61,23 +61,21 @@ is_at-not_below : (q path first : List ℕ) → is_at_or_below first path ≡ tr
 is_at-not_below q path first on away = pick (is_at (path_cmp q) first) refl
   where
     pick : (b : Bool) → is_at (path_cmp q) first ≡ b → b ≡ false
-    pick true tie = false_true (sym (subst (λ (r : List ℕ). is_at_or_below r path ≡ false)
-        (path_tied q first tie) away) ∙ on)
+    pick true tie = false_true (sym (rw (path_tied q first tie) at away) ∙ on)
     pick false tie = refl
 
-pub pipes_apart : (q path : List ℕ) (finding : Finding) (old new : Table)
+pub pipes_apart : (q path : List ℕ) {finding : Finding} (old new : Table)
     → TakesOut path finding old new → is_at_or_below q path ≡ false
     → pipes_at q new ≡ pipes_at q old
-pipes_apart q path finding old new t away =
-    ap (λ (x : Table). pipes_at q x) t.rest
-    ∙ ap (λ (o : Option Pipes). unwrap_or o Absent)
+pipes_apart q path old new t away =
+    ap (λ (x : Table). pipes_at q x) t.rest ∙ ap (λ (o : Option Pipes). unwrap_or o Absent)
     (lookup-removed q t.first old.pipes (is_at-not_below q path t.first t.at away))
 
 -- Of what is not listed nothing is to be level
 
-none_level : (path : List ℕ) (t : Table) (w : World) → finding_at path t.entries ≡ None
+none_level : {path : List ℕ} {t : Table} {w : World} → finding_at path t.entries ≡ None
     → InSyncAt path t w
-none_level path t w none = record {
+none_level none = record {
   level = λ device s at on stands. absurd (cc (ap accepted_device_of none, at));
 }
 
@@ -90,11 +88,11 @@ pub level_forgotten : (first : List ℕ) (b c : HostState) → c.world ≡ b.wor
 level_forgotten first b c same rest gone pipes level x = pick (decided (is_way first x))
   where
     pick : (is_way first x ≡ true) ⊎ (is_way first x ≡ false) → InSyncAt x (table_in c) c.world
-    pick (inl way) = none_level x (table_in c) c.world (finding-none first x c.entries gone way)
+    pick (inl way) = none_level (finding-none first x c.entries gone way)
     pick (inr away) =
         let found : finding_at x c.entries ≡ finding_at x b.entries =
-        ap (λ (es : Entries). finding_at x es) rest
-        ∙ lookup-without x first true b.entries (ap not (at_or_below_way x first ∙ away)) in
+        ap (λ (es : Entries). finding_at x es) rest ∙ lookup-without x first b.entries
+        (ap not (at_or_below_way x first ∙ away)) in
         subst (InSyncAt x (table_in c)) (sym same) (record {
           level = λ device s at on stands. subst (λ (p : Pipes). PipesInSync p s)
               (sym (pipes x away)) ((level x away).level device s (sym (ap accepted_device_of found)
@@ -104,31 +102,31 @@ level_forgotten first b c same rest gone pipes level x = pick (decided (is_way f
 -- What is entered
 
 -- where nothing was listed at the path
-pub level_came : (path : List ℕ) (f : Finding) (t u : Table) (w : World) → u ≡ entered path f t
-    → InSyncAt path (entered path f t) w → AllInSync t w → AllInSync u w
-level_came path f t u w is here others x =
-    subst (λ (v : Table). InSyncAt x v w) (sym is) (pick (is_at (path_cmp x) path) refl)
+pub level_came : (path : List ℕ) (f : Finding) (t : Table) {u : Table} (w : World)
+    → u ≡ entered path f t → InSyncAt path (entered path f t) w → AllInSync t w → AllInSync u w
+level_came path f t w is here others x =
+    rw is (pick (is_at (path_cmp x) path) refl)
   where
     pick : (b : Bool) → is_at (path_cmp x) path ≡ b → InSyncAt x (entered path f t) w
-    pick true tie = subst (λ (y : List ℕ). InSyncAt y (entered path f t) w)
-        (sym (path_tied x path tie)) here
+    pick true tie = rw (path_tied x path tie) here
     pick false apart = level_beside path f t w x apart (others x)
 
 -- a device that is refused has no pipes
-pub level_refused : (path : List ℕ) (cause : Cause) (t u : Table) (w : World)
+pub level_refused : (path : List ℕ) (cause : Cause) (t : Table) {u : Table} (w : World)
     → u ≡ entered path (Refused cause) t → AllInSync t w → AllInSync u w
-level_refused path cause t u w is others =
-    level_came path (Refused cause) t u w is (level_entered path (Refused cause) t w 0 0
+level_refused path cause t w is others =
+    level_came path (Refused cause) t w is (level_entered path (Refused cause) t w 0 0
     (λ device s found. absurd (cc found))) others
 
 -- those to a device whose finding is its own are new, as its endpoints are
-pub level_found : (path : List ℕ) (f : Finding) (tier supply : ℕ) (t u : Table) (w : World)
+pub level_found : (path : List ℕ) (f : Finding) (tier supply : ℕ) (t : Table) {u : Table}
+    (w : World)
     → u ≡ entered path f t → Consistent w.roots
     → ((device : Accepted) (s : State) → f ≡ Device device → reach w.roots path ≡ true
     → state_there w.roots path ≡ Some s → IsOwn tier supply device s) → AllInSync t w
     → AllInSync u w
-level_found path f tier supply t u w is sane own others =
-    level_came path f t u w is (level_entered path f t w tier supply
+level_found path f tier supply t w is sane own others =
+    level_came path f t w is (level_entered path f t w tier supply
     (λ device s found on stands. (
       ruled_there w.roots path s sane stands,
       own device s found on stands,
@@ -147,5 +145,5 @@ pub level_gone : (path : List ℕ) (t : Table) (w : World) → has_at path t.ent
 level_gone path t w gone level x = pick (decided (is_way path x))
   where
     pick : (is_way path x ≡ true) ⊎ (is_way path x ≡ false) → InSyncAt x t w
-    pick (inl way) = none_level x t w (finding-none path x t.entries gone way)
+    pick (inl way) = none_level (finding-none path x t.entries gone way)
     pick (inr away) = level x away

@@ -21,9 +21,12 @@ use Rattle.usb_host.specs.{StaysSingle, KeepsOwned, HostFault, Round}
 use Rattle.usb_host.proofs.entries.EntryClaims.{claims-without, claims-refused}
 use Rattle.usb_host.proofs.entries.Roots.{rooted_kept}
 
-pub till_as : (f g : AddressMap) (w : World) → ((x : List ℕ) → f x ≡ g x)
+pub till_as : {f g : AddressMap} {w : World} → ((x : List ℕ) → f x ≡ g x)
     → WhileBusWorks (MapHolds f) w → WhileBusWorks (MapHolds g) w
-till_as f g w same t = record { so = λ none. owned_as f g w same (t.so none); single = t.single }
+till_as {f = f} {g = g} {w = w} same t = record {
+  so = λ none. owned_as f g w same (t.so none);
+  single = t.single;
+}
 
 -- Of what is at a path and below it nothing is known
 
@@ -32,52 +35,48 @@ pub record Opened (p : List ℕ) (f : AddressMap) (w : World) : Type 0 where
   pub owned : WhileBusWorks (MapHolds claims) w
   pub others : (x : List ℕ) → is_way p x ≡ false → claims x ≡ f x
 
-opened_by : (p : List ℕ) (f : AddressMap) (w : World) → WhileBusWorks (MapHoldsExcept p f) w
+opened_by : {p : List ℕ} (f : AddressMap) {w : World} → WhileBusWorks (MapHoldsExcept p f) w
     → (fault : Option BusFault) → w.fault ≡ fault → Opened p f w
-opened_by p f w t None is =
+opened_by f t None is =
     let o = t.so is in
     record {
       claims = o.claims;
       owned = record { so = λ none. o.owned; single = t.single };
       others = o.others;
     }
-opened_by p f w t (Some fault) is = record {
+opened_by f t (Some fault) is = record {
   claims = f;
   owned = record { so = λ none. absurd (cc (none, is)); single = t.single };
   others = λ x away. refl;
 }
 
-pub opened_if_owned : (p : List ℕ) (f : AddressMap) (w : World)
+pub opened_if_owned : {p : List ℕ} {f : AddressMap} {w : World}
     → WhileBusWorks (MapHoldsExcept p f) w → Opened p f w
-opened_if_owned p f w t = opened_by p f w t w.fault refl
+opened_if_owned {f = f} {w = w} t = opened_by f t w.fault refl
 
-opened_closed : (p : List ℕ) (f : AddressMap) (w : World) → Opened p f w
+opened_closed : {p : List ℕ} {f : AddressMap} {w : World} → Opened p f w
     → WhileBusWorks (MapHoldsExcept p f) w
-opened_closed p f w o = record {
+opened_closed o = record {
   so = λ none. record { claims = o.claims; owned = o.owned.so none; others = o.others };
   single = o.owned.single;
 }
 
-pub but_all : (p : List ℕ) (f : AddressMap) (w : World) → WhileBusWorks (MapHolds f) w
+pub but_all : {p : List ℕ} {f : AddressMap} {w : World} → WhileBusWorks (MapHolds f) w
     → WhileBusWorks (MapHoldsExcept p f) w
-but_all p f w t = opened_closed p f w (record { claims = f; owned = t; others = λ x away. refl })
+but_all {f = f} t = opened_closed (record { claims = f; owned = t; others = λ x away. refl })
 
-pub but_kept : (p : List ℕ) (f : AddressMap) (old new : World) → KeepsAddresses old new
+pub but_kept : {p : List ℕ} {f : AddressMap} {old new : World} → KeepsAddresses old new
     → WhileBusWorks (MapHoldsExcept p f) old → WhileBusWorks (MapHoldsExcept p f) new
-but_kept p f old new k t =
-    let o = opened_if_owned p f old t in
-    opened_closed p f new (record {
-      claims = o.claims;
-      owned = k.kept o.claims o.owned;
-      others = o.others;
-    })
+but_kept k t =
+    let o = opened_if_owned t in
+    opened_closed (record { claims = o.claims; owned = k.kept o.claims o.owned; others = o.others })
 
 -- nor of what is further above
-pub but_above : (p q : List ℕ) (f : AddressMap) (w : World) → is_way p q ≡ true
+pub but_above : (p : List ℕ) {q : List ℕ} {f : AddressMap} {w : World} → is_way p q ≡ true
     → WhileBusWorks (MapHoldsExcept q f) w → WhileBusWorks (MapHoldsExcept p f) w
-but_above p q f w on t =
-    let o = opened_if_owned q f w t in
-    opened_closed p f w (record {
+but_above p {q = q} on t =
+    let o = opened_if_owned t in
+    opened_closed (record {
       claims = o.claims;
       owned = o.owned;
       others = λ x away. o.others x (way_apart p q x on away);
@@ -91,20 +90,19 @@ cleared_as : (p : List ℕ) (f g : AddressMap) → ((x : List ℕ) → is_way p 
 cleared_as p f g others x true way = refl
 cleared_as p f g others x false away = others x away
 
-bare_as : (p : List ℕ) (f : AddressMap) (old new : World) → (o : Opened p f old)
+bare_as : (p : List ℕ) (f : AddressMap) {old new : World} → (o : Opened p f old)
     → WhileBusWorks (MapHolds (map_without o.claims p)) new
     → WhileBusWorks (MapHolds (map_without f p)) new
-bare_as p f old new o t = till_as (map_without o.claims p) (map_without f p) new
-    (λ x. cleared_as p f o.claims o.others x (is_way p x) refl) t
+bare_as p f o t = till_as (λ x. cleared_as p f o.claims o.others x (is_way p x) refl) t
 
 -- a port stands where its hub is, whatever is on it
 pub at_others : (f g : AddressMap) (port : HubPort) (p : List ℕ)
     → ((x : List ℕ) → is_way p x ≡ false → g x ≡ f x) → IsAt f port p → IsAt g port p
 at_others f g (Root number) p others at = at
 at_others f g (External hub port) p others at =
-    let long : length p ≡ length at.hub + 1 = ap length at.path
-    ∙ length-append at.hub (port ∷ []) in
-    let away : is_way p at.hub ≡ false = way_shorter p at.hub (omega (arith, long)) in
+    let long : length p ≡ length at.hub + 1 = ap length at.path ∙ length-append at.hub (port ∷ [])
+    in
+    let away : is_way p at.hub ≡ false = way_shorter p at.hub (omega arith) in
     record {
       hub = at.hub;
       is_path = at.is_path;
@@ -113,22 +111,19 @@ at_others f g (External hub port) p others at =
       held = others at.hub away ∙ at.held;
     }
 
-pub bare_port : (port : HubPort) (p : List ℕ) (f : AddressMap) (old new : World)
+pub bare_port : (port : HubPort) (p : List ℕ) {f : AddressMap} {old new : World}
     → Isolates port old new → IsAt f port p → WhileBusWorks (MapHoldsExcept p f) old
     → WhileBusWorks (MapHolds (map_without f p)) new
-bare_port port p f old new b at t =
-    let o = opened_if_owned p f old t in
-    bare_as p f old new o (b.bares o.claims p (at_others f o.claims port p o.others at) o.owned)
+bare_port port p {f = f} b at t =
+    let o = opened_if_owned t in
+    bare_as p f o (b.bares o.claims p (at_others f o.claims port p o.others at) o.owned)
 
 pub bare_none : (p : List ℕ) (f : AddressMap) (w : World)
     → ((x : List ℕ) → is_way p x ≡ true → reach w.roots x ≡ false)
     → WhileBusWorks (MapHoldsExcept p f) w → WhileBusWorks (MapHolds (map_without f p)) w
 bare_none p f w none t =
-    let o = opened_if_owned p f w t in
-    bare_as p f w w o (record {
-      so = λ h. bared o.claims p w none (o.owned.so h);
-      single = t.single;
-    })
+    let o = opened_if_owned t in
+    bare_as p f o (record { so = λ h. bared o.claims p w none (o.owned.so h); single = t.single })
 
 -- The table follows
 
@@ -137,25 +132,22 @@ pub forgotten : (path : List ℕ) (a b : HostState)
     → b.entries ≡ without path a.entries → IsIsolated path a → IsOwned b
 forgotten path a b others rest bare =
     let here : WhileBusWorks (MapHolds (map_without (claims a.entries) path)) b.world =
-    subst (WhileBusWorks (MapHolds (map_without (claims a.entries) path)))
-    (sym (ap (λ (h : HostState). h.world) others)) bare in
-    till_as (map_without (claims a.entries) path) (claims b.entries) b.world
-    (λ x. sym (ap (λ (es : Entries). claims es x) rest ∙ claims-without path a.entries x)) here
+    rw (ap (λ (h : HostState). h.world) others) bare in
+    till_as (λ x. sym (ap (λ (es : Entries). claims es x) rest ∙ claims-without path a.entries x))
+    here
 
-pub refused : (path : List ℕ) (cause : Cause) (es new : Entries) (w : World)
+pub refused : (path : List ℕ) (cause : Cause) (es : Entries) {new : Entries} {w : World}
     → has_at path es ≡ false → new ≡ insert_entry path_cmp es path (Refused cause)
     → WhileBusWorks (MapHolds (claims es)) w → WhileBusWorks (MapHolds (claims new)) w
-refused path cause es new w away is t =
-    till_as (claims es) (claims new) w (λ x. sym (ap (λ (l : Entries). claims l x) is
-    ∙ claims-refused path cause es away x)) t
+refused path cause es away is t =
+    till_as (λ x. sym (ap (λ (l : Entries). claims l x) is ∙ claims-refused path cause es away x)) t
 
 -- A call of the host that changes no entry
 
 pub owning_kept : (a b : HostState) → a.stopped ≡ false → b.entries ≡ a.entries
     → KeepsAddresses a.world b.world → HostMapHolds a → HostMapHolds b
 owning_kept a b going same k o =
-    let t : IsOwned b = subst (λ (es : Entries). WhileBusWorks (MapHolds (claims es)) b.world)
-    (sym same) (k.kept (claims a.entries) (o.owned going)) in
+    let t : IsOwned b = rw same (k.kept (claims a.entries) (o.owned going)) in
     record { single = t.single; owned = λ on. t }
 
 pub stays_kept : (a b : HostState) → b.entries ≡ a.entries → roots_of b.world ≡ roots_of a.world
@@ -166,23 +158,19 @@ stays_kept a b same roots k = record {
   rooted = rooted_kept a b same roots;
 }
 
-pub single_kept : (a b : HostState) → b.entries ≡ a.entries → KeepsAddresses a.world b.world
-    → StaysSingle a b
-single_kept a b same k = record { single = λ o. (k.kept (claims a.entries) o).single }
-
 -- One part of a round after another
 
-pub stays_owned_none : (h : HostState) → StaysOwned h h
-stays_owned_none h = record { stays = λ o. o; rooted = λ r. r }
+pub stays_owned_none : {h : HostState} → StaysOwned h h
+stays_owned_none = record { stays = λ o. o; rooted = λ r. r }
 
-pub stays_owned_then : (a b c : HostState) → StaysOwned a b → StaysOwned b c → StaysOwned a c
-stays_owned_then a b c p q = record {
+pub stays_owned_then : {a b c : HostState} → StaysOwned a b → StaysOwned b c → StaysOwned a c
+stays_owned_then p q = record {
   stays = λ o. q.stays (p.stays o);
   rooted = λ r. q.rooted (p.rooted r);
 }
 
-pub single_then : (a b c : HostState) → StaysOwned a b → StaysSingle b c → StaysSingle a c
-single_then a b c p q = record { single = λ o. q.single (p.stays o) }
+pub single_then : {a b c : HostState} → StaysOwned a b → StaysSingle b c → StaysSingle a c
+single_then p q = record { single = λ o. q.single (p.stays o) }
 
 -- A whole round
 
@@ -190,9 +178,8 @@ pub round_owning : (result : Result Round HostFault) (a b c : HostState) → a.s
     → c.world ≡ b.world → c.entries ≡ b.entries → c.stopped ≡ is_err result → KeepsOwned a result b
     → HostMapHolds a → HostMapHolds c
 round_owning (Ok done) a b c going world entries stops k o =
-    let t : IsOwned b = k.stays (o.owned going) in
     let here : WhileBusWorks (MapHolds (claims b.entries)) c.world =
-    subst (WhileBusWorks (MapHolds (claims b.entries))) (sym world) t in
+    rw world (k.stays (o.owned going)) in
     record {
       single = here.single;
       owned =
@@ -200,7 +187,4 @@ round_owning (Ok done) a b c going world entries stops k o =
           here;
     }
 round_owning (Err fault) a b c going world entries stops k o =
-    record {
-      single = subst (λ (w : World). w.shared ≡ false) (sym world) (k.single (o.owned going));
-      owned = λ on. absurd (cc (on, stops));
-    }
+    record { single = rw world (k.single (o.owned going)); owned = λ on. absurd (cc (on, stops)) }

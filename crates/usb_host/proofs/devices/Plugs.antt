@@ -10,8 +10,7 @@ use Rattle.std.specs.Ordering.{match_ordering}
 use Rattle.std.proofs.lemmas.Bool.{eq-eqb}
 use Rattle.std.proofs.lemmas.List.Sums.{sum_by-cons}
 use Rattle.std.proofs.lemmas.Map.Steps.{le-length_from_below}
-use Rattle.usb_port.specs.{path_cmp, is_attached, PortCall, ClearConnectionChange, ClearEnable}
-use Rattle.usb_port.specs.{PortStatus}
+use Rattle.usb_port.specs.{path_cmp, is_attached, PortCall, ClearEnable, PortStatus}
 use Rattle.usb_resources.specs.{IsFull}
 use Rattle.usb_device.specs.{State, state_there}
 use Rattle.usb_world.specs.{Action, Plug, Unplug, Event, AtPorts, spec_of, PlanData, IsPlan}
@@ -53,8 +52,8 @@ module _ {X : Type 0} (P : X → Type 0) where
     where
       pick : (k : ℕ) (y : X) → k < length (x ∷ xs) → slice_index_or (x ∷ xs) k y ≡ y → P y → P x
           ⊎ Any P xs
-      pick zero y less is so = inl (subst P (sym is) so)
-      pick (suc k) y less is so = inr (k, y, omega (arith, less), is, so)
+      pick zero y less is so = inl (rw is so)
+      pick (suc k) y less is so = inr (k, y, omega arith, is, so)
 
   pub any_none : Any P [] → ⊥
   any_none a = absurd (omega (arith, a.2))
@@ -62,9 +61,9 @@ module _ {X : Type 0} (P : X → Type 0) where
   any_taken : (m n : ℕ) (xs : List X) → m ≤ n → Any P (take m xs) → Any P (take n xs)
   any_taken zero n xs le a = absurd (any_none a)
   any_taken (suc m) n [] le a = absurd (any_none a)
-  any_taken (suc m) zero (x ∷ xs) le a = absurd (omega (arith, le))
+  any_taken (suc m) zero (x ∷ xs) le a = absurd (omega arith)
   any_taken (suc m) (suc n) (x ∷ xs) le a =
-      pick (any_taken m n xs (omega (arith, le))) (any_cases x (take m xs) a)
+      pick (any_taken m n xs (omega arith)) (any_cases x (take m xs) a)
     where
       pick : (Any P (take m xs) → Any P (take n xs)) → P x ⊎ Any P (take m xs)
           → Any P (x ∷ take n xs)
@@ -126,7 +125,7 @@ module _ (P : List ℕ → Type 0) where
     where
       split : (b : Bool) → is_at (path_cmp path) x.0 ≡ b → (index_at tree path ≡ Some i → P path)
           → cond b (Some x.1) (index_at tree path) ≡ Some i → P path
-      split true tie more e = subst P (sym (path_tied path x.0 tie)) each.0
+      split true tie more e = rw (path_tied path x.0 tie) each.0
       split false tie more e = more e
 
   path_after : (action : Action) (tree : PluggedMap)
@@ -155,11 +154,10 @@ index_some None (Some s) plan there is = absurd (cc is)
 index_some None None plan there is = absurd (cc there)
 index_some (Some i) s plan there is = (i, refl)
 
-pub there_was_plugged : (plan : PlanData) → IsPlan plan → AtPorts plan.events → (w : World)
-    → Course AnyStep (opening plan) w
-    → (path : List ℕ) → is_some (state_there w.roots path) ≡ true
+pub there_was_plugged : (plan : PlanData) → IsPlan plan → AtPorts plan.events → {w : World}
+    → Course AnyStep (opening plan) w → (path : List ℕ) → is_some (state_there w.roots path) ≡ true
     → WasPlugged plan.events w.taken path
-there_was_plugged plan is paths w course path there =
+there_was_plugged plan is paths {w = w} course path there =
     let came : List Event = take w.taken plan.events in
     let index : (i : ℕ) × (index_at (plugged_by [] came) path ≡ Some i) =
     index_some (index_at (plugged_by [] came) path) (state_there w.roots path) plan there
@@ -195,9 +193,9 @@ plug_step : (es : Entries) (e : Event) (events : List Event) → length (plug_ad
     (plug_addresses es events)) ≡ plug_events (e ∷ events)
 unfolding one_when
 plug_step es e events same true is = let counted : one_when (is_plug e.action) ≡ 1 =
-    ap one_when is in omega (arith, counted, same, plug_events-cons e events)
+    ap one_when is in omega (arith, plug_events-cons e events)
 plug_step es e events same false is = let counted : one_when (is_plug e.action) ≡ 0 =
-    ap one_when is in omega (arith, counted, same, plug_events-cons e events)
+    ap one_when is in omega (arith, plug_events-cons e events)
 
 length-plug_addresses : (es : Entries) (events : List Event) → length (plug_addresses es events)
     ≡ plug_events events
@@ -232,35 +230,32 @@ plug_among es path (e ∷ events) a = pick (plug_among es path events)
     pick among (inr more) = plug_later (address_or es path) (plug_address es e.action)
         (plug_addresses es events) (is_plug e.action) (among more)
 
-device_there : (o : Option Finding) (a : ℕ) → address_in o ≡ Some a → (device : Accepted)
+device_there : (o : Option Finding) {a : ℕ} → address_in o ≡ Some a → (device : Accepted)
     × (accepted_device_of o ≡ Some device)
-device_there None a e = absurd (cc e)
-device_there (Some (Device device)) a e = (device, refl)
-device_there (Some (Refused cause)) a e = absurd (cc e)
+device_there None e = absurd (cc e)
+device_there (Some (Device device)) e = (device, refl)
+device_there (Some (Refused cause)) e = absurd (cc e)
 
 -- at a path of its own for each address, and at one that has none
 full_plugged : (events : List Event) (path : List ℕ) (h : HostState) → HasPlugs events h
-    → Agrees h.entries h.addresses → IsFull h.addresses
-    → finding_at path h.entries ≡ None → WasPlugged events h.world.taken path
-    → 128 ≤ plug_events events
+    → Agrees h.entries h.addresses → IsFull h.addresses → finding_at path h.entries ≡ None
+    → WasPlugged events h.world.taken path → 128 ≤ plug_events events
 full_plugged events path h plugs agrees full none was =
-    subst (λ n. 128 ≤ n) (length-plug_addresses h.entries events)
-    (le-length_from_below (plug_addresses h.entries events) 128 found)
+    rw (length-plug_addresses h.entries events) at (le-length_from_below
+    (plug_addresses h.entries events) 128 found)
   where
     among : (p : List ℕ) (q : ℕ) → address_or h.entries p ≡ q → WasPlugged events h.world.taken p
         → list_any (eqb q) (plug_addresses h.entries events) ≡ true
     among p q is at =
-        subst (λ n. list_any (eqb n) (plug_addresses h.entries events) ≡ true) is
-        (plug_among h.entries p events (any_all (AtPath p) h.world.taken events at))
+        rw is at (plug_among h.entries p events (any_all (AtPath p) h.world.taken events at))
 
     found : (q : ℕ) → q < 128 → list_any (eqb q) (plug_addresses h.entries events) ≡ true
     found zero less = among path 0 (ap (λ o. unwrap_or (address_in o) 0) none) was
     found (suc q) less =
         let at : (p : List ℕ) × (entry_address p h.entries ≡ Some (suc q)) =
-        accounts_listed h.entries h.addresses agrees.rises agrees.accounts (suc q)
-        (full (suc q) (omega arith, less)) in
+        accounts_listed agrees.rises agrees.accounts (suc q) (full (suc q) (omega arith, less)) in
         let there : (device : Accepted) × (accepted_device_at at.0 h.entries ≡ Some device) =
-        device_there (finding_at at.0 h.entries) (suc q) at.1 in
+        device_there (finding_at at.0 h.entries) at.1 in
         among at.0 (suc q) (ap (λ o. unwrap_or o 0) at.1) (plugs.each at.0 there.0 there.1)
 
 -- From one moment to the next
@@ -276,11 +271,11 @@ plugs_then m n a b c first second still x y plan is paths course plugs =
     (x plan is paths course plugs)
 
 -- what is listed was so before, or is lost
-plugs_fewer : (events : List Event) (a b : HostState) → a.world.taken ≤ b.world.taken
+plugs_fewer : {events : List Event} (a b : HostState) → a.world.taken ≤ b.world.taken
     → ((path : List ℕ) (f : Finding) → finding_at path b.entries ≡ Some f
-    → (finding_at path a.entries ≡ Some f) ⊎ (f ≡ Refused Lost))
-    → HasPlugs events a → HasPlugs events b
-plugs_fewer events a b onward was plugs = record {
+    → (finding_at path a.entries ≡ Some f) ⊎ (f ≡ Refused Lost)) → HasPlugs events a
+    → HasPlugs events b
+plugs_fewer {events = events} a b onward was plugs = record {
   each = λ path device at. was_later events a.world.taken b.world.taken path onward
       (pick path device (finding_at path b.entries) refl at);
   none_waits = λ few path at. waits few path (was path (Refused NoAddress) at);
@@ -293,12 +288,11 @@ plugs_fewer events a b onward was plugs = record {
     listed path device (inr e) = absurd (cc e)
 
     pick : (path : List ℕ) (device : Accepted) (o : Option Finding) → finding_at path b.entries ≡ o
-        → accepted_device_of o ≡ Some device
-        → WasPlugged events a.world.taken path
+        → accepted_device_of o ≡ Some device → WasPlugged events a.world.taken path
     pick path device None at e = absurd (cc e)
     pick path device (Some f) at e =
-        let is : f ≡ Device device = accepted_device_of-some f device e in
-        listed path device (was path (Device device) (at ∙ ap (λ g. Some g) is))
+        listed path device (was path (Device device) (at ∙ ap (λ g. Some g)
+        (accepted_device_of-some f e)))
 
     waits : plug_events events ≤ 127 → (path : List ℕ)
         → (finding_at path a.entries ≡ Some (Refused NoAddress))
@@ -309,15 +303,15 @@ plugs_fewer events a b onward was plugs = record {
 -- the same is listed
 pub plugs_same : (events : List Event) (a b : HostState) → a.world.taken ≤ b.world.taken
     → b.entries ≡ a.entries → HasPlugs events a → HasPlugs events b
-plugs_same events a b onward same = plugs_fewer events a b onward
+plugs_same events a b onward same = plugs_fewer a b onward
     (λ path f at. inl (ap (finding_at path) (sym same) ∙ at))
 
 pub plugs_kept : (a b : HostState) → a.world.taken ≤ b.world.taken → b.entries ≡ a.entries
     → KeepsPlugs a b
 plugs_kept a b onward same plan is paths course = plugs_same plan.events a b onward same
 
-pub plugs_rests : (n : ℕ) (a b : HostState) → HostSteps n a b → OnlyBusSteps a b → KeepsPlugs a b
-plugs_rests n a b went r = plugs_kept a b went.spends.onward (ap (λ (h : HostState). h.entries) r)
+pub plugs_rests : {n : ℕ} (a b : HostState) → HostSteps n a b → OnlyBusSteps a b → KeepsPlugs a b
+plugs_rests a b went r = plugs_kept a b went.spends.onward (ap (λ (h : HostState). h.entries) r)
 
 was_listed : (first path : List ℕ) (es : Entries) (f : Finding) → finding_at path (without first es)
     ≡ Some f → finding_at path es ≡ Some f
@@ -328,22 +322,22 @@ was_listed first path es f at = pick (decided (is_way first path))
     pick (inr away) = sym (finding-kept first path es away) ∙ at
 
 -- what was found at a port and below it is forgotten
-pub plugs_forgot : (n : ℕ) (path : List ℕ) (a b c : HostState) → HostSteps n a c → OnlyBusSteps a b
-    → c.entries ≡ without path b.entries → KeepsPlugs a c
-plugs_forgot n path a b c went r rest plan is paths course =
-    let left : c.entries ≡ without path a.entries = rest
-    ∙ ap (λ (h : HostState). without path h.entries) r in
-    plugs_fewer plan.events a c went.spends.onward
+pub plugs_forgot : {n : ℕ} (path : List ℕ) (a : HostState) {b : HostState} (c : HostState)
+    → HostSteps n a c → OnlyBusSteps a b → c.entries ≡ without path b.entries → KeepsPlugs a c
+plugs_forgot path a c went r rest plan is paths course =
+    let left : c.entries ≡ without path a.entries = rest ∙ ap
+    (λ (h : HostState). without path h.entries) r in
+    plugs_fewer a c went.spends.onward
     (λ p f at. inl (was_listed path p a.entries f (ap (finding_at p) (sym left) ∙ at)))
 
 abbrev with_lost : List ℕ → Entries → Entries
 with_lost path es = insert_entry path_cmp (without path es) path (Refused Lost)
 
 -- besides, a hub is listed as lost
-pub plugs_lost : (hub : List ℕ) (a b : HostState) → a.world.taken ≤ b.world.taken
+pub plugs_lost : {hub : List ℕ} (a b : HostState) → a.world.taken ≤ b.world.taken
     → HasLost hub a.entries b.entries → KeepsPlugs a b
-plugs_lost hub a b onward lost plan is paths course =
-    plugs_fewer plan.events a b onward (λ p f at. pick p f (is_at (path_cmp p) lost.path) refl
+plugs_lost a b onward lost plan is paths course =
+    plugs_fewer a b onward (λ p f at. pick p f (is_at (path_cmp p) lost.path) refl
     (ap (finding_at p) (sym lost.entries) ∙ at))
   where
     pick : (p : List ℕ) (f : Finding) (tied : Bool) → is_at (path_cmp p) lost.path ≡ tied
@@ -359,14 +353,14 @@ plugs_lost hub a b onward lost plan is paths course =
         ))
     pick p f false apart at =
         inl (was_listed lost.path p a.entries f
-        (sym (lookup-insert_entry_elsewhere p lost.path (Refused Lost)
-        (without lost.path a.entries) apart) ∙ at))
+        (sym (lookup-insert_entry_elsewhere p lost.path (Refused Lost) (without lost.path a.entries)
+        apart) ∙ at))
 
 -- one finding is entered at a path at which a device was plugged
 plugs_entered : (events : List Event) (path : List ℕ) (a b : HostState)
-    → Agrees a.entries a.addresses → has_at path a.entries ≡ false
-    → EntersOne path a b → a.world.taken ≤ b.world.taken → WasPlugged events a.world.taken path
-    → HasPlugs events a → HasPlugs events b
+    → Agrees a.entries a.addresses → has_at path a.entries ≡ false → EntersOne path a b
+    → a.world.taken ≤ b.world.taken → WasPlugged events a.world.taken path → HasPlugs events a
+    → HasPlugs events b
 plugs_entered events path a b agrees gone enters onward was plugs = record {
   each = λ p device at. was_later events a.world.taken b.world.taken p onward
       (each p device (is_at (path_cmp p) path) refl at);
@@ -375,15 +369,12 @@ plugs_entered events path a b agrees gone enters onward was plugs = record {
 }
   where
     each : (p : List ℕ) (device : Accepted) (tied : Bool) → is_at (path_cmp p) path ≡ tied
-        → accepted_device_at p b.entries ≡ Some device
-        → WasPlugged events a.world.taken p
-    each p device true tie at = subst (WasPlugged events a.world.taken) (sym (path_tied p path tie))
-        was
+        → accepted_device_at p b.entries ≡ Some device → WasPlugged events a.world.taken p
+    each p device true tie at = rw (path_tied p path tie) was
     each p device false apart at =
         let same : accepted_device_at p b.entries ≡ accepted_device_at p a.entries =
-        ap (λ (es : Entries). accepted_device_at p es) enters.entries
-        ∙ ap accepted_device_of (lookup-insert_entry_elsewhere p path enters.finding a.entries
-        apart) in
+        ap (λ (es : Entries). accepted_device_at p es) enters.entries ∙ ap accepted_device_of
+        (lookup-insert_entry_elsewhere p path enters.finding a.entries apart) in
         plugs.each p device (sym same ∙ at)
 
     waits : plug_events events ≤ 127 → (p : List ℕ) (tied : Bool) → is_at (path_cmp p) path ≡ tied
@@ -398,28 +389,26 @@ plugs_entered events path a b agrees gone enters onward was plugs = record {
         let many : 128 ≤ plug_events events =
         full_plugged events path a plugs agrees (enters.waits is)
         (finding-none path path a.entries gone (way_itself path)) was in
-        absurd (omega (arith, few, many))
+        absurd (omega arith)
     waits few p false apart at = plugs.none_waits few p
         (sym (lookup-insert_entry_elsewhere p path enters.finding a.entries apart) ∙ at)
 
 -- A look at a port
 
-call_course : (p : List ℕ) (c : PortCall) (w v : World) → PortCallDone p c w v → Course AnyStep w v
-call_course p c w v d = course_joined
-    (course_wider (λ s u k. tt) (course_then d.last d.repeats d.acts))
+call_course : (p : List ℕ) {c : PortCall} {w v : World} → PortCallDone p c w v → Course AnyStep w v
+call_course p d = course_joined (course_wider (λ s u k. tt) (course_then d.last d.repeats d.acts))
     (course_wider (λ s u k. tt) (d.since p))
 
 disabled_taken : (b : Bool) (p : List ℕ) (w v : World) → DoneWhere b p ClearEnable w v
     → w.taken ≤ v.taken
-disabled_taken true p w v d = course_taken (call_course p ClearEnable w v d)
+disabled_taken true p w v d = course_taken (call_course p d)
 disabled_taken false p w v same = let taken : v.taken ≡ w.taken =
-    ap (λ (u : World). u.taken) same in omega (arith, taken)
+    ap (λ (u : World). u.taken) same in omega arith
 
 -- a device stood where a status showed one
-told_there : (p : List ℕ) (status : PortStatus) (w v : World) (t : PortStatusAt p status w v)
-    → IsOrderly t.now → status.connected ≡ true
-    → is_some (state_there t.now.roots p) ≡ true
-told_there p status w v t order on =
+told_there : (p : List ℕ) {status : PortStatus} {w v : World} (t : PortStatusAt p status w v)
+    → IsOrderly t.now → status.connected ≡ true → is_some (state_there t.now.roots p) ≡ true
+told_there p t order on =
     let attached : is_attached t.port.attached ≡ true =
     (both t.port.power (is_attached t.port.attached)
     (ap (λ (x : PortStatus). x.connected) (sym t.is) ∙ on)).1 in
@@ -432,31 +421,28 @@ seen_plugged : (path : List ℕ) (status : PortStatus) (old new : World)
     → WasPlugged plan.events new.taken path
 seen_plugged path status old new x order on plan is paths course =
     let first : Course AnyStep old x.told.now =
-    course_joined (call_course path ClearConnectionChange old x.mid x.cleared)
-    (course_wider (λ s u k. tt) (x.told.before path)) in
+    course_joined (call_course path x.cleared) (course_wider (λ s u k. tt) (x.told.before path)) in
     let there : is_some (state_there x.told.now.roots path) ≡ true =
-    told_there path status x.mid x.now x.told (orderly_on order first) on in
+    told_there path x.told (orderly_on order first) on in
     let onward : x.told.now.taken ≤ x.now.taken = course_taken (x.told.since path) in
     let last : x.now.taken ≤ new.taken = disabled_taken status.enabled path x.now new x.disabled in
-    was_later plan.events x.told.now.taken new.taken path (omega (arith, onward, last))
-    (there_was_plugged plan is paths x.told.now (course_joined course first) path there)
+    was_later plan.events x.told.now.taken new.taken path (omega arith)
+    (there_was_plugged plan is paths (course_joined course first) path there)
 
 -- what a status showed is found and entered
-pub plugs_found : (m n : ℕ) (path : List ℕ) (status : PortStatus) (a b c d : HostState)
+pub plugs_found : {m : ℕ} (n : ℕ) (path : List ℕ) (status : PortStatus) (a b c d : HostState)
     → HostSteps m a c → HostSteps n c d → OnlyBusSteps a b
     → c ≡ record b { entries = c.entries; pipes = c.pipes; addresses = c.addresses }
     → c.entries ≡ without path b.entries → has_at path c.entries ≡ false
-    → Agrees c.entries c.addresses
-    → ClearsAndReads path status a.world b.world → IsOrderly a.world → status.connected ≡ true
-    → EntersOne path c d → KeepsPlugs a d
-plugs_found m n path status a b c d first second r others rest gone agrees x order on enters plan is
+    → Agrees c.entries c.addresses → ClearsAndReads path status a.world b.world → IsOrderly a.world
+    → status.connected ≡ true → EntersOne path c d → KeepsPlugs a d
+plugs_found n path status a b c d first second r others rest gone agrees x order on enters plan is
     paths course plugs =
-    let same : c.world ≡ b.world = ap (λ (h : HostState). h.world) others in
     let was : WasPlugged plan.events c.world.taken path =
-    subst (λ (w : World). WasPlugged plan.events w.taken path) (sym same)
-    (seen_plugged path status a.world b.world x order on plan is paths course) in
+    rw (ap (λ (h : HostState). h.world) others) (seen_plugged path status a.world b.world x order on
+    plan is paths course) in
     plugs_entered plan.events path c d agrees gone enters second.spends.onward was
-    (plugs_forgot m path a b c first r rest plan is paths course plugs)
+    (plugs_forgot path a c first r rest plan is paths course plugs)
 
 -- A host that knows of no device
 

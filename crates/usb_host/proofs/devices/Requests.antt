@@ -48,10 +48,6 @@ pub sound_by : {A : Type 0} (result : Result A PipeFault) → LetsGoOn (at_port 
 sound_by (Ok x) h = tt
 sound_by {A = A} (Err fault) h = goes_sound A A fault h
 
-pub lost_goes : {A : Type 0} (result : Result A PipeFault) → at_port result ≡ Err ParentLost
-    → LetsGoOn (at_port result)
-lost_goes result e = subst LetsGoOn (sym e) tt
-
 unserved_by : (A B : Type 0) (fault : PipeFault) → fault_at_port fault ≡ ParentLost
     → NoHubFailed {A = B} (Err fault) → ⊥
 unserved_by A B pipe.Stalled e h = h
@@ -80,22 +76,20 @@ said_sound read size (Err pipe.Memory) h = tt
 
 pub port_read_rests : (port : HubPort) (old : World) (result : Result PortStatus PipeFault)
     (new : World) → PortRead port old result new → IsNoBusFault result → TouchesNoPort old new
-port_read_rests (Root number) old result new read sound =
-    subst (TouchesNoPort old) (sym read.same) (λ x. here old)
+port_read_rests (Root number) old result new read sound = rw read.same (λ x. here old)
 port_read_rests (External hub number) old result new read sound =
-    read.asked.rests (said_sound status_in _ read.answer (subst IsNoBusFault read.told sound))
+    read.asked.rests (said_sound status_in _ read.answer (rw read.told at sound))
 
 pub port_read_backlog : (port : HubPort) (old : World) (result : Result PortStatus PipeFault)
     (new : World) → PortRead port old result new → IsNoBusFault result → KeepsAll old new
-port_read_backlog (Root number) old result new read sound =
-    subst (KeepsAll old) (sym read.same) (all_none old)
+port_read_backlog (Root number) old result new read sound = rw read.same (all_none old)
 port_read_backlog (External hub number) old result new read sound =
-    read.asked.backlog (said_sound status_in _ read.answer (subst IsNoBusFault read.told sound))
+    read.asked.backlog (said_sound status_in _ read.answer (rw read.told at sound))
 
-pub ok_at_port : {A : Type 0} (result : Result A PipeFault) (x : A) → at_port result ≡ Ok x
+pub ok_at_port : {A : Type 0} (result : Result A PipeFault) {x : A} → at_port result ≡ Ok x
     → result ≡ Ok x
-ok_at_port (Ok y) x e = ap Ok (cc e)
-ok_at_port (Err fault) x e = absurd (cc e)
+ok_at_port (Ok y) e = ap Ok (cc e)
+ok_at_port (Err fault) e = absurd (cc e)
 
 -- a hub answered
 still_by : (port : HubPort) (old : World) (result : Result PortStatus PipeFault) (new : World)
@@ -124,7 +118,7 @@ watched port old result new read tells asked = record {
   devices = asked.devices;
   rests = λ goes. port_read_rests port old result new read (sound_by result goes);
   backlog = λ goes. port_read_backlog port old result new read (sound_by result goes);
-  told = λ f p at owned status e. tells.tells f p at owned status (ok_at_port result status e);
+  told = λ f p at owned status e. tells.tells f p at owned status (ok_at_port result e);
   still = still_by port old result new read;
   lost = lost;
 }
@@ -139,7 +133,7 @@ watched port old result new read tells asked = record {
         let same = push-same_front x.0 (path_to serves.spot) x.1 number (sym x.2 ∙ path) in
         subst (λ l. pending new.roots l ≡ true) same
         (pending_persists x.0 (course_wider (λ s w k. k.spares)
-        (port_read_rests port old result new read (sound_by result (lost_goes result e))
+        (port_read_rests port old result new read (sound_by result (subst LetsGoOn (sym e) tt))
         x.0)) x.3)
 
 -- A clearing of a change bit of enable or reset
@@ -152,12 +146,12 @@ tidy_power : (t : Tidy) → gives_power (tidy_call t) ≡ true → ⊥
 tidy_power enable e = absurd (cc e)
 tidy_power reset e = absurd (cc e)
 
-module _ (port : HubPort) (feature : ℕ) (c : PortCall) (is : clear_call feature ≡ Some c)
-    (old : World) (result : Result (Unit {0}) PipeFault) (new : World)
+module _ {port : HubPort} (feature : ℕ) {c : PortCall} (is : clear_call feature ≡ Some c)
+    {old : World} {result : Result (Unit {0}) PipeFault} {new : World}
     (calls : CommandsPort port (clear_call feature) old result new) where
-  pub call_of : (is_reset c ≡ true → ⊥) → (f : AddressMap) (p : List ℕ) → IsAt f port p
+  pub call_of : (is_reset c ≡ true → ⊥) → {f : AddressMap} (p : List ℕ) → IsAt f port p
       → WhileBusWorks (MapHolds f) old → IsCall f port p (clear_call feature) c old
-  call_of other f p at owned = record {
+  call_of other p at owned = record {
     at = at;
     is = is;
     alone = λ resets. absurd (other resets);
@@ -182,14 +176,14 @@ call_tidies port feature tidy is old result new calls keeps = record {
       (sound_by result goes);
   stays = λ f p at owned done x way. tidied_holds tidy p old new
       (calls.done f p (tidy_call tidy) (call f p at owned) (done_by result done)) x way;
-  backlog = λ f p at owned goes. call_all p (tidy_call tidy) (tidy_power tidy) (tidy_reset tidy)
+  backlog = λ f p at owned goes. call_all (tidy_power tidy) (tidy_reset tidy)
       (calls.backlog f p (tidy_call tidy) (call f p at owned) (sound_by result goes));
-  lost = call_lost port feature (tidy_call tidy) is old result new calls;
+  lost = call_lost feature is calls;
 }
   where
     call : (f : AddressMap) (p : List ℕ) → IsAt f port p → WhileBusWorks (MapHolds f) old
         → IsCall f port p (clear_call feature) (tidy_call tidy) old
-    call = call_of port feature (tidy_call tidy) is old result new calls (tidy_reset tidy)
+    call f p at owned = call_of feature is calls (tidy_reset tidy) p at owned
 
     done_by : (r : Result (Unit {0}) PipeFault) → at_port r ≡ Ok tt → r ≡ Ok tt
     done_by (Ok tt) e = refl
@@ -206,7 +200,7 @@ tidies_none port w = record {
   addresses = keeps_none w;
   devices = keeps_devices_none w;
   others = λ f p at owned goes x away. here w;
-  stays = λ f p at owned done x way. holds_same x w w refl;
+  stays = λ f p at owned done x way. holds_same {x = x} w {v = w} refl;
   backlog = λ f p at owned goes. all_none w;
   lost = λ p few still single e. absurd (cc e);
 }
@@ -216,22 +210,33 @@ abbrev pub disabled_so : PortStatus → Result (Unit {0}) PipeFault → Result P
 disabled_so status (Ok done) = Ok status
 disabled_so status (Err fault) = Err (fault_at_port fault)
 
+connection_call : {port : HubPort} {w : World} {f : AddressMap} {p : List ℕ} → IsAt f port p
+    → WhileBusWorks (MapHolds f) w
+    → IsCall f port p (clear_call C_PORT_CONNECTION) ClearConnectionChange w
+connection_call at owned =
+    record { at = at; is = refl; alone = λ resets. absurd (cc resets); owned = owned }
+
+enable_call : {port : HubPort} {w : World} {f : AddressMap} {p : List ℕ} → IsAt f port p
+    → WhileBusWorks (MapHolds f) w → IsCall f port p (clear_call PORT_ENABLE) ClearEnable w
+enable_call at owned =
+    record { at = at; is = refl; alone = λ resets. absurd (cc resets); owned = owned }
+
 -- Calls one after another
 
 pub rest_elsewhere_then : (p : List ℕ) (u w v : World) → RestElsewhere p u w → RestElsewhere p w v
     → RestElsewhere p u v
 rest_elsewhere_then p u w v x y z away = course_joined (x z away) (y z away)
 
-module _ (port : HubPort) (m n : ℕ) (old mid new : World) {t s r q : Option (List ℕ)}
+module _ {port : HubPort} {m n : ℕ} {old mid new : World} {t s r q : Option (List ℕ)}
     (before : StepRun m old t mid s) (went : StepRun n mid r new q) where
-  pub tidies_then : (result : Result (Unit {0}) EnumFault) → Tidies port old (Ok tt) mid
+  pub tidies_then : {result : Result (Unit {0}) EnumFault} → Tidies port old (Ok tt) mid
       → Tidies port mid result new → Tidies port old result new
-  tidies_then result x y = record {
+  tidies_then x y = record {
     addresses = keeps_then old mid new x.addresses y.addresses;
     devices = devices_then n old mid new x.devices went y.devices;
     others = λ f p at owned goes. rest_elsewhere_then p old mid new (x.others f p at owned tt)
         (y.others f p at (x.addresses.kept f owned) goes);
-    stays = λ f p at owned done z way. holds_at_then z old mid new (x.stays f p at owned refl z way)
+    stays = λ f p at owned done z way. holds_at_then (x.stays f p at owned refl z way)
         (y.stays f p at (x.addresses.kept f owned) done z way);
     backlog = λ f p at owned goes. all_then (x.backlog f p at owned tt)
         (y.backlog f p at (x.addresses.kept f owned) goes);
@@ -246,32 +251,23 @@ module _ (port : HubPort) (m n : ℕ) (old mid new : World) {t s r q : Option (L
     bares = bares_kept result x.bares;
     devices = devices_then n old mid new d went x.devices;
     others = λ f p at owned goes. rest_elsewhere_then p old mid new
-        (calls.rests f p ClearConnectionChange (call f p at owned) tt)
+        (calls.rests f p ClearConnectionChange (connection_call at owned) tt)
         (x.others f p at (k.kept f owned) goes);
     backlog = λ f p at owned goes.
-        all_then (call_all p ClearConnectionChange (λ g. absurd (cc g)) (λ g. absurd (cc g))
-        (calls.backlog f p ClearConnectionChange (call f p at owned) tt))
+        all_then (call_all (λ g. absurd (cc g)) (λ g. absurd (cc g))
+        (calls.backlog f p ClearConnectionChange (connection_call at owned) tt))
         (x.backlog f p at (k.kept f owned) goes);
     decides = λ f p at owned way order still. x.decides f p at (k.kept f owned)
-        (cleared_way p old mid (calls.done f p ClearConnectionChange (call f p at owned) refl) way)
-        (went_in_order m old mid before order) still;
+        (cleared_way p mid (calls.done f p ClearConnectionChange (connection_call at owned) refl)
+        way) (went_in_order m old mid before order) still;
     lost = λ f p at owned way few still alone e. x.lost f p at (k.kept f owned)
-        (cleared_way p old mid (calls.done f p ClearConnectionChange (call f p at owned) refl) way)
-        (went_three m old mid before few) still alone e;
+        (cleared_way p mid (calls.done f p ClearConnectionChange (connection_call at owned) refl)
+        way) (went_three m old mid before few) still alone e;
   }
     where
-      call : (f : AddressMap) (p : List ℕ) → IsAt f port p → WhileBusWorks (MapHolds f) old
-          → IsCall f port p (clear_call C_PORT_CONNECTION) ClearConnectionChange old
-      call f p at owned = record {
-        at = at;
-        is = refl;
-        alone = λ resets. absurd (cc resets);
-        owned = owned;
-      }
-
       bares_kept : (result : Result PortStatus EnumFault) → BaresPort port mid result new
           → BaresPort port old result new
-      bares_kept (Ok status) b = bares_after port old mid new k b
+      bares_kept (Ok status) b = bares_after k b
       bares_kept (Err fault) b = keeps_then old mid new k b
 
   -- the status was told, and then the port was told to pass nothing on
@@ -286,24 +282,17 @@ module _ (port : HubPort) (m n : ℕ) (old mid new : World) {t s r q : Option (L
     devices = devices_then n old mid new asked.devices went keeps.devices;
     others = λ f p at owned goes. rest_elsewhere_then p old mid new
         (λ x away. port_read_rests port old (Ok status) mid read tt x)
-        (calls.rests f p ClearEnable (call f p at owned) (goes_by result goes));
+        (calls.rests f p ClearEnable (enable_call at (asked.keeps.kept f owned))
+        (goes_by result goes));
     decides = λ f p at owned way order still. decided result f p at owned way order still calls;
     backlog = λ f p at owned goes.
         all_then (port_read_backlog port old (Ok status) mid read tt)
-        (call_all p ClearEnable (λ g. absurd (cc g)) (λ g. absurd (cc g))
-        (calls.backlog f p ClearEnable (call f p at owned) (goes_by result goes)));
+        (call_all (λ g. absurd (cc g)) (λ g. absurd (cc g))
+        (calls.backlog f p ClearEnable (enable_call at (asked.keeps.kept f owned))
+        (goes_by result goes)));
     lost = λ f p at owned way few still alone e. lost result f p at owned few still alone e calls;
   }
     where
-      call : (f : AddressMap) (p : List ℕ) → IsAt f port p → WhileBusWorks (MapHolds f) old
-          → IsCall f port p (clear_call PORT_ENABLE) ClearEnable mid
-      call f p at owned = record {
-        at = at;
-        is = refl;
-        alone = λ resets. absurd (cc resets);
-        owned = asked.keeps.kept f owned;
-      }
-
       goes_by : (result : Result (Unit {0}) PipeFault) → LetsGoOn (disabled_so status result)
           → IsNoBusFault result
       goes_by (Ok done) h = tt
@@ -311,7 +300,7 @@ module _ (port : HubPort) (m n : ℕ) (old mid new : World) {t s r q : Option (L
 
       bares : (result : Result (Unit {0}) PipeFault) → KeepsCleared port PORT_ENABLE mid result new
           → BaresPort port old (disabled_so status result) new
-      bares (Ok tt) keeps = bares_after port old mid new asked.keeps (keeps.bare refl refl)
+      bares (Ok tt) keeps = bares_after asked.keeps (keeps.bare refl refl)
       bares (Err fault) keeps = keeps_then old mid new asked.keeps keeps.keeps
 
       decided : (result : Result (Unit {0}) PipeFault) (f : AddressMap) (p : List ℕ) → IsAt f port p
@@ -324,7 +313,7 @@ module _ (port : HubPort) (m n : ℕ) (old mid new : World) {t s r q : Option (L
           let told = told_decides p status old mid (tells.tells f p at owned status refl) sane
           way in
           decided_stays status.connected p mid new
-          (calls.done f p ClearEnable (call f p at owned) refl) told
+          (calls.done f p ClearEnable (enable_call at (asked.keeps.kept f owned)) refl) told
       decided (Err fault) f p at owned way order still calls = tt
 
       lost : (result : Result (Unit {0}) PipeFault) (f : AddressMap) (p : List ℕ) → IsAt f port p
@@ -333,35 +322,33 @@ module _ (port : HubPort) (m n : ℕ) (old mid new : World) {t s r q : Option (L
           → CommandsPort port (clear_call PORT_ENABLE) mid result new → IsLost port p new
       lost (Ok done) f p at owned few still alone e calls = absurd (cc e)
       lost (Err fault) f p at owned few still alone e calls =
-          call_lost port PORT_ENABLE ClearEnable refl mid (Err fault) new calls p
-          (went_three m old mid before few) still alone (ap Err (cc e))
+          call_lost PORT_ENABLE {c = ClearEnable} refl calls p (went_three m old mid before few)
+          still alone (ap Err (cc e))
 
 -- The clearing of a change of connection
 
-pub clears_failed : (port : HubPort) (old : World) (fault : PipeFault) (new : World)
+pub clears_failed : {port : HubPort} {old : World} (fault : PipeFault) {new : World}
     → CommandsPort port (clear_call C_PORT_CONNECTION) old (Err fault) new
     → KeepsCleared port C_PORT_CONNECTION old (Err fault) new
     → ClearsChange port old (Err (fault_at_port fault)) new
-clears_failed port old fault new calls keeps = record {
+clears_failed fault calls keeps = record {
   bares = keeps.keeps;
   devices = keeps.devices;
-  others = λ f p at owned goes. calls.rests f p ClearConnectionChange
-      (record { at = at; is = refl; alone = λ resets. absurd (cc resets); owned = owned })
+  others = λ f p at owned goes. calls.rests f p ClearConnectionChange (connection_call at owned)
       (goes_sound PortStatus (Unit {0}) fault goes);
   decides = λ f p at owned way order still. tt;
   backlog = λ f p at owned goes.
-      call_all p ClearConnectionChange (λ g. absurd (cc g)) (λ g. absurd (cc g))
-      (calls.backlog f p ClearConnectionChange
-      (record { at = at; is = refl; alone = λ resets. absurd (cc resets); owned = owned })
+      call_all (λ g. absurd (cc g)) (λ g. absurd (cc g))
+      (calls.backlog f p ClearConnectionChange (connection_call at owned)
       (goes_sound PortStatus (Unit {0}) fault goes));
-  lost = λ f p at owned way few still alone e. call_lost port C_PORT_CONNECTION
-      ClearConnectionChange refl old (Err fault) new calls p few still alone (ap Err (cc e));
+  lost = λ f p at owned way few still alone e. call_lost C_PORT_CONNECTION
+      {c = ClearConnectionChange} refl calls p few still alone (ap Err (cc e));
 }
 
 -- the status after it failed, or was told
-pub clears_untold : (port : HubPort) (old : World) (fault : EnumFault) (new : World)
+pub clears_untold : {port : HubPort} {old : World} {fault : EnumFault} {new : World}
     → Watches port old (Err fault) new → ClearsChange port old (Err fault) new
-clears_untold port old fault new x = record {
+clears_untold x = record {
   bares = x.addresses;
   devices = x.devices;
   others = λ f p at owned goes y away. x.rests goes y;
@@ -370,12 +357,11 @@ clears_untold port old fault new x = record {
   lost = λ f p at owned way few still alone e. x.lost p way few still alone e;
 }
 
-pub tells_keeps_asked : (port : HubPort) (n : ℕ) (old : World) (status : PortStatus) (new : World)
+pub tells_keeps_asked : (port : HubPort) {n : ℕ} (old : World) (status : PortStatus) (new : World)
     {t s : Option (List ℕ)} → StepRun n old t new s → status.enabled ≡ false
     → PortRead port old (Ok status) new → ReadsPort port old (Ok status) new
-    → KeepsAsked port old (Ok status) new
-    → ClearsChange port old (Ok status) new
-tells_keeps_asked port n old status new went off read tells asked = record {
+    → KeepsAsked port old (Ok status) new → ClearsChange port old (Ok status) new
+tells_keeps_asked port {n = n} old status new went off read tells asked = record {
   bares = asked.bare status refl off;
   devices = asked.devices;
   others = λ f p at owned goes x away. port_read_rests port old (Ok status) new read tt x;
@@ -387,10 +373,11 @@ tells_keeps_asked port n old status new went off read tells asked = record {
 
 -- What a clearing that is done does to what is left to do
 
-pub resets_done : (port : HubPort) (old mid new : World) → Tidies port old (Ok tt) mid
-    → CommandsPort port (clear_call C_PORT_RESET) mid (Ok tt) new → ClearsReset port old new
-resets_done port old mid new first calls f p at owned =
-    reset_done p old mid new (first.backlog f p at owned tt)
+pub resets_done : {port : HubPort} {old : World} (mid : World) {new : World}
+    → Tidies port old (Ok tt) mid → CommandsPort port (clear_call C_PORT_RESET) mid (Ok tt) new
+    → ClearsReset port old new
+resets_done mid first calls f p at owned =
+    reset_done p mid (first.backlog f p at owned tt)
     (calls.done f p ClearResetChange (record {
       at = at;
       is = refl;
@@ -398,36 +385,20 @@ resets_done port old mid new first calls f p at owned =
       owned = first.addresses.kept f owned;
     }) refl)
 
-module _ (port : HubPort) (old mid asked_at : World) (status : PortStatus)
+module _ {port : HubPort} {old mid asked_at : World} {status : PortStatus}
     (calls : CommandsPort port (clear_call C_PORT_CONNECTION) old (Ok tt) mid)
     (k : KeepsAddresses old mid) (tells : ReadsPort port mid (Ok status) asked_at) where
-  clears : (f : AddressMap) (p : List ℕ) → IsAt f port p → WhileBusWorks (MapHolds f) old
-      → IsCall f port p (clear_call C_PORT_CONNECTION) ClearConnectionChange old
-  clears f p at owned = record {
-    at = at;
-    is = refl;
-    alone = λ resets. absurd (cc resets);
-    owned = owned;
-  }
-
-  pub changes_done : (new : World) → KeepsAll asked_at new → ClearsConnection port status old new
-  changes_done new rest f p at owned =
-      connection_done p status old mid asked_at new
-      (calls.done f p ClearConnectionChange (clears f p at owned) refl)
-      (tells.tells f p at (k.kept f owned) status refl) rest
+  pub changes_done : {new : World} → KeepsAll asked_at new → ClearsConnection port status old new
+  changes_done rest f p at owned =
+      connection_done p status old (calls.done f p ClearConnectionChange (connection_call at owned)
+      refl) (tells.tells f p at (k.kept f owned) status refl) rest
 
   -- the port was told to pass nothing on, too
-  pub changes_disabled : (new : World) → KeepsAddresses mid asked_at
+  pub changes_disabled : {new : World} → KeepsAddresses mid asked_at
       → CommandsPort port (clear_call PORT_ENABLE) asked_at (Ok tt) new
       → ClearsConnection port status old new
-  changes_disabled new kept disables f p at owned =
-      connection_done p status old mid asked_at new
-      (calls.done f p ClearConnectionChange (clears f p at owned) refl)
-      (tells.tells f p at (k.kept f owned) status refl)
-      (call_all p ClearEnable (λ g. absurd (cc g)) (λ g. absurd (cc g))
-      (disables.backlog f p ClearEnable (record {
-        at = at;
-        is = refl;
-        alone = λ resets. absurd (cc resets);
-        owned = kept.kept f (k.kept f owned);
-      }) tt))
+  changes_disabled kept disables f p at owned =
+      connection_done p status old (calls.done f p ClearConnectionChange (connection_call at owned)
+      refl) (tells.tells f p at (k.kept f owned) status refl)
+      (call_all (λ g. absurd (cc g)) (λ g. absurd (cc g))
+      (disables.backlog f p ClearEnable (enable_call at (kept.kept f (k.kept f owned))) tt))

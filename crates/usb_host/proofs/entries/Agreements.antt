@@ -13,7 +13,7 @@ use Rattle.std.proofs.lemmas.Map.Entries.{lookup-filter-keys}
 use Rattle.usb_port.specs.{path_cmp, is_below, parent_of, port_on_hub, IsPath}
 use Rattle.usb_port.proofs.Interface.{is_below-extension, rejoined}
 use Rattle.usb_enum.specs.{Finding}
-use Rattle.usb_table.specs.{Entries, has_at, is_at_or_below, without, KnownPort, known_port}
+use Rattle.usb_table.specs.{Entries, has_at, is_at_or_below, without, known_port}
 use Rattle.usb_table.specs.{port_below, port_found, is_below_hub}
 use Rattle.usb_table.proofs.Interface.{path_tied}
 use Rattle.usb_tree.proofs.Interface.{neither}
@@ -25,8 +25,8 @@ under : (q hub path rest : List ℕ) → parent_of q ≡ Some hub → hub ≡ pa
 under q hub path rest is on =
     (is_below-extension q path).1 (
       rest ++ port_on_hub q ∷ [],
-      rejoined q hub is ∙ ap (λ l. l ++ port_on_hub q ∷ []) on
-          ∙ append_assoc path rest (port_on_hub q ∷ []),
+      rejoined q hub is ∙ ap (λ l. l ++ port_on_hub q ∷ []) on ∙ append_assoc path rest
+          (port_on_hub q ∷ []),
       omega (arith, length-append rest (port_on_hub q ∷ [])),
     )
 
@@ -38,8 +38,10 @@ hub_away_by q hub path is away true on same is_on =
     absurd (cc (goes_on, (neither (pointwise nat_eq q path) (is_below q path) away).1))
 hub_away_by q hub path is away false true same is_on =
     let rest = (is_below-extension hub path).0 is_on in
-    let goes_on = under q hub path rest.0 is rest.1 in
-    absurd (cc (goes_on, (neither (pointwise nat_eq q path) (is_below q path) away).1))
+    absurd (cc (
+      under q hub path rest.0 is rest.1,
+      (neither (pointwise nat_eq q path) (is_below q path) away).1,
+    ))
 hub_away_by q hub path is away false false same is_on = refl
 
 -- the hub of a path that stands elsewhere stands elsewhere
@@ -48,9 +50,9 @@ hub_away : (q hub path : List ℕ) → parent_of q ≡ Some hub → is_at_or_bel
 hub_away q hub path is away = hub_away_by q hub path is away (pointwise nat_eq hub path)
     (is_below hub path) refl refl
 
-pub lookup-without : (q path : List ℕ) (b : Bool) (es : Entries) → not (is_at_or_below q path) ≡ b
+pub lookup-without : (q path : List ℕ) {b : Bool} (es : Entries) → not (is_at_or_below q path) ≡ b
     → lookup (is_at (path_cmp q)) (without path es) ≡ cond b (lookup (is_at (path_cmp q)) es) None
-lookup-without q path b es is =
+lookup-without q path {b = b} es is =
     lookup-filter-keys (is_at (path_cmp q)) (λ k. not (is_at_or_below k path)) b
     (λ k tie. subst (λ (r : List ℕ). not (is_at_or_below r path) ≡ b) (path_tied q k tie) is) es
 
@@ -60,7 +62,7 @@ known_away_by : (q path : List ℕ) (es : Entries) → is_at_or_below q path ≡
 known_away_by q path es away None is = refl
 known_away_by q path es away (Some hub) is =
     ap (λ found. port_found found (is_below_hub hub) (port_on_hub q))
-    (lookup-without hub path true es (ap not (hub_away q hub path is away)))
+    (lookup-without hub path es (ap not (hub_away q hub path is away)))
 
 pub known_away : (q path : List ℕ) (es : Entries) → is_at_or_below q path ≡ false
     → known_port q (without path es) ≡ known_port q es
@@ -69,20 +71,18 @@ known_away q path es away = known_away_by q path es away (parent_of q) refl
 nested_kept : (path : List ℕ) (es : Entries) (q : List ℕ) (f : Finding) → Nested es → (b : Bool)
     → is_at_or_below q path ≡ b → lookup (is_at (path_cmp q)) (without path es) ≡ Some f
     → IsSome (known_port q (without path es))
-nested_kept path es q f n true is found =
-    let gone = lookup-without q path false es (ap not is) in
-    absurd (cc (gone, found))
+nested_kept path es q f n true is found = absurd (cc (lookup-without q path es (ap not is), found))
 nested_kept path es q f n false is found =
-    let there = sym (lookup-without q path true es (ap not is)) ∙ found in
+    let there = sym (lookup-without q path es (ap not is)) ∙ found in
     rw (known_away q path es is) (n.each q f there)
 
 nested_path-without : (path : List ℕ) (es : Entries) (q : List ℕ) (f : Finding) → Nested es
     → (b : Bool) → is_at_or_below q path ≡ b → lookup (is_at (path_cmp q)) (without path es)
     ≡ Some f → IsPath q
 nested_path-without path es q f n true is found =
-    absurd (cc (lookup-without q path false es (ap not is), found))
+    absurd (cc (lookup-without q path es (ap not is), found))
 nested_path-without path es q f n false is found =
-    n.path q f (sym (lookup-without q path true es (ap not is)) ∙ found)
+    n.path q f (sym (lookup-without q path es (ap not is)) ∙ found)
 
 pub nested_without : (path : List ℕ) (es : Entries) → Nested es → Nested (without path es)
 nested_without path es n = record {
@@ -100,7 +100,7 @@ elsewhere_step q path f e es apart more Less is = rw apart refl
 elsewhere_step q path f e es apart more Equal is =
     let tie : is_at (path_cmp path) e.0 ≡ true = rw is refl in
     let other : is_at (path_cmp q) e.0 ≡ false =
-    subst (λ (r : List ℕ). is_at (path_cmp q) r ≡ false) (path_tied path e.0 tie) apart in
+    rw (path_tied path e.0 tie) at apart in
     rw other refl
 elsewhere_step q path f e es apart more Greater is =
     ap (λ found. cond (is_at (path_cmp q) e.0) (Some e.1) found) more
@@ -114,20 +114,19 @@ lookup-insert_entry_elsewhere q path f (e ∷ es) apart =
     (path_cmp path e.0) refl
 
 -- where no entry is at a path or below it, one that is found is not
-found_away_by : (q path : List ℕ) (f : Finding) (e : List ℕ × Finding) (es : Entries)
+found_away_by : (q path : List ℕ) {f : Finding} (e : List ℕ × Finding) (es : Entries)
     → is_at_or_below e.0 path ≡ false → (lookup (is_at (path_cmp q)) es ≡ Some f
-    → is_at_or_below q path ≡ false)
-    → (b : Bool) → is_at (path_cmp q) e.0 ≡ b → cond b (Some e.1) (lookup (is_at (path_cmp q)) es)
+    → is_at_or_below q path ≡ false) → (b : Bool) → is_at (path_cmp q) e.0 ≡ b
+    → cond b (Some e.1) (lookup (is_at (path_cmp q)) es)
     ≡ Some f → is_at_or_below q path ≡ false
-found_away_by q path f e es away more true tie found =
-    subst (λ (r : List ℕ). is_at_or_below r path ≡ false) (sym (path_tied q e.0 tie)) away
-found_away_by q path f e es away more false tie found = more found
+found_away_by q path e es away more true tie found = rw (path_tied q e.0 tie) away
+found_away_by q path e es away more false tie found = more found
 
 found_away : (q path : List ℕ) (f : Finding) (es : Entries) → has_at path es ≡ false
     → lookup (is_at (path_cmp q)) es ≡ Some f → is_at_or_below q path ≡ false
 found_away q path f [] away found = absurd cc
 found_away q path f (e ∷ es) away found =
-    found_away_by q path f e es (neither (is_at_or_below e.0 path) (has_at path es) away).0
+    found_away_by q path e es (neither (is_at_or_below e.0 path) (has_at path es) away).0
     (found_away q path f es (neither (is_at_or_below e.0 path) (has_at path es) away).1)
     (is_at (path_cmp q) e.0) refl found
 
@@ -157,10 +156,9 @@ known_entered q path f es apart = known_entered_by q path f es apart (parent_of 
 pub shorter_apart : (path hub : List ℕ) → parent_of path ≡ Some hub → (b : Bool)
     → is_at (path_cmp hub) path ≡ b → b ≡ false
 shorter_apart path hub is true tie =
-    let same = path_tied hub path tie in
-    let long : length path ≡ length hub + 1 = ap length (rejoined path hub is)
-    ∙ length-append hub (port_on_hub path ∷ []) in
-    absurd (omega (arith, long, ap length same))
+    let long : length path ≡ length hub + 1 = ap length (rejoined path hub is) ∙ length-append hub
+    (port_on_hub path ∷ []) in
+    absurd (omega (arith, ap length (path_tied hub path tie)))
 shorter_apart path hub is false tie = refl
 
 entered_step : (path : List ℕ) (f : Finding) (es : Entries) (q : List ℕ) (g : Finding)
@@ -169,34 +167,28 @@ entered_step : (path : List ℕ) (f : Finding) (es : Entries) (q : List ℕ) (g 
     → lookup (is_at (path_cmp q)) (insert_entry path_cmp es path f) ≡ Some g
     → IsSome (known_port q (insert_entry path_cmp es path f))
 entered_step path f es q g away known n true tie found =
-    subst (λ (r : List ℕ). IsSome (known_port r (insert_entry path_cmp es path f)))
-    (sym (path_tied q path tie))
-    (rw (known_entered path path f es (λ hub is. shorter_apart path hub is
+    rw (path_tied q path tie) (rw (known_entered path path f es (λ hub is. shorter_apart path hub is
     (is_at (path_cmp hub) path) refl)) known)
 entered_step path f es q g away known n false tie found =
     let there = sym (lookup-insert_entry_elsewhere q path f es tie) ∙ found in
-    let apart = found_away q path g es away there in
-    rw (known_entered q path f es (λ hub is. is_at-outside hub path (hub_away q hub path is apart)
-    (is_at (path_cmp hub) path) refl)) (n.each q g there)
+    rw (known_entered q path f es (λ hub is. is_at-outside hub path
+    (hub_away q hub path is (found_away q path g es away there)) (is_at (path_cmp hub) path) refl))
+    (n.each q g there)
 
 path_entered : (path : List ℕ) (f : Finding) (es : Entries) (q : List ℕ) (g : Finding) → IsPath path
     → Nested es → (b : Bool) → is_at (path_cmp q) path ≡ b
     → lookup (is_at (path_cmp q)) (insert_entry path_cmp es path f) ≡ Some g → IsPath q
-path_entered path f es q g is n true tie found = subst IsPath (sym (path_tied q path tie)) is
+path_entered path f es q g is n true tie found = rw (path_tied q path tie) is
 path_entered path f es q g is n false tie found =
     n.path q g (sym (lookup-insert_entry_elsewhere q path f es tie) ∙ found)
 
-pub nested_entered : (path : List ℕ) (f : Finding) (es : Entries) → IsPath path
+pub nested_entered : (path : List ℕ) (f : Finding) {es : Entries} → IsPath path
     → has_at path es ≡ false → IsSome (known_port path es) → Nested es
     → Nested (insert_entry path_cmp es path f)
-nested_entered path f es is away known n = record {
+nested_entered path f {es = es} is away known n = record {
   path = λ q g found. path_entered path f es q g is n (is_at (path_cmp q) path) refl found;
   each = λ q g found. entered_step path f es q g away known n (is_at (path_cmp q) path) refl found;
 }
 
 pub nested_none : Nested []
 nested_none = record { path = λ path f found. absurd cc; each = λ path f found. absurd cc }
-
-pub known_some : (path : List ℕ) (es : Entries) (port : KnownPort) → known_port path es ≡ Some port
-    → IsSome (known_port path es)
-known_some path es port e = subst IsSome (sym e) refl

@@ -1,6 +1,6 @@
 -- How the entries and the taken addresses change together.
-use Rattle.std.proofs.Common.{◌≡◌, ◌≢◌, ◌∙◌, refl, sym, subst, ap, arith, inl, inr, true, false}
-use Rattle.std.proofs.Common.{Bool, ℕ, ◌+◌, ◌≤◌, cond, List, [], ◌∷◌, Option, Some, Ok}
+use Rattle.std.proofs.Common.{◌≡◌, ◌≢◌, ◌∙◌, refl, sym, ap, arith, inl, inr, true, false, Bool, ℕ}
+use Rattle.std.proofs.Common.{◌+◌, ◌≤◌, cond, List, [], ◌∷◌, Option, Some, Ok, subst}
 use Rattle.std.specs.Prelude.{nat_eq}
 use Rattle.std.specs.List.{sum_by, AllByRecursion}
 use Rattle.std.specs.List.Sorted.{IsStrictlySortedBy}
@@ -55,13 +55,12 @@ address_count-insert_by : (a : ℕ) (path : List ℕ) (f : Finding) (e : List �
     → address_count a (insert_entry path_cmp es path f) ≡ one_when (has_address a f) + address_count
     a es
     → address_count a (match_ordering o ((path, f) ∷ e ∷ es) ((e.0, f) ∷ es)
-    (e ∷ insert_entry path_cmp es path f)) ≡ one_when (has_address a f) + address_count a
-    (e ∷ es)
+    (e ∷ insert_entry path_cmp es path f)) ≡ one_when (has_address a f) + address_count a (e ∷ es)
 address_count-insert_by a path f e es Less is away more = count-cons a (path, f) (e ∷ es)
 address_count-insert_by a path f e es Equal is away more =
     absurd (path_cmp-not_equal path e.0 away is)
 address_count-insert_by a path f e es Greater is away more =
-    omega (arith, more, count-cons a e es, count-cons a e (insert_entry path_cmp es path f))
+    omega (arith, count-cons a e es, count-cons a e (insert_entry path_cmp es path f))
 
 count-insert : (a : ℕ) (path : List ℕ) (f : Finding) (es : Entries) → has_at path es ≡ false
     → address_count a (insert_entry path_cmp es path f) ≡ one_when (has_address a f) + address_count
@@ -89,8 +88,8 @@ count-remove a test f [] h = absurd cc
 count-remove a test f (e ∷ es) h = remove_step a f e es (remove_entry test es) (test e.0)
     (lookup test es) h (count-remove a test f es)
 
-eq_yes : (a b : ℕ) → a ≡ b → nat_eq b a ≡ true
-eq_yes a b e = eq-eqb b a (sym e)
+eq_yes : (a : ℕ) {b : ℕ} → a ≡ b → nat_eq b a ≡ true
+eq_yes a {b = b} e = eq-eqb b a (sym e)
 
 eq_no : (a b : ℕ) → a ≢ b → nat_eq b a ≡ false
 eq_no a b ne = ne_eqb b a (λ e. ne (sym e))
@@ -98,36 +97,36 @@ eq_no a b ne = ne_eqb b a (λ e. ne (sym e))
 freed : (f : Finding) (old new : Addresses) (a r : ℕ) → Frees f old new
     → one_when (has_address a f) + r ≡ one_when (contains old a) → r ≡ one_when (contains new a)
 unfolding has_address one_when
-freed (Refused cause) old new a r same h = rw same (omega (arith, h))
+freed (Refused cause) old new a r same h = rw same (omega arith)
 freed (Device device) old new a r gone h =
     elim (cases_order a device.address) [
       | inl same ↦
-          let free : contains new a ≡ false = ap (contains new) same ∙ gone.free.1 in
-          rw free (none_left (contains old a) (rw (eq_yes a device.address same) at h))
+          rw (ap (contains new) same ∙ gone.free.1) (none_left (contains old a)
+          (rw (eq_yes a same) at h))
       | inr other ↦
           let ne : a ≢ device.address = λ e. elim other [
-            | inl less ↦ omega (arith, less, e)
-            | inr more ↦ omega (arith, more, e)
+            | inl less ↦ omega arith
+            | inr more ↦ omega arith
           ] in
-          rw (gone.others a ne) (let k = rw (eq_no a device.address ne) at h in omega (arith, k))
+          rw (gone.others a ne) (let k = rw (eq_no a device.address ne) at h in omega arith)
     ]
   where
     none_left : (b : Bool) → 1 + r ≡ cond b 1 0 → r ≡ 0
-    none_left true e = omega (arith, e)
-    none_left false e = omega (arith, e)
+    none_left true e = omega arith
+    none_left false e = omega arith
 
 claimed : (f : Finding) (old new : Addresses) (a : ℕ) → TakesFor (Ok f) old new
     → one_when (contains new a) ≡ one_when (has_address a f) + one_when (contains old a)
 unfolding has_address one_when
 claimed (Refused cause) old new a h = let e : one_when (contains new a)
-    ≡ one_when (contains old a) = ap (λ pool. one_when (contains pool a)) h in omega (arith, e)
+    ≡ one_when (contains old a) = ap (λ pool. one_when (contains pool a)) h in omega arith
 claimed (Device device) old new a h =
     elim (cases_order a device.address) [
-      | inl same ↦ rw (eq_yes a device.address same, same, h.taken, h.free.1) (omega arith)
+      | inl same ↦ rw (eq_yes a same, same, h.taken, h.free.1) (omega arith)
       | inr other ↦
           let ne : a ≢ device.address = λ e. elim other [
-            | inl less ↦ omega (arith, less, e)
-            | inr more ↦ omega (arith, more, e)
+            | inl less ↦ omega arith
+            | inr more ↦ omega arith
           ] in
           rw (eq_no a device.address ne, h.others a ne) (omega arith)
     ]
@@ -139,7 +138,7 @@ address_count-some : (a : ℕ) (test : List ℕ → Bool) (f : Finding) (es : En
 unfolding one_when
 address_count-some a test f es has found =
     let here : one_when (has_address a f) ≡ 1 = ap one_when has in
-    omega (arith, here, count-remove a test f es found)
+    omega (arith, count-remove a test f es found)
 
 address_count-twice : (a : ℕ) (test : List ℕ → Bool) (f g : Finding) (e : List ℕ × Finding)
     (es : Entries) → has_address a f ≡ true → has_address a g ≡ true → address_count a (e ∷ es) ≤ 1
@@ -147,16 +146,15 @@ address_count-twice : (a : ℕ) (test : List ℕ → Bool) (f g : Finding) (e : 
 unfolding one_when
 address_count-twice a test f g e es has also most is found =
     let same : e.1 ≡ f = cc is in
-    let here : one_when (has_address a e.1) ≡ 1 = ap (λ d. one_when (has_address a d)) same
-    ∙ ap one_when has in
-    omega (arith, here, most, count-cons a e es, address_count-some a test g es also found)
+    let here : one_when (has_address a e.1) ≡ 1 = ap (λ d. one_when (has_address a d)) same ∙ ap
+    one_when has in
+    omega (arith, count-cons a e es, address_count-some a test g es also found)
 
 once_step : (a : ℕ) (p q : List ℕ) (f g : Finding) (e : List ℕ × Finding) (es : Entries)
     → has_address a f ≡ true → has_address a g ≡ true → address_count a (e ∷ es) ≤ 1
     → (address_count a es ≤ 1 → lookup (is_at (path_cmp p)) es ≡ Some f
-    → lookup (is_at (path_cmp q)) es ≡ Some g → p ≡ q)
-    → (b c : Bool) → is_at (path_cmp p) e.0 ≡ b → is_at (path_cmp q) e.0 ≡ c
-    → cond b (Some e.1) (lookup (is_at (path_cmp p)) es) ≡ Some f
+    → lookup (is_at (path_cmp q)) es ≡ Some g → p ≡ q) → (b c : Bool) → is_at (path_cmp p) e.0 ≡ b
+    → is_at (path_cmp q) e.0 ≡ c → cond b (Some e.1) (lookup (is_at (path_cmp p)) es) ≡ Some f
     → cond c (Some e.1) (lookup (is_at (path_cmp q)) es) ≡ Some g → p ≡ q
 once_step a p q f g e es has also most more true true at_p at_q is_f is_g = path_tied p e.0 at_p
     ∙ sym (path_tied q e.0 at_q)
@@ -165,7 +163,7 @@ once_step a p q f g e es has also most more true false at_p at_q is_f is_g =
 once_step a p q f g e es has also most more false true at_p at_q is_f is_g =
     absurd (address_count-twice a (is_at (path_cmp p)) g f e es also has most is_g is_f)
 once_step a p q f g e es has also most more false false at_p at_q is_f is_g =
-    more (omega (arith, most, count-cons a e es)) is_f is_g
+    more (omega (arith, count-cons a e es)) is_f is_g
 
 address_count-once : (a : ℕ) (p q : List ℕ) (f g : Finding) (es : Entries) → has_address a f ≡ true
     → has_address a g ≡ true → address_count a es ≤ 1 → lookup (is_at (path_cmp p)) es ≡ Some f
@@ -186,14 +184,13 @@ pub accounts_once : (a : ℕ) (p q : List ℕ) (f g : Finding) (es : Entries) (a
     → lookup (is_at (path_cmp p)) es ≡ Some f → lookup (is_at (path_cmp q)) es ≡ Some g → p ≡ q
 unfolding address_count one_when
 accounts_once a p q f g es addresses h has also is_f is_g =
-    let most : address_count a es ≤ 1 = subst (λ n. n ≤ 1) (sym (h.each a))
-    (one_when-most (contains addresses a)) in
+    let most : address_count a es ≤ 1 = rw (h.each a) (one_when-most (contains addresses a)) in
     address_count-once a p q f g es has also most is_f is_g
 
 some_one : (b : Bool) → 1 ≤ one_when b → b ≡ true
 unfolding one_when
 some_one true h = refl
-some_one false h = absurd (omega (arith, h))
+some_one false h = absurd (omega arith)
 
 -- the address of an entry is taken
 pub accounts_taken : (a : ℕ) (p : List ℕ) (f : Finding) (es : Entries) (addresses : Addresses)
@@ -201,22 +198,22 @@ pub accounts_taken : (a : ℕ) (p : List ℕ) (f : Finding) (es : Entries) (addr
     → IsTaken addresses a
 unfolding address_count one_when
 accounts_taken a p f es addresses h has found =
-    some_one (contains addresses a) (subst (λ n. 1 ≤ n) (h.each a)
-    (address_count-some a (is_at (path_cmp p)) f es has found))
+    some_one (contains addresses a) (rw (h.each a) at (address_count-some a (is_at (path_cmp p)) f
+    es has found))
 
 -- each address that is taken is listed
 
-key_step : (P : List ℕ → Type 0) (path : List ℕ) (f : Finding) (e : List ℕ × Finding) (es : Entries)
+key_step : (P : List ℕ → Type 0) (path : List ℕ) {f : Finding} (e : List ℕ × Finding) (es : Entries)
     → P e.0 → (lookup (is_at (path_cmp path)) es ≡ Some f → P path) → (b : Bool)
-    → is_at (path_cmp path) e.0 ≡ b
-    → cond b (Some e.1) (lookup (is_at (path_cmp path)) es) ≡ Some f → P path
-key_step P path f e es first more true tie h = subst P (sym (path_tied path e.0 tie)) first
-key_step P path f e es first more false tie h = more h
+    → is_at (path_cmp path) e.0 ≡ b → cond b (Some e.1) (lookup (is_at (path_cmp path)) es) ≡ Some f
+    → P path
+key_step P path e es first more true tie h = rw (path_tied path e.0 tie) first
+key_step P path e es first more false tie h = more h
 
 key_so : (P : List ℕ → Type 0) (path : List ℕ) (f : Finding) (es : Entries)
     → AllByRecursion P (keys_of es) → lookup (is_at (path_cmp path)) es ≡ Some f → P path
 key_so P path f [] all found = absurd (cc found)
-key_so P path f (e ∷ es) all found = key_step P path f e es all.0 (key_so P path f es all.1)
+key_so P path f (e ∷ es) all found = key_step P path e es all.0 (key_so P path f es all.1)
     (is_at (path_cmp path) e.0) refl found
 
 -- an entry with the address
@@ -226,18 +223,14 @@ record Lists (a : ℕ) (es : Entries) : Type 0 where
   found : lookup (is_at (path_cmp path)) es ≡ Some finding
   has : has_address a finding ≡ true
 
-greater_apart : (first path : List ℕ) → path_cmp first path ≡ Less
-    → is_at (path_cmp path) first ≡ false
-greater_apart first path less = ap is_eq (nat_list_cmp_total.antisymm path first
-    ∙ ap ordering_reverse less)
-
 lists_later : (a : ℕ) (e : List ℕ × Finding) (es : Entries)
     → AllByRecursion (λ k. path_cmp e.0 k ≡ Less) (keys_of es) → Lists a es → Lists a (e ∷ es)
 lists_later a e es above x = record {
   path = x.path;
   finding = x.finding;
-  found = rw (greater_apart e.0 x.path (key_so (λ k. path_cmp e.0 k ≡ Less) x.path x.finding es
-      above x.found)) x.found;
+  found = rw (ap is_eq (nat_list_cmp_total.antisymm x.path e.0 ∙ ap ordering_reverse
+      (key_so (λ k. path_cmp e.0 k ≡ Less) x.path x.finding es above x.found)))
+      x.found;
   has = x.has;
 }
 
@@ -248,12 +241,11 @@ unfolding one_when
 lists_step a e es above some more true has =
     record { path = e.0; finding = e.1; found = rw (path_itself e.0) refl; has = has }
 lists_step a e es above some more false has = let none : one_when (has_address a e.1) ≡ 0 =
-    ap one_when has in lists_later a e es above
-    (more (omega (arith, some, none, count-cons a e es)))
+    ap one_when has in lists_later a e es above (more (omega (arith, count-cons a e es)))
 
 lists_by : (a : ℕ) (es : Entries) → Rises es → 1 ≤ address_count a es → Lists a es
 unfolding address_count IsStrictlySortedBy
-lists_by a [] rises some = absurd (omega (arith, some))
+lists_by a [] rises some = absurd (omega arith)
 lists_by a (e ∷ es) rises some = lists_step a e es rises.0 some (lists_by a es rises.1)
     (has_address a e.1) refl
 
@@ -262,12 +254,11 @@ unfolding has_address
 address_has a (Device device) h = ap (λ n. Some n) (eqb-true device.address a h)
 address_has a (Refused cause) h = absurd (cc h)
 
-pub accounts_listed : (es : Entries) (addresses : Addresses) → Rises es → Accounts es addresses
+pub accounts_listed : {es : Entries} {addresses : Addresses} → Rises es → Accounts es addresses
     → (a : ℕ) → IsTaken addresses a → (path : List ℕ) × (entry_address path es ≡ Some a)
 unfolding address_count one_when
-accounts_listed es addresses rises h a taken =
-    let some : 1 ≤ address_count a es = subst (λ n. 1 ≤ n) (sym (h.each a))
-    (subst (λ b. 1 ≤ one_when b) (sym taken) (omega arith)) in
+accounts_listed {es = es} rises h a taken =
+    let some : 1 ≤ address_count a es = rw (h.each a) (rw taken (omega arith)) in
     let x = lists_by a es rises some in
     (x.path, ap address_in x.found ∙ address_has a x.finding x.has)
 
@@ -275,23 +266,22 @@ pub accounts_none : Accounts [] empty
 accounts_none = record { each = λ a. rw (contains-empty nat_cmp a) refl }
 
 -- an entry goes, and its address is free
-pub accounts_freed : (path : List ℕ) (f : Finding) (before after : Table) (old new : Addresses)
+pub accounts_freed : {path : List ℕ} (f : Finding) (before after : Table) (old new : Addresses)
     → Accounts before.entries old → TakesOut path f before after → Frees f old new
     → Accounts after.entries new
 unfolding address_count one_when
-accounts_freed path f before after old new h t gone = record {
+accounts_freed f before after old new h t gone = record {
   each = λ a. freed f old new a (address_count a after.entries) gone
-      (sym (subst (λ (x : Table). address_count a before.entries ≡ one_when (has_address a f) +
-      address_count a x.entries) (sym t.rest)
-      (count-remove a (is_at (path_cmp t.first)) f before.entries t.found)) ∙ h.each a);
+      (sym (rw t.rest (count-remove a (is_at (path_cmp t.first)) f before.entries t.found)) ∙ h.each
+      a);
 }
 
 -- an entry comes, with the address that was taken for it
-pub accounts_entered : (path : List ℕ) (f : Finding) (es : Entries) (old new : Addresses)
+pub accounts_entered : (path : List ℕ) (f : Finding) {es : Entries} {old new : Addresses}
     → Accounts es old → has_at path es ≡ false → TakesFor (Ok f) old new
     → Accounts (insert_entry path_cmp es path f) new
 unfolding address_count one_when
-accounts_entered path f es old new h away c = record {
+accounts_entered path f {es = es} {old = old} {new = new} h away c = record {
   each = λ a. count-insert a path f es away ∙ ap (λ n. one_when (has_address a f) + n) (h.each a)
       ∙ sym (claimed f old new a c);
 }
@@ -300,7 +290,7 @@ accounts_entered path f es old new h away c = record {
 pub full_before : (f : Finding) (old new : Addresses) → Frees f old new → IsFull new → IsFull old
 full_before (Device device) old new gone full =
     absurd (cc (full device.address gone.free.0, gone.free.1))
-full_before (Refused cause) old new same full = subst IsFull same full
+full_before (Refused cause) old new same full = rw same at full
 
 -- Nothing but addresses is taken
 
@@ -310,8 +300,7 @@ range_none = λ a taken. absurd (cc (contains-empty nat_cmp a, taken))
 moved_address : (b a : ℕ) (old new : Addresses) → IsAddress a
     → ((b : ℕ) → b ≢ a → contains new b ≡ contains old b) → HasAddresses old → (same : Bool)
     → nat_eq b a ≡ same → IsTaken new b → IsAddress b
-moved_address b a old new is others range true same taken =
-    subst IsAddress (sym (eqb-true b a same)) is
+moved_address b a old new is others range true same taken = rw (eqb-true b a same) is
 moved_address b a old new is others range false same taken =
     range b (sym (others b (eqb-false b a same)) ∙ taken)
 
@@ -320,11 +309,11 @@ pub range_claimed : (f : Finding) (old new : Addresses) → TakesFor (Ok f) old 
 range_claimed (Device device) old new c range =
     λ b taken. moved_address b device.address old new c.free.0 c.others range
     (nat_eq b device.address) refl taken
-range_claimed (Refused cause) old new same range = subst HasAddresses (sym same) range
+range_claimed (Refused cause) old new same range = rw same range
 
 pub range_freed : (f : Finding) (old new : Addresses) → Frees f old new → HasAddresses old
     → HasAddresses new
 range_freed (Device device) old new gone range =
     λ b taken. moved_address b device.address old new gone.free.0 gone.others range
     (nat_eq b device.address) refl taken
-range_freed (Refused cause) old new same range = subst HasAddresses (sym same) range
+range_freed (Refused cause) old new same range = rw same range

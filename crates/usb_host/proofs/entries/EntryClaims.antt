@@ -43,9 +43,9 @@ claims_distinct es addresses h p q a at_p at_q =
     (accounts_once a p q x.finding y.finding es addresses h x.has y.has x.found y.found)
     (self_path p)
 
-pub claims_taken : (es : Entries) (addresses : Addresses) → Accounts es addresses
+pub claims_taken : {es : Entries} {addresses : Addresses} → Accounts es addresses
     → (p : List ℕ) (a : ℕ) → claims es p ≡ Some a → IsTaken addresses a
-claims_taken es addresses h p a at =
+claims_taken {es = es} {addresses = addresses} h p a at =
     let x = claim_of (lookup (is_at (path_cmp p)) es) a at in
     accounts_taken a p x.finding es addresses h x.has x.found
 
@@ -54,9 +54,9 @@ claims_taken es addresses h p a at =
 claims-without_by : (path : List ℕ) (es : Entries) (x : List ℕ) (b : Bool) → is_way path x ≡ b
     → claims (without path es) x ≡ (if b then None else claims es x)
 claims-without_by path es x true way =
-    ap address_in (lookup-without x path false es (ap not (at_or_below_way x path ∙ way)))
+    ap address_in (lookup-without x path es (ap not (at_or_below_way x path ∙ way)))
 claims-without_by path es x false way =
-    ap address_in (lookup-without x path true es (ap not (at_or_below_way x path ∙ way)))
+    ap address_in (lookup-without x path es (ap not (at_or_below_way x path ∙ way)))
 
 pub claims-without : (path : List ℕ) (es : Entries) (x : List ℕ)
     → claims (without path es) x ≡ map_without (claims es) path x
@@ -66,12 +66,12 @@ claims-without path es x = claims-without_by path es x (is_way path x) refl
 
 lookup-none_below : (path x : List ℕ) (e : List ℕ × Finding) (es : Entries)
     → (is_at_or_below e.0 path || has_at path es) ≡ false → is_at_or_below x path ≡ true
-    → (has_at path es ≡ false → lookup (is_at (path_cmp x)) es ≡ None)
-    → (b : Bool) → is_at (path_cmp x) e.0 ≡ b → cond b (Some e.1) (lookup (is_at (path_cmp x)) es)
+    → (has_at path es ≡ false → lookup (is_at (path_cmp x)) es ≡ None) → (b : Bool)
+    → is_at (path_cmp x) e.0 ≡ b → cond b (Some e.1) (lookup (is_at (path_cmp x)) es)
     ≡ None
 lookup-none_below path x e es away below more true tie =
     let there : is_at_or_below e.0 path ≡ true =
-    subst (λ (r : List ℕ). is_at_or_below r path ≡ true) (path_tied x e.0 tie) below in
+    rw (path_tied x e.0 tie) at below in
     absurd (cc (there, first_false (is_at_or_below e.0 path) (has_at path es) away))
   where
     first_false : (a b : Bool) → (a || b) ≡ false → a ≡ false
@@ -97,20 +97,20 @@ claims_free path es away x way = ap address_in
 
 -- An entry comes
 
-here_step : (path : List ℕ) (f : Finding) (e : List ℕ × Finding) (es : Entries)
+here_step : (path : List ℕ) {f : Finding} (e : List ℕ × Finding) (es : Entries)
     → lookup (is_at (path_cmp path)) (insert_entry path_cmp es path f) ≡ Some f → (o : Ordering)
     → path_cmp path e.0 ≡ o
     → lookup (is_at (path_cmp path)) (match_ordering o ((path, f) ∷ e ∷ es) ((e.0, f) ∷ es)
     (e ∷ insert_entry path_cmp es path f)) ≡ Some f
-here_step path f e es more Less is = rw (path_itself path) refl
-here_step path f e es more Equal is = rw is refl
-here_step path f e es more Greater is = rw is more
+here_step path e es more Less is = rw (path_itself path) refl
+here_step path e es more Equal is = rw is refl
+here_step path e es more Greater is = rw is more
 
 pub lookup-insert_entry_here : (path : List ℕ) (f : Finding) (es : Entries)
     → lookup (is_at (path_cmp path)) (insert_entry path_cmp es path f) ≡ Some f
 lookup-insert_entry_here path f [] = rw (path_itself path) refl
 lookup-insert_entry_here path f (e ∷ es) =
-    here_step path f e es (lookup-insert_entry_here path f es) (path_cmp path e.0) refl
+    here_step path e es (lookup-insert_entry_here path f es) (path_cmp path e.0) refl
 
 is_at-same_path : (path x : List ℕ) → same_path path x ≡ false → (b : Bool)
     → is_at (path_cmp x) path ≡ b → b ≡ false
@@ -123,8 +123,7 @@ is_at-same_path path x other false tie = refl
 entered_by : (path : List ℕ) (f : Finding) (es : Entries) (x : List ℕ) (b : Bool)
     → same_path path x ≡ b → claims (insert_entry path_cmp es path f) x
     ≡ (if b then address_found f else claims es x)
-entered_by path f es x true same = subst (λ (r : List ℕ). claims (insert_entry path_cmp es path f) r
-    ≡ address_found f) (sym (same_is path x same))
+entered_by path f es x true same = rw (same_is path x same)
     (ap address_in (lookup-insert_entry_here path f es))
 entered_by path f es x false other =
     ap address_in (lookup-insert_entry_elsewhere x path f es
@@ -140,8 +139,8 @@ claims-refused_by : (path : List ℕ) (cause : Cause) (es : Entries) (x : List �
     → claims (insert_entry path_cmp es path (Refused cause)) x ≡ claims es x
 claims-refused_by path cause es x away true same =
     let none : claims es path ≡ None = claims_free path es away path (way_itself path) in
-    entered_by path (Refused cause) es x true same
-    ∙ sym (ap (claims es) (same_is path x same) ∙ none)
+    entered_by path (Refused cause) es x true same ∙ sym
+    (ap (claims es) (same_is path x same) ∙ none)
 claims-refused_by path cause es x away false other =
     entered_by path (Refused cause) es x false other
 

@@ -28,8 +28,8 @@ rank_after_most None is = omega arith
 rank_after_most (Some path) is = rank_most path is
 
 -- so what is done at each of them adds up
-pub rank_more : (k : ℕ) (last : Option (List ℕ)) (path : List ℕ) → IfSome last IsPath
-    → IsPath path → ComesAfter last path → rank_after last * k + k ≤ rank_after (Some path) * k
+pub rank_more : (k : ℕ) (last : Option (List ℕ)) (path : List ℕ) → IfSome last IsPath → IsPath path
+    → ComesAfter last path → rank_after last * k + k ≤ rank_after (Some path) * k
 rank_more k last path before is after =
     row_fits (rank_after last) k (rank_after (Some path)) k (rank_rises last path before is after)
     (omega arith)

@@ -1,6 +1,5 @@
 -- Entries rise as one comes, and as some go.
-use Rattle.std.proofs.Common.{◌≡◌, ◌∙◌, refl, sym, subst, ap, Bool, true, false, ℕ, cond, List, []}
-use Rattle.std.proofs.Common.{◌∷◌, not}
+use Rattle.std.proofs.Common.{◌≡◌, ◌∙◌, refl, ap, Bool, true, false, ℕ, cond, List, [], ◌∷◌, not}
 use Rattle.std.specs.List.{filter, AllByRecursion}
 use Rattle.std.specs.List.Sorted.{IsStrictlySortedBy}
 use Rattle.std.specs.Map.{keys_of}
@@ -69,5 +68,4 @@ keys_filter test (e ∷ es) = keys_step test e es (keys_filter test es) (test e.
 pub rises_without : (path : List ℕ) (es : Entries) → Rises es → Rises (without path es)
 rises_without path es h =
     let kept : List ℕ → Bool = λ k. not (is_at_or_below k path) in
-    subst (IsStrictlySortedBy path_cmp) (sym (keys_filter kept es))
-    (IsStrictlySortedBy-filter path_cmp kept (keys_of es) h)
+    rw (keys_filter kept es) (IsStrictlySortedBy-filter path_cmp kept (keys_of es) h)

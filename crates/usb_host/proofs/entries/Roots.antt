@@ -22,7 +22,7 @@ use Rattle.usb_host.proofs.PortLocations.{root_alone}
 
 pub root_way : (path below : List ℕ) → 1 ≤ length path → is_way path below ≡ true
     → root_of below ≡ root_of path
-root_way [] below some way = absurd (omega (arith, some))
+root_way [] below some way = absurd (omega arith)
 root_way (n ∷ path) below some way = ap root_of (way_rest (n ∷ path) below way).1
 
 root_joined : (path hub : List ℕ) → path ≡ hub ++ port_on_hub path ∷ [] → parent_of path ≡ Some hub
@@ -40,49 +40,43 @@ root_parent path hub is = root_joined path hub (rejoined path hub is) is
 
 pub rooted_kept : (a b : HostState) → b.entries ≡ a.entries → roots_of b.world ≡ roots_of a.world
     → IsRooted a → IsRooted b
-rooted_kept a b same roots r path some =
-    subst (λ n. root_of path ≤ n) (sym roots)
-    (r path (subst (λ (es : Entries). IsSome (finding_at path es)) same some))
+rooted_kept a b same roots r path some = rw roots (r path (rw same at some))
 
 finding_at-without : (first path : List ℕ) (es : Entries) → (b : Bool)
     → is_at_or_below path first ≡ b → IsSome (finding_at path (without first es))
     → IsSome (finding_at path es)
 finding_at-without first path es true is some =
-    false_true (subst IsSome (lookup-without path first false es (ap not is)) some)
+    false_true (rw (lookup-without path first es (ap not is)) at some)
 finding_at-without first path es false is some =
-    subst IsSome (lookup-without path first true es (ap not is)) some
+    rw (lookup-without path first es (ap not is)) at some
 
 pub rooted_dropped : (first : List ℕ) (a b : HostState) → b.entries ≡ without first a.entries
     → roots_of b.world ≡ roots_of a.world → IsRooted a → IsRooted b
 rooted_dropped first a b rest roots r path some =
     let was = finding_at-without first path a.entries (is_at_or_below path first) refl
-    (subst (λ (es : Entries). IsSome (finding_at path es)) rest some) in
-    subst (λ n. root_of path ≤ n) (sym roots) (r path was)
+    (rw rest at some) in
+    rw roots (r path was)
 
 entered_root : (first path : List ℕ) (f : Finding) (es : Entries) (n : ℕ) → root_of first ≤ n
     → (IsSome (finding_at path es) → root_of path ≤ n) → (b : Bool) → is_at (path_cmp path) first
     ≡ b
     → IsSome (finding_at path (insert_entry path_cmp es first f)) → root_of path ≤ n
-entered_root first path f es n here more true tie some =
-    subst (λ (p : List ℕ). root_of p ≤ n) (sym (path_tied path first tie)) here
+entered_root first path f es n here more true tie some = rw (path_tied path first tie) here
 entered_root first path f es n here more false apart some =
-    more (subst IsSome (lookup-insert_entry_elsewhere path first f es apart) some)
+    more (rw (lookup-insert_entry_elsewhere path first f es apart) at some)
 
 pub rooted_came : (first : List ℕ) (f : Finding) (a b : HostState)
     → b.entries ≡ insert_entry path_cmp a.entries first f → roots_of b.world ≡ roots_of a.world
     → root_of first ≤ roots_of a.world → IsRooted a → IsRooted b
 rooted_came first f a b is roots here r path some =
-    subst (λ n. root_of path ≤ n) (sym roots)
-    (entered_root first path f a.entries (roots_of a.world) here (r path)
-    (is_at (path_cmp path) first) refl (subst (λ (es : Entries). IsSome (finding_at path es))
-    is some))
+    rw roots (entered_root first path f a.entries (roots_of a.world) here (r path)
+    (is_at (path_cmp path) first) refl (rw is at some))
 
 -- Where a port stands
 
 stands_by : (path : List ℕ) (port : KnownPort) (h : HostState) → StandsAt path port h → IsRooted h
     → (above : Option (List ℕ)) → parent_of path ≡ above
-    → port_below above (port_on_hub path) h.entries ≡ Some port
-    → root_of path ≤ roots_of h.world
+    → port_below above (port_on_hub path) h.entries ≡ Some port → root_of path ≤ roots_of h.world
 stands_by path port h s r None above e =
     let same : root_port (port_on_hub path) ≡ port = cc e in
     let there : IsPort h.world (Root (port_on_hub path)) =
@@ -90,8 +84,8 @@ stands_by path port h s r None above e =
     subst (λ n. n ≤ roots_of h.world) (sym (ap root_of (root_alone path s.is.0 above))) there.1
 stands_by path port h s r (Some hub) above e =
     subst (λ n. n ≤ roots_of h.world) (sym (root_parent path hub above))
-    (r hub (subst IsSome (sym (port_found-some (finding_at hub h.entries) (is_below_hub hub)
-    (port_on_hub path) port e).stands) refl))
+    (r hub (rw (← (sym (port_found-some (finding_at hub h.entries) (is_below_hub hub)
+    (port_on_hub path) port e).stands)) refl))
 
 pub rooted_stands : (path : List ℕ) (port : KnownPort) (h : HostState) → StandsAt path port h
     → IsRooted h → root_of path ≤ roots_of h.world
@@ -115,27 +109,27 @@ waits_somewhere path h s w r =
     let some : IsSome (finding_at path h.entries) = rw w.entry refl in
     let none = alone_by path h s w (parent_of path) refl in
     let here : root_of path ≡ port_on_hub path = ap root_of (root_alone path s.is.0 none) in
-    absurd (omega (arith, here, s.beyond none, r path some))
+    absurd (omega (arith, s.beyond none, r path some))
 
 -- A host
 
 pub rooted_opening : (w : World) (t : Option (List ℕ)) → IsRooted (opening_host w t)
 rooted_opening w t path some = false_true some
 
-port_by : (es : Entries) (roots : ℕ) (path : List ℕ) → Nested es → root_of path ≤ roots
+port_by : {es : Entries} (roots : ℕ) (path : List ℕ) → Nested es → root_of path ≤ roots
     → parent_of path ≡ None → (o : Option Finding) → finding_at path es ≡ o → IsSome o
     → port_on_hub path ≤ roots
-port_by es roots path n fits none None at some = false_true some
-port_by es roots path n fits none (Some f) at some =
-    subst (λ k. k ≤ roots) (ap root_of (root_alone path (n.path path f at).0 none)) fits
+port_by roots path n fits none None at some = false_true some
+port_by roots path n fits none (Some f) at some =
+    rw (ap root_of (root_alone path (n.path path f at).0 none)) at fits
 
 -- what a host's invariant says, and that entries stand below the ports of the root
 pub accounted : (h : HostState) → Agrees h.entries h.addresses → IsRooted h
     → Accounted (roots_of h.world) h.entries h.addresses
 accounted h agrees rooted = record {
   agrees = agrees;
-  root = λ path some none. port_by h.entries (roots_of h.world) path agrees.nested
-      (rooted path some) none (finding_at path h.entries) refl some;
+  root = λ path some none. port_by (roots_of h.world) path agrees.nested (rooted path some) none
+      (finding_at path h.entries) refl some;
 }
 
 -- Of calls that failed

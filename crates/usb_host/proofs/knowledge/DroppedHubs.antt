@@ -3,11 +3,11 @@ use Rattle.std.proofs.Common.{◌≡◌, ◌≤◌, refl, sym, ap, subst, ◌∙
 use Rattle.std.proofs.Common.{List, length, Option, None, Some, Result, Ok, Err}
 use Rattle.std.specs.Prelude.{IsSome, IsSomeAnd, IfOk, IsErr}
 use Rattle.std.specs.BTreeMap.{insert_entry}
-use Rattle.usb_port.specs.{path_cmp, parent_of, port_on_hub, ClearEnable, clear_call}
+use Rattle.usb_port.specs.{path_cmp, parent_of, ClearEnable, clear_call}
 use Rattle.usb_request.specs.{PORT_ENABLE}
 use Rattle.usb_tree.specs.{is_way, pending}
 use Rattle.usb_enum.specs.{IsOrderly, Lost, Finding}
-use Rattle.usb_world.specs.{World, roots_of}
+use Rattle.usb_world.specs.{World}
 use Rattle.usb_bus.specs.{StepRun}
 use Rattle.usb_address.specs.{KeepsAddresses}
 use Rattle.usb_pipe.specs.{PipeFault, FaultAfter, IsNoBusFault}
@@ -16,7 +16,7 @@ use Rattle.usb_backlog.specs.{KeepsAll}
 use Rattle.usb_hub.specs.{KeepsDevices, CommandsPort, IsCall, PortCleared}
 use Rattle.usb_enum.specs.declared.finding.Finding.TheVariants.{Refused}
 use Rattle.usb_enum.proofs.Interface.{disabled_known, went_sound}
-use Rattle.usb_table.specs.{KnownPort, has_at, without, accepted_device_of, known_port, port_below}
+use Rattle.usb_table.specs.{KnownPort, has_at, without, accepted_device_of, known_port}
 use Rattle.usb_table.specs.{finding_at, AllInSync, Table, entered, pipes_at}
 use Rattle.usb_host.specs.{IsDroppedAt, Disabled, DisablesOnWay, HostState, claims, DropsHub}
 use Rattle.usb_host.specs.{root_of, StandsAt, StandsNowhere, HostSteps, OnlyBusSteps, HostInvariant}
@@ -46,63 +46,62 @@ fault_after-no_bus A pipe.Memory old new told still = tt
 
 -- A port is told to pass nothing on
 
-module _ (n : ℕ) (path : List ℕ) (port : KnownPort) (a b : HostState) (s : StandsAt path port a)
+module _ {n : ℕ} {path : List ℕ} {port : KnownPort} {a b : HostState} (s : StandsAt path port a)
     (r : OnlyBusSteps a b) (went : HostSteps n a b) (addresses : KeepsAddresses a.world b.world)
     (devices : KeepsDevices a.world b.world) (d : IsDroppable path a) where
   pub claimed : Opened path (claims a.entries) a.world
-  claimed = opened_if_owned path (claims a.entries) a.world d.but.owned
+  claimed = opened_if_owned d.but.owned
 
   pub is_call : IsCall claimed.claims port.port path (clear_call PORT_ENABLE) ClearEnable a.world
   is_call = record {
     at = at_others (claims a.entries) claimed.claims port.port path claimed.others
-        (stands_at-claim path port a s);
+        (stands_at-claim s);
     is = refl;
     alone = λ resets. absurd (cc resets);
     owned = claimed.owned;
   }
 
-  told_but : (result : Result (Unit {0}) PipeFault)
+  told_but : {result : Result (Unit {0}) PipeFault}
       → CommandsPort port.port (clear_call PORT_ENABLE) a.world result b.world
       → (b.world.fault ≡ None → IsNoBusFault result) → IsSoundBut path b
-  told_but result calls sound = sound_rests_but n a b r went addresses path devices
+  told_but calls sound = sound_rests_but a r went addresses devices
       (λ still. calls.rests claimed.claims path ClearEnable is_call (sound still)) d.but
 
-  pub told_backlog : (result : Result (Unit {0}) PipeFault)
+  pub told_backlog : {result : Result (Unit {0}) PipeFault}
       → CommandsPort port.port (clear_call PORT_ENABLE) a.world result b.world → IsNoBusFault result
       → KeepsAll a.world b.world
-  told_backlog result calls sound = call_all path ClearEnable (λ g. absurd (cc g))
-      (λ g. absurd (cc g)) (calls.backlog claimed.claims path ClearEnable is_call sound)
+  told_backlog calls sound = call_all (λ g. absurd (cc g)) (λ g. absurd (cc g))
+      (calls.backlog claimed.claims path ClearEnable is_call sound)
 
   pub told_dropped : CommandsPort port.port (clear_call PORT_ENABLE) a.world (Ok tt) b.world
       → IsDroppedAt path b
   told_dropped calls = record {
-    but = told_but (Ok tt) calls (λ still. tt);
+    but = told_but calls (λ still. tt);
     there = λ still. disabled_known path Lost a.world b.world
         (calls.done claimed.claims path ClearEnable is_call refl)
         (d.there (went_sound n a.world b.world went still));
   }
 
   -- it could not be told
-  pub untold_droppable : (fault : PipeFault)
+  pub untold_droppable : {fault : PipeFault}
       → CommandsPort port.port (clear_call PORT_ENABLE) a.world (Err fault) b.world
       → FaultAfter 1 a.world fault b.world → PortCleared port.port PORT_ENABLE a.world (Err fault)
       b.world
       → IsSomeAnd (parent_of path) (λ hub. IsDroppable hub b)
-  untold_droppable fault calls told cleared = by_parent (parent_of path) refl
+  untold_droppable {fault = fault} calls told cleared = by_parent (parent_of path) refl
     where
       by_parent : (o : Option (List ℕ)) → parent_of path ≡ o
           → IsSomeAnd o (λ hub. IsDroppable hub b)
-      by_parent None above = absurd (root_done path a.entries port PORT_ENABLE a.world b.world fault
-          None above refl (subst (λ o. port_below o (port_on_hub path) a.entries ≡ Some port)
-          above s.known) cleared)
-      by_parent (Some hub) above = droppable_above path hub b above (rests_known path port a b r s)
-          (rests_agrees path port a b r s) (told_but (Err fault) calls
+      by_parent None above = absurd (root_done path a.entries PORT_ENABLE a.world b.world fault None
+          above refl (rw above at s.known) cleared)
+      by_parent (Some hub) above = droppable_above path hub b above (rests_known r s)
+          (rests_agrees r s) (told_but calls
           (fault_after-no_bus (Unit {0}) fault a.world b.world told))
 
 -- a hub that may be dropped stands at a port
-pub nowhere_dropped : (path : List ℕ) (h : HostState) → StandsNowhere path h → IsDroppable path h
+pub nowhere_dropped : {path : List ℕ} {h : HostState} → StandsNowhere path h → IsDroppable path h
     → ⊥
-nowhere_dropped path h s d = by_parent (parent_of path) refl
+nowhere_dropped {path = path} {h = h} s d = by_parent (parent_of path) refl
   where
     known : IsSome (known_port path h.entries)
     known = by_found (finding_at path h.entries) refl d.listed
@@ -114,13 +113,9 @@ nowhere_dropped path h s d = by_parent (parent_of path) refl
 
     by_parent : (o : Option (List ℕ)) → parent_of path ≡ o → ⊥
     by_parent None above =
-        let most = subst (λ m. m ≤ roots_of h.world) (ap root_of (root_alone path s.is.0 above))
-        (d.but.rooted path d.listed) in
-        let least = s.beyond above in
-        absurd (omega (arith, most, least))
-    by_parent (Some hub) above =
-        let none = s.unknown (subst IsSome (sym above) refl) in
-        absurd (cc (subst IsSome none known))
+        let most = rw (ap root_of (root_alone path s.is.0 above)) at (d.but.rooted path d.listed) in
+        absurd (omega (arith, s.beyond above))
+    by_parent (Some hub) above = absurd (cc (rw (s.unknown (rw above refl)) at known))
 
 -- The hub is forgotten, and listed as lost
 
@@ -129,9 +124,8 @@ module _ (hub lost : List ℕ) (a b c d : HostState) (least : 1 ≤ length lost)
       entries = c.entries;
       pipes = c.pipes;
       addresses = c.addresses;
-    }) (rest : c.entries ≡ without lost b.entries) (pipes : (y : List ℕ)
-    → is_way lost y ≡ false → pipes_at y (table_in c) ≡ pipes_at y (table_in b))
-    (gone : has_at lost c.entries ≡ false)
+    }) (rest : c.entries ≡ without lost b.entries) (pipes : (y : List ℕ) → is_way lost y ≡ false
+    → pipes_at y (table_in c) ≡ pipes_at y (table_in b)) (gone : has_at lost c.entries ≡ false)
     (same : d.world ≡ c.world) (table : table_in d ≡ entered lost (Refused Lost) (table_in c)) where
   is : d.entries ≡ insert_entry path_cmp c.entries lost (Refused Lost)
   is = ap (λ (t : Table). t.entries) table
@@ -145,20 +139,15 @@ module _ (hub lost : List ℕ) (a b c d : HostState) (least : 1 ≤ length lost)
   lost_known : d.world.fault ≡ None → PortsListed d.world d.entries
   lost_known still =
       let dropped : KnownBut lost b.world c.entries =
-      subst (KnownBut lost b.world) (sym rest)
-      (known_dropped lost b.world b.entries (x.but.known (still_there still))) in
-      subst (λ w. PortsListed w d.entries) (sym world_is)
-      (subst (PortsListed b.world) (sym is) (known_found lost (Refused Lost) c.entries least gone
-      b.world dropped (x.there (still_there still)) (λ m has. absurd has)))
+      rw rest (known_dropped lost b.world b.entries (x.but.known (still_there still))) in
+      rw world_is (rw is (known_found lost (Refused Lost) c.entries least gone b.world dropped
+      (x.there (still_there still)) (λ m has. absurd has)))
 
   lost_truthful : d.world.fault ≡ None → DevicesAccurate d.world d.entries
   lost_truthful still =
       let dropped : DevicesAccurate b.world c.entries =
-      subst (DevicesAccurate b.world) (sym rest)
-      (truthful_dropped lost b.world b.entries (x.but.truthful (still_there still))) in
-      subst (λ w. DevicesAccurate w d.entries) (sym world_is)
-      (subst (DevicesAccurate b.world) (sym is)
-      (truthful_found lost (Refused Lost) c.entries least gone b.world dropped
+      rw rest (truthful_dropped lost b.world b.entries (x.but.truthful (still_there still))) in
+      rw world_is (rw is (truthful_found lost (Refused Lost) c.entries least gone b.world dropped
       (λ device s at on stands. absurd
       (cc (
         ap accepted_device_of (lookup-insert_entry_here lost (Refused Lost) c.entries),
@@ -167,9 +156,8 @@ module _ (hub lost : List ℕ) (a b c d : HostState) (least : 1 ≤ length lost)
 
   lost_level : d.world.fault ≡ None → AllInSync (table_in d) d.world
   lost_level still =
-      level_refused lost Lost (table_in c) (table_in d) d.world table
-      (subst (AllInSync (table_in c)) (sym same)
-      (level_forgotten lost b c (ap (λ (h : HostState). h.world) others) rest gone pipes
+      level_refused lost Lost (table_in c) d.world table
+      (rw same (level_forgotten lost b c (ap (λ (h : HostState). h.world) others) rest gone pipes
       (x.but.level (still_there still))))
 
   pub lost_sound_there : IsDroppable hub a → DropsHub hub a (Ok tt) d → HostInvariant d
@@ -192,49 +180,42 @@ pub failed_by : {E : Type 0} {result : Result Bool E} {b c : Bool} → result �
     → result ≡ Ok c
 failed_by was is = was ∙ ap (λ b. Ok b) is
 
-pub climb_sound : (path above : List ℕ) (a : HostState) (result : Result Bool HostFault)
+pub climb_sound : {path above : List ℕ} (a : HostState) {result : Result Bool HostFault}
     (b : HostState) → parent_of path ≡ Some above → DisablesOnWay path a result b
     → result ≡ Ok false → IsDroppable path a → IsDroppable above b
-climb_sound path above a result b is x failed d =
-    subst (λ o. IsSomeAnd o (λ hub. IsDroppable hub b)) is (x.failed d failed)
+climb_sound a b is x failed d = rw is at (x.failed d failed)
 
-pub top_absurd : (path : List ℕ) (a : HostState) (result : Result Bool HostFault) (b : HostState)
+pub top_absurd : {path : List ℕ} {a : HostState} {result : Result Bool HostFault} {b : HostState}
     → parent_of path ≡ None → DisablesOnWay path a result b → result ≡ Ok false → IsDroppable path a
     → ⊥
-top_absurd path a result b is x failed d =
-    absurd (subst (λ o. IsSomeAnd o (λ hub. IsDroppable hub b)) is (x.failed d failed))
+top_absurd is x failed d = absurd (rw is at (x.failed d failed))
 
-module _ {m n : ℕ} (path : List ℕ) where
-  done_caused_by : (flag : Bool) (a : HostState) (result : Result Bool HostFault) (b : HostState)
-      (first : World) {t : Option (List ℕ)} → StepRun m first t a.world a.trace → HostSteps n a b
+module _ {m n : ℕ} {path : List ℕ} where
+  done_caused_by : (flag : Bool) {a : HostState} {result : Result Bool HostFault} (b : HostState)
+      {first : World} {t : Option (List ℕ)} → StepRun m first t a.world a.trace → HostSteps n a b
       → DisablesOnWay path a result b → result ≡ Ok flag → IsDroppable path a
       → IsFairTo first b.world
       → (IsFairTo first a.world → (pending a.world.roots path ≡ true)
       × CausesBut path a.world a.entries) → Disabled flag path b
-  done_caused_by flag a result b first before went x done d fair so_far =
-      let half = fair_before n first a.world b.world went fair in
-      let so = so_far half in
-      subst (λ r. IfOk r (λ flag. Disabled flag path b)) done
-      (x.caused d (fair_after m first a.world b.world before fair) so.0 so.1)
+  done_caused_by flag b before went x done d fair so_far =
+      let so = so_far (fair_before went fair) in
+      rw done at (x.caused d (fair_after before fair) so.0 so.1)
 
-pub done_caused : {m n : ℕ} (path : List ℕ) (a : HostState) (result : Result Bool HostFault)
-    (b : HostState) (first : World) {t : Option (List ℕ)} → StepRun m first t a.world a.trace
+pub done_caused : {m n : ℕ} {path : List ℕ} (a : HostState) {result : Result Bool HostFault}
+    (b : HostState) {first : World} {t : Option (List ℕ)} → StepRun m first t a.world a.trace
     → HostSteps n a b → DisablesOnWay path a result b → result ≡ Ok true → IsDroppable path a
     → IsFairTo first b.world → (IsFairTo first a.world → (pending a.world.roots path ≡ true)
     × CausesBut path a.world a.entries) → (pending b.world.roots path ≡ true)
     × CausesBut path b.world b.entries
-done_caused path a result b first before went x done d fair so_far =
-    done_caused_by path true a result b first before went x done d fair so_far
+done_caused a b before went x done d fair so_far =
+    done_caused_by true b before went x done d fair so_far
 
-pub climb_caused : {m n : ℕ} (path above : List ℕ) (a : HostState) (result : Result Bool HostFault)
-    (b : HostState) (first : World) {t : Option (List ℕ)} → StepRun m first t a.world a.trace
+pub climb_caused : {m n : ℕ} {path above : List ℕ} (a : HostState) {result : Result Bool HostFault}
+    (b : HostState) {first : World} {t : Option (List ℕ)} → StepRun m first t a.world a.trace
     → HostSteps n a b → parent_of path ≡ Some above → DisablesOnWay path a result b
-    → result ≡ Ok false
-    → IsDroppable path a → IsFairTo first b.world
+    → result ≡ Ok false → IsDroppable path a → IsFairTo first b.world
     → (IsFairTo first a.world → (pending a.world.roots path ≡ true)
     × CausesBut path a.world a.entries) → (pending b.world.roots above ≡ true)
     × CausesBut above b.world b.entries
-climb_caused path above a result b first before went is x failed d fair so_far =
-    subst (λ o. IsSomeAnd o (λ hub. (pending b.world.roots hub ≡ true)
-    × CausesBut hub b.world b.entries)) is
-    (done_caused_by path false a result b first before went x failed d fair so_far)
+climb_caused a b before went is x failed d fair so_far =
+    rw is at (done_caused_by false b before went x failed d fair so_far)

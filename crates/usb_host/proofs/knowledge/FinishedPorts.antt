@@ -15,18 +15,16 @@ lets_go_on_done (Err ParentLost) ends = tt
 lets_go_on_done (Err (Bus fault)) ends = absurd (cc ends)
 lets_go_on_done (Err Memory) ends = absurd (cc ends)
 
-pub finished_sound : (path : List ℕ) (m n : ℕ) (served : Result (Unit {0}) EnumFault)
+pub finished_sound : {path : List ℕ} (m : ℕ) {n : ℕ} (served : Result (Unit {0}) EnumFault)
     (result : Result (Unit {0}) HostFault) (a b c : HostState) → HostSteps m a b → HostSteps n b c
     → EndsAs served result → ServesSound path a served b → DropsLost path served b result c
     → PartKeepsInvariant a result c
-finished_sound path m n served (Err fault) a b c first second ends x y = tt
-finished_sound path m n served (Ok tt) a b c first second ends x y = record {
+finished_sound m served (Err fault) a b c first second ends x y = tt
+finished_sound m {n = n} served (Ok tt) a b c first second ends x y = record {
   sound = record {
     sound = λ s. y.sound (x.sound s);
     caused = λ s fair k.
-        let before = fair_before n a.world b.world c.world second fair in
-        y.caused (x.sound s) (fair_after m a.world b.world c.world first fair)
-        (x.caused s before k);
+        y.caused (x.sound s) (fair_after first fair) (x.caused s (fair_before second fair) k);
   };
   bulk = λ s still. bulk_then m n a b c first second still
       (x.bulk s (lets_go_on_done served ends) (went_sound n b.world c.world second still))

@@ -1,7 +1,7 @@
 -- What a host knows as what is found at a port is entered.
-use Rattle.std.proofs.Common.{◌≡◌, ◌≤◌, ◌⊎◌, inl, inr, refl, sym, ap, subst, ◌∙◌, ℕ, true, false}
+use Rattle.std.proofs.Common.{◌≡◌, ◌≤◌, ◌⊎◌, inl, inr, refl, sym, ap, ◌∙◌, ℕ, true, false}
 use Rattle.std.proofs.Common.{List, Option, None, Some, Result, Ok, Err}
-use Rattle.std.specs.Prelude.{IsSome, IsSomeAnd, option_map, unwrap_or}
+use Rattle.std.specs.Prelude.{IsSomeAnd, option_map, unwrap_or}
 use Rattle.std.specs.BTreeMap.{insert_entry}
 use Rattle.usb_port.specs.{path_cmp}
 use Rattle.usb_device.specs.{reach, state_there}
@@ -10,11 +10,11 @@ use Rattle.usb_world.specs.{World, WorldInvariant}
 use Rattle.usb_tree.proofs.Interface.{decided}
 use Rattle.usb_resources.specs.{Addresses, IsTaken}
 use Rattle.usb_enum.specs.{EnumFault, ParentLost, Bus, Memory, Accepted, Finding, HubFacts}
-use Rattle.usb_enum.specs.{IsFindingOf, Begins, Enumerates, IsOwn, OnlyAt, IsPlaced, FaultAllowedAt}
+use Rattle.usb_enum.specs.{Begins, Enumerates, IsOwn, OnlyAt, IsPlaced, FaultAllowedAt}
 use Rattle.usb_enum.specs.declared.finding.Finding.TheVariants.{Device, Refused}
 use Rattle.usb_enum.proofs.Interface.{regular_order, went_course, went_in_order, went_sound}
 use Rattle.usb_table.specs.{KnownPort, Entries, has_at, accepted_device_of, known_port}
-use Rattle.usb_table.specs.{hub_facts_in, tier_of, AllInSync, InSyncAt, Table, entered}
+use Rattle.usb_table.specs.{hub_facts_in, tier_of, AllInSync, Table, entered}
 use Rattle.usb_host.specs.Accounts.{Accounts}
 use Rattle.usb_host.specs.{IsOpen, InvariantAfterPort, HostState, claims, KeepsPort, StandsAt}
 use Rattle.usb_host.specs.{HostSteps, PortsListed, KnownBut, DevicesAccurate, TruthfulBut}
@@ -39,10 +39,10 @@ truthful_gone path w es gone told x = pick (decided (is_way path x))
         (cc (ap accepted_device_of (finding-none path x es gone way), at))
     pick (inr away) = told x away
 
-pub supply_found : (path : List ℕ) (port : KnownPort) (f : Finding) (es : Entries)
+pub supply_found : (path : List ℕ) {port : KnownPort} (f : Finding) (es : Entries)
     → known_port path es ≡ Some port → known_supply path (insert_entry path_cmp es path f)
     ≡ port.supply
-supply_found path port f es known =
+supply_found path f es known =
     ap (λ (o : Option KnownPort). unwrap_or (option_map (λ (known : KnownPort). known.supply) o) 0)
     (known_entered path path f es (λ hub is. shorter_apart path hub is _ refl) ∙ known)
 
@@ -62,34 +62,33 @@ module _ (n : ℕ) (path : List ℕ) (port : KnownPort) (pool : Addresses) (a b 
     (s : StandsAt path port a) (gone : has_at path a.entries ≡ false)
     (accounts : Accounts a.entries pool) (went : HostSteps n a b) (o : IsOpen path a) where
   taken_by : (x : List ℕ) (address : ℕ) → claims a.entries x ≡ Some address → IsTaken pool address
-  taken_by = claims_taken a.entries pool accounts
+  taken_by = claims_taken accounts
 
   pub begins : Begins (claims a.entries) port.port path pool a.world
   begins = record {
-    at = stands_at-claim path port a s;
+    at = stands_at-claim s;
     free = claims_free path a.entries gone;
     taken = taken_by;
     owned = o.owned;
     order = o.but.order;
   }
 
-  pub found_only : (result : Result Finding EnumFault)
+  pub found_only : {result : Result Finding EnumFault}
       → Enumerates port.port pool (tier_of path) port.supply a.world result b.world
       → b.world.fault ≡ None → OnlyAt path a.world b.world
-  found_only result e still = e.addresses.only (claims a.entries) path begins.at begins.free
-      begins.taken begins.owned still
+  found_only e still = e.addresses.only (claims a.entries) path begins.at begins.free begins.taken
+      begins.owned still
 
-  only_known : (es : Entries) → es ≡ a.entries → b.world.fault ≡ None → OnlyAt path a.world b.world
+  only_known : {es : Entries} → es ≡ a.entries → b.world.fault ≡ None → OnlyAt path a.world b.world
       → KnownBut path b.world es
-  only_known es same still only =
-      subst (KnownBut path b.world) (sym same)
-      (known_but_each path a.world b.world a.entries went.spends.roots only.others
+  only_known same still only =
+      rw same (known_but_each path a.world b.world a.entries went.spends.roots only.others
       (o.but.known (went_sound n a.world b.world went still)))
 
-  only_truthful : (es : Entries) → es ≡ a.entries → b.world.fault ≡ None
+  only_truthful : {es : Entries} → es ≡ a.entries → b.world.fault ≡ None
       → OnlyAt path a.world b.world → TruthfulBut path b.world es
-  only_truthful es same still only =
-      subst (TruthfulBut path b.world) (sym same) (truthful_but_stays path a.world b.world a.entries
+  only_truthful same still only =
+      rw same (truthful_but_stays path a.world b.world a.entries
       (elsewhere_still path a.world b.world only.devices)
       (o.but.truthful (went_sound n a.world b.world went still)))
 
@@ -105,57 +104,50 @@ module _ (n : ℕ) (path : List ℕ) (port : KnownPort) (pool : Addresses) (a b 
     entered_known : b.world.fault ≡ None → PortsListed b.world b.entries
     entered_known still =
         let here = placed still in
-        subst (PortsListed b.world) (sym is)
-        (known_found path f a.entries s.is.0 gone b.world
-        (only_known a.entries refl still (found_only (Ok f) e still)) here.there
+        rw is (known_found path f a.entries s.is.0 gone b.world
+        (only_known {es = a.entries} refl still (found_only e still)) here.there
         (λ number has. let d : _ = hub_device f number has in
         here.below d.0 d.2 d.1 number d.3 d.4 d.5))
 
     told_here : b.world.fault ≡ None → IsAccurateAt b.world (insert_entry path_cmp a.entries path f)
         path
     told_here still device t at on stands =
-        let found : f ≡ Device device = accepted_device_of-some f device
+        let found : f ≡ Device device = accepted_device_of-some f
         (sym (ap accepted_device_of (lookup-insert_entry_here path f a.entries)) ∙ at) in
         let own : IsOwn (tier_of path) port.supply device t =
         e.own.truth (claims a.entries) path begins.at begins.free begins.taken begins.owned
         (regular_order begins.order) device (ap Ok found) t on stands in
-        record {
-          found = subst (λ m. IsFindingOf t.spec (tier_of path) m (Device device))
-              (sym (supply_found path port f a.entries s.known)) own.0;
-          set = own.1;
-        }
+        record { found = rw (supply_found path f a.entries s.known) own.0; set = own.1 }
 
     entered_truthful : b.world.fault ≡ None → DevicesAccurate b.world b.entries
     entered_truthful still =
-        subst (DevicesAccurate b.world) (sym is)
-        (truthful_found path f a.entries s.is.0 gone b.world
+        rw is (truthful_found path f a.entries s.is.0 gone b.world
         (truthful_gone path b.world a.entries gone
-        (only_truthful a.entries refl still (found_only (Ok f) e still))) (told_here still))
+        (only_truthful {es = a.entries} refl still (found_only e still))) (told_here still))
 
     entered_level : b.world.fault ≡ None → AllInSync (table_in b) b.world
     entered_level still =
         let order : WorldInvariant b.world =
         (went_in_order n a.world b.world went o.but.order still) in
-        level_found path f (tier_of path) port.supply (table_in a) (table_in b) b.world table
+        level_found path f (tier_of path) port.supply (table_in a) b.world table
         order.sane
         (λ device t found on stands. e.own.truth (claims a.entries) path begins.at begins.free
-        begins.taken begins.owned (regular_order begins.order) device (ap Ok found) t on
-        stands)
+        begins.taken begins.owned (regular_order begins.order) device (ap Ok found) t on stands)
         (level_gone path (table_in a) b.world gone
-        (level_but path (table_in a) a.world b.world (found_only (Ok f) e still).devices
+        (level_but path (table_in a) a.world b.world (found_only e still).devices
         (o.but.level (went_sound n a.world b.world went still))))
 
     -- a device that was found has new pipes
     pub entered_bulk : b.world.fault ≡ None → KeepsBulk a b
     entered_bulk still =
-        bulk_entered path f a b table gone (found_only (Ok f) e still).devices
+        bulk_entered path f a b table gone (found_only e still).devices
         (went_course n a.world b.world went still)
         (o.owned.so (went_sound n a.world b.world went still))
         (λ device found x t is on stands.
         let own : IsOwn (tier_of path) port.supply device t =
         e.own.truth (claims a.entries) path begins.at begins.free begins.taken begins.owned
-        (regular_order begins.order) device (ap Ok found) t (ap (reach b.world.roots) is
-        ∙ on) (ap (state_there b.world.roots) is ∙ stands) in
+        (regular_order begins.order) device (ap Ok found) t (ap (reach b.world.roots) is ∙ on)
+        (ap (state_there b.world.roots) is ∙ stands) in
         (own.2.out, own.2.into))
 
     pub entered_sound : KeepsPort path a (Ok tt) b → InvariantAfterPort path (Ok tt) b
@@ -168,12 +160,11 @@ module _ (n : ℕ) (path : List ℕ) (port : KnownPort) (pool : Addresses) (a b 
       level = entered_level;
     }
 
-  pub unfound_bulk : (fault : EnumFault) → Enumerates port.port pool (tier_of path) port.supply
+  pub unfound_bulk : {fault : EnumFault} → Enumerates port.port pool (tier_of path) port.supply
       a.world (Err fault) b.world → b.entries ≡ a.entries → b.pipes ≡ a.pipes → b.world.fault ≡ None
       → KeepsBulk a b
-  unfound_bulk fault e same pipes_same still =
-      bulk_stays a b (stay_unfound path a b same pipes_same gone
-      (found_only (Err fault) e still).devices)
+  unfound_bulk e same pipes_same still =
+      bulk_stays a b (stay_unfound path a b same pipes_same gone (found_only e still).devices)
 
   -- nothing is entered: the hub is lost
   pub unfound_sound : (fault : EnumFault)
@@ -182,24 +173,19 @@ module _ (n : ℕ) (path : List ℕ) (port : KnownPort) (pool : Addresses) (a b 
       → FaultAllowedAt port.port fault b.world → KeepsPort path a (Err fault) b
       → InvariantAfterPort path (Err fault) b
   unfound_sound ParentLost e same pipes_same pool_same told k =
-      lost_sound path port a b ParentLost s told
-      (subst IsSome (sym (ap (known_port path) same ∙ s.known)) refl)
+      lost_sound b ParentLost s told (rw (ap (known_port path) same ∙ s.known) refl)
       (rw (same, pool_same) s.agrees)
       (λ goes. record {
         owned = k.ends o.owned;
         rooted = k.rooted o.but.rooted;
         order = went_in_order n a.world b.world went o.but.order;
-        known = λ still. only_known b.entries same still (found_only (Err ParentLost) e still);
-        truthful = λ still. only_truthful b.entries same still
-            (found_only (Err ParentLost) e still);
+        known = λ still. only_known same still (found_only e still);
+        truthful = λ still. only_truthful same still (found_only e still);
         level = λ still.
             let table : table_in b ≡ table_in a =
-            ap (λ es. record { entries = es; pipes = b.pipes }) same
-            ∙ ap (λ ps. record { entries = a.entries; pipes = ps }) pipes_same in
-            subst (λ (t : Table). (y : List ℕ) → is_way path y ≡ false → InSyncAt y t b.world)
-            (sym table)
-            (level_but path (table_in a) a.world b.world
-            (found_only (Err ParentLost) e still).devices
+            ap (λ es. record { entries = es; pipes = b.pipes }) same ∙ ap
+            (λ ps. record { entries = a.entries; pipes = ps }) pipes_same in
+            rw table (level_but path (table_in a) a.world b.world (found_only e still).devices
             (o.but.level (went_sound n a.world b.world went still)));
       })
   unfound_sound (Bus fault) e same pipes_same pool_same told k = tt

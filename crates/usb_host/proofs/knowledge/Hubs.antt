@@ -1,6 +1,6 @@
 -- A port below a hub is the hub's.
-use Rattle.std.proofs.Common.{◌≡◌, refl, subst, arith, Bool, true, false, ℕ, ◌≤◌, List, [], ◌∷◌}
-use Rattle.std.proofs.Common.{◌++◌, length, Option, Some, sym}
+use Rattle.std.proofs.Common.{◌≡◌, refl, arith, Bool, true, false, ℕ, ◌≤◌, List, [], ◌∷◌}
+use Rattle.std.proofs.Common.{◌++◌, length, Some}
 use Rattle.std.proofs.lemmas.List.Elements.{All-cons, All-nil}
 use Rattle.usb_world.specs.{World, IsRootPort}
 use Rattle.std.specs.Map.{lookup}
@@ -8,7 +8,7 @@ use Rattle.std.specs.BTreeMap.{is_at}
 use Rattle.usb_port.specs.{path_cmp, parent_of, port_on_hub, IsPortNumber}
 use Rattle.usb_port.proofs.Interface.{parent}
 use Rattle.usb_hub.specs.{Root}
-use Rattle.usb_table.specs.{KnownPort, Entries, known_port, is_below_hub, port_below}
+use Rattle.usb_table.specs.{KnownPort, Entries, known_port, is_below_hub}
 use Rattle.usb_table.proofs.Interface.{port_found-some}
 use Rattle.usb_resources.specs.{supply_of}
 use Rattle.usb_host.specs.{Agrees, HostState, IsDue, IsPortAt}
@@ -18,19 +18,17 @@ pub below_due : (hub : List ℕ) (n : ℕ) (es : Entries) (port : KnownPort) (w 
 below_due hub n es port w least e =
     let found =
     port_found-some (lookup (is_at (path_cmp hub)) es) (is_below_hub hub)
-    (port_on_hub (hub ++ n ∷ [])) port
-    (subst (λ (p : Option (List ℕ)). port_below p (port_on_hub (hub ++ n ∷ [])) es ≡ Some port)
-    (parent hub n least) e) in
-    subst (λ (p : KnownPort). IsDue w p.port) (sym found.is) tt
+    (port_on_hub (hub ++ n ∷ [])) port (rw (parent hub n least) at e) in
+    rw found.is tt
 
 -- a port of the root
-pub root_stands : (modelled : Bool) (number : ℕ) (h : HostState)
+pub root_stands : {modelled : Bool} (number : ℕ) (h : HostState)
     → (modelled ≡ true → IsRootPort h.world number) → IsPortNumber number
     → Agrees h.entries h.addresses
-    → IsPortAt modelled (number ∷ [])
-    (record { port = Root number; supply = supply_of true false }) h
+    → IsPortAt modelled (number ∷ []) (record { port = Root number; supply = supply_of true false })
+    h
 unfolding parent_of port_on_hub
-root_stands modelled number h asked is agrees = record {
+root_stands number h asked is agrees = record {
   is = (omega arith, omega arith, All-cons IsPortNumber number [] is (All-nil IsPortNumber));
   known = refl;
   asked = asked;

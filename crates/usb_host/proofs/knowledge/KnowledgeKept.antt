@@ -3,15 +3,14 @@ use Rattle.std.proofs.Common.{◌≡◌, ◌⊎◌, inl, inr, List, [], ◌∷�
 use Rattle.std.proofs.Common.{None, Some, option_map, refl, ap, sym, subst, ◌∙◌}
 use Rattle.std.specs.Prelude.{⊤, IfSome}
 use Rattle.usb_resources.specs.{Addresses}
-use Rattle.usb_device.specs.{State, Spec, Registers, Location, path_to, reach_on, state_on}
-use Rattle.usb_device.specs.{state_there}
+use Rattle.usb_device.specs.{State, Registers, Location, path_to, reach_on, state_on, state_there}
 use Rattle.usb_world.specs.{KeepsPendingAt, Was, spec_of, SameAt, LeavesPortAlone}
 use Rattle.usb_world.specs.{UnchangedOrPending, SameDeviceOrPending, Course, World, roots_of}
 use Rattle.usb_tree.specs.{has_power, pending}
 use Rattle.usb_world.proofs.Interface.{course_wider, pending_persists, rests_or_pends}
 use Rattle.usb_world.proofs.Interface.{stands_or_pends}
 use Rattle.usb_tree.proofs.Interface.{false_true}
-use Rattle.usb_enum.specs.{Cause, Accepted, Finding, IsFindingOf, IsRight, IsThere, IsKnownAs}
+use Rattle.usb_enum.specs.{Cause, Accepted, Finding, IsRight, IsThere, IsKnownAs}
 use Rattle.usb_enum.specs.declared.finding.Finding.TheVariants.{Device, Refused}
 use Rattle.usb_table.specs.{Entries, finding_at, IsListedPort, tier_of, SameSettings}
 use Rattle.usb_enum.proofs.Interface.{some_of}
@@ -20,15 +19,14 @@ use Rattle.usb_host.specs.{IsJustifiedAt, RefusalsJustified, Elsewhere, KnownBut
 use Rattle.usb_host.specs.{CausesBut, EachStill, EachStillBut, Accounted}
 use Rattle.usb_host.proofs.knowledge.SettledListings.{listed_port}
 
-pub none_same : (o u : Option State) → option_map spec_of u ≡ option_map spec_of o → o ≡ None
-    → u ≡ None
-none_same o None e h = refl
-none_same o (Some s) e h = absurd (cc (e, ap (option_map spec_of) h))
+pub none_same : {o : Option State} (u : Option State) → option_map spec_of u ≡ option_map spec_of o
+    → o ≡ None → u ≡ None
+none_same None e h = refl
+none_same (Some s) e h = absurd (cc (e, ap (option_map spec_of) h))
 
 there_same : (w v : World) (path : List ℕ) (o : Option Finding) → SameAt w.roots v.roots path
     → IsThere w path o → IsThere v path o
-there_same w v path None same h = none_same (state_there w.roots path) (state_there v.roots path)
-    same.what h
+there_same w v path None same h = none_same (state_there v.roots path) same.what h
 there_same w v path (Some (Device device)) same h = same.on ∙ h
 there_same w v path (Some (Refused cause)) same h = (
   some_of (state_there w.roots path) (state_there v.roots path) same.what h.0,
@@ -52,23 +50,23 @@ pub known_each : (w v : World) (entries : Entries) → roots_of v ≡ roots_of w
     → ((path : List ℕ) → IsListedPort (roots_of w) entries path → Course (LeavesPortAlone path) w v)
     → PortsListed w entries → PortsListed v entries
 known_each w v entries roots calm known path port =
-    let was = subst (λ n. IsListedPort n entries path) roots port in
+    let was = rw roots at port in
     known_stays path (finding_at path entries) w v (calm path was) (known path was)
 
 pub known_but_each : (first : List ℕ) (w v : World) (entries : Entries) → roots_of v ≡ roots_of w
-    → Elsewhere first (λ path. Course (LeavesPortAlone path) w v)
-    → KnownBut first w entries → KnownBut first v entries
+    → Elsewhere first (λ path. Course (LeavesPortAlone path) w v) → KnownBut first w entries
+    → KnownBut first v entries
 known_but_each first w v entries roots calm known path away port =
-    let was = subst (λ n. IsListedPort n entries path) roots port in
+    let was = rw roots at port in
     known_stays path (finding_at path entries) w v (calm path away) (known path away was)
 
 -- Accepted devices
 
-tells_still : (entries : Entries) (path : List ℕ) (device : Accepted) (j : Location) (s v : State)
+tells_still : {entries : Entries} {path : List ℕ} {device : Accepted} (j : Location) {s : State}
+    (v : State)
     → SameSettings j s v → IsTruthOf entries path device s → IsTruthOf entries path device v
-tells_still entries path device j s v still t = record {
-  found = subst (λ (spec : Spec). IsFindingOf spec (tier_of path) (known_supply path entries)
-      (Device device)) (sym still.0) t.found;
+tells_still j v still t = record {
+  found = rw still.0 t.found;
   set = record {
     address = ap (λ (r : Registers). r.address) still.1 ∙ t.set.address;
     configuration = ap (λ (r : Registers). r.configuration) still.1 ∙ t.set.configuration;
@@ -77,11 +75,11 @@ tells_still entries path device j s v still t = record {
 
 is_told_at-stays : (j : Location) (w v : World) (entries : Entries)
     → ((s : State) → reach_on v.roots j ≡ true → state_on v.roots j ≡ Some s
-    → Was SameSettings w j s)
-    → IsAccurateAt w entries (path_to j) → IsAccurateAt v entries (path_to j)
+    → Was SameSettings w j s) → IsAccurateAt w entries (path_to j)
+    → IsAccurateAt v entries (path_to j)
 is_told_at-stays j w v entries was told device s at on stands =
     let x : Was SameSettings w j s = was s on stands in
-    tells_still entries (path_to j) device j x.before s x.so (told device x.before at x.on x.stands)
+    tells_still j s x.so (told device x.before at x.on x.stands)
 
 pub truthful_stays : (w v : World) (entries : Entries) → EachStill w v → DevicesAccurate w entries
     → DevicesAccurate v entries
@@ -103,8 +101,8 @@ truthful_but_stays first w v entries each told (suc j ∷ p) away =
 
 is_caused_at-kept : (path : List ℕ) (entries : Entries) (w v : World) (cause : Cause) (s : State)
     → (pending w.roots path ≡ true → pending v.roots path ≡ true) → IsJustifiedAt w entries path
-    → finding_at path entries ≡ Some (Refused cause)
-    → (o : Option State) → state_there w.roots path ≡ o → option_map spec_of (Some s)
+    → finding_at path entries ≡ Some (Refused cause) → (o : Option State)
+    → state_there w.roots path ≡ o → option_map spec_of (Some s)
     ≡ option_map spec_of o
     → (pending v.roots path ≡ true) ⊎ IsRight ⊤ s.spec (tier_of path) (known_supply path entries)
     (Refused cause)
@@ -118,15 +116,14 @@ is_caused_at-kept path entries w v cause s pends caused at (Some t) is same =
         (known_supply path entries) (Refused cause)
     pick (inl x) = inl (pends x)
     pick (inr right) = let alike : t.spec ≡ s.spec = cc same in
-        inr (subst (λ (spec : Spec). IsRight ⊤ spec (tier_of path) (known_supply path entries)
-        (Refused cause)) alike right)
+        inr (rw alike at right)
 
 -- a cause stays so where what pends pends, and the port stands as it stood, or a change is pending
 pub cause_stands : (path : List ℕ) (entries : Entries) (w v : World)
     → (pending w.roots path ≡ true → pending v.roots path ≡ true)
     → (has_power w.roots path ≡ true → SameDeviceOrPending w v path)
-    → IsKnownAs w path (finding_at path entries)
-    → IsJustifiedAt w entries path → IsJustifiedAt v entries path
+    → IsKnownAs w path (finding_at path entries) → IsJustifiedAt w entries path
+    → IsJustifiedAt v entries path
 cause_stands path entries w v pends stands known caused cause s at there = pick known
   where
     stood : SameDeviceOrPending w v path → (pending v.roots path ≡ true)
@@ -141,28 +138,28 @@ cause_stands path entries w v pends stands known caused cause s at there = pick 
     pick (inr here) = stood (stands here.0)
 
 -- a cause stays so over a course that clears nothing that is pending there
-pub cause_stays : (path : List ℕ) (entries : Entries) (w v : World)
+pub cause_stays : (path : List ℕ) (entries : Entries) {w v : World}
     → Course (KeepsPendingAt path) w v → IsKnownAs w path (finding_at path entries)
     → IsJustifiedAt w entries path → IsJustifiedAt v entries path
-cause_stays path entries w v c = cause_stands path entries w v (pending_persists path c)
+cause_stays path entries {w = w} {v = v} c = cause_stands path entries w v (pending_persists path c)
     (stands_or_pends path c)
 
 -- each refused device stands at a port that is known
-pub causes_stay : (w v : World) (entries : Entries) (addresses : Addresses)
+pub causes_stay : (w v : World) {entries : Entries} {addresses : Addresses}
     → Accounted (roots_of w) entries addresses → PortsListed w entries
     → ((path : List ℕ) → IsListedPort (roots_of w) entries path → Course (KeepsPendingAt path) w v)
     → RefusalsJustified w entries → RefusalsJustified v entries
-causes_stay w v entries addresses accounted known spares caused path cause s at stands =
-    let port = listed_port w entries addresses accounted path (Refused cause) at in
-    cause_stays path entries w v (spares path port) (known path port) (caused path) cause s at
+causes_stay w v {entries = entries} accounted known spares caused path cause s at stands =
+    let port = listed_port w accounted path (Refused cause) at in
+    cause_stays path entries (spares path port) (known path port) (caused path) cause s at
     stands
 
-pub causes_but_stay : (first : List ℕ) (w v : World) (entries : Entries) (addresses : Addresses)
+pub causes_but_stay : (first : List ℕ) (w v : World) {entries : Entries} {addresses : Addresses}
     → Accounted (roots_of w) entries addresses → KnownBut first w entries
     → Elsewhere first (λ path. Course (KeepsPendingAt path) w v) → CausesBut first w entries
     → CausesBut first v entries
-causes_but_stay first w v entries addresses accounted known spares caused path away cause s at
+causes_but_stay first w v {entries = entries} accounted known spares caused path away cause s at
     stands =
-    let port = listed_port w entries addresses accounted path (Refused cause) at in
-    cause_stays path entries w v (spares path away) (known path away port) (caused path away) cause
+    let port = listed_port w accounted path (Refused cause) at in
+    cause_stays path entries (spares path away) (known path away port) (caused path away) cause
     s at stands

@@ -11,8 +11,8 @@ use Rattle.usb_tree.specs.{is_way, pending, same_number}
 use Rattle.usb_world.specs.{World, roots_of}
 use Rattle.usb_world.proofs.Interface.{at_or_below_way, way_itself, way_parent, way_rest, way_trans}
 use Rattle.usb_tree.proofs.Interface.{and_of, both, decided, false_true}
-use Rattle.usb_enum.specs.{Finding, IsFindingOf, IsRight, IsKnownAs}
-use Rattle.usb_enum.specs.declared.finding.Finding.TheVariants.{Device, Refused}
+use Rattle.usb_enum.specs.{Finding, IsRight, IsKnownAs}
+use Rattle.usb_enum.specs.declared.finding.Finding.TheVariants.{Refused}
 use Rattle.usb_table.specs.{KnownPort, Entries, has_at, without, accepted_device_of, finding_at}
 use Rattle.usb_table.specs.{hub_facts_in, IsPortBelow, IsListedPort, tier_of}
 use Rattle.usb_table.proofs.Interface.{path_tied}
@@ -27,21 +27,21 @@ way_hub : (p hub : List ℕ) (n : ℕ) → length p ≤ length hub → is_way p 
     → is_way p hub ≡ true
 unfolding is_way
 way_hub [] hub n le h = refl
-way_hub (m ∷ p) [] n le h = absurd (omega (arith, le))
+way_hub (m ∷ p) [] n le h = absurd (omega arith)
 way_hub (m ∷ p) (k ∷ hub) n le h =
     let parts = both (same_number m k) (is_way p (hub ++ n ∷ [])) h in
-    and_of (same_number m k) (is_way p hub) parts.0 (way_hub p hub n (omega (arith, le)) parts.1)
+    and_of (same_number m k) (is_way p hub) parts.0 (way_hub p hub n (omega arith) parts.1)
 
 -- What is listed elsewhere
 
 pub finding-dropped : (first path : List ℕ) (es : Entries) → is_way first path ≡ true
     → finding_at path (without first es) ≡ None
-finding-dropped first path es way = lookup-without path first false es
+finding-dropped first path es way = lookup-without path first es
     (ap not (at_or_below_way path first ∙ way))
 
 pub finding-kept : (first path : List ℕ) (es : Entries) → is_way first path ≡ false
     → finding_at path (without first es) ≡ finding_at path es
-finding-kept first path es away = lookup-without path first true es
+finding-kept first path es away = lookup-without path first es
     (ap not (at_or_below_way path first ∙ away))
 
 pub finding-none : (first path : List ℕ) (es : Entries) → has_at first es ≡ false
@@ -52,8 +52,7 @@ finding-none first path es gone way = lookup-none_there first path es gone
 untied_by : (first path : List ℕ) → is_way first path ≡ false → (b : Bool)
     → is_at (path_cmp path) first ≡ b → b ≡ false
 untied_by first path away true tie =
-    false_true (sym (subst (λ p. is_way first p ≡ false) (path_tied path first tie) away)
-    ∙ way_itself first)
+    false_true (sym (rw (path_tied path first tie) at away) ∙ way_itself first)
 untied_by first path away false tie = refl
 
 untied : (first path : List ℕ) → is_way first path ≡ false → is_at (path_cmp path) first ≡ false
@@ -74,15 +73,13 @@ port_as : (roots : ℕ) (es fs : Entries) (n : ℕ) (o : Option (List ℕ))
     → ((hub : List ℕ) → o ≡ Some hub → finding_at hub es ≡ finding_at hub fs)
     → IsPortBelow roots es o n → IsPortBelow roots fs o n
 port_as roots es fs n None same h = h
-port_as roots es fs n (Some hub) same h =
-    subst (λ (f : Option Finding). IsSomeAnd (hub_facts_in f) (λ facts. (1 ≤ n)
-    × (n ≤ facts.ports))) (same hub refl) h
+port_as roots es fs n (Some hub) same h = rw (same hub refl) at h
 
 -- a port is listed as long as its hub is
-pub listed_as : (roots : ℕ) (es fs : Entries) (path : List ℕ)
+pub listed_as : {roots : ℕ} {es : Entries} (fs : Entries) (path : List ℕ)
     → ((hub : List ℕ) → parent_of path ≡ Some hub → finding_at hub es ≡ finding_at hub fs)
     → IsListedPort roots es path → IsListedPort roots fs path
-listed_as roots es fs path same port =
+listed_as {roots = roots} {es = es} fs path same port =
     record {
       some = port.some;
       port = port_as roots es fs (port_on_hub path) (parent_of path) same port.port;
@@ -95,8 +92,7 @@ unfolding parent_of
 parent_some path long =
     let hub = take (length path - 1) path in (
       hub,
-      ap (λ (b : Bool). if b then Some hub else None)
-          (lt-ltb 1 (length path) (omega (arith, long))),
+      ap (λ (b : Bool). if b then Some hub else None) (lt-ltb 1 (length path) (omega arith)),
     )
 
 -- a path's port itself, or one of a hub that is there or below
@@ -105,17 +101,16 @@ split_by : (first path rest : List ℕ) → 1 ≤ length first → is_way first 
     ⊎ ((hub : List ℕ) × (parent_of path ≡ Some hub) × (is_way first hub ≡ true))
 split_by first path [] some way is = inl (is ∙ append-nil first)
 split_by first path (n ∷ rest) some way is =
-    let long : length path ≡ length first + length (n ∷ rest) = ap length is
-    ∙ length-append first (n ∷ rest) in
-    let above = parent_some path (omega (arith, some, long)) in
+    let long : length path ≡ length first + length (n ∷ rest) = ap length is ∙ length-append first
+    (n ∷ rest) in
+    let above = parent_some path (omega arith) in
     let joined = rejoined path above.0 above.1 in
-    let short : length path ≡ length above.0 + 1 = ap length joined
-    ∙ length-append above.0 (port_on_hub path ∷ []) in
+    let short : length path ≡ length above.0 + 1 = ap length joined ∙ length-append above.0
+    (port_on_hub path ∷ []) in
     inr (
       above.0,
       above.1,
-      way_hub first above.0 (port_on_hub path) (omega (arith, long, short))
-          (subst (λ (l : List ℕ). is_way first l ≡ true) joined way),
+      way_hub first above.0 (port_on_hub path) (omega arith) (rw joined at way),
     )
 
 split : (first path : List ℕ) → 1 ≤ length first → is_way first path ≡ true → (path ≡ first)
@@ -127,13 +122,12 @@ split first path some way = let rest = way_rest first path way in
 pub known_whole : (first : List ℕ) (w : World) (es : Entries) → 1 ≤ length first
     → KnownBut first w es → IsKnownAs w first (finding_at first es)
     → ((path hub : List ℕ) → parent_of path ≡ Some hub → is_way first hub ≡ true
-    → IsListedPort (roots_of w) es path → IsKnownAs w path (finding_at path es))
-    → PortsListed w es
+    → IsListedPort (roots_of w) es path → IsKnownAs w path (finding_at path es)) → PortsListed w es
 known_whole first w es some others here below path port = pick (decided (is_way first path))
   where
     at : (path ≡ first) ⊎ ((hub : List ℕ) × (parent_of path ≡ Some hub) × (is_way first hub ≡ true))
         → IsKnownAs w path (finding_at path es)
-    at (inl same) = subst (λ p. IsKnownAs w p (finding_at p es)) (sym same) here
+    at (inl same) = rw same here
     at (inr x) = below path x.0 x.1 x.2 port
 
     pick : (is_way first path ≡ true) ⊎ (is_way first path ≡ false)
@@ -143,39 +137,35 @@ known_whole first w es some others here below path port = pick (decided (is_way 
 
 -- Entries go
 
-none_below : (roots : ℕ) (es : Entries) (path hub : List ℕ) → parent_of path ≡ Some hub
+none_below : {roots : ℕ} (es : Entries) (path hub : List ℕ) → parent_of path ≡ Some hub
     → finding_at hub es ≡ None → IsListedPort roots es path → ⊥
-none_below roots es path hub is none port =
+none_below {roots = roots} es path hub is none port =
     let below : IsPortBelow roots es (Some hub) (port_on_hub path) =
-    subst (λ o. IsPortBelow roots es o (port_on_hub path)) is port.port in
-    subst (λ (f : Option Finding). IsSomeAnd (hub_facts_in f) (λ facts. (1 ≤ port_on_hub path)
-    × (port_on_hub path ≤ facts.ports))) none below
+    rw is at port.port in
+    rw none at below
 
 pub known_dropped : (first : List ℕ) (w : World) (es : Entries) → KnownBut first w es
     → KnownBut first w (without first es)
 known_dropped first w es known path away port =
-    let was = listed_as (roots_of w) (without first es) es path
+    let was = listed_as es path
     (λ hub is. finding-kept first hub es (hub_elsewhere first path hub is away)) port in
-    subst (IsKnownAs w path) (sym (finding-kept first path es away)) (known path away was)
+    rw (finding-kept first path es away) (known path away was)
 
 -- nothing is listed at a path and below it, and nothing stands there
 pub known_vacant : (first : List ℕ) (w : World) (es : Entries) → 1 ≤ length first
     → has_at first es ≡ false → KnownBut first w es → IsKnownAs w first None → PortsListed w es
 known_vacant first w es some gone known here =
-    known_whole first w es some known (subst (IsKnownAs w first)
-    (sym (finding-none first first es gone (way_itself first))) here)
-    (λ path hub is way port. absurd (none_below (roots_of w) es path hub is
-    (finding-none first hub es gone way) port))
+    known_whole first w es some known (rw (finding-none first first es gone (way_itself first))
+    here)
+    (λ path hub is way port. absurd (none_below es path hub is (finding-none first hub es gone way)
+    port))
 
 is_told_at-same : (w : World) (es fs : Entries) (path : List ℕ)
     → finding_at path fs ≡ finding_at path es → known_supply path fs ≡ known_supply path es
     → IsAccurateAt w es path → IsAccurateAt w fs path
 is_told_at-same w es fs path same supply told device s at on stands =
     let t = told device s (ap accepted_device_of (sym same) ∙ at) on stands in
-    record {
-      found = subst (λ n. IsFindingOf s.spec (tier_of path) n (Device device)) (sym supply) t.found;
-      set = t.set;
-    }
+    record { found = rw supply t.found; set = t.set }
 
 caused_as : (w : World) (es fs : Entries) (path : List ℕ) → finding_at path fs ≡ finding_at path es
     → known_supply path fs ≡ known_supply path es → IsJustifiedAt w es path
@@ -187,18 +177,17 @@ caused_as w es fs path same supply caused cause s at stands =
         (Refused cause) → (pending w.roots path ≡ true)
         ⊎ IsRight ⊤ s.spec (tier_of path) (known_supply path fs) (Refused cause)
     pick (inl pends) = inl pends
-    pick (inr right) = inr (subst (λ n. IsRight ⊤ s.spec (tier_of path) n (Refused cause))
-        (sym supply) right)
+    pick (inr right) = inr (rw supply right)
 
-supply_known : (path : List ℕ) (o u : Option KnownPort) → o ≡ u
+supply_known : (path : List ℕ) {o u : Option KnownPort} → o ≡ u
     → unwrap_or (option_map (λ (known : KnownPort). known.supply) o) 0
     ≡ unwrap_or (option_map (λ (known : KnownPort). known.supply) u) 0
-supply_known path o u e = ap (λ (x : Option KnownPort). unwrap_or
+supply_known path e = ap (λ (x : Option KnownPort). unwrap_or
     (option_map (λ (known : KnownPort). known.supply) x) 0) e
 
 supply-kept : (first path : List ℕ) (es : Entries) → is_way first path ≡ false
     → known_supply path (without first es) ≡ known_supply path es
-supply-kept first path es away = supply_known path _ _
+supply-kept first path es away = supply_known path
     (known_away path first es (at_or_below_way path first ∙ away))
 
 pub truthful_dropped : (first : List ℕ) (w : World) (es : Entries) → TruthfulBut first w es
@@ -235,7 +224,7 @@ module _ (first : List ℕ) (f : Finding) (es : Entries) (some : 1 ≤ length fi
 
   supply-entered : (path : List ℕ) → is_way first path ≡ false
       → known_supply path entered ≡ known_supply path es
-  supply-entered path away = supply_known path _ _
+  supply-entered path away = supply_known path
       (known_entered path first f es (λ hub is. untied first hub
       (hub_elsewhere first path hub is away)))
 
@@ -243,28 +232,26 @@ module _ (first : List ℕ) (f : Finding) (es : Entries) (some : 1 ≤ length fi
   finding-below : (path hub : List ℕ) → parent_of path ≡ Some hub → is_way first hub ≡ true
       → finding_at path entered ≡ None
   finding-below path hub is way =
-      let short : length path ≡ length hub + 1 = ap length (rejoined path hub is)
-      ∙ length-append hub (port_on_hub path ∷ []) in
+      let short : length path ≡ length hub + 1 = ap length (rejoined path hub is) ∙ length-append
+      hub (port_on_hub path ∷ []) in
       let rest = way_rest first hub way in
-      let long : length hub ≡ length first + length rest.0 = ap length rest.1
-      ∙ length-append first rest.0 in
-      finding-entered path (longer path (omega (arith, short, long)) (is_at (path_cmp path) first)
-      refl)
+      let long : length hub ≡ length first + length rest.0 = ap length rest.1 ∙ length-append first
+      rest.0 in
+      finding-entered path (longer path (omega arith) (is_at (path_cmp path) first) refl)
       ∙ finding-none first path es gone (way_trans first hub path way (way_parent path hub is))
     where
       longer : (path : List ℕ) → length first + 1 ≤ length path → (b : Bool)
           → is_at (path_cmp path) first ≡ b → is_at (path_cmp path) first ≡ false
       longer path long true tie = let same : length path ≡ length first =
-          ap length (path_tied path first tie) in absurd (omega (arith, long, same))
+          ap length (path_tied path first tie) in absurd (omega arith)
       longer path long false tie = tie
 
   known_but_entered : (w : World) → KnownBut first w es → KnownBut first w entered
   known_but_entered w known path away port =
-      let was = listed_as (roots_of w) entered es path
+      let was = listed_as es path
       (λ hub is. finding-entered hub (untied first hub (hub_elsewhere first path hub is away)))
       port in
-      subst (IsKnownAs w path) (sym (finding-entered path (untied first path away)))
-      (known path away was)
+      rw (finding-entered path (untied first path away)) (known path away was)
 
   -- and each port of what was found, where that is a hub, is vacant or pending
   pub known_found : (w : World) → KnownBut first w es → IsKnownAs w first (Some f)
@@ -272,7 +259,7 @@ module _ (first : List ℕ) (f : Finding) (es : Entries) (some : 1 ≤ length fi
       → IsKnownAs w (first ++ n ∷ []) None) → PortsListed w entered
   known_found w known here ports =
       known_whole first w entered some (known_but_entered w known)
-      (subst (IsKnownAs w first) (sym (lookup-insert_entry_here first f es)) here)
+      (rw (lookup-insert_entry_here first f es) here)
       (λ path hub is way port. subst (IsKnownAs w path) (sym (finding-below path hub is way))
       (below path hub is way port (is_at (path_cmp hub) first) refl))
     where
@@ -281,19 +268,17 @@ module _ (first : List ℕ) (f : Finding) (es : Entries) (some : 1 ≤ length fi
           → IsKnownAs w path None
       below path hub is way port true tie =
           let at : IsPortBelow (roots_of w) entered (Some first) (port_on_hub path) =
-          subst (λ h. IsPortBelow (roots_of w) entered (Some h) (port_on_hub path))
-          (path_tied hub first tie) (subst (λ o. IsPortBelow (roots_of w) entered o
-          (port_on_hub path)) is port.port) in
+          rw (path_tied hub first tie) at (rw is at port.port) in
           let own : IsSomeAnd (hub_facts_in (Some f)) (λ facts. (1 ≤ port_on_hub path)
           × (port_on_hub path ≤ facts.ports)) =
           subst (λ (x : Option Finding). IsSomeAnd (hub_facts_in x) (λ facts. (1 ≤ port_on_hub path)
           × (port_on_hub path ≤ facts.ports))) (lookup-insert_entry_here first f es) at in
-          let joined : path ≡ first ++ port_on_hub path ∷ [] = rejoined path hub is
-          ∙ ap (λ (l : List ℕ). l ++ port_on_hub path ∷ []) (path_tied hub first tie) in
-          subst (λ p. IsKnownAs w p None) (sym joined) (ports (port_on_hub path) own)
+          let joined : path ≡ first ++ port_on_hub path ∷ [] = rejoined path hub is ∙ ap
+          (λ (l : List ℕ). l ++ port_on_hub path ∷ []) (path_tied hub first tie) in
+          rw joined (ports (port_on_hub path) own)
       below path hub is way port false apart =
-          absurd (none_below (roots_of w) entered path hub is (finding-entered hub apart
-          ∙ finding-none first hub es gone way) port)
+          absurd (none_below entered path hub is (finding-entered hub apart ∙ finding-none first hub
+          es gone way) port)
 
   pub truthful_found : (w : World) → DevicesAccurate w es → IsAccurateAt w entered first
       → DevicesAccurate w entered
@@ -302,10 +287,9 @@ module _ (first : List ℕ) (f : Finding) (es : Entries) (some : 1 ≤ length fi
     where
       pick : (b : Bool) → is_at (path_cmp path) first ≡ b → (is_way first path ≡ true)
           ⊎ (is_way first path ≡ false) → IsAccurateAt w entered path
-      pick true tie on = subst (IsAccurateAt w entered) (sym (path_tied path first tie)) here
+      pick true tie on = rw (path_tied path first tie) here
       pick false apart (inl way) = λ device s at on stands. absurd (cc (
-        ap accepted_device_of (finding-entered path apart
-            ∙ finding-none first path es gone way),
+        ap accepted_device_of (finding-entered path apart ∙ finding-none first path es gone way),
         at,
       ))
       pick false apart (inr away) = is_told_at-same w es entered path (finding-entered path apart)
@@ -318,7 +302,7 @@ module _ (first : List ℕ) (f : Finding) (es : Entries) (some : 1 ≤ length fi
     where
       pick : (b : Bool) → is_at (path_cmp path) first ≡ b → (is_way first path ≡ true)
           ⊎ (is_way first path ≡ false) → IsJustifiedAt w entered path
-      pick true tie on = subst (IsJustifiedAt w entered) (sym (path_tied path first tie)) here
+      pick true tie on = rw (path_tied path first tie) here
       pick false apart (inl way) = λ cause s at stands. absurd
           (cc (finding-entered path apart ∙ finding-none first path es gone way, at))
       pick false apart (inr away) = caused_as w es entered path (finding-entered path apart)

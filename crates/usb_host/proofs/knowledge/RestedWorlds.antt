@@ -15,7 +15,7 @@ use Rattle.usb_enum.specs.{EnumFault, ParentLost, Bus, Memory, Finding, IsKnownA
 use Rattle.usb_enum.specs.{FaultAllowedAt}
 use Rattle.usb_enum.specs.declared.finding.Finding.TheVariants.{Device, Refused}
 use Rattle.usb_enum.proofs.Interface.{went_in_order, went_sound}
-use Rattle.usb_table.specs.{KnownPort, known_port, port_below, port_found, is_below_hub, finding_at}
+use Rattle.usb_table.specs.{KnownPort, known_port, port_found, is_below_hub, finding_at}
 use Rattle.usb_table.specs.{SameSettings}
 use Rattle.usb_host.specs.{Agrees, LetsGoOn, RestElsewhere, InvariantAfterPort, HostState, StandsAt}
 use Rattle.usb_host.specs.{HostSteps, OnlyBusSteps, PortsListed, KnownBut, DevicesAccurate}
@@ -32,30 +32,30 @@ use Rattle.usb_host.proofs.knowledge.KnowledgeKept.{truthful_but_stays}
 
 -- Devices
 
-still_was : (w : World) (j : Location) (s : State) → Was StaysAs w j s → Was SameSettings w j s
-still_was w j s x = record {
+still_was : {w : World} {j : Location} (s : State) → Was StaysAs w j s → Was SameSettings w j s
+still_was s x = record {
   before = x.before;
   on = x.on;
   stands = x.stands;
   so = (stays-spec x.before s x.so, stays-registers x.before s x.so);
 }
 
-pub kept_each_still : (w v : World) → KeepsDevices w v → v.shared ≡ false → EachStill w v
-kept_each_still w v k single j s on at = still_was w j s (k.stays single j s on at)
+pub kept_each_still : {w v : World} → KeepsDevices w v → v.shared ≡ false → EachStill w v
+kept_each_still k single j s on at = still_was s (k.stays single j s on at)
 
-pub each_still_but : (path : List ℕ) (w v : World) → KeepsDevices w v → v.shared ≡ false
+pub each_still_but : (path : List ℕ) {w v : World} → KeepsDevices w v → v.shared ≡ false
     → EachStillBut path w v
-each_still_but path w v k single j s away on at = still_was w j s (k.stays single j s on at)
+each_still_but path k single j s away on at = still_was s (k.stays single j s on at)
 
 pub elsewhere_still : (path : List ℕ) (w v : World) → EachElsewhere path StaysAs w v
     → EachStillBut path w v
-elsewhere_still path w v each j s away on at = still_was w j s (each j s away on at)
+elsewhere_still path w v each j s away on at = still_was s (each j s away on at)
 
 -- What is known everywhere is known elsewhere, and less is known further above
 
-pub but_of_sound : (path : List ℕ) (h : HostState) → HostInvariant h → IsSoundBut path h
-but_of_sound path h s = record {
-  owned = but_all path _ h.world s.owned;
+pub but_of_sound : (path : List ℕ) {h : HostState} → HostInvariant h → IsSoundBut path h
+but_of_sound path s = record {
+  owned = but_all s.owned;
   rooted = s.rooted;
   order = s.order;
   known = λ still x away. s.known still x;
@@ -66,7 +66,7 @@ but_of_sound path h s = record {
 pub but_of_above : (path below : List ℕ) (h : HostState) → is_way path below ≡ true
     → IsSoundBut below h → IsSoundBut path h
 but_of_above path below h on s = record {
-  owned = but_above path below _ h.world on s.owned;
+  owned = but_above path on s.owned;
   rooted = s.rooted;
   order = s.order;
   known = λ still x away. s.known still x (way_apart path below x on away);
@@ -76,7 +76,7 @@ but_of_above path below h on s = record {
 
 -- The world alone goes on
 
-module _ (n : ℕ) (a b : HostState) (r : OnlyBusSteps a b) (went : HostSteps n a b)
+module _ {n : ℕ} (a : HostState) {b : HostState} (r : OnlyBusSteps a b) (went : HostSteps n a b)
     (k : KeepsAddresses a.world b.world) where
   same_entries : b.entries ≡ a.entries
   same_entries = ap (λ (h : HostState). h.entries) r
@@ -84,7 +84,7 @@ module _ (n : ℕ) (a b : HostState) (r : OnlyBusSteps a b) (went : HostSteps n 
   pub sound_rests : KeepsDevices a.world b.world → TouchesNoPort a.world b.world → HostInvariant a
       → HostInvariant b
   sound_rests devices rests s =
-      let owned = owned_rests a b r k s.owned in
+      let owned = owned_rests a r k s.owned in
       record {
         owned = owned;
         rooted = rooted_kept a b same_entries went.spends.roots s.rooted;
@@ -93,17 +93,16 @@ module _ (n : ℕ) (a b : HostState) (r : OnlyBusSteps a b) (went : HostSteps n 
             (known_each a.world b.world a.entries went.spends.roots (λ path port. rests path)
             (s.known (went_sound n a.world b.world went still)));
         truthful = λ still. subst (DevicesAccurate b.world) (sym same_entries)
-            (truthful_stays a.world b.world a.entries
-            (kept_each_still a.world b.world devices owned.single)
+            (truthful_stays a.world b.world a.entries (kept_each_still devices owned.single)
             (s.truthful (went_sound n a.world b.world went still)));
         level = λ still x. level_rests a b r devices owned.single x
             (s.level (went_sound n a.world b.world went still) x);
       }
 
-  pub sound_rests_but : (path : List ℕ) → KeepsDevices a.world b.world
+  pub sound_rests_but : {path : List ℕ} → KeepsDevices a.world b.world
       → (b.world.fault ≡ None → RestElsewhere path a.world b.world) → IsSoundBut path a
       → IsSoundBut path b
-  sound_rests_but path devices rests s =
+  sound_rests_but {path = path} devices rests s =
       let owned = but_rests path a b r k s.owned in
       record {
         owned = owned;
@@ -114,7 +113,7 @@ module _ (n : ℕ) (a b : HostState) (r : OnlyBusSteps a b) (went : HostSteps n 
             (s.known (went_sound n a.world b.world went still)));
         truthful = λ still. subst (TruthfulBut path b.world) (sym same_entries)
             (truthful_but_stays path a.world b.world a.entries
-            (each_still_but path a.world b.world devices owned.single)
+            (each_still_but path devices owned.single)
             (s.truthful (went_sound n a.world b.world went still)));
         level = λ still x away. level_rests a b r devices owned.single x
             (s.level (went_sound n a.world b.world went still) x away);
@@ -140,14 +139,14 @@ pub droppable_above : (path hub : List ℕ) (h : HostState) → parent_of path �
     → IsSome (known_port path h.entries) → Agrees h.entries h.addresses → IsSoundBut path h
     → IsDroppable hub h
 droppable_above path hub h above known agrees s = record {
-  listed = subst IsSome (sym found.1) refl;
+  listed = rw found.1 refl;
   but = but_of_above hub path h (way_parent path hub above) s;
   there = there;
 }
   where
     found : (f : Finding) × (finding_at hub h.entries ≡ Some f)
     found = port_found-finding (finding_at hub h.entries) (is_below_hub hub) (port_on_hub path)
-        (subst (λ o. IsSome (port_below o (port_on_hub path) h.entries)) above known)
+        (rw above at known)
 
     away : is_way path hub ≡ false
     away = way_shorter path hub (omega (
@@ -157,23 +156,24 @@ droppable_above path hub h above known agrees s = record {
 
     there : h.world.fault ≡ None → IsOccupied h.world hub
     there still =
-        let port = listed_port h.world h.entries h.addresses (accounted h agrees s.rooted) hub
+        let port = listed_port h.world (accounted h agrees s.rooted) hub
         found.0 found.1 in
-        occupied_by h.world hub found.0 (subst (IsKnownAs h.world hub) found.1
-        (s.known still hub away port))
+        occupied_by h.world hub found.0 (rw found.1 at (s.known still hub away port))
 
 -- A request at a port failed
 
-pub lost_sound : (path : List ℕ) (port : KnownPort) (a b : HostState) (fault : EnumFault)
+pub lost_sound : {path : List ℕ} {port : KnownPort} {a : HostState} (b : HostState)
+    (fault : EnumFault)
     → StandsAt path port a → FaultAllowedAt port.port fault b.world
     → IsSome (known_port path b.entries) → Agrees b.entries b.addresses
     → (LetsGoOn {A = Unit {0}} (Err fault) → IsSoundBut path b)
     → InvariantAfterPort path (Err fault) b
-lost_sound path port a b ParentLost s told known agrees but = by_parent (parent_of path) refl
+lost_sound {path = path} {a = a} b ParentLost s told known agrees but = by_parent (parent_of path)
+    refl
   where
     by_parent : (o : Option (List ℕ)) → parent_of path ≡ o → IsSomeAnd o (λ hub. IsDroppable hub b)
-    by_parent None above = absurd (cc (lost_above path a.entries port b.world told None above
-        (subst (λ o. port_below o (port_on_hub path) a.entries ≡ Some port) above s.known)))
+    by_parent None above = absurd (cc (lost_above path a.entries b.world told None above
+        (rw above at s.known)))
     by_parent (Some hub) above = droppable_above path hub b above known agrees (but tt)
-lost_sound path port a b (Bus fault) s told known agrees but = tt
-lost_sound path port a b Memory s told known agrees but = tt
+lost_sound b (Bus fault) s told known agrees but = tt
+lost_sound b Memory s told known agrees but = tt

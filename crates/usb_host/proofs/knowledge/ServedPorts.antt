@@ -50,52 +50,50 @@ stands_listed path port h s = record {
   some = s.is.0;
   port = port_below_hub (roots_of h.world) h.entries (port_on_hub path) (parent_of path)
       (port_number path s.is).0 (root_most path port h s (parent_of path) refl s.known)
-      (subst IsSome (sym s.known) refl);
+      (rw s.known refl);
 }
 
-pub stands_way : (path : List ℕ) (port : KnownPort) (h : HostState) → StandsAt path port h
+pub stands_way : {path : List ℕ} {port : KnownPort} (h : HostState) → StandsAt path port h
     → PortsListed h.world h.entries → HasWay h.world path
-stands_way path port h s known = known_way path h.world (finding_at path h.entries)
-    (known path (stands_listed path port h s))
+stands_way {path = path} {port = port} h s known = known_way path h.world
+    (finding_at path h.entries) (known path (stands_listed path port h s))
 
 -- A request at the port fails, and only the world has gone on
 
-pub rests_known : (path : List ℕ) (port : KnownPort) (a b : HostState) → OnlyBusSteps a b
+pub rests_known : {path : List ℕ} {port : KnownPort} {a b : HostState} → OnlyBusSteps a b
     → StandsAt path port a → IsSome (known_port path b.entries)
-rests_known path port a b r s = subst IsSome
-    (sym (ap (λ (h : HostState). known_port path h.entries) r ∙ s.known)) refl
+rests_known {path = path} r s = rw (ap (λ (h : HostState). known_port path h.entries) r ∙ s.known)
+    refl
 
-pub rests_agrees : (path : List ℕ) (port : KnownPort) (a b : HostState) → OnlyBusSteps a b
+pub rests_agrees : {path : List ℕ} {port : KnownPort} {a b : HostState} → OnlyBusSteps a b
     → StandsAt path port a → Agrees b.entries b.addresses
-rests_agrees path port a b r s = subst (λ (h : HostState). Agrees h.entries h.addresses) (sym r)
-    s.agrees
+rests_agrees r s = rw r s.agrees
 
 -- Tidied
 
-module _ (n : ℕ) (path : List ℕ) (port : KnownPort) (a b : HostState) (s : StandsAt path port a)
+module _ {n : ℕ} {path : List ℕ} {port : KnownPort} {a b : HostState} (s : StandsAt path port a)
     (r : OnlyBusSteps a b) (went : HostSteps n a b) where
   pub tidied_known : Tidies port.port a.world (Ok tt) b.world → HostInvariant a
       → b.world.fault ≡ None → PortsListed b.world b.entries
-  tidied_known t i still = subst (PortsListed b.world) (sym (ap (λ (h : HostState). h.entries) r))
-      known
+  tidied_known t i still = rw (ap (λ (h : HostState). h.entries) r) known
     where
       known : PortsListed b.world a.entries
       known x listed =
-          let here = subst (λ m. IsListedPort m a.entries x) went.spends.roots listed in
+          let here = rw went.spends.roots at listed in
           let was = i.known (went_sound n a.world b.world went still) x here in
           pick was (decided (is_way path x))
         where
           pick : IsKnownAs a.world x (finding_at x a.entries) → (is_way path x ≡ true)
               ⊎ (is_way path x ≡ false) → IsKnownAs b.world x (finding_at x a.entries)
-          pick was (inl way) = (t.stays (claims a.entries) path (stands_at-claim path port a s)
-              i.owned refl x way).known (finding_at x a.entries) was
+          pick was (inl way) = (t.stays (claims a.entries) path (stands_at-claim s) i.owned refl x
+              way).known (finding_at x a.entries) was
           pick was (inr away) = known_stays x (finding_at x a.entries) a.world b.world
-              (t.others (claims a.entries) path (stands_at-claim path port a s) i.owned tt x away)
+              (t.others (claims a.entries) path (stands_at-claim s) i.owned tt x away)
               was
 
   pub tidied_sound : Tidies port.port a.world (Ok tt) b.world → HostInvariant a → HostInvariant b
   tidied_sound t i =
-      let owned = owned_rests a b r t.addresses i.owned in
+      let owned = owned_rests a r t.addresses i.owned in
       let same = ap (λ (h : HostState). h.entries) r in
       record {
         owned = owned;
@@ -103,8 +101,7 @@ module _ (n : ℕ) (path : List ℕ) (port : KnownPort) (a b : HostState) (s : S
         order = went_in_order n a.world b.world went i.order;
         known = tidied_known t i;
         truthful = λ still. subst (DevicesAccurate b.world) (sym same)
-            (truthful_stays a.world b.world a.entries
-            (kept_each_still a.world b.world t.devices owned.single)
+            (truthful_stays a.world b.world a.entries (kept_each_still t.devices owned.single)
             (i.truthful (went_sound n a.world b.world went still)));
         level = λ still x. level_rests a b r t.devices owned.single x
             (i.level (went_sound n a.world b.world went still) x);
@@ -114,11 +111,10 @@ module _ (n : ℕ) (path : List ℕ) (port : KnownPort) (a b : HostState) (s : S
       → FaultAllowedAt port.port fault b.world → HostInvariant a
       → InvariantAfterPort path (Err fault) b
   tidied_lost fault t told i =
-      lost_sound path port a b fault s told (rests_known path port a b r s)
-      (rests_agrees path port a b r s)
-      (λ goes. sound_rests_but n a b r went t.addresses path t.devices
-      (λ still. t.others (claims a.entries) path (stands_at-claim path port a s) i.owned goes)
-      (but_of_sound path a i))
+      lost_sound b fault s told (rests_known r s) (rests_agrees r s)
+      (λ goes. sound_rests_but a r went t.addresses t.devices
+      (λ still. t.others (claims a.entries) path (stands_at-claim s) i.owned goes)
+      (but_of_sound path i))
 
   pub tidied_port : (result : Result (Unit {0}) EnumFault) → Tidies port.port a.world result b.world
       → IfErr result (λ fault. FaultAllowedAt port.port fault b.world) → HostInvariant a
@@ -127,28 +123,24 @@ module _ (n : ℕ) (path : List ℕ) (port : KnownPort) (a b : HostState) (s : S
   tidied_port (Err fault) t told i = tidied_lost fault t told i
 
   -- a status was told, or was not
-  pub watched_sound : (status : PortStatus) → Watches port.port a.world (Ok status) b.world
+  pub watched_sound : {status : PortStatus} → Watches port.port a.world (Ok status) b.world
       → HostInvariant a → HostInvariant b
-  watched_sound status w i = sound_rests n a b r went w.addresses w.devices (w.rests tt) i
+  watched_sound w i = sound_rests a r went w.addresses w.devices (w.rests tt) i
 
   pub watched_lost : (fault : EnumFault) → Watches port.port a.world (Err fault) b.world
       → FaultAllowedAt port.port fault b.world → HostInvariant a
       → InvariantAfterPort path (Err fault) b
   watched_lost fault w told i =
-      lost_sound path port a b fault s told (rests_known path port a b r s)
-      (rests_agrees path port a b r s)
-      (λ goes. but_of_sound path b (sound_rests n a b r went w.addresses w.devices
-      (w.rests goes) i))
+      lost_sound b fault s told (rests_known r s) (rests_agrees r s)
+      (λ goes. but_of_sound path (sound_rests a r went w.addresses w.devices (w.rests goes) i))
 
-  pub watched_stay : (result : Result PortStatus EnumFault)
+  pub watched_stay : {result : Result PortStatus EnumFault}
       → Watches port.port a.world result b.world → HostInvariant a → AllStay a b
-  watched_stay result w i = stay_rests a b r w.devices
-      (w.addresses.kept (claims a.entries) i.owned).single
+  watched_stay w i = stay_rests a b r w.devices (w.addresses.kept (claims a.entries) i.owned).single
 
-  pub tidied_stay : (result : Result (Unit {0}) EnumFault) → Tidies port.port a.world result b.world
+  pub tidied_stay : {result : Result (Unit {0}) EnumFault} → Tidies port.port a.world result b.world
       → HostInvariant a → AllStay a b
-  tidied_stay result t i = stay_rests a b r t.devices
-      (t.addresses.kept (claims a.entries) i.owned).single
+  tidied_stay t i = stay_rests a b r t.devices (t.addresses.kept (claims a.entries) i.owned).single
 
   -- the port stands where it stood
   pub rests_stands : StandsAt path port b
@@ -157,31 +149,29 @@ module _ (n : ℕ) (path : List ℕ) (port : KnownPort) (a b : HostState) (s : S
     known = ap (λ (h : HostState). known_port path h.entries) r ∙ s.known;
     there = is_port-spends n port.port a.world b.world went.spends s.there;
     askable = s.askable;
-    agrees = rests_agrees path port a b r s;
+    agrees = rests_agrees r s;
   }
 
-  pub cleared_stay : (fault : EnumFault) → ClearsChange port.port a.world (Err fault) b.world
+  pub cleared_stay : {fault : EnumFault} → ClearsChange port.port a.world (Err fault) b.world
       → HostInvariant a → AllStay a b
-  cleared_stay fault x i = stay_rests a b r x.devices
-      (x.bares.kept (claims a.entries) i.owned).single
+  cleared_stay x i = stay_rests a b r x.devices (x.bares.kept (claims a.entries) i.owned).single
 
   -- the clearing failed
   pub cleared_lost : (fault : EnumFault) → ClearsChange port.port a.world (Err fault) b.world
       → FaultAllowedAt port.port fault b.world → HostInvariant a
       → InvariantAfterPort path (Err fault) b
   cleared_lost fault x told i =
-      lost_sound path port a b fault s told (rests_known path port a b r s)
-      (rests_agrees path port a b r s)
-      (λ goes. sound_rests_but n a b r went x.bares path x.devices
-      (λ still. x.others (claims a.entries) path (stands_at-claim path port a s) i.owned goes)
-      (but_of_sound path a i))
+      lost_sound b fault s told (rests_known r s) (rests_agrees r s)
+      (λ goes. sound_rests_but a r went x.bares x.devices
+      (λ still. x.others (claims a.entries) path (stands_at-claim s) i.owned goes)
+      (but_of_sound path i))
 
 -- Cleared, and forgotten
 
-module _ (n : ℕ) (path : List ℕ) (port : KnownPort) (a b c : HostState) (status : PortStatus)
+module _ {n : ℕ} {path : List ℕ} {port : KnownPort} {a b c : HostState} {status : PortStatus}
     (s : StandsAt path port a) (r : OnlyBusSteps a b) (went : HostSteps n a b)
-    (x : ClearsChange port.port a.world (Ok status) b.world)
-    (f : Forgets path b c) (i : HostInvariant a) where
+    (x : ClearsChange port.port a.world (Ok status) b.world) (f : Forgets path b c)
+    (i : HostInvariant a) where
   world_is : c.world ≡ b.world
   world_is = ap (λ (h : HostState). h.world) f.others
 
@@ -189,7 +179,7 @@ module _ (n : ℕ) (path : List ℕ) (port : KnownPort) (a b c : HostState) (sta
   left = f.rest ∙ ap (λ (h : HostState). without path h.entries) r
 
   stays : StaysOwned a c
-  stays = stays_bare path port a b c s r went.spends.roots x.bares f.others f.rest
+  stays = stays_bare path a b c s r went.spends.roots x.bares f.others f.rest
 
   still_before : c.world.fault ≡ None → a.world.fault ≡ None
   still_before still = went_sound n a.world b.world went (ap (λ (w : World). w.fault) (sym world_is)
@@ -197,21 +187,17 @@ module _ (n : ℕ) (path : List ℕ) (port : KnownPort) (a b c : HostState) (sta
 
   forgot_known : c.world.fault ≡ None → KnownBut path c.world c.entries
   forgot_known still =
-      let rests = x.others (claims a.entries) path (stands_at-claim path port a s) i.owned tt in
+      let rests = x.others (claims a.entries) path (stands_at-claim s) i.owned tt in
       let known = known_but_each path a.world b.world a.entries went.spends.roots rests
       (λ y away. i.known (still_before still) y) in
-      subst (λ w. KnownBut path w c.entries) (sym world_is)
-      (subst (KnownBut path b.world) (sym left) (known_dropped path b.world a.entries known))
+      rw world_is (rw left (known_dropped path b.world a.entries known))
 
   forgot_truthful : c.world.fault ≡ None → DevicesAccurate c.world c.entries
   forgot_truthful still =
       let single = ap (λ (w : World). w.shared) (sym world_is) ∙ (stays.stays i.owned).single in
       let told = truthful_but_stays path a.world b.world a.entries
-      (each_still_but path a.world b.world x.devices single)
-      (λ y away. i.truthful (still_before still) y) in
-      subst (λ w. DevicesAccurate w c.entries) (sym world_is)
-      (subst (DevicesAccurate b.world) (sym left)
-      (truthful_dropped path b.world a.entries told))
+      (each_still_but path x.devices single) (λ y away. i.truthful (still_before still) y) in
+      rw world_is (rw left (truthful_dropped path b.world a.entries told))
 
   forgot_level : c.world.fault ≡ None → AllInSync (table_in c) c.world
   forgot_level still =
@@ -220,16 +206,14 @@ module _ (n : ℕ) (path : List ℕ) (port : KnownPort) (a b c : HostState) (sta
       (λ y away. level_rests a b r x.devices single y (i.level (still_before still) y))
 
   forgot_order : c.world.fault ≡ None → IsOrderly c.world
-  forgot_order still = subst IsOrderly (sym world_is)
-      (went_in_order n a.world b.world went i.order (ap (λ (w : World). w.fault) (sym world_is)
-      ∙ still))
+  forgot_order still = rw world_is (went_in_order n a.world b.world went i.order
+      (ap (λ (w : World). w.fault) (sym world_is) ∙ still))
 
   forgot_decides : c.world.fault ≡ None → Decides status.connected c.world path
   forgot_decides still =
       let at_b : b.world.fault ≡ None = ap (λ (w : World). w.fault) (sym world_is) ∙ still in
-      subst (λ w. Decides status.connected w path) (sym world_is)
-      (x.decides (claims a.entries) path (stands_at-claim path port a s) i.owned
-      (stands_way path port a s (i.known (still_before still))) i.order at_b)
+      rw world_is (x.decides (claims a.entries) path (stands_at-claim s) i.owned
+      (stands_way a s (i.known (still_before still))) i.order at_b)
 
   -- no bulk pipe but those of what is forgotten has changed
   pub forgot_stay : AllStay a c
@@ -244,7 +228,7 @@ module _ (n : ℕ) (path : List ℕ) (port : KnownPort) (a b c : HostState) (sta
       record {
         owned = owned;
         but = record {
-          owned = but_all path (claims c.entries) c.world owned;
+          owned = but_all owned;
           rooted = stays.rooted i.rooted;
           order = forgot_order;
           known = forgot_known;
@@ -260,7 +244,7 @@ module _ (n : ℕ) (path : List ℕ) (port : KnownPort) (a b c : HostState) (sta
     rooted = stays.rooted i.rooted;
     order = forgot_order;
     known = λ still. known_vacant path c.world c.entries s.is.0 f.gone (forgot_known still)
-        (subst (λ b. Decides b c.world path) off (forgot_decides still));
+        (rw off at (forgot_decides still));
     truthful = forgot_truthful;
     level = forgot_level;
   }

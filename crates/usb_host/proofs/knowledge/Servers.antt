@@ -2,7 +2,6 @@
 use Rattle.std.proofs.Common.{◌≡◌, ◌⊎◌, inl, inr, ◌≤◌, ◌&&◌, ◌||◌, not, arith, if◌then◌else◌, ℕ}
 use Rattle.std.proofs.Common.{zero, suc, Bool, true, false, List, [], ◌∷◌, length, Option, None}
 use Rattle.std.proofs.Common.{Some, refl, ap, sym, subst, ◌∙◌, length-append}
-use Rattle.std.specs.Prelude.{IsSomeAnd, slice_index_or}
 use Rattle.std.proofs.lemmas.Bool.{eq-eqb, lt-ltb}
 use Rattle.usb_port.specs.{parent_of, port_on_hub}
 use Rattle.usb_port.proofs.Interface.{rejoined}
@@ -17,7 +16,7 @@ use Rattle.usb_hub.specs.{External}
 use Rattle.usb_enum.specs.{Accepted, HubFacts, facts_of, is_hub_device, target_of, configuration_of}
 use Rattle.usb_enum.specs.{HasServer, ServesAt, IsKnownAs}
 use Rattle.usb_enum.specs.declared.finding.Finding.TheVariants.{Device}
-use Rattle.usb_table.specs.{KnownPort, Entries, accepted_device_of, address_in, IsAskable}
+use Rattle.usb_table.specs.{KnownPort, Entries, accepted_device_of, address_in}
 use Rattle.usb_table.specs.{root_port, port_below, is_below_hub, finding_at, tier_of}
 use Rattle.usb_table.proofs.Interface.{FoundPort, port_found-some}
 use Rattle.usb_host.specs.{HostState, StandsAt, IsAccurateAt, known_supply, IsSoundBut}
@@ -28,15 +27,16 @@ use Rattle.usb_host.proofs.knowledge.SettledListings.{reached_there}
 
 -- A hub that is accepted hears its target
 
-pub server_hears : (low own deep pre : Bool) → low ≡ own → (low ≡ true → deep ≡ true → pre ≡ true)
+pub server_hears : (low : Bool) {own : Bool} (deep pre : Bool) → low ≡ own
+    → (low ≡ true → deep ≡ true → pre ≡ true)
     → (if low then own && (not deep || pre) else not own) ≡ true
-server_hears true own deep pre e f = subst (λ x. (x && (not deep || pre)) ≡ true) e
+server_hears true deep pre e f = subst (λ x. (x && (not deep || pre)) ≡ true) e
     (by_deep deep (f refl))
   where
     by_deep : (d : Bool) → (d ≡ true → pre ≡ true) → (true && (not d || pre)) ≡ true
     by_deep true g = g refl
     by_deep false g = refl
-server_hears false own deep pre e f = subst (λ x. not x ≡ true) e refl
+server_hears false deep pre e f = subst (λ x. not x ≡ true) e refl
 
 pub is_below_hub-deep : (j : ℕ) (p : List ℕ) → deep_at false p ≡ true
     → is_below_hub (suc j ∷ p) ≡ true
@@ -49,8 +49,8 @@ facts_port spec facts n e least most = pick (is_hub_device spec.descriptor) e
   where
     by_hub : (o : Option Hub) → spec.hub ≡ o → facts.ports ≡ hub_ports o → (hub : Hub)
         × (spec.hub ≡ Some hub) × (n ≤ hub.ports)
-    by_hub None is ports = absurd (omega (arith, least, most, ports))
-    by_hub (Some hub) is ports = (hub, is, omega (arith, most, ports))
+    by_hub None is ports = absurd (omega arith)
+    by_hub (Some hub) is ports = (hub, is, omega arith)
 
     pick : (b : Bool) → (if b then Some (record {
       ports = hub_ports spec.hub;
@@ -63,7 +63,7 @@ facts_port spec facts n e least most = pick (is_hub_device spec.descriptor) e
         by_hub spec.hub refl (ap (λ (f : HubFacts). f.ports) (sym same))
     pick false h = absurd (cc h)
 
-module _ (w : World) (entries : Entries) (device : Accepted) (facts : HubFacts) (n : ℕ)
+module _ {w : World} (entries : Entries) (device : Accepted) {facts : HubFacts} (n : ℕ)
     (told : device.hub ≡ Some facts) (least : 1 ≤ n) (most : n ≤ facts.ports)
     (address : IsAddress device.address) (between : WorldInvariant w) where
   hub_serves : (hub : List ℕ) → finding_at hub entries ≡ Some (Device device)
@@ -76,14 +76,12 @@ module _ (w : World) (entries : Entries) (device : Accepted) (facts : HubFacts) 
       let s : _ = reached_there w.roots (suc j ∷ p) on in
       let t = knows device s.0 (ap accepted_device_of at) on s.1 in
       let port : _ = facts_port s.0.spec facts n (sym t.found.1.hub ∙ told) least most in
-      let tier = tier_of (suc j ∷ p) in
       let supply = known_supply (suc j ∷ p) entries in
       let is : AcceptsChosen s.0.spec supply device.chosen =
-      accepts s.0.spec tier supply device.chosen t.found.0 in
+      accepts s.0.spec (tier_of (suc j ∷ p)) supply device.chosen t.found.0 in
       let value : 1 ≤ configuration_value (configuration_of device) =
-      subst (λ (texts : List (List ℕ)). 1 ≤ configuration_value
-      (slice_index_or texts device.chosen [])) (sym t.found.1.configs)
-      (chosen_some s.0.spec device.chosen (has_chosen s.0.spec supply device.chosen is)) in
+      rw t.found.1.configs (chosen_some s.0.spec device.chosen
+      (has_chosen s.0.spec supply device.chosen is)) in
       record {
         serves = record {
           spot = record { row = j; rest = p };
@@ -93,13 +91,13 @@ module _ (w : World) (entries : Entries) (device : Accepted) (facts : HubFacts) 
           listens = record {
             at = eq-eqb (address_of s.0) device.address t.set.address;
             loud = is.loud;
-            hears = server_hears device.low s.0.spec.low (deep_at false p)
+            hears = server_hears device.low (deep_at false p)
                 (device.low && is_below_hub (suc j ∷ p)) t.found.1.low
                 (λ low deep. and_of device.low (is_below_hub (suc j ∷ p)) low
                 (is_below_hub-deep j p deep));
           };
-          addressed = λ e. absurd (omega (arith, e, address.0));
-          configured = λ e. absurd (omega (arith, e, value, t.set.configuration));
+          addressed = λ e. absurd (omega (arith, address.0));
+          configured = λ e. absurd (omega (arith, t.set.configuration));
           has = record {
             hub = port.0;
             is = port.1;
@@ -115,16 +113,14 @@ module _ (w : World) (entries : Entries) (device : Accepted) (facts : HubFacts) 
 
 -- The port's hub
 
-module _ (path : List ℕ) (port : KnownPort) (h : HostState) (s : StandsAt path port h)
+module _ {path : List ℕ} {port : KnownPort} (h : HostState) (s : StandsAt path port h)
     (i : IsSoundBut path h) (still : h.world.fault ≡ None) where
-  server_of : (hub : List ℕ) (device : Accepted) (facts : HubFacts) → parent_of path ≡ Some hub
+  server_of : (hub : List ℕ) (device : Accepted) {facts : HubFacts} → parent_of path ≡ Some hub
       → finding_at hub h.entries ≡ Some (Device device) → device.hub ≡ Some facts
       → port_on_hub path ≤ facts.ports → 8 ≤ (target_of device (is_below_hub hub)).max
       → HasServer (External (target_of device (is_below_hub hub)) (port_on_hub path)) path h.world
-  server_of hub device facts above at told most wide =
-      subst (λ o. IsSomeAnd o (λ q. (pending h.world.roots q ≡ true)
-      ⊎ ServesAt (target_of device (is_below_hub hub)) (port_on_hub path) q h.world))
-      (sym above) (pick known)
+  server_of hub device above at told most wide =
+      rw above (pick known)
     where
       away : is_way path hub ≡ false
       away = way_shorter path hub (omega (
@@ -133,31 +129,28 @@ module _ (path : List ℕ) (port : KnownPort) (h : HostState) (s : StandsAt path
       ))
 
       known : IsKnownAs h.world hub (Some (Device device))
-      known = subst (IsKnownAs h.world hub) at
-          (i.known still hub away (listed_port h.world h.entries h.addresses
+      known = subst (IsKnownAs h.world hub) at (i.known still hub away (listed_port h.world
           (accounted h s.agrees i.rooted) hub (Device device) at))
 
       address : IsAddress device.address
-      address = listed_address h.world h.entries h.addresses (accounted h s.agrees i.rooted) hub
-          device.address (ap address_in at)
+      address = listed_address h.world (accounted h s.agrees i.rooted) hub device.address
+          (ap address_in at)
 
       pick : IsKnownAs h.world hub (Some (Device device)) → (pending h.world.roots hub ≡ true)
           ⊎ ServesAt (target_of device (is_below_hub hub)) (port_on_hub path) hub h.world
       pick (inl x) = inl x
-      pick (inr x) = inr (hub_serves h.world h.entries device facts (port_on_hub path) told
+      pick (inr x) = inr (hub_serves h.entries device (port_on_hub path) told
           (port_number path s.is).0 most address (i.order still) hub at x.1
           (i.truthful still hub away) wide)
 
   by_parent : (o : Option (List ℕ)) → parent_of path ≡ o → port_below o (port_on_hub path) h.entries
       ≡ Some port → HasServer port.port path h.world
   by_parent None above e = let same : root_port (port_on_hub path) ≡ port = cc e in
-      subst (λ (p : KnownPort). HasServer p.port path h.world) same tt
+      rw (← same) tt
   by_parent (Some hub) above e =
       let x : FoundPort (finding_at hub h.entries) (is_below_hub hub) (port_on_hub path) port =
       port_found-some (finding_at hub h.entries) (is_below_hub hub) (port_on_hub path) port e in
-      subst (λ (p : KnownPort). HasServer p.port path h.world) (sym x.is)
-      (server_of hub x.device x.facts above x.stands x.told x.most
-      (subst (λ (p : KnownPort). IsAskable p.port) x.is s.askable).wide)
+      rw x.is (server_of hub x.device above x.stands x.told x.most (rw x.is at s.askable).wide)
 
   pub hub_server : HasServer port.port path h.world
   hub_server = by_parent (parent_of path) refl s.known

@@ -2,7 +2,7 @@
 use Rattle.std.proofs.Common.{◌≡◌, ◌⊎◌, inl, inr, ◌≤◌, ◌-◌, ℕ, zero, suc, Bool, true, false, List}
 use Rattle.std.proofs.Common.{[], ◌∷◌, length, Option, None, Some, option_map, if◌then◌else◌, refl}
 use Rattle.std.proofs.Common.{ap, sym, subst, ◌∙◌, arith}
-use Rattle.std.specs.Prelude.{⊤, IsSome, IsSomeAnd, unwrap_or, nat_le}
+use Rattle.std.specs.Prelude.{⊤, IsSome, IsSomeAnd, unwrap_or}
 use Rattle.std.proofs.lemmas.Bool.{le-leb}
 use Rattle.std.proofs.lemmas.List.Elements.{All-get_or}
 use Rattle.usb_port.specs.{parent_of, port_on_hub, IsPath, IsPortNumber}
@@ -49,8 +49,7 @@ reached_there k (suc i ∷ p) h = reached_at k i p h
 
 pub port_number : (path : List ℕ) → IsPath path → IsPortNumber (port_on_hub path)
 unfolding port_on_hub
-port_number path is = let some = is.0 in
-    All-get_or IsPortNumber path (length path - 1) 0 (omega (arith, some)) is.2
+port_number path is = All-get_or IsPortNumber path (length path - 1) 0 (omega (arith, is.0)) is.2
 
 port_found-facts : (o : Option Finding) (below : Bool) (n : ℕ) → 1 ≤ n
     → IsSome (port_found o below n) → IsSomeAnd (hub_facts_in o) (λ facts. (1 ≤ n)
@@ -62,8 +61,7 @@ port_found-facts o below n least h = pick (port_found o below n) refl h
     pick None e h = absurd cc
     pick (Some port) e h =
         let x : FoundPort o below n port = port_found-some o below n port e in
-        subst (λ f. IsSomeAnd f (λ facts. (1 ≤ n) × (n ≤ facts.ports)))
-        (sym (ap hub_facts_in x.stands ∙ x.told)) (least, x.most)
+        rw (ap hub_facts_in x.stands ∙ x.told) (least, x.most)
 
 pub port_below_hub : (roots : ℕ) (entries : Entries) (n : ℕ) (o : Option (List ℕ)) → 1 ≤ n
     → (o ≡ None → n ≤ roots) → IsSome (port_below o n entries) → IsPortBelow roots entries o n
@@ -71,7 +69,7 @@ port_below_hub roots entries n None least most h = (least, most refl)
 port_below_hub roots entries n (Some hub) least most h =
     port_found-facts (finding_at hub entries) (is_below_hub hub) n least h
 
-module _ (w : World) (entries : Entries) (addresses : Addresses)
+module _ (w : World) {entries : Entries} {addresses : Addresses}
     (accounted : Accounted (roots_of w) entries addresses) where
   pub listed_port : (path : List ℕ) (f : Finding) → finding_at path entries ≡ Some f
       → IsListedPort (roots_of w) entries path
@@ -80,15 +78,15 @@ module _ (w : World) (entries : Entries) (addresses : Addresses)
       let is = accounted.agrees.nested.path path f at in
       record {
         some = is.0;
-        port = port_below_hub (roots_of w) entries (port_on_hub path)
-            (parent_of path) (port_number path is).0 (accounted.root path some)
+        port = port_below_hub (roots_of w) entries (port_on_hub path) (parent_of path)
+            (port_number path is).0 (accounted.root path some)
             (accounted.agrees.nested.each path f at);
       }
 
   pub listed_address : (path : List ℕ) (address : ℕ) → entry_address path entries ≡ Some address
       → IsAddress address
   listed_address path address at = accounted.agrees.range address
-      (claims_taken entries addresses accounted.agrees.accounts path address at)
+      (claims_taken accounted.agrees.accounts path address at)
 
   listed_once : (path other : List ℕ) (address : ℕ) → entry_address path entries ≡ Some address
       → entry_address other entries ≡ Some address → path ≡ other
@@ -109,20 +107,18 @@ there : (w : World) (path : List ℕ) (o : Option Finding) → pending w.roots p
 there w path o none (inl pends) = false_true (sym none ∙ pends)
 there w path o none (inr h) = h.1
 
-tree_in-spec : (w : World) (path : List ℕ) (s : State) → state_there w.roots path ≡ Some s
+tree_in-spec : (w : World) (path : List ℕ) {s : State} → state_there w.roots path ≡ Some s
     → tree_in w path ≡ Some s.spec
-tree_in-spec w path s h = ap (option_map spec_of) h
+tree_in-spec w path h = ap (option_map spec_of) h
 
 -- What a hub's ports give
 
 supply_of_hub : (device : Accepted) (below : Bool) (n : ℕ) (o : Option HubFacts)
-    → IsSomeAnd o (λ facts. (1 ≤ n) × (n ≤ facts.ports))
-    → (facts : HubFacts) × (o ≡ Some facts)
-    × (unwrap_or (option_map (λ (known : KnownPort). known.supply)
-    (port_of_hub device o below n)) 0 ≡ facts.supply)
+    → IsSomeAnd o (λ facts. (1 ≤ n) × (n ≤ facts.ports)) → (facts : HubFacts) × (o ≡ Some facts)
+    × (unwrap_or (option_map (λ (known : KnownPort). known.supply) (port_of_hub device o below n)) 0
+    ≡ facts.supply)
 supply_of_hub device below n None h = absurd h
-supply_of_hub device below n (Some facts) h = let fits : nat_le n facts.ports ≡ true =
-    le-leb n facts.ports h.1 in (facts, refl, rw fits refl)
+supply_of_hub device below n (Some facts) h = (facts, refl, rw (le-leb n facts.ports h.1) refl)
 
 -- the accepted hub of a finding that has the port
 record IsHubAt (o : Option Finding) (below : Bool) (n : ℕ) : Type 0 where
@@ -153,24 +149,23 @@ facts_supply spec facts h = pick (is_hub_device spec.descriptor) h
 
 -- The listing
 
-right_moved : (full : Type 0) (a b : Spec) (tier m n : ℕ) (f : Finding) → a ≡ b → m ≡ n
-    → IsRight full a tier m f → IsRight full b tier n f
-right_moved full a b tier m n f e g x =
-    subst (λ n. IsRight full b tier n f) g (subst (λ s. IsRight full s tier m f) e x)
+right_moved : (full : Type 0) {a : Spec} (b : Spec) (tier : ℕ) {m n : ℕ} (f : Finding) → a ≡ b
+    → m ≡ n → IsRight full a tier m f → IsRight full b tier n f
+right_moved full b tier {n = n} f e g x = rw (← g) (rw e at x)
 
 module _ (w : World) (entries : Entries) (addresses : Addresses)
-    (accounted : Accounted (roots_of w) entries addresses)
-    (known : PortsListed w entries) (truthful : DevicesAccurate w entries)
-    (causes : RefusalsJustified w entries) (rest : IsAtRest w entries) where
-  there_at : (path : List ℕ) → IsListedPort (roots_of w) entries path
+    (accounted : Accounted (roots_of w) entries addresses) (known : PortsListed w entries)
+    (truthful : DevicesAccurate w entries) (causes : RefusalsJustified w entries)
+    (rest : IsAtRest w entries) where
+  there_at : {path : List ℕ} → IsListedPort (roots_of w) entries path
       → IsThere w path (finding_at path entries)
-  there_at path port = there w path (finding_at path entries) (rest.none_pending path port)
+  there_at {path = path} port = there w path (finding_at path entries) (rest.none_pending path port)
       (known path port)
 
   reached : (path : List ℕ) (device : Accepted) → finding_at path entries ≡ Some (Device device)
       → reach w.roots path ≡ true
   reached path device at = subst (IsThere w path) at
-      (there_at path (listed_port w entries addresses accounted path (Device device) at))
+      (there_at (listed_port w accounted path (Device device) at))
 
   -- an accepted device stands, and what is known of it is so
   told : (path : List ℕ) (device : Accepted) → finding_at path entries ≡ Some (Device device)
@@ -190,11 +185,7 @@ module _ (w : World) (entries : Entries) (addresses : Addresses)
       let given = facts_supply t.0.spec x.facts (sym t.2.found.1.hub ∙ x.told) in
       x.gives ∙ given ∙ sym (ap (λ o. supply_of false
       (unwrap_or (option_map (λ (spec : Spec). spec.self_powered) o) false))
-      (tree_in-spec w hub t.0 t.1))
-
-  same_supply : (path : List ℕ) → IsListedPort (roots_of w) entries path
-      → known_supply path entries ≡ supply_at (tree_in w) path
-  same_supply path port = supply_known (parent_of path) (port_on_hub path) port.port
+      (tree_in-spec w hub t.1))
 
   -- a refused device's cause, where it does not wait for an address that is free
   right_cause : (path : List ℕ) (cause : Cause) (s : State)
@@ -207,8 +198,7 @@ module _ (w : World) (entries : Entries) (addresses : Addresses)
           ⊎ IsRight ⊤ s.spec (tier_of path) (known_supply path entries) (Refused cause)
           → IsRight (ListsEach entries) s.spec (tier_of path) (known_supply path entries)
           (Refused cause)
-      pick (inl pends) = false_true
-          (sym (rest.none_pending path (listed_port w entries addresses accounted path
+      pick (inl pends) = false_true (sym (rest.none_pending path (listed_port w accounted path
           (Refused cause) at)) ∙ pends)
       pick (inr (inl x)) = inl x
       pick (inr (inr x)) = inr (record {
@@ -227,21 +217,21 @@ module _ (w : World) (entries : Entries) (addresses : Addresses)
           → IsRight (ListsEach entries) s.spec (tier_of path) (known_supply path entries) f
           → IsRight (ListsEach entries) spec (tier_of path) (supply_at (tree_in w) path) f
       moved s f stands right =
-          let same : s.spec ≡ spec = cc (tree_in-spec w path s stands, is) in
-          right_moved (ListsEach entries) s.spec spec (tier_of path) (known_supply path entries)
-          (supply_at (tree_in w) path) f same (same_supply path port) right
+          let same : s.spec ≡ spec = cc (tree_in-spec w path stands, is) in
+          right_moved (ListsEach entries) spec (tier_of path)
+          f same (supply_known (parent_of path) (port_on_hub path) port.port) right
 
       pick : (o : Option Finding) → finding_at path entries ≡ o
           → IsSomeAnd o (IsRight (ListsEach entries) spec (tier_of path)
           (supply_at (tree_in w) path))
       pick None at =
           let none : state_there w.roots path ≡ None =
-          subst (IsThere w path) at (there_at path port) in
+          subst (IsThere w path) at (there_at port) in
           absurd (cc (ap (option_map spec_of) none, is))
       pick (Some (Device device)) at = let t : _ = told path device at in
           moved t.0 (Device device) t.1 (inl t.2.found)
       pick (Some (Refused cause)) at = stood (state_there w.roots path) refl
-          (subst (IsThere w path) at (there_at path port)).0
+          (subst (IsThere w path) at (there_at port)).0
         where
           stood : (o : Option State) → state_there w.roots path ≡ o → IsSome o
               → IsRight (ListsEach entries) spec (tier_of path) (supply_at (tree_in w) path)
@@ -251,10 +241,10 @@ module _ (w : World) (entries : Entries) (addresses : Addresses)
 
   plugged_there : (path : List ℕ) (f : Finding) → finding_at path entries ≡ Some f
       → IsSome (tree_in w path)
-  plugged_there path (Device device) at = let t : _ = told path device at in rw t.1 refl
+  plugged_there path (Device device) at = rw (told path device at).1 refl
   plugged_there path (Refused cause) at =
       stood (state_there w.roots path) (subst (IsThere w path) at
-      (there_at path (listed_port w entries addresses accounted path (Refused cause) at))).0
+      (there_at (listed_port w accounted path (Refused cause) at))).0
     where
       stood : (o : Option State) → IsSome o → IsSome (option_map spec_of o)
       stood None h = h
@@ -267,17 +257,16 @@ module _ (w : World) (entries : Entries) (addresses : Addresses)
           rises = accounted.agrees.rises;
           there = right_there;
           nothing_else = λ path f at. (
-            listed_port w entries addresses accounted path f at,
+            listed_port w accounted path f at,
             plugged_there path f at,
           );
-          addresses = listed_address w entries addresses accounted;
-          differ = listed_once w entries addresses accounted;
+          addresses = listed_address w accounted;
+          differ = listed_once w accounted;
         };
         reached = λ path device at. reached path device
             (device_is (finding_at path entries) device at);
         set = λ path device at. let t : _ =
             told path device (device_is (finding_at path entries) device at) in rw t.1 t.2.set;
         disabled = λ path cause at. (subst (IsThere w path) at
-            (there_at path (listed_port w entries addresses accounted path (Refused cause)
-            at))).1;
+            (there_at (listed_port w accounted path (Refused cause) at))).1;
       }

@@ -10,20 +10,21 @@ use Rattle.usb_tree.specs.{pending, is_way}
 use Rattle.usb_world.proofs.Interface.{course_wider, first_fault, way_itself}
 use Rattle.usb_tree.proofs.Interface.{false_true}
 use Rattle.usb_transaction.specs.{NoThreeDamaged}
+use Rattle.usb_backlog.proofs.Interface.{all_none}
 use Rattle.usb_address.specs.{KeepsAddresses}
 use Rattle.usb_enum.specs.{Finding, IsKnownAs, IsOccupied, IsInOrder}
 use Rattle.usb_enum.proofs.Interface.{orderly_on, step_later, went_in_order, went_sound}
 use Rattle.usb_table.specs.{Entries, finding_at, AllInSync, IsHeld, KeepsInSync, Table}
 use Rattle.usb_table.proofs.Interface.{all_kept, path_tied}
-use Rattle.usb_host.specs.{HostFault, Round, Agrees, KeepsBulk, HostState, KeepsPlugs, claims}
+use Rattle.usb_host.specs.{HostFault, Round, Agrees, KeepsBulk, HostState, KeepsPlugs}
 use Rattle.usb_host.specs.{StaysOwned, table_in, HostSteps, HostRuns, PortsListed, DevicesAccurate}
 use Rattle.usb_host.specs.{Accounted, RefusalsJustified, HostInvariant, IsSoundBut, IsFairTo}
 use Rattle.usb_host.specs.{KeepsInvariant, PartStays, PartKeepsInvariant, IsDroppable, DropsSound}
-use Rattle.usb_host.specs.{RoundsSound}
+use Rattle.usb_host.specs.{RoundsSound, TransferKeeps}
 use Rattle.usb_host.proofs.devices.BulkPipes.{bulk_none, bulk_stopped, bulk_then}
 use Rattle.usb_host.proofs.parts.Events.{known_event, truthful_event, causes_event, level_event}
 use Rattle.usb_host.proofs.devices.Fairness.{fair_before, fair_after}
-use Rattle.usb_host.proofs.devices.Owners.{but_all, stays_kept}
+use Rattle.usb_host.proofs.devices.Owners.{but_all, owning_kept, stays_kept}
 use Rattle.usb_host.proofs.devices.Plugs.{plugs_none, plugs_stopped, plugs_then}
 use Rattle.usb_host.proofs.entries.Roots.{accounted}
 use Rattle.usb_host.proofs.knowledge.SettledListings.{listed_port}
@@ -35,15 +36,10 @@ use Rattle.usb_host.proofs.knowledge.RestedWorlds.{occupied_by}
 pub sound_none : (h : HostState) → KeepsInvariant h h
 sound_none h = record { sound = λ s. s; caused = λ s fair caused. caused }
 
-pub sound_then : (m n : ℕ) (a b c : HostState) → HostSteps m a b → HostSteps n b c
-    → KeepsInvariant a b → KeepsInvariant b c → KeepsInvariant a c
-sound_then m n a b c first second x y = record {
-  sound = λ s. y.sound (x.sound s);
-  caused = λ s fair caused.
-      let before = fair_before n a.world b.world c.world second fair in
-      y.caused (x.sound s) (fair_after m a.world b.world c.world first fair)
-      (x.caused s before caused);
-}
+-- a transfer that did nothing
+pub transfer_none : (h : HostState) → TransferKeeps h h
+transfer_none h =
+    record { owning = λ o. o; sound = sound_none h; backlog = λ still. all_none h.world }
 
 pub part_none : (h : HostState) → PartStays h h
 part_none h = record {
@@ -52,10 +48,15 @@ part_none h = record {
   plugs = λ s still. plugs_none h;
 }
 
-pub part_then : (m n : ℕ) (a b c : HostState) → HostSteps m a b → HostSteps n b c → PartStays a b
-    → PartStays b c → PartStays a c
-part_then m n a b c first second x y = record {
-  sound = sound_then m n a b c first second x.sound y.sound;
+pub part_then : (m : ℕ) {n : ℕ} (a b c : HostState) → HostSteps m a b → HostSteps n b c
+    → PartStays a b → PartStays b c → PartStays a c
+part_then m {n = n} a b c first second x y = record {
+  sound = record {
+    sound = λ s. y.sound.sound (x.sound.sound s);
+    caused = λ s fair caused.
+        y.sound.caused (x.sound.sound s) (fair_after first fair)
+        (x.sound.caused s (fair_before second fair) caused);
+  };
   bulk = λ s still. bulk_then m n a b c first second still
       (x.bulk s (went_sound n b.world c.world second still)) (y.bulk (x.sound.sound s) still);
   plugs = λ s still. plugs_then m n a b c first second still
@@ -70,7 +71,7 @@ occupied_at : (path : List ℕ) (h : HostState) → Accounted (roots_of h.world)
 occupied_at path h fits known None at some = absurd (cc some)
 occupied_at path h fits known (Some f) at some =
     occupied_by h.world path f (subst (IsKnownAs h.world path) at
-    (known path (listed_port h.world h.entries h.addresses fits path f at)))
+    (known path (listed_port h.world fits path f at)))
 
 is_way-apart : (path other : List ℕ) → is_way path other ≡ false
     → is_at (path_cmp path) other ≡ false
@@ -96,23 +97,20 @@ module _ (n : ℕ) (path : List ℕ) (ends : Type 0) (a b : HostState)
   held s still = s.owned.so (before still)
 
   pub known_kept : HostInvariant a → b.world.fault ≡ None → PortsListed b.world b.entries
-  known_kept s still = subst (PortsListed b.world) (sym same)
-      (known_each a.world b.world a.entries went.spends.roots
+  known_kept s still = rw same (known_each a.world b.world a.entries went.spends.roots
       (λ path port. k.worlds.rests still path) (s.known (before still)))
 
   pub truthful_kept : HostInvariant a → b.world.fault ≡ None → DevicesAccurate b.world b.entries
-  truthful_kept s still = subst (DevicesAccurate b.world) (sym same)
-      (truthful_stays a.world b.world a.entries (k.worlds.devices.same (owned.stays s.owned).single)
-      (s.truthful (before still)))
+  truthful_kept s still = rw same (truthful_stays a.world b.world a.entries
+      (k.worlds.devices.same (owned.stays s.owned).single) (s.truthful (before still)))
 
   -- each cause stays so, wherever it ends
   pub caused_kept : HostInvariant a → IsFairTo a.world b.world → RefusalsJustified a.world a.entries
       → RefusalsJustified b.world b.entries
   caused_kept s fair causes =
-      subst (RefusalsJustified b.world) (sym same)
-      (causes_stay a.world b.world a.entries a.addresses (accounted a agrees s.rooted)
-      (s.known (before fair.still)) (λ path port. course_wider (λ s u x. x.spares)
-      (k.worlds.rests fair.still path)) causes)
+      rw same (causes_stay a.world b.world (accounted a agrees s.rooted)
+      (s.known (before fair.still))
+      (λ path port. course_wider (λ s u x. x.spares) (k.worlds.rests fair.still path)) causes)
 
   -- where it ends well
   pub sound_kept : (b.world.fault ≡ None → ends) → KeepsInvariant a b
@@ -129,10 +127,17 @@ module _ (n : ℕ) (path : List ℕ) (ends : Type 0) (a b : HostState)
     caused = caused_kept;
   }
 
+  pub transfer_kept : a.stopped ≡ false → (b.world.fault ≡ None → ends) → TransferKeeps a b
+  transfer_kept going well = record {
+    owning = owning_kept a b going same k.worlds.addresses;
+    sound = sound_kept well;
+    backlog = k.worlds.backlog;
+  }
+
   -- where it does not, the device at the path may be dropped
   pub but_kept : HostInvariant a → IsSoundBut path b
   but_kept s = record {
-    owned = but_all path (claims b.entries) b.world (owned.stays s.owned);
+    owned = but_all (owned.stays s.owned);
     rooted = owned.rooted s.rooted;
     order = went_in_order n a.world b.world went s.order;
     known = λ still other away. known_kept s still other;
@@ -150,27 +155,26 @@ module _ (n : ℕ) (path : List ℕ) (ends : Type 0) (a b : HostState)
 -- A hub is dropped
 
 -- where a change was pending at it, as it did not answer
-pub sound_dropped : (result : Result (Unit {0}) HostFault) (hub : List ℕ) (m n : ℕ)
+pub sound_dropped : (result : Result (Unit {0}) HostFault) {hub : List ℕ} (m : ℕ) {n : ℕ}
     (a b c : HostState) → HostRuns m a b → HostRuns n b c → (HostInvariant a → IsDroppable hub b)
     → (HostInvariant a → IsFairTo a.world b.world → RefusalsJustified a.world a.entries
     → RefusalsJustified b.world b.entries)
     → (HostInvariant a → b.world.fault ≡ None → KeepsBulk a b) → KeepsPlugs a b
-    → DropsSound hub b result c → (HostInvariant a → b.world.fault ≡ None
-    → NoThreeDamaged a.world → pending b.world.roots hub ≡ true)
-    → PartKeepsInvariant a result c
-sound_dropped (Ok done) hub m n a b c p q drops causes bulk plugs d pends = record {
+    → DropsSound hub b result c → (HostInvariant a → b.world.fault ≡ None → NoThreeDamaged a.world
+    → pending b.world.roots hub ≡ true) → PartKeepsInvariant a result c
+sound_dropped (Ok done) m {n = n} a b c p q drops causes bulk plugs d pends = record {
   sound = record {
     sound = λ s. d.sound (drops s);
     caused = λ s fair caused.
-        let before : IsFairTo a.world b.world = fair_before n a.world b.world c.world q.went fair in
-        d.caused (drops s) (fair_after m a.world b.world c.world p.went fair)
-        (pends s before.still fair.few) (λ path away. causes s before caused path);
+        let before : IsFairTo a.world b.world = fair_before q.went fair in
+        d.caused (drops s) (fair_after p.went fair) (pends s before.still fair.few)
+        (λ path away. causes s before caused path);
   };
   bulk = λ s still. bulk_then m n a b c p.went q.went still
       (bulk s (went_sound n b.world c.world q.went still)) (d.bulk (drops s) still);
   plugs = λ s still. plugs_then m n a b c p.went q.went still plugs d.plugs;
 }
-sound_dropped (Err fault) hub m n a b c p q drops causes bulk plugs d pends = tt
+sound_dropped (Err fault) m a b c p q drops causes bulk plugs d pends = tt
 
 -- An event comes
 
@@ -194,8 +198,8 @@ sound_event a b agrees same pipes is k = record { sound = sound; caused = caused
     owned = stays_kept a b same roots k
 
     table : table_in b ≡ table_in a
-    table = ap (λ (es : Entries). record { entries = es; pipes = b.pipes }) same
-        ∙ ap (λ ps. record { entries = a.entries; pipes = ps }) pipes
+    table = ap (λ (es : Entries). record { entries = es; pipes = b.pipes }) same ∙ ap
+        (λ ps. record { entries = a.entries; pipes = ps }) pipes
 
     before : b.world.fault ≡ None → a.world.fault ≡ None
     before still = event_sound a.world (ap (λ (w : World). w.fault) (sym is) ∙ still)
@@ -208,25 +212,20 @@ sound_event a b agrees same pipes is k = record { sound = sound; caused = caused
     sound s = record {
       owned = owned.stays s.owned;
       rooted = owned.rooted s.rooted;
-      order = subst IsInOrder (sym is) (ordered s.order);
+      order = rw is (ordered s.order);
       known = λ still. subst (PortsListed b.world) (sym same)
-          (subst (λ (w : World). PortsListed w a.entries) (sym is)
-          (known_event a.world a.entries (s.known (before still))));
+          (rw is (known_event a.world a.entries (s.known (before still))));
       truthful = λ still. subst (DevicesAccurate b.world) (sym same)
-          (subst (λ (w : World). DevicesAccurate w a.entries) (sym is)
-          (truthful_event a.world a.entries (s.truthful (before still))));
+          (rw is (truthful_event a.world a.entries (s.truthful (before still))));
       level = λ still.
           subst (λ (t : Table). AllInSync t b.world) (sym table)
-          (subst (AllInSync (table_in a)) (sym is)
-          (level_event (table_in a) a.world (s.level (before still))));
+          (rw is (level_event (table_in a) a.world (s.level (before still))));
     }
 
     caused : HostInvariant a → IsFairTo a.world b.world → RefusalsJustified a.world a.entries
         → RefusalsJustified b.world b.entries
     caused s fair causes =
-        subst (RefusalsJustified b.world) (sym same)
-        (subst (λ (w : World). RefusalsJustified w a.entries) (sym is)
-        (causes_event a.world a.entries a.addresses (accounted a agrees s.rooted)
+        rw same (rw is (causes_event a.world (accounted a agrees s.rooted)
         (s.known (before fair.still)) causes))
 
 -- A whole round: only the host's own stop is new after its parts
@@ -242,19 +241,15 @@ sound_stopped b stopped s = record {
   level = s.level;
 }
 
-stays_stopped : (a b : HostState) (stopped : Bool) → KeepsInvariant a b
-    → KeepsInvariant a (record b { stopped = stopped })
-stays_stopped a b stopped x = record {
-  sound = λ s. sound_stopped b stopped (x.sound s);
-  caused = x.caused;
-}
-
 pub rounds_stopped : (result : Result Round HostFault) (a b : HostState) (stopped : Bool)
     → RoundsSound a result b → RoundsSound a result (record b { stopped = stopped })
 rounds_stopped (Ok round) a b stopped x =
     record {
       keeps = record {
-        sound = stays_stopped a b stopped x.keeps.sound;
+        sound = record {
+          sound = λ s. sound_stopped b stopped (x.keeps.sound.sound s);
+          caused = x.keeps.sound.caused;
+        };
         bulk = λ s still. bulk_stopped a b stopped (x.keeps.bulk s still);
         plugs = λ s still. plugs_stopped a b stopped (x.keeps.plugs s still);
       };

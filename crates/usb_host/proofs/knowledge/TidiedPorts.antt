@@ -3,11 +3,11 @@
 use Rattle.std.proofs.Common.{◌≡◌, ◌⊎◌, inl, inr, ◌&&◌, ◌||◌, ℕ, suc, zero, true, false, List, []}
 use Rattle.std.proofs.Common.{◌∷◌, ◌++◌, Option, None, Some, option_map, refl, ap, sym, subst, ◌∙◌}
 use Rattle.std.proofs.Common.{append-nil}
-use Rattle.std.specs.Prelude.{IsSome, IfSome}
+use Rattle.std.specs.Prelude.{IfSome}
 use Rattle.usb_port.specs.{PortState, PortCall, ClearEnableChange, ClearResetChange, called_port}
 use Rattle.usb_device.specs.{State, Ports, ended, vacant, taken, empty, full, port_of, called}
 use Rattle.usb_device.specs.{place, reach, reach_at, state_at, port_at, port_there, state_there}
-use Rattle.usb_device.specs.Tree.{Place}
+use Rattle.usb_device.specs.{Place}
 use Rattle.usb_world.specs.{Attempt, step_keeps_pending, row_reached, spec_of, LeavesPortAlone}
 use Rattle.usb_world.specs.{SameDeviceOrPending, Step, attempt, root_call, event, report, after}
 use Rattle.usb_world.specs.{with_attempt, at_attempt, Course, here, step, World}
@@ -98,16 +98,12 @@ reached_port k (suc j ∷ p) h = reached_port_at k j p h
 -- the same as IsKnownAs, of a tree
 known_same : (x : List ℕ) (o : Option Finding) (w v : World) → v.roots ≡ w.roots → IsKnownAs w x o
     → IsKnownAs v x o
-known_same x None w v e h = subst (λ k. (pending k x ≡ true)
-    ⊎ ((has_power k x ≡ true) × (state_there k x ≡ None))) (sym e) h
-known_same x (Some (Device device)) w v e h =
-    subst (λ k. (pending k x ≡ true) ⊎ ((has_power k x ≡ true) × (reach k x ≡ true))) (sym e) h
-known_same x (Some (Refused cause)) w v e h =
-    subst (λ k. (pending k x ≡ true) ⊎ ((has_power k x ≡ true)
-    × (IsSome (state_there k x) × IfSome (port_there k x) (λ b. b.enable ≡ false)))) (sym e) h
+known_same x None w v e h = rw e h
+known_same x (Some (Device device)) w v e h = rw e h
+known_same x (Some (Refused cause)) w v e h = rw e h
 
-pub holds_at_then : (x : List ℕ) (w m v : World) → HoldsAt x w m → HoldsAt x m v → HoldsAt x w v
-holds_at_then x w m v a b = record {
+pub holds_at_then : {x : List ℕ} {w m v : World} → HoldsAt x w m → HoldsAt x m v → HoldsAt x w v
+holds_at_then {x = x} {w = w} {m = m} {v = v} a b = record {
   known = λ o k. b.known o (a.known o k);
   pends = λ h. b.pends (a.pends h);
   stands = λ on. first (a.stands on);
@@ -122,15 +118,15 @@ holds_at_then x w m v a b = record {
     first (inl y) = second y.1 (b.stands y.0)
     first (inr y) = inr (b.pends y)
 
-holds_rests : (x : List ℕ) (w v : World) → Course (LeavesPortAlone x) w v → HoldsAt x w v
-holds_rests x w v c = record {
+holds_rests : {x : List ℕ} {w v : World} → Course (LeavesPortAlone x) w v → HoldsAt x w v
+holds_rests {x = x} {w = w} {v = v} c = record {
   known = λ o k. known_stays x o w v c k;
   pends = pending_persists x (course_wider (λ s u y. y.spares) c);
   stands = stands_or_pends x (course_wider (λ s u y. y.spares) c);
 }
 
-pub holds_same : (x : List ℕ) (w v : World) → v.roots ≡ w.roots → HoldsAt x w v
-holds_same x w v e = record {
+pub holds_same : {x : List ℕ} (w : World) {v : World} → v.roots ≡ w.roots → HoldsAt x w v
+holds_same {x = x} w {v = v} e = record {
   known = λ o k. known_same x o w v e k;
   pends = λ h. ap (λ k. pending k x) e ∙ h;
   stands = λ on. inl (
@@ -152,10 +148,9 @@ module _ (t : Tidy) (p : List ℕ) where
   kept_disabled : (o u : Option PortState) → (u ≡ o)
       ⊎ (u ≡ option_map (called_port (tidy_call t)) o) → IfSome o (λ b. b.enable ≡ false)
       → IfSome u (λ b. b.enable ≡ false)
-  kept_disabled o u (inl e) h = subst (λ x. IfSome x (λ b. b.enable ≡ false)) (sym e) h
-  kept_disabled None u (inr e) h = subst (λ x. IfSome x (λ b. b.enable ≡ false)) (sym e) tt
-  kept_disabled (Some b) u (inr e) h = subst (λ x. IfSome x (λ b. b.enable ≡ false)) (sym e)
-      (tidied_enable t b ∙ h)
+  kept_disabled o u (inl e) h = rw e h
+  kept_disabled None u (inr e) h = rw e tt
+  kept_disabled (Some b) u (inr e) h = rw e (tidied_enable t b ∙ h)
 
   -- at the port itself
   at_port : (o : Option Finding) (w v : World) → Alike w v → IsKnownAs w p o → IsKnownAs v p o
@@ -166,17 +161,10 @@ module _ (t : Tidy) (p : List ℕ) where
       inr (
         a.live_on x.0,
         (
-          subst IsSome (sym a.state) x.1.0,
+          rw a.state x.1.0,
           kept_disabled (port_there w.roots p) (port_there v.roots p) a.port x.1.1,
         ),
       )
-
-  holds_port : (w v : World) → Alike w v → HoldsAt p w v
-  holds_port w v a = record {
-    known = λ o k. at_port o w v a k;
-    pends = a.pend_on;
-    stands = λ on. inl (a.live_on on, ap (option_map spec_of) a.state);
-  }
 
   module _ (m : ℕ) (l : List ℕ) (is : p ≡ m ∷ l) (i : ℕ) (r : List ℕ) where
     abbrev x : List ℕ
@@ -184,8 +172,7 @@ module _ (t : Tidy) (p : List ℕ) where
 
     sub_same : (w v : World) → Alike w v → place_ports (place v.roots (m ∷ l))
         ≡ place_ports (place w.roots (m ∷ l))
-    sub_same w v a = subst (λ e. place_ports (place v.roots e) ≡ place_ports (place w.roots e)) is
-        a.below
+    sub_same w v a = rw is at a.below
 
     pend_x : (w v : World) → Alike w v → pending w.roots x ≡ true → pending v.roots x ≡ true
     pend_x w v a h = pend-below v.roots m l i r ∙ pick (either_of (pending w.roots (m ∷ l))
@@ -195,31 +182,29 @@ module _ (t : Tidy) (p : List ℕ) where
         pick : (pending w.roots (m ∷ l) ≡ true)
             ⊎ ((has_power w.roots (m ∷ l) && pending (place_ports (place w.roots (m ∷ l))) (i ∷ r))
             ≡ true)
-            → (pending v.roots (m ∷ l) || (has_power v.roots (m ∷ l) &&
-            pending (place_ports (place v.roots (m ∷ l))) (i ∷ r))) ≡ true
+            → (pending v.roots (m ∷ l) || (has_power v.roots (m ∷ l) && pending
+            (place_ports (place v.roots (m ∷ l))) (i ∷ r))) ≡ true
         pick (inl y) = or_left (pending v.roots (m ∷ l))
             (has_power v.roots (m ∷ l) && pending (place_ports (place v.roots (m ∷ l))) (i ∷ r))
             (subst (λ e. pending w.roots e ≡ true → pending v.roots e ≡ true) is a.pend_on y)
         pick (inr y) =
             let parts = both (has_power w.roots (m ∷ l))
             (pending (place_ports (place w.roots (m ∷ l))) (i ∷ r)) y in
-            or_right (pending v.roots (m ∷ l)) (has_power v.roots (m ∷ l) &&
-            pending (place_ports (place v.roots (m ∷ l))) (i ∷ r))
+            or_right (pending v.roots (m ∷ l)) (has_power v.roots (m ∷ l) && pending
+            (place_ports (place v.roots (m ∷ l))) (i ∷ r))
             (and_of (has_power v.roots (m ∷ l))
             (pending (place_ports (place v.roots (m ∷ l))) (i ∷ r))
             (subst (λ e. has_power w.roots e ≡ true → has_power v.roots e ≡ true) is a.live_on
-            parts.0)
-            (ap (λ k. pending k (i ∷ r)) (sub_same w v a) ∙ parts.1))
+            parts.0) (ap (λ k. pending k (i ∷ r)) (sub_same w v a) ∙ parts.1))
 
     live_x : (w v : World) → Alike w v → has_power w.roots x ≡ true → has_power v.roots x ≡ true
     live_x w v a h =
         let parts = both (has_power w.roots (m ∷ l))
         (has_power (place_ports (place w.roots (m ∷ l))) (i ∷ r))
         (sym (live_below w.roots m l i r) ∙ h) in
-        live_below v.roots m l i r
-        ∙ and_of (has_power v.roots (m ∷ l)) (has_power (place_ports (place v.roots (m ∷ l)))
-        (i ∷ r)) (subst (λ e. has_power w.roots e ≡ true → has_power v.roots e ≡ true) is
-        a.live_on parts.0)
+        live_below v.roots m l i r ∙ and_of (has_power v.roots (m ∷ l))
+        (has_power (place_ports (place v.roots (m ∷ l))) (i ∷ r))
+        (subst (λ e. has_power w.roots e ≡ true → has_power v.roots e ≡ true) is a.live_on parts.0)
         (ap (λ k. has_power k (i ∷ r)) (sub_same w v a) ∙ parts.1)
 
     reach_x : (w v : World) → Alike w v → reach w.roots x ≡ true → reach v.roots x ≡ true
@@ -227,18 +212,14 @@ module _ (t : Tidy) (p : List ℕ) where
         let parts = both (reach w.roots (m ∷ l))
         (reach (place_ports (place w.roots (m ∷ l))) (i ∷ r)) (sym (reach_below w.roots m l i r)
         ∙ h) in
-        reach_below v.roots m l i r
-        ∙ and_of (reach v.roots (m ∷ l)) (reach (place_ports (place v.roots (m ∷ l))) (i ∷ r))
+        reach_below v.roots m l i r ∙ and_of (reach v.roots (m ∷ l))
+        (reach (place_ports (place v.roots (m ∷ l))) (i ∷ r))
         (subst (λ e. reach w.roots e ≡ true → reach v.roots e ≡ true) is a.reach_on parts.0)
         (ap (λ k. reach k (i ∷ r)) (sub_same w v a) ∙ parts.1)
 
     state_x : (w v : World) → Alike w v → state_there v.roots x ≡ state_there w.roots x
     state_x w v a = state_below v.roots m l i r ∙ ap (λ k. state_there k (i ∷ r)) (sub_same w v a)
         ∙ sym (state_below w.roots m l i r)
-
-    port_x : (w v : World) → Alike w v → port_there v.roots x ≡ port_there w.roots x
-    port_x w v a = port_there-below v.roots m l i r
-        ∙ ap (λ k. port_there k (i ∷ r)) (sub_same w v a) ∙ sym (port_there-below w.roots m l i r)
 
     below_port : (o : Option Finding) (w v : World) → Alike w v → IsKnownAs w x o → IsKnownAs v x o
     below_port o w v a (inl h) = inl (pend_x w v a h)
@@ -248,8 +229,10 @@ module _ (t : Tidy) (p : List ℕ) where
         inr (
           live_x w v a h.0,
           (
-            subst IsSome (sym (state_x w v a)) h.1.0,
-            subst (λ b. IfSome b (λ b. b.enable ≡ false)) (sym (port_x w v a)) h.1.1,
+            rw (state_x w v a) h.1.0,
+            subst (λ b. IfSome b (λ b. b.enable ≡ false))
+                (sym (port_there-below v.roots m l i r ∙ ap (λ k. port_there k (i ∷ r))
+                (sub_same w v a) ∙ sym (port_there-below w.roots m l i r))) h.1.1,
           ),
         )
 
@@ -263,9 +246,12 @@ module _ (t : Tidy) (p : List ℕ) where
   -- at the port and below it
   holds_alike : (m : ℕ) (l : List ℕ) → p ≡ m ∷ l → (r : List ℕ) (w v : World) → Alike w v
       → HoldsAt (p ++ r) w v
-  holds_alike m l is [] w v a = subst (λ e. HoldsAt e w v) (sym (append-nil p)) (holds_port w v a)
-  holds_alike m l is (i ∷ r) w v a = subst (λ e. HoldsAt (e ++ i ∷ r) w v) (sym is)
-      (holds_below m l is i r w v a)
+  holds_alike m l is [] w v a = subst (λ e. HoldsAt e w v) (sym (append-nil p)) (record {
+    known = λ o k. at_port o w v a k;
+    pends = a.pend_on;
+    stands = λ on. inl (a.live_on on, ap (option_map spec_of) a.state);
+  })
+  holds_alike m l is (i ∷ r) w v a = rw is (holds_below m l is i r w v a)
 
 -- Over steps that are about the port
 
@@ -283,18 +269,17 @@ module _ (t : Tidy) (q : List ℕ) (n : ℕ) where
       ⊎ (place v p ≡ option_map (called (tidy_call t)) (place k p))
       → (port_there v p ≡ port_there k p)
       ⊎ (port_there v p ≡ option_map (called_port (tidy_call t)) (port_there k p))
-  place_port k v (inl e) = inl (port_of_place v p ∙ ap (option_map port_of) e
-      ∙ sym (port_of_place k p))
-  place_port k v (inr e) = inr (port_of_place v p ∙ ap (option_map port_of) e
-      ∙ called_port_as t (place k p) ∙ ap (option_map (called_port (tidy_call t)))
-      (sym (port_of_place k p)))
+  place_port k v (inl e) = inl (port_of_place v p ∙ ap (option_map port_of) e ∙ sym
+      (port_of_place k p))
+  place_port k v (inr e) = inr (port_of_place v p ∙ ap (option_map port_of) e ∙ called_port_as t
+      (place k p) ∙ ap (option_map (called_port (tidy_call t))) (sym (port_of_place k p)))
 
   place_state : (k v : Ports) → (place v p ≡ place k p)
       ⊎ (place v p ≡ option_map (called (tidy_call t)) (place k p))
       → state_there v p ≡ state_there k p
   place_state k v (inl e) = state_of_place v p ∙ ap stands e ∙ sym (state_of_place k p)
-  place_state k v (inr e) = state_of_place v p ∙ ap stands e ∙ called_stands t (place k p)
-      ∙ sym (state_of_place k p)
+  place_state k v (inr e) = state_of_place v p ∙ ap stands e ∙ called_stands t (place k p) ∙ sym
+      (state_of_place k p)
 
   place_under : (k v : Ports) → (place v p ≡ place k p)
       ⊎ (place v p ≡ option_map (called (tidy_call t)) (place k p))
@@ -302,11 +287,11 @@ module _ (t : Tidy) (q : List ℕ) (n : ℕ) where
   place_under k v (inl e) = ap place_ports e
   place_under k v (inr e) = ap place_ports e ∙ called_under t (place k p)
 
-  still_enabled : (o u : Option PortState) (b : PortState) → (u ≡ o)
+  still_enabled : {o : Option PortState} (u : Option PortState) (b : PortState) → (u ≡ o)
       ⊎ (u ≡ option_map (called_port (tidy_call t)) o) → o ≡ Some b → b.enable ≡ true
       → (d : PortState) × (u ≡ Some d) × (d.enable ≡ true)
-  still_enabled o u b (inl e) is on = (b, e ∙ is, on)
-  still_enabled o u b (inr e) is on = (
+  still_enabled u b (inl e) is on = (b, e ∙ is, on)
+  still_enabled u b (inr e) is on = (
     called_port (tidy_call t) b,
     e ∙ ap (option_map (called_port (tidy_call t))) is,
     tidied_enable t b ∙ on,
@@ -317,16 +302,15 @@ module _ (t : Tidy) (q : List ℕ) (n : ℕ) where
       → row_reached v.roots q ≡ true → reach k p ≡ true → reach v.roots p ≡ true
   place_reach k v e row on =
       let at : _ = reached_port k p on in
-      let now : _ = still_enabled (port_there k p) (port_there v.roots p) at.0
-      (place_port k v.roots e) at.2 at.4 in
+      let now : _ = still_enabled (port_there v.roots p) at.0 (place_port k v.roots e) at.2 at.4 in
       enabled_reach v p (record { parent = q; number = n; is = refl; reached = row }) now.0 now.1
       now.2 at.1 (place_state k v.roots e ∙ at.3)
 
   alike : (w v : World) → (place v.roots p ≡ place w.roots p)
       ⊎ (place v.roots p ≡ option_map (called (tidy_call t)) (place w.roots p))
       → (has_power w.roots p ≡ true → has_power v.roots p ≡ true)
-      → (pending w.roots p ≡ true → pending v.roots p ≡ true)
-      → row_reached v.roots q ≡ true → Alike t p w v
+      → (pending w.roots p ≡ true → pending v.roots p ≡ true) → row_reached v.roots q ≡ true
+      → Alike t p w v
   alike w v e live_on pend_on row = record {
     live_on = live_on;
     pend_on = pend_on;
@@ -340,8 +324,8 @@ module _ (t : Tidy) (q : List ℕ) (n : ℕ) where
   first_of [] n = (n, [], refl)
   first_of (m ∷ q) n = (m, q ++ n ∷ [], refl)
 
-  holds_by : (r : List ℕ) (w v : World) → Alike t p w v → HoldsAt (p ++ r) w v
-  holds_by r w v a = let f : _ = first_of q n in holds_alike t p f.0 f.1 f.2 r w v a
+  holds_by : (r : List ℕ) {w v : World} → Alike t p w v → HoldsAt (p ++ r) w v
+  holds_by r {w = w} {v = v} a = let f : _ = first_of q n in holds_alike t p f.0 f.1 f.2 r w v a
 
   attempt_holds : (a : Attempt) (w : World) → ActsAt p (tidy_call t) (attempt a) w
       → row_reached (after (attempt a) w).roots q ≡ true → (r : List ℕ)
@@ -353,20 +337,16 @@ module _ (t : Tidy) (q : List ℕ) (n : ℕ) where
           → HoldsAt (p ++ r) w (after (attempt a) w)
       made sound is =
           let spares : step_keeps_pending (attempt a) w p ≡ true = k.about.spares (tidy_spares t) in
-          let came = holds_rests (p ++ r) w (at_attempt w)
-          (due_course (p ++ r) w.left w refl sound) in
-          let e = subst (λ v. (place v.roots p ≡ place (at_attempt w).roots p)
-          ⊎ (place v.roots p ≡ option_map (called (tidy_call t))
-          (place (at_attempt w).roots p))) is k.port in
-          subst (HoldsAt (p ++ r) w) (sym is)
-          (holds_at_then (p ++ r) w (at_attempt w) (with_attempt a (at_attempt w)) came
-          (holds_by r (at_attempt w) (with_attempt a (at_attempt w))
+          let came = holds_rests (due_course (p ++ r) w.left w refl sound) in
+          let e = rw is at k.port in
+          rw is (holds_at_then came
+          (holds_by r
           (alike (at_attempt w) (with_attempt a (at_attempt w)) e
           (made_live a (at_attempt w) p spares) (made_pend a (at_attempt w) p spares)
-          (subst (λ v. row_reached v.roots q ≡ true) is row))))
+          (rw is at row))))
 
       cases : MadeOrNot a w (after (attempt a) w) → HoldsAt (p ++ r) w (after (attempt a) w)
-      cases (inl e) = holds_same (p ++ r) w (after (attempt a) w) (ap (λ v. v.roots) e)
+      cases (inl e) = holds_same w (ap (λ v. v.roots) e)
       cases (inr m) = made (made_sound w m.0) m.1
 
   root_holds : (d : PortCall) (m : ℕ) (w : World) → ActsAt p (tidy_call t) (root_call d m) w
@@ -375,7 +355,7 @@ module _ (t : Tidy) (q : List ℕ) (n : ℕ) where
   unfolding after step_keeps_pending
   root_holds d m w k row r =
       let spares : step_keeps_pending (root_call d m) w p ≡ true = k.about.spares (tidy_spares t) in
-      holds_by r w (after (root_call d m) w)
+      holds_by r
       (alike w (after (root_call d m) w) k.port (root_live d m w.roots p spares)
       (root_pend d m w.roots p spares) row)
 
@@ -384,32 +364,27 @@ module _ (t : Tidy) (q : List ℕ) (n : ℕ) where
   unfolding after
   step_holds (attempt a) w k row r = attempt_holds a w k row r
   step_holds (root_call d m) w k row r = root_holds d m w k row r
-  step_holds event w k row r = holds_rests (p ++ r) w (after event w) (event_calm (p ++ r) w)
-  step_holds (report line) w k row r = holds_same (p ++ r) w w refl
+  step_holds event w k row r = holds_rests (event_calm (p ++ r) w)
+  step_holds (report line) w k row r = holds_same w refl
 
   course_holds : {w v : World} → Course (ActsAt p (tidy_call t)) w v → row_reached v.roots q ≡ true
       → (r : List ℕ) → HoldsAt (p ++ r) w v
-  course_holds (here w) row r = holds_same (p ++ r) w w refl
+  course_holds (here w) row r = holds_same w refl
   course_holds (step s {w} {v} k more) row r =
-      holds_at_then (p ++ r) w (after s w) v (step_holds s w k (row_back more row) r)
-      (course_holds more row r)
+      holds_at_then (step_holds s w k (row_back more row) r) (course_holds more row r)
 
-  done_holds : (old new : World) → PortCallDone p (tidy_call t) old new
+  done_holds : {old new : World} → PortCallDone p (tidy_call t) old new
       → row_reached new.roots q ≡ true → (r : List ℕ) → HoldsAt (p ++ r) old new
-  done_holds old new d row r =
+  done_holds d row r =
       let now = row_reached-back q (course_wider (λ s w k. k.rests) (d.since q)) row in
       let before = row_back (step d.last d.acts (here (after d.last d.before))) now in
-      let there = holds_at_then (p ++ r) old d.before (after d.last d.before)
-      (course_holds d.repeats before r) (step_holds d.last d.before d.acts now r) in
-      holds_at_then (p ++ r) old (after d.last d.before) new there
-      (holds_rests (p ++ r) (after d.last d.before) new (d.since (p ++ r)))
+      let there = holds_at_then (course_holds d.repeats before r)
+      (step_holds d.last d.before d.acts now r) in
+      holds_at_then there (holds_rests (d.since (p ++ r)))
 
 pub tidied_holds : (t : Tidy) → (p : List ℕ) (old new : World)
     → PortCallDone p (tidy_call t) old new → (x : List ℕ) → is_way p x ≡ true → HoldsAt x old new
 tidied_holds t p old new d x way =
     let rest : _ = way_rest p x way in
-    let whole : x ≡ (d.row.parent ++ d.row.number ∷ []) ++ rest.0 = rest.1
-    ∙ ap (λ l. l ++ rest.0) d.row.is in
-    subst (λ e. HoldsAt e old new) (sym whole)
-    (done_holds t d.row.parent d.row.number old new
-    (subst (λ l. PortCallDone l (tidy_call t) old new) d.row.is d) d.row.reached rest.0)
+    rw (rest.1 ∙ ap (λ l. l ++ rest.0) d.row.is) (done_holds t d.row.parent d.row.number
+    (rw d.row.is at d) d.row.reached rest.0)

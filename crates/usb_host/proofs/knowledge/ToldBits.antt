@@ -20,13 +20,12 @@ use Rattle.usb_world.proofs.Interface.{reach_on_way}
 use Rattle.usb_hub.proofs.Interface.{port_of_place, sane_there, state_of_place}
 use Rattle.usb_descriptor.specs.{device_head_of, configuration_count}
 use Rattle.usb_enum.specs.{Cause, Silent, Busy, Stalled, BadDevice, TooDeep, is_device}
-use Rattle.usb_enum.specs.{is_hub_device, facts_of, first_fault, read_verdict, verdict, Accepted}
-use Rattle.usb_enum.specs.{Finding, HubFacts}
+use Rattle.usb_enum.specs.{is_hub_device, facts_of, first_fault, read_verdict, verdict, HubFacts}
 use Rattle.usb_enum.specs.declared.cause.Request.TheVariants as request
 use Rattle.usb_enum.specs.declared.finding.Finding.TheVariants.{Device}
 use Rattle.usb_enum.proofs.Interface.{orderly_on}
 use Rattle.usb_table.specs.{accepted_device_of, KnownPort, is_below_hub, known_port, port_below}
-use Rattle.usb_table.specs.{port_found, BitsOf, finding_at, tier_of}
+use Rattle.usb_table.specs.{BitsOf, finding_at, tier_of}
 use Rattle.usb_table.proofs.Interface.{FoundPort, port_found-some}
 use Rattle.usb_host.specs.{Agrees, ShowsChange, ShowsTold, HostState, HostInvariant, IsTruthOf}
 use Rattle.usb_host.specs.{known_supply}
@@ -51,11 +50,11 @@ unfolding has_bit
 to_bit bits n is = eq-eqb (bits / 2 ^ n % 2) 1 is
 
 -- a port that has a change
-abbrev HasChange : List PortState → ℕ → Type 0
+abbrev pub HasChange : List PortState → ℕ → Type 0
 HasChange row i = (p : PortState) × (slice_get row i ≡ Some p) × (has_change p ≡ true)
 
 -- the weight of a port, once where it has a change
-record Weighed (row : List PortState) (i weight : ℕ) : Type 0 where
+pub record Weighed (row : List PortState) (i weight : ℕ) : Type 0 where
   times : ℕ
   few : times ≤ 1
   is : changed_bit row i weight ≡ weight * times
@@ -64,8 +63,8 @@ record Weighed (row : List PortState) (i weight : ℕ) : Type 0 where
 abbrev weight_of : Option PortState → ℕ → ℕ
 weight_of o weight = elim o [ None ↦ 0 | Some p ↦ if has_change p then weight else 0 ]
 
-weigh : (row : List PortState) (i weight : ℕ) → Weighed row i weight
-weigh row i weight = pick (slice_get row i) refl
+weigh : {row : List PortState} {i weight : ℕ} → Weighed row i weight
+weigh {row = row} {i = i} {weight = weight} = pick (slice_get row i) refl
   where
     at : (p : PortState) → slice_get row i ≡ Some p → (b : Bool) → has_change p ≡ b
         → Weighed row i weight
@@ -81,7 +80,7 @@ weigh row i weight = pick (slice_get row i) refl
       few = omega arith;
       is = subst (λ (o : Option PortState). weight_of o weight ≡ weight * 0) (sym there)
           (subst (λ (b : Bool). (if b then weight else 0) ≡ weight * 0) (sym is) (omega arith));
-      so = λ some. absurd (omega (arith, some));
+      so = λ some. absurd (omega arith);
     }
 
     pick : (o : Option PortState) → slice_get row i ≡ o → Weighed row i weight
@@ -90,36 +89,31 @@ weigh row i weight = pick (slice_get row i) refl
       few = omega arith;
       is = subst (λ (o : Option PortState). weight_of o weight ≡ weight * 0) (sym there)
           (omega arith);
-      so = λ some. absurd (omega (arith, some));
+      so = λ some. absurd (omega arith);
     }
     pick (Some p) there = at p there (has_change p) refl
 
-module _ (row : List PortState) where
+-- what the first seven ports add
+pub record Weights (row : List PortState) : Type 0 where
   a : Weighed row 0 2
-  a = weigh row 0 2
-
   b : Weighed row 1 4
-  b = weigh row 1 4
-
   c : Weighed row 2 8
-  c = weigh row 2 8
-
   d : Weighed row 3 16
-  d = weigh row 3 16
-
   e : Weighed row 4 32
-  e = weigh row 4 32
-
   f : Weighed row 5 64
-  f = weigh row 5 64
-
   g : Weighed row 6 128
-  g = weigh row 6 128
 
-  whole : change_bits row ≡ 2 * a.times + 4 * b.times + 8 * c.times + 16 * d.times + 32 * e.times +
-      64 * f.times + 128 * g.times
+pub weights : (row : List PortState) → Weights row
+weights row = record { a = weigh; b = weigh; c = weigh; d = weigh; e = weigh; f = weigh; g = weigh }
+
+abbrev pub OneSet : List PortState → Type 0
+OneSet row = (i : ℕ) × (i < 7) × (has_bit (change_bits row) (suc i) ≡ true)
+
+module _ (row : List PortState) (w : Weights row) where
+  whole : change_bits row ≡ 2 * w.a.times + 4 * w.b.times + 8 * w.c.times + 16 * w.d.times
+      + 32 * w.e.times + 64 * w.f.times + 128 * w.g.times
   unfolding change_bits
-  whole = omega (arith, a.is, b.is, c.is, d.is, e.is, f.is, g.is)
+  whole = omega arith
 
   -- the hub itself has none
   pub none_own : change_bits row ≢ 1
@@ -127,92 +121,40 @@ module _ (row : List PortState) where
 
   -- a bit that is set is that of a port with a change
   pub bit_changed : (i : ℕ) → i < 7 → has_bit (change_bits row) (suc i) ≡ true → HasChange row i
-  bit_changed zero less set = let one : change_bits row / 2 ^ 1 % 2 ≡ 1 =
-      of_bit (change_bits row) 1 set in
-      a.so (omega (arith, one, whole, a.few, b.few, c.few, d.few, e.few, f.few, g.few))
-  bit_changed (suc zero) less set = let one : change_bits row / 2 ^ 2 % 2 ≡ 1 =
-      of_bit (change_bits row) 2 set in
-      b.so (omega (arith, one, whole, a.few, b.few, c.few, d.few, e.few, f.few, g.few))
-  bit_changed (suc (suc zero)) less set = let one : change_bits row / 2 ^ 3 % 2 ≡ 1 =
-      of_bit (change_bits row) 3 set in
-      c.so (omega (arith, one, whole, a.few, b.few, c.few, d.few, e.few, f.few, g.few))
-  bit_changed (suc (suc (suc zero))) less set = let one : change_bits row / 2 ^ 4 % 2 ≡ 1 =
-      of_bit (change_bits row) 4 set in
-      d.so (omega (arith, one, whole, a.few, b.few, c.few, d.few, e.few, f.few, g.few))
-  bit_changed (suc (suc (suc (suc zero)))) less set = let one : change_bits row / 2 ^ 5 % 2 ≡ 1 =
-      of_bit (change_bits row) 5 set in
-      e.so (omega (arith, one, whole, a.few, b.few, c.few, d.few, e.few, f.few, g.few))
-  bit_changed (suc (suc (suc (suc (suc zero))))) less set = let one : change_bits row / 2 ^ 6 % 2
-      ≡ 1 = of_bit (change_bits row) 6 set in
-      f.so (omega (arith, one, whole, a.few, b.few, c.few, d.few, e.few, f.few, g.few))
+  bit_changed zero less set = w.a.so (omega (arith, whole, of_bit (change_bits row) 1 set))
+  bit_changed (suc zero) less set = w.b.so (omega (arith, whole, of_bit (change_bits row) 2 set))
+  bit_changed (suc (suc zero)) less set =
+      w.c.so (omega (arith, whole, of_bit (change_bits row) 3 set))
+  bit_changed (suc (suc (suc zero))) less set =
+      w.d.so (omega (arith, whole, of_bit (change_bits row) 4 set))
+  bit_changed (suc (suc (suc (suc zero)))) less set =
+      w.e.so (omega (arith, whole, of_bit (change_bits row) 5 set))
+  bit_changed (suc (suc (suc (suc (suc zero))))) less set =
+      w.f.so (omega (arith, whole, of_bit (change_bits row) 6 set))
   bit_changed (suc (suc (suc (suc (suc (suc zero)))))) less set =
-      let one : change_bits row / 2 ^ 7 % 2 ≡ 1 = of_bit (change_bits row) 7 set in
-      g.so (omega (arith, one, whole, a.few, b.few, c.few, d.few, e.few, f.few, g.few))
-  bit_changed (suc (suc (suc (suc (suc (suc (suc i))))))) less set = absurd (omega (arith, less))
+      w.g.so (omega (arith, whole, of_bit (change_bits row) 7 set))
+  bit_changed (suc (suc (suc (suc (suc (suc (suc i))))))) less set = absurd (omega arith)
 
   -- and one is, where not all are 0
-  pub bit_some : change_bits row ≢ 0 → (i : ℕ) × (i < 7)
-      × (has_bit (change_bits row) (suc i) ≡ true)
-  bit_some some = elim (cases_lt 0 a.times) [
-    | inl one ↦ (
-      0,
-      omega arith,
-      to_bit (change_bits row) 1
-          (omega (arith, one, whole, a.few, b.few, c.few, d.few, e.few, f.few, g.few)),
-    )
-    | inr no_a ↦ elim (cases_lt 0 b.times) [
-      | inl one ↦ (
-        1,
-        omega arith,
-        to_bit (change_bits row) 2
-            (omega (arith, one, whole, a.few, b.few, c.few, d.few, e.few, f.few, g.few)),
-      )
-      | inr no_b ↦ elim (cases_lt 0 c.times) [
-        | inl one ↦ (
-          2,
-          omega arith,
-          to_bit (change_bits row) 3
-              (omega (arith, one, whole, a.few, b.few, c.few, d.few, e.few, f.few, g.few)),
-        )
-        | inr no_c ↦ elim (cases_lt 0 d.times) [
-          | inl one ↦ (
-            3,
-            omega arith,
-            to_bit (change_bits row) 4
-                (omega (arith, one, whole, a.few, b.few, c.few, d.few, e.few, f.few, g.few)),
-          )
-          | inr no_d ↦ elim (cases_lt 0 e.times) [
-            | inl one ↦ (
-              4,
-              omega arith,
-              to_bit (change_bits row) 5
-                  (omega (arith, one, whole, a.few, b.few, c.few, d.few, e.few, f.few, g.few)),
-            )
-            | inr no_e ↦ elim (cases_lt 0 f.times) [
-              | inl one ↦ (
-                5,
-                omega arith,
-                to_bit (change_bits row) 6
-                    (omega (arith, one, whole, a.few, b.few, c.few, d.few, e.few, f.few, g.few)),
-              )
-              | inr no_f ↦ elim (cases_lt 0 g.times) [
-                | inl one ↦ (
-                  6,
-                  omega arith,
-                  to_bit (change_bits row) 7
-                      (omega (arith, one, whole, a.few, b.few, c.few, d.few, e.few, f.few, g.few)),
-                )
-                | inr no_g ↦ absurd (some (omega (
-                  arith,
-                  whole,
-                  no_a,
-                  no_b,
-                  no_c,
-                  no_d,
-                  no_e,
-                  no_f,
-                  no_g,
-                )))
+  set_at : (i : ℕ) → i < 7 → change_bits row / 2 ^ suc i % 2 ≡ 1 → OneSet row
+  set_at i less is = (i, less, to_bit (change_bits row) (suc i) is)
+
+  pub bit_some : change_bits row ≢ 0 → OneSet row
+  bit_some some = elim (cases_lt 0 w.a.times) [
+    | inl one ↦ set_at 0 (omega arith) (omega (arith, whole))
+    | inr no_a ↦ elim (cases_lt 0 w.b.times) [
+      | inl one ↦ set_at 1 (omega arith) (omega (arith, whole))
+      | inr no_b ↦ elim (cases_lt 0 w.c.times) [
+        | inl one ↦ set_at 2 (omega arith) (omega (arith, whole))
+        | inr no_c ↦ elim (cases_lt 0 w.d.times) [
+          | inl one ↦ set_at 3 (omega arith) (omega (arith, whole))
+          | inr no_d ↦ elim (cases_lt 0 w.e.times) [
+            | inl one ↦ set_at 4 (omega arith) (omega (arith, whole))
+            | inr no_e ↦ elim (cases_lt 0 w.f.times) [
+              | inl one ↦ set_at 5 (omega arith) (omega (arith, whole))
+              | inr no_f ↦ elim (cases_lt 0 w.g.times) [
+                | inl one ↦ set_at 6 (omega arith) (omega (arith, whole))
+                | inr no_g ↦ absurd (some (omega (arith, whole)))
               ]
             ]
           ]
@@ -224,18 +166,18 @@ module _ (row : List PortState) where
 -- A port of a hub that told
 
 -- a hub that was accepted is above the last tier
-deep_row : (a b c d f g h : Bool) (r : Result ℕ Cause) (n : ℕ)
-    → (if a then Err Silent else if b then Err Busy else if c then Err (Stalled request.Device)
-    else if d then Err BadDevice else if f then Err (Stalled request.Address) else if g
-    then Err BadDevice else if h then Err TooDeep else r) ≡ Ok n → h ≡ false
-deep_row true b c d f g h r n e = absurd (cc e)
-deep_row false true c d f g h r n e = absurd (cc e)
-deep_row false false true d f g h r n e = absurd (cc e)
-deep_row false false false true f g h r n e = absurd (cc e)
-deep_row false false false false true g h r n e = absurd (cc e)
-deep_row false false false false false true h r n e = absurd (cc e)
-deep_row false false false false false false true r n e = absurd (cc e)
-deep_row false false false false false false false r n e = refl
+deep_row : (a b c d f g h : Bool) (r : Result ℕ Cause) {n : ℕ}
+    → (if a then Err Silent else if b then Err Busy else if c then Err (Stalled request.Device) else
+    if d then Err BadDevice else if f then Err (Stalled request.Address) else if g then Err
+    BadDevice else if h then Err TooDeep else r) ≡ Ok n → h ≡ false
+deep_row true b c d f g h r e = absurd (cc e)
+deep_row false true c d f g h r e = absurd (cc e)
+deep_row false false true d f g h r e = absurd (cc e)
+deep_row false false false true f g h r e = absurd (cc e)
+deep_row false false false false true g h r e = absurd (cc e)
+deep_row false false false false false true h r e = absurd (cc e)
+deep_row false false false false false false true r e = absurd (cc e)
+deep_row false false false false false false false r e = refl
 
 facts_of-hub : (spec : Spec) (facts : HubFacts) → facts_of spec ≡ Some facts
     → is_hub_device spec.descriptor ≡ true
@@ -245,16 +187,15 @@ facts_of-hub spec facts is = pick (is_hub_device spec.descriptor) refl is
     pick true hub e = refl
     pick false hub e = let none : facts_of spec ≡ None = rw hub refl in absurd (cc (none, e))
 
-verdict-not_deep : (spec : Spec) (tier supply chosen : ℕ) (facts : HubFacts)
+verdict-not_deep : (spec : Spec) (tier supply : ℕ) {chosen : ℕ} (facts : HubFacts)
     → verdict spec tier supply ≡ Ok chosen → facts_of spec ≡ Some facts → tier ≡ 7 → ⊥
 unfolding verdict
-verdict-not_deep spec tier supply chosen facts e hub last =
+verdict-not_deep spec tier supply facts e hub last =
     let row : (is_hub_device spec.descriptor && tier == 7) ≡ false =
     deep_row spec.silent spec.busy spec.stalls.device
     (not (is_ok (device_head_of spec.low (take 8 spec.descriptor)))) spec.stalls.address
-    (not (is_device spec.low (take 18 spec.descriptor))) (is_hub_device spec.descriptor &&
-    tier == 7)
-    (read_verdict spec supply (first_fault spec (configuration_count spec.descriptor))) chosen e in
+    (not (is_device spec.low (take 18 spec.descriptor))) (is_hub_device spec.descriptor && tier
+    == 7) (read_verdict spec supply (first_fault spec (configuration_count spec.descriptor))) e in
     let on : (is_hub_device spec.descriptor && tier == 7) ≡ true =
     rw (facts_of-hub spec facts hub, eq-eqb tier 7 last) refl in
     cc (row, on)
@@ -280,18 +221,13 @@ no_enable true e r off h = inl refl
 no_enable false true r off h = absurd (cc off)
 no_enable false false r off h = inr h
 
-known_by : (o : Option Finding) (device : Accepted) (facts : HubFacts) (below : Bool) (n : ℕ)
-    → o ≡ Some (Device device) → device.hub ≡ Some facts
-    → n ≤ facts.ports → IsSome (port_found o below n)
-known_by o device facts below n is told most = rw (is, told, le-leb n facts.ports most) refl
-
 row_on : (k : Ports) (hub : List ℕ) → reach k hub ≡ true → row_reached k hub ≡ true
 row_on k [] on = refl
 row_on k (m ∷ p) on = on
 
 up_on : (k : Ports) (up hub : List ℕ) → 1 ≤ length up → is_way up hub ≡ true → reach k hub ≡ true
     → reach k up ≡ true
-up_on k [] hub some way on = absurd (omega (arith, some))
+up_on k [] hub some way on = absurd (omega arith)
 up_on k (m ∷ p) hub some way on = reach_on_way k m p hub way on
 
 -- each port of which it told
@@ -299,8 +235,8 @@ up_on k (m ∷ p) hub some way on = reach_on_way k m p hub way on
 module _ (hub : List ℕ) (a b : HostState) (agrees : Agrees b.entries b.addresses)
     (s : HostInvariant a) (t : HostInvariant b) (before : a.world.fault ≡ None)
     (still : b.world.fault ≡ None) (facts : HubFacts) (there : HubThere hub b.entries facts)
-    (reached : reach b.world.roots hub ≡ true)
-    (bits : ℕ) (x : BitsOf hub a.world b.world bits) where
+    (reached : reach b.world.roots hub ≡ true) (bits : ℕ)
+    (x : BitsOf hub a.world b.world bits) where
   abbrev device_at : State
   device_at = (reached_there b.world.roots hub reached).0
 
@@ -324,63 +260,61 @@ module _ (hub : List ℕ) (a b : HostState) (agrees : Agrees b.entries b.address
   path = agrees.nested.path hub (Device there.device) there.found
 
   deep_by : (above : Option (List ℕ)) → parent_of hub ≡ above → (o : Option KnownPort)
-      → port_below above (port_on_hub hub) b.entries ≡ o → IsSome o
-      → length hub ≡ 7 → ⊥
+      → port_below above (port_on_hub hub) b.entries ≡ o → IsSome o → length hub ≡ 7 → ⊥
   deep_by None is o e some long = let one : length hub ≡ 1 = ap length (root_alone hub path.0 is) in
-      absurd (omega (arith, one, long))
+      absurd (omega arith)
   deep_by (Some up) is None e some long = cc some
   deep_by (Some up) is (Some port) e some long =
       let f : FoundPort (finding_at up b.entries) (is_below_hub up) (port_on_hub hub) port =
       port_found-some (finding_at up b.entries) (is_below_hub up) (port_on_hub hub) port e in
-      let shorter : _ = parent_length hub up is in
+      let shorter : _ = parent_length hub is in
       let on : reach b.world.roots up ≡ true =
       up_on b.world.roots up hub shorter.1 (way_parent hub up is) reached in
       let st : _ = reached_there b.world.roots up on in
       let told : IsTruthOf b.entries up f.device st.0 =
       t.truthful still up f.device st.0 (ap accepted_device_of f.stands) on st.1 in
-      verdict-not_deep st.0.spec (tier_of up) (known_supply up b.entries) f.device.chosen f.facts
-      told.found.0 (sym told.found.1.hub ∙ f.told)
-      (omega (arith, shorter.0, long))
+      verdict-not_deep st.0.spec (tier_of up) (known_supply up b.entries) f.facts
+      told.found.0 (sym told.found.1.hub ∙ f.told) (omega (arith, shorter.0))
 
   -- no hub stands in the last tier
   above_last : length hub ≤ 6
   above_last = elim (cases_lt (length hub) 7) [
-    | inl less ↦ omega (arith, less)
+    | inl less ↦ omega arith
     | inr most ↦ absurd (deep_by (parent_of hub) refl (known_port hub b.entries) refl
-        (agrees.nested.each hub (Device there.device) there.found) (omega (arith, most, path.1)))
+        (agrees.nested.each hub (Device there.device) there.found) (omega (arith, path.1)))
   ]
 
   path_of_port : (i : ℕ) → i < 7 → IsPath (hub ++ (suc i ∷ []))
   path_of_port i less =
-      let long : length (hub ++ (suc i ∷ [])) ≡ length hub + 1 = length-append hub (suc i ∷ []) in (
-        omega (arith, long),
-        omega (arith, long, above_last),
-        All-append IsPortNumber hub
-            (suc i ∷ []) path.2 (All-cons IsPortNumber (suc i) [] (omega arith, omega (arith, less))
-            (All-nil IsPortNumber)),
+      let long : length (hub ++ (suc i ∷ [])) ≡ length hub + 1 = length-append hub (suc i ∷ [])
+      in (
+        omega arith,
+        omega (arith, above_last),
+        All-append IsPortNumber hub (suc i ∷ []) path.2
+            (All-cons IsPortNumber (suc i) [] (omega arith, omega arith) (All-nil IsPortNumber)),
       )
 
   module _ (same : (at_attempt x.mid).roots ≡ x.mid.roots) (i : ℕ) (less : i < 7)
       (set : has_bit bits (suc i) ≡ true) where
     changed : HasChange (row_of x.ports) i
-    changed = bit_changed (row_of x.ports) i less (subst (λ n. has_bit n (suc i) ≡ true) x.told set)
+    changed = bit_changed (row_of x.ports) (weights _) i less (rw x.told at set)
 
     port_then : port_there x.mid.roots (hub ++ (suc i ∷ [])) ≡ Some changed.0
     port_then =
-        subst (λ (k : Ports). port_there k (hub ++ (suc i ∷ [])) ≡ Some changed.0) same
-        (row_port_of hub (at_attempt x.mid).roots x.port x.state x.ports i x.stood ∙ changed.1)
+        rw same at (row_port_of hub (at_attempt x.mid).roots x.port x.state x.ports i x.stood
+        ∙ changed.1)
 
     steady : changed.0.enable_changed ≡ false
     steady =
-        let q : _ = port_of-place (place x.mid.roots (hub ++ (suc i ∷ []))) changed.0
+        let q : _ = port_of-place (place x.mid.roots (hub ++ (suc i ∷ [])))
         (sym (port_of_place x.mid.roots (hub ++ (suc i ∷ []))) ∙ port_then) in
-        ap (λ (y : PortState). y.enable_changed) (sym q.2)
-        ∙ steady_place q.0 (sane_there x.mid.roots (hub ++ (suc i ∷ [])) q.0 sane_then q.1)
+        ap (λ (y : PortState). y.enable_changed) (sym q.2) ∙ steady_place q.0
+        (sane_there x.mid.roots (hub ++ (suc i ∷ [])) q.0 sane_then q.1)
 
     -- it shows its change
     shows_port : ShowsChange b.world (hub ++ (suc i ∷ []))
     shows_port =
-        shows_on x.mid b.world hub (suc i) x.since (row_on b.world.roots hub reached)
+        shows_on x.mid hub (suc i) x.since (row_on b.world.roots hub reached)
         (record {
           port = changed.0;
           there = port_then;
@@ -394,46 +328,44 @@ module _ (hub : List ℕ) (a b : HostState) (agrees : Agrees b.entries b.address
     within =
         let f : _ = full_of (place b.world.roots hub)
         (ap is_some (sym (state_of_place b.world.roots hub) ∙ stood_at)) in
-        let is : f.1 ≡ device_at = same_Some f.1 device_at (ap stands (sym f.3)
-        ∙ sym (state_of_place b.world.roots hub) ∙ stood_at) in
+        let is : f.1 ≡ device_at = same_Some f.1 device_at (ap stands (sym f.3) ∙ sym
+        (state_of_place b.world.roots hub) ∙ stood_at) in
         let counted : length (row_of f.2) ≡ hub_ports f.1.spec.hub =
         row_of-hub_ports hub b.world.roots f.0 f.1 f.2 sane f.3 in
         let stood : slice_get (row_of f.2) i ≡ Some shows_port.port =
         sym (row_port_of hub b.world.roots f.0 f.1 f.2 i f.3) ∙ shows_port.there in
         let most : i < length (row_of f.2) = slice_get_within (row_of f.2) i shows_port.port
         stood in
-        omega (arith, most, counted, so_many, ap (λ (d : State). hub_ports d.spec.hub) is)
+        omega (arith, so_many, ap (λ (d : State). hub_ports d.spec.hub) is)
 
     known_there : IsPath (hub ++ (suc i ∷ [])) × IsSome (known_port (hub ++ (suc i ∷ [])) b.entries)
     known_there =
         let above : parent_of (hub ++ (suc i ∷ [])) ≡ Some hub = parent hub (suc i) path.0 in
         let number : suc i ≡ port_on_hub (hub ++ (suc i ∷ [])) =
-        same_last hub (suc i) (port_on_hub (hub ++ (suc i ∷ [])))
-        (rejoined (hub ++ (suc i ∷ [])) hub above) in
+        same_last hub (rejoined (hub ++ (suc i ∷ [])) hub above) in
         let some : IsSome (port_below (Some hub) (suc i) b.entries) =
-        known_by (finding_at hub b.entries) there.device facts (is_below_hub hub) (suc i)
-        there.found there.told within in (
+        rw (there.found, there.told, le-leb (suc i) facts.ports within) refl in (
           path_of_port i less,
           subst (λ (p : Option (List ℕ)). IsSome
               (port_below p (port_on_hub (hub ++ (suc i ∷ []))) b.entries)) (sym above)
-              (subst (λ n. IsSome (port_below (Some hub) n b.entries)) number some),
+              (rw number at some),
         )
 
   module _ (same : (at_attempt x.mid).roots ≡ x.mid.roots) where
     shows_each : (n : ℕ) → 1 ≤ n → n ≤ 7 → has_bit bits n ≡ true
         → ShowsChange b.world (hub ++ (n ∷ []))
-    shows_each zero least most set = absurd (omega (arith, least))
-    shows_each (suc i) least most set = shows_port same i (omega (arith, most)) set
+    shows_each zero least most set = absurd (omega arith)
+    shows_each (suc i) least most set = shows_port same i (omega arith) set
 
     known_each : (n : ℕ) → 1 ≤ n → n ≤ 7 → has_bit bits n ≡ true → IsPath (hub ++ (n ∷ []))
         × IsSome (known_port (hub ++ (n ∷ [])) b.entries)
-    known_each zero least most set = absurd (omega (arith, least))
-    known_each (suc i) least most set = known_there same i (omega (arith, most)) set
+    known_each zero least most set = absurd (omega arith)
+    known_each (suc i) least most set = known_there same i (omega arith) set
 
     shows_told : bits ≢ 0 → ShowsTold hub bits b
     shows_told some =
         let first : (i : ℕ) × (i < 7) × (has_bit (change_bits (row_of x.ports)) (suc i) ≡ true) =
-        bit_some (row_of x.ports) (λ none. some (x.told ∙ none)) in
+        bit_some (row_of x.ports) (weights _) (λ none. some (x.told ∙ none)) in
         record {
           number = suc first.0;
           least = omega arith;
@@ -447,7 +379,7 @@ module _ (hub : List ℕ) (a b : HostState) (agrees : Agrees b.entries b.address
   pub poll_shows : (at_attempt x.mid).taken ≤ b.world.taken → bits ≢ 0 → ShowsTold hub bits b
       ⊎ (a.world.taken + 1 ≤ b.world.taken)
   poll_shows came some = elim (cases_lt a.world.taken b.world.taken) [
-    | inl less ↦ inr (omega (arith, less))
+    | inl less ↦ inr (omega arith)
     | inr none ↦ inl (shows_told (ready_none x.mid
-        (omega (arith, none, came, course_taken (x.rests []), ready_taken x.mid))) some)
+        (omega (arith, course_taken (x.rests []), ready_taken x.mid))) some)
   ]

@@ -29,10 +29,10 @@ owning_came old new result running takes rests o =
     (event_keeps old.world result new.world takes.took takes.exact takes.kept takes.cut
     (λ reached none. cc (ap is_some none, takes.limit reached))).kept (claims old.entries)
     (o.owned running) in
-    let same : new.entries ≡ old.entries = ap (λ (h : HostState). h.entries) rests in
     record {
       single = kept.single;
       owned =
-          λ on. subst (λ (es : Entries). WhileBusWorks (MapHolds (claims es)) new.world) (sym same)
+          λ on. subst (λ (es : Entries). WhileBusWorks (MapHolds (claims es)) new.world)
+          (sym (ap (λ (h : HostState). h.entries) rests))
           kept;
     }

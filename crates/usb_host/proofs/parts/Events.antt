@@ -7,7 +7,7 @@ use Rattle.usb_world.specs.{event, after, Course, here, step, World, roots_of}
 use Rattle.usb_world.proofs.Interface.{course_wider, each_wider, taken_state, unreset_reach}
 use Rattle.usb_enum.proofs.Interface.{course_later}
 use Rattle.usb_table.specs.{Entries, AllInSync, Table, SameSettings}
-use Rattle.usb_host.specs.{PortsListed, DevicesAccurate, RefusalsJustified, EachStill, Accounted}
+use Rattle.usb_host.specs.{PortsListed, DevicesAccurate, RefusalsJustified, Accounted}
 use Rattle.usb_host.proofs.knowledge.KnowledgeKept.{known_each, truthful_stays, causes_stay}
 
 -- an event asks nothing of any port
@@ -26,11 +26,6 @@ event_same w j s on stands = record {
   so = refl;
 }
 
-event_still : (w : World) → EachStill w (after event w)
-event_still w = each_wider (λ x s v. v ≡ s) SameSettings
-    (λ j s v e. (ap (λ (d : State). d.spec) e, ap (λ (d : State). d.registers) e)) w (after event w)
-    (event_same w)
-
 -- so pipes are as far as they were
 pub level_event : (table : Table) (w : World) → AllInSync table w → AllInSync table (after event w)
 unfolding resets after
@@ -46,11 +41,14 @@ known_event w entries known = known_each w (after event w) entries
 
 pub truthful_event : (w : World) (entries : Entries) → DevicesAccurate w entries
     → DevicesAccurate (after event w) entries
-truthful_event w entries told = truthful_stays w (after event w) entries (event_still w) told
+truthful_event w entries told = truthful_stays w (after event w) entries
+    (each_wider (λ x s v. v ≡ s) SameSettings
+    (λ j s v e. (ap (λ (d : State). d.spec) e, ap (λ (d : State). d.registers) e)) w (after event w)
+    (event_same w)) told
 
-pub causes_event : (w : World) (entries : Entries) (addresses : Addresses)
+pub causes_event : (w : World) {entries : Entries} {addresses : Addresses}
     → Accounted (roots_of w) entries addresses → PortsListed w entries → RefusalsJustified w entries
     → RefusalsJustified (after event w) entries
-causes_event w entries addresses accounted known caused =
-    causes_stay w (after event w) entries addresses accounted known
+causes_event w accounted known caused =
+    causes_stay w (after event w) accounted known
     (λ path port. course_wider (λ s u x. x.spares) (event_calm path w)) caused

@@ -39,8 +39,8 @@ pub powered_is_opening : (w0 w : World) (t0 t : Option (List ℕ)) (table : Tabl
     → going w t table addresses ≡ opening_host w0 t0
 powered_is_opening w0 w t0 t table addresses e silent f h =
     ap (λ v. going v t table addresses) e ∙ ap (λ s. going (world_powered w0) s table addresses)
-    silent ∙ ap (λ x. going (world_powered w0) t0 x addresses) f
-    ∙ ap (λ s. going (world_powered w0) t0 empty s) h
+    silent ∙ ap (λ x. going (world_powered w0) t0 x addresses) f ∙ ap
+    (λ s. going (world_powered w0) t0 empty s) h
 
 -- Power moves no device
 
@@ -101,18 +101,17 @@ told_given b true dark at = rw (dark, at) refl
 told_given b false dark at = rw (dark, at) refl
 
 known-with_power : (k : Ports) (i : ℕ) → Consistent k → All (λ b. b.power ≡ false) (row_of k)
-    → i < length (row_of (with_power k))
-    → (pending_at (with_power k) i [] ≡ true)
+    → i < length (row_of (with_power k)) → (pending_at (with_power k) i [] ≡ true)
     ⊎ ((has_power_at (with_power k) i [] ≡ true) × (state_at (with_power k) i [] ≡ None))
 unfolding with_power Consistent row_of pending_at has_power_at state_at
-known-with_power ended i h dark lt = absurd (omega (arith, lt))
+known-with_power ended i h dark lt = absurd (omega arith)
 known-with_power (vacant b k) zero h dark lt = inr (power_given b, refl)
 known-with_power (vacant b k) (suc i) h dark lt =
-    known-with_power k i h.2 (All-tail (λ b. b.power ≡ false) b (row_of k) dark) (omega (arith, lt))
+    known-with_power k i h.2 (All-tail (λ b. b.power ≡ false) b (row_of k) dark) (omega arith)
 known-with_power (taken b s a k) zero h dark lt =
     inl (told_given b s.spec.low (All-head (λ b. b.power ≡ false) b (row_of k) dark) h.1)
 known-with_power (taken b s a k) (suc i) h dark lt =
-    known-with_power k i h.3 (All-tail (λ b. b.power ≡ false) b (row_of k) dark) (omega (arith, lt))
+    known-with_power k i h.3 (All-tail (λ b. b.power ≡ false) b (row_of k) dark) (omega arith)
 
 known_opening : (w : World) → IsUnpowered w → PortsListed (world_powered w) []
 unfolding parent_of port_on_hub

@@ -56,12 +56,12 @@ pub powers_one : (w0 w v : World) (port : ℕ) → 1 ≤ port → w ≡ powered_
     → SetsRoot port PORT_POWER w v → v ≡ powered_world port w0
 powers_one w0 w v port least e s =
     let n : ℕ = port - 1 in
-    let next : suc n ≡ port = omega (arith, least) in
-    s.step SetPower refl ∙ ap (λ x. after (root_call SetPower port) x) e
-    ∙ ap (λ m. after (root_call SetPower m) (powered_world n w0)) (sym next)
-    ∙ powers_next w0 n ∙ ap (λ m. powered_world m w0) next
+    let next : suc n ≡ port = omega arith in
+    s.step SetPower refl ∙ ap (λ x. after (root_call SetPower port) x) e ∙ ap
+    (λ m. after (root_call SetPower m) (powered_world n w0)) (sym next) ∙ powers_next w0 n ∙ ap
+    (λ m. powered_world m w0) next
 
-pub powered_all : (w0 w : World) (n : ℕ) → n ≡ roots_of w0 → w ≡ powered_world n w0
+pub powered_all : (w0 w : World) {n : ℕ} → n ≡ roots_of w0 → w ≡ powered_world n w0
     → w ≡ record w0 { roots = with_power w0.roots }
-powered_all w0 w n e h = h ∙ ap (λ m. powered_world m w0) e
-    ∙ ap (λ r. record w0 { roots = r }) (all_upto w0.roots)
+powered_all w0 w e h = h ∙ ap (λ m. powered_world m w0) e ∙ ap (λ r. record w0 { roots = r })
+    (all_upto w0.roots)

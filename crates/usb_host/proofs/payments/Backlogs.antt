@@ -1,11 +1,10 @@
 -- What the clearing of a port's changes pays of what is left to do.
 use Rattle.std.proofs.Common.{◌≡◌, inl, inr, ℕ, zero, suc, true, false, List, [], ◌∷◌, Option, None}
-use Rattle.std.proofs.Common.{Some, is_some, option_map, refl, ap, sym, subst, ◌∙◌, arith}
+use Rattle.std.proofs.Common.{Some, is_some, option_map, refl, ap, sym, ◌∙◌, arith}
 use Rattle.std.proofs.lemmas.Option.{same_Some}
 use Rattle.usb_port.specs.{PortState, is_attached, PortStatus, PortCall, ClearConnectionChange}
 use Rattle.usb_port.specs.{ClearResetChange, is_reset}
-use Rattle.usb_device.specs.{State, Ports, empty, full, port_of, called, place, port_there}
-use Rattle.usb_device.specs.Tree.{Place}
+use Rattle.usb_device.specs.{State, Ports, empty, full, port_of, called, place, port_there, Place}
 use Rattle.usb_world.specs.{AtPorts, Consistent, ConsistentPlace, after, World}
 use Rattle.usb_world.proofs.Interface.{course_then, stands}
 use Rattle.usb_tree.proofs.Interface.{both}
@@ -22,9 +21,9 @@ use Rattle.usb_enum.proofs.Interface.{orderly_on}
 use Rattle.usb_host.specs.{ResetCleared, ChangeCleared}
 
 -- a call that gives no power and resets nothing adds nothing, whatever is marked
-pub call_all : (p : List ℕ) (c : PortCall) {a b : World} → (gives_power c ≡ true → ⊥)
+pub call_all : {p : List ℕ} {c : PortCall} {a b : World} → (gives_power c ≡ true → ⊥)
     → (is_reset c ≡ true → ⊥) → KeepsCall p c a b → KeepsAll a b
-call_all p c quiet plain x = record {
+call_all quiet plain x = record {
   all =
       λ ports m v r few. x.covered ports m v r few (record {
         power = λ g. absurd (quiet g);
@@ -50,30 +49,29 @@ shows_connection (Some (empty x)) b e = ap (λ (y : PortState). y.connection_cha
 shows_connection (Some (full x s a)) b e =
     ap (λ (y : PortState). y.connection_changed) (sym (same_Some _ b e))
 
-pub reset_done : (p : List ℕ) (old mid new : World) → KeepsAll old mid
+pub reset_done : (p : List ℕ) {old : World} (mid : World) {new : World} → KeepsAll old mid
     → PortCallDone p ClearResetChange mid new → ResetCleared p old new
-reset_done p old mid new first d = record {
+reset_done p mid first d = record {
   mid = after d.last d.before;
-  acted = all_then first (call_all p ClearResetChange (λ g. absurd (cc g)) (λ g. absurd (cc g))
-      d.acted);
-  cleared = λ b there. shows_reset _ b (ap (option_map port_of) (sym d.done)
-      ∙ sym (port_of_place (after d.last d.before).roots p) ∙ there);
+  acted = all_then first (call_all (λ g. absurd (cc g)) (λ g. absurd (cc g)) d.acted);
+  cleared = λ b there. shows_reset _ b (ap (option_map port_of) (sym d.done) ∙ sym
+      (port_of_place (after d.last d.before).roots p) ∙ there);
   rested = d.rested;
 }
 
-pub connection_done : (p : List ℕ) (status : PortStatus) (old w v new : World)
+pub connection_done : (p : List ℕ) (status : PortStatus) (old : World) {w v new : World}
     → PortCallDone p ClearConnectionChange old w → PortStatusAt p status w v → KeepsAll v new
     → ChangeCleared p status old new
-connection_done p status old w v new d t rest = record {
+connection_done p status old d t rest = record {
   mid = mid;
-  acted = call_all p ClearConnectionChange (λ g. absurd (cc g)) (λ g. absurd (cc g)) d.acted;
-  cleared = λ b there. shows_connection _ b (ap (option_map port_of) (sym d.done)
-      ∙ sym (port_of_place mid.roots p) ∙ there);
+  acted = call_all (λ g. absurd (cc g)) (λ g. absurd (cc g)) d.acted;
+  cleared = λ b there. shows_connection _ b (ap (option_map port_of) (sym d.done) ∙ sym
+      (port_of_place mid.roots p) ∙ there);
   now = t.now;
   between = all_then d.rested t.untold;
   rested = all_then t.rested rest;
-  bare = λ was b e. attached_there mid.roots p b (sane_mid was) (port_of_place mid.roots p
-      ∙ ap (option_map port_of) e) ∙ ap is_some (state_of_place mid.roots p ∙ ap stands e);
+  bare = λ was b e. attached_there mid.roots p b (sane_mid was) (port_of_place mid.roots p ∙ ap
+      (option_map port_of) e) ∙ ap is_some (state_of_place mid.roots p ∙ ap stands e);
   stood = λ was on. sym (attached_there t.now.roots p t.port (sane_now was) t.stood) ∙ attached on;
 }
   where
@@ -95,10 +93,10 @@ connection_done p status old w v new d t rest = record {
 
 -- What that pays
 
-pub port_of-place : (o : Option Place) (b : PortState) → option_map port_of o ≡ Some b → (q : Place)
+pub port_of-place : (o : Option Place) {b : PortState} → option_map port_of o ≡ Some b → (q : Place)
     × (o ≡ Some q) × (port_of q ≡ b)
-port_of-place None b e = absurd (cc e)
-port_of-place (Some q) b e = (q, refl, same_Some (port_of q) b e)
+port_of-place None e = absurd (cc e)
+port_of-place (Some q) {b = b} e = (q, refl, same_Some (port_of q) b e)
 
 pub full_of : (o : Option Place) → is_some (stands o) ≡ true → (b : PortState) × (s : State)
     × (a : Ports) × (o ≡ Some (full b s a))
@@ -107,11 +105,10 @@ full_of (Some (empty b)) e = absurd (cc e)
 full_of (Some (full b s a)) e = (b, s, a, refl)
 
 -- the place at which a status was told
-told_place : (p : List ℕ) (status : PortStatus) (old new : World)
+told_place : (p : List ℕ) {status : PortStatus} {old new : World}
     (t : PortStatusAt p status old new) → (q : Place) × (place t.now.roots p ≡ Some q)
     × (port_of q ≡ t.port)
-told_place p status old new t = port_of-place (place t.now.roots p) t.port
-    (sym (port_of_place t.now.roots p) ∙ t.stood)
+told_place p t = port_of-place (place t.now.roots p) (sym (port_of_place t.now.roots p) ∙ t.stood)
 
 -- no port tells of a change of its enable
 pub steady_place : (q : Place) → ConsistentPlace q → (port_of q).enable_changed ≡ false
@@ -119,13 +116,13 @@ unfolding ConsistentPlace
 steady_place (empty b) h = h.0.steady
 steady_place (full b s a) h = h.0.steady
 
-pub told_steady : (p : List ℕ) (status : PortStatus) (old new : World)
+pub told_steady : (p : List ℕ) {status : PortStatus} {old new : World}
     → PortStatusAt p status old new → IsOrderly old → status.enable_changed ≡ false
-told_steady p status old new t was =
-    let q : _ = told_place p status old new t in
-    ap (λ (s : PortStatus). s.enable_changed) t.is
-    ∙ ap (λ (b : PortState). b.enable_changed) (sym q.2)
-    ∙ steady_place q.0 (sane_there t.now.roots p q.0 (orderly_on was (t.before p)).sane q.1)
+told_steady p t was =
+    let q : _ = told_place p t in
+    ap (λ (s : PortStatus). s.enable_changed) t.is ∙ ap (λ (b : PortState). b.enable_changed)
+    (sym q.2) ∙ steady_place q.0
+    (sane_there t.now.roots p q.0 (orderly_on was (t.before p)).sane q.1)
 
 module _ (j : ℕ) (e : List ℕ) (status : PortStatus) (old mid : World) (ports : AtPorts old.left)
     (t : PortStatusAt (suc j ∷ e) status old mid) where
@@ -139,7 +136,7 @@ module _ (j : ℕ) (e : List ℕ) (status : PortStatus) (old mid : World) (ports
   pub reset_pays : status.reset_changed ≡ true → (new : World) → ResetCleared p mid new
       → PaysStray old new
   reset_pays told new x =
-      let q : _ = told_place p status old mid t in
+      let q : _ = told_place p t in
       let set : (port_of q.0).reset_changed ≡ true = ap (λ (b : PortState). b.reset_changed) q.2
       ∙ ap (λ (s : PortStatus). s.reset_changed) (sym t.is) ∙ told in
       let onward : KeepsBy unmarked unmarked (only p) t.now x.mid =
@@ -152,8 +149,8 @@ module _ (j : ℕ) (e : List ℕ) (status : PortStatus) (old mid : World) (ports
         looks = omega (arith, before.looks, pays.looks);
         strays = omega (arith, before.strays, pays.strays);
         paid = elim pays.paid [
-          | inl y ↦ inl (omega (arith, before.strays, y))
-          | inr y ↦ inr (omega (arith, before.onward, y))
+          | inl y ↦ inl (omega (arith, before.strays))
+          | inr y ↦ inr (omega (arith, before.onward))
         ];
       }
 
@@ -165,9 +162,9 @@ module _ (j : ℕ) (e : List ℕ) (status : PortStatus) (old mid : World) (ports
 
     at_clearing : ClearedAt j e t.now x.mid
     at_clearing =
-        let q : _ = told_place p status old mid t in
-        cleared_at j e t.now x.mid q.0 q.1 (ap (λ (b : PortState). b.connection_changed) q.2
-        ∙ ap (λ (s : PortStatus). s.connection_changed) (sym t.is) ∙ told) onward
+        let q : _ = told_place p t in
+        cleared_at j e t.now x.mid q.0 q.1 (ap (λ (b : PortState). b.connection_changed) q.2 ∙ ap
+        (λ (s : PortStatus). s.connection_changed) (sym t.is) ∙ told) onward
         (λ o at. x.cleared (port_of o) (port_of_place x.mid.roots p ∙ ap (option_map port_of) at))
         (x.bare order)
 
@@ -195,53 +192,51 @@ module _ (j : ℕ) (e : List ℕ) (status : PortStatus) (old mid : World) (ports
           looks = omega (arith, before.looks, pays.looks);
           strays = omega (arith, before.strays, pays.strays);
           paid = elim pays.paid [
-            | inl y ↦ inl (omega (arith, before.looks, y))
+            | inl y ↦ inl (omega (arith, before.looks))
             | inr z ↦ elim z [
-              | inl y ↦ inr (inl (omega (arith, before.strays, y)))
-              | inr y ↦ inr (inr (omega (arith, before.onward, y)))
+              | inl y ↦ inr (inl (omega (arith, before.strays)))
+              | inr y ↦ inr (inr (omega (arith, before.onward)))
             ]
           ];
         }
 
 -- the same of a port by its path, which one that told has
 
-port_there-not_empty : (p : List ℕ) (w : World) (b : PortState) {A : Type 0}
+port_there-not_empty : (p : List ℕ) (w : World) {b : PortState} {A : Type 0}
     → ((j : ℕ) (e : List ℕ) → p ≡ suc j ∷ e → A) → port_there w.roots p ≡ Some b → A
-port_there-not_empty [] w b f there = absurd (cc there)
-port_there-not_empty (zero ∷ e) w b f there = absurd (cc there)
-port_there-not_empty (suc j ∷ e) w b f there = f j e refl
+port_there-not_empty [] w f there = absurd (cc there)
+port_there-not_empty (zero ∷ e) w f there = absurd (cc there)
+port_there-not_empty (suc j ∷ e) w f there = f j e refl
 
 pub told_resets : (p : List ℕ) (status : PortStatus) (old mid new : World) → AtPorts old.left
     → PortStatusAt p status old mid → status.reset_changed ≡ true → ResetCleared p mid new
     → PaysStray old new
 told_resets p status old mid new ports t told x =
-    port_there-not_empty p t.now t.port
-    (λ j e is. reset_pays j e status old mid ports (subst (λ q. PortStatusAt q status old mid) is t)
-    told new (subst (λ q. ResetCleared q mid new) is x)) t.stood
+    port_there-not_empty p t.now
+    (λ j e is. reset_pays j e status old mid ports (rw is at t) told new (rw is at x)) t.stood
 
 pub told_looks : (p : List ℕ) (status : PortStatus) (old mid : World) → AtPorts old.left
     → PortStatusAt p status old mid → status.connection_changed ≡ true
     → (second : PortStatus) (left : World) → ChangeCleared p second mid left → IsOrderly mid
     → second.connected ≡ true → (new : World) → KeepsFound p left new → PaysLook old new
 told_looks p status old mid ports t told second left x order on new found =
-    port_there-not_empty p t.now t.port
-    (λ j e is. look_pays j e status old mid ports (subst (λ q. PortStatusAt q status old mid) is t)
-    told second left (subst (λ q. ChangeCleared q second mid left) is x) order on new
-    (subst (λ q. KeepsFound q left new) is found)) t.stood
+    port_there-not_empty p t.now
+    (λ j e is. look_pays j e status old mid ports (rw is at t) told second left (rw is at x) order
+    on new (rw is at found)) t.stood
 
 pub told_pays_bare : (p : List ℕ) (status : PortStatus) (old mid : World) → AtPorts old.left
     → PortStatusAt p status old mid → status.connection_changed ≡ true
     → (second : PortStatus) (left : World) → ChangeCleared p second mid left → IsOrderly mid
     → PaysBare old left
 told_pays_bare p status old mid ports t told second left x order =
-    port_there-not_empty p t.now t.port
-    (λ j e is. none_pays j e status old mid ports (subst (λ q. PortStatusAt q status old mid) is t)
-    told second left (subst (λ q. ChangeCleared q second mid left) is x) order) t.stood
+    port_there-not_empty p t.now
+    (λ j e is. none_pays j e status old mid ports (rw is at t) told second left (rw is at x) order)
+    t.stood
 
 -- a status was told, and no more is left to do since
-pub told_keeps : (p : List ℕ) (status : PortStatus) (old mid new : World) → AtPorts old.left
+pub told_keeps : {p : List ℕ} {status : PortStatus} {old mid new : World} → AtPorts old.left
     → PortStatusAt p status old mid → KeepsAll mid new → KeepsPlain old new
-told_keeps p status old mid new ports t x =
+told_keeps {old = old} {new = new} ports t x =
     let all : KeepsBy unmarked unmarked unmarked old new =
     (all_then (all_then t.untold t.rested) x).all ports unmarked unmarked unmarked few-none in
     record { looks = all.looks; strays = all.strays }

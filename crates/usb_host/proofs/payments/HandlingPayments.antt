@@ -1,5 +1,5 @@
 -- What was left to do pays for the handling of a port.
-use Rattle.std.proofs.Common.{◌≡◌, ◌≤◌, ◌⊎◌, ◌∙◌, inl, inr, refl, sym, ap, subst, arith, ℕ, ◌+◌}
+use Rattle.std.proofs.Common.{◌≡◌, ◌≤◌, ◌⊎◌, ◌∙◌, inl, inr, refl, ap, subst, arith, ℕ, ◌+◌}
 use Rattle.std.proofs.Common.{◌*◌, false, List, [], ◌∷◌, ◌++◌, Option, None, Some, Result, Ok, Err}
 use Rattle.std.specs.Prelude.{IsErr, IsSome, IsSomeAnd, OnOk, IfErr, IfOk, is_some, length}
 use Rattle.std.proofs.Math.Nat.{mul-le-mul_left}
@@ -9,18 +9,17 @@ use Rattle.usb_world.specs.{AtPorts, PlanData}
 use Rattle.usb_world.proofs.Interface.{way_shorter}
 use Rattle.usb_backlog.specs.{KeepsAll, KeepsBy, unmarked, KeepsPlain, PaysBare, PaysLook}
 use Rattle.usb_backlog.proofs.Interface.{few-none}
-use Rattle.usb_enum.specs.{FaultAllowedAt, EnumFault, ParentLost, Bus, Memory, Finding}
+use Rattle.usb_enum.specs.{FaultAllowedAt, EnumFault, ParentLost, Bus, Memory}
 use Rattle.usb_enum.proofs.Interface.{went_sound}
 use Rattle.usb_table.specs.{KnownPort, Entries, without, is_below_hub, known_port, port_below}
 use Rattle.usb_table.specs.{finding_at, hub_facts_at, hub_facts_in}
 use Rattle.usb_table.proofs.Interface.{FoundPort, port_found-some}
 use Rattle.usb_host.specs.{FindsNone, ServePaid, hubs, found, bare, tidied, calm, deciding_bound}
-use Rattle.usb_host.specs.{drop_bound, handling_bound, serving_bound, NumberPaid, Pays, PaysPart}
-use Rattle.usb_host.specs.{PortPaid, Weights, WorksOn, handling_most, hub_weight, paid, idle}
-use Rattle.usb_host.specs.{HostState, ServesSound, EndsAs, StandsAt, HostSteps, FinishesAt}
-use Rattle.usb_host.specs.{HandlesBelow, HandlesNumber, HandlesPort, HasHub, ServedAt, ServesPort}
-use Rattle.usb_host.specs.{StaysOrForgets, port_known, port_unknown, HostFault, Round, Worked}
-use Rattle.usb_host.specs.{Quiet}
+use Rattle.usb_host.specs.{drop_bound, serving_bound, NumberPaid, Pays, PaysPart, PortPaid, Weights}
+use Rattle.usb_host.specs.{WorksOn, handling_most, hub_weight, paid, idle, HostState, ServesSound}
+use Rattle.usb_host.specs.{EndsAs, StandsAt, HostSteps, FinishesAt, HandlesBelow, HandlesNumber}
+use Rattle.usb_host.specs.{HandlesPort, HasHub, ServesPort, StaysOrForgets, port_known}
+use Rattle.usb_host.specs.{port_unknown, HostFault, Round, Worked, Quiet}
 use Rattle.usb_host.proofs.ParentPaths.{parent_length}
 use Rattle.usb_host.proofs.RoundParts.{part-fails, part-none, part-wider}
 use Rattle.usb_host.proofs.payments.Payments.{few_stop, looks_pay, is_err-if_ok, pays_part_failed}
@@ -45,16 +44,15 @@ hub_facts-without : (path : List ℕ) (es : Entries) (above : Option (List ℕ))
     → IsSomeAnd above (λ hub. IsSome (hub_facts_at hub (without path es)))
 hub_facts-without path es None is h = h
 hub_facts-without path es (Some hub) is h =
-    let shorter : length path ≡ length hub + 1 = (parent_length path hub is).0 in
-    let away : is_way path hub ≡ false = way_shorter path hub (omega (arith, shorter)) in
-    subst (λ (o : Option Finding). IsSome (hub_facts_in o)) (sym (finding-kept path hub es away)) h
+    let shorter : length path ≡ length hub + 1 = (parent_length path is).0 in
+    let away : is_way path hub ≡ false = way_shorter path hub (omega arith) in
+    rw (finding-kept path hub es away) h
 
 -- it is listed yet where the port was forgotten
 has_hub : (path : List ℕ) (old new : Entries) → StaysOrForgets path old new → HasHub path old
     → HasHub path new
-has_hub path old new (inl same) h = subst (HasHub path) (sym same) h
-has_hub path old new (inr gone) h = subst (HasHub path) (sym gone)
-    (hub_facts-without path old (parent_of path) refl h)
+has_hub path old new (inl same) h = rw same h
+has_hub path old new (inr gone) h = rw gone (hub_facts-without path old (parent_of path) refl h)
 
 -- A port was served
 
@@ -75,12 +73,11 @@ bare_pays c a b f x = elim x.paid [
 ]
 
 module _ (c : Weights) (path : List ℕ) (a b : HostState) (few : b.world.attempts
-    ≤ a.world.attempts + (257200 + 100 * c.most))
-    (on : a.world.taken ≤ b.world.taken) (more : hubs b.entries ≤ hubs a.entries + 1) where
+    ≤ a.world.attempts + (257200 + 100 * c.most)) (on : a.world.taken ≤ b.world.taken)
+    (more : hubs b.entries ≤ hubs a.entries + 1) where
   pub port_paid : ServePaid path a b → PortPaid c path a b
-  port_paid (found x) = let y = mul-le-mul_left (hub_weight c) more in
-      paid (looks_pay c (257200 + 100 * c.most) (c.polls + 12768) a b few x.looks x.strays on
-      (omega (arith, y)))
+  port_paid (found x) = paid (looks_pay c (257200 + 100 * c.most) (c.polls + 12768) a b few x.looks
+      x.strays on (omega (arith, mul-le-mul_left (hub_weight c) more)))
   port_paid (bare x f) = paid (bare_pays c a b f x)
   port_paid (tidied x f) = paid (bare_pays c a b f (record {
     looks = x.looks;
@@ -116,89 +113,84 @@ module _ (c : Weights) (path : List ℕ) (a b : HostState) (few : b.world.attemp
       → KeepsAll b.world d.world → d.world.attempts ≤ b.world.attempts + 11200
       → hubs d.entries + 1 ≤ hubs b.entries → Pays c (c.polls + 12768) a d
   lost_paid d served ports keeps dropped fewer = elim (few_found served) [
-    | inl x ↦ looks_pay c (268400 + 100 * c.most) (c.polls + 12768) a d
-        (omega (arith, few, dropped)) (omega (arith, x.looks, all.looks, all.onward))
-        (omega (arith, x.strays, all.strays)) (omega (arith, on, all.onward))
-        (let y = mul-le-mul_left (hub_weight c) (kept x) in omega (arith, y))
-    | inr x ↦ plain_pays c 18400 (c.polls + 12768) 0 0 1 0 a d (omega (arith, x.1, dropped))
+    | inl x ↦ looks_pay c (268400 + 100 * c.most) (c.polls + 12768) a d (omega arith)
+        (omega (arith, x.looks, all.looks, all.onward)) (omega (arith, x.strays, all.strays))
+        (omega (arith, all.onward)) (omega (arith, mul-le-mul_left (hub_weight c) (kept x)))
+    | inr x ↦ plain_pays c 18400 (c.polls + 12768) 0 0 1 0 a d (omega (arith, x.1))
         (omega (arith, x.0.looks, all.looks)) (omega (arith, x.0.strays, all.strays))
-        (omega (arith, x.2, fewer)) (omega (arith, on, all.onward)) (omega arith)
+        (omega (arith, x.2)) (omega (arith, all.onward)) (omega arith)
   ]
     where
       all : KeepsBy unmarked unmarked unmarked b.world d.world
       all = keeps.all ports unmarked unmarked unmarked few-none
 
       kept : PaysLook a.world b.world → hubs d.entries ≤ hubs a.entries
-      kept x = omega (arith, more, fewer)
+      kept x = omega arith
 
 -- A port was handled
 
-module _ (path : List ℕ) (port : KnownPort) (a b d : HostState) (s : StandsAt path port a)
+module _ {path : List ℕ} {port : KnownPort} (a b d : HostState) (s : StandsAt path port a)
     (first : HostSteps serving_bound a b)
     (second : HostSteps drop_bound b d) where
-  few_served : (c : Weights) (plan : PlanData) (served : Result (Unit {0}) EnumFault)
+  few_served : (c : Weights) {plan : PlanData} {served : Result (Unit {0}) EnumFault}
       → ServesPort path port a served b → WorksOn c plan a
       → b.world.attempts ≤ a.world.attempts + (257200 + 100 * c.most)
-  few_served c plan served x w = omega (
+  few_served c {plan = plan} x w = omega (
     arith,
     x.pays.few w.sound c.most (λ still. works_on-plan c plan a w),
   )
 
-  module _ (c : Weights) (plan : PlanData) (w : WorksOn c plan a) (still : d.world.fault ≡ None)
-    where
-      here : b.world.fault ≡ None
-      here = went_sound drop_bound b.world d.world second still
+  module _ (c : Weights) (plan : PlanData) (w : WorksOn c plan a)
+      (still : d.world.fault ≡ None) where
+    here : b.world.fault ≡ None
+    here = went_sound drop_bound b.world d.world second still
 
-      done_pays : (served : Result (Unit {0}) EnumFault) (result : Result (Unit {0}) HostFault)
-          → EndsAs served result
-          → IfErr served (λ fault. FaultAllowedAt port.port fault b.world)
-          → ServesSound path a served b → ServesPort path port a served b
-          → FinishesAt path served b result d → AtPorts b.world.left
-          → IfOk result (λ done. PortPaid c path a d)
-      done_pays (Ok done) (Ok x) ends told sound serves finishes ports =
-          subst (PortPaid c path a) (sym finishes.left)
-          (port_paid c path a b (few_served c plan (Ok done) serves w) first.spends.onward
-          serves.hubs
-          (serves.pays.pays w.sound (works_on-ports c plan a w) here))
-      done_pays (Err ParentLost) (Ok x) ends told sound serves finishes ports =
-          let has : HasHub path a.entries =
-          has_by path a.entries port (parent_of path) s.known
-          (lost_above path a.entries port b.world told (parent_of path) refl s.known) in
-          paid
-          (lost_paid c path a b (few_served c plan (Err ParentLost) serves w) first.spends.onward
-          serves.hubs d (serves.pays.pays w.sound (works_on-ports c plan a w) here) ports
-          (finishes.drops.backlog (sound.sound w.sound) still) (omega (arith, second.spends.most))
-          (finishes.fewer refl (has_hub path a.entries b.entries (serves.served w.sound) has)))
-      done_pays (Err (Bus fault)) (Ok x) ends told sound serves finishes ports = absurd (cc ends)
-      done_pays (Err Memory) (Ok x) ends told sound serves finishes ports = absurd (cc ends)
-      done_pays (Ok done) (Err other) ends told sound serves finishes ports = tt
-      done_pays (Err fault) (Err other) ends told sound serves finishes ports = tt
+    done_pays : (served : Result (Unit {0}) EnumFault) (result : Result (Unit {0}) HostFault)
+        → EndsAs served result → IfErr served (λ fault. FaultAllowedAt port.port fault b.world)
+        → ServesSound path a served b → ServesPort path port a served b
+        → FinishesAt path served b result d → AtPorts b.world.left
+        → IfOk result (λ done. PortPaid c path a d)
+    done_pays (Ok done) (Ok x) ends told sound serves finishes ports =
+        rw finishes.left (port_paid c path a b (few_served c serves w) first.spends.onward
+        serves.hubs (serves.pays.pays w.sound (works_on-ports w) here))
+    done_pays (Err ParentLost) (Ok x) ends told sound serves finishes ports =
+        let has : HasHub path a.entries =
+        has_by path a.entries port (parent_of path) s.known
+        (lost_above path a.entries b.world told (parent_of path) refl s.known) in
+        paid
+        (lost_paid c path a b (few_served c serves w) first.spends.onward serves.hubs d
+        (serves.pays.pays w.sound (works_on-ports w) here) ports
+        (finishes.drops.backlog (sound.sound w.sound) still) (omega (arith, second.spends.most))
+        (finishes.fewer refl (has_hub path a.entries b.entries (serves.served w.sound) has)))
+    done_pays (Err (Bus fault)) (Ok x) ends told sound serves finishes ports = absurd (cc ends)
+    done_pays (Err Memory) (Ok x) ends told sound serves finishes ports = absurd (cc ends)
+    done_pays (Ok done) (Err other) ends told sound serves finishes ports = tt
+    done_pays (Err fault) (Err other) ends told sound serves finishes ports = tt
 
   pub handling_pays : (served : Result (Unit {0}) EnumFault) (result : Result (Unit {0}) HostFault)
-      → EndsAs served result
-      → IfErr served (λ fault. FaultAllowedAt port.port fault b.world) → ServesSound path a served b
-      → ServesPort path port a served b
-      → FinishesAt path served b result d
+      → EndsAs served result → IfErr served (λ fault. FaultAllowedAt port.port fault b.world)
+      → ServesSound path a served
+      b
+      → ServesPort path port a served b → FinishesAt path served b result d
       → PaysPart handling_most (λ c done. PortPaid c path) a result d
   handling_pays served result ends told sound serves finishes = record {
     stops = λ c plan w. few_stop c (handling_most c) a d
-        (omega (arith, few_served c plan served serves w, second.spends.most))
+        (omega (arith, few_served c serves w, second.spends.most))
         (omega (arith, first.spends.onward, second.spends.onward));
     pays = λ c plan w still. done_pays c plan w still served result ends told sound serves finishes
-        (ports_after serving_bound c plan a b first w
-        (went_sound drop_bound b.world d.world second still));
+        (ports_after plan a b first w (went_sound drop_bound b.world d.world second still));
   }
 
 -- A port of a hub
 
-pub number_handled : (hub : List ℕ) (number : ℕ) (p : List ℕ) (due : Type 0) (a b : HostState)
+pub number_handled : {hub : List ℕ} {number : ℕ} (p : List ℕ) {due : Type 0} {a b : HostState}
     → p ≡ hub ++ number ∷ [] → due → HandlesPort p due a (Ok tt) b
     → HandlesNumber hub number a (Ok Worked) b
-number_handled hub number p due a b is on x = record {
-  part = part-wider Round handling_bound handling_bound a b tt Worked x.part (omega arith);
+number_handled p {a = a} {b = b} is on x = record {
+  part = part-wider Round x.part (omega arith);
   handled = record {
     did = x.handled.advances on;
-    served = λ s. port_known (subst (λ q. ServedAt q a b) is (x.handled.served s));
+    served = λ s. port_known (rw is at (x.handled.served s));
   };
   pays = record {
     stops = x.pays.stops;
@@ -207,23 +199,21 @@ number_handled hub number p due a b is on x = record {
   };
 }
 
-pub number_stops : (hub : List ℕ) (number : ℕ) (p : List ℕ) (due : Type 0) (a b : HostState)
-    (fault : HostFault) (other : Result Round HostFault) → IsErr other
+pub number_stops : {hub : List ℕ} (number : ℕ) (p : List ℕ) {due : Type 0} {a b : HostState}
+    {fault : HostFault} {other : Result Round HostFault} → IsErr other
     → HandlesPort p due a (Err fault) b → HandlesNumber hub number a other b
-number_stops hub number p due a b fault other e x = record {
-  part = part-fails handling_bound handling_bound a b fault other x.part e (omega arith);
+number_stops {hub = hub} number p {a = a} {b = b} {other = other} e x = record {
+  part = part-fails other x.part e (omega arith);
   handled = is_err-if_ok other (λ round. HandlesBelow hub number round a b) e;
-  pays = pays_part_failed other (Err fault) handling_most (λ (c : Weights). NumberPaid c hub number)
-      _ a
-      b e x.pays;
+  pays = pays_part_failed other (λ (c : Weights). NumberPaid c hub number) _ a b e x.pays;
 }
 
 -- none is known there
-pub number_unknown : (hub : List ℕ) (number : ℕ) (h : HostState)
+pub number_unknown : {hub : List ℕ} {number : ℕ} {h : HostState}
     → (IsPath (hub ++ number ∷ []) → known_port (hub ++ number ∷ []) h.entries ≡ None)
     → HandlesNumber hub number h (Ok Quiet) h
-number_unknown hub number h unknown = record {
-  part = part-none handling_bound Quiet h;
+number_unknown {h = h} unknown = record {
+  part = part-none;
   handled = record { did = refl; served = λ s. port_unknown unknown refl };
   pays = record {
     stops = λ c plan w. few_stop c (handling_most c) h h (omega arith) (omega arith);
@@ -235,7 +225,6 @@ number_unknown hub number h unknown = record {
 
 pub hubs_dropped : (result : Result (Unit {0}) HostFault) (hub : List ℕ) (a b : HostState)
     → OnOk result (IsSome (hub_facts_at hub a.entries) → hubs b.entries + 1 ≤ hubs a.entries)
-    → IsSome (hub_facts_at hub a.entries)
-    → OnOk result (hubs b.entries + 1 ≤ hubs a.entries)
+    → IsSome (hub_facts_at hub a.entries) → OnOk result (hubs b.entries + 1 ≤ hubs a.entries)
 hubs_dropped (Ok done) hub a b fewer some = fewer some
 hubs_dropped (Err fault) hub a b fewer some = tt

@@ -1,24 +1,24 @@
 -- What was left to do pays for the polls of hubs.
-use Rattle.std.proofs.Common.{◌≡◌, ◌≤◌, ◌<◌, ◌⊎◌, ◌∙◌, inl, inr, refl, sym, ap, subst, arith, ℕ}
+use Rattle.std.proofs.Common.{◌≡◌, ◌≤◌, ◌<◌, ◌⊎◌, ◌∙◌, inl, inr, refl, ap, arith, ℕ}
 use Rattle.std.proofs.Common.{zero, suc, ◌+◌, ◌*◌, Bool, true, false, cond, List, [], ◌∷◌, Option}
 use Rattle.std.proofs.Common.{None, Some, is_some, length, take, ltb, Result, Ok}
-use Rattle.std.specs.Prelude.{Any, IfSome, IsErr, IsOk, IsSome}
+use Rattle.std.specs.Prelude.{Any, IsErr, IsOk, IsSome}
 use Rattle.std.specs.List.{count_by}
 use Rattle.std.proofs.lemmas.Bool.{le-ltb, lt-ltb, ltb-true}
 use Rattle.std.proofs.lemmas.List.Sums.{count_by-le-length, sum_by-cons}
 use Rattle.arrayvec.specs.ArrayVec.{ArrayVec}
-use Rattle.usb_port.specs.{IsPath, rank_of}
+use Rattle.usb_port.specs.{rank_of}
 use Rattle.usb_world.specs.{Action, Plug, Unplug, Event, PlanData, World}
 use Rattle.usb_world.specs.declared.event.Action.TheVariants.{Change, Ask}
 use Rattle.usb_world.proofs.Interface.{course_joined}
 use Rattle.usb_bus.specs.{StepRun}
 use Rattle.usb_backlog.specs.{KeepsAll, KeepsBy, unmarked}
 use Rattle.usb_backlog.proofs.Interface.{few-none}
-use Rattle.usb_pipe.specs.{PipeFault, ByteTold, PollTells}
+use Rattle.usb_pipe.specs.{PipeFault, ByteTold}
 use Rattle.usb_enum.specs.{HubFacts}
 use Rattle.usb_enum.proofs.Interface.{went_course, went_sound}
-use Rattle.usb_table.specs.{Entries, BitsOf, HubTold, KeepsPolled, finding_at, hub_facts_at}
-use Rattle.usb_table.specs.{ComesAfter, pipes_at, PipesPolled}
+use Rattle.usb_table.specs.{BitsOf, HubTold, KeepsPolled, finding_at, hub_facts_at}
+use Rattle.usb_table.specs.{pipes_at, PipesPolled}
 use Rattle.usb_host.specs.{Agrees, hubs, drop_bound, Costs, HubPaid, Pays, PaysPart, RoundPaid}
 use Rattle.usb_host.specs.{ShowsTold, StopsWithin, ToldPaid, Weights, WorksOn, debt, event_weight}
 use Rattle.usb_host.specs.{hubs_most, poll_most, told_most, HostState, PlugsAt, WasPlugged}
@@ -26,13 +26,13 @@ use Rattle.usb_host.specs.{HostSteps, either, first_byte, DropsSound, IsDroppabl
 use Rattle.usb_host.specs.{PartStays, KeepsInvariant, table_in, HostFault, Round, Worked, Quiet}
 use Rattle.usb_host.proofs.services.HubServices.{hub_tells}
 use Rattle.usb_host.proofs.RoundParts.{hub_listed}
-use Rattle.usb_host.proofs.payments.Payments.{costs_more, costs_none, costs_pays, few_stop}
+use Rattle.usb_host.proofs.payments.Payments.{costs_more, costs_pays, few_stop}
 use Rattle.usb_host.proofs.payments.Payments.{is_err-if_ok, pays_costs, plain_costs, plain_pays}
 use Rattle.usb_host.proofs.payments.Payments.{ports_after, works_on-ports, stops_after, works_on}
 use Rattle.usb_host.proofs.rests.Polls.{hub_there}
 use Rattle.usb_host.proofs.knowledge.ToldBits.{poll_shows}
 use Rattle.usb_host.proofs.devices.Plugs.{any_cases, any_none, there_was_plugged}
-use Rattle.usb_host.proofs.entries.Ranks.{rank_after, rank_rises}
+use Rattle.usb_host.proofs.entries.Ranks.{rank_after}
 use Rattle.usb_host.proofs.knowledge.SettledListings.{reached_there}
 use Rattle.usb_host.proofs.knowledge.Soundness.{but_kept, occupied_kept, sound_kept}
 
@@ -43,37 +43,36 @@ some_facts (Some facts) some = (facts, refl)
 -- A poll
 
 -- it adds nothing but events
-module _ (c : Weights) (plan : PlanData) (a b : HostState) (same : b.entries ≡ a.entries)
-    (went : HostSteps 768 a b) (w : WorksOn c plan a)
-    (keeps : KeepsAll a.world b.world) where
-  all : KeepsBy unmarked unmarked unmarked a.world b.world
-  all = keeps.all (works_on-ports c plan a w) unmarked unmarked unmarked few-none
+module _ {c : Weights} {plan : PlanData} {a : HostState} (b : HostState)
+    (same : b.entries ≡ a.entries) (went : HostSteps 768 a b) (w : WorksOn c plan a)
+    (keeps : KeepsAll a.world b.world)
+  where
+    all : KeepsBy unmarked unmarked unmarked a.world b.world
+    all = keeps.all (works_on-ports w) unmarked unmarked unmarked few-none
 
-  no_more : hubs b.entries ≡ hubs a.entries
-  no_more = ap hubs same
+    no_more : hubs b.entries ≡ hubs a.entries
+    no_more = ap hubs same
 
-  pub poll_costs : Costs c 768 a b
-  poll_costs = plain_costs c 768 a b (omega (arith, went.spends.most)) all.looks all.strays
-      (omega (arith, no_more)) all.onward
+    pub poll_costs : Costs c 768 a b
+    poll_costs = plain_costs c 768 a b (omega (arith, went.spends.most)) all.looks all.strays
+        (omega (arith, no_more)) all.onward
 
-  -- an event came
-  pub poll_paid : a.world.taken + 1 ≤ b.world.taken → Pays c (c.polls + 16768) a b
-  poll_paid came =
-      plain_pays c 768 (c.polls + 16768) 0 0 0 1 a b (omega (arith, went.spends.most))
-      (omega (arith, all.looks)) (omega (arith, all.strays))
-      (omega (arith, no_more)) came (omega arith)
+    -- an event came
+    pub poll_paid : a.world.taken + 1 ≤ b.world.taken → Pays c (c.polls + 16768) a b
+    poll_paid came =
+        plain_pays c 768 (c.polls + 16768) 0 0 0 1 a b (omega (arith, went.spends.most))
+        (omega (arith, all.looks)) (omega (arith, all.strays)) (omega (arith, no_more)) came
+        (omega arith)
 
-  -- the hub did not answer, and was dropped
-  pub drop_paid : (d : HostState) → HostSteps drop_bound b d → b.world.fault ≡ None
-      → KeepsAll b.world d.world → hubs d.entries + 1 ≤ hubs b.entries
-      → Pays c c.polls a d
-  drop_paid d second still drops fewer =
-      let then : KeepsBy unmarked unmarked unmarked b.world d.world =
-      drops.all (ports_after 768 c plan a b went w still) unmarked unmarked unmarked few-none in
-      plain_pays c 11968 c.polls 0 0 1 0 a d (omega (arith, went.spends.most, second.spends.most))
-      (omega (arith, all.looks, then.looks))
-      (omega (arith, all.strays, then.strays)) (omega (arith, no_more, fewer))
-      (omega (arith, all.onward, then.onward)) (omega arith)
+    -- the hub did not answer, and was dropped
+    pub drop_paid : (d : HostState) → HostSteps drop_bound b d → b.world.fault ≡ None
+        → KeepsAll b.world d.world → hubs d.entries + 1 ≤ hubs b.entries → Pays c c.polls a d
+    drop_paid d second still drops fewer =
+        let then : KeepsBy unmarked unmarked unmarked b.world d.world =
+        drops.all (ports_after plan a b went w still) unmarked unmarked unmarked few-none in
+        plain_pays c 11968 c.polls 0 0 1 0 a d (omega (arith, went.spends.most, second.spends.most))
+        (omega (arith, all.looks, then.looks)) (omega (arith, all.strays, then.strays))
+        (omega (arith, no_more)) (omega (arith, all.onward, then.onward)) (omega arith)
 
 drop_stop : (c : Weights) {w : World} {t : Option (List ℕ)} (a d : HostState)
     → StepRun 768 a.world a.trace w t → StepRun drop_bound w t d.world d.trace
@@ -95,22 +94,21 @@ module _ (hub : List ℕ) (a b : HostState) (agrees : Agrees a.entries a.address
     (same : b.entries ≡ a.entries) (pool : b.addresses ≡ a.addresses)
     (went : HostSteps 768 a b) where
   agrees_on : Agrees b.entries b.addresses
-  agrees_on = subst (λ (es : Entries). Agrees es b.addresses) (sym same)
-      (subst (Agrees a.entries) (sym pool) agrees)
+  agrees_on = rw same (rw pool agrees)
 
   poll_stop : (c : Weights) (n : ℕ) → 768 ≤ n → StopsWithin c n a b
-  poll_stop c n le = few_stop c n a b (omega (arith, went.spends.most, le)) went.spends.onward
+  poll_stop c n le = few_stop c n a b (omega (arith, went.spends.most)) went.spends.onward
 
   -- it has nothing to tell
-  pub poll_none : (got : Option (ArrayVec ℕ))
+  pub poll_none : {got : Option (ArrayVec ℕ)}
       → KeepsPolled hub (table_in a) a.world (Ok got) (table_in b) b.world
       → (HostInvariant a → b.world.fault ≡ None → HubTold hub a.world (Ok got) b.world)
       → PaysPart poll_most (HubPaid hub) a (Ok Quiet) b
-  poll_none got keeps tells = record {
+  poll_none keeps tells = record {
     stops = λ c plan w. poll_stop c (poll_most c) (omega arith);
     pays = λ c plan w still.
         let there = reached_there b.world.roots hub (tells w.sound still).reached in
-        (poll_costs c plan a b same went w (keeps.levels.worlds.backlog still), ap is_some there.1);
+        (poll_costs b same went w (keeps.levels.worlds.backlog still), ap is_some there.1);
   }
 
   -- it told of changes
@@ -120,63 +118,59 @@ module _ (hub : List ℕ) (a b : HostState) (agrees : Agrees a.entries a.address
     sound : KeepsInvariant a b
     sound = sound_kept 768 hub (IsOk answer) a b agrees same went keeps.levels (λ still. ok)
 
-    works : (c : Weights) (plan : PlanData) → WorksOn c plan a → b.world.fault ≡ None
+    works : {c : Weights} {plan : PlanData} → WorksOn c plan a → b.world.fault ≡ None
         → WorksOn c plan b
-    works c plan w still = works_on 768 c plan a b went w (sound.sound w.sound) still
+    works w still = works_on went w (sound.sound w.sound) still
 
-    told_stop : (result : Result (Unit {0}) HostFault)
+    told_stop : {result : Result (Unit {0}) HostFault}
         → PaysPart told_most (λ c done. ToldPaid hub bits c) b result d
-        → (c : Weights) (plan : PlanData)
-        → WorksOn c plan a → StopsWithin c (poll_most c) a d
-    told_stop result x c plan w =
-        stops_after c a b d n 768 (told_most c) (poll_most c) second
+        → (c : Weights) (plan : PlanData) → WorksOn c plan a → StopsWithin c (poll_most c) a d
+    told_stop x c plan w =
+        stops_after c a b d 768 (told_most c) (poll_most c) second
         (poll_stop c (poll_most c) (omega arith))
-        (λ still. poll_costs c plan a b same went w (keeps.levels.worlds.backlog still))
-        (λ still. x.stops c plan (works c plan w still)) (omega arith)
+        (λ still. poll_costs b same went w (keeps.levels.worlds.backlog still))
+        (λ still. x.stops c plan (works w still)) (omega arith)
 
-    pub told_fails : (result : Result (Unit {0}) HostFault)
+    pub told_fails : {result : Result (Unit {0}) HostFault}
         → PaysPart told_most (λ c done. ToldPaid hub bits c) b result d
-        → (other : Result Round HostFault)
-        → IsErr other → PaysPart poll_most (HubPaid hub) a other d
-    told_fails result x other e = record {
-      stops = told_stop result x;
+        → (other : Result Round HostFault) → IsErr other
+        → PaysPart poll_most (HubPaid hub) a other d
+    told_fails x other e = record {
+      stops = told_stop x;
       pays = λ c plan w still. is_err-if_ok other (λ y. HubPaid hub c y a d) e;
     }
 
-    told_paid : (c : Weights) (plan : PlanData) → WorksOn c plan a → b.world.fault ≡ None
-        → ToldPaid hub bits c b d
-        → ShowsTold hub bits b ⊎ (a.world.taken + 1 ≤ b.world.taken) → Pays c c.polls a d
-    told_paid c plan w still x (inl shows) =
+    told_paid : (c : Weights) {plan : PlanData} → WorksOn c plan a → b.world.fault ≡ None
+        → ToldPaid hub bits c b d → ShowsTold hub bits b ⊎ (a.world.taken + 1 ≤ b.world.taken)
+        → Pays c c.polls a d
+    told_paid c w still x (inl shows) =
         costs_pays c a b d 768 (c.polls + 768) c.polls
-        (poll_costs c plan a b same went w (keeps.levels.worlds.backlog still)) (x.shown shows)
-        (omega arith)
-    told_paid c plan w still x (inr came) =
+        (poll_costs b same went w (keeps.levels.worlds.backlog still)) (x.shown shows) (omega arith)
+    told_paid c w still x (inr came) =
         pays_costs c a b d (c.polls + 16768) 16000 c.polls
-        (poll_paid c plan a b same went w (keeps.levels.worlds.backlog still) came) x.costs
-        (omega arith)
+        (poll_paid b same went w (keeps.levels.worlds.backlog still) came) x.costs (omega arith)
 
-    pub told_pays : (done : Unit {0}) → PaysPart told_most (λ c done. ToldPaid hub bits c) b
+    pub told_pays : {done : Unit {0}} → PaysPart told_most (λ c done. ToldPaid hub bits c) b
         (Ok done) d
         → (HostInvariant a → HostInvariant b → b.world.fault ≡ None → ShowsTold hub bits b
         ⊎ (a.world.taken + 1 ≤ b.world.taken))
         → PaysPart poll_most (HubPaid hub) a (Ok Worked) d
-    told_pays done x shows = record {
-      stops = told_stop (Ok done) x;
+    told_pays x shows = record {
+      stops = told_stop x;
       pays = λ c plan w still.
           let here : b.world.fault ≡ None = went_sound n b.world d.world second still in
-          told_paid c plan w here (x.pays c plan (works c plan w here) still)
+          told_paid c w here (x.pays c plan (works w here) still)
           (shows w.sound (sound.sound w.sound) here);
     }
 
   -- it did not answer
   module _ (d : HostState) (second : HostSteps drop_bound b d)
-      (answer : Result (Option (ArrayVec ℕ)) PipeFault)
+      {answer : Result (Option (ArrayVec ℕ)) PipeFault}
       (keeps : KeepsPolled hub (table_in a) a.world answer (table_in b) b.world) where
     may_drop : IsSome (hub_facts_at hub a.entries) → HostInvariant a → IsDroppable hub b
     may_drop listed s =
         let there : IsSome (finding_at hub b.entries) =
-        subst (λ (es : Entries). IsSome (finding_at hub es)) (sym same)
-        (hub_listed (finding_at hub a.entries) listed) in
+        rw same (hub_listed (finding_at hub a.entries) listed) in
         record {
           listed = there;
           but = but_kept 768 hub (IsOk answer) a b agrees same went keeps.levels s;
@@ -191,9 +185,8 @@ module _ (hub : List ℕ) (a b : HostState) (agrees : Agrees a.entries a.address
       stops = λ c plan w. drop_stop c a d went second;
       pays = λ c plan w still.
           let here : b.world.fault ≡ None = went_sound drop_bound b.world d.world second still in
-          drop_paid c plan a b same went w (keeps.levels.worlds.backlog here) d second here
-          (drops.backlog (may_drop listed w.sound) still)
-          (fewer (subst (λ (es : Entries). IsSome (hub_facts_at hub es)) (sym same) listed));
+          drop_paid b same went w (keeps.levels.worlds.backlog here) d second here
+          (drops.backlog (may_drop listed w.sound) still) (fewer (rw same listed));
     }
 
   -- the bus made no more steps
@@ -217,25 +210,21 @@ module _ (hub : List ℕ) (a b : HostState) (agrees : Agrees a.entries a.address
       → ShowsTold hub byte b ⊎ (a.world.taken + 1 ≤ b.world.taken)
   tells_shows packet byte is read s t still =
       let tells : HubTold hub a.world (Ok got) b.world =
-      hub_tells hub a b same pool stopped went listed got polled keeps s still in
+      hub_tells hub a b same pool stopped went listed polled keeps s still in
       let told : ByteTold (BitsOf hub a.world b.world) packet.items =
-      subst (λ (o : Option (ArrayVec ℕ)). PollTells (BitsOf hub a.world b.world) (Ok o)) is
-      tells.tells in
-      let bits : byte ≡ told.bits = read ∙ ap first_byte told.is in
-      let facts : _ = some_facts (hub_facts_at hub b.entries)
-      (subst (λ (es : Entries). IsSome (hub_facts_at hub es)) (sym same) listed) in
-      subst (λ n. ShowsTold hub n b ⊎ (a.world.taken + 1 ≤ b.world.taken)) (sym bits)
-      (poll_shows hub a b (agrees_on hub a b agrees same pool went) s t
-      (went_sound 768 a.world b.world went still) still facts.0
-      (hub_there hub b.entries facts.0 facts.1) tells.reached told.bits told.so told.so.came
-      told.some)
+      rw is at tells.tells in
+      let facts : _ = some_facts (hub_facts_at hub b.entries) (rw same listed) in
+      rw (read ∙ ap first_byte told.is) (poll_shows hub a b
+      (agrees_on hub a b agrees same pool went) s t (went_sound 768 a.world b.world went still)
+      still facts.0 (hub_there hub b.entries facts.0 facts.1) tells.reached told.bits told.so
+      told.so.came told.some)
 
 -- How many polls found nothing
 
 module _ {X : Type 0} (p q : X → Bool) (more : (x : X) → p x ≡ true → q x ≡ true) where
   one_less : (x y : Bool) → (x ≡ true → y ≡ true) → cond x 1 0 ≤ cond {A = ℕ} y 1 0
   one_less true y h = let set : cond {A = ℕ} y 1 0 ≡ 1 =
-      ap (λ (z : Bool). cond {A = ℕ} z 1 0) (h refl) in omega (arith, set)
+      ap (λ (z : Bool). cond {A = ℕ} z 1 0) (h refl) in omega arith
   one_less false y h = omega arith
 
   count_less : (xs : List X) → count_by p xs ≤ count_by q xs
@@ -264,8 +253,6 @@ module _ {X : Type 0} (p q : X → Bool) (more : (x : X) → p x ≡ true → q 
           let one : cond {A = ℕ} (q x) 1 0 ≡ 1 = ap (λ (b : Bool). cond {A = ℕ} b 1 0) here.1 in
           omega (
             arith,
-            none,
-            one,
             count_less xs,
             sum_by-cons (λ (y : X). cond (p y) 1 0) x xs,
             sum_by-cons (λ (y : X). cond (q y) 1 0) x xs,
@@ -283,11 +270,11 @@ module _ {X : Type 0} (p : X → Bool) where
   count_taken : (m n : ℕ) (xs : List X) → m ≤ n → count_by p (take m xs) ≤ count_by p (take n xs)
   count_taken zero n xs le = omega arith
   count_taken (suc m) n [] le = omega arith
-  count_taken (suc m) zero (x ∷ xs) le = absurd (omega (arith, le))
+  count_taken (suc m) zero (x ∷ xs) le = absurd (omega arith)
   count_taken (suc m) (suc n) (x ∷ xs) le =
       omega (
         arith,
-        count_taken m n xs (omega (arith, le)),
+        count_taken m n xs (omega arith),
         sum_by-cons (λ (y : X). cond (p y) 1 0) x (take m xs),
         sum_by-cons (λ (y : X). cond (p y) 1 0) x (take n xs),
       )
@@ -311,7 +298,7 @@ plugs_below r (Ask ask) = false
 
 below_later : (r s : ℕ) (a : Action) → r ≤ s → plugs_below r a ≡ true → plugs_below s a ≡ true
 below_later r s (Change (Plug path device)) le is = let less : rank_of path < r =
-    ltb-true (rank_of path) r is in lt-ltb (rank_of path) s (omega (arith, less, le))
+    ltb-true (rank_of path) r is in lt-ltb (rank_of path) s (omega arith)
 below_later r s (Change (Unplug path)) le is = absurd (cc is)
 below_later r s (Ask ask) le is = absurd (cc is)
 
@@ -319,8 +306,8 @@ below_new : (r s : ℕ) (path : List ℕ) (a : Action) → r ≤ rank_of path �
     → PlugsAt path a → (plugs_below r a ≡ false) × (plugs_below s a ≡ true)
 below_new r s path (Change (Plug at device)) least less is =
     let same : rank_of at ≡ rank_of path = ap rank_of is in (
-      le-ltb (rank_of at) r (omega (arith, same, least)),
-      lt-ltb (rank_of at) s (omega (arith, same, less)),
+      le-ltb (rank_of at) r (omega arith),
+      lt-ltb (rank_of at) s (omega arith),
     )
 below_new r s path (Change (Unplug at)) least less is = absurd is
 below_new r s path (Ask ask) least less is = absurd is
@@ -349,11 +336,11 @@ plugged_below-more : (events : List Event) (m n r s : ℕ) (path : List ℕ) →
 plugged_below-more events m n r s path le least less was =
     let fewer =
     count_fewer (λ (e : Event). plugs_below r e.action) (λ (e : Event). plugs_below s e.action)
-    (λ e. below_later r s e.action (omega (arith, least, less))) (take n events)
+    (λ e. below_later r s e.action (omega arith)) (take n events)
     (any_wider (λ (e : Event). PlugsAt path e.action)
     (λ (e : Event). (plugs_below r e.action ≡ false) × (plugs_below s e.action ≡ true))
     (λ e. below_new r s path e.action least less) (take n events) was) in
-    omega (arith, fewer, count_taken (λ (e : Event). plugs_below r e.action) m n events le)
+    omega (arith, count_taken (λ (e : Event). plugs_below r e.action) m n events le)
 
 plugged_most : (events : List Event) (came r : ℕ) → plugged_below events came r ≤ length events
 plugged_most events came r =
@@ -362,10 +349,6 @@ plugged_most events came r =
       count_all (λ (e : Event). plugs_below r e.action) came events,
       count_by-le-length (λ (e : Event). plugs_below r e.action) events,
     )
-
-pub rank_before : (last : Option (List ℕ)) (path : List ℕ) → IfSome last IsPath → IsPath path
-    → ComesAfter last path → rank_after last ≤ rank_of path
-rank_before last path before is after = omega (arith, rank_rises last path before is after)
 
 -- Hubs that were polled
 
@@ -386,103 +369,92 @@ pub record HubsSoFar (last : Option (List ℕ)) (round : Round) (a b : HostState
   pub pays : (c : Weights) (plan : PlanData) → WorksOn c plan a → b.world.fault ≡ None
       → HubsPaid c plan.events last round a b
 
-pub hubs_none : (h : HostState) → HubsSoFar None Quiet h h
-hubs_none h = record {
-  stops = λ c plan w. few_stop c (hubs_most c) h h (omega arith) (omega arith);
-  pays = λ c plan w still. record { polls = 0; few = omega arith; paid = costs_none c 0 h };
-}
-
 -- no more polls than events
-few_polls : (c : Weights) (plan : PlanData) (last : Option (List ℕ)) (round : Round)
-    (a b : HostState) → WorksOn c plan a
+few_polls : {c : Weights} (plan : PlanData) (last : Option (List ℕ)) {round : Round} {a : HostState}
+    (b : HostState) → WorksOn c plan a
     → (x : HubsPaid c plan.events last round a b) → 768 * x.polls ≤ c.polls
-few_polls c plan last round a b w x =
+few_polls plan last b w x =
     omega (arith, x.few, plugged_most plan.events b.world.taken (rank_after last), w.polls)
 
 done_by : (c : Weights) (polls : ℕ) (round : Round) (a b : HostState) → 768 * polls ≤ c.polls
     → PollsPaid c polls round a b → RoundPaid c round a b
-done_by c polls Worked a b few x = omega (arith, x, few)
+done_by c polls Worked a b few x = omega (arith, few)
 done_by c polls Quiet a b few x = costs_more c a b (768 * polls) c.polls x few
 
 cost_by : (c : Weights) (polls : ℕ) (round : Round) (a b : HostState) → 768 * polls ≤ c.polls
     → PollsPaid c polls round a b → Costs c c.polls a b
-cost_by c polls Worked a b few x = omega (arith, x, few)
+cost_by c polls Worked a b few x = omega (arith, few)
 cost_by c polls Quiet a b few x = costs_more c a b (768 * polls) c.polls x few
 
 quiet_next : (c : Weights) (polls : ℕ) (round : Round) (a b d : HostState)
     → PollsPaid c polls round a b → Costs c 768 b d
     → PollsPaid c (polls + 1) (either round Quiet) a d
-quiet_next c polls Worked a b d x y = omega (arith, x, y)
-quiet_next c polls Quiet a b d x y = omega (arith, x, y)
+quiet_next c polls Worked a b d x y = omega arith
+quiet_next c polls Quiet a b d x y = omega arith
 
 worked_next : (c : Weights) (polls : ℕ) (round : Round) (a b d : HostState)
-    → PollsPaid c polls round a b → Pays c c.polls b d
-    → PollsPaid c polls (either round Worked) a d
-worked_next c polls Worked a b d x y = omega (arith, x, y)
-worked_next c polls Quiet a b d x y = omega (arith, x, y)
+    → PollsPaid c polls round a b → Pays c c.polls b d → PollsPaid c polls (either round Worked) a d
+worked_next c polls Worked a b d x y = omega arith
+worked_next c polls Quiet a b d x y = omega arith
 
-module _ (m n : ℕ) (last : Option (List ℕ)) (hub : List ℕ) (round : Round) (a b d : HostState)
-    (first : HostSteps m a b) (second : HostSteps n b d)
-    (sound : PartStays a b) (before : HubsSoFar last round a b) where
-  working : (c : Weights) (plan : PlanData) → WorksOn c plan a → b.world.fault ≡ None
+module _ {m n : ℕ} {last : Option (List ℕ)} (hub : List ℕ) {round : Round} (a b d : HostState)
+    (first : HostSteps m a b) (second : HostSteps n b d) (sound : PartStays a b)
+    (before : HubsSoFar last round a b) where
+  working : {c : Weights} {plan : PlanData} → WorksOn c plan a → b.world.fault ≡ None
       → WorksOn c plan b
-  working c plan w still = works_on m c plan a b first w (sound.sound.sound w.sound) still
+  working w still = works_on first w (sound.sound.sound w.sound) still
 
-  hubs_stop : (result : Result Round HostFault) → PaysPart poll_most (HubPaid hub) b result d
-      → (c : Weights) (plan : PlanData) → WorksOn c plan a
-      → StopsWithin c (hubs_most c) a d
-  hubs_stop result x c plan w =
-      stops_after c a b d n c.polls (poll_most c) (hubs_most c) second (before.stops c plan w)
+  hubs_stop : {result : Result Round HostFault} → PaysPart poll_most (HubPaid hub) b result d
+      → (c : Weights) (plan : PlanData) → WorksOn c plan a → StopsWithin c (hubs_most c) a d
+  hubs_stop x c plan w =
+      stops_after c a b d c.polls (poll_most c) (hubs_most c) second (before.stops c plan w)
       (λ still. let y = before.pays c plan w still in
-      cost_by c y.polls round a b (few_polls c plan last round a b w y) y.paid)
-      (λ still. x.stops c plan (working c plan w still)) (omega arith)
+      cost_by c y.polls round a b (few_polls plan last b w y) y.paid)
+      (λ still. x.stops c plan (working w still)) (omega arith)
 
-  pub hubs_failed : {A : Type 0} (result : Result Round HostFault)
+  pub hubs_failed : {A : Type 0} {result : Result Round HostFault}
       → PaysPart poll_most (HubPaid hub) b result d
       → (other : Result A HostFault) (Done : Weights → A → HostState → HostState → Type 0)
       → IsErr other → PaysPart hubs_most Done a other d
-  hubs_failed result x other Done e = record {
-    stops = hubs_stop result x;
+  hubs_failed x other Done e = record {
+    stops = hubs_stop x;
     pays = λ c plan w still. is_err-if_ok other (λ y. Done c y a d) e;
   }
 
   pub hubs_next : (one : Round) → rank_after last ≤ rank_of hub
       → PaysPart poll_most (HubPaid hub) b (Ok one) d → HubsSoFar (Some hub) (either round one) a d
   hubs_next one rises x = record {
-    stops = hubs_stop (Ok one) x;
+    stops = hubs_stop x;
     pays = λ c plan w still.
         let here : b.world.fault ≡ None = went_sound n b.world d.world second still in
-        polled c plan (working c plan w here) still one
-        (x.pays c plan (working c plan w here) still) (before.pays c plan w here);
+        polled c plan (working w here) still one (x.pays c plan (working w here) still)
+        (before.pays c plan w here);
   }
     where
       polled : (c : Weights) (plan : PlanData) → WorksOn c plan b → d.world.fault ≡ None
-          → (one : Round) → HubPaid hub c one b d
-          → HubsPaid c plan.events last round a b
+          → (one : Round) → HubPaid hub c one b d → HubsPaid c plan.events last round a b
           → HubsPaid c plan.events (Some hub) (either round one) a d
       polled c plan w still Worked y z = record {
         polls = z.polls;
         few = omega (
           arith,
           z.few,
-          plugged_more plan.events b.world.taken d.world.taken
-              (rank_after last) (rank_after (Some hub)) second.spends.onward
-              (omega (arith, rises)),
+          plugged_more plan.events b.world.taken d.world.taken (rank_after last)
+              (rank_after (Some hub)) second.spends.onward (omega arith),
         );
         paid = worked_next c z.polls round a b d z.paid y;
       }
       polled c plan w still Quiet y z =
           let was : WasPlugged plan.events d.world.taken hub =
-          there_was_plugged plan w.is w.paths d.world
+          there_was_plugged plan w.is w.paths
           (course_joined w.course (went_course n b.world d.world second still)) hub y.1 in
           record {
             polls = z.polls + 1;
             few = omega (
               arith,
               z.few,
-              plugged_below-more plan.events b.world.taken d.world.taken
-                  (rank_after last) (rank_after (Some hub)) hub second.spends.onward rises
-                  (omega arith) was,
+              plugged_below-more plan.events b.world.taken d.world.taken (rank_after last)
+                  (rank_after (Some hub)) hub second.spends.onward rises (omega arith) was,
             );
             paid = quiet_next c z.polls round a b d z.paid y.0;
           }
@@ -493,5 +465,5 @@ pub hubs_all : (last : Option (List ℕ)) (round : Round) (a b : HostState) → 
 hubs_all last round a b x = record {
   stops = x.stops;
   pays = λ c plan w still. let y = x.pays c plan w still in
-      done_by c y.polls round a b (few_polls c plan last round a b w y) y.paid;
+      done_by c y.polls round a b (few_polls plan last b w y) y.paid;
 }

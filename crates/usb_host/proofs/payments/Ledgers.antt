@@ -19,9 +19,7 @@ pub sums_look : (w z n h h' spare a a' k k' s s' t t' : ℕ) → a' ≤ a + n
     came_cost w z t'
 sums_look w z n h h' spare a a' k k' s s' t t' few looks strays on fits =
     let x = mul-le-mul_left (321104 + 100 * w + 3 * z) looks in
-    let y = mul-le-mul_left (19968 + z) strays in
-    let v = mul-le-mul_left (23168 + z) on in
-    omega (arith, few, x, y, v, fits)
+    omega (arith, mul-le-mul_left (19968 + z) strays, mul-le-mul_left (23168 + z) on)
 
 -- no more is left to do, and so many looks, other changes, hubs and events are paid
 pub sums_plain : (w z n spare i j f g a a' k k' s s' h h' t t' : ℕ) → a' ≤ a + n
@@ -32,10 +30,12 @@ pub sums_plain : (w z n spare i j f g a a' k k' s s' h h' t t' : ℕ) → a' ≤
     z t'
 sums_plain w z n spare i j f g a a' k k' s s' h h' t t' few looks strays hubs on fits =
     let x = mul-le-mul_left (321104 + 100 * w + 3 * z) looks in
-    let y = mul-le-mul_left (19968 + z) strays in
-    let u = mul-le-mul_left (31168 + z) hubs in
-    let v = mul-le-mul_left (344272 + 100 * w + 4 * z) on in
-    omega (arith, few, x, y, u, v, fits)
+    omega (
+      arith,
+      mul-le-mul_left (19968 + z) strays,
+      mul-le-mul_left (31168 + z) hubs,
+      mul-le-mul_left (344272 + 100 * w + 4 * z) on,
+    )
 
 -- no more is left to do, and nothing is paid but the events
 pub sums_costs : (w z n a a' k k' s s' h h' t t' : ℕ) → a' ≤ a + n → k' + 7 * t ≤ k + 7 * t'
@@ -43,7 +43,9 @@ pub sums_costs : (w z n a a' k k' s s' h h' t t' : ℕ) → a' ≤ a + n → k' 
     → a' + work_owed w z k' s' h' + came_cost w z t ≤ a + work_owed w z k s h + came_cost w z t' + n
 sums_costs w z n a a' k k' s s' h h' t t' few looks strays hubs on =
     let x = mul-le-mul_left (321104 + 100 * w + 3 * z) looks in
-    let y = mul-le-mul_left (19968 + z) strays in
-    let u = mul-le-mul_left (31168 + z) hubs in
-    let v = mul-le-mul_left (344272 + 100 * w + 4 * z) on in
-    omega (arith, few, x, y, u, v)
+    omega (
+      arith,
+      mul-le-mul_left (19968 + z) strays,
+      mul-le-mul_left (31168 + z) hubs,
+      mul-le-mul_left (344272 + 100 * w + 4 * z) on,
+    )

@@ -1,13 +1,12 @@
 -- A host at work, and how what parts of a round cost is joined.
-use Rattle.std.proofs.Common.{◌≡◌, ◌≤◌, refl, sym, subst, arith, ℕ, ◌+◌, ◌*◌, Option, None, Some}
+use Rattle.std.proofs.Common.{◌≡◌, ◌≤◌, refl, arith, ℕ, ◌+◌, ◌*◌, Option, None, Some}
 use Rattle.std.proofs.Common.{Result, Ok, Err}
 use Rattle.std.specs.Prelude.{IfOk, IsErr}
 use Rattle.std.proofs.Math.Nat.{mul-le-mul_left}
 use Rattle.std.proofs.lemmas.List.Elements.{All-drop}
 use Rattle.usb_world.specs.{BusFault, PlanData, AtPorts, FollowsPlan, PlugsAtPort, AnyStep, Course}
 use Rattle.usb_world.specs.{opening, World}
-use Rattle.usb_world.proofs.Interface.{course_joined}
-use Rattle.usb_world.proofs.Interface.{events_went}
+use Rattle.usb_world.proofs.Interface.{course_joined, events_went}
 use Rattle.usb_backlog.specs.{looks_by, strays_by, unmarked}
 use Rattle.usb_enum.specs.{HasPlanWithin}
 use Rattle.usb_enum.proofs.Interface.{traced_faulted, went_course}
@@ -18,23 +17,21 @@ use Rattle.usb_host.proofs.payments.Ledgers.{sums_costs, sums_look, sums_plain}
 
 -- A host at work on a plan
 
-ports_course : (plan : PlanData) → AtPorts plan.events → (w : World)
+ports_course : (plan : PlanData) → AtPorts plan.events → {w : World}
     → Course AnyStep (opening plan) w → AtPorts w.left
-ports_course plan paths w course =
+ports_course plan paths {w = w} course =
     let follows : FollowsPlan plan w = events_went plan w course in
-    subst AtPorts (sym follows.left) (All-drop (λ e. PlugsAtPort e.action) w.taken plan.events
-    paths)
+    rw follows.left (All-drop (λ e. PlugsAtPort e.action) w.taken plan.events paths)
 
 -- the events to come are at ports
-pub works_on-ports : (c : Weights) (plan : PlanData) (h : HostState) → WorksOn c plan h
+pub works_on-ports : {c : Weights} {plan : PlanData} {h : HostState} → WorksOn c plan h
     → AtPorts h.world.left
-works_on-ports c plan h x = ports_course plan x.paths h.world x.course
+works_on-ports {plan = plan} x = ports_course plan x.paths x.course
 
-pub ports_after : (n : ℕ) (c : Weights) (plan : PlanData) (a b : HostState) → HostSteps n a b
+pub ports_after : {n : ℕ} {c : Weights} (plan : PlanData) (a b : HostState) → HostSteps n a b
     → WorksOn c plan a → b.world.fault ≡ None → AtPorts b.world.left
-ports_after n c plan a b went x work =
-    ports_course plan x.paths b.world (course_joined x.course
-    (went_course n a.world b.world went work))
+ports_after {n = n} plan a b went x work =
+    ports_course plan x.paths (course_joined x.course (went_course n a.world b.world went work))
 
 pub works_on-plan : (c : Weights) (plan : PlanData) (h : HostState) → WorksOn c plan h
     → HasPlanWithin c.most h.world
@@ -43,9 +40,9 @@ works_on-plan c plan h x = record {
   plugs = x.within;
 }
 
-pub works_on : (n : ℕ) (c : Weights) (plan : PlanData) (a b : HostState) → HostSteps n a b
+pub works_on : {n : ℕ} {c : Weights} {plan : PlanData} {a b : HostState} → HostSteps n a b
     → WorksOn c plan a → HostInvariant b → b.world.fault ≡ None → WorksOn c plan b
-works_on n c plan a b went x sound work = record {
+works_on {n = n} {a = a} {b = b} went x sound work = record {
   sound = sound;
   working = work;
   is = x.is;
@@ -54,11 +51,6 @@ works_on n c plan a b went x sound work = record {
   within = x.within;
   polls = x.polls;
 }
-
--- behind a fault no attempt is made
-none_made : (n : ℕ) (a b : HostState) → HostSteps n a b → (f : BusFault) → a.world.fault ≡ Some f
-    → b.world.attempts ≡ a.world.attempts
-none_made n a b went f is = (traced_faulted went.traced f is).0
 
 -- What is paid
 
@@ -72,9 +64,9 @@ pub looks_pay : (c : Weights) (n spare : ℕ) (a b : HostState)
     c.most + 2 * c.polls → Pays c spare a b
 looks_pay c n spare a b few looks strays on fits =
     sums_look c.most c.polls n (hubs a.entries) (hubs b.entries) spare a.world.attempts
-    b.world.attempts (looks_by unmarked a.world.roots)
-    (looks_by unmarked b.world.roots) (strays_by unmarked unmarked a.world.roots)
-    (strays_by unmarked unmarked b.world.roots) a.world.taken b.world.taken few looks strays on fits
+    b.world.attempts (looks_by unmarked a.world.roots) (looks_by unmarked b.world.roots)
+    (strays_by unmarked unmarked a.world.roots) (strays_by unmarked unmarked b.world.roots)
+    a.world.taken b.world.taken few looks strays on fits
 
 -- so many looks, other changes, hubs and events are paid
 pub plain_pays : (c : Weights) (n spare i j f g : ℕ) (a b : HostState)
@@ -89,8 +81,8 @@ pub plain_pays : (c : Weights) (n spare i j f g : ℕ) (a b : HostState)
 plain_pays c n spare i j f g a b few looks strays fewer on fits =
     sums_plain c.most c.polls n spare i j f g a.world.attempts b.world.attempts
     (looks_by unmarked a.world.roots) (looks_by unmarked b.world.roots)
-    (strays_by unmarked unmarked a.world.roots)
-    (strays_by unmarked unmarked b.world.roots) (hubs a.entries) (hubs b.entries) a.world.taken
+    (strays_by unmarked unmarked a.world.roots) (strays_by unmarked unmarked b.world.roots)
+    (hubs a.entries) (hubs b.entries) a.world.taken
     b.world.taken few looks strays fewer on fits
 
 pub plain_costs : (c : Weights) (n : ℕ) (a b : HostState) → b.world.attempts ≤ a.world.attempts + n
@@ -101,13 +93,13 @@ pub plain_costs : (c : Weights) (n : ℕ) (a b : HostState) → b.world.attempts
     → a.world.taken ≤ b.world.taken → Costs c n a b
 plain_costs c n a b few looks strays fewer on =
     sums_costs c.most c.polls n a.world.attempts b.world.attempts (looks_by unmarked a.world.roots)
-    (looks_by unmarked b.world.roots)
-    (strays_by unmarked unmarked a.world.roots) (strays_by unmarked unmarked b.world.roots)
-    (hubs a.entries) (hubs b.entries) a.world.taken b.world.taken few looks strays fewer on
+    (looks_by unmarked b.world.roots) (strays_by unmarked unmarked a.world.roots)
+    (strays_by unmarked unmarked b.world.roots) (hubs a.entries) (hubs b.entries) a.world.taken
+    b.world.taken few looks strays fewer on
 
 pub few_stop : (c : Weights) (n : ℕ) (a b : HostState) → b.world.attempts ≤ a.world.attempts + n
     → a.world.taken ≤ b.world.taken → StopsWithin c n a b
-few_stop c n a b few on = let y = mul-le-mul_left (event_weight c) on in omega (arith, few, y)
+few_stop c n a b few on = omega (arith, mul-le-mul_left (event_weight c) on)
 
 -- Joins
 
@@ -116,50 +108,51 @@ costs_none c n a = omega arith
 
 module _ (c : Weights) (a b : HostState) where
   pub costs_more : (m n : ℕ) → Costs c m a b → m ≤ n → Costs c n a b
-  costs_more m n x le = omega (arith, x, le)
+  costs_more m n x le = omega arith
 
   pub stops_more : (m n : ℕ) → StopsWithin c m a b → m ≤ n → StopsWithin c n a b
-  stops_more m n x le = omega (arith, x, le)
+  stops_more m n x le = omega arith
 
   pub pays_none : (m n : ℕ) → Pays c m a b → Costs c n a b
-  pays_none m n x = omega (arith, x)
+  pays_none m n x = omega arith
 
 module _ (c : Weights) (a b d : HostState) where
   pub pays_then : (m n k : ℕ) → Pays c m a b → Pays c n b d → k ≤ m + n → Pays c k a d
-  pays_then m n k x y le = omega (arith, x, y, le)
+  pays_then m n k x y le = omega arith
 
   pub pays_costs : (m n k : ℕ) → Pays c m a b → Costs c n b d → k + n ≤ m → Pays c k a d
-  pays_costs m n k x y le = omega (arith, x, y, le)
+  pays_costs m n k x y le = omega arith
 
   pub costs_pays : (m n k : ℕ) → Costs c m a b → Pays c n b d → k + m ≤ n → Pays c k a d
-  costs_pays m n k x y le = omega (arith, x, y, le)
+  costs_pays m n k x y le = omega arith
 
   pub costs_then : (m n k : ℕ) → Costs c m a b → Costs c n b d → m + n ≤ k → Costs c k a d
-  costs_then m n k x y le = omega (arith, x, y, le)
+  costs_then m n k x y le = omega arith
 
   pub costs_stop : (m n k : ℕ) → Costs c m a b → StopsWithin c n b d → m + n ≤ k
       → StopsWithin c k a d
-  costs_stop m n k x y le = omega (arith, x, y, le)
+  costs_stop m n k x y le = omega arith
 
   stops_same : (k : ℕ) → StopsWithin c k a b → d.world.attempts ≡ b.world.attempts
       → b.world.taken ≤ d.world.taken → StopsWithin c k a d
-  stops_same k x same on = let y = mul-le-mul_left (event_weight c) on in omega (arith, x, same, y)
+  stops_same k x same on = omega (arith, mul-le-mul_left (event_weight c) on)
 
   -- a part stopped after others, or the bus had stopped before
-  pub stops_after : (n m k l : ℕ) → HostSteps n b d → StopsWithin c l a b
+  pub stops_after : {n : ℕ} (m k l : ℕ) → HostSteps n b d → StopsWithin c l a b
       → (b.world.fault ≡ None → Costs c m a b)
       → (b.world.fault ≡ None → StopsWithin c k b d) → m + k ≤ l → StopsWithin c l a d
-  stops_after n m k l went before cost then le = pick b.world.fault refl
+  stops_after {n = n} m k l went before cost then le = pick b.world.fault refl
     where
       pick : (o : Option BusFault) → b.world.fault ≡ o → StopsWithin c l a d
       pick None is = costs_stop m k l (cost is) (then is) le
-      pick (Some f) is = stops_same l before (none_made n b d went f is) went.spends.onward
+      pick (Some f) is = stops_same l before ((traced_faulted went.traced f is).0)
+          went.spends.onward
 
 -- what a part costs is said of a host that knows what is so
-pub pays_where : {A : Type 0} (most : Weights → ℕ) (Done : Weights → A → HostState → HostState
-    → Type 0) (a : HostState) (result : Result A HostFault) (b : HostState)
+pub pays_where : {A : Type 0} {most : Weights → ℕ} (Done : Weights → A → HostState → HostState
+    → Type 0) {a : HostState} {result : Result A HostFault} {b : HostState}
     → (HostInvariant a → PaysPart most Done a result b) → PaysPart most Done a result b
-pays_where most Done a result b f = record {
+pays_where Done f = record {
   stops = λ c plan w. (f w.sound).stops c plan w;
   pays = λ c plan w still. (f w.sound).pays c plan w still;
 }
@@ -171,10 +164,10 @@ pub is_err-if_ok : {A : Type 0} (result : Result A HostFault) (P : A → Type 0)
 is_err-if_ok (Ok x) P e = absurd (cc e)
 is_err-if_ok (Err fault) P e = tt
 
-pub pays_part_failed : {A B : Type 0} (result : Result A HostFault) (inner : Result B HostFault)
-    (most : Weights → ℕ)
-    (Done : Weights → A → HostState → HostState → Type 0) (Other : Weights → B → HostState
-    → HostState → Type 0) (a b : HostState)
-    → IsErr result → PaysPart most Other a inner b → PaysPart most Done a result b
-pays_part_failed result inner most Done Other a b e x =
+pub pays_part_failed : {A B : Type 0} (result : Result A HostFault) {inner : Result B HostFault}
+    {most : Weights → ℕ} (Done : Weights → A → HostState → HostState → Type 0)
+    (Other : Weights → B → HostState → HostState
+    → Type 0) (a b : HostState) → IsErr result → PaysPart most Other a inner b
+    → PaysPart most Done a result b
+pays_part_failed result Done Other a b e x =
     record { stops = x.stops; pays = λ c plan w work. is_err-if_ok result (λ y. Done c y a b) e }

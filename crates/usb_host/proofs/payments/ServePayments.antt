@@ -1,5 +1,5 @@
 -- What the serving of a port pays of what is left to do.
-use Rattle.std.proofs.Common.{◌≡◌, ◌⊎◌, inl, inr, refl, sym, subst, arith, ℕ, ◌+◌, ◌*◌, true, false}
+use Rattle.std.proofs.Common.{◌≡◌, ◌⊎◌, inl, inr, refl, arith, ℕ, ◌+◌, ◌*◌, true, false}
 use Rattle.std.proofs.Common.{List, Result, Ok, Err}
 use Rattle.std.specs.Prelude.{OnOk}
 use Rattle.usb_port.specs.{PortStatus}
@@ -20,12 +20,11 @@ use Rattle.usb_host.proofs.entries.HubCounts.{hubs-rest, none_rests}
 use Rattle.usb_host.proofs.knowledge.ServedPorts.{rests_stands}
 use Rattle.usb_host.proofs.PortLocations.{stands_at-claim}
 
-module _ (path : List ℕ) (port : KnownPort) (a b : HostState) (s : StandsAt path port a)
+module _ {path : List ℕ} {port : KnownPort} {a b : HostState} (s : StandsAt path port a)
     (r : OnlyBusSteps a b) (went : HostSteps (read_bound 4) a b) (i : HostInvariant a)
     (ports : AtPorts a.world.left) where
   few : FindsNone deciding_bound a b
-  few = none_rests deciding_bound a b (went_wider (read_bound 4) deciding_bound went (omega arith))
-      r
+  few = none_rests a (went_wider (read_bound 4) deciding_bound went (omega arith)) r
 
   -- the hub was lost as it was asked for the status
   pub status_lost : (fault : EnumFault) → Watches port.port a.world (Err fault) b.world
@@ -34,15 +33,15 @@ module _ (path : List ℕ) (port : KnownPort) (a b : HostState) (s : StandsAt pa
   status_lost (Bus fault) x = tt
   status_lost Memory x = tt
 
-  module _ (status : PortStatus) (x : Watches port.port a.world (Ok status) b.world) where
+  module _ {status : PortStatus} (x : Watches port.port a.world (Ok status) b.world) where
     pub told_there : PortStatusAt path status a.world b.world
-    told_there = x.told (claims a.entries) path (stands_at-claim path port a s) i.owned status refl
+    told_there = x.told (claims a.entries) path (stands_at-claim s) i.owned status refl
 
     -- a change of connection was told
     then_none : (c : HostState) → FindsNone clearing_bound b c → FindsNone deciding_bound a c
     then_none c then = record {
       went = went_then (read_bound 4) clearing_bound went then.went;
-      hubs = omega (arith, hubs-rest a b r, then.hubs);
+      hubs = omega (arith, hubs-rest a r, then.hubs);
     }
 
     look_paid : (c : HostState) → LookPaid a.world b c → ServePaid path a c
@@ -64,14 +63,14 @@ module _ (path : List ℕ) (port : KnownPort) (a b : HostState) (s : StandsAt pa
       all_few = record {
         went = went_wider (read_bound 4 + 2 * write_bound) deciding_bound
             (went_then (read_bound 4) (2 * write_bound) went then.went) (omega arith);
-        hubs = omega (arith, hubs-rest a b r, then.hubs);
+        hubs = omega (arith, hubs-rest a r, then.hubs);
       }
 
       owned : IsOwned b
-      owned = owned_rests a b r x.addresses i.owned
+      owned = owned_rests a r x.addresses i.owned
 
       stands : StandsAt path port b
-      stands = rests_stands (read_bound 4) path port a b s r went
+      stands = rests_stands s r went
 
       pub after_tidy : IsOrderly a.world → (result : Result (Unit {0}) EnumFault)
           → Tidies port.port b.world result c.world
@@ -82,20 +81,18 @@ module _ (path : List ℕ) (port : KnownPort) (a b : HostState) (s : StandsAt pa
         where
           pick : (status.reset_changed ≡ true) ⊎ (status.reset_changed ≡ false) → ServePaid path a c
           pick (inl e) = tidied (told_resets path status a.world b.world c.world ports told_there e
-              (reset e (claims b.entries) path (stands_at-claim path port b stands) owned))
+              (reset e (claims b.entries) path (stands_at-claim stands) owned))
               all_few
           pick (inr e) =
-              let same : c ≡ b = (quiet (told_steady path status a.world b.world told_there order)
-              e).1 in
+              let same : c ≡ b = (quiet (told_steady path told_there order) e).1 in
               calm status b.world told_there off e
-              (told_keeps path status a.world b.world c.world ports told_there
-              (t.backlog (claims b.entries) path (stands_at-claim path port b stands) owned
-              tt)) (subst (FindsNone (read_bound 4) a) (sym same)
-              (none_rests (read_bound 4) a b went r))
+              (told_keeps ports told_there
+              (t.backlog (claims b.entries) path (stands_at-claim stands) owned tt))
+              (rw same (none_rests a went r))
       after_tidy order (Err ParentLost) t reset quiet =
           inr (
-            told_keeps path status a.world b.world c.world ports told_there
-                (t.backlog (claims b.entries) path (stands_at-claim path port b stands) owned tt),
+            told_keeps ports told_there
+                (t.backlog (claims b.entries) path (stands_at-claim stands) owned tt),
             all_few,
           )
       after_tidy order (Err (Bus fault)) t reset quiet = tt

@@ -1,5 +1,5 @@
 -- What was left to do pays for the ports that had changed.
-use Rattle.std.proofs.Common.{◌≡◌, ◌≤◌, ◌<◌, ◌⊎◌, ◌∙◌, inl, inr, refl, sym, ap, subst, arith, ℕ}
+use Rattle.std.proofs.Common.{◌≡◌, ◌≤◌, ◌<◌, ◌⊎◌, ◌∙◌, inl, inr, refl, sym, ap, arith, ℕ}
 use Rattle.std.proofs.Common.{zero, suc, below_more, ◌+◌, ◌-◌, ◌*◌, true, false, List, [], ◌∷◌}
 use Rattle.std.proofs.Common.{◌++◌, Option, None, Some, Result, Ok}
 use Rattle.std.specs.Prelude.{IsErr, slice_index_or}
@@ -28,69 +28,68 @@ row_back w v [] rest on = refl
 row_back w v (m ∷ q) rest on = (same_device (m ∷ q) (course_wider (λ s u k. k.rests) (rest (m ∷ q)))
     on).0
 
-still_shows : (b : PortState) (o : Option PortState) → StillSet b o → (b.connection_changed ≡ true)
+still_shows : {b : PortState} {o : Option PortState} → StillSet b o → (b.connection_changed ≡ true)
     ⊎ (b.reset_changed ≡ true)
     → (c : PortState) × (o ≡ Some c) × ((c.connection_changed ≡ true) ⊎ (c.reset_changed ≡ true))
-still_shows b o x (inl e) = (x.now, x.stands, inl (x.connection e))
-still_shows b o x (inr e) = (x.now, x.stands, inr (x.reset e))
+still_shows x (inl e) = (x.now, x.stands, inl (x.connection e))
+still_shows x (inr e) = (x.now, x.stands, inr (x.reset e))
 
 -- it shows it as long as nothing is asked of it, and the device above it is reached
-pub shows_on : (w v : World) (q : List ℕ) (n : ℕ) → TouchesNoPort w v → row_reached v.roots q ≡ true
-    → ShowsChange w (q ++ (n ∷ [])) → ShowsChange v (q ++ (n ∷ []))
-shows_on w v q n rest on x =
+pub shows_on : (w : World) {v : World} (q : List ℕ) (n : ℕ) → TouchesNoPort w v
+    → row_reached v.roots q ≡ true → ShowsChange w (q ++ (n ∷ [])) → ShowsChange v (q ++ (n ∷ []))
+shows_on w q n rest on x =
     let y : _ =
-    still_shows x.port (port_there v.roots (q ++ (n ∷ [])))
-    (course_bits q n (course_wider (λ s u k. k.leaves) (rest (q ++ (n ∷ [])))) on x.port
-    x.there) x.changed in
+    still_shows
+    (course_bits q n (course_wider (λ s u k. k.leaves) (rest (q ++ (n ∷ [])))) on x.port x.there)
+    x.changed in
     record { port = y.0; there = y.1; changed = y.2 }
 
 -- so its status tells of it
-status_shows : (w : World) (p : List ℕ) (status : PortStatus) (b : PortState)
+status_shows : (w : World) (p : List ℕ) {status : PortStatus} (b : PortState)
     → port_there w.roots p ≡ Some b → status ≡ seen b → ShowsChange w p
     → status.connection_changed ≡ false → status.reset_changed ≡ false → ⊥
-status_shows w p status b there is x quiet steady =
+status_shows w p b there is x quiet steady =
     let same : b ≡ x.port = same_Some b x.port (sym there ∙ x.there) in
     let connection : x.port.connection_changed ≡ false =
-    ap (λ (y : PortState). y.connection_changed) (sym same)
-    ∙ ap (λ (s : PortStatus). s.connection_changed) (sym is) ∙ quiet in
+    ap (λ (y : PortState). y.connection_changed) (sym same) ∙ ap
+    (λ (s : PortStatus). s.connection_changed) (sym is) ∙ quiet in
     let reset : x.port.reset_changed ≡ false =
-    ap (λ (y : PortState). y.reset_changed) (sym same)
-    ∙ ap (λ (s : PortStatus). s.reset_changed) (sym is) ∙ steady in
+    ap (λ (y : PortState). y.reset_changed) (sym same) ∙ ap (λ (s : PortStatus). s.reset_changed)
+    (sym is) ∙ steady in
     elim x.changed [ inl e ↦ cc (connection, e) | inr e ↦ cc (reset, e) ]
 
-pub told_shows : (w v : World) (p : List ℕ) (status : PortStatus) → PortStatusAt p status w v
-    → ShowsChange w p → status.connection_changed ≡ false
-    → status.reset_changed ≡ false → ⊥
-told_shows w v p status t x quiet steady =
+pub told_shows : (w v : World) (p : List ℕ) {status : PortStatus} → PortStatusAt p status w v
+    → ShowsChange w p → status.connection_changed ≡ false → status.reset_changed ≡ false → ⊥
+told_shows w v p t x quiet steady =
     let on : row_reached t.now.roots t.row.parent ≡ true =
     row_back t.now v t.row.parent t.since t.row.reached in
     let there : ShowsChange t.now (t.row.parent ++ (t.row.number ∷ [])) =
-    shows_on w t.now t.row.parent t.row.number t.before on (subst (ShowsChange w) t.row.is x) in
-    status_shows t.now p status t.port t.stood t.is (subst (ShowsChange t.now) (sym t.row.is) there)
+    shows_on w t.row.parent t.row.number t.before on (rw t.row.is at x) in
+    status_shows t.now p t.port t.stood t.is (rw t.row.is there)
     quiet steady
 
-pub changed_paid : (c : Weights) (p : List ℕ) (a b : HostState) → ShowsChange a.world p
-    → PortPaid c p a b → Pays c (c.polls + 12768) a b
-changed_paid c p a b x (paid y) = y
-changed_paid c p a b x (idle status mid told quiet steady y) =
-    absurd (told_shows a.world mid p status told x quiet steady)
+pub changed_paid : {c : Weights} {p : List ℕ} (a : HostState) {b : HostState}
+    → ShowsChange a.world p → PortPaid c p a b → Pays c (c.polls + 12768) a b
+changed_paid a x (paid y) = y
+changed_paid {p = p} a x (idle status mid told quiet steady y) =
+    absurd (told_shows a.world mid p told x quiet steady)
 
-pub port_costs : (c : Weights) (p : List ℕ) (a b : HostState) → PortPaid c p a b → Costs c 2000 a b
-port_costs c p a b (paid x) = pays_none c a b (c.polls + 12768) 2000 x
-port_costs c p a b (idle status mid told quiet steady x) = x
+pub port_costs : (c : Weights) {p : List ℕ} (a b : HostState) → PortPaid c p a b → Costs c 2000 a b
+port_costs c a b (paid x) = pays_none c a b (c.polls + 12768) 2000 x
+port_costs c a b (idle status mid told quiet steady x) = x
 
 -- Root ports
 
 pub root_shows : (w : World) (n : ℕ) → 1 ≤ n → n ≤ roots_of w
     → (root_port_at w n).connection_changed ≡ true → ShowsChange w (n ∷ [])
 unfolding root_port_at
-root_shows w zero least most on = absurd (omega (arith, least))
+root_shows w zero least most on = absurd (omega arith)
 root_shows w (suc i) least most on =
     let back : suc i - 1 ≡ i = omega arith in
     record {
       port = root_port_at w (suc i);
-      there = row_port w.roots i ∙ slice_get-get_or (root_row w) i off (omega (arith, most))
-          ∙ ap (λ k. Some (slice_index_or (root_row w) k off)) (sym back);
+      there = row_port w.roots i ∙ slice_get-get_or (root_row w) i off (omega arith) ∙ ap
+          (λ k. Some (slice_index_or (root_row w) k off)) (sym back);
       changed = inl on;
     }
 
@@ -103,47 +102,39 @@ pub record RootsSoFar (round : Round) (a b : HostState) : Type 0 where
 
 roots_cost : (c : Weights) (round : Round) (a b : HostState) → RootsPaid c round a b → Costs c 0 a b
 roots_cost c Worked a b x = pays_none c a b c.polls 0 x
-roots_cost c Quiet a b x = subst (λ (h : HostState). Costs c 0 a h) (sym x) (costs_none c 0 a)
+roots_cost c Quiet a b x = rw x (costs_none c 0 a)
 
-pub roots_none : (h : HostState) → RootsSoFar Quiet h h
-roots_none h = record {
-  stops = λ c plan w. few_stop c (handling_most c) h h (omega arith) (omega arith);
-  pays = λ c plan w still. refl;
-}
-
-module _ (m n : ℕ) (round : Round) (number : ℕ) (a b d : HostState) (first : HostSteps m a b)
+module _ {m n : ℕ} {round : Round} (number : ℕ) (a b d : HostState) (first : HostSteps m a b)
     (second : HostSteps n b d) (sound : PartStays a b)
     (before : RootsSoFar round a b) where
-  roots_stop : (result : Result (Unit {0}) HostFault)
+  roots_stop : {result : Result (Unit {0}) HostFault}
       → PaysPart handling_most (λ c done. PortPaid c (number ∷ [])) b result d
       → (c : Weights) (plan : PlanData) → WorksOn c plan a → StopsWithin c (handling_most c) a d
-  roots_stop result x c plan w =
-      stops_after c a b d n 0 (handling_most c) (handling_most c) second (before.stops c plan w)
+  roots_stop x c plan w =
+      stops_after c a b d 0 (handling_most c) (handling_most c) second (before.stops c plan w)
       (λ still. roots_cost c round a b (before.pays c plan w still))
-      (λ still. x.stops c plan (works_on m c plan a b first w (sound.sound.sound w.sound) still))
-      (omega arith)
+      (λ still. x.stops c plan (works_on first w (sound.sound.sound w.sound) still)) (omega arith)
 
-  pub roots_failed : {A : Type 0} (result : Result (Unit {0}) HostFault)
+  pub roots_failed : {A : Type 0} {result : Result (Unit {0}) HostFault}
       → PaysPart handling_most (λ c done. PortPaid c (number ∷ [])) b result d
       → (other : Result A HostFault) (Done : Weights → A → HostState → HostState → Type 0)
       → IsErr other → PaysPart handling_most Done a other d
-  roots_failed result x other Done e = record {
-    stops = roots_stop result x;
+  roots_failed x other Done e = record {
+    stops = roots_stop x;
     pays = λ c plan w still. is_err-if_ok other (λ y. Done c y a d) e;
   }
 
-  pub roots_next : (done : Unit {0}) → ShowsChange b.world (number ∷ [])
+  pub roots_next : {done : Unit {0}} → ShowsChange b.world (number ∷ [])
       → PaysPart handling_most (λ c done. PortPaid c (number ∷ [])) b (Ok done) d
       → RootsSoFar Worked a d
-  roots_next done shows x = record {
-    stops = roots_stop (Ok done) x;
+  roots_next shows x = record {
+    stops = roots_stop x;
     pays = λ c plan w still.
         let here : b.world.fault ≡ None = went_sound n b.world d.world second still in
         costs_pays c a b d 0 (c.polls + 12768) c.polls
         (roots_cost c round a b (before.pays c plan w here))
-        (changed_paid c (number ∷ []) b d shows
-        (x.pays c plan (works_on m c plan a b first w (sound.sound.sound w.sound) here)
-        still)) (omega arith);
+        (changed_paid b shows
+        (x.pays c plan (works_on first w (sound.sound.sound w.sound) here) still)) (omega arith);
   }
 
 -- Ports of which a hub told
@@ -163,16 +154,15 @@ pub record ToldSoFar (hub : List ℕ) (bits number : ℕ) (a b : HostState) : Ty
   pub costs : (c : Weights) (plan : PlanData) → WorksOn c plan a → b.world.fault ≡ None
       → Costs c (2000 * number) a b
   pub shown : (c : Weights) (plan : PlanData) → WorksOn c plan a → b.world.fault ≡ None
-      → ShowsTold hub bits a
-      → NoneBelow bits number a b ⊎ LeftOver c number a b
+      → ShowsTold hub bits a → NoneBelow bits number a b ⊎ LeftOver c number a b
 
-pub told_so_far_none : (hub : List ℕ) (bits : ℕ) (h : HostState) → ToldSoFar hub bits 1 h h
-told_so_far_none hub bits h = record {
+pub told_so_far_none : {hub : List ℕ} {bits : ℕ} (h : HostState) → ToldSoFar hub bits 1 h h
+told_so_far_none h = record {
   stops = λ c plan w. few_stop c (told_most c) h h (omega arith) (omega arith);
   costs = λ c plan w still. costs_none c 2000 h;
   shown = λ c plan w still x. inl (record {
     same = refl;
-    clear = λ n least less. absurd (omega (arith, least, less));
+    clear = λ n least less. absurd (omega arith);
   });
 }
 
@@ -184,47 +174,42 @@ clear_next bits number quiet before n least less =
     (λ first. quiet) n less least
 
 -- the bit of the number is not set
-pub told_clear : (hub : List ℕ) (bits number : ℕ) (a b : HostState) → has_bit bits number ≡ false
-    → ToldSoFar hub bits number a b
-    → ToldSoFar hub bits (number + 1) a b
-told_clear hub bits number a b quiet x = record {
+pub told_clear : {hub : List ℕ} (bits number : ℕ) (a b : HostState) → has_bit bits number ≡ false
+    → ToldSoFar hub bits number a b → ToldSoFar hub bits (number + 1) a b
+told_clear bits number a b quiet x = record {
   stops = x.stops;
   costs = λ c plan w still. costs_more c a b (2000 * number) (2000 * (number + 1))
       (x.costs c plan w still) (omega arith);
   shown = λ c plan w still s. elim (x.shown c plan w still s) [
     | inl y ↦ inl (record { same = y.same; clear = clear_next bits number quiet y.clear })
-    | inr y ↦ inr (omega (arith, y))
+    | inr y ↦ inr (omega arith)
   ];
 }
 
 number_costs : (c : Weights) (hub : List ℕ) (number : ℕ) (round : Round) (a b : HostState)
     → NumberPaid c hub number round a b → Costs c 2000 a b
-number_costs c hub number Worked a b x = port_costs c (hub ++ (number ∷ [])) a b x
-number_costs c hub number Quiet a b x = subst (λ (h : HostState). Costs c 2000 a h) (sym x.0)
-    (costs_none c 2000 a)
+number_costs c hub number Worked a b x = port_costs c a b x
+number_costs c hub number Quiet a b x = rw x.0 (costs_none c 2000 a)
 
 -- the first port of which it told
-first_paid : (c : Weights) (hub : List ℕ) (bits number : ℕ) (round : Round) (a b : HostState)
-    → 1 ≤ number → number ≤ 7 → has_bit bits number ≡ true
-    → ShowsTold hub bits a → NumberPaid c hub number round a b → Pays c (c.polls + 12768) a b
-first_paid c hub bits number Worked a b least most on x y =
-    changed_paid c (hub ++ (number ∷ [])) a b (x.shows number least most on) y
-first_paid c hub bits number Quiet a b least most on x y = let known : _ =
+first_paid : (c : Weights) {hub : List ℕ} {bits : ℕ} (number : ℕ) (round : Round) (a b : HostState)
+    → 1 ≤ number → number ≤ 7 → has_bit bits number ≡ true → ShowsTold hub bits a
+    → NumberPaid c hub number round a b → Pays c (c.polls + 12768) a b
+first_paid c number Worked a b least most on x y = changed_paid a (x.shows number least most on) y
+first_paid c number Quiet a b least most on x y = let known : _ =
     x.known number least most on in absurd (cc (known.1, y.1 known.0))
 
 module _ (m n : ℕ) (hub : List ℕ) (bits number : ℕ) (least : 1 ≤ number) (most : number ≤ 7)
-    (a b d : HostState) (first : HostSteps m a b)
-    (second : HostSteps n b d) (sound : PartStays a b) (before : ToldSoFar hub bits number a b)
+    (a b d : HostState) (first : HostSteps m a b) (second : HostSteps n b d) (sound : PartStays a b)
+    (before : ToldSoFar hub bits number a b)
   where
     told_stop : (result : Result Round HostFault)
         → PaysPart handling_most (λ c. NumberPaid c hub number) b result d
-        → (c : Weights) (plan : PlanData)
-        → WorksOn c plan a → StopsWithin c (told_most c) a d
+        → (c : Weights) (plan : PlanData) → WorksOn c plan a → StopsWithin c (told_most c) a d
     told_stop result x c plan w =
-        stops_after c a b d n (2000 * number) (handling_most c) (told_most c) second
+        stops_after c a b d (2000 * number) (handling_most c) (told_most c) second
         (before.stops c plan w) (before.costs c plan w)
-        (λ still. x.stops c plan (works_on m c plan a b first w (sound.sound.sound w.sound) still))
-        (omega (arith, most))
+        (λ still. x.stops c plan (works_on first w (sound.sound.sound w.sound) still)) (omega arith)
 
     pub told_failed : {A : Type 0} (result : Result Round HostFault)
         → PaysPart handling_most (λ c. NumberPaid c hub number) b result d
@@ -244,37 +229,33 @@ module _ (m n : ℕ) (hub : List ℕ) (bits number : ℕ) (least : 1 ≤ number)
           let here : b.world.fault ≡ None = went_sound n b.world d.world second still in
           costs_then c a b d (2000 * number) 2000 (2000 * (number + 1)) (before.costs c plan w here)
           (number_costs c hub number round b d
-          (x.pays c plan (works_on m c plan a b first w (sound.sound.sound w.sound) here)
-          still)) (omega arith);
+          (x.pays c plan (works_on first w (sound.sound.sound w.sound) here) still)) (omega arith);
       shown = λ c plan w still s.
           let here : b.world.fault ≡ None = went_sound n b.world d.world second still in
           let one : NumberPaid c hub number round b d =
-          x.pays c plan (works_on m c plan a b first w (sound.sound.sound w.sound) here) still in
+          x.pays c plan (works_on first w (sound.sound.sound w.sound) here) still in
           inr (after c s one (before.shown c plan w here s));
     }
       where
         after : (c : Weights) → ShowsTold hub bits a → NumberPaid c hub number round b d
-            → NoneBelow bits number a b ⊎ LeftOver c number a b
-            → LeftOver c (number + 1) a d
+            → NoneBelow bits number a b ⊎ LeftOver c number a b → LeftOver c (number + 1) a d
         after c s one (inl y) =
             let pays : Pays c (c.polls + 12768) a d =
-            first_paid c hub bits number round a d least most on s
-            (subst (λ (h : HostState). NumberPaid c hub number round h d) y.same one) in
-            omega (arith, pays, least)
+            first_paid c number round a d least most on s (rw y.same at one) in
+            omega (arith, pays)
         after c s one (inr y) = let costs : Costs c 2000 b d =
-            number_costs c hub number round b d one in omega (arith, y, costs)
+            number_costs c hub number round b d one in omega (arith, costs)
 
 -- all of them were handled
-pub told_all : (hub : List ℕ) (bits : ℕ) (done : Unit {0}) (a b : HostState)
-    → ToldSoFar hub bits 8 a b
-    → PaysPart told_most (λ c done. ToldPaid hub bits c) a (Ok done) b
-told_all hub bits done a b x = record {
+pub told_all : {hub : List ℕ} {bits : ℕ} {done : Unit {0}} (a b : HostState)
+    → ToldSoFar hub bits 8 a b → PaysPart told_most (λ c done. ToldPaid hub bits c) a (Ok done) b
+told_all a b x = record {
   stops = x.stops;
   pays = λ c plan w still. record {
     costs = x.costs c plan w still;
     shown = λ s. elim (x.shown c plan w still s) [
       | inl y ↦ absurd (cc (s.set, y.clear s.number s.least (omega (arith, s.few))))
-      | inr y ↦ omega (arith, y)
+      | inr y ↦ omega arith
     ];
   };
 }

@@ -1,6 +1,6 @@
 -- Where no event comes and nothing is asked of a port, it is as it was.
 use Rattle.std.proofs.Common.{◌≡◌, ◌≤◌, ◌&&◌, ◌||◌, ◌∙◌, ℕ, zero, suc, false, List, [], ◌∷◌, ◌++◌}
-use Rattle.std.proofs.Common.{refl, ap, arith, subst}
+use Rattle.std.proofs.Common.{refl, ap, arith}
 use Rattle.std.specs.Prelude.{IfSome}
 use Rattle.usb_device.specs.{Ports, ended, vacant, taken, port_at, place, port_there}
 use Rattle.usb_tree.specs.{pending, pending_at, has_power}
@@ -22,9 +22,9 @@ none_came R same joined = record {
   same = λ w. (omega arith, λ e. same w);
   joined = λ w m v x y. (
     omega (arith, x.0, y.0),
-    λ e. joined w m v (x.1 (omega (arith, e, x.0, y.0))) (y.1 (omega (arith, e, x.0, y.0))),
+    λ e. joined w m v (x.1 (omega (arith, x.0, y.0))) (y.1 (omega (arith, x.0, y.0))),
   );
-  came = λ e es w l. (omega arith, λ k. absurd (omega (arith, k)));
+  came = λ e es w l. (omega arith, λ k. absurd (omega arith));
 }
 
 pub ready_none : (w : World) → (at_attempt w).taken ≡ w.taken → (at_attempt w).roots ≡ w.roots
@@ -45,9 +45,9 @@ calm_steps p = record {
   refused = λ w. (omega arith, λ e. refl);
 }
 
-pub calm_port : (p : List ℕ) {w v : World} → Course (LeavesPortAlone p) w v → v.taken ≡ w.taken
+pub calm_port : {p : List ℕ} {w v : World} → Course (LeavesPortAlone p) w v → v.taken ≡ w.taken
     → port_there v.roots p ≡ port_there w.roots p
-calm_port p c = (over_course (calm_steps p) c).1
+calm_port {p = p} c = (over_course (calm_steps p) c).1
 
 -- Where nothing is pending at a hub, and no change of connection is told at its port, none is
 -- pending there
@@ -71,9 +71,7 @@ pub pend-no_change : (k : Ports) (q : List ℕ) (n : ℕ) → 1 ≤ n → pendin
     → pending k (q ++ (n ∷ [])) ≡ false
 pend-no_change k [] n least none told = row_calm k n told
 pend-no_change k (m ∷ q) n least none told =
-    pend_under k m q n []
-    ∙ ap (λ x. x || (has_power k (m ∷ q) && pending (place_ports (place k (m ∷ q))) (n ∷ []))) none
-    ∙ ap (λ x. has_power k (m ∷ q) && x) (row_calm (place_ports (place k (m ∷ q))) n
-    (subst (λ o. IfSome o (λ b. b.connection_changed ≡ false)) (port_there-below k m q n [])
-    told))
-    ∙ and_false (has_power k (m ∷ q))
+    pend_under k m q n [] ∙ ap
+    (λ x. x || (has_power k (m ∷ q) && pending (place_ports (place k (m ∷ q))) (n ∷ []))) none ∙ ap
+    (λ x. has_power k (m ∷ q) && x) (row_calm (place_ports (place k (m ∷ q))) n
+    (rw (port_there-below k m q n []) at told)) ∙ and_false (has_power k (m ∷ q))

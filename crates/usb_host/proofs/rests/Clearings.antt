@@ -7,8 +7,7 @@ use Rattle.std.proofs.lemmas.Option.{same_Some}
 use Rattle.usb_port.specs.{PortState, is_attached, PortStatus, PortCall, ClearEnable}
 use Rattle.usb_port.specs.{ClearConnectionChange, called_port}
 use Rattle.usb_device.specs.{State, Ports, empty, full, port_of, called, place, port_there}
-use Rattle.usb_device.specs.{state_there}
-use Rattle.usb_device.specs.Tree.{Place}
+use Rattle.usb_device.specs.{state_there, Place}
 use Rattle.usb_world.specs.{Attempt, step_keeps_pending, AsksNothing, UnchangedOrPending}
 use Rattle.usb_world.specs.{Consistent, Step, attempt, root_call, event, report, after}
 use Rattle.usb_world.specs.{with_attempt, at_attempt, Course, here, step, World}
@@ -62,9 +61,9 @@ module _ (q : List ℕ) (n : ℕ) where
     pends : pending (after s w).roots q ≡ true → Meets s w
     nothing : (after s w).roots ≡ w.roots → Meets s w
 
-  meets_live : (s : Step) (w : World) → (k : Ports) → ports_at_step s w ≡ k → has_power k p ≡ true
+  meets_live : {s : Step} {w : World} → (k : Ports) → ports_at_step s w ≡ k → has_power k p ≡ true
       → Meets s w
-  meets_live s w k is on = let b : _ = live_port k p on in
+  meets_live k is on = let b : _ = live_port k p on in
       powered b.0 (ap (λ t. port_there t p) is ∙ b.1) b.2
 
   attempt_meets : (a : Attempt) (w : World) → step_keeps_pending (attempt a) w q ≡ true
@@ -78,12 +77,11 @@ module _ (q : List ℕ) (n : ℕ) where
         where
           above : (has_power (at_attempt w).roots p ≡ true)
               ⊎ (pending (at_attempt w).roots q ≡ true) → Meets (attempt a) w
-          above (inl y) = meets_live (attempt a) w (at_attempt w).roots refl y
-          above (inr y) = pends (subst (λ v. pending v.roots q ≡ true) (sym is)
-              (made_pend a (at_attempt w) q sp y))
+          above (inl y) = meets_live (at_attempt w).roots refl y
+          above (inr y) = pends (rw is (made_pend a (at_attempt w) q sp y))
 
           pick : UnchangedOrPending w (at_attempt w) p → Meets (attempt a) w
-          pick (inl y) = meets_live (attempt a) w (at_attempt w).roots refl y.0
+          pick (inl y) = meets_live (at_attempt w).roots refl y.0
           pick (inr y) = above (pend_or_live (at_attempt w).roots q n y)
 
       cases : MadeOrNot a w (after (attempt a) w) → Meets (attempt a) w
@@ -93,9 +91,9 @@ module _ (q : List ℕ) (n : ℕ) where
   step_meets : (s : Step) (w : World) → step_keeps_pending s w q ≡ true → has_power w.roots p ≡ true
       → Meets s w
   step_meets (attempt a) w sp on = attempt_meets a w sp on
-  step_meets (root_call c m) w sp on = meets_live (root_call c m) w w.roots refl on
-  step_meets event w sp on = meets_live event w w.roots refl on
-  step_meets (report line) w sp on = meets_live (report line) w w.roots refl on
+  step_meets (root_call c m) w sp on = meets_live w.roots refl on
+  step_meets event w sp on = meets_live w.roots refl on
+  step_meets (report line) w sp on = meets_live w.roots refl on
 
   -- its hub's port has power on its whole way still, or a change is pending there
   above_step : (s : Step) (w : World) → ActsAt p ClearConnectionChange s w → IsUp w.roots q
@@ -144,38 +142,36 @@ module _ (q : List ℕ) (n : ℕ) where
           let d : _ = still_powered s w k b there power in
           joined d.0 d.1 d.2 (above_step s w k (up_of_live w.roots q n on))
       by_meets (pends x) = inr x
-      by_meets (nothing same) = inl (subst (λ t. has_power t p ≡ true) (sym same) on)
+      by_meets (nothing same) = inl (rw same on)
 
   up_course : {w v : World} → Course (ActsAt p ClearConnectionChange) w v → Up w → Up v
   up_course c = kept_course Up up_step c
 
-  up_done : (old new : World) → PortCallDone p ClearConnectionChange old new → Up old → Up new
-  up_done old new x h = up_rests (after x.last x.before) new x.since
+  up_done : {old : World} (new : World) → PortCallDone p ClearConnectionChange old new → Up old
+      → Up new
+  up_done new x h = up_rests (after x.last x.before) new x.since
       (up_step x.last x.before x.acts (up_course x.repeats h))
 
 -- what pends elsewhere pends after a call
-pub pends_elsewhere : (p : List ℕ) (c : PortCall) (old new : World) → PortCallDone p c old new
+pub pends_elsewhere : (p : List ℕ) {c : PortCall} {old new : World} → PortCallDone p c old new
     → (x : List ℕ) → is_way p x ≡ false → pending old.roots x ≡ true → pending new.roots x ≡ true
-pends_elsewhere p c old new d x away h =
+pends_elsewhere p d x away h =
     let before = pending_persists x (course_wider (λ s w k. (k.about.others x away).spares)
     d.repeats) h in
     let called = step_pend d.last d.before x (d.acts.about.others x away).spares before in
     pending_persists x (course_wider (λ s w k. k.spares) (d.since x)) called
 
-pub cleared_way : (p : List ℕ) (old new : World) → PortCallDone p ClearConnectionChange old new
-    → HasWay old p → HasWay new p
-cleared_way p old new d (inr x) =
-    let away : is_way p x.0 ≡ false = subst (λ l. is_way l x.0 ≡ false) (sym x.2)
-    (not_way x.0 x.1) in
-    inr (x.0, x.1, x.2, pends_elsewhere p ClearConnectionChange old new d x.0 away x.3)
-cleared_way p old new d (inl on) =
-    pick (up_done d.row.parent d.row.number old new
-    (subst (λ l. PortCallDone l ClearConnectionChange old new) d.row.is d)
-    (inl (subst (λ l. has_power old.roots l ≡ true) d.row.is on)))
+pub cleared_way : (p : List ℕ) {old : World} (new : World)
+    → PortCallDone p ClearConnectionChange old new → HasWay old p → HasWay new p
+cleared_way p new d (inr x) =
+    let away : is_way p x.0 ≡ false = rw x.2 (not_way x.0 x.1) in
+    inr (x.0, x.1, x.2, pends_elsewhere p d x.0 away x.3)
+cleared_way p new d (inl on) =
+    pick (up_done d.row.parent d.row.number new (rw d.row.is at d) (inl (rw d.row.is at on)))
   where
     pick : (has_power new.roots (d.row.parent ++ d.row.number ∷ []) ≡ true)
         ⊎ (pending new.roots d.row.parent ≡ true) → HasWay new p
-    pick (inl x) = inl (subst (λ l. has_power new.roots l ≡ true) (sym d.row.is) x)
+    pick (inl x) = inl (rw d.row.is x)
     pick (inr x) = inr (d.row.parent, d.row.number, d.row.is, x)
 
 -- what is known of a port has a way
@@ -196,11 +192,6 @@ pends_way (m ∷ l) w h = let x : _ = split_last m l in
 pub known_way : (p : List ℕ) (w : World) (o : Option Finding) → IsKnownAs w p o → HasWay w p
 known_way p w o (inl x) = pends_way p w x
 known_way p w o (inr x) = inl x.0
-
-pub way_pends : (p hub : List ℕ) (n : ℕ) (w : World) → p ≡ hub ++ n ∷ []
-    → pending w.roots hub ≡ true → pending w.roots p ≡ true
-way_pends p hub n w e h = subst (λ l. pending w.roots l ≡ true) (sym e)
-    (pend_down w.roots hub (n ∷ []) h)
 
 -- A status decides
 
@@ -227,7 +218,7 @@ pub told_decides : (p : List ℕ) (status : PortStatus) (old new : World)
 told_decides p status old new t sane (inr x) =
     let above = pending_persists x.0 (course_wider (λ s w k. k.spares) (t.since x.0))
     (pending_persists x.0 (course_wider (λ s w k. k.spares) (t.before x.0)) x.3) in
-    pending_decides status.connected new p (way_pends p x.0 x.1 new x.2 above)
+    pending_decides status.connected new p (rw x.2 (pend_down new.roots x.0 (x.1 ∷ []) above))
 told_decides p status old new t sane (inl on) = pick (told_stands p status old new t on)
   where
     powered : has_power new.roots p ≡ true → port_there new.roots p ≡ Some t.port
@@ -238,8 +229,8 @@ told_decides p status old new t sane (inl on) = pick (told_stands p status old n
     pick : StandsTold p t.port old new → Decides status.connected new p
     pick (inl y) =
         let connected : status.connected ≡ is_attached t.port.attached =
-        ap (λ (x : PortStatus). x.connected) t.is
-        ∙ ap (λ b. b && is_attached t.port.attached) (powered y.0 y.1) in
+        ap (λ (x : PortStatus). x.connected) t.is ∙ ap (λ b. b && is_attached t.port.attached)
+        (powered y.0 y.1) in
         live_decides status.connected new p y.0 (sym (attached_there new.roots p t.port sane y.1)
         ∙ sym connected)
     pick (inr y) = pending_decides status.connected new p y
@@ -261,5 +252,5 @@ decided_stays false p old new d (inr x) = pick (done_stands p ClearEnable refl o
     pick : StandsSo p ClearEnable (λ w v. port_there v.roots p
         ≡ option_map (called_port ClearEnable) (port_there w.roots p)) old new
         → Decides false new p
-    pick (inl y) = inr (y.0, none_same (state_there old.roots p) (state_there new.roots p) y.2 x.1)
+    pick (inl y) = inr (y.0, none_same (state_there new.roots p) y.2 x.1)
     pick (inr y) = inl y

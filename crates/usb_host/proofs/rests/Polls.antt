@@ -2,7 +2,7 @@
 -- change of connection.
 use Rattle.std.proofs.Common.{◌≡◌, ◌≤◌, ◌==◌, ◌&&◌, ◌||◌, ◌∙◌, not, if◌then◌else◌, ℕ, zero, suc}
 use Rattle.std.proofs.Common.{Bool, true, false, List, [], ◌∷◌, ◌++◌, Option, None, Some, is_some}
-use Rattle.std.proofs.Common.{Result, Ok, Err, refl, ap, sym, subst, arith, inl, inr}
+use Rattle.std.proofs.Common.{Result, Ok, Err, refl, ap, sym, arith, inl, inr}
 use Rattle.std.specs.Prelude.{IfSome}
 use Rattle.std.specs.Option.{option_or}
 use Rattle.std.proofs.lemmas.Bool.{eq-eqb, ne_eqb}
@@ -13,7 +13,7 @@ use Rattle.usb_descriptor.specs.{in_config, packet_size, config_of, config_after
 use Rattle.usb_descriptor.specs.{configuration_value, items_of}
 use Rattle.usb_descriptor.specs.declared.item.Item.{Item}
 use Rattle.usb_descriptor.proofs.Interface.{header_of}
-use Rattle.usb_device.specs.{Registers, tells_changes, State, Spec, Hub, IsSpec, IsHub, reach}
+use Rattle.usb_device.specs.{tells_changes, State, Spec, Hub, IsSpec, IsHub, reach}
 use Rattle.usb_device.specs.{Location, path_to, reach_on, state_on, port_there}
 use Rattle.usb_tree.specs.{address_of, pending, IsSettled, deep_at}
 use Rattle.usb_world.specs.{hub_ports, World, roots_of}
@@ -40,14 +40,14 @@ use Rattle.usb_host.proofs.UnchangedHubs.{AreClear, nak_clears}
 
 -- A status endpoint
 
-if_size-one : (b : Bool) (size : ℕ) (e : ℕ × ℕ) → (if b then Some (1, size) else None) ≡ Some e
+if_size-one : (b : Bool) (size : ℕ) {e : ℕ × ℕ} → (if b then Some (1, size) else None) ≡ Some e
     → e.0 ≡ 1
-if_size-one true size e h = cc h
-if_size-one false size e h = absurd (cc h)
+if_size-one true size h = cc h
+if_size-one false size h = absurd (cc h)
 
 status_first : (endpoint : List ℕ) (e : ℕ × ℕ) → status_at endpoint ≡ Some e → e.0 ≡ 1
 unfolding status_at
-status_first endpoint e h = if_size-one _ (packet_size endpoint) e h
+status_first endpoint e h = if_size-one _ (packet_size endpoint) h
 
 picked_first : (counts : Bool) (item : Item) (e : ℕ × ℕ) → picked status_at counts item ≡ Some e
     → e.0 ≡ 1
@@ -56,26 +56,26 @@ picked_first true (Endpoint bytes) e h = status_first bytes e h
 picked_first false (Endpoint bytes) e h = absurd (cc h)
 picked_first counts (Other bytes) e h = absurd (cc h)
 
-or_first : (x y : Option (ℕ × ℕ)) (e : ℕ × ℕ) → (x ≡ Some e → e.0 ≡ 1) → (y ≡ Some e → e.0 ≡ 1)
+or_first : (x y : Option (ℕ × ℕ)) {e : ℕ × ℕ} → (x ≡ Some e → e.0 ≡ 1) → (y ≡ Some e → e.0 ≡ 1)
     → option_or x y ≡ Some e → e.0 ≡ 1
-or_first None y e f g h = g h
-or_first (Some x) y e f g h = f h
+or_first None y f g h = g h
+or_first (Some x) y f g h = f h
 
 first_of_all : (counts : Bool) (items : List Item) (e : ℕ × ℕ) → first_from status_at counts items
     ≡ Some e → e.0 ≡ 1
 first_of_all counts [] e h = absurd (cc h)
 first_of_all counts (item ∷ items) e h =
     or_first (picked status_at counts item) (first_from status_at (counts_after counts item) items)
-    e (picked_first counts item e) (first_of_all (counts_after counts item) items e) h
+    (picked_first counts item e) (first_of_all (counts_after counts item) items e) h
 
 -- it is endpoint 1, and the text's configuration has a value
 pub record IsStatusOf (text : List ℕ) (e : ℕ × ℕ) : Type 0 where
   pub one : e.0 ≡ 1
   pub valued : 1 ≤ configuration_value text
 
-pub status_of : (text : List ℕ) (e : ℕ × ℕ) → status_endpoint_of text ≡ Some e → IsStatusOf text e
+pub status_of : (text : List ℕ) {e : ℕ × ℕ} → status_endpoint_of text ≡ Some e → IsStatusOf text e
 unfolding status_endpoint_of config_of first_counting
-status_of text e h = record {
+status_of text {e = e} h = record {
   one = one (config_of text) h;
   valued = valued (config_head_of text) refl h;
 }
@@ -97,15 +97,15 @@ pub record HubThere (path : List ℕ) (entries : Entries) (facts : HubFacts) : T
   pub found : finding_at path entries ≡ Some (Device device)
   pub told : device.hub ≡ Some facts
 
-hub_facts_in-device : (o : Option Finding) (facts : HubFacts) → hub_facts_in o ≡ Some facts
+hub_facts_in-device : (o : Option Finding) {facts : HubFacts} → hub_facts_in o ≡ Some facts
     → (device : Accepted) × (o ≡ Some (Device device)) × (device.hub ≡ Some facts)
-hub_facts_in-device None facts h = absurd (cc h)
-hub_facts_in-device (Some (Refused cause)) facts h = absurd (cc h)
-hub_facts_in-device (Some (Device device)) facts h = (device, refl, h)
+hub_facts_in-device None h = absurd (cc h)
+hub_facts_in-device (Some (Refused cause)) h = absurd (cc h)
+hub_facts_in-device (Some (Device device)) h = (device, refl, h)
 
 pub hub_there : (path : List ℕ) (entries : Entries) (facts : HubFacts)
     → hub_facts_at path entries ≡ Some facts → HubThere path entries facts
-hub_there path entries facts h = let x = hub_facts_in-device (finding_at path entries) facts h in
+hub_there path entries facts h = let x = hub_facts_in-device (finding_at path entries) h in
     record { device = x.0; found = x.1; told = x.2 }
 
 -- its description has as many ports
@@ -125,27 +125,21 @@ few_by None h = omega arith
 few_by (Some hub) h = h.most
 
 hub_ports-some : (o : Option Hub) → 1 ≤ hub_ports o → is_some o ≡ true
-hub_ports-some None h = absurd (omega (arith, h))
+hub_ports-some None h = absurd (omega arith)
 hub_ports-some (Some hub) h = refl
 
 valued_by : (n : ℕ) → 1 ≤ n → not (n == 0) ≡ true
-valued_by zero h = absurd (omega (arith, h))
-valued_by (suc n) h = ap not (ne_eqb (suc n) 0 (λ e. absurd (omega (arith, e))))
-
--- a configured hub tells which of its ports changed
-pub tells_changes-hub : (spec : Spec) (g : Registers) → 1 ≤ hub_ports spec.hub → 1 ≤ g.configuration
-    → tells_changes spec g ≡ true
-tells_changes-hub spec g some valued =
-    rw (hub_ports-some spec.hub some, valued_by g.configuration valued) refl
+valued_by zero h = absurd (omega arith)
+valued_by (suc n) h = ap not (ne_eqb (suc n) 0 (λ e. absurd (omega arith)))
 
 -- A quiet poll
 
-status_pipe : (device : Accepted) (facts : HubFacts) (below : Bool) (pipes : Pipes)
+status_pipe : (device : Accepted) {facts : HubFacts} (below : Bool) (pipes : Pipes)
     → device.hub ≡ Some facts → ArePipesTo device below pipes → (pipe : Interrupt)
     × (pipes ≡ HubPipe pipe) × IsStatusPipe device below pipe
-status_pipe device facts below (HubPipe pipe) told are = (pipe, refl, are.1)
-status_pipe device facts below (Function pipes) told are = false_true (sym are.0 ∙ ap is_some told)
-status_pipe device facts below Absent told are = absurd are
+status_pipe device below (HubPipe pipe) told are = (pipe, refl, are.1)
+status_pipe device below (Function pipes) told are = false_true (sym are.0 ∙ ap is_some told)
+status_pipe device below Absent told are = absurd are
 
 change_none : (b : PortState) → has_change b ≡ false → b.connection_changed ≡ false
 change_none b h = (neither b.connection_changed b.enable_changed
@@ -163,21 +157,20 @@ record ReachedAt (w : World) (entries : Entries) (j : Location) (device : Accept
   stands : state_on w.roots j ≡ Some state
   tells : IsTruthOf entries (path_to j) device state
 
-module _ (w : World) (entries : Entries) (addresses : Addresses)
+module _ (w : World) {entries : Entries} {addresses : Addresses}
     (fits : Accounted (roots_of w) entries addresses) (known : PortsListed w entries)
     (truthful : DevicesAccurate w entries) where
-  pub reached_at : (path : List ℕ) (device : Accepted)
+  pub reached_at : (path : List ℕ) {device : Accepted}
       → finding_at path entries ≡ Some (Device device) → pending w.roots path ≡ false
       → reach w.roots path ≡ true
-  reached_at path device found none =
+  reached_at path {device = device} found none =
       let here : IsKnownAs w path (Some (Device device)) =
-      subst (IsKnownAs w path) found (known path
-      (listed_port w entries addresses fits path (Device device) found)) in
+      rw found at (known path (listed_port w fits path (Device device) found)) in
       elim here [ inl pends ↦ false_true (sym none ∙ pends) | inr there ↦ there.1 ]
 
-  stands_at : (j : Location) (device : Accepted) → finding_at (path_to j) entries
+  stands_at : (j : Location) {device : Accepted} → finding_at (path_to j) entries
       ≡ Some (Device device) → reach w.roots (path_to j) ≡ true → ReachedAt w entries j device
-  stands_at j device found on =
+  stands_at j {device = device} found on =
       let there : _ = reached_there w.roots (path_to j) on in
       record {
         state = there.0;
@@ -186,9 +179,9 @@ module _ (w : World) (entries : Entries) (addresses : Addresses)
         tells = truthful (path_to j) device there.0 (ap accepted_device_of found) on there.1;
       }
 
-  heard_by : (j : Location) (device : Accepted) → ReachedAt w entries j device
+  heard_by : {j : Location} (device : Accepted) → ReachedAt w entries j device
       → IsListening (path_to j) device w
-  heard_by j device r = record {
+  heard_by {j = j} device r = record {
     spot = j;
     state = r.state;
     is = refl;
@@ -198,67 +191,67 @@ module _ (w : World) (entries : Entries) (addresses : Addresses)
       at = eq-eqb (address_of r.state) device.address r.tells.set.address;
       loud = (accepts r.state.spec (tier_of (path_to j)) (known_supply (path_to j) entries)
           device.chosen r.tells.found.0).loud;
-      hears = server_hears device.low r.state.spec.low (deep_at false j.rest)
+      hears = server_hears device.low (deep_at false j.rest)
           (device.low && is_below_hub (path_to j)) r.tells.found.1.low
           (λ low deep. and_of device.low (is_below_hub (path_to j)) low
           (is_below_hub-deep j.row j.rest deep));
     };
   }
 
-  pub heard_at : (path : List ℕ) (device : Accepted)
+  pub heard_at : (path : List ℕ) {device : Accepted}
       → finding_at path entries ≡ Some (Device device) → reach w.roots path ≡ true
       → IsListening path device w
-  heard_at [] device found on = false_true on
-  heard_at (zero ∷ p) device found on = false_true on
-  heard_at (suc j ∷ p) device found on = heard_by (record { row = j; rest = p }) device
-      (stands_at (record { row = j; rest = p }) device found on)
+  heard_at [] found on = false_true on
+  heard_at (zero ∷ p) found on = false_true on
+  heard_at (suc j ∷ p) {device = device} found on = heard_by device
+      (stands_at (record { row = j; rest = p }) found on)
 
 module _ (h : HostState) (agrees : Agrees h.entries h.addresses) (s : HostInvariant h)
     (still : h.world.fault ≡ None) where
-  module _ (facts : HubFacts) (number : ℕ) (least : 1 ≤ number) (most : number ≤ facts.ports) where
-    clear_by : (pipe : Interrupt) (old : World) (j : Location) (device : Accepted) (below : Bool)
+  module _ {facts : HubFacts} (number : ℕ) (least : 1 ≤ number) (most : number ≤ facts.ports) where
+    clear_by : (pipe : Interrupt) (old : World) {j : Location} (device : Accepted) {below : Bool}
         → device.hub ≡ Some facts → IsStatusPipe device below pipe → IsSettled old.roots
         → Waiting pipe.toggle (in_attempt pipe.target pipe.ep) old h.world
         → ReachedAt h.world h.entries j device
         → IfSome (port_there h.world.roots (path_to j ++ (number ∷ [])))
         (λ b. b.connection_changed ≡ false)
-    clear_by pipe old j device below told is settled waiting r =
-        let status = status_of (configuration_of device) (pipe.ep, pipe.target.max) is.endpoint in
+    clear_by pipe old {j = j} device told is settled waiting r =
+        let status = status_of (configuration_of device) is.endpoint in
         let ports : facts.ports ≡ hub_ports r.state.spec.hub =
         facts_ports r.state.spec facts (sym r.tells.found.1.hub ∙ told) in
         let spec : IsSpec r.state.spec = sane_spec h.world.roots j.row j.rest r.state
         (s.order still).sane r.stands in
         let few : hub_ports r.state.spec.hub ≤ 7 = few_by r.state.spec.hub spec.hub in
         let configured : 1 ≤ r.state.registers.configuration =
-        subst (λ n. 1 ≤ n) (sym r.tells.set.configuration) status.valued in
-        let address : pipe.target.addr ≡ device.address = ap (λ (t : Target). t.addr) is.target in
+        rw r.tells.set.configuration status.valued in
         let at : has_address r.state pipe.target ≡ true =
-        eq-eqb r.state.registers.address pipe.target.addr (r.tells.set.address ∙ sym address) in
+        eq-eqb r.state.registers.address pipe.target.addr
+        (r.tells.set.address ∙ sym (ap (λ (t : Target). t.addr) is.target)) in
         let tells : tells_changes r.state.spec r.state.registers ≡ true =
-        tells_changes-hub r.state.spec r.state.registers (omega (arith, least, most, ports))
-        configured in
+        rw (
+          hub_ports-some r.state.spec.hub (omega arith),
+          valued_by r.state.registers.configuration configured,
+        ) refl in
         let trail : AttemptLog (in_attempt pipe.target 1) old (Nak ∷ waiting.outcomes) h.world =
-        subst (λ e. AttemptLog (in_attempt pipe.target e) old (Nak ∷ waiting.outcomes) h.world)
-        status.one waiting.trail in
+        rw status.one at waiting.trail in
         let clear : AreClear h.world j = nak_clears pipe.target trail refl settled s.owned.single j
         r.state r.on r.stands at tells in
         change_by (port_there h.world.roots (path_to j ++ (number ∷ [])))
-        (clear number least (omega (arith, most, ports, few)))
+        (clear number least (omega arith))
 
-    silent_by : (path : List ℕ) (pipe rest : Interrupt) (old : World)
+    silent_by : (path : List ℕ) {pipe rest : Interrupt} (old : World)
         → (there : HubThere path h.entries facts)
         → IsStatusPipe there.device (is_below_hub path) pipe
-        → PolledThrough pipe old (Ok None) rest h.world
-        → reach h.world.roots path ≡ true
+        → PolledThrough pipe old (Ok None) rest h.world → reach h.world.roots path ≡ true
         → IfSome (port_there h.world.roots (path ++ (number ∷ [])))
         (λ b. b.connection_changed ≡ false)
-    silent_by [] pipe rest old there is through on = false_true on
-    silent_by (zero ∷ p) pipe rest old there is through on = false_true on
-    silent_by (suc j ∷ p) pipe rest old there is through on =
-        clear_by pipe old (record { row = j; rest = p }) there.device (is_below_hub (suc j ∷ p))
+    silent_by [] old there is through on = false_true on
+    silent_by (zero ∷ p) old there is through on = false_true on
+    silent_by (suc j ∷ p) {pipe = pipe} {rest = rest} old there is through on =
+        clear_by pipe old there.device
         there.told is through.settled through.polls.asked
-        (stands_at h.world h.entries h.addresses (accounted h agrees s.rooted) (s.known still)
-        (s.truthful still) (record { row = j; rest = p }) there.device there.found on)
+        (stands_at h.world (accounted h agrees s.rooted) (s.known still) (s.truthful still)
+        (record { row = j; rest = p }) there.found on)
 
   -- the poll answered that there is nothing to tell
   pub poll_silent : (path : List ℕ) (pipes left : Pipes) (old : World)
@@ -267,12 +260,11 @@ module _ (h : HostState) (agrees : Agrees h.entries h.addresses) (s : HostInvari
       → IsSilent path h
   poll_silent path pipes left old are polled none facts number at least most =
       let there = hub_there path h.entries facts at in
-      let pipe : _ = status_pipe there.device facts (is_below_hub path) pipes there.told
-      (subst (λ (found : Option Finding). ArePipesIf (accepted_device_of found)
-      (is_below_hub path) pipes) there.found are) in
+      let pipe : _ = status_pipe there.device (is_below_hub path) pipes there.told
+      (rw there.found at are) in
       let through : (rest : Interrupt) × (left ≡ HubPipe rest)
       × PolledThrough pipe.0 old (Ok None) rest h.world =
-      subst (λ (x : Pipes). PipesPolled x old (Ok None) left h.world) pipe.1 polled in
-      let on = reached_at h.world h.entries h.addresses (accounted h agrees s.rooted)
-      (s.known still) (s.truthful still) path there.device there.found none in
-      silent_by facts number least most path pipe.0 through.0 old there pipe.2 through.2 on
+      rw pipe.1 at polled in
+      let on = reached_at h.world (accounted h agrees s.rooted) (s.known still) (s.truthful still)
+      path there.found none in
+      silent_by number least most path old there pipe.2 through.2 on

@@ -1,5 +1,5 @@
 -- Ports none of which has its change bit set.
-use Rattle.std.proofs.Common.{◌≡◌, refl, arith, subst, suc, zero, false}
+use Rattle.std.proofs.Common.{◌≡◌, refl, arith, suc, zero, false}
 use Rattle.std.specs.Prelude.{ℕ, ◌+◌, ◌-◌, ◌<◌, ◌≤◌, List, [], ◌∷◌, length, slice_index_or}
 use Rattle.usb_port.specs.{PortState, off}
 use Rattle.usb_world.specs.{World, root_row, roots_of, root_port_at, change_of, changes}
@@ -15,7 +15,7 @@ no_changes [] h = refl
 no_changes (p ∷ ps) h = omega (
   arith,
   no_change p (h zero (omega arith)),
-  no_changes ps (λ i lt. h (suc i) (omega (arith, lt))),
+  no_changes ps (λ i lt. h (suc i) (omega arith)),
 )
 
 pub none_changed : (w : World) (n : ℕ) → roots_of w < n
@@ -26,4 +26,4 @@ none_changed w n lt h =
     no_changes (root_row w) (λ i inside.
     let back : (i + 1) - 1 ≡ i = omega arith in
     let P : ℕ → Type 0 = λ k. (slice_index_or (root_row w) k off).connection_changed ≡ false in
-    subst P back (h (i + 1) (omega arith) (omega (arith, inside, lt))))
+    rw back at (h (i + 1) (omega arith) (omega arith)))

@@ -9,7 +9,7 @@ use Rattle.std.specs.declared.cmp.Ordering.TheVariants.{Less, Equal, Greater}
 use Rattle.usb_port.specs.{path_cmp, parent_of, port_on_hub, PortState}
 use Rattle.usb_port.proofs.Interface.{rejoined}
 use Rattle.usb_resources.specs.{Addresses, IsFull}
-use Rattle.usb_device.specs.{row_of, port_at, port_there}
+use Rattle.usb_device.specs.{row_of, port_there}
 use Rattle.usb_tree.specs.{pending}
 use Rattle.usb_world.specs.{World, root_row, roots_of, change_of, changes}
 use Rattle.usb_world.proofs.Interface.{course_joined, course_wider, pending_persists}
@@ -55,18 +55,15 @@ all_rest_then u w v x y p = course_joined (x p) (y p)
 -- A port that told of no change tells of none after a course that asks nothing of it, and in which
 -- no event came
 
-none_told : (o u : Option PortState) → u ≡ o → IfSome o (λ b. b.connection_changed ≡ false)
+none_told : {o u : Option PortState} → u ≡ o → IfSome o (λ b. b.connection_changed ≡ false)
     → IfSome u (λ b. b.connection_changed ≡ false)
-none_told o u e h = subst (λ (x : Option PortState). IfSome x (λ b. b.connection_changed ≡ false))
-    (sym e) h
+none_told e h = rw e h
 
 pub silent_stays : (hub : List ℕ) (b c : HostState) → c.entries ≡ b.entries
     → TouchesNoPort b.world c.world → c.world.taken ≡ b.world.taken → IsSilent hub b
     → IsSilent hub c
 silent_stays hub b c same rests taken silent facts number at least most =
-    none_told (port_there b.world.roots (hub ++ (number ∷ [])))
-    (port_there c.world.roots (hub ++ (number ∷ [])))
-    (calm_port (hub ++ (number ∷ [])) (rests (hub ++ (number ∷ []))) taken)
+    none_told (calm_port (rests (hub ++ (number ∷ []))) taken)
     (silent facts number (ap (λ (es : Entries). hub_facts_at hub es) (sym same) ∙ at) least most)
 
 -- what does not pend now did not before
@@ -75,8 +72,8 @@ pub pended : (path : List ℕ) (w v : World) → TouchesNoPort w v → pending v
 pended path w v rests none = pick (pending w.roots path) refl
   where
     pick : (b : Bool) → pending w.roots path ≡ b → b ≡ false
-    pick true is = false_true (sym none
-        ∙ pending_persists path (course_wider (λ s u x. x.spares) (rests path)) is)
+    pick true is = false_true (sym none ∙ pending_persists path
+        (course_wider (λ s u x. x.spares) (rests path)) is)
     pick false is = refl
 
 -- One hub after another
@@ -102,10 +99,9 @@ is_hub-facts (Device device) h = h
 is_hub-facts (Refused cause) h = absurd (cc h)
 
 -- the next hub is listed
-pub next_listed : (last : Option (List ℕ)) (hub : List ℕ) (es : Entries) → IsNext is_hub last es hub
+pub next_listed : {last : Option (List ℕ)} {hub : List ℕ} {es : Entries} → IsNext is_hub last es hub
     → IsSome (hub_facts_at hub es)
-next_listed last hub es is = subst (λ o. IsSome (hub_facts_in o)) (sym is.stands.found)
-    (is_hub-facts is.stands.finding is.stands.fits)
+next_listed is = rw is.stands.found (is_hub-facts is.stands.finding is.stands.fits)
 
 after_or_not : (last : Option (List ℕ)) (hub : List ℕ) → ComesAfter last hub
     ⊎ (ComesAfter last hub → ⊥)
@@ -118,7 +114,7 @@ after_or_not (Some last) hub = pick (path_cmp last hub) refl
     pick Equal is = inr (λ less. cc (less, is))
     pick Greater is = inr (λ less. cc (less, is))
 
-module _ (last : Option (List ℕ)) (next : List ℕ) (b c : HostState)
+module _ {last : Option (List ℕ)} {next : List ℕ} (b c : HostState)
     (is : IsNext is_hub last b.entries next) (same : c.entries ≡ b.entries)
     (rests : TouchesNoPort b.world c.world) (taken : c.world.taken ≡ b.world.taken)
     (before : Polled last b) (here : pending c.world.roots next ≡ false → IsSilent next c) where
@@ -139,11 +135,11 @@ module _ (last : Option (List ℕ)) (next : List ℕ) (b c : HostState)
           (λ b. b.connection_changed ≡ false)
       pick Less less = absurd (not less)
       pick Equal tie =
-          let path : next ≡ hub = path_tied next hub (ap is_eq tie) in
           subst (λ (p : List ℕ). (pending c.world.roots p ≡ false → IsSilent p c)
           → IfSome (port_there c.world.roots (hub ++ (number ∷ [])))
-          (λ b. b.connection_changed ≡ false)) (sym path)
-          (λ h. h none facts number at least most) here
+          (λ b. b.connection_changed ≡ false)) (sym (path_tied next hub (ap is_eq tie)))
+          (λ h. h none facts number at least most)
+          here
       pick Greater greater = elim (after_or_not last hub) [
         | inl after ↦ absurd (is.least hub (stands_hub last hub b.entries facts was after)
             (path_cmp-greater next hub greater))
@@ -151,7 +147,7 @@ module _ (last : Option (List ℕ)) (next : List ℕ) (b c : HostState)
       ]
 
 -- two parts, of which the second polled the next hub
-module _ (m n : ℕ) (r s : Round) (a b c : HostState) (p : HostRuns m a b) (q : HostRuns n b c)
+module _ {m n : ℕ} (r s : Round) (a b c : HostState) (p : HostRuns m a b) (q : HostRuns n b c)
     (quiet : either r s ≡ Quiet) (still : c.world.fault ≡ None) where
   pub calm_then : (r ≡ Quiet → b.world.fault ≡ None → TouchesNoPort a.world b.world)
       → (done s ≡ done Quiet → c.world.fault ≡ None → TouchesNoPort b.world c.world)
@@ -160,23 +156,21 @@ module _ (m n : ℕ) (r s : Round) (a b c : HostState) (p : HostRuns m a b) (q :
       (x (quiet_first r s quiet) (went_sound n b.world c.world q.went still))
       (y (ap done (quiet_second r s quiet)) still)
 
-  pub polled_then : (last : Option (List ℕ)) (next : List ℕ) → IsNext is_hub last b.entries next
+  pub polled_then : {last : Option (List ℕ)} {next : List ℕ} → IsNext is_hub last b.entries next
       → c.world.taken ≡ a.world.taken → HostInvariant a → KeepsInvariant a b → Did s b c
       → (HostInvariant a → r ≡ Quiet → b.world.fault ≡ None → b.world.taken ≡ a.world.taken
       → Polled last b) → HubKeeps next b (Ok s) c → Polled (Some next) c
-  polled_then last next is taken sound stays did before hub =
-      let first = quiet_first r s quiet in
+  polled_then is taken sound stays did before hub =
       let second = quiet_second r s quiet in
       let told = ap done second in
-      let remains : Remains b c = subst (λ (t : Round). Did t b c) second did in
+      let remains : Remains b c = rw second at did in
       let early = p.went.spends.onward in
       let late = q.went.spends.onward in
-      let taken_first : b.world.taken ≡ a.world.taken = omega (arith, taken, early, late) in
-      let taken_second : c.world.taken ≡ b.world.taken = omega (arith, taken, early, late) in
-      polled_next last next b c is (ap (λ (h : HostState). h.entries) remains) (hub.calm told still)
-      taken_second
-      (before sound first (went_sound n b.world c.world q.went still) taken_first)
-      (hub.silent (stays.sound sound) told still)
+      let taken_first : b.world.taken ≡ a.world.taken = omega arith in
+      let taken_second : c.world.taken ≡ b.world.taken = omega arith in
+      polled_next b c is (ap (λ (h : HostState). h.entries) remains) (hub.calm told still)
+      taken_second (before sound (quiet_first r s quiet) (went_sound n b.world c.world q.went still)
+      taken_first) (hub.silent (stays.sound sound) told still)
 
 -- after the last of them all were polled
 pub polled_all : (last : Option (List ℕ)) (h : HostState) → IsLast is_hub last h.entries
@@ -203,25 +197,19 @@ changes_clear : (row : List PortState) (i : ℕ) → changes row ≡ 0
     → IfSome (slice_get row i) (λ b. b.connection_changed ≡ false)
 unfolding changes
 changes_clear [] i h = tt
-changes_clear (p ∷ row) zero h = change_clear p (omega (arith, h))
-changes_clear (p ∷ row) (suc i) h = changes_clear row i (omega (arith, h))
+changes_clear (p ∷ row) zero h = change_clear p (omega arith)
+changes_clear (p ∷ row) (suc i) h = changes_clear row i (omega arith)
 
 root_clear : (w : World) (n : ℕ) → 1 ≤ n → changes (root_row w) ≡ 0
     → IfSome (port_there w.roots (n ∷ [])) (λ b. b.connection_changed ≡ false)
-root_clear w zero least none = absurd (omega (arith, least))
-root_clear w (suc i) least none = none_told (slice_get (row_of w.roots) i) (port_at w.roots i [])
-    (row_port w.roots i) (changes_clear (row_of w.roots) i none)
+root_clear w zero least none = absurd (omega arith)
+root_clear w (suc i) least none = none_told (row_port w.roots i)
+    (changes_clear (row_of w.roots) i none)
 
 module _ (a c : HostState) (agrees : Agrees c.entries c.addresses) (rooted : IsRooted c)
     (rests : TouchesNoPort a.world c.world) (taken : c.world.taken ≡ a.world.taken)
     (none : changes (root_row a.world) ≡ 0) (silent : (hub : List ℕ)
     → pending c.world.roots hub ≡ false → IsSilent hub c) where
-  root_rests : (n : ℕ) → 1 ≤ n → pending c.world.roots (n ∷ []) ≡ false
-  root_rests n least =
-      pend-no_change c.world.roots [] n least refl
-      (none_told (port_there a.world.roots (n ∷ [])) (port_there c.world.roots (n ∷ []))
-      (calm_port (n ∷ []) (rests (n ∷ [])) taken) (root_clear a.world n least none))
-
   below_rests : (hub : List ℕ) (n : ℕ) → (IsListedPort (roots_of c.world) c.entries hub
       → pending c.world.roots hub ≡ false)
       → IsSomeAnd (hub_facts_at hub c.entries) (λ facts. (1 ≤ n) × (n ≤ facts.ports))
@@ -234,29 +222,28 @@ module _ (a c : HostState) (agrees : Agrees c.entries c.addresses) (rooted : IsR
       pick None at h = absurd h
       pick (Some facts) at h =
           let there = hub_there hub c.entries facts at in
-          let calm = above (listed_port c.world c.entries c.addresses (accounted c agrees rooted)
-          hub (Device there.device) there.found) in
+          let calm = above (listed_port c.world (accounted c agrees rooted) hub
+          (Device there.device) there.found) in
           pend-no_change c.world.roots hub n h.0 calm (silent hub calm facts n at h.0 h.1)
 
   pends_step : (fuel : ℕ) (path : List ℕ) → length path ≤ suc fuel
       → ((hub : List ℕ) → length hub ≤ fuel → IsListedPort (roots_of c.world) c.entries hub
-      → pending c.world.roots hub ≡ false) → 1 ≤ length path
-      → (o : Option (List ℕ)) → parent_of path ≡ o
-      → IsPortBelow (roots_of c.world) c.entries o (port_on_hub path)
+      → pending c.world.roots hub ≡ false) → 1 ≤ length path → (o : Option (List ℕ))
+      → parent_of path ≡ o → IsPortBelow (roots_of c.world) c.entries o (port_on_hub path)
       → pending c.world.roots path ≡ false
   pends_step fuel path short above some None is h =
-      subst (λ (p : List ℕ). pending c.world.roots p ≡ false) (sym (root_alone path some is))
-      (root_rests (port_on_hub path) h.0)
+      rw (root_alone path some is) (pend-no_change c.world.roots [] (port_on_hub path) h.0 refl
+      (none_told (calm_port (rests ((port_on_hub path) ∷ [])) taken)
+      (root_clear a.world (port_on_hub path) h.0 none)))
   pends_step fuel path short above some (Some hub) is h =
       let joined : path ≡ hub ++ (port_on_hub path ∷ []) = rejoined path hub is in
-      let long : length path ≡ length hub + 1 = ap length joined
-      ∙ length-append hub (port_on_hub path ∷ []) in
-      subst (λ (p : List ℕ). pending c.world.roots p ≡ false) (sym joined)
-      (below_rests hub (port_on_hub path) (above hub (omega (arith, long, short))) h)
+      let long : length path ≡ length hub + 1 = ap length joined ∙ length-append hub
+      (port_on_hub path ∷ []) in
+      rw joined (below_rests hub (port_on_hub path) (above hub (omega arith)) h)
 
   pends_by : (fuel : ℕ) (path : List ℕ) → length path ≤ fuel
       → IsListedPort (roots_of c.world) c.entries path → pending c.world.roots path ≡ false
-  pends_by zero path short port = absurd (omega (arith, short, port.some))
+  pends_by zero path short port = absurd (omega (arith, port.some))
   pends_by (suc fuel) path short port = pends_step fuel path short (pends_by fuel) port.some
       (parent_of path) refl port.port
 
@@ -270,15 +257,15 @@ pub none_right : {A : Type 0} (P Q : Type 0) (o : Option A) → IfNone o Q → I
 none_right P Q None q = inr q
 none_right P Q (Some x) q = tt
 
-pub full_lists : (es : Entries) (addresses : Addresses) → Agrees es addresses → IsFull addresses
+pub full_lists : {es : Entries} {addresses : Addresses} → Agrees es addresses → IsFull addresses
     → ListsEach es
-full_lists es addresses agrees full address is =
-    accounts_listed es addresses agrees.rises agrees.accounts address (full address is)
+full_lists agrees full address is =
+    accounts_listed agrees.rises agrees.accounts address (full address is)
 
-pub none_waits : (es : Entries) (addresses : Addresses) → Agrees es addresses
+pub none_waits : {es : Entries} {addresses : Addresses} → Agrees es addresses
     → (IsFull addresses ⊎ IsLast is_waiting None es) → NoneWaiting es
-none_waits es addresses agrees (inl full) path at = full_lists es addresses agrees full
-none_waits es addresses agrees (inr none) path at =
+none_waits agrees (inl full) path at = full_lists agrees full
+none_waits agrees (inr none) path at =
     absurd (none path (record { finding = Refused NoAddress; found = at; fits = refl; after = tt }))
 
 -- The whole round
@@ -287,20 +274,15 @@ pub at_rest : (a b c d : HostState) → RootsRest a b → KeepsInvariant b c →
     → LooksKeep c (Ok Quiet) d → HostInvariant a → d.world.taken ≡ a.world.taken
     → d.world.fault ≡ None → IsAtRest d.world d.entries
 at_rest a b c d roots sound hubs looks s taken sane =
-    let known : HostInvariant b = subst HostInvariant (sym roots.same) s in
+    let known : HostInvariant b = rw roots.same s in
     let rooted : IsRooted c = (sound.sound known).rooted in
     let looked = looks.rest rooted refl in
-    let working : c.world.fault ≡ None = ap (λ (h : HostState). h.world.fault) (sym looked.0)
-    ∙ sane in
+    let working : c.world.fault ≡ None = ap (λ (h : HostState). h.world.fault) (sym looked.0) ∙ sane
+    in
     let still : c.world.taken ≡ b.world.taken = ap (λ (h : HostState). h.world.taken) (sym looked.0)
     ∙ taken ∙ ap (λ (h : HostState). h.world.taken) (sym roots.same) in
     let none : changes (root_row b.world) ≡ 0 = ap (λ (h : HostState). changes (root_row h.world))
     roots.same ∙ roots.none in
     let ports = none_pends b c hubs.agrees rooted (hubs.calm refl working) still none
     (hubs.silent known refl working still) in
-    record {
-      none_pending = subst (λ (h : HostState). (path : List ℕ)
-          → IsListedPort (roots_of h.world) h.entries path → pending h.world.roots path ≡ false)
-          (sym looked.0) ports;
-      none_waiting = looked.1;
-    }
+    record { none_pending = rw looked.0 ports; none_waiting = looked.1 }

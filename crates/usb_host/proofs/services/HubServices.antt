@@ -1,7 +1,6 @@
 -- How a poll of a hub, and what follows it, make up what was done at the hub.
-use Rattle.std.proofs.Common.{◌≡◌, ◌∙◌, refl, sym, ap, subst, arith, Bool, true, false, ℕ, ◌+◌, ◌≤◌}
-use Rattle.std.proofs.Common.{◌/◌, ◌%◌, ◌^◌, ◌≢◌, bit_and, List, Option, None, Some, is_some, Ok}
-use Rattle.std.proofs.Common.{Err}
+use Rattle.std.proofs.Common.{◌≡◌, ◌∙◌, refl, sym, ap, arith, Bool, true, false, ℕ, ◌+◌, ◌≤◌, ◌/◌}
+use Rattle.std.proofs.Common.{◌%◌, ◌^◌, ◌≢◌, bit_and, List, Option, None, Some, is_some, Ok, Err}
 use Rattle.std.specs.Prelude.{IsSome}
 use Rattle.std.proofs.lemmas.Bool.{eq-eqb, ne_eqb}
 use Rattle.std.proofs.lemmas.Nat.{and_mask}
@@ -9,7 +8,7 @@ use Rattle.usb_port.specs.{has_bit}
 use Rattle.arrayvec.specs.ArrayVec.{ArrayVec}
 use Rattle.usb_device.specs.{row_of}
 use Rattle.usb_world.specs.{World}
-use Rattle.usb_pipe.specs.{FaultAfter, ByteTold, PollTells, PipeFault}
+use Rattle.usb_pipe.specs.{FaultAfter, ByteTold, PipeFault}
 use Rattle.usb_pipe.specs.declared.fault.PipeFault.TheVariants.{Stalled, Busy, NoAnswer, Broken}
 use Rattle.usb_pipe.specs.declared.fault.PipeFault.TheVariants.{Bus, Memory}
 use Rattle.usb_hub.specs.{NoHubFailed}
@@ -21,7 +20,7 @@ use Rattle.usb_host.specs.{HostState, HasLost, AddsNoWork, HostProgress, HostRun
 use Rattle.usb_host.specs.{Remains, waiting, PolledOnce, PollsHub, ServedTold, first_byte}
 use Rattle.usb_host.specs.{not_heard, told_none, told_some, HostInvariant, table_in, Worked, Quiet}
 use Rattle.usb_host.proofs.rests.Polls.{hub_there}
-use Rattle.usb_host.proofs.knowledge.ToldBits.{none_own}
+use Rattle.usb_host.proofs.knowledge.ToldBits.{none_own, weights}
 
 -- A bit of a byte
 
@@ -38,9 +37,9 @@ bit_not bits n not = ne_eqb (bits / 2 ^ n % 2) 1 (λ is. not (and_mask (bits / 2
 remains_by : (a b : HostState) → b.entries ≡ a.entries → b.addresses ≡ a.addresses
     → b.stopped ≡ a.stopped → Remains a b
 remains_by a b same pool stopped =
-    ap (λ es. record b { entries = es }) same
-    ∙ ap (λ ps. record b { entries = a.entries; addresses = ps }) pool
-    ∙ ap (λ (x : Bool). record b { entries = a.entries; addresses = a.addresses; stopped = x })
+    ap (λ es. record b { entries = es }) same ∙ ap
+    (λ ps. record b { entries = a.entries; addresses = ps }) pool ∙ ap
+    (λ (x : Bool). record b { entries = a.entries; addresses = a.addresses; stopped = x })
     stopped
 
 -- an attempt was made, and what came after it took nothing back
@@ -49,7 +48,7 @@ polled_on : (a b c : HostState) → Remains a b → HostSteps 768 a b
 polled_on a b c r went more holds =
     let same : waiting b.entries ≡ waiting a.entries =
     ap (λ (h : HostState). waiting h.entries) r in
-    omega (arith, same, went.spends.served, went.spends.later, more, holds)
+    omega (arith, went.spends.served, went.spends.later)
 
 -- a poll that failed took an attempt, where it was not the bus that failed
 pub failed_more : (old new : World) (fault : PipeFault) → ((told : _) → fault ≡ Bus told → ⊥)
@@ -81,7 +80,7 @@ module _ (hub : List ℕ) (a b : HostState) (same : b.entries ≡ a.entries)
           let is : there.device ≡ device = cc (sym (ap accepted_device_of there.found) ∙ at) in
           ap (λ (d : Accepted). is_some d.hub) (sym is) ∙ ap is_some there.told
 
-  module _ (got : Option (ArrayVec ℕ)) (polled : PipesPolled (pipes_at hub (table_in a)) a.world
+  module _ {got : Option (ArrayVec ℕ)} (polled : PipesPolled (pipes_at hub (table_in a)) a.world
       (Ok got) (pipes_at hub (table_in b)) b.world)
       (keeps : KeepsPolled hub (table_in a) a.world (Ok got) (table_in b) b.world) where
     pub hub_tells : HostInvariant a → b.world.fault ≡ None → HubTold hub a.world (Ok got) b.world
@@ -97,59 +96,47 @@ module _ (hub : List ℕ) (a b : HostState) (same : b.entries ≡ a.entries)
             (ap accepted_device_of there.found) (ap is_some there.told) refl
 
     -- what is told is of ports: the hub itself has no change
-    pub told_of_ports : (packet : ArrayVec ℕ) (byte : ℕ) → got ≡ Some packet
+    pub told_of_ports : (packet : ArrayVec ℕ) {byte : ℕ} → got ≡ Some packet
         → byte ≡ first_byte packet.items → b.world.fault ≡ None → HostInvariant a → byte ≢ 1
-    told_of_ports packet byte is read still s one =
+    told_of_ports packet is read still s one =
         let t : ByteTold (BitsOf hub a.world b.world) packet.items =
-        subst (λ (o : Option (ArrayVec ℕ)). PollTells (BitsOf hub a.world b.world) (Ok o)) is
-        (hub_tells s still).tells in
-        none_own (row_of t.so.ports) (sym t.so.told ∙ sym (read ∙ ap first_byte t.is) ∙ one)
+        rw is at (hub_tells s still).tells in
+        none_own (row_of t.so.ports) (weights _) (sym t.so.told ∙ sym (read ∙ ap first_byte t.is)
+        ∙ one)
 
-    once : (o : Option (ArrayVec ℕ)) → got ≡ o → PolledOnce hub a (Ok o) b
-    once o is = record {
-      through = subst (λ (x : Option (ArrayVec ℕ)). PipesPolled
-          (pipes_at hub (table_in a)) a.world (Ok x) (pipes_at hub (table_in b)) b.world) is
-          polled;
-      remains = r;
-    }
+    once : {o : Option (ArrayVec ℕ)} → got ≡ o → PolledOnce hub a (Ok o) b
+    once is = record { through = rw is at polled; remains = r }
 
     pub polls_quiet : got ≡ None → PollsHub hub Quiet a b
     polls_quiet none = record {
       did = r;
-      polled =
-          λ s still. told_none (once None none)
-          (subst (λ (o : Option (ArrayVec ℕ)). PollTells (BitsOf hub a.world b.world) (Ok o)) none
-          (hub_tells s still).tells);
+      polled = λ s still. told_none (once none) (rw none at (hub_tells s still).tells);
     }
 
-    pub polls_told : (packet : ArrayVec ℕ) (byte n : ℕ) (c : HostState) → got ≡ Some packet
+    pub polls_told : (packet : ArrayVec ℕ) (byte : ℕ) {n : ℕ} (c : HostState) → got ≡ Some packet
         → byte ≡ first_byte packet.items → HostRuns n b c → a.world.attempts + 1 ≤ b.world.attempts
         → AddsNoWork b c → (HostInvariant a → ServedTold hub byte 8 b c) → PollsHub hub Worked a c
-    polls_told packet byte n c is read goes more holds served = record {
+    polls_told packet byte {n = n} c is read goes more holds served = record {
       did = polled_on a b c r went more holds;
       polled = λ s still.
-          let here = went_sound n b.world c.world goes.went still in
           let t : ByteTold (BitsOf hub a.world b.world) packet.items =
-          subst (λ (o : Option (ArrayVec ℕ)). PollTells (BitsOf hub a.world b.world) (Ok o)) is
-          (hub_tells s here).tells in
-          let bits : byte ≡ t.bits = read ∙ ap first_byte t.is in
-          told_some packet b (once (Some packet) is) t
-          (subst (λ k. ServedTold hub k 8 b c) bits (served s));
+          rw is at (hub_tells s (went_sound n b.world c.world goes.went still)).tells in
+          told_some packet b (once is) t (rw (read ∙ ap first_byte t.is) at (served s));
     }
 
   -- it did not answer
   pub polls_lost : (fault : PipeFault) → PipesPolled (pipes_at hub (table_in a)) a.world (Err fault)
       (pipes_at hub (table_in b)) b.world → KeepsPolled hub (table_in a) a.world (Err fault)
-      (table_in b) b.world → (n : ℕ) (c : HostState)
+      (table_in b) b.world → {n : ℕ} (c : HostState)
       → (b.world.fault ≡ None → NoHubFailed {A = Option (ArrayVec ℕ)} (Err fault) → ⊥)
       → HostRuns n b c → a.world.attempts + 1 ≤ b.world.attempts → AddsNoWork b c
       → HasLost hub b.entries c.entries → PollsHub hub Worked a c
-  polls_lost fault polled keeps n c failed goes more holds loses = record {
+  polls_lost fault polled keeps {n = n} c failed goes more holds loses = record {
     did = polled_on a b c r went more holds;
     polled = λ s still.
         let here = went_sound n b.world c.world goes.went still in
         let before = went_sound 768 a.world b.world went here in
         not_heard fault b (record { through = polled; remains = r })
-        (λ few device at heard. failed here (keeps.why (s.owned.so before) (s.level before hub)
-        few device at (is_hub_at device at) heard)) loses;
+        (λ few device at heard. failed here (keeps.why (s.owned.so before) (s.level before hub) few
+        device at (is_hub_at device at) heard)) loses;
   }

@@ -25,19 +25,18 @@ pub looked_then : (last : Option (List ℕ)) (path : List ℕ) (before round : R
     (a b c : HostState) → LookedAgain last before a b → Waits path b → ComesAfter last path
     → round ≡ Worked → LookedOnce path b c → LookedAgain (Some path) (either before round) a c
 looked_then last path before round a b c looked waits after is once =
-    let worked : either before round ≡ Worked = ap (either before) is ∙ either_worked before in
-    subst (λ (r : Round). LookedAgain (Some path) r a c) (sym worked)
-    (next_device last path before looked waits after once)
+    rw (ap (either before) is ∙ either_worked before) (next_device last path before looked waits
+    after once)
 
 -- The parts
 
-parts_failed : (result : Result Round HostFault) (a b : HostState) → IsErr result
+parts_failed : (result : Result Round HostFault) {a b : HostState} → IsErr result
     → Part round_bound a result b
     → ((c : Weights) (plan : PlanData) → Affords c plan a → PaysRound c plan a result b)
     → (a.entries ≡ [] → changes (root_row a.world) ≡ 0 → ⊥) → WentByParts a result b
-parts_failed (Ok round) a b e part pays idle = absurd (cc e)
-parts_failed (Err fault) a b e part pays idle = record {
-  keeps = parts_fail (Err fault) a b refl part;
+parts_failed (Ok round) e part pays idle = absurd (cc e)
+parts_failed (Err fault) e part pays idle = record {
+  keeps = parts_fail refl part;
   did = tt;
   none = λ is. absurd (cc is);
   parts = tt;
@@ -45,55 +44,51 @@ parts_failed (Err fault) a b e part pays idle = record {
   idle = λ entries none. absurd (idle entries none);
 }
 
-module _ (a b : HostState) where
+module _ {a b : HostState} where
   -- the root ports failed
-  pub parts_rootless : (fault : HostFault) (other : Result Round HostFault) → IsErr other
+  pub parts_rootless : {fault : HostFault} {other : Result Round HostFault} → IsErr other
       → ServesEach a (Err fault) b → WentByParts a other b
-  parts_rootless fault other e x =
-      parts_failed other a b e (part-fails round_bound roots_bound a b fault other x.part e
-      (omega arith)) (λ c plan w. roots_fail c plan a b (Err fault) other e x.pays w)
+  parts_rootless {fault = fault} {other = other} e x =
+      parts_failed other e (part-fails {k = round_bound} other x.part e (omega arith))
+      (λ c plan w. roots_fail c plan a b other e x.pays w)
       (λ entries none. roots_idle a entries none b fault x.idle)
 
-  module _ (roots : Round) (x : ServesEach a (Ok roots) b) (d : HostState) where
+  module _ {roots : Round} (x : ServesEach a (Ok roots) b) {d : HostState} where
     -- the hubs failed
-    pub parts_hubless : (fault : HostFault) (other : Result Round HostFault) → IsErr other
+    pub parts_hubless : {fault : HostFault} {other : Result Round HostFault} → IsErr other
         → ServesHubs b (Err fault) d → WentByParts a other d
-    parts_hubless fault other e y =
-        parts_failed other a d e (part-fails round_bound (roots_bound + hubs_bound) a d fault other
-        (part-then (roots_bound + hubs_bound) roots_bound hubs_bound a b d roots _ x.part
-        y.keeps.part (omega arith)) e (omega arith))
-        (λ c plan w. hubs_fail roots_bound roots a b x.part.goes.went x.part.sound x.pays hubs_bound
-        d y.keeps.part.goes.went c plan (Err fault) other e y.pays w)
+    parts_hubless {fault = fault} {other = other} e y =
+        parts_failed other e (part-fails {k = round_bound} other
+        (part-then {k = roots_bound + hubs_bound} _ x.part y.keeps.part (omega arith)) e
+        (omega arith))
+        (λ c plan w. hubs_fail a b x.part.goes.went x.part.sound x.pays d y.keeps.part.goes.went c
+        plan other e y.pays w)
         (λ entries none. hubs_idle a entries none b roots x.idle d fault y.idle)
 
-    module _ (hubs : Round) (y : ServesHubs b (Ok hubs) d) (f : HostState) where
+    module _ {hubs : Round} (y : ServesHubs b (Ok hubs) d) (f : HostState) where
       both_served : Part (roots_bound + hubs_bound) a (Ok hubs) d
-      both_served = part-then (roots_bound + hubs_bound) roots_bound hubs_bound a b d roots
-          (Ok hubs) x.part y.keeps.part (omega arith)
+      both_served = part-then (Ok hubs) x.part y.keeps.part (omega arith)
 
       -- the second looks failed
-      pub parts_lookless : (fault : HostFault) (other : Result Round HostFault) → IsErr other
+      pub parts_lookless : {fault : HostFault} {other : Result Round HostFault} → IsErr other
           → LooksAgain d (Err fault) f → WentByParts a other f
-      parts_lookless fault other e z =
-          parts_failed other a f e (part-fails round_bound round_bound a f fault other
-          (part-then round_bound (roots_bound + hubs_bound) looks_bound a d f hubs _ both_served
-          z.keeps.part (omega arith)) e (omega arith))
-          (λ c plan w. looks_fail roots_bound roots a b x.part.goes.went x.part.sound x.pays
-          hubs_bound d y.keeps.part.goes.went hubs y.keeps.part.sound y.pays looks_bound f
-          z.keeps.part.goes.went c plan (Err fault) other e z.keeps w)
+      parts_lookless {fault = fault} {other = other} e z =
+          parts_failed other e (part-fails {k = round_bound} other
+          (part-then {k = round_bound} _ both_served z.keeps.part (omega arith)) e (omega arith))
+          (λ c plan w. looks_fail a b x.part.goes.went x.part.sound x.pays d y.keeps.part.goes.went
+          hubs y.keeps.part.sound y.pays looks_bound f z.keeps.part.goes.went c plan (Err fault)
+          other e z.keeps w)
           (λ entries none. looks_idle a entries none b roots x.idle d hubs y.idle f fault
           z.keeps.idle)
 
       -- all was done
-      pub parts_made : (looks : Round) → LooksAgain d (Ok looks) f
+      pub parts_made : {looks : Round} → LooksAgain d (Ok looks) f
           → WentByParts a (Ok (either (either roots hubs) looks)) f
-      parts_made looks z = record {
+      parts_made {looks = looks} z = record {
         keeps = parts_keep roots hubs looks a b d f (λ is. x.serves.none (ok_is roots Quiet is))
             x.part y.keeps z.keeps;
-        did = did_then (roots_bound + hubs_bound) looks_bound (either roots hubs) looks a d f
-            both_served.goes z.keeps.part.goes
-            (did_then roots_bound hubs_bound roots hubs a b d x.part.goes y.keeps.part.goes
-            x.serves.did y.did) z.did;
+        did = did_then (either roots hubs) looks a d f both_served.goes z.keeps.part.goes
+            (did_then roots hubs a b d x.part.goes y.keeps.part.goes x.serves.did y.did) z.did;
         none = λ is.
             let both = quiet_first (either roots hubs) looks
             (ok_is (either (either roots hubs) looks) Quiet is) in
@@ -113,8 +108,8 @@ module _ (a b : HostState) where
               is = refl;
             };
         pays = λ c plan w.
-            parts_pay roots_bound roots a b x.part.goes.went x.part.sound x.pays hubs_bound d
-            y.keeps.part.goes.went hubs y.keeps.part.sound y.pays looks_bound f
+            parts_pay a b x.part.goes.went x.part.sound x.pays d y.keeps.part.goes.went hubs
+            y.keeps.part.sound y.pays looks_bound f
             z.keeps.part.goes.went c plan looks z.keeps w;
         idle = λ entries none.
             all_idle a entries none b roots x.idle d hubs y.idle f looks z.keeps.idle;
@@ -133,8 +128,8 @@ pub parts_done : (result : Result Round HostFault) (a b : HostState) (stopped : 
     → a.stopped ≡ false → stopped ≡ is_err result → WentByParts a result b
     → IfOk result (λ round. DidParts round a (record b { stopped = stopped }))
 parts_done (Ok round) a b stopped going is went =
-    let same : stopped ≡ b.stopped = is ∙ sym (went.keeps.part.goes.going ∙ going) in
-    subst (λ (x : Bool). DidParts round a (record b { stopped = x })) (sym same) (record {
+    subst (λ (x : Bool). DidParts round a (record b { stopped = x }))
+    (sym (is ∙ sym (went.keeps.part.goes.going ∙ going))) (record {
       did = record {
         worked = did_worked round a b went.did;
         quiet = λ quiet.

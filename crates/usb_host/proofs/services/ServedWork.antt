@@ -1,5 +1,5 @@
 -- That the host gets on where a port is served, and where a hub is polled.
-use Rattle.std.proofs.Common.{◌≡◌, ◌⊎◌, inl, sym, ap, subst, arith, true, false, ℕ, Result, Ok, Err}
+use Rattle.std.proofs.Common.{◌≡◌, ◌⊎◌, inl, ap, arith, true, false, ℕ, Result, Ok, Err}
 use Rattle.usb_port.specs.{seen, PortStatus}
 use Rattle.usb_world.specs.{World, root_port_at}
 use Rattle.usb_hub.specs.{HubPort, Root, External}
@@ -9,17 +9,17 @@ use Rattle.usb_host.specs.{AddsNoWork, HostProgress, HostRuns, OnlyBusSteps, wai
 use Rattle.usb_host.proofs.StepSums.{advances_after, advances_then}
 use Rattle.usb_host.proofs.HostProgress.{served_any}
 
-pub rests_holds : (n : ℕ) (a b : HostState) → HostRuns n a b → OnlyBusSteps a b → AddsNoWork a b
-rests_holds n a b g r =
+pub rests_holds : {n : ℕ} (a b : HostState) → HostRuns n a b → OnlyBusSteps a b → AddsNoWork a b
+rests_holds a b g r =
     let same : waiting b.entries ≡ waiting a.entries =
     ap (λ (h : HostState). waiting h.entries) r in
-    omega (arith, same, g.went.spends.served, g.went.spends.later)
+    omega (arith, g.went.spends.served, g.went.spends.later)
 
 gained_on : (a b : HostState) → OnlyBusSteps a b → Gained a.world b.world → HostProgress a b
 gained_on a b r gained =
     let same : waiting b.entries ≡ waiting a.entries =
     ap (λ (h : HostState). waiting h.entries) r in
-    omega (arith, same, gained)
+    omega arith
 
 pub served_after : (result : Result (Unit {0}) EnumFault) (a b c : HostState) → AddsNoWork a b
     → ProgressOrLost result b c → ProgressOrLost result a c
@@ -54,18 +54,16 @@ lost_on A port a b Memory r gains told = tt
 
 due_on : (port : HubPort) (a b : HostState) (status : PortStatus)
     → Shown port (Ok status) a.world b.world → IsDue a.world port → IsDue b.world port
-due_on (Root number) a b status shown due =
-    subst (λ (w : World). (root_port_at w number).connection_changed ≡ true) (sym shown.1) due
+due_on (Root number) a b status shown due = rw shown.1 due
 due_on (External hub number) a b status shown due = tt
 
 -- a status told of a change, and the port was looked at
-pub looked_on : (n : ℕ) (port : HubPort) (a b c : HostState) (result : Result (Unit {0}) EnumFault)
+pub looked_on : {n : ℕ} (port : HubPort) (a b c : HostState) (result : Result (Unit {0}) EnumFault)
     (status : PortStatus) → OnlyBusSteps a b → Shown port (Ok status) a.world b.world
     → HostRuns n a b → {Waits : Type 0} → (IsDue b.world port ⊎ Waits → ProgressOrLost result b c)
     → IsDue a.world port → ProgressOrLost result a c
-looked_on n port a b c result status r shown g looks due =
-    served_after result a b c (rests_holds n a b g r)
-    (looks (inl (due_on port a b status shown due)))
+looked_on port a b c result status r shown g looks due =
+    served_after result a b c (rests_holds a b g r) (looks (inl (due_on port a b status shown due)))
 
 off_absurd : {A : Type 0} (w : World) (number : ℕ) (status : PortStatus)
     → status ≡ seen (root_port_at w number) → status.connection_changed ≡ false
@@ -76,11 +74,11 @@ off_absurd w number status is off due =
     absurd (cc (told, off, due))
 
 -- it told of none: then a root port was not due, and a hub was asked
-pub tidied_on : (n : ℕ) (port : HubPort) (a b c : HostState) (result : Result (Unit {0}) EnumFault)
+pub tidied_on : {n : ℕ} (port : HubPort) (a b c : HostState) (result : Result (Unit {0}) EnumFault)
     (status : PortStatus) → OnlyBusSteps a b → OnlyBusSteps b c
     → Shown port (Ok status) a.world b.world → HostRuns n b c → status.connection_changed ≡ false
     → IsDue a.world port → ProgressOrLost result a c
-tidied_on n (Root number) a b c result status r q shown g off due =
+tidied_on (Root number) a b c result status r q shown g off due =
     off_absurd a.world number status (cc (shown.0)) off due
-tidied_on n (External hub number) a b c result status r q shown g off due =
-    served_any result a c (advances_then a b c (gained_on a b r shown) (rests_holds n b c g q))
+tidied_on (External hub number) a b c result status r q shown g off due =
+    served_any result a c (advances_then a b c (gained_on a b r shown) (rests_holds b c g q))

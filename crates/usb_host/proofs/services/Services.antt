@@ -1,5 +1,5 @@
 -- How the parts of a port's handling make up what was done at the port.
-use Rattle.std.proofs.Common.{◌≡◌, ◌∙◌, inl, inr, refl, sym, ap, subst, arith, length}
+use Rattle.std.proofs.Common.{◌≡◌, ◌∙◌, inl, inr, refl, sym, ap, arith, length}
 use Rattle.std.proofs.Common.{length-append, ◌<◌, ◌≤◌, not, cond, Bool, true, false, ℕ, ◌+◌, List}
 use Rattle.std.proofs.Common.{[], ◌∷◌, ◌++◌, Some, Result, Ok, Err}
 use Rattle.std.specs.Prelude.{OnOk}
@@ -15,9 +15,9 @@ use Rattle.usb_hub.specs.{HubPort, IsAt, CommandsPort, PortCallDone, PortStatusA
 use Rattle.usb_enum.specs.{EnumFault, ParentLost, Bus, Memory, Lost, Finding}
 use Rattle.usb_enum.specs.declared.finding.Finding.TheVariants.{Refused}
 use Rattle.usb_table.specs.{KnownPort, Entries, is_at_or_below, without}
-use Rattle.usb_host.specs.{HostState, claims, HasLost, IsOwned, Watches, EndsAs, EntersOne}
+use Rattle.usb_host.specs.{HostState, claims, HasLost, IsOwned, Watches, EndsAs}
 use Rattle.usb_host.specs.{StandsAt, HostProgress, HostSteps, OnlyBusSteps, HostInvariant}
-use Rattle.usb_host.specs.{DoneWhere, EndsAt, HandlesAt, LookedAt, LookedOnce, LookedOrLost}
+use Rattle.usb_host.specs.{DoneWhere, EndsAt, HandlesAt, LookedOnce, LookedOrLost}
 use Rattle.usb_host.specs.{LosesParent, Renews, ServedAt, ServedOrLost, StaysOrForgets, TidiesTold}
 use Rattle.usb_host.specs.{was_tidied, was_looked_at, was_lost, looked_once, lost_once, HostFault}
 use Rattle.usb_host.proofs.OwnedPorts.{owned_rests}
@@ -29,10 +29,10 @@ use Rattle.usb_host.proofs.PortLocations.{stands_at-claim}
 -- Requests
 
 -- a call that succeeded was done at its port
-pub call_done : (port : HubPort) (c : PortCall) (old new : World) → (is_reset c ≡ true → ⊥)
+pub call_done : {port : HubPort} {c : PortCall} {old new : World} → (is_reset c ≡ true → ⊥)
     → CommandsPort port (Some c) old (Ok tt) new → (f : AddressMap) (p : List ℕ) → IsAt f port p
     → WhileBusWorks (MapHolds f) old → PortCallDone p c old new
-call_done port c old new other calls f p at owned =
+call_done {c = c} other calls f p at owned =
     calls.done f p c (record {
       at = at;
       is = refl;
@@ -40,13 +40,9 @@ call_done port c old new other calls f p at owned =
       owned = owned;
     }) refl
 
-pub done_so : (b : Bool) (p : List ℕ) (c : PortCall) (old new : World) → b ≡ true
-    → PortCallDone p c old new → DoneWhere b p c old new
-done_so b p c old new is done = subst (λ (x : Bool). DoneWhere x p c old new) (sym is) done
-
-pub done_not : (b : Bool) (p : List ℕ) (c : PortCall) (old new : World) → b ≡ false → new ≡ old
+pub done_not : {b : Bool} (p : List ℕ) (c : PortCall) (old new : World) → b ≡ false → new ≡ old
     → DoneWhere b p c old new
-done_not b p c old new is same = subst (λ (x : Bool). DoneWhere x p c old new) (sym is) same
+done_not p c old new is same = rw is same
 
 -- Entries
 
@@ -74,41 +70,32 @@ without-way lost path way (e ∷ es) = without-without_by lost path e es goes
         ∙ at)
 
 -- a hub above the port is lost, whatever was forgotten at the port before
-pub loses_then : (path : List ℕ) (old mid new : Entries) → StaysOrForgets path old mid
+pub loses_then : (path : List ℕ) (old : Entries) {mid new : Entries} → StaysOrForgets path old mid
     → LosesParent path mid new → LosesParent path old new
-loses_then path old mid new (inl same) x = subst (λ (es : Entries). LosesParent path es new) same x
-loses_then path old mid new (inr gone) x =
+loses_then path old {new = new} (inl same) x = rw same at x
+loses_then path old {mid = mid} (inr gone) x =
     let way = way_trans x.loses.path x.hub path x.loses.above (way_parent path x.hub x.parent) in
     let left : without x.loses.path mid ≡ without x.loses.path old =
-    ap (λ (es : Entries). without x.loses.path es) gone
-    ∙ without-way x.loses.path path way old in
+    ap (λ (es : Entries). without x.loses.path es) gone ∙ without-way x.loses.path path way old in
     record {
       hub = x.hub;
       parent = x.parent;
       loses = record {
         path = x.loses.path;
         above = x.loses.above;
-        entries = x.loses.entries
-            ∙ ap (λ (es : Entries). insert_entry path_cmp es x.loses.path (Refused Lost)) left;
+        entries = x.loses.entries ∙ ap
+            (λ (es : Entries). insert_entry path_cmp es x.loses.path (Refused Lost)) left;
       };
     }
 
--- one finding was entered
-pub renews_one : (path : List ℕ) (old : Entries) (c d : HostState) → c.entries ≡ without path old
-    → EntersOne path c d → Renews true path old d.entries
-renews_one path old c d gone one = (
-  one.finding,
-  one.entries ∙ ap (λ (es : Entries). insert_entry path_cmp es path one.finding) gone,
-)
-
-pub renews_by : (b : Bool) (path : List ℕ) (old new : Entries) (c : Bool) → b ≡ c
+pub renews_by : {b : Bool} (path : List ℕ) (old new : Entries) {c : Bool} → b ≡ c
     → Renews c path old new → Renews b path old new
-renews_by b path old new c is x = subst (λ (y : Bool). Renews y path old new) (sym is) x
+renews_by path old new is x = rw is x
 
 -- A port
 
-module _ (path : List ℕ) (port : KnownPort) (a b : HostState) (s : StandsAt path port a)
-    (r : OnlyBusSteps a b) (n : ℕ) (went : HostSteps n a b) (o : IsOwned a) where
+module _ {path : List ℕ} {port : KnownPort} {a b : HostState} (s : StandsAt path port a)
+    (r : OnlyBusSteps a b) {n : ℕ} (went : HostSteps n a b) (o : IsOwned a) where
   stays : b.entries ≡ a.entries
   stays = ap (λ (h : HostState). h.entries) r
 
@@ -123,12 +110,12 @@ module _ (path : List ℕ) (port : KnownPort) (a b : HostState) (s : StandsAt pa
   cleared_failed (Bus fault) = tt
   cleared_failed Memory = tt
 
-  module _ (status : PortStatus) (x : Watches port.port a.world (Ok status) b.world) where
+  module _ {status : PortStatus} (x : Watches port.port a.world (Ok status) b.world) where
     told_now : PortStatusAt path status a.world b.world
-    told_now = x.told (claims a.entries) path (stands_at-claim path port a s) o status refl
+    told_now = x.told (claims a.entries) path (stands_at-claim s) o status refl
 
     owned_now : IsOwned b
-    owned_now = owned_rests a b r x.addresses o
+    owned_now = owned_rests a r x.addresses o
 
     -- no change of connection was told
     pub serves_tidied : status.connection_changed ≡ false
@@ -139,12 +126,11 @@ module _ (path : List ℕ) (port : KnownPort) (a b : HostState) (s : StandsAt pa
       mid = b.world;
       told = told_now;
       steady = off;
-      clears = t.clears (claims b.entries) path
-          (stands_at-claim path port b (rests_stands n path port a b s r went)) owned_now;
-      rests = host_rests_then a b c r q;
+      clears = t.clears (claims b.entries) path (stands_at-claim (rests_stands s r went)) owned_now;
+      rests = host_rests_then a c r q;
     })
     serves_tidied off (Err ParentLost) c q t =
-        inl (ap (λ (h : HostState). h.entries) (host_rests_then a b c r q))
+        inl (ap (λ (h : HostState). h.entries) (host_rests_then a c r q))
     serves_tidied off (Err (Bus fault)) c q t = tt
     serves_tidied off (Err Memory) c q t = tt
 
@@ -153,8 +139,7 @@ module _ (path : List ℕ) (port : KnownPort) (a b : HostState) (s : StandsAt pa
         → (result : Result (Unit {0}) EnumFault) (c : HostState)
         → (IsOwned b → LookedOrLost path b result c) → ServedOrLost path a result c
     serves_looked on (Ok done) c x = was_looked_at status b told_now on r (x owned_now)
-    serves_looked on (Err ParentLost) c x =
-        subst (λ (es : Entries). StaysOrForgets path es c.entries) stays (x owned_now)
+    serves_looked on (Err ParentLost) c x = rw stays at (x owned_now)
     serves_looked on (Err (Bus fault)) c x = tt
     serves_looked on (Err Memory) c x = tt
 
@@ -170,10 +155,10 @@ found_failed path a c d Memory gone same = tt
 pub handled_at : (path : List ℕ) (served : Result (Unit {0}) EnumFault)
     (result : Result (Unit {0}) HostFault) (a b c : HostState) → EndsAs served result
     → EndsAt path served b result c → ServedOrLost path a served b → OnOk result (ServedAt path a c)
-handled_at path (Ok done) (Ok x) a b c ends left s = subst (ServedAt path a) (sym left) s
+handled_at path (Ok done) (Ok x) a b c ends left s = rw left s
 handled_at path (Ok done) (Err fault) a b c ends left s = tt
 handled_at path (Err ParentLost) (Ok x) a b c ends left s =
-    was_lost (loses_then path a.entries b.entries c.entries s left)
+    was_lost (loses_then path a.entries s left)
 handled_at path (Err ParentLost) (Err fault) a b c ends left s = tt
 handled_at path (Err (Bus fault)) (Ok x) a b c ends left s = absurd (cc ends)
 handled_at path (Err (Bus fault)) (Err other) a b c ends left s = tt
@@ -183,9 +168,8 @@ handled_at path (Err Memory) (Err other) a b c ends left s = tt
 pub handled_once : (path : List ℕ) (looked : Result (Unit {0}) EnumFault) (a b c : HostState)
     → EndsAs looked (Ok tt) → EndsAt path looked b (Ok tt) c → LookedOrLost path a looked b
     → LookedOnce path a c
-handled_once path (Ok done) a b c ends left s = looked_once (subst (LookedAt path a) (sym left) s)
-handled_once path (Err ParentLost) a b c ends left s =
-    lost_once (loses_then path a.entries b.entries c.entries s left)
+handled_once path (Ok done) a b c ends left s = looked_once (rw left s)
+handled_once path (Err ParentLost) a b c ends left s = lost_once (loses_then path a.entries s left)
 handled_once path (Err (Bus fault)) a b c ends left s = absurd (cc ends)
 handled_once path (Err Memory) a b c ends left s = absurd (cc ends)
 
@@ -202,17 +186,17 @@ pub loses_parent : (path hub : List ℕ) (old new : Entries) (result : Result (U
 loses_parent path hub old new (Ok done) above x = record { hub = hub; parent = above; loses = x }
 loses_parent path hub old new (Err fault) above x = tt
 
-pub same_last : (q : List ℕ) (m n : ℕ) → q ++ m ∷ [] ≡ q ++ n ∷ [] → m ≡ n
-same_last [] m n e = cc e
-same_last (i ∷ q) m n e = same_last q m n (cc e)
+pub same_last : (q : List ℕ) {m n : ℕ} → q ++ m ∷ [] ≡ q ++ n ∷ [] → m ≡ n
+same_last [] e = cc e
+same_last (i ∷ q) e = same_last q (cc e)
 
 -- a path that ends in a port's number goes on to it from a shorter one
 pub pushed_part : (hub : List ℕ) (number : ℕ) → 1 ≤ length hub → IsPath (hub ++ (number ∷ []))
     → IsPortNumber number × (length hub < 7)
 pushed_part hub number least is =
     let long : length (hub ++ (number ∷ [])) ≡ length hub + 1 = length-append hub (number ∷ []) in
-    let last = same_last hub number (port_on_hub (hub ++ (number ∷ [])))
+    let last = same_last hub {m = number} {n = port_on_hub (hub ++ (number ∷ []))}
     (rejoined (hub ++ (number ∷ [])) hub (parent hub number least)) in (
-      subst IsPortNumber (sym last) (port_number (hub ++ (number ∷ [])) is),
-      omega (arith, long, is.1),
+      rw last (port_number (hub ++ (number ∷ [])) is),
+      omega (arith, is.1),
     )

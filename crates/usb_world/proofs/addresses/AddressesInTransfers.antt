@@ -1,29 +1,28 @@
 -- IN and OUT change no address, where no device at theirs takes another.
-use Rattle.std.proofs.Common.{◌≡◌, ℕ, zero, suc, ◌==◌, ◌&&◌, if◌then◌else◌, inl, inr, Bool, true}
-use Rattle.std.proofs.Common.{false, List, [], ◌∷◌, Option, None, Some, option_map, refl, ap, sym}
+use Rattle.std.proofs.Common.{◌≡◌, ℕ, suc, ◌==◌, ◌&&◌, if◌then◌else◌, inl, inr, Bool, true}
+use Rattle.std.proofs.Common.{false, List, ◌∷◌, Option, None, Some, option_map, refl, ap, sym}
 use Rattle.std.proofs.Common.{subst, ◌∙◌, arith}
-use Rattle.usb_packet.specs.{Token, Payload, Ack, TokenKind, OutTok, InTok, SetupTok}
+use Rattle.usb_packet.specs.{Token, OutTok, InTok}
 use Rattle.usb_port.specs.{PortState}
 use Rattle.usb_device.specs.{Content, Whole, Broken, Sent, Leaves, RememberedPacket, State, Reply}
 use Rattle.usb_device.specs.{received, unread, forgotten, answered, unless_busy, in_row}
-use Rattle.usb_device.specs.{in_other_row, bulk_ack_row, token_row, after_memory, awaits_control}
-use Rattle.usb_device.specs.{ends_with_address, awaits_address, asks, asked_by_data, Ports, empty}
-use Rattle.usb_device.specs.{full, row_of, reach_at, state_at, place_at, hears, reply_to, answer_of}
-use Rattle.usb_device.specs.{asked_by, effect_of}
+use Rattle.usb_device.specs.{in_other_row, token_row, after_memory, awaits_control}
+use Rattle.usb_device.specs.{ends_with_address, awaits_address, asks, Ports, row_of, reach_at}
+use Rattle.usb_device.specs.{state_at, place_at, hears, reply_to, answer_of, asked_by, effect_of}
+use Rattle.usb_device.specs.{Place}
 use Rattle.usb_device.specs.declared.transfer.RememberedPacket.TheVariants.{Nothing, SetupSeen}
-use Rattle.usb_device.specs.Tree.{Place}
 use Rattle.usb_device.proofs.Interface.{keeps-received}
-use Rattle.usb_world.specs.{Damage, Attempt, mark_of, harm_to, marked, token_of, token_out}
-use Rattle.usb_world.specs.{payload_out, reply_out, ports_in, World, at_attempt, damage_in}
-use Rattle.usb_world.specs.{with_attempt, Step, attempt, root_call, event, report, after, Course}
-use Rattle.usb_world.specs.{HoldsMapped, Injective, is_setup, NoneTakes, MovesData, GivesNoAddress}
+use Rattle.usb_world.specs.{Damage, Attempt, marked, token_of, token_out, payload_out, reply_out}
+use Rattle.usb_world.specs.{ports_in, World, at_attempt, damage_in, with_attempt, Step, attempt}
+use Rattle.usb_world.specs.{after, Course, HoldsMapped, Injective, is_setup, NoneTakes, MovesData}
+use Rattle.usb_world.specs.{GivesNoAddress}
 use Rattle.usb_tree.specs.{address_of, resets_at, reset_if, after_sent, deep_at, sent_resets}
-use Rattle.usb_tree.specs.{attempt_resets, IsDataOut, IfOut, IsSettled, effect_resets}
+use Rattle.usb_tree.specs.{attempt_resets, IsDataOut, IfOut, IsSettled}
 use Rattle.usb_tree.proofs.Interface.{resets_if}
 use Rattle.usb_world.proofs.packets.AwaitedAcks.{none_awaited_answer, data_no_control_in}
-use Rattle.usb_tree.proofs.Interface.{false_true, and_false}
+use Rattle.usb_tree.proofs.Interface.{false_true}
 use Rattle.usb_world.proofs.packets.PacketEffects.{packet_state, heard_state}
-use Rattle.usb_world.proofs.packets.AttemptPackets.{forgotten_state, calm_sent, sent_out}
+use Rattle.usb_world.proofs.packets.AttemptPackets.{forgotten_state, calm_sent}
 use Rattle.usb_world.proofs.packets.AttemptPackets.{token_out as token_calm_out, ack_out}
 use Rattle.usb_world.proofs.holders.OneDevice.{stands, state_stands, settled_memory}
 use Rattle.usb_world.proofs.holders.OneHolderAttempts.{ready_settled}
@@ -44,16 +43,11 @@ heard_if : (P Q : State → Type 0) (q : Sent) (d on : Bool) (x : Option Place)
     → ((s : State) → P s → Q s)
     → ((s : State) (a : Ports) → on ≡ true → P s → Q (answer_of q d s a).1) → If P (stands x)
     → If Q (heard_state q d on x)
-heard_if P Q q d on None f g h = tt
-heard_if P Q q d on (Some (empty b)) f g h = tt
-heard_if P Q q d true (Some (full b s a)) f g h = g s a refl h
-heard_if P Q q d false (Some (full b s a)) f g h = f s h
+heard_if P Q q d on x f g h = grind arith
 
 unreset_if : (P : State → Type 0) (b : Bool) (o : Option State) → b ≡ false → If P o
     → If P (option_map (reset_if b) o)
-unreset_if P true o h g = false_true (sym h)
-unreset_if P false None h g = g
-unreset_if P false (Some s) h g = g
+unreset_if P b o h g = grind arith
 
 -- a packet, where it resets no device there
 sent_if : (P Q : State → Type 0) (o : Option Sent) (k : Ports) (j : ℕ) (p : List ℕ)
@@ -61,11 +55,7 @@ sent_if : (P Q : State → Type 0) (o : Option Sent) (k : Ports) (j : ℕ) (p : 
     → ((q : Sent) (d : Bool) (s : State) (a : Ports) → o ≡ Some q → reach_at k j p ≡ true → P s
     → Q (answer_of q d s a).1)
     → If P (state_at k j p) → If Q (state_at (after_sent o k) j p)
-sent_if P Q None k j p r f g h = weaken (state_at k j p) h
-  where
-    weaken : (o : Option State) → If P o → If Q o
-    weaken None h = tt
-    weaken (Some s) h = f s h
+sent_if P Q None k j p r f g h = grind arith
 sent_if P Q (Some q) k j p r f g h =
     subst (If Q) (sym (packet_state q false k j p))
     (unreset_if Q (resets_at q false k j p)
@@ -86,8 +76,7 @@ AddressStays d x = (saw_setup x.memory ≡ false) × (x.stage ≡ d.stage)
 
 stays_if : (d : State) (b : Bool) (x y : Reply) → AddressStays d x.1 → AddressStays d y.1
     → AddressStays d (if b then x else y).1
-stays_if d true x y h g = h
-stays_if d false x y h g = g
+stays_if d b x y h g = grind arith
 
 module _ (d : State) (rests : saw_setup d.memory ≡ false) where
   stays_zero : AddressStays d (unless_busy d (in_row d d.stage)).1
@@ -109,18 +98,11 @@ AddressAfterData n s x = (saw_setup x.memory ≡ false)
 
 rested_asked : (n : ℕ) (s x : State) → x.memory ≡ Nothing → AddressAfterData n s x
 unfolding awaits_address
-rested_asked n s x m = (
-  ap saw_setup m,
-  λ c. ap (λ y. awaits_control y && ends_with_address x.stage) m,
-)
+rested_asked n s x m = grind arith
 
 stayed_asked : (n : ℕ) (s x : State) → AddressStays s x → address_of s ≡ n → AddressAfterData n s x
 unfolding awaits_address
-stayed_asked n s x h e = (
-  h.0,
-  λ c. ap (λ y. awaits_control x.memory && y) (ap ends_with_address h.1
-      ∙ c e) ∙ and_false (awaits_control x.memory),
-)
+stayed_asked n s x h e = grind arith
 
 IsInOrOut : ℕ → Content → Type 0
 IsInOrOut n (Whole (Token InTok a e)) = a ≡ n
@@ -144,22 +126,8 @@ token_reply n (Whole (Token InTok a e)) h s row m = heard s.spec.silent
         s.memory (Token InTok a e)).1
     heard true = rested_asked n s s m
     heard false = own (a == s.registers.address) refl
-token_reply n (Whole (Token OutTok a e)) h s row m = heard s.spec.silent
-  where
-    own : (x : Bool) → AddressAfterData n s
-        (if x then token_row (forgotten s) row OutTok e else (None, forgotten s)).1
-    own true = (refl, λ c. refl)
-    own false = rested_asked n s (forgotten s) refl
-
-    heard : (x : Bool) → AddressAfterData n s (if x then (None, s) else answered (forgotten s) row
-        s.memory (Token OutTok a e)).1
-    heard true = rested_asked n s s m
-    heard false = own (a == s.registers.address)
-token_reply n Broken h s row m = heard s.spec.silent
-  where
-    heard : (x : Bool) → AddressAfterData n s (if x then s else forgotten s)
-    heard true = rested_asked n s s m
-    heard false = rested_asked n s (forgotten s) refl
+token_reply n (Whole (Token OutTok a e)) h s row m = grind (arith, rested_asked)
+token_reply n Broken h s row m = grind (arith, rested_asked)
 token_reply n (Whole p) h s row m = elim h [ ]
 
 token_answer : (n : ℕ) (q : Sent) → IsInOrOut n q.content → (deep : Bool) (s : State) (a : Ports)
@@ -194,43 +162,19 @@ forgot_awaits s m = ap (λ y. awaits_control y && ends_with_address s.stage) m
 data_asks : (c : Content) → IsDataOut c → (s : State) → saw_setup s.memory ≡ false
     → asked_by c s ≡ Leaves
 unfolding asks
-data_asks (Whole (Payload t b)) h s r = heard s.spec.silent (by_memory s.memory r)
-  where
-    by_memory : (m : RememberedPacket) → saw_setup m ≡ false → asked_by_data s m t b.items ≡ Leaves
-    by_memory SetupSeen g = false_true (sym g)
-    by_memory m g = refl
-
-    heard : (x : Bool) → asked_by_data s s.memory t b.items ≡ Leaves
-        → (if x then Leaves else asked_by_data s s.memory t b.items) ≡ Leaves
-    heard true g = refl
-    heard false g = g
-data_asks Broken h s r = refl
-data_asks (Whole p) h s r = elim h [ ]
+data_asks c h s r = grind arith
 
 pub data_effect : (q : Sent) → IsDataOut q.content → (deep : Bool) (s : State)
     → saw_setup s.memory ≡ false → effect_of q deep s ≡ Leaves
 unfolding effect_of
-data_effect q c deep s r = heard (hears q deep s)
-  where
-    heard : (x : Bool) → (if x then asked_by q.content s else Leaves) ≡ Leaves
-    heard true = data_asks q.content c s r
-    heard false = refl
+data_effect q c deep s r = grind (arith, data_asks)
 
 data_sent : (o : Option Sent) → IfOut IsDataOut o → (k : Ports)
     → ((i : ℕ) (e : List ℕ) → If WaitsNone (state_at k i e))
     → (j : ℕ) (p : List ℕ) → sent_resets o k j p ≡ false
-data_sent None c k h j p = refl
-data_sent (Some q) c k h j p =
-    resets_if q false k j p
-    (λ e m r t z at dp a. ap (λ x. effect_resets x a m r)
-    (data_effect q c dp t (subst (If WaitsNone) at (h j e))))
+data_sent o c k h j p = grind (arith, data_effect, resets_if)
 
 -- The host's ACK, where no device awaits it to take an address
-
-pub bulk_ack-address : (d : State) (o : Option (ℕ × ℕ)) → address_of (bulk_ack_row d o)
-    ≡ address_of d
-bulk_ack-address d None = refl
-bulk_ack-address d (Some end) = refl
 
 memory_acked : (d : State) (m : RememberedPacket) → (awaits_control m && ends_with_address d.stage)
     ≡ false → address_of (after_memory d m) ≡ address_of d
@@ -241,65 +185,32 @@ memory_acked d m h = grind arith
 kept_reply : (c : Content) (s : State) (row : List PortState) → AwaitsNoAddress s
     → address_of (reply_to c s row).1 ≡ address_of s
 unfolding received unread awaits_address
-kept_reply (Whole Ack) s row r = heard s.spec.silent
-  where
-    heard : (x : Bool) → address_of (if x then (None, s) else answered (forgotten s) row s.memory
-        Ack).1 ≡ address_of s
-    heard true = refl
-    heard false = memory_acked (forgotten s) s.memory r
-kept_reply Broken s row r = heard s.spec.silent
-  where
-    heard : (x : Bool) → address_of (if x then s else forgotten s) ≡ address_of s
-    heard true = refl
-    heard false = refl
-kept_reply (Whole p) s row r = (keeps-received s row p).address refl
+kept_reply c s row r = grind (arith, keeps-received, memory_acked)
 
 kept_answer : (q : Sent) (deep : Bool) (s : State) (a : Ports) → AwaitsNoAddress s
     → address_of (answer_of q deep s a).1 ≡ address_of s
 unfolding answer_of
-kept_answer q deep s a r = heard (hears q deep s)
-  where
-    heard : (x : Bool) → address_of (if x then reply_to q.content s (row_of a) else (None, s)).1
-        ≡ address_of s
-    heard true = kept_reply q.content s (row_of a) r
-    heard false = refl
+kept_answer q deep s a r = grind (arith, kept_reply)
 
 kept_heard : (q : Sent) (d on : Bool) (x : Option Place) → If AwaitsNoAddress (stands x)
     → option_map address_of (heard_state q d on x) ≡ option_map address_of (stands x)
-kept_heard q d on None r = refl
-kept_heard q d on (Some (empty b)) r = refl
-kept_heard q d true (Some (full b s a)) r = ap (λ x. Some x) (kept_answer q d s a r)
-kept_heard q d false (Some (full b s a)) r = refl
+kept_heard q d on x r = grind (arith, kept_answer)
 
 kept_sent : (o : Option Sent) (k : Ports) (j : ℕ) (p : List ℕ) → sent_resets o k j p ≡ false
     → If AwaitsNoAddress (state_at k j p)
     → option_map address_of (state_at (after_sent o k) j p) ≡ option_map address_of (state_at k j p)
-kept_sent None k j p h r = refl
-kept_sent (Some q) k j p h r =
-    ap (option_map address_of) (packet_state q false k j p)
-    ∙ kept_address (resets_at q false k j p) (heard_state q (deep_at false p) (reach_at k j p)
-    (place_at k j p)) h
-    ∙ kept_heard q (deep_at false p) (reach_at k j p) (place_at k j p)
-    (subst (If AwaitsNoAddress) (sym (state_stands k j p)) r)
-    ∙ ap (option_map address_of) (state_stands k j p)
+kept_sent o k j p h r =
+    grind (arith, heard_state, kept_address, kept_heard, packet_state, state_stands)
 
 -- The attempt
 
 of_out : (P : Content → Type 0) (o : Option Sent) (q : Sent) → IfOut P o → o ≡ Some q → P q.content
 of_out P o q h e = subst (IfOut P) e h
 
-kind_asks : (n e : ℕ) (t : TokenKind) → is_setup t ≡ false → IsInOrOut n (Whole (Token t n e))
-unfolding IsInOrOut
-kind_asks n e InTok h = refl
-kind_asks n e OutTok h = refl
-kind_asks n e SetupTok h = false_true (sym h)
-
 token_out-in_or_out : (a : Attempt) (d : Option Damage) → is_setup a.kind ≡ false
     → IfOut (IsInOrOut a.addr) (token_out a d)
 unfolding token_of marked IsInOrOut
-token_out-in_or_out a d h = sent_out (IsInOrOut a.addr) tt a.low a.pre
-    (mark_of (harm_to d 1) a.pre (Token a.kind a.addr a.ep)) (Token a.kind a.addr a.ep)
-    (kind_asks a.addr a.ep a.kind h)
+token_out-in_or_out a d h = grind arith
 
 -- IN or OUT, in a tree where no device remembers a packet
 module _ (a : Attempt) (d : Option Damage) (k : Ports) (settled : IsSettled k)
@@ -313,11 +224,7 @@ module _ (a : Attempt) (d : Option Damage) (k : Ports) (settled : IsSettled k)
 
   at_rest : (P : State → Type 0) (j : ℕ) (p : List ℕ)
       → ((s : State) → state_at k j p ≡ Some s → s.memory ≡ Nothing → P s) → If P (state_at k j p)
-  at_rest P j p c = go (state_at k j p) refl
-    where
-      go : (o : Option State) → state_at k j p ≡ o → If P o
-      go None e = tt
-      go (Some s) e = c s e (settled_memory k j p s settled e)
+  at_rest P j p c = grind (arith, settled_memory)
 
   pub none_waits : (j : ℕ) (p : List ℕ) → If WaitsNone (state_at asked_ports j p)
   none_waits j p =
@@ -359,8 +266,7 @@ module _ (a : Attempt) (d : Option Damage) (k : Ports) (settled : IsSettled k)
         calmed
 
     calmed_awaits : (o : Option State) → If IsCalmed o → If AwaitsNoAddress o
-    calmed_awaits None h = tt
-    calmed_awaits (Some s) h = h.1
+    calmed_awaits o h = grind arith
 
     pub ports_address : option_map address_of (state_at (ports_in a d k) j p)
         ≡ option_map address_of (state_at k j p)
@@ -384,12 +290,11 @@ made_own : (f : List ℕ → Option ℕ) (a : Attempt) (w : World) → is_setup 
     → NoneTakes a.addr w.roots → IsSettled w.roots → HoldsMapped f w
     → HoldsMapped f (with_attempt a w)
 unfolding with_attempt
-made_own f a w kind none settled own [] h = false_true h
-made_own f a w kind none settled own (zero ∷ p) h = false_true h
 made_own f a w kind none settled own (suc j ∷ p) h =
     ports_address a (damage_in w) w.roots settled kind j p (λ s on e at. none j p s on e at)
     ∙ own (suc j ∷ p) (made_reach a w (suc j ∷ p) (data_calm a (damage_in w) w.roots settled kind j
     p) h)
+made_own f a w kind none settled own p h = false_true h
 
 pub data_own : (f : List ℕ → Option ℕ) (a : Attempt) (w : World) → is_setup a.kind ≡ false
     → NoneTakes a.addr (at_attempt w).roots → IsSettled w.roots → HoldsMapped f w
@@ -410,9 +315,7 @@ data_keeps f inj a w kind none settled own h =
 moved_own : (f : List ℕ → Option ℕ) (s : Step) (w : World) → MovesData s w → IsSettled w.roots
     → HoldsMapped f w → HoldsMapped f (after s w)
 moved_own f (attempt a) w m settled own = data_own f a w m.0 m.1 settled own
-moved_own f (root_call c n) w m settled own = elim m [ ]
-moved_own f event w m settled own = elim m [ ]
-moved_own f (report l) w m settled own = elim m [ ]
+moved_own f s w m settled own = elim m [ ]
 
 given_own : (f : List ℕ → Option ℕ) (s : Step) (w : World) → GivesNoAddress s w → IsSettled w.roots
     → HoldsMapped f w → HoldsMapped f (after s w)

@@ -1,35 +1,26 @@
 -- Which courses keep each device at its own address, and set no mark.
-use Rattle.std.proofs.Common.{◌≡◌, ℕ, zero, suc, ◌+◌, ◌==◌, ◌&&◌, ◌||◌, not, nat_lt, if◌then◌else◌}
-use Rattle.std.proofs.Common.{◌⊎◌, inl, inr, Bool, true, false, List, [], ◌∷◌, ◌++◌, length, Option}
+use Rattle.std.proofs.Common.{arith}
+use Rattle.std.proofs.Common.{◌≡◌, ℕ, zero, suc, ◌+◌, ◌&&◌, ◌||◌, if◌then◌else◌}
+use Rattle.std.proofs.Common.{◌⊎◌, inl, inr, Bool, true, false, List, [], ◌∷◌, ◌++◌, Option}
 use Rattle.std.proofs.Common.{None, Some, option_map, refl, ap, sym, ◌∙◌}
-use Rattle.usb_packet.specs.{Packet, Token, Payload, Ack, Sof, Nak, Stall, Pre, Toggle, Zero}
-use Rattle.usb_packet.specs.{One as Data1, TokenKind, OutTok, InTok, SetupTok, is_same}
+use Rattle.usb_packet.specs.{Packet, Token, Payload, Toggle, TokenKind, SetupTok}
 use Rattle.arrayvec.specs.ArrayVec.{ArrayVec}
-use Rattle.usb_port.specs.{PortState, PortCall, is_reset}
-use Rattle.usb_device.specs.{Answer, Content, Whole, Broken, Sent, RememberedPacket, is_ack, State}
-use Rattle.usb_device.specs.{Reply, received, unread, forgotten, payload_row, token_row, status_row}
-use Rattle.usb_device.specs.{out_row, sink_row, sunk, out_bulk_row, bulk_of, is_busy, nak_row}
-use Rattle.usb_device.specs.{unless_busy, accepted, Stage, idle, refused, reading, read, ending}
-use Rattle.usb_device.specs.{Ports, ended, vacant, taken, empty, full, called, changed, reach}
-use Rattle.usb_device.specs.{reach_at, state_at, place_at, row_of, path_to, state_on, hears}
-use Rattle.usb_device.specs.{reply_to, answer_of, listed, held_addresses, repeats, state_there}
+use Rattle.usb_port.specs.{PortState, PortCall}
+use Rattle.usb_device.specs.{Answer, Content, Whole, Broken, Sent, is_ack, State, Reply, received}
+use Rattle.usb_device.specs.{unread, refused, Ports, ended, vacant, taken, called, changed, reach}
+use Rattle.usb_device.specs.{state_at, path_to, state_on, reply_to, answer_of, listed}
+use Rattle.usb_device.specs.{held_addresses, repeats, state_there, Place, answers}
 use Rattle.usb_device.specs.declared.answer.Answer.TheVariants as answer
-use Rattle.usb_device.specs.declared.transfer.RememberedPacket.TheVariants.{Nothing, SetupSeen}
-use Rattle.usb_device.specs.declared.transfer.RememberedPacket.TheVariants.{OutSeen, AckAwaited}
-use Rattle.usb_request.specs.{setup_of}
-use Rattle.usb_device.specs.Tree.{Place}
-use Rattle.usb_device.specs.Delivery.{answers}
 use Rattle.usb_device.proofs.Interface.{keeps-received}
-use Rattle.usb_world.specs.{Damage, Attempt, BusFault, Mark, mark_of, harm_to, marked, marked_some}
-use Rattle.usb_world.specs.{token_of, payload_of, reply_of, sent_as, goes_out, token_out}
-use Rattle.usb_world.specs.{payload_out, reply_out, heard_all, mark_in, place_of_answer, ports_in}
-use Rattle.usb_world.specs.{World, after_event, at_attempt, damage_in, with_attempt, event_taken}
-use Rattle.usb_world.specs.{Step, attempt, root_call, event, report, after, is_made, made_resets}
-use Rattle.usb_world.specs.{root_resets, resets, address_at, HoldsMapped, Injective, is_quiet}
-use Rattle.usb_world.specs.{QuietStep, quiet_data}
+use Rattle.usb_world.specs.{Damage, Attempt, BusFault, Mark, marked, marked_some, token_of}
+use Rattle.usb_world.specs.{payload_of, reply_of, sent_as, token_out, payload_out, reply_out}
+use Rattle.usb_world.specs.{heard_all, ports_in, World, after_event, at_attempt, damage_in}
+use Rattle.usb_world.specs.{with_attempt, event_taken, Step, attempt, root_call, event, after}
+use Rattle.usb_world.specs.{is_made, made_resets, root_resets, resets, address_at, HoldsMapped}
+use Rattle.usb_world.specs.{Injective, is_quiet, QuietStep, quiet_data}
 use Rattle.usb_world.specs.declared.wire.Mark.TheVariants as mark
-use Rattle.usb_tree.specs.{address_of, Two, resets_at, call_resets, after_sent, answers_to}
-use Rattle.usb_tree.specs.{after_attempt, deep_at, sent_resets, attempt_resets}
+use Rattle.usb_tree.specs.{address_of, Two, call_resets, after_sent, answers_to, after_attempt}
+use Rattle.usb_tree.specs.{sent_resets, attempt_resets}
 use Rattle.usb_tree.proofs.Interface.{false_true, both, and_of, decided, neither_of}
 use Rattle.usb_world.proofs.events.PlugEvents.{happened_there}
 use Rattle.usb_world.proofs.ports.PortCalls.{call_state}
@@ -55,28 +46,11 @@ is_ack_out Broken = false
 answer_address : (q : Sent) → is_ack_out q.content ≡ false → (deep : Bool) (s : State) (a : Ports)
     → address_of (answer_of q deep s a).1 ≡ address_of s
 unfolding answer_of unread is_ack_out
-answer_address q c deep s a = heard (hears q deep s) q.content c
-  where
-    quiet : (x : Bool) → address_of (if x then s else forgotten s) ≡ address_of s
-    quiet true = refl
-    quiet false = refl
-
-    read : (c : Content) → is_ack_out c ≡ false → address_of (reply_to c s (row_of a)).1
-        ≡ address_of s
-    read (Whole p) h = (keeps-received s (row_of a) p).address h
-    read Broken h = quiet s.spec.silent
-
-    heard : (x : Bool) (c : Content) → is_ack_out c ≡ false
-        → address_of (if x then reply_to c s (row_of a) else (None, s)).1 ≡ address_of s
-    heard true c h = read c h
-    heard false c h = refl
+answer_address q c deep s a = grind (arith, keeps-received)
 
 heard_address : (q : Sent) → is_ack_out q.content ≡ false → (d on : Bool) (x : Option Place)
     → option_map address_of (heard_state q d on x) ≡ option_map address_of (stands x)
-heard_address q c d on None = refl
-heard_address q c d on (Some (empty b)) = refl
-heard_address q c d true (Some (full b s a)) = ap (λ x. Some x) (answer_address q c d s a)
-heard_address q c d false (Some (full b s a)) = refl
+heard_address q c d on x = grind (arith, answer_address)
 
 NoAckOut : Option Sent → Type 0
 NoAckOut None = Unit {0}
@@ -86,13 +60,8 @@ sent_address : (o : Option Sent) → NoAckOut o → (k : Ports) (j : ℕ) (p : L
     → sent_resets o k j p ≡ false
     → option_map address_of (state_at (after_sent o k) j p) ≡ option_map address_of (state_at k j p)
 unfolding NoAckOut
-sent_address None c k j p h = refl
-sent_address (Some q) c k j p h =
-    ap (option_map address_of) (packet_state q false k j p)
-    ∙ kept_address (resets_at q false k j p) (heard_state q (deep_at false p) (reach_at k j p)
-    (place_at k j p)) h
-    ∙ heard_address q c (deep_at false p) (reach_at k j p) (place_at k j p)
-    ∙ ap (option_map address_of) (state_stands k j p)
+sent_address o c k j p h =
+    grind (arith, heard_address, heard_state, kept_address, packet_state, state_stands)
 
 -- an attempt without an ACK of the host changes no address, but of a device that it resets
 attempt_address : (t d : Option Sent) → NoAckOut t → NoAckOut d → (k : Ports) (j : ℕ) (p : List ℕ)
@@ -100,10 +69,7 @@ attempt_address : (t d : Option Sent) → NoAckOut t → NoAckOut d → (k : Por
     → option_map address_of (state_at (after_attempt t d None k) j p)
     ≡ option_map address_of (state_at k j p)
 attempt_address t d ct cd k j p f h =
-    ap (option_map address_of) (forgotten_state (after_sent d (after_sent t k)) j p)
-    ∙ forgotten_address (state_at (after_sent d (after_sent t k)) j p)
-    ∙ sent_address d cd (after_sent t k) j p h
-    ∙ sent_address t ct k j p f
+    grind (arith, forgotten_address, forgotten_state, sent_address)
 
 -- Where each reachable device holds an address of its own, no address is held twice
 
@@ -154,65 +120,20 @@ taken_state f w p on = (over_taken (stood_events p) f w on).1
 
 root_address : (c : PortCall) (n : ℕ) (k : Ports) (p : List ℕ) → root_resets c n k p ≡ false
     → address_at (changed (called c) k (n ∷ [])) p ≡ address_at k p
-root_address c n k [] h = refl
 root_address c n k (zero ∷ p) h = refl
-root_address c zero k (suc j ∷ p) h = refl
 root_address c (suc i) k (suc j ∷ p) h = ap (option_map address_of) (call_state c k i j p)
     ∙ kept_address (call_resets c k i j p) (state_at k j p) h
+root_address c n k p h = refl
 
 -- To setup data, and to data, no device answers by data; so the host sends no ACK
 
 abbrev has_no_data : Option Answer → Bool
-has_no_data None = true
 has_no_data (Some (answer.Data t b)) = false
-has_no_data (Some answer.Ack) = true
-has_no_data (Some answer.Nak) = true
-has_no_data (Some answer.Stall) = true
+has_no_data o = true
 
 no_data_if : (b : Bool) (x y : Reply) → has_no_data x.0 ≡ true → has_no_data y.0 ≡ true
     → has_no_data (if b then x else y).0 ≡ true
-no_data_if true x y h g = h
-no_data_if false x y h g = g
-
-no_data_status : (s : State) (t : Toggle) (b : List ℕ) → has_no_data (status_row s t b).0 ≡ true
-no_data_status s Zero b = refl
-no_data_status s Data1 [] = refl
-no_data_status s Data1 (x ∷ b) = refl
-
-no_data_out : (s : State) (g : Stage) (t : Toggle) (b : List ℕ) → has_no_data (out_row s g t b).0
-    ≡ true
-no_data_out s idle t b = refl
-no_data_out s refused t b = refl
-no_data_out s (reading x y z) t b = no_data_status s t b
-no_data_out s read t b = no_data_status s t b
-no_data_out s (ending x) t b = refl
-
-no_data_sink : (s : State) (max : ℕ) (t : Toggle) (b : List ℕ) → has_no_data (sink_row s max t b).0
-    ≡ true
-no_data_sink s max t b =
-    no_data_if s.bulk_out.halted (Some answer.Stall, s) _ refl
-    (no_data_if (nat_lt max (length b)) (None, s) _ refl
-    (no_data_if (is_same t s.bulk_out.toggle) (Some answer.Ack, sunk s b) (Some answer.Ack, s) refl
-    refl))
-
-no_data_bulk : (s : State) (e : ℕ) (o : Option (ℕ × ℕ)) (t : Toggle) (b : List ℕ)
-    → has_no_data (out_bulk_row s e o t b).0 ≡ true
-no_data_bulk s e None t b = refl
-no_data_bulk s e (Some end) t b = no_data_if (end.0 == e) (sink_row s end.1 t b) (None, s)
-    (no_data_sink s end.1 t b) refl
-
-no_data_payload : (s : State) (row : List PortState) (m : RememberedPacket) (t : Toggle)
-    (b : List ℕ) → has_no_data (payload_row s row m t b).0 ≡ true
-no_data_payload s row Nothing t b = refl
-no_data_payload s row (AckAwaited g) t b = refl
-no_data_payload s row SetupSeen Data1 b = refl
-no_data_payload s row SetupSeen Zero b =
-    no_data_if (length b == 8) (Some answer.Ack, accepted s row (setup_of b)) (None, s) refl refl
-no_data_payload s row (OutSeen e) t b =
-    no_data_if (e == 0) (unless_busy s (out_row s s.stage t b))
-    (out_bulk_row s e (bulk_of s false) t b)
-    (no_data_if (is_busy s) (nak_row s) (out_row s s.stage t b) refl (no_data_out s s.stage t b))
-    (no_data_bulk s e (bulk_of s false) t b)
+no_data_if b x y h g = grind arith
 
 -- what goes out in an attempt that sends setup data
 IsSetupOut : Content → Type 0
@@ -221,33 +142,15 @@ IsSetupOut (Whole (Payload t b)) = Unit {0}
 IsSetupOut Broken = Unit {0}
 IsSetupOut (Whole p) = ⊥
 
-no_data_token : (s : State) (row : List PortState) (a e : ℕ)
-    → has_no_data (if a == s.registers.address then token_row s row SetupTok e else (None, s)).0
-    ≡ true
-no_data_token s row a e = no_data_if (a == s.registers.address) (token_row s row SetupTok e)
-    (None, s) refl refl
-
 no_data_content : (c : Content) (s : State) (row : List PortState) → IsSetupOut c
     → has_no_data (reply_to c s row).0 ≡ true
 unfolding received IsSetupOut
-no_data_content (Whole (Token SetupTok a e)) s row h =
-    no_data_if s.spec.silent (None, s) _ refl (no_data_token (forgotten s) row a e)
-no_data_content (Whole (Token InTok a e)) s row h = elim h [ ]
-no_data_content (Whole (Token OutTok a e)) s row h = elim h [ ]
-no_data_content (Whole (Payload t b)) s row h =
-    no_data_if s.spec.silent (None, s) _ refl (no_data_payload (forgotten s) row s.memory t b.items)
-no_data_content (Whole Ack) s row h = elim h [ ]
-no_data_content (Whole (Sof f)) s row h = elim h [ ]
-no_data_content (Whole Nak) s row h = elim h [ ]
-no_data_content (Whole Stall) s row h = elim h [ ]
-no_data_content (Whole Pre) s row h = elim h [ ]
-no_data_content Broken s row h = refl
+no_data_content c s row h = grind arith
 
 no_data_answer : (q : Sent) → IsSetupOut q.content → (deep : Bool) (s : State) (a : Ports)
     → has_no_data (answer_of q deep s a).0 ≡ true
 unfolding answer_of
-no_data_answer q c deep s a = no_data_if (hears q deep s) (reply_to q.content s (row_of a))
-    (None, s) (no_data_content q.content s (row_of a) c) refl
+no_data_answer q c deep s a = grind (arith, no_data_content, no_data_if)
 
 all_without_data : List Answer → Bool
 all_without_data [] = true
@@ -264,8 +167,7 @@ no_data_append (x ∷ xs) ys h g =
 no_data_listed : (o : Option Answer) (xs : List Answer) → has_no_data o ≡ true
     → all_without_data xs ≡ true → all_without_data (listed o xs) ≡ true
 unfolding all_without_data
-no_data_listed None xs h g = g
-no_data_listed (Some x) xs h g = and_of (has_no_data (Some x)) (all_without_data xs) h g
+no_data_listed o xs h g = grind arith
 
 no_data_answers : (q : Sent) → IsSetupOut q.content → (deep : Bool) (k : Ports)
     → all_without_data (answers q deep k) ≡ true
@@ -273,14 +175,14 @@ unfolding answers all_without_data
 no_data_answers q c deep ended = refl
 no_data_answers q c deep (vacant b k) = no_data_answers q c deep k
 no_data_answers q c deep (taken b s a k) =
-    elim b.enable as (λ x. all_without_data
-    (if x then listed (answer_of q deep s a).0 (answers q true a ++ answers q deep k)
-    else answers q deep k) ≡ true) [
-      | true ↦ no_data_listed (answer_of q deep s a).0 (answers q true a ++ answers q deep k)
-          (no_data_answer q c deep s a) (no_data_append (answers q true a) (answers q deep k)
-          (no_data_answers q c true a) (no_data_answers q c deep k))
-      | false ↦ no_data_answers q c deep k
-    ]
+    grind (
+      arith,
+      no_data_answers q c true a,
+      no_data_answers q c deep k,
+      no_data_answer,
+      no_data_append,
+      no_data_listed,
+    )
 
 SetupIfOut : Option Sent → Type 0
 SetupIfOut None = Unit {0}
@@ -289,46 +191,28 @@ SetupIfOut (Some q) = IsSetupOut q.content
 no_data_told : (o : Option Sent) → SetupIfOut o → (k : Ports) → all_without_data (answers_to o k)
     ≡ true
 unfolding all_without_data SetupIfOut
-no_data_told None c k = refl
-no_data_told (Some q) c k = no_data_answers q c false k
+no_data_told o c k = grind (arith, no_data_answers)
 
 no_data_reply : (xs : List Answer) (m : Mark) (max : ℕ) → all_without_data xs ≡ true
     → reply_of (heard_all xs) m max ≡ None
 unfolding all_without_data reply_of
-no_data_reply [] m max h = refl
-no_data_reply (answer.Ack ∷ []) m max h = refl
-no_data_reply (answer.Nak ∷ []) m max h = refl
-no_data_reply (answer.Stall ∷ []) m max h = refl
-no_data_reply (answer.Data t b ∷ []) m max h = false_true h
-no_data_reply (x ∷ y ∷ more) m max h = refl
+no_data_reply xs m max h = grind arith
 
 -- Attempts that send setup data
 
 setup_goes : (l pre : Bool) (m : Mark) (p : Packet) → IsSetupOut (Whole p)
     → SetupIfOut (sent_as l pre m p)
 unfolding SetupIfOut IsSetupOut
-setup_goes l pre mark.Whole p h = h
-setup_goes l pre mark.Lost p h = tt
-setup_goes l pre mark.PreLost p h = h
-setup_goes l pre (mark.Flipped b) p h = tt
+setup_goes l pre m p h = grind arith
 
 no_ack_goes : (l pre : Bool) (m : Mark) (p : Packet) → is_ack p ≡ false
     → NoAckOut (sent_as l pre m p)
 unfolding NoAckOut is_ack_out
-no_ack_goes l pre mark.Whole p h = h
-no_ack_goes l pre mark.Lost p h = tt
-no_ack_goes l pre mark.PreLost p h = h
-no_ack_goes l pre (mark.Flipped b) p h = refl
+no_ack_goes l pre m p h = grind arith
 
 harmless_goes : (l pre : Bool) (m : Mark) (p : Packet) → IsHarmlessOut (Whole p)
     → (k : Ports) (j : ℕ) (path : List ℕ) → sent_resets (sent_as l pre m p) k j path ≡ false
-harmless_goes l pre mark.Whole p h k j path =
-    harmless_resets (record { low = l; pre = pre; content = Whole p }) h false k j path
-harmless_goes l pre mark.Lost p h k j path = refl
-harmless_goes l pre mark.PreLost p h k j path =
-    harmless_resets (record { low = l; pre = false; content = Whole p }) h false k j path
-harmless_goes l pre (mark.Flipped b) p h k j path =
-    harmless_resets (record { low = l; pre = pre; content = Broken }) tt false k j path
+harmless_goes l pre m p h k j path = grind (arith, harmless_resets)
 
 -- what such an attempt sends
 record SetupGoes (a : Attempt) (d : Option Damage) : Type 0 where
@@ -341,47 +225,16 @@ record SetupGoes (a : Attempt) (d : Option Damage) : Type 0 where
 setup_sends : (a : Attempt) (d : Option Damage) (t : TokenKind) (o : Option (Toggle × ArrayVec ℕ))
     → a.kind ≡ t → a.payload ≡ o → quiet_data t o ≡ true → SetupGoes a d
 unfolding token_of payload_of marked marked_some IsSetupOut SetupIfOut NoAckOut
-setup_sends a d SetupTok None et eo h = record {
-  token = setup_goes a.low a.pre (mark_of (harm_to d 1) a.pre (Token a.kind a.addr a.ep))
-      (Token a.kind a.addr a.ep) (rw et tt);
-  payload = rw eo tt;
-  token_no_ack = no_ack_goes a.low a.pre (mark_of (harm_to d 1) a.pre (Token a.kind a.addr a.ep))
-      (Token a.kind a.addr a.ep) refl;
-  payload_no_ack = rw eo tt;
-  harmless = λ k j p. rw eo refl;
-}
-setup_sends a d SetupTok (Some x) et eo h = record {
-  token = setup_goes a.low a.pre (mark_of (harm_to d 1) a.pre (Token a.kind a.addr a.ep))
-      (Token a.kind a.addr a.ep) (rw et tt);
-  payload = rw eo (setup_goes a.low a.pre (mark_of (harm_to d 2) a.pre (Payload x.0 x.1))
-      (Payload x.0 x.1) tt);
-  token_no_ack = no_ack_goes a.low a.pre (mark_of (harm_to d 1) a.pre (Token a.kind a.addr a.ep))
-      (Token a.kind a.addr a.ep) refl;
-  payload_no_ack = rw eo (no_ack_goes a.low a.pre (mark_of (harm_to d 2) a.pre (Payload x.0 x.1))
-      (Payload x.0 x.1) refl);
-  harmless = λ k j p. rw eo (harmless_goes a.low a.pre
-      (mark_of (harm_to d 2) a.pre (Payload x.0 x.1)) (Payload x.0 x.1) h k j p);
-}
-setup_sends a d OutTok o et eo h = false_true h
-setup_sends a d InTok o et eo h = false_true h
+setup_sends a d t o et eo h = grind (arith, harmless_goes, no_ack_goes, setup_goes)
 
 reply_out-setup : (a : Attempt) (d : Option Damage) (k : Ports) → SetupGoes a d
     → reply_out a d k ≡ None
 unfolding marked_some
-reply_out-setup a d k g =
-    ap (λ o. goes_out a (marked_some d (place_of_answer a d + 1) a.pre o))
-    (no_data_reply (answers_to (token_out a d) k ++ answers_to (payload_out a d)
-    (after_sent (token_out a d) k)) (mark_in a d k) a.max
-    (no_data_append (answers_to (token_out a d) k)
-    (answers_to (payload_out a d) (after_sent (token_out a d) k))
-    (no_data_told (token_out a d) g.token k)
-    (no_data_told (payload_out a d) g.payload (after_sent (token_out a d) k))))
+reply_out-setup a d k g = grind (arith, no_data_append, no_data_reply, no_data_told)
 
 made_address : (a : Attempt) (w : World) → SetupGoes a (damage_in w) → (p : List ℕ)
     → address_at (with_attempt a w).roots p ≡ address_at w.roots p
 unfolding with_attempt ports_in
-made_address a w g [] = refl
-made_address a w g (zero ∷ p) = refl
 made_address a w g (suc j ∷ p) =
     ap (λ r. option_map address_of (state_at
     (after_attempt (token_out a (damage_in w)) (payload_out a (damage_in w)) r w.roots) j
@@ -391,6 +244,7 @@ made_address a w g (suc j ∷ p) =
     (calm_sent (token_out a (damage_in w)) (token_calm_out a.addr (token_out a (damage_in w))
     (goes a (damage_in w) w.roots).token) w.roots j p)
     (g.harmless (after_sent (token_out a (damage_in w)) w.roots) j p)
+made_address a w g p = refl
 
 quiet_sends : (a : Attempt) (d : Option Damage) → quiet_data a.kind a.payload ≡ true → SetupGoes a d
 quiet_sends a d h = setup_sends a d a.kind a.payload refl refl h
@@ -411,20 +265,8 @@ quiet_resets (attempt a) w p h = made (is_made w.fault w) (by_path p)
     by_path (zero ∷ p) = refl
     by_path (suc j ∷ p) = (quiet_sends a (damage_in (at_attempt w)) h).harmless
         (after_sent (token_out a (damage_in (at_attempt w))) (at_attempt w).roots) j p
-quiet_resets (root_call c n) w p h = by_path n p
-  where
-    off : (x y : Bool) → not x ≡ true → (x && y) ≡ false
-    off true y h = false_true h
-    off false y h = refl
-
-    by_path : (n : ℕ) (p : List ℕ) → root_resets c n w.roots p ≡ false
-    by_path zero p = refl
-    by_path (suc i) [] = refl
-    by_path (suc i) (zero ∷ p) = refl
-    by_path (suc i) (suc j ∷ []) = off (is_reset c) _ h
-    by_path (suc i) (suc j ∷ m ∷ p) = refl
-quiet_resets event w p h = refl
-quiet_resets (report l) w p h = refl
+quiet_resets (root_call c n) w p h = grind arith
+quiet_resets s w p h = refl
 
 -- each device keeps its own address over a quiet step
 pub own_steps : (f : List ℕ → Option ℕ) → OverSteps QuietStep (Keeps (HoldsMapped f))
@@ -466,6 +308,5 @@ pub step_unshared : (f : List ℕ → Option ℕ) → Injective f → (s : Step)
 unfolding after with_attempt
 step_unshared f inj (attempt a) w own h =
     after-attempt_by (λ v. v.shared ≡ false) a w (λ _. (h, h)) (λ _. ready_unshared f inj w own h)
-step_unshared f inj (root_call c n) w own h = h
 step_unshared f inj event w own h = ap (λ v. v.shared) (over_taken beside_events w.fault w) ∙ h
-step_unshared f inj (report l) w own h = h
+step_unshared f inj s w own h = h

@@ -1,29 +1,26 @@
 -- The device that ends its status stage takes its address at the host's ACK.
-use Rattle.std.proofs.Common.{◌≡◌, ℕ, zero, suc, ◌==◌, nat_le, ◌&&◌, not, if◌then◌else◌, ◌⊎◌, inl}
-use Rattle.std.proofs.Common.{inr, Bool, true, false, List, [], ◌∷◌, length, take, Option, None}
+use Rattle.std.proofs.Common.{◌≡◌, ℕ, suc, ◌==◌, ◌&&◌, not, if◌then◌else◌}
+use Rattle.std.proofs.Common.{Bool, true, false, List, ◌∷◌, Option}
 use Rattle.std.proofs.Common.{Some, option_map, refl, ap, ap₂, sym, ◌∙◌, arith}
-use Rattle.std.proofs.lemmas.Bool.Decides.{nat_tests}
-use Rattle.usb_packet.specs.{Toggle}
 use Rattle.usb_port.specs.{PortState}
 use Rattle.usb_device.specs.declared.answer.Answer.TheVariants as answer
-use Rattle.usb_device.specs.{InEndpoint, tells_changes, change_bits, Stage, ending, State, Reply}
-use Rattle.usb_device.specs.{forgotten, is_busy, nak_row, bulk_of, rest_of, acknowledged}
-use Rattle.usb_device.specs.{ends_with_address, Way, is_whole, heard, gave, in_law, in_stage_law}
-use Rattle.usb_device.specs.{in_control_law, in_other_law, in_bulk_law, source_law, changes_law}
+use Rattle.usb_device.specs.{InEndpoint, ending, State, Reply}
+use Rattle.usb_device.specs.{is_busy}
+use Rattle.usb_device.specs.{ends_with_address, Way, is_whole, in_law, in_stage_law}
+use Rattle.usb_device.specs.{in_other_law, in_bulk_law, source_law}
 use Rattle.usb_device.specs.{held_law, Ports, row_of, reach_at, state_at}
 use Rattle.usb_device.specs.declared.transfer.InEndpoint.TheVariants as by
 use Rattle.usb_world.specs.{Attempt, World, at_attempt, damage_in, with_attempt, attempt, after}
 use Rattle.usb_world.specs.{HoldsMapped, token_way, answer_way, reply_way, IsIn, HolderIn, is_setup}
 use Rattle.usb_world.specs.{after_taking, ends_status}
 use Rattle.usb_tree.specs.{address_of, same_number, same_path, deep_at}
-use Rattle.usb_tree.proofs.Interface.{false_true, decided}
+use Rattle.usb_tree.proofs.Interface.{false_true}
 use Rattle.usb_tree.proofs.Interface.{is_twice-one_path}
 use Rattle.usb_world.proofs.courses.Courses.{made_reach}
 use Rattle.usb_world.proofs.holders.OneHolder.{holder_holds, Holder}
 use Rattle.usb_world.proofs.holders.OneHolderAttempts.{made_is, holder_in, in_in, silent_in}
 use Rattle.usb_world.proofs.addresses.AddressesKept.{ready_own}
 use Rattle.usb_world.proofs.addresses.AddressesInTransfers.{data_calm, ports_address}
-use Rattle.usb_world.proofs.addresses.AddressesInTransfers.{bulk_ack-address}
 use Rattle.usb_world.proofs.ports.RootResets.{same_is}
 use Rattle.usb_tree.proofs.Interface.{self_number, self_path}
 
@@ -34,102 +31,32 @@ AddressKept s r = address_of r.1 ≡ address_of s
 
 kept_if : (s : State) (b : Bool) (x y : Reply) → AddressKept s x → AddressKept s y
     → AddressKept s (if b then x else y)
-kept_if s true x y h g = h
-kept_if s false x y h g = g
-
--- data that is given, where what gave it changes no address
-gave_keeps : (s d : State) (giver : InEndpoint) (max : ℕ) (t : Toggle) (bytes : List ℕ) (x y : Way)
-    → address_of d ≡ address_of s → address_of (acknowledged d giver) ≡ address_of s
-    → AddressKept s (gave d giver max t bytes x y)
-gave_keeps s d giver max t bytes x y h g =
-    split (is_whole x && nat_le (length bytes) max && is_whole y)
-  where
-    split : (b : Bool) → address_of (if b then forgotten (acknowledged d giver) else d)
-        ≡ address_of s
-    split true = g
-    split false = h
-
-none_fit : (max : ℕ) → nat_le 0 max ≡ true
-none_fit max = grind (arith, nat_tests)
+kept_if s b x y h g = grind arith
 
 module _ (s : State) (max : ℕ) (x y : Way) where
   source_keeps : (most : ℕ) → AddressKept s (source_law s most max x y)
-  source_keeps most =
-      kept_if s s.bulk_in.halted (heard x (Some answer.Stall), s)
-      (if length (rest_of s) == 0 then (heard x (Some answer.Nak), s) else gave s by.Bulk max
-      s.bulk_in.toggle (take most (rest_of s)) x y) refl
-      (kept_if s (length (rest_of s) == 0) (heard x (Some answer.Nak), s)
-      (gave s by.Bulk max s.bulk_in.toggle (take most (rest_of s)) x y) refl
-      (gave_keeps s s by.Bulk max s.bulk_in.toggle (take most (rest_of s)) x y refl
-      (bulk_ack-address s (bulk_of s true))))
+  source_keeps most = grind arith
 
   bulk_law_keeps : (e : ℕ) (o : Option (ℕ × ℕ)) → AddressKept s (in_bulk_law s e o max x y)
-  bulk_law_keeps e None = refl
-  bulk_law_keeps e (Some end) = kept_if s (end.0 == e) (source_law s end.1 max x y) (None, s)
-      (source_keeps end.1) refl
+  bulk_law_keeps e o = grind arith
 
   held_keeps : (row : List PortState) (h : Option ℕ) → AddressKept s (held_law s row h max x y)
-  held_keeps row None =
-      kept_if s (change_bits row == 0) (heard x (Some answer.Nak), s)
-      (gave (record s { held = Some (change_bits row) }) by.Changes max s.changes.toggle
-      (change_bits row ∷ []) x y) refl
-      (gave_keeps s (record s { held = Some (change_bits row) }) by.Changes max s.changes.toggle
-      (change_bits row ∷ []) x y refl refl)
-  held_keeps row (Some bits) = gave_keeps s s by.Changes max s.changes.toggle (bits ∷ []) x y refl
-      refl
+  held_keeps row h = grind arith
 
   other_keeps : (row : List PortState) (e : ℕ) → AddressKept s (in_other_law s row e max x y)
-  other_keeps row e =
-      kept_if s (e == 1 && tells_changes s.spec s.registers) (changes_law s row max x y)
-      (in_bulk_law s e (bulk_of s true) max x y)
-      (kept_if s s.changes.halted (heard x (Some answer.Stall), s) (held_law s row s.held max x y)
-      refl (held_keeps row s.held))
-      (bulk_law_keeps e (bulk_of s true))
-
-  acked_stage : (g : Stage) (n : ℕ) → s.stage ≡ g → g ≡ ending (Some n)
-      → address_of (acknowledged s by.Control) ≡ n
-  acked_stage g n e h = rw (e ∙ h) refl
+  other_keeps row e = grind (arith, bulk_law_keeps, held_keeps, kept_if)
 
   stage_address : (n : ℕ) → s.stage ≡ ending (Some n)
       → address_of (in_stage_law s s.stage max x y).1
       ≡ (if is_whole x && is_whole y then n else address_of s)
-  stage_address n e =
-      ap (λ g. address_of (in_stage_law s g max x y).1) e ∙ split (is_whole x) (is_whole y)
-    where
-      split : (u v : Bool) → address_of (if u && nat_le 0 max && v then forgotten
-          (acknowledged s by.Control) else s) ≡ (if u && v then n else address_of s)
-      split true true = ap (λ b. address_of (if b && true then forgotten (acknowledged s by.Control)
-          else s)) (none_fit max) ∙ acked_stage s.stage n refl e
-      split true false = ap (λ b. address_of
-          (if b && false then forgotten (acknowledged s by.Control) else s)) (none_fit max)
-      split false v = refl
+  stage_address n e = grind arith
 
   -- the device takes the address where its status stage ends
   in_address : (row : List PortState) (e : ℕ) (t : Way) (n : ℕ) → s.stage ≡ ending (Some n)
       → address_of (in_law s row e max t x y).1
       ≡ (if is_whole t && (e == 0 && (not (is_busy s) && (is_whole x && is_whole y))) then n
       else address_of s)
-  in_address row e t n h = by_token (is_whole t)
-    where
-      by_busy : (b : Bool) → address_of (if b then (heard x (Some answer.Nak), (nak_row s).1)
-          else in_stage_law s s.stage max x y).1
-          ≡ (if not b && (is_whole x && is_whole y) then n else address_of s)
-      by_busy true = refl
-      by_busy false = stage_address n h
-
-      by_endpoint : (b : Bool) → address_of (if b then in_control_law s max x y else in_other_law s
-          row e max x y).1 ≡ (if b && (not (is_busy s) && (is_whole x && is_whole y)) then n
-          else address_of s)
-      by_endpoint true = by_busy (is_busy s)
-      by_endpoint false = other_keeps row e
-
-      by_token : (b : Bool) → address_of
-          (if b then (if e == 0 then in_control_law s max x y else in_other_law s row e max x y)
-          else (None, s)).1
-          ≡ (if b && (e == 0 && (not (is_busy s) && (is_whole x && is_whole y))) then n
-          else address_of s)
-      by_token true = by_endpoint (e == 0)
-      by_token false = refl
+  in_address row e t n h = grind (arith, other_keeps, stage_address)
 
 -- In a world
 
@@ -196,14 +123,7 @@ module _ (a : Attempt) (w : World) (h : HolderIn a w) (into : IsIn a) (n : ℕ)
 
     taken_there : (i : ℕ) (e : List ℕ) → suc i ∷ e ≡ suc j ∷ p → same_path (suc j ∷ p) (suc i ∷ e)
         ≡ true → option_map address_of (state_at (after (attempt a) w).roots i e) ≡ g (suc i ∷ e)
-    taken_there i e z d = ap (λ q. elim q as (λ _. Option ℕ) [
-      | [] ↦ None
-      | m ∷ x ↦ elim m
-          as (λ _. Option ℕ) [
-            | zero ↦ None
-            | suc u ↦ option_map address_of (state_at (after (attempt a) w).roots u x)
-          ]
-    ]) z ∙ there ∙ ap (λ x. if x then Some taken else f (suc i ∷ e)) (sym d)
+    taken_there i e z d = grind (arith, there)
 
     kept_there : (i : ℕ) (e : List ℕ) → same_path (suc j ∷ p) (suc i ∷ e) ≡ false
         → reach_at (after (attempt a) w).roots i e ≡ true
@@ -218,15 +138,7 @@ module _ (a : Attempt) (w : World) (h : HolderIn a w) (into : IsIn a) (n : ℕ)
         ∙ ap (λ x. if x then Some taken else f (suc i ∷ e)) (sym d)
 
     own_after : HoldsMapped g (after (attempt a) w)
-    own_after [] on = false_true on
-    own_after (zero ∷ e) on = false_true on
-    own_after (suc i ∷ e) on = pick (decided (same_path (suc j ∷ p) (suc i ∷ e)))
-      where
-        pick : (same_path (suc j ∷ p) (suc i ∷ e) ≡ true)
-            ⊎ (same_path (suc j ∷ p) (suc i ∷ e) ≡ false)
-            → option_map address_of (state_at (after (attempt a) w).roots i e) ≡ g (suc i ∷ e)
-        pick (inl d) = taken_there i e (same_is (suc j ∷ p) (suc i ∷ e) d) d
-        pick (inr d) = kept_there i e d on
+    own_after h on = grind (arith, kept_there, same_is, taken_there)
 
     own_as : (x : List ℕ → Option ℕ) → ((q : List ℕ) → g q ≡ x q)
         → HoldsMapped x (after (attempt a) w)

@@ -1,26 +1,25 @@
 -- The count of address losses after an attempt: by its kind, and for IN of endpoint 0 by the device
 -- that holds its address.
-use Rattle.std.proofs.Common.{◌≡◌, ◌≢◌, inl, inr, ℕ, ◌+◌, ◌==◌, ◌&&◌, not, nat_le, if◌then◌else◌}
+use Rattle.std.proofs.Common.{◌≡◌, ◌≢◌, inl, inr, ℕ, ◌==◌, ◌&&◌, not, if◌then◌else◌}
 use Rattle.std.proofs.Common.{Bool, true, false, List, [], Option, None, Some, is_some, refl, ap}
 use Rattle.std.proofs.Common.{ap₂, sym, subst, ◌∙◌, arith}
 use Rattle.std.proofs.lemmas.Option.{same_Some}
 use Rattle.usb_request.specs.{CLEAR_FEATURE, PORT_OUT, C_PORT_CONNECTION, Setup, setup_of}
 use Rattle.usb_packet.specs.{Token, Toggle, One, InTok, SetupTok}
-use Rattle.usb_port.specs.{PortState, PortCall, set_call, clear_call, is_clearing}
+use Rattle.usb_port.specs.{PortState}
 use Rattle.usb_device.specs.{Effect, Is, ending, State, Reply, received, unread, forgotten, is_busy}
-use Rattle.usb_device.specs.{nak_row, ack_row, awaits_address, ends_with_address, Way, is_whole}
-use Rattle.usb_device.specs.{heard, through, in_stage_law, in_law, Sent, Ports, row_of, state_on}
+use Rattle.usb_device.specs.{ack_row, awaits_address, ends_with_address, Way, is_whole}
+use Rattle.usb_device.specs.{through, in_stage_law, in_law, Sent, Ports, row_of, state_on}
 use Rattle.usb_device.specs.{asks_clearing}
-use Rattle.usb_device.specs.Attempt.{whole}
 use Rattle.usb_device.specs.declared.answer.Answer.TheVariants as answer
-use Rattle.usb_world.specs.{Damage, Attempt, Outcome, marked_some, token_of, token_out, reply_in}
-use Rattle.usb_world.specs.{ack_if, clears_at, lost_in, is_lost, cleared_in, reply_out, answered_in}
-use Rattle.usb_world.specs.{place_of_answer, heard_in, mark_in, TookOrLost, took, lost as lost_it}
+use Rattle.usb_world.specs.{Damage, Attempt, Outcome, marked_some, token_of, reply_in}
+use Rattle.usb_world.specs.{clears_at, lost_in, cleared_in}
+use Rattle.usb_world.specs.{TookOrLost}
 use Rattle.usb_world.specs.{counted, after_clearing, got, token_way, answer_way, reply_way, IsMade}
 use Rattle.usb_world.specs.{IsOut, IsIn, HolderIn, is_setup, EachWas, World, at_attempt, damage_in}
 use Rattle.usb_world.specs.{with_attempt, attempt, after, outcome_in}
-use Rattle.usb_world.specs.declared.types.Outcome.TheVariants.{Payload, Nothing}
-use Rattle.usb_tree.specs.{address_of, after_sent, deep_at, IfOut}
+use Rattle.usb_world.specs.declared.types.Outcome.TheVariants.{Payload}
+use Rattle.usb_tree.specs.{address_of, deep_at, IfOut}
 use Rattle.usb_tree.proofs.Interface.{false_true, not-true, decided, and_none}
 use Rattle.usb_world.proofs.packets.AwaitedAcks.{IsNoControlIn}
 use Rattle.usb_world.proofs.addresses.AddressLosses.{no_control_in_unlost, holder_loss}
@@ -48,11 +47,7 @@ pub losses_as : (a : Attempt) (w : World) (gone cleared : Bool) → IsMade a w �
     → clears a w ≡ cleared → (after (attempt a) w).losses
     ≡ counted gone (after_clearing cleared w.losses)
 unfolding with_attempt at_attempt
-losses_as a w gone cleared m x y =
-    ap (λ v. v.losses) (made_is a w m)
-    ∙ ap (λ l. counted (loses a w) (after_clearing (clears a w) l))
-    (ap (λ v. v.losses) (ready_beside w))
-    ∙ ap₂ (λ b c. counted b (after_clearing c w.losses)) x y
+losses_as a w gone cleared m x y = grind (arith, made_is, ready_beside)
 
 -- Attempts that count nothing
 
@@ -61,19 +56,15 @@ CountsNone a w = (after (attempt a) w).losses ≡ w.losses
 
 -- IN sends no data, OUT none that a device takes for a request
 pub in_clears : (a : Attempt) → IsIn a → (w : World) → clears a w ≡ false
-in_clears a i w = ap (λ o. clears_at o (after_sent (token_out a (damage_in (at_attempt w)))
-    (at_attempt w).roots)) (no_payload a (damage_in (at_attempt w)) (none_is a i.payload))
+in_clears a i w = grind (arith, no_payload, none_is)
 
 none_counted : (a : Attempt) (w : World) → IsMade a w → IsNoControlIn (token_of a)
     → clears a w ≡ false → CountsNone a w
-none_counted a w m p c = losses_as a w false false m
-    (no_control_in_unlost a (damage_in (at_attempt w)) (at_attempt w).roots p
-    (ready_settled w m.settled)) c
+none_counted a w m p c = grind (arith, losses_as, no_control_in_unlost, ready_settled)
 
 pub in_counts : (a : Attempt) → IsIn a → a.ep ≢ 0 → (w : World) → IsMade a w → CountsNone a w
 unfolding token_of
-in_counts a i other w m = none_counted a w m (subst (λ t. IsNoControlIn (Token t a.addr a.ep))
-    (sym i.kind) (unequal a.ep 0 other)) (in_clears a i w)
+in_counts a i other w m = grind (arith, in_clears, none_counted, unequal)
 
 pub out_counts : (a : Attempt) {t : Toggle} (bytes : List ℕ) → IsOut a t bytes → (w : World)
     → IsMade a w → CountsNone a w
@@ -85,22 +76,9 @@ out_counts a bytes i w m = none_counted a w m (subst (λ t. IsNoControlIn (Token
 abbrev unclearing : Effect → Bool
 unclearing e = not (asks_clearing e)
 
-set_clears : (v : ℕ) (c : PortCall) → set_call v ≡ Some c → is_clearing c ≡ false
-set_clears v c e = grind arith
-
-clear_clears : (v : ℕ) (c : PortCall) → clear_call v ≡ Some c → (v == C_PORT_CONNECTION) ≡ false
-    → is_clearing c ≡ false
-clear_clears v c e h = grind arith
-
 unclearing_allows : (r : Setup) → (Is r PORT_OUT CLEAR_FEATURE && r.value == C_PORT_CONNECTION)
     ≡ false → Allows unclearing r
-unclearing_allows r h = record {
-  rests = refl;
-  off = λ e. refl;
-  set = λ e c i x y. ap not (set_clears r.value c x);
-  clear = λ e c i x y. ap not (clear_clears r.value c x
-      (sym (ap (λ b. b && r.value == C_PORT_CONNECTION) e) ∙ h));
-}
+unclearing_allows r h = grind arith
 
 allowed_clear : (o : Option Sent) → IfOut (AllowsOut unclearing) o → (k : Ports)
     → clears_at o k ≡ false
@@ -123,12 +101,7 @@ set_up_counts a bytes kind payload h w m =
 pub quiet_counts : (a : Attempt) → IsIn a → (w : World) → IsMade a w
     → brings (outcome_in a w) ≡ false → CountsNone a w
 unfolding outcome_in lost_in marked_some
-quiet_counts a i w m h =
-    let d : Option Damage = damage_in (at_attempt w) in
-    let k : Ports = (at_attempt w).roots in
-    losses_as a w false false m (ap (λ o. is_lost (marked_some d (place_of_answer a d + 1) a.pre o)
-    (reply_out a d k) (answered_in a d k)) (acks (heard_in a d k) (mark_in a d k) a.max
-    ∙ ap ack_if h)) (in_clears a i w)
+quiet_counts a i w m h = grind (arith, acks, in_clears, losses_as)
 
 -- IN of endpoint 0 at the device that holds the address
 
@@ -160,31 +133,13 @@ ReplyGives s awaits z max r = Status s awaits z (got max r.0) r.1
 
 status_stage : (n : ℕ) (s : State) (awaits : Bool) (max : ℕ) (y z : Way) → awaits ≡ true
     → ReplyGives s awaits z max (in_stage_law s (ending (Some n)) max y z)
-status_stage n s awaits max whole z e =
-    elim (nat_le 0 max) as (λ x. Status s awaits z
-    (if x then Payload One (record { items = [] }) else Nothing)
-    (if x && is_whole z then forgotten (ack_row s s.stage) else s)) [
-      | true ↦ gave_it refl e refl
-      | false ↦ gave_none refl refl refl
-    ]
-status_stage n s awaits max y z e = gave_none refl refl refl
+status_stage n s awaits max y z e = grind arith
 
 status_law : (n : ℕ) (s : State) (row : List PortState) (max : ℕ) (x y z : Way)
     → s.spec.silent ≡ false → s.stage ≡ ending (Some n)
     → ReplyGives s (awaits_address (through x s row (Token InTok s.registers.address 0)).1) z max
     (in_law s row 0 max x y z)
-status_law n s row max whole y z loud stage = by_busy (is_busy s) refl y
-  where
-    by_busy : (b : Bool) → is_busy s ≡ b → (y : Way)
-        → ReplyGives s (awaits_address (received s row (Token InTok s.registers.address 0)).1) z max
-        (if b then (heard y (Some answer.Nak), (nak_row s).1) else in_stage_law s s.stage max y z)
-    by_busy true busy whole = gave_none refl refl refl
-    by_busy true busy y = gave_none refl refl refl
-    by_busy false free y =
-        let awaits : Bool = awaits_address (received s row (Token InTok s.registers.address 0)).1 in
-        subst (λ g. ReplyGives s awaits z max (in_stage_law s g max y z)) (sym stage)
-        (status_stage n s awaits max y z (status_awaits n s row loud free stage))
-status_law n s row max x y z loud stage = gave_none refl refl refl
+status_law n s row max x y z loud stage = grind (arith, status_awaits, status_stage)
 
 -- one whose status stage gives no address keeps its own, and has none to give then
 abbrev pub StaysEndless : State → State → Type 0
@@ -232,13 +187,7 @@ module _ (a : Attempt) (w : World) (into : IsIn a) (zeroth : a.ep ≡ 0) (h : Ho
 
   went : (o : Outcome) → outcome_in a w ≡ o → is_some (reply_in a d k) ≡ brings o
   unfolding outcome_in marked_some
-  went o e = ap (λ x. is_some (marked_some d (place_of_answer a d + 1) a.pre x))
-      (acks (heard_in a d k) (mark_in a d k) a.max ∙ ap (λ x. ack_if (brings x)) e)
-      ∙ some_ack (brings o)
-    where
-      some_ack : (y : Bool) → is_some (marked_some d (place_of_answer a d + 1) a.pre (ack_if y)) ≡ y
-      some_ack true = refl
-      some_ack false = refl
+  went o e = grind (arith, acks, brings)
 
   module _ (loud : s.spec.silent ≡ false) where
     its : ExchangedIn a w h r
@@ -263,9 +212,7 @@ module _ (a : Attempt) (w : World) (into : IsIn a) (zeroth : a.ep ≡ 0) (h : Ho
     took_or_lost : (n : ℕ) → s.stage ≡ ending (Some n) → (z : Bool) → (after (attempt a) w).losses
         ≡ counted (not z) w.losses → v ≡ (if z then forgotten (ack_row s s.stage) else s)
         → TookOrLost n w (after (attempt a) w) s v
-    took_or_lost n stage true l e = let x : _ = e ∙ ap (λ g. forgotten (ack_row s g)) stage in
-        took (ap (λ y. y.stage) x) (ap (λ y. y.registers) x) l
-    took_or_lost n stage false l e = lost_it (ap (λ y. y.stage) e) (ap (λ y. y.registers) e) l
+    took_or_lost n stage z l e = grind arith
 
     loud_counts : Counts a w s v
     loud_counts = record {

@@ -1,15 +1,16 @@
 -- Each device over an attempt that the bus gave up: it was made whole, and only its line was not
 -- written; or it changed no device.
-use Rattle.std.proofs.Common.{◌≡◌, ◌≢◌, ℕ, ◌||◌, List, false, inl, inr, Option, None, Some, Err}
+use Rattle.std.proofs.Common.{arith}
+use Rattle.std.proofs.Common.{◌≡◌, ◌≢◌, ℕ, ◌||◌, List, false, None, Err}
 use Rattle.std.proofs.Common.{refl, sym, subst, ap, ◌∙◌}
-use Rattle.usb_device.specs.{held_addresses, repeats, Ports, path_to, reach_on, state_on}
+use Rattle.usb_device.specs.{held_addresses, repeats, Ports, path_to}
 use Rattle.usb_world.specs.{Attempt, BusFault, LimitReached, Memory, TraceFailed, IsMade, World}
 use Rattle.usb_world.specs.{IsAttempt, Attempted, Relation, EachWas, at_attempt, damage_in}
 use Rattle.usb_world.specs.{with_attempt, attempt, after, Left, at_event, at_packet, at_line}
 use Rattle.usb_world.specs.{GaveUp, AttemptFails}
 use Rattle.usb_tree.specs.{IsSettled}
 use Rattle.usb_world.proofs.addresses.AddressesKept.{StandsAfter, stood_events, ready_stood}
-use Rattle.usb_world.proofs.courses.LiftedSteps.{MadeOrNot, attempt_cases, over_coming}
+use Rattle.usb_world.proofs.courses.LiftedSteps.{attempt_cases, over_coming}
 use Rattle.usb_tree.proofs.Interface.{neither}
 use Rattle.usb_world.proofs.events.DueEvents.{came_shared, ready_shared}
 use Rattle.usb_world.proofs.holders.OneHolderAttempts.{made_here, made_is, ready_settled}
@@ -29,8 +30,7 @@ each_stood w v f j s on there =
 
 each_same_roots : (R : Relation) (old w v : World) → w.roots ≡ v.roots → EachWas R old w
     → EachWas R old v
-each_same_roots R old w v e x j s on there =
-    x j s (ap (λ k. reach_on k j) e ∙ on) (ap (λ k. state_on k j) e ∙ there)
+each_same_roots R old w v e x j s on there = grind arith
 
 -- The attempt
 
@@ -47,12 +47,7 @@ cut_at a w x v e (made_whole h m u r) = made_whole h m u (r ∙ e)
 made_cut : (a : Attempt) (w : World) → IsMade a w → (after (attempt a) w).shared ≡ false
     → AttemptCut a w (after (attempt a) w)
 unfolding with_attempt
-made_cut a w m u =
-    let both : (at_attempt w).shared || repeats (held_addresses (at_attempt w).roots) ≡ false =
-    sym (ap (λ x. x.shared) (made_is a w m)) ∙ u in
-    made_whole (sym (ready_shared w)
-    ∙ (neither (at_attempt w).shared (repeats (held_addresses (at_attempt w).roots)) both).0)
-    m u refl
+made_cut a w m u = grind (arith, made_is, ready_shared)
 
 packet_cut : (a : Attempt) (w x : World) (k : Ports) → k ≡ (at_attempt w).roots
     → x ≡ record (at_attempt w) {
@@ -81,10 +76,7 @@ module _ (a : Attempt) (w : World) (fits : IsAttempt a) (sound : w.fault ≡ Non
       (cut_alone a (damage_in (at_attempt w)) (at_attempt w).roots k fits (ready_settled w settled)
       c (neither (at_attempt w).shared (repeats (held_addresses (at_attempt w).roots))
       both).1) is single
-  left_cut f x below (at_line e is) single =
-      let m : IsMade a w = record { sound = sound; within = below; settled = settled } in
-      let same : after (attempt a) w ≡ x = made_is a w m ∙ sym is in
-      subst (AttemptCut a w) same (made_cut a w m (ap (λ y. y.shared) same ∙ single))
+  left_cut f x below (at_line e is) single = grind (arith, made_cut, made_is)
 
   gave_up_cut : (f : BusFault) (v : World) → GaveUp a w f v → v.shared ≡ false → AttemptCut a w v
   gave_up_cut f v g single =
@@ -92,14 +84,7 @@ module _ (a : Attempt) (w : World) (fits : IsAttempt a) (sound : w.fault ≡ Non
       (left_cut f g.left g.below g.so_far (sym (ap (λ y. y.shared) g.told) ∙ single))
 
   limit_cut : (after (attempt a) w).shared ≡ false → AttemptCut a w (after (attempt a) w)
-  limit_cut single = pick (attempt_cases a w)
-    where
-      pick : MadeOrNot a w (after (attempt a) w) → AttemptCut a w (after (attempt a) w)
-      pick (inl e) =
-          unmade (sym (ap (λ y. y.shared) e) ∙ single)
-          (each_same_roots Same w w (after (attempt a) w) (sym (ap (λ y. y.roots) e))
-          (each_stood w w (λ p on. (on, refl))))
-      pick (inr m) = made_cut a w (made_here a w m.0 settled) single
+  limit_cut single = grind (arith, attempt_cases, each_same_roots, each_stood, made_cut, made_here)
 
   pub cut_attempt : (f : BusFault) (v : World) → AttemptFails a w (Err f) v → v.shared ≡ false
       → AttemptCut a w v
@@ -112,12 +97,5 @@ module _ (a : Attempt) (w : World) (fits : IsAttempt a) (sound : w.fault ≡ Non
 pub cut_or_same : (a : Attempt) (w : World) (f : BusFault) (v : World) → IsAttempt a
     → IsSettled w.roots → Attempted a w (Err f) v → (w.fault ≡ None → AttemptFails a w (Err f) v)
     → v.shared ≡ false → AttemptCut a w v
-cut_or_same a w f v fits settled refused fails single = pick w.fault refl
-  where
-    pick : (o : Option BusFault) → w.fault ≡ o → AttemptCut a w v
-    pick None e = cut_attempt a w fits e settled f v (fails e) single
-    pick (Some g) e =
-        let same : v ≡ w = (refused.again g e).1 in
-        unmade (sym (ap (λ y. y.shared) same) ∙ single)
-        (each_same_roots Same w w v (sym (ap (λ y. y.roots) same))
-        (each_stood w w (λ p on. (on, refl))))
+cut_or_same a w f v fits settled h fails single =
+    grind (arith, cut_attempt, each_same_roots, each_stood)

@@ -43,16 +43,12 @@ follows_bits Pre rest f = let n : length rest ≡ 0 = ap length f in omega (arit
 
 -- a packet has eight bits for each byte that spells it
 pub spelled_bits : (bytes : List ℕ) (p : Packet) → Spells bytes p → bit_count p ≡ 8 * length bytes
-spelled_bits [] p h = absurd h
-spelled_bits (pid ∷ rest) p h = let n = follows_bits p rest h.follows in omega (arith, n)
+spelled_bits bytes p h = grind (arith, follows_bits)
 
 -- a bit of the packet is a bit of its bytes
 pub bit_within : (bytes : List ℕ) (p : Packet) (n : ℕ) → Spells bytes p
     → nat_lt n (bit_count p) ≡ true → n < 8 * length bytes
-bit_within bytes p n h lt =
-    let le : n < bit_count p = ltb-true n (bit_count p) lt in
-    let same = spelled_bits bytes p h in
-    omega (arith, le, same)
+bit_within bytes p n h lt = grind (arith, ltb-true, spelled_bits)
 
 -- the same of a packet that goes out
 -- ---- the damage to an attempt
@@ -76,16 +72,13 @@ pub damage_here : (damages : List Damage) (n i : ℕ) (d : Damage)
     → damage_of damages n ≡ damage_of (drop i damages) n → i < length damages
     → (get_or damages i d).attempt ≡ n
     → Some (get_or damages i d) ≡ damage_of damages n
-damage_here damages n i d h lt e = sym (h
-    ∙ ap (λ (l : List Damage). damage_of l n) (split_at damages i d lt)
-    ∙ of_first (get_or damages i d) (drop (i + 1) damages) n e)
+damage_here damages n i d h lt e = grind (arith, of_first, split_at)
 
 pub damage_later : (damages : List Damage) (n i : ℕ) (d : Damage)
     → damage_of damages n ≡ damage_of (drop i damages) n → i < length damages
     → ((get_or damages i d).attempt ≡ n → ⊥)
     → damage_of damages n ≡ damage_of (drop (i + 1) damages) n
-damage_later damages n i d h lt e = h ∙ ap (λ (l : List Damage). damage_of l n)
-    (split_at damages i d lt) ∙ of_rest (get_or damages i d) (drop (i + 1) damages) n e
+damage_later damages n i d h lt e = grind (arith, of_rest, split_at)
 
 pub damage_none : (damages : List Damage) (n i : ℕ)
     → damage_of damages n ≡ damage_of (drop i damages) n → length damages ≤ i
@@ -112,8 +105,7 @@ until_at : (x : Damage) (damages : List Damage) (n : ℕ) (d : Damage) (here : B
     ≤ damages_until (n + 1) damages)
     → damages_until n (x ∷ damages) + 1 ≤ damages_until (n + 1) (x ∷ damages)
 unfolding damages_until
-until_at x damages n d true e h le more = grind (arith, nat_tests, e, le)
-until_at x damages n d false e h le more = let rest = more h in grind (arith, nat_tests, rest)
+until_at x damages n d here e h le more = grind arith
 
 until_more : (damages : List Damage) (n : ℕ) (d : Damage) → damage_of damages (n + 1) ≡ Some d
     → damages_until n damages + 1 ≤ damages_until (n + 1) damages
@@ -143,20 +135,17 @@ losses_damaged damages n a k l true is settled e h = at_loss (damage_of damages 
 
 run_at : (l : Losses) (lost : Bool) → l.run ≤ l.all → (counted lost l).run ≤ (counted lost l).all
 unfolding one_more
-run_at l false h = h
-run_at l true h = omega (arith, h)
+run_at l lost h = grind arith
 
 worst_at : (l : Losses) (lost : Bool) → l.run ≤ l.all → l.worst ≤ l.all
     → (counted lost l).worst ≤ (counted lost l).all
 unfolding one_more
-worst_at l false r w = w
-worst_at l true r w = omega (arith, r, w)
+worst_at l lost r w = grind arith
 
 -- a new stretch
 pub losses_cleared : (cleared : Bool) (n : ℕ) (damages : List Damage) (l : Losses)
     → AreOfDamages n damages l → AreOfDamages n damages (after_clearing cleared l)
-losses_cleared true n damages l h = record { all = h.all; run = omega arith; worst = h.worst }
-losses_cleared false n damages l h = h
+losses_cleared cleared n damages l h = grind arith
 
 -- the losses after an attempt
 pub losses_after : (damages : List Damage) (n : ℕ) (a : Attempt) (k : Ports) (cleared lost : Bool)
@@ -164,13 +153,7 @@ pub losses_after : (damages : List Damage) (n : ℕ) (a : Attempt) (k : Ports) (
     → AreOfDamages n damages l → AreOfDamages (n + 1) damages
     (counted lost (after_clearing cleared l))
 losses_after damages n a k cleared lost l is settled e h =
-    let m = after_clearing cleared l in
-    let g = losses_cleared cleared n damages l h in
-    record {
-      all = losses_damaged damages n a k m lost is settled e g.all;
-      run = run_at m lost g.run;
-      worst = worst_at m lost g.run g.worst;
-    }
+    grind (arith, losses_cleared, losses_damaged, run_at, worst_at)
 
 pub no_losses_yet : (damages : List Damage) → AreOfDamages 0 damages no_losses
 no_losses_yet damages = record { all = omega arith; run = omega arith; worst = omega arith }

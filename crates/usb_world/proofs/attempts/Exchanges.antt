@@ -1,21 +1,20 @@
 -- What the code of an attempt does, packet by packet, is the attempt.
-use Rattle.std.proofs.Common.{◌≡◌, ◌+◌, List, [], ◌∷◌, ◌++◌, false, Option, Some, None, Result, Ok}
-use Rattle.std.proofs.Common.{Err, OnOk, OnErr, refl, sym, subst, ap, ap₂, ◌∙◌}
+use Rattle.std.proofs.Common.{arith}
+use Rattle.std.proofs.Common.{◌≡◌, ◌+◌, List, ◌∷◌, ◌++◌, false, Option, Some, None, Result}
+use Rattle.std.proofs.Common.{OnOk, OnErr, refl, sym, subst, ap, ap₂, ◌∙◌}
 use Rattle.usb_device.specs.{Answer, Heard, Sent, Ports, ended, vacant, taken, row_of}
 use Rattle.usb_device.specs.{all_forgotten, heard_of, both, heard_joined, delivered, figure}
-use Rattle.usb_device.proofs.Interface.{figure-after, heard_of-append, row_of-forgotten}
+use Rattle.usb_device.proofs.Interface.{figure-after, row_of-forgotten}
 use Rattle.usb_world.specs.{Damage, Exchange, Attempt, harm_to, marked, marked_some, heard_above}
 use Rattle.usb_world.specs.{StaysPlugged, PacketWent, PacketsWent, Exchanged, token_of, payload_of}
 use Rattle.usb_world.specs.{answer_place, answer_mark, reply_of, goes_out, heard_all, token_out}
-use Rattle.usb_world.specs.{payload_out, heard_in, mark_in, reply_in, answered_in, is_lost, lost_in}
+use Rattle.usb_world.specs.{heard_in, mark_in, reply_in, answered_in, is_lost, lost_in}
 use Rattle.usb_world.specs.{clears_at, cleared_in, exchange_in, ended_in, ports_in}
 use Rattle.usb_tree.specs.{IsSettled, after_sent, answers_to}
 use Rattle.usb_world.proofs.packets.AttemptPackets.{after_attempt-settled}
 
 pub heard_all_of : (xs : List Answer) → heard_above (heard_of xs) ≡ heard_all xs
-heard_all_of [] = refl
-heard_all_of (x ∷ []) = refl
-heard_all_of (x ∷ y ∷ more) = refl
+heard_all_of xs = grind arith
 
 figure-forgotten : (k : Ports) → figure (all_forgotten k) ≡ figure k
 unfolding figure all_forgotten
@@ -31,33 +30,23 @@ plugged_further k j m x y = record { row = y.row ∙ x.row; figure = y.figure �
 pub delivered_stays_plugged : {A E : Type 0} (r : Result A E) (q : Sent) (k m : Ports) (g h : Heard)
     → OnOk r ((h, m) ≡ heard_joined g (delivered q false k)) → OnErr r (figure m ≡ figure k)
     → row_of m ≡ row_of k → StaysPlugged k m
-delivered_stays_plugged (Ok x) q k m g h ok err row =
-    record { row = row; figure = ap (λ y. figure y.1) ok ∙ figure-after q false k }
-delivered_stays_plugged (Err x) q k m g h ok err row = record { row = row; figure = err }
+delivered_stays_plugged r q k m g h ok err row = grind (arith, figure-after)
 
 pub sent_went : {A E : Type 0} (r : Result A E) (o : Option Sent) (q : Sent) (k m : Ports)
     (g h : Heard)
     → o ≡ Some q → OnOk r ((h, m) ≡ heard_joined g (delivered q false k))
     → OnOk r (PacketWent o k m g h)
-sent_went (Ok x) o q k m g h is e = record {
-  heard = ap (λ y. y.0) e ∙ ap (λ y. both g (heard_of (answers_to y k))) (sym is);
-  ports = ap (λ y. y.1) e ∙ ap (λ y. after_sent y k) (sym is);
-}
-sent_went (Err x) o q k m g h is e = e
+sent_went r o q k m g h is e = grind arith
 
 -- a packet at one device
 pub went_to : {A E : Type 0} (r : Result A E) (o : Option Sent) (k m : Ports) (g h : Heard)
     → OnOk r (h ≡ both g (heard_of (answers_to o k))) → OnOk r (m ≡ after_sent o k)
     → OnOk r (PacketWent o k m g h)
-went_to (Ok x) o k m g h heard ports = record { heard = heard; ports = ports }
-went_to (Err x) o k m g h heard ports = heard
+went_to r o k m g h heard ports = grind arith
 
 -- the end of an attempt
 pub over_plugged : (k j m : Ports) → m ≡ all_forgotten j → StaysPlugged k j → StaysPlugged k m
-over_plugged k j m e x = record {
-  row = ap row_of e ∙ row_of-forgotten j ∙ x.row;
-  figure = ap figure e ∙ figure-forgotten j ∙ x.figure;
-}
+over_plugged k j m e x = grind (arith, figure-forgotten, row_of-forgotten)
 
 pub over_settled : (k m : Ports) → m ≡ all_forgotten k → IsSettled m
 over_settled k m e = subst IsSettled (sym e) (after_attempt-settled None None None k)
@@ -97,25 +86,13 @@ module _ (a : Attempt) (damage : Option Damage) (k : Ports) (x : Exchange) (m : 
     second_is = m.payload_went ∙ ap₂ (λ p r. after_sent (goes_out a p) r) m.payload first_is
 
     answer_is : x.answer ≡ heard_in a damage k
-    answer_is =
-        let to_token = m.token_heard ∙ ap (λ t. heard_of (answers_to (goes_out a (Some t)) k))
-        m.token in
-        let to_payload = ap₂ (λ p r. heard_of (answers_to (goes_out a p) r)) m.payload first_is in
-        m.answer
-        ∙ ap heard_above (m.payload_heard ∙ ap₂ both to_token to_payload
-        ∙ sym (heard_of-append (answers_to (token_out a damage) k)
-        (answers_to (payload_out a damage) (after_sent (token_out a damage) k))))
-        ∙ heard_all_of (answers_to (token_out a damage) k ++ answers_to (payload_out a damage)
-        (after_sent (token_out a damage) k))
+    answer_is = grind arith
 
     mark_is : x.answer_mark ≡ mark_in a damage k
-    mark_is = m.answer_mark ∙ ap₂ (λ p h. answer_mark (harm_to damage (answer_place p)) h) m.payload
-        answer_is
+    mark_is = grind arith
 
     reply_is : x.reply ≡ reply_in a damage k
-    reply_is =
-        m.reply ∙ ap₂ (λ p o. marked_some damage (answer_place p + 1) a.pre o) m.payload
-        (ap₂ (λ h mark. reply_of h mark a.max) answer_is mark_is)
+    reply_is = grind arith
 
     lost_is : x.address_lost ≡ lost_in a damage k
     unfolding lost_in
@@ -126,15 +103,7 @@ module _ (a : Attempt) (damage : Option Damage) (k : Ports) (x : Exchange) (m : 
 
     pub made_exchange : x ≡ exchange_in a damage k
     unfolding exchange_in
-    made_exchange = λ i. record {
-      token = m.token i;
-      payload = m.payload i;
-      answer = answer_is i;
-      answer_mark = mark_is i;
-      reply = reply_is i;
-      address_lost = lost_is i;
-      change_cleared = cleared_is i;
-    }
+    made_exchange = grind (arith, answer_is, cleared_is, lost_is, mark_is, reply_is)
 
     pub made_ports : m.third ≡ ended_in a damage k
     made_ports = m.reply_went ∙ ap₂ (λ r j. after_sent (goes_out a r) j) reply_is second_is

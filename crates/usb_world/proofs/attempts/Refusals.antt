@@ -1,12 +1,13 @@
 -- Only the host's data can be refused memory on their way: no sink grows at a token or at an ACK.
-use Rattle.std.proofs.Common.{◌≡◌, ℕ, ◌&&◌, Bool, true, false, not, if◌then◌else◌, length, nat_le}
-use Rattle.std.proofs.Common.{Option, None, Some, Result, Ok, Err, OnErr, refl, sym, subst, ap, ◌∙◌}
+use Rattle.std.proofs.Common.{arith}
+use Rattle.std.proofs.Common.{◌≡◌, ℕ, Bool, true, false, not}
+use Rattle.std.proofs.Common.{Option, None, Some, Result, OnErr, sym, subst, ap, ◌∙◌}
 use Rattle.usb_packet.specs.{Packet}
 use Rattle.usb_packet.specs.declared.Packet.TheVariants as packet
 use Rattle.usb_device.specs.{Content, Sent, State, sink_grows, Ports, all_forgotten, Stopped}
 use Rattle.usb_device.specs.{behind_empty, behind, below, here}
 use Rattle.usb_device.specs.declared.delivery.Content.TheVariants as content
-use Rattle.usb_world.specs.{Damage, ExchangeAnswer, Attempt, Mark, Outgoing, is_read, marked}
+use Rattle.usb_world.specs.{Damage, ExchangeAnswer, Attempt, Mark, Outgoing, marked}
 use Rattle.usb_world.specs.{marked_some, token_of, reply_of, sent_as, goes_out, token_out}
 use Rattle.usb_world.specs.{payload_out, IsStopped, IsCut}
 use Rattle.usb_world.specs.declared.exchange.ExchangeAnswer.TheVariants as heard
@@ -44,16 +45,12 @@ not_stopped_out out k m still h = not_stopped h.sent false k m (λ s. ap (grows_
 -- damage makes no sink grow
 still_sent : (s : State) (low pre : Bool) (m : Mark) (p : Packet) → sink_grows s p ≡ false
     → grows_out s (sent_as low pre m p) ≡ false
-still_sent s low pre mark.Whole p h = h
-still_sent s low pre mark.Lost p h = refl
-still_sent s low pre mark.PreLost p h = h
-still_sent s low pre (mark.Flipped bit) p h = refl
+still_sent s low pre m p h = grind arith
 
 still_marked : (s : State) (a : Attempt) (d : Option Damage) (n : ℕ) (o : Option Packet)
     → grows_some s o ≡ false → grows_out s (goes_out a (marked_some d n a.pre o)) ≡ false
 unfolding marked_some marked
-still_marked s a d n None h = refl
-still_marked s a d n (Some p) h = still_sent s a.low a.pre (marked d n a.pre p).mark p h
+still_marked s a d n o h = grind arith
 
 -- a token, and the host's ACK
 still_token : (s : State) (a : Attempt) → sink_grows s (token_of a) ≡ false
@@ -63,20 +60,7 @@ still_token s a = and_false (not s.spec.silent)
 still_reply : (s : State) (h : ExchangeAnswer) (m : Mark) (max : ℕ)
     → grows_some s (reply_of h m max) ≡ false
 unfolding reply_of
-still_reply s heard.Nothing m max = refl
-still_reply s heard.Collision m max = refl
-still_reply s (heard.One (packet.Payload t bytes)) m max =
-    elim (is_read m && nat_le (length bytes.items) max)
-    as (λ x. grows_some s (if x then Some packet.Ack else None) ≡ false) [
-      | true ↦ and_false (not s.spec.silent)
-      | false ↦ refl
-    ]
-still_reply s (heard.One packet.Ack) m max = refl
-still_reply s (heard.One (packet.Token kind n e)) m max = refl
-still_reply s (heard.One (packet.Sof f)) m max = refl
-still_reply s (heard.One packet.Nak) m max = refl
-still_reply s (heard.One packet.Stall) m max = refl
-still_reply s (heard.One packet.Pre) m max = refl
+still_reply s h m max = grind arith
 
 pub token_not_stopped : (a : Attempt) (d : Option Damage) (x : Outgoing) (k m : Ports)
     → x ≡ marked d 1 a.pre (token_of a) → IsStopped (goes_out a (Some x)) k m → ⊥
@@ -100,11 +84,4 @@ reply_not_stopped a d n h mk max x k m is stopped =
 pub over_cut : {A E : Type 0} (a : Attempt) (d : Option Damage) (k j m : Ports) (r : Result A E)
     → m ≡ all_forgotten j → OnErr r (IsStopped (payload_out a d) (after_sent (token_out a d) k) j)
     → OnErr r (IsCut a d k m)
-over_cut a d k j m (Ok x) e h = h
-over_cut a d k j m (Err x) e h = record {
-  sent = h.sent;
-  went = h.went;
-  tree = j;
-  stopped = h.stopped;
-  is = e;
-}
+over_cut a d k j m r e h = grind arith

@@ -1,41 +1,30 @@
 -- What an attempt that was refused memory leaves of the world.
-use Rattle.std.proofs.Common.{◌≡◌, ℕ, zero, suc, true, false, List, [], ◌∷◌, Option, None, Some}
-use Rattle.std.proofs.Common.{is_some, option_map, Result, Ok, Err, OnOk, refl, sym, subst, ap, ◌∙◌}
+use Rattle.std.proofs.Common.{arith}
+use Rattle.std.proofs.Common.{◌≡◌, ℕ, true, false, List, Option, None}
+use Rattle.std.proofs.Common.{Result, Err, OnOk, sym, subst, ap, ◌∙◌}
 use Rattle.std.specs.Prelude.{All}
-use Rattle.usb_device.specs.{IsSpec, State, Ports, reach, state_at}
-use Rattle.usb_world.specs.{Attempt, BusFault, LimitReached, Memory, TraceFailed, Outcome}
+use Rattle.usb_device.specs.{IsSpec, Ports, reach}
+use Rattle.usb_world.specs.{Attempt, BusFault, LimitReached, Memory, Outcome}
 use Rattle.usb_world.specs.{Consistent, World, IsAttempt, Attempted, address_at, HoldsMapped}
 use Rattle.usb_world.specs.{Injective, AnyStep, WorldInvariant, after, at_attempt, damage_in}
 use Rattle.usb_world.specs.{with_attempt, Left, at_event, at_packet, at_line, GaveUp, AttemptFails}
 use Rattle.usb_world.specs.{attempt, IsCut}
-use Rattle.usb_tree.specs.{address_of, IsSettled}
+use Rattle.usb_tree.specs.{IsSettled}
 use Rattle.usb_world.proofs.courses.StepInvariants.{between_ready, between_steps}
 use Rattle.usb_world.proofs.addresses.AddressesKept.{own_steps, ready_unshared, ready_own}
 use Rattle.usb_world.proofs.courses.LiftedSteps.{over_coming}
-use Rattle.usb_tree.proofs.Interface.{false_true}
-use Rattle.usb_world.proofs.holders.OneHolderAttempts.{ready_settled, after-limit_fault}
-use Rattle.usb_world.proofs.ways.AlikeTrees.{SameDevices, self_of}
+use Rattle.usb_world.proofs.holders.OneHolderAttempts.{ready_settled}
+use Rattle.usb_world.proofs.ways.AlikeTrees.{SameDevices}
 use Rattle.usb_world.proofs.packets.CutPackets.{cut_alike}
 use Rattle.usb_world.proofs.events.DueEvents.{came_shared}
 
 -- Trees that are alike
 
-address_of_self : (o : Option State) → option_map (λ x. x.1.address) (option_map self_of o)
-    ≡ option_map address_of o
-address_of_self None = refl
-address_of_self (Some s) = refl
-
 alike_address : (k m : Ports) → SameDevices k m → (p : List ℕ) → address_at m p ≡ address_at k p
-alike_address k m h [] = refl
-alike_address k m h (zero ∷ p) = refl
-alike_address k m h (suc i ∷ p) =
-    sym (address_of_self (state_at m i p)) ∙ ap (option_map (λ x. x.1.address)) (h.selves i p)
-    ∙ address_of_self (state_at k i p)
+alike_address k m h p = grind arith
 
 alike_reach : (k m : Ports) → SameDevices k m → (p : List ℕ) → reach m p ≡ reach k p
-alike_reach k m h [] = refl
-alike_reach k m h (zero ∷ p) = refl
-alike_reach k m h (suc i ∷ p) = h.reach i p
+alike_reach k m h p = grind arith
 
 alike_own : (f : List ℕ → Option ℕ) (k m : Ports) → SameDevices k m
     → ((p : List ℕ) → reach k p ≡ true → address_at k p ≡ f p)
@@ -86,12 +75,7 @@ refused_sane a w v is sound settled g r h =
 pub limit_told : (a : Attempt) (w v : World) (r : Result Outcome BusFault) → Attempted a w r v
     → OnOk r (v ≡ after (attempt a) w) → AttemptFails a w r v
     → w.fault ≡ None → w.attempts ≡ w.limit → r ≡ Err LimitReached
-limit_told a w v (Ok o) made exact fails sound e =
-    false_true (ap is_some (sym made.ends.still ∙ ap (λ x. x.fault) exact
-    ∙ after-limit_fault a w sound e))
-limit_told a w v (Err LimitReached) made exact fails sound e = refl
-limit_told a w v (Err Memory) made exact fails sound e = absurd (fails.below e)
-limit_told a w v (Err TraceFailed) made exact fails sound e = absurd (fails.below e)
+limit_told a w v r made exact fails sound e = grind arith
 
 -- An attempt that the bus gave up sets no mark
 

@@ -1,5 +1,5 @@
 -- An attempt at an address that nobody holds.
-use Rattle.std.proofs.Common.{◌≡◌, ℕ, ◌+◌, ◌==◌, if◌then◌else◌, Bool, true, false, List, [], ◌∷◌}
+use Rattle.std.proofs.Common.{◌≡◌, ℕ, ◌+◌, ◌==◌, Bool, true, false, List, [], ◌∷◌}
 use Rattle.std.proofs.Common.{◌++◌, Option, None, Some, option_map, refl, ap, ap₂, sym, subst, ◌∙◌}
 use Rattle.std.proofs.Common.{arith}
 use Rattle.std.proofs.lemmas.Bool.Decides.{nat_tests}
@@ -8,10 +8,10 @@ use Rattle.usb_device.specs.{Sent, Ports, held_addresses, all_reached, paths_at,
 use Rattle.usb_device.specs.{holder_of}
 use Rattle.usb_device.specs.declared.holders.Holder.TheVariants.{Nobody}
 use Rattle.usb_device.proofs.Interface.{way_addresses, held-reached}
-use Rattle.usb_world.specs.{Attempt, Damage, Exchange, ExchangeAnswer, Mark, Whole, Outgoing}
-use Rattle.usb_world.specs.{harm_to, marked, marked_some, token_of, payload_in, token_out}
+use Rattle.usb_world.specs.{Attempt, Damage, Exchange, Mark, Whole}
+use Rattle.usb_world.specs.{harm_to, marked_some, token_out}
 use Rattle.usb_world.specs.{payload_out, reply_out, heard_all, heard_in, mark_in, reply_in, lost_in}
-use Rattle.usb_world.specs.{cleared_in, answered_in, goes_out, is_lost, clears_at, answer_mark}
+use Rattle.usb_world.specs.{cleared_in, answered_in, goes_out, is_lost, answer_mark}
 use Rattle.usb_world.specs.{reply_of, place_of_answer, exchange_in, ports_in, Exchanged}
 use Rattle.usb_world.specs.{StaysPlugged, silent_exchange}
 use Rattle.usb_world.specs.declared.exchange.ExchangeAnswer.TheVariants.{Nothing}
@@ -27,23 +27,13 @@ use Rattle.usb_world.proofs.ways.Routes.{rest_clears}
 -- ---- an index with nobody at an address
 
 holder_among-nobody : (ws : List (Option (ArrayVec ℕ))) → holder_among ws ≡ Nobody → ws ≡ []
-holder_among-nobody [] e = refl
-holder_among-nobody (None ∷ []) e = cc
-holder_among-nobody (Some p ∷ []) e = cc
-holder_among-nobody (None ∷ w ∷ ws) e = cc
-holder_among-nobody (Some p ∷ w ∷ ws) e = cc
+holder_among-nobody ws e = grind arith
 
 none_occurs : (n : ℕ) (xs : List (ℕ × Option (ArrayVec ℕ))) → paths_at n xs ≡ []
     → occurs n (way_addresses xs) ≡ 0
 unfolding occurs
 none_occurs n [] e = refl
-none_occurs n (x ∷ xs) e = split (x.0 == n) refl (none_occurs n xs) e
-  where
-    split : (b : Bool) → (x.0 == n) ≡ b → (paths_at n xs ≡ [] → occurs n (way_addresses xs) ≡ 0)
-        → (if b then x.1 ∷ paths_at n xs else paths_at n xs) ≡ []
-        → one_if (n == x.0) + occurs n (way_addresses xs) ≡ 0
-    split true is behind e = cc
-    split false is behind e = rw (swapped x.0 n is) (omega (arith, behind e))
+none_occurs n (x ∷ xs) e = grind (arith, none_occurs n xs, occurs, one_if, swapped, way_addresses)
 
 pub nobody_there : (n : ℕ) (k : Ports) → holder_of n k ≡ Nobody → NobodyHolds n k
 nobody_there n k h i e t at on = split (n == address_of t) refl
@@ -65,18 +55,6 @@ nobody_there n k h i e t at on = split (n == address_of t) refl
     split false is = refl
 
 -- ---- the attempt
-
-abbrev exchange_of : Attempt → Option Damage → ExchangeAnswer → Mark → Option Outgoing → Bool → Bool
-    → Exchange
-exchange_of a d answer mark reply lost cleared = record {
-  token = marked d 1 a.pre (token_of a);
-  payload = payload_in a d;
-  answer = answer;
-  answer_mark = mark;
-  reply = reply;
-  address_lost = lost;
-  change_cleared = cleared;
-}
 
 marked_some-nothing : (d : Option Damage) (n : ℕ) (pre : Bool) (m : Mark) (max : ℕ)
     → marked_some d n pre (reply_of Nothing m max) ≡ None
@@ -107,31 +85,18 @@ module _ (a : Attempt) (d : Option Damage) (k : Ports) (settled : IsSettled k)
   mark_whole = ap (answer_mark (harm_to d (place_of_answer a d))) heard_nothing
 
   replied_none : reply_in a d k ≡ None
-  replied_none = ap (λ x. marked_some d (place_of_answer a d + 1) a.pre
-      (reply_of x (mark_in a d k) a.max)) heard_nothing
-      ∙ marked_some-nothing d (place_of_answer a d + 1) a.pre (mark_in a d k) a.max
+  replied_none = grind (arith, heard_nothing, marked_some-nothing)
 
   lost_none : lost_in a d k ≡ false
   unfolding lost_in
   lost_none = ap (λ o. is_lost o (goes_out a o) (answered_in a d k)) replied_none
 
   cleared_none : cleared_in a d k ≡ false
-  cleared_none = ap (clears_at q) token_unheard ∙ none_clears q
-    where
-      none_clears : (o : Option Sent) → clears_at o k ≡ false
-      none_clears None = refl
-      none_clears (Some x) = rest_clears x false k (λ i e s at. settled_memory k i e s settled at)
+  cleared_none = grind (arith, rest_clears, settled_memory, token_unheard)
 
   exchange_is : exchange_in a d k ≡ silent_exchange a d
   unfolding exchange_in
-  exchange_is =
-      ap (λ x. exchange_of a d x (mark_in a d k) (reply_in a d k) (lost_in a d k)
-      (cleared_in a d k)) heard_nothing
-      ∙ ap (λ x. exchange_of a d Nothing x (reply_in a d k) (lost_in a d k) (cleared_in a d k))
-      mark_whole
-      ∙ ap (λ x. exchange_of a d Nothing Whole x (lost_in a d k) (cleared_in a d k)) replied_none
-      ∙ ap (λ x. exchange_of a d Nothing Whole None x (cleared_in a d k)) lost_none
-      ∙ ap (λ x. exchange_of a d Nothing Whole None false x) cleared_none
+  exchange_is = grind (arith, cleared_none, heard_nothing, lost_none, mark_whole, replied_none)
 
   pub silence_made : (x : Exchange) → x ≡ silent_exchange a d → Exchanged a d k k x
   silence_made x e = record { made = e ∙ sym exchange_is; ports = sym unheard.0 }

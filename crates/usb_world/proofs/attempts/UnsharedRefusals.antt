@@ -1,30 +1,27 @@
 -- Where no address is held twice, a refused packet leaves everything as it was.
-use Rattle.std.proofs.Common.{◌≡◌, ℕ, ◌+◌, ◌≤◌, ◌==◌, not, if◌then◌else◌, ◌⊎◌, inl, inr, Bool, true}
-use Rattle.std.proofs.Common.{false, List, ◌∷◌, ◌++◌, Option, None, Some, refl, subst, ap, ◌∙◌}
+use Rattle.std.proofs.Common.{◌≡◌, ℕ, ◌+◌, ◌≤◌, ◌==◌, not, if◌then◌else◌, Bool, true}
+use Rattle.std.proofs.Common.{false, List, Option, None, Some, refl, subst, ap, ◌∙◌}
 use Rattle.std.proofs.Common.{arith}
 use Rattle.usb_packet.specs.{Packet, Token, OutTok}
 use Rattle.usb_port.specs.{PortState}
-use Rattle.usb_device.specs.{Content, Sent, Effect, Leaves, RememberedPacket, State, Reply}
-use Rattle.usb_device.specs.{forgotten, received, unread, token_row, sink_grows, Ports, ended}
-use Rattle.usb_device.specs.{vacant, taken, full, before, acted, row_of, hears, reply_to, answer_of}
+use Rattle.usb_device.specs.{Content, Sent, Effect, Leaves, RememberedPacket, State}
+use Rattle.usb_device.specs.{forgotten, received, unread, sink_grows, Ports, ended}
+use Rattle.usb_device.specs.{vacant, taken, full, before, acted, reply_to, answer_of}
 use Rattle.usb_device.specs.{effect_of, after_packet, delivered_device, on_port, all_forgotten}
 use Rattle.usb_device.specs.{held_addresses, repeats, Stopped, behind_empty, behind, below, here}
 use Rattle.usb_device.specs.declared.delivery.Content.TheVariants as content
 use Rattle.usb_device.specs.declared.delivery.Heard.TheVariants.{NoAnswer}
-use Rattle.usb_device.specs.declared.transfer.RememberedPacket.TheVariants.{Nothing, SetupSeen}
-use Rattle.usb_device.specs.declared.transfer.RememberedPacket.TheVariants.{OutSeen, AckAwaited}
-use Rattle.usb_world.specs.{Damage, Attempt, Mark, Whole, Lost, PreLost, Flipped, marked, mark_of}
-use Rattle.usb_world.specs.{harm_to, token_of, sent_as, token_out, IsAttempt, IsCut}
+use Rattle.usb_device.specs.declared.transfer.RememberedPacket.TheVariants.{Nothing}
+use Rattle.usb_world.specs.{Damage, Attempt, Mark, Whole, Lost, Flipped, marked}
+use Rattle.usb_world.specs.{token_of, sent_as, token_out, IsAttempt, IsCut}
 use Rattle.usb_tree.specs.{address_of, IfOut, IsTokenFor, IsDataOut, IsSettled, after_sent}
 use Rattle.usb_tree.specs.{calls_on}
-use Rattle.usb_tree.proofs.Interface.{false_true, decided}
 use Rattle.usb_world.proofs.courses.StepInvariants.{Rests, rests}
 use Rattle.usb_tree.proofs.Interface.{one_if, occurs, occurs-most, occurs_append}
 use Rattle.usb_world.proofs.holders.OneDevice.{rested_effect, token_calls, payload_calls}
 use Rattle.usb_world.proofs.packets.AttemptPackets.{rested_answer}
 use Rattle.usb_world.proofs.courses.Courses.{goes}
-use Rattle.usb_world.proofs.packets.MildPackets.{reply_if, is_nothing, nothing_no_out}
-use Rattle.usb_world.proofs.packets.MildPackets.{grows_after_out}
+use Rattle.usb_world.proofs.packets.MildPackets.{is_nothing}
 use Rattle.usb_world.proofs.packets.CutPackets.{cut_kind}
 use Rattle.usb_tree.proofs.Interface.{forgotten-nothing}
 
@@ -34,18 +31,8 @@ seen ended = 0
 seen (vacant b k) = seen k
 seen (taken b s a k) = one_if (not (is_nothing s.memory)) + (seen a + seen k)
 
-is_it : (m : RememberedPacket) → is_nothing m ≡ true → m ≡ Nothing
-is_it Nothing h = refl
-is_it SetupSeen h = false_true h
-is_it (OutSeen e) h = false_true h
-is_it (AckAwaited g) h = false_true h
-
 none_seen : (m : RememberedPacket) → one_if (not (is_nothing m)) ≡ 0 → m ≡ Nothing
-none_seen m h = pick (decided (is_nothing m))
-  where
-    pick : (is_nothing m ≡ true) ⊎ (is_nothing m ≡ false) → m ≡ Nothing
-    pick (inl y) = is_it m y
-    pick (inr y) = absurd (omega (arith, h, ap (λ x. one_if (not x)) y))
+none_seen m h = grind arith
 
 rest_seen : (k : Ports) → Rests k → seen k ≡ 0
 unfolding Rests seen
@@ -65,8 +52,7 @@ same_taken : (q : Sent) (deep : Bool) (b : PortState) (s : State) (a : Ports) �
     → calls_on q.content s ≡ false → after_packet q true a ≡ a
     → (k m : Ports) → m ≡ k → taken b (answer_of q deep s a).1
     (acted (effect_of q deep s) (after_packet q true a)) m ≡ taken b s a k
-same_taken q deep b s a n own lower k m rest =
-    rw (rested_answer q deep s a n own, rested_effect q deep s n, lower, rest) refl
+same_taken q deep b s a n own lower k m rest = grind (arith, rested_answer, rested_effect)
 
 after_packet-data : (q : Sent) → IsDataOut q.content → (deep : Bool) (k : Ports) → seen k ≡ 0
     → after_packet q deep k ≡ k
@@ -92,12 +78,7 @@ after_packet-data q c deep (taken b s a k) h =
 
 grows_seen : (s : State) (p : Packet) → sink_grows s p ≡ true → one_if (not (is_nothing s.memory))
     ≡ 1
-grows_seen s p g = pick (decided (is_nothing s.memory))
-  where
-    pick : (is_nothing s.memory ≡ true) ⊎ (is_nothing s.memory ≡ false)
-        → one_if (not (is_nothing s.memory)) ≡ 1
-    pick (inl y) = absurd (grows_after_out s p (nothing_no_out s.memory y) g)
-    pick (inr y) = ap (λ x. one_if (not x)) y
+grows_seen s p g = grind arith
 
 stopped_seen : {q : Sent} {deep : Bool} {k m : Ports} → Stopped q deep k m → 1 ≤ seen k
 unfolding seen
@@ -132,28 +113,13 @@ stopped_same q c (here b s a k p on is heard grows) h =
 -- A token is remembered by those who hold its address
 
 at_most_one : (b : Bool) → one_if b ≤ 1
-at_most_one true = omega arith
-at_most_one false = omega arith
+at_most_one b = grind arith
 
 token_one : (n : ℕ) (q : Sent) → IsTokenFor n q.content → (deep : Bool) (s : State) (a : Ports)
     → s.memory ≡ Nothing
     → one_if (not (is_nothing (answer_of q deep s a).1.memory)) ≤ one_if (n == address_of s)
-token_one n q c deep s a h = pick (decided (n == address_of s))
-  where
-    pick : ((n == address_of s) ≡ true) ⊎ ((n == address_of s) ≡ false)
-        → one_if (not (is_nothing (answer_of q deep s a).1.memory)) ≤ one_if (n == address_of s)
-    pick (inl y) = omega (
-      arith,
-      ap one_if y,
-      at_most_one (not (is_nothing (answer_of q deep s a).1.memory)),
-    )
-    pick (inr y) =
-        let quiet = rested_answer q deep s a h (token_calls n q.content s c y) in
-        omega (
-          arith,
-          ap (λ x. one_if (not (is_nothing x.1.memory))) quiet,
-          ap (λ x. one_if (not (is_nothing x))) h,
-        )
+token_one n q c deep s a h =
+    grind (arith, at_most_one, is_nothing, one_if, rested_answer, token_calls)
 
 seen_acted : (b : PortState) (z : State) (e : Effect) (c m : Ports) → e ≡ Leaves
     → seen (taken b z (acted e c) m) ≡ one_if (not (is_nothing z.memory)) + (seen c + seen m)
@@ -166,35 +132,23 @@ unfolding Rests seen held_addresses occurs after_packet
 token_seen n q c deep ended h = omega arith
 token_seen n q c deep (vacant b k) h = token_seen n q c deep k h
 token_seen n q c deep (taken b s a k) h =
-    split b.enable (token_seen n q c true a h.1) (token_seen n q c deep k h.2)
-  where
-    split : (x : Bool) → seen (after_packet q true a) ≤ occurs n (held_addresses a)
-        → seen (after_packet q deep k) ≤ occurs n (held_addresses k)
-        → seen (if x then taken b (answer_of q deep s a).1
-        (acted (effect_of q deep s) (after_packet q true a)) (after_packet q deep k)
-        else taken b s a (after_packet q deep k))
-        ≤ occurs n (if x then address_of s ∷ (held_addresses a ++ held_addresses k)
-        else held_addresses k)
-    split true lower rest = omega (
+    grind (
       arith,
-      lower,
-      rest,
-      token_one n q c deep s a h.0,
-      occurs_append n (held_addresses a) (held_addresses k),
-      seen_acted b (answer_of q deep s a).1 (effect_of q deep s) (after_packet q true a)
-          (after_packet q deep k) (rested_effect q deep s h.0),
-    )
-    split false lower rest = omega (
-      arith,
-      rest,
-      ap (λ x. one_if (not (is_nothing x))) h.0,
-      rest_seen a h.1,
+      token_seen n q c true a h.1,
+      token_seen n q c deep k h.2,
+      is_nothing,
+      occurs,
+      occurs_append,
+      one_if,
+      rest_seen,
+      rested_effect,
+      seen_acted,
+      token_one,
     )
 
 sent_seen : (n : ℕ) (o : Option Sent) → IfOut (IsTokenFor n) o → (k : Ports) → Rests k
     → seen (after_sent o k) ≤ occurs n (held_addresses k)
-sent_seen n None c k h = omega (arith, rest_seen k h)
-sent_seen n (Some q) c k h = token_seen n q c false k h
+sent_seen n o c k h = grind (arith, rest_seen, token_seen)
 
 -- An OUT token leaves nothing but what is remembered of it
 
@@ -212,26 +166,16 @@ IsForgotten c = (s : State) (row : List PortState) → s.memory ≡ Nothing
 
 out_forgets : (n e : ℕ) → IsForgotten (content.Whole (Token OutTok n e))
 unfolding received
-out_forgets n e s row h =
-    let P : Reply → Type 0 = λ x. forgotten x.1 ≡ s in
-    reply_if P s.spec.silent (None, s) _ (forgotten-nothing s h)
-    (reply_if P (n == s.registers.address) (token_row (forgotten s) row OutTok e)
-    (None, forgotten s) (forgotten-nothing s h) (forgotten-nothing s h))
+out_forgets n e s row h = grind arith
 
 broken_forgets : IsForgotten content.Broken
 unfolding unread
-broken_forgets s row h = elim s.spec.silent
-    as (λ x. forgotten (if x then s else forgotten s) ≡ s) [
-      | true ↦ forgotten-nothing s h
-      | false ↦ forgotten-nothing s h
-    ]
+broken_forgets s row h = grind arith
 
 answer_forgets : (q : Sent) → IsForgotten q.content → (deep : Bool) (s : State) (a : Ports)
     → s.memory ≡ Nothing → forgotten (answer_of q deep s a).1 ≡ s
 unfolding answer_of
-answer_forgets q c deep s a h =
-    reply_if (λ x. forgotten x.1 ≡ s) (hears q deep s) (reply_to q.content s (row_of a)) (None, s)
-    (c s (row_of a) h) (forgotten-nothing s h)
+answer_forgets q c deep s a h = grind arith
 
 forgotten_acted : (b : PortState) (s z : State) (e : Effect) (a c k m : Ports) → forgotten z ≡ s
     → e ≡ Leaves → all_forgotten c ≡ a → all_forgotten m ≡ k
@@ -245,18 +189,16 @@ unfolding Rests after_packet all_forgotten
 packet_forgets q c deep ended h = refl
 packet_forgets q c deep (vacant b k) h = ap (vacant b) (packet_forgets q c deep k h)
 packet_forgets q c deep (taken b s a k) h =
-    split b.enable (packet_forgets q c true a h.1) (packet_forgets q c deep k h.2)
-  where
-    split : (x : Bool) → all_forgotten (after_packet q true a) ≡ a
-        → all_forgotten (after_packet q deep k) ≡ k
-        → all_forgotten (if x then taken b (answer_of q deep s a).1
-        (acted (effect_of q deep s) (after_packet q true a)) (after_packet q deep k)
-        else taken b s a (after_packet q deep k)) ≡ taken b s a k
-    split true lower rest = forgotten_acted b s (answer_of q deep s a).1 (effect_of q deep s) a
-        (after_packet q true a) k (after_packet q deep k) (answer_forgets q c deep s a h.0)
-        (rested_effect q deep s h.0) lower rest
-    split false lower rest = forgotten_acted b s s Leaves a a k (after_packet q deep k)
-        (forgotten-nothing s h.0) refl (all_forgotten-rests a h.1) rest
+    grind (
+      arith,
+      packet_forgets q c true a h.1,
+      packet_forgets q c deep k h.2,
+      all_forgotten-rests,
+      answer_forgets,
+      forgotten-nothing,
+      forgotten_acted,
+      rested_effect,
+    )
 
 abbrev ForgetsOut : Option Sent → Type 0
 ForgetsOut None = Unit {0}
@@ -264,21 +206,18 @@ ForgetsOut (Some q) = IsForgotten q.content
 
 forgotten_sent : (o : Option Sent) → ForgetsOut o → (k : Ports) → IsSettled k
     → all_forgotten (after_sent o k) ≡ k
-forgotten_sent None c k h = h
-forgotten_sent (Some q) c k h = packet_forgets q c false k (rests k h)
+forgotten_sent o c k h = grind (arith, packet_forgets, rests)
 
 sent_forgets : (low pre : Bool) (mark : Mark) (p : Packet) → IsForgotten (content.Whole p)
     → ForgetsOut (sent_as low pre mark p)
-sent_forgets low pre Whole p c = c
 sent_forgets low pre Lost p c = tt
-sent_forgets low pre PreLost p c = c
 sent_forgets low pre (Flipped bit) p c = broken_forgets
+sent_forgets low pre m p c = c
 
 token_forgets : (a : Attempt) (d : Option Damage)
     → IsForgotten (content.Whole (Token a.kind a.addr a.ep)) → ForgetsOut (token_out a d)
 unfolding token_of marked
-token_forgets a d c = sent_forgets a.low a.pre
-    (mark_of (harm_to d 1) a.pre (Token a.kind a.addr a.ep)) (Token a.kind a.addr a.ep) c
+token_forgets a d c = grind (arith, sent_forgets)
 
 pub cut_alone : (a : Attempt) (d : Option Damage) (k m : Ports) → IsAttempt a → IsSettled k
     → IsCut a d k m → repeats (held_addresses k) ≡ false → m ≡ k

@@ -1,18 +1,15 @@
 -- How the counts of several steps join.
 use Rattle.std.proofs.Common.{◌≡◌, ◌∙◌, refl, sym, ap, subst, arith, suc, zero}
-use Rattle.std.proofs.lemmas.Option.{same_Some}
-use Rattle.std.specs.Prelude.{ℕ, ◌+◌, ◌-◌, ◌<◌, ◌≤◌, List, [], ◌∷◌, length, Bool, true, false}
-use Rattle.std.specs.Prelude.{slice_set, slice_index_or, is_some, if◌then◌else◌, ◌&&◌, ◌==◌, Option}
+use Rattle.std.specs.Prelude.{ℕ, ◌+◌, ◌-◌, ◌<◌, ◌≤◌, List, [], ◌∷◌, length, Bool, true}
+use Rattle.std.specs.Prelude.{slice_set, slice_index_or, is_some, ◌&&◌, Option}
 use Rattle.std.specs.Prelude.{Some, None}
 use Rattle.usb_port.specs.{PortState, is_attached, off, PortCall, called_port, port_by, is_reset}
 use Rattle.usb_port.specs.{set_call, clear_call, IsSetFeature, IsClearFeature}
 use Rattle.std.proofs.Common.{length-set}
-use Rattle.usb_request.specs.{PORT_ENABLE, PORT_RESET, PORT_POWER, C_PORT_CONNECTION, C_PORT_ENABLE}
-use Rattle.usb_request.specs.{C_PORT_RESET}
+use Rattle.usb_request.specs.{PORT_RESET, C_PORT_CONNECTION}
 use Rattle.usb_device.specs.{State, Ports, ended, vacant, taken, new_ports, first_ports, all_off}
-use Rattle.usb_device.specs.{acted, empty, full, before, reset_where, called, replaced, changed}
-use Rattle.usb_device.specs.{changed_at, row_of, Spec, Hub, Effect}
-use Rattle.usb_device.specs.Tree.{Place}
+use Rattle.usb_device.specs.{acted, empty, full, before, reset_where, called, changed, changed_at}
+use Rattle.usb_device.specs.{row_of, Spec, Hub, Effect, Place}
 use Rattle.usb_world.proofs.courses.LiftedSteps.{happened_by}
 use Rattle.usb_tree.proofs.Interface.{false_true}
 use Rattle.usb_world.specs.{World, roots_of, root_row, to_come, change_of, AttemptsWithin}
@@ -21,41 +18,14 @@ use Rattle.usb_world.specs.{SetsRoot, ClearsRoot, root_call, after}
 use Rattle.usb_device.specs.declared.effect.Effect.TheVariants as effect
 
 pub spends_none : (w : World) → AttemptsWithin 0 w w
-spends_none w = record {
-  limit = refl;
-  roots = refl;
-  later = omega arith;
-  most = omega arith;
-  within = λ h. h;
-  events = refl;
-  onward = omega arith;
-  served = omega arith;
-}
+spends_none w = grind arith
 
 pub spends_then : (m n : ℕ) (a b c : World) → AttemptsWithin m a b → AttemptsWithin n b c
     → AttemptsWithin (m + n) a c
-spends_then m n a b c p q = record {
-  limit = q.limit ∙ p.limit;
-  roots = q.roots ∙ p.roots;
-  later = omega (arith, p.later, q.later);
-  most = omega (arith, p.most, q.most);
-  within = λ h. q.within (p.within h);
-  events = q.events ∙ p.events;
-  onward = omega (arith, p.onward, q.onward);
-  served = omega (arith, p.served, q.served);
-}
+spends_then m n a b c p q = grind arith
 
 pub spends_wider : (m n : ℕ) (a b : World) → AttemptsWithin m a b → m ≤ n → AttemptsWithin n a b
-spends_wider m n a b p le = record {
-  limit = p.limit;
-  roots = p.roots;
-  later = p.later;
-  most = omega (arith, p.most, le);
-  within = p.within;
-  events = p.events;
-  onward = p.onward;
-  served = p.served;
-}
+spends_wider m n a b p le = grind arith
 
 -- the number of change bits, where one port is written
 pub changes-set : (ps : List PortState) (i : ℕ) (p : PortState) → i < length ps
@@ -69,18 +39,16 @@ changes-set (q ∷ ps) (suc i) p lt = omega (arith, changes-set ps i p (omega (a
 row_reset : (x : Bool) (b : PortState) (s : State) (a k : Ports)
     → row_of (before (reset_where x b s a) k) ≡ b ∷ row_of k
 unfolding row_of
-row_reset true b s a k = refl
-row_reset false b s a k = refl
+row_reset x b s a k = grind arith
 
 pub row_called : (c : PortCall) (k : Ports) (i : ℕ) → row_of (changed_at (called c) k i [])
     ≡ slice_set (row_of k) i (called_port c (slice_index_or (row_of k) i off))
 unfolding row_of changed_at
-row_called c ended i = refl
-row_called c (vacant b k) zero = refl
 row_called c (vacant b k) (suc i) = ap (λ r. b ∷ r) (row_called c k i)
 row_called c (taken b s a k) zero = row_reset (is_reset c && (b.power && is_attached b.attached))
     (called_port c b) s a k
 row_called c (taken b s a k) (suc i) = ap (λ r. b ∷ r) (row_called c k i)
+row_called c k i = refl
 
 -- what a root call leaves as it was
 pub record RootCalled (port : ℕ) (p : PortState) (old new : World) : Type 0 where
@@ -97,18 +65,7 @@ before_next i = omega arith
 called_root : (port : ℕ) (c : PortCall) (w : World) → IsRootPort w port
     → RootCalled port (called_port c (root_port_at w port)) w (after (root_call c port) w)
 unfolding after root_port_at
-called_root zero c w is = absurd (omega (arith, is.0))
-called_root (suc i) c w is = record {
-  row =
-      subst (λ j. row_of (changed_at (called c) w.roots i []) ≡ slice_set (row_of w.roots) j
-      (called_port c (slice_index_or (row_of w.roots) j off))) (before_next i)
-      (row_called c w.roots i);
-  attempts = refl;
-  limit = refl;
-  taken = refl;
-  left = refl;
-  fault = refl;
-}
+called_root port c w is = grind (arith, before_next, row_called)
 
 -- a call at a root port, and its row of the port table
 pub root_called : (port : ℕ) (call : Option PortCall) (old new : World) → IsRootPort old port
@@ -123,38 +80,31 @@ root_called port (Some c) old new is named step =
 pub set_step : (port feature : ℕ) (old new : World) → IsRootPort old port → IsSetFeature feature
     → ((c : PortCall) → set_call feature ≡ Some c → new ≡ after (root_call c port) old)
     → SetsRoot port feature old new
-set_step port feature old new is named step =
-    record { step = step; row = (root_called port (set_call feature) old new is named step).row }
+set_step port feature old new is named step = grind (arith, root_called)
 
 pub clear_step : (port feature : ℕ) (old new : World) → IsRootPort old port → IsClearFeature feature
     → ((c : PortCall) → clear_call feature ≡ Some c → new ≡ after (root_call c port) old)
     → ClearsRoot port feature old new
-clear_step port feature old new is named step =
-    record { step = step; row = (root_called port (clear_call feature) old new is named step).row }
+clear_step port feature old new is named step = grind (arith, root_called)
 
 -- whatever is written somewhere, a row has as many ports
 row_head : (q : Place) (k : Ports) → length (row_of (before q k)) ≡ suc (length (row_of k))
 unfolding row_of
-row_head (empty b) k = refl
-row_head (full b s a) k = refl
+row_head q k = grind arith
 
 pub row_long_at : (f : Place → Place) (k : Ports) (i : ℕ) (p : List ℕ)
     → length (row_of (changed_at f k i p)) ≡ length (row_of k)
 unfolding row_of changed_at
-row_long_at f ended i p = refl
 row_long_at f (vacant b k) zero [] = row_head (f (empty b)) k
-row_long_at f (vacant b k) zero (n ∷ p) = refl
 row_long_at f (vacant b k) (suc i) p = ap (λ n. suc n) (row_long_at f k i p)
 row_long_at f (taken b s a k) zero [] = row_head (f (full b s a)) k
 row_long_at f (taken b s a k) zero (zero ∷ p) = refl
-row_long_at f (taken b s a k) zero (suc j ∷ p) = refl
 row_long_at f (taken b s a k) (suc i) p = ap (λ n. suc n) (row_long_at f k i p)
+row_long_at f k i p = refl
 
 pub row_long : (f : Place → Place) (k : Ports) (p : List ℕ) → length (row_of (changed f k p))
     ≡ length (row_of k)
-row_long f k [] = refl
-row_long f k (zero ∷ p) = refl
-row_long f k (suc i ∷ p) = row_long_at f k i p
+row_long f k p = grind (arith, row_long_at)
 
 pub new_long : (n : ℕ) → length (row_of (new_ports n)) ≡ n
 unfolding row_of new_ports
@@ -164,8 +114,7 @@ new_long (suc n) = ap (λ m. suc m) (new_long n)
 -- a device that was just plugged has as many ports as its description says
 pub first_long : (o : Option Hub) → length (row_of (first_ports o)) ≡ hub_ports o
 unfolding row_of
-first_long None = refl
-first_long (Some hub) = new_long hub.ports
+first_long o = grind (arith, new_long)
 
 -- neither power nor a request takes a port away
 pub off_long : (k : Ports) → length (row_of (all_off k)) ≡ length (row_of k)
@@ -175,27 +124,21 @@ off_long (vacant b k) = ap (λ n. suc n) (off_long k)
 off_long (taken b s a k) = ap (λ n. suc n) (off_long k)
 
 pub acted_long : (e : Effect) (k : Ports) → length (row_of (acted e k)) ≡ length (row_of k)
-acted_long effect.Leaves k = refl
-acted_long (effect.Calls c i) k = row_long_at (called c) k i []
-acted_long effect.PortsOff k = off_long k
+acted_long e k = grind (arith, off_long, row_long_at)
 
 pub happened_long : (a : Action) (ds : List Spec) (k : Ports)
     → length (row_of (after_change a ds k)) ≡ length (row_of k)
-happened_long a ds k =
-    happened_by (λ v _. length (row_of v) ≡ length (row_of k)) a ds k [] refl
-    (λ o p. row_long (replaced o) k p)
+happened_long a ds k = grind (arith, happened_by, row_long)
 
 -- what is written at one place sets at most one change bit of a row
 pub change_most : (p : PortState) → change_of p ≤ 1
 unfolding change_of
-change_most p = elim p.connection_changed
-    as (λ b. (if b then 1 else 0) ≤ 1) [ true ↦ omega arith | false ↦ omega arith ]
+change_most p = grind arith
 
 head_changes : (q : Place) (p : PortState) (k : Ports) → changes (row_of (before q k))
     ≤ change_of p + changes (row_of k) + 1
 unfolding row_of changes
-head_changes (empty b) p k = omega (arith, change_most b)
-head_changes (full b s a) p k = omega (arith, change_most b)
+head_changes q p k = grind (arith, change_most)
 
 changes_at : (f : Place → Place) (k : Ports) (i : ℕ) (p : List ℕ)
     → changes (row_of (changed_at f k i p)) ≤ changes (row_of k) + 1
@@ -211,47 +154,30 @@ changes_at f (taken b s a k) (suc i) p = omega (arith, changes_at f k i p)
 
 changes_path : (f : Place → Place) (k : Ports) (p : List ℕ) → changes (row_of (changed f k p))
     ≤ changes (row_of k) + 1
-changes_path f k [] = omega arith
-changes_path f k (zero ∷ p) = omega arith
-changes_path f k (suc i ∷ p) = changes_at f k i p
+changes_path f k p = grind (arith, changes_at)
 
 pub happened_changes : (a : Action) (ds : List Spec) (k : Ports)
     → changes (row_of (after_change a ds k)) ≤ changes (row_of k) + 1
-happened_changes a ds k =
-    happened_by (λ v _. changes (row_of v) ≤ changes (row_of k) + 1) a ds k [] (omega arith)
-    (λ o p. changes_path (replaced o) k p)
+happened_changes a ds k = grind (arith, changes_path, happened_by)
 
 -- an event that came
 pub event_spends : (old new : World) → changes (root_row new) ≤ changes (root_row old) + 1
     → roots_of new ≡ roots_of old → new.taken ≡ old.taken + 1
     → to_come new + 1 ≡ to_come old → new.attempts ≡ old.attempts → new.limit ≡ old.limit
     → AttemptsWithin 0 old new
-event_spends old new grown number came left attempts limit = record {
-  limit = limit;
-  roots = number;
-  later = omega (arith, attempts);
-  most = omega (arith, attempts);
-  within = λ h. omega (arith, attempts, limit, h);
-  served = omega (arith, grown, left);
-  events = omega (arith, came, left);
-  onward = omega (arith, came);
-}
+event_spends old new grown number came left attempts limit = grind arith
 
 pub came_spends : (old new : World) (a : Action) (ds : List Spec)
     → new.roots ≡ after_change a ds old.roots → new.taken ≡ old.taken + 1
     → to_come new + 1 ≡ to_come old → new.attempts ≡ old.attempts → new.limit ≡ old.limit
     → AttemptsWithin 0 old new
 came_spends old new a ds e came left attempts limit =
-    event_spends old new (subst (λ k. changes (row_of k) ≤ changes (root_row old) + 1) (sym e)
-    (happened_changes a ds old.roots))
-    (ap (λ k. length (row_of k)) e ∙ happened_long a ds old.roots) came left attempts limit
+    grind (arith, event_spends, happened_changes, happened_long)
 
 pub set_call_root : (port feature : ℕ) (old new : World) (c : PortCall) → IsRootPort old port
     → IsSetFeature feature → Some c ≡ set_call feature → new ≡ after (root_call c port) old
     → SetsRoot port feature old new
-set_call_root port feature old new c is named found e =
-    set_step port feature old new is named
-    (λ d other. subst (λ x. new ≡ after (root_call x port) old) (same_Some c d (found ∙ other)) e)
+set_call_root port feature old new c is named found e = grind (arith, set_step)
 
 pub set_none : {A : Type 0} (feature : ℕ) → IsSetFeature feature → None ≡ set_call feature → A
 set_none feature named e = false_true (ap is_some e ∙ named)
@@ -259,9 +185,7 @@ set_none feature named e = false_true (ap is_some e ∙ named)
 pub clear_ends : (port feature : ℕ) (old new : World) (c : PortCall) → IsRootPort old port
     → IsClearFeature feature → Some c ≡ clear_call feature → new ≡ after (root_call c port) old
     → ClearsRoot port feature old new
-clear_ends port feature old new c is named found e =
-    clear_step port feature old new is named
-    (λ d other. subst (λ x. new ≡ after (root_call x port) old) (same_Some c d (found ∙ other)) e)
+clear_ends port feature old new c is named found e = grind (arith, clear_step)
 
 pub clear_none : {A : Type 0} (feature : ℕ) → IsClearFeature feature → None ≡ clear_call feature → A
 clear_none feature named e = false_true (ap is_some e ∙ named)
@@ -287,30 +211,15 @@ writes_spend port p old new is le c = record {
 
 change_of-reset : (p : PortState) → change_of (port_by (set_call PORT_RESET) p) ≤ change_of p
 unfolding change_of
-change_of-reset p = elim (p.power && is_attached p.attached)
-    as (λ b. change_of (if b then record p { enable = true; reset_changed = true } else p)
-    ≤ change_of p) [ true ↦ omega arith | false ↦ omega arith ]
+change_of-reset p = grind arith
 
 -- a row of the port table leaves the bit as it was or clears it
 Leaves : PortState → Option PortCall → Type 0
 Leaves p call = change_of (port_by call p) ≤ change_of p
 
-leaves-if : (p : PortState) (b : Bool) (x y : Option PortCall) → Leaves p x → Leaves p y
-    → Leaves p (if b then x else y)
-leaves-if p true x y hx hy = hx
-leaves-if p false x y hx hy = hy
-
-cleared_le : (p : PortState) → 0 ≤ change_of p
-cleared_le p = omega arith
-
 change_of-clear : (feature : ℕ) (p : PortState) → Leaves p (clear_call feature)
 unfolding Leaves change_of
-change_of-clear feature p =
-    leaves-if p (feature == PORT_ENABLE) _ _ (omega arith)
-    (leaves-if p (feature == PORT_POWER) _ _ (cleared_le p)
-    (leaves-if p (feature == C_PORT_CONNECTION) _ _ (cleared_le p)
-    (leaves-if p (feature == C_PORT_ENABLE) _ _ (omega arith)
-    (leaves-if p (feature == C_PORT_RESET) _ _ (omega arith) (omega arith)))))
+change_of-clear feature p = grind arith
 
 -- setting PORT_RESET of a root port
 pub resets_spend : (port : ℕ) (old new : World) → IsRootPort old port

@@ -1,25 +1,24 @@
 -- What a step of the world does to reachable, live and pending, and what whole courses do.
-use Rattle.std.proofs.Common.{◌≡◌, ℕ, zero, suc, ◌+◌, ◌&&◌, nat_le, length, if◌then◌else◌, ◌⊎◌, inl}
-use Rattle.std.proofs.Common.{inr, true, false, List, [], ◌∷◌, ◌++◌, Option, None, Some, refl, ap}
+use Rattle.std.proofs.Common.{arith}
+use Rattle.std.proofs.Common.{◌≡◌, ℕ, zero, suc, ◌+◌, ◌&&◌, ◌⊎◌, inl}
+use Rattle.std.proofs.Common.{true, false, List, [], ◌∷◌, ◌++◌, Option, None, Some, refl, ap}
 use Rattle.std.proofs.Common.{sym, subst, ◌∙◌, append_assoc, Bool}
 use Rattle.usb_port.specs.{PortCall}
 use Rattle.usb_device.specs.{Whole, Spec, Ports, called, changed, reach, place}
-use Rattle.usb_packet.specs.{Packet, Toggle}
+use Rattle.usb_packet.specs.{Packet}
 use Rattle.usb_packet.specs.declared.Packet.TheVariants as packet
-use Rattle.arrayvec.specs.ArrayVec.{ArrayVec}
-use Rattle.usb_world.specs.{Damage, Event, Action, ExchangeAnswer, Attempt, Mark, is_read, mark_of}
-use Rattle.usb_world.specs.{harm_to, marked, marked_some, token_of, payload_of, reply_of, goes_out}
+use Rattle.usb_world.specs.{Damage, Event, Action, ExchangeAnswer, Attempt, Mark}
+use Rattle.usb_world.specs.{marked, marked_some, token_of, payload_of, reply_of, goes_out}
 use Rattle.usb_world.specs.{token_out, payload_out, reply_out, heard_in, mark_in, place_of_answer}
 use Rattle.usb_world.specs.{ports_in, World, after_change, names_path, after_event, at_attempt}
-use Rattle.usb_world.specs.{damage_in, with_attempt, Step, attempt, root_call, event, report, after}
-use Rattle.usb_world.specs.{Course, here, step, NoneNames, Undisturbed, is_made, made_resets}
+use Rattle.usb_world.specs.{damage_in, with_attempt, Step, attempt, root_call, event, after}
+use Rattle.usb_world.specs.{Course, here, step, NoneNames, Undisturbed, made_resets}
 use Rattle.usb_world.specs.{made_keeps_pending, root_resets, root_keeps_pending, resets}
 use Rattle.usb_world.specs.{step_keeps_pending, Reached, UndisturbedOrPends, NoReset}
 use Rattle.usb_world.specs.{KeepsPendingAt}
-use Rattle.usb_world.specs.declared.exchange.ExchangeAnswer.TheVariants.{Nothing, One, Collision}
 use Rattle.usb_tree.specs.{has_power, pending, IsNew, IfOut, IsTokenFor, IsDataOut, IsAckOut}
 use Rattle.usb_tree.specs.{IsAttemptAt}
-use Rattle.usb_tree.proofs.Interface.{false_true, both, decided}
+use Rattle.usb_tree.proofs.Interface.{false_true}
 use Rattle.usb_world.proofs.courses.LiftedSteps.{OverSteps, with_limit_told, with_call, over_step}
 use Rattle.usb_world.proofs.courses.LiftedSteps.{over_course, made_after}
 use Rattle.usb_world.proofs.events.PlugEvents.{happened_way}
@@ -77,19 +76,11 @@ took_reach e es w p l h =
 
 token_out-token : (a : Attempt) (d : Option Damage) → IfOut (IsTokenFor a.addr) (token_out a d)
 unfolding token_of marked
-token_out-token a d = sent_out (IsTokenFor a.addr) tt a.low a.pre
-    (mark_of (harm_to d 1) a.pre (packet.Token a.kind a.addr a.ep))
-    (packet.Token a.kind a.addr a.ep) refl
+token_out-token a d = grind arith
 
 payload_goes : (a : Attempt) (d : Option Damage) → IfOut IsDataOut (payload_out a d)
 unfolding payload_of marked_some marked
-payload_goes a d = go a.payload
-  where
-    go : (o : Option (Toggle × ArrayVec ℕ)) → IfOut IsDataOut (goes_out a (marked_some d 2 a.pre
-        (elim o [ None ↦ None | Some p ↦ Some (packet.Payload p.0 p.1) ])))
-    go None = tt
-    go (Some x) = sent_out IsDataOut tt a.low a.pre
-        (mark_of (harm_to d 2) a.pre (packet.Payload x.0 x.1)) (packet.Payload x.0 x.1) tt
+payload_goes a d = grind arith
 
 IsSomeAck : Option Packet → Type 0
 IsSomeAck None = Unit {0}
@@ -97,105 +88,73 @@ IsSomeAck (Some p) = IsAckOut (Whole p)
 
 reply_acks : (h : ExchangeAnswer) (m : Mark) (max : ℕ) → IsSomeAck (reply_of h m max)
 unfolding reply_of IsSomeAck
-reply_acks Nothing m max = tt
-reply_acks Collision m max = tt
-reply_acks (One (packet.Payload t b)) m max =
-    elim (is_read m && nat_le (length b.items) max)
-    as (λ x. IsSomeAck (if x then Some packet.Ack else None)) [ true ↦ tt | false ↦ tt ]
-reply_acks (One packet.Ack) m max = tt
-reply_acks (One (packet.Token kind a e)) m max = tt
-reply_acks (One (packet.Sof f)) m max = tt
-reply_acks (One packet.Nak) m max = tt
-reply_acks (One packet.Stall) m max = tt
-reply_acks (One packet.Pre) m max = tt
+reply_acks h m max = grind arith
 
 pub reply_goes : (a : Attempt) (d : Option Damage) (n : ℕ) (h : ExchangeAnswer) (m : Mark) (max : ℕ)
     → IfOut IsAckOut (goes_out a (marked_some d n a.pre (reply_of h m max)))
 unfolding marked_some marked IsSomeAck
-reply_goes a d n h m max = go (reply_of h m max) (reply_acks h m max)
-  where
-    go : (o : Option Packet) → IsSomeAck o → IfOut IsAckOut (goes_out a (marked_some d n a.pre o))
-    go None h = tt
-    go (Some p) h = sent_out IsAckOut tt a.low a.pre (mark_of (harm_to d n) a.pre p) p h
+reply_goes a d n h m max = grind (arith, reply_acks, sent_out)
 
 ack_goes : (a : Attempt) (d : Option Damage) (k : Ports) → IfOut IsAckOut (reply_out a d k)
 ack_goes a d k = reply_goes a d (place_of_answer a d + 1) (heard_in a d k) (mark_in a d k) a.max
 
 pub goes : (a : Attempt) (d : Option Damage) (k : Ports)
     → IsAttemptAt a.addr (token_out a d) (payload_out a d) (reply_out a d k)
-goes a d k = record {
-  token = token_out-token a d;
-  payload = payload_goes a d;
-  reply = ack_goes a d k;
-}
+goes a d k = grind (arith, ack_goes, payload_goes, token_out-token)
 
 -- An attempt that is made
 
 pub made_reach : (a : Attempt) (w : World) (p : List ℕ) → made_resets a w p ≡ false
     → reach (with_attempt a w).roots p ≡ true → reach w.roots p ≡ true
 unfolding with_attempt ports_in
-made_reach a w [] f h = false_true h
-made_reach a w (zero ∷ p) f h = false_true h
 made_reach a w (suc j ∷ p) f h = attempt_reach a.addr (token_out a (damage_in w))
     (payload_out a (damage_in w)) (reply_out a (damage_in w) w.roots) (goes a (damage_in w) w.roots)
     w.roots j p f h
+made_reach a w p f h = false_true h
 
 made_new : (a : Attempt) (w : World) (p : List ℕ) → made_resets a w p ≡ true
     → IsNew (place (with_attempt a w).roots p)
 unfolding with_attempt ports_in
-made_new a w [] f = false_true f
-made_new a w (zero ∷ p) f = false_true f
 made_new a w (suc j ∷ p) f = attempt_new a.addr (token_out a (damage_in w))
     (payload_out a (damage_in w)) (reply_out a (damage_in w) w.roots) (goes a (damage_in w) w.roots)
     w.roots j p f
+made_new a w p f = false_true f
 
 pub made_pend : (a : Attempt) (w : World) (p : List ℕ) → made_keeps_pending a w p ≡ true
     → pending w.roots p ≡ true → pending (with_attempt a w).roots p ≡ true
 unfolding with_attempt ports_in
-made_pend a w [] f h = false_true h
-made_pend a w (zero ∷ p) f h = false_true h
 made_pend a w (suc j ∷ p) f h =
     (attempt_kept a.addr (token_out a (damage_in w)) (payload_out a (damage_in w))
     (reply_out a (damage_in w) w.roots) (goes a (damage_in w) w.roots) w.roots j p f).1 h
+made_pend a w p f h = false_true h
 
 pub made_live : (a : Attempt) (w : World) (p : List ℕ) → made_keeps_pending a w p ≡ true
     → has_power w.roots p ≡ true → has_power (with_attempt a w).roots p ≡ true
 unfolding with_attempt ports_in
-made_live a w [] f h = false_true h
-made_live a w (zero ∷ p) f h = false_true h
 made_live a w (suc j ∷ p) f h =
     (attempt_kept a.addr (token_out a (damage_in w)) (payload_out a (damage_in w))
     (reply_out a (damage_in w) w.roots) (goes a (damage_in w) w.roots) w.roots j p f).0 h
+made_live a w p f h = false_true h
 
 -- A root call
 
 pub root_reach : (c : PortCall) (n : ℕ) (k : Ports) (p : List ℕ) → root_resets c n k p ≡ false
     → reach (changed (called c) k (n ∷ [])) p ≡ true → reach k p ≡ true
-root_reach c n k [] f h = false_true h
-root_reach c n k (zero ∷ p) f h = false_true h
-root_reach c zero k (suc j ∷ p) f h = h
-root_reach c (suc i) k (suc j ∷ p) f h = call_reach c k i j p f h
+root_reach c n k p f h = grind (arith, call_reach)
 
 root_new : (c : PortCall) (n : ℕ) (k : Ports) (p : List ℕ) → root_resets c n k p ≡ true
     → IsNew (place (changed (called c) k (n ∷ [])) p)
-root_new c zero k p f = false_true f
-root_new c (suc i) k [] f = false_true f
-root_new c (suc i) k (zero ∷ p) f = false_true f
-root_new c (suc i) k (suc j ∷ p) f = call_new c k i j p f
+root_new c n k p f = grind (arith, call_new)
 
 pub root_pend : (c : PortCall) (n : ℕ) (k : Ports) (p : List ℕ) → root_keeps_pending c n p ≡ true
     → pending k p ≡ true → pending (changed (called c) k (n ∷ [])) p ≡ true
-root_pend c n k [] g h = false_true h
-root_pend c n k (zero ∷ p) g h = false_true h
 root_pend c zero k (suc j ∷ p) g h = h
 root_pend c (suc i) k (suc j ∷ p) g h = (call_kept c k i j p g).1 h
+root_pend c n k p g h = false_true h
 
 pub root_live : (c : PortCall) (n : ℕ) (k : Ports) (p : List ℕ) → root_keeps_pending c n p ≡ true
     → has_power k p ≡ true → has_power (changed (called c) k (n ∷ [])) p ≡ true
-root_live c n k [] g h = false_true h
-root_live c n k (zero ∷ p) g h = false_true h
-root_live c zero k (suc j ∷ p) g h = h
-root_live c (suc i) k (suc j ∷ p) g h = (call_kept c k i j p g).0 h
+root_live c n k p g h = grind (arith, call_kept)
 
 -- Steps
 
@@ -203,13 +162,7 @@ root_live c (suc i) k (suc j ∷ p) g h = (call_kept c k i j p g).0 h
 pub step_new : (s : Step) (w : World) (p : List ℕ) → resets s w p ≡ true
     → IsNew (place (after s w).roots p)
 unfolding after resets
-step_new (attempt a) w p h =
-    let x : _ = both (is_made w.fault w) (made_resets a (at_attempt w) p) h in
-    subst (λ v. IsNew (place v.roots p)) (sym (made_after a w x.0))
-    (made_new a (at_attempt w) p x.1)
-step_new (root_call c n) w p h = root_new c n w.roots p h
-step_new event w p h = false_true h
-step_new (report l) w p h = false_true h
+step_new s w p h = grind (arith, made_after, made_new, root_new)
 
 -- a device that is reached was reached before, and was not disturbed
 abbrev pub StaysReached : List ℕ → World → World → Type 0
@@ -241,11 +194,7 @@ unreset_reach s w p = over_step (reach_steps p) s w
 -- a device becomes reachable in one way only: by PORT_RESET at its own port, which leaves it new
 pub step_reach : (s : Step) (w : World) (p : List ℕ) → reach (after s w).roots p ≡ true
     → Reached w (after s w) p (resets s w p)
-step_reach s w p h = pick (decided (resets s w p))
-  where
-    pick : (resets s w p ≡ true) ⊎ (resets s w p ≡ false) → Reached w (after s w) p (resets s w p)
-    pick (inl y) = inr (y, step_new s w p y)
-    pick (inr y) = let on : _ = unreset_reach s w p y h in inl (y, on.0, on.1)
+step_reach s w p h = grind (arith, step_new, unreset_reach)
 
 -- a device that is reachable after a course that does not reset it was reachable before it, and is
 -- the same one
@@ -279,31 +228,12 @@ pub record LiveOrPends (R : World → World → Type 0) (p : List ℕ) (w v : Wo
 module _ {K : Step → World → Type 0} {R : World → World → Type 0} {p : List ℕ}
     (l : OverUnnamed K R p) where
   live_joined : (w m v : World) → LiveOrPends R p w m → LiveOrPends R p m v → LiveOrPends R p w v
-  live_joined w m v x y = record {
-    powered = λ h. early (x.powered h);
-    pending = λ h. y.pending (x.pending h);
-  }
-    where
-      late : R w m → OrPends R p m v → OrPends R p w v
-      late a (inl z) = inl (z.0, l.joined w m v a z.1)
-      late a (inr z) = inr z
-
-      early : OrPends R p w m → OrPends R p w v
-      early (inl z) = late z.1 (y.powered z.0)
-      early (inr z) = inr (y.pending z)
+  live_joined w m v x y = grind arith
 
   live_came : (e : Event) (events : List Event) (w : World) → w.left ≡ e ∷ events
       → LiveOrPends R p w (after_event e events w)
   unfolding after_event
-  live_came e events w left = record {
-    powered = λ h. pick (happened_live e.action w.devices w.roots p h);
-    pending = happened_pend e.action w.devices w.roots p;
-  }
-    where
-      pick : LiveOr (after_change e.action w.devices w.roots) (names_path w.devices e.action p) p
-          → OrPends R p w (after_event e events w)
-      pick (inl y) = inl (y.0, l.came e events w left y.1)
-      pick (inr y) = inr y
+  live_came e events w left = grind (arith, happened_live, happened_pend)
 
   pub over_live : OverSteps K (LiveOrPends R p)
   unfolding step_keeps_pending

@@ -1,14 +1,15 @@
 -- What holds over each part of a step holds over steps and courses.
-use Rattle.std.proofs.Common.{◌≡◌, ◌⊎◌, inl, inr, ℕ, ◌==◌, ◌&&◌, ◌∙◌, not, if◌then◌else◌, Bool}
+use Rattle.std.proofs.Common.{arith}
+use Rattle.std.proofs.Common.{◌≡◌, ◌⊎◌, inl, inr, ℕ, ◌&&◌, if◌then◌else◌, Bool}
 use Rattle.std.proofs.Common.{true, false, List, [], ◌∷◌, Option, None, Some, is_some, slice_get}
-use Rattle.std.proofs.Common.{refl, ap}
+use Rattle.std.proofs.Common.{refl}
 use Rattle.usb_port.specs.{PortCall, is_clearing}
 use Rattle.usb_device.specs.{Spec, Ports, called, replaced, changed}
 use Rattle.usb_world.specs.{Action, Plug, Unplug, Event, Attempt, BusFault, LimitReached, is_made}
 use Rattle.usb_world.specs.{after_clearing, with_plugged, after_change, way_of, names_path, is_due}
 use Rattle.usb_world.specs.{after_event, after_first_event, after_due_events, at_attempt}
-use Rattle.usb_world.specs.{with_attempt, attempted, event_taken, Step, attempt, root_call, event}
-use Rattle.usb_world.specs.{report, after, Course, here, step, Coming, nothing_yet, next_came}
+use Rattle.usb_world.specs.{with_attempt, event_taken, Step, attempt, root_call, event}
+use Rattle.usb_world.specs.{after, Course, here, step, Coming, nothing_yet, next_came}
 use Rattle.usb_world.specs.{World}
 use Rattle.usb_world.specs.declared.event.Action.TheVariants.{Change, Ask}
 
@@ -66,12 +67,10 @@ happened_by P (Ask ask) devices k p same there = same
 module _ {R : World → World → Type 0} (l : OverEvents R) where
   pub over_first : (events : List Event) (w : World) → w.left ≡ events
       → R w (after_first_event events w)
-  over_first [] w e = l.same w
-  over_first (x ∷ events) w e = l.came x events w e
+  over_first events w e = grind arith
 
   pub over_taken : (f : Option BusFault) (w : World) → R w (event_taken f w)
-  over_taken (Some f) w = l.same w
-  over_taken None w = over_first w.left w refl
+  over_taken f w = grind arith
 
   pub over_due : (events : List Event) (w : World) → w.left ≡ events
       → R w (after_due_events events w)
@@ -102,16 +101,7 @@ pub after-attempt_by : (P : World → Type 0) (a : Attempt) (w : World)
     → (is_made w.fault w ≡ false → P w × P (with_limit_told w))
     → (is_made w.fault w ≡ true → P (with_attempt a (at_attempt w))) → P (after (attempt a) w)
 unfolding after
-after-attempt_by P a w rests made = tried w.fault refl
-  where
-    tried : (f : Option BusFault) → w.fault ≡ f → P (attempted a f w)
-    tried (Some f) e = (rests (ap (λ f. is_made f w) e)).0
-    tried None e = split (w.attempts == w.limit) refl
-      where
-        split : (b : Bool) → (w.attempts == w.limit) ≡ b
-            → P (if b then with_limit_told w else with_attempt a (at_attempt w))
-        split true full = (rests (ap (λ f. is_made f w) e ∙ ap not full)).1
-        split false room = made (ap (λ f. is_made f w) e ∙ ap not room)
+after-attempt_by P a w rests made = grind arith
 
 pub made_after : (a : Attempt) (w : World) → is_made w.fault w ≡ true
     → after (attempt a) w ≡ with_attempt a (at_attempt w)
@@ -120,11 +110,7 @@ made_after a w made =
     (λ _. refl)
 
 pub made_sound : (w : World) → is_made w.fault w ≡ true → w.fault ≡ None
-made_sound w made = sound w.fault refl
-  where
-    sound : (f : Option BusFault) → w.fault ≡ f → f ≡ None
-    sound None e = refl
-    sound (Some f) e = absurd (cc (made, ap (λ f. is_made f w) e))
+made_sound w made = grind arith
 
 -- nothing but the fault changed, or the attempt was made
 abbrev pub MadeOrNot : Attempt → World → World → Type 0
@@ -141,12 +127,7 @@ attempt_cases a w =
 module _ {K : Step → World → Type 0} {R : World → World → Type 0} (l : OverSteps K R) where
   pub over_step : (s : Step) (w : World) → K s w → R w (after s w)
   unfolding after
-  over_step (attempt a) w k =
-      after-attempt_by (R w) a w (λ _. (l.events.same w, l.refused w))
-      (λ made. l.events.joined w (at_attempt w) _ (over_ready l.events w) (l.made a w made k))
-  over_step (root_call c n) w k = l.root c n w k
-  over_step event w k = over_taken l.events w.fault w
-  over_step (report line) w k = l.events.same w
+  over_step s w k = grind (arith, after-attempt_by, over_ready, over_taken)
 
   pub over_course : {w v : World} → Course K w v → R w v
   over_course (here w) = l.events.same w

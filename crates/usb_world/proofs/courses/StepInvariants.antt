@@ -1,19 +1,18 @@
 -- What is so between two steps stays so.
-use Rattle.std.proofs.Common.{◌≡◌, ℕ, zero, suc, Bool, true, false, ◌&&◌, List, [], ◌∷◌, ◌≤◌, refl}
+use Rattle.std.proofs.Common.{◌≡◌, ℕ, zero, suc, List, [], ◌∷◌, ◌≤◌, refl}
 use Rattle.std.proofs.Common.{ap, sym, arith}
-use Rattle.usb_port.specs.{is_attached, PortCall, called_port, is_reset}
+use Rattle.usb_port.specs.{PortCall}
 use Rattle.usb_device.specs.{Spec, Hub, IsSpec, RememberedPacket, fresh, reset_state, Ports, ended}
 use Rattle.usb_device.specs.{vacant, taken, empty, full, before, new_ports, first_ports, all_off}
-use Rattle.usb_device.specs.{changed, changed_at, called, replaced, reset_where, all_forgotten}
+use Rattle.usb_device.specs.{changed, changed_at, called, replaced, all_forgotten, Place}
 use Rattle.usb_device.specs.declared.transfer.RememberedPacket.TheVariants.{Nothing}
-use Rattle.usb_device.specs.Tree.{Place}
 use Rattle.usb_world.specs.{Damage, Action, Plug, Unplug, Attempt, ports_in, token_out, payload_out}
 use Rattle.usb_world.specs.{reply_out, Consistent, PlanData, World, after_change, with_plugged}
 use Rattle.usb_world.specs.{after_event, at_attempt, damage_in, with_attempt, Step, after, AnyStep}
 use Rattle.usb_world.specs.{Course, here, step, WorldInvariant, opening}
 use Rattle.usb_world.specs.declared.event.Action.TheVariants.{Change, Ask}
 use Rattle.std.proofs.lemmas.List.Elements.{All-head, All-tail}
-use Rattle.std.specs.Prelude.{Option, None, Some, slice_get, All, ⊤}
+use Rattle.std.specs.Prelude.{Option, None, slice_get, All, ⊤}
 use Rattle.std.specs.Option.{IfSome}
 use Rattle.usb_tree.specs.{IsSettled}
 use Rattle.usb_world.proofs.ports.SanePorts.{sane_path, sane_new_ports, sane_called, sane_replaced}
@@ -40,9 +39,8 @@ ports_after_first (vacant b k) = k
 ports_after_first (taken b s a k) = k
 
 abbrev ports_below_first : Ports → Ports
-ports_below_first ended = ended
-ports_below_first (vacant b k) = ended
 ports_below_first (taken b s a k) = a
+ports_below_first k = ended
 
 abbrev remembered : Ports → RememberedPacket
 remembered ended = Nothing
@@ -82,48 +80,35 @@ rests_new (suc n) = rests_new n
 
 rests_first : (o : Option Hub) → Rests (first_ports o)
 unfolding Rests
-rests_first None = tt
-rests_first (Some hub) = rests_new hub.ports
+rests_first o = grind (arith, rests_new)
 
 rests_called : (c : PortCall) (q : Place) → RestsPlace q → RestsPlace (called c q)
 unfolding RestsPlace reset_state
-rests_called c (empty b) h = tt
-rests_called c (full b s a) h = split (is_reset c && (b.power && is_attached b.attached))
-  where
-    split : (x : Bool) → RestsPlace (reset_where x (called_port c b) s a)
-    split true = (refl, rests_off a h.1)
-    split false = h
+rests_called c q h = grind (arith, rests_off)
 
 rests_replaced : (o : Option Spec) (q : Place) → RestsPlace q → RestsPlace (replaced o q)
 unfolding RestsPlace fresh
-rests_replaced None q h = tt
-rests_replaced (Some t) q h = (refl, rests_first t.hub)
+rests_replaced o q h = grind (arith, rests_first)
 
 rests_before : (q : Place) (k : Ports) → RestsPlace q → Rests k → Rests (before q k)
 unfolding RestsPlace Rests
-rests_before (empty b) k h g = g
-rests_before (full b s a) k h g = (h.0, h.1, g)
+rests_before q k h g = grind arith
 
 rests_changed : (f : Place → Place) → ((q : Place) → RestsPlace q → RestsPlace (f q))
     → (k : Ports) (i : ℕ) (p : List ℕ) → Rests k → Rests (changed_at f k i p)
 unfolding Rests RestsPlace changed_at
-rests_changed f c ended i p h = h
 rests_changed f c (vacant b k) zero [] h = rests_before (f (empty b)) k (c (empty b) tt) h
-rests_changed f c (vacant b k) zero (n ∷ p) h = h
 rests_changed f c (vacant b k) (suc i) p h = rests_changed f c k i p h
 rests_changed f c (taken b s a k) zero [] h =
     rests_before (f (full b s a)) k (c (full b s a) (h.0, h.1)) h.2
-rests_changed f c (taken b s a k) zero (zero ∷ p) h = h
 rests_changed f c (taken b s a k) zero (suc j ∷ p) h = (h.0, rests_changed f c a j p h.1, h.2)
 rests_changed f c (taken b s a k) (suc i) p h = (h.0, h.1, rests_changed f c k i p h.2)
+rests_changed f c k i p h = h
 
 -- what leaves nothing remembered at a port leaves the tree settled
 settled_path : (f : Place → Place) → ((q : Place) → RestsPlace q → RestsPlace (f q))
     → (k : Ports) (x : List ℕ) → IsSettled k → IsSettled (changed f k x)
-settled_path f c k [] h = h
-settled_path f c k (zero ∷ x) h = h
-settled_path f c k (suc i ∷ x) h = rests_settled (changed_at f k i x)
-    (rests_changed f c k i x (rests k h))
+settled_path f c k x h = grind (arith, rests, rests_changed, rests_settled)
 
 -- Settled
 
@@ -148,8 +133,7 @@ settled_ports a d k = after_attempt-settled (token_out a d) (payload_out a d) (r
 
 sane_with : (o : Option Spec) → IfSome o IsSpec → (p : List ℕ) (k : Ports) → Consistent k
     → Consistent (with_plugged o p k)
-sane_with None r p k h = h
-sane_with (Some t) r p k h = sane_path (replaced (Some t)) (sane_replaced (Some t) r) k p h
+sane_with o r p k h = grind (arith, sane_path, sane_replaced)
 
 the_ruled : (ds : List Spec) (d : ℕ) → All IsSpec ds → IfSome (slice_get ds d) IsSpec
 the_ruled [] d r = tt
@@ -174,11 +158,7 @@ sane_ports a d k h = attempt_sane (token_out a d) (payload_out a d) (reply_out a
 -- Worlds
 
 pub between_opening : (p : PlanData) → All IsSpec p.devices → WorldInvariant (opening p)
-between_opening p r = record {
-  settled = settled_new p.roots;
-  sane = sane_new_ports p.roots;
-  ruled = r;
-}
+between_opening p r = grind (arith, sane_new_ports, settled_new)
 
 pub settled_steps : {K : Step → World → Type 0} → OverSteps K (Keeps (λ w. IsSettled w.roots))
 unfolding after_event with_attempt

@@ -1,5 +1,6 @@
 -- What the events that come before an attempt, or as a step, leave of a world as it was.
-use Rattle.std.proofs.Common.{◌≡◌, List, [], ◌∷◌, refl, ap, ◌∙◌}
+use Rattle.std.proofs.Common.{arith}
+use Rattle.std.proofs.Common.{◌≡◌, List, ap}
 use Rattle.usb_world.specs.{Event, World, after_event, after_first_event, at_attempt, Coming}
 use Rattle.usb_world.proofs.courses.LiftedSteps.{OverEvents, over_ready, over_coming}
 
@@ -14,19 +15,14 @@ SameBeside w v = with_events_of w v ≡ w
 
 pub beside_events : OverEvents SameBeside
 unfolding after_event
-beside_events = record {
-  same = λ w. refl;
-  joined = λ w m v x y. ap (with_events_of w) y ∙ x;
-  came = λ e events w l. refl;
-}
+beside_events = grind arith
 
 pub ready_beside : (w : World) → SameBeside w (at_attempt w)
 ready_beside w = over_ready beside_events w
 
 pub first_fault : (events : List Event) (w : World) → (after_first_event events w).fault ≡ w.fault
 unfolding after_event
-first_fault [] w = refl
-first_fault (e ∷ events) w = refl
+first_fault events w = grind arith
 
 pub ready_shared : (w : World) → (at_attempt w).shared ≡ w.shared
 ready_shared w = ap (λ v. v.shared) (ready_beside w)

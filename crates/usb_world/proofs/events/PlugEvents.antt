@@ -1,24 +1,15 @@
 -- What a plug or an unplug does to reachable, live and pending.
-use Rattle.std.proofs.Common.{◌≡◌, ◌∙◌, ℕ, zero, suc, ◌&&◌, ◌||◌, ◌⊎◌, inl, inr, Bool, true, false}
+use Rattle.std.proofs.Common.{arith}
+use Rattle.std.proofs.Common.{◌≡◌, ◌∙◌, ℕ, zero, suc, ◌&&◌, ◌⊎◌, inl, inr, Bool, true, false}
 use Rattle.std.proofs.Common.{List, [], ◌∷◌, slice_get, is_some, Option, None, Some, refl, ap, sym}
 use Rattle.usb_device.specs.{Spec, Ports, ended, vacant, taken, empty, full, before, port_of}
-use Rattle.usb_device.specs.{replaced, changed, changed_at, reach, reach_at}
-use Rattle.usb_device.specs.Tree.{Place}
+use Rattle.usb_device.specs.{replaced, changed, changed_at, reach, reach_at, Place}
 use Rattle.usb_world.specs.{Action, Plug, Unplug, with_plugged, after_change, way_of, names_path}
 use Rattle.usb_world.specs.declared.event.Action.TheVariants.{Change, Ask}
 use Rattle.usb_tree.specs.{has_power, has_power_at, pending, pending_at, is_way, on_way}
-use Rattle.usb_tree.proofs.Interface.{both, decided, and_kept, and_false, or-rises, or_right}
+use Rattle.usb_tree.proofs.Interface.{decided, and_kept, and_false, or-rises, or_right}
 use Rattle.usb_tree.proofs.Interface.{false_true}
 use Rattle.usb_world.proofs.ways.WayChanges.{changed_apart, SameThere, changed_there}
-
--- a port with power has its change of connection set then
-and-absorbs : (p x : Bool) → p ≡ true → (p && (p || x)) ≡ true
-and-absorbs true x h = refl
-and-absorbs false x h = false_true h
-
-rises_over : (p x y : Bool) → p ≡ true → (p && ((p || x) || y)) ≡ true
-rises_over true x y h = refl
-rises_over false x y h = false_true h
 
 -- A path to which the changed place is on the way
 
@@ -32,20 +23,13 @@ live_has_power : (x : Place) (k : Ports) (p : List ℕ)
     → (has_power_at (before x k) zero p ≡ true → (port_of x).power ≡ true)
     × (pending_at (before x k) zero p ≡ true → (port_of x).power ≡ true)
 unfolding has_power_at pending_at
-live_has_power (empty b) k [] = (λ h. h, λ h. (both b.power _ h).0)
-live_has_power (empty b) k (n ∷ p) = (λ h. false_true h, λ h. (both b.power _ h).0)
-live_has_power (full b s a) k [] = (λ h. h, λ h. (both b.power _ h).0)
-live_has_power (full b s a) k (zero ∷ p) = (λ h. false_true h, λ h. (both b.power _ h).0)
-live_has_power (full b s a) k (suc n ∷ p) = (λ h. (both b.power _ h).0, λ h. (both b.power _ h).0)
+live_has_power x k p = grind arith
 
 risen : (o : Option Spec) (x : Place) (k : Ports) (p : List ℕ)
     → (reach_at (before (replaced o x) k) zero p ≡ false)
     × ((port_of x).power ≡ true → pending_at (before (replaced o x) k) zero p ≡ true)
 unfolding reach_at pending_at
-risen None x k p = (refl, λ h. and-absorbs (port_of x).power _ h)
-risen (Some s) x k [] = (refl, λ h. and-absorbs (port_of x).power _ h)
-risen (Some s) x k (zero ∷ p) = (refl, λ h. and-absorbs (port_of x).power _ h)
-risen (Some s) x k (suc n ∷ p) = (refl, λ h. rises_over (port_of x).power _ _ h)
+risen o x k p = grind arith
 
 struck_place : (o : Option Spec) (x : Place) (k : Ports) (p : List ℕ)
     → Struck (before x k) (before (replaced o x) k) zero p
@@ -59,25 +43,18 @@ struck : (o : Option Spec) (k : Ports) (i : ℕ) (e : List ℕ) (j : ℕ) (p : L
 unfolding changed_at reach_at has_power_at pending_at is_way
 struck o ended i e j p w = (refl, λ h. h, λ h. h)
 struck o (vacant b k) zero [] zero p w = struck_place o (empty b) k p
-struck o (vacant b k) zero (n ∷ e) zero [] w = false_true w
 struck o (vacant b k) zero (n ∷ e) zero (m ∷ p) w = (refl, λ h. false_true h, λ h. h)
-struck o (vacant b k) zero e (suc j) p w = false_true w
-struck o (vacant b k) (suc i) e zero p w = false_true w
 struck o (vacant b k) (suc i) e (suc j) p w = struck o k i e j p w
 struck o (taken b s a k) zero [] zero p w = struck_place o (full b s a) k p
-struck o (taken b s a k) zero (n ∷ e) zero [] w = false_true w
 struck o (taken b s a k) zero (zero ∷ e) zero (zero ∷ p) w = (refl, λ h. false_true h, λ h. h)
-struck o (taken b s a k) zero (zero ∷ e) zero (suc j ∷ p) w = false_true w
-struck o (taken b s a k) zero (suc i ∷ e) zero (zero ∷ p) w = false_true w
 struck o (taken b s a k) zero (suc i ∷ e) zero (suc j ∷ p) w =
     let x : _ = struck o a i e j p w in (
       ap (λ c. b.enable && c) x.0 ∙ and_false b.enable,
       and_kept b.power _ _ (λ h. or_right b.connection_changed _ (x.1 h)),
       and_kept b.power _ _ (or-rises b.connection_changed _ _ x.2),
     )
-struck o (taken b s a k) zero e (suc j) p w = false_true w
-struck o (taken b s a k) (suc i) e zero p w = false_true w
 struck o (taken b s a k) (suc i) e (suc j) p w = struck o k i e j p w
+struck o k i e j p w = false_true w
 
 -- What an event does to what is asked of a path, where its place is on the way or not: who is
 -- reachable after it was so before, and it is not on the way; what is pending stays so; what is
@@ -95,8 +72,6 @@ no_event k p = (λ h. (h, refl), λ h. h, λ h. inl (h, refl))
 replaced_way : (o : Option Spec) (k : Ports) (x p : List ℕ)
     → EventWay k (changed (replaced o) k x) p (way_of x p)
 unfolding is_way
-replaced_way o k x [] = (λ h. false_true h, λ h. false_true h, λ h. false_true h)
-replaced_way o k x (zero ∷ p) = (λ h. false_true h, λ h. false_true h, λ h. false_true h)
 replaced_way o k [] (suc j ∷ p) = no_event k (suc j ∷ p)
 replaced_way o k (zero ∷ x) (suc j ∷ p) = no_event k (suc j ∷ p)
 replaced_way o k (suc i ∷ x) (suc j ∷ p) = elim (decided (on_way i x j p)) [
@@ -107,6 +82,7 @@ replaced_way o k (suc i ∷ x) (suc j ∷ p) = elim (decided (on_way i x j p)) [
       let y : _ = (changed_apart (replaced o) k i x j p w).0 in
       (λ h. (sym y.0 ∙ h, w), λ h. y.2 ∙ h, λ h. inl (y.1 ∙ h, w))
 ]
+replaced_way o k x p = (λ h. false_true h, λ h. false_true h, λ h. false_true h)
 
 plugged_way : (o : Option Spec) (k : Ports) (x p : List ℕ)
     → EventWay k (with_plugged o x k) p (is_some o && way_of x p)

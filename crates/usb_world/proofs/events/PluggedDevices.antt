@@ -1,5 +1,5 @@
 -- What is plugged where in a course of steps.
-use Rattle.std.proofs.Common.{◌≡◌, ℕ, zero, suc, ◌+◌, ◌<◌, ◌&&◌, ⊎_elim, not, true, false, List, []}
+use Rattle.std.proofs.Common.{◌≡◌, ℕ, ◌+◌, ◌<◌, ◌&&◌, ⊎_elim, not, true, false, List, []}
 use Rattle.std.proofs.Common.{◌∷◌, ◌++◌, length, take, drop, Option, None, Some, is_some}
 use Rattle.std.proofs.Common.{option_map, slice_get, nat_lt, nat_le, refl, ap, sym, subst, ◌∙◌}
 use Rattle.std.proofs.Common.{arith, append_assoc, length-append}
@@ -10,7 +10,7 @@ use Rattle.std.proofs.Math.Seq.{take-append_seam, drop-append_seam}
 use Rattle.usb_device.specs.{Spec, Ports, called, replaced, changed, state_there}
 use Rattle.usb_world.specs.{Action, Plug, Unplug, Event, after_most, PlanData, IsPlan, is_taken}
 use Rattle.usb_world.specs.{action_fits, event_fits, events_fit, PluggedMap, plugged_by}
-use Rattle.usb_world.specs.{plugged_after, index_at, device_indexed, is_rooted, has_port}
+use Rattle.usb_world.specs.{plugged_after, index_at, device_indexed, has_port}
 use Rattle.usb_world.specs.{FollowsPlan, AtPorts, PlugsAtPort, spec_of, World, NoneNames}
 use Rattle.usb_world.specs.{Undisturbed, names_path, way_of, after_change, with_plugged}
 use Rattle.usb_world.specs.{after_event, at_attempt, damage_in, with_attempt, AnyStep, Course}
@@ -26,7 +26,7 @@ use Rattle.usb_world.proofs.events.PluggedShapes.{shape_with, there_other, gaps,
 use Rattle.usb_world.proofs.events.PluggedShapes.{fits_gaps, fits_there}
 use Rattle.usb_world.proofs.events.PluggedPorts.{shape, described_there, shape_root, shape_attempt}
 use Rattle.usb_world.proofs.events.PluggedPorts.{shape_new, shape_event}
-use Rattle.usb_world.proofs.events.PluggedTrees.{PlugAgrees, told_of, Agrees, agrees_plug}
+use Rattle.usb_world.proofs.events.PluggedTrees.{told_of, Agrees, agrees_plug}
 use Rattle.usb_world.proofs.events.PluggedTrees.{agrees_unplug, has_port-there}
 
 -- the same devices stand at the same ports, and the same events are left
@@ -83,11 +83,7 @@ went_next plan past e events w s h = record {
 
 went_rest : (plan : PlanData) (past : List Event) (w v : World) → SameShape w v → Went plan past w
     → Went plan past v
-went_rest plan past w v a h = record {
-  split = h.split ∙ ap (λ l. past ++ l) (sym a.left);
-  count = a.taken ∙ h.count;
-  devices = a.devices ∙ h.devices;
-}
+went_rest plan past w v a h = grind arith
 
 went_opening : (plan : PlanData) → Went plan [] (opening plan)
 went_opening plan = record { split = refl; count = refl; devices = refl }
@@ -125,11 +121,7 @@ record ShapeAgrees (ds : List Spec) (n : ℕ) (x : Shape) (tree : PluggedMap) : 
 
 index_at-free : (tree : PluggedMap) (e : List ℕ) → not (is_taken tree e) ≡ true
     → index_at tree e ≡ None
-index_at-free tree e h = split (index_at tree e) h
-  where
-    split : (o : Option ℕ) → not (is_some o) ≡ true → o ≡ None
-    split None h = refl
-    split (Some d) h = false_true h
+index_at-free tree e h = grind arith
 
 standing_plug : (ds : List Spec) (n : ℕ) (k : Ports) (tree : PluggedMap) (e : List ℕ) (d : ℕ)
     → action_fits n ds tree (Change (Plug e d)) ≡ true → PlugsAtPort (Change (Plug e d))
@@ -161,14 +153,7 @@ standing_unplug : (ds : List Spec) (n : ℕ) (k : Ports) (tree : PluggedMap) (e 
     → ShapeAgrees ds n (shape (after_change (Change (Unplug e)) ds k))
     (plugged_after (Change (Unplug e)) tree)
 standing_unplug ds n k tree e h s =
-    let same : shape (changed (replaced None) k e) ≡ shape_with None (shape k) e =
-    shape_event None k e in
-    rw same (record {
-      fits = fits_there None (shape k) n e s.fits;
-      agrees =
-          agrees_unplug ds (shape k) tree e (both (is_rooted n e) (is_taken tree e) h).1
-          s.agrees;
-    })
+    grind (arith, agrees_unplug, fits_there, shape, shape_event, shape_with)
 
 standing_next : (a : Action) (ds : List Spec) (n : ℕ) (k : Ports) (tree : PluggedMap)
     → action_fits n ds tree a ≡ true → PlugsAtPort a → ShapeAgrees ds n (shape k) tree
@@ -208,33 +193,14 @@ left_next plan past e events w s h =
 
 left_rest : (plan : PlanData) (past : List Event) (w v : World) → SameShape w v → Left plan past w
     → Left plan past v
-left_rest plan past w v a h = record {
-  went = went_rest plan past w v a h.went;
-  stands = subst (λ x. ShapeAgrees plan.devices plan.roots x (plugged_by [] past)) (sym a.shape)
-      h.stands;
-  rest = ap (events_fit plan.roots plan.devices (plugged_by [] past)) a.left ∙ h.rest;
-  paths = subst AtPorts (sym a.left) h.paths;
-}
+left_rest plan past w v a h = grind arith
 
 gaps_agree : (ds : List Spec) (n : ℕ) → Agrees ds (gaps n) []
-gaps_agree ds n q = told q
-  where
-    told : (q : List ℕ) → PlugAgrees ds (spec_there (gaps n) q) None
-    told [] = tt
-    told (zero ∷ q) = tt
-    told (suc i ∷ q) = subst (λ o. PlugAgrees ds o None) (sym (empty_gaps n i q)) tt
+gaps_agree ds n q = grind (arith, empty_gaps, gaps, spec_there)
 
 left_opening : (plan : PlanData) → IsPlan plan → AtPorts plan.events → Left plan [] (opening plan)
 unfolding plugged_by
-left_opening plan is paths = record {
-  went = went_opening plan;
-  stands = rw (shape_new plan.roots) (record {
-    fits = fits_gaps plan.roots;
-    agrees = gaps_agree plan.devices plan.roots;
-  });
-  rest = is.events;
-  paths = paths;
-}
+left_opening plan is paths = grind (arith, fits_gaps, gaps_agree, shape_new, went_opening)
 
 abbrev Left_on : PlanData → World → Type 0
 Left_on plan w = (past : List Event) × Left plan past w
@@ -251,18 +217,13 @@ pub devices_left : (plan : PlanData) → IsPlan plan → AtPorts plan.events →
     → option_map spec_of (state_there w.roots path) ≡ device_indexed plan.devices
     (index_at (plugged_by [] (take w.taken plan.events)) path)
 devices_left plan is paths w c path =
-    let all : Left_on plan w = what_is_left plan is paths w c in
-    let came : take w.taken plan.events ≡ all.0 = ap (take w.taken) all.1.went.split
-    ∙ ap (λ n. take n (all.0 ++ w.left)) all.1.went.count ∙ take-append_seam all.0 w.left in
-    rw came (described_there w.roots path ∙ told_of plan.devices (spec_there (shape w.roots) path)
-    (index_at (plugged_by [] all.0) path) (all.1.stands.agrees path))
+    grind (arith, described_there, shape, spec_there, take-append_seam, told_of, what_is_left)
 
 -- What no event named
 
 way_away : (o : Option Spec) (x : Shape) (e p : List ℕ) → way_of e p ≡ false
     → spec_there (shape_with o x e) p ≡ spec_there x p
-way_away o x [] p h = refl
-way_away o x (m ∷ e) p h = there_other o x (m ∷ e) p h
+way_away o x e p h = grind (arith, there_other)
 
 happened_away : (a : Action) (ds : List Spec) (k : Ports) (p : List ℕ) → names_path ds a p ≡ false
     → spec_there (shape (after_change a ds k)) p ≡ spec_there (shape k) p
@@ -295,11 +256,7 @@ unnamed_next w p past e events u s h = record {
 
 unnamed_rest : (w : World) (p : List ℕ) (past : List Event) (u v : World) → SameShape u v
     → Unnamed w p past u → Unnamed w p past v
-unnamed_rest w p past u v a h = record {
-  split = h.split ∙ ap (λ l. past ++ l) (sym a.left);
-  devices = a.devices ∙ h.devices;
-  so = λ n. ap (λ x. spec_there x p) a.shape ∙ h.so n;
-}
+unnamed_rest w p past u v a h = grind arith
 
 abbrev Unnamed_on : World → List ℕ → World → Type 0
 Unnamed_on w p u = (past : List Event) × Unnamed w p past u

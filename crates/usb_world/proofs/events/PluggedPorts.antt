@@ -1,14 +1,13 @@
 -- Which devices stand at ports: calls, packets and resets leave them, and an event puts one there
 -- or takes it away.
-use Rattle.std.proofs.Common.{◌≡◌, ℕ, zero, suc, if◌then◌else◌, ◌&&◌, Bool, true, false, List, []}
-use Rattle.std.proofs.Common.{◌∷◌, Option, None, Some, option_map, refl, ap, ap₂, ◌∙◌}
-use Rattle.usb_port.specs.{is_attached, PortCall, called_port, is_reset}
+use Rattle.std.proofs.Common.{arith}
+use Rattle.std.proofs.Common.{◌≡◌, ℕ, zero, suc, Bool, true, List, []}
+use Rattle.std.proofs.Common.{◌∷◌, Option, option_map, refl, ap, ap₂, ◌∙◌}
+use Rattle.usb_port.specs.{PortCall}
 use Rattle.usb_device.specs.{Effect, Leaves, Calls, PortsOff, Sent, Spec, Hub, fresh, reset_state}
 use Rattle.usb_device.specs.{Ports, ended, vacant, taken, empty, full, before, all_off, new_ports}
-use Rattle.usb_device.specs.{first_ports, called, reset_where, replaced, changed, changed_at, acted}
-use Rattle.usb_device.specs.{state_at, answer_of, effect_of, after_packet, all_forgotten}
-use Rattle.usb_device.specs.{state_there}
-use Rattle.usb_device.specs.Tree.{Place}
+use Rattle.usb_device.specs.{first_ports, called, replaced, changed, changed_at, acted, state_at}
+use Rattle.usb_device.specs.{after_packet, all_forgotten, state_there, Place}
 use Rattle.usb_world.specs.{Damage, Attempt, ports_in, token_out, payload_out, reply_out, hub_ports}
 use Rattle.usb_world.specs.{spec_of}
 use Rattle.usb_tree.specs.{after_sent, after_attempt}
@@ -28,25 +27,19 @@ over (full b s a) x = stands s.spec (shape a) x
 
 over_before : (q : Place) (k : Ports) → shape (before q k) ≡ over q (shape k)
 unfolding shape
-over_before (empty b) k = refl
-over_before (full b s a) k = refl
+over_before q k = grind arith
 
 spec_of-shape : (k : Ports) (i : ℕ) (p : List ℕ) → option_map spec_of (state_at k i p)
     ≡ spec_at (shape k) i p
 unfolding shape state_at spec_at
-spec_of-shape ended i p = refl
-spec_of-shape (vacant b k) zero p = refl
 spec_of-shape (vacant b k) (suc i) p = spec_of-shape k i p
-spec_of-shape (taken b s a k) zero [] = refl
-spec_of-shape (taken b s a k) zero (zero ∷ p) = refl
 spec_of-shape (taken b s a k) zero (suc j ∷ p) = spec_of-shape a j p
 spec_of-shape (taken b s a k) (suc i) p = spec_of-shape k i p
+spec_of-shape k i p = refl
 
 pub described_there : (k : Ports) (p : List ℕ) → option_map spec_of (state_there k p)
     ≡ spec_there (shape k) p
-described_there k [] = refl
-described_there k (zero ∷ p) = refl
-described_there k (suc i ∷ p) = spec_of-shape k i p
+described_there k p = grind (arith, spec_of-shape)
 
 -- What changes no device
 
@@ -58,32 +51,24 @@ shape_off (taken b s a k) = ap (stands s.spec (shape a)) (shape_off k)
 
 over_called : (c : PortCall) (q : Place) (x : Shape) → over (called c q) x ≡ over q x
 unfolding reset_state
-over_called c (empty b) x = refl
-over_called c (full b s a) x = split (is_reset c && (b.power && is_attached b.attached))
-  where
-    split : (y : Bool) → over (reset_where y (called_port c b) s a) x ≡ stands s.spec (shape a) x
-    split true = ap (λ z. stands s.spec z x) (shape_off a)
-    split false = refl
+over_called c q x = grind (arith, shape_off, stands)
 
 shape_called : (c : PortCall) (k : Ports) (i : ℕ) (p : List ℕ) → shape (changed_at (called c) k i p)
     ≡ shape k
 unfolding shape changed_at
-shape_called c ended i p = refl
 shape_called c (vacant b k) zero [] = over_before (called c (empty b)) k
     ∙ over_called c (empty b) (shape k)
-shape_called c (vacant b k) zero (n ∷ p) = refl
 shape_called c (vacant b k) (suc i) p = ap gap (shape_called c k i p)
 shape_called c (taken b s a k) zero [] = over_before (called c (full b s a)) k
     ∙ over_called c (full b s a) (shape k)
-shape_called c (taken b s a k) zero (zero ∷ p) = refl
 shape_called c (taken b s a k) zero (suc j ∷ p) =
     ap (λ z. stands s.spec z (shape k)) (shape_called c a j p)
 shape_called c (taken b s a k) (suc i) p = ap (stands s.spec (shape a)) (shape_called c k i p)
+shape_called c k i p = refl
 
 pub shape_root : (c : PortCall) (k : Ports) (p : List ℕ) → shape (changed (called c) k p) ≡ shape k
-shape_root c k [] = refl
-shape_root c k (zero ∷ p) = refl
 shape_root c k (suc i ∷ p) = shape_called c k i p
+shape_root c k p = refl
 
 shape_acted : (e : Effect) (k : Ports) → shape (acted e k) ≡ shape k
 shape_acted Leaves k = refl
@@ -94,23 +79,11 @@ shape_packet : (q : Sent) (deep : Bool) (k : Ports) → shape (after_packet q de
 unfolding shape after_packet
 shape_packet q deep ended = refl
 shape_packet q deep (vacant b k) = ap gap (shape_packet q deep k)
-shape_packet q deep (taken b s a k) = split b.enable (shape_packet q true a) (shape_packet q deep k)
-  where
-    split : (x : Bool) → shape (after_packet q true a) ≡ shape a → shape (after_packet q deep k)
-        ≡ shape k
-        → shape (if x then taken b (answer_of q deep s a).1
-        (acted (effect_of q deep s) (after_packet q true a)) (after_packet q deep k)
-        else taken b s a (after_packet q deep k))
-        ≡ stands s.spec (shape a) (shape k)
-    split true g r =
-        ap (λ t. stands t (shape (acted (effect_of q deep s) (after_packet q true a)))
-        (shape (after_packet q deep k))) (answer-spec q deep s a)
-        ∙ ap₂ (stands s.spec) (shape_acted (effect_of q deep s) (after_packet q true a) ∙ g) r
-    split false g r = ap (stands s.spec (shape a)) r
+shape_packet q deep (taken b s a k) =
+    grind (arith, shape_packet q true a, shape_packet q deep k, answer-spec, shape_acted, stands)
 
 shape_sent : (o : Option Sent) (k : Ports) → shape (after_sent o k) ≡ shape k
-shape_sent None k = refl
-shape_sent (Some q) k = shape_packet q false k
+shape_sent o k = grind (arith, shape_packet)
 
 shape_forgotten : (k : Ports) → shape (all_forgotten k) ≡ shape k
 unfolding shape all_forgotten
@@ -119,8 +92,7 @@ shape_forgotten (vacant b k) = ap gap (shape_forgotten k)
 shape_forgotten (taken b s a k) = ap₂ (stands s.spec) (shape_forgotten a) (shape_forgotten k)
 
 shape_after : (t d r : Option Sent) (k : Ports) → shape (after_attempt t d r k) ≡ shape k
-shape_after t d r k = shape_forgotten (after_sent r (after_sent d (after_sent t k)))
-    ∙ shape_sent r (after_sent d (after_sent t k)) ∙ shape_sent d (after_sent t k) ∙ shape_sent t k
+shape_after t d r k = grind (arith, shape_forgotten, shape_sent)
 
 pub shape_attempt : (a : Attempt) (d : Option Damage) (k : Ports) → shape (ports_in a d k) ≡ shape k
 unfolding ports_in
@@ -135,31 +107,26 @@ shape_new (suc n) = ap gap (shape_new n)
 
 shape_first : (o : Option Hub) → shape (first_ports o) ≡ gaps (hub_ports o)
 unfolding shape gaps
-shape_first None = refl
-shape_first (Some hub) = shape_new hub.ports
+shape_first o = grind (arith, shape_new)
 
 over_replaced : (o : Option Spec) (q : Place) (x : Shape) → over (replaced o q) x ≡ put_first o x
 unfolding fresh
-over_replaced None q x = refl
-over_replaced (Some t) q x = ap (λ z. stands t z x) (shape_first t.hub)
+over_replaced o q x = grind (arith, shape_first, stands)
 
 shape_replaced : (o : Option Spec) (k : Ports) (i : ℕ) (p : List ℕ)
     → shape (changed_at (replaced o) k i p) ≡ put_at o (shape k) i p
 unfolding shape changed_at put_at
-shape_replaced o ended i p = refl
 shape_replaced o (vacant b k) zero [] = over_before (replaced o (empty b)) k
     ∙ over_replaced o (empty b) (shape k)
-shape_replaced o (vacant b k) zero (n ∷ p) = refl
 shape_replaced o (vacant b k) (suc i) p = ap gap (shape_replaced o k i p)
 shape_replaced o (taken b s a k) zero [] = over_before (replaced o (full b s a)) k
     ∙ over_replaced o (full b s a) (shape k)
-shape_replaced o (taken b s a k) zero (zero ∷ p) = refl
 shape_replaced o (taken b s a k) zero (suc j ∷ p) =
     ap (λ z. stands s.spec z (shape k)) (shape_replaced o a j p)
 shape_replaced o (taken b s a k) (suc i) p = ap (stands s.spec (shape a)) (shape_replaced o k i p)
+shape_replaced o k i p = refl
 
 pub shape_event : (o : Option Spec) (k : Ports) (p : List ℕ) → shape (changed (replaced o) k p)
     ≡ shape_with o (shape k) p
-shape_event o k [] = refl
-shape_event o k (zero ∷ p) = refl
 shape_event o k (suc i ∷ p) = shape_replaced o k i p
+shape_event o k p = refl

@@ -1,6 +1,6 @@
 -- Which devices stand where, as a tree, and what an event makes of it.
 use Rattle.std.proofs.Common.{◌≡◌, ℕ, zero, suc, ◌&&◌, Bool, true, false, List, [], ◌∷◌, ◌++◌}
-use Rattle.std.proofs.Common.{Option, None, Some, ◌<◌, refl, ap, sym, arith}
+use Rattle.std.proofs.Common.{Option, None, Some, ◌<◌, refl, sym, arith}
 use Rattle.std.specs.Prelude.{⊤}
 use Rattle.usb_device.specs.{Spec}
 use Rattle.usb_tree.specs.{same_number, same_path, is_way, on_way}
@@ -30,19 +30,16 @@ spec_there x (suc i ∷ p) = spec_at x i p
 
 -- whether a port stands there
 unfoldable pub has_at : Shape → ℕ → List ℕ → Bool
-has_at bare i p = false
 has_at (gap x) zero [] = true
-has_at (gap x) zero (n ∷ p) = false
 has_at (gap x) (suc i) p = has_at x i p
 has_at (stands t a x) zero [] = true
-has_at (stands t a x) zero (zero ∷ p) = false
 has_at (stands t a x) zero (suc j ∷ p) = has_at a j p
 has_at (stands t a x) (suc i) p = has_at x i p
+has_at x i p = false
 
 abbrev pub has_there : Shape → List ℕ → Bool
-has_there x [] = false
-has_there x (zero ∷ p) = false
 has_there x (suc i ∷ p) = has_at x i p
+has_there x p = false
 
 -- so many ports, and each device has as many as its description says
 unfoldable pub ShapeFits : Shape → ℕ → Type 0
@@ -74,17 +71,15 @@ put_at o (stands t a x) zero (suc j ∷ p) = stands t (put_at o a j p) x
 put_at o (stands t a x) (suc i) p = stands t a (put_at o x i p)
 
 abbrev pub shape_with : Option Spec → Shape → List ℕ → Shape
-shape_with o x [] = x
-shape_with o x (zero ∷ p) = x
 shape_with o x (suc i ∷ p) = put_at o x i p
+shape_with o x p = x
 
 -- What stands there
 
 pub empty_gaps : (n j : ℕ) (p : List ℕ) → spec_at (gaps n) j p ≡ None
 unfolding gaps spec_at
-empty_gaps zero j p = refl
-empty_gaps (suc n) zero p = refl
 empty_gaps (suc n) (suc j) p = empty_gaps n j p
+empty_gaps n j p = refl
 
 -- nothing stands below an empty place
 below_none : (x : Shape) (i : ℕ) (e : List ℕ) (j : ℕ) (p : List ℕ) → on_way i e j p ≡ true
@@ -92,30 +87,23 @@ below_none : (x : Shape) (i : ℕ) (e : List ℕ) (j : ℕ) (p : List ℕ) → o
 unfolding spec_at is_way
 below_none bare i e j p w h = refl
 below_none (gap x) zero e zero p w h = refl
-below_none (gap x) zero e (suc j) p w h = false_true w
 below_none (gap x) (suc i) e zero p w h = refl
 below_none (gap x) (suc i) e (suc j) p w h = below_none x i e j p w h
 below_none (stands t a x) zero [] zero p w h = cc
-below_none (stands t a x) zero (n ∷ e) zero [] w h = false_true w
 below_none (stands t a x) zero (n ∷ e) zero (zero ∷ p) w h = refl
-below_none (stands t a x) zero (zero ∷ e) zero (suc j ∷ p) w h = false_true w
 below_none (stands t a x) zero (suc i ∷ e) zero (suc j ∷ p) w h = below_none a i e j p w h
-below_none (stands t a x) zero [] (suc j) p w h = false_true w
-below_none (stands t a x) zero (n ∷ e) (suc j) p w h = false_true w
-below_none (stands t a x) (suc i) e zero p w h = false_true w
 below_none (stands t a x) (suc i) e (suc j) p w h = below_none x i e j p w h
+below_none x i e j p w h = false_true w
 
 put_here : (t : Spec) (x : Shape) (i : ℕ) (e : List ℕ) → has_at x i e ≡ true
     → spec_at (put_at (Some t) x i e) i e ≡ Some t
 unfolding spec_at put_at has_at
-put_here t bare i e h = false_true h
 put_here t (gap x) zero [] h = refl
-put_here t (gap x) zero (n ∷ e) h = false_true h
 put_here t (gap x) (suc i) e h = put_here t x i e h
 put_here t (stands s a x) zero [] h = refl
-put_here t (stands s a x) zero (zero ∷ e) h = false_true h
 put_here t (stands s a x) zero (suc i ∷ e) h = put_here t a i e h
 put_here t (stands s a x) (suc i) e h = put_here t x i e h
+put_here t x i e h = false_true h
 
 -- nothing stands below what was just plugged
 put_below : (t : Spec) (x : Shape) (i : ℕ) (e : List ℕ) (j : ℕ) (p : List ℕ) → on_way i e j p ≡ true
@@ -126,24 +114,15 @@ put_below t (gap x) zero [] zero [] w h = false_true (sym h)
 put_below t (gap x) zero [] zero (zero ∷ p) w h = refl
 put_below t (gap x) zero [] zero (suc n ∷ p) w h = empty_gaps (hub_ports t.hub) n p
 put_below t (gap x) zero (m ∷ e) zero p w h = refl
-put_below t (gap x) zero [] (suc j) p w h = false_true w
-put_below t (gap x) zero (m ∷ e) (suc j) p w h = false_true w
-put_below t (gap x) (suc i) e zero p w h = false_true w
 put_below t (gap x) (suc i) e (suc j) p w h = put_below t x i e j p w h
 put_below t (stands s a x) zero [] zero [] w h = false_true (sym h)
 put_below t (stands s a x) zero [] zero (zero ∷ p) w h = refl
 put_below t (stands s a x) zero [] zero (suc n ∷ p) w h = empty_gaps (hub_ports t.hub) n p
-put_below t (stands s a x) zero (zero ∷ e) zero [] w h = false_true w
 put_below t (stands s a x) zero (zero ∷ e) zero (zero ∷ p) w h = refl
-put_below t (stands s a x) zero (zero ∷ e) zero (suc j ∷ p) w h = false_true w
-put_below t (stands s a x) zero (suc i ∷ e) zero [] w h = false_true w
 put_below t (stands s a x) zero (suc i ∷ e) zero (zero ∷ p) w h = refl
 put_below t (stands s a x) zero (suc i ∷ e) zero (suc j ∷ p) w h = put_below t a i e j p w h
-put_below t (stands s a x) zero [] (suc j) p w h = false_true w
-put_below t (stands s a x) zero (zero ∷ e) (suc j) p w h = false_true w
-put_below t (stands s a x) zero (suc i ∷ e) (suc j) p w h = false_true w
-put_below t (stands s a x) (suc i) e zero p w h = false_true w
 put_below t (stands s a x) (suc i) e (suc j) p w h = put_below t x i e j p w h
+put_below t x i e j p w h = false_true w
 
 -- nothing stands where something was unplugged, nor below it
 off_below : (x : Shape) (i : ℕ) (e : List ℕ) (j : ℕ) (p : List ℕ) → on_way i e j p ≡ true
@@ -152,89 +131,52 @@ unfolding spec_at put_at is_way
 off_below bare i e j p w = refl
 off_below (gap x) zero [] zero p w = refl
 off_below (gap x) zero (m ∷ e) zero p w = refl
-off_below (gap x) zero [] (suc j) p w = false_true w
-off_below (gap x) zero (m ∷ e) (suc j) p w = false_true w
-off_below (gap x) (suc i) e zero p w = false_true w
 off_below (gap x) (suc i) e (suc j) p w = off_below x i e j p w
 off_below (stands s a x) zero [] zero p w = refl
-off_below (stands s a x) zero (zero ∷ e) zero [] w = false_true w
 off_below (stands s a x) zero (zero ∷ e) zero (zero ∷ p) w = refl
-off_below (stands s a x) zero (zero ∷ e) zero (suc j ∷ p) w = false_true w
-off_below (stands s a x) zero (suc i ∷ e) zero [] w = false_true w
 off_below (stands s a x) zero (suc i ∷ e) zero (zero ∷ p) w = refl
 off_below (stands s a x) zero (suc i ∷ e) zero (suc j ∷ p) w = off_below a i e j p w
-off_below (stands s a x) zero [] (suc j) p w = false_true w
-off_below (stands s a x) zero (zero ∷ e) (suc j) p w = false_true w
-off_below (stands s a x) zero (suc i ∷ e) (suc j) p w = false_true w
-off_below (stands s a x) (suc i) e zero p w = false_true w
 off_below (stands s a x) (suc i) e (suc j) p w = off_below x i e j p w
+off_below x i e j p w = false_true w
 
 put_other : (o : Option Spec) (x : Shape) (i : ℕ) (e : List ℕ) (j : ℕ) (p : List ℕ)
     → on_way i e j p ≡ false → spec_at (put_at o x i e) j p ≡ spec_at x j p
 unfolding spec_at put_at is_way
-put_other o bare i e j p w = refl
 put_other o (gap x) zero [] zero p w = false_true (sym w)
 put_other None (gap x) zero [] (suc j) p w = refl
-put_other (Some t) (gap x) zero [] (suc j) p w = refl
-put_other o (gap x) zero (m ∷ e) j p w = refl
-put_other o (gap x) (suc i) e zero p w = refl
 put_other o (gap x) (suc i) e (suc j) p w = put_other o x i e j p w
 put_other o (stands s a x) zero [] zero p w = false_true (sym w)
 put_other None (stands s a x) zero [] (suc j) p w = refl
-put_other (Some t) (stands s a x) zero [] (suc j) p w = refl
-put_other o (stands s a x) zero (zero ∷ e) j p w = refl
-put_other o (stands s a x) zero (suc i ∷ e) zero [] w = refl
-put_other o (stands s a x) zero (suc i ∷ e) zero (zero ∷ p) w = refl
 put_other o (stands s a x) zero (suc i ∷ e) zero (suc j ∷ p) w = put_other o a i e j p w
-put_other o (stands s a x) zero (suc i ∷ e) (suc j) p w = refl
-put_other o (stands s a x) (suc i) e zero [] w = refl
 put_other o (stands s a x) (suc i) e zero (zero ∷ p) w = refl
-put_other o (stands s a x) (suc i) e zero (suc j ∷ p) w = refl
 put_other o (stands s a x) (suc i) e (suc j) p w = put_other o x i e j p w
+put_other o x i e j p w = refl
 
 -- The same of paths
 
 pub there_none : (x : Shape) (e p : List ℕ) → is_way e p ≡ true → (e ≡ [] → ⊥)
     → spec_there x e ≡ None → spec_there x p ≡ None
 unfolding is_way
-there_none x [] p w f h = elim (f refl) [ ]
-there_none x (n ∷ e) [] w f h = refl
-there_none x (n ∷ e) (zero ∷ p) w f h = refl
-there_none x (zero ∷ e) (suc j ∷ p) w f h = false_true w
-there_none x (suc i ∷ e) (suc j ∷ p) w f h = below_none x i e j p w h
+there_none x e p w f h = grind (arith, below_none)
 
 pub there_here : (t : Spec) (x : Shape) (e : List ℕ) → has_there x e ≡ true
     → spec_there (shape_with (Some t) x e) e ≡ Some t
-there_here t x [] h = false_true h
-there_here t x (zero ∷ e) h = false_true h
-there_here t x (suc i ∷ e) h = put_here t x i e h
+there_here t x e h = grind (arith, put_here)
 
 pub there_below : (t : Spec) (x : Shape) (e p : List ℕ) → has_there x e ≡ true → is_way e p ≡ true
     → same_path e p ≡ false → spec_there (shape_with (Some t) x e) p ≡ None
 unfolding is_way
-there_below t x [] p f w h = false_true f
-there_below t x (zero ∷ e) p f w h = false_true f
-there_below t x (suc i ∷ e) [] f w h = refl
-there_below t x (suc i ∷ e) (zero ∷ p) f w h = refl
-there_below t x (suc i ∷ e) (suc j ∷ p) f w h = put_below t x i e j p w h
+there_below t x e p f w h = grind (arith, put_below)
 
 pub there_off : (x : Shape) (e p : List ℕ) → (e ≡ [] → ⊥) → is_way e p ≡ true
     → spec_there (shape_with None x e) p ≡ None
 unfolding is_way
-there_off x [] p f w = elim (f refl) [ ]
-there_off x (n ∷ e) [] f w = refl
-there_off x (n ∷ e) (zero ∷ p) f w = refl
-there_off x (zero ∷ e) (suc j ∷ p) f w = false_true w
-there_off x (suc i ∷ e) (suc j ∷ p) f w = off_below x i e j p w
+there_off x e p f w = grind (arith, off_below)
 
 pub there_other : (o : Option Spec) (x : Shape) (e p : List ℕ) → is_way e p ≡ false
     → spec_there (shape_with o x e) p ≡ spec_there x p
 unfolding is_way
-there_other o x [] p w = refl
-there_other o x (zero ∷ e) p w = refl
-there_other o x (suc i ∷ e) [] w = refl
-there_other o x (suc i ∷ e) (zero ∷ p) w = refl
-there_other o x (suc i ∷ e) (suc j ∷ p) w = put_other o x i e j p w
+there_other o x e p w = grind (arith, put_other)
 
 -- Ports
 
@@ -246,56 +188,42 @@ fits_gaps (suc n) = fits_gaps n
 fits_first : (o : Option Spec) (x : Shape) (n : ℕ) → ShapeFits x n
     → ShapeFits (put_first o x) (suc n)
 unfolding ShapeFits
-fits_first None x n h = h
-fits_first (Some t) x n h = (fits_gaps (hub_ports t.hub), h)
+fits_first o x n h = grind (arith, fits_gaps)
 
 fits_at : (o : Option Spec) (x : Shape) (n i : ℕ) (e : List ℕ) → ShapeFits x n
     → ShapeFits (put_at o x i e) n
 unfolding ShapeFits put_at
-fits_at o bare n i e h = h
 fits_at o (gap x) zero i e h = elim h [ ]
 fits_at o (gap x) (suc n) zero [] h = fits_first o x n h
-fits_at o (gap x) (suc n) zero (m ∷ e) h = h
 fits_at o (gap x) (suc n) (suc i) e h = fits_at o x n i e h
 fits_at o (stands s a x) zero i e h = elim h [ ]
 fits_at o (stands s a x) (suc n) zero [] h = fits_first o x n h.1
-fits_at o (stands s a x) (suc n) zero (zero ∷ e) h = h
 fits_at o (stands s a x) (suc n) zero (suc j ∷ e) h = (fits_at o a (hub_ports s.hub) j e h.0, h.1)
 fits_at o (stands s a x) (suc n) (suc i) e h = (h.0, fits_at o x n i e h.1)
+fits_at o x n i e h = h
 
 pub fits_there : (o : Option Spec) (x : Shape) (n : ℕ) (e : List ℕ) → ShapeFits x n
     → ShapeFits (shape_with o x e) n
-fits_there o x n [] h = h
-fits_there o x n (zero ∷ e) h = h
-fits_there o x n (suc i ∷ e) h = fits_at o x n i e h
+fits_there o x n e h = grind (arith, fits_at)
 
 pub has_first : (x : Shape) (n i : ℕ) → ShapeFits x n → i < n → has_at x i [] ≡ true
 unfolding ShapeFits has_at
 has_first bare zero i f h = absurd (omega (arith, h))
-has_first bare (suc n) i f h = elim f [ ]
-has_first (gap x) zero i f h = elim f [ ]
 has_first (gap x) (suc n) zero f h = refl
 has_first (gap x) (suc n) (suc i) f h = has_first x n i f (omega (arith, h))
-has_first (stands s a x) zero i f h = elim f [ ]
 has_first (stands s a x) (suc n) zero f h = refl
 has_first (stands s a x) (suc n) (suc i) f h = has_first x n i f.1 (omega (arith, h))
+has_first x n i f h = elim f [ ]
 
 -- a device has each port of its number
 pub has_at-below : (x : Shape) (n i : ℕ) (p : List ℕ) (t : Spec) (m : ℕ) → ShapeFits x n
     → spec_at x i p ≡ Some t → m < hub_ports t.hub → has_at x i (p ++ (suc m ∷ [])) ≡ true
 unfolding ShapeFits has_at spec_at
-has_at-below bare n i p t m f e h = cc
 has_at-below (gap x) zero i p t m f e h = elim f [ ]
-has_at-below (gap x) (suc n) zero p t m f e h = cc
 has_at-below (gap x) (suc n) (suc i) p t m f e h = has_at-below x n i p t m f e h
 has_at-below (stands s a x) zero i p t m f e h = elim f [ ]
-has_at-below (stands s a x) (suc n) zero [] t m f e h =
-    has_first a (hub_ports s.hub) m f.0 (omega (arith, ap count e, h))
-  where
-    count : Option Spec → ℕ
-    count None = 0
-    count (Some t) = hub_ports t.hub
-has_at-below (stands s a x) (suc n) zero (zero ∷ p) t m f e h = cc
+has_at-below (stands s a x) (suc n) zero [] t m f e h = grind (arith, has_first)
 has_at-below (stands s a x) (suc n) zero (suc j ∷ p) t m f e h =
     has_at-below a (hub_ports s.hub) j p t m f.0 e h
 has_at-below (stands s a x) (suc n) (suc i) p t m f e h = has_at-below x n i p t m f.1 e h
+has_at-below x n i p t m f e h = cc

@@ -44,15 +44,7 @@ path_cmp-other q e n = ⊎_elim (λ y. false_true (sym n ∙ ap (same_path e) (f
 insert_here : (tree : PluggedMap) (e : List ℕ) (d : ℕ) → index_at (insert_entry path_cmp tree e d) e
     ≡ Some d
 insert_here [] e d = rw (self_found e) refl
-insert_here (x ∷ tree) e d = split (path_cmp e x.0) refl (insert_here tree e d)
-  where
-    split : (r : Ordering) → path_cmp e x.0 ≡ r → index_at (insert_entry path_cmp tree e d) e
-        ≡ Some d
-        → index_at (match_ordering r ((e, d) ∷ x ∷ tree) ((x.0, d) ∷ tree)
-        (x ∷ insert_entry path_cmp tree e d)) e ≡ Some d
-    split Less h ih = rw (self_found e) refl
-    split Equal h ih = rw h refl
-    split Greater h ih = rw h ih
+insert_here (x ∷ tree) e d = grind (arith, insert_here tree e d, self_found)
 
 insert_other : (tree : PluggedMap) (e : List ℕ) (d : ℕ) (q : List ℕ) → is_eq (path_cmp q e) ≡ false
     → index_at (insert_entry path_cmp tree e d) q ≡ index_at tree q
@@ -86,10 +78,7 @@ PlugAgrees ds (Some t) (Some d) = slice_get ds d ≡ Some t
 
 pub told_of : (ds : List Spec) (o : Option Spec) (d : Option ℕ) → PlugAgrees ds o d
     → o ≡ device_indexed ds d
-told_of ds None None h = refl
-told_of ds None (Some d) h = elim h [ ]
-told_of ds (Some t) None h = elim h [ ]
-told_of ds (Some t) (Some d) h = sym h
+told_of ds o d h = grind arith
 
 plug_agrees_none : (ds : List Spec) (o : Option Spec) (d : Option ℕ) → PlugAgrees ds o d → d ≡ None
     → o ≡ None
@@ -106,55 +95,28 @@ pub agrees_plug : (ds : List Spec) (x : Shape) (tree : PluggedMap) (e : List ℕ
     → slice_get ds d ≡ Some t → has_there x e ≡ true → index_at tree e ≡ None
     → Agrees ds x tree → Agrees ds (shape_with (Some t) x e) (insert_entry path_cmp tree e d)
 agrees_plug ds x tree e d t is port free a q =
-    ⊎_elim here (λ n. ⊎_elim (below n) (away n) (decided (is_way e q))) (decided (same_path e q))
-  where
-    here : same_path e q ≡ true → PlugAgrees ds (spec_there (shape_with (Some t) x e) q)
-        (index_at (insert_entry path_cmp tree e d) q)
-    here s = subst (λ p. PlugAgrees ds (spec_there (shape_with (Some t) x e) p)
-        (index_at (insert_entry path_cmp tree e d) p)) (sym (same_is e q s))
-        (told_by ds _ (Some t) _ (Some d) (there_here t x e port) (insert_here tree e d) is)
-
-    some : e ≡ [] → ⊥
-    some z = false_true (ap (has_there x) (sym z) ∙ port)
-
-    below : same_path e q ≡ false → is_way e q ≡ true
-        → PlugAgrees ds (spec_there (shape_with (Some t) x e) q)
-        (index_at (insert_entry path_cmp tree e d) q)
-    below n w =
-        let none : spec_there x q ≡ None =
-        there_none x e q w some (plug_agrees_none ds (spec_there x e) (index_at tree e) (a e)
-        free) in
-        told_by ds _ None _ (index_at tree q) (there_below t x e q port w n)
-        (insert_other tree e d q (path_cmp-other q e n))
-        (subst (λ o. PlugAgrees ds o (index_at tree q)) none (a q))
-
-    away : same_path e q ≡ false → is_way e q ≡ false
-        → PlugAgrees ds (spec_there (shape_with (Some t) x e) q)
-        (index_at (insert_entry path_cmp tree e d) q)
-    away n w = told_by ds _ (spec_there x q) _ (index_at tree q) (there_other (Some t) x e q w)
-        (insert_other tree e d q (path_cmp-other q e n)) (a q)
+    grind (
+      arith,
+      has_there,
+      insert_here,
+      insert_other,
+      path_cmp-other,
+      plug_agrees_none,
+      same_is,
+      shape_with,
+      spec_there,
+      there_below,
+      there_here,
+      there_none,
+      there_other,
+      told_by,
+    )
 
 pub agrees_unplug : (ds : List Spec) (x : Shape) (tree : PluggedMap) (e : List ℕ)
     → is_some (index_at tree e) ≡ true → Agrees ds x tree
     → Agrees ds (shape_with None x e) (plugged_without e tree)
-agrees_unplug ds x tree e is a q = ⊎_elim below away (decided (is_way e q))
-  where
-    found : (d : Option ℕ) → PlugAgrees ds None d → is_some d ≡ true → ⊥
-    found None h y = false_true y
-    found (Some d) h y = h
-
-    some : e ≡ [] → ⊥
-    some z = found (index_at tree []) (a []) (ap (λ p. is_some (index_at tree p)) (sym z) ∙ is)
-
-    below : is_way e q ≡ true → PlugAgrees ds (spec_there (shape_with None x e) q)
-        (index_at (plugged_without e tree) q)
-    below w = told_by ds _ None _ None (there_off x e q some w) (unplugged_at tree e q
-        ∙ ap (λ b. cond (not b) (index_at tree q) None) w) tt
-
-    away : is_way e q ≡ false → PlugAgrees ds (spec_there (shape_with None x e) q)
-        (index_at (plugged_without e tree) q)
-    away w = told_by ds _ (spec_there x q) _ (index_at tree q) (there_other None x e q w)
-        (unplugged_at tree e q ∙ ap (λ b. cond (not b) (index_at tree q) None) w) (a q)
+agrees_unplug ds x tree e is a q =
+    grind (arith, shape_with, spec_there, there_off, there_other, told_by, unplugged_at)
 
 -- Where a plan has a port, one stands
 
@@ -169,12 +131,8 @@ has_there-below x n [] m fits is some h = absurd (omega (arith, is.0))
 has_there-below x n (zero ∷ p) m fits is some h =
     absurd (omega (arith, (All-head IsPortNumber zero p is.2).0))
 has_there-below x n (suc i ∷ p) zero fits is some h = absurd (omega (arith, some))
-has_there-below x n (suc i ∷ p) (suc m) fits is some h = split (spec_at x i p) refl h
-  where
-    split : (o : Option Spec) → spec_at x i p ≡ o → suc m ≤ spec_port_count o
-        → has_there x (suc i ∷ p ++ suc m ∷ []) ≡ true
-    split None e h = absurd (omega (arith, h))
-    split (Some t) e h = has_at-below x n i p t m fits e (omega (arith, h))
+has_there-below x n (suc i ∷ p) (suc m) fits is some h =
+    grind (arith, has_at-below, has_there, spec_at)
 
 port_of_parent : (ds : List Spec) (x : Shape) (n : ℕ) (tree : PluggedMap) (e p : List ℕ)
     → ShapeFits x n → Agrees ds x tree → IsPath e → parent_of e ≡ Some p

@@ -1,12 +1,13 @@
 -- One device over attempts: what it was before, seen from where it is reachable now.
+use Rattle.std.proofs.Common.{arith}
 use Rattle.std.proofs.Common.{◌≡◌, ℕ, zero, suc, ◌==◌, ◌&&◌, ◌⊎◌, inl, inr, Bool, true, false, List}
 use Rattle.std.proofs.Common.{[], ◌∷◌, Option, None, Some, is_some, refl, ap, ap₂, sym, subst, ◌∙◌}
 use Rattle.std.proofs.lemmas.Option.{same_Some}
 use Rattle.usb_packet.specs.{Toggle}
-use Rattle.usb_device.specs.{State, Reply, Way, Ports, ended, vacant, taken, reach_at, state_at}
+use Rattle.usb_device.specs.{State, Reply, Way, Ports, vacant, taken, reach_at, state_at}
 use Rattle.usb_device.specs.{state_on, Location, path_to, reach_on}
 use Rattle.usb_device.specs.Attempt.{whole}
-use Rattle.usb_world.specs.{Attempt, Damage, World, at_attempt, damage_in, attempt, after}
+use Rattle.usb_world.specs.{Attempt, World, at_attempt, damage_in, attempt, after}
 use Rattle.usb_world.specs.{made_resets, resets, is_setup, token_way, payload_way, answer_way}
 use Rattle.usb_world.specs.{reply_way, IsSetup, IsOut, IsIn, hears_attempt, IsMade, HolderIn}
 use Rattle.usb_world.specs.{Relation, Was, EachWas, Ways, DidIn, DidOut, DidSetup}
@@ -77,18 +78,15 @@ each_both R S old new x y = each_beside R S (λ j s v. R j s v × S j s v) (Unit
 reach-is_some : (k : Ports) (j : ℕ) (p : List ℕ) → reach_at k j p ≡ true
     → is_some (state_at k j p) ≡ true
 unfolding reach_at state_at
-reach-is_some ended j p h = false_true h
-reach-is_some (vacant b k) zero p h = false_true h
 reach-is_some (vacant b k) (suc j) p h = reach-is_some k j p h
 reach-is_some (taken b s a k) zero [] h = refl
-reach-is_some (taken b s a k) zero (zero ∷ p) h = false_true h
 reach-is_some (taken b s a k) zero (suc j ∷ p) h =
     reach-is_some a j p (both b.enable (reach_at a j p) h).1
 reach-is_some (taken b s a k) (suc j) p h = reach-is_some k j p h
+reach-is_some k j p h = false_true h
 
 reset_if-no : (b : Bool) (s : State) → b ≡ false → Some (reset_if b s) ≡ Some s
-reset_if-no true s h = false_true (sym h)
-reset_if-no false s h = refl
+reset_if-no b s h = grind arith
 
 -- The ways of the packets
 
@@ -115,13 +113,7 @@ ways_as a w x s t1 t2 t3 c = record {
 
 clear_or_not : (a : Attempt) (w : World) (x : Location) (s : State) → Clear a w x s
     ⊎ (Clear a w x s → ⊥)
-clear_or_not a w x s = pick (damage_in w) refl (decided (hears_attempt a (deep_at false x.rest) s))
-  where
-    pick : (o : Option Damage) → damage_in w ≡ o → (hears_attempt a (deep_at false x.rest) s ≡ true)
-        ⊎ (hears_attempt a (deep_at false x.rest) s ≡ false) → Clear a w x s ⊎ (Clear a w x s → ⊥)
-    pick None n (inl g) = inl (n, g)
-    pick None n (inr g) = inr (λ c. false_true (sym g ∙ c.1))
-    pick (Some d) n g = inr (λ c. false_true (sym (ap is_some (sym n ∙ c.0))))
+clear_or_not a w x s = grind arith
 
 -- two spots whose numbers and paths are the same
 is_spot : (x y : Location) → (same_number x.row y.row && same_path x.rest y.rest) ≡ true → y ≡ x
@@ -180,17 +172,15 @@ module _ (a : Attempt) (w : World) (m : IsMade a w) (u : (after (attempt a) w).s
 
     of_holder : (h : HolderIn a w) → (s : State) → state_on (at_attempt w).roots j ≡ Some s
         → R j s v
-    of_holder h s e = pick (decided (same_number j.row h.spot.row && same_path j.rest h.spot.rest))
-      where
-        pick : ((same_number j.row h.spot.row && same_path j.rest h.spot.rest) ≡ true)
-            ⊎ ((same_number j.row h.spot.row && same_path j.rest h.spot.rest) ≡ false) → R j s v
-        pick (inl y) = of_itself h (is_spot j h.spot y) s e
-        pick (inr y) = of_other h y s e
+    of_holder h s e =
+        elim (decided (same_number j.row h.spot.row && same_path j.rest h.spot.rest)) [
+          | inl y ↦ of_itself h (is_spot j h.spot y) s e
+          | inr y ↦ of_other h y s e
+        ]
 
     of_any : HolderIn a w ⊎ NobodyHolds a.addr (at_attempt w).roots → (s : State)
         → state_on (at_attempt w).roots j ≡ Some s → R j s v
-    of_any (inl h) = of_holder h
-    of_any (inr n) = of_nobody n
+    of_any h = grind (arith, of_holder, of_nobody)
 
     at_place : Was R w j v
     at_place = go (state_on (at_attempt w).roots j) refl
@@ -288,10 +278,7 @@ module _ (a : Attempt) (w : World) (h : HolderIn a w) (v : State)
 data_resets_none : (a : Attempt) (w : World) → IsMade a w → is_setup a.kind ≡ false → (j : Location)
     → resets (attempt a) w (path_to j) ≡ false
 unfolding resets
-data_resets_none a w m kind j =
-    ap (λ x. x && made_resets a (at_attempt w) (path_to j)) (made_true a w m)
-    ∙ data_calm a (damage_in (at_attempt w)) (at_attempt w).roots (ready_settled w m.settled) kind
-    j.row j.rest
+data_resets_none a w m kind j = grind (arith, data_calm, made_true, ready_settled)
 
 pub each_holder : (a : Attempt) (w : World) → IsMade a w → is_setup a.kind ≡ false
     → (after (attempt a) w).shared ≡ false → (R : Relation)

@@ -1,9 +1,10 @@
 -- Where no address is held twice, one device holds the address of an attempt or none does.
+use Rattle.std.proofs.Common.{arith}
 use Rattle.std.proofs.Common.{◌≡◌, ◌⊎◌, inl, inr, true, false}
 use Rattle.usb_world.specs.{Attempt, World, at_attempt, outcome_in, attempt, after, IsMade}
 use Rattle.usb_world.specs.{HolderIn, AttemptAnswerer}
 use Rattle.usb_world.specs.declared.types.Outcome.TheVariants.{Nothing}
-use Rattle.usb_tree.specs.{NobodyHolds, Found}
+use Rattle.usb_tree.specs.{NobodyHolds}
 use Rattle.usb_tree.proofs.Interface.{decided}
 use Rattle.usb_tree.proofs.Interface.{who_holds}
 use Rattle.usb_world.proofs.holders.OneHolderAttempts.{nobody_in, silent_in}
@@ -11,12 +12,7 @@ use Rattle.usb_world.proofs.holders.OneHolderAttempts.{nobody_in, silent_in}
 -- one device holds the address of an attempt, or none does
 pub holder_or_nobody : (a : Attempt) (w : World) → IsMade a w → (after (attempt a) w).shared ≡ false
     → HolderIn a w ⊎ NobodyHolds a.addr (at_attempt w).roots
-holder_or_nobody a w m u = pick (who_holds a.addr (at_attempt w).roots)
-  where
-    pick : Found a.addr (at_attempt w).roots ⊎ NobodyHolds a.addr (at_attempt w).roots
-        → HolderIn a w ⊎ NobodyHolds a.addr (at_attempt w).roots
-    pick (inl y) = inl (record { made = m; single = u; found = y })
-    pick (inr y) = inr y
+holder_or_nobody a w m u = grind (arith, who_holds)
 
 -- what is answered comes from one device, which is not silent
 pub one_answers : (a : Attempt) (w : World) → IsMade a w → (after (attempt a) w).shared ≡ false

@@ -1,15 +1,13 @@
 -- What an attempt asks of ports, where one reachable device holds its address: it alone can ask
 -- anything.
-use Rattle.std.proofs.Common.{◌≡◌, ℕ, zero, suc, ◌==◌, ◌&&◌, ◌||◌, not, if◌then◌else◌, ◌⊎◌, inl}
+use Rattle.std.proofs.Common.{arith}
+use Rattle.std.proofs.Common.{◌≡◌, ℕ, zero, suc, ◌&&◌, not, if◌then◌else◌, ◌⊎◌, inl}
 use Rattle.std.proofs.Common.{inr, Bool, true, false, List, [], ◌∷◌, ◌++◌, Option, None, Some}
-use Rattle.std.proofs.Common.{is_some, refl, ap, ap₂, sym, subst, ◌∙◌}
-use Rattle.std.proofs.lemmas.Option.{same_Some}
-use Rattle.usb_request.specs.{PORT_ENABLE, PORT_RESET, PORT_POWER, C_PORT_ENABLE, C_PORT_RESET}
-use Rattle.usb_request.specs.{CLEAR_FEATURE, SET_FEATURE, SET_CONFIGURATION, DEVICE_OUT, PORT_OUT}
+use Rattle.std.proofs.Common.{refl, ap, ap₂, sym, subst, ◌∙◌}
+use Rattle.usb_request.specs.{PORT_RESET}
+use Rattle.usb_request.specs.{PORT_OUT}
 use Rattle.usb_request.specs.{Setup, setup_of}
-use Rattle.usb_port.specs.{PortCall, SetPower, SetReset, ClearEnable, ClearEnableChange}
-use Rattle.usb_port.specs.{ClearResetChange, set_call, clear_call}
-use Rattle.usb_device.specs.{Sent, Effect, Leaves, Calls, Is, State, Ports, state_at, path_to}
+use Rattle.usb_device.specs.{Sent, Effect, Leaves, Calls, State, Ports, state_at, path_to}
 use Rattle.usb_device.specs.{effect_of, after_packet}
 use Rattle.usb_device.specs.declared.transfer.RememberedPacket.TheVariants.{Nothing}
 use Rattle.usb_world.specs.{Attempt, token_out, payload_out, World, at_attempt, damage_in, attempt}
@@ -18,9 +16,9 @@ use Rattle.usb_world.specs.{sent_leaves, leaves_step, AsksNothing, is_port_reque
 use Rattle.usb_world.specs.{is_above}
 use Rattle.usb_tree.specs.{same_number, same_path, is_way, after_sent, IsTokenFor, IfOut, IsSettled}
 use Rattle.usb_tree.specs.{OneHolds, sent_keeps_pending, sent_resets, effect_resets, resets_at}
-use Rattle.usb_tree.specs.{keeps_pending, effect_keeps_pending, leaves_port}
-use Rattle.usb_tree.proofs.Interface.{false_true, both, decided, either_of, and_false, or_left}
-use Rattle.usb_tree.proofs.Interface.{or_right, not-true}
+use Rattle.usb_tree.specs.{effect_keeps_pending, leaves_port}
+use Rattle.usb_tree.proofs.Interface.{false_true, both, decided, and_false}
+use Rattle.usb_tree.proofs.Interface.{not-true}
 use Rattle.usb_world.proofs.packets.AttemptPackets.{calm_sent, token_out as token_calm}
 use Rattle.usb_world.proofs.holders.OneDevice.{settled_memory, rest_state, rested_effect}
 use Rattle.usb_world.proofs.holders.OneDevice.{token_calls, other_address}
@@ -32,7 +30,7 @@ use Rattle.usb_world.proofs.ports.PortRequests.{Allows, AllowsOut, PayloadAllows
 use Rattle.usb_world.proofs.ports.PortRequests.{payload_allowed}
 use Rattle.usb_tree.proofs.Interface.{OnWay, spares_if, way_leaves-on_way, resets_if}
 use Rattle.usb_world.proofs.ports.ChangeBits.{left_effect}
-use Rattle.usb_tree.proofs.Interface.{equal_same, self_number}
+use Rattle.usb_tree.proofs.Interface.{self_number}
 use Rattle.usb_tree.proofs.Interface.{unreset}
 use Rattle.usb_world.proofs.ways.Ways.{way_on}
 
@@ -68,71 +66,8 @@ rest_test a m r e = not (effect_resets e a m r)
 
 -- what each feature leaves pending at its own port
 
-set_spares : (v : ℕ) (c : PortCall) → set_call v ≡ Some c → keeps_pending c [] ≡ true
-set_spares v c h = split (v == PORT_POWER) (v == PORT_RESET) h
-  where
-    split : (x y : Bool) → (if x then Some SetPower else if y then Some SetReset else None) ≡ Some c
-        → keeps_pending c [] ≡ true
-    split true y e = ap (λ z. keeps_pending z []) (sym (same_Some SetPower c e))
-    split false true e = ap (λ z. keeps_pending z []) (sym (same_Some SetReset c e))
-    split false false e = false_true (ap is_some e)
-
-clear_call-spares : (v : ℕ) (c : PortCall)
-    → (v == PORT_ENABLE || (v == C_PORT_ENABLE || v == C_PORT_RESET)) ≡ true → clear_call v ≡ Some c
-    → keeps_pending c [] ≡ true
-clear_call-spares v c h e = pick (either_of (v == PORT_ENABLE)
-    (v == C_PORT_ENABLE || v == C_PORT_RESET) h)
-  where
-    found : (x : PortCall) → clear_call v ≡ Some x → keeps_pending x [] ≡ true
-        → keeps_pending c [] ≡ true
-    found x f g = ap (λ z. keeps_pending z []) (sym (same_Some x c (sym f ∙ e))) ∙ g
-
-    last : ((v == C_PORT_ENABLE) ≡ true) ⊎ ((v == C_PORT_RESET) ≡ true) → keeps_pending c [] ≡ true
-    last (inl y) = found ClearEnableChange (ap clear_call (equal_same v 17 y)) refl
-    last (inr y) = found ClearResetChange (ap clear_call (equal_same v 20 y)) refl
-
-    pick : ((v == PORT_ENABLE) ≡ true) ⊎ ((v == C_PORT_ENABLE || v == C_PORT_RESET) ≡ true)
-        → keeps_pending c [] ≡ true
-    pick (inl y) = found ClearEnable (ap clear_call (equal_same v 1 y)) refl
-    pick (inr y) = last (either_of (v == C_PORT_ENABLE) (v == C_PORT_RESET) y)
-
 sparing_asks : (r : Setup) → is_sparing r ≡ true → is_port_request r ≡ true
-sparing_asks r h = pick (either_of (Is r PORT_OUT SET_FEATURE &&
-    (r.value == PORT_RESET || r.value == PORT_POWER))
-    (Is r PORT_OUT CLEAR_FEATURE && (r.value == PORT_ENABLE ||
-    (r.value == C_PORT_ENABLE || r.value == C_PORT_RESET))) h)
-  where
-    pick : ((Is r PORT_OUT SET_FEATURE && (r.value == PORT_RESET || r.value == PORT_POWER)) ≡ true)
-        ⊎ ((Is r PORT_OUT CLEAR_FEATURE &&
-        (r.value == PORT_ENABLE || (r.value == C_PORT_ENABLE || r.value == C_PORT_RESET)))
-        ≡ true) → is_port_request r ≡ true
-    pick (inl y) = or_left (Is r PORT_OUT SET_FEATURE) (Is r PORT_OUT CLEAR_FEATURE)
-        (both (Is r PORT_OUT SET_FEATURE) (r.value == PORT_RESET || r.value == PORT_POWER) y).0
-    pick (inr y) = or_right (Is r PORT_OUT SET_FEATURE) (Is r PORT_OUT CLEAR_FEATURE)
-        (both (Is r PORT_OUT CLEAR_FEATURE) (r.value == PORT_ENABLE ||
-        (r.value == C_PORT_ENABLE || r.value == C_PORT_RESET)) y).0
-
-sparing_value : (r : Setup) → is_sparing r ≡ true → Is r PORT_OUT CLEAR_FEATURE ≡ true
-    → (r.value == PORT_ENABLE || (r.value == C_PORT_ENABLE || r.value == C_PORT_RESET)) ≡ true
-sparing_value r h e = pick (either_of (Is r PORT_OUT SET_FEATURE &&
-    (r.value == PORT_RESET || r.value == PORT_POWER))
-    (Is r PORT_OUT CLEAR_FEATURE && (r.value == PORT_ENABLE ||
-    (r.value == C_PORT_ENABLE || r.value == C_PORT_RESET))) h)
-  where
-    three : Is r PORT_OUT SET_FEATURE ≡ true → r.request ≡ SET_FEATURE
-    three y = equal_same r.request SET_FEATURE
-        (both (r.request_type == PORT_OUT) (r.request == SET_FEATURE) y).1
-
-    pick : ((Is r PORT_OUT SET_FEATURE && (r.value == PORT_RESET || r.value == PORT_POWER)) ≡ true)
-        ⊎ ((Is r PORT_OUT CLEAR_FEATURE &&
-        (r.value == PORT_ENABLE || (r.value == C_PORT_ENABLE || r.value == C_PORT_RESET)))
-        ≡ true) → (r.value == PORT_ENABLE ||
-        (r.value == C_PORT_ENABLE || r.value == C_PORT_RESET)) ≡ true
-    pick (inl y) = false_true (ap (λ x. x == 1) (sym (three (both (Is r PORT_OUT SET_FEATURE)
-        (r.value == PORT_RESET || r.value == PORT_POWER) y).0))
-        ∙ (both (r.request_type == PORT_OUT) (r.request == CLEAR_FEATURE) e).1)
-    pick (inr y) = (both (Is r PORT_OUT CLEAR_FEATURE)
-        (r.value == PORT_ENABLE || (r.value == C_PORT_ENABLE || r.value == C_PORT_RESET)) y).1
+sparing_asks r h = grind arith
 
 abbrev tail : List ℕ → List ℕ
 tail [] = []
@@ -230,11 +165,7 @@ module _ (a : Attempt) (w : World) (h : HolderIn a w) where
   pub elsewhere : (x : List ℕ) → is_above (suc j ∷ p) x ≡ false → AsksNothing (attempt a) w x
   unfolding step_keeps_pending resets leaves_step
   elsewhere [] u = record { spares = refl; rests = and_false (is_made w.fault w); leaves = refl }
-  elsewhere (zero ∷ x) u = record {
-    spares = refl;
-    rests = and_false (is_made w.fault w);
-    leaves = refl;
-  }
+  elsewhere (zero ∷ x) u = grind arith
   elsewhere (suc i ∷ x) u = record {
     spares = one_spares i x sent (λ m r z. not_under i x u m r z);
     rests = ap (λ y. is_made w.fault w && y) (one_rests i x sent (λ n m r z. not_under i x u m r z))
@@ -278,12 +209,7 @@ module _ (a : Attempt) (w : World) (h : HolderIn a w) where
       -- PORT_RESET resets at most the device on its own port
       rest_there : (c : Ports) (m : ℕ) (r : List ℕ)
           → same_path port_path (suc j ∷ (p ++ (suc m ∷ r))) ≡ false → Allows (rest_test c m r) r0
-      rest_there c m (y ∷ r) d = record {
-        rests = refl;
-        off = λ e. refl;
-        set = λ e x i f g. refl;
-        clear = λ e x i f g. refl;
-      }
+      rest_there c m (y ∷ r) d = grind arith
       rest_there c m [] d = record {
         rests = refl;
         off = λ e. refl;
@@ -295,45 +221,21 @@ module _ (a : Attempt) (w : World) (h : HolderIn a w) where
 
       pub other_rests : (x : List ℕ) → same_path port_path x ≡ false
           → made_resets a (at_attempt w) x ≡ false
-      other_rests [] d = refl
-      other_rests (zero ∷ x) d = refl
       other_rests (suc i ∷ x) d = one_rests i x sent (λ c m r z. data_allows (rest_test c m r)
           (rest_there c m r (ap (same_path port_path) (sym z) ∙ d)))
+      other_rests p d = refl
 
       module _ (asked : is_port_request r0 ≡ true) where
         of_port : r0.request_type ≡ PORT_OUT
-        of_port = pick (either_of (Is r0 PORT_OUT SET_FEATURE) (Is r0 PORT_OUT CLEAR_FEATURE) asked)
-          where
-            pick : (Is r0 PORT_OUT SET_FEATURE ≡ true) ⊎ (Is r0 PORT_OUT CLEAR_FEATURE ≡ true)
-                → r0.request_type ≡ PORT_OUT
-            pick (inl y) = equal_same r0.request_type PORT_OUT
-                (both (r0.request_type == PORT_OUT) (r0.request == SET_FEATURE) y).0
-            pick (inr y) = equal_same r0.request_type PORT_OUT
-                (both (r0.request_type == PORT_OUT) (r0.request == CLEAR_FEATURE) y).0
-
-        no_configuration : {A : Type 0} → Is r0 DEVICE_OUT SET_CONFIGURATION ≡ true → A
-        no_configuration y = false_true (ap (λ x. x == 0) (sym of_port)
-            ∙ (both (r0.request_type == DEVICE_OUT) (r0.request == SET_CONFIGURATION) y).0)
+        of_port = grind arith
 
         spare_there : (m : ℕ) (r : List ℕ) → same_number n (suc m) ≡ false
             → Allows (spare_test m r) r0
-        spare_there m r d = record {
-          rests = refl;
-          off = λ e. no_configuration e;
-          set = λ e x i f g. or_left (not (same_number i m)) (keeps_pending x r)
-              (ap not (other_number m i d g));
-          clear = λ e x i f g. or_left (not (same_number i m)) (keeps_pending x r)
-              (ap not (other_number m i d g));
-        }
+        spare_there m r d = grind arith
 
         leave_there : (m : ℕ) (r : List ℕ) → same_number n (suc m) ≡ false
             → Allows (leave_test m r) r0
-        leave_there m r d = record {
-          rests = refl;
-          off = λ e. no_configuration e;
-          set = λ e x i f g. ap not (other_number m i d g);
-          clear = λ e x i f g. ap not (other_number m i d g);
-        }
+        leave_there m r d = grind arith
 
         number_apart : (x : List ℕ) (m : ℕ) (r : List ℕ) → is_way port_path x ≡ false
             → x ≡ suc j ∷ (p ++ (suc m ∷ r)) → same_number n (suc m) ≡ false
@@ -344,21 +246,12 @@ module _ (a : Attempt) (w : World) (h : HolderIn a w) where
         unfolding is_way
         path_apart [] y d = false_true (sym d)
         path_apart (u ∷ x) [] d = refl
-        path_apart (u ∷ x) (v ∷ y) d = split (same_number u v) d (path_apart x y)
-          where
-            split : (z : Bool) → (z && is_way x y) ≡ false
-                → (is_way x y ≡ false → same_path x y ≡ false) → (z && same_path x y) ≡ false
-            split true d f = f d
-            split false d f = refl
+        path_apart (u ∷ x) (v ∷ y) d = grind (arith, path_apart x y)
 
         pub others_asked_nothing : (x : List ℕ) → is_way port_path x ≡ false
             → AsksNothing (attempt a) w x
         unfolding step_keeps_pending resets leaves_step
-        others_asked_nothing [] d = record {
-          spares = refl;
-          rests = and_false (is_made w.fault w);
-          leaves = refl;
-        }
+        others_asked_nothing [] d = grind arith
         others_asked_nothing (zero ∷ x) d =
             record { spares = refl; rests = and_false (is_made w.fault w); leaves = refl }
         others_asked_nothing (suc i ∷ x) d = record {
@@ -372,14 +265,7 @@ module _ (a : Attempt) (w : World) (h : HolderIn a w) where
         }
 
         self_there : is_sparing r0 ≡ true → (m : ℕ) → Allows (spare_test m []) r0
-        self_there y m = record {
-          rests = refl;
-          off = λ e. no_configuration e;
-          set = λ e x i f g. or_right (not (same_number i m)) (keeps_pending x [])
-              (set_spares r0.value x f);
-          clear = λ e x i f g. or_right (not (same_number i m)) (keeps_pending x [])
-              (clear_call-spares r0.value x (sparing_value r0 y e) f);
-        }
+        self_there y m = grind arith
 
         pub self_spared : is_sparing r0 ≡ true → step_keeps_pending (attempt a) w port_path ≡ true
         unfolding step_keeps_pending
@@ -390,5 +276,4 @@ module _ (a : Attempt) (w : World) (h : HolderIn a w) where
 pub self_asked : (a : Attempt) (w : World) (h : HolderIn a w) (bytes : List ℕ) → IsSetup a bytes
     → (n : ℕ) → (setup_of bytes).index ≡ n → is_sparing (setup_of bytes) ≡ true
     → step_keeps_pending (attempt a) w (path_to h.spot ++ (n ∷ [])) ≡ true
-self_asked a w h bytes is n names y = self_spared a w h bytes is n names
-    (sparing_asks (setup_of bytes) y) y
+self_asked a w h bytes is n names y = grind (arith, self_spared, sparing_asks)

@@ -1,17 +1,13 @@
 -- Between attempts nothing is remembered: so an attempt concerns the device at its address alone.
+use Rattle.std.proofs.Common.{arith}
 use Rattle.std.proofs.Common.{◌≡◌, ℕ, zero, suc, ◌==◌, ◌&&◌, ◌||◌, not, if◌then◌else◌, ◌⊎◌, inl}
 use Rattle.std.proofs.Common.{inr, Bool, true, false, List, [], ◌∷◌, ◌++◌, Option, None, Some}
-use Rattle.std.proofs.Common.{option_map, is_some, refl, ap, sym, subst, ◌∙◌}
-use Rattle.std.proofs.lemmas.Option.{same_Some}
-use Rattle.usb_packet.specs.{Packet, Token, Payload, Ack, Sof, Nak, Stall, Pre}
-use Rattle.usb_device.specs.{Answer, Content, Whole, Broken, Sent, Leaves, State, forgotten}
-use Rattle.usb_device.specs.{reset_state, asks, asked_by_packet, Ports, ended, vacant, taken, empty}
-use Rattle.usb_device.specs.{full, acted, reach_at, state_at, place_at, Location, place_on}
-use Rattle.usb_device.specs.{reach_on, hears, asked_by, answer_of, effect_of, after_packet, listed}
-use Rattle.usb_device.specs.{all_forgotten, forgotten_place}
+use Rattle.std.proofs.Common.{option_map, refl, ap, sym, subst, ◌∙◌}
+use Rattle.usb_device.specs.{Answer, Content, Sent, Leaves, State, forgotten, reset_state, asks}
+use Rattle.usb_device.specs.{Ports, ended, vacant, taken, empty, full, acted, reach_at, state_at}
+use Rattle.usb_device.specs.{place_at, Location, place_on, reach_on, asked_by, answer_of, effect_of}
+use Rattle.usb_device.specs.{after_packet, listed, all_forgotten, forgotten_place, Place, answers}
 use Rattle.usb_device.specs.declared.transfer.RememberedPacket.TheVariants.{Nothing}
-use Rattle.usb_device.specs.Tree.{Place}
-use Rattle.usb_device.specs.Delivery.{answers}
 use Rattle.usb_tree.specs.{address_of, same_number, same_path, resets_at, reset_if, after_sent}
 use Rattle.usb_tree.specs.{answers_to, after_attempt, deep_at, calls_on, IsTokenFor, IsDataOut}
 use Rattle.usb_tree.specs.{IsAckOut, IfOut, IsAttemptAt, sent_resets, attempt_resets, IsSettled}
@@ -60,38 +56,18 @@ pub record OneActs (t d r : Option Sent) (k : Ports) (x : Location) : Type 0 whe
 
 pub settled_memory : (k : Ports) (j : ℕ) (p : List ℕ) (s : State) → IsSettled k
     → state_at k j p ≡ Some s → s.memory ≡ Nothing
-settled_memory k j p s h e =
-    ap (λ x. x.memory) (same_Some s (forgotten s) (sym e ∙ ap (λ x. state_at x j p) (sym h)
-    ∙ forgotten_state k j p ∙ ap (option_map forgotten) e))
+settled_memory k j p s h e = grind (arith, forgotten_state)
 
 -- A device that remembers nothing asks nothing of its ports
 
-rested_packet : (s : State) (p : Packet) → s.memory ≡ Nothing → asked_by_packet s p ≡ Leaves
-rested_packet s (Payload t b) n = rw n refl
-rested_packet s (Token kind a e) n = refl
-rested_packet s Ack n = refl
-rested_packet s (Sof f) n = refl
-rested_packet s Nak n = refl
-rested_packet s Stall n = refl
-rested_packet s Pre n = refl
-
 rested_asks : (c : Content) (s : State) → s.memory ≡ Nothing → asked_by c s ≡ Leaves
 unfolding asks
-rested_asks (Whole p) s n = elim s.spec.silent
-    as (λ x. (if x then Leaves else asked_by_packet s p) ≡ Leaves) [
-      | true ↦ refl
-      | false ↦ rested_packet s p n
-    ]
-rested_asks Broken s n = refl
+rested_asks c s n = grind arith
 
 pub rested_effect : (q : Sent) (deep : Bool) (s : State) → s.memory ≡ Nothing
     → effect_of q deep s ≡ Leaves
 unfolding effect_of
-rested_effect q deep s n = elim (hears q deep s)
-    as (λ x. (if x then asked_by q.content s else Leaves) ≡ Leaves) [
-      | true ↦ rested_asks q.content s n
-      | false ↦ refl
-    ]
+rested_effect q deep s n = grind (arith, rested_asks)
 
 -- a packet for whom it is not meant
 abbrev pub IsRested : Sent → State → Type 0
@@ -154,11 +130,7 @@ OthersRest q k j p = (i : ℕ) (e : List ℕ) (t : State) → (same_number i j &
 pub others_way : (q : Sent) (deep : Bool) (k : Ports) (j : ℕ) (p : List ℕ) → OthersRest q k j p
     → way_rests q deep k j p ≡ true
 unfolding way_rests state_at reach_at
-others_way q deep ended j p c = refl
-others_way q deep (vacant b k) zero p c = refl
 others_way q deep (vacant b k) (suc j) p c = others_way q deep k j p (λ i e. c (suc i) e)
-others_way q deep (taken b s a k) zero [] c = refl
-others_way q deep (taken b s a k) zero (zero ∷ p) c = refl
 others_way q deep (taken b s a k) zero (suc j ∷ p) c =
     split b.enable refl (λ on. others_way q true a j p
     (λ i e t d h o. c zero (suc i ∷ e) t d h (and_of b.enable _ on o)))
@@ -168,6 +140,7 @@ others_way q deep (taken b s a k) zero (suc j ∷ p) c =
     split true on below = rw (rested_effect q deep s (c zero [] s refl refl on).0, below on) refl
     split false on below = refl
 others_way q deep (taken b s a k) (suc j) p c = others_way q deep k j p (λ i e. c (suc i) e)
+others_way q deep k j p c = refl
 
 pub append_nil : (xs : List Answer) → xs ++ [] ≡ xs
 append_nil [] = refl
@@ -177,8 +150,6 @@ pub others_answer : (q : Sent) (deep : Bool) (k : Ports) (j : ℕ) (p : List ℕ
     → reach_at k j p ≡ true → OthersRest q k j p
     → answers q deep k ≡ answer_at q (deep_at deep p) (place_at k j p)
 unfolding answers state_at reach_at place_at
-others_answer q deep ended j p h c = false_true h
-others_answer q deep (vacant b k) zero p h c = false_true h
 others_answer q deep (vacant b k) (suc j) p h c = others_answer q deep k j p h (λ i e. c (suc i) e)
 others_answer q deep (taken b s a k) zero [] h c =
     rw (
@@ -186,7 +157,6 @@ others_answer q deep (taken b s a k) zero [] h c =
       rest_answers q true a (λ i e t f on. c zero (suc i ∷ e) t refl f (and_of b.enable _ h on)),
       rest_answers q deep k (λ i e t f on. c (suc i) e t refl f on),
     ) refl
-others_answer q deep (taken b s a k) zero (zero ∷ p) h c = false_true h
 others_answer q deep (taken b s a k) zero (suc j ∷ p) h c =
     let on : _ = both b.enable (reach_at a j p) h in
     found on.0 (others_answer q true a j p on.1
@@ -221,29 +191,16 @@ others_answer q deep (taken b s a k) (suc j) p h c =
           ih,
         ) refl
     split false e ih = ih
+others_answer q deep k j p h c = false_true h
 
 -- For whom a packet is meant
 
 pub token_calls : (n : ℕ) (c : Content) (s : State) → IsTokenFor n c → (n == address_of s) ≡ false
     → calls_on c s ≡ false
-token_calls n (Whole (Token kind a e)) s h d = rw h d
-token_calls n (Whole (Payload t b)) s h d = refl
-token_calls n (Whole Ack) s h d = refl
-token_calls n (Whole (Sof f)) s h d = refl
-token_calls n (Whole Nak) s h d = refl
-token_calls n (Whole Stall) s h d = refl
-token_calls n (Whole Pre) s h d = refl
-token_calls n Broken s h d = refl
+token_calls n c s h d = grind arith
 
 pub payload_calls : (c : Content) (s : State) → IsDataOut c → calls_on c s ≡ false
-payload_calls (Whole (Token kind a e)) s h = elim h [ ]
-payload_calls (Whole (Payload t b)) s h = refl
-payload_calls (Whole Ack) s h = refl
-payload_calls (Whole (Sof f)) s h = refl
-payload_calls (Whole Nak) s h = refl
-payload_calls (Whole Stall) s h = refl
-payload_calls (Whole Pre) s h = refl
-payload_calls Broken s h = refl
+payload_calls c s h = grind arith
 
 -- Nobody holds the address: an attempt changes nothing, and nothing is answered
 
@@ -251,11 +208,7 @@ pub sent_to_nobody : (o : Option Sent) (k : Ports) → IsSettled k
     → ((q : Sent) → o ≡ Some q → (t : State) → ((i : ℕ) × (e : List ℕ) × (state_at k i e ≡ Some t)
     × (reach_at k i e ≡ true)) → calls_on q.content t ≡ false)
     → (after_sent o k ≡ k) × (answers_to o k ≡ [])
-sent_to_nobody None k s c = (refl, refl)
-sent_to_nobody (Some q) k s c = (rest_packet q false k rest, rest_answers q false k rest)
-  where
-    rest : AllRest q k
-    rest i e t h on = (settled_memory k i e t s h, c q refl t (i, e, h, on))
+sent_to_nobody o k s c = grind (arith, rest_answers, rest_packet, settled_memory)
 
 pub nobody_answers : (n : ℕ) (t d r : Option Sent) → IsAttemptAt n t d r → (k : Ports) → IsSettled k
     → NobodyHolds n k
@@ -298,23 +251,15 @@ stands (Some (full b s a)) = Some s
 
 pub state_stands : (k : Ports) (j : ℕ) (p : List ℕ) → stands (place_at k j p) ≡ state_at k j p
 unfolding state_at place_at
-state_stands ended j p = refl
 state_stands (vacant b k) zero [] = refl
-state_stands (vacant b k) zero (n ∷ p) = refl
 state_stands (vacant b k) (suc j) p = state_stands k j p
-state_stands (taken b s a k) zero [] = refl
-state_stands (taken b s a k) zero (zero ∷ p) = refl
 state_stands (taken b s a k) zero (suc j ∷ p) = state_stands a j p
 state_stands (taken b s a k) (suc j) p = state_stands k j p
+state_stands k j p = refl
 
 heard_rest : (q : Sent) (d on : Bool) (x : Option Place)
     → ((t : State) → stands x ≡ Some t → on ≡ true → IsRested q t) → heard_state q d on x ≡ stands x
-heard_rest q d on None c = refl
-heard_rest q d on (Some (empty b)) c = refl
-heard_rest q d true (Some (full b s a)) c =
-    let rest : IsRested q s = c s refl refl in
-    ap (λ x. Some x.1) (rested_answer q d s a rest.0 rest.1)
-heard_rest q d false (Some (full b s a)) c = refl
+heard_rest q d on x c = grind (arith, rested_answer)
 
 -- a packet that is not meant for a device leaves it as it is, or resets it
 pub rest_state : (q : Sent) (deep : Bool) (k : Ports) (i : ℕ) (e : List ℕ)
@@ -331,9 +276,7 @@ reset_forgot : (b : Bool) (o : Option State) (t : State)
     → ((s : State) → o ≡ Some s → s.memory ≡ Nothing) → option_map (reset_if b) o ≡ Some t
     → t.memory ≡ Nothing
 unfolding reset_state
-reset_forgot b None t c h = false_true (ap is_some h)
-reset_forgot true (Some s) t c h = ap (λ x. x.memory) (sym (same_Some (reset_state s) t h))
-reset_forgot false (Some s) t c h = ap (λ x. x.memory) (sym (same_Some s t h)) ∙ c s refl
+reset_forgot b o t c h = grind arith
 
 -- what one packet does then
 pub record SentToOne (o : Option Sent) (k : Ports) (x : Location) : Type 0 where
@@ -346,18 +289,11 @@ pub record SentToOne (o : Option Sent) (k : Ports) (x : Location) : Type 0 where
       → state_at (after_sent o k) i e ≡ option_map (reset_if (sent_resets o k i e)) (state_at k i e)
 
 unsent : (x : Option Place) (d : Bool) → x ≡ option_map (place_after_sent None d) x
-unsent None d = refl
-unsent (Some x) d = refl
+unsent x d = grind arith
 
 pub sent_to_one : (o : Option Sent) (k : Ports) (x : Location) → reach_on k x ≡ true
     → OthersForgot k x → OthersUncalled o k x → SentToOne o k x
-sent_to_one None k x on f c = record {
-  place = unsent (place_on k x) (deep_at false x.rest);
-  on = on;
-  answer = refl;
-  forgot = f;
-  others = λ i e d. reset_if-false (state_at k i e);
-}
+sent_to_one None k x on f c = grind (arith, reset_if-false, unsent)
 sent_to_one (Some q) k x on f c = record {
   place = way_place q false k x.row x.rest way
       ∙ ap (λ y. option_map (heard_place q (deep_at false x.rest) y) (place_on k x)) on;
@@ -382,8 +318,7 @@ sent_to_one (Some q) k x on f c = record {
 thrice : (f g h i : Place → Place) (o : Option Place)
     → option_map f (option_map g (option_map h (option_map i o)))
     ≡ option_map (λ x. f (g (h (i x)))) o
-thrice f g h i None = refl
-thrice f g h i (Some x) = refl
+thrice f g h i o = grind arith
 
 pub one_device : (n : ℕ) (t d r : Option Sent) → IsAttemptAt n t d r → (k : Ports) (at : Location)
     → IsSettled k → OneHolds n k at → OneActs t d r k at

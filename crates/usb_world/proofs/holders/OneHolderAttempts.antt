@@ -1,8 +1,8 @@
 -- A silent holder, attempts without damage, and the attempts of a world.
+use Rattle.std.proofs.Common.{arith}
 use Rattle.std.proofs.Common.{◌≡◌, ℕ, suc, ◌+◌, ◌&&◌, not, if◌then◌else◌, Bool, true, false, List}
 use Rattle.std.proofs.Common.{[], ◌∷◌, ◌++◌, Option, None, Some, is_some, refl, ap, ap₂, sym, subst}
 use Rattle.std.proofs.Common.{◌∙◌}
-use Rattle.arrayvec.specs.ArrayVec.{ArrayVec}
 use Rattle.usb_packet.specs.{Packet, Token, Toggle, InTok}
 use Rattle.usb_packet.specs.declared.Packet.TheVariants as packet
 use Rattle.usb_port.specs.{PortState}
@@ -10,27 +10,26 @@ use Rattle.usb_request.specs.{setup_of}
 use Rattle.usb_device.specs.declared.answer.Answer.TheVariants as answer
 use Rattle.usb_device.specs.{Content, Sent, State, Reply, forgotten, accepted, data_row, Way, lost}
 use Rattle.usb_device.specs.{through, heard, is_good, acked, setup_law, out_law, in_law, Ports}
-use Rattle.usb_device.specs.{row_of, state_at, state_on, hears, reply_to, listed, held_addresses}
+use Rattle.usb_device.specs.{row_of, state_at, state_on, reply_to, listed, held_addresses}
 use Rattle.usb_device.specs.{repeats}
 use Rattle.usb_device.specs.declared.delivery.Content.TheVariants as content
 use Rattle.usb_device.specs.Attempt.{whole}
 use Rattle.usb_device.proofs.Interface.{silent-stays, silent-unread}
 use Rattle.usb_world.specs.{Attempt, LimitReached, Damage, ExchangeAnswer, mark_of, harm_to, marked}
 use Rattle.usb_world.specs.{marked_some, token_of, payload_of, reply_of, answer_mark, goes_out}
-use Rattle.usb_world.specs.{heard_all, token_out, payload_out, reply_out, heard_in, mark_in}
+use Rattle.usb_world.specs.{heard_all, token_out, payload_out, heard_in, mark_in}
 use Rattle.usb_world.specs.{place_of_answer, ports_in, reply_in, World, Made, is_made, resets}
 use Rattle.usb_world.specs.{AnyStep, at_attempt, damage_in, with_attempt, outcome_in, attempt}
-use Rattle.usb_world.specs.{after, way_to, way_back, token_way, answer_way, reply_way, out_alone}
+use Rattle.usb_world.specs.{after, way_to, token_way, answer_way, reply_way, out_alone}
 use Rattle.usb_world.specs.{in_alone, IsSetup, IsOut, IsIn, hears_attempt, IsMade, HolderIn}
 use Rattle.usb_world.specs.{payload_way, got}
 use Rattle.usb_world.specs.declared.types.Outcome.TheVariants as outcome
-use Rattle.usb_world.specs.declared.exchange.ExchangeAnswer.TheVariants.{Nothing, One, Collision}
+use Rattle.usb_world.specs.declared.exchange.ExchangeAnswer.TheVariants.{Nothing}
 use Rattle.usb_world.specs.declared.wire.Mark.TheVariants as mark
 use Rattle.usb_tree.specs.{same_number, same_path, reset_if, heard_by, deep_at, attempt_resets}
 use Rattle.usb_tree.specs.{IsSettled, NobodyHolds}
-use Rattle.usb_tree.proofs.Interface.{false_true, neither}
 use Rattle.usb_world.proofs.courses.StepInvariants.{settled_steps}
-use Rattle.usb_world.proofs.courses.LiftedSteps.{over_ready, made_sound}
+use Rattle.usb_world.proofs.courses.LiftedSteps.{over_ready}
 use Rattle.usb_world.proofs.holders.OneHolder.{replied, outcome_unread, remembers, acts, rests}
 use Rattle.usb_world.proofs.holders.OneHolder.{first, second, third, second_below, is_heard_in}
 use Rattle.usb_world.proofs.holders.OneHolder.{is_state, token_of-fields, none_is, in_same, asked}
@@ -55,18 +54,11 @@ pub record ExchangedIn (a : Attempt) (w : World) (h : HolderIn a w) (r : Reply) 
 
 pub silent_reply : (c : Content) (s : State) (row : List PortState) → s.spec.silent ≡ true
     → reply_to c s row ≡ (None, s)
-silent_reply (content.Whole p) s row h = silent-stays s row p h
-silent_reply content.Broken s row h = ap (replied None) (silent-unread s h)
+silent_reply c s row h = grind (arith, replied, silent-stays, silent-unread)
 
 silent_heard : (o : Option Sent) (deep : Bool) (s : State) (row : List PortState)
     → s.spec.silent ≡ true → heard_by o deep s row ≡ (None, s)
-silent_heard None deep s row h = refl
-silent_heard (Some q) deep s row h =
-    elim (hears q deep s) as (λ x. ◌≡◌ {A = Reply}
-    (if x then reply_to q.content s row else (None, s)) (None, s)) [
-      | true ↦ silent_reply q.content s row h
-      | false ↦ refl
-    ]
+silent_heard o deep s row h = grind (arith, silent_reply)
 
 module _ (a : Attempt) (d : Option Damage) (k : Ports) (h : Holder a.addr k) where
   open h use {spot.{row as j, rest as p}, own as s, below}
@@ -76,14 +68,10 @@ module _ (a : Attempt) (d : Option Damage) (k : Ports) (h : Holder a.addr k) whe
     first_silent = silent_heard (token_out a d) (deep_at false p) s (row_of below) silent
 
     second_silent : second a d k h ≡ (None, s)
-    second_silent = ap (λ r. heard_by (payload_out a d) (deep_at false p) r.1 (row_of below))
-        first_silent ∙ silent_heard (payload_out a d) (deep_at false p) s (row_of below) silent
+    second_silent = grind (arith, first_silent, silent_heard)
 
     third_silent : third a d k h ≡ (None, s)
-    third_silent =
-        ap (λ r. heard_by (reply_out a d k) (deep_at false p) r.1 (row_of (second_below a d k h)))
-        second_silent
-        ∙ silent_heard (reply_out a d k) (deep_at false p) s (row_of (second_below a d k h)) silent
+    third_silent = grind (arith, second_below, second_silent, silent_heard)
 
     pub silent_one : ExchangedWithHolder a d k h (None, s)
     silent_one = record {
@@ -113,59 +101,31 @@ sound_some : (a : Attempt) (n : ℕ) (o : Option Packet) (deep : Bool) (s : Stat
     → hears_attempt a deep s ≡ true → is_some o ≡ true
     → way_to deep s (goes_out a (marked_some None n a.pre o)) ≡ whole
 unfolding marked_some
-sound_some a n None deep s h g = false_true g
-sound_some a n (Some p) deep s h g = sound_packet a n p deep s h
+sound_some a n o deep s h g = grind (arith, sound_packet)
 
 payload_some : (a : Attempt) → is_some a.payload ≡ true → is_some (payload_of a) ≡ true
 unfolding payload_of
-payload_some a g = go a.payload g
-  where
-    go : (o : Option (Toggle × ArrayVec ℕ)) → is_some o ≡ true
-        → is_some (elim o as (λ _. Option Packet) [
-          | None ↦ None
-          | Some x ↦ Some (packet.Payload x.0 x.1)
-        ]) ≡ true
-    go None g = g
-    go (Some x) g = refl
+payload_some a g = grind arith
 
 sound_answer : (n : ℕ) (h : ExchangeAnswer) → answer_mark (harm_to None n) h ≡ mark.Whole
 unfolding answer_mark mark_of harm_to
-sound_answer n Nothing = refl
-sound_answer n Collision = refl
-sound_answer n (One p) = refl
+sound_answer n h = grind arith
 
 marked_is : (n : ℕ) (pre : Bool) (o : Option Packet) → is_some (marked_some None n pre o)
     ≡ is_some o
 unfolding marked_some
-marked_is n pre None = refl
-marked_is n pre (Some p) = refl
+marked_is n pre o = grind arith
 
 pub undamaged : (a : Attempt) (k : Ports) (deep : Bool) (s : State) → hears_attempt a deep s ≡ true
     → AllWhole a None k deep s
-undamaged a k deep s h = record {
-  token = sound_packet a 1 (token_of a) deep s h;
-  payload = λ g. sound_some a 2 (payload_of a) deep s h (payload_some a g);
-  answer = ap way_back (sound_answer (place_of_answer a None) (heard_in a None k));
-  reply = λ g. sound_some a (place_of_answer a None + 1)
-      (reply_of (heard_in a None k) (mark_in a None k) a.max) deep s h
-      (sym (marked_is (place_of_answer a None + 1) a.pre
-      (reply_of (heard_in a None k) (mark_in a None k) a.max)) ∙ g);
-}
+undamaged a k deep s h =
+    grind (arith, marked_is, payload_some, sound_answer, sound_packet, sound_some)
 
 -- the host's ACK does not matter where it does not go out
 ack_whole : (row : List PortState) (max : ℕ) (t2 t3 : Way) (r : Reply)
     → (is_good max (heard t2 r.0) ≡ true → t3 ≡ whole)
     → acked row max t2 t3 r ≡ acked row max t2 whole r
-ack_whole row max t2 t3 r c = go (is_good max (heard t2 r.0)) c
-  where
-    go : (g : Bool) → (g ≡ true → t3 ≡ whole) → ◌≡◌ {A = Reply} (
-      heard t2 r.0,
-      forgotten (if g then (through t3 r.1 row packet.Ack).1 else r.1),
-    )
-        (heard t2 r.0, forgotten (if g then (through whole r.1 row packet.Ack).1 else r.1))
-    go true c = ap (λ t. replied (heard t2 r.0) (forgotten (through t r.1 row packet.Ack).1))
-        (c refl)
-    go false c = refl
+ack_whole row max t2 t3 r c = grind arith
 
 module _ (a : Attempt) (k : Ports) (h : Holder a.addr k) (loud : h.own.spec.silent ≡ false)
     (hears_it : hears_attempt a (deep_at false h.spot.rest) h.own ≡ true) where
@@ -243,25 +203,14 @@ after-limit_fault a w s e = rw (s, same_equal w.attempts w.limit e) refl
 -- an attempt that ends well was made
 pub made_of : (a : Attempt) (w : World) → IsSettled w.roots → Made w (after (attempt a) w)
     → IsMade a w
-made_of a w h m = record {
-  sound = m.sound;
-  within = λ e. false_true (ap is_some (sym m.still ∙ after-limit_fault a w m.sound e));
-  settled = h;
-}
+made_of a w h m = grind (arith, after-limit_fault)
 
 pub made_true : (a : Attempt) (w : World) → IsMade a w → is_made w.fault w ≡ true
 made_true a w m = rw (m.sound, unequal w.attempts w.limit m.within) refl
 
 pub made_here : (a : Attempt) (w : World) → is_made w.fault w ≡ true → IsSettled w.roots
     → IsMade a w
-made_here a w made settled = record {
-  sound = made_sound w made;
-  within = λ e.
-      let none : is_made w.fault w ≡ false =
-      ap (λ f. is_made f w) (made_sound w made) ∙ ap not (same_equal w.attempts w.limit e) in
-      cc (made, none);
-  settled = settled;
-}
+made_here a w made settled = grind arith
 
 pub damage_ready : (w : World) → damage_in (at_attempt w) ≡ damage_in w
 damage_ready w = ap damage_in (ready_beside w)
@@ -279,8 +228,7 @@ module _ (a : Attempt) (w : World) (h : HolderIn a w) where
 
   pub unshared : repeats (held_addresses (at_attempt w).roots) ≡ false
   unfolding with_attempt
-  unshared = (neither (at_attempt w).shared (repeats (held_addresses (at_attempt w).roots))
-      (sym (ap (λ v. v.shared) (made_is a w h.made)) ∙ h.single)).1
+  unshared = grind (arith, made_is)
 
   abbrev pub holder_in : Holder a.addr (at_attempt w).roots
   holder_in = record {
@@ -292,10 +240,7 @@ module _ (a : Attempt) (w : World) (h : HolderIn a w) where
   pub exchanged_in : (r : Reply) → ExchangedWithHolder a (damage_in (at_attempt w))
       (at_attempt w).roots holder_in r → ExchangedIn a w h r
   unfolding outcome_in with_attempt
-  exchanged_in r x = record {
-    outcome = x.outcome;
-    state = ap (λ v. state_at v.roots j p) (made_is a w h.made) ∙ x.state;
-  }
+  exchanged_in r x = grind (arith, made_is)
 
   pub setup_in : s.spec.silent ≡ false → (bytes : List ℕ) → IsSetup a bytes
       → ExchangedIn a w h (setup_alone a (damage_in (at_attempt w)) (at_attempt w).roots
@@ -342,9 +287,7 @@ module _ (a : Attempt) (w : World) (h : HolderIn a w) where
       (none : damage_in w ≡ None) where
     undamaged_in : (r : Reply) → ExchangedWithHolder a None (at_attempt w).roots holder_in r
         → ExchangedIn a w h r
-    undamaged_in r x = exchanged_in r
-        (subst (λ d. ExchangedWithHolder a d (at_attempt w).roots holder_in r)
-        (sym (damage_ready w ∙ none)) x)
+    undamaged_in r x = grind (arith, damage_ready, exchanged_in)
 
     pub setup_sound_in : (bytes : List ℕ) → IsSetup a bytes
         → ExchangedIn a w h (Some answer.Ack, accepted s (row_of below) (setup_of bytes))

@@ -1,8 +1,9 @@
 -- The ports of the one holder after an attempt: as they were, but for what its request asks of
 -- them.
-use Rattle.std.proofs.Common.{◌≡◌, ℕ, zero, suc, ◌+◌, ◌==◌, nat_le, ◌&&◌, if◌then◌else◌, ◌⊎◌, inl}
+use Rattle.std.proofs.Common.{arith}
+use Rattle.std.proofs.Common.{◌≡◌, ℕ, zero, suc, ◌+◌, ◌==◌, ◌&&◌, if◌then◌else◌, inl}
 use Rattle.std.proofs.Common.{inr, Bool, true, false, List, [], ◌∷◌, ◌++◌, length, Option, None}
-use Rattle.std.proofs.Common.{Some, option_map, is_some, refl, ap, ap₂, sym, subst, ◌∙◌}
+use Rattle.std.proofs.Common.{Some, option_map, is_some, refl, ap, ap₂, sym, ◌∙◌}
 use Rattle.std.proofs.lemmas.Option.{same_Some}
 use Rattle.arrayvec.specs.ArrayVec.{ArrayVec}
 use Rattle.usb_packet.specs.{Packet, Token, Toggle, Zero, OutTok, SetupTok}
@@ -10,16 +11,15 @@ use Rattle.usb_packet.specs.declared.Packet.TheVariants as packet
 use Rattle.usb_port.specs.{PortState}
 use Rattle.usb_request.specs.{setup_of}
 use Rattle.usb_device.specs.{Content, Sent, Effect, Leaves, Calls, PortsOff, State, Reply, received}
-use Rattle.usb_device.specs.{unread, forgotten, asks, asked_by_setup, asked_by_packet, Way, lost}
-use Rattle.usb_device.specs.{is_whole, through, is_own, Ports, ended, vacant, taken, empty, full}
-use Rattle.usb_device.specs.{acted, all_off, row_of, reach_at, state_at, place_at, is_heard}
-use Rattle.usb_device.specs.{asked_by, effect_of, after_packet, all_forgotten, forgotten_place}
+use Rattle.usb_device.specs.{unread, forgotten, asks, asked_by_setup, Way, lost, is_whole, through}
+use Rattle.usb_device.specs.{is_own, Ports, ended, vacant, taken, full, acted, all_off, row_of}
+use Rattle.usb_device.specs.{reach_at, state_at, place_at, effect_of, after_packet, all_forgotten}
+use Rattle.usb_device.specs.{forgotten_place, Place}
 use Rattle.usb_device.specs.declared.delivery.Content.TheVariants as content
 use Rattle.usb_device.specs.declared.transfer.RememberedPacket.TheVariants as memory
 use Rattle.usb_device.specs.Attempt.{whole, broken}
-use Rattle.usb_device.specs.Tree.{Place}
-use Rattle.usb_world.specs.{Attempt, Damage, ExchangeAnswer, Mark, is_read, mark_of, harm_to}
-use Rattle.usb_world.specs.{marked, marked_some, token_of, payload_of, reply_of, sent_as, goes_out}
+use Rattle.usb_world.specs.{Attempt, Damage, ExchangeAnswer, Mark, mark_of, harm_to, marked}
+use Rattle.usb_world.specs.{marked_some, token_of, payload_of, reply_of, sent_as, goes_out}
 use Rattle.usb_world.specs.{token_out, payload_out, reply_out, heard_in, mark_in, place_of_answer}
 use Rattle.usb_world.specs.{ports_in, World, at_attempt, damage_in, with_attempt, attempt, after}
 use Rattle.usb_world.specs.{way_to, token_way, payload_way, IsSetup, IsOut, IsIn, HolderIn}
@@ -49,45 +49,39 @@ use Rattle.usb_world.proofs.packets.PacketPlaces.{place_after_sent}
 -- What stands below the holder
 
 abbrev ports_below_place : Option Place → Ports
-ports_below_place None = ended
-ports_below_place (Some (empty b)) = ended
 ports_below_place (Some (full b s a)) = a
+ports_below_place o = ended
 
 below_settled : (k : Ports) (j : ℕ) (p : List ℕ) (b : PortState) (s : State) (below : Ports)
     → IsSettled k → place_at k j p ≡ Some (full b s below) → IsSettled below
-below_settled k j p b s below h e =
-    ap ports_below_place (sym (ap (option_map forgotten_place) e) ∙ sym (forgotten_at k j p)
-    ∙ ap (λ x. place_at x j p) h ∙ e)
+below_settled k j p b s below h e = grind (arith, forgotten_at)
 
 deeper_state : (k : Ports) (j : ℕ) (p : List ℕ) (b : PortState) (s : State) (below : Ports)
     → place_at k j p ≡ Some (full b s below) → (i : ℕ) (e : List ℕ)
     → state_at k j (p ++ (suc i ∷ e)) ≡ state_at below i e
 unfolding place_at state_at
-deeper_state ended j p b s below h i e = false_true (ap is_some h)
 deeper_state (vacant c k) zero [] b s below h i e = false_true (ap (λ x. is_some (stands x)) h)
-deeper_state (vacant c k) zero (n ∷ p) b s below h i e = false_true (ap is_some h)
 deeper_state (vacant c k) (suc j) p b s below h i e = deeper_state k j p b s below h i e
 deeper_state (taken c t a k) zero [] b s below h i e =
     ap (λ x. state_at (ports_below_place x) i e) h
-deeper_state (taken c t a k) zero (zero ∷ p) b s below h i e = false_true (ap is_some h)
 deeper_state (taken c t a k) zero (suc j ∷ p) b s below h i e = deeper_state a j p b s below h i e
 deeper_state (taken c t a k) (suc j) p b s below h i e = deeper_state k j p b s below h i e
+deeper_state k j p b s below h i e = false_true (ap is_some h)
 
 deeper_reach : (k : Ports) (j : ℕ) (p : List ℕ) (b : PortState) (s : State) (below : Ports)
     → place_at k j p ≡ Some (full b s below) → (i : ℕ) (e : List ℕ)
     → reach_at k j p ≡ true → reach_at below i e ≡ true → reach_at k j (p ++ (suc i ∷ e)) ≡ true
 unfolding place_at reach_at
 deeper_reach ended j p b s below h i e on o = false_true (ap is_some h)
-deeper_reach (vacant c k) zero p b s below h i e on o = false_true on
 deeper_reach (vacant c k) (suc j) p b s below h i e on o = deeper_reach k j p b s below h i e on o
 deeper_reach (taken c t a k) zero [] b s below h i e on o =
     and_of c.enable _ on (ap (λ x. reach_at (ports_below_place x) i e) h ∙ o)
-deeper_reach (taken c t a k) zero (zero ∷ p) b s below h i e on o = false_true on
 deeper_reach (taken c t a k) zero (suc j ∷ p) b s below h i e on o =
     let x : _ = both c.enable (reach_at a j p) on in
     and_of c.enable _ x.0 (deeper_reach a j p b s below h i e x.1 o)
 deeper_reach (taken c t a k) (suc j) p b s below h i e on o =
     deeper_reach k j p b s below h i e on o
+deeper_reach k j p b s below h i e on o = false_true on
 
 abbrev is_longer : List ℕ → Bool
 is_longer [] = false
@@ -104,17 +98,15 @@ path_not_longer (m ∷ p) n e h = path_not_longer p n e (ap rest_of h)
 below_nobody : (n : ℕ) (k : Ports) (j : ℕ) (p : List ℕ) (b : PortState) (s : State) (below : Ports)
     → OneHolds n k (record { row = j; rest = p }) → place_at k j p ≡ Some (full b s below)
     → NobodyHolds n below
-below_nobody n k j p b s below o h i e t at on = pick (decided (n == address_of t))
-  where
-    pick : ((n == address_of t) ≡ true) ⊎ ((n == address_of t) ≡ false)
-        → (n == address_of t) ≡ false
-    pick (inl y) =
-        let same : _ = is_twice-one_path k j (p ++ (suc i ∷ e)) j p n o.single
-        (deeper_reach k j p b s below h i e o.on on)
-        (ap (option_map address_of) (deeper_state k j p b s below h i e ∙ at)
-        ∙ ap (λ x. Some x) (sym (equal_same n (address_of t) y))) o.on o.at in
-        elim (path_not_longer p (suc i) e (sym same.1)) [ ]
-    pick (inr y) = y
+below_nobody n k j p b s below o h i e t at on = elim (decided (n == address_of t)) [
+  | inl y ↦
+      let same : _ = is_twice-one_path k j (p ++ (suc i ∷ e)) j p n o.single
+      (deeper_reach k j p b s below h i e o.on on)
+      (ap (option_map address_of) (deeper_state k j p b s below h i e ∙ at)
+      ∙ ap (λ x. Some x) (sym (equal_same n (address_of t) y))) o.on o.at in
+      elim (path_not_longer p (suc i) e (sym same.1)) [ ]
+  | inr y ↦ y
+]
 
 -- Packets that are not for those below
 
@@ -129,30 +121,18 @@ ForNobody p x = (i : ℕ) (e : List ℕ) (t : State) → state_at x i e ≡ Some
 
 sent_rests : (l pre : Bool) (m : Mark) (p : Packet) (x : Ports) → IsSettled x → ForNobody p x
     → below_after_sent (sent_as l pre m p) x ≡ x
-sent_rests l pre mark.Whole p x s f =
-    rest_packet (record { low = l; pre = pre; content = content.Whole p }) true x
-    (λ i e t h o. (settled_memory x i e t s h, f i e t h o))
-sent_rests l pre mark.Lost p x s f = refl
-sent_rests l pre mark.PreLost p x s f =
-    rest_packet (record { low = l; pre = false; content = content.Whole p }) true x
-    (λ i e t h o. (settled_memory x i e t s h, f i e t h o))
-sent_rests l pre (mark.Flipped bit) p x s f =
-    rest_packet (record { low = l; pre = pre; content = content.Broken }) true x
-    (λ i e t h o. (settled_memory x i e t s h, refl))
+sent_rests l pre m p x s f = grind (arith, rest_packet, settled_memory)
 
 token_rests : (a : Attempt) (d : Option Damage) (x : Ports) → IsSettled x → NobodyHolds a.addr x
     → below_after_sent (token_out a d) x ≡ x
 unfolding marked token_of
-token_rests a d x s f = sent_rests a.low a.pre (mark_of (harm_to d 1) a.pre (token_of a))
-    (token_of a) x s f
+token_rests a d x s f = grind (arith, sent_rests)
 
 some_rests : (a : Attempt) (d : Option Damage) (n : ℕ) (o : Option Packet) (x : Ports) → IsSettled x
     → ((p : Packet) → o ≡ Some p → ForNobody p x)
     → below_after_sent (goes_out a (marked_some d n a.pre o)) x ≡ x
 unfolding marked marked_some
-some_rests a d n None x s f = refl
-some_rests a d n (Some p) x s f = sent_rests a.low a.pre (mark_of (harm_to d n) a.pre p) p x s
-    (f p refl)
+some_rests a d n o x s f = grind (arith, sent_rests)
 
 -- data and an ACK are for no device that remembers nothing
 abbrev no_token : Option Packet → Bool
@@ -161,39 +141,15 @@ no_token o = true
 
 no_token_rests : (o : Option Packet) → no_token o ≡ true → (x : Ports) → (p : Packet) → o ≡ Some p
     → ForNobody p x
-no_token_rests o h x (Token kind n e) is i u t at on = false_true (sym (ap no_token is) ∙ h)
-no_token_rests o h x (packet.Payload toggle bytes) is i u t at on = refl
-no_token_rests o h x packet.Ack is i u t at on = refl
-no_token_rests o h x (packet.Sof f) is i u t at on = refl
-no_token_rests o h x packet.Nak is i u t at on = refl
-no_token_rests o h x packet.Stall is i u t at on = refl
-no_token_rests o h x packet.Pre is i u t at on = refl
+no_token_rests o h x p is i u t at on = grind arith
 
 payload_no_token : (a : Attempt) → no_token (payload_of a) ≡ true
 unfolding payload_of
-payload_no_token a = go a.payload
-  where
-    go : (o : Option (Toggle × ArrayVec ℕ))
-        → no_token (elim o as (λ _. Option Packet) [
-          | None ↦ None
-          | Some x ↦ Some (packet.Payload x.0 x.1)
-        ]) ≡ true
-    go None = refl
-    go (Some x) = refl
+payload_no_token a = grind arith
 
 reply_no_token : (h : ExchangeAnswer) (m : Mark) (max : ℕ) → no_token (reply_of h m max) ≡ true
 unfolding reply_of
-reply_no_token heard.Nothing m max = refl
-reply_no_token heard.Collision m max = refl
-reply_no_token (heard.One (packet.Payload t bytes)) m max =
-    elim (is_read m && nat_le (length bytes.items) max)
-    as (λ x. no_token (if x then Some packet.Ack else None) ≡ true) [ true ↦ refl | false ↦ refl ]
-reply_no_token (heard.One packet.Ack) m max = refl
-reply_no_token (heard.One (Token kind n e)) m max = refl
-reply_no_token (heard.One (packet.Sof f)) m max = refl
-reply_no_token (heard.One packet.Nak) m max = refl
-reply_no_token (heard.One packet.Stall) m max = refl
-reply_no_token (heard.One packet.Pre) m max = refl
+reply_no_token h m max = grind arith
 
 -- What the holder asks of its ports
 
@@ -203,13 +159,11 @@ asked_of (Some q) deep s = effect_of q deep s
 
 ports_asked : (deep : Bool) (b : PortState) (o : Option Sent) (s : State) (x : Ports)
     → ports_by deep b o s x ≡ acted (asked_of o deep s) (below_after_sent o x)
-ports_asked deep b None s x = refl
-ports_asked deep b (Some q) s x = refl
+ports_asked deep b o s x = grind arith
 
 pub calm_asked : (o : Option Sent) → CalmOut o → (deep : Bool) (s : State)
     → asked_of o deep s ≡ Leaves
-calm_asked None c deep s = refl
-calm_asked (Some q) c deep s = c deep s
+calm_asked o c deep s = grind arith
 
 acted_settled : (e : Effect) (x : Ports) → IsSettled x → IsSettled (acted e x)
 acted_settled Leaves x h = h
@@ -225,19 +179,7 @@ asked_through lost s p = Leaves
 asked_comes : (l pre : Bool) (m : Mark) (p : Packet) (deep : Bool) (s : State)
     → asked_of (sent_as l pre m p) deep s ≡ asked_through (way_to deep s (sent_as l pre m p)) s p
 unfolding effect_of
-asked_comes l pre mark.Whole p deep s =
-    elim (is_heard (record { low = l; pre = pre; content = content.Whole p }) deep s.spec.low)
-    as (λ x. (if x then asks s p else Leaves) ≡ asked_through (if x then whole else lost) s p)
-    [ true ↦ refl | false ↦ refl ]
-asked_comes l pre mark.Lost p deep s = refl
-asked_comes l pre mark.PreLost p deep s =
-    elim (is_heard (record { low = l; pre = false; content = content.Whole p }) deep s.spec.low)
-    as (λ x. (if x then asks s p else Leaves) ≡ asked_through (if x then whole else lost) s p)
-    [ true ↦ refl | false ↦ refl ]
-asked_comes l pre (mark.Flipped bit) p deep s =
-    elim (is_heard (record { low = l; pre = pre; content = content.Broken }) deep s.spec.low)
-    as (λ x. (if x then Leaves else Leaves) ≡ asked_through (if x then broken else lost) s p)
-    [ true ↦ refl | false ↦ refl ]
+asked_comes l pre m p deep s = grind arith
 
 some_asked : (a : Attempt) (d : Option Damage) (n : ℕ) (p : Packet) (deep : Bool) (s : State)
     → asked_of (goes_out a (marked_some d n a.pre (Some p))) deep s
@@ -248,10 +190,7 @@ some_asked a d n p deep s = asked_comes a.low a.pre (mark_of (harm_to d n) a.pre
 payload_asked : (a : Attempt) (d : Option Damage) (p : Packet) → payload_of a ≡ Some p
     → (deep : Bool) (s : State) → asked_of (payload_out a d) deep s
     ≡ asked_through (payload_way a d deep s) s p
-payload_asked a d p e deep s =
-    subst (λ o. asked_of (goes_out a (marked_some d 2 a.pre o)) deep s
-    ≡ asked_through (way_to deep s (goes_out a (marked_some d 2 a.pre o))) s p) (sym e)
-    (some_asked a d 2 p deep s)
+payload_asked a d p e deep s = grind (arith, some_asked)
 
 silent_asks : (s : State) (p : Packet) → s.spec.silent ≡ true → asks s p ≡ Leaves
 unfolding asks
@@ -260,16 +199,7 @@ silent_asks s p h = rw h refl
 silent_asked : (o : Option Sent) (deep : Bool) (s : State) → s.spec.silent ≡ true
     → asked_of o deep s ≡ Leaves
 unfolding effect_of
-silent_asked None deep s h = refl
-silent_asked (Some q) deep s h = elim (is_heard q deep s.spec.low)
-    as (λ x. (if x then asked_by q.content s else Leaves) ≡ Leaves) [
-      | true ↦ by_content q.content
-      | false ↦ refl
-    ]
-  where
-    by_content : (c : Content) → asked_by c s ≡ Leaves
-    by_content (content.Whole p) = silent_asks s p h
-    by_content content.Broken = refl
+silent_asked o deep s h = grind (arith, silent_asks)
 
 -- data after a token
 
@@ -277,16 +207,11 @@ silent_asked (Some q) deep s h = elim (is_heard q deep s.spec.low)
 payload_asks-leaves : (s : State) (t : Toggle) (bytes : ArrayVec ℕ) → s.memory ≡ memory.Nothing
     → asks s (packet.Payload t bytes) ≡ Leaves
 unfolding asks
-payload_asks-leaves s t bytes n = elim s.spec.silent
-    as (λ x. (if x then Leaves else asked_by_packet s (packet.Payload t bytes)) ≡ Leaves) [
-      | true ↦ refl
-      | false ↦ rw n refl
-    ]
+payload_asks-leaves s t bytes n = grind arith
 
 unread_rests : (s : State) → s.memory ≡ memory.Nothing → (unread s).memory ≡ memory.Nothing
 unfolding unread
-unread_rests s n = elim s.spec.silent
-    as (λ x. (if x then s else forgotten s).memory ≡ memory.Nothing) [ true ↦ n | false ↦ refl ]
+unread_rests s n = grind arith
 
 setup_seen : (s : State) (row : List PortState) → s.spec.silent ≡ false
     → received s row (Token SetupTok s.registers.address 0)
@@ -317,33 +242,15 @@ asked_setup : (s : State) (row : List PortState) → s.spec.silent ≡ false →
     → asked_through y (through x s row (Token SetupTok s.registers.address 0)).1
     (packet.Payload Zero (record { items = bytes }))
     ≡ (if is_whole x && is_whole y then asked_by_setup s (setup_of bytes) else Leaves)
-asked_setup s row loud n bytes len whole whole =
-    ap (λ r. asks r.1 (packet.Payload Zero (record { items = bytes }))) (setup_seen s row loud)
-    ∙ setup_asks s bytes loud len
-asked_setup s row loud n bytes len whole broken = refl
-asked_setup s row loud n bytes len whole lost = refl
-asked_setup s row loud n bytes len broken whole =
-    payload_asks-leaves (unread s) Zero (record { items = bytes }) (unread_rests s n)
-asked_setup s row loud n bytes len broken broken = refl
-asked_setup s row loud n bytes len broken lost = refl
-asked_setup s row loud n bytes len lost whole =
-    payload_asks-leaves s Zero (record { items = bytes }) n
-asked_setup s row loud n bytes len lost broken = refl
-asked_setup s row loud n bytes len lost lost = refl
+asked_setup s row loud n bytes len x y =
+    grind (arith, payload_asks-leaves, setup_asks, setup_seen, unread_rests)
 
 asked_through-out : (s : State) (row : List PortState) → s.spec.silent ≡ false
     → s.memory ≡ memory.Nothing → (e : ℕ) (t : Toggle) (bytes : List ℕ) → (x y : Way)
     → asked_through y (through x s row (Token OutTok s.registers.address e)).1
     (packet.Payload t (record { items = bytes })) ≡ Leaves
-asked_through-out s row loud n e t bytes whole whole =
-    ap (λ r. asks r.1 (packet.Payload t (record { items = bytes }))) (out_seen s row e loud)
-    ∙ out_asks s e t bytes loud
-asked_through-out s row loud n e t bytes broken whole =
-    payload_asks-leaves (unread s) t (record { items = bytes }) (unread_rests s n)
-asked_through-out s row loud n e t bytes lost whole =
-    payload_asks-leaves s t (record { items = bytes }) n
-asked_through-out s row loud n e t bytes x broken = refl
-asked_through-out s row loud n e t bytes x lost = refl
+asked_through-out s row loud n e t bytes x y =
+    grind (arith, out_asks, out_seen, payload_asks-leaves, unread_rests)
 
 module _ (a : Attempt) (d : Option Damage) (k : Ports) (h : Holder a.addr k) where
   open h use {spot.{row as j, rest as p}, port as b, own as s, below}
@@ -454,8 +361,7 @@ module _ (a : Attempt) (d : Option Damage) (k : Ports) (h : Holder a.addr k) whe
       ∙ asked_through-out s row loud remembers_nothing a.ep t bytes t1 t2
 
   in_effect : IsIn a → effect ≡ Leaves
-  in_effect i = ap (λ o. asked_of o (deep_at false p) (first a d k h).1)
-      (no_payload a d (none_is a i.payload))
+  in_effect i = grind (arith, first, no_payload, none_is)
 
   silent_effect : s.spec.silent ≡ true → effect ≡ Leaves
   silent_effect silent = ap (λ r. asked_of (payload_out a d) (deep_at false p) r.1)

@@ -1,17 +1,18 @@
 -- What an attempt's packets do to reachable, live and pending.
-use Rattle.std.proofs.Common.{◌≡◌, ℕ, zero, suc, if◌then◌else◌, Bool, true, false, List, [], ◌∷◌}
+use Rattle.std.proofs.Common.{arith}
+use Rattle.std.proofs.Common.{◌≡◌, ℕ, zero, suc, Bool, true, false, List, [], ◌∷◌}
 use Rattle.std.proofs.Common.{Option, None, Some, option_map, refl, ap, sym, ◌∙◌}
-use Rattle.usb_packet.specs.{Packet, Token, Payload, Ack, Sof, Nak, Stall, Pre}
+use Rattle.usb_packet.specs.{Packet}
 use Rattle.usb_port.specs.{PortState, powered_off}
-use Rattle.usb_device.specs.{Content, Whole, Broken, Sent, Effect, Leaves, RememberedPacket, State}
-use Rattle.usb_device.specs.{Reply, forgotten, received, unread, answered, is_own, asks, Ports}
-use Rattle.usb_device.specs.{ended, vacant, taken, full, all_off, acted, row_of, reach_at, state_at}
-use Rattle.usb_device.specs.{port_at, place_at, hears, reply_to, answer_of, asked_by, effect_of}
+use Rattle.usb_device.specs.{Content, Whole, Broken, Sent, Leaves, State}
+use Rattle.usb_device.specs.{forgotten, received, unread, asks, Ports}
+use Rattle.usb_device.specs.{ended, vacant, taken, all_off, reach_at, state_at}
+use Rattle.usb_device.specs.{port_at, place_at, reply_to, answer_of, asked_by, effect_of}
 use Rattle.usb_device.specs.{after_packet, all_forgotten, forgotten_place}
 use Rattle.usb_device.specs.declared.transfer.RememberedPacket.TheVariants.{Nothing}
 use Rattle.usb_world.specs.{Mark, sent_as, Consistent}
 use Rattle.usb_world.specs.declared.wire.Mark.TheVariants as mark
-use Rattle.usb_tree.specs.{has_power_at, pending_at, IsNew, effect_resets, effect_keeps_pending}
+use Rattle.usb_tree.specs.{has_power_at, pending_at, IsNew}
 use Rattle.usb_tree.specs.{after_sent, after_attempt, calls_on, IsTokenFor, IsAckOut, IfOut}
 use Rattle.usb_tree.specs.{IsAttemptAt, sent_resets, sent_keeps_pending, attempt_resets}
 use Rattle.usb_tree.specs.{attempt_keeps_pending, IsSettled}
@@ -21,7 +22,6 @@ use Rattle.usb_world.proofs.packets.PacketEffects.{packet_way, packet_kept}
 use Rattle.usb_world.proofs.ports.PortCalls.{KeepsPending}
 use Rattle.usb_world.proofs.ways.WayChanges.{SamePorts, same_ports, passed_ports}
 use Rattle.usb_world.proofs.ports.SanePorts.{sane_packet, sane_forgotten}
-use Rattle.usb_tree.proofs.Interface.{forgotten-nothing}
 
 -- no device asks anything of its ports
 abbrev pub IsCalm : Sent → Type 0
@@ -32,36 +32,15 @@ IsCalmContent c = (s : State) → asked_by c s ≡ Leaves
 
 calm_content : (q : Sent) → IsCalmContent q.content → IsCalm q
 unfolding effect_of
-calm_content q c deep s = elim (hears q deep s)
-    as (λ x. (if x then asked_by q.content s else Leaves) ≡ Leaves) [ true ↦ c s | false ↦ refl ]
-
-pub silent_calm : (s : State) → (if s.spec.silent then Leaves else Leaves) ≡ Leaves
-silent_calm s = elim s.spec.silent as (λ x. (if x then Leaves else Leaves) ≡ Leaves) [
-  | true ↦ refl
-  | false ↦ refl
-]
+calm_content q c deep s = grind arith
 
 token_calm : (n : ℕ) (c : Content) → IsTokenFor n c → IsCalmContent c
 unfolding asks
-token_calm n (Whole (Token kind a e)) h s = silent_calm s
-token_calm n (Whole (Payload t b)) h s = elim h [ ]
-token_calm n (Whole Ack) h s = elim h [ ]
-token_calm n (Whole (Sof f)) h s = elim h [ ]
-token_calm n (Whole Nak) h s = elim h [ ]
-token_calm n (Whole Stall) h s = elim h [ ]
-token_calm n (Whole Pre) h s = elim h [ ]
-token_calm n Broken h s = refl
+token_calm n c h s = grind arith
 
 ack_calm : (c : Content) → IsAckOut c → IsCalmContent c
 unfolding asks
-ack_calm (Whole Ack) h s = silent_calm s
-ack_calm (Whole (Payload t b)) h s = elim h [ ]
-ack_calm (Whole (Token kind a e)) h s = elim h [ ]
-ack_calm (Whole (Sof f)) h s = elim h [ ]
-ack_calm (Whole Nak) h s = elim h [ ]
-ack_calm (Whole Stall) h s = elim h [ ]
-ack_calm (Whole Pre) h s = elim h [ ]
-ack_calm Broken h s = refl
+ack_calm c h s = grind arith
 
 -- a packet that goes out, or not, and asks nothing
 abbrev pub CalmOut : Option Sent → Type 0
@@ -71,30 +50,21 @@ CalmOut (Some q) = IsCalm q
 -- what is so of a packet of the host, and of bytes that spell none, is so of what goes out of it
 pub sent_out : (P : Content → Type 0) → P Broken → (l pre : Bool) (m : Mark) (p : Packet)
     → P (Whole p) → IfOut P (sent_as l pre m p)
-sent_out P e l pre mark.Whole p h = h
-sent_out P e l pre mark.Lost p h = tt
-sent_out P e l pre mark.PreLost p h = h
-sent_out P e l pre (mark.Flipped b) p h = e
+sent_out P e l pre m p h = grind arith
 
 pub token_out : (n : ℕ) (o : Option Sent) → IfOut (IsTokenFor n) o → CalmOut o
-token_out n None h = tt
-token_out n (Some q) h = calm_content q (token_calm n q.content h)
+token_out n o h = grind (arith, calm_content, token_calm)
 
 pub ack_out : (o : Option Sent) → IfOut IsAckOut o → CalmOut o
-ack_out None h = tt
-ack_out (Some q) h = calm_content q (ack_calm q.content h)
+ack_out o h = grind (arith, ack_calm, calm_content)
 
 pub calm_sent : (o : Option Sent) → CalmOut o → (k : Ports) (j : ℕ) (p : List ℕ)
     → sent_resets o k j p ≡ false
-calm_sent None c k j p = refl
-calm_sent (Some q) c k j p =
-    resets_if q false k j p (λ e m r t z at dp a. ap (λ x. effect_resets x a m r) (c dp t))
+calm_sent o c k j p = grind (arith, resets_if)
 
 calm_sent_spares : (o : Option Sent) → CalmOut o → (k : Ports) (j : ℕ) (p : List ℕ)
     → sent_keeps_pending o k j p ≡ true
-calm_sent_spares None c k j p = refl
-calm_sent_spares (Some q) c k j p =
-    spares_if q false k j p (λ e m r t z at dp. ap (λ x. effect_keeps_pending x m r) (c dp t))
+calm_sent_spares o c k j p = grind (arith, spares_if)
 
 -- One packet
 
@@ -114,8 +84,7 @@ sent_kept None k j p f = (λ h. h, λ h. h)
 sent_kept (Some q) k j p f = packet_kept q false k j p f
 
 sent_sane : (o : Option Sent) (k : Ports) → Consistent k → Consistent (after_sent o k)
-sent_sane None k h = h
-sent_sane (Some q) k h = sane_packet q false k h
+sent_sane o k h = grind (arith, sane_packet)
 
 -- Forgetting
 
@@ -140,12 +109,7 @@ forgotten_way ended j p = (same_ports ended j p, refl, refl, λ h. h)
 forgotten_way (vacant b k) zero [] = (same_ports (vacant b k) zero [], refl, refl, λ h. h)
 forgotten_way (vacant b k) zero (n ∷ p) = (same_ports (vacant b k) zero (n ∷ p), refl, refl, λ h. h)
 forgotten_way (vacant b k) (suc j) p = forgotten_way k j p
-forgotten_way (taken b s a k) zero [] = (
-  same_ports (taken b s a k) zero [],
-  refl,
-  refl,
-  λ h. (h.0, h.1, refl, forgotten_off a ∙ ap all_forgotten h.3),
-)
+forgotten_way (taken b s a k) zero [] = grind (arith, forgotten_off, same_ports)
 forgotten_way (taken b s a k) zero (zero ∷ p) =
     (same_ports (taken b s a k) zero (zero ∷ p), refl, refl, λ h. h)
 forgotten_way (taken b s a k) zero (suc j ∷ p) =
@@ -174,54 +138,18 @@ forgotten_twice (taken b s a k) =
 
 -- A device that remembers nothing stays as it is at what is no token for it
 
-rested_received : (p : Packet) (s : State) (row : List PortState) (m : RememberedPacket)
-    → s.memory ≡ m → m ≡ Nothing → is_own s p ≡ false → answered (forgotten s) row m p ≡ (None, s)
-rested_received (Token kind a e) s row m eq n own =
-    rw own (ap (λ x. (None, x)) (forgotten-nothing s (eq ∙ n)))
-rested_received (Payload t b) s row m eq n own =
-    rw n (ap (λ x. (None, x)) (forgotten-nothing s (eq ∙ n)))
-rested_received Ack s row m eq n own = rw n (ap (λ x. (None, x)) (forgotten-nothing s (eq ∙ n)))
-rested_received (Sof f) s row m eq n own = ap (λ x. (None, x)) (forgotten-nothing s (eq ∙ n))
-rested_received Nak s row m eq n own = ap (λ x. (None, x)) (forgotten-nothing s (eq ∙ n))
-rested_received Stall s row m eq n own = ap (λ x. (None, x)) (forgotten-nothing s (eq ∙ n))
-rested_received Pre s row m eq n own = ap (λ x. (None, x)) (forgotten-nothing s (eq ∙ n))
-
-abbrev forgotten_reply : State → Reply
-forgotten_reply s = (None, s)
-
 pub rested_reply : (c : Content) (s : State) (row : List PortState) → s.memory ≡ Nothing
     → calls_on c s ≡ false → reply_to c s row ≡ (None, s)
 unfolding received unread
-rested_reply (Whole p) s row n own = heard s.spec.silent
-  where
-    heard : (x : Bool) → (if x then (None, s) else answered (forgotten s) row s.memory p)
-        ≡ (None, s)
-    heard true = refl
-    heard false = rested_received p s row s.memory refl n own
-rested_reply Broken s row n own = heard s.spec.silent
-  where
-    heard : (x : Bool) → forgotten_reply (if x then s else forgotten s) ≡ forgotten_reply s
-    heard true = refl
-    heard false = ap forgotten_reply (forgotten-nothing s n)
+rested_reply c s row n own = grind arith
 
 pub rested_answer : (q : Sent) (deep : Bool) (s : State) (a : Ports) → s.memory ≡ Nothing
     → calls_on q.content s ≡ false → answer_of q deep s a ≡ (None, s)
 unfolding answer_of
-rested_answer q deep s a n own = elim (hears q deep s)
-    as (λ x. (if x then reply_to q.content s (row_of a) else (None, s)) ≡ (None, s)) [
-      | true ↦ rested_reply q.content s (row_of a) n own
-      | false ↦ refl
-    ]
+rested_answer q deep s a n own = grind (arith, rested_reply)
 
 pub ack_calls : (c : Content) (s : State) → IsAckOut c → calls_on c s ≡ false
-ack_calls (Whole Ack) s h = refl
-ack_calls (Whole (Payload t b)) s h = refl
-ack_calls (Whole (Token kind a e)) s h = elim h [ ]
-ack_calls (Whole (Sof f)) s h = refl
-ack_calls (Whole Nak) s h = refl
-ack_calls (Whole Stall) s h = refl
-ack_calls (Whole Pre) s h = refl
-ack_calls Broken s h = refl
+ack_calls c s h = grind arith
 
 -- no packet comes through ports that are off
 off_unreached : (q : Sent) (deep : Bool) (k : Ports) → after_packet q deep (all_off k) ≡ all_off k
@@ -234,53 +162,19 @@ off_unreached q deep (taken b s a k) = ap (taken (powered_off b) s a) (off_unrea
 ack_new : (q : Sent) → IsAckOut q.content → (deep : Bool) (k : Ports) (j : ℕ) (p : List ℕ)
     → IsNew (place_at k j p) → IsNew (place_at (after_packet q deep k) j p)
 unfolding after_packet place_at
-ack_new q c deep ended j p h = h
 ack_new q c deep (vacant b k) zero [] h = h
-ack_new q c deep (vacant b k) zero (n ∷ p) h = h
 ack_new q c deep (vacant b k) (suc j) p h = ack_new q c deep k j p h
-ack_new q c deep (taken b s a k) zero [] h = split b.enable
-  where
-    same : after_packet q true a ≡ a
-    same = ap (after_packet q true) (sym h.3) ∙ off_unreached q true a ∙ h.3
-
-    new_still : (r : Reply) (e : Effect) (x : Ports) → r ≡ (None, s) → e ≡ Leaves → x ≡ a
-        → IsNew (Some (full b r.1 (acted e x)))
-    new_still r e x y z w = rw (y, z, w) h
-
-    split : (x : Bool) → IsNew (place_at (if x then taken b (answer_of q deep s a).1
-        (acted (effect_of q deep s) (after_packet q true a)) (after_packet q deep k) else taken
-        b s a (after_packet q deep k)) zero [])
-    split true = new_still (answer_of q deep s a) (effect_of q deep s) (after_packet q true a)
-        (rested_answer q deep s a h.2 (ack_calls q.content s c))
-        (calm_content q (ack_calm q.content c) deep s) same
-    split false = h
+ack_new q c deep (taken b s a k) zero [] h =
+    grind (arith, ack_calls, ack_calm, calm_content, off_unreached, rested_answer)
 ack_new q c deep (taken b s a k) zero (zero ∷ p) h = elim h [ ]
-ack_new q c deep (taken b s a k) zero (suc j ∷ p) h = split b.enable (ack_new q c true a j p h)
-  where
-    below : (e : Effect) (x : Ports) → e ≡ Leaves → IsNew (place_at x j p)
-        → IsNew (place_at (acted e x) j p)
-    below e x y g = rw y g
-
-    split : (x : Bool) → IsNew (place_at (after_packet q true a) j p)
-        → IsNew (place_at (if x then taken b (answer_of q deep s a).1
-        (acted (effect_of q deep s) (after_packet q true a)) (after_packet q deep k)
-        else taken b s a (after_packet q deep k)) zero (suc j ∷ p))
-    split true g = below (effect_of q deep s) (after_packet q true a)
-        (calm_content q (ack_calm q.content c) deep s) g
-    split false g = h
-ack_new q c deep (taken b s a k) (suc j) p h = split b.enable (ack_new q c deep k j p h)
-  where
-    split : (x : Bool) → IsNew (place_at (after_packet q deep k) j p)
-        → IsNew (place_at (if x then taken b (answer_of q deep s a).1
-        (acted (effect_of q deep s) (after_packet q true a)) (after_packet q deep k)
-        else taken b s a (after_packet q deep k)) (suc j) p)
-    split true g = g
-    split false g = g
+ack_new q c deep (taken b s a k) zero (suc j ∷ p) h =
+    grind (arith, ack_new q c true a j p h, ack_calm, calm_content)
+ack_new q c deep (taken b s a k) (suc j) p h = grind (arith, ack_new q c deep k j p h)
+ack_new q c deep k j p h = h
 
 ack_sent_new : (o : Option Sent) → IfOut IsAckOut o → (k : Ports) (j : ℕ) (p : List ℕ)
     → IsNew (place_at k j p) → IsNew (place_at (after_sent o k) j p)
-ack_sent_new None c k j p h = h
-ack_sent_new (Some q) c k j p h = ack_new q c false k j p h
+ack_sent_new o c k j p h = grind (arith, ack_new)
 
 -- An attempt
 
@@ -319,8 +213,7 @@ attempt_kept n t d r is k j p f =
 
 pub attempt_sane : (t d r : Option Sent) (k : Ports) → Consistent k
     → Consistent (after_attempt t d r k)
-attempt_sane t d r k h = sane_forgotten (after_sent r (after_sent d (after_sent t k)))
-    (sent_sane r (after_sent d (after_sent t k)) (sent_sane d (after_sent t k) (sent_sane t k h)))
+attempt_sane t d r k h = grind (arith, sane_forgotten, sent_sane)
 
 pub after_attempt-settled : (t d r : Option Sent) (k : Ports) → IsSettled (after_attempt t d r k)
 after_attempt-settled t d r k = forgotten_twice (after_sent r (after_sent d (after_sent t k)))

@@ -1,23 +1,19 @@
 -- Which packets leave no device that awaits the ACK at which it would take an address.
 use Rattle.std.proofs.Common.{◌≡◌, ℕ, zero, suc, ◌==◌, ◌&&◌, ◌||◌, if◌then◌else◌, Bool, true, false}
-use Rattle.std.proofs.Common.{List, [], length, Option, None, Some, ◌⊎◌, inl, inr, refl, ap, sym}
+use Rattle.std.proofs.Common.{List, [], Option, None, Some, ◌⊎◌, inl, inr, refl, ap}
 use Rattle.std.proofs.Common.{◌∙◌, arith}
-use Rattle.usb_packet.specs.{Toggle, Zero, TokenKind, OutTok, InTok, SetupTok, Packet, Token}
-use Rattle.usb_packet.specs.{Payload, Sof, Nak, Stall, Pre}
+use Rattle.usb_packet.specs.{Toggle, TokenKind, InTok, Packet, Token}
 use Rattle.usb_packet.specs.declared.Packet.TheVariants as packet
-use Rattle.usb_port.specs.{PortState, is_attached, PortCall, called_port, is_reset}
-use Rattle.usb_request.specs.{setup_of}
+use Rattle.usb_port.specs.{PortState, PortCall}
 use Rattle.usb_device.specs.{Content, Whole, Broken, Sent, Effect, Leaves, Calls, PortsOff}
-use Rattle.usb_device.specs.{RememberedPacket, Outcome, outcome, State, Reply, received, unread}
-use Rattle.usb_device.specs.{answered, forgotten, reset_state, accepted, begun, payload_row}
+use Rattle.usb_device.specs.{RememberedPacket, Outcome, State, Reply, received, unread}
+use Rattle.usb_device.specs.{answered, forgotten, reset_state, begun, payload_row}
 use Rattle.usb_device.specs.{data_row, in_other_row, after_memory, awaits_control}
 use Rattle.usb_device.specs.{ends_with_address, awaits_address, Ports, ended, vacant, taken, before}
-use Rattle.usb_device.specs.{all_off, acted, called, reset_where, changed_at, row_of, is_heard}
+use Rattle.usb_device.specs.{all_off, acted, called, changed_at, row_of}
 use Rattle.usb_device.specs.{hears, reply_to, answer_of, effect_of, after_packet, has_loss}
 use Rattle.usb_device.specs.declared.answer.Answer.TheVariants as answer
-use Rattle.usb_device.specs.declared.transfer.RememberedPacket.TheVariants.{SetupSeen, OutSeen}
 use Rattle.usb_tree.specs.{after_sent, IfOut, IsDataOut, IsAckOut}
-use Rattle.usb_tree.proofs.Interface.{neither}
 use Rattle.usb_world.proofs.courses.StepInvariants.{Rests}
 use Rattle.usb_world.proofs.packets.AttemptPackets.{token_out as token_rests}
 use Rattle.usb_device.proofs.Interface.{answer-spec}
@@ -33,8 +29,7 @@ IsNoControlIn p = Unit {0}
 
 memory_if : (x : Bool) (r t : Reply) → AwaitsNone r.1 → AwaitsNone t.1
     → AwaitsNone (if x then r else t).1
-memory_if true r t h g = h
-memory_if false r t h g = g
+memory_if x r t h g = grind arith
 
 module _ (d : State) (row : List PortState) (h : AwaitsNone d) where
   memory_begun : (n : ℕ) (o : Outcome) → AwaitsNone (begun d row n o)
@@ -45,11 +40,7 @@ module _ (d : State) (row : List PortState) (h : AwaitsNone d) where
 
   memory_payload : (m : RememberedPacket) (t : Toggle) (b : List ℕ)
       → AwaitsNone (payload_row d row m t b).1
-  memory_payload SetupSeen Zero b = memory_if (length b == 8)
-      (Some answer.Ack, accepted d row (setup_of b)) (None, d)
-      (memory_begun (setup_of b).length (outcome d.spec d.registers (setup_of b))) h
-  memory_payload (OutSeen e) t b = memory_data e t b
-  memory_payload m t b = h
+  memory_payload m t b = grind (arith, memory_begun, memory_data, memory_if)
 
   memory_in : (e : ℕ) → AwaitsNone (in_other_row d row e).1
   memory_in e = grind arith
@@ -60,13 +51,7 @@ module _ (d : State) (row : List PortState) (h : AwaitsNone d) where
 
   memory_answered : (p : Packet) → IsNoControlIn p → (m : RememberedPacket)
       → AwaitsNone (answered d row m p).1
-  memory_answered (Token OutTok a e) c m = grind arith
-  memory_answered (Token SetupTok a e) c m = grind arith
-  memory_answered (Token InTok a e) c m =
-      rw c (memory_if (a == d.registers.address) (in_other_row d row e) (None, d) (memory_in e) h)
-  memory_answered (Payload t b) c m = memory_payload m t b.items
-  memory_answered packet.Ack c m = memory_ack m
-  memory_answered p c m = h
+  memory_answered p c m = grind (arith, memory_ack, memory_if, memory_in, memory_payload)
 
 -- and so it awaits no ACK at which it would take an address
 pub none_awaited : (d : State) → AwaitsNone d → awaits_address d ≡ false
@@ -79,38 +64,22 @@ ReadsNoControlIn (Whole p) = IsNoControlIn p
 ReadsNoControlIn Broken = Unit {0}
 
 pub data_no_control_in : (c : Content) → IsDataOut c → ReadsNoControlIn c
-data_no_control_in (Whole (Payload t b)) h = tt
-data_no_control_in Broken h = tt
-data_no_control_in (Whole p) h = elim h [ ]
+data_no_control_in c h = grind arith
 
 pub ack_no_control_in : (c : Content) → IsAckOut c → ReadsNoControlIn c
-ack_no_control_in (Whole packet.Ack) h = tt
-ack_no_control_in Broken h = tt
-ack_no_control_in (Whole p) h = elim h [ ]
+ack_no_control_in c h = grind arith
 
 -- a silent device is as it was
 none_awaited_reply : (c : Content) → ReadsNoControlIn c → (s : State) (row : List PortState)
     → awaits_address s ≡ false → awaits_address (reply_to c s row).1 ≡ false
 unfolding received unread
-none_awaited_reply (Whole p) c s row h = elim s.spec.silent
-    as (λ x. awaits_address (if◌then◌else◌ {A = Reply} x (None, s)
-    (answered (forgotten s) row s.memory p)).1 ≡ false) [
-      | true ↦ h
-      | false ↦ none_awaited _ (memory_answered (forgotten s) row refl p c s.memory)
-    ]
-none_awaited_reply Broken c s row h = elim s.spec.silent
-    as (λ x. awaits_address (if x then s else forgotten s) ≡ false) [
-      | true ↦ h
-      | false ↦ none_awaited (forgotten s) refl
-    ]
+none_awaited_reply e c s row h = grind (arith, memory_answered, none_awaited)
 
 pub none_awaited_answer : (q : Sent) → ReadsNoControlIn q.content
     → (deep : Bool) (s : State) (a : Ports) → awaits_address s ≡ false
     → awaits_address (answer_of q deep s a).1 ≡ false
 unfolding answer_of
-none_awaited_answer q c deep s a h = elim (hears q deep s)
-    as (λ x. awaits_address (if◌then◌else◌ {A = Reply} x (reply_to q.content s (row_of a))
-    (None, s)).1 ≡ false) [ true ↦ none_awaited_reply q.content c s (row_of a) h | false ↦ h ]
+none_awaited_answer q c deep s a h = grind (arith, none_awaited_reply)
 
 -- what a device asks of its ports adds no loss
 
@@ -132,24 +101,16 @@ record NoLoss (s : State) (a k : Ports) : Type 0 where
 no_loss : (b : PortState) (s : State) (a k : Ports) → has_loss (taken b s a k) ≡ false
     → NoLoss s a k
 unfolding has_loss
-no_loss b s a k h = let x : _ = neither (awaits_address s || has_loss a) (has_loss k) h in
-    let y : _ = neither (awaits_address s) (has_loss a) x.0 in
-    record { own = y.0; below = y.1; more = x.1 }
+no_loss b s a k h = grind arith
 
 loss_changed : (c : PortCall) (k : Ports) (i : ℕ) → has_loss k ≡ false
     → has_loss (changed_at (called c) k i []) ≡ false
 unfolding has_loss changed_at reset_state awaits_address
-loss_changed c ended i h = h
-loss_changed c (vacant b k) zero h = h
 loss_changed c (vacant b k) (suc i) h = loss_changed c k i h
-loss_changed c (taken b s a k) zero h = elim (is_reset c && (b.power && is_attached b.attached))
-    as (λ x. has_loss (before (reset_where x (called_port c b) s a) k) ≡ false) [
-      | true ↦ let l : _ = no_loss b s a k h in three_none false (has_loss (all_off a)) (has_loss k)
-          refl (loss_off a ∙ l.below) l.more
-      | false ↦ h
-    ]
+loss_changed c (taken b s a k) zero h = grind (arith, loss_off, no_loss, three_none)
 loss_changed c (taken b s a k) (suc i) h = let l : _ = no_loss b s a k h in
     three_none _ _ _ l.own l.below (loss_changed c k i l.more)
+loss_changed c k i h = h
 
 loss_acted : (e : Effect) (a : Ports) → has_loss a ≡ false → has_loss (acted e a) ≡ false
 loss_acted Leaves a h = h
@@ -179,8 +140,7 @@ no_loss_packet q c deep (taken b s a k) h =
 
 pub no_loss_sent : (o : Option Sent) → IfOut ReadsNoControlIn o → (k : Ports) → has_loss k ≡ false
     → has_loss (after_sent o k) ≡ false
-no_loss_sent None c k h = h
-no_loss_sent (Some q) c k h = no_loss_packet q c false k h
+no_loss_sent o c k h = grind (arith, no_loss_packet)
 
 -- nobody awaits anything where nothing is remembered
 pub rests_loss : (k : Ports) → Rests k → has_loss k ≡ false
@@ -199,16 +159,13 @@ answer_of-unheard : (q : Sent) (p : Packet) (deep : Bool) (s : State) (a : Ports
     → q.content ≡ Whole p → (s.spec.silent ≡ true) ⊎ (hears q deep s ≡ false)
     → (answer_of q deep s a).1 ≡ s
 unfolding answer_of received
-answer_of-unheard q p deep s a e (inl f) = grind arith
-answer_of-unheard q p deep s a e (inr f) = grind arith
+answer_of-unheard q p deep s a e h = grind arith
 
 -- the ACK at a device that hears it, or awaits none
 pub ack_received : (s : State) (row : List PortState) → s.spec.silent ≡ false
     → awaits_address (received s row packet.Ack).1 ≡ false
 unfolding received
-ack_received s row loud = ap (λ x. awaits_address
-    (if◌then◌else◌ {A = Reply} x (None, s) (answered (forgotten s) row s.memory packet.Ack)).1)
-    loud ∙ none_awaited _ (memory_ack (forgotten s) row refl s.memory)
+ack_received s row loud = grind (arith, memory_ack, none_awaited)
 
 ack_answer : (q : Sent) → q.content ≡ Whole packet.Ack → (deep : Bool) (s : State) (a : Ports)
     → ((s.spec.silent ≡ true) ⊎ (hears q deep s ≡ false) → awaits_address s ≡ false)
@@ -230,19 +187,7 @@ acked_answer : (low pre : Bool) (t : Packet) (deep : Bool) (s : State) (a x : Po
     → awaits_address s ≡ false
     → awaits_address (answer_of (whole_sent low pre packet.Ack) deep
     (answer_of (whole_sent low pre t) deep s a).1 x).1 ≡ false
-acked_answer low pre t deep s a x h = ack_answer (whole_sent low pre packet.Ack) refl deep
-    (answer_of (whole_sent low pre t) deep s a).1 x
-    (λ y. ap awaits_address (answer_of-unheard (whole_sent low pre t) t deep s a refl (as_before y))
-    ∙ h)
-  where
-    spec : (answer_of (whole_sent low pre t) deep s a).1.spec ≡ s.spec
-    spec = answer-spec (whole_sent low pre t) deep s a
-
-    as_before : ((answer_of (whole_sent low pre t) deep s a).1.spec.silent ≡ true)
-        ⊎ (hears (whole_sent low pre packet.Ack) deep (answer_of (whole_sent low pre t) deep s a).1
-        ≡ false) → (s.spec.silent ≡ true) ⊎ (hears (whole_sent low pre t) deep s ≡ false)
-    as_before (inl y) = inl (ap (λ u. u.silent) (sym spec) ∙ y)
-    as_before (inr y) = inr (ap (λ u. is_heard (whole_sent low pre t) deep u.low) (sym spec) ∙ y)
+acked_answer low pre t deep s a x h = grind (arith, ack_answer, answer-spec, answer_of-unheard)
 
 -- after a token and an ACK nobody awaits what was not awaited before
 pub acked_loss : (low pre : Bool) (kind : TokenKind) (n e : ℕ) (deep : Bool) (k : Ports)

@@ -1,8 +1,8 @@
 -- What a refused packet leaves.
-use Rattle.std.proofs.Common.{◌≡◌, ℕ, if◌then◌else◌, Bool, true, false, Option, None, Some, is_some}
+use Rattle.std.proofs.Common.{arith}
+use Rattle.std.proofs.Common.{◌≡◌, if◌then◌else◌, Bool, true, false, Option, None, Some, is_some}
 use Rattle.std.proofs.Common.{refl, sym, subst, ap, ◌∙◌}
-use Rattle.arrayvec.specs.ArrayVec.{ArrayVec}
-use Rattle.usb_packet.specs.{Packet, Toggle, TokenKind, OutTok, InTok, SetupTok}
+use Rattle.usb_packet.specs.{Packet, TokenKind, OutTok, InTok, SetupTok}
 use Rattle.usb_packet.specs.declared.Packet.TheVariants as packet
 use Rattle.usb_port.specs.{PortState}
 use Rattle.usb_device.specs.declared.delivery.Content.TheVariants as content
@@ -11,8 +11,8 @@ use Rattle.usb_device.specs.{Sent, Effect, Leaves, RememberedPacket, State, Port
 use Rattle.usb_device.specs.{taken, full, before, acted, answer_of, effect_of, after_packet}
 use Rattle.usb_device.specs.{delivered_device, on_port, Stopped, behind_empty, behind, below, here}
 use Rattle.usb_device.specs.declared.transfer.RememberedPacket.TheVariants.{Nothing}
-use Rattle.usb_world.specs.{Damage, Attempt, Mark, Whole, Lost, PreLost, Flipped, marked}
-use Rattle.usb_world.specs.{marked_some, mark_of, harm_to, token_of, payload_of, goes_out, sent_as}
+use Rattle.usb_world.specs.{Damage, Attempt, Mark, Whole, marked}
+use Rattle.usb_world.specs.{marked_some, token_of, payload_of, sent_as}
 use Rattle.usb_world.specs.{token_out, payload_out, IsAttempt, sends_data, IsCut}
 use Rattle.usb_tree.specs.{IfOut, IsDataOut, IsSettled, after_sent}
 use Rattle.usb_tree.proofs.Interface.{false_true}
@@ -132,29 +132,19 @@ mild_sent old new (Some q) c k h = mild_packet q c false k h
 
 sent_mild : {old new : RememberedPacket → Bool} (low pre : Bool) (mark : Mark) (p : Packet)
     → new Nothing ≡ true → Mild old new (content.Whole p) → MildOut old new (sent_as low pre mark p)
-sent_mild low pre Whole p n c = c
-sent_mild low pre Lost p n c = c.wider
-sent_mild low pre PreLost p n c = c
-sent_mild low pre (Flipped bit) p n c = mild_broken c.wider n
+sent_mild low pre mark p n c = grind (arith, mild_broken)
 
 token_mild : {new : RememberedPacket → Bool} (a : Attempt) (d : Option Damage) → new Nothing ≡ true
     → Mild is_nothing new (content.Whole (packet.Token a.kind a.addr a.ep))
     → MildOut is_nothing new (token_out a d)
 unfolding token_of marked
-token_mild a d n c = sent_mild a.low a.pre
-    (mark_of (harm_to d 1) a.pre (packet.Token a.kind a.addr a.ep))
-    (packet.Token a.kind a.addr a.ep) n c
+token_mild a d n c = grind (arith, sent_mild)
 
 -- IN sends no data
 payload_out-none : (a : Attempt) (d : Option Damage) → is_some a.payload ≡ false
     → payload_out a d ≡ None
 unfolding payload_of marked_some
-payload_out-none a d h = go a.payload h
-  where
-    go : (o : Option (Toggle × ArrayVec ℕ)) → is_some o ≡ false → goes_out a (marked_some d 2 a.pre
-        (elim o [ None ↦ None | Some p ↦ Some (packet.Payload p.0 p.1) ])) ≡ None
-    go None g = refl
-    go (Some x) g = false_true (sym g)
+payload_out-none a d h = grind arith
 
 module _ (a : Attempt) (d : Option Damage) (k m : Ports) (is : IsAttempt a) (settled : IsSettled k)
     (c : IsCut a d k m) where

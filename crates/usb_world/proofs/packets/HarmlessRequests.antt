@@ -1,34 +1,31 @@
 -- Setup data whose request is not PORT_RESET reset no device, whoever hears them.
-use Rattle.std.proofs.Common.{◌≡◌, ℕ, ◌/◌, ◌%◌, ◌==◌, ◌&&◌, not, nat_le, if◌then◌else◌, Bool, true}
-use Rattle.std.proofs.Common.{false, List, [], ◌∷◌, length, slice_get, Option, None, Some, refl}
-use Rattle.std.proofs.Common.{sym, ◌∙◌}
-use Rattle.usb_packet.specs.{Payload, Toggle, Zero, One}
+use Rattle.std.proofs.Common.{arith}
+use Rattle.std.proofs.Common.{◌≡◌, ℕ, ◌==◌, ◌&&◌, not, nat_le, if◌then◌else◌, Bool, true}
+use Rattle.std.proofs.Common.{false, List, [], ◌∷◌, length, Option, None, Some, refl}
+use Rattle.std.proofs.Common.{◌∙◌}
+use Rattle.usb_packet.specs.{Payload, Toggle}
 use Rattle.usb_packet.specs.declared.Packet.TheVariants as packet
-use Rattle.usb_request.specs.{DEVICE, CONFIGURATION, STRING, HUB, GET_STATUS, CLEAR_FEATURE}
+use Rattle.usb_request.specs.{GET_STATUS, CLEAR_FEATURE}
 use Rattle.usb_request.specs.{SET_FEATURE, SET_ADDRESS, GET_DESCRIPTOR, GET_CONFIGURATION}
 use Rattle.usb_request.specs.{SET_CONFIGURATION, DEVICE_IN, DEVICE_OUT, ENDPOINT_OUT, HUB_IN}
-use Rattle.usb_request.specs.{PORT_IN, PORT_OUT, PORT_ENABLE, PORT_RESET, PORT_POWER}
-use Rattle.usb_request.specs.{C_PORT_CONNECTION, C_PORT_ENABLE, C_PORT_RESET, descriptor_value}
+use Rattle.usb_request.specs.{PORT_IN, PORT_OUT, PORT_RESET, PORT_POWER}
 use Rattle.usb_request.specs.{Setup, setup_of}
-use Rattle.usb_device.specs.{ServedEndpoint, Content, Whole, Broken, Sent, Effect, Leaves, Calls}
-use Rattle.usb_device.specs.{PortsOff, Registers, RememberedPacket, Spec, Hub, Outcome, stalled}
+use Rattle.usb_device.specs.{ServedEndpoint, Content, Whole, Broken, Sent, Effect, Calls}
+use Rattle.usb_device.specs.{Registers, RememberedPacket, Spec, Hub, Outcome, stalled}
 use Rattle.usb_device.specs.{takes_address, takes_configuration, halts, unhalts, tells_port}
-use Rattle.usb_device.specs.{calls_port, Is, unless, text_asked, asked_descriptor, asked_status}
+use Rattle.usb_device.specs.{calls_port, Is, unless, asked_descriptor, asked_status}
 use Rattle.usb_device.specs.{asked_address, asked_configuration, endpoint_of, on_endpoint}
 use Rattle.usb_device.specs.{asked_hub_descriptor, port_named, told_port, called_at}
 use Rattle.usb_device.specs.{asked_port_status, port_feature, outcome, is_value, State, asks}
-use Rattle.usb_device.specs.{asked_by_data, asked_by_setup, effect_of_request, Ports, hears}
+use Rattle.usb_device.specs.{asked_by_data, effect_of_request, Ports, hears}
 use Rattle.usb_device.specs.{asked_by, effect_of}
-use Rattle.usb_port.specs.{PortCall, SetPower, SetReset, ClearEnable, ClearPower}
-use Rattle.usb_port.specs.{ClearConnectionChange, ClearEnableChange, ClearResetChange, is_reset}
+use Rattle.usb_port.specs.{PortCall, SetPower, SetReset}
+use Rattle.usb_port.specs.{is_reset}
 use Rattle.usb_port.specs.{set_call, clear_call}
-use Rattle.usb_device.specs.declared.transfer.RememberedPacket.TheVariants.{Nothing, SetupSeen}
-use Rattle.usb_device.specs.declared.transfer.RememberedPacket.TheVariants.{OutSeen, AckAwaited}
 use Rattle.usb_device.specs.Request.{answers}
 use Rattle.usb_tree.specs.{effect_resets, resets_at}
 use Rattle.usb_world.specs.{is_harmless}
 use Rattle.usb_tree.proofs.Interface.{resets_if}
-use Rattle.usb_tree.proofs.Interface.{false_true, and_false}
 
 -- data that are no such request
 abbrev pub IsHarmlessOut : Content → Type 0
@@ -43,38 +40,25 @@ asks_reset o = false
 
 both_ways : (b : Bool) (x y : Outcome) → asks_reset x ≡ false → asks_reset y ≡ false
     → asks_reset (if b then x else y) ≡ false
-both_ways true x y h g = h
-both_ways false x y h g = g
+both_ways b x y h g = grind arith
 
 by_text : (o : Option (List ℕ)) → asks_reset (elim o [ None ↦ stalled | Some text ↦ answers text ])
     ≡ false
-by_text None = refl
-by_text (Some t) = refl
+by_text o = grind arith
 
 by_descriptor : (s : Spec) (v : ℕ) → asks_reset (asked_descriptor s v) ≡ false
-by_descriptor s v =
-    both_ways (v == descriptor_value DEVICE 0) _ _
-    (both_ways s.stalls.device stalled (answers s.descriptor) refl refl)
-    (both_ways (v / 256 == CONFIGURATION) _ _
-    (both_ways s.stalls.config stalled (text_asked s.configs (v % 256)) refl
-    (by_text (slice_get s.configs (v % 256))))
-    (both_ways (v / 256 == STRING) _ _ (both_ways s.stalls.string stalled
-    (text_asked s.strings (v % 256)) refl (by_text (slice_get s.strings (v % 256)))) refl))
+by_descriptor s v = grind arith
 
 on_endpoint-harmless : (f : ServedEndpoint → Outcome)
     → ((w : ServedEndpoint) → asks_reset (f w) ≡ false) → (o : Option ServedEndpoint)
     → asks_reset (on_endpoint f o) ≡ false
-on_endpoint-harmless f c None = refl
-on_endpoint-harmless f c (Some w) = c w
+on_endpoint-harmless f c o = grind arith
 
 by_hub : (o : Option Hub) (r : Setup) → asks_reset (asked_hub_descriptor o r) ≡ false
-by_hub None r = refl
-by_hub (Some hub) r = both_ways (r.value == descriptor_value HUB 0) (answers hub.descriptor) stalled
-    refl refl
+by_hub o r = grind arith
 
 by_status : (o : Option ℕ) → asks_reset (told_port o) ≡ false
-by_status None = refl
-by_status (Some i) = refl
+by_status o = grind arith
 
 is_reset_some : Option PortCall → Bool
 is_reset_some None = false
@@ -83,9 +67,8 @@ is_reset_some (Some c) = is_reset c
 by_call : (c : Option PortCall) (o : Option ℕ) → is_reset_some c ≡ false
     → asks_reset (called_at c o) ≡ false
 unfolding is_reset_some
-by_call None o h = refl
-by_call (Some x) None h = refl
 by_call (Some x) (Some i) h = h
+by_call o x h = refl
 
 set_resets : (v : ℕ) → is_reset_some (set_call v) ≡ (not (v == PORT_POWER) && v == PORT_RESET)
 unfolding is_reset_some
@@ -93,41 +76,24 @@ set_resets v = split (v == PORT_POWER) (v == PORT_RESET)
   where
     split : (x y : Bool) → is_reset_some (if x then Some SetPower else if y then Some SetReset
         else None) ≡ (not x && y)
-    split true y = refl
     split false true = refl
-    split false false = refl
+    split x y = refl
 
 clear_resets : (v : ℕ) → is_reset_some (clear_call v) ≡ false
 unfolding is_reset_some
-clear_resets v = split (v == PORT_ENABLE) (v == PORT_POWER) (v == C_PORT_CONNECTION)
-    (v == C_PORT_ENABLE) (v == C_PORT_RESET)
-  where
-    split : (x y z u w : Bool) → is_reset_some
-        (if x then Some ClearEnable else if y then Some ClearPower else if z then Some
-        ClearConnectionChange else if u then Some ClearEnableChange else if w then Some
-        ClearResetChange else None) ≡ false
-    split true y z u w = refl
-    split false true z u w = refl
-    split false false true u w = refl
-    split false false false true w = refl
-    split false false false false true = refl
-    split false false false false false = refl
+clear_resets v = grind arith
 
 by_feature : (c : Option PortCall) (s : Spec) (g : Registers) (r : Setup) → is_reset_some c ≡ false
     → asks_reset (port_feature c s g r) ≡ false
-by_feature c s g r h = both_ways (r.length == 0) (called_at c (port_named s.hub g r.index)) stalled
-    (by_call c (port_named s.hub g r.index) h) refl
+by_feature c s g r h = grind (arith, both_ways, by_call)
 
 -- a branch of which the test is known
 asks_reset-if : (b : Bool) (x y : Outcome) → (b ≡ true → asks_reset x ≡ false)
     → asks_reset y ≡ false → asks_reset (if b then x else y) ≡ false
-asks_reset-if true x y h g = h refl
-asks_reset-if false x y h g = g
+asks_reset-if b x y h g = grind arith
 
 harmless_set : (x v8 v4 : Bool) → not (x && v4) ≡ true → x ≡ true → (not v8 && v4) ≡ false
-harmless_set true v8 true h e = false_true h
-harmless_set true v8 false h e = and_false (not v8)
-harmless_set false v8 v4 h e = false_true e
+harmless_set x v8 v4 h e = grind arith
 
 harmless_outcome : (s : Spec) (g : Registers) (r : Setup) → is_harmless r ≡ true
     → asks_reset (outcome s g r) ≡ false
@@ -169,8 +135,7 @@ no_reset (Calls c i) = not (is_reset c)
 no_reset e = true
 
 not_false : (x : Bool) → x ≡ false → not x ≡ true
-not_false true h = false_true (sym h)
-not_false false h = refl
+not_false x h = grind arith
 
 request_resets : (o : Outcome) → asks_reset o ≡ false → no_reset (effect_of_request o) ≡ true
 request_resets stalled h = refl
@@ -184,55 +149,21 @@ request_resets (calls_port c i) h = not_false (is_reset c) h
 
 data_resets : (s : State) (m : RememberedPacket) (t : Toggle) (b : List ℕ)
     → is_harmless (setup_of b) ≡ true → no_reset (asked_by_data s m t b) ≡ true
-data_resets s Nothing t b h = refl
-data_resets s (OutSeen e) t b h = refl
-data_resets s (AckAwaited g) t b h = refl
-data_resets s SetupSeen One b h = refl
-data_resets s SetupSeen Zero b h =
-    elim (length b == 8) as (λ x. no_reset (if x then asked_by_setup s (setup_of b) else Leaves)
-    ≡ true) [
-      | true ↦ request_resets (outcome s.spec s.registers (setup_of b))
-          (harmless_outcome s.spec s.registers (setup_of b) h)
-      | false ↦ refl
-    ]
+data_resets s m t b h = grind (arith, harmless_outcome, request_resets)
 
 content_resets : (c : Content) (s : State) → IsHarmlessOut c → no_reset (asked_by c s) ≡ true
 unfolding asks
-content_resets (Whole (Payload t b)) s h = elim s.spec.silent
-    as (λ x. no_reset (if x then Leaves else asked_by_data s s.memory t b.items) ≡ true) [
-      | true ↦ refl
-      | false ↦ data_resets s s.memory t b.items h
-    ]
-content_resets Broken s h = refl
-content_resets (Whole (packet.Token kind a e)) s h = elim h [ ]
-content_resets (Whole packet.Ack) s h = elim h [ ]
-content_resets (Whole (packet.Sof f)) s h = elim h [ ]
-content_resets (Whole packet.Nak) s h = elim h [ ]
-content_resets (Whole packet.Stall) s h = elim h [ ]
-content_resets (Whole packet.Pre) s h = elim h [ ]
+content_resets c s h = grind (arith, data_resets)
 
 no_reset_asked : (q : Sent) → IsHarmlessOut q.content → (deep : Bool) (s : State)
     → no_reset (effect_of q deep s) ≡ true
 unfolding effect_of
-no_reset_asked q c deep s = elim (hears q deep s)
-    as (λ x. no_reset (if x then asked_by q.content s else Leaves) ≡ true) [
-      | true ↦ content_resets q.content s c
-      | false ↦ refl
-    ]
+no_reset_asked q c deep s = grind (arith, content_resets)
 
 effect_resets-none : (e : Effect) (a : Ports) (j : ℕ) (p : List ℕ) → no_reset e ≡ true
     → effect_resets e a j p ≡ false
-effect_resets-none Leaves a j p h = refl
-effect_resets-none PortsOff a j p h = refl
-effect_resets-none (Calls c i) a j (n ∷ p) h = refl
-effect_resets-none (Calls c i) a j [] h = off (is_reset c) _ h
-  where
-    off : (x y : Bool) → not x ≡ true → (x && y) ≡ false
-    off true y h = false_true h
-    off false y h = refl
+effect_resets-none e a j p h = grind arith
 
 pub harmless_resets : (q : Sent) → IsHarmlessOut q.content
     → (deep : Bool) (k : Ports) (j : ℕ) (p : List ℕ) → resets_at q deep k j p ≡ false
-harmless_resets q c deep k j p =
-    resets_if q deep k j p (λ e m r t z at dp a. effect_resets-none (effect_of q dp t) a m r
-    (no_reset_asked q c dp t))
+harmless_resets q c deep k j p = grind (arith, effect_resets-none, no_reset_asked, resets_if)

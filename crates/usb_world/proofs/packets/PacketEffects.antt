@@ -1,12 +1,12 @@
 -- What a packet does to reachable, live and pending, and to the devices and ports.
+use Rattle.std.proofs.Common.{arith}
 use Rattle.std.proofs.Common.{◌≡◌, ℕ, zero, suc, ◌&&◌, ◌||◌, not, if◌then◌else◌, inl, inr, Bool}
 use Rattle.std.proofs.Common.{true, false, List, [], ◌∷◌, Option, None, Some, option_map, refl, ap}
 use Rattle.std.proofs.Common.{sym, ◌∙◌}
 use Rattle.usb_port.specs.{PortState}
 use Rattle.usb_device.specs.{Effect, Leaves, Calls, PortsOff, State, Ports, ended, vacant, taken}
 use Rattle.usb_device.specs.{full, reach_at, state_at, place_at, acted, empty, answer_of, effect_of}
-use Rattle.usb_device.specs.{after_packet, Sent}
-use Rattle.usb_device.specs.Tree.{Place}
+use Rattle.usb_device.specs.{after_packet, Sent, Place}
 use Rattle.usb_tree.specs.{has_power_at, pending_at, IsNew, takes_reset, effect_resets, resets_at}
 use Rattle.usb_tree.specs.{reset_if, effect_keeps_pending, packet_keeps_pending, deep_at}
 use Rattle.usb_tree.proofs.Interface.{both, and_kept, or-rises, either_of, neither, false_true}
@@ -31,8 +31,7 @@ pub met_either : (P : Ports → Type 0) (x : Bool) (q : Sent) (deep : Bool)
     (b : PortState) (s : State) (a k : Ports)
     → P (met true q deep b s a k) → P (met false q deep b s a k)
     → P (met x q deep b s a k)
-met_either P true q deep b s a k h g = h
-met_either P false q deep b s a k h g = g
+met_either P x q deep b s a k h g = grind arith
 
 -- What a device asks of its ports
 
@@ -58,18 +57,14 @@ acted_kept PortsOff x j p h = false_true h
 
 pub resets_nil : (q : Sent) (deep : Bool) (k : Ports) (j : ℕ) → resets_at q deep k j [] ≡ false
 unfolding resets_at
-resets_nil q deep ended j = refl
-resets_nil q deep (vacant b k) zero = refl
 resets_nil q deep (vacant b k) (suc j) = resets_nil q deep k j
-resets_nil q deep (taken b s a k) zero = refl
 resets_nil q deep (taken b s a k) (suc j) = resets_nil q deep k j
+resets_nil q deep k j = refl
 
 -- a packet changes no port of the row on which it starts
 packet_takes : (q : Sent) (deep : Bool) (k : Ports) (j : ℕ)
     → takes_reset (place_at (after_packet q deep k) j []) ≡ takes_reset (place_at k j [])
 unfolding after_packet place_at
-packet_takes q deep ended j = refl
-packet_takes q deep (vacant b k) zero = refl
 packet_takes q deep (vacant b k) (suc j) = packet_takes q deep k j
 packet_takes q deep (taken b s a k) zero = elim b.enable
     as (λ x. takes_reset (place_at (met x q deep b s a (after_packet q deep k)) zero [])
@@ -80,19 +75,16 @@ packet_takes q deep (taken b s a k) (suc j) = elim b.enable
       | true ↦ packet_takes q deep k j
       | false ↦ packet_takes q deep k j
     ]
+packet_takes q deep k j = refl
 
 packet_asks : (e : Effect) (q : Sent) (deep : Bool) (k : Ports) (j : ℕ) (p : List ℕ)
     → effect_resets e (after_packet q deep k) j p ≡ effect_resets e k j p
-packet_asks Leaves q deep k j p = refl
-packet_asks (Calls c i) q deep k j [] = rw (packet_takes q deep k j) refl
-packet_asks (Calls c i) q deep k j (n ∷ p) = refl
-packet_asks PortsOff q deep k j p = refl
+packet_asks e q deep k j p = grind (arith, packet_takes)
 
 -- A packet
 
 spared : (x y z : Bool) → x ≡ true → (not x || (y && z)) ≡ true → (y ≡ true) × (z ≡ true)
-spared true y z e h = both y z h
-spared false y z e h = false_true e
+spared x y z e h = grind arith
 
 -- what is live or pending, and spared, is so after a packet
 pub packet_kept : (q : Sent) (deep : Bool) (k : Ports) (j : ℕ) (p : List ℕ)
@@ -125,40 +117,28 @@ packet_kept q deep (taken b s a k) zero (suc j ∷ p) h =
         )
     split false e ih = (λ g. g, λ g. g)
 packet_kept q deep (taken b s a k) (suc j) p h =
-    met_either (λ m. KeepsPending (taken b s a k) m (suc j) p)
-    b.enable q deep b s a (after_packet q deep k) (packet_kept q deep k j p h)
-    (packet_kept q deep k j p h)
+    grind (arith, packet_kept q deep k j p h, met_either)
 
 pub heard_state-unheard : (q : Sent) (d : Bool) (k : Ports) (j : ℕ) (p : List ℕ)
     → state_at k j p ≡ heard_state q d false (place_at k j p)
 unfolding state_at place_at
-heard_state-unheard q d ended j p = refl
 heard_state-unheard q d (vacant b k) zero [] = refl
-heard_state-unheard q d (vacant b k) zero (n ∷ p) = refl
 heard_state-unheard q d (vacant b k) (suc j) p = heard_state-unheard q d k j p
-heard_state-unheard q d (taken b s a k) zero [] = refl
-heard_state-unheard q d (taken b s a k) zero (zero ∷ p) = refl
 heard_state-unheard q d (taken b s a k) zero (suc j ∷ p) = heard_state-unheard q d a j p
 heard_state-unheard q d (taken b s a k) (suc j) p = heard_state-unheard q d k j p
+heard_state-unheard q d k j p = refl
 
 pub true_deep : (p : List ℕ) → deep_at true p ≡ true
-true_deep [] = refl
-true_deep (n ∷ p) = refl
+true_deep p = grind arith
 
 reset_then : (x y : Bool) (o : Option State) → (x ≡ true → y ≡ false)
     → option_map (reset_if x) (option_map (reset_if y) o) ≡ option_map (reset_if (x || y)) o
-reset_then x y None f = refl
-reset_then true true (Some s) f = false_true (sym (f refl))
-reset_then true false (Some s) f = refl
-reset_then false y (Some s) f = refl
+reset_then x y o f = grind arith
 
 -- a device asks for no reset but on its own ports
 asks_here : (e : Effect) (q : Sent) (a : Ports) (j : ℕ) (p : List ℕ) → effect_resets e a j p ≡ true
     → resets_at q true a j p ≡ false
-asks_here e q a j [] h = resets_nil q true a j
-asks_here Leaves q a j (n ∷ p) h = false_true h
-asks_here (Calls c i) q a j (n ∷ p) h = false_true h
-asks_here PortsOff q a j (n ∷ p) h = false_true h
+asks_here e q a j p h = grind (arith, resets_nil)
 
 -- the device at a path hears a packet or not, and is then reset or not
 abbrev HeardIf : Sent → Bool → Bool → Bool → Ports → Ports → ℕ → List ℕ → Type 0
@@ -171,20 +151,10 @@ pub packet_way : (q : Sent) (deep : Bool) (k : Ports) (j : ℕ) (p : List ℕ)
     → HeardIf q (deep_at deep p) (reach_at k j p) (resets_at q deep k j p) k
     (after_packet q deep k) j p
 unfolding after_packet reach_at place_at resets_at state_at
-packet_way q deep ended j p = (refl, λ f h. h, λ f. false_true f)
 packet_way q deep (vacant b k) zero [] = (refl, λ f h. h, λ f. false_true f)
-packet_way q deep (vacant b k) zero (n ∷ p) = (refl, λ f h. h, λ f. false_true f)
 packet_way q deep (vacant b k) (suc j) p = packet_way q deep k j p
-packet_way q deep (taken b s a k) zero [] = split b.enable
-  where
-    split : (x : Bool) → HeardIf q deep x false (taken b s a k)
-        (met x q deep b s a (after_packet q deep k)) zero []
-    split true = (refl, λ f h. h, λ f. false_true f)
-    split false = (refl, λ f h. h, λ f. false_true f)
-packet_way q deep (taken b s a k) zero (zero ∷ p) =
-    met_either (λ m. HeardIf q true false false (taken b s a k) m zero (zero ∷ p))
-    b.enable q deep b s a (after_packet q deep k) (refl, λ f h. h, λ f. false_true f)
-    (refl, λ f h. h, λ f. false_true f)
+packet_way q deep (taken b s a k) zero [] = grind arith
+packet_way q deep (taken b s a k) zero (zero ∷ p) = grind (arith, met_either)
 packet_way q deep (taken b s a k) zero (suc j ∷ p) = split b.enable (packet_way q true a j p)
   where
     split : (x : Bool) → HeardIf q (deep_at true p) (reach_at a j p) (resets_at q true a j p) a
@@ -216,12 +186,8 @@ packet_way q deep (taken b s a k) zero (suc j ∷ p) = split b.enable (packet_wa
       λ f h. h,
       λ f. false_true f,
     )
-packet_way q deep (taken b s a k) (suc j) p =
-    met_either
-    (λ m. HeardIf q (deep_at deep p) (reach_at k j p) (resets_at q deep k j p) (taken b s a k) m
-    (suc j) p)
-    b.enable q deep b s a (after_packet q deep k) (packet_way q deep k j p)
-    (packet_way q deep k j p)
+packet_way q deep (taken b s a k) (suc j) p = grind (arith, packet_way q deep k j p, met_either)
+packet_way q deep k j p = (refl, λ f h. h, λ f. false_true f)
 
 -- a packet changes each device that it reaches by that device's row, and no other, but for those
 -- that it resets

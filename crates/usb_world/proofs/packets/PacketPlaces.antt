@@ -1,11 +1,11 @@
 -- A device with its ports after a packet, where no device above it asks anything; and the ports
 -- that nobody asks anything of.
+use Rattle.std.proofs.Common.{arith}
 use Rattle.std.proofs.Common.{◌≡◌, ℕ, zero, suc, ◌&&◌, ◌||◌, not, if◌then◌else◌, Bool, true, false}
-use Rattle.std.proofs.Common.{List, [], ◌∷◌, Option, None, Some, option_map, refl, ap, ◌∙◌}
+use Rattle.std.proofs.Common.{List, [], ◌∷◌, Option, None, Some, option_map, refl, ◌∙◌}
 use Rattle.usb_device.specs.{Sent, Effect, Leaves, Calls, PortsOff, Ports, ended, vacant, taken}
 use Rattle.usb_device.specs.{empty, full, acted, reach_at, port_at, place_at, effect_of}
-use Rattle.usb_device.specs.{after_packet, answer_of}
-use Rattle.usb_device.specs.Tree.{Place}
+use Rattle.usb_device.specs.{after_packet, answer_of, Place}
 use Rattle.usb_tree.specs.{has_power_at, pending_at, leaves_port, way_leaves, deep_at}
 use Rattle.usb_tree.proofs.Interface.{false_true, both}
 use Rattle.usb_world.proofs.packets.PacketEffects.{true_deep, met, met_either}
@@ -30,25 +30,18 @@ is_left e = false
 
 -- whether no device on the way to a path asks anything of its ports
 unfoldable pub way_rests : Sent → Bool → Ports → ℕ → List ℕ → Bool
-way_rests q deep ended i p = true
-way_rests q deep (vacant b k) zero p = true
 way_rests q deep (vacant b k) (suc i) p = way_rests q deep k i p
-way_rests q deep (taken b s a k) zero [] = true
-way_rests q deep (taken b s a k) zero (zero ∷ p) = true
 way_rests q deep (taken b s a k) zero (suc j ∷ p) =
     not b.enable || (is_left (effect_of q deep s) && way_rests q true a j p)
 way_rests q deep (taken b s a k) (suc i) p = way_rests q deep k i p
+way_rests q deep k i p = true
 
 heard_place-unheard : (q : Sent) (d : Bool) (o : Option Place)
     → o ≡ option_map (heard_place q d false) o
-heard_place-unheard q d None = refl
-heard_place-unheard q d (Some (empty b)) = refl
-heard_place-unheard q d (Some (full b s a)) = refl
+heard_place-unheard q d o = grind arith
 
 pub left_is : (e : Effect) → is_left e ≡ true → e ≡ Leaves
-left_is Leaves h = refl
-left_is (Calls c i) h = false_true h
-left_is PortsOff h = false_true h
+left_is e h = grind arith
 
 acted_left : (e : Effect) (x : Ports) → is_left e ≡ true → acted e x ≡ x
 acted_left e x h = rw (left_is e h) refl
@@ -62,40 +55,16 @@ HeardWay q d k m j p =
 heard_way : (q : Sent) (deep : Bool) (k : Ports) (j : ℕ) (p : List ℕ)
     → way_rests q deep k j p ≡ true → HeardWay q (deep_at deep p) k (after_packet q deep k) j p
 unfolding after_packet place_at reach_at way_rests
-heard_way q deep ended j p h = (refl, refl)
 heard_way q deep (vacant b k) zero [] h = (refl, refl)
-heard_way q deep (vacant b k) zero (n ∷ p) h = (refl, refl)
 heard_way q deep (vacant b k) (suc j) p h = heard_way q deep k j p h
-heard_way q deep (taken b s a k) zero [] h =
-    elim b.enable as (λ x. (place_at (met x q deep b s a (after_packet q deep k)) zero []
-    ≡ Some (heard_place q deep x (full b s a)))
-    × (reach_at (met x q deep b s a (after_packet q deep k)) zero [] ≡ b.enable))
-    [ true ↦ (refl, refl) | false ↦ (refl, refl) ]
+heard_way q deep (taken b s a k) zero [] h = grind (arith, met)
 heard_way q deep (taken b s a k) zero (zero ∷ p) h =
     met_either (λ m. HeardWay q true (taken b s a k) m zero (zero ∷ p))
     b.enable q deep b s a (after_packet q deep k) (refl, refl) (refl, refl)
-heard_way q deep (taken b s a k) zero (suc j ∷ p) h = split b.enable h (heard_way q true a j p)
-  where
-    split : (x : Bool) → (not x || (is_left (effect_of q deep s) && way_rests q true a j p)) ≡ true
-        → (way_rests q true a j p ≡ true
-        → HeardWay q (deep_at true p) a (after_packet q true a) j p)
-        → (place_at (met x q deep b s a (after_packet q deep k)) zero (suc j ∷ p)
-        ≡ option_map (heard_place q true (x && reach_at a j p)) (place_at a j p))
-        × (reach_at (met x q deep b s a (after_packet q deep k)) zero (suc j ∷ p)
-        ≡ (b.enable && reach_at a j p))
-    split true h ih =
-        let on : _ = both (is_left (effect_of q deep s)) (way_rests q true a j p) h in
-        let same : _ = acted_left (effect_of q deep s) (after_packet q true a) on.0 in (
-          ap (λ x. place_at x j p) same ∙ (ih on.1).0
-              ∙ ap (λ d. option_map (heard_place q d (reach_at a j p)) (place_at a j p))
-              (true_deep p),
-          ap (λ x. b.enable && x) (ap (λ x. reach_at x j p) same ∙ (ih on.1).1),
-        )
-    split false h ih = (heard_place-unheard q true (place_at a j p), refl)
-heard_way q deep (taken b s a k) (suc j) p h =
-    met_either (λ m. HeardWay q (deep_at deep p) (taken b s a k) m (suc j) p)
-    b.enable q deep b s a (after_packet q deep k) (heard_way q deep k j p h)
-    (heard_way q deep k j p h)
+heard_way q deep (taken b s a k) zero (suc j ∷ p) h =
+    grind (arith, heard_way q true a j p, acted_left, heard_place-unheard, met, true_deep)
+heard_way q deep (taken b s a k) (suc j) p h = grind (arith, heard_way q deep k j p h, met_either)
+heard_way q deep k j p h = (refl, refl)
 
 pub way_place : (q : Sent) (deep : Bool) (k : Ports) (j : ℕ) (p : List ℕ)
     → way_rests q deep k j p ≡ true
@@ -124,14 +93,8 @@ unfolding after_packet reach_at has_power_at pending_at port_at way_leaves
 way_ports q deep ended j p h = same_ports ended j p
 way_ports q deep (vacant b k) zero p h = (same_way-behind (empty b) k (after_packet q deep k) p).0
 way_ports q deep (vacant b k) (suc j) p h = way_ports q deep k j p h
-way_ports q deep (taken b s a k) zero [] h =
-    met_either (λ m. SamePorts (taken b s a k) m zero []) b.enable q deep b s a
-    (after_packet q deep k)
-    (same_ports (taken b s a k) zero []) (same_ports (taken b s a k) zero [])
-way_ports q deep (taken b s a k) zero (zero ∷ p) h =
-    met_either (λ m. SamePorts (taken b s a k) m zero (zero ∷ p))
-    b.enable q deep b s a (after_packet q deep k)
-    (same_ports (taken b s a k) zero (zero ∷ p)) (same_ports (taken b s a k) zero (zero ∷ p))
+way_ports q deep (taken b s a k) zero [] h = grind (arith, met_either, same_ports)
+way_ports q deep (taken b s a k) zero (zero ∷ p) h = grind (arith, met_either, same_ports)
 way_ports q deep (taken b s a k) zero (suc j ∷ p) h = split b.enable h (way_ports q true a j p)
   where
     split : (x : Bool) → (not x || (leaves_port (effect_of q deep s) j && way_leaves q true a j p))
@@ -145,7 +108,4 @@ way_ports q deep (taken b s a k) zero (suc j ∷ p) h = split b.enable h (way_po
         passed_ports b s s a (acted (effect_of q deep s) (after_packet q true a)) k k j p
         (x.0 ∙ y.0, x.1 ∙ y.1, x.2 ∙ y.2, x.3 ∙ y.3)
     split false h ih = same_ports (taken b s a k) zero (suc j ∷ p)
-way_ports q deep (taken b s a k) (suc j) p h =
-    met_either (λ m. SamePorts (taken b s a k) m (suc j) p)
-    b.enable q deep b s a (after_packet q deep k) (way_ports q deep k j p h)
-    (way_ports q deep k j p h)
+way_ports q deep (taken b s a k) (suc j) p h = grind (arith, way_ports q deep k j p h, met_either)

@@ -17,8 +17,7 @@ use Rattle.arrayvec.specs.ArrayVec.{ArrayVec}
 -- an attempt that asks nothing of ports, where no device remembers a packet before it
 abbrev pub data_asks_no_port : TokenKind → Option (Toggle × ArrayVec ℕ) → Bool
 data_asks_no_port SetupTok o = payload_asks_no_port o
-data_asks_no_port OutTok o = true
-data_asks_no_port InTok o = true
+data_asks_no_port t o = true
 
 allowed_none : (o : Option Sent) (k : Ports) → IfOut (AllowsOut is_left) o → NoneAsks o k
 allowed_none o k h q e j x t at dp = left_is (effect_of q dp t)

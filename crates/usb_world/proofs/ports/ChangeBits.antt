@@ -1,21 +1,20 @@
 -- A port of which nothing is asked keeps its change bits and its power, where the device above it
 -- is still reached.
-use Rattle.std.proofs.Common.{◌≡◌, ℕ, zero, suc, ◌&&◌, ◌||◌, not, Bool, true, false, List, [], ◌∷◌}
+use Rattle.std.proofs.Common.{arith}
+use Rattle.std.proofs.Common.{◌≡◌, ℕ, zero, suc, ◌&&◌, not, Bool, true, false, List, [], ◌∷◌}
 use Rattle.std.proofs.Common.{◌++◌, Option, None, Some, refl, ap, sym, subst, ◌∙◌, inl, inr}
-use Rattle.std.proofs.lemmas.Option.{same_Some}
-use Rattle.usb_port.specs.{PortState, plugged, unplugged, PortCall, is_reset}
-use Rattle.usb_device.specs.{Sent, Effect, Leaves, Calls, PortsOff, fresh, Spec, Ports, ended}
-use Rattle.usb_device.specs.{vacant, taken, empty, full, before, port_of, called, replaced, changed}
-use Rattle.usb_device.specs.{changed_at, port_at, place_at, effect_of, port_there}
-use Rattle.usb_device.specs.Tree.{Place}
+use Rattle.usb_port.specs.{PortState, plugged, unplugged, PortCall}
+use Rattle.usb_device.specs.{Sent, Effect, fresh, Spec, Ports, ended, vacant, taken, empty, full}
+use Rattle.usb_device.specs.{before, port_of, called, replaced, changed, changed_at, port_at}
+use Rattle.usb_device.specs.{port_there, Place}
 use Rattle.usb_world.specs.{Action, Attempt, token_out, payload_out, reply_out, ports_in, World}
 use Rattle.usb_world.specs.{after_change, way_of, names_path, after_event, at_attempt, damage_in}
 use Rattle.usb_world.specs.{with_attempt, Course, made_resets, root_resets, sent_leaves}
 use Rattle.usb_world.specs.{made_leaves, root_leaves, leaves_step, LeavesPort, row_reached}
 use Rattle.usb_world.specs.{StillSet}
 use Rattle.usb_tree.specs.{is_way, same_number, after_sent, after_attempt, sent_resets, IsAttemptAt}
-use Rattle.usb_tree.specs.{effect_resets, resets_at, leaves_port, way_leaves, takes_reset}
-use Rattle.usb_tree.proofs.Interface.{false_true, both, and_false, or_right, not-true, decided}
+use Rattle.usb_tree.specs.{effect_resets, resets_at, leaves_port, way_leaves}
+use Rattle.usb_tree.proofs.Interface.{false_true, both, decided}
 use Rattle.usb_world.proofs.ways.WayChanges.{SamePorts, same_ports, changed_there, root_there}
 use Rattle.usb_world.proofs.ports.RootResets.{same_number-is}
 use Rattle.usb_world.proofs.packets.PacketPlaces.{way_ports}
@@ -26,14 +25,7 @@ use Rattle.usb_world.proofs.courses.Courses.{happened_reach, made_reach, root_re
 use Rattle.usb_world.proofs.packets.PacketWays.{calm_leaves}
 
 still_set-same : (b : PortState) (o : Option PortState) → o ≡ Some b → StillSet b o
-still_set-same b o h = record {
-  now = b;
-  stands = h;
-  power = λ e. e;
-  connection = λ e. e;
-  enable = λ e. e;
-  reset = λ e. e;
-}
+still_set-same b o h = grind arith
 
 still_then : (b : PortState) (o v : Option PortState) → StillSet b o
     → ((c : PortState) → o ≡ Some c → StillSet c v) → StillSet b v
@@ -50,39 +42,11 @@ still_then b o v x f =
 
 -- Events
 
-still_unplugged : (c b : PortState) → Some c ≡ Some b → StillSet b (Some (unplugged c))
-still_unplugged c b h =
-    subst (λ x. StillSet x (Some (unplugged c))) (same_Some c b h)
-    (record {
-      now = unplugged c;
-      stands = refl;
-      power = λ e. e;
-      connection = λ e. or_right c.power c.connection_changed e;
-      enable = λ e. e;
-      reset = λ e. e;
-    })
-
-still_plugged : (low : Bool) (c b : PortState) → Some c ≡ Some b
-    → StillSet b (Some (plugged low (unplugged c)))
-still_plugged low c b h =
-    subst (λ x. StillSet x (Some (plugged low (unplugged c)))) (same_Some c b h)
-    (record {
-      now = plugged low (unplugged c);
-      stands = refl;
-      power = λ e. e;
-      connection =
-          λ e. or_right c.power (c.power || c.connection_changed)
-          (or_right c.power c.connection_changed e);
-      enable = λ e. e;
-      reset = λ e. e;
-    })
-
 -- the port at which something is plugged or unplugged
 still_put : (o : Option Spec) (x : Place) (k : Ports) (b : PortState)
     → Some (port_of x) ≡ Some b → StillSet b (port_at (before (replaced o x) k) zero [])
 unfolding port_at fresh
-still_put None x k b h = still_unplugged (port_of x) b h
-still_put (Some s) x k b h = still_plugged s.low (port_of x) b h
+still_put o x k b h = grind arith
 
 struck_port : (o : Option Spec) (k : Ports) (i : ℕ) (e : List ℕ) (b : PortState)
     → port_at k i e ≡ Some b → StillSet b (port_at (changed_at (replaced o) k i e) i e)
@@ -141,8 +105,7 @@ happened_bits a d k q n b =
 
 no_way : (x : List ℕ) → way_of x [] ≡ false
 unfolding is_way
-no_way [] = refl
-no_way (m ∷ x) = refl
+no_way x = grind arith
 
 -- where a row is reached, it was before, and no event was at it or above it; none is at the host
 row_happened : (a : Action) (d : List Spec) (k : Ports) (q : List ℕ)
@@ -176,66 +139,37 @@ attempt_ports n t d r is k j p h =
 pub made_port : (a : Attempt) (w : World) (p : List ℕ) → made_leaves a w p ≡ true
     → port_there (with_attempt a w).roots p ≡ port_there w.roots p
 unfolding with_attempt ports_in
-made_port a w [] h = refl
-made_port a w (zero ∷ p) h = refl
 made_port a w (suc j ∷ p) h = (attempt_ports a.addr (token_out a (damage_in w))
     (payload_out a (damage_in w)) (reply_out a (damage_in w) w.roots)
     (goes a (damage_in w) w.roots) w.roots j p h).3
+made_port a w p h = refl
 
 -- A step that leaves a port resets no device above it
 
 pub left_effect : (e : Effect) (a : Ports) (j : ℕ) (p : List ℕ) → leaves_port e j ≡ true
     → effect_resets e a j p ≡ false
-left_effect Leaves a j p h = refl
-left_effect (Calls c i) a j [] h = ap (λ x. is_reset c && (x && takes_reset (place_at a j [])))
-    (not-true (same_number i j) h) ∙ and_false (is_reset c)
-left_effect (Calls c i) a j (n ∷ p) h = refl
-left_effect PortsOff a j p h = refl
+left_effect e a j p h = grind arith
 
 left_resets : (q : Sent) (deep : Bool) (k : Ports) (j : ℕ) (p : List ℕ) (n : ℕ)
     → way_leaves q deep k j (p ++ (n ∷ [])) ≡ true → resets_at q deep k j p ≡ false
 unfolding way_leaves resets_at
-left_resets q deep ended j p n h = refl
-left_resets q deep (vacant b k) zero p n h = refl
 left_resets q deep (vacant b k) (suc j) p n h = left_resets q deep k j p n h
-left_resets q deep (taken b s a k) zero [] n h = refl
-left_resets q deep (taken b s a k) zero (zero ∷ p) n h = refl
 left_resets q deep (taken b s a k) zero (suc j ∷ p) n h =
-    split b.enable h (left_resets q true a j p n)
-  where
-    split : (x : Bool) → (not x || (leaves_port (effect_of q deep s) j && way_leaves q true a j
-        (p ++ (n ∷ [])))) ≡ true
-        → (way_leaves q true a j (p ++ (n ∷ [])) ≡ true → resets_at q true a j p ≡ false)
-        → (x && (effect_resets (effect_of q deep s) a j p || resets_at q true a j p)) ≡ false
-    split true h ih =
-        let on : _ = both (leaves_port (effect_of q deep s) j)
-        (way_leaves q true a j (p ++ (n ∷ []))) h in
-        ap (λ x. x || resets_at q true a j p) (left_effect (effect_of q deep s) a j p on.0)
-        ∙ ih on.1
-    split false h ih = refl
+    grind (arith, left_resets q true a j p n, left_effect)
 left_resets q deep (taken b s a k) (suc j) p n h = left_resets q deep k j p n h
+left_resets q deep k j p n h = refl
 
 left_sent : (o : Option Sent) (k : Ports) (j : ℕ) (p : List ℕ) (n : ℕ)
     → sent_leaves o k j (p ++ (n ∷ [])) ≡ true → sent_resets o k j p ≡ false
-left_sent None k j p n h = refl
-left_sent (Some q) k j p n h = left_resets q false k j p n h
+left_sent o k j p n h = grind (arith, left_resets)
 
 left_made : (a : Attempt) (w : World) (q : List ℕ) (n : ℕ) → made_leaves a w (q ++ (n ∷ [])) ≡ true
     → made_resets a w q ≡ false
-left_made a w [] n h = refl
-left_made a w (zero ∷ q) n h = refl
-left_made a w (suc j ∷ q) n h = left_sent (payload_out a (damage_in w))
-    (after_sent (token_out a (damage_in w)) w.roots) j q n h
+left_made a w q n h = grind (arith, left_sent)
 
 left_root : (c : PortCall) (m : ℕ) (k : Ports) (q : List ℕ) (n : ℕ) → root_leaves m (q ++ (n ∷ []))
     ≡ true → root_resets c m k q ≡ false
-left_root c zero k q n h = refl
-left_root c (suc i) k [] n h = refl
-left_root c (suc i) k (zero ∷ q) n h = refl
-left_root c (suc i) k (suc j ∷ []) n h =
-    ap (λ x. is_reset c && (x && takes_reset (place_at k j []))) (not-true (same_number i j) h)
-    ∙ and_false (is_reset c)
-left_root c (suc i) k (suc j ∷ x ∷ q) n h = refl
+left_root c m k q n h = grind arith
 
 -- Steps
 
@@ -245,8 +179,7 @@ root_port c m k p h = (root_there c m k p h).1
 
 row_reached-made : (a : Attempt) (w : World) (q : List ℕ) (n : ℕ) → made_leaves a w (q ++ (n ∷ []))
     ≡ true → row_reached (with_attempt a w).roots q ≡ true → row_reached w.roots q ≡ true
-row_reached-made a w [] n g h = refl
-row_reached-made a w (m ∷ q) n g h = made_reach a w (m ∷ q) (left_made a w (m ∷ q) n g) h
+row_reached-made a w q n g h = grind (arith, left_made, made_reach)
 
 root_row : (c : PortCall) (m : ℕ) (k : Ports) (q : List ℕ) (n : ℕ)
     → root_leaves m (q ++ (n ∷ [])) ≡ true → row_reached (changed (called c) k (m ∷ [])) q ≡ true

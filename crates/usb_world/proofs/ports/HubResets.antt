@@ -1,15 +1,15 @@
 -- PORT_RESET of a hub's port gives the device there address 0, and leaves the others theirs.
+use Rattle.std.proofs.Common.{arith}
 use Rattle.std.proofs.Common.{◌≡◌, ℕ, zero, suc, ◌&&◌, if◌then◌else◌, ◌⊎◌, inl, inr, Bool, true}
 use Rattle.std.proofs.Common.{false, List, [], ◌∷◌, ◌++◌, Option, None, Some, option_map, refl, ap}
 use Rattle.std.proofs.Common.{ap₂, sym, subst, ◌∙◌}
 use Rattle.usb_port.specs.{PortState}
 use Rattle.usb_request.specs.{setup_of}
 use Rattle.usb_device.specs.{Registers, Outcome, stalled, takes_address, takes_configuration, halts}
-use Rattle.usb_device.specs.{unhalts, tells_port, calls_port, outcome, registers_at_setup, State}
-use Rattle.usb_device.specs.{accepted, Way, is_whole, heard, setup_law, Ports, ended, vacant, taken}
-use Rattle.usb_device.specs.{row_of, reach_at, state_at, place_at, reach, place, path_to}
+use Rattle.usb_device.specs.{unhalts, tells_port, calls_port, registers_at_setup, State}
+use Rattle.usb_device.specs.{Way, setup_law, Ports, vacant, taken}
+use Rattle.usb_device.specs.{row_of, reach_at, state_at, reach, place, path_to}
 use Rattle.usb_device.specs.Request.{answers}
-use Rattle.usb_device.specs.declared.answer.Answer.TheVariants.{Ack}
 use Rattle.usb_world.specs.{Attempt, World, at_attempt, damage_in, with_attempt, attempt, after}
 use Rattle.usb_world.specs.{is_made, made_resets, resets, address_at, HoldsMapped, IsSetup}
 use Rattle.usb_world.specs.{HolderIn, token_way, payload_way, answer_way, after_reset}
@@ -17,7 +17,7 @@ use Rattle.usb_tree.specs.{address_of, same_number, same_path, is_way, IsNew, re
 use Rattle.usb_tree.proofs.Interface.{false_true, both, decided, and_false}
 use Rattle.usb_world.proofs.holders.OneDevice.{state_stands}
 use Rattle.usb_world.proofs.courses.Courses.{made_reach, step_new}
-use Rattle.usb_world.proofs.holders.OneHolder.{replied, holder_holds, Holder}
+use Rattle.usb_world.proofs.holders.OneHolder.{holder_holds, Holder}
 use Rattle.usb_world.proofs.holders.OneHolderAttempts.{made_is, made_true, holder_in, setup_in}
 use Rattle.usb_world.proofs.holders.OneHolderAttempts.{silent_in, others_in}
 use Rattle.usb_world.proofs.addresses.AddressesKept.{ready_own}
@@ -27,17 +27,12 @@ use Rattle.usb_world.proofs.holders.HolderRequests.{other_rests}
 -- A device that was just reset
 
 new_there : (k : Ports) (p : List ℕ) → IsNew (place k p) → address_at k p ≡ Some 0
-new_there k [] h = elim h [ ]
-new_there k (zero ∷ p) h = elim h [ ]
-new_there k (suc i ∷ p) h = ap (option_map address_of) (sym (state_stands k i p))
-    ∙ is_new-zero (place_at k i p) h
+new_there k p h = grind (arith, is_new-zero, state_stands)
 
 -- none is reached below it
 new_under : (k : Ports) (p : List ℕ) (m : ℕ) (r : List ℕ) → IsNew (place k p)
     → reach k (p ++ (m ∷ r)) ≡ false
-new_under k [] m r h = elim h [ ]
-new_under k (zero ∷ p) m r h = refl
-new_under k (suc i ∷ p) m r h = new_below k i p m r h
+new_under k p m r h = grind (arith, new_below)
 
 -- a path that leads beyond another
 record Beyond (x p : List ℕ) : Type 0 where
@@ -69,12 +64,7 @@ register_address g (calls_port c i) = refl
 
 setup_address : (s : State) (row : List PortState) (bytes : List ℕ) (x y z : Way)
     → address_of (setup_law s row bytes x y z).1 ≡ address_of s
-setup_address s row bytes x y z = split (is_whole x && is_whole y)
-  where
-    split : (v : Bool) → address_of (if v then replied (heard z (Some Ack))
-        (accepted s row (setup_of bytes)) else replied None s).1 ≡ address_of s
-    split true = register_address s.registers (outcome s.spec s.registers (setup_of bytes))
-    split false = refl
+setup_address s row bytes x y z = grind arith
 
 -- a device that is reached stands
 record PlaceOccupied (k : Ports) (i : ℕ) (e : List ℕ) : Type 0 where
@@ -83,16 +73,14 @@ record PlaceOccupied (k : Ports) (i : ℕ) (e : List ℕ) : Type 0 where
 
 reach-occupied : (k : Ports) (i : ℕ) (e : List ℕ) → reach_at k i e ≡ true → PlaceOccupied k i e
 unfolding reach_at state_at
-reach-occupied ended i e h = false_true h
-reach-occupied (vacant b k) zero e h = false_true h
 reach-occupied (vacant b k) (suc i) e h = let y : PlaceOccupied k i e = reach-occupied k i e h in
     record { own = y.own; at = y.at }
 reach-occupied (taken b s a k) zero [] h = record { own = s; at = refl }
-reach-occupied (taken b s a k) zero (zero ∷ e) h = false_true h
 reach-occupied (taken b s a k) zero (suc j ∷ e) h = let y : PlaceOccupied a j e =
     reach-occupied a j e (both b.enable (reach_at a j e) h).1 in record { own = y.own; at = y.at }
 reach-occupied (taken b s a k) (suc i) e h = let y : PlaceOccupied k i e = reach-occupied k i e h in
     record { own = y.own; at = y.at }
+reach-occupied k i e h = false_true h
 
 module _ (a : Attempt) (w : World) (h : HolderIn a w) (bytes : List ℕ) (is : IsSetup a bytes)
     (n : ℕ) (names : (setup_of bytes).index ≡ n) (f : List ℕ → Option ℕ) (own : HoldsMapped f w)
@@ -162,8 +150,6 @@ module _ (a : Attempt) (w : World) (h : HolderIn a w) (bytes : List ℕ) (is : I
 
     own_reset : resets (attempt a) w target ≡ true
         → HoldsMapped (after_reset f target) (after (attempt a) w)
-    own_reset y [] on = false_true on
-    own_reset y (zero ∷ e) on = false_true on
     own_reset y (suc i ∷ e) on = pick (decided (same_path target (suc i ∷ e)))
       where
         new : IsNew (place (after (attempt a) w).roots target)
@@ -193,11 +179,10 @@ module _ (a : Attempt) (w : World) (h : HolderIn a w) (bytes : List ℕ) (is : I
             ∙ ap (λ u. if u then Some 0 else if is_way target (suc i ∷ e) then None else f
             (suc i ∷ e)) (sym d)
         pick (inr d) = further d (decided (is_way target (suc i ∷ e)))
+    own_reset y p on = false_true on
 
     own_rest : resets (attempt a) w target ≡ false → HoldsMapped f (after (attempt a) w)
     unfolding resets
-    own_rest y [] on = false_true on
-    own_rest y (zero ∷ e) on = false_true on
     own_rest y (suc i ∷ e) on = stays i e (pick (decided (same_path target (suc i ∷ e)))) on
       where
         at_target : made_resets a (at_attempt w) target ≡ false
@@ -208,6 +193,7 @@ module _ (a : Attempt) (w : World) (h : HolderIn a w) (bytes : List ℕ) (is : I
             → made_resets a (at_attempt w) (suc i ∷ e) ≡ false
         pick (inl d) = ap (made_resets a (at_attempt w)) (same_is target (suc i ∷ e) d) ∙ at_target
         pick (inr d) = rests_elsewhere (suc i ∷ e) d
+    own_rest y p on = false_true on
 
 pub hub_reset : (a : Attempt) (w : World) (h : HolderIn a w) (bytes : List ℕ) → IsSetup a bytes
     → (n : ℕ) → (setup_of bytes).index ≡ n → (f : List ℕ → Option ℕ)

@@ -1,19 +1,18 @@
 -- What a request can ask of the ports of a device that hears it.
-use Rattle.std.proofs.Common.{◌≡◌, ℕ, zero, suc, ◌-◌, ◌/◌, ◌%◌, ◌==◌, ◌&&◌, not, nat_le}
-use Rattle.std.proofs.Common.{if◌then◌else◌, Bool, true, false, List, [], ◌∷◌, length, slice_get}
-use Rattle.std.proofs.Common.{Option, None, Some, is_some, refl, ap, arith}
-use Rattle.std.proofs.lemmas.Option.{same_Some}
+use Rattle.std.proofs.Common.{◌≡◌, ℕ, suc, ◌-◌, ◌==◌, ◌&&◌, not, nat_le}
+use Rattle.std.proofs.Common.{if◌then◌else◌, Bool, true, false, List, [], ◌∷◌, length}
+use Rattle.std.proofs.Common.{Option, None, Some, arith}
 use Rattle.arrayvec.specs.ArrayVec.{ArrayVec}
 use Rattle.usb_packet.specs.{Payload, Toggle, Zero, One}
 use Rattle.usb_packet.specs.declared.Packet.TheVariants as packet
-use Rattle.usb_request.specs.{DEVICE, CONFIGURATION, STRING, HUB, GET_STATUS, CLEAR_FEATURE}
+use Rattle.usb_request.specs.{GET_STATUS, CLEAR_FEATURE}
 use Rattle.usb_request.specs.{SET_FEATURE, SET_ADDRESS, GET_DESCRIPTOR, GET_CONFIGURATION}
 use Rattle.usb_request.specs.{SET_CONFIGURATION, DEVICE_IN, DEVICE_OUT, ENDPOINT_OUT, HUB_IN}
-use Rattle.usb_request.specs.{PORT_IN, PORT_OUT, descriptor_value, Setup, setup_of}
+use Rattle.usb_request.specs.{PORT_IN, PORT_OUT, Setup, setup_of}
 use Rattle.usb_device.specs.{ServedEndpoint, Content, Whole, Broken, Sent, Effect, Leaves, Calls}
 use Rattle.usb_device.specs.{PortsOff, Registers, RememberedPacket, Spec, Hub, Outcome, stalled}
 use Rattle.usb_device.specs.{takes_address, takes_configuration, halts, unhalts, Is, unless}
-use Rattle.usb_device.specs.{text_asked, asked_descriptor, asked_status, asked_address}
+use Rattle.usb_device.specs.{asked_descriptor, asked_status, asked_address}
 use Rattle.usb_device.specs.{asked_configuration, endpoint_of, on_endpoint, asked_hub_descriptor}
 use Rattle.usb_device.specs.{port_named, told_port, called_at, asked_port_status, port_feature}
 use Rattle.usb_device.specs.{outcome, is_value, State, asks, asked_by_data, asked_by_setup}
@@ -22,11 +21,9 @@ use Rattle.usb_port.specs.{PortCall, set_call, clear_call}
 use Rattle.usb_device.specs.declared.transfer.RememberedPacket.TheVariants.{Nothing, SetupSeen}
 use Rattle.usb_device.specs.declared.transfer.RememberedPacket.TheVariants.{OutSeen, AckAwaited}
 use Rattle.usb_device.specs.Request.{answers}
-use Rattle.usb_world.specs.{Damage, Attempt, mark_of, harm_to, marked, marked_some, payload_of}
-use Rattle.usb_world.specs.{goes_out, payload_out, asks_no_port}
+use Rattle.usb_world.specs.{Damage, Attempt, marked, marked_some, payload_of}
+use Rattle.usb_world.specs.{payload_out, asks_no_port}
 use Rattle.usb_tree.specs.{IfOut}
-use Rattle.usb_world.proofs.packets.AttemptPackets.{sent_out}
-use Rattle.usb_tree.proofs.Interface.{false_true, both}
 use Rattle.usb_world.proofs.packets.PacketPlaces.{is_left}
 
 abbrev pub payload_asks_no_port : Option (Toggle × ArrayVec ℕ) → Bool
@@ -42,76 +39,40 @@ pub record Allows (T : Effect → Bool) (r : Setup) : Type 0 where
   pub clear : Is r PORT_OUT CLEAR_FEATURE ≡ true → (c : PortCall) (i : ℕ)
       → clear_call r.value ≡ Some c → r.index ≡ suc i → T (Calls c i) ≡ true
 
--- wIndex counts ports from 1
-if_and_false : (x y : Bool) (n i : ℕ) → (if x && false && y then Some n else None) ≡ Some i → ⊥
-if_and_false true y n i h = false_true (ap is_some h)
-if_and_false false y n i h = false_true (ap is_some h)
-
-port_named-some : (o : Option Hub) (g : Registers) (n i : ℕ) → port_named o g n ≡ Some i → n ≡ suc i
-port_named-some None g n i h = false_true (ap is_some h)
-port_named-some (Some hub) g zero i h =
-    elim (if_and_false (not (g.configuration == 0)) (nat_le 0 hub.ports) (0 - 1) i h) [ ]
-port_named-some (Some hub) g (suc n) i h =
-    pick (not (g.configuration == 0) && nat_le 1 (suc n) && nat_le (suc n) hub.ports) h
-  where
-    pick : (x : Bool) → (if x then Some (suc n - 1) else None) ≡ Some i → suc n ≡ suc i
-    pick true e = let z : suc n - 1 ≡ i = same_Some (suc n - 1) i e in omega (arith, z)
-    pick false e = false_true (ap is_some e)
-
 module _ (T : Effect → Bool) (r : Setup) (h : Allows T r) where
   abbrev Good : Outcome → Type 0
   Good o = T (effect_of_request o) ≡ true
 
   both_ways : (b : Bool) (x y : Outcome) → Good x → Good y → Good (if b then x else y)
-  both_ways true x y f g = f
-  both_ways false x y f g = g
+  both_ways b x y f g = grind arith
 
   branch : (b : Bool) (x y : Outcome) → (b ≡ true → Good x) → Good y → Good (if b then x else y)
-  branch true x y f g = f refl
-  branch false x y f g = g
+  branch b x y f g = grind arith
 
   by_text : (o : Option (List ℕ)) → Good (elim o [ None ↦ stalled | Some text ↦ answers text ])
-  by_text None = h.rests
-  by_text (Some t) = h.rests
+  by_text o = grind arith
 
   by_descriptor : (s : Spec) (v : ℕ) → Good (asked_descriptor s v)
-  by_descriptor s v =
-      both_ways (v == descriptor_value DEVICE 0) _ _
-      (both_ways s.stalls.device stalled (answers s.descriptor) h.rests h.rests)
-      (both_ways (v / 256 == CONFIGURATION) _ _
-      (both_ways s.stalls.config stalled (text_asked s.configs (v % 256)) h.rests
-      (by_text (slice_get s.configs (v % 256))))
-      (both_ways (v / 256 == STRING) _ _ (both_ways s.stalls.string stalled
-      (text_asked s.strings (v % 256)) h.rests (by_text (slice_get s.strings (v % 256))))
-      h.rests))
+  by_descriptor s v = grind arith
 
   by_endpoint : (f : ServedEndpoint → Outcome) → ((w : ServedEndpoint) → Good (f w))
       → (o : Option ServedEndpoint) → Good (on_endpoint f o)
-  by_endpoint f c None = h.rests
-  by_endpoint f c (Some w) = c w
+  by_endpoint f c o = grind arith
 
   by_hub : (o : Option Hub) → Good (asked_hub_descriptor o r)
-  by_hub None = h.rests
-  by_hub (Some hub) = both_ways (r.value == descriptor_value HUB 0) (answers hub.descriptor) stalled
-      h.rests h.rests
+  by_hub o = grind arith
 
   by_status : (o : Option ℕ) → Good (told_port o)
-  by_status None = h.rests
-  by_status (Some i) = h.rests
+  by_status o = grind arith
 
   by_call : (c : Option PortCall) (o : Option ℕ) → ((x : PortCall) (i : ℕ) → c ≡ Some x → o ≡ Some i
       → T (Calls x i) ≡ true) → Good (called_at c o)
-  by_call None o f = h.rests
-  by_call (Some x) None f = h.rests
-  by_call (Some x) (Some i) f = f x i refl refl
+  by_call c o f = grind arith
 
   by_feature : (c : Option PortCall) (s : Spec) (g : Registers)
       → ((x : PortCall) (i : ℕ) → c ≡ Some x → r.index ≡ suc i → T (Calls x i) ≡ true)
       → Good (port_feature c s g r)
-  by_feature c s g f =
-      both_ways (r.length == 0) (called_at c (port_named s.hub g r.index)) stalled
-      (by_call c (port_named s.hub g r.index)
-      (λ x i e at. f x i e (port_named-some s.hub g r.index i at))) h.rests
+  by_feature c s g f = grind arith
 
   good_outcome : (s : Spec) (g : Registers) → Good (outcome s g r)
   unfolding outcome
@@ -174,21 +135,12 @@ content_allowed T (Whole (Payload t b)) s h = elim s.spec.silent
       | false ↦ data_allowed T s s.memory t b.items h
     ]
 content_allowed T Broken s h = h
-content_allowed T (Whole (packet.Token kind a e)) s h = elim h [ ]
-content_allowed T (Whole packet.Ack) s h = elim h [ ]
-content_allowed T (Whole (packet.Sof f)) s h = elim h [ ]
-content_allowed T (Whole packet.Nak) s h = elim h [ ]
-content_allowed T (Whole packet.Stall) s h = elim h [ ]
-content_allowed T (Whole packet.Pre) s h = elim h [ ]
+content_allowed T c s h = elim h [ ]
 
 pub sent_allowed : (T : Effect → Bool) → T Leaves ≡ true → (q : Sent) → AllowsOut T q.content
     → (deep : Bool) (s : State) → T (effect_of q deep s) ≡ true
 unfolding effect_of
-sent_allowed T l q c deep s = elim (hears q deep s)
-    as (λ x. T (if x then asked_by q.content s else Leaves) ≡ true) [
-      | true ↦ content_allowed T q.content s c
-      | false ↦ l
-    ]
+sent_allowed T l q c deep s = grind (arith, content_allowed)
 
 -- What the host sends
 
@@ -199,34 +151,10 @@ PayloadAllows T (Some x) = Allows T (setup_of x.1.items)
 pub payload_allowed : (T : Effect → Bool) → T Leaves ≡ true → (a : Attempt) (d : Option Damage)
     → PayloadAllows T a.payload → IfOut (AllowsOut T) (payload_out a d)
 unfolding payload_of marked_some marked
-payload_allowed T e a d h = go a.payload h
-  where
-    go : (o : Option (Toggle × ArrayVec ℕ)) → PayloadAllows T o → IfOut (AllowsOut T) (goes_out a
-        (marked_some d 2 a.pre (elim o [ None ↦ None | Some p ↦ Some (packet.Payload p.0 p.1) ])))
-    go None h = tt
-    go (Some x) h = sent_out (AllowsOut T) e a.low a.pre
-        (mark_of (harm_to d 2) a.pre (packet.Payload x.0 x.1)) (packet.Payload x.0 x.1) h
+payload_allowed T e a d h = grind arith
 
 -- Requests that ask nothing
 
-not-contradiction : {A : Type 0} (x : Bool) → not x ≡ true → x ≡ true → A
-not-contradiction true h e = false_true h
-not-contradiction false h e = false_true e
-
-pub no_port_allows : (r : Setup) → asks_no_port r ≡ true → Allows is_left r
-no_port_allows r h =
-    let one = both (not (Is r PORT_OUT SET_FEATURE)) (not (Is r PORT_OUT CLEAR_FEATURE) &&
-    not (Is r DEVICE_OUT SET_CONFIGURATION)) h in
-    let two = both (not (Is r PORT_OUT CLEAR_FEATURE)) (not (Is r DEVICE_OUT SET_CONFIGURATION))
-    one.1 in
-    record {
-      rests = refl;
-      off = λ e. not-contradiction (Is r DEVICE_OUT SET_CONFIGURATION) two.1 e;
-      set = λ e c i x y. not-contradiction (Is r PORT_OUT SET_FEATURE) one.0 e;
-      clear = λ e c i x y. not-contradiction (Is r PORT_OUT CLEAR_FEATURE) two.0 e;
-    }
-
 pub payload_no_port_allows : (o : Option (Toggle × ArrayVec ℕ)) → payload_asks_no_port o ≡ true
     → PayloadAllows is_left o
-payload_no_port_allows None h = tt
-payload_no_port_allows (Some x) h = no_port_allows (setup_of x.1.items) h
+payload_no_port_allows o h = grind arith

@@ -1,12 +1,13 @@
 -- A port of which nothing is asked stands as it stood, or a change of connection is pending on its
 -- way.
-use Rattle.std.proofs.Common.{◌≡◌, inl, inr, ℕ, zero, suc, true, false, List, [], ◌∷◌, option_map}
+use Rattle.std.proofs.Common.{arith}
+use Rattle.std.proofs.Common.{◌≡◌, ℕ, suc, true, false, List, [], ◌∷◌, option_map}
 use Rattle.std.proofs.Common.{refl, ap, sym, ◌∙◌}
 use Rattle.usb_port.specs.{PortCall}
 use Rattle.usb_device.specs.{Spec, Ports, called, changed, reach, state_there}
 use Rattle.usb_world.specs.{Action, Attempt, token_out, payload_out, reply_out, ports_in, spec_of}
 use Rattle.usb_world.specs.{World, after_change, names_path, after_event, at_attempt, damage_in}
-use Rattle.usb_world.specs.{with_attempt, Course, UndisturbedOrPends, KeepsPendingAt, made_leaves}
+use Rattle.usb_world.specs.{with_attempt, Course, KeepsPendingAt, made_leaves}
 use Rattle.usb_world.specs.{root_leaves, leaves_step, SameAt, LeavesPortAlone, UnchangedOrPending}
 use Rattle.usb_world.specs.{SameDeviceOrPending}
 use Rattle.usb_tree.specs.{has_power}
@@ -47,26 +48,20 @@ happened_same a d k p h =
 made_on : (a : Attempt) (w : World) (p : List ℕ) → made_leaves a w p ≡ true
     → reach (with_attempt a w).roots p ≡ reach w.roots p
 unfolding with_attempt ports_in
-made_on a w [] h = refl
-made_on a w (zero ∷ p) h = refl
 made_on a w (suc j ∷ p) h = (attempt_ports a.addr (token_out a (damage_in w))
     (payload_out a (damage_in w)) (reply_out a (damage_in w) w.roots)
     (goes a (damage_in w) w.roots) w.roots j p h).0
+made_on a w p h = refl
 
 made_what : (a : Attempt) (w : World) (p : List ℕ)
     → option_map spec_of (state_there (with_attempt a w).roots p)
     ≡ option_map spec_of (state_there w.roots p)
 unfolding with_attempt
-made_what a w p = shaped w.roots (ports_in a (damage_in w) w.roots) p
-    (shape_attempt a (damage_in w) w.roots)
+made_what a w p = grind (arith, shape_attempt, shaped)
 
 made_same : (a : Attempt) (w : World) (p : List ℕ) → made_leaves a w p ≡ true
     → SameAt w.roots (with_attempt a w).roots p
-made_same a w p h = record {
-  port = made_port a w p h;
-  on = made_on a w p h;
-  what = made_what a w p;
-}
+made_same a w p h = grind (arith, made_on, made_port, made_what)
 
 -- Steps
 
@@ -103,8 +98,4 @@ rests_or_pends p c = (over_course (rests_steps p) c).powered
 -- there: the same device stands there, or none
 pub stands_or_pends : (p : List ℕ) {w v : World} → Course (KeepsPendingAt p) w v
     → has_power w.roots p ≡ true → SameDeviceOrPending w v p
-stands_or_pends p {w} {v} c h = pick (untouched_or_pending p c h)
-  where
-    pick : UndisturbedOrPends w v p → SameDeviceOrPending w v p
-    pick (inl y) = inl (y.0, undisturbed_keeps p w v (course_wider (λ s w k. tt) c) y.1)
-    pick (inr y) = inr y
+stands_or_pends p {w} {v} c h = grind (arith, course_wider, undisturbed_keeps, untouched_or_pending)

@@ -1,16 +1,16 @@
 -- PORT_RESET of a root port gives the device there address 0, and leaves the others theirs.
-use Rattle.std.proofs.Common.{◌≡◌, ℕ, zero, suc, ◌&&◌, if◌then◌else◌, ◌⊎◌, inl, inr, Bool, true}
+use Rattle.std.proofs.Common.{arith}
+use Rattle.std.proofs.Common.{◌≡◌, ℕ, zero, suc, ◌&&◌, if◌then◌else◌, ◌⊎◌, true}
 use Rattle.std.proofs.Common.{false, List, [], ◌∷◌, ◌++◌, Option, None, Some, option_map, refl, ap}
 use Rattle.std.proofs.Common.{sym, subst, ◌∙◌}
 use Rattle.usb_port.specs.{PortCall, SetReset}
-use Rattle.usb_device.specs.{Ports, ended, vacant, taken, empty, full, called, changed_at, reach_at}
-use Rattle.usb_device.specs.{state_at, place_at}
-use Rattle.usb_device.specs.Tree.{Place}
+use Rattle.usb_device.specs.{Ports, vacant, taken, called, changed_at, reach_at, state_at, place_at}
+use Rattle.usb_device.specs.{Place}
 use Rattle.usb_tree.specs.{address_of, same_number, same_path, is_way, IsNew, takes_reset}
 use Rattle.usb_tree.specs.{call_resets}
 use Rattle.usb_world.specs.{World, root_call, after, root_resets, resets, HoldsMapped, Injective}
 use Rattle.usb_world.specs.{after_reset, after_taking}
-use Rattle.usb_tree.proofs.Interface.{false_true, both, and_false, decided}
+use Rattle.usb_tree.proofs.Interface.{false_true, both, and_false}
 use Rattle.usb_world.proofs.ports.PortCalls.{off_way, call_new, call_reach, call_state}
 use Rattle.usb_world.proofs.holders.OneDevice.{stands, state_stands}
 use Rattle.usb_world.proofs.courses.Courses.{unreset_reach}
@@ -21,28 +21,22 @@ use Rattle.usb_tree.proofs.Interface.{kept_address}
 pub new_below : (k : Ports) (i : ℕ) (p : List ℕ) (m : ℕ) (r : List ℕ) → IsNew (place_at k i p)
     → reach_at k i (p ++ (m ∷ r)) ≡ false
 unfolding place_at reach_at
-new_below ended i p m r h = refl
-new_below (vacant b k) zero p m r h = refl
 new_below (vacant b k) (suc i) p m r h = new_below k i p m r h
-new_below (taken b s a k) zero [] zero r h = refl
 new_below (taken b s a k) zero [] (suc m) r h =
     ap (λ x. b.enable && x) (ap (λ x. reach_at x m r) (sym h.3) ∙ (off_way a m r).0)
     ∙ and_false b.enable
-new_below (taken b s a k) zero (zero ∷ p) m r h = refl
 new_below (taken b s a k) zero (suc j ∷ p) m r h = ap (λ x. b.enable && x) (new_below a j p m r h)
     ∙ and_false b.enable
 new_below (taken b s a k) (suc i) p m r h = new_below k i p m r h
+new_below k i p m r h = refl
 
 pub is_new-zero : (x : Option Place) → IsNew x → option_map address_of (stands x) ≡ Some 0
-is_new-zero None h = elim h [ ]
-is_new-zero (Some (empty b)) h = elim h [ ]
-is_new-zero (Some (full b s a)) h = ap (λ n. Some n) h.0
+is_new-zero x h = grind arith
 
 pub same_number-is : (i j : ℕ) → same_number i j ≡ true → j ≡ i
 same_number-is zero zero h = refl
-same_number-is zero (suc j) h = false_true h
-same_number-is (suc i) zero h = false_true h
 same_number-is (suc i) (suc j) h = ap suc (same_number-is i j h)
+same_number-is n x h = false_true h
 
 -- a device that is reached and not reset
 call_address : (c : PortCall) (k : Ports) (i j : ℕ) (p : List ℕ) → call_resets c k i j p ≡ false
@@ -84,43 +78,23 @@ module _ (f : List ℕ → Option ℕ) (k : Ports) (i : ℕ) where
 
     at_it : (j : ℕ) (p : List ℕ) → j ≡ i → same_number i j ≡ true → reach_at reset_ports j p ≡ true
         → Given j p
-    at_it j [] e d h =
-        subst (λ x. option_map address_of (state_at reset_ports x []) ≡ Some 0) (sym e) zero_there
-        ∙ ap (λ x. if x && true then Some 0 else if is_way (suc i ∷ []) (suc j ∷ []) then None
-        else f (suc j ∷ [])) (sym d)
+    at_it j [] e d h = grind (arith, zero_there)
     at_it j (n ∷ p) e d h = false_true (sym
         (subst (λ x. reach_at reset_ports x (n ∷ p) ≡ false) (sym e)
         (new_below reset_ports i [] n p new)) ∙ h)
 
     pub reset_given : (j : ℕ) (p : List ℕ) → reach_at reset_ports j p ≡ true → Given j p
-    reset_given j p h = pick (decided (same_number i j))
-      where
-        pick : (same_number i j ≡ true) ⊎ (same_number i j ≡ false) → Given j p
-        pick (inl d) = at_it j p (same_number-is i j d) d h
-        pick (inr d) = elsewhere j p d h
+    reset_given j p h = grind (arith, at_it, elsewhere, same_number-is)
 
 pub reset_own : (f : List ℕ → Option ℕ) (n : ℕ) (w : World)
     → resets (root_call SetReset n) w (n ∷ []) ≡ true → HoldsMapped f w
     → HoldsMapped (after_reset f (n ∷ [])) (after (root_call SetReset n) w)
 unfolding resets after
-reset_own f zero w y own p h = false_true y
-reset_own f (suc i) w y own [] h = false_true h
-reset_own f (suc i) w y own (zero ∷ p) h = false_true h
-reset_own f (suc i) w y own (suc j ∷ p) h = reset_given f w.roots i y (λ j p on. own (suc j ∷ p) on)
-    j p h
+reset_own f n w y own p h = grind (arith, reset_given)
 
 root_kept : (n : ℕ) (k : Ports) (p : List ℕ) → root_resets SetReset n k (n ∷ []) ≡ false
     → root_resets SetReset n k p ≡ false
-root_kept zero k p y = refl
-root_kept (suc i) k [] y = refl
-root_kept (suc i) k (zero ∷ p) y = refl
-root_kept (suc i) k (suc j ∷ n ∷ p) y = refl
-root_kept (suc i) k (suc j ∷ []) y = pick (decided (same_number i j))
-  where
-    pick : (same_number i j ≡ true) ⊎ (same_number i j ≡ false) → call_resets SetReset k i j []
-        ≡ false
-    pick (inl d) = subst (λ x. call_resets SetReset k i x [] ≡ false) (sym (same_number-is i j d)) y
-    pick (inr d) = ap (λ x. x && takes_reset (place_at k j [])) d
+root_kept n k p y = grind (arith, same_number-is)
 
 -- a port that has nothing to reset
 pub rest_own : (f : List ℕ → Option ℕ) (n : ℕ) (w : World)
@@ -129,33 +103,24 @@ pub rest_own : (f : List ℕ → Option ℕ) (n : ℕ) (w : World)
 unfolding resets after
 rest_own f zero w y own p h = own p (unreset_reach (root_call SetReset zero) w p
     (root_kept zero w.roots p y) h).0
-rest_own f (suc i) w y own [] h = false_true h
-rest_own f (suc i) w y own (zero ∷ p) h = false_true h
 rest_own f (suc i) w y own (suc j ∷ p) h =
     let kept : call_resets SetReset w.roots i j p ≡ false =
     root_kept (suc i) w.roots (suc j ∷ p) y in
     call_address SetReset w.roots i j p kept
     ∙ own (suc j ∷ p) (call_reach SetReset w.roots i j p kept h)
+rest_own f n w y own p h = false_true h
 
 -- Injectivity
 
 way_split : (f : List ℕ → Option ℕ) (p q : List ℕ) (a : ℕ) → after_reset f p q ≡ Some a
     → ((same_path p q ≡ true) × (a ≡ 0)) ⊎ ((is_way p q ≡ false) × (f q ≡ Some a))
-way_split f p q a h = pick (same_path p q) (is_way p q) refl refl h
-  where
-    pick : (x y : Bool) → same_path p q ≡ x → is_way p q ≡ y
-        → (if x then Some 0 else if y then None else f q) ≡ Some a
-        → ((same_path p q ≡ true) × (a ≡ 0)) ⊎ ((is_way p q ≡ false) × (f q ≡ Some a))
-    pick true y e g h = inl (e, cc)
-    pick false true e g h = cc
-    pick false false e g h = inr (g, h)
+way_split f p q a h = grind arith
 
 pub same_is : (p q : List ℕ) → same_path p q ≡ true → q ≡ p
 same_is [] [] h = refl
-same_is [] (n ∷ q) h = false_true h
-same_is (m ∷ p) [] h = false_true h
 same_is (m ∷ p) (n ∷ q) h = let x : _ = both (same_number m n) (same_path p q) h in
     rw (same_number-is m n x.0, same_is p q x.1) refl
+same_is p x h = false_true h
 
 same_join : (p q r : List ℕ) → same_path p q ≡ true → same_path p r ≡ true → same_path q r ≡ true
 same_join p q r h g = rw (same_is p q h, same_is p r g) (self_path p)
@@ -163,41 +128,14 @@ same_join p q r h g = rw (same_is p q h, same_is p r g) (self_path p)
 -- addresses stay distinct, where no other device has address 0
 pub reset_distinct : (f : List ℕ → Option ℕ) (p : List ℕ) → Injective f
     → ((q : List ℕ) → f q ≡ Some 0 → is_way p q ≡ true) → Injective (after_reset f p)
-reset_distinct f p inj c q r a h g = pick (way_split f p q a h) (way_split f p r a g)
-  where
-    other : (q : List ℕ) → a ≡ 0 → is_way p q ≡ false → f q ≡ Some a → false ≡ true
-    other q z d e = sym d ∙ c q (e ∙ ap (λ n. Some n) z)
-
-    pick : ((same_path p q ≡ true) × (a ≡ 0)) ⊎ ((is_way p q ≡ false) × (f q ≡ Some a))
-        → ((same_path p r ≡ true) × (a ≡ 0)) ⊎ ((is_way p r ≡ false) × (f r ≡ Some a))
-        → same_path q r ≡ true
-    pick (inl x) (inl y) = same_join p q r x.0 y.0
-    pick (inl x) (inr y) = false_true (other r x.1 y.0 y.1)
-    pick (inr x) (inl y) = false_true (other q y.1 x.0 x.1)
-    pick (inr x) (inr y) = inj q r a x.1 y.1
+reset_distinct f p inj c q r a h g = grind (arith, same_join, way_split)
 
 taken_split : (f : List ℕ → Option ℕ) (p : List ℕ) (n : ℕ) (q : List ℕ) (a : ℕ)
     → after_taking f p n q ≡ Some a
     → ((same_path p q ≡ true) × (a ≡ n)) ⊎ ((same_path p q ≡ false) × (f q ≡ Some a))
-taken_split f p n q a h = pick (same_path p q) refl h
-  where
-    pick : (x : Bool) → same_path p q ≡ x → (if x then Some n else f q) ≡ Some a
-        → ((same_path p q ≡ true) × (a ≡ n)) ⊎ ((same_path p q ≡ false) × (f q ≡ Some a))
-    pick true e h = inl (e, cc)
-    pick false e h = inr (e, h)
+taken_split f p n q a h = grind arith
 
 -- the same, where no other device has the address that is taken
 pub taken_distinct : (f : List ℕ → Option ℕ) (p : List ℕ) (n : ℕ) → Injective f
     → ((q : List ℕ) → f q ≡ Some n → same_path p q ≡ true) → Injective (after_taking f p n)
-taken_distinct f p n inj c q r a h g = pick (taken_split f p n q a h) (taken_split f p n r a g)
-  where
-    other : (q : List ℕ) → a ≡ n → same_path p q ≡ false → f q ≡ Some a → false ≡ true
-    other q z d e = sym d ∙ c q (e ∙ ap (λ n. Some n) z)
-
-    pick : ((same_path p q ≡ true) × (a ≡ n)) ⊎ ((same_path p q ≡ false) × (f q ≡ Some a))
-        → ((same_path p r ≡ true) × (a ≡ n)) ⊎ ((same_path p r ≡ false) × (f r ≡ Some a))
-        → same_path q r ≡ true
-    pick (inl x) (inl y) = same_join p q r x.0 y.0
-    pick (inl x) (inr y) = false_true (other r x.1 y.0 y.1)
-    pick (inr x) (inl y) = false_true (other q y.1 x.0 x.1)
-    pick (inr x) (inr y) = inj q r a x.1 y.1
+taken_distinct f p n inj c q r a h g = grind (arith, same_join, taken_split)

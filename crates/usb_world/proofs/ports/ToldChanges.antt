@@ -1,11 +1,12 @@
 -- Where a change of connection is told, it is pending.
+use Rattle.std.proofs.Common.{arith}
 use Rattle.std.proofs.Common.{◌≡◌, ℕ, zero, suc, ◌&&◌, ◌||◌, ◌⊎◌, inl, inr, Bool, true, false, List}
 use Rattle.std.proofs.Common.{[], ◌∷◌, Some, refl, ap, sym, ◌∙◌}
 use Rattle.usb_port.specs.{PortState}
 use Rattle.usb_device.specs.{Ports, ended, vacant, taken, port_at, port_there}
 use Rattle.usb_tree.specs.{pending_at, pending, is_way}
 use Rattle.usb_world.specs.{IsSanePort, Consistent}
-use Rattle.usb_tree.proofs.Interface.{and_of, or_left}
+use Rattle.usb_tree.proofs.Interface.{and_of}
 use Rattle.usb_tree.proofs.Interface.{self_number}
 
 -- whether the port at a path, or one on its way, has C_PORT_CONNECTION set
@@ -19,22 +20,16 @@ change_told_at (taken b s a k) zero (suc j ∷ p) = b.connection_changed || chan
 change_told_at (taken b s a k) (suc i) p = change_told_at k i p
 
 abbrev pub change_told : Ports → List ℕ → Bool
-change_told k [] = false
-change_told k (zero ∷ p) = false
 change_told k (suc i ∷ p) = change_told_at k i p
+change_told k p = false
 
 -- a change of connection is told only by a port with power
 told_power : (b : PortState) → IsSanePort b → b.connection_changed ≡ true → b.power ≡ true
-told_power b h e = h.changed (or_left (b.connection_changed || b.enable_changed) b.reset_changed
-    (or_left b.connection_changed b.enable_changed e))
+told_power b h e = grind arith
 
 own_change : (b : PortState) → IsSanePort b → (b.power && b.connection_changed)
     ≡ b.connection_changed
-own_change b h = pick b.connection_changed refl
-  where
-    pick : (x : Bool) → b.connection_changed ≡ x → (b.power && x) ≡ x
-    pick true e = and_of b.power true (told_power b h e) refl
-    pick false e = elim b.power as (λ y. (y && false) ≡ false) [ true ↦ refl | false ↦ refl ]
+own_change b h = grind arith
 
 -- each port on the way has power, or tells of a change, or stands below one that does
 abbrev MayTell : Ports → ℕ → List ℕ → Type 0
@@ -82,7 +77,6 @@ pub pending_told : (k : Ports) (path : List ℕ) → Consistent k
     → (b.power ≡ true) ⊎ (change_told k x ≡ true))
     → pending k path ≡ change_told k path
 unfolding is_way
-pending_told k [] h c = refl
-pending_told k (zero ∷ p) h c = refl
 pending_told k (suc i ∷ p) h c = pend_told k i p h
     (λ x b w at. c (suc i ∷ x) b (and_of _ (is_way x p) (self_number (suc i)) w) at)
+pending_told k p h c = refl

@@ -1,5 +1,6 @@
 -- An attempt of which nothing is damaged, at the one device that it is for and on one way down the
 -- tree, is the attempt in the whole tree.
+use Rattle.std.proofs.Common.{arith}
 use Rattle.std.proofs.Common.{◌≡◌, ℕ, zero, suc, ◌+◌, ◌&&◌, if◌then◌else◌, Bool, true, false, List}
 use Rattle.std.proofs.Common.{[], ◌∷◌, ◌++◌, Option, None, Some, option_map, nat_eq, refl, ap, ap₂}
 use Rattle.std.proofs.Common.{sym, subst, ◌∙◌}
@@ -7,16 +8,15 @@ use Rattle.std.specs.Option.{option_eq}
 use Rattle.std.proofs.lemmas.Option.{same_Some}
 use Rattle.usb_port.specs.{PortState}
 use Rattle.usb_device.specs.declared.answer.Answer.TheVariants as answer
-use Rattle.usb_device.specs.{HostSide, DeviceSide, Heard, Sent, Ports, ended, vacant, taken}
-use Rattle.usb_device.specs.{Plugged, empty, full, before, changed_at, changed, plugged_at}
-use Rattle.usb_device.specs.{device_there, place_at, taken_sent, all_forgotten, heard_of}
-use Rattle.usb_device.specs.{heard_from, both, has_loss, asks_clearing, keeps_others, answer_by}
-use Rattle.usb_device.specs.{effect_by, RefusedBy, forgotten_in, address_by, token_sent, ack_sent}
-use Rattle.usb_device.specs.{after_packet_at, answer_from, asked_from, RefusedFrom, takes_data}
-use Rattle.usb_device.specs.{after_token, after_data, heard_of_both, acknowledges, after_reply}
-use Rattle.usb_device.specs.{side_of, heard_at, side_at, RefusedAt, left_in, cut_in}
+use Rattle.usb_device.specs.{HostSide, DeviceSide, Heard, Sent, Ports, vacant, taken, Plugged}
+use Rattle.usb_device.specs.{empty, full, before, changed_at, changed, plugged_at, device_there}
+use Rattle.usb_device.specs.{place_at, taken_sent, all_forgotten, heard_of, heard_from, both}
+use Rattle.usb_device.specs.{has_loss, asks_clearing, keeps_others, answer_by, effect_by, RefusedBy}
+use Rattle.usb_device.specs.{forgotten_in, address_by, token_sent, ack_sent, after_packet_at}
+use Rattle.usb_device.specs.{answer_from, asked_from, RefusedFrom, takes_data, after_token}
+use Rattle.usb_device.specs.{after_data, heard_of_both, acknowledges, after_reply, side_of}
+use Rattle.usb_device.specs.{heard_at, side_at, RefusedAt, left_in, cut_in, Place}
 use Rattle.usb_device.specs.declared.delivery.Heard.TheVariants as below
-use Rattle.usb_device.specs.Tree.{Place}
 use Rattle.usb_device.proofs.Interface.{changed_at-twice, heard_of-append, figure-after}
 use Rattle.usb_device.proofs.Interface.{row_of-after}
 use Rattle.usb_world.specs.{Attempt, Exchange, ExchangeAnswer, Whole, Outgoing, harm_to, mark_of}
@@ -26,7 +26,6 @@ use Rattle.usb_world.specs.{heard_in, place_of_answer, mark_in, reply_in, reply_
 use Rattle.usb_world.specs.{is_lost, lost_in, clears_at, cleared_in, exchange_in, ended_in}
 use Rattle.usb_world.specs.{ports_in, StaysPlugged, Exchanged, IsStopped, heard_above, host_side}
 use Rattle.usb_world.specs.{keeps_address, IsCut}
-use Rattle.usb_world.specs.declared.exchange.ExchangeAnswer.TheVariants.{Nothing, One, Collision}
 use Rattle.usb_tree.specs.{IsSettled, after_sent, answers_to, deep_at, Alone, AloneAt, IsQuiet}
 use Rattle.usb_tree.specs.{KeptAt, is_whole_tree, is_deep}
 use Rattle.usb_tree.proofs.Interface.{false_true, both as both_true}
@@ -45,17 +44,15 @@ changed_at-there : (f g : Place → Place) (k : Ports) (j : ℕ) (p : List ℕ) 
     → place_at k j p ≡ Some x → ((y : Place) → Some y ≡ Some x → f y ≡ g y)
     → changed_at f k j p ≡ changed_at g k j p
 unfolding place_at changed_at
-changed_at-there f g ended j p x at e = refl
 changed_at-there f g (vacant b k) zero [] x at e = ap (λ y. before y k) (e (empty b) at)
-changed_at-there f g (vacant b k) zero (n ∷ p) x at e = refl
 changed_at-there f g (vacant b k) (suc j) p x at e =
     ap (vacant b) (changed_at-there f g k j p x at e)
 changed_at-there f g (taken b s a k) zero [] x at e = ap (λ y. before y k) (e (full b s a) at)
-changed_at-there f g (taken b s a k) zero (zero ∷ p) x at e = refl
 changed_at-there f g (taken b s a k) zero (suc j ∷ p) x at e =
     ap (λ y. taken b s y k) (changed_at-there f g a j p x at e)
 changed_at-there f g (taken b s a k) (suc j) p x at e =
     ap (taken b s a) (changed_at-there f g k j p x at e)
+changed_at-there f g k j p x at e = refl
 
 -- ---- one packet at the device
 
@@ -64,8 +61,7 @@ place_plugged b t = full b t.own t.ports
 
 step_in-plugged : (o : Option Sent) (deep : Bool) (b : PortState) (t : Plugged)
     → step_in o deep (place_plugged b t) ≡ place_plugged b (after_packet_at o deep t)
-step_in-plugged None deep b t = refl
-step_in-plugged (Some q) deep b t = refl
+step_in-plugged o deep b t = grind arith
 
 module _ (o : Option Sent) (k : Ports) (j : ℕ) (p : List ℕ) (b : PortState) (t : Plugged)
     (alone : Alone o k (record { row = j; rest = p }))
@@ -125,28 +121,17 @@ stopped_one (Some q) k j p b t alone at h =
     }
 
 after_sent-plugged : (o : Option Sent) (k : Ports) → StaysPlugged k (after_sent o k)
-after_sent-plugged None k = record { row = refl; figure = refl }
-after_sent-plugged (Some q) k = record {
-  row = row_of-after q false k;
-  figure = figure-after q false k;
-}
+after_sent-plugged o k = grind (arith, figure-after, row_of-after)
 
 -- ---- no damage
 
 whole_answer : (n : ℕ) (h : ExchangeAnswer) → answer_mark (harm_to None n) h ≡ Whole
 unfolding answer_mark harm_to mark_of
-whole_answer n Nothing = refl
-whole_answer n (One p) = refl
-whole_answer n Collision = refl
+whole_answer n h = grind arith
 
 reply_taken : (g : Heard) (max : ℕ) → reply_of (heard_above g) Whole max ≡ ack_if (takes_data max g)
 unfolding reply_of is_read
-reply_taken below.NoAnswer max = refl
-reply_taken below.Collision max = refl
-reply_taken (below.One answer.Ack) max = refl
-reply_taken (below.One answer.Nak) max = refl
-reply_taken (below.One answer.Stall) max = refl
-reply_taken (below.One (answer.Data toggle bytes)) max = refl
+reply_taken g max = grind arith
 
 token_out-undamaged : (a : Attempt) → token_out a None ≡ Some (token_sent (host_side a))
 unfolding token_of marked harm_to mark_of
@@ -158,21 +143,18 @@ walk_ack y w = if w then Some (ack_sent y) else None
 ack_is : (a : Attempt) (n : ℕ) (w : Bool)
     → goes_out a (marked_some None n a.pre (ack_if w)) ≡ walk_ack (host_side a) w
 unfolding marked_some marked harm_to mark_of
-ack_is a n true = refl
-ack_is a n false = refl
+ack_is a n w = grind arith
 
 lost_if : (a : Attempt) (n : ℕ) (k : Ports) (w : Bool)
     → is_lost (marked_some None n a.pre (ack_if w))
     (goes_out a (marked_some None n a.pre (ack_if w))) k ≡
     (w && has_loss (after_sent (walk_ack (host_side a) w) k))
 unfolding marked_some marked harm_to mark_of
-lost_if a n k true = refl
-lost_if a n k false = refl
+lost_if a n k w = grind arith
 
 sent_to-ack : (y : HostSide) (deep : Bool) (t : Plugged) (w : Bool)
     → after_packet_at (walk_ack y w) deep t ≡ (if w then (taken_sent (ack_sent y) deep t).1 else t)
-sent_to-ack y deep t true = refl
-sent_to-ack y deep t false = refl
+sent_to-ack y deep t w = grind arith
 
 -- ---- the attempt
 
@@ -241,9 +223,7 @@ module _ (a : Attempt) (k : Ports) (j : ℕ) (p : List ℕ)
   mark_is = whole_answer (place_of_answer a None) (heard_in a None k)
 
   pub reply_is : reply_in a None k ≡ marked_some None n a.pre (ack_if w)
-  reply_is =
-      ap₂ (λ h m. marked_some None n a.pre (reply_of h m a.max)) heard_is mark_is
-      ∙ ap (marked_some None n a.pre) (reply_taken (heard_of_both y q deep_there device) a.max)
+  reply_is = grind (arith, heard_is, mark_is, reply_taken)
 
   reply_out_is : r ≡ walk_ack y w
   reply_out_is = ap (goes_out a) reply_is ∙ ack_is a n w
@@ -387,16 +367,10 @@ module _ (a : Attempt) (k m : Ports) (j : ℕ) (p : List ℕ) (x : Exchange) (g 
   data_then = walked.data_is ∙ ap (goes_out a) walked.payload
 
   side_is : side ≡ side_of host data_sent (deep_at false p) device_then
-  side_is =
-      walked.told
-      ∙ (λ i. side_at (walked.host_is i) (data_then i) (walked.deep_is i) (plugged_at k j p))
-      ∙ ap (side_at host data_sent (deep_at false p)) (there a k j p one)
+  side_is = grind (arith, data_then, there)
 
   heard_then : g ≡ heard_of_both host data_sent (deep_at false p) device_then
-  heard_then =
-      walked.heard
-      ∙ (λ i. heard_at (walked.host_is i) (data_then i) (walked.deep_is i) (plugged_at k j p))
-      ∙ ap (heard_at host data_sent (deep_at false p)) (there a k j p one)
+  heard_then = grind (arith, data_then, there)
 
   acknowledged_is : side.acknowledged ≡ acknowledges host data_sent (deep_at false p) device_then
   unfolding side_of
@@ -407,34 +381,17 @@ module _ (a : Attempt) (k m : Ports) (j : ℕ) (p : List ℕ) (x : Exchange) (g 
   address_is = ap (λ s. s.address) side_is ∙ ap address_by (sym (end_there a k j p one))
 
   pub ports_there : m ≡ ports_in a None k
-  ports_there =
-      walked.ports
-      ∙ (λ i. changed_at (left_in (walked.host_is i) (data_then i) (walked.deep_is i)) k j p)
-      ∙ left_is a k j p one
+  ports_there = grind (arith, data_then, left_is)
 
   answer_is : x.answer ≡ heard_in a None k
   answer_is = walked.answer ∙ ap heard_above heard_then ∙ sym (heard_is a k j p one)
 
   reply_then : x.reply ≡ reply_in a None k
-  reply_then =
-      walked.reply
-      ∙ ap₂ (λ o s. marked_some None (answer_place o + 1) a.pre (ack_if s)) walked.payload
-      acknowledged_is
-      ∙ sym (reply_is a k j p one)
+  reply_then = grind (arith, acknowledged_is, reply_is)
 
   pub exchange_there : x ≡ exchange_in a None k
   unfolding exchange_in
-  exchange_there = λ i. record {
-    token = walked.token i;
-    payload = walked.payload i;
-    answer = answer_is i;
-    answer_mark = (walked.mark ∙ sym (mark_is a k j p one)) i;
-    reply = reply_then i;
-    address_lost = (walked.lost ∙ ap (λ s. s.address_lost) side_is ∙ sym (lost_is a k j p one)) i;
-    change_cleared =
-        (walked.cleared ∙ ap (λ s. asks_clearing s.effect) side_is ∙ sym (cleared_is a k j p one))
-        i;
-  }
+  exchange_there = grind (arith, answer_is, cleared_is, lost_is, mark_is, reply_then, side_is)
 
   pub kept_there : (port : ℕ) → keeps_others port side.effect ≡ true
       → option_eq nat_eq side.address (Some a.addr) ≡ true → KeptAt a.addr port k m (suc j ∷ p)
@@ -481,9 +438,7 @@ module _ (a : Attempt) (k m : Ports) (j : ℕ) (p : List ℕ) (o : Option Outgoi
     (one : Alone (token_out a None) k (record { row = j; rest = p }))
     (walked : CutShort a k m (suc j ∷ p) o) where
   pub cut_there : m ≡ all_forgotten (after_sent (token_out a None) k)
-  cut_there =
-      walked.ports ∙ ap₂ (λ z d. changed_at (cut_in z d) k j p) walked.host_is walked.deep_is
-      ∙ cut_is a k j p one
+  cut_there = grind (arith, cut_is)
 
   pub stopped_there :
       IsStopped (payload_out a None) (after_sent (token_out a None) k)

@@ -1,38 +1,32 @@
 -- A packet that goes straight to the one device that it is for does what it does in the whole tree.
+use Rattle.std.proofs.Common.{arith}
 use Rattle.std.proofs.Common.{◌≡◌, ◌<◌, ℕ, zero, suc, ◌&&◌, ◌||◌, if◌then◌else◌, Bool, true, false}
-use Rattle.std.proofs.Common.{List, [], ◌∷◌, Option, None, Some, is_some, option_map, Result, Ok}
+use Rattle.std.proofs.Common.{List, [], ◌∷◌, Option, None, Some, is_some, Result, Ok}
 use Rattle.std.proofs.Common.{Err, OnOk, OnErr, refl, ap, sym, subst, ◌∙◌}
 use Rattle.usb_port.specs.{PortState}
-use Rattle.usb_device.specs.{Answer, Heard, Sent, State, awaits_address, awaits_control}
-use Rattle.usb_device.specs.{ends_with_address, Stopped, behind_empty, behind, below, here, Ports}
-use Rattle.usb_device.specs.{ended, vacant, taken, Plugged, empty, full, before, acted, changed_at}
-use Rattle.usb_device.specs.{changed, plugged_at, device_there, reach_at, state_at, place_at}
-use Rattle.usb_device.specs.{row_of, listed, held_addresses, repeats, answer_of, effect_of}
-use Rattle.usb_device.specs.{after_packet, delivered_place, delivered_device, on_port, heard_of}
-use Rattle.usb_device.specs.{heard_from, both, all_forgotten, has_loss, asks_clearing}
-use Rattle.usb_device.specs.{clears_change, figure, sent_in, answer_by, RefusedBy, effect_by}
-use Rattle.usb_device.specs.{forgotten_in, holds_by, is_held_at, Holder, holder_of, holder_in}
-use Rattle.usb_device.specs.{IsIndexOf}
-use Rattle.usb_device.specs.declared.delivery.Heard.TheVariants.{NoAnswer}
+use Rattle.usb_device.specs.{Heard, Sent, State, awaits_address, awaits_control, ends_with_address}
+use Rattle.usb_device.specs.{Stopped, behind_empty, behind, below, here, Ports, ended, vacant}
+use Rattle.usb_device.specs.{taken, Plugged, empty, full, before, acted, changed_at, changed}
+use Rattle.usb_device.specs.{plugged_at, device_there, reach_at, state_at, place_at, row_of}
+use Rattle.usb_device.specs.{held_addresses, repeats, answer_of, effect_of, after_packet}
+use Rattle.usb_device.specs.{delivered_place, heard_of, heard_from, both, all_forgotten, has_loss}
+use Rattle.usb_device.specs.{asks_clearing, clears_change, figure, sent_in, answer_by, RefusedBy}
+use Rattle.usb_device.specs.{effect_by, forgotten_in, is_held_at, IsIndexOf, Place}
 use Rattle.usb_device.specs.declared.transfer.RememberedPacket.TheVariants.{Nothing}
-use Rattle.usb_device.specs.Tree.{Place}
-use Rattle.usb_device.specs.declared.holders.Holder.TheVariants.{Nobody, One, Several}
 use Rattle.usb_device.specs.declared.holders.Holders.{Holders}
 use Rattle.usb_device.proofs.Interface.{figure-after, one_is_held, row_of-after}
-use Rattle.usb_world.specs.{Attempt, Damage, token_out, clears_at, IsStopped, holder_path, way_in}
-use Rattle.usb_tree.specs.{address_of, after_sent, answers_to, deep_at, IfOut, IsTokenFor}
-use Rattle.usb_tree.specs.{IsDataOut, IsAckOut, IsSettled, OthersForgot, Alone, AloneAt, IsWayTo}
-use Rattle.usb_tree.specs.{is_whole_tree, is_deep}
+use Rattle.usb_world.specs.{Attempt, Damage, token_out, clears_at, IsStopped, way_in}
+use Rattle.usb_tree.specs.{after_sent, answers_to, deep_at, IfOut, IsTokenFor, IsDataOut, IsAckOut}
+use Rattle.usb_tree.specs.{IsSettled, OthersForgot, Alone, AloneAt, IsWayTo, is_whole_tree, is_deep}
 use Rattle.usb_tree.proofs.Interface.{false_true, both as both_true, and_of, or_nothing}
 use Rattle.usb_world.proofs.packets.PacketEffects.{true_deep}
-use Rattle.usb_world.proofs.packets.AttemptPackets.{rested_answer, ack_calls}
+use Rattle.usb_world.proofs.packets.AttemptPackets.{rested_answer}
 use Rattle.usb_world.proofs.packets.PacketWays.{clears_if}
 use Rattle.usb_world.proofs.holders.OneDevice.{IsRested, OthersRest, SentToOne, sent_to_one}
 use Rattle.usb_world.proofs.holders.OneDevice.{rest_packet, rested_effect, others_answer}
 use Rattle.usb_world.proofs.holders.OneDevice.{settled_memory, other_address, token_calls}
-use Rattle.usb_world.proofs.holders.OneDevice.{payload_calls, answer_at}
+use Rattle.usb_world.proofs.holders.OneDevice.{answer_at}
 use Rattle.usb_world.proofs.courses.Courses.{goes}
-use Rattle.usb_tree.proofs.Interface.{equal_same}
 use Rattle.usb_tree.proofs.Interface.{forgotten-nothing}
 
 -- ---- the tree after the packet
@@ -41,8 +35,6 @@ pub others_packet : (q : Sent) (deep : Bool) (k : Ports) (j : ℕ) (p : List ℕ
     → reach_at k j p ≡ true → OthersRest q k j p
     → after_packet q deep k ≡ changed_at (sent_in q (deep_at deep p)) k j p
 unfolding after_packet state_at reach_at changed_at
-others_packet q deep ended j p h c = false_true h
-others_packet q deep (vacant b k) zero p h c = false_true h
 others_packet q deep (vacant b k) (suc j) p h c =
     ap (vacant b) (others_packet q deep k j p h (λ i e. c (suc i) e))
 others_packet q deep (taken b s a k) zero [] h c =
@@ -52,7 +44,6 @@ others_packet q deep (taken b s a k) zero [] h c =
       rest_packet q deep k (λ i e t f on. c (suc i) e t refl f on),
     )
     refl
-others_packet q deep (taken b s a k) zero (zero ∷ p) h c = false_true h
 others_packet q deep (taken b s a k) zero (suc j ∷ p) h c =
     let on : _ = both_true b.enable (reach_at a j p) h in
     found on.0 (others_packet q true a j p on.1
@@ -88,6 +79,7 @@ others_packet q deep (taken b s a k) (suc j) p h c =
           ih,
         ) refl
     split false e ih = ap (taken b s a) ih
+others_packet q deep k j p h c = false_true h
 
 -- ---- its answer, and what it asks
 
@@ -99,37 +91,25 @@ plugged_on (Some (full b s a)) = Some (record { own = s; ports = a })
 pub plugged_place : (k : Ports) (j : ℕ) (p : List ℕ)
     → plugged_on (place_at k j p) ≡ plugged_at k j p
 unfolding place_at plugged_at
-plugged_place ended j p = refl
 plugged_place (vacant b k) zero [] = refl
-plugged_place (vacant b k) zero (n ∷ p) = refl
 plugged_place (vacant b k) (suc j) p = plugged_place k j p
-plugged_place (taken b s a k) zero [] = refl
-plugged_place (taken b s a k) zero (zero ∷ p) = refl
 plugged_place (taken b s a k) zero (suc j ∷ p) = plugged_place a j p
 plugged_place (taken b s a k) (suc j) p = plugged_place k j p
-
-heard_of-listed : (o : Option Answer) → heard_of (listed o []) ≡ heard_from o
-heard_of-listed None = refl
-heard_of-listed (Some x) = refl
+plugged_place k j p = refl
 
 pub heard_place_by : (q : Sent) (deep : Bool) (x : Option Place) → heard_of (answer_at q deep x)
     ≡ heard_from (answer_by q deep (plugged_on x))
-heard_place_by q deep None = refl
-heard_place_by q deep (Some (empty b)) = refl
-heard_place_by q deep (Some (full b s a)) = heard_of-listed (answer_of q deep s a).0
+heard_place_by q deep x = grind arith
 
 pub rest_clears : (q : Sent) (deep : Bool) (k : Ports)
     → ((i : ℕ) (e : List ℕ) (t : State) → state_at k i e ≡ Some t → t.memory ≡ Nothing)
     → clears_change q deep k ≡ false
-rest_clears q deep k c = clears_if q deep k
-    (λ i e t at dp. ap asks_clearing (rested_effect q dp t (c i e t at)))
+rest_clears q deep k c = grind (arith, clears_if, rested_effect)
 
 pub others_clear : (q : Sent) (deep : Bool) (k : Ports) (j : ℕ) (p : List ℕ) → reach_at k j p ≡ true
     → OthersForgot k (record { row = j; rest = p })
     → clears_change q deep k ≡ asks_clearing (effect_by q (deep_at deep p) (plugged_at k j p))
 unfolding clears_change state_at reach_at plugged_at
-others_clear q deep ended j p h c = false_true h
-others_clear q deep (vacant b k) zero p h c = false_true h
 others_clear q deep (vacant b k) (suc j) p h c = others_clear q deep k j p h (λ i e. c (suc i) e)
 others_clear q deep (taken b s a k) zero [] h c =
     rw (
@@ -141,7 +121,6 @@ others_clear q deep (taken b s a k) zero [] h c =
     twice : (x : Bool) → ((x || false) || false) ≡ x
     twice true = refl
     twice false = refl
-others_clear q deep (taken b s a k) zero (zero ∷ p) h c = false_true h
 others_clear q deep (taken b s a k) zero (suc j ∷ p) h c =
     let on : _ = both_true b.enable (reach_at a j p) h in
     rw (
@@ -163,6 +142,7 @@ others_clear q deep (taken b s a k) (suc j) p h c =
     first : (x y : Bool) → ((x && false) || y) ≡ y
     first true y = refl
     first false y = refl
+others_clear q deep k j p h c = false_true h
 
 -- ---- what is forgotten, and who awaits an ACK
 
@@ -181,8 +161,6 @@ pub others_forget : (k : Ports) (j : ℕ) (p : List ℕ) → reach_at k j p ≡ 
     → OthersForgot k (record { row = j; rest = p })
     → all_forgotten k ≡ changed_at forgotten_in k j p
 unfolding all_forgotten state_at reach_at changed_at
-others_forget ended j p h c = false_true h
-others_forget (vacant b k) zero p h c = false_true h
 others_forget (vacant b k) (suc j) p h c =
     ap (vacant b) (others_forget k j p h (λ i e. c (suc i) e))
 others_forget (taken b s a k) zero [] h c =
@@ -190,7 +168,6 @@ others_forget (taken b s a k) zero [] h c =
       rest_forget a (λ i e t f. c zero (suc i ∷ e) t refl f),
       rest_forget k (λ i e t f. c (suc i) e t refl f),
     ) refl
-others_forget (taken b s a k) zero (zero ∷ p) h c = false_true h
 others_forget (taken b s a k) zero (suc j ∷ p) h c =
     let on : _ = both_true b.enable (reach_at a j p) h in
     rw (
@@ -205,6 +182,7 @@ others_forget (taken b s a k) (suc j) p h c =
       rest_forget a (λ i e t f. c zero (suc i ∷ e) t refl f),
       others_forget k j p h (λ i e. c (suc i) e),
     ) refl
+others_forget k j p h c = false_true h
 
 pub rest_awaits : (s : State) → s.memory ≡ Nothing → awaits_address s ≡ false
 unfolding awaits_address
@@ -228,8 +206,6 @@ loss_by (Some t) = awaits_address t.own
 pub others_loss : (k : Ports) (j : ℕ) (p : List ℕ) → reach_at k j p ≡ true
     → OthersForgot k (record { row = j; rest = p }) → has_loss k ≡ loss_by (plugged_at k j p)
 unfolding has_loss state_at reach_at plugged_at
-others_loss ended j p h c = false_true h
-others_loss (vacant b k) zero p h c = false_true h
 others_loss (vacant b k) (suc j) p h c = others_loss k j p h (λ i e. c (suc i) e)
 others_loss (taken b s a k) zero [] h c =
     rw (
@@ -240,7 +216,6 @@ others_loss (taken b s a k) zero [] h c =
     twice : (x : Bool) → ((x || false) || false) ≡ x
     twice true = refl
     twice false = refl
-others_loss (taken b s a k) zero (zero ∷ p) h c = false_true h
 others_loss (taken b s a k) zero (suc j ∷ p) h c =
     let on : _ = both_true b.enable (reach_at a j p) h in
     rw (
@@ -255,36 +230,24 @@ others_loss (taken b s a k) (suc j) p h c =
       rest_loss a (λ i e t f. c zero (suc i ∷ e) t refl f),
       others_loss k j p h (λ i e. c (suc i) e),
     ) refl
+others_loss k j p h c = false_true h
 
 -- ---- memory that was refused
 
 rested_place : (q : Sent) (deep : Bool) (b : PortState) (s : State) (a : Ports)
     → (b.enable ≡ true → IsRested q s) → (b.enable ≡ true → after_packet q true a ≡ a)
     → (delivered_place q deep (full b s a)).1 ≡ full b s a
-rested_place q deep b s a c f = split b.enable c f
-  where
-    split : (x : Bool) → (x ≡ true → IsRested q s) → (x ≡ true → after_packet q true a ≡ a)
-        → (if x then on_port b (delivered_device q deep (record { own = s; ports = a }))
-        else (NoAnswer, full b s a)).1 ≡ full b s a
-    split true c f = rw (
-      rested_answer q deep s a (c refl).0 (c refl).1,
-      rested_effect q deep s (c refl).0,
-      f refl,
-    ) refl
-    split false c f = refl
+rested_place q deep b s a c f = grind (arith, rested_answer, rested_effect)
 
 pub others_stop : (q : Sent) (deep : Bool) (k : Ports) (j : ℕ) (p : List ℕ) → reach_at k j p ≡ true
     → OthersRest q k j p → RefusedBy q (deep_at deep p) (plugged_at k j p) → Stopped q deep k k
 unfolding state_at reach_at plugged_at
-others_stop q deep ended j p h c r = false_true h
-others_stop q deep (vacant b k) zero p h c r = false_true h
 others_stop q deep (vacant b k) (suc j) p h c r =
     behind_empty b (others_stop q deep k j p h (λ i e. c (suc i) e) r)
 others_stop q deep (taken b s a k) zero [] h c r =
     subst (λ x. Stopped q deep (taken b s a k) (taken b s x k))
     (rest_packet q true a (λ i e t f on. c zero (suc i ∷ e) t refl f (and_of b.enable _ h on)))
     (here b s a k r.packet h r.content r.heard r.grows)
-others_stop q deep (taken b s a k) zero (zero ∷ p) h c r = false_true h
 others_stop q deep (taken b s a k) zero (suc j ∷ p) h c r =
     let on : _ = both_true b.enable (reach_at a j p) h in
     below b s k on.0 (others_stop q true a j p on.1
@@ -296,6 +259,7 @@ others_stop q deep (taken b s a k) (suc j) p h c r =
     (λ on. rest_packet q true a (λ i e t f o. c zero (suc i ∷ e) t refl f
     (and_of b.enable _ on o))))
     (behind b s a (others_stop q deep k j p h (λ i e. c (suc i) e) r))
+others_stop q deep k j p h c r = false_true h
 
 -- ---- by paths
 
@@ -306,9 +270,7 @@ others_rest q k j p h i e t d f on = (h.forgot i e t d f, h.uncalled q refl i e 
 module _ (q : Sent) (k : Ports) where
   ports_of : (m : Ports) (p : List ℕ) → is_whole_tree p ≡ false → AloneAt (Some q) k p
       → m ≡ changed (sent_in q (is_deep p)) k p → m ≡ after_sent (Some q) k
-  ports_of m [] f h e = false_true (sym f)
-  ports_of m (zero ∷ p) f h e = absurd h
-  ports_of m (suc j ∷ p) f h e = e ∙ sym (others_packet q false k j p h.on (others_rest q k j p h))
+  ports_of m p f h e = grind (arith, others_packet, others_rest)
 
   heard_of_one : (g h : Heard) (p : List ℕ) → is_whole_tree p ≡ false → AloneAt (Some q) k p
       → h ≡ both g (heard_from (answer_by q (is_deep p) (device_there k p)))
@@ -323,15 +285,7 @@ module _ (q : Sent) (k : Ports) where
 
   stopped_of : (m : Ports) (p : List ℕ) → is_whole_tree p ≡ false → AloneAt (Some q) k p → m ≡ k
       → RefusedBy q (is_deep p) (device_there k p) → IsStopped (Some q) k m
-  stopped_of m [] f h e w = false_true (sym f)
-  stopped_of m (zero ∷ p) f h e w = absurd h
-  stopped_of m (suc j ∷ p) f h e w = record {
-    sent = q;
-    went = refl;
-    stopped =
-        subst (Stopped q false k) (sym e) (others_stop q false k j p h.on (others_rest q k j p h)
-        w);
-  }
+  stopped_of m p f h e w = grind (arith, others_rest, others_stop)
 
 -- what the code does with one packet
 module _ (o : Option Sent) (q : Sent) (deep : Bool) (k m : Ports) (p : List ℕ) (is : o ≡ Some q)
@@ -345,8 +299,7 @@ module _ (o : Option Sent) (q : Sent) (deep : Bool) (k m : Ports) (p : List ℕ)
 
   pub route_ports : {A E : Type 0} (r : Result A E) → OnOk r (m ≡ changed (sent_in q deep) k p)
       → OnOk r (m ≡ after_sent o k)
-  route_ports (Ok x) e = ports_to e
-  route_ports (Err x) e = e
+  route_ports r e = grind (arith, ports_to)
 
   pub route_heard : {A E : Type 0} (r : Result A E) (g h : Heard)
       → OnOk r (h ≡ both g (heard_from (answer_by q deep (device_there k p))))
@@ -359,30 +312,18 @@ module _ (o : Option Sent) (q : Sent) (deep : Bool) (k m : Ports) (p : List ℕ)
 
   pub route_stopped : {A E : Type 0} (r : Result A E) → OnErr r (m ≡ k)
       → OnErr r (RefusedBy q deep (device_there k p)) → OnErr r (IsStopped o k m)
-  route_stopped (Ok x) e w = w
-  route_stopped (Err x) e w = subst (λ y. IsStopped y k m) (sym is)
-      (stopped_of q k m p f alone_some e (subst (λ y. RefusedBy q y (device_there k p)) at w))
+  route_stopped r e w = grind (arith, stopped_of)
 
   pub route_row : {A E : Type 0} (r : Result A E) → OnOk r (m ≡ changed (sent_in q deep) k p)
       → OnErr r (m ≡ k) → row_of m ≡ row_of k
-  route_row (Ok x) e w = ap row_of (ports_to e) ∙ ap (λ y. row_of (after_sent y k)) is
-      ∙ row_of-after q false k
-  route_row (Err x) e w = ap row_of w
+  route_row r e w = grind (arith, ports_to, row_of-after)
 
   pub route_figure : {A E : Type 0} (r : Result A E) → OnOk r (m ≡ changed (sent_in q deep) k p)
       → OnErr r (m ≡ k) → figure m ≡ figure k
-  route_figure (Ok x) e w = ap figure (ports_to e) ∙ ap (λ y. figure (after_sent y k)) is
-      ∙ figure-after q false k
-  route_figure (Err x) e w = ap figure w
+  route_figure r e w = grind (arith, figure-after, ports_to)
 
 pub alone_less : (o : Option Sent) (k : Ports) (p : List ℕ) → AloneAt o k p → AloneAt None k p
-alone_less o k [] h = tt
-alone_less o k (zero ∷ p) h = h
-alone_less o k (suc j ∷ p) h = record {
-  on = h.on;
-  forgot = h.forgot;
-  uncalled = λ q e i x t d f on. false_true (ap is_some e);
-}
+alone_less o k p h = grind arith
 
 pub alone_sent : (o : Option Sent) (k : Ports) (p : List ℕ) → AloneAt o k p
     → AloneAt None (after_sent o k) p
@@ -399,8 +340,7 @@ alone_sent o k (suc j ∷ p) h =
 
 pub alone_after : {A E : Type 0} (r : Result A E) (o : Option Sent) (k m : Ports) (p : List ℕ)
     → AloneAt o k p → OnOk r (m ≡ after_sent o k) → OnErr r (m ≡ k) → AloneAt None m p
-alone_after (Ok x) o k m p h e w = subst (λ y. AloneAt None y p) (sym e) (alone_sent o k p h)
-alone_after (Err x) o k m p h e w = subst (λ y. AloneAt None y p) (sym w) (alone_less o k p h)
+alone_after r o k m p h e w = grind (arith, alone_less, alone_sent)
 
 pub route_clears : (q : Sent) (k : Ports) (p : List ℕ) → is_whole_tree p ≡ false
     → AloneAt (Some q) k p → asks_clearing (effect_by q (is_deep p) (device_there k p))
@@ -411,37 +351,21 @@ route_clears q k (suc j ∷ p) f h = sym (others_clear q false k j p h.on h.forg
 
 pub route_loss : (k : Ports) (p : List ℕ) → is_whole_tree p ≡ false → AloneAt None k p
     → loss_by (device_there k p) ≡ has_loss k
-route_loss k [] f h = false_true (sym f)
-route_loss k (zero ∷ p) f h = absurd h
-route_loss k (suc j ∷ p) f h = sym (others_loss k j p h.on h.forgot)
+route_loss k p f h = grind (arith, others_loss)
 
 pub route_over : (k m : Ports) (p : List ℕ) → is_whole_tree p ≡ false → AloneAt None k p
     → m ≡ changed forgotten_in k p → m ≡ all_forgotten k
-route_over k m [] f h e = false_true (sym f)
-route_over k m (zero ∷ p) f h e = absurd h
-route_over k m (suc j ∷ p) f h e = e ∙ sym (others_forget k j p h.on h.forgot)
+route_over k m p f h e = grind (arith, others_forget)
 
 -- ---- the packets of an attempt
 
 pub alone_data : (o : Option Sent) (k : Ports) (p : List ℕ) → AloneAt None k p → IfOut IsDataOut o
     → AloneAt o k p
-alone_data o k [] h is = tt
-alone_data o k (zero ∷ p) h is = h
-alone_data o k (suc j ∷ p) h is = record {
-  on = h.on;
-  forgot = h.forgot;
-  uncalled = λ q e i x t d f on. payload_calls q.content t (subst (IfOut IsDataOut) e is);
-}
+alone_data o k p h is = grind arith
 
 pub alone_ack : (o : Option Sent) (k : Ports) (p : List ℕ) → AloneAt None k p → IfOut IsAckOut o
     → AloneAt o k p
-alone_ack o k [] h is = tt
-alone_ack o k (zero ∷ p) h is = h
-alone_ack o k (suc j ∷ p) h is = record {
-  on = h.on;
-  forgot = h.forgot;
-  uncalled = λ q e i x t d f on. ack_calls q.content t (subst (IfOut IsAckOut) e is);
-}
+alone_ack o k p h is = grind arith
 
 pub alone_token : (a : Attempt) (d : Option Damage) (k : Ports) (p : List ℕ) → IsSettled k
     → IsWayTo a.addr k p → AloneAt (token_out a d) k p
@@ -459,27 +383,9 @@ alone_token a d k (suc j ∷ p) s o = record {
 
 pub one_at : (n : ℕ) (k : Ports) (p : List ℕ) → repeats (held_addresses k) ≡ false
     → is_held_at n k p ≡ true → IsWayTo n k p
-one_at n k [] s h = tt
-one_at n k (zero ∷ p) s h = false_true h
-one_at n k (suc j ∷ p) s h =
-    let x : _ = both_true (reach_at k j p) (holds_by n (state_at k j p)) h in
-    record { single = s; on = x.0; at = address_is (state_at k j p) x.1 }
-  where
-    address_is : (o : Option State) → holds_by n o ≡ true → option_map address_of o ≡ Some n
-    address_is None h = false_true h
-    address_is (Some t) h = ap (λ x. Some x) (equal_same (address_of t) n h)
+one_at n k p s h = grind arith
 
 -- the way that is taken: to the one that the index names, or the whole tree's
 pub way_by_index : (n : ℕ) (k : Ports) (h : Holders) (p : List ℕ) → n < 256 → IsIndexOf h k
     → p ≡ way_in h n → IsWayTo n k p
-way_by_index n k h p small is e = subst (IsWayTo n k) (sym e) (by_shared h.shared refl)
-  where
-    by_holder : repeats (held_addresses k) ≡ false → (x : Holder) → holder_of n k ≡ x
-        → IsWayTo n k (holder_path false x)
-    by_holder single Nobody f = tt
-    by_holder single (One path) f = one_at n k path.items single (one_is_held n k path f)
-    by_holder single Several f = tt
-
-    by_shared : (b : Bool) → h.shared ≡ b → IsWayTo n k (holder_path b (holder_in h n))
-    by_shared true f = tt
-    by_shared false f = by_holder (sym is.1 ∙ f) (holder_in h n) (sym (is.0 n small))
+way_by_index n k h p small is e = grind (arith, one_at, one_is_held)

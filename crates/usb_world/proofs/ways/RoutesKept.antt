@@ -1,18 +1,17 @@
 -- An attempt that goes straight to one device: whose addresses stay.
-use Rattle.std.proofs.Common.{◌≡◌, ℕ, zero, suc, if◌then◌else◌, Bool, true, false, List, [], ◌∷◌}
+use Rattle.std.proofs.Common.{arith}
+use Rattle.std.proofs.Common.{◌≡◌, ℕ, zero, suc, Bool, true, false, List, [], ◌∷◌}
 use Rattle.std.proofs.Common.{◌++◌, Option, None, Some, is_some, option_map, IsSome, nat_eq, refl}
-use Rattle.std.proofs.Common.{ap, ap₂, sym, subst, ◌∙◌}
+use Rattle.std.proofs.Common.{ap, sym, subst, ◌∙◌}
 use Rattle.std.proofs.lemmas.Option.{same_Some}
 use Rattle.std.specs.Option.{option_eq}
 use Rattle.arrayvec.specs.ArrayVec.{ArrayVec}
 use Rattle.usb_port.specs.{PortState}
-use Rattle.usb_device.specs.{Sent, Leaves, State, forgotten, Ports, ended, vacant, taken, empty}
-use Rattle.usb_device.specs.{full, before, acted, put, changed, changed_at, changed_in}
-use Rattle.usb_device.specs.{device_there, plugged_at, reach_at, place_at, Location, state_at}
-use Rattle.usb_device.specs.{answer_of, all_forgotten, path_below, reached, all_reached}
-use Rattle.usb_device.specs.{ReachedSame, keeps_others, IsIndexOf, IsIndexWithout, sent_in}
-use Rattle.usb_device.specs.{effect_by, forgotten_in, address_by}
-use Rattle.usb_device.specs.Tree.{Place}
+use Rattle.usb_device.specs.{Sent, Leaves, State, Ports, vacant, taken, empty, full, before, acted}
+use Rattle.usb_device.specs.{put, changed, changed_at, changed_in, device_there, plugged_at}
+use Rattle.usb_device.specs.{reach_at, place_at, Location, state_at, answer_of, all_forgotten}
+use Rattle.usb_device.specs.{reached, all_reached, ReachedSame, keeps_others, IsIndexOf}
+use Rattle.usb_device.specs.{IsIndexWithout, sent_in, effect_by, forgotten_in, address_by, Place}
 use Rattle.usb_device.specs.declared.holders.Holders.{Holders}
 use Rattle.usb_device.proofs.Interface.{changed_at-port, changed_at-same, changed_at-twice}
 use Rattle.usb_device.proofs.Interface.{changed_at-zero, index_around, reached-acted, reached-both}
@@ -34,20 +33,17 @@ use Rattle.usb_world.proofs.courses.Courses.{goes}
 
 place_at-first : (q : Place) (k : Ports) → place_at (before q k) 0 [] ≡ Some q
 unfolding place_at
-place_at-first (empty b) k = refl
-place_at-first (full b s a) k = refl
+place_at-first q k = grind arith
 
 pub place_at-changed : (f : Place → Place) (k : Ports) (j : ℕ) (p : List ℕ)
     → place_at (changed_at f k j p) j p ≡ option_map f (place_at k j p)
 unfolding place_at changed_at
-place_at-changed f ended j p = refl
 place_at-changed f (vacant b k) zero [] = place_at-first (f (empty b)) k
-place_at-changed f (vacant b k) zero (n ∷ p) = refl
 place_at-changed f (vacant b k) (suc j) p = place_at-changed f k j p
 place_at-changed f (taken b s a k) zero [] = place_at-first (f (full b s a)) k
-place_at-changed f (taken b s a k) zero (zero ∷ p) = refl
 place_at-changed f (taken b s a k) zero (suc j ∷ p) = place_at-changed f a j p
 place_at-changed f (taken b s a k) (suc j) p = place_at-changed f k j p
+place_at-changed f k j p = refl
 
 -- a device with another state of the same address, and ports below which the same devices are
 -- reached, without what is on one of them
@@ -58,9 +54,7 @@ same_there : (port : ℕ) (b : PortState) (s t : State) (a c : Ports)
     → ReachedSame (changed_in (put None) (full b t c) (port ∷ []))
     (changed_in (put None) (full b s a) (port ∷ []))
 unfolding reached
-same_there port b s t a c e h =
-    λ w n. ap₂ (λ m l. if b.enable then (m, path_below w n) ∷ (l ++ []) else []) e
-    (h (path_below w n) 1)
+same_there port b s t a c e h = grind arith
 
 -- ---- one packet
 
@@ -74,19 +68,16 @@ own_after (Some q) deep s a = (answer_of q deep s a).1
 
 step_calm : (o : Option Sent) (deep : Bool) (b : PortState) (s : State) (a : Ports)
     → asked_of o deep s ≡ Leaves → step_in o deep (full b s a) ≡ full b (own_after o deep s a) a
-step_calm None deep b s a h = refl
-step_calm (Some q) deep b s a h = ap (λ e. full b (answer_of q deep s a).1 (acted e a)) h
+step_calm o deep b s a h = grind arith
 
 step_in-full : (o : Option Sent) (deep : Bool) (b : PortState) (s : State) (a : Ports)
     → step_in o deep (full b s a) ≡ full b (own_after o deep s a) (acted (asked_of o deep s) a)
-step_in-full None deep b s a = refl
-step_in-full (Some q) deep b s a = refl
+step_in-full o deep b s a = grind arith
 
 pub sent_one : (o : Option Sent) (k : Ports) (j : ℕ) (p : List ℕ)
     → Alone o k (record { row = j; rest = p })
     → after_sent o k ≡ changed_at (step_in o (deep_at false p)) k j p
-sent_one None k j p h = sym (changed_at-same k j p)
-sent_one (Some q) k j p h = others_packet q false k j p h.on (others_rest q k j p h)
+sent_one o k j p h = grind (arith, changed_at-same, others_packet, others_rest)
 
 quiet_keeps_others : (port : ℕ) (o : Option Sent) (k : Ports) (j : ℕ) (p : List ℕ) (b : PortState)
     (s : State) (a : Ports)
@@ -107,17 +98,15 @@ pub record PlaceFull (k : Ports) (j : ℕ) (p : List ℕ) : Type 0 where
 
 reach-full : (k : Ports) (j : ℕ) (p : List ℕ) → reach_at k j p ≡ true → PlaceFull k j p
 unfolding reach_at place_at
-reach-full ended j p h = false_true h
-reach-full (vacant b k) zero p h = false_true h
 reach-full (vacant b k) (suc j) p h = let x : _ = reach-full k j p h in
     record { port = x.port; own = x.own; below = x.below; at = x.at }
 reach-full (taken b s a k) zero [] h = record { port = b; own = s; below = a; at = refl }
-reach-full (taken b s a k) zero (zero ∷ p) h = false_true h
 reach-full (taken b s a k) zero (suc j ∷ p) h = let x : _ =
     reach-full a j p (both b.enable (reach_at a j p) h).1 in
     record { port = x.port; own = x.own; below = x.below; at = x.at }
 reach-full (taken b s a k) (suc j) p h = let x : _ = reach-full k j p h in
     record { port = x.port; own = x.own; below = x.below; at = x.at }
+reach-full k j p h = false_true h
 
 module _ (a : Attempt) (d : Option Damage) (k : Ports) (j : ℕ) (p : List ℕ)
     (one : Alone (token_out a d) k (record { row = j; rest = p })) where
@@ -195,15 +184,10 @@ module _ (a : Attempt) (d : Option Damage) (k : Ports) (j : ℕ) (p : List ℕ)
       ∙ ap (option_map (step_in t deep)) here.at ∙ ap (λ x. Some x) first_place
 
   end_place : till_end (full here.port here.own here.below) ≡ full here.port third below_then
-  end_place =
-      ap (λ x. step_in r deep (step_in q deep x)) first_place
-      ∙ ap (step_in r deep) (step_in-full q deep here.port first here.below)
-      ∙ step_calm r deep here.port second below_then
-      (calm_asked r (ack_calm r (goes a d k).reply) deep second)
+  end_place = grind (arith, ack_calm, calm_asked, first_place, goes, step_calm, step_in-full)
 
   end_at : place_at (ended_in a d k) j p ≡ Some (full here.port third below_then)
-  end_at = ap (λ x. place_at x j p) end_is ∙ place_at-changed till_end k j p
-      ∙ ap (option_map till_end) here.at ∙ ap (λ x. Some x) end_place
+  end_at = grind (arith, end_is, end_place, place_at-changed)
 
   module _ (at : option_map address_of (state_at k j p) ≡ Some a.addr) where
     here_address : here.own.registers.address ≡ a.addr
@@ -217,18 +201,12 @@ module _ (a : Attempt) (d : Option Damage) (k : Ports) (j : ℕ) (p : List ℕ)
       below_same : (w : Option (ArrayVec ℕ)) (n : ℕ)
           → reached w n (changed (put None) below_then (port ∷ []))
           ≡ reached w n (changed (put None) here.below (port ∷ []))
-      below_same =
-          reached-acted (asked_of q deep first) port here.below
-          (quiet_keeps_others port q (after_sent t k) j p here.port first here.below quiet first_at)
+      below_same = grind (arith, asked_of, first_at, quiet_keeps_others, reached-acted)
 
       left_same : (x : Place) → x ≡ full here.port here.own here.below
           → third.registers.address ≡ here.own.registers.address
           → ReachedSame (without (forgotten_in (till_end x))) (without x)
-      left_same x is e =
-          subst (λ y. ReachedSame (without (forgotten_in (till_end y))) (without y)) (sym is)
-          (subst (λ y. ReachedSame (without (forgotten_in y))
-          (without (full here.port here.own here.below))) (sym end_place)
-          (same_there port here.port here.own (forgotten third) here.below below_then e below_same))
+      left_same x is e = grind (arith, below_same, end_place, same_there)
 
       addresses_stay : address_by (plugged_at (ended_in a d k) j p) ≡ Some a.addr
           → all_reached (without_port port (ports_in a d k) (suc j ∷ p))
@@ -251,10 +229,9 @@ held_still : (port : ℕ) (a : Attempt) (d : Option Damage) (k : Ports) (p : Lis
     → IsQuiet port (payload_out a d) (after_sent (token_out a d) k) p
     → address_by (device_there (ended_in a d k) p) ≡ Some a.addr
     → KeptAt a.addr port k (ports_in a d k) p
-held_still port a d k [] q e = false_true (ap is_some e)
-held_still port a d k (zero ∷ p) q e = false_true (ap is_some e)
 held_still port a d k (suc j ∷ p) q e =
     λ settled o. addresses_stay a d k j p (alone_token a d k (suc j ∷ p) settled o) o.at port q e
+held_still port a d k p q e = false_true (ap is_some e)
 
 -- the same, of what the code tells: the address that is left there is the attempt's
 pub kept_at : (port : ℕ) (a : Attempt) (d : Option Damage) (k m n : Ports) (p : List ℕ)
@@ -264,33 +241,26 @@ pub kept_at : (port : ℕ) (a : Attempt) (d : Option Damage) (k m n : Ports) (p 
     → n ≡ all_forgotten m → (IsSome left → left ≡ address_by (device_there m p))
     → KeptAt a.addr port k n p
 unfolding ports_in
-kept_at port a d k m n p None same asks e over at = false_true same
-kept_at port a d k m n p (Some x) same asks e over at =
-    let told : address_by (device_there m p) ≡ Some a.addr = sym (at refl)
-    ∙ ap (λ y. Some y) (equal_same x a.addr same) in
-    subst (λ y. KeptAt a.addr port k y p) (sym (over ∙ ap all_forgotten e))
-    (held_still port a d k p asks (ap (λ y. address_by (device_there y p)) (sym e) ∙ told))
+kept_at port a d k m n p left same asks e over at = grind (arith, equal_same, held_still)
 
 -- the index of the tree then
 pub index_kept : (n : ℕ) (h : Holders) (k m : Ports) (p : List ℕ) → IsSettled k → IsWayTo n k p
     → KeptAt n 0 k m p → IsIndexOf h k → IsIndexOf h m
-index_kept n h k m [] s w kept is = absurd kept
-index_kept n h k m (zero ∷ p) s w kept is = absurd kept
 index_kept n h k m (suc j ∷ p) s w kept is =
     same_index h k m
     (ap all_reached (sym (changed_at-zero (put None) m j p)) ∙ kept s w
     ∙ ap all_reached (changed_at-zero (put None) k j p)) is
+index_kept n h k m p s w kept is = absurd kept
 
 -- the index without what is on a port of the device
 pub index_port : (n port : ℕ) (h : Holders) (k m : Ports) (p l : List ℕ) → l ≡ p ++ port ∷ []
     → IsSettled k → IsWayTo n k p → KeptAt n port k m p → IsIndexWithout h k l
     → IsIndexWithout h m l
-index_port n port h k m [] l e s w kept is = absurd kept
-index_port n port h k m (zero ∷ p) l e s w kept is = absurd kept
 index_port n port h k m (suc j ∷ p) l e s w kept is =
     subst (λ x. IsIndexWithout h m x) (sym e)
     (same_index h (without_port port k (suc j ∷ p)) (without_port port m (suc j ∷ p)) (kept s w)
     (subst (λ x. IsIndexWithout h k x) e is))
+index_port n port h k m p l e s w kept is = absurd kept
 
 -- an attempt changes nothing but the device at its way, with what is below
 pub index_beside : (a : Attempt) (d : Option Damage) (h : Holders) (k m : Ports) (p : List ℕ)

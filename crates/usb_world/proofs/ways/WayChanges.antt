@@ -1,11 +1,11 @@
 -- A change at a place: a way that does not lead there stays. One walk answers all that is asked.
-use Rattle.std.proofs.Common.{◌≡◌, ℕ, zero, suc, ◌&&◌, ◌||◌, false, List, [], ◌∷◌}
+use Rattle.std.proofs.Common.{arith}
+use Rattle.std.proofs.Common.{◌≡◌, ℕ, zero, suc, ◌&&◌, false, List, [], ◌∷◌}
 use Rattle.std.proofs.Common.{not, true, refl, ap, sym}
 use Rattle.usb_port.specs.{PortState, PortCall}
 use Rattle.usb_device.specs.{State, Ports, ended, vacant, taken, empty, full, before, changed_at}
 use Rattle.usb_device.specs.{called, reach_at, state_at, port_at, changed, reach, port_there}
-use Rattle.usb_device.specs.{state_there}
-use Rattle.usb_device.specs.Tree.{Place}
+use Rattle.usb_device.specs.{state_there, Place}
 use Rattle.usb_world.specs.{root_leaves, way_of}
 use Rattle.usb_tree.specs.{has_power_at, pending_at, is_way, on_way, same_number}
 use Rattle.usb_tree.proofs.Interface.{false_true, not-true}
@@ -31,42 +31,28 @@ same_way-refl k j p = (same_ports k j p, refl)
 pub same_way-other_port : (x y : Place) (k : Ports) (j : ℕ) (p : List ℕ)
     → SameWay (before x k) (before y k) (suc j) p
 unfolding reach_at has_power_at pending_at port_at state_at
-same_way-other_port (empty b) (empty c) k j p = same_way-refl k j p
-same_way-other_port (empty b) (full c t m) k j p = same_way-refl k j p
-same_way-other_port (full b s a) (empty c) k j p = same_way-refl k j p
-same_way-other_port (full b s a) (full c t m) k j p = same_way-refl k j p
+same_way-other_port x y k j p = grind arith
 
 -- what stands before a change in its row
 pub same_way-behind : (x : Place) (k m : Ports) (p : List ℕ)
     → SameWay (before x k) (before x m) zero p
 unfolding reach_at has_power_at pending_at port_at state_at
-same_way-behind (empty b) k m [] = same_way-refl (vacant b k) zero []
-same_way-behind (empty b) k m (n ∷ p) = same_way-refl (vacant b k) zero (n ∷ p)
-same_way-behind (full b s a) k m [] = same_way-refl (taken b s a k) zero []
-same_way-behind (full b s a) k m (zero ∷ p) = same_way-refl (taken b s a k) zero (zero ∷ p)
-same_way-behind (full b s a) k m (suc n ∷ p) = same_way-refl (taken b s a k) zero (suc n ∷ p)
+same_way-behind x k m p = grind arith
 
 -- past a device
 pub passed_ports : (b : PortState) (s t : State) (a c k m : Ports) (j : ℕ) (p : List ℕ)
     → SamePorts a c j p → SamePorts (taken b s a k) (taken b t c m) zero (suc j ∷ p)
 unfolding reach_at has_power_at pending_at port_at
-passed_ports b s t a c k m j p x = (
-  ap (λ y. b.enable && y) x.0,
-  ap (λ y. b.power && y) x.1,
-  ap (λ y. b.power && (b.connection_changed || y)) x.2,
-  x.3,
-)
+passed_ports b s t a c k m j p x = grind arith
 
 pub changed_apart : (f : Place → Place) (k : Ports) (i : ℕ) (e : List ℕ) (j : ℕ) (p : List ℕ)
     → on_way i e j p ≡ false → SameWay k (changed_at f k i e) j p
 unfolding changed_at reach_at has_power_at pending_at port_at state_at is_way
 changed_apart f ended i e j p h = same_way-refl ended j p
-changed_apart f (vacant b k) zero [] zero p h = false_true (sym h)
 changed_apart f (vacant b k) zero [] (suc j) p h = same_way-other_port (empty b) (f (empty b)) k j p
 changed_apart f (vacant b k) zero (n ∷ e) j p h = same_way-refl (vacant b k) j p
 changed_apart f (vacant b k) (suc i) e zero p h = same_way-behind (empty b) k (changed_at f k i e) p
 changed_apart f (vacant b k) (suc i) e (suc j) p h = changed_apart f k i e j p h
-changed_apart f (taken b s a k) zero [] zero p h = false_true (sym h)
 changed_apart f (taken b s a k) zero [] (suc j) p h =
     same_way-other_port (full b s a) (f (full b s a)) k j p
 changed_apart f (taken b s a k) zero (zero ∷ e) j p h = same_way-refl (taken b s a k) j p
@@ -80,6 +66,7 @@ changed_apart f (taken b s a k) zero (suc i ∷ e) (suc j) p h = same_way-refl k
 changed_apart f (taken b s a k) (suc i) e zero p h =
     same_way-behind (full b s a) k (changed_at f k i e) p
 changed_apart f (taken b s a k) (suc i) e (suc j) p h = changed_apart f k i e j p h
+changed_apart f k i e j p h = false_true (sym h)
 
 pub called_apart : (c : PortCall) (k : Ports) (i j : ℕ) (p : List ℕ)
     → not (same_number i j) ≡ true → SameWay k (changed_at (called c) k i []) j p
@@ -97,19 +84,16 @@ SameThere k m p =
 pub changed_there : (f : Place → Place) (k : Ports) (x p : List ℕ)
     → way_of x p ≡ false → SameThere k (changed f k x) p
 unfolding is_way
-changed_there f k x [] w = (refl, refl, refl)
 changed_there f k x (zero ∷ p) w = (refl, refl, refl)
-changed_there f k [] (suc j ∷ p) w = (refl, refl, refl)
-changed_there f k (zero ∷ x) (suc j ∷ p) w = (refl, refl, refl)
 changed_there f k (suc i ∷ x) (suc j ∷ p) w =
     let y : _ = changed_apart f k i x j p w in
     (y.0.0, y.0.3, y.1)
+changed_there f k x p w = (refl, refl, refl)
 
 pub root_there : (c : PortCall) (m : ℕ) (k : Ports) (p : List ℕ)
     → root_leaves m p ≡ true → SameThere k (changed (called c) k (m ∷ [])) p
-root_there c m k [] h = (refl, refl, refl)
 root_there c m k (zero ∷ p) h = (refl, refl, refl)
-root_there c zero k (suc j ∷ p) h = (refl, refl, refl)
 root_there c (suc i) k (suc j ∷ p) h =
     let y : _ = called_apart c k i j p h in
     (y.0.0, y.0.3, y.1)
+root_there c m k p h = (refl, refl, refl)

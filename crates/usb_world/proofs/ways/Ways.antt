@@ -1,17 +1,16 @@
 -- Which paths lead to which, and what is so on the way to a path.
 use Rattle.std.proofs.Common.{◌≡◌, ◌∙◌, refl, sym, ap, ap₂, subst, arith, append-nil, append_assoc}
 use Rattle.std.proofs.Common.{length-append, ℕ, zero, suc, ◌+◌, ◌<◌, inl, inr, Bool, true, false}
-use Rattle.std.proofs.Common.{◌&&◌, ◌||◌, not, List, [], ◌∷◌, ◌++◌, length, Some, is_some}
-use Rattle.std.proofs.Common.{slice_get, nat_eq}
+use Rattle.std.proofs.Common.{◌&&◌, ◌||◌, not, List, [], ◌∷◌, ◌++◌, length, Some}
+use Rattle.std.proofs.Common.{nat_eq}
 use Rattle.std.specs.Cmp.Lexicographic.{pointwise, same_text, bytes_decides}
 use Rattle.std.specs.List.{starts_with}
 use Rattle.std.proofs.lemmas.Bool.{eqb-true, eq-eqb}
 use Rattle.usb_port.specs.{is_below as is_port_below, parent_of, port_on_hub}
 use Rattle.usb_port.proofs.Interface.{is_below-extension, rejoined}
-use Rattle.usb_device.specs.{Spec, Ports, ended, vacant, taken, reach, reach_at}
-use Rattle.usb_world.specs.{Action, Plug, Unplug, Event, NoneNames, Undisturbed, names_path, way_of}
+use Rattle.usb_device.specs.{Spec, Ports, vacant, taken, reach, reach_at}
+use Rattle.usb_world.specs.{Action, Event, NoneNames, Undisturbed, names_path, way_of}
 use Rattle.usb_world.specs.{World}
-use Rattle.usb_world.specs.declared.event.Action.TheVariants.{Change, Ask}
 use Rattle.usb_tree.specs.{is_way, same_number}
 use Rattle.usb_world.proofs.ports.RootResets.{same_number-is}
 use Rattle.usb_tree.proofs.Interface.{false_true, both, or_left, or_right, either_of, same_bools}
@@ -49,17 +48,13 @@ way_trans p q x pq qx =
 -- Other words for it
 
 number_tests : (m n : ℕ) → same_number m n ≡ nat_eq m n
-number_tests m n =
-    same_bools (same_number m n) (nat_eq m n)
-    (λ h. eq-eqb m n (sym (same_number-is m n h)))
-    (λ h. ap (same_number m) (sym (eqb-true m n h)) ∙ self_number m)
+number_tests m n = grind (arith, eq-eqb, eqb-true, same_bools, same_number-is, self_number)
 
 -- a path leads to those that start with it
 pub way_starts : (e p : List ℕ) → is_way e p ≡ starts_with nat_eq p e
 unfolding is_way
-way_starts [] p = refl
-way_starts (m ∷ e) [] = refl
 way_starts (m ∷ e) (n ∷ p) = ap₂ (λ a b. a && b) (number_tests m n) (way_starts e p)
+way_starts p x = refl
 
 rest_below : (x p rest : List ℕ) → x ≡ p ++ rest → (pointwise nat_eq x p || is_port_below x p)
     ≡ true
@@ -76,9 +71,7 @@ below_rest x p h = elim (either_of (pointwise nat_eq x p) (is_port_below x p) h)
 
 -- a path is another or stands below it
 pub at_or_below_way : (x p : List ℕ) → (pointwise nat_eq x p || is_port_below x p) ≡ is_way p x
-at_or_below_way x p =
-    same_bools (pointwise nat_eq x p || is_port_below x p) (is_way p x) (below_rest x p)
-    (λ h. let rest = way_rest p x h in rest_below x p rest.0 rest.1)
+at_or_below_way x p = grind (arith, below_rest, rest_below, same_bools, way_rest)
 
 -- Above
 
@@ -97,8 +90,7 @@ pub way_parent : (path hub : List ℕ) → parent_of path ≡ Some hub → is_wa
 way_parent path hub is = way_of_rest hub path (port_on_hub path ∷ []) (rejoined path hub is)
 
 not_so : (a b : Bool) → (a ≡ true → b ≡ true) → b ≡ false → a ≡ false
-not_so true b f h = false_true (sym h ∙ f refl)
-not_so false b f h = refl
+not_so a b f h = grind arith
 
 -- what is not below a port is not below one that is
 pub way_apart : (p q x : List ℕ) → is_way p q ≡ true → is_way p x ≡ false → is_way q x ≡ false
@@ -109,44 +101,32 @@ way_apart p q x on away = not_so (is_way q x) (is_way p x) (way_trans p q x on) 
 reached_above : (k : Ports) (j : ℕ) (x rest : List ℕ)
     → reach_at k j (x ++ rest) ≡ true → reach_at k j x ≡ true
 unfolding reach_at
-reached_above ended j x rest h = false_true h
-reached_above (vacant b k) zero x rest h = false_true h
 reached_above (vacant b k) (suc j) x rest h = reached_above k j x rest h
 reached_above (taken b s a k) zero [] [] h = h
-reached_above (taken b s a k) zero [] (zero ∷ rest) h = false_true h
 reached_above (taken b s a k) zero [] (suc n ∷ rest) h = (both b.enable (reach_at a n rest) h).0
-reached_above (taken b s a k) zero (zero ∷ x) rest h = false_true h
 reached_above (taken b s a k) zero (suc i ∷ x) rest h =
     and_kept b.enable _ _ (reached_above a i x rest) h
 reached_above (taken b s a k) (suc j) x rest h = reached_above k j x rest h
+reached_above k j x rest h = false_true h
 
 reach_above : (k : Ports) (n : ℕ) (x rest : List ℕ)
     → reach k (n ∷ (x ++ rest)) ≡ true → reach k (n ∷ x) ≡ true
-reach_above k zero x rest h = false_true h
-reach_above k (suc i) x rest h = reached_above k i x rest h
+reach_above k n x rest h = grind (arith, reached_above)
 
 -- each device on the way to a reachable one is reachable
 pub reach_on_way : (k : Ports) (n : ℕ) (x p : List ℕ)
     → is_way (n ∷ x) p ≡ true → reach k p ≡ true → reach k (n ∷ x) ≡ true
-reach_on_way k n x p w h =
-    let more : _ = way_rest (n ∷ x) p w in
-    reach_above k n x more.0 (subst (λ (q : List ℕ). reach k q ≡ true) more.1 h)
+reach_on_way k n x p w h = grind (arith, reach_above, way_rest)
 
 way_of_above : (e x p : List ℕ) → is_way x p ≡ true → way_of e p ≡ false → way_of e x ≡ false
-way_of_above [] x p on h = refl
-way_of_above (m ∷ e) x p on h = not_so (is_way (m ∷ e) x) (is_way (m ∷ e) p)
-    (λ y. way_trans (m ∷ e) x p y on) h
+way_of_above e x p on h = grind (arith, not_so, way_trans)
 
 plugs_above : (b c d : Bool) → (d ≡ false → c ≡ false) → (b && d) ≡ false → (b && c) ≡ false
-plugs_above true c d f h = f h
-plugs_above false c d f h = refl
+plugs_above b c d f h = grind arith
 
 names_above : (d : List Spec) (a : Action) (x p : List ℕ) → is_way x p ≡ true
     → names_path d a p ≡ false → names_path d a x ≡ false
-names_above d (Change (Plug e i)) x p on h = plugs_above (is_some (slice_get d i)) (way_of e x)
-    (way_of e p) (way_of_above e x p on) h
-names_above d (Change (Unplug e)) x p on h = way_of_above e x p on h
-names_above d (Ask ask) x p on h = refl
+names_above d a x p on h = grind (arith, plugs_above, way_of_above)
 
 none_above : (d : List Spec) (events : List Event) (x p : List ℕ) → is_way x p ≡ true
     → NoneNames d events p → NoneNames d events x
@@ -157,9 +137,4 @@ none_above d (e ∷ events) x p on h =
 -- what is disturbed neither at a path nor on its way
 pub undisturbed_on_way : (x p : List ℕ) (w v : World) → is_way x p ≡ true → Undisturbed w v p
     → Undisturbed w v x
-undisturbed_on_way x p w v on u = record {
-  events = u.events;
-  split = u.split;
-  silent = none_above w.devices u.events x p on u.silent;
-  devices = u.devices;
-}
+undisturbed_on_way x p w v on u = grind (arith, none_above)

@@ -1,16 +1,14 @@
-use Rattle.usb_enum.specs.{IsPlainStop, Memory, configuration_bound, DeviceFact, AtMaximum}
-use Rattle.usb_enum.specs.{HasConfigurations, any_has_value, TextRead, none_yet}
-use Rattle.usb_enum.specs.{one_more as one_more_text, repeated}
-use Rattle.std.proofs.Common.{◌≡◌, ◌∙◌, ◌+◌, ℕ, [], false, true, ap, arith, length, subst, sym}
+use Rattle.usb_enum.specs.{first_fault, Memory, configuration_bound, AtMaximum, HasConfigurations}
+use Rattle.usb_enum.specs.{none_yet, one_more as one_more_text, repeated}
+use Rattle.std.specs.Prelude.{⊤}
+use Rattle.usb_enum.proofs.readings.Readings.{learns_on, learns_none, configurations_none}
+use Rattle.usb_enum.proofs.readings.Readings.{configurations_learned}
+use Rattle.usb_enum.proofs.refusals.ConfigRefusals.{first_refused, repeated_refused}
+use Rattle.usb_enum.proofs.refusals.Refusals.{explains_on, fault_explains}
+use Rattle.std.proofs.Common.{◌≡◌, ◌∙◌, ◌+◌, [], false, true, ap, arith, length, sym}
 use Rattle.std.proofs.lemmas.Grind.{common_steps}
-use Rattle.usb_enum.specs.declared.stop.Stop.TheVariants.{Fault}
-use Rattle.usb_enum.proofs.refusals.ConfigRefusals.{reading_failed, reading_refused}
-use Rattle.usb_enum.proofs.refusals.ConfigRefusals.{repeated_refused}
 use Rattle.usb_enum.proofs.Parts.{asking, part_fails, steps_again, steps_more, steps_none}
 use Rattle.usb_enum.proofs.Parts.{steps_times}
-use Rattle.usb_enum.proofs.readings.Readings.{learns_none, configurations_none}
-use Rattle.usb_enum.proofs.readings.Readings.{configurations_learned}
-use Rattle.usb_enum.proofs.refusals.Refusals.{handed_match}
 use Rattle.usb_enum.proofs.readings.TextLengths.{texts_ended, texts_failed, texts_read_more}
 use Rattle.usb_enum.proofs.readings.TextLengths.{texts_none}
 use Rattle.usb_enum.proofs.readings.Values.{values_differ-push}
@@ -33,24 +31,20 @@ loop-index-init g c = record {
 pub loop-index-preserved : goal.loop-index-preserved
 loop-index-preserved g c =
     let before = c.loop-index.invariant in
-    let texts = c.loop-index.texts in
     let text = c.in_ok-text.text in
     let read = c.in_ok-text.ensures.read in
-    let Differs : ℕ → Type 0 = λ value. any_has_value value texts ≡ false in
-    let differs = subst Differs c.value.ensures (sym c.has_value.ensures ∙ c.if-has_value.false) in
-    let IsRead : ℕ → Type 0 = λ n. TextRead c.args.target n text (g.B.Bus.world c.loop-index.bus)
-    (g.B.Bus.world c.read_text.new.bus) in
+    let differs = rw c.value.ensures at (sym c.has_value.ensures ∙ c.if-has_value.false) in
     record {
       steps = λ known. steps_again _ configuration_bound asking (before.steps known)
           (read known).steps;
       read = rw c.in_ok-push.ensures.ok (grind (arith, common_steps, before.read));
-      differ = rw c.in_ok-push.ensures.ok (values_differ-push texts text before.differ differs);
+      differ = rw c.in_ok-push.ensures.ok (values_differ-push _ text before.differ differs);
       asked = λ known. rw c.in_ok-push.ensures.ok (one_more_text text (before.asked known)
-          (subst IsRead (sym before.read) (read known).ends.told));
+          (rw (sym before.read) at (read known).ends.told));
       counted = λ known. texts_read_more c.args.target c.loop-index.index _ _ _ _ text
           (before.counted known) (read known).steps.went (c.in_ok-text.ensures.count known);
       learned = λ known. rw c.in_ok-push.ensures.ok (configurations_learned c.args.target
-          c.loop-index.index _ texts text (g.B.Bus.world c.args.bus.now)
+          c.loop-index.index _ _ text (g.B.Bus.world c.args.bus.now)
           (g.B.Bus.world c.loop-index.bus) (g.B.Bus.world c.read_text.new.bus) differs
           (before.learned known) (read known).steps.went (read known).ends.so);
     }
@@ -59,40 +53,35 @@ pub returns-clause-read : goal.returns-clause-read
 returns-clause-read g c known =
     let all : c.loop-index.index ≡ c.args.count = omega
     (arith, c.loop-index.auto.index-end, c.loop-index-test.false) in
-    let Learned : ℕ → Type 0 = λ n. DeviceFact
-    (AtMaximum c.args.target (HasConfigurations n c.loop-index.texts)) c.args.target
-    (g.B.Bus.world c.args.bus.now) (g.B.Bus.world c.loop-index.bus) in
     record {
       steps = steps_times _ 255 configuration_bound (c.loop-index.invariant.steps known)
           (omega (arith, c.loop-index.auto.index-end, c.ranges.count.fits));
       ends = record {
         told = c.loop-index.invariant.asked known;
-        so = subst Learned all (c.loop-index.invariant.learned known);
+        so = rw all at (c.loop-index.invariant.learned known);
       };
     }
 
 pub returns-in_err-text-clause-read : goal.returns-in_err-text-clause-read
 returns-in_err-text-clause-read g c known =
-    let stop = c.in_err-text.field-0.0 in
     let before = c.loop-index.invariant in
     let steps = before.steps known in
     let text = c.in_err-text.ensures.read known in
-    part_fails c.from_residual.result stop c.from_residual.ensures.1
+    part_fails _ _ c.from_residual.ensures.1
     (steps_more _ 255 configuration_bound asking steps text.steps
     (omega (arith, c.loop-index-test.true, c.ranges.count.fits)))
     (record {
-      told = told_after stop c.args.target _ _ _ (leads_went steps.went) text.ends.told;
-      so = reading_refused c.args.target c.loop-index.index c.args.count _ _ c.loop-index.texts stop
-          _ _ _ c.loop-index-test.true (before.learned known) steps.went text.steps.went
-          text.ends.so;
+      told = told_after _ c.args.target _ _ _ (leads_went steps.went) text.ends.told;
+      so = explains_on _ _ _ _ _ _ _ _ _ (first_refused c.args.target c.loop-index.index
+          c.args.count c.loop-index.texts c.loop-index-test.true c.in_err-text.field-0.0)
+          (before.learned known) steps.went text.steps.went text.ends.so;
     })
 
 pub returns-then-has_value-clause-read : goal.returns-then-has_value-clause-read
 returns-then-has_value-clause-read g c known =
     let before = c.loop-index.invariant in
     let text = c.in_ok-text.ensures.read known in
-    let Again : ℕ → Type 0 = λ value. any_has_value value c.loop-index.texts ≡ true in
-    let again = subst Again c.value.ensures (sym c.has_value.ensures ∙ c.if-has_value.true) in
+    let again = rw c.value.ensures at (sym c.has_value.ensures ∙ c.if-has_value.true) in
     record {
       steps = steps_more _ 255 configuration_bound asking (before.steps known) text.steps
           (omega (arith, c.loop-index-test.true, c.ranges.count.fits));
@@ -109,13 +98,17 @@ pub returns-in_err-push-clause-read : goal.returns-in_err-push-clause-read
 returns-in_err-push-clause-read g c known =
     let before = c.loop-index.invariant in
     let text = c.in_ok-text.ensures.read known in
-    part_fails c.from_residual-in_err-push.result (Fault Memory)
-    c.from_residual-in_err-push.ensures.1 (steps_more _ 255 configuration_bound asking
-    (before.steps known) text.steps (omega (arith, c.loop-index-test.true, c.ranges.count.fits)))
-    (record {
+    part_fails _ _ c.from_residual-in_err-push.ensures.1 (steps_more _ 255 configuration_bound
+    asking (before.steps known) text.steps (omega (
+      arith,
+      c.loop-index-test.true,
+      c.ranges.count.fits,
+    ))) (record {
       told = tt;
-      so = reading_failed c.args.target c.loop-index.index c.args.count _ c.in_ok-text.text
-          c.loop-index.texts Memory _ _ _ (before.learned known) text.steps.went text.ends.so;
+      so = fault_explains (λ spec. ⊤) _ (λ spec. first_fault spec c.args.count) Memory
+          (g.B.Bus.world c.args.bus.now) (g.B.Bus.world c.read_text.new.bus) (learns_on _ _
+          (λ spec. ⊤) _ _ _ _ _ (λ spec a b. tt) (before.learned known) text.steps.went
+          text.ends.so);
     })
 
 pub returns-in_err-text-clause-few : goal.returns-in_err-text-clause-few
@@ -139,16 +132,6 @@ returns-in_err-push-clause-few g c known =
 pub returns-clause-few : goal.returns-clause-few
 returns-clause-few g c known =
     texts_ended c.args.target c.loop-index.index _ _ (c.loop-index.invariant.counted known)
-
-pub returns-in_err-text-clause-all : goal.returns-in_err-text-clause-all
-returns-in_err-text-clause-all g c =
-    handed_match c.from_residual.result _ IsPlainStop c.in_err-text.field-0.0
-    c.from_residual.ensures.1 c.in_err-text.ensures.plain
-
-pub returns-in_err-push-clause-all : goal.returns-in_err-push-clause-all
-returns-in_err-push-clause-all g c =
-    handed_match c.from_residual-in_err-push.result _ IsPlainStop (Fault Memory)
-    c.from_residual-in_err-push.ensures.1 tt
 
 pub returns-clause-all : goal.returns-clause-all
 returns-clause-all g c = (

@@ -1,14 +1,13 @@
 use Rattle.usb_enum.proofs.stops.PlainStops.{answered_plain}
-use Rattle.usb_enum.specs.{IsPlainStop, TextRead, bad_text, AtMaximum, HasTotal, config_fault}
-use Rattle.usb_enum.specs.{Refuses, Stalled}
-use Rattle.std.proofs.Common.{◌∙◌, List, ℕ, arith, refl, subst, sym}
+use Rattle.usb_enum.specs.{bad_text, AtMaximum, HasTotal, config_fault, Refuses, Stalled}
+use Rattle.std.proofs.Common.{◌∙◌, arith, refl, sym}
 use Rattle.usb_hub.specs.{config_given}
 use Rattle.usb_enum.proofs.refusals.ConfigRefusals.{config_refused, text_refused}
 use Rattle.usb_enum.proofs.Parts.{asking, part_fails, steps_asked, steps_then, steps_wider}
 use Rattle.usb_enum.proofs.readings.Readings.{configuration_learned, good_bytes}
 use Rattle.usb_enum.proofs.refusals.Refusals.{explains_on}
-use Rattle.usb_enum.proofs.readings.TextLengths.{config_there, head_unread, text_malformed}
-use Rattle.usb_enum.proofs.readings.TextLengths.{text_unread, text_was_read}
+use Rattle.usb_enum.proofs.readings.TextLengths.{config_there, head_unread, text_unread}
+use Rattle.usb_enum.proofs.readings.TextLengths.{text_was_read}
 use Rattle.usb_enum.proofs.stops.ToldFailures.{handed_on}
 use Rattle.usb_enum.specs.declared.cause.Request.TheVariants.{Config}
 use Rattle.usb_enum.proofs.courses.LastRequests.{leads_went}
@@ -18,14 +17,13 @@ use Rattle.usb_enum.proofs.configurations.read_text.Goals as goal
 pub returns-in_err-total-clause-read : goal.returns-in_err-total-clause-read
 returns-in_err-total-clause-read g c known =
     let head = c.in_err-total.ensures.read known in
-    part_fails c.from_residual.result c.in_err-total.field-0.0 c.from_residual.ensures.1
+    part_fails _ _ c.from_residual.ensures.1
     (steps_wider head.steps (omega arith)) head.ends
 
 pub returns-in_err-bytes-clause-read : goal.returns-in_err-bytes-clause-read
 returns-in_err-bytes-clause-read g c known =
     let t = c.args.target in
     let index = c.args.index in
-    let stop = c.in_err-bytes.field-0.0 in
     let head = c.in_ok-total.ensures.read known in
     let total = c.in_ok-total.total in
     let answer = c.get_config.ensures in
@@ -36,115 +34,98 @@ returns-in_err-bytes-clause-read g c known =
     let old = g.B.Bus.world c.args.bus.now in
     let mid = g.B.Bus.world c.total_length.new.bus in
     let new = g.B.Bus.world c.get_config.new.bus in
-    let failed = sym c.answered_or.ensures ∙ c.in_err-bytes.was in
-    part_fails c.from_residual-in_err-bytes.result stop c.from_residual-in_err-bytes.ensures.1
+    part_fails _ _ c.from_residual-in_err-bytes.ensures.1
     (steps_then asking head.steps text (omega (arith, c.in_ok-total.ensures.fits.1)))
     (record {
-      told = told_after stop t _ _ _ (leads_went head.steps.went)
-          (read_stop_told Config stop (index, (total, refl)) failed asked);
+      told = told_after _ t _ _ _ (leads_went head.steps.went)
+          (read_stop_told Config _ (index, (total, refl)) c.in_err-bytes.ensures asked);
       so = explains_on (AtMaximum t (HasTotal index total))
-          (Refuses t (λ spec. config_fault spec index) stop)
-          (Refuses t (λ spec. config_fault spec index) stop) t _ _ old mid new (λ spec a b. b)
+          (Refuses t (λ spec. config_fault spec index) _)
+          (Refuses t (λ spec. config_fault spec index) _) t _ _ old mid new (λ spec a b. b)
           head.ends.so head.steps.went text.went (config_refused t index total c.get_config.result
-          stop mid new failed c.requires.max what (answer.why known));
+          _ mid new c.in_err-bytes.ensures c.requires.max what (answer.why known));
     })
 
 pub returns-in-Some-clause-read : goal.returns-in-Some-clause-read
 returns-in-Some-clause-read g c known =
-    let t = c.args.target in
-    let index = c.args.index in
     let head = c.in_ok-total.ensures.read known in
     let total = c.in_ok-total.total in
     let bytes = c.in_ok-bytes.bytes in
     let answer = c.get_config.ensures in
     let asked = answer.asked known in
     let what = answer.what known in
-    let read = sym c.answered_or.ensures ∙ c.in_ok-bytes.was in
     let good = sym c.in-Some.is ∙ c.new.ensures in
-    let Read : List ℕ → Type 0 = λ text.
-    TextRead t index text (g.B.Bus.world c.args.bus.now) (g.B.Bus.world c.get_config.new.bus) in
     record {
-      steps = steps_then asking head.steps (steps_asked (config_given index) total c.requires.max
+      steps = steps_then asking head.steps (steps_asked (config_given _) total c.requires.max
           (answer.steps known) asked what (answer.keeps known))
           (omega (arith, c.in_ok-total.ensures.fits.1));
       ends = record {
-        told = subst Read (sym (good_bytes bytes.items c.in-Some.text good).1) (record {
+        told = rw (good_bytes bytes.items c.in-Some.text good).1 (record {
           size = total;
           read = reading_after (leads_went head.steps.went)
-              (was_read (Stalled Config) bytes read asked);
+              (was_read (Stalled Config) bytes c.in_ok-bytes.ensures asked);
         });
-        so = configuration_learned t _ index total _ c.get_config.result bytes c.in-Some.text _ _ _
-            read good head.ends.so (answer.steps known) what;
+        so = configuration_learned _ _ _ total _ c.get_config.result bytes c.in-Some.text _ _ _
+            c.in_ok-bytes.ensures good head.ends.so (answer.steps known) what;
       };
     }
 
 pub returns-in-None-clause-read : goal.returns-in-None-clause-read
 returns-in-None-clause-read g c known =
-    let t = c.args.target in
-    let index = c.args.index in
     let head = c.in_ok-total.ensures.read known in
     let total = c.in_ok-total.total in
     let bytes = c.in_ok-bytes.bytes in
     let answer = c.get_config.ensures in
     let asked = answer.asked known in
     let what = answer.what known in
-    let read = sym c.answered_or.ensures ∙ c.in_ok-bytes.was in
     let none = sym c.new.ensures ∙ c.in-None.is in
     record {
-      steps = steps_then asking head.steps (steps_asked (config_given index) total c.requires.max
+      steps = steps_then asking head.steps (steps_asked (config_given _) total c.requires.max
           (answer.steps known) asked what (answer.keeps known))
           (omega (arith, c.in_ok-total.ensures.fits.1));
       ends = record {
         told = bad_text bytes.items (record {
           size = total;
           read = reading_after (leads_went head.steps.went)
-              (was_read (Stalled Config) bytes read asked);
+              (was_read (Stalled Config) bytes c.in_ok-bytes.ensures asked);
         }) none;
-        so = text_refused t _ index total _ c.get_config.result bytes _ _ _ read none head.ends.so
-            (answer.steps known) what;
+        so = text_refused c.args.target _ _ total _ c.get_config.result bytes _ _ _
+            c.in_ok-bytes.ensures none head.ends.so (answer.steps known) what;
       };
     }
 
 pub returns-in_err-total-clause-count : goal.returns-in_err-total-clause-count
 returns-in_err-total-clause-count g c known =
-    head_unread c.args.target c.args.index _ _ c.from_residual.result c.in_err-total.field-0.0
-    c.from_residual.ensures.1 (c.in_err-total.ensures.read known).steps.went
+    head_unread c.args.target c.args.index _ _ _ _ c.from_residual.ensures.1
+    (c.in_err-total.ensures.read known).steps.went
 
 pub returns-in_err-bytes-clause-count : goal.returns-in_err-bytes-clause-count
 returns-in_err-bytes-clause-count g c known =
     let head = c.in_ok-total.ensures.read known in
     text_unread c.args.target c.args.index c.in_ok-total.total _ _ _ c.requires.max head.steps.went
-    (c.get_config.ensures.steps known) head.ends.so head.ends.told
-    c.from_residual-in_err-bytes.result c.in_err-bytes.field-0.0
+    (c.get_config.ensures.steps known) head.ends.so head.ends.told _ _
     c.from_residual-in_err-bytes.ensures.1
 
 pub returns-in-None-clause-count : goal.returns-in-None-clause-count
 returns-in-None-clause-count g c known =
     let head = c.in_ok-total.ensures.read known in
-    text_malformed c.args.target c.args.index c.in_ok-total.total _ _ _ c.requires.max
-    head.steps.went (c.get_config.ensures.steps known) head.ends.so head.ends.told _
+    text_unread c.args.target c.args.index c.in_ok-total.total _ _ _ c.requires.max
+    head.steps.went (c.get_config.ensures.steps known) head.ends.so head.ends.told _ _ refl
 
 pub returns-in-Some-clause-count : goal.returns-in-Some-clause-count
 returns-in-Some-clause-count g c known =
     let head = c.in_ok-total.ensures.read known in
-    let total = c.in_ok-total.total in
     let answer = c.get_config.ensures in
     let asked = answer.asked known in
     let what = answer.what known in
-    text_was_read c.args.target c.args.index total _ _ _ c.requires.max head.steps.went
+    text_was_read c.args.target c.args.index _ _ _ _ c.requires.max head.steps.went
     (answer.steps known) head.ends.so head.ends.told c.in-Some.text (steps_asked
-    (config_given c.args.index) total c.requires.max (answer.steps known) asked what
-    (answer.keeps known)).keeps.devices (config_there c.args.target _ c.args.index total
-    c.get_config.result c.in_ok-bytes.bytes _ _ (sym c.answered_or.ensures ∙ c.in_ok-bytes.was)
+    (config_given c.args.index) _ c.requires.max (answer.steps known) asked what
+    (answer.keeps known)).keeps.devices (config_there c.args.target _ c.args.index _
+    c.get_config.result c.in_ok-bytes.bytes _ _ c.in_ok-bytes.ensures
     asked what)
-
-pub returns-in_err-total-clause-plain : goal.returns-in_err-total-clause-plain
-returns-in_err-total-clause-plain g c =
-    handed_on c.from_residual.result IsPlainStop c.in_err-total.field-0.0 c.from_residual.ensures.1
-    c.in_err-total.ensures.fits
 
 pub returns-in_err-bytes-clause-plain : goal.returns-in_err-bytes-clause-plain
 returns-in_err-bytes-clause-plain g c =
-    handed_on c.from_residual-in_err-bytes.result IsPlainStop c.in_err-bytes.field-0.0
-    c.from_residual-in_err-bytes.ensures.1 (answered_plain (Stalled Config) c.get_config.result
-    c.in_err-bytes.field-0.0 tt (sym c.answered_or.ensures ∙ c.in_err-bytes.was))
+    handed_on _ _ _ c.from_residual-in_err-bytes.ensures.1 (answered_plain (Stalled Config) _ _ tt
+    c.in_err-bytes.ensures)

@@ -1,5 +1,5 @@
 use Rattle.usb_enum.proofs.stops.PlainStops.{answered_plain}
-use Rattle.usb_enum.specs.{IsPlainStop, bad_total, Stalled}
+use Rattle.usb_enum.specs.{bad_total, Stalled}
 use Rattle.std.proofs.Common.{◌∙◌, ap, refl, sym}
 use Rattle.usb_descriptor.specs.{config_head_of}
 use Rattle.usb_hub.specs.{config_given}
@@ -14,66 +14,60 @@ use Rattle.usb_enum.proofs.configurations.total_length.Goals as goal
 
 pub returns-in-Ok-clause-read : goal.returns-in-Ok-clause-read
 returns-in-Ok-clause-read g c known =
-    let answer = c.get_config.ensures in
     let old = g.B.Bus.world c.args.bus.now in
     let new = g.B.Bus.world c.get_config.new.bus in
+    let answer = c.get_config.ensures in
     let asked = answer.asked known in
     let what = answer.what known in
-    let t = c.args.target in
-    let bytes = c.in_ok-head.head in
-    let read = sym c.answered_or.ensures ∙ c.in_ok-head.was in
     record {
       steps = steps_asked (config_given c.args.index) 9 c.requires.max (answer.steps known) asked
           what (answer.keeps known);
       ends = record {
-        told = config_there t _ c.args.index 9 c.get_config.result bytes old new read asked what;
-        so = total_learned t _ c.args.index c.in-Ok.total c.get_config.result bytes old new read (ap
-            config_head_of (sym c.as_slice.ensures.value) ∙ sym c.config_head.ensures.answer
-            ∙ c.in-Ok.is) what;
+        told = config_there _ _ c.args.index 9 c.get_config.result _ old new c.in_ok-head.ensures
+            asked what;
+        so = total_learned _ _ c.args.index c.in-Ok.total c.get_config.result _ old new
+            c.in_ok-head.ensures (ap config_head_of (sym c.as_slice.ensures.value)
+            ∙ sym c.config_head.ensures.answer ∙ c.in-Ok.is) what;
       };
     }
 
 pub returns-in_err-head-clause-read : goal.returns-in_err-head-clause-read
 returns-in_err-head-clause-read g c known =
-    let answer = c.get_config.ensures in
     let old = g.B.Bus.world c.args.bus.now in
     let new = g.B.Bus.world c.get_config.new.bus in
+    let answer = c.get_config.ensures in
     let asked = answer.asked known in
     let what = answer.what known in
-    let stop = c.in_err-head.field-0.0 in
-    let failed = sym c.answered_or.ensures ∙ c.in_err-head.was in
-    part_fails c.from_residual.result stop c.from_residual.ensures.1 (steps_asked
+    part_fails _ _ c.from_residual.ensures.1 (steps_asked
     (config_given c.args.index) 9 c.requires.max (answer.steps known) asked what
     (answer.keeps known)) (record {
-      told = read_stop_told Config stop (c.args.index, (9, refl)) failed asked;
-      so = config_refused c.args.target c.args.index 9 c.get_config.result stop old new failed
-          c.requires.max what (answer.why known);
+      told = read_stop_told Config _ (c.args.index, (9, refl)) c.in_err-head.ensures asked;
+      so = config_refused c.args.target c.args.index 9 c.get_config.result _ old new
+          c.in_err-head.ensures c.requires.max what (answer.why known);
     })
 
 pub returns-clause-read : goal.returns-clause-read
 returns-clause-read g c known =
-    let answer = c.get_config.ensures in
     let old = g.B.Bus.world c.args.bus.now in
     let new = g.B.Bus.world c.get_config.new.bus in
+    let answer = c.get_config.ensures in
     let asked = answer.asked known in
     let what = answer.what known in
     let bytes = c.in_ok-head.head in
-    let read = sym c.answered_or.ensures ∙ c.in_ok-head.was in
     let bad = ap config_head_of (sym c.as_slice.ensures.value) ∙ sym c.config_head.ensures.answer
     ∙ c.in-Err.is in
     record {
       steps = steps_asked (config_given c.args.index) 9 c.requires.max (answer.steps known) asked
           what (answer.keeps known);
       ends = record {
-        told = bad_total bytes.items c.in-Err.field-0 (was_read (Stalled Config) bytes read asked)
-            bad;
+        told = bad_total bytes.items c.in-Err.field-0 (was_read (Stalled Config) bytes
+            c.in_ok-head.ensures asked) bad;
         so = total_refused c.args.target _ c.args.index c.get_config.result bytes c.in-Err.field-0
-            old new read bad what;
+            old new c.in_ok-head.ensures bad what;
       };
     }
 
 pub returns-in_err-head-clause-fits : goal.returns-in_err-head-clause-fits
 returns-in_err-head-clause-fits g c =
-    handed_match c.from_residual.result _ IsPlainStop c.in_err-head.field-0.0
-    c.from_residual.ensures.1 (answered_plain (Stalled Config) c.get_config.result
-    c.in_err-head.field-0.0 tt (sym c.answered_or.ensures ∙ c.in_err-head.was))
+    handed_match _ _ _ _ c.from_residual.ensures.1 (answered_plain (Stalled Config) _ _ tt
+    c.in_err-head.ensures)

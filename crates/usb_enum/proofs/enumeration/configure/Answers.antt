@@ -1,12 +1,10 @@
-use Rattle.usb_enum.specs.{IsStarted, Stalled, FitsStop, Memory, DeviceFact, AtMaximum}
-use Rattle.usb_enum.specs.{HasConfigurations, configured_fault, configured_by, texts_bound}
-use Rattle.usb_enum.specs.{CauseAllowedAtStart, lacks_power, ReadsStrings}
+use Rattle.usb_enum.specs.{IsStarted, Stalled, Memory, configured_fault, CauseAllowedAtStart}
+use Rattle.usb_enum.specs.{lacks_power}
 use Rattle.usb_enum.proofs.stops.PlainStops.{answered_plain, deep_stop_fits, hub_stop_fits}
 use Rattle.usb_enum.proofs.stops.PlainStops.{plain_stop_fits}
-use Rattle.std.proofs.Common.{◌∙◌, ℕ, [], ap, arith, refl, slice_index_or, subst, sym}
-use Rattle.std.proofs.lemmas.List.{get_or_read}
+use Rattle.std.proofs.Common.{◌∙◌, ap, arith, refl, subst, sym}
+use Rattle.usb_enum.proofs.readings.SettingValues.{text_at}
 use Rattle.usb_descriptor.specs.{configuration_value}
-use Rattle.usb_enum.specs.declared.stop.Stop.TheVariants.{Fault}
 use Rattle.usb_enum.proofs.refusals.Refusals.{answered_ok, fault_explains, handed_match}
 use Rattle.usb_enum.proofs.refusals.SettingRefusals.{deep_refused, read_refused, power_refused}
 use Rattle.usb_enum.proofs.refusals.SettingRefusals.{set_refused, hub_refused, strings_refused}
@@ -26,39 +24,32 @@ use Rattle.usb_enum.proofs.enumeration.configure.Goals as goal
 pub returns-in_err-fits_tier-clause-part : goal.returns-in_err-fits_tier-clause-part
 returns-in_err-fits_tier-clause-part g c known =
     let device = c.args.device in
-    let stop = c.in_err-fits_tier.field-0.0 in
-    let deep = sym c.fits_tier.ensures ∙ c.in_err-fits_tier.was in
-    part_fails c.from_residual.result stop c.from_residual.ensures.1 (steps_none _ _ (setting _))
+    let deep = sym c.in_err-fits_tier.ensures in
+    part_fails _ _ c.from_residual.ensures.1 (steps_none _ _ (setting _))
     (record {
-      told = fits_stop device.target device.bytes c.args.tier c.args.supply stop
-          (g.B.Bus.world c.args.bus.now) deep;
-      so = deep_refused device.target c.args.tier c.args.supply device.bytes stop
-          (g.B.Bus.world c.args.bus.now) deep;
+      told = fits_stop _ _ _ _ _ _ deep;
+      so = deep_refused device.target c.args.tier c.args.supply device.bytes
+          c.in_err-fits_tier.field-0.0 (g.B.Bus.world c.args.bus.now) deep;
     })
 
 pub returns-in_err-configs-clause-part : goal.returns-in_err-configs-clause-part
 returns-in_err-configs-clause-part g c known =
     let device = c.args.device in
-    let stop = c.in_err-configs.field-0.0 in
-    let fits = sym c.fits_tier.ensures ∙ c.in_ok-fits_tier.was in
     let read = c.in_err-configs.ensures.read known in
-    let old = g.B.Bus.world c.args.bus.now in
-    let mid = g.B.Bus.world c.read_configurations.new.bus in
-    part_fails c.from_residual-in_err-configs.result stop c.from_residual-in_err-configs.ensures.1
+    part_fails _ _ c.from_residual-in_err-configs.ensures.1
     (steps_wider (steps_as (sets_asked _) read.steps) (omega arith))
     (record {
-      told = stops_by device.target device.bytes c.args.tier c.args.supply stop old mid
-          read.ends.told;
-      so = read_refused device.target c.args.tier c.args.supply device.bytes fits _ stop old mid
-          c.configurations.ensures read.ends.so;
+      told = stops_by _ _ _ _ _ _ _ read.ends.told;
+      so = read_refused device.target c.args.tier c.args.supply device.bytes (sym
+          c.in_ok-fits_tier.ensures) _ c.in_err-configs.field-0.0 (g.B.Bus.world c.args.bus.now)
+          (g.B.Bus.world c.read_configurations.new.bus) c.configurations.ensures read.ends.so;
     })
 
 pub returns-in_err-chosen-clause-part : goal.returns-in_err-chosen-clause-part
 returns-in_err-chosen-clause-part g c known =
     let device = c.args.device in
     let read = c.in_ok-configs.ensures.read known in
-    part_fails c.from_residual-in_err-chosen.result (Fault Memory)
-    c.from_residual-in_err-chosen.ensures.1
+    part_fails _ _ c.from_residual-in_err-chosen.ensures.1
     (steps_wider (steps_as (sets_asked _) read.steps) (omega arith)) (record {
       told = record { fits = tt; because = tt };
       so = fault_explains _ device.target (configured_fault c.args.tier c.args.supply device.bytes)
@@ -70,26 +61,23 @@ pub returns-in_default-clause-part : goal.returns-in_default-clause-part
 returns-in_default-clause-part g c known =
     let device = c.args.device in
     let t = device.target in
-    let configs = c.in_ok-configs.configs in
     let read = c.in_ok-configs.ensures.read known in
     let none = sym c.in_ok-chosen.ensures.chosen ∙ c.in_default.is in
     let old = g.B.Bus.world c.args.bus.now in
     let mid = g.B.Bus.world c.read_configurations.new.bus in
-    let Learned : ℕ → Type 0 = λ n. DeviceFact (AtMaximum t (HasConfigurations n configs)) t old
-    mid in
     record {
       steps = steps_wider (steps_as (sets_asked _) read.steps) (omega arith);
       ends = record {
         told = record {
           fits = tt;
-          because = lacks_power configs (record {
+          because = lacks_power _ (record {
             asked = read.ends.told;
             all = c.in_ok-configs.ensures.all.0 ∙ c.configurations.ensures;
           }) none;
         };
         so = power_refused t c.args.tier c.args.supply device.bytes
-            (sym c.fits_tier.ensures ∙ c.in_ok-fits_tier.was) configs old mid none
-            (subst Learned c.configurations.ensures read.ends.so);
+            (sym c.in_ok-fits_tier.ensures) _ old mid none
+            (rw c.configurations.ensures at read.ends.so);
       };
     }
 
@@ -97,35 +85,24 @@ pub returns-in_err-answered_or-clause-part : goal.returns-in_err-answered_or-cla
 returns-in_err-answered_or-clause-part g c known =
     let device = c.args.device in
     let t = device.target in
-    let stop = c.in_err-answered_or.field-0.0 in
-    let configs = c.in_ok-configs.configs in
     let read = c.in_ok-configs.ensures.read known in
     let set = c.set_configuration.ensures in
     let inside = rw c.in-Some.is at c.in_ok-chosen.ensures.inside in
-    let chosen = get_or_read configs _ _ inside (c.index-as_slice-chosen.is ∙ ap (λ texts.
-    slice_index_or texts c.in-Some.chosen c.index-as_slice-chosen.result) c.as_slice.ensures) []
-    in
-    let failed = sym c.answered_or.ensures ∙ c.in_err-answered_or.was in
-    let old = g.B.Bus.world c.args.bus.now in
-    let mid = g.B.Bus.world c.read_configurations.new.bus in
-    let new = g.B.Bus.world c.set_configuration.new.bus in
-    let Learned : ℕ → Type 0 = λ n. DeviceFact (AtMaximum t (HasConfigurations n configs)) t old
-    mid in
-    part_fails c.from_residual-in_err-answered_or.result stop
-    c.from_residual-in_err-answered_or.ensures.1 (steps_as (sets_at c.requires) (steps_then
-    (setting t.addr) (steps_as (sets_asked _) read.steps)
+    let chosen = text_at _ _ _ _ c.index-as_slice-chosen.is c.as_slice.ensures inside in
+    part_fails _ _ c.from_residual-in_err-answered_or.ensures.1 (steps_as (sets_at c.requires)
+    (steps_then (setting t.addr) (steps_as (sets_asked _) read.steps)
     (steps_set (set.steps known) (set.ordered known) (set.what known) (set.keeps known))
     (omega arith))) (record {
-      told = stops_by t device.bytes c.args.tier c.args.supply stop old new
-          (told_after stop t old mid new (leads_went read.steps.went)
-          (write_stop_told SetConfig stop (c.value-value.result, refl) failed (set.ordered known)));
+      told = stops_by _ _ _ _ _ _ _ (told_after _ t _ _ _ (leads_went read.steps.went)
+          (write_stop_told SetConfig _ (c.value-value.result, refl) c.in_err-answered_or.ensures
+          (set.ordered known)));
       so = set_refused t c.args.tier c.args.supply device.bytes
-          (sym c.fits_tier.ensures ∙ c.in_ok-fits_tier.was) configs c.in-Some.chosen
+          (sym c.in_ok-fits_tier.ensures) _ c.in-Some.chosen
           (sym c.in_ok-chosen.ensures.chosen ∙ c.in-Some.is) c.value-value.result _ _
-          c.set_configuration.result stop old mid new (λ z. omega (arith, z, c.requires)) inside
+          c.set_configuration.result _ _ _ _ (λ z. omega (arith, z, c.requires)) inside
           (c.value-value.ensures ∙ ap configuration_value chosen) (omega arith)
-          (subst Learned c.configurations.ensures read.ends.so) read.steps.went (set.steps known)
-          failed (set.what known) (set.why known);
+          (rw c.configurations.ensures at read.ends.so) read.steps.went (set.steps known)
+          c.in_err-answered_or.ensures (set.what known) (set.why known);
     })
 
 pub returns-in_err-hub-clause-part : goal.returns-in_err-hub-clause-part
@@ -134,28 +111,22 @@ returns-in_err-hub-clause-part g c known =
     let t = device.target in
     let stop = c.in_err-hub.field-0.0 in
     let configs = c.in_ok-configs.configs in
-    let fits = sym c.fits_tier.ensures ∙ c.in_ok-fits_tier.was in
+    let fits = sym c.in_ok-fits_tier.ensures in
     let choice = sym c.in_ok-chosen.ensures.chosen ∙ c.in-Some.is in
     let read = c.in_ok-configs.ensures.read known in
     let set = c.set_configuration.ensures in
     let hub = c.in_err-hub.ensures.part known in
     let is_hub = c.in_err-hub.ensures.hub.0 in
     let inside = rw c.in-Some.is at c.in_ok-chosen.ensures.inside in
-    let chosen = get_or_read configs _ _ inside (c.index-as_slice-chosen.is ∙ ap (λ texts.
-    slice_index_or texts c.in-Some.chosen c.index-as_slice-chosen.result) c.as_slice.ensures) []
-    in
-    let same_text = get_or_read configs _ _ inside (c.index-as_slice-chosen-2.is ∙ ap (λ texts.
-    slice_index_or texts c.in-Some.chosen c.index-as_slice-chosen-2.result)
-    c.as_slice-2.ensures) [] in
+    let chosen = text_at _ _ _ _ c.index-as_slice-chosen.is c.as_slice.ensures inside in
+    let same_text = text_at _ _ _ _ c.index-as_slice-chosen-2.is c.as_slice-2.ensures inside in
     let old = g.B.Bus.world c.args.bus.now in
     let mid = g.B.Bus.world c.read_configurations.new.bus in
     let before = g.B.Bus.world c.set_configuration.new.bus in
     let asked = g.B.Bus.world c.hub_facts.new.bus in
-    let Learned : ℕ → Type 0 = λ n. DeviceFact (AtMaximum t (HasConfigurations n configs)) t old
-    mid in
     let steps = steps_joined (setting t.addr) (steps_as (sets_asked _) read.steps)
     (steps_set (set.steps known) (set.ordered known) (set.what known) (set.keeps known)) in
-    part_fails c.from_residual-in_err-hub.result stop c.from_residual-in_err-hub.ensures.1 (steps_as
+    part_fails _ _ c.from_residual-in_err-hub.ensures.1 (steps_as
     (sets_at c.requires) (steps_then (setting t.addr) steps (steps_as (sets_told _) hub.steps)
     (omega arith))) (record {
       told = hub_stops t device.bytes c.args.tier c.args.supply stop old mid before asked fits
@@ -170,59 +141,51 @@ returns-in_err-hub-clause-part g c known =
           c.value-value.result _ _ _ stop old before asked (λ z. omega (arith, z, c.requires))
           is_hub inside (c.value-value.ensures ∙ ap configuration_value chosen) (omega arith)
           (set_learned _ t c.value-value.result _ c.set_configuration.result old mid before
-          (subst Learned c.configurations.ensures read.ends.so) (set.steps known) (answered_ok _
-          c.set_configuration.result tt (sym c.answered_or.ensures ∙ c.in_ok-answered_or.was))
-          (set.what known)) steps.went hub.steps.went same_text hub.ends.so;
+          (rw c.configurations.ensures at read.ends.so) (set.steps known) (answered_ok _ _ tt
+          c.in_ok-answered_or.ensures) (set.what known)) steps.went hub.steps.went same_text
+          hub.ends.so;
     })
 
 pub returns-in_err-strings-clause-part : goal.returns-in_err-strings-clause-part
 returns-in_err-strings-clause-part g c known =
-    let device = c.args.device in
-    let t = device.target in
-    let stop = c.in_err-strings.field-0.0 in
-    let read = c.in_ok-configs.ensures.read known in
-    let set = c.set_configuration.ensures in
-    let hub = c.in_ok-hub.ensures.part known in
-    let strings = c.in_err-strings.ensures.read known in
     let old = g.B.Bus.world c.args.bus.now in
     let mid = g.B.Bus.world c.read_configurations.new.bus in
     let before = g.B.Bus.world c.set_configuration.new.bus in
     let asked = g.B.Bus.world c.hub_facts.new.bus in
-    let new = g.B.Bus.world c.read_strings.new.bus in
+    let device = c.args.device in
+    let t = device.target in
+    let read = c.in_ok-configs.ensures.read known in
+    let set = c.set_configuration.ensures in
+    let hub = c.in_ok-hub.ensures.part known in
+    let strings = c.in_err-strings.ensures.read known in
     let steps = steps_joined (setting t.addr) (steps_joined (setting t.addr)
     (steps_as (sets_asked _) read.steps) (steps_set (set.steps known) (set.ordered known)
     (set.what known) (set.keeps known))) (steps_as (sets_told _) hub.steps) in
     let learned = set_learned _ t c.value-value.result _ c.set_configuration.result old mid before
-    read.ends.so (set.steps known) (answered_ok _ c.set_configuration.result tt
-    (sym c.answered_or.ensures ∙ c.in_ok-answered_or.was)) (set.what known) in
-    part_fails c.from_residual-in_err-strings.result stop c.from_residual-in_err-strings.ensures.1
+    read.ends.so (set.steps known) (answered_ok _ _ tt c.in_ok-answered_or.ensures) (set.what known)
+    in
+    part_fails _ _ c.from_residual-in_err-strings.ensures.1
     (steps_as (sets_at c.requires) (steps_then (setting t.addr) steps
     (steps_as (sets_asked _) strings.steps) (omega arith))) (record {
-      told = stops_by t device.bytes c.args.tier c.args.supply stop old new
-          (told_after stop t old asked new (leads_went steps.went) strings.ends.told);
-      so = strings_refused t c.args.tier c.args.supply device.bytes _ c.value-value.result _ _ stop
-          old asked new (set_then _ _ t c.value-value.result _ old before asked learned
+      told = stops_by _ _ _ _ _ _ _
+          (told_after _ t _ _ _ (leads_went steps.went) strings.ends.told);
+      so = strings_refused t c.args.tier c.args.supply device.bytes _ c.value-value.result _ _ _
+          _ _ _ (set_then _ _ t c.value-value.result _ old before asked learned
           hub.steps.went hub.ends.learned) steps.went strings.steps.went strings.ends.so;
     })
 
 pub returns-clause-part : goal.returns-clause-part
 returns-clause-part g c known =
-    let device = c.args.device in
-    let t = device.target in
+    let t = c.args.device.target in
     let configs = c.in_ok-configs.configs in
     let read = c.in_ok-configs.ensures.read known in
     let set = c.set_configuration.ensures in
-    let done = answered_ok _ c.set_configuration.result tt
-    (sym c.answered_or.ensures ∙ c.in_ok-answered_or.was) in
+    let done = answered_ok _ _ tt c.in_ok-answered_or.ensures in
     let hub = c.in_ok-hub.ensures.part known in
     let strings = c.in_ok-strings.ensures.read known in
     let inside = rw c.in-Some.is at c.in_ok-chosen.ensures.inside in
-    let chosen = get_or_read configs _ _ inside (c.index-as_slice-chosen.is ∙ ap (λ texts.
-    slice_index_or texts c.in-Some.chosen c.index-as_slice-chosen.result) c.as_slice.ensures) []
-    in
-    let same_text = get_or_read configs _ _ inside (c.index-as_slice-chosen-2.is ∙ ap (λ texts.
-    slice_index_or texts c.in-Some.chosen c.index-as_slice-chosen-2.result)
-    c.as_slice-2.ensures) [] in
+    let chosen = text_at _ _ _ _ c.index-as_slice-chosen.is c.as_slice.ensures inside in
+    let same_text = text_at _ _ _ _ c.index-as_slice-chosen-2.is c.as_slice-2.ensures inside in
     let steps = steps_joined (setting t.addr) (steps_joined (setting t.addr)
     (steps_as (sets_asked _) read.steps) (steps_set (set.steps known) (set.ordered known)
     (set.what known) (set.keeps known))) (steps_as (sets_told _) hub.steps) in
@@ -233,7 +196,7 @@ returns-clause-part g c known =
         address = sym c.requires;
         low = refl;
         bytes = refl;
-        fits = sym c.fits_tier.ensures ∙ c.in_ok-fits_tier.was;
+        fits = sym c.in_ok-fits_tier.ensures;
         served = subst (λ a. IsStarted a c.in_ok-hub.hub) c.requires hub.ends.served;
         learned = listed_learns _ _ _ _ _ _ _ _ _ _ c.set_configuration.result
             c.configurations.ensures read.ends.so (set.steps known)
@@ -246,93 +209,75 @@ returns-clause-part g c known =
         strings = record {
           before = g.B.Bus.world c.hub_facts.new.bus;
           led = leads_went steps.went;
-          read = subst (λ indexes. ReadsStrings t indexes (g.B.Bus.world c.hub_facts.new.bus)
-              (g.B.Bus.world c.read_strings.new.bus) c.in_ok-strings.strings)
-              c.string_indexes.ensures strings.ends.told;
+          read = rw c.string_indexes.ensures at strings.ends.told;
         };
       };
     }
 
-pub returns-in_err-fits_tier-clause-few : goal.returns-in_err-fits_tier-clause-few
-returns-in_err-fits_tier-clause-few g c known = record { few = λ most single each. omega arith }
-
 pub returns-in_err-configs-clause-few : goal.returns-in_err-configs-clause-few
 returns-in_err-configs-clause-few g c known =
-    few_wider texts_bound configured_by c.args.device.target _ _
+    few_wider _ _ _ _ _
     (c.read_configurations.ensures.few known) (λ most. omega arith)
 
 pub returns-in_err-chosen-clause-few : goal.returns-in_err-chosen-clause-few
 returns-in_err-chosen-clause-few g c known =
-    few_wider texts_bound configured_by c.args.device.target _ _
+    few_wider _ _ _ _ _
     (c.read_configurations.ensures.few known) (λ most. omega arith)
 
 pub returns-in_default-clause-few : goal.returns-in_default-clause-few
 returns-in_default-clause-few g c known =
-    few_wider texts_bound configured_by c.args.device.target _ _
+    few_wider _ _ _ _ _
     (c.read_configurations.ensures.few known) (λ most. omega arith)
 
 pub returns-in_err-answered_or-clause-few : goal.returns-in_err-answered_or-clause-few
 returns-in_err-answered_or-clause-few g c known =
-    few_then texts_bound configured_by c.args.device.target _ _ _ _
+    few_then _ _ _ _ _ _ _
     (c.read_configurations.ensures.few known) (c.set_configuration.ensures.steps known)
     (λ most. omega arith)
 
 pub returns-in_err-hub-clause-few : goal.returns-in_err-hub-clause-few
 returns-in_err-hub-clause-few g c known =
-    few_then texts_bound configured_by c.args.device.target _ _ _ _
+    few_then _ _ _ _ _ _ _
     (c.read_configurations.ensures.few known) (went_then _ _
     (c.set_configuration.ensures.steps known) (c.in_err-hub.ensures.part known).steps.went)
     (λ most. omega arith)
 
 pub returns-in_err-strings-clause-few : goal.returns-in_err-strings-clause-few
 returns-in_err-strings-clause-few g c known =
-    few_then texts_bound configured_by c.args.device.target _ _ _ _
+    few_then _ _ _ _ _ _ _
     (c.read_configurations.ensures.few known) (went_then _ _ (went_then _ _
     (c.set_configuration.ensures.steps known) (c.in_ok-hub.ensures.part known).steps.went)
     (c.in_err-strings.ensures.read known).steps.went) (λ most. omega arith)
 
 pub returns-clause-few : goal.returns-clause-few
 returns-clause-few g c known =
-    few_then texts_bound configured_by c.args.device.target _ _ _ _
+    few_then _ _ _ _ _ _ _
     (c.read_configurations.ensures.few known) (went_then _ _ (went_then _ _
     (c.set_configuration.ensures.steps known) (c.in_ok-hub.ensures.part known).steps.went)
     (c.in_ok-strings.ensures.read known).steps.went) (λ most. omega arith)
 
 pub returns-in_err-fits_tier-clause-whole : goal.returns-in_err-fits_tier-clause-whole
 returns-in_err-fits_tier-clause-whole g c =
-    handed_match c.from_residual.result _ (FitsStop c.args.tier) c.in_err-fits_tier.field-0.0
-    c.from_residual.ensures.1 (deep_stop_fits c.args.tier c.args.device.bytes
-    c.in_err-fits_tier.field-0.0 (sym c.fits_tier.ensures ∙ c.in_err-fits_tier.was))
+    handed_match _ _ _ _ c.from_residual.ensures.1 (deep_stop_fits _ c.args.device.bytes _ (sym
+    c.in_err-fits_tier.ensures))
 
 pub returns-in_err-configs-clause-whole : goal.returns-in_err-configs-clause-whole
 returns-in_err-configs-clause-whole g c =
-    handed_match c.from_residual-in_err-configs.result _ (FitsStop c.args.tier)
-    c.in_err-configs.field-0.0 c.from_residual-in_err-configs.ensures.1 (plain_stop_fits c.args.tier
-    c.in_err-configs.field-0.0 c.in_err-configs.ensures.all)
-
-pub returns-in_err-chosen-clause-whole : goal.returns-in_err-chosen-clause-whole
-returns-in_err-chosen-clause-whole g c =
-    handed_match c.from_residual-in_err-chosen.result _ (FitsStop c.args.tier) (Fault Memory)
-    c.from_residual-in_err-chosen.ensures.1 tt
+    handed_match _ _ _ _ c.from_residual-in_err-configs.ensures.1 (plain_stop_fits _ _
+    c.in_err-configs.ensures.all)
 
 pub returns-in_err-answered_or-clause-whole : goal.returns-in_err-answered_or-clause-whole
 returns-in_err-answered_or-clause-whole g c =
-    let stop = c.in_err-answered_or.field-0.0 in
-    handed_match c.from_residual-in_err-answered_or.result _ (FitsStop c.args.tier) stop
-    c.from_residual-in_err-answered_or.ensures.1 (plain_stop_fits c.args.tier stop (answered_plain
-    (Stalled SetConfig) c.set_configuration.result stop tt
-    (sym c.answered_or.ensures ∙ c.in_err-answered_or.was)))
+    handed_match _ _ _ _ c.from_residual-in_err-answered_or.ensures.1 (plain_stop_fits _ _
+    (answered_plain (Stalled SetConfig) _ _ tt c.in_err-answered_or.ensures))
 
 pub returns-in_err-hub-clause-whole : goal.returns-in_err-hub-clause-whole
 returns-in_err-hub-clause-whole g c =
-    let stop = c.in_err-hub.field-0.0 in
-    handed_match c.from_residual-in_err-hub.result _ (FitsStop c.args.tier) stop
-    c.from_residual-in_err-hub.ensures.1 (hub_stop_fits c.args.tier c.args.device.bytes stop
-    (sym c.fits_tier.ensures ∙ c.in_ok-fits_tier.was) c.in_err-hub.ensures.hub.0
+    handed_match _ _ _ _ c.from_residual-in_err-hub.ensures.1 (hub_stop_fits _ c.args.device.bytes _
+    (sym c.in_ok-fits_tier.ensures) c.in_err-hub.ensures.hub.0
     c.in_err-hub.ensures.hub.1)
 
 pub returns-in_err-strings-clause-whole : goal.returns-in_err-strings-clause-whole
 returns-in_err-strings-clause-whole g c =
-    handed_match c.from_residual-in_err-strings.result _ (FitsStop c.args.tier)
-    c.in_err-strings.field-0.0 c.from_residual-in_err-strings.ensures.1 (plain_stop_fits c.args.tier
-    c.in_err-strings.field-0.0 c.in_err-strings.ensures.plain)
+    handed_match _ _ _ _ c.from_residual-in_err-strings.ensures.1 (plain_stop_fits _ _
+    c.in_err-strings.ensures.plain)

@@ -1,5 +1,5 @@
 use Rattle.usb_enum.proofs.stops.PlainStops.{plain_stop_fits, whole_only}
-use Rattle.usb_enum.specs.{FitsStop, addressed_fault, whole_fault, StopsExamining}
+use Rattle.usb_enum.specs.{addressed_fault, whole_fault, StopsExamining}
 use Rattle.std.proofs.Common.{arith, inr}
 use Rattle.usb_enum.proofs.devices.Frames.{at_configured}
 use Rattle.usb_enum.proofs.courses.Counts.{went_on_more}
@@ -14,16 +14,13 @@ use Rattle.usb_enum.proofs.enumeration.examine.Goals as goal
 
 pub returns-in_err-device-clause-part : goal.returns-in_err-device-clause-part
 returns-in_err-device-clause-part g c known =
-    let port = c.args.port in
-    let tier = c.args.tier in
-    let supply = c.args.supply in
-    let stop = c.in_err-device.field-0.0 in
     let early = rw c.number.ensures.value at (c.in_err-device.ensures.part known) in
-    part_fails c.from_residual.result stop c.from_residual.ensures.1
+    part_fails _ _ c.from_residual.ensures.1
     (steps_wider early.steps (omega arith)) (record {
-      told = early_stops port c.args.address tier supply stop _ _ early.ends.told;
-      so = stops_wider addressed_fault (whole_fault tier supply) _ _ _ _ _
-          (addressed_verdict tier supply) early.ends.so;
+      told = early_stops c.args.port c.args.address _ _ c.in_err-device.field-0.0 _ _
+          early.ends.told;
+      so = stops_wider addressed_fault (whole_fault _ _) _ _ _ _ _
+          (addressed_verdict _ _) early.ends.so;
     })
 
 pub returns-clause-part : goal.returns-clause-part
@@ -33,28 +30,25 @@ returns-clause-part g c known =
     let tier = c.args.tier in
     let supply = c.args.supply in
     let device = c.in_ok-device.device in
-    let old = g.B.Bus.world c.args.bus.now in
-    let mid = g.B.Bus.world c.passes.new.bus in
-    let new = g.B.Bus.world c.configure.new.bus in
-    let result = c.configure.result in
     let pass = rw c.number.ensures.value at (c.in_ok-device.ensures.part known) in
     let went = pass.steps.went in
     let at = pass.steps.keeps in
     let taken = pass.ends.so in
     let set = c.configure.ensures.part known in
     let sets = set.steps.keeps in
+    let result = c.configure.result in
     record {
       steps = record {
         went = went_on_more _ _ _ _ _ _ went set.steps.went (omega arith);
         keeps = at_configured _ _ _ _ _ _ at taken.takes set.steps.went sets;
       };
-      ends = matched result _ (StopsExamining port a tier supply old new) (accepted _ _ _ _ _ _ _
+      ends = matched result _ (StopsExamining port a tier supply _ _) (accepted _ _ _ _ _ _ _
           result went at.within taken sets set.steps.went (whole_only result _ _
           (matched_ok result _ _ c.configure.ensures.whole)) (matched_ok result _ _ set.ends))
-          (by_error result (StopsExamining port a tier supply old new) (λ stop is.
+          (by_error result (StopsExamining port a tier supply _ _) (λ stop is.
           let stopped = (rw is at set).ends in
           record {
-            told = device_stops port a tier supply device.target device.bytes stop old mid new
+            told = device_stops port a tier supply device.target device.bytes stop _ _ _
                 (record { at = inr taken.address; pre = taken.pre }) pass.ends.told stopped.told;
             so = configured_stops _ _ _ _ _ _ device went set.steps.went at taken sets device.device
                 stop stopped.told.fits stopped.so;
@@ -75,6 +69,5 @@ returns-clause-few g c known =
 
 pub returns-in_err-device-clause-whole : goal.returns-in_err-device-clause-whole
 returns-in_err-device-clause-whole g c =
-    handed_match c.from_residual.result _ (FitsStop c.args.tier) c.in_err-device.field-0.0
-    c.from_residual.ensures.1 (plain_stop_fits c.args.tier c.in_err-device.field-0.0
+    handed_match _ _ _ _ c.from_residual.ensures.1 (plain_stop_fits _ _
     c.in_err-device.ensures.addressed)

@@ -1,16 +1,15 @@
 use Rattle.usb_enum.proofs.ports.Ports.{disabled}
 use Rattle.usb_hub.proofs.Interface.{asked_port}
 use Rattle.usb_enum.proofs.stops.PlainStops.{handed_none}
-use Rattle.std.proofs.Common.{◌∙◌, Result, arith, refl, subst, sym}
-use Rattle.std.specs.Prelude.{IfErr}
+use Rattle.std.proofs.Common.{inr, Err, arith, refl}
 use Rattle.usb_port.specs.{ClearEnable}
 use Rattle.usb_request.specs.{PORT_ENABLE}
-use Rattle.usb_enum.specs.{EnumFault, FaultBy}
+use Rattle.usb_enum.specs.{FaultBy}
 use Rattle.usb_enum.proofs.courses.Stretches.{clear_goes}
 use Rattle.usb_bus.proofs.Interface.{went_none, went_wider}
 use Rattle.usb_enum.proofs.stops.Closings.{closed_fault, closed_handed, closed_lost, closed_refused}
-use Rattle.usb_enum.proofs.stops.Endings.{port_done}
-use Rattle.usb_enum.proofs.stops.Reasons.{port_cleared_fault, fault_by}
+use Rattle.usb_enum.proofs.devices.ReachedDevices.{done_at}
+use Rattle.usb_enum.proofs.stops.Reasons.{call_ends, fault_by}
 use Rattle.usb_enum.proofs.refusals.Refusals.{handed_match}
 use Rattle.usb_enum.proofs.enumeration.give_up.Goals as goal
 
@@ -20,32 +19,30 @@ returns-in_err-at_port-in-Refused-clause-left g c known =
     let port = c.args.port in
     let why = c.in_err-at_port-in-Refused.field-0.0 in
     let call = c.clear_port.ensures in
-    let told = sym c.in_err-at_port-in-Refused.was ∙ c.at_port.ensures in
-    let By : Result (Unit {0}) EnumFault → Type 0 = λ r. IfErr r (λ fault. FaultBy port fault
-    (g.B.Bus.world c.args.bus.now) (g.B.Bus.world c.clear_port.new.bus)) in
-    let by = subst By (sym told) (port_cleared_fault port PORT_ENABLE c.clear_port.result _ _
-    (call.fault known) (call.effect known)) in
+    let by : FaultBy port why (g.B.Bus.world c.args.bus.now) (g.B.Bus.world c.clear_port.new.bus) =
+    call_ends port (Err why) c.clear_port.result _ _ c.in_err-at_port-in-Refused.ensures
+    (call.fault known) (λ why is. inr (PORT_ENABLE, inr (rw is at (call.effect known)))) in
     rw c.in-Refused.is (record {
       left = handed_match c.from_residual.result _ (λ fault. FaultBy port fault _ _) why
           c.from_residual.ensures.1 by;
       closes = λ a. closed_handed _ a _ _ c.from_residual.result why _ c.from_residual.ensures.1
           (closed_lost _ a _ _ _ _ (call.fault known) (call.ports known) (call.addresses known) _
-          why (call.steps known) told (fault_by port why _ _ by) (clear_goes port PORT_ENABLE
-          ClearEnable _ _ _ refl refl refl (call.effect known)));
+          why (call.steps known) c.in_err-at_port-in-Refused.ensures (fault_by port why _ _ by)
+          (clear_goes port PORT_ENABLE ClearEnable _ _ _ refl refl refl (call.effect known)));
     })
 
 pub returns-in_ok-at_port-in-Refused-clause-left : goal.returns-in_ok-at_port-in-Refused-clause-left
 returns-in_ok-at_port-in-Refused-clause-left g c known =
     let call = c.clear_port.ensures in
-    let told = sym c.at_port.ensures ∙ c.in_ok-at_port-in-Refused.was in
     rw c.in-Refused.is (record {
       left = (
         refl,
-        disabled c.args.port _ _ c.clear_port.result _ told (asked_port g.B.Bus.modelled
+        disabled c.args.port _ _ c.clear_port.result _ c.in_ok-at_port-in-Refused.ensures
+            (asked_port g.B.Bus.modelled
             (g.B.Bus.world c.args.bus.now) c.args.port known c.requires) (call.effect known),
       );
       closes = λ a. closed_refused _ a _ _ _ _ (call.fault known) (call.ports known)
-          (call.addresses known) (port_done _ _ told);
+          (call.addresses known) (done_at _ tt c.in_ok-at_port-in-Refused.ensures);
     })
 
 pub returns-in-Fault-clause-left : goal.returns-in-Fault-clause-left

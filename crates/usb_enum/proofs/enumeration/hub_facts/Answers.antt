@@ -1,25 +1,14 @@
-use Rattle.usb_enum.specs.{is_hub_device, IsHubStop, Started}
-use Rattle.std.proofs.Common.{◌∙◌, refl, subst, sym, ◌≡◌, true}
+use Rattle.usb_enum.specs.{Started}
+use Rattle.std.proofs.Common.{◌∙◌, refl, subst, sym}
 use Rattle.std.proofs.lemmas.Option.{same_Some}
 use Rattle.usb_enum.proofs.Parts.{part_handed, steps_none, telling}
 use Rattle.usb_enum.proofs.readings.Readings.{learns_none}
 use Rattle.usb_enum.proofs.refusals.Refusals.{handed_match}
 use Rattle.usb_enum.proofs.enumeration.hub_facts.Goals as goal
 
-pub returns-then-not-is_hub-clause-hub : goal.returns-then-not-is_hub-clause-hub
-returns-then-not-is_hub-clause-hub g c = sym c.is_hub.ensures ∙ c.if-not-is_hub.true
-
-pub returns-clause-hub : goal.returns-clause-hub
-returns-clause-hub g c = (
-  sym c.is_hub.ensures ∙ c.if-not-is_hub.false,
-  c.in_ok-start_hub.ensures.facts.facts,
-  c.in_ok-start_hub.ensures.facts.status,
-)
-
 pub returns-in_err-start_hub-clause-hub : goal.returns-in_err-start_hub-clause-hub
 returns-in_err-start_hub-clause-hub g c =
-    handed_match c.from_residual.result _ (λ stop. (is_hub_device c.args.device.now.bytes ≡ true)
-    × IsHubStop stop) c.in_err-start_hub.field-0.0 c.from_residual.ensures.1 (
+    handed_match _ _ _ _ c.from_residual.ensures.1 (
       sym c.is_hub.ensures ∙ c.if-not-is_hub.false,
       c.in_err-start_hub.ensures.facts,
     )
@@ -52,5 +41,5 @@ returns-clause-part g c known =
 
 pub returns-in_err-start_hub-clause-part : goal.returns-in_err-start_hub-clause-part
 returns-in_err-start_hub-clause-part g c known =
-    part_handed c.from_residual.result c.in_err-start_hub.field-0.0 c.from_residual.ensures.1
+    part_handed _ _ c.from_residual.ensures.1
     (c.in_err-start_hub.ensures.part known)

@@ -5,9 +5,6 @@ use Rattle.std.proofs.Common.{inl, inr, refl}
 use Rattle.usb_enum.proofs.stops.PlainStops.{plain_without}
 use Rattle.usb_enum.proofs.enumeration.without_address.Goals as goal
 
-pub returns-in-Ok-clause-without : goal.returns-in-Ok-clause-without
-returns-in-Ok-clause-without g c = inl refl
-
 pub returns-in-Ok-clause-steps : goal.returns-in-Ok-clause-steps
 returns-in-Ok-clause-steps g c known = (c.in-Ok.ensures.part known 0).steps
 

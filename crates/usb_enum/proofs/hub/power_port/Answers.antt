@@ -14,9 +14,6 @@ pub returns-clause-part : goal.returns-clause-part
 returns-clause-part g c known =
     let t = c.args.target in
     let port = c.args.port in
-    let old = g.B.Bus.world c.args.bus.now in
-    let new = g.B.Bus.world c.set_hub_port.new.bus in
-    let outcome = c.set_hub_port.result in
     let setup = set_port_feature PORT_POWER port in
     let ordered = c.set_hub_port.ensures.ordered known in
     let devices = c.set_hub_port.ensures.devices known (λ e. absurd cc) in
@@ -26,17 +23,16 @@ returns-clause-part g c known =
         keeps = power_tells t port _ _ _ ordered
             (c.set_hub_port.ensures.keeps known (λ e. absurd cc)) devices;
       };
-      ends = matched c.answered_or.result _ (StopsPower t port old new)
-          (powered_by t port _ _ outcome c.answered_or.result c.answered_or.ensures ordered)
-          (by_error c.answered_or.result (StopsPower t port old new) (λ stop is. record {
-            told = bad_hub_told t setup outcome stop 2 1 old new (sym c.answered_or.ensures ∙ is)
-                (writes_failed t setup outcome old new ordered.stages) ordered.ends (no_power port);
-            so = power_explains t port outcome stop old new ordered (sym c.answered_or.ensures ∙ is)
-                devices;
+      ends = matched c.answered_or.result _ (StopsPower t port _ _)
+          (powered_by t port _ _ _ c.answered_or.result c.answered_or.ensures ordered)
+          (by_error c.answered_or.result (StopsPower t port _ _) (λ stop is. record {
+            told = bad_hub_told t setup _ stop 2 1 _ _ (sym is ∙ c.answered_or.ensures)
+                (writes_failed t setup _ _ _ ordered.stages) ordered.ends (no_power port);
+            so = power_explains t port _ stop _ _ ordered (sym is ∙ c.answered_or.ensures) devices;
           }));
     }
 
 pub returns-clause-stops : goal.returns-clause-stops
 returns-clause-stops g c =
     by_error c.answered_or.result IsHubStop
-    (λ stop is. answered_hub c.set_hub_port.result stop (sym c.answered_or.ensures ∙ is))
+    (λ stop is. answered_hub _ _ (sym is ∙ c.answered_or.ensures))

@@ -1,11 +1,9 @@
-use Rattle.usb_enum.specs.{IsHubStop, Powered}
-use Rattle.std.proofs.Common.{ℕ, arith, refl, subst}
+use Rattle.std.proofs.Common.{◌≡◌, arith, refl}
 use Rattle.usb_pipe.specs.{write_bound}
 use Rattle.usb_enum.proofs.ports.Hubs.{powered_more}
 use Rattle.usb_enum.proofs.Parts.{part_fails, steps_again, steps_more, steps_none, steps_times}
 use Rattle.usb_enum.proofs.Parts.{telling}
 use Rattle.usb_enum.proofs.refusals.PortRefusals.{powering_explains}
-use Rattle.usb_enum.proofs.stops.ToldFailures.{handed_on}
 use Rattle.usb_enum.proofs.courses.LastRequests.{leads_went}
 use Rattle.usb_enum.proofs.stops.Reasons.{hub_after}
 use Rattle.usb_enum.proofs.hub.power_ports.Goals as goal
@@ -23,29 +21,22 @@ ports-preserved g c = record {
 
 pub returns-clause-part : goal.returns-clause-part
 returns-clause-part g c known =
-    let Given : ℕ → Type 0 = λ n. Powered c.args.target n (g.B.Bus.world c.args.bus.now)
-    (g.B.Bus.world c.ports.bus) in
+    let all : c.ports.before ≡ c.args.ports =
+    omega (arith, c.ports-test.false, c.ports.auto.before-end) in
     record {
       steps = steps_times _ _ write_bound (c.ports.invariant.steps known) c.ports.auto.before-end;
-      ends = subst Given (omega (arith, c.ports-test.false, c.ports.auto.before-end))
-          (c.ports.invariant.powered known);
+      ends = rw all at (c.ports.invariant.powered known);
     }
 
 pub returns-in_err-power_port-clause-part : goal.returns-in_err-power_port-clause-part
 returns-in_err-power_port-clause-part g c known =
-    let stop = c.in_err-power_port.field-0.0 in
     let steps = c.ports.invariant.steps known in
     let power = c.in_err-power_port.ensures.part known in
-    part_fails c.from_residual.result stop c.from_residual.ensures.1
+    part_fails _ _ c.from_residual.ensures.1
     (steps_more _ _ write_bound (telling _) steps power.steps c.ports-test.true)
     (record {
-      told = hub_after stop c.args.target _ _ _ (leads_went steps.went) power.ends.told;
-      so = powering_explains c.args.target c.ports.before c.args.ports _ _ stop _ _ _
+      told = hub_after _ c.args.target _ _ _ (leads_went steps.went) power.ends.told;
+      so = powering_explains c.args.target c.ports.before c.args.ports _ _ _ _ _ _
           (omega (arith, c.ports-test.true)) steps.keeps.devices steps.went power.steps.went
           power.ends.so;
     })
-
-pub returns-in_err-power_port-clause-stops : goal.returns-in_err-power_port-clause-stops
-returns-in_err-power_port-clause-stops g c =
-    handed_on c.from_residual.result IsHubStop c.in_err-power_port.field-0.0
-    c.from_residual.ensures.1 c.in_err-power_port.ensures.stops

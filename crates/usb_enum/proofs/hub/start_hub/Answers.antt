@@ -1,4 +1,4 @@
-use Rattle.usb_enum.specs.{IsHubStop}
+use Rattle.usb_enum.specs.{HearsSet}
 use Rattle.std.proofs.Common.{inl, arith, refl, rules}
 use Rattle.usb_enum.proofs.devices.Frames.{tells_asked}
 use Rattle.usb_enum.proofs.readings.HubReadings.{hub_learned}
@@ -6,7 +6,7 @@ use Rattle.usb_enum.proofs.Parts.{asking, part_fails, steps_as, steps_joined, st
 use Rattle.usb_enum.proofs.Parts.{steps_then, steps_wider, telling}
 use Rattle.usb_enum.proofs.refusals.PortRefusals.{no_endpoint, asked_explains, supply_explains}
 use Rattle.usb_enum.proofs.refusals.PortRefusals.{powered_explains}
-use Rattle.usb_enum.proofs.refusals.Refusals.{explains_set_none, handed_match}
+use Rattle.usb_enum.proofs.refusals.Refusals.{explained_none}
 use Rattle.usb_enum.proofs.courses.LastRequests.{leads_went}
 use Rattle.usb_enum.proofs.stops.Reasons.{at_start, hub_after}
 use Rattle.usb_enum.proofs.hub.start_hub.Goals as goal
@@ -17,31 +17,12 @@ returns-clause-facts g c = record {
   status = search rules;
 }
 
-pub returns-then-is_none-clause-facts : goal.returns-then-is_none-clause-facts
-returns-then-is_none-clause-facts g c = inl refl
-
-pub returns-in_err-ports-clause-facts : goal.returns-in_err-ports-clause-facts
-returns-in_err-ports-clause-facts g c =
-    handed_match c.from_residual.result _ IsHubStop c.in_err-ports.field-0.0
-    c.from_residual.ensures.1 c.in_err-ports.ensures.count
-
-pub returns-in_err-supply-clause-facts : goal.returns-in_err-supply-clause-facts
-returns-in_err-supply-clause-facts g c =
-    handed_match c.from_residual-in_err-supply.result _ IsHubStop c.in_err-supply.field-0.0
-    c.from_residual-in_err-supply.ensures.1 c.in_err-supply.ensures.said
-
-pub returns-in_err-power_ports-clause-facts : goal.returns-in_err-power_ports-clause-facts
-returns-in_err-power_ports-clause-facts g c =
-    handed_match c.from_residual-in_err-power_ports.result _ IsHubStop
-    c.in_err-power_ports.field-0.0 c.from_residual-in_err-power_ports.ensures.1
-    c.in_err-power_ports.ensures.stops
-
 pub returns-then-is_none-clause-part : goal.returns-then-is_none-clause-part
 returns-then-is_none-clause-part g c known = record {
   steps = steps_none _ _ (telling _);
   ends = record {
     told = inl (refl, inl (search rules, refl));
-    so = explains_set_none _ c.args.target _
+    so = explained_none HearsSet _ c.args.target _
         (λ spec. no_endpoint c.args.text.now c.args.target spec (search rules));
   };
 }
@@ -71,46 +52,40 @@ returns-clause-part g c known =
 
 pub returns-in_err-ports-clause-part : goal.returns-in_err-ports-clause-part
 returns-in_err-ports-clause-part g c known =
-    let stop = c.in_err-ports.field-0.0 in
     let count = c.in_err-ports.ensures.read known in
-    part_fails c.from_residual.result stop c.from_residual.ensures.1
+    part_fails _ _ c.from_residual.ensures.1
     (steps_wider (steps_as (tells_asked _) count.steps) (omega arith))
     (record {
-      told = at_start stop c.args.target c.args.text.now _ _ count.ends.told;
-      so = asked_explains c.args.text.now c.args.target stop (g.B.Bus.world c.args.bus.now)
+      told = at_start _ c.args.target c.args.text.now _ _ count.ends.told;
+      so = asked_explains c.args.text.now c.args.target _ (g.B.Bus.world c.args.bus.now)
           (g.B.Bus.world c.port_count.new.bus) count.ends.so;
     })
 
 pub returns-in_err-supply-clause-part : goal.returns-in_err-supply-clause-part
 returns-in_err-supply-clause-part g c known =
-    let t = c.args.target in
-    let stop = c.in_err-supply.field-0.0 in
     let count = c.in_ok-ports.ensures.read known in
     let supply = c.in_err-supply.ensures.read known in
-    part_fails c.from_residual-in_err-supply.result stop c.from_residual-in_err-supply.ensures.1
+    part_fails _ _ c.from_residual-in_err-supply.ensures.1
     (steps_as (tells_asked _) (steps_then asking count.steps supply.steps (omega arith)))
     (record {
-      told = at_start stop t c.args.text.now _ _
-          (hub_after stop t _ _ _ (leads_went count.steps.went) supply.ends.told);
-      so = supply_explains c.args.text.now t c.in_ok-ports.ports _ _ stop _ _ _ count.steps.went
+      told = at_start _ _ c.args.text.now _ _
+          (hub_after _ _ _ _ _ (leads_went count.steps.went) supply.ends.told);
+      so = supply_explains c.args.text.now _ c.in_ok-ports.ports _ _ _ _ _ _ count.steps.went
           count.ends.so supply.steps.went supply.ends.so;
     })
 
 pub returns-in_err-power_ports-clause-part : goal.returns-in_err-power_ports-clause-part
 returns-in_err-power_ports-clause-part g c known =
-    let t = c.args.target in
-    let stop = c.in_err-power_ports.field-0.0 in
     let count = c.in_ok-ports.ensures.read known in
     let supply = c.in_ok-supply.ensures.read known in
     let power = c.in_err-power_ports.ensures.part known in
     let asked = steps_joined asking count.steps supply.steps in
-    part_fails c.from_residual-in_err-power_ports.result stop
-    c.from_residual-in_err-power_ports.ensures.1 (steps_then (telling _)
+    part_fails _ _ c.from_residual-in_err-power_ports.ensures.1 (steps_then (telling _)
     (steps_as (tells_asked _) asked) power.steps (omega (arith, c.in_ok-ports.ensures.count.1)))
     (record {
-      told = at_start stop t c.args.text.now _ _
-          (hub_after stop t _ _ _ (leads_went asked.went) power.ends.told);
-      so = powered_explains c.args.text.now t c.in_ok-ports.ports _ _ _ stop _ _ _ _
+      told = at_start _ _ c.args.text.now _ _
+          (hub_after _ _ _ _ _ (leads_went asked.went) power.ends.told);
+      so = powered_explains c.args.text.now _ c.in_ok-ports.ports _ _ _ _ _ _ _ _
           c.in_ok-ports.ensures.count count.steps.went count.ends.so supply.steps.went
           supply.steps.keeps.devices power.steps.went power.ends.so;
     })

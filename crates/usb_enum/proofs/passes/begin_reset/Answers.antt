@@ -1,10 +1,10 @@
-use Rattle.std.proofs.Common.{refl}
+use Rattle.std.proofs.Common.{inl, inr, refl}
 use Rattle.usb_request.specs.{PORT_RESET}
 use Rattle.usb_hub.proofs.Interface.{reset_went}
 use Rattle.usb_enum.proofs.devices.Frames.{at_reset, reset_calls}
 use Rattle.usb_port.specs.{SetReset}
 use Rattle.usb_enum.proofs.courses.Stretches.{set_goes}
-use Rattle.usb_enum.proofs.stops.Reasons.{call_ends, port_set_fault}
+use Rattle.usb_enum.proofs.stops.Reasons.{call_ends}
 use Rattle.usb_enum.proofs.passes.begin_reset.Goals as goal
 
 pub returns-clause-part : goal.returns-clause-part
@@ -17,13 +17,9 @@ returns-clause-part g c known a =
         keeps = at_reset _ a _ _ resets
             (reset_calls _ a _ _ _ (call.fault known) (call.ports known) resets);
       };
-      ends = call_ends c.args.port _ c.set_port.result _ _ c.at_port.ensures
-          (port_set_fault c.args.port
-          PORT_RESET c.set_port.result _ _ (call.fault known) (call.effect known));
+      ends = call_ends c.args.port _ c.set_port.result _ _ c.at_port.ensures (call.fault known)
+          (λ why is. inr (PORT_RESET, inl (rw is at (call.effect known))));
     }
-
-pub returns-clause-resets : goal.returns-clause-resets
-returns-clause-resets g c known = (c.set_port.ensures.addresses known).resets refl
 
 pub returns-clause-calls : goal.returns-clause-calls
 returns-clause-calls g c known = record {

@@ -1,6 +1,6 @@
-use Rattle.usb_enum.specs.{Stalled, IsPlainStop, addressed_fault, early_fault}
+use Rattle.usb_enum.specs.{Stalled, addressed_fault, early_fault}
 use Rattle.usb_enum.proofs.stops.PlainStops.{answered_plain}
-use Rattle.std.proofs.Common.{◌∙◌, inl, inr, arith, refl, sym}
+use Rattle.std.proofs.Common.{inl, inr, arith, refl}
 use Rattle.usb_enum.proofs.devices.Presence.{address_finds}
 use Rattle.usb_enum.proofs.devices.ReachedDevices.{reaches_addressed, reaches_rest}
 use Rattle.usb_enum.proofs.devices.Enumerations.{takes_after, takes_answered}
@@ -19,21 +19,16 @@ use Rattle.usb_enum.proofs.passes.pass.Goals as goal
 
 pub returns-in_err-target-clause-part : goal.returns-in_err-target-clause-part
 returns-in_err-target-clause-part g c known =
-    let a = c.args.address in
-    let stop = c.in_err-target.field-0.0 in
-    let early = c.in_err-target.ensures.part known a in
-    part_fails c.from_residual.result stop c.from_residual.ensures.1
+    let early = c.in_err-target.ensures.part known _ in
+    part_fails _ _ c.from_residual.ensures.1
     (steps_wider early.steps (omega arith)) (record {
       told = early.ends.told;
-      so = stops_wider early_fault addressed_fault _ a _ _ _ addressed_early early.ends.so;
+      so = stops_wider early_fault addressed_fault _ _ _ _ _ addressed_early early.ends.so;
     })
 
 pub returns-in_err-answered_or-clause-part : goal.returns-in_err-answered_or-clause-part
 returns-in_err-answered_or-clause-part g c known =
-    let port = c.args.port in
     let a = c.args.address in
-    let stop = c.in_err-answered_or.field-0.0 in
-    let t = c.in_ok-target.target in
     let is = c.in_ok-target.ensures.target in
     let early = c.in_ok-target.ensures.part known a in
     let zero = c.in_ok-target.ensures.part known 0 in
@@ -41,23 +36,19 @@ returns-in_err-answered_or-clause-part g c known =
     let ordered = set.ordered known in
     let addressed = steps_addressed early.steps is.zero c.requires.least (set.steps known) ordered
     (set.what known) (set.gives known) in
-    let failed = sym c.answered_or.ensures ∙ c.in_err-answered_or.was in
-    part_fails c.from_residual-in_err-answered_or.result stop
-    c.from_residual-in_err-answered_or.ensures.1 (steps_wider addressed (omega arith)) (record {
-      told = at_after stop port a _ _ _ (leads_went early.steps.went)
-          (stop_told_at stop port a t _ _
+    part_fails _ _ c.from_residual-in_err-answered_or.ensures.1 (steps_wider addressed (omega
+    arith)) (record {
+      told = at_after _ _ a _ _ _ (leads_went early.steps.went) (stop_told_at _ _ a _ _ _
           (record { at = inl is.zero; pre = is.pre })
-          (write_stop_told Address stop (a, refl) failed ordered));
-      so = address_stops port a _ _ t c.set_address.result early.steps.went (set.steps known)
+          (write_stop_told Address _ (a, refl) c.in_err-answered_or.ensures ordered));
+      so = address_stops _ a _ _ _ c.set_address.result early.steps.went (set.steps known)
           early.steps.keeps zero.steps.keeps addressed.keeps is zero.ends ordered (set.what known)
-          (set.why known) stop failed;
+          (set.why known) _ c.in_err-answered_or.ensures;
     })
 
 pub returns-in_err-bytes-clause-part : goal.returns-in_err-bytes-clause-part
 returns-in_err-bytes-clause-part g c known =
-    let port = c.args.port in
     let a = c.args.address in
-    let stop = c.in_err-bytes.field-0.0 in
     let t = c.in_ok-target.target in
     let is = c.in_ok-target.ensures.target in
     let early = c.in_ok-target.ensures.part known a in
@@ -66,35 +57,30 @@ returns-in_err-bytes-clause-part g c known =
     let addressed = steps_addressed early.steps is.zero c.requires.least (set.steps known)
     (set.ordered known) (set.what known) (set.gives known) in
     let bytes = c.in_err-bytes.ensures.read known in
-    let done = answered_ok _ c.set_address.result tt
-    (sym c.answered_or.ensures ∙ c.in_ok-answered_or.was) in
-    part_fails c.from_residual-in_err-bytes.result stop c.from_residual-in_err-bytes.ensures.1
-    (steps_then (enumerating port a) addressed (steps_as (at_asked port a) bytes.steps)
+    let done = answered_ok _ _ tt c.in_ok-answered_or.ensures in
+    part_fails _ _ c.from_residual-in_err-bytes.ensures.1
+    (steps_then (enumerating _ a) addressed (steps_as (at_asked _ a) bytes.steps)
     (omega arith)) (record {
-      told = at_after stop port a _ _ _ (leads_went addressed.went) (stop_told_at stop port a
+      told = at_after _ _ a _ _ _ (leads_went addressed.went) (stop_told_at _ _ a
           (record t { addr = a }) _ _ (record { at = inr refl; pre = is.pre }) bytes.ends.told);
-      so = descriptor_stops port a _ _ _ t early.steps.went (set.steps known) bytes.steps.went
+      so = descriptor_stops _ a _ _ _ t early.steps.went (set.steps known) bytes.steps.went
           early.steps.keeps zero.steps.keeps addressed.keeps bytes.steps.keeps is zero.ends
-          (rw done at (set.ordered known)) (rw done at (set.what known)) stop
-          (told_faults stop (record t { addr = a }) _ _ bytes.ends.told) bytes.ends.so;
+          (rw done at (set.ordered known)) (rw done at (set.what known)) _
+          (told_faults _ (record t { addr = a }) _ _ bytes.ends.told) bytes.ends.so;
     })
 
 pub returns-in-Some-clause-part : goal.returns-in-Some-clause-part
 returns-in-Some-clause-part g c known =
-    let port = c.args.port in
-    let a = c.args.address in
-    let t = c.in_ok-target.target in
     let is = c.in_ok-target.ensures.target in
-    let early = c.in_ok-target.ensures.part known a in
+    let early = c.in_ok-target.ensures.part known _ in
     let set = c.set_address.ensures in
     let addressed = steps_addressed early.steps is.zero c.requires.least (set.steps known)
     (set.ordered known) (set.what known) (set.gives known) in
     let bytes = rw c.in-Some.is at (c.in_ok-bytes.ensures.read known) in
     let keeps = bytes.steps.keeps in
-    let done = answered_ok _ c.set_address.result tt
-    (sym c.answered_or.ensures ∙ c.in_ok-answered_or.was) in
+    let done = answered_ok _ _ tt c.in_ok-answered_or.ensures in
     record {
-      steps = steps_then (enumerating port a) addressed (steps_as (at_asked port a) bytes.steps)
+      steps = steps_then (enumerating _ _) addressed (steps_as (at_asked _ _) bytes.steps)
           (omega arith);
       ends = record {
         told = descriptor_after (leads_went addressed.went) bytes.ends.told;
@@ -104,10 +90,10 @@ returns-in-Some-clause-part g c known =
           takes = takes_after _ _ _ _ _ addressed.keeps.within
               (takes_answered _ _ _ _ keeps.addresses bytes.ends.so.who);
           still = bytes.ends.so.still;
-          found = address_finds t _ _ a _ is.zero refl early.ends.found
+          found = address_finds _ _ _ _ _ is.zero refl early.ends.found
               (rw done at (set.what known)) addressed.keeps.within bytes.ends.so bytes.steps.went
               keeps.addresses;
-          reaches = reaches_rest _ a _ bytes.steps.went keeps.ports (reaches_addressed _ a _ a t _ _
+          reaches = reaches_rest _ _ _ bytes.steps.went keeps.ports (reaches_addressed _ _ _ _ _ _ _
               _ (set.steps known) (set.ordered known) early.ends.reaches);
         };
       };
@@ -115,7 +101,6 @@ returns-in-Some-clause-part g c known =
 
 pub returns-in-None-clause-part : goal.returns-in-None-clause-part
 returns-in-None-clause-part g c known =
-    let port = c.args.port in
     let a = c.args.address in
     let t = c.in_ok-target.target in
     let is = c.in_ok-target.ensures.target in
@@ -125,10 +110,9 @@ returns-in-None-clause-part g c known =
     let addressed = steps_addressed early.steps is.zero c.requires.least (set.steps known)
     (set.ordered known) (set.what known) (set.gives known) in
     let bytes = rw c.in-None.is at (c.in_ok-bytes.ensures.read known) in
-    let done = answered_ok _ c.set_address.result tt
-    (sym c.answered_or.ensures ∙ c.in_ok-answered_or.was) in
+    let done = answered_ok _ _ tt c.in_ok-answered_or.ensures in
     record {
-      steps = steps_then (enumerating port a) addressed (steps_as (at_asked port a) bytes.steps)
+      steps = steps_then (enumerating _ a) addressed (steps_as (at_asked _ a) bytes.steps)
           (omega arith);
       ends = record {
         told = record {
@@ -136,25 +120,13 @@ returns-in-None-clause-part g c known =
           is = record { at = inr refl; pre = is.pre };
           failed = failing_after (leads_went addressed.went) bytes.ends.told;
         };
-        so = pass_misses port a _ _ _ t early.steps.went (set.steps known) bytes.steps.went
+        so = pass_misses _ a _ _ _ t early.steps.went (set.steps known) bytes.steps.went
             early.steps.keeps zero.steps.keeps addressed.keeps bytes.steps.keeps is zero.ends
             (rw done at (set.ordered known)) (rw done at (set.what known)) bytes.ends.so;
       };
     }
 
-pub returns-in_err-target-clause-addressed : goal.returns-in_err-target-clause-addressed
-returns-in_err-target-clause-addressed g c =
-    handed_match c.from_residual.result _ IsPlainStop c.in_err-target.field-0.0
-    c.from_residual.ensures.1 c.in_err-target.ensures.target
-
 pub returns-in_err-answered_or-clause-addressed : goal.returns-in_err-answered_or-clause-addressed
 returns-in_err-answered_or-clause-addressed g c =
-    handed_match c.from_residual-in_err-answered_or.result _ IsPlainStop
-    c.in_err-answered_or.field-0.0 c.from_residual-in_err-answered_or.ensures.1 (answered_plain
-    (Stalled Address) c.set_address.result c.in_err-answered_or.field-0.0 tt
-    (sym c.answered_or.ensures ∙ c.in_err-answered_or.was))
-
-pub returns-in_err-bytes-clause-addressed : goal.returns-in_err-bytes-clause-addressed
-returns-in_err-bytes-clause-addressed g c =
-    handed_match c.from_residual-in_err-bytes.result _ IsPlainStop c.in_err-bytes.field-0.0
-    c.from_residual-in_err-bytes.ensures.1 c.in_err-bytes.ensures.device
+    handed_match _ _ _ _ c.from_residual-in_err-answered_or.ensures.1 (answered_plain (Stalled
+    Address) _ _ tt c.in_err-answered_or.ensures)

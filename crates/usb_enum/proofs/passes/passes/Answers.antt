@@ -1,13 +1,12 @@
-use Rattle.usb_enum.specs.{IsPlainStop, pass_bound, Misses, addressed_fault, Silent, NoAnswerTold}
-use Rattle.usb_enum.specs.{RefusedEarly, answered}
-use Rattle.std.proofs.Common.{◌≡◌, ◌⊎◌, ℕ, inl, inr, arith, refl, subst}
+use Rattle.usb_enum.specs.{pass_bound, addressed_fault, Silent, NoAnswerTold, RefusedEarly}
+use Rattle.usb_enum.specs.{answered}
+use Rattle.std.proofs.Common.{◌≡◌, ◌⊎◌, inl, inr, arith, refl}
 use Rattle.usb_hub.proofs.Interface.{is_asked_stays}
 use Rattle.usb_enum.proofs.devices.Enumerations.{takes_after}
 use Rattle.usb_enum.proofs.Parts.{enumerating, part_fails, steps_again, steps_more, steps_none}
 use Rattle.usb_enum.proofs.Parts.{steps_times}
-use Rattle.usb_enum.proofs.devices.Presence.{finds_after}
-use Rattle.usb_enum.proofs.devices.ReachedDevices.{reaches_device_after}
-use Rattle.usb_enum.proofs.refusals.Refusals.{handed_match}
+use Rattle.usb_enum.proofs.courses.Courses.{went_in_order, went_regular, went_sound}
+use Rattle.usb_enum.proofs.devices.ReachedDevices.{occupied_on}
 use Rattle.usb_enum.proofs.stops.StopReasons.{misses_none, misses_then, stops_then, thrice_missed}
 use Rattle.usb_enum.proofs.courses.LastRequests.{leads_went}
 use Rattle.usb_enum.proofs.stops.Reasons.{at_after, descriptor_after, silent_after}
@@ -59,38 +58,42 @@ returns-in-Some-clause-part g c known =
           pre = taken.pre;
           takes = takes_after _ _ _ _ _ steps.keeps.within taken.takes;
           still = taken.still;
-          found = finds_after _ _ _ _ steps.went steps.keeps.within taken.found;
-          reaches = reaches_device_after _ _ _ _ steps.went one.steps.went steps.keeps
-              taken.reaches;
+          found = record {
+            found = λ f p is t order. taken.found.found f p is (steps.keeps.within.stays f p is t)
+                (went_regular _ _ _ steps.went order);
+          };
+          reaches = record {
+            reached = λ f p is t order occupied none.
+                let at = steps.keeps.only.at f p is t (went_sound _ _ _ one.steps.went none) in
+                taken.reaches.reached f p is (steps.keeps.within.stays f p is t)
+                (went_in_order _ _ _ steps.went order) (occupied_on p at.spares occupied) none;
+          };
         };
       };
     }
 
 pub returns-in_err-device-clause-part : goal.returns-in_err-device-clause-part
 returns-in_err-device-clause-part g c known =
-    let stop = c.in_err-device.field-0.0 in
     let steps = c.loop-pass.invariant.steps known in
     let one = c.in_err-device.ensures.part known in
-    part_fails c.from_residual.result stop c.from_residual.ensures.1 (steps_more _ 3
+    part_fails _ _ c.from_residual.ensures.1 (steps_more _ 3
     (pass_bound c.args.port) (enumerating _ _) steps one.steps c.loop-pass-test.true) (record {
-      told = at_after stop c.args.port c.args.address _ _ _ (leads_went steps.went) one.ends.told;
+      told = at_after _ c.args.port c.args.address _ _ _ (leads_went steps.went) one.ends.told;
       so = stops_then _ _ _ _ _ steps.went one.steps.went steps.keeps one.steps.keeps
-          (c.loop-pass.invariant.missed known) addressed_fault stop one.ends.so;
+          (c.loop-pass.invariant.missed known) addressed_fault _ one.ends.so;
     })
 
 pub returns-clause-part : goal.returns-clause-part
 returns-clause-part g c known =
-    let old = g.B.Bus.world c.args.bus.now in
-    let new = g.B.Bus.world c.loop-pass.bus in
-    let Missed : ℕ → Type 0 = λ k. Misses c.args.port c.args.address k old new in
+    let all : c.loop-pass._pass ≡ 3 =
+    omega (arith, c.loop-pass-test.false, c.loop-pass.auto._pass-end) in
     record {
       steps = steps_times _ 3 (pass_bound c.args.port) (c.loop-pass.invariant.steps known)
           c.loop-pass.auto._pass-end;
       ends = record {
         told = silent (c.loop-pass.invariant.silent known);
-        so = thrice_missed addressed_fault _ _ _ _ _ (subst Missed
-            (omega (arith, c.loop-pass-test.false, c.loop-pass.auto._pass-end))
-            (c.loop-pass.invariant.missed known));
+        so = thrice_missed addressed_fault _ _ _ _ _ (rw all at (c.loop-pass.invariant.missed
+            known));
       };
     }
   where
@@ -102,11 +105,3 @@ returns-clause-part g c known =
     silent (inl none) =
         absurd (omega (arith, none, c.loop-pass-test.false, c.loop-pass.auto._pass-end))
     silent (inr told) = answered told.target told.is told.failed
-
-pub returns-in-Some-clause-addressed : goal.returns-in-Some-clause-addressed
-returns-in-Some-clause-addressed g c = rw c.in-Some.is at c.in_ok-device.ensures.addressed
-
-pub returns-in_err-device-clause-addressed : goal.returns-in_err-device-clause-addressed
-returns-in_err-device-clause-addressed g c =
-    handed_match c.from_residual.result _ IsPlainStop c.in_err-device.field-0.0
-    c.from_residual.ensures.1 c.in_err-device.ensures.addressed

@@ -1,6 +1,7 @@
+use Rattle.std.proofs.Common.{inl}
 use Rattle.usb_enum.proofs.devices.Frames.{status_asks}
 use Rattle.usb_enum.proofs.courses.Stretches.{status_goes}
-use Rattle.usb_enum.proofs.stops.Reasons.{call_ends, read_by}
+use Rattle.usb_enum.proofs.stops.Reasons.{call_ends}
 use Rattle.usb_enum.proofs.passes.read_status.Goals as goal
 
 pub returns-clause-read : goal.returns-clause-read
@@ -12,7 +13,7 @@ returns-clause-read g c known =
         keeps = status_asks _ _ _ _ (call.status known) (call.fault known) (call.addresses known);
       };
       ends = call_ends c.args.port _ c.port_status.result _ _ c.at_port.ensures
-          (read_by c.args.port c.port_status.result _ _ (call.fault known) (call.status known));
+          (call.fault known) (λ why is. inl (rw is at (call.status known)));
     }
 
 pub returns-clause-status : goal.returns-clause-status

@@ -1,12 +1,13 @@
-use Rattle.std.proofs.Common.{refl}
+use Rattle.usb_enum.proofs.devices.Enumerations.{within_kept}
+use Rattle.usb_enum.proofs.devices.Frames.{clear_calls}
+use Rattle.std.proofs.Common.{inr, refl}
 use Rattle.usb_request.specs.{C_PORT_RESET}
 use Rattle.usb_world.proofs.Interface.{each_none}
 use Rattle.usb_hub.specs.{StaysAs}
-use Rattle.usb_enum.proofs.devices.Frames.{at_reset_cleared}
 use Rattle.usb_enum.proofs.Parts.{enumerating, steps_none}
 use Rattle.usb_port.specs.{ClearResetChange}
 use Rattle.usb_enum.proofs.courses.Stretches.{clear_goes}
-use Rattle.usb_enum.proofs.stops.Reasons.{call_ends, port_cleared_fault}
+use Rattle.usb_enum.proofs.stops.Reasons.{call_ends}
 use Rattle.usb_enum.proofs.passes.settle.Goals as goal
 
 pub returns-then-not-changed-clause-part : goal.returns-then-not-changed-clause-part
@@ -29,15 +30,15 @@ returns-clause-part g c known a =
     record {
       steps = record {
         went = call.steps known;
-        keeps = at_reset_cleared _ a _ _ _ (call.fault known) (call.ports known)
-            (call.addresses known);
+        keeps = record {
+          within = within_kept _ a _ _ (call.addresses known).keeps;
+          only = clear_calls _ a _ ClearResetChange refl refl refl C_PORT_RESET _ _ _
+              (call.fault known) (call.ports known) (call.addresses known);
+        };
       };
-      ends = call_ends c.args.port _ c.clear_port.result _ _ c.at_port.ensures (port_cleared_fault
-          c.args.port C_PORT_RESET c.clear_port.result _ _ (call.fault known) (call.effect known));
+      ends = call_ends c.args.port _ c.clear_port.result _ _ c.at_port.ensures (call.fault known)
+          (λ why is. inr (C_PORT_RESET, inr (rw is at (call.effect known))));
     }
-
-pub returns-clause-devices : goal.returns-clause-devices
-returns-clause-devices g c known = (c.clear_port.ensures.addresses known).devices
 
 pub returns-clause-calls : goal.returns-clause-calls
 returns-clause-calls g c known = record {

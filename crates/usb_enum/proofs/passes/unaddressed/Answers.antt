@@ -1,11 +1,10 @@
-use Rattle.usb_enum.specs.{IsPlainStop, early_fault, no_fault, needs_pre}
+use Rattle.usb_enum.specs.{early_fault, no_fault, needs_pre}
 use Rattle.std.proofs.Common.{◌≡◌, inl, ◌&&◌, ◌∙◌, ap, arith, refl, sym}
 use Rattle.usb_enum.proofs.devices.Frames.{at_asked}
 use Rattle.usb_enum.proofs.Parts.{enumerating, part_fails, steps_as, steps_then, steps_wider}
 use Rattle.usb_enum.proofs.devices.Presence.{unaddressed_finds}
 use Rattle.usb_enum.proofs.courses.Fairness.{stops_wider}
 use Rattle.usb_enum.proofs.devices.ReachedDevices.{reaches_rest}
-use Rattle.usb_enum.proofs.refusals.Refusals.{handed_match}
 use Rattle.usb_enum.proofs.courses.Courses.{went_sound}
 use Rattle.usb_enum.proofs.stops.StopReasons.{head_stops}
 use Rattle.usb_enum.proofs.courses.Stretches.{no_stretch_then}
@@ -17,9 +16,8 @@ use Rattle.usb_enum.proofs.passes.unaddressed.Goals.{then-low, else-low}
 
 pub returns-in_err-low-clause-part : goal.returns-in_err-low-clause-part
 returns-in_err-low-clause-part g c known a =
-    let stop = c.in_err-low.field-0.0 in
     let reset = c.in_err-low.ensures.part known a in
-    part_fails c.from_residual.result stop c.from_residual.ensures.1
+    part_fails _ _ c.from_residual.ensures.1
     (steps_wider reset.steps (omega arith)) (record {
       told = reset.ends.told;
       so = stops_wider no_fault early_fault _ a _ _ _ (λ spec cause e. absurd cc) reset.ends.so;
@@ -28,7 +26,6 @@ returns-in_err-low-clause-part g c known a =
 pub returns-in_err-max-clause-part : goal.returns-in_err-max-clause-part
 returns-in_err-max-clause-part g c known a =
     let port = c.args.port in
-    let stop = c.in_err-max.field-0.0 in
     let low = c.in_ok-low.low in
     let reset = c.in_ok-low.ensures.part known a in
     let zero = c.in_ok-low.ensures.part known 0 in
@@ -39,23 +36,22 @@ returns-in_err-max-clause-part g c known a =
           (ap (λ b. b && needs_pre port) w.if-low.true)
       | else-low w ↦ w.pre-is ∙ w.if-low.false ∙ sym (ap (λ b. b && needs_pre port) w.if-low.false)
     ] in
-    part_fails c.from_residual-in_err-max.result stop c.from_residual-in_err-max.ensures.1
+    part_fails _ _ c.from_residual-in_err-max.ensures.1
     (steps_then (enumerating port a) reset.steps (steps_as (at_asked port a) head.steps)
     (omega arith)) (record {
-      told = at_after stop port a _ _ _ (leads_went reset.steps.went)
-          (stop_told_at stop port a t _ _ (record { at = inl refl; pre = pre }) head.ends.told);
+      told = at_after _ port a _ _ _ (leads_went reset.steps.went)
+          (stop_told_at _ port a t _ _ (record { at = inl refl; pre = pre }) head.ends.told);
       so = head_stops port a _ _ low _ _ reset.steps.went head.steps.went reset.steps.keeps
-          zero.steps.keeps head.steps.keeps zero.ends pre (told_faults stop t _ _ head.ends.told)
+          zero.steps.keeps head.steps.keeps zero.ends pre (told_faults _ t _ _ head.ends.told)
           head.ends.so;
     })
 
 pub returns-clause-part : goal.returns-clause-part
 returns-clause-part g c known a =
-    let port = c.args.port in
     let reset = c.in_ok-low.ensures.part known a in
     let head = c.in_ok-max.ensures.read known in
     record {
-      steps = steps_then (enumerating port a) reset.steps (steps_as (at_asked port a) head.steps)
+      steps = steps_then (enumerating _ a) reset.steps (steps_as (at_asked _ a) head.steps)
           (omega arith);
       ends = record {
         found = unaddressed_finds _ a _ c.in_ok-low.low _ _ reset.ends.speed head.ends.answers
@@ -66,13 +62,3 @@ returns-clause-part g c known a =
             head.ends.goes;
       };
     }
-
-pub returns-in_err-low-clause-target : goal.returns-in_err-low-clause-target
-returns-in_err-low-clause-target g c =
-    handed_match c.from_residual.result _ IsPlainStop c.in_err-low.field-0.0
-    c.from_residual.ensures.1 c.in_err-low.ensures.plain
-
-pub returns-in_err-max-clause-target : goal.returns-in_err-max-clause-target
-returns-in_err-max-clause-target g c =
-    handed_match c.from_residual-in_err-max.result _ IsPlainStop c.in_err-max.field-0.0
-    c.from_residual-in_err-max.ensures.1 c.in_err-max.ensures.fits

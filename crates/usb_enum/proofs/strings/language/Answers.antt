@@ -1,8 +1,7 @@
-use Rattle.usb_enum.specs.{IsPlainStop, bytes_given, first_language_of}
+use Rattle.usb_enum.specs.{bytes_given, first_language_of}
 use Rattle.std.proofs.Common.{◌∙◌, ap, option_and_then, sym}
 use Rattle.usb_enum.proofs.Parts.{part_handed}
 use Rattle.usb_enum.proofs.readings.StringReadings.{language_asked}
-use Rattle.usb_enum.proofs.stops.ToldFailures.{handed_on}
 use Rattle.usb_enum.proofs.strings.language.Goals as goal
 
 pub returns-in-Some-clause-read : goal.returns-in-Some-clause-read
@@ -20,10 +19,5 @@ returns-in-None-clause-read g c known =
 
 pub returns-in_err-bytes-clause-read : goal.returns-in_err-bytes-clause-read
 returns-in_err-bytes-clause-read g c known =
-    part_handed c.from_residual.result c.in_err-bytes.field-0.0 c.from_residual.ensures.1
+    part_handed _ _ c.from_residual.ensures.1
     (c.in_err-bytes.ensures.read known)
-
-pub returns-in_err-bytes-clause-plain : goal.returns-in_err-bytes-clause-plain
-returns-in_err-bytes-clause-plain g c =
-    handed_on c.from_residual.result IsPlainStop c.in_err-bytes.field-0.0 c.from_residual.ensures.1
-    c.in_err-bytes.ensures.plain

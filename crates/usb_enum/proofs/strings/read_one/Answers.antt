@@ -1,11 +1,9 @@
-use Rattle.usb_enum.specs.{IsPlainStop, Memory, AtMaximum, HasString, bytes_given, no_fault}
+use Rattle.usb_enum.specs.{Memory, AtMaximum, HasString, bytes_given, no_fault}
 use Rattle.usb_enum.specs.{unnamed, string_units}
 use Rattle.std.proofs.Common.{◌∙◌, ap, option_and_then, refl, sym}
-use Rattle.usb_enum.specs.declared.stop.Stop.TheVariants.{Fault}
 use Rattle.usb_enum.proofs.Parts.{asking, part_fails, part_handed, steps_none}
 use Rattle.usb_enum.proofs.refusals.Refusals.{fault_explains}
 use Rattle.usb_enum.proofs.readings.StringReadings.{string_named, unnamed_learned}
-use Rattle.usb_enum.proofs.stops.ToldFailures.{handed_on}
 use Rattle.usb_enum.proofs.strings.read_one.Goals as goal
 
 pub returns-then-index-eq0-clause-read : goal.returns-then-index-eq0-clause-read
@@ -32,27 +30,16 @@ returns-in-None-clause-read g c known =
 
 pub returns-in_err-bytes-clause-read : goal.returns-in_err-bytes-clause-read
 returns-in_err-bytes-clause-read g c known =
-    part_handed c.from_residual.result c.in_err-bytes.field-0.0 c.from_residual.ensures.1
+    part_handed _ _ c.from_residual.ensures.1
     (c.in_err-bytes.ensures.read known)
 
 pub returns-in_err-units_of-in-Some-clause-read : goal.returns-in_err-units_of-in-Some-clause-read
 returns-in_err-units_of-in-Some-clause-read g c known =
     let bytes = c.in_ok-bytes.ensures.read known in
-    part_fails c.from_residual-in_err-units_of-in-Some.result (Fault Memory)
-    c.from_residual-in_err-units_of-in-Some.ensures.1 bytes.steps
+    part_fails _ _ c.from_residual-in_err-units_of-in-Some.ensures.1 bytes.steps
     (record {
       told = tt;
       so = fault_explains (AtMaximum c.args.target (HasString c.args.index c.in_ok-bytes.field-0))
           c.args.target no_fault Memory (g.B.Bus.world c.args.bus.now)
           (g.B.Bus.world c.string_bytes.new.bus) bytes.ends.so;
     })
-
-pub returns-in_err-bytes-clause-plain : goal.returns-in_err-bytes-clause-plain
-returns-in_err-bytes-clause-plain g c =
-    handed_on c.from_residual.result IsPlainStop c.in_err-bytes.field-0.0 c.from_residual.ensures.1
-    c.in_err-bytes.ensures.plain
-
-pub returns-in_err-units_of-in-Some-clause-plain : goal.returns-in_err-units_of-in-Some-clause-plain
-returns-in_err-units_of-in-Some-clause-plain g c =
-    handed_on c.from_residual-in_err-units_of-in-Some.result IsPlainStop (Fault Memory)
-    c.from_residual-in_err-units_of-in-Some.ensures.1 tt

@@ -1,12 +1,10 @@
-use Rattle.usb_enum.specs.{IsPlainStop, DeviceFact, AtMaximum, language_of, AsksLanguage, asked}
-use Rattle.usb_enum.specs.{unnamed}
-use Rattle.std.proofs.Common.{◌≡◌, ℕ, Option, None, Some, arith, refl, subst}
+use Rattle.usb_enum.specs.{asked, unnamed}
+use Rattle.std.proofs.Common.{None, Some, arith, refl}
 use Rattle.usb_enum.proofs.Parts.{asking, part_fails, steps_joined, steps_none, steps_then}
 use Rattle.usb_enum.proofs.Parts.{steps_wider}
 use Rattle.usb_enum.proofs.refusals.StringRefusals.{string_stops, strings_read}
 use Rattle.usb_enum.proofs.readings.StringReadings.{unnamed_strings_learned, no_strings_learned}
 use Rattle.usb_enum.proofs.readings.StringReadings.{strings_learned}
-use Rattle.usb_enum.proofs.stops.ToldFailures.{handed_on}
 use Rattle.usb_enum.proofs.strings.read_strings.Goals as goal
 
 pub returns-then-indexes-eq0-3-clause-read : goal.returns-then-indexes-eq0-3-clause-read
@@ -26,19 +24,13 @@ returns-then-indexes-eq0-3-clause-read g c known = record {
 pub returns-in_default-clause-read : goal.returns-in_default-clause-read
 returns-in_default-clause-read g c known =
     let language = c.in_ok-language.ensures.read known in
-    let t = c.args.target in
     let old = g.B.Bus.world c.args.bus.now in
     let new = g.B.Bus.world c.language.new.bus in
-    let Said : Option ℕ → Type 0 = λ o. DeviceFact (AtMaximum t (λ spec. o ≡ language_of spec)) t
-    old
-    new in
     record {
       steps = steps_wider language.steps (omega arith);
       ends = rw c.no_strings-in_default.ensures (record {
-        told = asked new None (subst (AsksLanguage t old new) c.in_default.is language.ends.told)
-            (refl, refl);
-        so = no_strings_learned t c.args.indexes old new
-            (subst Said c.in_default.is language.ends.so);
+        told = asked new None (rw c.in_default.is at language.ends.told) (refl, refl);
+        so = no_strings_learned _ c.args.indexes old new (rw c.in_default.is at language.ends.so);
       });
     }
 
@@ -48,27 +40,23 @@ returns-clause-read g c known =
     let manufacturer = c.in_ok-manufacturer.ensures.read known in
     let product = c.in_ok-product.ensures.read known in
     let serial_number = c.in_ok-serial_number.ensures.read known in
-    let t = c.args.target in
     let old = g.B.Bus.world c.args.bus.now in
     let said = g.B.Bus.world c.language.new.bus in
-    let Said : Option ℕ → Type 0 = λ o. DeviceFact (AtMaximum t (λ spec. o ≡ language_of spec)) t
-    old
-    said in
     record {
       steps = steps_then asking (steps_joined asking
           (steps_joined asking language.steps manufacturer.steps) product.steps) serial_number.steps
           (omega arith);
       ends = record {
         told = asked said (Some c.in-Some.language)
-            (subst (AsksLanguage t old said) c.in-Some.is language.ends.told) (record {
+            (rw c.in-Some.is at language.ends.told) (record {
               first = _;
               manufacturer = manufacturer.ends.told;
               second = _;
               product = product.ends.told;
               serial_number = serial_number.ends.told;
             });
-        so = strings_learned t c.args.indexes c.in-Some.language _ _ _ _ _ _ old said _ _ _
-            (subst Said c.in-Some.is language.ends.so) manufacturer.steps.went manufacturer.ends.so
+        so = strings_learned _ c.args.indexes c.in-Some.language _ _ _ _ _ _ old said _ _ _
+            (rw c.in-Some.is at language.ends.so) manufacturer.steps.went manufacturer.ends.so
             product.steps.went product.ends.so serial_number.steps.went serial_number.ends.so;
       };
     }
@@ -76,24 +64,22 @@ returns-clause-read g c known =
 pub returns-in_err-language-clause-read : goal.returns-in_err-language-clause-read
 returns-in_err-language-clause-read g c known =
     let language = c.in_err-language.ensures.read known in
-    part_fails c.from_residual.result c.in_err-language.field-0.0 c.from_residual.ensures.1
+    part_fails _ _ c.from_residual.ensures.1
     (steps_wider language.steps (omega arith)) language.ends
 
 pub returns-in_err-manufacturer-clause-read : goal.returns-in_err-manufacturer-clause-read
 returns-in_err-manufacturer-clause-read g c known =
     let language = c.in_ok-language.ensures.read known in
-    string_stops _ c.from_residual-in_err-manufacturer.result c.in_err-manufacturer.field-0.0
-    c.from_residual-in_err-manufacturer.ensures.1 language.steps language.ends.so
+    string_stops _ _ _ c.from_residual-in_err-manufacturer.ensures.1 language.steps language.ends.so
     (c.in_err-manufacturer.ensures.read known) (omega arith)
 
 pub returns-in_err-product-clause-read : goal.returns-in_err-product-clause-read
 returns-in_err-product-clause-read g c known =
     let language = c.in_ok-language.ensures.read known in
     let manufacturer = c.in_ok-manufacturer.ensures.read known in
-    string_stops _ c.from_residual-in_err-product.result c.in_err-product.field-0.0
-    c.from_residual-in_err-product.ensures.1 (steps_joined asking language.steps manufacturer.steps)
-    (strings_read c.args.target language.ends.so manufacturer.steps manufacturer.ends.so)
-    (c.in_err-product.ensures.read known) (omega arith)
+    string_stops _ _ _ c.from_residual-in_err-product.ensures.1 (steps_joined asking language.steps
+    manufacturer.steps) (strings_read c.args.target language.ends.so manufacturer.steps
+    manufacturer.ends.so) (c.in_err-product.ensures.read known) (omega arith)
 
 pub returns-in_err-serial_number-clause-read : goal.returns-in_err-serial_number-clause-read
 returns-in_err-serial_number-clause-read g c known =
@@ -102,29 +88,7 @@ returns-in_err-serial_number-clause-read g c known =
     let product = c.in_ok-product.ensures.read known in
     let first = strings_read c.args.target language.ends.so manufacturer.steps manufacturer.ends.so
     in
-    string_stops _ c.from_residual-in_err-serial_number.result c.in_err-serial_number.field-0.0
-    c.from_residual-in_err-serial_number.ensures.1
+    string_stops _ _ _ c.from_residual-in_err-serial_number.ensures.1
     (steps_joined asking (steps_joined asking language.steps manufacturer.steps) product.steps)
     (strings_read c.args.target first product.steps product.ends.so)
     (c.in_err-serial_number.ensures.read known) (omega arith)
-
-pub returns-in_err-language-clause-plain : goal.returns-in_err-language-clause-plain
-returns-in_err-language-clause-plain g c =
-    handed_on c.from_residual.result IsPlainStop c.in_err-language.field-0.0
-    c.from_residual.ensures.1 c.in_err-language.ensures.plain
-
-pub returns-in_err-manufacturer-clause-plain : goal.returns-in_err-manufacturer-clause-plain
-returns-in_err-manufacturer-clause-plain g c =
-    handed_on c.from_residual-in_err-manufacturer.result IsPlainStop c.in_err-manufacturer.field-0.0
-    c.from_residual-in_err-manufacturer.ensures.1 c.in_err-manufacturer.ensures.plain
-
-pub returns-in_err-product-clause-plain : goal.returns-in_err-product-clause-plain
-returns-in_err-product-clause-plain g c =
-    handed_on c.from_residual-in_err-product.result IsPlainStop c.in_err-product.field-0.0
-    c.from_residual-in_err-product.ensures.1 c.in_err-product.ensures.plain
-
-pub returns-in_err-serial_number-clause-plain : goal.returns-in_err-serial_number-clause-plain
-returns-in_err-serial_number-clause-plain g c =
-    handed_on c.from_residual-in_err-serial_number.result IsPlainStop
-    c.in_err-serial_number.field-0.0 c.from_residual-in_err-serial_number.ensures.1
-    c.in_err-serial_number.ensures.plain

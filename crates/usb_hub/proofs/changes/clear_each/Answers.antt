@@ -5,10 +5,6 @@ use Rattle.usb_hub.specs.{ClearsIfReported, both, first_failed}
 use Rattle.std.proofs.lemmas.Result.{err_from_is_err_and}
 use Rattle.usb_hub.proofs.changes.clear_each.Goals as goal
 
-pub returns-in_err-clear_told-clause-steps : goal.returns-in_err-clear_told-clause-steps
-returns-in_err-clear_told-clause-steps g c known = went_wider _ _ (c.clear_told.ensures.steps known)
-    (omega arith)
-
 pub returns-in_err-clear_told-clause-cleared : goal.returns-in_err-clear_told-clause-cleared
 returns-in_err-clear_told-clause-cleared g c known =
     let told = err_from_is_err_and c.from_residual.result c.from_residual.ensures.1 in
@@ -17,10 +13,6 @@ returns-in_err-clear_told-clause-cleared g c known =
     (g.B.Bus.world c.args.bus.now) r (g.B.Bus.world c.clear_told.new.bus))
     c.in_err-clear_told.was (c.clear_told.ensures.cleared known)) refl)
 
-pub returns-clause-steps : goal.returns-clause-steps
-returns-clause-steps g c known = went_wider _ _ (went_then _ _ (c.clear_told.ensures.steps known)
-    (c.clear_told-2.ensures.steps known)) (omega arith)
-
 pub returns-clause-cleared : goal.returns-clause-cleared
 returns-clause-cleared g c known =
     both (g.B.Bus.world c.clear_told.new.bus)
@@ -28,3 +20,7 @@ returns-clause-cleared g c known =
     (g.B.Bus.world c.args.bus.now) r (g.B.Bus.world c.clear_told.new.bus))
     c.in_ok-clear_told.was (c.clear_told.ensures.cleared known))
     (c.clear_told-2.ensures.cleared known)
+
+pub returns-clause-steps : goal.returns-clause-steps
+returns-clause-steps g c known = went_wider _ _ (went_then _ _ (c.clear_told.ensures.steps known)
+    (c.clear_told-2.ensures.steps known)) (omega arith)

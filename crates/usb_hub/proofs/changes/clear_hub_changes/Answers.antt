@@ -1,17 +1,9 @@
-use Rattle.std.proofs.Common.{arith, subst}
+use Rattle.std.proofs.Common.{subst}
 use Rattle.usb_request.specs.{get_hub_status}
-use Rattle.usb_bus.proofs.Interface.{went_then, went_wider}
+use Rattle.usb_bus.proofs.Interface.{went_then}
 use Rattle.usb_hub.specs.{hub_status, not_told, told, ReadAs}
 use Rattle.usb_hub.proofs.HubChanges.{told_bus}
 use Rattle.usb_hub.proofs.changes.clear_hub_changes.Goals as goal
-
-pub returns-in-Err-clause-steps : goal.returns-in-Err-clause-steps
-returns-in-Err-clause-steps g c known = went_wider _ _ (c.own_status.ensures.steps known)
-    (omega arith)
-
-pub returns-in-Ok-clause-steps : goal.returns-in-Ok-clause-steps
-returns-in-Ok-clause-steps g c known = went_then _ _ (c.own_status.ensures.steps known)
-    (c.clear_each.ensures.steps known)
 
 pub returns-in-Err-clause-fault : goal.returns-in-Err-clause-fault
 returns-in-Err-clause-fault g c known =
@@ -30,3 +22,7 @@ returns-in-Err-clause-cleared g c known =
     not_told c.in-Err.fault (subst (λ r. ReadAs hub_status c.args.hub get_hub_status
     (g.B.Bus.world c.args.bus.now) r (g.B.Bus.world c.own_status.new.bus)) c.in-Err.is
     (c.own_status.ensures.told known)) c.done_or_unknown.ensures
+
+pub returns-in-Ok-clause-steps : goal.returns-in-Ok-clause-steps
+returns-in-Ok-clause-steps g c known = went_then _ _ (c.own_status.ensures.steps known)
+    (c.clear_each.ensures.steps known)

@@ -1,12 +1,7 @@
-use Rattle.std.proofs.Common.{arith, refl}
-use Rattle.usb_pipe.specs.{write_bound}
-use Rattle.usb_bus.proofs.Interface.{went_none, went_wider}
+use Rattle.std.proofs.Common.{refl}
 use Rattle.usb_hub.proofs.AddressesKept.{hub_feature_keeps}
 use Rattle.usb_hub.proofs.HubChanges.{told_done}
 use Rattle.usb_hub.proofs.changes.clear_told.Goals as goal
-
-pub returns-then-not-told-clause-steps : goal.returns-then-not-told-clause-steps
-returns-then-not-told-clause-steps g c known = went_wider 0 write_bound went_none (omega arith)
 
 pub returns-then-not-told-clause-cleared : goal.returns-then-not-told-clause-cleared
 returns-then-not-told-clause-cleared g c known = rw c.if-not-told.true (refl, refl)

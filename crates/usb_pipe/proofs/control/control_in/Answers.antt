@@ -66,11 +66,6 @@ returns-clause-transfer g c known =
 
 -- What went
 
-pub returns-in_err-setup-clause-steps : goal.returns-in_err-setup-clause-steps
-unfolding control_bound
-returns-in_err-setup-clause-steps g c known =
-    went_wider 3 _ (c.setup.ensures.steps known) (omega arith)
-
 pub returns-in_err-bytes-clause-steps : goal.returns-in_err-bytes-clause-steps
 unfolding control_bound
 returns-in_err-bytes-clause-steps g c known =

@@ -44,10 +44,6 @@ returns-clause-transfer g c known =
 
 -- What went
 
-pub returns-in_err-setup-clause-steps : goal.returns-in_err-setup-clause-steps
-returns-in_err-setup-clause-steps g c known = went_wider 3 write_bound (c.setup.ensures.steps known)
-    (omega arith)
-
 pub returns-in_err-data_in-clause-steps : goal.returns-in_err-data_in-clause-steps
 returns-in_err-data_in-clause-steps g c known =
     went_wider (3 + transaction_bound) write_bound

@@ -1,6 +1,6 @@
 use Rattle.std.proofs.Common.{◌≡◌, refl, ap, ◌<◌, length, arith}
 use Rattle.usb_pipe.proofs.MovedPackets.{coming_none, coming_more, moved_went, whole_received}
-use Rattle.usb_pipe.proofs.MovedPackets.{short_received, lost_received, room_received, moved_all}
+use Rattle.usb_pipe.proofs.MovedPackets.{short_received, lost_received, room_received}
 use Rattle.usb_pipe.proofs.packets.receive_packets.Goals as goal
 
 pub packets-init : goal.packets-init
@@ -22,48 +22,47 @@ packets-preserved g c known =
     (c.in_ok-packet.ensures.asks known) c.in_ok-packet.ensures.toggle
     c.bytes.ensures.value c.in_ok-extend_from_slice.ensures.items (omega arith) full
 
-pub returns-then-bytes-from : goal.returns-then-bytes-from
-returns-then-bytes-from g c =
+pub returns-then-bytes-from-clause-received : goal.returns-then-bytes-from-clause-received
+returns-then-bytes-from-clause-received g c known =
     let again = ap length c.bytes-in-packets.ensures.value in
     let short : length c.in_ok-packet.packet < c.args.target.max =
-    omega (arith, again, c.if-bytes-from.true, c.from.ensures) in record {
-      steps = λ known. moved_went (c.packets.invariant known).moved c.packets-test.true
-          (c.data_in.ensures.steps known);
-      received = λ known. short_received c.args.target c.args.ep _ c.args.wanted
-          c.requires.target.max_least c.packets-test.true (c.packets.invariant known)
-          (c.data_in.ensures.steps known) (c.in_ok-packet.ensures.asks known)
-          c.in_ok-packet.ensures.toggle
-          c.bytes.ensures.value c.in_ok-extend_from_slice.ensures.items refl short;
-    }
+    omega (arith, again, c.if-bytes-from.true, c.from.ensures) in
+    short_received c.args.target c.args.ep _ c.args.wanted c.requires.target.max_least
+    c.packets-test.true (c.packets.invariant known) (c.data_in.ensures.steps known)
+    (c.in_ok-packet.ensures.asks known) c.in_ok-packet.ensures.toggle c.bytes.ensures.value
+    c.in_ok-extend_from_slice.ensures.items refl short
 
-pub returns : goal.returns
-returns g c = record {
-  steps = λ known. moved_all (c.packets.invariant known).moved (omega arith);
-  received = λ known. whole_received c.args.target c.args.ep _ c.args.wanted
-      c.requires.target.max_least (omega arith) c.requires.some (c.packets.invariant known);
-}
+pub returns-clause-received : goal.returns-clause-received
+returns-clause-received g c known =
+    whole_received c.args.target c.args.ep _ c.args.wanted c.requires.target.max_least (omega arith)
+    c.requires.some (c.packets.invariant known)
 
-pub returns-in_err-packet : goal.returns-in_err-packet
-returns-in_err-packet g c = record {
-  steps = λ known. moved_went (c.packets.invariant known).moved c.packets-test.true
-      (c.data_in.ensures.steps known);
-  received = λ known. lost_received c.args.target c.args.ep _ c.args.wanted
-      c.requires.target.max_least c.packets-test.true (c.packets.invariant known)
-      (c.data_in.ensures.steps known)
-      c.in_err-packet.field-0.0 c.from_residual.result c.from_residual.ensures.0
-      c.from_residual.ensures.1 (c.in_err-packet.ensures.asks known)
-      c.in_err-packet.ensures.toggle;
-}
+pub returns-in_err-packet-clause-received : goal.returns-in_err-packet-clause-received
+returns-in_err-packet-clause-received g c known =
+    lost_received c.args.target c.args.ep _ c.args.wanted c.requires.target.max_least
+    c.packets-test.true (c.packets.invariant known) (c.data_in.ensures.steps known)
+    c.in_err-packet.field-0.0 c.from_residual.result c.from_residual.ensures.0
+    c.from_residual.ensures.1 (c.in_err-packet.ensures.asks known) c.in_err-packet.ensures.toggle
 
-pub returns-in_err-extend_from_slice : goal.returns-in_err-extend_from_slice
-returns-in_err-extend_from_slice g c = record {
-  steps = λ known. moved_went (c.packets.invariant known).moved c.packets-test.true
-      (c.data_in.ensures.steps known);
-  received = λ known. room_received c.args.target c.args.ep _ c.args.wanted
-      c.requires.target.max_least c.packets-test.true (c.packets.invariant known)
-      (c.data_in.ensures.steps known)
-      c.in_ok-packet.packet c.from_residual-in_err-extend_from_slice.result
-      c.from_residual-in_err-extend_from_slice.ensures.0
-      c.from_residual-in_err-extend_from_slice.ensures.1 (c.in_ok-packet.ensures.asks known)
-      c.in_ok-packet.ensures.toggle;
-}
+pub returns-in_err-extend_from_slice-clause-received :
+    goal.returns-in_err-extend_from_slice-clause-received
+returns-in_err-extend_from_slice-clause-received g c known =
+    room_received c.args.target c.args.ep _ c.args.wanted c.requires.target.max_least
+    c.packets-test.true (c.packets.invariant known) (c.data_in.ensures.steps known)
+    c.in_ok-packet.packet c.from_residual-in_err-extend_from_slice.result
+    c.from_residual-in_err-extend_from_slice.ensures.0
+    c.from_residual-in_err-extend_from_slice.ensures.1 (c.in_ok-packet.ensures.asks known)
+    c.in_ok-packet.ensures.toggle
+
+pub returns-then-bytes-from-clause-steps : goal.returns-then-bytes-from-clause-steps
+returns-then-bytes-from-clause-steps g c known =
+    moved_went (c.packets.invariant known).moved c.packets-test.true (c.data_in.ensures.steps known)
+
+pub returns-in_err-packet-clause-steps : goal.returns-in_err-packet-clause-steps
+returns-in_err-packet-clause-steps g c known =
+    moved_went (c.packets.invariant known).moved c.packets-test.true (c.data_in.ensures.steps known)
+
+pub returns-in_err-extend_from_slice-clause-steps :
+    goal.returns-in_err-extend_from_slice-clause-steps
+returns-in_err-extend_from_slice-clause-steps g c known =
+    moved_went (c.packets.invariant known).moved c.packets-test.true (c.data_in.ensures.steps known)

@@ -1,11 +1,12 @@
-use Rattle.std.proofs.Common.{◌≡◌, ◌+◌, ◌∙◌, sym, length, arith}
+use Rattle.std.proofs.Common.{◌≡◌, ◌+◌, ◌∙◌, sym, ap, length, arith, Ok, Err}
 use Rattle.toml.specs.Data.{as_table}
 use Rattle.toml.specs.View.{view}
 use Rattle.usb_plan.specs.declared.fault.PlanFault.TheVariants as fault
-use Rattle.usb_plan.specs.{damage_entry, last_from}
+use Rattle.usb_plan.specs.{damage_entry, last_from, entry_at}
+use Rattle.usb_plan.specs.declared.fault.Place.TheVariants as place
 use Rattle.usb_plan.proofs.Parts.{damage_entry_ok, entry_at_ok}
 use Rattle.usb_plan.proofs.MemoryRefusals.{unless_handed}
-use Rattle.usb_plan.proofs.Growth.{damages_from-step, damages_from-fault, damages_from-end}
+use Rattle.usb_plan.proofs.Growth.{damages_from-next, damages_from-end}
 use Rattle.usb_plan.proofs.Growth.{damages_fit-push, last_from-push}
 use Rattle.usb_plan.proofs.damage.damages_of.Goals as goal
 
@@ -21,31 +22,33 @@ loop-i-init c = record {
 pub returns-in_err-damage-clause-value : goal.returns-in_err-damage-clause-value
 returns-in_err-damage-clause-value c =
     let v = c.index-values-i.result in
-    let read = c.damage_entry-read.result in
-    let e : read ≡ damage_entry (last_from 0 c.loop-i.done) (length c.loop-i.done)
-    (as_table (view v)) = c.damage_entry-read.ensures
+    let spelled = damage_entry (last_from 0 c.loop-i.done) (length c.loop-i.done)
+    (as_table (view v)) in
+    let e : c.damage_entry-read.result ≡ spelled = c.damage_entry-read.ensures
     ∙ rw (c.loop-i.invariant.last, c.as_slice.ensures.value, c.as_table.ensures) in
     let why = c.in_err-damage.field-0.0 in
     unless_handed fault.Memory c.from_residual.result _ why c.from_residual.ensures.1
-    (λ _. sym (damages_from-fault c.loop-i.done c.args.values.now c.loop-i.i v read why _
-    c.loop-i-test.true c.index-values-i.is e (sym c.entry_at.ensures ∙ c.in_err-damage.was)
-    c.loop-i.invariant.so_far))
+    (λ _. sym c.loop-i.invariant.so_far ∙ damages_from-next c.loop-i.done c.args.values.now
+    c.loop-i.i v (Err why) c.loop-i-test.true c.index-values-i.is
+    (ap (entry_at (place.Damage (c.loop-i.i + 1))) (sym e) ∙ sym c.entry_at.ensures
+    ∙ c.in_err-damage.was))
 
 pub loop-i-preserved : goal.loop-i-preserved
 loop-i-preserved c =
     let v = c.index-values-i.result in
-    let read = c.damage_entry-read.result in
     let damage = c.in_ok-damage.damage in
-    let e : read ≡ damage_entry (last_from 0 c.loop-i.done) (length c.loop-i.done)
-    (as_table (view v)) = c.damage_entry-read.ensures
+    let spelled = damage_entry (last_from 0 c.loop-i.done) (length c.loop-i.done)
+    (as_table (view v)) in
+    let e : c.damage_entry-read.result ≡ spelled = c.damage_entry-read.ensures
     ∙ rw (c.loop-i.invariant.last, c.as_slice.ensures.value, c.as_table.ensures) in
-    let good = sym c.entry_at.ensures ∙ c.in_ok-damage.was in
+    let good = ap (entry_at (place.Damage (c.loop-i.i + 1))) (sym e) ∙ sym c.entry_at.ensures
+    ∙ c.in_ok-damage.was in
     let comes = damage_entry_ok (last_from 0 c.loop-i.done) (length c.loop-i.done)
-    (as_table (view v)) damage (sym e ∙ entry_at_ok _ read damage good) in
+    (as_table (view v)) damage (entry_at_ok _ spelled damage good) in
     record {
-      so_far = rw c.in_ok-push.ensures.ok (damages_from-step c.loop-i.done c.args.values.now
-          c.loop-i.i v read damage _ c.loop-i-test.true c.index-values-i.is e good
-          c.loop-i.invariant.so_far);
+      so_far = rw c.in_ok-push.ensures.ok (sym (damages_from-next c.loop-i.done c.args.values.now
+          c.loop-i.i v (Ok damage) c.loop-i-test.true c.index-values-i.is good)
+          ∙ c.loop-i.invariant.so_far);
       fit = rw c.in_ok-push.ensures.ok (damages_fit-push 0 c.loop-i.done damage
           c.loop-i.invariant.fit comes.fits);
       last = rw c.in_ok-push.ensures.ok (sym (last_from-push 0 c.loop-i.done damage));

@@ -1,4 +1,4 @@
-use Rattle.std.proofs.Common.{◌+◌, ◌∙◌, sym, ap, refl, [], length}
+use Rattle.std.proofs.Common.{◌+◌, ◌∙◌, sym, ap, [], length, Ok, Err}
 use Rattle.toml.specs.Data.{as_table}
 use Rattle.toml.specs.View.{view}
 use Rattle.usb_world.specs.{plugged_by, plugged_after}
@@ -7,7 +7,7 @@ use Rattle.usb_plan.specs.declared.fault.PlanFault.TheVariants as fault
 use Rattle.usb_plan.specs.{Memory, EqualUnless, SceneData, scene_after, event_in}
 use Rattle.usb_plan.proofs.Parts.{event_in_ok, entry_at_ok}
 use Rattle.usb_plan.proofs.MemoryRefusals.{entry_at_told, entry_at_read, unless_handed}
-use Rattle.usb_plan.proofs.Growth.{events_from-step, events_from-fault, events_from-end}
+use Rattle.usb_plan.proofs.Growth.{events_from-next, events_from-end}
 use Rattle.usb_plan.proofs.Growth.{events_fit-push}
 use Rattle.usb_world.proofs.Interface.{plugged_by-next}
 use Rattle.usb_plan.proofs.event.events_of.Goals as goal
@@ -30,10 +30,10 @@ returns-in_err-event-clause-value c =
     c.event_in-read.ensures in
     let why = c.in_err-event.field-0.0 in
     unless_handed fault.Memory c.from_residual.result _ why c.from_residual.ensures.1
-    (λ ne. sym (events_from-fault c.args.roots c.args.devices.now c.loop-i.done c.args.values.now
-    c.loop-i.i v spelled why _ c.loop-i-test.true c.index-values-i.is refl
+    (λ ne. sym c.loop-i.invariant.so_far ∙ events_from-next c.args.roots c.args.devices.now
+    c.loop-i.done c.args.values.now c.loop-i.i v (Err why) c.loop-i-test.true c.index-values-i.is
     (entry_at_told (place.Event (c.loop-i.i + 1)) c.event_in-read.result spelled c.entry_at.result
-    why same c.entry_at.ensures c.in_err-event.was ne) c.loop-i.invariant.so_far))
+    why same c.entry_at.ensures c.in_err-event.was ne))
 
 pub loop-i-preserved : goal.loop-i-preserved
 loop-i-preserved c =
@@ -50,9 +50,9 @@ loop-i-preserved c =
     (entry_at_ok _ spelled c.in_ok-event.event good) in
     let grown = plugged_by-next [] c.loop-i.done c.in_ok-event.event in
     record {
-      so_far = rw c.in_ok-push.ensures.ok (events_from-step c.args.roots c.args.devices.now
-          c.loop-i.done c.args.values.now c.loop-i.i v spelled c.in_ok-event.event _
-          c.loop-i-test.true c.index-values-i.is refl good c.loop-i.invariant.so_far);
+      so_far = rw c.in_ok-push.ensures.ok (sym (events_from-next c.args.roots c.args.devices.now
+          c.loop-i.done c.args.values.now c.loop-i.i v (Ok c.in_ok-event.event)
+          c.loop-i-test.true c.index-values-i.is good) ∙ c.loop-i.invariant.so_far);
       fit = rw c.in_ok-push.ensures.ok (events_fit-push c.args.roots c.args.devices.now []
           c.loop-i.done c.in_ok-event.event c.loop-i.invariant.fit follows.fits);
       scene = rw c.in_ok-push.ensures.ok (c.in_ok-apply.ensures

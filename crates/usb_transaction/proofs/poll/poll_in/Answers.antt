@@ -1,142 +1,83 @@
-use Rattle.std.proofs.Common.{None, Some, Ok, Err, inr, refl, sym, ap, ◌∙◌, rules}
+use Rattle.std.proofs.Common.{None, Some, Ok, Err, inr, refl, sym, ap, rules}
 use Rattle.std.proofs.lemmas.Result.{err_from_is_err_and}
-use Rattle.usb_transaction.specs.{heard_as, polled, Repeat, Stalled, Busy, NoAnswer, Bus}
+use Rattle.usb_transaction.specs.{polled, Repeat, Stalled, Busy, NoAnswer, Bus}
 use Rattle.usb_transaction.proofs.Calls.{polls_in}
 use Rattle.usb_transaction.proofs.LastOutcomes.{heard_as-nak, heard_stall}
-use Rattle.usb_transaction.proofs.TransactionTries.{attempted_once, read_fits, stands_error}
-use Rattle.usb_transaction.proofs.TransactionTries.{stands_new, stands_waited, told_busy, told_cut}
-use Rattle.usb_transaction.proofs.TransactionTries.{told_moved, told_silent, told_stalled}
-use Rattle.usb_transaction.proofs.TransactionTries.{told_waiting, went_last}
+use Rattle.usb_transaction.proofs.TransactionTries.{read_fits, stands_error, stands_new}
+use Rattle.usb_transaction.proofs.TransactionTries.{stands_waited, told_busy, told_cut, told_moved}
+use Rattle.usb_transaction.proofs.TransactionTries.{told_silent, told_stalled, told_waiting}
 use Rattle.usb_transaction.proofs.poll.poll_in.Goals as goal
 
 pub tries-init : goal.tries-init
 tries-init g c = (
   refl,
   (search rules, search rules),
-  λ known. stands_new c.new-tries.result _ c.new-tries.ensures,
+  λ known. stands_new c.new-tries.result _ (rw c.attempt_of_in-attempt.ensures.value at
+      c.attempt_of_in-attempt.ensures.fits) c.new-tries.ensures,
 )
 
 pub tries-preserved-in-Continue-1 : goal.tries-preserved-in-Continue-1
 tries-preserved-in-Continue-1 g c = (
   c.tries.invariant.0,
   (search rules, search rules),
-  λ known.
-      let asked = c.attempt_of_in-attempt.ensures in
-      let one = attempted_once asked.value asked.fits (c.in-Ok.ensures.attempts known) in
-      let awaited = ap (λ t. heard_as t c.in-Ok.outcome) c.tries.invariant.0 in
-      stands_waited (c.tries.invariant.2 known) one Repeat _
-      (ap polled (c.in-Repeat.ensures ∙ awaited)) (inr refl) c.wait.ensures.count
-      c.in_ok-wait-in-Repeat.ensures.end,
+  λ known. stands_waited (c.tries.invariant.2 known) (rw c.attempt_of_in-attempt.ensures.value at
+      (c.in-Ok.ensures.attempts known)) Repeat _ (ap polled c.in-Repeat.ensures) (inr refl)
+      c.wait.ensures.count c.in_ok-wait-in-Repeat.ensures.end,
 )
 
 pub tries-preserved : goal.tries-preserved
 tries-preserved g c = (
   c.tries.invariant.0,
   (search rules, search rules),
-  λ known.
-      let asked = c.attempt_of_in-attempt.ensures in
-      let one = attempted_once asked.value asked.fits (c.in-Ok.ensures.attempts known) in
-      let awaited = ap (λ t. heard_as t c.in-Ok.outcome) c.tries.invariant.0 in
-      stands_error (c.tries.invariant.2 known) one _ (ap polled (c.in-Lost.ensures ∙ awaited))
-      c.error.ensures.count c.in_ok-error-in-Lost.ensures.end,
+  λ known. stands_error (c.tries.invariant.2 known) (rw c.attempt_of_in-attempt.ensures.value at
+      (c.in-Ok.ensures.attempts known)) _ (ap polled c.in-Lost.ensures) c.error.ensures.count
+      c.in_ok-error-in-Lost.ensures.end,
 )
 
 pub returns-in-Moved-clause-polls : goal.returns-in-Moved-clause-polls
 returns-in-Moved-clause-polls g c known =
-    let settled = g.met.B.Bus.settled known c.args.bus.now in
-    let asked = c.attempt_of_in-attempt.ensures in
-    let one = attempted_once asked.value asked.fits (c.in-Ok.ensures.attempts known) in
-    let awaited = ap (λ t. heard_as t c.in-Ok.outcome) c.tries.invariant.0 in
-    let moved = c.in-Moved.ensures ∙ awaited in
-    let it = told_moved (c.tries.invariant.2 known) one c.in-Moved.bytes (sym (ap polled moved)) in
+    let made = rw c.attempt_of_in-attempt.ensures.value at (c.in-Ok.ensures.attempts known) in
     rw c.data.ensures (polls_in c.args.target c.args.ep c.args.toggle.now _ _
-    c.requires.target.max_least settled (Ok (Some c.in-Moved.bytes.items)) it
-    (read_fits c.args.toggle.now _ c.in-Moved.bytes moved one.made))
+    c.requires.target.max_least (g.met.B.Bus.settled known c.args.bus.now) c.tries.invariant.0 (Ok
+    (Some c.in-Moved.bytes.items)) (told_moved (c.tries.invariant.2 known) made c.in-Moved.bytes
+    (sym (ap polled c.in-Moved.ensures))) (read_fits c.tries.toggle _ c.in-Moved.bytes
+    c.in-Moved.ensures made))
 
 pub returns-in-NotReady-clause-polls : goal.returns-in-NotReady-clause-polls
-returns-in-NotReady-clause-polls g c known =
-    let settled = g.met.B.Bus.settled known c.args.bus.now in
-    let asked = c.attempt_of_in-attempt.ensures in
-    let one = attempted_once asked.value asked.fits (c.in-Ok.ensures.attempts known) in
-    let awaited = ap (λ t. heard_as t c.in-Ok.outcome) c.tries.invariant.0 in
-    let it = told_waiting (c.tries.invariant.2 known) one
-    (heard_as-nak _ _ (c.in-NotReady.ensures ∙ awaited)) in
-    polls_in c.args.target c.args.ep c.args.toggle.now _ _ c.requires.target.max_least settled
-    (Ok None) it tt
+returns-in-NotReady-clause-polls g c known = polls_in c.args.target c.args.ep c.args.toggle.now _ _
+    c.requires.target.max_least (g.met.B.Bus.settled known c.args.bus.now) c.tries.invariant.0 (Ok
+    None) (told_waiting (c.tries.invariant.2 known) (rw c.attempt_of_in-attempt.ensures.value at
+    (c.in-Ok.ensures.attempts known)) (heard_as-nak _ _ c.in-NotReady.ensures)) tt
 
 pub returns-in_err-wait-in-Repeat-clause-polls : goal.returns-in_err-wait-in-Repeat-clause-polls
 returns-in_err-wait-in-Repeat-clause-polls g c known =
-    let settled = g.met.B.Bus.settled known c.args.bus.now in
-    let asked = c.attempt_of_in-attempt.ensures in
-    let one = attempted_once asked.value asked.fits (c.in-Ok.ensures.attempts known) in
-    let awaited = ap (λ t. heard_as t c.in-Ok.outcome) c.tries.invariant.0 in
     let end = c.in_err-wait-in-Repeat.ensures.end in
     let told = err_from_is_err_and c.from_residual.result c.from_residual.ensures.1 in
-    let it = told_busy (c.tries.invariant.2 known) one Repeat _
-    (ap polled (c.in-Repeat.ensures ∙ awaited)) (inr refl) c.wait.ensures.count end.1 in
     rw (told.1, told.2, end.0) (polls_in c.args.target c.args.ep c.args.toggle.now _ _
-    c.requires.target.max_least settled (Err Busy) it tt)
+    c.requires.target.max_least (g.met.B.Bus.settled known c.args.bus.now) c.tries.invariant.0 (Err
+    Busy) (told_busy (c.tries.invariant.2 known) (rw c.attempt_of_in-attempt.ensures.value at
+    (c.in-Ok.ensures.attempts known)) Repeat _ (ap polled c.in-Repeat.ensures) (inr refl)
+    c.wait.ensures.count end.1) tt)
 
 pub returns-in-Refused-clause-polls : goal.returns-in-Refused-clause-polls
-returns-in-Refused-clause-polls g c known =
-    let settled = g.met.B.Bus.settled known c.args.bus.now in
-    let asked = c.attempt_of_in-attempt.ensures in
-    let one = attempted_once asked.value asked.fits (c.in-Ok.ensures.attempts known) in
-    let awaited = ap (λ t. heard_as t c.in-Ok.outcome) c.tries.invariant.0 in
-    let it = told_stalled (c.tries.invariant.2 known) one
-    (heard_stall _ _ (c.in-Refused.ensures ∙ awaited)) in
-    polls_in c.args.target c.args.ep c.args.toggle.now _ _ c.requires.target.max_least settled
-    (Err Stalled) it tt
+returns-in-Refused-clause-polls g c known = polls_in c.args.target c.args.ep c.args.toggle.now _ _
+    c.requires.target.max_least (g.met.B.Bus.settled known c.args.bus.now) c.tries.invariant.0 (Err
+    Stalled) (told_stalled (c.tries.invariant.2 known) (rw c.attempt_of_in-attempt.ensures.value at
+    (c.in-Ok.ensures.attempts known)) (heard_stall _ _ c.in-Refused.ensures)) tt
 
 pub returns-in_err-error-in-Lost-clause-polls : goal.returns-in_err-error-in-Lost-clause-polls
 returns-in_err-error-in-Lost-clause-polls g c known =
-    let settled = g.met.B.Bus.settled known c.args.bus.now in
-    let asked = c.attempt_of_in-attempt.ensures in
-    let one = attempted_once asked.value asked.fits (c.in-Ok.ensures.attempts known) in
-    let awaited = ap (λ t. heard_as t c.in-Ok.outcome) c.tries.invariant.0 in
     let end = c.in_err-error-in-Lost.ensures.end in
     let told = err_from_is_err_and c.from_residual-in_err-error-in-Lost.result
     c.from_residual-in_err-error-in-Lost.ensures.1 in
-    let it = told_silent (c.tries.invariant.2 known) one _ (ap polled (c.in-Lost.ensures ∙ awaited))
-    c.error.ensures.count end.1 in
     rw (told.1, told.2, end.0) (polls_in c.args.target c.args.ep c.args.toggle.now _ _
-    c.requires.target.max_least settled (Err NoAnswer) it tt)
+    c.requires.target.max_least (g.met.B.Bus.settled known c.args.bus.now) c.tries.invariant.0 (Err
+    NoAnswer) (told_silent (c.tries.invariant.2 known) (rw c.attempt_of_in-attempt.ensures.value at
+    (c.in-Ok.ensures.attempts known)) _ (ap polled c.in-Lost.ensures) c.error.ensures.count end.1)
+    tt)
 
 pub returns-in-Err-clause-polls : goal.returns-in-Err-clause-polls
-returns-in-Err-clause-polls g c known =
-    let settled = g.met.B.Bus.settled known c.args.bus.now in
-    let asked = c.attempt_of_in-attempt.ensures in
-    let cut = c.in-Err.ensures.attempts known in
-    let it = told_cut (c.tries.invariant.2 known) asked.value asked.fits cut in
-    polls_in c.args.target c.args.ep c.args.toggle.now _ _ c.requires.target.max_least settled
-    (Err (Bus c.in-Err.fault)) it tt
-
-pub returns-in-Moved-clause-steps : goal.returns-in-Moved-clause-steps
-returns-in-Moved-clause-steps g c known =
-    went_last (c.tries.invariant.2 known) c.attempt_of_in-attempt.ensures.fits
-    (c.in-Ok.ensures.attempts known)
-
-pub returns-in-NotReady-clause-steps : goal.returns-in-NotReady-clause-steps
-returns-in-NotReady-clause-steps g c known =
-    went_last (c.tries.invariant.2 known) c.attempt_of_in-attempt.ensures.fits
-    (c.in-Ok.ensures.attempts known)
-
-pub returns-in_err-wait-in-Repeat-clause-steps : goal.returns-in_err-wait-in-Repeat-clause-steps
-returns-in_err-wait-in-Repeat-clause-steps g c known =
-    went_last (c.tries.invariant.2 known) c.attempt_of_in-attempt.ensures.fits
-    (c.in-Ok.ensures.attempts known)
-
-pub returns-in-Refused-clause-steps : goal.returns-in-Refused-clause-steps
-returns-in-Refused-clause-steps g c known =
-    went_last (c.tries.invariant.2 known) c.attempt_of_in-attempt.ensures.fits
-    (c.in-Ok.ensures.attempts known)
-
-pub returns-in_err-error-in-Lost-clause-steps : goal.returns-in_err-error-in-Lost-clause-steps
-returns-in_err-error-in-Lost-clause-steps g c known =
-    went_last (c.tries.invariant.2 known) c.attempt_of_in-attempt.ensures.fits
-    (c.in-Ok.ensures.attempts known)
-
-pub returns-in-Err-clause-steps : goal.returns-in-Err-clause-steps
-returns-in-Err-clause-steps g c known =
-    went_last (c.tries.invariant.2 known) c.attempt_of_in-attempt.ensures.fits
-    (c.in-Err.ensures.attempts known)
+returns-in-Err-clause-polls g c known = polls_in c.args.target c.args.ep c.args.toggle.now _ _
+    c.requires.target.max_least (g.met.B.Bus.settled known c.args.bus.now) c.tries.invariant.0 (Err
+    (Bus c.in-Err.fault)) (told_cut (c.tries.invariant.2 known) (rw
+    c.attempt_of_in-attempt.ensures.value at (c.in-Err.ensures.attempts known))) tt

@@ -1,34 +1,27 @@
 use Rattle.std.proofs.lemmas.Result.{err_from_is_err_and}
-use Rattle.std.proofs.Common.{Err, Ok}
 use Rattle.usb_host.proofs.PortRequests.{change_cleared, change_fails, change_untold}
 use Rattle.usb_host.proofs.host.Host.clear_change.Goals as goal
 
 pub returns-in_err-clear-clause-clears : goal.returns-in_err-clear-clause-clears
 returns-in_err-clear-clause-clears g c known =
     let told = err_from_is_err_and c.from_residual.result c.from_residual.ensures.1 in
-    rw (told.1, told.2) (change_fails c.args.port c.args.self.now c.clear.new.self
-    c.in_err-clear.field-0.0 (c.in_err-clear.ensures.clears known))
+    rw (told.1, told.2) (change_fails (c.in_err-clear.ensures.clears known))
 
 pub returns-in_err-status-clause-clears : goal.returns-in_err-status-clause-clears
 returns-in_err-status-clause-clears g c known =
     let told = err_from_is_err_and c.from_residual-in_err-status.result
     c.from_residual-in_err-status.ensures.1 in
-    rw (told.1, told.2) (change_untold c.args.port c.args.self.now c.clear.new.self
-    (c.in_ok-clear.ensures.clears known) c.status.new.self c.in_err-status.field-0.0
+    rw (told.1, told.2) (change_untold (c.in_ok-clear.ensures.clears known)
     (c.in_err-status.ensures.shows known))
 
 pub returns-in_err-clear_where-clause-clears : goal.returns-in_err-clear_where-clause-clears
 returns-in_err-clear_where-clause-clears g c known =
     let told = err_from_is_err_and c.from_residual-in_err-clear_where.result
     c.from_residual-in_err-clear_where.ensures.1 in
-    rw (told.1, told.2) (change_cleared c.args.port c.args.self.now c.clear.new.self
-    (c.in_ok-clear.ensures.clears known) c.status.new.self c.clear_where.new.self
-    c.in_ok-status.status (c.in_ok-status.ensures.shows known)
-    (Err c.in_err-clear_where.field-0.0) (c.in_err-clear_where.ensures.clears known))
+    rw (told.1, told.2) (change_cleared (c.in_ok-clear.ensures.clears known) c.clear_where.new.self
+    (c.in_ok-status.ensures.shows known) (c.in_err-clear_where.ensures.clears known))
 
 pub returns-clause-clears : goal.returns-clause-clears
 returns-clause-clears g c known =
-    change_cleared c.args.port c.args.self.now c.clear.new.self
-    (c.in_ok-clear.ensures.clears known) c.status.new.self c.clear_where.new.self
-    c.in_ok-status.status (c.in_ok-status.ensures.shows known) (Ok tt)
-    (c.in_ok-clear_where.ensures.clears known)
+    change_cleared (c.in_ok-clear.ensures.clears known) c.clear_where.new.self
+    (c.in_ok-status.ensures.shows known) (c.in_ok-clear_where.ensures.clears known)

@@ -5,19 +5,16 @@ use Rattle.usb_host.proofs.host.Host.clear_error.Goals as goal
 pub returns-in_err-clear-clause-clears : goal.returns-in_err-clear-clause-clears
 returns-in_err-clear-clause-clears g c known =
     let told = err_from_is_err_and c.from_residual.result c.from_residual.ensures.1 in
-    rw (told.1, told.2) (error_fails c.args.port c.args.self.now c.clear.new.self
-    c.in_err-clear.field-0.0 (c.in_err-clear.ensures.clears known))
+    rw (told.1, told.2) (error_fails (c.in_err-clear.ensures.clears known))
 
 pub returns-in_err-clear-2-clause-clears : goal.returns-in_err-clear-2-clause-clears
 returns-in_err-clear-2-clause-clears g c known =
     let told = err_from_is_err_and c.from_residual-in_err-clear-2.result
     c.from_residual-in_err-clear-2.ensures.1 in
-    rw (told.1, told.2) (error_kept c.args.port c.args.self.now c.clear.new.self
-    (c.in_ok-clear.ensures.clears known) c.clear-2.new.self c.in_err-clear-2.field-0.0
+    rw (told.1, told.2) (error_kept (c.in_ok-clear.ensures.clears known)
     (c.in_err-clear-2.ensures.clears known))
 
 pub returns-clause-clears : goal.returns-clause-clears
 returns-clause-clears g c known =
-    error_cleared c.args.port c.args.self.now c.clear.new.self
-    (c.in_ok-clear.ensures.clears known) c.clear-2.new.self c.status.new.self
-    (c.in_ok-clear-2.ensures.clears known) c.status.result (c.status.ensures.shows known)
+    error_cleared (c.in_ok-clear.ensures.clears known) c.status.new.self
+    (c.in_ok-clear-2.ensures.clears known) (c.status.ensures.shows known)

@@ -2,44 +2,27 @@ use Rattle.std.proofs.Common.{arith, rules, ap, sym, ◌∙◌}
 use Rattle.usb_host.specs.{clear_bound, HostState}
 use Rattle.std.proofs.lemmas.Bool.{false≢true}
 use Rattle.std.proofs.lemmas.Grind.{common_steps}
-use Rattle.usb_backlog.proofs.Interface.{all_none}
 use Rattle.usb_host.proofs.StepSums.{host_goes_none}
-use Rattle.usb_host.proofs.devices.Owners.{owning_kept}
-use Rattle.usb_host.proofs.knowledge.Soundness.{sound_none, sound_kept}
+use Rattle.usb_host.proofs.knowledge.Soundness.{transfer_kept, transfer_none}
 use Rattle.usb_host.proofs.host.Host.clear_halt.Goals as goal
-
-pub returns-then-self-clause-stopped : goal.returns-then-self-clause-stopped
-returns-then-self-clause-stopped g c = first_of (search rules, grind (arith, common_steps))
 
 pub returns-then-self-clause-tells : goal.returns-then-self-clause-tells
 returns-then-self-clause-tells g c known = record {
-  stopped = returns-then-self-clause-stopped g c;
-  went = (host_goes_none clear_bound c.args.self.now).went;
+  stopped = first_of (search rules, grind (arith, common_steps));
+  went = (host_goes_none {n = clear_bound} {h = c.args.self.now}).went;
   told = tt;
-  did = λ running. absurd (false≢true (sym running
-      ∙ ap (λ (h : HostState). h.stopped) (sym c.self.view_is) ∙ c.if-self.true));
-  keeps = record {
-    owning = λ o. o;
-    sound = sound_none _;
-    backlog = λ still. all_none c.args.self.now.world;
-  };
+  did = λ running. absurd (false≢true (sym running ∙ ap (λ (h : HostState). h.stopped)
+      (sym c.self.view_is) ∙ c.if-self.true));
+  keeps = transfer_none _;
 }
-
-pub returns-clause-stopped : goal.returns-clause-stopped
-returns-clause-stopped g c = first_of (search rules, grind (arith, common_steps))
 
 pub returns-clause-tells : goal.returns-clause-tells
 returns-clause-tells g c known = record {
-  stopped = returns-clause-stopped g c;
+  stopped = first_of (search rules, grind (arith, common_steps));
   went = first_of (search rules, grind (arith, common_steps));
   told = first_of (search rules, grind (arith, common_steps));
   did = first_of (search rules, grind (arith, common_steps));
-  keeps = rw (← c.self.view_is) (record {
-    owning = owning_kept _ _ c.if-self.false c.clear_halt.ensures.through.entries
-        (c.clear_halt.ensures.clears known).keeps.worlds.addresses;
-    sound = sound_kept _ _ _ _ _ c.self.invariant c.clear_halt.ensures.through.entries
-        (c.clear_halt.ensures.clears known).went (c.clear_halt.ensures.clears known).keeps
-        (λ still. still);
-    backlog = (c.clear_halt.ensures.clears known).keeps.worlds.backlog;
-  });
+  keeps = rw (← c.self.view_is) (transfer_kept _ _ _ _ _ c.self.invariant
+      c.clear_halt.ensures.through.entries (c.clear_halt.ensures.clears known).went
+      (c.clear_halt.ensures.clears known).keeps c.if-self.false (λ still. still));
 }

@@ -1,5 +1,4 @@
 use Rattle.std.proofs.Common.{refl}
-use Rattle.usb_pipe.specs.{write_bound}
 use Rattle.usb_host.proofs.PortRequests.{others_by, others_none}
 use Rattle.usb_host.proofs.host.Host.clear_other.Goals as goal
 
@@ -7,8 +6,8 @@ pub returns-then-asked-clause-clears : goal.returns-then-asked-clause-clears
 returns-then-asked-clause-clears g c known =
     let s = c.clear_port_change.ensures in
     rw (← c.self.view_is) (others_by c.args.port c.args.feature _ _ c.clear_port_change.result
-    c.at_port.result (s.steps known) refl (s.fault known) (s.cleared known) (s.addresses known)
-    (s.devices known) c.at_port.ensures)
+    (s.steps known) refl (s.fault known) (s.cleared known) (s.addresses known) (s.devices known)
+    c.at_port.ensures)
 
 pub returns-else-asked-clause-clears : goal.returns-else-asked-clause-clears
-returns-else-asked-clause-clears g c known = others_none c.args.port write_bound c.args.self.now
+returns-else-asked-clause-clears g c known = others_none

@@ -5,12 +5,10 @@ use Rattle.usb_host.proofs.host.Host.clear_other_changes.Goals as goal
 pub returns-in_err-clear_where-clause-tidies : goal.returns-in_err-clear_where-clause-tidies
 returns-in_err-clear_where-clause-tidies g c known =
     let told = err_from_is_err_and c.from_residual.result c.from_residual.ensures.1 in
-    rw (told.1, told.2) (tidied_fails c.args.port c.args.status c.args.self.now
-    c.clear_where.new.self c.in_err-clear_where.field-0.0
-    (c.in_err-clear_where.ensures.clears known))
+    rw (told.1, told.2) (tidied_fails c.args.status (c.in_err-clear_where.ensures.clears known))
 
 pub returns-clause-tidies : goal.returns-clause-tidies
 returns-clause-tidies g c known =
-    tidied c.args.port c.args.status c.args.self.now c.clear_where.new.self
-    c.clear_where-2.new.self (c.in_ok-clear_where.ensures.clears known) c.clear_where-2.result
+    tidied c.args.status
+    c.clear_where-2.new.self (c.in_ok-clear_where.ensures.clears known)
     (c.clear_where-2.ensures.clears known)

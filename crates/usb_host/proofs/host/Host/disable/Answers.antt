@@ -1,13 +1,8 @@
 use Rattle.usb_host.proofs.PortLocations.{placed}
-use Rattle.std.proofs.Common.{refl, sym, subst, Err}
-use Rattle.usb_request.specs.{PORT_ENABLE}
-use Rattle.usb_pipe.specs.{write_bound}
-use Rattle.usb_host.specs.{HostState, Bus, StandsAt}
-use Rattle.usb_port.specs.{clear_call}
-use Rattle.usb_hub.specs.{KeepsCleared, CommandsPort}
+use Rattle.std.proofs.Common.{refl}
+use Rattle.usb_host.specs.{Bus}
 use Rattle.usb_hub.proofs.Interface.{keeps_devices_none}
 use Rattle.usb_host.proofs.OwnedPorts.{none_disabled, cleared_enable_disabled, port_failed}
-use Rattle.usb_host.proofs.OwnedPorts.{not_disabled}
 use Rattle.usb_host.proofs.devices.Causes.{told_caused, untold_caused}
 use Rattle.usb_host.proofs.knowledge.DroppedHubs.{fault_after-no_bus, told_backlog, told_dropped}
 use Rattle.usb_host.proofs.knowledge.DroppedHubs.{untold_droppable, nowhere_dropped}
@@ -18,10 +13,10 @@ use Rattle.usb_host.proofs.host.Host.disable.Goals.{in-Ok, in-Err-Bus, in-Err}
 
 pub returns-in_default-clause-disables : goal.returns-in_default-clause-disables
 returns-in_default-clause-disables g c known =
-    let none = nowhere_dropped c.args.path.now c.args.self.now (c.in_default.ensures.none known) in
+    let none = nowhere_dropped (c.in_default.ensures.none known) in
     record {
-      goes = host_goes_none write_bound c.args.self.now;
-      owned = none_disabled c.args.path.now c.args.self.now (c.in_default.ensures.none known);
+      goes = host_goes_none;
+      owned = none_disabled (c.in_default.ensures.none known);
       devices = keeps_devices_none c.args.self.now.world;
       done = λ d e. absurd (cc e);
       failed = λ d e. absurd (none d);
@@ -31,8 +26,7 @@ returns-in_default-clause-disables g c known =
 
 pub returns-clause-disables : goal.returns-clause-disables
 returns-clause-disables g c known =
-    let s = subst (λ (h : HostState). StandsAt c.args.path.now c.in-Some.port h)
-    (sym c.self.view_is) (placed known c.in-Some.ensures.some) in
+    let s = rw (← c.self.view_is) at (placed known c.in-Some.ensures.some) in
     let old = g.B.Bus.world c.self.inside.bus in
     let new = g.B.Bus.world c.clear_port.new.bus in
     let port = c.in-Some.port.port in
@@ -41,56 +35,44 @@ returns-clause-disables g c known =
     let devices = (c.clear_port.ensures.addresses known).devices in
     rw (← c.self.view_is) (elim c.match-clear_port.branch [
       | in-Ok w ↦ rw w.result-is (record {
-        goes = goes_by _ write_bound _ _ went (order_most port) refl;
-        owned = cleared_enable_disabled c.args.path.now c.in-Some.port _ _ s refl
-            (subst (λ r. KeepsCleared port PORT_ENABLE old r new) w.in-Ok.is
-            (c.clear_port.ensures.addresses known));
+        goes = goes_by _ _ went (order_most port) refl;
+        owned = cleared_enable_disabled _ _ s refl
+            (rw w.in-Ok.is at (c.clear_port.ensures.addresses known));
         devices = devices;
-        done = λ d e. told_dropped _ c.args.path.now c.in-Some.port _ _ s refl went keeps devices d
-            (subst (λ r. CommandsPort port (clear_call PORT_ENABLE) old r new) w.in-Ok.is
-            (c.clear_port.ensures.ports known));
+        done = λ d e. told_dropped s refl went keeps devices d
+            (rw w.in-Ok.is at (c.clear_port.ensures.ports known));
         failed = λ d e. absurd (cc e);
-        backlog = λ d still. told_backlog _ c.args.path.now c.in-Some.port _ _ s refl went keeps
-            devices d _ (subst (λ r. CommandsPort port (clear_call PORT_ENABLE) old r new)
-            w.in-Ok.is (c.clear_port.ensures.ports known)) tt;
-        caused = λ d fair pends caused. told_caused _ c.args.path.now c.in-Some.port _ _ s refl went
-            keeps devices d fair (subst (λ r. CommandsPort port (clear_call PORT_ENABLE) old r new)
-            w.in-Ok.is (c.clear_port.ensures.ports known)) pends caused;
+        backlog = λ d still. told_backlog s refl went keeps devices d
+            (rw w.in-Ok.is at (c.clear_port.ensures.ports known)) tt;
+        caused = λ d fair pends caused. told_caused _ _ _ s refl went keeps devices d fair
+            (rw w.in-Ok.is at (c.clear_port.ensures.ports known)) pends caused;
       })
       | in-Err-Bus w ↦ rw w.result-is (record {
-        goes = goes_by _ write_bound _ _ went (order_most port) refl;
-        owned = not_disabled c.args.path.now _ _ (Bus w.in-Err-Bus.fault) keeps;
+        goes = goes_by _ _ went (order_most port) refl;
+        owned = record { keeps = keeps; done = λ e. absurd (cc e); none = λ e root. absurd (cc e) };
         devices = devices;
         done = λ d e. absurd (cc e);
         failed = λ d e. absurd (cc e);
-        backlog = λ d still. told_backlog _ c.args.path.now c.in-Some.port _ _ s refl went keeps
-            devices d (Err w.in-Err-Bus.field-0)
-            (subst (λ r. CommandsPort port (clear_call PORT_ENABLE) old r new) w.in-Err-Bus.is
-            (c.clear_port.ensures.ports known))
+        backlog = λ d still. told_backlog s refl went keeps devices d
+            (rw w.in-Err-Bus.is at (c.clear_port.ensures.ports known))
             (fault_after-no_bus (Unit {0}) w.in-Err-Bus.field-0 old new
             (w.in-Err-Bus.ensures.fault known) still);
         caused = λ d fair pends caused. tt;
       })
       | in-Err w ↦ rw w.result-is (record {
-        goes = goes_by _ write_bound _ _ went (order_most port) refl;
-        owned = port_failed c.args.path.now c.in-Some.port _ _ 1 w.in-Err.field-0 s
-            (w.in-Err.ensures.effect known) keeps;
+        goes = goes_by _ _ went (order_most port) refl;
+        owned = port_failed _ _ 1 w.in-Err.field-0 s (w.in-Err.ensures.effect known) keeps;
         devices = devices;
         done = λ d e. absurd (cc e);
-        failed = λ d e. untold_droppable _ c.args.path.now c.in-Some.port _ _ s refl went keeps
-            devices d w.in-Err.field-0 (subst (λ r. CommandsPort port (clear_call PORT_ENABLE) old r
-            new) w.in-Err.is (c.clear_port.ensures.ports known)) (w.in-Err.ensures.fault known)
+        failed = λ d e. untold_droppable s refl went keeps devices d
+            (rw w.in-Err.is at (c.clear_port.ensures.ports known)) (w.in-Err.ensures.fault known)
             (w.in-Err.ensures.effect known);
-        backlog = λ d still. told_backlog _ c.args.path.now c.in-Some.port _ _ s refl went keeps
-            devices d (Err w.in-Err.field-0)
-            (subst (λ r. CommandsPort port (clear_call PORT_ENABLE) old r new) w.in-Err.is
-            (c.clear_port.ensures.ports known))
+        backlog = λ d still. told_backlog s refl went keeps devices d
+            (rw w.in-Err.is at (c.clear_port.ensures.ports known))
             (fault_after-no_bus (Unit {0}) w.in-Err.field-0 old new (w.in-Err.ensures.fault known)
             still);
-        caused = λ d fair pends caused. untold_caused _ c.args.path.now c.in-Some.port _ _ s refl
-            went keeps devices d fair w.in-Err.field-0
-            (subst (λ r. CommandsPort port (clear_call PORT_ENABLE) old r new) w.in-Err.is
-            (c.clear_port.ensures.ports known)) (w.in-Err.ensures.fault known)
+        caused = λ d fair pends caused. untold_caused _ _ _ s refl went keeps devices d fair
+            (rw w.in-Err.is at (c.clear_port.ensures.ports known)) (w.in-Err.ensures.fault known)
             (w.in-Err.ensures.effect known) caused;
       })
     ])

@@ -17,43 +17,42 @@ up-init g c = record {
 
 pub up-smaller : goal.up-smaller
 up-smaller g c =
-    let one = parent_length c.up.path c.in-Some.above (sym c.in-Some.ensures) in
-    omega (arith, one)
+    let one = parent_length c.up.path (sym c.in-Some.ensures) in
+    omega arith
 
 pub up-preserved : goal.up-preserved
 up-preserved g c =
     let i = c.up.invariant in
     let parent = sym c.in-Some.ensures in
-    let one = parent_length c.up.path c.in-Some.above parent in
+    let one = parent_length c.up.path parent in
     record {
       so = λ known.
-          climbed_on c.args.first c.up.path c.args.self.now c.up.self c.disable.new.self
-          (i.so known) i.most c.disable.result (c.disable.ensures.disables known) c.in-Some.above
+          climbed_on (i.so known) i.most (c.disable.ensures.disables known)
           (failed_by c.in_ok-disable.was c.if-branch.false) parent;
-      rests = host_rests_then c.args.self.now c.up.self _ i.rests c.disable.ensures.rests;
+      rests = host_rests_then c.args.self.now _ i.rests c.disable.ensures.rests;
       on = way_trans c.in-Some.above c.up.path c.args.first
           (way_parent c.up.path c.in-Some.above parent) i.on;
-      least = omega (arith, one);
-      most = omega (arith, one, i.most);
+      least = omega arith;
+      most = omega (arith, i.most);
     }
 
 pub returns-in_err-disable-clause-climbs : goal.returns-in_err-disable-clause-climbs
 returns-in_err-disable-clause-climbs g c known =
     let i = c.up.invariant in
-    climb_fails c.args.first c.up.path c.args.self.now c.up.self c.disable.new.self (i.so known)
-    i.most c.disable.result (c.disable.ensures.disables known) i.least c.from_residual.result
+    climb_fails (i.so known)
+    i.most (c.disable.ensures.disables known) i.least
     c.from_residual.ensures.0
 
 pub returns-then-branch-clause-climbs : goal.returns-then-branch-clause-climbs
 returns-then-branch-clause-climbs g c known =
     let i = c.up.invariant in
-    climb_done c.args.first c.up.path c.args.self.now c.up.self c.disable.new.self (i.so known)
-    i.most c.disable.result (c.disable.ensures.disables known) i.least i.on i.rests
+    climb_done (i.so known)
+    i.most (c.disable.ensures.disables known) i.least i.on i.rests
     (failed_by c.in_ok-disable.was c.if-branch.true)
 
 pub returns-in-None-clause-climbs : goal.returns-in-None-clause-climbs
 returns-in-None-clause-climbs g c known =
     let i = c.up.invariant in
-    climb_top c.args.first c.up.path c.args.self.now c.up.self c.disable.new.self (i.so known)
-    i.most c.disable.result (c.disable.ensures.disables known) i.least i.on i.rests
+    climb_top (i.so known)
+    i.most (c.disable.ensures.disables known) i.least i.on i.rests
     (failed_by c.in_ok-disable.was c.if-branch.false) (sym c.in-None.ensures)

@@ -1,8 +1,7 @@
-use Rattle.std.proofs.Common.{◌≡◌, ap, refl, sym, subst, Some, false}
+use Rattle.std.proofs.Common.{ap, refl}
 use Rattle.std.proofs.lemmas.Result.{err_from_is_err_and}
-use Rattle.usb_table.specs.{has_at, known_port, Table}
-use Rattle.usb_host.specs.{HostState, StandsAt}
-use Rattle.usb_host.proofs.entries.Agreements.{nested_entered, known_some}
+use Rattle.usb_table.specs.{Table}
+use Rattle.usb_host.proofs.entries.Agreements.{nested_entered}
 use Rattle.usb_host.proofs.entries.Balances.{accounts_entered, range_claimed}
 use Rattle.usb_host.proofs.PortLooks.{discover_done, discover_fails, discover_lost}
 use Rattle.usb_host.proofs.entries.RisingEntries.{rises_entered}
@@ -13,30 +12,25 @@ pub invariant_of-self-2 : goal.invariant_of-self-2
 invariant_of-self-2 g c =
     let path = c.args.path.now in
     let finding = c.in_ok-finding.finding in
-    let away = subst (λ (h : HostState). has_at path h.entries ≡ false) (sym c.self.view_is)
-    c.requires.away in
-    let known = subst (λ (h : HostState). known_port path h.entries ≡ Some c.args.port)
-    (sym c.self.view_is) c.requires.port.known in
+    let away = rw (← c.self.view_is) at c.requires.away in
+    let known = rw (← c.self.view_is) at c.requires.port.known in
     let claims = c.in_ok-finding.ensures.pool in
     rw (c.in_ok-enter.ensures.ok.0, c.duplicate.ensures, c.in_ok-enter.ensures.ok.1) (record {
       rises = rises_entered path finding c.self.inside.table.entries c.self.invariant.rises;
       range = range_claimed finding c.self.inside.pool c.enumerate.new.pool claims
           c.self.invariant.range;
-      accounts = accounts_entered path finding c.self.inside.table.entries c.self.inside.pool
-          c.enumerate.new.pool c.self.invariant.accounts away claims;
-      nested = nested_entered path finding c.self.inside.table.entries c.requires.port.is away
-          (known_some path c.self.inside.table.entries c.args.port known) c.self.invariant.nested;
+      accounts = accounts_entered path finding c.self.invariant.accounts away claims;
+      nested = nested_entered path finding c.requires.port.is away (rw known refl)
+          c.self.invariant.nested;
     })
 
 pub returns-in_err-finding-clause-finds : goal.returns-in_err-finding-clause-finds
 returns-in_err-finding-clause-finds g c known =
     let told = err_from_is_err_and c.from_residual.result c.from_residual.ensures.1 in
-    let s = subst (λ (h : HostState). StandsAt c.args.path.now c.args.port h) (sym c.self.view_is)
-    (placed known c.requires.port) in
-    let away = subst (λ (h : HostState). has_at c.args.path.now h.entries ≡ false)
-    (sym c.self.view_is) c.requires.away in
-    rw (← c.self.view_is, told.1, told.2) (discover_fails c.args.path.now c.args.port _ _ s away
-    c.self.invariant.accounts (c.enumerate.ensures.steps known) refl c.in_err-finding.field-0.0
+    let s = rw (← c.self.view_is) at (placed known c.requires.port) in
+    let away = rw (← c.self.view_is) at c.requires.away in
+    rw (← c.self.view_is, told.1, told.2) (discover_fails s away c.self.invariant.accounts
+    (c.enumerate.ensures.steps known) refl
     (rw c.tier.ensures at (c.in_err-finding.ensures.ends known)) refl refl
     c.in_err-finding.ensures.pool (c.in_err-finding.ensures.told known))
 
@@ -44,22 +38,18 @@ pub returns-in_err-enter-clause-finds : goal.returns-in_err-enter-clause-finds
 returns-in_err-enter-clause-finds g c known =
     let told = err_from_is_err_and c.from_residual-in_err-enter.result
     c.from_residual-in_err-enter.ensures.1 in
-    let s = subst (λ (h : HostState). StandsAt c.args.path.now c.args.port h) (sym c.self.view_is)
-    (placed known c.requires.port) in
-    let away = subst (λ (h : HostState). has_at c.args.path.now h.entries ≡ false)
-    (sym c.self.view_is) c.requires.away in
-    rw (← c.self.view_is, told.1, told.2) (discover_lost c.args.path.now c.args.port _ _ s away
-    c.self.invariant.accounts (c.enumerate.ensures.steps known) refl c.in_ok-finding.finding
+    let s = rw (← c.self.view_is) at (placed known c.requires.port) in
+    let away = rw (← c.self.view_is) at c.requires.away in
+    rw (← c.self.view_is, told.1, told.2) (discover_lost s away c.self.invariant.accounts
+    (c.enumerate.ensures.steps known) refl
     (rw c.tier.ensures at (c.in_ok-finding.ensures.ends known))
     (ap (λ (t : Table). t.entries) c.in_err-enter.ensures.err.0))
 
 pub returns-clause-finds : goal.returns-clause-finds
 returns-clause-finds g c known =
-    let s = subst (λ (h : HostState). StandsAt c.args.path.now c.args.port h) (sym c.self.view_is)
-    (placed known c.requires.port) in
-    let away = subst (λ (h : HostState). has_at c.args.path.now h.entries ≡ false)
-    (sym c.self.view_is) c.requires.away in
-    rw (← c.self.view_is) (discover_done c.args.path.now c.args.port _ _ s away
-    c.self.invariant.accounts (c.enumerate.ensures.steps known) refl c.in_ok-finding.finding
+    let s = rw (← c.self.view_is) at (placed known c.requires.port) in
+    let away = rw (← c.self.view_is) at c.requires.away in
+    rw (← c.self.view_is) (discover_done s away c.self.invariant.accounts
+    (c.enumerate.ensures.steps known) refl
     (rw c.tier.ensures at (c.in_ok-finding.ensures.ends known))
     (rw c.duplicate.ensures at c.in_ok-enter.ensures.ok.0))

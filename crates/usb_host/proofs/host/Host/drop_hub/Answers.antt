@@ -1,9 +1,9 @@
-use Rattle.std.proofs.Common.{◌≡◌, ◌∙◌, ap, refl, sym, subst, false}
+use Rattle.std.proofs.Common.{◌≡◌, ◌∙◌, ap, refl, sym, subst}
 use Rattle.std.proofs.lemmas.Result.{err_from_is_err_and}
 use Rattle.std.specs.Prelude.{IsSome}
 use Rattle.usb_enum.specs.{Lost}
 use Rattle.usb_enum.specs.declared.finding.Finding.TheVariants.{Refused}
-use Rattle.usb_table.specs.{Entries, has_at, without, known_port, Table, entered}
+use Rattle.usb_table.specs.{without, Table, entered}
 use Rattle.usb_table.proofs.Interface.{known_port-without}
 use Rattle.usb_host.specs.{HostState, table_in}
 use Rattle.usb_host.proofs.entries.Agreements.{nested_entered}
@@ -16,28 +16,26 @@ pub invariant_of-self-2 : goal.invariant_of-self-2
 invariant_of-self-2 g c =
     let path = c.in_ok-lost.lost in
     let f = c.forget.ensures in
-    let away = subst (λ (h : HostState). has_at path h.entries ≡ false) (sym c.self.view_is)
-    f.gone in
+    let away = rw (← c.self.view_is) at f.gone in
     let left : c.self.inside.table.entries ≡ without path c.args.self.now.entries =
-    ap (λ (h : HostState). h.entries) c.self.view_is ∙ f.rest
-    ∙ ap (λ (h : HostState). without path h.entries) c.in_ok-lost.ensures.rests in
-    let known = subst (λ (es : Entries). IsSome (known_port path es)) (sym left)
-    (subst IsSome (sym (known_port-without path c.args.self.now.entries)) c.in_ok-lost.ensures.ends)
+    ap (λ (h : HostState). h.entries) c.self.view_is ∙ f.rest ∙ ap
+    (λ (h : HostState). without path h.entries) c.in_ok-lost.ensures.rests in
+    let known = rw (← left) at (subst IsSome (sym (known_port-without path c.args.self.now.entries))
+    c.in_ok-lost.ensures.ends)
     in
     rw c.in_ok-insert.ensures.ok (record {
       rises = rises_entered path (Refused Lost) c.self.inside.table.entries c.self.invariant.rises;
       range = c.self.invariant.range;
-      accounts = accounts_entered path (Refused Lost) c.self.inside.table.entries
-          c.self.inside.pool c.self.inside.pool c.self.invariant.accounts away refl;
-      nested = nested_entered path (Refused Lost) c.self.inside.table.entries
-          c.numbers-numbers.ensures.path away known c.self.invariant.nested;
+      accounts = accounts_entered path (Refused Lost) c.self.invariant.accounts away refl;
+      nested = nested_entered path (Refused Lost) c.numbers-numbers.ensures.path away known
+          c.self.invariant.nested;
     })
 
 pub returns-in_err-lost-clause-drops : goal.returns-in_err-lost-clause-drops
 returns-in_err-lost-clause-drops g c known =
     let told = err_from_is_err_and c.from_residual.result c.from_residual.ensures.1 in
-    rw (told.1, told.2) (drop_untold c.args.hub c.in_err-lost.field-0.0 c.args.self.now
-    c.disable_upward.new.self c.in_err-lost.ensures.rests (c.in_err-lost.ensures.climbs known))
+    rw (told.1, told.2) (drop_untold c.args.hub c.in_err-lost.ensures.rests
+    (c.in_err-lost.ensures.climbs known))
 
 pub returns-in_err-insert-clause-drops : goal.returns-in_err-insert-clause-drops
 returns-in_err-insert-clause-drops g c known =
@@ -48,11 +46,10 @@ returns-in_err-insert-clause-drops g c known =
       pipes = c.insert.new.self.pipes;
       addresses = c.self.inside.pool;
     }) c.self.view_is in
-    let same = ap (λ (t : Table). t.entries) c.in_err-insert.ensures.err
-    ∙ ap (λ (h : HostState). h.entries) c.self.view_is in
-    rw told.1 (drop_unlisted c.args.hub c.in_ok-lost.lost c.args.self.now
-    c.disable_upward.new.self c.forget.new.self _ c.in_ok-lost.ensures.rests
-    (c.in_ok-lost.ensures.climbs known) c.forget.ensures others told.0 same)
+    let same = ap (λ (t : Table). t.entries) c.in_err-insert.ensures.err ∙ ap
+    (λ (h : HostState). h.entries) c.self.view_is in
+    rw told.1 (drop_unlisted _ c.in_ok-lost.ensures.rests (c.in_ok-lost.ensures.climbs known)
+    c.forget.ensures others told.0 same)
 
 pub returns-clause-drops : goal.returns-clause-drops
 returns-clause-drops g c known =
@@ -61,9 +58,9 @@ returns-clause-drops g c known =
       pipes = c.insert.new.self.pipes;
       addresses = c.self.inside.pool;
     }) c.self.view_is in
-    let table = c.in_ok-insert.ensures.ok
-    ∙ ap (λ (h : HostState). entered c.in_ok-lost.lost (Refused Lost) (table_in h))
+    let table = c.in_ok-insert.ensures.ok ∙ ap
+    (λ (h : HostState). entered c.in_ok-lost.lost (Refused Lost) (table_in h))
     c.self.view_is in
-    drop_done c.args.hub c.in_ok-lost.lost c.args.self.now c.disable_upward.new.self
-    c.forget.new.self _ c.in_ok-lost.ensures.rests (c.in_ok-lost.ensures.climbs known)
+    drop_done
+    _ c.in_ok-lost.ensures.rests (c.in_ok-lost.ensures.climbs known)
     c.forget.ensures others c.numbers-numbers.ensures.path table

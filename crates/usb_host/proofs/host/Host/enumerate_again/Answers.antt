@@ -6,7 +6,7 @@ use Rattle.usb_host.proofs.host.Host.enumerate_again.Goals as goal
 
 pub renew-requires : goal.renew-requires
 renew-requires g c =
-    placed_on _ clearing_bound c.args.path.now c.args.port c.args.self.now c.clear_change.new.self
+    placed_on _ clearing_bound
     c.in_ok-status.ensures.rests (λ known.
     (c.clear_change.ensures.clears known).requested.goes.went)
     c.requires
@@ -14,12 +14,11 @@ renew-requires g c =
 pub returns-in_err-status : goal.returns-in_err-status
 returns-in_err-status g c known =
     let told = err_from_is_err_and c.from_residual.result c.from_residual.ensures.1 in
-    rw (told.1, told.2) (look_fails c.args.path.now c.args.port c.args.self.now
-    c.clear_change.new.self c.in_err-status.field-0.0 (placed known c.requires)
+    rw (told.1, told.2) (look_fails c.args.port (placed known c.requires)
     c.in_err-status.ensures.rests (c.in_err-status.ensures.clears known))
 
 pub returns : goal.returns
 returns g c known =
-    look_done c.args.path.now c.args.port c.args.self.now c.clear_change.new.self c.renew.new.self
-    c.renew.result c.in_ok-status.status (placed known c.requires) c.in_ok-status.ensures.rests
+    look_done
+    c.renew.result (placed known c.requires) c.in_ok-status.ensures.rests
     (c.in_ok-status.ensures.clears known) (c.renew.ensures.renews known)

@@ -1,6 +1,5 @@
-use Rattle.std.proofs.Common.{◌≡◌, ◌∙◌, List, ℕ, sym, ap, subst}
+use Rattle.std.proofs.Common.{◌≡◌, ◌∙◌, List, ℕ, sym, ap, subst, arith, rules}
 use Rattle.std.proofs.lemmas.Grind.{common_steps}
-use Rattle.std.proofs.Common.{arith, rules}
 use Rattle.usb_resources.specs.{Addresses, HasAddresses, IsFull}
 use Rattle.usb_table.proofs.Interface.{none_apart}
 use Rattle.usb_table.specs.{Entries, without, Table, pipes_at}
@@ -12,10 +11,10 @@ use Rattle.usb_host.proofs.entries.RisingEntries.{rises_without}
 use Rattle.usb_host.proofs.host.Host.forget.Goals as goal
 
 -- what is left agrees with the addresses that are left
-agrees_left : (path : List ℕ) (old : Entries) (before : Addresses) (new : Entries)
-    (after : Addresses) → Agrees old before → new ≡ without path old → Accounts new after
+agrees_left : (path : List ℕ) {old : Entries} {before : Addresses} {new : Entries}
+    {after : Addresses} → Agrees old before → new ≡ without path old → Accounts new after
     → HasAddresses after → Agrees new after
-agrees_left path old before new after agrees left accounts range = record {
+agrees_left path {old = old} agrees left accounts range = record {
   rises = rw left (rises_without path old agrees.rises);
   range = range;
   accounts = accounts;
@@ -25,18 +24,18 @@ agrees_left path old before new after agrees left accounts range = record {
 pub invariant_of-self : goal.invariant_of-self
 invariant_of-self g c =
     let i = c.entries.invariant in
-    let left = ap (λ (t : Table). t.entries) c.in_default.ensures.same
-    ∙ sym (none_apart c.args.path.now c.entries.self-inside.table.entries c.in_default.ensures.none)
+    let left = ap (λ (t : Table). t.entries) c.in_default.ensures.same ∙ sym
+    (none_apart c.args.path.now c.entries.self-inside.table.entries c.in_default.ensures.none)
     ∙ i.rest in
-    agrees_left c.args.path.now c.self.inside.table.entries c.self.inside.pool _ _ c.self.invariant
+    agrees_left c.args.path.now c.self.invariant
     left (rw c.in_default.ensures.same i.accounts) i.range
 
 pub returns : goal.returns
 returns g c =
     let i = c.entries.invariant in
     let same = c.in_default.ensures.same in
-    let left = ap (λ (t : Table). t.entries) same
-    ∙ sym (none_apart c.args.path.now c.entries.self-inside.table.entries c.in_default.ensures.none)
+    let left = ap (λ (t : Table). t.entries) same ∙ sym
+    (none_apart c.args.path.now c.entries.self-inside.table.entries c.in_default.ensures.none)
     ∙ i.rest in
     record {
       others = first_of (search rules, grind (arith, common_steps));
@@ -44,9 +43,8 @@ returns g c =
       rest = left ∙ ap (λ (h : HostState). without c.args.path.now h.entries) c.self.view_is;
       full = λ full. subst (λ (h : HostState). IsFull h.addresses) c.self.view_is (i.full full);
       pipes = λ q away.
-          ap (λ (t : Table). pipes_at q t) same
-          ∙ i.pipes q (at_or_below_way q c.args.path.now ∙ away)
-          ∙ ap (λ (h : HostState). pipes_at q (table_in h)) c.self.view_is;
-      agrees = agrees_left c.args.path.now c.self.inside.table.entries c.self.inside.pool _ _
-          c.self.invariant left (rw same i.accounts) i.range;
+          ap (λ (t : Table). pipes_at q t) same ∙ i.pipes q
+          (at_or_below_way q c.args.path.now ∙ away) ∙ ap
+          (λ (h : HostState). pipes_at q (table_in h)) c.self.view_is;
+      agrees = agrees_left c.args.path.now c.self.invariant left (rw same i.accounts) i.range;
     }

@@ -4,14 +4,11 @@ use Rattle.usb_host.proofs.host.Host.handle_own.Goals as goal
 
 pub drop_lost_parent-requires : goal.drop_lost_parent-requires
 drop_lost_parent-requires g c known =
-    breaks c.args.path.now c.args.port c.args.self.now c.clear_own-cleared.result _
-    (placed known c.requires) (c.clear_own-cleared.ensures.clears known).requested.told
+    breaks c.clear_own-cleared.result _ (placed known c.requires)
+    (c.clear_own-cleared.ensures.clears known).requested.told
 
 pub returns-clause-serves : goal.returns-clause-serves
 returns-clause-serves g c known =
-    own_finished c.args.path.now c.args.port c.args.self.now c.clear_own-cleared.new.self
-    c.drop_lost_parent.new.self (placed known c.requires) c.clear_own-cleared.result
-    c.drop_lost_parent.result
+    own_finished (placed known c.requires)
     c.drop_lost_parent.ensures.ends (c.drop_lost_parent.ensures.finishes known)
-    c.clear_own-cleared.ensures.rests
-    (c.clear_own-cleared.ensures.clears known)
+    c.clear_own-cleared.ensures.rests (c.clear_own-cleared.ensures.clears known)

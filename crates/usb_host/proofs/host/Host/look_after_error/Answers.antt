@@ -8,35 +8,32 @@ use Rattle.usb_host.proofs.host.Host.look_after_error.Goals as goal
 
 pub renew-requires : goal.renew-requires
 renew-requires g c =
-    placed_on _ clearing_bound c.args.path.now c.args.port c.args.self.now c.clear_error.new.self
+    placed_on _ clearing_bound
     c.in_ok-status.ensures.rests (λ known. (c.clear_error.ensures.clears known).requested.goes.went)
     c.requires
 
 pub returns-in_err-status-clause-looks : goal.returns-in_err-status-clause-looks
 returns-in_err-status-clause-looks g c known =
     let told = err_from_is_err_and c.from_residual.result c.from_residual.ensures.1 in
-    rw (told.1, told.2) (error_look_fails c.args.path.now c.args.port c.args.self.now
-    c.clear_error.new.self c.in_err-status.field-0.0
-    c.in_err-status.ensures.rests (c.in_err-status.ensures.clears known))
+    rw (told.1, told.2) (error_look_fails c.args.path.now c.args.port c.in_err-status.ensures.rests
+    (c.in_err-status.ensures.clears known))
 
 pub returns-clause-looks : goal.returns-clause-looks
 returns-clause-looks g c known =
-    error_look_done c.args.path.now c.args.port c.args.self.now c.clear_error.new.self
-    c.renew.new.self
-    c.renew.result c.in_ok-status.status (placed known c.requires) c.in_ok-status.ensures.rests
+    error_look_done (placed known c.requires) c.in_ok-status.ensures.rests
     (c.in_ok-status.ensures.clears known) (c.renew.ensures.renews known)
 
 pub returns-in_err-status-clause-hubs : goal.returns-in_err-status-clause-hubs
 returns-in_err-status-clause-hubs g c =
     omega (
       arith,
-      hubs-rest c.args.self.now c.clear_error.new.self c.in_err-status.ensures.rests,
+      hubs-rest c.args.self.now c.in_err-status.ensures.rests,
     )
 
 pub returns-clause-hubs : goal.returns-clause-hubs
 returns-clause-hubs g c =
     omega (
       arith,
-      hubs-rest c.args.self.now c.clear_error.new.self c.in_ok-status.ensures.rests,
+      hubs-rest c.args.self.now c.in_ok-status.ensures.rests,
       c.renew.ensures.hubs,
     )

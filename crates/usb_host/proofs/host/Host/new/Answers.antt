@@ -1,7 +1,7 @@
 use Rattle.std.proofs.Common.{◌≡◌, ◌∙◌, ◌-◌, ◌+◌, ℕ, ap, arith, refl, sym, subst}
 use Rattle.usb_request.specs.{PORT_POWER}
 use Rattle.usb_world.specs.{World, roots_of}
-use Rattle.usb_bus.specs.{Traced, still}
+use Rattle.usb_bus.specs.{still, Traced}
 use Rattle.usb_bus.proofs.Interface.{traced_set}
 use Rattle.usb_host.proofs.parts.Powers.{powered_none, powered_length, powers_one, powered_all}
 use Rattle.usb_host.proofs.parts.Powers.{powered_world}
@@ -9,7 +9,7 @@ use Rattle.usb_host.proofs.entries.Agreements.{nested_none}
 use Rattle.usb_host.proofs.entries.RisingEntries.{rises_none}
 use Rattle.usb_host.proofs.entries.Balances.{accounts_none, range_none}
 use Rattle.usb_host.proofs.parts.Openings.{powered_is_opening, owning_opening, sound_opening}
-use Rattle.usb_host.specs.{HostState, HostMapHolds, HostInvariant}
+use Rattle.usb_host.specs.{HostMapHolds, HostInvariant, HostState}
 use Rattle.usb_host.proofs.host.Host.new.Goals as goal
 
 pub ports-init : goal.ports-init
@@ -23,12 +23,7 @@ pub root_set-requires-clause-port : goal.root_set-requires-clause-port
 root_set-requires-clause-port g c known =
     let len = powered_length _ _ _ (c.ports.invariant.powered known) in (
       c.ports.auto.port,
-      omega (
-        arith,
-        c.ports-test.true,
-        c.root_ports-roots.ensures.count known,
-        len,
-      ),
+      omega (arith, c.ports-test.true, c.root_ports-roots.ensures.count known),
     )
 
 pub ports-preserved : goal.ports-preserved
@@ -66,8 +61,8 @@ returns g c known =
       c.root_ports-roots.ensures.least,
     ) in
     let opens = powered_is_opening w0 _ _ _ _ _
-    (powered_all w0 _ (c.ports.port - 1) all (c.ports.invariant.powered known))
-    (c.ports.invariant.silent known) c.new-2.ensures c.new.ensures.empty in
+    (powered_all w0 _ all (c.ports.invariant.powered known)) (c.ports.invariant.silent known)
+    c.new-2.ensures c.new.ensures.empty in
     record {
       opens = opens;
       traced = c.ports.invariant.traced known;

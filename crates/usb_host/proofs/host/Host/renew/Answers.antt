@@ -5,7 +5,7 @@ use Rattle.usb_host.proofs.host.Host.renew.Goals as goal
 
 pub discover-requires-clause-port : goal.discover-requires-clause-port
 discover-requires-clause-port g c =
-    forgot_placed _ c.args.path.now c.args.port c.args.self.now c.forget.new.self c.forget.ensures
+    forgot_placed c.forget.ensures
     c.requires
 
 pub returns-then-status-clause-renews : goal.returns-then-status-clause-renews

@@ -4,27 +4,22 @@ use Rattle.usb_host.proofs.host.Host.retry_one.Goals as goal
 
 pub drop_lost_parent-requires : goal.drop_lost_parent-requires
 drop_lost_parent-requires g c known =
-    breaks c.args.path.now c.in-Some.port c.args.self.now c.enumerate_again-looked.result _
-    (placed known c.in-Some.ensures.some) (c.enumerate_again-looked.ensures known).requested.told
+    breaks c.enumerate_again-looked.result _ (placed known c.in-Some.ensures.some)
+    (c.enumerate_again-looked.ensures known).requested.told
 
 pub returns-in_default-clause-looks : goal.returns-in_default-clause-looks
 returns-in_default-clause-looks g c known =
-    look_nowhere c.args.path.now c.args.self.now (c.in_default.ensures.none known) c.requires
+    look_nowhere (c.in_default.ensures.none known) c.requires
 
 pub returns-in_err-drop_lost_parent-clause-looks : goal.returns-in_err-drop_lost_parent-clause-looks
 returns-in_err-drop_lost_parent-clause-looks g c known =
-    look_once_fails c.args.path.now c.in-Some.port c.args.self.now c.enumerate_again-looked.new.self
-    c.drop_lost_parent.new.self (placed known c.in-Some.ensures.some)
-    c.enumerate_again-looked.result
-    c.in_err-drop_lost_parent.field-0.0 c.in_err-drop_lost_parent.ensures.ends
-    (c.in_err-drop_lost_parent.ensures.finishes known) (c.enumerate_again-looked.ensures known)
-    c.from_residual.result c.from_residual.ensures.0
+    look_once_fails (placed known c.in-Some.ensures.some)
+    c.in_err-drop_lost_parent.ensures.ends (c.in_err-drop_lost_parent.ensures.finishes known)
+    (c.enumerate_again-looked.ensures known)
+    c.from_residual.ensures.0
 
 pub returns-clause-looks : goal.returns-clause-looks
 returns-clause-looks g c known =
-    look_once c.args.path.now c.in-Some.port c.args.self.now c.enumerate_again-looked.new.self
-    c.drop_lost_parent.new.self (placed known c.in-Some.ensures.some)
-    c.enumerate_again-looked.result
+    look_once (placed known c.in-Some.ensures.some)
     c.in_ok-drop_lost_parent.ensures.ends (c.in_ok-drop_lost_parent.ensures.finishes known)
-    c.requires
-    (c.enumerate_again-looked.ensures known)
+    c.requires (c.enumerate_again-looked.ensures known)

@@ -11,20 +11,16 @@ pub waiting-smaller : goal.waiting-smaller
 waiting-smaller g c =
     let rises = rank_rises c.waiting.last c.in-Some.path c.waiting.invariant.path
     c.retry_one.ensures.path c.in-Some.ensures.some.1 in
-    omega (arith, rises, rank_most c.in-Some.path c.retry_one.ensures.path)
+    omega (arith, rank_most c.in-Some.path c.retry_one.ensures.path)
 
 pub waiting-preserved : goal.waiting-preserved
 waiting-preserved g c =
     let i = c.waiting.invariant in
     let some = c.in-Some.ensures.some in
     record {
-      so = λ known. rw c.and-round.ensures (waiting_handled c.waiting.last c.in-Some.path
-          c.waiting.round c.args.self.now c.waiting.self c.retry_one.new.self (i.so known)
-          i.path c.retry_one.ensures.path some.0 some.1 c.in_ok-retry_one.field-0
-          (c.in_ok-retry_one.ensures.looks known));
-      idle = λ none.
-          absurd (one_waits c.args.self.now c.waiting.self c.in-Some.path (i.idle none).1 some.0
-          none);
+      so = λ known. rw c.and-round.ensures (waiting_handled (i.so known) i.path
+          c.retry_one.ensures.path some.0 some.1 (c.in_ok-retry_one.ensures.looks known));
+      idle = λ none. absurd (one_waits (i.idle none).1 some.0 none);
       path = c.retry_one.ensures.path;
     }
 
@@ -32,13 +28,11 @@ pub returns-in_err-retry_one-clause-looks : goal.returns-in_err-retry_one-clause
 returns-in_err-retry_one-clause-looks g c known =
     let i = c.waiting.invariant in
     let some = c.in-Some.ensures.some in
-    waiting_cut c.waiting.last c.in-Some.path c.waiting.round c.args.self.now c.waiting.self
-    c.retry_one.new.self (i.so known) i.path c.retry_one.ensures.path some.0 some.1
-    c.in_err-retry_one.field-0.0 c.from_residual.result c.from_residual.ensures.0
-    (c.in_err-retry_one.ensures.looks known) (λ none. (i.idle none).1)
+    waiting_cut (i.so known) i.path c.retry_one.ensures.path some.0 some.1
+    c.from_residual.ensures.0 (c.in_err-retry_one.ensures.looks known) (λ none. (i.idle none).1)
 
 pub returns-clause-looks : goal.returns-clause-looks
 returns-clause-looks g c known =
     let i = c.waiting.invariant in
-    waiting_end c.waiting.last c.waiting.round c.args.self.now c.waiting.self (i.so known) i.path
+    waiting_end (i.so known) i.path
     c.in_default.ensures.agree c.in_default.ensures.none i.idle

@@ -1,13 +1,13 @@
 use Rattle.std.proofs.Common.{arith, rules, ◌≡◌, ap, refl, sym, subst, ◌∙◌}
-use Rattle.std.specs.Prelude.{IfOk}
 use Rattle.std.proofs.lemmas.Grind.{common_steps}
-use Rattle.usb_host.specs.{round_bound, PaysRound, HostState, HostSteps, DidParts, RoundsSound}
+use Rattle.usb_host.specs.{round_bound, HostState, RoundsSound, PaysRound, HostSteps, DidParts}
 use Rattle.usb_host.proofs.payments.RoundPayments.{pays_stopped, stopped_pays}
 use Rattle.usb_host.proofs.rests.IdleRounds.{round_rests}
 use Rattle.usb_host.proofs.StepSums.{host_goes_none}
 use Rattle.usb_host.proofs.devices.Owners.{round_owning}
 use Rattle.usb_host.proofs.services.RoundServices.{parts_done}
 use Rattle.usb_host.proofs.knowledge.Soundness.{rounds_stopped}
+use Rattle.std.specs.Prelude.{IfOk}
 use Rattle.usb_host.proofs.host.Host.round.Goals as goal
 
 pub returns-then-self-clause-stopped : goal.returns-then-self-clause-stopped
@@ -16,13 +16,13 @@ returns-then-self-clause-stopped g c = first_of (search rules, grind (arith, com
 pub returns-then-self-clause-tells : goal.returns-then-self-clause-tells
 returns-then-self-clause-tells g c known = record {
   stopped = returns-then-self-clause-stopped g c;
-  went = (host_goes_none round_bound c.args.self.now).went;
+  went = (host_goes_none {n = round_bound} {h = c.args.self.now}).went;
   told = tt;
   did = tt;
   keeps = record {
     owning = λ o. o;
     sound = record { keeps = tt; rest = λ s is. absurd (cc is) };
-    pays = λ w plan x. stopped_pays w plan _ c.args.self.now;
+    pays = λ w plan x. stopped_pays w plan c.args.self.now;
     rests = λ entries none. refl;
   };
 }

@@ -4,27 +4,21 @@ use Rattle.usb_host.proofs.host.Host.run_round.Goals as goal
 
 pub returns-in_err-roots-clause-parts : goal.returns-in_err-roots-clause-parts
 returns-in_err-roots-clause-parts g c known =
-    parts_rootless c.args.self.now c.serve_roots.new.self c.in_err-roots.field-0.0
-    c.from_residual.result c.from_residual.ensures.0 (c.in_err-roots.ensures.roots known)
+    parts_rootless
+    c.from_residual.ensures.0 (c.in_err-roots.ensures.roots known)
 
 pub returns-in_err-hubs-clause-parts : goal.returns-in_err-hubs-clause-parts
 returns-in_err-hubs-clause-parts g c known =
-    parts_hubless c.args.self.now c.serve_roots.new.self c.in_ok-roots.roots
-    (c.in_ok-roots.ensures.roots known) c.serve_hubs.new.self c.in_err-hubs.field-0.0
-    c.from_residual-in_err-hubs.result c.from_residual-in_err-hubs.ensures.0
-    (c.in_err-hubs.ensures.hubs known)
+    parts_hubless (c.in_ok-roots.ensures.roots known)
+    c.from_residual-in_err-hubs.ensures.0 (c.in_err-hubs.ensures.hubs known)
 
 pub returns-in_err-looks-clause-parts : goal.returns-in_err-looks-clause-parts
 returns-in_err-looks-clause-parts g c known =
-    parts_lookless c.args.self.now c.serve_roots.new.self c.in_ok-roots.roots
-    (c.in_ok-roots.ensures.roots known) c.serve_hubs.new.self c.in_ok-hubs.hubs
-    (c.in_ok-hubs.ensures.hubs known) c.retry_waiting.new.self c.in_err-looks.field-0.0
-    c.from_residual-in_err-looks.result c.from_residual-in_err-looks.ensures.0
-    (c.in_err-looks.ensures.looks known)
+    parts_lookless (c.in_ok-roots.ensures.roots known) (c.in_ok-hubs.ensures.hubs known)
+    c.retry_waiting.new.self
+    c.from_residual-in_err-looks.ensures.0 (c.in_err-looks.ensures.looks known)
 
 pub returns-clause-parts : goal.returns-clause-parts
 returns-clause-parts g c known =
-    rw (c.and-2.ensures, c.and.ensures) (parts_made c.args.self.now c.serve_roots.new.self
-    c.in_ok-roots.roots (c.in_ok-roots.ensures.roots known) c.serve_hubs.new.self
-    c.in_ok-hubs.hubs (c.in_ok-hubs.ensures.hubs known) c.retry_waiting.new.self c.in_ok-looks.looks
-    (c.in_ok-looks.ensures.looks known))
+    rw (c.and-2.ensures, c.and.ensures) (parts_made (c.in_ok-roots.ensures.roots known)
+    (c.in_ok-hubs.ensures.hubs known) c.retry_waiting.new.self (c.in_ok-looks.ensures.looks known))

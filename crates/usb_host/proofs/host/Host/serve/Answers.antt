@@ -7,42 +7,36 @@ use Rattle.usb_host.proofs.host.Host.serve.Goals as goal
 
 pub enumerate_again-requires : goal.enumerate_again-requires
 enumerate_again-requires g c =
-    placed_on _ (read_bound 4) c.args.path.now c.args.port c.args.self.now c.status.new.self
+    placed_on _ (read_bound 4)
     c.in_ok-status.ensures.rests (λ known. (c.status.ensures.shows known).requested.goes.went)
     c.requires
 
 pub look_after_error-requires : goal.look_after_error-requires
 look_after_error-requires g c =
-    placed_on _ (read_bound 4) c.args.path.now c.args.port c.args.self.now c.status.new.self
+    placed_on _ (read_bound 4)
     c.in_ok-status.ensures.rests (λ known. (c.status.ensures.shows known).requested.goes.went)
     c.requires
 
 pub returns-in_err-status : goal.returns-in_err-status
 returns-in_err-status g c known =
     let told = err_from_is_err_and c.from_residual.result c.from_residual.ensures.1 in
-    rw (told.1, told.2) (serve_fails c.args.path.now c.args.port c.args.self.now c.status.new.self
-    c.in_err-status.field-0.0 (placed known c.requires) c.in_err-status.ensures.rests
-    (c.in_err-status.ensures.shows known))
+    rw (told.1, told.2) (serve_fails c.args.port (placed known c.requires)
+    c.in_err-status.ensures.rests (c.in_err-status.ensures.shows known))
 
 pub returns-then-status : goal.returns-then-status
 returns-then-status g c known =
-    serve_looked c.args.path.now c.args.port c.args.self.now c.status.new.self
-    (placed known c.requires) c.in_ok-status.ensures.rests c.in_ok-status.status
-    (c.in_ok-status.ensures.shows known) c.if-status.true c.enumerate_again.result
-    c.enumerate_again.new.self
-    (c.enumerate_again.ensures known)
+    serve_looked (placed known c.requires) c.in_ok-status.ensures.rests
+    (c.in_ok-status.ensures.shows known) c.if-status.true (c.enumerate_again.ensures known)
 
 pub returns-then-has_failed : goal.returns-then-has_failed
 returns-then-has_failed g c known =
-    serve_failed c.args.path.now c.args.port c.args.self.now c.status.new.self
-    (placed known c.requires) c.in_ok-status.ensures.rests c.in_ok-status.status
+    serve_failed (placed known c.requires) c.in_ok-status.ensures.rests
     (c.in_ok-status.ensures.shows known) _ (sym c.has_failed.ensures ∙ c.if-has_failed.true)
-    c.look_after_error.result c.look_after_error.new.self (c.look_after_error.ensures.looks known)
+    (c.look_after_error.ensures.looks known)
     c.look_after_error.ensures.hubs
 
 pub returns-else-has_failed : goal.returns-else-has_failed
 returns-else-has_failed g c known =
-    serve_settled c.args.path.now c.args.port c.args.self.now c.status.new.self
-    (placed known c.requires) c.in_ok-status.ensures.rests c.in_ok-status.status
-    (c.in_ok-status.ensures.shows known) c.if-status.false c.settle.result c.settle.new.self
+    serve_settled (placed known c.requires) c.in_ok-status.ensures.rests
+    (c.in_ok-status.ensures.shows known) c.if-status.false
     c.settle.ensures.rests (c.settle.ensures.settles known)

@@ -1,8 +1,6 @@
-use Rattle.std.proofs.Common.{◌∙◌, ap, refl, rules, arith, sym, subst}
+use Rattle.std.proofs.Common.{◌∙◌, ap, refl, rules, arith}
 use Rattle.std.proofs.lemmas.Grind.{common_steps}
-use Rattle.std.specs.Prelude.{IsSome}
-use Rattle.usb_table.specs.{hub_facts_at}
-use Rattle.usb_host.specs.{HostState, first_byte}
+use Rattle.usb_host.specs.{first_byte}
 use Rattle.usb_host.proofs.HubPolls.{poll_cut, poll_lost, poll_quiet, poll_served, poll_undropped}
 use Rattle.usb_host.proofs.HubPolls.{poll_unserved}
 use Rattle.usb_host.proofs.services.HubServices.{failed_more}
@@ -11,10 +9,9 @@ use Rattle.usb_host.proofs.host.Host.serve_hub.Goals as goal
 pub returns-in-Ok-None-clause-polls : goal.returns-in-Ok-None-clause-polls
 returns-in-Ok-None-clause-polls g c known =
     let p = c.poll.ensures in
-    let listed = subst (λ (h : HostState). IsSome (hub_facts_at c.args.hub.now h.entries))
-    (sym c.self.view_is) c.requires in
-    rw (← c.self.view_is) (poll_quiet c.args.hub.now _ _ c.self.invariant p.through.entries refl
-    refl (p.polls known).went p.through listed _ (c.in-Ok-None.ensures.polls known).polled
+    let listed = rw (← c.self.view_is) at c.requires in
+    rw (← c.self.view_is) (poll_quiet _ _ c.self.invariant p.through.entries refl refl
+    (p.polls known).went p.through listed (c.in-Ok-None.ensures.polls known).polled
     (c.in-Ok-None.ensures.polls known).keeps c.in-Ok-None.field-0-is)
 
 pub returns-in_ok-service_reported-in-Ok-Some-clause-polls :
@@ -23,14 +20,12 @@ returns-in_ok-service_reported-in-Ok-Some-clause-polls g c known =
     let p = c.poll.ensures in
     let some = c.in-Ok-Some.ensures in
     let ends = rw c.in-Ok-Some.field-0-is at (some.polls known).took in
-    let listed = subst (λ (h : HostState). IsSome (hub_facts_at c.args.hub.now h.entries))
-    (sym c.self.view_is) c.requires in
-    rw (← c.self.view_is) (poll_served c.args.hub.now _ _ c.self.invariant p.through.entries refl
-    refl (p.polls known).went p.through listed _ (some.polls known).polled (some.polls known).keeps
-    c.in-Ok-Some.bits c.first_byte.result c.in-Ok-Some.field-0-is
-    (c.first_byte.ensures ∙ ap first_byte c.as_slice.ensures.value) ends.still
-    c.service_reported.new.self ends.least (c.in_ok-service_reported-in-Ok-Some.ensures.serves
-    known))
+    let listed = rw (← c.self.view_is) at c.requires in
+    rw (← c.self.view_is) (poll_served _ _ c.self.invariant p.through.entries refl refl
+    (p.polls known).went p.through listed (some.polls known).polled (some.polls known).keeps
+    c.in-Ok-Some.field-0-is (c.first_byte.ensures ∙ ap first_byte c.as_slice.ensures.value)
+    ends.still c.service_reported.new.self ends.least
+    (c.in_ok-service_reported-in-Ok-Some.ensures.serves known))
 
 pub returns-in_err-service_reported-in-Ok-Some-clause-polls :
     goal.returns-in_err-service_reported-in-Ok-Some-clause-polls
@@ -38,47 +33,38 @@ returns-in_err-service_reported-in-Ok-Some-clause-polls g c known =
     let p = c.poll.ensures in
     let some = c.in-Ok-Some.ensures in
     let ends = rw c.in-Ok-Some.field-0-is at (some.polls known).took in
-    let listed = subst (λ (h : HostState). IsSome (hub_facts_at c.args.hub.now h.entries))
-    (sym c.self.view_is) c.requires in
-    rw (← c.self.view_is) (poll_unserved c.args.hub.now _ _ c.self.invariant p.through.entries
-    refl refl (p.polls known).went p.through listed _ (some.polls known).polled
-    (some.polls known).keeps
-    c.in-Ok-Some.bits c.first_byte.result c.in-Ok-Some.field-0-is
-    (c.first_byte.ensures ∙ ap first_byte c.as_slice.ensures.value) ends.still
-    c.service_reported.new.self c.in_err-service_reported-in-Ok-Some.field-0.0
-    c.from_residual.result
-    c.from_residual.ensures.0 (c.in_err-service_reported-in-Ok-Some.ensures.serves known))
+    let listed = rw (← c.self.view_is) at c.requires in
+    rw (← c.self.view_is) (poll_unserved _ _ c.self.invariant p.through.entries refl refl
+    (p.polls known).went p.through listed (some.polls known).polled (some.polls known).keeps
+    c.in-Ok-Some.field-0-is (c.first_byte.ensures ∙ ap first_byte c.as_slice.ensures.value)
+    ends.still c.service_reported.new.self c.from_residual.result c.from_residual.ensures.0
+    (c.in_err-service_reported-in-Ok-Some.ensures.serves known))
 
 pub returns-in-Err-Bus-clause-polls : goal.returns-in-Err-Bus-clause-polls
 returns-in-Err-Bus-clause-polls g c known =
     let p = c.poll.ensures in
-    let listed = subst (λ (h : HostState). IsSome (hub_facts_at c.args.hub.now h.entries))
-    (sym c.self.view_is) c.requires in
-    rw (← c.self.view_is) (poll_cut c.args.hub.now _ _ c.self.invariant p.through.entries refl
-    refl (p.polls known).went p.through listed _ (p.polls known).keeps _)
+    let listed = rw (← c.self.view_is) at c.requires in
+    rw (← c.self.view_is) (poll_cut _ _ c.self.invariant p.through.entries refl refl
+    (p.polls known).went p.through listed (p.polls known).keeps _)
 
 pub returns-in_err-drop_hub-in-Err-clause-polls : goal.returns-in_err-drop_hub-in-Err-clause-polls
 returns-in_err-drop_hub-in-Err-clause-polls g c known =
     let p = c.poll.ensures in
-    let listed = subst (λ (h : HostState). IsSome (hub_facts_at c.args.hub.now h.entries))
-    (sym c.self.view_is) c.requires in
-    rw (← c.self.view_is) (poll_undropped c.args.hub.now _ _ c.self.invariant p.through.entries
-    refl refl (p.polls known).went p.through listed c.in-Err.field-0
-    (c.in-Err.ensures.polls known).polled
-    (c.in-Err.ensures.polls known).keeps c.drop_hub.new.self c.in_err-drop_hub-in-Err.field-0.0
+    let listed = rw (← c.self.view_is) at c.requires in
+    rw (← c.self.view_is) (poll_undropped _ _ c.self.invariant p.through.entries refl refl
+    (p.polls known).went p.through listed (c.in-Err.ensures.polls known).polled
+    (c.in-Err.ensures.polls known).keeps c.drop_hub.new.self
     c.from_residual-in_err-drop_hub-in-Err.result c.from_residual-in_err-drop_hub-in-Err.ensures.0
     (rw c.duplicate.ensures at (c.in_err-drop_hub-in-Err.ensures.drops known)))
 
 pub returns-in_ok-drop_hub-in-Err-clause-polls : goal.returns-in_ok-drop_hub-in-Err-clause-polls
 returns-in_ok-drop_hub-in-Err-clause-polls g c known =
     let p = c.poll.ensures in
-    let listed = subst (λ (h : HostState). IsSome (hub_facts_at c.args.hub.now h.entries))
-    (sym c.self.view_is) c.requires in
+    let listed = rw (← c.self.view_is) at c.requires in
     let more = failed_more _ _ c.in-Err.field-0
     (λ told is. first_of (search rules, grind (arith, common_steps)))
     (c.in-Err.ensures.polls known).took in
-    rw (← c.self.view_is) (poll_lost c.args.hub.now _ _ c.self.invariant p.through.entries refl
-    refl (p.polls known).went p.through listed c.in-Err.field-0
-    (c.in-Err.ensures.polls known).polled
+    rw (← c.self.view_is) (poll_lost _ _ c.self.invariant p.through.entries refl refl
+    (p.polls known).went p.through listed (c.in-Err.ensures.polls known).polled
     (c.in-Err.ensures.polls known).keeps c.drop_hub.new.self more
     (rw c.duplicate.ensures at (c.in_ok-drop_hub-in-Err.ensures.drops known)))

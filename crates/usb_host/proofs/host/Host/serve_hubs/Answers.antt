@@ -1,5 +1,4 @@
 use Rattle.std.proofs.Common.{arith, refl}
-use Rattle.usb_table.specs.{is_hub}
 use Rattle.usb_host.proofs.rests.IdleRounds.{none_next}
 use Rattle.usb_host.proofs.entries.Ranks.{rank_most, rank_rises}
 use Rattle.usb_host.proofs.rests.RestingRounds.{next_listed}
@@ -10,40 +9,33 @@ pub hubs-init : goal.hubs-init
 hubs-init g c = record { so = λ known. hubs_begin _; idle = λ none. (refl, refl); path = tt }
 
 pub serve_hub-requires : goal.serve_hub-requires
-serve_hub-requires g c = next_listed c.hubs.last c.in-Some.hub c.hubs.self.entries
-    c.in-Some.ensures.some
+serve_hub-requires g c = next_listed c.in-Some.ensures.some
 
 pub hubs-smaller : goal.hubs-smaller
 hubs-smaller g c =
     let rises = rank_rises c.hubs.last c.in-Some.hub c.hubs.invariant.path c.serve_hub.ensures.path
     c.in-Some.ensures.some.stands.after in
-    omega (arith, rises, rank_most c.in-Some.hub c.serve_hub.ensures.path)
+    omega (arith, rank_most c.in-Some.hub c.serve_hub.ensures.path)
 
 pub hubs-preserved : goal.hubs-preserved
 hubs-preserved g c =
     let i = c.hubs.invariant in
     let next = c.in-Some.ensures.some in
     record {
-      so = λ known. rw c.and-round.ensures (hubs_handled c.hubs.last c.in-Some.hub c.hubs.round
-          c.args.self.now c.hubs.self c.serve_hub.new.self (i.so known) i.path
-          c.serve_hub.ensures.path next c.in_ok-serve_hub.field-0
-          (c.in_ok-serve_hub.ensures.polls known));
-      idle = λ none.
-          absurd (none_next is_hub c.hubs.last c.args.self.now c.hubs.self c.in-Some.hub
-          (i.idle none).1 none next);
+      so = λ known. rw c.and-round.ensures (hubs_handled (i.so known) i.path
+          c.serve_hub.ensures.path next (c.in_ok-serve_hub.ensures.polls known));
+      idle = λ none. absurd (none_next (i.idle none).1 none next);
       path = c.serve_hub.ensures.path;
     }
 
 pub returns-in_err-serve_hub-clause-hubs : goal.returns-in_err-serve_hub-clause-hubs
 returns-in_err-serve_hub-clause-hubs g c known =
     let i = c.hubs.invariant in
-    hubs_cut c.hubs.last c.in-Some.hub c.hubs.round c.args.self.now c.hubs.self
-    c.serve_hub.new.self (i.so known) i.path c.serve_hub.ensures.path c.in-Some.ensures.some
-    c.in_err-serve_hub.field-0.0 c.from_residual.result c.from_residual.ensures.0
-    (c.in_err-serve_hub.ensures.polls known) (λ none. (i.idle none).1)
+    hubs_cut (i.so known) i.path c.serve_hub.ensures.path c.in-Some.ensures.some
+    c.from_residual.ensures.0 (c.in_err-serve_hub.ensures.polls known) (λ none. (i.idle none).1)
 
 pub returns-clause-hubs : goal.returns-clause-hubs
 returns-clause-hubs g c known =
     let i = c.hubs.invariant in
-    hubs_all_handled c.hubs.last c.hubs.round c.args.self.now c.hubs.self (i.so known) i.path
+    hubs_all_handled c.hubs.last c.hubs.round (i.so known) i.path
     c.in_default.ensures.none c.in_default.ensures.agree i.idle

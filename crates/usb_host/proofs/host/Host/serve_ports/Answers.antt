@@ -7,7 +7,7 @@ use Rattle.usb_host.proofs.host.Host.serve_ports.Goals.{then-bits-number-eq1+in_
 use Rattle.usb_host.proofs.host.Host.serve_ports.Goals.{else-bits-number-eq1}
 
 pub ports-init : goal.ports-init
-ports-init g c = record { so = λ known. ports_begin _ _ _ }
+ports-init g c = record { so = λ known. ports_begin _ }
 
 pub ports-preserved : goal.ports-preserved
 ports-preserved g c =
@@ -15,29 +15,25 @@ ports-preserved g c =
     elim c.if-bits-number-eq1.branch [
       | then-bits-number-eq1+in_ok-handle_below w ↦ rw w.self-is (record {
         so = λ known.
-            ports_handled c.args.hub.now c.args.bits c.ports.number c.args.self.now c.ports.self
-            (i.so known) (omega (arith, c.ports.auto.number)) (omega (arith, c.ports-test.true))
-            w.handle_below.new.self w.in_ok-handle_below.field-0
+            ports_handled (i.so known) (omega (arith, c.ports.auto.number))
+            (omega (arith, c.ports-test.true))
             (bit_so c.args.bits c.ports.number w.if-bits-number-eq1.true)
             (w.in_ok-handle_below.ensures.handles known);
       })
       | else-bits-number-eq1 w ↦ rw w.self-is (record {
         so = λ known.
-            ports_clear c.args.hub.now c.args.bits c.ports.number c.args.self.now c.ports.self
-            (i.so known) (omega (arith, c.ports.auto.number))
+            ports_clear (i.so known) (omega (arith, c.ports.auto.number))
             (bit_not c.args.bits c.ports.number w.if-bits-number-eq1.false);
       })
     ]
 
 pub returns-in_err-handle_below-clause-serves : goal.returns-in_err-handle_below-clause-serves
 returns-in_err-handle_below-clause-serves g c known =
-    ports_cut c.args.hub.now c.args.bits c.ports.number c.args.self.now c.ports.self
-    (c.ports.invariant.so known) (omega (arith, c.ports.auto.number))
-    (omega (arith, c.ports-test.true)) c.handle_below.new.self c.in_err-handle_below.field-0.0
-    c.from_residual.result c.from_residual.ensures.0
-    (c.in_err-handle_below.ensures.handles known)
+    ports_cut (c.ports.invariant.so known) (omega (arith, c.ports.auto.number))
+    (omega (arith, c.ports-test.true))
+    c.from_residual.ensures.0 (c.in_err-handle_below.ensures.handles known)
 
 pub returns-clause-serves : goal.returns-clause-serves
 returns-clause-serves g c known =
-    ports_end c.args.hub.now c.args.bits c.ports.number c.args.self.now c.ports.self
-    (c.ports.invariant.so known) (omega (arith, c.ports.auto.number-end, c.ports-test.false))
+    ports_end c.args.bits (c.ports.invariant.so known)
+    (omega (arith, c.ports.auto.number-end, c.ports-test.false))

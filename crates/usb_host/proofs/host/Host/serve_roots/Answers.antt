@@ -16,8 +16,7 @@ ports-preserved g c =
     elim c.if-has_changed.branch [
       | then-has_changed+in_ok-handle_root w ↦ rw (w.self-is, w.round-is) (record {
         so = λ known.
-            roots_handled c.ports.number c.ports.round c.args.self.now c.ports.self (i.so known)
-            (omega (arith, c.ports.auto.number)) w.handle_root.new.self
+            roots_handled (i.so known) (omega (arith, c.ports.auto.number))
             (sym (c.has_changed.ensures known) ∙ w.if-has_changed.true)
             (omega (
               arith,
@@ -25,30 +24,25 @@ ports-preserved g c =
               c.root_ports-roots.ensures.count known,
               (i.so known).part.goes.went.spends.roots,
               ap (λ (h : HostState). roots_of h.world) c.self.view_is,
-            ))
-            (w.in_ok-handle_root.ensures.handles known);
+            )) (w.in_ok-handle_root.ensures.handles known);
       })
       | else-has_changed w ↦ rw (w.self-is, w.round-is) (record {
         so = λ known.
-            roots_steady c.ports.number c.ports.round c.args.self.now c.ports.self (i.so known)
-            (omega (arith, c.ports.auto.number))
+            roots_steady (i.so known) (omega (arith, c.ports.auto.number))
             (sym (c.has_changed.ensures known) ∙ w.if-has_changed.false);
       })
     ]
 
 pub returns-in_err-handle_root-clause-roots : goal.returns-in_err-handle_root-clause-roots
 returns-in_err-handle_root-clause-roots g c known =
-    roots_cut c.ports.number c.ports.round c.args.self.now c.ports.self
-    (c.ports.invariant.so known) (omega (arith, c.ports.auto.number)) c.handle_root.new.self
+    roots_cut (c.ports.invariant.so known) (omega (arith, c.ports.auto.number))
     (sym (c.has_changed.ensures known) ∙ c.if-has_changed.true)
     (omega (arith, c.ports-test.true, c.root_ports-roots.ensures.most))
-    c.in_err-handle_root.field-0.0 c.from_residual.result c.from_residual.ensures.0
-    (c.in_err-handle_root.ensures.handles known)
+    c.from_residual.ensures.0 (c.in_err-handle_root.ensures.handles known)
 
 pub returns-clause-roots : goal.returns-clause-roots
 returns-clause-roots g c known =
-    roots_end c.ports.number c.ports.round c.args.self.now c.ports.self
-    (c.ports.invariant.so known)
+    roots_end c.ports.round (c.ports.invariant.so known)
     (omega (arith, c.ports.auto.number, c.ports.auto.number-end, c.root_ports-roots.ensures.most))
     (omega (
       arith,

@@ -4,13 +4,11 @@ use Rattle.usb_host.proofs.host.Host.service_port.Goals as goal
 
 pub drop_lost_parent-requires : goal.drop_lost_parent-requires
 drop_lost_parent-requires g c known =
-    breaks c.args.path.now c.args.port c.args.self.now c.serve-served.result _
-    (placed known c.requires) (c.serve-served.ensures known).requested.told
+    breaks c.serve-served.result _ (placed known c.requires)
+    (c.serve-served.ensures known).requested.told
 
 pub returns-clause-handles : goal.returns-clause-handles
 returns-clause-handles g c known =
-    handle_finished c.args.path.now c.args.port c.args.self.now c.serve-served.new.self
-    c.drop_lost_parent.new.self (placed known c.requires) c.serve-served.result
-    c.drop_lost_parent.result
+    handle_finished (placed known c.requires)
     c.drop_lost_parent.ensures.ends (c.drop_lost_parent.ensures.finishes known)
     (c.serve-served.ensures known)

@@ -7,7 +7,7 @@ pub returns-then-bits-eq1-clause-serves : goal.returns-then-bits-eq1-clause-serv
 returns-then-bits-eq1-clause-serves g c known =
     let x = c.serve_own.ensures.serves known in
     record {
-      goes = goes_wider _ _ c.args.self.now c.serve_own.new.self x.goes (omega arith);
+      goes = goes_wider x.goes (omega arith);
       holds = on_any c.serve_own.result _ x.holds;
       owned = x.owned;
       ports = λ not. absurd (not c.if-bits-eq1.true);

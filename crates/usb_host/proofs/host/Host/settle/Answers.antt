@@ -6,14 +6,10 @@ pub returns-in_err-clear_other_changes-clause-settles :
     goal.returns-in_err-clear_other_changes-clause-settles
 returns-in_err-clear_other_changes-clause-settles g c known =
     let told = err_from_is_err_and c.from_residual.result c.from_residual.ensures.1 in
-    rw (told.1, told.2) (settled_fails c.args.port c.args.status c.args.self.now
-    c.clear_other_changes.new.self
-    c.in_err-clear_other_changes.field-0.0 (c.in_err-clear_other_changes.ensures.tidies known))
+    rw (told.1, told.2) (settled_fails (c.in_err-clear_other_changes.ensures.tidies known))
 
 pub returns-clause-settles : goal.returns-clause-settles
 returns-clause-settles g c known =
-    port_settled c.args.port c.args.status c.args.self.now c.clear_other_changes.new.self
-    c.clear_others.new.self
-    c.clear_others.result (c.in_ok-clear_other_changes.ensures.tidies known)
+    port_settled c.args.port c.args.status (c.in_ok-clear_other_changes.ensures.tidies known)
     (c.clear_others.ensures.clears known)
     c.clear_others.ensures.none

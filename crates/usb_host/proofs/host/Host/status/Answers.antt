@@ -5,6 +5,5 @@ use Rattle.usb_host.proofs.host.Host.status.Goals as goal
 pub returns-clause-shows : goal.returns-clause-shows
 returns-clause-shows g c known =
     let s = c.port_status.ensures in
-    rw (← c.self.view_is) (shows c.args.port _ _ c.port_status.result c.at_port.result
-    c.requires.askable (s.steps known) refl (s.fault known) (s.status known) (s.told known)
-    (s.addresses known) c.at_port.ensures)
+    rw (← c.self.view_is) (shows c.args.port _ _ c.requires.askable (s.steps known) refl
+    (s.fault known) (s.status known) (s.told known) (s.addresses known) c.at_port.ensures)

@@ -1,5 +1,4 @@
-use Rattle.std.proofs.Common.{refl, rules, arith, subst, ◌≤◌}
-use Rattle.usb_bus.proofs.Interface.{went_none, went_wider}
+use Rattle.std.proofs.Common.{rules, subst, ◌≤◌}
 use Rattle.usb_pipe.proofs.BulkTransfers.{receive_told, receives_by}
 use Rattle.usb_pipe.proofs.bulk.BulkPipe.receive.Goals as goal
 
@@ -8,20 +7,12 @@ returns-clause-transfer g c known = receive_told _ _ _ _ _ _ (subst (λ p. 1 ≤
     c.self.invariant.least) (receives_by _ _ _ _ _ _ (search rules) (search rules) (search rules)
     (search rules) (g.met.B.Bus.settled known c.args.bus.now))
 
-pub returns-then-is_broken : goal.returns-then-is_broken
-returns-then-is_broken g c = record {
-  same = refl;
-  steps = λ known. went_wider 0 _ went_none (omega arith);
-  transfer =
-      λ known. receive_told _ _ _ _ _ _ (subst (λ p. 1 ≤ p.max) c.self.view_is
-      c.self.invariant.least) (search rules);
-}
+pub returns-then-is_broken-clause-transfer : goal.returns-then-is_broken-clause-transfer
+returns-then-is_broken-clause-transfer g c known = receive_told _ _ _ _ _ _
+    (subst (λ p. 1 ≤ p.max) c.self.view_is
+    c.self.invariant.least) (search rules)
 
-pub returns-then-packets-eq0 : goal.returns-then-packets-eq0
-returns-then-packets-eq0 g c = record {
-  same = refl;
-  steps = λ known. went_wider 0 _ went_none (omega arith);
-  transfer =
-      λ known. receive_told _ _ _ _ _ _ (subst (λ p. 1 ≤ p.max) c.self.view_is
-      c.self.invariant.least) (search rules);
-}
+pub returns-then-packets-eq0-clause-transfer : goal.returns-then-packets-eq0-clause-transfer
+returns-then-packets-eq0-clause-transfer g c known = receive_told _ _ _ _ _ _
+    (subst (λ p. 1 ≤ p.max) c.self.view_is
+    c.self.invariant.least) (search rules)

@@ -1,37 +1,33 @@
-use Rattle.std.proofs.Common.{◌≡◌, length, sym, subst, ap, ◌∙◌, arith, [], ◌∷◌}
-use Rattle.usb_device.specs.{row_of, called}
+use Rattle.std.proofs.Common.{◌≡◌, ℕ, List, length, sym, subst, ap, ◌∙◌, arith, [], ◌∷◌}
+use Rattle.usb_port.specs.{PortCall}
+use Rattle.usb_device.specs.{Ports, row_of, called, changed}
 use Rattle.usb_tree.specs.{IsSettled}
-use Rattle.usb_world.specs.{Consistent, AreOfDamages}
-use Rattle.usb_world.specs.declared.losses.Losses.{Losses}
-use Rattle.usb_world.proofs.Interface.{losses_cleared, row_long, sane_called_at, settled_called}
+use Rattle.usb_world.specs.{Consistent}
+use Rattle.usb_world.proofs.Interface.{row_long, sane_called_at, settled_called}
 use Rattle.usb_sim.proofs.sim.SimBus.call_root.Goals as goal
 
-pub invariant_of-self : goal.invariant_of-self
-invariant_of-self g c =
+row_kept : (call : PortCall) (k new : Ports) (p : List ℕ) → new ≡ changed (called call) k p
+    → length (row_of new) ≡ length (row_of k)
+row_kept call k new p e = ap (λ r. length (row_of r)) e ∙ row_long (called call) k p
+
+pub invariant_of-self-clause-some_root : goal.invariant_of-self-clause-some_root
+invariant_of-self-clause-some_root g c =
     let s = c.args.self.now in
-    let call = c.args.call in
-    let port = c.args.port in
-    let e = c.call_at.ensures.called in
-    let long : length (row_of c.call_at.new.roots) ≡ length (row_of s.roots) =
-    ap (λ k. length (row_of k)) e ∙ row_long (called call) s.roots (port ∷ []) in
-    let P : Losses → Type 0 = λ l. AreOfDamages s.attempts s.damages.items l in
-    record {
-      some_root = omega (arith, long, s.some_root);
-      few_roots = omega (arith, long, s.few_roots);
-      settled = subst IsSettled (sym e) (settled_called call s.roots (port ∷ []) s.settled);
-      sane = λ none. subst Consistent (sym e)
-          (sane_called_at call s.roots (port ∷ []) (s.sane none));
-      ruled = s.ruled;
-      planned = s.planned;
-      few_events = s.few_events;
-      counted = s.counted;
-      within = s.within;
-      few_attempts = s.few_attempts;
-      few_damages = s.few_damages;
-      named = s.named;
-      lost = subst P (sym c.after_clearing-self.ensures)
-          (losses_cleared _ s.attempts s.damages.items s.losses s.lost);
-      at_limit = s.at_limit;
-      marked = s.marked;
-      indexed = c.call_at.ensures.index;
-    }
+    let long = row_kept c.args.call s.roots _ (c.args.port ∷ []) c.call_at.ensures.called in
+    omega (arith, long, s.some_root)
+
+pub invariant_of-self-clause-few_roots : goal.invariant_of-self-clause-few_roots
+invariant_of-self-clause-few_roots g c =
+    let s = c.args.self.now in
+    let long = row_kept c.args.call s.roots _ (c.args.port ∷ []) c.call_at.ensures.called in
+    omega (arith, long, s.few_roots)
+
+pub invariant_of-self-clause-settled : goal.invariant_of-self-clause-settled
+invariant_of-self-clause-settled g c = subst IsSettled (sym c.call_at.ensures.called)
+    (settled_called c.args.call c.args.self.now.roots (c.args.port ∷ []) c.args.self.now.settled)
+
+pub invariant_of-self-clause-sane : goal.invariant_of-self-clause-sane
+invariant_of-self-clause-sane g c = λ none.
+    subst Consistent (sym c.call_at.ensures.called)
+    (sane_called_at c.args.call c.args.self.now.roots (c.args.port ∷ [])
+    (c.args.self.now.sane none))
