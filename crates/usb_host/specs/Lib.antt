@@ -62,9 +62,8 @@ pub use Soundness.{IsDroppable, IsFairTo, IsJustifiedAt, IsSilent, IsSoundBut, I
 pub use Soundness.{IsUnpowered, KeepsInvariant, KnownBut, LooksKeep, NoneWait, NoneWaiting, Part}
 pub use Soundness.{PartKeepsInvariant, PartStays, PartsKeep, PortsListed, RefusalsJustified}
 pub use Soundness.{RootsRest, RoundsSound, TransferKeeps, TruthfulBut, known_supply}
-pub use ToldFaults.{IsOfPipe, PartFaultAllowed, RoundFaultAllowed, StopsAsRound, StopsAsTransfer}
-pub use ToldFaults.{TransferFaultAllowed, endpoint_fault, host_told, is_final, is_last_fault}
-pub use ToldFaults.{pipe_fault}
+pub use ToldFaults.{PartFaultAllowed, RoundFaultAllowed, StopsAsRound, StopsAsTransfer}
+pub use ToldFaults.{TransferFaultAllowed, host_fault, host_told, is_final, is_last_fault}
 pub use Transfers.{ClearedAt, MovesThrough, ReceivedAt, SentAt, table_in}
 pub use Changes.{HasOnlyWorldChanges, KeepsEach, was_disabled}
 pub use Requests.{ClearsError, ClearsFeature, ClearsOthers, ClearsOwn, ClearsPort, ClearsWhere}

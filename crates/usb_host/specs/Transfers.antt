@@ -2,7 +2,7 @@
 use Rattle.std.specs.Prelude.{◌≡◌, ℕ, List, false, Result}
 use Rattle.std.specs.Global.{Vec}
 use Rattle.usb_world.specs.{World}
-use Rattle.usb_table.specs.{EndpointFault, Pipes, Table, GoesThrough, pipes_at, KeepsMoved}
+use Rattle.usb_table.specs.{TableFault, Pipes, Table, GoesThrough, pipes_at, KeepsMoved}
 use Rattle.usb_table.specs.{PipesSent, PipesReceived, PipesCleared}
 use Rattle.usb_host.specs.declared.fault.HostFault.{HostFault}
 use Rattle.usb_host.specs.HostStates.{HostState}
@@ -13,10 +13,10 @@ abbrev pub table_in : HostState → Table
 table_in h = record { entries = h.entries; pipes = h.pipes }
 
 -- bytes moved through the pipes at the path, as the table says, and its answer is the host's
-pub record MovesThrough {A : Type 0} (path : List ℕ) (moved : Pipes → World → Result A EndpointFault
+pub record MovesThrough {A : Type 0} (path : List ℕ) (moved : Pipes → World → Result A TableFault
     → Pipes → World → Type 0) (old : HostState) (result : Result A HostFault) (new : HostState) :
     Type 0 where
-  pub answer : Result A EndpointFault
+  pub answer : Result A TableFault
   pub told : result ≡ host_told answer
   pub through : GoesThrough path (table_in old) (table_in new)
   pub moves : moved (pipes_at path (table_in old)) old.world answer (pipes_at path (table_in new))

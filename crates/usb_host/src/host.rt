@@ -12,7 +12,7 @@ use usb_bus::Bus;
 use usb_port::PortPath;
 use usb_request::feature::PORT_POWER;
 use usb_resources::AddressPool;
-use usb_table::{DeviceTable, EndpointFault};
+use usb_table::{DeviceTable, TableFault};
 
 /// Whether a round did anything.
 #[derive(Clone, Copy, Debug, PartialEq, Eq)]
@@ -154,9 +154,9 @@ impl<B: Bus> Host<B> {
     ///
     /// # Errors
     ///
-    /// `Stopped` where an earlier call failed. `NoDevice` where no device that was accepted is at
-    /// the path, `NoEndpoint` where it has no such endpoint or is a hub. `Pipe` as `BulkPipe::send`
-    /// tells it. `Bus` where the bus makes no more steps; the host then stops.
+    /// `Stopped` where an earlier call failed. `Transfer` with `NoDevice` where no device that was
+    /// accepted is at the path, with `NoEndpoint` where it has no such endpoint or is a hub, else as
+    /// `BulkPipe::send` tells it. `Bus` where the bus makes no more steps; the host then stops.
     pub fn send(&mut self, path: &PortPath, bytes: &[u8]) -> Result<(), HostFault>
         ensures stopped { StopsAsTransfer self.old result self.new }
         ensures tells { B.modelled ≡ true → SendTells path.now bytes.now self.old result self.new }
@@ -207,7 +207,7 @@ impl<B: Bus> Host<B> {
 }
 
 /// What a transfer gave, as the host tells it.
-fn as_host_fault<T>(outcome: Result<T, EndpointFault>) -> Result<T, HostFault>
+fn as_host_fault<T>(outcome: Result<T, TableFault>) -> Result<T, HostFault>
     ensures { result ≡ host_told outcome }
 {
     match outcome {

@@ -62,5 +62,5 @@ pub use listing_laws::{known_stays, known_stays_at_events, settled_matches};
 pub use tree::Tree;
 pub use usb_bus::{Bus, BusFault};
 pub use usb_enum::Finding;
-pub use usb_hub::PipeFault;
 pub use usb_port::PortPath;
+pub use usb_table::TransferFault;

@@ -7,7 +7,8 @@ use Rattle.usb_text.specs.{listing_lines}
 use Rattle.usb_wire.specs.{Answer, Question}
 use Rattle.usb_wire.specs.declared.answer.Answer.TheVariants as answer
 use Rattle.usb_wire.specs.declared.question.Question.TheVariants.{Hello, Wait}
-use Rattle.usb_run.specs.{Item, Listing, Sent, Received, Cleared, TransferFault, item_lines}
+use Rattle.usb_table.specs.{TransferFault}
+use Rattle.usb_run.specs.{Item, Listing, Sent, Received, Cleared, item_lines}
 use Rattle.usb_stream.specs.{AskedWell, AsksNoQuestion, AsksOnce, Kept, WritesLines, greeted}
 use Rattle.usb_stream.specs.{questions, streams, unasked, LiveFault}
 use Rattle.usb_live.specs.declared.end.LiveEnd.{LiveEnd}

@@ -4,8 +4,9 @@ use Rattle.std.specs.Global.{Vec}
 use Rattle.usb_world.specs.declared.event.Ask.{Ask}
 use Rattle.usb_world.specs.{Show, Send, Receive, Clear}
 use Rattle.usb_host.specs.{HostFault, ClearTells, ReceiveTells, SendTells, HostState}
-use Rattle.usb_run.specs.{Item, Sent, Received, Cleared, RunFault, TransferFault, listing_of}
-use Rattle.usb_run.specs.{IsItemOf, StopsAt, sent_count}
+use Rattle.usb_table.specs.{TransferFault}
+use Rattle.usb_run.specs.{Item, Sent, Received, Cleared, RunFault, listing_of, IsItemOf, StopsAt}
+use Rattle.usb_run.specs.{sent_count}
 use Rattle.usb_run.specs.Transfers.{Transfers}
 
 -- no item, a listing, or what a transfer came to

@@ -10,8 +10,8 @@ pub use Rattle.usb_run.proofs.items.Moments.{run_lists_right}
 pub use Rattle.usb_run.proofs.courses.RunCourses.{RunsOnward, called_onward, comes_onward}
 pub use Rattle.usb_run.proofs.courses.RunCourses.{puts_onward, traced_runs_onward}
 pub use Rattle.usb_run.proofs.courses.RunParts.{item_called, round_called}
-pub use Rattle.usb_run.proofs.items.ToldTransfers.{count_done, told_cleared, told_received}
-pub use Rattle.usb_run.proofs.items.ToldTransfers.{told_sent, no_bus_fault}
+pub use Rattle.usb_run.proofs.items.ToldTransfers.{count_done, done_told, no_bus_fault}
+pub use Rattle.usb_run.proofs.items.ToldTransfers.{told_cleared, told_received, told_sent}
 pub use Rattle.usb_run.proofs.items.Transcripts.{appends_no_text, cut_next, cuts_line, ends_failed}
 pub use Rattle.usb_run.proofs.items.Transcripts.{flat_map-take, over_next, puts_line, stopped_next}
 pub use Rattle.usb_run.proofs.items.Transcripts.{texts_split, told_next, unwritten_next}

@@ -11,8 +11,7 @@ pub use TransferLines.{cleared_end, failed_end, fault_word, received_end, sent_e
 unfoldable pub use TransferLines.{cleared_line, received_line, sent_line}
 pub use Run.{IsBegun, IsCaused, RunsOn, Spent, items_left, listing_of, round_fault, run_fault}
 pub use ItemLines.{IsLine, item_lines, number_of}
-pub use Transfers.{Does, Gives, IsItemOf, StopsAt, TransferStops, answer_of_pipe, failed}
-pub use Transfers.{fault_in_run, sent_count, transfer_ended}
+pub use Transfers.{Does, Gives, IsItemOf, StopsAt, TransferStops, sent_count, transfer_ended}
 pub use RunSegments.{Arrives, Comes, EndsSettling, Knowing, Knows, LeavesSettled, OneRound, Ran}
 pub use RunSegments.{Reaches, RoundFails, Rounds, Settled, Settles, Settling, Unsettled, idle, more}
 pub use RunSegments.{none, silent}
@@ -30,4 +29,3 @@ pub use declared.runs.Item.TheVariants.{Cleared, Listing, Received, Sent}
 pub use declared.runs.Report.{Report}
 pub use declared.runs.RunFault.{RunFault}
 pub use declared.runs.RunFault.TheVariants.{LimitReached, Memory, TraceFailed}
-pub use declared.transfer.TransferFault.{TransferFault}

@@ -23,9 +23,7 @@ run_fault bus.TraceFailed = TraceFailed
 -- what the fault of a round is to a run
 abbrev pub round_fault : HostFault → RunFault
 round_fault host.Stopped = Memory
-round_fault host.NoDevice = Memory
-round_fault host.NoEndpoint = Memory
-round_fault (host.Pipe fault) = Memory
+round_fault (host.Transfer fault) = Memory
 round_fault (host.Bus fault) = run_fault fault
 round_fault host.Memory = Memory
 

@@ -3,11 +3,11 @@ use Rattle.std.specs.Prelude.{ℕ, List, ◌++◌, Result, Ok, Err, codes, decim
 use Rattle.std.specs.Global.{Vec}
 use Rattle.usb_packet.specs.{hex_text}
 use Rattle.usb_port.specs.{path_text}
-use Rattle.usb_run.specs.declared.transfer.TransferFault.{TransferFault}
-use Rattle.usb_run.specs.declared.transfer.TransferFault.TheVariants.{NoDevice, NoEndpoint}
-use Rattle.usb_run.specs.declared.transfer.TransferFault.TheVariants.{Stalled as EndpointStalled}
-use Rattle.usb_run.specs.declared.transfer.TransferFault.TheVariants.{Busy as EndpointBusy}
-use Rattle.usb_run.specs.declared.transfer.TransferFault.TheVariants.{NoAnswer, Broken}
+use Rattle.usb_table.specs.declared.fault.TransferFault.{TransferFault}
+use Rattle.usb_table.specs.declared.fault.TransferFault.TheVariants.{NoDevice, NoEndpoint}
+use Rattle.usb_table.specs.declared.fault.TransferFault.TheVariants.{Stalled as EndpointStalled}
+use Rattle.usb_table.specs.declared.fault.TransferFault.TheVariants.{Busy as EndpointBusy, NoAnswer}
+use Rattle.usb_table.specs.declared.fault.TransferFault.TheVariants.{Broken}
 
 -- why a transfer was not done
 abbrev pub fault_word : TransferFault → List ℕ

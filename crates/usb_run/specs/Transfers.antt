@@ -3,45 +3,23 @@ use Rattle.std.specs.Prelude.{◌≡◌, ℕ, length, Option, Some, None, Result
 use Rattle.std.specs.Global.{Vec}
 use Rattle.usb_world.specs.declared.event.Ask.{Ask}
 use Rattle.usb_world.specs.{Show, Send, Receive, Clear}
-use Rattle.usb_pipe.specs.{PipeFault}
-use Rattle.usb_pipe.specs.declared.fault.PipeFault.TheVariants as pipe
+use Rattle.usb_table.specs.{TransferFault}
 use Rattle.usb_host.specs.{HostFault, ClearTells, ReceiveTells, SendTells, HostState}
 use Rattle.usb_host.specs.declared.fault.HostFault.TheVariants as host
 use Rattle.usb_run.specs.declared.runs.Item.{Item}
 use Rattle.usb_run.specs.declared.runs.Item.TheVariants.{Sent, Received, Cleared}
 use Rattle.usb_run.specs.declared.runs.RunFault.{RunFault}
 use Rattle.usb_run.specs.declared.runs.RunFault.TheVariants.{Memory}
-use Rattle.usb_run.specs.declared.transfer.TransferFault.{TransferFault}
-use Rattle.usb_run.specs.declared.transfer.TransferFault.TheVariants as transfer
 use Rattle.usb_run.specs.Run.{run_fault, listing_of}
-
-abbrev pub answer_of_pipe : PipeFault → Result TransferFault RunFault
-answer_of_pipe pipe.Stalled = Ok transfer.Stalled
-answer_of_pipe pipe.Busy = Ok transfer.Busy
-answer_of_pipe pipe.NoAnswer = Ok transfer.NoAnswer
-answer_of_pipe pipe.Broken = Ok transfer.Broken
-answer_of_pipe (pipe.Bus fault) = Err (run_fault fault)
-answer_of_pipe pipe.Memory = Err Memory
-
--- the host's faults of a transfer are its answers; those after which the host stops end the run
-abbrev pub fault_in_run : HostFault → Result TransferFault RunFault
-fault_in_run host.Stopped = Err Memory
-fault_in_run host.NoDevice = Ok transfer.NoDevice
-fault_in_run host.NoEndpoint = Ok transfer.NoEndpoint
-fault_in_run (host.Pipe fault) = answer_of_pipe fault
-fault_in_run (host.Bus fault) = Err (run_fault fault)
-fault_in_run host.Memory = Err Memory
-
-abbrev pub failed : {A : Type 0} → Result TransferFault RunFault
-    → Result (Result A TransferFault) RunFault
-failed (Ok fault) = Ok (Err fault)
-failed (Err fault) = Err fault
 
 -- what a transfer came to, where it did not end the run
 abbrev pub transfer_ended : {A : Type 0} → Result A HostFault
     → Result (Result A TransferFault) RunFault
 transfer_ended (Ok done) = Ok (Ok done)
-transfer_ended (Err fault) = failed (fault_in_run fault)
+transfer_ended (Err (host.Transfer fault)) = Ok (Err fault)
+transfer_ended (Err (host.Bus fault)) = Err (run_fault fault)
+transfer_ended (Err host.Stopped) = Err Memory
+transfer_ended (Err host.Memory) = Err Memory
 
 -- how many bytes were sent, where they were
 abbrev pub sent_count : ℕ → Result (Unit {0}) TransferFault → Result ℕ TransferFault

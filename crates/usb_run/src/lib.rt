@@ -63,7 +63,7 @@ mod transfer;
 
 pub use mode::Mode;
 pub use runs::{Item, Report, RunFault, Runner, run, settle};
-pub use transfer::{TransferFault, answered, counted};
-pub use usb_host::{Host, Tree};
+pub use transfer::{answered, counted};
+pub use usb_host::{Host, TransferFault, Tree};
 pub use usb_port::PortPath;
 pub use usb_sim::{SimBus, Trace, Tracer, Untraced};

@@ -20,12 +20,12 @@ ghost use Rattle.usb_run.specs.Reports.{EndsWell, Finishes, Opens};
 ghost use Rattle.usb_run.specs.Transcript.{Next, NextAsked, NextEvent, PutsLine};
 ghost use Rattle.usb_run.specs.Transfers.{Does, Gives};
 
-use crate::transfer::{TransferFault, answered, counted};
+use crate::transfer::{answered, counted};
 use std::alloc::{AllocError, AllocFailed, Global};
 use std::io::Write;
 use thiserror::Error;
 use usb_bus::{BusFault, Watched};
-use usb_host::{Host, HostFault, Round, Tree};
+use usb_host::{Host, HostFault, Round, TransferFault, Tree};
 use usb_port::PortPath;
 use usb_sim::{Ask, Plan, SimBus, Trace, Tracer, Untraced, untraced_fault};
 
@@ -125,11 +125,7 @@ fn round_fault(fault: HostFault) -> RunFault
 {
     match fault {
         HostFault::Bus(fault) => RunFault::from(fault),
-        HostFault::Stopped
-        | HostFault::NoDevice
-        | HostFault::NoEndpoint
-        | HostFault::Pipe(_)
-        | HostFault::Memory => RunFault::Memory,
+        HostFault::Stopped | HostFault::Transfer(_) | HostFault::Memory => RunFault::Memory,
     }
 }
 

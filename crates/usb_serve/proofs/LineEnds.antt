@@ -8,10 +8,9 @@ use Rattle.std.specs.Prelude.{All, codes, decimal, ◌==◌}
 use Rattle.usb_port.specs.{path_text}
 use Rattle.usb_enum.specs.{Cause, Accepted, Finding, HubFacts}
 use Rattle.usb_enum.specs.declared.finding.Finding.TheVariants.{Device, Refused}
-use Rattle.usb_table.specs.{Entries}
-use Rattle.usb_run.specs.{Item, Listing, Sent, Received, Cleared, TransferFault, sent_line}
-use Rattle.usb_run.specs.{received_line, cleared_line, sent_end, received_end, cleared_end, IsLine}
-use Rattle.usb_run.specs.{item_lines}
+use Rattle.usb_table.specs.{Entries, TransferFault}
+use Rattle.usb_run.specs.{Item, Listing, Sent, Received, Cleared, sent_line, received_line}
+use Rattle.usb_run.specs.{cleared_line, sent_end, received_end, cleared_end, IsLine, item_lines}
 use Rattle.usb_text.specs.{address_line, config_line, config_lines, hub_line, hub_lines}
 use Rattle.usb_text.specs.{string_line, string_lines, device_lines, refused_line, finding_lines}
 use Rattle.usb_text.specs.{entry_lines, listing_line, listing_lines}

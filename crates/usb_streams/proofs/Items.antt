@@ -14,23 +14,23 @@ use Rattle.usb_transaction.specs.{Target, is_at}
 use Rattle.usb_pipe.specs.declared.condition.Condition.TheVariants.{Ready}
 use Rattle.usb_pipe.specs.{PipeFault, Bulk, Sends, OutPipeInSync}
 use Rattle.usb_pipe.specs.declared.fault.PipeFault.TheVariants as pipe_fault
+use Rattle.usb_table.specs.declared.fault.TableFault.TheVariants as table
 use Rattle.usb_enum.specs.{Accepted}
-use Rattle.usb_table.specs.{EndpointFault, Pipe, BulkPipes, Pipes, Hub, Function, Absent, ChangesAt}
-use Rattle.usb_table.specs.{GaveBy, HaltClearedBy, HaltsCleared, JoinsSink, TookBytes, bytes_in}
-use Rattle.usb_table.specs.{pipe_in, pipe_out, Entries, accepted_device_at, out_endpoint}
+use Rattle.usb_table.specs.{TableFault, TransferFault, BulkPipes, Pipes, Hub, Function, Absent}
+use Rattle.usb_table.specs.{ChangesAt, GaveBy, HaltClearedBy, HaltsCleared, JoinsSink, TookBytes}
+use Rattle.usb_table.specs.{bytes_in, pipe_in, pipe_out, Entries, accepted_device_at, out_endpoint}
 use Rattle.usb_table.specs.{is_below_hub, PipesInSync, FitsOut, ArePipesIf, ArePipesTo, IsPipe}
 use Rattle.usb_table.specs.{GoesThrough, pipes_at, ClearedAfter, ClearedBy, ClearedIf, PipesCleared}
 use Rattle.usb_table.specs.{PipesReceived, PipesSent, ReceivedBy, SameSettings, SentBy}
-use Rattle.usb_table.specs.{endpoint_answer}
+use Rattle.usb_table.specs.{table_answer}
 use Rattle.usb_table.proofs.Interface.{held_address, path_itself, path_tied, done_through}
 use Rattle.usb_host.specs.{HostState, claims, host_told, table_in, ClearTells, ReceiveTells}
 use Rattle.usb_host.specs.{SendTells}
-use Rattle.usb_run.specs.{Item, RunFault, TransferFault, Knows, IsItemOf, failed, sent_count}
-use Rattle.usb_run.specs.{transfer_ended}
+use Rattle.usb_run.specs.{Item, Knows, IsItemOf, sent_count, transfer_ended}
 use Rattle.usb_run.specs.declared.runs.Item.TheVariants as item
 use Rattle.usb_run.specs.Transfers.{Transfers}
 use Rattle.usb_run.proofs.Interface.{AskAnswered, silent, listed, sent, received, cleared, answered}
-use Rattle.usb_run.proofs.Interface.{count_done, told_cleared, told_received, told_sent}
+use Rattle.usb_run.proofs.Interface.{count_done, told_cleared, told_received, told_sent, done_told}
 use Rattle.usb_run.proofs.Interface.{no_bus_fault}
 use Rattle.usb_streams.specs.{ToldItem, ClearsNoIn, ClearsNoOut, GaveNextBy, IsAtWork, Joins}
 use Rattle.usb_streams.specs.{StreamsAt, bytes_for, bytes_from, is_done}
@@ -42,7 +42,7 @@ use Rattle.usb_streams.proofs.HaltedSends.{NoneSent, empty_stuck, failed_stuck, 
 
 -- a send leaves the IN pipe
 sent_in : (pipes left : Pipes) (bytes : List ℕ) (old new : World)
-    (result : Result (Unit {0}) EndpointFault) → PipesSent pipes bytes old result left new
+    (result : Result (Unit {0}) TableFault) → PipesSent pipes bytes old result left new
     → pipe_in left ≡ pipe_in pipes
 sent_in (Hub pipe) left bytes old new result x = ap pipe_in x.1
 sent_in (Function pipes) left bytes old new result x = ap pipe_in x.1
@@ -50,7 +50,7 @@ sent_in Absent left bytes old new result x = ap pipe_in x.1
 
 -- a receive leaves the OUT pipe
 received_out : (pipes left : Pipes) (packets : ℕ) (old new : World)
-    (result : Result (Vec ℕ) EndpointFault) → PipesReceived pipes packets old result left new
+    (result : Result (Vec ℕ) TableFault) → PipesReceived pipes packets old result left new
     → pipe_out left ≡ pipe_out pipes
 received_out (Hub pipe) left packets old new result x = ap pipe_out x.1
 received_out (Function pipes) left packets old new result x = ap pipe_out x.1
@@ -59,13 +59,13 @@ received_out Absent left packets old new result x = ap pipe_out x.1
 -- where there was no pipe there is none
 
 none_received : (into left : Option Bulk) (packets : ℕ) (old new : World)
-    (result : Result (Vec ℕ) EndpointFault) → into ≡ None
+    (result : Result (Vec ℕ) TableFault) → into ≡ None
     → ReceivedBy into packets old result left new → left ≡ None
 none_received None left packets old new result none x = x.1
 none_received (Some pipe) left packets old new result none x = absurd (cc none)
 
 received_in : (pipes left : Pipes) (packets : ℕ) (old new : World)
-    (result : Result (Vec ℕ) EndpointFault) → PipesReceived pipes packets old result left new
+    (result : Result (Vec ℕ) TableFault) → PipesReceived pipes packets old result left new
     → pipe_in pipes ≡ None → pipe_in left ≡ None
 received_in (Hub pipe) left packets old new result x none = ap pipe_in x.1
 received_in (Function pipes) left packets old new result x none = ap pipe_in x.1
@@ -78,34 +78,34 @@ none_cleared None left old new answer none x = x.1
 none_cleared (Some pipe) left old new answer none x = absurd (cc none)
 
 after_cleared : (first : Result (Unit {0}) PipeFault) (into left : Option Bulk) (mid new : World)
-    (result : Result (Unit {0}) EndpointFault) → into ≡ None
+    (result : Result (Unit {0}) TableFault) → into ≡ None
     → ClearedAfter first into mid result left new → left ≡ None
 after_cleared (Ok done) into left mid new result none x =
     none_cleared into left mid new x.0 none x.2
 after_cleared (Err fault) into left mid new result none x = x.1 ∙ none
 
 in_cleared : (some : Bool) (pipes left : BulkPipes) (old new : World)
-    (result : Result (Unit {0}) EndpointFault) → pipes.into ≡ None
+    (result : Result (Unit {0}) TableFault) → pipes.into ≡ None
     → ClearedIf some pipes old result left new → left.into ≡ None
 in_cleared false pipes left old new result none x = ap (λ (p : BulkPipes). p.into) x.1 ∙ none
 in_cleared true pipes left old new result none x =
     after_cleared x.first pipes.into left.into x.mid new result none x.into
 
 out_cleared : (some : Bool) (pipes left : BulkPipes) (old new : World)
-    (result : Result (Unit {0}) EndpointFault) → pipes.out ≡ None
+    (result : Result (Unit {0}) TableFault) → pipes.out ≡ None
     → ClearedIf some pipes old result left new → left.out ≡ None
 out_cleared false pipes left old new result none x = ap (λ (p : BulkPipes). p.out) x.1 ∙ none
 out_cleared true pipes left old new result none x =
     none_cleared pipes.out left.out old x.mid x.first none x.out
 
-cleared_in : (pipes left : Pipes) (old new : World) (result : Result (Unit {0}) EndpointFault)
+cleared_in : (pipes left : Pipes) (old new : World) (result : Result (Unit {0}) TableFault)
     → PipesCleared pipes old result left new → pipe_in pipes ≡ None → pipe_in left ≡ None
 cleared_in (Hub pipe) left old new result x none = ap pipe_in x.1
 cleared_in (Function pipes) left old new result x none = ap pipe_in x.1
     ∙ in_cleared (is_some pipes.out || is_some pipes.into) pipes x.0 old new result none x.2
 cleared_in Absent left old new result x none = ap pipe_in x.1
 
-cleared_out : (pipes left : Pipes) (old new : World) (result : Result (Unit {0}) EndpointFault)
+cleared_out : (pipes left : Pipes) (old new : World) (result : Result (Unit {0}) TableFault)
     → PipesCleared pipes old result left new → pipe_out pipes ≡ None → pipe_out left ≡ None
 cleared_out (Hub pipe) left old new result x none = ap pipe_out x.1
 cleared_out (Function pipes) left old new result x none = ap pipe_out x.1
@@ -120,19 +120,6 @@ clears_alone done None left before after end works none = (none refl, end)
 clears_alone done (Some pipe) None before after end works none = absurd end
 clears_alone done (Some pipe) (Some left) before after end works none = let e = end.works works in
     (ap Some e.0, e.1)
-
--- What is told
-
-fault_done : {A : Type 0} (fault : Result TransferFault RunFault) (told : Result A TransferFault)
-    → failed fault ≡ Ok told → is_ok told ≡ false
-fault_done (Ok why) told e = let is : told ≡ Err why = cc e in ap is_ok is
-fault_done (Err fault) told e = absurd (cc e)
-
--- an item tells of a fault just where the table did
-ended_done : {A : Type 0} (result : Result A EndpointFault) (told : Result A TransferFault)
-    → transfer_ended (host_told result) ≡ Ok told → is_ok result ≡ is_ok told
-ended_done (Ok x) told e = let is : told ≡ Ok x = cc e in sym (ap is_ok is)
-ended_done (Err fault) told e = sym (fault_done _ told e)
 
 pipe_address : (device : Accepted) (is_in : Bool) (endpoint : Option (ℕ × ℕ)) (pipe : Bulk)
     → IsPipe device is_in endpoint (Some pipe) → pipe.target.addr ≡ device.address
@@ -220,8 +207,8 @@ module _ (bytes : List ℕ) (old new : World) (x : Location) (s v : State) (on :
           stuck = λ stuck. let none = nothing_sent (Err why) sends stuck in (none.0, none.1, never);
         }
 
-  by_pipe : (out left : Option Bulk) (result : Result (Unit {0}) EndpointFault)
-      → ((why : BusFault) → result ≢ Err (Pipe (pipe_fault.Bus why))) → new.shared ≡ false
+  by_pipe : (out left : Option Bulk) (result : Result (Unit {0}) TableFault)
+      → ((why : BusFault) → result ≢ Err (table.Bus why)) → new.shared ≡ false
       → ((pipe : Bulk) → out ≡ Some pipe → (is_at s pipe.target ≡ true) × OutPipeInSync pipe s)
       → SentBy out bytes old result left new → JoinsSink (is_ok result) bytes s v
       → SinkStep (is_ok result) bytes out left s v
@@ -232,11 +219,11 @@ module _ (bytes : List ℕ) (old new : World) (x : Location) (s v : State) (on :
       let same : is_ok x.answer ≡ is_ok result = done_through x.answer result x.told in
       subst (λ d. SinkStep d bytes (Some pipe) (Some left) s v) same
       (through pipe left (fits pipe refl).0 (fits pipe refl).1 single x.answer
-      (λ why e. other why (x.told ∙ ap endpoint_answer e)) x.sends
+      (λ why e. other why (x.told ∙ ap table_answer e)) x.sends
       (subst (λ d. JoinsSink d bytes s v) (sym same) joins))
 
-  by_pipes : (pipes left : Pipes) (result : Result (Unit {0}) EndpointFault)
-      → ((why : BusFault) → result ≢ Err (Pipe (pipe_fault.Bus why))) → new.shared ≡ false
+  by_pipes : (pipes left : Pipes) (result : Result (Unit {0}) TableFault)
+      → ((why : BusFault) → result ≢ Err (table.Bus why)) → new.shared ≡ false
       → ((pipe : Bulk) → pipe_out pipes ≡ Some pipe → (is_at s pipe.target ≡ true)
       × OutPipeInSync pipe s) → PipesSent pipes bytes old result left new
       → JoinsSink (is_ok result) bytes s v
@@ -386,7 +373,7 @@ module _ (path : List ℕ) (device : Accepted) (old new : HostState)
           let tells : transfer_ended (host_told hands.answer) ≡ Ok told =
           sym (ap transfer_ended hands.told) ∙ is.tells in
           let done : is_ok hands.answer ≡ is_ok (sent_count (length bytes) told) =
-          ended_done hands.answer told tells ∙ count_done (length bytes) told in
+          done_told hands.answer told tells ∙ count_done (length bytes) told in
           here (Some (Send path bytes)) made (TookBytes (is_ok told) bytes) hands.through
           (told_sent path old new knows.sound still running bytes told is).took.each
           (λ x s v is_path was_on on stands stood took.
@@ -411,7 +398,7 @@ module _ (path : List ℕ) (device : Accepted) (old new : HostState)
           (by_pipes bytes old.world new.world x s v on stands stood before left hands.answer
           (no_bus_fault hands.answer told tells) single (fits_out before s are has level)
           hands.moves
-          (subst (λ d. JoinsSink d bytes s v) (sym (ended_done hands.answer told tells))
+          (subst (λ d. JoinsSink d bytes s v) (sym (done_told hands.answer told tells))
           took.joins)))
           (λ none. gave_no_bytes (pipe_in before) (pipe_in left) x s v
           (sent_in before left bytes old.world new.world hands.answer hands.moves)

@@ -6,11 +6,11 @@ use Rattle.usb_world.specs.{World}
 use Rattle.usb_pipe.specs.{Bulk, Interrupt}
 use Rattle.usb_enum.specs.{Accepted, Finding}
 use Rattle.usb_enum.specs.declared.finding.Finding.TheVariants.{Device, Refused}
-use Rattle.usb_table.specs.{EndpointFault, NoDevice, NoEndpoint, BulkPipes, Pipes, Hub, Function}
-use Rattle.usb_table.specs.{Absent, pipe_in, pipe_out, out_endpoint, in_endpoint, IsBulkPipe}
-use Rattle.usb_table.specs.{IsPipe, ArePipesIf, ArePipesOf, ArePipesTo, ClearedIf, ClearedInOrder}
-use Rattle.usb_table.specs.{EndpointFaultAllowed, NotTried, PipeDid, PipesCleared, PipesThrough}
-use Rattle.usb_table.specs.{ThroughIf, both_sides, one_side}
+use Rattle.usb_table.specs.{TableFault, Transfer, TransferFault, NoDevice, NoEndpoint, BulkPipes}
+use Rattle.usb_table.specs.{Pipes, Hub, Function, Absent, pipe_in, pipe_out, out_endpoint}
+use Rattle.usb_table.specs.{in_endpoint, IsBulkPipe, IsPipe, ArePipesIf, ArePipesOf, ArePipesTo}
+use Rattle.usb_table.specs.{ClearedIf, ClearedInOrder, NotTried, PipeDid, PipesCleared}
+use Rattle.usb_table.specs.{PipesThrough, ThroughIf, both_sides, one_side}
 
 -- The pipe of one way
 
@@ -83,19 +83,17 @@ if_found P R (Some device) below_hub absent there pipes left are x =
 -- The two cases of a call one way
 
 module _ {A : Type 0} (is_in : Bool) (So : PipeDid A) (old : World)
-    (result : Result A EndpointFault) (new : World) (found : Option Accepted) (below_hub : Bool)
+    (result : Result A TableFault) (new : World) (found : Option Accepted) (below_hub : Bool)
     (R : Pipes → Pipes → Type 0)
-    (idle : (pipes : Pipes) (fault : EndpointFault) → pipe_by is_in pipes ≡ None
-    → ((w : World) → EndpointFaultAllowed fault w) → result ≡ Err fault → new ≡ old → R pipes pipes)
+    (idle : (pipes : Pipes) (fault : TransferFault) → pipe_by is_in pipes ≡ None
+    → result ≡ Err (Transfer fault) → new ≡ old → R pipes pipes)
     (went : (device : Accepted) (endpoint : ℕ × ℕ) (pipe left : Bulk) (other : Option Bulk)
     → found ≡ Some device → IsBulkPipe device is_in endpoint pipe → So pipe old result left new
     → R (Function (both_sides is_in (Some pipe) other))
     (Function (both_sides is_in (Some left) other))) where
-  way_idle : (pipes left : Pipes) (fault : EndpointFault) → pipe_by is_in pipes ≡ None
-      → ((w : World) → EndpointFaultAllowed fault w) → NotTried fault pipes old result left new
-      → R pipes left
-  way_idle pipes left fault none told x =
-      subst (R pipes) (sym x.1) (idle pipes fault none told x.0 x.2)
+  way_idle : (pipes left : Pipes) (fault : TransferFault) → pipe_by is_in pipes ≡ None
+      → NotTried fault pipes old result left new → R pipes left
+  way_idle pipes left fault none x = subst (R pipes) (sym x.1) (idle pipes fault none x.0 x.2)
 
   way_if : (device : Accepted) → found ≡ Some device → (endpoint : Option (ℕ × ℕ))
       (pipe left other : Option Bulk) → IsPipe device is_in endpoint pipe
@@ -103,7 +101,7 @@ module _ {A : Type 0} (is_in : Bool) (So : PipeDid A) (old : World)
       → R (Function (both_sides is_in pipe other)) (Function (both_sides is_in left other))
   way_if device e endpoint None left other is x =
       subst (λ l. R (Function (both_sides is_in None other)) (Function (both_sides is_in l other)))
-      (sym x.1) (idle _ NoEndpoint (pipe_by-none is_in other) (λ w. tt) x.0 x.2)
+      (sym x.1) (idle _ NoEndpoint (pipe_by-none is_in other) x.0 x.2)
   way_if device e endpoint (Some pipe) None other is x = absurd x
   way_if device e None (Some pipe) (Some left) other is x = absurd is
   way_if device e (Some endpoint) (Some pipe) (Some left) other is x =
@@ -113,7 +111,7 @@ module _ {A : Type 0} (is_in : Bool) (So : PipeDid A) (old : World)
       → ArePipesTo device below_hub pipes → PipesThrough is_in So pipes old result left new
       → R pipes left
   way_there device (Hub pipe) left e are x =
-      way_idle (Hub pipe) left NoEndpoint (pipe_by-hub is_in pipe) (λ w. tt) x
+      way_idle (Hub pipe) left NoEndpoint (pipe_by-hub is_in pipe) x
   way_there device (Function pipes) left e are x =
       let other = one_side (not is_in) pipes in
       subst (R (Function pipes)) (sym x.1)
@@ -127,33 +125,32 @@ module _ {A : Type 0} (is_in : Bool) (So : PipeDid A) (old : World)
       → PipesThrough is_in So pipes old result left new → R pipes left
   through_pipes =
       if_found (λ p l. PipesThrough is_in So p old result l new) R found below_hub
-      (λ left e. way_idle Absent left NoDevice (pipe_by-absent is_in) (λ w. tt)) way_there
+      (λ left e. way_idle Absent left NoDevice (pipe_by-absent is_in)) way_there
 
 -- The two cases of a clear of both
 
-module _ (old : World) (result : Result (Unit {0}) EndpointFault) (new : World)
+module _ (old : World) (result : Result (Unit {0}) TableFault) (new : World)
     (found : Option Accepted) (below_hub : Bool) (R : Pipes → Pipes → Type 0)
-    (idle : (pipes : Pipes) (fault : EndpointFault) → ((w : World) → EndpointFaultAllowed fault w)
-    → result ≡ Err fault → new ≡ old → R pipes pipes)
+    (idle : (pipes : Pipes) (fault : TransferFault) → result ≡ Err (Transfer fault) → new ≡ old
+    → R pipes pipes)
     (went : (device : Accepted) (pipes left : BulkPipes) → found ≡ Some device
     → IsPipe device false (out_endpoint device) pipes.out
     → IsPipe device true (in_endpoint device) pipes.into
     → ClearedInOrder pipes old result left new → R (Function pipes) (Function left)) where
-  both_idle : (pipes left : Pipes) (fault : EndpointFault)
-      → ((w : World) → EndpointFaultAllowed fault w)
+  both_idle : (pipes left : Pipes) (fault : TransferFault)
       → NotTried fault pipes old result left new → R pipes left
-  both_idle pipes left fault told x = subst (R pipes) (sym x.1) (idle pipes fault told x.0 x.2)
+  both_idle pipes left fault x = subst (R pipes) (sym x.1) (idle pipes fault x.0 x.2)
 
   both_if : (device : Accepted) → found ≡ Some device → (some : Bool) (pipes left : BulkPipes)
       → ArePipesTo device below_hub (Function pipes) → ClearedIf some pipes old result left new
       → R (Function pipes) (Function left)
   both_if device e false pipes left are x =
-      both_idle (Function pipes) (Function left) NoEndpoint (λ w. tt) (x.0, ap Function x.1, x.2)
+      both_idle (Function pipes) (Function left) NoEndpoint (x.0, ap Function x.1, x.2)
   both_if device e true pipes left are x = went device pipes left e are.1 are.2 x
 
   both_there : (device : Accepted) (pipes left : Pipes) → found ≡ Some device
       → ArePipesTo device below_hub pipes → PipesCleared pipes old result left new → R pipes left
-  both_there device (Hub pipe) left e are x = both_idle (Hub pipe) left NoEndpoint (λ w. tt) x
+  both_there device (Hub pipe) left e are x = both_idle (Hub pipe) left NoEndpoint x
   both_there device (Function pipes) left e are x =
       subst (R (Function pipes)) (sym x.1)
       (both_if device e (is_some pipes.out || is_some pipes.into) pipes x.0 are x.2)
@@ -163,4 +160,4 @@ module _ (old : World) (result : Result (Unit {0}) EndpointFault) (new : World)
       → PipesCleared pipes old result left new → R pipes left
   through_both =
       if_found (λ p l. PipesCleared p old result l new) R found below_hub
-      (λ left e. both_idle Absent left NoDevice (λ w. tt)) both_there
+      (λ left e. both_idle Absent left NoDevice) both_there

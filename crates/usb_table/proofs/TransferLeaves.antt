@@ -15,12 +15,14 @@ use Rattle.usb_pipe.specs.declared.fault.PipeFault.TheVariants as pipe_fault
 use Rattle.usb_address.proofs.Interface.{keeps_then}
 use Rattle.usb_backlog.proofs.Interface.{all_then}
 use Rattle.usb_enum.specs.{Accepted}
-use Rattle.usb_table.specs.{EndpointFault, Pipe, Pipes, Function, accepted_device_at, is_below_hub}
+use Rattle.usb_table.specs.{TableFault, Transfer, TransferFault, of_pipe, Pipes, Function}
+use Rattle.usb_table.specs.{accepted_device_at, is_below_hub}
+use Rattle.usb_table.specs.declared.fault.TableFault.TheVariants as table_fault
 use Rattle.usb_table.specs.{TableClears, TableReceives, TableSends, Transferred, IsBulkPipe}
 use Rattle.usb_table.specs.{ArePipesIf, Table, GoesThrough, pipes_at, ClearedAfter, ClearedBy}
-use Rattle.usb_table.specs.{EndpointFaultAllowed, OnlyTransfers, PipeFaultAllowed, PipeDid}
-use Rattle.usb_table.specs.{PipesCleared, PipesReceived, PipesSent, PipesThrough, ReceivedThrough}
-use Rattle.usb_table.specs.{SameSettings, SentThrough, both_sides, endpoint_answer}
+use Rattle.usb_table.specs.{OnlyTransfers, PipeDid, TableFaultAllowed, PipesCleared, PipesReceived}
+use Rattle.usb_table.specs.{PipesSent, PipesThrough, ReceivedThrough, SameSettings, SentThrough}
+use Rattle.usb_table.specs.{both_sides, table_answer}
 use Rattle.usb_table.proofs.transfers.DevicesKept.{PipeKeeps, clear_keeps, receive_keeps}
 use Rattle.usb_table.proofs.transfers.DevicesKept.{same_spares, send_keeps}
 use Rattle.usb_table.proofs.levels.KeptPipes.{ready_or_not}
@@ -33,9 +35,9 @@ use Rattle.usb_table.proofs.ThroughPipes.{through_both, through_pipes}
 -- so few attempts were made, the fault is told, and what moved, of all devices and of the pipes to
 -- the one that was found
 record LeavesTransfer {A : Type 0} (n : ℕ) (found : Option Accepted) (pipes : Pipes) (old : World)
-    (result : Result A EndpointFault) (left : Pipes) (new : World) : Type 0 where
+    (result : Result A TableFault) (left : Pipes) (new : World) : Type 0 where
   spends : AttemptsWithin n old new
-  told : IfErr result (λ fault. EndpointFaultAllowed fault new)
+  told : IfErr result (λ fault. TableFaultAllowed fault new)
   worlds : OnlyTransfers old new
   moves : ((left ≡ pipes) × (new ≡ old)) ⊎ ((device : Accepted) × (found ≡ Some device)
       × EachMoves device.address (new.fault ≡ None) pipes left old new)
@@ -46,12 +48,12 @@ same_spends n old new e =
 
 -- nothing was tried
 idle_transfer_leaves : {A : Type 0} (n : ℕ) (found : Option Accepted) (pipes : Pipes) (old : World)
-    (result : Result A EndpointFault) (new : World) (fault : EndpointFault)
-    → ((w : World) → EndpointFaultAllowed fault w) → result ≡ Err fault → new ≡ old
+    (result : Result A TableFault) (new : World) (fault : TransferFault)
+    → result ≡ Err (Transfer fault) → new ≡ old
     → LeavesTransfer n found pipes old result pipes new
-idle_transfer_leaves n found pipes old result new fault told e same = record {
+idle_transfer_leaves n found pipes old result new fault e same = record {
   spends = same_spends n old new same;
-  told = rw e (told new);
+  told = rw e tt;
   worlds = same_spares old new same;
   moves = inl (refl, same);
 }
@@ -59,7 +61,8 @@ idle_transfer_leaves n found pipes old result new fault told e same = record {
 -- The fault that is told
 
 pipe_told : (why : PipeFault) (w : World)
-    → ((fault : BusFault) → why ≡ pipe_fault.Bus fault → Failed fault w) → PipeFaultAllowed why w
+    → ((fault : BusFault) → why ≡ pipe_fault.Bus fault → Failed fault w)
+    → TableFaultAllowed (of_pipe why) w
 pipe_told pipe_fault.Stalled w told = tt
 pipe_told pipe_fault.Busy w told = tt
 pipe_told pipe_fault.NoAnswer w told = tt
@@ -68,8 +71,8 @@ pipe_told (pipe_fault.Bus fault) w told = told fault refl
 pipe_told pipe_fault.Memory w told = tt
 
 told_through : {A : Type 0} (old : World) (answer : Result A PipeFault)
-    (result : Result A EndpointFault) (w : World) → result ≡ endpoint_answer answer
-    → PipeKeeps old answer w → IfErr result (λ fault. EndpointFaultAllowed fault w)
+    (result : Result A TableFault) (w : World) → result ≡ table_answer answer
+    → PipeKeeps old answer w → IfErr result (λ fault. TableFaultAllowed fault w)
 told_through old (Ok x) result w e kept = rw e tt
 told_through old (Err why) result w e kept =
     rw e (pipe_told why w (λ fault f. kept.told fault (ap Err f)))
@@ -77,7 +80,7 @@ told_through old (Err why) result w e kept =
 -- One way
 
 module _ {A : Type 0} (is_in : Bool) (n : ℕ) (So : PipeDid A) (old : World)
-    (result : Result A EndpointFault) (new : World) (found : Option Accepted) where
+    (result : Result A TableFault) (new : World) (found : Option Accepted) where
   abbrev WayLeaves : Type 0
   WayLeaves =
       (device : Accepted) (endpoint : ℕ × ℕ) (pipe left : Bulk) (other : Option Bulk)
@@ -91,7 +94,7 @@ module _ {A : Type 0} (is_in : Bool) (n : ℕ) (So : PipeDid A) (old : World)
   way_leaves each below_hub =
       through_pipes is_in So old result new found below_hub
       (λ p l. LeavesTransfer n found p old result l new)
-      (λ pipes fault none told. idle_transfer_leaves n found pipes old result new fault told) each
+      (λ pipes fault none. idle_transfer_leaves n found pipes old result new fault) each
 
 -- Bytes that are sent: at most one packet for each byte
 
@@ -99,7 +102,7 @@ module _ {A : Type 0} (is_in : Bool) (n : ℕ) (So : PipeDid A) (old : World)
 packets_few : (bytes max : ℕ) → 1 ≤ max → div_ceil bytes max ≤ bytes
 packets_few bytes max least = grind (arith, common_steps)
 
-sends_leave : (bytes : List ℕ) (old : World) (result : Result (Unit {0}) EndpointFault)
+sends_leave : (bytes : List ℕ) (old : World) (result : Result (Unit {0}) TableFault)
     (new : World) (found : Option Accepted)
     → WayLeaves false (transaction_bound * length bytes) (λ p. SentThrough p bytes) old result new
     found
@@ -117,7 +120,7 @@ sends_leave bytes old result new found device endpoint pipe left other e is x =
 
 -- Packets that are received
 
-receives_leave : (packets : ℕ) (old : World) (result : Result (Vec ℕ) EndpointFault) (new : World)
+receives_leave : (packets : ℕ) (old : World) (result : Result (Vec ℕ) TableFault) (new : World)
     (found : Option Accepted)
     → WayLeaves true (transaction_bound * packets) (λ p. ReceivedThrough p packets) old result new
     found
@@ -167,12 +170,12 @@ done_or_same (Some pipe) (Some left) old done new x = elim (ready_or_not pipe.co
 ]
 
 -- what is so of the worlds, and of the fault
-abbrev LeftAndTold : World → Result (Unit {0}) EndpointFault → World → Type 0
+abbrev LeftAndTold : World → Result (Unit {0}) TableFault → World → Type 0
 LeftAndTold old result new = OnlyTransfers old new
-    × IfErr result (λ fault. EndpointFaultAllowed fault new)
+    × IfErr result (λ fault. TableFaultAllowed fault new)
 
 cleared_in_order : (first : Result (Unit {0}) PipeFault) (out out_left into into_left : Option Bulk)
-    (old mid : World) (result : Result (Unit {0}) EndpointFault) (new : World)
+    (old mid : World) (result : Result (Unit {0}) TableFault) (new : World)
     → ClearedBy out old first out_left mid → ClearedAfter first into mid result into_left new
     → LeftAndTold old result new
 cleared_in_order (Ok done) out out_left into into_left old mid result new x y =
@@ -190,23 +193,22 @@ cleared_in_order (Err fault) out out_left into into_left old mid result new x y 
     (first.worlds, told_through old (Err fault) result new y.0 first)
 
 -- while the bus is at work, none of its faults is told
-no_bus_told : (result : Result (Unit {0}) EndpointFault) (w : World)
-    → IfErr result (λ fault. EndpointFaultAllowed fault w) → w.fault ≡ None
-    → (why : BusFault) → result ≢ Err (Pipe (pipe_fault.Bus why))
+no_bus_told : (result : Result (Unit {0}) TableFault) (w : World)
+    → IfErr result (λ fault. TableFaultAllowed fault w) → w.fault ≡ None
+    → (why : BusFault) → result ≢ Err (table_fault.Bus why)
 no_bus_told result w told sound why e =
     let failed : Failed why w = rw e at told in
     let is = failed.told in
     absurd (cc (is, sound))
 
-clears_leave : (old : World) (result : Result (Unit {0}) EndpointFault) (new : World)
+clears_leave : (old : World) (result : Result (Unit {0}) TableFault) (new : World)
     (found : Option Accepted) → AttemptsWithin (2 * write_bound) old new → (below_hub : Bool)
     (pipes left : Pipes) → ArePipesIf found below_hub pipes → PipesCleared pipes old result left new
     → LeavesTransfer (2 * write_bound) found pipes old result left new
 clears_leave old result new found few below_hub =
     through_both old result new found below_hub
     (λ p l. LeavesTransfer (2 * write_bound) found p old result l new)
-    (λ pipes fault told. idle_transfer_leaves (2 * write_bound) found pipes old result new fault
-    told)
+    (λ pipes fault. idle_transfer_leaves (2 * write_bound) found pipes old result new fault)
     (λ device pipes left e out into x.
     let so =
     cleared_in_order x.first pipes.out left.out pipes.into left.into old x.mid result new x.out
@@ -220,8 +222,8 @@ clears_leave old result new found few below_hub =
 
 module _ (path : List ℕ) (old new : Table) (before after : World) (text now : Option (List ℕ))
     (goes : GoesThrough path old new) (traced : Traced before text after now) where
-  transferred : {A : Type 0} {So : Pipes → World → Result A EndpointFault → Pipes → World → Type 0}
-      (n : ℕ) (result : Result A EndpointFault)
+  transferred : {A : Type 0} {So : Pipes → World → Result A TableFault → Pipes → World → Type 0}
+      (n : ℕ) (result : Result A TableFault)
       → So (pipes_at path old) before result (pipes_at path new) after
       → LeavesTransfer n (accepted_device_at path old.entries) (pipes_at path old) before result
       (pipes_at path new) after
@@ -238,7 +240,7 @@ module _ (path : List ℕ) (old new : Table) (before after : World) (text now : 
     ];
   }
 
-  pub table_sends : (bytes : List ℕ) (result : Result (Unit {0}) EndpointFault)
+  pub table_sends : (bytes : List ℕ) (result : Result (Unit {0}) TableFault)
       → PipesSent (pipes_at path old) bytes before result (pipes_at path new) after
       → TableSends path bytes old before text result new after now
   table_sends bytes result x =
@@ -246,7 +248,7 @@ module _ (path : List ℕ) (old new : Table) (before after : World) (text now : 
       (way_leaves false _ (λ p. SentThrough p bytes) before result after _
       (sends_leave bytes before result after _) (is_below_hub path) _ _ goes.fits x)
 
-  pub table_receives : (packets : ℕ) (result : Result (Vec ℕ) EndpointFault)
+  pub table_receives : (packets : ℕ) (result : Result (Vec ℕ) TableFault)
       → PipesReceived (pipes_at path old) packets before result (pipes_at path new) after
       → TableReceives path packets old before text result new after now
   table_receives packets result x =
@@ -254,7 +256,7 @@ module _ (path : List ℕ) (old new : Table) (before after : World) (text now : 
       (way_leaves true _ (λ p. ReceivedThrough p packets) before result after _
       (receives_leave packets before result after _) (is_below_hub path) _ _ goes.fits x)
 
-  pub table_clears : (result : Result (Unit {0}) EndpointFault)
+  pub table_clears : (result : Result (Unit {0}) TableFault)
       → AttemptsWithin (2 * write_bound) before after
       → PipesCleared (pipes_at path old) before result (pipes_at path new) after
       → TableClears path old before text result new after now

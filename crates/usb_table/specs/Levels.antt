@@ -22,9 +22,9 @@ use Rattle.usb_table.specs.Findings.{accepted_device_at}
 use Rattle.usb_table.specs.KnownPorts.{is_below_hub}
 use Rattle.usb_table.specs.Listing.{entry_address}
 use Rattle.usb_table.specs.Tables.{Table, pipes_at}
-use Rattle.usb_table.specs.declared.fault.EndpointFault.{EndpointFault}
-use Rattle.usb_table.specs.Transfers.{EndpointFaultAllowed, OnlyTransfers, PipesCleared}
-use Rattle.usb_table.specs.Transfers.{PipesPolled, PipesReceived, PipesSent, PollTook}
+use Rattle.usb_table.specs.declared.fault.TableFault.{TableFault}
+use Rattle.usb_table.specs.Transfers.{TableFaultAllowed, OnlyTransfers, PipesCleared, PipesPolled}
+use Rattle.usb_table.specs.Transfers.{PipesReceived, PipesSent, PollTook}
 
 -- The pipes to one device
 
@@ -141,18 +141,18 @@ pub record KeepsPolled (path : List ℕ) (old : Table) (before : World)
 -- a transfer: how many attempts it made at most and the text of its steps, why it failed, what it
 -- did through the pipes at the path, and what it left of all others
 pub record Transferred {A : Type 0} (n : ℕ)
-    (So : Pipes → World → Result A EndpointFault → Pipes → World → Type 0) (path : List ℕ)
-    (old : Table) (before : World) (text : Option (List ℕ)) (result : Result A EndpointFault)
+    (So : Pipes → World → Result A TableFault → Pipes → World → Type 0) (path : List ℕ)
+    (old : Table) (before : World) (text : Option (List ℕ)) (result : Result A TableFault)
     (new : Table) (after : World) (now : Option (List ℕ)) : Type 0 where
   pub went : StepRun n before text after now
-  pub told : IfErr result (λ fault. EndpointFaultAllowed fault after)
+  pub told : IfErr result (λ fault. TableFaultAllowed fault after)
   pub did : So (pipes_at path old) before result (pipes_at path new) after
   pub keeps : KeepsMoved path old before new after
 
 -- a call of this answer
 abbrev pub Call : Type 0 → Type 1
 Call A =
-    Table → World → Option (List ℕ) → Result A EndpointFault → Table → World → Option (List ℕ)
+    Table → World → Option (List ℕ) → Result A TableFault → Table → World → Option (List ℕ)
     → Type 0
 
 abbrev pub TableSends : List ℕ → List ℕ → Call (Unit {0})

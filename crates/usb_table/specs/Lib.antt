@@ -36,14 +36,15 @@ pub use TablePipes.{ArePipesIf, ArePipesOf, ArePipesTo, IsBulkPipe, IsPipe, IsSt
 pub use TablePipes.{new_bulk, new_pipes, new_pipes_to, new_status, pipes_made}
 pub use Tables.{ArePipesAt, GoesThrough, Table, TakesOut, empty, entered, pipes_at, removed}
 pub use Transfers.{ClearedAfter, ClearedBy, ClearedIf, ClearedInOrder, ClearedInTurn}
-pub use Transfers.{ClearedThrough, EndpointFaultAllowed, KeepsSettings, NotPolled, NotTried}
-pub use Transfers.{OnlyTransfers, PipeDid, PipeFaultAllowed, PipesCleared, PipesPolled}
-pub use Transfers.{PipesReceived, PipesSent, PipesThrough, PollTook, PolledThrough, ReceivedBy}
-pub use Transfers.{ReceivedThrough, SameSettings, SentBy, SentThrough, ThroughIf, both_sides}
-pub use Transfers.{endpoint_answer, one_side}
+pub use Transfers.{ClearedThrough, KeepsSettings, NotPolled, NotTried, OnlyTransfers, PipeDid}
+pub use Transfers.{PipesCleared, PipesPolled, TableFaultAllowed, PipesReceived, PipesSent}
+pub use Transfers.{PipesThrough, PollTook, PolledThrough, ReceivedBy, ReceivedThrough, SameSettings}
+pub use Transfers.{SentBy, SentThrough, ThroughIf, both_sides, of_pipe, one_side, table_answer}
 pub use declared.entry.Entry.{Entry}
-pub use declared.fault.EndpointFault.{EndpointFault}
-pub use declared.fault.EndpointFault.TheVariants.{NoDevice, NoEndpoint, Pipe}
+pub use declared.fault.TableFault.{TableFault}
+pub use declared.fault.TableFault.TheVariants.{Transfer}
+pub use declared.fault.TransferFault.{TransferFault}
+pub use declared.fault.TransferFault.TheVariants.{NoDevice, NoEndpoint}
 pub use declared.indexes.Indexes.{Indexes}
 pub use declared.known.KnownPort.{KnownPort}
 pub use declared.pipes.BulkPipes.{BulkPipes}

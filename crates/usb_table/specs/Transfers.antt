@@ -14,35 +14,40 @@ use Rattle.usb_pipe.specs.declared.fault.PipeFault.TheVariants as pipe
 use Rattle.usb_address.specs.{KeepsAddresses}
 use Rattle.usb_backlog.specs.{KeepsAll}
 use Rattle.usb_hub.specs.{TouchesNoPort}
-use Rattle.usb_table.specs.declared.fault.EndpointFault.{EndpointFault}
-use Rattle.usb_table.specs.declared.fault.EndpointFault.TheVariants.{NoDevice, NoEndpoint, Pipe}
+use Rattle.usb_table.specs.declared.fault.TransferFault.{TransferFault}
+use Rattle.usb_table.specs.declared.fault.TransferFault.TheVariants.{NoDevice, NoEndpoint, Stalled}
+use Rattle.usb_table.specs.declared.fault.TransferFault.TheVariants.{Busy, NoAnswer, Broken}
+use Rattle.usb_table.specs.declared.fault.TableFault.{TableFault}
+use Rattle.usb_table.specs.declared.fault.TableFault.TheVariants.{Transfer, Bus, Memory}
 use Rattle.usb_table.specs.declared.pipes.BulkPipes.{BulkPipes}
 use Rattle.usb_table.specs.declared.pipes.Pipes.{Pipes}
 use Rattle.usb_table.specs.declared.pipes.Pipes.TheVariants.{Hub, Function, Absent}
 
--- what a pipe answered
-abbrev pub endpoint_answer : {A : Type 0} → Result A PipeFault → Result A EndpointFault
-endpoint_answer (Ok answer) = Ok answer
-endpoint_answer (Err fault) = Err (Pipe fault)
+-- a pipe's fault as the table's
+abbrev pub of_pipe : PipeFault → TableFault
+of_pipe pipe.Stalled = Transfer Stalled
+of_pipe pipe.Busy = Transfer Busy
+of_pipe pipe.NoAnswer = Transfer NoAnswer
+of_pipe pipe.Broken = Transfer Broken
+of_pipe (pipe.Bus fault) = Bus fault
+of_pipe pipe.Memory = Memory
+
+-- and its answer
+abbrev pub table_answer : {A : Type 0} → Result A PipeFault → Result A TableFault
+table_answer (Ok answer) = Ok answer
+table_answer (Err fault) = Err (of_pipe fault)
 
 -- nothing was tried, and the pipe or the pipes are as they were
-abbrev pub NotTried : {A P : Type 0} → EndpointFault → P → World → Result A EndpointFault → P
-    → World → Type 0
-NotTried fault pipe old result left new = (result ≡ Err fault) × (left ≡ pipe) × (new ≡ old)
+abbrev pub NotTried : {A P : Type 0} → TransferFault → P → World → Result A TableFault → P → World
+    → Type 0
+NotTried fault pipe old result left new =
+    (result ≡ Err (Transfer fault)) × (left ≡ pipe) × (new ≡ old)
 
 -- the bus tells its fault
-abbrev pub PipeFaultAllowed : PipeFault → World → Type 0
-PipeFaultAllowed pipe.Stalled w = ⊤
-PipeFaultAllowed pipe.Busy w = ⊤
-PipeFaultAllowed pipe.NoAnswer w = ⊤
-PipeFaultAllowed pipe.Broken w = ⊤
-PipeFaultAllowed (pipe.Bus fault) w = Failed fault w
-PipeFaultAllowed pipe.Memory w = ⊤
-
-abbrev pub EndpointFaultAllowed : EndpointFault → World → Type 0
-EndpointFaultAllowed NoDevice w = ⊤
-EndpointFaultAllowed NoEndpoint w = ⊤
-EndpointFaultAllowed (Pipe fault) w = PipeFaultAllowed fault w
+abbrev pub TableFaultAllowed : TableFault → World → Type 0
+TableFaultAllowed (Transfer fault) w = ⊤
+TableFaultAllowed (Bus fault) w = Failed fault w
+TableFaultAllowed Memory w = ⊤
 
 -- a packet that came took an attempt, and so did each fault but the bus's own
 abbrev pub PollTook : World → Result (Option (ArrayVec ℕ)) PipeFault → World → Type 0
@@ -52,16 +57,16 @@ PollTook old result new = MatchResult result (λ got. IfSome got (λ packet. Att
 -- Through one pipe
 
 pub record SentThrough (pipe : Bulk) (bytes : List ℕ) (old : World)
-    (result : Result (Unit {0}) EndpointFault) (left : Bulk) (new : World) : Type 0 where
+    (result : Result (Unit {0}) TableFault) (left : Bulk) (new : World) : Type 0 where
   pub answer : Result (Unit {0}) PipeFault
-  pub told : result ≡ endpoint_answer answer
+  pub told : result ≡ table_answer answer
   pub count : AttemptsWithin (transaction_bound * div_ceil (length bytes) pipe.max) old new
   pub sends : Sends bytes pipe old answer left new
 
 pub record ReceivedThrough (pipe : Bulk) (packets : ℕ) (old : World)
-    (result : Result (Vec ℕ) EndpointFault) (left : Bulk) (new : World) : Type 0 where
+    (result : Result (Vec ℕ) TableFault) (left : Bulk) (new : World) : Type 0 where
   pub answer : Result (Vec ℕ) PipeFault
-  pub told : result ≡ endpoint_answer answer
+  pub told : result ≡ table_answer answer
   pub count : AttemptsWithin (transaction_bound * packets) old new
   pub receives : Receives packets pipe old answer left new
 
@@ -74,19 +79,19 @@ pub record ClearedThrough (pipe : Bulk) (old : World) (answer : Result (Unit {0}
 
 -- what a call through one pipe did
 abbrev pub PipeDid : Type 0 → Type 1
-PipeDid A = Bulk → World → Result A EndpointFault → Bulk → World → Type 0
+PipeDid A = Bulk → World → Result A TableFault → Bulk → World → Type 0
 
-abbrev pub ThroughIf : {A : Type 0} → PipeDid A → Option Bulk → World → Result A EndpointFault
+abbrev pub ThroughIf : {A : Type 0} → PipeDid A → Option Bulk → World → Result A TableFault
     → Option Bulk → World → Type 0
 ThroughIf So None old result left new = NotTried NoEndpoint None old result left new
 ThroughIf So (Some pipe) old result None new = ⊥
 ThroughIf So (Some pipe) old result (Some left) new = So pipe old result left new
 
-abbrev pub SentBy : Option Bulk → List ℕ → World → Result (Unit {0}) EndpointFault → Option Bulk
+abbrev pub SentBy : Option Bulk → List ℕ → World → Result (Unit {0}) TableFault → Option Bulk
     → World → Type 0
 SentBy pipe bytes = ThroughIf (λ p. SentThrough p bytes) pipe
 
-abbrev pub ReceivedBy : Option Bulk → ℕ → World → Result (Vec ℕ) EndpointFault → Option Bulk
+abbrev pub ReceivedBy : Option Bulk → ℕ → World → Result (Vec ℕ) TableFault → Option Bulk
     → World → Type 0
 ReceivedBy pipe packets = ThroughIf (λ p. ReceivedThrough p packets) pipe
 
@@ -99,26 +104,26 @@ ClearedBy (Some pipe) old answer (Some left) new = ClearedThrough pipe old answe
 
 -- the second pipe is cleared where the first one was
 abbrev pub ClearedAfter : Result (Unit {0}) PipeFault → Option Bulk → World
-    → Result (Unit {0}) EndpointFault → Option Bulk → World → Type 0
+    → Result (Unit {0}) TableFault → Option Bulk → World → Type 0
 ClearedAfter (Ok done) pipe mid result left new = (answer : Result (Unit {0}) PipeFault)
-    × (result ≡ endpoint_answer answer) × ClearedBy pipe mid answer left new
-ClearedAfter (Err fault) pipe mid result left new = (result ≡ Err (Pipe fault)) × (left ≡ pipe)
+    × (result ≡ table_answer answer) × ClearedBy pipe mid answer left new
+ClearedAfter (Err fault) pipe mid result left new = (result ≡ Err (of_pipe fault)) × (left ≡ pipe)
     × (new ≡ mid)
 
 pub record ClearedInOrder (pipes : BulkPipes) (old : World)
-    (result : Result (Unit {0}) EndpointFault) (left : BulkPipes) (new : World) : Type 0 where
+    (result : Result (Unit {0}) TableFault) (left : BulkPipes) (new : World) : Type 0 where
   pub first : Result (Unit {0}) PipeFault
   pub mid : World
   pub out : ClearedBy pipes.out old first left.out mid
   pub into : ClearedAfter first pipes.into mid result left.into new
 
-abbrev pub ClearedIf : Bool → BulkPipes → World → Result (Unit {0}) EndpointFault → BulkPipes
+abbrev pub ClearedIf : Bool → BulkPipes → World → Result (Unit {0}) TableFault → BulkPipes
     → World → Type 0
 ClearedIf false pipes old result left new = NotTried NoEndpoint pipes old result left new
 ClearedIf true pipes old result left new = ClearedInOrder pipes old result left new
 
 -- the halt of the OUT endpoint, then of the IN endpoint; the first fault ends it
-abbrev pub ClearedInTurn : BulkPipes → World → Result (Unit {0}) EndpointFault → BulkPipes → World
+abbrev pub ClearedInTurn : BulkPipes → World → Result (Unit {0}) TableFault → BulkPipes → World
     → Type 0
 ClearedInTurn pipes old result left new = ClearedIf (is_some pipes.out || is_some pipes.into) pipes
     old result left new
@@ -154,7 +159,7 @@ both_sides false pipe other = record { out = pipe; into = other }
 both_sides true pipe other = record { out = other; into = pipe }
 
 -- a call goes through the pipe of one way to a function
-abbrev pub PipesThrough : {A : Type 0} → Bool → PipeDid A → Pipes → World → Result A EndpointFault
+abbrev pub PipesThrough : {A : Type 0} → Bool → PipeDid A → Pipes → World → Result A TableFault
     → Pipes → World → Type 0
 PipesThrough is_in So (Hub pipe) old result left new =
     NotTried NoEndpoint (Hub pipe) old result left new
@@ -164,16 +169,16 @@ PipesThrough is_in So (Function pipes) old result left new =
 PipesThrough is_in So Absent old result left new = NotTried NoDevice Absent old result left new
 
 -- bytes are sent to its bulk OUT endpoint
-abbrev pub PipesSent : Pipes → List ℕ → World → Result (Unit {0}) EndpointFault → Pipes → World
+abbrev pub PipesSent : Pipes → List ℕ → World → Result (Unit {0}) TableFault → Pipes → World
     → Type 0
 PipesSent pipes bytes = PipesThrough false (λ p. SentThrough p bytes) pipes
 
 -- packets are received from its bulk IN endpoint
-abbrev pub PipesReceived : Pipes → ℕ → World → Result (Vec ℕ) EndpointFault → Pipes → World → Type 0
+abbrev pub PipesReceived : Pipes → ℕ → World → Result (Vec ℕ) TableFault → Pipes → World → Type 0
 PipesReceived pipes packets = PipesThrough true (λ p. ReceivedThrough p packets) pipes
 
 -- the halts of a function's bulk endpoints are cleared
-abbrev pub PipesCleared : Pipes → World → Result (Unit {0}) EndpointFault → Pipes → World → Type 0
+abbrev pub PipesCleared : Pipes → World → Result (Unit {0}) TableFault → Pipes → World → Type 0
 PipesCleared (Hub pipe) old result left new = NotTried NoEndpoint (Hub pipe) old result left new
 PipesCleared (Function pipes) old result left new = (rest : BulkPipes) × (left ≡ Function rest)
     × ClearedInTurn pipes old result rest new

@@ -1,28 +1,59 @@
-//! Why a transfer to an endpoint ended with no success.
+//! Why a call through the pipes to a device ended with no success.
 ghost use Rattle.std.specs.Prelude.{◌≡◌};
-ghost use Rattle.usb_table.specs.declared.fault.EndpointFault.TheVariants.{Pipe};
+ghost use Rattle.usb_table.specs.Transfers.{of_pipe};
 
 use thiserror::Error;
+use usb_bus::BusFault;
 use usb_pipe::PipeFault;
 
-/// Why a transfer to an endpoint ended with no success, in the order in which the reasons are told.
+/// Why a transfer was not done, in the order in which the reasons are told.
 #[derive(Clone, Copy, Debug, PartialEq, Eq, Error)]
-pub enum EndpointFault {
-    /// No accepted device stands at the port.
+pub enum TransferFault {
+    /// No device that was accepted is at the path.
     #[error("no device")]
     NoDevice,
-    /// It is a hub, or has no such endpoint.
+    /// The device is a hub, or has no such bulk endpoint.
     #[error("no endpoint")]
     NoEndpoint,
-    /// The transfer failed.
-    #[error("{0}")]
-    Pipe(PipeFault),
+    /// The endpoint answered STALL.
+    #[error("stalled")]
+    Stalled,
+    /// NAKs and discarded repeats of one transaction together reached 256.
+    #[error("busy")]
+    Busy,
+    /// There were three errors running in one transaction.
+    #[error("no answer")]
+    NoAnswer,
+    /// The pipe has to be cleared first.
+    #[error("broken")]
+    Broken,
 }
 
-impl From<PipeFault> for EndpointFault {
-    ghost from_gives = { λ fault e. e ≡ Pipe fault };
+/// Why a call through the pipes to a device failed: what the transfer came to, or what ends all.
+#[derive(Clone, Copy, Debug, PartialEq, Eq, Error)]
+pub enum TableFault {
+    /// The transfer was not done.
+    #[error("{0}")]
+    Transfer(TransferFault),
+    /// The bus makes no more steps.
+    #[error("{0}")]
+    Bus(BusFault),
+    /// Memory was refused.
+    #[error("out of memory")]
+    Memory,
+}
 
-    fn from(fault: PipeFault) -> EndpointFault {
-        EndpointFault::Pipe(fault)
+impl From<PipeFault> for TableFault {
+    ghost from_gives = { λ fault e. e ≡ of_pipe fault };
+
+    fn from(fault: PipeFault) -> TableFault {
+        match fault {
+            PipeFault::Stalled => TableFault::Transfer(TransferFault::Stalled),
+            PipeFault::Busy => TableFault::Transfer(TransferFault::Busy),
+            PipeFault::NoAnswer => TableFault::Transfer(TransferFault::NoAnswer),
+            PipeFault::Broken => TableFault::Transfer(TransferFault::Broken),
+            PipeFault::Bus(fault) => TableFault::Bus(fault),
+            PipeFault::Memory => TableFault::Memory,
+        }
     }
 }

@@ -46,7 +46,7 @@ mod pipes;
 mod table;
 mod target;
 
-pub use fault::EndpointFault;
+pub use fault::{TableFault, TransferFault};
 pub use found::address_of;
 pub use known::KnownPort;
 pub use listing_laws::{listed_is_what_the_events_left, one_listing};

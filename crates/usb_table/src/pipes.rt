@@ -15,8 +15,8 @@ ghost use Rattle.usb_table.specs.declared.pipes.Pipes.TheVariants.{Hub};
 ghost use Rattle.usb_table.specs.Transfers.{ClearedBy, ClearedInTurn};
 ghost use Rattle.usb_table.specs.Transfers.{PipesPolled, PipesSent, PipesReceived, PipesCleared};
 
-use crate::EndpointFault;
 use crate::target::target_to;
+use crate::{TableFault, TransferFault};
 use arrayvec::ArrayVec;
 use std::alloc::Global;
 use usb_bus::Bus;
@@ -103,7 +103,7 @@ impl Pipes {
     }
 
     /// Sends bytes to a function's bulk OUT endpoint.
-    pub fn send<B: Bus>(&mut self, bus: &mut B, bytes: &[u8]) -> Result<(), EndpointFault>
+    pub fn send<B: Bus>(&mut self, bus: &mut B, bytes: &[u8]) -> Result<(), TableFault>
         requires { IfSome (pipe_out self.old) (λ pipe. pipe.is_in ≡ false) }
         ensures made { pipes_made self.new ≡ pipes_made self.old }
         ensures traced { B.modelled ≡ true
@@ -118,8 +118,10 @@ impl Pipes {
                     ..
                 },
             ) => Ok(pipe.send(bus, bytes)?),
-            Pipes::Function(_) | Pipes::Hub(_) => Err(EndpointFault::NoEndpoint),
-            Pipes::Absent => Err(EndpointFault::NoDevice),
+            Pipes::Function(_) | Pipes::Hub(_) => Err(TableFault::Transfer(
+                TransferFault::NoEndpoint,
+            )),
+            Pipes::Absent => Err(TableFault::Transfer(TransferFault::NoDevice)),
         }
     }
 
@@ -129,7 +131,7 @@ impl Pipes {
         alloc: Global,
         bus: &mut B,
         packets: u16,
-    ) -> Result<Vec<u8>, EndpointFault>
+    ) -> Result<Vec<u8>, TableFault>
         requires { IfSome (pipe_in self.old) (λ pipe. pipe.is_in ≡ true) }
         ensures made { pipes_made self.new ≡ pipes_made self.old }
         ensures traced { B.modelled ≡ true
@@ -144,13 +146,15 @@ impl Pipes {
                     ..
                 },
             ) => Ok(pipe.receive(alloc, bus, packets)?),
-            Pipes::Function(_) | Pipes::Hub(_) => Err(EndpointFault::NoEndpoint),
-            Pipes::Absent => Err(EndpointFault::NoDevice),
+            Pipes::Function(_) | Pipes::Hub(_) => Err(TableFault::Transfer(
+                TransferFault::NoEndpoint,
+            )),
+            Pipes::Absent => Err(TableFault::Transfer(TransferFault::NoDevice)),
         }
     }
 
     /// Clears the halts of a function's bulk endpoints.
-    pub fn clear_halt<B: Bus>(&mut self, bus: &mut B) -> Result<(), EndpointFault>
+    pub fn clear_halt<B: Bus>(&mut self, bus: &mut B) -> Result<(), TableFault>
         ensures made { pipes_made self.new ≡ pipes_made self.old }
         ensures steps { B.modelled ≡ true
             → Steps B.world B.trace (2 * write_bound) bus.old bus.new }
@@ -159,8 +163,8 @@ impl Pipes {
     {
         match self {
             Pipes::Function(pipes) => pipes.clear_halt(bus),
-            Pipes::Hub(_) => Err(EndpointFault::NoEndpoint),
-            Pipes::Absent => Err(EndpointFault::NoDevice),
+            Pipes::Hub(_) => Err(TableFault::Transfer(TransferFault::NoEndpoint)),
+            Pipes::Absent => Err(TableFault::Transfer(TransferFault::NoDevice)),
         }
     }
 }
@@ -180,7 +184,7 @@ fn clear_through<B: Bus>(pipe: &mut Option<BulkPipe>, bus: &mut B) -> Result<(),
 
 impl BulkPipes {
     /// Clears the halt of both endpoints, of the one that writes first.
-    pub fn clear_halt<B: Bus>(&mut self, bus: &mut B) -> Result<(), EndpointFault>
+    pub fn clear_halt<B: Bus>(&mut self, bus: &mut B) -> Result<(), TableFault>
         ensures made { both_made self.new ≡ both_made self.old }
         ensures steps { B.modelled ≡ true
             → Steps B.world B.trace (2 * write_bound) bus.old bus.new }
@@ -188,7 +192,7 @@ impl BulkPipes {
             → ClearedInTurn self.old (B.world bus.old) result self.new (B.world bus.new) }
     {
         if self.out.is_none() && self.into.is_none() {
-            return Err(EndpointFault::NoEndpoint);
+            return Err(TableFault::Transfer(TransferFault::NoEndpoint));
         }
         clear_through(&mut self.out, bus)?;
         Ok(clear_through(&mut self.into, bus)?)

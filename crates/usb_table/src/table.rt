@@ -19,7 +19,7 @@ use crate::found::address_number;
 use crate::indexes::Indexes;
 use crate::kind::{Kind, fits, start_after};
 use crate::known::{is_below_hub, port_of_finding, root_port};
-use crate::{EndpointFault, KnownPort};
+use crate::{KnownPort, TableFault, TransferFault};
 use arrayvec::ArrayVec;
 use slab::Slab;
 use std::alloc::{AllocError, Global};
@@ -206,13 +206,13 @@ impl DeviceTable {
     /// # Errors
     ///
     /// `NoDevice` where no accepted device stands there, `NoEndpoint` where it is a hub, is at low
-    /// speed or has no bulk OUT endpoint; `Pipe` with those of `BulkPipe::send`.
+    /// speed or has no bulk OUT endpoint; else those of `BulkPipe::send`.
     pub fn send<B: Bus>(
         &mut self,
         bus: &mut B,
         path: &PortPath,
         bytes: &[u8],
-    ) -> Result<(), EndpointFault>
+    ) -> Result<(), TableFault>
         ensures through { GoesThrough path.now self.old self.new }
         ensures sends { B.modelled ≡ true → TableSends path.now bytes.now
             self.old (B.world bus.old) (B.trace bus.old) result
@@ -220,7 +220,7 @@ impl DeviceTable {
     {
         match self.indexes.by_path.get(path) {
             Some(key) => self.entries[*key].pipes.send(bus, bytes),
-            None => Err(EndpointFault::NoDevice),
+            None => Err(TableFault::Transfer(TransferFault::NoDevice)),
         }
     }
 
@@ -230,14 +230,14 @@ impl DeviceTable {
     /// # Errors
     ///
     /// `NoDevice` where no accepted device stands there, `NoEndpoint` where it is a hub, is at low
-    /// speed or has no bulk IN endpoint; `Pipe` with those of `BulkPipe::receive`.
+    /// speed or has no bulk IN endpoint; else those of `BulkPipe::receive`.
     pub fn receive<B: Bus>(
         &mut self,
         alloc: Global,
         bus: &mut B,
         path: &PortPath,
         packets: u16,
-    ) -> Result<Vec<u8>, EndpointFault>
+    ) -> Result<Vec<u8>, TableFault>
         ensures through { GoesThrough path.now self.old self.new }
         ensures receives { B.modelled ≡ true → TableReceives path.now packets
             self.old (B.world bus.old) (B.trace bus.old) result
@@ -245,7 +245,7 @@ impl DeviceTable {
     {
         match self.indexes.by_path.get(path) {
             Some(key) => self.entries[*key].pipes.receive(alloc, bus, packets),
-            None => Err(EndpointFault::NoDevice),
+            None => Err(TableFault::Transfer(TransferFault::NoDevice)),
         }
     }
 
@@ -255,8 +255,8 @@ impl DeviceTable {
     /// # Errors
     ///
     /// `NoDevice` where no accepted device stands there, `NoEndpoint` where it is a hub, is at low
-    /// speed or has no bulk endpoint; `Pipe` with those of `BulkPipe::clear_halt`.
-    pub fn clear_halt<B: Bus>(&mut self, bus: &mut B, path: &PortPath) -> Result<(), EndpointFault>
+    /// speed or has no bulk endpoint; else those of `BulkPipe::clear_halt`.
+    pub fn clear_halt<B: Bus>(&mut self, bus: &mut B, path: &PortPath) -> Result<(), TableFault>
         ensures through { GoesThrough path.now self.old self.new }
         ensures clears { B.modelled ≡ true → TableClears path.now
             self.old (B.world bus.old) (B.trace bus.old) result
@@ -264,7 +264,7 @@ impl DeviceTable {
     {
         match self.indexes.by_path.get(path) {
             Some(key) => self.entries[*key].pipes.clear_halt(bus),
-            None => Err(EndpointFault::NoDevice),
+            None => Err(TableFault::Transfer(TransferFault::NoDevice)),
         }
     }
 }

@@ -8,13 +8,11 @@ use Rattle.usb_world.specs.{PlanData, IsPlan, AtPorts, opening, BusFault, LimitR
 use Rattle.usb_world.specs.{TraceFailed, World, Failed}
 use Rattle.usb_enum.proofs.Interface.{opening_in_order}
 use Rattle.usb_host.specs.{HostState, opening_host as host_opening, IsUntouched, HostInvariant}
-use Rattle.usb_host.specs.{IsUnpowered, RefusalsJustified, HostFault, IsOfPipe, RoundFaultAllowed}
+use Rattle.usb_host.specs.{IsUnpowered, RefusalsJustified, HostFault, RoundFaultAllowed}
 use Rattle.usb_host.specs.{TransferFaultAllowed, is_final, RoundTells, Round}
-use Rattle.usb_run.specs.{RunFault, Memory as NoMemory, TransferFault, transfer_ended}
-use Rattle.usb_run.specs.{answer_of_pipe, failed, Knows, OneRound, IsCaused, RunsOn, round_fault}
-use Rattle.usb_run.specs.{run_fault, Opens}
-use Rattle.usb_pipe.specs.{PipeFault}
-use Rattle.usb_pipe.specs.declared.fault.PipeFault.TheVariants as pipe
+use Rattle.usb_run.specs.{RunFault, Memory as NoMemory, transfer_ended, Knows, OneRound, IsCaused}
+use Rattle.usb_run.specs.{RunsOn, round_fault, run_fault, Opens}
+use Rattle.usb_table.specs.{TransferFault}
 use Rattle.usb_host.specs.declared.fault.HostFault.TheVariants as host
 use Rattle.usb_bus.specs.{Traced}
 use Rattle.usb_run.proofs.courses.RunParts.{round_running}
@@ -31,9 +29,7 @@ failed_is_caused TraceFailed w failed = failed.told
 pub round_caused : (why : HostFault) (w : World) → RoundFaultAllowed why w
     → IsCaused (round_fault why) w
 round_caused host.Stopped w told = tt
-round_caused host.NoDevice w told = tt
-round_caused host.NoEndpoint w told = tt
-round_caused (host.Pipe fault) w told = tt
+round_caused (host.Transfer fault) w told = tt
 round_caused (host.Bus fault) w told = failed_is_caused fault w told
 round_caused host.Memory w told = tt
 
@@ -83,20 +79,9 @@ pub answered_goes : {A : Type 0} (answer : Result A HostFault) (x : Result A Tra
     → transfer_ended answer ≡ Ok x → is_final answer ≡ false
 answered_goes (Ok done) x e = refl
 answered_goes (Err host.Stopped) x e = refl
-answered_goes (Err host.NoDevice) x e = refl
-answered_goes (Err host.NoEndpoint) x e = refl
-answered_goes (Err (host.Pipe fault)) x e = refl
+answered_goes (Err (host.Transfer fault)) x e = refl
 answered_goes (Err (host.Bus fault)) x e = cc e
 answered_goes (Err host.Memory) x e = cc e
-
-caused_pipe : {A : Type 0} (fault : PipeFault) (f : RunFault) (w : World) → IsOfPipe fault
-    → failed {A = A} (answer_of_pipe fault) ≡ Err f → IsCaused f w
-caused_pipe pipe.Stalled f w of e = cc e
-caused_pipe pipe.Busy f w of e = cc e
-caused_pipe pipe.NoAnswer f w of e = cc e
-caused_pipe pipe.Broken f w of e = cc e
-caused_pipe (pipe.Bus fault) f w of e = absurd of
-caused_pipe pipe.Memory f w of e = absurd of
 
 -- and one that did told its cause
 pub answered_caused : {A : Type 0} (answer : Result A HostFault) (f : RunFault) (w : World)
@@ -104,9 +89,7 @@ pub answered_caused : {A : Type 0} (answer : Result A HostFault) (f : RunFault) 
 answered_caused (Ok done) f w told e = cc e
 answered_caused {A} (Err host.Stopped) f w told e =
     subst (λ x. IsCaused x w) (err_same {A = A} NoMemory f e) tt
-answered_caused (Err host.NoDevice) f w told e = cc e
-answered_caused (Err host.NoEndpoint) f w told e = cc e
-answered_caused (Err (host.Pipe fault)) f w told e = caused_pipe fault f w told e
+answered_caused (Err (host.Transfer fault)) f w told e = cc e
 answered_caused {A} (Err (host.Bus fault)) f w told e =
     subst (λ x. IsCaused x w) (err_same {A = A} (run_fault fault) f e)
     (failed_is_caused fault w told)

@@ -1,7 +1,7 @@
 -- Entries that come and go under their keys.
-use Rattle.std.proofs.Common.{◌≡◌, ◌≢◌, ◌∙◌, refl, sym, ap, subst, inl, inr, true, false, Bool, ℕ}
-use Rattle.std.proofs.Common.{cond, List, [], ◌∷◌, Option, Some, None, All}
-use Rattle.std.specs.Prelude.{◌⊎◌, ◌||◌, ◌==◌, IsSome, IfSome, unwrap_or}
+use Rattle.std.proofs.Common.{◌≡◌, ◌∙◌, refl, sym, ap, inl, inr, true, false, Bool, ℕ, cond, List}
+use Rattle.std.proofs.Common.{[], ◌∷◌, Option, Some, None, All}
+use Rattle.std.specs.Prelude.{◌⊎◌, ◌||◌, IsSome, IfSome, unwrap_or}
 use Rattle.std.specs.Map.{lookup, keys_of, values_of, remove_entry}
 use Rattle.std.specs.BTreeMap.{is_at, insert_entry}
 use Rattle.std.specs.List.{list_any}
@@ -12,7 +12,7 @@ use Rattle.std.specs.Cmp.{eq_by_cmp_equiv, nat_cmp_total, unsigned_tied}
 use Rattle.std.specs.Cmp.Lexicographic.{nat_list_cmp_total}
 use Rattle.std.specs.declared.cmp.Ordering.{Ordering}
 use Rattle.std.specs.declared.cmp.Ordering.TheVariants.{Less, Equal, Greater}
-use Rattle.std.proofs.lemmas.Bool.{eqb-true, eq-eqb}
+use Rattle.std.proofs.lemmas.Bool.{eqb-true}
 use Rattle.std.proofs.lemmas.List.Elements.{All-head, All-tail}
 use Rattle.std.proofs.lemmas.Map.Keys.{IsDistinct-from_sorted}
 use Rattle.std.proofs.lemmas.Map.Made.{lookup-map_values}
@@ -33,13 +33,6 @@ number_tied x y tie = eqb-true x y (sym (unsigned_tied x y) ∙ tie)
 pub number_itself : (x : ℕ) → is_at (nat_cmp x) x ≡ true
 number_itself x = (eq_by_cmp_equiv nat_cmp_total).refl x
 
-same_or_not_by : (x y : ℕ) (b : Bool) → (x == y) ≡ b → (x ≡ y) ⊎ (x ≢ y)
-same_or_not_by x y true e = inl (eqb-true x y e)
-same_or_not_by x y false e = inr (λ h. let t : (x == y) ≡ true = eq-eqb x y h in absurd (cc (t, e)))
-
-pub same_or_not : (x y : ℕ) → (x ≡ y) ⊎ (x ≢ y)
-same_or_not x y = same_or_not_by x y (x == y) refl
-
 -- What the lists show of the keys
 
 module _ {A : Type 0} (none : A) (slots : ℕ → Option A) where
@@ -48,17 +41,6 @@ module _ {A : Type 0} (none : A) (slots : ℕ → Option A) where
       ≡ option_map (under none slots) (key_of_path paths path)
   values_by_path-lookup path paths = lookup-map_values (under none slots) (is_at (path_cmp path))
       paths
-
-  pub listed_at : (path : List ℕ) (paths : PathKeys) (key : ℕ) (value : A)
-      → key_of_path paths path ≡ Some key → slots key ≡ Some value
-      → lookup (is_at (path_cmp path)) (values_by_path none slots paths) ≡ Some value
-  listed_at path paths key value is stands = values_by_path-lookup path paths
-      ∙ ap (option_map (under none slots)) is ∙ ap (λ f. Some (unwrap_or f none)) stands
-
-  pub listed_none : (path : List ℕ) (paths : PathKeys) → key_of_path paths path ≡ None
-      → lookup (is_at (path_cmp path)) (values_by_path none slots paths) ≡ None
-  listed_none path paths is = values_by_path-lookup path paths
-      ∙ ap (option_map (under none slots)) is
 
   pub values_by_path-remove : (test : List ℕ → Bool) (paths : PathKeys)
       → values_by_path none slots (remove_entry test paths)
@@ -125,11 +107,14 @@ entries-lookup found = values_by_path-lookup (Refused Silent) found
 pub entries_of-key : (found : Slots) (path : List ℕ) (paths : PathKeys) (key : ℕ)
     (finding : Finding) → key_of_path paths path ≡ Some key → found key ≡ Some finding
     → lookup (is_at (path_cmp path)) (entries_of found paths) ≡ Some finding
-entries_of-key found = listed_at (Refused Silent) found
+entries_of-key found path paths key finding is stands = entries-lookup found path paths
+    ∙ ap (option_map (finding_under found)) is
+    ∙ ap (λ f. Some (unwrap_or f (Refused Silent))) stands
 
 pub entries_of-no_key : (found : Slots) (path : List ℕ) (paths : PathKeys)
     → key_of_path paths path ≡ None → lookup (is_at (path_cmp path)) (entries_of found paths) ≡ None
-entries_of-no_key found = listed_none (Refused Silent) found
+entries_of-no_key found path paths is = entries-lookup found path paths
+    ∙ ap (option_map (finding_under found)) is
 
 pub findings-standing : (standings : TableSlots) (key : ℕ) (s : Entry) → standings key ≡ Some s
     → findings standings key ≡ Some s.finding
@@ -152,9 +137,9 @@ pub entries-keys : (found : Slots) (paths : PathKeys) → keys_of (entries_of fo
 entries-keys found [] = refl
 entries-keys found (e ∷ es) = ap (λ ks. e.0 ∷ ks) (entries-keys found es)
 
-pub entries_rise : (found : Slots) (paths : PathKeys) (entries : Entries)
-    → entries_of found paths ≡ entries → IsStrictlySortedBy path_cmp (keys_of paths) → Rises entries
-entries_rise found paths entries is rises = subst Rises is (rw (entries-keys found paths) rises)
+pub entries_rise : (found : Slots) (paths : PathKeys) → IsStrictlySortedBy path_cmp (keys_of paths)
+    → Rises (entries_of found paths)
+entries_rise found paths rises = rw (entries-keys found paths) rises
 
 pub entries-has_at : (found : Slots) (path : List ℕ) (paths : PathKeys)
     → has_at path (entries_of found paths) ≡ list_any (λ e. is_at_or_below e.0 path) paths

@@ -10,7 +10,7 @@ use Rattle.std.specs.Cmp.{eq_by_cmp_equiv}
 use Rattle.std.specs.Cmp.Lexicographic.{nat_list_cmp_total}
 use Rattle.std.specs.declared.cmp.Ordering.{Ordering}
 use Rattle.std.specs.declared.cmp.Ordering.TheVariants.{Less, Equal, Greater}
-use Rattle.std.proofs.lemmas.Bool.{and_parts, and_from}
+use Rattle.std.proofs.lemmas.Bool.{and_parts, and_from, false_from_ne_true}
 use Rattle.std.proofs.lemmas.Map.{lookup-none}
 use Rattle.std.proofs.lemmas.Map.Entries.{none_below_head, none_past_head, lookup_head, lookup_tail}
 use Rattle.std.proofs.lemmas.Map.Keys.{IsDistinct-from_sorted, sorted_tail}
@@ -53,18 +53,13 @@ path_cmp-not_less q e es f rises found = λ less.
     (none_below_head nat_list_cmp_total q e es rises less) in
     absurd (cc (none, found))
 
-not_head_by : (q : List ℕ) (e : List ℕ × Finding) (es : Entries) (f : Finding) → Rises (e ∷ es)
-    → lookup (is_at (path_cmp q)) es ≡ Some f → (b : Bool) → is_at (path_cmp q) e.0 ≡ b → b ≡ false
-not_head_by q e es f rises found true tie =
+not_head : (q : List ℕ) (e : List ℕ × Finding) (es : Entries) (f : Finding) → Rises (e ∷ es)
+    → lookup (is_at (path_cmp q)) es ≡ Some f → is_at (path_cmp q) e.0 ≡ false
+not_head q e es f rises found = false_from_ne_true _ (λ tie.
     let apart = IsDistinct-from_sorted path_cmp (keys_of (e ∷ es)) rises in
     let none = lookup-none (is_at (path_cmp q)) es
     (none_past_head (eq_by_cmp_equiv nat_list_cmp_total) q e es apart tie) in
-    absurd (cc (none, found))
-not_head_by q e es f rises found false tie = refl
-
-not_head : (q : List ℕ) (e : List ℕ × Finding) (es : Entries) (f : Finding) → Rises (e ∷ es)
-    → lookup (is_at (path_cmp q)) es ≡ Some f → is_at (path_cmp q) e.0 ≡ false
-not_head q e es f rises found = not_head_by q e es f rises found (is_at (path_cmp q) e.0) refl
+    cc (none, found))
 
 module _ (kind : Finding → Bool) (last : Option (List ℕ)) (e : List ℕ × Finding) (es : Entries)
   where

@@ -1,15 +1,15 @@
 -- What is so of the endpoints that a host picks in a configuration text.
-use Rattle.std.proofs.Common.{◌≡◌, refl, arith, Bool, true, false, ℕ, ◌≤◌, ◌==◌, ◌&&◌}
-use Rattle.std.proofs.Common.{if◌then◌else◌, List, [], ◌∷◌, Option, None, Some, Result, Ok, Err}
-use Rattle.std.specs.Prelude.{nat_le, slice_index, IfSome}
+use Rattle.std.proofs.Common.{◌≡◌, refl, arith, Bool, true, false, ℕ, ◌≤◌, ◌==◌, if◌then◌else◌}
+use Rattle.std.proofs.Common.{List, [], ◌∷◌, Option, None, Some, Result, Ok, Err}
+use Rattle.std.specs.Prelude.{nat_le, IfSome}
 use Rattle.std.specs.Option.{option_or}
+use Rattle.std.proofs.lemmas.Bool.{and_parts}
 use Rattle.std.proofs.lemmas.Bool.Decides.{nat_tests}
 use Rattle.usb_descriptor.specs.{DescriptorFault, Interface, Endpoint, Other, counts_after, picked}
-use Rattle.usb_descriptor.specs.{first_from, first_counting, is_bulk_size, bulk_described}
-use Rattle.usb_descriptor.specs.{bulk_out_at, bulk_in_at, packet_size, status_at, in_config}
-use Rattle.usb_descriptor.specs.{bulk_out_of, bulk_in_of, status_endpoint_of, config_of, items_of}
-use Rattle.usb_descriptor.specs.{is_in, endpoint_number, is_bulk, is_interrupt, transfer_of}
-use Rattle.usb_descriptor.specs.{max_packet_size}
+use Rattle.usb_descriptor.specs.{first_from, first_counting, bulk_described, bulk_out_at}
+use Rattle.usb_descriptor.specs.{bulk_in_at, packet_size, status_at, in_config, bulk_out_of}
+use Rattle.usb_descriptor.specs.{bulk_in_of, status_endpoint_of, config_of, items_of}
+use Rattle.usb_descriptor.specs.{endpoint_number, max_packet_size}
 use Rattle.usb_descriptor.specs.declared.item.Item.{Item}
 
 -- what is so of each that is picked, is so of the first that counts
@@ -38,31 +38,10 @@ module _ (P : ℕ × ℕ → Type 0) (pick : List ℕ → Option (ℕ × ℕ)) (
   of_config (Err fault) = tt
   of_config (Ok text) = of_first false (items_of text)
 
-of_some : (P : ℕ × ℕ → Type 0) (b : Bool) (e : ℕ × ℕ) → (b ≡ true → P e)
-    → IfSome (if b then Some e else None) P
-of_some P true e f = f refl
-of_some P false e f = tt
-
-of_other : (P : ℕ × ℕ → Type 0) (b : Bool) (o : Option (ℕ × ℕ)) → IfSome o P
-    → IfSome (if b then None else o) P
-of_other P true o h = tt
-of_other P false o h = h
-
-of_these : (P : ℕ × ℕ → Type 0) (b : Bool) (o : Option (ℕ × ℕ)) → IfSome o P
-    → IfSome (if b then o else None) P
-of_these P true o h = h
-of_these P false o h = tt
-
-third : (a b c d : Bool) → (a && b && c && d) ≡ true → c ≡ true
-third true true true d h = refl
-third true true false d h = absurd (cc h)
-third true false c d h = absurd (cc h)
-third false b c d h = absurd (cc h)
-
-second : (a b c : Bool) → (a && b && c) ≡ true → b ≡ true
-second true true c h = refl
-second true false c h = absurd (cc h)
-second false b c h = absurd (cc h)
+of_if : (P : ℕ × ℕ → Type 0) (b : Bool) (o other : Option (ℕ × ℕ)) → (b ≡ true → IfSome o P)
+    → IfSome other P → IfSome (if b then o else other) P
+of_if P true o other h g = h refl
+of_if P false o other h g = g
 
 -- A status endpoint is endpoint 1, and its packets have a byte at least
 
@@ -72,15 +51,8 @@ IsStatusEnd e = (e.0 ≡ 1) × (1 ≤ e.1)
 status_each : (endpoint : List ℕ) → IfSome (status_at endpoint) IsStatusEnd
 unfolding status_at
 status_each endpoint =
-    of_some IsStatusEnd (slice_index endpoint 2 == 129 && is_interrupt (transfer_of endpoint) &&
-    nat_le 1 (packet_size endpoint) && nat_le (packet_size endpoint) 64)
-    (1, packet_size endpoint)
-    (λ h. (
-      refl,
-      least (packet_size endpoint)
-          (third (slice_index endpoint 2 == 129) (is_interrupt (transfer_of endpoint))
-          (nat_le 1 (packet_size endpoint)) (nat_le (packet_size endpoint) 64) h),
-    ))
+    of_if IsStatusEnd _ (Some (1, packet_size endpoint)) None
+    (λ h. (refl, least (packet_size endpoint) (and_parts _ _ (and_parts _ _ h).0).1)) tt
   where
     least : (n : ℕ) → nat_le 1 n ≡ true → 1 ≤ n
     least n h = grind (arith, nat_tests, h)
@@ -97,27 +69,19 @@ IsNumbered e = (e.0 == 0) ≡ false
 bulk_each : (endpoint : List ℕ) → IfSome (bulk_described endpoint) IsNumbered
 unfolding bulk_described
 bulk_each endpoint =
-    of_some IsNumbered (is_bulk (transfer_of endpoint) && nat_le 1 (endpoint_number endpoint) &&
-    is_bulk_size (max_packet_size endpoint)) (
-      endpoint_number endpoint,
-      max_packet_size endpoint,
-    )
-    (λ h. least (endpoint_number endpoint)
-    (second (is_bulk (transfer_of endpoint)) (nat_le 1 (endpoint_number endpoint))
-    (is_bulk_size (max_packet_size endpoint)) h))
+    of_if IsNumbered _ (Some (endpoint_number endpoint, max_packet_size endpoint)) None
+    (λ h. least (endpoint_number endpoint) (and_parts _ _ (and_parts _ _ h).0).1) tt
   where
     least : (n : ℕ) → nat_le 1 n ≡ true → (n == 0) ≡ false
     least n h = grind (arith, nat_tests, h)
 
 out_each : (endpoint : List ℕ) → IfSome (bulk_out_at endpoint) IsNumbered
 unfolding bulk_out_at
-out_each endpoint = of_other IsNumbered (is_in endpoint) (bulk_described endpoint)
-    (bulk_each endpoint)
+out_each endpoint = of_if IsNumbered _ None (bulk_described endpoint) (λ h. tt) (bulk_each endpoint)
 
 in_each : (endpoint : List ℕ) → IfSome (bulk_in_at endpoint) IsNumbered
 unfolding bulk_in_at
-in_each endpoint = of_these IsNumbered (is_in endpoint) (bulk_described endpoint)
-    (bulk_each endpoint)
+in_each endpoint = of_if IsNumbered _ (bulk_described endpoint) None (λ h. bulk_each endpoint) tt
 
 pub bulk_out_end : (bytes : List ℕ) → IfSome (bulk_out_of bytes) (λ e. (e.0 == 0) ≡ false)
 unfolding bulk_out_of

@@ -1,5 +1,5 @@
 -- A transfer leaves pipes to the same endpoints.
-use Rattle.std.proofs.Common.{◌≡◌, ◌≢◌, zero, suc, refl, sym, inl, inr, ap, subst, ◌∙◌}
+use Rattle.std.proofs.Common.{◌≡◌, ◌≢◌, refl, sym, inl, inr, ap, subst, ◌∙◌}
 use Rattle.std.specs.Option.{option_map}
 use Rattle.std.specs.Prelude.{◌⊎◌, ℕ, List, [], ◌∷◌, Bool, true, false, Option, Some, None}
 use Rattle.usb_pipe.specs.{Bulk, bulk_made, Interrupt, interrupt_made, Condition}
@@ -22,10 +22,6 @@ ready_or_not Broken = inr (λ h. cc)
 pub empty_or_not : (xs : List ℕ) → (xs ≡ []) ⊎ (xs ≢ [])
 empty_or_not [] = inl refl
 empty_or_not (x ∷ xs) = inr (λ h. cc)
-
-pub none_or_some : (n : ℕ) → (n ≡ 0) ⊎ (n ≢ 0)
-none_or_some zero = inl refl
-none_or_some (suc n) = inr (λ h. cc)
 
 -- Pipes are to a device just where they are as they were made
 

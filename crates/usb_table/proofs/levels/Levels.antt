@@ -1,12 +1,13 @@
 -- Calls through the pipes at a path leave the pipes of the table level.
 use Rattle.std.proofs.Common.{◌≡◌, ◌≢◌, ◌∙◌, refl, sym, ap, subst, Bool, true, false, zero, suc, ℕ}
 use Rattle.std.proofs.Common.{◌==◌, eq-eqb}
+use Rattle.std.proofs.lemmas.Bool.{false_from_ne_true}
 use Rattle.std.proofs.lemmas.Option.{same_Some}
 use Rattle.std.specs.Prelude.{List, [], ◌∷◌, Option, Some, None, option_map}
 use Rattle.std.specs.BTreeMap.{is_at}
 use Rattle.usb_port.specs.{path_cmp}
 use Rattle.usb_device.specs.{State, reach, Location, path_to, reach_on, state_on, state_there}
-use Rattle.usb_world.specs.{Was, EachWas, World}
+use Rattle.usb_world.specs.{Relation, Was, EachWas, World}
 use Rattle.usb_tree.specs.{address_of, is_way}
 use Rattle.usb_world.proofs.Interface.{same_is}
 use Rattle.usb_tree.proofs.Interface.{equal_same, false_true}
@@ -58,9 +59,23 @@ pub entry_address-one_path : (table : Table) (w : World) (x path : List ℕ) (a 
     → entry_address x table.entries ≡ Some a → entry_address path table.entries ≡ Some a → x ≡ path
 entry_address-one_path table w x path a held e f = same_is path x (held.distinct path x a f e)
 
-pub by_decision : (b : Bool) → (b ≡ true → ⊥) → b ≡ false
-by_decision true f = absurd (f refl)
-by_decision false f = refl
+-- who has the address of the device that is known at a path stands there
+pub stands_there : (path : List ℕ) (table : Table) (w : World) → IsHeld table w
+    → (device : Accepted) → accepted_device_at path table.entries ≡ Some device → (a : ℕ)
+    → a ≡ device.address → (j : Location) (s : State) → reach_on w.roots j ≡ true
+    → state_on w.roots j ≡ Some s → (address_of s == a) ≡ true → path ≡ path_to j
+stands_there path table w held device found a is j s on there at =
+    let own : entry_address (path_to j) table.entries ≡ Some (address_of s) =
+    sym (held.own (path_to j) on) ∙ ap (option_map address_of) there in
+    sym (entry_address-one_path table w (path_to j) path device.address held
+    (own ∙ ap Some (equal_same (address_of s) a at ∙ is)) (address_found path table.entries device
+    found))
+
+-- what stands at a location stands at its path
+pub stood_at : {R : Relation} (path : List ℕ) (old : World) (j : Location) (v : State)
+    → path ≡ path_to j → (w : Was R old j v)
+    → (reach old.roots path ≡ true) × (state_there old.roots path ≡ Some w.before)
+stood_at path old j v e w = (ap (reach old.roots) e ∙ w.on, ap (state_there old.roots) e ∙ w.stands)
 
 apart_or : (path x : List ℕ) → is_at (path_cmp path) x ≡ false → x ≢ path
 apart_or path x apart e = false_true (sym apart
@@ -90,23 +105,13 @@ module _ (path : List ℕ) (device : Accepted) (ends : Type 0) (pipes left : Pip
         at j e d s found on there =
             let w : Was (PipesMove device.address ends pipes left) before j s =
             moves (single held) j s on there in
-            let reached : reach before.roots x ≡ true = ap (reach before.roots) e ∙ w.on in
-            let stood : state_there before.roots x ≡ Some w.before = ap (state_there before.roots) e
-            ∙ w.stands in
-            let d_old : accepted_device_at x old.entries ≡ Some d = same_device x d found in
-            let has : address_of w.before ≡ d.address =
-            held_address old before x d w.before held d_old reached stood in
-            let same : (address_of w.before == device.address) ≡ true → x ≡ path = λ at.
-            entry_address-one_path old before x path device.address held
-            (address_found x old.entries d d_old
-            ∙ ap Some (sym has ∙ equal_same (address_of w.before) device.address at))
-            (address_found path old.entries device stands) in
-            let kept : s ≡ w.before = w.so.others
-            (by_decision (address_of w.before == device.address)
-            (λ at. apart_or path x apart (same at))) in
+            let stood = stood_at x before j s e w in
+            let kept : s ≡ w.before = w.so.others (false_from_ne_true _
+            (λ at. apart_or path x apart (e ∙ sym (stands_there path old before held device stands
+            device.address refl j w.before w.on w.stands at)))) in
             subst (λ (q : Pipes). PipesInSync q s) (sym (goes.others x apart))
             (subst (PipesInSync (pipes_at x old)) (sym kept)
-            (l.level d w.before d_old reached stood))
+            (l.level d w.before (same_device x d found) stood.0 stood.1))
 
     itself : IsHeld old before → ends → InSyncAt path old before → InSyncAt path new after
     itself held e l = at_some_port new after path at
@@ -117,15 +122,12 @@ module _ (path : List ℕ) (device : Accepted) (ends : Type 0) (pipes left : Pip
         at j x d s found on there =
             let w : Was (PipesMove device.address ends pipes left) before j s =
             moves (single held) j s on there in
-            let reached : reach before.roots path ≡ true = ap (reach before.roots) x ∙ w.on in
-            let stood : state_there before.roots path ≡ Some w.before =
-            ap (state_there before.roots) x ∙ w.stands in
-            let has : address_of w.before ≡ device.address =
-            held_address old before path device w.before held stands reached stood in
+            let stood = stood_at path before j s x w in
+            let has = held_address old before path device w.before held stands stood.0 stood.1 in
             subst (λ (q : Pipes). PipesInSync q s) (sym is)
             (w.so.itself e (eq-eqb (address_of w.before) device.address has)
             (subst (λ (q : Pipes). PipesInSync q w.before) was
-            (l.level device w.before stands reached stood)))
+            (l.level device w.before stands stood.0 stood.1)))
 
     pub moved_levels : KeepsInSync path ends old before new after
     moved_levels = record { worlds = keeps; others = others; itself = itself }
@@ -174,9 +176,8 @@ module _ (table : Table) (old new : World) where
           → state_on new.roots j ≡ Some s → PipesInSync (pipes_at x table) s
       at j e d s found on there =
           let w : Was StaysAs old j s = was j e s on there in
-          still_level (pipes_at x table) w.before s w.so
-          (l.level d w.before found (ap (reach old.roots) e ∙ w.on)
-          (ap (state_there old.roots) e ∙ w.stands))
+          let stood = stood_at x old j s e w in
+          still_level (pipes_at x table) w.before s w.so (l.level d w.before found stood.0 stood.1)
 
   -- where each device stays as it was
   pub level_stays : EachWas StaysAs old new → (x : List ℕ) → InSyncAt x table old

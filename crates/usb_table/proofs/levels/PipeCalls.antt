@@ -5,19 +5,19 @@ use Rattle.std.proofs.Math.Path.{fun_ext}
 use Rattle.std.proofs.lemmas.Option.{same_Some}
 use Rattle.std.specs.Prelude.{IfSome, is_some, unwrap_or, option_map}
 use Rattle.std.specs.BTreeMap.{is_at}
+use Rattle.std.proofs.lemmas.Bool.{cases_eq}
 use Rattle.slab.specs.Slab.{Slab, get, with_value}
 use Rattle.slab.proofs.SlabLemmas.{Updates-with_value}
 use Rattle.usb_port.specs.{path_cmp}
-use Rattle.usb_enum.specs.{Silent, Finding}
-use Rattle.usb_enum.specs.declared.finding.Finding.TheVariants.{Refused}
+use Rattle.usb_enum.specs.{Finding}
 use Rattle.usb_table.specs.{Pipes, Absent, accepted_device_of, Entry, IsPiped, TableSlots, PathKeys}
 use Rattle.usb_table.specs.{AddressKeys, key_of_path, under, entries_of, findings, pipings}
 use Rattle.usb_table.specs.{table_of, AreIndexes, ArePiped, is_below_hub, finding_at, pipe_in}
-use Rattle.usb_table.specs.{pipe_out, ArePipesIf, ArePipesOf, pipes_made, pipes_at, ArePipesAt}
-use Rattle.usb_table.specs.{GoesThrough}
+use Rattle.usb_table.specs.{pipe_out, ArePipesIf, pipes_made, pipes_at, ArePipesAt, GoesThrough}
 use Rattle.usb_table.proofs.levels.KeptPipes.{same_keep}
 use Rattle.usb_table.proofs.ThroughPipes.{faces}
-use Rattle.usb_table.proofs.entries.Keys.{same_or_not, entries-lookup, values_by_path-lookup}
+use Rattle.usb_table.proofs.entries.Keys.{entries_of-key, entries_of-no_key, findings-standing}
+use Rattle.usb_table.proofs.entries.Keys.{values_by_path-lookup}
 use Rattle.usb_table.proofs.entries.Paths.{path_itself}
 
 -- What the pipes at a path are
@@ -44,61 +44,47 @@ pipes_none standings path paths none = pipes_by standings path paths None none
 module _ (standings : TableSlots) (paths : PathKeys) (addresses : AddressKeys)
     (are : AreIndexes (findings standings) paths addresses) (piped : ArePiped standings paths)
     (path : List ℕ) where
-  fits_by : (finding : Finding) (key : ℕ) (o : Option Entry) → key_of_path paths path ≡ Some key
-      → standings key ≡ o → unwrap_or (option_map (λ (s : Entry). s.finding) o) (Refused Silent)
-      ≡ finding
-      → option_map (λ (s : Entry). s.finding) o ≢ None
-      → ArePipesOf finding (is_below_hub path) (pipes_at path (table_of standings paths))
-  fits_by finding key None at stands is some = absurd (some refl)
-  fits_by finding key (Some s) at stands is some =
-      subst (λ f. ArePipesOf f (is_below_hub path) (pipes_at path (table_of standings paths))) is
-      (rw (pipes_found standings path paths key s at stands) (piped path key s at stands).1)
-
-  some_finding : (key : ℕ) → key_of_path paths path ≡ Some key → findings standings key ≢ None
-  some_finding key at none = let s = are.stands path key at in absurd (cc (s, none))
-
-  fits_at : (finding : Finding) (key : Option ℕ) → key_of_path paths path ≡ key
-      → option_map (under (Refused Silent) (findings standings)) key ≡ Some finding
-      → ArePipesOf finding (is_below_hub path) (pipes_at path (table_of standings paths))
-  fits_at finding None at is = absurd cc
-  fits_at finding (Some key) at is = fits_by finding key (standings key) at refl (same_Some _ _ is)
-      (some_finding key at)
-
-  none_at : (key : Option ℕ) → key_of_path paths path ≡ key
-      → option_map (under (Refused Silent) (findings standings)) key ≡ None
-      → pipes_at path (table_of standings paths) ≡ Absent
-  none_at None at is = pipes_none standings path paths at
-  none_at (Some key) at is = absurd (cc is)
-
-  fits_found : (found : Option Finding) → option_map (under (Refused Silent) (findings standings))
-      (key_of_path paths path) ≡ found → ArePipesIf (accepted_device_of found) (is_below_hub path)
+  abbrev AreTo : Option Finding → Type 0
+  AreTo found = ArePipesIf (accepted_device_of found) (is_below_hub path)
       (pipes_at path (table_of standings paths))
-  fits_found None is = none_at (key_of_path paths path) refl is
-  fits_found (Some finding) is = fits_at finding (key_of_path paths path) refl is
+
+  are_by : (key : Option ℕ) → key_of_path paths path ≡ key
+      → AreTo (finding_at path (table_of standings paths).entries)
+  are_by None at = subst AreTo (sym (entries_of-no_key (findings standings) path paths at))
+      (pipes_none standings path paths at)
+  are_by (Some key) at = by_entry (standings key) refl
+    where
+      by_entry : (o : Option Entry) → standings key ≡ o
+          → AreTo (finding_at path (table_of standings paths).entries)
+      by_entry None none = let some = are.stands path key at in absurd (cc some)
+      by_entry (Some s) stands =
+          subst AreTo (sym (entries_of-key (findings standings) path paths key s.finding at
+          (findings-standing standings key s stands)))
+          (rw (pipes_found standings path paths key s at stands) (piped path key s at stands).1)
 
   pub are_pipes_at : ArePipesAt path (table_of standings paths)
-  are_pipes_at = fits_found (finding_at path (table_of standings paths).entries)
-      (sym (entries-lookup (findings standings) path paths))
+  are_pipes_at = are_by (key_of_path paths path) refl
 
 -- A call leaves other pipes at the path
 
 -- what is so of the table after it, and of the pipes
-pub record CallThrough (R : Pipes → Pipes → Type 0) (path : List ℕ) (standings after : TableSlots)
-    (paths : PathKeys) (addresses : AddressKeys) : Type 0 where
+pub record CallThrough (path : List ℕ) (standings after : TableSlots) (paths : PathKeys)
+    (addresses : AddressKeys) (before left : Pipes) : Type 0 where
   pub indexes : AreIndexes (findings after) paths addresses
   pub piped : ArePiped after paths
   pub goes : GoesThrough path (table_of standings paths) (table_of after paths)
-  pub did : R (pipes_at path (table_of standings paths)) (pipes_at path (table_of after paths))
+  pub was : pipes_at path (table_of standings paths) ≡ before
+  pub is : pipes_at path (table_of after paths) ≡ left
 
-module _ (R : Pipes → Pipes → Type 0) (path : List ℕ) (standings after : TableSlots)
-    (paths : PathKeys) (addresses : AddressKeys) (key : ℕ) (s : Entry) (left : Pipes)
+module _ (path : List ℕ) (standings after : TableSlots) (paths : PathKeys)
+    (addresses : AddressKeys) (key : ℕ) (s : Entry) (left : Pipes)
     (are : AreIndexes (findings standings) paths addresses × ArePiped standings paths)
     (at : key_of_path paths path ≡ Some key) (held : standings key ≡ Some s)
     (changed : after key ≡ Some (record s { pipes = left }))
     (others : (k : ℕ) → k ≢ key → after k ≡ standings k)
-    (made : pipes_made left ≡ pipes_made s.pipes) (did : R s.pipes left) where
+    (made : pipes_made left ≡ pipes_made s.pipes) where
   same_finding : (k : ℕ) → findings after k ≡ findings standings k
-  same_finding k = elim (same_or_not k key) [
+  same_finding k = elim (cases_eq k key) [
     | inl e ↦
         ap (findings after) e ∙ ap (option_map (λ (x : Entry). x.finding)) changed
         ∙ sym (ap (option_map (λ (x : Entry). x.finding)) held) ∙ ap (findings standings) (sym e)
@@ -106,7 +92,7 @@ module _ (R : Pipes → Pipes → Type 0) (path : List ℕ) (standings after : T
   ]
 
   still_piped : ArePiped after paths
-  still_piped q k x h stands = elim (same_or_not k key) [
+  still_piped q k x h stands = elim (cases_eq k key) [
     | inl e ↦
         let is =
         same_Some (record s { pipes = left }) x (sym changed ∙ ap after (sym e) ∙ stands) in
@@ -134,7 +120,7 @@ module _ (R : Pipes → Pipes → Type 0) (path : List ℕ) (standings after : T
       (others k (other_key other k apart h))
       ∙ sym (pipes_by standings other paths (Some k) h)
 
-  through : CallThrough R path standings after paths addresses
+  through : CallThrough path standings after paths addresses s.pipes left
   through =
       let found : findings after ≡ findings standings = fun_ext same_finding in
       record {
@@ -145,33 +131,30 @@ module _ (R : Pipes → Pipes → Type 0) (path : List ℕ) (standings after : T
           entries = ap (λ f. entries_of f paths) found;
           others = λ other apart. other_pipes other apart (key_of_path paths other) refl;
         };
-        did =
-            rw (
-              pipes_found standings path paths key s at held,
-              pipes_found after path paths key _ at changed,
-            ) did;
+        was = pipes_found standings path paths key s at held;
+        is = pipes_found after path paths key _ at changed;
       }
 
 -- the entry under its key is written back
-pub through_slot : (R : Pipes → Pipes → Type 0) (path : List ℕ) (slab : Slab Entry)
-    (paths : PathKeys) (addresses : AddressKeys) (key : ℕ) (s : Entry) (left : Pipes)
+pub through_slot : (path : List ℕ) (slab : Slab Entry) (paths : PathKeys)
+    (addresses : AddressKeys) (key : ℕ) (s : Entry) (left : Pipes)
     → AreIndexes (findings (get slab)) paths addresses × ArePiped (get slab) paths
     → key_of_path paths path ≡ Some key → get slab key ≡ Some s
-    → pipes_made left ≡ pipes_made s.pipes → R s.pipes left
-    → CallThrough R path (get slab) (get (with_value slab key (record s { pipes = left }))) paths
-    addresses
-through_slot R path slab paths addresses key s left are at held made did =
+    → pipes_made left ≡ pipes_made s.pipes
+    → CallThrough path (get slab) (get (with_value slab key (record s { pipes = left }))) paths
+    addresses s.pipes left
+through_slot path slab paths addresses key s left are at held made =
     let updates = Updates-with_value slab key (record s { pipes = left }) (ap is_some held) in
-    through R path (get slab) _ paths addresses key s left are at held updates.changed
-    updates.others made did
+    through path (get slab) _ paths addresses key s left are at held updates.changed updates.others
+    made
 
 -- nothing stands there, and nothing changes
-pub through_none : (R : Pipes → Pipes → Type 0) (path : List ℕ) (standings : TableSlots)
-    (paths : PathKeys) (addresses : AddressKeys)
+pub through_none : (path : List ℕ) (standings : TableSlots) (paths : PathKeys)
+    (addresses : AddressKeys)
     → AreIndexes (findings standings) paths addresses × ArePiped standings paths
-    → key_of_path paths path ≡ None → R Absent Absent
-    → CallThrough R path standings standings paths addresses
-through_none R path standings paths addresses are none did = record {
+    → key_of_path paths path ≡ None
+    → CallThrough path standings standings paths addresses Absent Absent
+through_none path standings paths addresses are none = record {
   indexes = are.0;
   piped = are.1;
   goes = record {
@@ -179,7 +162,8 @@ through_none R path standings paths addresses are none did = record {
     entries = refl;
     others = λ other apart. refl;
   };
-  did = rw (pipes_none standings path paths none) did;
+  was = pipes_none standings path paths none;
+  is = pipes_none standings path paths none;
 }
 
 -- the pipes of an entry move packets their ways

@@ -8,21 +8,21 @@ use Rattle.usb_world.specs.{BusFault, World}
 use Rattle.usb_tree.specs.{address_of}
 use Rattle.usb_transaction.specs.{Target}
 use Rattle.usb_pipe.specs.{PipeFault, Bulk, Receives, InPipeInSync, ReceiveLeaves, pipe_known}
-use Rattle.usb_pipe.specs.declared.fault.PipeFault.TheVariants as pipe_fault
 use Rattle.usb_pipe.proofs.Interface.{receive_leaves, who_receives}
 use Rattle.usb_enum.specs.{Accepted}
-use Rattle.usb_table.specs.{EndpointFault, Pipe, GaveBytes, GaveBy, TransfersAt, Collected}
-use Rattle.usb_table.specs.{bytes_in, pipe_in, accepted_device_at, is_below_hub, PipesInSync}
-use Rattle.usb_table.specs.{FitsIn, IsHeld, InSyncAt, Table, pipes_at, ArePipesAt, PipesReceived}
-use Rattle.usb_table.specs.{ReceivedThrough, endpoint_answer}
+use Rattle.usb_table.specs.declared.fault.TableFault.TheVariants as table_fault
+use Rattle.usb_table.specs.{TableFault, Transfer, TransferFault, GaveBytes, GaveBy, TransfersAt}
+use Rattle.usb_table.specs.{Collected, bytes_in, pipe_in, accepted_device_at, is_below_hub}
+use Rattle.usb_table.specs.{PipesInSync, FitsIn, IsHeld, InSyncAt, Table, pipes_at, ArePipesAt}
+use Rattle.usb_table.specs.{PipesReceived, ReceivedThrough, table_answer}
 use Rattle.usb_table.proofs.levels.MovedPipes.{known_left}
 use Rattle.usb_table.proofs.transfers.PathTransfers.{PathReaches, answers_there, changes_there}
 use Rattle.usb_table.proofs.transfers.PathTransfers.{done_through, levels_there, none_changes}
 use Rattle.usb_table.proofs.transfers.PathTransfers.{not_bus}
 use Rattle.usb_table.proofs.ThroughPipes.{through_pipes}
 
-bytes_through : (answer : Result (Vec ℕ) PipeFault) (result : Result (Vec ℕ) EndpointFault)
-    → result ≡ endpoint_answer answer → bytes_in answer ≡ bytes_in result
+bytes_through : (answer : Result (Vec ℕ) PipeFault) (result : Result (Vec ℕ) TableFault)
+    → result ≡ table_answer answer → bytes_in answer ≡ bytes_in result
 bytes_through (Ok x) result e = sym (ap bytes_in e)
 bytes_through (Err why) result e = sym (ap bytes_in e)
 
@@ -32,10 +32,11 @@ module _ (path : List ℕ) (packets : ℕ) (old new : Table) (before after : Wor
     gave : TransfersAt path done (GaveBy bytes pipe left) old before after
     there : done ≡ true → packets ≢ 0 → reach after.roots path ≡ true
 
-  not_asked : (result : Result (Vec ℕ) EndpointFault) (left : Option Bulk) (fault : EndpointFault)
-      → result ≡ Err fault → after ≡ before → Gives (is_ok result) (bytes_in result) None left
+  not_asked : (result : Result (Vec ℕ) TableFault) (left : Option Bulk) (fault : TransferFault)
+      → result ≡ Err (Transfer fault) → after ≡ before
+      → Gives (is_ok result) (bytes_in result) None left
   not_asked result left fault e same =
-      subst (λ (r : Result (Vec ℕ) EndpointFault). Gives (is_ok r) (bytes_in r) None left) (sym e)
+      subst (λ (r : Result (Vec ℕ) TableFault). Gives (is_ok r) (bytes_in r) None left) (sym e)
       (record {
         gave = record {
           each = none_changes path (GaveBy [] None left) before after same
@@ -90,8 +91,8 @@ module _ (path : List ℕ) (packets : ℕ) (old new : Table) (before after : Wor
         there = reached answer left receives;
       }
 
-  pub received_collects : (result : Result (Vec ℕ) EndpointFault)
-      → ((why : BusFault) → result ≢ Err (Pipe (pipe_fault.Bus why))) → IsHeld old before
+  pub received_collects : (result : Result (Vec ℕ) TableFault)
+      → ((why : BusFault) → result ≢ Err (table_fault.Bus why)) → IsHeld old before
       → InSyncAt path old before → after.shared ≡ false → ArePipesAt path old
       → PipesReceived (pipes_at path old) packets before result (pipes_at path new) after
       → Collected path (is_ok result) packets (bytes_in result) old before new after
@@ -101,7 +102,7 @@ module _ (path : List ℕ) (packets : ℕ) (old new : Table) (before after : Wor
       (accepted_device_at path old.entries) (is_below_hub path)
       (λ p l. PathReaches path before (PipesInSync p)
       → Gives (is_ok result) (bytes_in result) (pipe_in p) (pipe_in l))
-      (λ pipes fault none told e same l.
+      (λ pipes fault none e same l.
       subst (λ (o : Option Bulk). Gives (is_ok result) (bytes_in result) o (pipe_in pipes))
       (sym none) (not_asked result (pipe_in pipes) fault e same))
       (λ device endpoint pipe left other_way found is y l.

@@ -9,9 +9,9 @@ use Rattle.usb_transaction.specs.{Target}
 use Rattle.usb_pipe.specs.{PipeFault, Bulk, Sends, OutPipeInSync, SendLeaves}
 use Rattle.usb_pipe.proofs.Interface.{send_leaves, who_sends}
 use Rattle.usb_enum.specs.{Accepted}
-use Rattle.usb_table.specs.{EndpointFault, TookBytes, Delivered, accepted_device_at, is_below_hub}
-use Rattle.usb_table.specs.{PipesInSync, IsHeld, InSyncAt, Table, pipes_at, ArePipesAt, PipesSent}
-use Rattle.usb_table.specs.{SentThrough}
+use Rattle.usb_table.specs.{TableFault, Transfer, TransferFault, TookBytes, Delivered}
+use Rattle.usb_table.specs.{accepted_device_at, is_below_hub, PipesInSync, IsHeld, InSyncAt, Table}
+use Rattle.usb_table.specs.{pipes_at, ArePipesAt, PipesSent, SentThrough}
 use Rattle.usb_table.proofs.transfers.PathTransfers.{PathReaches, answers_there, changes_there}
 use Rattle.usb_table.proofs.transfers.PathTransfers.{done_through, levels_there, none_changes}
 use Rattle.usb_table.proofs.ThroughPipes.{through_pipes}
@@ -23,8 +23,9 @@ module _ (path bytes : List ℕ) (old new : Table) (before after : World) where
     rest = refl;
   }
 
-  not_sent : (result : Result (Unit {0}) EndpointFault) (fault : EndpointFault) → result ≡ Err fault
-      → after ≡ before → Delivered path (is_ok result) bytes old before new after
+  not_sent : (result : Result (Unit {0}) TableFault) (fault : TransferFault)
+      → result ≡ Err (Transfer fault) → after ≡ before
+      → Delivered path (is_ok result) bytes old before new after
   not_sent result fault e same =
       subst (λ (b : Bool). Delivered path b bytes old before new after) (sym (ap is_ok e))
       (record {
@@ -76,7 +77,7 @@ module _ (path bytes : List ℕ) (old new : Table) (before after : World) where
         there = reached answer left sends;
       }
 
-  pub sent_delivers : (result : Result (Unit {0}) EndpointFault) → IsHeld old before
+  pub sent_delivers : (result : Result (Unit {0}) TableFault) → IsHeld old before
       → InSyncAt path old before → after.shared ≡ false → ArePipesAt path old
       → PipesSent (pipes_at path old) bytes before result (pipes_at path new) after
       → Delivered path (is_ok result) bytes old before new after
@@ -85,7 +86,7 @@ module _ (path bytes : List ℕ) (old new : Table) (before after : World) where
       (accepted_device_at path old.entries) (is_below_hub path)
       (λ p l. PathReaches path before (PipesInSync p)
       → Delivered path (is_ok result) bytes old before new after)
-      (λ pipes fault none told e same l. not_sent result fault e same)
+      (λ pipes fault none e same l. not_sent result fault e same)
       (λ device endpoint pipe left other found is y l.
       let fits : PathReaches path before (OutPipeInSync pipe) =
       λ s on there. (l s on there).0 in

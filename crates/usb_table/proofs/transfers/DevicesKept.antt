@@ -3,20 +3,18 @@
 use Rattle.std.proofs.Common.{◌≡◌, ◌≢◌, ◌⊎◌, inl, inr, ℕ, ◌==◌, true, false, List, Option, None}
 use Rattle.std.proofs.Common.{Some, Result, Ok, Err, refl, ap, sym, subst, ◌∙◌}
 use Rattle.std.specs.Global.{Vec}
+use Rattle.std.proofs.lemmas.Bool.{cases_eq}
 use Rattle.arrayvec.specs.ArrayVec.{ArrayVec}
 use Rattle.usb_packet.specs.{Toggle, One}
 use Rattle.usb_port.specs.{PortState}
 use Rattle.usb_request.specs.{PORT_OUT, SET_FEATURE, bytes_of, clear_endpoint_halt, Setup}
 use Rattle.usb_device.specs.{ServedEndpoint, BulkOut, BulkIn, Changes, EndpointState, rested}
-use Rattle.usb_device.specs.{OnlyControl, Is, Outcome, stalled, takes_address, takes_configuration}
-use Rattle.usb_device.specs.{halts, unhalts, tells_port, calls_port, on_endpoint, outcome, State}
-use Rattle.usb_device.specs.{with_endpoint_state, begun, accepted, Spec, Registers, first_stage}
-use Rattle.usb_device.specs.{ending, Location, reach_on, state_on}
-use Rattle.usb_device.specs.Request.{answers}
+use Rattle.usb_device.specs.{OnlyControl, Is, Outcome, stalled, halts, unhalts, on_endpoint}
+use Rattle.usb_device.specs.{outcome, State, with_endpoint_state, begun, accepted, Spec, Registers}
+use Rattle.usb_device.specs.{first_stage, ending, Location, reach_on, state_on}
 use Rattle.usb_world.specs.{Attempt, BusFault, is_setup, EachWas, DidIn, DidOut, IsMade, IsIn}
-use Rattle.usb_world.specs.{IsOut, asks_no_port, LeavesPortAlone, Step, attempt, root_call, event}
-use Rattle.usb_world.specs.{report, after, at_attempt, with_attempt, Course, here, step, World}
-use Rattle.usb_world.specs.{Failed}
+use Rattle.usb_world.specs.{IsOut, asks_no_port, LeavesPortAlone, Step, attempt, after}
+use Rattle.usb_world.specs.{with_attempt, Course, here, step, World, Failed}
 use Rattle.usb_tree.specs.{IsSettled}
 use Rattle.usb_world.proofs.Interface.{AttemptCut, MadeOrNot, attempt_cases, cut_or_same}
 use Rattle.usb_world.proofs.Interface.{data_asks_nothing, each_in, each_joined, each_none, each_out}
@@ -44,7 +42,6 @@ use Rattle.usb_hub.proofs.Interface.{write_so}
 use Rattle.usb_enum.proofs.Interface.{ends_without_fault}
 use Rattle.usb_table.specs.{SameSettings, KeepsSettings, OnlyTransfers}
 use Rattle.usb_table.proofs.levels.KeptPipes.{broken_or_not, ready_or_not, empty_or_not}
-use Rattle.usb_table.proofs.levels.KeptPipes.{none_or_some}
 
 -- Each device over such an attempt
 
@@ -135,32 +132,20 @@ pub record Spared (old new : World) : Type 0 where
   pub backlog : new.fault ≡ None → KeepsAll old new
 
 abbrev IsFarStep : Step → Type 0
-IsFarStep (attempt a) = IsBulkAttempt a
-IsFarStep (root_call c n) = ⊥
-IsFarStep event = ⊥
-IsFarStep (report line) = ⊥
+IsFarStep s = (a : Attempt) × (s ≡ attempt a) × IsBulkAttempt a
 
 any_stays : (s : Step) (w : World) → IsFarStep s → IsSettled w.roots → (after s w).shared ≡ false
     → Stayed w (after s w)
-any_stays (attempt a) w far settled single = step_stays a w far settled single
-any_stays (root_call c n) w far settled single = absurd far
-any_stays event w far settled single = absurd far
-any_stays (report line) w far settled single = absurd far
+any_stays s w (a, e, far) settled single = rw e (step_stays a w far settled (rw e at single))
 
 any_rests : (s : Step) (w : World) (x : List ℕ) → IsFarStep s → IsSettled w.roots
     → LeavesPortAlone x s w
-any_rests (attempt a) w x far settled = data_asks_nothing a w x (far_kind a far) settled
-any_rests (root_call c n) w x far settled = absurd far
-any_rests event w x far settled = absurd far
-any_rests (report line) w x far settled = absurd far
+any_rests s w x (a, e, far) settled = rw e (data_asks_nothing a w x (far_kind a far) settled)
 
 any_keeps : (m v r : PortMark) (few : Few v r) (s : Step) (w : World) → IsFarStep s
     → IsSettled w.roots → KeepsStep m v r few s w
-any_keeps m v r few (attempt a) w far settled =
-    λ ports. keeps-attempt m v r few a w ports (data_allows m r a w (far_kind a far) settled)
-any_keeps m v r few (root_call c n) w far settled = absurd far
-any_keeps m v r few event w far settled = absurd far
-any_keeps m v r few (report line) w far settled = absurd far
+any_keeps m v r few s w (a, e, far) settled = rw e (λ ports.
+    keeps-attempt m v r few a w ports (data_allows m r a w (far_kind a far) settled))
 
 module _ (K : Step → World → Type 0) (far : (s : Step) (w : World) → K s w → IsFarStep s) where
   course_stays : {w v : World} → Course K w v → IsSettled w.roots → v.shared ≡ false → Stayed w v
@@ -195,7 +180,8 @@ module _ (K : Step → World → Type 0) (far : (s : Step) (w : World) → K s w
       pick (made_whole h m u r) =
           each_ran_then old g.mid new (course_stays g.course settled h).each
           (each_ran_at g.mid (after (attempt g.last) g.mid) new r
-          (each_far g.last g.mid (far (attempt g.last) g.mid g.is) m u))
+          (each_far g.last g.mid (let f = far (attempt g.last) g.mid g.is in
+          let same : f.0 ≡ g.last = cc f.1 in subst IsBulkAttempt same f.2) m u))
 
   -- they ran to their end, or the bus gave up
   attempts_cases : {A : Type 0} (old : World) (result : Result A PipeFault) (new : World)
@@ -226,19 +212,14 @@ module _ (K : Step → World → Type 0) (far : (s : Step) (w : World) → K s w
 
 -- The calls of pipes
 
-far_number : (ep : ℕ) → ep ≢ 0 → (ep == 0) ≡ false
-far_number ep far = unequal ep 0 far
-
 only_far : (t : Target) (ep : ℕ) → ep ≢ 0 → (s : Step) (w : World) → IsOnly (in_attempt t ep) s w
     → IsFarStep s
-only_far t ep far s w e = subst IsFarStep (sym e)
-    (into (record { kind = refl; payload = refl }) (far_number ep far))
+only_far t ep far s w e = (_, e, into (record { kind = refl; payload = refl }) (unequal ep 0 far))
 
 sends_far : (t : Target) (ep : ℕ) (first : Toggle) (bytes : List ℕ) (old : World) → ep ≢ 0
     → (s : Step) (w : World) → SendsAt t ep first bytes old s w → IsFarStep s
 sends_far t ep first bytes old far s w x =
-    subst IsFarStep (sym x.is) (out _ _ (record { kind = refl; payload = refl })
-    (far_number ep far))
+    (_, x.is, out _ _ (record { kind = refl; payload = refl }) (unequal ep 0 far))
 
 spared_none : (w : World) → Spared w w
 spared_none w = record {
@@ -271,11 +252,9 @@ only_transfers old new addresses x = record {
   backlog = x.backlog;
 }
 
-spares_none : (w : World) → OnlyTransfers w w
-spares_none w = only_transfers w w (keeps_none w) (spared_none w)
-
 pub same_spares : (old new : World) → new ≡ old → OnlyTransfers old new
-same_spares old new e = subst (OnlyTransfers old) (sym e) (spares_none old)
+same_spares old new e = subst (OnlyTransfers old) (sym e)
+    (only_transfers old old (keeps_none old) (spared_none old))
 
 pub polls_only : (pipe : Interrupt) → pipe.ep ≢ 0 → (old : World)
     (result : Result (Option (ArrayVec ℕ)) PipeFault) (left : Interrupt) (new : World)
@@ -321,7 +300,7 @@ module _ (wanted : ℕ) (pipe : Bulk) (far : pipe.ep ≢ 0) (old : World)
   came_or_same : IsSettled old.roots ⊎ (new ≡ old)
   came_or_same = elim (broken_or_not pipe.condition) [
     | inl broken ↦ inr (x.broken broken).2
-    | inr works ↦ elim (none_or_some wanted) [
+    | inr works ↦ elim (cases_eq wanted 0) [
       | inl nothing ↦ inr (x.nothing works nothing).2
       | inr more ↦ inl (x.moved works more).settled
     ]
@@ -343,18 +322,11 @@ module _ (wanted : ℕ) (pipe : Bulk) (far : pipe.ep ≢ 0) (old : World)
 
 -- an endpoint halts no more, or the request is refused
 abbrev IsOfEndpoint : Outcome → Type 0
-IsOfEndpoint stalled = Unit {0}
-IsOfEndpoint (answers bytes) = ⊥
-IsOfEndpoint (takes_address a) = ⊥
-IsOfEndpoint (takes_configuration c) = ⊥
-IsOfEndpoint (halts x) = ⊥
-IsOfEndpoint (unhalts x) = Unit {0}
-IsOfEndpoint (tells_port i) = ⊥
-IsOfEndpoint (calls_port c i) = ⊥
+IsOfEndpoint o = (o ≡ stalled) ⊎ ((which : ServedEndpoint) × (o ≡ unhalts which))
 
 of_endpoint : (which : Option ServedEndpoint) → IsOfEndpoint (on_endpoint unhalts which)
-of_endpoint None = tt
-of_endpoint (Some which) = tt
+of_endpoint None = inl refl
+of_endpoint (Some which) = inr (which, refl)
 
 clear_outcome : (endpoint : ℕ) (spec : Spec) (g : Registers)
     → IsOfEndpoint (outcome spec g (clear_endpoint_halt endpoint))
@@ -367,36 +339,23 @@ pipe_spec s BulkOut pipe = refl
 pipe_spec s BulkIn pipe = refl
 pipe_spec s Changes pipe = refl
 
-endpoint_begun_stays : (s v : State) (row : List PortState) (n : ℕ) (o : Outcome) → IsOfEndpoint o
-    → OnlyControl (begun s row n o) v → v.registers ≡ (begun s row n o).registers
-    → (v.spec ≡ s.spec) × (v.registers ≡ s.registers)
-endpoint_begun_stays s v row n stalled is frame same = (ap (λ x. x.spec) frame, same)
-endpoint_begun_stays s v row n (answers bytes) is frame same = absurd is
-endpoint_begun_stays s v row n (takes_address a) is frame same = absurd is
-endpoint_begun_stays s v row n (takes_configuration c) is frame same = absurd is
-endpoint_begun_stays s v row n (halts which) is frame same = absurd is
-endpoint_begun_stays s v row n (unhalts which) is frame same =
-    (ap (λ x. x.spec) frame ∙ pipe_spec s which rested, same)
-endpoint_begun_stays s v row n (tells_port i) is frame same = absurd is
-endpoint_begun_stays s v row n (calls_port c i) is frame same = absurd is
+begun_same : (s : State) (row : List PortState) (n : ℕ) (o : Outcome) → IsOfEndpoint o
+    → ((begun s row n o).spec ≡ s.spec) × ((begun s row n o).registers ≡ s.registers)
+begun_same s row n o (inl e) = rw e (refl, refl)
+begun_same s row n o (inr (which, e)) = rw e (pipe_spec s which rested, refl)
 
 endpoint_takes_no_address : (row : List PortState) (n : ℕ) (address : Option ℕ) (o : Outcome)
     → IsOfEndpoint o → first_stage row n o ≡ ending address → address ≡ None
-endpoint_takes_no_address row n address stalled is e = absurd cc
-endpoint_takes_no_address row n address (answers bytes) is e = absurd is
-endpoint_takes_no_address row n address (takes_address a) is e = absurd is
-endpoint_takes_no_address row n address (takes_configuration c) is e = absurd is
-endpoint_takes_no_address row n address (halts which) is e = absurd is
-endpoint_takes_no_address row n address (unhalts which) is e = cc
-endpoint_takes_no_address row n address (tells_port i) is e = absurd is
-endpoint_takes_no_address row n address (calls_port c i) is e = absurd is
+endpoint_takes_no_address row n address o (inl e) is = let h = rw e at is in absurd (cc h)
+endpoint_takes_no_address row n address o (inr (which, e)) is = let h = rw e at is in cc h
 
 module _ (t : Target) (request : Setup) (of : (spec : Spec) (g : Registers)
     → IsOfEndpoint (outcome spec g request)) (old new : World) (j : Location) (s v : State) where
   accepted_stays : (row : List PortState) → OnlyControl (accepted s row request) v
       → v.registers ≡ (accepted s row request).registers → SameSettings j s v
-  accepted_stays row frame same = endpoint_begun_stays s v row request.length
-      (outcome s.spec s.registers request) (of s.spec s.registers) frame same
+  accepted_stays row frame same =
+      let kept = begun_same s row request.length _ (of s.spec s.registers) in
+      (ap (λ x. x.spec) frame ∙ kept.0, same ∙ kept.1)
 
   write_stays : (result : Result (Unit {0}) PipeFault) → WriteLeaves t request result old new j s v
       → SameSettings j s v

@@ -3,15 +3,15 @@
 use Rattle.std.proofs.Common.{◌≡◌, ◌≢◌, ◌∙◌, refl, sym, ap, subst, Bool, true, false, ℕ, ◌≤◌, ◌&&◌}
 use Rattle.std.proofs.Common.{eq-eqb}
 use Rattle.std.proofs.lemmas.Option.{same_Some}
-use Rattle.std.specs.Prelude.{List, ◌||◌, not, Option, Some, None, IfSome, is_some, option_map}
-use Rattle.std.specs.Prelude.{Result, Ok, Err, IsOk, MatchResult, if◌then◌else◌}
+use Rattle.std.specs.Prelude.{List, ◌||◌, not, Option, Some, None, IfSome, is_some, Result, Ok, Err}
+use Rattle.std.specs.Prelude.{IsOk, MatchResult, if◌then◌else◌}
 use Rattle.arrayvec.specs.ArrayVec.{ArrayVec}
-use Rattle.usb_device.specs.{State, Spec, place, reach, Location, path_to, state_there}
+use Rattle.usb_device.specs.{State, Spec, place, reach, Location, path_to, state_there, reach_on}
+use Rattle.usb_device.specs.{state_on}
 use Rattle.usb_world.specs.{Attempt, Outcome, is_setup, Was, EachWas, LeavesPortAlone, Course, here}
-use Rattle.usb_world.specs.{attempt, at_attempt, World}
+use Rattle.usb_world.specs.{attempt, at_attempt, Relation, World}
 use Rattle.usb_tree.specs.{address_of, IsSettled, deep_at}
 use Rattle.usb_world.proofs.Interface.{course_then, data_asks_nothing, each_none}
-use Rattle.usb_tree.proofs.Interface.{equal_same}
 use Rattle.usb_bus.specs.{StepRun}
 use Rattle.usb_transaction.specs.{AttemptsMade, transaction_bound, Target, Answerer, is_at}
 use Rattle.usb_transaction.specs.{AttemptLog, NoThreeDamaged, Listens}
@@ -25,14 +25,13 @@ use Rattle.usb_enum.specs.{Accepted, configuration_of}
 use Rattle.usb_enum.proofs.Interface.{each_joint}
 use Rattle.usb_table.specs.{Pipes, Hub, Function, Absent, accepted_device_at, is_below_hub}
 use Rattle.usb_table.specs.{StatusPipeInSync, PipesInSync, InSyncAt, IsHeld, KeepsInSync, BitsOf}
-use Rattle.usb_table.specs.{HubTold, IsListening, KeepsPolled, TablePolls, SparesBulk}
-use Rattle.usb_table.specs.{entry_address, IsStatusPipe, ArePipesIf, ArePipesTo, Table, pipes_at}
-use Rattle.usb_table.specs.{GoesThrough, NotPolled, OnlyTransfers, PipesPolled, PollTook}
-use Rattle.usb_table.specs.{PolledThrough}
+use Rattle.usb_table.specs.{HubTold, IsListening, KeepsPolled, TablePolls, SparesBulk, IsStatusPipe}
+use Rattle.usb_table.specs.{ArePipesIf, ArePipesTo, Table, pipes_at, GoesThrough, NotPolled}
+use Rattle.usb_table.specs.{OnlyTransfers, PipesPolled, PollTook, PolledThrough}
 use Rattle.usb_table.proofs.levels.Endpoints.{status_end}
 use Rattle.usb_table.proofs.levels.FittingPipes.{PipesMove, poll_moves}
-use Rattle.usb_table.proofs.levels.Levels.{address_found, held_address, entry_address-one_path}
-use Rattle.usb_table.proofs.levels.Levels.{moved_levels, single, still_levels}
+use Rattle.usb_table.proofs.levels.Levels.{held_address, moved_levels, single, stands_there}
+use Rattle.usb_table.proofs.levels.Levels.{still_levels, stood_at}
 use Rattle.usb_table.proofs.levels.MovedPipes.{EachMoves}
 use Rattle.usb_table.proofs.transfers.SparedBulk.{spares-changes, spares-same}
 use Rattle.usb_table.proofs.transfers.DevicesKept.{RanAs, polls_only, polls_spare, same_spares}
@@ -126,7 +125,17 @@ module _ (path : List ℕ) (device : Accepted) (pipe rest : Interrupt) (old new 
   }
   tells_of j is (Err fault) t = tt
 
-  -- whoever answered has the address of the path, so it is the hub
+  -- whoever has the address of the path is the hub
+  there : IsHeld old before → (j : Location) (s : State) → reach_on before.roots j ≡ true
+      → state_on before.roots j ≡ Some s → is_at s pipe.target ≡ true → path ≡ path_to j
+  there held = stands_there path old before held device stands pipe.target.addr addressed
+
+  fits_was : {R : Relation} → IsHeld old before → InSyncAt path old before → (j : Location)
+      (v : State) → path ≡ path_to j → (w : Was R before j v) → StatusPipeInSync pipe w.before
+      × (is_at w.before pipe.target ≡ true)
+  fits_was held level j v is w = let stood = stood_at path before j v is w in
+      fits held level w.before stood.0 stood.1
+
   hub_told : IsHeld old before → InSyncAt path old before → (got : Option (ArrayVec ℕ))
       → result ≡ Ok got → HubTold path before result after
   hub_told held level got e = record {
@@ -138,20 +147,14 @@ module _ (path : List ℕ) (device : Accepted) (pipe rest : Interrupt) (old new 
       who = who_polls pipe got rest before after x.settled
           (subst (λ r. Polls pipe before r rest after) e x.polls) (unshared held)
 
-      has : entry_address (path_to who.spot) old.entries ≡ Some device.address
-      has = sym (held.own (path_to who.spot) who.was_on) ∙ ap (option_map address_of) who.stood
-          ∙ ap Some (equal_same (address_of who.before) pipe.target.addr who.at ∙ addressed)
-
       is : path ≡ path_to who.spot
-      is = entry_address-one_path old before path (path_to who.spot) device.address held
-          (address_found path old.entries device stands) has
+      is = there held who.spot who.before who.was_on who.stood who.at
 
       was_so : Was (PollLeaves pipe before result rest after) before who.spot who.now
       was_so = leaves (unshared held) who.spot who.now who.on who.stands
 
       fitted : StatusPipeInSync pipe was_so.before × (is_at was_so.before pipe.target ≡ true)
-      fitted = fits held level was_so.before (ap (reach before.roots) is ∙ was_so.on)
-          (ap (state_there before.roots) is ∙ was_so.stands)
+      fitted = fits_was held level who.spot who.now is was_so
 
       told : PollTells (ToldOf pipe before after who.spot) result
       told = was_so.so.tells fitted.1 fitted.0.tells fitted.0.level
@@ -162,19 +165,9 @@ module _ (path : List ℕ) (device : Accepted) (pipe rest : Interrupt) (old new 
       → (j : Location) (v : State) (x : Was (PollLeaves pipe before result rest after) before j v)
       → (b : Bool) → is_at x.before pipe.target ≡ b → SparesBulk j x.before v
   spared_by held level j v x false e = spares-same j x.before v (x.so.others e)
-  spared_by held level j v x true e = spares-changes j x.before v (x.so.frame fitted.0.tells)
-    where
-      has : entry_address (path_to j) old.entries ≡ Some device.address
-      has = sym (held.own (path_to j) x.on) ∙ ap (option_map address_of) x.stands
-          ∙ ap Some (equal_same (address_of x.before) pipe.target.addr e ∙ addressed)
-
-      is : path ≡ path_to j
-      is = entry_address-one_path old before path (path_to j) device.address held
-          (address_found path old.entries device stands) has
-
-      fitted : StatusPipeInSync pipe x.before × (is_at x.before pipe.target ≡ true)
-      fitted = fits held level x.before (ap (reach before.roots) is ∙ x.on)
-          (ap (state_there before.roots) is ∙ x.stands)
+  spared_by held level j v x true e =
+      let fitted = fits_was held level j v (there held j x.before x.on x.stands e) x in
+      spares-changes j x.before v (x.so.frame fitted.0.tells)
 
   hub_spares : IsHeld old before → InSyncAt path old before → EachWas SparesBulk before after
   hub_spares held level j v on there =
@@ -194,8 +187,7 @@ module _ (path : List ℕ) (device : Accepted) (pipe rest : Interrupt) (old new 
     before_it = ran (unshared held) heard.spot heard.state heard.on heard.stands
 
     fitted : StatusPipeInSync pipe before_it.before × (is_at before_it.before pipe.target ≡ true)
-    fitted = fits held level before_it.before (ap (reach before.roots) heard.is ∙ before_it.on)
-        (ap (state_there before.roots) heard.is ∙ before_it.stands)
+    fitted = fits_was held level heard.spot heard.state heard.is before_it
 
     abbrev hears_by : Bool → Bool → Bool → Spec → Bool
     hears_by low pre deep d = if low then d.low && (not deep || pre) else not d.low

@@ -2,20 +2,20 @@
 -- reached there.
 use Rattle.std.proofs.Common.{◌≡◌, ◌≢◌, ◌∙◌, refl, sym, ap, subst, true, false, ℕ, ◌==◌, eq-eqb}
 use Rattle.std.proofs.Common.{List, Option, None, Some}
-use Rattle.std.specs.Prelude.{Result, Ok, Err, is_ok, option_map}
-use Rattle.usb_device.specs.{State, reach, Location, path_to, reach_on, state_on, state_there}
+use Rattle.std.specs.Prelude.{Result, Ok, Err, is_ok}
+use Rattle.std.proofs.lemmas.Bool.{false_from_ne_true}
+use Rattle.usb_device.specs.{State, reach, Location, path_to, state_there}
 use Rattle.usb_world.specs.{BusFault, Relation, Was, EachWas, World}
 use Rattle.usb_tree.specs.{address_of}
-use Rattle.usb_tree.proofs.Interface.{equal_same}
 use Rattle.usb_transaction.specs.{Target, Answerer}
 use Rattle.usb_pipe.specs.{PipeFault}
 use Rattle.usb_pipe.specs.declared.fault.PipeFault.TheVariants as pipe_fault
 use Rattle.usb_enum.specs.{Accepted}
-use Rattle.usb_table.specs.{EndpointFault, Pipe, ChangesAt, accepted_device_at, PipesInSync, IsHeld}
-use Rattle.usb_table.specs.{InSyncAt, entry_address, is_below_hub, ArePipesIf, Table, ArePipesAt}
-use Rattle.usb_table.specs.{pipes_at, endpoint_answer}
-use Rattle.usb_table.proofs.levels.Levels.{address_found, by_decision, held_address}
-use Rattle.usb_table.proofs.levels.Levels.{entry_address-one_path}
+use Rattle.usb_table.specs.declared.fault.TableFault.TheVariants as table_fault
+use Rattle.usb_table.specs.{TableFault, ChangesAt, accepted_device_at, PipesInSync, IsHeld}
+use Rattle.usb_table.specs.{InSyncAt, is_below_hub, ArePipesIf, Table, ArePipesAt, pipes_at}
+use Rattle.usb_table.specs.{table_answer}
+use Rattle.usb_table.proofs.levels.Levels.{held_address, stands_there, stood_at}
 
 -- what is so of the device that is reached at a path
 abbrev pub PathReaches : List ℕ → World → (State → Type 0) → Type 0
@@ -52,16 +52,6 @@ none_changes path So old new same so = subst (EachWas (ChangesAt path So) old) (
 module _ (path : List ℕ) (table : Table) (old : World) (held : IsHeld table old) (device : Accepted)
     (found : accepted_device_at path table.entries ≡ Some device) (a : ℕ) (is : a ≡ device.address)
   where
-    -- who has the address of the device that is known at the path stands there
-    stands_there : (j : Location) (s : State) → reach_on old.roots j ≡ true
-        → state_on old.roots j ≡ Some s → (address_of s == a) ≡ true → path ≡ path_to j
-    stands_there j s on there at =
-        let own : entry_address (path_to j) table.entries ≡ Some (address_of s) =
-        sym (held.own (path_to j) on) ∙ ap (option_map address_of) there in
-        sym (entry_address-one_path table old (path_to j) path device.address held (own
-        ∙ ap Some (equal_same (address_of s) a at ∙ is))
-        (address_found path table.entries device found))
-
     pub changes_there : (L : Relation) (So : State → State → Type 0) (new : World)
         → ((j : Location) (s v : State) → L j s v → (address_of s == a) ≡ false → v ≡ s)
         → PathReaches path old (λ s. (j : Location) (v : State) → L j s v
@@ -80,33 +70,30 @@ module _ (path : List ℕ) (table : Table) (old : World) (held : IsHeld table ol
 
         itself : path ≡ path_to j → So w.before v
         itself e =
-            let was_on : reach old.roots path ≡ true = ap (reach old.roots) e ∙ w.on in
-            let stood : state_there old.roots path ≡ Some w.before = ap (state_there old.roots) e
-            ∙ w.stands in
-            let has : address_of w.before ≡ device.address =
-            held_address table old path device w.before held found was_on stood in
-            so w.before was_on stood j v w.so (eq-eqb (address_of w.before) a (has ∙ sym is))
+            let was = stood_at path old j v e w in
+            let has = held_address table old path device w.before held found was.0 was.1 in
+            so w.before was.0 was.1 j v w.so (eq-eqb (address_of w.before) a (has ∙ sym is))
 
         apart : path ≢ path_to j → v ≡ w.before
-        apart far = others j w.before v w.so (by_decision (address_of w.before == a)
-            (λ at. far (stands_there j w.before w.on w.stands at)))
+        apart far = others j w.before v w.so (false_from_ne_true _ (λ at. far
+            (stands_there path table old held device found a is j w.before w.on w.stands at)))
 
     -- who answered is reached there
     pub answers_there : (t : Target) (new : World) → t.addr ≡ a → Answerer t old new
         → reach new.roots path ≡ true
     answers_there t new e x = ap (reach new.roots)
-        (stands_there x.spot x.before x.was_on x.stood (ap (λ n. address_of x.before == n) (sym e)
-        ∙ x.at)) ∙ x.on
+        (stands_there path table old held device found a is x.spot x.before x.was_on x.stood
+        (ap (λ n. address_of x.before == n) (sym e) ∙ x.at)) ∙ x.on
 
 -- a pipe's answer is the table's
-pub done_through : {A : Type 0} (answer : Result A PipeFault) (result : Result A EndpointFault)
-    → result ≡ endpoint_answer answer → is_ok answer ≡ is_ok result
+pub done_through : {A : Type 0} (answer : Result A PipeFault) (result : Result A TableFault)
+    → result ≡ table_answer answer → is_ok answer ≡ is_ok result
 done_through (Ok x) result e = sym (ap is_ok e)
 done_through (Err why) result e = sym (ap is_ok e)
 
 -- and is no fault of the bus where the table's is none
-pub not_bus : {A : Type 0} (answer : Result A PipeFault) (result : Result A EndpointFault)
-    → result ≡ endpoint_answer answer → ((why : BusFault)
-    → result ≢ Err (Pipe (pipe_fault.Bus why))) → (why : BusFault)
+pub not_bus : {A : Type 0} (answer : Result A PipeFault) (result : Result A TableFault)
+    → result ≡ table_answer answer → ((why : BusFault)
+    → result ≢ Err (table_fault.Bus why)) → (why : BusFault)
     → answer ≢ Err (pipe_fault.Bus why)
-not_bus answer result told other why e = other why (told ∙ ap endpoint_answer e)
+not_bus answer result told other why e = other why (told ∙ ap table_answer e)

@@ -11,12 +11,13 @@ use Rattle.usb_pipe.specs.{Condition, PipeFault, Bulk, Clears, is_ready, BegunAg
 use Rattle.usb_pipe.specs.declared.condition.Condition.TheVariants.{Ready, Halted, Broken}
 use Rattle.usb_pipe.specs.declared.fault.PipeFault.TheVariants as pipe_fault
 use Rattle.usb_enum.specs.{Accepted}
-use Rattle.usb_table.specs.{EndpointFault, Pipe, BulkPipes, Pipes, Function, HaltCleared}
-use Rattle.usb_table.specs.{HaltClearedBy, HaltsCleared, TransfersAt, Restarted, pipe_out, pipe_in}
-use Rattle.usb_table.specs.{out_endpoint, in_endpoint, accepted_device_at, is_below_hub}
-use Rattle.usb_table.specs.{PipesInSync, IsHeld, InSyncAt, IsBulkPipe, IsPipe, Table, pipes_at}
-use Rattle.usb_table.specs.{ArePipesAt, ClearedBy, ClearedAfter, PipesCleared, both_sides}
-use Rattle.usb_table.specs.{endpoint_answer}
+use Rattle.usb_table.specs.declared.fault.TableFault.TheVariants as table_fault
+use Rattle.usb_table.specs.{TableFault, Transfer, TransferFault, BulkPipes, Pipes, Function}
+use Rattle.usb_table.specs.{HaltCleared, HaltClearedBy, HaltsCleared, TransfersAt, Restarted}
+use Rattle.usb_table.specs.{pipe_out, pipe_in, out_endpoint, in_endpoint, accepted_device_at}
+use Rattle.usb_table.specs.{is_below_hub, PipesInSync, IsHeld, InSyncAt, IsBulkPipe, IsPipe, Table}
+use Rattle.usb_table.specs.{pipes_at, ArePipesAt, ClearedBy, ClearedAfter, PipesCleared, both_sides}
+use Rattle.usb_table.specs.{table_answer}
 use Rattle.usb_table.proofs.levels.FittingPipes.{PipesMove, clear_out_moves, clear_in_moves}
 use Rattle.usb_table.proofs.levels.KeptPipes.{ready_or_not}
 use Rattle.usb_table.proofs.levels.MovedPipes.{EachMoves, clear_whole, known_left}
@@ -233,8 +234,8 @@ module _ (ends : Type 0) where
   module _ (done : Bool) (device : Accepted) (pipes left : BulkPipes)
       (out : IsPipe device false (out_endpoint device) pipes.out)
       (into : IsPipe device true (in_endpoint device) pipes.into)
-      (result : Result (Unit {0}) EndpointFault)
-      (sure : ends → (why : BusFault) → result ≢ Err (Pipe (pipe_fault.Bus why)))
+      (result : Result (Unit {0}) TableFault)
+      (sure : ends → (why : BusFault) → result ≢ Err (table_fault.Bus why))
       (less : done ≡ true → is_ok result ≡ true) (old mid new : World) where
     abbrev BothSteps : Option Bulk → Type 0
     BothSteps rest =
@@ -242,7 +243,7 @@ module _ (ends : Type 0) where
         (HaltClearedBy done pipes.into rest) pipes (record { out = left.out; into = rest }) old new
 
     -- the answer of a pipe
-    pipe_answers : (answer : Result (Unit {0}) PipeFault) → result ≡ endpoint_answer answer
+    pipe_answers : (answer : Result (Unit {0}) PipeFault) → result ≡ table_answer answer
         → FitsAnswer ends done answer
     pipe_answers answer told = record {
       sure = λ e. not_bus answer result told (sure e);
@@ -289,8 +290,8 @@ module _ (path : List ℕ) (old : Table) (before after : World) where
   abbrev Cleared : Bool → Pipes → Pipes → Type 0
   Cleared done pipes left = TransfersAt path done (HaltsCleared done pipes left) old before after
 
-  not_cleared : (result : Result (Unit {0}) EndpointFault) (pipes : Pipes) (fault : EndpointFault)
-      → result ≡ Err fault → after ≡ before → PathReaches path before (PipesInSync pipes)
+  not_cleared : (result : Result (Unit {0}) TableFault) (pipes : Pipes) (fault : TransferFault)
+      → result ≡ Err (Transfer fault) → after ≡ before → PathReaches path before (PipesInSync pipes)
       → Cleared (is_ok result) pipes pipes
   not_cleared result pipes fault e same level =
       subst (λ (b : Bool). Cleared b pipes pipes) (sym (ap is_ok e))
@@ -306,15 +307,15 @@ module _ (path : List ℕ) (old : Table) (before after : World) where
         known = λ done. absurd (cc done);
       })
 
-  pub cleared_restarts : (new : Table) (result : Result (Unit {0}) EndpointFault)
-      → ((why : BusFault) → result ≢ Err (Pipe (pipe_fault.Bus why))) → IsHeld old before
+  pub cleared_restarts : (new : Table) (result : Result (Unit {0}) TableFault)
+      → ((why : BusFault) → result ≢ Err (table_fault.Bus why)) → IsHeld old before
       → InSyncAt path old before → after.shared ≡ false → ArePipesAt path old
       → PipesCleared (pipes_at path old) before result (pipes_at path new) after
       → Restarted path (is_ok result) old before new after
   cleared_restarts new result other held level single are x =
       through_both before result after (accepted_device_at path old.entries) (is_below_hub path)
       (λ p l. PathReaches path before (PipesInSync p) → Cleared (is_ok result) p l)
-      (λ pipes fault told. not_cleared result pipes fault)
+      (λ pipes fault. not_cleared result pipes fault)
       (λ device pipes left found out into y l. record {
         each = changes_there path old before held device found device.address refl _
             (HaltsCleared (is_ok result) (Function pipes) (Function left)) after

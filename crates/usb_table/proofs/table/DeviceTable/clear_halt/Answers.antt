@@ -1,28 +1,22 @@
-use Rattle.std.proofs.Common.{◌≡◌, sym, true, refl, arith, Err}
+use Rattle.std.proofs.Common.{sym, refl, arith, Err}
 use Rattle.slab.specs.Slab.{get, with_value}
 use Rattle.usb_bus.specs.{still}
 use Rattle.usb_world.proofs.Interface.{spends_none, spends_wider}
-use Rattle.usb_table.specs.{Pipes, NoDevice, PipesCleared}
+use Rattle.usb_table.specs.{Transfer, NoDevice}
 use Rattle.usb_table.proofs.levels.PipeCalls.{CallThrough, through_none, through_slot}
 use Rattle.usb_table.proofs.TransferLeaves.{table_clears}
 use Rattle.usb_table.proofs.table.DeviceTable.clear_halt.Goals as goal
 
-abbrev did : (g : _) (c : goal.After-self-1 g) → Pipes → Pipes → Type 0
-did g c p q =
-    g.B.Bus.modelled ≡ true
-    → PipesCleared p (g.B.Bus.world c.args.bus.now) c.clear_halt.result q
-    (g.B.Bus.world c.clear_halt.new.bus)
-
 -- the entry is written back with the pipes that the call left
-passed : (g : _) (c : goal.After-self-1 g)
-    → CallThrough (did g c) c.args.path.now (get c.self.inside.entries)
+passed : (g : _) (c : goal.After-self-1 g) → CallThrough c.args.path.now (get c.self.inside.entries)
     (get (with_value c.self.inside.entries c.in-Some.key.now
     (record c.index_mut.result.now { pipes = c.clear_halt.new.self })))
     c.self.inside.indexes.by_path.entries c.self.inside.indexes.by_address.entries
+    c.index_mut.result.now.pipes c.clear_halt.new.self
 passed g c =
-    through_slot (did g c) c.args.path.now c.self.inside.entries _ _ c.in-Some.key.now
+    through_slot c.args.path.now c.self.inside.entries _ _ c.in-Some.key.now
     c.index_mut.result.now c.clear_halt.new.self c.self.invariant (sym c.in-Some.ensures.value)
-    c.index_mut.ensures.value c.clear_halt.ensures.made c.clear_halt.ensures.cleared
+    c.index_mut.ensures.value c.clear_halt.ensures.made
 
 pub invariant_of-self : goal.invariant_of-self
 invariant_of-self g c = ((passed g c).indexes, (passed g c).piped)
@@ -35,22 +29,19 @@ returns-in-Some-clause-clears g c known =
     rw (← c.self.view_is)
     (table_clears c.args.path.now _ _ _ _ _ _ (passed g c).goes
     (c.clear_halt.ensures.steps known).traced c.clear_halt.result
-    (c.clear_halt.ensures.steps known).spends ((passed g c).did known))
+    (c.clear_halt.ensures.steps known).spends
+    (rw ((passed g c).was, (passed g c).is) (c.clear_halt.ensures.cleared known)))
 
 pub returns-in-None-clause-through : goal.returns-in-None-clause-through
 returns-in-None-clause-through g c =
-    let s = c.self.inside in
-    rw (← c.self.view_is)
-    (through_none (λ p q. Unit {0}) c.args.path.now (get s.entries) s.indexes.by_path.entries
-    s.indexes.by_address.entries c.self.invariant (sym c.in-None.ensures.value) tt).goes
+    rw (← c.self.view_is) (through_none c.args.path.now (get c.self.inside.entries) _ _
+    c.self.invariant (sym c.in-None.ensures.value)).goes
 
 pub returns-in-None-clause-clears : goal.returns-in-None-clause-clears
 returns-in-None-clause-clears g c known =
-    let s = c.self.inside in
-    let w = g.B.Bus.world c.args.bus.now in
     let none =
-    through_none (λ p q. PipesCleared p w (Err NoDevice) q w) c.args.path.now
-    (get s.entries) s.indexes.by_path.entries s.indexes.by_address.entries c.self.invariant
-    (sym c.in-None.ensures.value) (refl, refl, refl) in
-    rw (← c.self.view_is) (table_clears c.args.path.now _ _ _ _ _ _ none.goes
-    still (Err NoDevice) (spends_wider 0 3200 w w (spends_none w) (omega arith)) none.did)
+    through_none c.args.path.now (get c.self.inside.entries) c.self.inside.indexes.by_path.entries
+    c.self.inside.indexes.by_address.entries c.self.invariant (sym c.in-None.ensures.value) in
+    rw (← c.self.view_is) (table_clears c.args.path.now _ _ _ _ _ _ none.goes still
+    (Err (Transfer NoDevice)) (spends_wider 0 3200 _ _ (spends_none _) (omega arith))
+    (rw none.was (refl, refl, refl)))

@@ -1,11 +1,11 @@
 -- The slab has what each key of a path names.
-use Rattle.std.proofs.Common.{◌≡◌, ◌∙◌, ap, subst, Some}
+use Rattle.std.proofs.Common.{◌≡◌, ◌∙◌, Some}
 use Rattle.std.specs.BTreeMap as tree
 use Rattle.std.specs.Map.Iter.{deref_pair}
 use Rattle.std.proofs.lemmas.Map.Views.{All-turn}
 use Rattle.slab.specs.Slab.{get}
 use Rattle.usb_port.specs.{path_cmp}
-use Rattle.usb_table.specs.{findings, Table, ArePipesAt}
+use Rattle.usb_table.specs.{findings}
 use Rattle.usb_table.proofs.entries.Keys.{entries_rise, some_standing}
 use Rattle.usb_table.proofs.levels.PipeCalls.{are_pipes_at}
 use Rattle.usb_table.proofs.table.DeviceTable.entries.Goals as goal
@@ -21,34 +21,31 @@ index-requires c =
     (c.self.invariant.0.stands c.in-Some.path.now c.in-Some.key.now turn)
 
 pub returns-in_err-try_clone-clause-rising : goal.returns-in_err-try_clone-clause-rising
-returns-in_err-try_clone-clause-rising c = entries_rise (findings (get c.self.inside.entries))
-    c.self.inside.indexes.by_path.entries c.args.self.now.entries
-    (ap (λ (t : Table). t.entries) c.self.view_is) c.iter-path-items.ensures.ordered
+returns-in_err-try_clone-clause-rising c =
+    rw (← c.self.view_is)
+    (entries_rise (findings (get c.self.inside.entries)) _ c.iter-path-items.ensures.ordered)
 
 pub returns-in_err-push-clause-rising : goal.returns-in_err-push-clause-rising
-returns-in_err-push-clause-rising c = entries_rise (findings (get c.self.inside.entries))
-    c.self.inside.indexes.by_path.entries c.args.self.now.entries
-    (ap (λ (t : Table). t.entries) c.self.view_is) c.iter-path-items.ensures.ordered
+returns-in_err-push-clause-rising c =
+    rw (← c.self.view_is)
+    (entries_rise (findings (get c.self.inside.entries)) _ c.iter-path-items.ensures.ordered)
 
 pub returns-clause-rising : goal.returns-clause-rising
-returns-clause-rising c = entries_rise (findings (get c.self.inside.entries))
-    c.self.inside.indexes.by_path.entries c.args.self.now.entries
-    (ap (λ (t : Table). t.entries) c.self.view_is) c.iter-path-items.ensures.ordered
+returns-clause-rising c =
+    rw (← c.self.view_is)
+    (entries_rise (findings (get c.self.inside.entries)) _ c.iter-path-items.ensures.ordered)
 
 pub returns-in_err-try_clone-clause-pipes : goal.returns-in_err-try_clone-clause-pipes
 returns-in_err-try_clone-clause-pipes c path =
-    let s = c.self.inside in
-    subst (ArePipesAt path) c.self.view_is (are_pipes_at (get s.entries) s.indexes.by_path.entries
-    s.indexes.by_address.entries c.self.invariant.0 c.self.invariant.1 path)
+    rw (← c.self.view_is) (are_pipes_at (get c.self.inside.entries) _ _ c.self.invariant.0
+    c.self.invariant.1 path)
 
 pub returns-in_err-push-clause-pipes : goal.returns-in_err-push-clause-pipes
 returns-in_err-push-clause-pipes c path =
-    let s = c.self.inside in
-    subst (ArePipesAt path) c.self.view_is (are_pipes_at (get s.entries) s.indexes.by_path.entries
-    s.indexes.by_address.entries c.self.invariant.0 c.self.invariant.1 path)
+    rw (← c.self.view_is) (are_pipes_at (get c.self.inside.entries) _ _ c.self.invariant.0
+    c.self.invariant.1 path)
 
 pub returns-clause-pipes : goal.returns-clause-pipes
 returns-clause-pipes c path =
-    let s = c.self.inside in
-    subst (ArePipesAt path) c.self.view_is (are_pipes_at (get s.entries) s.indexes.by_path.entries
-    s.indexes.by_address.entries c.self.invariant.0 c.self.invariant.1 path)
+    rw (← c.self.view_is) (are_pipes_at (get c.self.inside.entries) _ _ c.self.invariant.0
+    c.self.invariant.1 path)

@@ -1,12 +1,11 @@
 -- What is entered stands under a key that was vacant.
-use Rattle.std.proofs.Common.{◌≡◌, ◌≢◌, ◌∙◌, sym, ap, subst, false, ℕ, Option, Some, None}
-use Rattle.std.specs.Prelude.{Result, Ok, Err, OnErr, IfSome}
+use Rattle.std.proofs.Common.{◌≡◌, ◌∙◌, sym, ap, subst, false, ℕ, Option, Some, None}
+use Rattle.std.specs.Prelude.{Result, Ok, Err, OnErr}
 use Rattle.slab.specs.Slab.{Slab, get, Updates}
-use Rattle.usb_table.specs.{has_at, address_found, HasNewAddress, Entry, IsPiped, findings}
-use Rattle.usb_table.specs.{key_of_path, key_of_address, Enters, is_below_hub, ArePipesOf}
-use Rattle.usb_table.specs.{new_pipes, Table, entered}
-use Rattle.usb_table.proofs.entries.NewEntries.{came_indexes, came_piped, came_table, away_key}
-use Rattle.usb_table.proofs.entries.NewEntries.{free_key}
+use Rattle.usb_table.specs.{has_at, HasNewAddress, Entry, findings, Enters, is_below_hub}
+use Rattle.usb_table.specs.{ArePipesOf, new_pipes, Table, entered}
+use Rattle.usb_table.proofs.entries.NewEntries.{away_key, free_key}
+use Rattle.usb_table.proofs.entries.OneMore.{OneMore, come, come_piped, come_table, entered_one}
 use Rattle.usb_table.proofs.table.DeviceTable.insert.Goals as goal
 
 on_err : {A E : Type 0} (r : Result A E) (P : Type 0) → P → OnErr r P
@@ -43,20 +42,17 @@ new_standing c = record {
   pipes = new_pipes c.args.finding (is_below_hub c.args.path);
 }
 
--- the entry that came, for the lemmas
-record Come (c : goal.After-insert_reserved) : Type 0 where
-  vacant : get c.self.inside.entries c.vacant_key-key.result ≡ None
-  changed : get c.insert_reserved.new.self c.vacant_key-key.result ≡ Some (new_standing c)
-  others : (k : ℕ) → k ≢ c.vacant_key-key.result → get c.insert_reserved.new.self k
-      ≡ get c.self.inside.entries k
-  fits : IsPiped c.args.path (new_standing c)
-  away : key_of_path c.self.inside.indexes.by_path.entries c.args.path ≡ None
-  free : IfSome (address_found c.args.finding)
-      (λ a. key_of_address c.self.inside.indexes.by_address.entries a ≡ None)
-  enters : Enters c.args.path (address_found c.args.finding) c.vacant_key-key.result
-      c.self.inside.indexes c.insert.new.self
+standing_is : (c : goal.After-insert_reserved) → c.new-entry.result ≡ new_standing c
+standing_is c =
+    subst (λ b. c.new-entry.result ≡ record {
+      finding = c.args.finding;
+      pipes = new_pipes c.args.finding b;
+    }) c.is_below_hub.ensures c.new-entry.ensures.value
 
-came : (c : goal.After-insert_reserved) → Come c
+came : (c : goal.After-insert_reserved) → OneMore (get c.self.inside.entries)
+    (get c.insert_reserved.new.self) c.self.inside.indexes.by_path.entries
+    c.insert.new.self.by_path.entries c.self.inside.indexes.by_address.entries
+    c.insert.new.self.by_address.entries c.args.path c.vacant_key-key.result (new_standing c)
 came c =
     let s = c.self.inside in
     let kept = c.reserve.ensures.rest_kept in
@@ -64,51 +60,38 @@ came c =
     ∙ sym c.vacant_key-key.ensures.value in
     let updates = subst (λ (k : ℕ). Updates c.reserve.new.self c.insert_reserved.new.self k
     (Some c.new-entry.result)) same c.insert_reserved.ensures.updates in
-    let is : c.new-entry.result ≡ new_standing c =
-    subst (λ b. c.new-entry.result ≡ record {
-      finding = c.args.finding;
-      pipes = new_pipes c.args.finding b;
-    }) c.is_below_hub.ensures c.new-entry.ensures.value in
-    record {
-      vacant = subst (λ (t : Slab Entry). get t c.vacant_key-key.result ≡ None) kept
-          c.vacant_key-key.ensures.vacant;
-      changed = updates.changed ∙ ap Some is;
-      others = λ k ne. updates.others k ne ∙ ap (λ (t : Slab Entry). get t k) kept;
-      fits = (
-        c.requires.sound,
-        subst (λ (x : Entry). ArePipesOf c.args.finding (is_below_hub c.args.path) x.pipes) is
-            (subst (λ b. ArePipesOf c.args.finding b c.new-entry.result.pipes)
-            c.is_below_hub.ensures
-            c.new-entry.ensures.fits),
-      );
-      away = away_key (findings (get s.entries)) c.args.path s.indexes.by_path.entries
-          (subst (λ (t : Table). has_at c.args.path t.entries ≡ false) (sym c.self.view_is)
-          c.requires.away);
-      free = free_key (findings (get s.entries)) s.indexes.by_path.entries
-          s.indexes.by_address.entries c.args.finding c.self.invariant.0
-          (subst (λ (t : Table). HasNewAddress c.args.finding t.entries) (sym c.self.view_is)
-          c.requires.address);
-      enters = subst (λ (a : Option ℕ). Enters c.args.path a c.vacant_key-key.result s.indexes
-          c.insert.new.self) c.address_number-address.ensures c.in_ok-insert.ensures.ok;
-    }
+    entered_one (get s.entries) (get c.insert_reserved.new.self) c.args.path c.vacant_key-key.result
+    (new_standing c)
+    (subst (λ (t : Slab Entry). get t c.vacant_key-key.result ≡ None) kept
+    c.vacant_key-key.ensures.vacant)
+    (updates.changed ∙ ap Some (standing_is c))
+    (λ k ne. updates.others k ne ∙ ap (λ (t : Slab Entry). get t k) kept) s.indexes
+    c.insert.new.self
+    (away_key (findings (get s.entries)) c.args.path s.indexes.by_path.entries
+    (subst (λ (t : Table). has_at c.args.path t.entries ≡ false) (sym c.self.view_is)
+    c.requires.away))
+    (free_key (findings (get s.entries)) s.indexes.by_path.entries s.indexes.by_address.entries
+    c.args.finding c.self.invariant.0
+    (subst (λ (t : Table). HasNewAddress c.args.finding t.entries) (sym c.self.view_is)
+    c.requires.address))
+    (subst (λ (a : Option ℕ). Enters c.args.path a c.vacant_key-key.result s.indexes
+    c.insert.new.self) c.address_number-address.ensures c.in_ok-insert.ensures.ok)
 
 pub invariant_of-self-2 : goal.invariant_of-self-2
 invariant_of-self-2 c =
-    let s = c.self.inside in
-    let h = came c in (
-      came_indexes (get s.entries) (get c.insert_reserved.new.self) s.indexes c.insert.new.self
-          c.args.path c.vacant_key-key.result (new_standing c) c.self.invariant.0 c.self.invariant.1
-          h.vacant h.changed h.others h.fits h.away h.free h.enters,
-      came_piped (get s.entries) (get c.insert_reserved.new.self) s.indexes c.insert.new.self
-          c.args.path c.vacant_key-key.result (new_standing c) c.self.invariant.0 c.self.invariant.1
-          h.vacant h.changed h.others h.fits h.away h.free h.enters,
+    let are = c.self.invariant.0 in (
+      come (came c) are,
+      come_piped (came c) are c.self.invariant.1 (
+        c.requires.sound,
+        subst (λ (x : Entry). ArePipesOf c.args.finding (is_below_hub c.args.path) x.pipes)
+            (standing_is c)
+            (subst (λ b. ArePipesOf c.args.finding b c.new-entry.result.pipes)
+            c.is_below_hub.ensures c.new-entry.ensures.fits),
+      ),
     )
 
 pub returns-clause-ok : goal.returns-clause-ok
 returns-clause-ok c =
-    let s = c.self.inside in
-    let h = came c in
-    came_table (get s.entries) (get c.insert_reserved.new.self) s.indexes c.insert.new.self
-    c.args.path c.vacant_key-key.result (new_standing c) c.self.invariant.0 c.self.invariant.1
-    h.vacant h.changed h.others h.fits h.away h.free h.enters
+    come_table (came c) c.self.invariant.0 c.in_ok-insert.ensures.ok.paths
+    c.in_ok-insert.ensures.ok.rises
     ∙ ap (entered c.args.path c.args.finding) c.self.view_is

@@ -56,10 +56,9 @@ returns-then-fits-clause-some c =
     ∙ ap (λ (left : PathKeys). first_from (fits c.args.kind) None
     (entries_of (findings (get s.entries)) left)) turn
     ∙ rw kind (ap Some (sym c.duplicate.ensures)) in
-    let rises = c.range-path-items.ensures.ordered in
     next_is (fits c.args.kind) (option_copied c.args.last) c.args.self.now.entries
-    c.duplicate.result (entries_rise (findings (get s.entries)) s.indexes.by_path.entries
-    c.args.self.now.entries (ap (λ (t : Table). t.entries) c.self.view_is) rises) found
+    c.duplicate.result (rw (← c.self.view_is) (entries_rise (findings (get s.entries)) _
+    c.range-path-items.ensures.ordered)) found
 
 pub returns-clause-none : goal.returns-clause-none
 returns-clause-none c =

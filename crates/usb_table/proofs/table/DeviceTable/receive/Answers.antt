@@ -1,27 +1,21 @@
-use Rattle.std.proofs.Common.{◌≡◌, sym, true, refl, Err}
+use Rattle.std.proofs.Common.{sym, refl, Err}
 use Rattle.slab.specs.Slab.{get, with_value}
 use Rattle.usb_bus.specs.{still}
-use Rattle.usb_table.specs.{Pipes, NoDevice, PipesReceived}
+use Rattle.usb_table.specs.{Transfer, NoDevice}
 use Rattle.usb_table.proofs.levels.PipeCalls.{CallThrough, faces_at, through_none, through_slot}
 use Rattle.usb_table.proofs.TransferLeaves.{table_receives}
 use Rattle.usb_table.proofs.table.DeviceTable.receive.Goals as goal
 
-abbrev did : (g : _) (c : goal.After-self-1 g) → Pipes → Pipes → Type 0
-did g c p q =
-    g.B.Bus.modelled ≡ true
-    → PipesReceived p c.args.packets (g.B.Bus.world c.args.bus.now) c.receive.result q
-    (g.B.Bus.world c.receive.new.bus)
-
 -- the entry is written back with the pipes that the call left
-passed : (g : _) (c : goal.After-self-1 g)
-    → CallThrough (did g c) c.args.path.now (get c.self.inside.entries)
+passed : (g : _) (c : goal.After-self-1 g) → CallThrough c.args.path.now (get c.self.inside.entries)
     (get (with_value c.self.inside.entries c.in-Some.key.now
     (record c.index_mut.result.now { pipes = c.receive.new.self })))
     c.self.inside.indexes.by_path.entries c.self.inside.indexes.by_address.entries
+    c.index_mut.result.now.pipes c.receive.new.self
 passed g c =
-    through_slot (did g c) c.args.path.now c.self.inside.entries _ _ c.in-Some.key.now
+    through_slot c.args.path.now c.self.inside.entries _ _ c.in-Some.key.now
     c.index_mut.result.now c.receive.new.self c.self.invariant (sym c.in-Some.ensures.value)
-    c.index_mut.ensures.value c.receive.ensures.made c.receive.ensures.received
+    c.index_mut.ensures.value c.receive.ensures.made
 
 pub receive-requires : goal.receive-requires
 receive-requires g c =
@@ -38,22 +32,18 @@ pub returns-in-Some-clause-receives : goal.returns-in-Some-clause-receives
 returns-in-Some-clause-receives g c known =
     rw (← c.self.view_is)
     (table_receives c.args.path.now _ _ _ _ _ _ (passed g c).goes
-    (c.receive.ensures.traced known) c.args.packets c.receive.result ((passed g c).did known))
+    (c.receive.ensures.traced known) c.args.packets c.receive.result
+    (rw ((passed g c).was, (passed g c).is) (c.receive.ensures.received known)))
 
 pub returns-in-None-clause-through : goal.returns-in-None-clause-through
 returns-in-None-clause-through g c =
-    let s = c.self.inside in
-    rw (← c.self.view_is)
-    (through_none (λ p q. Unit {0}) c.args.path.now (get s.entries) s.indexes.by_path.entries
-    s.indexes.by_address.entries c.self.invariant (sym c.in-None.ensures.value) tt).goes
+    rw (← c.self.view_is) (through_none c.args.path.now (get c.self.inside.entries) _ _
+    c.self.invariant (sym c.in-None.ensures.value)).goes
 
 pub returns-in-None-clause-receives : goal.returns-in-None-clause-receives
 returns-in-None-clause-receives g c known =
-    let s = c.self.inside in
-    let w = g.B.Bus.world c.args.bus.now in
     let none =
-    through_none (λ p q. PipesReceived p c.args.packets w (Err NoDevice) q w) c.args.path.now
-    (get s.entries) s.indexes.by_path.entries s.indexes.by_address.entries c.self.invariant
-    (sym c.in-None.ensures.value) (refl, refl, refl) in
-    rw (← c.self.view_is) (table_receives c.args.path.now _ _ _ _ _ _ none.goes
-    still c.args.packets (Err NoDevice) none.did)
+    through_none c.args.path.now (get c.self.inside.entries) c.self.inside.indexes.by_path.entries
+    c.self.inside.indexes.by_address.entries c.self.invariant (sym c.in-None.ensures.value) in
+    rw (← c.self.view_is) (table_receives c.args.path.now _ _ _ _ _ _ none.goes still
+    c.args.packets (Err (Transfer NoDevice)) (rw none.was (refl, refl, refl)))

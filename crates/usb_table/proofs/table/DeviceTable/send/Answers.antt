@@ -1,27 +1,21 @@
-use Rattle.std.proofs.Common.{◌≡◌, sym, true, refl, Err}
+use Rattle.std.proofs.Common.{sym, refl, Err}
 use Rattle.slab.specs.Slab.{get, with_value}
 use Rattle.usb_bus.specs.{still}
-use Rattle.usb_table.specs.{Pipes, NoDevice, PipesSent}
+use Rattle.usb_table.specs.{Transfer, NoDevice}
 use Rattle.usb_table.proofs.levels.PipeCalls.{CallThrough, faces_at, through_none, through_slot}
 use Rattle.usb_table.proofs.TransferLeaves.{table_sends}
 use Rattle.usb_table.proofs.table.DeviceTable.send.Goals as goal
 
-abbrev did : (g : _) (c : goal.After-self-1 g) → Pipes → Pipes → Type 0
-did g c p q =
-    g.B.Bus.modelled ≡ true
-    → PipesSent p c.args.bytes.now (g.B.Bus.world c.args.bus.now) c.send.result q
-    (g.B.Bus.world c.send.new.bus)
-
 -- the entry is written back with the pipes that the call left
-passed : (g : _) (c : goal.After-self-1 g)
-    → CallThrough (did g c) c.args.path.now (get c.self.inside.entries)
+passed : (g : _) (c : goal.After-self-1 g) → CallThrough c.args.path.now (get c.self.inside.entries)
     (get (with_value c.self.inside.entries c.in-Some.key.now
     (record c.index_mut.result.now { pipes = c.send.new.self })))
     c.self.inside.indexes.by_path.entries c.self.inside.indexes.by_address.entries
+    c.index_mut.result.now.pipes c.send.new.self
 passed g c =
-    through_slot (did g c) c.args.path.now c.self.inside.entries _ _ c.in-Some.key.now
+    through_slot c.args.path.now c.self.inside.entries _ _ c.in-Some.key.now
     c.index_mut.result.now c.send.new.self c.self.invariant (sym c.in-Some.ensures.value)
-    c.index_mut.ensures.value c.send.ensures.made c.send.ensures.sent
+    c.index_mut.ensures.value c.send.ensures.made
 
 pub send-requires : goal.send-requires
 send-requires g c =
@@ -38,22 +32,18 @@ pub returns-in-Some-clause-sends : goal.returns-in-Some-clause-sends
 returns-in-Some-clause-sends g c known =
     rw (← c.self.view_is)
     (table_sends c.args.path.now _ _ _ _ _ _ (passed g c).goes
-    (c.send.ensures.traced known) c.args.bytes.now c.send.result ((passed g c).did known))
+    (c.send.ensures.traced known) c.args.bytes.now c.send.result
+    (rw ((passed g c).was, (passed g c).is) (c.send.ensures.sent known)))
 
 pub returns-in-None-clause-through : goal.returns-in-None-clause-through
 returns-in-None-clause-through g c =
-    let s = c.self.inside in
-    rw (← c.self.view_is)
-    (through_none (λ p q. Unit {0}) c.args.path.now (get s.entries) s.indexes.by_path.entries
-    s.indexes.by_address.entries c.self.invariant (sym c.in-None.ensures.value) tt).goes
+    rw (← c.self.view_is) (through_none c.args.path.now (get c.self.inside.entries) _ _
+    c.self.invariant (sym c.in-None.ensures.value)).goes
 
 pub returns-in-None-clause-sends : goal.returns-in-None-clause-sends
 returns-in-None-clause-sends g c known =
-    let s = c.self.inside in
-    let w = g.B.Bus.world c.args.bus.now in
     let none =
-    through_none (λ p q. PipesSent p c.args.bytes.now w (Err NoDevice) q w) c.args.path.now
-    (get s.entries) s.indexes.by_path.entries s.indexes.by_address.entries c.self.invariant
-    (sym c.in-None.ensures.value) (refl, refl, refl) in
-    rw (← c.self.view_is) (table_sends c.args.path.now _ _ _ _ _ _ none.goes
-    still c.args.bytes.now (Err NoDevice) none.did)
+    through_none c.args.path.now (get c.self.inside.entries) c.self.inside.indexes.by_path.entries
+    c.self.inside.indexes.by_address.entries c.self.invariant (sym c.in-None.ensures.value) in
+    rw (← c.self.view_is) (table_sends c.args.path.now _ _ _ _ _ _ none.goes still
+    c.args.bytes.now (Err (Transfer NoDevice)) (rw none.was (refl, refl, refl)))

@@ -1,14 +1,14 @@
 -- What is taken out leaves its key vacant.
-use Rattle.std.proofs.Common.{◌≡◌, ◌∙◌, sym, ap, subst, cond, ℕ, List, Option, Some, None}
+use Rattle.std.proofs.Common.{◌∙◌, sym, ap, subst, ℕ, List, Option, Some, None}
 use Rattle.std.specs.Prelude.{IfNone}
-use Rattle.std.specs.BTreeMap.{BTreeMap, is_at}
+use Rattle.std.specs.BTreeMap.{BTreeMap}
 use Rattle.std.specs.List.Sorted.{IsStrictlySortedBy}
 use Rattle.std.specs.Map.{keys_of}
 use Rattle.slab.specs.Slab.{get}
 use Rattle.usb_port.specs.{path_cmp}
 use Rattle.usb_table.specs.{address_found, PathKeys, findings, key_of_path, UpdatesAddress, removed}
 use Rattle.usb_table.proofs.entries.Keys.{entries_of-key, findings-standing, entries-has_at}
-use Rattle.usb_table.proofs.entries.RemovedEntries.{gone_indexes, gone_piped, gone_table}
+use Rattle.usb_table.proofs.entries.OneMore.{OneMore, go, go_piped, go_table, left_one}
 use Rattle.usb_table.proofs.table.DeviceTable.take_at.Goals as goal
 
 on_none : {A : Type 0} (r : Option A) (P : Type 0) → P → IfNone r P
@@ -22,67 +22,43 @@ returns-in_err-first-clause-none c =
     (entries-has_at (findings (get s.entries)) c.args.path.now s.indexes.by_path.entries
     ∙ c.in_err-first.ensures.none))
 
--- the entry that went, for the lemmas
-record Gone (c : goal.After-into_finding) : Type 0 where
-  was : key_of_path c.self.inside.indexes.by_path.entries c.in_ok-first.first ≡ Some c.in_ok-key.key
-  path_keys : (q : List ℕ) → key_of_path c.remove_address.new.self.by_path.entries q
-      ≡ cond (is_at (path_cmp c.in_ok-first.first) q) None
-      (key_of_path c.self.inside.indexes.by_path.entries q)
-  address_keys : UpdatesAddress (address_found c.remove-entry.result.finding) None
-      c.self.inside.indexes.by_address.entries c.remove_address.new.self.by_address.entries
-
-went : (c : goal.After-into_finding) → Gone c
-went c = record {
-  was = sym c.in_ok-key.ensures.value;
-  path_keys = λ q. ap (λ (m : BTreeMap (List ℕ) ℕ). key_of_path m.entries q)
-      c.remove_address.ensures.paths ∙ c.in_ok-key.ensures.updates.0 q;
-  address_keys = subst (λ (a : Option ℕ). UpdatesAddress a None
-      c.self.inside.indexes.by_address.entries c.remove_address.new.self.by_address.entries)
-      (c.address_number.ensures ∙ ap address_found c.finding.ensures) c.remove_address.ensures.keys;
-}
+went : (c : goal.After-into_finding) → OneMore (get c.remove-entry.new.self)
+    (get c.self.inside.entries) c.remove_address.new.self.by_path.entries
+    c.self.inside.indexes.by_path.entries c.remove_address.new.self.by_address.entries
+    c.self.inside.indexes.by_address.entries c.in_ok-first.first c.in_ok-key.key
+    c.remove-entry.result
+went c =
+    let s = c.self.inside in
+    left_one (get c.remove-entry.new.self) (get s.entries) c.in_ok-first.first c.in_ok-key.key
+    c.remove-entry.result c.remove-entry.ensures.updates.changed c.remove-entry.ensures.value
+    (λ k ne. sym (c.remove-entry.ensures.updates.others k ne)) s.indexes.by_path.entries
+    c.remove_address.new.self.by_path.entries s.indexes.by_address.entries
+    c.remove_address.new.self.by_address.entries c.self.invariant.0 (sym c.in_ok-key.ensures.value)
+    (λ q. ap (λ (m : BTreeMap (List ℕ) ℕ). key_of_path m.entries q) c.remove_address.ensures.paths
+    ∙ c.in_ok-key.ensures.updates.0 q)
+    (subst (λ (a : Option ℕ). UpdatesAddress a None s.indexes.by_address.entries
+    c.remove_address.new.self.by_address.entries)
+    (c.address_number.ensures ∙ ap address_found c.finding.ensures) c.remove_address.ensures.keys)
 
 pub invariant_of-self-2 : goal.invariant_of-self-2
 invariant_of-self-2 c =
-    let s = c.self.inside in
-    let h = went c in (
-      gone_indexes (get s.entries) (get c.remove-entry.new.self) s.indexes.by_path.entries
-          c.remove_address.new.self.by_path.entries s.indexes.by_address.entries
-          c.remove_address.new.self.by_address.entries
-          c.in_ok-first.first c.in_ok-key.key c.remove-entry.result c.self.invariant.0
-          c.self.invariant.1 c.remove-entry.ensures.value c.remove-entry.ensures.updates.changed
-          c.remove-entry.ensures.updates.others
-          h.was h.path_keys h.address_keys,
-      gone_piped (get s.entries) (get c.remove-entry.new.self) s.indexes.by_path.entries
-          c.remove_address.new.self.by_path.entries s.indexes.by_address.entries
-          c.remove_address.new.self.by_address.entries
-          c.in_ok-first.first c.in_ok-key.key c.remove-entry.result c.self.invariant.0
-          c.self.invariant.1 c.remove-entry.ensures.value c.remove-entry.ensures.updates.changed
-          c.remove-entry.ensures.updates.others
-          h.was h.path_keys h.address_keys,
-    )
+    let are = c.self.invariant.0 in (go (went c) are, go_piped (went c) are c.self.invariant.1)
 
 pub returns-clause-some : goal.returns-clause-some
 returns-clause-some c =
     let s = c.self.inside in
-    let h = went c in
     let left = ap (λ (m : BTreeMap (List ℕ) ℕ). m.entries) c.remove_address.ensures.paths in
     record {
       first = c.in_ok-first.first;
       at = c.in_ok-first.ensures.some;
       found = rw (← c.self.view_is)
           (entries_of-key (findings (get s.entries)) c.in_ok-first.first s.indexes.by_path.entries
-          c.in_ok-key.key c.remove-entry.result.finding h.was
+          c.in_ok-key.key c.remove-entry.result.finding (sym c.in_ok-key.ensures.value)
           (findings-standing (get s.entries) c.in_ok-key.key c.remove-entry.result
           c.remove-entry.ensures.value)
           ∙ ap Some (sym c.into_finding.ensures));
       rest =
-          gone_table (get s.entries) (get c.remove-entry.new.self) s.indexes.by_path.entries
-          c.remove_address.new.self.by_path.entries s.indexes.by_address.entries
-          c.remove_address.new.self.by_address.entries
-          c.in_ok-first.first c.in_ok-key.key c.remove-entry.result c.self.invariant.0
-          c.self.invariant.1 c.remove-entry.ensures.value c.remove-entry.ensures.updates.changed
-          c.remove-entry.ensures.updates.others
-          h.was h.path_keys h.address_keys (left ∙ c.in_ok-key.ensures.entries)
+          go_table (went c) c.self.invariant.0 (left ∙ c.in_ok-key.ensures.entries)
           (subst (λ (es : PathKeys). IsStrictlySortedBy path_cmp (keys_of es)) (sym left)
           c.in_ok-key.ensures.ordered)
           ∙ ap (removed c.in_ok-first.first) c.self.view_is;
