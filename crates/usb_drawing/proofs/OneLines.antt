@@ -1,6 +1,6 @@
--- No line of a drawing has a newline but at its end.
+-- No line of a drawing has a newline.
 use Rattle.std.proofs.Common.{◌≡◌, ◌≢◌, ◌∙◌, refl, sym, ap, ap₂, subst, arith, ℕ, zero, suc, ◌+◌}
-use Rattle.std.proofs.Common.{◌-◌, ◌/◌, ◌%◌, Bool, true, false, List, [], ◌∷◌, ◌++◌, append_assoc}
+use Rattle.std.proofs.Common.{◌-◌, ◌/◌, ◌%◌, Bool, true, false, List, [], ◌∷◌, ◌++◌}
 use Rattle.std.proofs.Common.{append-nil, flat_map, get_or, length, ◌<◌, Option, None, Some}
 use Rattle.std.specs.Prelude.{◌==◌, ◌&&◌, not, nat_lt, cond, slice_index, codes, decimal}
 use Rattle.std.specs.Prelude.{encode_utf8, All, if◌then◌else◌}
@@ -23,7 +23,7 @@ use Rattle.usb_text.specs.{escaped_text, is_plain_unit, unit_text}
 use Rattle.usb_drawing.specs.{Style, Lines, Ascii, art, branch, goes_on, trunk, trunks, codes_of}
 use Rattle.usb_drawing.specs.{ports_text, address_column, cause_number, cause_words, device_text}
 use Rattle.usb_drawing.specs.{finding_text, identity_text, ids_text, power_text, speed_column}
-use Rattle.usb_drawing.specs.{stall_words, strings_text, supply_text, word_digits, IsOneLine}
+use Rattle.usb_drawing.specs.{stall_words, strings_text, supply_text, word_digits, heading_end}
 use Rattle.usb_drawing.specs.{deepest, drawing_lines, entry_line, drawn_entries, gap, granted_at}
 use Rattle.usb_drawing.specs.{heading, is_unbroken, is_pair, is_shown, labelled_text}
 use Rattle.usb_drawing.specs.{shown_or_escaped, shown_unit, shown_units, string_text}
@@ -371,52 +371,44 @@ finding_unbroken style granted (Refused cause) =
 
 -- Lines
 
-entry_one_line : (style : Style) (most : ℕ) (granted : Option ℕ) (e : List ℕ × Finding)
-    (behind : Entries) → IsOneLine (entry_line style most granted e behind)
+entry_unbroken : (style : Style) (most : ℕ) (granted : Option ℕ) (e : List ℕ × Finding)
+    (behind : Entries) → HasNoLineFeed (entry_line style most granted e behind)
 unfolding entry_line
-entry_one_line style most granted e behind =
+entry_unbroken style most granted e behind =
     let a = art style e.0 behind in
     let p = path_text e.0 in
     let g = gap (most - length e.0) in
-    let f = finding_text style granted e.1 in
-    record {
-      front = a ++ p ++ g ++ codes "  " ++ f;
-      ends = refl;
-      whole = no_line_feed-append (a ++ p ++ g ++ codes "  ") f
-          (no_line_feed-append (a ++ p ++ g) (codes "  ")
-          (no_line_feed-append (a ++ p) g (no_line_feed-append a p (art_unbroken style e.0 behind)
-          (path e.0)) (gap_unbroken (most - length e.0))) refl)
-          (finding_unbroken style granted e.1);
-    }
+    no_line_feed-append (a ++ p ++ g ++ codes "  ") (finding_text style granted e.1)
+    (no_line_feed-append (a ++ p ++ g) (codes "  ")
+    (no_line_feed-append (a ++ p) g (no_line_feed-append a p (art_unbroken style e.0 behind)
+    (path e.0)) (gap_unbroken (most - length e.0))) refl)
+    (finding_unbroken style granted e.1)
 
-entries_one_line : (style : Style) (most : ℕ) (all entries : Entries)
-    → AllByRecursion IsOneLine (drawn_entries style most all entries)
-entries_one_line style most all [] = tt
-entries_one_line style most all (e ∷ behind) = (
-  entry_one_line style most (granted_at e.0 all) e behind,
-  entries_one_line style most all behind,
+entries_unbroken : (style : Style) (most : ℕ) (all entries : Entries)
+    → AllByRecursion HasNoLineFeed (drawn_entries style most all entries)
+entries_unbroken style most all [] = tt
+entries_unbroken style most all (e ∷ behind) = (
+  entry_unbroken style most (granted_at e.0 all) e behind,
+  entries_unbroken style most all behind,
 )
 
-heading_one_line : (n : ℕ) (entries : Entries) → IsOneLine (heading n entries)
-unfolding heading
-heading_one_line n [] = record {
-  front = codes "listing " ++ decimal n ++ codes ": no devices";
-  ends = sym (append_assoc (codes "listing " ++ decimal n) (codes ": no devices") (10 ∷ []));
-  whole = no_line_feed-append (codes "listing " ++ decimal n) (codes ": no devices")
-      (no_line_feed-append (codes "listing ") (decimal n) refl (number n)) refl;
-}
-heading_one_line n (e ∷ entries) = record {
-  front = codes "listing " ++ decimal n;
-  ends = refl;
-  whole = no_line_feed-append (codes "listing ") (decimal n) refl (number n);
-}
+heading_end_unbroken : (entries : Entries) → HasNoLineFeed (heading_end entries)
+heading_end_unbroken [] = refl
+heading_end_unbroken (e ∷ entries) = refl
 
-pub drawing_lines-one_line : (style : Style) (n : ℕ) (entries : Entries)
-    → All IsOneLine (drawing_lines style n entries)
+heading_unbroken : (n : ℕ) (entries : Entries) → HasNoLineFeed (heading n entries)
+unfolding heading
+heading_unbroken n entries =
+    no_line_feed-append (codes "listing " ++ decimal n) (heading_end entries)
+    (no_line_feed-append (codes "listing ") (decimal n) refl (number n))
+    (heading_end_unbroken entries)
+
+pub drawing_lines-unbroken : (style : Style) (n : ℕ) (entries : Entries)
+    → All HasNoLineFeed (drawing_lines style n entries)
 unfolding drawing_lines
-drawing_lines-one_line style n entries =
-    All-from_recursion IsOneLine (heading n entries ∷ drawn_entries style (deepest entries) entries
-    entries) (
-      heading_one_line n entries,
-      entries_one_line style (deepest entries) entries entries,
+drawing_lines-unbroken style n entries =
+    All-from_recursion HasNoLineFeed (heading n entries ∷ drawn_entries style (deepest entries)
+    entries entries) (
+      heading_unbroken n entries,
+      entries_unbroken style (deepest entries) entries entries,
     )

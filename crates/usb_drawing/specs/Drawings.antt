@@ -1,5 +1,5 @@
--- The lines of a drawn listing, each with its newline: one for each entry.
-use Rattle.std.specs.Prelude.{◌≡◌, ℕ, zero, suc, ◌-◌, Bool, true, false, not, ◌==◌, max, List, []}
+-- The lines of a drawn listing, one for each entry.
+use Rattle.std.specs.Prelude.{ℕ, zero, suc, ◌-◌, Bool, true, false, not, ◌==◌, max, List, []}
 use Rattle.std.specs.Prelude.{◌∷◌, ◌++◌, length, Option, None, Some, codes, decimal, nat_eq}
 use Rattle.std.specs.Prelude.{if◌then◌else◌}
 use Rattle.std.specs.List.{list_all}
@@ -51,7 +51,7 @@ gap (suc levels) = gap levels ++ codes "     "
 unfoldable pub entry_line : Style → ℕ → Option ℕ → List ℕ × Finding → Entries → List ℕ
 entry_line style most granted entry behind =
     art style entry.0 behind ++ path_text entry.0 ++ gap (most - length entry.0) ++ codes "  " ++
-    finding_text style granted entry.1 ++ codes "\n"
+    finding_text style granted entry.1
 
 -- a line for each of the entries, which are the last ones of a listing
 abbrev pub drawn_entries : Style → ℕ → Entries → Entries → List (List ℕ)
@@ -61,8 +61,8 @@ drawn_entries style most all (entry ∷ behind) = entry_line style most (granted
 
 -- what stands behind the number of a listing
 abbrev pub heading_end : Entries → List ℕ
-heading_end [] = codes ": no devices\n"
-heading_end (entry ∷ entries) = codes "\n"
+heading_end [] = codes ": no devices"
+heading_end (entry ∷ entries) = []
 
 unfoldable pub heading : ℕ → Entries → List ℕ
 heading number entries = codes "listing " ++ decimal number ++ heading_end entries
@@ -75,9 +75,3 @@ drawing_lines style number entries = heading number entries ∷ drawn_entries st
 -- bytes among which is no newline
 abbrev pub is_unbroken : List ℕ → Bool
 is_unbroken bytes = list_all (λ byte. not (byte == 10)) bytes
-
--- a newline at the end, and no other
-pub record IsOneLine (line : List ℕ) : Type 0 where
-  pub front : List ℕ
-  pub ends : line ≡ front ++ 10 ∷ []
-  pub whole : is_unbroken front ≡ true

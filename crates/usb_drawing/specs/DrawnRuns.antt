@@ -2,7 +2,6 @@
 use Rattle.std.specs.Prelude.{◌≡◌, ◌≢◌, ◌⊎◌, ℕ, List, [], ◌∷◌, ◌++◌, Option, Bool, true, false}
 use Rattle.std.specs.Prelude.{Result, Ok, Err, IfErr, IfSome, IsErrOf}
 use Rattle.std.specs.Io.KnownBytes.{Appends}
-use Rattle.std.specs.List.{concat}
 use Rattle.usb_world.specs.{PlanData}
 use Rattle.usb_bus.specs.{AppendsFront}
 use Rattle.usb_host.specs.{HostState}
@@ -11,6 +10,7 @@ use Rattle.usb_run.specs.{Item, Listing, Sent, Received, Cleared, Tree, ListsRig
 use Rattle.usb_run.specs.{number_of, Opens, RunsTo, listings, never}
 use Rattle.usb_serve.specs.{ServeFault, IsCausedInTree, IsOfRun, IsUnopened, IsUnread, of_run}
 use Rattle.usb_serve.specs.declared.serving.ServeFault.TheVariants as serve
+use Rattle.usb_text.specs.{lines_text}
 use Rattle.usb_drawing.specs.declared.art.Style.{Style}
 use Rattle.usb_drawing.specs.Drawings.{drawing_lines}
 
@@ -23,7 +23,7 @@ drawn_lines style number (Cleared path cleared) = item_lines number (Cleared pat
 
 -- the text of an item; those made before it are given, the newest first
 abbrev pub drawn_item : Style → List Item → Item → List ℕ
-drawn_item style items item = concat (drawn_lines style (number_of item (listings items)) item)
+drawn_item style items item = lines_text (drawn_lines style (number_of item (listings items)) item)
 
 -- the text of items, of which the newest stands first
 unfoldable pub drawn_items : Style → List Item → List ℕ

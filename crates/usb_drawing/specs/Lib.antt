@@ -14,7 +14,7 @@ unfoldable pub use Texts.{shown_units}
 pub use Devices.{address_column, cause_number, cause_words, device_text, finding_text, ids_text}
 pub use Devices.{power_text, refused_text, speed_column, stall_words, supply_text, word_digits}
 unfoldable pub use Devices.{identity_text, strings_text}
-pub use Drawings.{IsOneLine, deepest, drawn_entries, finding_supply, gap, granted_at, heading_end}
+pub use Drawings.{deepest, drawn_entries, finding_supply, gap, granted_at, heading_end}
 pub use Drawings.{hub_supply, is_unbroken, listed_supply, supply_from}
 unfoldable pub use Drawings.{drawing_lines, entry_line, heading}
 pub use DrawnRuns.{Drawn, DrawnText, IsDrawn, MarksDrawing, RunDrawn, drawn_item, drawn_lines}

@@ -6,7 +6,7 @@
 //! # What is proved
 //!
 //! `drawing_lines` gives the heading and one line for each entry, none left out, in the entries' order, each just its
-//! text with no newline but at its end (`drawing_laws`); what `draw` writes is the drawings of the items of one run of
+//! text with no newline (`drawing_laws`); what `draw` writes is the drawings of the items of one run of
 //! the plan that the text spells, or a front of it where the writer failed (`IsDrawn`,
 //! `usb_drawing/specs/DrawnRuns.antt`); each item is as right as in mode Tree. *Only tested*: whole drawings.
 #![tactic(auto)]

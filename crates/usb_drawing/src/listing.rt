@@ -1,9 +1,9 @@
-//! The lines of a drawn listing, each with its newline.
-ghost use Rattle.std.specs.Prelude.{◌≡◌, ◌+◌, ◌++◌, ◌∷◌, All, ℕ, List, length, slice_get, Some, OnOk, IfOk};
+//! The lines of a drawn listing.
+ghost use Rattle.std.specs.Prelude.{◌≡◌, ◌+◌, ◌++◌, ◌∷◌, All, ℕ, List, length, slice_get, true, Some, OnOk, IfOk};
 ghost use Rattle.usb_enum.specs.declared.finding.Finding.{Finding as AFinding};
 ghost use Rattle.usb_table.specs.TableEntries.{Entries};
 ghost use Rattle.usb_drawing.specs.declared.art.Style.{Style as AStyle};
-ghost use Rattle.usb_drawing.specs.Drawings.{IsOneLine, deepest, drawing_lines, entry_line, drawn_entries, finding_supply, gap, granted_at, heading, heading_end, hub_supply, listed_supply};
+ghost use Rattle.usb_drawing.specs.Drawings.{deepest, drawing_lines, entry_line, drawn_entries, finding_supply, gap, granted_at, heading, heading_end, hub_supply, is_unbroken, listed_supply};
 
 use crate::art::{Style, push_art};
 use crate::device::push_finding;
@@ -50,8 +50,8 @@ fn heading_end(entries: &[(PortPath, Finding)]) -> &'static str
     ensures { result.now ≡ heading_end entries.now }
 {
     match entries.split_first() {
-        None => ": no devices\n",
-        Some(_) => "\n",
+        None => ": no devices",
+        Some(_) => "",
     }
 }
 
@@ -95,7 +95,6 @@ fn entry_line(
     push_gap(&mut line, most.saturating_sub(path.numbers().len()))?;
     line.extend_from_slice(b"  ")?;
     push_finding(alloc, &mut line, style, granted, &entry.1)?;
-    line.extend_from_slice(b"\n")?;
     Ok(line)
 }
 
@@ -174,7 +173,7 @@ pub fn drawing_laws()
         → slice_get (drawing_lines style number (before ++ e ∷ behind)) (length before + 1)
         ≡ Some (entry_line style (deepest (before ++ e ∷ behind))
         (granted_at e.0 (before ++ e ∷ behind)) e behind) }
-    // No line has a newline but at its end.
+    // No line has a newline.
     ensures whole { (style : AStyle) (number : ℕ) (entries : Entries)
-        → All IsOneLine (drawing_lines style number entries) }
+        → All (λ line. is_unbroken line ≡ true) (drawing_lines style number entries) }
 {}

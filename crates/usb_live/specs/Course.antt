@@ -1,9 +1,9 @@
 -- What a host and a far end say to each other, from the hello on.
 use Rattle.std.specs.Prelude.{◌≡◌, ⊤, ℕ, ◌+◌, ◌≤◌, ◌==◌, ◌&&◌, Bool, true, false, List, length}
-use Rattle.std.specs.Prelude.{flat_map, Option, Some, None, Result, Ok, Err}
+use Rattle.std.specs.Prelude.{Option, Some, None, Result, Ok, Err}
 use Rattle.std.specs.Str.{bytes_eq}
 use Rattle.usb_table.specs.{Entries}
-use Rattle.usb_text.specs.{listing_lines}
+use Rattle.usb_text.specs.{lines_text, listing_lines}
 use Rattle.usb_wire.specs.{Answer, Question}
 use Rattle.usb_wire.specs.declared.answer.Answer.TheVariants as answer
 use Rattle.usb_wire.specs.declared.question.Question.TheVariants.{Hello, Wait}
@@ -20,7 +20,7 @@ use Rattle.usb_live.specs.declared.stage.Stage.TheVariants.{Asks, EndWanted, Ove
 
 -- the lines of a listing, or of how a transfer went, end to end
 abbrev pub told_text : ℕ → Item → List ℕ
-told_text number item = flat_map (λ line. line) (item_lines number item)
+told_text number item = lines_text (item_lines number item)
 
 -- what is owed behind an answer to what is wanted
 abbrev pub owed_by : Result Answer LiveFault → Owed
@@ -118,9 +118,7 @@ pub record IsOver (limit : ℕ) (unread before left now : Option (List ℕ)) (k 
     pub wanted : WantsEnd limit unread before left w j n
     pub number : ℕ
     pub entries : Entries
-    pub listed : WritesLines (flat_map (λ line. line) (listing_lines number entries)) w now j
-        (Ok tt)
-        k
+    pub listed : WritesLines (lines_text (listing_lines number entries)) w now j (Ok tt) k
 
 -- how far it is behind an answer to what is wanted, and behind an item that was told
 abbrev pub stage_behind_answer : Result Answer LiveFault → Stage

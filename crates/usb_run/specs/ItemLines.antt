@@ -1,5 +1,5 @@
 -- The lines of items.
-use Rattle.std.specs.Prelude.{◌≡◌, ℕ, ◌+◌, List, [], ◌∷◌, ◌++◌}
+use Rattle.std.specs.Prelude.{ℕ, ◌+◌, List, [], ◌∷◌}
 use Rattle.usb_run.specs.declared.runs.Item.{Item}
 use Rattle.usb_run.specs.declared.runs.Item.TheVariants.{Listing, Sent, Received, Cleared}
 use Rattle.usb_run.specs.TransferLines.{sent_line, received_line, cleared_line}
@@ -18,7 +18,3 @@ number_of (Listing entries taken) number = number + 1
 number_of (Sent path sent) number = number
 number_of (Received path received) number = number
 number_of (Cleared path cleared) number = number
-
--- bytes that end in a newline
-abbrev pub IsLine : List ℕ → Type 0
-IsLine line = (front : List ℕ) × (line ≡ front ++ 10 ∷ [])

@@ -10,7 +10,7 @@ pub mod Moments
 pub use TransferLines.{cleared_end, failed_end, fault_word, received_end, sent_end}
 unfoldable pub use TransferLines.{cleared_line, received_line, sent_line}
 pub use Run.{IsBegun, IsCaused, RunsOn, Spent, items_left, listing_of, round_fault, run_fault}
-pub use ItemLines.{IsLine, item_lines, number_of}
+pub use ItemLines.{item_lines, number_of}
 pub use Transfers.{Does, Gives, IsItemOf, StopsAt, TransferStops, sent_count, transfer_ended}
 pub use RunSegments.{Arrives, Comes, EndsSettling, Knowing, Knows, LeavesSettled, OneRound, Ran}
 pub use RunSegments.{Reaches, RoundFails, Rounds, Settled, Settles, Settling, Unsettled, idle, more}

@@ -1,7 +1,6 @@
 -- A run, item by item, with the text of each item where it was made.
 use Rattle.std.specs.Prelude.{◌≡◌, ℕ, List, [], ◌∷◌, ◌++◌, Bool, true, false, Option, None, Some}
 use Rattle.std.specs.Prelude.{IsSome, Result, Ok, Err, OnOk, OnErr}
-use Rattle.std.specs.List.{concat}
 use Rattle.std.specs.Io.KnownBytes.{Appends}
 use Rattle.usb_world.specs.declared.event.Ask.{Ask}
 use Rattle.usb_world.specs.{BusFault, PutLine}
@@ -15,6 +14,7 @@ use Rattle.usb_run.specs.declared.runs.RunFault.TheVariants.{Memory}
 use Rattle.usb_run.specs.Moments.{TellsRight}
 use Rattle.usb_run.specs.RunSegments.{Arrives, Ran, Reaches, Settled, Unsettled}
 use Rattle.usb_run.specs.Run.{listing_of, run_fault}
+use Rattle.usb_text.specs.{lines_text}
 use Rattle.usb_run.specs.ItemLines.{item_lines, number_of}
 use Rattle.usb_run.specs.Transfers.{IsItemOf, StopsAt}
 
@@ -25,7 +25,7 @@ listings (item ∷ items) = number_of item (listings items)
 
 -- the text of an item, its lines; those made before it are given, the newest first
 abbrev pub item_text : List Item → Item → List ℕ
-item_text items item = concat (item_lines (number_of item (listings items)) item)
+item_text items item = lines_text (item_lines (number_of item (listings items)) item)
 
 -- the text of items, of which the newest stands first
 unfoldable pub items_text : List Item → List ℕ

@@ -1,10 +1,9 @@
--- The printed lines of transfers, each with its newline.
+-- The printed lines of transfers.
 use Rattle.std.specs.Prelude.{ℕ, List, ◌++◌, Result, Ok, Err, codes, decimal}
 use Rattle.std.specs.Global.{Vec}
 use Rattle.usb_packet.specs.{hex_text}
 use Rattle.usb_port.specs.{path_text}
-use Rattle.usb_table.specs.declared.fault.TransferFault.{TransferFault}
-use Rattle.usb_table.specs.declared.fault.TransferFault.TheVariants.{NoDevice, NoEndpoint}
+use Rattle.usb_table.specs.{TransferFault, NoDevice, NoEndpoint}
 use Rattle.usb_table.specs.declared.fault.TransferFault.TheVariants.{Stalled as EndpointStalled}
 use Rattle.usb_table.specs.declared.fault.TransferFault.TheVariants.{Busy as EndpointBusy, NoAnswer}
 use Rattle.usb_table.specs.declared.fault.TransferFault.TheVariants.{Broken}
@@ -37,13 +36,12 @@ cleared_end (Err fault) = failed_end fault
 
 -- send PATH done N, or send PATH failed WORDS
 unfoldable pub sent_line : List ℕ → Result ℕ TransferFault → List ℕ
-sent_line path sent = codes "send " ++ path_text path ++ sent_end sent ++ codes "\n"
+sent_line path sent = codes "send " ++ path_text path ++ sent_end sent
 
 -- receive PATH done HEX, or receive PATH failed WORDS
 unfoldable pub received_line : List ℕ → Result (Vec ℕ) TransferFault → List ℕ
-received_line path received = codes "receive " ++ path_text path ++ received_end received ++
-    codes "\n"
+received_line path received = codes "receive " ++ path_text path ++ received_end received
 
 -- clear PATH done, or clear PATH failed WORDS
 unfoldable pub cleared_line : List ℕ → Result (Unit {0}) TransferFault → List ℕ
-cleared_line path cleared = codes "clear " ++ path_text path ++ cleared_end cleared ++ codes "\n"
+cleared_line path cleared = codes "clear " ++ path_text path ++ cleared_end cleared

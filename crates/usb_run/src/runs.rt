@@ -289,7 +289,7 @@ impl<T: Trace> Runner<T> {
         })
     }
 
-    /// Writes one line of report into the trace, given without its newline.
+    /// Writes one line of report into the trace.
     ///
     /// # Errors
     /// Those of `SimBus::put_line`.

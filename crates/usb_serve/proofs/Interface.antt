@@ -1,3 +1,2 @@
 -- The lemmas that crates above cite. All others are for this crate alone.
-pub use Rattle.usb_serve.proofs.LineEnds.{joined_lines}
 pub use Rattle.usb_serve.proofs.ServedItems.{ItemsNumbered, few_left, number_next, numbered_next}

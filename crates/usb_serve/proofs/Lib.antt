@@ -1,5 +1,4 @@
 pub mod LineFaults
-pub mod LineEnds
 pub mod Outputs
 pub mod ServedItems
 pub mod ServedThrough

@@ -1,9 +1,9 @@
 -- What serving a plan writes, item by item.
 use Rattle.std.proofs.Common.{◌≡◌, ◌≢◌, ◌∙◌, refl, sym, ap, subst, inl, inr, arith, ℕ, ◌+◌, ◌≤◌}
-use Rattle.std.proofs.Common.{◌<◌, List, [], ◌∷◌, map, flat_map, Bool, true, false, Option, None}
-use Rattle.std.proofs.Common.{Some, Result, Ok, Err, IsErrAnd}
+use Rattle.std.proofs.Common.{◌<◌, List, [], ◌∷◌, ◌++◌, map, flat_map, Bool, true, false, Option}
+use Rattle.std.proofs.Common.{None, Some, Result, Ok, Err, IsErrAnd}
 use Rattle.std.specs.Global.{Vec}
-use Rattle.std.specs.List.{concat}
+use Rattle.std.proofs.lemmas.List.Folds.{flat_map-map}
 use Rattle.std.specs.Prelude.{◌⊎◌, IfErr, OnOk}
 use Rattle.std.specs.Io.KnownBytes.{Appends}
 use Rattle.std.proofs.KnownBytes.{Appends-nil, Appends-trans}
@@ -21,13 +21,12 @@ use Rattle.usb_run.specs.declared.mode.Mode.TheVariants.{Run}
 use Rattle.usb_serve.specs.{ServeFault, IsWritten, TreeText, IsCausedInRun, IsCausedInTree, RunEnds}
 use Rattle.usb_serve.specs.{at_write, of_run}
 use Rattle.usb_serve.specs.declared.serving.ServeFault.TheVariants as serve
-use Rattle.usb_text.specs.{bound_line}
+use Rattle.usb_text.specs.{bound_line, lines_text}
 use Rattle.usb_run.specs.Transcript.{Transcript}
 use Rattle.usb_run.proofs.Interface.{at_fault, run_limit}
 use Rattle.usb_serve.proofs.LineFaults.{is_write}
 use Rattle.usb_run.proofs.Interface.{knows_opened, limit_opened}
 use Rattle.usb_run.proofs.Interface.{makes_knows, puts_knows}
-use Rattle.usb_serve.proofs.LineEnds.{item_lines_text}
 use Rattle.usb_run.proofs.Interface.{run_lists_right}
 use Rattle.usb_run.proofs.Interface.{traced_runs_onward}
 use Rattle.usb_run.proofs.Interface.{cut_next, ends_failed, over_next, appends_no_text}
@@ -76,9 +75,10 @@ numbered_next {items} {number} {over} {w} n next item on v u counted fewer same 
 -- the text of an item's lines
 pub text_next : (items : List Item) (next : ℕ) (item : Item) (vs : List (Vec ℕ))
     → map (λ v. v.items) vs ≡ item_lines next item → next ≡ number_of item (listings items)
-    → flat_map (λ v. v.items) vs ≡ item_text items item
-text_next items next item vs lines is = item_lines_text next item vs lines
-    ∙ ap (λ n. concat (item_lines n item)) is
+    → flat_map (λ v. v.items ++ 10 ∷ []) vs ≡ item_text items item
+text_next items next item vs lines is =
+    sym (flat_map-map (λ line. line ++ 10 ∷ []) (λ v. v.items) vs) ∙ ap lines_text lines
+    ∙ ap (λ n. lines_text (item_lines n item)) is
 
 pub few_left : (over : Bool) (w : World) → w.taken + to_come w ≤ 10000
     → 0 + items_left over w ≤ 10001
@@ -110,8 +110,8 @@ pub run_told : {was : Bool} {old : HostState} {number : ℕ} {over : Bool} {h : 
     (vs : List (Vec ℕ))
     → (number < 18446744073709551615 → next ≡ number_of item number)
     → Next over h (Ok (Some item)) on k → items_left on k.world < items_left over h.world
-    → map (λ v. v.items) vs ≡ item_lines next item → AppendsText (flat_map (λ v. v.items) vs) k new
-    → RunSoFar was old next on new
+    → map (λ v. v.items) vs ≡ item_lines next item
+    → AppendsText (flat_map (λ v. v.items ++ 10 ∷ []) vs) k new → RunSoFar was old next on new
 run_told r next item on k new vs counted makes fewer lines puts = record {
   items = item ∷ r.items;
   knows = λ _. puts_knows puts (makes_knows makes.1);
@@ -150,7 +150,7 @@ pub run_cut : {was : Bool} {old : HostState} {number : ℕ} {over : Bool} {h : H
     (vs : List (Vec ℕ)) (result : Result (Unit {0}) ServeFault)
     → (number < 18446744073709551615 → next ≡ number_of item number)
     → Next over h (Ok (Some item)) on k → map (λ v. v.items) vs ≡ item_lines next item
-    → CutsText (flat_map (λ v. v.items) vs) k new
+    → CutsText (flat_map (λ v. v.items ++ 10 ∷ []) vs) k new
     → (said : ServeFault) → (said ≢ serve.Write → new ≡ k) → IsErrAnd result (λ e. e ≡ said)
     → RunEnds was old result new
 run_cut {was} {old} r next item on k new vs result counted makes lines cuts said kept is =
@@ -227,8 +227,8 @@ pub tree_told : {plan : PlanData} {before : Option (List ℕ)} {number : ℕ} {o
     (item : Item) (on : Bool) (k : HostState) (vs : List (Vec ℕ)) (s : Option (List ℕ))
     → (number < 18446744073709551615 → next ≡ number_of item number)
     → Next over h (Ok (Some item)) on k → items_left on k.world < items_left over h.world
-    → map (λ v. v.items) vs ≡ item_lines next item → Appends now s (flat_map (λ v. v.items) vs)
-    → TreeSoFar plan before next on k s
+    → map (λ v. v.items) vs ≡ item_lines next item
+    → Appends now s (flat_map (λ v. v.items ++ 10 ∷ []) vs) → TreeSoFar plan before next on k s
 unfolding items_text
 tree_told {before = before} {now = now} r next item on k vs s counted makes fewer lines appends =
     record {
@@ -320,7 +320,8 @@ pub tree_cut : {plan : PlanData} {before : Option (List ℕ)} {number : ℕ} {ov
     → (number < 18446744073709551615 → next ≡ number_of item number)
     → Next over h (Ok (Some item)) on k
     → map (λ v. v.items) vs ≡ item_lines next item → k.world.shared ≡ false
-    → AppendsFront now s (flat_map (λ v. v.items) vs) → IsWritten Tree plan before result s
+    → AppendsFront now s (flat_map (λ v. v.items ++ 10 ∷ []) vs)
+    → IsWritten Tree plan before result s
 unfolding items_text
 tree_cut {plan} {before} {now = now} r next item on k vs result s is counted makes lines single
     front =
@@ -335,20 +336,22 @@ pub tree_over : {plan : PlanData} {before : Option (List ℕ)} {number : ℕ} {o
     {h : HostState} {now : Option (List ℕ)} (r : TreeSoFar plan before number over h now)
     (on : Bool) (k : HostState) (result : Result (Unit {0}) ServeFault) (s : Option (List ℕ))
     → Next over h (Ok None) on k → k.world.shared ≡ false
-    → AppendsFront now s (bound_line (bound_of plan))
-    → OnOk result (Appends now s (bound_line (bound_of plan)))
+    → AppendsFront now s (bound_line (bound_of plan) ++ 10 ∷ [])
+    → OnOk result (Appends now s (bound_line (bound_of plan) ++ 10 ∷ []))
     → IfErr result (λ f. f ≡ serve.Write) → IsWritten Tree plan before result s
 tree_over {plan} {before} {h = h} {now = now} r on k (Ok done) s next single front all said =
     tree_written plan before r.thrown r.first r.opens r.items k (Ok done) s
     (over_next h k r.so_far next) tt single
-    (Appends-trans before now s (items_text r.items) (bound_line (bound_of plan)) r.text all)
+    (Appends-trans before now s (items_text r.items) (bound_line (bound_of plan) ++ 10 ∷ []) r.text
+    all)
 tree_over {plan} {before} {h = h} {now = now} r on k (Err fault) s next single front all said =
     let over = over_next h k r.so_far next in
     tree_ended plan before r.thrown r.first r.opens r.items k (Err fault) s serve.Write said
     (behind (λ cut. cut) over) tt single
     (inr (
       over,
-      front_after_first before now s (items_text r.items) (bound_line (bound_of plan)) r.text front,
+      front_after_first before now s (items_text r.items) (bound_line (bound_of plan) ++ 10 ∷ [])
+          r.text front,
     ))
 
 -- where memory was refused for the bound's line

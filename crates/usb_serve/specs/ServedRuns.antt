@@ -1,6 +1,6 @@
 -- Where a plan's run ends, and what serving a plan wrote of it.
-use Rattle.std.specs.Prelude.{◌≡◌, ◌≢◌, ◌≤◌, ⊤, ◌⊎◌, ℕ, List, ◌++◌, Option, true, false, Result, Ok}
-use Rattle.std.specs.Prelude.{Err, IfErr, IfSome, IsUtf8}
+use Rattle.std.specs.Prelude.{◌≡◌, ◌≢◌, ◌≤◌, ⊤, ◌⊎◌, ℕ, List, [], ◌∷◌, ◌++◌, Option, true, false}
+use Rattle.std.specs.Prelude.{Result, Ok, Err, IfErr, IfSome, IsUtf8}
 use Rattle.std.specs.Io.KnownBytes.{Appends, Keeps}
 use Rattle.usb_world.specs.{PlanData}
 use Rattle.usb_bus.specs.{AppendsFront}
@@ -38,14 +38,15 @@ pub record RunWritten (plan : PlanData) (before : Option (List ℕ))
 abbrev pub TreeText : PlanData → List Item → Type 0 → Option (List ℕ) → Result (Unit {0}) ServeFault
     → Option (List ℕ) → Type 0
 TreeText plan items IsOver before (Ok done) now =
-    Appends before now (items_text items ++ bound_line (bound_of plan))
+    Appends before now (items_text items ++ (bound_line (bound_of plan) ++ 10 ∷ []))
 TreeText plan items IsOver before (Err serve.Read) now = ⊥
 TreeText plan items IsOver before (Err serve.TooLong) now = ⊥
 TreeText plan items IsOver before (Err (serve.Plan fault)) now = ⊥
 TreeText plan items IsOver before (Err (serve.Run fault)) now =
     Appends before now (items_text items)
 TreeText plan items IsOver before (Err serve.Write) now = AppendsFront before now (items_text items)
-    ⊎ (IsOver × AppendsFront before now (items_text items ++ bound_line (bound_of plan)))
+    ⊎ (IsOver × AppendsFront before now (items_text items ++
+    (bound_line (bound_of plan) ++ 10 ∷ [])))
 TreeText plan items IsOver before (Err serve.Memory) now = Appends before now (items_text items)
 
 -- what is written in mode Tree: the text of the items of such a run, whose trace is thrown away

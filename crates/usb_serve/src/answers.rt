@@ -1,4 +1,4 @@
-//! The line of each transfer, with its newline.
+//! The line of each transfer.
 ghost use Rattle.std.specs.Prelude.{◌≡◌, ◌++◌, OnOk, IfOk};
 ghost use Rattle.usb_run.specs.TransferLines.{fault_word, failed_end, sent_end, received_end, cleared_end, sent_line, received_line, cleared_line};
 
@@ -20,7 +20,6 @@ pub fn sent_line(
     line.extend_from_slice(b"send ")?;
     push_path(&mut line, path)?;
     push_sent(alloc, &mut line, sent)?;
-    line.extend_from_slice(b"\n")?;
     Ok(line)
 }
 
@@ -37,7 +36,6 @@ pub fn received_line(
     line.extend_from_slice(b"receive ")?;
     push_path(&mut line, path)?;
     push_received(&mut line, received)?;
-    line.extend_from_slice(b"\n")?;
     Ok(line)
 }
 
@@ -54,7 +52,6 @@ pub fn cleared_line(
     line.extend_from_slice(b"clear ")?;
     push_path(&mut line, path)?;
     push_cleared(&mut line, cleared)?;
-    line.extend_from_slice(b"\n")?;
     Ok(line)
 }
 

@@ -1,5 +1,5 @@
 //! A plan's text in, the text of its run out.
-ghost use Rattle.std.specs.Prelude.{◌≡◌, ◌≢◌, ◌+◌, ◌<◌, ◌≤◌, ◌++◌, IsSome, All, Ok, Err, true, false, IsErrOf, IfErr, IfOk, IfSome, OnErr, OnOk, [], ◌∷◌, length, flat_map};
+ghost use Rattle.std.specs.Prelude.{◌≡◌, ◌≢◌, ◌+◌, ◌<◌, ◌≤◌, ◌++◌, IsSome, Ok, Err, true, false, IsErrOf, IfErr, IfOk, IfSome, OnErr, OnOk, [], ◌∷◌, length, flat_map};
 ghost use Rattle.std.specs.Io.KnownBytes.{Appends};
 ghost use Rattle.usb_bus.specs.Watch.{inner_of, has_failed, calls_of, AppendsFront};
 ghost use Rattle.usb_plan.specs.Plan.{spelled_plan};
@@ -7,7 +7,7 @@ ghost use Rattle.usb_serve.specs.declared.serving.ServeFault.TheVariants as serv
 ghost use Rattle.usb_serve.specs.Outputs.{held};
 ghost use Rattle.usb_serve.specs.ServedRuns.{IsUnread, IsServed, IsServedThrough, IsWritten, TellsWriter};
 ghost use Rattle.usb_serve.specs.ServeResults.{IsCausedInRun, IsOfRun, MarksWriter, input_fault, report_fault};
-ghost use Rattle.usb_run.specs.ItemLines.{IsLine, item_lines, number_of};
+ghost use Rattle.usb_run.specs.ItemLines.{item_lines, number_of};
 ghost use Rattle.usb_run.specs.Run.{IsCaused, items_left};
 ghost use Rattle.usb_run.specs.RunSegments.{Knows};
 ghost use Rattle.usb_run.specs.Transcript.{Next, Prints};
@@ -20,7 +20,7 @@ use std::alloc::{AllocError, Global};
 use std::io::{Read, Write};
 use std::str;
 use thiserror::Error;
-use usb_bus::{BusFault, Watched, WriteFailed, put_piece};
+use usb_bus::{BusFault, Watched, WriteFailed, put_pieces};
 use usb_plan::{PlanFault, bound, read_plan};
 use usb_run::{Item, Mode, RunFault, Runner};
 use usb_sim::{Plan, Tracer, Untraced, untraced_fault};
@@ -284,9 +284,9 @@ fn one_line(alloc: Global, line: Vec<u8>) -> Result<Lines, AllocError>
 /// Write where the writer failed.
 pub fn write_lines<W: Write>(writer: &mut Watched<W>, lines: &[Vec<u8>]) -> Result<(), ServeFault>
     ensures front { AppendsFront (W.contents (inner_of writer.old))
-        (W.contents (inner_of writer.new)) (flat_map (λ line. line.items) lines.now) }
+        (W.contents (inner_of writer.new)) (flat_map (λ line. line.items ++ 10 ∷ []) lines.now) }
     ensures ok { OnOk result (Appends (W.contents (inner_of writer.old))
-        (W.contents (inner_of writer.new)) (flat_map (λ line. line.items) lines.now)) }
+        (W.contents (inner_of writer.new)) (flat_map (λ line. line.items ++ 10 ∷ []) lines.now)) }
     ensures write { OnErr result (has_failed writer.new ≡ true) }
     ensures unmarked { OnOk result (has_failed writer.new ≡ has_failed writer.old) }
     ensures fault { IfErr result (λ fault. fault ≡ ServeFault.Write) }
@@ -297,16 +297,17 @@ pub fn write_lines<W: Write>(writer: &mut Watched<W>, lines: &[Vec<u8>]) -> Resu
     Ok(())
 }
 
+/// Writes a line, and a newline behind it.
 fn write_line<W: Write>(writer: &mut Watched<W>, line: &[u8]) -> Result<(), ServeFault>
     ensures front { AppendsFront (W.contents (inner_of writer.old))
-        (W.contents (inner_of writer.new)) line.now }
+        (W.contents (inner_of writer.new)) (line.now ++ 10 ∷ []) }
     ensures ok { OnOk result (Appends (W.contents (inner_of writer.old))
-        (W.contents (inner_of writer.new)) line.now) }
+        (W.contents (inner_of writer.new)) (line.now ++ 10 ∷ [])) }
     ensures write { OnErr result (has_failed writer.new ≡ true) }
     ensures unmarked { OnOk result (has_failed writer.new ≡ has_failed writer.old) }
     ensures fault { IfErr result (λ fault. fault ≡ ServeFault.Write) }
 {
-    put_piece(writer, line)?;
+    put_pieces(writer, &[line, b"\n"])?;
     Ok(())
 }
 
@@ -350,9 +351,8 @@ fn trace_run<W: Write>(alloc: Global, runner: &mut Runner<Tracer<W>>) -> Result<
 }
 
 fn put_lines<W: Write>(runner: &mut Runner<Tracer<W>>, lines: &[Vec<u8>]) -> Result<(), ServeFault>
-    requires lines { All (λ line. IsLine line.items) lines.now }
     ensures over { runner.new.over ≡ runner.old.over }
-    ensures prints { Prints (flat_map (λ line. line.items) lines.now)
+    ensures prints { Prints (flat_map (λ line. line.items ++ 10 ∷ []) lines.now)
         runner.old.host result runner.new.host }
     ensures reader { IsOfRun result }
     ensures caused { IfErr result (λ fault. IsCausedInRun fault runner.new.host.world) }
@@ -360,21 +360,11 @@ fn put_lines<W: Write>(runner: &mut Runner<Tracer<W>>, lines: &[Vec<u8>]) -> Res
         → runner.new.host ≡ runner.old.host) }
 {
     'lines: for line in lines {
-        if let Err(fault) = runner.put_line(without_newline(line.as_slice())) {
+        if let Err(fault) = runner.put_line(line.as_slice()) {
             return Err(report_fault(fault));
         }
     }
     Ok(())
-}
-
-/// A line as the trace takes it, which ends it itself.
-fn without_newline(line: &[u8]) -> &[u8]
-    ensures { IsLine line.now → result.now ++ 10 ∷ [] ≡ line.now }
-{
-    match line {
-        [front @ .., b'\n'] => front,
-        _ => line,
-    }
 }
 
 /// What the fault of a line of report is to the one who is served.

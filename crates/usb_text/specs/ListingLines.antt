@@ -1,4 +1,4 @@
--- The printed lines of a listing and of a bound, each with its newline.
+-- The printed lines of a listing and of a bound.
 use Rattle.std.specs.Prelude.{ℕ, ◌+◌, ◌/◌, ◌%◌, ◌==◌, ◌&&◌, not, nat_le, Bool, List, [], ◌∷◌, ◌++◌}
 use Rattle.std.specs.Prelude.{Option, None, Some, codes, decimal, flat_map, if◌then◌else◌}
 use Rattle.hex.specs.Hex.{encode_upper}
@@ -8,6 +8,10 @@ use Rattle.usb_enum.specs.{Cause, Silent, Busy, Stalled, BadDevice, TooDeep, Bad
 use Rattle.usb_enum.specs.{NoPower, BadHub, Lost, NoAddress, Request, Accepted, Finding, HubFacts}
 use Rattle.usb_enum.specs.declared.cause.Request.TheVariants as request
 use Rattle.usb_enum.specs.declared.finding.Finding.TheVariants.{Device, Refused}
+
+-- lines as they are written, a newline behind each
+abbrev pub lines_text : List (List ℕ) → List ℕ
+lines_text lines = flat_map (λ line. line ++ 10 ∷ []) lines
 
 unfoldable pub speed_word : Bool → List ℕ
 speed_word low = if low then codes "low" else codes "full"
@@ -26,7 +30,7 @@ unit_text u = if is_plain_unit u then u ∷ [] else escaped_text (u / 256) (u % 
 -- PATH address A full|low HEX
 unfoldable pub address_line : List ℕ → ℕ → Bool → List ℕ → List ℕ
 address_line path address low bytes = path_text path ++ codes " address " ++ decimal address ++
-    codes " " ++ speed_word low ++ codes " " ++ hex_text bytes ++ codes "\n"
+    codes " " ++ speed_word low ++ codes " " ++ hex_text bytes
 
 abbrev pub star : Bool → List ℕ
 star chosen = if chosen then codes " *" else []
@@ -34,7 +38,7 @@ star chosen = if chosen then codes " *" else []
 -- PATH config I HEX, and a star behind the chosen one
 unfoldable pub config_line : List ℕ → ℕ → List ℕ → Bool → List ℕ
 config_line path index text chosen = path_text path ++ codes " config " ++ decimal index ++
-    codes " " ++ hex_text text ++ star chosen ++ codes "\n"
+    codes " " ++ hex_text text ++ star chosen
 
 -- a line for each configuration, the first one of this index
 unfoldable pub config_lines : List ℕ → ℕ → ℕ → List (List ℕ) → List (List ℕ)
@@ -45,7 +49,7 @@ config_lines path index chosen (text ∷ texts) = config_line path index text (i
 -- PATH hub N ports S mA
 unfoldable pub hub_line : List ℕ → ℕ → ℕ → List ℕ
 hub_line path ports supply = path_text path ++ codes " hub " ++ decimal ports ++ codes " ports " ++
-    decimal supply ++ codes " mA\n"
+    decimal supply ++ codes " mA"
 
 abbrev pub hub_lines : List ℕ → Option HubFacts → List (List ℕ)
 hub_lines path None = []
@@ -54,7 +58,7 @@ hub_lines path (Some hub) = hub_line path hub.ports hub.supply ∷ []
 -- PATH LABEL "TEXT"
 unfoldable pub string_line : List ℕ → List ℕ → List ℕ → List ℕ
 string_line path label units = path_text path ++ codes " " ++ label ++ codes " \"" ++ flat_map
-    unit_text units ++ codes "\"\n"
+    unit_text units ++ codes "\""
 
 abbrev pub string_lines : List ℕ → List ℕ → Option (List ℕ) → List (List ℕ)
 string_lines path label None = []
@@ -95,7 +99,7 @@ cause_index cause = []
 -- PATH refused CAUSE
 unfoldable pub refused_line : List ℕ → Cause → List ℕ
 refused_line path cause = path_text path ++ codes " refused " ++ cause_word cause ++ cause_index
-    cause ++ codes "\n"
+    cause
 
 abbrev pub finding_lines : List ℕ → Finding → List (List ℕ)
 finding_lines path (Device device) = device_lines path device
@@ -105,12 +109,12 @@ abbrev pub entry_lines : List ℕ × Finding → List (List ℕ)
 entry_lines entry = finding_lines entry.0 entry.1
 
 unfoldable pub listing_line : ℕ → List ℕ
-listing_line number = codes "listing " ++ decimal number ++ codes "\n"
+listing_line number = codes "listing " ++ decimal number
 
 -- listing N, the lines of each entry, end
 unfoldable pub listing_lines : ℕ → List (List ℕ × Finding) → List (List ℕ)
 listing_lines number entries = listing_line number ∷ [] ++ flat_map entry_lines entries ++
-    codes "end\n" ∷ []
+    codes "end" ∷ []
 
 unfoldable pub bound_line : ℕ → List ℕ
-bound_line bound = codes "bound " ++ decimal bound ++ codes "\n"
+bound_line bound = codes "bound " ++ decimal bound

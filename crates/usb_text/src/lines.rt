@@ -2,7 +2,7 @@
 use std::alloc::{AllocError, Global};
 use std::marker::Model;
 
-/// Lines in their order, each with its newline.
+/// Lines in their order, without their newlines.
 #[derive(Debug, Drop)]
 pub struct Lines {
     lines: Vec<Vec<u8>>,

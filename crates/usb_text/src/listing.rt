@@ -1,4 +1,4 @@
-//! The lines of a listing, each with its newline.
+//! The lines of a listing.
 ghost use Rattle.std.specs.Prelude.{◌≡◌, ◌++◌, ◌∷◌, [], OnOk, IfOk, flat_map, map, option_map};
 ghost use Rattle.usb_text.specs.ListingLines.{address_line, config_line, config_lines, hub_line, hub_lines, string_line, string_lines, refused_line, listing_line, bound_line, device_lines, finding_lines, entry_lines, listing_lines, star, request_word, cause_word, cause_index};
 
@@ -19,7 +19,6 @@ fn listing_line(alloc: Global, number: u64) -> Result<Vec<u8>, AllocError>
     let mut line = Vec::with_capacity(alloc, ROOM)?;
     line.extend_from_slice(b"listing ")?;
     push_decimal(alloc, &mut line, number)?;
-    line.extend_from_slice(b"\n")?;
     Ok(line)
 }
 
@@ -31,7 +30,6 @@ pub fn bound_line(alloc: Global, bound: u64) -> Result<Vec<u8>, AllocError>
     let mut line = Vec::with_capacity(alloc, ROOM)?;
     line.extend_from_slice(b"bound ")?;
     push_decimal(alloc, &mut line, bound)?;
-    line.extend_from_slice(b"\n")?;
     Ok(line)
 }
 
@@ -49,7 +47,6 @@ fn address_line(alloc: Global, path: &PortPath, device: &Accepted) -> Result<Vec
     line.extend_from_slice(speed_word(device.low).as_bytes())?;
     line.extend_from_slice(b" ")?;
     push_hex(&mut line, &device.bytes)?;
-    line.extend_from_slice(b"\n")?;
     Ok(line)
 }
 
@@ -78,7 +75,6 @@ fn config_line(
     line.extend_from_slice(b" ")?;
     push_hex(&mut line, text)?;
     line.extend_from_slice(star(chosen).as_bytes())?;
-    line.extend_from_slice(b"\n")?;
     Ok(line)
 }
 
@@ -108,7 +104,7 @@ fn hub_line(alloc: Global, path: &PortPath, hub: &HubFacts) -> Result<Vec<u8>, A
     push_decimal(alloc, &mut line, u64::from(hub.ports))?;
     line.extend_from_slice(b" ports ")?;
     push_decimal(alloc, &mut line, u64::from(hub.supply))?;
-    line.extend_from_slice(b" mA\n")?;
+    line.extend_from_slice(b" mA")?;
     Ok(line)
 }
 
@@ -142,7 +138,7 @@ fn string_line(
     line.extend_from_slice(label.as_bytes())?;
     line.extend_from_slice(b" \"")?;
     push_units(&mut line, units)?;
-    line.extend_from_slice(b"\"\n")?;
+    line.extend_from_slice(b"\"")?;
     Ok(line)
 }
 
@@ -233,7 +229,6 @@ fn refused_line(alloc: Global, path: &PortPath, cause: Cause) -> Result<Vec<u8>,
     line.extend_from_slice(b" refused ")?;
     line.extend_from_slice(cause_word(cause).as_bytes())?;
     push_index(alloc, &mut line, cause)?;
-    line.extend_from_slice(b"\n")?;
     Ok(line)
 }
 
@@ -277,7 +272,7 @@ pub fn listing_lines(
     lines.push(listing_line(alloc, number)?)?;
     push_entries(alloc, &mut lines, entries)?;
     let mut end = Vec::new(alloc);
-    end.extend_from_slice(b"end\n")?;
+    end.extend_from_slice(b"end")?;
     lines.push(end)?;
     Ok(lines)
 }

@@ -3,7 +3,6 @@ use Rattle.std.proofs.Common.{◌≡◌, ◌∙◌, refl, sym, ap, subst, ℕ, L
 use Rattle.std.proofs.Common.{false, Option, None, Some, Result, Ok, Err, IsErrAnd, append-nil}
 use Rattle.std.proofs.Common.{append_assoc, flat_map, take, drop, get_or, length, zero, suc, arith}
 use Rattle.std.proofs.Common.{◌<◌}
-use Rattle.std.specs.Global.{Vec}
 use Rattle.std.specs.Io.KnownBytes.{Appends}
 use Rattle.std.proofs.KnownBytes.{Appends-nil, Appends-trans}
 use Rattle.usb_bus.specs.{AppendsFront}
@@ -79,24 +78,22 @@ ends_failed {mode = mode} words CutsAt {was = was} {old = old} {new = new} {item
 -- Lines
 
 -- the texts up to one, that one, and those behind it
-pub texts_split : (vs : List (Vec ℕ)) (i : ℕ) (v : Vec ℕ) → i < length vs → v ≡ get_or vs i v
-    → flat_map (λ x. x.items) vs ≡ flat_map (λ x. x.items) (take i vs) ++
-    (v.items ++ flat_map (λ x. x.items) (drop (suc i) vs))
-texts_split [] i v lt is = absurd (omega (arith, lt))
-texts_split (x ∷ vs) zero v lt is = ap (λ (y : Vec ℕ). y.items ++ flat_map (λ x. x.items) vs)
-    (sym is)
-texts_split (x ∷ vs) (suc i) v lt is =
-    let rest = flat_map (λ x. x.items) (drop (suc i) vs) in
-    ap (λ l. x.items ++ l) (texts_split vs i v (omega (arith, lt)) is)
-    ∙ sym (append_assoc x.items (flat_map (λ x. x.items) (take i vs)) (v.items ++ rest))
+pub texts_split : {A : Type 0} (f : A → List ℕ) (vs : List A) (i : ℕ) (v : A) → i < length vs
+    → v ≡ get_or vs i v
+    → flat_map f vs ≡ flat_map f (take i vs) ++ (f v ++ flat_map f (drop (suc i) vs))
+texts_split f [] i v lt is = absurd (omega (arith, lt))
+texts_split f (x ∷ vs) zero v lt is = ap (λ y. f y ++ flat_map f vs) (sym is)
+texts_split f (x ∷ vs) (suc i) v lt is =
+    ap (λ l. f x ++ l) (texts_split f vs i v (omega (arith, lt)) is)
+    ∙ sym (append_assoc (f x) (flat_map f (take i vs)) (f v ++ flat_map f (drop (suc i) vs)))
 
 -- the texts with one more
-pub flat_map-take : (vs : List (Vec ℕ)) (i : ℕ) (v : Vec ℕ) → i < length vs → v ≡ get_or vs i v
-    → flat_map (λ x. x.items) (take i vs) ++ v.items ≡ flat_map (λ x. x.items) (take (suc i) vs)
-flat_map-take [] i v lt is = absurd (omega (arith, lt))
-flat_map-take (x ∷ vs) zero v lt is = ap (λ (y : Vec ℕ). y.items) is ∙ sym (append-nil x.items)
-flat_map-take (x ∷ vs) (suc i) v lt is = append_assoc x.items (flat_map (λ x. x.items) (take i vs))
-    v.items ∙ ap (λ l. x.items ++ l) (flat_map-take vs i v (omega (arith, lt)) is)
+pub flat_map-take : {A : Type 0} (f : A → List ℕ) (vs : List A) (i : ℕ) (v : A) → i < length vs
+    → v ≡ get_or vs i v → flat_map f (take i vs) ++ f v ≡ flat_map f (take (suc i) vs)
+flat_map-take f [] i v lt is = absurd (omega (arith, lt))
+flat_map-take f (x ∷ vs) zero v lt is = ap f is ∙ sym (append-nil (f x))
+flat_map-take f (x ∷ vs) (suc i) v lt is = append_assoc (f x) (flat_map f (take i vs)) (f v)
+    ∙ ap (λ l. f x ++ l) (flat_map-take f vs i v (omega (arith, lt)) is)
 
 -- a text and a line behind it
 pub puts_line : {h k l : HostState} (text line more : List ℕ) → AppendsText text h k

@@ -6,5 +6,5 @@ pub returns : goal.returns
 returns c = record {
   count = laws.drawing_lines-length;
   order = laws.order;
-  whole = lines.drawing_lines-one_line;
+  whole = lines.drawing_lines-unbroken;
 }

@@ -2,7 +2,6 @@ use Rattle.std.proofs.Common.{◌∙◌, sym, subst, ap, Ok}
 use Rattle.std.specs.Prelude.{is_some}
 use Rattle.usb_serve.specs.declared.serving.ServeFault.TheVariants as serve
 use Rattle.usb_run.specs.{Next}
-use Rattle.usb_serve.proofs.LineEnds.{item_lines_end}
 use Rattle.usb_serve.proofs.ServedItems.{RunSoFar, run_begun, run_cut, run_stopped, run_told}
 use Rattle.usb_serve.proofs.ServedItems.{run_unwritten}
 use Rattle.usb_serve.proofs.serving.trace_run.Goals as goal
@@ -26,12 +25,6 @@ returns-in_err-item_lines-clause-ends g c = λ knows.
     (c.in_ok-item.ensures.next so_far.knows) in
     run_unwritten so_far c.in-Some.item on k c.from_residual-in_err-item_lines.result serve.Memory
     (λ e. cc e) c.from_residual-in_err-item_lines.ensures.1 next
-
-pub put_lines-requires : goal.put_lines-requires
-put_lines-requires g c = record {
-  lines = item_lines_end c.number_of-number.result c.in-Some.item
-      c.as_slice-in-Some.result.now (c.as_slice-in-Some.ensures ∙ c.in_ok-item_lines.ensures);
-}
 
 pub returns-in_err-put_lines-clause-ends : goal.returns-in_err-put_lines-clause-ends
 returns-in_err-put_lines-clause-ends g c = λ knows.

@@ -1,4 +1,4 @@
-use Rattle.std.proofs.Common.{◌≡◌, ◌∙◌, refl, subst, ap, Ok, IsErrAnd}
+use Rattle.std.proofs.Common.{◌≡◌, ◌∙◌, [], ◌∷◌, ◌++◌, refl, subst, ap, Ok, IsErrAnd}
 use Rattle.std.specs.Io.KnownBytes.{Appends}
 use Rattle.std.specs.Prelude.{OnOk, is_some}
 use Rattle.usb_bus.specs.{AppendsFront, inner_of}
@@ -127,6 +127,7 @@ returns-clause-written g c =
     c.as_slice-2.ensures.value ∙ c.in_ok-line.ensures ∙ ap bound_line c.bound.ensures in
     tree_over c.items.invariant.so_far on k c.write_line.result s next
     c.next_untraced.new.runner.owning.single
-    (subst (λ t. AppendsFront now s t) line c.write_line.ensures.front)
-    (subst (λ t. OnOk c.write_line.result (Appends now s t)) line c.write_line.ensures.ok)
+    (subst (λ t. AppendsFront now s (t ++ 10 ∷ [])) line c.write_line.ensures.front)
+    (subst (λ t. OnOk c.write_line.result (Appends now s (t ++ 10 ∷ []))) line
+    c.write_line.ensures.ok)
     c.write_line.ensures.fault
