@@ -1,7 +1,7 @@
 -- How many devices stand at ports, over calls, plugs and unplugs.
 use Rattle.std.proofs.Common.{◌≡◌, ◌≤◌, ℕ, zero, suc, ◌+◌, Bool, true, false, List, [], ◌∷◌, Option}
 use Rattle.std.proofs.Common.{None, Some, refl, arith}
-use Rattle.usb_device.specs.{fresh, Spec, Hub, Ports, ended, vacant, taken, new_ports, first_ports}
+use Rattle.usb_device.specs.{fresh, Spec, Hub, Ports, vacant, taken, new_ports, first_ports}
 use Rattle.usb_device.specs.{replaced, changed_at}
 use Rattle.usb_backlog.specs.{charged, devices_in}
 

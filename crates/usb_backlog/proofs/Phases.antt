@@ -1,5 +1,5 @@
 -- What calls add, one after the other.
-use Rattle.std.proofs.Common.{◌≡◌, ℕ, zero, suc, true, false, List, [], ◌∷◌, ◌++◌, refl, subst}
+use Rattle.std.proofs.Common.{◌≡◌, ℕ, suc, true, false, List, [], ◌∷◌, ◌++◌, refl, subst}
 use Rattle.usb_port.specs.{PortCall}
 use Rattle.usb_device.specs.{Location, path_to}
 use Rattle.usb_world.specs.{World}

@@ -242,7 +242,7 @@ module _ (t : Target) (i : ℕ) (old new : World) (three : NoThreeDamaged old)
         still : StillSet b (port_there now.roots ((path_to x.spot) ++ (suc i ∷ [])))
         still = course_bits (path_to x.spot) (suc i)
             (course_wider (λ s w k. k.leaves) (resting_course t request (status_plain (suc i)) old
-                now accepted_there
+            now accepted_there
             ((path_to x.spot) ++ (suc i ∷ [])))) now_on b stood
 
   told_status : (bytes : Vec ℕ) → Queried t request old (Ok bytes) new → length bytes.items ≡ 4
@@ -262,7 +262,7 @@ module _ (t : Target) (i : ℕ) (old new : World) (three : NoThreeDamaged old)
   answer_served says (Err Stalled) asked = row_stands (Err Stalled) asked refl
   answer_served says (Err Busy) asked =
       (cause_left (Err Busy) asked tt).waited (read_heard (Err Busy) asked)
-          (inr (status_few (suc i)))
+      (inr (status_few (suc i)))
       (was_idle t (suc i) new x (read (Err Busy) asked).before (read_stays (Err Busy) asked))
       (was_ruled t (suc i) new x (read (Err Busy) asked).before (read_stays (Err Busy) asked)) refl
   answer_served says (Err NoAnswer) asked =

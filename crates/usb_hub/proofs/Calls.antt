@@ -95,7 +95,7 @@ record SentUpTo (t : Target) (request : Setup) (old : World) (fault : BusFault) 
 
 bus_failed : {hear : _} {a : Attempt} {old new : World} (fault : BusFault) (f : TransFault)
     → Bus fault ≡ as_pipe_fault f → Transacted hear a old (Err f) new → BusFailed hear a old fault
-        new
+    new
 bus_failed {hear} {a} {old} {new} fault (trans.Bus g) e x =
     let same : g ≡ fault = cc e in subst (λ f. BusFailed hear a old f new) same x
 bus_failed fault f e x = absurd (cc e)

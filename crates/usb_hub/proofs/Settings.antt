@@ -105,7 +105,7 @@ module _ (t : Target) (request : Setup) (harmless : is_harmless request ≡ true
       (Loses t request old new result) (λ j s v y n. y) old new
       (all_spared t request (LossesOf t request result old new) old new harmless
       (write_losses t request result old new (same_setup request) plain x.settled x.stages n
-          single)))
+      single)))
       (λ fault x. each_wider (WriteLeaves t request (Err (Bus fault)) old new)
       (Loses t request old new (Err (Bus fault))) (λ j s v w n. absurd n) old new
       (each_leaves t request harmless nothing (Err (Bus fault)) old new x single)) result ordered
@@ -221,8 +221,7 @@ module _ (t : Target) (a : ℕ) (most : a ≤ 127) (old new : World) where
         → (s.spec.stalls.address ≡ false) × TookItOrLost a old new s v
     address_done (Ok u) x y at e =
         let d : EffectDone t request old new j s v = x.done at u refl in
-        let free : s.spec.stalls.address ≡ false = (ended_of s v d.row d.address d.is d.given).0 in
-            (
+        let free : s.spec.stalls.address ≡ false = (ended_of s v d.row d.address d.is d.given).0 in (
           free,
           (y tt).done at u refl a (address_outcome s.spec s.registers a most
               ∙ ap (λ b. unless b (takes_address a)) free),

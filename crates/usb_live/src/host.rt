@@ -178,7 +178,8 @@ fn text_of(alloc: Global, number: u64, item: &Item) -> Result<Vec<u8>, AllocErro
 }
 
 fn joined(alloc: Global, lines: &[Vec<u8>]) -> Result<Vec<u8>, AllocError>
-    ensures { IfOk result (λ text. text.items ≡ flat_map (λ line. line.items ++ 10 ∷ []) lines.now) }
+    ensures { IfOk result (λ text.
+        text.items ≡ flat_map (λ line. line.items ++ 10 ∷ []) lines.now) }
 {
     let mut text = Vec::new(alloc);
     'lines: for line in lines {

@@ -1,7 +1,7 @@
 -- Through a pipe that does not work a send moves nothing, and a send that failed leaves none that
 -- works.
-use Rattle.std.proofs.Common.{◌≡◌, ◌≢◌, ◌∙◌, ◌⊎◌, inl, inr, refl, sym, ap, subst, true, false, ℕ}
-use Rattle.std.proofs.Common.{List, [], ◌∷◌, ◌++◌, length, take, Result, Ok, Err}
+use Rattle.std.proofs.Common.{◌≡◌, ◌≢◌, ◌∙◌, inl, inr, refl, sym, ap, subst, true, false, ℕ}
+use Rattle.std.proofs.Common.{List, [], ◌++◌, length, take, Result, Ok, Err}
 use Rattle.std.specs.Prelude.{is_ok}
 use Rattle.std.specs.Int.{div_ceil}
 use Rattle.usb_packet.specs.{Toggle, flips}

@@ -454,15 +454,15 @@ module _ (t : Target) (ep : ℕ) (awaited : Toggle) (old new : World) (settled :
           short = short;
           what = λ single. each_beside (SourceIn t ep awaited result) (ControlIn t awaited result)
               (InLeaves t ep awaited result) (ep ≡ 0)
-                  (λ j s v b c. record { control = c; bulk = b })
+              (λ j s v b c. record { control = c; bulk = b })
               old new (source_leaves t ep awaited result old new settled x single)
               (λ z. control_leaves t awaited result old new settled
               (subst (λ k. Transacted (heard_as awaited) (in_attempt t k) old result new) z x)
-                  single);
+              single);
           why = λ u. let e = ended_of result x u.whole in
               each_beside (SourceInFailure t ep awaited result) (ControlInFailure t awaited result)
               (InFailure t ep awaited result) (ep ≡ 0)
-                  (λ j s v b c. record { control = c; bulk = b })
+              (λ j s v b c. record { control = c; bulk = b })
               old new (source_why t ep awaited result old new settled u.few e u.single)
               (λ z. control_in_why t awaited result old new settled u.few
               (subst (λ k. TransactionDone (heard_as awaited) (in_attempt t k) old result new) z e)

@@ -1021,7 +1021,7 @@ module _ (t : Target) (result : Result (List ℕ) TransFault) (old new : World) 
     where
       ends : (fault : TransFault) → result ≡ Err fault
           → Through (DidOut (out_attempt t 0 One []) One []) (out_attempt t 0 One [])
-              heard_when_sent
+          heard_when_sent
           (Err fault) old new j s v
       ends fault r = subst (λ q. Through (DidOut (out_attempt t 0 One []) One [])
           (out_attempt t 0 One []) heard_when_sent q old new j s v) r x

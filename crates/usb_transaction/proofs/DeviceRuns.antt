@@ -145,7 +145,7 @@ module _ (Did : Deeds) (a : Attempt) (P : State → Type 0)
         → EachIf P (RunThrough Did a hear Last GaveUp old new) old new
     over_last hear Last GaveUp single (next w t made) onward is =
         each_if-joined old w (after (attempt a) w) (back w)
-            (λ j s u v r d. last w u t r onward d is (λ n. (made, refl)))
+        (λ j s u v r d. last w u t r onward d is (λ n. (made, refl)))
         (over_trail t (made_unshared a w made single).before)
         (does w (made_of a w (trail_settled t settled) made) single)
 

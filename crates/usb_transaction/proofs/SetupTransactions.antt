@@ -156,7 +156,7 @@ module _ (t : Target) (request : Setup) where
       → EachSpared t request R old mid → EachWas S mid new → EachSpared t request T old new
   spared_joined R S T others f old mid new e g =
       each_if-joined old mid new (λ j u v y. was_spared u v (others j u v y)) f e
-          (λ j s on there x. g j s on there)
+      (λ j s on there x. g j s on there)
 
 -- One attempt
 
@@ -430,7 +430,7 @@ set_up_why t bytes result old new eight settled three x single =
           heeded (Listens t j) (λ w u y d n k. listens_at t j u y d.same.spec d.same.address k) l
           three (λ w u y d k none q. cc (sym (ap set_up_as (d.heeds k none)) ∙ q))
           (subst (λ r. Through (SetupResult t bytes) (setup_attempt t bytes) set_up_as r old new j s
-              v)
+          v)
           e run);
     }) old new
     (over_end (SetupResult t bytes) (setup_attempt t bytes) (IsSpared t (setup_of bytes))

@@ -55,8 +55,7 @@ going_more : {hear : Outcome → HeardOutcome} {a : Attempt} {o : Outcome} {erro
     → errors_with (hear o) errors ≡ e → waits_with (hear o) waits ≡ w → e < 3 → w < 256
     → 3 * waits + errors + 1 ≤ 3 * w + e → TryingOn hear a e w old new
 unfolding errors_running waits_in KeepsTrying
-going_more {hear} {a} {o} {errors} {waits} {old} {mid} {new} e w g made on x y few calm le = record
-    {
+going_more {hear} {a} {o} {errors} {waits} {old} {mid} {new} e w g made on x y few calm le = record {
   fits = g.fits;
   outcomes = o ∷ g.outcomes;
   trail = trail_more g.trail made;
@@ -119,7 +118,7 @@ pub record TryStands (hear : Outcome → HeardOutcome) (a : Attempt) (t : Tries)
 
 pub stands_new : {hear : Outcome → HeardOutcome} {a : Attempt} {text : Option (List ℕ)} (t : Tries)
     (w : World) → IsAttempt a → t ≡ record { errors = 0; waits = 0 } → TryStands hear a t w text w
-        text
+    text
 stands_new t w fits is = rw is (record {
   few = omega arith;
   calm = omega arith;

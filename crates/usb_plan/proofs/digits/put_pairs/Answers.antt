@@ -2,8 +2,6 @@ use Rattle.std.proofs.Common.{arith, refl}
 use Rattle.usb_plan.proofs.DigitPairs.{IsPair, put_one, refused_one, all_put, told_read}
 use Rattle.usb_plan.proofs.DigitPairs.{told_refused}
 use Rattle.usb_plan.proofs.digits.put_pairs.Goals as goal
-use Rattle.usb_plan.proofs.digits.put_pairs.Goals.{then-high-gt-MOST-via-then-high-gt-MOST}
-use Rattle.usb_plan.proofs.digits.put_pairs.Goals.{then-high-gt-MOST-via-else-high-gt-MOST+then-low-gt-MOST}
 
 pub returns-then-high-gt-MOST : goal.returns-then-high-gt-MOST
 returns-then-high-gt-MOST c =

@@ -23,8 +23,11 @@ returns-then-is_ack-clause-sets_up g c known =
 
 pub returns-clause-sets_up : goal.returns-clause-sets_up
 returns-clause-sets_up g c known =
-    let all : c.loop-error._error ≡ 3 = omega (arith, c.loop-error-test.false,
-    c.loop-error.auto._error-end) in
+    let all : c.loop-error._error ≡ 3 = omega (
+      arith,
+      c.loop-error-test.false,
+      c.loop-error.auto._error-end,
+    ) in
     sets_up c.args.target c.args.bytes _ _ (search rules) (g.met.B.Bus.settled known c.args.bus.now)
     (Err NoAnswer) ((c.loop-error.invariant known).ended all) (λ e. e)
 

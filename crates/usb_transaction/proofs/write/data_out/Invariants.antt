@@ -6,7 +6,7 @@ use Rattle.usb_transaction.proofs.write.data_out.Given as goal
 abbrev pub invariant-tries : goal.invariant-tries
 invariant-tries g l = (l.toggle ≡ l.initial.toggle) × ((l.tries.errors < 3) × (l.tries.waits < 256))
     × (g.B.Bus.modelled ≡ true → TryStands heard_when_sent
-        (out_attempt l.fn.target l.fn.ep l.initial.toggle l.fn.bytes) l.tries
+    (out_attempt l.fn.target l.fn.ep l.initial.toggle l.fn.bytes) l.tries
     (g.B.Bus.world l.initial.bus) (g.B.Bus.trace l.initial.bus) (g.B.Bus.world l.bus)
     (g.B.Bus.trace l.bus))
 

@@ -1,6 +1,5 @@
 use Rattle.std.proofs.Common.{◌∙◌, sym, codes}
-use Rattle.clap.specs.Walk.{one_of, rows_of}
-use Rattle.clap.specs.Matches.{found_of, one_text, first_value}
+use Rattle.clap.specs.Matches.{found_of, one_text}
 use Rattle.clap.proofs.WalkLemmas.{first_value-rows, one_text-rows}
 use Rattle.usb_words.proofs.Numbers.{number_text}
 use Rattle.usb_words.proofs.words.device_words.Goals as goal
