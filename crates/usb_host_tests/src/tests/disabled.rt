@@ -106,7 +106,7 @@ Ok(Quiet)
         lines: 67,
         calls: &[Call::Round, Call::Send],
         told: "Ok(Worked)
-Err(NoDevice)
+Err(Transfer(NoDevice))
 66 IN 1.1 / none
 67 IN 1.1 / none
 68 IN 1.1 / none
@@ -119,7 +119,7 @@ Err(NoDevice)
         rounds: 1,
         lines: 17,
         calls: &[Call::Send, Call::Round],
-        told: "Err(Pipe(NoAnswer))
+        told: "Err(Transfer(NoAnswer))
 Ok(Quiet)
 17 OUT 1.2 / DATA0 01 / none
 18 OUT 1.2 / DATA0 01 / none
@@ -133,8 +133,8 @@ Ok(Quiet)
         rounds: 1,
         lines: 17,
         calls: &[Call::Receive, Call::Receive],
-        told: "Err(Pipe(NoAnswer))
-Err(Pipe(Broken))
+        told: "Err(Transfer(NoAnswer))
+Err(Transfer(Broken))
 17 IN 1.2 / none
 18 IN 1.2 / none
 19 IN 1.2 / none
@@ -147,8 +147,8 @@ Err(Pipe(Broken))
         rounds: 1,
         lines: 17,
         calls: &[Call::Receive, Call::Clear],
-        told: "Err(Pipe(NoAnswer))
-Err(Pipe(NoAnswer))
+        told: "Err(Transfer(NoAnswer))
+Err(Transfer(NoAnswer))
 17 IN 1.2 / none
 18 IN 1.2 / none
 19 IN 1.2 / none
