@@ -1,18 +1,17 @@
 -- Which requests ask a device to take an address.
-use Rattle.std.proofs.Common.{◌≡◌, ℕ, ◌==◌, ◌&&◌, not, nat_le, if◌then◌else◌, Bool, true}
-use Rattle.std.proofs.Common.{false, List, [], ◌∷◌, Option, None, Some, slice_get, refl, rules}
-use Rattle.usb_request.specs.{HUB, GET_STATUS, CLEAR_FEATURE}
-use Rattle.usb_request.specs.{SET_FEATURE, SET_ADDRESS, GET_DESCRIPTOR, GET_CONFIGURATION}
-use Rattle.usb_request.specs.{SET_CONFIGURATION, DEVICE_IN, DEVICE_OUT, ENDPOINT_OUT, HUB_IN}
-use Rattle.usb_request.specs.{PORT_IN, PORT_OUT, descriptor_value, Setup}
+use Rattle.std.proofs.Common.{◌≡◌, ℕ, ◌==◌, ◌&&◌, not, nat_le, if◌then◌else◌, Bool, true, false}
+use Rattle.std.proofs.Common.{List, [], ◌∷◌, Option, None, Some, slice_get, refl, rules}
+use Rattle.usb_request.specs.{HUB, GET_STATUS, CLEAR_FEATURE, SET_FEATURE, SET_ADDRESS}
+use Rattle.usb_request.specs.{GET_DESCRIPTOR, GET_CONFIGURATION, SET_CONFIGURATION, DEVICE_IN}
+use Rattle.usb_request.specs.{DEVICE_OUT, ENDPOINT_OUT, HUB_IN, PORT_IN, PORT_OUT, descriptor_value}
+use Rattle.usb_request.specs.{Setup}
 use Rattle.usb_port.specs.{PortState, PortCall, set_call, clear_call}
 use Rattle.usb_device.specs.{ServedEndpoint, Registers, Spec, Hub, Outcome, stalled, takes_address}
-use Rattle.usb_device.specs.{takes_configuration, halts, unhalts, tells_port, Is}
-use Rattle.usb_device.specs.{unless, text_asked, asked_descriptor, asked_status, asked_address}
-use Rattle.usb_device.specs.{is_value, asked_configuration, endpoint_of, on_endpoint}
-use Rattle.usb_device.specs.{asked_hub_descriptor, port_named, told_port, called_at}
-use Rattle.usb_device.specs.{asked_port_status, port_feature, outcome, reading, ending, reads}
-use Rattle.usb_device.specs.{reads_port, first_stage}
+use Rattle.usb_device.specs.{takes_configuration, halts, unhalts, tells_port, Is, unless}
+use Rattle.usb_device.specs.{text_asked, asked_descriptor, asked_status, asked_address, is_value}
+use Rattle.usb_device.specs.{asked_configuration, endpoint_of, on_endpoint, asked_hub_descriptor}
+use Rattle.usb_device.specs.{port_named, told_port, called_at, asked_port_status, port_feature}
+use Rattle.usb_device.specs.{outcome, reading, ending, reads, reads_port, first_stage}
 use Rattle.usb_device.specs.Request.{answers}
 use Rattle.usb_address.specs.Aims.{Aims}
 use Rattle.usb_address.specs.{TakesOnly}

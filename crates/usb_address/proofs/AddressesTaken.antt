@@ -1,11 +1,11 @@
 -- SET_ADDRESS: the one device at the target's address takes the new one, or none does, whatever is
 -- lost.
 use Rattle.std.proofs.Common.{◌≡◌, ℕ, zero, suc, ◌⊎◌, inl, inr, Bool, true, false, List, [], ◌∷◌}
-use Rattle.std.proofs.Common.{Option, None, Some, option_map, if◌then◌else◌, Result, Err, refl}
-use Rattle.std.proofs.Common.{ap, sym, subst, ◌∙◌}
+use Rattle.std.proofs.Common.{Option, None, Some, option_map, if◌then◌else◌, Result, Err, refl, ap}
+use Rattle.std.proofs.Common.{sym, subst, ◌∙◌}
 use Rattle.std.proofs.lemmas.Option.{same_Some}
-use Rattle.usb_device.specs.{State, ends_with_address, Stage, ending}
-use Rattle.usb_device.specs.{state_at, Location, path_to, reach_on, state_on}
+use Rattle.usb_device.specs.{State, ends_with_address, Stage, ending, state_at, Location, path_to}
+use Rattle.usb_device.specs.{reach_on, state_on}
 use Rattle.usb_world.specs.{Attempt, BusFault, Outcome, World, Made, at_attempt, damage_in, attempt}
 use Rattle.usb_world.specs.{after, HoldsMapped, IsIn, IsMade, HolderIn, is_setup, NoneTakes}
 use Rattle.usb_world.specs.{after_taking, ends_status}
@@ -13,8 +13,7 @@ use Rattle.usb_tree.specs.{address_of, same_path, deep_at, NobodyHolds}
 use Rattle.usb_world.proofs.Interface.{data_own, holder_or_nobody, made_of, ready_own, seen, stands}
 use Rattle.usb_world.proofs.Interface.{state_stands, taken_distinct, unseen}
 use Rattle.usb_tree.proofs.Interface.{decided, false_true, same_equal, self_path}
-use Rattle.usb_transaction.specs.{TransFault, Bus, AttemptLog, start, next}
-use Rattle.usb_transaction.specs.{BusFailed, Transacted}
+use Rattle.usb_transaction.specs.{TransFault, Bus, AttemptLog, start, next, BusFailed, Transacted}
 use Rattle.usb_address.specs.Aims.{Aims}
 use Rattle.usb_address.specs.{AllAim, Never, LeavesTrans, MapHolds}
 use Rattle.usb_address.proofs.Steps.{aim_ready, in_aims, data_owned, settled_attempt}

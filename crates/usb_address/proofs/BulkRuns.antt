@@ -1,13 +1,11 @@
 -- What an IN or an OUT of an endpoint other than 0 leaves of a device.
-use Rattle.std.proofs.Common.{◌≡◌, ℕ, ◌==◌, if◌then◌else◌, Bool, true, false, List}
-use Rattle.std.proofs.Common.{Option, None, Some, refl, rules}
+use Rattle.std.proofs.Common.{◌≡◌, ℕ, ◌==◌, if◌then◌else◌, Bool, true, false, List, Option, None}
+use Rattle.std.proofs.Common.{Some, refl, rules}
 use Rattle.usb_packet.specs.{Toggle}
 use Rattle.usb_port.specs.{PortState}
 use Rattle.usb_device.specs.declared.transfer.InEndpoint.TheVariants as by
-use Rattle.usb_device.specs.{Way, held_law}
-use Rattle.usb_device.specs.{in_bulk_law, in_other_law, in_law, out_law}
-use Rattle.usb_device.specs.{State, forgotten, bulk_of}
-use Rattle.usb_device.specs.{bulk_ack_row, out_bulk_row, data_row}
+use Rattle.usb_device.specs.{Way, held_law, in_bulk_law, in_other_law, in_law, out_law, State}
+use Rattle.usb_device.specs.{forgotten, bulk_of, bulk_ack_row, out_bulk_row, data_row}
 
 -- its description and its registers are the same, and a hub's status endpoint is halted where it
 -- was

@@ -2,8 +2,7 @@
 -- was lost.
 use Rattle.std.proofs.Common.{◌≡◌, ◌≢◌, ℕ, zero, suc, ◌⊎◌, inl, inr, false, List, [], ◌∷◌, length}
 use Rattle.std.proofs.Common.{take, Option, None, Some, Result, Ok, Err, refl, ap, sym, subst, ◌∙◌}
-use Rattle.std.proofs.Common.{arith}
-use Rattle.std.specs.Prelude.{MatchResult}
+use Rattle.std.proofs.Common.{arith, MatchResult}
 use Rattle.std.specs.Global.{Vec}
 use Rattle.arrayvec.specs.ArrayVec.{ArrayVec}
 use Rattle.usb_packet.specs.{Toggle, flips}
@@ -18,8 +17,7 @@ use Rattle.usb_pipe.specs.{Condition, PipeFault, Bulk, halt_address, packets_of,
 use Rattle.usb_pipe.specs.{Cleared, Clears, FaultAfter, packet_target, Interrupt, PollAsked, Polls}
 use Rattle.usb_pipe.specs.{Gave, Came, Puts, Fetches, SendEnds, NotCame, NoRoomLeft, ReceiveEnds}
 use Rattle.usb_pipe.specs.declared.condition.Condition.TheVariants as condition
-use Rattle.usb_pipe.specs.declared.fault.PipeFault.TheVariants.{Stalled, Broken}
-use Rattle.usb_pipe.specs.declared.fault.PipeFault.TheVariants.{Bus}
+use Rattle.usb_pipe.specs.declared.fault.PipeFault.TheVariants.{Stalled, Broken, Bus}
 use Rattle.usb_pipe.specs.Moves as moves
 use Rattle.usb_pipe.proofs.Interface.{harmless}
 use Rattle.usb_address.specs.{AddressMap, LeavesTrans, LeavesPipe, MapHolds, WhileBusWorks}

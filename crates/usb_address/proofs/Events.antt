@@ -1,6 +1,5 @@
 -- What events do to the addresses that devices hold.
-use Rattle.std.proofs.Common.{◌≡◌, false, Option, None, Some, Result, Ok, Err, refl, ap, ◌∙◌}
-use Rattle.std.specs.Prelude.{OnOk}
+use Rattle.std.proofs.Common.{◌≡◌, false, Option, None, Some, Result, Ok, Err, refl, ap, ◌∙◌, OnOk}
 use Rattle.usb_world.specs.declared.event.Ask.{Ask}
 use Rattle.usb_world.specs.{BusFault, LimitReached, Memory, TraceFailed, event, after, TookEvent}
 use Rattle.usb_world.specs.{World}

@@ -7,9 +7,8 @@ use Rattle.usb_tree.specs.{address_of}
 
 -- what stands at the ports of a device
 abbrev pub place_ports : Option Place → Ports
-place_ports None = ended
-place_ports (Some (empty b)) = ended
 place_ports (Some (full b s a)) = a
+place_ports _ = ended
 
 -- What the hub is asked
 

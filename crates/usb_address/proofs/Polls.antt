@@ -1,23 +1,21 @@
 -- Endpoints other than 0 take no part in who has which address, whatever is lost.
-use Rattle.std.proofs.Common.{◌≡◌, ◌≢◌, ℕ, zero, suc, ◌==◌, if◌then◌else◌, Bool, true}
-use Rattle.std.proofs.Common.{false, List, [], ◌∷◌, Option, None, Some, option_map, Result}
-use Rattle.std.proofs.Common.{Ok, Err, refl, ap, sym, subst, ◌∙◌, rules}
+use Rattle.std.proofs.Common.{◌≡◌, ◌≢◌, ℕ, zero, suc, ◌==◌, if◌then◌else◌, Bool, true, false, List}
+use Rattle.std.proofs.Common.{[], ◌∷◌, Option, None, Some, option_map, Result, Ok, Err, refl, ap}
+use Rattle.std.proofs.Common.{sym, subst, ◌∙◌, rules}
 use Rattle.arrayvec.specs.ArrayVec.{ArrayVec}
 use Rattle.usb_packet.specs.{Toggle, One as Data1}
 use Rattle.usb_port.specs.{PortState}
 use Rattle.usb_device.specs.declared.answer.Answer.TheVariants as answer
-use Rattle.usb_device.specs.{Stage, reading, read, State, Reply}
-use Rattle.usb_device.specs.{out_row, status_row, sink_row}
-use Rattle.usb_device.specs.{out_bulk_row, data_row, Way, in_law, out_law}
-use Rattle.usb_device.specs.{Ports, vacant, taken, row_of, reach_at, state_at, Location}
-use Rattle.usb_device.specs.{Registers}
+use Rattle.usb_device.specs.{Stage, reading, read, State, Reply, out_row, status_row, sink_row}
+use Rattle.usb_device.specs.{out_bulk_row, data_row, Way, in_law, out_law, Ports, vacant, taken}
+use Rattle.usb_device.specs.{row_of, reach_at, state_at, Location, Registers}
 use Rattle.usb_world.specs.{Attempt, Outcome, World, attempt, after, HoldsMapped, Was, EachWas}
 use Rattle.usb_world.specs.{DidIn, DidOut, IsOut, IsIn, IsMade}
 use Rattle.usb_tree.specs.{address_of}
 use Rattle.usb_world.proofs.Interface.{each_in, each_out, made_of}
 use Rattle.usb_tree.proofs.Interface.{both, false_true, unequal}
-use Rattle.usb_transaction.specs.{TransFault, Stalled, Bus, in_attempt, polled_as}
-use Rattle.usb_transaction.specs.{AttemptLog, start, next, Transacted, Polled}
+use Rattle.usb_transaction.specs.{TransFault, Stalled, Bus, in_attempt, polled_as, AttemptLog}
+use Rattle.usb_transaction.specs.{start, next, Transacted, Polled}
 use Rattle.usb_pipe.specs.{PipeFault, as_pipe_fault, Interrupt, PollAsked, Polls}
 use Rattle.usb_address.specs.{LeavesTrans, LeavesPipe, MapHolds}
 use Rattle.usb_address.proofs.Steps.{settled_attempt, unshared_after}

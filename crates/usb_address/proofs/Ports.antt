@@ -1,7 +1,6 @@
 -- What requests about a port of a hub do to the addresses that devices hold (11.24.2).
 use Rattle.std.proofs.Common.{◌≡◌, ℕ, zero, ◌⊎◌, true, false, List, [], ◌∷◌, ◌++◌, Some, Result}
-use Rattle.std.proofs.Common.{refl, ap, sym, ◌∙◌, arith}
-use Rattle.std.specs.Prelude.{MatchResult}
+use Rattle.std.proofs.Common.{refl, ap, sym, ◌∙◌, arith, MatchResult}
 use Rattle.usb_request.specs.{PORT_RESET, Setup, set_port_feature}
 use Rattle.usb_port.specs.{IsPath}
 use Rattle.usb_world.specs.{after_reset, World}

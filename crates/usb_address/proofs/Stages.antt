@@ -1,17 +1,14 @@
 -- A device's status stage after an attempt: the one it had, or none that ends with an address.
-use Rattle.std.proofs.Common.{◌≡◌, ℕ, ◌+◌, ◌&&◌, nat_le, if◌then◌else◌, Bool, true}
-use Rattle.std.proofs.Common.{false, List, [], ◌∷◌, Option, None, Some, is_some, refl}
-use Rattle.std.proofs.Common.{length, rules}
+use Rattle.std.proofs.Common.{◌≡◌, ℕ, ◌+◌, ◌&&◌, nat_le, if◌then◌else◌, Bool, true, false, List, []}
+use Rattle.std.proofs.Common.{◌∷◌, Option, None, Some, is_some, refl, length, rules}
 use Rattle.usb_packet.specs.{Toggle, One as Data1}
 use Rattle.usb_port.specs.{PortState}
 use Rattle.usb_device.specs.declared.answer.Answer.TheVariants as answer
-use Rattle.usb_device.specs.{InEndpoint, Stage, reading}
-use Rattle.usb_device.specs.{read, ending, max_packet, packet_at, toggle_at, State, Reply}
-use Rattle.usb_device.specs.{forgotten, out_row, status_row, ack_row}
-use Rattle.usb_device.specs.{sink_row, out_bulk_row, bulk_ack_row, bulk_of, data_row}
-use Rattle.usb_device.specs.{acknowledged, ends_with_address, Way, is_whole, gave}
-use Rattle.usb_device.specs.{in_stage_law, source_law, held_law, in_bulk_law}
-use Rattle.usb_device.specs.{in_other_law, in_control_law, in_law, out_law}
+use Rattle.usb_device.specs.{InEndpoint, Stage, reading, read, ending, max_packet, packet_at}
+use Rattle.usb_device.specs.{toggle_at, State, Reply, forgotten, out_row, status_row, ack_row}
+use Rattle.usb_device.specs.{sink_row, out_bulk_row, bulk_ack_row, bulk_of, data_row, acknowledged}
+use Rattle.usb_device.specs.{ends_with_address, Way, is_whole, gave, in_stage_law, source_law}
+use Rattle.usb_device.specs.{held_law, in_bulk_law, in_other_law, in_control_law, in_law, out_law}
 use Rattle.usb_device.specs.declared.transfer.InEndpoint.TheVariants as by
 use Rattle.usb_address.specs.Aims.{Aims}
 use Rattle.usb_address.specs.{Never}

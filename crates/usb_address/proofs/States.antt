@@ -1,7 +1,7 @@
 -- What is so in the middle of an enumeration at a port: the device there, if one is reached, has
 -- address 0 or the one that is set aside for it.
-use Rattle.std.proofs.Common.{◌≡◌, ℕ, suc, ◌⊎◌, inl, inr, Bool, true, false, List, ◌∷◌}
-use Rattle.std.proofs.Common.{Option, None, Some, option_map, if◌then◌else◌, refl, ap, sym, ◌∙◌}
+use Rattle.std.proofs.Common.{◌≡◌, ℕ, suc, ◌⊎◌, inl, inr, Bool, true, false, List, ◌∷◌, Option}
+use Rattle.std.proofs.Common.{None, Some, option_map, if◌then◌else◌, refl, ap, sym, ◌∙◌}
 use Rattle.std.proofs.lemmas.Option.{same_Some}
 use Rattle.usb_device.specs.{State as Device, reach, state_at}
 use Rattle.usb_tree.specs.{same_path, is_way, address_of}

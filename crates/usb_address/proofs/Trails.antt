@@ -32,8 +32,7 @@ data_aims Q a w (out t bytes o) m u h = out_aims Q a t bytes w m o u h
 
 pub trail_data : (f : List ℕ → Option ℕ) (a : Attempt) → IsData a
     → {old new : World} {outcomes : List Outcome} → AttemptLog a old outcomes new → MapHolds f old
-    → AllAim Never a.addr old
-    → MapHolds f new × AllAim Never a.addr new
+    → AllAim Never a.addr old → MapHolds f new × AllAim Never a.addr new
 trail_data f a d start o h = (o, h)
 trail_data f a d (next w t made) o h =
     let x : MapHolds f w × AllAim Never a.addr w = trail_data f a d t o h in (
@@ -86,10 +85,8 @@ last_set_up f Q a bytes q is c (next w t made) h o =
 abbrev pub SetUpLeaves : (List ℕ → Option ℕ) → (ℕ → Type 0) → ℕ → Result (List ℕ) TransFault → World
     → Type 0
 SetUpLeaves f Q n (Ok bytes) w = MapHolds f w × AllAim Q n w
-SetUpLeaves f Q n (Err Stalled) w = MapHolds f w
-SetUpLeaves f Q n (Err Busy) w = MapHolds f w
-SetUpLeaves f Q n (Err NoAnswer) w = MapHolds f w
 SetUpLeaves f Q n (Err (Bus fault)) w = w.shared ≡ false
+SetUpLeaves f Q n _ w = MapHolds f w
 
 pub set_up_transacted : (f : List ℕ → Option ℕ) (Q : ℕ → Type 0) (a : Attempt) (bytes : List ℕ)
     → is_quiet (attempt a) ≡ true → IsSetup a bytes
@@ -100,8 +97,6 @@ set_up_transacted f Q a bytes q is c old (Ok got) new e o = (
   trail_quiet f a q e.trail o,
   last_set_up f Q a bytes q is c e.trail (setup_acked e.last got e.outcomes e.tells) o,
 )
-set_up_transacted f Q a bytes q is c old (Err Stalled) new e o = trail_quiet f a q e.trail o
-set_up_transacted f Q a bytes q is c old (Err Busy) new e o = trail_quiet f a q e.trail o
-set_up_transacted f Q a bytes q is c old (Err NoAnswer) new e o = trail_quiet f a q e.trail o
 set_up_transacted f Q a bytes q is c old (Err (Bus fault)) new e o =
     cut_off_unshared f a set_up_as old fault new e (trail_quiet f a q e.trail o)
+set_up_transacted f Q a bytes q is c old _ new e o = trail_quiet f a q e.trail o

@@ -1,8 +1,7 @@
 -- Control transfers, one after the other, whatever their answers are: what is so as long as the bus
 -- is at work.
 use Rattle.std.proofs.Common.{◌≡◌, ℕ, ◌⊎◌, inl, inr, true, false, List, [], ◌∷◌, Option, None, Some}
-use Rattle.std.proofs.Common.{Result, Ok, Err, refl, ap, sym, ◌∙◌}
-use Rattle.std.specs.Prelude.{MatchResult}
+use Rattle.std.proofs.Common.{Result, Ok, Err, refl, ap, sym, ◌∙◌, MatchResult}
 use Rattle.std.specs.Global.{Vec}
 use Rattle.usb_request.specs.{SET_ADDRESS, DEVICE_OUT, setup_of, bytes_of, Setup}
 use Rattle.usb_device.specs.{Is}

@@ -6,9 +6,8 @@ use Rattle.usb_packet.specs.{Toggle, One, flips}
 use Rattle.usb_request.specs.{SET_ADDRESS, DEVICE_OUT, setup_of, bytes_of, Setup}
 use Rattle.usb_device.specs.{outcome, Is}
 use Rattle.usb_world.specs.{World, is_harmless, IsSetup, after_taking}
-use Rattle.usb_transaction.specs.{Target, TransFault, Stalled as TransStalled}
-use Rattle.usb_transaction.specs.{Bus as TransBus, heard_as}
-use Rattle.usb_transaction.specs.{heard_when_sent, setup_attempt, in_attempt, out_attempt}
+use Rattle.usb_transaction.specs.{Target, TransFault, Stalled as TransStalled, Bus as TransBus}
+use Rattle.usb_transaction.specs.{heard_as, heard_when_sent, setup_attempt, in_attempt, out_attempt}
 use Rattle.usb_pipe.specs.{PipeFault, as_pipe_fault, SetUp, Asks, Confirms, NoSetUp, Writes, Goes}
 use Rattle.usb_pipe.specs.{DataStage, DataLost, NoRoom, Reads}
 use Rattle.usb_pipe.specs.declared.fault.PipeFault.TheVariants.{Stalled}

@@ -41,7 +41,6 @@ event_unpowered None (vacant c k) zero [] zero [] h = as_unpowered c (unplugged 
 event_unpowered (Some s) (vacant c k) zero [] zero [] h =
     as_unpowered c (plugged s.low (unplugged c)) refl h
 event_unpowered (Some s) (vacant c k) zero [] zero (suc m ∷ p) h = first_unpowered s.hub m p
-event_unpowered o (vacant c k) (suc i) e zero [] h = h
 event_unpowered o (vacant c k) (suc i) e (suc j) p h = event_unpowered o k i e j p h
 event_unpowered None (taken c s a k) zero [] zero [] h = as_unpowered c (unplugged c) refl h
 event_unpowered None (taken c s a k) zero [] zero (m ∷ p) h = no_power_none
@@ -51,9 +50,8 @@ event_unpowered (Some t) (taken c s a k) zero [] zero (zero ∷ p) h = no_power_
 event_unpowered (Some t) (taken c s a k) zero [] zero (suc m ∷ p) h = first_unpowered t.hub m p
 event_unpowered o (taken c s a k) zero (suc m ∷ e) zero (suc n ∷ p) h =
     event_unpowered o a m e n p h
-event_unpowered o (taken c s a k) (suc i) e zero (zero ∷ p) h = h
 event_unpowered o (taken c s a k) (suc i) e (suc j) p h = event_unpowered o k i e j p h
-event_unpowered o k i e j p h = h
+event_unpowered o _ _ e _ _ h = h
 
 replaced_unpowered : (o : Option Spec) (k : Ports) (x p : List ℕ) → NoPower (port_there k p)
     → NoPower (port_there (changed (replaced o) k x) p)

@@ -112,8 +112,7 @@ less-taken : (m v r : PortMark) (b c : PortState) (s t : State) (a d k : Ports)
     → ((n : ℕ) → charged (m zero [] || c.connection_changed) n
     ≤ charged (m zero [] || b.connection_changed) n)
     → bit c.enable_changed ≤ bit b.enable_changed → bit (r zero [] || c.reset_changed)
-    ≤ bit (r zero [] || b.reset_changed)
-    → Less (below_first m) (below_first v) (below_first r) a d
+    ≤ bit (r zero [] || b.reset_changed) → Less (below_first m) (below_first v) (below_first r) a d
     → Less m v r (taken b s a k) (taken c t d k)
 unfolding looks_by strays_by devices_by ports_by devices_in
 less-taken m v r b c s t a d k looks enable reset below =

@@ -31,9 +31,8 @@ data_allows m r a w kind settled q o j e t at deep =
 
 -- what a device asks sets no feature
 abbrev pub sets_none : Effect → Bool
-sets_none Leaves = true
 sets_none (Calls c i) = not (sets_feature c)
-sets_none PortsOff = true
+sets_none _ = true
 
 none_allowed : (m r : ℕ → Bool) (e : Effect) → sets_none e ≡ true → allowed m r e ≡ true
 none_allowed m r (Calls SetPower i) h = false_true h
@@ -53,8 +52,7 @@ clears_none f c h = split (f == PORT_ENABLE) (f == PORT_POWER) (f == C_PORT_CONN
     split : (x y z u v : Bool)
         → (if x then Some ClearEnable else if y then Some ClearPower else if z then Some
         ClearConnectionChange else if u then Some ClearEnableChange else if v then Some
-        ClearResetChange else None) ≡ Some c
-        → not (sets_feature c) ≡ true
+        ClearResetChange else None) ≡ Some c → not (sets_feature c) ≡ true
     split true y z u v e = is ClearEnable refl e
     split false true z u v e = is ClearPower refl e
     split false false true u v e = is ClearConnectionChange refl e

@@ -30,8 +30,7 @@ root_allowed m r c (suc i) = (m i [] || not (gives_power c)) && (r i [] || not (
 abbrev pub StepAllows : PortMark → PortMark → Step → World → Type 0
 StepAllows m r (attempt a) w = AttemptAllows m r a w
 StepAllows m r (root_call c n) w = root_allowed m r c n ≡ true
-StepAllows m r event w = ⊤
-StepAllows m r (report line) w = ⊤
+StepAllows m r _ w = ⊤
 
 module _ (m v r : PortMark) (few : Few v r) where
   -- a world in which no event came, and no more is left to do

@@ -75,12 +75,7 @@ module _ (j : ℕ) (e : List ℕ) where
 
       strays : strays_by unmarked unmarked mid.roots + old.taken ≤ strays_by unmarked unmarked
           old.roots + mid.taken
-      strays = omega (
-        arith,
-        keeps.strays,
-        strays_set,
-        strays_by-less (just j e) unmarked mid.roots,
-      )
+      strays = omega (arith, keeps.strays, strays_set, strays_by-less (just j e) unmarked mid.roots)
 
       nowhere : devices_by (just j e) mid.roots ≡ 0 → StrayPaid old mid → ClearedAt old mid
       nowhere gone paid = record {

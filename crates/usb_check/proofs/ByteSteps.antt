@@ -56,12 +56,11 @@ run-sum : (low u v bits others : List Bool) → length u ≡ length low → leng
     → run low (sum_of u v) (sum_of bits others) ≡ sum_of (run low u bits) (run low v others)
 unfolding run
 run-sum low u v [] [] eu ev e = refl
-run-sum low u v [] (b ∷ others) eu ev e = cc
-run-sum low u v (a ∷ bits) [] eu ev e = cc
 run-sum low u v (a ∷ bits) (b ∷ others) eu ev e =
     ap (λ (l : List Bool). run low l (sum_of bits others)) (step-sum low u v a b (eu ∙ sym ev))
     ∙ run-sum low (step low u a) (step low v b) bits others (length-step low u a eu)
     (length-step low v b ev) (omega (arith, e))
+run-sum low u v _ _ eu ev e = cc
 
 -- bits that go into a register that begins with them only move it up
 run_own : (low bits rest : List Bool) → length (bits ++ rest) ≡ length low
@@ -84,8 +83,7 @@ run_own low (b ∷ bits) rest e =
 -- the rest of the register moves up, and what its first part and the bits make of a register is
 -- added
 run_parts : (low first rest bits : List Bool) → length first ≡ length bits
-    → length (first ++ rest) ≡ length low
-    → run low (first ++ rest) bits
+    → length (first ++ rest) ≡ length low → run low (first ++ rest) bits
     ≡ sum_of (rest ++ zeros_along bits) (run low (sum_of first bits ++ zeros_along rest)
     (zeros_along bits))
 run_parts low first rest bits same size =
@@ -123,8 +121,7 @@ unfolding low_bits run step entry table_entries
 table_is_entries = refl
 
 table_entry : (words : List ℕ) (count n i : ℕ) → map (low_bits 16) words ≡ table_entries count n
-    → i < count
-    → low_bits 16 (get_or words i 0) ≡ entry (n + i)
+    → i < count → low_bits 16 (get_or words i 0) ≡ entry (n + i)
 unfolding table_entries
 table_entry words zero n i e h = absurd (omega (arith, h))
 table_entry [] (suc count) n i e h = cc

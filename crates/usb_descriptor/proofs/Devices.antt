@@ -12,8 +12,7 @@ unless true fault r good = absurd cc
 unless false fault r good = (refl, good)
 
 counted : (head : Result ℕ DescriptorFault) (bytes : List ℕ) → is_ok (device_after head bytes)
-    ≡ true
-    → (configuration_count bytes == 0) ≡ false
+    ≡ true → (configuration_count bytes == 0) ≡ false
 counted (Ok max) bytes good = (unless (configuration_count bytes == 0) NoConfiguration (Ok bytes)
     good).0
 counted (Err fault) bytes good = absurd cc

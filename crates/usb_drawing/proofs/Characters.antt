@@ -1,7 +1,6 @@
 -- Units of strings as characters.
 use Rattle.std.proofs.Common.{◌≡◌, ◌∙◌, sym, ap, arith, inl, inr, ℕ, ◌<◌, true, false, Option, None}
-use Rattle.std.proofs.Common.{Some}
-use Rattle.std.specs.Prelude.{◌&&◌, nat_le, nat_lt, if◌then◌else◌, MatchOption, SomeIff}
+use Rattle.std.proofs.Common.{Some, ◌&&◌, nat_le, nat_lt, if◌then◌else◌, MatchOption, SomeIff}
 use Rattle.std.specs.Char.{IsScalar, InScalarRange, OutOfScalarRange}
 use Rattle.std.specs.Char.Utf16.{lone_unit_char}
 use Rattle.std.proofs.lemmas.Bool.Decides.{nat_tests}

@@ -1,7 +1,6 @@
 -- A drawing has one line for each entry, in their order.
 use Rattle.std.proofs.Common.{◌≡◌, refl, ap, arith, add-one, ℕ, suc, ◌+◌, List, [], ◌∷◌, ◌++◌}
-use Rattle.std.proofs.Common.{length, Some}
-use Rattle.std.specs.Prelude.{slice_get}
+use Rattle.std.proofs.Common.{length, Some, slice_get}
 use Rattle.usb_enum.specs.{Finding}
 use Rattle.usb_table.specs.{Entries}
 use Rattle.usb_drawing.specs.{Style, deepest, drawing_lines, entry_line, drawn_entries, granted_at}

@@ -1,10 +1,9 @@
 -- What drawing a plan's run writes, item by item.
 use Rattle.std.proofs.Common.{◌≡◌, ◌≢◌, ◌∙◌, refl, sym, ap, subst, inl, inr, ℕ, ◌+◌, ◌≤◌, ◌<◌, List}
 use Rattle.std.proofs.Common.{[], ◌∷◌, ◌++◌, map, flat_map, Bool, false, Option, None, Some, Result}
-use Rattle.std.proofs.Common.{Ok, Err, IsErrAnd}
+use Rattle.std.proofs.Common.{Ok, Err, IsErrAnd, IfErr}
 use Rattle.std.specs.Global.{Vec}
 use Rattle.std.proofs.lemmas.List.Folds.{flat_map-map}
-use Rattle.std.specs.Prelude.{IfErr}
 use Rattle.std.specs.Io.KnownBytes.{Appends}
 use Rattle.std.proofs.KnownBytes.{Appends-nil, Appends-trans}
 use Rattle.usb_bus.specs.{AppendsFront}
@@ -64,8 +63,7 @@ pub drawn_told : {style : Style} {plan : PlanData} {before : Option (List ℕ)} 
     (r : DrawnSoFar style plan before number over h now)
     (next : ℕ) (item : Item) (on : Bool) (k : HostState) (vs : List (Vec ℕ)) (s : Option (List ℕ))
     → (number < 18446744073709551615 → next ≡ number_of item number)
-    → Next over h (Ok (Some item)) on k
-    → items_left on k.world < items_left over h.world
+    → Next over h (Ok (Some item)) on k → items_left on k.world < items_left over h.world
     → map (λ v. v.items) vs ≡ drawn_lines style next item
     → Appends now s (flat_map (λ v. v.items ++ 10 ∷ []) vs)
     → DrawnSoFar style plan before next on k s

@@ -1,9 +1,9 @@
 -- No line of a drawing has a newline.
 use Rattle.std.proofs.Common.{◌≡◌, ◌≢◌, ◌∙◌, refl, sym, ap, ap₂, subst, arith, ℕ, zero, suc, ◌+◌}
-use Rattle.std.proofs.Common.{◌-◌, ◌/◌, ◌%◌, Bool, true, false, List, [], ◌∷◌, ◌++◌}
-use Rattle.std.proofs.Common.{append-nil, flat_map, get_or, length, ◌<◌, Option, None, Some}
-use Rattle.std.specs.Prelude.{◌==◌, ◌&&◌, not, nat_lt, cond, slice_index, codes, decimal}
-use Rattle.std.specs.Prelude.{encode_utf8, All, if◌then◌else◌}
+use Rattle.std.proofs.Common.{◌-◌, ◌/◌, ◌%◌, Bool, true, false, List, [], ◌∷◌, ◌++◌, append-nil}
+use Rattle.std.proofs.Common.{flat_map, get_or, length, ◌<◌, Option, None, Some, ◌==◌, ◌&&◌, not}
+use Rattle.std.proofs.Common.{nat_lt, cond, slice_index, codes, decimal, encode_utf8, All}
+use Rattle.std.proofs.Common.{if◌then◌else◌}
 use Rattle.std.specs.Char.Utf16.{lone_unit_char, surrogate_pair_char}
 use Rattle.std.specs.Fmt.{digit_glyph, digits, digits_onto}
 use Rattle.std.specs.List.{AllByRecursion}

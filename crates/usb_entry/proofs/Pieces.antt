@@ -8,7 +8,6 @@ pieces_more old all before piece now a b = b ∙ ap (λ t. t ++ piece) a ∙ app
 
 -- the last one, where it was written
 pub last_one : {E : Type 0} (r : Result (Unit {0}) E) (old all before piece now : List ℕ)
-    → before ≡ old ++ all
-    → OnOk r (now ≡ before ++ piece) → OnOk r (now ≡ old ++ (all ++ piece))
+    → before ≡ old ++ all → OnOk r (now ≡ before ++ piece) → OnOk r (now ≡ old ++ (all ++ piece))
 last_one r old all before piece now a h = subst (λ t. OnOk r (now ≡ t)) (ap (λ t. t ++ piece) a
     ∙ append_assoc old all piece) h

@@ -1,6 +1,6 @@
 -- How far a device's bytes are read.
-use Rattle.std.proofs.Common.{◌≡◌, ◌∙◌, sym, ap, refl, arith, ℕ, ◌+◌, ◌<◌, ◌≤◌, ◌-◌, List, []}
-use Rattle.std.proofs.Common.{◌∷◌, ◌++◌, length, drop, append_assoc, length-append}
+use Rattle.std.proofs.Common.{◌≡◌, ◌∙◌, sym, ap, refl, arith, ℕ, ◌+◌, ◌<◌, ◌≤◌, ◌-◌, List, [], ◌∷◌}
+use Rattle.std.proofs.Common.{◌++◌, length, drop, append_assoc, length-append}
 use Rattle.std.proofs.lemmas.List.{append-nil, drop_at, drop-drop}
 use Rattle.std.specs.List.{AllByRecursion}
 use Rattle.usb_descriptor.specs.{joined, configuration_count}
@@ -64,8 +64,7 @@ read_so_far_more bytes device configs offset config h new room =
 stops_at : (bytes device : List ℕ) (configs : List (List ℕ)) (offset at : ℕ) (Why : ℕ → List ℕ
     → Type 0) → ReadSoFar bytes device configs offset → at ≡ offset
     → length configs < configuration_count device
-    → Why (configuration_count device - length configs) (drop offset bytes)
-    → BreaksAt bytes at Why
+    → Why (configuration_count device - length configs) (drop offset bytes) → BreaksAt bytes at Why
 stops_at bytes device configs offset at Why h same lt why = record {
   device = device;
   configs = configs;

@@ -1,7 +1,7 @@
 -- How parts of an enumeration join.
 use Rattle.std.proofs.Common.{◌≡◌, ◌+◌, ◌*◌, ◌<◌, ◌≤◌, ℕ, false, List, Option, Result, Err, arith}
+use Rattle.std.proofs.Common.{IsErrAnd}
 use Rattle.std.specs.Global.{Vec}
-use Rattle.std.specs.Prelude.{IsErrAnd}
 use Rattle.usb_request.specs.{Setup, set_address, set_configuration}
 use Rattle.usb_device.specs.{Spec}
 use Rattle.usb_world.specs.{EachWas, World}
@@ -55,8 +55,7 @@ steps_none n w keeping = record {
 
 pub steps_joined : {K : World → World → Type 0} {m n : ℕ} {old mid new : World}
     {a b c : Option (List ℕ)} → Keeping K → KeepingSteps K m old a mid b
-    → KeepingSteps K n mid b new c
-    → KeepingSteps K (m + n) old a new c
+    → KeepingSteps K n mid b new c → KeepingSteps K (m + n) old a new c
 steps_joined {K} {m} {n} {old} {mid} {new} keeping first next = record {
   went = went_then m n first.went next.went;
   keeps = keeping.joined n old mid new first.keeps next.went next.keeps;
@@ -69,15 +68,13 @@ steps_wider {K} {m} {n} steps le =
 
 pub steps_then : {K : World → World → Type 0} {m n k : ℕ} {old mid new : World}
     {a b c : Option (List ℕ)} → Keeping K → KeepingSteps K m old a mid b
-    → KeepingSteps K n mid b new c
-    → m + n ≤ k → KeepingSteps K k old a new c
+    → KeepingSteps K n mid b new c → m + n ≤ k → KeepingSteps K k old a new c
 steps_then keeping first next le = steps_wider (steps_joined keeping first next) le
 
 -- so many times the same, once more, and no more than there may be
 pub steps_again : {K : World → World → Type 0} (k n : ℕ) {old mid new : World}
     {a b c : Option (List ℕ)} → Keeping K → KeepingSteps K (k * n) old a mid b
-    → KeepingSteps K n mid b new c
-    → KeepingSteps K ((k + 1) * n) old a new c
+    → KeepingSteps K n mid b new c → KeepingSteps K ((k + 1) * n) old a new c
 steps_again {K} k n {old} {mid} {new} keeping first next = record {
   went = went_again k n old mid new first.went next.went;
   keeps = keeping.joined n old mid new first.keeps next.went next.keeps;
@@ -92,8 +89,7 @@ steps_times {K} k m n {old} {new} steps le = record {
 
 pub steps_more : {K : World → World → Type 0} (k m n : ℕ) {old mid new : World}
     {a b c : Option (List ℕ)} → Keeping K → KeepingSteps K (k * n) old a mid b
-    → KeepingSteps K n mid b new c
-    → k < m → KeepingSteps K (m * n) old a new c
+    → KeepingSteps K n mid b new c → k < m → KeepingSteps K (m * n) old a new c
 steps_more k m n keeping first next less =
     steps_times (k + 1) m n (steps_again k n keeping first next) (omega (arith, less))
 

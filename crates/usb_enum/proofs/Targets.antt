@@ -1,25 +1,21 @@
 -- Endpoint 0 of a device that was enumerated, and the most attempts of an enumeration.
-use Rattle.std.proofs.Common.{◌≡◌, refl, arith}
+use Rattle.std.proofs.Common.{◌≡◌, refl, arith, ℕ, ◌≤◌, ◌+◌, ◌*◌, ◌==◌, List, length, nat_lt, Bool}
+use Rattle.std.proofs.Common.{true, false, not, Result, Ok, Err, is_ok, if◌then◌else◌, slice_index}
 use Rattle.std.proofs.lemmas.Bool.Decides.{nat_tests}
-use Rattle.std.specs.Prelude.{ℕ, ◌≤◌, ◌+◌, ◌*◌, ◌==◌, List, length, nat_lt, Bool, true, false}
-use Rattle.std.specs.Prelude.{not, Result, Ok, Err, is_ok, if◌then◌else◌, slice_index}
 use Rattle.usb_request.specs.{DEVICE}
 use Rattle.usb_descriptor.specs.{DescriptorFault, Short, WrongType, Length, MaxPacket}
 use Rattle.usb_descriptor.specs.{is_max_packet, device_after, device_head_of, device_spelled}
 use Rattle.usb_hub.specs.{HubPort, Root, External, status_bound, order_bound}
 use Rattle.usb_pipe.proofs.Interface.{bound_wide}
 use Rattle.usb_pipe.specs.{write_bound}
-use Rattle.usb_enum.specs.{IsWide, read_bound, enumeration_bound, examined_by}
-use Rattle.usb_enum.specs.{widest_enumeration, is_device}
+use Rattle.usb_enum.specs.{IsWide, read_bound, enumeration_bound, examined_by, widest_enumeration}
+use Rattle.usb_enum.specs.{is_device}
 
 head_ok : (a b c good : Bool) (n : ℕ) → is_ok (if a then Err Short else (if b then Err WrongType
     else (if c then Err Length else (if not good then Err MaxPacket else Ok n)))) ≡ true
     → good ≡ true
-head_ok true b c good n h = absurd cc
-head_ok false true c good n h = absurd cc
-head_ok false false true good n h = absurd cc
 head_ok false false false true n h = refl
-head_ok false false false false n h = absurd cc
+head_ok _ _ _ _ n h = absurd cc
 
 pub head_maximum : (low : Bool) (bytes : List ℕ) → is_ok (device_head_of low bytes) ≡ true
     → is_max_packet low (slice_index bytes 7) ≡ true

@@ -1,7 +1,7 @@
 -- What is done at a question, from what the bus did.
 use Rattle.std.proofs.Common.{◌≡◌, ◌∙◌, ℕ, ◌+◌, ◌<◌, Bool, true, false, List, [], ◌∷◌, ◌++◌, length}
 use Rattle.std.proofs.Common.{map, take, Option, Some, None, Ok, refl, sym, ap, ap₂, subst}
-use Rattle.std.specs.Prelude.{slice_index_or}
+use Rattle.std.proofs.Common.{slice_index_or}
 use Rattle.std.proofs.KnownBytes.{Appends-nil}
 use Rattle.std.proofs.lemmas.Bool.{false≢true}
 use Rattle.std.proofs.lemmas.List.{map-append, take_more}
@@ -56,14 +56,13 @@ nothing_wanted old new came far same = rw came (record {
   traced = subst (λ t. Appends old.trace.bytes t.bytes []) (sym same) (Appends-nil old.trace.bytes);
 })
 
-event_due : (f : Far) → f.came ≡ false
-    → wait_done f ≡ record {
-      answer = due_answer (next_due f.world);
-      world = after event f.world;
-      came = false;
-      traced = lines_between f.world (after event f.world);
-      by_bus = true;
-    }
+event_due : (f : Far) → f.came ≡ false → wait_done f ≡ record {
+  answer = due_answer (next_due f.world);
+  world = after event f.world;
+  came = false;
+  traced = lines_between f.world (after event f.world);
+  by_bus = true;
+}
 unfolding wait_done
 event_due f came = rw came refl
 
@@ -106,8 +105,7 @@ too_much_wanted old new due came takes told far =
 pub port_called : (number : ℕ) (call : PortCall) (old new : Played)
     → new.far.world ≡ after (root_call call number) old.far.world
     → new.far ≡ record old.far { world = new.far.world; came = false }
-    → new.trace.bytes ≡ old.trace.bytes
-    → IsDone (call_done number call old.far) old Done new
+    → new.trace.bytes ≡ old.trace.bytes → IsDone (call_done number call old.far) old Done new
 unfolding call_done
 port_called number call old new world far same = record {
   answered = refl;

@@ -12,11 +12,10 @@ use Rattle.usb_bus.specs.{AppendsFront}
 use Rattle.usb_lines.specs.{EndsLine, IsNextLine, IsUnbroken, Pipe, LineFault, Read, Cut}
 use Rattle.usb_wire.specs.{IsQuestion, IsQuestionLine, Question}
 use Rattle.usb_far.specs.{Phase, FarFault, Far, HasNoReply, IsReplied, Played, Replies, done}
-use Rattle.usb_far.specs.{may_ask, reading_fault, AllReplied, HasNoQuestion, HasQuestion}
-use Rattle.usb_far.specs.{MayGoOn, OnlyReads, OnlyReadsLine, Passed, Passes, ReadsOn}
-use Rattle.usb_far.specs.{ReadsQuestion, Replied, Scene, ServedOne}
-use Rattle.usb_far.specs.{ServedSome, ServesNext, CauseOf, and_then, is_told, passed}
-use Rattle.usb_far.specs.{phase_behind}
+use Rattle.usb_far.specs.{may_ask, reading_fault, AllReplied, HasNoQuestion, HasQuestion, MayGoOn}
+use Rattle.usb_far.specs.{OnlyReads, OnlyReadsLine, Passed, Passes, ReadsOn, ReadsQuestion, Replied}
+use Rattle.usb_far.specs.{Scene, ServedOne, ServedSome, ServesNext, CauseOf, and_then, is_told}
+use Rattle.usb_far.specs.{passed, phase_behind}
 use Rattle.usb_far.specs.declared.fault.FarFault.TheVariants as fault
 
 -- ---- bytes that were read
@@ -50,8 +49,7 @@ told_line : (old new : Scene) (line : List ℕ) (p : Phase) → IsUnbroken line
     → is_told old.played.far.phase (take 1024 line) ≡ true
     → p ≡ phase_behind old.played.far.phase (take 1024 line)
     → new.played.far ≡ record old.played.far { phase = p } → new.played.trace ≡ old.played.trace
-    → ReadsOn old new → new.writer ≡ old.writer
-    → ServedOne old new
+    → ReadsOn old new → new.writer ≡ old.writer → ServedOne old new
 told_line old new line p one read told next far trace reads writer = record {
   passed = passed (line ++ 10 ∷ []) [] [];
   replied = subst (Replied old.played.far (passed (line ++ 10 ∷ []) [] [])) (sym far)
@@ -73,8 +71,7 @@ pub told_whole : (old new : Scene) (line : List ℕ) (p : Phase) → IsUnbroken 
     → Consumes old.reader.bytes new.reader.bytes (line ++ 10 ∷ []) → ReadsOn old new
     → is_told old.played.far.phase line ≡ true → p ≡ phase_behind old.played.far.phase line
     → new.played.far ≡ record old.played.far { phase = p } → new.played.trace ≡ old.played.trace
-    → new.writer ≡ old.writer
-    → ServedOne old new
+    → new.writer ≡ old.writer → ServedOne old new
 told_whole old new line p one short read reads told next far trace writer =
     let all : line ≡ take 1024 line = sym (take_all 1024 line short) in
     told_line old new line p one read (subst (λ l. is_told old.played.far.phase l ≡ true) all told)
@@ -88,8 +85,7 @@ pub told_long : (old new : Scene) (mid : Pipe) (front rest : List ℕ) (more : �
     → ReadsOn old new → is_told old.played.far.phase front ≡ true
     → p ≡ phase_behind old.played.far.phase front
     → new.played.far ≡ record old.played.far { phase = p } → new.played.trace ≡ old.played.trace
-    → new.writer ≡ old.writer
-    → ServedOne old new
+    → new.writer ≡ old.writer → ServedOne old new
 told_long old new mid front rest more p full one read last ended reads told next far trace writer =
     let line = (front ++ more ∷ []) ++ rest in
     let is : front ≡ take 1024 line = sym (first_of_long front rest more full) in
@@ -140,8 +136,7 @@ pub asked_torn : (old new : Scene) (line reply : List ℕ) (q : Question) → Is
     → Consumes old.reader.bytes new.reader.bytes (line ++ 10 ∷ [])
     → ReadsOn old new → HasQuestion line q → Replies q old.played new.played reply
     → AppendsFront old.writer.bytes new.writer.bytes reply → (new.writer.failed ≡ true)
-    ⊎ Appends old.writer.bytes new.writer.bytes reply
-    → CauseOf old new fault.Write
+    ⊎ Appends old.writer.bytes new.writer.bytes reply → CauseOf old new fault.Write
 asked_torn old new line reply q one read reads there replied front (inl failed) =
     CauseOf.unwritten q (reads_question old new line q one read reads there.is there.asks
     replied.replied.asks) (record {
@@ -169,8 +164,7 @@ asked_torn old new line reply q one read reads there replied front (inr whole) =
 only_line : (old new : Scene) (line : List ℕ) → IsUnbroken line → length line ≤ 1024
     → is_told old.played.far.phase line ≡ false
     → Consumes old.reader.bytes new.reader.bytes (line ++ 10 ∷ []) → ReadsOn old new
-    → new.played ≡ old.played → new.writer ≡ old.writer
-    → OnlyReadsLine old line new
+    → new.played ≡ old.played → new.writer ≡ old.writer → OnlyReadsLine old line new
 only_line old new line one short other read reads played writer = record {
   unbroken = one;
   short = short;
@@ -183,8 +177,7 @@ only_line old new line one short other read reads played writer = record {
 
 -- one that asks nothing
 pub no_question_there : (old new : Scene) (line : List ℕ) (f : FarFault) → HasNoQuestion line f
-    → IsUnbroken line → length line ≤ 1024
-    → is_told old.played.far.phase line ≡ false
+    → IsUnbroken line → length line ≤ 1024 → is_told old.played.far.phase line ≡ false
     → Consumes old.reader.bytes new.reader.bytes (line ++ 10 ∷ []) → ReadsOn old new
     → new.played ≡ old.played → new.writer ≡ old.writer → CauseOf old new f
 no_question_there old new line f (inl bad) one short other read reads played writer =
@@ -201,8 +194,7 @@ no_question_there old new line f (inr none) one short other read reads played wr
 pub no_reply_there : (old new : Scene) (line : List ℕ) (q : Question) (f : FarFault)
     → HasNoReply q old.played f new.played
     → HasQuestion line q → IsUnbroken line → length line ≤ 1024 → is_told old.played.far.phase line
-    ≡ false
-    → Consumes old.reader.bytes new.reader.bytes (line ++ 10 ∷ []) → ReadsOn old new
+    ≡ false → Consumes old.reader.bytes new.reader.bytes (line ++ 10 ∷ []) → ReadsOn old new
     → new.writer ≡ old.writer → CauseOf old new f
 no_reply_there old new line q f (inl none) there one short other read reads writer =
     subst (CauseOf old new) (sym none.0)

@@ -1,8 +1,7 @@
 -- That the host gets on by a look at a port.
-use Rattle.std.proofs.Common.{◌≡◌, ◌∙◌, refl, ap, arith, inl, inr, true, false, Bool, ℕ}
-use Rattle.std.proofs.Common.{◌+◌, ◌≤◌, ◌⊎◌, List, Ok, Err, Result}
+use Rattle.std.proofs.Common.{◌≡◌, ◌∙◌, refl, ap, arith, inl, inr, true, false, Bool, ℕ, ◌+◌, ◌≤◌}
+use Rattle.std.proofs.Common.{◌⊎◌, List, Ok, Err, Result, OnOk}
 use Rattle.std.specs.BTreeMap.{insert_entry}
-use Rattle.std.specs.Prelude.{OnOk}
 use Rattle.usb_port.specs.{path_cmp}
 use Rattle.usb_world.proofs.Interface.{way_itself}
 use Rattle.usb_resources.specs.{IsFull}
@@ -18,17 +17,8 @@ use Rattle.usb_host.proofs.entries.KindCounts.{counted-without_one}
 use Rattle.usb_host.proofs.entries.WaitingDevices.{waiting-entered_other}
 
 waiting_is : (f : Finding) → is_waiting f ≡ true → f ≡ Refused cause.NoAddress
-waiting_is (Device device) h = absurd (cc h)
-waiting_is (Refused cause.Silent) h = absurd (cc h)
-waiting_is (Refused cause.Busy) h = absurd (cc h)
-waiting_is (Refused (cause.Stalled request)) h = absurd (cc h)
-waiting_is (Refused cause.BadDevice) h = absurd (cc h)
-waiting_is (Refused cause.TooDeep) h = absurd (cc h)
-waiting_is (Refused (cause.BadConfiguration index)) h = absurd (cc h)
-waiting_is (Refused cause.NoPower) h = absurd (cc h)
-waiting_is (Refused cause.BadHub) h = absurd (cc h)
-waiting_is (Refused cause.Lost) h = absurd (cc h)
 waiting_is (Refused cause.NoAddress) h = refl
+waiting_is _ h = absurd (cc h)
 
 other_by : (path : List ℕ) (c : HostState) {d : HostState} (e : EntersOne path c d)
     → (IsFull c.addresses → ⊥) → (b : Bool) → is_waiting e.finding ≡ b
@@ -98,17 +88,15 @@ module _ (path : List ℕ) (m : ℕ) {n : ℕ} (a b : HostState) {c d : HostStat
 
 pub served_any : (result : Result (Unit {0}) EnumFault) (a d : HostState) → HostProgress a d
     → ProgressOrLost result a d
-served_any (Ok done) a d on = on
-served_any (Err ParentLost) a d on = on
 served_any (Err (Bus fault)) a d on = tt
 served_any (Err Memory) a d on = tt
+served_any _ a d on = on
 
 pub served_on : (served : Result (Unit {0}) EnumFault) (done : Unit {0}) (a b : HostState)
     → EndsAs served (Ok done) → ProgressOrLost served a b → HostProgress a b
-served_on (Ok _) done a b ends s = s
-served_on (Err ParentLost) done a b ends s = s
 served_on (Err (Bus fault)) done a b ends s = absurd (cc ends)
 served_on (Err Memory) done a b ends s = absurd (cc ends)
+served_on _ done a b ends s = s
 
 -- a port was served, and the rest of its handling took nothing back
 pub handled : {Due : Type 0} (result : Result (Unit {0}) HostFault)

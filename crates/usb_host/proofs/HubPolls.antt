@@ -1,7 +1,6 @@
 -- What the poll of a hub leaves, and what follows it.
-use Rattle.std.proofs.Common.{◌≡◌, ◌+◌, ◌≤◌, arith, refl, ℕ, List, Option, None, Some}
-use Rattle.std.proofs.Common.{Result, Ok, Err}
-use Rattle.std.specs.Prelude.{IsErr, IsSome, ◌≢◌}
+use Rattle.std.proofs.Common.{◌≡◌, ◌+◌, ◌≤◌, arith, refl, ℕ, List, Option, None, Some, Result, Ok}
+use Rattle.std.proofs.Common.{Err, IsErr, IsSome, ◌≢◌}
 use Rattle.arrayvec.specs.ArrayVec.{ArrayVec}
 use Rattle.usb_pipe.specs.{PipeFault}
 use Rattle.usb_hub.specs.{NoHubFailed}

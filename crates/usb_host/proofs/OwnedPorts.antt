@@ -1,7 +1,6 @@
 -- Devices keep the addresses that the table has for them while a port is handled.
 use Rattle.std.proofs.Common.{◌≡◌, ◌∙◌, refl, sym, ap, subst, true, false, ℕ, ◌≤◌, List, Option}
-use Rattle.std.proofs.Common.{None, Some, Result, Ok, Err}
-use Rattle.std.specs.Prelude.{IsErr, IsSome, OnOk, MatchResult}
+use Rattle.std.proofs.Common.{None, Some, Result, Ok, Err, IsErr, IsSome, OnOk, MatchResult}
 use Rattle.std.specs.BTreeMap.{insert_entry}
 use Rattle.usb_port.specs.{path_cmp, parent_of, port_on_hub, IsPath}
 use Rattle.usb_request.specs.{PORT_ENABLE}
@@ -52,8 +51,7 @@ pub port_owned : (path : List ℕ) (result : Result (Unit {0}) EnumFault) (h : H
     → PortOwned path result h
 port_owned path (Ok done) h o = o
 port_owned path (Err ParentLost) h o = but_all o
-port_owned path (Err (Bus fault)) h o = o.single
-port_owned path (Err Memory) h o = o.single
+port_owned path _ h o = o.single
 
 pub rests_keeps_port : (path : List ℕ) (a : HostState) {result : Result (Unit {0}) EnumFault}
     (b : HostState) → OnlyBusSteps a b → roots_of b.world ≡ roots_of a.world

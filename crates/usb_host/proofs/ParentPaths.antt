@@ -6,9 +6,8 @@ use Rattle.usb_port.proofs.Interface.{rejoined}
 
 long : (path : List ℕ) {hub : List ℕ} → parent_of path ≡ Some hub → 2 ≤ length path
 unfolding parent_of
-long [] is = absurd (cc is)
-long (n ∷ []) is = absurd (cc is)
 long (n ∷ m ∷ rest) is = omega arith
+long _ is = absurd (cc is)
 
 -- a parent is one number shorter
 pub parent_length : (path : List ℕ) {hub : List ℕ} → parent_of path ≡ Some hub

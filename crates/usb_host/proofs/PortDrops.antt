@@ -1,7 +1,7 @@
 -- What is left where a hub is dropped.
 use Rattle.std.proofs.Common.{◌≡◌, ◌∙◌, ◌-◌, ◌*◌, ◌≤◌, arith, refl, ap, subst, true, false, Bool, ℕ}
-use Rattle.std.proofs.Common.{List, length, Option, None, Some, Result, Ok, Err}
-use Rattle.std.specs.Prelude.{IsErr, IsSome, IsSomeAnd}
+use Rattle.std.proofs.Common.{List, length, Option, None, Some, Result, Ok, Err, IsErr, IsSome}
+use Rattle.std.proofs.Common.{IsSomeAnd}
 use Rattle.std.specs.BTreeMap.{insert_entry}
 use Rattle.usb_port.specs.{parent_of, path_cmp, IsPath}
 use Rattle.usb_tree.specs.{is_way, pending}
@@ -226,8 +226,7 @@ finish_done path h = record {
 
 -- its hub was lost, and is dropped
 pub finish_lost : (path : List ℕ) {hub : List ℕ} {a b : HostState}
-    {result : Result (Unit {0}) HostFault}
-    → parent_of path ≡ Some hub → DropsOne hub a result b
+    {result : Result (Unit {0}) HostFault} → parent_of path ≡ Some hub → DropsOne hub a result b
     → FinishesAt path (Err ParentLost) a result b
 finish_lost path {hub = hub} {a = a} {b = b} {result = result} above x =
     let at = λ (p : IsSomeAnd (parent_of path) (λ hub. IsDroppable hub a)).

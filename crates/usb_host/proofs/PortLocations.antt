@@ -1,8 +1,7 @@
 -- Where the ports stand that the table knows, and which the root has not.
 use Rattle.std.proofs.Common.{◌≡◌, ◌∙◌, refl, sym, ap, subst, arith, suc, zero, Bool, true, false}
 use Rattle.std.proofs.Common.{ℕ, ◌<◌, ◌≤◌, List, [], ◌∷◌, ◌++◌, length, Option, Some, None, Result}
-use Rattle.std.proofs.Common.{Ok, Err}
-use Rattle.std.specs.Prelude.{nat_lt, IsSome, IfErr}
+use Rattle.std.proofs.Common.{Ok, Err, nat_lt, IsSome, IfErr}
 use Rattle.std.proofs.lemmas.Bool.{lt-ltb}
 use Rattle.std.specs.Map.{lookup}
 use Rattle.std.specs.BTreeMap.{is_at}
@@ -19,8 +18,8 @@ use Rattle.usb_enum.specs.{EnumFault, ParentLost, Bus, Memory, Finding, FaultAll
 use Rattle.usb_table.specs.{KnownPort, Entries, address_in, known_port, root_port, port_below}
 use Rattle.usb_table.specs.{port_found, is_below_hub, IsAskable}
 use Rattle.usb_table.proofs.Interface.{FoundPort, port_found-some}
-use Rattle.usb_host.specs.{HostState, claims, IsPortAt, StandsAt, StandsNowhere, Broke}
-use Rattle.usb_host.specs.{HostSteps, OnlyBusSteps}
+use Rattle.usb_host.specs.{HostState, claims, IsPortAt, StandsAt, StandsNowhere, Broke, HostSteps}
+use Rattle.usb_host.specs.{OnlyBusSteps}
 
 pub root_alone : (path : List ℕ) → 1 ≤ length path → parent_of path ≡ None
     → path ≡ port_on_hub path ∷ []
@@ -118,11 +117,10 @@ breaks {h = h} (Err fault) w s told = broke h fault w s told
 
 beyond_reach : (k : Ports) (i : ℕ) (r : List ℕ) → length (row_of k) ≤ i → reach_at k i r ≡ false
 unfolding row_of reach_at
-beyond_reach ended i r le = refl
-beyond_reach (vacant b k) zero r le = refl
 beyond_reach (vacant b k) (suc i) r le = beyond_reach k i r (omega arith)
 beyond_reach (taken b s a k) zero r le = absurd (omega arith)
 beyond_reach (taken b s a k) (suc i) r le = beyond_reach k i r (omega arith)
+beyond_reach _ _ r le = refl
 
 beyond_path : (k : Ports) (n : ℕ) (r : List ℕ) → length (row_of k) < n → reach k (n ∷ r) ≡ false
 beyond_path k zero r lt = refl

@@ -1,7 +1,6 @@
 -- What a look at a port leaves.
-use Rattle.std.proofs.Common.{◌≡◌, ◌∙◌, ◌⊎◌, ◌+◌, ◌≤◌, arith, inl, inr, ap, true, false}
-use Rattle.std.proofs.Common.{Bool, ℕ, List, None, Result, Ok, Err}
-use Rattle.std.specs.Prelude.{OnOk}
+use Rattle.std.proofs.Common.{◌≡◌, ◌∙◌, ◌⊎◌, ◌+◌, ◌≤◌, arith, inl, inr, ap, true, false, Bool, ℕ}
+use Rattle.std.proofs.Common.{List, None, Result, Ok, Err, OnOk}
 use Rattle.usb_port.specs.{PortStatus, path_cmp}
 use Rattle.usb_tree.proofs.Interface.{decided}
 use Rattle.usb_hub.specs.{Isolates}
@@ -13,12 +12,12 @@ use Rattle.usb_table.specs.{KnownPort, Replaced, has_at, without, known_port, ti
 use Rattle.usb_table.specs.{entered, Entries}
 use Rattle.usb_table.proofs.Interface.{known_port-without}
 use Rattle.usb_host.specs.Accounts.{Accounts}
-use Rattle.usb_host.specs.{PaysAtLook, hubs, clearing_bound, HostState, IsOwned}
-use Rattle.usb_host.specs.{KeepsPort, StaysOwned, claims, IsOpen, ServesSound, KeepsPlugs, Entered}
-use Rattle.usb_host.specs.{Forgets, Gained, IsPortAt, Requested, ProgressOrLost, StandsAt, Waits}
-use Rattle.usb_host.specs.{HostRuns, HostSteps, OnlyBusSteps, waiting, ClearsError, ClearsPort}
-use Rattle.usb_host.specs.{Discovers, LookedOrLost, LooksAfterError, LooksAt, RenewsPort}
-use Rattle.usb_host.specs.{HostInvariant, table_in}
+use Rattle.usb_host.specs.{PaysAtLook, hubs, clearing_bound, HostState, IsOwned, KeepsPort}
+use Rattle.usb_host.specs.{StaysOwned, claims, IsOpen, ServesSound, KeepsPlugs, Entered, Forgets}
+use Rattle.usb_host.specs.{Gained, IsPortAt, Requested, ProgressOrLost, StandsAt, Waits, HostRuns}
+use Rattle.usb_host.specs.{HostSteps, OnlyBusSteps, waiting, ClearsError, ClearsPort, Discovers}
+use Rattle.usb_host.specs.{LookedOrLost, LooksAfterError, LooksAt, RenewsPort, HostInvariant}
+use Rattle.usb_host.specs.{table_in}
 use Rattle.usb_host.proofs.devices.BulkPipes.{bulk_stays, bulk_then}
 use Rattle.usb_host.proofs.devices.Causes.{cleared_caused, entered_finds, forgot_caused}
 use Rattle.usb_host.proofs.devices.Causes.{fault_none_back, unentered_finds, unfound_finds}

@@ -1,10 +1,9 @@
 -- What requests at a port leave, one after the other.
 use Rattle.std.proofs.Common.{◌≡◌, ◌∙◌, ◌⊎◌, ◌+◌, ◌*◌, ◌≤◌, arith, inl, inr, refl, sym, ap, subst}
-use Rattle.std.proofs.Common.{true, Bool, ℕ, List, Some, Result, Ok, Err}
-use Rattle.std.specs.Prelude.{IfErr, IfOk, OnOk, IsOk}
+use Rattle.std.proofs.Common.{true, Bool, ℕ, List, Some, Result, Ok, Err, IfErr, IfOk, OnOk, IsOk}
 use Rattle.usb_request.specs.{PORT_ENABLE, C_PORT_CONNECTION, C_PORT_ENABLE, C_PORT_RESET}
-use Rattle.usb_port.specs.{clear_call, is_reset, PortCall, ClearEnable}
-use Rattle.usb_port.specs.{ClearEnableChange, ClearResetChange, PortStatus}
+use Rattle.usb_port.specs.{clear_call, is_reset, PortCall, ClearEnable, ClearEnableChange}
+use Rattle.usb_port.specs.{ClearResetChange, PortStatus}
 use Rattle.usb_world.specs.{World, Failed, AttemptsWithin, BusFault}
 use Rattle.usb_tree.proofs.Interface.{decided}
 use Rattle.usb_bus.proofs.Interface.{went_then}
@@ -71,12 +70,9 @@ bus_told answer old new x f is = rw is at x
 port_fault : (port : HubPort) (fault : PipeFault) (new : World) → CanFail port
     → ((f : BusFault) → fault ≡ pipe.Bus f → Failed f new)
     → FaultAllowedAt port (fault_at_port fault) new
-port_fault port pipe.Stalled new can told = can
-port_fault port pipe.Busy new can told = can
-port_fault port pipe.NoAnswer new can told = can
-port_fault port pipe.Broken new can told = can
 port_fault port (pipe.Bus f) new can told = told f refl
 port_fault port pipe.Memory new can told = tt
+port_fault port _ new can told = can
 
 -- a root port is a register, and never fails
 requested_told : {A : Type 0} (port : HubPort) (answer : Result A PipeFault) (new : World)
@@ -192,12 +188,9 @@ others_then x y le = record {
 
 made_by : (A : Type 0) (fault : PipeFault) (old new : World) → FaultAfter 1 old fault new
     → LetsGoOn {A = A} (Err (fault_at_port fault)) → old.attempts + 1 ≤ new.attempts
-made_by A pipe.Stalled old new x goes = omega (arith, x.least)
-made_by A pipe.Busy old new x goes = omega (arith, x.least)
-made_by A pipe.NoAnswer old new x goes = omega (arith, x.least)
 made_by A pipe.Broken old new x goes = absurd x
 made_by A (pipe.Bus f) old new x goes = absurd goes
-made_by A pipe.Memory old new x goes = omega (arith, x.least)
+made_by A _ old new x goes = omega (arith, x.least)
 
 attempt_made : {A : Type 0} (least : ℕ) (answer : Result A PipeFault) (old new : World) → 1 ≤ least
     → EndsAfter least old answer new → LetsGoOn (at_port answer) → old.attempts + 1 ≤ new.attempts
@@ -206,16 +199,14 @@ attempt_made {A = A} least (Err fault) old new le ends goes = made_by A fault ol
 
 gains_by : {A : Type 0} (result : Result A EnumFault) (old new : World)
     → (LetsGoOn result → Gained old new) → ProgressOnOk result old new
-gains_by (Ok x) old new g = g tt
-gains_by (Err ParentLost) old new g = g tt
 gains_by (Err (Bus fault)) old new g = tt
 gains_by (Err Memory) old new g = tt
+gains_by _ old new g = g tt
 
 goes_as : (A B : Type 0) (fault : EnumFault) → LetsGoOn {A = A} (Err fault)
     → LetsGoOn {A = B} (Err fault)
 goes_as A B ParentLost goes = tt
-goes_as A B (Bus fault) goes = absurd goes
-goes_as A B Memory goes = absurd goes
+goes_as A B _ goes = absurd goes
 
 -- a hub was asked
 order_gains : (port : HubPort) (feature : ℕ) {n : ℕ} {old : World}

@@ -1,19 +1,18 @@
 -- What the serving and the handling of a port leave.
 use Rattle.std.proofs.Common.{◌≡◌, ◌∙◌, ◌+◌, ◌*◌, ◌≤◌, arith, inr, refl, true, false, ℕ, List}
-use Rattle.std.proofs.Common.{Option, Result, Ok, Err}
-use Rattle.std.specs.Prelude.{IsErr}
+use Rattle.std.proofs.Common.{Option, Result, Ok, Err, IsErr}
 use Rattle.usb_port.specs.{PortStatus}
 use Rattle.usb_address.proofs.Interface.{keeps_then}
 use Rattle.usb_pipe.specs.{write_bound}
 use Rattle.usb_enum.specs.{read_bound, EnumFault, ParentLost, Accepted}
 use Rattle.usb_enum.proofs.Interface.{went_sound}
 use Rattle.usb_table.specs.{KnownPort}
-use Rattle.usb_host.specs.{hubs, drop_bound, handling_bound, look_bound}
-use Rattle.usb_host.specs.{was_disabled, HostState, KeepsPort, PortOwned, ServesSound, Watches}
-use Rattle.usb_host.specs.{EndsAs, IsDue, StandsAt, StandsNowhere, Waits, HostSteps, OnlyBusSteps}
-use Rattle.usb_host.specs.{ClearsOwn, SettlesPort, ShowsPort, TidiesPort, EndsAt, FinishesAt}
-use Rattle.usb_host.specs.{HandlesPort, LooksAfterError, LooksAt, LooksOnceMore, ServesOwn}
-use Rattle.usb_host.specs.{ServesPort, HostInvariant, Part, HostFault, Round, Quiet, Worked}
+use Rattle.usb_host.specs.{hubs, drop_bound, handling_bound, look_bound, was_disabled, HostState}
+use Rattle.usb_host.specs.{KeepsPort, PortOwned, ServesSound, Watches, EndsAs, IsDue, StandsAt}
+use Rattle.usb_host.specs.{StandsNowhere, Waits, HostSteps, OnlyBusSteps, ClearsOwn, SettlesPort}
+use Rattle.usb_host.specs.{ShowsPort, TidiesPort, EndsAt, FinishesAt, HandlesPort, LooksAfterError}
+use Rattle.usb_host.specs.{LooksAt, LooksOnceMore, ServesOwn, ServesPort, HostInvariant, Part}
+use Rattle.usb_host.specs.{HostFault, Round, Quiet, Worked}
 use Rattle.usb_host.proofs.devices.BulkPipes.{bulk_stays, bulk_then, stay_joined}
 use Rattle.usb_host.proofs.devices.Causes.{causes_rests, tidied_caused, watched_caused}
 use Rattle.usb_host.proofs.devices.Fairness.{fair_after, fair_before}

@@ -1,8 +1,7 @@
 -- What the loops of a round leave, one turn after the other.
 use Rattle.std.proofs.Common.{◌≡◌, ◌∙◌, ◌⊎◌, ◌+◌, ◌-◌, ◌*◌, ◌≤◌, ◌<◌, arith, below_more, refl, sym}
 use Rattle.std.proofs.Common.{ap, subst, true, false, ℕ, List, Option, [], ◌∷◌, None, Some, Result}
-use Rattle.std.proofs.Common.{Ok, Err}
-use Rattle.std.specs.Prelude.{IfSome, IsErr}
+use Rattle.std.proofs.Common.{Ok, Err, IfSome, IsErr}
 use Rattle.usb_port.specs.{IsPath, has_bit}
 use Rattle.usb_world.specs.{here, changes, root_port_at, root_row, roots_of}
 use Rattle.usb_hub.specs.{TouchesNoPort}
@@ -32,8 +31,8 @@ use Rattle.usb_host.proofs.entries.Roots.{on_failed}
 use Rattle.usb_host.proofs.payments.RoundPayments.{one_waits}
 use Rattle.usb_host.proofs.services.RoundServices.{looked_then}
 use Rattle.usb_host.proofs.payments.ToldPayments.{RootsSoFar, ToldSoFar, root_shows, roots_failed}
-use Rattle.usb_host.proofs.payments.ToldPayments.{roots_next, told_all, told_clear}
-use Rattle.usb_host.proofs.payments.ToldPayments.{told_failed, told_next, told_so_far_none}
+use Rattle.usb_host.proofs.payments.ToldPayments.{roots_next, told_all, told_clear, told_failed}
+use Rattle.usb_host.proofs.payments.ToldPayments.{told_next, told_so_far_none}
 
 -- Root ports
 

@@ -1,7 +1,6 @@
 -- What the parts of a round keep.
-use Rattle.std.proofs.Common.{◌≡◌, ◌∙◌, ◌+◌, ◌≤◌, arith, refl, ap, ℕ, Bool, true, false}
-use Rattle.std.proofs.Common.{List, Option, None, Some, is_some, Result, Ok, Err}
-use Rattle.std.specs.Prelude.{IsErr, IsOk, IsSome}
+use Rattle.std.proofs.Common.{◌≡◌, ◌∙◌, ◌+◌, ◌≤◌, arith, refl, ap, ℕ, Bool, true, false, List}
+use Rattle.std.proofs.Common.{Option, None, Some, is_some, Result, Ok, Err, IsErr, IsOk, IsSome}
 use Rattle.arrayvec.specs.ArrayVec.{ArrayVec}
 use Rattle.usb_tree.specs.{pending}
 use Rattle.usb_world.specs.{World}
@@ -102,10 +101,6 @@ module _ {result : Result Round HostFault} {a c : HostState} (e : IsErr result) 
 pub polled_hub_not_failed : (pipes left : Pipes) (fault : PipeFault) (old new : World)
     → PipesPolled pipes old (Err fault) left new → new.fault ≡ None
     → NoHubFailed {A = Option (ArrayVec ℕ)} (Err fault) → ⊥
-polled_hub_not_failed pipes left Stalled old new x still served = served
-polled_hub_not_failed pipes left Busy old new x still served = served
-polled_hub_not_failed pipes left NoAnswer old new x still served = served
-polled_hub_not_failed pipes left Broken old new x still served = served
 polled_hub_not_failed (HubPipe pipe) left (Bus fault) old new x still served = cc
     (x.2.polls.ends.told, still)
 polled_hub_not_failed (Function pipes) left (Bus fault) old new x still served = cc (x.0)
@@ -113,6 +108,7 @@ polled_hub_not_failed Absent left (Bus fault) old new x still served = cc (x.0)
 polled_hub_not_failed (HubPipe pipe) left Memory old new x still served = x.2.polls.room refl
 polled_hub_not_failed (Function pipes) left Memory old new x still served = cc (x.0)
 polled_hub_not_failed Absent left Memory old new x still served = cc (x.0)
+polled_hub_not_failed pipes left _ old new x still served = served
 
 pub hub_listed : (o : Option Finding) → IsSome (hub_facts_in o) → IsSome o
 hub_listed None some = absurd (cc some)

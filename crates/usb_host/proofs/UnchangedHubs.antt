@@ -1,8 +1,7 @@
 -- A hub that answers a poll with NAK has no port whose change bits are set.
 use Rattle.std.proofs.Common.{◌≡◌, ◌≤◌, ◌<◌, ◌==◌, ◌∙◌, if◌then◌else◌, ℕ, zero, suc, Bool, true}
-use Rattle.std.proofs.Common.{false, List, [], ◌∷◌, ◌++◌, Option, None, Some, refl, ap, sym}
-use Rattle.std.proofs.Common.{arith, slice_get}
-use Rattle.std.specs.Prelude.{IfSome}
+use Rattle.std.proofs.Common.{false, List, [], ◌∷◌, ◌++◌, Option, None, Some, refl, ap, sym, arith}
+use Rattle.std.proofs.Common.{slice_get, IfSome}
 use Rattle.std.proofs.lemmas.Bool.{eqb-true}
 use Rattle.usb_port.specs.{PortState, has_change}
 use Rattle.usb_device.specs.{Answer, Way, lost, heard, gave, held_law, in_law, tells_changes}

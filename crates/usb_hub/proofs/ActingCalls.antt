@@ -41,8 +41,6 @@ place_below (taken b s a k) (suc j) e m r = place_below k j e m r
 pub place_called : (c : PortCall) (k : Ports) (i : ℕ) → place_at (changed_at (called c) k i []) i []
     ≡ option_map (called c) (place_at k i [])
 unfolding place_at changed_at
-place_called c ended i = refl
-place_called c (vacant b k) zero = refl
 place_called c (vacant b k) (suc i) = place_called c k i
 place_called c (taken b s a k) zero = split (is_reset c && (b.power && is_attached b.attached))
   where
@@ -51,15 +49,13 @@ place_called c (taken b s a k) zero = split (is_reset c && (b.power && is_attach
     split true = refl
     split false = refl
 place_called c (taken b s a k) (suc i) = place_called c k i
+place_called c _ _ = refl
 
 -- A call at a root port
 
 root_others : (c : PortCall) (n : ℕ) (w : World) (x : List ℕ) → is_way (n ∷ []) x ≡ false
     → AsksNothing (root_call c n) w x
 unfolding is_way step_keeps_pending resets leaves_step
-root_others c zero w x d = record { spares = refl; rests = refl; leaves = refl }
-root_others c (suc i) w [] d = record { spares = refl; rests = refl; leaves = refl }
-root_others c (suc i) w (zero ∷ x) d = record { spares = refl; rests = refl; leaves = refl }
 root_others c (suc i) w (suc m ∷ []) d = split (same_number i m) refl d
   where
     split : (b : Bool) → same_number i m ≡ b → (b && true) ≡ false
@@ -76,6 +72,7 @@ root_others c (suc i) w (suc m ∷ n ∷ x) d = split (same_number i m) refl d
         → AsksNothing (root_call c (suc i)) w (suc m ∷ n ∷ x)
     split true e d = false_true (sym d)
     split false e d = record { spares = rw e refl; rests = refl; leaves = rw e refl }
+root_others c _ w _ d = record { spares = refl; rests = refl; leaves = refl }
 
 root_spared : (c : PortCall) (n : ℕ) (w : World) → keeps_pending c [] ≡ true
     → step_keeps_pending (root_call c n) w (n ∷ []) ≡ true

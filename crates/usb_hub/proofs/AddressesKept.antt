@@ -1,7 +1,6 @@
 -- What the calls on devices and ports do to the addresses that devices hold.
 use Rattle.std.proofs.Common.{◌≡◌, ◌≢◌, ◌⊎◌, inl, inr, ◌∙◌, refl, sym, ap, subst, Bool, true, false}
-use Rattle.std.proofs.Common.{if◌then◌else◌}
-use Rattle.std.specs.Prelude.{ℕ, List, None, Some, option_map, Result, Ok, Err, OnOk}
+use Rattle.std.proofs.Common.{if◌then◌else◌, ℕ, List, None, Some, option_map, Result, Ok, Err, OnOk}
 use Rattle.std.specs.Global.{Vec}
 use Rattle.usb_request.specs.{PORT_ENABLE, PORT_RESET, PORT_POWER, SET_ADDRESS, DEVICE_OUT}
 use Rattle.usb_request.specs.{IsToHost, clear_hub_feature, Setup, get_port_status, set_port_feature}

@@ -1,21 +1,20 @@
 -- What calls on devices and at ports add to what is left to do.
-use Rattle.std.proofs.Common.{◌≡◌, ℕ, suc, inl, inr, true, false, List, [], ◌∷◌, ◌++◌, Result}
-use Rattle.std.proofs.Common.{refl, ap, sym, subst, ◌∙◌, arith}
+use Rattle.std.proofs.Common.{◌≡◌, ℕ, suc, inl, inr, true, false, List, [], ◌∷◌, ◌++◌, Result, refl}
+use Rattle.std.proofs.Common.{ap, sym, subst, ◌∙◌, arith, ◌≤◌, ◌==◌}
 use Rattle.std.proofs.lemmas.Bool.Decides.{nat_tests}
-use Rattle.std.proofs.Common.{◌≤◌, ◌==◌}
 use Rattle.std.specs.Global.{Vec}
 use Rattle.usb_request.specs.{PORT_OUT, SET_FEATURE, bytes_of, IsToHost, Setup}
 use Rattle.usb_port.specs.{PortCall, set_call}
 use Rattle.usb_device.specs.{Is, Location, path_to, State}
-use Rattle.usb_world.specs.{Attempt, Outcome, HolderIn, IsMade, IsSetup, AtPorts, Course}
-use Rattle.usb_world.specs.{Step, after, attempt, event, report, root_call, World}
+use Rattle.usb_world.specs.{Attempt, Outcome, HolderIn, IsMade, IsSetup, AtPorts, Course, Step}
+use Rattle.usb_world.specs.{after, attempt, event, report, root_call, World}
 use Rattle.usb_tree.specs.{IsSettled}
 use Rattle.usb_world.proofs.Interface.{Allows, course_joined, course_then, holder_or_nobody}
 use Rattle.usb_world.proofs.Interface.{made_of, settled_wider}
 use Rattle.usb_tree.proofs.Interface.{decided}
 use Rattle.usb_backlog.specs.{CoversCall, Few, KeepsAll, KeepsBy, PortMark, is_marked}
-use Rattle.usb_backlog.proofs.Interface.{Covers, KeepsStep, data_allows}
-use Rattle.usb_backlog.proofs.Interface.{holder_allows, keeps-attempt, keeps-chain, keeps-unheard}
+use Rattle.usb_backlog.proofs.Interface.{Covers, KeepsStep, data_allows, holder_allows}
+use Rattle.usb_backlog.proofs.Interface.{keeps-attempt, keeps-chain, keeps-unheard}
 use Rattle.usb_backlog.proofs.Interface.{payload_sets_none, request_sets_none, sets_none}
 use Rattle.usb_transaction.specs.{Target, AcceptedAt, AttemptLog, setup_attempt}
 use Rattle.usb_transaction.proofs.Interface.{trail_course}
@@ -37,9 +36,7 @@ module _ (m v r : PortMark) (few : Few v r) where
       → KeepsStep m v r few s w
   behind_step t (attempt a) w k h =
       λ ports. keeps-attempt m v r few a w ports (data_allows m r a w (no_set_up k refl refl) h)
-  behind_step t (root_call c n) w k h = elim k [ ]
-  behind_step t event w k h = elim k [ ]
-  behind_step t (report l) w k h = elim k [ ]
+  behind_step t _ w k h = elim k [ ]
 
   pub behind_keeps : (t : Target) {w x : World} → Course (IsBehind t) w x → IsSettled w.roots
       → Course (KeepsStep m v r few) w x

@@ -1,7 +1,6 @@
 -- Nothing is reached at a port that is not enabled, nor below it.
 use Rattle.std.proofs.Common.{◌≡◌, ◌&&◌, ℕ, zero, suc, Bool, true, false, List, [], ◌∷◌, ◌++◌}
-use Rattle.std.proofs.Common.{Option, None, Some, option_map, Ok, refl, ap, sym, subst, ◌∙◌}
-use Rattle.std.specs.Prelude.{IfSome}
+use Rattle.std.proofs.Common.{Option, None, Some, option_map, Ok, refl, ap, sym, subst, ◌∙◌, IfSome}
 use Rattle.usb_request.specs.{PORT_ENABLE}
 use Rattle.usb_port.specs.{PortState, PortStatus, ClearEnable, clear_call, called_port}
 use Rattle.usb_device.specs.{Ports, ended, vacant, taken, port_of, place, port_at, reach, reach_at}
@@ -23,23 +22,19 @@ Shut k p = IfSome (port_there k p) (λ b. b.enable ≡ false)
 reach_at-disabled : (k : Ports) (i : ℕ) (e r : List ℕ)
     → IfSome (port_at k i e) (λ b. b.enable ≡ false) → reach_at k i (e ++ r) ≡ false
 unfolding port_at reach_at
-reach_at-disabled ended i e r off = refl
-reach_at-disabled (vacant b k) zero e r off = refl
 reach_at-disabled (vacant b k) (suc i) e r off = reach_at-disabled k i e r off
 reach_at-disabled (taken b s a k) zero [] [] off = off
-reach_at-disabled (taken b s a k) zero [] (zero ∷ r) off = refl
 reach_at-disabled (taken b s a k) zero [] (suc m ∷ r) off = ap (λ x. x && reach_at a m r) off
-reach_at-disabled (taken b s a k) zero (zero ∷ e) r off = refl
 reach_at-disabled (taken b s a k) zero (suc m ∷ e) r off =
     ap (λ x. b.enable && x) (reach_at-disabled a m e r off) ∙ and_false b.enable
 reach_at-disabled (taken b s a k) (suc i) e r off = reach_at-disabled k i e r off
+reach_at-disabled _ _ _ _ off = refl
 
 shut_rest : (w : World) (q : List ℕ) (n : ℕ) (r : List ℕ) → Shut w.roots (q ++ (n ∷ []))
     → reach w.roots ((q ++ (n ∷ [])) ++ r) ≡ false
-shut_rest w [] zero r off = refl
 shut_rest w [] (suc i) r off = reach_at-disabled w.roots i [] r off
-shut_rest w (zero ∷ e) n r off = refl
 shut_rest w (suc j ∷ e) n r off = reach_at-disabled w.roots j (e ++ (n ∷ [])) r off
+shut_rest w _ _ r off = refl
 
 -- it passes nothing on
 pub shut_reach : (w : World) (q : List ℕ) (n : ℕ) → Shut w.roots (q ++ (n ∷ [])) → (x : List ℕ)

@@ -1,8 +1,7 @@
 -- Why a call at a hub's port fails.
 use Rattle.std.proofs.Common.{◌≡◌, ◌≢◌, ℕ, suc, ◌-◌, ◌==◌, ◌≤◌, ◌&&◌, ◌||◌, nat_le, not, inr, true}
-use Rattle.std.proofs.Common.{false, List, [], ◌∷◌, ◌++◌, length, slice_get, Option, None}
-use Rattle.std.proofs.Common.{Some, if◌then◌else◌, Result, Ok, Err, refl, ap, sym, subst, ◌∙◌}
-use Rattle.std.proofs.Common.{arith}
+use Rattle.std.proofs.Common.{false, List, [], ◌∷◌, ◌++◌, length, slice_get, Option, None, Some}
+use Rattle.std.proofs.Common.{if◌then◌else◌, Result, Ok, Err, refl, ap, sym, subst, ◌∙◌, arith}
 use Rattle.std.proofs.lemmas.Bool.Decides.{nat_tests}
 use Rattle.std.proofs.lemmas.Option.{same_Some}
 use Rattle.std.specs.Global.{Vec}

@@ -37,21 +37,19 @@ port_at_place (taken b s a k) zero (suc i ∷ p) = port_at_place a i p
 port_at_place (taken b s a k) (suc j) p = port_at_place k j p
 
 pub port_of_place : (k : Ports) (p : List ℕ) → port_there k p ≡ option_map port_of (place k p)
-port_of_place k [] = refl
-port_of_place k (zero ∷ p) = refl
 port_of_place k (suc j ∷ p) = port_at_place k j p
+port_of_place k _ = refl
 
 pub port_of_called : (c : PortCall) (o : Option Place)
     → option_map port_of (option_map (called c) o) ≡ option_map (called_port c)
     (option_map port_of o)
-port_of_called c None = refl
-port_of_called c (Some (empty b)) = refl
 port_of_called c (Some (full b s a)) = split (is_reset c && (b.power && is_attached b.attached))
   where
     split : (x : Bool) → Some (port_of (reset_where x (called_port c b) s a))
         ≡ Some (called_port c b)
     split true = refl
     split false = refl
+port_of_called c _ = refl
 
 -- a call again leaves what it left
 called_twice : (c : PortCall) (b : PortState) → called_port c (called_port c b) ≡ called_port c b
@@ -65,11 +63,7 @@ called_twice SetReset b = split (b.power && is_attached b.attached) refl
     split : (x : Bool) → (b.power && is_attached b.attached) ≡ x → reset (reset b) ≡ reset b
     split true e = rw (e, e) refl
     split false e = rw (e, e) refl
-called_twice ClearEnable b = refl
-called_twice ClearPower b = refl
-called_twice ClearConnectionChange b = refl
-called_twice ClearEnableChange b = refl
-called_twice ClearResetChange b = refl
+called_twice _ b = refl
 
 some_twice : (c : PortCall) (o : Option PortState)
     → option_map (called_port c) (option_map (called_port c) o) ≡ option_map (called_port c) o
@@ -162,9 +156,7 @@ module _ (p : List ℕ) (c : PortCall) where
   step_met : (s : Step) (w : World) → step_keeps_pending s w p ≡ true → has_power w.roots p ≡ true
       → Met s w
   step_met (attempt a) w sp on = attempt_met a w sp on
-  step_met (root_call d n) w sp on = same refl
-  step_met event w sp on = same refl
-  step_met (report line) w sp on = same refl
+  step_met _ w sp on = same refl
 
   -- the port after a step, by what stands there
   port_after : (s : Step) (w : World) (o : Option Place) → place (after s w).roots p ≡ o
@@ -276,30 +268,26 @@ told_stands p status old new x on = first (rests_or_pends p (x.before p) on)
 enabled_row : (k : Ports) (m : ℕ) (b : PortState) (s : State) → port_at k m [] ≡ Some b
     → b.enable ≡ true → state_at k m [] ≡ Some s → reach_at k m [] ≡ true
 unfolding port_at state_at reach_at
-enabled_row ended m b s there e at = absurd (cc at)
-enabled_row (vacant c k) zero b s there e at = absurd (cc at)
 enabled_row (vacant c k) (suc m) b s there e at = enabled_row k m b s there e at
 enabled_row (taken c t a k) zero b s there e at = ap (λ y. y.enable) (same_Some c b there) ∙ e
 enabled_row (taken c t a k) (suc m) b s there e at = enabled_row k m b s there e at
+enabled_row _ _ b s there e at = absurd (cc at)
 
 enabled_below : (k : Ports) (j : ℕ) (e : List ℕ) (n : ℕ) (b : PortState) (s : State)
     → reach_at k j e ≡ true → port_at k j (e ++ (n ∷ [])) ≡ Some b → b.enable ≡ true
-    → state_at k j (e ++ (n ∷ [])) ≡ Some s
-    → reach_at k j (e ++ (n ∷ [])) ≡ true
+    → state_at k j (e ++ (n ∷ [])) ≡ Some s → reach_at k j (e ++ (n ∷ [])) ≡ true
 unfolding port_at state_at reach_at
-enabled_below ended j e n b s on there h at = false_true on
-enabled_below (vacant c k) zero e n b s on there h at = false_true on
 enabled_below (vacant c k) (suc j) e n b s on there h at = enabled_below k j e n b s on there h at
 enabled_below (taken c t a k) zero [] zero b s on there h at = absurd (cc at)
 enabled_below (taken c t a k) zero [] (suc m) b s on there h at =
     and_of c.enable (reach_at a m []) on (enabled_row a m b s there h at)
-enabled_below (taken c t a k) zero (zero ∷ e) n b s on there h at = false_true on
 enabled_below (taken c t a k) zero (suc i ∷ e) n b s on there h at =
     let x : _ = both c.enable (reach_at a i e) on in
     and_of c.enable (reach_at a i (e ++ (n ∷ []))) x.0
     (enabled_below a i e n b s x.1 there h at)
 enabled_below (taken c t a k) (suc j) e n b s on there h at =
     enabled_below k j e n b s on there h at
+enabled_below _ _ _ n b s on there h at = false_true on
 
 pub enabled_reach : (w : World) (p : List ℕ) → OnReachedRow w p → (b : PortState)
     → port_there w.roots p ≡ Some b → b.enable ≡ true → (s : State) → state_there w.roots p ≡ Some s

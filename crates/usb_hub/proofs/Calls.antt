@@ -2,9 +2,8 @@
 -- is.
 use Rattle.std.proofs.Common.{◌≡◌, ◌≢◌, ℕ, zero, suc, ◌⊎◌, ◌||◌, inl, inr, not, Bool, true, false}
 use Rattle.std.proofs.Common.{List, [], ◌∷◌, ◌++◌, Option, None, Some, option_map, Result, Ok, Err}
-use Rattle.std.proofs.Common.{refl, ap, sym, subst, ◌∙◌, arith}
+use Rattle.std.proofs.Common.{refl, ap, sym, subst, ◌∙◌, arith, MatchResult}
 use Rattle.std.proofs.lemmas.Option.{same_Some}
-use Rattle.std.specs.Prelude.{MatchResult}
 use Rattle.usb_port.specs.{IsPath, IsPortNumber, PortState, PortCall, set_call, clear_call}
 use Rattle.usb_port.specs.{is_reset, IsSetFeature, IsClearFeature, SetPower}
 use Rattle.usb_request.specs.{setup_of, bytes_of, set_port_feature, clear_port_feature, Setup}
@@ -18,16 +17,16 @@ use Rattle.usb_world.specs.{at_attempt, Course, here, step as step_then, Attempt
 use Rattle.usb_world.specs.{ClearsRoot, World, Attempted}
 use Rattle.usb_tree.specs.{address_of, is_way, IsSettled, keeps_pending}
 use Rattle.usb_world.proofs.Interface.{course_joined, course_wider, made_of, same_is, settled_wider}
+use Rattle.usb_world.proofs.Interface.{Allows}
 use Rattle.usb_tree.proofs.Interface.{and_of, decided, equal_same, false_true, or_right}
 use Rattle.usb_transaction.specs.{Target, TransFault, Answerer, is_at, AcceptedAt, AttemptLog}
 use Rattle.usb_transaction.specs.{BusFailed, start, Transacted, in_attempt, setup_attempt}
 use Rattle.usb_transaction.specs.{AttemptsMade}
 use Rattle.usb_transaction.specs.declared.fault.TransFault.TheVariants as trans
 use Rattle.usb_transaction.proofs.Interface.{trail_course}
-use Rattle.usb_pipe.specs.{PipeFault, as_pipe_fault, FaultAfter, Writes, IsBehind}
-use Rattle.usb_pipe.specs.{IsNoBusFault, EffectDone, WriteLeaves}
-use Rattle.usb_pipe.specs.declared.fault.PipeFault.TheVariants.{Broken}
-use Rattle.usb_pipe.specs.declared.fault.PipeFault.TheVariants.{Bus}
+use Rattle.usb_pipe.specs.{PipeFault, as_pipe_fault, FaultAfter, Writes, IsBehind, IsNoBusFault}
+use Rattle.usb_pipe.specs.{EffectDone, WriteLeaves}
+use Rattle.usb_pipe.specs.declared.fault.PipeFault.TheVariants.{Broken, Bus}
 use Rattle.usb_pipe.proofs.Interface.{transacted_ended, who_writes, write_attempts, write_leaves}
 use Rattle.usb_address.specs.{AddressMap, LeavesPipe, MapHolds, WhileBusWorks}
 use Rattle.usb_address.proofs.Interface.{ClaimedAt, Fits, KeepsClaim, Resets, settled_attempt}
@@ -46,7 +45,6 @@ use Rattle.usb_backlog.specs.{CoversCall, KeepsAll, KeepsBy, KeepsCall, KeepsFou
 use Rattle.usb_backlog.specs.{ports_at, unmarked, gives_power}
 use Rattle.usb_backlog.proofs.Interface.{all_none, few-only, keeps-chain, keeps-root, ports_covered}
 use Rattle.usb_backlog.proofs.Interface.{root_allowed, sets_none}
-use Rattle.usb_world.proofs.Interface.{Allows}
 use Rattle.usb_hub.proofs.CallFailures.{same_port, call_served}
 use Rattle.usb_port.proofs.Interface.{call_is}
 
@@ -395,10 +393,9 @@ route f t q n request c asked old held alone own = pick (decided (is_reset c))
 sound_of : (k n : ℕ) (old new : World) (result : Result (Unit {0}) PipeFault) → IsNoBusFault result
     → MatchResult result (λ done. AttemptsMade k old new) (λ fault. FaultAfter n old fault new)
     → old.fault ≡ None
-sound_of k n old new (Ok u) s x = x.sound
 sound_of k n old new (Err Broken) s x = absurd x
 sound_of k n old new (Err (Bus fault)) s x = absurd s
-sound_of k n old new (Err fault) s x = x.sound
+sound_of k n old new _ s x = x.sound
 
 module _ (t : Target) (c : PortCall) (request : Setup) (f : AddressMap) (old : World)
     (result : Result (Unit {0}) PipeFault) (new : World)
@@ -518,8 +515,7 @@ module _ (port : HubPort) (hub : Target) (number : ℕ) (call : Option PortCall)
 
 pub hub_sets : (port : HubPort) (hub : Target) (number feature : ℕ) (old : World)
     (result : Result (Unit {0}) PipeFault) (new : World) → port ≡ External hub number
-    → IsSetFeature feature
-    → Commanded hub (set_port_feature feature number) old result new
+    → IsSetFeature feature → Commanded hub (set_port_feature feature number) old result new
     → CommandsPort port (set_call feature) old result new
 hub_sets port hub number feature old result new e named =
     hub_calls port hub number (set_call feature) (set_port_feature feature number)
@@ -527,8 +523,7 @@ hub_sets port hub number feature old result new e named =
 
 pub hub_clears : (port : HubPort) (hub : Target) (number feature : ℕ) (old : World)
     (result : Result (Unit {0}) PipeFault) (new : World) → port ≡ External hub number
-    → IsClearFeature feature
-    → Commanded hub (clear_port_feature feature number) old result new
+    → IsClearFeature feature → Commanded hub (clear_port_feature feature number) old result new
     → CommandsPort port (clear_call feature) old result new
 hub_clears port hub number feature old result new e named =
     hub_calls port hub number (clear_call feature) (clear_port_feature feature number)

@@ -62,13 +62,8 @@ keeps_devices_none w = record { stays = λ single. each_none StaysAs stays_itsel
 -- what asks nothing of the device itself
 abbrev pub IsOfPort : Outcome → Type 0
 IsOfPort stalled = Unit {0}
-IsOfPort (answers bytes) = ⊥
-IsOfPort (takes_address a) = ⊥
-IsOfPort (takes_configuration c) = ⊥
-IsOfPort (halts x) = ⊥
-IsOfPort (unhalts x) = ⊥
-IsOfPort (tells_port i) = ⊥
 IsOfPort (calls_port c i) = Unit {0}
+IsOfPort _ = ⊥
 
 pub called_of_port : (c : Option PortCall) (i : Option ℕ) → IsOfPort (called_at c i)
 called_of_port None i = tt

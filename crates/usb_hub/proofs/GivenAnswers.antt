@@ -3,8 +3,8 @@ use Rattle.usb_device.specs.{Location, Registers, Spec, Hub, State, Outcome, sta
 use Rattle.usb_device.specs.{text_asked, asked_hub_descriptor as hub_row, outcome, refused, reading}
 use Rattle.usb_device.specs.{ending, first_stage}
 use Rattle.std.proofs.Common.{◌≡◌, ℕ, ◌/◌, ◌%◌, ◌==◌, ◌≤◌, ◌<◌, Bool, true, false, List, slice_get}
-use Rattle.std.proofs.Common.{Option, None, Some, option_map, Result, Err, if◌then◌else◌, refl}
-use Rattle.std.proofs.Common.{ap, sym, ◌∙◌, arith}
+use Rattle.std.proofs.Common.{Option, None, Some, option_map, Result, Err, if◌then◌else◌, refl, ap}
+use Rattle.std.proofs.Common.{sym, ◌∙◌, arith}
 use Rattle.std.proofs.lemmas.Bool.Decides.{nat_tests}
 use Rattle.std.specs.Global.{Vec}
 use Rattle.usb_request.specs.{DEVICE, CONFIGURATION, STRING, HUB, GET_DESCRIPTOR, HUB_IN, IsToHost}
@@ -86,14 +86,13 @@ hub_outcome : AnswersRequest hub_given get_hub_descriptor
 unfolding outcome get_hub_descriptor
 hub_outcome spec g = split spec.stalls.hub spec.hub
   where
-    split : (b : Bool) (o : Option Hub)
-        → unless b (hub_row o (record {
-          request_type = HUB_IN;
-          request = GET_DESCRIPTOR;
-          value = descriptor_value HUB 0;
-          index = 0;
-          length = 9;
-        }))
+    split : (b : Bool) (o : Option Hub) → unless b (hub_row o (record {
+      request_type = HUB_IN;
+      request = GET_DESCRIPTOR;
+      value = descriptor_value HUB 0;
+      index = 0;
+      length = 9;
+    }))
         ≡ answer_of (unless_refused b (option_map (λ (hub : Hub). hub.descriptor) o))
     split b None = unless_given b None
     split b (Some hub) = unless_given b (Some hub.descriptor)

@@ -1,10 +1,8 @@
 -- What is told where a change was cleared.
-use Rattle.std.proofs.Common.{◌≡◌, ℕ, Result, Ok, Err, refl, subst}
-use Rattle.std.specs.Prelude.{IfErr}
+use Rattle.std.proofs.Common.{◌≡◌, ℕ, Result, Ok, Err, refl, subst, IfErr}
 use Rattle.usb_world.specs.{BusFault, World, Failed}
 use Rattle.usb_pipe.specs.{FaultAfter, PipeFault}
-use Rattle.usb_pipe.specs.declared.fault.PipeFault.TheVariants.{Stalled}
-use Rattle.usb_pipe.specs.declared.fault.PipeFault.TheVariants.{Bus}
+use Rattle.usb_pipe.specs.declared.fault.PipeFault.TheVariants.{Stalled, Bus}
 use Rattle.usb_hub.specs.{ToldBus, done_or_unknown, EndsAfter}
 
 -- where the bus gave up, it tells its fault

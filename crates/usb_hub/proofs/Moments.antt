@@ -1,20 +1,18 @@
 -- What was so of a port at a moment of a call on it.
 use Rattle.std.proofs.Common.{◌≡◌, ℕ, zero, suc, ◌-◌, ◌≤◌, true, false, List, [], ◌∷◌, ◌++◌}
-use Rattle.std.proofs.Common.{slice_get, slice_index_or, Some, option_map, Result, Ok, refl}
-use Rattle.std.proofs.Common.{ap, sym, subst, ◌∙◌, arith}
+use Rattle.std.proofs.Common.{slice_get, slice_index_or, Some, option_map, Result, Ok, refl, ap}
+use Rattle.std.proofs.Common.{sym, subst, ◌∙◌, arith}
 use Rattle.std.proofs.lemmas.Option.{same_Some, slice_get-get_or}
 use Rattle.std.specs.Global.{Vec}
-use Rattle.usb_port.specs.{IsPath, IsPortNumber, PortState, off, status_in, seen}
-use Rattle.usb_port.specs.{PortStatus}
+use Rattle.usb_port.specs.{IsPath, IsPortNumber, PortState, off, status_in, seen, PortStatus}
 use Rattle.usb_port.proofs.Interface.{status_seen}
-use Rattle.usb_request.specs.{setup_of, bytes_of, Setup, get_port_status, PORT_OUT}
-use Rattle.usb_request.specs.{SET_FEATURE}
-use Rattle.usb_device.specs.{Leaves, effect_of_request, asked_by_setup, Is, outcome, State}
-use Rattle.usb_device.specs.{acted, port_at, reach, Location, path_to, reach_on}
-use Rattle.usb_device.specs.{state_on, port_there, state_there}
+use Rattle.usb_request.specs.{setup_of, bytes_of, Setup, get_port_status, PORT_OUT, SET_FEATURE}
+use Rattle.usb_device.specs.{Leaves, effect_of_request, asked_by_setup, Is, outcome, State, acted}
+use Rattle.usb_device.specs.{port_at, reach, Location, path_to, reach_on, state_on, port_there}
+use Rattle.usb_device.specs.{state_there}
 use Rattle.usb_tree.specs.{address_of, IsSettled}
-use Rattle.usb_world.specs.{LeavesPortAlone, World, IsRootPort, root_row}
-use Rattle.usb_world.specs.{root_port_at as root_port, Course, here, Was}
+use Rattle.usb_world.specs.{LeavesPortAlone, World, IsRootPort, root_row, root_port_at as root_port}
+use Rattle.usb_world.specs.{Course, here, Was}
 use Rattle.usb_world.proofs.Interface.{same_is}
 use Rattle.usb_tree.proofs.Interface.{equal_same}
 use Rattle.usb_transaction.specs.{Target, Answerer, is_at, AcceptedAt, NoThreeDamaged}

@@ -2,8 +2,8 @@
 -- its address.
 use Rattle.std.proofs.Common.{◌≡◌, ℕ, inl, inr, true, false, List, Result, refl, ap, ◌∙◌}
 use Rattle.usb_request.specs.{bytes_of, Setup}
-use Rattle.usb_world.specs.{Attempt, is_harmless, AsksNothing, is_above, LeavesPortAlone}
-use Rattle.usb_world.specs.{Course, attempt, after, World, Made}
+use Rattle.usb_world.specs.{Attempt, is_harmless, AsksNothing, is_above, LeavesPortAlone, Course}
+use Rattle.usb_world.specs.{attempt, after, World, Made}
 use Rattle.usb_world.proofs.Interface.{course_joined, elsewhere, holder_or_nobody, made_of}
 use Rattle.usb_transaction.specs.{Target, setup_attempt}
 use Rattle.usb_pipe.specs.{PipeFault, Writes, IsNoBusFault}

@@ -1,6 +1,6 @@
 -- What root calls leave, for whoever calls them as a hub's port.
-use Rattle.std.proofs.Common.{◌≡◌, ◌∙◌, refl, sym, ap, subst, arith, true, length-set}
-use Rattle.std.specs.Prelude.{ℕ, ◌+◌, ◌-◌, ◌≤◌, Bool, length, List, Option, Ok}
+use Rattle.std.proofs.Common.{◌≡◌, ◌∙◌, refl, sym, ap, subst, arith, true, length-set, ℕ, ◌+◌, ◌-◌}
+use Rattle.std.proofs.Common.{◌≤◌, Bool, length, List, Option, Ok}
 use Rattle.usb_request.specs.{PORT_RESET}
 use Rattle.usb_port.specs.{PortState, set_call, clear_call, IsSetFeature, IsClearFeature}
 use Rattle.usb_world.specs.{World, AttemptsWithin, IsRootPort, root_row, changes, SetsRoot}

@@ -27,26 +27,22 @@ use Rattle.usb_hub.proofs.CalledPorts.{port_of_place, due_course}
 sane_place : (k : Ports) (j : ℕ) (p : List ℕ) (x : Place) → Consistent k → place_at k j p ≡ Some x
     → ConsistentPlace x
 unfolding Consistent ConsistentPlace place_at
-sane_place ended j p x h e = absurd (cc e)
 sane_place (vacant b k) zero [] x h e = subst ConsistentPlace (same_Some (empty b) x e) (h.0, h.1)
-sane_place (vacant b k) zero (n ∷ p) x h e = absurd (cc e)
 sane_place (vacant b k) (suc j) p x h e = sane_place k j p x h.2 e
 sane_place (taken b s a k) zero [] x h e = subst ConsistentPlace (same_Some (full b s a) x e)
     (h.0, h.1, h.2, h.4, h.5)
-sane_place (taken b s a k) zero (zero ∷ p) x h e = absurd (cc e)
 sane_place (taken b s a k) zero (suc i ∷ p) x h e = sane_place a i p x h.2 e
 sane_place (taken b s a k) (suc j) p x h e = sane_place k j p x h.3 e
+sane_place _ _ _ x h e = absurd (cc e)
 
 pub sane_there : (k : Ports) (p : List ℕ) (x : Place) → Consistent k → place k p ≡ Some x
     → ConsistentPlace x
-sane_there k [] x h e = absurd (cc e)
-sane_there k (zero ∷ p) x h e = absurd (cc e)
 sane_there k (suc j ∷ p) x h e = sane_place k j p x h e
+sane_there k _ x h e = absurd (cc e)
 
 pub state_of_place : (k : Ports) (p : List ℕ) → state_there k p ≡ stands (place k p)
-state_of_place k [] = refl
-state_of_place k (zero ∷ p) = refl
 state_of_place k (suc j ∷ p) = sym (state_stands k j p)
+state_of_place k _ = refl
 
 -- a powered port of a row that is live is live, and its change of connection is pending
 
@@ -106,8 +102,7 @@ module _ (q : List ℕ) (n : ℕ) where
           (sym (port_of_place m p ∙ ap (option_map port_of) s) ∙ o.there)) ∙ o.off
 
       alive : (x : Place) → place m p ≡ Some x → port_of (called SetPower x) ≡ powered_on
-          (port_of x)
-          → (has_power v.roots p ≡ true)
+          (port_of x) → (has_power v.roots p ≡ true)
           × ((powered_on (port_of x)).connection_changed ≡ true → pending v.roots p ≡ true)
       alive x s is = live_there v.roots q n (powered_on (port_of x)) sane_after on
           (port_of_place v.roots p ∙ ap (option_map port_of) (e
@@ -173,9 +168,7 @@ module _ (q : List ℕ) (n : ℕ) where
   step_finds : (s : Step) (w : World) → WorldInvariant w → resets s w q ≡ false
       → row_reached (after s w).roots q ≡ true → Off w.roots → Finds s w
   step_finds (attempt a) w between rests on o = attempt_finds a w between rests on o
-  step_finds (root_call c m) w between rests on o = finds o between.sane
-  step_finds event w between rests on o = finds o between.sane
-  step_finds (report line) w between rests on o = finds o between.sane
+  step_finds _ w between rests on o = finds o between.sane
 
   off_as : (k v : Ports) → port_there v p ≡ port_there k p → Off k → Off v
   off_as k v e o = record { port = o.port; there = e ∙ o.there; off = o.off }

@@ -27,9 +27,7 @@ no_set_up (inr e) f g = ap (λ y. is_setup y.kind) e ∙ g
 pub behind_rests : (t : Target) (x : List ℕ) (s : Step) (w : World) → IsBehind t s w
     → IsSettled w.roots → LeavesPortAlone x s w
 behind_rests t x (attempt a) w k h = data_asks_nothing a w x (no_set_up k refl refl) h
-behind_rests t x (root_call c n) w k h = elim k [ ]
-behind_rests t x event w k h = elim k [ ]
-behind_rests t x (report l) w k h = elim k [ ]
+behind_rests t x _ w k h = elim k [ ]
 
 pub behind_asks_nothing : (t : Target) (x : List ℕ) {w v : World} → Course (IsBehind t) w v
     → IsSettled w.roots → Course (LeavesPortAlone x) w v

@@ -48,8 +48,7 @@ module _ (t : Target) (request : Setup) (old new : World) (j : Location) (s v : 
     → v.registers ≡ (accepted s row request).registers → Q)
     (ends : (row : List PortState) (address : Option ℕ)
     → first_stage row request.length (outcome s.spec s.registers request) ≡ ending address
-    → OnlyControl (accepted s row request) v → StatusGiven address (accepted s row request) v
-    → Q)
+    → OnlyControl (accepted s row request) v → StatusGiven address (accepted s row request) v → Q)
     (rests : OnlyControl s v → v.registers ≡ s.registers → Q) where
   failed_so : (fault : PipeFault) → EffectOrNone t request fault old j s v → Q
   failed_so fault (none frame same) = rests frame same

@@ -23,11 +23,9 @@ whole_status b = refl
 
 pub row_port : (k : Ports) (i : ℕ) → port_at k i [] ≡ slice_get (row_of k) i
 unfolding port_at row_of
-row_port ended i = refl
-row_port (vacant b k) zero = refl
 row_port (vacant b k) (suc i) = row_port k i
-row_port (taken b s a k) zero = refl
 row_port (taken b s a k) (suc i) = row_port k i
+row_port _ _ = refl
 
 -- The status of a port
 

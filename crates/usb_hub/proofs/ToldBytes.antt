@@ -64,8 +64,7 @@ said_could read size spec (Ok bytes) could = split (length bytes.items == size)
     split : (b : Bool) → CanEnd spec (said_by read b bytes)
     split true = could
     split false = could
-said_could read size spec (Err Stalled) could = could
-said_could read size spec (Err fault) could = could
+said_could read size spec _ could = could
 
 -- The status of a device (9.4.5)
 

@@ -1,7 +1,7 @@
 -- How a course goes on at each call.
 use Rattle.std.proofs.Common.{◌≡◌, ◌≢◌, ◌∙◌, ℕ, zero, suc, ◌+◌, ◌≤◌, ◌<◌, ◌⊎◌, inl, inr, List}
 use Rattle.std.proofs.Common.{Option, Some, None, Result, Ok, Err, refl, sym, ap, subst, arith}
-use Rattle.std.specs.Prelude.{Bool, is_ok, true, false, nat_lt, if◌then◌else◌}
+use Rattle.std.proofs.Common.{Bool, is_ok, true, false, nat_lt, if◌then◌else◌}
 use Rattle.std.proofs.lemmas.Bool.{cases_lt}
 use Rattle.arrayvec.specs.ArrayVec.{ArrayVec}
 use Rattle.usb_packet.specs.{Toggle, Zero, One, TokenKind, OutTok, InTok, SetupTok}
@@ -171,8 +171,7 @@ calls_by r0 r1 w0 w1 j k port (Some call) c sound h =
 
 pub call_on : {R W : Type 0} (rem : R → Option (List ℕ)) (con : W → Option (List ℕ)) (limit : ℕ)
     (u b : Option (List ℕ)) (old new : StreamBus R W) (st : Stage)
-    (ow : Owed) (port : ℕ) (call : Option PortCall)
-    → ((kept_of old).fault ≢ None → new ≡ old)
+    (ow : Owed) (port : ℕ) (call : Option PortCall) → ((kept_of old).fault ≢ None → new ≡ old)
     → ((kept_of old).fault ≡ None → Calls port call
     (streams (unread_of rem old) (unread_of rem new) (written_of con old)
     (written_of con new)) (kept_of old) (kept_of new))
@@ -264,8 +263,7 @@ wait_on rem con limit u b old new st result None is again asks c =
 told_on : {st : Stage} {o : Owed} {limit : ℕ} {u b : Option (List ℕ)} (r w0 w1 : Option (List ℕ))
     (j k : Kept) (number : ℕ) (item : Item)
     (result : Result (Unit {0}) LiveFault) → CourseTo st o limit u b r w0 j → j.fault ≡ None
-    → k.left ≡ j.left → settles o item ≡ true
-    → WritesLines (told_text number item) w0 w1 j result k
+    → k.left ≡ j.left → settles o item ≡ true → WritesLines (told_text number item) w0 w1 j result k
     → CourseTo Asks (owed_left o result) limit u b r w1 k
 told_on r w0 w1 j k number item result c sound same fits h = record {
   asked = c.asked;
@@ -354,8 +352,7 @@ tells_off r w0 w1 j k number item (Err f) bad c sound fits h =
 pub tell_off : {R W : Type 0} (rem : R → Option (List ℕ)) (con : W → Option (List ℕ)) (limit : ℕ)
     (u b : Option (List ℕ)) (old new : StreamBus R W) (st : Stage)
     (ow : Owed) (number : ℕ) (item : Item) (text : List ℕ) (result : Result (Unit {0}) LiveFault)
-    → is_ok result ≡ false
-    → text ≡ told_text number item → settles ow item ≡ true
+    → is_ok result ≡ false → text ≡ told_text number item → settles ow item ≡ true
     → ((f : LiveFault) → (kept_of old).fault ≡ Some f → (result ≡ Err f) × (new ≡ old))
     → unread_of rem new ≡ unread_of rem old
     → ((kept_of old).fault ≡ None → WritesLines text (written_of con old) (written_of con new)
@@ -422,8 +419,7 @@ opens {limit} u r b w k h = subst (λ (x : Kept). CourseTo Asks owed.Nothing lim
 pub lives : {st : Stage} {o : Owed} {limit : ℕ} {u b r w : Option (List ℕ)} {k : Kept}
     (fault : Option LiveFault) (lines : ℕ)
     (ended : Result (Unit {0}) LiveEnd) → fault ≡ k.fault → lines ≡ k.lines
-    → EndsBy fault lines st ended
-    → CourseTo st o limit u b r w k → Lives limit u r b w ended
+    → EndsBy fault lines st ended → CourseTo st o limit u b r w k → Lives limit u r b w ended
 lives {st} {o} {limit} {u} {b} {r} {w} {k} fault lines (Ok done) is same by c =
     let few = c.few in
     let over = subst (λ (s : Stage). StandsAtStage s limit u b r w k c.asked) by.1 c.at in

@@ -70,8 +70,7 @@ kept_where-some fits_form s r e =
     (same, subst (λ (q : Outgoing × List ℕ). fits_form q.0.packet ≡ true) same h))
 
 host_data_in-some : (pre : Bool) (text : List ℕ) (r : Outgoing × List ℕ)
-    → host_data_in pre text ≡ Some r
-    → NextAs pre text r × (is_data_packet r.0.packet ≡ true)
+    → host_data_in pre text ≡ Some r → NextAs pre text r × (is_data_packet r.0.packet ≡ true)
 unfolding host_data_in
 host_data_in-some pre text r e =
     option_and_then_some (kept_where is_data_packet) (next_in pre text) r e (λ s first e.
@@ -110,8 +109,7 @@ answer_in-some text r e =
     )))))
 
 payload_if-some : (sends pre : Bool) (text : List ℕ) (r : Option Outgoing × List ℕ)
-    → payload_if sends pre text ≡ Some r
-    → (text ≡ next_text pre r.0 ++ r.1) × (is_some r.0 ≡ sends)
+    → payload_if sends pre text ≡ Some r → (text ≡ next_text pre r.0 ++ r.1) × (is_some r.0 ≡ sends)
     × IfSome r.0 (λ s. IsSent pre s × (is_data_packet s.packet ≡ true))
 payload_if-some false pre text r e =
     subst (λ (r : Option Outgoing × List ℕ). (text ≡ next_text pre r.0 ++ r.1)
@@ -125,8 +123,7 @@ payload_if-some true pre text r e =
     × (is_data_packet s.packet ≡ true))) is (own.0.0, refl, (own.0.1, own.1)))
 
 reply_if-some : (pre : Bool) (text : List ℕ) (r : Option Outgoing × List ℕ)
-    → reply_if pre text ≡ Some r
-    → (text ≡ next_text pre r.0 ++ r.1) × IfSome r.0 (λ s. IsSent pre s
+    → reply_if pre text ≡ Some r → (text ≡ next_text pre r.0 ++ r.1) × IfSome r.0 (λ s. IsSent pre s
     × (is_ack_packet s.packet ≡ true))
 reply_if-some pre [] r e =
     subst (λ (r : Option Outgoing × List ℕ). ([] ≡ next_text pre r.0 ++ r.1)

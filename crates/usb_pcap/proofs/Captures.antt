@@ -3,6 +3,7 @@ use Rattle.std.proofs.Common.{◌≡◌, ◌≢◌, ◌==◌, inl, inr, ℕ, ◌
 use Rattle.std.proofs.Common.{Bool, true, false, List, [], ◌∷◌, ◌++◌, length, take, drop, Option}
 use Rattle.std.proofs.Common.{Some, None, IfSome, Result, Ok, Err, get_or, is_err, OnOk, refl, sym}
 use Rattle.std.proofs.Common.{ap, subst, ◌∙◌, arith, append_assoc, append-nil, length-append}
+use Rattle.std.proofs.Common.{IsErrOf}
 use Rattle.arrayvec.specs.ArrayVec.{ArrayVec}
 use Rattle.std.proofs.lemmas.List.{take_more, take-append-drop, length-take, take-append-le}
 use Rattle.std.proofs.lemmas.List.{take_all}
@@ -10,7 +11,6 @@ use Rattle.std.proofs.lemmas.List.Elements.{All-nil, All-push}
 use Rattle.std.proofs.lemmas.Bool.{eqb-true, ltb-true}
 use Rattle.std.proofs.lemmas.Bool.Decides.{nat_tests}
 use Rattle.std.proofs.KnownBytes.{Appends-trans, Consumes-trans}
-use Rattle.std.specs.Prelude.{IsErrOf}
 use Rattle.std.specs.Io.KnownBytes.{Appends, Consumes, IsAtEnd}
 use Rattle.usb_bus.specs.{AppendsFront}
 use Rattle.usb_bus.proofs.Interface.{front_after_first}
@@ -59,8 +59,7 @@ taken_long k line front b e full =
     )
 
 pub stands_first : (w now : Option (List ℕ)) (s : OpenLine) → Appends w now header → s.number ≡ 1
-    → s.front.items ≡ [] → s.is_long ≡ false
-    → StandsBehind w now [] s
+    → s.front.items ≡ [] → s.is_long ≡ false → StandsBehind w now [] s
 stands_first w now s h number front long = record {
   n = 0;
   front = [];
@@ -78,8 +77,7 @@ stands_first w now s h number front long = record {
 stands_on : (w now : Option (List ℕ)) (text : List ℕ) (b : ℕ) (s t : OpenLine) → b ≢ 10
     → (h : StandsBehind w now text s) → t.number ≡ s.number
     → t.front.items ≡ take longest (h.line ++ b ∷ [])
-    → t.is_long ≡ nat_lt longest (length (h.line ++ b ∷ []))
-    → StandsBehind w now (text ++ b ∷ []) t
+    → t.is_long ≡ nat_lt longest (length (h.line ++ b ∷ [])) → StandsBehind w now (text ++ b ∷ []) t
 stands_on w now text b s t other h number begins long = record {
   n = h.n;
   front = h.front;
@@ -247,8 +245,7 @@ stopped w now text rest s h = (
 )
 
 pub read_failed : (a b w now : Option (List ℕ)) (done : List ℕ) (s : OpenLine) → Consumes a b done
-    → StandsBehind w now done s
-    → IfSome a (λ text. Captures w now text (Err Read))
+    → StandsBehind w now done s → IfSome a (λ text. Captures w now text (Err Read))
 read_failed None b w now done s e h = tt
 read_failed (Some text) None w now done s e h = absurd e
 read_failed (Some text) (Some rest) w now done s e h =

@@ -174,13 +174,7 @@ plug_more line tail (
         p,
         behind ++ tail,
         is_p,
-        (
-          b,
-          last ++ tail,
-          is_b,
-          (name ++ tail, [], some_more name tail some, refl, four),
-          three,
-        ),
+        (b, last ++ tail, is_b, (name ++ tail, [], some_more name tail some, refl, four), three),
         two,
       ),
       one,
@@ -213,13 +207,7 @@ plug_front line (
   a,
   after,
   is_a,
-  (
-    p,
-    behind,
-    is_p,
-    (b, last, is_b, (name, none, some, over, e4), e3),
-    e2,
-  ),
+  (p, behind, is_p, (b, last, is_b, (name, none, some, over, e4), e3), e2),
   e1,
 ) =
     let (d, ports, digit, are, e) = is_p in

@@ -148,10 +148,8 @@ item-some Letter item (inl (c, fit, e)) = rw e (omega arith)
 item-some Letter item (inr (a, b, c, d, fit, e)) = rw e (omega arith)
 
 items_step : (kind : Item) (n : ℕ) (text : List ℕ) (found : Option (List ℕ))
-    → behind_item kind text ≡ found
-    → ((t : List ℕ) → (items : List ℕ) × AreUnits kind n items
-    × (t ≡ items ++ behind_items kind n t))
-    → (items : List ℕ) × AreUnits kind (suc n) items
+    → behind_item kind text ≡ found → ((t : List ℕ) → (items : List ℕ) × AreUnits kind n items
+    × (t ≡ items ++ behind_items kind n t)) → (items : List ℕ) × AreUnits kind (suc n) items
     × (text ≡ items ++ elim found [ None ↦ text | Some rest ↦ behind_items kind n rest ])
 items_step kind n text None e more = ([], inl refl, refl)
 items_step kind n text (Some rest) e more =

@@ -15,8 +15,7 @@ four_parts a b c d e w x y z p q r s = s
 
 pub one_record : (number : ℕ) (packet : Packet) (mark : Mark)
     (before middle after spelling written : List ℕ) (size : ℕ) → Spells spelling packet
-    → HasBit mark spelling
-    → written ≡ damaged mark spelling → size ≡ length spelling
+    → HasBit mark spelling → written ≡ damaged mark spelling → size ≡ length spelling
     → middle ≡ before ++ record_head number size → after ≡ middle ++ written
     → AppendsRecords number ((packet, mark) ∷ []) before after
 one_record number packet mark before middle after spelling written size spells bit is long head

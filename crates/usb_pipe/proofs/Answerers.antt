@@ -1,9 +1,8 @@
 -- Who answered a transfer: a device that had the target's address all along, and is still
 -- reachable.
 use Rattle.std.specs.Global.{Vec}
-use Rattle.std.specs.Prelude.{Result, Ok, Err}
 use Rattle.std.proofs.Common.{◌≡◌, ℕ, true, false, List, Option, None, Some, refl, sym, subst, ◌∙◌}
-use Rattle.std.proofs.Common.{◌≢◌, ap, ◌⊎◌, inl, inr, [], take}
+use Rattle.std.proofs.Common.{◌≢◌, ap, ◌⊎◌, inl, inr, [], take, Result, Ok, Err}
 use Rattle.arrayvec.specs.ArrayVec.{ArrayVec}
 use Rattle.usb_packet.specs.{Toggle, One, flips}
 use Rattle.usb_request.specs.{bytes_of, setup_of, IsToHost, Setup}
@@ -63,8 +62,7 @@ passed_one : {t : Target} {hear : _} {a : Attempt} {old new : World}
     → ((j : Location) (s v : State) → R j s v → is_at s t ≡ false → v ≡ s)
     → (IsSettled old.roots → new.shared ≡ false → (j : Location) (s : State)
     → reach_on new.roots j ≡ true → state_on new.roots j ≡ Some s → is_at s t ≡ true
-    → Was R old j s)
-    → TransactionDone hear a old result new → Passed t old new
+    → Was R old j s) → TransactionDone hear a old result new → Passed t old new
 passed_one {t} {old = old} R others each e = record {
   settled = ended_settled e;
   unshared = ended_unshared e;
@@ -282,8 +280,7 @@ who_write_had t request why old new same addressed settled y (inr x) single =
 -- where bytes went there is a last packet
 gone_answered : (t : Target) (ep : ℕ) (first : Toggle) {old : World} {n : ℕ} {sent : List ℕ}
     {new : World} → IsSettled old.roots → Gave t ep first old n sent new → sent ≢ []
-    → new.shared ≡ false
-    → Answerer t old new
+    → new.shared ≡ false → Answerer t old new
 gone_answered t ep first settled moves.start some single = absurd (some refl)
 gone_answered t ep first {new} settled (moves.packet {n} {mid} bytes g full more fits puts) some
     single =
@@ -300,8 +297,7 @@ who_sends bytes pipe u left old new some x single =
     pipe.toggle s.settled s.went.gone some single)
 
 pub who_receives : (wanted : ℕ) (pipe : Bulk) (bytes : Vec ℕ) (left : Bulk) (old new : World)
-    → wanted ≢ 0
-    → Receives wanted pipe old (Ok bytes) left new → new.shared ≡ false
+    → wanted ≢ 0 → Receives wanted pipe old (Ok bytes) left new → new.shared ≡ false
     → Answerer pipe.target old new
 who_receives wanted pipe bytes left old new some x single =
     let works : pipe.condition ≢ Broken = λ e. cc (x.broken e).0 in

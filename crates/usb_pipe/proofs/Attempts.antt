@@ -151,9 +151,7 @@ module _ (t : Target) (request : Setup) where
       (λ o w r on. inr (inl refl)) why x.fault x.told (asked_first x.set_up) x.status
 
 pub clear_attempts : (pipe : Bulk) (result : Result (Unit {0}) PipeFault) (left : Bulk)
-    (old new : World)
-    → Clears pipe old result left new
-    → TransferAttempts (IsOfTransfer pipe.target
+    (old new : World) → Clears pipe old result left new → TransferAttempts (IsOfTransfer pipe.target
     (clear_endpoint_halt (halt_address pipe.ep pipe.is_in))) old result new
 clear_attempts pipe result left old new x =
     clear_by _ (λ ready i. idle_kind i.world_kept (λ f e. cc (i.answer, e)))
@@ -188,8 +186,7 @@ moved_attempts t ep first wanted (Err why) old new (inr x) =
     }
 
 pub receive_attempts : (wanted : ℕ) (pipe : Bulk) (result : Result (Vec ℕ) PipeFault) (left : Bulk)
-    (old new : World)
-    → Receives wanted pipe old result left new
+    (old new : World) → Receives wanted pipe old result left new
     → TransferAttempts (IsOnly (in_attempt (packet_target pipe.target pipe.max) pipe.ep)) old
     result new
 receive_attempts wanted pipe result left old new x =
@@ -283,8 +280,7 @@ module _ (t : Target) (ep : ℕ) (first : Toggle) (total : List ℕ) (old : Worl
       (gave_course x.before x.rest x.split (λ lt. x.full)) x.lost
 
 pub send_attempts : (bytes : List ℕ) (pipe : Bulk) (result : Result (Unit {0}) PipeFault)
-    (left : Bulk) (old new : World)
-    → Sends bytes pipe old result left new
+    (left : Bulk) (old new : World) → Sends bytes pipe old result left new
     → TransferAttempts (SendsAt (packet_target pipe.target pipe.max) pipe.ep pipe.toggle bytes
     old) old result new
 send_attempts bytes pipe result left old new x =

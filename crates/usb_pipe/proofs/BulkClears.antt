@@ -267,8 +267,7 @@ failed_source : (pipe : Bulk) (got : ℕ) (s v : State) → InPipeInSync pipe go
 failed_source pipe got s v f o = grind arith
 
 failed_leaves : (pipe : Bulk) (why : PipeFault) (old new : World) → FaultAfter 1 old why new
-    → (j : Location) (s v : State)
-    → WriteLeaves pipe.target (clear_of pipe) (Err why) old new j s v
+    → (j : Location) (s v : State) → WriteLeaves pipe.target (clear_of pipe) (Err why) old new j s v
     → ClearLeaves pipe (Err why) (cleared pipe (Err why)) j s v
 failed_leaves pipe why old new ends j s v x = record {
   others = x.others;
@@ -314,8 +313,7 @@ not_ready c n = grind arith
 -- A call
 
 pub clear_leaves : (pipe : Bulk) (result : Result (Unit {0}) PipeFault) (left : Bulk)
-    (old new : World)
-    → Clears pipe old result left new → new.shared ≡ false
+    (old new : World) → Clears pipe old result left new → new.shared ≡ false
     → EachWas (ClearLeaves pipe result left) old new
 clear_leaves pipe result left old new x single =
     clear_by (EachWas (ClearLeaves pipe result left) old new)

@@ -4,9 +4,9 @@ use Rattle.usb_device.specs.{Location, advanced, State, IsSink, SinkAt, level, a
 use Rattle.usb_device.specs.{OnlySink, IsSource, SourceAt, OnlySource}
 use Rattle.std.proofs.Common.{◌≡◌, ◌≢◌, ◌∙◌, ◌⊎◌, inl, inr, refl, sym, ap, subst, arith, false}
 use Rattle.std.proofs.Common.{true, ℕ, ◌+◌, ◌-◌, ◌*◌, ◌<◌, ◌≤◌, List, [], ◌++◌, length, take, drop}
-use Rattle.std.proofs.Common.{Result, Ok, Err, OnOk}
-use Rattle.std.proofs.Common.{append_assoc, append-nil, drop-drop, length-append, length-drop}
-use Rattle.std.proofs.Common.{length-take, mul-le-mul_right, take-add, take-append-drop}
+use Rattle.std.proofs.Common.{Result, Ok, Err, OnOk, append_assoc, append-nil, drop-drop}
+use Rattle.std.proofs.Common.{length-append, length-drop, length-take, mul-le-mul_right, take-add}
+use Rattle.std.proofs.Common.{take-append-drop}
 use Rattle.std.specs.Global.{Vec}
 use Rattle.std.specs.Int.{div_ceil}
 use Rattle.std.proofs.lemmas.List.{take_min}
@@ -21,9 +21,8 @@ use Rattle.usb_transaction.specs.{in_attempt, out_attempt}
 use Rattle.usb_transaction.specs.declared.fault.TransFault.TheVariants as trans
 use Rattle.usb_transaction.proofs.Interface.{at_kept, listens_on, others_stay_then, sink_between}
 use Rattle.usb_transaction.proofs.Interface.{sink_kept, sink_leaves, sink_over, sink_why}
-use Rattle.usb_transaction.proofs.Interface.{trail_unshared, transacted_unshared}
-use Rattle.usb_transaction.proofs.Interface.{source_at_kept, source_kept, source_leaves}
-use Rattle.usb_transaction.proofs.Interface.{source_over, source_why}
+use Rattle.usb_transaction.proofs.Interface.{trail_unshared, transacted_unshared, source_at_kept}
+use Rattle.usb_transaction.proofs.Interface.{source_kept, source_leaves, source_over, source_why}
 use Rattle.usb_pipe.specs.declared.condition.Condition.TheVariants.{Ready, Halted, Broken}
 use Rattle.usb_pipe.specs.{PipeFault, Bulk, after_fault, after_transfer, MovedOut, Sends, MovedIn}
 use Rattle.usb_pipe.specs.{Receives, PacketsSent, PacketsReceived, FaultAfter, as_pipe_fault}
@@ -234,8 +233,7 @@ sent_leaves bytes pipe (Err why) left old new works some x single =
     (Err g.fault) g.mid new began g.lost single)
 
 pub send_leaves : (bytes : List ℕ) (pipe : Bulk) (result : Result (Unit {0}) PipeFault)
-    (left : Bulk) (old new : World)
-    → Sends bytes pipe old result left new → new.shared ≡ false
+    (left : Bulk) (old new : World) → Sends bytes pipe old result left new → new.shared ≡ false
     → EachWas (SendLeaves bytes pipe result left) old new
 send_leaves bytes pipe result left old new x single =
     send_by (EachWas (SendLeaves bytes pipe result left) old new)
@@ -251,8 +249,7 @@ lost_send : (pipe : Bulk) (n : ℕ) (sent rest : List ℕ) (why : PipeFault) (fa
     → why ≡ as_pipe_fault fault → (j : Location) (s u v : State)
     → GaveLeaves (end_of pipe) pipe.ep pipe.toggle n sent j s u
     → SinkOutFailure (end_of pipe) pipe.ep (flips n pipe.toggle) (take pipe.max rest)
-    (Err fault) j u v
-    → SendFailure pipe (Err why) j s v
+    (Err fault) j u v → SendFailure pipe (Err why) j s v
 lost_send pipe n sent rest why fault told j s u v x y = record {
   answered = λ l i e. y.answered (hears l i) pipe.max (sink_then x i) (fits_packet pipe.max rest)
       (fell_same_fault (Unit {0}) why fault trans.NoAnswer told e);
@@ -406,8 +403,7 @@ module _ (t : Target) (ep : ℕ) (first : Toggle) (least : 1 ≤ t.max) {old : W
   -- and one more, full or not
   came_on : {n : ℕ} {got last : List ℕ} {mid new : World} → Came t ep first old n got mid
       → TransactionDone (heard_as (flips n first)) (in_attempt t ep) mid (Ok last) new
-      → new.shared ≡ false
-      → EachWas (CameLeaves t ep first (n + 1) (got ++ last)) old new
+      → new.shared ≡ false → EachWas (CameLeaves t ep first (n + 1) (got ++ last)) old new
   came_on {n} {got} {last} {mid} {new} c fetches single =
       each_joined _ _ _ (came_then t ep first n got last least) old mid new
       (came_leaves c (ended_unshared fetches single))
@@ -461,8 +457,7 @@ lost_came old new pipe left why ends e j s v others frame halted =
 -- a call that makes no attempt
 idle_came : (pipe : Bulk) (result : Result (Vec ℕ) PipeFault) → pipe_known result pipe ≡ pipe
     → came_with result ≡ 0 → ((bytes : Vec ℕ) → result ≡ Ok bytes → bytes.items ≡ [])
-    → (j : Location) (s : State)
-    → ReceiveLeaves pipe result pipe j s s
+    → (j : Location) (s : State) → ReceiveLeaves pipe result pipe j s s
 idle_came pipe result same size none j s = grind (arith, none)
 
 -- a packet that did not come, behind others that did
@@ -555,8 +550,7 @@ module _ (wanted : ℕ) (pipe left : Bulk) (old new : World) (least : 1 ≤ pipe
           (came_on (end_of pipe) pipe.ep pipe.toggle least x.settled g.before g.came single)
 
 pub receive_leaves : (wanted : ℕ) (pipe : Bulk) (result : Result (Vec ℕ) PipeFault) (left : Bulk)
-    (old new : World) → 1 ≤ pipe.max
-    → Receives wanted pipe old result left new → new.shared ≡ false
+    (old new : World) → 1 ≤ pipe.max → Receives wanted pipe old result left new → new.shared ≡ false
     → EachWas (ReceiveLeaves pipe result left) old new
 receive_leaves wanted pipe result left old new least x single =
     receive_by (EachWas (ReceiveLeaves pipe result left) old new)
@@ -617,8 +611,7 @@ pub sends_by : (bytes : List ℕ) (pipe : Bulk) (old : World) (result : Result (
     left.toggle new → left ≡ record pipe {
       toggle = left.toggle;
       condition = after_transfer pipe.condition result;
-    }
-    → IsSettled old.roots → Sends bytes pipe old result left new
+    } → IsSettled old.roots → Sends bytes pipe old result left new
 sends_by bytes pipe old result left new works some x is settled = record {
   broken = λ e. absurd (works e);
   nothing = λ w e. absurd (some e);
@@ -640,8 +633,7 @@ pub receives_by : (wanted : ℕ) (pipe : Bulk) (old : World) (result : Result (V
     left.toggle new → left ≡ record pipe {
       toggle = left.toggle;
       condition = after_transfer pipe.condition result;
-    }
-    → IsSettled old.roots → Receives wanted pipe old result left new
+    } → IsSettled old.roots → Receives wanted pipe old result left new
 receives_by wanted pipe old result left new works some x is settled = record {
   broken = λ e. absurd (works e);
   nothing = λ w e. absurd (some e);

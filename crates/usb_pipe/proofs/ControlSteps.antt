@@ -1,8 +1,7 @@
 -- The transactions of a control transfer: what each leaves of each device, and how they join.
-use Rattle.std.specs.Prelude.{Result, Ok, Err}
 use Rattle.std.proofs.Common.{◌≡◌, ℕ, ◌+◌, nat_le, ◌&&◌, if◌then◌else◌, Bool, true, false, List}
 use Rattle.std.proofs.Common.{length, Option, None, Some, is_some, refl, sym, subst, ◌∙◌, ◌≢◌, zero}
-use Rattle.std.proofs.Common.{suc, ◌%◌, ◌==◌, not, ap, arith, ◌<◌, ◌≤◌, []}
+use Rattle.std.proofs.Common.{suc, ◌%◌, ◌==◌, not, ap, arith, ◌<◌, ◌≤◌, [], Result, Ok, Err}
 use Rattle.std.proofs.lemmas.Bool.Decides.{nat_tests}
 use Rattle.std.proofs.lemmas.Option.{same_Some}
 use Rattle.usb_packet.specs.{Toggle, Zero, One, other, flips}

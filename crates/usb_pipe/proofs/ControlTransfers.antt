@@ -1,12 +1,12 @@
 -- Control transfers: what each leaves of each device, why it fails, which address losses it counts,
 -- and what its call tells.
 use Rattle.std.specs.Global.{Vec}
-use Rattle.std.specs.Prelude.{Result, Ok, Err, slice_get, slice_index, ◌-◌, OnOk, IfOk, MatchResult}
 use Rattle.std.specs.Result.{IsErr, IsErrAnd}
 use Rattle.std.proofs.Common.{◌≡◌, ℕ, ◌+◌, nat_le, ◌&&◌, if◌then◌else◌, Bool, true, false, List}
 use Rattle.std.proofs.Common.{length, Option, None, Some, is_some, refl, sym, subst, ◌∙◌, ◌≢◌, suc}
 use Rattle.std.proofs.Common.{◌%◌, ◌==◌, not, ap, arith, ◌⊎◌, inl, inr, ◌*◌, ◌/◌, ◌<◌, ◌≤◌, nat_lt}
 use Rattle.std.proofs.Common.{◌||◌, [], ◌++◌, take, unwrap_or, drop, length-append, length-drop}
+use Rattle.std.proofs.Common.{Result, Ok, Err, slice_get, slice_index, ◌-◌, OnOk, IfOk, MatchResult}
 use Rattle.std.proofs.Math.Nat.{mul-le-mul_right}
 use Rattle.std.proofs.Math.Seq.{take-append-add}
 use Rattle.std.proofs.lemmas.Bool.{and_parts}
@@ -366,8 +366,7 @@ module _ (t : Target) (request : Setup) (host : IsToHost request) (some : 1 ≤ 
 
   -- as it accepted it
   accepted_is : {old now : World} {j : Location} (s u : State)
-      (x : AcceptedAt t (bytes_of request) old now j s u)
-      → u ≡ record s {
+      (x : AcceptedAt t (bytes_of request) old now j s u) → u ≡ record s {
         naks = s.spec.naks;
         stage = first_stage (row_of x.holder.below) Wants (outcome s.spec s.registers request);
       }
@@ -533,8 +532,7 @@ module _ (t : Target) (request : Setup) (host : IsToHost request) (some : 1 ≤ 
 
   -- a status stage that did not end
   read_unconfirmed : (n : ℕ) {got bytes : List ℕ} {old first mid new : World} (fault : TransFault)
-      → mid.damages ≡ old.damages
-      → (j : Location) (s u v : State) → is_at s t ≡ true
+      → mid.damages ≡ old.damages → (j : Location) (s u v : State) → is_at s t ≡ true
       → ReadTold t request (n + 1) got (Came t Wants bytes) old first mid j s u
       → Confirmed t (Err fault) mid new j u v
       → AskedRead t request (Err (as_pipe_fault fault)) old new j s v
@@ -563,11 +561,9 @@ module _ (t : Target) (request : Setup) (host : IsToHost request) (some : 1 ≤ 
 
   -- one that did
   read_whole : (n : ℕ) {got : List ℕ} {old first mid new : World} (whole : Vec ℕ)
-      → Course (IsBehind t) first new
-      → (j : Location) (s u v : State) → is_at s t ≡ true
+      → Course (IsBehind t) first new → (j : Location) (s u v : State) → is_at s t ≡ true
       → ReadTold t request (n + 1) got (Came t Wants whole.items) old first mid j s u
-      → Confirmed t (Ok []) mid new j u v
-      → AskedRead t request (Ok whole) old new j s v
+      → Confirmed t (Ok []) mid new j u v → AskedRead t request (Ok whole) old new j s v
   read_whole n {old = old} {first} {new = new} whole since j s u v at x y = record {
     frame = told_frame at x v y.leaves.frame;
     done = λ bytes e. let same : whole ≡ bytes = cc e in
@@ -856,8 +852,7 @@ module _ (t : Target) (request : Setup) (same : setup_of (bytes_of request) ≡ 
   write_whole : {given : List ℕ} (unit : Unit {0}) {old mid new : World}
       → Course (IsBehind t) mid new
       → (j : Location) (s u v : State) → is_at s t ≡ true → Took old mid j s u
-      → ControlInAsked t One (Ok given) mid new j u v
-      → AskedWrite t request (Ok unit) old new j s v
+      → ControlInAsked t One (Ok given) mid new j u v → AskedWrite t request (Ok unit) old new j s v
   write_whole {given} unit since j s u v at (x, before) y = record {
     failed = λ nothing fault e. cc e;
     done = λ nothing d e. effect_done at x v given since nothing y.leaves;
@@ -1072,8 +1067,7 @@ pub onward_more : {t : Target} {wanted : ℕ} {old mid new : World} {before r s 
     {got kept : List ℕ} {toggle next : Toggle} (bytes : List ℕ) → 1 ≤ t.max
     → ReadProgress t wanted old before got toggle mid r
     → Asks t toggle mid (Ok bytes) new → AttemptsMade 1 mid new
-    → StepRun transaction_bound mid r new s
-    → kept ≡ got ++ take (wanted - length got) bytes
+    → StepRun transaction_bound mid r new s → kept ≡ got ++ take (wanted - length got) bytes
     → ends_stage (length bytes) t.max (length kept) wanted ≡ false → next ≡ other toggle
     → ReadProgress t wanted old before kept next new s
 onward_more {t} {wanted} {old} {mid} {new} {got = got} {kept} {toggle} {next} bytes least o asks
@@ -1103,8 +1097,7 @@ pub data_ends : {t : Target} {wanted : ℕ} {old mid new : World} {before r : Op
     {got kept : List ℕ} {toggle : Toggle} (last : List ℕ)
     → ReadProgress t wanted old before got toggle mid r → Asks t toggle mid (Ok last) new
     → kept ≡ got ++ take (wanted - length got) last
-    → ends_stage (length last) t.max (length kept) wanted ≡ true
-    → DataStage t wanted old kept new
+    → ends_stage (length last) t.max (length kept) wanted ≡ true → DataStage t wanted old kept new
 data_ends {t} {wanted} {mid = mid} {new} {got = got} last o asks is over =
     record {
       packets = o.packets;
@@ -1139,8 +1132,7 @@ lost_ends new fault (Ok bytes) err said o asks = cc
 -- one for which there is no memory
 pub no_room_ends : {t : Target} {wanted : ℕ} {old mid new : World} {before r : Option (List ℕ)}
     {got : List ℕ} {toggle : Toggle} (last : List ℕ) (result : Result (Vec ℕ) PipeFault)
-    → IsErr result
-    → IsErrAnd result (λ why. why ≡ pipe_fault.Memory)
+    → IsErr result → IsErrAnd result (λ why. why ≡ pipe_fault.Memory)
     → ReadProgress t wanted old before got toggle mid r → Asks t toggle mid (Ok last) new
     → DataEnds t wanted old result new
 no_room_ends {t} {mid = mid} {new} {got = got} last (Err why) err said o asks =

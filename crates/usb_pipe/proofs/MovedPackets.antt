@@ -1,10 +1,9 @@
 -- How the packets of a bulk transfer join.
 use Rattle.std.proofs.Common.{◌≡◌, ◌≢◌, ◌∙◌, ◌⊎◌, inl, inr, refl, sym, ap, subst, arith, ℕ, ◌+◌}
 use Rattle.std.proofs.Common.{◌*◌, ◌<◌, ◌≤◌, min, List, [], ◌++◌, length, take, drop, Option, None}
-use Rattle.std.proofs.Common.{Result, Ok, Err, IsErr, IsErrAnd}
-use Rattle.std.proofs.Common.{add-one, append_assoc, append-nil, length-append, length-drop}
-use Rattle.std.proofs.Common.{length-take, lt_of_mul-lt-mul_right, mul-le-mul_right}
-use Rattle.std.proofs.Common.{take-append-drop}
+use Rattle.std.proofs.Common.{Result, Ok, Err, IsErr, IsErrAnd, add-one, append_assoc, append-nil}
+use Rattle.std.proofs.Common.{length-append, length-drop, length-take, lt_of_mul-lt-mul_right}
+use Rattle.std.proofs.Common.{mul-le-mul_right, take-append-drop}
 use Rattle.std.specs.Global.{Vec}
 use Rattle.std.specs.Int.{div_ceil}
 use Rattle.std.proofs.lemmas.Grind.{div_ceil_times}
@@ -153,8 +152,7 @@ module _ (t : Target) (ep : ℕ) (first : Toggle) (total : List ℕ) (least : 1 
   -- all are sent
   pub all_sent : {now : World} {written : Option (List ℕ)} {rest : List ℕ} {toggle : Toggle}
       → 0 < length total → rest ≡ [] → PacketsMoving t ep first total old text rest toggle now
-      written
-      → PacketsSent t ep first total old (Ok tt) toggle now
+      written → PacketsSent t ep first total old (Ok tt) toggle now
       × StepRun (transaction_bound * div_ceil (length total) t.max) old text now written
   all_sent {now} some none g =
       let gone : Gave t ep first old g.packets total now =
@@ -357,8 +355,7 @@ module _ (t : Target) (ep : ℕ) (first : Toggle) {old : World} {text : Option (
     -- that found no memory
     pub room_received : (last : List ℕ) (result : Result (Vec ℕ) PipeFault) → IsErr result
         → IsErrAnd result (λ why. why ≡ Memory) → AsksIn t ep toggle mid (Ok last) new
-        → next ≡ other toggle
-        → PacketsReceived t ep first wanted old result next new
+        → next ≡ other toggle → PacketsReceived t ep first wanted old result next new
     room_received last (Err why) err said x e = record {
       ends = subst (λ w. FaultAfter 0 old w new) (sym said) (worked_then c.moved x.ends);
       moves = inr (record {

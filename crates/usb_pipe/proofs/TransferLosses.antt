@@ -1,8 +1,7 @@
 -- The address losses that transfers of pipes count: none.
 use Rattle.std.specs.Global.{Vec}
-use Rattle.std.specs.Prelude.{Result, Ok, Err}
 use Rattle.std.proofs.Common.{◌≡◌, ℕ, List, Option, None, Some, refl, subst, ◌∙◌, ◌≢◌, ap, inl, inr}
-use Rattle.std.proofs.Common.{take}
+use Rattle.std.proofs.Common.{take, Result, Ok, Err}
 use Rattle.arrayvec.specs.ArrayVec.{ArrayVec}
 use Rattle.usb_packet.specs.{Toggle, flips}
 use Rattle.usb_tree.specs.{IsSettled}
@@ -14,8 +13,7 @@ use Rattle.usb_pipe.specs.{Bulk, Sends, Receives, as_pipe_fault, packet_target, 
 use Rattle.usb_pipe.specs.{PollAsked, Polls, IsNoBusFault, Gave, Came, SendEnds, ReceiveEnds}
 use Rattle.usb_pipe.specs.{PipeFault}
 use Rattle.usb_pipe.specs.Moves as moves
-use Rattle.usb_pipe.proofs.BulkCalls.{send_by, receive_by}
-use Rattle.usb_pipe.proofs.BulkCalls.{received_settled, gave_settled}
+use Rattle.usb_pipe.proofs.BulkCalls.{send_by, receive_by, received_settled, gave_settled}
 use Rattle.usb_pipe.proofs.ControlSteps.{transacted_ended}
 
 -- Bulk transfers from the host
@@ -30,8 +28,7 @@ gave_losses t ep first {new = new} settled (moves.packet {n} {mid = mid} bytes g
 
 sent_losses : (t : Target) (ep : ℕ) (first : Toggle) (total : List ℕ)
     (result : Result (Unit {0}) PipeFault) (old new : World) → IsSettled old.roots
-    → SendEnds t ep first total old result new → IsNoBusFault result
-    → new.losses ≡ old.losses
+    → SendEnds t ep first total old result new → IsNoBusFault result → new.losses ≡ old.losses
 sent_losses t ep first total (Ok done) old new settled x sound =
     gave_losses t ep first settled x.gone
 sent_losses t ep first total (Err why) old new settled x sound =
@@ -65,8 +62,7 @@ came_losses t ep first {new = new} other settled (moves.packet {n} {mid = mid} b
 
 received_losses : (t : Target) (ep : ℕ) (first : Toggle) (wanted : ℕ)
     (result : Result (Vec ℕ) PipeFault) (old new : World) → ep ≢ 0 → IsSettled old.roots
-    → ReceiveEnds t ep first wanted old result new → IsNoBusFault result
-    → new.losses ≡ old.losses
+    → ReceiveEnds t ep first wanted old result new → IsNoBusFault result → new.losses ≡ old.losses
 received_losses t ep first wanted (Ok bytes) old new other settled x sound =
     other_losses t ep x.mid new other (received_settled x.before settled) x.came.trail
     ∙ came_losses t ep first other settled x.before
@@ -92,8 +88,7 @@ receive_losses wanted pipe result left old new other x sound =
 -- one that failed, but for the bus
 failed_losses : (pipe : Interrupt) (old new : World) (why : PipeFault) (fault : TransFault)
     → why ≡ as_pipe_fault fault → IsNoBusFault {A = Option (ArrayVec ℕ)} (Err why) → pipe.ep ≢ 0
-    → IsSettled old.roots
-    → Polled pipe.toggle (in_attempt pipe.target pipe.ep) old (Err fault) new
+    → IsSettled old.roots → Polled pipe.toggle (in_attempt pipe.target pipe.ep) old (Err fault) new
     → new.losses ≡ old.losses
 failed_losses pipe old new why (trans.Bus fault) e sound other settled x =
     absurd (subst (λ y. IsNoBusFault {A = Option (ArrayVec ℕ)} (Err y)) e sound)

@@ -2,8 +2,7 @@
 use Rattle.std.proofs.Common.{◌≡◌, ℕ, zero, suc, ◌+◌, ◌*◌, ◌<◌, ◌≤◌, ◌⊎◌, inl, inr, List, [], ◌∷◌}
 use Rattle.std.proofs.Common.{length, map, get_or, slice_index, slice_set, take, drop, nat_le, Bool}
 use Rattle.std.proofs.Common.{true, false, Option, Some, None, Result, Ok, Err, refl, sym, ap, ap₂}
-use Rattle.std.proofs.Common.{◌∙◌, arith, le-leb}
-use Rattle.std.specs.Prelude.{MatchResult, if◌then◌else◌}
+use Rattle.std.proofs.Common.{◌∙◌, arith, le-leb, MatchResult, if◌then◌else◌}
 use Rattle.std.proofs.lemmas.Bool.{lt-leb}
 use Rattle.hex.specs.Hex.{hex_digit_value, digit_or_error, value_at, pair_value, decode_of}
 use Rattle.hex.specs.Hex.{decode_pairs}
@@ -25,8 +24,7 @@ unfolding digit_of digits_from
 digits_is_table = refl
 
 digit_of-entry : (values : List ℕ) (count n i : ℕ) → map digit_of values ≡ digits_from count n
-    → i < count
-    → digit_of (get_or values i 0) ≡ hex_digit_value (n + i)
+    → i < count → digit_of (get_or values i 0) ≡ hex_digit_value (n + i)
 unfolding digits_from
 digit_of-entry values zero n i e h = absurd (omega (arith, h))
 digit_of-entry [] (suc count) n i e h = cc
@@ -104,8 +102,7 @@ same_pair digits bytes i high low p = ap₂ (λ (h l : ℕ). pair_value h l (2 *
     (sym p.second)
 
 pub put_one : (digits bytes : List ℕ) (i high low : ℕ) → IsPair digits bytes i high low
-    → ArePut digits bytes i
-    → get_or DIGITS high 0 ≤ 15 → get_or DIGITS low 0 ≤ 15
+    → ArePut digits bytes i → get_or DIGITS high 0 ≤ 15 → get_or DIGITS low 0 ≤ 15
     → ArePut digits (slice_set bytes i (get_or DIGITS high 0 * 16 + get_or DIGITS low 0)) (i + 1)
 put_one digits bytes i high low p put h l =
     let sizes = p.sizes in
@@ -116,8 +113,7 @@ put_one digits bytes i high low p put h l =
     (pair_low digits bytes i high low p) h l) put
 
 pub refused_one : (digits bytes : List ℕ) (i high low : ℕ) → IsPair digits bytes i high low
-    → ArePut digits bytes i
-    → IsRefused high low → (e : FromHexError) × (decode_of digits ≡ Err e)
+    → ArePut digits bytes i → IsRefused high low → (e : FromHexError) × (decode_of digits ≡ Err e)
 refused_one digits bytes i high low p put no_digit =
     let sizes = p.sizes in
     let within = p.within in
@@ -130,8 +126,7 @@ refused_one digits bytes i high low p put no_digit =
     )
 
 pub all_put : (digits bytes : List ℕ) (i : ℕ) → length digits ≡ 2 * length bytes → length bytes ≤ i
-    → ArePut digits bytes i
-    → decode_of digits ≡ Ok bytes
+    → ArePut digits bytes i → decode_of digits ≡ Ok bytes
 all_put digits bytes i sizes all put =
     decode_of-even digits (omega (arith, sizes))
     ∙ decode_done digits bytes i all (omega (arith, sizes, all)) put

@@ -1,8 +1,8 @@
 -- The values at the keys of an event by one walk over its entries, and its keys by them.
 use Rattle.std.proofs.Common.{◌≡◌, ℕ, List, [], ◌∷◌, Bool, true, false, not, ◌&&◌, ◌||◌, Option}
 use Rattle.std.proofs.Common.{Some, None, String, Global, Ordering, Less, Equal, Greater}
-use Rattle.std.proofs.Common.{string_bytes, nat_cmp, is_eq, refl, sym, ap, ap₂, ◌∙◌}
-use Rattle.std.specs.Prelude.{codes, if◌then◌else◌}
+use Rattle.std.proofs.Common.{string_bytes, nat_cmp, is_eq, refl, sym, ap, ap₂, ◌∙◌, codes}
+use Rattle.std.proofs.Common.{if◌then◌else◌}
 use Rattle.std.specs.Str.{bytes_eq}
 use Rattle.std.specs.List.{list_any, AllByRecursion}
 use Rattle.std.specs.List.Sorted.{IsStrictlySortedBy}
@@ -41,15 +41,13 @@ same_text k l h = sym ((bytes_eq-Decides k l).0 h)
 -- a key at the first of the members, and one that is not there
 first_member : (k l : List ℕ) (d : Data) (ms : Members) (o : Ordering) → o ≡ slice_cmp nat_cmp k l
     → is_eq o ≡ true → get_member k (member l d ms) ≡ Some d
-first_member k l d ms Less is h = cc
 first_member k l d ms Equal is h = rw (← is) refl
-first_member k l d ms Greater is h = cc
+first_member k l d ms _ is h = cc
 
 later_member : (k l : List ℕ) (d : Data) (ms : Members) (o : Ordering) → o ≡ slice_cmp nat_cmp k l
     → is_eq o ≡ false → get_member k (member l d ms) ≡ get_member k ms
-later_member k l d ms Less is h = rw (← is) refl
 later_member k l d ms Equal is h = cc
-later_member k l d ms Greater is h = rw (← is) refl
+later_member k l d ms _ is h = rw (← is) refl
 
 pub at_first : (k l : List ℕ) (d : Data) (ms : Members) → bytes_eq k l ≡ true
     → get_member k (member l d ms) ≡ Some d
@@ -212,13 +210,8 @@ or_not_false false = refl
 others_chosen : (a b c d e f : Bool) (x : Data) (v : EventValues)
     → (values_with_key a b c d e f x v).has_others ≡ v.has_others ||
     not (a || (b || (c || (d || (e || (f || false))))))
-others_chosen true b c d e f x v = or_not_true v.has_others
-others_chosen false true c d e f x v = or_not_true v.has_others
-others_chosen false false true d e f x v = or_not_true v.has_others
-others_chosen false false false true e f x v = or_not_true v.has_others
-others_chosen false false false false true f x v = or_not_true v.has_others
-others_chosen false false false false false true x v = or_not_true v.has_others
 others_chosen false false false false false false x v = or_not_false v.has_others
+others_chosen _ _ _ _ _ _ x v = or_not_true v.has_others
 
 others_step : (l : List ℕ) (d : Data) (v : EventValues) → (with_value l d v).has_others
     ≡ v.has_others || not (list_any (bytes_eq l) all_event_keys)

@@ -71,8 +71,7 @@ events_from-end roots specs n done vs i le = rw (drop_all i vs le)
 pub damages_from-next : (done : List Damage) (vs : List Value) (i : ℕ) (v : Value)
     (r : Result Damage PlanFault) → i < length vs → v ≡ get_or vs i v
     → entry_at (place.Damage (i + 1)) (damage_entry (last_from 0 done) (length done)
-    (as_table (view v))) ≡ r
-    → damages_from (i + 1) done (map view (drop i vs))
+    (as_table (view v))) ≡ r → damages_from (i + 1) done (map view (drop i vs))
     ≡ (r >>= λ s. damages_from (i + 1 + 1) (done ++ s ∷ []) (map view (drop (i + 1) vs)))
 unfolding damages_from
 damages_from-next done vs i v r lt is e = rw (view_drop vs i v lt is, e) refl

@@ -3,8 +3,7 @@ use Rattle.std.proofs.Common.{◌≡◌, ◌≢◌, ℕ, List, [], ◌∷◌, �
 use Rattle.std.proofs.Common.{Ok, Err, refl, ap, sym, ◌∙◌, IsErrAnd}
 use Rattle.usb_device.specs.{Hub}
 use Rattle.usb_plan.specs.declared.entry_fault.EntryFault.{EntryFault}
-use Rattle.usb_plan.specs.{Memory}
-use Rattle.usb_plan.specs.{PlanFault, Identity, DeviceTexts, fault_in_part, sooner}
+use Rattle.usb_plan.specs.{Memory, PlanFault, Identity, DeviceTexts, fault_in_part, sooner}
 use Rattle.usb_plan.specs.{least_fault, least, at, entry_at, ◌>>=◌, EqualUnless, send, event_with}
 use Rattle.usb_plan.specs.{bulk_with, class_at, hub_with, with_text, identity_with}
 use Rattle.usb_plan.specs.{device_texts_with, device_with}

@@ -2,8 +2,7 @@
 use Rattle.std.proofs.Common.{◌≡◌, ◌+◌, ◌-◌, ◌^◌, ℕ, ℤ, pos, negsuc, ◌<◌, ◌≤◌, List, [], ◌∷◌}
 use Rattle.std.proofs.Common.{length, Bool, true, false, ◌&&◌, ◌||◌, cond, Option, Some, None}
 use Rattle.std.proofs.Common.{ok_or, Result, Ok, Err, refl, ap, sym, subst, ◌∙◌, not, IfOk, IfSome}
-use Rattle.std.proofs.Common.{arith, codes, nat_le, nat_lt, ◌==◌, slice_get, zero}
-use Rattle.std.proofs.Common.{suc}
+use Rattle.std.proofs.Common.{arith, codes, nat_le, nat_lt, ◌==◌, slice_get, zero, suc}
 use Rattle.std.proofs.lemmas.Bool.{and_parts, or_parts, leb-true, ltb-true, lt-ltb, le-leb}
 use Rattle.std.proofs.lemmas.List.Quantifiers.{position-Some}
 use Rattle.std.specs.Str.{bytes_eq}
@@ -15,16 +14,15 @@ use Rattle.usb_plan.specs.{Identity, DeviceTexts, SceneData, Way, fault_in_part,
 use Rattle.usb_plan.specs.{least_fault, entry_at, ◌>>=◌, read_text, number_in, number_at, number_or}
 use Rattle.usb_plan.specs.{class_at, hub_at, no_hub, is_low_speed, is_other, quirks_with, quirks_of}
 use Rattle.usb_plan.specs.{flag_at, stalls_at, source_at, naks_at, bulk_with, read_bulk, halt_at}
-use Rattle.usb_plan.specs.{halt_in, name_in, name_at}
-use Rattle.usb_plan.specs.{speed_at, descriptor_at, with_quirks, with_halt, with_hub, named_device}
-use Rattle.usb_plan.specs.{HubFits, FewNaks, HaltsLater, identity_with, identity_of}
-use Rattle.usb_plan.specs.{device_of_parts, device_with, read_device, device_in, read_path}
-use Rattle.usb_plan.specs.{free_path, taken_path, verb_at, action_of, EventValues}
-use Rattle.usb_plan.specs.{event_values, device_index_at, bytes_at, packets_at, plug_of, unplug_of}
-use Rattle.usb_plan.specs.{send_of, receive_of, clear_of, after_at, event_room, event_with}
-use Rattle.usb_plan.specs.{event_of, event_in, attempt_at, packet_number, way_at, no_bit, flip_at}
-use Rattle.usb_plan.specs.{harm_of, harm_by, damage_with, read_damage, damage_entry, limit_at}
-use Rattle.usb_plan.specs.{roots_at, top_with, top_of, TopFits}
+use Rattle.usb_plan.specs.{halt_in, name_in, name_at, speed_at, descriptor_at, with_quirks}
+use Rattle.usb_plan.specs.{with_halt, with_hub, named_device, HubFits, FewNaks, HaltsLater}
+use Rattle.usb_plan.specs.{identity_with, identity_of, device_of_parts, device_with, read_device}
+use Rattle.usb_plan.specs.{device_in, read_path, free_path, taken_path, verb_at, action_of}
+use Rattle.usb_plan.specs.{EventValues, event_values, device_index_at, bytes_at, packets_at}
+use Rattle.usb_plan.specs.{plug_of, unplug_of, send_of, receive_of, clear_of, after_at, event_room}
+use Rattle.usb_plan.specs.{event_with, event_of, event_in, attempt_at, packet_number, way_at}
+use Rattle.usb_plan.specs.{no_bit, flip_at, harm_of, harm_by, damage_with, read_damage}
+use Rattle.usb_plan.specs.{damage_entry, limit_at, roots_at, top_with, top_of, TopFits}
 use Rattle.usb_plan.specs.declared.plan.Top.{Top}
 use Rattle.usb_plan.specs.declared.quirks.Quirks.{Quirks}
 use Rattle.usb_plan.specs.declared.bulk.Bulk.{Bulk}
@@ -118,13 +116,12 @@ device_room_ok earlier u h = ltb-true (length earlier) 127
 number_in_ok : (low high : ℕ) (o : Option ℤ) (n : ℕ) → number_in low high o ≡ Ok n → (low ≤ n)
     × (n ≤ high)
 unfolding number_in
-number_in_ok low high None n h = cc
-number_in_ok low high (Some (negsuc m)) n h = cc
 number_in_ok low high (Some (pos m)) n h =
     let test = ok_if (nat_le low m && nat_le m high) (Ok m) BadValue n h in
     let parts = and_parts (nat_le low m) (nat_le m high) test.0 in
     let same : m ≡ n = cc test.1 in
     rw (← same) (leb-true low m parts.0, leb-true m high parts.1)
+number_in_ok low high _ n h = cc
 
 pub number_at_ok : (low high : ℕ) (o : Option Data) (n : ℕ) → number_at low high o ≡ Ok n
     → (low ≤ n) × (n ≤ high)

@@ -43,8 +43,6 @@ ordering_then-same a b r s le lt = by (cases_order a b)
 through-middle : (path middle place : List ℕ) → is_le (path_cmp path middle) ≡ true
     → path_cmp middle place ≡ Less → through path place ≡ true → through path middle ≡ true
 through-middle [] middle place le lt h = refl
-through-middle (a ∷ path) [] place le lt h = cc
-through-middle (a ∷ path) (b ∷ middle) [] le lt h = cc
 through-middle (a ∷ path) (b ∷ middle) (c ∷ place) le lt h =
     let parts = and_parts (nat_eq a c) (through path place) h in
     let ac : a ≡ c = eqb-true a c parts.0 in
@@ -57,6 +55,7 @@ through-middle (a ∷ path) (b ∷ middle) (c ∷ place) le lt h =
     (nat_cmp_is b c Equal (sym ab ∙ ac)) ∙ lt in
     and_from (nat_eq a b) (through path middle) (eq-eqb a b ab)
     (through-middle path middle place le2 lt2 parts.1)
+through-middle (a ∷ path) _ _ le lt h = cc
 
 abbrev AllAfter : List ℕ → List (List ℕ) → Type 0
 AllAfter middle = AllByRecursion (λ place. path_cmp middle place ≡ Less)
@@ -174,8 +173,7 @@ one_there path place (first ∷ tree) h =
     by : (through path first.0 ≡ true) ⊎ (through path first.0 ≡ false)
         → (is_eq (path_cmp place first.0) ≡ true) ⊎ (is_eq (path_cmp place first.0) ≡ false)
         → (Some place ≡ first_through path tree → is_some (lookup (is_at (path_cmp place)) tree)
-        ≡ true)
-        → is_some (lookup (is_at (path_cmp place)) (first ∷ tree)) ≡ true
+        ≡ true) → is_some (lookup (is_at (path_cmp place)) (first ∷ tree)) ≡ true
     by below (inl at) rest = rw at refl
     by (inl below) (inr apart) rest =
         let some = rw below at h in

@@ -47,8 +47,7 @@ are_tables_view vs = list_all-map is_table view vs
 pub texts_from-step : (most : ℕ) (texts : Result (List (List ℕ)) EntryFault) (vs : List Value)
     (i : ℕ) (v : Value) (text : Result (List ℕ) EntryFault)
     (total : Result (List (List ℕ)) EntryFault) → i < length vs → v ≡ get_or vs i v
-    → text ≡ hex_in most (view v)
-    → texts_from most texts (map view (drop i vs)) ≡ total
+    → text ≡ hex_in most (view v) → texts_from most texts (map view (drop i vs)) ≡ total
     → texts_from most (with_text texts text) (map view (drop (i + 1) vs)) ≡ total
 unfolding texts_from
 texts_from-step most texts vs i v text total lt is e so_far =

@@ -2,8 +2,7 @@
 use Rattle.std.proofs.Common.{◌≡◌, ◌≢◌, ℕ, zero, suc, ◌+◌, ◌<◌, Bool, true, false, ◌||◌, ◌&&◌, not}
 use Rattle.std.proofs.Common.{List, [], ◌∷◌, Option, Some, None, is_some, length, replicate, get_or}
 use Rattle.std.proofs.Common.{set, refl, sym, ap, ◌∙◌, arith, inl, inr, true≢false, get_or-set_same}
-use Rattle.std.proofs.Common.{get_or-set_other, length-set}
-use Rattle.std.specs.Prelude.{◌↔◌, IfSome, IfNone, IsTrue}
+use Rattle.std.proofs.Common.{get_or-set_other, length-set, ◌↔◌, IfSome, IfNone, IsTrue}
 use Rattle.std.specs.Ordering.{nat_cmp, eq_by_cmp}
 use Rattle.std.specs.Cmp.{nat_cmp_total, unsigned_tied}
 use Rattle.std.specs.FinSet.{empty, contains, insert, remove, contains-empty, contains-insert}

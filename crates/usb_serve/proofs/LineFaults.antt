@@ -1,6 +1,6 @@
 -- A line of report is cut only where the writer failed.
 use Rattle.std.proofs.Common.{◌≡◌, ◌≢◌, ◌∙◌, refl, sym, ap, inl, inr, Option, None, Some, Ok, Err}
-use Rattle.std.specs.Prelude.{◌⊎◌, IsSome, is_some}
+use Rattle.std.proofs.Common.{◌⊎◌, IsSome, is_some}
 use Rattle.usb_world.specs.{BusFault, LineEnds, PutLine, World}
 use Rattle.usb_host.specs.{HostState}
 use Rattle.usb_serve.specs.{ServeFault, report_fault}

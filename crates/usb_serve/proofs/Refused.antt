@@ -1,7 +1,6 @@
 -- Runs that are none: what the clauses of a run refuse.
 use Rattle.std.proofs.Common.{◌≡◌, ◌≢◌, ◌∙◌, refl, ap, subst, arith, inl, inr, ℕ, ◌≤◌, List, []}
-use Rattle.std.proofs.Common.{◌∷◌, Option, None, Some, Result, Ok, Err}
-use Rattle.std.specs.Prelude.{IsUtf8}
+use Rattle.std.proofs.Common.{◌∷◌, Option, None, Some, Result, Ok, Err, IsUtf8}
 use Rattle.usb_device.specs.{function, fresh, changed_at, new_ports, row_of}
 use Rattle.usb_world.specs.{PlanData, World, change_of, changes, root_row, after, event, opening}
 use Rattle.usb_world.specs.{after_event}

@@ -1,10 +1,9 @@
 -- What serving a plan writes, item by item.
 use Rattle.std.proofs.Common.{◌≡◌, ◌≢◌, ◌∙◌, refl, sym, ap, subst, inl, inr, arith, ℕ, ◌+◌, ◌≤◌}
 use Rattle.std.proofs.Common.{◌<◌, List, [], ◌∷◌, ◌++◌, map, flat_map, Bool, true, false, Option}
-use Rattle.std.proofs.Common.{None, Some, Result, Ok, Err, IsErrAnd}
+use Rattle.std.proofs.Common.{None, Some, Result, Ok, Err, IsErrAnd, ◌⊎◌, IfErr, OnOk}
 use Rattle.std.specs.Global.{Vec}
 use Rattle.std.proofs.lemmas.List.Folds.{flat_map-map}
-use Rattle.std.specs.Prelude.{◌⊎◌, IfErr, OnOk}
 use Rattle.std.specs.Io.KnownBytes.{Appends}
 use Rattle.std.proofs.KnownBytes.{Appends-nil, Appends-trans}
 use Rattle.usb_bus.specs.{AppendsFront}
@@ -23,14 +22,11 @@ use Rattle.usb_serve.specs.{at_write, of_run}
 use Rattle.usb_serve.specs.declared.serving.ServeFault.TheVariants as serve
 use Rattle.usb_text.specs.{bound_line, lines_text}
 use Rattle.usb_run.specs.Transcript.{Transcript}
-use Rattle.usb_run.proofs.Interface.{at_fault, run_limit}
+use Rattle.usb_run.proofs.Interface.{at_fault, run_limit, knows_opened, limit_opened, makes_knows}
+use Rattle.usb_run.proofs.Interface.{puts_knows, run_lists_right, traced_runs_onward, cut_next}
+use Rattle.usb_run.proofs.Interface.{ends_failed, over_next, appends_no_text, stopped_next}
+use Rattle.usb_run.proofs.Interface.{told_next, unwritten_next}
 use Rattle.usb_serve.proofs.LineFaults.{is_write}
-use Rattle.usb_run.proofs.Interface.{knows_opened, limit_opened}
-use Rattle.usb_run.proofs.Interface.{makes_knows, puts_knows}
-use Rattle.usb_run.proofs.Interface.{run_lists_right}
-use Rattle.usb_run.proofs.Interface.{traced_runs_onward}
-use Rattle.usb_run.proofs.Interface.{cut_next, ends_failed, over_next, appends_no_text}
-use Rattle.usb_run.proofs.Interface.{stopped_next, told_next, unwritten_next}
 
 -- a run whose listings so far are this many; with those to come they are not too many to count
 pub record ItemsNumbered (items : List Item) (number : ℕ) (over : Bool) (w : World) : Type 0 where
@@ -107,8 +103,7 @@ run_begun was old knows few = record {
 
 pub run_told : {was : Bool} {old : HostState} {number : ℕ} {over : Bool} {h : HostState}
     (r : RunSoFar was old number over h) (next : ℕ) (item : Item) (on : Bool) (k new : HostState)
-    (vs : List (Vec ℕ))
-    → (number < 18446744073709551615 → next ≡ number_of item number)
+    (vs : List (Vec ℕ)) → (number < 18446744073709551615 → next ≡ number_of item number)
     → Next over h (Ok (Some item)) on k → items_left on k.world < items_left over h.world
     → map (λ v. v.items) vs ≡ item_lines next item
     → AppendsText (flat_map (λ v. v.items ++ 10 ∷ []) vs) k new → RunSoFar was old next on new
@@ -359,8 +354,7 @@ pub tree_unbound : {plan : PlanData} {before : Option (List ℕ)} {number : ℕ}
     {h : HostState} {now : Option (List ℕ)} (r : TreeSoFar plan before number over h now)
     (on : Bool) (k : HostState)
     (result : Result (Unit {0}) ServeFault) → IsErrAnd result (λ e. e ≡ serve.Memory)
-    → Next over h (Ok None) on k → k.world.shared ≡ false
-    → IsWritten Tree plan before result now
+    → Next over h (Ok None) on k → k.world.shared ≡ false → IsWritten Tree plan before result now
 tree_unbound {plan} {before} {h = h} {now = now} r on k result is next single =
     tree_ended plan before r.thrown r.first r.opens r.items k result now serve.Memory is
     (behind (λ cut. cut) (over_next h k r.so_far next)) tt single r.text

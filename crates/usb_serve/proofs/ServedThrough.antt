@@ -1,6 +1,6 @@
 -- What serving through a buffer tells and writes.
-use Rattle.std.proofs.Common.{◌≡◌, ◌∙◌, inl, inr, ℕ, List, Option, Result, Ok, Err, sym}
-use Rattle.std.specs.Prelude.{IsErrOf, OnOk, OnErr}
+use Rattle.std.proofs.Common.{◌≡◌, ◌∙◌, inl, inr, ℕ, List, Option, Result, Ok, Err, sym, IsErrOf}
+use Rattle.std.proofs.Common.{OnOk, OnErr}
 use Rattle.std.specs.Io.KnownBytes.{Keeps}
 use Rattle.usb_bus.specs.{WriteFailed}
 use Rattle.usb_run.specs.{TraceFailed, Mode}

@@ -1,6 +1,5 @@
 -- What serves a plan of at most 127 plugs whose limit is its bound never tells its limit.
-use Rattle.std.proofs.Common.{◌≢◌, ◌≤◌, ℕ, subst, inl, inr, List, Option, Result, Err}
-use Rattle.std.specs.Prelude.{IfErr}
+use Rattle.std.proofs.Common.{◌≢◌, ◌≤◌, ℕ, subst, inl, inr, List, Option, Result, Err, IfErr}
 use Rattle.usb_world.specs.{PlanData}
 use Rattle.usb_host.specs.{plug_events}
 use Rattle.usb_plan.specs.{bound_of}

@@ -1,9 +1,8 @@
 -- How events come, and what an attempt makes of the world.
 use Rattle.std.proofs.Common.{◌≡◌, ℕ, ◌+◌, List, [], ◌∷◌, ◌++◌, length, Bool, true, false, ◌||◌}
-use Rattle.std.proofs.Common.{Option}
-use Rattle.std.proofs.Common.{Some, None, Result, Ok, Err, refl, sym, ap, ap₂}
-use Rattle.std.proofs.Common.{◌∙◌, subst, arith, get_or, append_assoc, append-nil, zero, suc, take}
-use Rattle.std.proofs.Common.{drop, flat_map, ◌-◌, ◌≤◌, ◌==◌, IsErrAnd}
+use Rattle.std.proofs.Common.{Option, Some, None, Result, Ok, Err, refl, sym, ap, ap₂, ◌∙◌, subst}
+use Rattle.std.proofs.Common.{arith, get_or, append_assoc, append-nil, zero, suc, take, drop}
+use Rattle.std.proofs.Common.{flat_map, ◌-◌, ◌≤◌, ◌==◌, IsErrAnd}
 use Rattle.std.specs.Io.KnownBytes.{Appends}
 use Rattle.std.specs.Option.{option_to_list}
 use Rattle.std.proofs.KnownBytes.{Appends-trans, Appends-nil}
@@ -49,8 +48,7 @@ came_faulted w e rest roots f split h =
     ap faulted (took_first-arrival w e rest roots split h)
 
 pub came_sound : (w : World) (e : Event) (rest : List Event) (roots : Ports) → w.fault ≡ None
-    → w.left ≡ e ∷ rest → roots ≡ after_change e.action w.devices w.roots
-    → record w {
+    → w.left ≡ e ∷ rest → roots ≡ after_change e.action w.devices w.roots → record w {
       roots = roots;
       left = rest;
       taken = w.taken + 1;
@@ -104,10 +102,8 @@ line_at f (suc n) (x ∷ l) rest e h = ap (λ t. f x ++ t) (line_at f n l rest e
     ∙ sym (append_assoc (f x) (flat_map f (take n l)) (f e))
 
 rest_at : (n : ℕ) (l rest : List Event) (e : Event) → drop n l ≡ e ∷ rest → drop (suc n) l ≡ rest
-rest_at zero [] rest e h = cc h
-rest_at zero (x ∷ l) rest e h = cc h
-rest_at (suc n) [] rest e h = cc h
 rest_at (suc n) (x ∷ l) rest e h = rest_at n l rest e h
+rest_at _ _ rest e h = cc h
 
 -- some events came, the others are left
 pub record Later (first now : World) : Type 0 where
@@ -428,8 +424,7 @@ pub made_there : (a : Attempt) (w mid : World) (d : Option Damage) (x : Exchange
     → mid.attempts ≡ w.attempts → d ≡ damage_in mid → x ≡ exchange_in a d mid.roots
     → roots ≡ ports_in a d mid.roots
     → losses ≡ counted x.address_lost (after_clearing x.change_cleared mid.losses)
-    → shared ≡ repeats (held_addresses mid.roots)
-    → MadeThere a w mid (record mid {
+    → shared ≡ repeats (held_addresses mid.roots) → MadeThere a w mid (record mid {
       roots = roots;
       attempts = mid.attempts + 1;
       losses = losses;

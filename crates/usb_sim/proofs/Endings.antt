@@ -1,9 +1,8 @@
 -- How an attempt or an event ends that a fault may cut.
 use Rattle.std.proofs.Common.{◌≡◌, Bool, true, false, if◌then◌else◌, Option, Some, None, Result, Ok}
 use Rattle.std.proofs.Common.{Err, OnOk, IfErr, IsErrAnd, ◌≢◌, ◌||◌, refl, sym, subst, ap, ◌∙◌}
-use Rattle.std.specs.Prelude.{◌==◌}
+use Rattle.std.proofs.Common.{arith, ℕ, ◌==◌, List, IfOk, IsSome, is_some, ◌+◌}
 use Rattle.std.proofs.lemmas.Bool.{eq-eqb}
-use Rattle.std.proofs.Common.{arith, ℕ}
 use Rattle.usb_world.specs.declared.event.Ask.{Ask}
 use Rattle.usb_world.specs.{Attempt, Outcome, BusFault, LimitReached, Memory, TraceFailed, World}
 use Rattle.usb_world.specs.{at_attempt, with_attempt, attempted, attempt, event, event_taken}
@@ -11,7 +10,6 @@ use Rattle.usb_world.specs.{after_first_event, after, fault_of, Left, Coming, at
 use Rattle.usb_world.specs.{at_line, AttemptFails, IsCut, damage_in, AttemptEnds, AttemptsWithin}
 use Rattle.usb_world.specs.{to_come, EventEnds}
 use Rattle.usb_device.specs.{Ports, held_addresses, repeats}
-use Rattle.std.specs.Prelude.{List, IfOk, IsSome, is_some, ◌+◌}
 use Rattle.usb_world.proofs.Interface.{spends_none, spends_wider}
 use Rattle.usb_tree.proofs.Interface.{unequal}
 use Rattle.usb_bus.specs.{step_lines, WritesText, Attempts, TakesEvent}

@@ -1,8 +1,8 @@
 -- No event ends its line early.
 use Rattle.std.proofs.Common.{◌≡◌, ◌≢◌, ◌∙◌, refl, sym, ap₂, subst, arith, ℕ, zero, suc, ◌+◌, ◌/◌}
 use Rattle.std.proofs.Common.{◌%◌, Bool, true, false, List, [], ◌∷◌, ◌++◌, append-nil, flat_map}
-use Rattle.std.proofs.Common.{get_or, length, ◌<◌}
-use Rattle.std.specs.Prelude.{◌==◌, ◌&&◌, not, slice_index, codes, encode_utf8, if◌then◌else◌}
+use Rattle.std.proofs.Common.{get_or, length, ◌<◌, ◌==◌, ◌&&◌, not, slice_index, codes, encode_utf8}
+use Rattle.std.proofs.Common.{if◌then◌else◌}
 use Rattle.std.specs.Str.{chars}
 use Rattle.std.proofs.lemmas.Bool.Decides.{nat_tests}
 use Rattle.std.proofs.lemmas.List.Folds.{list_all-append}

@@ -14,8 +14,7 @@ action_done : (roots : ℕ) (devices : List Spec) (tree : PluggedMap) (a : Actio
 action_done roots devices tree (Change (Plug path device)) h =
     (and_parts (has_port roots devices tree path && not (is_taken tree path))
     (nat_lt device (length devices)) h).1
-action_done roots devices tree (Change (Unplug path)) h = refl
-action_done roots devices tree (Ask ask) h = refl
+action_done roots devices tree _ h = refl
 
 -- each event of a plan can come
 events_come : (roots : ℕ) (devices : List Spec) (tree : PluggedMap) (events : List Event)

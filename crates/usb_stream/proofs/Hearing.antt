@@ -1,8 +1,7 @@
 -- How lines are heard, one after the other, and what a question leaves.
 use Rattle.std.proofs.Common.{add-one, ◌≡◌, ◌≢◌, ◌∙◌, inl, inr, ℕ, ◌+◌, ◌-◌, ◌≤◌, ◌⊎◌, List, []}
-use Rattle.std.proofs.Common.{◌∷◌, ◌++◌, Option, Some, refl, sym, ap, subst, arith}
-use Rattle.std.proofs.Common.{append-nil}
-use Rattle.std.specs.Prelude.{slice_set}
+use Rattle.std.proofs.Common.{◌∷◌, ◌++◌, Option, Some, refl, sym, ap, subst, arith, append-nil}
+use Rattle.std.proofs.Common.{slice_set}
 use Rattle.std.proofs.lemmas.List.Elements.{All-nil}
 use Rattle.std.proofs.KnownBytes.{Appends-nil, Consumes-nil, Consumes-trans}
 use Rattle.std.specs.Io.KnownBytes.{Appends, Consumes}
@@ -11,9 +10,9 @@ use Rattle.usb_lines.specs.{IsUnbroken}
 use Rattle.usb_wire.specs.{Answer, Changed, Answered, Asked, question_line, Question}
 use Rattle.usb_wire.specs.declared.answer.Answer.TheVariants as answer
 use Rattle.usb_wire.specs.declared.question.Asked.TheVariants as asked
-use Rattle.usb_stream.specs.{LiveFault, LimitReached, Write, AsksNoMore}
-use Rattle.usb_stream.specs.{AnswerLinesRead, Kept, ReadLines, ReadOne, SaidLine, Says}
-use Rattle.usb_stream.specs.{StatusesRead, WholeLines, counted_on, streams, questions}
+use Rattle.usb_stream.specs.{LiveFault, LimitReached, Write, AsksNoMore, AnswerLinesRead, Kept}
+use Rattle.usb_stream.specs.{ReadLines, ReadOne, SaidLine, Says, StatusesRead, WholeLines}
+use Rattle.usb_stream.specs.{counted_on, streams, questions}
 use Rattle.usb_stream.specs.declared.fault.LiveFault.TheVariants as fault
 
 -- a status is a line: the end is none
@@ -47,8 +46,7 @@ told_so_none a r k = record {
 }
 
 told_more : (a : Asked) (fn l : Kept) (r0 r1 r2 : Option (List ℕ)) (number : ℕ) (status : List ℕ)
-    → ToldSo a r0 r1 fn l
-    → Says a fn.roots r1 r2 (Changed number status)
+    → ToldSo a r0 r1 fn l → Says a fn.roots r1 r2 (Changed number status)
     → ToldSo a r0 r2 fn (record l {
       statuses = slice_set l.statuses (number - 1) status;
       lines = counted_on l.lines 1;
@@ -93,14 +91,12 @@ hear_same fn l n st same kept =
 
 -- a root port that there is
 pub number_within : (a : Asked) (roots number : ℕ) (status : List ℕ) (unread left : Option (List ℕ))
-    → Says a roots unread left (Changed number status)
-    → (1 ≤ number) × (number ≤ roots)
+    → Says a roots unread left (Changed number status) → (1 ≤ number) × (number ≤ roots)
 number_within a roots number status unread left says = let line =
     said_changed a roots unread left number status says in (line.may.1, line.may.2)
 
 pub heard_so : (a : Asked) (fn l n : Kept) (r0 r1 r2 : Option (List ℕ)) (got : Answer)
-    → ToldSo a r0 r1 fn l
-    → l ≡ record fn { statuses = l.statuses; lines = l.lines }
+    → ToldSo a r0 r1 fn l → l ≡ record fn { statuses = l.statuses; lines = l.lines }
     → n ≡ record l { lines = counted_on l.lines 1 }
     → Says a l.roots r1 r2 (Answered got) → AnswerLinesRead a fn.roots r0 r2 fn.statuses fn.lines
     got n.statuses n.lines
@@ -136,8 +132,7 @@ read_all a r0 r1 fn l so = record {
 }
 
 lines_read_last : (a : Asked) (r0 r1 r2 : Option (List ℕ)) (fn l : Kept) (line : List ℕ)
-    → ToldSo a r0 r1 fn l → IsUnbroken line
-    → Consumes r1 r2 (line ++ 10 ∷ []) ⊎ Consumes r1 r2 line
+    → ToldSo a r0 r1 fn l → IsUnbroken line → Consumes r1 r2 (line ++ 10 ∷ []) ⊎ Consumes r1 r2 line
     → ReadLines r0 r2 fn.lines (counted_on l.lines 1)
 lines_read_last a r0 r1 r2 fn l line so unbroken (inl whole) =
     let all : List ℕ = so.text ++ (line ++ 10 ∷ []) in

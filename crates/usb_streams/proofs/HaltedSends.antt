@@ -1,8 +1,7 @@
 -- Through a pipe that does not work a send moves nothing, and a send that failed leaves none that
 -- works.
-use Rattle.std.proofs.Common.{◌≡◌, ◌≢◌, ◌∙◌, inl, inr, refl, sym, ap, subst, true, false, ℕ}
-use Rattle.std.proofs.Common.{List, [], ◌++◌, length, take, Result, Ok, Err}
-use Rattle.std.specs.Prelude.{is_ok}
+use Rattle.std.proofs.Common.{◌≡◌, ◌≢◌, ◌∙◌, inl, inr, refl, sym, ap, subst, true, false, ℕ, List}
+use Rattle.std.proofs.Common.{[], ◌++◌, length, take, Result, Ok, Err, is_ok}
 use Rattle.std.specs.Int.{div_ceil}
 use Rattle.usb_packet.specs.{Toggle, flips}
 use Rattle.usb_device.specs.{IsSink, State, Location}
@@ -116,8 +115,7 @@ module _ (bytes : List ℕ) (pipe : Bulk) (old new : World) (halts : pipe.condit
 
 pub none_sent : (bytes : List ℕ) (pipe : Bulk) (answer : Result (Unit {0}) PipeFault) (left : Bulk)
     (old new : World) → pipe.condition ≢ Ready → new.shared ≡ false
-    → Sends bytes pipe old answer left new
-    → EachWas (NoneSent bytes pipe answer) old new
+    → Sends bytes pipe old answer left new → EachWas (NoneSent bytes pipe answer) old new
 none_sent bytes pipe answer left old new stuck single x =
     condition_cases Goal pipe.condition (λ e. absurd (stuck e)) halts breaks
   where

@@ -1,9 +1,9 @@
 -- What an item moves at a path.
 use Rattle.std.proofs.Common.{◌≡◌, ◌≢◌, ◌∙◌, refl, sym, ap, subst, Bool, true, false, ◌||◌, ℕ, List}
 use Rattle.std.proofs.Common.{[], length, Option, None, Some, Result, Ok, Err, append-nil, eq-eqb}
+use Rattle.std.proofs.Common.{is_ok, is_some, if◌then◌else◌}
 use Rattle.std.specs.BTreeMap.{is_at as ties}
 use Rattle.std.specs.Global.{Vec}
-use Rattle.std.specs.Prelude.{is_ok, is_some, if◌then◌else◌}
 use Rattle.usb_port.specs.{path_cmp}
 use Rattle.usb_device.specs.{EndpointState, State, Location, path_to, reach, reach_on, state_on}
 use Rattle.usb_device.specs.{state_there}
@@ -260,10 +260,7 @@ module _ (path : List ℕ) (t : ToldItem) (pipes left : Pipes) (s v : State) whe
       (λ none. sink_step_none (is_done t.item) (pipe_out pipes) (pipe_out left) s v
       (ap pipe_out kept) (ap (λ (d : State). d.sink) same))
       (λ none. gave_no_bytes (pipe_in pipes) (pipe_in left) (record { row = 0; rest = [] }) s v
-      (ap pipe_in kept) (
-        ap (λ (d : State). d.spec) same,
-        ap (λ (d : State). d.registers) same,
-      )
+      (ap pipe_in kept) (ap (λ (d : State). d.spec) same, ap (λ (d : State). d.registers) same)
       (ap (λ (d : State). d.place) same) (ap (λ (d : State). d.bulk_in) same))
       (ap (λ (d : State). d.spec) same)
 
@@ -469,8 +466,7 @@ module _ (path : List ℕ) (device : Accepted) (old new : HostState)
       -- whether it is to the path or to another
       sent_item : (to bytes : List ℕ) (told : Result (Unit {0}) TransferFault)
           → Transfers (SendTells to bytes) old told new → (tied : Bool)
-          → ties (path_cmp to) path ≡ tied
-          → MovesAt path device (Some (Send to bytes))
+          → ties (path_cmp to) path ≡ tied → MovesAt path device (Some (Send to bytes))
           (item.Sent to (sent_count (length bytes) told))
           old new
       sent_item to bytes told is true tie =

@@ -1,7 +1,6 @@
 -- With which byte of its source a device begins that was found anew.
 use Rattle.std.proofs.Common.{◌≡◌, ◌∙◌, refl, sym, ap, subst, Bool, true, false, ℕ, Option, None}
-use Rattle.std.proofs.Common.{Some, option_map}
-use Rattle.std.specs.Prelude.{is_some, if◌then◌else◌}
+use Rattle.std.proofs.Common.{Some, option_map, is_some, if◌then◌else◌}
 use Rattle.usb_packet.specs.{Zero, other}
 use Rattle.usb_device.specs.{EndpointState, rested, SourceAt, State}
 use Rattle.usb_pipe.specs.declared.condition.Condition.TheVariants.{Ready}

@@ -253,6 +253,5 @@ module _ (path : List ℕ) (device : Accepted) where
 
 pub stood_or_found : (old new : HostState) (told : List ToldItem) → Stretch old told new → Knows old
     → new.world.fault ≡ None → (path : List ℕ) (device : Accepted)
-    → accepted_device_at path new.entries ≡ Some device
-    → StoodOrFound path device told old new
+    → accepted_device_at path new.entries ≡ Some device → StoodOrFound path device told old new
 stood_or_found old new told t knows still path device at = stood path device t knows still at

@@ -1,7 +1,6 @@
 -- A call one way tries nothing, or goes through the pipe of that way to the device that was found.
 use Rattle.std.proofs.Common.{◌≡◌, refl, sym, ap, subst, ◌||◌, Bool, true, false, ℕ, Option, None}
-use Rattle.std.proofs.Common.{Some, Result, Err}
-use Rattle.std.specs.Prelude.{not, is_some, IfSome}
+use Rattle.std.proofs.Common.{Some, Result, Err, not, is_some, IfSome}
 use Rattle.usb_world.specs.{World}
 use Rattle.usb_pipe.specs.{Bulk, Interrupt}
 use Rattle.usb_enum.specs.{Accepted, Finding}

@@ -1,11 +1,10 @@
 -- What a transfer through the pipes to what was found at a path leaves.
 use Rattle.std.proofs.Common.{◌≡◌, ◌≢◌, ◌⊎◌, ◌∙◌, inl, inr, refl, sym, ap, subst, arith, ℕ, ◌*◌}
 use Rattle.std.proofs.Common.{◌≤◌, List, length, Bool, true, false, Option, Some, None, Result, Ok}
-use Rattle.std.proofs.Common.{Err}
+use Rattle.std.proofs.Common.{Err, IfErr}
 use Rattle.std.proofs.lemmas.Grind.{common_steps}
 use Rattle.std.specs.Global.{Vec}
 use Rattle.std.specs.Int.{div_ceil}
-use Rattle.std.specs.Prelude.{IfErr}
 use Rattle.usb_world.specs.{BusFault, World, Failed, AttemptsWithin}
 use Rattle.usb_world.proofs.Interface.{course_joined, each_joined, spends_none, spends_wider}
 use Rattle.usb_bus.specs.{Traced}
@@ -16,13 +15,12 @@ use Rattle.usb_address.proofs.Interface.{keeps_then}
 use Rattle.usb_backlog.proofs.Interface.{all_then}
 use Rattle.usb_enum.specs.{Accepted}
 use Rattle.usb_table.specs.{TableFault, Transfer, TransferFault, of_pipe, Pipes, Function}
-use Rattle.usb_table.specs.{accepted_device_at, is_below_hub}
+use Rattle.usb_table.specs.{accepted_device_at, is_below_hub, TableClears, TableReceives}
+use Rattle.usb_table.specs.{TableSends, Transferred, IsBulkPipe, ArePipesIf, Table, GoesThrough}
+use Rattle.usb_table.specs.{pipes_at, ClearedAfter, ClearedBy, OnlyTransfers, PipeDid}
+use Rattle.usb_table.specs.{TableFaultAllowed, PipesCleared, PipesReceived, PipesSent, PipesThrough}
+use Rattle.usb_table.specs.{ReceivedThrough, SameSettings, SentThrough, both_sides, table_answer}
 use Rattle.usb_table.specs.declared.fault.TableFault.TheVariants as table_fault
-use Rattle.usb_table.specs.{TableClears, TableReceives, TableSends, Transferred, IsBulkPipe}
-use Rattle.usb_table.specs.{ArePipesIf, Table, GoesThrough, pipes_at, ClearedAfter, ClearedBy}
-use Rattle.usb_table.specs.{OnlyTransfers, PipeDid, TableFaultAllowed, PipesCleared, PipesReceived}
-use Rattle.usb_table.specs.{PipesSent, PipesThrough, ReceivedThrough, SameSettings, SentThrough}
-use Rattle.usb_table.specs.{both_sides, table_answer}
 use Rattle.usb_table.proofs.transfers.DevicesKept.{PipeKeeps, clear_keeps, receive_keeps}
 use Rattle.usb_table.proofs.transfers.DevicesKept.{same_spares, send_keeps}
 use Rattle.usb_table.proofs.levels.KeptPipes.{ready_or_not}
@@ -49,8 +47,7 @@ same_spends n old new e =
 -- nothing was tried
 idle_transfer_leaves : {A : Type 0} (n : ℕ) (found : Option Accepted) (pipes : Pipes) (old : World)
     (result : Result A TableFault) (new : World) (fault : TransferFault)
-    → result ≡ Err (Transfer fault) → new ≡ old
-    → LeavesTransfer n found pipes old result pipes new
+    → result ≡ Err (Transfer fault) → new ≡ old → LeavesTransfer n found pipes old result pipes new
 idle_transfer_leaves n found pipes old result new fault e same = record {
   spends = same_spends n old new same;
   told = rw e tt;
@@ -63,12 +60,8 @@ idle_transfer_leaves n found pipes old result new fault e same = record {
 pipe_told : (why : PipeFault) (w : World)
     → ((fault : BusFault) → why ≡ pipe_fault.Bus fault → Failed fault w)
     → TableFaultAllowed (of_pipe why) w
-pipe_told pipe_fault.Stalled w told = tt
-pipe_told pipe_fault.Busy w told = tt
-pipe_told pipe_fault.NoAnswer w told = tt
-pipe_told pipe_fault.Broken w told = tt
 pipe_told (pipe_fault.Bus fault) w told = told fault refl
-pipe_told pipe_fault.Memory w told = tt
+pipe_told _ w told = tt
 
 told_through : {A : Type 0} (old : World) (answer : Result A PipeFault)
     (result : Result A TableFault) (w : World) → result ≡ table_answer answer
@@ -226,8 +219,7 @@ module _ (path : List ℕ) (old new : Table) (before after : World) (text now : 
       (n : ℕ) (result : Result A TableFault)
       → So (pipes_at path old) before result (pipes_at path new) after
       → LeavesTransfer n (accepted_device_at path old.entries) (pipes_at path old) before result
-      (pipes_at path new) after
-      → Transferred n So path old before text result new after now
+      (pipes_at path new) after → Transferred n So path old before text result new after now
   transferred n result did x = record {
     went = record { spends = x.spends; traced = traced };
     told = x.told;

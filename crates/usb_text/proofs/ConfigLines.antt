@@ -1,7 +1,6 @@
 -- Lists of printed lines.
 use Rattle.std.proofs.Common.{◌≡◌, ◌∙◌, ap, suc, zero, arith, ℕ, ◌+◌, ◌<◌, List, [], ◌∷◌, ◌++◌}
-use Rattle.std.proofs.Common.{length, take, get_or}
-use Rattle.std.specs.Prelude.{◌==◌}
+use Rattle.std.proofs.Common.{length, take, get_or, ◌==◌}
 use Rattle.usb_text.specs.{config_line, config_lines}
 
 -- the lines up to a text, and that text's line

@@ -118,9 +118,8 @@ module _ (t : Target) (result : Result (List ℕ) TransFault) {old new : World} 
   unended : (fault : TransFault) (outcomes : List Outcome)
       → Answers (Err fault) (Payload One (packed [])) outcomes → ⊥
   unended Stalled outcomes c = cc c.0
-  unended Busy outcomes c = c.0.0
-  unended NoAnswer outcomes c = c.0.0
   unended (Bus fault) outcomes c = c.1
+  unended _ outcomes c = c.0.0
 
   fits : (outcomes : List Outcome) (w : World) (u : State) → Stays w u → EndsWithAddress a w n u v
       → Answers result (outcome_in a w) outcomes → new ≡ after (attempt a) w → Fits v

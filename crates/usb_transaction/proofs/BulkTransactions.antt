@@ -17,8 +17,8 @@ use Rattle.usb_device.specs.declared.transfer.RememberedPacket.TheVariants as me
 use Rattle.usb_device.specs.Attempt.{whole}
 use Rattle.usb_device.proofs.Interface.{bulk_law_is, is_same-refl, other_toggle, other-other}
 use Rattle.usb_device.proofs.Interface.{same_number, source_on}
-use Rattle.usb_world.specs.{Attempt, Outcome, Relation, EachWas, DidIn, DidOut, got, attempt}
-use Rattle.usb_world.specs.{after, outcome_in, damage_in, World, Made}
+use Rattle.usb_world.specs.{Attempt, Outcome, Relation, EachWas, DidIn, DidOut, got, attempt, after}
+use Rattle.usb_world.specs.{outcome_in, damage_in, World, Made}
 use Rattle.usb_tree.specs.{IsSettled}
 use Rattle.usb_world.proofs.Interface.{remembers, settled_memory}
 use Rattle.usb_tree.proofs.Interface.{decided, false_true}
@@ -128,8 +128,7 @@ source_ends_stepped : (most n : ℕ) (awaited : Toggle) (s : State)
     → SourceEnds most n awaited s result v
 source_ends_stepped most n awaited s (Err (Bus fault)) v (none_came x) = none_came x
 source_ends_stepped most n awaited s (Err (Bus fault)) v (one_came x) = one_came x
-source_ends_stepped most n awaited s (Err Stalled) v x = x
-source_ends_stepped most n awaited s result v x = x
+source_ends_stepped most n awaited s _ v x = x
 
 module _ {most max : ℕ} {awaited : Toggle} {Clear : Type 0} {s : State} where
   kept : {h : HeardOutcome} {v : State} → SourceGave most max awaited Clear s h v → OnlySource s v
@@ -169,8 +168,7 @@ module _ {most max : ℕ} {awaited : Toggle} {Clear : Type 0} {s : State} where
 
   ended_in : (result : Result (List ℕ) TransFault) (o : Outcome) (outcomes : List Outcome)
       {v : State} → SourceGave most max awaited Clear s (heard_as awaited o) v
-      → IsEnd (heard_as awaited) result o outcomes
-      → SourceLeft most awaited result s v
+      → IsEnd (heard_as awaited) result o outcomes → SourceLeft most awaited result s v
   ended_in (Ok bytes) o outcomes {v} g is =
       came_in (subst (λ h. SourceGave most max awaited Clear s h v) is g)
   ended_in (Err Stalled) o outcomes {v} g is =
@@ -323,8 +321,6 @@ module _ (t : Target) (ep : ℕ) (awaited : Toggle) (old : World) (three : NoThr
       → (damage_in w ≡ None → Clear) → most ≤ t.max → had < length u.spec.source
       → SourceGave most t.max awaited Clear u h v → IsNoEnd h → Stands most had n w u
       → Stands most had (waits_with h n) (after (attempt (a_in t ep awaited)) w) v
-  next_stands had n w trail made c m left (moved b came f on) z y = elim z [ ]
-  next_stands had n w trail made c m left (refused f) z y = elim z [ ]
   next_stands had n w trail made c m left (unheard d) z (even g q few) = even g q few
   next_stands had n w trail made c m left (unheard d) z (behind g p q k ran few) =
       behind g p q (k + 1) (damaged_more trail made k (λ x. (d (c x)).1 m) ran) (omega (arith, few))
@@ -340,6 +336,7 @@ module _ (t : Target) (ep : ℕ) (awaited : Toggle) (old : World) (three : NoThr
   next_stands had n w trail made c m left (again false f r d on) z (behind g p q k ran few) =
       behind g p q (k + 1) (damaged_more trail made k (λ x. false_true (d (c x))) ran)
       (omega (arith, few))
+  next_stands had n w trail made c m left _ z y = elim z [ ]
 
   waits_few : (new : World) (j : Location) (s v : State) (most had : ℕ) → Listens t j s
       × IsSource ep most s → SourceAt most had awaited s → most ≤ t.max → had < length s.spec.source

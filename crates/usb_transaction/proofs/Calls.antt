@@ -2,7 +2,7 @@
 -- what it leaves of each device; why it failed.
 use Rattle.std.proofs.Common.{◌≡◌, ◌≢◌, ◌⊎◌, inl, inr, ℕ, Bool, true, false, ◌&&◌, List, ◌∷◌}
 use Rattle.std.proofs.Common.{length, None, Some, Ok, Err, if◌then◌else◌, refl, sym, subst, ap, ◌∙◌}
-use Rattle.std.proofs.Common.{arith, ◌≤◌, [], Option, Result}
+use Rattle.std.proofs.Common.{arith, ◌≤◌, [], Option, Result, IfOk, IfSome, OnOk}
 use Rattle.usb_packet.specs.{Toggle, One}
 use Rattle.usb_request.specs.{setup_of}
 use Rattle.usb_device.specs.{Answer, Way, is_whole, heard, State, Reply, accepted, forgotten}
@@ -26,9 +26,9 @@ use Rattle.usb_transaction.specs.{SourceIn, SinkOut, ChangesIn, AskedLast, Setup
 use Rattle.usb_transaction.specs.{Took, IsUnheard, AttemptLog, start, next, waits_with, waits_in}
 use Rattle.usb_transaction.specs.{IsNoEnd, KeepsTrying, TransactionDone, Transacted, Waiting}
 use Rattle.usb_transaction.specs.{Polled, packed, setup_attempt, in_attempt, out_attempt, SetupEnds}
-use Rattle.usb_transaction.specs.{MeansOfSetup, SetsUp, InLeaves, InFailure}
-use Rattle.usb_transaction.specs.{MeansOfIn, AsksIn, OutLeaves, OutFailure, MeansOfOut, SendsOut}
-use Rattle.usb_transaction.specs.{PollsIn, ControlInFailure, StatusReadFailure, SourceInFailure}
+use Rattle.usb_transaction.specs.{MeansOfSetup, SetsUp, InLeaves, InFailure, MeansOfIn, AsksIn}
+use Rattle.usb_transaction.specs.{OutLeaves, OutFailure, MeansOfOut, SendsOut, PollsIn}
+use Rattle.usb_transaction.specs.{ControlInFailure, StatusReadFailure, SourceInFailure}
 use Rattle.usb_transaction.specs.{SinkOutFailure, Ends}
 use Rattle.usb_transaction.proofs.DeviceRuns.{Deeds, EachIf, Run, had_address, in_others, more}
 use Rattle.usb_transaction.proofs.DeviceRuns.{none, out_others, over_trail}
@@ -37,7 +37,6 @@ use Rattle.usb_transaction.proofs.LastOutcomes.{set_up_empty}
 use Rattle.usb_transaction.proofs.SetupTransactions.{SetupResult, accepting, set_up_why}
 use Rattle.usb_transaction.proofs.SetupTransactions.{setup_leaves}
 use Rattle.usb_transaction.proofs.Trails.{few_waits, last_erred, trail_settled, ended_of}
-use Rattle.std.specs.Prelude.{IfOk, IfSome, OnOk}
 use Rattle.usb_transaction.proofs.BulkTransactions.{sink_leaves, sink_why, source_leaves}
 use Rattle.usb_transaction.proofs.BulkTransactions.{source_why}
 use Rattle.usb_transaction.proofs.ControlTransactions.{control_in_why, control_leaves}
@@ -308,8 +307,7 @@ module _ (t : Target) (a : Attempt) (its : a.addr ≡ t.addr) (Did : Deeds)
           few_waits hear e.outcomes e.onward,
           sym (ap (λ h. waits_with h (waits_in hear e.outcomes)) (ap hear n ∙ lost)) ∙ e.tells,
         )))
-    fault_had NoAnswer y e = absurd y
-    fault_had (Bus fault) y e = absurd y
+    fault_had _ y e = absurd y
 
 -- The three kinds
 

@@ -32,12 +32,11 @@ use Rattle.usb_transaction.specs.{StatusEnds, ControlIn, IsInRead, over, ReadSta
 use Rattle.usb_transaction.specs.Failures.{data_stage}
 use Rattle.std.proofs.lemmas.Bool.Decides.{nat_tests}
 use Rattle.arrayvec.specs.ArrayVec.{ArrayVec}
-use Rattle.usb_transaction.proofs.DeviceRuns.{IsEnd, Run, as_whole, asked_in}
-use Rattle.usb_transaction.proofs.DeviceRuns.{at_end, at_from, each_device, had_address, heeded}
-use Rattle.usb_transaction.proofs.DeviceRuns.{listens_on, mine, not_busy, of_bus, one_wait}
-use Rattle.usb_transaction.proofs.DeviceRuns.{others_stay_then, over_in, over_in_trail, positive}
-use Rattle.usb_transaction.proofs.DeviceRuns.{delivered_out, out_others, over_out, spared}
-use Rattle.usb_transaction.proofs.DeviceRuns.{Through, stays_away, was_then}
+use Rattle.usb_transaction.proofs.DeviceRuns.{IsEnd, Run, as_whole, asked_in, at_end, at_from}
+use Rattle.usb_transaction.proofs.DeviceRuns.{each_device, had_address, heeded, listens_on, mine}
+use Rattle.usb_transaction.proofs.DeviceRuns.{not_busy, of_bus, one_wait, others_stay_then, over_in}
+use Rattle.usb_transaction.proofs.DeviceRuns.{over_in_trail, positive, delivered_out, out_others}
+use Rattle.usb_transaction.proofs.DeviceRuns.{over_out, spared, Through, stays_away, was_then}
 use Rattle.usb_transaction.proofs.LastOutcomes.{heard_taken, no_packet, packet_heard, packet_in}
 use Rattle.usb_transaction.proofs.LastOutcomes.{sent_last}
 use Rattle.usb_transaction.proofs.Trails.{LostRun, as_transacted, damaged_more, lost_run_none}
@@ -57,8 +56,7 @@ pub data ControlGave (u : State) : Outcome → State → Type 0 where
   a_nak : is_busy u ≡ true → ControlGave u Nak (nak_row u).1
   a_stall : is_busy u ≡ false → u.stage ≡ refused → ControlGave u Stall u
   a_packet : is_busy u ≡ false → (text bytes : List ℕ) (wanted k n : ℕ) (m : RememberedPacket)
-      → u.stage ≡ reading text wanted k
-      → ControlGave u (Payload (toggle_at k) (packed bytes))
+      → u.stage ≡ reading text wanted k → ControlGave u (Payload (toggle_at k) (packed bytes))
       (record u { memory = m; stage = reading text wanted n })
   a_status : is_busy u ≡ false → (a : Option ℕ) (v : State) → u.stage ≡ ending a → StatusGiven a u v
       → OnlyControl u v → v.naks ≡ u.naks → ControlGave u (Payload One (packed [])) v
@@ -94,8 +92,7 @@ abbrev record_stage : State → Stage → State
 record_stage s st = record s { stage = st }
 
 gives_read : (max : ℕ) (s : State) (text : List ℕ) (wanted k : ℕ) (t2 t3 : Way) → is_busy s ≡ false
-    → (o : Option (List ℕ))
-    → ControlGives max (record_stage s (reading text wanted k))
+    → (o : Option (List ℕ)) → ControlGives max (record_stage s (reading text wanted k))
     (elim o [
       | None ↦ (None, record_stage s (reading text wanted k))
       | Some bytes ↦
@@ -172,8 +169,7 @@ can_answer spec hear refuses (Err Stalled) o outcomes e says waits =
     (λ f. cc (sym refuses ∙ ap hear (sym e) ∙ f))
 can_answer spec hear refuses (Err Busy) o outcomes e says waits =
     elim waits [ inl none ↦ absurd (omega (arith, none, e.1)) | inr loud ↦ loud ]
-can_answer spec hear refuses (Err NoAnswer) o outcomes e says waits = tt
-can_answer spec hear refuses (Err (Bus fault)) o outcomes e says waits = tt
+can_answer spec hear refuses _ o outcomes e says waits = tt
 
 -- the first wait was heard
 pub waits_more : (spec : Spec) (hear : Outcome → HeardOutcome) (o : Outcome)
@@ -378,8 +374,7 @@ gave_stall u o v g e = cc e
 
 refused_back : (t : Target) {old : World} {j : Location} {s : State} {outcomes : List Outcome}
     {w : World} {v : State} → Run (DidIn (in_attempt t 0)) (in_attempt t 0) old j s outcomes w v
-    → (is_at v t ≡ true) × (v.stage ≡ refused)
-    → (is_at s t ≡ true) × (s.stage ≡ refused)
+    → (is_at v t ≡ true) × (v.stage ≡ refused) → (is_at s t ≡ true) × (s.stage ≡ refused)
 refused_back t Run.none h = h
 refused_back t {j = j} (Run.more w u v r made run d) h =
     refused_back t run (
@@ -424,8 +419,7 @@ result_of_came : (awaited : Toggle) (P : Option (List ℕ) → Type 0) (F : Resu
     → (P None → F (Err Stalled) × F (Err Busy) × F (Err NoAnswer))
     → ((fault : BusFault) (c : Option (List ℕ)) → P c → F (Err (Bus fault)))
     → (result : Result (List ℕ) TransFault) (o : Outcome) (outcomes : List Outcome)
-    → IsEnd (heard_as awaited) result o outcomes
-    → P (packet_heard (heard_as awaited o)) → F result
+    → IsEnd (heard_as awaited) result o outcomes → P (packet_heard (heard_as awaited o)) → F result
 result_of_came awaited P F some nil cut (Ok bytes) o outcomes e x =
     some bytes (subst (λ h. P (packet_heard h)) e x)
 result_of_came awaited P F some nil cut (Err Stalled) o outcomes e x =
@@ -805,11 +799,10 @@ module _ (max : ℕ) (s : State) (loud : s.spec.silent ≡ false) where
 
   row_does : (g : Stage) → s.stage ≡ g → s.spec.busy ≡ false
       → Does s (got max (out_row s g One []).0) (forgotten (out_row s g One []).1)
-  row_does idle e calm = unmoved_out s _ Nothing tt
   row_does refused e calm = unmoved_out s _ Stall (loud, calm, e)
   row_does (reading answer wanted k) e calm = done calm (in_stage answer wanted k e)
   row_does read e calm = done calm (over e)
-  row_does (ending a) e calm = unmoved_out s _ Nothing tt
+  row_does _ e calm = unmoved_out s _ Nothing tt
 
   abbrev row_if : Bool → Reply
   row_if b = if b then nak_row s else out_row s s.stage One []
@@ -852,8 +845,7 @@ answers max s false (over h) e =
 
 heeds : (t : Target) (w : World) (j : Location) (s v : State)
     → DidOut (out_attempt t 0 One []) One [] w j s v → Listens t j s → IsInRead s
-    → damage_in w ≡ None
-    → heard_when_sent (outcome_in (out_attempt t 0 One []) w) ≢ Lost
+    → damage_in w ≡ None → heard_when_sent (outcome_in (out_attempt t 0 One []) w) ≢ Lost
 heeds t w j s v d l h quiet e =
     let q : _ = delivered_out t 0 One [] w j s v d l.at in
     answers t.max s (is_busy s) h (sym (ap (λ r. heard_when_sent (got t.max r.0))
@@ -913,19 +905,14 @@ loud_more : (spec : Spec) (s v : State) (o : Outcome) (outcomes : List Outcome) 
     → 0 < waits_in heard_when_sent (o ∷ outcomes) → spec.silent ≡ false
 unfolding waits_in
 loud_more spec s v (Payload given bytes) outcomes x l lt = l lt
-loud_more spec s v Ack outcomes x l lt = x.0
-loud_more spec s v Nak outcomes x l lt = x.0
-loud_more spec s v Stall outcomes x l lt = x.0
 loud_more spec s v Nothing outcomes x l lt = l lt
+loud_more spec s v _ outcomes x l lt = x.0
 
 -- each wait is one NAK fewer of one that is not always busy
 waits_fewer : (spec : Spec) (s v : State) (o : Outcome) (n : ℕ) → SaysOut spec s v o
     → spec.busy ≡ false → v.naks ≤ s.naks → waits_with (heard_when_sent o) n + v.naks ≤ n + s.naks
-waits_fewer spec s v (Payload given bytes) n x calm less = omega arith
-waits_fewer spec s v Ack n x calm less = omega arith
 waits_fewer spec s v Nak n x calm less = omega (arith, x.1 calm)
-waits_fewer spec s v Stall n x calm less = omega arith
-waits_fewer spec s v Nothing n x calm less = omega arith
+waits_fewer spec s v _ n x calm less = omega arith
 
 -- What a transaction leaves
 
@@ -950,8 +937,7 @@ out_told s u v o outcomes m x loud (Err Stalled) e =
     unrefused u (over h) e = cc (sym h ∙ e)
 out_told s u v o outcomes m x loud (Err Busy) e =
     (λ b h. cc h, λ h r. cc r, loud (omega (arith, e.1)))
-out_told s u v o outcomes m x loud (Err NoAnswer) e = (λ b h. cc h, λ h r. cc r, tt)
-out_told s u v o outcomes m x loud (Err (Bus fault)) e = (λ b h. cc h, λ h r. cc r, tt)
+out_told s u v o outcomes m x loud _ e = (λ b h. cc h, λ h r. cc r, tt)
 
 module _ (t : Target) (result : Result (List ℕ) TransFault) (old new : World) where
   abbrev Over : Location → State → State → Type 0

@@ -109,18 +109,16 @@ Through Did a hear result old new =
 pub of_bus : {A : Type 0} (P : Result A TransFault → Type 0)
     → ((fault : BusFault) → P (Err (Bus fault))) → (result : Result A TransFault) → IsOfBus result
     → P result
-of_bus P f (Ok x) gave = absurd (gave tt)
 of_bus P f (Err (Bus fault)) gave = f fault
-of_bus P f (Err fault) gave = absurd (gave tt)
+of_bus P f _ gave = absurd (gave tt)
 
 pub tells_end : (hear : Outcome → HeardOutcome) (result : Result (List ℕ) TransFault) (o : Outcome)
     (outcomes : List Outcome) → KeepsTrying hear outcomes → LastOutcome hear result o outcomes
     → IsEnd hear result o outcomes
-tells_end hear (Ok bytes) o outcomes g t = t
-tells_end hear (Err Stalled) o outcomes g t = t
 tells_end hear (Err Busy) o outcomes g t = (last_waited hear o outcomes g t, t)
 tells_end hear (Err NoAnswer) o outcomes g t = (last_erred hear o outcomes t, t)
 tells_end hear (Err (Bus fault)) o outcomes g t = tt
+tells_end hear _ o outcomes g t = t
 
 -- Each device has such a run
 
@@ -140,8 +138,7 @@ module _ (Did : Deeds) (a : Attempt) (P : State → Type 0)
 
     pub over_last : (hear : Outcome → HeardOutcome) (Last : Outcome → List Outcome → Type 0)
         (GaveUp : Type 0) {new : World} {o : Outcome} {outcomes : List Outcome} → new.shared ≡ false
-        → AttemptLog a old (o ∷ outcomes) new
-        → KeepsTrying hear outcomes → Last o outcomes
+        → AttemptLog a old (o ∷ outcomes) new → KeepsTrying hear outcomes → Last o outcomes
         → EachIf P (RunThrough Did a hear Last GaveUp old new) old new
     over_last hear Last GaveUp single (next w t made) onward is =
         each_if-joined old w (after (attempt a) w) (back w)
@@ -179,8 +176,7 @@ module _ (Did : Deeds) (a : Attempt) (P : State → Type 0)
           (tells_end hear result e.last e.outcomes e.onward e.tells)
 
       pub over_transaction : (result : Result (List ℕ) TransFault)
-          → Transacted hear a old result new
-          → EachIf P (Through Did a hear result old new) old new
+          → Transacted hear a old result new → EachIf P (Through Did a hear result old new) old new
       over_transaction (Err (Bus fault)) x =
           over_cut (IsEnd hear (Err (Bus fault))) (IsOfBus {A = List ℕ} (Err (Bus fault))) fault
           (λ n. n) (λ o outcomes. tt) x
@@ -204,8 +200,7 @@ module _ (Did : Deeds) (a : Attempt) (P : State → Type 0)
 module _ {Did : Deeds} {a : Attempt} {old : World} {j : Location} {s : State} (hear : Outcome
     → HeardOutcome) (I : List Outcome → World → State → Type 0) (first : I [] old s)
     (onward : (outcomes : List Outcome) (w : World) (u v : State) → AttemptLog a old outcomes w
-    → Made w (after (attempt a) w) → I outcomes w u → Did w j u v
-    → IsNoEnd (hear (outcome_in a w))
+    → Made w (after (attempt a) w) → I outcomes w u → Did w j u v → IsNoEnd (hear (outcome_in a w))
     → I (outcome_in a w ∷ outcomes) (after (attempt a) w) v) where
   pub along : {outcomes : List Outcome} {w : World} {v : State} → Run Did a old j s outcomes w v
       → KeepsTrying hear outcomes → I outcomes w v
@@ -271,8 +266,7 @@ others_stay_then t s u v f g h = g (ap (λ x. is_at x t) (f h) ∙ h) ∙ f h
 
 pub stays_away : {Did : Deeds} {a : Attempt} {hear : Outcome → HeardOutcome} {Last : Outcome
     → List Outcome → Type 0} {GaveUp : Type 0} {old new : World} {j : Location} {s v : State}
-    (t : Target)
-    → ((w : World) (u x : State) → Did w j u x → is_at u t ≡ false → x ≡ u)
+    (t : Target) → ((w : World) (u x : State) → Did w j u x → is_at u t ≡ false → x ≡ u)
     → RunThrough Did a hear Last GaveUp old new j s v → is_at s t ≡ false → v ≡ s
 stays_away {hear = hear} {s = s} {v = v} t others x away =
     at_end hear (λ outcomes w u. u ≡ s) refl
@@ -479,6 +473,5 @@ module _ {Did : Deeds} {a : Attempt} {hear : Outcome → HeardOutcome} {old new 
 
       one_left : (outcomes : List Outcome) (o : Outcome) (m n : ℕ)
           → waits_in hear outcomes + m ≤ left s → waits_with (hear o) (waits_in hear outcomes) + n
-          ≤ waits_in hear outcomes + m
-          → waits_in hear (o ∷ outcomes) + n ≤ left s
+          ≤ waits_in hear outcomes + m → waits_in hear (o ∷ outcomes) + n ≤ left s
       one_left outcomes o m n x y = omega (arith, x, y)

@@ -427,8 +427,7 @@ module _ (t : Target) (toggle : Toggle) (old : World) (m : 1 ≤ t.max) (j : Loc
 
     answers : Listens t j s → PollAt NeverTold toggle s → s.changes.halted ≡ false
         → (fault : TransFault) → IsNotOfBus {A = Option (List ℕ)} (Err fault)
-        → (new : World) (v : State)
-        → RunThrough (DidIn a) a hear (IsPollEnd toggle (Err fault))
+        → (new : World) (v : State) → RunThrough (DidIn a) a hear (IsPollEnd toggle (Err fault))
         (IsOfBus {A = Option (List ℕ)} (Err fault)) old new j s v → ⊥
     unfolding waits_in errors_running
     answers l start quiet fault sound new v run =

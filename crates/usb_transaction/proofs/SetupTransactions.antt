@@ -28,10 +28,9 @@ use Rattle.usb_transaction.specs.{TransFault, Stalled, Busy, Target, NoThreeDama
 use Rattle.usb_transaction.specs.{SetupFailure, set_up_as, is_at, CanAccept, AcceptedAt}
 use Rattle.usb_transaction.specs.{AcceptedSince, SetupDone, IsSpared, EachSpared, AttemptLog}
 use Rattle.usb_transaction.specs.{TransactionDone, Transacted, waits_in, setup_attempt}
-use Rattle.usb_transaction.proofs.DeviceRuns.{IsEnd, IsOfBus, AttemptLeft, at_end}
-use Rattle.usb_transaction.proofs.DeviceRuns.{each_if-joined, heeded, listens_at, of_bus, over_end}
-use Rattle.usb_transaction.proofs.DeviceRuns.{Through, was_then}
-use Rattle.usb_transaction.proofs.DeviceRuns.{over_transaction, stays_away}
+use Rattle.usb_transaction.proofs.DeviceRuns.{IsEnd, IsOfBus, AttemptLeft, at_end, each_if-joined}
+use Rattle.usb_transaction.proofs.DeviceRuns.{heeded, listens_at, of_bus, over_end, Through}
+use Rattle.usb_transaction.proofs.DeviceRuns.{was_then, over_transaction, stays_away}
 
 -- A request asks the same once it was accepted
 
@@ -270,8 +269,7 @@ module _ (t : Target) (bytes : List ℕ) (eight : length bytes ≡ 8) (w : World
         → outcome_in a w ≡ got 8 (setup_law s (row_of below) bytes t1 t2 t3).0
         → place_on new.roots j ≡ Some (full b (setup_law s (row_of below) bytes t1 t2 t3).1
         (acted (if is_whole t1 && is_whole t2 then asked_by_setup s (setup_of bytes)
-        else Leaves) below))
-        → SetupResult t bytes w j s v
+        else Leaves) below)) → SetupResult t bytes w j s v
     by_ways whole whole whole e o l = taken e (inr o) l
     by_ways whole whole t3 e o l = taken e (inl o) l
     by_ways t1 t2 t3 e o l = unmoved s e (λ y. o) heard_whole
@@ -360,8 +358,7 @@ module _ (t : Target) (bytes : List ℕ) (old : World) (j : Location) (s : State
 
   ends : (outcomes : List bus.Outcome) (w new : World)
       → AttemptLog (setup_attempt t bytes) old outcomes w → (u v : State) → KeptSince u
-      → SetupResult t bytes w j u v → is_at s t ≡ true
-      → (result : Result (List ℕ) TransFault)
+      → SetupResult t bytes w j u v → is_at s t ≡ true → (result : Result (List ℕ) TransFault)
       → IsEnd set_up_as result (outcome_in (setup_attempt t bytes) w) outcomes
       → ((IsOfBus result → ⊥) → AttemptLeft (setup_attempt t bytes) w new) → Ends new v result
   ends outcomes w new r u v k d at = by (outcome_in (setup_attempt t bytes) w)

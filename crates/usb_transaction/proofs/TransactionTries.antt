@@ -1,11 +1,11 @@
 -- How a transaction goes on, try by try, how it ends, and how many attempts it makes.
-use Rattle.std.proofs.Common.{◌≡◌, inl, inr, refl, sym, subst, ap, ◌∙◌, arith}
-use Rattle.std.specs.Prelude.{ℕ, ◌+◌, ◌*◌, ◌<◌, ◌≤◌, ◌⊎◌, length, List, [], ◌∷◌, true, false}
-use Rattle.std.specs.Prelude.{Option, None, Some, Result, Ok, Err}
+use Rattle.std.proofs.Common.{◌≡◌, inl, inr, refl, sym, subst, ap, ◌∙◌, arith, ℕ, ◌+◌, ◌*◌, ◌<◌}
+use Rattle.std.proofs.Common.{◌≤◌, ◌⊎◌, length, List, [], ◌∷◌, true, false, Option, None, Some}
+use Rattle.std.proofs.Common.{Result, Ok, Err}
 use Rattle.arrayvec.specs.ArrayVec.{ArrayVec}
 use Rattle.usb_packet.specs.{Toggle}
-use Rattle.usb_world.specs.{Attempt, BusFault, Outcome, World, AttemptsWithin}
-use Rattle.usb_world.specs.{IsAttempt, FitsMaximum, attempt, after}
+use Rattle.usb_world.specs.{Attempt, BusFault, Outcome, World, AttemptsWithin, IsAttempt}
+use Rattle.usb_world.specs.{FitsMaximum, attempt, after}
 use Rattle.usb_world.specs.declared.types.Outcome.TheVariants.{Nak, Stall}
 use Rattle.usb_world.proofs.Interface.{spends_none, spends_then, spends_wider}
 use Rattle.usb_bus.specs.{Attempts, Traced, still, attempted, StepRun}
@@ -341,13 +341,12 @@ fits_length hear (o ∷ outcomes) = let le = fits_length hear outcomes in let on
 module _ (hear : Outcome → HeardOutcome) (a : Attempt) (old new : World) where
   pub ends_of : (result : Result (List ℕ) TransFault) → Transacted hear a old result new
       → Ends old result new
-  ends_of (Ok bytes) x = trail_worked 1 (omega arith) x.trail
-  ends_of (Err Stalled) x = trail_worked 1 (omega arith) x.trail
   ends_of (Err Busy) x = trail_worked 256 (let le = (fits_length hear (x.last ∷ x.outcomes)).1 in
       omega (arith, le, x.tells)) x.trail
   ends_of (Err NoAnswer) x = trail_worked 3 (let le = (fits_length hear (x.last ∷ x.outcomes)).0 in
       omega (arith, le, x.tells)) x.trail
   ends_of (Err (Bus fault)) x = x.refused.ends
+  ends_of _ x = trail_worked 1 (omega arith) x.trail
 
 pub poll_ends : (toggle : Toggle) (a : Attempt) (old new : World)
     (result : Result (Option (List ℕ)) TransFault) → Polled toggle a old result new

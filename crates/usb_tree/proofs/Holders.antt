@@ -79,8 +79,7 @@ SameOr i p j q n k = ((i ≡ j) × (p ≡ q)) ⊎ (2 ≤ occurs n (held_addresse
 
 pub same_or_twice : (k : Ports) (i : ℕ) (p : List ℕ) (j : ℕ) (q : List ℕ) (n : ℕ)
     → reach_at k i p ≡ true → option_map address_of (state_at k i p) ≡ Some n
-    → reach_at k j q ≡ true → option_map address_of (state_at k j q) ≡ Some n
-    → SameOr i p j q n k
+    → reach_at k j q ≡ true → option_map address_of (state_at k j q) ≡ Some n → SameOr i p j q n k
 unfolding reach_at state_at
 same_or_twice ended i p j q n h e g f = false_true h
 same_or_twice (vacant b k) zero p j q n h e g f = false_true h
@@ -170,8 +169,7 @@ occurs-most n (x ∷ xs) h = split (n == x) refl (neither (has x xs) (repeats xs
 pub is_twice-one_path : (k : Ports) (i : ℕ) (p : List ℕ) (j : ℕ) (q : List ℕ) (n : ℕ)
     → repeats (held_addresses k) ≡ false
     → reach_at k i p ≡ true → option_map address_of (state_at k i p) ≡ Some n
-    → reach_at k j q ≡ true → option_map address_of (state_at k j q) ≡ Some n
-    → (i ≡ j) × (p ≡ q)
+    → reach_at k j q ≡ true → option_map address_of (state_at k j q) ≡ Some n → (i ≡ j) × (p ≡ q)
 is_twice-one_path k i p j q n u h e g f = pick (same_or_twice k i p j q n h e g f)
   where
     pick : SameOr i p j q n k → (i ≡ j) × (p ≡ q)

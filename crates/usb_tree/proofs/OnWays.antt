@@ -1,6 +1,6 @@
 -- A packet spares what is pending, leaves a port, resets none, by what each device on the way asks.
-use Rattle.std.proofs.Common.{◌≡◌, ℕ, zero, suc, ◌||◌, not, Bool, true, false}
-use Rattle.std.proofs.Common.{List, [], ◌∷◌, ◌++◌, Some, refl, ap}
+use Rattle.std.proofs.Common.{◌≡◌, ℕ, zero, suc, ◌||◌, not, Bool, true, false, List, [], ◌∷◌, ◌++◌}
+use Rattle.std.proofs.Common.{Some, refl, ap}
 use Rattle.usb_device.specs.{Sent, State, Ports, vacant, taken, state_at, effect_of}
 use Rattle.usb_tree.specs.{effect_resets, resets_at, effect_keeps_pending, packet_keeps_pending}
 use Rattle.usb_tree.specs.{leaves_port, way_leaves}
@@ -40,8 +40,7 @@ way_leaves-on_way q deep k j p c = refl
 
 pub resets_if : (q : Sent) (deep : Bool) (k : Ports) (j : ℕ) (p : List ℕ)
     → OnWay (λ t m r. (dp : Bool) (a : Ports) → effect_resets (effect_of q dp t) a m r ≡ false)
-    k j p
-    → resets_at q deep k j p ≡ false
+    k j p → resets_at q deep k j p ≡ false
 unfolding resets_at state_at
 resets_if q deep (vacant b k) (suc j) p c = resets_if q deep k j p c
 resets_if q deep (taken b s a k) zero (suc j ∷ p) c =

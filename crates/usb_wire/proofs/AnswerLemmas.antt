@@ -1,6 +1,5 @@
 -- Bytes in hexadecimal digits, one after the other.
-use Rattle.std.proofs.Common.{◌≡◌, ℕ, ◌+◌, List, [], ◌∷◌, ◌++◌, length, ap}
-use Rattle.std.proofs.Common.{◌∙◌, length-append}
+use Rattle.std.proofs.Common.{◌≡◌, ℕ, ◌+◌, List, [], ◌∷◌, ◌++◌, length, ap, ◌∙◌, length-append}
 use Rattle.hex.specs.Hex.{encode_upper, encode_with}
 
 pub length-encode_upper-more : (line line' : List ℕ) (byte : ℕ)

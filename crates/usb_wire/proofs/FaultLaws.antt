@@ -256,14 +256,6 @@ faults-three : (asked : Asked) (count : ℕ) (word first second : List ℕ)
     ≡ words_fault asked count (word ∷ first ∷ second ∷ [])
 unfolding three_say with_two
 faults-three Hello count word first second = refl
-faults-three Attempt count word first second =
-    push_or count (bytes_eq word (codes "port")) (status_change count first second) (Err NoAnswer)
-    (root_field ∷ status_field ∷ []) None (first ∷ second ∷ [])
-    (faults-status_change count first second) refl
-faults-three Port count word first second =
-    push_or count (bytes_eq word (codes "port")) (status_change count first second) (Err NoAnswer)
-    (root_field ∷ status_field ∷ []) None (first ∷ second ∷ [])
-    (faults-status_change count first second) refl
 faults-three Wait count word first second =
     push_or count (bytes_eq word (codes "port")) (status_change count first second) _
     (root_field ∷ status_field ∷ []) _ (first ∷ second ∷ [])
@@ -274,6 +266,10 @@ faults-three Wait count word first second =
     (form_or count (bytes_eq word (codes "receive")) (receive_answer first second) (Err NoAnswer)
     (path_field ∷ packets_field ∷ []) None (first ∷ second ∷ [])
     (faults-receive count first second) refl))
+faults-three _ count word first second =
+    push_or count (bytes_eq word (codes "port")) (status_change count first second) (Err NoAnswer)
+    (root_field ∷ status_field ∷ []) None (first ∷ second ∷ [])
+    (faults-status_change count first second) refl
 
 -- ---- lines of more words have no form
 
@@ -314,9 +310,8 @@ line_rows : (l p : Bool) (line : List ℕ) (f : List ℕ → Result Said WireFau
     (other : Option WireFault) → fault_in (f line) ≡ other
     → fault_in ((if l then Err LineTooLong else if p then Ok line else Err BadCharacter) >>= f)
     ≡ (if l then Some LineTooLong else if not p then Some BadCharacter else other)
-line_rows true p line f other h = refl
 line_rows false true line f other h = h
-line_rows false false line f other h = refl
+line_rows _ _ line f other h = refl
 
 -- the fault that is told of a line is its own
 pub faults-line : (asked : Asked) (count : ℕ) (line : List ℕ)

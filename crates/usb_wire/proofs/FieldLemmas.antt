@@ -326,22 +326,19 @@ counted-count_in word n e =
     record { hex = parts.0; count = parts.1 }
 
 bytes_by : (most : ℕ) (hex : Bool) (m n : ℕ) (o : Option (List ℕ)) (xs : List ℕ) → hex ≡ true
-    → m ≡ n → nat_lt most n ≡ false → o ≡ Some xs
-    → ((if hex then Ok m else Err BadHex) >>=
+    → m ≡ n → nat_lt most n ≡ false → o ≡ Some xs → ((if hex then Ok m else Err BadHex) >>=
     (λ count. if nat_lt most count then Err BadLength else ok_or o BadHex)) ≡ Ok xs
 bytes_by most true m n o xs h same few is = rw (same, few, is) refl
 bytes_by most false m n o xs h same few is = cc
 
 hex_status : (hex : Bool) (m : ℕ) (o : Option (List ℕ)) (xs : List ℕ) → hex ≡ true → m ≡ 4
-    → o ≡ Some xs
-    → ((if hex then Ok m else Err BadHex) >>=
+    → o ≡ Some xs → ((if hex then Ok m else Err BadHex) >>=
     (λ count. if count == 4 then ok_or o BadHex else Err BadLength)) ≡ Ok xs
 hex_status true m o xs h same is = rw (same, is) refl
 hex_status false m o xs h same is = cc
 
 pub bytes_of_word-value : (most : ℕ) (word : List ℕ) (n : ℕ) (bytes : List ℕ) → Counted word n
-    → n ≤ most
-    → hex_value word ≡ Some bytes → bytes_of_word most word ≡ Ok bytes
+    → n ≤ most → hex_value word ≡ Some bytes → bytes_of_word most word ≡ Ok bytes
 unfolding bytes_of_word count_in
 bytes_of_word-value most word n bytes h few e =
     let fits = le-ltb most n few in

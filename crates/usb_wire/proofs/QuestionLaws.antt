@@ -234,9 +234,8 @@ pre_found text rest e =
 after_found : (speed : Speed) (text rest : List ℕ) → after_pre speed text ≡ Some rest
     → codes " / " ++ text ≡ between_text speed ++ rest
 unfolding after_pre
-after_found Full text rest e = ap (λ r. codes " / " ++ r) (same_Some text rest e)
-after_found Low text rest e = ap (λ r. codes " / " ++ r) (same_Some text rest e)
 after_found LowBelowHub text rest e = ap (λ r. codes " / " ++ r) (pre_found text rest e)
+after_found _ text rest e = ap (λ r. codes " / " ++ r) (same_Some text rest e)
 
 data_found : (speed : Speed) (text : List ℕ) (sent : Toggle × List ℕ)
     → data_behind speed text ≡ Some sent → 32 ∷ text ≡ between_text speed ++ data_with sent.0 sent.1
@@ -466,9 +465,8 @@ several_found text q e =
 text_read : (l p : Bool) (line text : List ℕ)
     → ◌≡◌ {A = Result (List ℕ) WireFault} (if l then Err LineTooLong else if p then Ok line else Err
     BadCharacter) (Ok text) → line ≡ text
-text_read true p line text e = absurd (cc)
 text_read false true line text e = same_Ok line text e
-text_read false false line text e = absurd (cc)
+text_read _ _ line text e = absurd (cc)
 
 text_of_line-ok : (line text : List ℕ) → text_of_line line ≡ Ok text → line ≡ text
 unfolding text_of_line
@@ -599,9 +597,8 @@ device_cut e rest h = cut_at-mark 32 (endpoint_text e) rest
 
 -- what stands behind an endpoint and its space, before the host's data
 abbrev behind_device : Speed → Toggle → List ℕ → List ℕ
-behind_device Full t digits = codes "/ " ++ data_with t digits
-behind_device Low t digits = codes "/ " ++ data_with t digits
 behind_device LowBelowHub t digits = codes "/ PRE " ++ data_with t digits
+behind_device _ t digits = codes "/ " ++ data_with t digits
 
 pre_is : (speed : Speed) (t : Toggle) (digits : List ℕ) → between_text speed ++ data_with t digits
     ≡ 32 ∷ behind_device speed t digits

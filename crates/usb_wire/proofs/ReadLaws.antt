@@ -155,8 +155,7 @@ read_changed asked count number status digits may low high small e four =
     (push_said asked count number status digits may low high small e four)
 
 data_said : (count : ℕ) (toggle : Toggle) (xs digits : List ℕ) → hex_value digits ≡ Some xs
-    → length xs ≤ 64
-    → words_say Attempt count (printed_data toggle ∷ digits ∷ [])
+    → length xs ≤ 64 → words_say Attempt count (printed_data toggle ∷ digits ∷ [])
     ≡ Ok (Answered (Data (record { toggle = toggle; bytes = record { items = xs } })))
 unfolding words_say with_one data_answer
 data_said count Zero xs digits e few = rw (read_bytes 64 digits xs e few) refl

@@ -14,11 +14,10 @@ use Rattle.usb_port.proofs.Paths.{some_if}
 use Rattle.usb_wire.specs.{Answer, Roots, Ack, Nak, Stall, Nothing, Data, Done, Show, End, Send}
 use Rattle.usb_wire.specs.{Receive, Clear, Said, Changed, Answered, WireFault, LineTooLong}
 use Rattle.usb_wire.specs.{BadCharacter, NoAnswer, BadHex, BadLength, BadNumber, BadPath, Asked}
-use Rattle.usb_wire.specs.{More as MoreWords}
-use Rattle.usb_wire.specs.{AreAtMost, MayAnswer, IsSaidLine, MayPush, MaySay, answer_bytes}
-use Rattle.usb_wire.specs.{answer_in_digits, send_limit, hex_value}
-use Rattle.usb_wire.specs.{number_within, alone, said_of, bytes_of_word, clear_answer, count_in}
-use Rattle.usb_wire.specs.{data_answer, line_says, may_push, number_of_word, path_in, status_change}
+use Rattle.usb_wire.specs.{More as MoreWords, AreAtMost, MayAnswer, IsSaidLine, MayPush, MaySay}
+use Rattle.usb_wire.specs.{answer_bytes, answer_in_digits, send_limit, hex_value, number_within}
+use Rattle.usb_wire.specs.{alone, said_of, bytes_of_word, clear_answer, count_in, data_answer}
+use Rattle.usb_wire.specs.{line_says, may_push, number_of_word, path_in, status_change}
 use Rattle.usb_wire.specs.{receive_answer, roots_answer, send_answer, shape_says, status_of_word}
 use Rattle.usb_wire.specs.{text_of_line, three_say, with_one, with_two, words_say, AreWords}
 use Rattle.usb_wire.specs.{all_printable, words}
@@ -132,8 +131,7 @@ plain_line asked count line a h =
 -- the word of an answer, or another
 word_plain : (asked : Asked) (word : List ℕ) (a b : Answer) (r : Result Answer WireFault)
     → (if bytes_eq word (answer_in_digits (codes "-") a) then Ok a else r) ≡ Ok b
-    → MayAnswer asked a → answer_bytes a ≡ [] → (r ≡ Ok b → Plain asked word b)
-    → Plain asked word b
+    → MayAnswer asked a → answer_bytes a ≡ [] → (r ≡ Ok b → Plain asked word b) → Plain asked word b
 word_plain asked word a b r e may none k =
     let text : List ℕ = answer_in_digits (codes "-") a in
     if_ok (bytes_eq word text) (Ok a) r b e (λ same e. subst (Plain asked word) (same_Ok a b e)
@@ -339,7 +337,6 @@ three_says asked count word first second s small e =
 words_says : (asked : Asked) (count : ℕ) (ws : List (List ℕ)) (s : Said) → count < 256
     → words_say asked count ws ≡ Ok s → WordsSay asked count ws s
 unfolding words_say
-words_says asked count [] s small e = none_ok NoAnswer s e
 words_says asked count (word ∷ []) s small e =
     said_of-ok (alone asked word) s e (λ a e is. said_is asked count (word ∷ []) (Answered a) s is
     (plain_line asked count word a (alone_says asked word a e)))
@@ -349,7 +346,7 @@ words_says asked count (word ∷ argument ∷ []) s small e =
     (one_says asked count word argument a e))
 words_says asked count (word ∷ first ∷ second ∷ []) s small e =
     three_says asked count word first second s small e
-words_says asked count (word ∷ first ∷ second ∷ third ∷ more) s small e = none_ok NoAnswer s e
+words_says asked count _ s small e = none_ok NoAnswer s e
 
 many_words : (asked : Asked) (count : ℕ) (ws : List (List ℕ)) → 4 ≤ length ws
     → words_say asked count ws ≡ Err NoAnswer

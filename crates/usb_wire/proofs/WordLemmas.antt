@@ -89,8 +89,7 @@ some-words text = omega (arith, length-slice_split (λ c. c == 32) text)
 -- the words behind three others
 pub four-words : (text first second third fourth behind last : List ℕ)
     → words text ≡ first ∷ words behind → words behind ≡ second ∷ words third
-    → words third ≡ fourth ∷ words last
-    → 4 ≤ length (words text)
+    → words third ≡ fourth ∷ words last → 4 ≤ length (words text)
 four-words text first second third fourth behind last one two three =
     let some = some-words last in
     rw (one, two, three) (omega arith)

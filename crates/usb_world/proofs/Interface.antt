@@ -33,8 +33,8 @@ pub use Rattle.usb_world.proofs.courses.LiftedSteps.{attempt_cases, happened_by,
 pub use Rattle.usb_world.proofs.courses.LiftedSteps.{kept_course, made_sound, over_coming}
 pub use Rattle.usb_world.proofs.courses.LiftedSteps.{over_course, over_ready, over_step, over_taken}
 pub use Rattle.usb_world.proofs.courses.LiftedSteps.{with_call, with_limit_told}
-pub use Rattle.usb_world.proofs.attempts.MadeAttempts.{limited, made_damages}
-pub use Rattle.usb_world.proofs.attempts.MadeAttempts.{made_step, made_unshared}
+pub use Rattle.usb_world.proofs.attempts.MadeAttempts.{limited, made_damages, made_step}
+pub use Rattle.usb_world.proofs.attempts.MadeAttempts.{made_unshared}
 pub use Rattle.usb_world.proofs.holders.OneDevice.{other_address, rest_state, rested_effect}
 pub use Rattle.usb_world.proofs.holders.OneDevice.{settled_memory, stands, state_stands}
 pub use Rattle.usb_world.proofs.holders.OneDevice.{token_calls}

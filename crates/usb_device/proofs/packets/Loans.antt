@@ -3,8 +3,8 @@ use Rattle.std.proofs.Common.{◌≡◌, ℕ, zero, suc, ◌<◌, ◌-◌, List,
 use Rattle.std.proofs.Common.{length, slice_index_or, slice_set, IsSome, refl, ap, sym, ◌∙◌, arith}
 use Rattle.usb_port.specs.{PortState}
 use Rattle.usb_device.specs.declared.ports.Place.{Place as Kept}
-use Rattle.usb_device.specs.{Ports, vacant, taken, Plugged, port_of, before, plugged_at}
-use Rattle.usb_device.specs.{plugged_in, row_of, device_there, standing, stood, ports_kept, holding}
+use Rattle.usb_device.specs.{Ports, vacant, taken, Plugged, port_of, before, plugged_at, plugged_in}
+use Rattle.usb_device.specs.{row_of, device_there, standing, stood, ports_kept, holding}
 use Rattle.usb_device.specs.{with_device}
 use Rattle.usb_device.proofs.places.FirstPlaces.{changed_at-head, changed_at-tail, plugged_at-head}
 use Rattle.usb_device.proofs.places.FirstPlaces.{plugged_at-tail}
@@ -24,8 +24,7 @@ held-first q ps w =
     ∙ sym (changed_at-head (holding w) (stood q) (ports_kept ps) [])
 
 pub written : (ps : List Kept) (i : ℕ) (p : Kept) (w : Option Plugged) → i < length ps
-    → p ≡ slice_index_or ps i p
-    → ports_kept (slice_set ps i (record { port = p.port; device = w }))
+    → p ≡ slice_index_or ps i p → ports_kept (slice_set ps i (record { port = p.port; device = w }))
     ≡ with_device (ports_kept ps) i w
 written [] i p w h e = absurd (omega (arith, h))
 written (q ∷ ps) zero p w h e = ap (λ (x : Kept). before (standing x.port w) (ports_kept ps)) e

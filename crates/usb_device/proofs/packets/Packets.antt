@@ -110,8 +110,7 @@ further-by : (q r max wanted len k P Q : ℕ) → Q + r ≡ len → r < max → 
     → (k + 1 ≤ q → P + max ≤ Q) → (k + 2 ≤ q → P + max + max ≤ Q) → (q ≤ k + 1 → Q ≤ P + max)
     → (q ≤ k → Q ≤ P)
     → (b : Bool) → (r == 0 && not (nat_lt len wanted)) ≡ b → nat_lt k (q + (if b then 0 else 1))
-    ≡ true
-    → nat_lt (k + 1) (q + (if b then 0 else 1))
+    ≡ true → nat_lt (k + 1) (q + (if b then 0 else 1))
     ≡ (min max (len - P) == max && nat_lt (min (P + max) len) wanted)
 further-by q r max wanted len k P Q sum small most one two three four true e h = let parts =
     and_parts (r == 0) (not (nat_lt len wanted)) e in
@@ -120,8 +119,7 @@ further-by q r max wanted len k P Q sum small most one two three four false e h 
     grind (arith, nat_tests, sum, small, most, e, one, two, three, four, h)
 
 further-at : (max wanted len k : ℕ) → 0 < max → len ≤ wanted
-    → nat_lt k (packet_count max wanted len) ≡ true
-    → nat_lt (k + 1) (packet_count max wanted len)
+    → nat_lt k (packet_count max wanted len) ≡ true → nat_lt (k + 1) (packet_count max wanted len)
     ≡ (min max (len - k * max) == max && nat_lt (min (k * max + max) len) wanted)
 further-at max wanted len k pos most h =
     let q = len / max in
@@ -134,8 +132,7 @@ further-at max wanted len k pos most h =
     (len % max == 0 && not (nat_lt len wanted)) refl h
 
 pub packet-further : (max wanted : ℕ) (answer bytes : List ℕ) (k : ℕ) → 0 < max
-    → packet_at max wanted answer k ≡ Some bytes
-    → is_some (packet_at max wanted answer (k + 1))
+    → packet_at max wanted answer k ≡ Some bytes → is_some (packet_at max wanted answer (k + 1))
     ≡ (length bytes == max && nat_lt (length (packets_joined max wanted answer (k + 1))) wanted)
 packet-further max wanted answer bytes k pos h =
     let w = take wanted answer in

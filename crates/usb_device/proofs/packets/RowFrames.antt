@@ -1,24 +1,21 @@
 -- What each row leaves as it is.
-use Rattle.std.proofs.Common.{ℕ, if◌then◌else◌, Bool, true, false, List, []}
-use Rattle.std.proofs.Common.{None, Some, Option, rules}
+use Rattle.std.proofs.Common.{ℕ, if◌then◌else◌, Bool, true, false, List, [], None, Some, Option}
+use Rattle.std.proofs.Common.{rules}
 use Rattle.usb_packet.specs.{TokenKind, OutTok, InTok, SetupTok, Toggle, Zero, One, Packet, Token}
 use Rattle.usb_packet.specs.{Payload}
 use Rattle.usb_packet.specs.declared.Packet.TheVariants as packet
 use Rattle.usb_device.specs.declared.answer.Answer.TheVariants.{Ack}
 use Rattle.arrayvec.specs.ArrayVec.{ArrayVec}
-use Rattle.usb_device.specs.{RememberedPacket, BulkOut}
-use Rattle.usb_device.specs.{Outcome, halts, unhalts}
-use Rattle.usb_device.specs.{Stage, idle, reading}
-use Rattle.usb_device.specs.{ending, max_packet, packet_at, toggle_at, State, Reply, received}
-use Rattle.usb_device.specs.{answered, forgotten, begun}
-use Rattle.usb_device.specs.{gives, in_row, status_row, out_row, ack_row, token_row, payload_row}
-use Rattle.usb_device.specs.{source_row, held_row, in_other_row}
-use Rattle.usb_device.specs.{in_bulk_row, sink_row, out_bulk_row, bulk_ack_row, after_memory}
-use Rattle.usb_device.specs.{bulk_of, Keeps}
+use Rattle.usb_device.specs.{RememberedPacket, BulkOut, Outcome, halts, unhalts, Stage, idle}
+use Rattle.usb_device.specs.{reading, ending, max_packet, packet_at, toggle_at, State, Reply}
+use Rattle.usb_device.specs.{received, answered, forgotten, begun, gives, in_row, status_row}
+use Rattle.usb_device.specs.{out_row, ack_row, token_row, payload_row, source_row, held_row}
+use Rattle.usb_device.specs.{in_other_row, in_bulk_row, sink_row, out_bulk_row, bulk_ack_row}
+use Rattle.usb_device.specs.{after_memory, bulk_of, Keeps}
 use Rattle.usb_device.specs.declared.transfer.InEndpoint.TheVariants as by
 use Rattle.usb_port.specs.{PortState}
-use Rattle.usb_device.specs.declared.transfer.RememberedPacket.TheVariants.{SetupSeen}
-use Rattle.usb_device.specs.declared.transfer.RememberedPacket.TheVariants.{OutSeen, AckAwaited}
+use Rattle.usb_device.specs.declared.transfer.RememberedPacket.TheVariants.{SetupSeen, OutSeen}
+use Rattle.usb_device.specs.declared.transfer.RememberedPacket.TheVariants.{AckAwaited}
 
 keeps-if : (p : Packet) (d : State) (b : Bool) (x y : Reply) → Keeps p d x.1 → Keeps p d y.1
     → Keeps p d (if b then x else y).1
@@ -94,8 +91,7 @@ keeps-token p d row InTok e = search (rules, keeps-if, keeps-in, keeps-in-other)
 
 keeps-ack : (d : State) (s : Stage) → Keeps packet.Ack d (ack_row d s)
 keeps-ack d (reading answer wanted k) = search (rules, keeps-either)
-keeps-ack d (ending None) = search rules
-keeps-ack d s = search rules
+keeps-ack d _ = search rules
 
 keeps-bulk-ack : (d : State) (end : Option (ℕ × ℕ)) → Keeps packet.Ack d (bulk_ack_row d end)
 keeps-bulk-ack d None = search rules

@@ -65,8 +65,7 @@ stopped_at (Err e) q deep t u m had is h = stopped_itself q deep t u m had is h
 -- the device on a port
 pub stopped_place : {T E : Type 0} (r : Result T E) (q : Sent) (deep : Bool) (b : PortState)
     (t u : Plugged) (x : Place) → x ≡ full b t.own t.ports → b.enable ≡ true
-    → OnErr r (StoppedDevice q deep t u)
-    → OnErr r (StoppedPlace q deep x (full b u.own u.ports))
+    → OnErr r (StoppedDevice q deep t u) → OnErr r (StoppedPlace q deep x (full b u.own u.ports))
 stopped_place (Ok v) q deep b t u x was on h = tt
 stopped_place (Err e) q deep b t u x was on h = record {
   port = b;

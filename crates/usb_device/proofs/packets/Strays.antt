@@ -137,8 +137,7 @@ forgotten-stray q deep (taken b s a k) h =
 
 answers-step : (q : Sent) (deep : Bool) (s : State) (a k : Ports) (e : Bool)
     → ((e && (concerns q.content s || concerns_some q.content a)) || concerns_some q.content k)
-    ≡ false
-    → (concerns_some q.content a ≡ false → answers q true a ≡ [])
+    ≡ false → (concerns_some q.content a ≡ false → answers q true a ≡ [])
     → (concerns_some q.content k ≡ false → answers q deep k ≡ [])
     → (if e then listed (answer_of q deep s a).0 (answers q true a ++ answers q deep k) else answers
     q deep k) ≡ []

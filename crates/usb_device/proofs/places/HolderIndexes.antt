@@ -70,8 +70,7 @@ noted-before w n b d k h = ap (λ xs. noted xs h) (reached-before w n b d k)
     ∙ noted-append (reached_in w n b d) (reached w (n + 1) k) h
 
 pub met-before : (w : IndexWay) (n : ℕ) (b : PortState) (d : Option Plugged) (k : Ports)
-    (h : List Holder)
-    → meets_again (reached w n (before (standing b d) k)) h
+    (h : List Holder) → meets_again (reached w n (before (standing b d) k)) h
     ≡ (meets_again (reached_in w n b d) h || meets_again (reached w (n + 1) k)
     (noted (reached_in w n b d) h))
 met-before w n b d k h = ap (λ xs. meets_again xs h) (reached-before w n b d k)

@@ -51,8 +51,7 @@ parted_here true w t xs = record { front = []; behind = xs; whole_is = refl; wit
 parted_here false w t xs = record { front = []; behind = xs; whole_is = refl; without_is = refl }
 
 parted_below : (e r : Bool) (x : ℕ × PlacedWay) (v : PlacedWay) (o : Option Plugged)
-    (below left xs : PlacedWays)
-    → Parted below (from r v o) left
+    (below left xs : PlacedWays) → Parted below (from r v o) left
     → Parted (if e then x ∷ (below ++ xs) else xs) (from (e && r) v o)
     (if e then x ∷ (left ++ xs) else xs)
 parted_below true r x v o below left xs h = record {
@@ -215,8 +214,7 @@ released_at (m ∷ ns) h n small =
 -- without those in the middle, where no address stands twice
 released_middle : (h : List Holder) (xs ys zs : PlacedWays) → length h ≡ 256
     → share (way_addresses ys) (way_addresses xs ++ way_addresses zs) ≡ false
-    → IndexesList h (xs ++ (ys ++ zs))
-    → IndexesList (released (way_addresses ys) h) (xs ++ zs)
+    → IndexesList h (xs ++ (ys ++ zs)) → IndexesList (released (way_addresses ys) h) (xs ++ zs)
 released_middle h xs ys zs all apart is n small =
     released_at (way_addresses ys) h n (subst (λ m. n < m) (sym all) small)
     ∙ split (has n (way_addresses ys)) refl
@@ -265,8 +263,7 @@ last_first : (a b c : Bool) → (a || (b || c)) ≡ (b || (c || a))
 last_first a b c = search rules
 
 met_middle : (h : List Holder) (xs ys zs : PlacedWays) → length h ≡ 256
-    → AreBytes (way_addresses ys)
-    → IndexesList h (xs ++ zs)
+    → AreBytes (way_addresses ys) → IndexesList h (xs ++ zs)
     → (repeats (way_addresses (xs ++ zs)) || meets_again ys h)
     ≡ repeats (way_addresses (xs ++ (ys ++ zs)))
 met_middle h xs ys zs all bytes is =

@@ -34,8 +34,7 @@ reached-same_head w n q r k h = reached-head w n q k ∙ ap (λ l. l ++ reached 
 
 -- two changes of one place
 pub reached-both : (f g : Place → Place) (w : Option (ArrayVec ℕ)) (n : ℕ) (k : Ports) (j : ℕ)
-    (p : List ℕ)
-    → ((q : Place) → place_at k j p ≡ Some q → ReachedSame (f q) (g q))
+    (p : List ℕ) → ((q : Place) → place_at k j p ≡ Some q → ReachedSame (f q) (g q))
     → reached w n (changed_at f k j p) ≡ reached w n (changed_at g k j p)
 unfolding reached place_at changed_at
 reached-both f g w n (vacant b k) zero [] h =
@@ -53,8 +52,7 @@ reached-both f g w n (taken b s a k) (suc j) p h =
 reached-both f g w n k j p h = refl
 
 pub reached-changed : (f : Place → Place) (w : Option (ArrayVec ℕ)) (n : ℕ) (k : Ports) (j : ℕ)
-    (p : List ℕ)
-    → ((q : Place) → place_at k j p ≡ Some q → ReachedSame (f q) q)
+    (p : List ℕ) → ((q : Place) → place_at k j p ≡ Some q → ReachedSame (f q) q)
     → reached w n (changed_at f k j p) ≡ reached w n k
 reached-changed f w n k j p h =
     reached-both f (λ x. x) w n k j p h ∙ ap (reached w n) (changed_at-same k j p)
@@ -96,8 +94,7 @@ head_without : (q : Place) (k : Ports)
 head_without q k = changed_at-head (put None) q k []
 
 other_at : (f : Place → Place) (w : Option (ArrayVec ℕ)) (n : ℕ) (q : Place) (k : Ports) (i j : ℕ)
-    → SeenNot f i j
-    → ((i j : ℕ) → SeenNot f i j
+    → SeenNot f i j → ((i j : ℕ) → SeenNot f i j
     → reached w (n + 1) (changed_at (put None) (changed_at f k j []) i [])
     ≡ reached w (n + 1) (changed_at (put None) k i []))
     → reached w n (changed_at (put None) (changed_at f (before q k) j []) i [])
@@ -107,14 +104,12 @@ other_at f w n q k zero zero h behind =
     ap (reached w n)
     (ap (λ x. changed_at (put None) x 0 []) (changed_at-head f q k []) ∙ head_without (f q) k)
     ∙ sym (ap (reached w n) (head_without q k))
-other_at f w n q k zero (suc j) (inl e) behind = absurd (omega (arith, e))
 other_at f w n q k zero (suc j) (inr same) behind =
     ap (reached w n)
     (ap (λ x. changed_at (put None) x 0 []) (changed_at-tail f q k j [])
     ∙ head_without q (changed_at f k j []))
     ∙ reached-changed f w (n + 1) k j [] (λ r at. same r)
     ∙ sym (ap (reached w n) (head_without q k))
-other_at f w n q k (suc i) zero (inl e) behind = absurd (omega (arith, e))
 other_at f w n q k (suc i) zero (inr same) behind =
     ap (reached w n)
     (ap (λ x. changed_at (put None) x (suc i) []) (changed_at-head f q k [])
@@ -129,10 +124,10 @@ other_at f w n q k (suc i) (suc j) h behind =
     ∙ ap (λ l. reached w n (before q ended) ++ l) (behind i j (seen_not_later f i j h))
     ∙ sym (reached-head w n q (changed_at (put None) k i []))
     ∙ sym (ap (reached w n) (changed_at-tail (put None) q k i []))
+other_at f w n q k _ _ (inl e) behind = absurd (omega (arith, e))
 
 reached-other : (f : Place → Place) (w : Option (ArrayVec ℕ)) (n : ℕ) (k : Ports) (i j : ℕ)
-    → SeenNot f i j
-    → reached w n (changed_at (put None) (changed_at f k j []) i [])
+    → SeenNot f i j → reached w n (changed_at (put None) (changed_at f k j []) i [])
     ≡ reached w n (changed_at (put None) k i [])
 unfolding changed_at
 reached-other f w n ended i j h = refl
@@ -146,8 +141,7 @@ one_port n i e = grind (arith, nat_tests, e)
 
 -- what a device asks of its ports, without what is on the port of a number
 pub reached-acted : (e : Effect) (port : ℕ) (a : Ports) → keeps_others port e ≡ true
-    → (w : Option (ArrayVec ℕ)) (n : ℕ)
-    → reached w n (changed (put None) (acted e a) (port ∷ []))
+    → (w : Option (ArrayVec ℕ)) (n : ℕ) → reached w n (changed (put None) (acted e a) (port ∷ []))
     ≡ reached w n (changed (put None) a (port ∷ []))
 reached-acted Leaves port a h w n = refl
 reached-acted (Calls c i) zero a h w n =

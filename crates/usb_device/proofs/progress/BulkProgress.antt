@@ -63,8 +63,7 @@ after_data s came = if came then forgotten (bulk_ack_row s (bulk_of s true)) els
 
 source_caught_up : (e most got : ℕ) (t : Toggle) (s : State) → IsSource e most s
     → got ≡ advanced s.place most (length s.spec.source) → s.place < length s.spec.source
-    → s.bulk_in.toggle ≡ other t
-    → (came : Bool) → SourceAt most got t (after_data s came)
+    → s.bulk_in.toggle ≡ other t → (came : Bool) → SourceAt most got t (after_data s came)
 source_caught_up e most got t s i g p q true =
     subst (λ o. SourceAt most got t (forgotten (bulk_ack_row s o))) (sym i.endpoint)
     (level (sym g) (ap other q ∙ other-other t))
@@ -72,8 +71,7 @@ source_caught_up e most got t s i g p q false = ahead g p q
 
 gave_ahead : (e most got : ℕ) (t : Toggle) (s : State) → IsSource e most s
     → got ≡ advanced s.place most (length s.spec.source) → s.place < length s.spec.source
-    → s.bulk_in.toggle ≡ other t
-    → (b : List ℕ) (max : ℕ) (t2 t3 : Way)
+    → s.bulk_in.toggle ≡ other t → (b : List ℕ) (max : ℕ) (t2 t3 : Way)
     → SourceReply most got t s max (gave s by.Bulk max s.bulk_in.toggle b t2 t3)
 gave_ahead e most got t s i g p q b max t2 t3 =
     let came = is_whole t2 && nat_le (length b) max && is_whole t3 in
@@ -87,8 +85,6 @@ source_went_on : (e most got : ℕ) (t : Toggle) (s : State) → IsSource e most
     → (heard fits came : Bool) → SourceOn most got t s
     (if heard && fits then Some (take most (rest_of s)) else None)
     (after_data s (heard && fits && came))
-source_went_on e most got t s i g q p n false fits came = level g q
-source_went_on e most got t s i g q p n true false came = level g q
 source_went_on e most got t s i g q p n true true false = (
   ap (λ k. take most (drop k s.spec.source)) g,
   n,
@@ -101,6 +97,7 @@ source_went_on e most got t s i g q p n true true true = (
       (forgotten (bulk_ack_row s o))) (sym i.endpoint)
       (level (ap (λ k. advanced k most (length s.spec.source)) g) (ap other q)),
 )
+source_went_on e most got t s i g q p n _ _ came = level g q
 
 gave_level : (e most got : ℕ) (t : Toggle) (s : State) → IsSource e most s → s.place ≡ got
     → s.bulk_in.toggle ≡ t → s.place < length s.spec.source → take most (rest_of s) ≢ []

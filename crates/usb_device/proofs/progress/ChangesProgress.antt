@@ -44,8 +44,7 @@ poll_between bits t s h q true = level refl (ap other q)
 poll_between bits t s h q false = ahead bits h (q ∙ sym (other-other t))
 
 gave_awaited : (Told : ℕ → Type 0) (bits b : ℕ) (t : Toggle) (s : State) → Told b → s.held ≡ Some b
-    → s.changes.toggle ≡ t
-    → (heard fits came : Bool) → PollOn Told bits t
+    → s.changes.toggle ≡ t → (heard fits came : Bool) → PollOn Told bits t
     (if heard then Some (payload s.changes.toggle (b ∷ [])) else None)
     (after_poll_byte s (heard && fits && came))
 gave_awaited Told bits b t s so h q false fits came = told b so h q
@@ -62,8 +61,7 @@ poll_caught_up Told b t s h q true = level refl (ap other q ∙ other-other t)
 poll_caught_up Told b t s h q false = ahead b h q
 
 gave_again : (Told : ℕ → Type 0) (bits b : ℕ) (t : Toggle) (s : State) → s.held ≡ Some b
-    → s.changes.toggle ≡ other t
-    → (heard fits came : Bool) → PollOn Told bits t
+    → s.changes.toggle ≡ other t → (heard fits came : Bool) → PollOn Told bits t
     (if heard then Some (payload s.changes.toggle (b ∷ [])) else None)
     (after_poll_byte s (heard && fits && came))
 gave_again Told bits b t s h q false fits came = ahead b h q
@@ -89,8 +87,7 @@ some_bits bits z e = true_not_false (bits == 0) (rw e refl) z
 
 by_bits : (Told : ℕ → Type 0) (bits : ℕ) (t : Toggle) (s : State) → (bits ≢ 0 → Told bits)
     → s.held ≡ None → s.changes.toggle ≡ t → (max : ℕ) (t2 t3 : Way) (none : Bool)
-    → (bits == 0) ≡ none
-    → PollReply Told bits t (if none then (heard t2 (Some Nak), s) else gave
+    → (bits == 0) ≡ none → PollReply Told bits t (if none then (heard t2 (Some Nak), s) else gave
     (record s { held = Some bits }) by.Changes max s.changes.toggle (bits ∷ []) t2 t3)
 by_bits Told bits t s so h q max t2 t3 true z =
     no_change_on Told bits t s h q (grind (arith, nat_tests)) t2

@@ -90,8 +90,7 @@ ahead_missed answer wanted n k s e h false = near_stays answer wanted n k s (inr
 
 level_heard : (answer bytes : List ℕ) (wanted k : ℕ) (s : State)
     → packet_at (max_packet s.spec) wanted answer k ≡ Some bytes → (same fits : Bool) → same ≡ true
-    → (t3 : Way)
-    → ReadOn answer wanted k (progress_stage s (reading answer wanted k))
+    → (t3 : Way) → ReadOn answer wanted k (progress_stage s (reading answer wanted k))
     (if same && fits then Some bytes else None)
     (after_giving answer wanted k s (fits && is_whole t3))
 level_heard answer bytes wanted k s h true true e t3 =
@@ -111,8 +110,7 @@ ahead_heard answer bytes wanted n k s e h false fits f t3 =
 
 heard_given : (answer bytes : List ℕ) (wanted n k max : ℕ) (s : State)
     → packet_at (max_packet s.spec) wanted answer k ≡ Some bytes → Near answer wanted n k s
-    → (t3 : Way)
-    → ReadOn answer wanted n (progress_stage s (reading answer wanted k))
+    → (t3 : Way) → ReadOn answer wanted n (progress_stage s (reading answer wanted k))
     (if is_same (toggle_at n) (toggle_at k) && nat_le (length bytes) max then Some bytes
     else None) (after_giving answer wanted k s (nat_le (length bytes) max && is_whole t3))
 heard_given answer bytes wanted n k max s h (inl e) t3 =
@@ -133,8 +131,7 @@ ReadAdvances answer wanted n max d reply =
 
 packet_read_given : (answer bytes : List ℕ) (wanted n k max : ℕ) (s : State)
     → packet_at (max_packet s.spec) wanted answer k ≡ Some bytes → Near answer wanted n k s
-    → (t2 t3 : Way)
-    → ReadAdvances answer wanted n max (progress_stage s (reading answer wanted k))
+    → (t2 t3 : Way) → ReadAdvances answer wanted n max (progress_stage s (reading answer wanted k))
     (gave (progress_stage s (reading answer wanted k)) by.Control max (toggle_at k) bytes t2 t3)
 packet_read_given answer bytes wanted n k max s h near whole t3 =
     heard_given answer bytes wanted n k max s h near t3

@@ -1,7 +1,6 @@
 -- How what went in the parts of an enumeration joins.
-use Rattle.std.proofs.Common.{subst, arith}
+use Rattle.std.proofs.Common.{subst, arith, ℕ, ◌+◌, ◌*◌, ◌≤◌, List, Option}
 use Rattle.std.proofs.Math.Nat.{mul-le-mul_right, suc-mul}
-use Rattle.std.specs.Prelude.{ℕ, ◌+◌, ◌*◌, ◌≤◌, List, Option}
 use Rattle.usb_world.specs.{World}
 use Rattle.usb_bus.specs.{StepRun}
 use Rattle.usb_bus.proofs.Interface.{went_then, went_wider}

@@ -2,7 +2,7 @@
 use Rattle.std.proofs.Common.{◌≡◌, ◌≢◌, ◌⊎◌, inl, inr, ◌≤◌, ◌&&◌, ◌||◌, not, if◌then◌else◌, ◌==◌, ℕ}
 use Rattle.std.proofs.Common.{zero, suc, true, false, List, [], ◌∷◌, ◌++◌, Option, None, Some}
 use Rattle.std.proofs.Common.{is_some, option_map, Result, Ok, Err, refl, ap, sym, subst, ◌∙◌}
-use Rattle.std.specs.Prelude.{IsSome, IsSomeAnd}
+use Rattle.std.proofs.Common.{IsSome, IsSomeAnd}
 use Rattle.std.proofs.lemmas.Option.{same_Some}
 use Rattle.usb_port.specs.{parent_of, PortState, PortCall}
 use Rattle.usb_port.proofs.Interface.{parent}
@@ -128,8 +128,6 @@ pub lost_hub_faults : (f : AddressMap) (port : HubPort) (p : List ℕ) → IsAt 
     → ((hub : Target) (n : ℕ) → port ≡ External hub n → why ≡ fault.ParentLost
     → (serves : HubServes hub n new) → p ≡ path_to serves.spot ++ (n ∷ []) → 8 ≤ hub.max
     → pending new.roots (path_to serves.spot) ≡ true) → FaultsFor p why new
-lost_hub_faults f port p at (fault.Bus why) new told server denies = tt
-lost_hub_faults f port p at fault.Memory new told server denies = tt
 lost_hub_faults f (Root n) p at fault.ParentLost new told server denies = absurd told
 lost_hub_faults f (External hub n) p at fault.ParentLost new told server denies =
     let P : List ℕ → Type 0 = λ q. (pending new.roots q ≡ true) ⊎ ServesAt hub n q new in
@@ -139,17 +137,15 @@ lost_hub_faults f (External hub n) p at fault.ParentLost new told server denies 
       | inr h ↦ subst (λ q. pending new.roots q ≡ true) (sym h.there)
           (denies hub n refl refl h.serves (at.path ∙ ap (λ q. q ++ (n ∷ [])) h.there) h.wide)
     ])
+lost_hub_faults f port p at _ new told server denies = tt
 
 -- a served call loses no hub
 pub parent_lost_not_served : {A : Type 0} (outcome : Result A PipeFault) (why : EnumFault)
     → Err why ≡ at_port outcome → why ≡ fault.ParentLost → NoHubFailed outcome → ⊥
 parent_lost_not_served (Ok x) why told lost served = cc
-parent_lost_not_served (Err pipe.Stalled) why told lost served = served
-parent_lost_not_served (Err pipe.Busy) why told lost served = served
-parent_lost_not_served (Err pipe.NoAnswer) why told lost served = served
-parent_lost_not_served (Err pipe.Broken) why told lost served = served
 parent_lost_not_served (Err (pipe.Bus f)) why told lost served = cc
 parent_lost_not_served (Err pipe.Memory) why told lost served = cc
+parent_lost_not_served _ why told lost served = served
 
 -- What is fair
 
@@ -230,19 +226,16 @@ called_faulted port address n call why {old} {new} went at told called = record 
 
 state_port : (k : Ports) (j : ℕ) (p : List ℕ) → IsSome (state_at k j p) → IsSome (port_at k j p)
 unfolding state_at port_at
-state_port ended j p h = false_true h
-state_port (vacant b k) zero p h = false_true h
 state_port (vacant b k) (suc j) p h = state_port k j p h
 state_port (taken b s a k) zero [] h = refl
-state_port (taken b s a k) zero (zero ∷ p) h = false_true h
 state_port (taken b s a k) zero (suc i ∷ p) h = state_port a i p h
 state_port (taken b s a k) (suc j) p h = state_port k j p h
+state_port _ _ _ h = false_true h
 
 pub state_there-port : (k : Ports) (p : List ℕ) → IsSome (state_there k p) → (b : PortState)
     × (port_there k p ≡ Some b)
-state_there-port k [] some = false_true some
-state_there-port k (zero ∷ p) some = false_true some
 state_there-port k (suc j ∷ p) some = is_some-value (port_at k j p) (state_port k j p some)
+state_there-port k _ some = false_true some
 
 -- where no change is pending at its hub
 occupied_port_there : (w : World) (j : Location) (n : ℕ) → IsOccupied w (path_to j ++ (n ∷ []))
@@ -319,5 +312,4 @@ faulted_after port address m n why first second at faulted =
 pub faults_for_told : (p : List ℕ) (why : EnumFault) (w : World) → FaultAllowed why w
     → FaultsFor p why w
 faults_for_told p fault.ParentLost w told = absurd told
-faults_for_told p (fault.Bus why) w told = tt
-faults_for_told p fault.Memory w told = tt
+faults_for_told p _ w told = tt

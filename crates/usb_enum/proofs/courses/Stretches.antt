@@ -74,9 +74,7 @@ module _ (t : Target) (request : Setup) (none : begins_no_stretch request ≡ tr
       subst (λ x. NoNewStretch w (after (attempt x) w)) (sym e)
       (attempt_goes (in_attempt t 0) w settled (in_goes t w))
   behind_goes (attempt a) w (inr e) settled = attempt_goes a w settled (out_goes t a e w)
-  behind_goes (root_call c n) w k settled = elim k [ ]
-  behind_goes event w k settled = elim k [ ]
-  behind_goes (report line) w k settled = elim k [ ]
+  behind_goes _ w k settled = elim k [ ]
 
   step_goes : (s : Step) (w : World) → IsOfTransfer t request s w → IsSettled w.roots
       → NoNewStretch w (after s w)

@@ -1,9 +1,8 @@
 -- What calls leave of all other devices and ports, from one call to the next.
 use Rattle.std.proofs.Common.{◌≡◌, inl, inr, ◌==◌, ◌&&◌, ◌≤◌, not, ℕ, true, false, List, [], Option}
 use Rattle.std.proofs.Common.{None, Some, option_map, Result, Ok, Err, if◌then◌else◌, refl, ap, sym}
-use Rattle.std.proofs.Common.{subst, ◌∙◌}
+use Rattle.std.proofs.Common.{subst, ◌∙◌, IfErr}
 use Rattle.std.specs.Global.{Vec}
-use Rattle.std.specs.Prelude.{IfErr}
 use Rattle.usb_request.specs.{PORT_POWER, PORT_ENABLE, PORT_RESET, set_port_feature}
 use Rattle.usb_request.specs.{set_configuration, set_address, Setup}
 use Rattle.usb_device.specs.{State, Spec, Location, path_to, reach_on, state_on}
@@ -42,13 +41,8 @@ use Rattle.usb_enum.proofs.devices.SharedAddresses.{went_unshared}
 
 pub fault_after-not_of_bus : {A : Type 0} (result : Result A PipeFault) (old new : World)
     → IfErr result (λ why. FaultAfter 1 old why new) → new.fault ≡ None → IsNoBusFault result
-fault_after-not_of_bus (Ok x) old new ends none = tt
-fault_after-not_of_bus (Err Stalled) old new ends none = tt
-fault_after-not_of_bus (Err Busy) old new ends none = tt
-fault_after-not_of_bus (Err NoAnswer) old new ends none = tt
-fault_after-not_of_bus (Err Broken) old new ends none = tt
 fault_after-not_of_bus (Err (Bus fault)) old new ends none = absurd (cc (none, ends.told))
-fault_after-not_of_bus (Err Memory) old new ends none = tt
+fault_after-not_of_bus _ old new ends none = tt
 
 pub ends_without_fault : {A : Type 0} (least : ℕ) (result : Result A PipeFault) (old new : World)
     → EndsAfter least old result new → new.fault ≡ None → IsNoBusFault result
@@ -77,10 +71,8 @@ asks_then n old mid new a went b = record {
 
 pub answer_asks : {A X : Type 0} (given : Spec → Option X) (Has : State → A → Type 0) (t : Target)
     (request : Setup) (outcome : Result A PipeFault) (answer : Result (Vec ℕ) PipeFault)
-    (old new : World)
-    → Queried t request old answer new → (new.shared ≡ false
-    → EachWas (ReadAsked given Has t outcome) old new) → KeepsAddresses old new
-    → OnlyAsks old new
+    (old new : World) → Queried t request old answer new → (new.shared ≡ false
+    → EachWas (ReadAsked given Has t outcome) old new) → KeepsAddresses old new → OnlyAsks old new
 answer_asks given Has t request outcome answer old new asked what keeps = record {
   addresses = keeps;
   devices = record {
@@ -141,8 +133,7 @@ rest_then address n old mid new keeps a went b none f q held own x apart =
 
 found_at_then : (address n : ℕ) (old mid new : World) {r s : Option (List ℕ)}
     → KeepsAddresses old mid → (mid.fault ≡ None → FoundAt address old mid) → StepRun n mid r new s
-    → (new.fault ≡ None → FoundAt address mid new)
-    → new.fault ≡ None → FoundAt address old new
+    → (new.fault ≡ None → FoundAt address mid new) → new.fault ≡ None → FoundAt address old new
 found_at_then address n old mid new keeps a went b none f q held own =
     let sound = went_sound n mid new went none in
     found_then q (a sound f q held own) (b none f q held (owned_on f old mid keeps sound own))
@@ -159,8 +150,7 @@ tells_then hub n old mid new a went b = record {
 -- PORT_POWER
 pub power_tells : (hub : Target) (port : ℕ) (old : World) (result : Result (Unit {0}) PipeFault)
     (new : World) → Commanded hub (set_port_feature PORT_POWER port) old result new
-    → KeepsAddresses old new → KeepsDevices old new
-    → OnlyTells hub.addr old new
+    → KeepsAddresses old new → KeepsDevices old new → OnlyTells hub.addr old new
 unfolding set_port_feature
 power_tells hub port old result new ordered keeps devices = record {
   addresses = keeps;
@@ -351,8 +341,7 @@ module _ (port : HubPort) (address : ℕ) (call : Option PortCall) (c : PortCall
 
 -- the clearing of a change bit or of PORT_ENABLE
 pub clear_calls : (port : HubPort) (address : ℕ) (call : Option PortCall) (c : PortCall)
-    → call ≡ Some c
-    → keeps_pending c [] ≡ true → gives_power c ≡ false
+    → call ≡ Some c → keeps_pending c [] ≡ true → gives_power c ≡ false
     → (feature : ℕ) (old : World) (result : Result (Unit {0}) PipeFault) (new : World)
     → IfErr result (λ why. FaultAfter 1 old why new) → CommandsPort port call old result new
     → KeepsCleared port feature old result new → OnlyCalls port address old new
@@ -429,8 +418,7 @@ pub at_addressed : (port : HubPort) (address m : ℕ) (target : Target)
     → AtPort port address old mid → target.addr ≡ 0 → 1 ≤ address
     → StepRun m mid r new s → Commanded target (set_address address) mid result new
     → (new.shared ≡ false → EachWas (AddressAsked target address result mid new) mid new)
-    → GivesAddress target.addr address mid new
-    → AtPort port address old new
+    → GivesAddress target.addr address mid new → AtPort port address old new
 unfolding set_address
 at_addressed port address m target result old mid new at zero_is least went ordered what gives =
     let within = within_given port target.addr address mid new zero_is least gives in

@@ -41,8 +41,6 @@ pub record StoodAt (p : List ℕ) (w : World) (R : Location → State → Type 0
 
 pub stood_at : (R : Relation) (p : List ℕ) (old new : World) → EachWas R old new → (v : State)
     → reach new.roots p ≡ true → state_there new.roots p ≡ Some v → StoodAt p old (λ j s. R j s v)
-stood_at R [] old new was v on there = false_true on
-stood_at R (zero ∷ p) old new was v on there = false_true on
 stood_at R (suc j ∷ e) old new was v on there =
     let w : Was R old (record { row = j; rest = e }) v =
     was (record { row = j; rest = e }) v on there in
@@ -54,6 +52,7 @@ stood_at R (suc j ∷ e) old new was v on there =
       stands = w.stands;
       so = w.so;
     }
+stood_at R _ old new was v on there = false_true on
 
 -- what is so of its place is so of its path
 pub at_place : (A : State → Type 0) (p : List ℕ) (w : World) (R : Location → State → Type 0)
@@ -85,24 +84,21 @@ seen_speed : (k : Ports) (i : ℕ) (p : List ℕ) (b : PortState) (s : State) �
     → reach_at k i p ≡ true → port_at k i p ≡ Some b → state_at k i p ≡ Some s
     → (seen b).low_speed ≡ s.spec.low
 unfolding Consistent reach_at port_at state_at
-seen_speed ended i p c s h on port stands = false_true on
-seen_speed (vacant b k) zero p c s h on port stands = false_true on
 seen_speed (vacant b k) (suc i) p c s h on port stands = seen_speed k i p c s h.2 on port stands
 seen_speed (taken b z a k) zero [] c s h on port stands =
     let same_port = same_Some b c port in
     let same_state = same_Some z s stands in
     ap (λ x. (seen x).low_speed) (sym same_port) ∙ port_speed b z h.0 h.1 on
     ∙ ap (λ x. x.spec.low) same_state
-seen_speed (taken b z a k) zero (zero ∷ p) c s h on port stands = false_true on
 seen_speed (taken b z a k) zero (suc j ∷ p) c s h on port stands =
     seen_speed a j p c s h.2 (both b.enable (reach_at a j p) on).1 port stands
 seen_speed (taken b z a k) (suc i) p c s h on port stands = seen_speed k i p c s h.3 on port stands
+seen_speed _ _ _ c s h on port stands = false_true on
 
 seen_there : (k : Ports) (p : List ℕ) (b : PortState) (s : State) → Consistent k → reach k p ≡ true
     → port_there k p ≡ Some b → state_there k p ≡ Some s → (seen b).low_speed ≡ s.spec.low
-seen_there k [] b s h on port stands = false_true on
-seen_there k (zero ∷ p) b s h on port stands = false_true on
 seen_there k (suc i ∷ p) b s h on port stands = seen_speed k i p b s h on port stands
+seen_there k _ b s h on port stands = false_true on
 
 -- a state of the same description
 spec_of-some : (o : Option State) (spec : Spec) → option_map spec_of o ≡ Some spec → (s : State)

@@ -1,8 +1,8 @@
 -- That an occupied port stays occupied, and how the device there comes to be reached, from one call
 -- to the next.
 use Rattle.std.proofs.Common.{◌≡◌, inl, inr, ℕ, zero, suc, true, false, List, [], ◌∷◌, Option, None}
-use Rattle.std.proofs.Common.{Some, option_map, Result, Ok, Err, refl, ap, sym, subst, ◌∙◌}
-use Rattle.std.specs.Prelude.{IfSome, IsSome}
+use Rattle.std.proofs.Common.{Some, option_map, Result, Ok, Err, refl, ap, sym, subst, ◌∙◌, IfSome}
+use Rattle.std.proofs.Common.{IsSome}
 use Rattle.usb_request.specs.{PORT_ENABLE, C_PORT_RESET, set_address}
 use Rattle.usb_port.specs.{PortState, PortStatus, ClearEnable, ClearResetChange, clear_call}
 use Rattle.usb_port.specs.{called_port, PortCall}
@@ -50,14 +50,12 @@ is_some-value (Some x) some = (x, refl)
 -- a reachable device stands
 pub reach-state : (k : Ports) (j : ℕ) (p : List ℕ) → reach_at k j p ≡ true → IsSome (state_at k j p)
 unfolding reach_at state_at
-reach-state no_more j p on = false_true on
-reach-state (vacant b k) zero p on = false_true on
 reach-state (vacant b k) (suc j) p on = reach-state k j p on
 reach-state (taken b s a k) zero [] on = refl
-reach-state (taken b s a k) zero (zero ∷ p) on = false_true on
 reach-state (taken b s a k) zero (suc j ∷ p) on =
     reach-state a j p (both b.enable (reach_at a j p) on).1
 reach-state (taken b s a k) (suc j) p on = reach-state k j p on
+reach-state _ _ _ on = false_true on
 
 -- where nothing pending is cleared, an occupied port stays so
 pub occupied_on : (p : List ℕ) {old new : World} → Course (KeepsPendingAt p) old new

@@ -1,6 +1,6 @@
 -- What a hub tells, and what its refusal means.
-use Rattle.std.proofs.Common.{◌≡◌, ◌≢◌, ◌⊎◌, ◌∙◌, inl, inr, refl, sym, ap, add-one, subst}
-use Rattle.std.specs.Prelude.{ℕ, ◌+◌, List, Bool, true, false, ◌&&◌, ◌==◌, Result, Ok, Err, IfOk}
+use Rattle.std.proofs.Common.{◌≡◌, ◌≢◌, ◌⊎◌, ◌∙◌, inl, inr, refl, sym, ap, add-one, subst, ℕ, ◌+◌}
+use Rattle.std.proofs.Common.{List, Bool, true, false, ◌&&◌, ◌==◌, Result, Ok, Err, IfOk}
 use Rattle.usb_world.specs.{World}
 use Rattle.usb_tree.proofs.Interface.{decided}
 use Rattle.usb_transaction.specs.{Target}

@@ -1,6 +1,6 @@
 -- What clearing PORT_ENABLE leaves.
-use Rattle.std.proofs.Common.{◌≡◌, refl, sym, subst, arith, get_or-set_same}
-use Rattle.std.specs.Prelude.{◌-◌, List, Result, Ok, Err, false, slice_index_or}
+use Rattle.std.proofs.Common.{◌≡◌, refl, sym, subst, arith, get_or-set_same, ◌-◌, List, Result, Ok}
+use Rattle.std.proofs.Common.{Err, false, slice_index_or}
 use Rattle.usb_port.specs.{PortState, off}
 use Rattle.usb_request.specs.{PORT_ENABLE}
 use Rattle.usb_world.specs.{World, root_row, root_port_at}

@@ -2,8 +2,8 @@
 -- none, and those that have it.
 use Rattle.std.proofs.Common.{◌≡◌, ◌≤◌, ◌<◌, ◌-◌, ◌==◌, ◌&&◌, ◌⊎◌, inl, inr, not, nat_le, ℕ, zero}
 use Rattle.std.proofs.Common.{suc, Bool, true, false, List, [], ◌∷◌, ◌++◌, Option, None, Some}
-use Rattle.std.proofs.Common.{option_map, Result, Ok, if◌then◌else◌, refl, ap, sym, subst}
-use Rattle.std.proofs.Common.{◌∙◌, arith}
+use Rattle.std.proofs.Common.{option_map, Result, Ok, if◌then◌else◌, refl, ap, sym, subst, ◌∙◌}
+use Rattle.std.proofs.Common.{arith}
 use Rattle.std.proofs.lemmas.Bool.Decides.{nat_tests}
 use Rattle.std.proofs.lemmas.Option.{same_Some}
 use Rattle.std.specs.Global.{Vec}
@@ -13,8 +13,8 @@ use Rattle.usb_port.specs.{PortState, powered_off, SetPower}
 use Rattle.usb_device.specs.{Registers, Is, port_named, State, Hub, Ports, ended, vacant, taken}
 use Rattle.usb_device.specs.{port_of, all_off, place_at, Location, path_to, state_on, port_there}
 use Rattle.usb_device.specs.{state_there}
-use Rattle.usb_world.specs.{is_harmless, Was, EachWas, hub_ports, spec_of, LeavesPortAlone}
-use Rattle.usb_world.specs.{AnyStep, Course, step, World}
+use Rattle.usb_world.specs.{is_harmless, Was, EachWas, hub_ports, spec_of, LeavesPortAlone, AnyStep}
+use Rattle.usb_world.specs.{Course, step, World}
 use Rattle.usb_tree.specs.{address_of, is_way, same_number}
 use Rattle.usb_world.proofs.Interface.{course_joined, course_wider, pending_persists, ports_stand}
 use Rattle.usb_world.proofs.Interface.{rests_or_pends}

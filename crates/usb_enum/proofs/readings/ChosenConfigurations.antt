@@ -2,8 +2,8 @@
 -- the one that the device finds by its value.
 use Rattle.std.proofs.Common.{◌≡◌, ◌∙◌, refl, sym, ap, subst, arith, Bool, true, false, ℕ, zero}
 use Rattle.std.proofs.Common.{suc, ◌<◌, ◌≤◌, ◌==◌, ◌&&◌, not, if◌then◌else◌, List, [], ◌∷◌, length}
-use Rattle.std.proofs.Common.{take, map, min, Option, None, Some, Result, Ok, Err, is_ok}
-use Rattle.std.specs.Prelude.{◌||◌, nat_lt, nat_le, slice_get, slice_index, slice_index_or}
+use Rattle.std.proofs.Common.{take, map, min, Option, None, Some, Result, Ok, Err, is_ok, ◌||◌}
+use Rattle.std.proofs.Common.{nat_lt, nat_le, slice_get, slice_index, slice_index_or}
 use Rattle.std.proofs.lemmas.List.{length-map}
 use Rattle.std.proofs.lemmas.List.Quantifiers.{position-Some}
 use Rattle.std.proofs.lemmas.Option.{same_Some}
@@ -69,14 +69,8 @@ last_row : (a b c d f g h : Bool) (r : Result ℕ Cause) (n : ℕ)
     else if d then Err BadDevice else if f then Err (Stalled request.Address) else if g
     then Err BadDevice else if h then Err TooDeep else r) ≡ Ok n
     → (a ≡ false) × (b ≡ false) × (r ≡ Ok n)
-last_row true b c d f g h r n e = absurd (cc e)
-last_row false true c d f g h r n e = absurd (cc e)
-last_row false false true d f g h r n e = absurd (cc e)
-last_row false false false true f g h r n e = absurd (cc e)
-last_row false false false false true g h r n e = absurd (cc e)
-last_row false false false false false true h r n e = absurd (cc e)
-last_row false false false false false false true r n e = absurd (cc e)
 last_row false false false false false false false r n e = (refl, refl, e)
+last_row _ _ _ _ _ _ _ r n e = absurd (cc e)
 
 pub accepts : (spec : Spec) (tier supply chosen : ℕ) → verdict spec tier supply ≡ Ok chosen
     → AcceptsChosen spec supply chosen

@@ -68,11 +68,8 @@ head_answered t max bytes stalled outcome old new e good =
 
 head_value : (a b c d : Bool) (n max : ℕ) → (if a then Err Short else (if b then Err WrongType
     else (if c then Err Length else (if d then Err MaxPacket else Ok n)))) ≡ Ok max → n ≡ max
-head_value true b c d n max e = absurd cc
-head_value false true c d n max e = absurd cc
-head_value false false true d n max e = absurd cc
-head_value false false false true n max e = absurd cc
 head_value false false false false n max e = cc
+head_value _ _ _ _ n max e = absurd cc
 
 head_names : (low : Bool) (bytes : List ℕ) (max : ℕ) → device_head_of low bytes ≡ Ok max
     → slice_index bytes 7 ≡ max

@@ -1,9 +1,9 @@
 -- What is learned of a hub.
 use Rattle.std.proofs.Common.{◌≡◌, ℕ, ◌==◌, not, true, false, List, take, Option, None, Some}
 use Rattle.std.proofs.Common.{option_map, is_some, Result, Ok, refl, ap, sym, subst, ◌∙◌}
+use Rattle.std.proofs.Common.{slice_index, nat_lt, length}
 use Rattle.std.proofs.lemmas.Bool.{and_parts, and_from}
 use Rattle.std.proofs.lemmas.Option.{same_Some}
-use Rattle.std.specs.Prelude.{slice_index, nat_lt, length}
 use Rattle.std.specs.Option.{IfSome}
 use Rattle.std.specs.Global.{Vec}
 use Rattle.usb_request.specs.{HUB_CLASS}
@@ -115,8 +115,7 @@ facts_are spec hub ports supply is class count said = rw (class, is, count, said
 
 is_good_hub_read : (text : List ℕ) (ports supply : ℕ) (spec : Spec)
     → is_some (status_endpoint_of text) ≡ true → HasPorts ports spec → HasSupply supply spec
-    → IsSpec spec
-    → IsGoodHub text (record { ports = ports; supply = supply }) spec
+    → IsSpec spec → IsGoodHub text (record { ports = ports; supply = supply }) spec
 is_good_hub_read text ports supply spec endpoint p s ruled =
     let g = was_given spec p.text p.given in
     let had = had_ports ports spec p ruled in

@@ -1,8 +1,8 @@
 -- How many bytes the texts of a device say that the events of a plan plugged.
 use Rattle.std.proofs.Common.{◌≡◌, ◌≤◌, ℕ, zero, suc, Bool, true, false, cond, not, List, [], ◌∷◌}
 use Rattle.std.proofs.Common.{take, slice_get, Option, None, Some, option_map, refl, ap, sym, subst}
-use Rattle.std.proofs.Common.{◌∙◌, Ordering, Less, Equal, Greater, is_eq}
-use Rattle.std.specs.Prelude.{IfSome, All, ⊤, nat_eq}
+use Rattle.std.proofs.Common.{◌∙◌, Ordering, Less, Equal, Greater, is_eq, IfSome, All, nat_eq}
+use Rattle.std.specs.Prelude.{⊤}
 use Rattle.std.specs.BTreeMap.{insert_entry}
 use Rattle.std.specs.List.{starts_with, filter}
 use Rattle.std.specs.Ordering.{match_ordering}
@@ -77,12 +77,11 @@ module _ (most : ℕ) (devices : List Spec) where
       → EachPlugged (PluggedWithin most devices) tree
       → EachPlugged (PluggedWithin most devices) (plugged_by tree (take n events))
   unfolding plugged_by
-  indexed_by zero events tree all each = each
-  indexed_by (suc n) [] tree all each = each
   indexed_by (suc n) (e ∷ events) tree all each =
       let P : Event → Type 0 = λ x. PlugsWithin most devices x.action in
       indexed_by n events (plugged_after e.action tree) (All-tail P e events all)
       (indexed_after e.action tree (All-head P e events all) each)
+  indexed_by _ _ tree all each = each
 
   described : (o : Option ℕ) (spec : Spec) → ((i : ℕ) → o ≡ Some i → PluggedWithin most devices i)
       → device_indexed devices o ≡ Some spec → said_lengths spec ≤ most

@@ -1,7 +1,7 @@
 -- What is learned of a device by a request for data, and of its configurations.
-use Rattle.std.proofs.Common.{◌≡◌, ◌==◌, ◌+◌, ℕ, inl, inr, zero, suc, Bool, true, false, List}
-use Rattle.std.proofs.Common.{[], ◌∷◌, ◌++◌, map, take, slice_get, Option, None, Some, Result, Ok}
-use Rattle.std.proofs.Common.{Err, is_ok, refl, ap, sym, subst, ◌∙◌, arith}
+use Rattle.std.proofs.Common.{◌≡◌, ◌==◌, ◌+◌, ℕ, inl, inr, zero, suc, Bool, true, false, List, []}
+use Rattle.std.proofs.Common.{◌∷◌, ◌++◌, map, take, slice_get, Option, None, Some, Result, Ok, Err}
+use Rattle.std.proofs.Common.{is_ok, refl, ap, sym, subst, ◌∙◌, arith}
 use Rattle.std.proofs.lemmas.Bool.{and_from}
 use Rattle.std.proofs.lemmas.Option.{same_Some}
 use Rattle.std.specs.Global.{Vec}
@@ -33,8 +33,7 @@ learns_none So t w all single = each_none (Learned So t)
 -- what is learned before a call and in it
 pub learns_on : (A B C : Spec → Type 0) (t : Target) (n : ℕ) (old mid new : World)
     {r s : Option (List ℕ)} → ((spec : Spec) → A spec → B spec → C spec) → DeviceFact A t old mid
-    → StepRun n mid r new s → DeviceFact B t mid new
-    → DeviceFact C t old new
+    → StepRun n mid r new s → DeviceFact B t mid new → DeviceFact C t old new
 learns_on A B C t n old mid new f a went b single =
     each_joined (Learned A t) (Learned B t) (Learned C t)
     (λ j s u v x y. record {
@@ -120,8 +119,7 @@ good_bytes bytes text is = elim (decided (is_ok (config_of bytes))) [
 -- what was read of a configuration is as long as its head says
 configuration_of_total : (index total : ℕ) (bytes text whole : List ℕ) (spec : Spec)
     → HasTotal index total spec → config_given index spec ≡ Some whole → bytes ≡ take total whole
-    → Some text ≡ config_text_of bytes
-    → HasConfiguration index text spec
+    → Some text ≡ config_text_of bytes → HasConfiguration index text spec
 unfolding text_read
 configuration_of_total index total bytes text whole spec head given first good =
     let same = same_Some whole head.text (sym given ∙ head.given) in
@@ -195,8 +193,7 @@ configurations_none spec = record { good = refl; read = refl }
 
 configurations_more : (count : ℕ) (texts : List (List ℕ)) (text : List ℕ) (spec : Spec)
     → any_has_value (configuration_value text) texts ≡ false → HasConfigurations count texts spec
-    → HasConfiguration count text spec
-    → HasConfigurations (count + 1) (texts ++ text ∷ []) spec
+    → HasConfiguration count text spec → HasConfigurations (count + 1) (texts ++ text ∷ []) spec
 configurations_more count texts text spec differs before now =
     let given = given_allows spec.stalls.config (slice_get spec.configs count) now.text now.given in
     let one_more : count + 1 ≡ suc count = omega arith in

@@ -1,9 +1,9 @@
 -- The value of a configuration that was read is one that its device takes.
-use Rattle.std.proofs.Common.{◌≡◌, ◌≢◌, inl, inr, ◌<◌, ℕ, zero, suc, ◌==◌, ◌&&◌, ◌||◌, not}
-use Rattle.std.proofs.Common.{Bool, true, false, List, [], ◌∷◌, map, take, length, slice_get}
+use Rattle.std.proofs.Common.{◌≡◌, ◌≢◌, inl, inr, ◌<◌, ℕ, zero, suc, ◌==◌, ◌&&◌, ◌||◌, not, Bool}
+use Rattle.std.proofs.Common.{true, false, List, [], ◌∷◌, map, take, length, slice_get}
 use Rattle.std.proofs.Common.{slice_index_or, if◌then◌else◌, Option, None, Some, Result, Ok, Err}
-use Rattle.std.proofs.Common.{is_ok, refl, ap, sym, subst, ◌∙◌, arith, ◌≤◌, min, ◌+◌, ◌*◌}
-use Rattle.std.specs.Prelude.{nat_lt, slice_index}
+use Rattle.std.proofs.Common.{is_ok, refl, ap, sym, subst, ◌∙◌, arith, ◌≤◌, min, ◌+◌, ◌*◌, nat_lt}
+use Rattle.std.proofs.Common.{slice_index}
 use Rattle.std.specs.List.{list_any}
 use Rattle.std.specs.Option.{option_or}
 use Rattle.std.proofs.lemmas.Bool.{and_parts, and_from, cases_order}
@@ -46,10 +46,8 @@ pub record IsFresh (spec : Spec) (i : ℕ) (text : List ℕ) : Type 0 where
 fresh_by : (refused good old : Bool) (i : ℕ) → (if refused then Some (Stalled request.Config)
     else (if good && not old then None else Some (BadConfiguration i))) ≡ None → (good ≡ true)
     × (old ≡ false)
-fresh_by true good old i h = absurd cc
-fresh_by false true true i h = absurd cc
 fresh_by false true false i h = (refl, refl)
-fresh_by false false old i h = absurd cc
+fresh_by _ _ _ i h = absurd cc
 
 pub fresh_text : (spec : Spec) (i : ℕ) (text : List ℕ) → slice_get spec.configs i ≡ Some text
     → config_fault spec i ≡ None → IsFresh spec i text

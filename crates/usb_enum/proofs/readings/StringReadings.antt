@@ -1,7 +1,7 @@
 -- What is learned of a device's strings.
 use Rattle.std.proofs.Common.{◌≡◌, inl, inr, ℕ, ◌==◌, ◌||◌, not, false, if◌then◌else◌, List, take}
-use Rattle.std.proofs.Common.{Option, None, Some, is_some, option_map, option_and_then}
-use Rattle.std.proofs.Common.{Ok, refl, ap, sym, ◌∙◌, arith}
+use Rattle.std.proofs.Common.{Option, None, Some, is_some, option_map, option_and_then, Ok, refl}
+use Rattle.std.proofs.Common.{ap, sym, ◌∙◌, arith}
 use Rattle.std.specs.Global.{Vec}
 use Rattle.usb_device.specs.{Spec}
 use Rattle.usb_world.specs.{World}
@@ -29,11 +29,7 @@ string_read-given spec index =
 -- only a STALL is no stop
 pub stall_alone : (fault : PipeFault) → stop_of fault ≡ None → fault ≡ pipe.Stalled
 stall_alone pipe.Stalled none = refl
-stall_alone pipe.Busy none = absurd cc
-stall_alone pipe.NoAnswer none = absurd cc
-stall_alone pipe.Broken none = absurd cc
-stall_alone (pipe.Bus fault) none = absurd cc
-stall_alone pipe.Memory none = absurd cc
+stall_alone _ none = absurd cc
 
 nonzero : (index : ℕ) → (index ≡ 0 → ⊥) → (index == 0) ≡ false
 nonzero index given = grind (arith, given)
@@ -136,8 +132,7 @@ pub strings_learned : (t : Target) (indexes : StringIndexes) (language : ℕ)
     → StepRun k a q b r → DeviceFact (AtMaximum t
     (λ spec. manufacturer ≡ string_in spec indexes.manufacturer)) t a b
     → StepRun m b s c u → DeviceFact (AtMaximum t
-    (λ spec. product ≡ string_in spec indexes.product)) t b c
-    → StepRun n c v new w → DeviceFact
+    (λ spec. product ≡ string_in spec indexes.product)) t b c → StepRun n c v new w → DeviceFact
     (AtMaximum t (λ spec. serial_number ≡ string_in spec indexes.serial_number)) t c new
     → DeviceFact (AtMaximum t (λ spec. record {
       manufacturer = manufacturer;

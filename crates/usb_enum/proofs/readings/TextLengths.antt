@@ -2,12 +2,11 @@
 -- from one call to the next.
 use Rattle.std.proofs.Common.{◌≡◌, ◌⊎◌, inl, inr, ◌≤◌, ◌<◌, ◌+◌, ◌*◌, ◌==◌, ℕ, true, false, List}
 use Rattle.std.proofs.Common.{length, take, get_or, slice_get, Option, None, Some, option_map}
-use Rattle.std.proofs.Common.{Result, Ok, Err, refl, ap, sym, subst, ◌∙◌, arith}
+use Rattle.std.proofs.Common.{Result, Ok, Err, refl, ap, sym, subst, ◌∙◌, arith, IsErrAnd, OnOk}
 use Rattle.std.proofs.lemmas.List.Sums.{sum_by_more, sum_by-take-le}
 use Rattle.std.proofs.lemmas.Option.{get_or_from_slice_get, same_Some, slice_get_within}
 use Rattle.std.specs.Global.{Vec}
 use Rattle.std.specs.List.{sum_by}
-use Rattle.std.specs.Prelude.{IsErrAnd, OnOk}
 use Rattle.usb_request.specs.{Setup, IsToHost, get_configuration_descriptor}
 use Rattle.usb_descriptor.specs.{total_in}
 use Rattle.usb_device.specs.{OnlyStage, State, said_length, said_lengths, Spec, IsSpec, Location}
@@ -46,10 +45,8 @@ is_at-only_stage t s v x = ap (λ r. r.address == t.addr) (stays-registers s v x
 
 pub text_there : (given : Spec → Option (List ℕ)) (t : Target) (request : Setup) (wanted : ℕ)
     (outcome : Result (Vec ℕ) PipeFault) (bytes : Vec ℕ) (old new : World) → IsToHost request
-    → outcome ≡ Ok bytes
-    → Queried t request old outcome new
-    → (new.shared ≡ false → EachWas (TextAsked given t wanted outcome) old new)
-    → IsAnswered t new
+    → outcome ≡ Ok bytes → Queried t request old outcome new
+    → (new.shared ≡ false → EachWas (TextAsked given t wanted outcome) old new) → IsAnswered t new
 text_there given t request wanted outcome bytes old new host is asked what single =
     let a : Answerer t old new = who_reads t request bytes old new host (same_setup request)
     asked.settled (subst (λ r. Reads t request old r new) is asked.stages) single in
@@ -69,8 +66,7 @@ pub config_there : (t : Target) (stalled : Cause) (index wanted : ℕ)
     (outcome : Result (Vec ℕ) PipeFault) (bytes : Vec ℕ) (old new : World)
     → Ok bytes ≡ answered_or stalled outcome
     → Queried t (get_configuration_descriptor index wanted) old outcome new
-    → (new.shared ≡ false → EachWas (ConfigAsked t index wanted outcome) old new)
-    → IsAnswered t new
+    → (new.shared ≡ false → EachWas (ConfigAsked t index wanted outcome) old new) → IsAnswered t new
 unfolding get_configuration_descriptor
 config_there t stalled index wanted outcome bytes old new answered asked what =
     text_there (config_given index) t (get_configuration_descriptor index wanted) wanted outcome

@@ -1,8 +1,7 @@
 -- That a finding is the device's own.
 use Rattle.std.proofs.Common.{◌≡◌, ◌<◌, ℕ, zero, suc, ◌==◌, ◌&&◌, not, Bool, true, false, List, []}
 use Rattle.std.proofs.Common.{◌∷◌, slice_index, slice_index_or, take, if◌then◌else◌, Option, None}
-use Rattle.std.proofs.Common.{Some, Result, Ok, Err, refl, ap, sym, subst, ◌∙◌, arith}
-use Rattle.std.specs.Prelude.{IfOk}
+use Rattle.std.proofs.Common.{Some, Result, Ok, Err, refl, ap, sym, subst, ◌∙◌, arith, IfOk}
 use Rattle.std.proofs.lemmas.Bool.{eq-eqb}
 use Rattle.std.proofs.lemmas.List.{get_or-take}
 use Rattle.usb_descriptor.specs.{configuration_value, configuration_count}
@@ -16,12 +15,12 @@ use Rattle.usb_tree.proofs.Interface.{and_false, self_path}
 use Rattle.usb_bus.specs.{StepRun}
 use Rattle.usb_address.specs.{KeepsAddresses}
 use Rattle.usb_hub.specs.{HubPort}
-use Rattle.usb_enum.specs.{Addressed, Accepted, HubFacts, Stop, Within, verdict}
-use Rattle.usb_enum.specs.{is_good_hub, facts_of, texts_below, first_fault, strings_by}
-use Rattle.usb_enum.specs.{IsAs, is_device, is_hub_device, needs_pre, string_indexes}
-use Rattle.usb_enum.specs.{configuration_of, HasFacts, OnlySets, IsAccepted, IsListed, IsOwn}
-use Rattle.usb_enum.specs.{IsWhole, Finds, HasTaken, IsAddressed, HasReadings, LearnedSet}
-use Rattle.usb_enum.specs.{TellsPorts, AtMaximum, IsGoodHub, choice_of}
+use Rattle.usb_enum.specs.{Addressed, Accepted, HubFacts, Stop, Within, verdict, is_good_hub}
+use Rattle.usb_enum.specs.{facts_of, texts_below, first_fault, strings_by, IsAs, is_device}
+use Rattle.usb_enum.specs.{is_hub_device, needs_pre, string_indexes, configuration_of, HasFacts}
+use Rattle.usb_enum.specs.{OnlySets, IsAccepted, IsListed, IsOwn, IsWhole, Finds, HasTaken}
+use Rattle.usb_enum.specs.{IsAddressed, HasReadings, LearnedSet, TellsPorts, AtMaximum, IsGoodHub}
+use Rattle.usb_enum.specs.{choice_of}
 use Rattle.usb_enum.proofs.courses.Courses.{went_in_order, went_regular}
 use Rattle.usb_enum.proofs.devices.Enumerations.{within-keeps_addresses, takes_then}
 use Rattle.usb_enum.proofs.readings.Heads.{head_packet}
@@ -141,9 +140,8 @@ accepted_own_device tier supply addressed device j s v whole is learned found ru
 
 pub ruled_there : (k : Ports) (p : List ℕ) (s : State) → Consistent k → state_there k p ≡ Some s
     → IsSpec s.spec
-ruled_there k [] s sane there = absurd cc
-ruled_there k (zero ∷ p) s sane there = absurd cc
 ruled_there k (suc i ∷ p) s sane there = sane_spec k i p s sane there
+ruled_there k _ s sane there = absurd cc
 
 -- the device at the port, where it was read and configured after it took the address
 own_found : (port : HubPort) (address tier supply n : ℕ) (addressed : Addressed) (device : Accepted)
@@ -179,8 +177,7 @@ pub accepted : (port : HubPort) (address tier supply n m : ℕ) (addressed : Add
     (result : Result Accepted Stop) {old mid new : World} {a b c d : Option (List ℕ)}
     → StepRun n old a mid b → Within port address old mid → HasTaken port address old mid addressed
     → OnlySets address mid new → StepRun m mid c new d
-    → IfOk result (λ device. IsWhole supply device)
-    → IfOk result (IsListed addressed tier mid new)
+    → IfOk result (λ device. IsWhole supply device) → IfOk result (IsListed addressed tier mid new)
     → IfOk result (IsAccepted port address tier supply old new)
 accepted port address tier supply n m addressed (Ok device) {old} {mid} {new} went within taken sets
     later whole is = record {

@@ -1,6 +1,5 @@
 -- Texts whose values differ, one by one.
-use Rattle.std.proofs.Common.{◌≡◌, refl}
-use Rattle.std.specs.Prelude.{ℕ, List, [], ◌∷◌, ◌++◌, false, ◌==◌}
+use Rattle.std.proofs.Common.{◌≡◌, refl, ℕ, List, [], ◌∷◌, ◌++◌, false, ◌==◌}
 use Rattle.usb_descriptor.specs.{configuration_value}
 use Rattle.usb_tree.proofs.Interface.{neither, swapped}
 use Rattle.usb_enum.specs.{any_has_value, ValuesDiffer}

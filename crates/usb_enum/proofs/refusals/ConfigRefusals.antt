@@ -39,8 +39,7 @@ config_ungiven spec index = split spec.stalls.config (slice_get spec.configs ind
 
 config_bad : (spec : Spec) (index : ℕ) (text : List ℕ) → config_given index spec ≡ Some text
     → (is_good_text text && not (any_has_value (configuration_value (text_read text))
-    (texts_below spec index))) ≡ false
-    → config_fault spec index ≡ Some (BadConfiguration index)
+    (texts_below spec index))) ≡ false → config_fault spec index ≡ Some (BadConfiguration index)
 unfolding config_fault
 config_bad spec index text given bad =
     let allowed = given_allows spec.stalls.config (slice_get spec.configs index) text given in
@@ -60,8 +59,7 @@ config_malformed spec index text given bad =
 -- it has the value of an earlier one
 config_repeated : (spec : Spec) (index : ℕ) (text : List ℕ) → config_given index spec ≡ Some text
     → is_good_text text ≡ true → any_has_value (configuration_value (text_read text))
-    (texts_below spec index) ≡ true
-    → config_fault spec index ≡ Some (BadConfiguration index)
+    (texts_below spec index) ≡ true → config_fault spec index ≡ Some (BadConfiguration index)
 config_repeated spec index text given good again =
     config_bad spec index text given
     (ap (λ b. b && not (any_has_value (configuration_value (text_read text))
@@ -73,8 +71,7 @@ IsBad t index = AtMaximum t (λ spec. config_fault spec index ≡ Some (BadConfi
 -- a request for one failed
 pub config_refused : (t : Target) (index wanted : ℕ) (outcome : Result (Vec ℕ) PipeFault)
     (stop : Stop) (old new : World) → Err stop ≡ answered_or (Stalled request.Config) outcome
-    → 8 ≤ t.max
-    → (new.shared ≡ false → EachWas (ConfigAsked t index wanted outcome) old new)
+    → 8 ≤ t.max → (new.shared ≡ false → EachWas (ConfigAsked t index wanted outcome) old new)
     → (NoThreeDamaged old → 8 ≤ t.max → new.shared ≡ false
     → EachWas (ReadFailure t wanted outcome) old new)
     → FailureReason (Refuses t (λ spec. config_fault spec index) stop) t old new

@@ -2,8 +2,8 @@
 use Rattle.usb_device.specs.{path_to, Spec}
 use Rattle.std.proofs.Common.{◌≡◌, ◌≤◌, ◌<◌, ℕ, option_map, nat_lt, inl, inr, Bool, true, false}
 use Rattle.std.proofs.Common.{if◌then◌else◌, List, length, take, None, Some, Result, Ok, Err, is_ok}
-use Rattle.std.proofs.Common.{refl, ap, sym, subst, ◌∙◌, arith}
-use Rattle.std.specs.Prelude.{unwrap_or, MatchResult}
+use Rattle.std.proofs.Common.{refl, ap, sym, subst, ◌∙◌, arith, MatchResult}
+use Rattle.std.specs.Prelude.{unwrap_or}
 use Rattle.std.specs.Global.{Vec}
 use Rattle.std.specs.Result.{result_eq}
 use Rattle.std.proofs.lemmas.Bool.Decides.{nat_tests}
@@ -51,8 +51,7 @@ head_failed low spec pipe.Stalled why =
 head_failed low spec pipe.Busy why = rw (why.0, why.1) refl
 head_failed low spec pipe.NoAnswer why = rw why refl
 head_failed low spec pipe.Broken why = absurd why
-head_failed low spec (pipe.Bus fault) why = tt
-head_failed low spec pipe.Memory why = tt
+head_failed low spec _ why = tt
 
 head_malformed : (low : Bool) (spec : Spec) → spec.silent ≡ false → spec.busy ≡ false
     → spec.stalls.device ≡ false → is_ok (device_head_of low (take 8 spec.descriptor)) ≡ false
@@ -144,8 +143,7 @@ module _ (t : Target) (outcome : Result (Vec ℕ) PipeFault) (old new : World)
       by_fault pipe.Busy e k = failed_who pipe.Busy e tt (ends pipe.Busy e).sound
       by_fault pipe.NoAnswer e k = absurd (some e)
       by_fault pipe.Broken e k = absurd (ends pipe.Broken e)
-      by_fault (pipe.Bus why) e k = absurd cc
-      by_fault pipe.Memory e k = absurd cc
+      by_fault _ e k = absurd cc
 
   pub answered_who : (stalled : Cause) (bytes : Vec ℕ) → Ok bytes ≡ answered_or stalled outcome
       → IsClaimed t.addr old
@@ -173,8 +171,7 @@ pub no_answer : {A : Type 0} (E : A → A → Bool) (F : PipeFault → PipeFault
     → F pipe.Stalled pipe.NoAnswer ≡ false → F pipe.Busy pipe.NoAnswer ≡ false
     → F pipe.Broken pipe.NoAnswer ≡ false
     → ((why : BusFault) → F (pipe.Bus why) pipe.NoAnswer ≡ false)
-    → F pipe.Memory pipe.NoAnswer ≡ false
-    → outcome ≡ Err pipe.NoAnswer
+    → F pipe.Memory pipe.NoAnswer ≡ false → outcome ≡ Err pipe.NoAnswer
 no_answer E F (Ok x) is a b c d e = false_true is
 no_answer E F (Err pipe.Stalled) is a b c d e = false_true (sym a ∙ is)
 no_answer E F (Err pipe.Busy) is a b c d e = false_true (sym b ∙ is)

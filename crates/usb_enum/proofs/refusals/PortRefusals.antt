@@ -1,7 +1,7 @@
 -- A hub is not refused for the ports that it has.
-use Rattle.std.proofs.Common.{◌≡◌, ◌≤◌, ◌+◌, ℕ, ◌&&◌, not, Bool, true, false, List, if◌then◌else◌}
-use Rattle.std.proofs.Common.{Option, None, Some, Result, Err, refl, ap, subst, arith}
-use Rattle.std.specs.Prelude.{unwrap_or, is_some, ⊤}
+use Rattle.std.proofs.Common.{◌≡◌, ◌≤◌, ◌+◌, ℕ, ◌&&◌, Bool, true, false, List, if◌then◌else◌}
+use Rattle.std.proofs.Common.{Option, None, Some, Result, Err, refl, ap, subst, arith, is_some}
+use Rattle.std.specs.Prelude.{unwrap_or, ⊤}
 use Rattle.usb_request.specs.{PORT_POWER, set_port_feature}
 use Rattle.usb_port.specs.{IsPortNumber}
 use Rattle.usb_descriptor.specs.{status_endpoint_of}
@@ -28,12 +28,9 @@ use Rattle.usb_enum.proofs.refusals.Refusals.{answered_err, explained_wider, exp
 
 served_stop : (spec : Spec) (fault : PipeFault) → NoHubFailed {A = Unit {0}} (Err fault)
     → IsRefusedFor no_fault (unwrap_or (stop_of fault) (Refused BadHub)) spec
-served_stop spec pipe.Stalled served = absurd served
-served_stop spec pipe.Busy served = absurd served
-served_stop spec pipe.NoAnswer served = absurd served
-served_stop spec pipe.Broken served = absurd served
 served_stop spec (pipe.Bus fault) served = tt
 served_stop spec pipe.Memory served = tt
+served_stop spec _ served = absurd served
 
 -- it was given power
 pub power_explains : (t : Target) (port : ℕ) (outcome : Result (Unit {0}) PipeFault) (stop : Stop)
@@ -84,8 +81,7 @@ has_earlier spec m n least fewer h = record {
 -- the ports before it were given power
 pub powering_explains : (t : Target) (before ports m n : ℕ) (stop : Stop) (old mid new : World)
     {q r s u : Option (List ℕ)} → before + 1 ≤ ports → KeepsDevices old mid → StepRun m old q mid r
-    → StepRun n mid s new u
-    → ExplainsSet (RefusesNoPort t (before + 1) stop) t mid new
+    → StepRun n mid s new u → ExplainsSet (RefusesNoPort t (before + 1) stop) t mid new
     → ExplainsSet (RefusesNoPort t ports stop) t old new
 powering_explains t before ports m n stop old mid new fewer keeps =
     explains_set_on (λ spec. ⊤) (RefusesNoPort t (before + 1) stop) (RefusesNoPort t ports stop) t m

@@ -2,8 +2,8 @@
 use Rattle.usb_device.specs.{Location, Spec, IsSpec, State, Registers, max_packet}
 use Rattle.std.proofs.Common.{◌≡◌, ◌⊎◌, inl, inr, ◌≤◌, ℕ, ◌==◌, ◌&&◌, ◌||◌, not, true, false, List}
 use Rattle.std.proofs.Common.{if◌then◌else◌, Option, None, Some, Result, Ok, Err, refl, ap, sym}
-use Rattle.std.proofs.Common.{subst, ◌∙◌}
-use Rattle.std.specs.Prelude.{unwrap_or, IfOk, IfErr, IsErrAnd, MatchResult, ⊤}
+use Rattle.std.proofs.Common.{subst, ◌∙◌, IfOk, IfErr, IsErrAnd, MatchResult}
+use Rattle.std.specs.Prelude.{unwrap_or, ⊤}
 use Rattle.usb_world.specs.{Relation, EachWas, World}
 use Rattle.usb_tree.specs.{address_of, deep_at}
 use Rattle.usb_world.proofs.Interface.{each_both, each_joined, each_none, each_wider}
@@ -153,8 +153,7 @@ FailsForSpec given pipe.Stalled spec = (spec.silent ≡ false) × (spec.busy ≡
 FailsForSpec given pipe.Busy spec = (spec.silent ≡ false) × (spec.busy ≡ true)
 FailsForSpec given pipe.NoAnswer spec = spec.silent ≡ true
 FailsForSpec given pipe.Broken spec = ⊥
-FailsForSpec given (pipe.Bus fault) spec = ⊤
-FailsForSpec given pipe.Memory spec = ⊤
+FailsForSpec given _ spec = ⊤
 
 -- only a STALL refuses a responsive device
 responsive_stop : {X : Type 0} (given : Spec → Option X) (t : Target) (wrong : Spec → Option Cause)
@@ -166,8 +165,7 @@ responsive_stop given t wrong stalled spec r f pipe.Stalled why = f why.2
 responsive_stop given t wrong stalled spec r f pipe.Busy why = false_true (sym r.free ∙ why.1)
 responsive_stop given t wrong stalled spec r f pipe.NoAnswer why = false_true (sym r.loud ∙ why)
 responsive_stop given t wrong stalled spec r f pipe.Broken why = absurd why
-responsive_stop given t wrong stalled spec r f (pipe.Bus fault) why = tt
-responsive_stop given t wrong stalled spec r f pipe.Memory why = tt
+responsive_stop given t wrong stalled spec r f _ why = tt
 
 pub answered_err : {A : Type 0} (stalled : Cause) (outcome : Result A PipeFault) (stop : Stop)
     → Err stop ≡ answered_or stalled outcome → (fault : PipeFault) × (outcome ≡ Err fault)
@@ -184,8 +182,7 @@ module _ {A X : Type 0} (given : Spec → Option X) (Has : State → A → Type 
     (wanted : ℕ) where
   read_fails : (fault : PipeFault) (j : Location) (s v : State)
       → ReadAsked given Has t (Err fault) j s v → ReadFailure {A = A} t wanted (Err fault) j s v
-      → Hears t j s → IsSpec s.spec → IsMaximum t wanted s
-      → FailsForSpec given fault s.spec
+      → Hears t j s → IsSpec s.spec → IsMaximum t wanted s → FailsForSpec given fault s.spec
   read_fails pipe.Stalled j s v x y h ruled max =
       ((x.could h.at).0, (x.could h.at).1, x.stalled h.at refl)
   read_fails pipe.Busy j s v x y h ruled max = (
@@ -201,8 +198,7 @@ module _ {A X : Type 0} (given : Spec → Option X) (Has : State → A → Type 
     | inr e ↦ absurd (y.answered (record { at = h.at; loud = e; hears = h.hears }) max refl)
   ]
   read_fails pipe.Broken j s v x y h ruled max = x.could h.at
-  read_fails (pipe.Bus fault) j s v x y h ruled max = tt
-  read_fails pipe.Memory j s v x y h ruled max = tt
+  read_fails _ j s v x y h ruled max = tt
 
   module _ (outcome : Result A PipeFault) (old new : World) (what : new.shared ≡ false
       → EachWas (ReadAsked given Has t outcome) old new) (least : 8 ≤ t.max)

@@ -1,8 +1,8 @@
 -- Why a device that has its address is refused.
 use Rattle.usb_device.specs.{Location, is_value, State, Spec, IsSpec}
-use Rattle.std.proofs.Common.{◌≡◌, ◌≢◌, inl, inr, ◌<◌, ℕ, ◌==◌, ◌&&◌, not, true, false}
-use Rattle.std.proofs.Common.{List, [], length, slice_index_or, if◌then◌else◌, Option, None, Some}
-use Rattle.std.proofs.Common.{Result, Ok, Err, refl, ap, sym, subst, ◌∙◌}
+use Rattle.std.proofs.Common.{◌≡◌, ◌≢◌, inl, inr, ◌<◌, ℕ, ◌==◌, ◌&&◌, not, true, false, List, []}
+use Rattle.std.proofs.Common.{length, slice_index_or, if◌then◌else◌, Option, None, Some, Result, Ok}
+use Rattle.std.proofs.Common.{Err, refl, ap, sym, subst, ◌∙◌}
 use Rattle.std.specs.Prelude.{unwrap_or}
 use Rattle.std.specs.Option.{option_or}
 use Rattle.usb_descriptor.specs.{configuration_value, configuration_count}
@@ -76,8 +76,7 @@ module _ (t : Target) (value : ℕ) (last : World) (some : t.addr ≢ 0) where
   -- what it is refused for
   setting_stop : (fault : PipeFault) (j : Location) (s v : State)
       → ConfigurationAsked t value (Err fault) last j s v → WriteFailure t (Err fault) j s v
-      → Hears t j s → IsSpec s.spec
-      → is_value s.spec.configs value ≡ true → IsResponsive t s.spec
+      → Hears t j s → IsSpec s.spec → is_value s.spec.configs value ≡ true → IsResponsive t s.spec
       → IsRefusedFor setting_fault (unwrap_or (stop_of fault)
       (Refused (Stalled request.SetConfig))) s.spec
   setting_stop pipe.Stalled j s v x y h ruled taken r = elim (x.stalled h.at refl) [
@@ -90,8 +89,7 @@ module _ (t : Target) (value : ℕ) (last : World) (some : t.addr ≢ 0) where
   setting_stop pipe.NoAnswer j s v x y h ruled taken r =
       absurd (y.answered (record { at = h.at; loud = r.loud; hears = h.hears }) refl)
   setting_stop pipe.Broken j s v x y h ruled taken r = absurd (x.could h.at)
-  setting_stop (pipe.Bus fault) j s v x y h ruled taken r = tt
-  setting_stop pipe.Memory j s v x y h ruled taken r = tt
+  setting_stop _ j s v x y h ruled taken r = tt
 
 abbrev pub RefusesValue : Target → ℕ → Stop → Spec → Type 0
 RefusesValue t value stop spec = is_value spec.configs value ≡ true
@@ -236,8 +234,7 @@ module _ (t : Target) (tier supply : ℕ) (bytes : List ℕ) where
         -- it is a hub that cannot be used
         hub_refused_for : (value : ℕ) (stop : Stop) (spec : Spec) → is_hub_device bytes ≡ true
             → chosen < length texts → value ≡ configuration_value (slice_index_or texts chosen [])
-            → value < 256
-            → Allowed Read spec → (value ≢ 0
+            → value < 256 → Allowed Read spec → (value ≢ 0
             → Refuses t (start_fault (slice_index_or texts chosen [])) stop spec)
             → Refuses t wrong stop spec
         hub_refused_for value (Refused cause) spec hub inside is byte has refused r =
@@ -254,8 +251,7 @@ module _ (t : Target) (tier supply : ℕ) (bytes : List ℕ) where
         pub hub_refused : (value m n : ℕ) (text : List ℕ) (stop : Stop) (old mid new : World)
             {q r s u : Option (List ℕ)} → t.addr ≢ 0 → is_hub_device bytes ≡ true
             → chosen < length texts → value ≡ configuration_value (slice_index_or texts chosen [])
-            → value < 256
-            → LearnsSet (Allowed Read) t value old mid → StepRun m old q mid r
+            → value < 256 → LearnsSet (Allowed Read) t value old mid → StepRun m old q mid r
             → StepRun n mid s new u → text ≡ slice_index_or texts chosen []
             → ExplainsSet (Refuses t (start_fault text) stop) t mid new
             → FailureReason (Refuses t wrong stop) t old new
@@ -275,8 +271,7 @@ module _ (t : Target) (tier supply : ℕ) (bytes : List ℕ) where
 
   pub strings_refused : (A : Spec → Type 0) (value m n : ℕ) (stop : Stop) (old mid new : World)
       {q r s u : Option (List ℕ)} → LearnsSet A t value old mid → StepRun m old q mid r
-      → StepRun n mid s new u
-      → FailureReason (Refuses t no_fault stop) t mid new
+      → StepRun n mid s new u → FailureReason (Refuses t no_fault stop) t mid new
       → FailureReason (Refuses t wrong stop) t old new
   strings_refused A value m n stop old mid new =
       explains_after A (Refuses t no_fault stop) (Refuses t wrong stop) t value m n old mid new

@@ -1,6 +1,7 @@
 -- A device is never refused for a string.
 use Rattle.std.proofs.Common.{◌≡◌, ◌+◌, ◌≤◌, ℕ, List, Option, Some, Result, Err, sym, subst, ◌∙◌}
-use Rattle.std.specs.Prelude.{IsErrAnd, ⊤}
+use Rattle.std.proofs.Common.{IsErrAnd}
+use Rattle.std.specs.Prelude.{⊤}
 use Rattle.std.proofs.lemmas.Option.{same_Some}
 use Rattle.usb_device.specs.{Spec}
 use Rattle.usb_world.specs.{World}
@@ -24,9 +25,7 @@ never_stop t index spec r pipe.Stalled stop is why = absurd cc
 never_stop t index spec r pipe.Busy stop is why = false_true (sym r.free ∙ why.1)
 never_stop t index spec r pipe.NoAnswer stop is why = false_true (sym r.loud ∙ why)
 never_stop t index spec r pipe.Broken stop is why = absurd why
-never_stop t index spec r (pipe.Bus fault) stop is why =
-    subst (λ s. IsRefusedFor no_fault s spec) (same_Some _ _ is) tt
-never_stop t index spec r pipe.Memory stop is why =
+never_stop t index spec r _ stop is why =
     subst (λ s. IsRefusedFor no_fault s spec) (same_Some _ _ is) tt
 
 -- a read that stops behind others
@@ -47,7 +46,6 @@ string_stops So {t} {m} {n} {old = old} {mid = mid} {new = new} r stop same step
 -- that each was read
 pub strings_read : {A B : Spec → Type 0} (t : Target) {n : ℕ} {old mid new : World}
     {a b : Option (List ℕ)} → DeviceFact A t old mid → KeepingSteps OnlyAsks n mid a new b
-    → DeviceFact B t mid new
-    → DeviceFact (λ spec. ⊤) t old new
+    → DeviceFact B t mid new → DeviceFact (λ spec. ⊤) t old new
 strings_read {A} {B} t {n} {old} {mid} {new} first steps =
     learns_on A B (λ spec. ⊤) t n old mid new (λ spec a b. tt) first steps.went

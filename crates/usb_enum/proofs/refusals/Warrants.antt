@@ -1,8 +1,8 @@
 -- That a refusal has its cause: what is wrong with a device is the verdict on it.
 use Rattle.std.proofs.Common.{◌≡◌, inl, inr, ◌&&◌, not, ℕ, Bool, true, false, if◌then◌else◌, List}
 use Rattle.std.proofs.Common.{take, Option, None, Some, Result, Ok, Err, is_ok, refl, ap, sym, ◌∙◌}
+use Rattle.std.proofs.Common.{IfErr, IfOk, MatchResult}
 use Rattle.std.specs.Option.{option_or}
-use Rattle.std.specs.Prelude.{IfErr, IfOk, MatchResult}
 use Rattle.std.proofs.lemmas.Option.{same_Some}
 use Rattle.usb_descriptor.specs.{device_head_of}
 use Rattle.usb_device.specs.{Spec}
@@ -34,8 +34,7 @@ early_row silent busy stalls good = if silent then Some Silent else if busy then
     else if stalls then Some (Stalled request.Device) else if good then None else Some BadDevice
 
 addressed_rows : (silent busy stalls good address whole : Bool) (rest : Result ℕ Cause)
-    (cause : Cause)
-    → option_or (early_row silent busy stalls good)
+    (cause : Cause) → option_or (early_row silent busy stalls good)
     (option_or (if address then Some (Stalled request.Address) else None)
     (if stalls then Some (Stalled request.Device) else if whole then None else Some
     BadDevice)) ≡ Some cause
@@ -43,13 +42,8 @@ addressed_rows : (silent busy stalls good address whole : Bool) (rest : Result �
     (Stalled request.Device) else if not good then Err BadDevice
     else if address then Err (Stalled request.Address) else if not whole then Err BadDevice
     else rest) ≡ Some cause
-addressed_rows true busy stalls good address whole rest cause h = h
-addressed_rows false true stalls good address whole rest cause h = h
-addressed_rows false false true good address whole rest cause h = h
-addressed_rows false false false false address whole rest cause h = h
-addressed_rows false false false true true whole rest cause h = h
-addressed_rows false false false true false false rest cause h = h
 addressed_rows false false false true false true rest cause h = absurd cc
+addressed_rows _ _ _ _ _ _ rest cause h = h
 
 pub addressed_verdict : (tier supply : ℕ) (spec : Spec) (cause : Cause)
     → addressed_fault spec ≡ Some cause → whole_fault tier supply spec ≡ Some cause
@@ -61,11 +55,8 @@ addressed_verdict tier supply spec cause h =
 
 gives_rows : (silent busy stalls good : Bool) → early_row silent busy stalls good ≡ None
     → (not silent && not busy && not stalls && good) ≡ true
-gives_rows true busy stalls good h = absurd cc
-gives_rows false true stalls good h = absurd cc
-gives_rows false false true good h = absurd cc
 gives_rows false false false true h = refl
-gives_rows false false false false h = absurd cc
+gives_rows _ _ _ _ h = absurd cc
 
 early_gives : (spec : Spec) → early_fault spec ≡ None → gives_head spec ≡ true
 unfolding head_fault

@@ -1,14 +1,14 @@
 -- What the end of an enumeration that is given up leaves.
-use Rattle.std.proofs.Common.{◌≡◌, ℕ, List, Option, None, Result, Ok, Err, refl, subst, sym}
-use Rattle.std.specs.Prelude.{IfErr, IsErrAnd}
+use Rattle.std.proofs.Common.{◌≡◌, ℕ, List, Option, None, Result, Ok, Err, refl, subst, sym, IfErr}
+use Rattle.std.proofs.Common.{IsErrAnd}
 use Rattle.usb_port.specs.{clear_call}
 use Rattle.usb_request.specs.{PORT_ENABLE}
 use Rattle.usb_world.specs.{World}
 use Rattle.usb_bus.specs.{StepRun}
 use Rattle.usb_pipe.specs.{PipeFault, FaultAfter}
 use Rattle.usb_hub.specs.{HubPort, KeepsCleared, CommandsPort}
-use Rattle.usb_enum.specs.{Cause, EnumFault, Finding, Stop, AtPort, Closes}
-use Rattle.usb_enum.specs.{Faulted, NoNewStretch, at_port, FaultAllowedAt}
+use Rattle.usb_enum.specs.{Cause, EnumFault, Finding, Stop, AtPort, Closes, Faulted, NoNewStretch}
+use Rattle.usb_enum.specs.{at_port, FaultAllowedAt}
 use Rattle.usb_enum.specs.declared.finding.Finding.TheVariants.{Refused as RefusedFinding}
 use Rattle.usb_enum.specs.declared.stop.Stop.TheVariants.{Refused, Fault}
 use Rattle.usb_enum.proofs.stops.Endings.{ends_refused, ends_fault}

@@ -307,8 +307,7 @@ module _ (port : HubPort) (addresses : Addresses) (address : ℕ) (zero_is : IsT
 
     -- all that is so in the end
     pub stopped_ends : EndsFor port addresses tier supply old result new
-        → FewAttempts port addresses old new
-        → Enumerates port addresses tier supply old result new
+        → FewAttempts port addresses old new → Enumerates port addresses tier supply old result new
     stopped_ends ended few = record {
       addresses = given_up old mid new result at.within closes.ends
           (calls_then port address n old mid new at later closes.only);

@@ -1,7 +1,7 @@
 -- What a stop is, whatever the bus does.
-use Rattle.std.proofs.Common.{◌≡◌, inl, inr, ℕ, ◌==◌, Bool, true, List}
-use Rattle.std.proofs.Common.{Some, Result, Ok, Err, refl, subst, sym, ◌∙◌}
-use Rattle.std.specs.Prelude.{IfOk, IfSome, IsErrAnd, MatchResult, unwrap_or}
+use Rattle.std.proofs.Common.{◌≡◌, inl, inr, ℕ, ◌==◌, Bool, true, List, Some, Result, Ok, Err, refl}
+use Rattle.std.proofs.Common.{subst, sym, ◌∙◌, IfOk, IfSome, IsErrAnd, MatchResult}
+use Rattle.std.specs.Prelude.{unwrap_or}
 use Rattle.usb_resources.specs.{Addresses, IsFull}
 use Rattle.usb_pipe.specs.{PipeFault}
 use Rattle.usb_pipe.specs.declared.fault.PipeFault.TheVariants as pipe
@@ -108,20 +108,18 @@ module _ (addresses : Addresses) (tier supply : ℕ) where
 
   pub fits_found : (stop : Stop) (result : Result Finding EnumFault) → HandsOn stop result
       → FitsStop tier stop → IfOk result (IsFound addresses tier supply)
-  fits_found (Refused why) (Ok (finding.Device device)) hands fits = absurd cc
   fits_found (Refused why) (Ok (finding.Refused other)) hands fits =
       inr (subst (λ c. FitsStop tier (Refused c)) (same_cause other why hands) fits)
   fits_found (Refused why) (Err fault) hands fits = tt
-  fits_found (Fault why) (Ok found) hands fits = absurd cc
   fits_found (Fault why) (Err fault) hands fits = tt
+  fits_found _ _ hands fits = absurd cc
 
   pub without_found : (stop : Stop) (result : Result Finding EnumFault) → IsFull addresses
       → HandsOn stop result → IsStopWithout stop → IfOk result (IsFound addresses tier supply)
-  without_found (Refused why) (Ok (finding.Device device)) full hands stops = absurd cc
   without_found (Refused why) (Ok (finding.Refused other)) full hands (inl none) =
       inl (sym (same_cause other why hands) ∙ none, full)
   without_found (Refused why) (Ok (finding.Refused other)) full hands (inr plain) =
       inr (plain_fits tier other (subst IsPlain (same_cause other why hands) plain))
   without_found (Refused why) (Err fault) full hands stops = tt
-  without_found (Fault why) (Ok found) full hands stops = absurd cc
   without_found (Fault why) (Err fault) full hands stops = tt
+  without_found _ _ full hands stops = absurd cc

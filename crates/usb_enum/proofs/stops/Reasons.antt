@@ -1,7 +1,8 @@
 -- How the reasons of a stop come from answers, and how they join.
 use Rattle.std.proofs.Common.{◌≡◌, ◌≢◌, ◌⊎◌, inl, inr, ℕ, ◌==◌, Bool, true, false, if◌then◌else◌}
 use Rattle.std.proofs.Common.{List, length, Option, Some, Result, Ok, Err, refl, sym, subst, ◌∙◌}
-use Rattle.std.specs.Prelude.{unwrap_or, IfErr, IfSome, MatchResult, ⊤}
+use Rattle.std.proofs.Common.{IfErr, IfSome, MatchResult}
+use Rattle.std.specs.Prelude.{unwrap_or, ⊤}
 use Rattle.std.specs.Global.{Vec}
 use Rattle.usb_request.specs.{Setup, get_status}
 use Rattle.usb_world.specs.{World}
@@ -220,12 +221,11 @@ string_told t setup outcome fault_is stop old new is some stages ends =
 
     by : (why : PipeFault) → FailsAs t setup why old new → FaultAfter 1 old why new
         → Told (stop_of why)
-    by pipe.Stalled failed after = tt
     by pipe.Busy failed after = failing IsAny pipe.Busy tt failed
     by pipe.NoAnswer failed after = failing IsAny pipe.NoAnswer tt failed
     by pipe.Broken failed after = absurd after
     by (pipe.Bus why) failed after = after
-    by pipe.Memory failed after = tt
+    by _ failed after = tt
 
 -- that there was no answer
 pub unanswered_ends_failing : (t : Target) (setup : Setup) (outcome : Result (Vec ℕ) PipeFault)
@@ -256,12 +256,8 @@ because_after cause.Silent t old mid new led b = failing_after led b
 because_after cause.Busy t old mid new led b = failing_after led b
 because_after (cause.Stalled named) t old mid new led b = failing_after led b
 because_after cause.BadDevice t old mid new led b = descriptor_bad_after led b
-because_after cause.TooDeep t old mid new led b = absurd b
 because_after (cause.BadConfiguration index) t old mid new led b = text_bad_after led b
-because_after cause.NoPower t old mid new led b = absurd b
-because_after cause.BadHub t old mid new led b = absurd b
-because_after cause.Lost t old mid new led b = absurd b
-because_after cause.NoAddress t old mid new led b = absurd b
+because_after _ t old mid new led b = absurd b
 
 pub told_after : (stop : Stop) (t : Target) (old mid new : World) → Leads old mid
     → CauseAllowed t stop mid new → CauseAllowed t stop old new
@@ -295,16 +291,10 @@ at_start (Fault why) t text old new told = told
 
 pub because_plain : (why : Cause) (t : Target) (old new : World) → Because t old new why
     → IsPlain why
-because_plain cause.Silent t old new b = tt
-because_plain cause.Busy t old new b = tt
-because_plain (cause.Stalled named) t old new b = tt
-because_plain cause.BadDevice t old new b = tt
 because_plain cause.TooDeep t old new b = absurd b
-because_plain (cause.BadConfiguration index) t old new b = tt
-because_plain cause.NoPower t old new b = tt
 because_plain cause.BadHub t old new b = absurd b
-because_plain cause.Lost t old new b = tt
 because_plain cause.NoAddress t old new b = absurd b
+because_plain _ t old new b = tt
 
 pub told_faults : (stop : Stop) (t : Target) (old new : World) → CauseAllowed t stop old new
     → StopFaults stop new
@@ -319,8 +309,7 @@ port_fails {port} {old} {new} f = port_can_fail port f.why f.before new f.failed
 pub fault_by : (port : HubPort) (why : EnumFault) (old new : World) → FaultBy port why old new
     → FaultAllowedAt port why new
 fault_by port fault.ParentLost old new by = port_fails by
-fault_by port (fault.Bus why) old new by = by
-fault_by port fault.Memory old new by = by
+fault_by port _ old new by = by
 
 pub fault_after : (port : HubPort) (why : EnumFault) (old mid new : World) → Leads old mid
     → FaultBy port why mid new → FaultBy port why old new
@@ -332,15 +321,13 @@ fault_after port fault.ParentLost old mid new led by =
       lost = by.lost;
       failed = by.failed;
     }
-fault_after port (fault.Bus why) old mid new led by = by
-fault_after port fault.Memory old mid new led by = by
+fault_after port _ old mid new led by = by
 
 -- no port was asked
 pub fault_told_by : (port : HubPort) (why : EnumFault) (old new : World) → FaultAllowed why new
     → FaultBy port why old new
 fault_told_by port fault.ParentLost old new told = absurd told
-fault_told_by port (fault.Bus why) old new told = told
-fault_told_by port fault.Memory old new told = told
+fault_told_by port _ old new told = told
 
 -- what failed at the port
 abbrev AtPortFails : HubPort → PipeFault → World → World → Type 0
@@ -349,8 +336,7 @@ AtPortFails port why old new = PortRead port old (Err why) new
     ⊎ PortCleared port feature old (Err why) new))
 
 lost_by : {port : HubPort} {old new : World} (why : PipeFault) → fault_at_port why ≡
-    fault.ParentLost
-    → AtPortFails port why old new → PortFails port old new
+    fault.ParentLost → AtPortFails port why old new → PortFails port old new
 lost_by {old = old} why lost failed =
     record { before = old; led = leads_none old; why = why; lost = lost; failed = failed }
 
@@ -358,14 +344,13 @@ called_by : {A : Type 0} (port : HubPort) (outcome : Result A PipeFault) (old ne
     → IfErr outcome (λ why. FaultAfter 1 old why new)
     → ((why : PipeFault) → outcome ≡ Err why → AtPortFails port why old new)
     → IfErr (at_port outcome) (λ why. FaultBy port why old new)
-called_by port (Ok x) old new ends f = tt
 called_by port (Err pipe.Stalled) old new ends f = lost_by pipe.Stalled refl (f pipe.Stalled refl)
 called_by port (Err pipe.Busy) old new ends f = lost_by pipe.Busy refl (f pipe.Busy refl)
 called_by port (Err pipe.NoAnswer) old new ends f =
     lost_by pipe.NoAnswer refl (f pipe.NoAnswer refl)
 called_by port (Err pipe.Broken) old new ends f = lost_by pipe.Broken refl (f pipe.Broken refl)
 called_by port (Err (pipe.Bus why)) old new ends f = ends
-called_by port (Err pipe.Memory) old new ends f = tt
+called_by port _ old new ends f = tt
 
 -- how a call at the port ends
 pub call_ends : {A : Type 0} (port : HubPort) (result : Result A EnumFault)

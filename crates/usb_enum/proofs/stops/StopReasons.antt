@@ -55,40 +55,35 @@ use Rattle.usb_enum.proofs.refusals.Refusals.{answered_err, each_joint}
 live_powered : (k : Ports) (j : ℕ) (p : List ℕ) (b : PortState) → has_power_at k j p ≡ true
     → port_at k j p ≡ Some b → b.power ≡ true
 unfolding has_power_at port_at
-live_powered ended j p b on at = false_true on
 live_powered (vacant c k) zero [] b on at = ap (λ x. x.power) (sym (same_Some c b at)) ∙ on
-live_powered (vacant c k) zero (n ∷ p) b on at = false_true on
 live_powered (vacant c k) (suc j) p b on at = live_powered k j p b on at
 live_powered (taken c s a k) zero [] b on at = ap (λ x. x.power) (sym (same_Some c b at)) ∙ on
-live_powered (taken c s a k) zero (zero ∷ p) b on at = false_true on
 live_powered (taken c s a k) zero (suc i ∷ p) b on at =
     live_powered a i p b (both c.power (has_power_at a i p) on).1 at
 live_powered (taken c s a k) (suc j) p b on at = live_powered k j p b on at
+live_powered _ _ _ b on at = false_true on
 
 sane_attached : (k : Ports) (j : ℕ) (p : List ℕ) (b : PortState) (s : State) → Consistent k
     → port_at k j p ≡ Some b → state_at k j p ≡ Some s → b.attached ≡ speed_of s.spec.low
 unfolding Consistent port_at state_at
-sane_attached ended j p b s sane at there = absurd cc
-sane_attached (vacant c k) zero p b s sane at there = absurd cc
 sane_attached (vacant c k) (suc j) p b s sane at there = sane_attached k j p b s sane.2 at there
 sane_attached (taken c z a k) zero [] b s sane at there =
     ap (λ x. x.attached) (sym (same_Some c b at)) ∙ sane.1
     ∙ ap (λ x. speed_of x.spec.low) (same_Some z s there)
-sane_attached (taken c z a k) zero (zero ∷ p) b s sane at there = absurd cc
 sane_attached (taken c z a k) zero (suc i ∷ p) b s sane at there =
     sane_attached a i p b s sane.2 at there
 sane_attached (taken c z a k) (suc j) p b s sane at there = sane_attached k j p b s sane.3 at there
+sane_attached _ _ _ b s sane at there = absurd cc
 
 reset_enables : (k : Ports) (p : List ℕ) (b : PortState) (s : State) → Consistent k
     → has_power k p ≡ true → port_there k p ≡ Some b → state_there k p ≡ Some s
     → (reset b).enable ≡ true
-reset_enables k [] b s sane on at there = false_true on
-reset_enables k (zero ∷ p) b s sane on at there = false_true on
 reset_enables k (suc j ∷ p) b s sane on at there =
     let power = live_powered k j p b on at in
     let attached = ap is_attached (sane_attached k j p b s sane at there)
     ∙ speed_attached s.spec.low in
     rw (power, attached) refl
+reset_enables k _ b s sane on at there = false_true on
 
 pub reset_lost : (port : HubPort) (address m n : ℕ) (status : PortStatus) {old set told : World}
     {a b c d : Option (List ℕ)} → StepRun m old a set b → StepRun n set c told d
@@ -178,8 +173,7 @@ port_deep f (External hub n) j at = by_hub at.hub at.is_path.0 at.path
 speed_hears : (low own pre deep : Bool) → own ≡ low → pre ≡ (low && deep)
     → (if low then own && (not deep || pre) else not own) ≡ true
 speed_hears true own pre true same is = rw (same, is) refl
-speed_hears true own pre false same is = rw same refl
-speed_hears false own pre deep same is = rw same refl
+speed_hears _ own pre _ same is = rw same refl
 
 hears_there : (f : AddressMap) (port : HubPort) (j : Location) (t : Target) (s : State)
     → IsAt f port (path_to j) → t.pre ≡ (t.low && needs_pre port) → s.spec.low ≡ t.low
@@ -349,8 +343,7 @@ module _ (port : HubPort) (address m n : ℕ) (target : Target)
     }
       where
         by_fault : (f : AddressMap) (p : List ℕ) → IsFairAt f port p address old new
-            → (fault : PipeFault) → outcome ≡ Err fault
-            → StopsFor addressed_fault f p old
+            → (fault : PipeFault) → outcome ≡ Err fault → StopsFor addressed_fault f p old
             (unwrap_or (stop_of fault) (Refused (Stalled request.Address))) new
         by_fault f p fair pipe.Stalled e =
             address_refused f p fair (Stalled request.Address)

@@ -1,19 +1,17 @@
 -- Why the parts of an enumeration behind the device descriptor stop, and the whole.
-use Rattle.std.proofs.Common.{◌≡◌, inl, inr, ℕ, ◌==◌, true, List}
-use Rattle.std.proofs.Common.{[], slice_index_or, Some, Result, Ok, Err, refl, sym, subst}
-use Rattle.std.specs.Prelude.{IfErr}
+use Rattle.std.proofs.Common.{◌≡◌, inl, inr, ℕ, ◌==◌, true, List, [], slice_index_or, Some, Result}
+use Rattle.std.proofs.Common.{Ok, Err, refl, sym, subst, IfErr}
 use Rattle.usb_resources.specs.{Addresses, IsFree, IsFull}
 use Rattle.usb_world.specs.{World}
 use Rattle.usb_tree.proofs.Interface.{both, equal_same}
 use Rattle.usb_transaction.specs.{Target}
 use Rattle.usb_hub.specs.{HubPort}
-use Rattle.usb_enum.specs.{Cause, EnumFault, Finding, Stop, LAST_TIER, fits_tier, is_hub_device}
-use Rattle.usb_enum.specs.{GivesUp, Leads, DescriptorRead, CauseAllowed, CauseAllowedAtStart}
-use Rattle.usb_enum.specs.{AllTexts, RefusedAs, by_answer, too_deep, bad_hub, StoppedAs}
-use Rattle.usb_enum.specs.{StopsDevice, FaultBy, IsSpokenTo, CauseAllowedAt, early, late}
-use Rattle.usb_enum.specs.{StopsAtPort, StoppedFor, StoppedWithout, HasReason, refused_for}
-use Rattle.usb_enum.specs.{refused_early, none_free, EndsFor, FaultAllowedAt}
-use Rattle.usb_enum.specs.{CauseAllowedWithout, choice_of}
+use Rattle.usb_enum.specs.{EnumFault, Finding, Stop, LAST_TIER, fits_tier, is_hub_device, GivesUp}
+use Rattle.usb_enum.specs.{Leads, DescriptorRead, CauseAllowed, CauseAllowedAtStart, AllTexts}
+use Rattle.usb_enum.specs.{RefusedAs, by_answer, too_deep, bad_hub, StoppedAs, StopsDevice, FaultBy}
+use Rattle.usb_enum.specs.{IsSpokenTo, CauseAllowedAt, early, late, StopsAtPort, StoppedFor}
+use Rattle.usb_enum.specs.{StoppedWithout, HasReason, refused_for, refused_early, none_free}
+use Rattle.usb_enum.specs.{EndsFor, FaultAllowedAt, CauseAllowedWithout, choice_of}
 use Rattle.usb_enum.specs.declared.cause.Cause.TheVariants as cause
 use Rattle.usb_enum.specs.declared.finding.Finding.TheVariants as finding
 use Rattle.usb_enum.specs.declared.stop.Stop.TheVariants.{Refused, Fault}

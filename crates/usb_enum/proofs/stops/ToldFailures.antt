@@ -1,6 +1,5 @@
 -- What a failed call tells, in the words of the calls above it.
-use Rattle.std.proofs.Common.{◌⊎◌, inl, inr, ℕ, Result, Ok, Err, sym, subst}
-use Rattle.std.specs.Prelude.{◌≡◌, IfErr, IsErrAnd}
+use Rattle.std.proofs.Common.{◌⊎◌, inl, inr, ℕ, Result, Ok, Err, sym, subst, ◌≡◌, IfErr, IsErrAnd}
 use Rattle.usb_world.specs.{World}
 use Rattle.usb_pipe.specs.{PipeFault}
 use Rattle.usb_pipe.specs.declared.fault.PipeFault.TheVariants as pipe
@@ -11,22 +10,14 @@ use Rattle.usb_enum.specs.declared.cause.Cause.TheVariants as cause
 use Rattle.usb_enum.specs.declared.fault.EnumFault.TheVariants as fault
 
 pub plain_fits : (tier : ℕ) (why : Cause) → IsPlain why → FitsTier tier why
-plain_fits tier cause.Silent plain = plain
-plain_fits tier cause.Busy plain = plain
-plain_fits tier (cause.Stalled request) plain = plain
-plain_fits tier cause.BadDevice plain = plain
 plain_fits tier cause.TooDeep plain = absurd plain
-plain_fits tier (cause.BadConfiguration index) plain = plain
-plain_fits tier cause.NoPower plain = plain
 plain_fits tier cause.BadHub plain = absurd plain
-plain_fits tier cause.Lost plain = plain
-plain_fits tier cause.NoAddress plain = plain
+plain_fits tier _ plain = plain
 
 pub fault_at : (port : HubPort) (why : EnumFault) (w : World) → FaultAllowed why w
     → FaultAllowedAt port why w
 fault_at port fault.ParentLost w told = absurd told
-fault_at port (fault.Bus why) w told = told
-fault_at port fault.Memory w told = told
+fault_at port _ w told = told
 
 -- what is asked of a root port is done
 pub root_fails : (number feature : ℕ) (why : PipeFault) (old new : World)

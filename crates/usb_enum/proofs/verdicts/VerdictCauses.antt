@@ -1,8 +1,8 @@
 -- What is wrong with a device behind its device descriptor is the verdict on it, where the rows
 -- before do not hold.
-use Rattle.std.proofs.Common.{◌≡◌, inl, inr, ℕ, ◌==◌, ◌&&◌, not, Bool, true, false, List, []}
-use Rattle.std.proofs.Common.{take, slice_index_or, if◌then◌else◌, Option, None, Some, Ok, Err}
-use Rattle.std.proofs.Common.{refl, ap, sym, ◌∙◌}
+use Rattle.std.proofs.Common.{◌≡◌, inl, inr, ℕ, ◌==◌, ◌&&◌, not, Bool, true, false, List, [], take}
+use Rattle.std.proofs.Common.{slice_index_or, if◌then◌else◌, Option, None, Some, Ok, Err, refl, ap}
+use Rattle.std.proofs.Common.{sym, ◌∙◌}
 use Rattle.std.specs.Option.{option_or}
 use Rattle.std.proofs.lemmas.Option.{same_Some}
 use Rattle.usb_descriptor.specs.{configuration_count}
@@ -20,10 +20,9 @@ set_config_cause : (stalled hub good : Bool) (chosen : ℕ) (cause : Cause)
     (if hub then (if good then None else Some BadHub) else None) ≡ Some cause
     → (if stalled then Err (Stalled request.SetConfig) else if hub && not good then Err BadHub
     else Ok chosen) ≡ Err cause
-set_config_cause true hub good chosen cause h = ap (λ c. Err c) (same_Some _ cause h)
 set_config_cause false true true chosen cause h = absurd cc
-set_config_cause false true false chosen cause h = ap (λ c. Err c) (same_Some _ cause h)
 set_config_cause false false good chosen cause h = absurd cc
+set_config_cause _ _ _ chosen cause h = ap (λ c. Err c) (same_Some _ cause h)
 
 set_is : (spec : Spec) (texts : List (List ℕ)) (choice : Option ℕ) (cause : Cause)
     → chosen_fault (is_hub_device spec.descriptor) texts choice spec ≡ Some cause

@@ -48,8 +48,7 @@ row_silent spec tier supply a = rw a refl
 
 pub row_too_deep : (spec : Spec) (tier supply : ℕ) → GaveHead spec → spec.stalls.address ≡ false
     → is_device spec.low (take 18 spec.descriptor) ≡ true
-    → (is_hub_device spec.descriptor && tier == 7) ≡ true
-    → verdict spec tier supply ≡ Err TooDeep
+    → (is_hub_device spec.descriptor && tier == 7) ≡ true → verdict spec tier supply ≡ Err TooDeep
 unfolding verdict
 row_too_deep spec tier supply h a b c = rw (h.loud, h.free, h.device, h.head, a, b, c) refl
 
@@ -91,8 +90,7 @@ first_fault-next spec i (suc n) cause l h k = elim (cases_order i n) [
 -- With a configuration
 
 pub row_accepted : (spec : Spec) (tier supply chosen : ℕ) → GaveTexts spec tier supply chosen
-    → spec.stalls.set_config ≡ false
-    → (is_hub_device spec.descriptor && not
+    → spec.stalls.set_config ≡ false → (is_hub_device spec.descriptor && not
     (is_good_hub spec (slice_index_or (texts_of spec) chosen []))) ≡ false
     → verdict spec tier supply ≡ Ok chosen
 row_accepted spec tier supply chosen h a b = rows_after spec tier supply h.device

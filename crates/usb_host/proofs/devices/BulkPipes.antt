@@ -18,8 +18,8 @@ use Rattle.usb_enum.specs.declared.finding.Finding.TheVariants.{Device, Refused}
 use Rattle.usb_enum.proofs.Interface.{went_course, went_sound}
 use Rattle.usb_table.specs.{Pipes, Hub, Function, Absent, pipe_out, pipe_in, Entries, has_at}
 use Rattle.usb_table.specs.{without, accepted_device_of, accepted_device_at, address_in}
-use Rattle.usb_table.specs.{is_below_hub, SparesBulk, finding_at, new_pipes, Table}
-use Rattle.usb_table.specs.{GoesThrough, entered, pipes_at, PipesPolled}
+use Rattle.usb_table.specs.{is_below_hub, SparesBulk, finding_at, new_pipes, Table, GoesThrough}
+use Rattle.usb_table.specs.{entered, pipes_at, PipesPolled}
 use Rattle.usb_table.proofs.Interface.{path_tied, pipes_at-entered, pipes_at-entered_elsewhere}
 use Rattle.usb_table.proofs.Interface.{spares-same, spares-stage, spares-then}
 use Rattle.usb_host.specs.{SameBulk, EndpointsStayed, EndpointsBegan, StayedAt, RenewedAt}
@@ -43,8 +43,7 @@ pub polled_bulk : (pipes : Pipes) {left : Pipes} (old new : World)
     (result : Result (Option (ArrayVec ℕ)) PipeFault) → PipesPolled pipes old result left new
     → SameBulk pipes left
 polled_bulk (Hub pipe) old new result x = record { out = ap pipe_out x.1; into = ap pipe_in x.1 }
-polled_bulk (Function pipes) old new result x = same_bulk x.1
-polled_bulk Absent old new result x = same_bulk x.1
+polled_bulk _ old new result x = same_bulk x.1
 
 -- The endpoints of a path
 

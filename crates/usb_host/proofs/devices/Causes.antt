@@ -1,7 +1,8 @@
 -- Why devices are refused, as a port is handled where damage is fair.
 use Rattle.std.proofs.Common.{◌≡◌, ◌⊎◌, inl, inr, ◌≤◌, refl, sym, ap, subst, ◌∙◌, ℕ, true, false}
 use Rattle.std.proofs.Common.{List, [], ◌∷◌, ◌++◌, length, Option, None, Some, Result, Ok, Err}
-use Rattle.std.specs.Prelude.{⊤, IsSomeAnd, IfErr}
+use Rattle.std.proofs.Common.{IsSomeAnd, IfErr}
+use Rattle.std.specs.Prelude.{⊤}
 use Rattle.std.specs.BTreeMap.{insert_entry}
 use Rattle.usb_port.specs.{path_cmp, parent_of, port_on_hub, PortStatus, ClearEnable, clear_call}
 use Rattle.usb_request.specs.{PORT_ENABLE}
@@ -117,8 +118,7 @@ module _ {path : List ℕ} {port : KnownPort} {h : HostState} (s : StandsAt path
         hub_pends hub above told (lost refl),
         causes_above hub path h.world h.entries (way_parent path hub above) (caused refl),
       )
-  lost_caused (Bus fault) told lost caused = tt
-  lost_caused Memory told lost caused = tt
+  lost_caused _ told lost caused = tt
 
 -- The world alone goes on
 
@@ -186,8 +186,7 @@ module _ {n : ℕ} {path : List ℕ} {port : KnownPort} {a b : HostState} (s : S
       lost_caused stands_then (but_of_sound path sound) fair.still ParentLost told
       (λ e. w.lost path (stands_way a s known) fair.few fair.still sound.owned.single refl)
       (λ e x away. causes_rests a r went s.agrees fair.still (w.rests tt) i caused x)
-  watched_caused (Bus fault) w told i fair caused = tt
-  watched_caused Memory w told i fair caused = tt
+  watched_caused _ w told i fair caused = tt
 
   -- it was tidied, or was not
   pub tidied_caused : (result : Result (Unit {0}) EnumFault)
@@ -206,8 +205,7 @@ module _ {n : ℕ} {path : List ℕ} {port : KnownPort} {a b : HostState} (s : S
       (λ e. t.lost path fair.few fair.still but.owned.single refl)
       (λ e. causes_rests_but a r went s.agrees fair.still rests (but_of_sound path i)
       (λ x away. caused x))
-  tidied_caused (Err (Bus fault)) t told i fair caused = tt
-  tidied_caused (Err Memory) t told i fair caused = tt
+  tidied_caused _ t told i fair caused = tt
 
   -- its change was not cleared
   pub cleared_caused : (fault : EnumFault) → ClearsChange port.port a.world (Err fault) b.world
@@ -222,8 +220,7 @@ module _ {n : ℕ} {path : List ℕ} {port : KnownPort} {a b : HostState} (s : S
       fair.few fair.still but.owned.single refl)
       (λ e. causes_rests_but a r went s.agrees fair.still rests (but_of_sound path i)
       (λ x away. caused x))
-  cleared_caused (Bus fault) x told i fair caused = tt
-  cleared_caused Memory x told i fair caused = tt
+  cleared_caused _ x told i fair caused = tt
 
   -- it was cleared, and what was there is forgotten
   pub forgot_caused : (c : HostState) {status : PortStatus}
@@ -312,8 +309,7 @@ module _ (n : ℕ) {path : List ℕ} {port : KnownPort} (a b : HostState) (s : S
             (causes_above hub path b.world a.entries (way_parent path hub above)
             (found_causes e caused)),
       )
-  unfound_caused (Bus fault) e same told caused = tt
-  unfound_caused Memory e same told caused = tt
+  unfound_caused _ e same told caused = tt
 
 -- what was found at a port is entered, or its hub is lost
 module _ {n : ℕ} {path : List ℕ} {port : KnownPort} {a b : HostState} (s : StandsAt path port a)
@@ -403,12 +399,9 @@ module _ (n : ℕ) {path : List ℕ} {port : KnownPort} (a b : HostState) (s : S
 
       unserved : (hub : Target) (number : ℕ) → port.port ≡ External hub number → (f : PipeFault)
           → f ≡ fault → NoHubFailed {A = Unit {0}} (Err f) → ⊥
-      unserved hub number is pipe.Stalled e h = h
-      unserved hub number is pipe.Busy e h = h
-      unserved hub number is pipe.NoAnswer e h = h
-      unserved hub number is pipe.Broken e h = h
       unserved hub number is (pipe.Bus g) e h = absurd (cc (fair.still, (rw (← e) at told).told))
       unserved hub number is pipe.Memory e h = (rw is at cleared).room (ap Err (sym e))
+      unserved hub number is _ e h = h
 
       lost : IsLost port.port path b.world
       lost hub number is most serves joined =

@@ -120,8 +120,7 @@ level_refused path cause t w is others =
 
 -- those to a device whose finding is its own are new, as its endpoints are
 pub level_found : (path : List ℕ) (f : Finding) (tier supply : ℕ) (t : Table) {u : Table}
-    (w : World)
-    → u ≡ entered path f t → Consistent w.roots
+    (w : World) → u ≡ entered path f t → Consistent w.roots
     → ((device : Accepted) (s : State) → f ≡ Device device → reach w.roots path ≡ true
     → state_there w.roots path ≡ Some s → IsOwn tier supply device s) → AllInSync t w
     → AllInSync u w

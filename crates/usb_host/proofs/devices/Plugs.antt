@@ -2,8 +2,8 @@
 use Rattle.std.proofs.Common.{◌≡◌, ◌≤◌, ◌<◌, ◌⊎◌, inl, inr, refl, sym, ap, subst, ◌∙◌, arith, ℕ}
 use Rattle.std.proofs.Common.{zero, suc, ◌+◌, Bool, true, false, cond, not, List, [], ◌∷◌, length}
 use Rattle.std.proofs.Common.{take, Option, None, Some, is_some, option_map, slice_index_or, eqb}
-use Rattle.std.proofs.Common.{Ordering, Less, Equal, Greater}
-use Rattle.std.specs.Prelude.{⊤, Any, nat_eq, unwrap_or}
+use Rattle.std.proofs.Common.{Ordering, Less, Equal, Greater, Any, nat_eq}
+use Rattle.std.specs.Prelude.{⊤, unwrap_or}
 use Rattle.std.specs.List.{filter, list_any, starts_with}
 use Rattle.std.specs.BTreeMap.{insert_entry, is_at}
 use Rattle.std.specs.Ordering.{match_ordering}
@@ -59,8 +59,6 @@ module _ {X : Type 0} (P : X → Type 0) where
   any_none a = absurd (omega (arith, a.2))
 
   any_taken : (m n : ℕ) (xs : List X) → m ≤ n → Any P (take m xs) → Any P (take n xs)
-  any_taken zero n xs le a = absurd (any_none a)
-  any_taken (suc m) n [] le a = absurd (any_none a)
   any_taken (suc m) zero (x ∷ xs) le a = absurd (omega arith)
   any_taken (suc m) (suc n) (x ∷ xs) le a =
       pick (any_taken m n xs (omega arith)) (any_cases x (take m xs) a)
@@ -69,15 +67,15 @@ module _ {X : Type 0} (P : X → Type 0) where
           → Any P (x ∷ take n xs)
       pick on (inl so) = any_first x (take n xs) so
       pick on (inr more) = any_later x (take n xs) (on more)
+  any_taken _ n _ le a = absurd (any_none a)
 
   any_all : (n : ℕ) (xs : List X) → Any P (take n xs) → Any P xs
-  any_all zero xs a = absurd (any_none a)
-  any_all (suc n) [] a = absurd (any_none a)
   any_all (suc n) (x ∷ xs) a = pick (any_all n xs) (any_cases x (take n xs) a)
     where
       pick : (Any P (take n xs) → Any P xs) → P x ⊎ Any P (take n xs) → Any P (x ∷ xs)
       pick on (inl so) = any_first x xs so
       pick on (inr more) = any_later x xs (on more)
+  any_all _ _ a = absurd (any_none a)
 
 abbrev AtPath : List ℕ → Event → Type 0
 AtPath path e = PlugsAt path e.action
@@ -173,8 +171,7 @@ address_or es path = unwrap_or (entry_address path es) 0
 
 abbrev plug_address : Entries → Action → ℕ
 plug_address es (Change (Plug path device)) = address_or es path
-plug_address es (Change (Unplug path)) = 0
-plug_address es (Ask ask) = 0
+plug_address es _ = 0
 
 -- those of the paths at which devices are plugged
 abbrev plug_addresses : Entries → List Event → List ℕ
@@ -208,8 +205,7 @@ plug_here : (es : Entries) (path : List ℕ) (a : Action) (more : List ℕ) → 
 plug_here es path (Change (Plug at device)) more is =
     or_left _ (list_any (eqb (address_or es path)) more)
     (eq-eqb (address_or es path) (address_or es at) (ap (address_or es) (sym is)))
-plug_here es path (Change (Unplug at)) more is = absurd is
-plug_here es path (Ask ask) more is = absurd is
+plug_here es path _ more is = absurd is
 
 plug_later : (q a : ℕ) (more : List ℕ) (b : Bool) → list_any (eqb q) more ≡ true
     → list_any (eqb q) (cond b (a ∷ more) more) ≡ true
@@ -223,8 +219,7 @@ plug_among es path (e ∷ events) a = pick (plug_among es path events)
     (any_cases (AtPath path) e events a)
   where
     pick : (Any (AtPath path) events → list_any (eqb (address_or es path))
-        (plug_addresses es events) ≡ true)
-        → PlugsAt path e.action ⊎ Any (AtPath path) events
+        (plug_addresses es events) ≡ true) → PlugsAt path e.action ⊎ Any (AtPath path) events
         → list_any (eqb (address_or es path)) (plug_addresses es (e ∷ events)) ≡ true
     pick among (inl is) = plug_here es path e.action (plug_addresses es events) is
     pick among (inr more) = plug_later (address_or es path) (plug_address es e.action)
@@ -232,9 +227,8 @@ plug_among es path (e ∷ events) a = pick (plug_among es path events)
 
 device_there : (o : Option Finding) {a : ℕ} → address_in o ≡ Some a → (device : Accepted)
     × (accepted_device_of o ≡ Some device)
-device_there None e = absurd (cc e)
 device_there (Some (Device device)) e = (device, refl)
-device_there (Some (Refused cause)) e = absurd (cc e)
+device_there _ e = absurd (cc e)
 
 -- at a path of its own for each address, and at one that has none
 full_plugged : (events : List Event) (path : List ℕ) (h : HostState) → HasPlugs events h

@@ -1,8 +1,7 @@
 -- What requests to a port keep, as the host tells of them.
 use Rattle.usb_device.specs.{path_to, port_there}
 use Rattle.std.proofs.Common.{◌≡◌, inl, inr, refl, sym, ap, subst, ◌∙◌, ℕ, true, false, List, []}
-use Rattle.std.proofs.Common.{◌∷◌, ◌++◌, Option, None, Some, Result, Ok, Err}
-use Rattle.std.specs.Prelude.{IfOk, OnOk}
+use Rattle.std.proofs.Common.{◌∷◌, ◌++◌, Option, None, Some, Result, Ok, Err, IfOk, OnOk}
 use Rattle.std.specs.Global.{Vec}
 use Rattle.usb_request.specs.{PORT_ENABLE, C_PORT_CONNECTION, C_PORT_ENABLE, C_PORT_RESET}
 use Rattle.usb_port.specs.{PortStatus, status_in, PortCall, ClearEnable, ClearConnectionChange}
@@ -36,12 +35,8 @@ use Rattle.usb_host.proofs.knowledge.TidiedPorts.{holds_same, tidied_holds}
 
 pub goes_sound : (A B : Type 0) (fault : PipeFault) → LetsGoOn {A = A} (Err (fault_at_port fault))
     → IsNoBusFault {A = B} (Err fault)
-goes_sound A B pipe.Stalled h = tt
-goes_sound A B pipe.Busy h = tt
-goes_sound A B pipe.NoAnswer h = tt
-goes_sound A B pipe.Broken h = tt
 goes_sound A B (pipe.Bus fault) h = absurd h
-goes_sound A B pipe.Memory h = tt
+goes_sound A B _ h = tt
 
 pub sound_by : {A : Type 0} (result : Result A PipeFault) → LetsGoOn (at_port result)
     → IsNoBusFault result
@@ -50,12 +45,9 @@ sound_by {A = A} (Err fault) h = goes_sound A A fault h
 
 unserved_by : (A B : Type 0) (fault : PipeFault) → fault_at_port fault ≡ ParentLost
     → NoHubFailed {A = B} (Err fault) → ⊥
-unserved_by A B pipe.Stalled e h = h
-unserved_by A B pipe.Busy e h = h
-unserved_by A B pipe.NoAnswer e h = h
-unserved_by A B pipe.Broken e h = h
 unserved_by A B (pipe.Bus fault) e h = absurd (cc e)
 unserved_by A B pipe.Memory e h = absurd (cc e)
+unserved_by A B _ e h = h
 
 pub lost_unserved : {A : Type 0} (result : Result A PipeFault) → at_port result ≡ Err ParentLost
     → NoHubFailed result → ⊥
@@ -66,13 +58,8 @@ lost_unserved {A = A} (Err fault) e h = unserved_by A A fault (cc e) h
 
 said_sound : {A : Type 0} (read : List ℕ → A) (size : ℕ) (answer : Result (Vec ℕ) PipeFault)
     → IsNoBusFault (said_in read size answer) → IsNoBusFault answer
-said_sound read size (Ok bytes) h = tt
-said_sound read size (Err pipe.Stalled) h = tt
-said_sound read size (Err pipe.Busy) h = tt
-said_sound read size (Err pipe.NoAnswer) h = tt
-said_sound read size (Err pipe.Broken) h = tt
 said_sound read size (Err (pipe.Bus fault)) h = h
-said_sound read size (Err pipe.Memory) h = tt
+said_sound read size _ h = tt
 
 pub port_read_rests : (port : HubPort) (old : World) (result : Result PortStatus PipeFault)
     (new : World) → PortRead port old result new → IsNoBusFault result → TouchesNoPort old new

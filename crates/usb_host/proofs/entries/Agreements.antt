@@ -1,8 +1,7 @@
 -- Entries stand at ports that are known.
 use Rattle.std.proofs.Common.{◌≡◌, ◌∙◌, refl, sym, ap, subst, arith, append-nil, append_assoc}
 use Rattle.std.proofs.Common.{length-append, true, false, Bool, ℕ, ◌+◌, cond, List, [], ◌∷◌, ◌++◌}
-use Rattle.std.proofs.Common.{length, not, Option, Some, None, ◌||◌}
-use Rattle.std.specs.Prelude.{nat_eq, IsSome}
+use Rattle.std.proofs.Common.{length, not, Option, Some, None, ◌||◌, nat_eq, IsSome}
 use Rattle.std.specs.Map.{lookup}
 use Rattle.std.specs.BTreeMap.{is_at, insert_entry}
 use Rattle.std.specs.Ordering.{match_ordering}
@@ -13,8 +12,8 @@ use Rattle.std.proofs.lemmas.Map.Entries.{lookup-filter-keys}
 use Rattle.usb_port.specs.{path_cmp, is_below, parent_of, port_on_hub, IsPath}
 use Rattle.usb_port.proofs.Interface.{is_below-extension, rejoined}
 use Rattle.usb_enum.specs.{Finding}
-use Rattle.usb_table.specs.{Entries, has_at, is_at_or_below, without, known_port}
-use Rattle.usb_table.specs.{port_below, port_found, is_below_hub}
+use Rattle.usb_table.specs.{Entries, has_at, is_at_or_below, without, known_port, port_below}
+use Rattle.usb_table.specs.{port_found, is_below_hub}
 use Rattle.usb_table.proofs.Interface.{path_tied}
 use Rattle.usb_tree.proofs.Interface.{neither}
 use Rattle.usb_host.specs.{Nested}

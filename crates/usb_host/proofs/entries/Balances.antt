@@ -1,7 +1,6 @@
 -- How the entries and the taken addresses change together.
 use Rattle.std.proofs.Common.{◌≡◌, ◌≢◌, ◌∙◌, refl, sym, ap, arith, inl, inr, true, false, Bool, ℕ}
-use Rattle.std.proofs.Common.{◌+◌, ◌≤◌, cond, List, [], ◌∷◌, Option, Some, Ok, subst}
-use Rattle.std.specs.Prelude.{nat_eq}
+use Rattle.std.proofs.Common.{◌+◌, ◌≤◌, cond, List, [], ◌∷◌, Option, Some, Ok, subst, nat_eq}
 use Rattle.std.specs.List.{sum_by, AllByRecursion}
 use Rattle.std.specs.List.Sorted.{IsStrictlySortedBy}
 use Rattle.std.specs.Map.{lookup, remove_entry, keys_of}
@@ -36,9 +35,8 @@ unfolding address_count one_when
 count-cons a e es = sum_by-cons (λ d. cond (has_address a d.1) 1 0) e es
 
 tied_back : (o : Ordering) → ordering_reverse o ≡ Equal → is_eq o ≡ true
-tied_back Less h = cc
 tied_back Equal h = refl
-tied_back Greater h = cc
+tied_back _ h = cc
 
 -- a path that stands nowhere is no entry's
 path_cmp-not_equal : (path first : List ℕ) → is_at_or_below first path ≡ false
@@ -53,8 +51,7 @@ path_cmp-not_equal path first h e =
 address_count-insert_by : (a : ℕ) (path : List ℕ) (f : Finding) (e : List ℕ × Finding)
     (es : Entries) (o : Ordering) → path_cmp path e.0 ≡ o → is_at_or_below e.0 path ≡ false
     → address_count a (insert_entry path_cmp es path f) ≡ one_when (has_address a f) + address_count
-    a es
-    → address_count a (match_ordering o ((path, f) ∷ e ∷ es) ((e.0, f) ∷ es)
+    a es → address_count a (match_ordering o ((path, f) ∷ e ∷ es) ((e.0, f) ∷ es)
     (e ∷ insert_entry path_cmp es path f)) ≡ one_when (has_address a f) + address_count a (e ∷ es)
 address_count-insert_by a path f e es Less is away more = count-cons a (path, f) (e ∷ es)
 address_count-insert_by a path f e es Equal is away more =

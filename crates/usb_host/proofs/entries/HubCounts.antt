@@ -1,6 +1,6 @@
 -- How many hubs are listed, as entries go and come.
 use Rattle.std.proofs.Common.{◌≡◌, refl, ap, arith, true, ℕ, ◌+◌, ◌≤◌, List, Option, None, Some}
-use Rattle.std.specs.Prelude.{IsSome}
+use Rattle.std.proofs.Common.{IsSome}
 use Rattle.std.specs.BTreeMap.{insert_entry}
 use Rattle.usb_port.specs.{path_cmp}
 use Rattle.usb_tree.specs.{is_way}
@@ -16,14 +16,13 @@ use Rattle.usb_host.proofs.entries.KindCounts.{counted-without, counted-without_
 
 hub_at : (o : Option Finding) → IsSome (hub_facts_in o) → (f : Finding) × (o ≡ Some f)
     × (is_hub f ≡ true)
-hub_at None some = absurd (cc some)
-hub_at (Some (Refused cause)) some = absurd (cc some)
 hub_at (Some (Device device)) some = pick device.hub refl
   where
     pick : (o : Option HubFacts) → device.hub ≡ o → (f : Finding) × (Some (Device device) ≡ Some f)
         × (is_hub f ≡ true)
     pick None e = absurd (cc (e, some))
     pick (Some facts) e = (Device device, refl, rw e refl)
+hub_at _ some = absurd (cc some)
 
 pub hubs-dropped : (lost hub : List ℕ) (old left : Entries) {new : Entries} → is_way lost hub ≡ true
     → left ≡ without lost old → new ≡ insert_entry path_cmp left lost (Refused Lost)

@@ -1,6 +1,6 @@
 -- How many entries are of a kind, as entries go and come.
-use Rattle.std.proofs.Common.{◌≡◌, ◌∙◌, refl, ap, arith, true, false, Bool, ℕ, ◌+◌, ◌≤◌}
-use Rattle.std.proofs.Common.{cond, List, [], ◌∷◌, not, Some, subst, sym}
+use Rattle.std.proofs.Common.{◌≡◌, ◌∙◌, refl, ap, arith, true, false, Bool, ℕ, ◌+◌, ◌≤◌, cond, List}
+use Rattle.std.proofs.Common.{[], ◌∷◌, not, Some, subst, sym}
 use Rattle.std.specs.Map.{lookup}
 use Rattle.std.specs.List.{count_by}
 use Rattle.std.specs.BTreeMap.{is_at, insert_entry}
@@ -40,8 +40,7 @@ module _ (kind : Finding → Bool) where
   counted-without_by : (path hub : List ℕ) {f : Finding} (e : List ℕ × Finding) (es : Entries)
       → is_way path hub ≡ true → kind f ≡ true
       → (lookup (is_at (path_cmp hub)) es ≡ Some f → counted kind (without path es) + 1 ≤ counted
-      kind es)
-      → (b : Bool) → is_at (path_cmp hub) e.0 ≡ b
+      kind es) → (b : Bool) → is_at (path_cmp hub) e.0 ≡ b
       → cond b (Some e.1) (lookup (is_at (path_cmp hub)) es) ≡ Some f
       → counted kind (without path (e ∷ es)) + 1 ≤ counted kind (e ∷ es)
   unfolding one_when
@@ -71,8 +70,7 @@ module _ (kind : Finding → Bool) where
 
   counted-insert_by : (path : List ℕ) (f : Finding) (e : List ℕ × Finding) (es : Entries)
       → counted kind (insert_entry path_cmp es path f) ≤ counted kind es + one_when (kind f)
-      → (o : Ordering)
-      → counted kind (match_ordering o ((path, f) ∷ e ∷ es) ((e.0, f) ∷ es)
+      → (o : Ordering) → counted kind (match_ordering o ((path, f) ∷ e ∷ es) ((e.0, f) ∷ es)
       (e ∷ insert_entry path_cmp es path f)) ≤ counted kind (e ∷ es) + one_when (kind f)
   counted-insert_by path f e es more Less = omega (arith, counted-cons (path, f) (e ∷ es))
   counted-insert_by path f e es more Equal = omega (

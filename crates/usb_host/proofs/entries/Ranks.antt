@@ -1,6 +1,6 @@
 -- Paths that rise come to an end.
 use Rattle.std.proofs.Common.{◌≡◌, refl, arith, ℕ, ◌+◌, ◌*◌, ◌<◌, ◌≤◌, List, Option, Some, None}
-use Rattle.std.specs.Prelude.{IfSome, ◌^◌}
+use Rattle.std.proofs.Common.{IfSome, ◌^◌}
 use Rattle.std.proofs.Math.Nat.{mul-le-mul_right}
 use Rattle.std.proofs.lemmas.Nat.{row_fits}
 use Rattle.usb_port.specs.{IsPath, rank_of}

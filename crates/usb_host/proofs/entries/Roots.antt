@@ -1,7 +1,7 @@
 -- Entries stand below the ports of the root.
 use Rattle.std.proofs.Common.{◌≡◌, refl, sym, ap, subst, ℕ, ◌≤◌, Bool, true, false, not, List, []}
-use Rattle.std.proofs.Common.{◌∷◌, ◌++◌, length, Option, None, Some, Result, Ok, Err, arith}
-use Rattle.std.specs.Prelude.{IsSome, OnOk, IsErr}
+use Rattle.std.proofs.Common.{◌∷◌, ◌++◌, length, Option, None, Some, Result, Ok, Err, arith, IsSome}
+use Rattle.std.proofs.Common.{OnOk, IsErr}
 use Rattle.std.specs.BTreeMap.{is_at, insert_entry}
 use Rattle.usb_port.specs.{path_cmp, parent_of, port_on_hub}
 use Rattle.usb_port.proofs.Interface.{rejoined}
@@ -59,8 +59,7 @@ rooted_dropped first a b rest roots r path some =
 
 entered_root : (first path : List ℕ) (f : Finding) (es : Entries) (n : ℕ) → root_of first ≤ n
     → (IsSome (finding_at path es) → root_of path ≤ n) → (b : Bool) → is_at (path_cmp path) first
-    ≡ b
-    → IsSome (finding_at path (insert_entry path_cmp es first f)) → root_of path ≤ n
+    ≡ b → IsSome (finding_at path (insert_entry path_cmp es first f)) → root_of path ≤ n
 entered_root first path f es n here more true tie some = rw (path_tied path first tie) here
 entered_root first path f es n here more false apart some =
     more (rw (lookup-insert_entry_elsewhere path first f es apart) at some)

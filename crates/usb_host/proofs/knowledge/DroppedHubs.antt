@@ -1,7 +1,7 @@
 -- What a host knows as a hub that is lost is dropped.
 use Rattle.std.proofs.Common.{◌≡◌, ◌≤◌, refl, sym, ap, subst, ◌∙◌, arith, ℕ, Bool, true, false}
-use Rattle.std.proofs.Common.{List, length, Option, None, Some, Result, Ok, Err}
-use Rattle.std.specs.Prelude.{IsSome, IsSomeAnd, IfOk, IsErr}
+use Rattle.std.proofs.Common.{List, length, Option, None, Some, Result, Ok, Err, IsSome, IsSomeAnd}
+use Rattle.std.proofs.Common.{IfOk, IsErr}
 use Rattle.std.specs.BTreeMap.{insert_entry}
 use Rattle.usb_port.specs.{path_cmp, parent_of, ClearEnable, clear_call}
 use Rattle.usb_request.specs.{PORT_ENABLE}
@@ -16,8 +16,8 @@ use Rattle.usb_backlog.specs.{KeepsAll}
 use Rattle.usb_hub.specs.{KeepsDevices, CommandsPort, IsCall, PortCleared}
 use Rattle.usb_enum.specs.declared.finding.Finding.TheVariants.{Refused}
 use Rattle.usb_enum.proofs.Interface.{disabled_known, went_sound}
-use Rattle.usb_table.specs.{KnownPort, has_at, without, accepted_device_of, known_port}
-use Rattle.usb_table.specs.{finding_at, AllInSync, Table, entered, pipes_at}
+use Rattle.usb_table.specs.{KnownPort, has_at, without, accepted_device_of, known_port, finding_at}
+use Rattle.usb_table.specs.{AllInSync, Table, entered, pipes_at}
 use Rattle.usb_host.specs.{IsDroppedAt, Disabled, DisablesOnWay, HostState, claims, DropsHub}
 use Rattle.usb_host.specs.{root_of, StandsAt, StandsNowhere, HostSteps, OnlyBusSteps, HostInvariant}
 use Rattle.usb_host.specs.{IsSoundBut, IsDroppable, IsFairTo, CausesBut, PortsListed, KnownBut}
@@ -37,12 +37,8 @@ use Rattle.usb_host.proofs.PortLocations.{stands_at-claim, root_alone}
 -- as long as the bus is at work, it did not give up
 pub fault_after-no_bus : (A : Type 0) (fault : PipeFault) (old new : World)
     → FaultAfter 1 old fault new → new.fault ≡ None → IsNoBusFault {A = A} (Err fault)
-fault_after-no_bus A pipe.Stalled old new told still = tt
-fault_after-no_bus A pipe.Busy old new told still = tt
-fault_after-no_bus A pipe.NoAnswer old new told still = tt
-fault_after-no_bus A pipe.Broken old new told still = tt
 fault_after-no_bus A (pipe.Bus fault) old new told still = absurd (cc (still, told.told))
-fault_after-no_bus A pipe.Memory old new told still = tt
+fault_after-no_bus A _ old new told still = tt
 
 -- A port is told to pass nothing on
 
@@ -86,8 +82,7 @@ module _ {n : ℕ} {path : List ℕ} {port : KnownPort} {a b : HostState} (s : S
   pub untold_droppable : {fault : PipeFault}
       → CommandsPort port.port (clear_call PORT_ENABLE) a.world (Err fault) b.world
       → FaultAfter 1 a.world fault b.world → PortCleared port.port PORT_ENABLE a.world (Err fault)
-      b.world
-      → IsSomeAnd (parent_of path) (λ hub. IsDroppable hub b)
+      b.world → IsSomeAnd (parent_of path) (λ hub. IsDroppable hub b)
   untold_droppable {fault = fault} calls told cleared = by_parent (parent_of path) refl
     where
       by_parent : (o : Option (List ℕ)) → parent_of path ≡ o
@@ -149,10 +144,7 @@ module _ (hub lost : List ℕ) (a b c d : HostState) (least : 1 ≤ length lost)
       rw rest (truthful_dropped lost b.world b.entries (x.but.truthful (still_there still))) in
       rw world_is (rw is (truthful_found lost (Refused Lost) c.entries least gone b.world dropped
       (λ device s at on stands. absurd
-      (cc (
-        ap accepted_device_of (lookup-insert_entry_here lost (Refused Lost) c.entries),
-        at,
-      )))))
+      (cc (ap accepted_device_of (lookup-insert_entry_here lost (Refused Lost) c.entries), at)))))
 
   lost_level : d.world.fault ≡ None → AllInSync (table_in d) d.world
   lost_level still =
@@ -194,8 +186,7 @@ module _ {m n : ℕ} {path : List ℕ} where
   done_caused_by : (flag : Bool) {a : HostState} {result : Result Bool HostFault} (b : HostState)
       {first : World} {t : Option (List ℕ)} → StepRun m first t a.world a.trace → HostSteps n a b
       → DisablesOnWay path a result b → result ≡ Ok flag → IsDroppable path a
-      → IsFairTo first b.world
-      → (IsFairTo first a.world → (pending a.world.roots path ≡ true)
+      → IsFairTo first b.world → (IsFairTo first a.world → (pending a.world.roots path ≡ true)
       × CausesBut path a.world a.entries) → Disabled flag path b
   done_caused_by flag b before went x done d fair so_far =
       let so = so_far (fair_before went fair) in

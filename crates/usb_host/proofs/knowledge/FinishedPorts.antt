@@ -10,10 +10,9 @@ use Rattle.usb_host.proofs.devices.Plugs.{plugs_then}
 
 -- the host goes on after it
 lets_go_on_done : (served : Result (Unit {0}) EnumFault) → EndsAs served (Ok tt) → LetsGoOn served
-lets_go_on_done (Ok done) ends = tt
-lets_go_on_done (Err ParentLost) ends = tt
 lets_go_on_done (Err (Bus fault)) ends = absurd (cc ends)
 lets_go_on_done (Err Memory) ends = absurd (cc ends)
+lets_go_on_done _ ends = tt
 
 pub finished_sound : {path : List ℕ} (m : ℕ) {n : ℕ} (served : Result (Unit {0}) EnumFault)
     (result : Result (Unit {0}) HostFault) (a b c : HostState) → HostSteps m a b → HostSteps n b c

@@ -1,7 +1,7 @@
 -- What a host knows as what is found at a port is entered.
-use Rattle.std.proofs.Common.{◌≡◌, ◌≤◌, ◌⊎◌, inl, inr, refl, sym, ap, ◌∙◌, ℕ, true, false}
-use Rattle.std.proofs.Common.{List, Option, None, Some, Result, Ok, Err}
-use Rattle.std.specs.Prelude.{IsSomeAnd, option_map, unwrap_or}
+use Rattle.std.proofs.Common.{◌≡◌, ◌≤◌, ◌⊎◌, inl, inr, refl, sym, ap, ◌∙◌, ℕ, true, false, List}
+use Rattle.std.proofs.Common.{Option, None, Some, Result, Ok, Err, IsSomeAnd, option_map}
+use Rattle.std.specs.Prelude.{unwrap_or}
 use Rattle.std.specs.BTreeMap.{insert_entry}
 use Rattle.usb_port.specs.{path_cmp}
 use Rattle.usb_device.specs.{reach, state_there}
@@ -9,8 +9,8 @@ use Rattle.usb_tree.specs.{is_way}
 use Rattle.usb_world.specs.{World, WorldInvariant}
 use Rattle.usb_tree.proofs.Interface.{decided}
 use Rattle.usb_resources.specs.{Addresses, IsTaken}
-use Rattle.usb_enum.specs.{EnumFault, ParentLost, Bus, Memory, Accepted, Finding, HubFacts}
-use Rattle.usb_enum.specs.{Begins, Enumerates, IsOwn, OnlyAt, IsPlaced, FaultAllowedAt}
+use Rattle.usb_enum.specs.{EnumFault, ParentLost, Bus, Memory, Accepted, Finding, HubFacts, Begins}
+use Rattle.usb_enum.specs.{Enumerates, IsOwn, OnlyAt, IsPlaced, FaultAllowedAt}
 use Rattle.usb_enum.specs.declared.finding.Finding.TheVariants.{Device, Refused}
 use Rattle.usb_enum.proofs.Interface.{regular_order, went_course, went_in_order, went_sound}
 use Rattle.usb_table.specs.{KnownPort, Entries, has_at, accepted_device_of, known_port}
@@ -188,5 +188,4 @@ module _ (n : ℕ) (path : List ℕ) (port : KnownPort) (pool : Addresses) (a b 
             rw table (level_but path (table_in a) a.world b.world (found_only e still).devices
             (o.but.level (went_sound n a.world b.world went still)));
       })
-  unfound_sound (Bus fault) e same pipes_same pool_same told k = tt
-  unfound_sound Memory e same pipes_same pool_same told k = tt
+  unfound_sound _ e same pipes_same pool_same told k = tt

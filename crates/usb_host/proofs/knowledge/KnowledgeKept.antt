@@ -1,7 +1,7 @@
 -- What is known of ports and devices stays so where nothing is asked of them.
 use Rattle.std.proofs.Common.{◌≡◌, ◌⊎◌, inl, inr, List, [], ◌∷◌, ℕ, zero, suc, true, false, Option}
-use Rattle.std.proofs.Common.{None, Some, option_map, refl, ap, sym, subst, ◌∙◌}
-use Rattle.std.specs.Prelude.{⊤, IfSome}
+use Rattle.std.proofs.Common.{None, Some, option_map, refl, ap, sym, subst, ◌∙◌, IfSome}
+use Rattle.std.specs.Prelude.{⊤}
 use Rattle.usb_resources.specs.{Addresses}
 use Rattle.usb_device.specs.{State, Registers, Location, path_to, reach_on, state_on, state_there}
 use Rattle.usb_world.specs.{KeepsPendingAt, Was, spec_of, SameAt, LeavesPortAlone}
@@ -83,10 +83,9 @@ is_told_at-stays j w v entries was told device s at on stands =
 
 pub truthful_stays : (w v : World) (entries : Entries) → EachStill w v → DevicesAccurate w entries
     → DevicesAccurate v entries
-truthful_stays w v entries each told [] = λ device s at on stands. false_true on
-truthful_stays w v entries each told (zero ∷ p) = λ device s at on stands. false_true on
 truthful_stays w v entries each told (suc j ∷ p) = is_told_at-stays (record { row = j; rest = p }) w
     v entries (each (record { row = j; rest = p })) (told (suc j ∷ p))
+truthful_stays w v entries each told _ = λ device s at on stands. false_true on
 
 pub truthful_but_stays : (first : List ℕ) (w v : World) (entries : Entries) → EachStillBut first w v
     → TruthfulBut first w entries → TruthfulBut first v entries

@@ -1,8 +1,9 @@
 -- What is known of ports and devices, as entries go and one comes.
 use Rattle.std.proofs.Common.{◌≡◌, ◌≤◌, ◌+◌, ◌-◌, ◌⊎◌, inl, inr, List, [], ◌∷◌, ◌++◌, ℕ, length}
 use Rattle.std.proofs.Common.{take, Bool, true, false, not, Option, None, Some, if◌then◌else◌, refl}
-use Rattle.std.proofs.Common.{ap, sym, subst, ◌∙◌, arith, append-nil, length-append}
-use Rattle.std.specs.Prelude.{⊤, IsSomeAnd, unwrap_or, option_map}
+use Rattle.std.proofs.Common.{ap, sym, subst, ◌∙◌, arith, append-nil, length-append, IsSomeAnd}
+use Rattle.std.proofs.Common.{option_map}
+use Rattle.std.specs.Prelude.{⊤, unwrap_or}
 use Rattle.std.proofs.lemmas.Bool.{lt-ltb}
 use Rattle.std.specs.BTreeMap.{is_at, insert_entry}
 use Rattle.usb_port.specs.{path_cmp, parent_of, port_on_hub}

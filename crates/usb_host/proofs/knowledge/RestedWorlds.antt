@@ -2,7 +2,7 @@
 use Rattle.usb_device.specs.{Location, State}
 use Rattle.std.proofs.Common.{◌≡◌, inl, inr, refl, sym, ap, subst, ◌∙◌, arith, length-append, ℕ}
 use Rattle.std.proofs.Common.{Bool, true, false, List, [], ◌∷◌, length, Option, None, Some, Err}
-use Rattle.std.specs.Prelude.{IsSome, IsSomeAnd}
+use Rattle.std.proofs.Common.{IsSome, IsSomeAnd}
 use Rattle.usb_port.specs.{parent_of, port_on_hub}
 use Rattle.usb_port.proofs.Interface.{rejoined}
 use Rattle.usb_world.specs.{Was, World}
@@ -163,8 +163,7 @@ droppable_above path hub h above known agrees s = record {
 -- A request at a port failed
 
 pub lost_sound : {path : List ℕ} {port : KnownPort} {a : HostState} (b : HostState)
-    (fault : EnumFault)
-    → StandsAt path port a → FaultAllowedAt port.port fault b.world
+    (fault : EnumFault) → StandsAt path port a → FaultAllowedAt port.port fault b.world
     → IsSome (known_port path b.entries) → Agrees b.entries b.addresses
     → (LetsGoOn {A = Unit {0}} (Err fault) → IsSoundBut path b)
     → InvariantAfterPort path (Err fault) b

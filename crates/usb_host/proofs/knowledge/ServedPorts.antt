@@ -1,8 +1,7 @@
 -- What a host knows as a port is tidied, and as its change is cleared and what was there is
 -- forgotten.
 use Rattle.std.proofs.Common.{◌≡◌, ◌≤◌, ◌⊎◌, inl, inr, refl, sym, ap, subst, ◌∙◌, ℕ, true, false}
-use Rattle.std.proofs.Common.{List, Option, None, Some, Result, Ok, Err}
-use Rattle.std.specs.Prelude.{IsSome, IfErr}
+use Rattle.std.proofs.Common.{List, Option, None, Some, Result, Ok, Err, IsSome, IfErr}
 use Rattle.usb_port.specs.{parent_of, port_on_hub, PortStatus}
 use Rattle.usb_tree.specs.{is_way}
 use Rattle.usb_enum.specs.{IsOrderly, EnumFault, IsKnownAs, FaultAllowedAt}

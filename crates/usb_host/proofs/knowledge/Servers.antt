@@ -16,8 +16,8 @@ use Rattle.usb_hub.specs.{External}
 use Rattle.usb_enum.specs.{Accepted, HubFacts, facts_of, is_hub_device, target_of, configuration_of}
 use Rattle.usb_enum.specs.{HasServer, ServesAt, IsKnownAs}
 use Rattle.usb_enum.specs.declared.finding.Finding.TheVariants.{Device}
-use Rattle.usb_table.specs.{KnownPort, Entries, accepted_device_of, address_in}
-use Rattle.usb_table.specs.{root_port, port_below, is_below_hub, finding_at, tier_of}
+use Rattle.usb_table.specs.{KnownPort, Entries, accepted_device_of, address_in, root_port}
+use Rattle.usb_table.specs.{port_below, is_below_hub, finding_at, tier_of}
 use Rattle.usb_table.proofs.Interface.{FoundPort, port_found-some}
 use Rattle.usb_host.specs.{HostState, StandsAt, IsAccurateAt, known_supply, IsSoundBut}
 use Rattle.usb_enum.proofs.Interface.{AcceptsChosen, accepts, chosen_some, has_chosen}
@@ -70,8 +70,6 @@ module _ {w : World} (entries : Entries) (device : Accepted) {facts : HubFacts} 
       → reach w.roots hub ≡ true → IsAccurateAt w entries hub
       → 8 ≤ (target_of device (is_below_hub hub)).max
       → ServesAt (target_of device (is_below_hub hub)) n hub w
-  hub_serves [] at on knows wide = false_true on
-  hub_serves (zero ∷ p) at on knows wide = false_true on
   hub_serves (suc j ∷ p) at on knows wide =
       let s : _ = reached_there w.roots (suc j ∷ p) on in
       let t = knows device s.0 (ap accepted_device_of at) on s.1 in
@@ -110,6 +108,7 @@ module _ {w : World} (entries : Entries) (device : Accepted) {facts : HubFacts} 
         there = refl;
         wide = wide;
       }
+  hub_serves _ at on knows wide = false_true on
 
 -- The port's hub
 

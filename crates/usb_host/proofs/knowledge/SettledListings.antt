@@ -1,8 +1,8 @@
 -- Where nothing is left to do, a host that knows its ports lists what is plugged.
 use Rattle.std.proofs.Common.{◌≡◌, ◌⊎◌, inl, inr, ◌≤◌, ◌-◌, ℕ, zero, suc, Bool, true, false, List}
 use Rattle.std.proofs.Common.{[], ◌∷◌, length, Option, None, Some, option_map, if◌then◌else◌, refl}
-use Rattle.std.proofs.Common.{ap, sym, subst, ◌∙◌, arith}
-use Rattle.std.specs.Prelude.{⊤, IsSome, IsSomeAnd, unwrap_or}
+use Rattle.std.proofs.Common.{ap, sym, subst, ◌∙◌, arith, IsSome, IsSomeAnd}
+use Rattle.std.specs.Prelude.{⊤, unwrap_or}
 use Rattle.std.proofs.lemmas.Bool.{le-leb}
 use Rattle.std.proofs.lemmas.List.Elements.{All-get_or}
 use Rattle.usb_port.specs.{parent_of, port_on_hub, IsPath, IsPortNumber}
@@ -30,20 +30,17 @@ use Rattle.usb_host.proofs.entries.EntryClaims.{claims_distinct, claims_taken}
 reached_at : (k : Ports) (j : ℕ) (p : List ℕ) → reach_at k j p ≡ true → (s : State)
     × (state_at k j p ≡ Some s)
 unfolding reach_at state_at
-reached_at ended j p h = false_true h
-reached_at (vacant b k) zero p h = false_true h
 reached_at (vacant b k) (suc j) p h = reached_at k j p h
 reached_at (taken b s a k) zero [] h = (s, refl)
-reached_at (taken b s a k) zero (zero ∷ p) h = false_true h
 reached_at (taken b s a k) zero (suc j ∷ p) h =
     reached_at a j p (both b.enable (reach_at a j p) h).1
 reached_at (taken b s a k) (suc j) p h = reached_at k j p h
+reached_at _ _ _ h = false_true h
 
 pub reached_there : (k : Ports) (p : List ℕ) → reach k p ≡ true → (s : State)
     × (state_there k p ≡ Some s)
-reached_there k [] h = false_true h
-reached_there k (zero ∷ p) h = false_true h
 reached_there k (suc i ∷ p) h = reached_at k i p h
+reached_there k _ h = false_true h
 
 -- Entries stand at listed ports
 
@@ -98,9 +95,8 @@ module _ (w : World) {entries : Entries} {addresses : Addresses}
 
 device_is : (o : Option Finding) (device : Accepted) → accepted_device_of o ≡ Some device
     → o ≡ Some (Device device)
-device_is None device h = absurd cc
 device_is (Some (Device d)) device h = cc h
-device_is (Some (Refused cause)) device h = absurd cc
+device_is _ device h = absurd cc
 
 there : (w : World) (path : List ℕ) (o : Option Finding) → pending w.roots path ≡ false
     → IsKnownAs w path o → IsThere w path o
@@ -131,10 +127,9 @@ record IsHubAt (o : Option Finding) (below : Bool) (n : ℕ) : Type 0 where
 
 facts_are_hub : (o : Option Finding) (below : Bool) (n : ℕ)
     → IsSomeAnd (hub_facts_in o) (λ facts. (1 ≤ n) × (n ≤ facts.ports)) → IsHubAt o below n
-facts_are_hub None below n h = absurd h
-facts_are_hub (Some (Refused cause)) below n h = absurd h
 facts_are_hub (Some (Device d)) below n h = let x : _ = supply_of_hub d below n d.hub h in
     record { device = d; facts = x.0; found = refl; told = x.1; gives = x.2 }
+facts_are_hub _ below n h = absurd h
 
 facts_supply : (spec : Spec) (facts : HubFacts) → facts_of spec ≡ Some facts
     → facts.supply ≡ supply_of false spec.self_powered
@@ -256,10 +251,7 @@ module _ (w : World) (entries : Entries) (addresses : Addresses)
         lists = record {
           rises = accounted.agrees.rises;
           there = right_there;
-          nothing_else = λ path f at. (
-            listed_port w accounted path f at,
-            plugged_there path f at,
-          );
+          nothing_else = λ path f at. (listed_port w accounted path f at, plugged_there path f at);
           addresses = listed_address w accounted;
           differ = listed_once w accounted;
         };

@@ -1,7 +1,6 @@
 -- What a host knows stays so over the parts of a round, transfers and events.
 use Rattle.std.proofs.Common.{◌≡◌, ◌∙◌, refl, sym, ap, subst, ℕ, List, Bool, true, false, Option}
-use Rattle.std.proofs.Common.{None, Some, Result, Ok, Err}
-use Rattle.std.specs.Prelude.{IsSome}
+use Rattle.std.proofs.Common.{None, Some, Result, Ok, Err, IsSome}
 use Rattle.std.specs.BTreeMap.{is_at}
 use Rattle.usb_port.specs.{path_cmp}
 use Rattle.usb_world.specs.{BusFault, event_taken, event, after, step, here as no_more, AnyStep}
@@ -16,11 +15,11 @@ use Rattle.usb_enum.specs.{Finding, IsKnownAs, IsOccupied, IsInOrder}
 use Rattle.usb_enum.proofs.Interface.{orderly_on, step_later, went_in_order, went_sound}
 use Rattle.usb_table.specs.{Entries, finding_at, AllInSync, IsHeld, KeepsInSync, Table}
 use Rattle.usb_table.proofs.Interface.{all_kept, path_tied}
-use Rattle.usb_host.specs.{HostFault, Round, Agrees, KeepsBulk, HostState, KeepsPlugs}
-use Rattle.usb_host.specs.{StaysOwned, table_in, HostSteps, HostRuns, PortsListed, DevicesAccurate}
-use Rattle.usb_host.specs.{Accounted, RefusalsJustified, HostInvariant, IsSoundBut, IsFairTo}
-use Rattle.usb_host.specs.{KeepsInvariant, PartStays, PartKeepsInvariant, IsDroppable, DropsSound}
-use Rattle.usb_host.specs.{RoundsSound, TransferKeeps}
+use Rattle.usb_host.specs.{HostFault, Round, Agrees, KeepsBulk, HostState, KeepsPlugs, StaysOwned}
+use Rattle.usb_host.specs.{table_in, HostSteps, HostRuns, PortsListed, DevicesAccurate, Accounted}
+use Rattle.usb_host.specs.{RefusalsJustified, HostInvariant, IsSoundBut, IsFairTo, KeepsInvariant}
+use Rattle.usb_host.specs.{PartStays, PartKeepsInvariant, IsDroppable, DropsSound, RoundsSound}
+use Rattle.usb_host.specs.{TransferKeeps}
 use Rattle.usb_host.proofs.devices.BulkPipes.{bulk_none, bulk_stopped, bulk_then}
 use Rattle.usb_host.proofs.parts.Events.{known_event, truthful_event, causes_event, level_event}
 use Rattle.usb_host.proofs.devices.Fairness.{fair_before, fair_after}

@@ -2,8 +2,7 @@
 -- reset is cleared.
 use Rattle.std.proofs.Common.{◌≡◌, ◌⊎◌, inl, inr, ◌&&◌, ◌||◌, ℕ, suc, zero, true, false, List, []}
 use Rattle.std.proofs.Common.{◌∷◌, ◌++◌, Option, None, Some, option_map, refl, ap, sym, subst, ◌∙◌}
-use Rattle.std.proofs.Common.{append-nil}
-use Rattle.std.specs.Prelude.{IfSome}
+use Rattle.std.proofs.Common.{append-nil, IfSome}
 use Rattle.usb_port.specs.{PortState, PortCall, ClearEnableChange, ClearResetChange, called_port}
 use Rattle.usb_device.specs.{State, Ports, ended, vacant, taken, empty, full, port_of, called}
 use Rattle.usb_device.specs.{place, reach, reach_at, state_at, port_at, port_there, state_there}
@@ -78,20 +77,17 @@ tidied_enable reset b = refl
 reached_port_at : (k : Ports) (j : ℕ) (p : List ℕ) → reach_at k j p ≡ true → (b : PortState)
     × (s : State) × (port_at k j p ≡ Some b) × (state_at k j p ≡ Some s) × (b.enable ≡ true)
 unfolding reach_at port_at state_at
-reached_port_at ended j p h = false_true h
-reached_port_at (vacant b k) zero p h = false_true h
 reached_port_at (vacant b k) (suc j) p h = reached_port_at k j p h
 reached_port_at (taken b s a k) zero [] h = (b, s, refl, refl, h)
-reached_port_at (taken b s a k) zero (zero ∷ p) h = false_true h
 reached_port_at (taken b s a k) zero (suc i ∷ p) h =
     reached_port_at a i p (both b.enable (reach_at a i p) h).1
 reached_port_at (taken b s a k) (suc j) p h = reached_port_at k j p h
+reached_port_at _ _ _ h = false_true h
 
 pub reached_port : (k : Ports) (p : List ℕ) → reach k p ≡ true → (b : PortState) × (s : State)
     × (port_there k p ≡ Some b) × (state_there k p ≡ Some s) × (b.enable ≡ true)
-reached_port k [] h = false_true h
-reached_port k (zero ∷ p) h = false_true h
 reached_port k (suc j ∷ p) h = reached_port_at k j p h
+reached_port k _ h = false_true h
 
 -- Two trees of which the place at a path is the same, or called
 
@@ -181,8 +177,7 @@ module _ (t : Tidy) (p : List ℕ) where
       where
         pick : (pending w.roots (m ∷ l) ≡ true)
             ⊎ ((has_power w.roots (m ∷ l) && pending (place_ports (place w.roots (m ∷ l))) (i ∷ r))
-            ≡ true)
-            → (pending v.roots (m ∷ l) || (has_power v.roots (m ∷ l) && pending
+            ≡ true) → (pending v.roots (m ∷ l) || (has_power v.roots (m ∷ l) && pending
             (place_ports (place v.roots (m ∷ l))) (i ∷ r))) ≡ true
         pick (inl y) = or_left (pending v.roots (m ∷ l))
             (has_power v.roots (m ∷ l) && pending (place_ports (place v.roots (m ∷ l))) (i ∷ r))

@@ -3,8 +3,7 @@ use Rattle.std.proofs.Common.{◌≡◌, ◌≢◌, ◌≤◌, ◌<◌, ◌⊎�
 use Rattle.std.proofs.Common.{inl, inr, refl, sym, ap, subst, arith, if◌then◌else◌, ℕ, zero, suc}
 use Rattle.std.proofs.Common.{◌+◌, ◌*◌, Bool, true, false, List, [], ◌∷◌, ◌++◌, length}
 use Rattle.std.proofs.Common.{length-append, take, Option, None, Some, is_some, Result, Ok, Err}
-use Rattle.std.proofs.Common.{is_ok, slice_get}
-use Rattle.std.specs.Prelude.{IsSome}
+use Rattle.std.proofs.Common.{is_ok, slice_get, IsSome}
 use Rattle.std.proofs.lemmas.Bool.{cases_lt, eq-eqb, eqb-true, le-leb}
 use Rattle.std.proofs.lemmas.List.Elements.{All-append, All-cons, All-nil}
 use Rattle.std.proofs.lemmas.Option.{same_Some, slice_get_within}
@@ -170,14 +169,8 @@ deep_row : (a b c d f g h : Bool) (r : Result ℕ Cause) {n : ℕ}
     → (if a then Err Silent else if b then Err Busy else if c then Err (Stalled request.Device) else
     if d then Err BadDevice else if f then Err (Stalled request.Address) else if g then Err
     BadDevice else if h then Err TooDeep else r) ≡ Ok n → h ≡ false
-deep_row true b c d f g h r e = absurd (cc e)
-deep_row false true c d f g h r e = absurd (cc e)
-deep_row false false true d f g h r e = absurd (cc e)
-deep_row false false false true f g h r e = absurd (cc e)
-deep_row false false false false true g h r e = absurd (cc e)
-deep_row false false false false false true h r e = absurd (cc e)
-deep_row false false false false false false true r e = absurd (cc e)
 deep_row false false false false false false false r e = refl
+deep_row _ _ _ _ _ _ _ r e = absurd (cc e)
 
 facts_of-hub : (spec : Spec) (facts : HubFacts) → facts_of spec ≡ Some facts
     → is_hub_device spec.descriptor ≡ true
@@ -205,16 +198,14 @@ verdict-not_deep spec tier supply facts e hub last =
 row_port_of : (hub : List ℕ) (k : Ports) (b : PortState) (s : State) (below : Ports) (i : ℕ)
     → place k hub ≡ Some (full b s below)
     → port_there k (hub ++ (suc i ∷ [])) ≡ slice_get (row_of below) i
-row_port_of [] k b s below i e = absurd (cc e)
-row_port_of (zero ∷ q) k b s below i e = absurd (cc e)
 row_port_of (suc j ∷ q) k b s below i e = port_of_row k j q b s below i e
+row_port_of _ k b s below i e = absurd (cc e)
 
 row_of-hub_ports : (hub : List ℕ) (k : Ports) (b : PortState) (s : State) (below : Ports)
     → Consistent k → place k hub ≡ Some (full b s below)
     → length (row_of below) ≡ hub_ports s.spec.hub
-row_of-hub_ports [] k b s below sane e = absurd (cc e)
-row_of-hub_ports (zero ∷ q) k b s below sane e = absurd (cc e)
 row_of-hub_ports (suc j ∷ q) k b s below sane e = ports_counted k j q b s below sane e
+row_of-hub_ports _ k b s below sane e = absurd (cc e)
 
 no_enable : (c e r : Bool) → e ≡ false → (c || e || r) ≡ true → (c ≡ true) ⊎ (r ≡ true)
 no_enable true e r off h = inl refl

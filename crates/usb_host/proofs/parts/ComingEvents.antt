@@ -1,6 +1,5 @@
 -- What an event leaves of a host that keeps what it has.
-use Rattle.std.proofs.Common.{◌≡◌, sym, ap, subst, false, Option, Result, Ok}
-use Rattle.std.specs.Prelude.{is_some}
+use Rattle.std.proofs.Common.{◌≡◌, sym, ap, subst, false, Option, Result, Ok, is_some}
 use Rattle.usb_world.specs.declared.event.Ask.{Ask}
 use Rattle.usb_world.specs.{BusFault}
 use Rattle.usb_bus.specs.{TakesEvent}

@@ -2,8 +2,8 @@
 use Rattle.usb_bus.specs.{Traced}
 use Rattle.usb_enum.proofs.Interface.{traced_in_order}
 use Rattle.std.proofs.Common.{◌≡◌, ◌⊎◌, ◌∙◌, ◌<◌, inl, inr, refl, sym, ap, arith, zero, suc, ℕ}
-use Rattle.std.proofs.Common.{List, Option, None, ◌∷◌, Bool, true, ◌&&◌, ◌||◌, if◌then◌else◌}
-use Rattle.std.specs.Prelude.{[], false, All, length, nat_lt}
+use Rattle.std.proofs.Common.{List, Option, None, ◌∷◌, Bool, true, ◌&&◌, ◌||◌, if◌then◌else◌, []}
+use Rattle.std.proofs.Common.{false, All, length, nat_lt}
 use Rattle.std.specs.FinSet as set
 use Rattle.std.proofs.lemmas.Bool.{lt-ltb}
 use Rattle.std.proofs.lemmas.List.Elements.{All-head, All-tail}
@@ -46,18 +46,15 @@ powered_is_opening w0 w t0 t table addresses e silent f h =
 
 reach-with_power : (k : Ports) (i : ℕ) (r : List ℕ) → reach_at (with_power k) i r ≡ reach_at k i r
 unfolding with_power reach_at
-reach-with_power ended i r = refl
-reach-with_power (vacant b k) zero r = refl
 reach-with_power (vacant b k) (suc i) r = reach-with_power k i r
 reach-with_power (taken b s a k) zero [] = power_enable b
-reach-with_power (taken b s a k) zero (zero ∷ r) = refl
 reach-with_power (taken b s a k) zero (suc j ∷ r) = ap (λ e. e && reach_at a j r) (power_enable b)
 reach-with_power (taken b s a k) (suc i) r = reach-with_power k i r
+reach-with_power _ _ _ = refl
 
 path-with_power : (k : Ports) (path : List ℕ) → reach (with_power k) path ≡ reach k path
-path-with_power k [] = refl
-path-with_power k (zero ∷ r) = refl
 path-with_power k (suc i ∷ r) = reach-with_power k i r
+path-with_power k _ = refl
 
 forgotten-with_power : (k : Ports) → all_forgotten (with_power k) ≡ with_power (all_forgotten k)
 unfolding with_power all_forgotten
@@ -86,11 +83,10 @@ owning_opening w t u = record {
 power_given : (b : PortState) → (powered_on b).power ≡ true
 power_given b = pick b.power refl
   where
-    pick : (p : Bool) → b.power ≡ p
-        → (if p then b else record b {
-          power = true;
-          connection_changed = is_attached b.attached || b.connection_changed;
-        }).power ≡ true
+    pick : (p : Bool) → b.power ≡ p → (if p then b else record b {
+      power = true;
+      connection_changed = is_attached b.attached || b.connection_changed;
+    }).power ≡ true
     pick true is = is
     pick false is = refl
 

@@ -1,6 +1,5 @@
 -- The root ports get power one by one.
-use Rattle.std.proofs.Common.{◌≡◌, ◌∙◌, refl, sym, ap, arith, suc, zero}
-use Rattle.std.specs.Prelude.{ℕ, ◌-◌, ◌≤◌, [], length}
+use Rattle.std.proofs.Common.{◌≡◌, ◌∙◌, refl, sym, ap, arith, suc, zero, ℕ, ◌-◌, ◌≤◌, [], length}
 use Rattle.usb_request.specs.{PORT_POWER}
 use Rattle.usb_port.specs.{powered_on, SetPower}
 use Rattle.usb_device.specs.{Ports, ended, vacant, taken, called, changed_at, row_of}
@@ -19,10 +18,9 @@ powered_world n w = record w { roots = powered_upto n w.roots }
 
 length_upto : (n : ℕ) (k : Ports) → length (row_of (powered_upto n k)) ≡ length (row_of k)
 unfolding powered_upto row_of
-length_upto zero k = refl
-length_upto (suc n) ended = refl
 length_upto (suc n) (vacant b k) = ap (λ m. suc m) (length_upto n k)
 length_upto (suc n) (taken b s a k) = ap (λ m. suc m) (length_upto n k)
+length_upto _ _ = refl
 
 set_one : (n : ℕ) (k : Ports) → changed_at (called SetPower) (powered_upto n k) n []
     ≡ powered_upto (suc n) k

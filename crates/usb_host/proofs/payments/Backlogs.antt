@@ -100,9 +100,8 @@ port_of-place (Some q) {b = b} e = (q, refl, same_Some (port_of q) b e)
 
 pub full_of : (o : Option Place) → is_some (stands o) ≡ true → (b : PortState) × (s : State)
     × (a : Ports) × (o ≡ Some (full b s a))
-full_of None e = absurd (cc e)
-full_of (Some (empty b)) e = absurd (cc e)
 full_of (Some (full b s a)) e = (b, s, a, refl)
+full_of _ e = absurd (cc e)
 
 -- the place at which a status was told
 told_place : (p : List ℕ) {status : PortStatus} {old new : World}
@@ -204,9 +203,8 @@ module _ (j : ℕ) (e : List ℕ) (status : PortStatus) (old mid : World) (ports
 
 port_there-not_empty : (p : List ℕ) (w : World) {b : PortState} {A : Type 0}
     → ((j : ℕ) (e : List ℕ) → p ≡ suc j ∷ e → A) → port_there w.roots p ≡ Some b → A
-port_there-not_empty [] w f there = absurd (cc there)
-port_there-not_empty (zero ∷ e) w f there = absurd (cc there)
 port_there-not_empty (suc j ∷ e) w f there = f j e refl
+port_there-not_empty _ w f there = absurd (cc there)
 
 pub told_resets : (p : List ℕ) (status : PortStatus) (old mid new : World) → AtPorts old.left
     → PortStatusAt p status old mid → status.reset_changed ≡ true → ResetCleared p mid new

@@ -1,7 +1,7 @@
 -- What was left to do pays for the handling of a port.
-use Rattle.std.proofs.Common.{◌≡◌, ◌≤◌, ◌⊎◌, ◌∙◌, inl, inr, refl, ap, subst, arith, ℕ, ◌+◌}
-use Rattle.std.proofs.Common.{◌*◌, false, List, [], ◌∷◌, ◌++◌, Option, None, Some, Result, Ok, Err}
-use Rattle.std.specs.Prelude.{IsErr, IsSome, IsSomeAnd, OnOk, IfErr, IfOk, is_some, length}
+use Rattle.std.proofs.Common.{◌≡◌, ◌≤◌, ◌⊎◌, ◌∙◌, inl, inr, refl, ap, subst, arith, ℕ, ◌+◌, ◌*◌}
+use Rattle.std.proofs.Common.{false, List, [], ◌∷◌, ◌++◌, Option, None, Some, Result, Ok, Err}
+use Rattle.std.proofs.Common.{IsErr, IsSome, IsSomeAnd, OnOk, IfErr, IfOk, is_some, length}
 use Rattle.std.proofs.Math.Nat.{mul-le-mul_left}
 use Rattle.usb_port.specs.{parent_of, port_on_hub, IsPath}
 use Rattle.usb_tree.specs.{is_way}
@@ -162,16 +162,14 @@ module _ {path : List ℕ} {port : KnownPort} (a b d : HostState) (s : StandsAt 
         (serves.pays.pays w.sound (works_on-ports w) here) ports
         (finishes.drops.backlog (sound.sound w.sound) still) (omega (arith, second.spends.most))
         (finishes.fewer refl (has_hub path a.entries b.entries (serves.served w.sound) has)))
-    done_pays (Err (Bus fault)) (Ok x) ends told sound serves finishes ports = absurd (cc ends)
-    done_pays (Err Memory) (Ok x) ends told sound serves finishes ports = absurd (cc ends)
     done_pays (Ok done) (Err other) ends told sound serves finishes ports = tt
     done_pays (Err fault) (Err other) ends told sound serves finishes ports = tt
+    done_pays _ (Ok x) ends told sound serves finishes ports = absurd (cc ends)
 
   pub handling_pays : (served : Result (Unit {0}) EnumFault) (result : Result (Unit {0}) HostFault)
       → EndsAs served result → IfErr served (λ fault. FaultAllowedAt port.port fault b.world)
       → ServesSound path a served
-      b
-      → ServesPort path port a served b → FinishesAt path served b result d
+      b → ServesPort path port a served b → FinishesAt path served b result d
       → PaysPart handling_most (λ c done. PortPaid c path) a result d
   handling_pays served result ends told sound serves finishes = record {
     stops = λ c plan w. few_stop c (handling_most c) a d

@@ -1,8 +1,7 @@
 -- What was left to do pays for the polls of hubs.
-use Rattle.std.proofs.Common.{◌≡◌, ◌≤◌, ◌<◌, ◌⊎◌, ◌∙◌, inl, inr, refl, ap, arith, ℕ}
-use Rattle.std.proofs.Common.{zero, suc, ◌+◌, ◌*◌, Bool, true, false, cond, List, [], ◌∷◌, Option}
-use Rattle.std.proofs.Common.{None, Some, is_some, length, take, ltb, Result, Ok}
-use Rattle.std.specs.Prelude.{Any, IsErr, IsOk, IsSome}
+use Rattle.std.proofs.Common.{◌≡◌, ◌≤◌, ◌<◌, ◌⊎◌, ◌∙◌, inl, inr, refl, ap, arith, ℕ, zero, suc, ◌+◌}
+use Rattle.std.proofs.Common.{◌*◌, Bool, true, false, cond, List, [], ◌∷◌, Option, None, Some}
+use Rattle.std.proofs.Common.{is_some, length, take, ltb, Result, Ok, Any, IsErr, IsOk, IsSome}
 use Rattle.std.specs.List.{count_by}
 use Rattle.std.proofs.lemmas.Bool.{le-ltb, lt-ltb, ltb-true}
 use Rattle.std.proofs.lemmas.List.Sums.{count_by-le-length, sum_by-cons}
@@ -17,8 +16,8 @@ use Rattle.usb_backlog.proofs.Interface.{few-none}
 use Rattle.usb_pipe.specs.{PipeFault, ByteTold}
 use Rattle.usb_enum.specs.{HubFacts}
 use Rattle.usb_enum.proofs.Interface.{went_course, went_sound}
-use Rattle.usb_table.specs.{BitsOf, HubTold, KeepsPolled, finding_at, hub_facts_at}
-use Rattle.usb_table.specs.{pipes_at, PipesPolled}
+use Rattle.usb_table.specs.{BitsOf, HubTold, KeepsPolled, finding_at, hub_facts_at, pipes_at}
+use Rattle.usb_table.specs.{PipesPolled}
 use Rattle.usb_host.specs.{Agrees, hubs, drop_bound, Costs, HubPaid, Pays, PaysPart, RoundPaid}
 use Rattle.usb_host.specs.{ShowsTold, StopsWithin, ToldPaid, Weights, WorksOn, debt, event_weight}
 use Rattle.usb_host.specs.{hubs_most, poll_most, told_most, HostState, PlugsAt, WasPlugged}
@@ -26,9 +25,9 @@ use Rattle.usb_host.specs.{HostSteps, either, first_byte, DropsSound, IsDroppabl
 use Rattle.usb_host.specs.{PartStays, KeepsInvariant, table_in, HostFault, Round, Worked, Quiet}
 use Rattle.usb_host.proofs.services.HubServices.{hub_tells}
 use Rattle.usb_host.proofs.RoundParts.{hub_listed}
-use Rattle.usb_host.proofs.payments.Payments.{costs_more, costs_pays, few_stop}
-use Rattle.usb_host.proofs.payments.Payments.{is_err-if_ok, pays_costs, plain_costs, plain_pays}
-use Rattle.usb_host.proofs.payments.Payments.{ports_after, works_on-ports, stops_after, works_on}
+use Rattle.usb_host.proofs.payments.Payments.{costs_more, costs_pays, few_stop, is_err-if_ok}
+use Rattle.usb_host.proofs.payments.Payments.{pays_costs, plain_costs, plain_pays, ports_after}
+use Rattle.usb_host.proofs.payments.Payments.{works_on-ports, stops_after, works_on}
 use Rattle.usb_host.proofs.rests.Polls.{hub_there}
 use Rattle.usb_host.proofs.knowledge.ToldBits.{poll_shows}
 use Rattle.usb_host.proofs.devices.Plugs.{any_cases, any_none, there_was_plugged}
@@ -153,8 +152,7 @@ module _ (hub : List ℕ) (a b : HostState) (agrees : Agrees a.entries a.address
     pub told_pays : {done : Unit {0}} → PaysPart told_most (λ c done. ToldPaid hub bits c) b
         (Ok done) d
         → (HostInvariant a → HostInvariant b → b.world.fault ≡ None → ShowsTold hub bits b
-        ⊎ (a.world.taken + 1 ≤ b.world.taken))
-        → PaysPart poll_most (HubPaid hub) a (Ok Worked) d
+        ⊎ (a.world.taken + 1 ≤ b.world.taken)) → PaysPart poll_most (HubPaid hub) a (Ok Worked) d
     told_pays x shows = record {
       stops = told_stop x;
       pays = λ c plan w still.
@@ -268,8 +266,6 @@ module _ {X : Type 0} (p q : X → Bool) (more : (x : X) → p x ≡ true → q 
 
 module _ {X : Type 0} (p : X → Bool) where
   count_taken : (m n : ℕ) (xs : List X) → m ≤ n → count_by p (take m xs) ≤ count_by p (take n xs)
-  count_taken zero n xs le = omega arith
-  count_taken (suc m) n [] le = omega arith
   count_taken (suc m) zero (x ∷ xs) le = absurd (omega arith)
   count_taken (suc m) (suc n) (x ∷ xs) le =
       omega (
@@ -278,10 +274,9 @@ module _ {X : Type 0} (p : X → Bool) where
         sum_by-cons (λ (y : X). cond (p y) 1 0) x (take m xs),
         sum_by-cons (λ (y : X). cond (p y) 1 0) x (take n xs),
       )
+  count_taken _ n _ le = omega arith
 
   count_all : (n : ℕ) (xs : List X) → count_by p (take n xs) ≤ count_by p xs
-  count_all zero xs = omega arith
-  count_all (suc n) [] = omega arith
   count_all (suc n) (x ∷ xs) =
       omega (
         arith,
@@ -289,18 +284,17 @@ module _ {X : Type 0} (p : X → Bool) where
         sum_by-cons (λ (y : X). cond (p y) 1 0) x (take n xs),
         sum_by-cons (λ (y : X). cond (p y) 1 0) x xs,
       )
+  count_all _ _ = omega arith
 
 -- a device is plugged at a path of a lower rank
 abbrev pub plugs_below : ℕ → Action → Bool
 plugs_below r (Change (Plug path device)) = ltb (rank_of path) r
-plugs_below r (Change (Unplug path)) = false
-plugs_below r (Ask ask) = false
+plugs_below r _ = false
 
 below_later : (r s : ℕ) (a : Action) → r ≤ s → plugs_below r a ≡ true → plugs_below s a ≡ true
 below_later r s (Change (Plug path device)) le is = let less : rank_of path < r =
     ltb-true (rank_of path) r is in lt-ltb (rank_of path) s (omega arith)
-below_later r s (Change (Unplug path)) le is = absurd (cc is)
-below_later r s (Ask ask) le is = absurd (cc is)
+below_later r s _ le is = absurd (cc is)
 
 below_new : (r s : ℕ) (path : List ℕ) (a : Action) → r ≤ rank_of path → rank_of path < s
     → PlugsAt path a → (plugs_below r a ≡ false) × (plugs_below s a ≡ true)
@@ -309,8 +303,7 @@ below_new r s path (Change (Plug at device)) least less is =
       le-ltb (rank_of at) r (omega arith),
       lt-ltb (rank_of at) s (omega arith),
     )
-below_new r s path (Change (Unplug at)) least less is = absurd is
-below_new r s path (Ask ask) least less is = absurd is
+below_new r s path _ least less is = absurd is
 
 -- how many plugs that came are at a path of a lower rank
 abbrev pub plugged_below : List Event → ℕ → ℕ → ℕ

@@ -37,8 +37,7 @@ pub look_seen : {before : World} (a : HostState) (result : Result (Unit {0}) Enu
     (d : HostState) → PaysLook before d.world → LookPays before a result d
 look_seen a (Ok done) d x = seen x
 look_seen a (Err ParentLost) d x = inl (seen x)
-look_seen a (Err (Bus fault)) d x = tt
-look_seen a (Err Memory) d x = tt
+look_seen a _ d x = tt
 
 module _ {path : List ℕ} {port : KnownPort} (a b : HostState) (s : StandsAt path port a)
     (went : HostSteps clearing_bound a b) (i : HostInvariant a) (before : World)
@@ -51,8 +50,7 @@ module _ {path : List ℕ} {port : KnownPort} (a b : HostState) (s : StandsAt pa
     told_keeps ports told (x.backlog (claims a.entries) path (stands_at-claim s) i.owned tt),
     none,
   )
-  look_lost none (Bus fault) x = tt
-  look_lost none Memory x = tt
+  look_lost none _ x = tt
 
   module _ (changed : status.connection_changed ≡ true) (second : PortStatus)
       (cleared : ClearsConnection port.port second a.world b.world) (c : HostState)

@@ -1,7 +1,6 @@
 -- A host at work, and how what parts of a round cost is joined.
-use Rattle.std.proofs.Common.{◌≡◌, ◌≤◌, refl, arith, ℕ, ◌+◌, ◌*◌, Option, None, Some}
-use Rattle.std.proofs.Common.{Result, Ok, Err}
-use Rattle.std.specs.Prelude.{IfOk, IsErr}
+use Rattle.std.proofs.Common.{◌≡◌, ◌≤◌, refl, arith, ℕ, ◌+◌, ◌*◌, Option, None, Some, Result, Ok}
+use Rattle.std.proofs.Common.{Err, IfOk, IsErr}
 use Rattle.std.proofs.Math.Nat.{mul-le-mul_left}
 use Rattle.std.proofs.lemmas.List.Elements.{All-drop}
 use Rattle.usb_world.specs.{BusFault, PlanData, AtPorts, FollowsPlan, PlugsAtPort, AnyStep, Course}

@@ -1,6 +1,6 @@
 -- What was left to do pays for a round.
 use Rattle.std.proofs.Common.{◌≡◌, refl, sym, subst, arith, ℕ, Bool, List, None, Result, Ok, Err}
-use Rattle.std.specs.Prelude.{IfOk, IsErr, OnOk}
+use Rattle.std.proofs.Common.{IfOk, IsErr, OnOk}
 use Rattle.usb_world.specs.{PlanData}
 use Rattle.usb_enum.proofs.Interface.{went_sound}
 use Rattle.usb_host.specs.{Affords, Costs, PaysPart, PaysRound, RootsPaid, RoundPaid, Stops}

@@ -1,7 +1,6 @@
 -- What the serving of a port pays of what is left to do.
-use Rattle.std.proofs.Common.{◌≡◌, ◌⊎◌, inl, inr, refl, arith, ℕ, ◌+◌, ◌*◌, true, false}
-use Rattle.std.proofs.Common.{List, Result, Ok, Err}
-use Rattle.std.specs.Prelude.{OnOk}
+use Rattle.std.proofs.Common.{◌≡◌, ◌⊎◌, inl, inr, refl, arith, ℕ, ◌+◌, ◌*◌, true, false, List}
+use Rattle.std.proofs.Common.{Result, Ok, Err, OnOk}
 use Rattle.usb_port.specs.{PortStatus}
 use Rattle.usb_world.specs.{AtPorts}
 use Rattle.usb_tree.proofs.Interface.{decided}
@@ -30,8 +29,7 @@ module _ {path : List ℕ} {port : KnownPort} {a b : HostState} (s : StandsAt pa
   pub status_lost : (fault : EnumFault) → Watches port.port a.world (Err fault) b.world
       → ServePays path a (Err fault) b
   status_lost ParentLost x = inr (plain_of ports (x.backlog tt), few)
-  status_lost (Bus fault) x = tt
-  status_lost Memory x = tt
+  status_lost _ x = tt
 
   module _ {status : PortStatus} (x : Watches port.port a.world (Ok status) b.world) where
     pub told_there : PortStatusAt path status a.world b.world
@@ -53,8 +51,7 @@ module _ {path : List ℕ} {port : KnownPort} {a b : HostState} (s : StandsAt pa
     after_look (Ok done) c y = look_paid c y
     after_look (Err ParentLost) c (inl y) = inl (look_paid c y)
     after_look (Err ParentLost) c (inr y) = inr (y.0, then_none c y.1)
-    after_look (Err (Bus fault)) c y = tt
-    after_look (Err Memory) c y = tt
+    after_look _ c y = tt
 
     -- none was
     module _ (off : status.connection_changed ≡ false) (c : HostState)
@@ -95,5 +92,4 @@ module _ {path : List ℕ} {port : KnownPort} {a b : HostState} (s : StandsAt pa
                 (t.backlog (claims b.entries) path (stands_at-claim stands) owned tt),
             all_few,
           )
-      after_tidy order (Err (Bus fault)) t reset quiet = tt
-      after_tidy order (Err Memory) t reset quiet = tt
+      after_tidy order _ t reset quiet = tt

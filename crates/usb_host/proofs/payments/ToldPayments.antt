@@ -1,8 +1,7 @@
 -- What was left to do pays for the ports that had changed.
-use Rattle.std.proofs.Common.{◌≡◌, ◌≤◌, ◌<◌, ◌⊎◌, ◌∙◌, inl, inr, refl, sym, ap, arith, ℕ}
-use Rattle.std.proofs.Common.{zero, suc, below_more, ◌+◌, ◌-◌, ◌*◌, true, false, List, [], ◌∷◌}
-use Rattle.std.proofs.Common.{◌++◌, Option, None, Some, Result, Ok}
-use Rattle.std.specs.Prelude.{IsErr, slice_index_or}
+use Rattle.std.proofs.Common.{◌≡◌, ◌≤◌, ◌<◌, ◌⊎◌, ◌∙◌, inl, inr, refl, sym, ap, arith, ℕ, zero, suc}
+use Rattle.std.proofs.Common.{below_more, ◌+◌, ◌-◌, ◌*◌, true, false, List, [], ◌∷◌, ◌++◌, Option}
+use Rattle.std.proofs.Common.{None, Some, Result, Ok, IsErr, slice_index_or}
 use Rattle.std.proofs.lemmas.Option.{same_Some, slice_get-get_or}
 use Rattle.usb_port.specs.{PortState, off, has_bit, seen, PortStatus}
 use Rattle.usb_device.specs.{port_there}

@@ -1,7 +1,6 @@
 -- Where no event comes and nothing is asked of a port, it is as it was.
 use Rattle.std.proofs.Common.{◌≡◌, ◌≤◌, ◌&&◌, ◌||◌, ◌∙◌, ℕ, zero, suc, false, List, [], ◌∷◌, ◌++◌}
-use Rattle.std.proofs.Common.{refl, ap, arith}
-use Rattle.std.specs.Prelude.{IfSome}
+use Rattle.std.proofs.Common.{refl, ap, arith, IfSome}
 use Rattle.usb_device.specs.{Ports, ended, vacant, taken, port_at, place, port_there}
 use Rattle.usb_tree.specs.{pending, pending_at, has_power}
 use Rattle.usb_world.specs.{leaves_step, LeavesPortAlone, after_event, at_attempt, with_attempt}

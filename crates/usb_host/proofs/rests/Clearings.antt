@@ -2,7 +2,7 @@
 -- told to pass nothing on.
 use Rattle.std.proofs.Common.{◌≡◌, ◌⊎◌, inl, inr, ◌&&◌, ℕ, Bool, true, false, List, [], ◌∷◌, ◌++◌}
 use Rattle.std.proofs.Common.{Option, None, Some, is_some, option_map, refl, ap, sym, subst, ◌∙◌}
-use Rattle.std.specs.Prelude.{IsSome}
+use Rattle.std.proofs.Common.{IsSome}
 use Rattle.std.proofs.lemmas.Option.{same_Some}
 use Rattle.usb_port.specs.{PortState, is_attached, PortStatus, PortCall, ClearEnable}
 use Rattle.usb_port.specs.{ClearConnectionChange, called_port}
@@ -91,9 +91,7 @@ module _ (q : List ℕ) (n : ℕ) where
   step_meets : (s : Step) (w : World) → step_keeps_pending s w q ≡ true → has_power w.roots p ≡ true
       → Meets s w
   step_meets (attempt a) w sp on = attempt_meets a w sp on
-  step_meets (root_call c m) w sp on = meets_live w.roots refl on
-  step_meets event w sp on = meets_live w.roots refl on
-  step_meets (report line) w sp on = meets_live w.roots refl on
+  step_meets _ w sp on = meets_live w.roots refl on
 
   -- its hub's port has power on its whole way still, or a change is pending there
   above_step : (s : Step) (w : World) → ActsAt p ClearConnectionChange s w → IsUp w.roots q
@@ -242,15 +240,13 @@ decided_stays true p old new d (inl x) = inl (pends_there p ClearEnable old new 
 decided_stays true p old new d (inr x) = pick (done_stands p ClearEnable refl old new d x.0)
   where
     pick : StandsSo p ClearEnable (λ w v. port_there v.roots p
-        ≡ option_map (called_port ClearEnable) (port_there w.roots p)) old new
-        → Decides true new p
+        ≡ option_map (called_port ClearEnable) (port_there w.roots p)) old new → Decides true new p
     pick (inl y) = inr (y.0, some_of (state_there old.roots p) (state_there new.roots p) y.2 x.1)
     pick (inr y) = inl y
 decided_stays false p old new d (inl x) = inl (pends_there p ClearEnable old new refl d x)
 decided_stays false p old new d (inr x) = pick (done_stands p ClearEnable refl old new d x.0)
   where
     pick : StandsSo p ClearEnable (λ w v. port_there v.roots p
-        ≡ option_map (called_port ClearEnable) (port_there w.roots p)) old new
-        → Decides false new p
+        ≡ option_map (called_port ClearEnable) (port_there w.roots p)) old new → Decides false new p
     pick (inl y) = inr (y.0, none_same (state_there new.roots p) y.2 x.1)
     pick (inr y) = inl y

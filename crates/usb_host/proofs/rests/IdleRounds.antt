@@ -1,7 +1,7 @@
 -- Where nothing is listed, and no root port has changed, nothing is done.
 use Rattle.std.proofs.Common.{◌≡◌, ◌∙◌, refl, sym, ap, arith, zero, suc, Bool, true, false}
-use Rattle.std.proofs.Common.{if◌then◌else◌, Option, Result, Ok, Err, is_err}
-use Rattle.std.specs.Prelude.{ℕ, ◌-◌, List, [], ◌∷◌, slice_index_or}
+use Rattle.std.proofs.Common.{if◌then◌else◌, Option, Result, Ok, Err, is_err, ℕ, ◌-◌, List, [], ◌∷◌}
+use Rattle.std.proofs.Common.{slice_index_or}
 use Rattle.usb_port.specs.{PortState, off}
 use Rattle.usb_world.specs.{World, root_row, root_port_at, change_of, changes}
 use Rattle.usb_enum.specs.{Finding}
@@ -12,14 +12,13 @@ use Rattle.usb_host.proofs.rests.RestingRounds.{ok_is}
 changes-zero : (ps : List PortState) (i : ℕ) → changes ps ≡ 0
     → (slice_index_or ps i off).connection_changed ≡ false
 unfolding changes change_of
-changes-zero [] zero h = refl
-changes-zero [] (suc i) h = refl
 changes-zero (p ∷ ps) zero h = split p.connection_changed refl
   where
     split : (x : Bool) → p.connection_changed ≡ x → p.connection_changed ≡ false
     split true e = absurd (omega (arith, ap {B = ℕ} (λ (x : Bool). if x then 1 else 0) e))
     split false e = e
 changes-zero (p ∷ ps) (suc i) h = changes-zero ps i (omega arith)
+changes-zero [] _ h = refl
 
 changes-root_port : (w : World) (n : ℕ) → changes (root_row w) ≡ 0
     → (root_port_at w n).connection_changed ≡ false

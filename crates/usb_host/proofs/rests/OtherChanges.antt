@@ -1,7 +1,7 @@
 -- Changes of a hub and of its ports that ask for nothing but their clearing: a port of a world
 -- tells none.
-use Rattle.std.proofs.Common.{◌≡◌, ◌&&◌, Bool, true, false, not, refl, ap, ℕ, List}
-use Rattle.std.proofs.Common.{Option, is_some, Result, Ok}
+use Rattle.std.proofs.Common.{◌≡◌, ◌&&◌, Bool, true, false, not, refl, ap, ℕ, List, Option, is_some}
+use Rattle.std.proofs.Common.{Result, Ok}
 use Rattle.usb_port.specs.{PortStatus}
 use Rattle.usb_world.specs.{World}
 use Rattle.usb_bus.specs.{StepRun}

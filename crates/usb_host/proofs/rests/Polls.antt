@@ -2,8 +2,7 @@
 -- change of connection.
 use Rattle.std.proofs.Common.{◌≡◌, ◌≤◌, ◌==◌, ◌&&◌, ◌||◌, ◌∙◌, not, if◌then◌else◌, ℕ, zero, suc}
 use Rattle.std.proofs.Common.{Bool, true, false, List, [], ◌∷◌, ◌++◌, Option, None, Some, is_some}
-use Rattle.std.proofs.Common.{Result, Ok, Err, refl, ap, sym, arith, inl, inr}
-use Rattle.std.specs.Prelude.{IfSome}
+use Rattle.std.proofs.Common.{Result, Ok, Err, refl, ap, sym, arith, inl, inr, IfSome}
 use Rattle.std.specs.Option.{option_or}
 use Rattle.std.proofs.lemmas.Bool.{eq-eqb, ne_eqb}
 use Rattle.usb_port.specs.{PortState, has_change}
@@ -13,8 +12,8 @@ use Rattle.usb_descriptor.specs.{in_config, packet_size, config_of, config_after
 use Rattle.usb_descriptor.specs.{configuration_value, items_of}
 use Rattle.usb_descriptor.specs.declared.item.Item.{Item}
 use Rattle.usb_descriptor.proofs.Interface.{header_of}
-use Rattle.usb_device.specs.{tells_changes, State, Spec, Hub, IsSpec, IsHub, reach}
-use Rattle.usb_device.specs.{Location, path_to, reach_on, state_on, port_there}
+use Rattle.usb_device.specs.{tells_changes, State, Spec, Hub, IsSpec, IsHub, reach, Location}
+use Rattle.usb_device.specs.{path_to, reach_on, state_on, port_there}
 use Rattle.usb_tree.specs.{address_of, pending, IsSettled, deep_at}
 use Rattle.usb_world.specs.{hub_ports, World, roots_of}
 use Rattle.usb_world.proofs.Interface.{sane_spec}
@@ -99,9 +98,8 @@ pub record HubThere (path : List ℕ) (entries : Entries) (facts : HubFacts) : T
 
 hub_facts_in-device : (o : Option Finding) {facts : HubFacts} → hub_facts_in o ≡ Some facts
     → (device : Accepted) × (o ≡ Some (Device device)) × (device.hub ≡ Some facts)
-hub_facts_in-device None h = absurd (cc h)
-hub_facts_in-device (Some (Refused cause)) h = absurd (cc h)
 hub_facts_in-device (Some (Device device)) h = (device, refl, h)
+hub_facts_in-device _ h = absurd (cc h)
 
 pub hub_there : (path : List ℕ) (entries : Entries) (facts : HubFacts)
     → hub_facts_at path entries ≡ Some facts → HubThere path entries facts

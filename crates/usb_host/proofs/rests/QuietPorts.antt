@@ -1,6 +1,6 @@
 -- Ports none of which has its change bit set.
-use Rattle.std.proofs.Common.{◌≡◌, refl, arith, suc, zero, false}
-use Rattle.std.specs.Prelude.{ℕ, ◌+◌, ◌-◌, ◌<◌, ◌≤◌, List, [], ◌∷◌, length, slice_index_or}
+use Rattle.std.proofs.Common.{◌≡◌, refl, arith, suc, zero, false, ℕ, ◌+◌, ◌-◌, ◌<◌, ◌≤◌, List, []}
+use Rattle.std.proofs.Common.{◌∷◌, length, slice_index_or}
 use Rattle.usb_port.specs.{PortState, off}
 use Rattle.usb_world.specs.{World, root_row, roots_of, root_port_at, change_of, changes}
 

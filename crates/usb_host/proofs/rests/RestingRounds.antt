@@ -2,7 +2,7 @@
 use Rattle.std.proofs.Common.{◌≡◌, ◌≤◌, ◌⊎◌, ◌∙◌, inl, inr, refl, sym, ap, subst, arith, zero, suc}
 use Rattle.std.proofs.Common.{ℕ, ◌+◌, length-append, Bool, true, false, List, [], ◌∷◌, ◌++◌, length}
 use Rattle.std.proofs.Common.{Option, None, Some, Result, Ok, slice_get, is_some, if◌then◌else◌}
-use Rattle.std.specs.Prelude.{IfSome, IfNone, IsSome, IsSomeAnd}
+use Rattle.std.proofs.Common.{IfSome, IfNone, IsSome, IsSomeAnd}
 use Rattle.std.specs.Ordering.{is_eq}
 use Rattle.std.specs.declared.cmp.Ordering.{Ordering}
 use Rattle.std.specs.declared.cmp.Ordering.TheVariants.{Less, Equal, Greater}

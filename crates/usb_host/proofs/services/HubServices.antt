@@ -1,7 +1,7 @@
 -- How a poll of a hub, and what follows it, make up what was done at the hub.
 use Rattle.std.proofs.Common.{◌≡◌, ◌∙◌, refl, sym, ap, arith, Bool, true, false, ℕ, ◌+◌, ◌≤◌, ◌/◌}
 use Rattle.std.proofs.Common.{◌%◌, ◌^◌, ◌≢◌, bit_and, List, Option, None, Some, is_some, Ok, Err}
-use Rattle.std.specs.Prelude.{IsSome}
+use Rattle.std.proofs.Common.{IsSome}
 use Rattle.std.proofs.lemmas.Bool.{eq-eqb, ne_eqb}
 use Rattle.std.proofs.lemmas.Nat.{and_mask}
 use Rattle.usb_port.specs.{has_bit}
@@ -53,12 +53,9 @@ polled_on a b c r went more holds =
 -- a poll that failed took an attempt, where it was not the bus that failed
 pub failed_more : (old new : World) (fault : PipeFault) → ((told : _) → fault ≡ Bus told → ⊥)
     → FaultAfter 0 old fault new → old.attempts + 1 ≤ new.attempts
-failed_more old new Stalled other x = omega (arith, x.least)
-failed_more old new Busy other x = omega (arith, x.least)
-failed_more old new NoAnswer other x = omega (arith, x.least)
 failed_more old new Broken other x = absurd x
 failed_more old new (Bus told) other x = absurd (other told refl)
-failed_more old new Memory other x = omega (arith, x.least)
+failed_more old new _ other x = omega (arith, x.least)
 
 -- What it tells
 

@@ -1,7 +1,6 @@
 -- How the parts of a round join as what was done in it.
 use Rattle.std.proofs.Common.{◌≡◌, ◌∙◌, ◌+◌, arith, refl, sym, ap, subst, Bool, false, List, ℕ}
-use Rattle.std.proofs.Common.{Option, Some, Result, Ok, Err, is_err}
-use Rattle.std.specs.Prelude.{[], IfOk, IsErr}
+use Rattle.std.proofs.Common.{Option, Some, Result, Ok, Err, is_err, [], IfOk, IsErr}
 use Rattle.usb_table.specs.{ComesAfter}
 use Rattle.usb_world.specs.{PlanData, changes, root_row}
 use Rattle.usb_enum.proofs.Interface.{went_sound}

@@ -23,25 +23,22 @@ gained_on a b r gained =
 
 pub served_after : (result : Result (Unit {0}) EnumFault) (a b c : HostState) → AddsNoWork a b
     → ProgressOrLost result b c → ProgressOrLost result a c
-served_after (Ok done) a b c holds on = advances_after a b c holds on
-served_after (Err ParentLost) a b c holds on = advances_after a b c holds on
 served_after (Err (Bus fault)) a b c holds on = tt
 served_after (Err Memory) a b c holds on = tt
+served_after _ a b c holds on = advances_after a b c holds on
 
 -- a request for the status failed: a hub was asked
 pub status_lost_on : (port : HubPort) (a b : HostState) → OnlyBusSteps a b → (fault : EnumFault)
     → Shown port (Err fault) a.world b.world → ProgressOrLost (Err fault) a b
 status_lost_on (Root number) a b r fault shown = absurd (cc (shown.0))
 status_lost_on (External hub number) a b r ParentLost shown = gained_on a b r shown
-status_lost_on (External hub number) a b r (Bus fault) shown = tt
-status_lost_on (External hub number) a b r Memory shown = tt
+status_lost_on (External hub number) a b r _ shown = tt
 
 -- a request failed that had gained
 pub failed_on_way : (A : Type 0) (a b : HostState) (fault : EnumFault) → OnlyBusSteps a b
     → ProgressOnOk {A = A} (Err fault) a.world b.world → ProgressOrLost (Err fault) a b
 failed_on_way A a b ParentLost r gains = gained_on a b r gains
-failed_on_way A a b (Bus fault) r gains = tt
-failed_on_way A a b Memory r gains = tt
+failed_on_way A a b _ r gains = tt
 
 -- a port whose hub is lost is that hub's
 pub lost_on : (A : Type 0) (port : HubPort) (a b : HostState) (fault : EnumFault) → OnlyBusSteps a b
@@ -49,8 +46,7 @@ pub lost_on : (A : Type 0) (port : HubPort) (a b : HostState) (fault : EnumFault
     → FaultAllowedAt port fault b.world → ProgressOrLost (Err fault) a b
 lost_on A (Root number) a b ParentLost r gains told = absurd told
 lost_on A (External hub number) a b ParentLost r gains told = gained_on a b r (gains tt)
-lost_on A port a b (Bus fault) r gains told = tt
-lost_on A port a b Memory r gains told = tt
+lost_on A port a b _ r gains told = tt
 
 due_on : (port : HubPort) (a b : HostState) (status : PortStatus)
     → Shown port (Ok status) a.world b.world → IsDue a.world port → IsDue b.world port

@@ -1,8 +1,7 @@
 -- How the parts of a port's handling make up what was done at the port.
-use Rattle.std.proofs.Common.{◌≡◌, ◌∙◌, inl, inr, refl, sym, ap, arith, length}
-use Rattle.std.proofs.Common.{length-append, ◌<◌, ◌≤◌, not, cond, Bool, true, false, ℕ, ◌+◌, List}
-use Rattle.std.proofs.Common.{[], ◌∷◌, ◌++◌, Some, Result, Ok, Err}
-use Rattle.std.specs.Prelude.{OnOk}
+use Rattle.std.proofs.Common.{◌≡◌, ◌∙◌, inl, inr, refl, sym, ap, arith, length, length-append, ◌<◌}
+use Rattle.std.proofs.Common.{◌≤◌, not, cond, Bool, true, false, ℕ, ◌+◌, List, [], ◌∷◌, ◌++◌, Some}
+use Rattle.std.proofs.Common.{Result, Ok, Err, OnOk}
 use Rattle.std.specs.BTreeMap.{insert_entry}
 use Rattle.usb_port.specs.{path_cmp, parent_of, port_on_hub, IsPath, IsPortNumber, is_reset}
 use Rattle.usb_port.specs.{PortCall, PortStatus}
@@ -15,11 +14,11 @@ use Rattle.usb_hub.specs.{HubPort, IsAt, CommandsPort, PortCallDone, PortStatusA
 use Rattle.usb_enum.specs.{EnumFault, ParentLost, Bus, Memory, Lost, Finding}
 use Rattle.usb_enum.specs.declared.finding.Finding.TheVariants.{Refused}
 use Rattle.usb_table.specs.{KnownPort, Entries, is_at_or_below, without}
-use Rattle.usb_host.specs.{HostState, claims, HasLost, IsOwned, Watches, EndsAs}
-use Rattle.usb_host.specs.{StandsAt, HostProgress, HostSteps, OnlyBusSteps, HostInvariant}
-use Rattle.usb_host.specs.{DoneWhere, EndsAt, HandlesAt, LookedOnce, LookedOrLost}
-use Rattle.usb_host.specs.{LosesParent, Renews, ServedAt, ServedOrLost, StaysOrForgets, TidiesTold}
-use Rattle.usb_host.specs.{was_tidied, was_looked_at, was_lost, looked_once, lost_once, HostFault}
+use Rattle.usb_host.specs.{HostState, claims, HasLost, IsOwned, Watches, EndsAs, StandsAt}
+use Rattle.usb_host.specs.{HostProgress, HostSteps, OnlyBusSteps, HostInvariant, DoneWhere, EndsAt}
+use Rattle.usb_host.specs.{HandlesAt, LookedOnce, LookedOrLost, LosesParent, Renews, ServedAt}
+use Rattle.usb_host.specs.{ServedOrLost, StaysOrForgets, TidiesTold, was_tidied, was_looked_at}
+use Rattle.usb_host.specs.{was_lost, looked_once, lost_once, HostFault}
 use Rattle.usb_host.proofs.OwnedPorts.{owned_rests}
 use Rattle.usb_host.proofs.StepSums.{host_rests_then}
 use Rattle.usb_host.proofs.knowledge.ServedPorts.{rests_stands}
@@ -102,13 +101,11 @@ module _ {path : List ℕ} {port : KnownPort} {a b : HostState} (s : StandsAt pa
   -- the hub was lost as it was asked for the status
   pub status_failed : (fault : EnumFault) → ServedOrLost path a (Err fault) b
   status_failed ParentLost = inl stays
-  status_failed (Bus fault) = tt
-  status_failed Memory = tt
+  status_failed _ = tt
 
   pub cleared_failed : (fault : EnumFault) → LookedOrLost path a (Err fault) b
   cleared_failed ParentLost = inl stays
-  cleared_failed (Bus fault) = tt
-  cleared_failed Memory = tt
+  cleared_failed _ = tt
 
   module _ {status : PortStatus} (x : Watches port.port a.world (Ok status) b.world) where
     told_now : PortStatusAt path status a.world b.world
@@ -131,8 +128,7 @@ module _ {path : List ℕ} {port : KnownPort} {a b : HostState} (s : StandsAt pa
     })
     serves_tidied off (Err ParentLost) c q t =
         inl (ap (λ (h : HostState). h.entries) (host_rests_then a c r q))
-    serves_tidied off (Err (Bus fault)) c q t = tt
-    serves_tidied off (Err Memory) c q t = tt
+    serves_tidied off _ c q t = tt
 
     -- one was
     pub serves_looked : status.connection_changed ≡ true
@@ -140,15 +136,13 @@ module _ {path : List ℕ} {port : KnownPort} {a b : HostState} (s : StandsAt pa
         → (IsOwned b → LookedOrLost path b result c) → ServedOrLost path a result c
     serves_looked on (Ok done) c x = was_looked_at status b told_now on r (x owned_now)
     serves_looked on (Err ParentLost) c x = rw stays at (x owned_now)
-    serves_looked on (Err (Bus fault)) c x = tt
-    serves_looked on (Err Memory) c x = tt
+    serves_looked on _ c x = tt
 
 -- the hub was lost after what stood there was forgotten
 pub found_failed : (path : List ℕ) (a c d : HostState) (fault : EnumFault)
     → c.entries ≡ without path a.entries → d.entries ≡ c.entries → LookedOrLost path a (Err fault) d
 found_failed path a c d ParentLost gone same = inr (same ∙ gone)
-found_failed path a c d (Bus fault) gone same = tt
-found_failed path a c d Memory gone same = tt
+found_failed path a c d _ gone same = tt
 
 -- A port was handled
 
@@ -156,22 +150,18 @@ pub handled_at : (path : List ℕ) (served : Result (Unit {0}) EnumFault)
     (result : Result (Unit {0}) HostFault) (a b c : HostState) → EndsAs served result
     → EndsAt path served b result c → ServedOrLost path a served b → OnOk result (ServedAt path a c)
 handled_at path (Ok done) (Ok x) a b c ends left s = rw left s
-handled_at path (Ok done) (Err fault) a b c ends left s = tt
 handled_at path (Err ParentLost) (Ok x) a b c ends left s =
     was_lost (loses_then path a.entries s left)
-handled_at path (Err ParentLost) (Err fault) a b c ends left s = tt
 handled_at path (Err (Bus fault)) (Ok x) a b c ends left s = absurd (cc ends)
-handled_at path (Err (Bus fault)) (Err other) a b c ends left s = tt
 handled_at path (Err Memory) (Ok x) a b c ends left s = absurd (cc ends)
-handled_at path (Err Memory) (Err other) a b c ends left s = tt
+handled_at path _ _ a b c ends left s = tt
 
 pub handled_once : (path : List ℕ) (looked : Result (Unit {0}) EnumFault) (a b c : HostState)
     → EndsAs looked (Ok tt) → EndsAt path looked b (Ok tt) c → LookedOrLost path a looked b
     → LookedOnce path a c
 handled_once path (Ok done) a b c ends left s = looked_once (rw left s)
 handled_once path (Err ParentLost) a b c ends left s = lost_once (loses_then path a.entries s left)
-handled_once path (Err (Bus fault)) a b c ends left s = absurd (cc ends)
-handled_once path (Err Memory) a b c ends left s = absurd (cc ends)
+handled_once path _ a b c ends left s = absurd (cc ends)
 
 pub handles_at : (path : List ℕ) (due : Type 0) (result : Result (Unit {0}) HostFault)
     (a c : HostState) → OnOk result (due → HostProgress a c)

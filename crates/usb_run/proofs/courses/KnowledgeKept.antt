@@ -1,8 +1,7 @@
 -- What a host knows stays so over the parts of a run, and a host that has settled lists what is
 -- plugged.
 use Rattle.std.proofs.Common.{◌≡◌, ◌∙◌, sym, ap, subst, Bool, false, ℕ, List, Option, None, Some}
-use Rattle.std.proofs.Common.{Result, Ok}
-use Rattle.std.specs.Prelude.{is_some}
+use Rattle.std.proofs.Common.{Result, Ok, is_some}
 use Rattle.usb_device.specs.{Ports}
 use Rattle.usb_world.specs.declared.event.Ask.{Ask}
 use Rattle.usb_tree.specs.{pending}

@@ -1,7 +1,6 @@
 -- The addresses that devices hold at the beginning of a run, and after an event.
 use Rattle.std.proofs.Common.{◌≡◌, refl, sym, ap, subst, false, ℕ, List, Option, None, Some, Result}
-use Rattle.std.proofs.Common.{Err}
-use Rattle.std.specs.Prelude.{OnOk, IsSome, is_some}
+use Rattle.std.proofs.Common.{Err, OnOk, IsSome, is_some}
 use Rattle.usb_world.specs.declared.event.Ask.{Ask}
 use Rattle.usb_world.specs.{BusFault, LimitReached, Memory, TraceFailed, PlanData, TookEvent, after}
 use Rattle.usb_world.specs.{event, opening, World}
@@ -16,8 +15,7 @@ untouched plan = record { single = refl; settled = opening_settled plan; none = 
 -- what an event leaves of a host, whose bus stands for the world `mid` before it
 pub owning_event : (h : HostState) (mid v : World) (t : Option (List ℕ))
     (result : Result (Option (Option Ask)) BusFault) → mid ≡ h.world → h.stopped ≡ false
-    → TookEvent mid result v
-    → OnOk result (v ≡ after event mid)
+    → TookEvent mid result v → OnOk result (v ≡ after event mid)
     → (result ≡ Err Memory → mid.fault ≡ None → v ≡ record mid { fault = Some Memory })
     → (result ≡ Err TraceFailed → mid.fault ≡ None
     → v ≡ record (after event mid) { fault = Some TraceFailed })

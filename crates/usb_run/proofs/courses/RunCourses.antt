@@ -1,6 +1,6 @@
 -- As long as the bus is at work, what went over a run is a course of steps.
-use Rattle.std.proofs.Common.{◌≡◌, ℕ, List, Bool, Option, None, Some, Result, Ok, Err, ap}
-use Rattle.std.proofs.Common.{sym, subst}
+use Rattle.std.proofs.Common.{◌≡◌, ℕ, List, Bool, Option, None, Some, Result, Ok, Err, ap, sym}
+use Rattle.std.proofs.Common.{subst}
 use Rattle.usb_world.specs.declared.event.Ask.{Ask}
 use Rattle.usb_world.specs.{Attempt, BusFault, Outcome, AnyStep, Course, here, step, attempt}
 use Rattle.usb_world.specs.{root_call, event, after, World}

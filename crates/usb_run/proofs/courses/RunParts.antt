@@ -1,7 +1,6 @@
 -- How the parts of a run join, and what they leave of the counts.
 use Rattle.std.proofs.Common.{◌≡◌, refl, sym, ap, subst, arith, ℕ, ◌+◌, ◌≤◌, ◌<◌, List, Bool, true}
-use Rattle.std.proofs.Common.{false, Option, None, Some, Result, Ok, Err}
-use Rattle.std.specs.Prelude.{IsSome, IsTrue}
+use Rattle.std.proofs.Common.{false, Option, None, Some, Result, Ok, Err, IsSome, IsTrue}
 use Rattle.usb_world.specs.declared.event.Ask.{Ask}
 use Rattle.usb_world.specs.{BusFault, World, AttemptsWithin, to_come}
 use Rattle.usb_world.proofs.Interface.{spends_none, spends_then}
@@ -113,8 +112,7 @@ silent_same (cleared path told asks is came) = cc is
 
 -- one event more that made no item
 pub ran_silent : {a b c : HostState} (due : Option Ask) (d : HostState) → Ran a b
-    → Arrives b (Ok (Some due)) c
-    → IsItemOf due None c d → Ran a d
+    → Arrives b (Ok (Some due)) c → IsItemOf due None c d → Ran a d
 ran_silent {a} {b} {c} due d before arrives is =
     let same = silent_same (answered due None c d is) in
     subst (Ran a) (sym same) (run.silent {h = b} {k = c} due before arrives

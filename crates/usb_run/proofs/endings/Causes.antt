@@ -1,7 +1,6 @@
 -- Why a run ended: that a fault has its cause, and that the plan's limit stays the bus's.
 use Rattle.std.proofs.Common.{◌≡◌, ◌≢◌, ◌∙◌, refl, sym, ap, subst, List, Bool, Some, Result, Ok}
-use Rattle.std.proofs.Common.{Err, IsErrAnd}
-use Rattle.std.specs.Prelude.{IfErr}
+use Rattle.std.proofs.Common.{Err, IsErrAnd, IfErr}
 use Rattle.usb_world.specs.declared.types.BusFault.TheVariants as bus
 use Rattle.usb_world.specs.{World}
 use Rattle.usb_host.specs.{HostState}

@@ -1,8 +1,7 @@
 -- Where a plan's run ends.
 use Rattle.std.proofs.Common.{◌≡◌, ◌∙◌, refl, sym, ap, ap₂, subst, Ok, IsErrAnd, ℕ, zero, suc, List}
-use Rattle.std.proofs.Common.{Option, Result, Err, false}
+use Rattle.std.proofs.Common.{Option, Result, Err, false, All, IfErr}
 use Rattle.std.proofs.lemmas.List.Elements.{All-cons, All-nil}
-use Rattle.std.specs.Prelude.{All, IfErr}
 use Rattle.usb_device.specs.{new_ports, row_of}
 use Rattle.usb_world.specs.{PlanData, IsPlan, AtPorts, opening, BusFault, LimitReached, Memory}
 use Rattle.usb_world.specs.{TraceFailed, World, Failed}

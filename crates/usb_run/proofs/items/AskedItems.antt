@@ -1,6 +1,5 @@
 -- What a run makes of an event, by what the event asks.
-use Rattle.std.proofs.Common.{◌≡◌, refl, sym, subst, false, Option, Some, Result, Ok, Err}
-use Rattle.std.proofs.Common.{IsErrAnd}
+use Rattle.std.proofs.Common.{◌≡◌, refl, sym, subst, false, Option, Some, Result, Ok, Err, IsErrAnd}
 use Rattle.usb_world.specs.declared.event.Ask.{Ask}
 use Rattle.usb_world.specs.{Show}
 use Rattle.usb_host.specs.{HostState}
@@ -28,8 +27,7 @@ listing_asked ask h item is made running =
 
 -- and where memory was refused for it
 pub listing_refused : (ask : Ask) (h : HostState) (result : Result (Option Item) RunFault)
-    (fault : RunFault)
-    → ask ≡ Show → IsErrAnd result (λ e. e ≡ fault) → fault ≡ Memory
+    (fault : RunFault) → ask ≡ Show → IsErrAnd result (λ e. e ≡ fault) → fault ≡ Memory
     → ItemAsked (Some ask) h result h
 listing_refused ask h result fault is failed memory =
     let refused = subst (λ f. IsErrAnd result (λ e. e ≡ f)) memory failed in

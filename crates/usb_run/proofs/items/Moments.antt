@@ -29,15 +29,13 @@ use Rattle.usb_run.proofs.items.ToldTransfers.{told_sent, told_received, told_cl
 -- What is asked changes nothing that is plugged
 
 ask_calm : (a : Action) (ask : Ask) (devices : List Spec) (k : Ports)
-    → Some (ask_of a) ≡ Some (Some ask)
-    → after_change a devices k ≡ k
+    → Some (ask_of a) ≡ Some (Some ask) → after_change a devices k ≡ k
 unfolding ask_of
 ask_calm (act.Change change) ask devices k e = cc e
 ask_calm (act.Ask of_ask) ask devices k e = refl
 
 first_calm : (ask : Ask) (events : List Event) (w : World) → next_due (record w { left = events })
-    ≡ Some (Some ask)
-    → (after_first_event events w).roots ≡ w.roots
+    ≡ Some (Some ask) → (after_first_event events w).roots ≡ w.roots
 unfolding next_due after_event
 first_calm ask [] w e = refl
 first_calm ask (x ∷ events) w e = ask_calm x.action ask w.devices w.roots e
@@ -90,13 +88,11 @@ reaches_asked {h} {k} {ask} reaches =
 
 -- an item of an event that asked for it, by a host that had settled
 pub item_right : (due : Option Ask) (made : Item) (h mid k : HostState)
-    → Reaches h (Ok (Some due)) mid
-    → IsItemOf due (Some made) mid k → TellsRight due made mid k
+    → Reaches h (Ok (Some due)) mid → IsItemOf due (Some made) mid k → TellsRight due made mid k
 item_right due made h mid k reaches is = right (answered due (Some made) mid k is)
   where
     tells : (of_ask : Option Ask) (answer : Item) → due ≡ of_ask → Some made ≡ Some answer
-        → TellsRight of_ask answer mid k
-        → TellsRight due made mid k
+        → TellsRight of_ask answer mid k → TellsRight due made mid k
     tells of_ask answer asks e so =
         let same : made ≡ answer = cc e in
         subst (λ d. TellsRight d made mid k) (sym asks)

@@ -1,12 +1,11 @@
 -- How a report has the items of a run.
 use Rattle.std.proofs.Common.{◌≡◌, ◌≢◌, ◌∙◌, refl, sym, ap, subst, inl, inr, arith, ℕ, ◌-◌, ◌≤◌}
 use Rattle.std.proofs.Common.{◌<◌, length, List, [], ◌∷◌, ◌++◌, reverse, Bool, false, Option, None}
-use Rattle.std.proofs.Common.{Some, Result, Ok, Err, IsErrAnd}
+use Rattle.std.proofs.Common.{Some, Result, Ok, Err, IsErrAnd, All, IfErr, IfOk}
 use Rattle.std.proofs.lemmas.Grind.{reverse_onto}
 use Rattle.std.proofs.lemmas.List.{get_or-reverse, length-reverse}
 use Rattle.std.proofs.lemmas.List.Elements.{All-from_recursion}
 use Rattle.std.specs.List.{AllByRecursion}
-use Rattle.std.specs.Prelude.{All, IfErr, IfOk}
 use Rattle.usb_world.specs.{PlanData, AtMostTwoRunning, World, AttemptsWithin}
 use Rattle.usb_world.proofs.Interface.{spends_none}
 use Rattle.usb_host.specs.{HostState}

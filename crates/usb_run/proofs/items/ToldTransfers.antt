@@ -1,8 +1,7 @@
 -- What a run tells of a transfer is what the device at its path did.
 use Rattle.std.proofs.Common.{◌≡◌, ◌≢◌, ◌∙◌, refl, sym, ap, subst, Bool, false, ℕ, List, None}
-use Rattle.std.proofs.Common.{Result, Ok, Err}
+use Rattle.std.proofs.Common.{Result, Ok, Err, is_ok}
 use Rattle.std.specs.Global.{Vec}
-use Rattle.std.specs.Prelude.{is_ok}
 use Rattle.usb_world.specs.{BusFault, World}
 use Rattle.usb_table.specs.declared.fault.TableFault.TheVariants as table
 use Rattle.usb_table.specs.{TableFault, TransferFault, Pipes, Delivered, Collected, Restarted}
@@ -33,8 +32,7 @@ bytes_told (Err table.Memory) told e = absurd (cc e)
 
 -- after a fault of the bus none is told
 pub no_bus_fault : {A : Type 0} (result : Result A TableFault) (told : Result A TransferFault)
-    → transfer_ended (host_told result) ≡ Ok told → (why : BusFault)
-    → result ≢ Err (table.Bus why)
+    → transfer_ended (host_told result) ≡ Ok told → (why : BusFault) → result ≢ Err (table.Bus why)
 no_bus_fault result told e why is = let none = sym (ap (λ r. transfer_ended (host_told r)) is)
     ∙ e in cc none
 

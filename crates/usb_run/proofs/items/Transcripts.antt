@@ -109,8 +109,7 @@ puts_line {h} {k} {l} text line more puts rests same appends is = record {
 -- a text and a front of a line behind it
 pub cuts_line : {h k l : HostState} (text line rest all : List ℕ) (fault : BusFault)
     → AppendsText text h k → OnlyBusSteps k l → l.world ≡ record k.world { fault = Some fault }
-    → AppendsFront k.trace l.trace line
-    → all ≡ text ++ (line ++ rest) → CutsText all h l
+    → AppendsFront k.trace l.trace line → all ≡ text ++ (line ++ rest) → CutsText all h l
 cuts_line {h} {k} {l} text line rest all fault puts rests fails front is =
     let kept : l.world ≡ record k.world { fault = l.world.fault } = fails
     ∙ ap (λ (f : Option BusFault). record k.world { fault = f })

@@ -1,8 +1,7 @@
 -- A plan of at most 127 plugs whose limit is its bound never comes to its limit.
 use Rattle.std.proofs.Common.{◌≡◌, ◌≢◌, ◌≤◌, ℕ, zero, suc, ◌+◌, refl, subst, arith, inl, inr, List}
-use Rattle.std.proofs.Common.{length, false, Option, Result, Err}
+use Rattle.std.proofs.Common.{length, false, Option, Result, Err, IfErr}
 use Rattle.std.proofs.Math.Nat.{le_trans}
-use Rattle.std.specs.Prelude.{IfErr}
 use Rattle.std.specs.List.{sum_by}
 use Rattle.usb_world.specs.{PlanData}
 use Rattle.usb_host.specs.{Weights, event_weight, plug_events, HostState}
@@ -18,8 +17,7 @@ use Rattle.usb_run.proofs.ledgers.VoidRuns.{Void, carries_void, opens_void}
 -- the attempts of a run, and two more
 run_enough : {A E : Type 0} (mode : Mode) (words : RunFault → E) (CutsAt : E → Type 0)
     (plan : PlanData) (before : Option (List ℕ)) (first last : HostState) (items : List Item)
-    (result : Result A E)
-    → plug_events plan.events ≤ 127 → Opens plan before first
+    (result : Result A E) → plug_events plan.events ≤ 127 → Opens plan before first
     → RunsTo mode words CutsAt false first items result last
     → last.world.attempts + 2 ≤ enough_for (length plan.events)
     (greatest_total plan.devices plan.events) (sum_by moved plan.events)

@@ -312,13 +312,11 @@ module _ (c : Weights) (plan : PlanData) where
     transfer_paid = record { few = transfer_few; affords = transfer_affords; owes = transfer_owed }
 
   asked_paid : (a : HostState) {due asked : Option Ask} → due ≡ asked
-      → Paid c plan (c.polls + room_of due) a
-      → Paid c plan (c.polls + room_of asked) a
+      → Paid c plan (c.polls + room_of due) a → Paid c plan (c.polls + room_of asked) a
   asked_paid a asks x = subst (λ d. Paid c plan (c.polls + room_of d) a) asks x
 
   calls_paid : (a b : HostState) (due : Option Ask) → Paid c plan (c.polls + room_of due) a
-      → Calls due a b
-      → Paid c plan c.polls b
+      → Calls due a b → Paid c plan c.polls b
   calls_paid a b due x (no_call same) =
       subst (Paid c plan c.polls) (sym same)
       (paid_less a (c.polls + room_of due) c.polls (omega arith) x)
@@ -330,8 +328,7 @@ module _ (c : Weights) (plan : PlanData) where
       transfer_paid clear_bound a b result (asked_paid a asks x) tells
 
   calls_few : (a b : HostState) (due : Option Ask) → Paid c plan (c.polls + room_of due) a
-      → Calls due a b
-      → Few all b
+      → Calls due a b → Few all b
   calls_few a b due x (no_call same) = subst (Few all) (sym same) x.few
   calls_few a b due x (sends path bytes result asks tells) =
       transfer_few (transaction_bound * length bytes) a b result (asked_paid a asks x) tells
@@ -341,13 +338,11 @@ module _ (c : Weights) (plan : PlanData) where
       transfer_few clear_bound a b result (asked_paid a asks x) tells
 
   item_paid : (a b : HostState) (due : Option Ask) (item : Option Item)
-      → Paid c plan (c.polls + room_of due) a
-      → IsItemOf due item a b → Paid c plan c.polls b
+      → Paid c plan (c.polls + room_of due) a → IsItemOf due item a b → Paid c plan c.polls b
   item_paid a b due item x is = calls_paid a b due x (item_calls (answered due item a b is))
 
   stop_few : (a b : HostState) (due : Option Ask) (fault : RunFault)
-      → Paid c plan (c.polls + room_of due) a
-      → StopsAt due fault a b → Few all b
+      → Paid c plan (c.polls + room_of due) a → StopsAt due fault a b → Few all b
   stop_few a b due fault x stops = calls_few a b due x (stop_calls due fault a b stops)
 
   -- The trace

@@ -1,7 +1,6 @@
 -- What a plan's bound is made of, and what a host that was just made owes.
 use Rattle.std.proofs.Common.{◌≡◌, ◌≤◌, ℕ, zero, suc, ◌*◌, ◌-◌, ◌^◌, List, [], ◌∷◌, length}
-use Rattle.std.proofs.Common.{slice_get, Option, None, Some, false, refl, arith}
-use Rattle.std.specs.Prelude.{All, IfSome}
+use Rattle.std.proofs.Common.{slice_get, Option, None, Some, false, refl, arith, All, IfSome}
 use Rattle.std.specs.List.{sum_by}
 use Rattle.std.proofs.lemmas.List.Elements.{All-cons, All-nil}
 use Rattle.usb_device.specs.{Spec, said_lengths, new_ports, row_of}

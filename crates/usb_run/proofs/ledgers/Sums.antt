@@ -6,8 +6,7 @@ use Rattle.usb_backlog.proofs.Interface.{within_bound}
 -- what is left to do after so many events, where each adds seven looks and one change that asks for
 -- none
 pub debt_grown : (a c k l s h l' s' h' t t' : ℕ) → l' + 7 * t ≤ l + 7 * t' → s' + t ≤ s + t'
-    → h' ≤ h
-    → a * l' + c * s' + k * h' + (7 * a + c) * t ≤ a * l + c * s + k * h + (7 * a + c) * t'
+    → h' ≤ h → a * l' + c * s' + k * h' + (7 * a + c) * t ≤ a * l + c * s + k * h + (7 * a + c) * t'
 debt_grown a c k l s h l' s' h' t t' looks strays hubs =
     let x = mul-le-mul_left a looks in
     let y = mul-le-mul_left c strays in

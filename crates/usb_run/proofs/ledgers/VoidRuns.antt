@@ -1,8 +1,7 @@
 -- A plan without events: no attempt is made, where rounds do nothing as long as there is nothing to
 -- do.
 use Rattle.std.proofs.Common.{◌≡◌, ◌≤◌, ℕ, refl, sym, subst, arith, List, [], Option, Some, Result}
-use Rattle.std.proofs.Common.{Ok, Err}
-use Rattle.std.specs.Prelude.{length}
+use Rattle.std.proofs.Common.{Ok, Err, length}
 use Rattle.usb_world.specs.declared.event.Ask.{Ask}
 use Rattle.usb_world.specs.{PlanData, changes, root_row, to_come}
 use Rattle.usb_host.specs.{HostFault, Round, HostState, RoundTells}

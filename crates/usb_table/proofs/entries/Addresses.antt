@@ -1,6 +1,6 @@
 -- What the keys of addresses tell of the entries.
-use Rattle.std.proofs.Common.{◌≡◌, ◌≢◌, ◌∙◌, refl, sym, ap, ℕ, List, Option, Some, None}
-use Rattle.std.specs.Prelude.{IsSome, is_some}
+use Rattle.std.proofs.Common.{◌≡◌, ◌≢◌, ◌∙◌, refl, sym, ap, ℕ, List, Option, Some, None, IsSome}
+use Rattle.std.proofs.Common.{is_some}
 use Rattle.std.specs.Option.{option_map}
 use Rattle.usb_enum.specs.{Finding}
 use Rattle.usb_table.specs.{address_found, HasDevice, HasNoDevice, Slots, PathKeys, AddressKeys}

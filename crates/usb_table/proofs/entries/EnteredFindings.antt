@@ -78,8 +78,7 @@ module _ (path : List ℕ) (finding : Finding) (table : Table) (w : World) where
   -- to a device whose finding is its own, where it is reachable
   pub level_entered : (tier supply : ℕ) → ((device : Accepted) (s : State) → finding ≡ Device device
       → reach w.roots path ≡ true → state_there w.roots path ≡ Some s → IsSpec s.spec
-      × IsOwn tier supply device s)
-      → InSyncAt path (entered path finding table) w
+      × IsOwn tier supply device s) → InSyncAt path (entered path finding table) w
   level_entered tier supply own = record { level = by_finding finding refl }
     where
       by_finding : (f : Finding) → finding ≡ f → (device : Accepted) (s : State)

@@ -1,7 +1,7 @@
 -- Entries that come and go under their keys.
 use Rattle.std.proofs.Common.{◌≡◌, ◌∙◌, refl, sym, ap, inl, inr, true, false, Bool, ℕ, cond, List}
-use Rattle.std.proofs.Common.{[], ◌∷◌, Option, Some, None, All}
-use Rattle.std.specs.Prelude.{◌⊎◌, ◌||◌, IsSome, IfSome, unwrap_or}
+use Rattle.std.proofs.Common.{[], ◌∷◌, Option, Some, None, All, ◌⊎◌, ◌||◌, IsSome, IfSome}
+use Rattle.std.specs.Prelude.{unwrap_or}
 use Rattle.std.specs.Map.{lookup, keys_of, values_of, remove_entry}
 use Rattle.std.specs.BTreeMap.{is_at, insert_entry}
 use Rattle.std.specs.List.{list_any}
@@ -159,8 +159,7 @@ same_table entries others pipes more e f = ap (λ es. record { entries = es; pip
 
 back_step : (address key : ℕ) (e : ℕ × ℕ) (es : AddressKeys) → is_at (nat_cmp address) e.0 ≡ false
     → remove_entry (is_at (nat_cmp address)) (insert_entry nat_cmp es address key) ≡ es
-    → (o : Ordering) → nat_cmp address e.0 ≡ o
-    → remove_entry (is_at (nat_cmp address))
+    → (o : Ordering) → nat_cmp address e.0 ≡ o → remove_entry (is_at (nat_cmp address))
     (match_ordering o ((address, key) ∷ e ∷ es) ((e.0, key) ∷ es)
     (e ∷ insert_entry nat_cmp es address key)) ≡ e ∷ es
 back_step address key e es apart more Less is = rw (number_itself address) refl

@@ -1,7 +1,7 @@
 -- An entry that is to come has no key yet, and so has its address.
 use Rattle.std.proofs.Common.{◌≡◌, ◌∙◌, refl, sym, ap, subst, inl, inr, true, false, Bool, ℕ, ◌+◌}
-use Rattle.std.proofs.Common.{cond, List, [], ◌∷◌, Option, Some, None, arith}
-use Rattle.std.specs.Prelude.{nat_eq, IfSome, is_some}
+use Rattle.std.proofs.Common.{cond, List, [], ◌∷◌, Option, Some, None, arith, nat_eq, IfSome}
+use Rattle.std.proofs.Common.{is_some}
 use Rattle.std.specs.Map.{lookup}
 use Rattle.std.specs.BTreeMap.{is_at}
 use Rattle.std.specs.List.{list_any, count_by}

@@ -33,8 +33,7 @@ first_from kind last (e ∷ es) = cond (is_after last e.0 && kind e.1) (Some e.0
 
 less_is : (o : Ordering) → is_lt o ≡ true → o ≡ Less
 less_is Less h = refl
-less_is Equal h = absurd cc
-less_is Greater h = absurd cc
+less_is _ h = absurd cc
 
 after_if : (last : Option (List ℕ)) (path : List ℕ) → is_after last path ≡ true
     → ComesAfter last path

@@ -1,7 +1,7 @@
 -- Tables of which one has one entry more than the other.
 use Rattle.std.proofs.Common.{◌≡◌, ◌≢◌, ◌∙◌, sym, ap, subst, inl, inr, false, ℕ, cond, List, Option}
-use Rattle.std.proofs.Common.{Some, None}
-use Rattle.std.specs.Prelude.{◌⊎◌, IsSome, IfSome, is_some, option_map, unwrap_or}
+use Rattle.std.proofs.Common.{Some, None, ◌⊎◌, IsSome, IfSome, is_some, option_map}
+use Rattle.std.specs.Prelude.{unwrap_or}
 use Rattle.std.specs.Map.{keys_of, remove_entry}
 use Rattle.std.specs.BTreeMap.{is_at, insert_entry}
 use Rattle.std.specs.List.Sorted.{IsStrictlySortedBy}

@@ -1,8 +1,7 @@
 -- What is known of a port hangs on its hub alone.
 use Rattle.std.proofs.Common.{◌≡◌, ◌∙◌, refl, sym, ap, subst, arith, length-append, true, false}
 use Rattle.std.proofs.Common.{Bool, ℕ, ◌+◌, ◌<◌, List, [], ◌∷◌, length, not, Option, Some, None}
-use Rattle.std.proofs.Common.{◌||◌, ◌≤◌, if◌then◌else◌}
-use Rattle.std.specs.Prelude.{nat_eq, nat_le}
+use Rattle.std.proofs.Common.{◌||◌, ◌≤◌, if◌then◌else◌, nat_eq, nat_le}
 use Rattle.std.specs.Map.{lookup}
 use Rattle.std.specs.BTreeMap.{is_at}
 use Rattle.std.specs.Cmp.Lexicographic.{pointwise, same_text}
@@ -78,12 +77,10 @@ port_of_hub-some : (device : Accepted) (below_hub : Bool) (n : ℕ) (port : Know
 port_of_hub-some device below_hub n port None told e = absurd (cc e)
 port_of_hub-some device below_hub n port (Some facts) told e = pick (nat_le n facts.ports) refl e
   where
-    pick : (fits : Bool) → nat_le n facts.ports ≡ fits
-        → (if fits then Some (record {
-          port = External (target_of device below_hub) n;
-          supply = facts.supply;
-        }) else None) ≡ Some port
-        → FoundPort (Some (Device device)) below_hub n port
+    pick : (fits : Bool) → nat_le n facts.ports ≡ fits → (if fits then Some (record {
+      port = External (target_of device below_hub) n;
+      supply = facts.supply;
+    }) else None) ≡ Some port → FoundPort (Some (Device device)) below_hub n port
     pick true fits e = record {
       device = device;
       facts = facts;
@@ -96,7 +93,6 @@ port_of_hub-some device below_hub n port (Some facts) told e = pick (nat_le n fa
 
 pub port_found-some : (found : Option Finding) (below_hub : Bool) (n : ℕ) (port : KnownPort)
     → port_found found below_hub n ≡ Some port → FoundPort found below_hub n port
-port_found-some None below_hub n port e = absurd (cc e)
-port_found-some (Some (Refused cause)) below_hub n port e = absurd (cc e)
 port_found-some (Some (Device device)) below_hub n port e =
     port_of_hub-some device below_hub n port device.hub refl e
+port_found-some _ below_hub n port e = absurd (cc e)

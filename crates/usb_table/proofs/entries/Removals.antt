@@ -1,6 +1,6 @@
 -- Entries that are taken out.
-use Rattle.std.proofs.Common.{◌≡◌, ◌∙◌, refl, ap, arith, subst, sym}
-use Rattle.std.specs.Prelude.{ℕ, ◌+◌, List, [], ◌∷◌, length, Bool, true, false, cond, not, Some}
+use Rattle.std.proofs.Common.{◌≡◌, ◌∙◌, refl, ap, arith, subst, sym, ℕ, ◌+◌, List, [], ◌∷◌, length}
+use Rattle.std.proofs.Common.{Bool, true, false, cond, not, Some}
 use Rattle.std.specs.List.{filter}
 use Rattle.std.specs.Map.{lookup, remove_entry}
 use Rattle.std.specs.BTreeMap.{is_at}

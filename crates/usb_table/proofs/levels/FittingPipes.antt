@@ -2,9 +2,8 @@
 use Rattle.usb_device.specs.{Location, EndpointState, Registers, advanced, bulk_at, tells_changes}
 use Rattle.usb_device.specs.{SourceAt, PollAt, NeverTold, OnlyStage, OnlySink, OnlySource, State}
 use Rattle.usb_device.specs.{Spec}
-use Rattle.std.proofs.Common.{◌≡◌, ◌∙◌, refl, sym, ap, subst, Bool, true, false}
-use Rattle.std.specs.Prelude.{ℕ, ◌+◌, ◌==◌, ◌<◌, ◌&&◌, List, [], length, Option, None, Some, Result}
-use Rattle.std.specs.Prelude.{Ok, Err, IsOk}
+use Rattle.std.proofs.Common.{◌≡◌, ◌∙◌, refl, sym, ap, subst, Bool, true, false, ℕ, ◌+◌, ◌==◌, ◌<◌}
+use Rattle.std.proofs.Common.{◌&&◌, List, [], length, Option, None, Some, Result, Ok, Err, IsOk}
 use Rattle.std.specs.Global.{Vec}
 use Rattle.arrayvec.specs.ArrayVec.{ArrayVec}
 use Rattle.usb_packet.specs.{Toggle}

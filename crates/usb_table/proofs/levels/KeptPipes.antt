@@ -1,7 +1,7 @@
 -- A transfer leaves pipes to the same endpoints.
-use Rattle.std.proofs.Common.{◌≡◌, ◌≢◌, refl, sym, inl, inr, ap, subst, ◌∙◌}
+use Rattle.std.proofs.Common.{◌≡◌, ◌≢◌, refl, sym, inl, inr, ap, subst, ◌∙◌, ◌⊎◌, ℕ, List, [], ◌∷◌}
+use Rattle.std.proofs.Common.{Bool, true, false, Option, Some, None}
 use Rattle.std.specs.Option.{option_map}
-use Rattle.std.specs.Prelude.{◌⊎◌, ℕ, List, [], ◌∷◌, Bool, true, false, Option, Some, None}
 use Rattle.usb_pipe.specs.{Bulk, bulk_made, Interrupt, interrupt_made, Condition}
 use Rattle.usb_pipe.specs.declared.condition.Condition.TheVariants.{Ready, Halted, Broken}
 use Rattle.usb_enum.specs.{Accepted, Finding}
@@ -10,14 +10,12 @@ use Rattle.usb_table.specs.{BulkPipes, Pipes, Hub, Function, Absent, out_endpoin
 use Rattle.usb_table.specs.{IsStatusPipe, IsPipe, ArePipesTo, ArePipesOf, both_made, pipes_made}
 
 pub broken_or_not : (c : Condition) → (c ≡ Broken) ⊎ (c ≢ Broken)
-broken_or_not Ready = inr (λ h. cc)
-broken_or_not Halted = inr (λ h. cc)
 broken_or_not Broken = inl refl
+broken_or_not _ = inr (λ h. cc)
 
 pub ready_or_not : (c : Condition) → (c ≡ Ready) ⊎ (c ≢ Ready)
 ready_or_not Ready = inl refl
-ready_or_not Halted = inr (λ h. cc)
-ready_or_not Broken = inr (λ h. cc)
+ready_or_not _ = inr (λ h. cc)
 
 pub empty_or_not : (xs : List ℕ) → (xs ≡ []) ⊎ (xs ≢ [])
 empty_or_not [] = inl refl
@@ -29,10 +27,8 @@ bulk_to : (device : Accepted) (is_in : Bool) (endpoint : Option (ℕ × ℕ)) (p
     → option_map bulk_made left ≡ option_map bulk_made pipe → IsPipe device is_in endpoint pipe
     → IsPipe device is_in endpoint left
 bulk_to device is_in None None None same to = tt
-bulk_to device is_in None None (Some left) same to = absurd (cc same)
 bulk_to device is_in None (Some pipe) left same to = absurd to
 bulk_to device is_in (Some endpoint) None left same to = absurd to
-bulk_to device is_in (Some endpoint) (Some pipe) None same to = absurd (cc same)
 bulk_to device is_in (Some endpoint) (Some pipe) (Some left) same to =
     let made : bulk_made left ≡ bulk_made pipe = cc same in
     record {
@@ -43,6 +39,7 @@ bulk_to device is_in (Some endpoint) (Some pipe) (Some left) same to =
       least = to.least;
       way = ap (λ (p : Bulk). p.is_in) made ∙ to.way;
     }
+bulk_to device is_in _ _ _ same to = absurd (cc same)
 
 status_to : (device : Accepted) (below_hub : Bool) (pipe left : Interrupt)
     → interrupt_made left ≡ interrupt_made pipe → IsStatusPipe device below_hub pipe
@@ -67,16 +64,12 @@ pipes_to device below_hub (Function pipes) (Function left) same are =
       bulk_to device true (in_endpoint device) pipes.into left.into
           (ap (λ (p : BulkPipes). p.into) both) are.2,
     )
-pipes_to device below_hub (Hub pipe) (Function left) same are = absurd (cc same)
-pipes_to device below_hub (Hub pipe) Absent same are = absurd (cc same)
-pipes_to device below_hub (Function pipes) (Hub left) same are = absurd (cc same)
-pipes_to device below_hub (Function pipes) Absent same are = absurd (cc same)
 pipes_to device below_hub Absent left same are = absurd are
+pipes_to device below_hub _ _ same are = absurd (cc same)
 
 made_absent : (left : Pipes) → pipes_made left ≡ Absent → left ≡ Absent
-made_absent (Hub left) same = absurd (cc same)
-made_absent (Function left) same = absurd (cc same)
 made_absent Absent same = refl
+made_absent _ same = absurd (cc same)
 
 -- Calls keep them
 

@@ -1,9 +1,8 @@
 -- Calls through the pipes at a path leave the pipes of the table level.
 use Rattle.std.proofs.Common.{◌≡◌, ◌≢◌, ◌∙◌, refl, sym, ap, subst, Bool, true, false, zero, suc, ℕ}
-use Rattle.std.proofs.Common.{◌==◌, eq-eqb}
+use Rattle.std.proofs.Common.{◌==◌, eq-eqb, List, [], ◌∷◌, Option, Some, None, option_map}
 use Rattle.std.proofs.lemmas.Bool.{false_from_ne_true}
 use Rattle.std.proofs.lemmas.Option.{same_Some}
-use Rattle.std.specs.Prelude.{List, [], ◌∷◌, Option, Some, None, option_map}
 use Rattle.std.specs.BTreeMap.{is_at}
 use Rattle.usb_port.specs.{path_cmp}
 use Rattle.usb_device.specs.{State, reach, Location, path_to, reach_on, state_on, state_there}
@@ -23,10 +22,9 @@ use Rattle.usb_table.proofs.entries.Paths.{path_itself, path_tied}
 -- the address of an accepted device is that of its path
 device_address : (found : Option Finding) (device : Accepted)
     → accepted_device_of found ≡ Some device → address_in found ≡ Some device.address
-device_address None device e = absurd (cc e)
 device_address (Some (Device d)) device e =
     ap (λ (x : Option Accepted). option_map (λ (y : Accepted). y.address) x) e
-device_address (Some (Refused cause)) device e = absurd (cc e)
+device_address _ device e = absurd (cc e)
 
 pub address_found : (path : List ℕ) (entries : Entries) (device : Accepted)
     → accepted_device_at path entries ≡ Some device
@@ -37,19 +35,16 @@ address_found path entries device e = device_address (finding_at path entries) d
 at_some_port : (table : Table) (w : World) (path : List ℕ)
     → ((x : Location) → path ≡ path_to x → (device : Accepted) (s : State)
     → accepted_device_at path table.entries ≡ Some device → reach_on w.roots x ≡ true
-    → state_on w.roots x ≡ Some s → PipesInSync (pipes_at path table) s)
-    → InSyncAt path table w
-at_some_port table w [] f = record { level = λ device s e on there. false_true on }
-at_some_port table w (zero ∷ p) f = record { level = λ device s e on there. false_true on }
+    → state_on w.roots x ≡ Some s → PipesInSync (pipes_at path table) s) → InSyncAt path table w
 at_some_port table w (suc j ∷ p) f = record {
   level = λ device s e on there. f (record { row = j; rest = p }) refl device s e on there;
 }
+at_some_port table w _ f = record { level = λ device s e on there. false_true on }
 
 -- what is reached at a path holds the address of the path's entry
 pub held_address : (table : Table) (w : World) (path : List ℕ) (device : Accepted) (s : State)
     → IsHeld table w → accepted_device_at path table.entries ≡ Some device
-    → reach w.roots path ≡ true → state_there w.roots path ≡ Some s
-    → address_of s ≡ device.address
+    → reach w.roots path ≡ true → state_there w.roots path ≡ Some s → address_of s ≡ device.address
 held_address table w path device s held e on there =
     same_Some (address_of s) device.address (sym (ap (option_map address_of) there)
     ∙ held.own path on ∙ address_found path table.entries device e)

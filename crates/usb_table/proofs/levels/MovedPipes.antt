@@ -1,7 +1,7 @@
 -- What transfers leave of the pipes to a device.
 use Rattle.usb_device.specs.{Location, State}
-use Rattle.std.proofs.Common.{◌≡◌, ◌≢◌, inl, inr, refl, sym, subst, arith, Bool, true, false}
-use Rattle.std.specs.Prelude.{ℕ, ◌≤◌, List, Option, Some, None, Result, Ok, Err}
+use Rattle.std.proofs.Common.{◌≡◌, ◌≢◌, inl, inr, refl, sym, subst, arith, Bool, true, false, ℕ}
+use Rattle.std.proofs.Common.{◌≤◌, List, Option, Some, None, Result, Ok, Err}
 use Rattle.std.specs.Global.{Vec}
 use Rattle.usb_world.specs.{BusFault, Relation, EachWas, World}
 use Rattle.usb_world.proofs.Interface.{each_both, each_none}
@@ -28,13 +28,8 @@ EachMoves address ends pipes left old new = new.shared ≡ false
 
 pub known_left : {A : Type 0} (answer : Result A PipeFault) (left : Bulk)
     → ((fault : BusFault) → answer ≢ Err (pipe_fault.Bus fault)) → pipe_known answer left ≡ left
-known_left (Ok x) left other = refl
-known_left (Err pipe_fault.Stalled) left other = refl
-known_left (Err pipe_fault.Busy) left other = refl
-known_left (Err pipe_fault.NoAnswer) left other = refl
-known_left (Err pipe_fault.Broken) left other = refl
 known_left (Err (pipe_fault.Bus fault)) left other = absurd (other fault refl)
-known_left (Err pipe_fault.Memory) left other = refl
+known_left _ left other = refl
 
 sound_known : {A : Type 0} (old : World) (answer : Result A PipeFault) (left : Bulk) (w : World)
     → PipeKeeps old answer w → w.fault ≡ None → pipe_known answer left ≡ left

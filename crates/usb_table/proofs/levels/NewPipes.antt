@@ -1,7 +1,7 @@
 -- New pipes to a device that was just configured are level.
 use Rattle.std.proofs.Common.{◌≡◌, ◌∙◌, refl, sym, ap, subst, Bool, true, false, ℕ, ◌==◌, ◌&&◌, not}
-use Rattle.std.proofs.Common.{if◌then◌else◌, [], length, Option, None, Some}
-use Rattle.std.specs.Prelude.{nat_lt, slice_index, slice_index_or, is_some, IfSome}
+use Rattle.std.proofs.Common.{if◌then◌else◌, [], length, Option, None, Some, nat_lt, slice_index}
+use Rattle.std.proofs.Common.{slice_index_or, is_some, IfSome}
 use Rattle.std.proofs.lemmas.Bool.{and_parts}
 use Rattle.usb_request.specs.{HUB_CLASS}
 use Rattle.usb_descriptor.specs.{bulk_out_of, bulk_in_of, status_endpoint_of}
@@ -114,8 +114,6 @@ module _ (tier supply : ℕ) (device : Accepted) (below_hub : Bool) (s : State)
     out_level : (low : Bool) (o : Option (ℕ × ℕ)) → device.low ≡ low
         → bulk_out_of (configuration_of device) ≡ o
         → FitsOut (new_bulk device false (at_full_speed low o)) s
-    out_level true o fast e = tt
-    out_level false None fast e = tt
     out_level false (Some endpoint) fast e = record {
       endpoint = record {
         endpoint = bulk_is false fast ∙ e;
@@ -126,12 +124,11 @@ module _ (tier supply : ℕ) (device : Accepted) (below_hub : Bool) (s : State)
       level = λ ready. ap (λ (p : EndpointState). p.toggle) fresh.out;
       halted = λ halts. cc halts;
     }
+    out_level _ _ fast e = tt
 
     in_level : (low : Bool) (o : Option (ℕ × ℕ)) → device.low ≡ low
         → bulk_in_of (configuration_of device) ≡ o
         → FitsIn (new_bulk device true (at_full_speed low o)) s
-    in_level true o fast e = tt
-    in_level false None fast e = tt
     in_level false (Some endpoint) fast e = (
       s.place,
       record {
@@ -145,6 +142,7 @@ module _ (tier supply : ℕ) (device : Accepted) (below_hub : Bool) (s : State)
         halted = λ halts. cc halts;
       },
     )
+    in_level _ _ fast e = tt
 
   by_kind : (b : Bool) → is_some device.hub ≡ b → PipesInSync (if b then new_status device below_hub
       (status_endpoint_of (configuration_of device))

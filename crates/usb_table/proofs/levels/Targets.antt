@@ -1,6 +1,5 @@
 -- Endpoint 0 of a device that was accepted.
-use Rattle.std.proofs.Common.{arith}
-use Rattle.std.specs.Prelude.{◌≤◌, ◌<◌, Bool}
+use Rattle.std.proofs.Common.{arith, ◌≤◌, ◌<◌, Bool}
 use Rattle.std.proofs.lemmas.Bool.{and_parts}
 use Rattle.usb_transaction.specs.{IsTarget}
 use Rattle.usb_enum.specs.{Accepted, target_of}

@@ -1,7 +1,6 @@
 -- What is plugged has one right listing, but for addresses.
 use Rattle.std.proofs.Common.{◌≡◌, inl, inr, ◌≤◌, ◌<◌, ◌+◌, ℕ, zero, suc, List, length, Option}
-use Rattle.std.proofs.Common.{None, Some, refl, ap, sym, subst, ◌∙◌, arith}
-use Rattle.std.specs.Prelude.{IsSome, IsSomeAnd}
+use Rattle.std.proofs.Common.{None, Some, refl, ap, sym, subst, ◌∙◌, arith, IsSome, IsSomeAnd}
 use Rattle.usb_port.specs.{parent_of, port_on_hub}
 use Rattle.usb_device.specs.{Spec}
 use Rattle.usb_enum.specs.{Finding, HubFacts, IsFindingOf, IsRight}
@@ -55,10 +54,9 @@ listed_finding roots tree entries l none path spec port t =
 
 same_facts : (f : Finding) (o : Option Finding) (hub : HubFacts) → IsSomeAnd o (IsFoundLike f)
     → hub_facts_in (Some f) ≡ Some hub → hub_facts_in o ≡ Some hub
-same_facts f None hub like at = absurd like
 same_facts (Device d) (Some (Device e)) hub like at = sym like.hub ∙ at
-same_facts (Device d) (Some (Refused c)) hub like at = absurd like
 same_facts (Refused c) o hub like at = absurd cc
+same_facts _ _ hub like at = absurd like
 
 -- a listed hub is listed by the other too
 same_hub : (a b : Entries) (path : List ℕ) (hub : HubFacts)

@@ -1,8 +1,7 @@
 -- Bytes that are received through the pipes at a path are given by the device there.
 use Rattle.std.proofs.Common.{◌≡◌, ◌≢◌, refl, sym, ap, subst, Bool, true, false, ℕ, ◌+◌, ◌==◌, ◌≤◌}
-use Rattle.std.proofs.Common.{List, [], Option, None, Some, Result, Ok, Err}
+use Rattle.std.proofs.Common.{List, [], Option, None, Some, Result, Ok, Err, is_ok, is_some}
 use Rattle.std.specs.Global.{Vec}
-use Rattle.std.specs.Prelude.{is_ok, is_some}
 use Rattle.usb_device.specs.{State, reach, Location}
 use Rattle.usb_world.specs.{BusFault, World}
 use Rattle.usb_tree.specs.{address_of}

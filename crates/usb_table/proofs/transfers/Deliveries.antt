@@ -1,7 +1,6 @@
 -- Bytes that are sent through the pipes at a path are taken by the device there.
 use Rattle.std.proofs.Common.{◌≡◌, ◌≢◌, refl, sym, ap, subst, Bool, true, false, ℕ, ◌==◌}
-use Rattle.std.proofs.Common.{append-nil, List, [], Some, Result, Ok, Err}
-use Rattle.std.specs.Prelude.{is_ok, is_some}
+use Rattle.std.proofs.Common.{append-nil, List, [], Some, Result, Ok, Err, is_ok, is_some}
 use Rattle.usb_device.specs.{State, reach, Location}
 use Rattle.usb_tree.specs.{address_of}
 use Rattle.usb_world.specs.{World}

@@ -187,13 +187,8 @@ module _ (K : Step → World → Type 0) (far : (s : Step) (w : World) → K s w
   attempts_cases : {A : Type 0} (old : World) (result : Result A PipeFault) (new : World)
       → TransferAttempts K old result new
       → Course K old new ⊎ ((fault : BusFault) × GivenUp K old fault new)
-  attempts_cases old (Ok y) new x = inl (x.whole tt)
-  attempts_cases old (Err pipe_fault.Stalled) new x = inl (x.whole tt)
-  attempts_cases old (Err pipe_fault.Busy) new x = inl (x.whole tt)
-  attempts_cases old (Err pipe_fault.NoAnswer) new x = inl (x.whole tt)
-  attempts_cases old (Err pipe_fault.Broken) new x = inl (x.whole tt)
   attempts_cases old (Err (pipe_fault.Bus fault)) new x = inr (fault, x.cut fault refl)
-  attempts_cases old (Err pipe_fault.Memory) new x = inl (x.whole tt)
+  attempts_cases old _ new x = inl (x.whole tt)
 
   attempts_spare : {A : Type 0} (old : World) (result : Result A PipeFault) (new : World)
       → IsSettled old.roots → TransferAttempts K old result new → Spared old new

@@ -2,8 +2,7 @@
 use Rattle.usb_device.specs.{Location, ServedEndpoint, BulkOut, BulkIn, Registers, RememberedPacket}
 use Rattle.usb_device.specs.{rested, IsSink, IsSource, OnlyControl, outcome, unhalts, State}
 use Rattle.usb_device.specs.{with_endpoint_state, begun, accepted, Stage}
-use Rattle.std.proofs.Common.{◌≡◌, ◌∙◌, refl, ap, true, false}
-use Rattle.std.specs.Prelude.{ℕ, List, Result}
+use Rattle.std.proofs.Common.{◌≡◌, ◌∙◌, refl, ap, true, false, ℕ, List, Result}
 use Rattle.usb_port.specs.{PortState}
 use Rattle.usb_request.specs.{Setup}
 use Rattle.usb_world.specs.{EachWas, World}

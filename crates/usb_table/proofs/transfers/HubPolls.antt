@@ -1,10 +1,9 @@
 -- A poll of a hub leaves its status pipe level, tells of its ports, and is answered where the hub
 -- is reached.
 use Rattle.std.proofs.Common.{◌≡◌, ◌≢◌, ◌∙◌, refl, sym, ap, subst, Bool, true, false, ℕ, ◌≤◌, ◌&&◌}
-use Rattle.std.proofs.Common.{eq-eqb}
+use Rattle.std.proofs.Common.{eq-eqb, List, ◌||◌, not, Option, Some, None, IfSome, is_some, Result}
+use Rattle.std.proofs.Common.{Ok, Err, IsOk, MatchResult, if◌then◌else◌}
 use Rattle.std.proofs.lemmas.Option.{same_Some}
-use Rattle.std.specs.Prelude.{List, ◌||◌, not, Option, Some, None, IfSome, is_some, Result, Ok, Err}
-use Rattle.std.specs.Prelude.{IsOk, MatchResult, if◌then◌else◌}
 use Rattle.arrayvec.specs.ArrayVec.{ArrayVec}
 use Rattle.usb_device.specs.{State, Spec, place, reach, Location, path_to, state_there, reach_on}
 use Rattle.usb_device.specs.{state_on}
@@ -220,13 +219,11 @@ module _ (path : List ℕ) (device : Accepted) (pipe rest : Interrupt) (old new 
             (same_Some cause.before before_it.before (sym cause.stands ∙ before_it.stands)) cause.so
 
     served_by : (r : Result (Option (ArrayVec ℕ)) PipeFault) → result ≡ r → NoHubFailed r
-    served_by (Ok got) e = tt
     served_by (Err why.Stalled) e = never why.Stalled tt e
     served_by (Err why.Busy) e = never why.Busy tt e
     served_by (Err why.NoAnswer) e = never why.NoAnswer tt e
     served_by (Err why.Broken) e = never why.Broken tt e
-    served_by (Err (why.Bus fault)) e = tt
-    served_by (Err why.Memory) e = tt
+    served_by _ e = tt
 
     hub_served : NoHubFailed result
     hub_served = served_by result refl
@@ -293,19 +290,16 @@ took_by : (old : World) (result : Result (Option (ArrayVec ℕ)) PipeFault) (new
     → MatchResult result (λ _. AttemptsMade 1 old new) (λ fault. FaultAfter 0 old fault new)
     → PollTook old result new
 took_by old (Ok None) new ends = tt
-took_by old (Ok (Some packet)) new ends = ends
-took_by old (Err fault) new ends = ends
+took_by old _ new ends = ends
 
 polled_took : (pipes left : Pipes) (old : World) (result : Result (Option (ArrayVec ℕ)) PipeFault)
     (new : World) → PipesPolled pipes old result left new → PollTook old result new
 polled_took (Hub pipe) left old result new x = took_by old result new x.2.polls.ends
-polled_took (Function pipes) left old result new x = rw x.0 tt
-polled_took Absent left old result new x = rw x.0 tt
+polled_took _ left old result new x = rw x.0 tt
 
 pub table_polls : (path : List ℕ) (old new : Table) (before after : World)
     (text now : Option (List ℕ)) (result : Result (Option (ArrayVec ℕ)) PipeFault)
-    → GoesThrough path old new
-    → StepRun transaction_bound before text after now
+    → GoesThrough path old new → StepRun transaction_bound before text after now
     → PipesPolled (pipes_at path old) before result (pipes_at path new) after
     → TablePolls path old before text result new after now
 table_polls path old new before after text now result goes went x = record {

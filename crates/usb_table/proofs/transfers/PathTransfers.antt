@@ -1,8 +1,7 @@
 -- A transfer through the pipes to the device at a path changes no device but the one that is
 -- reached there.
 use Rattle.std.proofs.Common.{◌≡◌, ◌≢◌, ◌∙◌, refl, sym, ap, subst, true, false, ℕ, ◌==◌, eq-eqb}
-use Rattle.std.proofs.Common.{List, Option, None, Some}
-use Rattle.std.specs.Prelude.{Result, Ok, Err, is_ok}
+use Rattle.std.proofs.Common.{List, Option, None, Some, Result, Ok, Err, is_ok}
 use Rattle.std.proofs.lemmas.Bool.{false_from_ne_true}
 use Rattle.usb_device.specs.{State, reach, Location, path_to, state_there}
 use Rattle.usb_world.specs.{BusFault, Relation, Was, EachWas, World}
@@ -94,6 +93,5 @@ done_through (Err why) result e = sym (ap is_ok e)
 -- and is no fault of the bus where the table's is none
 pub not_bus : {A : Type 0} (answer : Result A PipeFault) (result : Result A TableFault)
     → result ≡ table_answer answer → ((why : BusFault)
-    → result ≢ Err (table_fault.Bus why)) → (why : BusFault)
-    → answer ≢ Err (pipe_fault.Bus why)
+    → result ≢ Err (table_fault.Bus why)) → (why : BusFault) → answer ≢ Err (pipe_fault.Bus why)
 not_bus answer result told other why e = other why (told ∙ ap table_answer e)

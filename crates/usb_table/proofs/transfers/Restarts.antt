@@ -1,7 +1,7 @@
 -- The halts that are cleared through the pipes at a path are those of the device there.
 use Rattle.std.proofs.Common.{◌≡◌, ◌≢◌, inl, inr, ◌∙◌, refl, sym, ap, subst, Bool, true, false, ℕ}
-use Rattle.std.proofs.Common.{◌==◌, List, Option, None, Some, Result, Ok, Err}
-use Rattle.std.specs.Prelude.{is_ok, is_some, if◌then◌else◌}
+use Rattle.std.proofs.Common.{◌==◌, List, Option, None, Some, Result, Ok, Err, is_ok, is_some}
+use Rattle.std.proofs.Common.{if◌then◌else◌}
 use Rattle.usb_device.specs.{EndpointState as End, rested, State, Location}
 use Rattle.usb_world.specs.{BusFault, EachWas, World}
 use Rattle.usb_tree.specs.{address_of}
@@ -31,8 +31,7 @@ use Rattle.usb_table.proofs.transfers.DevicesKept.{clears_single}
 rested_then : (c : Condition) (before : End) → c ≢ Ready → (if is_ready c then before else rested)
     ≡ rested
 rested_then Ready before other = absurd (other refl)
-rested_then Halted before other = refl
-rested_then Broken before other = refl
+rested_then _ before other = refl
 
 -- where a call is done only if the answer is one of success
 begun_ends : (done : Bool) (pipe : Bulk) (old : World) (answer : Result (Unit {0}) PipeFault)

@@ -1,24 +1,20 @@
 -- What an attempt counts of address losses: without damage none, without IN of endpoint 0 none, and
 -- with it as the one device says that holds the address.
-use Rattle.std.proofs.Common.{◌≡◌, ◌&&◌, not, Bool, true, false, List}
-use Rattle.std.proofs.Common.{Option, None, Some, option_map, is_some, ap, sym, subst, ◌∙◌}
-use Rattle.std.proofs.Common.{arith}
+use Rattle.std.proofs.Common.{◌≡◌, ◌&&◌, not, Bool, true, false, List, Option, None, Some}
+use Rattle.std.proofs.Common.{option_map, is_some, ap, sym, subst, ◌∙◌, arith}
 use Rattle.usb_packet.specs.declared.Packet.TheVariants as packet
 use Rattle.usb_port.specs.{PortState}
-use Rattle.usb_device.specs.{Content, Sent, State, Reply, awaits_address}
-use Rattle.usb_device.specs.{is_whole, through, Ports, full, row_of, place_at}
-use Rattle.usb_device.specs.{has_loss}
+use Rattle.usb_device.specs.{Content, Sent, State, Reply, awaits_address, is_whole, through, Ports}
+use Rattle.usb_device.specs.{full, row_of, place_at, has_loss}
 use Rattle.usb_world.specs.{Damage, Attempt, harm_to, mark_of, marked, marked_some, IsAttempt}
-use Rattle.usb_world.specs.{lost_in, token_of, payload_of, token_out}
-use Rattle.usb_world.specs.{reply_in, readable}
-use Rattle.usb_world.specs.{way_to, token_way}
-use Rattle.usb_world.specs.{reply_way, IsIn}
+use Rattle.usb_world.specs.{lost_in, token_of, payload_of, token_out, reply_in, readable, way_to}
+use Rattle.usb_world.specs.{token_way, reply_way, IsIn}
 use Rattle.usb_tree.specs.{after_sent, heard_by, deep_at, IfOut, IsTokenFor, IsAckOut, IsSettled}
 use Rattle.usb_world.proofs.courses.StepInvariants.{rests}
 use Rattle.usb_world.proofs.packets.AttemptPackets.{ack_calls, sent_out}
-use Rattle.usb_world.proofs.packets.AwaitedAcks.{IsNoControlIn}
-use Rattle.usb_world.proofs.packets.AwaitedAcks.{data_no_control_in, ack_no_control_in}
-use Rattle.usb_world.proofs.packets.AwaitedAcks.{no_loss_sent, rests_loss, acked_loss, ack_received}
+use Rattle.usb_world.proofs.packets.AwaitedAcks.{IsNoControlIn, data_no_control_in}
+use Rattle.usb_world.proofs.packets.AwaitedAcks.{ack_no_control_in, no_loss_sent, rests_loss}
+use Rattle.usb_world.proofs.packets.AwaitedAcks.{acked_loss, ack_received}
 use Rattle.usb_world.proofs.packets.AwaitedAcks.{whole_sent as whole_packet}
 use Rattle.usb_world.proofs.courses.Courses.{goes}
 use Rattle.usb_world.proofs.holders.OneDevice.{SentToOne, sent_to_one, settled_memory, token_calls}
@@ -74,8 +70,7 @@ and_true x = grind arith
 
 -- the ACK, where devices can read it
 seen_by : (o : Option Sent) → IfOut IsAckOut o → (deep : Bool) (u : State) (row : List PortState)
-    → u.spec.silent ≡ false
-    → awaits_address (heard_by (readable o) deep u row).1
+    → u.spec.silent ≡ false → awaits_address (heard_by (readable o) deep u row).1
     ≡ (awaits_address u && not (is_whole (way_to deep u o)))
 seen_by o is deep u row loud = grind (arith, ack_received, and_true)
 

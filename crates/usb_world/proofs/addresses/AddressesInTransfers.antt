@@ -1,7 +1,7 @@
 -- IN and OUT change no address, where no device at theirs takes another.
-use Rattle.std.proofs.Common.{◌≡◌, ℕ, suc, ◌==◌, ◌&&◌, if◌then◌else◌, inl, inr, Bool, true}
-use Rattle.std.proofs.Common.{false, List, ◌∷◌, Option, None, Some, option_map, refl, ap, sym}
-use Rattle.std.proofs.Common.{subst, ◌∙◌, arith}
+use Rattle.std.proofs.Common.{◌≡◌, ℕ, suc, ◌==◌, ◌&&◌, if◌then◌else◌, inl, inr, Bool, true, false}
+use Rattle.std.proofs.Common.{List, ◌∷◌, Option, None, Some, option_map, refl, ap, sym, subst, ◌∙◌}
+use Rattle.std.proofs.Common.{arith}
 use Rattle.usb_packet.specs.{Token, OutTok, InTok}
 use Rattle.usb_port.specs.{PortState}
 use Rattle.usb_device.specs.{Content, Whole, Broken, Sent, Leaves, RememberedPacket, State, Reply}
@@ -18,9 +18,9 @@ use Rattle.usb_world.specs.{after, Course, HoldsMapped, Injective, is_setup, Non
 use Rattle.usb_world.specs.{GivesNoAddress}
 use Rattle.usb_tree.specs.{address_of, resets_at, reset_if, after_sent, deep_at, sent_resets}
 use Rattle.usb_tree.specs.{attempt_resets, IsDataOut, IfOut, IsSettled}
-use Rattle.usb_tree.proofs.Interface.{resets_if}
+use Rattle.usb_tree.proofs.Interface.{resets_if, false_true, equal_same, kept_address}
+use Rattle.usb_tree.proofs.Interface.{forgotten_address}
 use Rattle.usb_world.proofs.packets.AwaitedAcks.{none_awaited_answer, data_no_control_in}
-use Rattle.usb_tree.proofs.Interface.{false_true}
 use Rattle.usb_world.proofs.packets.PacketEffects.{packet_state, heard_state}
 use Rattle.usb_world.proofs.packets.AttemptPackets.{forgotten_state, calm_sent}
 use Rattle.usb_world.proofs.packets.AttemptPackets.{token_out as token_calm_out, ack_out}
@@ -30,8 +30,6 @@ use Rattle.usb_world.proofs.courses.StepInvariants.{settled_after}
 use Rattle.usb_world.proofs.courses.Courses.{made_reach, goes}
 use Rattle.usb_world.proofs.addresses.AddressesKept.{step_own, step_unshared, ready_own}
 use Rattle.usb_world.proofs.courses.LiftedSteps.{after-attempt_by, kept_course}
-use Rattle.usb_tree.proofs.Interface.{equal_same}
-use Rattle.usb_tree.proofs.Interface.{kept_address, forgotten_address}
 
 -- What is so of a device, where one stands there
 
@@ -53,8 +51,7 @@ unreset_if P b o h g = grind arith
 sent_if : (P Q : State → Type 0) (o : Option Sent) (k : Ports) (j : ℕ) (p : List ℕ)
     → sent_resets o k j p ≡ false → ((s : State) → P s → Q s)
     → ((q : Sent) (d : Bool) (s : State) (a : Ports) → o ≡ Some q → reach_at k j p ≡ true → P s
-    → Q (answer_of q d s a).1)
-    → If P (state_at k j p) → If Q (state_at (after_sent o k) j p)
+    → Q (answer_of q d s a).1) → If P (state_at k j p) → If Q (state_at (after_sent o k) j p)
 sent_if P Q None k j p r f g h = grind arith
 sent_if P Q (Some q) k j p r f g h =
     subst (If Q) (sym (packet_state q false k j p))

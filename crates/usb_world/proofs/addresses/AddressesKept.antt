@@ -1,8 +1,7 @@
 -- Which courses keep each device at its own address, and set no mark.
-use Rattle.std.proofs.Common.{arith}
-use Rattle.std.proofs.Common.{◌≡◌, ℕ, zero, suc, ◌+◌, ◌&&◌, ◌||◌, if◌then◌else◌}
-use Rattle.std.proofs.Common.{◌⊎◌, inl, inr, Bool, true, false, List, [], ◌∷◌, ◌++◌, Option}
-use Rattle.std.proofs.Common.{None, Some, option_map, refl, ap, sym, ◌∙◌}
+use Rattle.std.proofs.Common.{arith, ◌≡◌, ℕ, zero, suc, ◌+◌, ◌&&◌, ◌||◌, if◌then◌else◌, ◌⊎◌, inl}
+use Rattle.std.proofs.Common.{inr, Bool, true, false, List, [], ◌∷◌, ◌++◌, Option, None, Some}
+use Rattle.std.proofs.Common.{option_map, refl, ap, sym, ◌∙◌}
 use Rattle.usb_packet.specs.{Packet, Token, Payload, Toggle, TokenKind, SetupTok}
 use Rattle.arrayvec.specs.ArrayVec.{ArrayVec}
 use Rattle.usb_port.specs.{PortState, PortCall}
@@ -21,17 +20,16 @@ use Rattle.usb_world.specs.{Injective, is_quiet, QuietStep, quiet_data}
 use Rattle.usb_world.specs.declared.wire.Mark.TheVariants as mark
 use Rattle.usb_tree.specs.{address_of, Two, call_resets, after_sent, answers_to, after_attempt}
 use Rattle.usb_tree.specs.{sent_resets, attempt_resets}
-use Rattle.usb_tree.proofs.Interface.{false_true, both, and_of, decided, neither_of}
+use Rattle.usb_tree.proofs.Interface.{false_true, both, and_of, decided, neither_of, twice_two}
+use Rattle.usb_tree.proofs.Interface.{kept_address, forgotten_address}
 use Rattle.usb_world.proofs.events.PlugEvents.{happened_there}
 use Rattle.usb_world.proofs.ports.PortCalls.{call_state}
 use Rattle.usb_world.proofs.packets.PacketEffects.{packet_state, heard_state}
 use Rattle.usb_world.proofs.packets.AttemptPackets.{forgotten_state, calm_sent}
 use Rattle.usb_world.proofs.packets.AttemptPackets.{token_out as token_calm_out}
-use Rattle.usb_tree.proofs.Interface.{twice_two}
 use Rattle.usb_world.proofs.holders.OneDevice.{stands, state_stands}
 use Rattle.usb_world.proofs.courses.Courses.{happened_reach, made_reach, root_reach, goes}
 use Rattle.usb_world.proofs.packets.HarmlessRequests.{harmless_resets, IsHarmlessOut}
-use Rattle.usb_tree.proofs.Interface.{kept_address, forgotten_address}
 use Rattle.usb_world.proofs.courses.LiftedSteps.{OverEvents, OverSteps, Keeps, keeps_events}
 use Rattle.usb_world.proofs.courses.LiftedSteps.{over_taken, over_ready, after-attempt_by}
 use Rattle.usb_world.proofs.courses.LiftedSteps.{over_step}

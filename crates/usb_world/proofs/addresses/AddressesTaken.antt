@@ -1,28 +1,23 @@
 -- The device that ends its status stage takes its address at the host's ACK.
-use Rattle.std.proofs.Common.{◌≡◌, ℕ, suc, ◌==◌, ◌&&◌, not, if◌then◌else◌}
-use Rattle.std.proofs.Common.{Bool, true, false, List, ◌∷◌, Option}
-use Rattle.std.proofs.Common.{Some, option_map, refl, ap, ap₂, sym, ◌∙◌, arith}
+use Rattle.std.proofs.Common.{◌≡◌, ℕ, suc, ◌==◌, ◌&&◌, not, if◌then◌else◌, Bool, true, false, List}
+use Rattle.std.proofs.Common.{◌∷◌, Option, Some, option_map, refl, ap, ap₂, sym, ◌∙◌, arith}
 use Rattle.usb_port.specs.{PortState}
 use Rattle.usb_device.specs.declared.answer.Answer.TheVariants as answer
-use Rattle.usb_device.specs.{InEndpoint, ending, State, Reply}
-use Rattle.usb_device.specs.{is_busy}
-use Rattle.usb_device.specs.{ends_with_address, Way, is_whole, in_law, in_stage_law}
-use Rattle.usb_device.specs.{in_other_law, in_bulk_law, source_law}
-use Rattle.usb_device.specs.{held_law, Ports, row_of, reach_at, state_at}
+use Rattle.usb_device.specs.{ending, State, Reply, is_busy, ends_with_address, Way, is_whole}
+use Rattle.usb_device.specs.{in_law, in_stage_law, in_other_law, in_bulk_law, source_law, held_law}
+use Rattle.usb_device.specs.{Ports, row_of, reach_at, state_at}
 use Rattle.usb_device.specs.declared.transfer.InEndpoint.TheVariants as by
 use Rattle.usb_world.specs.{Attempt, World, at_attempt, damage_in, with_attempt, attempt, after}
 use Rattle.usb_world.specs.{HoldsMapped, token_way, answer_way, reply_way, IsIn, HolderIn, is_setup}
 use Rattle.usb_world.specs.{after_taking, ends_status}
 use Rattle.usb_tree.specs.{address_of, same_number, same_path, deep_at}
-use Rattle.usb_tree.proofs.Interface.{false_true}
-use Rattle.usb_tree.proofs.Interface.{is_twice-one_path}
+use Rattle.usb_tree.proofs.Interface.{false_true, is_twice-one_path, self_number, self_path}
 use Rattle.usb_world.proofs.courses.Courses.{made_reach}
 use Rattle.usb_world.proofs.holders.OneHolder.{holder_holds, Holder}
 use Rattle.usb_world.proofs.holders.OneHolderAttempts.{made_is, holder_in, in_in, silent_in}
 use Rattle.usb_world.proofs.addresses.AddressesKept.{ready_own}
 use Rattle.usb_world.proofs.addresses.AddressesInTransfers.{data_calm, ports_address}
 use Rattle.usb_world.proofs.ports.RootResets.{same_is}
-use Rattle.usb_tree.proofs.Interface.{self_number, self_path}
 
 -- The address after IN
 

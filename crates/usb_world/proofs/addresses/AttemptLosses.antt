@@ -1,31 +1,28 @@
 -- The count of address losses after an attempt: by its kind, and for IN of endpoint 0 by the device
 -- that holds its address.
-use Rattle.std.proofs.Common.{◌≡◌, ◌≢◌, inl, inr, ℕ, ◌==◌, ◌&&◌, not, if◌then◌else◌}
-use Rattle.std.proofs.Common.{Bool, true, false, List, [], Option, None, Some, is_some, refl, ap}
-use Rattle.std.proofs.Common.{ap₂, sym, subst, ◌∙◌, arith}
+use Rattle.std.proofs.Common.{◌≡◌, ◌≢◌, inl, inr, ℕ, ◌==◌, ◌&&◌, not, if◌then◌else◌, Bool, true}
+use Rattle.std.proofs.Common.{false, List, [], Option, None, Some, is_some, refl, ap, ap₂, sym}
+use Rattle.std.proofs.Common.{subst, ◌∙◌, arith}
 use Rattle.std.proofs.lemmas.Option.{same_Some}
 use Rattle.usb_request.specs.{CLEAR_FEATURE, PORT_OUT, C_PORT_CONNECTION, Setup, setup_of}
 use Rattle.usb_packet.specs.{Token, Toggle, One, InTok, SetupTok}
 use Rattle.usb_port.specs.{PortState}
 use Rattle.usb_device.specs.{Effect, Is, ending, State, Reply, received, unread, forgotten, is_busy}
-use Rattle.usb_device.specs.{ack_row, awaits_address, ends_with_address, Way, is_whole}
-use Rattle.usb_device.specs.{through, in_stage_law, in_law, Sent, Ports, row_of, state_on}
-use Rattle.usb_device.specs.{asks_clearing}
+use Rattle.usb_device.specs.{ack_row, awaits_address, ends_with_address, Way, is_whole, through}
+use Rattle.usb_device.specs.{in_stage_law, in_law, Sent, Ports, row_of, state_on, asks_clearing}
 use Rattle.usb_device.specs.declared.answer.Answer.TheVariants as answer
-use Rattle.usb_world.specs.{Damage, Attempt, Outcome, marked_some, token_of, reply_in}
-use Rattle.usb_world.specs.{clears_at, lost_in, cleared_in}
-use Rattle.usb_world.specs.{TookOrLost}
-use Rattle.usb_world.specs.{counted, after_clearing, got, token_way, answer_way, reply_way, IsMade}
-use Rattle.usb_world.specs.{IsOut, IsIn, HolderIn, is_setup, EachWas, World, at_attempt, damage_in}
-use Rattle.usb_world.specs.{with_attempt, attempt, after, outcome_in}
+use Rattle.usb_world.specs.{Damage, Attempt, Outcome, marked_some, token_of, reply_in, clears_at}
+use Rattle.usb_world.specs.{lost_in, cleared_in, TookOrLost, counted, after_clearing, got}
+use Rattle.usb_world.specs.{token_way, answer_way, reply_way, IsMade, IsOut, IsIn, HolderIn}
+use Rattle.usb_world.specs.{is_setup, EachWas, World, at_attempt, damage_in, with_attempt, attempt}
+use Rattle.usb_world.specs.{after, outcome_in}
 use Rattle.usb_world.specs.declared.types.Outcome.TheVariants.{Payload}
 use Rattle.usb_tree.specs.{address_of, deep_at, IfOut}
-use Rattle.usb_tree.proofs.Interface.{false_true, not-true, decided, and_none}
+use Rattle.usb_tree.proofs.Interface.{false_true, not-true, decided, and_none, unequal}
 use Rattle.usb_world.proofs.packets.AwaitedAcks.{IsNoControlIn}
 use Rattle.usb_world.proofs.addresses.AddressLosses.{no_control_in_unlost, holder_loss}
 use Rattle.usb_world.proofs.holders.Devices.{each_holder}
 use Rattle.usb_world.proofs.events.DueEvents.{ready_beside}
-use Rattle.usb_tree.proofs.Interface.{unequal}
 use Rattle.usb_world.proofs.holders.OneHolder.{no_payload, none_is, token_of-fields}
 use Rattle.usb_world.proofs.holders.OneHolderAttempts.{made_is, ready_settled, holder_in, in_in}
 use Rattle.usb_world.proofs.holders.OneHolderAttempts.{silent_in, ExchangedIn}
@@ -252,10 +249,7 @@ module _ (a : Attempt) (w : World) (into : IsIn a) (zeroth : a.ep ≡ 0) (h : Ho
           let none : CountsNone a w = quiet_counts a into w h.made (ap brings x.outcome) in
           record {
             none = λ f. (
-              (
-                ap (λ y. ends_with_address y.stage) e ∙ f,
-                ap (λ y. y.registers) e,
-              ),
+              (ap (λ y. ends_with_address y.stage) e ∙ f, ap (λ y. y.registers) e),
               none,
             );
             ends =

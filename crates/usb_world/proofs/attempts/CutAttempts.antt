@@ -1,8 +1,7 @@
 -- Each device over an attempt that the bus gave up: it was made whole, and only its line was not
 -- written; or it changed no device.
-use Rattle.std.proofs.Common.{arith}
-use Rattle.std.proofs.Common.{◌≡◌, ◌≢◌, ℕ, ◌||◌, List, false, None, Err}
-use Rattle.std.proofs.Common.{refl, sym, subst, ap, ◌∙◌}
+use Rattle.std.proofs.Common.{arith, ◌≡◌, ◌≢◌, ℕ, ◌||◌, List, false, None, Err, refl, sym, subst}
+use Rattle.std.proofs.Common.{ap, ◌∙◌}
 use Rattle.usb_device.specs.{held_addresses, repeats, Ports, path_to}
 use Rattle.usb_world.specs.{Attempt, BusFault, LimitReached, Memory, TraceFailed, IsMade, World}
 use Rattle.usb_world.specs.{IsAttempt, Attempted, Relation, EachWas, at_attempt, damage_in}
@@ -53,8 +52,7 @@ packet_cut : (a : Attempt) (w x : World) (k : Ports) → k ≡ (at_attempt w).ro
     → x ≡ record (at_attempt w) {
       roots = k;
       shared = (at_attempt w).shared || repeats (held_addresses (at_attempt w).roots);
-    } → x.shared ≡ false
-    → AttemptCut a w x
+    } → x.shared ≡ false → AttemptCut a w x
 packet_cut a w x k e is single =
     let both : (at_attempt w).shared || repeats (held_addresses (at_attempt w).roots) ≡ false =
     sym (ap (λ y. y.shared) is) ∙ single in

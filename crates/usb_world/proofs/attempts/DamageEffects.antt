@@ -14,8 +14,7 @@ use Rattle.usb_world.specs.declared.losses.Losses.{Losses}
 use Rattle.usb_device.specs.{Ports}
 use Rattle.usb_tree.specs.{IsSettled}
 use Rattle.usb_world.proofs.addresses.AddressLosses.{lost_in-none}
-use Rattle.usb_tree.proofs.Interface.{unequal}
-use Rattle.usb_tree.proofs.Interface.{if-true, if-false}
+use Rattle.usb_tree.proofs.Interface.{unequal, if-true, if-false}
 use Rattle.usb_packet.proofs.Interface.{carried}
 
 -- ---- bits
@@ -36,10 +35,7 @@ follows_bits (Payload toggle bytes) rest f =
     let n = carried generator16 (bits_of_bytes bytes.items) rest f in
     let m = length-bits_of_bytes bytes.items in
     omega (arith, n, m)
-follows_bits Ack rest f = let n : length rest ≡ 0 = ap length f in omega (arith, n)
-follows_bits Nak rest f = let n : length rest ≡ 0 = ap length f in omega (arith, n)
-follows_bits Stall rest f = let n : length rest ≡ 0 = ap length f in omega (arith, n)
-follows_bits Pre rest f = let n : length rest ≡ 0 = ap length f in omega (arith, n)
+follows_bits _ rest f = let n : length rest ≡ 0 = ap length f in omega (arith, n)
 
 -- a packet has eight bits for each byte that spells it
 pub spelled_bits : (bytes : List ℕ) (p : Packet) → Spells bytes p → bit_count p ≡ 8 * length bytes
@@ -50,7 +46,6 @@ pub bit_within : (bytes : List ℕ) (p : Packet) (n : ℕ) → Spells bytes p
     → nat_lt n (bit_count p) ≡ true → n < 8 * length bytes
 bit_within bytes p n h lt = grind (arith, ltb-true, spelled_bits)
 
--- the same of a packet that goes out
 -- ---- the damage to an attempt
 
 of_first : (d : Damage) (damages : List Damage) (n : ℕ) → d.attempt ≡ n
@@ -70,8 +65,7 @@ split_at damages i d lt = drop-cons damages i d lt
 
 pub damage_here : (damages : List Damage) (n i : ℕ) (d : Damage)
     → damage_of damages n ≡ damage_of (drop i damages) n → i < length damages
-    → (get_or damages i d).attempt ≡ n
-    → Some (get_or damages i d) ≡ damage_of damages n
+    → (get_or damages i d).attempt ≡ n → Some (get_or damages i d) ≡ damage_of damages n
 damage_here damages n i d h lt e = grind (arith, of_first, split_at)
 
 pub damage_later : (damages : List Damage) (n i : ℕ) (d : Damage)

@@ -1,6 +1,5 @@
 -- What the code of an attempt does, packet by packet, is the attempt.
-use Rattle.std.proofs.Common.{arith}
-use Rattle.std.proofs.Common.{◌≡◌, ◌+◌, List, ◌∷◌, ◌++◌, false, Option, Some, None, Result}
+use Rattle.std.proofs.Common.{arith, ◌≡◌, ◌+◌, List, ◌∷◌, ◌++◌, false, Option, Some, None, Result}
 use Rattle.std.proofs.Common.{OnOk, OnErr, refl, sym, subst, ap, ap₂, ◌∙◌}
 use Rattle.usb_device.specs.{Answer, Heard, Sent, Ports, ended, vacant, taken, row_of}
 use Rattle.usb_device.specs.{all_forgotten, heard_of, both, heard_joined, delivered, figure}
@@ -8,8 +7,8 @@ use Rattle.usb_device.proofs.Interface.{figure-after, row_of-forgotten}
 use Rattle.usb_world.specs.{Damage, Exchange, Attempt, harm_to, marked, marked_some, heard_above}
 use Rattle.usb_world.specs.{StaysPlugged, PacketWent, PacketsWent, Exchanged, token_of, payload_of}
 use Rattle.usb_world.specs.{answer_place, answer_mark, reply_of, goes_out, heard_all, token_out}
-use Rattle.usb_world.specs.{heard_in, mark_in, reply_in, answered_in, is_lost, lost_in}
-use Rattle.usb_world.specs.{clears_at, cleared_in, exchange_in, ended_in, ports_in}
+use Rattle.usb_world.specs.{heard_in, mark_in, reply_in, answered_in, is_lost, lost_in, clears_at}
+use Rattle.usb_world.specs.{cleared_in, exchange_in, ended_in, ports_in}
 use Rattle.usb_tree.specs.{IsSettled, after_sent, answers_to}
 use Rattle.usb_world.proofs.packets.AttemptPackets.{after_attempt-settled}
 
@@ -33,8 +32,7 @@ pub delivered_stays_plugged : {A E : Type 0} (r : Result A E) (q : Sent) (k m : 
 delivered_stays_plugged r q k m g h ok err row = grind (arith, figure-after)
 
 pub sent_went : {A E : Type 0} (r : Result A E) (o : Option Sent) (q : Sent) (k m : Ports)
-    (g h : Heard)
-    → o ≡ Some q → OnOk r ((h, m) ≡ heard_joined g (delivered q false k))
+    (g h : Heard) → o ≡ Some q → OnOk r ((h, m) ≡ heard_joined g (delivered q false k))
     → OnOk r (PacketWent o k m g h)
 sent_went r o q k m g h is e = grind arith
 

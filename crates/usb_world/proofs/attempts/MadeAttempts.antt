@@ -1,9 +1,8 @@
 -- What an attempt that is made, or is not, leaves of a world besides its devices.
-use Rattle.std.proofs.Common.{arith}
-use Rattle.std.proofs.Common.{◌≡◌, ◌==◌, true, false, None, Some, refl}
+use Rattle.std.proofs.Common.{arith, ◌≡◌, ◌==◌, true, false, None, Some, refl}
 use Rattle.usb_device.specs.{held_addresses, repeats}
-use Rattle.usb_world.specs.{Attempt, LimitReached, attempt, after, with_attempt}
-use Rattle.usb_world.specs.{at_attempt, World, Made}
+use Rattle.usb_world.specs.{Attempt, LimitReached, attempt, after, with_attempt, at_attempt, World}
+use Rattle.usb_world.specs.{Made}
 use Rattle.usb_world.proofs.events.DueEvents.{ready_beside, ready_shared}
 
 pub limited : (a : Attempt) (w : World) → w.fault ≡ None → (w.attempts == w.limit) ≡ true

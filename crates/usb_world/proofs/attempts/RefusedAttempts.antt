@@ -1,14 +1,11 @@
 -- What an attempt that was refused memory leaves of the world.
-use Rattle.std.proofs.Common.{arith}
-use Rattle.std.proofs.Common.{◌≡◌, ℕ, true, false, List, Option, None}
-use Rattle.std.proofs.Common.{Result, Err, OnOk, sym, subst, ap, ◌∙◌}
-use Rattle.std.specs.Prelude.{All}
+use Rattle.std.proofs.Common.{arith, ◌≡◌, ℕ, true, false, List, Option, None, Result, Err, OnOk}
+use Rattle.std.proofs.Common.{sym, subst, ap, ◌∙◌, All}
 use Rattle.usb_device.specs.{IsSpec, Ports, reach}
-use Rattle.usb_world.specs.{Attempt, BusFault, LimitReached, Memory, Outcome}
-use Rattle.usb_world.specs.{Consistent, World, IsAttempt, Attempted, address_at, HoldsMapped}
-use Rattle.usb_world.specs.{Injective, AnyStep, WorldInvariant, after, at_attempt, damage_in}
-use Rattle.usb_world.specs.{with_attempt, Left, at_event, at_packet, at_line, GaveUp, AttemptFails}
-use Rattle.usb_world.specs.{attempt, IsCut}
+use Rattle.usb_world.specs.{Attempt, BusFault, LimitReached, Memory, Outcome, Consistent, World}
+use Rattle.usb_world.specs.{IsAttempt, Attempted, address_at, HoldsMapped, Injective, AnyStep}
+use Rattle.usb_world.specs.{WorldInvariant, after, at_attempt, damage_in, with_attempt, Left}
+use Rattle.usb_world.specs.{at_event, at_packet, at_line, GaveUp, AttemptFails, attempt, IsCut}
 use Rattle.usb_tree.specs.{IsSettled}
 use Rattle.usb_world.proofs.courses.StepInvariants.{between_ready, between_steps}
 use Rattle.usb_world.proofs.addresses.AddressesKept.{own_steps, ready_unshared, ready_own}

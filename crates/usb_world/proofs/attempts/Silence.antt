@@ -1,25 +1,22 @@
 -- An attempt at an address that nobody holds.
-use Rattle.std.proofs.Common.{◌≡◌, ℕ, ◌+◌, ◌==◌, Bool, true, false, List, [], ◌∷◌}
-use Rattle.std.proofs.Common.{◌++◌, Option, None, Some, option_map, refl, ap, ap₂, sym, subst, ◌∙◌}
-use Rattle.std.proofs.Common.{arith}
+use Rattle.std.proofs.Common.{◌≡◌, ℕ, ◌+◌, ◌==◌, Bool, true, false, List, [], ◌∷◌, ◌++◌, Option}
+use Rattle.std.proofs.Common.{None, Some, option_map, refl, ap, ap₂, sym, subst, ◌∙◌, arith}
 use Rattle.std.proofs.lemmas.Bool.Decides.{nat_tests}
 use Rattle.arrayvec.specs.ArrayVec.{ArrayVec}
 use Rattle.usb_device.specs.{Sent, Ports, held_addresses, all_reached, paths_at, holder_among}
 use Rattle.usb_device.specs.{holder_of}
 use Rattle.usb_device.specs.declared.holders.Holder.TheVariants.{Nobody}
 use Rattle.usb_device.proofs.Interface.{way_addresses, held-reached}
-use Rattle.usb_world.specs.{Attempt, Damage, Exchange, Mark, Whole}
-use Rattle.usb_world.specs.{harm_to, marked_some, token_out}
+use Rattle.usb_world.specs.{Attempt, Damage, Exchange, Mark, Whole, harm_to, marked_some, token_out}
 use Rattle.usb_world.specs.{payload_out, reply_out, heard_all, heard_in, mark_in, reply_in, lost_in}
-use Rattle.usb_world.specs.{cleared_in, answered_in, goes_out, is_lost, answer_mark}
-use Rattle.usb_world.specs.{reply_of, place_of_answer, exchange_in, ports_in, Exchanged}
-use Rattle.usb_world.specs.{StaysPlugged, silent_exchange}
+use Rattle.usb_world.specs.{cleared_in, answered_in, goes_out, is_lost, answer_mark, reply_of}
+use Rattle.usb_world.specs.{place_of_answer, exchange_in, ports_in, Exchanged, StaysPlugged}
+use Rattle.usb_world.specs.{silent_exchange}
 use Rattle.usb_world.specs.declared.exchange.ExchangeAnswer.TheVariants.{Nothing}
 use Rattle.usb_tree.specs.{after_sent, answers_to, IfOut, IsSettled, IsTokenFor, NobodyHolds}
 use Rattle.usb_tree.specs.{address_of}
 use Rattle.usb_world.proofs.courses.Courses.{goes}
-use Rattle.usb_tree.proofs.Interface.{swapped}
-use Rattle.usb_tree.proofs.Interface.{occurs, one_if, occurs-reached}
+use Rattle.usb_tree.proofs.Interface.{swapped, occurs, one_if, occurs-reached}
 use Rattle.usb_world.proofs.holders.OneDevice.{nobody_answers, sent_to_nobody, settled_memory}
 use Rattle.usb_world.proofs.holders.OneDevice.{token_calls}
 use Rattle.usb_world.proofs.ways.Routes.{rest_clears}

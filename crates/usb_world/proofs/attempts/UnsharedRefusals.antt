@@ -1,29 +1,27 @@
 -- Where no address is held twice, a refused packet leaves everything as it was.
-use Rattle.std.proofs.Common.{◌≡◌, ℕ, ◌+◌, ◌≤◌, ◌==◌, not, if◌then◌else◌, Bool, true}
-use Rattle.std.proofs.Common.{false, List, Option, None, Some, refl, subst, ap, ◌∙◌}
-use Rattle.std.proofs.Common.{arith}
+use Rattle.std.proofs.Common.{◌≡◌, ℕ, ◌+◌, ◌≤◌, ◌==◌, not, if◌then◌else◌, Bool, true, false, List}
+use Rattle.std.proofs.Common.{Option, None, Some, refl, subst, ap, ◌∙◌, arith}
 use Rattle.usb_packet.specs.{Packet, Token, OutTok}
 use Rattle.usb_port.specs.{PortState}
-use Rattle.usb_device.specs.{Content, Sent, Effect, Leaves, RememberedPacket, State}
-use Rattle.usb_device.specs.{forgotten, received, unread, sink_grows, Ports, ended}
-use Rattle.usb_device.specs.{vacant, taken, full, before, acted, reply_to, answer_of}
-use Rattle.usb_device.specs.{effect_of, after_packet, delivered_device, on_port, all_forgotten}
-use Rattle.usb_device.specs.{held_addresses, repeats, Stopped, behind_empty, behind, below, here}
+use Rattle.usb_device.specs.{Content, Sent, Effect, Leaves, RememberedPacket, State, forgotten}
+use Rattle.usb_device.specs.{received, unread, sink_grows, Ports, ended, vacant, taken, full}
+use Rattle.usb_device.specs.{before, acted, reply_to, answer_of, effect_of, after_packet}
+use Rattle.usb_device.specs.{delivered_device, on_port, all_forgotten, held_addresses, repeats}
+use Rattle.usb_device.specs.{Stopped, behind_empty, behind, below, here}
 use Rattle.usb_device.specs.declared.delivery.Content.TheVariants as content
 use Rattle.usb_device.specs.declared.delivery.Heard.TheVariants.{NoAnswer}
 use Rattle.usb_device.specs.declared.transfer.RememberedPacket.TheVariants.{Nothing}
-use Rattle.usb_world.specs.{Damage, Attempt, Mark, Whole, Lost, Flipped, marked}
-use Rattle.usb_world.specs.{token_of, sent_as, token_out, IsAttempt, IsCut}
+use Rattle.usb_world.specs.{Damage, Attempt, Mark, Whole, Lost, Flipped, marked, token_of, sent_as}
+use Rattle.usb_world.specs.{token_out, IsAttempt, IsCut}
 use Rattle.usb_tree.specs.{address_of, IfOut, IsTokenFor, IsDataOut, IsSettled, after_sent}
 use Rattle.usb_tree.specs.{calls_on}
 use Rattle.usb_world.proofs.courses.StepInvariants.{Rests, rests}
-use Rattle.usb_tree.proofs.Interface.{one_if, occurs, occurs-most, occurs_append}
+use Rattle.usb_tree.proofs.Interface.{one_if, occurs, occurs-most, occurs_append, forgotten-nothing}
 use Rattle.usb_world.proofs.holders.OneDevice.{rested_effect, token_calls, payload_calls}
 use Rattle.usb_world.proofs.packets.AttemptPackets.{rested_answer}
 use Rattle.usb_world.proofs.courses.Courses.{goes}
 use Rattle.usb_world.proofs.packets.MildPackets.{is_nothing}
 use Rattle.usb_world.proofs.packets.CutPackets.{cut_kind}
-use Rattle.usb_tree.proofs.Interface.{forgotten-nothing}
 
 -- how many devices remember something
 unfoldable pub seen : Ports → ℕ

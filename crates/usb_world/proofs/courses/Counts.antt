@@ -1,11 +1,9 @@
 -- How the counts of several steps join.
-use Rattle.std.proofs.Common.{◌≡◌, ◌∙◌, refl, sym, ap, subst, arith, suc, zero}
-use Rattle.std.specs.Prelude.{ℕ, ◌+◌, ◌-◌, ◌<◌, ◌≤◌, List, [], ◌∷◌, length, Bool, true}
-use Rattle.std.specs.Prelude.{slice_set, slice_index_or, is_some, ◌&&◌, Option}
-use Rattle.std.specs.Prelude.{Some, None}
+use Rattle.std.proofs.Common.{◌≡◌, ◌∙◌, refl, sym, ap, subst, arith, suc, zero, length-set, ℕ, ◌+◌}
+use Rattle.std.proofs.Common.{◌-◌, ◌<◌, ◌≤◌, List, [], ◌∷◌, length, Bool, true, slice_set}
+use Rattle.std.proofs.Common.{slice_index_or, is_some, ◌&&◌, Option, Some, None}
 use Rattle.usb_port.specs.{PortState, is_attached, off, PortCall, called_port, port_by, is_reset}
 use Rattle.usb_port.specs.{set_call, clear_call, IsSetFeature, IsClearFeature}
-use Rattle.std.proofs.Common.{length-set}
 use Rattle.usb_request.specs.{PORT_RESET, C_PORT_CONNECTION}
 use Rattle.usb_device.specs.{State, Ports, ended, vacant, taken, new_ports, first_ports, all_off}
 use Rattle.usb_device.specs.{acted, empty, full, before, reset_where, called, changed, changed_at}

@@ -1,21 +1,19 @@
 -- What a step of the world does to reachable, live and pending, and what whole courses do.
-use Rattle.std.proofs.Common.{arith}
-use Rattle.std.proofs.Common.{◌≡◌, ℕ, zero, suc, ◌+◌, ◌&&◌, ◌⊎◌, inl}
-use Rattle.std.proofs.Common.{true, false, List, [], ◌∷◌, ◌++◌, Option, None, Some, refl, ap}
-use Rattle.std.proofs.Common.{sym, subst, ◌∙◌, append_assoc, Bool}
+use Rattle.std.proofs.Common.{arith, ◌≡◌, ℕ, zero, suc, ◌+◌, ◌&&◌, ◌⊎◌, inl, true, false, List, []}
+use Rattle.std.proofs.Common.{◌∷◌, ◌++◌, Option, None, Some, refl, ap, sym, subst, ◌∙◌}
+use Rattle.std.proofs.Common.{append_assoc, Bool}
 use Rattle.usb_port.specs.{PortCall}
 use Rattle.usb_device.specs.{Whole, Spec, Ports, called, changed, reach, place}
 use Rattle.usb_packet.specs.{Packet}
 use Rattle.usb_packet.specs.declared.Packet.TheVariants as packet
-use Rattle.usb_world.specs.{Damage, Event, Action, ExchangeAnswer, Attempt, Mark}
-use Rattle.usb_world.specs.{marked, marked_some, token_of, payload_of, reply_of, goes_out}
-use Rattle.usb_world.specs.{token_out, payload_out, reply_out, heard_in, mark_in, place_of_answer}
-use Rattle.usb_world.specs.{ports_in, World, after_change, names_path, after_event, at_attempt}
-use Rattle.usb_world.specs.{damage_in, with_attempt, Step, attempt, root_call, event, after}
-use Rattle.usb_world.specs.{Course, here, step, NoneNames, Undisturbed, made_resets}
-use Rattle.usb_world.specs.{made_keeps_pending, root_resets, root_keeps_pending, resets}
-use Rattle.usb_world.specs.{step_keeps_pending, Reached, UndisturbedOrPends, NoReset}
-use Rattle.usb_world.specs.{KeepsPendingAt}
+use Rattle.usb_world.specs.{Damage, Event, Action, ExchangeAnswer, Attempt, Mark, marked}
+use Rattle.usb_world.specs.{marked_some, token_of, payload_of, reply_of, goes_out, token_out}
+use Rattle.usb_world.specs.{payload_out, reply_out, heard_in, mark_in, place_of_answer, ports_in}
+use Rattle.usb_world.specs.{World, after_change, names_path, after_event, at_attempt, damage_in}
+use Rattle.usb_world.specs.{with_attempt, Step, attempt, root_call, event, after, Course, here}
+use Rattle.usb_world.specs.{step, NoneNames, Undisturbed, made_resets, made_keeps_pending}
+use Rattle.usb_world.specs.{root_resets, root_keeps_pending, resets, step_keeps_pending, Reached}
+use Rattle.usb_world.specs.{UndisturbedOrPends, NoReset, KeepsPendingAt}
 use Rattle.usb_tree.specs.{has_power, pending, IsNew, IfOut, IsTokenFor, IsDataOut, IsAckOut}
 use Rattle.usb_tree.specs.{IsAttemptAt}
 use Rattle.usb_tree.proofs.Interface.{false_true}

@@ -1,16 +1,13 @@
 -- What holds over each part of a step holds over steps and courses.
-use Rattle.std.proofs.Common.{arith}
-use Rattle.std.proofs.Common.{◌≡◌, ◌⊎◌, inl, inr, ℕ, ◌&&◌, if◌then◌else◌, Bool}
-use Rattle.std.proofs.Common.{true, false, List, [], ◌∷◌, Option, None, Some, is_some, slice_get}
-use Rattle.std.proofs.Common.{refl}
+use Rattle.std.proofs.Common.{arith, ◌≡◌, ◌⊎◌, inl, inr, ℕ, ◌&&◌, if◌then◌else◌, Bool, true, false}
+use Rattle.std.proofs.Common.{List, [], ◌∷◌, Option, None, Some, is_some, slice_get, refl}
 use Rattle.usb_port.specs.{PortCall, is_clearing}
 use Rattle.usb_device.specs.{Spec, Ports, called, replaced, changed}
 use Rattle.usb_world.specs.{Action, Plug, Unplug, Event, Attempt, BusFault, LimitReached, is_made}
 use Rattle.usb_world.specs.{after_clearing, with_plugged, after_change, way_of, names_path, is_due}
 use Rattle.usb_world.specs.{after_event, after_first_event, after_due_events, at_attempt}
-use Rattle.usb_world.specs.{with_attempt, event_taken, Step, attempt, root_call, event}
-use Rattle.usb_world.specs.{after, Course, here, step, Coming, nothing_yet, next_came}
-use Rattle.usb_world.specs.{World}
+use Rattle.usb_world.specs.{with_attempt, event_taken, Step, attempt, root_call, event, after}
+use Rattle.usb_world.specs.{Course, here, step, Coming, nothing_yet, next_came, World}
 use Rattle.usb_world.specs.declared.event.Action.TheVariants.{Change, Ask}
 
 abbrev pub with_limit_told : World → World

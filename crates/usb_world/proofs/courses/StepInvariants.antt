@@ -1,6 +1,6 @@
 -- What is so between two steps stays so.
-use Rattle.std.proofs.Common.{◌≡◌, ℕ, zero, suc, List, [], ◌∷◌, ◌≤◌, refl}
-use Rattle.std.proofs.Common.{ap, sym, arith}
+use Rattle.std.proofs.Common.{◌≡◌, ℕ, zero, suc, List, [], ◌∷◌, ◌≤◌, refl, ap, sym, arith, Option}
+use Rattle.std.proofs.Common.{None, slice_get, All}
 use Rattle.usb_port.specs.{PortCall}
 use Rattle.usb_device.specs.{Spec, Hub, IsSpec, RememberedPacket, fresh, reset_state, Ports, ended}
 use Rattle.usb_device.specs.{vacant, taken, empty, full, before, new_ports, first_ports, all_off}
@@ -12,7 +12,7 @@ use Rattle.usb_world.specs.{after_event, at_attempt, damage_in, with_attempt, St
 use Rattle.usb_world.specs.{Course, here, step, WorldInvariant, opening}
 use Rattle.usb_world.specs.declared.event.Action.TheVariants.{Change, Ask}
 use Rattle.std.proofs.lemmas.List.Elements.{All-head, All-tail}
-use Rattle.std.specs.Prelude.{Option, None, slice_get, All, ⊤}
+use Rattle.std.specs.Prelude.{⊤}
 use Rattle.std.specs.Option.{IfSome}
 use Rattle.usb_tree.specs.{IsSettled}
 use Rattle.usb_world.proofs.ports.SanePorts.{sane_path, sane_new_ports, sane_called, sane_replaced}
@@ -43,9 +43,8 @@ ports_below_first (taken b s a k) = a
 ports_below_first k = ended
 
 abbrev remembered : Ports → RememberedPacket
-remembered ended = Nothing
-remembered (vacant b k) = Nothing
 remembered (taken b s a k) = s.memory
+remembered _ = Nothing
 
 pub rests : (k : Ports) → IsSettled k → Rests k
 unfolding all_forgotten Rests

@@ -1,6 +1,5 @@
 -- What the events that come before an attempt, or as a step, leave of a world as it was.
-use Rattle.std.proofs.Common.{arith}
-use Rattle.std.proofs.Common.{◌≡◌, List, ap}
+use Rattle.std.proofs.Common.{arith, ◌≡◌, List, ap}
 use Rattle.usb_world.specs.{Event, World, after_event, after_first_event, at_attempt, Coming}
 use Rattle.usb_world.proofs.courses.LiftedSteps.{OverEvents, over_ready, over_coming}
 

@@ -1,14 +1,12 @@
 -- What a plug or an unplug does to reachable, live and pending.
-use Rattle.std.proofs.Common.{arith}
-use Rattle.std.proofs.Common.{◌≡◌, ◌∙◌, ℕ, zero, suc, ◌&&◌, ◌⊎◌, inl, inr, Bool, true, false}
+use Rattle.std.proofs.Common.{arith, ◌≡◌, ◌∙◌, ℕ, zero, suc, ◌&&◌, ◌⊎◌, inl, inr, Bool, true, false}
 use Rattle.std.proofs.Common.{List, [], ◌∷◌, slice_get, is_some, Option, None, Some, refl, ap, sym}
 use Rattle.usb_device.specs.{Spec, Ports, ended, vacant, taken, empty, full, before, port_of}
 use Rattle.usb_device.specs.{replaced, changed, changed_at, reach, reach_at, Place}
 use Rattle.usb_world.specs.{Action, Plug, Unplug, with_plugged, after_change, way_of, names_path}
 use Rattle.usb_world.specs.declared.event.Action.TheVariants.{Change, Ask}
 use Rattle.usb_tree.specs.{has_power, has_power_at, pending, pending_at, is_way, on_way}
-use Rattle.usb_tree.proofs.Interface.{decided, and_kept, and_false, or-rises, or_right}
-use Rattle.usb_tree.proofs.Interface.{false_true}
+use Rattle.usb_tree.proofs.Interface.{decided, and_kept, and_false, or-rises, or_right, false_true}
 use Rattle.usb_world.proofs.ways.WayChanges.{changed_apart, SameThere, changed_there}
 
 -- A path to which the changed place is on the way

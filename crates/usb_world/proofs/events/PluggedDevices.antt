@@ -1,8 +1,8 @@
 -- What is plugged where in a course of steps.
-use Rattle.std.proofs.Common.{◌≡◌, ℕ, ◌+◌, ◌<◌, ◌&&◌, ⊎_elim, not, true, false, List, []}
-use Rattle.std.proofs.Common.{◌∷◌, ◌++◌, length, take, drop, Option, None, Some, is_some}
-use Rattle.std.proofs.Common.{option_map, slice_get, nat_lt, nat_le, refl, ap, sym, subst, ◌∙◌}
-use Rattle.std.proofs.Common.{arith, append_assoc, length-append}
+use Rattle.std.proofs.Common.{◌≡◌, ℕ, ◌+◌, ◌<◌, ◌&&◌, ⊎_elim, not, true, false, List, [], ◌∷◌, ◌++◌}
+use Rattle.std.proofs.Common.{length, take, drop, Option, None, Some, is_some, option_map}
+use Rattle.std.proofs.Common.{slice_get, nat_lt, nat_le, refl, ap, sym, subst, ◌∙◌, arith}
+use Rattle.std.proofs.Common.{append_assoc, length-append}
 use Rattle.std.proofs.lemmas.Bool.{ltb-true}
 use Rattle.std.proofs.lemmas.List.Elements.{All-head, All-tail}
 use Rattle.std.proofs.lemmas.Option.{slice_get_cases}
@@ -10,11 +10,10 @@ use Rattle.std.proofs.Math.Seq.{take-append_seam, drop-append_seam}
 use Rattle.usb_device.specs.{Spec, Ports, called, replaced, changed, state_there}
 use Rattle.usb_world.specs.{Action, Plug, Unplug, Event, after_most, PlanData, IsPlan, is_taken}
 use Rattle.usb_world.specs.{action_fits, event_fits, events_fit, PluggedMap, plugged_by}
-use Rattle.usb_world.specs.{plugged_after, index_at, device_indexed, has_port}
-use Rattle.usb_world.specs.{FollowsPlan, AtPorts, PlugsAtPort, spec_of, World, NoneNames}
-use Rattle.usb_world.specs.{Undisturbed, names_path, way_of, after_change, with_plugged}
-use Rattle.usb_world.specs.{after_event, at_attempt, damage_in, with_attempt, AnyStep, Course}
-use Rattle.usb_world.specs.{opening, ports_in}
+use Rattle.usb_world.specs.{plugged_after, index_at, device_indexed, has_port, FollowsPlan, AtPorts}
+use Rattle.usb_world.specs.{PlugsAtPort, spec_of, World, NoneNames, Undisturbed, names_path, way_of}
+use Rattle.usb_world.specs.{after_change, with_plugged, after_event, at_attempt, damage_in}
+use Rattle.usb_world.specs.{with_attempt, AnyStep, Course, opening, ports_in}
 use Rattle.usb_world.specs.declared.event.Action.TheVariants.{Change, Ask}
 use Rattle.usb_tree.specs.{is_way}
 use Rattle.usb_tree.proofs.Interface.{false_true, both}
@@ -26,8 +25,8 @@ use Rattle.usb_world.proofs.events.PluggedShapes.{shape_with, there_other, gaps,
 use Rattle.usb_world.proofs.events.PluggedShapes.{fits_gaps, fits_there}
 use Rattle.usb_world.proofs.events.PluggedPorts.{shape, described_there, shape_root, shape_attempt}
 use Rattle.usb_world.proofs.events.PluggedPorts.{shape_new, shape_event}
-use Rattle.usb_world.proofs.events.PluggedTrees.{told_of, Agrees, agrees_plug}
-use Rattle.usb_world.proofs.events.PluggedTrees.{agrees_unplug, has_port-there}
+use Rattle.usb_world.proofs.events.PluggedTrees.{told_of, Agrees, agrees_plug, agrees_unplug}
+use Rattle.usb_world.proofs.events.PluggedTrees.{has_port-there}
 
 -- the same devices stand at the same ports, and the same events are left
 record SameShape (w v : World) : Type 0 where

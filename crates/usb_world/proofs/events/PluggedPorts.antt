@@ -1,8 +1,7 @@
 -- Which devices stand at ports: calls, packets and resets leave them, and an event puts one there
 -- or takes it away.
-use Rattle.std.proofs.Common.{arith}
-use Rattle.std.proofs.Common.{◌≡◌, ℕ, zero, suc, Bool, true, List, []}
-use Rattle.std.proofs.Common.{◌∷◌, Option, option_map, refl, ap, ap₂, ◌∙◌}
+use Rattle.std.proofs.Common.{arith, ◌≡◌, ℕ, zero, suc, Bool, true, List, [], ◌∷◌, Option}
+use Rattle.std.proofs.Common.{option_map, refl, ap, ap₂, ◌∙◌}
 use Rattle.usb_port.specs.{PortCall}
 use Rattle.usb_device.specs.{Effect, Leaves, Calls, PortsOff, Sent, Spec, Hub, fresh, reset_state}
 use Rattle.usb_device.specs.{Ports, ended, vacant, taken, empty, full, before, all_off, new_ports}

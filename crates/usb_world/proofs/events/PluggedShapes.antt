@@ -15,18 +15,15 @@ pub data Shape : Type 0 where
 
 -- the description of the device there
 unfoldable pub spec_at : Shape → ℕ → List ℕ → Option Spec
-spec_at bare i p = None
-spec_at (gap x) zero p = None
 spec_at (gap x) (suc i) p = spec_at x i p
 spec_at (stands t a x) zero [] = Some t
-spec_at (stands t a x) zero (zero ∷ p) = None
 spec_at (stands t a x) zero (suc j ∷ p) = spec_at a j p
 spec_at (stands t a x) (suc i) p = spec_at x i p
+spec_at _ _ _ = None
 
 abbrev pub spec_there : Shape → List ℕ → Option Spec
-spec_there x [] = None
-spec_there x (zero ∷ p) = None
 spec_there x (suc i ∷ p) = spec_at x i p
+spec_there x _ = None
 
 -- whether a port stands there
 unfoldable pub has_at : Shape → ℕ → List ℕ → Bool
@@ -44,11 +41,9 @@ has_there x p = false
 -- so many ports, and each device has as many as its description says
 unfoldable pub ShapeFits : Shape → ℕ → Type 0
 ShapeFits bare zero = ⊤
-ShapeFits bare (suc n) = ⊥
-ShapeFits (gap x) zero = ⊥
 ShapeFits (gap x) (suc n) = ShapeFits x n
-ShapeFits (stands t a x) zero = ⊥
 ShapeFits (stands t a x) (suc n) = ShapeFits a (hub_ports t.hub) × ShapeFits x n
+ShapeFits _ _ = ⊥
 
 -- so many empty ports
 unfoldable pub gaps : ℕ → Shape

@@ -19,13 +19,12 @@ use Rattle.usb_device.specs.{Spec}
 use Rattle.usb_tree.specs.{same_path, is_way}
 use Rattle.usb_world.specs.{PluggedMap, index_at, device_indexed, plugged_without, spec_port_count}
 use Rattle.usb_world.specs.{is_rooted, parent_has, has_port}
-use Rattle.usb_tree.proofs.Interface.{false_true, both, either_of, decided}
+use Rattle.usb_tree.proofs.Interface.{false_true, both, either_of, decided, self_path}
 use Rattle.usb_world.proofs.ports.RootResets.{same_is}
 use Rattle.usb_world.proofs.ways.Ways.{way_starts}
 use Rattle.usb_world.proofs.events.PluggedShapes.{Shape, ShapeFits, spec_at, spec_there, has_there}
 use Rattle.usb_world.proofs.events.PluggedShapes.{shape_with, there_none, there_here, there_below}
 use Rattle.usb_world.proofs.events.PluggedShapes.{there_off, there_other, has_first, has_at-below}
-use Rattle.usb_tree.proofs.Interface.{self_path}
 
 -- Paths
 
@@ -52,8 +51,7 @@ insert_other [] e d q n = rw n refl
 insert_other (x ∷ tree) e d q n = split (path_cmp e x.0) refl (insert_other tree e d q n)
   where
     split : (r : Ordering) → path_cmp e x.0 ≡ r → index_at (insert_entry path_cmp tree e d) q
-        ≡ index_at tree q
-        → index_at (match_ordering r ((e, d) ∷ x ∷ tree) ((x.0, d) ∷ tree)
+        ≡ index_at tree q → index_at (match_ordering r ((e, d) ∷ x ∷ tree) ((x.0, d) ∷ tree)
         (x ∷ insert_entry path_cmp tree e d)) q ≡ index_at (x ∷ tree) q
     split Less h ih = rw n refl
     split Equal h ih = let m : is_eq (path_cmp q x.0) ≡ false =
@@ -72,9 +70,8 @@ unplugged_at tree e q =
 -- the device that a plan has there has the description of that which stands there
 abbrev pub PlugAgrees : List Spec → Option Spec → Option ℕ → Type 0
 PlugAgrees ds None None = ⊤
-PlugAgrees ds None (Some d) = ⊥
-PlugAgrees ds (Some t) None = ⊥
 PlugAgrees ds (Some t) (Some d) = slice_get ds d ≡ Some t
+PlugAgrees ds _ _ = ⊥
 
 pub told_of : (ds : List Spec) (o : Option Spec) (d : Option ℕ) → PlugAgrees ds o d
     → o ≡ device_indexed ds d

@@ -1,18 +1,18 @@
 -- One device over attempts: what it was before, seen from where it is reachable now.
-use Rattle.std.proofs.Common.{arith}
-use Rattle.std.proofs.Common.{◌≡◌, ℕ, zero, suc, ◌==◌, ◌&&◌, ◌⊎◌, inl, inr, Bool, true, false, List}
-use Rattle.std.proofs.Common.{[], ◌∷◌, Option, None, Some, is_some, refl, ap, ap₂, sym, subst, ◌∙◌}
+use Rattle.std.proofs.Common.{arith, ◌≡◌, ℕ, zero, suc, ◌==◌, ◌&&◌, ◌⊎◌, inl, inr, Bool, true}
+use Rattle.std.proofs.Common.{false, List, [], ◌∷◌, Option, None, Some, is_some, refl, ap, ap₂, sym}
+use Rattle.std.proofs.Common.{subst, ◌∙◌}
 use Rattle.std.proofs.lemmas.Option.{same_Some}
 use Rattle.usb_packet.specs.{Toggle}
-use Rattle.usb_device.specs.{State, Reply, Way, Ports, vacant, taken, reach_at, state_at}
-use Rattle.usb_device.specs.{state_on, Location, path_to, reach_on}
+use Rattle.usb_device.specs.{State, Reply, Way, Ports, vacant, taken, reach_at, state_at, state_on}
+use Rattle.usb_device.specs.{Location, path_to, reach_on}
 use Rattle.usb_device.specs.Attempt.{whole}
-use Rattle.usb_world.specs.{Attempt, World, at_attempt, damage_in, attempt, after}
-use Rattle.usb_world.specs.{made_resets, resets, is_setup, token_way, payload_way, answer_way}
-use Rattle.usb_world.specs.{reply_way, IsSetup, IsOut, IsIn, hears_attempt, IsMade, HolderIn}
-use Rattle.usb_world.specs.{Relation, Was, EachWas, Ways, DidIn, DidOut, DidSetup}
+use Rattle.usb_world.specs.{Attempt, World, at_attempt, damage_in, attempt, after, made_resets}
+use Rattle.usb_world.specs.{resets, is_setup, token_way, payload_way, answer_way, reply_way}
+use Rattle.usb_world.specs.{IsSetup, IsOut, IsIn, hears_attempt, IsMade, HolderIn, Relation, Was}
+use Rattle.usb_world.specs.{EachWas, Ways, DidIn, DidOut, DidSetup}
 use Rattle.usb_tree.specs.{address_of, same_number, same_path, reset_if, deep_at, NobodyHolds}
-use Rattle.usb_tree.proofs.Interface.{false_true, both, decided}
+use Rattle.usb_tree.proofs.Interface.{false_true, both, decided, same_equal, swapped}
 use Rattle.usb_world.proofs.courses.Courses.{made_reach}
 use Rattle.usb_world.proofs.addresses.AddressesKept.{ready_stood}
 use Rattle.usb_world.proofs.addresses.AddressesInTransfers.{data_calm}
@@ -24,7 +24,6 @@ use Rattle.usb_world.proofs.holders.OneHolderAttempts.{holder_in, silent_in, oth
 use Rattle.usb_world.proofs.holders.OneHolderAttempts.{out_in, in_in, setup_sound_in, out_sound_in}
 use Rattle.usb_world.proofs.holders.OneHolderAttempts.{in_sound_in, ExchangedIn}
 use Rattle.usb_world.proofs.holders.HolderOfAttempt.{holder_or_nobody}
-use Rattle.usb_tree.proofs.Interface.{same_equal, swapped}
 
 -- Over courses
 
@@ -33,8 +32,7 @@ pub each_none : (R : Relation) → ((j : Location) (s : State) → R j s s) → 
 each_none R f w j s on there = record { before = s; on = on; stands = there; so = f j s }
 
 pub each_joined : (R S T : Relation) → ((j : Location) (s u v : State) → R j s u → S j u v
-    → T j s v)
-    → (old mid new : World) → EachWas R old mid → EachWas S mid new → EachWas T old new
+    → T j s v) → (old mid new : World) → EachWas R old mid → EachWas S mid new → EachWas T old new
 each_joined R S T f old mid new x y j s on there =
     let later : Was S mid j s = y j s on there in
     let sooner : Was R old j later.before = x j later.before later.on later.stands in

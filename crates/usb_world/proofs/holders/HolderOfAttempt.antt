@@ -1,12 +1,10 @@
 -- Where no address is held twice, one device holds the address of an attempt or none does.
-use Rattle.std.proofs.Common.{arith}
-use Rattle.std.proofs.Common.{◌≡◌, ◌⊎◌, inl, inr, true, false}
+use Rattle.std.proofs.Common.{arith, ◌≡◌, ◌⊎◌, inl, inr, true, false}
 use Rattle.usb_world.specs.{Attempt, World, at_attempt, outcome_in, attempt, after, IsMade}
 use Rattle.usb_world.specs.{HolderIn, AttemptAnswerer}
 use Rattle.usb_world.specs.declared.types.Outcome.TheVariants.{Nothing}
 use Rattle.usb_tree.specs.{NobodyHolds}
-use Rattle.usb_tree.proofs.Interface.{decided}
-use Rattle.usb_tree.proofs.Interface.{who_holds}
+use Rattle.usb_tree.proofs.Interface.{decided, who_holds}
 use Rattle.usb_world.proofs.holders.OneHolderAttempts.{nobody_in, silent_in}
 
 -- one device holds the address of an attempt, or none does

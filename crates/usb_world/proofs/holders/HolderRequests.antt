@@ -1,12 +1,9 @@
 -- What an attempt asks of ports, where one reachable device holds its address: it alone can ask
 -- anything.
-use Rattle.std.proofs.Common.{arith}
-use Rattle.std.proofs.Common.{◌≡◌, ℕ, zero, suc, ◌&&◌, not, if◌then◌else◌, ◌⊎◌, inl}
-use Rattle.std.proofs.Common.{inr, Bool, true, false, List, [], ◌∷◌, ◌++◌, Option, None, Some}
-use Rattle.std.proofs.Common.{refl, ap, ap₂, sym, subst, ◌∙◌}
-use Rattle.usb_request.specs.{PORT_RESET}
-use Rattle.usb_request.specs.{PORT_OUT}
-use Rattle.usb_request.specs.{Setup, setup_of}
+use Rattle.std.proofs.Common.{arith, ◌≡◌, ℕ, zero, suc, ◌&&◌, not, ◌⊎◌, inl, inr, Bool, true, false}
+use Rattle.std.proofs.Common.{List, [], ◌∷◌, ◌++◌, Option, None, Some, refl, ap, ap₂, sym, subst}
+use Rattle.std.proofs.Common.{◌∙◌}
+use Rattle.usb_request.specs.{PORT_RESET, PORT_OUT, Setup, setup_of}
 use Rattle.usb_device.specs.{Sent, Effect, Leaves, Calls, State, Ports, state_at, path_to}
 use Rattle.usb_device.specs.{effect_of, after_packet}
 use Rattle.usb_device.specs.declared.transfer.RememberedPacket.TheVariants.{Nothing}
@@ -17,8 +14,8 @@ use Rattle.usb_world.specs.{is_above}
 use Rattle.usb_tree.specs.{same_number, same_path, is_way, after_sent, IsTokenFor, IfOut, IsSettled}
 use Rattle.usb_tree.specs.{OneHolds, sent_keeps_pending, sent_resets, effect_resets, resets_at}
 use Rattle.usb_tree.specs.{effect_keeps_pending, leaves_port}
-use Rattle.usb_tree.proofs.Interface.{false_true, both, decided, and_false}
-use Rattle.usb_tree.proofs.Interface.{not-true}
+use Rattle.usb_tree.proofs.Interface.{false_true, both, decided, and_false, not-true, OnWay}
+use Rattle.usb_tree.proofs.Interface.{spares_if, way_leaves-on_way, resets_if, self_number, unreset}
 use Rattle.usb_world.proofs.packets.AttemptPackets.{calm_sent, token_out as token_calm}
 use Rattle.usb_world.proofs.holders.OneDevice.{settled_memory, rest_state, rested_effect}
 use Rattle.usb_world.proofs.holders.OneDevice.{token_calls, other_address}
@@ -28,10 +25,7 @@ use Rattle.usb_world.proofs.courses.Courses.{goes}
 use Rattle.usb_world.proofs.ports.RootResets.{same_number-is, same_is}
 use Rattle.usb_world.proofs.ports.PortRequests.{Allows, AllowsOut, PayloadAllows, sent_allowed}
 use Rattle.usb_world.proofs.ports.PortRequests.{payload_allowed}
-use Rattle.usb_tree.proofs.Interface.{OnWay, spares_if, way_leaves-on_way, resets_if}
 use Rattle.usb_world.proofs.ports.ChangeBits.{left_effect}
-use Rattle.usb_tree.proofs.Interface.{self_number}
-use Rattle.usb_tree.proofs.Interface.{unreset}
 use Rattle.usb_world.proofs.ways.Ways.{way_on}
 
 -- after the token no other device remembers anything
@@ -140,8 +134,7 @@ module _ (a : Attempt) (w : World) (h : HolderIn a w) where
   -- no device but the holder asks anything of its ports once the token is gone, whatever comes then
   pub others_leave : (i : ℕ) (e : List ℕ) (t : State) → (same_number i j && same_path e p) ≡ false
       → state_at (after_sent (token_out a (damage_in (at_attempt w))) (at_attempt w).roots) i e
-      ≡ Some t
-      → (q : Sent) (deep : Bool) → effect_of q deep t ≡ Leaves
+      ≡ Some t → (q : Sent) (deep : Bool) → effect_of q deep t ≡ Leaves
   others_leave i e t differ at q deep =
       rested_effect q deep t (others_forgot a.addr (token_out a (damage_in (at_attempt w)))
       (goes a (damage_in (at_attempt w)) k).token k j p one.settled

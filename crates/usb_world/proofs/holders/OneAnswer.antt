@@ -1,21 +1,20 @@
 -- Where no address is held twice, at most one device answers an attempt.
-use Rattle.std.proofs.Common.{◌≡◌, ◌≤◌, ℕ, false, List, [], ◌++◌, length}
-use Rattle.std.proofs.Common.{Option, None, Some, is_some, refl, ap₂, sym, ◌∙◌, arith}
+use Rattle.std.proofs.Common.{◌≡◌, ◌≤◌, ℕ, false, List, [], ◌++◌, length, Option, None, Some}
+use Rattle.std.proofs.Common.{is_some, refl, ap₂, sym, ◌∙◌, arith}
 use Rattle.arrayvec.specs.ArrayVec.{ArrayVec}
 use Rattle.usb_packet.specs.{Token, Toggle, TokenKind, OutTok, InTok, SetupTok}
 use Rattle.usb_packet.specs.declared.Packet.TheVariants as packet
 use Rattle.usb_device.specs.{Answer, Ports, row_of, held_addresses, repeats, listed}
 use Rattle.usb_world.specs.{Attempt, Damage, heard_all, heard_in, token_out, payload_out, reply_out}
-use Rattle.usb_world.specs.{exchange_in, IsMade, at_attempt, made_in, with_attempt}
-use Rattle.usb_world.specs.{attempt, after, World, IsAttempt, sends_data}
+use Rattle.usb_world.specs.{exchange_in, IsMade, at_attempt, made_in, with_attempt, attempt, after}
+use Rattle.usb_world.specs.{World, IsAttempt, sends_data}
 use Rattle.usb_world.specs.declared.exchange.ExchangeAnswer.TheVariants.{Collision}
 use Rattle.usb_tree.specs.{after_sent, answers_to, IsSettled, NobodyHolds}
-use Rattle.usb_tree.proofs.Interface.{false_true}
+use Rattle.usb_tree.proofs.Interface.{false_true, who_holds}
 use Rattle.usb_world.proofs.holders.OneDevice.{nobody_answers}
 use Rattle.usb_world.proofs.holders.OneHolder.{sent_heard, asked_heard, token_of-fields, data_is}
 use Rattle.usb_world.proofs.holders.OneHolder.{none_is, setup_quiet, out_quiet, Holder}
 use Rattle.usb_world.proofs.holders.OneHolderAttempts.{ready_settled, made_is}
-use Rattle.usb_tree.proofs.Interface.{who_holds}
 use Rattle.usb_world.proofs.courses.Courses.{goes}
 
 alone : (o : Option Answer) → heard_all (listed o []) ≡ Collision → ⊥

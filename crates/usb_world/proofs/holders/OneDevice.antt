@@ -1,7 +1,6 @@
 -- Between attempts nothing is remembered: so an attempt concerns the device at its address alone.
-use Rattle.std.proofs.Common.{arith}
-use Rattle.std.proofs.Common.{◌≡◌, ℕ, zero, suc, ◌==◌, ◌&&◌, ◌||◌, not, if◌then◌else◌, ◌⊎◌, inl}
-use Rattle.std.proofs.Common.{inr, Bool, true, false, List, [], ◌∷◌, ◌++◌, Option, None, Some}
+use Rattle.std.proofs.Common.{arith, ◌≡◌, ℕ, zero, suc, ◌==◌, ◌&&◌, ◌||◌, not, if◌then◌else◌, ◌⊎◌}
+use Rattle.std.proofs.Common.{inl, inr, Bool, true, false, List, [], ◌∷◌, ◌++◌, Option, None, Some}
 use Rattle.std.proofs.Common.{option_map, refl, ap, sym, subst, ◌∙◌}
 use Rattle.usb_device.specs.{Answer, Content, Sent, Leaves, State, forgotten, reset_state, asks}
 use Rattle.usb_device.specs.{Ports, ended, vacant, taken, empty, full, acted, reach_at, state_at}
@@ -12,21 +11,18 @@ use Rattle.usb_tree.specs.{address_of, same_number, same_path, resets_at, reset_
 use Rattle.usb_tree.specs.{answers_to, after_attempt, deep_at, calls_on, IsTokenFor, IsDataOut}
 use Rattle.usb_tree.specs.{IsAckOut, IfOut, IsAttemptAt, sent_resets, attempt_resets, IsSettled}
 use Rattle.usb_tree.specs.{NobodyHolds, OneHolds, OthersForgot, OthersUncalled}
-use Rattle.usb_tree.proofs.Interface.{false_true, both, and_of, decided}
-use Rattle.usb_tree.proofs.Interface.{is_twice-one_path}
+use Rattle.usb_tree.proofs.Interface.{false_true, both, and_of, decided, is_twice-one_path}
+use Rattle.usb_tree.proofs.Interface.{equal_same, self_number, self_path, reset_if-false}
 use Rattle.usb_world.proofs.packets.PacketEffects.{packet_state, true_deep, heard_state}
 use Rattle.usb_world.proofs.packets.AttemptPackets.{token_out, ack_out, calm_sent, rested_answer}
 use Rattle.usb_world.proofs.packets.AttemptPackets.{forgotten_state, forgotten_at, ack_calls}
 use Rattle.usb_world.proofs.packets.PacketPlaces.{way_place, way_reach, is_left, way_rests}
 use Rattle.usb_world.proofs.packets.PacketPlaces.{heard_place, place_after_sent}
-use Rattle.usb_tree.proofs.Interface.{equal_same, self_number, self_path}
-use Rattle.usb_tree.proofs.Interface.{reset_if-false}
 
 -- a device's answer
 abbrev pub answer_at : Sent → Bool → Option Place → List Answer
-answer_at q deep None = []
-answer_at q deep (Some (empty b)) = []
 answer_at q deep (Some (full b s a)) = listed (answer_of q deep s a).0 []
+answer_at q deep _ = []
 
 abbrev pub answers_at : Option Sent → Bool → Option Place → List Answer
 answers_at None deep x = []
@@ -89,8 +85,7 @@ rest_packet q deep (taken b s a k) c =
     (rest_packet q deep k (λ i e. c (suc i) e))
   where
     split : (x : Bool) → b.enable ≡ x → (b.enable ≡ true → after_packet q true a ≡ a)
-        → after_packet q deep k ≡ k
-        → (if x then taken b (answer_of q deep s a).1
+        → after_packet q deep k ≡ k → (if x then taken b (answer_of q deep s a).1
         (acted (effect_of q deep s) (after_packet q true a)) (after_packet q deep k)
         else taken b s a (after_packet q deep k)) ≡ taken b s a k
     split true on below further =

@@ -1,20 +1,17 @@
 -- An attempt, where one reachable device holds its address or none does.
-use Rattle.std.proofs.Common.{arith}
-use Rattle.std.proofs.Common.{◌≡◌, ℕ, ◌+◌, ◌&&◌, if◌then◌else◌, Bool, true, false}
-use Rattle.std.proofs.Common.{List, [], ◌++◌, length, Option, None, Some, option_map, refl, ap}
-use Rattle.std.proofs.Common.{ap₂, sym, subst, ◌∙◌}
+use Rattle.std.proofs.Common.{arith, ◌≡◌, ℕ, ◌+◌, ◌&&◌, if◌then◌else◌, Bool, true, false, List, []}
+use Rattle.std.proofs.Common.{◌++◌, length, Option, None, Some, option_map, refl, ap, ap₂, sym}
+use Rattle.std.proofs.Common.{subst, ◌∙◌}
 use Rattle.arrayvec.specs.ArrayVec.{ArrayVec}
-use Rattle.usb_packet.specs.{Packet, Token, Toggle, Zero, TokenKind, OutTok, InTok}
-use Rattle.usb_packet.specs.{SetupTok}
+use Rattle.usb_packet.specs.{Packet, Token, Toggle, Zero, TokenKind, OutTok, InTok, SetupTok}
 use Rattle.usb_packet.specs.declared.Packet.TheVariants as packet
 use Rattle.usb_port.specs.{PortState}
-use Rattle.usb_device.specs.{Answer, Sent, State}
-use Rattle.usb_device.specs.{Reply, received, unread, forgotten, accepted}
-use Rattle.usb_device.specs.{data_row, Way, is_whole, through, heard, is_good, sends}
-use Rattle.usb_device.specs.{acked, setup_exchange, out_exchange, in_exchange, setup_law, out_law}
-use Rattle.usb_device.specs.{in_law, Ports, full, acted, row_of, state_at, place_at, state_on}
-use Rattle.usb_device.specs.{answer_of, effect_of, after_packet, listed, held_addresses}
-use Rattle.usb_device.specs.{repeats, forgotten_place}
+use Rattle.usb_device.specs.{Answer, Sent, State, Reply, received, unread, forgotten, accepted}
+use Rattle.usb_device.specs.{data_row, Way, is_whole, through, heard, is_good, sends, acked}
+use Rattle.usb_device.specs.{setup_exchange, out_exchange, in_exchange, setup_law, out_law, in_law}
+use Rattle.usb_device.specs.{Ports, full, acted, row_of, state_at, place_at, state_on, answer_of}
+use Rattle.usb_device.specs.{effect_of, after_packet, listed, held_addresses, repeats}
+use Rattle.usb_device.specs.{forgotten_place}
 use Rattle.usb_device.specs.declared.answer.Answer.TheVariants as answer
 use Rattle.usb_device.specs.declared.delivery.Content.TheVariants as content
 use Rattle.usb_device.specs.declared.transfer.RememberedPacket.TheVariants as memory
@@ -22,11 +19,11 @@ use Rattle.usb_request.specs.{setup_of}
 use Rattle.usb_device.specs.Attempt.{whole}
 use Rattle.usb_device.proofs.Interface.{in_is, keeps-received, out_is, row_of-after, setup_is}
 use Rattle.usb_world.specs.{Attempt, Damage, ExchangeAnswer, Mark, is_read, mark_of, harm_to}
-use Rattle.usb_world.specs.{marked, marked_some, token_of, payload_of, reply_of}
-use Rattle.usb_world.specs.{outcome_of, sent_as, goes_out, heard_all, token_out, payload_out}
-use Rattle.usb_world.specs.{reply_out, heard_in, mark_in, place_of_answer, ports_in}
-use Rattle.usb_world.specs.{way_to, way_back, got, token_way, payload_way, answer_way, reply_way}
-use Rattle.usb_world.specs.{out_alone, in_alone, IsSetup, IsOut, IsIn}
+use Rattle.usb_world.specs.{marked, marked_some, token_of, payload_of, reply_of, outcome_of}
+use Rattle.usb_world.specs.{sent_as, goes_out, heard_all, token_out, payload_out, reply_out}
+use Rattle.usb_world.specs.{heard_in, mark_in, place_of_answer, ports_in, way_to, way_back, got}
+use Rattle.usb_world.specs.{token_way, payload_way, answer_way, reply_way, out_alone, in_alone}
+use Rattle.usb_world.specs.{IsSetup, IsOut, IsIn}
 use Rattle.usb_world.specs.declared.types.Outcome.TheVariants as outcome
 use Rattle.usb_world.specs.declared.exchange.ExchangeAnswer.TheVariants.{Nothing}
 use Rattle.usb_world.specs.declared.wire.Mark.TheVariants as mark
@@ -115,8 +112,7 @@ unfolding marked
 token_comes a d deep s row = grind arith
 
 some_comes : (a : Attempt) (d : Option Damage) (n : ℕ) (p : Packet) (deep : Bool) (s : State)
-    (row : List PortState)
-    → heard_by (goes_out a (marked_some d n a.pre (Some p))) deep s row
+    (row : List PortState) → heard_by (goes_out a (marked_some d n a.pre (Some p))) deep s row
     ≡ through (way_to deep s (goes_out a (marked_some d n a.pre (Some p)))) s row p
 unfolding marked marked_some
 some_comes a d n p deep s row = comes a.low a.pre (mark_of (harm_to d n) a.pre p) p deep s row

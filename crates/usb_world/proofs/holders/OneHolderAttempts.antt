@@ -1,8 +1,7 @@
 -- A silent holder, attempts without damage, and the attempts of a world.
-use Rattle.std.proofs.Common.{arith}
-use Rattle.std.proofs.Common.{◌≡◌, ℕ, suc, ◌+◌, ◌&&◌, not, if◌then◌else◌, Bool, true, false, List}
-use Rattle.std.proofs.Common.{[], ◌∷◌, ◌++◌, Option, None, Some, is_some, refl, ap, ap₂, sym, subst}
-use Rattle.std.proofs.Common.{◌∙◌}
+use Rattle.std.proofs.Common.{arith, ◌≡◌, ℕ, suc, ◌+◌, ◌&&◌, not, if◌then◌else◌, Bool, true, false}
+use Rattle.std.proofs.Common.{List, [], ◌∷◌, ◌++◌, Option, None, Some, is_some, refl, ap, ap₂, sym}
+use Rattle.std.proofs.Common.{subst, ◌∙◌}
 use Rattle.usb_packet.specs.{Packet, Token, Toggle, InTok}
 use Rattle.usb_packet.specs.declared.Packet.TheVariants as packet
 use Rattle.usb_port.specs.{PortState}
@@ -10,19 +9,17 @@ use Rattle.usb_request.specs.{setup_of}
 use Rattle.usb_device.specs.declared.answer.Answer.TheVariants as answer
 use Rattle.usb_device.specs.{Content, Sent, State, Reply, forgotten, accepted, data_row, Way, lost}
 use Rattle.usb_device.specs.{through, heard, is_good, acked, setup_law, out_law, in_law, Ports}
-use Rattle.usb_device.specs.{row_of, state_at, state_on, reply_to, listed, held_addresses}
-use Rattle.usb_device.specs.{repeats}
+use Rattle.usb_device.specs.{row_of, state_at, state_on, reply_to, listed, held_addresses, repeats}
 use Rattle.usb_device.specs.declared.delivery.Content.TheVariants as content
 use Rattle.usb_device.specs.Attempt.{whole}
 use Rattle.usb_device.proofs.Interface.{silent-stays, silent-unread}
 use Rattle.usb_world.specs.{Attempt, LimitReached, Damage, ExchangeAnswer, mark_of, harm_to, marked}
 use Rattle.usb_world.specs.{marked_some, token_of, payload_of, reply_of, answer_mark, goes_out}
-use Rattle.usb_world.specs.{heard_all, token_out, payload_out, heard_in, mark_in}
-use Rattle.usb_world.specs.{place_of_answer, ports_in, reply_in, World, Made, is_made, resets}
-use Rattle.usb_world.specs.{AnyStep, at_attempt, damage_in, with_attempt, outcome_in, attempt}
-use Rattle.usb_world.specs.{after, way_to, token_way, answer_way, reply_way, out_alone}
-use Rattle.usb_world.specs.{in_alone, IsSetup, IsOut, IsIn, hears_attempt, IsMade, HolderIn}
-use Rattle.usb_world.specs.{payload_way, got}
+use Rattle.usb_world.specs.{heard_all, token_out, payload_out, heard_in, mark_in, place_of_answer}
+use Rattle.usb_world.specs.{ports_in, reply_in, World, Made, is_made, resets, AnyStep, at_attempt}
+use Rattle.usb_world.specs.{damage_in, with_attempt, outcome_in, attempt, after, way_to, token_way}
+use Rattle.usb_world.specs.{answer_way, reply_way, out_alone, in_alone, IsSetup, IsOut, IsIn}
+use Rattle.usb_world.specs.{hears_attempt, IsMade, HolderIn, payload_way, got}
 use Rattle.usb_world.specs.declared.types.Outcome.TheVariants as outcome
 use Rattle.usb_world.specs.declared.exchange.ExchangeAnswer.TheVariants.{Nothing}
 use Rattle.usb_world.specs.declared.wire.Mark.TheVariants as mark
@@ -83,8 +80,7 @@ module _ (a : Attempt) (d : Option Damage) (k : Ports) (h : Holder a.addr k) whe
 
   -- the other devices
   pub others_one : (i : ℕ) (e : List ℕ) (v : State) → (same_number i j && same_path e p) ≡ false
-      → state_at k i e ≡ Some v
-      → state_at (ports_in a d k) i e ≡ Some
+      → state_at k i e ≡ Some v → state_at (ports_in a d k) i e ≡ Some
       (reset_if (attempt_resets (token_out a d) (payload_out a d) k i e) v)
   unfolding ports_in
   others_one = (acts a d k h).others
@@ -271,8 +267,7 @@ module _ (a : Attempt) (w : World) (h : HolderIn a w) where
       (silent_one a (damage_in (at_attempt w)) (at_attempt w).roots holder_in silent)
 
   pub others_in : (i : ℕ) (e : List ℕ) (v : State) → (same_number i j && same_path e p) ≡ false
-      → state_at (at_attempt w).roots i e ≡ Some v
-      → state_at (after (attempt a) w).roots i e
+      → state_at (at_attempt w).roots i e ≡ Some v → state_at (after (attempt a) w).roots i e
       ≡ Some (reset_if (resets (attempt a) w (suc i ∷ e)) v)
   unfolding with_attempt resets
   others_in i e v differ stands_there =

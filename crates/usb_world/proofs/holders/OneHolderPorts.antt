@@ -1,19 +1,18 @@
 -- The ports of the one holder after an attempt: as they were, but for what its request asks of
 -- them.
-use Rattle.std.proofs.Common.{arith}
-use Rattle.std.proofs.Common.{◌≡◌, ℕ, zero, suc, ◌+◌, ◌==◌, ◌&&◌, if◌then◌else◌, inl}
-use Rattle.std.proofs.Common.{inr, Bool, true, false, List, [], ◌∷◌, ◌++◌, length, Option, None}
-use Rattle.std.proofs.Common.{Some, option_map, is_some, refl, ap, ap₂, sym, ◌∙◌}
+use Rattle.std.proofs.Common.{arith, ◌≡◌, ℕ, zero, suc, ◌+◌, ◌==◌, ◌&&◌, if◌then◌else◌, inl, inr}
+use Rattle.std.proofs.Common.{Bool, true, false, List, [], ◌∷◌, ◌++◌, length, Option, None, Some}
+use Rattle.std.proofs.Common.{option_map, is_some, refl, ap, ap₂, sym, ◌∙◌}
 use Rattle.std.proofs.lemmas.Option.{same_Some}
 use Rattle.arrayvec.specs.ArrayVec.{ArrayVec}
 use Rattle.usb_packet.specs.{Packet, Token, Toggle, Zero, OutTok, SetupTok}
 use Rattle.usb_packet.specs.declared.Packet.TheVariants as packet
 use Rattle.usb_port.specs.{PortState}
 use Rattle.usb_request.specs.{setup_of}
-use Rattle.usb_device.specs.{Content, Sent, Effect, Leaves, Calls, PortsOff, State, Reply, received}
-use Rattle.usb_device.specs.{unread, forgotten, asks, asked_by_setup, Way, lost, is_whole, through}
-use Rattle.usb_device.specs.{is_own, Ports, ended, vacant, taken, full, acted, all_off, row_of}
-use Rattle.usb_device.specs.{reach_at, state_at, place_at, effect_of, after_packet, all_forgotten}
+use Rattle.usb_device.specs.{Sent, Effect, Leaves, Calls, PortsOff, State, Reply, received, unread}
+use Rattle.usb_device.specs.{forgotten, asks, asked_by_setup, Way, lost, is_whole, through, is_own}
+use Rattle.usb_device.specs.{Ports, ended, vacant, taken, full, acted, all_off, row_of, reach_at}
+use Rattle.usb_device.specs.{state_at, place_at, effect_of, after_packet, all_forgotten}
 use Rattle.usb_device.specs.{forgotten_place, Place}
 use Rattle.usb_device.specs.declared.delivery.Content.TheVariants as content
 use Rattle.usb_device.specs.declared.transfer.RememberedPacket.TheVariants as memory
@@ -27,11 +26,11 @@ use Rattle.usb_world.specs.{out_alone, in_alone, setup_asked}
 use Rattle.usb_world.specs.declared.exchange.ExchangeAnswer.TheVariants as heard
 use Rattle.usb_world.specs.declared.wire.Mark.TheVariants as mark
 use Rattle.usb_tree.specs.{address_of, deep_at, IsSettled, NobodyHolds, OneHolds}
-use Rattle.usb_tree.proofs.Interface.{false_true, both, and_of, decided}
-use Rattle.usb_tree.proofs.Interface.{is_twice-one_path}
+use Rattle.usb_tree.proofs.Interface.{false_true, both, and_of, decided, is_twice-one_path}
+use Rattle.usb_tree.proofs.Interface.{equal_same}
 use Rattle.usb_world.proofs.packets.AttemptPackets.{CalmOut, token_out as token_calm}
-use Rattle.usb_world.proofs.packets.AttemptPackets.{ack_out as ack_calm}
-use Rattle.usb_world.proofs.packets.AttemptPackets.{forgotten_at, forgotten_off}
+use Rattle.usb_world.proofs.packets.AttemptPackets.{ack_out as ack_calm, forgotten_at}
+use Rattle.usb_world.proofs.packets.AttemptPackets.{forgotten_off}
 use Rattle.usb_world.proofs.courses.StepInvariants.{settled_called}
 use Rattle.usb_world.proofs.holders.OneDevice.{rest_packet, settled_memory, stands, place_after}
 use Rattle.usb_world.proofs.courses.Courses.{goes}
@@ -42,7 +41,6 @@ use Rattle.usb_world.proofs.holders.OneHolder.{none_is, token_comes, no_payload,
 use Rattle.usb_world.proofs.holders.OneHolder.{way_same, setup_one, out_one, in_one, setup_alone}
 use Rattle.usb_world.proofs.holders.OneHolder.{Holder, ExchangedWithHolder}
 use Rattle.usb_world.proofs.holders.OneHolderAttempts.{first_silent, silent_one, made_is, holder_in}
-use Rattle.usb_tree.proofs.Interface.{equal_same}
 use Rattle.usb_device.proofs.Interface.{same_number}
 use Rattle.usb_world.proofs.packets.PacketPlaces.{place_after_sent}
 

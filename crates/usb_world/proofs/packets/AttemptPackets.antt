@@ -1,23 +1,19 @@
 -- What an attempt's packets do to reachable, live and pending.
-use Rattle.std.proofs.Common.{arith}
-use Rattle.std.proofs.Common.{◌≡◌, ℕ, zero, suc, Bool, true, false, List, [], ◌∷◌}
-use Rattle.std.proofs.Common.{Option, None, Some, option_map, refl, ap, sym, ◌∙◌}
+use Rattle.std.proofs.Common.{arith, ◌≡◌, ℕ, zero, suc, Bool, true, false, List, [], ◌∷◌, Option}
+use Rattle.std.proofs.Common.{None, Some, option_map, refl, ap, sym, ◌∙◌}
 use Rattle.usb_packet.specs.{Packet}
 use Rattle.usb_port.specs.{PortState, powered_off}
-use Rattle.usb_device.specs.{Content, Whole, Broken, Sent, Leaves, State}
-use Rattle.usb_device.specs.{forgotten, received, unread, asks, Ports}
-use Rattle.usb_device.specs.{ended, vacant, taken, all_off, reach_at, state_at}
+use Rattle.usb_device.specs.{Content, Whole, Broken, Sent, Leaves, State, forgotten, received}
+use Rattle.usb_device.specs.{unread, asks, Ports, ended, vacant, taken, all_off, reach_at, state_at}
 use Rattle.usb_device.specs.{port_at, place_at, reply_to, answer_of, asked_by, effect_of}
 use Rattle.usb_device.specs.{after_packet, all_forgotten, forgotten_place}
 use Rattle.usb_device.specs.declared.transfer.RememberedPacket.TheVariants.{Nothing}
 use Rattle.usb_world.specs.{Mark, sent_as, Consistent}
 use Rattle.usb_world.specs.declared.wire.Mark.TheVariants as mark
-use Rattle.usb_tree.specs.{has_power_at, pending_at, IsNew}
-use Rattle.usb_tree.specs.{after_sent, after_attempt, calls_on, IsTokenFor, IsAckOut, IfOut}
-use Rattle.usb_tree.specs.{IsAttemptAt, sent_resets, sent_keeps_pending, attempt_resets}
-use Rattle.usb_tree.specs.{attempt_keeps_pending, IsSettled}
-use Rattle.usb_tree.proofs.Interface.{false_true}
-use Rattle.usb_tree.proofs.Interface.{spares_if, resets_if}
+use Rattle.usb_tree.specs.{has_power_at, pending_at, IsNew, after_sent, after_attempt, calls_on}
+use Rattle.usb_tree.specs.{IsTokenFor, IsAckOut, IfOut, IsAttemptAt, sent_resets}
+use Rattle.usb_tree.specs.{sent_keeps_pending, attempt_resets, attempt_keeps_pending, IsSettled}
+use Rattle.usb_tree.proofs.Interface.{false_true, spares_if, resets_if}
 use Rattle.usb_world.proofs.packets.PacketEffects.{packet_way, packet_kept}
 use Rattle.usb_world.proofs.ports.PortCalls.{KeepsPending}
 use Rattle.usb_world.proofs.ways.WayChanges.{SamePorts, same_ports, passed_ports}
@@ -162,7 +158,6 @@ off_unreached q deep (taken b s a k) = ap (taken (powered_off b) s a) (off_unrea
 ack_new : (q : Sent) → IsAckOut q.content → (deep : Bool) (k : Ports) (j : ℕ) (p : List ℕ)
     → IsNew (place_at k j p) → IsNew (place_at (after_packet q deep k) j p)
 unfolding after_packet place_at
-ack_new q c deep (vacant b k) zero [] h = h
 ack_new q c deep (vacant b k) (suc j) p h = ack_new q c deep k j p h
 ack_new q c deep (taken b s a k) zero [] h =
     grind (arith, ack_calls, ack_calm, calm_content, off_unreached, rested_answer)
@@ -170,7 +165,7 @@ ack_new q c deep (taken b s a k) zero (zero ∷ p) h = elim h [ ]
 ack_new q c deep (taken b s a k) zero (suc j ∷ p) h =
     grind (arith, ack_new q c true a j p h, ack_calm, calm_content)
 ack_new q c deep (taken b s a k) (suc j) p h = grind (arith, ack_new q c deep k j p h)
-ack_new q c deep k j p h = h
+ack_new q c deep _ _ _ h = h
 
 ack_sent_new : (o : Option Sent) → IfOut IsAckOut o → (k : Ports) (j : ℕ) (p : List ℕ)
     → IsNew (place_at k j p) → IsNew (place_at (after_sent o k) j p)

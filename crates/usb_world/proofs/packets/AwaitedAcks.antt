@@ -1,17 +1,15 @@
 -- Which packets leave no device that awaits the ACK at which it would take an address.
 use Rattle.std.proofs.Common.{◌≡◌, ℕ, zero, suc, ◌==◌, ◌&&◌, ◌||◌, if◌then◌else◌, Bool, true, false}
-use Rattle.std.proofs.Common.{List, [], Option, None, Some, ◌⊎◌, inl, inr, refl, ap}
-use Rattle.std.proofs.Common.{◌∙◌, arith}
+use Rattle.std.proofs.Common.{List, [], Option, None, Some, ◌⊎◌, inl, inr, refl, ap, ◌∙◌, arith}
 use Rattle.usb_packet.specs.{Toggle, TokenKind, InTok, Packet, Token}
 use Rattle.usb_packet.specs.declared.Packet.TheVariants as packet
 use Rattle.usb_port.specs.{PortState, PortCall}
 use Rattle.usb_device.specs.{Content, Whole, Broken, Sent, Effect, Leaves, Calls, PortsOff}
-use Rattle.usb_device.specs.{RememberedPacket, Outcome, State, Reply, received, unread}
-use Rattle.usb_device.specs.{answered, forgotten, reset_state, begun, payload_row}
-use Rattle.usb_device.specs.{data_row, in_other_row, after_memory, awaits_control}
-use Rattle.usb_device.specs.{ends_with_address, awaits_address, Ports, ended, vacant, taken, before}
-use Rattle.usb_device.specs.{all_off, acted, called, changed_at, row_of}
-use Rattle.usb_device.specs.{hears, reply_to, answer_of, effect_of, after_packet, has_loss}
+use Rattle.usb_device.specs.{RememberedPacket, Outcome, State, Reply, received, unread, answered}
+use Rattle.usb_device.specs.{forgotten, reset_state, begun, payload_row, data_row, in_other_row}
+use Rattle.usb_device.specs.{after_memory, awaits_control, ends_with_address, awaits_address, Ports}
+use Rattle.usb_device.specs.{ended, vacant, taken, before, all_off, acted, called, changed_at}
+use Rattle.usb_device.specs.{row_of, hears, reply_to, answer_of, effect_of, after_packet, has_loss}
 use Rattle.usb_device.specs.declared.answer.Answer.TheVariants as answer
 use Rattle.usb_tree.specs.{after_sent, IfOut, IsDataOut, IsAckOut}
 use Rattle.usb_world.proofs.courses.StepInvariants.{Rests}
@@ -184,15 +182,13 @@ ack_answer q e deep s a f = rw e (by_hearing (hears q deep s) s.spec.silent f
     by_hearing false y f g = f (inr refl)
 
 acked_answer : (low pre : Bool) (t : Packet) (deep : Bool) (s : State) (a x : Ports)
-    → awaits_address s ≡ false
-    → awaits_address (answer_of (whole_sent low pre packet.Ack) deep
+    → awaits_address s ≡ false → awaits_address (answer_of (whole_sent low pre packet.Ack) deep
     (answer_of (whole_sent low pre t) deep s a).1 x).1 ≡ false
 acked_answer low pre t deep s a x h = grind (arith, ack_answer, answer-spec, answer_of-unheard)
 
 -- after a token and an ACK nobody awaits what was not awaited before
 pub acked_loss : (low pre : Bool) (kind : TokenKind) (n e : ℕ) (deep : Bool) (k : Ports)
-    → has_loss k ≡ false
-    → has_loss (after_packet (whole_sent low pre packet.Ack) deep
+    → has_loss k ≡ false → has_loss (after_packet (whole_sent low pre packet.Ack) deep
     (after_packet (whole_sent low pre (Token kind n e)) deep k)) ≡ false
 unfolding has_loss after_packet
 acked_loss low pre kind n e deep ended h = h

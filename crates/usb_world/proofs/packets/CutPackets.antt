@@ -1,7 +1,6 @@
 -- What a refused packet leaves.
-use Rattle.std.proofs.Common.{arith}
-use Rattle.std.proofs.Common.{◌≡◌, if◌then◌else◌, Bool, true, false, Option, None, Some, is_some}
-use Rattle.std.proofs.Common.{refl, sym, subst, ap, ◌∙◌}
+use Rattle.std.proofs.Common.{arith, ◌≡◌, if◌then◌else◌, Bool, true, false, Option, None, Some}
+use Rattle.std.proofs.Common.{is_some, refl, sym, subst, ap, ◌∙◌}
 use Rattle.usb_packet.specs.{Packet, TokenKind, OutTok, InTok, SetupTok}
 use Rattle.usb_packet.specs.declared.Packet.TheVariants as packet
 use Rattle.usb_port.specs.{PortState}
@@ -11,9 +10,8 @@ use Rattle.usb_device.specs.{Sent, Effect, Leaves, RememberedPacket, State, Port
 use Rattle.usb_device.specs.{taken, full, before, acted, answer_of, effect_of, after_packet}
 use Rattle.usb_device.specs.{delivered_device, on_port, Stopped, behind_empty, behind, below, here}
 use Rattle.usb_device.specs.declared.transfer.RememberedPacket.TheVariants.{Nothing}
-use Rattle.usb_world.specs.{Damage, Attempt, Mark, Whole, marked}
-use Rattle.usb_world.specs.{marked_some, token_of, payload_of, sent_as}
-use Rattle.usb_world.specs.{token_out, payload_out, IsAttempt, sends_data, IsCut}
+use Rattle.usb_world.specs.{Damage, Attempt, Mark, Whole, marked, marked_some, token_of, payload_of}
+use Rattle.usb_world.specs.{sent_as, token_out, payload_out, IsAttempt, sends_data, IsCut}
 use Rattle.usb_tree.specs.{IfOut, IsDataOut, IsSettled, after_sent}
 use Rattle.usb_tree.proofs.Interface.{false_true}
 use Rattle.usb_world.proofs.courses.StepInvariants.{Rests, rests}

@@ -1,27 +1,21 @@
 -- Setup data whose request is not PORT_RESET reset no device, whoever hears them.
-use Rattle.std.proofs.Common.{arith}
-use Rattle.std.proofs.Common.{◌≡◌, ℕ, ◌==◌, ◌&&◌, not, nat_le, if◌then◌else◌, Bool, true}
-use Rattle.std.proofs.Common.{false, List, [], ◌∷◌, length, Option, None, Some, refl}
-use Rattle.std.proofs.Common.{◌∙◌}
+use Rattle.std.proofs.Common.{arith, ◌≡◌, ℕ, ◌==◌, ◌&&◌, not, nat_le, if◌then◌else◌, Bool, true}
+use Rattle.std.proofs.Common.{false, List, [], ◌∷◌, length, Option, None, Some, refl, ◌∙◌}
 use Rattle.usb_packet.specs.{Payload, Toggle}
 use Rattle.usb_packet.specs.declared.Packet.TheVariants as packet
-use Rattle.usb_request.specs.{GET_STATUS, CLEAR_FEATURE}
-use Rattle.usb_request.specs.{SET_FEATURE, SET_ADDRESS, GET_DESCRIPTOR, GET_CONFIGURATION}
-use Rattle.usb_request.specs.{SET_CONFIGURATION, DEVICE_IN, DEVICE_OUT, ENDPOINT_OUT, HUB_IN}
-use Rattle.usb_request.specs.{PORT_IN, PORT_OUT, PORT_RESET, PORT_POWER}
+use Rattle.usb_request.specs.{GET_STATUS, CLEAR_FEATURE, SET_FEATURE, SET_ADDRESS, GET_DESCRIPTOR}
+use Rattle.usb_request.specs.{GET_CONFIGURATION, SET_CONFIGURATION, DEVICE_IN, DEVICE_OUT}
+use Rattle.usb_request.specs.{ENDPOINT_OUT, HUB_IN, PORT_IN, PORT_OUT, PORT_RESET, PORT_POWER}
 use Rattle.usb_request.specs.{Setup, setup_of}
-use Rattle.usb_device.specs.{ServedEndpoint, Content, Whole, Broken, Sent, Effect, Calls}
-use Rattle.usb_device.specs.{Registers, RememberedPacket, Spec, Hub, Outcome, stalled}
-use Rattle.usb_device.specs.{takes_address, takes_configuration, halts, unhalts, tells_port}
-use Rattle.usb_device.specs.{calls_port, Is, unless, asked_descriptor, asked_status}
-use Rattle.usb_device.specs.{asked_address, asked_configuration, endpoint_of, on_endpoint}
-use Rattle.usb_device.specs.{asked_hub_descriptor, port_named, told_port, called_at}
-use Rattle.usb_device.specs.{asked_port_status, port_feature, outcome, is_value, State, asks}
-use Rattle.usb_device.specs.{asked_by_data, effect_of_request, Ports, hears}
-use Rattle.usb_device.specs.{asked_by, effect_of}
-use Rattle.usb_port.specs.{PortCall, SetPower, SetReset}
-use Rattle.usb_port.specs.{is_reset}
-use Rattle.usb_port.specs.{set_call, clear_call}
+use Rattle.usb_device.specs.{ServedEndpoint, Content, Whole, Broken, Sent, Effect, Calls, Registers}
+use Rattle.usb_device.specs.{RememberedPacket, Spec, Hub, Outcome, stalled, takes_address}
+use Rattle.usb_device.specs.{takes_configuration, halts, unhalts, tells_port, calls_port, Is}
+use Rattle.usb_device.specs.{unless, asked_descriptor, asked_status, asked_address}
+use Rattle.usb_device.specs.{asked_configuration, endpoint_of, on_endpoint, asked_hub_descriptor}
+use Rattle.usb_device.specs.{port_named, told_port, called_at, asked_port_status, port_feature}
+use Rattle.usb_device.specs.{outcome, is_value, State, asks, asked_by_data, effect_of_request}
+use Rattle.usb_device.specs.{Ports, asked_by, effect_of}
+use Rattle.usb_port.specs.{PortCall, SetPower, SetReset, is_reset, set_call, clear_call}
 use Rattle.usb_device.specs.Request.{answers}
 use Rattle.usb_tree.specs.{effect_resets, resets_at}
 use Rattle.usb_world.specs.{is_harmless}
@@ -138,14 +132,8 @@ not_false : (x : Bool) → x ≡ false → not x ≡ true
 not_false x h = grind arith
 
 request_resets : (o : Outcome) → asks_reset o ≡ false → no_reset (effect_of_request o) ≡ true
-request_resets stalled h = refl
-request_resets (answers b) h = refl
-request_resets (takes_address a) h = refl
-request_resets (takes_configuration c) h = refl
-request_resets (halts w) h = refl
-request_resets (unhalts w) h = refl
-request_resets (tells_port i) h = refl
 request_resets (calls_port c i) h = not_false (is_reset c) h
+request_resets _ h = refl
 
 data_resets : (s : State) (m : RememberedPacket) (t : Toggle) (b : List ℕ)
     → is_harmless (setup_of b) ≡ true → no_reset (asked_by_data s m t b) ≡ true

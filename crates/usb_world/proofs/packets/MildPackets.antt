@@ -1,16 +1,12 @@
 -- Tokens, and data after an OUT token, ask nothing of ports and leave each device its address and
 -- configuration.
-use Rattle.std.proofs.Common.{arith}
-use Rattle.std.proofs.Common.{◌≡◌, ℕ, if◌then◌else◌, Bool, true, false}
-use Rattle.std.proofs.Common.{List, refl}
-use Rattle.usb_packet.specs.{Packet, Token, Payload, Ack, Sof, Nak, Stall, Pre, Toggle}
-use Rattle.usb_packet.specs.{OutTok, SetupTok}
+use Rattle.std.proofs.Common.{arith, ◌≡◌, ℕ, if◌then◌else◌, Bool, true, false, List, refl}
+use Rattle.usb_packet.specs.{Packet, Token, Payload, Ack, Sof, Nak, Stall, Pre, Toggle, OutTok}
+use Rattle.usb_packet.specs.{SetupTok}
 use Rattle.usb_port.specs.{PortState}
-use Rattle.usb_device.specs.{Content, Whole, Broken, Sent, Leaves, RememberedPacket}
-use Rattle.usb_device.specs.{asks, asked_by_data, State, Reply}
-use Rattle.usb_device.specs.{received, unread, payload_row, status_row}
-use Rattle.usb_device.specs.{sink_grows, Ports}
-use Rattle.usb_device.specs.{reply_to, asked_by, answer_of, effect_of}
+use Rattle.usb_device.specs.{Content, Whole, Broken, Sent, Leaves, RememberedPacket, asks}
+use Rattle.usb_device.specs.{asked_by_data, State, Reply, received, unread, payload_row, status_row}
+use Rattle.usb_device.specs.{sink_grows, Ports, reply_to, asked_by, answer_of, effect_of}
 use Rattle.usb_device.specs.declared.answer.Answer.TheVariants as answer
 use Rattle.usb_device.specs.declared.transfer.RememberedPacket.TheVariants.{Nothing, SetupSeen}
 use Rattle.usb_device.specs.declared.transfer.RememberedPacket.TheVariants.{OutSeen}
@@ -91,13 +87,8 @@ calm_data s m t b h = grind arith
 pub mild_data : (c : Content) → IsDataOut c → Mild remembers_no_setup any_memory c
 unfolding received asks
 mild_data (Whole (Payload t b)) h = grind (arith, calm_data, own_payload, reply_if, self_of)
-mild_data (Whole (Token k a e)) h = elim h [ ]
-mild_data (Whole Ack) h = elim h [ ]
-mild_data (Whole (Sof f)) h = elim h [ ]
-mild_data (Whole Nak) h = elim h [ ]
-mild_data (Whole Stall) h = elim h [ ]
-mild_data (Whole Pre) h = elim h [ ]
 mild_data Broken h = mild_broken (λ m h. refl) refl
+mild_data _ h = elim h [ ]
 
 -- Where no OUT token is remembered, no sink grows
 

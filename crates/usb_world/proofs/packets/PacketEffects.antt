@@ -1,8 +1,7 @@
 -- What a packet does to reachable, live and pending, and to the devices and ports.
-use Rattle.std.proofs.Common.{arith}
-use Rattle.std.proofs.Common.{◌≡◌, ℕ, zero, suc, ◌&&◌, ◌||◌, not, if◌then◌else◌, inl, inr, Bool}
-use Rattle.std.proofs.Common.{true, false, List, [], ◌∷◌, Option, None, Some, option_map, refl, ap}
-use Rattle.std.proofs.Common.{sym, ◌∙◌}
+use Rattle.std.proofs.Common.{arith, ◌≡◌, ℕ, zero, suc, ◌&&◌, ◌||◌, not, if◌then◌else◌, inl, inr}
+use Rattle.std.proofs.Common.{Bool, true, false, List, [], ◌∷◌, Option, None, Some, option_map}
+use Rattle.std.proofs.Common.{refl, ap, sym, ◌∙◌}
 use Rattle.usb_port.specs.{PortState}
 use Rattle.usb_device.specs.{Effect, Leaves, Calls, PortsOff, State, Ports, ended, vacant, taken}
 use Rattle.usb_device.specs.{full, reach_at, state_at, place_at, acted, empty, answer_of, effect_of}
@@ -10,10 +9,10 @@ use Rattle.usb_device.specs.{after_packet, Sent, Place}
 use Rattle.usb_tree.specs.{has_power_at, pending_at, IsNew, takes_reset, effect_resets, resets_at}
 use Rattle.usb_tree.specs.{reset_if, effect_keeps_pending, packet_keeps_pending, deep_at}
 use Rattle.usb_tree.proofs.Interface.{both, and_kept, or-rises, either_of, neither, false_true}
+use Rattle.usb_tree.proofs.Interface.{reset_if-false}
 use Rattle.usb_world.proofs.ports.PortCalls.{off_way, ResetIf, same_reset, call_way, KeepsPending}
 use Rattle.usb_world.proofs.ports.PortCalls.{pending_kept, call_kept}
 use Rattle.usb_world.proofs.ways.WayChanges.{same_way-behind}
-use Rattle.usb_tree.proofs.Interface.{reset_if-false}
 
 -- a device's own state after a packet, which reaches it or does not
 abbrev pub heard_state : Sent → Bool → Bool → Option Place → Option State
@@ -29,8 +28,7 @@ met x q deep b s a k = if x then taken b (answer_of q deep s a).1
 -- what is so in both cases
 pub met_either : (P : Ports → Type 0) (x : Bool) (q : Sent) (deep : Bool)
     (b : PortState) (s : State) (a k : Ports)
-    → P (met true q deep b s a k) → P (met false q deep b s a k)
-    → P (met x q deep b s a k)
+    → P (met true q deep b s a k) → P (met false q deep b s a k) → P (met x q deep b s a k)
 met_either P x q deep b s a k h g = grind arith
 
 -- What a device asks of its ports
@@ -158,8 +156,7 @@ packet_way q deep (taken b s a k) zero (zero ∷ p) = grind (arith, met_either)
 packet_way q deep (taken b s a k) zero (suc j ∷ p) = split b.enable (packet_way q true a j p)
   where
     split : (x : Bool) → HeardIf q (deep_at true p) (reach_at a j p) (resets_at q true a j p) a
-        (after_packet q true a) j p
-        → HeardIf q true (x && reach_at a j p)
+        (after_packet q true a) j p → HeardIf q true (x && reach_at a j p)
         (x && (effect_resets (effect_of q deep s) a j p || resets_at q true a j p))
         (taken b s a k) (met x q deep b s a (after_packet q deep k)) zero (suc j ∷ p)
     split true ih =

@@ -1,8 +1,7 @@
 -- A device with its ports after a packet, where no device above it asks anything; and the ports
 -- that nobody asks anything of.
-use Rattle.std.proofs.Common.{arith}
-use Rattle.std.proofs.Common.{◌≡◌, ℕ, zero, suc, ◌&&◌, ◌||◌, not, if◌then◌else◌, Bool, true, false}
-use Rattle.std.proofs.Common.{List, [], ◌∷◌, Option, None, Some, option_map, refl, ◌∙◌}
+use Rattle.std.proofs.Common.{arith, ◌≡◌, ℕ, zero, suc, ◌&&◌, ◌||◌, not, if◌then◌else◌, Bool, true}
+use Rattle.std.proofs.Common.{false, List, [], ◌∷◌, Option, None, Some, option_map, refl, ◌∙◌}
 use Rattle.usb_device.specs.{Sent, Effect, Leaves, Calls, PortsOff, Ports, ended, vacant, taken}
 use Rattle.usb_device.specs.{empty, full, acted, reach_at, port_at, place_at, effect_of}
 use Rattle.usb_device.specs.{after_packet, answer_of, Place}
@@ -67,14 +66,12 @@ heard_way q deep (taken b s a k) (suc j) p h = grind (arith, heard_way q deep k 
 heard_way q deep k j p h = (refl, refl)
 
 pub way_place : (q : Sent) (deep : Bool) (k : Ports) (j : ℕ) (p : List ℕ)
-    → way_rests q deep k j p ≡ true
-    → place_at (after_packet q deep k) j p
+    → way_rests q deep k j p ≡ true → place_at (after_packet q deep k) j p
     ≡ option_map (heard_place q (deep_at deep p) (reach_at k j p)) (place_at k j p)
 way_place q deep k j p h = (heard_way q deep k j p h).0
 
 pub way_reach : (q : Sent) (deep : Bool) (k : Ports) (j : ℕ) (p : List ℕ)
-    → way_rests q deep k j p ≡ true
-    → reach_at (after_packet q deep k) j p ≡ reach_at k j p
+    → way_rests q deep k j p ≡ true → reach_at (after_packet q deep k) j p ≡ reach_at k j p
 way_reach q deep k j p h = (heard_way q deep k j p h).1
 
 -- the ports that nobody asks anything of
@@ -87,19 +84,15 @@ left_acted PortsOff x j p h = false_true h
 
 -- and those on the way to them
 pub way_ports : (q : Sent) (deep : Bool) (k : Ports) (j : ℕ) (p : List ℕ)
-    → way_leaves q deep k j p ≡ true
-    → SamePorts k (after_packet q deep k) j p
+    → way_leaves q deep k j p ≡ true → SamePorts k (after_packet q deep k) j p
 unfolding after_packet reach_at has_power_at pending_at port_at way_leaves
 way_ports q deep ended j p h = same_ports ended j p
 way_ports q deep (vacant b k) zero p h = (same_way-behind (empty b) k (after_packet q deep k) p).0
 way_ports q deep (vacant b k) (suc j) p h = way_ports q deep k j p h
-way_ports q deep (taken b s a k) zero [] h = grind (arith, met_either, same_ports)
-way_ports q deep (taken b s a k) zero (zero ∷ p) h = grind (arith, met_either, same_ports)
 way_ports q deep (taken b s a k) zero (suc j ∷ p) h = split b.enable h (way_ports q true a j p)
   where
     split : (x : Bool) → (not x || (leaves_port (effect_of q deep s) j && way_leaves q true a j p))
-        ≡ true
-        → (way_leaves q true a j p ≡ true → SamePorts a (after_packet q true a) j p)
+        ≡ true → (way_leaves q true a j p ≡ true → SamePorts a (after_packet q true a) j p)
         → SamePorts (taken b s a k) (met x q deep b s a (after_packet q deep k)) zero (suc j ∷ p)
     split true h ih =
         let on : _ = both (leaves_port (effect_of q deep s) j) (way_leaves q true a j p) h in
@@ -109,3 +102,4 @@ way_ports q deep (taken b s a k) zero (suc j ∷ p) h = split b.enable h (way_po
         (x.0 ∙ y.0, x.1 ∙ y.1, x.2 ∙ y.2, x.3 ∙ y.3)
     split false h ih = same_ports (taken b s a k) zero (suc j ∷ p)
 way_ports q deep (taken b s a k) (suc j) p h = grind (arith, way_ports q deep k j p h, met_either)
+way_ports q deep (taken b s a k) zero _ h = grind (arith, met_either, same_ports)

@@ -1,17 +1,15 @@
 -- A packet resets none, spares what is pending and leaves a port, by what each device on the way
 -- asks.
-use Rattle.std.proofs.Common.{arith}
-use Rattle.std.proofs.Common.{◌≡◌, ℕ, zero, suc, ◌&&◌, Bool, true, false, List, [], ◌∷◌, Option}
-use Rattle.std.proofs.Common.{Some, refl}
+use Rattle.std.proofs.Common.{arith, ◌≡◌, ℕ, zero, suc, ◌&&◌, Bool, true, false, List, [], ◌∷◌}
+use Rattle.std.proofs.Common.{Option, Some, refl}
 use Rattle.usb_device.specs.{Sent, Leaves, State, Ports, ended, vacant, taken, state_at, effect_of}
 use Rattle.usb_device.specs.{asks_clearing, clears_change}
 use Rattle.usb_world.specs.{Attempt, token_out, payload_out, clears_at, World, at_attempt}
-use Rattle.usb_world.specs.{damage_in, attempt, resets}
-use Rattle.usb_world.specs.{step_keeps_pending, sent_leaves, leaves_step, AsksNothing}
-use Rattle.usb_tree.specs.{after_sent}
-use Rattle.usb_tree.specs.{sent_resets, sent_keeps_pending}
-use Rattle.usb_tree.proofs.Interface.{and_false, neither_of}
-use Rattle.usb_tree.proofs.Interface.{spares_if, way_leaves-on_way, resets_if}
+use Rattle.usb_world.specs.{damage_in, attempt, resets, step_keeps_pending, sent_leaves}
+use Rattle.usb_world.specs.{leaves_step, AsksNothing}
+use Rattle.usb_tree.specs.{after_sent, sent_resets, sent_keeps_pending}
+use Rattle.usb_tree.proofs.Interface.{and_false, neither_of, spares_if, way_leaves-on_way}
+use Rattle.usb_tree.proofs.Interface.{resets_if}
 use Rattle.usb_world.proofs.packets.AttemptPackets.{CalmOut}
 
 -- what is so of each device, wherever it stands

@@ -1,7 +1,6 @@
 -- A port of which nothing is asked keeps its change bits and its power, where the device above it
 -- is still reached.
-use Rattle.std.proofs.Common.{arith}
-use Rattle.std.proofs.Common.{◌≡◌, ℕ, zero, suc, ◌&&◌, not, Bool, true, false, List, [], ◌∷◌}
+use Rattle.std.proofs.Common.{arith, ◌≡◌, ℕ, zero, suc, ◌&&◌, not, Bool, true, false, List, [], ◌∷◌}
 use Rattle.std.proofs.Common.{◌++◌, Option, None, Some, refl, ap, sym, subst, ◌∙◌, inl, inr}
 use Rattle.usb_port.specs.{PortState, plugged, unplugged, PortCall}
 use Rattle.usb_device.specs.{Sent, Effect, fresh, Spec, Ports, ended, vacant, taken, empty, full}
@@ -51,20 +50,17 @@ still_put o x k b h = grind arith
 struck_port : (o : Option Spec) (k : Ports) (i : ℕ) (e : List ℕ) (b : PortState)
     → port_at k i e ≡ Some b → StillSet b (port_at (changed_at (replaced o) k i e) i e)
 unfolding changed_at port_at
-struck_port o ended i e b h = still_set-same b None h
 struck_port o (vacant c k) zero [] b h = still_put o (empty c) k b h
-struck_port o (vacant c k) zero (n ∷ e) b h = still_set-same b None h
 struck_port o (vacant c k) (suc i) e b h = struck_port o k i e b h
 struck_port o (taken c s a k) zero [] b h = still_put o (full c s a) k b h
-struck_port o (taken c s a k) zero (zero ∷ e) b h = still_set-same b None h
 struck_port o (taken c s a k) zero (suc i ∷ e) b h = struck_port o a i e b h
 struck_port o (taken c s a k) (suc i) e b h = struck_port o k i e b h
+struck_port o _ _ _ b h = still_set-same b None h
 
 struck_there : (o : Option Spec) (k : Ports) (p : List ℕ) (b : PortState)
     → port_there k p ≡ Some b → StillSet b (port_there (changed (replaced o) k p) p)
-struck_there o k [] b h = still_set-same b None h
-struck_there o k (zero ∷ p) b h = still_set-same b None h
 struck_there o k (suc i ∷ p) b h = struck_port o k i p b h
+struck_there o k _ b h = still_set-same b None h
 
 -- what leads to a port and not to the device above it is that port's own path
 last_step : (x q : List ℕ) (n : ℕ) → is_way x q ≡ false → is_way x (q ++ (n ∷ [])) ≡ true
@@ -80,8 +76,7 @@ last_step (m ∷ x) (k ∷ q) n w h =
     ∙ ap (λ l. k ∷ l) (last_step x q n (sym (ap (λ y. y && is_way x q) on.0) ∙ w) on.1)
 
 replaced_bits : (o : Option Spec) (k : Ports) (x q : List ℕ) (n : ℕ) (b : PortState)
-    → way_of x q ≡ false
-    → port_there k (q ++ (n ∷ [])) ≡ Some b
+    → way_of x q ≡ false → port_there k (q ++ (n ∷ [])) ≡ Some b
     → StillSet b (port_there (changed (replaced o) k x) (q ++ (n ∷ [])))
 replaced_bits o k [] q n b w h = still_set-same b _ h
 replaced_bits o k (m ∷ x) q n b w h = elim (decided (is_way (m ∷ x) (q ++ (n ∷ [])))) [
@@ -93,8 +88,7 @@ replaced_bits o k (m ∷ x) q n b w h = elim (decided (is_way (m ∷ x) (q ++ (n
 ]
 
 happened_bits : (a : Action) (d : List Spec) (k : Ports) (q : List ℕ) (n : ℕ) (b : PortState)
-    → names_path d a q ≡ false
-    → port_there k (q ++ (n ∷ [])) ≡ Some b
+    → names_path d a q ≡ false → port_there k (q ++ (n ∷ [])) ≡ Some b
     → StillSet b (port_there (after_change a d k) (q ++ (n ∷ [])))
 happened_bits a d k q n b =
     happened_by
@@ -190,8 +184,7 @@ root_row c m k (x ∷ q) n g h = root_reach c m k (x ∷ q) (left_root c m k (x 
 -- where a row is reached, it was before, and what was set at its port still is
 abbrev BitsStay : List ℕ → ℕ → World → World → Type 0
 BitsStay q n w v =
-    row_reached v.roots q ≡ true
-    → (row_reached w.roots q ≡ true) ×
+    row_reached v.roots q ≡ true → (row_reached w.roots q ≡ true) ×
     ((b : PortState) → port_there w.roots (q ++ (n ∷ [])) ≡ Some b
     → StillSet b (port_there v.roots (q ++ (n ∷ []))))
 

@@ -1,14 +1,13 @@
 -- PORT_RESET of a hub's port gives the device there address 0, and leaves the others theirs.
-use Rattle.std.proofs.Common.{arith}
-use Rattle.std.proofs.Common.{◌≡◌, ℕ, zero, suc, ◌&&◌, if◌then◌else◌, ◌⊎◌, inl, inr, Bool, true}
-use Rattle.std.proofs.Common.{false, List, [], ◌∷◌, ◌++◌, Option, None, Some, option_map, refl, ap}
-use Rattle.std.proofs.Common.{ap₂, sym, subst, ◌∙◌}
+use Rattle.std.proofs.Common.{arith, ◌≡◌, ℕ, zero, suc, ◌&&◌, if◌then◌else◌, ◌⊎◌, inl, inr, Bool}
+use Rattle.std.proofs.Common.{true, false, List, [], ◌∷◌, ◌++◌, Option, None, Some, option_map}
+use Rattle.std.proofs.Common.{refl, ap, ap₂, sym, subst, ◌∙◌}
 use Rattle.usb_port.specs.{PortState}
 use Rattle.usb_request.specs.{setup_of}
 use Rattle.usb_device.specs.{Registers, Outcome, stalled, takes_address, takes_configuration, halts}
-use Rattle.usb_device.specs.{unhalts, tells_port, calls_port, registers_at_setup, State}
-use Rattle.usb_device.specs.{Way, setup_law, Ports, vacant, taken}
-use Rattle.usb_device.specs.{row_of, reach_at, state_at, reach, place, path_to}
+use Rattle.usb_device.specs.{unhalts, tells_port, calls_port, registers_at_setup, State, Way}
+use Rattle.usb_device.specs.{setup_law, Ports, vacant, taken, row_of, reach_at, state_at, reach}
+use Rattle.usb_device.specs.{place, path_to}
 use Rattle.usb_device.specs.Request.{answers}
 use Rattle.usb_world.specs.{Attempt, World, at_attempt, damage_in, with_attempt, attempt, after}
 use Rattle.usb_world.specs.{is_made, made_resets, resets, address_at, HoldsMapped, IsSetup}

@@ -1,17 +1,14 @@
 -- What a call at a port does to reachable, live and pending, and to the devices and ports.
-use Rattle.std.proofs.Common.{arith}
-use Rattle.std.proofs.Common.{◌≡◌, ℕ, zero, suc, ◌&&◌, Bool, true, false, List}
-use Rattle.std.proofs.Common.{[], ◌∷◌, option_map, refl, ap, sym, ◌∙◌}
-use Rattle.usb_port.specs.{PortState, is_attached, powered_off, PortCall}
-use Rattle.usb_port.specs.{called_port, is_reset}
+use Rattle.std.proofs.Common.{arith, ◌≡◌, ℕ, zero, suc, ◌&&◌, Bool, true, false, List, [], ◌∷◌}
+use Rattle.std.proofs.Common.{option_map, refl, ap, sym, ◌∙◌}
+use Rattle.usb_port.specs.{PortState, is_attached, powered_off, PortCall, called_port, is_reset}
 use Rattle.usb_device.specs.{reset_state, Ports, ended, vacant, taken, empty, full, called}
 use Rattle.usb_device.specs.{reset_where, before, all_off, changed_at, reach_at, state_at, place_at}
 use Rattle.usb_tree.specs.{has_power_at, pending_at, same_number, IsNew, call_resets, reset_if}
 use Rattle.usb_tree.specs.{keeps_pending, call_keeps_pending}
-use Rattle.usb_tree.proofs.Interface.{both, and_false, and_wider, or_wider}
-use Rattle.usb_tree.proofs.Interface.{false_true}
-use Rattle.usb_world.proofs.ways.WayChanges.{SamePorts, same_way-other_port, same_way-behind}
+use Rattle.usb_tree.proofs.Interface.{both, and_false, and_wider, or_wider, false_true}
 use Rattle.usb_tree.proofs.Interface.{reset_if-false}
+use Rattle.usb_world.proofs.ways.WayChanges.{SamePorts, same_way-other_port, same_way-behind}
 
 pub all_off_twice : (k : Ports) → all_off (all_off k) ≡ all_off k
 unfolding all_off
@@ -86,8 +83,6 @@ call_way c (taken b s a k) zero zero (n ∷ p) = split n (is_reset c && sees b) 
       λ f. false_true f,
       λ h. h,
     )
-call_way c (taken b s a k) zero (suc j) [] = grind (arith, same_reset)
-call_way c (taken b s a k) zero (suc j) (n ∷ p) = grind (arith, same_reset)
 call_way c (taken b s a k) (suc i) zero [] =
     same_reset _ (taken b s a k) zero [] (and_false (is_reset c))
 call_way c (taken b s a k) (suc i) zero (zero ∷ p) = same_reset false ended zero [] refl
@@ -95,6 +90,7 @@ call_way c (taken b s a k) (suc i) zero (suc n ∷ p) =
     same_reset false (taken b s a k) zero (suc n ∷ p) refl
 call_way c (taken b s a k) (suc i) (suc j) [] = call_way c k i j []
 call_way c (taken b s a k) (suc i) (suc j) (n ∷ p) = call_way c k i j (n ∷ p)
+call_way c (taken b s a k) zero (suc j) _ = grind (arith, same_reset)
 
 -- a device that a call resets is new
 pub call_new : (c : PortCall) (k : Ports) (i j : ℕ) (p : List ℕ)

@@ -1,28 +1,26 @@
 -- What a request can ask of the ports of a device that hears it.
-use Rattle.std.proofs.Common.{◌≡◌, ℕ, suc, ◌-◌, ◌==◌, ◌&&◌, not, nat_le}
-use Rattle.std.proofs.Common.{if◌then◌else◌, Bool, true, false, List, [], ◌∷◌, length}
-use Rattle.std.proofs.Common.{Option, None, Some, arith}
+use Rattle.std.proofs.Common.{◌≡◌, ℕ, suc, ◌==◌, ◌&&◌, not, nat_le, if◌then◌else◌, Bool, true}
+use Rattle.std.proofs.Common.{false, List, [], ◌∷◌, length, Option, None, Some, arith}
 use Rattle.arrayvec.specs.ArrayVec.{ArrayVec}
 use Rattle.usb_packet.specs.{Payload, Toggle, Zero, One}
 use Rattle.usb_packet.specs.declared.Packet.TheVariants as packet
-use Rattle.usb_request.specs.{GET_STATUS, CLEAR_FEATURE}
-use Rattle.usb_request.specs.{SET_FEATURE, SET_ADDRESS, GET_DESCRIPTOR, GET_CONFIGURATION}
-use Rattle.usb_request.specs.{SET_CONFIGURATION, DEVICE_IN, DEVICE_OUT, ENDPOINT_OUT, HUB_IN}
-use Rattle.usb_request.specs.{PORT_IN, PORT_OUT, Setup, setup_of}
+use Rattle.usb_request.specs.{GET_STATUS, CLEAR_FEATURE, SET_FEATURE, SET_ADDRESS, GET_DESCRIPTOR}
+use Rattle.usb_request.specs.{GET_CONFIGURATION, SET_CONFIGURATION, DEVICE_IN, DEVICE_OUT}
+use Rattle.usb_request.specs.{ENDPOINT_OUT, HUB_IN, PORT_IN, PORT_OUT, Setup, setup_of}
 use Rattle.usb_device.specs.{ServedEndpoint, Content, Whole, Broken, Sent, Effect, Leaves, Calls}
 use Rattle.usb_device.specs.{PortsOff, Registers, RememberedPacket, Spec, Hub, Outcome, stalled}
 use Rattle.usb_device.specs.{takes_address, takes_configuration, halts, unhalts, Is, unless}
-use Rattle.usb_device.specs.{asked_descriptor, asked_status, asked_address}
-use Rattle.usb_device.specs.{asked_configuration, endpoint_of, on_endpoint, asked_hub_descriptor}
-use Rattle.usb_device.specs.{port_named, told_port, called_at, asked_port_status, port_feature}
-use Rattle.usb_device.specs.{outcome, is_value, State, asks, asked_by_data, asked_by_setup}
-use Rattle.usb_device.specs.{effect_of_request, hears, asked_by, effect_of}
+use Rattle.usb_device.specs.{asked_descriptor, asked_status, asked_address, asked_configuration}
+use Rattle.usb_device.specs.{endpoint_of, on_endpoint, asked_hub_descriptor, port_named, told_port}
+use Rattle.usb_device.specs.{called_at, asked_port_status, port_feature, outcome, is_value, State}
+use Rattle.usb_device.specs.{asks, asked_by_data, asked_by_setup, effect_of_request, asked_by}
+use Rattle.usb_device.specs.{effect_of}
 use Rattle.usb_port.specs.{PortCall, set_call, clear_call}
 use Rattle.usb_device.specs.declared.transfer.RememberedPacket.TheVariants.{Nothing, SetupSeen}
 use Rattle.usb_device.specs.declared.transfer.RememberedPacket.TheVariants.{OutSeen, AckAwaited}
 use Rattle.usb_device.specs.Request.{answers}
-use Rattle.usb_world.specs.{Damage, Attempt, marked, marked_some, payload_of}
-use Rattle.usb_world.specs.{payload_out, asks_no_port}
+use Rattle.usb_world.specs.{Damage, Attempt, marked, marked_some, payload_of, payload_out}
+use Rattle.usb_world.specs.{asks_no_port}
 use Rattle.usb_tree.specs.{IfOut}
 use Rattle.usb_world.proofs.packets.PacketPlaces.{is_left}
 
@@ -116,15 +114,12 @@ AllowsOut T (Whole p) = ⊥
 
 data_allowed : (T : Effect → Bool) (s : State) (m : RememberedPacket) (t : Toggle) (b : List ℕ)
     → Allows T (setup_of b) → T (asked_by_data s m t b) ≡ true
-data_allowed T s Nothing t b h = h.rests
-data_allowed T s (OutSeen e) t b h = h.rests
-data_allowed T s (AckAwaited g) t b h = h.rests
-data_allowed T s SetupSeen One b h = h.rests
 data_allowed T s SetupSeen Zero b h = elim (length b == 8)
     as (λ x. T (if x then asked_by_setup s (setup_of b) else Leaves) ≡ true) [
       | true ↦ setup_allowed T (setup_of b) h s
       | false ↦ h.rests
     ]
+data_allowed T s _ _ b h = h.rests
 
 content_allowed : (T : Effect → Bool) (c : Content) (s : State) → AllowsOut T c
     → T (asked_by c s) ≡ true

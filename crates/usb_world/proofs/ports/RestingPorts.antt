@@ -1,14 +1,13 @@
 -- A port of which nothing is asked stands as it stood, or a change of connection is pending on its
 -- way.
-use Rattle.std.proofs.Common.{arith}
-use Rattle.std.proofs.Common.{◌≡◌, ℕ, suc, true, false, List, [], ◌∷◌, option_map}
-use Rattle.std.proofs.Common.{refl, ap, sym, ◌∙◌}
+use Rattle.std.proofs.Common.{arith, ◌≡◌, ℕ, suc, true, false, List, [], ◌∷◌, option_map, refl, ap}
+use Rattle.std.proofs.Common.{sym, ◌∙◌}
 use Rattle.usb_port.specs.{PortCall}
 use Rattle.usb_device.specs.{Spec, Ports, called, changed, reach, state_there}
 use Rattle.usb_world.specs.{Action, Attempt, token_out, payload_out, reply_out, ports_in, spec_of}
 use Rattle.usb_world.specs.{World, after_change, names_path, after_event, at_attempt, damage_in}
-use Rattle.usb_world.specs.{with_attempt, Course, KeepsPendingAt, made_leaves}
-use Rattle.usb_world.specs.{root_leaves, leaves_step, SameAt, LeavesPortAlone, UnchangedOrPending}
+use Rattle.usb_world.specs.{with_attempt, Course, KeepsPendingAt, made_leaves, root_leaves}
+use Rattle.usb_world.specs.{leaves_step, SameAt, LeavesPortAlone, UnchangedOrPending}
 use Rattle.usb_world.specs.{SameDeviceOrPending}
 use Rattle.usb_tree.specs.{has_power}
 use Rattle.usb_world.proofs.ways.WayChanges.{root_there}
@@ -40,8 +39,6 @@ happened_same : (a : Action) (d : List Spec) (k : Ports) (p : List ℕ)
 happened_same a d k p h =
     let same : _ = happened_there a d k p h in
     record { port = same.1; on = same.0; what = ap (option_map spec_of) same.2 }
-
--- Calls at ports
 
 -- Attempts
 

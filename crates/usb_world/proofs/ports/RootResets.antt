@@ -1,8 +1,7 @@
 -- PORT_RESET of a root port gives the device there address 0, and leaves the others theirs.
-use Rattle.std.proofs.Common.{arith}
-use Rattle.std.proofs.Common.{◌≡◌, ℕ, zero, suc, ◌&&◌, if◌then◌else◌, ◌⊎◌, true}
-use Rattle.std.proofs.Common.{false, List, [], ◌∷◌, ◌++◌, Option, None, Some, option_map, refl, ap}
-use Rattle.std.proofs.Common.{sym, subst, ◌∙◌}
+use Rattle.std.proofs.Common.{arith, ◌≡◌, ℕ, zero, suc, ◌&&◌, if◌then◌else◌, ◌⊎◌, true, false, List}
+use Rattle.std.proofs.Common.{[], ◌∷◌, ◌++◌, Option, None, Some, option_map, refl, ap, sym, subst}
+use Rattle.std.proofs.Common.{◌∙◌}
 use Rattle.usb_port.specs.{PortCall, SetReset}
 use Rattle.usb_device.specs.{Ports, vacant, taken, called, changed_at, reach_at, state_at, place_at}
 use Rattle.usb_device.specs.{Place}
@@ -10,12 +9,10 @@ use Rattle.usb_tree.specs.{address_of, same_number, same_path, is_way, IsNew, ta
 use Rattle.usb_tree.specs.{call_resets}
 use Rattle.usb_world.specs.{World, root_call, after, root_resets, resets, HoldsMapped, Injective}
 use Rattle.usb_world.specs.{after_reset, after_taking}
-use Rattle.usb_tree.proofs.Interface.{false_true, both, and_false}
+use Rattle.usb_tree.proofs.Interface.{false_true, both, and_false, self_path, kept_address}
 use Rattle.usb_world.proofs.ports.PortCalls.{off_way, call_new, call_reach, call_state}
 use Rattle.usb_world.proofs.holders.OneDevice.{stands, state_stands}
 use Rattle.usb_world.proofs.courses.Courses.{unreset_reach}
-use Rattle.usb_tree.proofs.Interface.{self_path}
-use Rattle.usb_tree.proofs.Interface.{kept_address}
 
 -- below a device that was just reset none is reached
 pub new_below : (k : Ports) (i : ℕ) (p : List ℕ) (m : ℕ) (r : List ℕ) → IsNew (place_at k i p)

@@ -1,7 +1,6 @@
 -- Ports stay sane.
-use Rattle.std.proofs.Common.{◌≡◌, ℕ, zero, suc, Bool, true, List}
-use Rattle.std.proofs.Common.{[], ◌∷◌, ◌++◌, ◌<◌, length, Option, Some, is_some, option_map}
-use Rattle.std.proofs.Common.{refl, ap, subst, ◌∙◌, arith}
+use Rattle.std.proofs.Common.{◌≡◌, ℕ, zero, suc, Bool, true, List, [], ◌∷◌, ◌++◌, ◌<◌, length}
+use Rattle.std.proofs.Common.{Option, Some, is_some, option_map, refl, ap, subst, ◌∙◌, arith}
 use Rattle.std.specs.Option.{IfSome}
 use Rattle.std.specs.Prelude.{⊤}
 use Rattle.usb_port.specs.{PortState, is_attached, plugged, unplugged, powered_off, PortCall}

@@ -1,13 +1,11 @@
 -- Where a change of connection is told, it is pending.
-use Rattle.std.proofs.Common.{arith}
-use Rattle.std.proofs.Common.{◌≡◌, ℕ, zero, suc, ◌&&◌, ◌||◌, ◌⊎◌, inl, inr, Bool, true, false, List}
-use Rattle.std.proofs.Common.{[], ◌∷◌, Some, refl, ap, sym, ◌∙◌}
+use Rattle.std.proofs.Common.{arith, ◌≡◌, ℕ, zero, suc, ◌&&◌, ◌||◌, ◌⊎◌, inl, inr, Bool, true}
+use Rattle.std.proofs.Common.{false, List, [], ◌∷◌, Some, refl, ap, sym, ◌∙◌}
 use Rattle.usb_port.specs.{PortState}
 use Rattle.usb_device.specs.{Ports, ended, vacant, taken, port_at, port_there}
 use Rattle.usb_tree.specs.{pending_at, pending, is_way}
 use Rattle.usb_world.specs.{IsSanePort, Consistent}
-use Rattle.usb_tree.proofs.Interface.{and_of}
-use Rattle.usb_tree.proofs.Interface.{self_number}
+use Rattle.usb_tree.proofs.Interface.{and_of, self_number}
 
 -- whether the port at a path, or one on its way, has C_PORT_CONNECTION set
 unfoldable pub change_told_at : Ports → ℕ → List ℕ → Bool
@@ -74,8 +72,7 @@ pend_told (taken b s a k) (suc i) p h c = pend_told k i p h.3 c
 
 pub pending_told : (k : Ports) (path : List ℕ) → Consistent k
     → ((x : List ℕ) (b : PortState) → is_way x path ≡ true → port_there k x ≡ Some b
-    → (b.power ≡ true) ⊎ (change_told k x ≡ true))
-    → pending k path ≡ change_told k path
+    → (b.power ≡ true) ⊎ (change_told k x ≡ true)) → pending k path ≡ change_told k path
 unfolding is_way
 pending_told k (suc i ∷ p) h c = pend_told k i p h
     (λ x b w at. c (suc i ∷ x) b (and_of _ (is_way x p) (self_number (suc i)) w) at)

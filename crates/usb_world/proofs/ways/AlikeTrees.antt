@@ -1,8 +1,6 @@
 -- Trees that differ in what their devices remember and in how far their transfers are, but not in
 -- more.
-use Rattle.std.proofs.Common.{arith}
-use Rattle.std.proofs.Common.{◌≡◌, ℕ, List, Option, Some}
-use Rattle.std.proofs.Common.{option_map, refl}
+use Rattle.std.proofs.Common.{arith, ◌≡◌, ℕ, List, Option, Some, option_map, refl}
 use Rattle.usb_port.specs.{PortState}
 use Rattle.usb_device.specs.{Spec, State, forgotten, Ports, ended, vacant, taken, reach_at}
 use Rattle.usb_device.specs.{state_at, port_at, row_of, all_forgotten, Registers}

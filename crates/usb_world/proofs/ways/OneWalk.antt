@@ -1,9 +1,8 @@
 -- An attempt of which nothing is damaged, at the one device that it is for and on one way down the
 -- tree, is the attempt in the whole tree.
-use Rattle.std.proofs.Common.{arith}
-use Rattle.std.proofs.Common.{◌≡◌, ℕ, zero, suc, ◌+◌, ◌&&◌, if◌then◌else◌, Bool, true, false, List}
-use Rattle.std.proofs.Common.{[], ◌∷◌, ◌++◌, Option, None, Some, option_map, nat_eq, refl, ap, ap₂}
-use Rattle.std.proofs.Common.{sym, subst, ◌∙◌}
+use Rattle.std.proofs.Common.{arith, ◌≡◌, ℕ, zero, suc, ◌+◌, ◌&&◌, if◌then◌else◌, Bool, true, false}
+use Rattle.std.proofs.Common.{List, [], ◌∷◌, ◌++◌, Option, None, Some, option_map, nat_eq, refl, ap}
+use Rattle.std.proofs.Common.{ap₂, sym, subst, ◌∙◌}
 use Rattle.std.specs.Option.{option_eq}
 use Rattle.std.proofs.lemmas.Option.{same_Some}
 use Rattle.usb_port.specs.{PortState}
@@ -411,8 +410,7 @@ walked_made a k m (suc j ∷ p) x g side f h w =
 
 pub walked_kept : (port : ℕ) (a : Attempt) (k m : Ports) (p : List ℕ) (x : Exchange) (g : Heard)
     (side : DeviceSide) → is_whole_tree p ≡ false → AloneAt (token_out a None) k p
-    → Walked a k m p x g side
-    → keeps_address port side a.addr ≡ true → KeptAt a.addr port k m p
+    → Walked a k m p x g side → keeps_address port side a.addr ≡ true → KeptAt a.addr port k m p
 walked_kept port a k m [] x g side f h w kept = false_true (sym f)
 walked_kept port a k m (zero ∷ p) x g side f h w kept = absurd h
 walked_kept port a k m (suc j ∷ p) x g side f h w kept =

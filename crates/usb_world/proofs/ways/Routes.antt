@@ -1,8 +1,7 @@
 -- A packet that goes straight to the one device that it is for does what it does in the whole tree.
-use Rattle.std.proofs.Common.{arith}
-use Rattle.std.proofs.Common.{◌≡◌, ◌<◌, ℕ, zero, suc, ◌&&◌, ◌||◌, if◌then◌else◌, Bool, true, false}
-use Rattle.std.proofs.Common.{List, [], ◌∷◌, Option, None, Some, is_some, Result, Ok}
-use Rattle.std.proofs.Common.{Err, OnOk, OnErr, refl, ap, sym, subst, ◌∙◌}
+use Rattle.std.proofs.Common.{arith, ◌≡◌, ◌<◌, ℕ, zero, suc, ◌&&◌, ◌||◌, if◌then◌else◌, Bool, true}
+use Rattle.std.proofs.Common.{false, List, [], ◌∷◌, Option, None, Some, is_some, Result, Ok, Err}
+use Rattle.std.proofs.Common.{OnOk, OnErr, refl, ap, sym, subst, ◌∙◌}
 use Rattle.usb_port.specs.{PortState}
 use Rattle.usb_device.specs.{Heard, Sent, State, awaits_address, awaits_control, ends_with_address}
 use Rattle.usb_device.specs.{Stopped, behind_empty, behind, below, here, Ports, ended, vacant}
@@ -19,6 +18,7 @@ use Rattle.usb_world.specs.{Attempt, Damage, token_out, clears_at, IsStopped, wa
 use Rattle.usb_tree.specs.{after_sent, answers_to, deep_at, IfOut, IsTokenFor, IsDataOut, IsAckOut}
 use Rattle.usb_tree.specs.{IsSettled, OthersForgot, Alone, AloneAt, IsWayTo, is_whole_tree, is_deep}
 use Rattle.usb_tree.proofs.Interface.{false_true, both as both_true, and_of, or_nothing}
+use Rattle.usb_tree.proofs.Interface.{forgotten-nothing}
 use Rattle.usb_world.proofs.packets.PacketEffects.{true_deep}
 use Rattle.usb_world.proofs.packets.AttemptPackets.{rested_answer}
 use Rattle.usb_world.proofs.packets.PacketWays.{clears_if}
@@ -27,7 +27,6 @@ use Rattle.usb_world.proofs.holders.OneDevice.{rest_packet, rested_effect, other
 use Rattle.usb_world.proofs.holders.OneDevice.{settled_memory, other_address, token_calls}
 use Rattle.usb_world.proofs.holders.OneDevice.{answer_at}
 use Rattle.usb_world.proofs.courses.Courses.{goes}
-use Rattle.usb_tree.proofs.Interface.{forgotten-nothing}
 
 -- ---- the tree after the packet
 

@@ -1,8 +1,7 @@
 -- An attempt that goes straight to one device: whose addresses stay.
-use Rattle.std.proofs.Common.{arith}
-use Rattle.std.proofs.Common.{◌≡◌, ℕ, zero, suc, Bool, true, false, List, [], ◌∷◌}
-use Rattle.std.proofs.Common.{◌++◌, Option, None, Some, is_some, option_map, IsSome, nat_eq, refl}
-use Rattle.std.proofs.Common.{ap, sym, subst, ◌∙◌}
+use Rattle.std.proofs.Common.{arith, ◌≡◌, ℕ, zero, suc, Bool, true, false, List, [], ◌∷◌, ◌++◌}
+use Rattle.std.proofs.Common.{Option, None, Some, is_some, option_map, IsSome, nat_eq, refl, ap}
+use Rattle.std.proofs.Common.{sym, subst, ◌∙◌}
 use Rattle.std.proofs.lemmas.Option.{same_Some}
 use Rattle.std.specs.Option.{option_eq}
 use Rattle.arrayvec.specs.ArrayVec.{ArrayVec}
@@ -19,11 +18,10 @@ use Rattle.usb_device.proofs.Interface.{same_index}
 use Rattle.usb_world.specs.{Attempt, Damage, token_out, payload_out, reply_out, ended_in, ports_in}
 use Rattle.usb_tree.specs.{address_of, after_sent, deep_at, IsSettled, Alone, is_whole_tree}
 use Rattle.usb_tree.specs.{IsWayTo, without_port, IsQuiet, KeptAt}
-use Rattle.usb_tree.proofs.Interface.{false_true, both}
+use Rattle.usb_tree.proofs.Interface.{false_true, both, equal_same}
 use Rattle.usb_world.proofs.packets.AttemptPackets.{token_out as token_calm, ack_out as ack_calm}
 use Rattle.usb_world.proofs.holders.OneDevice.{stands, state_stands}
 use Rattle.usb_world.proofs.holders.OneHolderPorts.{asked_of, calm_asked}
-use Rattle.usb_tree.proofs.Interface.{equal_same}
 use Rattle.usb_world.proofs.ways.Routes.{others_packet, others_rest, others_forget, plugged_on}
 use Rattle.usb_world.proofs.ways.Routes.{plugged_place, alone_token, alone_data, alone_ack}
 use Rattle.usb_world.proofs.ways.Routes.{alone_sent}
@@ -80,8 +78,7 @@ pub sent_one : (o : Option Sent) (k : Ports) (j : ℕ) (p : List ℕ)
 sent_one o k j p h = grind (arith, changed_at-same, others_packet, others_rest)
 
 quiet_keeps_others : (port : ℕ) (o : Option Sent) (k : Ports) (j : ℕ) (p : List ℕ) (b : PortState)
-    (s : State) (a : Ports)
-    → IsQuiet port o k (suc j ∷ p) → place_at k j p ≡ Some (full b s a)
+    (s : State) (a : Ports) → IsQuiet port o k (suc j ∷ p) → place_at k j p ≡ Some (full b s a)
     → keeps_others port (asked_of o (deep_at false p) s) ≡ true
 quiet_keeps_others port None k j p b s a h e = refl
 quiet_keeps_others port (Some q) k j p b s a h e =
@@ -235,8 +232,7 @@ held_still port a d k p q e = false_true (ap is_some e)
 
 -- the same, of what the code tells: the address that is left there is the attempt's
 pub kept_at : (port : ℕ) (a : Attempt) (d : Option Damage) (k m n : Ports) (p : List ℕ)
-    (left : Option ℕ)
-    → option_eq nat_eq left (Some a.addr) ≡ true
+    (left : Option ℕ) → option_eq nat_eq left (Some a.addr) ≡ true
     → IsQuiet port (payload_out a d) (after_sent (token_out a d) k) p → m ≡ ended_in a d k
     → n ≡ all_forgotten m → (IsSome left → left ≡ address_by (device_there m p))
     → KeptAt a.addr port k n p
@@ -265,8 +261,7 @@ index_port n port h k m p l e s w kept is = absurd kept
 -- an attempt changes nothing but the device at its way, with what is below
 pub index_beside : (a : Attempt) (d : Option Damage) (h : Holders) (k m : Ports) (p : List ℕ)
     → is_whole_tree p ≡ false → IsSettled k → IsWayTo a.addr k p → m ≡ ports_in a d k
-    → IsIndexWithout h k p
-    → IsIndexWithout h m p
+    → IsIndexWithout h k p → IsIndexWithout h m p
 index_beside a d h k m [] f s w e is = false_true (sym f)
 index_beside a d h k m (zero ∷ p) f s w e is = absurd w
 index_beside a d h k m (suc j ∷ p) f s w e is =

@@ -1,7 +1,6 @@
 -- A change at a place: a way that does not lead there stays. One walk answers all that is asked.
-use Rattle.std.proofs.Common.{arith}
-use Rattle.std.proofs.Common.{◌≡◌, ℕ, zero, suc, ◌&&◌, false, List, [], ◌∷◌}
-use Rattle.std.proofs.Common.{not, true, refl, ap, sym}
+use Rattle.std.proofs.Common.{arith, ◌≡◌, ℕ, zero, suc, ◌&&◌, false, List, [], ◌∷◌, not, true, refl}
+use Rattle.std.proofs.Common.{ap, sym}
 use Rattle.usb_port.specs.{PortState, PortCall}
 use Rattle.usb_device.specs.{State, Ports, ended, vacant, taken, empty, full, before, changed_at}
 use Rattle.usb_device.specs.{called, reach_at, state_at, port_at, changed, reach, port_there}
@@ -84,16 +83,14 @@ SameThere k m p =
 pub changed_there : (f : Place → Place) (k : Ports) (x p : List ℕ)
     → way_of x p ≡ false → SameThere k (changed f k x) p
 unfolding is_way
-changed_there f k x (zero ∷ p) w = (refl, refl, refl)
 changed_there f k (suc i ∷ x) (suc j ∷ p) w =
     let y : _ = changed_apart f k i x j p w in
     (y.0.0, y.0.3, y.1)
-changed_there f k x p w = (refl, refl, refl)
+changed_there f k x _ w = (refl, refl, refl)
 
 pub root_there : (c : PortCall) (m : ℕ) (k : Ports) (p : List ℕ)
     → root_leaves m p ≡ true → SameThere k (changed (called c) k (m ∷ [])) p
-root_there c m k (zero ∷ p) h = (refl, refl, refl)
 root_there c (suc i) k (suc j ∷ p) h =
     let y : _ = called_apart c k i j p h in
     (y.0.0, y.0.3, y.1)
-root_there c m k p h = (refl, refl, refl)
+root_there c m k _ h = (refl, refl, refl)

@@ -1,21 +1,18 @@
 -- Which paths lead to which, and what is so on the way to a path.
 use Rattle.std.proofs.Common.{◌≡◌, ◌∙◌, refl, sym, ap, ap₂, subst, arith, append-nil, append_assoc}
 use Rattle.std.proofs.Common.{length-append, ℕ, zero, suc, ◌+◌, ◌<◌, inl, inr, Bool, true, false}
-use Rattle.std.proofs.Common.{◌&&◌, ◌||◌, not, List, [], ◌∷◌, ◌++◌, length, Some}
-use Rattle.std.proofs.Common.{nat_eq}
+use Rattle.std.proofs.Common.{◌&&◌, ◌||◌, not, List, [], ◌∷◌, ◌++◌, length, Some, nat_eq}
 use Rattle.std.specs.Cmp.Lexicographic.{pointwise, same_text, bytes_decides}
 use Rattle.std.specs.List.{starts_with}
 use Rattle.std.proofs.lemmas.Bool.{eqb-true, eq-eqb}
 use Rattle.usb_port.specs.{is_below as is_port_below, parent_of, port_on_hub}
 use Rattle.usb_port.proofs.Interface.{is_below-extension, rejoined}
 use Rattle.usb_device.specs.{Spec, Ports, vacant, taken, reach, reach_at}
-use Rattle.usb_world.specs.{Action, Event, NoneNames, Undisturbed, names_path, way_of}
-use Rattle.usb_world.specs.{World}
+use Rattle.usb_world.specs.{Action, Event, NoneNames, Undisturbed, names_path, way_of, World}
 use Rattle.usb_tree.specs.{is_way, same_number}
 use Rattle.usb_world.proofs.ports.RootResets.{same_number-is}
 use Rattle.usb_tree.proofs.Interface.{false_true, both, or_left, or_right, either_of, same_bools}
-use Rattle.usb_tree.proofs.Interface.{and_kept}
-use Rattle.usb_tree.proofs.Interface.{self_number}
+use Rattle.usb_tree.proofs.Interface.{and_kept, self_number}
 
 -- a way goes on to the path
 pub way_rest : (p x : List ℕ) → is_way p x ≡ true → (rest : List ℕ) × (x ≡ p ++ rest)

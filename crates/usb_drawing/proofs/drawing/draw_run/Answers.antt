@@ -1,5 +1,4 @@
-use Rattle.std.proofs.Common.{◌≡◌, ◌∙◌, refl, subst, ap, Ok, IsErrAnd}
-use Rattle.std.specs.Prelude.{is_some}
+use Rattle.std.proofs.Common.{◌≡◌, ◌∙◌, refl, subst, ap, Ok, IsErrAnd, is_some}
 use Rattle.usb_run.specs.{Next}
 use Rattle.usb_drawing.proofs.DrawnItems.{drawn_begun, drawn_cut, drawn_over, drawn_stopped}
 use Rattle.usb_drawing.proofs.DrawnItems.{drawn_told, drawn_unlined, drawn_unopened}

@@ -1,5 +1,4 @@
-use Rattle.std.proofs.Common.{◌-◌}
-use Rattle.std.specs.Prelude.{vec_len}
+use Rattle.std.proofs.Common.{◌-◌, vec_len}
 use Rattle.usb_entry.proofs.Readings.{ReadSoFar}
 use Rattle.usb_entry.proofs.reading.entry_of.Given as goal
 

@@ -1,5 +1,4 @@
-use Rattle.std.proofs.Common.{◌++◌}
-use Rattle.std.specs.Prelude.{codes}
+use Rattle.std.proofs.Common.{◌++◌, codes}
 use Rattle.usb_entry.specs.{is_taken_low, descriptor_line, head_line, identity_lines, name_line}
 use Rattle.usb_entry.specs.{speed_line}
 use Rattle.usb_entry.proofs.Pieces.{last_one, pieces_more}

@@ -1,5 +1,5 @@
-use Rattle.usb_enum.specs.{Memory, AtMaximum, HasString, bytes_given, no_fault}
-use Rattle.usb_enum.specs.{unnamed, string_units}
+use Rattle.usb_enum.specs.{Memory, AtMaximum, HasString, bytes_given, no_fault, unnamed}
+use Rattle.usb_enum.specs.{string_units}
 use Rattle.std.proofs.Common.{◌∙◌, ap, option_and_then, refl, sym}
 use Rattle.usb_enum.proofs.Parts.{asking, part_fails, part_handed, steps_none}
 use Rattle.usb_enum.proofs.refusals.Refusals.{fault_explains}

@@ -1,6 +1,5 @@
-use Rattle.std.proofs.Common.{◌∙◌, map, ap, arith, refl}
+use Rattle.std.proofs.Common.{◌∙◌, map, ap, arith, refl, slice_index_or}
 use Rattle.std.proofs.lemmas.List.{take_all}
-use Rattle.std.specs.Prelude.{slice_index_or}
 use Rattle.usb_port.specs.{off, status_of}
 use Rattle.usb_world.specs.{root_port_at, root_row}
 use Rattle.usb_sim.specs.{world_of}

@@ -1,5 +1,4 @@
-use Rattle.std.proofs.Common.{◌≡◌, ◌+◌, ◌*◌, ◌∙◌, ℕ, ap, sym, arith, length, take}
-use Rattle.std.proofs.Common.{length-set}
+use Rattle.std.proofs.Common.{◌≡◌, ◌+◌, ◌*◌, ◌∙◌, ℕ, ap, sym, arith, length, take, length-set}
 use Rattle.std.proofs.lemmas.List.{drop-set-lt}
 use Rattle.usb_packet.proofs.TextLemmas.{encode_upper-set, drop_more_both, encode_upper_none}
 use Rattle.usb_packet.proofs.text.write_digits.Goals as goal

@@ -1,6 +1,5 @@
-use Rattle.std.proofs.Common.{arith, ◌+◌, ◌≡◌, true}
+use Rattle.std.proofs.Common.{arith, ◌+◌, ◌≡◌, true, rules, Ok}
 use Rattle.usb_bus.proofs.Interface.{went_then, went_wider}
-use Rattle.std.proofs.Common.{rules, Ok}
 use Rattle.usb_transaction.specs.{transaction_bound}
 use Rattle.usb_pipe.specs.{write_bound, Writes}
 use Rattle.usb_pipe.proofs.ControlTransfers.{write_at_status, write_told}

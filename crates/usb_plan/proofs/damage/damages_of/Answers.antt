@@ -6,8 +6,8 @@ use Rattle.usb_plan.specs.{damage_entry, last_from, entry_at}
 use Rattle.usb_plan.specs.declared.fault.Place.TheVariants as place
 use Rattle.usb_plan.proofs.Parts.{damage_entry_ok, entry_at_ok}
 use Rattle.usb_plan.proofs.MemoryRefusals.{unless_handed}
-use Rattle.usb_plan.proofs.Growth.{damages_from-next, damages_from-end}
-use Rattle.usb_plan.proofs.Growth.{damages_fit-push, last_from-push}
+use Rattle.usb_plan.proofs.Growth.{damages_from-next, damages_from-end, damages_fit-push}
+use Rattle.usb_plan.proofs.Growth.{last_from-push}
 use Rattle.usb_plan.proofs.damage.damages_of.Goals as goal
 
 pub loop-i-init : goal.loop-i-init

@@ -7,8 +7,7 @@ use Rattle.usb_plan.specs.declared.fault.PlanFault.TheVariants as fault
 use Rattle.usb_plan.specs.{Memory, EqualUnless, SceneData, scene_after, event_in}
 use Rattle.usb_plan.proofs.Parts.{event_in_ok, entry_at_ok}
 use Rattle.usb_plan.proofs.MemoryRefusals.{entry_at_told, entry_at_read, unless_handed}
-use Rattle.usb_plan.proofs.Growth.{events_from-next, events_from-end}
-use Rattle.usb_plan.proofs.Growth.{events_fit-push}
+use Rattle.usb_plan.proofs.Growth.{events_from-next, events_from-end, events_fit-push}
 use Rattle.usb_world.proofs.Interface.{plugged_by-next}
 use Rattle.usb_plan.proofs.event.events_of.Goals as goal
 

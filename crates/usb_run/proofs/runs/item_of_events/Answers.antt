@@ -1,5 +1,4 @@
-use Rattle.std.proofs.Common.{◌<◌, subst, ap, arith, Ok}
-use Rattle.std.specs.Prelude.{is_some}
+use Rattle.std.proofs.Common.{◌<◌, subst, ap, arith, Ok, is_some}
 use Rattle.usb_world.specs.{to_come}
 use Rattle.usb_run.specs.{Arrives, idle, asked, in_item, IsItemOf}
 use Rattle.usb_run.proofs.endings.Ends.{error_runs_on}

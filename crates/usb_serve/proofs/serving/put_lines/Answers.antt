@@ -1,5 +1,5 @@
-use Rattle.std.proofs.Common.{◌∙◌, ◌++◌, ◌∷◌, [], subst, add-one, flat_map, take, drop}
-use Rattle.std.proofs.Common.{suc, List, ℕ}
+use Rattle.std.proofs.Common.{◌∙◌, ◌++◌, ◌∷◌, [], subst, add-one, flat_map, take, drop, suc, List}
+use Rattle.std.proofs.Common.{ℕ}
 use Rattle.std.specs.Global.{Vec}
 use Rattle.std.specs.Io.KnownBytes.{Appends}
 use Rattle.usb_bus.specs.{AppendsFront}

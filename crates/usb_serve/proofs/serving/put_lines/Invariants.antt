@@ -1,5 +1,4 @@
-use Rattle.std.proofs.Common.{◌≡◌, ◌++◌, ◌∷◌, [], flat_map, take, None}
-use Rattle.std.specs.Prelude.{◌⊎◌}
+use Rattle.std.proofs.Common.{◌≡◌, ◌++◌, ◌∷◌, [], flat_map, take, None, ◌⊎◌}
 use Rattle.usb_run.specs.{AppendsText}
 use Rattle.usb_serve.proofs.serving.put_lines.Given as goal
 

@@ -1,5 +1,4 @@
-use Rattle.std.proofs.Common.{◌∙◌, sym, subst, ap, Ok}
-use Rattle.std.specs.Prelude.{is_some}
+use Rattle.std.proofs.Common.{◌∙◌, sym, subst, ap, Ok, is_some}
 use Rattle.usb_serve.specs.declared.serving.ServeFault.TheVariants as serve
 use Rattle.usb_run.specs.{Next}
 use Rattle.usb_serve.proofs.ServedItems.{RunSoFar, run_begun, run_cut, run_stopped, run_told}

@@ -1,6 +1,5 @@
-use Rattle.std.proofs.Common.{◌≡◌, ◌∙◌, [], ◌∷◌, ◌++◌, refl, subst, ap, Ok, IsErrAnd}
+use Rattle.std.proofs.Common.{◌≡◌, ◌∙◌, [], ◌∷◌, ◌++◌, refl, subst, ap, Ok, IsErrAnd, OnOk, is_some}
 use Rattle.std.specs.Io.KnownBytes.{Appends}
-use Rattle.std.specs.Prelude.{OnOk, is_some}
 use Rattle.usb_bus.specs.{AppendsFront, inner_of}
 use Rattle.usb_plan.specs.{bound_of}
 use Rattle.usb_text.specs.{bound_line}

@@ -1,7 +1,6 @@
 use Rattle.std.proofs.Common.{◌∙◌, sym, ap, append-nil, append_assoc, ◌++◌, add-one, suc, arith}
-use Rattle.std.proofs.Common.{take, ◌≡◌, ◌∷◌, [], List, ℕ}
+use Rattle.std.proofs.Common.{take, ◌≡◌, ◌∷◌, [], List, ℕ, ◌==◌}
 use Rattle.usb_text.specs.{config_line, config_lines}
-use Rattle.std.specs.Prelude.{◌==◌}
 use Rattle.usb_text.proofs.ConfigLines.{config_lines_at}
 use Rattle.usb_text.proofs.listing.push_configs.Goals as goal
 

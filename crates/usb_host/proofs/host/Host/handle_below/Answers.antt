@@ -1,5 +1,4 @@
-use Rattle.std.proofs.Common.{◌≡◌, ◌∙◌, ap, refl, sym, subst, ◌++◌, ◌∷◌, [], None}
-use Rattle.std.specs.Prelude.{IsSome, IsTrue}
+use Rattle.std.proofs.Common.{◌≡◌, ◌∙◌, ap, refl, sym, subst, ◌++◌, ◌∷◌, [], None, IsSome, IsTrue}
 use Rattle.usb_port.proofs.Interface.{parent}
 use Rattle.usb_table.specs.{known_port}
 use Rattle.usb_host.proofs.payments.HandlingPayments.{number_handled, number_stops, number_unknown}

@@ -25,15 +25,8 @@ returns-clause-looks g c known =
 
 pub returns-in_err-status-clause-hubs : goal.returns-in_err-status-clause-hubs
 returns-in_err-status-clause-hubs g c =
-    omega (
-      arith,
-      hubs-rest c.args.self.now c.in_err-status.ensures.rests,
-    )
+    omega (arith, hubs-rest c.args.self.now c.in_err-status.ensures.rests)
 
 pub returns-clause-hubs : goal.returns-clause-hubs
 returns-clause-hubs g c =
-    omega (
-      arith,
-      hubs-rest c.args.self.now c.in_ok-status.ensures.rests,
-      c.renew.ensures.hubs,
-    )
+    omega (arith, hubs-rest c.args.self.now c.in_ok-status.ensures.rests, c.renew.ensures.hubs)

@@ -1,5 +1,4 @@
-use Rattle.std.proofs.Common.{◌≡◌, ◌-◌, true}
-use Rattle.std.specs.Prelude.{IfSome}
+use Rattle.std.proofs.Common.{◌≡◌, ◌-◌, true, IfSome}
 use Rattle.usb_port.specs.{IsPath}
 use Rattle.usb_host.specs.{NoneWait, Quiet}
 use Rattle.usb_host.proofs.entries.Ranks.{rank_after}

@@ -1,4 +1,4 @@
-use Rattle.std.proofs.Common.{arith, rules, ◌≡◌, ap, refl, sym, subst, ◌∙◌}
+use Rattle.std.proofs.Common.{arith, rules, ◌≡◌, ap, refl, sym, subst, ◌∙◌, IfOk}
 use Rattle.std.proofs.lemmas.Grind.{common_steps}
 use Rattle.usb_host.specs.{round_bound, HostState, RoundsSound, PaysRound, HostSteps, DidParts}
 use Rattle.usb_host.proofs.payments.RoundPayments.{pays_stopped, stopped_pays}
@@ -7,7 +7,6 @@ use Rattle.usb_host.proofs.StepSums.{host_goes_none}
 use Rattle.usb_host.proofs.devices.Owners.{round_owning}
 use Rattle.usb_host.proofs.services.RoundServices.{parts_done}
 use Rattle.usb_host.proofs.knowledge.Soundness.{rounds_stopped}
-use Rattle.std.specs.Prelude.{IfOk}
 use Rattle.usb_host.proofs.host.Host.round.Goals as goal
 
 pub returns-then-self-clause-stopped : goal.returns-then-self-clause-stopped

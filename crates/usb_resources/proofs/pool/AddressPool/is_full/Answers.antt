@@ -1,5 +1,4 @@
-use Rattle.std.proofs.Common.{subst}
-use Rattle.std.specs.Prelude.{◌↔◌, IsTrue}
+use Rattle.std.proofs.Common.{subst, ◌↔◌, IsTrue}
 use Rattle.usb_resources.specs.{IsFull}
 use Rattle.usb_resources.proofs.Marks.{none_unset}
 use Rattle.usb_resources.proofs.pool.AddressPool.is_full.Goals as goal

@@ -1,9 +1,9 @@
 use Rattle.std.proofs.Common.{rules, ◌≡◌, ℕ, ◌+◌, ◌||◌, List, Bool, Option, None, refl, sym, subst}
-use Rattle.std.proofs.Common.{ap}
-use Rattle.std.proofs.Common.{◌∙◌, arith, length}
+use Rattle.std.proofs.Common.{ap, ◌∙◌, arith, length}
 use Rattle.usb_device.specs.{Ports, row_of}
 use Rattle.usb_world.specs.{Attempt, Damage, Exchange, damage_of, exchange_in, lost_in}
-use Rattle.usb_world.specs.{AreOfDamages, counted, World, Consistent, IsCut}
+use Rattle.usb_world.specs.{AreOfDamages, counted, World, Consistent, IsCut, IsAttempt}
+use Rattle.usb_world.specs.{after_clearing}
 use Rattle.usb_world.specs.declared.losses.Losses.{Losses}
 use Rattle.usb_sim.specs.{world_of}
 use Rattle.usb_bus.specs.{lines_between, step_lines, AppendsFront}
@@ -15,7 +15,6 @@ use Rattle.std.specs.Io.KnownBytes.{Appends}
 use Rattle.std.proofs.KnownBytes.{Appends-trans}
 use Rattle.usb_sim.proofs.Arrivals.{made_there, lines_alone, writes_alone, writes_told, writes_line}
 use Rattle.usb_sim.proofs.Arrivals.{writes_memory}
-use Rattle.usb_world.specs.{IsAttempt, after_clearing}
 use Rattle.usb_tree.specs.{IsSettled}
 use Rattle.usb_sim.proofs.sim.SimBus.make_attempt.Goals as goal
 

@@ -1,5 +1,5 @@
-use Rattle.std.proofs.Common.{rules, ◌≡◌, refl, sym, subst, true, length, arith, ◌∙◌, ap, ◌∷◌}
-use Rattle.std.proofs.Common.{Bool, Some, None, Option, Ok, Result, List}
+use Rattle.std.proofs.Common.{rules, ◌≡◌, refl, sym, subst, true, length, arith, ◌∙◌, ap, ◌∷◌, Bool}
+use Rattle.std.proofs.Common.{Some, None, Option, Ok, Result, List}
 use Rattle.std.proofs.lemmas.Bool.{and_parts}
 use Rattle.std.specs.List.{list_all}
 use Rattle.usb_device.specs.{Ports, Spec, row_of}

@@ -1,5 +1,4 @@
-use Rattle.std.proofs.Common.{◌≡◌, length, arith, ap, sym, subst, ◌∙◌}
-use Rattle.std.specs.Prelude.{All}
+use Rattle.std.proofs.Common.{◌≡◌, length, arith, ap, sym, subst, ◌∙◌, All}
 use Rattle.usb_device.specs.{IsSpec, row_of}
 use Rattle.usb_tree.specs.{IsSettled}
 use Rattle.usb_world.specs.{Consistent}

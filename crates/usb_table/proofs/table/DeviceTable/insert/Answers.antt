@@ -1,6 +1,6 @@
 -- What is entered stands under a key that was vacant.
-use Rattle.std.proofs.Common.{◌≡◌, ◌∙◌, sym, ap, subst, false, ℕ, Option, Some, None}
-use Rattle.std.specs.Prelude.{Result, Ok, Err, OnErr}
+use Rattle.std.proofs.Common.{◌≡◌, ◌∙◌, sym, ap, subst, false, ℕ, Option, Some, None, Result, Ok}
+use Rattle.std.proofs.Common.{Err, OnErr}
 use Rattle.slab.specs.Slab.{Slab, get, Updates}
 use Rattle.usb_table.specs.{has_at, HasNewAddress, Entry, findings, Enters, is_below_hub}
 use Rattle.usb_table.specs.{ArePipesOf, new_pipes, Table, entered}

@@ -1,6 +1,5 @@
 -- The first entry of the kind behind the last path is the next one.
-use Rattle.std.proofs.Common.{◌≡◌, ◌∙◌, sym, ap, ℕ, List, true, None, Some}
-use Rattle.std.specs.Prelude.{option_copied}
+use Rattle.std.proofs.Common.{◌≡◌, ◌∙◌, sym, ap, ℕ, List, true, None, Some, option_copied}
 use Rattle.std.specs.BTreeMap.Range.{entries_between, IsEntryInRange}
 use Rattle.std.specs.declared.ops.Bound.{Bound}
 use Rattle.std.specs.declared.ops.Bound.TheVariants.{Unbounded}

@@ -1,5 +1,4 @@
-use Rattle.std.proofs.Common.{◌≡◌, None}
-use Rattle.std.specs.Prelude.{option_copied}
+use Rattle.std.proofs.Common.{◌≡◌, None, option_copied}
 use Rattle.slab.specs.Slab.{get}
 use Rattle.usb_table.specs.{entries_of, findings, fits}
 use Rattle.usb_table.proofs.entries.NextEntries.{first_from}

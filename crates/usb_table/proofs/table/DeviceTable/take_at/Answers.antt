@@ -1,6 +1,5 @@
 -- What is taken out leaves its key vacant.
-use Rattle.std.proofs.Common.{◌∙◌, sym, ap, subst, ℕ, List, Option, Some, None}
-use Rattle.std.specs.Prelude.{IfNone}
+use Rattle.std.proofs.Common.{◌∙◌, sym, ap, subst, ℕ, List, Option, Some, None, IfNone}
 use Rattle.std.specs.BTreeMap.{BTreeMap}
 use Rattle.std.specs.List.Sorted.{IsStrictlySortedBy}
 use Rattle.std.specs.Map.{keys_of}

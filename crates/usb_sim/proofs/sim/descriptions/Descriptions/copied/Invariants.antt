@@ -1,5 +1,4 @@
-use Rattle.std.proofs.Common.{◌≡◌, take}
-use Rattle.std.specs.Prelude.{map}
+use Rattle.std.proofs.Common.{◌≡◌, take, map}
 use Rattle.usb_sim.proofs.sim.descriptions.Descriptions.copied.Given as goal
 
 abbrev pub invariant-specs : goal.invariant-specs
