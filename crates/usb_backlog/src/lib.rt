@@ -25,9 +25,9 @@
 //!   there since (`found_pays`: `PaysLook`), else a look, a stray or an event (`bare_pays`: `PaysBare`); a change of
 //!   reset that was cleared pays a stray (`tidied_pays`: `PaysStray`).
 //!
-//! Each call of usb_hub at or to a device says so of itself (`AskedData.backlog`, `Ordered.backlog`,
-//! `CallsPort.backlog`), each call of usb_enum of usb_hub's kind (`specs/Frames.antt`), `enumerate` whole
+//! Each call of usb_hub at or to a device says so of itself (`Queried.backlog`, `Commanded.backlog`,
+//! `CommandsPort.backlog`), each call of usb_enum of usb_hub's kind (`usb_enum/specs/Frames.antt`), `enumerate` whole
 //! (`OnlyAt.backlog`), and polls and transfers of usb_table (`OnlyTransfers.backlog`). In usb_host a port that is
-//! served pays (`PaysAtServe`, `specs/Backlog.antt`), and a drop, a status, the disabling of a port and each transfer
-//! leave no more to do but by events; where nothing is found at a port, no hub more is listed (`FindsNone`).
+//! served pays (`PaysAtServe`, `usb_host/specs/Backlog.antt`), and a drop, a status, the disabling of a port and each
+//! transfer leave no more to do but by events; where nothing is found at a port, no hub more is listed (`FindsNone`).
 #![tactic(auto)]

@@ -16,9 +16,9 @@
 //! - Laws (`src/laws.rt`): whole attempts with the device that is spoken to (`attempt_laws`), packets that are for none
 //!   of the devices they reach (`stray_laws`), the packets of an answer (`answer_laws`); how far a control read and the
 //!   two bulk endpoints are after one more attempt, whatever of it is lost (`control_read_goes_on`, `source_goes_on`,
-//!   `sink_goes_on`), and in lemmas a hub's status endpoint (`poll_on` of `proofs/ChangesProgress.antt`), what no
-//!   packet changes (`keeps-received`, `RowFrames.antt`), silent devices (`silent-stays`, `silent-unread`,
-//!   `Attempts.antt`) and the ports of a row (`row_of-after`, `row_of-forgotten`, `Rows.antt`). What each step leaves
+//!   `sink_goes_on`), and in lemmas a hub's status endpoint (`poll_on` of `ChangesProgress.antt`), what no packet
+//!   changes (`keeps-received`, `RowFrames.antt`), silent devices (`silent-stays`, `silent-unread`, `Attempts.antt`)
+//!   and the ports of a row (`row_of-after`, `row_of-forgotten`, `Rows.antt`). What each step leaves
 //!   at each place of the tree stands with usb_world, what a status stage comes to and what an attempt leaves of its
 //!   device with usb_transaction.
 #![tactic(auto)]

@@ -16,13 +16,13 @@
 //! (`SentAt`, `ReceivedAt`, `ClearedAt`); what it knows is so and stays so, and a quiet round leaves nothing to do
 //! (`RoundKeeps`, `TransferKeeps`); what a round does, part by part.
 //!
-//! **One holder.** *Owning* (`usb_host/specs/Ownership.antt`) says of a host that at no attempt so far two reachable
-//! devices held one address, 0 included, and, as long as neither it nor its bus has stopped, that each reachable device
-//! holds the address of the entry at its path. `Host::new` gives it of an opening world, each of `round`, `send`,
-//! `receive` and `clear_halt` keeps it, whatever it answers, and so do events that come through `bus_mut`.
-//! `usb_run::Runner`, by which `run` and `serve` make a plan's run item by item, keeps *Owning* of its host in its
-//! type: it stands behind each item, and behind a fault too; `run` and `serve` say it of the run that they made. With
-//! `one_device_at_most_answers` of usb_world no attempt of such a run is answered by two devices.
+//! **One holder.** *HostMapHolds* (`usb_host/specs/Ownership.antt`) says of a host that at no attempt so far two
+//! reachable devices held one address, 0 included, and, as long as neither it nor its bus has stopped, that each
+//! reachable device holds the address of the entry at its path. `Host::new` gives it of an opening world, each of
+//! `round`, `send`, `receive` and `clear_halt` keeps it, whatever it answers, and so do events that come through
+//! `bus_mut`. `usb_run::Runner`, by which `run` and `serve` make a plan's run item by item, keeps *HostMapHolds* of its
+//! host in its type: it stands behind each item, and behind a fault too; `run` and `serve` say it of the run that they
+//! made. With `one_device_at_most_answers` of usb_world no attempt of such a run is answered by two devices.
 //!
 //! - Where what the host knows is so and the bus is at work, a round that is done is its parts in order (`RoundParts`,
 //!   `specs/Service.antt`): by rising number just the root ports whose connection has changed; by strictly rising path

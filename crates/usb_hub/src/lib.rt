@@ -36,7 +36,7 @@
 //! - `set_port`, `clear_port`: a call that is done acted at the port, at a moment of it; before that there were only
 //!   repeats of it, and since then nothing was asked of any port (`PortCallDone`). Whatever the answer, nothing is
 //!   asked of a port that is not at or below this one, and a change of connection there that the call does not clear
-//!   stays pending (`CallsPort`). `SetSteps` is the course of `set_port`: within its count at a hub's port and with
+//!   stays pending (`CommandsPort`). `SetSteps` is the course of `set_port`: within its count at a hub's port and with
 //!   PORT_RESET at a root port, where PORT_POWER may set a change of connection.
 //! - `clear_port_change`, `clear_hub_changes`: the requests were made, just for the changes that were told, and keep
 //!   all addresses; a STALL of one counts as done (`Clears`, `ClearsOfHub`).

@@ -17,7 +17,7 @@
 //! for by what it left less of, and events that came in it; that a quiet one costs the polls of its hubs; and that
 //! wherever a round stopped, one handling at most was not paid for (*PaysRound*, of a host at work on a plan,
 //! *Affords*). With at most 127 plugs no device waits for an address, since each accepted one stands where a device was
-//! plugged (*HasPlugs*, `specs/Plugs.antt`; each part of a round keeps it, `PartStays`).
+//! plugged (*HasPlugs*, `usb_host/specs/Plugs.antt`; each part of a round keeps it, `PartStays`).
 //!
 //! - A run is a *transcript* (`usb_run/specs/Transcript.antt`) of hosts, one after the other: it begins at a host
 //!   whose root ports were just given power and whose knowledge is sound (`Opens`). Before each event the host settles:

@@ -16,7 +16,7 @@
 //! - The trace of a `SimBus` has failed exactly where TraceFailed was told, whatever was called on it, so each
 //!   TraceFailed is of a write that failed in that call (`trace_fault`, `into_writer`).
 //! - A plug is one line of the trace, whatever its device's name holds (`plug_is_one_line`): the name is shown as
-//!   `shown_name` (`specs/Shown.antt`).
+//!   `shown_name` (`usb_bus/specs/Shown.antt`).
 #![tactic(auto)]
 
 mod laws;

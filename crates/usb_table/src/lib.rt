@@ -16,22 +16,22 @@
 //!
 //! **What a right listing is.** `verdict` (`usb_enum/specs/Verdicts.antt`) is what a host finds in a device of a
 //! description, row by row: the first of twelve that holds. 19 devices that cover each row are computed beside it
-//! (`proofs/VerdictExamples.antt`). *Lists* (`usb_table/specs/Listing.antt`) says of a listing that it is what is
-//! plugged: at each port of the root and of each listed hub the device that is plugged there, with its own descriptors
-//! and the first configuration within its port's power, or refused with its cause, and nothing else; no two have one
-//! address. `usb_table::one_listing`: what is plugged has one right listing, but for the addresses.
+//! (`usb_enum/proofs/verdicts/VerdictExamples.antt`). *Lists* (`usb_table/specs/Listing.antt`) says of a listing that
+//! it is what is plugged: at each port of the root and of each listed hub the device that is plugged there, with its
+//! own descriptors and the first configuration within its port's power, or refused with its cause, and nothing else; no
+//! two have one address. `usb_table::one_listing`: what is plugged has one right listing, but for the addresses.
 //! `usb_table::listed_is_what_the_events_left`: a right listing of a world of a plan's course is one of what the plan's
 //! events have left plugged. `usb_host::settled_matches`: where a host knows each of its ports, what it says of each
 //! accepted and each refused device is so, and nothing is left to do, its listing is what is plugged
-//! (`specs/Soundness.antt`). `usb_host::known_stays`: what is known of a port stays known over a course that asks
-//! nothing of it. *IsSound* (`specs/Soundness.antt`) says that what a host knows is so, as long as its bus is at work:
-//! each port of the root and of each listed hub is as it is listed, or a change of connection is pending there; each
-//! accepted device that is reached is as it is listed; pipes are as far as the endpoints at their other ends; between
-//! two steps ports are consistent and devices are as the rules say (`IsOrderly`): no plan is asked for. `Host::new`
-//! gives it of a plan's world in which nothing came yet, `round`, `send`, `receive` and `clear_halt` keep it
-//! (`KeepsInvariant`), and so do events (`known_stays_at_events`); where no three attempts running are damaged and no
-//! address is lost three times, they also keep that each refused device has its cause. A quiet round in which no event
-//! came leaves nothing to do (`RoundsSound`, *IsAtRest*). With `settled_matches` each listing of a run is what is
+//! (`usb_host/specs/Soundness.antt`). `usb_host::known_stays`: what is known of a port stays known over a course that
+//! asks nothing of it. *HostInvariant* (`usb_host/specs/Soundness.antt`) says that what a host knows is so, as long as
+//! its bus is at work: each port of the root and of each listed hub is as it is listed, or a change of connection is
+//! pending there; each accepted device that is reached is as it is listed; pipes are as far as the endpoints at their
+//! other ends; between two steps ports are consistent and devices are as the rules say (`IsOrderly`): no plan is asked
+//! for. `Host::new` gives it of a plan's world in which nothing came yet, `round`, `send`, `receive` and `clear_halt`
+//! keep it (`KeepsInvariant`), and so do events (`known_stays_at_events`); where no three attempts running are damaged
+//! and no address is lost three times, they also keep that each refused device has its cause. A quiet round in which no
+//! event came leaves nothing to do (`RoundsSound`, *IsAtRest*). With `settled_matches` each listing of a run is what is
 //! plugged (usb_serve).
 #![tactic(auto)]
 

@@ -49,9 +49,8 @@
 //!   is held twice (`UnsharedRefusals.cut_alone`). One that the bus gave up finds no address held twice, where each
 //!   reachable device has its own (`RefusedAttempts.given_up_shared`). Where the attempts equal the limit, this is told
 //!   (`RefusedAttempts.limit_told`).
-//! - Lemmas of which requests ask something of ports: `PlainRequests.plain_asks_nothing`, `settled_asks_nothing`,
-//!   `HolderRequests.elsewhere`, `others_asked_nothing`, `self_asked`; which reset none:
-//!   `HarmlessRequests.harmless_resets`.
+//! - Lemmas of which requests ask something of ports (`HolderRequests.self_asked`) and which reset none
+//!   (`HarmlessRequests.harmless_resets`).
 #![tactic(auto)]
 
 mod damage;
