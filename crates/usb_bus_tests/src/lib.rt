@@ -1,4 +1,4 @@
-//! Tests of the bus: simulated buses of plans, and writers and readers that fail.
+//! Tests of buses, transactions and pipes, on simulated buses of plans, with writers and readers that fail.
 #![tactic(auto)]
 
 #[cfg(test)]

@@ -1,10 +1,4 @@
-mod damage;
-mod hubs;
-mod memory;
-mod names;
-mod plans;
-mod roots;
-mod row;
-mod step;
-mod watched;
-mod writers;
+//! One module a crate.
+mod bus;
+mod pipe;
+mod transaction;

@@ -44,7 +44,7 @@
 //! - What hubs tell and those of a world do not (`specs/Changes.antt`): a change of a port's suspend or over-current,
 //!   or of the hub itself, is cleared, and an accepted device whose port its hub has disabled on an error is found
 //!   anew. Over a world a host that knows what is so does none of it; what it does over such a hub is tested
-//!   (`usb_quirk_tests`).
+//!   (`usb_host_tests`).
 //! - An event that comes through `bus_mut` leaves what the host knows so (`known_stays_at_events`).
 #![tactic(auto)]
 

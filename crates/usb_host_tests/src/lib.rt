@@ -1,4 +1,5 @@
-//! Tests of the host's requests, of the enumerator and of the host's rounds.
+//! Tests of the host's requests, of the enumerator and of the host's rounds, also over a hub that tells what no
+//! simulated one does.
 #![tactic(auto)]
 
 #[cfg(test)]

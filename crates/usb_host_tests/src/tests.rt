@@ -5,3 +5,4 @@ mod enumeration;
 mod external;
 mod host;
 mod hub;
+mod quirks;

@@ -1,5 +1,5 @@
-//! Tests of the crates that stand on no device: check fields, packets, requests, descriptors, ports, lines
-//! and resources.
+//! Tests of the crates up to simulated devices: check fields, packets, requests, descriptors, ports, lines,
+//! resources and devices.
 #![tactic(auto)]
 
 #[cfg(test)]

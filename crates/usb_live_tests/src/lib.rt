@@ -1,4 +1,4 @@
-//! Tests of a host before a far end whose answers are text: a course, each fault, readers and writers that fail.
+//! Tests of the lines between a host and a far end: `usb_stream`, `usb_far` and `usb_live`.
 #![tactic(auto)]
 
 #[cfg(test)]

@@ -1,4 +1,4 @@
-//! Tests of usb_plan: which texts are plans, what is read of them, and which fault of the others is told.
+//! Tests of usb_plan and usb_diagnosis: which texts are plans, what is read of them, and which faults are told.
 #![tactic(auto)]
 
 #[cfg(test)]

@@ -1,3 +1,4 @@
+//! Simulated devices, packet by packet.
 mod attempts;
 mod bulk;
 mod described;

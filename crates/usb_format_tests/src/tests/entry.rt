@@ -1,4 +1,4 @@
-//! A test is a loop over rows of plain data.
+//! What is written of real devices is an entry of a plan with just their bytes, and what is no device is told.
 mod faults;
 mod plans;
 mod tables;

@@ -1,3 +1,4 @@
+//! Control transfers, polls and bulk transfers over simulated buses.
 mod bulk;
 mod control;
 mod faults;

@@ -1,3 +1,4 @@
+//! What is told of plans and of texts that are none.
 mod devices;
 mod entries;
 mod events;

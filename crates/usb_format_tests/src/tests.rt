@@ -1,0 +1,4 @@
+//! One module a crate.
+mod drawing;
+mod entry;
+mod pcap;

@@ -1,0 +1,293 @@
+//! A test is a loop over rows: what a far end says, and what the host says to it.
+use std::alloc::{AllocError, Global};
+use std::io;
+use std::io::{Error, ErrorKind, Read, Write};
+use std::test::Fail;
+use usb_bus::Watched;
+use usb_live::{LiveEnd, LiveFault, WireFault, live};
+
+/// What a far end with one device says up to its second `wait`: the course of docs/LIVE.md.
+const FAR: &str = "roots 1\n\
+                   port 1 00010000\nok\n\
+                   port 1 01010100\nok\n\
+                   port 1 01010000\nok\n\
+                   port 1 03011000\nok\n\
+                   port 1 03010000\nok\n\
+                   ACK\nDATA1 1201000200000040\nACK\n\
+                   ACK\nDATA1 -\n\
+                   ACK\nDATA1 120100020000004034127856000100000001\nACK\n\
+                   ACK\nDATA1 090212000101008032\nACK\n\
+                   ACK\nDATA1 0902120001010080320904000000FF000000\nACK\n\
+                   ACK\nDATA1 -\n";
+
+/// What the host says to it.
+const HOST: &str = "usbplan live 1\n\
+                    port 1 set PORT_POWER\n\
+                    wait\n\
+                    port 1 clear C_PORT_CONNECTION\n\
+                    port 1 set PORT_RESET\n\
+                    port 1 clear C_PORT_RESET\n\
+                    SETUP 0.0 / DATA0 8006000100000800\nIN 0.0 8\nOUT 0.0 / DATA1 -\n\
+                    SETUP 0.0 / DATA0 0005010000000000\nIN 0.0 64\n\
+                    SETUP 1.0 / DATA0 8006000100001200\nIN 1.0 64\nOUT 1.0 / DATA1 -\n\
+                    SETUP 1.0 / DATA0 8006000200000900\nIN 1.0 64\nOUT 1.0 / DATA1 -\n\
+                    SETUP 1.0 / DATA0 8006000200001200\nIN 1.0 64\nOUT 1.0 / DATA1 -\n\
+                    SETUP 1.0 / DATA0 0009010000000000\nIN 1.0 64\n\
+                    wait\n";
+
+/// What it tells of that device.
+const LISTED: &str = "1 address 1 full 120100020000004034127856000100000001\n\
+                      1 config 0 0902120001010080320904000000FF000000 *\n\
+                      end\n";
+
+/// What a far end says behind that, and what the host says to it.
+#[derive(Clone, Copy)]
+struct Wanted {
+    far: &'static str,
+    host: &'static [&'static str],
+}
+
+const WANTED: &[Wanted] = &[
+    Wanted {
+        far: "end\n",
+        host: &["listing 1\n", LISTED],
+    },
+    // the input ends in place of an answer
+    Wanted {
+        far: "",
+        host: &["listing 1\n", LISTED],
+    },
+    Wanted {
+        far: "ok\nshow\nsend 1 FF\nreceive 2 3\nclear 1\nend\n",
+        host: &[
+            "wait\nlisting 1\n",
+            LISTED,
+            "wait\nsend 1 failed no endpoint\nwait\nreceive 2 failed no device\nwait\nclear 1 failed no endpoint\n",
+            "wait\nlisting 2\n",
+            LISTED,
+        ],
+    },
+    // the device is pulled out
+    Wanted {
+        far: "port 1 00010100\nok\nport 1 00010000\nok\nend\n",
+        host: &["port 1 clear C_PORT_CONNECTION\nwait\nlisting 1\nend\n"],
+    },
+];
+
+/// What a far end says, how many questions may be asked, how that ends, and how many lines the host has written.
+#[derive(Clone, Copy)]
+struct Row {
+    far: &'static str,
+    limit: u64,
+    ended: Result<(), LiveEnd>,
+    lines: usize,
+}
+
+const ROWS: &[Row] = &[
+    // no device, and a listing that says so
+    Row {
+        far: "roots 1\nok\n",
+        limit: 3,
+        ended: Ok(()),
+        lines: 5,
+    },
+    Row {
+        far: "roots 1\nok\nend\n",
+        limit: 2,
+        ended: Err(LiveEnd::Line(2, LiveFault::LimitReached)),
+        lines: 2,
+    },
+    Row {
+        far: "roots 1\nok\nend\n",
+        limit: 1,
+        ended: Err(LiveEnd::Line(1, LiveFault::LimitReached)),
+        lines: 1,
+    },
+    Row {
+        far: "roots 1\nok\nend\n",
+        limit: 0,
+        ended: Err(LiveEnd::Line(0, LiveFault::LimitReached)),
+        lines: 0,
+    },
+    Row {
+        far: "",
+        limit: 9,
+        ended: Err(LiveEnd::Line(1, LiveFault::Gone)),
+        lines: 1,
+    },
+    Row {
+        far: "roots 1\nok\nwait\n",
+        limit: 9,
+        ended: Err(LiveEnd::Line(3, LiveFault::Line(WireFault::NoAnswer))),
+        lines: 3,
+    },
+    Row {
+        far: "roots 8\n",
+        limit: 9,
+        ended: Err(LiveEnd::Line(1, LiveFault::Line(WireFault::BadNumber))),
+        lines: 1,
+    },
+    Row {
+        far: "roots 1\nport 2 00000000\n",
+        limit: 9,
+        ended: Err(LiveEnd::Line(2, LiveFault::Line(WireFault::BadNumber))),
+        lines: 2,
+    },
+    Row {
+        far: "roots 1\nport 1 000000\n",
+        limit: 9,
+        ended: Err(LiveEnd::Line(2, LiveFault::Line(WireFault::BadLength))),
+        lines: 2,
+    },
+    Row {
+        far: "roots 1\nok\nsend 1 F\n",
+        limit: 9,
+        ended: Err(LiveEnd::Line(3, LiveFault::Line(WireFault::BadHex))),
+        lines: 3,
+    },
+    Row {
+        far: "roots 1\nok\nshow\nclear 0\n",
+        limit: 9,
+        ended: Err(LiveEnd::Line(4, LiveFault::Line(WireFault::BadPath))),
+        lines: 6,
+    },
+    Row {
+        far: "roots 1\nok\r\n",
+        limit: 9,
+        ended: Err(LiveEnd::Line(2, LiveFault::Line(WireFault::BadCharacter))),
+        lines: 2,
+    },
+];
+
+/// What a host has written, and how that ended.
+#[derive(Drop)]
+struct Played {
+    host: Vec<u8>,
+    ended: Result<(), LiveEnd>,
+}
+
+/// The course of a host over a reader, whose writer fails behind so many writes.
+fn play<R: Read + Drop>(alloc: Global, reader: R, writes: u64, limit: u64) -> Played {
+    let writer = Frail {
+        taken: Vec::new(alloc),
+        writes_left: writes,
+    };
+    let (ended, _reader, writer) = live(alloc, Watched::new(reader), Watched::new(writer), limit);
+    Played {
+        host: writer.into_inner().taken,
+        ended,
+    }
+}
+
+/// A writer that fails behind so many writes.
+#[derive(Drop)]
+struct Frail {
+    taken: Vec<u8>,
+    writes_left: u64,
+}
+
+impl Write for Frail {
+    fn write(&mut self, buf: &[u8]) -> io::Result<usize> {
+        let Some(left) = self.writes_left.checked_sub(1) else {
+            return Err(Error::from(ErrorKind::Other));
+        };
+        self.writes_left = left;
+        self.taken.extend_from_slice(buf)?;
+        Ok(buf.len())
+    }
+
+    fn flush(&mut self) -> io::Result<()> {
+        Ok(())
+    }
+}
+
+/// A reader that fails behind a text.
+#[derive(Drop)]
+struct Torn(&'static [u8]);
+
+impl Read for Torn {
+    fn read(&mut self, buf: &mut [u8]) -> io::Result<usize> {
+        if self.0.is_empty() {
+            return Err(Error::from(ErrorKind::Other));
+        }
+        self.0.read(buf)
+    }
+}
+
+fn newlines(text: &[u8]) -> usize {
+    text.iter().filter(|byte| **byte == b'\n').count()
+}
+
+/// The course up to its second `wait`, and what is wanted there.
+#[test]
+fn courses(rt: HostRuntime) -> Result<(), Fail> {
+    for row in WANTED {
+        let mut far = String::from_str(rt.alloc(), FAR)?;
+        far.push_str(row.far)?;
+        let mut host = String::from_str(rt.alloc(), HOST)?;
+        for piece in row.host {
+            host.push_str(piece)?;
+        }
+        let played = play(rt.alloc(), far.as_bytes(), u64::MAX, u64::MAX);
+        assert_eq!(rt; played.ended, Ok(()), "{}", row.far);
+        let told = str::from_utf8(played.host.as_slice()).ok();
+        assert_eq!(rt; told, Some(host.as_str()), "{}", row.far);
+    }
+    Ok(())
+}
+
+#[test]
+fn ends(rt: HostRuntime) -> Result<(), Fail> {
+    for row in ROWS {
+        let played = play(rt.alloc(), row.far.as_bytes(), u64::MAX, row.limit);
+        assert_eq!(rt; played.ended, row.ended, "{}", row.far);
+        assert_eq!(rt; newlines(played.host.as_slice()), row.lines, "{}", row.far);
+    }
+    Ok(())
+}
+
+/// The input fails, or ends, behind each number of bytes: nothing is told but where the end stands for `end`.
+#[test]
+fn cut(rt: HostRuntime) -> Result<(), Fail> {
+    for count in 0..FAR.len() {
+        let front = &FAR.as_bytes()[..count];
+        let failed = play(rt.alloc(), Torn(front), u64::MAX, u64::MAX);
+        let ended = play(rt.alloc(), front, u64::MAX, u64::MAX);
+        let line = (newlines(front) as u64).saturating_add(1);
+        let read = Err(LiveEnd::Line(line, LiveFault::Read));
+        assert_eq!(rt; failed.ended, read, "{count} bytes");
+        let host = failed.host.as_slice();
+        assert!(rt; HOST.as_bytes().starts_with(host), "{count} bytes");
+        let is_end = ended.ended.is_ok();
+        let gone = Err(LiveEnd::Line(line, LiveFault::Gone));
+        assert!(rt; is_end || ended.ended == gone, "{count} bytes");
+        assert_eq!(rt;
+            is_end,
+            host.ends_with(b"wait\n") && front.ends_with(b"\n"),
+            "{count} bytes"
+        );
+        let told = ended.host.as_slice();
+        assert!(rt; told.starts_with(host), "{count} bytes");
+        assert!(rt; is_end || told == host, "{count} bytes");
+    }
+    Ok(())
+}
+
+/// Each write fails in turn: what has gone out is the lines before it.
+#[test]
+fn writes(rt: HostRuntime) -> Result<(), Fail> {
+    let whole = play(rt.alloc(), FAR.as_bytes(), u64::MAX, u64::MAX);
+    for writes in 0..newlines(HOST.as_bytes()).saturating_add(1) {
+        let played = play(rt.alloc(), FAR.as_bytes(), writes as u64, u64::MAX);
+        assert!(rt;
+            matches!(played.ended, Err(LiveEnd::Line(_, LiveFault::Write))),
+            "{writes} writes"
+        );
+        assert_eq!(rt; newlines(played.host.as_slice()), writes, "{writes} writes");
+        assert!(rt;
+            whole.host.as_slice().starts_with(played.host.as_slice()),
+            "{writes} writes"
+        );
+    }
+    Ok(())
+}
