@@ -11,11 +11,11 @@ unless : {A : Type 0} (b : Bool) (fault : DescriptorFault) (r : Result A Descrip
 unless true fault r good = absurd cc
 unless false fault r good = (refl, good)
 
-counted : (head : Result ℕ DescriptorFault) (bytes : List ℕ) → is_ok (device_after head bytes)
+has_one : (head : Result ℕ DescriptorFault) (bytes : List ℕ) → is_ok (device_after head bytes)
     ≡ true → (configuration_count bytes == 0) ≡ false
-counted (Ok max) bytes good = (unless (configuration_count bytes == 0) NoConfiguration (Ok bytes)
+has_one (Ok max) bytes good = (unless (configuration_count bytes == 0) NoConfiguration (Ok bytes)
     good).0
-counted (Err fault) bytes good = absurd cc
+has_one (Err fault) bytes good = absurd cc
 
 pub record Whole (bytes : List ℕ) : Type 0 where
   pub whole : DEVICE_LENGTH ≤ length bytes
@@ -27,5 +27,5 @@ whole_of low bytes good =
     let long = unless (nat_lt (length bytes) DEVICE_LENGTH) Short
     (device_after (device_head_of low bytes) bytes) good in
     let some : configuration_count bytes ≡ 0 → ⊥ =
-    eqb-false (configuration_count bytes) 0 (counted (device_head_of low bytes) bytes long.1) in
+    eqb-false (configuration_count bytes) 0 (has_one (device_head_of low bytes) bytes long.1) in
     record { whole = ltb-false (length bytes) DEVICE_LENGTH long.0; some = omega (arith, some) }

@@ -1,6 +1,6 @@
 -- What drawing a plan's run writes, item by item.
 use Rattle.std.proofs.Common.{◌≡◌, ◌≢◌, ◌∙◌, refl, sym, ap, subst, inl, inr, ℕ, ◌+◌, ◌≤◌, ◌<◌, List}
-use Rattle.std.proofs.Common.{[], ◌∷◌, ◌++◌, map, flat_map, Bool, false, Option, None, Some, Result}
+use Rattle.std.proofs.Common.{[], ◌∷◌, ◌++◌, map, Bool, false, Option, None, Some, Result}
 use Rattle.std.proofs.Common.{Ok, Err, IsErrAnd, IfErr}
 use Rattle.std.specs.Global.{Vec}
 use Rattle.std.proofs.lemmas.List.Folds.{flat_map-map}
@@ -20,7 +20,7 @@ use Rattle.usb_serve.proofs.Interface.{ItemsNumbered, few_left, number_next, num
 use Rattle.usb_run.proofs.Interface.{at_fault, knows_opened, limit_opened, makes_knows, over_next}
 use Rattle.usb_run.proofs.Interface.{appends_no_text, run_limit, run_lists_right, stopped_next}
 use Rattle.usb_run.proofs.Interface.{told_next, traced_runs_onward, unwritten_next}
-use Rattle.usb_text.specs.{lines_text}
+use Rattle.usb_text.specs.{lines_text, written_lines}
 use Rattle.usb_drawing.specs.{Style, DrawnText, RunDrawn, drawn_item, drawn_items, drawn_lines}
 
 -- the run so far, from its host's first call on, and the drawings of its items
@@ -53,7 +53,7 @@ drawn_begun style plan before thrown over h opens at_work few = record {
 -- the text of an item's lines
 drawn_next : (style : Style) (items : List Item) (next : ℕ) (item : Item) (vs : List (Vec ℕ))
     → map (λ v. v.items) vs ≡ drawn_lines style next item → next ≡ number_of item (listings items)
-    → flat_map (λ v. v.items ++ 10 ∷ []) vs ≡ drawn_item style items item
+    → written_lines vs ≡ drawn_item style items item
 drawn_next style items next item vs lines is =
     sym (flat_map-map (λ line. line ++ 10 ∷ []) (λ v. v.items) vs) ∙ ap lines_text lines
     ∙ ap (λ n. lines_text (drawn_lines style n item)) is
@@ -65,7 +65,7 @@ pub drawn_told : {style : Style} {plan : PlanData} {before : Option (List ℕ)} 
     → (number < 18446744073709551615 → next ≡ number_of item number)
     → Next over h (Ok (Some item)) on k → items_left on k.world < items_left over h.world
     → map (λ v. v.items) vs ≡ drawn_lines style next item
-    → Appends now s (flat_map (λ v. v.items ++ 10 ∷ []) vs)
+    → Appends now s (written_lines vs)
     → DrawnSoFar style plan before next on k s
 unfolding drawn_items
 drawn_told {style = style} {before = before} {now = now} r next item on k vs s counted makes fewer
@@ -158,7 +158,7 @@ pub drawn_cut : {style : Style} {plan : PlanData} {before : Option (List ℕ)} {
     → (number < 18446744073709551615 → next ≡ number_of item number)
     → Next over h (Ok (Some item)) on k
     → map (λ v. v.items) vs ≡ drawn_lines style next item → k.world.shared ≡ false
-    → AppendsFront now s (flat_map (λ v. v.items ++ 10 ∷ []) vs)
+    → AppendsFront now s (written_lines vs)
     → RunDrawn style plan before result s
 unfolding drawn_items
 drawn_cut {style} {plan} {before} {now = now} r next item on k vs result s is counted makes lines

@@ -12,8 +12,8 @@ use Rattle.usb_table.specs.{Entries, Replaced, without, is_waiting}
 use Rattle.usb_host.specs.{HostState, work, HostFault, Waits, Gained, ProgressOrLost, EndsAs}
 use Rattle.usb_host.specs.{EntersOne, HostRuns, OnlyBusSteps, AddsNoWork, HostProgress, waiting}
 use Rattle.usb_host.proofs.StepSums.{advances_then}
-use Rattle.usb_host.proofs.entries.KindCounts.{counted-entered, counted-without}
-use Rattle.usb_host.proofs.entries.KindCounts.{counted-without_one}
+use Rattle.usb_host.proofs.entries.KindCounts.{of_kind-entered, of_kind-without}
+use Rattle.usb_host.proofs.entries.KindCounts.{of_kind-without_one}
 use Rattle.usb_host.proofs.entries.WaitingDevices.{waiting-entered_other}
 
 waiting_is : (f : Finding) → is_waiting f ≡ true → f ≡ Refused cause.NoAddress
@@ -35,7 +35,7 @@ enters_other path c d e free = other_by path c e free (is_waiting e.finding) ref
 pub enters_few : (path : List ℕ) (c d : HostState) → EntersOne path c d
     → waiting d.entries ≤ waiting c.entries + 1
 enters_few path c d e =
-    omega (arith, ap waiting e.entries, counted-entered is_waiting path e.finding c.entries)
+    omega (arith, ap waiting e.entries, of_kind-entered is_waiting path e.finding c.entries)
 
 module _ (path : List ℕ) (m : ℕ) {n : ℕ} (a b : HostState) {c d : HostState} (g : HostRuns m a b)
     (r : OnlyBusSteps a b)
@@ -54,7 +54,7 @@ module _ (path : List ℕ) (m : ℕ) {n : ℕ} (a b : HostState) {c d : HostStat
       ap (λ (x : HostState). x.world.attempts) others in
       omega (
         arith,
-        counted-without is_waiting path b.entries,
+        of_kind-without is_waiting path b.entries,
         h.went.spends.served,
         h.went.spends.later,
       )
@@ -70,7 +70,7 @@ module _ (path : List ℕ) (m : ℕ) {n : ℕ} (a b : HostState) {c d : HostStat
       ap (λ (x : HostState). x.world.attempts) others in
       omega (
         arith,
-        counted-without_one is_waiting path path _ b.entries (way_itself path) refl found,
+        of_kind-without_one is_waiting path path _ b.entries (way_itself path) refl found,
         h.went.spends.served,
         h.went.spends.later,
         g.went.spends.served,

@@ -35,7 +35,7 @@ use Rattle.usb_host.proofs.services.Services.{loses_parent}
 use Rattle.usb_world.proofs.Interface.{way_parent}
 use Rattle.usb_host.proofs.devices.Owners.{but_above}
 use Rattle.usb_host.proofs.entries.Roots.{root_parent}
-use Rattle.usb_host.proofs.entries.KindCounts.{counted-without}
+use Rattle.usb_host.proofs.entries.KindCounts.{of_kind-without}
 use Rattle.usb_host.proofs.entries.WaitingDevices.{waiting-entered_other}
 
 -- The way up
@@ -167,7 +167,7 @@ module _ {hub lost : List ℕ} {a b c : HostState} (d : HostState) (r : OnlyBusS
       let left : waiting c.entries ≡ waiting (without lost b.entries) = ap waiting f.rest in
       rw there (omega (
         arith,
-        counted-without is_waiting lost b.entries,
+        of_kind-without is_waiting lost b.entries,
         x.goes.went.spends.served,
         x.goes.went.spends.later,
       ))

@@ -1,5 +1,6 @@
 //! The host, from the hello to the end.
-ghost use Rattle.std.specs.Prelude.{◌≡◌, ◌++◌, ◌∷◌, [], IfOk, flat_map};
+ghost use Rattle.std.specs.Prelude.{◌≡◌, IfOk};
+ghost use Rattle.usb_text.specs.ListingLines.{written_lines};
 ghost use Rattle.usb_bus.specs.Watch.{inner_of};
 ghost use Rattle.usb_live.specs.Course.{ListsEntries, Lives, told_text};
 
@@ -178,8 +179,7 @@ fn text_of(alloc: Global, number: u64, item: &Item) -> Result<Vec<u8>, AllocErro
 }
 
 fn joined(alloc: Global, lines: &[Vec<u8>]) -> Result<Vec<u8>, AllocError>
-    ensures { IfOk result (λ text.
-        text.items ≡ flat_map (λ line. line.items ++ 10 ∷ []) lines.now) }
+    ensures { IfOk result (λ text. text.items ≡ written_lines lines.now) }
 {
     let mut text = Vec::new(alloc);
     'lines: for line in lines {

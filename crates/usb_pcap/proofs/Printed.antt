@@ -277,11 +277,11 @@ next_in-complete pre s rest sends spoken end =
     ∙ next_begun pre (host_text pre s ++ rest) ∙ host_in-complete pre s rest sends spoken end
 
 -- neither a start of frame nor a PRE alone
-spoken : (f : Packet → Bool) → ((frame : ℕ) → f (Sof frame) ≡ false) → f Pre ≡ false → (p : Packet)
+speaks : (f : Packet → Bool) → ((frame : ℕ) → f (Sof frame) ≡ false) → f Pre ≡ false → (p : Packet)
     → f p ≡ true → is_spoken p ≡ true
-spoken f sof pre (Sof frame) h = cc (sym (sof frame) ∙ h)
-spoken f sof pre Pre h = cc (sym pre ∙ h)
-spoken f sof pre _ h = refl
+speaks f sof pre (Sof frame) h = cc (sym (sof frame) ∙ h)
+speaks f sof pre Pre h = cc (sym pre ∙ h)
+speaks f sof pre _ h = refl
 
 host_data-complete : (pre : Bool) (s : Outgoing) (rest : List ℕ) → IsSent pre s
     → is_data_packet s.packet ≡ true → EndsWord rest
@@ -289,7 +289,7 @@ host_data-complete : (pre : Bool) (s : Outgoing) (rest : List ℕ) → IsSent pr
 unfolding host_data_in
 host_data-complete pre s rest sends is end =
     rw (
-      next_in-complete pre s rest sends (spoken is_data_packet (λ _. refl) refl s.packet is) end,
+      next_in-complete pre s rest sends (speaks is_data_packet (λ _. refl) refl s.packet is) end,
       is,
     ) refl
 
@@ -299,7 +299,7 @@ host_ack-complete : (pre : Bool) (s : Outgoing) (rest : List ℕ) → IsSent pre
 unfolding host_ack_in
 host_ack-complete pre s rest sends is end =
     rw (
-      next_in-complete pre s rest sends (spoken is_ack_packet (λ _. refl) refl s.packet is) end,
+      next_in-complete pre s rest sends (speaks is_ack_packet (λ _. refl) refl s.packet is) end,
       is,
     ) refl
 
@@ -351,7 +351,7 @@ answer_in-complete (answer.One p) m rest (is, sends) end =
     answer_behind (codes " / " ++ (text_of p ++ (mark_text m ++ rest))) rest p m
     (no_word p (mark_text m ++ rest) is)
     (subst (λ t. next_in false t ≡ Some (s, rest)) own
-    (next_in-complete false s rest sends (spoken is_answer (λ _. refl) refl p is) end)) is
+    (next_in-complete false s rest sends (speaks is_answer (λ _. refl) refl p is) end)) is
 
 -- ---- whole lines
 
@@ -424,7 +424,7 @@ begun-complete a h =
     let one : is_some (strip (codes "PRE ") (token_on a)) ≡ a.pre =
     pre_read a.pre a.exchange.token.packet a.exchange.token.mark _ (payload_on a) h.sends in
     let two = host_in-complete a.pre a.exchange.token (payload_on a) h.token
-    (spoken (λ p. is_some (data_follow p)) (λ _. refl) refl a.exchange.token.packet
+    (speaks (λ p. is_some (data_follow p)) (λ _. refl) refl a.exchange.token.packet
     (ap is_some h.sends))
     (payload_end a.pre a.exchange.payload
     (answer_text a.exchange.answer ++ (mark_text a.exchange.answer_mark ++ next_text a.pre

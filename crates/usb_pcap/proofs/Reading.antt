@@ -66,18 +66,18 @@ decimal_in-some text r e =
     (strip-some (decimal n) text rest found, number_on-few 0 text n (omega arith) h)))
 
 -- every upper-case digit stands at its value in the table
-abbrev stands_there : ℕ → Bool
-stands_there c = if is_digit c then (slice_index upper_digits (value_of c) == c) &&
+abbrev stands_at_value : ℕ → Bool
+stands_at_value c = if is_digit c then (slice_index upper_digits (value_of c) == c) &&
     nat_lt (value_of c) 16 else true
 
 abbrev all_stand_there : ℕ → Bool
 all_stand_there zero = true
-all_stand_there (suc n) = stands_there n && all_stand_there n
+all_stand_there (suc n) = stands_at_value n && all_stand_there n
 
-all_stand-at : (n c : ℕ) → all_stand_there n ≡ true → c < n → stands_there c ≡ true
+all_stand-at : (n c : ℕ) → all_stand_there n ≡ true → c < n → stands_at_value c ≡ true
 all_stand-at zero c h lt = absurd (omega arith)
 all_stand-at (suc n) c h lt =
-    let parts = and_parts (stands_there n) (all_stand_there n) h in
+    let parts = and_parts (stands_at_value n) (all_stand_there n) h in
     elim (cases_lt c n) [
       | inl below ↦ all_stand-at n c parts.1 below
       | inr top ↦

@@ -1,6 +1,6 @@
 -- What serving a plan writes, item by item.
 use Rattle.std.proofs.Common.{◌≡◌, ◌≢◌, ◌∙◌, refl, sym, ap, subst, inl, inr, arith, ℕ, ◌+◌, ◌≤◌}
-use Rattle.std.proofs.Common.{◌<◌, List, [], ◌∷◌, ◌++◌, map, flat_map, Bool, true, false, Option}
+use Rattle.std.proofs.Common.{◌<◌, List, [], ◌∷◌, ◌++◌, map, Bool, true, false, Option}
 use Rattle.std.proofs.Common.{None, Some, Result, Ok, Err, IsErrAnd, ◌⊎◌, IfErr, OnOk}
 use Rattle.std.specs.Global.{Vec}
 use Rattle.std.proofs.lemmas.List.Folds.{flat_map-map}
@@ -20,7 +20,7 @@ use Rattle.usb_run.specs.declared.mode.Mode.TheVariants.{Run}
 use Rattle.usb_serve.specs.{ServeFault, IsWritten, TreeText, IsCausedInRun, IsCausedInTree, RunEnds}
 use Rattle.usb_serve.specs.{at_write, of_run}
 use Rattle.usb_serve.specs.declared.serving.ServeFault.TheVariants as serve
-use Rattle.usb_text.specs.{bound_line, lines_text}
+use Rattle.usb_text.specs.{bound_line, lines_text, written_lines}
 use Rattle.usb_run.specs.Transcript.{Transcript}
 use Rattle.usb_run.proofs.Interface.{at_fault, run_limit, knows_opened, limit_opened, makes_knows}
 use Rattle.usb_run.proofs.Interface.{puts_knows, run_lists_right, traced_runs_onward, cut_next}
@@ -71,7 +71,7 @@ numbered_next {items} {number} {over} {w} n next item on v u counted fewer same 
 -- the text of an item's lines
 pub text_next : (items : List Item) (next : ℕ) (item : Item) (vs : List (Vec ℕ))
     → map (λ v. v.items) vs ≡ item_lines next item → next ≡ number_of item (listings items)
-    → flat_map (λ v. v.items ++ 10 ∷ []) vs ≡ item_text items item
+    → written_lines vs ≡ item_text items item
 text_next items next item vs lines is =
     sym (flat_map-map (λ line. line ++ 10 ∷ []) (λ v. v.items) vs) ∙ ap lines_text lines
     ∙ ap (λ n. lines_text (item_lines n item)) is
@@ -106,7 +106,7 @@ pub run_told : {was : Bool} {old : HostState} {number : ℕ} {over : Bool} {h : 
     (vs : List (Vec ℕ)) → (number < 18446744073709551615 → next ≡ number_of item number)
     → Next over h (Ok (Some item)) on k → items_left on k.world < items_left over h.world
     → map (λ v. v.items) vs ≡ item_lines next item
-    → AppendsText (flat_map (λ v. v.items ++ 10 ∷ []) vs) k new → RunSoFar was old next on new
+    → AppendsText (written_lines vs) k new → RunSoFar was old next on new
 run_told r next item on k new vs counted makes fewer lines puts = record {
   items = item ∷ r.items;
   knows = λ _. puts_knows puts (makes_knows makes.1);
@@ -145,7 +145,7 @@ pub run_cut : {was : Bool} {old : HostState} {number : ℕ} {over : Bool} {h : H
     (vs : List (Vec ℕ)) (result : Result (Unit {0}) ServeFault)
     → (number < 18446744073709551615 → next ≡ number_of item number)
     → Next over h (Ok (Some item)) on k → map (λ v. v.items) vs ≡ item_lines next item
-    → CutsText (flat_map (λ v. v.items ++ 10 ∷ []) vs) k new
+    → CutsText (written_lines vs) k new
     → (said : ServeFault) → (said ≢ serve.Write → new ≡ k) → IsErrAnd result (λ e. e ≡ said)
     → RunEnds was old result new
 run_cut {was} {old} r next item on k new vs result counted makes lines cuts said kept is =
@@ -223,7 +223,7 @@ pub tree_told : {plan : PlanData} {before : Option (List ℕ)} {number : ℕ} {o
     → (number < 18446744073709551615 → next ≡ number_of item number)
     → Next over h (Ok (Some item)) on k → items_left on k.world < items_left over h.world
     → map (λ v. v.items) vs ≡ item_lines next item
-    → Appends now s (flat_map (λ v. v.items ++ 10 ∷ []) vs) → TreeSoFar plan before next on k s
+    → Appends now s (written_lines vs) → TreeSoFar plan before next on k s
 unfolding items_text
 tree_told {before = before} {now = now} r next item on k vs s counted makes fewer lines appends =
     record {
@@ -315,7 +315,7 @@ pub tree_cut : {plan : PlanData} {before : Option (List ℕ)} {number : ℕ} {ov
     → (number < 18446744073709551615 → next ≡ number_of item number)
     → Next over h (Ok (Some item)) on k
     → map (λ v. v.items) vs ≡ item_lines next item → k.world.shared ≡ false
-    → AppendsFront now s (flat_map (λ v. v.items ++ 10 ∷ []) vs)
+    → AppendsFront now s (written_lines vs)
     → IsWritten Tree plan before result s
 unfolding items_text
 tree_cut {plan} {before} {now = now} r next item on k vs result s is counted makes lines single

@@ -1,5 +1,5 @@
 //! A plan's text in, the text of its run out.
-ghost use Rattle.std.specs.Prelude.{◌≡◌, ◌≢◌, ◌+◌, ◌<◌, ◌≤◌, ◌++◌, IsSome, Ok, Err, true, false, IsErrOf, IfErr, IfOk, IfSome, OnErr, OnOk, [], ◌∷◌, length, flat_map};
+ghost use Rattle.std.specs.Prelude.{◌≡◌, ◌≢◌, ◌+◌, ◌<◌, ◌≤◌, ◌++◌, IsSome, Ok, Err, true, false, IsErrOf, IfErr, IfOk, IfSome, OnErr, OnOk, [], ◌∷◌, length};
 ghost use Rattle.std.specs.Io.KnownBytes.{Appends};
 ghost use Rattle.usb_bus.specs.Watch.{inner_of, has_failed, calls_of, AppendsFront};
 ghost use Rattle.usb_plan.specs.Plan.{spelled_plan};
@@ -7,6 +7,7 @@ ghost use Rattle.usb_serve.specs.declared.serving.ServeFault.TheVariants as serv
 ghost use Rattle.usb_serve.specs.Outputs.{held};
 ghost use Rattle.usb_serve.specs.ServedRuns.{IsUnread, IsServed, IsServedThrough, IsWritten, TellsWriter};
 ghost use Rattle.usb_serve.specs.ServeResults.{IsCausedInRun, IsOfRun, MarksWriter, input_fault, report_fault};
+ghost use Rattle.usb_text.specs.ListingLines.{written_lines};
 ghost use Rattle.usb_run.specs.ItemLines.{item_lines, number_of};
 ghost use Rattle.usb_run.specs.Run.{IsCaused, items_left};
 ghost use Rattle.usb_run.specs.RunSegments.{Knows};
@@ -284,9 +285,9 @@ fn one_line(alloc: Global, line: Vec<u8>) -> Result<Lines, AllocError>
 /// Write where the writer failed.
 pub fn write_lines<W: Write>(writer: &mut Watched<W>, lines: &[Vec<u8>]) -> Result<(), ServeFault>
     ensures front { AppendsFront (W.contents (inner_of writer.old))
-        (W.contents (inner_of writer.new)) (flat_map (λ line. line.items ++ 10 ∷ []) lines.now) }
+        (W.contents (inner_of writer.new)) (written_lines lines.now) }
     ensures ok { OnOk result (Appends (W.contents (inner_of writer.old))
-        (W.contents (inner_of writer.new)) (flat_map (λ line. line.items ++ 10 ∷ []) lines.now)) }
+        (W.contents (inner_of writer.new)) (written_lines lines.now)) }
     ensures write { OnErr result (has_failed writer.new ≡ true) }
     ensures unmarked { OnOk result (has_failed writer.new ≡ has_failed writer.old) }
     ensures fault { IfErr result (λ fault. fault ≡ ServeFault.Write) }
@@ -352,8 +353,7 @@ fn trace_run<W: Write>(alloc: Global, runner: &mut Runner<Tracer<W>>) -> Result<
 
 fn put_lines<W: Write>(runner: &mut Runner<Tracer<W>>, lines: &[Vec<u8>]) -> Result<(), ServeFault>
     ensures over { runner.new.over ≡ runner.old.over }
-    ensures prints { Prints (flat_map (λ line. line.items ++ 10 ∷ []) lines.now)
-        runner.old.host result runner.new.host }
+    ensures prints { Prints (written_lines lines.now) runner.old.host result runner.new.host }
     ensures reader { IsOfRun result }
     ensures caused { IfErr result (λ fault. IsCausedInRun fault runner.new.host.world) }
     ensures kept { IfErr result (λ fault. fault ≢ ServeFault.Write

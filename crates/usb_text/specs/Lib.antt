@@ -4,6 +4,7 @@ pub mod ListingLines
 pub use Line.{HasFault, IsLineOf, lines_of}
 pub use ListingLines.{cause_index, cause_word, entry_lines, escaped_text, finding_lines, hub_lines}
 pub use ListingLines.{is_plain_unit, lines_text, request_word, star, string_lines, unit_text}
+pub use ListingLines.{written_lines}
 unfoldable pub use ListingLines.{address_line, bound_line, config_line, config_lines, device_lines}
 unfoldable pub use ListingLines.{hub_line, listing_line, listing_lines, refused_line, speed_word}
 unfoldable pub use ListingLines.{string_line}

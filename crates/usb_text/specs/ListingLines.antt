@@ -1,6 +1,7 @@
 -- The printed lines of a listing and of a bound.
 use Rattle.std.specs.Prelude.{ℕ, ◌+◌, ◌/◌, ◌%◌, ◌==◌, ◌&&◌, not, nat_le, Bool, List, [], ◌∷◌, ◌++◌}
 use Rattle.std.specs.Prelude.{Option, None, Some, codes, decimal, flat_map, if◌then◌else◌}
+use Rattle.std.specs.Global.{Vec}
 use Rattle.hex.specs.Hex.{encode_upper}
 use Rattle.usb_packet.specs.{hex_text}
 use Rattle.usb_port.specs.{path_text}
@@ -12,6 +13,10 @@ use Rattle.usb_enum.specs.declared.finding.Finding.TheVariants.{Device, Refused}
 -- lines as they are written, a newline behind each
 abbrev pub lines_text : List (List ℕ) → List ℕ
 lines_text lines = flat_map (λ line. line ++ 10 ∷ []) lines
+
+-- the same of lines in memory
+abbrev pub written_lines : List (Vec ℕ) → List ℕ
+written_lines lines = flat_map (λ line. line.items ++ 10 ∷ []) lines
 
 unfoldable pub speed_word : Bool → List ℕ
 speed_word low = if low then codes "low" else codes "full"

@@ -259,12 +259,12 @@ data_found speed text sent e =
     (λ e. none_not_some rest e)))))
 
 -- an attempt with data of the host
-spoken : (speed : Speed) (kind : TokenKind) (e : Endpoint) (text device rest : List ℕ) (t : Toggle)
-    (digits : List ℕ) → text ≡ device ++ 32 ∷ rest → device ≡ endpoint_text e
+data_spelled : (speed : Speed) (kind : TokenKind) (e : Endpoint) (text device rest : List ℕ)
+    (t : Toggle) (digits : List ℕ) → text ≡ device ++ 32 ∷ rest → device ≡ endpoint_text e
     → 32 ∷ rest ≡ between_text speed ++ data_with t digits
     → speed_text speed ++ (token_word kind ++ 32 ∷ text) ≡ speed_text speed ++ token_text kind e ++
     between_text speed ++ data_with t digits
-spoken speed kind e text device rest t digits cut is behind =
+data_spelled speed kind e text device rest t digits cut is behind =
     ap (λ r. speed_text speed ++ (token_word kind ++ 32 ∷ r)) (cut ∙ ap (λ d. d ++ 32 ∷ rest) is
     ∙ ap (λ r. endpoint_text e ++ r) behind)
     ∙ sent_spelled speed kind e (between_text speed ++ data_with t digits)
@@ -308,7 +308,7 @@ out_found speed text q e =
     in
     subst (IsAsked _) (same_Some asked q is) (asked_with _ sent.1 asked (device.fits, given.few)
     given.value
-    (spoken speed OutTok dev text cut.0 cut.1 sent.0 sent.1 (cut_at-some 32 text cut found)
+    (data_spelled speed OutTok dev text cut.0 cut.1 sent.0 sent.1 (cut_at-some 32 text cut found)
     device.text (data_found speed cut.1 sent second)))))))
 
 -- ---- setup data
@@ -391,7 +391,7 @@ setup_found speed text q e =
     given.zero_toggle in
     subst (IsAsked _) (same_Some (Setup speed dev setup) q is)
     (asked_with _ sent.1 (Setup speed dev setup) (device.fits, given.fits) given.value
-    (spoken speed SetupTok dev text cut.0 cut.1 Zero sent.1 (cut_at-some 32 text cut found)
+    (data_spelled speed SetupTok dev text cut.0 cut.1 Zero sent.1 (cut_at-some 32 text cut found)
     device.text behind))))))
 
 call_if : (text : List ℕ) (a b : PortCall) (r : Option PortCall)

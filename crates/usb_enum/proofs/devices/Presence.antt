@@ -39,9 +39,9 @@ pub record StoodAt (p : List ℕ) (w : World) (R : Location → State → Type 0
   pub stands : state_on w.roots spot ≡ Some before
   pub so : R spot before
 
-pub stood_at : (R : Relation) (p : List ℕ) (old new : World) → EachWas R old new → (v : State)
+pub was_at : (R : Relation) (p : List ℕ) (old new : World) → EachWas R old new → (v : State)
     → reach new.roots p ≡ true → state_there new.roots p ≡ Some v → StoodAt p old (λ j s. R j s v)
-stood_at R (suc j ∷ e) old new was v on there =
+was_at R (suc j ∷ e) old new was v on there =
     let w : Was R old (record { row = j; rest = e }) v =
     was (record { row = j; rest = e }) v on there in
     record {
@@ -52,7 +52,7 @@ stood_at R (suc j ∷ e) old new was v on there =
       stands = w.stands;
       so = w.so;
     }
-stood_at R _ old new was v on there = false_true on
+was_at R _ old new was v on there = false_true on
 
 -- what is so of its place is so of its path
 pub at_place : (A : State → Type 0) (p : List ℕ) (w : World) (R : Location → State → Type 0)
@@ -64,7 +64,7 @@ pub path_on : (R : Relation) (A B : State → Type 0)
     → ((j : Location) (s v : State) → R j s v → A s → B v) → (p : List ℕ) (old new : World)
     → EachWas R old new → AtPath A p old → AtPath B p new
 path_on R A B f p old new was a v on there =
-    let s = stood_at R p old new was v on there in
+    let s = was_at R p old new was v on there in
     f s.spot s.before v s.so (at_place A p old (λ j s. R j s v) a s)
 
 -- Its speed, as its port shows it

@@ -44,7 +44,7 @@ use Rattle.usb_enum.proofs.courses.Fairness.{pends_reached, state_there-port, he
 use Rattle.usb_enum.proofs.devices.Frames.{called_is, ends_without_fault as ended_call}
 use Rattle.usb_enum.proofs.readings.Heads.{head_packet}
 use Rattle.usb_enum.proofs.courses.Losses.{course_later}
-use Rattle.usb_enum.proofs.devices.Presence.{Granted, StoodAt, granted, held_at, path_on, stood_at}
+use Rattle.usb_enum.proofs.devices.Presence.{Granted, StoodAt, granted, held_at, path_on, was_at}
 use Rattle.usb_enum.proofs.devices.Presence.{at_place}
 use Rattle.usb_enum.proofs.devices.ReachedDevices.{done_at, reached_on, reach-state, is_some-value}
 use Rattle.usb_enum.proofs.courses.Stretches.{no_stretch_none, no_stretch_then}
@@ -196,7 +196,7 @@ pub explained_at : (So A : Spec → Type 0) (t : Target) (f : AddressMap) (port 
     → AtPath (IsTargeted A t) p mid → AtPath (λ s. So s.spec × A s.spec) p new
 explained_at So A t f port p mid new at pre three single sane explains is v on there =
     let s : StoodAt p mid (λ j s. Explained Hears So t j s v) =
-    stood_at (Explained Hears So t) p mid new (explains three single) v on there in
+    was_at (Explained Hears So t) p mid new (explains three single) v on there in
     let has = at_place (IsTargeted A t) p mid (λ j s. Explained Hears So t j s v) is s in (
       subst So (sym s.so.spec) (s.so.so (hears_there f port s.spot t s.before
           (subst (IsAt f port) s.path at) pre has.low has.address)
@@ -321,7 +321,7 @@ module _ (port : HubPort) (address m n : ℕ) (target : Target)
         (why here.few single) in
         pends_reached (λ spec. addressed_fault spec ≡ Some cause) p new
         (address_reached f p fair held) (λ v on there.
-        let s : StoodAt p mid (λ j s. Both j s v) = stood_at Both p mid new each v on there in
+        let s : StoodAt p mid (λ j s. Both j s v) = was_at Both p mid new each v on there in
         let waits = at_place (AwaitsAddress target) p mid (λ j s. Both j s v)
         (awaits.found.found f p (held_spare f port p address fair.spare) held
         (regular_order fair.order)) s in

@@ -9,8 +9,8 @@ use Rattle.usb_enum.specs.declared.finding.Finding.TheVariants.{Device, Refused}
 use Rattle.usb_table.specs.{Entries, without, is_hub, finding_at, hub_facts_at, hub_facts_in}
 use Rattle.usb_host.specs.{FindsNone, hubs, HostState, EntersOne, HostSteps, OnlyBusSteps}
 use Rattle.usb_host.proofs.entries.Balances.{one_when}
-use Rattle.usb_host.proofs.entries.KindCounts.{counted-entered, counted-insert_entry}
-use Rattle.usb_host.proofs.entries.KindCounts.{counted-without, counted-without_one}
+use Rattle.usb_host.proofs.entries.KindCounts.{of_kind-entered, of_kind-insert_entry}
+use Rattle.usb_host.proofs.entries.KindCounts.{of_kind-without, of_kind-without_one}
 
 -- A hub is dropped
 
@@ -32,8 +32,8 @@ hubs-dropped lost hub old left way rest entered some =
     let at : _ = hub_at (finding_at hub old) some in
     let none : one_when (is_hub (Refused Lost)) ≡ 0 = refl in
     let fewer : hubs left + 1 ≤ hubs old =
-    rw rest (counted-without_one is_hub lost hub at.0 old way at.2 at.1) in
-    rw entered (omega (arith, counted-insert_entry is_hub lost (Refused Lost) left))
+    rw rest (of_kind-without_one is_hub lost hub at.0 old way at.2 at.1) in
+    rw entered (omega (arith, of_kind-insert_entry is_hub lost (Refused Lost) left))
 
 -- A port is looked at
 
@@ -49,17 +49,17 @@ pub hubs-gone : (path : List ℕ) (a b c : HostState) → OnlyBusSteps a b
     → c.entries ≡ without path b.entries → hubs c.entries ≤ hubs a.entries
 hubs-gone path a b c r rest =
     let left : hubs c.entries ≡ hubs (without path b.entries) = ap hubs rest in
-    omega (arith, hubs-rest a r, counted-without is_hub path b.entries)
+    omega (arith, hubs-rest a r, of_kind-without is_hub path b.entries)
 
 pub hubs-forgot : (path : List ℕ) (a b : HostState) → b.entries ≡ without path a.entries
     → hubs b.entries ≤ hubs a.entries
 hubs-forgot path a b rest =
     let left : hubs b.entries ≡ hubs (without path a.entries) = ap hubs rest in
-    omega (arith, counted-without is_hub path a.entries)
+    omega (arith, of_kind-without is_hub path a.entries)
 
 pub hubs-found : (path : List ℕ) (c d : HostState) → EntersOne path c d
     → hubs d.entries ≤ hubs c.entries + 1
 hubs-found path c d e =
     let is : hubs d.entries ≡ hubs (insert_entry path_cmp c.entries path e.finding) =
     ap hubs e.entries in
-    omega (arith, counted-entered is_hub path e.finding c.entries)
+    omega (arith, of_kind-entered is_hub path e.finding c.entries)

@@ -6,7 +6,7 @@ use Rattle.usb_enum.specs.{Finding}
 use Rattle.usb_table.specs.{Entries, is_waiting}
 use Rattle.usb_host.specs.{waiting}
 use Rattle.usb_host.proofs.entries.Balances.{one_when}
-use Rattle.usb_host.proofs.entries.KindCounts.{counted-insert_entry}
+use Rattle.usb_host.proofs.entries.KindCounts.{of_kind-insert_entry}
 
 -- one that does not wait
 pub waiting-entered_other : (path : List ℕ) (f : Finding) (es : Entries) → is_waiting f ≡ false
@@ -14,4 +14,4 @@ pub waiting-entered_other : (path : List ℕ) (f : Finding) (es : Entries) → i
 unfolding one_when
 waiting-entered_other path f es other =
     let none : one_when (is_waiting f) ≡ 0 = ap one_when other in
-    omega (arith, counted-insert_entry is_waiting path f es)
+    omega (arith, of_kind-insert_entry is_waiting path f es)

@@ -102,8 +102,9 @@ pub record Weights (row : List PortState) : Type 0 where
   f : Weighed row 5 64
   g : Weighed row 6 128
 
-pub weights : (row : List PortState) → Weights row
-weights row = record { a = weigh; b = weigh; c = weigh; d = weigh; e = weigh; f = weigh; g = weigh }
+pub all_bits : (row : List PortState) → Weights row
+all_bits row =
+    record { a = weigh; b = weigh; c = weigh; d = weigh; e = weigh; f = weigh; g = weigh }
 
 abbrev pub OneSet : List PortState → Type 0
 OneSet row = (i : ℕ) × (i < 7) × (has_bit (change_bits row) (suc i) ≡ true)
@@ -288,7 +289,7 @@ module _ (hub : List ℕ) (a b : HostState) (agrees : Agrees b.entries b.address
   module _ (same : (at_attempt x.mid).roots ≡ x.mid.roots) (i : ℕ) (less : i < 7)
       (set : has_bit bits (suc i) ≡ true) where
     changed : HasChange (row_of x.ports) i
-    changed = bit_changed (row_of x.ports) (weights _) i less (rw x.told at set)
+    changed = bit_changed (row_of x.ports) (all_bits _) i less (rw x.told at set)
 
     port_then : port_there x.mid.roots (hub ++ (suc i ∷ [])) ≡ Some changed.0
     port_then =
@@ -356,7 +357,7 @@ module _ (hub : List ℕ) (a b : HostState) (agrees : Agrees b.entries b.address
     shows_told : bits ≢ 0 → ShowsTold hub bits b
     shows_told some =
         let first : (i : ℕ) × (i < 7) × (has_bit (change_bits (row_of x.ports)) (suc i) ≡ true) =
-        bit_some (row_of x.ports) (weights _) (λ none. some (x.told ∙ none)) in
+        bit_some (row_of x.ports) (all_bits _) (λ none. some (x.told ∙ none)) in
         record {
           number = suc first.0;
           least = omega arith;

@@ -20,7 +20,7 @@ use Rattle.usb_host.specs.{HostState, HasLost, AddsNoWork, HostProgress, HostRun
 use Rattle.usb_host.specs.{Remains, waiting, PolledOnce, PollsHub, ServedTold, first_byte}
 use Rattle.usb_host.specs.{not_heard, told_none, told_some, HostInvariant, table_in, Worked, Quiet}
 use Rattle.usb_host.proofs.rests.Polls.{hub_there}
-use Rattle.usb_host.proofs.knowledge.ToldBits.{none_own, weights}
+use Rattle.usb_host.proofs.knowledge.ToldBits.{all_bits, none_own}
 
 -- A bit of a byte
 
@@ -98,7 +98,7 @@ module _ (hub : List ℕ) (a b : HostState) (same : b.entries ≡ a.entries)
     told_of_ports packet is read still s one =
         let t : ByteTold (BitsOf hub a.world b.world) packet.items =
         rw is at (hub_tells s still).tells in
-        none_own (row_of t.so.ports) (weights _) (sym t.so.told ∙ sym (read ∙ ap first_byte t.is)
+        none_own (row_of t.so.ports) (all_bits _) (sym t.so.told ∙ sym (read ∙ ap first_byte t.is)
         ∙ one)
 
     once : {o : Option (ArrayVec ℕ)} → got ≡ o → PolledOnce hub a (Ok o) b
