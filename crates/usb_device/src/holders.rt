@@ -1,5 +1,5 @@
 //! Which device holds which address, among those that packets reach.
-ghost use Rattle.std.specs.Prelude.{◌≡◌, ◌+◌, ◌<◌, ◌^◌, length, [], None, Some, IfOk, IsTrue, false};
+ghost use Rattle.std.specs.Prelude.{◌≡◌, ◌+◌, ◌<◌, ◌^◌, length, [], None, Some, IfOk, IsTrue, false, not};
 ghost use Rattle.std.specs.Option.{option_copied};
 ghost use Rattle.usb_device.specs.Tree.{changed, put};
 ghost use Rattle.usb_device.specs.Delivery.{held_addresses, held_in, repeats};
@@ -99,6 +99,7 @@ impl Holders {
     /// the devices there and below. Where two devices hold one address, nothing changes.
     pub fn forget(&mut self, roots: &Ports, path: &[u8]) -> bool
         requires { IsIndexOf self.old roots.now }
+        ensures told { result ≡ not self.old.shared }
         ensures forgotten { IsTrue result → IsIndexWithout self.new roots.now path.now }
         ensures left { result ≡ false → self.new ≡ self.old }
     {
