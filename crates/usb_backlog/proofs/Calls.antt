@@ -1,6 +1,7 @@
 -- What calls at ports add to what is left to do, where ports are marked.
 use Rattle.std.proofs.Common.{◌≡◌, ◌≤◌, ℕ, zero, suc, ◌+◌, ◌&&◌, ◌||◌, not, if◌then◌else◌, Bool}
 use Rattle.std.proofs.Common.{true, false, [], refl, ap, ◌∙◌, arith}
+use Rattle.std.proofs.Math.Bool.{or-true}
 use Rattle.usb_port.specs.{PortState, is_attached, bit, PortCall, SetPower, SetReset, ClearPower}
 use Rattle.usb_port.specs.{ClearConnectionChange, called_port, is_reset}
 use Rattle.usb_device.specs.{Effect, Leaves, Calls, PortsOff, State, Ports, ended, vacant, taken}
@@ -163,10 +164,6 @@ less-empty m v r c b k reset = record {
 }
 
 -- All ports go off
-
-or-true : (x : Bool) → (x || true) ≡ true
-or-true true = refl
-or-true false = refl
 
 less-off : (m v r : PortMark) (k : Ports) → Less m v r k (all_off k)
 unfolding all_off

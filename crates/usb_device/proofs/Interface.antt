@@ -20,5 +20,4 @@ pub use Rattle.usb_device.proofs.places.HolderPaths.{one_is_held, nat_eq-true_sy
 pub use Rattle.usb_device.proofs.places.ReachedPlaces.{index_around, index_called, index_plugged}
 pub use Rattle.usb_device.proofs.places.ReachedPlaces.{reached-acted, reached-both, power_enable}
 pub use Rattle.usb_device.proofs.packets.StoppedPackets.{stopped_on_err}
-pub use Rattle.usb_device.proofs.MarkedAddresses.{or-false, same_numbers}
 pub use Rattle.usb_device.proofs.Names.{bytes_eq-sym}

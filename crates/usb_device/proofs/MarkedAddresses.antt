@@ -2,6 +2,7 @@
 use Rattle.std.proofs.Common.{◌≡◌, ◌<◌, ℕ, zero, suc, ◌==◌, ◌||◌, if◌then◌else◌, Bool, true, false}
 use Rattle.std.proofs.Common.{List, [], ◌∷◌, ◌++◌, Option, None, Some, length, slice_set}
 use Rattle.std.proofs.Common.{slice_index_or, refl, ap, ap₂, sym, ◌∙◌, arith, rules}
+use Rattle.std.proofs.lemmas.Bool.{eqb-true, or_parts}
 use Rattle.std.proofs.lemmas.Bool.Decides.{nat_tests}
 use Rattle.usb_port.specs.{PortState}
 use Rattle.usb_device.specs.declared.ports.Place.{Place as Kept}
@@ -58,13 +59,6 @@ first_and_rest a b c d e = search rules
 
 first_behind : (a b c d e : Bool) → ((a || b) || (c || (d || e))) ≡ ((a || c) || (d || (b || e)))
 first_behind a b c d e = search rules
-
-pub or-false : (a b : Bool) → (a || b) ≡ false → (a ≡ false) × (b ≡ false)
-or-false true b h = cc
-or-false false b h = (refl, h)
-
-pub same_numbers : (m n : ℕ) → (m == n) ≡ true → m ≡ n
-same_numbers m n e = grind (arith, nat_tests, e)
 
 -- some number stands in both lists
 abbrev pub share : List ℕ → List ℕ → Bool
@@ -161,10 +155,10 @@ twice-middle (x ∷ xs) ys zs =
 pub unshared : (n : ℕ) (xs ys : List ℕ) → share xs ys ≡ false → has n xs ≡ true → has n ys ≡ false
 unshared n [] ys e h = cc
 unshared n (x ∷ xs) ys e h =
-    split (n == x) refl (unshared n xs ys (or-false (has x ys) (share xs ys) e).1) h
+    split (n == x) refl (unshared n xs ys (or_parts (has x ys) (share xs ys) e).1) h
   where
     split : (b : Bool) → (n == x) ≡ b → (has n xs ≡ true → has n ys ≡ false)
         → (b || has n xs) ≡ true → has n ys ≡ false
     split true is behind h =
-        ap (λ m. has m ys) (same_numbers n x is) ∙ (or-false (has x ys) (share xs ys) e).0
+        ap (λ m. has m ys) (eqb-true n x is) ∙ (or_parts (has x ys) (share xs ys) e).0
     split false is behind h = behind h

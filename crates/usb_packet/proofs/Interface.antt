@@ -1,3 +1,3 @@
 -- The lemmas that crates above cite. All others are for this crate alone.
 pub use Rattle.usb_packet.proofs.SpellingLemmas.{carried}
-pub use Rattle.usb_packet.proofs.TextLemmas.{encode_upper_byte}
+pub use Rattle.usb_packet.proofs.TextLemmas.{encode_upper-append, encode_upper_byte}

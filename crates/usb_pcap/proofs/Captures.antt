@@ -8,7 +8,7 @@ use Rattle.arrayvec.specs.ArrayVec.{ArrayVec}
 use Rattle.std.proofs.lemmas.List.{take_more, take-append-drop, length-take, take-append-le}
 use Rattle.std.proofs.lemmas.List.{take_all}
 use Rattle.std.proofs.lemmas.List.Elements.{All-nil, All-push}
-use Rattle.std.proofs.lemmas.Bool.{eqb-true, ltb-true}
+use Rattle.std.proofs.lemmas.Bool.{eqb-true, lt-ltb, ltb-true}
 use Rattle.std.proofs.lemmas.Bool.Decides.{nat_tests}
 use Rattle.std.proofs.KnownBytes.{Appends-trans, Consumes-trans}
 use Rattle.std.specs.Io.KnownBytes.{Appends, Consumes, IsAtEnd}
@@ -29,9 +29,6 @@ many_taken k l h = let e = length-take k l in omega (arith, e)
 
 both_few : (k a b : ℕ) → a ≤ k → b ≤ k → nat_lt k a ≡ nat_lt k b
 both_few k a b h i = grind (arith, nat_tests)
-
-is_more : (k a : ℕ) → k < a → nat_lt k a ≡ true
-is_more k a h = grind (arith, nat_tests)
 
 not_more : (k a : ℕ) → nat_lt k a ≡ false → a ≤ k
 not_more k a h = grind (arith, nat_tests)
@@ -55,7 +52,7 @@ taken_long k line front b e full =
     let many = many_taken k line (subst (λ l. length l ≡ k) e full) in
     let long = length-append line (b ∷ []) in (
       e ∙ sym (take-append-le k line (b ∷ []) many),
-      is_more k (length (line ++ b ∷ [])) (omega (arith, long)),
+      lt-ltb k (length (line ++ b ∷ [])) (omega (arith, long)),
     )
 
 pub stands_first : (w now : Option (List ℕ)) (s : OpenLine) → Appends w now header → s.number ≡ 1

@@ -3,6 +3,7 @@ use Rattle.std.proofs.Common.{◌≡◌, ◌≢◌, ℕ, zero, suc, ◌+◌, ◌
 use Rattle.std.proofs.Common.{true, false, List, [], ◌∷◌, ◌++◌, length, take, drop, Option, Some}
 use Rattle.std.proofs.Common.{None, refl, sym, ap, subst, ◌∙◌, arith, append_assoc, append-nil}
 use Rattle.std.proofs.Common.{length-append}
+use Rattle.std.proofs.Math.Bool.{or-true}
 use Rattle.std.proofs.lemmas.Bool.{and_parts, eqb-true}
 use Rattle.std.proofs.lemmas.List.{length-take, take-append-drop}
 use Rattle.usb_pcap.specs.{IsForm, IsOneOf, IsPiece, Piece, behind_piece, fits_form, HasForm}
@@ -125,10 +126,6 @@ has_form-sound [] line e = absurd (cc)
 has_form-sound (form ∷ forms) line e = or_cases (fits_form form line) (has_form forms line) e
     (λ h. inl (fits_form-sound form line h)) (λ h. inr (has_form-sound forms line h))
 
-or-true_right : (a : Bool) → (a || true) ≡ true
-or-true_right true = refl
-or-true_right false = refl
-
 has_form-complete : (forms : List (List Piece)) (line : List ℕ) → all_parted forms ≡ true
     → HasForm forms line → has_form forms line ≡ true
 has_form-complete [] line h is = absurd is
@@ -136,7 +133,7 @@ has_form-complete (form ∷ forms) line h (inl is) =
     rw (fits_form-complete form line (and_parts (has_pieces form) (all_parted forms) h).0 is) refl
 has_form-complete (form ∷ forms) line h (inr is) =
     rw (has_form-complete forms line (and_parts (has_pieces form) (all_parted forms) h).1 is)
-    (or-true_right (fits_form form line))
+    (or-true (fits_form form line))
 
 pub is_report-sound : (line : List ℕ) → has_form report_forms line ≡ true → IsReport line
 is_report-sound line e = has_form-sound report_forms line e

@@ -8,6 +8,7 @@ use Rattle.std.proofs.lemmas.Bool.{and_parts, cases_lt, eqb-true, ltb-true}
 use Rattle.std.proofs.lemmas.Bool.Decides.{nat_tests}
 use Rattle.std.specs.Char.{is_ascii_digit}
 use Rattle.usb_packet.specs.{IsBytes}
+use Rattle.usb_packet.proofs.Interface.{encode_upper-append}
 use Rattle.hex.specs.Hex.{encode_upper, encode_with, upper_digits}
 use Rattle.usb_pcap.specs.{bytes_on, decimal_in, if_found, is_digit, number_on, strip, value_of}
 
@@ -96,13 +97,6 @@ digit_there c h =
     (rw h at all) in
     (eqb-true _ c parts.0, ltb-true (value_of c) 16 parts.1)
 
-encode_upper-joined : (xs ys : List ℕ) → encode_upper (xs ++ ys) ≡ encode_upper xs ++ encode_upper
-    ys
-unfolding encode_with
-encode_upper-joined [] ys = refl
-encode_upper-joined (x ∷ xs) ys = ap (λ l. slice_index upper_digits (x / 16) ∷ slice_index
-    upper_digits (x % 16) ∷ l) (encode_upper-joined xs ys)
-
 encode_upper-pair : (h l : ℕ) → is_digit h ≡ true → is_digit l ≡ true
     → encode_upper ((value_of h * 16 + value_of l) ∷ []) ≡ h ∷ l ∷ []
 unfolding encode_with
@@ -130,7 +124,7 @@ bytes_on-some bytes (h ∷ l ∷ text) r e =
     let both = and_parts (is_digit h) (is_digit l) digits in
     let pair = encode_upper-pair h l both.0 both.1 in
     let front : encode_upper (bytes ++ byte ∷ []) ≡ encode_upper bytes ++ h ∷ l ∷ [] =
-    encode_upper-joined bytes (byte ∷ []) ∙ ap (λ d. encode_upper bytes ++ d) pair in
+    encode_upper-append bytes (byte ∷ []) ∙ ap (λ d. encode_upper bytes ++ d) pair in
     sym (ap (λ d. d ++ text) front ∙ append_assoc (encode_upper bytes) (h ∷ l ∷ []) text)
     ∙ bytes_on-some (bytes ++ byte ∷ []) text r rest))
     (λ other end. ap (λ (s : List ℕ × List ℕ). encode_upper s.0 ++ s.1)

@@ -1,16 +1,9 @@
 -- Digits of bytes, piece by piece.
-use Rattle.std.proofs.Common.{◌≡◌, ◌<◌, ◌/◌, ◌%◌, ◌∙◌, ℕ, List, [], ◌∷◌, ◌++◌, length, slice_index}
+use Rattle.std.proofs.Common.{◌≡◌, ◌<◌, ◌∙◌, ℕ, List, [], ◌∷◌, ◌++◌, length}
 use Rattle.std.proofs.Common.{refl, ap, sym, arith, append_assoc, append-nil}
-use Rattle.hex.specs.Hex.{encode_with, encode_upper, upper_digits}
+use Rattle.hex.specs.Hex.{encode_with, encode_upper}
 use Rattle.usb_packet.specs.{hex_text}
-
-encode_upper-append : (xs ys : List ℕ) → encode_upper (xs ++ ys) ≡ encode_upper xs ++ encode_upper
-    ys
-unfolding encode_with
-encode_upper-append [] ys = refl
-encode_upper-append (x ∷ xs) ys =
-    ap (λ (l : List ℕ). slice_index upper_digits (x / 16) ∷ slice_index upper_digits (x % 16) ∷ l)
-    (encode_upper-append xs ys)
+use Rattle.usb_packet.proofs.Interface.{encode_upper-append}
 
 -- a piece more
 pub encode_upper-piece : (rest piece behind line line' whole : List ℕ) → rest ≡ piece ++ behind

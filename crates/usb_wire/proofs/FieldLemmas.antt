@@ -10,6 +10,7 @@ use Rattle.std.specs.Result.{MatchResult, result_ok, result_unwrap_or}
 use Rattle.std.proofs.lemmas.Result.{MatchResult-at_ok}
 use Rattle.std.specs.Str.{all_ascii_digits}
 use Rattle.std.specs.Str.Parse.{digits_value, ParsesUnsigned}
+use Rattle.std.proofs.Math.Bool.{and-false, or-true}
 use Rattle.std.proofs.lemmas.Bool.{and_parts, eqb-true, le-leb, le-ltb, leb-true, lt-leb, lt-ltb}
 use Rattle.std.proofs.lemmas.Bool.{ltb-false, ltb-true, or_cases}
 use Rattle.std.proofs.lemmas.Bool.Decides.{nat_tests}
@@ -39,14 +40,6 @@ true_or_false false = inr refl
 pub Ok-from_result_ok : {A E : Type 0} (r : Result A E) (x : A) → result_ok r ≡ Some x → r ≡ Ok x
 Ok-from_result_ok (Ok y) x e = ap Ok (same_Some y x e)
 Ok-from_result_ok (Err e) x h = absurd (none-some x h)
-
-and-false : (b : Bool) → (b && false) ≡ false
-and-false true = refl
-and-false false = refl
-
-or_true : (b : Bool) → (b || true) ≡ true
-or_true true = refl
-or_true false = refl
 
 not_zero : (c : ℕ) → not (c == 48) ≡ true → c ≡ 48 → ⊥
 not_zero c other same = absurd (grind (arith, nat_tests))
@@ -193,7 +186,7 @@ first_test : (word : List ℕ) → (get_or word 0 0 ≡ 48 → length word ≡ 1
 first_test word h =
     elim (true_or_false (get_or word 0 0 == 48)) [
       | inl same ↦ rw (h (eqb-true (get_or word 0 0) 48 same)) refl
-      | inr other ↦ rw other (or_true (length word == 1))
+      | inr other ↦ rw other (or-true (length word == 1))
     ]
 
 pub decimal-digits : (word : List ℕ) → Digits word → is_decimal word ≡ true

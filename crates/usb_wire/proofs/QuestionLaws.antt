@@ -7,7 +7,7 @@ use Rattle.std.proofs.Common.{length-append, lit≤, Bor}
 use Rattle.std.specs.Result.{result_ok}
 use Rattle.std.specs.Char.{is_ascii_digit}
 use Rattle.std.specs.Str.{all_ascii_digits, bytes_eq}
-use Rattle.std.proofs.lemmas.Bool.{and_parts, eqb-true, le-ltb}
+use Rattle.std.proofs.lemmas.Bool.{and_parts, eq-eqb, eqb-true, le-ltb}
 use Rattle.std.proofs.lemmas.Bool.Decides.{nat_tests}
 use Rattle.std.proofs.lemmas.List.Folds.{list_all-append}
 use Rattle.std.proofs.lemmas.Option.{same_Some}
@@ -56,13 +56,10 @@ cut_at-none mark (c ∷ text) h =
       cut_at-none mark text (λ i less. h (suc i) (omega arith)),
     ) refl
 
-same_unit : (mark : ℕ) → (mark == mark) ≡ true
-same_unit mark = grind (arith, nat_tests)
-
 cut_at-mark : (mark : ℕ) (text rest : List ℕ) → HasNo mark text → cut_at mark (text ++ mark ∷ rest)
     ≡ Some (text, rest)
 unfolding cut_at
-cut_at-mark mark [] rest h = rw (same_unit mark) refl
+cut_at-mark mark [] rest h = rw (eq-eqb mark mark refl) refl
 cut_at-mark mark (c ∷ text) rest h =
     rw (
       other_unit mark c (h 0 (omega arith)),

@@ -1,6 +1,7 @@
 -- A packet that is for none of the devices that it reaches.
 use Rattle.std.proofs.Common.{◌≡◌, ℕ, ◌==◌, ◌&&◌, ◌||◌, if◌then◌else◌, Bool, true, false, List, []}
 use Rattle.std.proofs.Common.{◌∷◌, ◌++◌, Option, None, refl, ap, sym, ◌∙◌}
+use Rattle.std.proofs.lemmas.Bool.{or_parts}
 use Rattle.usb_port.specs.{PortState}
 use Rattle.usb_packet.specs.{Toggle, TokenKind, Packet, Token, Payload}
 use Rattle.usb_packet.specs.declared.Packet.TheVariants as packet
@@ -12,7 +13,7 @@ use Rattle.usb_device.specs.{listed, all_forgotten, held_addresses, has, awaits_
 use Rattle.usb_device.specs.{is_for, concerns, concerns_some, answers}
 use Rattle.usb_device.specs.declared.transfer.RememberedPacket.TheVariants.{Nothing, SetupSeen}
 use Rattle.usb_device.specs.declared.transfer.RememberedPacket.TheVariants.{OutSeen, AckAwaited}
-use Rattle.usb_device.proofs.MarkedAddresses.{has-append, or-false}
+use Rattle.usb_device.proofs.MarkedAddresses.{has-append}
 
 -- ---- at one device
 
@@ -118,9 +119,9 @@ forgotten-step : (q : Sent) (deep : Bool) (b : PortState) (s : State) (a k : Por
     s a (after_packet q deep k)) ≡ taken b (forgotten s) (all_forgotten a) (all_forgotten k)
 unfolding all_forgotten
 forgotten-step q deep b s a k true h below further =
-    let all = or-false (concerns q.content s || concerns_some q.content a)
+    let all = or_parts (concerns q.content s || concerns_some q.content a)
     (concerns_some q.content k) h in
-    let here = or-false (concerns q.content s) (concerns_some q.content a) all.0 in
+    let here = or_parts (concerns q.content s) (concerns_some q.content a) all.0 in
     ap (λ x. taken b x (all_forgotten (acted (effect_of q deep s) (after_packet q true a)))
     (all_forgotten (after_packet q deep k))) (answer-stray q deep s a here.0).1
     ∙ rw (effect-stray q deep s here.0, below here.1, further all.1) refl
@@ -142,9 +143,9 @@ answers-step : (q : Sent) (deep : Bool) (s : State) (a k : Ports) (e : Bool)
     → (if e then listed (answer_of q deep s a).0 (answers q true a ++ answers q deep k) else answers
     q deep k) ≡ []
 answers-step q deep s a k true h below further =
-    let all = or-false (concerns q.content s || concerns_some q.content a)
+    let all = or_parts (concerns q.content s || concerns_some q.content a)
     (concerns_some q.content k) h in
-    let here = or-false (concerns q.content s) (concerns_some q.content a) all.0 in
+    let here = or_parts (concerns q.content s) (concerns_some q.content a) all.0 in
     rw ((answer-stray q deep s a here.0).0, below here.1, further all.1) refl
 answers-step q deep s a k false h below further = further h
 

@@ -2,6 +2,7 @@
 use Rattle.std.proofs.Common.{◌≡◌, ◌+◌, ◌<◌, ℕ, zero, suc, ◌==◌, ◌||◌, if◌then◌else◌, Bool, true}
 use Rattle.std.proofs.Common.{false, List, [], ◌∷◌, ◌++◌, Option, None, Some, length, map}
 use Rattle.std.proofs.Common.{slice_set, slice_index_or, refl, ap, sym, subst, ◌∙◌, arith}
+use Rattle.std.proofs.lemmas.Bool.{eqb-true}
 use Rattle.std.proofs.lemmas.Bool.Decides.{nat_tests}
 use Rattle.arrayvec.specs.ArrayVec.{ArrayVec}
 use Rattle.usb_port.specs.{PortState}
@@ -14,7 +15,7 @@ use Rattle.usb_device.specs.{IsIndexOf}
 use Rattle.usb_device.specs.declared.holders.Holder.TheVariants.{Nobody, Several}
 use Rattle.usb_device.specs.declared.holders.Holders.{Holders}
 use Rattle.usb_device.proofs.MarkedAddresses.{or_assoc, held-before, meets, met_none_of}
-use Rattle.usb_device.proofs.MarkedAddresses.{bytes-before, bytes-none, same_numbers}
+use Rattle.usb_device.proofs.MarkedAddresses.{bytes-before, bytes-none}
 
 abbrev IndexWay : Type 0
 IndexWay = Option (ArrayVec ℕ)
@@ -157,7 +158,7 @@ noted_at (x ∷ xs) h n small =
         h n Nobody) (paths_at n xs)
         ≡ all_joined (slice_index_or h n Nobody) (if b then x.1 ∷ paths_at n xs else paths_at n xs)
     split true e = ap (λ m. all_joined (joined_holder (slice_index_or h m Nobody) x.1)
-        (paths_at n xs)) (same_numbers x.0 n e)
+        (paths_at n xs)) (eqb-true x.0 n e)
     split false e = refl
 
 several_stay : (ws : List IndexWay) → all_joined Several ws ≡ Several

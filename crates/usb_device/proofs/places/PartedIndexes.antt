@@ -3,6 +3,7 @@ use Rattle.std.proofs.Common.{◌≡◌, ◌+◌, ◌<◌, ℕ, zero, suc, ◌==
 use Rattle.std.proofs.Common.{true, false, List, [], ◌∷◌, ◌++◌, Option, None, Some, length}
 use Rattle.std.proofs.Common.{slice_index_or, slice_set, append_assoc, refl, ap, sym, subst, ◌∙◌}
 use Rattle.std.proofs.Common.{arith, rules}
+use Rattle.std.proofs.lemmas.Bool.{or_parts}
 use Rattle.arrayvec.specs.ArrayVec.{ArrayVec}
 use Rattle.usb_device.specs.{Holder, Ports, ended, vacant, taken, Plugged, put, changed, changed_at}
 use Rattle.usb_device.specs.{plugged_at, reach_at, held_addresses, has, repeats, AreBytes}
@@ -10,7 +11,7 @@ use Rattle.usb_device.specs.{path_below, path_further, reached, reached_from, re
 use Rattle.usb_device.specs.{reached_at_path, all_reached, paths_at, holder_among, IsIndex}
 use Rattle.usb_device.specs.{is_known, joined_holder, noted, meets_again, held_from, released}
 use Rattle.usb_device.specs.declared.holders.Holder.TheVariants.{Nobody, Several}
-use Rattle.usb_device.proofs.MarkedAddresses.{share, Marks, meets-is, twice-middle, or-false}
+use Rattle.usb_device.proofs.MarkedAddresses.{share, Marks, meets-is, twice-middle}
 use Rattle.usb_device.proofs.MarkedAddresses.{unshared, nat_eq-sym}
 use Rattle.usb_device.proofs.places.HolderIndexes.{length-put, length-noted, length-released}
 use Rattle.usb_device.proofs.places.HolderIndexes.{slice_set-at, all_joined, all_among, noted_at}
@@ -171,7 +172,7 @@ paths-middle n xs ys zs =
 paths-none : (n : ℕ) (xs : PlacedWays) → has n (way_addresses xs) ≡ false → paths_at n xs ≡ []
 paths-none n [] e = refl
 paths-none n (x ∷ xs) e =
-    let f : _ = or-false (n == x.0) (has n (way_addresses xs)) e in
+    let f : _ = or_parts (n == x.0) (has n (way_addresses xs)) e in
     ap (λ b. if b then x.1 ∷ paths_at n xs else paths_at n xs) (nat_eq-sym x.0 n ∙ f.0)
     ∙ paths-none n xs f.1
 
@@ -327,12 +328,12 @@ module _ (k : Ports) (p : List ℕ) (single : repeats (held_addresses k) ≡ fal
       ((repeats (way_addresses there) || repeats
       (way_addresses part.front ++ way_addresses part.behind))
       ≡ false)
-  apart = or-false _ _ (sym (twice-parted k p part) ∙ single)
+  apart = or_parts _ _ (sym (twice-parted k p part) ∙ single)
 
   pub single_without : repeats (held_addresses (changed (put None) k p)) ≡ false
   single_without =
       ap repeats (held_without k p part)
-      ∙ (or-false (repeats (way_addresses there))
+      ∙ (or_parts (repeats (way_addresses there))
       (repeats (way_addresses part.front ++ way_addresses part.behind)) apart.1).1
 
   pub released_index : (h m : List Holder) → length h ≡ 256 → IsIndex h k
