@@ -4,6 +4,10 @@ use Rattle.usb_world.specs.{BusFault, Outcome}
 use Rattle.usb_world.specs.declared.types.Outcome.TheVariants.{Payload, Ack, Nak, Stall, Nothing}
 use Rattle.usb_own_bus.specs.declared.counted.Counts.{Counts}
 
+-- before any attempt
+abbrev pub no_counts : Counts
+no_counts = record { attempts = 0; naks = 0; unanswered = 0 }
+
 -- one more, up to the greatest u64
 abbrev pub count_with : ℕ → ℕ
 count_with n = min (n + 1) (2 ^ 64 - 1)

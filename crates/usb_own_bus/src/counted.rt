@@ -2,7 +2,7 @@
 ghost use Rattle.std.specs.Prelude.{◌≡◌, true};
 ghost use Rattle.usb_bus.specs.Traces.{Attempts};
 ghost use Rattle.usb_world.specs.Worlds.{IsAttempt};
-ghost use Rattle.usb_own_bus.specs.Counted.{counts_behind, counts_with};
+ghost use Rattle.usb_own_bus.specs.Counted.{counts_behind, counts_with, no_counts};
 
 use std::fmt;
 use usb_bus::{Attempt, Bus, BusFault, Outcome};
@@ -64,7 +64,8 @@ pub struct CountedBus<B: Bus> {
 impl<B: Bus> CountedBus<B> {
     /// Over this bus, from now on.
     pub fn new(bus: B) -> Self
-        ensures { result.bus ≡ bus }
+        ensures bus { result.bus ≡ bus }
+        ensures none { result.counts ≡ no_counts }
     {
         CountedBus {
             bus,

@@ -2,8 +2,8 @@
 //!
 //! # What is proved
 //!
-//! `CountedBus` meets `trait Bus` around any bus, with the world and the trace of that one, and counts each attempt
-//! that was made by its answer (`counts_after`).
+//! `CountedBus` meets `trait Bus` around any bus, with the world and the trace of that one, begins with no count, and
+//! counts each attempt that was made by its answer (`counts_behind`).
 #![tactic(auto)]
 
 mod counted;
