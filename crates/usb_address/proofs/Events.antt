@@ -1,7 +1,7 @@
 -- What events do to the addresses that devices hold.
 use Rattle.std.proofs.Common.{◌≡◌, false, Option, None, Some, Result, Ok, Err, refl, ap, ◌∙◌, OnOk}
 use Rattle.usb_world.specs.declared.event.Ask.{Ask}
-use Rattle.usb_world.specs.{BusFault, LimitReached, Memory, TraceFailed, event, after, TookEvent}
+use Rattle.usb_world.specs.{BusFault, Limit, Memory, Failed, event, after, TookEvent}
 use Rattle.usb_world.specs.{World}
 use Rattle.usb_world.proofs.Interface.{settled_after, step_own, step_unshared}
 use Rattle.usb_address.specs.{AddressMap, MapHolds, WhileBusWorks, KeepsAddresses}
@@ -34,9 +34,9 @@ came_keeps old new e is = record {
 pub event_keeps : (old : World) (result : Result (Option (Option Ask)) BusFault) (new : World)
     → TookEvent old result new → OnOk result (new ≡ after event old)
     → (result ≡ Err Memory → old.fault ≡ None → new ≡ record old { fault = Some Memory })
-    → (result ≡ Err TraceFailed → old.fault ≡ None
-    → new ≡ record (after event old) { fault = Some TraceFailed })
-    → (result ≡ Err LimitReached → old.fault ≡ None → ⊥) → KeepsAddresses old new
+    → (result ≡ Err Failed → old.fault ≡ None
+    → new ≡ record (after event old) { fault = Some Failed })
+    → (result ≡ Err Limit → old.fault ≡ None → ⊥) → KeepsAddresses old new
 event_keeps old result new took_it exact refused cut other = split old.fault refl
   where
     sound : (r : Result (Option (Option Ask)) BusFault) → result ≡ r
@@ -45,12 +45,12 @@ event_keeps old result new took_it exact refused cut other = split old.fault ref
     sound (Err Memory) is came e = record {
       kept = λ f o. gave_up (MapHolds f) Memory old new (refused is e) o.single;
     }
-    sound (Err TraceFailed) is came e =
+    sound (Err Failed) is came e =
         record {
-          kept = λ f o. gave_up (MapHolds f) TraceFailed (after event old) new (cut is e)
+          kept = λ f o. gave_up (MapHolds f) Failed (after event old) new (cut is e)
               (event_owned f old (o.so e)).single;
         }
-    sound (Err LimitReached) is came e = elim (other is e) [ ]
+    sound (Err Limit) is came e = elim (other is e) [ ]
 
     split : (x : Option BusFault) → old.fault ≡ x → KeepsAddresses old new
     split None e = sound result refl exact e

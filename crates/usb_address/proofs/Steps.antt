@@ -6,7 +6,7 @@ use Rattle.usb_request.specs.{setup_of}
 use Rattle.usb_device.specs.{Way, is_whole, heard, outcome, State, Reply, accepted, row_of}
 use Rattle.usb_device.specs.{Location, path_to, reach_on, state_on}
 use Rattle.usb_device.specs.declared.answer.Answer.TheVariants as answer
-use Rattle.usb_world.specs.{Attempt, BusFault, LimitReached, Memory, TraceFailed, World, Made}
+use Rattle.usb_world.specs.{Attempt, BusFault, Limit, Memory, Failed, World, Made}
 use Rattle.usb_world.specs.{at_attempt, attempt, after, outcome_in, here, step, AttemptFails}
 use Rattle.usb_world.specs.{resets, is_quiet, IsSetup, IsOut, IsIn, IsMade, got, Was, DidIn, DidOut}
 use Rattle.usb_world.specs.{DidSetup, is_setup, NoneTakes}
@@ -147,7 +147,7 @@ quiet_owned f a w q made o = record {
 
 pub fails_unshared : (f : List ℕ → Option ℕ) (a : Attempt) (w v : World) (fault : BusFault)
     → MapHolds f w → AttemptFails a w (Err fault) v → v.shared ≡ false
-fails_unshared f a w v LimitReached o h = ap (λ x. x.shared) h ∙ unshared_after f a w o
+fails_unshared f a w v Limit o h = ap (λ x. x.shared) h ∙ unshared_after f a w o
 fails_unshared f a w v Memory o h = given_up_shared a w v Memory h f o.distinct o.own o.single
-fails_unshared f a w v TraceFailed o h =
-    given_up_shared a w v TraceFailed h f o.distinct o.own o.single
+fails_unshared f a w v Failed o h =
+    given_up_shared a w v Failed h f o.distinct o.own o.single

@@ -2,7 +2,7 @@
 use Rattle.std.proofs.Common.{◌≡◌, ℕ, ◌||◌, true, List, Option, None, Some, Result, Ok, Err, refl}
 use Rattle.std.proofs.Common.{sym, subst}
 use Rattle.usb_device.specs.{held_addresses, repeats, Ports}
-use Rattle.usb_world.specs.{Attempt, BusFault, LimitReached, Memory, TraceFailed, Outcome, is_made}
+use Rattle.usb_world.specs.{Attempt, BusFault, Limit, Memory, Failed, Outcome, is_made}
 use Rattle.usb_world.specs.{AnyStep, Left, at_event, at_packet, at_line, GaveUp, attempt, root_call}
 use Rattle.usb_world.specs.{at_attempt, World}
 use Rattle.usb_world.proofs.Interface.{OverSteps, over_coming, over_ready, over_step}
@@ -49,10 +49,10 @@ module _ {R : World → World → Type 0} (l : OverFaults R) where
     where
       failed : (fault : BusFault) {t s : Option (List ℕ)} → Attempts a w t (Err fault) v s
           → w.fault ≡ None → R w v
-      failed LimitReached made none =
+      failed Limit made none =
           subst (R w) (sym (made.fails none)) (over_step l.steps (attempt a) w tt)
       failed Memory made none = over_given_up a w v Memory none (made.fails none)
-      failed TraceFailed made none = over_given_up a w v TraceFailed none (made.fails none)
+      failed Failed made none = over_given_up a w v Failed none (made.fails none)
 
       split : (x : Option BusFault) → w.fault ≡ x → (fault : BusFault) {t s : Option (List ℕ)}
           → Attempts a w t (Err fault) v s → R w v

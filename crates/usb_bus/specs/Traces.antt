@@ -1,7 +1,7 @@
 -- What went between two states of a bus: the steps of its world, and the text that they wrote.
 use Rattle.std.specs.Prelude.{◌≡◌, ℕ, List, Option, None, Some, Result, Err, OnOk, IfOk, IsSome}
 use Rattle.usb_port.specs.{PortCall}
-use Rattle.usb_world.specs.{Attempt, BusFault, LimitReached, Memory, TraceFailed, Outcome, World}
+use Rattle.usb_world.specs.{Attempt, BusFault, Limit, Memory, Failed, Outcome, World}
 use Rattle.usb_world.specs.{IsAttempt, Attempted, AttemptsWithin, AttemptFails, TookEvent, after}
 use Rattle.usb_world.specs.{attempt, event, outcome_in, root_call}
 use Rattle.usb_world.specs.declared.event.Ask.{Ask}
@@ -27,9 +27,9 @@ pub record TakesEvent (old : World) (before : Option (List ℕ))
     pub asked : IfOk result (λ due. due ≡ next_due old)
     pub exact : OnOk result (new ≡ after event old)
     pub kept : result ≡ Err Memory → old.fault ≡ None → new ≡ record old { fault = Some Memory }
-    pub cut : result ≡ Err TraceFailed → old.fault ≡ None
-        → new ≡ record (after event old) { fault = Some TraceFailed }
-    pub limit : result ≡ Err LimitReached → IsSome old.fault
+    pub cut : result ≡ Err Failed → old.fault ≡ None
+        → new ≡ record (after event old) { fault = Some Failed }
+    pub limit : result ≡ Err Limit → IsSome old.fault
     pub text : WritesText result before now (lines_between old new)
 
 -- attempts and root calls, one after the other, and no line but theirs was written

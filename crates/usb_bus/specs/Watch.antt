@@ -3,7 +3,7 @@ use Rattle.std.specs.Prelude.{◌≡◌, ℕ, Bool, true, false, ◌&&◌, not, 
 use Rattle.std.specs.Prelude.{Result, Ok, Err, Option, None, Some, OnOk, OnErr}
 use Rattle.std.specs.Io.KnownBytes.{Appends}
 use Rattle.usb_bus.specs.declared.watched.Watched.{Watched}
-use Rattle.usb_world.specs.{BusFault, LimitReached, Memory, TraceFailed}
+use Rattle.usb_world.specs.{BusFault, Limit, Memory, Failed}
 
 -- the reader or writer that is watched
 abbrev pub inner_of : {T : Type 0} → Watched T → T
@@ -44,13 +44,13 @@ pub record PutsText {T A E : Type 0} (text : T → Option (List ℕ)) (failed : 
 abbrev pub WritesText : {A : Type 0} → Result A BusFault → Option (List ℕ) → Option (List ℕ)
     → List ℕ → Type 0
 WritesText (Ok x) old new text = Appends old new text
-WritesText (Err LimitReached) old new text = Appends old new text
+WritesText (Err Limit) old new text = Appends old new text
 WritesText (Err Memory) old new text = Appends old new text
-WritesText (Err TraceFailed) old new text = AppendsFront old new text
+WritesText (Err Failed) old new text = AppendsFront old new text
 
 -- the fault tells that the writer failed
 abbrev pub tells_failure : Option BusFault → Bool
 tells_failure None = false
-tells_failure (Some LimitReached) = false
+tells_failure (Some Limit) = false
 tells_failure (Some Memory) = false
-tells_failure (Some TraceFailed) = true
+tells_failure (Some Failed) = true

@@ -27,8 +27,8 @@ pub trait Bus {
     ///
     /// # Errors
     ///
-    /// `LimitReached` where the attempts equal the limit, and then nothing else is done; `Memory` where memory was
-    /// refused; `TraceFailed` where the trace's writer failed. Every later attempt tells the same fault again.
+    /// `Limit` where the attempts equal the limit, and then nothing else is done; `Memory` where memory was
+    /// refused; `Failed` where the bus itself failed. Every later attempt tells the same fault again.
     fn attempt(&mut self, attempt: &Attempt) -> Result<Outcome, BusFault>
         requires { IsAttempt attempt.now }
         ensures attempts { modelled ≡ true → Attempts attempt.now (world self.old) (trace self.old)

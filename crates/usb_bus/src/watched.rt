@@ -3,7 +3,7 @@ ghost use Rattle.std.specs.Prelude.{◌≡◌, ◌+◌, ◌-◌, ◌^◌, ◌||�
 ghost use Rattle.std.specs.Io.{ReadsAtMost, WritesAtMost};
 ghost use Rattle.std.specs.Io.KnownBytes.{Keeps, Appends, ReadConsumes, WriteAppends};
 ghost use Rattle.usb_bus.specs.Watch.{inner_of, has_failed, calls_of, known_text, write_fails, AppendsFront, PutsText};
-ghost use Rattle.usb_world.specs.declared.types.BusFault.TheVariants.{TraceFailed as trace_failed};
+ghost use Rattle.usb_world.specs.declared.types.BusFault.TheVariants.{Failed as trace_failed};
 
 use arrayvec::ArrayVec;
 use std::io;
@@ -125,7 +125,7 @@ impl From<WriteFailed> for BusFault {
     ghost from_gives = { λ _ fault. fault ≡ trace_failed };
 
     fn from(_error: WriteFailed) -> BusFault {
-        BusFault::TraceFailed
+        BusFault::Failed
     }
 }
 

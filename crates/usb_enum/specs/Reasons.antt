@@ -11,7 +11,7 @@ use Rattle.usb_descriptor.specs.{DescriptorFault, status_endpoint_of, config_hea
 use Rattle.usb_descriptor.specs.{configuration_value, configuration_count, device_head_of}
 use Rattle.usb_descriptor.specs.{hub_spelled}
 use Rattle.usb_resources.specs.{Addresses, IsFree, IsFull}
-use Rattle.usb_world.specs.{World, Failed}
+use Rattle.usb_world.specs.{World, HasFault}
 use Rattle.usb_transaction.specs.{Target}
 use Rattle.usb_pipe.specs.{PipeFault, Reads, WasRead, Writes}
 use Rattle.usb_pipe.specs.declared.fault.PipeFault.TheVariants as pipe
@@ -211,7 +211,7 @@ pub record PortFails (port : HubPort) (old new : World) : Type 0 where
 -- why there is no finding
 abbrev pub FaultBy : HubPort → EnumFault → World → World → Type 0
 FaultBy port fault.ParentLost old new = PortFails port old new
-FaultBy port (fault.Bus why) old new = Failed why new
+FaultBy port (fault.Bus why) old new = HasFault why new
 FaultBy port fault.Memory old new = ⊤
 
 -- its status was read, and it is not enabled

@@ -1,7 +1,7 @@
 -- What a failed transfer means.
 use Rattle.std.specs.Prelude.{◌≡◌, ◌≢◌, ◌⊎◌, ℕ, Option, Some, None, unwrap_or, Result, Ok, Err, ⊤}
 use Rattle.usb_enum.specs.Device.{LAST_TIER}
-use Rattle.usb_world.specs.{World, Failed}
+use Rattle.usb_world.specs.{World, HasFault}
 use Rattle.usb_hub.specs.{HubPort, Root, External}
 use Rattle.usb_pipe.specs.{PipeFault}
 use Rattle.usb_pipe.specs.declared.fault.PipeFault.TheVariants as pipe
@@ -46,13 +46,13 @@ CanFail (External hub port) = ⊤
 -- the bus tells its fault, and a parent is lost where it can fail
 abbrev pub FaultAllowedAt : HubPort → EnumFault → World → Type 0
 FaultAllowedAt port fault.ParentLost w = CanFail port
-FaultAllowedAt port (fault.Bus f) w = Failed f w
+FaultAllowedAt port (fault.Bus f) w = HasFault f w
 FaultAllowedAt port fault.Memory w = ⊤
 
 -- the same where no port is asked
 abbrev pub FaultAllowed : EnumFault → World → Type 0
 FaultAllowed fault.ParentLost w = ⊥
-FaultAllowed (fault.Bus f) w = Failed f w
+FaultAllowed (fault.Bus f) w = HasFault f w
 FaultAllowed fault.Memory w = ⊤
 
 -- a hub is too deep in the last tier, and bad in those above alone; there was an address

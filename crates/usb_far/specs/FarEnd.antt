@@ -8,7 +8,7 @@ use Rattle.usb_port.specs.{PortCall, status_of}
 use Rattle.usb_request.specs.{bytes_of, Setup as SetupData}
 use Rattle.usb_world.specs.declared.event.Ask.{Ask}
 use Rattle.usb_world.specs.declared.event.Ask.TheVariants as ask
-use Rattle.usb_world.specs.{Attempt, BusFault, TraceFailed, Outcome, World, IsRootPort, root_row}
+use Rattle.usb_world.specs.{Attempt, BusFault, Failed, Outcome, World, IsRootPort, root_row}
 use Rattle.usb_world.specs.{roots_of, after, attempt, event, outcome_in, root_call}
 use Rattle.usb_world.specs.declared.types.Outcome.TheVariants as outcome
 use Rattle.usb_sim.specs.{Ghosts, trace_of, tracer_of, world_of}
@@ -231,7 +231,7 @@ pub record IsGivenUp (a : Attempt) (old : Played) (f : FarFault) (new : Played) 
   pub bus : BusFault
   pub is : f ≡ fault.Bus bus
   pub attempts : Attempts a old.far.world old.trace.bytes (Err bus) new.far.world new.trace.bytes
-  pub failed : bus ≡ TraceFailed → old.far.world.fault ≡ None → new.trace.failed ≡ true
+  pub failed : bus ≡ Failed → old.far.world.fault ≡ None → new.trace.failed ≡ true
   pub far : new.far ≡ record old.far { world = new.far.world }
 
 -- there is no root port of that number
@@ -246,7 +246,7 @@ pub record IsEventGivenUp (old : Played) (f : FarFault) (new : Played) : Type 0 
   pub is : f ≡ fault.Bus bus
   pub due : old.far.came ≡ false
   pub takes : TakesEvent old.far.world old.trace.bytes (Err bus) new.far.world new.trace.bytes
-  pub failed : bus ≡ TraceFailed → old.far.world.fault ≡ None → new.trace.failed ≡ true
+  pub failed : bus ≡ Failed → old.far.world.fault ≡ None → new.trace.failed ≡ true
   pub far : new.far ≡ record old.far { world = new.far.world }
 
 -- the next event came, and what it sends has no room in a line

@@ -4,7 +4,7 @@ use Rattle.std.proofs.Common.{true, Bool, ℕ, List, Some, Result, Ok, Err, IfEr
 use Rattle.usb_request.specs.{PORT_ENABLE, C_PORT_CONNECTION, C_PORT_ENABLE, C_PORT_RESET}
 use Rattle.usb_port.specs.{clear_call, is_reset, PortCall, ClearEnable, ClearEnableChange}
 use Rattle.usb_port.specs.{ClearResetChange, PortStatus}
-use Rattle.usb_world.specs.{World, Failed, AttemptsWithin, BusFault}
+use Rattle.usb_world.specs.{World, HasFault, AttemptsWithin, BusFault}
 use Rattle.usb_tree.proofs.Interface.{decided}
 use Rattle.usb_bus.proofs.Interface.{went_then}
 use Rattle.usb_address.specs.{AddressMap, KeepsAddresses, MapHolds, WhileBusWorks}
@@ -64,11 +64,11 @@ requested-fails B p le = record { goes = goes_wider p.goes le; told = p.told }
 
 bus_told : {A : Type 0} (answer : Result A PipeFault) (old new : World)
     → IfErr answer (λ fault. FaultAfter 1 old fault new) → (f : BusFault)
-    → answer ≡ Err (pipe.Bus f) → Failed f new
+    → answer ≡ Err (pipe.Bus f) → HasFault f new
 bus_told answer old new x f is = rw is at x
 
 port_fault : (port : HubPort) (fault : PipeFault) (new : World) → CanFail port
-    → ((f : BusFault) → fault ≡ pipe.Bus f → Failed f new)
+    → ((f : BusFault) → fault ≡ pipe.Bus f → HasFault f new)
     → FaultAllowedAt port (fault_at_port fault) new
 port_fault port (pipe.Bus f) new can told = told f refl
 port_fault port pipe.Memory new can told = tt
@@ -76,7 +76,7 @@ port_fault port _ new can told = can
 
 -- a root port is a register, and never fails
 requested_told : {A : Type 0} (port : HubPort) (answer : Result A PipeFault) (new : World)
-    → CanFail port ⊎ IsOk answer → ((f : BusFault) → answer ≡ Err (pipe.Bus f) → Failed f new)
+    → CanFail port ⊎ IsOk answer → ((f : BusFault) → answer ≡ Err (pipe.Bus f) → HasFault f new)
     → IfErr (at_port answer) (λ fault. FaultAllowedAt port fault new)
 requested_told port (Ok x) new can told = tt
 requested_told port (Err fault) new (inl can) told =
@@ -86,7 +86,7 @@ requested_told port (Err fault) new (inr ok) told = absurd (cc ok)
 requested_by : {A : Type 0} {port : HubPort} {n : ℕ} {a : HostState} (b : HostState)
     (answer : Result A PipeFault) {result : Result A EnumFault} → HostRuns n a b
     → CanFail port ⊎ IsOk answer
-    → ((f : BusFault) → answer ≡ Err (pipe.Bus f) → Failed f b.world) → result ≡ at_port answer
+    → ((f : BusFault) → answer ≡ Err (pipe.Bus f) → HasFault f b.world) → result ≡ at_port answer
     → Requested port n a result b
 requested_by {port = port} b answer goes can told is = record {
   goes = goes;
@@ -159,7 +159,7 @@ others_by port feature a b answer went same fault effect addresses devices is = 
 pub own_by : {hub : HubPort} (a b : HostState) (answer : Result (Unit {0}) PipeFault)
     {result : Result (Unit {0}) EnumFault} → CanFail hub
     → HostRuns (read_bound 4 + 2 * write_bound) a b
-    → ((f : BusFault) → answer ≡ Err (pipe.Bus f) → Failed f b.world)
+    → ((f : BusFault) → answer ≡ Err (pipe.Bus f) → HasFault f b.world)
     → KeepsAddresses a.world b.world → result ≡ at_port answer → ClearsOwn hub a result b
 own_by a b answer can goes fault addresses is = record {
   requested = requested_by b answer goes (inl can) fault is;

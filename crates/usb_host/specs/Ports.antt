@@ -4,7 +4,7 @@ use Rattle.std.specs.Prelude.{Result, Ok, Err, IfErr, MatchResult}
 use Rattle.std.specs.Map.{lookup}
 use Rattle.std.specs.BTreeMap.{is_at, insert_entry}
 use Rattle.usb_port.specs.{path_cmp, parent_of, port_on_hub, IsPath, seen, PortStatus}
-use Rattle.usb_world.specs.{World, Failed, root_port_at, roots_of}
+use Rattle.usb_world.specs.{World, HasFault, root_port_at, roots_of}
 use Rattle.usb_hub.specs.{HubPort, Root, External, IsAsked, IsPort}
 use Rattle.usb_resources.specs.{IsFull}
 use Rattle.usb_enum.specs.{FaultAllowedAt, NoAddress, EnumFault, ParentLost, Bus, Memory, Finding}
@@ -107,7 +107,7 @@ Shown (External hub port) result old new = ProgressOnOk result old new
 -- the bus tells its fault, and the port has a hub that is lost
 abbrev pub Broke : List ℕ → EnumFault → World → Type 0
 Broke path ParentLost w = IsSome (parent_of path)
-Broke path (Bus fault) w = Failed fault w
+Broke path (Bus fault) w = HasFault fault w
 Broke path Memory w = ⊤
 
 -- how a call ends after a port was served: a fault of the bus and want of memory are told as they

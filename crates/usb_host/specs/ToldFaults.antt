@@ -1,7 +1,7 @@
 -- What a fault of the host says of the bus, and when the host stops.
 use Rattle.std.specs.Prelude.{◌≡◌, ◌↔◌, ⊤, Bool, true, false, IsTrue, IsErrOf, IsErr, Result, Ok}
 use Rattle.std.specs.Prelude.{Err}
-use Rattle.usb_world.specs.{World, Failed}
+use Rattle.usb_world.specs.{World, HasFault}
 use Rattle.usb_table.specs.{TableFault}
 use Rattle.usb_table.specs.declared.fault.TableFault.TheVariants as table
 use Rattle.usb_host.specs.declared.fault.HostFault.{HostFault}
@@ -23,21 +23,21 @@ host_told (Err fault) = Err (host_fault fault)
 abbrev pub PartFaultAllowed : Bool → HostFault → World → Type 0
 PartFaultAllowed modelled Stopped w = ⊥
 PartFaultAllowed modelled (Transfer fault) w = ⊥
-PartFaultAllowed modelled (Bus fault) w = modelled ≡ true → Failed fault w
+PartFaultAllowed modelled (Bus fault) w = modelled ≡ true → HasFault fault w
 PartFaultAllowed modelled Memory w = ⊤
 
 -- a fault of a whole round
 abbrev pub RoundFaultAllowed : HostFault → World → Type 0
 RoundFaultAllowed Stopped w = ⊤
 RoundFaultAllowed (Transfer fault) w = ⊥
-RoundFaultAllowed (Bus fault) w = Failed fault w
+RoundFaultAllowed (Bus fault) w = HasFault fault w
 RoundFaultAllowed Memory w = ⊤
 
 -- a fault of a transfer
 abbrev pub TransferFaultAllowed : HostFault → World → Type 0
 TransferFaultAllowed Stopped w = ⊤
 TransferFaultAllowed (Transfer fault) w = ⊤
-TransferFaultAllowed (Bus fault) w = Failed fault w
+TransferFaultAllowed (Bus fault) w = HasFault fault w
 TransferFaultAllowed Memory w = ⊤
 
 -- after these the host makes no more attempts

@@ -1,6 +1,6 @@
 -- What is told where a change was cleared.
 use Rattle.std.proofs.Common.{◌≡◌, ℕ, Result, Ok, Err, refl, subst, IfErr}
-use Rattle.usb_world.specs.{BusFault, World, Failed}
+use Rattle.usb_world.specs.{BusFault, World, HasFault}
 use Rattle.usb_pipe.specs.{FaultAfter, PipeFault}
 use Rattle.usb_pipe.specs.declared.fault.PipeFault.TheVariants.{Stalled, Bus}
 use Rattle.usb_hub.specs.{ToldBus, done_or_unknown, EndsAfter}
@@ -13,7 +13,7 @@ told_bus least old (Ok x) fault new ends is told e = absurd (cc is)
 told_bus least old (Err why) (Bus given) new ends is told e =
     let same : why ≡ Bus given = cc is in
     let as_told : given ≡ told = cc e in
-    subst (λ (f : BusFault). Failed f new) as_told
+    subst (λ (f : BusFault). HasFault f new) as_told
     (subst (λ (f : PipeFault). FaultAfter 1 old f new) same ends)
 told_bus least old (Err why) fault new ends is told e = absurd (cc e)
 

@@ -4,7 +4,7 @@ use Rattle.std.specs.Prelude.{◌≡◌, ℕ, List, Bool, true, false, slice_ind
 use Rattle.usb_request.specs.{C_HUB_LOCAL_POWER, C_HUB_OVER_CURRENT, Setup, get_hub_status}
 use Rattle.usb_request.specs.{clear_hub_feature, clear_port_feature}
 use Rattle.usb_port.specs.{has_bit}
-use Rattle.usb_world.specs.{BusFault, World, Failed}
+use Rattle.usb_world.specs.{BusFault, World, HasFault}
 use Rattle.usb_transaction.specs.{Target}
 use Rattle.usb_pipe.specs.{PipeFault}
 use Rattle.usb_pipe.specs.declared.fault.PipeFault.TheVariants.{Stalled, Busy, NoAnswer, Broken}
@@ -16,7 +16,7 @@ use Rattle.usb_hub.specs.Requests.{Commanded, ReadAs}
 
 -- where the bus gave up, it tells its fault
 abbrev pub ToldBus : Result (Unit {0}) PipeFault → World → Type 0
-ToldBus result w = (fault : BusFault) → result ≡ Err (Bus fault) → Failed fault w
+ToldBus result w = (fault : BusFault) → result ≡ Err (Bus fault) → HasFault fault w
 
 -- a STALL counts as done
 abbrev pub done_or_unknown : Result (Unit {0}) PipeFault → Result (Unit {0}) PipeFault

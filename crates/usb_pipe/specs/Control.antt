@@ -1,6 +1,6 @@
 -- What a control transfer tells, and how many attempts it may take.
 use Rattle.std.specs.Prelude.{ℕ, ◌+◌, ◌*◌, Bool, ◌||◌, nat_lt, nat_le, if◌then◌else◌}
-use Rattle.usb_world.specs.{World, Failed}
+use Rattle.usb_world.specs.{World, HasFault}
 use Rattle.usb_transaction.specs.{TransFault, Stalled as TransStalled, Busy as TransBusy}
 use Rattle.usb_transaction.specs.{NoAnswer as TransNoAnswer, Bus as TransBus, AttemptsMade}
 use Rattle.usb_transaction.specs.{error_limit, transaction_bound, wait_limit}
@@ -22,7 +22,7 @@ FaultAfter n old Stalled new = AttemptsMade (n + 1) old new
 FaultAfter n old Busy new = AttemptsMade (n + wait_limit) old new
 FaultAfter n old NoAnswer new = AttemptsMade error_limit old new
 FaultAfter n old Broken new = ⊥
-FaultAfter n old (Bus fault) new = Failed fault new
+FaultAfter n old (Bus fault) new = HasFault fault new
 FaultAfter n old Memory new = AttemptsMade (n + 1) old new
 
 -- a packet of this size ends a data stage, where with it `got` of the `wanted` bytes have come

@@ -16,9 +16,9 @@ pub record IsBegun (plan : PlanData) (w : World) : Type 0 where
 
 -- what a fault of the bus is to a run
 abbrev pub run_fault : BusFault → RunFault
-run_fault bus.LimitReached = LimitReached
+run_fault bus.Limit = LimitReached
 run_fault bus.Memory = Memory
-run_fault bus.TraceFailed = TraceFailed
+run_fault bus.Failed = TraceFailed
 
 -- what the fault of a round is to a run
 abbrev pub round_fault : HostFault → RunFault
@@ -30,9 +30,9 @@ round_fault host.Memory = Memory
 -- a fault of a run is told only where its cause stands: the limit where the attempts equal it and
 -- the bus gave one up for it, the trace where the bus could not write it
 abbrev pub IsCaused : RunFault → World → Type 0
-IsCaused LimitReached w = (w.attempts ≡ w.limit) × (w.fault ≡ Some bus.LimitReached)
+IsCaused LimitReached w = (w.attempts ≡ w.limit) × (w.fault ≡ Some bus.Limit)
 IsCaused Memory w = Unit {0}
-IsCaused TraceFailed w = w.fault ≡ Some bus.TraceFailed
+IsCaused TraceFailed w = w.fault ≡ Some bus.Failed
 
 -- a part of a run that goes so: its host goes on where no fault is told, and a fault has its cause
 pub record RunsOn {A : Type 0} (Goes : HostState → Result A RunFault → HostState → Type 0)

@@ -61,9 +61,9 @@ impl From<BusFault> for RunFault {
 
     fn from(fault: BusFault) -> RunFault {
         match fault {
-            BusFault::LimitReached => RunFault::LimitReached,
+            BusFault::Limit => RunFault::LimitReached,
             BusFault::Memory => RunFault::Memory,
-            BusFault::TraceFailed => RunFault::TraceFailed,
+            BusFault::Failed => RunFault::TraceFailed,
         }
     }
 }

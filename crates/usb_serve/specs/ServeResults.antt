@@ -18,9 +18,9 @@ input_fault input.Memory = Memory
 
 -- what the fault of a line of report is to the one who is served
 abbrev pub report_fault : BusFault → ServeFault
-report_fault bus.LimitReached = Run run.LimitReached
+report_fault bus.Limit = Run run.LimitReached
 report_fault bus.Memory = Run run.Memory
-report_fault bus.TraceFailed = Write
+report_fault bus.Failed = Write
 
 -- a fault that a run or its report can have: none of the reader's or of the plan's
 abbrev pub IsFaultOfRun : ServeFault → Type 0
@@ -47,7 +47,7 @@ IsCausedInRun Read w = ⊥
 IsCausedInRun TooLong w = ⊥
 IsCausedInRun (serve.Plan fault) w = ⊥
 IsCausedInRun (Run fault) w = IsCaused fault w
-IsCausedInRun Write w = w.fault ≡ Some bus.TraceFailed
+IsCausedInRun Write w = w.fault ≡ Some bus.Failed
 IsCausedInRun Memory w = Unit {0}
 
 -- and so it is in mode Tree, where no trace is written

@@ -372,8 +372,8 @@ fn report_fault(fault: BusFault) -> ServeFault
     ensures { result ≡ report_fault fault }
 {
     match fault {
-        BusFault::LimitReached => ServeFault::Run(RunFault::LimitReached),
+        BusFault::Limit => ServeFault::Run(RunFault::LimitReached),
         BusFault::Memory => ServeFault::Run(RunFault::Memory),
-        BusFault::TraceFailed => ServeFault::Write,
+        BusFault::Failed => ServeFault::Write,
     }
 }

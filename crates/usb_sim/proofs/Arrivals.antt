@@ -7,7 +7,7 @@ use Rattle.std.specs.Io.KnownBytes.{Appends}
 use Rattle.std.specs.Option.{option_to_list}
 use Rattle.std.proofs.KnownBytes.{Appends-trans, Appends-nil}
 use Rattle.usb_device.specs.{Ports, held_addresses, repeats}
-use Rattle.usb_world.specs.{Event, BusFault, LimitReached, Memory, TraceFailed, Exchange, Attempt}
+use Rattle.usb_world.specs.{Event, BusFault, Limit, Memory, Failed, Exchange, Attempt}
 use Rattle.usb_world.specs.{Damage, exchange_in, ports_in, counted, after_clearing, World, Coming}
 use Rattle.usb_world.specs.{AttemptsWithin, nothing_yet, next_came, after_change, is_due, has_due}
 use Rattle.usb_world.specs.{after_event, after_first_event, after_due_events, at_attempt, damage_in}
@@ -246,7 +246,7 @@ writes_told f q a b text is w = subst (λ r. WritesText r a b text) (sym (err_is
 -- where no event came nothing is written
 pub writes_none : {A : Type 0} (r : Result A BusFault) (w v : World) (t : Option (List ℕ))
     → v.taken ≡ w.taken → WritesText r t t (lines_between w v)
-writes_none (Err TraceFailed) w v t e = appends_front t t [] (lines_between w v) (lines_between w v)
+writes_none (Err Failed) w v t e = appends_front t t [] (lines_between w v) (lines_between w v)
     refl (Appends-nil t)
 writes_none _ w v t e = subst (Appends t t) (no_lines w v e) (Appends-nil t)
 
@@ -257,14 +257,14 @@ pub appends_event : (w v : World) (e : Event) (events : List Event) (t s : Optio
 appends_event w v e events t s split one h = subst (Appends t s) (one_line w v e events split one) h
 
 pub writes_line : {A : Type 0} (r : Result A BusFault) (t s : Option (List ℕ)) (text : List ℕ)
-    → IsErrAnd r (λ x. x ≡ TraceFailed) → AppendsFront t s text → WritesText r t s text
+    → IsErrAnd r (λ x. x ≡ Failed) → AppendsFront t s text → WritesText r t s text
 writes_line (Ok x) t s text is h = absurd is
-writes_line (Err TraceFailed) t s text is h = h
+writes_line (Err Failed) t s text is h = h
 writes_line (Err f) t s text is h = cc is
 
 pub writes_event : {A : Type 0} (r : Result A BusFault) (w v : World) (e : Event)
     (events : List Event) (t s : Option (List ℕ)) → w.left ≡ e ∷ events → v.taken ≡ w.taken + 1
-    → IsErrAnd r (λ x. x ≡ TraceFailed)
+    → IsErrAnd r (λ x. x ≡ Failed)
     → AppendsFront t s (action_line e.action w.devices) → WritesText r t s (lines_between w v)
 writes_event r w v e events t s split one is h = writes_line r t s (lines_between w v) is
     (subst (AppendsFront t s) (one_line w v e events split one) h)
@@ -272,7 +272,7 @@ writes_event r w v e events t s split one is h = writes_line r t s (lines_betwee
 pub writes_memory : {A : Type 0} (r : Result A BusFault) (t s : Option (List ℕ)) (text : List ℕ)
     → IsErrAnd r (λ x. x ≡ Memory) → Appends t s text → WritesText r t s text
 writes_memory (Ok x) t s text is h = absurd is
-writes_memory (Err TraceFailed) t s text is h = cc is
+writes_memory (Err Failed) t s text is h = cc is
 writes_memory (Err f) t s text is h = h
 
 unfaulted : (w v : World) (f : BusFault) → w.fault ≡ None → v ≡ record w { fault = Some f }
@@ -285,7 +285,7 @@ unfaulted w v f sound e =
 cut_by : {A : Type 0} (f : BusFault) (first w v : World) (had has now : Option (List ℕ))
     → DueSoFar first w had has → has_due w ≡ true → OneEventCame w has (Err f) v now
     → EventsCame {A = A} first had (Err f) v now
-cut_by LimitReached first w v had has now d h came = absurd (came.other refl)
+cut_by Limit first w v had has now d h came = absurd (came.other refl)
 cut_by Memory first w v had has now d h came =
     let same : v.taken ≡ w.taken = ap (λ (x : World). x.taken) (came.kept refl) in
     record {
@@ -299,7 +299,7 @@ cut_by Memory first w v had has now d h came =
           (Appends-trans had has now (lines_between first w) [] d.written
           (subst (Appends has now) (sym (no_lines w v same)) came.text));
     }
-cut_by TraceFailed first w v had has now d h came =
+cut_by Failed first w v had has now d h came =
     let (e, events, split) = next_due_event w h in
     let one : v.taken ≡ w.taken + 1 = ap (λ (x : World). x.taken) (came.cut refl)
     ∙ (took_is w (after_first_event w.left w) e events split refl).0 in
@@ -308,7 +308,7 @@ cut_by TraceFailed first w v had has now d h came =
       told = came.told;
       exact = tt;
       cut = came_next first w (record v { fault = None }) d.coming h
-          (unfaulted (after_first_event w.left w) v TraceFailed
+          (unfaulted (after_first_event w.left w) v Failed
           (first_fault w.left w ∙ d.sound) (came.cut refl));
       other = came.other;
       text = subst (AppendsFront had now) (lines_on first w v e events d.later split one)

@@ -4,7 +4,7 @@ use Rattle.std.proofs.Common.{Err, OnOk, IfErr, IsErrAnd, ◌≢◌, ◌||◌, r
 use Rattle.std.proofs.Common.{arith, ℕ, ◌==◌, List, IfOk, IsSome, is_some, ◌+◌}
 use Rattle.std.proofs.lemmas.Bool.{eq-eqb}
 use Rattle.usb_world.specs.declared.event.Ask.{Ask}
-use Rattle.usb_world.specs.{Attempt, Outcome, BusFault, LimitReached, Memory, TraceFailed, World}
+use Rattle.usb_world.specs.{Attempt, Outcome, BusFault, Limit, Memory, Failed, World}
 use Rattle.usb_world.specs.{at_attempt, with_attempt, attempted, attempt, event, event_taken}
 use Rattle.usb_world.specs.{after_first_event, after, fault_of, Left, Coming, at_event, at_packet}
 use Rattle.usb_world.specs.{at_line, AttemptFails, IsCut, damage_in, AttemptEnds, AttemptsWithin}
@@ -31,17 +31,17 @@ if_false_is true x y h = cc
 
 -- nothing is applied where the attempts equal the limit
 pub after-limit : (a : Attempt) (w : World) → w.fault ≡ None → w.attempts ≡ w.limit
-    → record w { fault = Some LimitReached } ≡ after (attempt a) w
+    → record w { fault = Some Limit } ≡ after (attempt a) w
 unfolding after
 after-limit a w sound e = if_true_is (w.attempts == w.limit)
-    (record w { fault = Some LimitReached }) (with_attempt a (at_attempt w))
+    (record w { fault = Some Limit }) (with_attempt a (at_attempt w))
     (eq-eqb w.attempts w.limit e) ∙ ap (λ o. attempted a o w) (sym sound)
 
 -- else the attempt is made
 pub made : (a : Attempt) (w : World) → w.fault ≡ None → (w.attempts ≡ w.limit → ⊥)
     → with_attempt a (at_attempt w) ≡ after (attempt a) w
 unfolding after
-made a w sound e = if_false_is (w.attempts == w.limit) (record w { fault = Some LimitReached })
+made a w sound e = if_false_is (w.attempts == w.limit) (record w { fault = Some Limit })
     (with_attempt a (at_attempt w)) (unequal w.attempts w.limit e)
     ∙ ap (λ o. attempted a o w) (sym sound)
 
@@ -62,10 +62,10 @@ event_exact (Ok o) w m sound e = e ∙ ap (λ o. event_taken o w) (sym sound)
 event_exact (Err x) w m sound e = e
 
 pub event_cut : (w m : World) → w.fault ≡ None
-    → m ≡ record (after_first_event w.left w) { fault = Some TraceFailed }
-    → m ≡ record (after event w) { fault = Some TraceFailed }
+    → m ≡ record (after_first_event w.left w) { fault = Some Failed }
+    → m ≡ record (after event w) { fault = Some Failed }
 unfolding after
-event_cut w m sound e = e ∙ ap (λ o. record (event_taken o w) { fault = Some TraceFailed })
+event_cut w m sound e = e ∙ ap (λ o. record (event_taken o w) { fault = Some Failed })
     (sym sound)
 
 -- an event that was due could not come
@@ -90,16 +90,16 @@ left_at_packet (Err f) a w m v k is e cut made =
 
 -- only the line was not written
 pub left_at_line : {T : Type 0} (r : Result T BusFault) (a : Attempt) (w v : World)
-    → IsErrAnd r (λ f. f ≡ TraceFailed) → v ≡ with_attempt a (at_attempt w)
+    → IsErrAnd r (λ f. f ≡ Failed) → v ≡ with_attempt a (at_attempt w)
     → IfErr r (λ f. Left a w f v)
 left_at_line (Ok x) a w v is e = tt
 left_at_line (Err f) a w v is e = at_line is e
 
 pub fails_at : (r : Result Outcome BusFault) (a : Attempt) (w m : World) → m.fault ≡ fault_of r
-    → (w.attempts ≡ w.limit → ⊥) → IfErr r (λ x. x ≢ LimitReached)
+    → (w.attempts ≡ w.limit → ⊥) → IfErr r (λ x. x ≢ Limit)
     → IfErr r (λ x. Left a w x (record m { fault = None })) → AttemptFails a w r m
 fails_at (Ok o) a w m is below other left = tt
-fails_at (Err LimitReached) a w m is below other left = absurd (other refl)
+fails_at (Err Limit) a w m is below other left = absurd (other refl)
 fails_at (Err f) a w m is below other left = record {
   below = below;
   left = record m { fault = None };
@@ -112,7 +112,7 @@ fails_at (Err f) a w m is below other left = record {
 abbrev fault_result : BusFault → Result Outcome BusFault
 fault_result f = Err f
 
-at_limit_spends : (w : World) → AttemptsWithin 1 w (record w { fault = Some LimitReached })
+at_limit_spends : (w : World) → AttemptsWithin 1 w (record w { fault = Some Limit })
 at_limit_spends w = record {
   limit = refl;
   roots = refl;
@@ -135,7 +135,7 @@ nothing_written f a w v t e same = writes_alone (fault_result f) a w v t t same
 
 -- a fault was told before
 pub again_attempts : (a : Attempt) (w : World) (t : Option (List ℕ)) (f : BusFault)
-    → Some f ≡ w.fault → (w.fault ≡ Some LimitReached → w.attempts ≡ w.limit)
+    → Some f ≡ w.fault → (w.fault ≡ Some Limit → w.attempts ≡ w.limit)
     → Attempts a w t (Err f) w t
 again_attempts a w t f told limit = record {
   counts = record {
@@ -152,8 +152,8 @@ again_attempts a w t f told limit = record {
 
 -- the attempts equal the limit
 pub limit_attempts : (a : Attempt) (w : World) (t : Option (List ℕ)) → w.fault ≡ None
-    → w.attempts ≡ w.limit → Attempts a w t (Err LimitReached)
-    (record w { fault = Some LimitReached }) t
+    → w.attempts ≡ w.limit → Attempts a w t (Err Limit)
+    (record w { fault = Some Limit }) t
 limit_attempts a w t sound e = record {
   counts = record {
     spends = at_limit_spends w;
@@ -164,11 +164,11 @@ limit_attempts a w t sound e = record {
   exact = tt;
   outcome = tt;
   fails = λ none. after-limit a w sound e;
-  text = nothing_written LimitReached a w (record w { fault = Some LimitReached }) t refl refl;
+  text = nothing_written Limit a w (record w { fault = Some Limit }) t refl refl;
 }
 
 ends_as : (r : Result Outcome BusFault) (w v : World) → w.fault ≡ None
-    → OnOk r (v.attempts ≡ w.attempts + 1) → v.fault ≡ fault_of r → IfErr r (λ x. x ≢ LimitReached)
+    → OnOk r (v.attempts ≡ w.attempts + 1) → v.fault ≡ fault_of r → IfErr r (λ x. x ≢ Limit)
     → AttemptEnds w r v
 ends_as (Ok o) w v sound one told other = record { sound = sound; one = one; still = told }
 ends_as (Err f) w v sound one told other = record { told = told; at_limit = λ e. absurd (other e) }
@@ -199,7 +199,7 @@ fault_untaken : (f x : BusFault) → Some f ≡ Some x → due_result f ≡ due_
 fault_untaken f x e = cc e
 
 pub again_takes : (w : World) (t : Option (List ℕ)) (f : BusFault) → Some f ≡ w.fault
-    → (w.fault ≡ Some LimitReached → w.attempts ≡ w.limit) → TakesEvent w t (Err f) w t
+    → (w.fault ≡ Some Limit → w.attempts ≡ w.limit) → TakesEvent w t (Err f) w t
 again_takes w t f told limit = record {
   took = record {
     spends = spends_none w;
@@ -216,7 +216,7 @@ again_takes w t f told limit = record {
 
 event_ends : (r : Result (Option (Option Ask)) BusFault) (w v : World) → w.fault ≡ None
     → v.fault ≡ fault_of r → (r ≡ Ok None → (to_come w ≡ 0) × (v ≡ w))
-    → IfOk r (λ due. IsSome due → v.taken ≡ w.taken + 1) → IfErr r (λ x. x ≢ LimitReached)
+    → IfOk r (λ due. IsSome due → v.taken ≡ w.taken + 1) → IfErr r (λ x. x ≢ Limit)
     → EventEnds w r v
 event_ends (Ok None) w v sound told none one other = record {
   sound = sound;
@@ -230,8 +230,8 @@ event_ends (Err f) w v sound told none one other =
 
 -- the limit is told of no event, and of no attempt below it
 pub never_limit : {A : Type 0} (r : Result A BusFault) {P : Type 0}
-    → IfErr r (λ x. x ≢ LimitReached) → r ≡ Err LimitReached → P
-never_limit (Err LimitReached) other e = absurd (other refl)
+    → IfErr r (λ x. x ≢ Limit) → r ≡ Err Limit → P
+never_limit (Err Limit) other e = absurd (other refl)
 never_limit _ other e = cc e
 
 pub taken_takes : (r : Result (Option (Option Ask)) BusFault) (w v : World) (t s : Option (List ℕ))

@@ -2,7 +2,7 @@
 -- behind them.
 use Rattle.std.specs.Prelude.{◌≡◌, ◌≢◌, ℕ, ◌+◌, List, Option, None, Some, Result, Ok, Err, OnOk}
 use Rattle.std.specs.Prelude.{OnErr, IfOk, IfErr, IsSome}
-use Rattle.usb_world.specs.{Attempt, BusFault, LimitReached, Memory, TraceFailed, Outcome, World}
+use Rattle.usb_world.specs.{Attempt, BusFault, Limit, Memory, Failed, Outcome, World}
 use Rattle.usb_world.specs.{AnswerFits, AttemptsWithin, to_come, Coming, Left, after, attempt}
 use Rattle.usb_world.specs.{fault_of, outcome_in, at_attempt, after_first_event, with_attempt}
 use Rattle.usb_world.specs.declared.event.Ask.{Ask}
@@ -23,11 +23,11 @@ pub record OneEventCame (old : World) (before : Option (List ℕ))
     pub asked : IfOk result (λ due. due ≡ next_due old)
     pub exact : OnOk result (new ≡ after_first_event old.left old)
     pub kept : result ≡ Err Memory → new ≡ record old { fault = Some Memory }
-    pub cut : result ≡ Err TraceFailed → new ≡ record (after_first_event old.left old) {
+    pub cut : result ≡ Err Failed → new ≡ record (after_first_event old.left old) {
       fault =
-          Some TraceFailed;
+          Some Failed;
     }
-    pub other : IfErr result (λ f. f ≢ LimitReached)
+    pub other : IfErr result (λ f. f ≢ Limit)
     pub text : WritesText result before now (lines_between old new)
 
 -- the events that are due came, or one of them was refused
@@ -37,7 +37,7 @@ pub record EventsCame {A : Type 0} (old : World) (before : Option (List ℕ))
   pub told : new.fault ≡ fault_of result
   pub exact : OnOk result (new ≡ at_attempt old)
   pub cut : OnErr result (Coming old (record new { fault = None }))
-  pub other : IfErr result (λ f. f ≢ LimitReached)
+  pub other : IfErr result (λ f. f ≢ Limit)
   pub text : WritesText result before now (lines_between old new)
 
 -- the attempt was made behind the events that are due, or the bus gave it up
@@ -50,13 +50,13 @@ pub record AttemptMade (a : Attempt) (old : World) (before : Option (List ℕ))
   pub left : IfErr result (λ f. Left a old f (record new { fault = None }))
   pub outcome : IfOk result (λ outcome. outcome ≡ outcome_in a old)
   pub told : new.fault ≡ fault_of result
-  pub other : IfErr result (λ f. f ≢ LimitReached)
+  pub other : IfErr result (λ f. f ≢ Limit)
   pub text : WritesText result before now (step_lines a old new)
 
 -- an attempt that was refused at the limit left the trace as it was, and one behind a fault left
 -- all
 pub record RefusesAttempt {T : Type 0} {g : Ghosts T} (a : Attempt) (old : SimBus T g)
     (result : Result Outcome BusFault) (new : SimBus T g) : Type 0 where
-  pub limit : result ≡ Err LimitReached → (world_of new ≡ after (attempt a) (world_of old))
+  pub limit : result ≡ Err Limit → (world_of new ≡ after (attempt a) (world_of old))
       × (tracer_of new ≡ tracer_of old)
   pub again : IsSome (world_of old).fault → new ≡ old

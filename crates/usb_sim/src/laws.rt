@@ -6,7 +6,7 @@ ghost use Rattle.usb_bus.specs.Shown.{is_unbroken, shown_name};
 ghost use Rattle.usb_sim.specs.Sim.{world_of, tracer_of};
 ghost use Rattle.usb_bus.specs.Trace.{plug_line};
 ghost use Rattle.usb_bus.specs.Watch.{tells_failure};
-ghost use Rattle.usb_world.specs.declared.types.BusFault.TheVariants.{TraceFailed};
+ghost use Rattle.usb_world.specs.declared.types.BusFault.TheVariants.{Failed};
 
 use crate::{SimBus, Trace, Untraced};
 
@@ -17,7 +17,7 @@ pub fn trace_fault<T: Trace>(bus: &SimBus<T>)
 
 /// A bus that is untraced never told that its trace failed.
 pub fn untraced_fault(bus: &SimBus<Untraced>)
-    ensures { (world_of bus.now).fault ≢ Some TraceFailed }
+    ensures { (world_of bus.now).fault ≢ Some Failed }
 {}
 
 /// A plug is one line of the trace, whatever the name of its device holds.

@@ -9,12 +9,12 @@
 //! - What a fault leaves of an attempt is said exactly: where memory was refused, each device stands as it stood, with
 //!   its address, configuration and ports, and nothing at all changed where no address is held twice
 //!   (`CutPackets.cut_stand`, `UnsharedRefusals.cut_alone` of usb_world). A fault is told again and changes nothing, an
-//!   attempt tells LimitReached exactly where attempts equal the limit (`RefusedAttempts.limit_told` of usb_world), a
-//!   line of report tells nothing but TraceFailed, and as long as none was told each port is *consistent*.
+//!   attempt tells Limit exactly where attempts equal the limit (`RefusedAttempts.limit_told` of usb_world), a
+//!   line of report tells nothing but Failed, and as long as none was told each port is *consistent*.
 //! - A bus that makes no line of its trace (`SimBus::untraced`) meets all of this too, and its type says that it never
-//!   tells TraceFailed (`untraced_fault`).
-//! - The trace of a `SimBus` has failed exactly where TraceFailed was told, whatever was called on it, so each
-//!   TraceFailed is of a write that failed in that call (`trace_fault`, `into_writer`).
+//!   tells Failed (`untraced_fault`).
+//! - The trace of a `SimBus` has failed exactly where Failed was told, whatever was called on it, so each
+//!   Failed is of a write that failed in that call (`trace_fault`, `into_writer`).
 //! - A plug is one line of the trace, whatever its device's name holds (`plug_is_one_line`): the name is shown as
 //!   `shown_name` (`usb_bus/specs/Shown.antt`).
 #![tactic(auto)]

@@ -13,7 +13,7 @@ ghost use Rattle.usb_world.specs.SaneProofs.{Consistent-prop, IsSpec-prop, all_p
 ghost use Rattle.usb_world.specs.Steps.{opening};
 ghost use Rattle.usb_bus.specs.Lines.{shown_names};
 ghost use Rattle.usb_bus.specs.Watch.{has_failed, tells_failure};
-ghost use Rattle.usb_world.specs.declared.types.BusFault.TheVariants.{LimitReached};
+ghost use Rattle.usb_world.specs.declared.types.BusFault.TheVariants.{Limit};
 
 mod bus;
 mod descriptions;
@@ -35,7 +35,7 @@ use usb_world::{BusFault, Exchange, Losses, event_copies};
 /// where the bus is `Tracer`.
 ///
 /// After a fault every later attempt, event and line of report tells the same fault again and changes nothing. Its
-/// trace has failed exactly where `TraceFailed` was told; so that is never told of a bus that is `Untraced`.
+/// trace has failed exactly where `Failed` was told; so that is never told of a bus that is `Untraced`.
 #[derive(Debug, Drop)]
 pub struct SimBus<T: Trace> {
     alloc: Global,
@@ -74,7 +74,7 @@ pub struct SimBus<T: Trace> {
     ghost few_attempts: { limit ≤ attempt_most },
     ghost few_damages: { length damages.items ≤ damage_most },
     ghost lost: { AreOfDamages attempts damages.items losses },
-    ghost at_limit: { fault ≡ Some LimitReached → attempts ≡ limit },
+    ghost at_limit: { fault ≡ Some Limit → attempts ≡ limit },
     ghost marked: { T.failed tracer ≡ tells_failure fault },
     ghost named: { names.items ≡ shown_names devices },
     ghost indexed: { IsIndexOf holders roots },

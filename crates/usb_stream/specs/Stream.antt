@@ -242,14 +242,14 @@ pub record GivesAs (q : Question) (most : ℕ) (s : StreamTexts) (old : Kept) (o
   pub asked : AskedWell q s old got new
   pub is : outcome ≡ outcome_for most got
 
--- what a fault is to a host: the limit is reached, or the bus makes no more steps
+-- what a fault is to a host: the limit is reached, or else the bus itself failed
 abbrev pub bus_fault : LiveFault → BusFault
-bus_fault fault.Read = bus.TraceFailed
-bus_fault (fault.Line f) = bus.TraceFailed
-bus_fault fault.TooManyPushes = bus.TraceFailed
-bus_fault fault.Gone = bus.TraceFailed
-bus_fault fault.Write = bus.TraceFailed
-bus_fault fault.LimitReached = bus.LimitReached
+bus_fault fault.Read = bus.Failed
+bus_fault (fault.Line f) = bus.Failed
+bus_fault fault.TooManyPushes = bus.Failed
+bus_fault fault.Gone = bus.Failed
+bus_fault fault.Write = bus.Failed
+bus_fault fault.LimitReached = bus.Limit
 
 -- an attempt was asked for, and a fault is kept, which is told as it is to a host
 pub record FailsByLine (q : Question) (s : StreamTexts) (old : Kept) (told : BusFault)

@@ -66,7 +66,7 @@ impl<R: Read, W: Write> Bus for StreamBus<R, W> {
     /// Makes one attempt. Setup data that are not 8 bytes in DATA0 have no line, and no answer comes.
     ///
     /// # Errors
-    /// LimitReached where no more questions are left, TraceFailed at any other fault.
+    /// Limit where no more questions are left, Failed at any other fault.
     fn attempt(&mut self, attempt: &Attempt) -> Result<Outcome, BusFault>
         requires { IsAttempt attempt.now }
         ensures again { (f : AFault) → (kept_of self.old).fault ≡ Some f

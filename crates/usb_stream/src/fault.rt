@@ -29,16 +29,16 @@ pub enum LiveFault {
     LimitReached,
 }
 
-/// What the fault is to a host: it asks only whether the limit is reached.
+/// What the fault is to a host: the limit is reached, or else the bus itself failed.
 pub(crate) fn bus_fault(fault: LiveFault) -> BusFault
     ensures { result ≡ bus_fault fault }
 {
     match fault {
-        LiveFault::LimitReached => BusFault::LimitReached,
+        LiveFault::LimitReached => BusFault::Limit,
         LiveFault::Read
         | LiveFault::Line(_)
         | LiveFault::TooManyPushes
         | LiveFault::Gone
-        | LiveFault::Write => BusFault::TraceFailed,
+        | LiveFault::Write => BusFault::Failed,
     }
 }

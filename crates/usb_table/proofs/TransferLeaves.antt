@@ -5,7 +5,7 @@ use Rattle.std.proofs.Common.{Err, IfErr}
 use Rattle.std.proofs.lemmas.Grind.{common_steps}
 use Rattle.std.specs.Global.{Vec}
 use Rattle.std.specs.Int.{div_ceil}
-use Rattle.usb_world.specs.{BusFault, World, Failed, AttemptsWithin}
+use Rattle.usb_world.specs.{BusFault, World, HasFault, AttemptsWithin}
 use Rattle.usb_world.proofs.Interface.{course_joined, each_joined, spends_none, spends_wider}
 use Rattle.usb_bus.specs.{Traced}
 use Rattle.usb_transaction.specs.{transaction_bound}
@@ -58,7 +58,7 @@ idle_transfer_leaves n found pipes old result new fault e same = record {
 -- The fault that is told
 
 pipe_told : (why : PipeFault) (w : World)
-    → ((fault : BusFault) → why ≡ pipe_fault.Bus fault → Failed fault w)
+    → ((fault : BusFault) → why ≡ pipe_fault.Bus fault → HasFault fault w)
     → TableFaultAllowed (of_pipe why) w
 pipe_told (pipe_fault.Bus fault) w told = told fault refl
 pipe_told _ w told = tt
@@ -190,7 +190,7 @@ no_bus_told : (result : Result (Unit {0}) TableFault) (w : World)
     → IfErr result (λ fault. TableFaultAllowed fault w) → w.fault ≡ None
     → (why : BusFault) → result ≢ Err (table_fault.Bus why)
 no_bus_told result w told sound why e =
-    let failed : Failed why w = rw e at told in
+    let failed : HasFault why w = rw e at told in
     let is = failed.told in
     absurd (cc (is, sound))
 

@@ -5,7 +5,7 @@ use Rattle.std.specs.Prelude.{Some, None, is_some, Result, Ok, Err, IfSome, Matc
 use Rattle.std.specs.Global.{Vec}
 use Rattle.std.specs.Int.{div_ceil}
 use Rattle.arrayvec.specs.ArrayVec.{ArrayVec}
-use Rattle.usb_world.specs.{EachWas, World, AttemptsWithin, Failed}
+use Rattle.usb_world.specs.{EachWas, World, AttemptsWithin, HasFault}
 use Rattle.usb_tree.specs.{IsSettled}
 use Rattle.usb_transaction.specs.{AttemptsMade, transaction_bound}
 use Rattle.usb_pipe.specs.{FaultAfter, write_bound, Bulk, Sends, Receives, Clears, Interrupt, Polls}
@@ -46,7 +46,7 @@ NotTried fault pipe old result left new =
 -- the bus tells its fault
 abbrev pub TableFaultAllowed : TableFault → World → Type 0
 TableFaultAllowed (Transfer fault) w = ⊤
-TableFaultAllowed (Bus fault) w = Failed fault w
+TableFaultAllowed (Bus fault) w = HasFault fault w
 TableFaultAllowed Memory w = ⊤
 
 -- a packet that came took an attempt, and so did each fault but the bus's own

@@ -2,7 +2,7 @@
 use Rattle.std.specs.Prelude.{◌≡◌, ℕ, ◌+◌, ◌<◌, ◌≤◌, List, Some, None, true, Result, Ok, Err}
 use Rattle.arrayvec.specs.ArrayVec.{ArrayVec}
 use Rattle.usb_packet.specs.{Toggle, Zero, OutTok, InTok, SetupTok}
-use Rattle.usb_world.specs.{Attempt, World, Failed}
+use Rattle.usb_world.specs.{Attempt, World, HasFault}
 use Rattle.usb_transaction.specs.declared.target.Target.{Target}
 use Rattle.usb_transaction.specs.declared.fault.TransFault.{TransFault}
 use Rattle.usb_transaction.specs.declared.fault.TransFault.TheVariants.{Stalled, Busy, NoAnswer}
@@ -75,7 +75,7 @@ Ends old (Ok done) new = AttemptsMade 1 old new
 Ends old (Err Stalled) new = AttemptsMade 1 old new
 Ends old (Err Busy) new = AttemptsMade wait_limit old new
 Ends old (Err NoAnswer) new = AttemptsMade error_limit old new
-Ends old (Err (Bus fault)) new = Failed fault new
+Ends old (Err (Bus fault)) new = HasFault fault new
 
 -- SETUP is never stalled, and never waits
 abbrev pub SetupEnds : World → Result (List ℕ) TransFault → World → Type 0
@@ -83,4 +83,4 @@ SetupEnds old (Ok done) new = AttemptsMade 1 old new
 SetupEnds old (Err Stalled) new = ⊥
 SetupEnds old (Err Busy) new = ⊥
 SetupEnds old (Err NoAnswer) new = AttemptsMade error_limit old new
-SetupEnds old (Err (Bus fault)) new = Failed fault new
+SetupEnds old (Err (Bus fault)) new = HasFault fault new

@@ -22,8 +22,8 @@ pub mod RestingPorts
 pub mod Silence
 pub mod HostSides
 -- the words of this crate, wherever one stands
-pub use Worlds.{AnswerFits, AttemptEnds, Attempted, AttemptsWithin, Failed, FitsMaximum, IsAttempt}
-pub use Worlds.{IsRootPort, Made, World, root_row, roots_of, sends_data, to_come}
+pub use Worlds.{AnswerFits, AttemptEnds, Attempted, AttemptsWithin, FitsMaximum, HasFault}
+pub use Worlds.{IsAttempt, IsRootPort, Made, World, root_row, roots_of, sends_data, to_come}
 unfoldable pub use Worlds.{change_of, changes, root_port_at}
 pub use PluggedDevices.{PluggedMap, device_indexed, has_port, hub_ports, index_at, is_rooted}
 pub use PluggedDevices.{plugged_after}
@@ -85,7 +85,7 @@ pub use declared.exchange.Exchange.{Exchange}
 pub use declared.exchange.ExchangeAnswer.{ExchangeAnswer}
 pub use declared.types.Attempt.{Attempt}
 pub use declared.types.BusFault.{BusFault}
-pub use declared.types.BusFault.TheVariants.{LimitReached, Memory, TraceFailed}
+pub use declared.types.BusFault.TheVariants.{Failed, Limit, Memory}
 pub use declared.types.Outcome.{Outcome}
 pub use declared.wire.Mark.{Mark}
 pub use declared.wire.Mark.TheVariants.{Flipped, Lost, PreLost, Whole}

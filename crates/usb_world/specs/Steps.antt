@@ -15,7 +15,7 @@ use Rattle.usb_world.specs.declared.exchange.Exchange.{Exchange}
 use Rattle.usb_world.specs.declared.types.Attempt.{Attempt}
 use Rattle.usb_world.specs.declared.types.Outcome.{Outcome}
 use Rattle.usb_world.specs.declared.types.BusFault.{BusFault}
-use Rattle.usb_world.specs.declared.types.BusFault.TheVariants.{LimitReached, Memory, TraceFailed}
+use Rattle.usb_world.specs.declared.types.BusFault.TheVariants.{Limit, Memory, Failed}
 use Rattle.usb_world.specs.Wire.{damage_of}
 use Rattle.usb_world.specs.Exchanges.{heard_in, mark_in, lost_in, cleared_in, exchange_in, ports_in}
 use Rattle.usb_world.specs.Exchanges.{outcome_of, token_out, payload_out}
@@ -23,7 +23,7 @@ use Rattle.usb_world.specs.Losses.{no_losses, counted, after_clearing}
 use Rattle.usb_tree.specs.{is_way, IsSettled, after_sent}
 use Rattle.usb_world.specs.SanePorts.{Consistent}
 use Rattle.usb_world.specs.Plans.{PlanData}
-use Rattle.usb_world.specs.Worlds.{World, root_row, root_port_at, to_come, AttemptsWithin, Failed}
+use Rattle.usb_world.specs.Worlds.{World, root_row, root_port_at, to_come, AttemptsWithin, HasFault}
 
 -- Events
 
@@ -128,7 +128,7 @@ pub data Step : Type 0 where
 
 abbrev pub attempted : Attempt → Option BusFault → World → World
 attempted a (Some f) w = w
-attempted a None w = if w.attempts == w.limit then record w { fault = Some LimitReached }
+attempted a None w = if w.attempts == w.limit then record w { fault = Some Limit }
     else with_attempt a (at_attempt w)
 
 abbrev pub event_taken : Option BusFault → World → World
@@ -172,7 +172,7 @@ pub data Left (a : Attempt) (old : World) (f : BusFault) (new : World) : Type 0 
             (at_attempt old).shared || repeats (held_addresses (at_attempt old).roots);
       }
       → Left a old f new
-  at_line : f ≡ TraceFailed → new ≡ with_attempt a (at_attempt old) → Left a old f new
+  at_line : f ≡ Failed → new ≡ with_attempt a (at_attempt old) → Left a old f new
 
 -- an attempt within the limit that the bus gave up
 pub record GaveUp (a : Attempt) (old : World) (f : BusFault) (new : World) : Type 0 where
@@ -183,9 +183,9 @@ pub record GaveUp (a : Attempt) (old : World) (f : BusFault) (new : World) : Typ
 
 abbrev pub AttemptFails : Attempt → World → Result Outcome BusFault → World → Type 0
 AttemptFails a old (Ok outcome) new = ⊤
-AttemptFails a old (Err LimitReached) new = new ≡ after (attempt a) old
+AttemptFails a old (Err Limit) new = new ≡ after (attempt a) old
 AttemptFails a old (Err Memory) new = GaveUp a old Memory new
-AttemptFails a old (Err TraceFailed) new = GaveUp a old TraceFailed new
+AttemptFails a old (Err Failed) new = GaveUp a old Failed new
 
 -- a course of steps each of which has K where it stands
 pub data Course (K : Step → World → Type 0) : World → World → Type 0 where
@@ -249,7 +249,7 @@ pub record NoneLeft (old new : World) : Type 0 where
 abbrev pub EventEnds : World → Result (Option (Option Asked)) BusFault → World → Type 0
 EventEnds old (Ok None) new = NoneLeft old new
 EventEnds old (Ok (Some asked)) new = EventCame old new
-EventEnds old (Err fault) new = Failed fault new
+EventEnds old (Err fault) new = HasFault fault new
 
 -- an event step: no attempt is made
 pub record TookEvent (old : World) (result : Result (Option (Option Asked)) BusFault)
@@ -265,6 +265,6 @@ LineEnds old (Err fault) new = new ≡ record old { fault = Some fault }
 -- a report step changes nothing but the fault, and tells of itself only that the line was not
 -- written
 pub record PutLine (old : World) (result : Result (Unit {0}) BusFault) (new : World) : Type 0 where
-  pub told : old.fault ≡ None → IfErr result (λ f. f ≡ TraceFailed)
+  pub told : old.fault ≡ None → IfErr result (λ f. f ≡ Failed)
   pub ends : LineEnds old result new
   pub again : (fault : BusFault) → old.fault ≡ Some fault → (result ≡ Err fault) × (new ≡ old)

@@ -13,7 +13,7 @@ use Rattle.usb_world.specs.declared.types.Attempt.{Attempt}
 use Rattle.usb_world.specs.declared.types.Outcome.{Outcome}
 use Rattle.usb_world.specs.declared.types.Outcome.TheVariants.{Payload, Ack, Nak, Stall, Nothing}
 use Rattle.usb_world.specs.declared.types.BusFault.{BusFault}
-use Rattle.usb_world.specs.declared.types.BusFault.TheVariants.{LimitReached}
+use Rattle.usb_world.specs.declared.types.BusFault.TheVariants.{Limit}
 
 pub record World : Type 0 where
   pub roots : Ports
@@ -87,13 +87,13 @@ pub record Made (old new : World) : Type 0 where
   pub one : new.attempts ≡ old.attempts + 1
   pub still : new.fault ≡ None
 
-pub record Failed (fault : BusFault) (new : World) : Type 0 where
+pub record HasFault (fault : BusFault) (new : World) : Type 0 where
   pub told : new.fault ≡ Some fault
-  pub at_limit : fault ≡ LimitReached → new.attempts ≡ new.limit
+  pub at_limit : fault ≡ Limit → new.attempts ≡ new.limit
 
 abbrev pub AttemptEnds : World → Result Outcome BusFault → World → Type 0
 AttemptEnds old (Ok outcome) new = Made old new
-AttemptEnds old (Err fault) new = Failed fault new
+AttemptEnds old (Err fault) new = HasFault fault new
 
 -- data that came are at most the endpoint's maximum
 abbrev pub FitsMaximum : ℕ → Outcome → Type 0

@@ -46,13 +46,14 @@ pub enum Outcome {
 pub enum BusFault {
     /// The attempts made equal the limit.
     #[error("limit reached")]
-    LimitReached,
+    Limit,
     /// Memory was refused.
     #[error("out of memory")]
     Memory,
-    /// The trace's writer failed.
+    /// The bus itself failed: the trace's writer of a simulated one, the far end of one behind two pipes, the
+    /// controller of a real one.
     #[error("trace failed")]
-    TraceFailed,
+    Failed,
 }
 
 impl From<AllocError> for BusFault {

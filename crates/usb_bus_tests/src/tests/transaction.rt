@@ -196,7 +196,7 @@ fn faults_as_printed(rt: HostRuntime) -> Result<(), Fail> {
         (TransFault::Stalled, "stalled"),
         (TransFault::Busy, "busy"),
         (TransFault::NoAnswer, "no answer"),
-        (TransFault::Bus(BusFault::LimitReached), "limit reached"),
+        (TransFault::Bus(BusFault::Limit), "limit reached"),
     ];
     for (fault, text) in rows {
         assert_eq!(rt; format!(in rt.alloc(); "{fault}")?.as_str(), text);

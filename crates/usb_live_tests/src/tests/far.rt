@@ -298,7 +298,7 @@ const ROWS: &[Row] = &[
         host: "usbplan live 1\nIN 1.0 8\nIN 1.0 8\nIN 1.0 8\nIN 1.0 8\nIN 1.0 8\nIN 1.0 8\nIN 1.0 8\n\
                IN 1.0 8\nIN 1.0 8\nwait\n",
         far: "roots 2\nnone\nnone\nnone\nnone\nnone\nnone\nnone\nnone\n",
-        ended: Err((10, FarFault::Bus(BusFault::LimitReached))),
+        ended: Err((10, FarFault::Bus(BusFault::Limit))),
     },
 ];
 

@@ -2,7 +2,7 @@
 use Rattle.std.proofs.Common.{◌≡◌, refl, sym, ap, subst, false, ℕ, List, Option, None, Some, Result}
 use Rattle.std.proofs.Common.{Err, OnOk, IsSome, is_some}
 use Rattle.usb_world.specs.declared.event.Ask.{Ask}
-use Rattle.usb_world.specs.{BusFault, LimitReached, Memory, TraceFailed, PlanData, TookEvent, after}
+use Rattle.usb_world.specs.{BusFault, Limit, Memory, Failed, PlanData, TookEvent, after}
 use Rattle.usb_world.specs.{event, opening, World}
 use Rattle.usb_address.specs.{MapHolds, WhileBusWorks}
 use Rattle.usb_address.proofs.Interface.{event_keeps, opening_reach, opening_settled}
@@ -17,9 +17,9 @@ pub owning_event : (h : HostState) (mid v : World) (t : Option (List ℕ))
     (result : Result (Option (Option Ask)) BusFault) → mid ≡ h.world → h.stopped ≡ false
     → TookEvent mid result v → OnOk result (v ≡ after event mid)
     → (result ≡ Err Memory → mid.fault ≡ None → v ≡ record mid { fault = Some Memory })
-    → (result ≡ Err TraceFailed → mid.fault ≡ None
-    → v ≡ record (after event mid) { fault = Some TraceFailed })
-    → (result ≡ Err LimitReached → IsSome mid.fault) → HostMapHolds h
+    → (result ≡ Err Failed → mid.fault ≡ None
+    → v ≡ record (after event mid) { fault = Some Failed })
+    → (result ≡ Err Limit → IsSome mid.fault) → HostMapHolds h
     → HostMapHolds (record h { world = v; trace = t })
 owning_event h mid v t result same running took exact refused cut limit o =
     let before : WhileBusWorks (MapHolds (claims h.entries)) mid =

@@ -17,13 +17,13 @@ at_fault P (Err e) said is p = subst (λ x. P (Err x)) (sym is) p
 
 -- no fault of a trace is told where the bus told none
 pub untold_fault : {A : Type 0} (result : Result A RunFault) (w : World)
-    → IfErr result (λ fault. IsCaused fault w) → w.fault ≢ Some bus.TraceFailed
+    → IfErr result (λ fault. IsCaused fault w) → w.fault ≢ Some bus.Failed
     → IfErr result (λ fault. fault ≢ TraceFailed)
 untold_fault (Ok done) w caused other = tt
 untold_fault (Err fault) w caused other = λ is. other (subst (λ f. IsCaused f w) is caused)
 
 pub untold_trace : {A : Type 0} (result : Result A RunFault) (w : World)
-    → IfErr result (λ fault. IsCaused fault w) → w.fault ≢ Some bus.TraceFailed
+    → IfErr result (λ fault. IsCaused fault w) → w.fault ≢ Some bus.Failed
     → result ≢ Err TraceFailed
 untold_trace {A} result w caused other is =
     subst (λ (r : Result A RunFault). IfErr r (λ fault. fault ≢ TraceFailed)) is

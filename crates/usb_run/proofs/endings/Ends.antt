@@ -3,8 +3,8 @@ use Rattle.std.proofs.Common.{◌≡◌, ◌∙◌, refl, sym, ap, ap₂, subst,
 use Rattle.std.proofs.Common.{Option, Result, Err, false, All, IfErr}
 use Rattle.std.proofs.lemmas.List.Elements.{All-cons, All-nil}
 use Rattle.usb_device.specs.{new_ports, row_of}
-use Rattle.usb_world.specs.{PlanData, IsPlan, AtPorts, opening, BusFault, LimitReached, Memory}
-use Rattle.usb_world.specs.{TraceFailed, World, Failed}
+use Rattle.usb_world.specs.{PlanData, IsPlan, AtPorts, opening, BusFault, Limit, Memory}
+use Rattle.usb_world.specs.{Failed, World, HasFault}
 use Rattle.usb_enum.proofs.Interface.{opening_in_order}
 use Rattle.usb_host.specs.{HostState, opening_host as host_opening, IsUntouched, HostInvariant}
 use Rattle.usb_host.specs.{IsUnpowered, RefusalsJustified, HostFault, RoundFaultAllowed}
@@ -18,11 +18,11 @@ use Rattle.usb_run.proofs.courses.RunParts.{round_running}
 use Rattle.usb_run.proofs.courses.Ownership.{untouched}
 
 -- a fault that a bus told has its cause
-pub failed_is_caused : (fault : BusFault) (w : World) → Failed fault w
+pub failed_is_caused : (fault : BusFault) (w : World) → HasFault fault w
     → IsCaused (run_fault fault) w
-failed_is_caused LimitReached w failed = (failed.at_limit refl, failed.told)
+failed_is_caused Limit w failed = (failed.at_limit refl, failed.told)
 failed_is_caused Memory w failed = tt
-failed_is_caused TraceFailed w failed = failed.told
+failed_is_caused Failed w failed = failed.told
 
 -- and so has that of a round
 pub round_caused : (why : HostFault) (w : World) → RoundFaultAllowed why w

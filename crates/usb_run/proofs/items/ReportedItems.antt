@@ -154,7 +154,7 @@ runs_opened plan before over h k result opens at_work finishes single untraced =
 pub ends_untraced : (plan : PlanData) (before : Option (List ℕ)) (over : Bool) (h k : HostState)
     (result : Result Report RunFault) → Opens plan before h → over ≡ false
     → Finishes over h result k → k.world.shared ≡ false
-    → k.world.fault ≢ Some bus.TraceFailed → EndsWell plan result
+    → k.world.fault ≢ Some bus.Failed → EndsWell plan result
 ends_untraced plan before over h k result opens at_work finishes single other =
     inr (runs_opened plan before over h k result opens at_work finishes single
     (untold_trace result k.world finishes.caused other))

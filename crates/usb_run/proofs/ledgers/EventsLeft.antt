@@ -4,7 +4,7 @@ use Rattle.std.proofs.Common.{Option, None, Some, refl, sym, subst, arith}
 use Rattle.std.specs.List.{sum_by}
 use Rattle.std.proofs.lemmas.List.Elements.{All-tail}
 use Rattle.std.proofs.lemmas.List.Sums.{sum_by-cons}
-use Rattle.usb_world.specs.{Event, Attempt, BusFault, LimitReached, AtPorts, PlugsAtPort, AnyStep}
+use Rattle.usb_world.specs.{Event, Attempt, BusFault, Limit, AtPorts, PlugsAtPort, AnyStep}
 use Rattle.usb_world.specs.{Course, Step, here, step, attempt, root_call, event, report, after}
 use Rattle.usb_world.specs.{attempted, after_due_events, event_taken, is_due, at_attempt}
 use Rattle.usb_world.specs.{after_event, after_first_event, with_attempt, World}
@@ -37,7 +37,7 @@ module _ (P : List Event → Type 0) (tail : (e : Event) (events : List Event) �
   left_attempt a (Some f) w h = h
   left_attempt a None w h = split (w.attempts == w.limit)
     where
-      split : (b : Bool) → P (if b then record w { fault = Some LimitReached } else with_attempt a
+      split : (b : Bool) → P (if b then record w { fault = Some Limit } else with_attempt a
           (at_attempt w)).left
       split true = h
       split false = left_due w.left w refl h

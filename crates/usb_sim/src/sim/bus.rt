@@ -7,7 +7,7 @@ ghost use Rattle.usb_port.specs.Calls.{IsSetFeature, IsClearFeature};
 ghost use Rattle.usb_world.specs.Worlds.{Attempted, IsAttempt, IsRootPort};
 ghost use Rattle.usb_world.specs.Steps.{AttemptFails, SetsRoot, ClearsRoot, after, root_call};
 ghost use Rattle.usb_bus.specs.Traces.{Attempts};
-ghost use Rattle.usb_world.specs.declared.types.BusFault.TheVariants.{TraceFailed};
+ghost use Rattle.usb_world.specs.declared.types.BusFault.TheVariants.{Failed};
 
 use super::SimBus;
 use crate::Trace;
@@ -30,7 +30,7 @@ impl<T: Trace> Bus for SimBus<T> {
         requires { IsAttempt attempt.now }
         ensures attempts { Attempts attempt.now (world_of self.old) (trace_of self.old) result
             (world_of self.new) (trace_of self.new) }
-        ensures trace { result ≡ Err TraceFailed → (world_of self.old).fault ≡ None
+        ensures trace { result ≡ Err Failed → (world_of self.old).fault ≡ None
             → T.failed (tracer_of self.new) ≡ true }
         ensures refuses { RefusesAttempt attempt.now self.old result self.new }
     {
@@ -38,8 +38,8 @@ impl<T: Trace> Bus for SimBus<T> {
             return Err(fault);
         }
         if self.attempts == self.limit {
-            self.fault = Some(BusFault::LimitReached);
-            return Err(BusFault::LimitReached);
+            self.fault = Some(BusFault::Limit);
+            return Err(BusFault::Limit);
         }
         self.make_attempt(attempt)
     }
@@ -95,7 +95,7 @@ impl<T: Trace> SimBus<T> {
         requires within { (world_of self.old).attempts < (world_of self.old).limit }
         ensures made { AttemptMade attempt.now (world_of self.old) (trace_of self.old) result
             (world_of self.new) (trace_of self.new) }
-        ensures trace { result ≡ Err TraceFailed → T.failed (tracer_of self.new) ≡ true }
+        ensures trace { result ≡ Err Failed → T.failed (tracer_of self.new) ≡ true }
     {
         self.take_due_events()?;
         self.shared |= self.holders.is_shared();
@@ -111,7 +111,7 @@ impl<T: Trace> SimBus<T> {
             &mut self.exchange,
         )?;
         // All went: only the line can fail.
-        self.fault = Some(BusFault::TraceFailed);
+        self.fault = Some(BusFault::Failed);
         self.attempts += 1;
         self.losses = self
             .losses

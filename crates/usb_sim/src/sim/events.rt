@@ -9,7 +9,7 @@ ghost use Rattle.usb_bus.specs.Lines.{event_line};
 ghost use Rattle.usb_bus.specs.Trace.{plug_line, unplug_line};
 ghost use Rattle.usb_bus.specs.Traces.{TakesEvent};
 ghost use Rattle.usb_bus.specs.Watch.{PutsText};
-ghost use Rattle.usb_world.specs.declared.types.BusFault.TheVariants.{Memory, TraceFailed};
+ghost use Rattle.usb_world.specs.declared.types.BusFault.TheVariants.{Memory, Failed};
 
 use super::SimBus;
 use super::descriptions::Descriptions;
@@ -32,11 +32,11 @@ impl<T: Trace> SimBus<T> {
     /// # Errors
     ///
     /// The fault that was told before; `Memory` where the device could not be made, and the event did not
-    /// come; `TraceFailed` where the writer failed in this call, and the event came.
+    /// come; `Failed` where the writer failed in this call, and the event came.
     pub fn apply_next_event(&mut self) -> Result<Option<Option<Ask>>, BusFault>
         ensures takes { TakesEvent (world_of self.old) (trace_of self.old) result
             (world_of self.new) (trace_of self.new) }
-        ensures trace { result ≡ Err TraceFailed → (world_of self.old).fault ≡ None
+        ensures trace { result ≡ Err Failed → (world_of self.old).fault ≡ None
             → T.failed (tracer_of self.new) ≡ true }
         ensures kept { result ≡ Err Memory → tracer_of self.new ≡ tracer_of self.old }
         ensures again { IsSome (world_of self.old).fault → self.new ≡ self.old }
@@ -52,7 +52,7 @@ impl<T: Trace> SimBus<T> {
         requires sound { (world_of self.old).fault ≡ None }
         ensures came { EventsCame (world_of self.old) (trace_of self.old) result
             (world_of self.new) (trace_of self.new) }
-        ensures trace { result ≡ Err TraceFailed → T.failed (tracer_of self.new) ≡ true }
+        ensures trace { result ≡ Err Failed → T.failed (tracer_of self.new) ≡ true }
     {
         'due: while self.is_due() {
             let _ = self.take_event()?;
@@ -83,7 +83,7 @@ impl<T: Trace> SimBus<T> {
         ensures fewer { 0 < to_come (world_of self.old)
             → OnOk result (to_come (world_of self.new) < to_come (world_of self.old)) }
         ensures kept { result ≡ Err Memory → tracer_of self.new ≡ tracer_of self.old }
-        ensures trace { result ≡ Err TraceFailed → T.failed (tracer_of self.new) ≡ true }
+        ensures trace { result ≡ Err Failed → T.failed (tracer_of self.new) ≡ true }
     {
         let Some(event) = self.left.front() else {
             return Ok(None);
@@ -100,7 +100,7 @@ impl<T: Trace> SimBus<T> {
         self.taken += 1;
         self.attempts_then = self.attempts;
         // The event came: only its line can fail.
-        self.fault = Some(BusFault::TraceFailed);
+        self.fault = Some(BusFault::Failed);
         put_action(&mut self.tracer, &self.names, &event.action)?;
         self.fault = None;
         Ok(Some(event.action.into_ask()))

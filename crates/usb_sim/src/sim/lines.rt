@@ -15,7 +15,7 @@ impl<T: Trace> SimBus<T> {
     ///
     /// # Errors
     ///
-    /// The fault that was told before, and then nothing is written; `TraceFailed` where the writer failed
+    /// The fault that was told before, and then nothing is written; `Failed` where the writer failed
     /// in this call, and then a front of the line was written.
     pub fn put_line(&mut self, line: &[u8]) -> Result<(), BusFault>
         ensures step { PutLine (world_of self.old) result (world_of self.new) }
@@ -31,8 +31,8 @@ impl<T: Trace> SimBus<T> {
             return Err(fault);
         }
         if self.tracer.put_pieces(&[line, b"\n"]).is_err() {
-            self.fault = Some(BusFault::TraceFailed);
-            return Err(BusFault::TraceFailed);
+            self.fault = Some(BusFault::Failed);
+            return Err(BusFault::Failed);
         }
         Ok(())
     }

@@ -14,7 +14,7 @@ use Rattle.usb_device.specs.{outcome, State, with_endpoint_state, begun, accepte
 use Rattle.usb_device.specs.{first_stage, ending, Location, reach_on, state_on}
 use Rattle.usb_world.specs.{Attempt, BusFault, is_setup, EachWas, DidIn, DidOut, IsMade, IsIn}
 use Rattle.usb_world.specs.{IsOut, asks_no_port, LeavesPortAlone, Step, attempt, after}
-use Rattle.usb_world.specs.{with_attempt, Course, here, step, World, Failed}
+use Rattle.usb_world.specs.{with_attempt, Course, here, step, World, HasFault}
 use Rattle.usb_tree.specs.{IsSettled}
 use Rattle.usb_world.proofs.Interface.{AttemptCut, MadeOrNot, attempt_cases, cut_or_same}
 use Rattle.usb_world.proofs.Interface.{data_asks_nothing, each_in, each_joined, each_none, each_out}
@@ -262,7 +262,7 @@ polls_only pipe far old result left new settled x =
 pub record PipeKeeps {A : Type 0} (old : World) (answer : Result A PipeFault) (new : World)
     : Type 0 where
   pub worlds : OnlyTransfers old new
-  pub told : (fault : BusFault) → answer ≡ Err (pipe_fault.Bus fault) → Failed fault new
+  pub told : (fault : BusFault) → answer ≡ Err (pipe_fault.Bus fault) → HasFault fault new
 
 module _ (bytes : List ℕ) (pipe : Bulk) (far : pipe.ep ≢ 0) (old : World)
     (answer : Result (Unit {0}) PipeFault) (left : Bulk) (new : World)
@@ -408,7 +408,7 @@ cleared_keeps_settings pipe old result left new x = record {
 
 clears_told : (pipe : Bulk) (old : World) (answer : Result (Unit {0}) PipeFault) (left : Bulk)
     (new : World) → Clears pipe old answer left new → (fault : BusFault)
-    → answer ≡ Err (pipe_fault.Bus fault) → Failed fault new
+    → answer ≡ Err (pipe_fault.Bus fault) → HasFault fault new
 clears_told pipe old (Ok done) left new x fault e = absurd (cc e)
 clears_told pipe old (Err why) left new x fault e = elim (ready_or_not pipe.condition) [
   | inl ready ↦ let is = (x.ready ready).answer in absurd (cc is)

@@ -3,7 +3,7 @@
 use Rattle.std.proofs.Common.{arith, ◌≡◌, ◌≢◌, ℕ, ◌||◌, List, false, None, Err, refl, sym, subst}
 use Rattle.std.proofs.Common.{ap, ◌∙◌}
 use Rattle.usb_device.specs.{held_addresses, repeats, Ports, path_to}
-use Rattle.usb_world.specs.{Attempt, BusFault, LimitReached, Memory, TraceFailed, IsMade, World}
+use Rattle.usb_world.specs.{Attempt, BusFault, Limit, Memory, Failed, IsMade, World}
 use Rattle.usb_world.specs.{IsAttempt, Attempted, Relation, EachWas, at_attempt, damage_in}
 use Rattle.usb_world.specs.{with_attempt, attempt, after, Left, at_event, at_packet, at_line}
 use Rattle.usb_world.specs.{GaveUp, AttemptFails}
@@ -86,10 +86,10 @@ module _ (a : Attempt) (w : World) (fits : IsAttempt a) (sound : w.fault ≡ Non
 
   pub cut_attempt : (f : BusFault) (v : World) → AttemptFails a w (Err f) v → v.shared ≡ false
       → AttemptCut a w v
-  cut_attempt LimitReached v e single =
+  cut_attempt Limit v e single =
       subst (AttemptCut a w) (sym e) (limit_cut (ap (λ y. y.shared) (sym e) ∙ single))
   cut_attempt Memory v g single = gave_up_cut Memory v g single
-  cut_attempt TraceFailed v g single = gave_up_cut TraceFailed v g single
+  cut_attempt Failed v g single = gave_up_cut Failed v g single
 
 -- the bus that had given up before changes nothing
 pub cut_or_same : (a : Attempt) (w : World) (f : BusFault) (v : World) → IsAttempt a

@@ -2,7 +2,7 @@
 use Rattle.std.proofs.Common.{arith, ◌≡◌, ℕ, true, false, List, Option, None, Result, Err, OnOk}
 use Rattle.std.proofs.Common.{sym, subst, ap, ◌∙◌, All}
 use Rattle.usb_device.specs.{IsSpec, Ports, reach}
-use Rattle.usb_world.specs.{Attempt, BusFault, LimitReached, Memory, Outcome, Consistent, World}
+use Rattle.usb_world.specs.{Attempt, BusFault, Limit, Memory, Outcome, Consistent, World}
 use Rattle.usb_world.specs.{IsAttempt, Attempted, address_at, HoldsMapped, Injective, AnyStep}
 use Rattle.usb_world.specs.{WorldInvariant, after, at_attempt, damage_in, with_attempt, Left}
 use Rattle.usb_world.specs.{at_event, at_packet, at_line, GaveUp, AttemptFails, attempt, IsCut}
@@ -71,7 +71,7 @@ refused_sane a w v is sound settled g r h =
 
 pub limit_told : (a : Attempt) (w v : World) (r : Result Outcome BusFault) → Attempted a w r v
     → OnOk r (v ≡ after (attempt a) w) → AttemptFails a w r v
-    → w.fault ≡ None → w.attempts ≡ w.limit → r ≡ Err LimitReached
+    → w.fault ≡ None → w.attempts ≡ w.limit → r ≡ Err Limit
 limit_told a w v r made exact fails sound e = grind arith
 
 -- An attempt that the bus gave up sets no mark

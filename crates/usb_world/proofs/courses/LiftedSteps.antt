@@ -3,7 +3,7 @@ use Rattle.std.proofs.Common.{arith, ◌≡◌, ◌⊎◌, inl, inr, ℕ, ◌&&�
 use Rattle.std.proofs.Common.{List, [], ◌∷◌, Option, None, Some, is_some, slice_get, refl}
 use Rattle.usb_port.specs.{PortCall, is_clearing}
 use Rattle.usb_device.specs.{Spec, Ports, called, replaced, changed}
-use Rattle.usb_world.specs.{Action, Plug, Unplug, Event, Attempt, BusFault, LimitReached, is_made}
+use Rattle.usb_world.specs.{Action, Plug, Unplug, Event, Attempt, BusFault, Limit, is_made}
 use Rattle.usb_world.specs.{after_clearing, with_plugged, after_change, way_of, names_path, is_due}
 use Rattle.usb_world.specs.{after_event, after_first_event, after_due_events, at_attempt}
 use Rattle.usb_world.specs.{with_attempt, event_taken, Step, attempt, root_call, event, after}
@@ -11,7 +11,7 @@ use Rattle.usb_world.specs.{Course, here, step, Coming, nothing_yet, next_came, 
 use Rattle.usb_world.specs.declared.event.Action.TheVariants.{Change, Ask}
 
 abbrev pub with_limit_told : World → World
-with_limit_told w = record w { fault = Some LimitReached }
+with_limit_told w = record w { fault = Some Limit }
 
 abbrev pub with_call : PortCall → ℕ → World → World
 with_call c n w =

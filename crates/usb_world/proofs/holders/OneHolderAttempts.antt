@@ -13,7 +13,7 @@ use Rattle.usb_device.specs.{row_of, state_at, state_on, reply_to, listed, held_
 use Rattle.usb_device.specs.declared.delivery.Content.TheVariants as content
 use Rattle.usb_device.specs.Attempt.{whole}
 use Rattle.usb_device.proofs.Interface.{silent-stays, silent-unread}
-use Rattle.usb_world.specs.{Attempt, LimitReached, Damage, ExchangeAnswer, mark_of, harm_to, marked}
+use Rattle.usb_world.specs.{Attempt, Limit, Damage, ExchangeAnswer, mark_of, harm_to, marked}
 use Rattle.usb_world.specs.{marked_some, token_of, payload_of, reply_of, answer_mark, goes_out}
 use Rattle.usb_world.specs.{heard_all, token_out, payload_out, heard_in, mark_in, place_of_answer}
 use Rattle.usb_world.specs.{ports_in, reply_in, World, Made, is_made, resets, AnyStep, at_attempt}
@@ -192,7 +192,7 @@ unfolding after
 made_is a w m = rw (m.sound, unequal w.attempts w.limit m.within) refl
 
 pub after-limit_fault : (a : Attempt) (w : World) → w.fault ≡ None → w.attempts ≡ w.limit
-    → (after (attempt a) w).fault ≡ Some LimitReached
+    → (after (attempt a) w).fault ≡ Some Limit
 unfolding after
 after-limit_fault a w s e = rw (s, same_equal w.attempts w.limit e) refl
 

@@ -6,7 +6,7 @@ const PRINTED: [(PipeFault, &str); 6] = [
     (PipeFault::Busy, "busy"),
     (PipeFault::NoAnswer, "no answer"),
     (PipeFault::Broken, "broken"),
-    (PipeFault::Bus(BusFault::TraceFailed), "trace failed"),
+    (PipeFault::Bus(BusFault::Failed), "trace failed"),
     (PipeFault::Memory, "out of memory"),
 ];
 

@@ -311,10 +311,10 @@ plug 1 fn
             (Call::Setup(GET_DEVICE), Endpoint::NewSource, Toggle::One),
         ],
         traced: false,
-        told: "Bus(LimitReached) One 2
-Bus(LimitReached) One 2
-Bus(LimitReached) One 2
-Bus(LimitReached) One 2
+        told: "Bus(Limit) One 2
+Bus(Limit) One 2
+Bus(Limit) One 2
+Bus(Limit) One 2
 taken -
 ",
     },

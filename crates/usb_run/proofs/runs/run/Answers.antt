@@ -17,8 +17,8 @@ returns-clause-ends c =
     let same : c.bus.result.now.fault ≡ c.finish-report.new.self.host.world.fault =
     ap (λ (w : World). w.fault) c.bus.ensures.world
     ∙ ap (λ (h : HostState). h.world.fault) c.host.ensures in
-    let other : c.finish-report.new.self.host.world.fault ≢ Some bus.TraceFailed =
-    subst (λ f. f ≢ Some bus.TraceFailed) same c.untraced_fault.ensures in
+    let other : c.finish-report.new.self.host.world.fault ≢ Some bus.Failed =
+    subst (λ f. f ≢ Some bus.Failed) same c.untraced_fault.ensures in
     ends_untraced c.args.plan.now _ _ c.in-Ok.runner.host c.finish-report.new.self.host
     c.finish-report.result opened c.in-Ok.ensures.going
     (c.finish-report.ensures.finishes (λ _. knows_opened c.args.plan.now c.in-Ok.runner.host

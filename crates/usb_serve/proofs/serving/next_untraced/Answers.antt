@@ -14,5 +14,5 @@ returns-clause-untraced c =
     ap (λ (w : World). w.fault) c.bus.ensures.world
     ∙ ap (λ (h : HostState). h.world.fault) c.host.ensures in
     untold_fault c.next_item-item.result c.next_item-item.new.self.host.world
-    c.next_item-item.ensures.caused (subst (λ f. f ≢ Some bus.TraceFailed) same
+    c.next_item-item.ensures.caused (subst (λ f. f ≢ Some bus.Failed) same
     c.untraced_fault.ensures)

@@ -5,7 +5,7 @@ use Rattle.std.specs.List.{list_all}
 use Rattle.usb_device.specs.{Ports, Spec, row_of}
 use Rattle.usb_tree.specs.{IsSettled}
 use Rattle.usb_world.specs.{Action, Consistent, can_come, Event, after_change, BusFault}
-use Rattle.usb_world.specs.{TraceFailed}
+use Rattle.usb_world.specs.{Failed}
 use Rattle.usb_world.proofs.Interface.{came_spends, happened_long, sane_happened, settled_happened}
 use Rattle.usb_world.proofs.Interface.{spends_none}
 use Rattle.usb_world.specs.declared.event.Ask.{Ask}
@@ -67,7 +67,7 @@ returns-in_err-put_action-clause-came g c =
       asked = search rules;
       exact = search rules;
       kept = search rules;
-      cut = λ _. came_faulted (world_of s) e rest _ (Some TraceFailed) came.split came.done;
+      cut = λ _. came_faulted (world_of s) e rest _ (Some Failed) came.split came.done;
       other = search rules;
       text = writes_event c.from_residual-in_err-put_action.result (world_of s) _ e _ _ _ came.split
           refl c.from_residual-in_err-put_action.ensures.1
