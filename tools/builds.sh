@@ -1,8 +1,10 @@
+# shellcheck shell=bash disable=SC2154
 # What `usbplan` and `tools/prove` share: names of the executables that are kept, and how one is kept. The caller sets
 # `here`, the top of the checkout.
 #
 # An executable's name has the digest of all that it is made of: the files below crates/, but for what `rt` leaves in
 # out/, crates.txt, and the toolchain's version. One that is there under the name of now is of the sources as they stand.
+# The digest is kept with the files' sizes and times, and made anew only where these differ.
 
 kept=$here/.build
 crate=$here/crates/usb_main
@@ -27,28 +29,49 @@ toolchain() {
   fi
 }
 
+# The size and the times of each source, and the toolchain's version.
+stamps() {
+  toolchain || stop "'$rt' does not run: the program cannot be made, nor can it be seen what one was made by"
+  (cd "$here" && find crates crates.txt -type d -name out -prune -o -type f -printf '%p %s %T@ %C@\n')
+}
+
 # The digest of the sources and of the toolchain.
 digest() {
-  local version
-  version=$(toolchain) || stop "'$rt' does not run: the program cannot be made, nor can it be seen what one was made by"
   {
-    echo "$version"
-    cd "$here"
+    toolchain
+    cd "$here" || exit
     find crates crates.txt -type d -name out -prune -o -type f -print0 | LC_ALL=C sort -z | xargs -0 sha256sum
   } | sha256sum | cut -c 1-32
 }
 
-# Sets `proved` and `unproved`: where executables of the sources as they stand are kept.
+# Sets `of`: the digest of now, the one that is kept where no size and no time has changed.
+name_sources() {
+  local now room
+  now=$(stamps) || exit 5
+  if [ -r "$kept/stamps" ] && [ "$(tail -n +2 "$kept/stamps")" = "$now" ]; then
+    read -r of <"$kept/stamps"
+    return
+  fi
+  of=$(digest)
+  # where nothing can be kept, it is made anew at each call
+  if mkdir -p "$kept" 2>/dev/null && room=$(mktemp "$kept/stamps.XXXXXX" 2>/dev/null); then
+    printf '%s\n%s\n' "$of" "$now" >"$room"
+    mv -f "$room" "$kept/stamps"
+  fi
+}
+
+# Sets `proved`, `optimised` and `checked`: where executables of the sources as they stand are kept.
 name_builds() {
   local of
-  of=$(digest) || exit 5
+  name_sources
   proved=$kept/proved-$of
-  unproved=$kept/unproved-$of
+  optimised=$kept/optimised-$of
+  checked=$kept/checked-$of
 }
 
 # Why there is no executable.
 why_none() {
-  if compgen -G "$kept/*proved-*" >/dev/null; then
+  if compgen -G "$kept/*-*" >/dev/null; then
     echo "the sources or the toolchain have changed"
   else
     echo "no build yet"
@@ -72,11 +95,31 @@ unlock() {
   exec 9>&-
 }
 
+# Ends `rt`, and what it has begun.
+end_rt() {
+  [ -n "$rt_id" ] || return 0
+  kill -- "-$rt_id" 2>/dev/null || kill "$rt_id" 2>/dev/null || true
+  wait "$rt_id" 2>/dev/null || true
+  rt_id=
+}
+
 # Ends what was begun.
 clean() {
-  [ -z "$rt_id" ] || kill "$rt_id" 2>/dev/null || true
-  [ -z "$rt_id" ] || wait "$rt_id" 2>/dev/null || true
+  end_rt
   [ -z "$room" ] || rm -rf "$room"
+}
+
+# Sets `clang`, `archives` and `linker`: what an optimised build is made with. False where one is missing: `missing` names it.
+find_compiler() {
+  local kit
+  kit=$(dirname "$(readlink -f "$rt")")/..
+  clang=$kit/toolchain/bin/clang
+  archives=("$kit/c/libos_c.a" "$kit/c/liblibc_c.a")
+  linker=$(command -v "${CC:-cc}" || true)
+  missing=
+  [ -n "$linker" ] || missing="there is no '${CC:-cc}' to link with"
+  [ -x "$clang" ] && [ -r "${archives[0]}" ] && [ -r "${archives[1]}" ] || missing="the toolchain has no compiler at '$clang'"
+  [ -z "$missing" ]
 }
 
 # Shows on a terminal what is being done, and since how many seconds.
@@ -95,7 +138,10 @@ keep() {
   chmod 755 "$one"
   [ "$("$one" <"$crate/stdin" 2>/dev/null)" = "$(cat "$crate/stdout")" ] || stop "the program was made, but does not work"
   name_builds
-  [ "$at" = "$proved" ] || [ "$at" = "$unproved" ] || stop "the sources changed while the program was made: call again"
+  case "$at" in
+    "$proved" | "$optimised" | "$checked") ;;
+    *) stop "the sources changed while the program was made: call again" ;;
+  esac
   find "$kept" -maxdepth 1 -type f -name "$(basename "${at%-*}")-*" -delete
   mv -f "$one" "$at"
   rm -rf "$room"
