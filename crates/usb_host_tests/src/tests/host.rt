@@ -70,7 +70,7 @@ const ROWS: &[Row] = &[
         limit: 2,
         speed: "speed = \"low\"\n",
         steps: &[Step::Event, Step::Round, Step::Round, Step::Tree],
-        told: "Err(Bus(LimitReached)); Err(Stopped); tree; 2 attempts",
+        told: "Err(Bus(Limit)); Err(Stopped); tree; 2 attempts",
     },
 ];
 
