@@ -36,6 +36,7 @@ use Rattle.usb_address.proofs.Interface.{reset_follows, resets_leave, same_setup
 use Rattle.usb_address.proofs.Interface.{trail_with, writes_leave}
 use Rattle.usb_hub.specs.{IsBelow, IsAbout, UpToFault, ActsAt, PortCallDone, CommandsPort}
 use Rattle.usb_hub.specs.{TouchesNoPort, Commanded, HubServes, HubPort, Root, External}
+use Rattle.usb_hub.specs.{IsControlStep}
 use Rattle.usb_hub.proofs.ActingCalls.{place_below, place_called, AsksFor, attempt_acts, root_acts}
 use Rattle.usb_hub.proofs.ActingCalls.{root_acted}
 use Rattle.usb_hub.proofs.RestingRequests.{behind_rests, behind_asks_nothing}
@@ -46,6 +47,7 @@ use Rattle.usb_backlog.specs.{ports_at, unmarked, gives_power}
 use Rattle.usb_backlog.proofs.Interface.{all_none, few-only, keeps-chain, keeps-root, ports_covered}
 use Rattle.usb_backlog.proofs.Interface.{root_allowed, sets_none}
 use Rattle.usb_hub.proofs.CallFailures.{same_port, call_served}
+use Rattle.usb_hub.proofs.ControlCourses.{commanded_control}
 use Rattle.usb_port.proofs.Interface.{call_is}
 
 -- The attempts of a request without data: its setup data again and again, and what comes behind
@@ -508,6 +510,7 @@ module _ (port : HubPort) (hub : Target) (number : ℕ) (call : Option PortCall)
         call_served hub number request some_call.0 (asks some_call.0 some_call.1) old new three
         single (subst (λ m. HubServes hub m new) ends.1
         (subst (λ t. HubServes t n new) ends.0 serves)) result ordered;
+    control = λ c is sound. commanded_control hub request result old new ordered sound;
   }
 
   hub_calls : CommandsPort port call old result new
@@ -580,6 +583,7 @@ module _ (port : HubPort) (number : ℕ) (call : Option PortCall) (old new : Wor
         });
     cut = λ f p c x fault is. absurd (cc is);
     why = λ t n same. absurd (cc same);
+    control = λ c is sound. one_step IsControlStep c is tt;
   }
 
   root_calls : CommandsPort port call old (Ok tt) new

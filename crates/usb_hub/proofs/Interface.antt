@@ -3,6 +3,7 @@ pub use Rattle.usb_hub.proofs.ActingCalls.{AsksFor, place_below}
 pub use Rattle.usb_hub.proofs.BaredPorts.{disabled_port}
 pub use Rattle.usb_hub.proofs.Calls.{hub_done, hub_named, hub_rests, hub_sets, power_backlog}
 pub use Rattle.usb_hub.proofs.Calls.{set_asks}
+pub use Rattle.usb_hub.proofs.ControlCourses.{commanded_control, queried_control}
 pub use Rattle.usb_hub.proofs.Devices.{stays_as_same, stays-registers, stays-spec, stays_itself}
 pub use Rattle.usb_hub.proofs.Devices.{stays_joined, keeps_devices_none}
 pub use Rattle.usb_hub.proofs.AddressesKept.{set_keeps}

@@ -2,6 +2,7 @@ pub mod Interface
 pub mod RestingRequests
 pub mod ActingCalls
 pub mod Backlogs
+pub mod ControlCourses
 pub mod Calls
 pub mod Devices
 pub mod AddressesKept

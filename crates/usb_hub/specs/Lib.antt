@@ -6,6 +6,7 @@ pub mod Requests
 pub mod Settings
 pub mod CallFailures
 pub mod Changes
+pub mod ControlSteps
 -- the words of this crate, wherever one stands
 pub use Addresses.{EachElsewhere, GivesAddress, IsAt, IsBelow, IsClaimed, Isolates, KeepsAnswered}
 pub use Addresses.{KeepsAsked, KeepsCleared, KeepsDevices, KeepsSet, Resets, StaysAs}
@@ -22,6 +23,7 @@ pub use Settings.{AddressAsked, ConfigurationAsked, IsConfigured, IsFresh, OnlyS
 pub use Settings.{takes_value}
 pub use CallFailures.{HasPort, HubServes, NoHubFailed}
 pub use Changes.{ClearsEach, ClearsHubChange, ClearsIfReported, ClearsOfHub, ClearsOfPort, ToldBus}
+pub use ControlSteps.{ControlCourse, IsControlStep}
 pub use Changes.{both, done_or_unknown, first_failed, hub_status, not_told, told}
 pub use declared.port.HubPort.{HubPort}
 pub use declared.port.HubPort.TheVariants.{External, Root}

@@ -15,6 +15,7 @@ use Rattle.usb_pipe.specs.declared.fault.PipeFault.TheVariants.{Bus}
 use Rattle.usb_hub.specs.Addresses.{IsAt}
 use Rattle.usb_hub.specs.Requests.{TouchesNoPort}
 use Rattle.usb_hub.specs.CallFailures.{HubServes, NoHubFailed}
+use Rattle.usb_hub.specs.ControlSteps.{ControlCourse}
 use Rattle.usb_hub.specs.declared.port.HubPort.{HubPort}
 use Rattle.usb_hub.specs.declared.port.HubPort.TheVariants.{External}
 
@@ -111,7 +112,7 @@ pub record IsCall (f : AddressMap) (port : HubPort) (p : List ℕ) (call : Optio
 -- below its own, and what is pending there
 -- stays, where the call itself does not clear it. Where no three attempts running are damaged, and
 -- no address was held twice, it is done at a hub
--- that is reached in the end and serves the port.
+-- that is reached in the end and serves the port. It attempts nothing but at endpoint 0.
 pub record CommandsPort (port : HubPort) (call : Option PortCall) (old : World)
     (result : Result (Unit {0}) PipeFault) (new : World) : Type 0 where
   pub done : (f : AddressMap) (p : List ℕ) (c : PortCall) → IsCall f port p call c old
@@ -126,3 +127,4 @@ pub record CommandsPort (port : HubPort) (call : Option PortCall) (old : World)
       → (fault : BusFault) → result ≡ Err (Bus fault) → UpToFault (IsAbout p c) old fault new
   pub why : (hub : Target) (number : ℕ) → port ≡ External hub number → NoThreeDamaged old
       → new.shared ≡ false → HubServes hub number new → NoHubFailed result
+  pub control : (c : PortCall) → call ≡ Some c → IsNoBusFault result → ControlCourse old new
