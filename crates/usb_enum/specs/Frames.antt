@@ -6,16 +6,18 @@ use Rattle.usb_tree.specs.{address_of, is_way}
 use Rattle.usb_address.specs.{AddressMap, MapHolds, KeepsAddresses}
 use Rattle.usb_backlog.specs.{KeepsAll, KeepsFound}
 use Rattle.usb_hub.specs.{StaysAs, EachElsewhere, KeepsDevices, TouchesNoPort, TouchesPortsBelow}
+use Rattle.usb_hub.specs.{ControlCourse}
 
 -- On a device
 
 -- a device was asked for data: each device stays as it was, and as long as the bus is at work
--- nothing was asked of any port
+-- nothing was asked of any port, nor attempted but at endpoint 0
 pub record OnlyAsks (old new : World) : Type 0 where
   pub addresses : KeepsAddresses old new
   pub devices : KeepsDevices old new
   pub ports : new.fault ≡ None → TouchesNoPort old new
   pub backlog : new.fault ≡ None → KeepsAll old new
+  pub control : new.fault ≡ None → ControlCourse old new
 
 -- no more is left to do than before, but by events, where the ports of the device whose path claims
 -- the address are marked
@@ -30,6 +32,7 @@ pub record OnlyTells (address : ℕ) (old new : World) : Type 0 where
   pub devices : KeepsDevices old new
   pub ports : new.fault ≡ None → TouchesPortsBelow address old new
   pub backlog : new.fault ≡ None → FoundAt address old new
+  pub control : new.fault ≡ None → ControlCourse old new
 
 -- a device has the description and the address that it had, and elsewhere than at this address it
 -- stays as it was
@@ -44,13 +47,15 @@ pub record OnlySets (address : ℕ) (old new : World) : Type 0 where
   pub devices : new.shared ≡ false → EachWas (StaysBut address) old new
   pub ports : new.fault ≡ None → TouchesPortsBelow address old new
   pub backlog : new.fault ≡ None → FoundAt address old new
+  pub control : new.fault ≡ None → ControlCourse old new
 
 -- At a port
 
 -- nothing was asked of the ports that are not at a path nor below it, what is pending there stays,
--- and devices elsewhere stay as they were
+-- and devices elsewhere stay as they were; nothing was attempted but at endpoint 0
 pub record OnlyAt (p : List ℕ) (old new : World) : Type 0 where
   pub others : (x : List ℕ) → is_way p x ≡ false → Course (LeavesPortAlone x) old new
   pub spares : Course (KeepsPendingAt p) old new
   pub devices : EachElsewhere p StaysAs old new
   pub backlog : KeepsFound p old new
+  pub control : ControlCourse old new

@@ -31,8 +31,8 @@
 //!   configuration that are listed (`FindingIsTrue`, `usb_enum/specs/Findings.antt`). No premise on damage, plugs or
 //!   losses. Its endpoints but for 0 begin again.
 //! - What it asks is asked of this port alone, and of those below it: nothing is asked of any other port, a change of
-//!   connection that is pending at the port stays so, and each device elsewhere stays as it was (`OnlyAt`,
-//!   `specs/Frames.antt`).
+//!   connection that is pending at the port stays so, and each device elsewhere stays as it was. As long as the bus is
+//!   at work, each of its attempts is at endpoint 0 (`OnlyAt`, `specs/Frames.antt`).
 //! - At an *occupied* port (a change of connection is pending there, or it is powered on its whole way and a device
 //!   stands there) of a world whose ports are consistent, what is found is there in the end, as long as the bus is at
 //!   work: an accepted device is reached, a refused one stands behind a disabled port, the ports of an accepted hub are

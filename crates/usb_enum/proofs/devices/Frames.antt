@@ -23,9 +23,10 @@ use Rattle.usb_pipe.specs.declared.fault.PipeFault.TheVariants.{Bus, Memory}
 use Rattle.usb_hub.specs.{HubPort, Root, External, StaysAs, EachElsewhere, KeepsDevices, KeepsAsked}
 use Rattle.usb_hub.specs.{KeepsCleared, Resets, GivesAddress, ReadAsked, IsCall, CommandsPort}
 use Rattle.usb_hub.specs.{PortRead, TouchesNoPort, TouchesPortsBelow, EndsAfter, Queried, Commanded}
-use Rattle.usb_hub.specs.{AddressAsked, ConfigurationAsked}
+use Rattle.usb_hub.specs.{AddressAsked, ConfigurationAsked, ControlCourse}
 use Rattle.usb_hub.proofs.Interface.{power_backlog, stays_as_same, stays-registers, stays-spec}
 use Rattle.usb_hub.proofs.Interface.{stays_itself, stays_joined, keeps_devices_none}
+use Rattle.usb_hub.proofs.Interface.{commanded_control, queried_control}
 use Rattle.usb_enum.specs.{IsSpare, TakesAddress, OnlyCalls, AtPort, FoundAt, OnlyAsks, OnlyTells}
 use Rattle.usb_enum.specs.{StaysBut, OnlySets, OnlyAt}
 use Rattle.usb_backlog.specs.{KeepsAll, gives_power}
@@ -52,12 +53,20 @@ ends_without_fault {A} least (Err why) old new ends none =
 
 -- Requests for data
 
+-- what is attempted over one part, and then over the next
+control_then : (n : ℕ) (old mid new : World) {r s : Option (List ℕ)}
+    → (mid.fault ≡ None → ControlCourse old mid) → StepRun n mid r new s
+    → (new.fault ≡ None → ControlCourse mid new) → new.fault ≡ None → ControlCourse old new
+control_then n old mid new a went b none =
+    course_joined (a (went_sound n mid new went none)) (b none)
+
 pub asks_none : (w : World) → OnlyAsks w w
 asks_none w = record {
   addresses = keeps_none w;
   devices = keeps_devices_none w;
   ports = λ none x. here w;
   backlog = λ none. all_none w;
+  control = λ none. here w;
 }
 
 pub asks_then : (n : ℕ) (old mid new : World) {r s : Option (List ℕ)} → OnlyAsks old mid
@@ -67,6 +76,7 @@ asks_then n old mid new a went b = record {
   devices = devices_then n old mid new a.devices went b.devices;
   ports = λ none x. course_joined (a.ports (went_sound n mid new went none) x) (b.ports none x);
   backlog = λ none. all_then (a.backlog (went_sound n mid new went none)) (b.backlog none);
+  control = control_then n old mid new a.control went b.control;
 }
 
 pub answer_asks : {A X : Type 0} (given : Spec → Option X) (Has : State → A → Type 0) (t : Target)
@@ -81,6 +91,8 @@ answer_asks given Has t request outcome answer old new asked what keeps = record
   };
   ports = λ none. asked.rests (ends_without_fault 3 answer old new asked.ends none);
   backlog = λ none. asked.backlog (ends_without_fault 3 answer old new asked.ends none);
+  control = λ none. queried_control t request answer old new asked
+      (ends_without_fault 3 answer old new asked.ends none);
 }
 
 -- a port's status; that of a root port is a register
@@ -93,15 +105,21 @@ status_asks port outcome old new read ends keeps =
       devices = keeps.devices;
       ports = λ none. (by_port port read none).0;
       backlog = λ none. (by_port port read none).1;
+      control = λ none. (by_port port read none).2;
     }
   where
     by_port : (port : HubPort) → PortRead port old outcome new → new.fault ≡ None
-        → TouchesNoPort old new × KeepsAll old new
-    by_port (Root number) read none = subst (λ w. TouchesNoPort old w × KeepsAll old w)
-        (sym read.same) (λ x. here old, all_none old)
+        → TouchesNoPort old new × KeepsAll old new × ControlCourse old new
+    by_port (Root number) read none =
+        subst (λ w. TouchesNoPort old w × KeepsAll old w × ControlCourse old w)
+        (sym read.same) (λ x. here old, all_none old, here old)
     by_port (External hub n) told none =
         let sound = ends_without_fault 3 told.answer old new told.asked.ends none in
-        (told.asked.rests sound, told.asked.backlog sound)
+        (
+          told.asked.rests sound,
+          told.asked.backlog sound,
+          queried_control hub _ told.answer old new told.asked sound,
+        )
 
 -- Requests to a hub about its ports
 
@@ -111,6 +129,7 @@ tells_asked hub old new a = record {
   devices = a.devices;
   ports = λ none f q held own x apart. a.ports none x;
   backlog = λ none f q held own. found_all q (a.backlog none);
+  control = a.control;
 }
 
 pub tells_none : (hub : ℕ) (w : World) → OnlyTells hub w w
@@ -145,6 +164,7 @@ tells_then hub n old mid new a went b = record {
   devices = devices_then n old mid new a.devices went b.devices;
   ports = rest_then hub n old mid new a.addresses a.ports went b.ports;
   backlog = found_at_then hub n old mid new a.addresses a.backlog went b.backlog;
+  control = control_then n old mid new a.control went b.control;
 }
 
 -- PORT_POWER
@@ -158,6 +178,8 @@ power_tells hub port old result new ordered keeps devices = record {
   ports = λ none. ordered.elsewhere refl (ends_without_fault 2 result old new ordered.ends none);
   backlog = λ none f q held own. power_backlog hub f q old result new
       (ends_without_fault 2 result old new ordered.ends none) held own port ordered;
+  control = λ none. commanded_control hub (set_port_feature PORT_POWER port) result old new ordered
+      (ends_without_fault 2 result old new ordered.ends none);
 }
 
 -- SET_CONFIGURATION, and what goes before and after it
@@ -177,6 +199,7 @@ sets_told address old new a = record {
       (a.devices.stays single);
   ports = a.ports;
   backlog = a.backlog;
+  control = a.control;
 }
 
 pub sets_asked : (address : ℕ) (old new : World) → OnlyAsks old new → OnlySets address old new
@@ -204,6 +227,7 @@ sets_then address n old mid new a went b = record {
       (b.devices single);
   ports = rest_then address n old mid new a.addresses a.ports went b.ports;
   backlog = found_at_then address n old mid new a.addresses a.backlog went b.backlog;
+  control = control_then n old mid new a.control went b.control;
 }
 
 pub configuration_sets : (t : Target) (value : ℕ) (result : Result (Unit {0}) PipeFault)
@@ -223,6 +247,8 @@ configuration_sets t value result old new ordered what keeps = record {
   ports = λ none. ordered.elsewhere refl (ends_without_fault 2 result old new ordered.ends none);
   backlog = λ none f q held own. found_all q
       (ordered.backlog refl (ends_without_fault 2 result old new ordered.ends none));
+  control = λ none. commanded_control t (set_configuration value) result old new ordered
+      (ends_without_fault 2 result old new ordered.ends none);
 }
 
 -- Calls at a port
@@ -250,24 +276,26 @@ only_at_then p old mid new a b = record {
   spares = course_joined a.spares b.spares;
   devices = settings_elsewhere_then p old mid new a.devices b.devices;
   backlog = found_then p a.backlog b.backlog;
+  control = course_joined a.control b.control;
 }
 
 -- where nothing was asked of any port
 only_at_rest : (p : List ℕ) (old new : World) → TouchesNoPort old new → KeepsAll old new
-    → EachElsewhere p StaysAs old new → OnlyAt p old new
-only_at_rest p old new rests backlog devices =
+    → EachElsewhere p StaysAs old new → ControlCourse old new → OnlyAt p old new
+only_at_rest p old new rests backlog devices control =
     record {
       others = λ x apart. rests x;
       spares = course_wider (λ s w k. k.spares) (rests p);
       devices = devices;
       backlog = found_all p backlog;
+      control = control;
     }
 
 pub calls_none : (port : HubPort) (address : ℕ) (w : World) → OnlyCalls port address w w
 calls_none port address w = record {
   at =
       λ f p spare t none. only_at_rest p w w (λ x. here w) (all_none w)
-      (elsewhere_of p w w (each_none StaysAs stays_itself w));
+      (elsewhere_of p w w (each_none StaysAs stays_itself w)) (here w);
 }
 
 pub at_port_none : (port : HubPort) (address : ℕ) (w : World) → AtPort port address w w
@@ -302,7 +330,8 @@ at_asked port address old new asks = record {
     at = λ f p spare t none.
         only_at_rest p old new (asks.ports none) (asks.backlog none)
         (elsewhere_of p old new (asks.devices.stays
-        ((within_kept port address old new asks.addresses).stays f p spare t).single));
+        ((within_kept port address old new asks.addresses).stays f p spare t).single))
+        (asks.control none);
   };
 }
 
@@ -337,6 +366,7 @@ module _ (port : HubPort) (address : ℕ) (call : Option PortCall) (c : PortCall
         spares = calls.spares g p c call_is sound spared;
         devices = devices h;
         backlog = found_called p c quiet (calls.backlog g p c call_is sound);
+        control = calls.control c is sound;
       }
 
 -- the clearing of a change bit or of PORT_ENABLE
@@ -433,7 +463,8 @@ at_addressed port address m target result old mid new at zero_is least went orde
             spare.none (AddressAsked target address result mid new)
             (λ j s v x apart. stays_as_same j s v (x.others (ap (λ a. address_of s == a) zero_is
             ∙ apart)))
-            (what (within.stays f p spare t).single));
+            (what (within.stays f p spare t).single))
+            (commanded_control target (set_address address) result mid new ordered sound);
       };
     })
 
@@ -463,6 +494,7 @@ at_configured port address n old mid new at takes went sets = record {
               (λ j s v x apart. x.stays apart)
               (sets.devices (sets.addresses.kept (after_taking f p address) taken).single);
           backlog = sets.backlog none (after_taking f p address) p (held_there f p address) own;
+          control = sets.control none;
         });
   };
 }
