@@ -1,12 +1,12 @@
 -- What a look at a port leaves.
-use Rattle.std.proofs.Common.{◌≡◌, ◌∙◌, ◌⊎◌, ◌+◌, ◌≤◌, arith, inl, inr, ap, true, false, Bool, ℕ}
-use Rattle.std.proofs.Common.{List, None, Result, Ok, Err, OnOk}
+use Rattle.std.proofs.Common.{◌≡◌, ◌∙◌, ◌⊎◌, ◌+◌, ◌≤◌, arith, inl, inr, ap, subst, true, false}
+use Rattle.std.proofs.Common.{Bool, ℕ, List, None, Result, Ok, Err, OnOk}
 use Rattle.usb_port.specs.{PortStatus, path_cmp}
 use Rattle.usb_tree.proofs.Interface.{decided}
 use Rattle.usb_hub.specs.{Isolates}
 use Rattle.usb_resources.specs.{IsFull}
 use Rattle.usb_enum.specs.{enumeration_bound, widest_enumeration, Enumerates, FaultAllowedAt}
-use Rattle.usb_enum.specs.{EnumFault, Memory, Finding}
+use Rattle.usb_enum.specs.{EnumFault, Memory, Finding, IsFound}
 use Rattle.usb_enum.proofs.Interface.{went_sound}
 use Rattle.usb_table.specs.{KnownPort, Replaced, has_at, without, known_port, tier_of, Table}
 use Rattle.usb_table.specs.{entered, Entries}
@@ -17,7 +17,8 @@ use Rattle.usb_host.specs.{StaysOwned, claims, IsOpen, ServesSound, KeepsPlugs, 
 use Rattle.usb_host.specs.{Gained, IsPortAt, Requested, ProgressOrLost, StandsAt, Waits, HostRuns}
 use Rattle.usb_host.specs.{HostSteps, OnlyBusSteps, waiting, ClearsError, ClearsPort, Discovers}
 use Rattle.usb_host.specs.{LookedOrLost, LooksAfterError, LooksAt, RenewsPort, HostInvariant}
-use Rattle.usb_host.specs.{table_in}
+use Rattle.usb_host.specs.{Agrees, EntersFound, FindsAnew, table_in}
+use Rattle.usb_world.specs.{World}
 use Rattle.usb_host.proofs.devices.BulkPipes.{bulk_stays, bulk_then}
 use Rattle.usb_host.proofs.devices.Causes.{cleared_caused, entered_finds, forgot_caused}
 use Rattle.usb_host.proofs.devices.Causes.{fault_none_back, unentered_finds, unfound_finds}
@@ -59,6 +60,7 @@ module _ {path : List ℕ} {port : KnownPort} {a b : HostState} (s : StandsAt pa
         requested = record { goes = found_goes; told = told };
         owned = owned;
         sound = unfound_finds s away accounts went fault x entries pipes pool told owned;
+        gave = tt;
       }
 
   -- for what was found there is no memory
@@ -69,18 +71,26 @@ module _ {path : List ℕ} {port : KnownPort} {a b : HostState} (s : StandsAt pa
     requested = record { goes = found_goes; told = tt };
     owned = found_lost b f x.addresses s away accounts entries went.spends.roots;
     sound = unentered_finds s away accounts went f x;
+    gave = tt;
   }
 
   pub discover_done : {f : Finding}
       → Enumerates port.port a.addresses (tier_of path) port.supply a.world (Ok f) b.world
+      → IsFound a.addresses (tier_of path) port.supply f
       → table_in b ≡ entered path f (table_in a) → Discovers path port a (Ok tt) b
-  discover_done {f = f} x table =
+  discover_done {f = f} x is table =
       let owned = found_ends b f x.addresses s away accounts (ap (λ (t : Table). t.entries) table)
       went.spends.roots in
       record {
         requested = record { goes = found_goes; told = tt };
         owned = owned;
         sound = entered_finds s away accounts went f x table owned;
+        gave = record {
+          finding = f;
+          gave = x;
+          is = is;
+          entries = ap (λ (t : Table). t.entries) table;
+        };
       }
 
 -- What was there is forgotten
@@ -227,6 +237,7 @@ module _ {path : List ℕ} {port : KnownPort} {a b c : HostState} (s : StandsAt 
     mid = b.world;
     cleared = x.reads (claims a.entries) path (stands_at-claim s) o;
     renewed = renews_by path a.entries c.entries off look_left;
+    found = λ on. absurd (cc (on, off));
   }
 
   -- one is
@@ -252,9 +263,27 @@ module _ {path : List ℕ} {port : KnownPort} {a b c : HostState} (s : StandsAt 
     found_renewed (Ok done) d e = renews path a b c d r f.rest e
     found_renewed (Err fault) d e = tt
 
+    found_anew : (d : HostState)
+        → EntersFound path port c.addresses c.world c.entries d → FindsAnew path a.entries b.world d
+    found_anew d g = record {
+      port = port;
+      known = s.known;
+      addresses = c.addresses;
+      agrees = subst (λ (es : Entries). Agrees es c.addresses) look_left f.agrees;
+      found = record {
+        finding = g.finding;
+        gave = subst (λ (w : World). Enumerates port.port c.addresses (tier_of path) port.supply w
+            (Ok g.finding) d.world) (ap (λ (h : HostState). h.world) f.others) g.gave;
+        is = g.is;
+        entries = g.entries
+            ∙ ap (λ (es : Entries). insert_entry path_cmp es path g.finding) look_left;
+      };
+    }
+
     found_looked : (result : Result (Unit {0}) EnumFault) (d : HostState) → Entered path c result d
-        → IsOwned a → LookedOrLost path a result d
-    found_looked (Ok done) d e o = record {
+        → OnOk result (EntersFound path port c.addresses c.world c.entries d) → IsOwned a
+        → LookedOrLost path a result d
+    found_looked (Ok done) d e g o = record {
       status = status;
       mid = b.world;
       cleared = x.reads (claims a.entries) path (stands_at-claim s) o;
@@ -262,8 +291,9 @@ module _ {path : List ℕ} {port : KnownPort} {a b c : HostState} (s : StandsAt 
         e.finding,
         e.entries ∙ ap (λ (es : Entries). insert_entry path_cmp es path e.finding) look_left,
       );
+      found = λ shown. found_anew d g;
     }
-    found_looked (Err fault) d e o = found_failed path a c d fault look_left e
+    found_looked (Err fault) d e g o = found_failed path a c d fault look_left e
 
     module _ {result : Result (Unit {0}) EnumFault} (d : HostState)
         (e : Entered path c result d) (z : Discovers path port c result d) where
@@ -314,7 +344,8 @@ look_done {path = path} {a = a} {d = d} result {status = status} s r x y = recor
       (y.found on)) (λ off. bare_pays s r x y.forgot);
   hubs = renew_hubs y r x.requested.goes;
   looked = cases (λ q h. IsOwned a → LookedOrLost path a q h)
-      (λ on. found_looked s r x y.forgot on result d (y.entered on)) (bare_looked s r x y.forgot);
+      (λ on. found_looked s r x y.forgot on result d (y.entered on) (y.found on).gave)
+      (bare_looked s r x y.forgot);
 }
   where
     cases : (P : Result (Unit {0}) EnumFault → HostState → Type 0)

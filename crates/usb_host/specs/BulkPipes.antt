@@ -2,6 +2,7 @@
 use Rattle.std.specs.Prelude.{◌≡◌, ◌⊎◌, ℕ, List, true, false, Some}
 use Rattle.usb_device.specs.{rested, State, Location, path_to, reach, reach_on, state_on}
 use Rattle.usb_world.specs.{Was, AnyStep, Course, World}
+use Rattle.usb_hub.specs.{ControlCourse}
 use Rattle.usb_enum.specs.{Accepted}
 use Rattle.usb_table.specs.{Pipes, pipe_out, pipe_in, accepted_device_at, is_below_hub, SparesBulk}
 use Rattle.usb_table.specs.{new_pipes_to, pipes_at}
@@ -34,13 +35,17 @@ pub record StayedAt (path : List ℕ) (device : Accepted) (old new : HostState) 
   pub pipes : SameBulk (pipes_at path (table_in old)) (pipes_at path (table_in new))
   pub endpoints : EndpointsStayed path old.world new.world
 
--- it was found anew: at a moment of the call none was reached there; its bulk pipes are new, and
--- their endpoints have begun again
+-- it was found anew: at a moment of the call none was reached there; until it was found nothing was
+-- attempted but at endpoint 0, and since then its bulk endpoints are as they were; its bulk pipes
+-- are new, and their endpoints have begun again
 pub record RenewedAt (path : List ℕ) (device : Accepted) (old new : HostState) : Type 0 where
   pub moment : World
   pub before : Course AnyStep old.world moment
   pub none : reach moment.roots path ≡ false
-  pub behind : Course AnyStep moment new.world
+  pub found : World
+  pub control : ControlCourse moment found
+  pub behind : Course AnyStep found new.world
+  pub since : EndpointsStayed path found new.world
   pub pipes : SameBulk (new_pipes_to device (is_below_hub path)) (pipes_at path (table_in new))
   pub endpoints : EndpointsBegan path new.world
 

@@ -23,6 +23,7 @@ use Rattle.usb_host.specs.Bounds.{serving_bound, told_bound}
 use Rattle.usb_host.specs.Budget.{Affords, HubPaid, NumberPaid, PaysPart, PaysRound, PortPaid}
 use Rattle.usb_host.specs.Budget.{RootsPaid, RoundPaid, ToldPaid, Weights, handling_most, hubs_most}
 use Rattle.usb_host.specs.Budget.{poll_most, told_most}
+use Rattle.usb_host.specs.Discoveries.{EntersFound, FindsAnew}
 use Rattle.usb_host.specs.HostStates.{HostState}
 use Rattle.usb_host.specs.Ownership.{DropsHub, HasLost, IsOwned, KeepsOwned, KeepsPort}
 use Rattle.usb_host.specs.PortHandling.{DropsLost, FindsSound, ServesSound}
@@ -78,12 +79,14 @@ Renews true path old new = (finding : Finding)
     × (new ≡ insert_entry path_cmp (without path old) path finding)
 Renews false path old new = new ≡ without path old
 
--- its change of connection was cleared, and what a status then showed was found
+-- its change of connection was cleared, and what a status then showed was found: where a device is
+-- connected, what is entered is what an enumeration at the port gave, with its reason
 pub record LookedAt (path : List ℕ) (old new : HostState) : Type 0 where
   pub status : PortStatus
   pub mid : World
   pub cleared : ClearsAndReads path status old.world mid
   pub renewed : Renews status.connected path old.entries new.entries
+  pub found : status.connected ≡ true → FindsAnew path old.entries mid new
 
 -- a request to its hub failed: that hub, or one above it, is listed as lost
 pub record LosesParent (path : List ℕ) (old new : Entries) : Type 0 where
@@ -244,6 +247,7 @@ pub record Discovers (path : List ℕ) (port : KnownPort) (old : HostState)
   pub requested : Requested port.port widest_enumeration old result new
   pub owned : KeepsPort path old result new
   pub sound : FindsSound path old result new
+  pub gave : OnOk result (EntersFound path port old.addresses old.world old.entries new)
 
 -- what was found there and below it is forgotten, and where a device is connected, it was found
 pub record RenewsPort (path : List ℕ) (port : KnownPort) (connected : Bool) (old : HostState)

@@ -12,7 +12,7 @@ use Rattle.usb_world.proofs.Interface.{course_joined, each_wider, way_itself}
 use Rattle.usb_tree.proofs.Interface.{decided}
 use Rattle.usb_address.specs.{MapHolds}
 use Rattle.usb_pipe.specs.{PipeFault}
-use Rattle.usb_hub.specs.{StaysAs, EachElsewhere, KeepsDevices}
+use Rattle.usb_hub.specs.{ControlCourse, StaysAs, EachElsewhere, KeepsDevices}
 use Rattle.usb_enum.specs.{Cause, Accepted, Finding}
 use Rattle.usb_enum.specs.declared.finding.Finding.TheVariants.{Device, Refused}
 use Rattle.usb_enum.proofs.Interface.{went_course, went_sound}
@@ -264,9 +264,9 @@ unreached w path es held none = pick (reach w.roots path) refl
 module _ (first : List ℕ) (f : Finding) (a b : HostState)
     (table : table_in b ≡ entered first f (table_in a)) (gone : has_at first a.entries ≡ false)
     (each : EachElsewhere first StaysAs a.world b.world) where
-  pub bulk_entered : Course AnyStep a.world b.world → MapHolds (claims a.entries) a.world
+  pub bulk_entered : ControlCourse a.world b.world → MapHolds (claims a.entries) a.world
       → ((device : Accepted) → f ≡ Device device → EndpointsBegan first b.world) → KeepsBulk a b
-  bulk_entered course held began = record {
+  bulk_entered control held began = record {
     each = λ path device at. pick path device at (is_at (path_cmp path) first) refl;
   }
     where
@@ -276,7 +276,10 @@ module _ (first : List ℕ) (f : Finding) (a b : HostState)
         before = here a.world;
         none = unreached a.world first a.entries held
             (finding-none first first a.entries gone (way_itself first));
-        behind = course;
+        found = b.world;
+        control = control;
+        behind = here b.world;
+        since = stayed_none first b.world {v = b.world} refl;
         pipes = same_bulk (ap (pipes_at first) table ∙ pipes_at-entered first f (table_in a) ∙ ap
             (λ g. new_pipes g (is_below_hub first)) is);
         endpoints = began device is;
@@ -319,7 +322,10 @@ module _ (a b c : HostState) (first : Course AnyStep a.world b.world)
     moment = x.moment;
     before = x.before;
     none = x.none;
+    found = x.found;
+    control = x.control;
     behind = course_joined x.behind second;
+    since = stayed_joined path x.found b.world c.world x.since y.endpoints;
     pipes = bulk_joined x.pipes y.pipes;
     endpoints = began_on path b.world c.world x.endpoints y.endpoints;
   })
@@ -332,7 +338,10 @@ module _ (a b c : HostState) (first : Course AnyStep a.world b.world)
         moment = y.moment;
         before = course_joined first y.before;
         none = y.none;
+        found = y.found;
+        control = y.control;
         behind = y.behind;
+        since = y.since;
         pipes = y.pipes;
         endpoints = y.endpoints;
       })
@@ -368,7 +377,10 @@ bulk_stopped a b stopped x = record {
       moment = y.moment;
       before = y.before;
       none = y.none;
+      found = y.found;
+      control = y.control;
       behind = y.behind;
+      since = y.since;
       pipes = y.pipes;
       endpoints = y.endpoints;
     })

@@ -12,7 +12,7 @@ use Rattle.usb_resources.specs.{Addresses, IsTaken}
 use Rattle.usb_enum.specs.{EnumFault, ParentLost, Bus, Memory, Accepted, Finding, HubFacts, Begins}
 use Rattle.usb_enum.specs.{Enumerates, IsOwn, OnlyAt, IsPlaced, FaultAllowedAt}
 use Rattle.usb_enum.specs.declared.finding.Finding.TheVariants.{Device, Refused}
-use Rattle.usb_enum.proofs.Interface.{regular_order, went_course, went_in_order, went_sound}
+use Rattle.usb_enum.proofs.Interface.{regular_order, went_in_order, went_sound}
 use Rattle.usb_table.specs.{KnownPort, Entries, has_at, accepted_device_of, known_port}
 use Rattle.usb_table.specs.{hub_facts_in, tier_of, AllInSync, Table, entered}
 use Rattle.usb_host.specs.Accounts.{Accounts}
@@ -141,7 +141,7 @@ module _ (n : ℕ) (path : List ℕ) (port : KnownPort) (pool : Addresses) (a b 
     pub entered_bulk : b.world.fault ≡ None → KeepsBulk a b
     entered_bulk still =
         bulk_entered path f a b table gone (found_only e still).devices
-        (went_course n a.world b.world went still)
+        (found_only e still).control
         (o.owned.so (went_sound n a.world b.world went still))
         (λ device found x t is on stands.
         let own : IsOwn (tier_of path) port.supply device t =

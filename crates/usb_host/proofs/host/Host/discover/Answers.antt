@@ -52,4 +52,5 @@ returns-clause-finds g c known =
     rw (← c.self.view_is) (discover_done s away c.self.invariant.accounts
     (c.enumerate.ensures.steps known) refl
     (rw c.tier.ensures at (c.in_ok-finding.ensures.ends known))
+    (rw c.tier.ensures at c.in_ok-finding.ensures.found)
     (rw c.duplicate.ensures at c.in_ok-enter.ensures.ok.0))

@@ -1,0 +1,29 @@
+-- What is entered at a port is what an enumeration there gave, with its reason (9.1.2).
+use Rattle.std.specs.Prelude.{◌≡◌, List, ℕ, Some, Ok}
+use Rattle.std.specs.BTreeMap.{insert_entry}
+use Rattle.usb_port.specs.{path_cmp}
+use Rattle.usb_world.specs.{World}
+use Rattle.usb_resources.specs.{Addresses}
+use Rattle.usb_enum.specs.{Enumerates, Finding, IsFound}
+use Rattle.usb_table.specs.{Entries, KnownPort, known_port, tier_of, without}
+use Rattle.usb_host.specs.Agreement.{Agrees}
+use Rattle.usb_host.specs.HostStates.{HostState}
+
+-- an enumeration gave a finding, and a refusal names what ended it (`Enumerates.ended`); the finding
+-- was entered, and nothing else
+pub record EntersFound (path : List ℕ) (port : KnownPort) (addresses : Addresses) (old : World)
+    (before : Entries) (new : HostState) : Type 0 where
+  pub finding : Finding
+  pub gave : Enumerates port.port addresses (tier_of path) port.supply old (Ok finding) new.world
+  pub is : IsFound addresses (tier_of path) port.supply finding
+  pub entries : new.entries ≡ insert_entry path_cmp before path finding
+
+-- so it is at the port of a path, where what was known at it and below it was forgotten, with the
+-- addresses that are taken then
+pub record FindsAnew (path : List ℕ) (before : Entries) (old : World) (new : HostState) : Type 0
+  where
+    pub port : KnownPort
+    pub known : known_port path before ≡ Some port
+    pub addresses : Addresses
+    pub agrees : Agrees (without path before) addresses
+    pub found : EntersFound path port addresses old (without path before) new
