@@ -1,6 +1,7 @@
 mod Bytes
 mod Devices
 mod HaltedSends
+mod Heads
 mod Items
 mod Starts
 mod Stretches

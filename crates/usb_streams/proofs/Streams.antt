@@ -4,6 +4,7 @@ use Rattle.std.proofs.Common.{Option, None, Some, Ok}
 use Rattle.usb_device.specs.{State, Location, path_to, reach, reach_on, state_on, state_there}
 use Rattle.usb_world.specs.declared.event.Ask.{Ask}
 use Rattle.usb_world.specs.{Was, World}
+use Rattle.usb_world.proofs.Interface.{settled_course}
 use Rattle.usb_enum.specs.{Accepted}
 use Rattle.usb_table.specs.{Pipes, Hub, Function, Absent, pipe_in, pipe_out, accepted_device_at}
 use Rattle.usb_table.specs.{is_below_hub, PipesInSync, FitsIn, SparesBulk, pipes_at}
@@ -13,10 +14,12 @@ use Rattle.usb_host.proofs.Interface.{stay_event}
 use Rattle.usb_run.specs.{Item, Comes, Knows, Settled, AppendsText, IsItemOf}
 use Rattle.usb_run.proofs.Interface.{arrival_knows, came_running, came_still, comes_onward}
 use Rattle.usb_streams.specs.{LiesBetween, round, silent, last, wrote, Stretch, begun, further}
-use Rattle.usb_streams.specs.{more, ToldItem, StartsAt, StoodAt, StoodOrFound, StreamsAt}
+use Rattle.usb_streams.specs.{more, HeadAt, KeepsStreams, ToldItem, StartsAt, StoodAt}
+use Rattle.usb_streams.specs.{StoodOrFound, StreamsAt}
 use Rattle.usb_streams.specs.Streams.{Streams}
 use Rattle.usb_streams.proofs.Devices.{DeviceMoves, DeviceStays, streams_at_then, spares_stays}
 use Rattle.usb_streams.proofs.Devices.{streams_move, streams_none, streams_stay}
+use Rattle.usb_streams.proofs.Heads.{course_kept, kept_then}
 use Rattle.usb_streams.proofs.Items.{MovesAt, item_moves}
 use Rattle.usb_streams.proofs.Starts.{begun_place, new_in}
 use Rattle.usb_streams.proofs.Stretches.{between_knows, between_onward, item_onward, stretch_knows}
@@ -63,6 +66,22 @@ renewed_starts path device a b renewed knows still at x s pipe is on stands e =
     (level_in (pipes_at path (table_in b)) s
     (level_at path device b knows still at x s is on stands)) in
     begun_place pipe fits.0 s new.0 new.1 (renewed.endpoints x s is on stands).1 fits.1
+
+-- with what it had taken and given before
+renewed_head : (path : List ℕ) (device : Accepted) (a b : HostState)
+    (renewed : RenewedAt path device a b) → Knows a → a.world.fault ≡ None
+    → HeadAt path renewed.moment b.world
+renewed_head path device a b renewed knows still x v is on stands =
+    let was : Was SparesBulk renewed.found x v = renewed.since x v is on stands in
+    let before : Option State = state_on renewed.moment.roots x in
+    kept_then before (Some was.before) (Some v)
+    (subst (KeepsStreams before) was.stands
+    (course_kept renewed.control (settled_course renewed.before (knows.sound.order still).settled)
+    x))
+    (inl (record {
+      sink = ap (λ (d : State). d.sink) was.so;
+      place = ap (λ (d : State). d.place) was.so;
+    }))
 
 -- what lies between two items leaves it, with its bulk endpoints
 stayed_stands : (path : List ℕ) (device : Accepted) (told : List ToldItem) (a b c : HostState)
@@ -175,6 +194,7 @@ module _ (path : List ℕ) (device : Accepted) where
         found = f.found;
         round = f.round;
         renewed = f.renewed;
+        head = f.head;
         starts = f.starts;
         since = f.since;
         behind = further f.behind between;
@@ -193,6 +213,7 @@ module _ (path : List ℕ) (device : Accepted) where
         found = new;
         round = anew.1;
         renewed = anew.2;
+        head = renewed_head path device h new anew.2 knows (between_onward between still).sound;
         starts = renewed_starts path device h new anew.2 (between_knows between knows) still at;
         since = [];
         behind = begun;
@@ -232,6 +253,7 @@ module _ (path : List ℕ) (device : Accepted) where
         found = f.found;
         round = f.round;
         renewed = f.renewed;
+        head = f.head;
         starts = f.starts;
         since = record { due = due; asked = mid; item = item } ∷ f.since;
         behind = more due item f.behind settled comes is;

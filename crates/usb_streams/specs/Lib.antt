@@ -1,8 +1,10 @@
 pub mod Stretches
+pub mod Heads
 pub mod Streams
 -- the words of this crate, wherever one stands
 pub use Stretches.{AreMade, IsStretch, LiesBetween, Stretch, ToldItem, begun, further, last, more}
 pub use Stretches.{round, silent, wrote}
+pub use Heads.{HeadAt, IsUntouched, KeepsStreams, MovesNothing, SameStreams}
 pub use Streams.{ClearsNoIn, ClearsNoOut, FoundSince, GaveNext, GaveNextBy, IsAtWork, Joins}
 pub use Streams.{StartsAt, StoodAt, StoodOrFound, StreamsAt, TookSent, bytes_for, bytes_from}
 pub use Streams.{is_done}

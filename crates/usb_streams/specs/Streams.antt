@@ -15,6 +15,7 @@ use Rattle.usb_table.specs.{Pipes, bytes_in, pipe_in, pipe_out, accepted_device_
 use Rattle.usb_table.specs.{pipes_at}
 use Rattle.usb_host.specs.{RenewedAt, Round, HostState, table_in, RoundTells}
 use Rattle.usb_run.specs.{Item, Listing, Sent, Received, Cleared}
+use Rattle.usb_streams.specs.Heads.{HeadAt}
 use Rattle.usb_streams.specs.Stretches.{ToldItem, Stretch}
 
 -- Bytes
@@ -144,7 +145,8 @@ StartsAt path h = (x : Location) (s : State) (pipe : Bulk) → path ≡ path_to 
     → reach_on h.world.roots x ≡ true → state_on h.world.roots x ≡ Some s
     → pipe_in (pipes_at path (table_in h)) ≡ Some pipe → InPipeInSync pipe s.place s
 
--- it was found anew in a round of the stretch, and stood there since
+-- it was found anew in a round of the stretch, and stood there since; until that round was over it
+-- had taken and given what it had when none was reached there, or nothing where it was plugged then
 pub record FoundSince (path : List ℕ) (device : Accepted) (told : List ToldItem)
     (old new : HostState) : Type 0 where
   pub earlier : List ToldItem
@@ -154,6 +156,7 @@ pub record FoundSince (path : List ℕ) (device : Accepted) (told : List ToldIte
   pub found : HostState
   pub round : RoundTells before (Ok done) found
   pub renewed : RenewedAt path device before found
+  pub head : HeadAt path renewed.moment found.world
   pub starts : StartsAt path found
   pub since : List ToldItem
   pub behind : Stretch found since new

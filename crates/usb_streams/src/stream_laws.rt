@@ -9,11 +9,15 @@ ghost use Rattle.usb_run.specs.declared.runs.Item.{Item};
 ghost use Rattle.usb_run.specs.declared.mode.Mode.{Mode};
 ghost use Rattle.usb_run.specs.RunSegments.{Knows};
 ghost use Rattle.usb_run.specs.Transcript.{Transcript};
+ghost use Rattle.usb_hub.specs.ControlSteps.{ControlCourse};
+ghost use Rattle.usb_tree.specs.AttemptPackets.{IsSettled};
+ghost use Rattle.usb_world.specs.Worlds.{World};
+ghost use Rattle.usb_streams.specs.Heads.{MovesNothing};
 ghost use Rattle.usb_streams.specs.Streams.{StoodOrFound};
 ghost use Rattle.usb_streams.specs.Stretches.{IsStretch, Stretch, ToldItem};
 
 /// Over any stretch of a run up to a host whose bus is at work, a device that is listed in the end stood at its path
-/// from the beginning, or since a round that found it anew. From there on its sink got, end to end, the bytes of the
+/// from the beginning, or since a round that found it anew and moved none of its bytes. From there on its sink got, end to end, the bytes of the
 /// sends to it that are told done, with at most a front of a failed one behind them; and the receives from it that are
 /// told done handed back, end to end, the next bytes of its source, none twice and none left out: each as long as no
 /// halt of the endpoint is cleared.
@@ -22,6 +26,13 @@ pub fn transfers_join()
         → new.world.fault ≡ None
         → (path : List ℕ) (device : Accepted) → accepted_device_at path new.entries ≡ Some device
         → StoodOrFound path device told old new }
+{}
+
+/// Over a course of attempts at endpoint 0, calls of root ports and events nothing moves at any other endpoint: each
+/// device that is plugged, reached or not, has taken and given what the one that stood at its place had, or was plugged
+/// since, and has neither taken nor given.
+pub fn control_moves_nothing()
+    ensures { (old new : World) → ControlCourse old new → IsSettled old.roots → MovesNothing old new }
 {}
 
 /// A run is a stretch, in which the items that events asked for are told; where it is over, its last listing stands
