@@ -29,7 +29,11 @@ class Port:
                 self.reset()
                 self.status, self.change = self.status | ENABLE, self.change | RESET
         elif call == "set PORT_POWER":
+            if self.plugged and not self.status & POWER:
+                self.status, self.change = self.status | CONNECTION, self.change | CONNECTION
             self.status |= bit
+        elif call == "clear PORT_POWER":  # what is attached is seen with power only
+            self.status = self.change = 0
         elif "C_" in call:
             self.change &= ~bit
         else:

@@ -1,5 +1,5 @@
 -- All that one call of a host tells, over a bus that does what its world does.
-use Rattle.std.specs.Prelude.{◌≡◌, ℕ, ◌*◌, List, length, Option, Result, IfErr, IfOk}
+use Rattle.std.specs.Prelude.{◌≡◌, ℕ, ◌*◌, false, List, length, Option, Result, IfErr, IfOk}
 use Rattle.std.specs.Global.{Vec}
 use Rattle.usb_world.specs.{World}
 use Rattle.usb_bus.specs.{Traced}
@@ -7,22 +7,24 @@ use Rattle.usb_transaction.specs.{transaction_bound}
 use Rattle.usb_host.specs.Bounds.{clear_bound, round_bound}
 use Rattle.usb_host.specs.Budget.{RoundKeeps}
 use Rattle.usb_host.specs.HostStates.{HostState, opening_host}
-use Rattle.usb_host.specs.Ownership.{IsUntouched, HostMapHolds}
+use Rattle.usb_host.specs.Ownership.{HostMapHolds}
 use Rattle.usb_host.specs.Progress.{HostSteps}
 use Rattle.usb_host.specs.Service.{DidParts}
-use Rattle.usb_host.specs.Soundness.{HostInvariant, IsUnpowered, TransferKeeps}
+use Rattle.usb_host.specs.Soundness.{HostInvariant, TransferKeeps}
 use Rattle.usb_host.specs.ToldFaults.{RoundFaultAllowed, StopsAsRound, StopsAsTransfer}
 use Rattle.usb_host.specs.ToldFaults.{TransferFaultAllowed}
 use Rattle.usb_host.specs.Transfers.{ClearedAt, ReceivedAt, SentAt}
 use Rattle.usb_host.specs.declared.fault.HostFault.{HostFault}
 use Rattle.usb_host.specs.declared.host.Round.{Round}
 
--- `new`: the root ports of a bus in this world, with this trace, have power; no device is known
+-- `new`, whatever was done before over a bus in this world, with this trace: its root ports lost
+-- power and have it again, and no device is known. At no attempt so far two reachable devices may
+-- have held one address, since that stays told
 pub record NewTells (w : World) (t : Option (List ℕ)) (host : HostState) : Type 0 where
   pub opens : host ≡ opening_host w t
   pub traced : Traced w t host.world host.trace
-  pub owning : IsUntouched w → HostMapHolds host
-  pub sound : IsUntouched w → IsUnpowered w → HostInvariant host
+  pub owning : w.shared ≡ false → HostMapHolds host
+  pub sound : w.shared ≡ false → HostInvariant host
 
 -- `round`
 pub record RoundTells (old : HostState) (result : Result Round HostFault) (new : HostState)

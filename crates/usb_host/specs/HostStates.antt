@@ -1,7 +1,7 @@
 -- A host, as its callers see it.
 use Rattle.std.specs.Prelude.{◌≡◌, ℕ, ◌+◌, Bool, false, List, [], Option}
 use Rattle.std.specs.FinSet as set
-use Rattle.usb_port.specs.{powered_on}
+use Rattle.usb_port.specs.{powered_off, powered_on}
 use Rattle.usb_device.specs.{Ports, ended, vacant, taken}
 use Rattle.usb_world.specs.{World, root_row, to_come, changes}
 use Rattle.usb_resources.specs.{Addresses, Releases}
@@ -17,16 +17,16 @@ pub record HostState : Type 0 where
   pub addresses : Addresses  -- those that are taken
   pub stopped : Bool
 
--- each port of a row has power, and what is on it stays
-unfoldable pub with_power : Ports → Ports
-with_power ended = ended
-with_power (vacant b k) = vacant (powered_on b) (with_power k)
-with_power (taken b s a k) = taken (powered_on b) s a (with_power k)
+-- each port of a row lost power and has it again, and what is on it stays
+unfoldable pub repowered : Ports → Ports
+repowered ended = ended
+repowered (vacant b k) = vacant (powered_on (powered_off b)) (repowered k)
+repowered (taken b s a k) = taken (powered_on (powered_off b)) s a (repowered k)
 
--- the root ports have power, and no device is known
+-- the root ports lost power and have it again, and no device is known
 abbrev pub opening_host : World → Option (List ℕ) → HostState
 opening_host w t = record {
-  world = record w { roots = with_power w.roots };
+  world = record w { roots = repowered w.roots };
   trace = t;
   entries =
       [];

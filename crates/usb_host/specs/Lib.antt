@@ -37,11 +37,11 @@ pub use PortHandling.{HasWay, HoldsAt, InvariantAfterPort, IsDroppedAt, IsLost, 
 pub use PortHandling.{PortCaused, RestElsewhere, ServesSound, Tidies, Watches}
 pub use HostCalls.{ClearTells, NewTells, ReceiveTells, RoundTells, SendTells, TransferTells}
 pub use HostStates.{Frees, HostState, opening_host, work}
-unfoldable pub use HostStates.{with_power}
+unfoldable pub use HostStates.{repowered}
 pub use Ownership.{BaresAbove, BaresPort, BaresUpward, DropsHub, FinishesPort, HasLost}
-pub use Ownership.{HostMapHolds, IsIsolated, IsOwned, IsOwnedBut, IsRooted, IsUntouched}
-pub use Ownership.{KeepsDisabled, KeepsOwned, KeepsPort, LeavesOwned, PortOwned, StaysOwned}
-pub use Ownership.{StaysSingle, claims, root_of}
+pub use Ownership.{HostMapHolds, IsIsolated, IsOwned, IsOwnedBut, IsRooted, KeepsDisabled}
+pub use Ownership.{KeepsOwned, KeepsPort, LeavesOwned, PortOwned, StaysOwned, StaysSingle, claims}
+pub use Ownership.{root_of}
 pub use Plugs.{HasPlugs, KeepsPlugs, PlugsAt, WasPlugged, is_plug, plug_events}
 pub use Ports.{Broke, EndsAs, Entered, EntersOne, Forgets, Gained, IsDue, IsPortAt, Looked}
 pub use Ports.{ProgressOnOk, ProgressOrLost, Requested, Shown, StandsAt, StandsNowhere, Waits}
@@ -61,7 +61,7 @@ pub use Service.{told_none, told_some, was_looked_at, was_lost, was_tidied}
 pub use Soundness.{Accounted, CausesBut, DevicesAccurate, DropsSound, EachStill, EachStillBut}
 pub use Soundness.{Elsewhere, HostInvariant, HubKeeps, HubsKeep, IsAccurateAt, IsAtRest}
 pub use Soundness.{IsDroppable, IsFairTo, IsJustifiedAt, IsSilent, IsSoundBut, IsTruthOf}
-pub use Soundness.{IsUnpowered, KeepsInvariant, KnownBut, LooksKeep, NoneWait, NoneWaiting, Part}
+pub use Soundness.{KeepsInvariant, KnownBut, LooksKeep, NoneWait, NoneWaiting, Part}
 pub use Soundness.{PartKeepsInvariant, PartStays, PartsKeep, PortsListed, RefusalsJustified}
 pub use Soundness.{RootsRest, RoundsSound, TransferKeeps, TruthfulBut, known_supply}
 pub use ToldFaults.{PartFaultAllowed, RoundFaultAllowed, StopsAsRound, StopsAsTransfer}

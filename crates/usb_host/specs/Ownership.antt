@@ -4,8 +4,7 @@ use Rattle.std.specs.Prelude.{Ok, Err, OnOk, MatchResult}
 use Rattle.std.specs.BTreeMap.{is_at, insert_entry}
 use Rattle.std.specs.Map.{lookup}
 use Rattle.usb_port.specs.{path_cmp, parent_of, PortStatus}
-use Rattle.usb_device.specs.{reach}
-use Rattle.usb_tree.specs.{IsSettled, is_way}
+use Rattle.usb_tree.specs.{is_way}
 use Rattle.usb_world.specs.{World, roots_of}
 use Rattle.usb_address.specs.{AddressMap, map_without, MapHolds, MapHoldsExcept, WhileBusWorks}
 use Rattle.usb_address.specs.{KeepsAddresses}
@@ -29,12 +28,6 @@ IsOwned h = WhileBusWorks (MapHolds (claims h.entries)) h.world
 pub record HostMapHolds (h : HostState) : Type 0 where
   pub single : h.world.shared ≡ false
   pub owned : h.stopped ≡ false → IsOwned h
-
--- a world in which nothing was enumerated yet
-pub record IsUntouched (w : World) : Type 0 where
-  pub single : w.shared ≡ false
-  pub settled : IsSettled w.roots
-  pub none : (path : List ℕ) → reach w.roots path ≡ false
 
 -- Entries stand below the ports of the root
 

@@ -1,6 +1,6 @@
 -- When what a host knows of its ports is so.
 use Rattle.std.specs.Prelude.{◌≡◌, ◌≢◌, ◌⊎◌, ◌≤◌, ℕ, List, [], ◌∷◌, ◌++◌, None, Some, IsSome}
-use Rattle.std.specs.Prelude.{IfSome, unwrap_or, option_map, true, false, ⊤, Result, Ok, OnOk, All}
+use Rattle.std.specs.Prelude.{IfSome, unwrap_or, option_map, true, false, ⊤, Result, Ok, OnOk}
 use Rattle.usb_port.specs.{parent_of, port_on_hub}
 use Rattle.usb_resources.specs.{Addresses}
 use Rattle.usb_device.specs.{State, reach, state_there, port_there}
@@ -8,7 +8,7 @@ use Rattle.usb_world.specs.{EachWas, World, root_row, roots_of, changes}
 use Rattle.usb_tree.specs.{pending, is_way}
 use Rattle.usb_hub.specs.{EachElsewhere, TouchesNoPort}
 use Rattle.usb_enum.specs.{Cause, NoAddress, Accepted, HubFacts, IsFindingOf, IsRight, IsSet}
-use Rattle.usb_enum.specs.{IsKnownAs, IsOccupied, FewLosses, IsInOrder, IsOrderly}
+use Rattle.usb_enum.specs.{IsKnownAs, IsOccupied, FewLosses, IsInOrder}
 use Rattle.usb_enum.specs.declared.finding.Finding.TheVariants.{Device, Refused}
 use Rattle.usb_backlog.specs.{KeepsAll}
 use Rattle.usb_table.specs.{KnownPort, Entries, accepted_device_at, known_port, AllInSync, InSyncAt}
@@ -258,8 +258,3 @@ pub record TransferKeeps (old new : HostState) : Type 0 where
   pub sound : KeepsInvariant old new
   -- no more is left to do, but by events
   pub backlog : new.world.fault ≡ None → KeepsAll old.world new.world
-
--- a world before anything came: no root port has power
-pub record IsUnpowered (w : World) : Type 0 where
-  pub off : All (λ b. b.power ≡ false) (root_row w)
-  pub order : IsOrderly w

@@ -60,13 +60,16 @@ impl<B: Bus> Model for Host<B> {
 impl<B: Bus> Host<B> {
     ghost use Rattle.usb_host.specs.contracts.host.Host.{the_row};
 
-    /// The host of a bus, which knows of no device. Each root port is given power.
+    /// The host of a bus, which knows of no device. It takes the power of each root port and gives
+    /// it again (11.24.2.2, 11.24.2.13): a device there is disabled, and told as plugged (11.5.1). So
+    /// the bus may be one that another host had, also one that has stopped (`into_bus`).
     pub fn new(alloc: Global, bus: B) -> Host<B>
         ensures { B.modelled ≡ true → NewTells (B.world bus) (B.trace bus) result }
     {
         let mut bus = bus;
         let roots = bus.root_ports();
         'ports: for port in 1..roots + 1 {
+            bus.root_clear(port, PORT_POWER);
             bus.root_set(port, PORT_POWER);
         }
         Host {
@@ -97,7 +100,8 @@ impl<B: Bus> Host<B> {
         &mut self.bus
     }
 
-    /// The bus, for good.
+    /// The bus, for good. Its devices keep their addresses until another host is made of it
+    /// (`new`), which finds them anew.
     pub fn into_bus(self) -> B
         ensures world { B.world result ≡ self.world }
         ensures trace { B.trace result ≡ self.trace }

@@ -6,3 +6,4 @@ mod external;
 mod host;
 mod hub;
 mod quirks;
+mod second;

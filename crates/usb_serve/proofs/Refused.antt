@@ -7,7 +7,7 @@ use Rattle.usb_world.specs.{after_event}
 use Rattle.usb_world.specs.declared.event.Action.TheVariants as act
 use Rattle.usb_world.specs.declared.event.Change.TheVariants as change
 use Rattle.usb_world.specs.declared.event.Ask.{Ask}
-use Rattle.usb_host.specs.{HostState, opening_host as host_opening, with_power}
+use Rattle.usb_host.specs.{HostState, opening_host as host_opening, repowered}
 use Rattle.usb_plan.specs.{PlanFault, spelled_plan}
 use Rattle.usb_plan.specs.declared.fault.PlanFault.TheVariants as plan_fault
 use Rattle.usb_run.specs.{LimitReached, TraceFailed, Mode, Tree, Arrives, Ran, idle, silent}
@@ -52,11 +52,11 @@ abbrev refused_world : World
 refused_world = after event (after event refused_host.world)
 
 both_set : changes (root_row refused_world) ≡ 2
-unfolding after after_event new_ports with_power changed_at fresh row_of changes change_of
+unfolding after after_event new_ports repowered changed_at fresh row_of changes change_of
 both_set = refl
 
 both_came : refused_world.taken ≡ 2
-unfolding after after_event new_ports with_power changed_at fresh row_of
+unfolding after after_event new_ports repowered changed_at fresh row_of
 both_came = refl
 
 -- both plugs at once are no part of a run: the second comes only once the host has settled behind

@@ -28,7 +28,7 @@
 //! its bus is at work: each port of the root and of each listed hub is as it is listed, or a change of connection is
 //! pending there; each accepted device that is reached is as it is listed; pipes are as far as the endpoints at their
 //! other ends; between two steps ports are consistent and devices are as the rules say (`IsOrderly`): no plan is asked
-//! for. `Host::new` gives it of a plan's world in which nothing came yet, `round`, `send`, `receive` and `clear_halt`
+//! for. `Host::new` gives it where no address was ever held twice so far, `round`, `send`, `receive` and `clear_halt`
 //! keep it (`KeepsInvariant`), and so do events (`known_stays_at_events`); where no three attempts running are damaged
 //! and no address is lost three times, they also keep that each refused device has its cause. A quiet round in which no
 //! event came leaves nothing to do (`RoundsSound`, *IsAtRest*). With `settled_matches` each listing of a run is what is

@@ -1,65 +1,67 @@
--- The root ports get power one by one.
+-- The root ports lose power and get it again one by one.
 use Rattle.std.proofs.Common.{◌≡◌, ◌∙◌, refl, sym, ap, arith, suc, zero, ℕ, ◌-◌, ◌≤◌, [], length}
 use Rattle.usb_request.specs.{PORT_POWER}
-use Rattle.usb_port.specs.{powered_on, SetPower}
+use Rattle.usb_port.specs.{powered_off, powered_on, ClearPower, SetPower}
 use Rattle.usb_device.specs.{Ports, ended, vacant, taken, called, changed_at, row_of}
-use Rattle.usb_world.specs.{World, roots_of, SetsRoot, after, root_call}
-use Rattle.usb_host.specs.{with_power}
+use Rattle.usb_world.specs.{World, roots_of, ClearsRoot, SetsRoot, after, root_call}
+use Rattle.usb_host.specs.{repowered}
 
--- the first so many ports have power
-pub powered_upto : ℕ → Ports → Ports
-powered_upto zero k = k
-powered_upto (suc n) ended = ended
-powered_upto (suc n) (vacant b k) = vacant (powered_on b) (powered_upto n k)
-powered_upto (suc n) (taken b s a k) = taken (powered_on b) s a (powered_upto n k)
+-- so it is of the first so many ports
+pub repowered_upto : ℕ → Ports → Ports
+repowered_upto zero k = k
+repowered_upto (suc n) ended = ended
+repowered_upto (suc n) (vacant b k) = vacant (powered_on (powered_off b)) (repowered_upto n k)
+repowered_upto (suc n) (taken b s a k) = taken (powered_on (powered_off b)) s a (repowered_upto n k)
 
 abbrev pub powered_world : ℕ → World → World
-powered_world n w = record w { roots = powered_upto n w.roots }
+powered_world n w = record w { roots = repowered_upto n w.roots }
 
-length_upto : (n : ℕ) (k : Ports) → length (row_of (powered_upto n k)) ≡ length (row_of k)
-unfolding powered_upto row_of
+length_upto : (n : ℕ) (k : Ports) → length (row_of (repowered_upto n k)) ≡ length (row_of k)
+unfolding repowered_upto row_of
 length_upto (suc n) (vacant b k) = ap (λ m. suc m) (length_upto n k)
 length_upto (suc n) (taken b s a k) = ap (λ m. suc m) (length_upto n k)
 length_upto _ _ = refl
 
-set_one : (n : ℕ) (k : Ports) → changed_at (called SetPower) (powered_upto n k) n []
-    ≡ powered_upto (suc n) k
-unfolding powered_upto changed_at
+set_one : (n : ℕ) (k : Ports) → changed_at (called SetPower) (changed_at (called ClearPower)
+    (repowered_upto n k) n []) n [] ≡ repowered_upto (suc n) k
+unfolding repowered_upto changed_at
 set_one zero ended = refl
 set_one zero (vacant b k) = refl
 set_one zero (taken b s a k) = refl
 set_one (suc n) ended = refl
-set_one (suc n) (vacant b k) = ap (λ r. vacant (powered_on b) r) (set_one n k)
-set_one (suc n) (taken b s a k) = ap (λ r. taken (powered_on b) s a r) (set_one n k)
+set_one (suc n) (vacant b k) = ap (λ r. vacant (powered_on (powered_off b)) r) (set_one n k)
+set_one (suc n) (taken b s a k) = ap (λ r. taken (powered_on (powered_off b)) s a r) (set_one n k)
 
-all_upto : (k : Ports) → powered_upto (length (row_of k)) k ≡ with_power k
-unfolding powered_upto row_of with_power
+all_upto : (k : Ports) → repowered_upto (length (row_of k)) k ≡ repowered k
+unfolding repowered_upto row_of repowered
 all_upto ended = refl
-all_upto (vacant b k) = ap (λ r. vacant (powered_on b) r) (all_upto k)
-all_upto (taken b s a k) = ap (λ r. taken (powered_on b) s a r) (all_upto k)
+all_upto (vacant b k) = ap (λ r. vacant (powered_on (powered_off b)) r) (all_upto k)
+all_upto (taken b s a k) = ap (λ r. taken (powered_on (powered_off b)) s a r) (all_upto k)
 
 pub powered_length : (n : ℕ) (w0 w : World) → w ≡ powered_world n w0 → roots_of w ≡ roots_of w0
 powered_length n w0 w e = ap (λ v. roots_of v) e ∙ length_upto n w0.roots
 
 pub powered_none : (w : World) → w ≡ powered_world 0 w
-unfolding powered_upto
+unfolding repowered_upto
 powered_none w = refl
 
-powers_next : (w0 : World) (n : ℕ) → after (root_call SetPower (suc n)) (powered_world n w0)
-    ≡ powered_world (suc n) w0
+powers_next : (w0 : World) (n : ℕ) → after (root_call SetPower (suc n))
+    (after (root_call ClearPower (suc n)) (powered_world n w0)) ≡ powered_world (suc n) w0
 unfolding after
 powers_next w0 n = ap (λ r. record w0 { roots = r }) (set_one n w0.roots)
 
-pub powers_one : (w0 w v : World) (port : ℕ) → 1 ≤ port → w ≡ powered_world (port - 1) w0
-    → SetsRoot port PORT_POWER w v → v ≡ powered_world port w0
-powers_one w0 w v port least e s =
+pub powers_one : (w0 w u v : World) (port : ℕ) → 1 ≤ port → w ≡ powered_world (port - 1) w0
+    → ClearsRoot port PORT_POWER w u → SetsRoot port PORT_POWER u v → v ≡ powered_world port w0
+powers_one w0 w u v port least e c s =
     let n : ℕ = port - 1 in
     let next : suc n ≡ port = omega arith in
-    s.step SetPower refl ∙ ap (λ x. after (root_call SetPower port) x) e ∙ ap
-    (λ m. after (root_call SetPower m) (powered_world n w0)) (sym next) ∙ powers_next w0 n ∙ ap
-    (λ m. powered_world m w0) next
+    let both : ℕ → World → World = λ m x. after (root_call SetPower m)
+    (after (root_call ClearPower m) x) in
+    s.step SetPower refl ∙ ap (λ x. after (root_call SetPower port) x) (c.step ClearPower refl)
+    ∙ ap (λ x. both port x) e ∙ ap (λ m. both m (powered_world n w0)) (sym next)
+    ∙ powers_next w0 n ∙ ap (λ m. powered_world m w0) next
 
 pub powered_all : (w0 w : World) {n : ℕ} → n ≡ roots_of w0 → w ≡ powered_world n w0
-    → w ≡ record w0 { roots = with_power w0.roots }
+    → w ≡ record w0 { roots = repowered w0.roots }
 powered_all w0 w e h = h ∙ ap (λ m. powered_world m w0) e ∙ ap (λ r. record w0 { roots = r })
     (all_upto w0.roots)

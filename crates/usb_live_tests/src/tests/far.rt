@@ -163,6 +163,7 @@ path = "1"
 device = "thermometer"
 "#,
     host: "usbplan live 1\n\
+           port 1 clear PORT_POWER\n\
            port 1 set PORT_POWER\n\
            wait\n\
            port 1 clear C_PORT_CONNECTION\n\
@@ -190,6 +191,7 @@ device = "thermometer"
            1 config 0 0902120001010080320904000000FF000000 *\n\
            end\n",
     far: "roots 1\n\
+          ok\n\
           port 1 00010000\n\
           ok\n\
           port 1 01010100\n\

@@ -8,6 +8,7 @@ use usb_live::{LiveEnd, LiveFault, WireFault, live};
 
 /// What a far end with one device says up to its second `wait`: the course of docs/LIVE.md.
 const FAR: &str = "roots 1\n\
+                   ok\n\
                    port 1 00010000\nok\n\
                    port 1 01010100\nok\n\
                    port 1 01010000\nok\n\
@@ -22,6 +23,7 @@ const FAR: &str = "roots 1\n\
 
 /// What the host says to it.
 const HOST: &str = "usbplan live 1\n\
+                    port 1 clear PORT_POWER\n\
                     port 1 set PORT_POWER\n\
                     wait\n\
                     port 1 clear C_PORT_CONNECTION\n\
@@ -86,16 +88,16 @@ struct Row {
 const ROWS: &[Row] = &[
     // no device, and a listing that says so
     Row {
-        far: "roots 1\nok\n",
-        limit: 3,
+        far: "roots 1\nok\nok\n",
+        limit: 4,
         ended: Ok(()),
-        lines: 5,
+        lines: 6,
     },
     Row {
-        far: "roots 1\nok\nend\n",
-        limit: 2,
-        ended: Err(LiveEnd::Line(2, LiveFault::LimitReached)),
-        lines: 2,
+        far: "roots 1\nok\nok\nend\n",
+        limit: 3,
+        ended: Err(LiveEnd::Line(3, LiveFault::LimitReached)),
+        lines: 3,
     },
     Row {
         far: "roots 1\nok\nend\n",
@@ -116,10 +118,10 @@ const ROWS: &[Row] = &[
         lines: 1,
     },
     Row {
-        far: "roots 1\nok\nwait\n",
+        far: "roots 1\nok\nok\nwait\n",
         limit: 9,
-        ended: Err(LiveEnd::Line(3, LiveFault::Line(WireFault::NoAnswer))),
-        lines: 3,
+        ended: Err(LiveEnd::Line(4, LiveFault::Line(WireFault::NoAnswer))),
+        lines: 4,
     },
     Row {
         far: "roots 8\n",
@@ -140,16 +142,16 @@ const ROWS: &[Row] = &[
         lines: 2,
     },
     Row {
-        far: "roots 1\nok\nsend 1 F\n",
+        far: "roots 1\nok\nok\nsend 1 F\n",
         limit: 9,
-        ended: Err(LiveEnd::Line(3, LiveFault::Line(WireFault::BadHex))),
-        lines: 3,
+        ended: Err(LiveEnd::Line(4, LiveFault::Line(WireFault::BadHex))),
+        lines: 4,
     },
     Row {
-        far: "roots 1\nok\nshow\nclear 0\n",
+        far: "roots 1\nok\nok\nshow\nclear 0\n",
         limit: 9,
-        ended: Err(LiveEnd::Line(4, LiveFault::Line(WireFault::BadPath))),
-        lines: 6,
+        ended: Err(LiveEnd::Line(5, LiveFault::Line(WireFault::BadPath))),
+        lines: 7,
     },
     Row {
         far: "roots 1\nok\r\n",

@@ -1,16 +1,11 @@
 -- The addresses that devices hold at the beginning of a run, and after an event.
-use Rattle.std.proofs.Common.{◌≡◌, refl, sym, ap, subst, false, ℕ, List, Option, None, Some, Result}
+use Rattle.std.proofs.Common.{◌≡◌, sym, ap, subst, false, ℕ, List, Option, None, Result}
 use Rattle.std.proofs.Common.{Err, OnOk, IsSome, is_some}
 use Rattle.usb_world.specs.declared.event.Ask.{Ask}
-use Rattle.usb_world.specs.{BusFault, Limit, Memory, Failed, PlanData, TookEvent, after}
-use Rattle.usb_world.specs.{event, opening, World}
+use Rattle.usb_world.specs.{BusFault, Limit, Memory, Failed, TookEvent, after, event, World}
 use Rattle.usb_address.specs.{MapHolds, WhileBusWorks}
-use Rattle.usb_address.proofs.Interface.{event_keeps, opening_reach, opening_settled}
-use Rattle.usb_host.specs.{HostState, IsUntouched, HostMapHolds, claims}
-
--- before anything came, nothing is reachable
-pub untouched : (plan : PlanData) → IsUntouched (opening plan)
-untouched plan = record { single = refl; settled = opening_settled plan; none = opening_reach plan }
+use Rattle.usb_address.proofs.Interface.{event_keeps}
+use Rattle.usb_host.specs.{HostState, HostMapHolds, claims}
 
 -- what an event leaves of a host, whose bus stands for the world `mid` before it
 pub owning_event : (h : HostState) (mid v : World) (t : Option (List ℕ))

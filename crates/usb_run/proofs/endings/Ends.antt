@@ -1,13 +1,10 @@
 -- Where a plan's run ends.
 use Rattle.std.proofs.Common.{◌≡◌, ◌∙◌, refl, sym, ap, ap₂, subst, Ok, IsErrAnd, ℕ, zero, suc, List}
-use Rattle.std.proofs.Common.{Option, Result, Err, false, All, IfErr}
-use Rattle.std.proofs.lemmas.List.Elements.{All-cons, All-nil}
-use Rattle.usb_device.specs.{new_ports, row_of}
+use Rattle.std.proofs.Common.{Option, Result, Err, false, IfErr}
 use Rattle.usb_world.specs.{PlanData, IsPlan, AtPorts, opening, BusFault, Limit, Memory}
 use Rattle.usb_world.specs.{Failed, World, HasFault}
-use Rattle.usb_enum.proofs.Interface.{opening_in_order}
-use Rattle.usb_host.specs.{HostState, opening_host as host_opening, IsUntouched, HostInvariant}
-use Rattle.usb_host.specs.{IsUnpowered, RefusalsJustified, HostFault, RoundFaultAllowed}
+use Rattle.usb_host.specs.{HostState, opening_host as host_opening, HostInvariant}
+use Rattle.usb_host.specs.{RefusalsJustified, HostFault, RoundFaultAllowed}
 use Rattle.usb_host.specs.{TransferFaultAllowed, is_final, RoundTells, Round}
 use Rattle.usb_run.specs.{RunFault, Memory as NoMemory, transfer_ended, Knows, OneRound, IsCaused}
 use Rattle.usb_run.specs.{RunsOn, round_fault, run_fault, Opens}
@@ -15,7 +12,6 @@ use Rattle.usb_table.specs.{TransferFault}
 use Rattle.usb_host.specs.declared.fault.HostFault.TheVariants as host
 use Rattle.usb_bus.specs.{Traced}
 use Rattle.usb_run.proofs.courses.RunParts.{round_running}
-use Rattle.usb_run.proofs.courses.Ownership.{untouched}
 
 -- a fault that a bus told has its cause
 pub failed_is_caused : (fault : BusFault) (w : World) → HasFault fault w
@@ -97,16 +93,10 @@ answered_caused {A} (Err host.Memory) f w told e =
 
 -- a plan's run begins with a host of its bus
 
--- no port has power yet
-off_new : (n : ℕ) → All (λ b. b.power ≡ false) (row_of (new_ports n))
-unfolding new_ports row_of
-off_new zero = All-nil (λ b. b.power ≡ false)
-off_new (suc n) = All-cons (λ b. b.power ≡ false) _ (row_of (new_ports n)) refl (off_new n)
-
 pub opens_with : (plan : PlanData) (w : World) (t : Option (List ℕ)) (h : HostState)
     {before : Option (List ℕ)} → w ≡ opening plan → t ≡ before → h ≡ host_opening w t
     → Traced w t h.world h.trace
-    → (IsUntouched w → IsUnpowered w → HostInvariant h) → IsPlan plan → AtPorts plan.events
+    → (w.shared ≡ false → HostInvariant h) → IsPlan plan → AtPorts plan.events
     → Opens plan before h
 opens_with plan w t h {before} same silent opens traced sound rules paths =
     let P : World → Type 0 = λ x. Traced x t h.world h.trace in
@@ -114,11 +104,7 @@ opens_with plan w t h {before} same silent opens traced sound rules paths =
     record {
       is = opens ∙ ap₂ host_opening same silent;
       traced = subst Q silent (subst P same traced);
-      sound = sound (subst IsUntouched (sym same) (untouched plan))
-          (subst IsUnpowered (sym same) (record {
-            off = off_new plan.roots;
-            order = opening_in_order plan rules refl;
-          }));
+      sound = sound (ap (λ (x : World). x.shared) same);
       rules = rules;
       paths = paths;
     }

@@ -8,7 +8,7 @@ use Rattle.usb_world.specs.{Action, Plug, Unplug, Event, PlanData, IsPlan, chang
 use Rattle.usb_world.specs.declared.event.Action.TheVariants.{Change, Ask}
 use Rattle.usb_backlog.specs.{PortMark, after_first, looks_by, strays_by}
 use Rattle.usb_enum.specs.{PlugsWithin}
-use Rattle.usb_host.specs.{Weights, with_power}
+use Rattle.usb_host.specs.{Weights, repowered}
 use Rattle.usb_plan.specs.{bound_of, enough_for, greatest_total, moved, plugged_total, total_after}
 use Rattle.usb_plan.specs.{total_at}
 use Rattle.usb_run.proofs.ledgers.Sums.{uncut}
@@ -53,21 +53,21 @@ bound_uncut plan is below =
     uncut (enough_for (length plan.events) (greatest_total plan.devices plan.events)
     (sum_by moved plan.events)) (2 ^ 64 - 1) plan.limit below (omega (arith, is.limit))
 
--- Nothing is plugged where power is given first
+-- Nothing is plugged where power is taken and given first
 
-pub looks_by-opening : (m : PortMark) (n : ℕ) → looks_by m (with_power (new_ports n)) ≡ 0
-unfolding looks_by with_power new_ports
+pub looks_by-opening : (m : PortMark) (n : ℕ) → looks_by m (repowered (new_ports n)) ≡ 0
+unfolding looks_by repowered new_ports
 looks_by-opening m zero = refl
 looks_by-opening m (suc n) = looks_by-opening (after_first m) n
 
 pub strays_by-opening : (v r : PortMark) → ((i : ℕ) → v i [] ≡ false) → ((i : ℕ) → r i [] ≡ false)
-    → (n : ℕ) → strays_by v r (with_power (new_ports n)) ≡ 0
-unfolding strays_by with_power new_ports
+    → (n : ℕ) → strays_by v r (repowered (new_ports n)) ≡ 0
+unfolding strays_by repowered new_ports
 strays_by-opening v r f g zero = refl
 strays_by-opening v r f g (suc n) = let rest = strays_by-opening (after_first v) (after_first r)
     (λ i. f (suc i)) (λ i. g (suc i)) n in rw (f zero, g zero) (omega (arith, rest))
 
-pub changes-opening : (n : ℕ) → changes (row_of (with_power (new_ports n))) ≡ 0
-unfolding changes change_of row_of with_power new_ports
+pub changes-opening : (n : ℕ) → changes (row_of (repowered (new_ports n))) ≡ 0
+unfolding changes change_of row_of repowered new_ports
 changes-opening zero = refl
 changes-opening (suc n) = omega (arith, changes-opening n)

@@ -1,8 +1,9 @@
-use Rattle.std.proofs.Common.{◌≡◌, ◌∙◌, ◌-◌, ◌+◌, ℕ, ap, arith, refl, sym, subst}
+use Rattle.std.proofs.Common.{◌≡◌, ◌∙◌, ◌-◌, ◌+◌, ℕ, ap, arith, length, length-set, refl, sym}
+use Rattle.std.proofs.Common.{subst}
 use Rattle.usb_request.specs.{PORT_POWER}
-use Rattle.usb_world.specs.{World, roots_of}
+use Rattle.usb_world.specs.{World, root_row, roots_of}
 use Rattle.usb_bus.specs.{still, Traced}
-use Rattle.usb_bus.proofs.Interface.{traced_set}
+use Rattle.usb_bus.proofs.Interface.{traced_cleared, traced_set}
 use Rattle.usb_host.proofs.parts.Powers.{powered_none, powered_length, powers_one, powered_all}
 use Rattle.usb_host.proofs.parts.Powers.{powered_world}
 use Rattle.usb_host.proofs.entries.Agreements.{nested_none}
@@ -19,11 +20,19 @@ ports-init g c = record {
   silent = λ known. refl;
 }
 
-pub root_set-requires-clause-port : goal.root_set-requires-clause-port
-root_set-requires-clause-port g c known =
+pub root_clear-requires-clause-port : goal.root_clear-requires-clause-port
+root_clear-requires-clause-port g c known =
     let len = powered_length _ _ _ (c.ports.invariant.powered known) in (
       c.ports.auto.port,
       omega (arith, c.ports-test.true, c.root_ports-roots.ensures.count known),
+    )
+
+pub root_set-requires-clause-port : goal.root_set-requires-clause-port
+root_set-requires-clause-port g c known =
+    let len = powered_length _ _ _ (c.ports.invariant.powered known) in
+    let row = ap length (c.root_clear.ensures.call known).row ∙ length-set _ _ _ in (
+      c.ports.auto.port,
+      omega (arith, row, c.ports-test.true, c.root_ports-roots.ensures.count known),
     )
 
 pub ports-preserved : goal.ports-preserved
@@ -32,11 +41,15 @@ ports-preserved g c =
     let port : ℕ = c.ports.port in
     let back : port ≡ (port + 1) - 1 = omega arith in
     record {
-      powered = λ known. powers_one w0 _ _ port c.ports.auto.port (c.ports.invariant.powered known)
+      powered = λ known. powers_one w0 _ _ _ port c.ports.auto.port
+          (c.ports.invariant.powered known) (c.root_clear.ensures.call known)
           (c.root_set.ensures.call known) ∙ ap (λ k. powered_world k w0) back;
-      traced = λ known. traced_set c.ports.port PORT_POWER refl (c.ports.invariant.traced known)
+      traced = λ known. traced_set c.ports.port PORT_POWER refl
+          (traced_cleared c.ports.port PORT_POWER refl (c.ports.invariant.traced known)
+          (c.root_clear.ensures.call known) (c.root_clear.ensures.silent known))
           (c.root_set.ensures.call known) (c.root_set.ensures.silent known);
-      silent = λ known. c.root_set.ensures.silent known ∙ (c.ports.invariant.silent known);
+      silent = λ known. c.root_set.ensures.silent known ∙ (c.root_clear.ensures.silent known
+          ∙ c.ports.invariant.silent known);
     }
 
 pub invariant_of-result : goal.invariant_of-result
@@ -66,9 +79,10 @@ returns g c known =
     record {
       opens = opens;
       traced = c.ports.invariant.traced known;
-      owning = λ untouched. subst HostMapHolds (sym opens) (owning_opening w0 t0 untouched);
-      sound = λ untouched unpowered.
-          subst HostInvariant (sym opens) (sound_opening w0 t0
+      owning = λ single. subst HostMapHolds (sym opens)
+          (owning_opening w0 t0 (g.met.B.Bus.settled known c.args.bus) single);
+      sound = λ single. subst HostInvariant (sym opens) (sound_opening w0 t0
           (subst (λ (h : HostState). Traced w0 t0 h.world h.trace) opens
-          (c.ports.invariant.traced known)) untouched unpowered);
+          (c.ports.invariant.traced known)) (g.met.B.Bus.settled known c.args.bus)
+          (g.met.B.Bus.between known c.args.bus) single);
     }

@@ -1,15 +1,13 @@
 use Rattle.std.proofs.Common.{ap, refl, subst, sym, ◌∙◌, ◌+◌, ◌≤◌}
 use Rattle.usb_world.specs.{World, to_come}
-use Rattle.usb_host.specs.{HostState, IsUntouched}
+use Rattle.usb_host.specs.{HostState}
 use Rattle.usb_run.proofs.endings.Ends.{opens_with}
-use Rattle.usb_run.proofs.courses.Ownership.{untouched}
 use Rattle.usb_run.proofs.runs.Runner.with_bus.Goals as goal
 
 pub invariant_of-result : goal.invariant_of-result
 invariant_of-result g c = record {
   running = λ _. ap (λ (h : HostState). h.stopped) (c.new.ensures refl).opens;
-  owning = (c.new.ensures refl).owning (subst IsUntouched (sym c.requires)
-      (untouched c.args.plan.now));
+  owning = (c.new.ensures refl).owning (ap (λ (w : World). w.shared) c.requires);
   few_events = subst (λ (h : HostState). h.world.taken + to_come h.world ≤ 10000)
       (sym (c.new.ensures refl).opens) c.args.bus.few_events;
 }

@@ -1,0 +1,70 @@
+//! A bus around another one, that fails behind so many attempts.
+ghost use Rattle.std.specs.Prelude.{false};
+
+use usb_bus::{Attempt, Bus, BusFault, Outcome};
+
+/// The bus below, as long as attempts are left.
+#[derive(Drop)]
+pub(super) struct HaltingBus<B: Bus> {
+    bus: B,
+    attempts_left: u64,
+}
+
+impl<B: Bus> HaltingBus<B> {
+    pub(super) fn new(bus: B, attempts_left: u64) -> Self {
+        HaltingBus { bus, attempts_left }
+    }
+
+    /// The bus below.
+    pub(super) fn into_inner(self) -> B {
+        let HaltingBus {
+            bus,
+            attempts_left: _,
+        } = self;
+        bus
+    }
+}
+
+/// Nothing is said of its world.
+impl<B: Bus> Bus for HaltingBus<B> {
+    ghost modelled = { false };
+
+    ghost world = { λ halting. B.world halting.bus };
+
+    ghost trace = { λ halting. B.trace halting.bus };
+
+    fn attempt(&mut self, attempt: &Attempt) -> Result<Outcome, BusFault> {
+        let Some(left) = self.attempts_left.checked_sub(1) else {
+            return Err(BusFault::Failed);
+        };
+        self.attempts_left = left;
+        self.bus.attempt(attempt)
+    }
+
+    fn root_ports(&self) -> u8 {
+        self.bus.root_ports()
+    }
+
+    fn root_status(&self, port: u8) -> [u8; 4] {
+        if port == 0 || port > self.bus.root_ports() {
+            return [0; 4];
+        }
+        self.bus.root_status(port)
+    }
+
+    fn root_set(&mut self, port: u8, feature: u16) {
+        if port > 0 && port <= self.bus.root_ports() {
+            self.bus.root_set(port, feature);
+        }
+    }
+
+    fn root_clear(&mut self, port: u8, feature: u16) {
+        if port > 0 && port <= self.bus.root_ports() {
+            self.bus.root_clear(port, feature);
+        }
+    }
+
+    ghost settled = { λ known halting. Prim.cc known };
+
+    ghost between = { λ known halting working. Prim.cc known };
+}
