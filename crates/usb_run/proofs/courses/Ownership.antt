@@ -1,5 +1,5 @@
 -- The addresses that devices hold at the beginning of a run, and after an event.
-use Rattle.std.proofs.Common.{◌≡◌, sym, ap, subst, false, ℕ, List, Option, None, Result}
+use Rattle.std.proofs.Common.{◌≡◌, sym, ap, subst, false, ℕ, List, Option, None, Some, Result}
 use Rattle.std.proofs.Common.{Err, OnOk, IsSome, is_some}
 use Rattle.usb_world.specs.declared.event.Ask.{Ask}
 use Rattle.usb_world.specs.{BusFault, Limit, Memory, Failed, TookEvent, after, event, World}
