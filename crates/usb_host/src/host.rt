@@ -100,8 +100,12 @@ impl<B: Bus> Host<B> {
         ensures trace { B.trace result.now ≡ self.old.trace }
         ensures agree { Agrees self.old.entries self.old.addresses }
         ensures* writes_back { sem 𝓛 (Lends (the_row B.row B.Bus) B.row self.entry result
-            (λ b. record self.old { world = B.world b; trace = B.trace b; counts
-            = counts_after B.modelled self.old.counts (B.spent b) (B.failed b) })) }
+            (λ b. record self.old {
+              world = B.world b;
+              trace = B.trace b;
+              counts
+                  = counts_after B.modelled self.old.counts (B.spent b) (B.failed b);
+            })) }
     {
         &mut self.bus
     }

@@ -1071,8 +1071,15 @@ pub grown_full : (max wanted : ℕ) (got : List ℕ) {kept : List ℕ} (bytes : 
 grown_full max wanted got {kept} bytes few is more =
     let on = ends_stage-false (length bytes) max (length kept) wanted more in
     let part = take (wanted - length got) bytes in
-    omega (arith, few, on.0, on.1, ap length is, length-append got part,
-    length-take (wanted - length got) bytes)
+    omega (
+      arith,
+      few,
+      on.0,
+      on.1,
+      ap length is,
+      length-append got part,
+      length-take (wanted - length got) bytes,
+    )
 
 pub onward_more : {t : Target} {wanted : ℕ} {old mid new : World} {before r s : Option (List ℕ)}
     {got kept : List ℕ} {toggle next : Toggle} (bytes : List ℕ) → 1 ≤ t.max

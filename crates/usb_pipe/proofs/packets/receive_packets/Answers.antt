@@ -11,23 +11,34 @@ packets-init g c = (
 )
 
 pub packets-preserved : goal.packets-preserved
-packets-preserved g c = (search rules, λ known.
-    let again = ap length c.bytes-in-packets.ensures.value in
-    let full : length c.in_ok-packet.packet ≡ c.args.target.max =
-    omega (
-      arith,
-      again,
-      c.if-bytes-from.false,
-      c.from.ensures,
-      (c.in_ok-packet.ensures.asks known).short,
-    ) in
-    coming_more c.args.target c.args.ep _ c.args.wanted c.requires.target.max_least
-    c.packets-test.true (c.packets.invariant.1 known) (c.data_in.ensures.steps known)
-    (c.in_ok-packet.ensures.asks known) c.in_ok-packet.ensures.toggle
-    c.bytes.ensures.value c.in_ok-extend_from_slice.ensures.items (omega arith) full, omega (arith, c.packets.invariant.2,
-    c.in_ok-packet.ensures.fits, ap length c.bytes-in-packets.ensures.value, ap length
-    c.bytes.ensures.value, ap length c.in_ok-extend_from_slice.ensures.items, length-append
-    {A = ℕ}))
+packets-preserved g c = (
+  search rules,
+  λ known.
+      let again = ap length c.bytes-in-packets.ensures.value in
+      let full : length c.in_ok-packet.packet ≡ c.args.target.max =
+      omega (
+        arith,
+        again,
+        c.if-bytes-from.false,
+        c.from.ensures,
+        (c.in_ok-packet.ensures.asks known).short,
+      ) in
+      coming_more c.args.target c.args.ep _ c.args.wanted c.requires.target.max_least
+      c.packets-test.true (c.packets.invariant.1 known) (c.data_in.ensures.steps known)
+      (c.in_ok-packet.ensures.asks known) c.in_ok-packet.ensures.toggle
+      c.bytes.ensures.value c.in_ok-extend_from_slice.ensures.items (omega arith) full,
+  omega (
+    arith,
+    c.packets.invariant.2,
+    c.in_ok-packet.ensures.fits,
+    ap length c.bytes-in-packets.ensures.value,
+    ap length
+        c.bytes.ensures.value,
+    ap length c.in_ok-extend_from_slice.ensures.items,
+    length-append
+        {A = ℕ},
+  ),
+)
 
 pub returns-then-bytes-from-clause-received : goal.returns-then-bytes-from-clause-received
 returns-then-bytes-from-clause-received g c known =

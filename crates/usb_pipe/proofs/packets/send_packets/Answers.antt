@@ -32,19 +32,24 @@ packets-smaller g c =
 pub packets-preserved : goal.packets-preserved
 packets-preserved g c = (
   let before = c.packets.invariant.0 in
-  let some = nonzero _ _ c.is_empty.ensures c.packets-test.true in
-  let less = one_packet_less (length c.packets.rest.now) c.args.target.max
-  c.requires.target.max_least some (length c.split_at.result.1.now) (omega (arith, c.min.ensures,
-  c.from.ensures, c.split_at.ensures.back_len)) in
-  omega (arith, before, less, c.in_ok-data_out.ensures.any_bus.0.0),
+      let some = nonzero _ _ c.is_empty.ensures c.packets-test.true in
+      let less = one_packet_less (length c.packets.rest.now) c.args.target.max
+      c.requires.target.max_least some (length c.split_at.result.1.now) (omega (
+        arith,
+        c.min.ensures,
+        c.from.ensures,
+        c.split_at.ensures.back_len,
+      )) in
+      omega (arith, before, less, c.in_ok-data_out.ensures.any_bus.0.0),
   λ known.
-    going_more c.args.target c.args.ep _ c.args.bytes.now c.requires.target.max_least c.min.result
-    (nonzero _ _ c.is_empty.ensures c.packets-test.true)
-    (omega (arith, c.min.ensures, c.from.ensures))
-    c.split_at.ensures.front (c.packets.invariant.1 known) (c.data_out.ensures.steps known)
-    c.split_at.ensures.back (c.in_ok-data_out.ensures.sends known)
-    c.in_ok-data_out.ensures.toggle,
-  search rules)
+      going_more c.args.target c.args.ep _ c.args.bytes.now c.requires.target.max_least c.min.result
+      (nonzero _ _ c.is_empty.ensures c.packets-test.true)
+      (omega (arith, c.min.ensures, c.from.ensures))
+      c.split_at.ensures.front (c.packets.invariant.1 known) (c.data_out.ensures.steps known)
+      c.split_at.ensures.back (c.in_ok-data_out.ensures.sends known)
+      c.in_ok-data_out.ensures.toggle,
+  search rules,
+)
 
 pub returns : goal.returns
 returns g c =

@@ -32,10 +32,18 @@ packets-preserved g c =
           (c.packets.invariant.1 known)
           asked.heard asked.ends (c.data_in.ensures.steps known) kept more
           c.in_ok-packet.ensures.toggle,
-      (omega (arith, c.packets.invariant.2.0, c.in_ok-packet.ensures.any_bus.0.0, full_packet
-      c.args.target.max (length c.packets.bytes.items) (length c.keep.new.bytes.items)
-      c.requires.target.max_least (grown_full c.args.target.max c.args.wanted _
-      c.in_ok-packet.packet c.packets.invariant.0 kept more)), search rules),
+      (
+        omega (
+          arith,
+          c.packets.invariant.2.0,
+          c.in_ok-packet.ensures.any_bus.0.0,
+          full_packet
+              c.args.target.max (length c.packets.bytes.items) (length c.keep.new.bytes.items)
+              c.requires.target.max_least (grown_full c.args.target.max c.args.wanted _
+              c.in_ok-packet.packet c.packets.invariant.0 kept more),
+        ),
+        search rules,
+      ),
     )
 
 pub returns-then-last-clause-packets : goal.returns-then-last-clause-packets

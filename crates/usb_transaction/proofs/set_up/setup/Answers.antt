@@ -6,13 +6,19 @@ use Rattle.usb_transaction.proofs.TransactionTries.{set_up_spent, set_up_told, s
 use Rattle.usb_transaction.proofs.set_up.setup.Goals as goal
 
 pub loop-error-init : goal.loop-error-init
-loop-error-init g c = (search rules, λ known. set_up_new _ (rw
-    c.attempt_of_setup-attempt.ensures.value at c.attempt_of_setup-attempt.ensures.fits))
+loop-error-init g c = (
+  search rules,
+  λ known. set_up_new _ (rw
+      c.attempt_of_setup-attempt.ensures.value at c.attempt_of_setup-attempt.ensures.fits),
+)
 
 pub loop-error-preserved : goal.loop-error-preserved
-loop-error-preserved g c = (search rules, λ known. set_up_again c.loop-error-test.true
-    (c.loop-error.invariant.1 known) (rw c.attempt_of_setup-attempt.ensures.value at
-    (c.in-Ok.ensures.attempts known)) (sym c.is_ack.ensures ∙ c.if-is_ack.false))
+loop-error-preserved g c = (
+  search rules,
+  λ known. set_up_again c.loop-error-test.true
+      (c.loop-error.invariant.1 known) (rw c.attempt_of_setup-attempt.ensures.value at
+      (c.in-Ok.ensures.attempts known)) (sym c.is_ack.ensures ∙ c.if-is_ack.false),
+)
 
 pub returns-then-is_ack-clause-sets_up : goal.returns-then-is_ack-clause-sets_up
 returns-then-is_ack-clause-sets_up g c known =

@@ -31,8 +31,13 @@ waiting-preserved g c =
       quiet = λ is.
           let both = either_quiet _ _ (sym c.and-round.ensures ∙ is) in
           c.in_ok-retry_one.ensures.quiet both.1 ∙ i.quiet both.0;
-      spends = omega (arith, i.spends, rises, rank_most c.in-Some.path c.retry_one.ensures.path,
-          c.retry_one.ensures.spends);
+      spends = omega (
+        arith,
+        i.spends,
+        rises,
+        rank_most c.in-Some.path c.retry_one.ensures.path,
+        c.retry_one.ensures.spends,
+      );
       so = λ known. rw c.and-round.ensures (waiting_handled (i.so known) i.path
           c.retry_one.ensures.path some.0 some.1 (c.in_ok-retry_one.ensures.looks known));
       idle = λ none. absurd (one_waits (i.idle none).1 some.0 none);
@@ -56,8 +61,13 @@ pub returns-in_err-retry_one-clause-spends : goal.returns-in_err-retry_one-claus
 returns-in_err-retry_one-clause-spends g c =
     let rises = rank_rises c.waiting.last c.in-Some.path c.waiting.invariant.path c.retry_one.ensures.path
     c.in-Some.ensures.some.1 in
-    omega (arith, c.waiting.invariant.spends, rises, rank_most c.in-Some.path c.retry_one.ensures.path,
-    c.retry_one.ensures.spends)
+    omega (
+      arith,
+      c.waiting.invariant.spends,
+      rises,
+      rank_most c.in-Some.path c.retry_one.ensures.path,
+      c.retry_one.ensures.spends,
+    )
 
 pub returns-clause-spends : goal.returns-clause-spends
 returns-clause-spends g c =

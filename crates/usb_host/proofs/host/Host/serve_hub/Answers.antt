@@ -113,10 +113,12 @@ returns-in_ok-drop_hub-in-Err-clause-spends g c =
     rw (← c.self.view_is) (omega (arith, polled, c.drop_hub.ensures.spends))
 
 pub returns-in-Err-Bus-clause-told : goal.returns-in-Err-Bus-clause-told
-returns-in-Err-Bus-clause-told g c =
-    (first_of (search rules, grind (arith, common_steps)), counts_last
-    (g.B.Bus.spent c.poll.new.bus) (g.B.Bus.failed c.poll.new.bus) g.B.Bus.modelled
-    (rw c.in-Err-Bus.field-0-is at c.in-Err-Bus.ensures.any_bus.1))
+returns-in-Err-Bus-clause-told g c = (
+  first_of (search rules, grind (arith, common_steps)),
+  counts_last
+      (g.B.Bus.spent c.poll.new.bus) (g.B.Bus.failed c.poll.new.bus) g.B.Bus.modelled
+      (rw c.in-Err-Bus.field-0-is at c.in-Err-Bus.ensures.any_bus.1),
+)
 
 pub returns-in-Ok-None-clause-quiet : goal.returns-in-Ok-None-clause-quiet
 returns-in-Ok-None-clause-quiet g c is =

@@ -35,8 +35,13 @@ hubs-preserved g c =
       quiet = λ is.
           let both = either_quiet _ _ (sym c.and-round.ensures ∙ is) in
           c.in_ok-serve_hub.ensures.quiet both.1 ∙ i.quiet both.0;
-      spends = omega (arith, i.spends, rises, rank_most c.in-Some.hub c.serve_hub.ensures.path,
-          c.serve_hub.ensures.spends);
+      spends = omega (
+        arith,
+        i.spends,
+        rises,
+        rank_most c.in-Some.hub c.serve_hub.ensures.path,
+        c.serve_hub.ensures.spends,
+      );
       so = λ known. rw c.and-round.ensures (hubs_handled (i.so known) i.path
           c.serve_hub.ensures.path next (c.in_ok-serve_hub.ensures.polls known));
       idle = λ none. absurd (none_next (i.idle none).1 none next);
@@ -59,8 +64,13 @@ pub returns-in_err-serve_hub-clause-spends : goal.returns-in_err-serve_hub-claus
 returns-in_err-serve_hub-clause-spends g c =
     let rises = rank_rises c.hubs.last c.in-Some.hub c.hubs.invariant.path c.serve_hub.ensures.path
     c.in-Some.ensures.some.stands.after in
-    omega (arith, c.hubs.invariant.spends, rises, rank_most c.in-Some.hub c.serve_hub.ensures.path,
-    c.serve_hub.ensures.spends)
+    omega (
+      arith,
+      c.hubs.invariant.spends,
+      rises,
+      rank_most c.in-Some.hub c.serve_hub.ensures.path,
+      c.serve_hub.ensures.spends,
+    )
 
 pub returns-clause-spends : goal.returns-clause-spends
 returns-clause-spends g c =

@@ -42,8 +42,13 @@ returns-clause-serves g c known =
 
 pub returns-in_err-handle_below-clause-spends : goal.returns-in_err-handle_below-clause-spends
 returns-in_err-handle_below-clause-spends g c =
-    omega (arith, c.ports.invariant.spends, c.handle_below.ensures.spends, c.ports-test.true,
-    c.ports.auto.number)
+    omega (
+      arith,
+      c.ports.invariant.spends,
+      c.handle_below.ensures.spends,
+      c.ports-test.true,
+      c.ports.auto.number,
+    )
 
 pub returns-clause-spends : goal.returns-clause-spends
 returns-clause-spends g c =

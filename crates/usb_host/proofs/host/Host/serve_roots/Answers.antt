@@ -59,13 +59,25 @@ returns-clause-roots g c known =
 
 pub returns-in_err-handle_root-clause-spends : goal.returns-in_err-handle_root-clause-spends
 returns-in_err-handle_root-clause-spends g c =
-    omega (arith, c.ports.invariant.spends, c.handle_root.ensures.spends, c.ports-test.true,
-    c.ports.auto.number, c.root_ports-roots.ensures.most)
+    omega (
+      arith,
+      c.ports.invariant.spends,
+      c.handle_root.ensures.spends,
+      c.ports-test.true,
+      c.ports.auto.number,
+      c.root_ports-roots.ensures.most,
+    )
 
 pub returns-clause-spends : goal.returns-clause-spends
 returns-clause-spends g c =
-    omega (arith, c.ports.invariant.spends, c.ports.auto.number, c.ports.auto.number-end,
-    c.root_ports-roots.ensures.least, c.root_ports-roots.ensures.most)
+    omega (
+      arith,
+      c.ports.invariant.spends,
+      c.ports.auto.number,
+      c.ports.auto.number-end,
+      c.root_ports-roots.ensures.least,
+      c.root_ports-roots.ensures.most,
+    )
 
 pub returns-clause-quiet : goal.returns-clause-quiet
 returns-clause-quiet g c is =

@@ -17,16 +17,34 @@ returns-then-is_empty-clause-transfer g c known = send_told _ _ _ _ _ _
     (grind (arith, common_steps))
 
 pub returns-clause-any_bus : goal.returns-clause-any_bus
-returns-clause-any_bus g c =
-    (search rules, search rules, few_packets _ _ (omega (arith, c.self.invariant.least,
-    ap (λ (b : Bulk). b.max) c.self.view_is)))
+returns-clause-any_bus g c = (
+  search rules,
+  search rules,
+  few_packets _ _ (omega (
+    arith,
+    c.self.invariant.least,
+    ap (λ (b : Bulk). b.max) c.self.view_is,
+  )),
+)
 
 pub returns-then-is_broken-clause-any_bus : goal.returns-then-is_broken-clause-any_bus
-returns-then-is_broken-clause-any_bus g c =
-    (search rules, search rules, few_packets _ _ (omega (arith, c.self.invariant.least,
-    ap (λ (b : Bulk). b.max) c.self.view_is)))
+returns-then-is_broken-clause-any_bus g c = (
+  search rules,
+  search rules,
+  few_packets _ _ (omega (
+    arith,
+    c.self.invariant.least,
+    ap (λ (b : Bulk). b.max) c.self.view_is,
+  )),
+)
 
 pub returns-then-is_empty-clause-any_bus : goal.returns-then-is_empty-clause-any_bus
-returns-then-is_empty-clause-any_bus g c =
-    (search rules, search rules, few_packets _ _ (omega (arith, c.self.invariant.least,
-    ap (λ (b : Bulk). b.max) c.self.view_is)))
+returns-then-is_empty-clause-any_bus g c = (
+  search rules,
+  search rules,
+  few_packets _ _ (omega (
+    arith,
+    c.self.invariant.least,
+    ap (λ (b : Bulk). b.max) c.self.view_is,
+  )),
+)
