@@ -1,5 +1,5 @@
 -- What went between two states of a bus: the steps of its world, and the text that they wrote.
-use Rattle.std.specs.Prelude.{◌≡◌, ℕ, List, Option, None, Some, Result, Err, OnOk, IfOk, IsSome}
+use Rattle.std.specs.Prelude.{◌≡◌, ◌≤◌, ◌+◌, ℕ, List, Option, None, Some, Result, Err, OnOk, IfOk, IsSome}
 use Rattle.usb_port.specs.{PortCall}
 use Rattle.usb_world.specs.{Attempt, BusFault, Limit, Memory, Failed, Outcome, World}
 use Rattle.usb_world.specs.{IsAttempt, Attempted, AttemptsWithin, AttemptFails, TookEvent, after}
@@ -48,3 +48,7 @@ pub record StepRun (n : ℕ) (old : World) (before : Option (List ℕ)) (new : W
 
 abbrev pub Steps : {S : Type 0} → (S → World) → (S → Option (List ℕ)) → ℕ → S → S → Type 0
 Steps world trace n old new = StepRun n (world old) (trace old) (world new) (trace new)
+
+-- over any bus, modelled or not: at most n attempts were made, and the root ports are as many
+abbrev pub Spends : {S : Type 0} → (S → ℕ) → (S → ℕ) → ℕ → S → S → Type 0
+Spends spent ports n old new = (spent new ≤ spent old + n) × (ports new ≡ ports old)

@@ -1,10 +1,11 @@
-ghost use Rattle.std.specs.Prelude.{◌≡◌, ◌≤◌, ℕ, List, Option, None, Bool, true};
+ghost use Rattle.std.specs.Prelude.{◌≡◌, ◌≤◌, ℕ, List, Option, None, Some, Bool, true, IfOk, IfErr};
 ghost use Rattle.usb_port.specs.PortStates.{status_of};
 ghost use Rattle.usb_port.specs.Calls.{IsSetFeature, IsClearFeature};
-ghost use Rattle.usb_world.specs.Worlds.{World, IsAttempt, IsRootPort, root_port_at, roots_of};
+ghost use Rattle.usb_world.specs.declared.types.BusFault.{BusFault as AFault};
+ghost use Rattle.usb_world.specs.Worlds.{World, IsAttempt, IsRootPort, FitsMaximum, root_port_at, roots_of};
 ghost use Rattle.usb_world.specs.Steps.{WorldInvariant, SetsRoot, ClearsRoot};
 ghost use Rattle.usb_tree.specs.AttemptPackets.{IsSettled};
-ghost use Rattle.usb_bus.specs.Traces.{Attempts};
+ghost use Rattle.usb_bus.specs.Traces.{Attempts, Spends};
 
 use crate::{Attempt, BusFault, Outcome};
 
@@ -23,6 +24,15 @@ pub trait Bus {
     /// comes, is a line; nothing else is written by these calls.
     ghost trace: { Self → Option (List ℕ) };
 
+    /// How many attempts were made, of a bus that counts them; 0 of one that does not.
+    ghost spent: { Self → ℕ };
+
+    /// The fault that was reported last, if one was.
+    ghost failed: { Self → Option AFault };
+
+    /// How many root ports there are. The number never changes.
+    ghost ports: { Self → ℕ };
+
     /// Applies the events that are due, and then makes one attempt.
     ///
     /// # Errors
@@ -32,11 +42,15 @@ pub trait Bus {
     fn attempt(&mut self, attempt: &Attempt) -> Result<Outcome, BusFault>
         requires { IsAttempt attempt.now }
         ensures attempts { modelled ≡ true → Attempts attempt.now (world self.old) (trace self.old)
-            result (world self.new) (trace self.new) };
+            result (world self.new) (trace self.new) }
+        ensures spends { Spends spent ports 1 self.old self.new }
+        ensures fits { IfOk result (FitsMaximum attempt.now.max) }
+        ensures told { IfErr result (λ fault. failed self.new ≡ Some fault) };
 
     /// The number of root ports, 1 to 7.
     fn root_ports(&self) -> u8
         ensures count { modelled ≡ true → result ≡ roots_of (world self.now) }
+        ensures ports { result ≡ ports self.now }
         ensures least { 1 ≤ result }
         ensures most { result ≤ 7 };
 
@@ -50,14 +64,19 @@ pub trait Bus {
         requires port { modelled ≡ true → IsRootPort (world self.old) port }
         requires named { IsSetFeature feature }
         ensures call { modelled ≡ true → SetsRoot port feature (world self.old) (world self.new) }
-        ensures silent { modelled ≡ true → trace self.new ≡ trace self.old };
+        ensures silent { modelled ≡ true → trace self.new ≡ trace self.old }
+        ensures unspent { Spends spent ports 0 self.old self.new };
 
     /// Clears a feature of a root port (11.24.2.2).
     fn root_clear(&mut self, port: u8, feature: u16)
         requires port { modelled ≡ true → IsRootPort (world self.old) port }
         requires named { IsClearFeature feature }
         ensures call { modelled ≡ true → ClearsRoot port feature (world self.old) (world self.new) }
-        ensures silent { modelled ≡ true → trace self.new ≡ trace self.old };
+        ensures silent { modelled ≡ true → trace self.new ≡ trace self.old }
+        ensures unspent { Spends spent ports 0 self.old self.new };
+
+    /// A law: the root ports are those of the world.
+    ghost counted: { modelled ≡ true → (s : Self) → ports s ≡ roots_of (world s) };
 
     /// A law: between two calls no device of the world remembers a packet.
     ghost settled: { modelled ≡ true → (s : Self) → IsSettled (world s).roots };

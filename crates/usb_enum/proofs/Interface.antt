@@ -12,6 +12,7 @@ pub use Rattle.usb_enum.proofs.devices.ReachedDevices.{disabled_known, pends_the
 pub use Rattle.usb_enum.proofs.readings.Readings.{devices_then}
 pub use Rattle.usb_enum.proofs.refusals.Refusals.{each_joint}
 pub use Rattle.usb_enum.proofs.Targets.{device_fits, enumeration_most, order_most, status_most}
+pub use Rattle.usb_enum.proofs.stops.ReportedFaults.{ports_reported}
 pub use Rattle.usb_enum.proofs.readings.Truths.{ruled_there}
 pub use Rattle.usb_enum.proofs.verdicts.VerdictExamples.{examples, small, two_ports}
 pub use Rattle.usb_enum.proofs.verdicts.VerdictRows.{row_silent}

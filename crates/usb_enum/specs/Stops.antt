@@ -1,7 +1,7 @@
 -- What a failed transfer means.
 use Rattle.std.specs.Prelude.{◌≡◌, ◌≢◌, ◌⊎◌, ℕ, Option, Some, None, unwrap_or, Result, Ok, Err, ⊤}
 use Rattle.usb_enum.specs.Device.{LAST_TIER}
-use Rattle.usb_world.specs.{World, HasFault}
+use Rattle.usb_world.specs.{BusFault, World, HasFault}
 use Rattle.usb_hub.specs.{HubPort, Root, External}
 use Rattle.usb_pipe.specs.{PipeFault}
 use Rattle.usb_pipe.specs.declared.fault.PipeFault.TheVariants as pipe
@@ -54,6 +54,16 @@ abbrev pub FaultAllowed : EnumFault → World → Type 0
 FaultAllowed fault.ParentLost w = ⊥
 FaultAllowed (fault.Bus f) w = HasFault f w
 FaultAllowed fault.Memory w = ⊤
+
+-- over any bus: a fault of the bus is the one that it reported last
+abbrev pub IsReported : EnumFault → Option BusFault → Type 0
+IsReported fault.ParentLost last = ⊤
+IsReported (fault.Bus f) last = last ≡ Some f
+IsReported fault.Memory last = ⊤
+
+abbrev pub IsReportedStop : Stop → Option BusFault → Type 0
+IsReportedStop (Refused why) last = ⊤
+IsReportedStop (Fault f) last = IsReported f last
 
 -- a hub is too deep in the last tier, and bad in those above alone; there was an address
 abbrev pub FitsTier : ℕ → Cause → Type 0

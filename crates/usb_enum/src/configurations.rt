@@ -9,7 +9,8 @@ ghost use Rattle.usb_enum.specs.Readings.{HasTotal, HasConfiguration, HasConfigu
 ghost use Rattle.usb_enum.specs.Reasons.{TextRead, TextsAsked};
 ghost use Rattle.usb_enum.specs.Text.{ValuesDiffer, choice_of};
 ghost use Rattle.usb_enum.specs.TextLengths.{IsAnswered, ReadsText, FewFor};
-ghost use Rattle.usb_enum.specs.Stops.{IsPlainStop};
+ghost use Rattle.usb_bus.specs.Traces.{Spends};
+ghost use Rattle.usb_enum.specs.Stops.{IsPlainStop, IsReportedStop};
 
 use crate::stop::{Stop, answered_or};
 use crate::{Cause, ConfigText, ConfigTexts, Request};
@@ -25,9 +26,12 @@ use usb_transaction::Target;
 const HEAD: u16 = CONFIGURATION_LENGTH as u16;
 
 /// wTotalLength of the configuration of an index, from its first nine bytes.
+#[tactic(auto, using(usb_pipe::proofs::Interface::bound_wide))]
 fn total_length<B: Bus>(alloc: Global, bus: &mut B, target: Target, index: u8) -> Result<u16, Stop>
     requires target { IsTarget target }
     requires max { 8 ≤ target.max }
+    ensures spends { Spends B.spent B.ports (read_bound CONFIGURATION_LENGTH) bus.old bus.new }
+    ensures told { IfErr result (λ stop. IsReportedStop stop (B.failed bus.new)) }
     ensures fits { MatchResult result
         (λ total. (CONFIGURATION_LENGTH ≤ total) × (total ≤ 65535)) IsPlainStop }
     ensures read { B.modelled ≡ true → Read B.world B.trace (read_bound CONFIGURATION_LENGTH)
@@ -43,6 +47,7 @@ fn total_length<B: Bus>(alloc: Global, bus: &mut B, target: Target, index: u8) -
 }
 
 /// The configuration text of an index.
+#[tactic(auto, using(usb_pipe::proofs::Interface::bound_wide))]
 fn read_text<B: Bus>(
     alloc: Global,
     bus: &mut B,
@@ -51,6 +56,8 @@ fn read_text<B: Bus>(
 ) -> Result<ConfigText, Stop>
     requires target { IsTarget target }
     requires max { 8 ≤ target.max }
+    ensures spends { Spends B.spent B.ports configuration_bound bus.old bus.new }
+    ensures told { IfErr result (λ stop. IsReportedStop stop (B.failed bus.new)) }
     ensures plain { IfErr result IsPlainStop }
     ensures read { B.modelled ≡ true → Read B.world B.trace configuration_bound
         (Answered target (λ old new text. TextRead target index text old new)
@@ -77,6 +84,8 @@ pub(crate) fn read_configurations<B: Bus>(
 ) -> Result<ConfigTexts, Stop>
     requires target { IsTarget target }
     requires max { 8 ≤ target.max }
+    ensures spends { Spends B.spent B.ports (255 * configuration_bound) bus.old bus.new }
+    ensures told { IfErr result (λ stop. IsReportedStop stop (B.failed bus.new)) }
     ensures all { MatchResult result
         (λ texts. (length texts ≡ count) × ValuesDiffer texts) IsPlainStop }
     ensures read { B.modelled ≡ true → Read B.world B.trace (255 * configuration_bound)

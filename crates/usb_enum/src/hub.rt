@@ -11,7 +11,8 @@ ghost use Rattle.usb_enum.specs.Readings.{Ruled, HasPorts, HasSupply, IsGoodHub}
 ghost use Rattle.usb_enum.specs.Device.{CanServe};
 ghost use Rattle.usb_enum.specs.Hub.{CountTold, SupplyTold, IsPowered, Powered, Started};
 ghost use Rattle.usb_enum.specs.Frames.{OnlyTells};
-ghost use Rattle.usb_enum.specs.Stops.{IsHubStop};
+ghost use Rattle.usb_bus.specs.Traces.{Spends};
+ghost use Rattle.usb_enum.specs.Stops.{IsHubStop, IsReportedStop};
 
 use crate::stop::{Stop, answered_or};
 use crate::{Cause, ConfigText};
@@ -41,6 +42,8 @@ pub(crate) fn start_hub<B: Bus>(
 ) -> Result<HubFacts, Stop>
     requires target { IsTarget target }
     requires max { 8 ≤ target.max }
+    ensures spends { Spends B.spent B.ports hub_bound bus.old bus.new }
+    ensures told { IfErr result (λ stop. IsReportedStop stop (B.failed bus.new)) }
     ensures facts { MatchResult result (CanServe text.now) IsHubStop }
     ensures part { B.modelled ≡ true → Part B.world B.trace (OnlyTells target.addr) hub_bound
         (Answered target (Started target) (λ facts. Ruled (IsGoodHub text.now facts)))
@@ -56,9 +59,12 @@ pub(crate) fn start_hub<B: Bus>(
 }
 
 /// bNbrPorts of the hub descriptor, 1 to 7.
+#[tactic(auto, using(usb_pipe::proofs::Interface::bound_wide))]
 fn port_count<B: Bus>(alloc: Global, bus: &mut B, target: Target) -> Result<u8, Stop>
     requires target { IsTarget target }
     requires max { 8 ≤ target.max }
+    ensures spends { Spends B.spent B.ports (read_bound HUB_LENGTH) bus.old bus.new }
+    ensures told { IfErr result (λ stop. IsReportedStop stop (B.failed bus.new)) }
     ensures count { MatchResult result IsPortNumber IsHubStop }
     ensures read { B.modelled ≡ true → Read B.world B.trace (read_bound HUB_LENGTH)
         (Answered target (CountTold target) HasPorts) (StopsHub target) bus.old result bus.new }
@@ -71,10 +77,12 @@ fn port_count<B: Bus>(alloc: Global, bus: &mut B, target: Target) -> Result<u8, 
 }
 
 /// What each port of a hub gives, in mA, by the hub's status.
-#[tactic(auto, using(crate::proofs::ports::Hubs::hub_supply))]
+#[tactic(auto, using(usb_pipe::proofs::Interface::bound_wide, crate::proofs::ports::Hubs::hub_supply))]
 fn port_supply<B: Bus>(alloc: Global, bus: &mut B, target: Target) -> Result<u16, Stop>
     requires target { IsTarget target }
     requires max { 8 ≤ target.max }
+    ensures spends { Spends B.spent B.ports (read_bound 2) bus.old bus.new }
+    ensures told { IfErr result (λ stop. IsReportedStop stop (B.failed bus.new)) }
     ensures said { MatchResult result (λ supply. (supply ≡ 500) ⊎ (supply ≡ 100)) IsHubStop }
     ensures read { B.modelled ≡ true → Read B.world B.trace (read_bound 2)
         (Both (SupplyTold target) (λ old new supply. DeviceFact (HasSupply supply) target old new))
@@ -87,6 +95,8 @@ fn port_supply<B: Bus>(alloc: Global, bus: &mut B, target: Target) -> Result<u16
 /// Gives power to the first so many ports of a hub.
 fn power_ports<B: Bus>(bus: &mut B, target: Target, ports: u8) -> Result<(), Stop>
     requires { IsTarget target }
+    ensures spends { Spends B.spent B.ports (ports * write_bound) bus.old bus.new }
+    ensures told { IfErr result (λ stop. IsReportedStop stop (B.failed bus.new)) }
     ensures stops { IfErr result IsHubStop }
     ensures part { B.modelled ≡ true → Part B.world B.trace (OnlyTells target.addr)
         (ports * write_bound) (λ old new _. Powered target ports old new)
@@ -101,6 +111,8 @@ fn power_ports<B: Bus>(bus: &mut B, target: Target, ports: u8) -> Result<(), Sto
 /// Gives power to a port of a hub.
 fn power_port<B: Bus>(bus: &mut B, target: Target, port: u8) -> Result<(), Stop>
     requires { IsTarget target }
+    ensures spends { Spends B.spent B.ports write_bound bus.old bus.new }
+    ensures told { IfErr result (λ stop. IsReportedStop stop (B.failed bus.new)) }
     ensures stops { IfErr result IsHubStop }
     ensures part { B.modelled ≡ true → Part B.world B.trace (OnlyTells target.addr) write_bound
         (λ old new _. IsPowered target port old new) (StopsPower target port)

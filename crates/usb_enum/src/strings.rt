@@ -8,7 +8,8 @@ ghost use Rattle.usb_enum.specs.Readings.{HasString, language_of, string_in, no_
 ghost use Rattle.usb_enum.specs.Refusals.{no_fault};
 ghost use Rattle.usb_enum.specs.StringRequests.{AsksString, AsksLanguage, ReadsString, ReadsStrings};
 ghost use Rattle.usb_enum.specs.Text.{first_language_of, string_units};
-ghost use Rattle.usb_enum.specs.Stops.{IsPlainStop};
+ghost use Rattle.usb_bus.specs.Traces.{Spends};
+ghost use Rattle.usb_enum.specs.Stops.{IsPlainStop, IsReportedStop};
 
 use crate::StringUnits;
 use crate::stop::{Stop, stop_of};
@@ -81,6 +82,7 @@ fn units_of(alloc: Global, bytes: &[u8]) -> Result<Option<StringUnits>, AllocErr
 }
 
 /// The bytes of a string descriptor, or `None` where the device answered by STALL.
+#[tactic(auto, using(usb_pipe::proofs::Interface::bound_wide))]
 fn string_bytes<B: Bus>(
     alloc: Global,
     bus: &mut B,
@@ -90,6 +92,8 @@ fn string_bytes<B: Bus>(
 ) -> Result<Option<Vec<u8>>, Stop>
     requires target { IsTarget target }
     requires max { 8 ≤ target.max }
+    ensures spends { Spends B.spent B.ports (read_bound 255) bus.old bus.new }
+    ensures told { IfErr result (λ stop. IsReportedStop stop (B.failed bus.new)) }
     ensures plain { IfErr result IsPlainStop }
     ensures read { B.modelled ≡ true → Read B.world B.trace (read_bound 255)
         (Answered target (AsksString target index language) (HasString index))
@@ -114,6 +118,8 @@ fn read_one<B: Bus>(
 ) -> Result<Option<StringUnits>, Stop>
     requires target { IsTarget target }
     requires max { 8 ≤ target.max }
+    ensures spends { Spends B.spent B.ports (read_bound 255) bus.old bus.new }
+    ensures told { IfErr result (λ stop. IsReportedStop stop (B.failed bus.new)) }
     ensures plain { IfErr result IsPlainStop }
     ensures read { B.modelled ≡ true → Read B.world B.trace (read_bound 255)
         (Answered target (ReadsString target index language)
@@ -133,6 +139,8 @@ fn read_one<B: Bus>(
 fn language<B: Bus>(alloc: Global, bus: &mut B, target: Target) -> Result<Option<u16>, Stop>
     requires target { IsTarget target }
     requires max { 8 ≤ target.max }
+    ensures spends { Spends B.spent B.ports (read_bound 255) bus.old bus.new }
+    ensures told { IfErr result (λ stop. IsReportedStop stop (B.failed bus.new)) }
     ensures plain { IfErr result IsPlainStop }
     ensures read { B.modelled ≡ true → Read B.world B.trace (read_bound 255)
         (Answered target (AsksLanguage target) (λ language spec. language ≡ language_of spec))
@@ -153,6 +161,8 @@ pub(crate) fn read_strings<B: Bus>(
 ) -> Result<Strings, Stop>
     requires target { IsTarget target }
     requires max { 8 ≤ target.max }
+    ensures spends { Spends B.spent B.ports strings_bound bus.old bus.new }
+    ensures told { IfErr result (λ stop. IsReportedStop stop (B.failed bus.new)) }
     ensures plain { IfErr result IsPlainStop }
     ensures read { B.modelled ≡ true → Read B.world B.trace strings_bound
         (Answered target (ReadsStrings target indexes)

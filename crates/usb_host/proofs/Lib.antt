@@ -7,6 +7,7 @@ pub mod rests
 pub mod services
 pub mod ParentPaths
 pub mod Interface
+pub mod BusCounts
 pub mod HostProgress
 pub mod UnchangedHubs
 pub mod RoundParts

@@ -28,12 +28,14 @@ pub host_rests_then : (a : HostState) {b : HostState} (c : HostState) → OnlyBu
 host_rests_then a c p q = q ∙ ap (λ (h : HostState). record h {
   world = c.world;
   trace = c.trace;
+  counts = c.counts;
 }) p
 
 pub remains_then : (a b c : HostState) → Remains a b → Remains b c → Remains a c
 remains_then a b c p q = q ∙ ap (λ (h : HostState). record h {
   world = c.world;
   trace = c.trace;
+  counts = c.counts;
   pipes = c.pipes;
 }) p
 
@@ -71,3 +73,7 @@ did_then Quiet Quiet a b c p q ab bc = remains_then a b c ab bc
 pub goes_by : {n k : ℕ} (a b : HostState) → HostSteps n a b → n ≤ k → b.stopped ≡ a.stopped
     → HostRuns k a b
 goes_by {n = n} {k = k} a b w le e = record { went = went_wider n k w le; going = e }
+
+pub either_quiet : (a b : Round) → either a b ≡ Quiet → (a ≡ Quiet) × (b ≡ Quiet)
+either_quiet Worked b is = absurd (cc is)
+either_quiet Quiet b is = (refl, is)

@@ -8,3 +8,4 @@ pub mod Ranks
 pub mod RisingEntries
 pub mod Roots
 pub mod WaitingDevices
+pub mod WholeFindings

@@ -1,17 +1,32 @@
 -- A host, as its callers see it.
-use Rattle.std.specs.Prelude.{◌≡◌, ℕ, ◌+◌, Bool, false, List, [], Option}
+use Rattle.std.specs.Prelude.{◌≡◌, ℕ, ◌+◌, Bool, true, false, List, [], Option, None}
 use Rattle.std.specs.FinSet as set
 use Rattle.usb_port.specs.{powered_off, powered_on}
 use Rattle.usb_device.specs.{Ports, ended, vacant, taken}
-use Rattle.usb_world.specs.{World, root_row, to_come, changes}
+use Rattle.usb_world.specs.{BusFault, World, root_row, to_come, changes}
 use Rattle.usb_resources.specs.{Addresses, Releases}
 use Rattle.usb_enum.specs.{Finding}
 use Rattle.usb_enum.specs.declared.finding.Finding.TheVariants.{Device, Refused}
 use Rattle.usb_table.specs.{Pipes, Entries}
 
+-- what a bus counted and reported, where it is not modelled: of a modelled one its world says so
+pub record BusCounts : Type 0 where
+  pub spent : ℕ  -- attempts
+  pub failed : Option BusFault  -- the fault that was reported last
+
+abbrev pub counts_of : Bool → ℕ → Option BusFault → BusCounts
+counts_of true spent failed = record { spent = 0; failed = None }
+counts_of false spent failed = record { spent = spent; failed = failed }
+
+-- the same of a bus that a caller leaves in the host: nothing changes of a modelled one
+abbrev pub counts_after : Bool → BusCounts → ℕ → Option BusFault → BusCounts
+counts_after true old spent failed = old
+counts_after false old spent failed = record { spent = spent; failed = failed }
+
 pub record HostState : Type 0 where
   pub world : World  -- the bus's
   pub trace : Option (List ℕ)  -- the text that the bus's trace has, where that is known
+  pub counts : BusCounts
   pub entries : Entries
   pub pipes : List (List ℕ × Pipes)  -- to what was found, by path
   pub addresses : Addresses  -- those that are taken
@@ -28,6 +43,7 @@ abbrev pub opening_host : World → Option (List ℕ) → HostState
 opening_host w t = record {
   world = record w { roots = repowered w.roots };
   trace = t;
+  counts = record { spent = 0; failed = None };
   entries =
       [];
   pipes = [];

@@ -19,7 +19,7 @@ pub mod Transfers
 pub mod Changes
 pub mod Requests
 -- the words of this crate, wherever one stands
-pub use Agreement.{Agrees, Nested}
+pub use Agreement.{Agrees, AreWhole, Nested}
 pub use Backlog.{ChangeCleared, ClearsConnection, ClearsReset, FindsNone, LookPaid, LookPays}
 pub use Backlog.{PaysAtLook, PaysAtServe, ResetCleared, RestsCalm, ServePaid, ServePays, bare, calm}
 pub use Backlog.{found, hubs, seen, tidied, unseen}
@@ -36,7 +36,7 @@ pub use PortHandling.{ClearsChange, Climbs, Decides, Disabled, DisablesOnWay, Dr
 pub use PortHandling.{HasWay, HoldsAt, InvariantAfterPort, IsDroppedAt, IsLost, IsOpen, LetsGoOn}
 pub use PortHandling.{PortCaused, RestElsewhere, ServesSound, Tidies, Watches}
 pub use HostCalls.{ClearTells, NewTells, ReceiveTells, RoundTells, SendTells, TransferTells}
-pub use HostStates.{Frees, HostState, opening_host, work}
+pub use HostStates.{BusCounts, Frees, HostState, counts_after, counts_of, opening_host, work}
 unfoldable pub use HostStates.{repowered}
 pub use Ownership.{BaresAbove, BaresPort, BaresUpward, DropsHub, FinishesPort, HasLost}
 pub use Ownership.{HostMapHolds, IsIsolated, IsOwned, IsOwnedBut, IsRooted, KeepsDisabled}
@@ -45,7 +45,8 @@ pub use Ownership.{root_of}
 pub use Plugs.{HasPlugs, KeepsPlugs, PlugsAt, WasPlugged, is_plug, plug_events}
 pub use Ports.{Broke, EndsAs, Entered, EntersOne, Forgets, Gained, IsDue, IsPortAt, Looked}
 pub use Ports.{ProgressOnOk, ProgressOrLost, Requested, Shown, StandsAt, StandsNowhere, Waits}
-pub use Progress.{AddsNoWork, Did, DidRound, HostProgress, HostRuns, HostSteps, OnlyBusSteps}
+pub use Progress.{AddsNoWork, Did, DidRound, HostProgress, HostRuns, HostSpends, HostSteps}
+pub use Progress.{OnlyBusSteps, QuietKeeps}
 pub use Progress.{Remains, either, idle_work, waiting}
 pub use Service.{ClearsAndReads, ClearsTold, DidParts, Discovers, DoneWhere, DropsOne}
 pub use Service.{EachLookedAgain, EachPolled, EndsAt, FinishesAt, HandlesAt, HandlesBelow}
@@ -64,7 +65,7 @@ pub use Soundness.{IsDroppable, IsFairTo, IsJustifiedAt, IsSilent, IsSoundBut, I
 pub use Soundness.{KeepsInvariant, KnownBut, LooksKeep, NoneWait, NoneWaiting, Part}
 pub use Soundness.{PartKeepsInvariant, PartStays, PartsKeep, PortsListed, RefusalsJustified}
 pub use Soundness.{RootsRest, RoundsSound, TransferKeeps, TruthfulBut, known_supply}
-pub use ToldFaults.{PartFaultAllowed, RoundFaultAllowed, StopsAsRound, StopsAsTransfer}
+pub use ToldFaults.{HostReported, IsReportedLast, PartFaultAllowed, RoundFaultAllowed, StopsAsRound, StopsAsTransfer}
 pub use ToldFaults.{TransferFaultAllowed, host_fault, host_told, is_final, is_last_fault}
 pub use Transfers.{ClearedAt, MovesThrough, ReceivedAt, SentAt, table_in}
 pub use Changes.{HasOnlyWorldChanges, KeepsEach, was_disabled}

@@ -1,11 +1,12 @@
 -- That a round gets on.
-use Rattle.std.specs.Prelude.{◌≡◌, ℕ, ◌+◌, ◌*◌, ◌<◌, ◌≤◌}
+use Rattle.std.specs.Prelude.{◌≡◌, ℕ, ◌+◌, ◌*◌, ◌<◌, ◌≤◌, Result, IfOk}
 use Rattle.std.specs.List.{count_by}
 use Rattle.usb_world.specs.{root_row, changes}
 use Rattle.usb_bus.specs.{StepRun}
 use Rattle.usb_table.specs.{Entries, is_waiting}
 use Rattle.usb_host.specs.HostStates.{HostState, work}
 use Rattle.usb_host.specs.Ownership.{IsRooted}
+use Rattle.usb_host.specs.declared.fault.HostFault.{HostFault}
 use Rattle.usb_host.specs.declared.host.Round.{Round}
 use Rattle.usb_host.specs.declared.host.Round.TheVariants.{Worked, Quiet}
 
@@ -29,11 +30,21 @@ HostProgress old new = idle_work new + 2 * old.world.attempts < idle_work old + 
 
 -- nothing that the host keeps has changed
 abbrev pub OnlyBusSteps : HostState → HostState → Type 0
-OnlyBusSteps old new = new ≡ record old { world = new.world; trace = new.trace }
+OnlyBusSteps old new =
+    new ≡ record old { world = new.world; trace = new.trace; counts = new.counts }
 
 -- nothing that is known of the ports has changed; hubs may have been polled
 abbrev pub Remains : HostState → HostState → Type 0
-Remains old new = new ≡ record old { world = new.world; trace = new.trace; pipes = new.pipes }
+Remains old new = new ≡ record old {
+  world = new.world;
+  trace = new.trace;
+  counts = new.counts;
+  pipes = new.pipes;
+}
+
+-- over any bus that is not modelled: at most so many attempts were made
+abbrev pub HostSpends : ℕ → HostState → HostState → Type 0
+HostSpends most old new = new.counts.spent ≤ old.counts.spent + most
 
 -- at most so many attempts were made, and what was written is the text of the bus's steps
 abbrev pub HostSteps : ℕ → HostState → HostState → Type 0
@@ -43,6 +54,10 @@ HostSteps most old new = StepRun most old.world old.trace new.world new.trace
 pub record HostRuns (most : ℕ) (old new : HostState) : Type 0 where
   pub went : HostSteps most old new
   pub going : new.stopped ≡ old.stopped
+
+-- over any bus: a part of a round that is quiet changed no entry
+abbrev pub QuietKeeps : Result Round HostFault → HostState → HostState → Type 0
+QuietKeeps result old new = IfOk result (λ round. round ≡ Quiet → new.entries ≡ old.entries)
 
 -- what a part of a round did
 abbrev pub Did : Round → HostState → HostState → Type 0

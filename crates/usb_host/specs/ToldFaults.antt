@@ -1,7 +1,8 @@
 -- What a fault of the host says of the bus, and when the host stops.
 use Rattle.std.specs.Prelude.{◌≡◌, ◌↔◌, ⊤, Bool, true, false, IsTrue, IsErrOf, IsErr, Result, Ok}
-use Rattle.std.specs.Prelude.{Err}
-use Rattle.usb_world.specs.{World, HasFault}
+use Rattle.std.specs.Prelude.{Err, IfErr, Option, Some}
+use Rattle.usb_world.specs.{BusFault, World, HasFault}
+use Rattle.usb_enum.specs.{EnumFault, IsReported}
 use Rattle.usb_table.specs.{TableFault}
 use Rattle.usb_table.specs.declared.fault.TableFault.TheVariants as table
 use Rattle.usb_host.specs.declared.fault.HostFault.{HostFault}
@@ -18,13 +19,25 @@ abbrev pub host_told : {A : Type 0} → Result A TableFault → Result A HostFau
 host_told (Ok done) = Ok done
 host_told (Err fault) = Err (host_fault fault)
 
--- a fault that ends a part of a round: of the bus, which tells it where it does what its world
--- does, or of memory
-abbrev pub PartFaultAllowed : Bool → HostFault → World → Type 0
-PartFaultAllowed modelled Stopped w = ⊥
-PartFaultAllowed modelled (Transfer fault) w = ⊥
-PartFaultAllowed modelled (Bus fault) w = modelled ≡ true → HasFault fault w
-PartFaultAllowed modelled Memory w = ⊤
+-- over any bus that is not modelled: a fault of the bus is the one that it reported last
+abbrev pub HostReported : {A : Type 0} → Bool → Result A EnumFault → HostState → Type 0
+HostReported modelled result h =
+    modelled ≡ false → IfErr result (λ fault. IsReported fault h.counts.failed)
+
+abbrev pub IsReportedLast : HostFault → Option BusFault → Type 0
+IsReportedLast Stopped last = ⊤
+IsReportedLast (Transfer fault) last = ⊤
+IsReportedLast (Bus fault) last = last ≡ Some fault
+IsReportedLast Memory last = ⊤
+
+-- a fault that ends a part of a round: of the bus, whose world has it, or which reported it last,
+-- or of memory
+abbrev pub PartFaultAllowed : Bool → HostFault → HostState → Type 0
+PartFaultAllowed modelled Stopped h = ⊥
+PartFaultAllowed modelled (Transfer fault) h = ⊥
+PartFaultAllowed modelled (Bus fault) h =
+    (modelled ≡ true → HasFault fault h.world) × (modelled ≡ false → h.counts.failed ≡ Some fault)
+PartFaultAllowed modelled Memory h = ⊤
 
 -- a fault of a whole round
 abbrev pub RoundFaultAllowed : HostFault → World → Type 0

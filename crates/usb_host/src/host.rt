@@ -1,9 +1,13 @@
 //! The host of a bus, and what its callers may ask of it.
-ghost use Rattle.std.specs.Prelude.{◌≡◌, true, IfOk, IfErr};
+ghost use Rattle.std.specs.Prelude.{◌≡◌, ◌*◌, [], length, true, false, IfOk, IfErr};
 ghost use Rattle.std.specs.Borrow.{Lends, sem};
 ghost use Rattle.usb_host.specs.Agreement.{Agrees};
 ghost use Rattle.usb_host.specs.HostCalls.{ClearTells, NewTells, ReceiveTells, RoundTells, SendTells};
-ghost use Rattle.usb_host.specs.ToldFaults.{StopsAsRound, StopsAsTransfer, host_told, is_final};
+ghost use Rattle.usb_transaction.specs.Transactions.{transaction_bound};
+ghost use Rattle.usb_host.specs.Bounds.{clear_bound, round_bound};
+ghost use Rattle.usb_host.specs.HostStates.{counts_after, counts_of};
+ghost use Rattle.usb_host.specs.Progress.{HostSpends, QuietKeeps};
+ghost use Rattle.usb_host.specs.ToldFaults.{IsReportedLast, StopsAsRound, StopsAsTransfer, host_told, is_final};
 
 use crate::{HostFault, Tree};
 use std::alloc::Global;
@@ -39,7 +43,7 @@ impl<B: Bus> Model for Host<B> {
     ghost use Rattle.std.specs.Ordering.{nat_cmp};
     ghost use Rattle.usb_device.specs.TreeCodes.{ports_code};
     ghost use Rattle.usb_host.specs.Agreement.{Agrees};
-    ghost use Rattle.usb_host.specs.HostStates.{HostState};
+    ghost use Rattle.usb_host.specs.HostStates.{HostState, counts_of};
 
     ghost coded = { Prim.hlevel (codes, ports_code, set.code {R = nat_cmp} coded_ℕ) };
 
@@ -48,6 +52,7 @@ impl<B: Bus> Model for Host<B> {
     ghost view = { λ h. record {
       world = B.world h.bus;
       trace = B.trace h.bus;
+      counts = counts_of B.modelled (B.spent h.bus) (B.failed h.bus);
       entries = h.table.entries;
       pipes = h.table.pipes;
       addresses = h.pool;
@@ -64,7 +69,8 @@ impl<B: Bus> Host<B> {
     /// it again (11.24.2.2, 11.24.2.13): a device there is disabled, and told as plugged (11.5.1). So
     /// the bus may be one that another host had, also one that has stopped (`into_bus`).
     pub fn new(alloc: Global, bus: B) -> Host<B>
-        ensures { B.modelled ≡ true → NewTells (B.world bus) (B.trace bus) result }
+        ensures any_bus { (result.entries ≡ []) × (result.stopped ≡ false) }
+        ensures tells { B.modelled ≡ true → NewTells (B.world bus) (B.trace bus) result }
     {
         let mut bus = bus;
         let roots = bus.root_ports();
@@ -85,6 +91,8 @@ impl<B: Bus> Host<B> {
     pub fn bus(&self) -> &B
         ensures world { B.world result.now ≡ self.now.world }
         ensures trace { B.trace result.now ≡ self.now.trace }
+        ensures counts { self.now.counts
+            ≡ counts_of B.modelled (B.spent result.now) (B.failed result.now) }
     {
         &self.bus
     }
@@ -95,7 +103,12 @@ impl<B: Bus> Host<B> {
         ensures trace { B.trace result.now ≡ self.old.trace }
         ensures agree { Agrees self.old.entries self.old.addresses }
         ensures* writes_back { sem 𝓛 (Lends (the_row B.row B.Bus) B.row self.entry result
-            (λ b. record self.old { world = B.world b; trace = B.trace b })) }
+            (λ b. record self.old {
+              world = B.world b;
+              trace = B.trace b;
+              counts
+                  = counts_after B.modelled self.old.counts (B.spent b) (B.failed b);
+            })) }
     {
         &mut self.bus
     }
@@ -105,6 +118,7 @@ impl<B: Bus> Host<B> {
     pub fn into_bus(self) -> B
         ensures world { B.world result ≡ self.world }
         ensures trace { B.trace result ≡ self.trace }
+        ensures counts { self.counts ≡ counts_of B.modelled (B.spent result) (B.failed result) }
     {
         let Host {
             alloc: _,
@@ -142,6 +156,9 @@ impl<B: Bus> Host<B> {
     /// `Stopped` where an earlier call failed, and nothing happens. `Bus` where the bus makes no
     /// more steps and `Memory` where memory was refused; the host then stops.
     pub fn round(&mut self) -> Result<Round, HostFault>
+        ensures any_bus { HostSpends round_bound self.old self.new × (B.modelled ≡ false
+            → IfErr result (λ fault. IsReportedLast fault self.new.counts.failed))
+            × QuietKeeps result self.old self.new }
         ensures stopped { StopsAsRound self.old result self.new }
         ensures tells { B.modelled ≡ true → RoundTells self.old result self.new }
     {
@@ -162,6 +179,9 @@ impl<B: Bus> Host<B> {
     /// accepted is at the path, with `NoEndpoint` where it has no such endpoint or is a hub, else as
     /// `BulkPipe::send` tells it. `Bus` where the bus makes no more steps; the host then stops.
     pub fn send(&mut self, path: &PortPath, bytes: &[u8]) -> Result<(), HostFault>
+        ensures any_bus { HostSpends (transaction_bound * length bytes.now) self.old self.new
+            × (B.modelled ≡ false
+            → IfErr result (λ fault. IsReportedLast fault self.new.counts.failed)) }
         ensures stopped { StopsAsTransfer self.old result self.new }
         ensures tells { B.modelled ≡ true → SendTells path.now bytes.now self.old result self.new }
     {
@@ -180,6 +200,9 @@ impl<B: Bus> Host<B> {
     ///
     /// As those of `send`, and `Memory` where the bytes find no room; the host then stops.
     pub fn receive(&mut self, path: &PortPath, packets: u16) -> Result<Vec<u8>, HostFault>
+        ensures any_bus { HostSpends (transaction_bound * packets) self.old self.new
+            × (B.modelled ≡ false
+            → IfErr result (λ fault. IsReportedLast fault self.new.counts.failed)) }
         ensures stopped { StopsAsTransfer self.old result self.new }
         ensures tells { B.modelled ≡ true → ReceiveTells path.now packets self.old result self.new }
     {
@@ -198,6 +221,9 @@ impl<B: Bus> Host<B> {
     ///
     /// As those of `send`; `NoEndpoint` where the device has neither endpoint.
     pub fn clear_halt(&mut self, path: &PortPath) -> Result<(), HostFault>
+        ensures any_bus { HostSpends clear_bound self.old self.new
+            × (B.modelled ≡ false
+            → IfErr result (λ fault. IsReportedLast fault self.new.counts.failed)) }
         ensures stopped { StopsAsTransfer self.old result self.new }
         ensures tells { B.modelled ≡ true → ClearTells path.now self.old result self.new }
     {

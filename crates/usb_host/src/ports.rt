@@ -14,10 +14,12 @@ ghost use Rattle.usb_host.specs.Backlog.{hubs};
 ghost use Rattle.usb_host.specs.Changes.{HasOnlyWorldChanges, was_disabled};
 ghost use Rattle.usb_host.specs.PortHandling.{DisablesOnWay, Climbs};
 ghost use Rattle.usb_host.specs.Ports.{IsPortAt, StandsNowhere, IsDue, Waits, Broke, EndsAs, Entered, Forgets};
-ghost use Rattle.usb_host.specs.Progress.{OnlyBusSteps};
+ghost use Rattle.usb_enum.specs.Bounds.{read_bound, widest_enumeration};
+ghost use Rattle.usb_host.specs.Bounds.{clearing_bound, drop_bound, handling_bound, look_bound, serving_bound};
+ghost use Rattle.usb_host.specs.Progress.{HostSpends, OnlyBusSteps, QuietKeeps};
 ghost use Rattle.usb_host.specs.Requests.{ClearsError, ClearsFeature, ClearsOthers, ClearsOwn, ClearsPort, ClearsWhere, SettlesPort, ShowsPort, TidiesPort};
 ghost use Rattle.usb_host.specs.Service.{Discovers, DropsOne, FinishesAt, HandlesNumber, HandlesPort, LooksAfterError, LooksAt, LooksOnceMore, RenewsPort, ServesOwn, ServesPort};
-ghost use Rattle.usb_host.specs.ToldFaults.{PartFaultAllowed};
+ghost use Rattle.usb_host.specs.ToldFaults.{HostReported, PartFaultAllowed};
 
 use crate::HostFault;
 use crate::host::{Host, Round};
@@ -47,7 +49,8 @@ impl<B: Bus> Host<B> {
     pub(crate) fn handle_root(&mut self, number: u8) -> Result<(), HostFault>
         requires port { B.modelled ≡ true → IsRootPort self.old.world number }
         requires number { IsPortNumber number }
-        ensures told { IfErr result (λ fault. PartFaultAllowed B.modelled fault self.new.world) }
+        ensures spends { HostSpends handling_bound self.old self.new }
+        ensures told { IfErr result (λ fault. PartFaultAllowed B.modelled fault self.new) }
         ensures handles { B.modelled ≡ true → HandlesPort (number ∷ [])
             ((root_port_at self.old.world number).connection_changed ≡ true)
             self.old result self.new }
@@ -64,7 +67,8 @@ impl<B: Bus> Host<B> {
     /// Handles a port of a hub, where that is known and has the port.
     pub(crate) fn handle_below(&mut self, hub: &PortPath, number: u8) -> Result<Round, HostFault>
         requires { IsPath hub.now }
-        ensures told { IfErr result (λ fault. PartFaultAllowed B.modelled fault self.new.world) }
+        ensures spends { HostSpends handling_bound self.old self.new }
+        ensures told { IfErr result (λ fault. PartFaultAllowed B.modelled fault self.new) }
         ensures handles { B.modelled ≡ true
             → HandlesNumber hub.now number self.old result self.new }
     {
@@ -82,7 +86,8 @@ impl<B: Bus> Host<B> {
     /// Clears the changes of a hub itself, by way of its first port.
     pub(crate) fn serve_own(&mut self, hub: &PortPath) -> Result<(), HostFault>
         requires { IsPath hub.now }
-        ensures told { IfErr result (λ fault. PartFaultAllowed B.modelled fault self.new.world) }
+        ensures spends { HostSpends handling_bound self.old self.new }
+        ensures told { IfErr result (λ fault. PartFaultAllowed B.modelled fault self.new) }
         ensures serves { B.modelled ≡ true → ServesOwn self.old result self.new }
     {
         let mut path = hub.duplicate();
@@ -98,7 +103,8 @@ impl<B: Bus> Host<B> {
     /// Clears the changes of the hub that has a port. Where it does not answer, it is dropped.
     fn handle_own(&mut self, path: &PortPath, port: KnownPort) -> Result<(), HostFault>
         requires { IsPortAt B.modelled path.now port self.old }
-        ensures told { IfErr result (λ fault. PartFaultAllowed B.modelled fault self.new.world) }
+        ensures spends { HostSpends handling_bound self.old self.new }
+        ensures told { IfErr result (λ fault. PartFaultAllowed B.modelled fault self.new) }
         ensures serves { B.modelled ≡ true → ServesOwn self.old result self.new }
     {
         let cleared = self.clear_own(port.port);
@@ -109,6 +115,8 @@ impl<B: Bus> Host<B> {
     fn clear_own(&mut self, port: HubPort) -> Result<(), EnumFault>
         requires port { IsAsked B.modelled self.old.world port }
         requires askable { IsAskable port }
+        ensures spends { HostSpends clearing_bound self.old self.new }
+        ensures told { HostReported B.modelled result self.new }
         ensures rests { OnlyBusSteps self.old self.new }
         ensures clears { B.modelled ≡ true → ClearsOwn port self.old result self.new }
     {
@@ -123,8 +131,10 @@ impl<B: Bus> Host<B> {
     /// Looks again at a device that waits for an address.
     pub(crate) fn retry_one(&mut self, path: &PortPath) -> Result<Round, HostFault>
         requires { Waits path.now self.old }
+        ensures spends { HostSpends handling_bound self.old self.new }
         ensures path { IsPath path.now }
-        ensures told { IfErr result (λ fault. PartFaultAllowed B.modelled fault self.new.world) }
+        ensures quiet { QuietKeeps result self.old self.new }
+        ensures told { IfErr result (λ fault. PartFaultAllowed B.modelled fault self.new) }
         ensures looks { B.modelled ≡ true → LooksOnceMore path.now self.old result self.new }
     {
         // for the checker: a path has one to seven numbers
@@ -154,7 +164,8 @@ impl<B: Bus> Host<B> {
     /// Handles a port. Where a request to its hub fails, that hub is dropped.
     fn service_port(&mut self, path: &PortPath, port: KnownPort) -> Result<(), HostFault>
         requires { IsPortAt B.modelled path.now port self.old }
-        ensures told { IfErr result (λ fault. PartFaultAllowed B.modelled fault self.new.world) }
+        ensures spends { HostSpends handling_bound self.old self.new }
+        ensures told { IfErr result (λ fault. PartFaultAllowed B.modelled fault self.new) }
         ensures handles { B.modelled ≡ true
             → HandlesPort path.now (IsDue self.old.world port.port) self.old result self.new }
     {
@@ -168,8 +179,11 @@ impl<B: Bus> Host<B> {
         path: &PortPath,
         served: Result<(), EnumFault>,
     ) -> Result<(), HostFault>
-        requires { B.modelled ≡ true → IfErr served (λ fault. Broke path.now fault self.old.world) }
-        ensures told { IfErr result (λ fault. PartFaultAllowed B.modelled fault self.new.world) }
+        requires broke { B.modelled ≡ true
+            → IfErr served (λ fault. Broke path.now fault self.old.world) }
+        requires told { HostReported B.modelled served self.old }
+        ensures spends { HostSpends drop_bound self.old self.new }
+        ensures told { IfErr result (λ fault. PartFaultAllowed B.modelled fault self.new) }
         ensures ends { EndsAs served result }
         ensures finishes { B.modelled ≡ true → FinishesAt path.now served self.old result self.new }
     {
@@ -189,7 +203,9 @@ impl<B: Bus> Host<B> {
     /// there is forgotten and found anew; else its changes are cleared.
     fn serve(&mut self, path: &PortPath, port: KnownPort) -> Result<(), EnumFault>
         requires { IsPortAt B.modelled path.now port self.old }
-        ensures { B.modelled ≡ true → ServesPort path.now port self.old result self.new }
+        ensures spends { HostSpends serving_bound self.old self.new }
+        ensures told { HostReported B.modelled result self.new }
+        ensures serves { B.modelled ≡ true → ServesPort path.now port self.old result self.new }
     {
         let status = self.status(port.port)?;
         if status.connection_changed {
@@ -225,6 +241,8 @@ impl<B: Bus> Host<B> {
     fn status(&mut self, port: HubPort) -> Result<PortStatus, EnumFault>
         requires port { IsAsked B.modelled self.old.world port }
         requires askable { IsAskable port }
+        ensures spends { HostSpends (read_bound 4) self.old self.new }
+        ensures told { HostReported B.modelled result self.new }
         ensures rests { OnlyBusSteps self.old self.new }
         ensures shows { B.modelled ≡ true → ShowsPort port self.old result self.new }
     {
@@ -235,6 +253,8 @@ impl<B: Bus> Host<B> {
     fn clear(&mut self, port: HubPort, feature: u16) -> Result<(), EnumFault>
         requires port { IsAsked B.modelled self.old.world port }
         requires named { IsClearFeature feature }
+        ensures spends { HostSpends write_bound self.old self.new }
+        ensures told { HostReported B.modelled result self.new }
         ensures rests { OnlyBusSteps self.old self.new }
         ensures clears { B.modelled ≡ true
             → ClearsFeature port feature self.old result self.new }
@@ -246,6 +266,8 @@ impl<B: Bus> Host<B> {
     fn clear_where(&mut self, asked: bool, port: HubPort, feature: u16) -> Result<(), EnumFault>
         requires port { IsAsked B.modelled self.old.world port }
         requires named { IsClearFeature feature }
+        ensures spends { HostSpends write_bound self.old self.new }
+        ensures told { HostReported B.modelled result self.new }
         ensures rests { OnlyBusSteps self.old self.new }
         ensures clears { B.modelled ≡ true
             → ClearsWhere asked port feature self.old result self.new }
@@ -260,6 +282,8 @@ impl<B: Bus> Host<B> {
     /// Clears a change of a port that asks for nothing else, where that is asked for.
     fn clear_other(&mut self, asked: bool, port: HubPort, feature: u16) -> Result<(), EnumFault>
         requires { IsAsked B.modelled self.old.world port }
+        ensures spends { HostSpends write_bound self.old self.new }
+        ensures told { HostReported B.modelled result self.new }
         ensures rests { OnlyBusSteps self.old self.new }
         ensures none { asked ≡ false → (result ≡ Ok tt) × (self.new ≡ self.old) }
         ensures clears { B.modelled ≡ true
@@ -275,6 +299,8 @@ impl<B: Bus> Host<B> {
     /// Clears each change of a port whose connection has not changed.
     fn settle(&mut self, port: HubPort, status: PortStatus) -> Result<(), EnumFault>
         requires { IsAsked B.modelled self.old.world port }
+        ensures spends { HostSpends (4 * write_bound) self.old self.new }
+        ensures told { HostReported B.modelled result self.new }
         ensures rests { OnlyBusSteps self.old self.new }
         ensures settles { B.modelled ≡ true → SettlesPort port status self.old result self.new }
     {
@@ -285,6 +311,8 @@ impl<B: Bus> Host<B> {
     /// Clears the changes of a port that ask for nothing else: of its suspend and its over-current.
     fn clear_others(&mut self, port: HubPort, status: PortStatus) -> Result<(), EnumFault>
         requires { IsAsked B.modelled self.old.world port }
+        ensures spends { HostSpends (2 * write_bound) self.old self.new }
+        ensures told { HostReported B.modelled result self.new }
         ensures rests { OnlyBusSteps self.old self.new }
         ensures none { HasOnlyWorldChanges status → (result ≡ Ok tt) × (self.new ≡ self.old) }
         ensures clears { B.modelled ≡ true
@@ -297,6 +325,8 @@ impl<B: Bus> Host<B> {
     /// Clears what an earlier reset or error left of a port whose connection has not changed.
     fn clear_other_changes(&mut self, port: HubPort, status: PortStatus) -> Result<(), EnumFault>
         requires { IsAsked B.modelled self.old.world port }
+        ensures spends { HostSpends (2 * write_bound) self.old self.new }
+        ensures told { HostReported B.modelled result self.new }
         ensures rests { OnlyBusSteps self.old self.new }
         ensures tidies { B.modelled ≡ true → TidiesPort port status self.old result self.new }
     {
@@ -308,7 +338,9 @@ impl<B: Bus> Host<B> {
     /// the status is read, so that no later change is lost.
     fn enumerate_again(&mut self, path: &PortPath, port: KnownPort) -> Result<(), EnumFault>
         requires { IsPortAt B.modelled path.now port self.old }
-        ensures { B.modelled ≡ true → LooksAt path.now port self.old result self.new }
+        ensures spends { HostSpends look_bound self.old self.new }
+        ensures told { HostReported B.modelled result self.new }
+        ensures looks { B.modelled ≡ true → LooksAt path.now port self.old result self.new }
     {
         let status = self.clear_change(port.port)?;
         self.renew(path, port, status)
@@ -318,6 +350,8 @@ impl<B: Bus> Host<B> {
     /// anew.
     fn look_after_error(&mut self, path: &PortPath, port: KnownPort) -> Result<(), EnumFault>
         requires { IsPortAt B.modelled path.now port self.old }
+        ensures spends { HostSpends look_bound self.old self.new }
+        ensures told { HostReported B.modelled result self.new }
         ensures hubs { hubs self.new.entries ≤ hubs self.old.entries + 1 }
         ensures looks { B.modelled ≡ true
             → LooksAfterError path.now port self.old result self.new }
@@ -330,6 +364,8 @@ impl<B: Bus> Host<B> {
     fn clear_change(&mut self, port: HubPort) -> Result<PortStatus, EnumFault>
         requires port { IsAsked B.modelled self.old.world port }
         requires askable { IsAskable port }
+        ensures spends { HostSpends clearing_bound self.old self.new }
+        ensures told { HostReported B.modelled result self.new }
         ensures rests { OnlyBusSteps self.old self.new }
         ensures clears { B.modelled ≡ true → ClearsPort port self.old result self.new }
     {
@@ -343,6 +379,8 @@ impl<B: Bus> Host<B> {
     fn clear_error(&mut self, port: HubPort) -> Result<PortStatus, EnumFault>
         requires port { IsAsked B.modelled self.old.world port }
         requires askable { IsAskable port }
+        ensures spends { HostSpends clearing_bound self.old self.new }
+        ensures told { HostReported B.modelled result self.new }
         ensures rests { OnlyBusSteps self.old self.new }
         ensures clears { B.modelled ≡ true → ClearsError port self.old result self.new }
     {
@@ -359,6 +397,8 @@ impl<B: Bus> Host<B> {
         status: PortStatus,
     ) -> Result<(), EnumFault>
         requires { IsPortAt B.modelled path.now port self.old }
+        ensures spends { HostSpends widest_enumeration self.old self.new }
+        ensures told { HostReported B.modelled result self.new }
         ensures hubs { hubs self.new.entries ≤ hubs self.old.entries + 1 }
         ensures renews { B.modelled ≡ true
             → RenewsPort path.now port status.connected self.old result self.new }
@@ -375,6 +415,8 @@ impl<B: Bus> Host<B> {
     fn discover(&mut self, path: &PortPath, port: KnownPort) -> Result<(), EnumFault>
         requires port { IsPortAt B.modelled path.now port self.old }
         requires away { has_at path.now self.old.entries ≡ false }
+        ensures spends { HostSpends widest_enumeration self.old self.new }
+        ensures told { HostReported B.modelled result self.new }
         ensures entered { Entered path.now self.old result self.new }
         ensures finds { B.modelled ≡ true → Discovers path.now port self.old result self.new }
     {
@@ -392,7 +434,8 @@ impl<B: Bus> Host<B> {
     /// Drops a hub that failed: its port is disabled, what stood there and below is forgotten, and
     /// it is listed as lost. Where its port cannot be disabled, its own hub is dropped in its place.
     pub(crate) fn drop_hub(&mut self, hub: PortPath) -> Result<(), HostFault>
-        ensures told { IfErr result (λ fault. PartFaultAllowed B.modelled fault self.new.world) }
+        ensures spends { HostSpends drop_bound self.old self.new }
+        ensures told { IfErr result (λ fault. PartFaultAllowed B.modelled fault self.new) }
         ensures drops { B.modelled ≡ true → DropsOne hub self.old result self.new }
     {
         let lost = self.disable_upward(hub)?;
@@ -404,9 +447,10 @@ impl<B: Bus> Host<B> {
 
     /// Disables the port at a path, or the nearest one above it that can be disabled.
     fn disable_upward(&mut self, first: PortPath) -> Result<PortPath, HostFault>
+        ensures spends { HostSpends drop_bound self.old self.new }
         ensures ends { MatchResult result
             (λ path. IsSome (known_port path self.old.entries))
-            (λ fault. PartFaultAllowed B.modelled fault self.new.world) }
+            (λ fault. PartFaultAllowed B.modelled fault self.new) }
         ensures rests { OnlyBusSteps self.old self.new }
         ensures climbs { B.modelled ≡ true → Climbs first self.old result self.new }
     {
@@ -426,9 +470,10 @@ impl<B: Bus> Host<B> {
 
     /// Disables the port at a path, and says whether it could.
     fn disable(&mut self, path: &PortPath) -> Result<bool, HostFault>
+        ensures spends { HostSpends write_bound self.old self.new }
         ensures ends { MatchResult result
             (λ done. IsTrue done → IsSome (known_port path.now self.old.entries))
-            (λ fault. PartFaultAllowed B.modelled fault self.new.world) }
+            (λ fault. PartFaultAllowed B.modelled fault self.new) }
         ensures rests { OnlyBusSteps self.old self.new }
         ensures disables { B.modelled ≡ true → DisablesOnWay path.now self.old result self.new }
     {

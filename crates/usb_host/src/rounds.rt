@@ -7,7 +7,8 @@ ghost use Rattle.usb_table.specs.NextEntries.{ComesAfter, IsNext, IsLast};
 ghost use Rattle.usb_resources.specs.Pool.{IsFull};
 ghost use Rattle.usb_host.specs.Agreement.{Agrees};
 ghost use Rattle.usb_host.specs.Ports.{Waits};
-ghost use Rattle.usb_host.specs.Progress.{either};
+ghost use Rattle.usb_host.specs.Bounds.{hub_poll_bound, hubs_bound, looks_bound, roots_bound, round_bound, told_bound};
+ghost use Rattle.usb_host.specs.Progress.{HostSpends, QuietKeeps, either};
 ghost use Rattle.usb_host.specs.Service.{LooksAgain, ServesEach, ServesHub, ServesHubs, ServesPorts, ServesTold, WentByParts, first_byte};
 ghost use Rattle.usb_host.specs.ToldFaults.{PartFaultAllowed};
 
@@ -32,7 +33,9 @@ impl Round {
 impl<B: Bus> Host<B> {
     /// The root ports, the hubs, and the devices that wait.
     pub(crate) fn run_round(&mut self) -> Result<Round, HostFault>
-        ensures told { IfErr result (λ fault. PartFaultAllowed B.modelled fault self.new.world) }
+        ensures spends { HostSpends round_bound self.old self.new }
+        ensures quiet { QuietKeeps result self.old self.new }
+        ensures told { IfErr result (λ fault. PartFaultAllowed B.modelled fault self.new) }
         ensures parts { B.modelled ≡ true → WentByParts self.old result self.new }
     {
         let roots = self.serve_roots()?;
@@ -43,7 +46,9 @@ impl<B: Bus> Host<B> {
 
     /// Handles each root port whose connection has changed, by rising number.
     fn serve_roots(&mut self) -> Result<Round, HostFault>
-        ensures told { IfErr result (λ fault. PartFaultAllowed B.modelled fault self.new.world) }
+        ensures spends { HostSpends roots_bound self.old self.new }
+        ensures quiet { QuietKeeps result self.old self.new }
+        ensures told { IfErr result (λ fault. PartFaultAllowed B.modelled fault self.new) }
         ensures roots { B.modelled ≡ true → ServesEach self.old result self.new }
     {
         let mut round = Round::Quiet;
@@ -59,7 +64,9 @@ impl<B: Bus> Host<B> {
 
     /// Polls each hub that is known, by rising path, and handles the ports of which it tells.
     fn serve_hubs(&mut self) -> Result<Round, HostFault>
-        ensures told { IfErr result (λ fault. PartFaultAllowed B.modelled fault self.new.world) }
+        ensures spends { HostSpends hubs_bound self.old self.new }
+        ensures quiet { QuietKeeps result self.old self.new }
+        ensures told { IfErr result (λ fault. PartFaultAllowed B.modelled fault self.new) }
         ensures hubs { B.modelled ≡ true → ServesHubs self.old result self.new }
     {
         let mut round = Round::Quiet;
@@ -74,8 +81,10 @@ impl<B: Bus> Host<B> {
     /// Polls a hub, and handles the ports of which it tells; where it does not answer, it is dropped.
     fn serve_hub(&mut self, hub: &PortPath) -> Result<Round, HostFault>
         requires { IsSome (hub_facts_at hub.now self.old.entries) }
+        ensures spends { HostSpends hub_poll_bound self.old self.new }
         ensures path { IsPath hub.now }
-        ensures told { IfErr result (λ fault. PartFaultAllowed B.modelled fault self.new.world) }
+        ensures quiet { QuietKeeps result self.old self.new }
+        ensures told { IfErr result (λ fault. PartFaultAllowed B.modelled fault self.new) }
         ensures polls { B.modelled ≡ true → ServesHub hub.now self.old result self.new }
     {
         // for the checker: a path has one to seven numbers
@@ -97,7 +106,8 @@ impl<B: Bus> Host<B> {
     /// Serves what a hub told: its ports, and the hub itself where none of them has a change.
     fn service_reported(&mut self, hub: &PortPath, bits: u8) -> Result<(), HostFault>
         requires { IsPath hub.now }
-        ensures told { IfErr result (λ fault. PartFaultAllowed B.modelled fault self.new.world) }
+        ensures spends { HostSpends told_bound self.old self.new }
+        ensures told { IfErr result (λ fault. PartFaultAllowed B.modelled fault self.new) }
         ensures serves { B.modelled ≡ true → ServesTold hub.now bits self.old result self.new }
     {
         if bits == 1 {
@@ -110,7 +120,8 @@ impl<B: Bus> Host<B> {
     /// Handles each port of a hub whose bit is set, by rising number, as long as the hub is known.
     fn serve_ports(&mut self, hub: &PortPath, bits: u8) -> Result<(), HostFault>
         requires { IsPath hub.now }
-        ensures told { IfErr result (λ fault. PartFaultAllowed B.modelled fault self.new.world) }
+        ensures spends { HostSpends told_bound self.old self.new }
+        ensures told { IfErr result (λ fault. PartFaultAllowed B.modelled fault self.new) }
         ensures serves { B.modelled ≡ true → ServesPorts hub.now bits self.old result self.new }
     {
         'ports: for number in 1..8u8 {
@@ -123,7 +134,9 @@ impl<B: Bus> Host<B> {
 
     /// Looks again at each device that waits for an address, by rising path, while one is free.
     fn retry_waiting(&mut self) -> Result<Round, HostFault>
-        ensures told { IfErr result (λ fault. PartFaultAllowed B.modelled fault self.new.world) }
+        ensures spends { HostSpends looks_bound self.old self.new }
+        ensures quiet { QuietKeeps result self.old self.new }
+        ensures told { IfErr result (λ fault. PartFaultAllowed B.modelled fault self.new) }
         ensures looks { B.modelled ≡ true → LooksAgain self.old result self.new }
     {
         let mut round = Round::Quiet;

@@ -4,8 +4,8 @@ ghost use Rattle.usb_transaction.specs.Transactions.{IsTarget};
 ghost use Rattle.usb_port.specs.Status.{status_in};
 ghost use Rattle.usb_request.specs.declared.feature.TheConstants.{PORT_RESET};
 ghost use Rattle.usb_request.specs.Requests.{get_port_status, set_port_feature as set_feature, clear_port_feature as clear_feature};
-ghost use Rattle.usb_pipe.specs.Control.{control_bound, write_bound};
-ghost use Rattle.usb_bus.specs.Traces.{Steps};
+ghost use Rattle.usb_pipe.specs.Control.{BusToldIt, control_bound, write_bound};
+ghost use Rattle.usb_bus.specs.Traces.{Spends, Steps};
 ghost use Rattle.usb_address.specs.Ownership.{KeepsAddresses};
 ghost use Rattle.usb_hub.specs.Addresses.{KeepsDevices};
 ghost use Rattle.usb_hub.specs.Requests.{ReadAs, Commanded};
@@ -27,6 +27,8 @@ pub fn hub_port_status<B: Bus>(
     port: u8,
 ) -> Result<PortStatus, PipeFault>
     requires { IsTarget hub }
+    ensures any_bus { Spends B.spent B.ports (control_bound hub.max 4) bus.old bus.new
+        × BusToldIt result (B.failed bus.new) }
     ensures steps { B.modelled ≡ true
         → Steps B.world B.trace (control_bound hub.max 4) bus.old bus.new }
     ensures told { B.modelled ≡ true → ReadAs status_in hub (get_port_status port)
@@ -51,6 +53,8 @@ pub fn set_hub_port<B: Bus>(
     feature: u16,
 ) -> Result<(), PipeFault>
     requires { IsTarget hub }
+    ensures any_bus { Spends B.spent B.ports write_bound bus.old bus.new
+        × BusToldIt result (B.failed bus.new) }
     ensures steps { B.modelled ≡ true → Steps B.world B.trace write_bound bus.old bus.new }
     ensures ordered { B.modelled ≡ true → Commanded hub (set_feature feature port)
         (B.world bus.old) result (B.world bus.new) }
@@ -75,6 +79,8 @@ pub fn clear_hub_port<B: Bus>(
     feature: u16,
 ) -> Result<(), PipeFault>
     requires { IsTarget hub }
+    ensures any_bus { Spends B.spent B.ports write_bound bus.old bus.new
+        × BusToldIt result (B.failed bus.new) }
     ensures steps { B.modelled ≡ true → Steps B.world B.trace write_bound bus.old bus.new }
     ensures ordered { B.modelled ≡ true → Commanded hub (clear_feature feature port)
         (B.world bus.old) result (B.world bus.new) }

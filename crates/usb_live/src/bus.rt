@@ -1,5 +1,5 @@
 //! A bus that knows its course.
-ghost use Rattle.std.specs.Prelude.{◌≡◌, ℕ, List, Option, None, false};
+ghost use Rattle.std.specs.Prelude.{◌≡◌, ℕ, List, Option, None, false, option_map};
 ghost use Rattle.usb_bus.specs.Watch.{inner_of};
 ghost use Rattle.usb_stream.specs.Stream.{kept_of, unread_of, written_of};
 ghost use Rattle.usb_live.specs.Course.{CourseTo};
@@ -46,13 +46,19 @@ pub(crate) struct CourseBus<R: Read, W: Write, B: Begun> {
 }
 
 impl<R: Read, W: Write, B: Begun> Bus for CourseBus<R, W, B> {
-    ghost use Rattle.usb_stream.specs.Stream.{no_world};
+    ghost use Rattle.usb_stream.specs.Stream.{bus_fault, no_world};
 
     ghost modelled = { false };
 
     ghost world = { λ bus. no_world };
 
     ghost trace = { λ bus. None };
+
+    ghost spent = { λ bus. 0 };
+
+    ghost failed = { λ bus. option_map bus_fault (kept_of bus.bus).fault };
+
+    ghost ports = { λ bus. (kept_of bus.bus).roots };
 
     fn attempt(&mut self, attempt: &Attempt) -> Result<Outcome, BusFault> {
         self.stage = Stage::Asks;
@@ -76,6 +82,8 @@ impl<R: Read, W: Write, B: Begun> Bus for CourseBus<R, W, B> {
         self.stage = Stage::Asks;
         self.bus.root_clear(port, feature);
     }
+
+    ghost counted = { λ known bus. Prim.cc known };
 
     ghost settled = { λ known bus. Prim.cc known };
 

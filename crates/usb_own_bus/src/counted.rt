@@ -1,7 +1,7 @@
 //! A bus that counts what goes over another one.
-ghost use Rattle.std.specs.Prelude.{◌≡◌, true};
-ghost use Rattle.usb_bus.specs.Traces.{Attempts};
-ghost use Rattle.usb_world.specs.Worlds.{IsAttempt};
+ghost use Rattle.std.specs.Prelude.{◌≡◌, true, Some, IfOk, IfErr};
+ghost use Rattle.usb_bus.specs.Traces.{Attempts, Spends};
+ghost use Rattle.usb_world.specs.Worlds.{FitsMaximum, IsAttempt};
 ghost use Rattle.usb_own_bus.specs.Counted.{counts_behind, counts_with, no_counts};
 
 use std::fmt;
@@ -94,10 +94,19 @@ impl<B: Bus> Bus for CountedBus<B> {
 
     ghost trace = { λ counted. B.trace counted.bus };
 
+    ghost spent = { λ counted. B.spent counted.bus };
+
+    ghost failed = { λ counted. B.failed counted.bus };
+
+    ghost ports = { λ counted. B.ports counted.bus };
+
     fn attempt(&mut self, attempt: &Attempt) -> Result<Outcome, BusFault>
         requires { IsAttempt attempt.now }
         ensures attempts { B.modelled ≡ true → Attempts attempt.now (B.world self.old.bus)
             (B.trace self.old.bus) result (B.world self.new.bus) (B.trace self.new.bus) }
+        ensures spends { Spends B.spent B.ports 1 self.old.bus self.new.bus }
+        ensures fits { IfOk result (FitsMaximum attempt.now.max) }
+        ensures told { IfErr result (λ fault. B.failed self.new.bus ≡ Some fault) }
         ensures counted { self.new.counts ≡ counts_behind self.old.counts result }
     {
         let result = self.bus.attempt(attempt);
@@ -122,6 +131,8 @@ impl<B: Bus> Bus for CountedBus<B> {
     fn root_clear(&mut self, port: u8, feature: u16) {
         self.bus.root_clear(port, feature);
     }
+
+    ghost counted = { λ known counted. B.counted known counted.bus };
 
     ghost settled = { λ known counted. B.settled known counted.bus };
 

@@ -1,5 +1,8 @@
 -- How many attempts a control transfer may take.
-use Rattle.std.proofs.Common.{◌≡◌, refl, arith, true, false, Bool, ℕ, ◌+◌, ◌*◌, ◌≤◌, nat_le}
+use Rattle.std.proofs.Common.{◌≡◌, refl, arith, true, false, Bool, ℕ, ◌+◌, ◌*◌, ◌<◌, ◌≤◌, nat_le}
+use Rattle.std.proofs.Common.{zero, suc}
+use Rattle.std.proofs.lemmas.Grind.{div_ceil_times}
+use Rattle.std.specs.Int.{div_ceil}
 use Rattle.std.proofs.Common.{if◌then◌else◌, mul-le-mul_left}
 use Rattle.std.proofs.lemmas.Bool.{le-leb, leb-true}
 use Rattle.usb_transaction.specs.{transaction_bound}
@@ -24,3 +27,13 @@ pub full_packet : (max m n : ℕ) → 1 ≤ max → m + max ≤ n → byte_bound
     ≤ byte_bound max * n
 unfolding byte_bound
 full_packet max m n some le = full_packet_by (nat_le 8 max) max m n refl some le
+
+-- as many packets as there are bytes, at most
+few_by : (d k n : ℕ) → d * suc k < n + suc k → d ≤ n
+few_by zero k n less = omega arith
+few_by (suc e) k n less = let all : suc e * suc k ≡ e * k + e + k + 1 = omega arith in
+    omega (arith, less, all)
+
+pub few_packets : (n max : ℕ) → 1 ≤ max → div_ceil n max ≤ n
+few_packets n zero some = absurd (omega (arith, some))
+few_packets n (suc k) some = few_by (div_ceil n (suc k)) k n (div_ceil_times n (suc k) some).1

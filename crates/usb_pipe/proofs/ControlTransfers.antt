@@ -1063,6 +1063,24 @@ ends_stage-false : (size max got wanted : ℕ) → ends_stage size max got wante
     × (got < wanted)
 ends_stage-false size max got wanted e = (grind (arith, nat_tests, e), grind (arith, nat_tests, e))
 
+-- so a packet more of them came
+pub grown_full : (max wanted : ℕ) (got : List ℕ) {kept : List ℕ} (bytes : List ℕ)
+    → length got ≤ wanted
+    → kept ≡ got ++ take (wanted - length got) bytes
+    → ends_stage (length bytes) max (length kept) wanted ≡ false → length got + max ≤ length kept
+grown_full max wanted got {kept} bytes few is more =
+    let on = ends_stage-false (length bytes) max (length kept) wanted more in
+    let part = take (wanted - length got) bytes in
+    omega (
+      arith,
+      few,
+      on.0,
+      on.1,
+      ap length is,
+      length-append got part,
+      length-take (wanted - length got) bytes,
+    )
+
 pub onward_more : {t : Target} {wanted : ℕ} {old mid new : World} {before r s : Option (List ℕ)}
     {got kept : List ℕ} {toggle next : Toggle} (bytes : List ℕ) → 1 ≤ t.max
     → ReadProgress t wanted old before got toggle mid r

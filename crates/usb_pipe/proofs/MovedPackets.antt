@@ -1,5 +1,6 @@
 -- How the packets of a bulk transfer join.
-use Rattle.std.proofs.Common.{◌≡◌, ◌≢◌, ◌∙◌, ◌⊎◌, inl, inr, refl, sym, ap, subst, arith, ℕ, ◌+◌}
+use Rattle.std.proofs.Common.{◌≡◌, ◌≢◌, ◌∙◌, ◌⊎◌, inl, inr, refl, sym, ap, subst, arith, ℕ}
+use Rattle.std.proofs.Common.{zero, suc, ◌+◌, ◌-◌}
 use Rattle.std.proofs.Common.{◌*◌, ◌<◌, ◌≤◌, min, List, [], ◌++◌, length, take, drop, Option, None}
 use Rattle.std.proofs.Common.{Result, Ok, Err, IsErr, IsErrAnd, add-one, append_assoc, append-nil}
 use Rattle.std.proofs.Common.{length-append, length-drop, length-take, lt_of_mul-lt-mul_right}
@@ -99,6 +100,18 @@ gave_packets t ep first (packet {n} {sent} bytes g full more fits puts) some =
 few_full : (n max total : ℕ) → 1 ≤ max → n * max < total → n < div_ceil total max
 few_full n max total some less = let c = div_ceil_times total max some in
     lt_of_mul-lt-mul_right max (omega (arith, c, less))
+
+-- a packet less is one less of them
+less_by : (p a b c : ℕ) → p * b < c + b → c ≡ a - b → 0 < a → p * b < a
+less_by zero a b c lt is some = omega (arith, some)
+less_by (suc k) a b c lt is some = let more : suc k * b ≡ k * b + b = omega arith in
+    omega (arith, lt, is, more)
+
+pub one_packet_less : (total max : ℕ) → 1 ≤ max → 0 < total → (rest : ℕ) → rest ≡ total - max
+    → div_ceil rest max + 1 ≤ div_ceil total max
+one_packet_less total max least some rest is = let c = div_ceil_times rest max least in
+    let few = few_full (div_ceil rest max) max total least
+    (less_by (div_ceil rest max) total max rest c.1 is some) in omega (arith, few)
 
 pub came_full : {t : Target} {ep : ℕ} {first : Toggle} {old : World} {n : ℕ} {got : List ℕ}
     {new : World} → Came t ep first old n got new → length got ≡ n * t.max

@@ -1,6 +1,7 @@
 -- What a control transfer tells, and how many attempts it may take.
-use Rattle.std.specs.Prelude.{ℕ, ◌+◌, ◌*◌, Bool, ◌||◌, nat_lt, nat_le, if◌then◌else◌}
-use Rattle.usb_world.specs.{World, HasFault}
+use Rattle.std.specs.Prelude.{ℕ, ◌≡◌, ◌+◌, ◌*◌, Bool, ◌||◌, nat_lt, nat_le, if◌then◌else◌, ⊤}
+use Rattle.std.specs.Prelude.{Option, Some, Result, Ok, Err}
+use Rattle.usb_world.specs.{BusFault, World, HasFault}
 use Rattle.usb_transaction.specs.{TransFault, Stalled as TransStalled, Busy as TransBusy}
 use Rattle.usb_transaction.specs.{NoAnswer as TransNoAnswer, Bus as TransBus, AttemptsMade}
 use Rattle.usb_transaction.specs.{error_limit, transaction_bound, wait_limit}
@@ -40,3 +41,13 @@ write_bound = 1600
 -- the most attempts of a control transfer that reads `length` bytes
 unfoldable pub control_bound : ℕ → ℕ → ℕ
 control_bound max length = write_bound + byte_bound max * length
+
+-- a fault of the bus is the one that it reported last
+abbrev pub BusToldIt : {A : Type 0} → Result A PipeFault → Option BusFault → Type 0
+BusToldIt (Ok done) told = ⊤
+BusToldIt (Err Stalled) told = ⊤
+BusToldIt (Err Busy) told = ⊤
+BusToldIt (Err NoAnswer) told = ⊤
+BusToldIt (Err Broken) told = ⊤
+BusToldIt (Err (Bus fault)) told = told ≡ Some fault
+BusToldIt (Err Memory) told = ⊤

@@ -10,7 +10,7 @@ pub mod Failures
 pub mod Attempts
 pub mod Transfers
 -- the words of this crate, wherever one stands
-pub use Control.{FaultAfter, as_pipe_fault, ends_stage, write_bound}
+pub use Control.{BusToldIt, FaultAfter, as_pipe_fault, ends_stage, write_bound}
 unfoldable pub use Control.{byte_bound, control_bound}
 pub use End.{IsEnd, packet_target}
 pub use InterruptPipes.{Interrupt, NoPoll, PollAsked, Polls, interrupt_made}

@@ -40,14 +40,14 @@ impl Model for BulkPipe {
 }
 
 impl BulkPipe {
-    ghost use Rattle.std.specs.Prelude.{◌≡◌, ◌*◌, ◌<◌, ◌≤◌, true, false, length};
+    ghost use Rattle.std.specs.Prelude.{◌≡◌, ◌*◌, ◌<◌, ◌≤◌, true, false, length, IfOk};
     ghost use Rattle.std.specs.Int.{div_ceil};
     ghost use Rattle.usb_packet.specs.declared.Toggle.TheVariants.{Zero};
-    ghost use Rattle.usb_bus.specs.Traces.{Steps};
+    ghost use Rattle.usb_bus.specs.Traces.{Spends, Steps};
     ghost use Rattle.usb_transaction.specs.Transactions.{IsTarget, transaction_bound};
     ghost use Rattle.usb_pipe.specs.declared.condition.Condition.TheVariants.{Ready};
-    ghost use Rattle.usb_pipe.specs.BulkPipes.{Bulk, Cleared, bulk_made};
-    ghost use Rattle.usb_pipe.specs.Control.{write_bound};
+    ghost use Rattle.usb_pipe.specs.BulkPipes.{Bulk, Cleared, bulk_made, is_broken};
+    ghost use Rattle.usb_pipe.specs.Control.{BusToldIt, write_bound};
     ghost use Rattle.usb_pipe.specs.End.{packet_target};
     ghost use Rattle.usb_pipe.specs.Transfers.{BulkSend, BulkReceive, BulkClear};
 
@@ -92,6 +92,11 @@ impl BulkPipe {
     pub fn send<B: Bus>(&mut self, bus: &mut B, bytes: &[u8]) -> Result<(), PipeFault>
         requires writes { self.old.is_in ≡ false }
         ensures same { bulk_made self.new ≡ bulk_made self.old }
+        ensures any_bus { Spends B.spent B.ports
+            (transaction_bound * div_ceil (length bytes.now) self.old.max) bus.old bus.new
+            × BusToldIt result (B.failed bus.new)
+            × (div_ceil (length bytes.now) self.old.max ≤ length bytes.now) }
+        ensures broken { is_broken self.old.condition ≡ true → bus.new ≡ bus.old }
         ensures steps { B.modelled ≡ true → Steps B.world B.trace
             (transaction_bound * div_ceil (length bytes.now) self.old.max) bus.old bus.new }
         ensures transfer { B.modelled ≡ true → BulkSend bytes.now self.old
@@ -127,6 +132,10 @@ impl BulkPipe {
     ) -> Result<Vec<u8>, PipeFault>
         requires reads { self.old.is_in ≡ true }
         ensures same { bulk_made self.new ≡ bulk_made self.old }
+        ensures any_bus { Spends B.spent B.ports (transaction_bound * packets) bus.old bus.new
+            × BusToldIt result (B.failed bus.new)
+            × IfOk result (λ bytes. length bytes.items ≤ packets * self.old.max) }
+        ensures broken { is_broken self.old.condition ≡ true → bus.new ≡ bus.old }
         ensures steps { B.modelled ≡ true
             → Steps B.world B.trace (transaction_bound * packets) bus.old bus.new }
         ensures transfer { B.modelled ≡ true → BulkReceive packets self.old
@@ -164,6 +173,8 @@ impl BulkPipe {
     #[tactic(auto, using(usb_bus::proofs::Interface::went_wider, usb_bus::proofs::Interface::went_none))]
     pub fn clear_halt<B: Bus>(&mut self, bus: &mut B) -> Result<(), PipeFault>
         ensures same { bulk_made self.new ≡ bulk_made self.old }
+        ensures any_bus { Spends B.spent B.ports write_bound bus.old bus.new
+            × BusToldIt result (B.failed bus.new) }
         ensures steps { B.modelled ≡ true → Steps B.world B.trace write_bound bus.old bus.new }
         ensures transfer { B.modelled ≡ true → BulkClear self.old
             (B.world bus.old) result self.new (B.world bus.new) }
@@ -176,6 +187,8 @@ impl BulkPipe {
 
     fn request_clear<B: Bus>(&mut self, bus: &mut B) -> Result<(), PipeFault>
         ensures same { bulk_made self.new ≡ bulk_made self.old }
+        ensures any_bus { Spends B.spent B.ports write_bound bus.old bus.new
+            × BusToldIt result (B.failed bus.new) }
         ensures steps { B.modelled ≡ true → Steps B.world B.trace write_bound bus.old bus.new }
         ensures clears { B.modelled ≡ true
             → Cleared self.old (B.world bus.old) result self.new (B.world bus.new) }

@@ -1,9 +1,9 @@
 //! Control transfers (8.5.3).
-ghost use Rattle.std.specs.Prelude.{◌≡◌, ◌≤◌, true};
-ghost use Rattle.usb_bus.specs.Traces.{Steps};
+ghost use Rattle.std.specs.Prelude.{◌≡◌, ◌≤◌, length, IfOk, true};
+ghost use Rattle.usb_bus.specs.Traces.{Spends, Steps};
 ghost use Rattle.usb_request.specs.Layout.{IsToHost, IsToDevice};
 ghost use Rattle.usb_transaction.specs.Transactions.{IsTarget};
-ghost use Rattle.usb_pipe.specs.Control.{control_bound, write_bound};
+ghost use Rattle.usb_pipe.specs.Control.{BusToldIt, control_bound, write_bound};
 ghost use Rattle.usb_pipe.specs.Transfers.{ControlRead, ControlWrite};
 
 use crate::PipeFault;
@@ -35,6 +35,9 @@ pub fn control_in<B: Bus>(
     requires target { IsTarget target }
     requires reads { IsToHost setup }
     requires some { 1 ≤ setup.length }
+    ensures any_bus { Spends B.spent B.ports (control_bound target.max setup.length) bus.old bus.new
+        × BusToldIt result (B.failed bus.new) }
+    ensures most { IfOk result (λ bytes. length bytes.items ≤ setup.length) }
     ensures steps { B.modelled ≡ true
         → Steps B.world B.trace (control_bound target.max setup.length) bus.old bus.new }
     ensures transfer { B.modelled ≡ true → ControlRead target setup
@@ -64,6 +67,8 @@ pub fn control_none<B: Bus>(bus: &mut B, target: Target, setup: Setup) -> Result
     requires target { IsTarget target }
     requires writes { IsToDevice setup }
     requires none { setup.length ≡ 0 }
+    ensures any_bus { Spends B.spent B.ports write_bound bus.old bus.new
+        × BusToldIt result (B.failed bus.new) }
     ensures steps { B.modelled ≡ true → Steps B.world B.trace write_bound bus.old bus.new }
     ensures transfer { B.modelled ≡ true → ControlWrite target setup
         (B.world bus.old) result (B.world bus.new) }

@@ -29,10 +29,11 @@ impl Model for InterruptPipe {
 }
 
 impl InterruptPipe {
-    ghost use Rattle.std.specs.Prelude.{◌≡◌, ◌<◌, ◌≤◌, true};
+    ghost use Rattle.std.specs.Prelude.{◌≡◌, ◌<◌, ◌≤◌, true, length, IfOk, IfSome};
     ghost use Rattle.usb_packet.specs.declared.Toggle.TheVariants.{Zero};
-    ghost use Rattle.usb_bus.specs.Traces.{Steps};
+    ghost use Rattle.usb_bus.specs.Traces.{Spends, Steps};
     ghost use Rattle.usb_transaction.specs.Transactions.{IsTarget, transaction_bound};
+    ghost use Rattle.usb_pipe.specs.Control.{BusToldIt};
     ghost use Rattle.usb_pipe.specs.End.{packet_target};
     ghost use Rattle.usb_pipe.specs.InterruptPipes.{Interrupt, interrupt_made};
     ghost use Rattle.usb_pipe.specs.Transfers.{InterruptPoll};
@@ -62,6 +63,10 @@ impl InterruptPipe {
     /// where the bus makes no more steps. It never answers `Broken` or `Memory`.
     pub fn poll<B: Bus>(&mut self, bus: &mut B) -> Result<Option<ArrayVec<u8, 64>>, PipeFault>
         ensures same { interrupt_made self.new ≡ interrupt_made self.old }
+        ensures any_bus { Spends B.spent B.ports transaction_bound bus.old bus.new
+            × BusToldIt result (B.failed bus.new)
+            × IfOk result (λ got. IfSome got (λ packet.
+            length packet.items ≤ self.old.target.max)) }
         ensures steps { B.modelled ≡ true
             → Steps B.world B.trace transaction_bound bus.old bus.new }
         ensures transfer { B.modelled ≡ true → InterruptPoll self.old

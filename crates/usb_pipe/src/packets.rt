@@ -1,8 +1,9 @@
 //! The packets of a bulk transfer (5.8.3).
-ghost use Rattle.std.specs.Prelude.{◌*◌, ◌<◌, length, ◌≡◌, true};
+ghost use Rattle.std.specs.Prelude.{◌*◌, ◌<◌, ◌≤◌, length, ◌≡◌, true, IfOk};
 ghost use Rattle.std.specs.Int.{div_ceil};
-ghost use Rattle.usb_bus.specs.Traces.{Steps};
+ghost use Rattle.usb_bus.specs.Traces.{Spends, Steps};
 ghost use Rattle.usb_transaction.specs.Transactions.{IsTarget, transaction_bound};
+ghost use Rattle.usb_pipe.specs.Control.{BusToldIt};
 ghost use Rattle.usb_pipe.specs.Packets.{PacketsSent, PacketsReceived};
 
 use crate::PipeFault;
@@ -21,6 +22,9 @@ pub(crate) fn send_packets<B: Bus>(
     requires target { IsTarget target }
     requires endpoint { ep < 16 }
     requires some { 0 < length bytes.now }
+    ensures any_bus { Spends B.spent B.ports
+        (transaction_bound * div_ceil (length bytes.now) target.max) bus.old bus.new
+        × BusToldIt result (B.failed bus.new) }
     ensures steps { B.modelled ≡ true → Steps B.world B.trace
         (transaction_bound * div_ceil (length bytes.now) target.max) bus.old bus.new }
     ensures sent { B.modelled ≡ true → PacketsSent target ep toggle.old bytes.now
@@ -48,6 +52,9 @@ pub(crate) fn receive_packets<B: Bus>(
     requires target { IsTarget target }
     requires endpoint { ep < 16 }
     requires some { 0 < wanted }
+    ensures any_bus { Spends B.spent B.ports (transaction_bound * wanted) bus.old bus.new
+        × BusToldIt result (B.failed bus.new)
+        × IfOk result (λ bytes. length bytes.items ≤ wanted * target.max) }
     ensures steps { B.modelled ≡ true
         → Steps B.world B.trace (transaction_bound * wanted) bus.old bus.new }
     ensures received { B.modelled ≡ true → PacketsReceived target ep toggle.old wanted

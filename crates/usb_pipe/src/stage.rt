@@ -1,8 +1,8 @@
 //! The data stage of a control transfer that reads.
 ghost use Rattle.std.specs.Prelude.{◌≡◌, ◌-◌, ◌+◌, ◌*◌, ◌<◌, ◌≤◌, ◌++◌, take, length, OnOk, IfOk, MatchResult, true};
-ghost use Rattle.usb_bus.specs.Traces.{Steps};
+ghost use Rattle.usb_bus.specs.Traces.{Spends, Steps};
 ghost use Rattle.usb_transaction.specs.Transactions.{IsTarget, AttemptsMade, transaction_bound};
-ghost use Rattle.usb_pipe.specs.Control.{FaultAfter, byte_bound, ends_stage};
+ghost use Rattle.usb_pipe.specs.Control.{BusToldIt, FaultAfter, byte_bound, ends_stage};
 ghost use Rattle.usb_pipe.specs.Stages.{DataEnds};
 
 use crate::PipeFault;
@@ -20,6 +20,9 @@ pub(crate) fn data_stage<B: Bus>(
 ) -> Result<Vec<u8>, PipeFault>
     requires target { IsTarget target }
     requires some { 0 < wanted }
+    ensures any_bus { Spends B.spent B.ports
+        (transaction_bound + byte_bound target.max * wanted) bus.old bus.new
+        × BusToldIt result (B.failed bus.new) }
     ensures steps { B.modelled ≡ true → Steps B.world B.trace
         (transaction_bound + byte_bound target.max * wanted) bus.old bus.new }
     ensures ends { B.modelled ≡ true

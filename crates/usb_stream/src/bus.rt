@@ -1,6 +1,7 @@
 //! The bus behind a stream of lines.
-ghost use Rattle.std.specs.Prelude.{◌≡◌, ◌≢◌, ◌-◌, ◌≤◌, ◌∷◌, ◌++◌, [], slice_set, IfErr, IfOk, None, Ok, Err};
+ghost use Rattle.std.specs.Prelude.{◌≡◌, ◌≢◌, ◌-◌, ◌≤◌, ◌∷◌, ◌++◌, [], slice_set, IfErr, IfOk, None, Some, Ok, Err, option_map};
 ghost use Rattle.std.specs.Io.KnownBytes.{Appends};
+ghost use Rattle.usb_bus.specs.Traces.{Spends};
 ghost use Rattle.usb_bus.specs.Watch.{AppendsFront, inner_of};
 ghost use Rattle.usb_port.specs.Calls.{IsClearFeature, IsSetFeature, clear_call, set_call};
 ghost use Rattle.usb_world.specs.Worlds.{FitsMaximum, IsAttempt};
@@ -63,6 +64,12 @@ impl<R: Read, W: Write> Bus for StreamBus<R, W> {
 
     ghost trace = { λ bus. None };
 
+    ghost spent = { λ bus. 0 };
+
+    ghost failed = { λ bus. option_map bus_fault (kept_of bus).fault };
+
+    ghost ports = { λ bus. (kept_of bus).roots };
+
     /// Makes one attempt. Setup data that are not 8 bytes in DATA0 have no line, and no answer comes.
     ///
     /// # Errors
@@ -77,6 +84,9 @@ impl<R: Read, W: Write> Bus for StreamBus<R, W> {
             (W.contents (inner_of self.new.writer)))
             (kept_of self.old) result (kept_of self.new) }
         ensures fits { IfOk result (FitsMaximum attempt.now.max) }
+        ensures spends { Spends (λ bus. 0) (λ bus. (kept_of bus).roots) 1 self.old self.new }
+        ensures told { IfErr result (λ fault.
+            option_map bus_fault (kept_of self.new).fault ≡ Some fault) }
     {
         let Some(question) = question_for(attempt) else {
             return self.unasked();
@@ -88,7 +98,7 @@ impl<R: Read, W: Write> Bus for StreamBus<R, W> {
     }
 
     fn root_ports(&self) -> u8
-        ensures roots { result ≡ (kept_of self.now).roots }
+        ensures ports { result ≡ (kept_of self.now).roots }
         ensures least { 1 ≤ result }
         ensures most { result ≤ 7 }
     {
@@ -113,6 +123,7 @@ impl<R: Read, W: Write> Bus for StreamBus<R, W> {
             (R.remaining (inner_of self.new.reader)) (W.contents (inner_of self.old.writer))
             (W.contents (inner_of self.new.writer)))
             (kept_of self.old) (kept_of self.new) }
+        ensures unspent { Spends (λ bus. 0) (λ bus. (kept_of bus).roots) 0 self.old self.new }
     {
         if let Some(call) = PortCall::of_set(feature) {
             self.call(port, call);
@@ -127,11 +138,14 @@ impl<R: Read, W: Write> Bus for StreamBus<R, W> {
             (R.remaining (inner_of self.new.reader)) (W.contents (inner_of self.old.writer))
             (W.contents (inner_of self.new.writer)))
             (kept_of self.old) (kept_of self.new) }
+        ensures unspent { Spends (λ bus. 0) (λ bus. (kept_of bus).roots) 0 self.old self.new }
     {
         if let Some(call) = PortCall::of_clear(feature) {
             self.call(port, call);
         }
     }
+
+    ghost counted = { λ known bus. Prim.cc known };
 
     ghost settled = { λ known bus. Prim.cc known };
 
@@ -258,6 +272,7 @@ impl<R: Read, W: Write> StreamBus<R, W> {
             (R.remaining (inner_of self.new.reader)) (W.contents (inner_of self.old.writer))
             (W.contents (inner_of self.new.writer)))
             (kept_of self.old) (kept_of self.new) }
+        ensures roots { self.new.roots ≡ self.old.roots }
     {
         if port < 1 || port > self.roots {
             return;
@@ -275,6 +290,7 @@ impl<R: Read, W: Write> StreamBus<R, W> {
             (R.remaining (inner_of self.new.reader)) (W.contents (inner_of self.old.writer))
             (W.contents (inner_of self.new.writer)))
             (kept_of self.old) result (kept_of self.new) }
+        ensures roots { self.new.roots ≡ self.old.roots }
     {
         if let Some(fault) = self.fault {
             return Err(fault);

@@ -39,7 +39,8 @@ pub use Transfers.{ClearedAfter, ClearedBy, ClearedIf, ClearedInOrder, ClearedIn
 pub use Transfers.{ClearedThrough, KeepsSettings, NotPolled, NotTried, OnlyTransfers, PipeDid}
 pub use Transfers.{PipesCleared, PipesPolled, TableFaultAllowed, PipesReceived, PipesSent}
 pub use Transfers.{PipesThrough, PollTook, PolledThrough, ReceivedBy, ReceivedThrough, SameSettings}
-pub use Transfers.{SentBy, SentThrough, ThroughIf, both_sides, of_pipe, one_side, table_answer}
+pub use Transfers.{SentBy, SentThrough, ThroughIf, TransferTold, both_sides, of_pipe, one_side}
+pub use Transfers.{table_answer}
 pub use declared.entry.Entry.{Entry}
 pub use declared.fault.TableFault.{TableFault}
 pub use declared.fault.TableFault.TheVariants.{Transfer}

@@ -5,7 +5,7 @@ use Rattle.std.specs.Prelude.{Some, None, is_some, Result, Ok, Err, IfSome, Matc
 use Rattle.std.specs.Global.{Vec}
 use Rattle.std.specs.Int.{div_ceil}
 use Rattle.arrayvec.specs.ArrayVec.{ArrayVec}
-use Rattle.usb_world.specs.{EachWas, World, AttemptsWithin, HasFault}
+use Rattle.usb_world.specs.{BusFault, EachWas, World, AttemptsWithin, HasFault}
 use Rattle.usb_tree.specs.{IsSettled}
 use Rattle.usb_transaction.specs.{AttemptsMade, transaction_bound}
 use Rattle.usb_pipe.specs.{FaultAfter, write_bound, Bulk, Sends, Receives, Clears, Interrupt, Polls}
@@ -48,6 +48,13 @@ abbrev pub TableFaultAllowed : TableFault → World → Type 0
 TableFaultAllowed (Transfer fault) w = ⊤
 TableFaultAllowed (Bus fault) w = HasFault fault w
 TableFaultAllowed Memory w = ⊤
+
+-- over any bus: a fault of the bus is the one that it reported last
+abbrev pub TransferTold : {A : Type 0} → Result A TableFault → Option BusFault → Type 0
+TransferTold (Ok done) last = ⊤
+TransferTold (Err (Transfer fault)) last = ⊤
+TransferTold (Err (Bus fault)) last = last ≡ Some fault
+TransferTold (Err Memory) last = ⊤
 
 -- a packet that came took an attempt, and so did each fault but the bus's own
 abbrev pub PollTook : World → Result (Option (ArrayVec ℕ)) PipeFault → World → Type 0

@@ -1,18 +1,18 @@
 //! The host's pipes to a device.
-ghost use Rattle.std.specs.Prelude.{◌≡◌, false, true, is_some, IfSome, ◌*◌};
+ghost use Rattle.std.specs.Prelude.{◌≡◌, false, true, is_some, IfSome, ◌*◌, length};
 ghost use Rattle.std.specs.Option.{option_map};
-ghost use Rattle.usb_bus.specs.Traces.{Traced, Steps};
+ghost use Rattle.usb_bus.specs.Traces.{Spends, Traced, Steps};
 ghost use Rattle.usb_descriptor.specs.Choice.{IsUsable, status_endpoint_of};
 ghost use Rattle.usb_enum.specs.Device.{configuration_of};
 ghost use Rattle.usb_pipe.specs.BulkPipes.{bulk_made};
-ghost use Rattle.usb_pipe.specs.Control.{write_bound};
+ghost use Rattle.usb_pipe.specs.Control.{BusToldIt, write_bound};
 ghost use Rattle.usb_table.specs.Findings.{IsSoundDevice, at_full_speed};
 ghost use Rattle.usb_transaction.specs.Transactions.{transaction_bound};
 ghost use Rattle.usb_table.specs.Deliveries.{pipe_in, pipe_out};
 ghost use Rattle.usb_table.specs.TablePipes.{ArePipesTo, IsPipe, IsStatusPipe, both_made, pipes_made};
 ghost use Rattle.usb_table.specs.TablePipes.{new_pipes_to, new_status, new_bulk};
 ghost use Rattle.usb_table.specs.declared.pipes.Pipes.TheVariants.{Hub};
-ghost use Rattle.usb_table.specs.Transfers.{ClearedBy, ClearedInTurn};
+ghost use Rattle.usb_table.specs.Transfers.{ClearedBy, ClearedInTurn, TransferTold};
 ghost use Rattle.usb_table.specs.Transfers.{PipesPolled, PipesSent, PipesReceived, PipesCleared};
 
 use crate::target::target_to;
@@ -90,6 +90,8 @@ fn bulk_pipe(device: &Accepted, endpoint: Option<(u8, u8)>, is_in: bool) -> Opti
 impl Pipes {
     /// Asks a hub's status endpoint once; `None` of anything else.
     pub fn poll<B: Bus>(&mut self, bus: &mut B) -> Result<Option<ArrayVec<u8, 64>>, PipeFault>
+        ensures any_bus { Spends B.spent B.ports transaction_bound bus.old bus.new
+            × BusToldIt result (B.failed bus.new) }
         ensures made { pipes_made self.new ≡ pipes_made self.old }
         ensures steps { B.modelled ≡ true
             → Steps B.world B.trace transaction_bound bus.old bus.new }
@@ -105,6 +107,8 @@ impl Pipes {
     /// Sends bytes to a function's bulk OUT endpoint.
     pub fn send<B: Bus>(&mut self, bus: &mut B, bytes: &[u8]) -> Result<(), TableFault>
         requires { IfSome (pipe_out self.old) (λ pipe. pipe.is_in ≡ false) }
+        ensures any_bus { Spends B.spent B.ports (transaction_bound * length bytes.now) bus.old bus.new
+            × TransferTold result (B.failed bus.new) }
         ensures made { pipes_made self.new ≡ pipes_made self.old }
         ensures traced { B.modelled ≡ true
             → Traced (B.world bus.old) (B.trace bus.old) (B.world bus.new) (B.trace bus.new) }
@@ -133,6 +137,8 @@ impl Pipes {
         packets: u16,
     ) -> Result<Vec<u8>, TableFault>
         requires { IfSome (pipe_in self.old) (λ pipe. pipe.is_in ≡ true) }
+        ensures any_bus { Spends B.spent B.ports (transaction_bound * packets) bus.old bus.new
+            × TransferTold result (B.failed bus.new) }
         ensures made { pipes_made self.new ≡ pipes_made self.old }
         ensures traced { B.modelled ≡ true
             → Traced (B.world bus.old) (B.trace bus.old) (B.world bus.new) (B.trace bus.new) }
@@ -155,6 +161,8 @@ impl Pipes {
 
     /// Clears the halts of a function's bulk endpoints.
     pub fn clear_halt<B: Bus>(&mut self, bus: &mut B) -> Result<(), TableFault>
+        ensures any_bus { Spends B.spent B.ports (2 * write_bound) bus.old bus.new
+            × TransferTold result (B.failed bus.new) }
         ensures made { pipes_made self.new ≡ pipes_made self.old }
         ensures steps { B.modelled ≡ true
             → Steps B.world B.trace (2 * write_bound) bus.old bus.new }
@@ -171,6 +179,8 @@ impl Pipes {
 
 /// Clears the halt of a pipe's endpoint, if there is one.
 fn clear_through<B: Bus>(pipe: &mut Option<BulkPipe>, bus: &mut B) -> Result<(), PipeFault>
+    ensures any_bus { Spends B.spent B.ports write_bound bus.old bus.new
+        × BusToldIt result (B.failed bus.new) }
     ensures made { option_map bulk_made pipe.new ≡ option_map bulk_made pipe.old }
     ensures steps { B.modelled ≡ true → Steps B.world B.trace write_bound bus.old bus.new }
     ensures cleared { B.modelled ≡ true
@@ -185,6 +195,8 @@ fn clear_through<B: Bus>(pipe: &mut Option<BulkPipe>, bus: &mut B) -> Result<(),
 impl BulkPipes {
     /// Clears the halt of both endpoints, of the one that writes first.
     pub fn clear_halt<B: Bus>(&mut self, bus: &mut B) -> Result<(), TableFault>
+        ensures any_bus { Spends B.spent B.ports (2 * write_bound) bus.old bus.new
+            × TransferTold result (B.failed bus.new) }
         ensures made { both_made self.new ≡ both_made self.old }
         ensures steps { B.modelled ≡ true
             → Steps B.world B.trace (2 * write_bound) bus.old bus.new }

@@ -1,5 +1,5 @@
 //! What stands at each port.
-ghost use Rattle.std.specs.Prelude.{◌≡◌, ℕ, List, false, true, option_copied};
+ghost use Rattle.std.specs.Prelude.{◌≡◌, ℕ, ◌*◌, List, length, false, true, option_copied};
 ghost use Rattle.std.specs.Prelude.{IfSome, IfNone, IfOk, IfErr, OnOk, OnErr};
 ghost use Rattle.std.specs.BTreeMap.{is_at};
 ghost use Rattle.std.specs.Map.{lookup};
@@ -12,6 +12,10 @@ ghost use Rattle.usb_table.specs.KnownPorts.{IsAskable, known_port};
 ghost use Rattle.usb_table.specs.NextEntries.{IsNext, IsLast};
 ghost use Rattle.usb_table.specs.Tables.{ArePipesAt, GoesThrough, TakesOut};
 ghost use Rattle.usb_table.specs.Tables.{empty, entered};
+ghost use Rattle.usb_bus.specs.Traces.{Spends};
+ghost use Rattle.usb_pipe.specs.Control.{BusToldIt, write_bound};
+ghost use Rattle.usb_transaction.specs.Transactions.{transaction_bound};
+ghost use Rattle.usb_table.specs.Transfers.{TransferTold};
 ghost use Rattle.usb_table.specs.Levels.{TablePolls, TableSends, TableReceives, TableClears};
 
 use crate::entry::Entry;
@@ -190,6 +194,8 @@ impl DeviceTable {
         bus: &mut B,
         hub: &PortPath,
     ) -> Result<Option<ArrayVec<u8, 64>>, PipeFault>
+        ensures any_bus { Spends B.spent B.ports transaction_bound bus.old bus.new
+            × BusToldIt result (B.failed bus.new) }
         ensures through { GoesThrough hub.now self.old self.new }
         ensures polls { B.modelled ≡ true → TablePolls hub.now
             self.old (B.world bus.old) (B.trace bus.old) result
@@ -213,6 +219,8 @@ impl DeviceTable {
         path: &PortPath,
         bytes: &[u8],
     ) -> Result<(), TableFault>
+        ensures any_bus { Spends B.spent B.ports (transaction_bound * length bytes.now) bus.old bus.new
+            × TransferTold result (B.failed bus.new) }
         ensures through { GoesThrough path.now self.old self.new }
         ensures sends { B.modelled ≡ true → TableSends path.now bytes.now
             self.old (B.world bus.old) (B.trace bus.old) result
@@ -238,6 +246,8 @@ impl DeviceTable {
         path: &PortPath,
         packets: u16,
     ) -> Result<Vec<u8>, TableFault>
+        ensures any_bus { Spends B.spent B.ports (transaction_bound * packets) bus.old bus.new
+            × TransferTold result (B.failed bus.new) }
         ensures through { GoesThrough path.now self.old self.new }
         ensures receives { B.modelled ≡ true → TableReceives path.now packets
             self.old (B.world bus.old) (B.trace bus.old) result
@@ -257,6 +267,8 @@ impl DeviceTable {
     /// `NoDevice` where no accepted device stands there, `NoEndpoint` where it is a hub, is at low
     /// speed or has no bulk endpoint; else those of `BulkPipe::clear_halt`.
     pub fn clear_halt<B: Bus>(&mut self, bus: &mut B, path: &PortPath) -> Result<(), TableFault>
+        ensures any_bus { Spends B.spent B.ports (2 * write_bound) bus.old bus.new
+            × TransferTold result (B.failed bus.new) }
         ensures through { GoesThrough path.now self.old self.new }
         ensures clears { B.modelled ≡ true → TableClears path.now
             self.old (B.world bus.old) (B.trace bus.old) result

@@ -11,8 +11,8 @@ pub mod Calls
 pub mod Attempts
 -- the words of this crate, wherever one stands
 pub use HeardOutcomes.{acks, heard_as, heard_when_sent, polled, polled_as, set_up_as, toggle_after}
-pub use Transactions.{AttemptsMade, Ends, IsTarget, SetupEnds, error_limit, in_attempt, out_attempt}
-pub use Transactions.{packed, setup_attempt, transaction_bound, wait_limit}
+pub use Transactions.{AttemptsMade, BusTold, Ends, IsTarget, SetupEnds, error_limit, in_attempt}
+pub use Transactions.{out_attempt, packed, setup_attempt, transaction_bound, wait_limit}
 pub use AttemptLogs.{AttemptLog, BusFailed, IsNoEnd, LastOutcome, Polled, Transacted}
 pub use AttemptLogs.{TransactionDone, Waiting, errors_with, next, start, waits_with}
 unfoldable pub use AttemptLogs.{KeepsTrying, errors_running, waits_in}

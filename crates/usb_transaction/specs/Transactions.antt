@@ -1,8 +1,9 @@
 -- What a transaction tells.
-use Rattle.std.specs.Prelude.{◌≡◌, ℕ, ◌+◌, ◌<◌, ◌≤◌, List, Some, None, true, Result, Ok, Err}
+use Rattle.std.specs.Prelude.{◌≡◌, ℕ, ◌+◌, ◌<◌, ◌≤◌, List, Option, Some, None, true, Result}
+use Rattle.std.specs.Prelude.{Ok, Err, ⊤}
 use Rattle.arrayvec.specs.ArrayVec.{ArrayVec}
 use Rattle.usb_packet.specs.{Toggle, Zero, OutTok, InTok, SetupTok}
-use Rattle.usb_world.specs.{Attempt, World, HasFault}
+use Rattle.usb_world.specs.{Attempt, BusFault, World, HasFault}
 use Rattle.usb_transaction.specs.declared.target.Target.{Target}
 use Rattle.usb_transaction.specs.declared.fault.TransFault.{TransFault}
 use Rattle.usb_transaction.specs.declared.fault.TransFault.TheVariants.{Stalled, Busy, NoAnswer}
@@ -84,3 +85,11 @@ SetupEnds old (Err Stalled) new = ⊥
 SetupEnds old (Err Busy) new = ⊥
 SetupEnds old (Err NoAnswer) new = AttemptsMade error_limit old new
 SetupEnds old (Err (Bus fault)) new = HasFault fault new
+
+-- a fault of the bus is the one that it reported last
+abbrev pub BusTold : {A : Type 0} → Result A TransFault → Option BusFault → Type 0
+BusTold (Ok done) told = ⊤
+BusTold (Err Stalled) told = ⊤
+BusTold (Err Busy) told = ⊤
+BusTold (Err NoAnswer) told = ⊤
+BusTold (Err (Bus fault)) told = told ≡ Some fault

@@ -1,9 +1,9 @@
 //! IN, where NAK is an answer.
-ghost use Rattle.std.specs.Prelude.{◌≡◌, ◌<◌, true};
-ghost use Rattle.usb_bus.specs.Traces.{Steps};
+ghost use Rattle.std.specs.Prelude.{◌≡◌, ◌<◌, ◌≤◌, true, length, IfOk, IfSome};
+ghost use Rattle.usb_bus.specs.Traces.{Spends, Steps};
 ghost use Rattle.usb_transaction.specs.Calls.{PollsIn};
 ghost use Rattle.usb_transaction.specs.HeardOutcomes.{toggle_after};
-ghost use Rattle.usb_transaction.specs.Transactions.{IsTarget, transaction_bound};
+ghost use Rattle.usb_transaction.specs.Transactions.{BusTold, IsTarget, transaction_bound};
 
 use crate::attempt::attempt_of_in;
 use crate::heard_outcome::{HeardOutcome, heard_as};
@@ -32,10 +32,13 @@ pub fn poll_in<B: Bus>(
 ) -> Result<Option<Done>, TransFault>
     requires target { IsTarget target }
     requires endpoint { ep < 16 }
+    ensures any_bus { Spends B.spent B.ports transaction_bound bus.old bus.new
+        × BusTold result (B.failed bus.new) }
     ensures steps { B.modelled ≡ true → Steps B.world B.trace transaction_bound bus.old bus.new }
     ensures polls { B.modelled ≡ true
         → PollsIn target ep toggle.old (B.world bus.old) result (B.world bus.new) }
     ensures toggle { toggle.new ≡ toggle_after toggle.old result }
+    ensures fits { IfOk result (λ got. IfSome got (λ bytes. length bytes ≤ target.max)) }
 {
     let attempt = attempt_of_in(target, ep);
     let mut tries = Tries::new();

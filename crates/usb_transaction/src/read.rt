@@ -1,9 +1,9 @@
 //! IN.
-ghost use Rattle.std.specs.Prelude.{◌≡◌, ◌<◌, MatchResult, true};
-ghost use Rattle.usb_bus.specs.Traces.{Steps};
+ghost use Rattle.std.specs.Prelude.{◌≡◌, ◌<◌, ◌≤◌, MatchResult, true, length, IfOk};
+ghost use Rattle.usb_bus.specs.Traces.{Spends, Steps};
 ghost use Rattle.usb_transaction.specs.Calls.{AsksIn};
 ghost use Rattle.usb_packet.specs.Toggles.{other};
-ghost use Rattle.usb_transaction.specs.Transactions.{IsTarget, transaction_bound};
+ghost use Rattle.usb_transaction.specs.Transactions.{BusTold, IsTarget, transaction_bound};
 
 use crate::attempt::attempt_of_in;
 use crate::heard_outcome::{HeardOutcome, heard_as};
@@ -31,11 +31,14 @@ pub fn data_in<B: Bus>(
 ) -> Result<Done, TransFault>
     requires target { IsTarget target }
     requires endpoint { ep < 16 }
+    ensures any_bus { Spends B.spent B.ports transaction_bound bus.old bus.new
+        × BusTold result (B.failed bus.new) }
     ensures steps { B.modelled ≡ true → Steps B.world B.trace transaction_bound bus.old bus.new }
     ensures asks { B.modelled ≡ true
         → AsksIn target ep toggle.old (B.world bus.old) result (B.world bus.new) }
     ensures toggle { MatchResult result (λ _. toggle.new ≡ other toggle.old)
         (λ _. toggle.new ≡ toggle.old) }
+    ensures fits { IfOk result (λ bytes. length bytes ≤ target.max) }
 {
     let attempt = attempt_of_in(target, ep);
     let mut tries = Tries::new();

@@ -1,8 +1,8 @@
 //! SETUP.
 ghost use Rattle.std.specs.Prelude.{◌≡◌, true};
-ghost use Rattle.usb_bus.specs.Traces.{Steps};
+ghost use Rattle.usb_bus.specs.Traces.{Spends, Steps};
 ghost use Rattle.usb_transaction.specs.Calls.{SetsUp};
-ghost use Rattle.usb_transaction.specs.Transactions.{IsTarget, error_limit};
+ghost use Rattle.usb_transaction.specs.Transactions.{BusTold, IsTarget, error_limit};
 
 use crate::attempt::attempt_of_setup;
 use crate::heard_outcome::is_ack;
@@ -21,6 +21,8 @@ use usb_bus::Bus;
 /// is an error. `Bus` where the bus makes no more steps. It never answers `Stalled` or `Busy`.
 pub fn setup<B: Bus>(bus: &mut B, target: Target, bytes: [u8; 8]) -> Result<Done, TransFault>
     requires { IsTarget target }
+    ensures any_bus { Spends B.spent B.ports error_limit bus.old bus.new
+        × BusTold result (B.failed bus.new) }
     ensures steps { B.modelled ≡ true → Steps B.world B.trace error_limit bus.old bus.new }
     ensures sets_up { B.modelled ≡ true
         → SetsUp target bytes (B.world bus.old) result (B.world bus.new) }

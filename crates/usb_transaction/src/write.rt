@@ -1,9 +1,9 @@
 //! OUT.
 ghost use Rattle.std.specs.Prelude.{◌≡◌, ◌≤◌, ◌<◌, length, MatchResult, true};
-ghost use Rattle.usb_bus.specs.Traces.{Steps};
+ghost use Rattle.usb_bus.specs.Traces.{Spends, Steps};
 ghost use Rattle.usb_transaction.specs.Calls.{SendsOut};
 ghost use Rattle.usb_packet.specs.Toggles.{other};
-ghost use Rattle.usb_transaction.specs.Transactions.{IsTarget, transaction_bound};
+ghost use Rattle.usb_transaction.specs.Transactions.{BusTold, IsTarget, transaction_bound};
 
 use crate::attempt::attempt_of_out;
 use crate::heard_outcome::{HeardOutcome, heard_when_sent};
@@ -33,6 +33,8 @@ pub fn data_out<B: Bus>(
     requires target { IsTarget target }
     requires endpoint { ep < 16 }
     requires short { length bytes.now ≤ target.max }
+    ensures any_bus { Spends B.spent B.ports transaction_bound bus.old bus.new
+        × BusTold result (B.failed bus.new) }
     ensures steps { B.modelled ≡ true → Steps B.world B.trace transaction_bound bus.old bus.new }
     ensures sends { B.modelled ≡ true → SendsOut target ep toggle.old bytes.now
         (B.world bus.old) result (B.world bus.new) }

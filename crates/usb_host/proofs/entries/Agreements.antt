@@ -44,7 +44,7 @@ hub_away_by q hub path is away false true same is_on =
 hub_away_by q hub path is away false false same is_on = refl
 
 -- the hub of a path that stands elsewhere stands elsewhere
-hub_away : (q hub path : List ℕ) → parent_of q ≡ Some hub → is_at_or_below q path ≡ false
+pub hub_away : (q hub path : List ℕ) → parent_of q ≡ Some hub → is_at_or_below q path ≡ false
     → is_at_or_below hub path ≡ false
 hub_away q hub path is away = hub_away_by q hub path is away (pointwise nat_eq hub path)
     (is_below hub path) refl refl
@@ -121,7 +121,7 @@ found_away_by : (q path : List ℕ) {f : Finding} (e : List ℕ × Finding) (es 
 found_away_by q path e es away more true tie found = rw (path_tied q e.0 tie) away
 found_away_by q path e es away more false tie found = more found
 
-found_away : (q path : List ℕ) (f : Finding) (es : Entries) → has_at path es ≡ false
+pub found_away : (q path : List ℕ) (f : Finding) (es : Entries) → has_at path es ≡ false
     → lookup (is_at (path_cmp q)) es ≡ Some f → is_at_or_below q path ≡ false
 found_away q path f [] away found = absurd cc
 found_away q path f (e ∷ es) away found =
@@ -129,7 +129,7 @@ found_away q path f (e ∷ es) away found =
     (found_away q path f es (neither (is_at_or_below e.0 path) (has_at path es) away).1)
     (is_at (path_cmp q) e.0) refl found
 
-is_at-outside : (hub path : List ℕ) → is_at_or_below hub path ≡ false → (b : Bool)
+pub is_at-outside : (hub path : List ℕ) → is_at_or_below hub path ≡ false → (b : Bool)
     → is_at (path_cmp hub) path ≡ b → b ≡ false
 is_at-outside hub path away true tie =
     let same : pointwise nat_eq hub path ≡ true = texts_ties hub path ∙ tie in

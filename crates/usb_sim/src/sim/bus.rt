@@ -1,12 +1,12 @@
 //! The simulated bus as the host sees it.
-ghost use Rattle.std.specs.Prelude.{◌≡◌, ◌+◌, ◌-◌, ◌<◌, ◌≤◌, ◌∷◌, [], length, slice_index_or, true, false, None};
+ghost use Rattle.std.specs.Prelude.{◌≡◌, ◌+◌, ◌-◌, ◌<◌, ◌≤◌, ◌∷◌, [], length, slice_index_or, true, false, None, Some, IfOk, IfErr, refl};
 ghost use Rattle.usb_port.specs.PortStates.{off, status_of};
 ghost use Rattle.usb_device.specs.HolderIndex.{IsIndexOf};
 ghost use Rattle.usb_device.specs.Tree.{row_of, changed, called};
 ghost use Rattle.usb_port.specs.Calls.{IsSetFeature, IsClearFeature};
-ghost use Rattle.usb_world.specs.Worlds.{Attempted, IsAttempt, IsRootPort};
+ghost use Rattle.usb_world.specs.Worlds.{Attempted, FitsMaximum, IsAttempt, roots_of};
 ghost use Rattle.usb_world.specs.Steps.{AttemptFails, SetsRoot, ClearsRoot, after, root_call};
-ghost use Rattle.usb_bus.specs.Traces.{Attempts};
+ghost use Rattle.usb_bus.specs.Traces.{Attempts, Spends};
 ghost use Rattle.usb_world.specs.declared.types.BusFault.TheVariants.{Failed};
 
 use super::SimBus;
@@ -26,10 +26,20 @@ impl<T: Trace> Bus for SimBus<T> {
 
     ghost trace = { trace_of };
 
+    ghost spent = { λ bus. (world_of bus).attempts };
+
+    ghost failed = { λ bus. (world_of bus).fault };
+
+    ghost ports = { λ bus. roots_of (world_of bus) };
+
     fn attempt(&mut self, attempt: &Attempt) -> Result<Outcome, BusFault>
         requires { IsAttempt attempt.now }
         ensures attempts { Attempts attempt.now (world_of self.old) (trace_of self.old) result
             (world_of self.new) (trace_of self.new) }
+        ensures spends { Spends (λ bus. (world_of bus).attempts) (λ bus. roots_of (world_of bus)) 1
+            self.old self.new }
+        ensures fits { IfOk result (FitsMaximum attempt.now.max) }
+        ensures told { IfErr result (λ fault. (world_of self.new).fault ≡ Some fault) }
         ensures trace { result ≡ Err Failed → (world_of self.old).fault ≡ None
             → T.failed (tracer_of self.new) ≡ true }
         ensures refuses { RefusesAttempt attempt.now self.old result self.new }
@@ -67,6 +77,8 @@ impl<T: Trace> Bus for SimBus<T> {
         }
     }
 
+    ghost counted = { λ known bus. refl };
+
     ghost settled = { λ known bus. bus.settled };
 
     ghost between = { λ known bus working.
@@ -82,6 +94,8 @@ impl<T: Trace> SimBus<T> {
     fn call_root(&mut self, port: u8, call: PortCall)
         ensures world { world_of self.new ≡ after (root_call call port) (world_of self.old) }
         ensures tracer { tracer_of self.new ≡ tracer_of self.old }
+        ensures unspent { (world_of self.new).attempts ≡ (world_of self.old).attempts }
+        ensures roots { roots_of (world_of self.new) ≡ roots_of (world_of self.old) }
     {
         call_at(&mut self.roots, &mut self.holders, port, call);
         self.losses = self.losses.after_clearing(call.clears_connection_change());

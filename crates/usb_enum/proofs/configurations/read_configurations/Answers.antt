@@ -5,7 +5,7 @@ use Rattle.usb_enum.proofs.readings.Readings.{learns_on, learns_none, configurat
 use Rattle.usb_enum.proofs.readings.Readings.{configurations_learned}
 use Rattle.usb_enum.proofs.refusals.ConfigRefusals.{first_refused, repeated_refused}
 use Rattle.usb_enum.proofs.refusals.Refusals.{explains_on, fault_explains}
-use Rattle.std.proofs.Common.{◌≡◌, ◌∙◌, ◌+◌, [], false, true, ap, arith, length, sym}
+use Rattle.std.proofs.Common.{◌≡◌, ◌∙◌, ◌+◌, [], false, true, ap, arith, rules, length, sym}
 use Rattle.std.proofs.lemmas.Grind.{common_steps}
 use Rattle.usb_enum.proofs.Parts.{asking, part_fails, steps_again, steps_more, steps_none}
 use Rattle.usb_enum.proofs.Parts.{steps_times}
@@ -18,6 +18,7 @@ use Rattle.usb_enum.proofs.configurations.read_configurations.Goals as goal
 
 pub loop-index-init : goal.loop-index-init
 loop-index-init g c = record {
+  spends = search rules;
   steps = λ known. steps_none _ _ asking;
   read = ap length c.new-texts.ensures;
   differ = rw c.new-texts.ensures tt;
@@ -35,6 +36,7 @@ loop-index-preserved g c =
     let read = c.in_ok-text.ensures.read in
     let differs = rw c.value.ensures at (sym c.has_value.ensures ∙ c.if-has_value.false) in
     record {
+      spends = search rules;
       steps = λ known. steps_again _ configuration_bound asking (before.steps known)
           (read known).steps;
       read = rw c.in_ok-push.ensures.ok (grind (arith, common_steps, before.read));

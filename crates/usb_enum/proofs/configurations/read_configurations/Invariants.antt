@@ -1,4 +1,5 @@
 use Rattle.std.proofs.Common.{◌≡◌, ◌*◌, length, true}
+use Rattle.usb_bus.specs.{Spends}
 use Rattle.usb_enum.specs.{configuration_bound, OnlyAsks, DeviceFact, KeepingSteps, AtMaximum}
 use Rattle.usb_enum.specs.{HasConfigurations, ValuesDiffer, TextsAsked}
 use Rattle.usb_enum.proofs.readings.TextLengths.{TextsRead}
@@ -6,6 +7,7 @@ use Rattle.usb_enum.proofs.configurations.read_configurations.Given as goal
 
 abbrev pub invariant-loop-index : goal.invariant-loop-index
 invariant-loop-index g l = record {
+  spends : Spends g.B.Bus.spent g.B.Bus.ports (l.index * configuration_bound) l.initial.bus l.bus;
   steps : g.B.Bus.modelled ≡ true → KeepingSteps OnlyAsks (l.index * configuration_bound)
       (g.B.Bus.world l.initial.bus) (g.B.Bus.trace l.initial.bus)
       (g.B.Bus.world l.bus) (g.B.Bus.trace l.bus);

@@ -12,6 +12,7 @@ use Rattle.usb_enum.proofs.stops.ToldFailures.{handed_on}
 use Rattle.usb_enum.specs.declared.cause.Request.TheVariants.{Config}
 use Rattle.usb_enum.proofs.courses.LastRequests.{leads_went}
 use Rattle.usb_enum.proofs.stops.Reasons.{read_stop_told, reading_after, told_after, was_read}
+use Rattle.usb_enum.proofs.stops.ReportedFaults.{answered_reported}
 use Rattle.usb_enum.proofs.configurations.read_text.Goals as goal
 
 pub returns-in_err-total-clause-read : goal.returns-in_err-total-clause-read
@@ -129,3 +130,8 @@ pub returns-in_err-bytes-clause-plain : goal.returns-in_err-bytes-clause-plain
 returns-in_err-bytes-clause-plain g c =
     handed_on _ _ _ c.from_residual-in_err-bytes.ensures.1 (answered_plain (Stalled Config) _ _ tt
     c.in_err-bytes.ensures)
+
+pub returns-in_err-bytes-clause-told : goal.returns-in_err-bytes-clause-told
+returns-in_err-bytes-clause-told g c =
+    handed_on _ _ _ c.from_residual-in_err-bytes.ensures.1 (answered_reported _ (Stalled Config) _ _
+    c.get_config.ensures.any_bus.1 c.in_err-bytes.ensures)

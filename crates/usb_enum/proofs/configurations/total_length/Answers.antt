@@ -10,6 +10,8 @@ use Rattle.usb_enum.proofs.refusals.Refusals.{handed_match}
 use Rattle.usb_enum.proofs.readings.TextLengths.{config_there}
 use Rattle.usb_enum.specs.declared.cause.Request.TheVariants.{Config}
 use Rattle.usb_enum.proofs.stops.Reasons.{read_stop_told, was_read}
+use Rattle.usb_enum.proofs.stops.ReportedFaults.{answered_reported}
+use Rattle.usb_enum.proofs.stops.ToldFailures.{handed_on}
 use Rattle.usb_enum.proofs.configurations.total_length.Goals as goal
 
 pub returns-in-Ok-clause-read : goal.returns-in-Ok-clause-read
@@ -71,3 +73,8 @@ pub returns-in_err-head-clause-fits : goal.returns-in_err-head-clause-fits
 returns-in_err-head-clause-fits g c =
     handed_match _ _ _ _ c.from_residual.ensures.1 (answered_plain (Stalled Config) _ _ tt
     c.in_err-head.ensures)
+
+pub returns-in_err-head-clause-told : goal.returns-in_err-head-clause-told
+returns-in_err-head-clause-told g c =
+    handed_on _ _ _ c.from_residual.ensures.1 (answered_reported _ (Stalled Config) _ _
+    c.get_config.ensures.any_bus.1 c.in_err-head.ensures)

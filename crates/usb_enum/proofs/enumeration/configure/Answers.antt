@@ -19,6 +19,8 @@ use Rattle.usb_enum.specs.declared.cause.Request.TheVariants.{SetConfig}
 use Rattle.usb_enum.proofs.stops.Reasons.{told_after, write_stop_told}
 use Rattle.usb_enum.proofs.stops.Stops.{fits_stop, hub_stops, stops_by}
 use Rattle.usb_enum.proofs.courses.LastRequests.{leads_went}
+use Rattle.usb_enum.proofs.stops.ReportedFaults.{answered_reported, deep_reported}
+use Rattle.usb_enum.proofs.stops.ToldFailures.{handed_on}
 use Rattle.usb_enum.proofs.enumeration.configure.Goals as goal
 
 pub returns-in_err-fits_tier-clause-part : goal.returns-in_err-fits_tier-clause-part
@@ -281,3 +283,13 @@ pub returns-in_err-strings-clause-whole : goal.returns-in_err-strings-clause-who
 returns-in_err-strings-clause-whole g c =
     handed_match _ _ _ _ c.from_residual-in_err-strings.ensures.1 (plain_stop_fits _ _
     c.in_err-strings.ensures.plain)
+
+pub returns-in_err-answered_or-clause-told : goal.returns-in_err-answered_or-clause-told
+returns-in_err-answered_or-clause-told g c =
+    handed_on _ _ _ c.from_residual-in_err-answered_or.ensures.1 (answered_reported _
+    (Stalled SetConfig) _ _ c.set_configuration.ensures.any_bus.1 c.in_err-answered_or.ensures)
+
+pub returns-in_err-fits_tier-clause-told : goal.returns-in_err-fits_tier-clause-told
+returns-in_err-fits_tier-clause-told g c =
+    handed_on _ _ _ c.from_residual.ensures.1 (deep_reported _ _ c.args.device.bytes _ (sym
+    c.in_err-fits_tier.ensures))

@@ -13,6 +13,7 @@ use Rattle.usb_enum.proofs.refusals.Warrants.{unaddressed_right, whole_right}
 use Rattle.usb_enum.proofs.courses.LastRequests.{leads_went}
 use Rattle.usb_enum.proofs.stops.Stops.{given_told, gives_reason, stopped_reasoned, stopped_without}
 use Rattle.usb_enum.proofs.stops.Stops.{without_reasoned}
+use Rattle.std.proofs.Common.{rules}
 use Rattle.usb_enum.proofs.enumeration.enumerate.Goals as goal
 
 pub returns-in_default-clause-ends : goal.returns-in_default-clause-ends
@@ -119,3 +120,11 @@ pub returns-in-Err-clause-found : goal.returns-in-Err-clause-found
 returns-in-Err-clause-found g c =
     fits_found c.args.pool.now c.args.tier c.args.supply c.in-Err.stop c.give_up-finding.result
     c.give_up-finding.ensures.hands c.in-Err.ensures.whole
+
+pub returns-in_default-clause-any_bus : goal.returns-in_default-clause-any_bus
+returns-in_default-clause-any_bus g c =
+    (search rules, c.give_up.ensures.told c.without_address-stop.ensures.told)
+
+pub returns-in-Err-clause-any_bus : goal.returns-in-Err-clause-any_bus
+returns-in-Err-clause-any_bus g c =
+    (search rules, c.give_up-finding.ensures.told c.in-Err.ensures.told)

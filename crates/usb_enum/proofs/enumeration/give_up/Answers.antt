@@ -11,6 +11,8 @@ use Rattle.usb_enum.proofs.stops.Closings.{closed_fault, closed_handed, closed_l
 use Rattle.usb_enum.proofs.devices.ReachedDevices.{done_at}
 use Rattle.usb_enum.proofs.stops.Reasons.{call_ends, fault_by}
 use Rattle.usb_enum.proofs.refusals.Refusals.{handed_match}
+use Rattle.usb_enum.proofs.stops.ReportedFaults.{port_reported}
+use Rattle.usb_enum.proofs.stops.ToldFailures.{handed_on}
 use Rattle.usb_enum.proofs.enumeration.give_up.Goals as goal
 
 pub returns-in_err-at_port-in-Refused-clause-left :
@@ -57,3 +59,12 @@ pub returns-in_err-at_port-in-Refused-clause-hands :
 returns-in_err-at_port-in-Refused-clause-hands g c =
     rw c.in-Refused.is (handed_none c.from_residual.result _ c.in_err-at_port-in-Refused.field-0.0
     c.from_residual.ensures.1)
+
+pub returns-in_err-at_port-in-Refused-clause-told :
+    goal.returns-in_err-at_port-in-Refused-clause-told
+returns-in_err-at_port-in-Refused-clause-told g c told =
+    handed_on _ _ _ c.from_residual.ensures.1 (port_reported _ _ _ c.clear_port.ensures.any_bus.1
+    c.in_err-at_port-in-Refused.ensures)
+
+pub returns-in-Fault-clause-told : goal.returns-in-Fault-clause-told
+returns-in-Fault-clause-told g c told = rw c.in-Fault.is at told

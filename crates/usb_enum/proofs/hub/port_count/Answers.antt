@@ -10,6 +10,8 @@ use Rattle.usb_enum.proofs.readings.HubReadings.{ports_learned}
 use Rattle.usb_enum.proofs.Parts.{part_fails, steps_asked}
 use Rattle.usb_request.specs.{get_hub_descriptor}
 use Rattle.usb_enum.proofs.stops.Reasons.{bad_hub_told, reads_failed, was_read}
+use Rattle.usb_enum.proofs.stops.ReportedFaults.{answered_reported}
+use Rattle.usb_enum.proofs.stops.ToldFailures.{handed_on}
 use Rattle.usb_enum.proofs.hub.port_count.Goals as goal
 
 pub returns-in-Ok-clause-count : goal.returns-in-Ok-clause-count
@@ -76,3 +78,8 @@ returns-clause-read g c known =
             c.in-Err.field-0 old new c.in_ok-bytes.ensures bad (hub.what known);
       };
     }
+
+pub returns-in_err-bytes-clause-told : goal.returns-in_err-bytes-clause-told
+returns-in_err-bytes-clause-told g c =
+    handed_on _ _ _ c.from_residual.ensures.1 (answered_reported _ BadHub _ _
+    c.hub_descriptor.ensures.any_bus.1 c.in_err-bytes.ensures)

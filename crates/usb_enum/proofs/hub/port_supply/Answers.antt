@@ -10,6 +10,8 @@ use Rattle.usb_enum.proofs.courses.Counts.{read_went}
 use Rattle.usb_enum.proofs.readings.HubReadings.{supply_learned}
 use Rattle.usb_enum.proofs.Parts.{part_fails}
 use Rattle.usb_enum.proofs.stops.Reasons.{status_told}
+use Rattle.usb_enum.proofs.stops.ReportedFaults.{answered_reported}
+use Rattle.usb_enum.proofs.stops.ToldFailures.{handed_on}
 use Rattle.usb_enum.proofs.hub.port_supply.Goals as goal
 
 pub returns-clause-read : goal.returns-clause-read
@@ -60,3 +62,8 @@ pub returns-in_err-status-clause-said : goal.returns-in_err-status-clause-said
 returns-in_err-status-clause-said g c =
     handed_match _ _ _ _ c.from_residual.ensures.1 (answered_hub _ _
     c.in_err-status.ensures)
+
+pub returns-in_err-status-clause-told : goal.returns-in_err-status-clause-told
+returns-in_err-status-clause-told g c =
+    handed_on _ _ _ c.from_residual.ensures.1 (answered_reported _ BadHub _ _
+    c.get_status.ensures.any_bus.1 c.in_err-status.ensures)

@@ -8,6 +8,8 @@ use Rattle.usb_enum.proofs.refusals.PortRefusals.{power_explains}
 use Rattle.usb_enum.proofs.refusals.Refusals.{by_error}
 use Rattle.usb_request.specs.{PORT_POWER, set_port_feature}
 use Rattle.usb_enum.proofs.stops.Reasons.{bad_hub_told, writes_failed}
+use Rattle.usb_enum.proofs.stops.ReportedFaults.{answers_reported}
+use Rattle.usb_enum.specs.{BadHub}
 use Rattle.usb_enum.proofs.hub.power_port.Goals as goal
 
 pub returns-clause-part : goal.returns-clause-part
@@ -36,3 +38,7 @@ pub returns-clause-stops : goal.returns-clause-stops
 returns-clause-stops g c =
     by_error c.answered_or.result IsHubStop
     (λ stop is. answered_hub _ _ (sym is ∙ c.answered_or.ensures))
+
+pub returns-clause-told : goal.returns-clause-told
+returns-clause-told g c =
+    rw c.answered_or.ensures (answers_reported _ BadHub _ c.set_hub_port.ensures.any_bus.1)

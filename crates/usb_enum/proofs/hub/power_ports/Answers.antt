@@ -1,4 +1,4 @@
-use Rattle.std.proofs.Common.{◌≡◌, arith, refl}
+use Rattle.std.proofs.Common.{◌≡◌, arith, refl, rules}
 use Rattle.usb_pipe.specs.{write_bound}
 use Rattle.usb_enum.proofs.ports.Hubs.{powered_more}
 use Rattle.usb_enum.proofs.Parts.{part_fails, steps_again, steps_more, steps_none, steps_times}
@@ -9,10 +9,15 @@ use Rattle.usb_enum.proofs.stops.Reasons.{hub_after}
 use Rattle.usb_enum.proofs.hub.power_ports.Goals as goal
 
 pub ports-init : goal.ports-init
-ports-init g c = record { steps = λ known. steps_none _ _ (telling _); powered = λ known. refl }
+ports-init g c = record {
+  spends = search rules;
+  steps = λ known. steps_none _ _ (telling _);
+  powered = λ known. refl;
+}
 
 pub ports-preserved : goal.ports-preserved
 ports-preserved g c = record {
+  spends = search rules;
   steps = λ known. steps_again _ write_bound (telling _) (c.ports.invariant.steps known)
       (c.power_port.ensures.part known).steps;
   powered = λ known. powered_more _ _ _ _ _ (c.ports.invariant.powered known)

@@ -5,6 +5,7 @@ use Rattle.usb_enum.proofs.devices.Frames.{at_reset, reset_calls}
 use Rattle.usb_port.specs.{SetReset}
 use Rattle.usb_enum.proofs.courses.Stretches.{set_goes}
 use Rattle.usb_enum.proofs.stops.Reasons.{call_ends}
+use Rattle.usb_enum.proofs.stops.ReportedFaults.{ports_reported}
 use Rattle.usb_enum.proofs.passes.begin_reset.Goals as goal
 
 pub returns-clause-part : goal.returns-clause-part
@@ -28,3 +29,7 @@ returns-clause-calls g c known = record {
   calls = c.set_port.ensures.ports known;
   goes = set_goes c.args.port PORT_RESET SetReset _ _ _ refl refl (c.set_port.ensures.effect known);
 }
+
+pub returns-clause-told : goal.returns-clause-told
+returns-clause-told g c =
+    rw c.at_port.ensures (ports_reported _ _ c.set_port.ensures.any_bus.1)

@@ -14,6 +14,8 @@ use Rattle.usb_enum.proofs.Parts.{part_fails, steps_asked}
 use Rattle.usb_request.specs.{get_device_descriptor}
 use Rattle.usb_enum.specs.declared.cause.Request.TheVariants.{Device}
 use Rattle.usb_enum.proofs.stops.Reasons.{read_stop_told, unanswered_ends_failing, was_read}
+use Rattle.usb_enum.proofs.stops.ReportedFaults.{answered_reported, device_reported}
+use Rattle.usb_enum.proofs.stops.ToldFailures.{handed_on}
 use Rattle.usb_enum.proofs.passes.descriptor.Goals as goal
 
 pub returns-then-eq-clause-read : goal.returns-then-eq-clause-read
@@ -113,3 +115,12 @@ pub returns-in_err-bytes-clause-device : goal.returns-in_err-bytes-clause-device
 returns-in_err-bytes-clause-device g c =
     handed_match _ _ _ _ c.from_residual.ensures.1 (answered_plain (Stalled Device) _ _ tt
     c.in_err-bytes.ensures)
+
+pub returns-in_err-bytes-clause-told : goal.returns-in_err-bytes-clause-told
+returns-in_err-bytes-clause-told g c =
+    handed_on _ _ _ c.from_residual.ensures.1 (answered_reported _ (Stalled Device) _ _
+    c.get_device-outcome.ensures.any_bus.1 c.in_err-bytes.ensures)
+
+pub returns-in-Some-clause-told : goal.returns-in-Some-clause-told
+returns-in-Some-clause-told g c =
+    rw c.device_bytes.ensures (device_reported _ c.args.target.low c.in-Some.bytes.now)

@@ -10,6 +10,8 @@ use Rattle.usb_enum.proofs.Parts.{part_fails, steps_asked}
 use Rattle.usb_enum.proofs.courses.Stretches.{device_goes}
 use Rattle.usb_enum.specs.declared.cause.Request.TheVariants.{Device}
 use Rattle.usb_enum.proofs.stops.Reasons.{read_stop_told, was_read}
+use Rattle.usb_enum.proofs.stops.ReportedFaults.{answered_reported}
+use Rattle.usb_enum.proofs.stops.ToldFailures.{handed_on}
 use Rattle.usb_enum.proofs.passes.first_maximum.Goals as goal
 
 pub returns-in-Ok-clause-read : goal.returns-in-Ok-clause-read
@@ -65,3 +67,8 @@ pub returns-in_err-bytes-clause-fits : goal.returns-in_err-bytes-clause-fits
 returns-in_err-bytes-clause-fits g c =
     handed_match _ _ _ _ c.from_residual.ensures.1 (answered_plain (Stalled Device) _ _ tt
     c.in_err-bytes.ensures)
+
+pub returns-in_err-bytes-clause-told : goal.returns-in_err-bytes-clause-told
+returns-in_err-bytes-clause-told g c =
+    handed_on _ _ _ c.from_residual.ensures.1 (answered_reported _ (Stalled Device) _ _
+    c.get_device.ensures.any_bus.1 c.in_err-bytes.ensures)

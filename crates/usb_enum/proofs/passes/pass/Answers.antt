@@ -15,6 +15,8 @@ use Rattle.usb_enum.specs.declared.cause.Request.TheVariants.{Address}
 use Rattle.usb_enum.proofs.courses.LastRequests.{leads_went}
 use Rattle.usb_enum.proofs.stops.Reasons.{at_after, descriptor_after, failing_after, stop_told_at}
 use Rattle.usb_enum.proofs.stops.Reasons.{told_faults, write_stop_told}
+use Rattle.usb_enum.proofs.stops.ReportedFaults.{answered_reported}
+use Rattle.usb_enum.proofs.stops.ToldFailures.{handed_on}
 use Rattle.usb_enum.proofs.passes.pass.Goals as goal
 
 pub returns-in_err-target-clause-part : goal.returns-in_err-target-clause-part
@@ -130,3 +132,8 @@ pub returns-in_err-answered_or-clause-addressed : goal.returns-in_err-answered_o
 returns-in_err-answered_or-clause-addressed g c =
     handed_match _ _ _ _ c.from_residual-in_err-answered_or.ensures.1 (answered_plain (Stalled
     Address) _ _ tt c.in_err-answered_or.ensures)
+
+pub returns-in_err-answered_or-clause-told : goal.returns-in_err-answered_or-clause-told
+returns-in_err-answered_or-clause-told g c =
+    handed_on _ _ _ c.from_residual-in_err-answered_or.ensures.1 (answered_reported _
+    (Stalled Address) _ _ c.set_address.ensures.any_bus.1 c.in_err-answered_or.ensures)

@@ -1,6 +1,6 @@
 use Rattle.usb_enum.specs.{pass_bound, addressed_fault, Silent, NoAnswerTold, RefusedEarly}
 use Rattle.usb_enum.specs.{answered}
-use Rattle.std.proofs.Common.{◌≡◌, ◌⊎◌, inl, inr, arith, refl}
+use Rattle.std.proofs.Common.{◌≡◌, ◌⊎◌, inl, inr, arith, refl, rules}
 use Rattle.usb_hub.proofs.Interface.{is_asked_stays}
 use Rattle.usb_enum.proofs.devices.Enumerations.{takes_after}
 use Rattle.usb_enum.proofs.Parts.{enumerating, part_fails, steps_again, steps_more, steps_none}
@@ -14,6 +14,7 @@ use Rattle.usb_enum.proofs.passes.passes.Goals as goal
 
 pub loop-pass-init : goal.loop-pass-init
 loop-pass-init g c = record {
+  spends = search rules;
   steps = λ known. steps_none _ _ (enumerating _ _);
   silent = λ known. inl refl;
   missed = λ known. misses_none _ _ _;
@@ -31,6 +32,7 @@ pub loop-pass-preserved : goal.loop-pass-preserved
 loop-pass-preserved g c =
     let before = c.loop-pass.invariant in
     record {
+      spends = search rules;
       steps = λ known. steps_again _ (pass_bound c.args.port) (enumerating _ _) (before.steps known)
           (c.pass.ensures.part known).steps;
       silent = λ known.

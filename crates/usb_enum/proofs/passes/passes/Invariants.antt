@@ -1,9 +1,11 @@
 use Rattle.std.proofs.Common.{◌≡◌, ◌⊎◌, ◌*◌, true}
+use Rattle.usb_bus.specs.{Spends}
 use Rattle.usb_enum.specs.{AtPort, pass_bound, Misses, KeepingSteps, NoAnswerTold}
 use Rattle.usb_enum.proofs.passes.passes.Given as goal
 
 abbrev pub invariant-loop-pass : goal.invariant-loop-pass
 invariant-loop-pass g l = record {
+  spends : Spends g.B.Bus.spent g.B.Bus.ports (l._pass * pass_bound l.port) l.initial.bus l.bus;
   steps : g.B.Bus.modelled ≡ true → KeepingSteps (AtPort l.port l.address)
       (l._pass * pass_bound l.port)
       (g.B.Bus.world l.initial.bus) (g.B.Bus.trace l.initial.bus)

@@ -2,6 +2,7 @@ use Rattle.std.proofs.Common.{inl}
 use Rattle.usb_enum.proofs.devices.Frames.{status_asks}
 use Rattle.usb_enum.proofs.courses.Stretches.{status_goes}
 use Rattle.usb_enum.proofs.stops.Reasons.{call_ends}
+use Rattle.usb_enum.proofs.stops.ReportedFaults.{ports_reported}
 use Rattle.usb_enum.proofs.passes.read_status.Goals as goal
 
 pub returns-clause-read : goal.returns-clause-read
@@ -24,3 +25,7 @@ returns-clause-status g c known = record {
   read = c.port_status.ensures.status known;
   goes = status_goes _ _ _ _ (c.port_status.ensures.status known);
 }
+
+pub returns-clause-told : goal.returns-clause-told
+returns-clause-told g c =
+    rw c.at_port.ensures (ports_reported _ _ c.port_status.ensures.any_bus.1)

@@ -8,6 +8,7 @@ use Rattle.usb_enum.proofs.Parts.{enumerating, steps_none}
 use Rattle.usb_port.specs.{ClearResetChange}
 use Rattle.usb_enum.proofs.courses.Stretches.{clear_goes}
 use Rattle.usb_enum.proofs.stops.Reasons.{call_ends}
+use Rattle.usb_enum.proofs.stops.ReportedFaults.{ports_reported}
 use Rattle.usb_enum.proofs.passes.settle.Goals as goal
 
 pub returns-then-not-changed-clause-part : goal.returns-then-not-changed-clause-part
@@ -51,3 +52,7 @@ returns-clause-calls g c known = record {
         (c.clear_port.ensures.effect known);
   };
 }
+
+pub returns-clause-told : goal.returns-clause-told
+returns-clause-told g c =
+    rw c.at_port.ensures (ports_reported _ _ c.clear_port.ensures.any_bus.1)

@@ -9,6 +9,7 @@ use Rattle.usb_enum.proofs.readings.Readings.{refusal_learned, text_learned}
 use Rattle.usb_enum.proofs.readings.StringReadings.{stall_alone, string_read-given}
 use Rattle.usb_request.specs.{get_string_descriptor}
 use Rattle.usb_enum.proofs.stops.Reasons.{string_told}
+use Rattle.usb_enum.proofs.stops.ReportedFaults.{stop_reported}
 use Rattle.usb_enum.proofs.strings.string_bytes.Goals as goal
 
 pub returns-in-Ok-clause-read : goal.returns-in-Ok-clause-read
@@ -71,4 +72,9 @@ returns-in-Some-clause-read g c known =
 
 pub returns-in-Some-clause-plain : goal.returns-in-Some-clause-plain
 returns-in-Some-clause-plain g c = stop_plain c.in-Err.fault c.in-Some.stop
+    (sym c.stop_of.ensures ∙ c.in-Some.is)
+
+pub returns-in-Some-clause-told : goal.returns-in-Some-clause-told
+returns-in-Some-clause-told g c =
+    stop_reported _ c.in-Err.fault c.in-Some.stop c.in-Err.ensures.any_bus.1
     (sym c.stop_of.ensures ∙ c.in-Some.is)

@@ -1,6 +1,7 @@
 //! A bus around another one, with a hub at address 1 that tells a change until that is cleared.
-ghost use Rattle.std.specs.Prelude.{false};
-ghost use Rattle.usb_world.specs.Worlds.{IsAttempt};
+ghost use Rattle.std.specs.Prelude.{◌≡◌, false, Some, IfErr};
+ghost use Rattle.usb_bus.specs.Traces.{Spends};
+ghost use Rattle.usb_world.specs.Worlds.{FitsMaximum, IsAttempt};
 
 use arrayvec::ArrayVec;
 use usb_bus::{Attempt, Bus, BusFault, Outcome};
@@ -89,6 +90,24 @@ fn packet(toggle: Toggle, data: &[u8]) -> Outcome {
     Outcome::Payload(toggle, bytes)
 }
 
+/// No answer, where the data are more than the endpoint's maximum.
+fn fitting(max: u8, outcome: Outcome) -> Outcome
+    ensures { FitsMaximum max result }
+{
+    match outcome {
+        Outcome::Payload(toggle, bytes) => {
+            if bytes.len() > usize::from(max) {
+                return Outcome::Nothing;
+            }
+            Outcome::Payload(toggle, bytes)
+        }
+        Outcome::Ack => Outcome::Ack,
+        Outcome::Nak => Outcome::Nak,
+        Outcome::Stall => Outcome::Stall,
+        Outcome::Nothing => Outcome::Nothing,
+    }
+}
+
 impl<B: Bus> QuirkBus<B> {
     pub(super) fn new(bus: B) -> Self {
         QuirkBus {
@@ -133,6 +152,8 @@ impl<B: Bus> QuirkBus<B> {
 
     fn set_up(&mut self, attempt: &Attempt) -> Result<Outcome, BusFault>
         requires { IsAttempt attempt.now }
+        ensures any_bus { Spends B.spent B.ports 1 self.old.bus self.new.bus
+            × IfErr result (λ fault. B.failed self.new.bus ≡ Some fault) }
     {
         if let Some((_, setup)) = &attempt.payload {
             self.answers = self.answers(setup.as_slice());
@@ -150,6 +171,8 @@ impl<B: Bus> QuirkBus<B> {
     /// An IN of endpoint 0.
     fn give(&mut self, attempt: &Attempt) -> Result<Outcome, BusFault>
         requires { IsAttempt attempt.now }
+        ensures any_bus { Spends B.spent B.ports 1 self.old.bus self.new.bus
+            × IfErr result (λ fault. B.failed self.new.bus ≡ Some fault) }
     {
         let change = match self.told {
             Some(told) => told.change(),
@@ -192,6 +215,8 @@ impl<B: Bus> QuirkBus<B> {
     /// An IN of the status pipe.
     fn poll(&mut self, attempt: &Attempt) -> Result<Outcome, BusFault>
         requires { IsAttempt attempt.now }
+        ensures any_bus { Spends B.spent B.ports 1 self.old.bus self.new.bus
+            × IfErr result (λ fault. B.failed self.new.bus ≡ Some fault) }
     {
         let bits = match self.told {
             Some(told) => told.bits(),
@@ -212,6 +237,23 @@ impl<B: Bus> QuirkBus<B> {
         self.next = toggle.other();
         Ok(packet(toggle, &[below | bits]))
     }
+
+    /// What comes of an attempt at the hub.
+    fn answer(&mut self, attempt: &Attempt) -> Result<Outcome, BusFault>
+        requires { IsAttempt attempt.now }
+        ensures any_bus { Spends B.spent B.ports 1 self.old.bus self.new.bus
+            × IfErr result (λ fault. B.failed self.new.bus ≡ Some fault) }
+    {
+        match attempt.kind {
+            TokenKind::SetupTok => self.set_up(attempt),
+            TokenKind::InTok if attempt.ep == 1 => self.poll(attempt),
+            TokenKind::InTok => self.give(attempt),
+            TokenKind::OutTok => match self.answers {
+                Answers::HubStatus => Ok(Outcome::Ack),
+                _ => self.bus.attempt(attempt),
+            },
+        }
+    }
 }
 
 /// Nothing is said of its world.
@@ -222,19 +264,18 @@ impl<B: Bus> Bus for QuirkBus<B> {
 
     ghost trace = { λ quirk. B.trace quirk.bus };
 
+    ghost spent = { λ quirk. B.spent quirk.bus };
+
+    ghost failed = { λ quirk. B.failed quirk.bus };
+
+    ghost ports = { λ quirk. B.ports quirk.bus };
+
     fn attempt(&mut self, attempt: &Attempt) -> Result<Outcome, BusFault> {
         if attempt.addr != HUB {
             return self.bus.attempt(attempt);
         }
-        match attempt.kind {
-            TokenKind::SetupTok => self.set_up(attempt),
-            TokenKind::InTok if attempt.ep == 1 => self.poll(attempt),
-            TokenKind::InTok => self.give(attempt),
-            TokenKind::OutTok => match self.answers {
-                Answers::HubStatus => Ok(Outcome::Ack),
-                _ => self.bus.attempt(attempt),
-            },
-        }
+        let outcome = self.answer(attempt)?;
+        Ok(fitting(attempt.max, outcome))
     }
 
     fn root_ports(&self) -> u8 {
@@ -259,6 +300,8 @@ impl<B: Bus> Bus for QuirkBus<B> {
             self.bus.root_clear(port, feature);
         }
     }
+
+    ghost counted = { λ known quirk. Prim.cc known };
 
     ghost settled = { λ known quirk. Prim.cc known };
 

@@ -1,7 +1,9 @@
 use Rattle.std.proofs.Common.{rules, ◌≤◌, ◌≡◌, ◌-◌, ◌++◌, take, length, arith, sym, ap, ◌∙◌, true}
 use Rattle.std.proofs.Common.{false}
 use Rattle.usb_pipe.specs.{ends_stage}
-use Rattle.usb_pipe.proofs.ControlTransfers.{read_progress_none, onward_more, onward_went}
+use Rattle.usb_pipe.proofs.ControlTransfers.{grown_full, read_progress_none, onward_more}
+use Rattle.usb_pipe.proofs.ControlTransfers.{onward_went}
+use Rattle.usb_pipe.proofs.Bounds.{full_packet}
 use Rattle.usb_pipe.proofs.ControlTransfers.{data_ends, lost_ends, no_room_ends}
 use Rattle.usb_pipe.proofs.stage.data_stage.Goals as goal
 
@@ -10,6 +12,7 @@ packets-init g c = (
   search rules,
   λ known. read_progress_none c.args.target c.args.wanted _ _ _
       c.requires.some c.new-bytes.ensures.items,
+  search rules,
 )
 
 pub packets-preserved : goal.packets-preserved
@@ -29,6 +32,18 @@ packets-preserved g c =
           (c.packets.invariant.1 known)
           asked.heard asked.ends (c.data_in.ensures.steps known) kept more
           c.in_ok-packet.ensures.toggle,
+      (
+        omega (
+          arith,
+          c.packets.invariant.2.0,
+          c.in_ok-packet.ensures.any_bus.0.0,
+          full_packet
+              c.args.target.max (length c.packets.bytes.items) (length c.keep.new.bytes.items)
+              c.requires.target.max_least (grown_full c.args.target.max c.args.wanted _
+              c.in_ok-packet.packet c.packets.invariant.0 kept more),
+        ),
+        search rules,
+      ),
     )
 
 pub returns-then-last-clause-packets : goal.returns-then-last-clause-packets

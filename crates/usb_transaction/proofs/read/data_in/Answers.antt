@@ -14,6 +14,7 @@ tries-init g c = (
   (search rules, search rules),
   λ known. stands_new c.new-tries.result _ (rw c.attempt_of_in-attempt.ensures.value at
       c.attempt_of_in-attempt.ensures.fits) c.new-tries.ensures,
+  search rules,
 )
 
 pub tries-preserved-in-Continue-1 : goal.tries-preserved-in-Continue-1
@@ -23,6 +24,7 @@ tries-preserved-in-Continue-1 g c = (
   λ known. stands_waited (c.tries.invariant.2 known) (rw c.attempt_of_in-attempt.ensures.value at
       (c.in-Ok.ensures.attempts known)) c.heard_as.result _ c.heard_as.ensures c.in-NotReady.is
       c.wait.ensures.count c.in_ok-wait-in-NotReady.ensures.end,
+  search rules,
 )
 
 pub tries-preserved : goal.tries-preserved
@@ -32,6 +34,7 @@ tries-preserved g c = (
   λ known. stands_error (c.tries.invariant.2 known) (rw c.attempt_of_in-attempt.ensures.value at
       (c.in-Ok.ensures.attempts known)) _ c.in-Lost.ensures c.error.ensures.count
       c.in_ok-error-in-Lost.ensures.end,
+  search rules,
 )
 
 pub returns-in-Moved-clause-asks : goal.returns-in-Moved-clause-asks

@@ -6,18 +6,24 @@ use Rattle.usb_transaction.proofs.TransactionTries.{set_up_spent, set_up_told, s
 use Rattle.usb_transaction.proofs.set_up.setup.Goals as goal
 
 pub loop-error-init : goal.loop-error-init
-loop-error-init g c known = set_up_new _ (rw c.attempt_of_setup-attempt.ensures.value at
-    c.attempt_of_setup-attempt.ensures.fits)
+loop-error-init g c = (
+  search rules,
+  λ known. set_up_new _ (rw
+      c.attempt_of_setup-attempt.ensures.value at c.attempt_of_setup-attempt.ensures.fits),
+)
 
 pub loop-error-preserved : goal.loop-error-preserved
-loop-error-preserved g c known = set_up_again c.loop-error-test.true (c.loop-error.invariant known)
-    (rw c.attempt_of_setup-attempt.ensures.value at (c.in-Ok.ensures.attempts known)) (sym
-    c.is_ack.ensures ∙ c.if-is_ack.false)
+loop-error-preserved g c = (
+  search rules,
+  λ known. set_up_again c.loop-error-test.true
+      (c.loop-error.invariant.1 known) (rw c.attempt_of_setup-attempt.ensures.value at
+      (c.in-Ok.ensures.attempts known)) (sym c.is_ack.ensures ∙ c.if-is_ack.false),
+)
 
 pub returns-then-is_ack-clause-sets_up : goal.returns-then-is_ack-clause-sets_up
 returns-then-is_ack-clause-sets_up g c known =
     rw c.nothing.ensures (sets_up c.args.target c.args.bytes _ _ (search rules) (g.met.B.Bus.settled
-    known c.args.bus.now) (Ok []) (set_up_told c.loop-error-test.true (c.loop-error.invariant known)
+    known c.args.bus.now) (Ok []) (set_up_told c.loop-error-test.true (c.loop-error.invariant.1 known)
     (rw c.attempt_of_setup-attempt.ensures.value at (c.in-Ok.ensures.attempts known)) (sym
     c.is_ack.ensures ∙ c.if-is_ack.true)) (λ e. e))
 
@@ -29,23 +35,23 @@ returns-clause-sets_up g c known =
       c.loop-error.auto._error-end,
     ) in
     sets_up c.args.target c.args.bytes _ _ (search rules) (g.met.B.Bus.settled known c.args.bus.now)
-    (Err NoAnswer) ((c.loop-error.invariant known).ended all) (λ e. e)
+    (Err NoAnswer) ((c.loop-error.invariant.1 known).ended all) (λ e. e)
 
 pub returns-in-Err-clause-sets_up : goal.returns-in-Err-clause-sets_up
 returns-in-Err-clause-sets_up g c known =
     sets_up c.args.target c.args.bytes _ _ (search rules) (g.met.B.Bus.settled known c.args.bus.now)
-    (Err (Bus c.in-Err.fault)) (set_up_cut c.loop-error-test.true (c.loop-error.invariant known) (rw
+    (Err (Bus c.in-Err.fault)) (set_up_cut c.loop-error-test.true (c.loop-error.invariant.1 known) (rw
     c.attempt_of_setup-attempt.ensures.value at (c.in-Err.ensures.attempts known))) (λ e. e)
 
 pub returns-then-is_ack-clause-steps : goal.returns-then-is_ack-clause-steps
 returns-then-is_ack-clause-steps g c known =
-    set_up_went c.loop-error-test.true (c.loop-error.invariant known)
+    set_up_went c.loop-error-test.true (c.loop-error.invariant.1 known)
     c.attempt_of_setup-attempt.ensures.fits (c.in-Ok.ensures.attempts known)
 
 pub returns-in-Err-clause-steps : goal.returns-in-Err-clause-steps
-returns-in-Err-clause-steps g c known = set_up_went c.loop-error-test.true (c.loop-error.invariant
+returns-in-Err-clause-steps g c known = set_up_went c.loop-error-test.true (c.loop-error.invariant.1
     known) c.attempt_of_setup-attempt.ensures.fits (c.in-Err.ensures.attempts known)
 
 pub returns-clause-steps : goal.returns-clause-steps
 returns-clause-steps g c known =
-    set_up_spent (omega (arith, c.loop-error.auto._error-end)) (c.loop-error.invariant known)
+    set_up_spent (omega (arith, c.loop-error.auto._error-end)) (c.loop-error.invariant.1 known)

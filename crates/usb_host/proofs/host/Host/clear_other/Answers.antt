@@ -1,5 +1,8 @@
 use Rattle.std.proofs.Common.{refl}
 use Rattle.usb_host.proofs.PortRequests.{others_by, others_none}
+use Rattle.usb_host.proofs.BusCounts.{counts_spend, counts_told}
+use Rattle.usb_enum.proofs.Interface.{order_most}
+use Rattle.usb_enum.proofs.Interface.{ports_reported}
 use Rattle.usb_host.proofs.host.Host.clear_other.Goals as goal
 
 pub returns-then-asked-clause-clears : goal.returns-then-asked-clause-clears
@@ -11,3 +14,15 @@ returns-then-asked-clause-clears g c known =
 
 pub returns-else-asked-clause-clears : goal.returns-else-asked-clause-clears
 returns-else-asked-clause-clears g c known = others_none
+
+pub returns-then-asked-clause-spends : goal.returns-then-asked-clause-spends
+returns-then-asked-clause-spends g c =
+    rw (← c.self.view_is) (counts_spend g.B.Bus.modelled (g.B.Bus.spent c.self.inside.bus)
+    (g.B.Bus.spent c.clear_port_change.new.bus) (g.B.Bus.failed c.self.inside.bus)
+    (g.B.Bus.failed c.clear_port_change.new.bus) _ c.clear_port_change.ensures.any_bus.0.0 (order_most c.args.port))
+
+pub returns-then-asked-clause-told : goal.returns-then-asked-clause-told
+returns-then-asked-clause-told g c =
+    counts_told (g.B.Bus.spent c.clear_port_change.new.bus) (g.B.Bus.failed c.clear_port_change.new.bus)
+    g.B.Bus.modelled c.at_port.result (rw c.at_port.ensures (ports_reported _ _
+    c.clear_port_change.ensures.any_bus.1))

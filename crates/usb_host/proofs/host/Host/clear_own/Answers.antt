@@ -4,6 +4,8 @@ use Rattle.usb_host.proofs.PortRequests.{own_by, requested-none}
 use Rattle.usb_hub.specs.{External}
 use Rattle.usb_enum.proofs.Interface.{status_most}
 use Rattle.usb_host.proofs.StepSums.{goes_by}
+use Rattle.usb_host.proofs.BusCounts.{counts_spend, counts_told}
+use Rattle.usb_enum.proofs.Interface.{ports_reported}
 use Rattle.usb_host.proofs.host.Host.clear_own.Goals as goal
 
 pub returns-in-Root-clause-clears : goal.returns-in-Root-clause-clears
@@ -21,3 +23,19 @@ returns-in-External-clause-clears g c known =
       status_most (External c.in-External.hub c.in-External.port)
           (rw c.in-External.is at c.requires.askable).wide,
     )) refl) (s.fault known) (s.addresses known) c.at_port.ensures)
+
+pub returns-in-External-clause-spends : goal.returns-in-External-clause-spends
+returns-in-External-clause-spends g c =
+    rw (← c.self.view_is) (counts_spend g.B.Bus.modelled (g.B.Bus.spent c.self.inside.bus)
+    (g.B.Bus.spent c.clear_hub_changes.new.bus) (g.B.Bus.failed c.self.inside.bus)
+    (g.B.Bus.failed c.clear_hub_changes.new.bus) _ c.clear_hub_changes.ensures.any_bus.0.0 (omega (
+      arith,
+      status_most (External c.in-External.hub c.in-External.port)
+          (rw c.in-External.is at c.requires.askable).wide,
+    )))
+
+pub returns-in-External-clause-told : goal.returns-in-External-clause-told
+returns-in-External-clause-told g c =
+    counts_told (g.B.Bus.spent c.clear_hub_changes.new.bus) (g.B.Bus.failed c.clear_hub_changes.new.bus)
+    g.B.Bus.modelled c.at_port.result (rw c.at_port.ensures (ports_reported _ _
+    c.clear_hub_changes.ensures.any_bus.1))

@@ -1,6 +1,6 @@
 use Rattle.usb_host.proofs.PortLocations.{placed}
 use Rattle.std.proofs.Common.{refl}
-use Rattle.usb_host.specs.{Bus}
+use Rattle.usb_host.specs.{Bus, HostState, counts_of}
 use Rattle.usb_hub.proofs.Interface.{keeps_devices_none}
 use Rattle.usb_host.proofs.OwnedPorts.{none_disabled, cleared_enable_disabled, port_failed}
 use Rattle.usb_host.proofs.devices.Causes.{told_caused, untold_caused}
@@ -8,6 +8,8 @@ use Rattle.usb_host.proofs.knowledge.DroppedHubs.{fault_after-no_bus, told_backl
 use Rattle.usb_host.proofs.knowledge.DroppedHubs.{untold_droppable, nowhere_dropped}
 use Rattle.usb_enum.proofs.Interface.{order_most}
 use Rattle.usb_host.proofs.StepSums.{goes_by, host_goes_none}
+use Rattle.usb_host.proofs.BusCounts.{counts_last, counts_spend}
+use Rattle.std.proofs.Common.{subst, sym, IsSome}
 use Rattle.usb_host.proofs.host.Host.disable.Goals as goal
 use Rattle.usb_host.proofs.host.Host.disable.Goals.{in-Ok, in-Err-Bus, in-Err}
 
@@ -30,6 +32,16 @@ returns-clause-disables g c known =
     let old = g.B.Bus.world c.self.inside.bus in
     let new = g.B.Bus.world c.clear_port.new.bus in
     let port = c.in-Some.port.port in
+    let after : HostState = record {
+      world = new;
+      trace = g.B.Bus.trace c.clear_port.new.bus;
+      counts = counts_of g.B.Bus.modelled (g.B.Bus.spent c.clear_port.new.bus)
+          (g.B.Bus.failed c.clear_port.new.bus);
+      entries = c.self.inside.table.entries;
+      pipes = c.self.inside.table.pipes;
+      addresses = c.self.inside.pool;
+      stopped = c.self.inside.stopped;
+    } in
     let went = c.clear_port.ensures.steps known in
     let keeps = (c.clear_port.ensures.addresses known).keeps in
     let devices = (c.clear_port.ensures.addresses known).devices in
@@ -42,9 +54,9 @@ returns-clause-disables g c known =
         done = λ d e. told_dropped s refl went keeps devices d
             (rw w.in-Ok.is at (c.clear_port.ensures.ports known));
         failed = λ d e. absurd (cc e);
-        backlog = λ d still. told_backlog s refl went keeps devices d
+        backlog = λ d still. told_backlog {b = after} s refl went keeps devices d
             (rw w.in-Ok.is at (c.clear_port.ensures.ports known)) tt;
-        caused = λ d fair pends caused. told_caused _ _ _ s refl went keeps devices d fair
+        caused = λ d fair pends caused. told_caused _ _ after s refl went keeps devices d fair
             (rw w.in-Ok.is at (c.clear_port.ensures.ports known)) pends caused;
       })
       | in-Err-Bus w ↦ rw w.result-is (record {
@@ -53,7 +65,7 @@ returns-clause-disables g c known =
         devices = devices;
         done = λ d e. absurd (cc e);
         failed = λ d e. absurd (cc e);
-        backlog = λ d still. told_backlog s refl went keeps devices d
+        backlog = λ d still. told_backlog {b = after} s refl went keeps devices d
             (rw w.in-Err-Bus.is at (c.clear_port.ensures.ports known))
             (fault_after-no_bus (Unit {0}) w.in-Err-Bus.field-0 old new
             (w.in-Err-Bus.ensures.fault known) still);
@@ -67,12 +79,30 @@ returns-clause-disables g c known =
         failed = λ d e. untold_droppable s refl went keeps devices d
             (rw w.in-Err.is at (c.clear_port.ensures.ports known)) (w.in-Err.ensures.fault known)
             (w.in-Err.ensures.effect known);
-        backlog = λ d still. told_backlog s refl went keeps devices d
+        backlog = λ d still. told_backlog {b = after} s refl went keeps devices d
             (rw w.in-Err.is at (c.clear_port.ensures.ports known))
             (fault_after-no_bus (Unit {0}) w.in-Err.field-0 old new (w.in-Err.ensures.fault known)
             still);
-        caused = λ d fair pends caused. untold_caused _ _ _ s refl went keeps devices d fair
+        caused = λ d fair pends caused. untold_caused _ _ after s refl went keeps devices d fair
             (rw w.in-Err.is at (c.clear_port.ensures.ports known)) (w.in-Err.ensures.fault known)
             (w.in-Err.ensures.effect known) caused;
       })
     ])
+
+pub returns-clause-spends : goal.returns-clause-spends
+returns-clause-spends g c =
+    rw (← c.self.view_is) (counts_spend g.B.Bus.modelled (g.B.Bus.spent c.self.inside.bus)
+    (g.B.Bus.spent c.clear_port.new.bus) (g.B.Bus.failed c.self.inside.bus)
+    (g.B.Bus.failed c.clear_port.new.bus) _ c.clear_port.ensures.any_bus.0.0 (order_most c.in-Some.port.port))
+
+pub returns-clause-ends : goal.returns-clause-ends
+returns-clause-ends g c =
+    elim c.match-clear_port.branch [
+      | in-Ok w ↦ rw w.result-is (λ done. subst IsSome (sym c.in-Some.ensures.some.known) refl)
+      | in-Err-Bus w ↦ rw w.result-is (
+        λ known. rw w.in-Err-Bus.field-0-is at (w.in-Err-Bus.ensures.fault known),
+        counts_last (g.B.Bus.spent c.clear_port.new.bus) (g.B.Bus.failed c.clear_port.new.bus)
+            g.B.Bus.modelled (rw w.in-Err-Bus.field-0-is at w.in-Err-Bus.ensures.any_bus.1),
+      )
+      | in-Err w ↦ rw w.result-is (λ done. absurd (cc done))
+    ]

@@ -8,6 +8,7 @@ use Rattle.usb_host.proofs.host.Host.disable_upward.Goals as goal
 
 pub up-init : goal.up-init
 up-init g c = record {
+  spends = omega arith;
   so = λ known. climbed_none c.args.first c.args.self.now;
   rests = refl;
   on = way_itself c.args.first;
@@ -26,6 +27,7 @@ up-preserved g c =
     let parent = sym c.in-Some.ensures in
     let one = parent_length c.up.path parent in
     record {
+      spends = omega (arith, i.spends, c.disable.ensures.spends, one);
       so = λ known.
           climbed_on (i.so known) i.most (c.disable.ensures.disables known)
           (failed_by c.in_ok-disable.was c.if-branch.false) parent;
@@ -56,3 +58,15 @@ returns-in-None-clause-climbs g c known =
     climb_top (i.so known)
     i.most (c.disable.ensures.disables known) i.least i.on i.rests
     (failed_by c.in_ok-disable.was c.if-branch.false) (sym c.in-None.ensures)
+
+pub returns-in_err-disable-clause-spends : goal.returns-in_err-disable-clause-spends
+returns-in_err-disable-clause-spends g c =
+    let i = c.up.invariant in omega (arith, i.spends, i.least, c.disable.ensures.spends)
+
+pub returns-then-branch-clause-spends : goal.returns-then-branch-clause-spends
+returns-then-branch-clause-spends g c =
+    let i = c.up.invariant in omega (arith, i.spends, i.least, c.disable.ensures.spends)
+
+pub returns-in-None-clause-spends : goal.returns-in-None-clause-spends
+returns-in-None-clause-spends g c =
+    let i = c.up.invariant in omega (arith, i.spends, i.least, c.disable.ensures.spends)

@@ -1,11 +1,14 @@
-use Rattle.std.proofs.Common.{◌≡◌, ◌≤◌, length, true}
+use Rattle.std.proofs.Common.{◌≡◌, ◌+◌, ◌*◌, ◌≤◌, length, true}
+use Rattle.usb_pipe.specs.{write_bound}
 use Rattle.usb_tree.specs.{is_way}
-use Rattle.usb_host.specs.{OnlyBusSteps}
+use Rattle.usb_host.specs.{OnlyBusSteps, drop_bound}
 use Rattle.usb_host.proofs.PortDrops.{ClimbedTo}
 use Rattle.usb_host.proofs.host.Host.disable_upward.Given as goal
 
 abbrev pub invariant-up : goal.invariant-up
 invariant-up g l = record {
+  spends : l.self.counts.spent + write_bound * length l.path
+      ≤ l.initial.self.counts.spent + drop_bound;
   so : g.B.Bus.modelled ≡ true → ClimbedTo l.initial.path l.path l.initial.self l.self;
   rests : OnlyBusSteps l.initial.self l.self;
   on : is_way l.path l.initial.path ≡ true;

@@ -1,11 +1,16 @@
-use Rattle.std.proofs.Common.{ap, refl}
+use Rattle.std.proofs.Common.{◌≡◌, Err, ap, refl, subst}
 use Rattle.std.proofs.lemmas.Result.{err_from_is_err_and}
-use Rattle.usb_table.specs.{Table}
+use Rattle.usb_enum.specs.{IsWhole}
+use Rattle.usb_table.specs.{KnownPort, Table}
 use Rattle.usb_host.proofs.entries.Agreements.{nested_entered}
 use Rattle.usb_host.proofs.entries.Balances.{accounts_entered, range_claimed}
 use Rattle.usb_host.proofs.PortLooks.{discover_done, discover_fails, discover_lost}
 use Rattle.usb_host.proofs.entries.RisingEntries.{rises_entered}
 use Rattle.usb_host.proofs.PortLocations.{placed}
+use Rattle.usb_host.proofs.BusCounts.{counts_spend, counts_told}
+use Rattle.usb_enum.proofs.Interface.{enumeration_most}
+use Rattle.usb_host.proofs.devices.Enumerations.{askable_wide}
+use Rattle.usb_host.proofs.entries.WholeFindings.{whole_entered}
 use Rattle.usb_host.proofs.host.Host.discover.Goals as goal
 
 pub invariant_of-self-2 : goal.invariant_of-self-2
@@ -22,6 +27,10 @@ invariant_of-self-2 g c =
       accounts = accounts_entered path finding c.self.invariant.accounts away claims;
       nested = nested_entered path finding c.requires.port.is away (rw known refl)
           c.self.invariant.nested;
+      whole = whole_entered path finding away (λ device port is at.
+          let same : c.args.port ≡ port = cc (known, at) in
+          subst (λ (p : KnownPort). IsWhole p.supply device) same
+          (rw is at c.in_ok-finding.ensures.found)) c.self.invariant.whole;
     })
 
 pub returns-in_err-finding-clause-finds : goal.returns-in_err-finding-clause-finds
@@ -54,3 +63,31 @@ returns-clause-finds g c known =
     (rw c.tier.ensures at (c.in_ok-finding.ensures.ends known))
     (rw c.tier.ensures at c.in_ok-finding.ensures.found)
     (rw c.duplicate.ensures at c.in_ok-enter.ensures.ok.0))
+
+pub returns-in_err-finding-clause-spends : goal.returns-in_err-finding-clause-spends
+returns-in_err-finding-clause-spends g c =
+    rw (← c.self.view_is) (counts_spend g.B.Bus.modelled (g.B.Bus.spent c.self.inside.bus)
+    (g.B.Bus.spent c.enumerate.new.bus) (g.B.Bus.failed c.self.inside.bus)
+    (g.B.Bus.failed c.enumerate.new.bus) _ c.enumerate.ensures.any_bus.0.0 (enumeration_most c.args.port.port
+    (askable_wide c.args.port.port c.requires.port.askable)))
+
+pub returns-in_err-enter-clause-spends : goal.returns-in_err-enter-clause-spends
+returns-in_err-enter-clause-spends g c =
+    rw (← c.self.view_is) (counts_spend g.B.Bus.modelled (g.B.Bus.spent c.self.inside.bus)
+    (g.B.Bus.spent c.enumerate.new.bus) (g.B.Bus.failed c.self.inside.bus)
+    (g.B.Bus.failed c.enumerate.new.bus) _ c.enumerate.ensures.any_bus.0.0 (enumeration_most c.args.port.port
+    (askable_wide c.args.port.port c.requires.port.askable)))
+
+pub returns-clause-spends : goal.returns-clause-spends
+returns-clause-spends g c =
+    rw (← c.self.view_is) (counts_spend g.B.Bus.modelled (g.B.Bus.spent c.self.inside.bus)
+    (g.B.Bus.spent c.enumerate.new.bus) (g.B.Bus.failed c.self.inside.bus)
+    (g.B.Bus.failed c.enumerate.new.bus) _ c.enumerate.ensures.any_bus.0.0 (enumeration_most c.args.port.port
+    (askable_wide c.args.port.port c.requires.port.askable)))
+
+pub returns-in_err-finding-clause-told : goal.returns-in_err-finding-clause-told
+returns-in_err-finding-clause-told g c =
+    let told = err_from_is_err_and c.from_residual.result c.from_residual.ensures.1 in
+    rw (told.1, told.2) (counts_told (g.B.Bus.spent c.enumerate.new.bus)
+    (g.B.Bus.failed c.enumerate.new.bus) {A = Unit {0}} g.B.Bus.modelled
+    (Err c.in_err-finding.field-0.0) c.in_err-finding.ensures.any_bus.1)

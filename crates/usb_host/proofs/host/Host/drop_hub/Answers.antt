@@ -1,4 +1,4 @@
-use Rattle.std.proofs.Common.{◌≡◌, ◌∙◌, ap, refl, sym, subst, IsSome}
+use Rattle.std.proofs.Common.{◌≡◌, ◌∙◌, ap, arith, refl, sym, subst, IsSome}
 use Rattle.std.proofs.lemmas.Result.{err_from_is_err_and}
 use Rattle.usb_enum.specs.{Lost}
 use Rattle.usb_enum.specs.declared.finding.Finding.TheVariants.{Refused}
@@ -9,6 +9,8 @@ use Rattle.usb_host.proofs.entries.Agreements.{nested_entered}
 use Rattle.usb_host.proofs.entries.Balances.{accounts_entered}
 use Rattle.usb_host.proofs.PortDrops.{drop_done, drop_unlisted, drop_untold}
 use Rattle.usb_host.proofs.entries.RisingEntries.{rises_entered}
+use Rattle.usb_host.proofs.BusCounts.{forgot_spent}
+use Rattle.usb_host.proofs.entries.WholeFindings.{whole_entered}
 use Rattle.usb_host.proofs.host.Host.drop_hub.Goals as goal
 
 pub invariant_of-self-2 : goal.invariant_of-self-2
@@ -28,6 +30,8 @@ invariant_of-self-2 g c =
       accounts = accounts_entered path (Refused Lost) c.self.invariant.accounts away refl;
       nested = nested_entered path (Refused Lost) c.numbers-numbers.ensures.path away known
           c.self.invariant.nested;
+      whole = whole_entered path (Refused Lost) away (λ device port is at. absurd (cc is))
+          c.self.invariant.whole;
     })
 
 pub returns-in_err-lost-clause-drops : goal.returns-in_err-lost-clause-drops
@@ -63,3 +67,13 @@ returns-clause-drops g c known =
     drop_done
     _ c.in_ok-lost.ensures.rests (c.in_ok-lost.ensures.climbs known)
     c.forget.ensures others c.numbers-numbers.ensures.path table
+
+pub returns-in_err-insert-clause-spends : goal.returns-in_err-insert-clause-spends
+returns-in_err-insert-clause-spends g c =
+    let view = ap (λ (h : HostState). h.counts.spent) c.self.view_is in
+    omega (arith, view, forgot_spent c.forget.ensures, c.disable_upward.ensures.spends)
+
+pub returns-clause-spends : goal.returns-clause-spends
+returns-clause-spends g c =
+    let view = ap (λ (h : HostState). h.counts.spent) c.self.view_is in
+    omega (arith, view, forgot_spent c.forget.ensures, c.disable_upward.ensures.spends)

@@ -36,5 +36,5 @@ returns-in-None-clause-finishes g c known =
     rw c.in-Err-ParentLost.is at c.in-Err-ParentLost.field-0-is in
     let lost : c.args.served ≡ Err ParentLost =
     c.in-Err-ParentLost.is ∙ ap (λ (f : EnumFault). Err f) fault in
-    let broke = rw lost at (c.requires known) in
+    let broke = rw lost at (c.requires.broke known) in
     no_parent (parent_of c.args.path.now) (sym c.in-None.ensures) broke

@@ -11,14 +11,14 @@ renew-requires g c =
     (c.clear_change.ensures.clears known).requested.goes.went)
     c.requires
 
-pub returns-in_err-status : goal.returns-in_err-status
-returns-in_err-status g c known =
+pub returns-in_err-status-clause-looks : goal.returns-in_err-status-clause-looks
+returns-in_err-status-clause-looks g c known =
     let told = err_from_is_err_and c.from_residual.result c.from_residual.ensures.1 in
     rw (told.1, told.2) (look_fails c.args.port (placed known c.requires)
     c.in_err-status.ensures.rests (c.in_err-status.ensures.clears known))
 
-pub returns : goal.returns
-returns g c known =
+pub returns-clause-looks : goal.returns-clause-looks
+returns-clause-looks g c known =
     look_done
     c.renew.result (placed known c.requires) c.in_ok-status.ensures.rests
     (c.in_ok-status.ensures.clears known) (c.renew.ensures.renews known)

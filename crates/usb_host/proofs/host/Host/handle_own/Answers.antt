@@ -2,8 +2,8 @@ use Rattle.usb_host.proofs.PortServes.{own_finished}
 use Rattle.usb_host.proofs.PortLocations.{breaks, placed}
 use Rattle.usb_host.proofs.host.Host.handle_own.Goals as goal
 
-pub drop_lost_parent-requires : goal.drop_lost_parent-requires
-drop_lost_parent-requires g c known =
+pub drop_lost_parent-requires-clause-broke : goal.drop_lost_parent-requires-clause-broke
+drop_lost_parent-requires-clause-broke g c known =
     breaks c.clear_own-cleared.result _ (placed known c.requires)
     (c.clear_own-cleared.ensures.clears known).requested.told
 

@@ -8,7 +8,9 @@ use Rattle.usb_host.proofs.parts.Powers.{powered_none, powered_length, powers_on
 use Rattle.usb_host.proofs.parts.Powers.{powered_world}
 use Rattle.usb_host.proofs.entries.Agreements.{nested_none}
 use Rattle.usb_host.proofs.entries.RisingEntries.{rises_none}
+use Rattle.usb_host.proofs.entries.WholeFindings.{whole_none}
 use Rattle.usb_host.proofs.entries.Balances.{accounts_none, range_none}
+use Rattle.usb_host.proofs.BusCounts.{counts_known}
 use Rattle.usb_host.proofs.parts.Openings.{powered_is_opening, owning_opening, sound_opening}
 use Rattle.usb_host.specs.{HostMapHolds, HostInvariant, HostState}
 use Rattle.usb_host.proofs.host.Host.new.Goals as goal
@@ -59,10 +61,11 @@ invariant_of-result g c = rw (c.new-2.ensures, c.new.ensures.empty)
       range = range_none;
       accounts = accounts_none;
       nested = nested_none;
+      whole = whole_none;
     })
 
-pub returns : goal.returns
-returns g c known =
+pub returns-clause-tells : goal.returns-clause-tells
+returns-clause-tells g c known =
     let w0 : World = g.B.Bus.world c.args.bus in
     let t0 = g.B.Bus.trace c.args.bus in
     let all : c.ports.port - 1 ≡ roots_of w0 =
@@ -73,8 +76,10 @@ returns g c known =
       c.root_ports-roots.ensures.count known,
       c.root_ports-roots.ensures.least,
     ) in
-    let opens = powered_is_opening w0 _ _ _ _ _
+    let opens = powered_is_opening w0 _ _ _ _ _ _
     (powered_all w0 _ all (c.ports.invariant.powered known)) (c.ports.invariant.silent known)
+    (counts_known g.B.Bus.modelled (g.B.Bus.spent c.ports.bus) (g.B.Bus.failed c.ports.bus)
+    known)
     c.new-2.ensures c.new.ensures.empty in
     record {
       opens = opens;

@@ -1,6 +1,7 @@
 use Rattle.std.proofs.Common.{arith, refl}
 use Rattle.usb_host.proofs.entries.HubCounts.{hubs-forgot}
 use Rattle.usb_host.proofs.PortLooks.{entered_hubs, forgot_placed}
+use Rattle.usb_host.proofs.BusCounts.{forgot_spent}
 use Rattle.usb_host.proofs.host.Host.renew.Goals as goal
 
 pub discover-requires-clause-port : goal.discover-requires-clause-port
@@ -41,3 +42,11 @@ returns-else-status-clause-hubs g c =
       arith,
       hubs-forgot c.args.path.now c.args.self.now c.forget.new.self c.forget.ensures.rest,
     )
+
+pub returns-then-status-clause-spends : goal.returns-then-status-clause-spends
+returns-then-status-clause-spends g c =
+    let same = forgot_spent c.forget.ensures in omega (arith, same, c.discover.ensures.spends)
+
+pub returns-else-status-clause-spends : goal.returns-else-status-clause-spends
+returns-else-status-clause-spends g c =
+    let same = forgot_spent c.forget.ensures in omega (arith, same)

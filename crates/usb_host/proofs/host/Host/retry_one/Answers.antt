@@ -1,11 +1,12 @@
 use Rattle.usb_host.proofs.PortServes.{look_once, look_once_fails, look_nowhere}
 use Rattle.usb_host.proofs.PortLocations.{breaks, placed}
+use Rattle.std.proofs.Common.{refl}
 use Rattle.usb_host.proofs.host.Host.retry_one.Goals as goal
 
-pub drop_lost_parent-requires : goal.drop_lost_parent-requires
-drop_lost_parent-requires g c known =
+pub drop_lost_parent-requires-clause-broke : goal.drop_lost_parent-requires-clause-broke
+drop_lost_parent-requires-clause-broke g c known =
     breaks c.enumerate_again-looked.result _ (placed known c.in-Some.ensures.some)
-    (c.enumerate_again-looked.ensures known).requested.told
+    (c.enumerate_again-looked.ensures.looks known).requested.told
 
 pub returns-in_default-clause-looks : goal.returns-in_default-clause-looks
 returns-in_default-clause-looks g c known =
@@ -15,11 +16,19 @@ pub returns-in_err-drop_lost_parent-clause-looks : goal.returns-in_err-drop_lost
 returns-in_err-drop_lost_parent-clause-looks g c known =
     look_once_fails (placed known c.in-Some.ensures.some)
     c.in_err-drop_lost_parent.ensures.ends (c.in_err-drop_lost_parent.ensures.finishes known)
-    (c.enumerate_again-looked.ensures known)
+    (c.enumerate_again-looked.ensures.looks known)
     c.from_residual.ensures.0
 
 pub returns-clause-looks : goal.returns-clause-looks
 returns-clause-looks g c known =
     look_once (placed known c.in-Some.ensures.some)
     c.in_ok-drop_lost_parent.ensures.ends (c.in_ok-drop_lost_parent.ensures.finishes known)
-    c.requires (c.enumerate_again-looked.ensures known)
+    c.requires (c.enumerate_again-looked.ensures.looks known)
+
+pub returns-in_default-clause-quiet : goal.returns-in_default-clause-quiet
+returns-in_default-clause-quiet g c is =
+    refl
+
+pub returns-clause-quiet : goal.returns-clause-quiet
+returns-clause-quiet g c is =
+    absurd (cc is)

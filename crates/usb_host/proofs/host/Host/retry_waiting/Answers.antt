@@ -2,10 +2,18 @@ use Rattle.std.proofs.Common.{arith, refl}
 use Rattle.usb_host.proofs.entries.Ranks.{rank_most, rank_rises}
 use Rattle.usb_host.proofs.RoundLoops.{waiting_begin, waiting_cut, waiting_end, waiting_handled}
 use Rattle.usb_host.proofs.payments.RoundPayments.{one_waits}
+use Rattle.usb_host.proofs.StepSums.{either_quiet}
+use Rattle.std.proofs.Common.{◌∙◌, sym}
 use Rattle.usb_host.proofs.host.Host.retry_waiting.Goals as goal
 
 pub waiting-init : goal.waiting-init
-waiting-init g c = record { so = λ known. waiting_begin _; idle = λ none. (refl, refl); path = tt }
+waiting-init g c = record {
+  quiet = λ is. refl;
+  spends = omega arith;
+  so = λ known. waiting_begin _;
+  idle = λ none. (refl, refl);
+  path = tt;
+}
 
 pub waiting-smaller : goal.waiting-smaller
 waiting-smaller g c =
@@ -17,7 +25,19 @@ pub waiting-preserved : goal.waiting-preserved
 waiting-preserved g c =
     let i = c.waiting.invariant in
     let some = c.in-Some.ensures.some in
+    let rises = rank_rises c.waiting.last c.in-Some.path i.path c.retry_one.ensures.path
+    c.in-Some.ensures.some.1 in
     record {
+      quiet = λ is.
+          let both = either_quiet _ _ (sym c.and-round.ensures ∙ is) in
+          c.in_ok-retry_one.ensures.quiet both.1 ∙ i.quiet both.0;
+      spends = omega (
+        arith,
+        i.spends,
+        rises,
+        rank_most c.in-Some.path c.retry_one.ensures.path,
+        c.retry_one.ensures.spends,
+      );
       so = λ known. rw c.and-round.ensures (waiting_handled (i.so known) i.path
           c.retry_one.ensures.path some.0 some.1 (c.in_ok-retry_one.ensures.looks known));
       idle = λ none. absurd (one_waits (i.idle none).1 some.0 none);
@@ -36,3 +56,23 @@ returns-clause-looks g c known =
     let i = c.waiting.invariant in
     waiting_end (i.so known) i.path
     c.in_default.ensures.agree c.in_default.ensures.none i.idle
+
+pub returns-in_err-retry_one-clause-spends : goal.returns-in_err-retry_one-clause-spends
+returns-in_err-retry_one-clause-spends g c =
+    let rises = rank_rises c.waiting.last c.in-Some.path c.waiting.invariant.path c.retry_one.ensures.path
+    c.in-Some.ensures.some.1 in
+    omega (
+      arith,
+      c.waiting.invariant.spends,
+      rises,
+      rank_most c.in-Some.path c.retry_one.ensures.path,
+      c.retry_one.ensures.spends,
+    )
+
+pub returns-clause-spends : goal.returns-clause-spends
+returns-clause-spends g c =
+    omega (arith, c.waiting.invariant.spends)
+
+pub returns-clause-quiet : goal.returns-clause-quiet
+returns-clause-quiet g c is =
+    c.waiting.invariant.quiet is

@@ -1,12 +1,14 @@
 use Rattle.std.proofs.Common.{arith, rules, ◌≡◌, ap, refl, sym, subst, ◌∙◌, IfOk}
 use Rattle.std.proofs.lemmas.Grind.{common_steps}
 use Rattle.usb_host.specs.{round_bound, HostState, RoundsSound, PaysRound, HostSteps, DidParts}
+use Rattle.usb_host.specs.{Quiet}
 use Rattle.usb_host.proofs.payments.RoundPayments.{pays_stopped, stopped_pays}
 use Rattle.usb_host.proofs.rests.IdleRounds.{round_rests}
 use Rattle.usb_host.proofs.StepSums.{host_goes_none}
 use Rattle.usb_host.proofs.devices.Owners.{round_owning}
 use Rattle.usb_host.proofs.services.RoundServices.{parts_done}
 use Rattle.usb_host.proofs.knowledge.Soundness.{rounds_stopped}
+use Rattle.usb_host.proofs.BusCounts.{part_reported}
 use Rattle.usb_host.proofs.host.Host.round.Goals as goal
 
 pub returns-then-self-clause-stopped : goal.returns-then-self-clause-stopped
@@ -64,3 +66,14 @@ returns-clause-tells g c known =
             (round_rests result a b stopped going value (x.idle entries none));
       };
     }
+
+pub returns-clause-any_bus : goal.returns-clause-any_bus
+returns-clause-any_bus g c =
+    let same = ap (λ (h : HostState). h.counts) c.self-2.view_is in (
+      rw same c.run_round-round.ensures.spends,
+      λ off. rw same (part_reported g.B.Bus.modelled c.run_round-round.result
+          c.run_round-round.new.self c.run_round-round.ensures.told off),
+      subst (λ (h : HostState). IfOk c.run_round-round.result
+          (λ r. r ≡ Quiet → h.entries ≡ c.args.self.now.entries)) (sym c.self-2.view_is)
+          c.run_round-round.ensures.quiet,
+    )

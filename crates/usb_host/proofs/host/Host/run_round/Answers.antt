@@ -1,5 +1,7 @@
 use Rattle.usb_host.proofs.services.RoundServices.{parts_hubless, parts_lookless, parts_made}
 use Rattle.usb_host.proofs.services.RoundServices.{parts_rootless}
+use Rattle.usb_host.proofs.StepSums.{either_quiet}
+use Rattle.std.proofs.Common.{◌∙◌, sym}
 use Rattle.usb_host.proofs.host.Host.run_round.Goals as goal
 
 pub returns-in_err-roots-clause-parts : goal.returns-in_err-roots-clause-parts
@@ -22,3 +24,10 @@ pub returns-clause-parts : goal.returns-clause-parts
 returns-clause-parts g c known =
     rw (c.and-2.ensures, c.and.ensures) (parts_made (c.in_ok-roots.ensures.roots known)
     (c.in_ok-hubs.ensures.hubs known) c.retry_waiting.new.self (c.in_ok-looks.ensures.looks known))
+
+pub returns-clause-quiet : goal.returns-clause-quiet
+returns-clause-quiet g c is =
+    let outer = either_quiet _ _ (sym c.and-2.ensures ∙ is) in
+    let inner = either_quiet _ _ (sym c.and.ensures ∙ outer.0) in
+    c.in_ok-looks.ensures.quiet outer.1 ∙ c.in_ok-hubs.ensures.quiet inner.1
+    ∙ c.in_ok-roots.ensures.quiet inner.0

@@ -17,26 +17,26 @@ look_after_error-requires g c =
     c.in_ok-status.ensures.rests (λ known. (c.status.ensures.shows known).requested.goes.went)
     c.requires
 
-pub returns-in_err-status : goal.returns-in_err-status
-returns-in_err-status g c known =
+pub returns-in_err-status-clause-serves : goal.returns-in_err-status-clause-serves
+returns-in_err-status-clause-serves g c known =
     let told = err_from_is_err_and c.from_residual.result c.from_residual.ensures.1 in
     rw (told.1, told.2) (serve_fails c.args.port (placed known c.requires)
     c.in_err-status.ensures.rests (c.in_err-status.ensures.shows known))
 
-pub returns-then-status : goal.returns-then-status
-returns-then-status g c known =
+pub returns-then-status-clause-serves : goal.returns-then-status-clause-serves
+returns-then-status-clause-serves g c known =
     serve_looked (placed known c.requires) c.in_ok-status.ensures.rests
-    (c.in_ok-status.ensures.shows known) c.if-status.true (c.enumerate_again.ensures known)
+    (c.in_ok-status.ensures.shows known) c.if-status.true (c.enumerate_again.ensures.looks known)
 
-pub returns-then-has_failed : goal.returns-then-has_failed
-returns-then-has_failed g c known =
+pub returns-then-has_failed-clause-serves : goal.returns-then-has_failed-clause-serves
+returns-then-has_failed-clause-serves g c known =
     serve_failed (placed known c.requires) c.in_ok-status.ensures.rests
     (c.in_ok-status.ensures.shows known) _ (sym c.has_failed.ensures ∙ c.if-has_failed.true)
     (c.look_after_error.ensures.looks known)
     c.look_after_error.ensures.hubs
 
-pub returns-else-has_failed : goal.returns-else-has_failed
-returns-else-has_failed g c known =
+pub returns-else-has_failed-clause-serves : goal.returns-else-has_failed-clause-serves
+returns-else-has_failed-clause-serves g c known =
     serve_settled (placed known c.requires) c.in_ok-status.ensures.rests
     (c.in_ok-status.ensures.shows known) c.if-status.false
     c.settle.ensures.rests (c.settle.ensures.settles known)

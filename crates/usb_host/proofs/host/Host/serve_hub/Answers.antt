@@ -4,6 +4,7 @@ use Rattle.usb_host.specs.{first_byte}
 use Rattle.usb_host.proofs.HubPolls.{poll_cut, poll_lost, poll_quiet, poll_served, poll_undropped}
 use Rattle.usb_host.proofs.HubPolls.{poll_unserved}
 use Rattle.usb_host.proofs.services.HubServices.{failed_more}
+use Rattle.usb_host.proofs.BusCounts.{counts_last, counts_spend}
 use Rattle.usb_host.proofs.host.Host.serve_hub.Goals as goal
 
 pub returns-in-Ok-None-clause-polls : goal.returns-in-Ok-None-clause-polls
@@ -68,3 +69,65 @@ returns-in_ok-drop_hub-in-Err-clause-polls g c known =
     (p.polls known).went p.through listed (c.in-Err.ensures.polls known).polled
     (c.in-Err.ensures.polls known).keeps c.drop_hub.new.self more
     (rw c.duplicate.ensures at (c.in_ok-drop_hub-in-Err.ensures.drops known)))
+
+pub returns-in-Ok-None-clause-spends : goal.returns-in-Ok-None-clause-spends
+returns-in-Ok-None-clause-spends g c =
+    let polled = counts_spend g.B.Bus.modelled (g.B.Bus.spent c.self.inside.bus) (g.B.Bus.spent c.poll.new.bus)
+    (g.B.Bus.failed c.self.inside.bus) (g.B.Bus.failed c.poll.new.bus) 768
+    c.poll.ensures.any_bus.0.0 (omega arith) in
+    rw (← c.self.view_is) (omega (arith, polled))
+
+pub returns-in_ok-service_reported-in-Ok-Some-clause-spends : goal.returns-in_ok-service_reported-in-Ok-Some-clause-spends
+returns-in_ok-service_reported-in-Ok-Some-clause-spends g c =
+    let polled = counts_spend g.B.Bus.modelled (g.B.Bus.spent c.self.inside.bus) (g.B.Bus.spent c.poll.new.bus)
+    (g.B.Bus.failed c.self.inside.bus) (g.B.Bus.failed c.poll.new.bus) 768
+    c.poll.ensures.any_bus.0.0 (omega arith) in
+    rw (← c.self.view_is) (omega (arith, polled, c.service_reported.ensures.spends))
+
+pub returns-in_err-service_reported-in-Ok-Some-clause-spends : goal.returns-in_err-service_reported-in-Ok-Some-clause-spends
+returns-in_err-service_reported-in-Ok-Some-clause-spends g c =
+    let polled = counts_spend g.B.Bus.modelled (g.B.Bus.spent c.self.inside.bus) (g.B.Bus.spent c.poll.new.bus)
+    (g.B.Bus.failed c.self.inside.bus) (g.B.Bus.failed c.poll.new.bus) 768
+    c.poll.ensures.any_bus.0.0 (omega arith) in
+    rw (← c.self.view_is) (omega (arith, polled, c.service_reported.ensures.spends))
+
+pub returns-in-Err-Bus-clause-spends : goal.returns-in-Err-Bus-clause-spends
+returns-in-Err-Bus-clause-spends g c =
+    let polled = counts_spend g.B.Bus.modelled (g.B.Bus.spent c.self.inside.bus) (g.B.Bus.spent c.poll.new.bus)
+    (g.B.Bus.failed c.self.inside.bus) (g.B.Bus.failed c.poll.new.bus) 768
+    c.poll.ensures.any_bus.0.0 (omega arith) in
+    rw (← c.self.view_is) (omega (arith, polled))
+
+pub returns-in_err-drop_hub-in-Err-clause-spends : goal.returns-in_err-drop_hub-in-Err-clause-spends
+returns-in_err-drop_hub-in-Err-clause-spends g c =
+    let polled = counts_spend g.B.Bus.modelled (g.B.Bus.spent c.self.inside.bus) (g.B.Bus.spent c.poll.new.bus)
+    (g.B.Bus.failed c.self.inside.bus) (g.B.Bus.failed c.poll.new.bus) 768
+    c.poll.ensures.any_bus.0.0 (omega arith) in
+    rw (← c.self.view_is) (omega (arith, polled, c.drop_hub.ensures.spends))
+
+pub returns-in_ok-drop_hub-in-Err-clause-spends : goal.returns-in_ok-drop_hub-in-Err-clause-spends
+returns-in_ok-drop_hub-in-Err-clause-spends g c =
+    let polled = counts_spend g.B.Bus.modelled (g.B.Bus.spent c.self.inside.bus) (g.B.Bus.spent c.poll.new.bus)
+    (g.B.Bus.failed c.self.inside.bus) (g.B.Bus.failed c.poll.new.bus) 768
+    c.poll.ensures.any_bus.0.0 (omega arith) in
+    rw (← c.self.view_is) (omega (arith, polled, c.drop_hub.ensures.spends))
+
+pub returns-in-Err-Bus-clause-told : goal.returns-in-Err-Bus-clause-told
+returns-in-Err-Bus-clause-told g c = (
+  first_of (search rules, grind (arith, common_steps)),
+  counts_last
+      (g.B.Bus.spent c.poll.new.bus) (g.B.Bus.failed c.poll.new.bus) g.B.Bus.modelled
+      (rw c.in-Err-Bus.field-0-is at c.in-Err-Bus.ensures.any_bus.1),
+)
+
+pub returns-in-Ok-None-clause-quiet : goal.returns-in-Ok-None-clause-quiet
+returns-in-Ok-None-clause-quiet g c is =
+    rw (← c.self.view_is) c.poll.ensures.through.entries
+
+pub returns-in_ok-service_reported-in-Ok-Some-clause-quiet : goal.returns-in_ok-service_reported-in-Ok-Some-clause-quiet
+returns-in_ok-service_reported-in-Ok-Some-clause-quiet g c is =
+    absurd (cc is)
+
+pub returns-in_ok-drop_hub-in-Err-clause-quiet : goal.returns-in_ok-drop_hub-in-Err-clause-quiet
+returns-in_ok-drop_hub-in-Err-clause-quiet g c is =
+    absurd (cc is)

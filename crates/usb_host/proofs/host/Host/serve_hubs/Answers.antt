@@ -3,10 +3,18 @@ use Rattle.usb_host.proofs.rests.IdleRounds.{none_next}
 use Rattle.usb_host.proofs.entries.Ranks.{rank_most, rank_rises}
 use Rattle.usb_host.proofs.rests.RestingRounds.{next_listed}
 use Rattle.usb_host.proofs.RoundLoops.{hubs_begin, hubs_cut, hubs_all_handled, hubs_handled}
+use Rattle.usb_host.proofs.StepSums.{either_quiet}
+use Rattle.std.proofs.Common.{◌∙◌, sym}
 use Rattle.usb_host.proofs.host.Host.serve_hubs.Goals as goal
 
 pub hubs-init : goal.hubs-init
-hubs-init g c = record { so = λ known. hubs_begin _; idle = λ none. (refl, refl); path = tt }
+hubs-init g c = record {
+  quiet = λ is. refl;
+  spends = omega arith;
+  so = λ known. hubs_begin _;
+  idle = λ none. (refl, refl);
+  path = tt;
+}
 
 pub serve_hub-requires : goal.serve_hub-requires
 serve_hub-requires g c = next_listed c.in-Some.ensures.some
@@ -21,7 +29,19 @@ pub hubs-preserved : goal.hubs-preserved
 hubs-preserved g c =
     let i = c.hubs.invariant in
     let next = c.in-Some.ensures.some in
+    let rises = rank_rises c.hubs.last c.in-Some.hub i.path c.serve_hub.ensures.path
+    c.in-Some.ensures.some.stands.after in
     record {
+      quiet = λ is.
+          let both = either_quiet _ _ (sym c.and-round.ensures ∙ is) in
+          c.in_ok-serve_hub.ensures.quiet both.1 ∙ i.quiet both.0;
+      spends = omega (
+        arith,
+        i.spends,
+        rises,
+        rank_most c.in-Some.hub c.serve_hub.ensures.path,
+        c.serve_hub.ensures.spends,
+      );
       so = λ known. rw c.and-round.ensures (hubs_handled (i.so known) i.path
           c.serve_hub.ensures.path next (c.in_ok-serve_hub.ensures.polls known));
       idle = λ none. absurd (none_next (i.idle none).1 none next);
@@ -39,3 +59,23 @@ returns-clause-hubs g c known =
     let i = c.hubs.invariant in
     hubs_all_handled c.hubs.last c.hubs.round (i.so known) i.path
     c.in_default.ensures.none c.in_default.ensures.agree i.idle
+
+pub returns-in_err-serve_hub-clause-spends : goal.returns-in_err-serve_hub-clause-spends
+returns-in_err-serve_hub-clause-spends g c =
+    let rises = rank_rises c.hubs.last c.in-Some.hub c.hubs.invariant.path c.serve_hub.ensures.path
+    c.in-Some.ensures.some.stands.after in
+    omega (
+      arith,
+      c.hubs.invariant.spends,
+      rises,
+      rank_most c.in-Some.hub c.serve_hub.ensures.path,
+      c.serve_hub.ensures.spends,
+    )
+
+pub returns-clause-spends : goal.returns-clause-spends
+returns-clause-spends g c =
+    omega (arith, c.hubs.invariant.spends)
+
+pub returns-clause-quiet : goal.returns-clause-quiet
+returns-clause-quiet g c is =
+    c.hubs.invariant.quiet is

@@ -7,13 +7,14 @@ use Rattle.usb_host.proofs.host.Host.serve_ports.Goals.{then-bits-number-eq1+in_
 use Rattle.usb_host.proofs.host.Host.serve_ports.Goals.{else-bits-number-eq1}
 
 pub ports-init : goal.ports-init
-ports-init g c = record { so = λ known. ports_begin _ }
+ports-init g c = record { spends = omega arith; so = λ known. ports_begin _ }
 
 pub ports-preserved : goal.ports-preserved
 ports-preserved g c =
     let i = c.ports.invariant in
     elim c.if-bits-number-eq1.branch [
       | then-bits-number-eq1+in_ok-handle_below w ↦ rw w.self-is (record {
+        spends = omega (arith, i.spends, w.handle_below.ensures.spends, c.ports.auto.number);
         so = λ known.
             ports_handled (i.so known) (omega (arith, c.ports.auto.number))
             (omega (arith, c.ports-test.true))
@@ -21,6 +22,7 @@ ports-preserved g c =
             (w.in_ok-handle_below.ensures.handles known);
       })
       | else-bits-number-eq1 w ↦ rw w.self-is (record {
+        spends = omega (arith, i.spends, c.ports.auto.number);
         so = λ known.
             ports_clear (i.so known) (omega (arith, c.ports.auto.number))
             (bit_not c.args.bits c.ports.number w.if-bits-number-eq1.false);
@@ -37,3 +39,17 @@ pub returns-clause-serves : goal.returns-clause-serves
 returns-clause-serves g c known =
     ports_end c.args.bits (c.ports.invariant.so known)
     (omega (arith, c.ports.auto.number-end, c.ports-test.false))
+
+pub returns-in_err-handle_below-clause-spends : goal.returns-in_err-handle_below-clause-spends
+returns-in_err-handle_below-clause-spends g c =
+    omega (
+      arith,
+      c.ports.invariant.spends,
+      c.handle_below.ensures.spends,
+      c.ports-test.true,
+      c.ports.auto.number,
+    )
+
+pub returns-clause-spends : goal.returns-clause-spends
+returns-clause-spends g c =
+    omega (arith, c.ports.invariant.spends, c.ports.auto.number, c.ports.auto.number-end)

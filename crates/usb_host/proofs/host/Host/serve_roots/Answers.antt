@@ -1,4 +1,4 @@
-use Rattle.std.proofs.Common.{◌∙◌, ap, arith, sym}
+use Rattle.std.proofs.Common.{◌∙◌, ap, arith, refl, sym}
 use Rattle.usb_world.specs.{roots_of}
 use Rattle.usb_host.specs.{HostState}
 use Rattle.usb_host.proofs.RoundLoops.{roots_begin, roots_cut, roots_end, roots_handled}
@@ -8,13 +8,15 @@ use Rattle.usb_host.proofs.host.Host.serve_roots.Goals.{then-has_changed+in_ok-h
 use Rattle.usb_host.proofs.host.Host.serve_roots.Goals.{else-has_changed}
 
 pub ports-init : goal.ports-init
-ports-init g c = record { so = λ known. roots_begin _ }
+ports-init g c = record { quiet = λ is. refl; spends = omega arith; so = λ known. roots_begin _ }
 
 pub ports-preserved : goal.ports-preserved
 ports-preserved g c =
     let i = c.ports.invariant in
     elim c.if-has_changed.branch [
       | then-has_changed+in_ok-handle_root w ↦ rw (w.self-is, w.round-is) (record {
+        quiet = λ is. absurd (cc is);
+        spends = omega (arith, i.spends, w.handle_root.ensures.spends, c.ports.auto.number);
         so = λ known.
             roots_handled (i.so known) (omega (arith, c.ports.auto.number))
             (sym (c.has_changed.ensures known) ∙ w.if-has_changed.true)
@@ -27,6 +29,8 @@ ports-preserved g c =
             )) (w.in_ok-handle_root.ensures.handles known);
       })
       | else-has_changed w ↦ rw (w.self-is, w.round-is) (record {
+        quiet = i.quiet;
+        spends = omega (arith, i.spends, c.ports.auto.number);
         so = λ known.
             roots_steady (i.so known) (omega (arith, c.ports.auto.number))
             (sym (c.has_changed.ensures known) ∙ w.if-has_changed.false);
@@ -52,3 +56,29 @@ returns-clause-roots g c known =
       c.root_ports-roots.ensures.count known,
       ap (λ (h : HostState). roots_of h.world) c.self.view_is,
     ))
+
+pub returns-in_err-handle_root-clause-spends : goal.returns-in_err-handle_root-clause-spends
+returns-in_err-handle_root-clause-spends g c =
+    omega (
+      arith,
+      c.ports.invariant.spends,
+      c.handle_root.ensures.spends,
+      c.ports-test.true,
+      c.ports.auto.number,
+      c.root_ports-roots.ensures.most,
+    )
+
+pub returns-clause-spends : goal.returns-clause-spends
+returns-clause-spends g c =
+    omega (
+      arith,
+      c.ports.invariant.spends,
+      c.ports.auto.number,
+      c.ports.auto.number-end,
+      c.root_ports-roots.ensures.least,
+      c.root_ports-roots.ensures.most,
+    )
+
+pub returns-clause-quiet : goal.returns-clause-quiet
+returns-clause-quiet g c is =
+    c.ports.invariant.quiet is

@@ -2,13 +2,13 @@ use Rattle.usb_host.proofs.PortServes.{handle_finished}
 use Rattle.usb_host.proofs.PortLocations.{breaks, placed}
 use Rattle.usb_host.proofs.host.Host.service_port.Goals as goal
 
-pub drop_lost_parent-requires : goal.drop_lost_parent-requires
-drop_lost_parent-requires g c known =
+pub drop_lost_parent-requires-clause-broke : goal.drop_lost_parent-requires-clause-broke
+drop_lost_parent-requires-clause-broke g c known =
     breaks c.serve-served.result _ (placed known c.requires)
-    (c.serve-served.ensures known).requested.told
+    (c.serve-served.ensures.serves known).requested.told
 
 pub returns-clause-handles : goal.returns-clause-handles
 returns-clause-handles g c known =
     handle_finished (placed known c.requires)
     c.drop_lost_parent.ensures.ends (c.drop_lost_parent.ensures.finishes known)
-    (c.serve-served.ensures known)
+    (c.serve-served.ensures.serves known)

@@ -1,5 +1,9 @@
 use Rattle.std.proofs.Common.{refl}
 use Rattle.usb_host.proofs.PortRequests.{shows}
+use Rattle.usb_host.proofs.BusCounts.{counts_spend, counts_told}
+use Rattle.usb_enum.proofs.Interface.{status_most}
+use Rattle.usb_enum.proofs.Interface.{ports_reported}
+use Rattle.usb_host.proofs.devices.Enumerations.{askable_wide}
 use Rattle.usb_host.proofs.host.Host.status.Goals as goal
 
 pub returns-clause-shows : goal.returns-clause-shows
@@ -7,3 +11,16 @@ returns-clause-shows g c known =
     let s = c.port_status.ensures in
     rw (← c.self.view_is) (shows c.args.port _ _ c.requires.askable (s.steps known) refl
     (s.fault known) (s.status known) (s.told known) (s.addresses known) c.at_port.ensures)
+
+pub returns-clause-spends : goal.returns-clause-spends
+returns-clause-spends g c =
+    rw (← c.self.view_is) (counts_spend g.B.Bus.modelled (g.B.Bus.spent c.self.inside.bus)
+    (g.B.Bus.spent c.port_status.new.bus) (g.B.Bus.failed c.self.inside.bus)
+    (g.B.Bus.failed c.port_status.new.bus) _ c.port_status.ensures.any_bus.0.0 (status_most c.args.port
+    (askable_wide c.args.port c.requires.askable)))
+
+pub returns-clause-told : goal.returns-clause-told
+returns-clause-told g c =
+    counts_told (g.B.Bus.spent c.port_status.new.bus) (g.B.Bus.failed c.port_status.new.bus)
+    g.B.Bus.modelled c.at_port.result (rw c.at_port.ensures (ports_reported _ _
+    c.port_status.ensures.any_bus.1))

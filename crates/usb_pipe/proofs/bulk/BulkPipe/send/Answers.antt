@@ -1,5 +1,7 @@
-use Rattle.std.proofs.Common.{rules, arith}
+use Rattle.std.proofs.Common.{rules, arith, ap}
 use Rattle.std.proofs.lemmas.Grind.{common_steps}
+use Rattle.usb_pipe.specs.{Bulk}
+use Rattle.usb_pipe.proofs.Bounds.{few_packets}
 use Rattle.usb_pipe.proofs.BulkTransfers.{send_told, sends_by}
 use Rattle.usb_pipe.proofs.bulk.BulkPipe.send.Goals as goal
 
@@ -13,3 +15,36 @@ returns-then-is_broken-clause-transfer g c known = send_told _ _ _ _ _ _ (search
 pub returns-then-is_empty-clause-transfer : goal.returns-then-is_empty-clause-transfer
 returns-then-is_empty-clause-transfer g c known = send_told _ _ _ _ _ _
     (grind (arith, common_steps))
+
+pub returns-clause-any_bus : goal.returns-clause-any_bus
+returns-clause-any_bus g c = (
+  search rules,
+  search rules,
+  few_packets _ _ (omega (
+    arith,
+    c.self.invariant.least,
+    ap (λ (b : Bulk). b.max) c.self.view_is,
+  )),
+)
+
+pub returns-then-is_broken-clause-any_bus : goal.returns-then-is_broken-clause-any_bus
+returns-then-is_broken-clause-any_bus g c = (
+  search rules,
+  search rules,
+  few_packets _ _ (omega (
+    arith,
+    c.self.invariant.least,
+    ap (λ (b : Bulk). b.max) c.self.view_is,
+  )),
+)
+
+pub returns-then-is_empty-clause-any_bus : goal.returns-then-is_empty-clause-any_bus
+returns-then-is_empty-clause-any_bus g c = (
+  search rules,
+  search rules,
+  few_packets _ _ (omega (
+    arith,
+    c.self.invariant.least,
+    ap (λ (b : Bulk). b.max) c.self.view_is,
+  )),
+)

@@ -31,3 +31,7 @@ invariant_of-self-clause-sane g c = λ none.
     subst Consistent (sym c.call_at.ensures.called)
     (sane_called_at c.args.call c.args.self.now.roots (c.args.port ∷ [])
     (c.args.self.now.sane none))
+
+pub returns-clause-roots : goal.returns-clause-roots
+returns-clause-roots g c =
+    row_kept c.args.call c.args.self.now.roots _ (c.args.port ∷ []) c.call_at.ensures.called

@@ -1,0 +1,62 @@
+-- What a bus counts and reports, as its host has it.
+use Rattle.std.proofs.Common.{◌≡◌, ◌+◌, ◌≤◌, ap, arith, ℕ, Bool, true, false, Option, None, Some}
+use Rattle.std.proofs.Common.{refl, List, Result, Ok, Err, IfErr}
+use Rattle.usb_world.specs.{BusFault}
+use Rattle.usb_enum.specs.{EnumFault, IsReported}
+use Rattle.usb_table.specs.{TableFault, TransferTold}
+use Rattle.usb_table.specs.declared.fault.TableFault.TheVariants as table
+use Rattle.usb_host.specs.{BusCounts, HostFault, HostState, Forgets, IsReportedLast}
+use Rattle.usb_host.specs.{PartFaultAllowed, counts_of, host_told}
+use Rattle.usb_host.specs.declared.fault.HostFault.TheVariants as host
+
+module _ (m : Bool) (s t : ℕ) (f e : Option BusFault) where
+  pub counts_spend : {n : ℕ} (k : ℕ) → t ≤ s + n → n ≤ k
+      → (counts_of m t e).spent ≤ (counts_of m s f).spent + k
+  counts_spend {n} k most le = by m
+    where
+      by : (m : Bool) → (counts_of m t e).spent ≤ (counts_of m s f).spent + k
+      by true = omega arith
+      by false = omega (arith, most, le)
+
+module _ (s : ℕ) (f : Option BusFault) where
+  pub counts_told : {A : Type 0} (m : Bool) (result : Result A EnumFault)
+      → IfErr result (λ fault. IsReported fault f) → m ≡ false
+      → IfErr result (λ fault. IsReported fault (counts_of m s f).failed)
+  counts_told true result told off = absurd cc
+  counts_told false result told off = told
+
+  pub counts_last : (m : Bool) {fault : BusFault} → f ≡ Some fault → m ≡ false
+      → (counts_of m s f).failed ≡ Some fault
+  counts_last true told off = absurd cc
+  counts_last false told off = told
+
+  reported : {A : Type 0} (outcome : Result A TableFault) → TransferTold outcome f
+      → IfErr (host_told outcome) (λ fault. IsReportedLast fault f)
+  reported (Ok done) told = tt
+  reported (Err (table.Transfer fault)) told = tt
+  reported (Err (table.Bus fault)) told = told
+  reported (Err table.Memory) told = tt
+
+  pub counts_transfer : {A : Type 0} (m : Bool) (outcome : Result A TableFault)
+      → TransferTold outcome f → m ≡ false
+      → IfErr (host_told outcome) (λ fault. IsReportedLast fault (counts_of m s f).failed)
+  counts_transfer true outcome told off = absurd cc
+  counts_transfer false outcome told off = reported outcome told
+
+pub part_reported : {A : Type 0} (m : Bool) (result : Result A HostFault) (h : HostState)
+    → IfErr result (λ fault. PartFaultAllowed m fault h) → m ≡ false
+    → IfErr result (λ fault. IsReportedLast fault h.counts.failed)
+part_reported m (Ok done) h told off = tt
+part_reported m (Err host.Stopped) h told off = absurd told
+part_reported m (Err (host.Transfer fault)) h told off = absurd told
+part_reported m (Err (host.Bus fault)) h told off = told.1 off
+part_reported m (Err host.Memory) h told off = tt
+
+pub counts_known : (m : Bool) (s : ℕ) (f : Option BusFault) → m ≡ true
+    → counts_of m s f ≡ record { spent = 0; failed = None }
+counts_known true s f known = refl
+counts_known false s f known = absurd cc
+
+pub forgot_spent : {path : List ℕ} {a b : HostState} → Forgets path a b
+    → b.counts.spent ≡ a.counts.spent
+forgot_spent f = ap (λ (h : HostState). h.counts.spent) f.others
