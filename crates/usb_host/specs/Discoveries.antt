@@ -9,8 +9,8 @@ use Rattle.usb_table.specs.{Entries, KnownPort, known_port, tier_of, without}
 use Rattle.usb_host.specs.Agreement.{Agrees}
 use Rattle.usb_host.specs.HostStates.{HostState}
 
--- an enumeration gave a finding, and a refusal names what ended it (`Enumerates.ended`); the finding
--- was entered, and nothing else
+-- an enumeration gave a finding, and a refusal names what ended it (`Enumerates.ended`); the
+-- finding was entered, and nothing else
 pub record EntersFound (path : List ℕ) (port : KnownPort) (addresses : Addresses) (old : World)
     (before : Entries) (new : HostState) : Type 0 where
   pub finding : Finding

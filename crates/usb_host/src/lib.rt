@@ -43,8 +43,8 @@
 //!   `specs/BulkPipes.antt`). From that moment until it was found nothing was attempted but at endpoint 0, so no bulk
 //!   endpoint took or gave a byte and no hub was polled; from then to the end of the round its bulk endpoints stay as
 //!   they were (`RenewedAt`).
-//! - What is entered at a port that was looked at is what one enumeration there gave, with all that usb_enum says of it:
-//!   a refusal names the request that ended so at a moment of the round, or what was read, whatever is damaged
+//! - What is entered at a port that was looked at is what one enumeration there gave, with all that usb_enum says of
+//!   it: a refusal names the request that ended so at a moment of the round, or what was read, whatever is damaged
 //!   (`LookedAt`, `FindsAnew`, `specs/Discoveries.antt`; `Enumerates.ended` of usb_enum).
 //! - What hubs tell and those of a world do not (`specs/Changes.antt`): a change of a port's suspend or over-current,
 //!   or of the hub itself, is cleared, and an accepted device whose port its hub has disabled on an error is found

@@ -1,8 +1,8 @@
 -- Attempts at endpoint 0 move nothing at any other endpoint.
-use Rattle.std.proofs.Common.{arith, ◌≡◌, ◌⊎◌, inl, inr, ◌∙◌, refl, sym, ap, subst, ℕ, zero, suc}
+use Rattle.std.proofs.Common.{arith, ◌≡◌, inl, inr, ◌∙◌, refl, sym, ap, subst, ℕ, zero, suc}
 use Rattle.std.proofs.Common.{◌==◌, Bool, true, false, if◌then◌else◌, List, [], ◌∷◌, Option, None}
 use Rattle.std.proofs.Common.{Some, option_map}
-use Rattle.std.specs.Prelude.{⊤}
+use Rattle.std.specs.Prelude.{⊤, ◌+◌, IfSome}
 use Rattle.usb_packet.specs.{Packet, Token, Payload, Ack, TokenKind, SetupTok, OutTok, InTok}
 use Rattle.usb_packet.specs.{Toggle, Zero, One}
 use Rattle.usb_port.specs.{PortCall, PortState}
@@ -19,9 +19,10 @@ use Rattle.usb_device.specs.declared.transfer.RememberedPacket.TheVariants.{OutS
 use Rattle.usb_device.specs.declared.transfer.InEndpoint.TheVariants as by
 use Rattle.usb_tree.specs.{IsSettled, IfOut, after_sent, call_resets, reset_if}
 use Rattle.usb_world.specs.{Attempt, Damage, Mark, Step, World, here, step, after, after_event}
-use Rattle.usb_world.specs.{at_attempt, attempt, damage_in, event, payload_of, payload_out, ports_in}
-use Rattle.usb_world.specs.{reply_of, reply_out, report, root_call, sent_as, token_of, token_out}
-use Rattle.usb_world.specs.{with_attempt}
+use Rattle.usb_world.specs.{at_attempt, attempt, damage_in, event, payload_of, payload_out}
+use Rattle.usb_world.specs.{ExchangeAnswer, goes_out, heard_in, mark_in, marked, marked_some}
+use Rattle.usb_world.specs.{place_of_answer, ports_in, reply_of, reply_out, report, root_call}
+use Rattle.usb_world.specs.{sent_as, token_of, token_out, with_attempt}
 use Rattle.usb_world.proofs.Interface.{MadeOrNot, OverEvents, attempt_cases, call_state}
 use Rattle.usb_world.proofs.Interface.{happened_by, over_ready, over_taken, ready_settled}
 use Rattle.usb_world.proofs.Interface.{settled_after, settled_memory}
@@ -142,7 +143,7 @@ out_then None None q x y = y
 out_then None (Some u) q x y = absurd x
 out_then (Some s) None q x y = absurd x
 out_then (Some s) (Some u) None x y = absurd y
-out_then (Some s) (Some u) (Some v) x y m =
+out_then (Some s) (Some u) (Some v) x y = λ m.
     let first = x m in
     let second = y first.memory in
     record {
@@ -164,8 +165,8 @@ answer_stays q is deep s a m = heard (hears q deep s)
 reset_stays : (reset : Bool) (o : Option State) → OutAt o (option_map (reset_if reset) o)
 unfolding reset_state
 reset_stays reset None = tt
-reset_stays true (Some s) m = record { sink = refl; place = refl; memory = tt }
-reset_stays false (Some s) m = rest s m
+reset_stays true (Some s) = λ m. record { sink = refl; place = refl; memory = tt }
+reset_stays false (Some s) = rest s
 
 off_stays : (k : Ports) (j : ℕ) (p : List ℕ) → OutAt (state_at k j p) (state_at (all_off k) j p)
 unfolding state_at all_off
@@ -191,7 +192,8 @@ unfolding state_at all_forgotten
 forgotten_stays ended j p = tt
 forgotten_stays (vacant b k) zero p = tt
 forgotten_stays (vacant b k) (suc j) p = forgotten_stays k j p
-forgotten_stays (taken b s a k) zero [] m = record { sink = refl; place = refl; memory = tt }
+forgotten_stays (taken b s a k) zero [] =
+    λ m. record { sink = refl; place = refl; memory = tt }
 forgotten_stays (taken b s a k) zero (zero ∷ p) = tt
 forgotten_stays (taken b s a k) zero (suc j ∷ p) = forgotten_stays a j p
 forgotten_stays (taken b s a k) (suc j) p = forgotten_stays k j p
@@ -199,7 +201,7 @@ forgotten_stays (taken b s a k) (suc j) p = forgotten_stays k j p
 -- Packets
 
 module _ (q : Sent) (is : IsOfControl q.content) where
-  passed : Bool → Bool → PortState → State → Ports → Ports → Ports
+  abbrev passed : Bool → Bool → PortState → State → Ports → Ports → Ports
   passed on deep b s a k =
       if on then taken b (answer_of q deep s a).1
       (acted (effect_of q deep s) (after_packet q true a)) k else taken b s a k
@@ -227,7 +229,7 @@ module _ (q : Sent) (is : IsOfControl q.content) where
       (acted_stays (effect_of q deep s) (after_packet q true a) j p)
   first_stays false deep b s a k after (suc j ∷ p) below = out_same (state_at a j p)
 
-  pub after_stays : (deep : Bool) (k : Ports) (j : ℕ) (p : List ℕ)
+  after_stays : (deep : Bool) (k : Ports) (j : ℕ) (p : List ℕ)
       → OutAt (state_at k j p) (state_at (after_packet q deep k) j p)
   unfolding state_at after_packet
   after_stays deep ended j p = tt
@@ -251,16 +253,35 @@ sent_is : (low pre : Bool) (mark : Mark) (p : Packet) → IsOfControl (Whole p)
 sent_is low pre mark p is = grind arith
 
 token_is : (a : Attempt) (d : Option Damage) → a.ep ≡ 0 → IfOut IsOfControl (token_out a d)
-unfolding token_of
-token_is a d zero_is = grind (arith, sent_is)
+unfolding token_of marked
+token_is a d zero_is =
+    let sent = marked d 1 a.pre (token_of a) in sent_is a.low a.pre sent.mark (token_of a) zero_is
+
+out_is : (a : Attempt) (d : Option Damage) (place : ℕ) (o : Option Packet)
+    → IfSome o (λ p. IsOfControl (Whole p))
+    → IfOut IsOfControl (goes_out a (marked_some d place a.pre o))
+unfolding marked marked_some
+out_is a d place None is = tt
+out_is a d place (Some p) is = sent_is a.low a.pre (marked d place a.pre p).mark p is
 
 payload_is : (a : Attempt) (d : Option Damage) → IfOut IsOfControl (payload_out a d)
 unfolding payload_of
-payload_is a d = grind (arith, sent_is)
+payload_is a d = out_is a d 2 (payload_of a)
+    (elim a.payload as (λ o. IfSome (elim o [ None ↦ None | Some p ↦ Some (Payload p.0 p.1) ])
+    (λ p. IsOfControl (Whole p))) [
+      | None ↦ tt
+      | Some p ↦ tt
+    ])
 
 reply_is : (a : Attempt) (d : Option Damage) (k : Ports) → IfOut IsOfControl (reply_out a d k)
 unfolding reply_of
-reply_is a d k = grind (arith, sent_is)
+reply_is a d k =
+    out_is a d (place_of_answer a d + 1) (reply_of (heard_in a d k) (mark_in a d k) a.max)
+    (given (heard_in a d k) (mark_in a d k))
+  where
+    given : (heard : ExchangeAnswer) (mark : Mark) → IfSome (reply_of heard mark a.max)
+        (λ p. IsOfControl (Whole p))
+    given heard mark = grind arith
 
 attempt_stays : (a : Attempt) (d : Option Damage) → a.ep ≡ 0 → (k : Ports) (j : ℕ) (p : List ℕ)
     → OutAt (state_at k j p) (state_at (ports_in a d k) j p)
@@ -384,14 +405,14 @@ called_kept c (suc i) w settled x =
 step_kept : (s : Step) (w : World) → IsControlStep s w → IsSettled w.roots
     → MovesNothing w (after s w)
 unfolding after with_attempt
-step_kept (attempt a) w zero_is settled x = pick (attempt_cases a w)
+step_kept (attempt a) w zero_is settled = λ x. pick x (attempt_cases a w)
   where
-    pick : MadeOrNot a w (after (attempt a) w)
+    pick : (x : Location) → MadeOrNot a w (after (attempt a) w)
         → KeepsStreams (state_on w.roots x) (state_on (after (attempt a) w).roots x)
-    pick (inl same) = subst (λ (k : Ports). KeepsStreams (state_on k x)
+    pick x (inl same) = subst (λ (k : Ports). KeepsStreams (state_on k x)
         (state_on (after (attempt a) w).roots x)) (ap (λ (v : World). v.roots) same)
         (kept_same (state_on (after (attempt a) w).roots x))
-    pick (inr made) = let ready : World = at_attempt w in
+    pick x (inr made) = let ready : World = at_attempt w in
         subst (λ (v : World). KeepsStreams (state_on w.roots x) (state_on v.roots x)) (sym made.1)
         (kept_then (state_on w.roots x) (state_on ready.roots x) _ (over_ready events_kept w x)
         (out_kept (state_on ready.roots x) _
@@ -399,7 +420,7 @@ step_kept (attempt a) w zero_is settled x = pick (attempt_cases a w)
         (attempt_stays a (damage_in ready) zero_is ready.roots x.row x.rest)))
 step_kept (root_call c n) w is settled = called_kept c n w settled
 step_kept event w is settled = over_taken events_kept w.fault w
-step_kept (report line) w is settled x = kept_same (state_on w.roots x)
+step_kept (report line) w is settled = λ x. kept_same (state_on w.roots x)
 
 pub course_kept : {w v : World} → ControlCourse w v → IsSettled w.roots → MovesNothing w v
 course_kept (here w) settled x = kept_same (state_on w.roots x)
