@@ -9,7 +9,11 @@ use Rattle.usb_enum.proofs.stops.Reasons.{hub_after}
 use Rattle.usb_enum.proofs.hub.power_ports.Goals as goal
 
 pub ports-init : goal.ports-init
-ports-init g c = record { steps = λ known. steps_none _ _ (telling _); powered = λ known. refl }
+ports-init g c = record {
+  steps = λ known. steps_none _ _ (telling _);
+  powered = λ known. refl;
+  works = λ known none. none;
+}
 
 pub ports-preserved : goal.ports-preserved
 ports-preserved g c = record {
@@ -17,6 +21,8 @@ ports-preserved g c = record {
       (c.power_port.ensures.part known).steps;
   powered = λ known. powered_more _ _ _ _ _ (c.ports.invariant.powered known)
       (c.in_ok-power_port.ensures.part known).ends;
+  works = λ known none. (c.in_ok-power_port.ensures.works known)
+      (c.ports.invariant.works known none);
 }
 
 pub returns-clause-part : goal.returns-clause-part

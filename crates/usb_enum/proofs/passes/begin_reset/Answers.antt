@@ -5,6 +5,8 @@ use Rattle.usb_enum.proofs.devices.Frames.{at_reset, reset_calls}
 use Rattle.usb_port.specs.{SetReset}
 use Rattle.usb_enum.proofs.courses.Stretches.{set_goes}
 use Rattle.usb_enum.proofs.stops.Reasons.{call_ends}
+use Rattle.usb_hub.proofs.Interface.{set_works}
+use Rattle.usb_enum.proofs.ports.WorkingBuses.{at_port_works}
 use Rattle.usb_enum.proofs.passes.begin_reset.Goals as goal
 
 pub returns-clause-part : goal.returns-clause-part
@@ -28,3 +30,10 @@ returns-clause-calls g c known = record {
   calls = c.set_port.ensures.ports known;
   goes = set_goes c.args.port PORT_RESET SetReset _ _ _ refl refl (c.set_port.ensures.effect known);
 }
+
+pub returns-clause-works : goal.returns-clause-works
+returns-clause-works g c known =
+    let old = g.B.Bus.world c.args.bus.now in
+    let new = g.B.Bus.world c.set_port.new.bus in
+    at_port_works _ c.set_port.result old new c.at_port.ensures
+    (set_works c.args.port PORT_RESET _ old new (c.set_port.ensures.effect known))

@@ -8,6 +8,8 @@ use Rattle.usb_enum.proofs.Parts.{enumerating, steps_none}
 use Rattle.usb_port.specs.{ClearResetChange}
 use Rattle.usb_enum.proofs.courses.Stretches.{clear_goes}
 use Rattle.usb_enum.proofs.stops.Reasons.{call_ends}
+use Rattle.usb_hub.proofs.Interface.{clear_works}
+use Rattle.usb_enum.proofs.ports.WorkingBuses.{at_port_works}
 use Rattle.usb_enum.proofs.passes.settle.Goals as goal
 
 pub returns-then-not-changed-clause-part : goal.returns-then-not-changed-clause-part
@@ -51,3 +53,10 @@ returns-clause-calls g c known = record {
         (c.clear_port.ensures.effect known);
   };
 }
+
+pub returns-clause-works : goal.returns-clause-works
+returns-clause-works g c known =
+    let old = g.B.Bus.world c.args.bus.now in
+    let new = g.B.Bus.world c.clear_port.new.bus in
+    at_port_works _ c.clear_port.result old new c.at_port.ensures
+    (clear_works c.args.port C_PORT_RESET _ old new (c.clear_port.ensures.effect known))
