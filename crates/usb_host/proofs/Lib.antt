@@ -19,3 +19,4 @@ pub mod PortServes
 pub mod PortDrops
 pub mod RoundLoops
 pub mod HubPolls
+pub mod WorkingBuses

@@ -17,7 +17,7 @@ ghost use Rattle.usb_host.specs.Ports.{IsPortAt, StandsNowhere, IsDue, Waits, Br
 ghost use Rattle.usb_host.specs.Progress.{OnlyBusSteps};
 ghost use Rattle.usb_host.specs.Requests.{ClearsError, ClearsFeature, ClearsOthers, ClearsOwn, ClearsPort, ClearsWhere, SettlesPort, ShowsPort, TidiesPort};
 ghost use Rattle.usb_host.specs.Service.{Discovers, DropsOne, FinishesAt, HandlesNumber, HandlesPort, LooksAfterError, LooksAt, LooksOnceMore, RenewsPort, ServesOwn, ServesPort};
-ghost use Rattle.usb_host.specs.ToldFaults.{PartFaultAllowed};
+ghost use Rattle.usb_host.specs.ToldFaults.{HostWorks, PartFaultAllowed};
 
 use crate::HostFault;
 use crate::host::{Host, Round};
@@ -51,6 +51,7 @@ impl<B: Bus> Host<B> {
         ensures handles { B.modelled ≡ true → HandlesPort (number ∷ [])
             ((root_port_at self.old.world number).connection_changed ≡ true)
             self.old result self.new }
+        ensures works { B.modelled ≡ true → HostWorks self.old result self.new }
     {
         // for the checker: the entries and the addresses agree
         let _table = &self.table;
@@ -67,6 +68,7 @@ impl<B: Bus> Host<B> {
         ensures told { IfErr result (λ fault. PartFaultAllowed B.modelled fault self.new.world) }
         ensures handles { B.modelled ≡ true
             → HandlesNumber hub.now number self.old result self.new }
+        ensures works { B.modelled ≡ true → HostWorks self.old result self.new }
     {
         let mut path = hub.duplicate();
         if !path.push(number) {
@@ -84,6 +86,7 @@ impl<B: Bus> Host<B> {
         requires { IsPath hub.now }
         ensures told { IfErr result (λ fault. PartFaultAllowed B.modelled fault self.new.world) }
         ensures serves { B.modelled ≡ true → ServesOwn self.old result self.new }
+        ensures works { B.modelled ≡ true → HostWorks self.old result self.new }
     {
         let mut path = hub.duplicate();
         if !path.push(1) {
@@ -100,6 +103,7 @@ impl<B: Bus> Host<B> {
         requires { IsPortAt B.modelled path.now port self.old }
         ensures told { IfErr result (λ fault. PartFaultAllowed B.modelled fault self.new.world) }
         ensures serves { B.modelled ≡ true → ServesOwn self.old result self.new }
+        ensures works { B.modelled ≡ true → HostWorks self.old result self.new }
     {
         let cleared = self.clear_own(port.port);
         self.drop_lost_parent(path, cleared)
@@ -126,6 +130,7 @@ impl<B: Bus> Host<B> {
         ensures path { IsPath path.now }
         ensures told { IfErr result (λ fault. PartFaultAllowed B.modelled fault self.new.world) }
         ensures looks { B.modelled ≡ true → LooksOnceMore path.now self.old result self.new }
+        ensures works { B.modelled ≡ true → HostWorks self.old result self.new }
     {
         // for the checker: a path has one to seven numbers
         let _numbers = path.numbers();
@@ -157,6 +162,7 @@ impl<B: Bus> Host<B> {
         ensures told { IfErr result (λ fault. PartFaultAllowed B.modelled fault self.new.world) }
         ensures handles { B.modelled ≡ true
             → HandlesPort path.now (IsDue self.old.world port.port) self.old result self.new }
+        ensures works { B.modelled ≡ true → HostWorks self.old result self.new }
     {
         let served = self.serve(path, port);
         self.drop_lost_parent(path, served)
@@ -172,6 +178,7 @@ impl<B: Bus> Host<B> {
         ensures told { IfErr result (λ fault. PartFaultAllowed B.modelled fault self.new.world) }
         ensures ends { EndsAs served result }
         ensures finishes { B.modelled ≡ true → FinishesAt path.now served self.old result self.new }
+        ensures works { B.modelled ≡ true → HostWorks self.old result self.new }
     {
         match served {
             Ok(()) => Ok(()),
@@ -394,6 +401,7 @@ impl<B: Bus> Host<B> {
     pub(crate) fn drop_hub(&mut self, hub: PortPath) -> Result<(), HostFault>
         ensures told { IfErr result (λ fault. PartFaultAllowed B.modelled fault self.new.world) }
         ensures drops { B.modelled ≡ true → DropsOne hub self.old result self.new }
+        ensures works { B.modelled ≡ true → HostWorks self.old result self.new }
     {
         let lost = self.disable_upward(hub)?;
         // for the checker: a path has one to seven numbers
@@ -409,6 +417,7 @@ impl<B: Bus> Host<B> {
             (λ fault. PartFaultAllowed B.modelled fault self.new.world) }
         ensures rests { OnlyBusSteps self.old self.new }
         ensures climbs { B.modelled ≡ true → Climbs first self.old result self.new }
+        ensures works { B.modelled ≡ true → HostWorks self.old result self.new }
     {
         // for the checker: a path has one to seven numbers
         let _numbers = first.numbers();
@@ -431,6 +440,7 @@ impl<B: Bus> Host<B> {
             (λ fault. PartFaultAllowed B.modelled fault self.new.world) }
         ensures rests { OnlyBusSteps self.old self.new }
         ensures disables { B.modelled ≡ true → DisablesOnWay path.now self.old result self.new }
+        ensures works { B.modelled ≡ true → HostWorks self.old result self.new }
     {
         let Some(port) = self.port_at(path) else {
             return Ok(false);

@@ -9,7 +9,7 @@ ghost use Rattle.usb_host.specs.Agreement.{Agrees};
 ghost use Rattle.usb_host.specs.Ports.{Waits};
 ghost use Rattle.usb_host.specs.Progress.{either};
 ghost use Rattle.usb_host.specs.Service.{LooksAgain, ServesEach, ServesHub, ServesHubs, ServesPorts, ServesTold, WentByParts, first_byte};
-ghost use Rattle.usb_host.specs.ToldFaults.{PartFaultAllowed};
+ghost use Rattle.usb_host.specs.ToldFaults.{HostWorks, PartFaultAllowed};
 
 use crate::HostFault;
 use crate::host::{Host, Round};
@@ -34,6 +34,7 @@ impl<B: Bus> Host<B> {
     pub(crate) fn run_round(&mut self) -> Result<Round, HostFault>
         ensures told { IfErr result (λ fault. PartFaultAllowed B.modelled fault self.new.world) }
         ensures parts { B.modelled ≡ true → WentByParts self.old result self.new }
+        ensures works { B.modelled ≡ true → HostWorks self.old result self.new }
     {
         let roots = self.serve_roots()?;
         let hubs = self.serve_hubs()?;
@@ -45,6 +46,7 @@ impl<B: Bus> Host<B> {
     fn serve_roots(&mut self) -> Result<Round, HostFault>
         ensures told { IfErr result (λ fault. PartFaultAllowed B.modelled fault self.new.world) }
         ensures roots { B.modelled ≡ true → ServesEach self.old result self.new }
+        ensures works { B.modelled ≡ true → HostWorks self.old result self.new }
     {
         let mut round = Round::Quiet;
         let roots = self.bus.root_ports();
@@ -61,6 +63,7 @@ impl<B: Bus> Host<B> {
     fn serve_hubs(&mut self) -> Result<Round, HostFault>
         ensures told { IfErr result (λ fault. PartFaultAllowed B.modelled fault self.new.world) }
         ensures hubs { B.modelled ≡ true → ServesHubs self.old result self.new }
+        ensures works { B.modelled ≡ true → HostWorks self.old result self.new }
     {
         let mut round = Round::Quiet;
         let mut last: Option<PortPath> = None;
@@ -77,6 +80,7 @@ impl<B: Bus> Host<B> {
         ensures path { IsPath hub.now }
         ensures told { IfErr result (λ fault. PartFaultAllowed B.modelled fault self.new.world) }
         ensures polls { B.modelled ≡ true → ServesHub hub.now self.old result self.new }
+        ensures works { B.modelled ≡ true → HostWorks self.old result self.new }
     {
         // for the checker: a path has one to seven numbers
         let _numbers = hub.numbers();
@@ -99,6 +103,7 @@ impl<B: Bus> Host<B> {
         requires { IsPath hub.now }
         ensures told { IfErr result (λ fault. PartFaultAllowed B.modelled fault self.new.world) }
         ensures serves { B.modelled ≡ true → ServesTold hub.now bits self.old result self.new }
+        ensures works { B.modelled ≡ true → HostWorks self.old result self.new }
     {
         if bits == 1 {
             self.serve_own(hub)
@@ -112,6 +117,7 @@ impl<B: Bus> Host<B> {
         requires { IsPath hub.now }
         ensures told { IfErr result (λ fault. PartFaultAllowed B.modelled fault self.new.world) }
         ensures serves { B.modelled ≡ true → ServesPorts hub.now bits self.old result self.new }
+        ensures works { B.modelled ≡ true → HostWorks self.old result self.new }
     {
         'ports: for number in 1..8u8 {
             if bits >> number & 1 == 1 {
@@ -125,6 +131,7 @@ impl<B: Bus> Host<B> {
     fn retry_waiting(&mut self) -> Result<Round, HostFault>
         ensures told { IfErr result (λ fault. PartFaultAllowed B.modelled fault self.new.world) }
         ensures looks { B.modelled ≡ true → LooksAgain self.old result self.new }
+        ensures works { B.modelled ≡ true → HostWorks self.old result self.new }
     {
         let mut round = Round::Quiet;
         let mut last: Option<PortPath> = None;

@@ -5,4 +5,5 @@ mod enumeration;
 mod external;
 mod host;
 mod hub;
+mod polls;
 mod quirks;

@@ -1,5 +1,6 @@
 use Rattle.std.proofs.Common.{◌≡◌, ◌≤◌, length, true}
 use Rattle.usb_tree.specs.{is_way}
+use Rattle.usb_hub.specs.{StillWorks}
 use Rattle.usb_host.specs.{OnlyBusSteps}
 use Rattle.usb_host.proofs.PortDrops.{ClimbedTo}
 use Rattle.usb_host.proofs.host.Host.disable_upward.Given as goal
@@ -11,6 +12,7 @@ invariant-up g l = record {
   on : is_way l.path l.initial.path ≡ true;
   least : 1 ≤ length l.path;
   most : length l.path ≤ 7;
+  works : g.B.Bus.modelled ≡ true → StillWorks l.initial.self.world l.self.world;
 }
 
 abbrev pub decreases-up : goal.decreases-up

@@ -1,5 +1,6 @@
 use Rattle.std.proofs.Common.{◌≡◌, ◌-◌, true, IfSome}
 use Rattle.usb_port.specs.{IsPath}
+use Rattle.usb_hub.specs.{StillWorks}
 use Rattle.usb_host.specs.{NoneWait, Quiet}
 use Rattle.usb_host.proofs.entries.Ranks.{rank_after}
 use Rattle.usb_host.proofs.RoundLoops.{WaitingHandled}
@@ -10,6 +11,7 @@ invariant-waiting g l = record {
   so : g.B.Bus.modelled ≡ true → WaitingHandled l.last l.round l.initial.self l.self;
   idle : NoneWait l.initial.self.entries → (l.round ≡ Quiet) × (l.self ≡ l.initial.self);
   path : IfSome l.last IsPath;
+  works : g.B.Bus.modelled ≡ true → StillWorks l.initial.self.world l.self.world;
 }
 
 abbrev pub decreases-waiting : goal.decreases-waiting

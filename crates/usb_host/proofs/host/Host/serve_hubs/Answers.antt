@@ -6,7 +6,12 @@ use Rattle.usb_host.proofs.RoundLoops.{hubs_begin, hubs_cut, hubs_all_handled, h
 use Rattle.usb_host.proofs.host.Host.serve_hubs.Goals as goal
 
 pub hubs-init : goal.hubs-init
-hubs-init g c = record { so = λ known. hubs_begin _; idle = λ none. (refl, refl); path = tt }
+hubs-init g c = record {
+  so = λ known. hubs_begin _;
+  idle = λ none. (refl, refl);
+  path = tt;
+  works = λ known none. none;
+}
 
 pub serve_hub-requires : goal.serve_hub-requires
 serve_hub-requires g c = next_listed c.in-Some.ensures.some
@@ -26,6 +31,7 @@ hubs-preserved g c =
           c.serve_hub.ensures.path next (c.in_ok-serve_hub.ensures.polls known));
       idle = λ none. absurd (none_next (i.idle none).1 none next);
       path = c.serve_hub.ensures.path;
+      works = λ known none. c.in_ok-serve_hub.ensures.works known (i.works known none);
     }
 
 pub returns-in_err-serve_hub-clause-hubs : goal.returns-in_err-serve_hub-clause-hubs
