@@ -20,17 +20,17 @@ const ROWS: &[Row] = &[
     Row {
         about: "at the first poll: the device behind the hub is not found, and the caller knows it",
         limit: 26,
-        told: "Err(Bus(LimitReached)), 1; Err(Stopped)",
+        told: "Err(Bus(Limit)), 1; Err(Stopped)",
     },
     Row {
         about: "at the last poll: nothing says that the hub has no further change",
         limit: 63,
-        told: "Err(Bus(LimitReached)), 1, 1.1; Err(Stopped)",
+        told: "Err(Bus(Limit)), 1, 1.1; Err(Stopped)",
     },
     Row {
         about: "after the last poll",
         limit: 64,
-        told: "Ok(()), 1, 1.1; Err(Bus(LimitReached))",
+        told: "Ok(()), 1, 1.1; Err(Bus(Limit))",
     },
 ];
 
