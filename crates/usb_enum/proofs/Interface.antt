@@ -11,6 +11,7 @@ pub use Rattle.usb_enum.proofs.courses.Losses.{course_later, few_before, step_la
 pub use Rattle.usb_enum.proofs.devices.ReachedDevices.{disabled_known, pends_there, some_of}
 pub use Rattle.usb_enum.proofs.readings.Readings.{devices_then}
 pub use Rattle.usb_enum.proofs.refusals.Refusals.{each_joint}
+pub use Rattle.usb_enum.proofs.ports.WorkingBuses.{at_port_works}
 pub use Rattle.usb_enum.proofs.Targets.{device_fits, enumeration_most, order_most, status_most}
 pub use Rattle.usb_enum.proofs.stops.ReportedFaults.{ports_reported}
 pub use Rattle.usb_enum.proofs.readings.Truths.{ruled_there}

@@ -2,3 +2,4 @@
 pub mod Hubs
 pub mod Ports
 pub mod Powers
+pub mod WorkingBuses

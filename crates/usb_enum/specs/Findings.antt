@@ -34,7 +34,7 @@ use Rattle.usb_enum.specs.PresentDevices.{AtPath, Finds, IsInOrder, IsRegular, H
 use Rattle.usb_enum.specs.PresentDevices.{LearnsSet, ReachesDevice}
 use Rattle.usb_enum.specs.Readings.{AtMaximum}
 use Rattle.usb_enum.specs.Reasons.{EndsFor, FaultBy}
-use Rattle.usb_enum.specs.Stops.{FitsTier}
+use Rattle.usb_enum.specs.Stops.{EnumWorks, FitsTier}
 use Rattle.usb_enum.specs.StringRequests.{AsksStrings, EndsWithStrings}
 use Rattle.usb_enum.specs.Text.{ValuesDiffer, choice_of}
 use Rattle.usb_enum.specs.TextLengths.{HasPlanWithin}
@@ -225,3 +225,4 @@ pub record Enumerates (port : HubPort) (before : Addresses) (tier supply : ℕ) 
   pub few : FewAttempts port before old new
   pub strings : (device : Accepted) → result ≡ Ok (Device device) → AsksStrings port old new device
   pub left : (finding : Finding) → result ≡ Ok finding → IsLeft port finding new
+  pub works : EnumWorks result old new

@@ -68,7 +68,8 @@ pub use Refusals.{whole_fault}
 unfoldable pub use Refusals.{addressed_fault, configured_fault, device_fault, head_fault}
 pub use Stops.{CanFail, CauseAllowedIn, CauseAllowedOfDevice, CauseAllowedWithout, FaultAllowed}
 pub use Stops.{FaultAllowedAt, FitsStop, FitsTier, IsHubStop, IsPlain, IsPlainStop, IsReported}
-pub use Stops.{IsReportedStop, IsStopWithout, StopFaults, answered_or, at_port, fault_at_port, stop_of}
+pub use Stops.{IsReportedStop, IsStopWithout, StopFaults, answered_or, at_port, fault_at_port}
+pub use Stops.{stop_of, EnumWorks, IsNotOfBus, StopNotOfBus, StopWorks}
 pub use StringRequests.{AsksLanguage, AsksString, AsksStrings, EndsWithStrings, NamesNone, ReadsBy}
 pub use StringRequests.{ReadsIn, ReadsString, ReadsStrings, asked, given, named, refused, unnamed}
 pub use Text.{ValuesDiffer, any_has_value, choice_of, config_text_of, first_language_of, first_unit}

@@ -1,8 +1,9 @@
 -- What a failed transfer means.
 use Rattle.std.specs.Prelude.{◌≡◌, ◌≢◌, ◌⊎◌, ℕ, Option, Some, None, unwrap_or, Result, Ok, Err, ⊤}
+use Rattle.std.specs.Prelude.{MatchResult}
 use Rattle.usb_enum.specs.Device.{LAST_TIER}
 use Rattle.usb_world.specs.{BusFault, World, HasFault}
-use Rattle.usb_hub.specs.{HubPort, Root, External}
+use Rattle.usb_hub.specs.{HubPort, Root, External, StillWorks}
 use Rattle.usb_pipe.specs.{PipeFault}
 use Rattle.usb_pipe.specs.declared.fault.PipeFault.TheVariants as pipe
 use Rattle.usb_enum.specs.declared.cause.Cause.{Cause}
@@ -37,6 +38,25 @@ fault_at_port pipe.Memory = fault.Memory
 abbrev pub at_port : {X : Type 0} → Result X PipeFault → Result X EnumFault
 at_port (Ok answer) = Ok answer
 at_port (Err f) = Err (fault_at_port f)
+
+-- it is no fault of the bus
+abbrev pub IsNotOfBus : EnumFault → Type 0
+IsNotOfBus fault.ParentLost = ⊤
+IsNotOfBus (fault.Bus f) = ⊥
+IsNotOfBus fault.Memory = ⊤
+
+abbrev pub StopNotOfBus : Stop → Type 0
+StopNotOfBus (Refused why) = ⊤
+StopNotOfBus (Fault f) = IsNotOfBus f
+
+-- the bus still works after a call, unless that reports a fault of the bus
+abbrev pub EnumWorks : {X : Type 0} → Result X EnumFault → World → World → Type 0
+EnumWorks result old new = MatchResult result (λ done. StillWorks old new)
+    (λ f. IsNotOfBus f → StillWorks old new)
+
+abbrev pub StopWorks : {X : Type 0} → Result X Stop → World → World → Type 0
+StopWorks result old new = MatchResult result (λ done. StillWorks old new)
+    (λ stop. StopNotOfBus stop → StillWorks old new)
 
 -- a request to a hub's port may fail; a root port is a register
 abbrev pub CanFail : HubPort → Type 0

@@ -10,7 +10,7 @@ ghost use Rattle.usb_enum.specs.Reasons.{TextRead, TextsAsked};
 ghost use Rattle.usb_enum.specs.Text.{ValuesDiffer, choice_of};
 ghost use Rattle.usb_enum.specs.TextLengths.{IsAnswered, ReadsText, FewFor};
 ghost use Rattle.usb_bus.specs.Traces.{Spends};
-ghost use Rattle.usb_enum.specs.Stops.{IsPlainStop, IsReportedStop};
+ghost use Rattle.usb_enum.specs.Stops.{IsPlainStop, IsReportedStop, StopWorks};
 
 use crate::stop::{Stop, answered_or};
 use crate::{Cause, ConfigText, ConfigTexts, Request};
@@ -37,6 +37,7 @@ fn total_length<B: Bus>(alloc: Global, bus: &mut B, target: Target, index: u8) -
     ensures read { B.modelled ≡ true → Read B.world B.trace (read_bound CONFIGURATION_LENGTH)
         (Answered target (λ old new _. IsAnswered target new) (HasTotal index))
         (StopsRead target (λ spec. config_fault spec index)) bus.old result bus.new }
+    ensures works { B.modelled ≡ true → StopWorks result (B.world bus.old) (B.world bus.new) }
 {
     let stalled = Cause::Stalled(Request::Config);
     let head = answered_or(stalled, get_config(alloc, bus, target, index, HEAD))?;
@@ -65,6 +66,7 @@ fn read_text<B: Bus>(
         (StopsRead target (λ spec. config_fault spec index)) bus.old result bus.new }
     ensures count { B.modelled ≡ true
         → ReadsText target index (B.world bus.old) result (B.world bus.new) }
+    ensures works { B.modelled ≡ true → StopWorks result (B.world bus.old) (B.world bus.new) }
 {
     let total = total_length(alloc, bus, target, index)?;
     let stalled = Cause::Stalled(Request::Config);
@@ -94,6 +96,7 @@ pub(crate) fn read_configurations<B: Bus>(
         (StopsRead target (λ spec. first_fault spec count)) bus.old result bus.new }
     ensures few { B.modelled ≡ true
         → FewFor texts_bound target (B.world bus.old) (B.world bus.new) }
+    ensures works { B.modelled ≡ true → StopWorks result (B.world bus.old) (B.world bus.new) }
 {
     let mut texts = ConfigTexts::new(alloc);
     for index in 0..count {

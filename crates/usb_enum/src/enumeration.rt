@@ -2,6 +2,7 @@
 ghost use Rattle.std.specs.Prelude.{◌≡◌, IfOk, IfErr, MatchResult, true};
 ghost use Rattle.usb_bus.specs.Traces.{Spends, Steps};
 ghost use Rattle.usb_hub.specs.Port.{IsAsked, order_bound};
+ghost use Rattle.usb_hub.specs.Requests.{StillWorks};
 ghost use Rattle.usb_enum.specs.Addresses.{AtPort};
 ghost use Rattle.usb_enum.specs.Bounds.{unaddressed_bound, examination_bound, enumeration_bound, configured_bound, configured_by, hub_bound};
 ghost use Rattle.usb_enum.specs.Device.{HasFacts, fits_tier, is_hub_device};
@@ -9,7 +10,7 @@ ghost use Rattle.usb_enum.specs.Findings.{Enumerates, GivenUp, HandsOn, IsAccept
 ghost use Rattle.usb_enum.specs.Frames.{OnlySets, OnlyTells};
 ghost use Rattle.usb_enum.specs.Parts.{Part, KeepingSteps, StopsConfiguring, StopsExamining, StopsStart, StopsWithout};
 ghost use Rattle.usb_enum.specs.PresentDevices.{LearnsPorts};
-ghost use Rattle.usb_enum.specs.Stops.{FaultAllowedAt, FitsStop, IsHubStop, IsReported, IsReportedStop, IsStopWithout};
+ghost use Rattle.usb_enum.specs.Stops.{FaultAllowedAt, FitsStop, IsHubStop, IsReported, IsReportedStop, IsStopWithout, EnumWorks, StopNotOfBus, StopWorks};
 ghost use Rattle.usb_enum.specs.TextLengths.{FewFor, FewFrom};
 
 use crate::addressed::Addressed;
@@ -88,6 +89,8 @@ fn without_address<B: Bus>(alloc: Global, bus: &mut B, port: HubPort) -> Stop
         (B.world bus.old) (B.trace bus.old) (B.world bus.new) (B.trace bus.new) }
     ensures stops { B.modelled ≡ true
         → StopsWithout port (B.world bus.old) (B.world bus.new) result }
+    ensures works { B.modelled ≡ true
+        → StopNotOfBus result → StillWorks (B.world bus.old) (B.world bus.new) }
 {
     match unaddressed(alloc, bus, port) {
         Ok(_) => Stop::Refused(Cause::NoAddress),
@@ -105,6 +108,7 @@ fn give_up<B: Bus>(bus: &mut B, port: HubPort, stop: Stop) -> Result<Finding, En
     ensures steps { B.modelled ≡ true → Steps B.world B.trace (order_bound port) bus.old bus.new }
     ensures left { B.modelled ≡ true
         → GivenUp port stop (B.world bus.old) result (B.world bus.new) }
+    ensures works { B.modelled ≡ true → EnumWorks result (B.world bus.old) (B.world bus.new) }
 {
     match stop {
         Stop::Refused(cause) => {
@@ -133,6 +137,7 @@ fn examine<B: Bus>(
         (examination_bound port) (IsAccepted port address tier supply)
         (StopsExamining port address tier supply) bus.old result bus.new }
     ensures few { B.modelled ≡ true → FewFrom port address (B.world bus.old) (B.world bus.new) }
+    ensures works { B.modelled ≡ true → StopWorks result (B.world bus.old) (B.world bus.new) }
 {
     let device = passes(alloc, bus, port, address.number())?;
     configure(alloc, bus, address, device, tier, supply)
@@ -157,6 +162,7 @@ fn configure<B: Bus>(
         (StopsConfiguring device.target device.bytes tier supply) bus.old result bus.new }
     ensures few { B.modelled ≡ true
         → FewFor configured_by device.target (B.world bus.old) (B.world bus.new) }
+    ensures works { B.modelled ≡ true → StopWorks result (B.world bus.old) (B.world bus.new) }
 {
     let target = device.target;
     fits_tier(&device, tier)?;
@@ -205,6 +211,7 @@ fn hub_facts<B: Bus>(
         → Part B.world B.trace (OnlyTells device.now.target.addr) hub_bound
         (LearnsPorts device.now text.now) (StopsStart device.now.target text.now)
         bus.old result bus.new }
+    ensures works { B.modelled ≡ true → StopWorks result (B.world bus.old) (B.world bus.new) }
 {
     if !device.is_hub() {
         return Ok(None);

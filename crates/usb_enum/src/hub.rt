@@ -12,7 +12,7 @@ ghost use Rattle.usb_enum.specs.Device.{CanServe};
 ghost use Rattle.usb_enum.specs.Hub.{CountTold, SupplyTold, IsPowered, Powered, Started};
 ghost use Rattle.usb_enum.specs.Frames.{OnlyTells};
 ghost use Rattle.usb_bus.specs.Traces.{Spends};
-ghost use Rattle.usb_enum.specs.Stops.{IsHubStop, IsReportedStop};
+ghost use Rattle.usb_enum.specs.Stops.{IsHubStop, IsReportedStop, StopWorks};
 
 use crate::stop::{Stop, answered_or};
 use crate::{Cause, ConfigText};
@@ -48,6 +48,7 @@ pub(crate) fn start_hub<B: Bus>(
     ensures part { B.modelled ≡ true → Part B.world B.trace (OnlyTells target.addr) hub_bound
         (Answered target (Started target) (λ facts. Ruled (IsGoodHub text.now facts)))
         (StopsStart target text.now) bus.old result bus.new }
+    ensures works { B.modelled ≡ true → StopWorks result (B.world bus.old) (B.world bus.new) }
 {
     if text.status_endpoint().is_none() {
         return Err(Stop::Refused(Cause::BadHub));
@@ -68,6 +69,7 @@ fn port_count<B: Bus>(alloc: Global, bus: &mut B, target: Target) -> Result<u8, 
     ensures count { MatchResult result IsPortNumber IsHubStop }
     ensures read { B.modelled ≡ true → Read B.world B.trace (read_bound HUB_LENGTH)
         (Answered target (CountTold target) HasPorts) (StopsHub target) bus.old result bus.new }
+    ensures works { B.modelled ≡ true → StopWorks result (B.world bus.old) (B.world bus.new) }
 {
     let bytes = answered_or(Cause::BadHub, hub_descriptor(alloc, bus, target))?;
     match read_hub(bytes.as_slice()) {
@@ -87,6 +89,7 @@ fn port_supply<B: Bus>(alloc: Global, bus: &mut B, target: Target) -> Result<u16
     ensures read { B.modelled ≡ true → Read B.world B.trace (read_bound 2)
         (Both (SupplyTold target) (λ old new supply. DeviceFact (HasSupply supply) target old new))
         (StopsHub target) bus.old result bus.new }
+    ensures works { B.modelled ≡ true → StopWorks result (B.world bus.old) (B.world bus.new) }
 {
     let status = answered_or(Cause::BadHub, get_status(alloc, bus, target))?;
     Ok(supply(false, status.self_powered))
@@ -101,6 +104,7 @@ fn power_ports<B: Bus>(bus: &mut B, target: Target, ports: u8) -> Result<(), Sto
     ensures part { B.modelled ≡ true → Part B.world B.trace (OnlyTells target.addr)
         (ports * write_bound) (λ old new _. Powered target ports old new)
         (StopsPower target ports) bus.old result bus.new }
+    ensures works { B.modelled ≡ true → StopWorks result (B.world bus.old) (B.world bus.new) }
 {
     'ports: for before in 0..ports {
         power_port(bus, target, before + 1)?;
@@ -117,6 +121,7 @@ fn power_port<B: Bus>(bus: &mut B, target: Target, port: u8) -> Result<(), Stop>
     ensures part { B.modelled ≡ true → Part B.world B.trace (OnlyTells target.addr) write_bound
         (λ old new _. IsPowered target port old new) (StopsPower target port)
         bus.old result bus.new }
+    ensures works { B.modelled ≡ true → StopWorks result (B.world bus.old) (B.world bus.new) }
 {
     answered_or(Cause::BadHub, set_hub_port(bus, target, port, PORT_POWER))
 }

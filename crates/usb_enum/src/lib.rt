@@ -30,6 +30,8 @@
 //!   descriptor, configurations, strings and hub facts are the description's, and it holds the address and the
 //!   configuration that are listed (`FindingIsTrue`, `usb_enum/specs/Findings.antt`). No premise on damage, plugs or
 //!   losses. Its endpoints but for 0 begin again.
+//! - Unless it reports a fault of the bus, the bus still works after it, if it did before; the same of each part
+//!   (`EnumWorks`, `StopWorks`, `specs/Stops.antt`).
 //! - What it asks is asked of this port alone, and of those below it: nothing is asked of any other port, a change of
 //!   connection that is pending at the port stays so, and each device elsewhere stays as it was. As long as the bus is
 //!   at work, each of its attempts is at endpoint 0 (`OnlyAt`, `specs/Frames.antt`).

@@ -16,7 +16,7 @@ ghost use Rattle.usb_enum.specs.PresentDevices.{Awaits, WasReset};
 ghost use Rattle.usb_enum.specs.Reasons.{DescriptorTold, PassTold};
 ghost use Rattle.usb_enum.specs.Refusals.{FindsHead, FindsDescriptor, no_fault, early_fault, addressed_fault};
 ghost use Rattle.usb_bus.specs.Traces.{Spends};
-ghost use Rattle.usb_enum.specs.Stops.{IsPlainStop, IsReported, IsReportedStop};
+ghost use Rattle.usb_enum.specs.Stops.{IsPlainStop, IsReported, IsReportedStop, EnumWorks, StopWorks};
 
 use crate::addressed::Addressed;
 use crate::stop::{Stop, answered_or, at_port};
@@ -52,6 +52,7 @@ fn begin_reset<B: Bus>(bus: &mut B, port: HubPort) -> Result<(), EnumFault>
     ensures resets { B.modelled ≡ true → Resets port (B.world bus.old) (B.world bus.new) }
     ensures calls { B.modelled ≡ true
         → CalledAt port (set_call PORT_RESET) (B.world bus.old) result (B.world bus.new) }
+    ensures works { B.modelled ≡ true → EnumWorks result (B.world bus.old) (B.world bus.new) }
 {
     at_port(set_port(bus, port, PORT_RESET))
 }
@@ -64,6 +65,7 @@ fn read_status<B: Bus>(alloc: Global, bus: &mut B, port: HubPort) -> Result<Port
     ensures read { B.modelled ≡ true → Read B.world B.trace (status_bound port)
         (λ _ _ _. ⊤) (FailsAt port) bus.old result bus.new }
     ensures status { B.modelled ≡ true → StatusAt port (B.world bus.old) result (B.world bus.new) }
+    ensures works { B.modelled ≡ true → EnumWorks result (B.world bus.old) (B.world bus.new) }
 {
     at_port(port_status(alloc, bus, port))
 }
@@ -77,6 +79,7 @@ fn reset<B: Bus>(alloc: Global, bus: &mut B, port: HubPort) -> Result<bool, Stop
     ensures part { B.modelled ≡ true → (a : ℕ) → Part B.world B.trace (AtPort port a)
         (reset_bound port) (λ old new low. WasReset low port a old new)
         (StopsAt port a no_fault) bus.old result bus.new }
+    ensures works { B.modelled ≡ true → StopWorks result (B.world bus.old) (B.world bus.new) }
 {
     begin_reset(bus, port)?;
     let status = read_status(alloc, bus, port)?;
@@ -97,6 +100,7 @@ fn settle<B: Bus>(bus: &mut B, port: HubPort, changed: bool) -> Result<(), EnumF
     ensures devices { B.modelled ≡ true → KeepsDevices (B.world bus.old) (B.world bus.new) }
     ensures calls { B.modelled ≡ true
         → SettlesReset port changed (B.world bus.old) result (B.world bus.new) }
+    ensures works { B.modelled ≡ true → EnumWorks result (B.world bus.old) (B.world bus.new) }
 {
     if !changed {
         return Ok(());
@@ -124,6 +128,7 @@ fn first_maximum<B: Bus>(alloc: Global, bus: &mut B, unaddressed: Target) -> Res
     ensures fits { MatchResult result (λ max. (8 ≤ max) × (max ≤ 64)) IsPlainStop }
     ensures read { B.modelled ≡ true → Read B.world B.trace (read_bound DEVICE_HEAD_LENGTH)
         (FindsHead unaddressed) (StopsHead unaddressed) bus.old result bus.new }
+    ensures works { B.modelled ≡ true → StopWorks result (B.world bus.old) (B.world bus.new) }
 {
     let stalled = Cause::Stalled(Request::Device);
     let bytes = answered_or(stalled, get_device(alloc, bus, unaddressed, HEAD))?;
@@ -145,6 +150,7 @@ fn descriptor<B: Bus>(alloc: Global, bus: &mut B, target: Target) -> Result<Opti
     ensures read { B.modelled ≡ true → Read B.world B.trace (read_bound DEVICE_LENGTH)
         (Both (DescriptorTold target) (FindsDescriptor target)) (StopsDescriptor target)
         bus.old result bus.new }
+    ensures works { B.modelled ≡ true → StopWorks result (B.world bus.old) (B.world bus.new) }
 {
     let outcome = get_device(alloc, bus, target, WHOLE);
     if outcome == Err(PipeFault::NoAnswer) {
@@ -177,6 +183,7 @@ pub(crate) fn unaddressed<B: Bus>(alloc: Global, bus: &mut B, port: HubPort) -> 
     ensures part { B.modelled ≡ true → (a : ℕ) → Part B.world B.trace (AtPort port a)
         (unaddressed_bound port) (λ old new target. Awaits target port a old new)
         (StopsAt port a early_fault) bus.old result bus.new }
+    ensures works { B.modelled ≡ true → StopWorks result (B.world bus.old) (B.world bus.new) }
 {
     let low = reset(alloc, bus, port)?;
     let pre = low && needs_pre(port);
@@ -217,6 +224,7 @@ fn pass<B: Bus>(
     ensures part { B.modelled ≡ true → Part B.world B.trace (AtPort port address)
         (pass_bound port) (Both (PassTold port address) (PassEnds port address))
         (StopsAt port address addressed_fault) bus.old result bus.new }
+    ensures works { B.modelled ≡ true → StopWorks result (B.world bus.old) (B.world bus.new) }
 {
     let target = unaddressed(alloc, bus, port)?;
     let stalled = Cause::Stalled(Request::Address);
@@ -248,6 +256,7 @@ pub(crate) fn passes<B: Bus>(
     ensures part { B.modelled ≡ true → Part B.world B.trace (AtPort port address)
         (PASSES * pass_bound port) (TakesAddressed port address)
         (StopsAt port address addressed_fault) bus.old result bus.new }
+    ensures works { B.modelled ≡ true → StopWorks result (B.world bus.old) (B.world bus.new) }
 {
     for _pass in 0..PASSES {
         if let Some(device) = pass(alloc, bus, port, address)? {

@@ -9,7 +9,7 @@ ghost use Rattle.usb_enum.specs.Refusals.{no_fault};
 ghost use Rattle.usb_enum.specs.StringRequests.{AsksString, AsksLanguage, ReadsString, ReadsStrings};
 ghost use Rattle.usb_enum.specs.Text.{first_language_of, string_units};
 ghost use Rattle.usb_bus.specs.Traces.{Spends};
-ghost use Rattle.usb_enum.specs.Stops.{IsPlainStop, IsReportedStop};
+ghost use Rattle.usb_enum.specs.Stops.{IsPlainStop, IsReportedStop, StopWorks};
 
 use crate::StringUnits;
 use crate::stop::{Stop, stop_of};
@@ -98,6 +98,7 @@ fn string_bytes<B: Bus>(
     ensures read { B.modelled ≡ true → Read B.world B.trace (read_bound 255)
         (Answered target (AsksString target index language) (HasString index))
         (StopsRead target no_fault) bus.old result bus.new }
+    ensures works { B.modelled ≡ true → StopWorks result (B.world bus.old) (B.world bus.new) }
 {
     match get_string(alloc, bus, target, index, language) {
         Ok(bytes) => Ok(Some(bytes)),
@@ -125,6 +126,7 @@ fn read_one<B: Bus>(
         (Answered target (ReadsString target index language)
         (λ string spec. string ≡ string_in spec index))
         (StopsRead target no_fault) bus.old result bus.new }
+    ensures works { B.modelled ≡ true → StopWorks result (B.world bus.old) (B.world bus.new) }
 {
     if index == 0 {
         return Ok(None);
@@ -145,6 +147,7 @@ fn language<B: Bus>(alloc: Global, bus: &mut B, target: Target) -> Result<Option
     ensures read { B.modelled ≡ true → Read B.world B.trace (read_bound 255)
         (Answered target (AsksLanguage target) (λ language spec. language ≡ language_of spec))
         (StopsRead target no_fault) bus.old result bus.new }
+    ensures works { B.modelled ≡ true → StopWorks result (B.world bus.old) (B.world bus.new) }
 {
     match string_bytes(alloc, bus, target, 0, 0)? {
         Some(bytes) => Ok(first_language(bytes.as_slice())),
@@ -168,6 +171,7 @@ pub(crate) fn read_strings<B: Bus>(
         (Answered target (ReadsStrings target indexes)
         (λ strings spec. strings ≡ strings_by spec indexes))
         (StopsRead target no_fault) bus.old result bus.new }
+    ensures works { B.modelled ≡ true → StopWorks result (B.world bus.old) (B.world bus.new) }
 {
     if indexes.manufacturer == 0 && indexes.product == 0 && indexes.serial_number == 0 {
         return Ok(no_strings());

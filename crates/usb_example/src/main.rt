@@ -2,6 +2,8 @@
 //! it and come from it.
 #![tactic(auto)]
 
+ghost use Rattle.std.specs.Prelude.{◌≡◌, true, None, OnOk};
+
 use anyhow::Result;
 use std::str;
 use usb_bus::Bus;
@@ -73,8 +75,12 @@ fn talk<B: Bus>(rt: &impl Print, host: &mut Host<B>, path: &PortPath) -> Result<
 
 /// Lets the host work until a round finds nothing more to do. It takes a few rounds; the count is there for the proof
 /// that this ends.
-fn settle<B: Bus>(host: &mut Host<B>) -> Result<(), HostFault> {
-    for _ in 0..1000 {
+fn settle<B: Bus>(host: &mut Host<B>) -> Result<(), HostFault>
+    // The bus still works, if it did.
+    ensures { B.modelled ≡ true
+        → OnOk result (host.old.world.fault ≡ None → host.new.world.fault ≡ None) }
+{
+    'rounds: for _ in 0..1000 {
         if host.round()? == Round::Quiet {
             break;
         }

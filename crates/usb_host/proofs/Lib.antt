@@ -20,3 +20,4 @@ pub mod PortServes
 pub mod PortDrops
 pub mod RoundLoops
 pub mod HubPolls
+pub mod WorkingBuses

@@ -3,7 +3,7 @@ use Rattle.std.proofs.Common.{◌≡◌, ◌∙◌, ◌⊎◌, ◌+◌, ◌≤�
 use Rattle.std.proofs.Common.{Bool, ℕ, List, None, Result, Ok, Err, OnOk}
 use Rattle.usb_port.specs.{PortStatus, path_cmp}
 use Rattle.usb_tree.proofs.Interface.{decided}
-use Rattle.usb_hub.specs.{Isolates}
+use Rattle.usb_hub.specs.{Isolates, StillWorks}
 use Rattle.usb_resources.specs.{IsFull}
 use Rattle.usb_enum.specs.{enumeration_bound, widest_enumeration, Enumerates, FaultAllowedAt}
 use Rattle.usb_enum.specs.{EnumFault, Memory, Finding, IsFound}
@@ -33,7 +33,7 @@ use Rattle.usb_host.proofs.HostProgress.{enters_few, enters_other, without_rests
 use Rattle.usb_host.proofs.HostProgress.{served_any}
 use Rattle.usb_host.proofs.devices.Plugs.{plugs_forgot, plugs_found, plugs_kept, plugs_rests}
 use Rattle.usb_host.proofs.devices.Plugs.{plugs_then}
-use Rattle.usb_host.proofs.PortRequests.{requested-fails, requested-then}
+use Rattle.usb_host.proofs.PortRequests.{requested-fails, requested-then, requested-wider}
 use Rattle.usb_host.proofs.knowledge.ServedPorts.{cleared_lost, cleared_stay, forgot_open}
 use Rattle.usb_host.proofs.knowledge.ServedPorts.{forgot_sound, forgot_stay}
 use Rattle.usb_host.proofs.services.ServedWork.{failed_on_way, lost_on}
@@ -57,7 +57,11 @@ module _ {path : List ℕ} {port : KnownPort} {a b : HostState} (s : StandsAt pa
       let owned = found_fails b fault x.addresses s away accounts entries
       went.spends.roots in
       record {
-        requested = record { goes = found_goes; told = told };
+        requested = record {
+          goes = found_goes;
+          told = told;
+          works = x.works;
+        };
         owned = owned;
         sound = unfound_finds s away accounts went fault x entries pipes pool told owned;
         gave = tt;
@@ -68,7 +72,7 @@ module _ {path : List ℕ} {port : KnownPort} {a b : HostState} (s : StandsAt pa
       → Enumerates port.port a.addresses (tier_of path) port.supply a.world (Ok f) b.world
       → b.entries ≡ a.entries → Discovers path port a (Err Memory) b
   discover_lost {f = f} x entries = record {
-    requested = record { goes = found_goes; told = tt };
+    requested = record { goes = found_goes; told = tt; works = λ sound. x.works };
     owned = found_lost b f x.addresses s away accounts entries went.spends.roots;
     sound = unentered_finds s away accounts went f x;
     gave = tt;
@@ -82,7 +86,7 @@ module _ {path : List ℕ} {port : KnownPort} {a b : HostState} (s : StandsAt pa
       let owned = found_ends b f x.addresses s away accounts (ap (λ (t : Table). t.entries) table)
       went.spends.roots in
       record {
-        requested = record { goes = found_goes; told = tt };
+        requested = record { goes = found_goes; told = tt; works = x.works };
         owned = owned;
         sound = entered_finds s away accounts went f x table owned;
         gave = record {
@@ -137,12 +141,20 @@ module _ {path : List ℕ} {port : KnownPort} {on : Bool} {b d : HostState}
     forgot_goes : HostRuns n a x.mid
     forgot_goes = goes_forgotten a goes x.forgot.others
 
-    renew_requested : {k : ℕ} → n + widest_enumeration ≤ k → Requested port.port k a result d
-    renew_requested {k = k} le =
+    forgot_works : StillWorks a.world b.world → StillWorks a.world x.mid.world
+    forgot_works works none = ap (λ (h : HostState). h.world.fault) x.forgot.others ∙ works none
+
+    renew_requested : {k : ℕ} → StillWorks a.world b.world → n + widest_enumeration ≤ k
+        → Requested port.port k a result d
+    renew_requested {k = k} works le =
+        let first : Requested {A = Unit {0}} port.port n a (Ok tt) x.mid = record {
+          goes = forgot_goes;
+          told = tt;
+          works = forgot_works works;
+        } in
         renew_cases (λ q h. Requested port.port k a q h)
-        (λ on. requested-then {A = Unit {0}} {k = k} {m = n} {a = a} {x = tt}
-        (record { goes = forgot_goes; told = tt }) (x.found on).requested le)
-        (λ off. record { goes = goes_wider forgot_goes (omega arith); told = tt })
+        (λ on. requested-then first (x.found on).requested le)
+        (λ off. requested-wider first (omega arith))
 
     renew_on : {Due : Type 0} → (Due → Gained a.world b.world) → Due ⊎ Waits path a
         → ProgressOrLost result a d
@@ -331,7 +343,7 @@ pub look_done : {path : List ℕ} {port : KnownPort} {a b d : HostState}
     → OnlyBusSteps a b → ClearsPort port.port a (Ok status) b
     → RenewsPort path port status.connected b result d → LooksAt path port a result d
 look_done {path = path} {a = a} {d = d} result {status = status} s r x y = record {
-  requested = renew_requested y r x.requested.goes (omega arith);
+  requested = renew_requested y r x.requested.goes x.requested.works (omega arith);
   on = renew_on y r x.requested.goes x.gains;
   owned = renew_owned y r x.requested.goes s x.keeps.bares;
   sound = cases (λ q h. ServesSound path a q h)
@@ -369,7 +381,7 @@ pub error_look_done : {path : List ℕ} {port : KnownPort} {a b d : HostState}
     → OnlyBusSteps a b → ClearsError port.port a (Ok status) b
     → RenewsPort path port status.connected b result d → LooksAfterError path port a result d
 error_look_done s r x y = record {
-  requested = renew_requested y r x.requested.goes (omega arith);
+  requested = renew_requested y r x.requested.goes x.requested.works (omega arith);
   on = λ can. renew_on y r x.requested.goes x.gains (inl can);
   owned = renew_owned y r x.requested.goes s x.bares;
 }

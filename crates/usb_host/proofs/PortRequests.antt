@@ -13,11 +13,13 @@ use Rattle.usb_pipe.specs.{FaultAfter, write_bound, PipeFault}
 use Rattle.usb_pipe.specs.declared.fault.PipeFault.TheVariants as pipe
 use Rattle.usb_hub.specs.{IsAt, KeepsAsked, KeepsCleared, KeepsDevices, ClearsOfPort, CommandsPort}
 use Rattle.usb_hub.specs.{ReadsPort, PortCleared, PortRead, order_bound, status_bound, EndsAfter}
-use Rattle.usb_hub.specs.{HubPort, Root, External}
+use Rattle.usb_hub.specs.{HubPort, Root, External, ClearsOfHub, StillWorks, WorksAfter}
+use Rattle.usb_hub.proofs.Interface.{clear_works, hub_change_works, port_change_works, read_works}
+use Rattle.usb_transaction.specs.{Target}
 use Rattle.usb_backlog.proofs.Interface.{all_none}
 use Rattle.usb_enum.specs.{read_bound, CanFail, FaultAllowedAt, at_port, fault_at_port, EnumFault}
-use Rattle.usb_enum.specs.{ParentLost, Bus, Memory}
-use Rattle.usb_enum.proofs.Interface.{order_most}
+use Rattle.usb_enum.specs.{ParentLost, Bus, Memory, EnumWorks}
+use Rattle.usb_enum.proofs.Interface.{at_port_works, order_most}
 use Rattle.usb_table.specs.{IsAskable}
 use Rattle.usb_host.specs.{ClearsConnection, ClearsReset, clearing_bound, HasOnlyWorldChanges}
 use Rattle.usb_host.specs.{HostState, BaresPort, ClearsChange, LetsGoOn, Tidies, Watches, Gained}
@@ -42,23 +44,32 @@ use Rattle.usb_host.proofs.knowledge.TidiedPorts.{Tidy, enable, reset, tidy_call
 
 pub requested-none : {A : Type 0} {port : HubPort} {n : ℕ} (x : A) {h : HostState}
     → Requested port n h (Ok x) h
-requested-none x = record { goes = host_goes_none; told = tt }
+requested-none x = record { goes = host_goes_none; told = tt; works = λ none. none }
+
+works_on : {A : Type 0} (result : Result A EnumFault) (old mid new : World) → StillWorks old mid
+    → EnumWorks result mid new → EnumWorks result old new
+works_on (Ok x) old mid new first next = λ none. next (first none)
+works_on (Err why) old mid new first next = λ sound none. next sound (first none)
 
 pub requested-then : {A B : Type 0} {port : HubPort} {k m n : ℕ} {a b c : HostState} {x : A}
     {result : Result B EnumFault} → Requested port m a (Ok x) b → Requested port n b result c
     → m + n ≤ k → Requested port k a result c
-requested-then p q le = record { goes = host_goes_then p.goes q.goes le; told = q.told }
+requested-then {a = a} {b = b} {c = c} {result = result} p q le = record {
+  goes = host_goes_then p.goes q.goes le;
+  told = q.told;
+  works = works_on result a.world b.world c.world p.works q.works;
+}
 
 pub requested-wider : {A : Type 0} {port : HubPort} {k m : ℕ} {a b : HostState}
     {result : Result A EnumFault} → Requested port m a result b → m ≤ k
     → Requested port k a result b
-requested-wider p le = record { goes = goes_wider p.goes le; told = p.told }
+requested-wider p le = record { goes = goes_wider p.goes le; told = p.told; works = p.works }
 
 -- one of them failed, and so did the call
 pub requested-fails : {A : Type 0} (B : Type 0) {port : HubPort} {k m : ℕ} {a b : HostState}
     {fault : EnumFault} → Requested {A = A} port m a (Err fault) b → m ≤ k
     → Requested {A = B} port k a (Err fault) b
-requested-fails B p le = record { goes = goes_wider p.goes le; told = p.told }
+requested-fails B p le = record { goes = goes_wider p.goes le; told = p.told; works = p.works }
 
 -- What one tells
 
@@ -86,11 +97,12 @@ requested_told port (Err fault) new (inr ok) told = absurd (cc ok)
 requested_by : {A : Type 0} {port : HubPort} {n : ℕ} {a : HostState} (b : HostState)
     (answer : Result A PipeFault) {result : Result A EnumFault} → HostRuns n a b
     → CanFail port ⊎ IsOk answer
-    → ((f : BusFault) → answer ≡ Err (pipe.Bus f) → HasFault f b.world) → result ≡ at_port answer
-    → Requested port n a result b
-requested_by {port = port} b answer goes can told is = record {
+    → ((f : BusFault) → answer ≡ Err (pipe.Bus f) → HasFault f b.world)
+    → WorksAfter answer a.world b.world → result ≡ at_port answer → Requested port n a result b
+requested_by {port = port} {a = a} b answer {result} goes can told works is = record {
   goes = goes;
   told = rw is (requested_told port answer b.world can told);
+  works = at_port_works result answer a.world b.world is works;
 }
 
 read_can : (port : HubPort) (old : World) (answer : Result PortStatus PipeFault) (new : World)
@@ -105,7 +117,8 @@ pub shows : (port : HubPort) (a b : HostState) {answer : Result PortStatus PipeF
     → KeepsAsked port a.world answer b.world → result ≡ at_port answer → ShowsPort port a result b
 shows port a b {answer = answer} askable went same fault read tells keeps is = record {
   requested = requested_by b answer (status_read_goes port a b askable went same)
-      (read_can port a.world answer b.world read) (bus_told answer a.world b.world fault) is;
+      (read_can port a.world answer b.world read) (bus_told answer a.world b.world fault)
+      (read_works port answer a.world b.world read) is;
   answer = answer;
   is = is;
   read = read;
@@ -129,7 +142,8 @@ pub clears_by : (port : HubPort) (feature : ℕ) (a b : HostState)
 clears_by port feature a b {answer = answer} went same fault effect keeps calls is = record {
   requested = requested_by b answer (goes_by {k = write_bound} a b went (order_most port) same)
       (cleared_can port feature a.world answer b.world effect)
-      (bus_told answer a.world b.world fault) is;
+      (bus_told answer a.world b.world fault)
+      (clear_works port feature answer a.world b.world effect) is;
   answer = answer;
   is = is;
   effect = effect;
@@ -152,17 +166,19 @@ pub others_by : (port : HubPort) (feature : ℕ) (a b : HostState)
 others_by port feature a b answer went same fault effect addresses devices is = record {
   requested = requested_by b answer (goes_by {k = write_bound} a b went (order_most port) same)
       (other_can port feature a.world answer b.world effect) (bus_told answer a.world b.world fault)
-      is;
+      (port_change_works port feature answer a.world b.world effect) is;
   keeps = record { addresses = addresses; devices = devices };
 }
 
-pub own_by : {hub : HubPort} (a b : HostState) (answer : Result (Unit {0}) PipeFault)
-    {result : Result (Unit {0}) EnumFault} → CanFail hub
+pub own_by : {hub : HubPort} (target : Target) (a b : HostState)
+    (answer : Result (Unit {0}) PipeFault) {result : Result (Unit {0}) EnumFault} → CanFail hub
     → HostRuns (read_bound 4 + 2 * write_bound) a b
     → ((f : BusFault) → answer ≡ Err (pipe.Bus f) → HasFault f b.world)
-    → KeepsAddresses a.world b.world → result ≡ at_port answer → ClearsOwn hub a result b
-own_by a b answer can goes fault addresses is = record {
-  requested = requested_by b answer goes (inl can) fault is;
+    → KeepsAddresses a.world b.world → ClearsOfHub target a.world answer b.world
+    → result ≡ at_port answer → ClearsOwn hub a result b
+own_by target a b answer can goes fault addresses cleared is = record {
+  requested = requested_by b answer goes (inl can) fault
+      (hub_change_works target answer a.world b.world cleared) is;
   addresses = addresses;
 }
 
@@ -384,8 +400,8 @@ disabled_as status (Err fault) = refl
 after_told : {port : HubPort} {n : ℕ} (status : PortStatus) {a b : HostState}
     (result : Result (Unit {0}) EnumFault) → Requested port n a result b
     → Requested port n a (status_after status result) b
-after_told status (Ok done) x = record { goes = x.goes; told = tt }
-after_told status (Err fault) x = record { goes = x.goes; told = x.told }
+after_told status (Ok done) x = record { goes = x.goes; told = tt; works = x.works }
+after_told status (Err fault) x = record { goes = x.goes; told = x.told; works = x.works }
 
 change_failed : (port : HubPort) (old : World) (answer : Result (Unit {0}) PipeFault) (new : World)
     (fault : EnumFault) → Err fault ≡ at_port answer
@@ -504,6 +520,7 @@ module _ {port : HubPort} {a b : HostState} where
                 {a = a} {x = tt} (record {
                   goes = host_goes_then x.requested.goes y.requested.goes (omega arith);
                   told = tt;
+                  works = λ none. y.requested.works (x.requested.works none);
                 }) last (omega arith));
             gains = change_on d (status_after status result) went.went;
             keeps = elim (decided status.enabled) [

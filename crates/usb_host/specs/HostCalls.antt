@@ -10,8 +10,8 @@ use Rattle.usb_host.specs.HostStates.{HostState, opening_host}
 use Rattle.usb_host.specs.Ownership.{HostMapHolds}
 use Rattle.usb_host.specs.Progress.{HostSteps}
 use Rattle.usb_host.specs.Service.{DidParts}
-use Rattle.usb_host.specs.Soundness.{HostInvariant, TransferKeeps}
-use Rattle.usb_host.specs.ToldFaults.{RoundFaultAllowed, StopsAsRound, StopsAsTransfer}
+use Rattle.usb_host.specs.Soundness.{HostInvariant, TransferKeeps, IsUnpowered}
+use Rattle.usb_host.specs.ToldFaults.{RoundFaultAllowed, StopsAsRound, StopsAsTransfer, HostWorks}
 use Rattle.usb_host.specs.ToldFaults.{TransferFaultAllowed}
 use Rattle.usb_host.specs.Transfers.{ClearedAt, ReceivedAt, SentAt}
 use Rattle.usb_host.specs.declared.fault.HostFault.{HostFault}
@@ -32,6 +32,7 @@ pub record RoundTells (old : HostState) (result : Result Round HostFault) (new :
   pub stopped : StopsAsRound old result new
   pub went : HostSteps round_bound old new
   pub told : IfErr result (λ fault. RoundFaultAllowed fault new.world)
+  pub works : HostWorks old result new
   pub did : IfOk result (λ round. DidParts round old new)
   pub keeps : RoundKeeps old result new
 
@@ -42,6 +43,7 @@ pub record TransferTells {A : Type 0} (most : ℕ)
   pub stopped : StopsAsTransfer old result new
   pub went : HostSteps most old new
   pub told : IfErr result (λ fault. TransferFaultAllowed fault new.world)
+  pub works : HostWorks old result new
   pub did : Did old result new
   pub keeps : TransferKeeps old new
 

@@ -65,8 +65,9 @@ pub use Soundness.{IsDroppable, IsFairTo, IsJustifiedAt, IsSilent, IsSoundBut, I
 pub use Soundness.{KeepsInvariant, KnownBut, LooksKeep, NoneWait, NoneWaiting, Part}
 pub use Soundness.{PartKeepsInvariant, PartStays, PartsKeep, PortsListed, RefusalsJustified}
 pub use Soundness.{RootsRest, RoundsSound, TransferKeeps, TruthfulBut, known_supply}
-pub use ToldFaults.{HostReported, IsReportedLast, PartFaultAllowed, RoundFaultAllowed, StopsAsRound, StopsAsTransfer}
-pub use ToldFaults.{TransferFaultAllowed, host_fault, host_told, is_final, is_last_fault}
+pub use ToldFaults.{HostReported, IsReportedLast, PartFaultAllowed, RoundFaultAllowed, StopsAsRound}
+pub use ToldFaults.{StopsAsTransfer, TransferFaultAllowed, host_fault, host_told, is_final}
+pub use ToldFaults.{is_last_fault, HostNotOfBus, HostWorks}
 pub use Transfers.{ClearedAt, MovesThrough, ReceivedAt, SentAt, table_in}
 pub use Changes.{HasOnlyWorldChanges, KeepsEach, was_disabled}
 pub use Requests.{ClearsError, ClearsFeature, ClearsOthers, ClearsOwn, ClearsPort, ClearsWhere}

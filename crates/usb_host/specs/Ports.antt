@@ -7,7 +7,8 @@ use Rattle.usb_port.specs.{path_cmp, parent_of, port_on_hub, IsPath, seen, PortS
 use Rattle.usb_world.specs.{World, HasFault, root_port_at, roots_of}
 use Rattle.usb_hub.specs.{HubPort, Root, External, IsAsked, IsPort}
 use Rattle.usb_resources.specs.{IsFull}
-use Rattle.usb_enum.specs.{FaultAllowedAt, NoAddress, EnumFault, ParentLost, Bus, Memory, Finding}
+use Rattle.usb_enum.specs.{FaultAllowedAt, NoAddress, EnumFault, EnumWorks, ParentLost, Bus, Memory}
+use Rattle.usb_enum.specs.{Finding}
 use Rattle.usb_enum.specs.declared.finding.Finding.TheVariants.{Refused}
 use Rattle.usb_table.specs.{KnownPort, known_port, IsAskable, has_at, without, pipes_at}
 use Rattle.usb_host.specs.Transfers.{table_in}
@@ -46,11 +47,13 @@ pub record StandsNowhere (path : List ℕ) (h : HostState) : Type 0 where
   pub unknown : IsSome (parent_of path) → known_port path h.entries ≡ None
   pub agrees : Agrees h.entries h.addresses
 
--- requests at a port: so many attempts at most, and a fault has its cause
+-- requests at a port: so many attempts at most, a fault has its cause, and without one of the bus,
+-- that still works
 pub record Requested {A : Type 0} (port : HubPort) (most : ℕ) (old : HostState)
     (result : Result A EnumFault) (new : HostState) : Type 0 where
   pub goes : HostRuns most old new
   pub told : IfErr result (λ fault. FaultAllowedAt port fault new.world)
+  pub works : EnumWorks result old.world new.world
 
 -- what stood at a path and below it was forgotten: an address is free where one went, and the
 -- pipes to others are as they were; the table agrees with the pool

@@ -427,4 +427,4 @@ pub record ServesEach (old : HostState) (result : Result Round HostFault) (new :
 -- what a round did, part by part
 pub record DidParts (round : Round) (old new : HostState) : Type 0 where
   pub did : DidRound round old new
-  pub parts : HostInvariant old → new.world.fault ≡ None → RoundParts round old new
+  pub parts : HostInvariant old → old.world.fault ≡ None → RoundParts round old new

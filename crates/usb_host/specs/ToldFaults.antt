@@ -1,8 +1,9 @@
 -- What a fault of the host says of the bus, and when the host stops.
 use Rattle.std.specs.Prelude.{◌≡◌, ◌↔◌, ⊤, Bool, true, false, IsTrue, IsErrOf, IsErr, Result, Ok}
-use Rattle.std.specs.Prelude.{Err, IfErr, Option, Some}
+use Rattle.std.specs.Prelude.{Err, IfErr, Option, Some, MatchResult}
 use Rattle.usb_world.specs.{BusFault, World, HasFault}
 use Rattle.usb_enum.specs.{EnumFault, IsReported}
+use Rattle.usb_hub.specs.{StillWorks}
 use Rattle.usb_table.specs.{TableFault}
 use Rattle.usb_table.specs.declared.fault.TableFault.TheVariants as table
 use Rattle.usb_host.specs.declared.fault.HostFault.{HostFault}
@@ -63,6 +64,18 @@ is_last_fault Memory = true
 abbrev pub is_final : {A : Type 0} → Result A HostFault → Bool
 is_final (Ok done) = false
 is_final (Err fault) = is_last_fault fault
+
+-- it is no fault of the bus
+abbrev pub HostNotOfBus : HostFault → Type 0
+HostNotOfBus Stopped = ⊤
+HostNotOfBus (Transfer fault) = ⊤
+HostNotOfBus (Bus fault) = ⊥
+HostNotOfBus Memory = ⊤
+
+-- the bus still works after a call, unless that reports a fault of the bus
+abbrev pub HostWorks : {A : Type 0} → HostState → Result A HostFault → HostState → Type 0
+HostWorks old result new = MatchResult result (λ done. StillWorks old.world new.world)
+    (λ fault. HostNotOfBus fault → StillWorks old.world new.world)
 
 -- a stopped host changes nothing and says so; another stops where the round fails
 pub record StopsAsRound {A : Type 0} (old : HostState) (result : Result A HostFault)

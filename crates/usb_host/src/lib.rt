@@ -25,6 +25,9 @@
 //! host in its type: it stands behind each item, and behind a fault too; `run` and `serve` say it of the run that they
 //! made. With `one_device_at_most_answers` of usb_world no attempt of such a run is answered by two devices.
 //!
+//! **No call keeps the bus's fault to itself.** Unless `round`, `send`, `receive` or `clear_halt` reports `Bus`, the bus
+//! still works after the call, if it did before (`works` of *RoundTells* and *TransferTells*, `specs/HostCalls.antt`).
+//!
 //! - Where what the host knows is so and the bus is at work, a round that is done is its parts in order (`RoundParts`,
 //!   `specs/Service.antt`): by rising number just the root ports whose connection has changed; by strictly rising path
 //!   each known hub, one poll of it; at last each device that waits, while an address is free. It is told Worked just

@@ -19,7 +19,7 @@ ghost use Rattle.usb_host.specs.Bounds.{clearing_bound, drop_bound, handling_bou
 ghost use Rattle.usb_host.specs.Progress.{HostSpends, OnlyBusSteps, QuietKeeps};
 ghost use Rattle.usb_host.specs.Requests.{ClearsError, ClearsFeature, ClearsOthers, ClearsOwn, ClearsPort, ClearsWhere, SettlesPort, ShowsPort, TidiesPort};
 ghost use Rattle.usb_host.specs.Service.{Discovers, DropsOne, FinishesAt, HandlesNumber, HandlesPort, LooksAfterError, LooksAt, LooksOnceMore, RenewsPort, ServesOwn, ServesPort};
-ghost use Rattle.usb_host.specs.ToldFaults.{HostReported, PartFaultAllowed};
+ghost use Rattle.usb_host.specs.ToldFaults.{HostReported, PartFaultAllowed, HostWorks};
 
 use crate::HostFault;
 use crate::host::{Host, Round};
@@ -54,6 +54,7 @@ impl<B: Bus> Host<B> {
         ensures handles { B.modelled ≡ true → HandlesPort (number ∷ [])
             ((root_port_at self.old.world number).connection_changed ≡ true)
             self.old result self.new }
+        ensures works { B.modelled ≡ true → HostWorks self.old result self.new }
     {
         // for the checker: the entries and the addresses agree
         let _table = &self.table;
@@ -71,6 +72,7 @@ impl<B: Bus> Host<B> {
         ensures told { IfErr result (λ fault. PartFaultAllowed B.modelled fault self.new) }
         ensures handles { B.modelled ≡ true
             → HandlesNumber hub.now number self.old result self.new }
+        ensures works { B.modelled ≡ true → HostWorks self.old result self.new }
     {
         let mut path = hub.duplicate();
         if !path.push(number) {
@@ -89,6 +91,7 @@ impl<B: Bus> Host<B> {
         ensures spends { HostSpends handling_bound self.old self.new }
         ensures told { IfErr result (λ fault. PartFaultAllowed B.modelled fault self.new) }
         ensures serves { B.modelled ≡ true → ServesOwn self.old result self.new }
+        ensures works { B.modelled ≡ true → HostWorks self.old result self.new }
     {
         let mut path = hub.duplicate();
         if !path.push(1) {
@@ -106,6 +109,7 @@ impl<B: Bus> Host<B> {
         ensures spends { HostSpends handling_bound self.old self.new }
         ensures told { IfErr result (λ fault. PartFaultAllowed B.modelled fault self.new) }
         ensures serves { B.modelled ≡ true → ServesOwn self.old result self.new }
+        ensures works { B.modelled ≡ true → HostWorks self.old result self.new }
     {
         let cleared = self.clear_own(port.port);
         self.drop_lost_parent(path, cleared)
@@ -136,6 +140,7 @@ impl<B: Bus> Host<B> {
         ensures quiet { QuietKeeps result self.old self.new }
         ensures told { IfErr result (λ fault. PartFaultAllowed B.modelled fault self.new) }
         ensures looks { B.modelled ≡ true → LooksOnceMore path.now self.old result self.new }
+        ensures works { B.modelled ≡ true → HostWorks self.old result self.new }
     {
         // for the checker: a path has one to seven numbers
         let _numbers = path.numbers();
@@ -168,6 +173,7 @@ impl<B: Bus> Host<B> {
         ensures told { IfErr result (λ fault. PartFaultAllowed B.modelled fault self.new) }
         ensures handles { B.modelled ≡ true
             → HandlesPort path.now (IsDue self.old.world port.port) self.old result self.new }
+        ensures works { B.modelled ≡ true → HostWorks self.old result self.new }
     {
         let served = self.serve(path, port);
         self.drop_lost_parent(path, served)
@@ -186,6 +192,7 @@ impl<B: Bus> Host<B> {
         ensures told { IfErr result (λ fault. PartFaultAllowed B.modelled fault self.new) }
         ensures ends { EndsAs served result }
         ensures finishes { B.modelled ≡ true → FinishesAt path.now served self.old result self.new }
+        ensures works { B.modelled ≡ true → HostWorks self.old result self.new }
     {
         match served {
             Ok(()) => Ok(()),
@@ -437,6 +444,7 @@ impl<B: Bus> Host<B> {
         ensures spends { HostSpends drop_bound self.old self.new }
         ensures told { IfErr result (λ fault. PartFaultAllowed B.modelled fault self.new) }
         ensures drops { B.modelled ≡ true → DropsOne hub self.old result self.new }
+        ensures works { B.modelled ≡ true → HostWorks self.old result self.new }
     {
         let lost = self.disable_upward(hub)?;
         // for the checker: a path has one to seven numbers
@@ -453,6 +461,7 @@ impl<B: Bus> Host<B> {
             (λ fault. PartFaultAllowed B.modelled fault self.new) }
         ensures rests { OnlyBusSteps self.old self.new }
         ensures climbs { B.modelled ≡ true → Climbs first self.old result self.new }
+        ensures works { B.modelled ≡ true → HostWorks self.old result self.new }
     {
         // for the checker: a path has one to seven numbers
         let _numbers = first.numbers();
@@ -476,6 +485,7 @@ impl<B: Bus> Host<B> {
             (λ fault. PartFaultAllowed B.modelled fault self.new) }
         ensures rests { OnlyBusSteps self.old self.new }
         ensures disables { B.modelled ≡ true → DisablesOnWay path.now self.old result self.new }
+        ensures works { B.modelled ≡ true → HostWorks self.old result self.new }
     {
         let Some(port) = self.port_at(path) else {
             return Ok(false);

@@ -10,7 +10,7 @@ ghost use Rattle.usb_host.specs.Ports.{Waits};
 ghost use Rattle.usb_host.specs.Bounds.{hub_poll_bound, hubs_bound, looks_bound, roots_bound, round_bound, told_bound};
 ghost use Rattle.usb_host.specs.Progress.{HostSpends, QuietKeeps, either};
 ghost use Rattle.usb_host.specs.Service.{LooksAgain, ServesEach, ServesHub, ServesHubs, ServesPorts, ServesTold, WentByParts, first_byte};
-ghost use Rattle.usb_host.specs.ToldFaults.{PartFaultAllowed};
+ghost use Rattle.usb_host.specs.ToldFaults.{HostWorks, PartFaultAllowed};
 
 use crate::HostFault;
 use crate::host::{Host, Round};
@@ -37,6 +37,7 @@ impl<B: Bus> Host<B> {
         ensures quiet { QuietKeeps result self.old self.new }
         ensures told { IfErr result (λ fault. PartFaultAllowed B.modelled fault self.new) }
         ensures parts { B.modelled ≡ true → WentByParts self.old result self.new }
+        ensures works { B.modelled ≡ true → HostWorks self.old result self.new }
     {
         let roots = self.serve_roots()?;
         let hubs = self.serve_hubs()?;
@@ -50,6 +51,7 @@ impl<B: Bus> Host<B> {
         ensures quiet { QuietKeeps result self.old self.new }
         ensures told { IfErr result (λ fault. PartFaultAllowed B.modelled fault self.new) }
         ensures roots { B.modelled ≡ true → ServesEach self.old result self.new }
+        ensures works { B.modelled ≡ true → HostWorks self.old result self.new }
     {
         let mut round = Round::Quiet;
         let roots = self.bus.root_ports();
@@ -68,6 +70,7 @@ impl<B: Bus> Host<B> {
         ensures quiet { QuietKeeps result self.old self.new }
         ensures told { IfErr result (λ fault. PartFaultAllowed B.modelled fault self.new) }
         ensures hubs { B.modelled ≡ true → ServesHubs self.old result self.new }
+        ensures works { B.modelled ≡ true → HostWorks self.old result self.new }
     {
         let mut round = Round::Quiet;
         let mut last: Option<PortPath> = None;
@@ -86,6 +89,7 @@ impl<B: Bus> Host<B> {
         ensures quiet { QuietKeeps result self.old self.new }
         ensures told { IfErr result (λ fault. PartFaultAllowed B.modelled fault self.new) }
         ensures polls { B.modelled ≡ true → ServesHub hub.now self.old result self.new }
+        ensures works { B.modelled ≡ true → HostWorks self.old result self.new }
     {
         // for the checker: a path has one to seven numbers
         let _numbers = hub.numbers();
@@ -109,6 +113,7 @@ impl<B: Bus> Host<B> {
         ensures spends { HostSpends told_bound self.old self.new }
         ensures told { IfErr result (λ fault. PartFaultAllowed B.modelled fault self.new) }
         ensures serves { B.modelled ≡ true → ServesTold hub.now bits self.old result self.new }
+        ensures works { B.modelled ≡ true → HostWorks self.old result self.new }
     {
         if bits == 1 {
             self.serve_own(hub)
@@ -123,6 +128,7 @@ impl<B: Bus> Host<B> {
         ensures spends { HostSpends told_bound self.old self.new }
         ensures told { IfErr result (λ fault. PartFaultAllowed B.modelled fault self.new) }
         ensures serves { B.modelled ≡ true → ServesPorts hub.now bits self.old result self.new }
+        ensures works { B.modelled ≡ true → HostWorks self.old result self.new }
     {
         'ports: for number in 1..8u8 {
             if bits >> number & 1 == 1 {
@@ -138,6 +144,7 @@ impl<B: Bus> Host<B> {
         ensures quiet { QuietKeeps result self.old self.new }
         ensures told { IfErr result (λ fault. PartFaultAllowed B.modelled fault self.new) }
         ensures looks { B.modelled ≡ true → LooksAgain self.old result self.new }
+        ensures works { B.modelled ≡ true → HostWorks self.old result self.new }
     {
         let mut round = Round::Quiet;
         let mut last: Option<PortPath> = None;

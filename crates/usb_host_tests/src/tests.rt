@@ -5,5 +5,6 @@ mod enumeration;
 mod external;
 mod host;
 mod hub;
+mod polls;
 mod quirks;
 mod second;

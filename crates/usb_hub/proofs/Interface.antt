@@ -17,3 +17,6 @@ pub use Rattle.usb_hub.proofs.Settings.{each_leaves, write_so}
 pub use Rattle.usb_hub.proofs.CalledPorts.{Called, StandsSo, StandsTold, done_stands, due_course}
 pub use Rattle.usb_hub.proofs.CalledPorts.{enabled_reach, port_of_place, told_stands}
 pub use Rattle.usb_hub.proofs.Statuses.{row_port}
+pub use Rattle.usb_hub.proofs.WorkingBuses.{clear_works, ended_works, failed_works}
+pub use Rattle.usb_hub.proofs.WorkingBuses.{hub_change_works, port_change_works, read_works}
+pub use Rattle.usb_hub.proofs.WorkingBuses.{set_works, works_then}

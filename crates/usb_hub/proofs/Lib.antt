@@ -18,3 +18,4 @@ pub mod Statuses
 pub mod Moments
 pub mod CallFailures
 mod HubChanges
+pub mod WorkingBuses

@@ -17,8 +17,8 @@ pub use Moments.{ActsAt, CommandsPort, IsAbout, IsCall, OnReachedRow, PortCallDo
 pub use Moments.{ReadsPort, UpToFault, ports_at_step}
 pub use Port.{IsAsked, IsPort, PortCleared, PortRead, PortSet, RootCleared, RootRead, RootSet}
 pub use Port.{SetSteps, TakesNoTime, order_bound, status_bound}
-pub use Requests.{Commanded, EndsAfter, Queried, ReadAs, TouchesNoPort, TouchesPortsBelow}
-pub use Requests.{device_status, said_in}
+pub use Requests.{Commanded, EndsAfter, Queried, ReadAs, StillWorks, TouchesNoPort}
+pub use Requests.{TouchesPortsBelow, WorksAfter, device_status, said_in}
 pub use Settings.{AddressAsked, ConfigurationAsked, IsConfigured, IsFresh, OnlySet, WentOff}
 pub use Settings.{takes_value}
 pub use CallFailures.{HasPort, HubServes, NoHubFailed}

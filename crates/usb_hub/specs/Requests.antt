@@ -1,6 +1,6 @@
 -- What a typed request leaves, and what its answer says.
 use Rattle.std.specs.Prelude.{◌≡◌, ◌≢◌, ℕ, ◌≤◌, ◌==◌, true, false, if◌then◌else◌, List, length}
-use Rattle.std.specs.Prelude.{slice_index, Some, Result, Ok, Err, IfOk, MatchResult}
+use Rattle.std.specs.Prelude.{slice_index, Some, None, Result, Ok, Err, IfOk, MatchResult}
 use Rattle.std.specs.Global.{Vec}
 use Rattle.usb_request.specs.{Setup, PORT_OUT, SET_FEATURE}
 use Rattle.usb_tree.specs.{IsSettled}
@@ -18,6 +18,14 @@ use Rattle.usb_hub.specs.declared.status.DeviceStatus.{DeviceStatus}
 abbrev pub EndsAfter : {A : Type 0} → ℕ → World → Result A PipeFault → World → Type 0
 EndsAfter least old result new = MatchResult result (λ done. AttemptsMade least old new)
     (λ fault. FaultAfter 1 old fault new)
+
+-- the bus works in the new world, if it did in the old one
+abbrev pub StillWorks : World → World → Type 0
+StillWorks old new = old.fault ≡ None → new.fault ≡ None
+
+-- so it is after a call, unless that reports a fault of the bus
+abbrev pub WorksAfter : {A : Type 0} → Result A PipeFault → World → World → Type 0
+WorksAfter result old new = IsNoBusFault result → StillWorks old new
 
 -- over these steps nothing is asked of any port
 abbrev pub TouchesNoPort : World → World → Type 0

@@ -4,6 +4,7 @@ pub use Rattle.usb_pipe.proofs.Answerers.{who_sends, who_writes}
 pub use Rattle.usb_pipe.proofs.Attempts.{poll_attempts, read_attempts, receive_attempts}
 pub use Rattle.usb_pipe.proofs.Attempts.{send_attempts, write_attempts}
 pub use Rattle.usb_pipe.proofs.Bounds.{bound_wide}
+pub use Rattle.usb_pipe.proofs.BulkCalls.{clear_by, receive_by, send_by}
 pub use Rattle.usb_pipe.proofs.BulkClears.{clear_of-in, asks_out, clear_leaves, clear_of}
 pub use Rattle.usb_pipe.proofs.BulkClears.{given_registers, harmless, two_bytes_word}
 pub use Rattle.usb_pipe.proofs.BulkTransfers.{receive_leaves, send_leaves}

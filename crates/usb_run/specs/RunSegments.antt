@@ -69,9 +69,10 @@ abbrev pub Settling : HostState → Result (Unit {0}) RunFault → HostState →
 Settling old (Ok done) new = Settles old new
 Settling old (Err fault) new = Unsettled old fault new
 
--- what settling leaves of a host, by what was so before; that its table agrees with its addresses
--- is so of every host, as `tree` tells
+-- what settling leaves of a host, by what was so before: the bus still works, if it did; that the
+-- table agrees with the addresses is so of every host, as `tree` tells
 pub record LeavesSettled (old new : HostState) : Type 0 where
+  pub works : old.world.fault ≡ None → new.world.fault ≡ None
   pub rest : HostInvariant old → new.world.fault ≡ None → IsAtRest new.world new.entries
   pub settled : Agrees new.entries new.addresses → Knows old → Settled new
 

@@ -1,4 +1,5 @@
 use Rattle.usb_enum.specs.{Cause, EnumFault, Accepted, Finding, Stop, IsSpare, Within, TakesAddress}
+use Rattle.usb_enum.specs.{EnumWorks}
 use Rattle.usb_enum.specs.{OnlyCalls, AtPort, EndsOwned, EndsEnumeration, KeepsEnumerated, IsRight}
 use Rattle.usb_enum.specs.{FaultsFor, HubPends, IsFairAt, StopsFairly, StopsFor, OnlyAt}
 use Rattle.usb_enum.specs.{unaddressed_bound, Closes, Disables, GivesUp, IsFair, IsLeft, IsOwn}
@@ -307,8 +308,9 @@ module _ (port : HubPort) (addresses : Addresses) (address : ℕ) (zero_is : IsT
 
     -- all that is so in the end
     pub stopped_ends : EndsFor port addresses tier supply old result new
-        → FewAttempts port addresses old new → Enumerates port addresses tier supply old result new
-    stopped_ends ended few = record {
+        → FewAttempts port addresses old new → EnumWorks result old new
+        → Enumerates port addresses tier supply old result new
+    stopped_ends ended few works = record {
       addresses = given_up old mid new result at.within closes.ends
           (calls_then port address n old mid new at later closes.only);
       own = record {
@@ -321,4 +323,5 @@ module _ (port : HubPort) (addresses : Addresses) (address : ℕ) (zero_is : IsT
       few = few;
       strings = λ device e. absurd (gives_up_no_device port last mid new result device gives e);
       left = λ finding is. gives_left port last mid new result finding gives is;
+      works = works;
     }

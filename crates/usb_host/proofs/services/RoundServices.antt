@@ -4,6 +4,7 @@ use Rattle.std.proofs.Common.{Option, Some, Result, Ok, Err, is_err, [], IfOk, I
 use Rattle.usb_table.specs.{ComesAfter}
 use Rattle.usb_world.specs.{PlanData, changes, root_row}
 use Rattle.usb_enum.proofs.Interface.{went_sound}
+use Rattle.usb_host.specs.{HostWorks}
 use Rattle.usb_host.specs.{hubs_bound, looks_bound, roots_bound, round_bound, Affords, PaysRound}
 use Rattle.usb_host.specs.{Weights, HostState, Waits, HostProgress, Did, Remains, either, DidParts}
 use Rattle.usb_host.specs.{LookedAgain, LookedOnce, LooksAgain, ServesEach, ServesHubs, WentByParts}
@@ -124,9 +125,9 @@ did_quiet Quiet a b did is = did
 
 -- a host that has not stopped goes on
 pub parts_done : (result : Result Round HostFault) (a b : HostState) (stopped : Bool)
-    → a.stopped ≡ false → stopped ≡ is_err result → WentByParts a result b
+    → a.stopped ≡ false → stopped ≡ is_err result → WentByParts a result b → HostWorks a result b
     → IfOk result (λ round. DidParts round a (record b { stopped = stopped }))
-parts_done (Ok round) a b stopped going is went =
+parts_done (Ok round) a b stopped going is went works =
     subst (λ (x : Bool). DidParts round a (record b { stopped = x }))
     (sym (is ∙ sym (went.keeps.part.goes.going ∙ going))) (record {
       did = record {
@@ -135,6 +136,6 @@ parts_done (Ok round) a b stopped going is went =
             (did_quiet round a b went.did quiet, went.none (ap (λ (r : Round). Ok r) quiet));
         rooted = went.keeps.part.owned.rooted;
       };
-      parts = went.parts;
+      parts = λ s still. went.parts s (works still);
     })
-parts_done (Err fault) a b stopped going is went = tt
+parts_done (Err fault) a b stopped going is went works = tt

@@ -11,7 +11,7 @@ use usb_sim::{SimBus, Tracer};
 use usb_testbus::{bus_of, plan_text};
 
 /// A hub of two ports that powers itself, and a function at its first port.
-const PLAN: &str = "[[device]]
+pub(crate) const PLAN: &str = "[[device]]
 name = \"hub\"
 speed = \"full\"
 descriptor = \"120100020900004001000200000100000001\"

@@ -99,8 +99,13 @@ settled_at h running agrees knows rest = record {
       (rest fair.still);
 }
 
+rounds_work : {a b : HostState} → Rounds a b → a.world.fault ≡ None → b.world.fault ≡ None
+rounds_work none still = still
+rounds_work (more round before tells other) still = tells.works (rounds_work before still)
+
 pub settles_leaves : (a b : HostState) → Settles a b → LeavesSettled a b
 settles_leaves a b settles = record {
+  works = λ still. settles.last.works (rounds_work settles.rounds still);
   rest = settles_rest settles;
   settled = λ agrees s. settled_at b (round_running settles.last) agrees (settles_knows settles s)
       (settles_rest settles s.sound);

@@ -27,6 +27,7 @@ loop-index-init g c = record {
   learned = λ known. rw c.new-texts.ensures (learns_none
       (AtMaximum c.args.target (HasConfigurations 0 [])) c.args.target
       (g.B.Bus.world c.args.bus.now) (λ spec max. configurations_none spec));
+  works = λ known none. none;
 }
 
 pub loop-index-preserved : goal.loop-index-preserved
@@ -49,6 +50,7 @@ loop-index-preserved g c =
           c.loop-index.index _ _ text (g.B.Bus.world c.args.bus.now)
           (g.B.Bus.world c.loop-index.bus) (g.B.Bus.world c.read_text.new.bus) differs
           (before.learned known) (read known).steps.went (read known).ends.so);
+      works = λ known none. (c.in_ok-text.ensures.works known) (before.works known none);
     }
 
 pub returns-clause-read : goal.returns-clause-read

@@ -1,5 +1,6 @@
 use Rattle.std.proofs.Common.{◌≡◌, ◌*◌, length, true}
 use Rattle.usb_bus.specs.{Spends}
+use Rattle.usb_hub.specs.{StillWorks}
 use Rattle.usb_enum.specs.{configuration_bound, OnlyAsks, DeviceFact, KeepingSteps, AtMaximum}
 use Rattle.usb_enum.specs.{HasConfigurations, ValuesDiffer, TextsAsked}
 use Rattle.usb_enum.proofs.readings.TextLengths.{TextsRead}
@@ -20,4 +21,6 @@ invariant-loop-index g l = record {
   learned : g.B.Bus.modelled ≡ true
       → DeviceFact (AtMaximum l.target (HasConfigurations l.index l.texts)) l.target
       (g.B.Bus.world l.initial.bus) (g.B.Bus.world l.bus);
+  works : g.B.Bus.modelled ≡ true
+      → StillWorks (g.B.Bus.world l.initial.bus) (g.B.Bus.world l.bus);
 }

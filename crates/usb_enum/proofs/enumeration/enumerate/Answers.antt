@@ -14,6 +14,7 @@ use Rattle.usb_enum.proofs.courses.LastRequests.{leads_went}
 use Rattle.usb_enum.proofs.stops.Stops.{given_told, gives_reason, stopped_reasoned, stopped_without}
 use Rattle.usb_enum.proofs.stops.Stops.{without_reasoned}
 use Rattle.std.proofs.Common.{rules}
+use Rattle.usb_enum.proofs.ports.WorkingBuses.{stopped_works}
 use Rattle.usb_enum.proofs.enumeration.enumerate.Goals as goal
 
 pub returns-in_default-clause-ends : goal.returns-in_default-clause-ends
@@ -32,6 +33,10 @@ returns-in_default-clause-ends g c known =
     (leads_went steps.went) (leads_went closing) (without_reasoned _ pool _ _
     c.without_address-stop.result _ _ c.in_default.ensures.none.0 stops.told) left)
     (few_unaddressed _ pool _ _ _ steps.went closing)
+    (stopped_works c.without_address-stop.result c.give_up.result (g.B.Bus.world c.args.bus.now)
+    (g.B.Bus.world c.without_address-stop.new.bus) (g.B.Bus.world c.give_up.new.bus)
+    c.give_up.ensures.hands (c.without_address-stop.ensures.works known)
+    (c.give_up.ensures.works known))
 
 pub returns-in-Ok-clause-ends : goal.returns-in-Ok-clause-ends
 returns-in-Ok-clause-ends g c known =
@@ -55,6 +60,7 @@ returns-in-Ok-clause-ends g c known =
           let same : other ≡ c.in-Ok.device = cc in rw same found.strings;
       left = λ finding e.
           let same : finding ≡ Device c.in-Ok.device = cc in rw same found.served;
+      works = c.in-Ok.ensures.works known;
     }
 
 pub returns-in-Err-clause-ends : goal.returns-in-Err-clause-ends
@@ -74,6 +80,10 @@ returns-in-Err-clause-ends g c known =
     (leads_went steps.went) (leads_went closing) (stopped_reasoned _ pool _ _ _
     c.in-Err.stop _ _ taken.free stops.told.because) left)
     (few_made _ pool _ zero free _ _ _ (c.examine.ensures.few known) closing.spends.most)
+    (stopped_works c.in-Err.stop c.give_up-finding.result (g.B.Bus.world c.args.bus.now)
+    (g.B.Bus.world c.examine.new.bus) (g.B.Bus.world c.give_up-finding.new.bus)
+    c.give_up-finding.ensures.hands (c.in-Err.ensures.works known)
+    (c.give_up-finding.ensures.works known))
 
 pub give_up-requires : goal.give_up-requires
 give_up-requires g c =

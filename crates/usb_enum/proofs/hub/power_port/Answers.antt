@@ -1,5 +1,5 @@
 use Rattle.usb_enum.proofs.ports.Hubs.{powered_by}
-use Rattle.usb_enum.specs.{IsHubStop, StopsPower, no_power}
+use Rattle.usb_enum.specs.{BadHub, IsHubStop, StopsPower, no_power}
 use Rattle.usb_enum.proofs.stops.PlainStops.{answered_hub}
 use Rattle.usb_enum.proofs.refusals.Warrants.{matched}
 use Rattle.std.proofs.Common.{◌∙◌, sym}
@@ -10,6 +10,7 @@ use Rattle.usb_request.specs.{PORT_POWER, set_port_feature}
 use Rattle.usb_enum.proofs.stops.Reasons.{bad_hub_told, writes_failed}
 use Rattle.usb_enum.proofs.stops.ReportedFaults.{answers_reported}
 use Rattle.usb_enum.specs.{BadHub}
+use Rattle.usb_enum.proofs.ports.WorkingBuses.{answer_ends}
 use Rattle.usb_enum.proofs.hub.power_port.Goals as goal
 
 pub returns-clause-part : goal.returns-clause-part
@@ -42,3 +43,9 @@ returns-clause-stops g c =
 pub returns-clause-told : goal.returns-clause-told
 returns-clause-told g c =
     rw c.answered_or.ensures (answers_reported _ BadHub _ c.set_hub_port.ensures.any_bus.1)
+
+pub returns-clause-works : goal.returns-clause-works
+returns-clause-works g c known =
+    let ordered = c.set_hub_port.ensures.ordered known in
+    answer_ends BadHub 2 _ c.set_hub_port.result (g.B.Bus.world c.args.bus.now)
+    (g.B.Bus.world c.set_hub_port.new.bus) c.answered_or.ensures ordered.ends

@@ -13,6 +13,7 @@ ports-init g c = record {
   spends = search rules;
   steps = λ known. steps_none _ _ (telling _);
   powered = λ known. refl;
+  works = λ known none. none;
 }
 
 pub ports-preserved : goal.ports-preserved
@@ -22,6 +23,8 @@ ports-preserved g c = record {
       (c.power_port.ensures.part known).steps;
   powered = λ known. powered_more _ _ _ _ _ (c.ports.invariant.powered known)
       (c.in_ok-power_port.ensures.part known).ends;
+  works = λ known none. (c.in_ok-power_port.ensures.works known)
+      (c.ports.invariant.works known none);
 }
 
 pub returns-clause-part : goal.returns-clause-part

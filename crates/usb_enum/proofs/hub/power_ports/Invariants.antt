@@ -1,6 +1,7 @@
 use Rattle.std.proofs.Common.{◌*◌, ◌≡◌, true}
 use Rattle.usb_pipe.specs.{write_bound}
 use Rattle.usb_bus.specs.{Spends}
+use Rattle.usb_hub.specs.{StillWorks}
 use Rattle.usb_enum.specs.{OnlyTells, Powered, KeepingSteps}
 use Rattle.usb_enum.proofs.hub.power_ports.Given as goal
 
@@ -12,4 +13,6 @@ invariant-ports g l = record {
       (g.B.Bus.world l.bus) (g.B.Bus.trace l.bus);
   powered : g.B.Bus.modelled ≡ true
       → Powered l.target l.before (g.B.Bus.world l.initial.bus) (g.B.Bus.world l.bus);
+  works : g.B.Bus.modelled ≡ true
+      → StillWorks (g.B.Bus.world l.initial.bus) (g.B.Bus.world l.bus);
 }

@@ -6,6 +6,8 @@ use Rattle.usb_port.specs.{SetReset}
 use Rattle.usb_enum.proofs.courses.Stretches.{set_goes}
 use Rattle.usb_enum.proofs.stops.Reasons.{call_ends}
 use Rattle.usb_enum.proofs.stops.ReportedFaults.{ports_reported}
+use Rattle.usb_hub.proofs.Interface.{set_works}
+use Rattle.usb_enum.proofs.ports.WorkingBuses.{at_port_works}
 use Rattle.usb_enum.proofs.passes.begin_reset.Goals as goal
 
 pub returns-clause-part : goal.returns-clause-part
@@ -33,3 +35,10 @@ returns-clause-calls g c known = record {
 pub returns-clause-told : goal.returns-clause-told
 returns-clause-told g c =
     rw c.at_port.ensures (ports_reported _ _ c.set_port.ensures.any_bus.1)
+
+pub returns-clause-works : goal.returns-clause-works
+returns-clause-works g c known =
+    let old = g.B.Bus.world c.args.bus.now in
+    let new = g.B.Bus.world c.set_port.new.bus in
+    at_port_works _ c.set_port.result old new c.at_port.ensures
+    (set_works c.args.port PORT_RESET _ old new (c.set_port.ensures.effect known))

@@ -18,6 +18,7 @@ loop-pass-init g c = record {
   steps = λ known. steps_none _ _ (enumerating _ _);
   silent = λ known. inl refl;
   missed = λ known. misses_none _ _ _;
+  works = λ known none. none;
 }
 
 pub pass-requires : goal.pass-requires
@@ -43,6 +44,7 @@ loop-pass-preserved g c =
           let one = rw c.in_default.is at (c.in_ok-device.ensures.part known) in
           misses_then _ _ _ _ _ steps.went one.steps.went steps.keeps one.steps.keeps
           (before.missed known) one.ends.so;
+      works = λ known none. (c.in_ok-device.ensures.works known) (before.works known none);
     }
 
 pub returns-in-Some-clause-part : goal.returns-in-Some-clause-part

@@ -1,5 +1,6 @@
 use Rattle.std.proofs.Common.{◌≡◌, ◌⊎◌, ◌*◌, true}
 use Rattle.usb_bus.specs.{Spends}
+use Rattle.usb_hub.specs.{StillWorks}
 use Rattle.usb_enum.specs.{AtPort, pass_bound, Misses, KeepingSteps, NoAnswerTold}
 use Rattle.usb_enum.proofs.passes.passes.Given as goal
 
@@ -14,4 +15,6 @@ invariant-loop-pass g l = record {
       ⊎ NoAnswerTold l.port l.address (g.B.Bus.world l.initial.bus) (g.B.Bus.world l.bus);
   missed : g.B.Bus.modelled ≡ true
       → Misses l.port l.address l._pass (g.B.Bus.world l.initial.bus) (g.B.Bus.world l.bus);
+  works : g.B.Bus.modelled ≡ true
+      → StillWorks (g.B.Bus.world l.initial.bus) (g.B.Bus.world l.bus);
 }

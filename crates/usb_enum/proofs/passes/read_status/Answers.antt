@@ -3,6 +3,8 @@ use Rattle.usb_enum.proofs.devices.Frames.{status_asks}
 use Rattle.usb_enum.proofs.courses.Stretches.{status_goes}
 use Rattle.usb_enum.proofs.stops.Reasons.{call_ends}
 use Rattle.usb_enum.proofs.stops.ReportedFaults.{ports_reported}
+use Rattle.usb_hub.proofs.Interface.{read_works}
+use Rattle.usb_enum.proofs.ports.WorkingBuses.{at_port_works}
 use Rattle.usb_enum.proofs.passes.read_status.Goals as goal
 
 pub returns-clause-read : goal.returns-clause-read
@@ -29,3 +31,10 @@ returns-clause-status g c known = record {
 pub returns-clause-told : goal.returns-clause-told
 returns-clause-told g c =
     rw c.at_port.ensures (ports_reported _ _ c.port_status.ensures.any_bus.1)
+
+pub returns-clause-works : goal.returns-clause-works
+returns-clause-works g c known =
+    let old = g.B.Bus.world c.args.bus.now in
+    let new = g.B.Bus.world c.port_status.new.bus in
+    at_port_works _ c.port_status.result old new c.at_port.ensures
+    (read_works c.args.port _ old new (c.port_status.ensures.status known))

@@ -9,6 +9,8 @@ use Rattle.usb_port.specs.{ClearResetChange}
 use Rattle.usb_enum.proofs.courses.Stretches.{clear_goes}
 use Rattle.usb_enum.proofs.stops.Reasons.{call_ends}
 use Rattle.usb_enum.proofs.stops.ReportedFaults.{ports_reported}
+use Rattle.usb_hub.proofs.Interface.{clear_works}
+use Rattle.usb_enum.proofs.ports.WorkingBuses.{at_port_works}
 use Rattle.usb_enum.proofs.passes.settle.Goals as goal
 
 pub returns-then-not-changed-clause-part : goal.returns-then-not-changed-clause-part
@@ -56,3 +58,10 @@ returns-clause-calls g c known = record {
 pub returns-clause-told : goal.returns-clause-told
 returns-clause-told g c =
     rw c.at_port.ensures (ports_reported _ _ c.clear_port.ensures.any_bus.1)
+
+pub returns-clause-works : goal.returns-clause-works
+returns-clause-works g c known =
+    let old = g.B.Bus.world c.args.bus.now in
+    let new = g.B.Bus.world c.clear_port.new.bus in
+    at_port_works _ c.clear_port.result old new c.at_port.ensures
+    (clear_works c.args.port C_PORT_RESET _ old new (c.clear_port.ensures.effect known))

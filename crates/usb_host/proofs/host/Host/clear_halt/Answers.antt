@@ -5,6 +5,7 @@ use Rattle.std.proofs.lemmas.Grind.{common_steps}
 use Rattle.usb_host.proofs.StepSums.{host_goes_none}
 use Rattle.usb_host.proofs.knowledge.Soundness.{transfer_kept, transfer_none}
 use Rattle.usb_host.proofs.BusCounts.{counts_spend, counts_transfer}
+use Rattle.usb_host.proofs.WorkingBuses.{cleared_works}
 use Rattle.usb_host.proofs.host.Host.clear_halt.Goals as goal
 
 pub returns-then-self-clause-tells : goal.returns-then-self-clause-tells
@@ -12,6 +13,7 @@ returns-then-self-clause-tells g c known = record {
   stopped = first_of (search rules, grind (arith, common_steps));
   went = (host_goes_none {n = clear_bound} {h = c.args.self.now}).went;
   told = tt;
+  works = λ sound none. none;
   did = λ running. absurd (false≢true (sym running ∙ ap (λ (h : HostState). h.stopped)
       (sym c.self.view_is) ∙ c.if-self.true));
   keeps = transfer_none _;
@@ -22,6 +24,8 @@ returns-clause-tells g c known = record {
   stopped = first_of (search rules, grind (arith, common_steps));
   went = first_of (search rules, grind (arith, common_steps));
   told = first_of (search rules, grind (arith, common_steps));
+  works = rw (← c.self.view_is) (cleared_works _ _ _ _ c.clear_halt.result _ c.as_host_fault-cleared.ensures
+      (c.clear_halt.ensures.clears known).did);
   did = first_of (search rules, grind (arith, common_steps));
   keeps = rw (← c.self.view_is) (transfer_kept _ _ _ _ _ c.self.invariant
       c.clear_halt.ensures.through.entries (c.clear_halt.ensures.clears known).went

@@ -17,12 +17,13 @@ returns-in-Root-clause-clears g c known = record {
 pub returns-in-External-clause-clears : goal.returns-in-External-clause-clears
 returns-in-External-clause-clears g c known =
     let s = c.clear_hub_changes.ensures in
-    rw (c.in-External.is, ← c.self.view_is) (own_by _ _ c.clear_hub_changes.result tt
+    rw (c.in-External.is, ← c.self.view_is) (own_by _ _ _ c.clear_hub_changes.result tt
     (goes_by _ _ (s.steps known) (omega (
       arith,
       status_most (External c.in-External.hub c.in-External.port)
           (rw c.in-External.is at c.requires.askable).wide,
-    )) refl) (s.fault known) (s.addresses known) c.at_port.ensures)
+    )) refl) (s.fault known) (s.addresses known) (s.cleared known)
+    c.at_port.ensures)
 
 pub returns-in-External-clause-spends : goal.returns-in-External-clause-spends
 returns-in-External-clause-spends g c =

@@ -9,7 +9,11 @@ use Rattle.usb_host.proofs.knowledge.DroppedHubs.{untold_droppable, nowhere_drop
 use Rattle.usb_enum.proofs.Interface.{order_most}
 use Rattle.usb_host.proofs.StepSums.{goes_by, host_goes_none}
 use Rattle.usb_host.proofs.BusCounts.{counts_last, counts_spend}
-use Rattle.std.proofs.Common.{subst, sym, IsSome}
+use Rattle.std.proofs.Common.{subst, sym, IsSome, Ok, arith, rules}
+use Rattle.usb_hub.proofs.Interface.{clear_works}
+use Rattle.usb_host.proofs.WorkingBuses.{other_works}
+use Rattle.std.proofs.lemmas.Grind.{common_steps}
+use Rattle.usb_request.specs.{PORT_ENABLE}
 use Rattle.usb_host.proofs.host.Host.disable.Goals as goal
 use Rattle.usb_host.proofs.host.Host.disable.Goals.{in-Ok, in-Err-Bus, in-Err}
 
@@ -106,3 +110,16 @@ returns-clause-ends g c =
       )
       | in-Err w ↦ rw w.result-is (λ done. absurd (cc done))
     ]
+
+pub returns-clause-works : goal.returns-clause-works
+returns-clause-works g c known =
+    let old = g.B.Bus.world c.self.inside.bus in
+    let new = g.B.Bus.world c.clear_port.new.bus in
+    rw (← c.self.view_is) (elim c.match-clear_port.branch [
+      | in-Ok w ↦ rw w.result-is (clear_works c.in-Some.port.port PORT_ENABLE (Ok tt) old new
+          (rw w.in-Ok.is at (c.clear_port.ensures.effect known)) tt)
+      | in-Err-Bus w ↦ rw w.result-is (λ sound. absurd sound)
+      | in-Err w ↦ rw w.result-is (other_works 1 w.in-Err.field-0 old new
+          (λ fault is. first_of (search rules, grind (arith, common_steps)))
+          (w.in-Err.ensures.fault known))
+    ])

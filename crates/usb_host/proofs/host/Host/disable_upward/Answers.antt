@@ -14,6 +14,7 @@ up-init g c = record {
   on = way_itself c.args.first;
   least = omega arith;
   most = omega arith;
+  works = λ known none. none;
 }
 
 pub up-smaller : goal.up-smaller
@@ -36,6 +37,7 @@ up-preserved g c =
           (way_parent c.up.path c.in-Some.above parent) i.on;
       least = omega arith;
       most = omega (arith, i.most);
+      works = λ known none. c.in_ok-disable.ensures.works known (i.works known none);
     }
 
 pub returns-in_err-disable-clause-climbs : goal.returns-in_err-disable-clause-climbs

@@ -2,6 +2,7 @@ use Rattle.std.proofs.Common.{◌≡◌, ◌+◌, ◌*◌, ◌≤◌, length, tr
 use Rattle.usb_pipe.specs.{write_bound}
 use Rattle.usb_tree.specs.{is_way}
 use Rattle.usb_host.specs.{OnlyBusSteps, drop_bound}
+use Rattle.usb_hub.specs.{StillWorks}
 use Rattle.usb_host.proofs.PortDrops.{ClimbedTo}
 use Rattle.usb_host.proofs.host.Host.disable_upward.Given as goal
 
@@ -14,6 +15,7 @@ invariant-up g l = record {
   on : is_way l.path l.initial.path ≡ true;
   least : 1 ≤ length l.path;
   most : length l.path ≤ 7;
+  works : g.B.Bus.modelled ≡ true → StillWorks l.initial.self.world l.self.world;
 }
 
 abbrev pub decreases-up : goal.decreases-up

@@ -1,5 +1,6 @@
 use Rattle.usb_host.proofs.PortServes.{own_finished}
 use Rattle.usb_host.proofs.PortLocations.{breaks, placed}
+use Rattle.usb_host.proofs.WorkingBuses.{finished_works}
 use Rattle.usb_host.proofs.host.Host.handle_own.Goals as goal
 
 pub drop_lost_parent-requires-clause-broke : goal.drop_lost_parent-requires-clause-broke
@@ -12,3 +13,10 @@ returns-clause-serves g c known =
     own_finished (placed known c.requires)
     c.drop_lost_parent.ensures.ends (c.drop_lost_parent.ensures.finishes known)
     c.clear_own-cleared.ensures.rests (c.clear_own-cleared.ensures.clears known)
+
+pub returns-clause-works : goal.returns-clause-works
+returns-clause-works g c known =
+    finished_works c.clear_own-cleared.result c.drop_lost_parent.result c.args.self.now
+    c.clear_own-cleared.new.self c.drop_lost_parent.new.self c.drop_lost_parent.ensures.ends
+    (c.clear_own-cleared.ensures.clears known).requested.works
+    (c.drop_lost_parent.ensures.works known)

@@ -5,6 +5,7 @@ use Rattle.usb_host.specs.{HostState}
 use Rattle.usb_host.proofs.StepSums.{host_goes_none}
 use Rattle.usb_host.proofs.knowledge.Soundness.{transfer_kept, transfer_none}
 use Rattle.usb_host.proofs.BusCounts.{counts_spend, counts_transfer}
+use Rattle.usb_host.proofs.WorkingBuses.{received_works}
 use Rattle.usb_host.proofs.host.Host.receive.Goals as goal
 
 pub returns-then-self-clause-tells : goal.returns-then-self-clause-tells
@@ -12,6 +13,7 @@ returns-then-self-clause-tells g c known = record {
   stopped = first_of (search rules, grind (arith, common_steps));
   went = (host_goes_none {n = 768 * c.args.packets} {h = c.args.self.now}).went;
   told = tt;
+  works = λ sound none. none;
   did = λ running. absurd (false≢true (sym running ∙ ap (λ (h : HostState). h.stopped)
       (sym c.self.view_is) ∙ c.if-self.true));
   keeps = transfer_none _;
@@ -22,6 +24,8 @@ returns-clause-tells g c known = record {
   stopped = first_of (search rules, grind (arith, common_steps));
   went = first_of (search rules, grind (arith, common_steps));
   told = first_of (search rules, grind (arith, common_steps));
+  works = rw (← c.self.view_is) (received_works _ _ c.args.packets _ _ c.receive.result _ c.as_host_fault-received.ensures
+      (c.receive.ensures.receives known).did);
   did = first_of (search rules, grind (arith, common_steps));
   keeps = rw (← c.self.view_is) (transfer_kept _ _ _ _ _ c.self.invariant
       c.receive.ensures.through.entries (c.receive.ensures.receives known).went

@@ -1,6 +1,8 @@
+use Rattle.std.proofs.Common.{Ok, Err}
 use Rattle.usb_host.proofs.PortServes.{look_once, look_once_fails, look_nowhere}
 use Rattle.usb_host.proofs.PortLocations.{breaks, placed}
 use Rattle.std.proofs.Common.{refl}
+use Rattle.usb_host.proofs.WorkingBuses.{finished_works, host_works_handed}
 use Rattle.usb_host.proofs.host.Host.retry_one.Goals as goal
 
 pub drop_lost_parent-requires-clause-broke : goal.drop_lost_parent-requires-clause-broke
@@ -32,3 +34,19 @@ returns-in_default-clause-quiet g c is =
 pub returns-clause-quiet : goal.returns-clause-quiet
 returns-clause-quiet g c is =
     absurd (cc is)
+
+pub returns-in_err-drop_lost_parent-clause-works : goal.returns-in_err-drop_lost_parent-clause-works
+returns-in_err-drop_lost_parent-clause-works g c known =
+    host_works_handed _ _ c.args.self.now.world c.drop_lost_parent.new.self.world
+    c.from_residual.ensures.1 (finished_works c.enumerate_again-looked.result
+    (Err c.in_err-drop_lost_parent.field-0.0) c.args.self.now c.enumerate_again-looked.new.self
+    c.drop_lost_parent.new.self c.in_err-drop_lost_parent.ensures.ends
+    (c.enumerate_again-looked.ensures.looks known).requested.works
+    (c.in_err-drop_lost_parent.ensures.works known))
+
+pub returns-clause-works : goal.returns-clause-works
+returns-clause-works g c known =
+    finished_works c.enumerate_again-looked.result (Ok tt) c.args.self.now
+    c.enumerate_again-looked.new.self c.drop_lost_parent.new.self
+    c.in_ok-drop_lost_parent.ensures.ends (c.enumerate_again-looked.ensures.looks known).requested.works
+    (c.in_ok-drop_lost_parent.ensures.works known)

@@ -13,6 +13,7 @@ waiting-init g c = record {
   so = λ known. waiting_begin _;
   idle = λ none. (refl, refl);
   path = tt;
+  works = λ known none. none;
 }
 
 pub waiting-smaller : goal.waiting-smaller
@@ -42,6 +43,7 @@ waiting-preserved g c =
           c.retry_one.ensures.path some.0 some.1 (c.in_ok-retry_one.ensures.looks known));
       idle = λ none. absurd (one_waits (i.idle none).1 some.0 none);
       path = c.retry_one.ensures.path;
+      works = λ known none. c.in_ok-retry_one.ensures.works known (i.works known none);
     }
 
 pub returns-in_err-retry_one-clause-looks : goal.returns-in_err-retry_one-clause-looks

@@ -1,6 +1,7 @@
 use Rattle.std.proofs.Common.{◌≡◌, ◌+◌, ◌-◌, ◌*◌, ◌≤◌, true, IfSome}
 use Rattle.usb_port.specs.{IsPath}
 use Rattle.usb_host.specs.{handling_bound, looks_bound, NoneWait, Quiet}
+use Rattle.usb_hub.specs.{StillWorks}
 use Rattle.usb_host.proofs.entries.Ranks.{rank_after}
 use Rattle.usb_host.proofs.RoundLoops.{WaitingHandled}
 use Rattle.usb_host.proofs.host.Host.retry_waiting.Given as goal
@@ -13,6 +14,7 @@ invariant-waiting g l = record {
   so : g.B.Bus.modelled ≡ true → WaitingHandled l.last l.round l.initial.self l.self;
   idle : NoneWait l.initial.self.entries → (l.round ≡ Quiet) × (l.self ≡ l.initial.self);
   path : IfSome l.last IsPath;
+  works : g.B.Bus.modelled ≡ true → StillWorks l.initial.self.world l.self.world;
 }
 
 abbrev pub decreases-waiting : goal.decreases-waiting

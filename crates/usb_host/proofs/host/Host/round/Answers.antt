@@ -1,7 +1,7 @@
 use Rattle.std.proofs.Common.{arith, rules, ◌≡◌, ap, refl, sym, subst, ◌∙◌, IfOk}
 use Rattle.std.proofs.lemmas.Grind.{common_steps}
 use Rattle.usb_host.specs.{round_bound, HostState, RoundsSound, PaysRound, HostSteps, DidParts}
-use Rattle.usb_host.specs.{Quiet}
+use Rattle.usb_host.specs.{Quiet, HostWorks}
 use Rattle.usb_host.proofs.payments.RoundPayments.{pays_stopped, stopped_pays}
 use Rattle.usb_host.proofs.rests.IdleRounds.{round_rests}
 use Rattle.usb_host.proofs.StepSums.{host_goes_none}
@@ -19,6 +19,7 @@ returns-then-self-clause-tells g c known = record {
   stopped = returns-then-self-clause-stopped g c;
   went = (host_goes_none {n = round_bound} {h = c.args.self.now}).went;
   told = tt;
+  works = λ sound none. none;
   did = tt;
   keeps = record {
     owning = λ o. o;
@@ -49,9 +50,11 @@ returns-clause-tells g c known =
       went = subst (λ (h : HostState). HostSteps round_bound a h) (sym c.self-2.view_is)
           x.keeps.part.goes.went;
       told = first_of (search rules, grind (arith, common_steps));
+      works = subst (λ (h : HostState). HostWorks a result h) (sym c.self-2.view_is)
+          (c.run_round-round.ensures.works known);
       did = subst (λ (h : HostState). IfOk result
           (λ round. DidParts round a (record h { stopped = stopped }))) (sym c.self-2.view_is)
-          (parts_done result a b stopped going value x);
+          (parts_done result a b stopped going value x (c.run_round-round.ensures.works known));
       keeps = record {
         owning = round_owning result a b _ going (ap (λ (h : HostState). h.world) c.self-2.view_is)
             (ap (λ (h : HostState). h.entries) c.self-2.view_is) value x.keeps.part.owned;

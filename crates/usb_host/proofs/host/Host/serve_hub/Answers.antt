@@ -5,6 +5,8 @@ use Rattle.usb_host.proofs.HubPolls.{poll_cut, poll_lost, poll_quiet, poll_serve
 use Rattle.usb_host.proofs.HubPolls.{poll_unserved}
 use Rattle.usb_host.proofs.services.HubServices.{failed_more}
 use Rattle.usb_host.proofs.BusCounts.{counts_last, counts_spend}
+use Rattle.usb_host.proofs.WorkingBuses.{host_works_handed, other_works, polled_works}
+use Rattle.std.proofs.Common.{Ok}
 use Rattle.usb_host.proofs.host.Host.serve_hub.Goals as goal
 
 pub returns-in-Ok-None-clause-polls : goal.returns-in-Ok-None-clause-polls
@@ -131,3 +133,41 @@ returns-in_ok-service_reported-in-Ok-Some-clause-quiet g c is =
 pub returns-in_ok-drop_hub-in-Err-clause-quiet : goal.returns-in_ok-drop_hub-in-Err-clause-quiet
 returns-in_ok-drop_hub-in-Err-clause-quiet g c is =
     absurd (cc is)
+
+pub returns-in-Ok-None-clause-works : goal.returns-in-Ok-None-clause-works
+returns-in-Ok-None-clause-works g c known =
+    rw (← c.self.view_is) (polled_works _ _ (Ok c.in-Ok-None.field-0) _ _
+    (c.in-Ok-None.ensures.polls known).polled tt)
+
+pub returns-in_ok-service_reported-in-Ok-Some-clause-works :
+    goal.returns-in_ok-service_reported-in-Ok-Some-clause-works
+returns-in_ok-service_reported-in-Ok-Some-clause-works g c known =
+    let polled = polled_works _ _ (Ok c.in-Ok-Some.field-0) _ _
+    (c.in-Ok-Some.ensures.polls known).polled tt in
+    rw (← c.self.view_is) (λ none.
+    c.in_ok-service_reported-in-Ok-Some.ensures.works known (polled none))
+
+pub returns-in_err-service_reported-in-Ok-Some-clause-works :
+    goal.returns-in_err-service_reported-in-Ok-Some-clause-works
+returns-in_err-service_reported-in-Ok-Some-clause-works g c known =
+    let polled = polled_works _ _ (Ok c.in-Ok-Some.field-0) _ _
+    (c.in-Ok-Some.ensures.polls known).polled tt in
+    rw (← c.self.view_is) (host_works_handed _ _ (g.B.Bus.world c.self.inside.bus)
+    c.service_reported.new.self.world c.from_residual.ensures.1 (λ sound none.
+    c.in_err-service_reported-in-Ok-Some.ensures.works known sound (polled none)))
+
+pub returns-in_err-drop_hub-in-Err-clause-works : goal.returns-in_err-drop_hub-in-Err-clause-works
+returns-in_err-drop_hub-in-Err-clause-works g c known =
+    let polled = other_works 0 c.in-Err.field-0 _ _
+    (λ fault is. first_of (search rules, grind (arith, common_steps)))
+    (c.in-Err.ensures.polls known).took in
+    rw (← c.self.view_is) (host_works_handed _ _ (g.B.Bus.world c.self.inside.bus)
+    c.drop_hub.new.self.world c.from_residual-in_err-drop_hub-in-Err.ensures.1 (λ sound none.
+    c.in_err-drop_hub-in-Err.ensures.works known sound (polled none)))
+
+pub returns-in_ok-drop_hub-in-Err-clause-works : goal.returns-in_ok-drop_hub-in-Err-clause-works
+returns-in_ok-drop_hub-in-Err-clause-works g c known =
+    let polled = other_works 0 c.in-Err.field-0 _ _
+    (λ fault is. first_of (search rules, grind (arith, common_steps)))
+    (c.in-Err.ensures.polls known).took in
+    rw (← c.self.view_is) (λ none. c.in_ok-drop_hub-in-Err.ensures.works known (polled none))

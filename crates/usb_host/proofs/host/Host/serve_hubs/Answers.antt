@@ -14,6 +14,7 @@ hubs-init g c = record {
   so = λ known. hubs_begin _;
   idle = λ none. (refl, refl);
   path = tt;
+  works = λ known none. none;
 }
 
 pub serve_hub-requires : goal.serve_hub-requires
@@ -46,6 +47,7 @@ hubs-preserved g c =
           c.serve_hub.ensures.path next (c.in_ok-serve_hub.ensures.polls known));
       idle = λ none. absurd (none_next (i.idle none).1 none next);
       path = c.serve_hub.ensures.path;
+      works = λ known none. c.in_ok-serve_hub.ensures.works known (i.works known none);
     }
 
 pub returns-in_err-serve_hub-clause-hubs : goal.returns-in_err-serve_hub-clause-hubs

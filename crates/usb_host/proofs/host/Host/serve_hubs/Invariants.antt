@@ -1,6 +1,7 @@
 use Rattle.std.proofs.Common.{◌≡◌, ◌+◌, ◌-◌, ◌*◌, ◌≤◌, true, [], IfSome}
 use Rattle.usb_port.specs.{IsPath}
 use Rattle.usb_host.specs.{hub_poll_bound, hubs_bound, Quiet}
+use Rattle.usb_hub.specs.{StillWorks}
 use Rattle.usb_host.proofs.entries.Ranks.{rank_after}
 use Rattle.usb_host.proofs.RoundLoops.{HubsHandled}
 use Rattle.usb_host.proofs.host.Host.serve_hubs.Given as goal
@@ -13,6 +14,7 @@ invariant-hubs g l = record {
   so : g.B.Bus.modelled ≡ true → HubsHandled l.last l.round l.initial.self l.self;
   idle : l.initial.self.entries ≡ [] → (l.round ≡ Quiet) × (l.self ≡ l.initial.self);
   path : IfSome l.last IsPath;
+  works : g.B.Bus.modelled ≡ true → StillWorks l.initial.self.world l.self.world;
 }
 
 abbrev pub decreases-hubs : goal.decreases-hubs

@@ -7,7 +7,11 @@ use Rattle.usb_host.proofs.host.Host.serve_ports.Goals.{then-bits-number-eq1+in_
 use Rattle.usb_host.proofs.host.Host.serve_ports.Goals.{else-bits-number-eq1}
 
 pub ports-init : goal.ports-init
-ports-init g c = record { spends = omega arith; so = λ known. ports_begin _ }
+ports-init g c = record {
+  spends = omega arith;
+  so = λ known. ports_begin _;
+  works = λ known none. none;
+}
 
 pub ports-preserved : goal.ports-preserved
 ports-preserved g c =
@@ -20,12 +24,14 @@ ports-preserved g c =
             (omega (arith, c.ports-test.true))
             (bit_so c.args.bits c.ports.number w.if-bits-number-eq1.true)
             (w.in_ok-handle_below.ensures.handles known);
+        works = λ known none. w.in_ok-handle_below.ensures.works known (i.works known none);
       })
       | else-bits-number-eq1 w ↦ rw w.self-is (record {
         spends = omega (arith, i.spends, c.ports.auto.number);
         so = λ known.
             ports_clear (i.so known) (omega (arith, c.ports.auto.number))
             (bit_not c.args.bits c.ports.number w.if-bits-number-eq1.false);
+        works = i.works;
       })
     ]
 

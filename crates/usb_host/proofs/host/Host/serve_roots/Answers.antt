@@ -8,7 +8,12 @@ use Rattle.usb_host.proofs.host.Host.serve_roots.Goals.{then-has_changed+in_ok-h
 use Rattle.usb_host.proofs.host.Host.serve_roots.Goals.{else-has_changed}
 
 pub ports-init : goal.ports-init
-ports-init g c = record { quiet = λ is. refl; spends = omega arith; so = λ known. roots_begin _ }
+ports-init g c = record {
+  quiet = λ is. refl;
+  spends = omega arith;
+  so = λ known. roots_begin _;
+  works = λ known none. none;
+}
 
 pub ports-preserved : goal.ports-preserved
 ports-preserved g c =
@@ -27,6 +32,7 @@ ports-preserved g c =
               (i.so known).part.goes.went.spends.roots,
               ap (λ (h : HostState). roots_of h.world) c.self.view_is,
             )) (w.in_ok-handle_root.ensures.handles known);
+        works = λ known none. w.in_ok-handle_root.ensures.works known (i.works known none);
       })
       | else-has_changed w ↦ rw (w.self-is, w.round-is) (record {
         quiet = i.quiet;
@@ -34,6 +40,7 @@ ports-preserved g c =
         so = λ known.
             roots_steady (i.so known) (omega (arith, c.ports.auto.number))
             (sym (c.has_changed.ensures known) ∙ w.if-has_changed.false);
+        works = i.works;
       })
     ]
 

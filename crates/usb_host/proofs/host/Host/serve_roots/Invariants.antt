@@ -1,5 +1,6 @@
 use Rattle.std.proofs.Common.{◌≡◌, ◌-◌, ◌*◌, true}
 use Rattle.usb_host.specs.{HostSpends, Quiet, handling_bound}
+use Rattle.usb_hub.specs.{StillWorks}
 use Rattle.usb_host.proofs.RoundLoops.{RootsHandled}
 use Rattle.usb_host.proofs.host.Host.serve_roots.Given as goal
 
@@ -8,4 +9,5 @@ invariant-ports g l = record {
   quiet : l.round ≡ Quiet → l.self.entries ≡ l.initial.self.entries;
   spends : HostSpends ((l.number - 1) * handling_bound) l.initial.self l.self;
   so : g.B.Bus.modelled ≡ true → RootsHandled l.number l.round l.initial.self l.self;
+  works : g.B.Bus.modelled ≡ true → StillWorks l.initial.self.world l.self.world;
 }

@@ -1,5 +1,6 @@
 use Rattle.usb_host.proofs.PortServes.{handle_finished}
 use Rattle.usb_host.proofs.PortLocations.{breaks, placed}
+use Rattle.usb_host.proofs.WorkingBuses.{finished_works}
 use Rattle.usb_host.proofs.host.Host.service_port.Goals as goal
 
 pub drop_lost_parent-requires-clause-broke : goal.drop_lost_parent-requires-clause-broke
@@ -12,3 +13,9 @@ returns-clause-handles g c known =
     handle_finished (placed known c.requires)
     c.drop_lost_parent.ensures.ends (c.drop_lost_parent.ensures.finishes known)
     (c.serve-served.ensures.serves known)
+
+pub returns-clause-works : goal.returns-clause-works
+returns-clause-works g c known =
+    finished_works c.serve-served.result c.drop_lost_parent.result c.args.self.now
+    c.serve-served.new.self c.drop_lost_parent.new.self c.drop_lost_parent.ensures.ends
+    (c.serve-served.ensures.serves known).requested.works (c.drop_lost_parent.ensures.works known)

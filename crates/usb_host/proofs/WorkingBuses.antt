@@ -1,0 +1,243 @@
+-- After which transfers and polls the bus still works.
+use Rattle.std.proofs.Common.{◌≡◌, ◌*◌, ◌||◌, ℕ, Bool, true, false, List, Option, None, Some, length}
+use Rattle.std.proofs.Common.{Result, Ok, Err, MatchResult, IsErrAnd, ap, is_some, refl, subst, ◌∙◌}
+use Rattle.std.specs.Global.{Vec}
+use Rattle.std.specs.Int.{div_ceil}
+use Rattle.arrayvec.specs.ArrayVec.{ArrayVec}
+use Rattle.usb_world.specs.{BusFault, World}
+use Rattle.usb_transaction.specs.{AttemptsMade}
+use Rattle.usb_pipe.specs.{PipeFault, FaultAfter, Bulk, Sends, Receives, Clears, packets_of}
+use Rattle.usb_pipe.specs.{IsNoBusFault}
+use Rattle.usb_pipe.specs.declared.fault.PipeFault.TheVariants as pipe
+use Rattle.usb_pipe.proofs.Interface.{clear_by, receive_by, send_by}
+use Rattle.usb_hub.specs.{StillWorks, WorksAfter}
+use Rattle.usb_hub.proofs.Interface.{failed_works}
+use Rattle.usb_table.specs.{TableFault, TransferFault, Pipes, Hub, Function, Absent, PipesPolled}
+use Rattle.usb_table.specs.{PipesThrough, PipesSent, PipesReceived, PipesCleared, PipeDid, NotTried}
+use Rattle.usb_table.specs.{ThroughIf, SentThrough, ReceivedThrough, ClearedBy, ClearedAfter}
+use Rattle.usb_table.specs.{ClearedIf, BulkPipes, table_answer, one_side}
+use Rattle.usb_table.specs.declared.fault.TableFault.TheVariants as table
+use Rattle.usb_table.specs.declared.fault.TransferFault.TheVariants.{NoDevice, NoEndpoint}
+use Rattle.usb_enum.specs.{EnumFault, EnumWorks, ParentLost, Bus, Memory}
+use Rattle.usb_host.specs.{EndsAs, HostFault, HostNotOfBus, HostState, HostWorks, host_told}
+
+same_works : (old new : World) → new ≡ old → StillWorks old new
+same_works old new same none = ap (λ (w : World). w.fault) same ∙ none
+
+-- how few attempts came before each end
+made_works : {A : Type 0} (n m : ℕ) (answer : Result A PipeFault) (old new : World)
+    → MatchResult answer (λ _. AttemptsMade n old new) (λ fault. FaultAfter m old fault new)
+    → WorksAfter answer old new
+made_works n m (Ok done) old new ends sound none = ends.still
+made_works {A} n m (Err why) old new ends sound none =
+    failed_works A m why old new ends sound none
+
+-- A poll
+
+pub polled_works : (pipes left : Pipes) (answer : Result (Option (ArrayVec ℕ)) PipeFault)
+    (old new : World) → PipesPolled pipes old answer left new → WorksAfter answer old new
+polled_works (Hub pipe) left answer old new x sound =
+    made_works 1 0 answer old new x.2.polls.ends sound
+polled_works (Function pipes) left answer old new x sound = same_works old new x.2
+polled_works Absent left answer old new x sound = same_works old new x.2
+
+-- Through one pipe
+
+sends_work : {bytes : List ℕ} {pipe : Bulk} (old : World) (answer : Result (Unit {0}) PipeFault)
+    {left : Bulk} (new : World) → Sends bytes pipe old answer left new
+    → WorksAfter answer old new
+sends_work {bytes} {pipe} old answer new =
+    send_by (WorksAfter answer old new) (λ idle sound. same_works old new idle.world_kept)
+    (λ none idle sound. same_works old new idle.world_kept)
+    (λ works some moved. made_works (div_ceil (length bytes) pipe.max) 0 answer old new moved.ends)
+
+receives_work : {wanted : ℕ} {pipe : Bulk} (old : World) (answer : Result (Vec ℕ) PipeFault)
+    {left : Bulk} (new : World) → Receives wanted pipe old answer left new
+    → WorksAfter answer old new
+receives_work {wanted} {pipe} old answer new =
+    receive_by (WorksAfter answer old new) (λ is kept same sound. same_works old new same)
+    (λ bytes is none kept same sound. same_works old new same)
+    (λ works some moved. received answer moved.ends)
+  where
+    received : (answer : Result (Vec ℕ) PipeFault) → MatchResult answer (λ bytes. AttemptsMade
+        (packets_of (length bytes.items) pipe.max wanted) old new) (λ why. FaultAfter 0 old why new)
+        → WorksAfter answer old new
+    received (Ok bytes) ends sound none = ends.still
+    received (Err why) ends sound none = failed_works (Vec ℕ) 0 why old new ends sound none
+
+clears_work : {pipe : Bulk} (old : World) (answer : Result (Unit {0}) PipeFault) {left : Bulk}
+    (new : World) → Clears pipe old answer left new → WorksAfter answer old new
+clears_work old answer new =
+    clear_by (WorksAfter answer old new) (λ ready idle sound. same_works old new idle.world_kept)
+    (λ unready cleared. made_works 2 1 answer old new cleared.ends)
+
+-- As the table tells it
+
+abbrev TableNotOfBus : TableFault → Type 0
+TableNotOfBus (table.Transfer fault) = Unit {0}
+TableNotOfBus (table.Bus fault) = ⊥
+TableNotOfBus table.Memory = Unit {0}
+
+abbrev TableWorks : {A : Type 0} → World → Result A TableFault → World → Type 0
+TableWorks old result new = MatchResult result (λ done. StillWorks old new)
+    (λ fault. TableNotOfBus fault → StillWorks old new)
+
+table_works : {A : Type 0} (result : Result A TableFault) (answer : Result A PipeFault)
+    (old new : World) → result ≡ table_answer answer → WorksAfter answer old new
+    → TableWorks old result new
+table_works {A} result answer old new is works = rw is (by_answer answer works)
+  where
+    by_answer : (answer : Result A PipeFault) → WorksAfter answer old new
+        → TableWorks old (table_answer answer) new
+    by_answer (Ok done) works = works tt
+    by_answer (Err pipe.Stalled) works = λ sound. works tt
+    by_answer (Err pipe.Busy) works = λ sound. works tt
+    by_answer (Err pipe.NoAnswer) works = λ sound. works tt
+    by_answer (Err pipe.Broken) works = λ sound. works tt
+    by_answer (Err (pipe.Bus fault)) works = λ sound. absurd sound
+    by_answer (Err pipe.Memory) works = λ sound. works tt
+
+untried_works : {A P : Type 0} (why : TransferFault) (pipes : P) (old : World)
+    (result : Result A TableFault) (left : P) (new : World)
+    → NotTried why pipes old result left new → TableWorks old result new
+untried_works why pipes old result left new x = rw x.0 (λ sound. same_works old new x.2)
+
+if_works : {A : Type 0} (So : PipeDid A) → ((pipe : Bulk) (old : World) (result : Result A TableFault)
+    (left : Bulk) (new : World) → So pipe old result left new → TableWorks old result new)
+    → (pipe : Option Bulk) (old : World) (result : Result A TableFault) (left : Option Bulk)
+    (new : World) → ThroughIf So pipe old result left new → TableWorks old result new
+if_works So each None old result left new x =
+    untried_works NoEndpoint None old result left new x
+if_works So each (Some pipe) old result None new x = absurd x
+if_works So each (Some pipe) old result (Some left) new x = each pipe old result left new x
+
+through_works : {A : Type 0} (is_in : Bool) (So : PipeDid A) → ((pipe : Bulk) (old : World)
+    (result : Result A TableFault) (left : Bulk) (new : World) → So pipe old result left new
+    → TableWorks old result new) → (pipes : Pipes) (old : World) (result : Result A TableFault)
+    (left : Pipes) (new : World) → PipesThrough is_in So pipes old result left new
+    → TableWorks old result new
+through_works is_in So each (Hub pipe) old result left new x =
+    untried_works NoEndpoint (Hub pipe) old result left new x
+through_works is_in So each (Function pipes) old result left new x =
+    if_works So each (one_side is_in pipes) old result x.0 new x.2
+through_works is_in So each Absent old result left new x =
+    untried_works NoDevice Absent old result left new x
+
+halt_works : (pipe left : Option Bulk) (old : World) (answer : Result (Unit {0}) PipeFault)
+    (new : World) → ClearedBy pipe old answer left new → WorksAfter answer old new
+halt_works None left old answer new x = λ sound. same_works old new x.2
+halt_works (Some pipe) None old answer new x = absurd x
+halt_works (Some pipe) (Some left) old answer new x = clears_work old answer new x.clears
+
+second_works : (first : Result (Unit {0}) PipeFault) (pipe left : Option Bulk) (old mid : World)
+    (result : Result (Unit {0}) TableFault) (new : World) → WorksAfter first old mid
+    → ClearedAfter first pipe mid result left new → TableWorks old result new
+second_works (Ok done) pipe left old mid result new works x =
+    table_works result x.0 old new x.1
+    (λ sound none. halt_works pipe left mid x.0 new x.2 sound (works tt none))
+second_works (Err fault) pipe left old mid result new works x =
+    table_works result (Err fault) old new x.0
+    (λ sound none. same_works mid new x.2 (works sound none))
+
+both_work : (any : Bool) (pipes left : BulkPipes) (old : World)
+    (result : Result (Unit {0}) TableFault) (new : World) → ClearedIf any pipes old result left new
+    → TableWorks old result new
+both_work false pipes left old result new x =
+    untried_works NoEndpoint pipes old result left new x
+both_work true pipes left old result new x =
+    second_works x.first pipes.into left.into old x.mid result new
+    (halt_works pipes.out left.out old x.first x.mid x.out) x.into
+
+halts_work : (pipes : Pipes) (old : World) (result : Result (Unit {0}) TableFault) (left : Pipes)
+    (new : World) → PipesCleared pipes old result left new → TableWorks old result new
+halts_work (Hub pipe) old result left new x =
+    untried_works NoEndpoint (Hub pipe) old result left new x
+halts_work (Function pipes) old result left new x =
+    both_work (is_some pipes.out || is_some pipes.into) pipes x.0 old result new x.2
+halts_work Absent old result left new x = untried_works NoDevice Absent old result left new x
+
+-- As the host tells it
+
+-- the bus still works, unless a fault of the bus is told
+abbrev pub ToldWorks : {A : Type 0} → World → Result A HostFault → World → Type 0
+ToldWorks old result new = MatchResult result (λ done. StillWorks old new)
+    (λ fault. HostNotOfBus fault → StillWorks old new)
+
+host_works : {A : Type 0} (result : Result A HostFault) (answer : Result A TableFault)
+    (old new : World) → result ≡ host_told answer → TableWorks old answer new
+    → ToldWorks old result new
+host_works {A} result answer old new is works = rw is (by_answer answer works)
+  where
+    by_answer : (answer : Result A TableFault) → TableWorks old answer new
+        → ToldWorks old (host_told answer) new
+    by_answer (Ok done) works = works
+    by_answer (Err (table.Transfer fault)) works = λ sound. works tt
+    by_answer (Err (table.Bus fault)) works = λ sound. absurd sound
+    by_answer (Err table.Memory) works = λ sound. works tt
+
+pub sent_works : (pipes left : Pipes) (bytes : List ℕ) (old new : World)
+    (answer : Result (Unit {0}) TableFault) (result : Result (Unit {0}) HostFault)
+    → result ≡ host_told answer → PipesSent pipes bytes old answer left new
+    → ToldWorks old result new
+sent_works pipes left bytes old new answer result is moves =
+    host_works result answer old new is (through_works false (λ p. SentThrough p bytes)
+    (λ p old r left new y. table_works r y.answer old new y.told
+    (sends_work old y.answer new y.sends)) pipes old answer left new moves)
+
+pub received_works : (pipes left : Pipes) (packets : ℕ) (old new : World)
+    (answer : Result (Vec ℕ) TableFault) (result : Result (Vec ℕ) HostFault)
+    → result ≡ host_told answer → PipesReceived pipes packets old answer left new
+    → ToldWorks old result new
+received_works pipes left packets old new answer result is moves =
+    host_works result answer old new is (through_works true (λ p. ReceivedThrough p packets)
+    (λ p old r left new y. table_works r y.answer old new y.told
+    (receives_work old y.answer new y.receives)) pipes old answer left new moves)
+
+pub cleared_works : (pipes left : Pipes) (old new : World) (answer : Result (Unit {0}) TableFault)
+    (result : Result (Unit {0}) HostFault) → result ≡ host_told answer
+    → PipesCleared pipes old answer left new → ToldWorks old result new
+cleared_works pipes left old new answer result is moves =
+    host_works result answer old new is (halts_work pipes old answer left new moves)
+
+-- One part after another
+
+pub host_works_on : {A : Type 0} (result : Result A HostFault) (a b d : HostState)
+    → StillWorks a.world b.world → HostWorks b result d → HostWorks a result d
+host_works_on (Ok done) a b d first next = λ none. next (first none)
+host_works_on (Err fault) a b d first next = λ sound none. next sound (first none)
+
+-- after a port was served
+pub finished_works : (served : Result (Unit {0}) EnumFault) (result : Result (Unit {0}) HostFault)
+    (a b d : HostState) → EndsAs served result → EnumWorks served a.world b.world
+    → HostWorks b result d → HostWorks a result d
+finished_works (Ok done) result a b d ends first next = host_works_on result a b d first next
+finished_works (Err ParentLost) result a b d ends first next =
+    host_works_on result a b d (first tt) next
+finished_works (Err (Bus fault)) result a b d ends first next = rw ends (λ sound. absurd sound)
+finished_works (Err Memory) result a b d ends first next =
+    host_works_on result a b d (first tt) next
+
+-- an error that is handed on
+pub host_works_handed : {A : Type 0} (result : Result A HostFault) (why : HostFault)
+    (old new : World) → IsErrAnd result (λ e. e ≡ why) → (HostNotOfBus why → StillWorks old new)
+    → ToldWorks old result new
+host_works_handed (Ok done) why old new same works = absurd same
+host_works_handed (Err fault) why old new same works =
+    λ sound. works (subst HostNotOfBus same sound)
+
+-- A fault that is not the bus's
+
+sound_fault : (why : PipeFault) → ((fault : BusFault) → why ≡ pipe.Bus fault → ⊥)
+    → IsNoBusFault {A = Unit {0}} (Err why)
+sound_fault (pipe.Bus fault) other = absurd (other fault refl)
+sound_fault pipe.Stalled other = tt
+sound_fault pipe.Busy other = tt
+sound_fault pipe.NoAnswer other = tt
+sound_fault pipe.Broken other = tt
+sound_fault pipe.Memory other = tt
+
+pub other_works : (n : ℕ) (why : PipeFault) (old new : World)
+    → ((fault : BusFault) → why ≡ pipe.Bus fault → ⊥) → FaultAfter n old why new
+    → StillWorks old new
+other_works n why old new other ends =
+    failed_works (Unit {0}) n why old new ends (sound_fault why other)
