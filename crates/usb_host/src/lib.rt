@@ -45,7 +45,8 @@
 //!   was reached there, its pipes are new, and its bulk endpoints have begun again (`KeepsBulk`,
 //!   `specs/BulkPipes.antt`). From that moment until it was found nothing was attempted but at endpoint 0, so no bulk
 //!   endpoint took or gave a byte and no hub was polled; from then to the end of the round its bulk endpoints stay as
-//!   they were (`RenewedAt`).
+//!   they were (`RenewedAt`). Each request to a port in a round attempts nothing but at endpoint 0, too (`PortStatusAt`,
+//!   `PortCallDone` of usb_hub).
 //! - What is entered at a port that was looked at is what one enumeration there gave, with all that usb_enum says of
 //!   it: a refusal names the request that ended so at a moment of the round, or what was read, whatever is damaged
 //!   (`LookedAt`, `FindsAnew`, `specs/Discoveries.antt`; `Enumerates.ended` of usb_enum).

@@ -297,6 +297,7 @@ module _ (t : Target) (j : Location) (i : ℕ) (request : Setup) (c : PortCall)
       rested = subst (λ w. KeepsAll w new) accepted_there.last (rests_backlog t done.moment.since
           (subst (λ w. IsSettled w.roots) (sym accepted_there.last)
           (settled_attempt a mid accepted_there.holder.made.settled)));
+      control = commanded_control t request (Ok tt) old new ordered tt;
     }
 
 -- Which requests these are
@@ -571,6 +572,7 @@ module _ (port : HubPort) (number : ℕ) (call : Option PortCall) (old new : Wor
       };
       rested = subst (KeepsAll (after (root_call c number) old)) (sym (step c x.is))
           (all_none (after (root_call c number) old));
+      control = one_step IsControlStep c x.is tt;
     });
     rests = λ f p c x sound y d. one_step (LeavesPortAlone y) c x.is
         ((root_acts c number old).about.others y (subst (λ p. is_way p y ≡ false) x.at d));

@@ -23,6 +23,7 @@ use Rattle.usb_address.proofs.Interface.{settled_attempt, place_ports, less_one,
 use Rattle.usb_address.proofs.Interface.{no_root, port_below_at, reads_leave, same_setup}
 use Rattle.usb_hub.specs.{IsBelow, HubPort, Root, External, PortStatusAt, ReadsPort, IsPort}
 use Rattle.usb_hub.specs.{RootRead, PortRead, Queried, ReadAs, HubServes, NoHubFailed}
+use Rattle.usb_hub.specs.{ControlCourse}
 use Rattle.usb_hub.proofs.RestingRequests.{behind_asks_nothing, resting_course}
 use Rattle.usb_hub.proofs.Backlogs.{asked_backlog, rests_backlog}
 use Rattle.usb_backlog.specs.{KeepsAll}
@@ -31,6 +32,7 @@ use Rattle.usb_hub.proofs.Statuses.{row_port, StatusOf, read_status, came_status
 use Rattle.usb_hub.proofs.Statuses.{status_some, status_plain}
 use Rattle.usb_hub.proofs.ToldBytes.{IsReadFrom, said}
 use Rattle.usb_hub.proofs.CallFailures.{same_port, status_served}
+use Rattle.usb_hub.proofs.ControlCourses.{queried_control}
 
 -- Who answered
 
@@ -126,6 +128,7 @@ module _ (t : Target) (j : Location) (i : ℕ) (old new : World) (bytes : Vec �
     rested = rests_backlog t done.moment.since
         (subst (λ w. IsSettled w.roots) (sym accepted_there.last)
         (settled_attempt _ accepted_there.mid accepted_there.holder.made.settled));
+    control = queried_control t request (Ok bytes) old new told tt;
   }
 
 at_hub : (t : Target) (f : AddressMap) (hub : List ℕ) (port : ℕ) (old new : World) (bytes : Vec ℕ)
@@ -220,6 +223,7 @@ root_tells port number old result new e is read = rw e (root (rw e at is) (rw e 
         row = record { parent = []; number = number; is = at; reached = refl };
         untold = all_none old;
         rested = subst (KeepsAll old) (sym r.same) (all_none old);
+        control = subst (ControlCourse old) (sym r.same) (here old);
       };
       why = λ hub n same. absurd (cc same);
     }

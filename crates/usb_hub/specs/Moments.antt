@@ -28,7 +28,8 @@ pub record OnReachedRow (w : World) (p : List ℕ) : Type 0 where
 
 -- The status of a port
 
--- the status is the port's at a moment of the call, and the call asked nothing of any port
+-- the status is the port's at a moment of the call, and the call asked nothing of any port, nor
+-- attempted anything but at endpoint 0
 pub record PortStatusAt (p : List ℕ) (status : PortStatus) (old new : World) : Type 0 where
   pub now : World
   pub port : PortState
@@ -40,6 +41,7 @@ pub record PortStatusAt (p : List ℕ) (status : PortStatus) (old new : World) :
   -- what is left to do, up to then and since
   pub untold : KeepsAll old now
   pub rested : KeepsAll now new
+  pub control : ControlCourse old new
 
 -- So it is of the port at a path, which a hub's port is by what the hub's path claims. Where no
 -- three attempts running are damaged, and no address was
@@ -76,7 +78,7 @@ pub record ActsAt (p : List ℕ) (c : PortCall) (s : Step) (w : World) : Type 0 
   pub about : IsAbout p c s w
 
 -- the port was called at a moment, with nothing before it but steps that are about this port; since
--- then nothing was asked of any port
+-- then nothing was asked of any port, and nothing was attempted but at endpoint 0
 pub record PortCallDone (p : List ℕ) (c : PortCall) (old new : World) : Type 0 where
   pub before : World
   pub repeats : Course (ActsAt p c) old before
@@ -89,6 +91,7 @@ pub record PortCallDone (p : List ℕ) (c : PortCall) (old new : World) : Type 0
   -- what is left to do, up to then and since
   pub acted : KeepsCall p c old (after last before)
   pub rested : KeepsAll (after last before) new
+  pub control : ControlCourse old new
 
 -- where the bus gave up: these steps, and one more attempt, which it refused
 pub record UpToFault (K : Step → World → Type 0) (old : World) (fault : BusFault) (new : World) :

@@ -36,8 +36,9 @@
 //! - `set_port`, `clear_port`: a call that is done acted at the port, at a moment of it; before that there were only
 //!   repeats of it, and since then nothing was asked of any port (`PortCallDone`). Whatever the answer, nothing is
 //!   asked of a port that is not at or below this one, and a change of connection there that the call does not clear
-//!   stays pending (`CommandsPort`). `SetSteps` is the course of `set_port`: within its count at a hub's port and with
-//!   PORT_RESET at a root port, where PORT_POWER may set a change of connection.
+//!   stays pending (`CommandsPort`). Each of these attempts nothing but at endpoint 0 (`ControlCourse`). `SetSteps` is
+//!   the course of `set_port`: within its count at a hub's port and with PORT_RESET at a root port, where PORT_POWER
+//!   may set a change of connection.
 //! - `clear_port_change`, `clear_hub_changes`: the requests were made, just for the changes that were told, and keep
 //!   all addresses; a STALL of one counts as done (`Clears`, `ClearsOfHub`).
 //! - Calls at a hub's port fail only where three attempts running are damaged, or the hub is not reached, does not hear
