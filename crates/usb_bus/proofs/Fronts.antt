@@ -1,12 +1,13 @@
 -- Lemmas on what a writer took of a piece.
 use Rattle.std.proofs.Common.{◌≡◌, ℕ, List, ◌++◌, sym, ap, ◌∙◌, append_assoc, take, drop}
-use Rattle.std.proofs.Common.{take-append-drop, ◌-◌, length, arith, Bool, true, false, ◌||◌, ◌&&◌}
+use Rattle.std.proofs.Common.{take-append-drop, ◌-◌, ◌≤◌, length, arith, Bool, true, false, ◌||◌}
+use Rattle.std.proofs.Common.{◌&&◌, ◌∷◌, zero, suc}
 use Rattle.std.proofs.Common.{not, ◌==◌, Option, None, Result, Ok, Err, refl, subst, [], append-nil}
 use Rattle.std.proofs.lemmas.Bool.Decides.{nat_tests}
 use Rattle.std.proofs.lemmas.List.{take_rest}
 use Rattle.std.specs.Io.KnownBytes.{Appends, Keeps}
 use Rattle.std.proofs.KnownBytes.{Appends-trans, Appends-kept, Appends-nil}
-use Rattle.usb_bus.specs.{AppendsFront, PutsText}
+use Rattle.usb_bus.specs.{AppendsFront, PendsFront, PutsText, is_some_text}
 
 pub appends_front : (a b : Option (List ℕ)) (gone rest piece : List ℕ) → piece ≡ gone ++ rest
     → Appends a b gone → AppendsFront a b piece
@@ -39,6 +40,35 @@ pub unmarked_by : (old new : Bool) (n k : ℕ) → new ≡ (old || ((n == 0) && 
     → (n ≡ 0 → ⊥) → new ≡ old
 unmarked_by true new n k e h = e
 unmarked_by false new n k e h = e ∙ grind (arith, nat_tests)
+
+-- a write that took something of the rest leaves a flush due
+pub pending_more : (was mid new : Bool) (done rest : List ℕ) (n : ℕ)
+    → mid ≡ (was || is_some_text done) → new ≡ (mid || not (n == 0)) → (n ≡ 0 → ⊥)
+    → n ≤ length rest → new ≡ (was || is_some_text (done ++ take n rest))
+pending_more true mid new done rest n first then some few =
+    then ∙ ap (λ m. m || not (n == 0)) first
+pending_more false mid new (c ∷ done) rest n first then some few =
+    then ∙ ap (λ m. m || not (n == 0)) first
+pending_more false mid new [] rest zero first then some few = absurd (some refl)
+pending_more false mid new [] (c ∷ rest) (suc n) first then some few =
+    then ∙ ap (λ m. m || not (suc n == 0)) first ∙ grind (arith, nat_tests)
+pending_more false mid new [] [] (suc n) first then some few = absurd (omega (arith, few))
+
+no_more : (b : Bool) → (b || false) ≡ b
+no_more true = refl
+no_more false = refl
+
+-- one that took nothing
+pub pending_kept : (was mid is : Bool) (a b c : Option (List ℕ)) (gone rest piece : List ℕ)
+    → piece ≡ gone ++ rest → Appends a b gone → Keeps b c → mid ≡ (was || is_some_text gone)
+    → is ≡ (mid || false) → PendsFront was a is c piece
+pending_kept was mid is a b c gone rest piece e h k m n = record {
+  gone = gone;
+  rest = rest;
+  split = e;
+  appended = Appends-kept a b c gone h k;
+  pending = n ∙ no_more mid ∙ m;
+}
 
 -- a front of the first of two parts
 pub first_front : (a b : Option (List ℕ)) (xs ys : List ℕ) → AppendsFront a b xs

@@ -13,7 +13,8 @@
 //! items (`Transcript`); `Runner::put_line` adds its line, or a front of it. So no body between a plan and its bus can
 //! write a line that no attempt made.
 //!
-//! - `put_piece` and `Watched`: what went out is a front of the piece, the mark is exact.
+//! - `put_piece` and `Watched`: what went out is a front of the piece, the mark is exact. A flush that fails sets the
+//!   mark; one is pending from a write that took bytes to a flush that succeeds.
 #![tactic(auto)]
 
 mod bus;

@@ -1,8 +1,8 @@
 //! A reader or writer with a mark that tells whether it has failed.
-ghost use Rattle.std.specs.Prelude.{◌≡◌, ◌+◌, ◌-◌, ◌^◌, ◌||◌, min, false, true, flat_map, is_err, OnOk, OnErr, IfSome};
+ghost use Rattle.std.specs.Prelude.{◌≡◌, ◌+◌, ◌-◌, ◌^◌, ◌||◌, ◌&&◌, min, false, true, flat_map, is_err, OnOk, OnErr, IfSome};
 ghost use Rattle.std.specs.Io.{ReadsAtMost, WritesAtMost};
 ghost use Rattle.std.specs.Io.KnownBytes.{Keeps, Appends, ReadConsumes, WriteAppends};
-ghost use Rattle.usb_bus.specs.Watch.{inner_of, has_failed, calls_of, known_text, write_fails, AppendsFront, PutsText};
+ghost use Rattle.usb_bus.specs.Watch.{inner_of, has_failed, has_pending, calls_of, known_text, write_fails, write_takes, AppendsFront, PendsFront, PutsText};
 ghost use Rattle.usb_world.specs.declared.types.BusFault.TheVariants.{Failed as trace_failed};
 
 use arrayvec::ArrayVec;
@@ -14,14 +14,16 @@ use usb_world::BusFault;
 /// Room for a line that goes out as one piece, in bytes; the longest line of an attempt has 701.
 const LINE_ROOM: usize = 1024;
 
-/// A reader or writer, whether it has failed, and how often it was called.
+/// A reader or writer, whether it has failed, whether a flush is due, and how often it was called.
 ///
-/// The mark is set where a read or write answers an error, or a write takes nothing of a piece
-/// that is not empty. It is never taken back.
+/// The mark is set if a read, write or flush returns an error, or a write takes nothing of a piece
+/// that is not empty. It is never taken back. A flush is due once a write has taken bytes, until a
+/// flush succeeds.
 #[derive(Debug, Drop)]
 pub struct Watched<T> {
     inner: T,
     failed: bool,
+    pending: bool,
     calls: u64,
 }
 
@@ -30,20 +32,29 @@ impl<T> Watched<T> {
     pub fn new(inner: T) -> Self
         ensures inner { inner_of result ≡ inner }
         ensures fresh { has_failed result ≡ false }
+        ensures flushed { has_pending result ≡ false }
         ensures uncalled { calls_of result ≡ 0 }
     {
         Watched {
             inner,
             failed: false,
+            pending: false,
             calls: 0,
         }
     }
 
-    /// Whether a read or write has failed.
+    /// Whether a read, write or flush has failed.
     pub fn failed(&self) -> bool
         ensures { result ≡ has_failed self.now }
     {
         self.failed
+    }
+
+    /// Whether a write took bytes that no flush has followed which succeeded.
+    pub fn is_pending(&self) -> bool
+        ensures { result ≡ has_pending self.now }
+    {
+        self.pending
     }
 
     /// How many reads and writes there were, up to the greatest `u64`.
@@ -60,6 +71,7 @@ impl<T> Watched<T> {
         let Watched {
             inner,
             failed: _,
+            pending: _,
             calls: _,
         } = self;
         inner
@@ -74,6 +86,7 @@ impl<T: Read> Read for Watched<T> {
         ensures bytes { ReadConsumes (T.remaining (inner_of self.old))
             (T.remaining (inner_of self.new)) result buf.new }
         ensures mark { has_failed self.new ≡ (has_failed self.old || is_err result) }
+        ensures pending { has_pending self.new ≡ has_pending self.old }
         ensures calls { calls_of self.new ≡ min (calls_of self.old + 1) (2 ^ 64 - 1) }
     {
         self.calls = self.calls.saturating_add(1);
@@ -93,26 +106,37 @@ impl<T: Write> Write for Watched<T> {
         ensures bytes { WriteAppends (T.contents (inner_of self.old))
             (T.contents (inner_of self.new)) result buf.now }
         ensures mark { has_failed self.new ≡ (has_failed self.old || write_fails result buf.now) }
+        ensures pending { has_pending self.new ≡ (has_pending self.old || write_takes result) }
         ensures calls { calls_of self.new ≡ min (calls_of self.old + 1) (2 ^ 64 - 1) }
     {
         self.calls = self.calls.saturating_add(1);
         let result = self.inner.write(buf);
-        let failed = match &result {
-            Ok(n) => *n == 0 && !buf.is_empty(),
-            Err(_) => true,
+        let (failed, takes) = match &result {
+            Ok(n) => (*n == 0 && !buf.is_empty(), *n != 0),
+            Err(_) => (true, false),
         };
         if failed {
             self.failed = true;
+        }
+        if takes {
+            self.pending = true;
         }
         result
     }
 
     fn flush(&mut self) -> io::Result<()>
         ensures bytes { Keeps (T.contents (inner_of self.old)) (T.contents (inner_of self.new)) }
-        ensures mark { has_failed self.new ≡ has_failed self.old }
+        ensures mark { has_failed self.new ≡ (has_failed self.old || is_err result) }
+        ensures pending { has_pending self.new ≡ (has_pending self.old && is_err result) }
         ensures calls { calls_of self.new ≡ calls_of self.old }
     {
-        self.inner.flush()
+        let flushed = self.inner.flush();
+        if flushed.is_err() {
+            self.failed = true;
+        } else {
+            self.pending = false;
+        }
+        flushed
     }
 }
 
@@ -134,7 +158,7 @@ impl From<WriteFailed> for BusFault {
 /// # Errors
 ///
 /// A write failed: the writer is marked, and what went out is a front of the piece.
-#[tactic(auto, using(crate::proofs::Fronts::front_kept))]
+#[tactic(auto, using(crate::proofs::Fronts::front_kept, crate::proofs::Fronts::pending_kept))]
 pub fn put_piece<W: Write>(writer: &mut Watched<W>, piece: &[u8]) -> Result<(), WriteFailed>
     ensures front { AppendsFront (W.contents (inner_of writer.old))
         (W.contents (inner_of writer.new)) piece.now }
@@ -142,6 +166,8 @@ pub fn put_piece<W: Write>(writer: &mut Watched<W>, piece: &[u8]) -> Result<(), 
         (W.contents (inner_of writer.new)) piece.now) }
     ensures unmarked { OnOk result (has_failed writer.new ≡ has_failed writer.old) }
     ensures marked { OnErr result (has_failed writer.new ≡ true) }
+    ensures pending { PendsFront (has_pending writer.old) (W.contents (inner_of writer.old))
+        (has_pending writer.new) (W.contents (inner_of writer.new)) piece.now }
 {
     let mut rest = piece;
     'parts: while !rest.is_empty() {

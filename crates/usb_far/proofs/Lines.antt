@@ -1,5 +1,6 @@
 -- How lines and their replies follow each other, and what stops them.
 use Rattle.std.proofs.Common.{◌≡◌, ◌≢◌, ◌⊎◌, inl, inr, ◌∙◌, ℕ, ◌+◌, ◌<◌, ◌≤◌, Bool, true, false}
+use Rattle.std.proofs.Common.{not, ◌&&◌}
 use Rattle.std.proofs.Common.{if◌then◌else◌, List, [], ◌∷◌, ◌++◌, length, take, Option, Ok, Err}
 use Rattle.std.proofs.Common.{Some, refl, sym, ap, subst, arith, append_assoc, append-nil}
 use Rattle.std.proofs.Common.{length-append}
@@ -8,9 +9,10 @@ use Rattle.std.proofs.lemmas.Bool.{false≢true}
 use Rattle.std.proofs.lemmas.List.{take-append-le, take_all}
 use Rattle.std.proofs.lemmas.List.Elements.{All-append}
 use Rattle.std.specs.Io.KnownBytes.{Appends, Consumes}
-use Rattle.usb_bus.specs.{AppendsFront}
-use Rattle.usb_lines.specs.{EndsLine, IsNextLine, IsUnbroken, Pipe, LineFault, Read, Cut}
-use Rattle.usb_wire.specs.{IsQuestion, IsQuestionLine, Question}
+use Rattle.usb_bus.specs.{is_some_text}
+use Rattle.usb_lines.specs.{EndsLine, FailsToFlush, Flushes, IsNextLine, IsUnbroken, OutPipe, Pipe}
+use Rattle.usb_lines.specs.{LineFault, Read, Cut}
+use Rattle.usb_wire.specs.{Answered, IsQuestion, IsQuestionLine, said_line, Question}
 use Rattle.usb_far.specs.{Phase, FarFault, Far, HasNoReply, IsReplied, Played, Replies, done}
 use Rattle.usb_far.specs.{may_ask, reading_fault, AllReplied, HasNoQuestion, HasQuestion, MayGoOn}
 use Rattle.usb_far.specs.{OnlyReads, OnlyReadsLine, Passed, Passes, ReadsOn, ReadsQuestion, Replied}
@@ -18,9 +20,17 @@ use Rattle.usb_far.specs.{Scene, ServedOne, ServedSome, ServesNext, CauseOf, and
 use Rattle.usb_far.specs.{passed, phase_behind}
 use Rattle.usb_far.specs.declared.fault.FarFault.TheVariants as fault
 
+and_true : (b : Bool) → (b && true) ≡ b
+and_true true = refl
+and_true false = refl
+
+and_false : (b : Bool) → (b && false) ≡ false
+and_false true = refl
+and_false false = refl
+
 -- ---- bytes that were read
 
-abbrev pub in_scene : Played → Pipe → Pipe → Scene
+abbrev pub in_scene : Played → Pipe → OutPipe → Scene
 in_scene played reader writer = record { played = played; reader = reader; writer = writer }
 
 -- the first of bytes that were read behind others
@@ -62,6 +72,7 @@ told_line old new line p one read told next far trace reads writer = record {
         (Appends-nil old.played.trace.bytes);
     reads = reads;
     writes = ap (λ w. w.failed) writer;
+    flushed = ap (λ w. w.pending) writer ∙ sym (and_true old.writer.pending);
   };
 }
 
@@ -99,23 +110,34 @@ told_long old new mid front rest more p full one read last ended reads told next
 
 -- ---- questions
 
+-- a reply is no empty text
+some_reply : (xs ys : List ℕ) → is_some_text (xs ++ (ys ++ 10 ∷ [])) ≡ true
+some_reply [] [] = refl
+some_reply [] (y ∷ ys) = refl
+some_reply (x ∷ xs) ys = refl
+
 -- a question that was answered
 pub asked_line : (old new : Scene) (line reply : List ℕ) (q : Question) → IsUnbroken line
     → Consumes old.reader.bytes new.reader.bytes (line ++ 10 ∷ [])
     → ReadsOn old new → HasQuestion line q → Replies q old.played new.played reply
-    → Appends old.writer.bytes new.writer.bytes reply → new.writer.failed ≡ old.writer.failed
-    → ServedOne old new
-asked_line old new line reply q one read reads there replied gone writes = record {
-  passed = passed (line ++ 10 ∷ []) reply (done q old.played.far).traced;
-  replied = Replied.asked line q one there.is there.asks replied.replied;
-  passes = record {
-    read = read;
-    written = gone;
-    traced = replied.traced;
-    reads = reads;
-    writes = writes;
-  };
-}
+    → Flushes old.writer reply new.writer → ServedOne old new
+asked_line old new line reply q one read reads there replied gone =
+    let made = replied.replied in
+    let some : is_some_text reply ≡ true =
+    ap is_some_text made.is ∙ some_reply _ (said_line (Answered made.answer)) in
+    record {
+      passed = passed (line ++ 10 ∷ []) reply (done q old.played.far).traced;
+      replied = Replied.asked line q one there.is there.asks made;
+      passes = record {
+        read = read;
+        written = gone.written;
+        traced = replied.traced;
+        reads = reads;
+        writes = gone.unmarked;
+        flushed = gone.flushed ∙ sym (ap (λ b. old.writer.pending && not b) some
+            ∙ and_false old.writer.pending);
+      };
+    }
 
 reads_question : (old new : Scene) (line : List ℕ) (q : Question) → IsUnbroken line
     → Consumes old.reader.bytes new.reader.bytes (line ++ 10 ∷ [])
@@ -131,32 +153,21 @@ reads_question old new line q one read reads is asks may = record {
   reads = reads;
 }
 
--- one whose reply was not written to its end
+-- one whose reply was not written to its end, or not flushed
 pub asked_torn : (old new : Scene) (line reply : List ℕ) (q : Question) → IsUnbroken line
     → Consumes old.reader.bytes new.reader.bytes (line ++ 10 ∷ [])
     → ReadsOn old new → HasQuestion line q → Replies q old.played new.played reply
-    → AppendsFront old.writer.bytes new.writer.bytes reply → (new.writer.failed ≡ true)
-    ⊎ Appends old.writer.bytes new.writer.bytes reply → CauseOf old new fault.Write
-asked_torn old new line reply q one read reads there replied front (inl failed) =
+    → FailsToFlush old.writer reply new.writer → CauseOf old new fault.Write
+asked_torn old new line reply q one read reads there replied torn =
     CauseOf.unwritten q (reads_question old new line q one read reads there.is there.asks
     replied.replied.asks) (record {
-      gone = front.gone;
-      rest = front.rest;
-      replied = subst (IsReplied q old.played.far new.played.far) front.split replied.replied;
-      written = front.appended;
+      gone = torn.gone;
+      rest = torn.rest;
+      replied = subst (IsReplied q old.played.far new.played.far) torn.split replied.replied;
+      written = torn.written;
       traced = replied.traced;
-      failed = inl failed;
-    })
-asked_torn old new line reply q one read reads there replied front (inr whole) =
-    CauseOf.unwritten q (reads_question old new line q one read reads there.is there.asks
-    replied.replied.asks) (record {
-      gone = reply;
-      rest = [];
-      replied = subst (IsReplied q old.played.far new.played.far) (sym (append-nil reply))
-          replied.replied;
-      written = whole;
-      traced = replied.traced;
-      failed = inr refl;
+      failed = torn.marked;
+      pending = torn.pending;
     })
 
 -- ---- lines that are not answered
@@ -213,7 +224,7 @@ only_bytes old new bytes one read played writer =
     record { unbroken = one; read = read; played = played; writer = writer }
 
 -- in a line of at most 1,024 bytes the reader failed, or the input ended
-pub not_read : (played : Played) (before behind writer : Pipe) (e : LineFault) (f : FarFault)
+pub not_read : (played : Played) (before behind : Pipe) (writer : OutPipe) (e : LineFault) (f : FarFault)
     → f ≡ reading_fault e
     → IsNextLine before.bytes behind.bytes (Err e) → (e ≡ Read → behind.failed ≡ true)
     → (e ≢ Read → behind.failed ≡ before.failed)
@@ -229,7 +240,7 @@ not_read played before behind writer Cut f is front failed still =
     (still (λ (same : Cut ≡ Read). cc)) (inl front.ended))
 
 -- a long line that tells nothing
-pub too_long : (played : Played) (before behind writer : Pipe) (front : List ℕ) (more : ℕ)
+pub too_long : (played : Played) (before behind : Pipe) (writer : OutPipe) (front : List ℕ) (more : ℕ)
     → length front ≡ 1024 → IsUnbroken (front ++ more ∷ [])
     → Consumes before.bytes behind.bytes (front ++ more ∷ []) → behind.failed ≡ before.failed
     → is_told played.far.phase front ≡ false
@@ -242,7 +253,7 @@ too_long played before behind writer front more full one read still other =
     (ap (is_told played.far.phase) first ∙ other) still
 
 -- one that tells something, of which the rest was not read
-pub long_front : (played : Played) (before mid behind writer : Pipe) (front rest : List ℕ)
+pub long_front : (played : Played) (before mid behind : Pipe) (writer : OutPipe) (front rest : List ℕ)
     (more : ℕ) → length front ≡ 1024 → IsUnbroken (front ++ more ∷ [])
     → IsUnbroken rest → Consumes before.bytes mid.bytes (front ++ more ∷ [])
     → Consumes mid.bytes behind.bytes rest
@@ -260,7 +271,7 @@ may_go_on_longer : (phase : Phase) (front rest : List ℕ) (more : ℕ) → leng
 may_go_on_longer phase front rest more full told other =
     absurd (false≢true (sym other ∙ ap (is_told phase) (first_of_long front rest more full) ∙ told))
 
-pub not_skipped : (played : Played) (before mid behind writer : Pipe) (front : List ℕ) (more : ℕ)
+pub not_skipped : (played : Played) (before mid behind : Pipe) (writer : OutPipe) (front : List ℕ) (more : ℕ)
     (e : LineFault) (f : FarFault) → f ≡ reading_fault e
     → length front ≡ 1024 → IsUnbroken (front ++ more ∷ [])
     → Consumes before.bytes mid.bytes (front ++ more ∷ []) → mid.failed ≡ before.failed
@@ -306,8 +317,17 @@ served_none s = record {
     traced = Appends-nil s.played.trace.bytes;
     reads = refl;
     writes = refl;
+    flushed = sym (and_true s.writer.pending);
   };
 }
+
+-- texts that went out one behind the other
+pending_then : (a b c : Bool) (xs ys : List ℕ) → b ≡ (a && not (is_some_text xs))
+    → c ≡ (b && not (is_some_text ys)) → c ≡ (a && not (is_some_text (xs ++ ys)))
+pending_then a b c [] ys first next =
+    next ∙ ap (λ x. x && not (is_some_text ys)) (first ∙ and_true a)
+pending_then a b c (x ∷ xs) ys first next =
+    next ∙ ap (λ y. y && not (is_some_text ys)) (first ∙ and_false a) ∙ sym (and_false a)
 
 passes_then : (a b c : Scene) (p q : Passed) → Passes a p b → Passes b q c
     → Passes a (and_then p q) c
@@ -320,6 +340,7 @@ passes_then a b c p q first second = record {
       q.traced first.traced second.traced;
   reads = second.reads ∙ first.reads;
   writes = second.writes ∙ first.writes;
+  flushed = pending_then _ _ _ p.said q.said first.flushed second.flushed;
 }
 
 pub served_more : (a b c : Scene) (count more : ℕ) → more ≡ count + 1 → ServedSome a count b

@@ -1,13 +1,14 @@
 -- What is read and what goes out, line by line, and why it ends.
-use Rattle.std.specs.Prelude.{◌≡◌, ◌≢◌, ◌⊎◌, ℕ, ◌+◌, ◌-◌, ◌^◌, ◌≤◌, Bool, true, false}
+use Rattle.std.specs.Prelude.{◌≡◌, ◌≢◌, ◌⊎◌, ℕ, ◌+◌, ◌-◌, ◌^◌, ◌≤◌, Bool, true, false, not, ◌&&◌}
+use Rattle.std.specs.Prelude.{◌||◌}
 use Rattle.std.specs.Prelude.{if◌then◌else◌, List, [], ◌∷◌, ◌++◌, take, codes, length, nat_eq}
 use Rattle.std.specs.Prelude.{Option, Result, Ok, Err}
 use Rattle.std.specs.List.{starts_with}
 use Rattle.std.specs.Str.{bytes_eq}
 use Rattle.std.specs.Io.KnownBytes.{Appends, Consumes, IsAtEnd}
 use Rattle.usb_sim.specs.{Ghosts}
-use Rattle.usb_bus.specs.{Watched}
-use Rattle.usb_lines.specs.{IsUnbroken, Pipe, pipe_of}
+use Rattle.usb_bus.specs.{Watched, is_some_text}
+use Rattle.usb_lines.specs.{IsUnbroken, OutPipe, Pipe, out_pipe_of, pipe_of}
 use Rattle.usb_wire.specs.{IsQuestion, IsQuestionLine, all_printable, Question}
 use Rattle.usb_far.specs.declared.far_end.FarEnd.{FarEnd}
 use Rattle.usb_far.specs.declared.far_end.Phase.{Phase}
@@ -73,23 +74,25 @@ pub data AllReplied (old : Far) : ℕ → Passed → Far → Type 0 where
 pub record Scene : Type 0 where
   pub played : Played
   pub reader : Pipe
-  pub writer : Pipe
+  pub writer : OutPipe
 
 abbrev pub scene : {T R W : Type 0} {g : Ghosts T} → (R → Option (List ℕ)) → (W → Option (List ℕ))
     → FarEnd T g → Watched R → Watched W → Scene
 scene remaining contents far reader writer = record {
   played = played_of far;
   reader = pipe_of remaining reader;
-  writer = pipe_of contents writer;
+  writer = out_pipe_of contents writer;
 }
 
--- just that went through, and neither the reader nor the writer failed
+-- exactly that went through, what was said was flushed, and neither the reader nor the writer
+-- failed
 pub record Passes (old : Scene) (p : Passed) (new : Scene) : Type 0 where
   pub read : Consumes old.reader.bytes new.reader.bytes p.asked
   pub written : Appends old.writer.bytes new.writer.bytes p.said
   pub traced : Appends old.played.trace.bytes new.played.trace.bytes p.traced
   pub reads : new.reader.failed ≡ old.reader.failed
   pub writes : new.writer.failed ≡ old.writer.failed
+  pub flushed : new.writer.pending ≡ (old.writer.pending && not (is_some_text p.said))
 
 -- ---- why a line stops the far end
 
@@ -128,15 +131,16 @@ pub record ReadsQuestion (old : Scene) (q : Question) (new : Scene) : Type 0 whe
   pub read : Consumes old.reader.bytes new.reader.bytes (line ++ 10 ∷ [])
   pub reads : ReadsOn old new
 
--- the reply was made and traced, and a front of it has gone out: a write failed; or all of it, and
--- the flush failed
+-- the reply was made and traced, and the writer failed: a front of it has gone out; or all of it,
+-- and the flush failed. Nothing of the next line was read
 pub record IsUnwritten (q : Question) (old new : Scene) : Type 0 where
   pub gone : List ℕ
   pub rest : List ℕ
   pub replied : IsReplied q old.played.far new.played.far (gone ++ rest)
   pub written : Appends old.writer.bytes new.writer.bytes gone
   pub traced : Appends old.played.trace.bytes new.played.trace.bytes (done q old.played.far).traced
-  pub failed : (new.writer.failed ≡ true) ⊎ (rest ≡ [])
+  pub failed : new.writer.failed ≡ true
+  pub pending : new.writer.pending ≡ (old.writer.pending || is_some_text gone)
 
 -- the cause of each fault, with what was read, done and written in that line
 pub data CauseOf (old new : Scene) : FarFault → Type 0 where

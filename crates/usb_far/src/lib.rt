@@ -14,11 +14,13 @@
 //! behind it is the world `after` it (*done*, *far_after*, `specs/FarEnd.antt`); so with root calls and events. The
 //! trace has the lines of just these attempts and events.
 //!
+//! Each reply is flushed, and before the next line is read: if a write or a flush fails, no byte was read after the
+//! question's newline, and each of them may fail (*IsUnwritten*).
+//!
 //! At a fault the lines before the one that is told were answered, and nothing more; *CauseOf* has, for each fault,
 //! what is so of that line, of the reader and the writer, and of the far end behind it: so Read and Write are told
-//! only where the reader or the writer failed, and a fault of the bus only where the bus told it. *Not said*: that a
-//! reply goes out before the next line is read, and that a flush failed where Write is told behind a whole reply.
-//! *Only tested*: the words of the faults.
+//! only where the reader or the writer failed, and a fault of the bus only where the bus told it. *Only tested*: the
+//! words of the faults.
 #![tactic(auto)]
 
 mod attempt;

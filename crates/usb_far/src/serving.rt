@@ -2,7 +2,7 @@
 ghost use Rattle.std.specs.Prelude.{◌≡◌, ◌≤◌, ◌∷◌, ◌++◌, [], ℕ, length, IfErr, IfOk};
 ghost use Rattle.std.specs.Io.KnownBytes.{Consumes};
 ghost use Rattle.usb_lines.specs.Lines.{IsUnbroken};
-ghost use Rattle.usb_lines.specs.Pipes.{Pipe as APipe, pipe_of};
+ghost use Rattle.usb_lines.specs.Pipes.{OutPipe as AnOutPipe, Pipe as APipe, out_pipe_of, pipe_of};
 ghost use Rattle.usb_wire.specs.Words.{all_printable, is_printable};
 ghost use Rattle.usb_far.specs.FarEnd.{played_of};
 ghost use Rattle.usb_far.specs.Serving.{HasNoQuestion, HasQuestion, ServesHost, ServesNext, is_told, phase_behind, scene};
@@ -70,12 +70,12 @@ impl<T: Trace> FarEnd<T> {
             (record {
               played = played_of self.old;
               reader = before;
-              writer = pipe_of W.contents writer.old;
+              writer = out_pipe_of W.contents writer.old;
             }) result
             (record {
               played = played_of self.new;
               reader = behind;
-              writer = pipe_of W.contents writer.new;
+              writer = out_pipe_of W.contents writer.new;
             }) }
     {
         if is_told(self.phase, line) {
@@ -104,7 +104,7 @@ impl<T: Trace> FarEnd<T> {
     ) -> Result<bool, FarFault>
         requires { length front.now ≡ 1024 }
         // Whatever the reader was before it gave that front, and whichever the writer.
-        ensures { (before writer : APipe) (more : ℕ) → IsUnbroken (front.now ++ more ∷ [])
+        ensures { (before : APipe) (writer : AnOutPipe) (more : ℕ) → IsUnbroken (front.now ++ more ∷ [])
             → Consumes before.bytes (pipe_of R.remaining reader.old).bytes (front.now ++ more ∷ [])
             → (pipe_of R.remaining reader.old).failed ≡ before.failed → ServesNext
             (record { played = played_of self.old; reader = before; writer = writer }) result

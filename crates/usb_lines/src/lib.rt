@@ -6,8 +6,9 @@
 //! # What is proved
 //!
 //! Of readers and writers whose bytes are known: what was read is the line with its newline, or all there was, and no
-//! byte of it is another newline (*IsNextLine*, `specs/Lines.antt`); what went out is the lines, or a front of that
-//! where the writer failed. A reader or writer is marked as failed just where that is told, but for a flush.
+//! byte of it is another newline (*IsNextLine*, `specs/Lines.antt`). What went out is the lines, and they were flushed;
+//! or a prefix of them if a write or the flush failed (*PutsLines*, `specs/Pipes.antt`). A reader or writer is marked
+//! as failed exactly if that is told.
 #![tactic(auto)]
 
 mod line;

@@ -1,8 +1,9 @@
 //! Lines, in and out.
-ghost use Rattle.std.specs.Prelude.{◌≡◌, ◌≢◌, ◌≤◌, ◌⊎◌, ◌∷◌, ◌++◌, [], length, true, MatchOption, MatchResult, IfErr, IsErrOf, OnErr, OnOk};
-ghost use Rattle.std.specs.Io.KnownBytes.{Appends, Consumes, IsAtEnd, Keeps};
-ghost use Rattle.usb_bus.specs.Watch.{AppendsFront, has_failed, inner_of};
+ghost use Rattle.std.specs.Prelude.{◌≡◌, ◌≢◌, ◌≤◌, ◌∷◌, ◌++◌, [], length, true, MatchOption, MatchResult, IfErr, IsErrOf, OnErr, OnOk};
+ghost use Rattle.std.specs.Io.KnownBytes.{Consumes, IsAtEnd, Keeps};
+ghost use Rattle.usb_bus.specs.Watch.{has_failed, inner_of};
 ghost use Rattle.usb_lines.specs.Lines.{EndsLine, IsNextLine, ReadsByte};
+ghost use Rattle.usb_lines.specs.Pipes.{PutsLines, out_pipe_of};
 
 use arrayvec::ArrayVec;
 use std::io::{Read, Write};
@@ -115,15 +116,11 @@ fn next_byte<R: Read>(reader: &mut Watched<R>) -> Result<Option<u8>, LineFault>
 /// Writes lines with their newlines, and flushes.
 ///
 /// # Errors
-/// The writer failed: a write did, and is marked, and a front of them has gone out; or all have, and no flush was done.
+/// The writer failed, and is marked: a write did, and a front of the lines has gone out; or the flush did, and all
+/// have.
 pub fn put_lines<W: Write>(writer: &mut Watched<W>, lines: &[u8]) -> Result<(), WriteFailed>
-    ensures front { AppendsFront (W.contents (inner_of writer.old))
-        (W.contents (inner_of writer.new)) lines.now }
-    ensures ok { OnOk result (Appends (W.contents (inner_of writer.old))
-        (W.contents (inner_of writer.new)) lines.now) }
-    ensures unmarked { OnOk result (has_failed writer.new ≡ has_failed writer.old) }
-    ensures marked { OnErr result ((has_failed writer.new ≡ true) ⊎ Appends
-        (W.contents (inner_of writer.old)) (W.contents (inner_of writer.new)) lines.now) }
+    ensures { PutsLines (out_pipe_of W.contents writer.old) lines.now result
+        (out_pipe_of W.contents writer.new) }
 {
     put_piece(writer, lines)?;
     match writer.flush() {

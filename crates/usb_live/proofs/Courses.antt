@@ -1,8 +1,9 @@
 -- How a course goes on at each call.
-use Rattle.std.proofs.Common.{◌≡◌, ◌≢◌, ◌∙◌, ℕ, zero, suc, ◌+◌, ◌≤◌, ◌<◌, ◌⊎◌, inl, inr, List}
+use Rattle.std.proofs.Common.{◌≡◌, ◌≢◌, ◌∙◌, ℕ, zero, suc, ◌+◌, ◌^◌, ◌≤◌, ◌<◌, ◌⊎◌, inl, inr, List}
 use Rattle.std.proofs.Common.{Option, Some, None, Result, Ok, Err, refl, sym, ap, subst, arith}
 use Rattle.std.proofs.Common.{Bool, is_ok, true, false, nat_lt, if◌then◌else◌}
 use Rattle.std.proofs.lemmas.Bool.{cases_lt}
+use Rattle.std.proofs.lemmas.Grind.{not_there}
 use Rattle.arrayvec.specs.ArrayVec.{ArrayVec}
 use Rattle.usb_packet.specs.{Toggle, Zero, One, TokenKind, OutTok, InTok, SetupTok}
 use Rattle.usb_port.specs.{PortCall}
@@ -11,20 +12,21 @@ use Rattle.usb_world.specs.{Attempt, BusFault, Outcome}
 use Rattle.usb_wire.specs.{Answer, setup_by, Endpoint, Speed, Question}
 use Rattle.usb_wire.specs.declared.answer.Answer.TheVariants as answer
 use Rattle.usb_wire.specs.declared.question.Question.TheVariants.{Hello, Wait, Port}
-use Rattle.usb_run.specs.{Item, Listing, Sent, Received, Cleared}
+use Rattle.usb_lines.specs.{OutPipe, Pipe}
+use Rattle.usb_run.specs.{Item, Listing, Sent, Received, Cleared, number_of}
 use Rattle.usb_stream.specs.{AsksNoQuestion, AsksOnce, AttemptsByLine, AttemptsBy, Calls, Kept}
 use Rattle.usb_stream.specs.{SaysHello, WritesLines, bus_fault, greeted, kept_of, question_by}
 use Rattle.usb_stream.specs.{question_for, roots_if, setup_with, line_speed, streams, unasked}
 use Rattle.usb_stream.specs.{unread_of, written_of, StreamBus, LiveFault}
-use Rattle.usb_live.specs.{LiveCourse, CourseTo, EndsBy, StandsAtStage, Lives, is_nothing, is_wait}
-use Rattle.usb_live.specs.{owed_by, owed_left, questions_in, settles, stage_behind}
-use Rattle.usb_live.specs.{stage_behind_answer, told_text, LiveEnd, Line, Memory, Rounds, Owed}
+use Rattle.usb_live.specs.{LiveCourse, CourseTo, EndsBy, EndsLiveAs, IsShown, StandsAtStage, Lives}
+use Rattle.usb_live.specs.{is_nothing, is_wait, listed, owed_by, owed_left, owes, questions_in}
+use Rattle.usb_live.specs.{settles, stage_behind, stage_behind_answer, told_text, LiveEnd, Line, Memory, Rounds, Owed}
 use Rattle.usb_live.specs.{Stage, Asks, EndWanted, Over}
 use Rattle.usb_live.specs.declared.owed.Owed.TheVariants as owed
 
 -- ---- how many questions are left
 
-left_behind : (q : Question) (r0 r1 w0 w1 : Option (List ℕ)) (j : Kept)
+left_behind : (q : Question) (r0 r1 : Pipe) (w0 w1 : OutPipe) (j : Kept)
     (result : Result Answer LiveFault) (k : Kept) → AsksOnce q (streams r0 r1 w0 w1) j result k
     → k.left + questions_in result ≡ j.left
 left_behind q r0 r1 w0 w1 j (Ok got) k h = h.one
@@ -32,49 +34,93 @@ left_behind q r0 r1 w0 w1 j (Err f) k h = h.spent
 
 -- ---- one step
 
-pub on_asks : {st : Stage} {o : Owed} {limit : ℕ} {u b r w : Option (List ℕ)} {k : Kept}
-    → CourseTo st o limit u b r w k → CourseTo Asks o limit u b r w k
-on_asks c = record { asked = c.asked; course = c.course; few = c.few; at = tt }
+pub on_asks : {st : Stage} {o : Owed} {limit m : ℕ} {u r : Pipe} {b w : OutPipe} {k : Kept}
+    → CourseTo st o limit m u b r w k → CourseTo Asks o limit m u b r w k
+on_asks c = record {
+  asked = c.asked;
+  course = c.course;
+  few = c.few;
+  numbered = c.numbered;
+  at = tt;
+}
 
-asked_on : {st : Stage} {o : Owed} {limit : ℕ} {u b : Option (List ℕ)}
-    (r0 r1 w0 w1 : Option (List ℕ)) (j k : Kept) (q : Question)
-    (result : Result Answer LiveFault) → CourseTo st o limit u b r0 w0 j → j.fault ≡ None
+-- ---- how many items are owed
+
+owes_few : (o : Owed) → owes o ≤ 1
+owes_few owed.Nothing = omega arith
+owes_few owed.Listing = omega arith
+owes_few (owed.Send path count) = omega arith
+owes_few (owed.Receive path) = omega arith
+owes_few (owed.Clear path) = omega arith
+
+-- an answer owes one item at most, and a fault none
+owes_by : (result : Result Answer LiveFault) → owes (owed_by result) ≤ questions_in result
+owes_by (Ok got) = owes_few (owed_by (Ok got))
+owes_by (Err f) = omega arith
+
+-- an item that is owed is one
+owes_one : (o : Owed) (item : Item) → settles o item ≡ true → owes o ≡ 1
+owes_one owed.Nothing item fits = cc
+owes_one owed.Listing item fits = refl
+owes_one (owed.Send path count) item fits = refl
+owes_one (owed.Receive path) item fits = refl
+owes_one (owed.Clear path) item fits = refl
+
+number_more : (item : Item) (m : ℕ) → number_of item m ≤ m + 1
+number_more (Listing entries taken) m = omega arith
+number_more (Sent path sent) m = omega arith
+number_more (Received path got) m = omega arith
+number_more (Cleared path all) m = omega arith
+
+-- once it is told, it is a listing more at most, and is owed no more
+owes_told : (o : Owed) (item : Item) (m n : ℕ) (result : Result (Unit {0}) LiveFault)
+    → settles o item ≡ true → m + owes o ≤ n → listed m item result + owes (owed_left o result) ≤ n
+owes_told o item m n (Ok done) fits few =
+    omega (arith, few, owes_one o item fits, number_more item m)
+owes_told o item m n (Err f) fits few = few
+
+asked_on : {st : Stage} {o : Owed} {limit m : ℕ} {u : Pipe} {b : OutPipe}
+    (r0 r1 : Pipe) (w0 w1 : OutPipe) (j k : Kept) (q : Question)
+    (result : Result Answer LiveFault) → CourseTo st o limit m u b r0 w0 j → j.fault ≡ None
     → is_wait q ≡ false
-    → AsksOnce q (streams r0 r1 w0 w1) j result k → CourseTo Asks o limit u b r1 w1 k
+    → AsksOnce q (streams r0 r1 w0 w1) j result k → CourseTo Asks o limit m u b r1 w1 k
 asked_on r0 r1 w0 w1 j k q result c sound plain h =
     let fewer = left_behind q r0 r1 w0 w1 j result k h in
-    let few = c.few in
+    let (few, numbered) = (c.few, c.numbered) in
     record {
       asked = c.asked + questions_in result;
       course = LiveCourse.asked q result c.course sound plain h;
       few = omega (arith, fewer, few);
+      numbered = omega (arith, numbered);
       at = tt;
     }
 
 -- what is wanted was asked
-wanted_on : {st : Stage} {limit : ℕ} {u b : Option (List ℕ)} (r0 r1 w0 w1 : Option (List ℕ))
+wanted_on : {st : Stage} {limit m : ℕ} {u : Pipe} {b : OutPipe} (r0 r1 : Pipe) (w0 w1 : OutPipe)
     (j k : Kept)
-    (result : Result Answer LiveFault) → CourseTo st owed.Nothing limit u b r0 w0 j → j.fault ≡ None
+    (result : Result Answer LiveFault) → CourseTo st owed.Nothing limit m u b r0 w0 j → j.fault ≡ None
     → AsksOnce Wait (streams r0 r1 w0 w1) j result k
-    → CourseTo Asks (owed_by result) limit u b r1 w1 k
+    → CourseTo Asks (owed_by result) limit m u b r1 w1 k
 wanted_on r0 r1 w0 w1 j k result c sound h =
     let fewer = left_behind Wait r0 r1 w0 w1 j result k h in
-    let few = c.few in
+    let (few, numbered) = (c.few, c.numbered) in
     record {
       asked = c.asked + questions_in result;
       course = LiveCourse.wanted result c.course sound h;
       few = omega (arith, fewer, few);
+      numbered = omega (arith, numbered, owes_by result);
       at = tt;
     }
 
-course_nothing_asked : {st : Stage} {o : Owed} {limit : ℕ} {u b : Option (List ℕ)}
-    (r0 r1 w0 w1 : Option (List ℕ)) (j k : Kept) → CourseTo st o limit u b r0 w0 j
-    → AsksNoQuestion (streams r0 r1 w0 w1) j k → CourseTo Asks o limit u b r1 w1 k
+course_nothing_asked : {st : Stage} {o : Owed} {limit m : ℕ} {u : Pipe} {b : OutPipe}
+    (r0 r1 : Pipe) (w0 w1 : OutPipe) (j k : Kept) → CourseTo st o limit m u b r0 w0 j
+    → AsksNoQuestion (streams r0 r1 w0 w1) j k → CourseTo Asks o limit m u b r1 w1 k
 course_nothing_asked r0 r1 w0 w1 j k c h =
     record {
       asked = c.asked;
       course = LiveCourse.still c.course h;
       few = ap (λ (x : Kept). c.asked + x.left) h.same ∙ c.few;
+      numbered = c.numbered;
       at = tt;
     }
 
@@ -103,11 +149,11 @@ attempt_plain : (a : Attempt) → asks_wait (question_for a) ≡ false
 attempt_plain a = by_plain a.kind (line_speed a.low a.pre)
     (record { address = a.addr; number = a.ep }) a.max a.payload
 
-attempts_on : {st : Stage} {o : Owed} {limit : ℕ} {u b : Option (List ℕ)}
-    (r0 r1 w0 w1 : Option (List ℕ)) (j k : Kept) (q : Option Question)
+attempts_on : {st : Stage} {o : Owed} {limit m : ℕ} {u : Pipe} {b : OutPipe}
+    (r0 r1 : Pipe) (w0 w1 : OutPipe) (j k : Kept) (q : Option Question)
     (most : ℕ) (result : Result Outcome BusFault) → asks_wait q ≡ false
-    → CourseTo st o limit u b r0 w0 j → j.fault ≡ None
-    → AttemptsBy q most (streams r0 r1 w0 w1) j result k → CourseTo Asks o limit u b r1 w1 k
+    → CourseTo st o limit m u b r0 w0 j → j.fault ≡ None
+    → AttemptsBy q most (streams r0 r1 w0 w1) j result k → CourseTo Asks o limit m u b r1 w1 k
 attempts_on r0 r1 w0 w1 j k (Some q) most (Ok outcome) plain c sound h =
     asked_on r0 r1 w0 w1 j k q (Ok h.got) c sound plain h.asked
 attempts_on r0 r1 w0 w1 j k (Some q) most (Err told) plain c sound h =
@@ -118,30 +164,30 @@ attempts_on r0 r1 w0 w1 j k None most result plain c sound h =
 -- ---- one call, of a bus that may have a fault
 
 -- behind a fault nothing goes on
-by_fault : {R W : Type 0} (rem : R → Option (List ℕ)) (con : W → Option (List ℕ)) (limit : ℕ)
-    (u b : Option (List ℕ)) (old new : StreamBus R W) (st : Stage)
+by_fault : {R W : Type 0} (rem : R → Option (List ℕ)) (con : W → Option (List ℕ)) (limit m : ℕ)
+    (u : Pipe) (b : OutPipe) (old new : StreamBus R W) (st : Stage)
     (ow : Owed) (o : Option LiveFault) → (kept_of old).fault ≡ o
     → ((f : LiveFault) → (kept_of old).fault ≡ Some f → new ≡ old)
-    → ((kept_of old).fault ≡ None → CourseTo Asks ow limit u b (unread_of rem new)
+    → ((kept_of old).fault ≡ None → CourseTo Asks ow limit m u b (unread_of rem new)
     (written_of con new) (kept_of new))
-    → CourseTo st ow limit u b (unread_of rem old) (written_of con old) (kept_of old)
-    → CourseTo Asks ow limit u b (unread_of rem new) (written_of con new) (kept_of new)
-by_fault {R} {W} rem con limit u b old new st ow (Some f) is same on c =
-    subst (λ (x : StreamBus R W). CourseTo Asks ow limit u b (unread_of rem x) (written_of con x)
+    → CourseTo st ow limit m u b (unread_of rem old) (written_of con old) (kept_of old)
+    → CourseTo Asks ow limit m u b (unread_of rem new) (written_of con new) (kept_of new)
+by_fault {R} {W} rem con limit m u b old new st ow (Some f) is same on c =
+    subst (λ (x : StreamBus R W). CourseTo Asks ow limit m u b (unread_of rem x) (written_of con x)
     (kept_of x)) (sym (same f is)) (on_asks c)
-by_fault rem con limit u b old new st ow None is same on c = on is
+by_fault rem con limit m u b old new st ow None is same on c = on is
 
-pub attempt_on : {R W : Type 0} (rem : R → Option (List ℕ)) (con : W → Option (List ℕ)) (limit : ℕ)
-    (u b : Option (List ℕ)) (old new : StreamBus R W) (st : Stage)
+pub attempt_on : {R W : Type 0} (rem : R → Option (List ℕ)) (con : W → Option (List ℕ)) (limit m : ℕ)
+    (u : Pipe) (b : OutPipe) (old new : StreamBus R W) (st : Stage)
     (ow : Owed) (a : Attempt) (result : Result Outcome BusFault)
     → ((f : LiveFault) → (kept_of old).fault ≡ Some f → (result ≡ Err (bus_fault f)) × (new ≡ old))
     → ((kept_of old).fault ≡ None → AttemptsByLine a
     (streams (unread_of rem old) (unread_of rem new) (written_of con old)
     (written_of con new)) (kept_of old) result (kept_of new))
-    → CourseTo st ow limit u b (unread_of rem old) (written_of con old) (kept_of old)
-    → CourseTo Asks ow limit u b (unread_of rem new) (written_of con new) (kept_of new)
-attempt_on rem con limit u b old new st ow a result again asks c =
-    by_fault rem con limit u b old new st ow (kept_of old).fault refl (λ f e. (again f e).1)
+    → CourseTo st ow limit m u b (unread_of rem old) (written_of con old) (kept_of old)
+    → CourseTo Asks ow limit m u b (unread_of rem new) (written_of con new) (kept_of new)
+attempt_on rem con limit m u b old new st ow a result again asks c =
+    by_fault rem con limit m u b old new st ow (kept_of old).fault refl (λ f e. (again f e).1)
     (λ e. attempts_on (unread_of rem old) (unread_of rem new) (written_of con old)
     (written_of con new) (kept_of old) (kept_of new) (question_for a) a.max result
     (attempt_plain a) c e (asks e)) c
@@ -158,10 +204,10 @@ port_within_roots zero roots none one beyond = none refl
 port_within_roots (suc p) roots none one beyond =
     beyond_or p roots one beyond (cases_lt roots (suc p))
 
-calls_by : {st : Stage} {o : Owed} {limit : ℕ} {u b : Option (List ℕ)}
-    (r0 r1 w0 w1 : Option (List ℕ)) (j k : Kept) (port : ℕ) (call : Option PortCall)
-    → CourseTo st o limit u b r0 w0 j → j.fault ≡ None → Calls port call (streams r0 r1 w0 w1) j k
-    → CourseTo Asks o limit u b r1 w1 k
+calls_by : {st : Stage} {o : Owed} {limit m : ℕ} {u : Pipe} {b : OutPipe}
+    (r0 r1 : Pipe) (w0 w1 : OutPipe) (j k : Kept) (port : ℕ) (call : Option PortCall)
+    → CourseTo st o limit m u b r0 w0 j → j.fault ≡ None → Calls port call (streams r0 r1 w0 w1) j k
+    → CourseTo Asks o limit m u b r1 w1 k
 calls_by r0 r1 w0 w1 j k port None c sound h = course_nothing_asked r0 r1 w0 w1 j k c h
 calls_by r0 r1 w0 w1 j k port (Some call) c sound h =
     port_within_roots port j.roots (λ e. course_nothing_asked r0 r1 w0 w1 j k c (h.1 e))
@@ -169,27 +215,27 @@ calls_by r0 r1 w0 w1 j k port (Some call) c sound h =
     c sound refl one.asked)
     (λ beyond. course_nothing_asked r0 r1 w0 w1 j k c (h.2 beyond))
 
-pub call_on : {R W : Type 0} (rem : R → Option (List ℕ)) (con : W → Option (List ℕ)) (limit : ℕ)
-    (u b : Option (List ℕ)) (old new : StreamBus R W) (st : Stage)
+pub call_on : {R W : Type 0} (rem : R → Option (List ℕ)) (con : W → Option (List ℕ)) (limit m : ℕ)
+    (u : Pipe) (b : OutPipe) (old new : StreamBus R W) (st : Stage)
     (ow : Owed) (port : ℕ) (call : Option PortCall) → ((kept_of old).fault ≢ None → new ≡ old)
     → ((kept_of old).fault ≡ None → Calls port call
     (streams (unread_of rem old) (unread_of rem new) (written_of con old)
     (written_of con new)) (kept_of old) (kept_of new))
-    → CourseTo st ow limit u b (unread_of rem old) (written_of con old) (kept_of old)
-    → CourseTo Asks ow limit u b (unread_of rem new) (written_of con new) (kept_of new)
-call_on rem con limit u b old new st ow port call again asks c =
-    by_fault rem con limit u b old new st ow (kept_of old).fault refl
+    → CourseTo st ow limit m u b (unread_of rem old) (written_of con old) (kept_of old)
+    → CourseTo Asks ow limit m u b (unread_of rem new) (written_of con new) (kept_of new)
+call_on rem con limit m u b old new st ow port call again asks c =
+    by_fault rem con limit m u b old new st ow (kept_of old).fault refl
     (λ f e. again (λ none. let clash : Some f ≡ None = sym e ∙ none in cc))
     (λ e. calls_by (unread_of rem old) (unread_of rem new) (written_of con old) (written_of con new)
     (kept_of old) (kept_of new) port call c e (asks e)) c
 
 -- ---- what is wanted, and what is told
 
-waits_by : {st : Stage} {limit : ℕ} {u b : Option (List ℕ)} (r0 r1 w0 w1 : Option (List ℕ))
+waits_by : {st : Stage} {limit m : ℕ} {u : Pipe} {b : OutPipe} (r0 r1 : Pipe) (w0 w1 : OutPipe)
     (j k : Kept) (result : Result Answer LiveFault)
-    → CourseTo st owed.Nothing limit u b r0 w0 j → j.fault ≡ None
+    → CourseTo st owed.Nothing limit m u b r0 w0 j → j.fault ≡ None
     → AsksOnce Wait (streams r0 r1 w0 w1) j result k
-    → CourseTo (stage_behind_answer result) (owed_by result) limit u b r1 w1 k
+    → CourseTo (stage_behind_answer result) (owed_by result) limit m u b r1 w1 k
 unfolding wanted_on
 waits_by r0 r1 w0 w1 j k (Ok answer.End) c sound h =
     let on = wanted_on r0 r1 w0 w1 j k (Ok answer.End) c sound h in
@@ -197,6 +243,7 @@ waits_by r0 r1 w0 w1 j k (Ok answer.End) c sound h =
       asked = on.asked;
       course = on.course;
       few = on.few;
+      numbered = on.numbered;
       at = record {
         r = r0;
         w = w0;
@@ -240,134 +287,169 @@ nothing_is (owed.Receive path) h = cc
 nothing_is (owed.Clear path) h = cc
 
 -- behind a fault it is told again, and the stage is as at any other answer
-pub wait_on : {R W : Type 0} (rem : R → Option (List ℕ)) (con : W → Option (List ℕ)) (limit : ℕ)
-    (u b : Option (List ℕ)) (old new : StreamBus R W) (st : Stage)
+pub wait_on : {R W : Type 0} (rem : R → Option (List ℕ)) (con : W → Option (List ℕ)) (limit m : ℕ)
+    (u : Pipe) (b : OutPipe) (old new : StreamBus R W) (st : Stage)
     (result : Result Answer LiveFault) (o : Option LiveFault) → (kept_of old).fault ≡ o
     → ((f : LiveFault) → (kept_of old).fault ≡ Some f → (result ≡ Err f) × (new ≡ old))
     → ((kept_of old).fault ≡ None → AsksOnce Wait
     (streams (unread_of rem old) (unread_of rem new) (written_of con old)
     (written_of con new)) (kept_of old) result (kept_of new))
-    → CourseTo st owed.Nothing limit u b (unread_of rem old) (written_of con old) (kept_of old)
-    → CourseTo (stage_behind_answer result) (owed_by result) limit u b (unread_of rem new)
+    → CourseTo st owed.Nothing limit m u b (unread_of rem old) (written_of con old) (kept_of old)
+    → CourseTo (stage_behind_answer result) (owed_by result) limit m u b (unread_of rem new)
     (written_of con new) (kept_of new)
-wait_on {R} {W} rem con limit u b old new st result (Some f) is again asks c =
+wait_on {R} {W} rem con limit m u b old new st result (Some f) is again asks c =
     let (told, same) = again f is in
-    subst (λ (a : Result Answer LiveFault). CourseTo (stage_behind_answer a) (owed_by a) limit u b
+    subst (λ (a : Result Answer LiveFault). CourseTo (stage_behind_answer a) (owed_by a) limit m u b
     (unread_of rem new) (written_of con new) (kept_of new)) (sym told)
-    (subst (λ (x : StreamBus R W). CourseTo Asks owed.Nothing limit u b (unread_of rem x)
+    (subst (λ (x : StreamBus R W). CourseTo Asks owed.Nothing limit m u b (unread_of rem x)
     (written_of con x) (kept_of x)) (sym same) (on_asks c))
-wait_on rem con limit u b old new st result None is again asks c =
+wait_on rem con limit m u b old new st result None is again asks c =
     waits_by (unread_of rem old) (unread_of rem new) (written_of con old) (written_of con new)
     (kept_of old) (kept_of new) result c is (asks is)
 
-told_on : {st : Stage} {o : Owed} {limit : ℕ} {u b : Option (List ℕ)} (r w0 w1 : Option (List ℕ))
-    (j k : Kept) (number : ℕ) (item : Item)
-    (result : Result (Unit {0}) LiveFault) → CourseTo st o limit u b r w0 j → j.fault ≡ None
-    → k.left ≡ j.left → settles o item ≡ true → WritesLines (told_text number item) w0 w1 j result k
-    → CourseTo Asks (owed_left o result) limit u b r w1 k
-told_on r w0 w1 j k number item result c sound same fits h = record {
+told_on : {st : Stage} {o : Owed} {limit m : ℕ} {u : Pipe} {b : OutPipe} (r : Pipe)
+    (w0 w1 : OutPipe) (j k : Kept) (item : Item) (result : Result (Unit {0}) LiveFault)
+    → CourseTo st o limit m u b r w0 j → j.fault ≡ None → k.left ≡ j.left → settles o item ≡ true
+    → IsShown item → WritesLines (told_text (number_of item m) item) w0 w1 j result k
+    → CourseTo Asks (owed_left o result) limit (listed m item result) u b r w1 k
+told_on {st} {o} {limit} {m} r w0 w1 j k item result c sound same fits shown h = record {
   asked = c.asked;
-  course = LiveCourse.told number item result c.course sound fits h;
+  course = LiveCourse.told item result c.course sound fits shown h;
   few = ap (λ (n : ℕ). c.asked + n) same ∙ c.few;
+  numbered = owes_told o item m c.asked result fits c.numbered;
   at = tt;
 }
 
 -- none of the questions is used
-same_left : (lines : List ℕ) (w0 w1 : Option (List ℕ)) (j : Kept)
+same_left : (lines : List ℕ) (w0 w1 : OutPipe) (j : Kept)
     (result : Result (Unit {0}) LiveFault) (k : Kept) → WritesLines lines w0 w1 j result k
     → k.left ≡ j.left
 same_left lines w0 w1 j (Ok done) k h = ap (λ (x : Kept). x.left) h.1
 same_left lines w0 w1 j (Err f) k h = ap (λ (x : Kept). x.left) h.2
 
-course_tells : {o : Owed} {limit : ℕ} {u b : Option (List ℕ)} (st : Stage)
-    (r w0 w1 : Option (List ℕ)) (j k : Kept) (number : ℕ) (item : Item) (done : Unit {0})
-    → CourseTo st o limit u b r w0 j → j.fault ≡ None → settles o item ≡ true
-    → WritesLines (told_text number item) w0 w1 j (Ok done) k
-    → CourseTo (stage_behind st item) owed.Nothing limit u b r w1 k
+course_tells : {o : Owed} {limit m : ℕ} {u : Pipe} {b : OutPipe} (st : Stage) (r : Pipe)
+    (w0 w1 : OutPipe) (j k : Kept) (item : Item) (done : Unit {0})
+    → CourseTo st o limit m u b r w0 j → j.fault ≡ None → settles o item ≡ true → IsShown item
+    → WritesLines (told_text (number_of item m) item) w0 w1 j (Ok done) k
+    → CourseTo (stage_behind st item) owed.Nothing limit (number_of item m) u b r w1 k
 unfolding told_on
-course_tells Asks r w0 w1 j k number item done c sound fits h =
-    told_on r w0 w1 j k number item (Ok done) c sound
-    (same_left (told_text number item) w0 w1 j (Ok done) k h) fits h
-course_tells Over r w0 w1 j k number item done c sound fits h =
-    told_on r w0 w1 j k number item (Ok done) c sound
-    (same_left (told_text number item) w0 w1 j (Ok done) k h) fits h
-course_tells EndWanted r w0 w1 j k number (Listing entries taken) done c sound fits h =
-    let same = same_left (told_text number (Listing entries taken)) w0 w1 j (Ok done) k h in
-    let on = told_on r w0 w1 j k number (Listing entries taken) (Ok done) c sound same fits h in
+course_tells {o} {limit} {m} Asks r w0 w1 j k item done c sound fits shown h =
+    told_on r w0 w1 j k item (Ok done) c sound
+    (same_left (told_text (number_of item m) item) w0 w1 j (Ok done) k h) fits shown h
+course_tells {o} {limit} {m} Over r w0 w1 j k item done c sound fits shown h =
+    told_on r w0 w1 j k item (Ok done) c sound
+    (same_left (told_text (number_of item m) item) w0 w1 j (Ok done) k h) fits shown h
+course_tells {o} {limit} {m} EndWanted r w0 w1 j k (Listing entries taken) done c sound fits shown h
+    =
+    let same = same_left (told_text (m + 1) (Listing entries taken)) w0 w1 j (Ok done) k h in
+    let on = told_on r w0 w1 j k (Listing entries taken) (Ok done) c sound same fits shown h in
     record {
       asked = on.asked;
       course = on.course;
       few = on.few;
-      at = record { w = w0; j = j; wanted = c.at; number = number; entries = entries; listed = h };
+      numbered = on.numbered;
+      at = record {
+        count = m;
+        w = w0;
+        j = j;
+        wanted = c.at;
+        entries = entries;
+        shown = shown;
+        listed = h;
+      };
     }
-course_tells EndWanted r w0 w1 j k number (Sent path sent) done c sound fits h =
-    told_on r w0 w1 j k number (Sent path sent) (Ok done) c sound
-    (same_left (told_text number (Sent path sent)) w0 w1 j (Ok done) k h) fits h
-course_tells EndWanted r w0 w1 j k number (Received path got) done c sound fits h =
-    told_on r w0 w1 j k number (Received path got) (Ok done) c sound
-    (same_left (told_text number (Received path got)) w0 w1 j (Ok done) k h) fits h
-course_tells EndWanted r w0 w1 j k number (Cleared path all) done c sound fits h =
-    told_on r w0 w1 j k number (Cleared path all) (Ok done) c sound
-    (same_left (told_text number (Cleared path all)) w0 w1 j (Ok done) k h) fits h
+course_tells {o} {limit} {m} EndWanted r w0 w1 j k (Sent path sent) done c sound fits shown h =
+    told_on r w0 w1 j k (Sent path sent) (Ok done) c sound
+    (same_left (told_text m (Sent path sent)) w0 w1 j (Ok done) k h) fits shown h
+course_tells {o} {limit} {m} EndWanted r w0 w1 j k (Received path got) done c sound fits shown h =
+    told_on r w0 w1 j k (Received path got) (Ok done) c sound
+    (same_left (told_text m (Received path got)) w0 w1 j (Ok done) k h) fits shown h
+course_tells {o} {limit} {m} EndWanted r w0 w1 j k (Cleared path all) done c sound fits shown h =
+    told_on r w0 w1 j k (Cleared path all) (Ok done) c sound
+    (same_left (told_text m (Cleared path all)) w0 w1 j (Ok done) k h) fits shown h
 
 -- an item was told well; the reader stays
-pub tell_on : {R W : Type 0} (rem : R → Option (List ℕ)) (con : W → Option (List ℕ)) (limit : ℕ)
-    (u b : Option (List ℕ)) (old new : StreamBus R W) (st : Stage)
-    (ow : Owed) (number : ℕ) (item : Item) (text : List ℕ) (result : Result (Unit {0}) LiveFault)
+pub tell_on : {R W : Type 0} (rem : R → Option (List ℕ)) (con : W → Option (List ℕ)) (limit m : ℕ)
+    (u : Pipe) (b : OutPipe) (old new : StreamBus R W) (st : Stage)
+    (ow : Owed) (item : Item) (text : List ℕ) (result : Result (Unit {0}) LiveFault)
     (o : Option LiveFault)
-    → is_ok result ≡ true → text ≡ told_text number item → settles ow item ≡ true
-    → (kept_of old).fault ≡ o
+    → is_ok result ≡ true → text ≡ told_text (number_of item m) item → settles ow item ≡ true
+    → IsShown item → (kept_of old).fault ≡ o
     → ((f : LiveFault) → (kept_of old).fault ≡ Some f → (result ≡ Err f) × (new ≡ old))
     → unread_of rem new ≡ unread_of rem old
     → ((kept_of old).fault ≡ None → WritesLines text (written_of con old) (written_of con new)
     (kept_of old) result (kept_of new))
-    → CourseTo st ow limit u b (unread_of rem old) (written_of con old) (kept_of old)
-    → CourseTo (stage_behind st item) owed.Nothing limit u b (unread_of rem new)
+    → CourseTo st ow limit m u b (unread_of rem old) (written_of con old) (kept_of old)
+    → CourseTo (stage_behind st item) owed.Nothing limit (number_of item m) u b (unread_of rem new)
     (written_of con new) (kept_of new)
-tell_on rem con limit u b old new st ow number item text (Err e) o ok spelled fits is again reader
+tell_on rem con limit m u b old new st ow item text (Err e) o ok spelled fits shown is again reader
     told c = cc
-tell_on rem con limit u b old new st ow number item text (Ok done) (Some f) ok spelled fits is again
-    reader told c = let (clash, same) = again f is in cc
-tell_on rem con limit u b old new st ow number item text (Ok done) None ok spelled fits is again
+tell_on rem con limit m u b old new st ow item text (Ok done) (Some f) ok spelled fits shown is
+    again reader told c = let (clash, same) = again f is in cc
+tell_on rem con limit m u b old new st ow item text (Ok done) None ok spelled fits shown is again
     reader told c =
     let so = subst (λ (t : List ℕ). WritesLines t (written_of con old) (written_of con new)
     (kept_of old) (Ok done) (kept_of new)) spelled (told is) in
-    subst (λ (r : Option (List ℕ)). CourseTo (stage_behind st item) owed.Nothing limit u b r
+    subst (λ (r : Pipe). CourseTo (stage_behind st item) owed.Nothing limit (number_of item m) u b r
     (written_of con new) (kept_of new)) (sym reader)
     (course_tells st (unread_of rem old) (written_of con old) (written_of con new) (kept_of old)
-    (kept_of new) number item done c is fits so)
+    (kept_of new) item done c is fits shown so)
 
 -- the writer failed, and what is owed is owed still
-tells_off : {st : Stage} {o : Owed} {limit : ℕ} {u b : Option (List ℕ)} (r w0 w1 : Option (List ℕ))
-    (j k : Kept) (number : ℕ) (item : Item)
-    (result : Result (Unit {0}) LiveFault) → is_ok result ≡ false → CourseTo st o limit u b r w0 j
-    → j.fault ≡ None → settles o item ≡ true
-    → WritesLines (told_text number item) w0 w1 j result k → CourseTo Asks o limit u b r w1 k
-tells_off r w0 w1 j k number item (Ok done) bad c sound fits h = cc
-tells_off r w0 w1 j k number item (Err f) bad c sound fits h =
-    told_on r w0 w1 j k number item (Err f) c sound
-    (same_left (told_text number item) w0 w1 j (Err f) k h) fits h
+tells_off : {st : Stage} {o : Owed} {limit m : ℕ} {u : Pipe} {b : OutPipe} (r : Pipe)
+    (w0 w1 : OutPipe) (j k : Kept) (item : Item)
+    (result : Result (Unit {0}) LiveFault) → is_ok result ≡ false
+    → CourseTo st o limit m u b r w0 j → j.fault ≡ None → settles o item ≡ true → IsShown item
+    → WritesLines (told_text (number_of item m) item) w0 w1 j result k
+    → CourseTo Asks o limit m u b r w1 k
+tells_off r w0 w1 j k item (Ok done) bad c sound fits shown h = cc
+tells_off {st} {o} {limit} {m} r w0 w1 j k item (Err f) bad c sound fits shown h =
+    told_on r w0 w1 j k item (Err f) c sound
+    (same_left (told_text (number_of item m) item) w0 w1 j (Err f) k h) fits shown h
 
 -- an item was told, or a front of it
-pub tell_off : {R W : Type 0} (rem : R → Option (List ℕ)) (con : W → Option (List ℕ)) (limit : ℕ)
-    (u b : Option (List ℕ)) (old new : StreamBus R W) (st : Stage)
-    (ow : Owed) (number : ℕ) (item : Item) (text : List ℕ) (result : Result (Unit {0}) LiveFault)
-    → is_ok result ≡ false → text ≡ told_text number item → settles ow item ≡ true
+pub tell_off : {R W : Type 0} (rem : R → Option (List ℕ)) (con : W → Option (List ℕ)) (limit m : ℕ)
+    (u : Pipe) (b : OutPipe) (old new : StreamBus R W) (st : Stage)
+    (ow : Owed) (item : Item) (text : List ℕ) (result : Result (Unit {0}) LiveFault)
+    → is_ok result ≡ false → text ≡ told_text (number_of item m) item → settles ow item ≡ true
+    → IsShown item
     → ((f : LiveFault) → (kept_of old).fault ≡ Some f → (result ≡ Err f) × (new ≡ old))
     → unread_of rem new ≡ unread_of rem old
     → ((kept_of old).fault ≡ None → WritesLines text (written_of con old) (written_of con new)
     (kept_of old) result (kept_of new))
-    → CourseTo st ow limit u b (unread_of rem old) (written_of con old) (kept_of old)
-    → CourseTo Asks ow limit u b (unread_of rem new) (written_of con new) (kept_of new)
-tell_off rem con limit u b old new st ow number item text result bad spelled fits again reader told
+    → CourseTo st ow limit m u b (unread_of rem old) (written_of con old) (kept_of old)
+    → CourseTo Asks ow limit m u b (unread_of rem new) (written_of con new) (kept_of new)
+tell_off rem con limit m u b old new st ow item text result bad spelled fits shown again reader told
     c =
-    by_fault rem con limit u b old new st ow (kept_of old).fault refl (λ f is. (again f is).1)
+    by_fault rem con limit m u b old new st ow (kept_of old).fault refl (λ f is. (again f is).1)
     (λ is. let so = subst (λ (t : List ℕ). WritesLines t (written_of con old) (written_of con new)
     (kept_of old) result (kept_of new)) spelled (told is) in
-    subst (λ (r : Option (List ℕ)). CourseTo Asks ow limit u b r (written_of con new) (kept_of new))
+    subst (λ (r : Pipe). CourseTo Asks ow limit m u b r (written_of con new) (kept_of new))
     (sym reader)
     (tells_off (unread_of rem old) (written_of con old) (written_of con new) (kept_of old)
-    (kept_of new) number item result bad c is fits so)) c
+    (kept_of new) item result bad c is fits shown so)) c
+
+-- the number of one listing more has room
+number_fits : (count n left limit : ℕ) (o : Owed) → is_nothing o ≡ false → count + owes o ≤ n
+    → n + left ≡ limit → limit < 2 ^ 64 → count + 1 < 2 ^ 64
+number_fits count n left limit owed.Nothing some few all bound = cc
+number_fits count n left limit owed.Listing some few all bound = omega (arith, few, all, bound)
+number_fits count n left limit (owed.Send path k) some few all bound =
+    omega (arith, few, all, bound)
+number_fits count n left limit (owed.Receive path) some few all bound =
+    omega (arith, few, all, bound)
+number_fits count n left limit (owed.Clear path) some few all bound =
+    omega (arith, few, all, bound)
+
+pub has_number : {st : Stage} {o : Owed} {limit m : ℕ} {u r : Pipe} {b w : OutPipe} {k : Kept}
+    → is_nothing o ≡ false → limit < 2 ^ 64 → ∥ CourseTo st o limit m u b r w k ∥₁
+    → m + 1 < 2 ^ 64
+has_number {st} {o} {limit} {m} some bound course =
+    elim (cases_lt (m + 1) (2 ^ 64)) [
+      | inl less ↦ less
+      | inr more ↦ absurd (not_there course (λ c. let fits = number_fits m c.asked _ limit o some
+          c.numbered c.few bound in omega (arith, fits, more)))
+    ]
 
 -- ---- the hello
 
@@ -396,9 +478,9 @@ left_greeted (Ok (answer.Receive path packets)) k = refl
 left_greeted (Ok (answer.Clear path)) k = refl
 left_greeted (Err f) k = refl
 
-greeted_course : {limit : ℕ} (u r b w : Option (List ℕ)) (mid : Kept)
+greeted_course : {limit : ℕ} (u r : Pipe) (b w : OutPipe) (mid : Kept)
     (result : Result Answer LiveFault) → AsksOnce Hello (streams u r b w) (unasked limit) result mid
-    → CourseTo Asks owed.Nothing limit u b r w (greeted result mid)
+    → CourseTo Asks owed.Nothing limit 0 u b r w (greeted result mid)
 greeted_course {limit} u r b w mid result h =
     let fewer = left_behind Hello u r b w (unasked limit) result mid h in
     let same = left_greeted result mid in
@@ -406,58 +488,44 @@ greeted_course {limit} u r b w mid result h =
       asked = questions_in result;
       course = LiveCourse.opened mid result h;
       few = omega (arith, fewer, same);
+      numbered = omega arith;
       at = tt;
     }
 
-pub opens : {limit : ℕ} (u r b w : Option (List ℕ)) (k : Kept) → SaysHello limit (streams u r b w) k
-    → CourseTo Asks owed.Nothing limit u b r w k
-opens {limit} u r b w k h = subst (λ (x : Kept). CourseTo Asks owed.Nothing limit u b r w x)
+pub opens : {limit : ℕ} (u r : Pipe) (b w : OutPipe) (k : Kept) → SaysHello limit (streams u r b w) k
+    → CourseTo Asks owed.Nothing limit 0 u b r w k
+opens {limit} u r b w k h = subst (λ (x : Kept). CourseTo Asks owed.Nothing limit 0 u b r w x)
     (sym h.kept) (greeted_course u r b w h.mid h.result h.asked)
 
 -- ---- the end
 
-pub lives : {st : Stage} {o : Owed} {limit : ℕ} {u b r w : Option (List ℕ)} {k : Kept}
-    (fault : Option LiveFault) (lines : ℕ)
-    (ended : Result (Unit {0}) LiveEnd) → fault ≡ k.fault → lines ≡ k.lines
-    → EndsBy fault lines st ended → CourseTo st o limit u b r w k → Lives limit u r b w ended
-lives {st} {o} {limit} {u} {b} {r} {w} {k} fault lines (Ok done) is same by c =
+ends_as : {st : Stage} {o : Owed} {limit m : ℕ} {u r : Pipe} {b w : OutPipe} {k : Kept}
+    (fault : Option LiveFault) (lines left : ℕ)
+    (ended : Result (Unit {0}) LiveEnd) → fault ≡ k.fault → lines ≡ k.lines → left ≡ k.left
+    → EndsBy fault lines left st ended → (c : CourseTo st o limit m u b r w k)
+    → EndsLiveAs ended limit u b r w k c.asked
+ends_as {st} {o} {limit} {m} {u} {r} {b} {w} {k} fault lines left (Ok done) is same none by c =
+    subst (λ (s : Stage). StandsAtStage s limit m u b r w k c.asked) by.1 c.at
+ends_as fault lines left (Err (Line number f)) is same none by c = (sym is ∙ by.0, by.1 ∙ same)
+ends_as fault lines left (Err (Rounds number)) is same none by c =
     let few = c.few in
-    let over = subst (λ (s : Stage). StandsAtStage s limit u b r w k c.asked) by.1 c.at in
-    record {
-      asked = c.asked;
-      kept = k;
-      owes = o;
-      course = c.course;
-      few = omega (arith, few);
-      ends = over;
-    }
-lives {st} {o} {limit} {u} {b} {r} {w} {k} fault lines (Err (Line number f)) is same by c =
-    let few = c.few in
-    record {
-      asked = c.asked;
-      kept = k;
-      owes = o;
-      course = c.course;
-      few = omega (arith, few);
-      ends = (sym is ∙ by.0, by.1 ∙ same);
-    }
-lives {st} {o} {limit} {u} {b} {r} {w} {k} fault lines (Err (Rounds number)) is same by c =
+    let all = by.2 in
+    (sym is ∙ by.0, by.1 ∙ same, omega (arith, few, none, all))
+ends_as fault lines left (Err Memory) is same none by c = sym is ∙ by
+
+pub lives : {st : Stage} {o : Owed} {limit m : ℕ} {u r : Pipe} {b w : OutPipe} {k : Kept}
+    (fault : Option LiveFault) (lines left : ℕ)
+    (ended : Result (Unit {0}) LiveEnd) → fault ≡ k.fault → lines ≡ k.lines → left ≡ k.left
+    → EndsBy fault lines left st ended → CourseTo st o limit m u b r w k
+    → Lives limit u r b w ended
+lives {st} {o} {limit} {m} {u} {r} {b} {w} {k} fault lines left ended is same none by c =
     let few = c.few in
     record {
       asked = c.asked;
       kept = k;
       owes = o;
+      listings = m;
       course = c.course;
       few = omega (arith, few);
-      ends = (sym is ∙ by.0, by.1 ∙ same);
-    }
-lives {st} {o} {limit} {u} {b} {r} {w} {k} fault lines (Err Memory) is same by c =
-    let few = c.few in
-    record {
-      asked = c.asked;
-      kept = k;
-      owes = o;
-      course = c.course;
-      few = omega (arith, few);
-      ends = sym is ∙ by;
+      ends = ends_as fault lines left ended is same none by c;
     }

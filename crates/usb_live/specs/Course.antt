@@ -1,6 +1,6 @@
 -- What a host and a far end say to each other, from the hello on.
 use Rattle.std.specs.Prelude.{◌≡◌, ⊤, ℕ, ◌+◌, ◌≤◌, ◌==◌, ◌&&◌, Bool, true, false, List, length}
-use Rattle.std.specs.Prelude.{Option, Some, None, Result, Ok, Err}
+use Rattle.std.specs.Prelude.{Option, Some, None, Result, Ok, Err, is_err}
 use Rattle.std.specs.Str.{bytes_eq}
 use Rattle.usb_table.specs.{Entries}
 use Rattle.usb_text.specs.{lines_text, listing_lines}
@@ -8,7 +8,11 @@ use Rattle.usb_wire.specs.{Answer, Question}
 use Rattle.usb_wire.specs.declared.answer.Answer.TheVariants as answer
 use Rattle.usb_wire.specs.declared.question.Question.TheVariants.{Hello, Wait}
 use Rattle.usb_table.specs.{TransferFault}
-use Rattle.usb_run.specs.{Item, Listing, Sent, Received, Cleared, item_lines}
+use Rattle.usb_host.specs.{Agrees, HostFault}
+use Rattle.usb_lines.specs.{OutPipe, Pipe}
+use Rattle.usb_resources.specs.{Addresses}
+use Rattle.usb_run.specs.{Item, Listing, Sent, Received, Cleared, item_lines, number_of}
+use Rattle.usb_run.specs.{transfer_ended}
 use Rattle.usb_stream.specs.{AskedWell, AsksNoQuestion, AsksOnce, Kept, WritesLines, greeted}
 use Rattle.usb_stream.specs.{questions, streams, unasked, LiveFault}
 use Rattle.usb_live.specs.declared.end.LiveEnd.{LiveEnd}
@@ -69,56 +73,74 @@ abbrev pub questions_in : Result Answer LiveFault → ℕ
 questions_in (Ok got) = 1
 questions_in (Err f) = questions f
 
--- so many questions were asked, from the hello on, each was answered by the lines that were read
--- next or left a fault,
--- and items were told between them: behind what was wanted the one that this owes, once, and before
--- it is asked again what
--- is wanted; behind a fault nothing was asked or told
-pub data LiveCourse (limit : ℕ) (unread before : Option (List ℕ)) : Owed → Option (List ℕ)
-    → Option (List ℕ) → Kept → ℕ → Type 0 where
-  opened : {left now : Option (List ℕ)} (k : Kept) (result : Result Answer LiveFault)
-      → AsksOnce Hello (streams unread left before now) (unasked limit) result k
-      → LiveCourse limit unread before owed.Nothing left now (greeted result k)
-      (questions_in result)
-  asked : {o : Owed} {r left w now : Option (List ℕ)} {j k : Kept} {n : ℕ} (q : Question)
-      (result : Result Answer LiveFault)
-      → LiveCourse limit unread before o r w j n → j.fault ≡ None → is_wait q ≡ false
-      → AsksOnce q (streams r left w now) j result k
-      → LiveCourse limit unread before o left now k (n + questions_in result)
-  wanted : {r left w now : Option (List ℕ)} {j k : Kept} {n : ℕ} (result : Result Answer LiveFault)
-      → LiveCourse limit unread before owed.Nothing r w j n → j.fault ≡ None
-      → AsksOnce Wait (streams r left w now) j result k
-      → LiveCourse limit unread before (owed_by result) left now k (n + questions_in result)
-  told : {o : Owed} {left w now : Option (List ℕ)} {j k : Kept} {n : ℕ} (number : ℕ) (item : Item)
-      (result : Result (Unit {0}) LiveFault)
-      → LiveCourse limit unread before o left w j n → j.fault ≡ None → settles o item ≡ true
-      → WritesLines (told_text number item) w now j result k
-      → LiveCourse limit unread before (owed_left o result) left now k n
-  still : {o : Owed} {r left w now : Option (List ℕ)} {j k : Kept} {n : ℕ}
-      → LiveCourse limit unread before o r w j n
-      → AsksNoQuestion (streams r left w now) j k → LiveCourse limit unread before o left now k n
+-- how many items are owed
+abbrev pub owes : Owed → ℕ
+owes owed.Nothing = 0
+owes other = 1
 
--- the host asked last what is wanted, and that was the end
-pub record WantsEnd (limit : ℕ) (unread before left now : Option (List ℕ)) (k : Kept) (n : ℕ) :
-    Type 0 where
-  pub r : Option (List ℕ)
-  pub w : Option (List ℕ)
+-- a listing is of entries that a host may hold: they rise by path, each is at a root port or at a
+-- port of a hub that is listed, and no two have one address
+abbrev pub IsShown : Item → Type 0
+IsShown (Listing entries taken) = (addresses : Addresses) × Agrees entries addresses
+IsShown other = ⊤
+
+-- how many listings were told, behind an item that was told, or a front of it
+abbrev pub listed : ℕ → Item → Result (Unit {0}) LiveFault → ℕ
+listed count item (Ok done) = number_of item count
+listed count item (Err f) = count
+
+-- so many questions were asked, from the hello on, each was answered by the lines that were read
+-- next or left a fault, and items were told between them: behind what was wanted the one that this
+-- owes, once, and before it is asked again what is wanted; behind a fault nothing was asked or
+-- told. So many listings were told, numbered from 1 on
+pub data LiveCourse (limit : ℕ) (unread : Pipe) (before : OutPipe) : Owed → ℕ → Pipe → OutPipe
+    → Kept → ℕ → Type 0 where
+  opened : {left : Pipe} {now : OutPipe} (k : Kept) (result : Result Answer LiveFault)
+      → AsksOnce Hello (streams unread left before now) (unasked limit) result k
+      → LiveCourse limit unread before owed.Nothing 0 left now (greeted result k)
+      (questions_in result)
+  asked : {o : Owed} {m : ℕ} {r left : Pipe} {w now : OutPipe} {j k : Kept} {n : ℕ} (q : Question)
+      (result : Result Answer LiveFault)
+      → LiveCourse limit unread before o m r w j n → j.fault ≡ None → is_wait q ≡ false
+      → AsksOnce q (streams r left w now) j result k
+      → LiveCourse limit unread before o m left now k (n + questions_in result)
+  wanted : {m : ℕ} {r left : Pipe} {w now : OutPipe} {j k : Kept} {n : ℕ}
+      (result : Result Answer LiveFault)
+      → LiveCourse limit unread before owed.Nothing m r w j n → j.fault ≡ None
+      → AsksOnce Wait (streams r left w now) j result k
+      → LiveCourse limit unread before (owed_by result) m left now k (n + questions_in result)
+  told : {o : Owed} {m : ℕ} {left : Pipe} {w now : OutPipe} {j k : Kept} {n : ℕ} (item : Item)
+      (result : Result (Unit {0}) LiveFault)
+      → LiveCourse limit unread before o m left w j n → j.fault ≡ None → settles o item ≡ true
+      → IsShown item → WritesLines (told_text (number_of item m) item) w now j result k
+      → LiveCourse limit unread before (owed_left o result) (listed m item result) left now k n
+  still : {o : Owed} {m : ℕ} {r left : Pipe} {w now : OutPipe} {j k : Kept} {n : ℕ}
+      → LiveCourse limit unread before o m r w j n
+      → AsksNoQuestion (streams r left w now) j k
+      → LiveCourse limit unread before o m left now k n
+
+-- the host asked last what is wanted, and that was the end; so many listings were told before
+pub record WantsEnd (limit count : ℕ) (unread : Pipe) (before : OutPipe) (left : Pipe)
+    (now : OutPipe) (k : Kept) (n : ℕ) : Type 0 where
+  pub r : Pipe
+  pub w : OutPipe
   pub j : Kept
   pub m : ℕ
-  pub course : LiveCourse limit unread before owed.Nothing r w j m
+  pub course : LiveCourse limit unread before owed.Nothing count r w j m
   pub sound : j.fault ≡ None
   pub ended : AskedWell Wait (streams r left w now) j answer.End k
   pub one : n ≡ m + 1
 
--- behind that it told a listing, and nothing more
-pub record IsOver (limit : ℕ) (unread before left now : Option (List ℕ)) (k : Kept) (n : ℕ) : Type 0
-  where
-    pub w : Option (List ℕ)
-    pub j : Kept
-    pub wanted : WantsEnd limit unread before left w j n
-    pub number : ℕ
-    pub entries : Entries
-    pub listed : WritesLines (lines_text (listing_lines number entries)) w now j (Ok tt) k
+-- behind that it told a listing, the next one, and nothing more
+pub record IsOver (limit : ℕ) (unread : Pipe) (before : OutPipe) (left : Pipe) (now : OutPipe)
+    (k : Kept) (n : ℕ) : Type 0 where
+  pub count : ℕ
+  pub w : OutPipe
+  pub j : Kept
+  pub wanted : WantsEnd limit count unread before left w j n
+  pub entries : Entries
+  pub shown : (addresses : Addresses) × Agrees entries addresses
+  pub listed : WritesLines (lines_text (listing_lines (count + 1) entries)) w now j (Ok tt) k
 
 -- how far it is behind an answer to what is wanted, and behind an item that was told
 abbrev pub stage_behind_answer : Result Answer LiveFault → Stage
@@ -129,46 +151,54 @@ abbrev pub stage_behind : Stage → Item → Stage
 stage_behind EndWanted (Listing entries taken) = Over
 stage_behind stage item = Asks
 
-abbrev pub StandsAtStage : Stage → ℕ → Option (List ℕ) → Option (List ℕ) → Option (List ℕ)
-    → Option (List ℕ) → Kept → ℕ → Type 0
-StandsAtStage Asks limit unread before left now k n = ⊤
-StandsAtStage EndWanted limit unread before left now k n = WantsEnd limit unread before left now k n
-StandsAtStage Over limit unread before left now k n = IsOver limit unread before left now k n
+abbrev pub StandsAtStage : Stage → ℕ → ℕ → Pipe → OutPipe → Pipe → OutPipe → Kept → ℕ → Type 0
+StandsAtStage Asks limit count unread before left now k n = ⊤
+StandsAtStage EndWanted limit count unread before left now k n =
+    WantsEnd limit count unread before left now k n
+StandsAtStage Over limit count unread before left now k n = IsOver limit unread before left now k n
 
--- a course of at most so many questions
-pub record CourseTo (stage : Stage) (o : Owed) (limit : ℕ)
-    (unread before left now : Option (List ℕ)) (k : Kept) : Type 0 where
+-- a course of at most so many questions, each item told behind a question that it answers
+pub record CourseTo (stage : Stage) (o : Owed) (limit count : ℕ) (unread : Pipe)
+    (before : OutPipe) (left : Pipe) (now : OutPipe) (k : Kept) : Type 0 where
   pub asked : ℕ
-  pub course : LiveCourse limit unread before o left now k asked
+  pub course : LiveCourse limit unread before o count left now k asked
   pub few : asked + k.left ≡ limit
-  pub at : StandsAtStage stage limit unread before left now k asked
+  pub numbered : count + owes o ≤ asked
+  pub at : StandsAtStage stage limit count unread before left now k asked
 
 -- it ended because the end was wanted, or because of a fault, which is told with the number of
--- lines that were read; the
--- limit is also told behind as many rounds with no fault
-abbrev pub EndsLiveAs : Result (Unit {0}) LiveEnd → ℕ → Option (List ℕ) → Option (List ℕ)
-    → Option (List ℕ) → Option (List ℕ) → Kept → ℕ → Type 0
+-- lines that were read; Rounds tells that as many questions were asked as there may be
+abbrev pub EndsLiveAs : Result (Unit {0}) LiveEnd → ℕ → Pipe → OutPipe → Pipe → OutPipe → Kept → ℕ
+    → Type 0
 EndsLiveAs (Ok done) limit unread before left now k n = IsOver limit unread before left now k n
 EndsLiveAs (Err (Line number f)) limit unread before left now k n = (k.fault ≡ Some f)
     × (number ≡ k.lines)
 EndsLiveAs (Err (Rounds number)) limit unread before left now k n = (k.fault ≡ None)
-    × (number ≡ k.lines)
+    × (number ≡ k.lines) × (n ≡ limit)
 EndsLiveAs (Err Memory) limit unread before left now k n = k.fault ≡ None
 
--- of a private function: why it ended, by the fault that is kept and the number of lines that were
--- read
-abbrev pub EndsBy : Option LiveFault → ℕ → Stage → Result (Unit {0}) LiveEnd → Type 0
-EndsBy fault lines stage (Ok done) = (fault ≡ None) × (stage ≡ Over)
-EndsBy fault lines stage (Err (Line number f)) = (fault ≡ Some f) × (number ≡ lines)
-EndsBy fault lines stage (Err (Rounds number)) = (fault ≡ None) × (number ≡ lines)
-EndsBy fault lines stage (Err Memory) = fault ≡ None
+-- of a private function: why it ended, by the fault that is kept, the number of lines that were
+-- read, and how many questions are left
+abbrev pub EndsBy : Option LiveFault → ℕ → ℕ → Stage → Result (Unit {0}) LiveEnd → Type 0
+EndsBy fault lines left stage (Ok done) = (fault ≡ None) × (stage ≡ Over)
+EndsBy fault lines left stage (Err (Line number f)) = (fault ≡ Some f) × (number ≡ lines)
+EndsBy fault lines left stage (Err (Rounds number)) =
+    (fault ≡ None) × (number ≡ lines) × (left ≡ 0)
+EndsBy fault lines left stage (Err Memory) = fault ≡ None
+
+-- of a private function: what a transfer came to, or that the host has stopped
+abbrev pub TellsTransfer : {A : Type 0} → Result A HostFault
+    → Result (Result A TransferFault) LiveEnd → Type 0
+TellsTransfer answer (Ok told) = transfer_ended answer ≡ Ok told
+TellsTransfer answer (Err end) = is_err (transfer_ended answer) ≡ true
 
 -- a whole course: at most so many questions were asked
-pub record Lives (limit : ℕ) (unread left before now : Option (List ℕ))
+pub record Lives (limit : ℕ) (unread left : Pipe) (before now : OutPipe)
     (ended : Result (Unit {0}) LiveEnd) : Type 0 where
   pub asked : ℕ
   pub kept : Kept
   pub owes : Owed
-  pub course : LiveCourse limit unread before owes left now kept asked
+  pub listings : ℕ
+  pub course : LiveCourse limit unread before owes listings left now kept asked
   pub few : asked ≤ limit
   pub ends : EndsLiveAs ended limit unread before left now kept asked

@@ -1,6 +1,6 @@
 //! A bus that knows its course.
-ghost use Rattle.std.specs.Prelude.{◌≡◌, ℕ, List, Option, None, false, option_map};
-ghost use Rattle.usb_bus.specs.Watch.{inner_of};
+ghost use Rattle.std.specs.Prelude.{◌≡◌, ◌^◌, ◌<◌, ℕ, None, false, option_map};
+ghost use Rattle.usb_lines.specs.Pipes.{OutPipe as AnOutPipe, Pipe as APipe, out_pipe_of, pipe_of};
 ghost use Rattle.usb_stream.specs.Stream.{kept_of, unread_of, written_of};
 ghost use Rattle.usb_live.specs.Course.{CourseTo};
 
@@ -11,6 +11,7 @@ use std::io::{Read, Write};
 use std::marker::{Brand, PhantomData};
 use usb_bus::{Attempt, Bus, BusFault, Outcome, Watched};
 use usb_run::Item;
+use usb_serve::number_of;
 use usb_stream::{LiveFault, StreamBus};
 use usb_wire::Answer;
 
@@ -19,19 +20,19 @@ pub(crate) trait Begun {
     /// The most questions.
     ghost limit: { ℕ };
 
-    /// The bytes that the reader has left, where they are known.
-    ghost unread: { Option (List ℕ) };
+    /// The reader.
+    ghost unread: { APipe };
 
-    /// The bytes that the writer has, where they are known.
-    ghost before: { Option (List ℕ) };
+    /// The writer.
+    ghost before: { AnOutPipe };
 }
 
 impl Begun for Brand {
     ghost limit = { 0 };
 
-    ghost unread = { None };
+    ghost unread = { record { bytes = None; failed = false } };
 
-    ghost before = { None };
+    ghost before = { record { bytes = None; failed = false; pending = false } };
 }
 
 /// A bus behind a stream of lines, with its course so far, whoever asks over it.
@@ -40,13 +41,22 @@ pub(crate) struct CourseBus<R: Read, W: Write, B: Begun> {
     bus: StreamBus<R, W>,
     stage: Stage,
     owed: Owed,
+    /// How many listings were told.
+    listings: u64,
     begun: PhantomData<B>,
-    ghost course: { ∥ CourseTo stage owed B.limit B.unread B.before (unread_of R.remaining bus)
-        (written_of W.contents bus) (kept_of bus) ∥₁ },
+    ghost bounded: { B.limit < 2 ^ 64 },
+    ghost course: { ∥ CourseTo stage owed B.limit listings B.unread B.before
+        (unread_of R.remaining bus) (written_of W.contents bus) (kept_of bus) ∥₁ },
 }
 
+/// Each call is that of the bus below, and says what that one says.
 impl<R: Read, W: Write, B: Begun> Bus for CourseBus<R, W, B> {
-    ghost use Rattle.usb_stream.specs.Stream.{bus_fault, no_world};
+    ghost use Rattle.std.specs.Prelude.{◌≢◌, ◌≤◌, Some, Err, IfErr, IfOk};
+    ghost use Rattle.usb_bus.specs.Traces.{Spends};
+    ghost use Rattle.usb_port.specs.Calls.{clear_call, set_call};
+    ghost use Rattle.usb_stream.specs.Stream.{AttemptsByLine, Calls, bus_fault, kept_status, no_world, streams};
+    ghost use Rattle.usb_stream.specs.declared.fault.LiveFault.{LiveFault as AFault};
+    ghost use Rattle.usb_world.specs.Worlds.{FitsMaximum};
 
     ghost modelled = { false };
 
@@ -60,25 +70,56 @@ impl<R: Read, W: Write, B: Begun> Bus for CourseBus<R, W, B> {
 
     ghost ports = { λ bus. (kept_of bus.bus).roots };
 
-    fn attempt(&mut self, attempt: &Attempt) -> Result<Outcome, BusFault> {
+    fn attempt(&mut self, attempt: &Attempt) -> Result<Outcome, BusFault>
+        ensures again { (f : AFault) → (kept_of self.old.bus).fault ≡ Some f
+            → (result ≡ Err (bus_fault f)) × (self.new.bus ≡ self.old.bus) }
+        ensures asks { (kept_of self.old.bus).fault ≡ None → AttemptsByLine attempt.now
+            (streams (unread_of R.remaining self.old.bus) (unread_of R.remaining self.new.bus)
+            (written_of W.contents self.old.bus) (written_of W.contents self.new.bus))
+            (kept_of self.old.bus) result (kept_of self.new.bus) }
+        ensures fits { IfOk result (FitsMaximum attempt.now.max) }
+        ensures spends { Spends (λ bus. 0) (λ bus. (kept_of bus.bus).roots) 1 self.old self.new }
+        ensures told { IfErr result (λ fault.
+            option_map bus_fault (kept_of self.new.bus).fault ≡ Some fault) }
+    {
         self.stage = Stage::Asks;
         self.bus.attempt(attempt)
     }
 
-    fn root_ports(&self) -> u8 {
+    fn root_ports(&self) -> u8
+        ensures ports { result ≡ (kept_of self.now.bus).roots }
+        ensures least { 1 ≤ result }
+        ensures most { result ≤ 7 }
+    {
         self.bus.root_ports()
     }
 
-    fn root_status(&self, port: u8) -> [u8; 4] {
+    fn root_status(&self, port: u8) -> [u8; 4]
+        ensures { result ≡ kept_status (kept_of self.now.bus) port }
+    {
         self.bus.root_status(port)
     }
 
-    fn root_set(&mut self, port: u8, feature: u16) {
+    fn root_set(&mut self, port: u8, feature: u16)
+        ensures again { (kept_of self.old.bus).fault ≢ None → self.new.bus ≡ self.old.bus }
+        ensures asks { (kept_of self.old.bus).fault ≡ None → Calls port (set_call feature)
+            (streams (unread_of R.remaining self.old.bus) (unread_of R.remaining self.new.bus)
+            (written_of W.contents self.old.bus) (written_of W.contents self.new.bus))
+            (kept_of self.old.bus) (kept_of self.new.bus) }
+        ensures unspent { Spends (λ bus. 0) (λ bus. (kept_of bus.bus).roots) 0 self.old self.new }
+    {
         self.stage = Stage::Asks;
         self.bus.root_set(port, feature);
     }
 
-    fn root_clear(&mut self, port: u8, feature: u16) {
+    fn root_clear(&mut self, port: u8, feature: u16)
+        ensures again { (kept_of self.old.bus).fault ≢ None → self.new.bus ≡ self.old.bus }
+        ensures asks { (kept_of self.old.bus).fault ≡ None → Calls port (clear_call feature)
+            (streams (unread_of R.remaining self.old.bus) (unread_of R.remaining self.new.bus)
+            (written_of W.contents self.old.bus) (written_of W.contents self.new.bus))
+            (kept_of self.old.bus) (kept_of self.new.bus) }
+        ensures unspent { Spends (λ bus. 0) (λ bus. (kept_of bus.bus).roots) 0 self.old self.new }
+    {
         self.stage = Stage::Asks;
         self.bus.root_clear(port, feature);
     }
@@ -91,18 +132,21 @@ impl<R: Read, W: Write, B: Begun> Bus for CourseBus<R, W, B> {
 }
 
 impl<R: Read, W: Write, B: Begun> CourseBus<R, W, B> {
-    ghost use Rattle.usb_live.specs.Course.{Lives, told_text};
+    ghost use Rattle.usb_live.specs.Course.{IsShown, Lives, settles, told_text};
+    ghost use Rattle.usb_run.specs.ItemLines.{number_of};
+    ghost use Rattle.std.specs.Prelude.{true};
 
     /// Says the hello.
     pub(crate) fn open(reader: Watched<R>, writer: Watched<W>, limit: u64) -> Self
         requires limit { limit ≡ B.limit }
-        requires unread { R.remaining (inner_of reader) ≡ B.unread }
-        requires before { W.contents (inner_of writer) ≡ B.before }
+        requires unread { pipe_of R.remaining reader ≡ B.unread }
+        requires before { out_pipe_of W.contents writer ≡ B.before }
     {
         CourseBus {
             bus: StreamBus::open(reader, writer, limit),
             stage: Stage::Asks,
             owed: Owed::Nothing,
+            listings: 0,
             begun: PhantomData,
         }
     }
@@ -121,22 +165,38 @@ impl<R: Read, W: Write, B: Begun> CourseBus<R, W, B> {
         answer
     }
 
-    /// Tells an item, whose text is this, where it is the one that is owed.
+    /// Whether an item is the one that is owed.
+    pub(crate) fn owes(&self, item: &Item) -> bool
+        ensures { result ≡ settles self.now.owed item.now }
+    {
+        settles(&self.owed, item)
+    }
+
+    /// How many listings were told once an item that is owed is.
+    pub(crate) fn number(&self, item: &Item) -> u64
+        requires { settles self.now.owed item.now ≡ true }
+        ensures { result ≡ number_of item.now self.now.listings }
+    {
+        number_of(item, self.listings)
+    }
+
+    /// Tells an item that is owed, whose text is this.
     ///
     /// # Errors
     /// The bus's fault.
-    pub(crate) fn tell(&mut self, number: u64, item: &Item, text: &[u8]) -> Result<(), LiveFault>
-        requires { text.now ≡ told_text number item.now }
+    pub(crate) fn tell(&mut self, item: &Item, text: &[u8]) -> Result<(), LiveFault>
+        requires owed { settles self.old.owed item.now ≡ true }
+        requires shown { IsShown item.now }
+        requires text { text.now ≡ told_text (number_of item.now self.old.listings) item.now }
     {
-        if !settles(&self.owed, item) {
-            return Ok(());
-        }
+        let number = self.number(item);
         let stage = stage_behind(self.stage, item);
         self.stage = Stage::Asks;
         let told = self.bus.tell(text);
         if told.is_ok() {
             self.stage = stage;
             self.owed = Owed::Nothing;
+            self.listings = number;
         }
         told
     }
@@ -146,11 +206,11 @@ impl<R: Read, W: Write, B: Begun> CourseBus<R, W, B> {
         self,
         ran: Result<(), LiveEnd>,
     ) -> (Result<(), LiveEnd>, Watched<R>, Watched<W>)
-        ensures { ∥ Lives B.limit B.unread (R.remaining (inner_of result.1)) B.before
-            (W.contents (inner_of result.2)) result.0 ∥₁ }
+        ensures { ∥ Lives B.limit B.unread (pipe_of R.remaining result.1) B.before
+            (out_pipe_of W.contents result.2) result.0 ∥₁ }
     {
         let CourseBus { bus, stage, .. } = self;
-        let ended = end_of(bus.fault(), bus.lines(), stage, ran);
+        let ended = end_of(bus.fault(), bus.lines(), bus.left(), stage, ran);
         let (reader, writer) = bus.into_ends();
         (ended, reader, writer)
     }

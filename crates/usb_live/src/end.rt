@@ -11,10 +11,10 @@ use usb_stream::LiveFault;
 /// Why a course ended before its end was wanted.
 #[derive(Clone, Copy, Debug, PartialEq, Eq, Error)]
 pub enum LiveEnd {
-    /// The bus has a fault, and the number of the line that was read last is this.
+    /// The bus has a fault, and the number of the line that was read last, or awaited, is this.
     #[error("line {0}: {1}")]
     Line(u64, LiveFault),
-    /// There were as many rounds as questions that may be asked, and this is the number of the line that was read last.
+    /// As many questions were asked as may be, in as many rounds; the number of the line that was read last is this.
     #[error("line {0}: limit reached")]
     Rounds(u64),
     /// Memory was refused.
@@ -30,19 +30,21 @@ impl From<AllocError> for LiveEnd {
     }
 }
 
-/// Why a course ended whose bus has this fault, and of which so many lines were read.
+/// Why a course ended whose bus has this fault, of which so many lines were read, and that may ask so many questions
+/// more.
 pub(crate) fn end_of(
     fault: Option<LiveFault>,
     lines: u64,
+    left: u64,
     stage: Stage,
     ran: Result<(), LiveEnd>,
 ) -> Result<(), LiveEnd>
-    ensures { EndsBy fault lines stage result }
+    ensures { EndsBy fault lines left stage result }
 {
     match (fault, stage, ran) {
         (Some(fault), _, _) => Err(LiveEnd::Line(lines, fault)),
         (None, Stage::Over, _) => Ok(()),
-        (None, _, Err(LiveEnd::Memory)) => Err(LiveEnd::Memory),
-        (None, _, _) => Err(LiveEnd::Rounds(lines)),
+        (None, _, Err(LiveEnd::Rounds(_))) if left == 0 => Err(LiveEnd::Rounds(lines)),
+        (None, _, _) => Err(LiveEnd::Memory),
     }
 }

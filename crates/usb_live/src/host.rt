@@ -1,8 +1,8 @@
 //! The host, from the hello to the end.
-ghost use Rattle.std.specs.Prelude.{◌≡◌, IfOk};
+ghost use Rattle.std.specs.Prelude.{◌≡◌, IfOk, IfSome, OnOk, false};
 ghost use Rattle.usb_text.specs.ListingLines.{written_lines};
-ghost use Rattle.usb_bus.specs.Watch.{inner_of};
-ghost use Rattle.usb_live.specs.Course.{ListsEntries, Lives, told_text};
+ghost use Rattle.usb_lines.specs.Pipes.{out_pipe_of, pipe_of};
+ghost use Rattle.usb_live.specs.Course.{IsShown, ListsEntries, Lives, TellsTransfer, told_text};
 
 use crate::bus::{Begun, CourseBus};
 use crate::end::LiveEnd;
@@ -11,8 +11,8 @@ use std::io::{Read, Write};
 use std::marker::Brand;
 use usb_bus::Watched;
 use usb_host::{Host, HostFault, Round};
-use usb_run::{Item, TransferFault, answered, counted};
-use usb_serve::{item_lines, number_of};
+use usb_run::{Item, TransferFault, counted};
+use usb_serve::item_lines;
 use usb_wire::Answer;
 
 /// A host over a far end.
@@ -22,16 +22,16 @@ type LiveHost<R, W, B> = Host<CourseBus<R, W, B>>;
 /// is told in the lines of `usbplan tree`. At most so many questions are asked. Hands the reader and the writer back.
 ///
 /// # Errors
-/// Line with the bus's fault, behind which nothing is told; Memory where memory was refused; Rounds behind as many
-/// rounds as questions, which no far end has brought about.
+/// Line with the bus's fault, behind which nothing is told; Rounds behind as many rounds and as many questions as
+/// there may be, which no far end has brought about; Memory where memory was refused, which may be told at any time.
 pub fn live<R: Read + Drop, W: Write + Drop>(
     alloc: Global,
     reader: Watched<R>,
     writer: Watched<W>,
     limit: u64,
 ) -> (Result<(), LiveEnd>, Watched<R>, Watched<W>)
-    ensures { ∥ Lives limit (R.remaining (inner_of reader)) (R.remaining (inner_of result.1))
-        (W.contents (inner_of writer)) (W.contents (inner_of result.2)) result.0 ∥₁ }
+    ensures { ∥ Lives limit (pipe_of R.remaining reader) (pipe_of R.remaining result.1)
+        (out_pipe_of W.contents writer) (out_pipe_of W.contents result.2) result.0 ∥₁ }
 {
     course::<R, W, Brand>(alloc, reader, writer, limit)
 }
@@ -44,10 +44,10 @@ fn course<R: Read + Drop, W: Write + Drop, B: Begun>(
     limit: u64,
 ) -> (Result<(), LiveEnd>, Watched<R>, Watched<W>)
     requires limit { limit ≡ B.limit }
-    requires unread { R.remaining (inner_of reader) ≡ B.unread }
-    requires before { W.contents (inner_of writer) ≡ B.before }
-    ensures { ∥ Lives limit (R.remaining (inner_of reader)) (R.remaining (inner_of result.1))
-        (W.contents (inner_of writer)) (W.contents (inner_of result.2)) result.0 ∥₁ }
+    requires unread { pipe_of R.remaining reader ≡ B.unread }
+    requires before { out_pipe_of W.contents writer ≡ B.before }
+    ensures { ∥ Lives limit (pipe_of R.remaining reader) (pipe_of R.remaining result.1)
+        (out_pipe_of W.contents writer) (out_pipe_of W.contents result.2) result.0 ∥₁ }
 {
     let bus = CourseBus::<R, W, B>::open(reader, writer, limit);
     let mut host = Host::new(alloc, bus);
@@ -61,7 +61,6 @@ fn run<R: Read + Drop, W: Write + Drop, B: Begun>(
     host: &mut LiveHost<R, W, B>,
     limit: u64,
 ) -> Result<(), LiveEnd> {
-    let mut number = 0;
     // a round that worked has asked something, and so has each turn with a quiet one
     'turns: for _ in 0..limit {
         if round_of(host)? == Round::Worked {
@@ -70,8 +69,7 @@ fn run<R: Read + Drop, W: Write + Drop, B: Begun>(
         let answer = wanted(host)?;
         let is_end = matches!(answer, Answer::End);
         if let Some(item) = item_of(host, answer)? {
-            number = number_of(&item, number);
-            tell(alloc, host, number, &item)?;
+            tell(alloc, host, &item)?;
         }
         if is_end {
             return Ok(());
@@ -80,25 +78,29 @@ fn run<R: Read + Drop, W: Write + Drop, B: Begun>(
     Err(LiveEnd::Rounds(lines_of(host)))
 }
 
-/// One round, behind which the bus has no fault.
+/// One round, behind which neither the host has stopped nor the bus has a fault.
 fn round_of<R: Read + Drop, W: Write + Drop, B: Begun>(
     host: &mut LiveHost<R, W, B>,
-) -> Result<Round, LiveEnd> {
-    let round = host.round();
-    sound(host)?;
-    match round {
-        Ok(round) => Ok(round),
-        Err(_) => Err(LiveEnd::Memory),
+) -> Result<Round, LiveEnd>
+    // A round that failed is not taken for one that was done.
+    ensures { OnOk result (host.new.stopped ≡ false) }
+{
+    match host.round() {
+        // calls at root ports tell no fault
+        Ok(round) => match host.bus().bus().fault() {
+            Some(fault) => Err(LiveEnd::Line(lines_of(host), fault)),
+            None => Ok(round),
+        },
+        Err(HostFault::Bus(_)) => Err(bus_end(host)),
+        Err(HostFault::Stopped | HostFault::Transfer(_) | HostFault::Memory) => Err(LiveEnd::Memory),
     }
 }
 
-/// The bus's fault, if it has one.
-fn sound<R: Read + Drop, W: Write + Drop, B: Begun>(
-    host: &LiveHost<R, W, B>,
-) -> Result<(), LiveEnd> {
+/// The end at a fault of the bus.
+fn bus_end<R: Read + Drop, W: Write + Drop, B: Begun>(host: &LiveHost<R, W, B>) -> LiveEnd {
     match host.bus().bus().fault() {
-        Some(fault) => Err(LiveEnd::Line(lines_of(host), fault)),
-        None => Ok(()),
+        Some(fault) => LiveEnd::Line(lines_of(host), fault),
+        None => LiveEnd::Memory,
     }
 }
 
@@ -118,7 +120,8 @@ fn item_of<R: Read + Drop, W: Write + Drop, B: Begun>(
     answer: Answer,
 ) -> Result<Option<Item>, LiveEnd>
     // A listing is of what the host has found.
-    ensures { IfOk result (ListsEntries answer host.new.entries) }
+    ensures lists { IfOk result (ListsEntries answer host.new.entries) }
+    ensures shown { IfOk result (λ item. IfSome item IsShown) }
 {
     match answer {
         Answer::Show | Answer::End => match host.tree() {
@@ -144,29 +147,38 @@ fn item_of<R: Read + Drop, W: Write + Drop, B: Begun>(
     }
 }
 
-/// What a transfer came to, where the bus has no fault behind it.
+/// What a transfer came to, where the host goes on.
 fn told<R: Read + Drop, W: Write + Drop, B: Begun, T: Drop>(
     host: &LiveHost<R, W, B>,
     answer: Result<T, HostFault>,
-) -> Result<Result<T, TransferFault>, LiveEnd> {
-    sound(host)?;
-    match answered(answer) {
-        Ok(told) => Ok(told),
-        Err(_) => Err(LiveEnd::Memory),
+) -> Result<Result<T, TransferFault>, LiveEnd>
+    // What a transfer came to is told, and the course ends only where the host has stopped.
+    ensures { TellsTransfer answer result }
+{
+    match answer {
+        Ok(done) => Ok(Ok(done)),
+        Err(HostFault::Transfer(fault)) => Ok(Err(fault)),
+        Err(HostFault::Bus(_)) => Err(bus_end(host)),
+        Err(HostFault::Stopped | HostFault::Memory) => Err(LiveEnd::Memory),
     }
 }
 
-/// Tells the lines of an item, at once.
+/// Tells the lines of an item, at once, where it is the one that is owed.
 fn tell<R: Read + Drop, W: Write + Drop, B: Begun>(
     alloc: Global,
     host: &mut LiveHost<R, W, B>,
-    number: u64,
     item: &Item,
-) -> Result<(), LiveEnd> {
-    let text = text_of(alloc, number, item)?;
-    match host.bus_mut().tell(number, item, text.as_slice()) {
+) -> Result<(), LiveEnd>
+    requires { IsShown item.now }
+{
+    let bus = host.bus_mut();
+    if !bus.owes(item) {
+        return Ok(());
+    }
+    let text = text_of(alloc, bus.number(item), item)?;
+    match bus.tell(item, text.as_slice()) {
         Ok(()) => Ok(()),
-        Err(fault) => Err(LiveEnd::Line(lines_of(host), fault)),
+        Err(fault) => Err(LiveEnd::Line(bus.bus().lines(), fault)),
     }
 }
 

@@ -7,21 +7,29 @@
 //!
 //! Of any far end `live` is safe, and returns. Of readers and writers whose bytes are known (*Lives*,
 //! `specs/Course.antt`): what was written is, one after the other, the lines of questions and of items, an item being a
-//! listing or how a transfer went; what was read is for each question the statuses that were pushed and one answer to
-//! it (*Course*, on *AsksOnce* of usb_stream). An item is told only where it is owed (*settles*): a listing where one
-//! was wanted or the end was, a transfer at the path where that one was wanted, and a `send` that is done tells as many
-//! bytes as were to be sent. It is told once, and it is not asked again what is wanted before. At most `limit`
-//! questions were asked. Behind a fault nothing was asked or told, and it is that fault that is told, with the number
-//! of lines that were read. An Ok is told only where the far end wanted the end, or its input ended in place of an
-//! answer to that, and a listing was told behind it and nothing more. The host asks over a bus that keeps its course in
-//! its type (`CourseBus`) and tells nothing that is not owed, so all of this holds whatever the host does.
+//! listing or how a transfer went, each flushed before anything was read or written behind it; what was read is for
+//! each question the statuses that were pushed and one answer to it (*Course*, on *AsksOnce* of usb_stream).
 //!
-//! Of the private functions: the listing that is told is of the entries that the host has then (`item_of`).
+//! An item is told only where it is owed (*settles*): a listing where one was wanted or the end was, a transfer at the
+//! path where that one was wanted, and a `send` that is done tells as many bytes as were to be sent. It is told once,
+//! and it is not asked again what is wanted before. Listings are numbered from 1 on; each is of entries that a host may
+//! hold (*IsShown*): they rise by path, each is at a root port or at a port of a hub that is listed, and no two have
+//! one address. The host asks over a bus that keeps its course in its type (`CourseBus`) and tells nothing that is not
+//! owed, so all of this holds whatever the host does. Each call of that bus says what `StreamBus` says of it.
+//!
+//! At most `limit` questions were asked. Behind a fault nothing was asked or told, and it is that fault that is told,
+//! for its cause (*CauseOf* of usb_stream), with the number of the line that was read last or awaited. An Ok is told
+//! only where the far end wanted the end, or its input ended in place of an answer to that, and a listing was told
+//! behind it and nothing more. Rounds is told only where as many questions were asked as may be.
+//!
+//! Of the private functions: the listing that is told is of the entries that the host has then (`item_of`), a round
+//! that failed is not taken for one that was done (`round_of`), and a transfer ends the course only where the host has
+//! stopped (`told`).
 //!
 //! *Only tested*, by the worked rows (`usb_rows`): that a round was quiet before it is asked what is wanted, and what a
-//! listing or a transfer tells. *Neither*: that memory was refused where Memory is told, and that there were so many
-//! rounds where Rounds is; no far end has brought that about, as each round that worked asks something. What a far end
-//! answers is its own: no clause says that it is right.
+//! listing or a transfer tells. *Neither*: that memory was refused where Memory is told, which may be told at any time.
+//! No far end has brought Rounds about, as each round that worked asks something. What a far end answers is its own: no
+//! clause says that it is right.
 #![tactic(auto)]
 
 mod bus;

@@ -1,4 +1,5 @@
 //! One module a crate.
+mod buffered;
 mod far;
 mod live;
 mod stream;

@@ -1,16 +1,17 @@
 -- A bus behind a stream of lines: what a question reads and writes, and what is kept of that.
-use Rattle.std.specs.Prelude.{◌≡◌, ◌⊎◌, ℕ, zero, suc, ◌+◌, ◌-◌, ◌^◌, min, ◌<◌, ◌≤◌, ◌&&◌, nat_le}
+use Rattle.std.specs.Prelude.{◌≡◌, ◌≢◌, ◌⊎◌, ℕ, zero, suc, ◌+◌, ◌-◌, ◌^◌, min, ◌<◌, ◌≤◌, ◌&&◌, nat_le}
 use Rattle.std.specs.Prelude.{nat_lt, Bool, true, false, if◌then◌else◌, List, [], ◌∷◌, ◌++◌, length}
 use Rattle.std.specs.Prelude.{replicate, slice_index_or, slice_set, Option, Some, None, Result, Ok}
 use Rattle.std.specs.Prelude.{Err}
-use Rattle.std.specs.Io.KnownBytes.{Appends, Consumes, IsAtEnd}
+use Rattle.std.specs.Io.KnownBytes.{IsAtEnd}
 use Rattle.arrayvec.specs.ArrayVec.{ArrayVec}
 use Rattle.usb_packet.specs.{Toggle, Zero, One, TokenKind, OutTok, InTok, SetupTok}
 use Rattle.usb_request.specs.{Setup as SetupData}
 use Rattle.usb_port.specs.{PortCall}
-use Rattle.usb_bus.specs.{AppendsFront, inner_of}
-use Rattle.usb_lines.specs.{IsUnbroken}
-use Rattle.usb_wire.specs.{IsSaidLine, MaySay, setup_by, kind_asked, question_line, Answer, Said}
+use Rattle.usb_lines.specs.{FailsToFlush, Flushes, IsUnbroken, OutPipe, Pipe, ReadPart, Reads}
+use Rattle.usb_lines.specs.{out_pipe_of, pipe_of}
+use Rattle.usb_wire.specs.{IsSaidLine, MaySay, setup_by, kind_asked, line_fault, question_line}
+use Rattle.usb_wire.specs.{Answer, Said, LineTooLong, WireFault}
 use Rattle.usb_wire.specs.{Changed, Answered, Asked, DataPacket, Endpoint, Question, Speed, Full}
 use Rattle.usb_wire.specs.{Low, LowBelowHub}
 use Rattle.usb_wire.specs.declared.answer.Answer.TheVariants as answer
@@ -99,37 +100,29 @@ kept_of b = record {
       b.fault;
 }
 
--- the bytes that the reader of a bus has left, and those that its writer has, where they are known
-abbrev pub unread_of : {R W : Type 0} → (R → Option (List ℕ)) → StreamBus R W → Option (List ℕ)
-unread_of remaining b = remaining (inner_of b.reader)
+-- the reader and the writer of a bus
+abbrev pub unread_of : {R W : Type 0} → (R → Option (List ℕ)) → StreamBus R W → Pipe
+unread_of remaining b = pipe_of remaining b.reader
 
-abbrev pub written_of : {R W : Type 0} → (W → Option (List ℕ)) → StreamBus R W → Option (List ℕ)
-written_of contents b = contents (inner_of b.writer)
+abbrev pub written_of : {R W : Type 0} → (W → Option (List ℕ)) → StreamBus R W → OutPipe
+written_of contents b = out_pipe_of contents b.writer
 
 -- ---- what is read and written
 
--- the bytes that the reader has left and those that the writer has, before and after, where they
--- are known
-pub record StreamTexts : Type 0 where
-  pub unread : Option (List ℕ)
-  pub left : Option (List ℕ)
-  pub before : Option (List ℕ)
-  pub now : Option (List ℕ)
+-- the reader and the writer, before and after
+pub record StreamPipes : Type 0 where
+  pub unread : Pipe
+  pub left : Pipe
+  pub before : OutPipe
+  pub now : OutPipe
 
-abbrev pub streams : Option (List ℕ) → Option (List ℕ) → Option (List ℕ) → Option (List ℕ)
-    → StreamTexts
+abbrev pub streams : Pipe → Pipe → OutPipe → OutPipe → StreamPipes
 streams unread left before now = record { unread = unread; left = left; before = before; now = now }
 
 -- so many lines more are counted, up to the greatest u64
 abbrev pub counted_on : ℕ → ℕ → ℕ
 counted_on lines zero = lines
 counted_on lines (suc more) = min (counted_on lines more + 1) (2 ^ 64 - 1)
-
--- so many whole lines
-pub data WholeLines : ℕ → List ℕ → Type 0 where
-  none : WholeLines 0 []
-  next : {n : ℕ} {text : List ℕ} (line : List ℕ) → WholeLines n text → IsUnbroken line
-      → WholeLines (n + 1) (text ++ (line ++ 10 ∷ []))
 
 -- so many lines that tell statuses of root ports were read, each is kept
 pub data StatusesRead (a : Asked) (roots : ℕ) (old : List (List ℕ)) : ℕ → List ℕ → List (List ℕ)
@@ -142,59 +135,108 @@ pub data StatusesRead (a : Asked) (roots : ℕ) (old : List (List ℕ)) : ℕ �
       → StatusesRead a roots old (n + 1) (text ++ (line ++ 10 ∷ []))
       (slice_set mid (number - 1) status)
 
+-- the same, with what is kept; neither did the reader fail
+pub record PushesRead (a : Asked) (pushed : ℕ) (unread left : Pipe) (old new : Kept) : Type 0 where
+  pub text : List ℕ
+  pub told : StatusesRead a old.roots old.statuses pushed text new.statuses
+  pub read : Reads unread text left
+
 -- a line was read that says this
-pub record SaidLine (a : Asked) (roots : ℕ) (unread left : Option (List ℕ)) (said : Said) : Type 0
-  where
-    pub line : List ℕ
-    pub unbroken : IsUnbroken line
-    pub may : MaySay a roots said
-    pub says : IsSaidLine line said
-    pub read : Consumes unread left (line ++ 10 ∷ [])
-
--- the input has ended in place of what is wanted
-pub record SaidEnd (a : Asked) (unread left : Option (List ℕ)) (said : Said) : Type 0 where
-  pub wanted : a ≡ asked.Wait
-  pub is : said ≡ Answered answer.End
-  pub read : Consumes unread left []
-  pub ended : IsAtEnd left
-
-abbrev pub Says : Asked → ℕ → Option (List ℕ) → Option (List ℕ) → Said → Type 0
-Says a roots unread left said = SaidLine a roots unread left said ⊎ SaidEnd a unread left said
-
--- statuses, and then the answer: each is a line, and is counted
-pub record AnswerLinesRead (a : Asked) (roots : ℕ) (unread left : Option (List ℕ))
-    (old : List (List ℕ)) (before : ℕ) (got : Answer)
-    (new : List (List ℕ)) (after : ℕ) : Type 0 where
-  pub pushed : ℕ
-  pub text : List ℕ
-  pub mid : Option (List ℕ)
-  pub told : StatusesRead a roots old pushed text new
-  pub read : Consumes unread mid text
-  pub answered : Says a roots mid left (Answered got)
-  pub lines : after ≡ counted_on before (pushed + 1)
-
--- lines were read, which are counted; the last of them perhaps in part
-pub record ReadLines (unread left : Option (List ℕ)) (old new : ℕ) : Type 0 where
-  pub whole : ℕ
-  pub text : List ℕ
-  pub are : WholeLines whole text
-  pub part : List ℕ
-  pub unbroken : IsUnbroken part
-  pub read : Consumes unread left (text ++ part)
-  pub lines : ((part ≡ []) × (new ≡ counted_on old whole)) ⊎ (new ≡ counted_on old (whole + 1))
-
--- of a private function: one line was read, perhaps in part
-pub record ReadOne (unread left : Option (List ℕ)) : Type 0 where
+pub record SaidLine (a : Asked) (roots : ℕ) (unread left : Pipe) (said : Said) : Type 0 where
   pub line : List ℕ
   pub unbroken : IsUnbroken line
-  pub read : Consumes unread left (line ++ 10 ∷ []) ⊎ Consumes unread left line
+  pub may : MaySay a roots said
+  pub says : IsSaidLine line said
+  pub read : Reads unread (line ++ 10 ∷ []) left
 
--- a question went out as one line, one question less is left, and its answer was heard
-pub record AskedWell (q : Question) (s : StreamTexts) (old : Kept) (got : Answer) (new : Kept) :
+-- the input has ended in place of what is wanted
+pub record SaidEnd (a : Asked) (unread left : Pipe) (said : Said) : Type 0 where
+  pub wanted : a ≡ asked.Wait
+  pub is : said ≡ Answered answer.End
+  pub read : Reads unread [] left
+  pub ended : IsAtEnd left.bytes
+
+abbrev pub Says : Asked → ℕ → Pipe → Pipe → Said → Type 0
+Says a roots unread left said = SaidLine a roots unread left said ⊎ SaidEnd a unread left said
+
+-- at most 64 statuses, and then the answer: each is a line, and is counted
+pub record AnswerLinesRead (a : Asked) (unread left : Pipe) (old : Kept) (got : Answer)
+    (new : Kept) : Type 0 where
+  pub pushed : ℕ
+  pub few : pushed ≤ 64
+  pub mid : Pipe
+  pub told : PushesRead a pushed unread mid old new
+  pub answered : Says a old.roots mid left (Answered got)
+  pub lines : new.lines ≡ counted_on old.lines (pushed + 1)
+
+-- ---- why an answer was not heard
+
+-- a line that says nothing: it has this fault, or more than 1,024 bytes, of which the first 1,025
+-- were read
+pub data BadLine (a : Asked) (roots : ℕ) (unread left : Pipe) : WireFault → Type 0 where
+  whole : {f : WireFault} (line : List ℕ) → IsUnbroken line → line_fault a roots line ≡ Some f
+      → Reads unread (line ++ 10 ∷ []) left → BadLine a roots unread left f
+  long : (bytes : List ℕ) → IsUnbroken bytes → length bytes ≡ 1025 → Reads unread bytes left
+      → BadLine a roots unread left LineTooLong
+
+-- the reader failed in a line
+pub record FailsToRead (unread left : Pipe) : Type 0 where
+  pub part : ReadPart unread.bytes left.bytes
+  pub marked : left.failed ≡ true
+
+-- the input ended in mid-line, or in place of an answer that is not of what is wanted
+pub record EndsEarly (a : Asked) (unread left : Pipe) : Type 0 where
+  pub part : List ℕ
+  pub unbroken : IsUnbroken part
+  pub gone : part ≢ [] ⊎ a ≢ asked.Wait
+  pub read : Reads unread part left
+  pub ended : IsAtEnd left.bytes
+
+-- what is wrong with the next line
+abbrev pub CauseOfLine : Asked → ℕ → Pipe → Pipe → LiveFault → Type 0
+CauseOfLine a roots unread left fault.Read = FailsToRead unread left
+CauseOfLine a roots unread left (fault.Line f) = BadLine a roots unread left f
+CauseOfLine a roots unread left fault.Gone = EndsEarly a unread left
+CauseOfLine a roots unread left fault.TooManyPushes = ⊥
+CauseOfLine a roots unread left Write = ⊥
+CauseOfLine a roots unread left LimitReached = ⊥
+
+-- at most 64 statuses came, and then a line, or none, with this fault
+pub record HeardUpTo (a : Asked) (unread left : Pipe) (old new : Kept) (f : LiveFault) : Type 0
+  where
+    pub pushed : ℕ
+    pub few : pushed ≤ 64
+    pub mid : Pipe
+    pub told : PushesRead a pushed unread mid old new
+    pub cause : CauseOfLine a old.roots mid left f
+    pub lines : new.lines ≡ counted_on old.lines (pushed + 1)
+
+-- 65 statuses came before an answer
+pub record HeardTooMany (a : Asked) (unread left : Pipe) (old new : Kept) : Type 0 where
+  pub told : PushesRead a 65 unread left old new
+  pub lines : new.lines ≡ counted_on old.lines 65
+
+abbrev pub CauseOfHearing : Asked → Pipe → Pipe → Kept → Kept → LiveFault → Type 0
+CauseOfHearing a unread left old new fault.Read = HeardUpTo a unread left old new fault.Read
+CauseOfHearing a unread left old new (fault.Line f) =
+    HeardUpTo a unread left old new (fault.Line f)
+CauseOfHearing a unread left old new fault.Gone = HeardUpTo a unread left old new fault.Gone
+CauseOfHearing a unread left old new fault.TooManyPushes = HeardTooMany a unread left old new
+CauseOfHearing a unread left old new Write = ⊥
+CauseOfHearing a unread left old new LimitReached = ⊥
+
+-- ---- a question
+
+-- the line of a question
+abbrev pub asking : Question → List ℕ
+asking q = question_line q ++ 10 ∷ []
+
+-- a question went out as one line and was flushed, one question less is left, and its answer was
+-- heard
+pub record AskedWell (q : Question) (s : StreamPipes) (old : Kept) (got : Answer) (new : Kept) :
     Type 0 where
-  pub written : Appends s.before s.now (question_line q ++ 10 ∷ [])
-  pub heard : AnswerLinesRead (kind_asked q) old.roots s.unread s.left old.statuses old.lines got
-      new.statuses new.lines
+  pub written : Flushes s.before (asking q) s.now
+  pub heard : AnswerLinesRead (kind_asked q) s.unread s.left old got new
   pub one : new.left + 1 ≡ old.left
   pub roots : new.roots ≡ old.roots
   pub sound : new.fault ≡ None
@@ -208,35 +250,61 @@ questions fault.Gone = 1
 questions fault.Write = 1
 questions fault.LimitReached = 0
 
--- a fault is kept; at most one question went out, or a front of it, and one less is left; at the
--- limit nothing did
-pub record AsksNoMore (q : Question) (s : StreamTexts) (old : Kept) (f : LiveFault) (new : Kept) :
+-- the question went out and was flushed, and its answer was not heard
+pub record IsUnheard (q : Question) (s : StreamPipes) (old : Kept) (f : LiveFault) (new : Kept) :
+    Type 0 where
+  pub written : Flushes s.before (asking q) s.now
+  pub heard : CauseOfHearing (kind_asked q) s.unread s.left old new f
+
+-- the writer failed before anything was read
+pub record IsUnwritten (q : Question) (s : StreamPipes) (old new : Kept) : Type 0 where
+  pub torn : FailsToFlush s.before (asking q) s.now
+  pub unread : s.left ≡ s.unread
+  pub statuses : new.statuses ≡ old.statuses
+  pub lines : new.lines ≡ old.lines
+
+-- no question was left, and nothing was written or read
+pub record IsAtLimit (s : StreamPipes) (old new : Kept) : Type 0 where
+  pub none : old.left ≡ 0
+  pub unread : s.left ≡ s.unread
+  pub unwritten : s.now ≡ s.before
+  pub statuses : new.statuses ≡ old.statuses
+  pub lines : new.lines ≡ old.lines
+
+-- the cause of each fault
+abbrev pub CauseOf : Question → StreamPipes → Kept → Kept → LiveFault → Type 0
+CauseOf q s old new fault.Read = IsUnheard q s old fault.Read new
+CauseOf q s old new (fault.Line f) = IsUnheard q s old (fault.Line f) new
+CauseOf q s old new fault.TooManyPushes = IsUnheard q s old fault.TooManyPushes new
+CauseOf q s old new fault.Gone = IsUnheard q s old fault.Gone new
+CauseOf q s old new Write = IsUnwritten q s old new
+CauseOf q s old new LimitReached = IsAtLimit s old new
+
+-- a fault is kept, for its cause; one question less is left, but at the limit
+pub record AsksNoMore (q : Question) (s : StreamPipes) (old : Kept) (f : LiveFault) (new : Kept) :
     Type 0 where
   pub kept : new.fault ≡ Some f
-  pub written : AppendsFront s.before s.now (question_line q ++ 10 ∷ [])
-  pub read : ReadLines s.unread s.left old.lines new.lines
-  pub limit : f ≡ LimitReached → (old.left ≡ 0) × Consumes s.unread s.left []
-      × Appends s.before s.now []
+  pub cause : CauseOf q s old new f
   pub spent : new.left + questions f ≡ old.left
   pub roots : new.roots ≡ old.roots
 
-abbrev pub AsksOnce : Question → StreamTexts → Kept → Result Answer LiveFault → Kept → Type 0
+abbrev pub AsksOnce : Question → StreamPipes → Kept → Result Answer LiveFault → Kept → Type 0
 AsksOnce q s old (Ok got) new = AskedWell q s old got new
 AsksOnce q s old (Err f) new = AsksNoMore q s old f new
 
 -- the same of a bus that has not kept the fault yet
-abbrev pub FailsOnce : Question → StreamTexts → Kept → Result Answer LiveFault → Kept → Type 0
+abbrev pub FailsOnce : Question → StreamPipes → Kept → Result Answer LiveFault → Kept → Type 0
 FailsOnce q s old (Ok got) new = AskedWell q s old got new
 FailsOnce q s old (Err f) new = AsksNoMore q s old f (record new { fault = Some f })
 
 -- nothing was asked
-pub record AsksNoQuestion (s : StreamTexts) (old new : Kept) : Type 0 where
+pub record AsksNoQuestion (s : StreamPipes) (old new : Kept) : Type 0 where
   pub same : new ≡ old
-  pub read : Consumes s.unread s.left []
-  pub written : Appends s.before s.now []
+  pub unread : s.left ≡ s.unread
+  pub unwritten : s.now ≡ s.before
 
 -- an attempt was asked for, and this is what its answer gives
-pub record GivesAs (q : Question) (most : ℕ) (s : StreamTexts) (old : Kept) (outcome : Outcome)
+pub record GivesAs (q : Question) (most : ℕ) (s : StreamPipes) (old : Kept) (outcome : Outcome)
     (new : Kept) : Type 0 where
   pub got : Answer
   pub asked : AskedWell q s old got new
@@ -252,38 +320,38 @@ bus_fault fault.Write = bus.Failed
 bus_fault fault.LimitReached = bus.Limit
 
 -- an attempt was asked for, and a fault is kept, which is told as it is to a host
-pub record FailsByLine (q : Question) (s : StreamTexts) (old : Kept) (told : BusFault)
+pub record FailsByLine (q : Question) (s : StreamPipes) (old : Kept) (told : BusFault)
     (new : Kept) : Type 0 where
   pub f : LiveFault
   pub asked : AsksNoMore q s old f new
   pub is : told ≡ bus_fault f
 
-abbrev pub AttemptsBy : Option Question → ℕ → StreamTexts → Kept → Result Outcome BusFault → Kept
+abbrev pub AttemptsBy : Option Question → ℕ → StreamPipes → Kept → Result Outcome BusFault → Kept
     → Type 0
 AttemptsBy (Some q) most s old (Ok outcome) new = GivesAs q most s old outcome new
 AttemptsBy (Some q) most s old (Err told) new = FailsByLine q s old told new
 AttemptsBy None most s old result new = AsksNoQuestion s old new × (result ≡ Ok Nothing)
 
 -- an attempt is one question, where there is a line for it
-abbrev pub AttemptsByLine : Attempt → StreamTexts → Kept → Result Outcome BusFault → Kept → Type 0
+abbrev pub AttemptsByLine : Attempt → StreamPipes → Kept → Result Outcome BusFault → Kept → Type 0
 AttemptsByLine a s old result new = AttemptsBy (question_for a) a.max s old result new
 
 -- a call at a root port that there is is one question
-pub record AsksCall (port : ℕ) (c : PortCall) (s : StreamTexts) (old new : Kept) : Type 0 where
+pub record AsksCall (port : ℕ) (c : PortCall) (s : StreamPipes) (old new : Kept) : Type 0 where
   pub result : Result Answer LiveFault
   pub asked : AsksOnce (Port port c) s old result new
 
-abbrev pub Calls : ℕ → Option PortCall → StreamTexts → Kept → Kept → Type 0
+abbrev pub Calls : ℕ → Option PortCall → StreamPipes → Kept → Kept → Type 0
 Calls port None s old new = AsksNoQuestion s old new
 Calls port (Some c) s old new = (1 ≤ port → port ≤ old.roots → AsksCall port c s old new)
     × (port ≡ 0 → AsksNoQuestion s old new) × (old.roots < port → AsksNoQuestion s old new)
 
--- lines were told, or a front of them where the writer failed, and that is kept
-abbrev pub WritesLines : List ℕ → Option (List ℕ) → Option (List ℕ) → Kept
-    → Result (Unit {0}) LiveFault → Kept → Type 0
-WritesLines lines before now old (Ok done) new = Appends before now lines × (new ≡ old)
+-- lines were told and flushed, or a front of them where the writer failed, and that is kept
+abbrev pub WritesLines : List ℕ → OutPipe → OutPipe → Kept → Result (Unit {0}) LiveFault → Kept
+    → Type 0
+WritesLines lines before now old (Ok done) new = Flushes before lines now × (new ≡ old)
 WritesLines lines before now old (Err f) new =
-    AppendsFront before now lines × (f ≡ Write) × (new ≡ record old { fault = Some Write })
+    FailsToFlush before lines now × (f ≡ Write) × (new ≡ record old { fault = Some Write })
 
 -- as it was told last, 0 where there is no such port
 abbrev pub kept_status : Kept → ℕ → List ℕ
@@ -326,7 +394,7 @@ greeted (Ok got) k = greeted_by got k
 greeted (Err f) k = k
 
 -- the hello was asked
-pub record SaysHello (limit : ℕ) (s : StreamTexts) (new : Kept) : Type 0 where
+pub record SaysHello (limit : ℕ) (s : StreamPipes) (new : Kept) : Type 0 where
   pub result : Result Answer LiveFault
   pub mid : Kept
   pub asked : AsksOnce Hello s (unasked limit) result mid

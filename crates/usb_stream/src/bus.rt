@@ -1,8 +1,7 @@
 //! The bus behind a stream of lines.
 ghost use Rattle.std.specs.Prelude.{◌≡◌, ◌≢◌, ◌-◌, ◌≤◌, ◌∷◌, ◌++◌, [], slice_set, IfErr, IfOk, None, Some, Ok, Err, option_map};
-ghost use Rattle.std.specs.Io.KnownBytes.{Appends};
 ghost use Rattle.usb_bus.specs.Traces.{Spends};
-ghost use Rattle.usb_bus.specs.Watch.{AppendsFront, inner_of};
+ghost use Rattle.usb_lines.specs.Pipes.{out_pipe_of, pipe_of};
 ghost use Rattle.usb_port.specs.Calls.{IsClearFeature, IsSetFeature, clear_call, set_call};
 ghost use Rattle.usb_world.specs.Worlds.{FitsMaximum, IsAttempt};
 ghost use Rattle.usb_wire.specs.Questions.{IsQuestion, kind_asked, question_line};
@@ -55,7 +54,7 @@ impl<R, W> StreamBus<R, W> {
 /// question tells it.
 impl<R: Read, W: Write> Bus for StreamBus<R, W> {
     ghost use Rattle.std.specs.Prelude.{false};
-    ghost use Rattle.usb_stream.specs.Stream.{AttemptsByLine, Calls, bus_fault, kept_of, no_world, kept_status, streams};
+    ghost use Rattle.usb_stream.specs.Stream.{AttemptsByLine, Calls, bus_fault, kept_of, no_world, kept_status, streams, unread_of, written_of};
     ghost use Rattle.usb_stream.specs.declared.fault.LiveFault.{LiveFault as AFault};
 
     ghost modelled = { false };
@@ -79,9 +78,8 @@ impl<R: Read, W: Write> Bus for StreamBus<R, W> {
         ensures again { (f : AFault) → (kept_of self.old).fault ≡ Some f
             → (result ≡ Err (bus_fault f)) × (self.new ≡ self.old) }
         ensures asks { (kept_of self.old).fault ≡ None → AttemptsByLine attempt.now
-            (streams (R.remaining (inner_of self.old.reader))
-            (R.remaining (inner_of self.new.reader)) (W.contents (inner_of self.old.writer))
-            (W.contents (inner_of self.new.writer)))
+            (streams (unread_of R.remaining self.old) (unread_of R.remaining self.new)
+            (written_of W.contents self.old) (written_of W.contents self.new))
             (kept_of self.old) result (kept_of self.new) }
         ensures fits { IfOk result (FitsMaximum attempt.now.max) }
         ensures spends { Spends (λ bus. 0) (λ bus. (kept_of bus).roots) 1 self.old self.new }
@@ -119,9 +117,8 @@ impl<R: Read, W: Write> Bus for StreamBus<R, W> {
         requires { IsSetFeature feature }
         ensures again { (kept_of self.old).fault ≢ None → self.new ≡ self.old }
         ensures asks { (kept_of self.old).fault ≡ None → Calls port (set_call feature)
-            (streams (R.remaining (inner_of self.old.reader))
-            (R.remaining (inner_of self.new.reader)) (W.contents (inner_of self.old.writer))
-            (W.contents (inner_of self.new.writer)))
+            (streams (unread_of R.remaining self.old) (unread_of R.remaining self.new)
+            (written_of W.contents self.old) (written_of W.contents self.new))
             (kept_of self.old) (kept_of self.new) }
         ensures unspent { Spends (λ bus. 0) (λ bus. (kept_of bus).roots) 0 self.old self.new }
     {
@@ -134,9 +131,8 @@ impl<R: Read, W: Write> Bus for StreamBus<R, W> {
         requires { IsClearFeature feature }
         ensures again { (kept_of self.old).fault ≢ None → self.new ≡ self.old }
         ensures asks { (kept_of self.old).fault ≡ None → Calls port (clear_call feature)
-            (streams (R.remaining (inner_of self.old.reader))
-            (R.remaining (inner_of self.new.reader)) (W.contents (inner_of self.old.writer))
-            (W.contents (inner_of self.new.writer)))
+            (streams (unread_of R.remaining self.old) (unread_of R.remaining self.new)
+            (written_of W.contents self.old) (written_of W.contents self.new))
             (kept_of self.old) (kept_of self.new) }
         ensures unspent { Spends (λ bus. 0) (λ bus. (kept_of bus).roots) 0 self.old self.new }
     {
@@ -153,7 +149,7 @@ impl<R: Read, W: Write> Bus for StreamBus<R, W> {
 }
 
 impl<R: Read, W: Write> StreamBus<R, W> {
-    ghost use Rattle.usb_stream.specs.Stream.{AsksOnce, Calls, FailsOnce, AnswerLinesRead, SaysHello, ReadLines, ReadOne, Says, WritesLines, bus_fault, counted_on, greeted, kept_of, streams};
+    ghost use Rattle.usb_stream.specs.Stream.{AsksOnce, Calls, CauseOfHearing, CauseOfLine, FailsOnce, AnswerLinesRead, SaysHello, Says, WritesLines, bus_fault, counted_on, greeted, kept_of, streams, unread_of, written_of};
     ghost use Rattle.usb_stream.specs.declared.fault.LiveFault.{LiveFault as AFault};
 
     /// Says the hello to a far end, which tells how many root ports there are; at most so many questions are asked in
@@ -161,9 +157,9 @@ impl<R: Read, W: Write> StreamBus<R, W> {
     ///
     /// The bus is made whatever is answered: it may have a fault from the first.
     pub fn open(reader: Watched<R>, writer: Watched<W>, limit: u64) -> Self
-        ensures { SaysHello limit (streams (R.remaining (inner_of reader))
-            (R.remaining (inner_of result.reader)) (W.contents (inner_of writer))
-            (W.contents (inner_of result.writer))) (kept_of result) }
+        ensures { SaysHello limit (streams (pipe_of R.remaining reader)
+            (unread_of R.remaining result) (out_pipe_of W.contents writer)
+            (written_of W.contents result)) (kept_of result) }
     {
         let mut bus = StreamBus {
             reader,
@@ -204,11 +200,18 @@ impl<R: Read, W: Write> StreamBus<R, W> {
         self.fault
     }
 
-    /// How many lines were read.
+    /// The number of the line that was read last, or awaited when the bus failed.
     pub fn lines(&self) -> u64
         ensures { result ≡ (kept_of self.now).lines }
     {
         self.lines
+    }
+
+    /// How many more questions may be asked.
+    pub fn left(&self) -> u64
+        ensures { result ≡ (kept_of self.now).left }
+    {
+        self.left
     }
 
     /// Asks what is wanted.
@@ -219,9 +222,8 @@ impl<R: Read, W: Write> StreamBus<R, W> {
         ensures again { (f : AFault) → (kept_of self.old).fault ≡ Some f
             → (result ≡ Err f) × (self.new ≡ self.old) }
         ensures asks { (kept_of self.old).fault ≡ None → AsksOnce question.Wait
-            (streams (R.remaining (inner_of self.old.reader))
-            (R.remaining (inner_of self.new.reader)) (W.contents (inner_of self.old.writer))
-            (W.contents (inner_of self.new.writer)))
+            (streams (unread_of R.remaining self.old) (unread_of R.remaining self.new)
+            (written_of W.contents self.old) (written_of W.contents self.new))
             (kept_of self.old) result (kept_of self.new) }
     {
         self.ask(&Question::Wait)
@@ -235,7 +237,7 @@ impl<R: Read, W: Write> StreamBus<R, W> {
         ensures again { (f : AFault) → (kept_of self.old).fault ≡ Some f
             → (result ≡ Err f) × (self.new ≡ self.old) }
         ensures told { (kept_of self.old).fault ≡ None → WritesLines lines.now
-            (W.contents (inner_of self.old.writer)) (W.contents (inner_of self.new.writer))
+            (written_of W.contents self.old) (written_of W.contents self.new)
             (kept_of self.old) result (kept_of self.new) }
         ensures reader { self.new.reader ≡ self.old.reader }
     {
@@ -268,9 +270,8 @@ impl<R: Read, W: Write> StreamBus<R, W> {
     fn call(&mut self, port: u8, call: PortCall)
         ensures again { (kept_of self.old).fault ≢ None → self.new ≡ self.old }
         ensures asks { (kept_of self.old).fault ≡ None → Calls port (Some call)
-            (streams (R.remaining (inner_of self.old.reader))
-            (R.remaining (inner_of self.new.reader)) (W.contents (inner_of self.old.writer))
-            (W.contents (inner_of self.new.writer)))
+            (streams (unread_of R.remaining self.old) (unread_of R.remaining self.new)
+            (written_of W.contents self.old) (written_of W.contents self.new))
             (kept_of self.old) (kept_of self.new) }
         ensures roots { self.new.roots ≡ self.old.roots }
     {
@@ -286,9 +287,8 @@ impl<R: Read, W: Write> StreamBus<R, W> {
         ensures again { (f : AFault) → (kept_of self.old).fault ≡ Some f
             → (result ≡ Err f) × (self.new ≡ self.old) }
         ensures asks { (kept_of self.old).fault ≡ None → AsksOnce question.now
-            (streams (R.remaining (inner_of self.old.reader))
-            (R.remaining (inner_of self.new.reader)) (W.contents (inner_of self.old.writer))
-            (W.contents (inner_of self.new.writer)))
+            (streams (unread_of R.remaining self.old) (unread_of R.remaining self.new)
+            (written_of W.contents self.old) (written_of W.contents self.new))
             (kept_of self.old) result (kept_of self.new) }
         ensures roots { self.new.roots ≡ self.old.roots }
     {
@@ -309,9 +309,8 @@ impl<R: Read, W: Write> StreamBus<R, W> {
         requires asks { IsQuestion question.now }
         requires sound { (kept_of self.old).fault ≡ None }
         ensures { FailsOnce question.now
-            (streams (R.remaining (inner_of self.old.reader))
-            (R.remaining (inner_of self.new.reader)) (W.contents (inner_of self.old.writer))
-            (W.contents (inner_of self.new.writer)))
+            (streams (unread_of R.remaining self.old) (unread_of R.remaining self.new)
+            (written_of W.contents self.old) (written_of W.contents self.new))
             (kept_of self.old) result (kept_of self.new) }
     {
         if self.left == 0 {
@@ -327,12 +326,10 @@ impl<R: Read, W: Write> StreamBus<R, W> {
 
     /// Reads up to an answer; each status before it is kept.
     fn hear(&mut self, asked: Asked) -> Result<Answer, LiveFault>
-        ensures ok { IfOk result (λ got. AnswerLinesRead asked self.old.roots
-            (R.remaining (inner_of self.old.reader)) (R.remaining (inner_of self.new.reader))
-            self.old.statuses self.old.lines got self.new.statuses self.new.lines) }
-        ensures err { IfErr result (λ f. (f ≢ LiveFault.LimitReached) × ReadLines
-            (R.remaining (inner_of self.old.reader)) (R.remaining (inner_of self.new.reader))
-            self.old.lines self.new.lines) }
+        ensures ok { IfOk result (λ got. AnswerLinesRead asked (unread_of R.remaining self.old)
+            (unread_of R.remaining self.new) (kept_of self.old) got (kept_of self.new)) }
+        ensures err { IfErr result (CauseOfHearing asked (unread_of R.remaining self.old)
+            (unread_of R.remaining self.new) (kept_of self.old) (kept_of self.new)) }
         ensures same { kept_of self.new ≡ record (kept_of self.old)
             { statuses = self.new.statuses; lines = self.new.lines } }
         ensures writer { self.new.writer ≡ self.old.writer }
@@ -351,10 +348,10 @@ impl<R: Read, W: Write> StreamBus<R, W> {
 
     /// What the next line says. The end of the input is the end, in place of what is wanted.
     fn next_said(&mut self, asked: Asked) -> Result<Said, LiveFault>
-        ensures ok { IfOk result (Says asked self.old.roots (R.remaining (inner_of self.old.reader))
-            (R.remaining (inner_of self.new.reader))) }
-        ensures err { IfErr result (λ f. (f ≢ LiveFault.LimitReached) × ReadOne
-            (R.remaining (inner_of self.old.reader)) (R.remaining (inner_of self.new.reader))) }
+        ensures ok { IfOk result (Says asked self.old.roots (unread_of R.remaining self.old)
+            (unread_of R.remaining self.new)) }
+        ensures err { IfErr result (CauseOfLine asked self.old.roots
+            (unread_of R.remaining self.old) (unread_of R.remaining self.new)) }
         ensures same { kept_of self.new
             ≡ record (kept_of self.old) { lines = counted_on self.old.lines 1 } }
         ensures writer { self.new.writer ≡ self.old.writer }
@@ -385,7 +382,7 @@ fn keep(statuses: &mut [[u8; 4]; 7], number: u8, status: [u8; 4])
 /// What the end of the input says.
 fn at_end(asked: Asked) -> Result<Said, LiveFault>
     ensures ok { IfOk result (λ said. (asked ≡ Asked.Wait) × (said ≡ Said.Answered Answer.End)) }
-    ensures err { IfErr result (λ f. f ≡ LiveFault.Gone) }
+    ensures err { IfErr result (λ f. (f ≡ LiveFault.Gone) × (asked ≢ Asked.Wait)) }
 {
     match asked {
         Asked::Wait => Ok(Said::Answered(Answer::End)),

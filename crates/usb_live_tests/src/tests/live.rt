@@ -248,6 +248,29 @@ fn ends(rt: HostRuntime) -> Result<(), Fail> {
     Ok(())
 }
 
+/// A line of so many bytes, and whether a newline stands behind it.
+#[test]
+fn long_lines(rt: HostRuntime) -> Result<(), Fail> {
+    for (bytes, is_whole, fault) in [
+        (1024u16, true, LiveFault::Line(WireFault::NoAnswer)),
+        (1025, true, LiveFault::Line(WireFault::LineTooLong)),
+        (1024, false, LiveFault::Gone),
+        (1025, false, LiveFault::Line(WireFault::LineTooLong)),
+    ] {
+        let mut far = String::from_str(rt.alloc(), "roots 1\nok\n")?;
+        for _ in 0..bytes {
+            far.push('A')?;
+        }
+        if is_whole {
+            far.push_str("\nend\n")?;
+        }
+        let played = play(rt.alloc(), far.as_bytes(), u64::MAX, 9);
+        assert_eq!(rt; played.ended, Err(LiveEnd::Line(3, fault)), "{bytes} bytes");
+        assert_eq!(rt; newlines(played.host.as_slice()), 3, "{bytes} bytes");
+    }
+    Ok(())
+}
+
 /// The input fails, or ends, behind each number of bytes: nothing is told but where the end stands for `end`.
 #[test]
 fn cut(rt: HostRuntime) -> Result<(), Fail> {

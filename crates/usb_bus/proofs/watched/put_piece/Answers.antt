@@ -1,11 +1,11 @@
 use Rattle.std.proofs.Common.{◌++◌, ◌∙◌, take}
 use Rattle.std.proofs.KnownBytes.{Appends-trans}
-use Rattle.usb_bus.proofs.Fronts.{moves_front, unmarked_by}
+use Rattle.usb_bus.proofs.Fronts.{moves_front, pending_more, unmarked_by}
 use Rattle.usb_bus.proofs.watched.put_piece.Goals as goal
 
 pub parts-preserved : goal.parts-preserved
 parts-preserved g c =
-    let (done, split, appended) = c.parts.invariant.gone in
+    let (done, split, appended, pending) = c.parts.invariant.gone in
     let rest = c.parts.rest.now in
     let n = c.in-Ok.n in
     record {
@@ -13,6 +13,8 @@ parts-preserved g c =
         done ++ take n rest,
         moves_front _ done rest n split,
         Appends-trans _ _ _ _ _ appended c.in-Ok.ensures.bytes,
+        pending_more _ _ _ done rest n pending c.in-Ok.ensures.pending c.in-Ok.n-test.1
+            c.in-Ok.ensures.bound,
       );
       unmarked = unmarked_by _ _ n _ c.in-Ok.ensures.mark c.in-Ok.n-test.1
           ∙ c.parts.invariant.unmarked;

@@ -1,6 +1,6 @@
-use Rattle.std.proofs.Common.{◌≡◌, ℕ, List, ◌++◌, length}
+use Rattle.std.proofs.Common.{◌≡◌, ℕ, ◌||◌, List, ◌++◌, length}
 use Rattle.std.specs.Io.KnownBytes.{Appends}
-use Rattle.usb_bus.specs.{inner_of, has_failed}
+use Rattle.usb_bus.specs.{has_failed, has_pending, inner_of, is_some_text}
 use Rattle.usb_bus.proofs.watched.put_piece.Given as goal
 
 -- what is gone from the piece has been appended
@@ -8,7 +8,8 @@ abbrev pub invariant-parts : goal.invariant-parts
 invariant-parts g l = record {
   gone : (done : List ℕ) × (l.fn.piece ≡ done ++ l.rest)
       × Appends (g.W.Write.contents (inner_of l.fn.writer)) (g.W.Write.contents (inner_of l.writer))
-      done;
+      done
+      × (has_pending l.writer ≡ (has_pending l.fn.writer || is_some_text done));
   unmarked : has_failed l.writer ≡ has_failed l.fn.writer;
 }
 

@@ -1,10 +1,10 @@
-use Rattle.usb_bus.specs.{inner_of}
+use Rattle.usb_lines.specs.{out_pipe_of, pipe_of}
 use Rattle.usb_live.proofs.host.live.Given as goal
 
 -- the course begins here
 abbrev pub ghosts-course : goal.ghosts-course
 ghosts-course g a = record {
   limit = a.limit;
-  unread = g.R.Read.remaining (inner_of a.reader);
-  before = g.W.Write.contents (inner_of a.writer);
+  unread = pipe_of g.R.Read.remaining a.reader;
+  before = out_pipe_of g.W.Write.contents a.writer;
 }

@@ -24,13 +24,11 @@ returns-in-Err-reply g c = λ before behind read on.
 pub returns-in-Ok-put_lines : goal.returns-in-Ok-put_lines
 returns-in-Ok-put_lines g c = λ before behind read on.
     asked_line _ _ c.args.line.now c.in-Ok-reply.reply.items c.in-Ok.question c.requires.unbroken
-    read on c.in-Ok.ensures.asked
-    c.in-Ok-reply.ensures.replied (rw c.as_slice.ensures.value at c.in-Ok-put_lines.ensures.ok)
-    c.in-Ok-put_lines.ensures.unmarked
+    read on c.in-Ok.ensures.asked c.in-Ok-reply.ensures.replied
+    (rw c.as_slice.ensures.value at c.in-Ok-put_lines.ensures)
 
 pub returns-in-Err-put_lines : goal.returns-in-Err-put_lines
 returns-in-Err-put_lines g c = λ before behind read on.
     asked_torn _ _ c.args.line.now c.in-Ok-reply.reply.items c.in-Ok.question c.requires.unbroken
-    read on c.in-Ok.ensures.asked
-    c.in-Ok-reply.ensures.replied (rw c.as_slice.ensures.value at c.in-Err-put_lines.ensures.front)
-    (rw c.as_slice.ensures.value at c.in-Err-put_lines.ensures.marked)
+    read on c.in-Ok.ensures.asked c.in-Ok-reply.ensures.replied
+    (rw c.as_slice.ensures.value at c.in-Err-put_lines.ensures)

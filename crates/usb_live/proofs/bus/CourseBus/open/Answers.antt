@@ -6,6 +6,7 @@ use Rattle.usb_live.proofs.bus.CourseBus.open.Goals as goal
 pub invariant_of-result : goal.invariant_of-result
 invariant_of-result g c =
     rw (sym c.requires.limit, sym c.requires.unread, sym c.requires.before) (record {
+      bounded = ?;
       course = ∣ opens _ (unread_of g.R.Read.remaining c.open.result) _
           (written_of g.W.Write.contents c.open.result) (kept_of c.open.result) c.open.ensures ∣₁;
     })
