@@ -68,7 +68,7 @@ pub use Soundness.{RootsRest, RoundsSound, TransferKeeps, TruthfulBut, known_sup
 pub use ToldFaults.{HostReported, IsReportedLast, PartFaultAllowed, RoundFaultAllowed, StopsAsRound, StopsAsTransfer}
 pub use ToldFaults.{TransferFaultAllowed, host_fault, host_told, is_final, is_last_fault}
 pub use Transfers.{ClearedAt, MovesThrough, ReceivedAt, SentAt, table_in}
-pub use Changes.{HasOnlyWorldChanges, KeepsEach, was_disabled}
+pub use Changes.{HasOnlyWorldChanges, KeepsEach, is_stuck, was_disabled}
 pub use Requests.{ClearsError, ClearsFeature, ClearsOthers, ClearsOwn, ClearsPort, ClearsWhere}
 pub use Requests.{SettlesPort, ShowsPort, TidiesPort}
 pub use declared.fault.HostFault.{HostFault}
