@@ -1,11 +1,12 @@
 -- What requests at a port leave, one after the other.
 use Rattle.std.proofs.Common.{◌≡◌, ◌∙◌, ◌⊎◌, ◌+◌, ◌*◌, ◌≤◌, arith, inl, inr, refl, sym, ap, subst}
-use Rattle.std.proofs.Common.{true, Bool, ℕ, List, Some, Result, Ok, Err, IfErr, IfOk, OnOk, IsOk}
+use Rattle.std.proofs.Common.{true, false, Bool, ℕ, List, Some, Result, Ok, Err, IfErr, IfOk, OnOk}
+use Rattle.std.proofs.Common.{IsOk}
 use Rattle.usb_request.specs.{PORT_ENABLE, C_PORT_CONNECTION, C_PORT_ENABLE, C_PORT_RESET}
-use Rattle.usb_port.specs.{clear_call, is_reset, PortCall, ClearEnable, ClearEnableChange}
-use Rattle.usb_port.specs.{ClearResetChange, PortStatus}
+use Rattle.usb_port.specs.{clear_call, is_reset, PortCall, ClearConnectionChange, ClearEnable}
+use Rattle.usb_port.specs.{ClearEnableChange, ClearResetChange, PortStatus}
 use Rattle.usb_world.specs.{World, HasFault, AttemptsWithin, BusFault}
-use Rattle.usb_tree.proofs.Interface.{decided}
+use Rattle.usb_tree.proofs.Interface.{both, decided, false_true}
 use Rattle.usb_bus.proofs.Interface.{went_then}
 use Rattle.usb_address.specs.{AddressMap, KeepsAddresses, MapHolds, WhileBusWorks}
 use Rattle.usb_address.proofs.Interface.{keeps_then, keeps_none}
@@ -16,17 +17,17 @@ use Rattle.usb_hub.specs.{ReadsPort, PortCleared, PortRead, order_bound, status_
 use Rattle.usb_hub.specs.{HubPort, Root, External, ClearsOfHub, StillWorks, WorksAfter}
 use Rattle.usb_hub.proofs.Interface.{clear_works, hub_change_works, port_change_works, read_works}
 use Rattle.usb_transaction.specs.{Target}
-use Rattle.usb_backlog.proofs.Interface.{all_none}
+use Rattle.usb_backlog.proofs.Interface.{all_none, all_then}
 use Rattle.usb_enum.specs.{read_bound, CanFail, FaultAllowedAt, at_port, fault_at_port, EnumFault}
 use Rattle.usb_enum.specs.{ParentLost, Bus, Memory, EnumWorks}
-use Rattle.usb_enum.proofs.Interface.{at_port_works, order_most}
+use Rattle.usb_enum.proofs.Interface.{at_port_works, order_most, devices_then}
 use Rattle.usb_table.specs.{IsAskable}
 use Rattle.usb_host.specs.{ClearsConnection, ClearsReset, clearing_bound, HasOnlyWorldChanges}
 use Rattle.usb_host.specs.{HostState, BaresPort, ClearsChange, LetsGoOn, Tidies, Watches, Gained}
 use Rattle.usb_host.specs.{ProgressOnOk, IsDue, Requested, Shown, HostRuns, HostSteps, ClearsError}
 use Rattle.usb_host.specs.{ClearsFeature, ClearsOthers, ClearsOwn, ClearsPort, ClearsWhere}
 use Rattle.usb_host.specs.{SettlesPort, ShowsPort, TidiesPort, ClearsAndReads, ClearsTold}
-use Rattle.usb_host.specs.{DoneWhere}
+use Rattle.usb_host.specs.{DoneWhere, is_stuck}
 use Rattle.usb_host.proofs.devices.Enumerations.{status_read_goes}
 use Rattle.usb_host.proofs.OwnedPorts.{bares_after}
 use Rattle.usb_host.proofs.StepSums.{goes_by, host_goes_none, host_goes_then, goes_wider}
@@ -35,7 +36,10 @@ use Rattle.usb_host.proofs.devices.Requests.{call_tidies, changes_disabled, chan
 use Rattle.usb_host.proofs.devices.Requests.{clears_after, clears_disabled, clears_enable_change}
 use Rattle.usb_host.proofs.devices.Requests.{clears_failed, clears_reset_change, tells_keeps_asked}
 use Rattle.usb_host.proofs.devices.Requests.{clears_untold, disabled_so, ok_at_port, resets_done}
-use Rattle.usb_host.proofs.devices.Requests.{tidies_none, tidies_then, watched}
+use Rattle.usb_host.proofs.devices.Requests.{connection_call, port_read_backlog, port_read_rests}
+use Rattle.usb_host.proofs.devices.Requests.{rest_elsewhere_then, tidies_none, tidies_then, watched}
+use Rattle.usb_host.proofs.payments.Backlogs.{call_all}
+use Rattle.usb_host.proofs.rests.ClearedPorts.{cleared_steady}
 use Rattle.usb_host.proofs.services.Services.{call_done, done_not}
 use Rattle.usb_hub.proofs.Interface.{keeps_devices_none}
 use Rattle.usb_host.proofs.knowledge.TidiedPorts.{Tidy, enable, reset, tidy_call}
@@ -412,6 +416,19 @@ change_failed port old (Err why) new fault is calls keeps =
     let same : fault ≡ fault_at_port why = cc is in
     rw same (clears_failed why calls keeps)
 
+-- a change that was cleared is not told again
+
+stuck_can : (port : HubPort) (status : PortStatus) → is_stuck port status ≡ true → CanFail port
+stuck_can (Root number) status stuck = false_true stuck
+stuck_can (External hub number) status stuck = tt
+
+stuck_by : (port : HubPort) (status : PortStatus) → CanFail port → is_stuck port status ≡ true
+    → (status.enabled ≡ true → status.connection_changed ≡ false) → ⊥
+stuck_by (Root number) status can stuck steady = can
+stuck_by (External hub number) status can stuck steady =
+    let told = both status.enabled status.connection_changed stuck in
+    false_true (sym (steady told.0) ∙ told.1)
+
 module _ {port : HubPort} {a b : HostState} where
   -- it was not cleared
   pub change_fails : {fault : EnumFault} → ClearsFeature port C_PORT_CONNECTION a (Err fault) b
@@ -506,6 +523,41 @@ module _ {port : HubPort} {a b : HostState} where
                 (λ resets. absurd (cc resets)) z f p at (told_asks.keeps.kept f kept);
           }
       reads_by (Err fault) z f p at owned = tt
+
+      -- or it tells the change again, as no port of a world does
+      stuck_never : is_stuck port status ≡ true → (f : AddressMap) (p : List ℕ) → IsAt f port p
+          → WhileBusWorks (MapHolds f) a.world → ⊥
+      stuck_never stuck f p at owned = stuck_by port status (stuck_can port status stuck)
+          stuck (cleared_steady p status (call_done (λ resets. absurd (cc resets)) change_calls f p
+          at owned) (told_tells.tells f p at (x.keeps.keeps.kept f owned) status refl))
+
+      pub change_stays : is_stuck port status ≡ true → ClearsPort port a (Err ParentLost) c
+      change_stays stuck =
+          let went = host_goes_then {k = write_bound + read_bound 4}
+          x.requested.goes y.requested.goes (omega arith) in
+          record {
+            requested = record {
+              goes = goes_wider went (omega arith);
+              told = stuck_can port status stuck;
+            };
+            gains = change_on c (Err ParentLost) y.requested.goes.went;
+            keeps = record {
+              bares = keeps_then a.world b.world c.world x.keeps.keeps told_asks.keeps;
+              devices = devices_then (read_bound 4) a.world b.world c.world x.keeps.devices
+                  y.requested.goes.went told_asks.devices;
+              others = λ f p at owned goes. rest_elsewhere_then p a.world b.world c.world
+                  (change_calls.rests f p ClearConnectionChange (connection_call at owned) tt)
+                  (λ z away. port_read_rests port b.world (Ok status) c.world told_read tt z);
+              decides = λ f p at owned way order still. tt;
+              backlog = λ f p at owned goes. all_then
+                  (call_all (λ g. absurd (cc g)) (λ g. absurd (cc g)) (change_calls.backlog f p
+                  ClearConnectionChange (connection_call at owned) tt))
+                  (port_read_backlog port b.world (Ok status) c.world told_read tt);
+              lost = λ f p at owned way few still alone e. absurd (stuck_never stuck f p at owned);
+            };
+            paid = tt;
+            reads = λ f p at owned. tt;
+          }
 
       pub change_cleared : {result : Result (Unit {0}) EnumFault}
           → ClearsWhere status.enabled port PORT_ENABLE c result d

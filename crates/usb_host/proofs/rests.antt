@@ -1,5 +1,6 @@
 -- Ports that rest, and rounds with nothing to do.
 pub mod CalmPorts
+pub mod ClearedPorts
 pub mod Clearings
 pub mod IdleRounds
 pub mod OtherChanges

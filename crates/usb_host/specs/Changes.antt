@@ -18,6 +18,12 @@ was_disabled (Root number) status device = false
 was_disabled (External hub port) status device =
     status.enable_changed && (status.connected && (not status.enabled && is_some device))
 
+-- a hub has not cleared a change of connection that its port tells right behind the clearing, where
+-- that is enabled: whatever is plugged or unplugged between disables it; no hub of a world does
+abbrev pub is_stuck : HubPort → PortStatus → Bool
+is_stuck (Root number) status = false
+is_stuck (External hub port) status = status.enabled && status.connection_changed
+
 -- each reachable device keeps its address, and stays as it was
 pub record KeepsEach (old new : World) : Type 0 where
   pub addresses : KeepsAddresses old new

@@ -69,7 +69,7 @@ pub use ToldFaults.{HostReported, IsReportedLast, PartFaultAllowed, RoundFaultAl
 pub use ToldFaults.{StopsAsTransfer, TransferFaultAllowed, host_fault, host_told, is_final}
 pub use ToldFaults.{is_last_fault, HostNotOfBus, HostWorks}
 pub use Transfers.{ClearedAt, MovesThrough, ReceivedAt, SentAt, table_in}
-pub use Changes.{HasOnlyWorldChanges, KeepsEach, was_disabled}
+pub use Changes.{HasOnlyWorldChanges, KeepsEach, is_stuck, was_disabled}
 pub use Requests.{ClearsError, ClearsFeature, ClearsOthers, ClearsOwn, ClearsPort, ClearsWhere}
 pub use Requests.{SettlesPort, ShowsPort, TidiesPort}
 pub use declared.fault.HostFault.{HostFault}

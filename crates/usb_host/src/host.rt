@@ -149,7 +149,8 @@ impl<B: Bus> Host<B> {
     /// is free.
     ///
     /// A hub that does not answer is dropped: its port is disabled, and what stood below it is
-    /// forgotten.
+    /// forgotten. So is one whose port is enabled and still tells the change of connection that was
+    /// just cleared.
     ///
     /// # Errors
     ///

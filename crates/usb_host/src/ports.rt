@@ -1,5 +1,5 @@
 //! What the host does at a port.
-ghost use Rattle.std.specs.Prelude.{◌≡◌, ◌≤◌, ◌+◌, ◌*◌, [], ◌∷◌, true, false, IsTrue, Ok, IfErr, IfSome, IfNone, IsSome, MatchResult, is_some};
+ghost use Rattle.std.specs.Prelude.{◌≡◌, ◌≤◌, ◌+◌, ◌*◌, [], ◌∷◌, true, false, IsTrue, Ok, IfErr, IfOk, IfSome, IfNone, IsSome, MatchResult, is_some};
 ghost use Rattle.usb_port.specs.Calls.{IsClearFeature};
 ghost use Rattle.usb_port.specs.Path.{IsPath, IsPortNumber};
 ghost use Rattle.usb_world.specs.Worlds.{IsRootPort, root_port_at};
@@ -11,7 +11,7 @@ ghost use Rattle.usb_table.specs.KnownPorts.{IsAskable, known_port};
 ghost use Rattle.usb_table.specs.Listing.{tier_of};
 ghost use Rattle.usb_pipe.specs.Control.{write_bound};
 ghost use Rattle.usb_host.specs.Backlog.{hubs};
-ghost use Rattle.usb_host.specs.Changes.{HasOnlyWorldChanges, was_disabled};
+ghost use Rattle.usb_host.specs.Changes.{HasOnlyWorldChanges, is_stuck, was_disabled};
 ghost use Rattle.usb_host.specs.PortHandling.{DisablesOnWay, Climbs};
 ghost use Rattle.usb_host.specs.Ports.{IsPortAt, StandsNowhere, IsDue, Waits, Broke, EndsAs, Entered, Forgets};
 ghost use Rattle.usb_enum.specs.Bounds.{read_bound, widest_enumeration};
@@ -368,16 +368,21 @@ impl<B: Bus> Host<B> {
     }
 
     /// Clears a port's change of connection, reads its status, and disables it where it is enabled.
+    /// Where a hub has not cleared the change, it is lost.
     fn clear_change(&mut self, port: HubPort) -> Result<PortStatus, EnumFault>
         requires port { IsAsked B.modelled self.old.world port }
         requires askable { IsAskable port }
         ensures spends { HostSpends clearing_bound self.old self.new }
         ensures told { HostReported B.modelled result self.new }
         ensures rests { OnlyBusSteps self.old self.new }
+        ensures steady { IfOk result (λ status. is_stuck port status ≡ false) }
         ensures clears { B.modelled ≡ true → ClearsPort port self.old result self.new }
     {
         self.clear(port, C_PORT_CONNECTION)?;
         let status = self.status(port)?;
+        if is_stuck(port, status) {
+            return Err(EnumFault::ParentLost);
+        }
         self.clear_where(status.enabled, port, PORT_ENABLE)?;
         Ok(status)
     }
@@ -505,6 +510,17 @@ impl<B: Bus> Host<B> {
         'entries: while let Some(finding) = self.table.take_at(path) {
             release(&mut self.pool, address_of(&finding));
         }
+    }
+}
+
+/// Whether a hub has not cleared a change of connection that it tells right behind its clearing: a
+/// plug or unplug that came between would have disabled the port (11.5.1).
+fn is_stuck(port: HubPort, status: PortStatus) -> bool
+    ensures { result ≡ is_stuck port status }
+{
+    match port {
+        HubPort::Root(_) => false,
+        HubPort::External { .. } => status.enabled && status.connection_changed,
     }
 }
 

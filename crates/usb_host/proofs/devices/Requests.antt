@@ -197,7 +197,7 @@ abbrev pub disabled_so : PortStatus → Result (Unit {0}) PipeFault → Result P
 disabled_so status (Ok done) = Ok status
 disabled_so status (Err fault) = Err (fault_at_port fault)
 
-connection_call : {port : HubPort} {w : World} {f : AddressMap} {p : List ℕ} → IsAt f port p
+pub connection_call : {port : HubPort} {w : World} {f : AddressMap} {p : List ℕ} → IsAt f port p
     → WhileBusWorks (MapHolds f) w
     → IsCall f port p (clear_call C_PORT_CONNECTION) ClearConnectionChange w
 connection_call at owned =

@@ -40,7 +40,7 @@ shows_reset (Some (empty x)) b e = ap (λ (y : PortState). y.reset_changed) (sym
 shows_reset (Some (full x s a)) b e = ap (λ (y : PortState). y.reset_changed)
     (sym (same_Some _ b e))
 
-shows_connection : (o : Option Place) (b : PortState)
+pub shows_connection : (o : Option Place) (b : PortState)
     → option_map port_of (option_map (called ClearConnectionChange) o) ≡ Some b
     → b.connection_changed ≡ false
 shows_connection None b e = absurd (cc e)

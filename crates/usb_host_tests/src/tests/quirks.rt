@@ -1,4 +1,5 @@
-//! A hub with one device, which is listed, tells a change; the host clears it, and comes to rest.
+//! A hub with one device, which is listed, tells a change; the host clears it, or drops a hub that does not, and comes
+//! to rest.
 mod quirk;
 
 use quirk::{QuirkBus, Told};
@@ -37,34 +38,51 @@ after = 0
 struct Row {
     about: &'static str,
     tells: Told,
+    /// What is told once the hub has told that.
+    told: &'static str,
 }
+
+/// Both devices are listed; the change was cleared, and the port passes packets on.
+const CLEARED: &str = "quiet, 1 device, 1.1 device; cleared 1, disabled false";
+
+/// The hub is dropped behind one try.
+const DROPPED: &str = "quiet, 1 lost; cleared 1, disabled false";
 
 const ROWS: &[Row] = &[
     Row {
         about: "C_PORT_ENABLE: the port is disabled on an error",
         tells: Told::Port(17),
+        told: CLEARED,
     },
     Row {
         about: "C_PORT_SUSPEND",
         tells: Told::Port(18),
+        told: CLEARED,
     },
     Row {
         about: "C_PORT_OVER_CURRENT",
         tells: Told::Port(19),
+        told: CLEARED,
     },
     Row {
         about: "C_HUB_LOCAL_POWER",
         tells: Told::Hub(0),
+        told: CLEARED,
     },
     Row {
         about: "C_HUB_OVER_CURRENT",
         tells: Told::Hub(1),
+        told: CLEARED,
+    },
+    Row {
+        about: "C_PORT_CONNECTION of an enabled port, which no clearing takes away",
+        tells: Told::Stuck,
+        told: DROPPED,
     },
 ];
 
-/// Before the change and after it both devices are listed; the change was cleared, and the port passes packets on.
-const SETTLED: &str =
-    "quiet, 1 device, 1.1 device; quiet, 1 device, 1.1 device; cleared 1, disabled false";
+/// Before it both devices are listed.
+const BEFORE: &str = "quiet, 1 device, 1.1 device; ";
 
 type TestHost = Host<QuirkBus<SimBus<Tracer<Vec<u8>>>>>;
 
@@ -121,7 +139,8 @@ fn told(alloc: Global, row: &Row) -> Result<String, Fail> {
 fn a_hub_that_tells_more(rt: HostRuntime) -> Result<(), Fail> {
     for row in ROWS {
         let told = told(rt.alloc(), row)?;
-        assert_eq!(rt; told.as_str(), SETTLED, "{}", row.about);
+        let wanted = format!(in rt.alloc(); "{BEFORE}{}", row.told)?;
+        assert_eq!(rt; told, wanted, "{}", row.about);
     }
     Ok(())
 }

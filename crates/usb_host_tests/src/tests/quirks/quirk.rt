@@ -1,4 +1,4 @@
-//! A bus around another one, with a hub at address 1 that tells a change until that is cleared.
+//! A bus around another one, with a hub at address 1 that tells a change until that is cleared, or for good.
 ghost use Rattle.std.specs.Prelude.{◌≡◌, false, Some, IfErr};
 ghost use Rattle.usb_bus.specs.Traces.{Spends};
 ghost use Rattle.usb_world.specs.Worlds.{FitsMaximum, IsAttempt};
@@ -27,13 +27,15 @@ pub(super) enum Told {
     Port(u8),
     /// Of the hub itself (11.24.2.6).
     Hub(u8),
+    /// Of the connection of port 1, and no clearing takes it away.
+    Stuck,
 }
 
 impl Told {
     /// The bits of the hub's status change (11.12.4).
     fn bits(self) -> u8 {
         match self {
-            Told::Port(_) => 2,
+            Told::Port(_) | Told::Stuck => 2,
             Told::Hub(_) => 1,
         }
     }
@@ -44,7 +46,7 @@ impl Told {
             Told::Port(17) | Told::Hub(1) => 2,
             Told::Port(18) => 4,
             Told::Port(19) => 8,
-            Told::Port(_) | Told::Hub(_) => 1,
+            Told::Port(_) | Told::Hub(_) | Told::Stuck => 1,
         }
     }
 
@@ -53,6 +55,7 @@ impl Told {
         match self {
             Told::Port(feature) => [0x23, 1, feature, 0, 1, 0, 0, 0],
             Told::Hub(feature) => [0x20, 1, feature, 0, 0, 0, 0, 0],
+            Told::Stuck => [0x23, 1, 16, 0, 1, 0, 0, 0],
         }
     }
 }
@@ -186,7 +189,9 @@ impl<B: Bus> QuirkBus<B> {
             }
             Answers::HubStatus => Ok(packet(Toggle::One, &[0, 0, change, 0])),
             Answers::Clears => {
-                self.told = None;
+                if self.told != Some(Told::Stuck) {
+                    self.told = None;
+                }
                 self.cleared = self.cleared.saturating_add(1);
                 Ok(packet(Toggle::One, &[]))
             }
@@ -200,7 +205,7 @@ impl<B: Bus> QuirkBus<B> {
                 _ if status.len() != 4 => Outcome::Payload(toggle, status),
                 bytes => {
                     let change = match self.told {
-                        Some(Told::Port(feature)) => Told::Port(feature).change(),
+                        Some(told) if told.bits() == 2 => told.change(),
                         _ => 0,
                     };
                     let enabled = if self.disabled { 0xfd } else { 0xff };

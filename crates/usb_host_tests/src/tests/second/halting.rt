@@ -1,5 +1,6 @@
 //! A bus around another one, that fails behind so many attempts.
-ghost use Rattle.std.specs.Prelude.{false};
+ghost use Rattle.std.specs.Prelude.{false, Some, if◌then◌else◌};
+ghost use Rattle.usb_world.specs.declared.types.BusFault.TheVariants.{Failed};
 
 use usb_bus::{Attempt, Bus, BusFault, Outcome};
 
@@ -8,11 +9,17 @@ use usb_bus::{Attempt, Bus, BusFault, Outcome};
 pub(super) struct HaltingBus<B: Bus> {
     bus: B,
     attempts_left: u64,
+    /// Whether it has failed.
+    halted: bool,
 }
 
 impl<B: Bus> HaltingBus<B> {
     pub(super) fn new(bus: B, attempts_left: u64) -> Self {
-        HaltingBus { bus, attempts_left }
+        HaltingBus {
+            bus,
+            attempts_left,
+            halted: false,
+        }
     }
 
     /// The bus below.
@@ -20,6 +27,7 @@ impl<B: Bus> HaltingBus<B> {
         let HaltingBus {
             bus,
             attempts_left: _,
+            halted: _,
         } = self;
         bus
     }
@@ -33,11 +41,18 @@ impl<B: Bus> Bus for HaltingBus<B> {
 
     ghost trace = { λ halting. B.trace halting.bus };
 
+    ghost spent = { λ halting. B.spent halting.bus };
+
+    ghost failed = { λ halting. if halting.halted then Some Failed else B.failed halting.bus };
+
+    ghost ports = { λ halting. B.ports halting.bus };
+
     fn attempt(&mut self, attempt: &Attempt) -> Result<Outcome, BusFault> {
-        let Some(left) = self.attempts_left.checked_sub(1) else {
+        self.halted = self.attempts_left == 0;
+        if self.halted {
             return Err(BusFault::Failed);
-        };
-        self.attempts_left = left;
+        }
+        self.attempts_left -= 1;
         self.bus.attempt(attempt)
     }
 
@@ -63,6 +78,8 @@ impl<B: Bus> Bus for HaltingBus<B> {
             self.bus.root_clear(port, feature);
         }
     }
+
+    ghost counted = { λ known halting. Prim.cc known };
 
     ghost settled = { λ known halting. Prim.cc known };
 

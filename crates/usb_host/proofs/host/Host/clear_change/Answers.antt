@@ -1,5 +1,6 @@
+use Rattle.std.proofs.Common.{◌∙◌, sym}
 use Rattle.std.proofs.lemmas.Result.{err_from_is_err_and}
-use Rattle.usb_host.proofs.PortRequests.{change_cleared, change_fails, change_untold}
+use Rattle.usb_host.proofs.PortRequests.{change_cleared, change_fails, change_stays, change_untold}
 use Rattle.usb_host.proofs.host.Host.clear_change.Goals as goal
 
 pub returns-in_err-clear-clause-clears : goal.returns-in_err-clear-clause-clears
@@ -13,6 +14,11 @@ returns-in_err-status-clause-clears g c known =
     c.from_residual-in_err-status.ensures.1 in
     rw (told.1, told.2) (change_untold (c.in_ok-clear.ensures.clears known)
     (c.in_err-status.ensures.shows known))
+
+pub returns-then-is_stuck-clause-clears : goal.returns-then-is_stuck-clause-clears
+returns-then-is_stuck-clause-clears g c known =
+    change_stays (c.in_ok-clear.ensures.clears known) c.status.new.self
+    (c.in_ok-status.ensures.shows known) (sym c.is_stuck.ensures ∙ c.if-is_stuck.true)
 
 pub returns-in_err-clear_where-clause-clears : goal.returns-in_err-clear_where-clause-clears
 returns-in_err-clear_where-clause-clears g c known =
