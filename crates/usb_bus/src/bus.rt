@@ -2,6 +2,7 @@ ghost use Rattle.std.specs.Prelude.{◌≡◌, ◌≤◌, ℕ, List, Option, Non
 ghost use Rattle.usb_port.specs.PortStates.{status_of};
 ghost use Rattle.usb_port.specs.Calls.{IsSetFeature, IsClearFeature};
 ghost use Rattle.usb_world.specs.declared.types.BusFault.{BusFault as AFault};
+ghost use Rattle.usb_world.specs.PlainAttempts.{attempt_data};
 ghost use Rattle.usb_world.specs.Worlds.{World, IsAttempt, IsRootPort, FitsMaximum, root_port_at, roots_of};
 ghost use Rattle.usb_world.specs.Steps.{WorldInvariant, SetsRoot, ClearsRoot};
 ghost use Rattle.usb_tree.specs.AttemptPackets.{IsSettled};
@@ -35,16 +36,20 @@ pub trait Bus {
 
     /// Applies the events that are due, and then makes one attempt.
     ///
+    /// The host has no clock: the bus itself pauses before it returns, where an IN of endpoint 0 with data ends
+    /// SET_ADDRESS (9.2.6.3) or SET_FEATURE of a hub's PORT_RESET (11.5.1.5). It sees both in SETUP's bytes
+    /// (`docs/PORTING.md`).
+    ///
     /// # Errors
     ///
     /// `Limit` where the attempts equal the limit, and then nothing else is done; `Memory` where memory was
     /// refused; `Failed` where the bus itself failed. Every later attempt tells the same fault again.
     fn attempt(&mut self, attempt: &Attempt) -> Result<Outcome, BusFault>
-        requires { IsAttempt attempt.now }
-        ensures attempts { modelled ≡ true → Attempts attempt.now (world self.old) (trace self.old)
-            result (world self.new) (trace self.new) }
+        requires { IsAttempt (attempt_data attempt.now) }
+        ensures attempts { modelled ≡ true → Attempts (attempt_data attempt.now)
+            (world self.old) (trace self.old) result (world self.new) (trace self.new) }
         ensures spends { Spends spent ports 1 self.old self.new }
-        ensures fits { IfOk result (FitsMaximum attempt.now.max) }
+        ensures fits { IfOk result (FitsMaximum (attempt_data attempt.now).max) }
         ensures told { IfErr result (λ fault. failed self.new ≡ Some fault) };
 
     /// The number of root ports, 1 to 7.
@@ -59,7 +64,8 @@ pub trait Bus {
         requires { modelled ≡ true → IsRootPort (world self.now) port }
         ensures { modelled ≡ true → result ≡ status_of (root_port_at (world self.now) port) };
 
-    /// Sets a feature of a root port (11.24.2.13).
+    /// Sets a feature of a root port (11.24.2.13). PORT_RESET is over when the call returns: it is held for 50 ms, and
+    /// 10 ms pass behind it (7.1.7.5).
     fn root_set(&mut self, port: u8, feature: u16)
         requires port { modelled ≡ true → IsRootPort (world self.old) port }
         requires named { IsSetFeature feature }

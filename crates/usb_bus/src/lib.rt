@@ -21,5 +21,6 @@ mod bus;
 mod watched;
 
 pub use bus::Bus;
-pub use usb_world::{Attempt, BusFault, Outcome};
+pub use usb_packet::{Speed, Toggle};
+pub use usb_world::{Attempt, BusFault, Destination, Outcome};
 pub use watched::{Watched, WriteFailed, put_piece, put_pieces};

@@ -3,13 +3,14 @@ use Rattle.std.specs.Prelude.{◌≡◌, ◌⊎◌, ℕ, ◌+◌, ◌==◌, nat_
 use Rattle.std.specs.Prelude.{List, [], ◌∷◌, ◌++◌, length, map, Option, Some, None, Err}
 use Rattle.std.specs.Io.KnownBytes.{Appends}
 use Rattle.std.specs.Str.{bytes_eq}
-use Rattle.usb_packet.specs.{TokenKind, OutTok, InTok, SetupTok, Zero}
+use Rattle.usb_packet.specs.{TokenKind, OutTok, InTok, SetupTok, Speed, Zero, speed_has_pre}
+use Rattle.usb_packet.specs.{speed_is_low}
 use Rattle.usb_port.specs.{PortCall, status_of}
 use Rattle.usb_request.specs.{bytes_of, Setup as SetupData}
 use Rattle.usb_world.specs.declared.event.Ask.{Ask}
 use Rattle.usb_world.specs.declared.event.Ask.TheVariants as ask
-use Rattle.usb_world.specs.{Attempt, BusFault, Failed, Outcome, World, IsRootPort, root_row}
-use Rattle.usb_world.specs.{roots_of, after, attempt, event, outcome_in, root_call}
+use Rattle.usb_world.specs.{Attempt, BusFault, Destination, Failed, Outcome, World, IsRootPort}
+use Rattle.usb_world.specs.{root_row, roots_of, after, attempt, event, outcome_in, root_call}
 use Rattle.usb_world.specs.declared.types.Outcome.TheVariants as outcome
 use Rattle.usb_sim.specs.{Ghosts, trace_of, tracer_of, world_of}
 use Rattle.usb_bus.specs.{lines_between, next_due, step_lines, Attempts, TakesEvent}
@@ -17,8 +18,7 @@ use Rattle.usb_lines.specs.{Pipe, LineFault}
 use Rattle.usb_lines.specs.declared.line.LineFault.TheVariants as line
 use Rattle.usb_wire.specs.{said_line, send_limit, kind_asked, Answer, Roots, Ack, Nak, Stall}
 use Rattle.usb_wire.specs.{Nothing, Data, Done, Show, End, Send, Receive, Clear, Said, Changed}
-use Rattle.usb_wire.specs.{Answered, Asked, DataPacket, Endpoint, Question, Speed, Full, Low}
-use Rattle.usb_wire.specs.{LowBelowHub}
+use Rattle.usb_wire.specs.{Answered, Asked, DataPacket, Endpoint, Question}
 use Rattle.usb_wire.specs.declared.question.Asked.TheVariants as asked
 use Rattle.usb_wire.specs.declared.question.Question.TheVariants.{Hello, Setup, Out, In, Port, Wait}
 use Rattle.usb_far.specs.declared.far_end.FarEnd.{FarEnd}
@@ -60,15 +60,9 @@ far_begun w = record { world = w; told = statuses w; came = false; phase = New }
 
 -- ---- attempts
 
-abbrev pub speed_is_low : Speed → Bool
-speed_is_low Full = false
-speed_is_low Low = true
-speed_is_low LowBelowHub = true
-
-abbrev pub is_pre : Speed → Bool
-is_pre Full = false
-is_pre Low = false
-is_pre LowBelowHub = true
+abbrev pub destination_at : Speed → Endpoint → ℕ → Destination
+destination_at speed e max =
+    record { address = e.address; number = e.number; speed = speed; max = max }
 
 abbrev pub attempt_of_setup : Speed → Endpoint → SetupData → Attempt
 attempt_of_setup speed e setup = record {
@@ -76,7 +70,7 @@ attempt_of_setup speed e setup = record {
   addr = e.address;
   ep = e.number;
   low = speed_is_low speed;
-  pre = is_pre speed;
+  pre = speed_has_pre speed;
   max = 8;
   payload = Some (Zero, record { items = bytes_of setup });
 }
@@ -87,7 +81,7 @@ attempt_of_out speed e sent = record {
   addr = e.address;
   ep = e.number;
   low = speed_is_low speed;
-  pre = is_pre speed;
+  pre = speed_has_pre speed;
   max = 64;
   payload = Some (sent.toggle, sent.bytes);
 }
@@ -98,7 +92,7 @@ attempt_of_in speed e most = record {
   addr = e.address;
   ep = e.number;
   low = speed_is_low speed;
-  pre = is_pre speed;
+  pre = speed_has_pre speed;
   max = most;
   payload = None;
 }

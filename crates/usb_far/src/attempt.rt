@@ -1,49 +1,38 @@
 //! Attempts, as the host asks for them and as it is answered.
 ghost use Rattle.std.specs.Prelude.{◌≡◌, ◌≤◌};
 ghost use Rattle.usb_wire.specs.Questions.{IsEndpoint};
+ghost use Rattle.usb_world.specs.PlainAttempts.{attempt_data};
 ghost use Rattle.usb_world.specs.Worlds.{IsAttempt};
-ghost use Rattle.usb_far.specs.FarEnd.{attempt_of_in, speed_is_low, is_poll, is_pre, attempt_of_out, outcome_answer, attempt_of_setup};
+ghost use Rattle.usb_far.specs.FarEnd.{attempt_of_in, destination_at, is_poll, attempt_of_out, outcome_answer, attempt_of_setup};
 
-use arrayvec::ArrayVec;
-use usb_bus::{Attempt, Outcome};
-use usb_packet::{Toggle, TokenKind};
+use usb_bus::{Attempt, Destination, Outcome};
+use usb_packet::{Speed, TokenKind};
 use usb_request::Setup;
-use usb_wire::{Answer, DataPacket, Endpoint, Speed};
+use usb_wire::{Answer, DataPacket, Endpoint};
 
 /// The attempt that sends setup data (8.5.3).
 pub(crate) fn setup_attempt(speed: Speed, endpoint: Endpoint, setup: Setup) -> Attempt
     requires { IsEndpoint endpoint }
-    ensures value { result ≡ attempt_of_setup speed endpoint setup }
-    ensures fits { IsAttempt result }
+    ensures value { attempt_data result ≡ attempt_of_setup speed endpoint setup }
+    ensures fits { IsAttempt (attempt_data result) }
 {
-    let mut bytes = ArrayVec::new();
-    bytes.try_extend_from_slice(&setup.to_bytes()).unwrap();
-    Attempt {
-        kind: TokenKind::SetupTok,
-        addr: endpoint.address,
-        ep: endpoint.number,
-        low: is_low(speed),
-        pre: is_pre(speed),
-        max: 8,
-        payload: Some((Toggle::Zero, bytes)),
+    Attempt::Setup {
+        to: destination(speed, endpoint, 8),
+        bytes: setup.to_bytes(),
     }
 }
 
 /// The attempt that sends data (8.5.1).
 pub(crate) fn out_attempt(speed: Speed, endpoint: Endpoint, sent: DataPacket) -> Attempt
     requires { IsEndpoint endpoint }
-    ensures value { result ≡ attempt_of_out speed endpoint sent }
-    ensures fits { IsAttempt result }
+    ensures value { attempt_data result ≡ attempt_of_out speed endpoint sent }
+    ensures fits { IsAttempt (attempt_data result) }
 {
     let DataPacket { toggle, bytes } = sent;
-    Attempt {
-        kind: TokenKind::OutTok,
-        addr: endpoint.address,
-        ep: endpoint.number,
-        low: is_low(speed),
-        pre: is_pre(speed),
-        max: 64,
-        payload: Some((toggle, bytes)),
+    Attempt::Out {
+        to: destination(speed, endpoint, 64),
+        toggle,
+        bytes,
     }
 }
 
@@ -52,36 +41,22 @@ pub(crate) fn in_attempt(speed: Speed, endpoint: Endpoint, most: u8) -> Attempt
     requires endpoint { IsEndpoint endpoint }
     requires least { 1 ≤ most }
     requires most { most ≤ 64 }
-    ensures value { result ≡ attempt_of_in speed endpoint most }
-    ensures fits { IsAttempt result }
+    ensures value { attempt_data result ≡ attempt_of_in speed endpoint most }
+    ensures fits { IsAttempt (attempt_data result) }
 {
-    Attempt {
-        kind: TokenKind::InTok,
-        addr: endpoint.address,
-        ep: endpoint.number,
-        low: is_low(speed),
-        pre: is_pre(speed),
-        max: most,
-        payload: None,
+    Attempt::In {
+        to: destination(speed, endpoint, most),
     }
 }
 
-fn is_low(speed: Speed) -> bool
-    ensures { result ≡ speed_is_low speed }
+fn destination(speed: Speed, endpoint: Endpoint, max: u8) -> Destination
+    ensures { result ≡ destination_at speed endpoint max }
 {
-    match speed {
-        Speed::Full => false,
-        Speed::Low | Speed::LowBelowHub => true,
-    }
-}
-
-/// Whether PRE stands before each packet of the host (8.6.5).
-fn is_pre(speed: Speed) -> bool
-    ensures { result ≡ is_pre speed }
-{
-    match speed {
-        Speed::Full | Speed::Low => false,
-        Speed::LowBelowHub => true,
+    Destination {
+        address: endpoint.address,
+        number: endpoint.number,
+        speed,
+        max,
     }
 }
 

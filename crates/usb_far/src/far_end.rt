@@ -1,6 +1,7 @@
 //! What the far end does at each question.
 ghost use Rattle.std.specs.Prelude.{◌≡◌, ◌⊎◌, ◌∷◌, [], false, true, IfErr, IfOk};
 ghost use Rattle.usb_world.specs.Steps.{after, opening, root_call};
+ghost use Rattle.usb_world.specs.PlainAttempts.{attempt_data};
 ghost use Rattle.usb_world.specs.Worlds.{IsAttempt, IsRootPort};
 ghost use Rattle.usb_bus.specs.Watch.{has_failed};
 ghost use Rattle.usb_sim.specs.Sim.{trace_of, world_of};
@@ -107,19 +108,19 @@ impl<T: Trace> FarEnd<T> {
 
     /// Makes an attempt.
     fn attempt(&mut self, attempt: &Attempt) -> Result<Answer, FarFault>
-        requires { IsAttempt attempt.now }
+        requires { IsAttempt (attempt_data attempt.now) }
         ensures done { IfOk result (λ answer.
-            IsDone (attempt_done attempt.now (far_of self.old)) (played_of self.old) answer
+            IsDone (attempt_done (attempt_data attempt.now) (far_of self.old)) (played_of self.old) answer
             (played_of self.new)) }
         ensures fault { IfErr result (λ fault.
-            IsGivenUp attempt.now (played_of self.old) fault (played_of self.new)) }
+            IsGivenUp (attempt_data attempt.now) (played_of self.old) fault (played_of self.new)) }
     {
         let taken = self.bus.events_taken();
         let outcome = match self.bus.attempt(attempt) {
             Ok(outcome) => outcome,
             Err(fault) => return Err(FarFault::Bus(fault)),
         };
-        let poll = is_poll(attempt.kind, &outcome);
+        let poll = is_poll(attempt.kind(), &outcome);
         self.came = came_in(poll, self.came, taken, self.bus.events_taken());
         Ok(answer_of(outcome))
     }

@@ -4,20 +4,19 @@ use Rattle.std.proofs.Common.{Option, Some, None, Result, Ok, Err, refl, sym, ap
 use Rattle.std.proofs.Common.{Bool, is_ok, true, false, nat_lt, if◌then◌else◌}
 use Rattle.std.proofs.lemmas.Bool.{cases_lt}
 use Rattle.std.proofs.lemmas.Grind.{not_there}
-use Rattle.arrayvec.specs.ArrayVec.{ArrayVec}
-use Rattle.usb_packet.specs.{Toggle, Zero, One, TokenKind, OutTok, InTok, SetupTok}
 use Rattle.usb_port.specs.{PortCall}
-use Rattle.usb_request.specs.{Setup as SetupData}
-use Rattle.usb_world.specs.{Attempt, BusFault, Outcome}
-use Rattle.usb_wire.specs.{Answer, setup_by, Endpoint, Speed, Question}
+use Rattle.usb_world.specs.{BusFault, Outcome, destination_of}
+use Rattle.usb_world.specs.declared.types.Attempt.{Attempt}
+use Rattle.usb_world.specs.declared.types.Attempt.TheVariants as attempt
+use Rattle.usb_wire.specs.{Answer, Question}
 use Rattle.usb_wire.specs.declared.answer.Answer.TheVariants as answer
 use Rattle.usb_wire.specs.declared.question.Question.TheVariants.{Hello, Wait, Port}
 use Rattle.usb_lines.specs.{OutPipe, Pipe}
 use Rattle.usb_run.specs.{Item, Listing, Sent, Received, Cleared, number_of}
 use Rattle.usb_stream.specs.{AsksNoQuestion, AsksOnce, AttemptsByLine, AttemptsBy, Calls, Kept}
-use Rattle.usb_stream.specs.{SaysHello, WritesLines, bus_fault, greeted, kept_of, question_by}
-use Rattle.usb_stream.specs.{question_for, roots_if, setup_with, line_speed, streams, unasked}
-use Rattle.usb_stream.specs.{unread_of, written_of, StreamBus, LiveFault}
+use Rattle.usb_stream.specs.{SaysHello, WritesLines, bus_fault, greeted, kept_of, question_for}
+use Rattle.usb_stream.specs.{roots_if, streams, unasked, unread_of, written_of, StreamBus}
+use Rattle.usb_stream.specs.{LiveFault}
 use Rattle.usb_live.specs.{LiveCourse, CourseTo, EndsBy, EndsLiveAs, IsShown, StandsAtStage, Lives}
 use Rattle.usb_live.specs.{is_nothing, is_wait, listed, owed_by, owed_left, owes, questions_in}
 use Rattle.usb_live.specs.{settles, stage_behind, stage_behind_answer, told_text, LiveEnd, Line, Memory, Rounds, Owed}
@@ -125,41 +124,20 @@ course_nothing_asked r0 r1 w0 w1 j k c h =
     }
 
 -- an attempt does not ask what is wanted
-abbrev asks_wait : Option Question → Bool
-asks_wait (Some q) = is_wait q
-asks_wait None = false
-
-setup_plain : (speed : Speed) (e : Endpoint) (setup : Option SetupData)
-    → asks_wait (setup_with speed e setup) ≡ false
-setup_plain speed e (Some setup) = refl
-setup_plain speed e None = refl
-
-by_plain : (kind : TokenKind) (speed : Speed) (e : Endpoint) (most : ℕ)
-    (payload : Option (Toggle × ArrayVec ℕ))
-    → asks_wait (question_by kind speed e most payload) ≡ false
-by_plain SetupTok speed e most (Some (Zero, bytes)) =
-    setup_plain speed e (setup_by Zero bytes.items)
-by_plain SetupTok speed e most (Some (One, bytes)) = refl
-by_plain SetupTok speed e most None = refl
-by_plain OutTok speed e most (Some (toggle, bytes)) = refl
-by_plain OutTok speed e most None = refl
-by_plain InTok speed e most payload = refl
-
-attempt_plain : (a : Attempt) → asks_wait (question_for a) ≡ false
-attempt_plain a = by_plain a.kind (line_speed a.low a.pre)
-    (record { address = a.addr; number = a.ep }) a.max a.payload
+attempt_plain : (a : Attempt) → is_wait (question_for a) ≡ false
+attempt_plain (attempt.Setup to bytes) = refl
+attempt_plain (attempt.Out to toggle bytes) = refl
+attempt_plain (attempt.In to) = refl
 
 attempts_on : {st : Stage} {o : Owed} {limit m : ℕ} {u : Pipe} {b : OutPipe}
-    (r0 r1 : Pipe) (w0 w1 : OutPipe) (j k : Kept) (q : Option Question)
-    (most : ℕ) (result : Result Outcome BusFault) → asks_wait q ≡ false
+    (r0 r1 : Pipe) (w0 w1 : OutPipe) (j k : Kept) (q : Question)
+    (most : ℕ) (result : Result Outcome BusFault) → is_wait q ≡ false
     → CourseTo st o limit m u b r0 w0 j → j.fault ≡ None
     → AttemptsBy q most (streams r0 r1 w0 w1) j result k → CourseTo Asks o limit m u b r1 w1 k
-attempts_on r0 r1 w0 w1 j k (Some q) most (Ok outcome) plain c sound h =
+attempts_on r0 r1 w0 w1 j k q most (Ok outcome) plain c sound h =
     asked_on r0 r1 w0 w1 j k q (Ok h.got) c sound plain h.asked
-attempts_on r0 r1 w0 w1 j k (Some q) most (Err told) plain c sound h =
+attempts_on r0 r1 w0 w1 j k q most (Err told) plain c sound h =
     asked_on r0 r1 w0 w1 j k q (Err h.f) c sound plain h.asked
-attempts_on r0 r1 w0 w1 j k None most result plain c sound h =
-    course_nothing_asked r0 r1 w0 w1 j k c h.0
 
 -- ---- one call, of a bus that may have a fault
 
@@ -189,8 +167,8 @@ pub attempt_on : {R W : Type 0} (rem : R → Option (List ℕ)) (con : W → Opt
 attempt_on rem con limit m u b old new st ow a result again asks c =
     by_fault rem con limit m u b old new st ow (kept_of old).fault refl (λ f e. (again f e).1)
     (λ e. attempts_on (unread_of rem old) (unread_of rem new) (written_of con old)
-    (written_of con new) (kept_of old) (kept_of new) (question_for a) a.max result
-    (attempt_plain a) c e (asks e)) c
+    (written_of con new) (kept_of old) (kept_of new) (question_for a)
+    (destination_of a).max result (attempt_plain a) c e (asks e)) c
 
 beyond_or : (p roots : ℕ) {T : Type 0} → (1 ≤ suc p → suc p ≤ roots → T) → (roots < suc p → T)
     → (roots < suc p) ⊎ (suc p ≤ roots) → T

@@ -56,7 +56,8 @@ impl<R: Read, W: Write, B: Begun> Bus for CourseBus<R, W, B> {
     ghost use Rattle.usb_port.specs.Calls.{clear_call, set_call};
     ghost use Rattle.usb_stream.specs.Stream.{AttemptsByLine, Calls, bus_fault, kept_status, no_world, streams};
     ghost use Rattle.usb_stream.specs.declared.fault.LiveFault.{LiveFault as AFault};
-    ghost use Rattle.usb_world.specs.Worlds.{FitsMaximum};
+    ghost use Rattle.usb_world.specs.PlainAttempts.{attempt_data};
+ghost use Rattle.usb_world.specs.Worlds.{FitsMaximum};
 
     ghost modelled = { false };
 
@@ -77,7 +78,7 @@ impl<R: Read, W: Write, B: Begun> Bus for CourseBus<R, W, B> {
             (streams (unread_of R.remaining self.old.bus) (unread_of R.remaining self.new.bus)
             (written_of W.contents self.old.bus) (written_of W.contents self.new.bus))
             (kept_of self.old.bus) result (kept_of self.new.bus) }
-        ensures fits { IfOk result (FitsMaximum attempt.now.max) }
+        ensures fits { IfOk result (FitsMaximum (attempt_data attempt.now).max) }
         ensures spends { Spends (λ bus. 0) (λ bus. (kept_of bus.bus).roots) 1 self.old self.new }
         ensures told { IfErr result (λ fault.
             option_map bus_fault (kept_of self.new.bus).fault ≡ Some fault) }

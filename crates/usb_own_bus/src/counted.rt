@@ -1,6 +1,7 @@
 //! A bus that counts what goes over another one.
 ghost use Rattle.std.specs.Prelude.{◌≡◌, true, Some, IfOk, IfErr};
 ghost use Rattle.usb_bus.specs.Traces.{Attempts, Spends};
+ghost use Rattle.usb_world.specs.PlainAttempts.{attempt_data};
 ghost use Rattle.usb_world.specs.Worlds.{FitsMaximum, IsAttempt};
 ghost use Rattle.usb_own_bus.specs.Counted.{counts_behind, counts_with, no_counts};
 
@@ -101,11 +102,12 @@ impl<B: Bus> Bus for CountedBus<B> {
     ghost ports = { λ counted. B.ports counted.bus };
 
     fn attempt(&mut self, attempt: &Attempt) -> Result<Outcome, BusFault>
-        requires { IsAttempt attempt.now }
-        ensures attempts { B.modelled ≡ true → Attempts attempt.now (B.world self.old.bus)
-            (B.trace self.old.bus) result (B.world self.new.bus) (B.trace self.new.bus) }
+        requires { IsAttempt (attempt_data attempt.now) }
+        ensures attempts { B.modelled ≡ true → Attempts (attempt_data attempt.now)
+            (B.world self.old.bus) (B.trace self.old.bus) result (B.world self.new.bus)
+            (B.trace self.new.bus) }
         ensures spends { Spends B.spent B.ports 1 self.old.bus self.new.bus }
-        ensures fits { IfOk result (FitsMaximum attempt.now.max) }
+        ensures fits { IfOk result (FitsMaximum (attempt_data attempt.now).max) }
         ensures told { IfErr result (λ fault. B.failed self.new.bus ≡ Some fault) }
         ensures counted { self.new.counts ≡ counts_behind self.old.counts result }
     {

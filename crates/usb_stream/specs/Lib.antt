@@ -5,9 +5,9 @@ pub use Stream.{AttemptsBy, AttemptsByLine, BadLine, Calls, CauseOf, CauseOfHear
 pub use Stream.{EndsEarly, FailsByLine, FailsOnce, FailsToRead, GivesAs, HeardTooMany, HeardUpTo}
 pub use Stream.{IsAtLimit, IsUnheard, IsUnwritten, Kept, PushesRead, SaidEnd, SaidLine, Says}
 pub use Stream.{SaysHello, StatusesRead, StreamPipes, WritesLines, asking, bus_fault, counted_on}
-pub use Stream.{data_for, greeted, greeted_by, kept_of, kept_status, line_speed, no_world}
-pub use Stream.{outcome_for, question_by, question_for, question_of_out, question_of_setup}
-pub use Stream.{questions, roots_if, setup_with, streams, unasked, unread_of, written_of}
+pub use Stream.{data_for, endpoint_of, greeted, greeted_by, kept_of, kept_status, no_world}
+pub use Stream.{outcome_for, question_for, questions, roots_if, streams, unasked, unread_of}
+pub use Stream.{written_of}
 pub use declared.bus.StreamBus.{StreamBus}
 pub use declared.fault.LiveFault.{LiveFault}
 pub use declared.fault.LiveFault.TheVariants.{LimitReached, Write}

@@ -4,20 +4,19 @@ use Rattle.std.specs.Prelude.{nat_lt, Bool, true, false, if◌then◌else◌, Li
 use Rattle.std.specs.Prelude.{replicate, slice_index_or, slice_set, Option, Some, None, Result, Ok}
 use Rattle.std.specs.Prelude.{Err}
 use Rattle.std.specs.Io.KnownBytes.{IsAtEnd}
-use Rattle.arrayvec.specs.ArrayVec.{ArrayVec}
-use Rattle.usb_packet.specs.{Toggle, Zero, One, TokenKind, OutTok, InTok, SetupTok}
-use Rattle.usb_request.specs.{Setup as SetupData}
+use Rattle.usb_request.specs.{setup_of}
 use Rattle.usb_port.specs.{PortCall}
 use Rattle.usb_lines.specs.{FailsToFlush, Flushes, IsUnbroken, OutPipe, Pipe, ReadPart, Reads}
 use Rattle.usb_lines.specs.{out_pipe_of, pipe_of}
-use Rattle.usb_wire.specs.{IsSaidLine, MaySay, setup_by, kind_asked, line_fault, question_line}
-use Rattle.usb_wire.specs.{Answer, Said, LineTooLong, WireFault}
-use Rattle.usb_wire.specs.{Changed, Answered, Asked, DataPacket, Endpoint, Question, Speed, Full}
-use Rattle.usb_wire.specs.{Low, LowBelowHub}
+use Rattle.usb_wire.specs.{IsSaidLine, MaySay, kind_asked, line_fault, question_line, Answer}
+use Rattle.usb_wire.specs.{Said, LineTooLong, WireFault, Changed, Answered, Asked, DataPacket}
+use Rattle.usb_wire.specs.{Endpoint, Question}
 use Rattle.usb_wire.specs.declared.answer.Answer.TheVariants as answer
 use Rattle.usb_wire.specs.declared.question.Asked.TheVariants as asked
 use Rattle.usb_wire.specs.declared.question.Question.TheVariants.{Hello, Setup, Out, In, Port}
-use Rattle.usb_world.specs.{Attempt, Outcome, no_losses, World, BusFault}
+use Rattle.usb_world.specs.{Destination, destination_of, Outcome, no_losses, World, BusFault}
+use Rattle.usb_world.specs.declared.types.Attempt.{Attempt}
+use Rattle.usb_world.specs.declared.types.Attempt.TheVariants as attempt
 use Rattle.usb_world.specs.declared.types.Outcome.TheVariants.{Payload, Ack, Nak, Stall, Nothing}
 use Rattle.usb_stream.specs.declared.bus.StreamBus.{StreamBus}
 use Rattle.usb_stream.specs.declared.fault.LiveFault.{LiveFault}
@@ -28,36 +27,15 @@ use Rattle.usb_world.specs.declared.types.BusFault.TheVariants as bus
 
 -- ---- attempts as questions
 
-abbrev pub line_speed : Bool → Bool → Speed
-line_speed true true = LowBelowHub
-line_speed false true = LowBelowHub
-line_speed true false = Low
-line_speed false false = Full
+abbrev pub endpoint_of : Destination → Endpoint
+endpoint_of to = record { address = to.address; number = to.number }
 
-abbrev pub setup_with : Speed → Endpoint → Option SetupData → Option Question
-setup_with speed e None = None
-setup_with speed e (Some setup) = Some (Setup speed e setup)
-
-abbrev pub question_of_setup : Speed → Endpoint → Option (Toggle × ArrayVec ℕ) → Option Question
-question_of_setup speed e None = None
-question_of_setup speed e (Some (Zero, bytes)) = setup_with speed e (setup_by Zero bytes.items)
-question_of_setup speed e (Some (One, bytes)) = None
-
-abbrev pub question_of_out : Speed → Endpoint → Option (Toggle × ArrayVec ℕ) → Option Question
-question_of_out speed e None = None
-question_of_out speed e (Some (toggle, bytes)) =
-    Some (Out speed e (record { toggle = toggle; bytes = bytes }))
-
-abbrev pub question_by : TokenKind → Speed → Endpoint → ℕ → Option (Toggle × ArrayVec ℕ)
-    → Option Question
-question_by SetupTok speed e most payload = question_of_setup speed e payload
-question_by OutTok speed e most payload = question_of_out speed e payload
-question_by InTok speed e most payload = Some (In speed e most)
-
--- the question for an attempt, where there is a line for it
-abbrev pub question_for : Attempt → Option Question
-question_for a = question_by a.kind (line_speed a.low a.pre)
-    (record { address = a.addr; number = a.ep }) a.max a.payload
+-- the question for an attempt
+abbrev pub question_for : Attempt → Question
+question_for (attempt.Setup to bytes) = Setup to.speed (endpoint_of to) (setup_of bytes)
+question_for (attempt.Out to toggle bytes) =
+    Out to.speed (endpoint_of to) (record { toggle = toggle; bytes = bytes })
+question_for (attempt.In to) = In to.speed (endpoint_of to) to.max
 
 -- more data than the endpoint's maximum packet are none (8.7.4)
 abbrev pub data_for : ℕ → DataPacket → Outcome
@@ -326,15 +304,14 @@ pub record FailsByLine (q : Question) (s : StreamPipes) (old : Kept) (told : Bus
   pub asked : AsksNoMore q s old f new
   pub is : told ≡ bus_fault f
 
-abbrev pub AttemptsBy : Option Question → ℕ → StreamPipes → Kept → Result Outcome BusFault → Kept
-    → Type 0
-AttemptsBy (Some q) most s old (Ok outcome) new = GivesAs q most s old outcome new
-AttemptsBy (Some q) most s old (Err told) new = FailsByLine q s old told new
-AttemptsBy None most s old result new = AsksNoQuestion s old new × (result ≡ Ok Nothing)
+abbrev pub AttemptsBy : Question → ℕ → StreamPipes → Kept → Result Outcome BusFault → Kept → Type 0
+AttemptsBy q most s old (Ok outcome) new = GivesAs q most s old outcome new
+AttemptsBy q most s old (Err told) new = FailsByLine q s old told new
 
--- an attempt is one question, where there is a line for it
+-- an attempt is one question
 abbrev pub AttemptsByLine : Attempt → StreamPipes → Kept → Result Outcome BusFault → Kept → Type 0
-AttemptsByLine a s old result new = AttemptsBy (question_for a) a.max s old result new
+AttemptsByLine a s old result new =
+    AttemptsBy (question_for a) (destination_of a).max s old result new
 
 -- a call at a root port that there is is one question
 pub record AsksCall (port : ℕ) (c : PortCall) (s : StreamPipes) (old new : Kept) : Type 0 where

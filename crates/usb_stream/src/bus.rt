@@ -3,6 +3,7 @@ ghost use Rattle.std.specs.Prelude.{◌≡◌, ◌≢◌, ◌-◌, ◌≤◌, �
 ghost use Rattle.usb_bus.specs.Traces.{Spends};
 ghost use Rattle.usb_lines.specs.Pipes.{out_pipe_of, pipe_of};
 ghost use Rattle.usb_port.specs.Calls.{IsClearFeature, IsSetFeature, clear_call, set_call};
+ghost use Rattle.usb_world.specs.PlainAttempts.{attempt_data};
 ghost use Rattle.usb_world.specs.Worlds.{FitsMaximum, IsAttempt};
 ghost use Rattle.usb_wire.specs.Questions.{IsQuestion, kind_asked, question_line};
 ghost use Rattle.usb_wire.specs.declared.question.Question.TheVariants as question;
@@ -69,28 +70,25 @@ impl<R: Read, W: Write> Bus for StreamBus<R, W> {
 
     ghost ports = { λ bus. (kept_of bus).roots };
 
-    /// Makes one attempt. Setup data that are not 8 bytes in DATA0 have no line, and no answer comes.
+    /// Makes one attempt.
     ///
     /// # Errors
     /// Limit where no more questions are left, Failed at any other fault.
     fn attempt(&mut self, attempt: &Attempt) -> Result<Outcome, BusFault>
-        requires { IsAttempt attempt.now }
+        requires { IsAttempt (attempt_data attempt.now) }
         ensures again { (f : AFault) → (kept_of self.old).fault ≡ Some f
             → (result ≡ Err (bus_fault f)) × (self.new ≡ self.old) }
         ensures asks { (kept_of self.old).fault ≡ None → AttemptsByLine attempt.now
             (streams (unread_of R.remaining self.old) (unread_of R.remaining self.new)
             (written_of W.contents self.old) (written_of W.contents self.new))
             (kept_of self.old) result (kept_of self.new) }
-        ensures fits { IfOk result (FitsMaximum attempt.now.max) }
+        ensures fits { IfOk result (FitsMaximum (attempt_data attempt.now).max) }
         ensures spends { Spends (λ bus. 0) (λ bus. (kept_of bus).roots) 1 self.old self.new }
         ensures told { IfErr result (λ fault.
             option_map bus_fault (kept_of self.new).fault ≡ Some fault) }
     {
-        let Some(question) = question_for(attempt) else {
-            return self.unasked();
-        };
-        match self.ask(&question) {
-            Ok(answer) => Ok(outcome_for(attempt.max, answer)),
+        match self.ask(&question_for(attempt)) {
+            Ok(answer) => Ok(outcome_for(attempt.destination().max, answer)),
             Err(fault) => Err(bus_fault(fault)),
         }
     }
@@ -250,19 +248,6 @@ impl<R: Read, W: Write> StreamBus<R, W> {
                 self.fault = Some(LiveFault::Write);
                 Err(LiveFault::Write)
             }
-        }
-    }
-
-    /// An attempt that no line asks for.
-    fn unasked(&self) -> Result<Outcome, BusFault>
-        ensures again { (f : AFault) → (kept_of self.now).fault ≡ Some f
-            → result ≡ Err (bus_fault f) }
-        ensures none { (kept_of self.now).fault ≡ None → result ≡ Ok Outcome.Nothing }
-        ensures fits { IfOk result (λ outcome. outcome ≡ Outcome.Nothing) }
-    {
-        match self.fault {
-            Some(fault) => Err(bus_fault(fault)),
-            None => Ok(Outcome::Nothing),
         }
     }
 

@@ -5,7 +5,7 @@ ghost use Rattle.std.specs.Prelude.{◌≡◌, ◌≢◌, ℕ, List, Option, Res
 ghost use Rattle.usb_packet.specs.declared.Toggle.{Toggle};
 ghost use Rattle.usb_packet.specs.declared.Toggle.TheVariants.{One};
 ghost use Rattle.usb_request.specs.Layout.{setup_of};
-ghost use Rattle.usb_world.specs.declared.types.Attempt.{Attempt as AnAttempt};
+ghost use Rattle.usb_world.specs.PlainAttempts.{Attempt as AnAttempt};
 ghost use Rattle.usb_world.specs.declared.types.Outcome.{Outcome as AnOutcome};
 ghost use Rattle.usb_world.specs.Courses.{is_harmless};
 ghost use Rattle.usb_world.specs.Devices.{EachWas};

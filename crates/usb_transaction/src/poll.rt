@@ -23,7 +23,6 @@ use usb_packet::Toggle;
 ///
 /// `Stalled` at STALL, `Busy` at the 256th repeat, `NoAnswer` after three errors running, `Bus`
 /// where the bus makes no more steps.
-#[tactic(auto, using(crate::proofs::TransactionTries::went_last))]
 pub fn poll_in<B: Bus>(
     bus: &mut B,
     target: Target,

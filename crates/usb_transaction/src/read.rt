@@ -22,7 +22,6 @@ use usb_packet::Toggle;
 ///
 /// `Stalled` at STALL, `Busy` at the 256th NAK or repeat, `NoAnswer` after three errors running,
 /// `Bus` where the bus makes no more steps.
-#[tactic(auto, using(crate::proofs::TransactionTries::went_last))]
 pub fn data_in<B: Bus>(
     bus: &mut B,
     target: Target,

@@ -22,7 +22,6 @@ use usb_packet::Toggle;
 ///
 /// `Stalled` at STALL, `Busy` at the 256th NAK, `NoAnswer` after three errors running, `Bus` where
 /// the bus makes no more steps. The data may have been taken all the same, where an ACK was lost.
-#[tactic(auto, using(crate::proofs::TransactionTries::went_last))]
 pub fn data_out<B: Bus>(
     bus: &mut B,
     target: Target,

@@ -14,13 +14,13 @@ use Rattle.std.proofs.lemmas.Option.{same_Some}
 use Rattle.std.proofs.lemmas.Str.Pattern.{IsSplitOnceResult, split_parts}
 use Rattle.hex.specs.Hex.{IsBytes}
 use Rattle.usb_packet.specs.{TokenKind, OutTok, InTok, SetupTok, Toggle, Zero, One, data_name}
-use Rattle.usb_packet.specs.{hex_text, token_name}
+use Rattle.usb_packet.specs.{hex_text, token_name, Speed, Full, Low, LowBelowHub}
 use Rattle.usb_packet.proofs.SpellingLemmas.{IsBytes-cons, IsBytes-none}
 use Rattle.usb_port.specs.{PortCall, SetPower, SetReset, ClearEnable, ClearPower}
 use Rattle.usb_port.specs.{ClearConnectionChange, ClearEnableChange, ClearResetChange}
 use Rattle.usb_request.specs.{Setup as SetupData, bytes_of, setup_of}
-use Rattle.usb_wire.specs.{WireFault, LineTooLong, BadCharacter, Endpoint, Question, Speed, Full}
-use Rattle.usb_wire.specs.{Low, LowBelowHub, hex_value, after_pre, asked_in, behind_pre_word}
+use Rattle.usb_wire.specs.{WireFault, LineTooLong, BadCharacter, Endpoint, Question}
+use Rattle.usb_wire.specs.{hex_value, after_pre, asked_in, behind_pre_word}
 use Rattle.usb_wire.specs.{call_in, cut_at, data_behind, endpoint_in, in_question, out_question}
 use Rattle.usb_wire.specs.{port_question, question_of, setup_by, setup_in, setup_question}
 use Rattle.usb_wire.specs.{toggle_named, token_behind, token_of_words, IsEndpoint, IsQuestion}

@@ -39,6 +39,4 @@ pub use declared.question.Asked.{Asked}
 pub use declared.question.DataPacket.{DataPacket}
 pub use declared.question.Endpoint.{Endpoint}
 pub use declared.question.Question.{Question}
-pub use declared.question.Speed.{Speed}
-pub use declared.question.Speed.TheVariants.{Full, Low, LowBelowHub}
 pub use declared.words.Words.TheVariants.{More, One, Three, Two}

@@ -3,6 +3,7 @@ use Rattle.std.specs.Prelude.{ℕ, ◌==◌, List, [], ◌∷◌, length, codes,
 use Rattle.std.specs.Prelude.{if◌then◌else◌}
 use Rattle.std.specs.Result.{result_ok}
 use Rattle.std.specs.Str.{bytes_eq}
+use Rattle.usb_packet.specs.{Speed, Full, Low, LowBelowHub}
 use Rattle.usb_packet.specs.{Toggle, Zero, One}
 use Rattle.usb_port.specs.{PortCall, SetPower, SetReset, ClearEnable, ClearPower}
 use Rattle.usb_port.specs.{ClearConnectionChange, ClearEnableChange, ClearResetChange}
@@ -10,8 +11,6 @@ use Rattle.usb_request.specs.{Setup as SetupData, setup_of}
 use Rattle.usb_wire.specs.declared.question.Endpoint.{Endpoint}
 use Rattle.usb_wire.specs.declared.question.Question.{Question}
 use Rattle.usb_wire.specs.declared.question.Question.TheVariants.{Hello, Setup, Out, In, Port, Wait}
-use Rattle.usb_wire.specs.declared.question.Speed.{Speed}
-use Rattle.usb_wire.specs.declared.question.Speed.TheVariants.{Full, Low, LowBelowHub}
 use Rattle.usb_wire.specs.Reading.{bytes_of_word, number_of_word, text_of_line}
 
 infixl 10 ◌>>=◌

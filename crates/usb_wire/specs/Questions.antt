@@ -1,5 +1,6 @@
 -- The questions of the host, and the line of each.
 use Rattle.std.specs.Prelude.{◌≡◌, ℕ, ◌^◌, ◌<◌, ◌≤◌, List, [], ◌++◌, codes, decimal, Some}
+use Rattle.usb_packet.specs.{Speed, Full, Low, LowBelowHub}
 use Rattle.usb_packet.specs.{TokenKind, OutTok, InTok, SetupTok, Toggle, Zero, data_name, hex_text}
 use Rattle.usb_packet.specs.{token_name}
 use Rattle.usb_port.specs.{PortCall, SetPower, SetReset, ClearEnable, ClearPower}
@@ -14,8 +15,6 @@ use Rattle.usb_wire.specs.declared.question.Asked.TheVariants.{Wait as OfWait}
 use Rattle.usb_wire.specs.declared.question.Endpoint.{Endpoint}
 use Rattle.usb_wire.specs.declared.question.Question.{Question}
 use Rattle.usb_wire.specs.declared.question.Question.TheVariants.{Hello, Setup, Out, In, Port, Wait}
-use Rattle.usb_wire.specs.declared.question.Speed.{Speed}
-use Rattle.usb_wire.specs.declared.question.Speed.TheVariants.{Full, Low, LowBelowHub}
 
 -- which answers a question has
 abbrev pub kind_asked : Question → Asked

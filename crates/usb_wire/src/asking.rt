@@ -6,9 +6,9 @@ ghost use Rattle.usb_wire.specs.Questions.{IsQuestion, IsQuestionLine};
 ghost use Rattle.usb_wire.specs.declared.question.Question.{Question as AQuestion};
 
 use crate::field::{bytes_of_word, number_of_word};
-use crate::question::{DataPacket, Endpoint, Question, Speed};
+use crate::question::{DataPacket, Endpoint, Question};
 use crate::reading::text_of_line;
-use usb_packet::Toggle;
+use usb_packet::{Speed, Toggle};
 use usb_port::PortCall;
 use usb_request::Setup;
 

@@ -45,5 +45,6 @@ pub use answer::{Answer, SEND_LIMIT, Said, said_line};
 pub use asking::read_question;
 pub use fault::WireFault;
 pub use laws::lines_are_read_back;
-pub use question::{Asked, DataPacket, Endpoint, Question, Speed, question_line};
+pub use question::{Asked, DataPacket, Endpoint, Question, question_line};
 pub use reading::read_said;
+pub use usb_packet::Speed;

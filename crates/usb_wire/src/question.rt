@@ -7,20 +7,9 @@ ghost use Rattle.usb_wire.specs.Questions.{kind_asked, call_text, data_with, bet
 
 use crate::field::few_bytes;
 use arrayvec::{ArrayString, ArrayVec};
-use usb_packet::{Packet, Toggle, TokenKind, push_decimal, push_packet};
+use usb_packet::{Packet, Speed, Toggle, TokenKind, push_decimal, push_packet};
 use usb_port::PortCall;
 use usb_request::Setup;
-
-/// How fast a device is, and where (8.6.5).
-#[derive(Clone, Copy, Debug, PartialEq, Eq)]
-pub enum Speed {
-    /// Full speed.
-    Full,
-    /// Low speed, at a root port.
-    Low,
-    /// Low speed, below a hub: PRE stands before each packet of the host.
-    LowBelowHub,
-}
 
 /// An endpoint of the device at an address (8.3.2).
 #[derive(Clone, Copy, Debug, PartialEq, Eq)]

@@ -7,7 +7,7 @@ use Rattle.usb_packet.specs.{Toggle, TokenKind, OutTok, InTok, SetupTok}
 use Rattle.usb_request.specs.{PORT_RESET, SET_FEATURE, PORT_OUT, setup_of, Setup}
 use Rattle.usb_device.specs.{Is, Spec, Ports, reach, place, state_there}
 use Rattle.usb_world.specs.declared.event.Event.{Event}
-use Rattle.usb_world.specs.declared.types.Attempt.{Attempt}
+use Rattle.usb_world.specs.PlainAttempts.{Attempt}
 use Rattle.usb_world.specs.declared.types.BusFault.{BusFault}
 use Rattle.usb_tree.specs.{has_power, pending, address_of, same_path, IsNew, call_resets}
 use Rattle.usb_tree.specs.{call_keeps_pending, attempt_resets, attempt_keeps_pending}

@@ -5,7 +5,7 @@ use Rattle.usb_port.specs.{PortState}
 use Rattle.usb_device.specs.{State, Way, setup_law, out_law, in_law, Ports, Location, full, row_of}
 use Rattle.usb_device.specs.{reach_on, state_on, place_on}
 use Rattle.usb_device.specs.Attempt.{whole}
-use Rattle.usb_world.specs.declared.types.Attempt.{Attempt}
+use Rattle.usb_world.specs.PlainAttempts.{Attempt}
 use Rattle.usb_world.specs.declared.types.Outcome.TheVariants.{Nothing}
 use Rattle.usb_tree.specs.{address_of, deep_at}
 use Rattle.usb_world.specs.OneHolder.{got, hears_attempt}

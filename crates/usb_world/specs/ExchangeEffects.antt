@@ -3,7 +3,7 @@ use Rattle.std.specs.Prelude.{◌≡◌, Option}
 use Rattle.usb_device.specs.{Heard, Sent, Ports, row_of, both, heard_of, figure}
 use Rattle.usb_world.specs.declared.damage.Damage.{Damage}
 use Rattle.usb_world.specs.declared.exchange.Exchange.{Exchange}
-use Rattle.usb_world.specs.declared.types.Attempt.{Attempt}
+use Rattle.usb_world.specs.PlainAttempts.{Attempt}
 use Rattle.usb_tree.specs.{after_sent, answers_to}
 use Rattle.usb_world.specs.Exchanges.{exchange_in, ended_in, ports_in}
 

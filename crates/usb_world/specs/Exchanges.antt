@@ -6,7 +6,7 @@ use Rattle.usb_packet.specs.{Packet, Token, Ack, Sof, Nak, Stall, Pre}
 use Rattle.usb_packet.specs.declared.Packet.TheVariants as packet
 use Rattle.usb_device.specs.{Answer, Sent, packet_of, Ports, has_loss, clears_change}
 use Rattle.usb_device.specs.declared.delivery.Content.TheVariants as content
-use Rattle.usb_world.specs.declared.types.Attempt.{Attempt}
+use Rattle.usb_world.specs.PlainAttempts.{Attempt}
 use Rattle.usb_world.specs.declared.types.Outcome.{Outcome}
 use Rattle.usb_world.specs.declared.types.Outcome.TheVariants as outcome
 use Rattle.usb_world.specs.declared.damage.Damage.{Damage}

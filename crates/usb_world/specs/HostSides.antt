@@ -2,7 +2,7 @@
 use Rattle.std.specs.Prelude.{ℕ, nat_eq, ◌&&◌, Bool, Some}
 use Rattle.std.specs.Option.{option_eq}
 use Rattle.usb_device.specs.{HostSide, DeviceSide, keeps_others}
-use Rattle.usb_world.specs.declared.types.Attempt.{Attempt}
+use Rattle.usb_world.specs.PlainAttempts.{Attempt}
 
 abbrev pub host_side : Attempt → HostSide
 host_side a =

@@ -1,3 +1,4 @@
+pub mod PlainAttempts
 pub mod Worlds
 pub mod PluggedDevices
 pub mod Plans
@@ -22,8 +23,10 @@ pub mod RestingPorts
 pub mod Silence
 pub mod HostSides
 -- the words of this crate, wherever one stands
-pub use Worlds.{AnswerFits, AttemptEnds, Attempted, AttemptsWithin, FitsMaximum, HasFault}
-pub use Worlds.{IsAttempt, IsRootPort, Made, World, root_row, roots_of, sends_data, to_come}
+pub use PlainAttempts.{Attempt, attempt_data, attempt_kind, attempt_payload, destination_of}
+pub use Worlds.{AnswerFits, AttemptEnds, Attempted, AttemptsWithin, FitsMaximum, FitsPayload}
+pub use Worlds.{HasFault, IsAttempt, IsRootPort, Made, World, root_row, roots_of, sends_data}
+pub use Worlds.{to_come}
 unfoldable pub use Worlds.{change_of, changes, root_port_at}
 pub use PluggedDevices.{PluggedMap, device_indexed, has_port, hub_ports, index_at, is_rooted}
 pub use PluggedDevices.{plugged_after}
@@ -83,9 +86,9 @@ pub use declared.event.Change.TheVariants.{Plug, Unplug}
 pub use declared.event.Event.{Event}
 pub use declared.exchange.Exchange.{Exchange}
 pub use declared.exchange.ExchangeAnswer.{ExchangeAnswer}
-pub use declared.types.Attempt.{Attempt}
 pub use declared.types.BusFault.{BusFault}
 pub use declared.types.BusFault.TheVariants.{Failed, Limit, Memory}
+pub use declared.types.Destination.{Destination}
 pub use declared.types.Outcome.{Outcome}
 pub use declared.wire.Mark.{Mark}
 pub use declared.wire.Mark.TheVariants.{Flipped, Lost, PreLost, Whole}

@@ -10,7 +10,7 @@ use Rattle.usb_device.specs.declared.answer.Answer.TheVariants as answer
 use Rattle.usb_device.specs.declared.delivery.Content.TheVariants as content
 use Rattle.usb_request.specs.{setup_of}
 use Rattle.usb_device.specs.Attempt.{whole, broken}
-use Rattle.usb_world.specs.declared.types.Attempt.{Attempt}
+use Rattle.usb_world.specs.PlainAttempts.{Attempt}
 use Rattle.usb_world.specs.declared.types.Outcome.{Outcome}
 use Rattle.usb_world.specs.declared.types.Outcome.TheVariants as outcome
 use Rattle.usb_world.specs.declared.damage.Damage.{Damage}

@@ -6,7 +6,7 @@ use Rattle.usb_request.specs.{CLEAR_FEATURE, SET_FEATURE, SET_CONFIGURATION, DEV
 use Rattle.usb_request.specs.{Setup}
 use Rattle.usb_port.specs.{PortState}
 use Rattle.usb_device.specs.{Is, Sent, Ports, reach}
-use Rattle.usb_world.specs.declared.types.Attempt.{Attempt}
+use Rattle.usb_world.specs.PlainAttempts.{Attempt}
 use Rattle.usb_world.specs.Exchanges.{token_out, payload_out}
 use Rattle.usb_tree.specs.{is_way, same_number, same_path, after_sent, way_leaves}
 use Rattle.usb_world.specs.Worlds.{World}

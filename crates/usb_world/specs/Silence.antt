@@ -1,6 +1,6 @@
 -- An attempt that no device hears.
 use Rattle.std.specs.Prelude.{false, Option, None}
-use Rattle.usb_world.specs.declared.types.Attempt.{Attempt}
+use Rattle.usb_world.specs.PlainAttempts.{Attempt}
 use Rattle.usb_world.specs.declared.damage.Damage.{Damage}
 use Rattle.usb_world.specs.declared.exchange.Exchange.{Exchange}
 use Rattle.usb_world.specs.declared.exchange.ExchangeAnswer.TheVariants.{Nothing}

@@ -3,13 +3,14 @@
 use Rattle.std.specs.Prelude.{◌≡◌, ℕ, ◌+◌, ◌-◌, ◌<◌, ◌≤◌, List, [], ◌∷◌, length, Bool, true, false}
 use Rattle.std.specs.Prelude.{Option, None, Some, Result, Ok, Err, slice_index_or, ⊤, if◌then◌else◌}
 use Rattle.std.specs.Prelude.{is_some}
-use Rattle.usb_packet.specs.{TokenKind, OutTok, InTok, SetupTok}
+use Rattle.arrayvec.specs.ArrayVec.{ArrayVec}
+use Rattle.usb_packet.specs.{Toggle, Zero, One, TokenKind, OutTok, InTok, SetupTok}
 use Rattle.usb_port.specs.{PortState, off}
 use Rattle.usb_device.specs.{Spec, Ports, row_of}
 use Rattle.usb_world.specs.declared.damage.Damage.{Damage}
 use Rattle.usb_world.specs.declared.event.Event.{Event}
 use Rattle.usb_world.specs.declared.losses.Losses.{Losses}
-use Rattle.usb_world.specs.declared.types.Attempt.{Attempt}
+use Rattle.usb_world.specs.PlainAttempts.{Attempt}
 use Rattle.usb_world.specs.declared.types.Outcome.{Outcome}
 use Rattle.usb_world.specs.declared.types.Outcome.TheVariants.{Payload, Ack, Nak, Stall, Nothing}
 use Rattle.usb_world.specs.declared.types.BusFault.{BusFault}
@@ -52,6 +53,15 @@ sends_data OutTok = true
 sends_data SetupTok = true
 sends_data InTok = false
 
+-- what each kind sends: SETUP its eight bytes in DATA0 (8.5.3), OUT no more than the maximum packet
+abbrev pub FitsPayload : TokenKind → ℕ → Option (Toggle × ArrayVec ℕ) → Type 0
+FitsPayload SetupTok max (Some (Zero, bytes)) = length bytes.items ≡ 8
+FitsPayload SetupTok max (Some (One, bytes)) = ⊥
+FitsPayload SetupTok max None = ⊥
+FitsPayload OutTok max (Some (toggle, bytes)) = length bytes.items ≤ max
+FitsPayload OutTok max None = ⊥
+FitsPayload InTok max payload = ⊤
+
 pub record IsAttempt (a : Attempt) : Type 0 where
   pub addr_fits : a.addr < 128
   pub ep_fits : a.ep < 16
@@ -59,6 +69,7 @@ pub record IsAttempt (a : Attempt) : Type 0 where
   pub max_most : a.max ≤ 64
   pub pre_low : a.pre ≡ true → a.low ≡ true
   pub payload_sent : is_some a.payload ≡ sends_data a.kind
+  pub payload_fits : FitsPayload a.kind a.max a.payload
 
 -- 1 where C_PORT_CONNECTION is set
 unfoldable pub change_of : PortState → ℕ

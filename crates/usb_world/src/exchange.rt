@@ -1,10 +1,13 @@
 //! One attempt: the host's packets go to the devices, and their answers come together.
-ghost use Rattle.std.specs.Prelude.{◌≡◌, ◌≤◌, [], true, false, None, Some, IfOk, IfSome, IsOk, IsSome, OnOk, OnErr};
+ghost use Rattle.std.specs.Prelude.{◌≡◌, ◌≤◌, length, [], true, false, None, Some, IfOk, IfSome, IsOk, IsSome, OnOk, OnErr};
+ghost use Rattle.usb_packet.specs.Speeds.{speed_has_pre, speed_is_low};
 ghost use Rattle.usb_packet.specs.Spelling.{HasFields};
+ghost use Rattle.usb_packet.specs.declared.Packet.TheVariants as packet;
 ghost use Rattle.usb_device.specs.LentPackets.{broken};
 ghost use Rattle.usb_device.specs.Tree.{device_there};
 ghost use Rattle.usb_device.specs.Delivery.{all_forgotten, has_loss};
 ghost use Rattle.usb_device.specs.Route.{address_by};
+ghost use Rattle.usb_world.specs.PlainAttempts.{attempt_data};
 ghost use Rattle.usb_world.specs.Worlds.{IsAttempt, FitsMaximum};
 ghost use Rattle.usb_world.specs.Wire.{has_its_bit, marked, marked_some};
 ghost use Rattle.usb_world.specs.declared.wire.Mark.TheVariants.{Flipped};
@@ -20,11 +23,11 @@ ghost use Rattle.usb_world.specs.HostSides.{host_side, keeps_address};
 
 use crate::damage::{Damage, Harm};
 use crate::wire::{Mark, Outgoing, flipped, harm_to, mark_of, marked};
-use crate::{Attempt, Outcome};
+use crate::{Attempt, Destination, Outcome};
 use arrayvec::ArrayVec;
 use std::alloc::AllocError;
 use usb_device::{AnswerPid, Content, DeviceSide, HeardPid, Hearing, HostSide, LentPacket, Ports};
-use usb_packet::{Packet, encode, one_flipped_bit};
+use usb_packet::{Packet, Speed, Toggle, encode, one_flipped_bit};
 
 /// What the devices' answers to an attempt are together.
 #[derive(Debug, Drop)]
@@ -114,14 +117,15 @@ pub(crate) fn exchange_along(
     damage: Option<Damage>,
     exchange: &mut Exchange,
 ) -> Result<bool, AllocError>
-    requires attempt { IsAttempt attempt.now }
-    requires alone { AloneAt (token_out attempt.now damage) roots.old path.now }
+    requires attempt { IsAttempt (attempt_data attempt.now) }
+    requires alone { AloneAt (token_out (attempt_data attempt.now) damage) roots.old path.now }
     ensures plugged { StaysPlugged roots.old roots.new }
     ensures settled { IsSettled roots.new }
-    ensures made { OnOk result (Exchanged attempt.now damage roots.old roots.new exchange.new) }
-    ensures cut { OnErr result (IsCut attempt.now damage roots.old roots.new) }
+    ensures made { OnOk result (Exchanged (attempt_data attempt.now) damage roots.old roots.new
+        exchange.new) }
+    ensures cut { OnErr result (IsCut (attempt_data attempt.now) damage roots.old roots.new) }
     ensures kept { IfOk result (λ kept. kept ≡ true
-        → KeptAt attempt.now.addr port roots.old roots.new path.now) }
+        → KeptAt (attempt_data attempt.now).addr port roots.old roots.new path.now) }
 {
     match damage {
         None if !is_whole(path) => exchange_whole(roots, path, port, attempt, exchange),
@@ -138,15 +142,16 @@ fn exchange_whole(
     attempt: &Attempt,
     exchange: &mut Exchange,
 ) -> Result<bool, AllocError>
-    requires attempt { IsAttempt attempt.now }
+    requires attempt { IsAttempt (attempt_data attempt.now) }
     requires way { is_whole_tree path.now ≡ false }
-    requires alone { AloneAt (token_out attempt.now None) roots.old path.now }
+    requires alone { AloneAt (token_out (attempt_data attempt.now) None) roots.old path.now }
     ensures plugged { StaysPlugged roots.old roots.new }
     ensures settled { IsSettled roots.new }
-    ensures made { OnOk result (Exchanged attempt.now None roots.old roots.new exchange.new) }
-    ensures cut { OnErr result (IsCut attempt.now None roots.old roots.new) }
+    ensures made { OnOk result (Exchanged (attempt_data attempt.now) None roots.old roots.new
+        exchange.new) }
+    ensures cut { OnErr result (IsCut (attempt_data attempt.now) None roots.old roots.new) }
     ensures kept { IfOk result (λ kept. kept ≡ true
-        → KeptAt attempt.now.addr port roots.old roots.new path.now) }
+        → KeptAt (attempt_data attempt.now).addr port roots.old roots.new path.now) }
 {
     put_token(attempt, None, &mut exchange.token);
     put_payload(attempt, None, &mut exchange.payload);
@@ -161,28 +166,29 @@ fn exchange_whole(
     put_reply(attempt, None, place, side.acknowledged, &mut exchange.reply);
     exchange.address_lost = side.address_lost;
     exchange.change_cleared = side.effect.clears_change();
-    Ok(keeps_address(port, &side, attempt.addr))
+    Ok(keeps_address(port, &side, attempt))
 }
 
-/// Whether a device that was at an address still is, and asked nothing of its ports that changes who
+/// Whether a device that was at an attempt's address still is, and asked nothing of its ports that changes who
 /// is reached, but for those on its port of a number.
-fn keeps_address(port: u8, side: &DeviceSide, address: u8) -> bool
-    ensures { result ≡ keeps_address port side.now address }
+fn keeps_address(port: u8, side: &DeviceSide, attempt: &Attempt) -> bool
+    ensures { result ≡ keeps_address port side.now (attempt_data attempt.now).addr }
 {
-    side.effect.keeps_others(port) && side.address == Some(address)
+    side.effect.keeps_others(port) && side.address == Some(attempt.destination().address)
 }
 
 /// What the host has to say beside its data.
 fn host_side(attempt: &Attempt) -> HostSide
-    ensures { result ≡ host_side attempt.now }
+    ensures { result ≡ host_side (attempt_data attempt.now) }
 {
+    let to = attempt.destination();
     HostSide {
-        low: attempt.low,
-        pre: attempt.pre,
-        kind: attempt.kind,
-        addr: attempt.addr,
-        ep: attempt.ep,
-        max: attempt.max,
+        low: to.speed.is_low(),
+        pre: to.speed.has_pre(),
+        kind: attempt.kind(),
+        addr: to.address,
+        ep: to.number,
+        max: to.max,
     }
 }
 
@@ -196,20 +202,21 @@ fn exchange_by_packets(
     damage: Option<Damage>,
     exchange: &mut Exchange,
 ) -> Result<bool, AllocError>
-    requires attempt { IsAttempt attempt.now }
-    requires alone { AloneAt (token_out attempt.now damage) roots.old path.now }
+    requires attempt { IsAttempt (attempt_data attempt.now) }
+    requires alone { AloneAt (token_out (attempt_data attempt.now) damage) roots.old path.now }
     ensures plugged { StaysPlugged roots.old roots.new }
     ensures settled { IsSettled roots.new }
-    ensures made { OnOk result (Exchanged attempt.now damage roots.old roots.new exchange.new) }
-    ensures cut { OnErr result (IsCut attempt.now damage roots.old roots.new) }
+    ensures made { OnOk result (Exchanged (attempt_data attempt.now) damage roots.old roots.new
+        exchange.new) }
+    ensures cut { OnErr result (IsCut (attempt_data attempt.now) damage roots.old roots.new) }
     ensures kept { IfOk result (λ kept. kept ≡ true
-        → KeptAt attempt.now.addr port roots.old roots.new path.now) }
+        → KeptAt (attempt_data attempt.now).addr port roots.old roots.new path.now) }
 {
     let mut quiet = false;
     let made = send_packets(roots, path, port, attempt, damage, &mut quiet, exchange);
     let left = end_attempt(roots, path);
     made?;
-    Ok(quiet && left == Some(attempt.addr))
+    Ok(quiet && left == Some(attempt.destination().address))
 }
 
 /// Every device forgets what it remembers: all of them, or the one at a path where no other
@@ -253,15 +260,17 @@ fn send_packets(
     quiet: &mut bool,
     exchange: &mut Exchange,
 ) -> Result<(), AllocError>
-    requires attempt { IsAttempt attempt.now }
-    requires alone { AloneAt (token_out attempt.now damage) roots.old path.now }
+    requires attempt { IsAttempt (attempt_data attempt.now) }
+    requires alone { AloneAt (token_out (attempt_data attempt.now) damage) roots.old path.now }
     ensures plugged { StaysPlugged roots.old roots.new }
-    ensures quiet { OnOk result (quiet.new ≡ true → IsQuiet port (payload_out attempt.now damage)
-        (after_sent (token_out attempt.now damage) roots.old) path.now) }
-    ensures made { OnOk result (PacketsWent attempt.now damage roots.old roots.new exchange.new) }
+    ensures quiet { OnOk result (quiet.new ≡ true
+        → IsQuiet port (payload_out (attempt_data attempt.now) damage)
+        (after_sent (token_out (attempt_data attempt.now) damage) roots.old) path.now) }
+    ensures made { OnOk result (PacketsWent (attempt_data attempt.now) damage roots.old roots.new
+        exchange.new) }
     ensures alone { AloneAt None roots.new path.now }
-    ensures stopped { OnErr result (IsStopped (payload_out attempt.now damage)
-        (after_sent (token_out attempt.now damage) roots.old) roots.new) }
+    ensures stopped { OnErr result (IsStopped (payload_out (attempt_data attempt.now) damage)
+        (after_sent (token_out (attempt_data attempt.now) damage) roots.old) roots.new) }
 {
     put_token(attempt, damage, &mut exchange.token);
     let mut heard = Hearing::nothing();
@@ -273,7 +282,7 @@ fn send_packets(
     put_answer(heard, &mut exchange.answer);
     let place = answer_place(&exchange.payload);
     exchange.answer_mark = answer_mark(harm_to(damage, place), &exchange.answer);
-    let acknowledged = is_acknowledged(&exchange.answer, exchange.answer_mark, attempt.max);
+    let acknowledged = is_acknowledged(&exchange.answer, exchange.answer_mark, attempt);
     put_reply(
         attempt,
         damage,
@@ -288,8 +297,8 @@ fn send_packets(
 
 /// Makes an attempt that no device hears: the host's token and its data go out, and nothing comes.
 pub(crate) fn make_silence(attempt: &Attempt, damage: Option<Damage>, exchange: &mut Exchange)
-    requires { IsAttempt attempt.now }
-    ensures { exchange.new ≡ silent_exchange attempt.now damage }
+    requires { IsAttempt (attempt_data attempt.now) }
+    ensures { exchange.new ≡ silent_exchange (attempt_data attempt.now) damage }
 {
     put_token(attempt, damage, &mut exchange.token);
     put_payload(attempt, damage, &mut exchange.payload);
@@ -328,27 +337,29 @@ fn answer_mark(harm: Option<Harm>, answer: &ExchangeAnswer) -> Mark
 fn goes_out<'a>(attempt: &Attempt, packet: &'a Outgoing) -> Option<LentPacket<'a>>
     requires fields { HasFields packet.now.packet }
     requires bit { has_its_bit packet.now.mark packet.now.packet ≡ true }
-    ensures { result ≡ sent_as attempt.now.low attempt.now.pre packet.now.mark packet.now.packet }
+    ensures { result ≡ sent_as (attempt_data attempt.now).low (attempt_data attempt.now).pre
+        packet.now.mark packet.now.packet }
 {
+    let speed = attempt.destination().speed;
     match packet.mark {
-        Mark::Whole => Some(LentPacket::whole(attempt.low, attempt.pre, &packet.packet)),
+        Mark::Whole => Some(LentPacket::whole(speed.is_low(), speed.has_pre(), &packet.packet)),
         Mark::Lost => None,
-        Mark::PreLost => Some(LentPacket::whole(attempt.low, false, &packet.packet)),
-        Mark::Flipped(bit) => Some(broken(attempt, &packet.packet, bit)),
+        Mark::PreLost => Some(LentPacket::whole(speed.is_low(), false, &packet.packet)),
+        Mark::Flipped(bit) => Some(broken(speed, &packet.packet, bit)),
     }
 }
 
 /// A packet with one bit flipped: it spells no packet (8.3.1 and 8.3.5).
 #[inline(never)]
-fn broken<'a>(attempt: &Attempt, packet: &Packet, bit: u16) -> LentPacket<'a>
+fn broken<'a>(speed: Speed, packet: &Packet, bit: u16) -> LentPacket<'a>
     requires fields { HasFields packet.now }
     requires bit { has_its_bit (Flipped bit) packet.now ≡ true }
-    ensures { result ≡ broken attempt.now.low attempt.now.pre }
+    ensures { result ≡ broken (speed_is_low speed) (speed_has_pre speed) }
 {
     one_flipped_bit();
     let bytes = encode(packet);
     match Content::of(flipped(bytes, bit).as_slice()) {
-        Content::Broken => LentPacket::broken(attempt.low, attempt.pre),
+        Content::Broken => LentPacket::broken(speed.is_low(), speed.has_pre()),
         Content::Whole(_) => unreachable!(),
     }
 }
@@ -357,7 +368,7 @@ fn broken<'a>(attempt: &Attempt, packet: &Packet, bit: u16) -> LentPacket<'a>
 fn some_goes_out<'a>(attempt: &Attempt, packet: &'a Option<Outgoing>) -> Option<LentPacket<'a>>
     requires fields { IfSome packet.now (λ s. HasFields s.packet) }
     requires bit { IfSome packet.now (λ s. has_its_bit s.mark s.packet ≡ true) }
-    ensures { result ≡ goes_out attempt.now packet.now }
+    ensures { result ≡ goes_out (attempt_data attempt.now) packet.now }
 {
     goes_out(attempt, packet.as_ref()?)
 }
@@ -439,15 +450,15 @@ fn send_reply(
 ) -> Result<bool, AllocError>
     requires fields { IfSome reply.now (λ s. HasFields s.packet) }
     requires bit { IfSome reply.now (λ s. has_its_bit s.mark s.packet ≡ true) }
-    requires alone { AloneAt (goes_out attempt.now reply.now) roots.old path.now }
+    requires alone { AloneAt (goes_out (attempt_data attempt.now) reply.now) roots.old path.now }
     ensures plugged { StaysPlugged roots.old roots.new }
     ensures lost { IfOk result (λ lost. lost
-        ≡ is_lost reply.now (goes_out attempt.now reply.now) roots.old) }
+        ≡ is_lost reply.now (goes_out (attempt_data attempt.now) reply.now) roots.old) }
     ensures ports { OnOk result
-        (roots.new ≡ after_sent (goes_out attempt.now reply.now) roots.old) }
+        (roots.new ≡ after_sent (goes_out (attempt_data attempt.now) reply.now) roots.old) }
     ensures alone { AloneAt None roots.new path.now }
     ensures stopped { OnErr result
-        (IsStopped (goes_out attempt.now reply.now) roots.old roots.new) }
+        (IsStopped (goes_out (attempt_data attempt.now) reply.now) roots.old roots.new) }
 {
     match reply {
         None => Ok(false),
@@ -464,15 +475,17 @@ fn acknowledge(
 ) -> Result<bool, AllocError>
     requires fields { HasFields packet.now.packet }
     requires bit { has_its_bit packet.now.mark packet.now.packet ≡ true }
-    requires alone { AloneAt (goes_out attempt.now (Some packet.now)) roots.old path.now }
+    requires alone { AloneAt (goes_out (attempt_data attempt.now) (Some packet.now)) roots.old
+        path.now }
     ensures plugged { StaysPlugged roots.old roots.new }
     ensures lost { IfOk result (λ lost. lost
-        ≡ is_lost (Some packet.now) (goes_out attempt.now (Some packet.now)) roots.old) }
+        ≡ is_lost (Some packet.now) (goes_out (attempt_data attempt.now) (Some packet.now))
+        roots.old) }
     ensures ports { OnOk result (roots.new
-        ≡ after_sent (goes_out attempt.now (Some packet.now)) roots.old) }
+        ≡ after_sent (goes_out (attempt_data attempt.now) (Some packet.now)) roots.old) }
     ensures alone { AloneAt None roots.new path.now }
     ensures stopped { OnErr result
-        (IsStopped (goes_out attempt.now (Some packet.now)) roots.old roots.new) }
+        (IsStopped (goes_out (attempt_data attempt.now) (Some packet.now)) roots.old roots.new) }
 {
     let sent = goes_out(attempt, packet);
     let mut unanswered = Hearing::nothing();
@@ -489,55 +502,73 @@ fn acknowledge(
 /// The token as damage leaves it.
 #[tactic(auto, unfolding(crate::specs::Exchanges::token_of, crate::specs::Wire::marked))]
 fn put_token(attempt: &Attempt, damage: Option<Damage>, token: &mut Outgoing)
-    requires { IsAttempt attempt.now }
-    ensures value { token.new ≡ marked damage 1 attempt.now.pre (token_of attempt.now) }
+    requires { IsAttempt (attempt_data attempt.now) }
+    ensures value { token.new ≡ marked damage 1 (attempt_data attempt.now).pre
+        (token_of (attempt_data attempt.now)) }
     ensures fields { HasFields token.new.packet }
     ensures bit { has_its_bit token.new.mark token.new.packet ≡ true }
 {
+    let to = attempt.destination();
     token.packet = Packet::Token {
-        kind: attempt.kind,
-        addr: attempt.addr,
-        ep: attempt.ep,
+        kind: attempt.kind(),
+        addr: to.address,
+        ep: to.number,
     };
-    token.mark = mark_of(harm_to(damage, 1), attempt.pre, &token.packet);
+    token.mark = mark_of(harm_to(damage, 1), to.speed.has_pre(), &token.packet);
 }
 
 /// The host's data as damage leaves them, where it sends some.
 #[tactic(auto, unfolding(crate::specs::Exchanges::payload_of, crate::specs::Wire::marked_some))]
 fn put_payload(attempt: &Attempt, damage: Option<Damage>, payload: &mut Option<Outgoing>)
-    ensures value { payload.new ≡ marked_some damage 2 attempt.now.pre (payload_of attempt.now) }
+    ensures value { payload.new ≡ marked_some damage 2 (attempt_data attempt.now).pre
+        (payload_of (attempt_data attempt.now)) }
     ensures fields { IfSome payload.new (λ s. HasFields s.packet) }
     ensures bit { IfSome payload.new (λ s. has_its_bit s.mark s.packet ≡ true) }
 {
-    match &attempt.payload {
-        None => *payload = None,
-        Some((toggle, bytes)) => {
-            let packet = Packet::Payload {
-                toggle: *toggle,
-                bytes: copied(bytes),
-            };
-            *payload = Some(marked(damage, 2, attempt.pre, packet));
+    match attempt {
+        Attempt::Setup { to, bytes } => {
+            *payload = Some(data_out(*to, damage, Toggle::Zero, bytes));
         }
+        Attempt::Out { to, toggle, bytes } => {
+            *payload = Some(data_out(*to, damage, *toggle, bytes.as_slice()));
+        }
+        Attempt::In { .. } => *payload = None,
     }
 }
 
+/// A data packet of the host as damage leaves it.
+fn data_out(to: Destination, damage: Option<Damage>, toggle: Toggle, bytes: &[u8]) -> Outgoing
+    requires { length bytes.now ≤ 64 }
+    ensures value { result ≡ marked damage 2 (speed_has_pre to.speed)
+        (packet.Payload toggle (record { items = bytes.now })) }
+    ensures fields { HasFields result.packet }
+    ensures bit { has_its_bit result.mark result.packet ≡ true }
+{
+    let packet = Packet::Payload {
+        toggle,
+        bytes: copied(bytes),
+    };
+    marked(damage, 2, to.speed.has_pre(), packet)
+}
+
 /// The same bytes.
-fn copied(bytes: &ArrayVec<u8, 64>) -> ArrayVec<u8, 64>
-    ensures { result ≡ bytes.now }
+fn copied(bytes: &[u8]) -> ArrayVec<u8, 64>
+    requires { length bytes.now ≤ 64 }
+    ensures { result.items ≡ bytes.now }
 {
     let mut copy = ArrayVec::new();
-    copy.try_extend_from_slice(bytes.as_slice()).unwrap();
+    copy.try_extend_from_slice(bytes).unwrap();
     copy
 }
 
-/// Whether the host reads data of at most `max` bytes, and so answers by ACK.
+/// Whether the host reads data of at most the maximum, and so answers by ACK.
 #[tactic(auto, unfolding(crate::specs::Exchanges::reply_of))]
-fn is_acknowledged(answer: &ExchangeAnswer, mark: Mark, max: u8) -> bool
-    ensures { ack_if result ≡ reply_of answer.now mark max }
+fn is_acknowledged(answer: &ExchangeAnswer, mark: Mark, attempt: &Attempt) -> bool
+    ensures { ack_if result ≡ reply_of answer.now mark (attempt_data attempt.now).max }
 {
     match answer {
         ExchangeAnswer::One(Packet::Payload { toggle: _, bytes }) => {
-            mark.is_read() && bytes.len() <= usize::from(max)
+            mark.is_read() && bytes.len() <= usize::from(attempt.destination().max)
         }
         _ => false,
     }
@@ -552,12 +583,14 @@ fn put_reply(
     acknowledged: bool,
     reply: &mut Option<Outgoing>,
 )
-    ensures value { reply.new ≡ marked_some damage place attempt.now.pre (ack_if acknowledged) }
+    ensures value { reply.new ≡ marked_some damage place (attempt_data attempt.now).pre
+        (ack_if acknowledged) }
     ensures fields { IfSome reply.new (λ s. HasFields s.packet) }
     ensures bit { IfSome reply.new (λ s. has_its_bit s.mark s.packet ≡ true) }
 {
     if acknowledged {
-        *reply = Some(marked(damage, place, attempt.pre, Packet::Ack));
+        let speed = attempt.destination().speed;
+        *reply = Some(marked(damage, place, speed.has_pre(), Packet::Ack));
     } else {
         *reply = None;
     }
@@ -576,7 +609,7 @@ pub fn outcome_of(answer: &ExchangeAnswer, mark: Mark, max: u8) -> Outcome
     match answer {
         ExchangeAnswer::One(Packet::Payload { toggle, bytes }) => {
             if bytes.len() <= usize::from(max) {
-                Outcome::Payload(*toggle, copied(bytes))
+                Outcome::Payload(*toggle, copied(bytes.as_slice()))
             } else {
                 Outcome::Nothing
             }

@@ -11,7 +11,7 @@ ghost use Rattle.usb_device.specs.Tree.{Ports, full, path_to, place_on, reach, r
 ghost use Rattle.usb_device.specs.View.{port_there, state_there};
 ghost use Rattle.usb_world.specs.declared.damage.Damage.{Damage};
 ghost use Rattle.usb_world.specs.declared.exchange.ExchangeAnswer.TheVariants.{Collision};
-ghost use Rattle.usb_world.specs.declared.types.Attempt.{Attempt};
+ghost use Rattle.usb_world.specs.PlainAttempts.{Attempt};
 ghost use Rattle.usb_world.specs.Addresses.{GivesNoAddress};
 ghost use Rattle.usb_world.specs.Courses.{Injective, UndisturbedOrPends, NoReset, HoldsMapped, Reached, KeepsPendingAt, Undisturbed, resets};
 ghost use Rattle.usb_world.specs.Devices.{DidIn, DidOut, DidSetup, EachWas, Was};

@@ -75,5 +75,5 @@ pub use laws::{
 pub use losses::Losses;
 pub use plan::Plan;
 pub use route::make_exchange_by;
-pub use types::{Attempt, BusFault, Outcome};
+pub use types::{Attempt, BusFault, Destination, Outcome};
 pub use wire::{Mark, Outgoing, damage_of};

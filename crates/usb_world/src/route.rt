@@ -1,6 +1,7 @@
 //! The way of an attempt: straight to the device that holds its address, where one does.
 ghost use Rattle.std.specs.Prelude.{◌≡◌, ◌≤◌, ◌++◌, ◌∷◌, [], length, OnOk, OnErr};
 ghost use Rattle.usb_device.specs.HolderIndex.{IsIndexOf};
+ghost use Rattle.usb_world.specs.PlainAttempts.{attempt_data};
 ghost use Rattle.usb_world.specs.Worlds.{IsAttempt};
 ghost use Rattle.usb_world.specs.ExchangeEffects.{StaysPlugged, Exchanged};
 ghost use Rattle.usb_tree.specs.AttemptPackets.{IsSettled};
@@ -14,7 +15,6 @@ use crate::exchange::{Exchange, exchange_along, is_whole, make_silence};
 use arrayvec::ArrayVec;
 use std::alloc::AllocError;
 use usb_device::{Device, Holder, Holders, Ports, keeps_enable};
-use usb_packet::TokenKind;
 use usb_port::PortCall;
 use usb_request::Setup;
 use usb_request::request_code::{CLEAR_FEATURE, SET_CONFIGURATION, SET_FEATURE};
@@ -39,27 +39,28 @@ pub fn make_exchange_by(
     damage: Option<Damage>,
     exchange: &mut Exchange,
 ) -> Result<(), AllocError>
-    requires attempt { IsAttempt attempt.now }
+    requires attempt { IsAttempt (attempt_data attempt.now) }
     requires settled { IsSettled roots.old }
     requires index { IsIndexOf holders.old roots.old }
     ensures plugged { StaysPlugged roots.old roots.new }
     ensures settled { IsSettled roots.new }
-    ensures made { OnOk result (Exchanged attempt.now damage roots.old roots.new exchange.new) }
-    ensures cut { OnErr result (IsCut attempt.now damage roots.old roots.new) }
+    ensures made { OnOk result (Exchanged (attempt_data attempt.now) damage roots.old roots.new
+        exchange.new) }
+    ensures cut { OnErr result (IsCut (attempt_data attempt.now) damage roots.old roots.new) }
     ensures index { IsIndexOf holders.new roots.new }
 {
-    if let Holder::Nobody = holders.holder(attempt.addr) {
+    if let Holder::Nobody = holders.holder(attempt.destination().address) {
         make_silence(attempt, damage, exchange);
         return Ok(());
     }
-    match change_of(attempt, roots, way(holders, attempt.addr)) {
+    match change_of(attempt, roots, way(holders, attempt)) {
         Change::Nothing => exchange_keeping(roots, holders, attempt, damage, exchange),
         Change::AtDevice => {
-            let path = copied(way(holders, attempt.addr));
+            let path = copied(way(holders, attempt));
             exchange_at(roots, holders, path.as_slice(), attempt, damage, exchange)
         }
         Change::AtPort(port) => {
-            let path = copied(way(holders, attempt.addr));
+            let path = copied(way(holders, attempt));
             exchange_at_port(
                 roots,
                 holders,
@@ -82,16 +83,17 @@ fn exchange_keeping(
     damage: Option<Damage>,
     exchange: &mut Exchange,
 ) -> Result<(), AllocError>
-    requires attempt { IsAttempt attempt.now }
+    requires attempt { IsAttempt (attempt_data attempt.now) }
     requires settled { IsSettled roots.old }
     requires index { IsIndexOf holders.old roots.old }
     ensures plugged { StaysPlugged roots.old roots.new }
     ensures settled { IsSettled roots.new }
-    ensures made { OnOk result (Exchanged attempt.now damage roots.old roots.new exchange.new) }
-    ensures cut { OnErr result (IsCut attempt.now damage roots.old roots.new) }
+    ensures made { OnOk result (Exchanged (attempt_data attempt.now) damage roots.old roots.new
+        exchange.new) }
+    ensures cut { OnErr result (IsCut (attempt_data attempt.now) damage roots.old roots.new) }
     ensures index { IsIndexOf holders.new roots.new }
 {
-    let way = way(holders, attempt.addr);
+    let way = way(holders, attempt);
     match exchange_along(roots, way, 0, attempt, damage, exchange) {
         Ok(true) => Ok(()),
         Ok(false) => {
@@ -115,14 +117,15 @@ fn exchange_at(
     damage: Option<Damage>,
     exchange: &mut Exchange,
 ) -> Result<(), AllocError>
-    requires attempt { IsAttempt attempt.now }
+    requires attempt { IsAttempt (attempt_data attempt.now) }
     requires settled { IsSettled roots.old }
     requires index { IsIndexOf holders.old roots.old }
-    requires way { IsWayTo attempt.now.addr roots.old path.now }
+    requires way { IsWayTo (attempt_data attempt.now).addr roots.old path.now }
     ensures plugged { StaysPlugged roots.old roots.new }
     ensures settled { IsSettled roots.new }
-    ensures made { OnOk result (Exchanged attempt.now damage roots.old roots.new exchange.new) }
-    ensures cut { OnErr result (IsCut attempt.now damage roots.old roots.new) }
+    ensures made { OnOk result (Exchanged (attempt_data attempt.now) damage roots.old roots.new
+        exchange.new) }
+    ensures cut { OnErr result (IsCut (attempt_data attempt.now) damage roots.old roots.new) }
     ensures index { IsIndexOf holders.new roots.new }
 {
     let forgotten = holders.forget(roots, path);
@@ -153,15 +156,16 @@ fn exchange_at_port(
     damage: Option<Damage>,
     exchange: &mut Exchange,
 ) -> Result<(), AllocError>
-    requires attempt { IsAttempt attempt.now }
+    requires attempt { IsAttempt (attempt_data attempt.now) }
     requires settled { IsSettled roots.old }
     requires index { IsIndexOf holders.old roots.old }
-    requires way { IsWayTo attempt.now.addr roots.old path.now }
+    requires way { IsWayTo (attempt_data attempt.now).addr roots.old path.now }
     requires most { length path.now ≤ 8 }
     ensures plugged { StaysPlugged roots.old roots.new }
     ensures settled { IsSettled roots.new }
-    ensures made { OnOk result (Exchanged attempt.now damage roots.old roots.new exchange.new) }
-    ensures cut { OnErr result (IsCut attempt.now damage roots.old roots.new) }
+    ensures made { OnOk result (Exchanged (attempt_data attempt.now) damage roots.old roots.new
+        exchange.new) }
+    ensures cut { OnErr result (IsCut (attempt_data attempt.now) damage roots.old roots.new) }
     ensures index { IsIndexOf holders.new roots.new }
 {
     let below = below(path, port);
@@ -197,15 +201,12 @@ enum Change {
 /// An IN of endpoint 0 at address 0 may end SET_ADDRESS (9.4.6), and SET_CONFIGURATION turns all
 /// ports off (9.4.7).
 fn change_of(attempt: &Attempt, roots: &Ports, way: &[u8]) -> Change {
-    match (attempt.kind, &attempt.payload) {
-        (TokenKind::InTok, _) if attempt.addr == 0 && attempt.ep == 0 => {
+    match attempt {
+        Attempt::In { to } if to.address == 0 && to.number == 0 => {
             change_of_status(roots.device_at(way))
         }
-        (TokenKind::SetupTok, Some((_, bytes))) => match bytes.as_slice().try_into() {
-            Ok(bytes) => change_of_request(&Setup::from_bytes(bytes)),
-            Err(_) => Change::Nothing,
-        },
-        _ => Change::Nothing,
+        Attempt::Setup { bytes, .. } => change_of_request(&Setup::from_bytes(*bytes)),
+        Attempt::In { .. } | Attempt::Out { .. } => Change::Nothing,
     }
 }
 
@@ -253,16 +254,16 @@ fn copied(path: &[u8]) -> ArrayVec<u8, 8>
     copy
 }
 
-/// The path of the one device that holds an address; the empty path, which stands for the whole
-/// tree, where none is known.
-fn way(holders: &Holders, address: u8) -> &[u8]
-    ensures value { result.now ≡ way_in holders.now address }
+/// The path of the one device that holds an attempt's address; the empty path, which stands for the
+/// whole tree, where none is known.
+fn way<'a>(holders: &'a Holders, attempt: &Attempt) -> &'a [u8]
+    ensures value { result.now ≡ way_in holders.now (attempt_data attempt.now).addr }
     ensures most { length result.now ≤ 8 }
 {
     if holders.is_shared() {
         return &[];
     }
-    match holders.holder(address) {
+    match holders.holder(attempt.destination().address) {
         Holder::One(path) => path.as_slice(),
         Holder::Nobody | Holder::Several => &[],
     }

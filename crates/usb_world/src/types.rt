@@ -5,25 +5,69 @@ ghost use Rattle.usb_world.specs.declared.types.BusFault.TheVariants.{Memory as 
 use arrayvec::ArrayVec;
 use std::alloc::AllocError;
 use thiserror::Error;
-use usb_packet::{Toggle, TokenKind};
+use usb_packet::{Speed, Toggle, TokenKind};
+
+/// The endpoint that an attempt is for, and how it is reached.
+#[derive(Clone, Copy, Debug, PartialEq, Eq)]
+pub struct Destination {
+    /// The device's address, 0 to 127.
+    pub address: u8,
+    /// The endpoint's number, 0 to 15.
+    pub number: u8,
+    /// How fast the device is, and whether it stands below a hub (8.6.5).
+    pub speed: Speed,
+    /// The endpoint's maximum packet in bytes, 1 to 64.
+    pub max: u8,
+}
 
 /// One transaction attempt (8.5).
 #[derive(Debug, Drop)]
-pub struct Attempt {
-    /// SETUP, OUT or IN.
-    pub kind: TokenKind,
-    /// The device's address, 0 to 127.
-    pub addr: u8,
-    /// The endpoint's number, 0 to 15.
-    pub ep: u8,
-    /// Whether it is at low speed.
-    pub low: bool,
-    /// Whether PRE goes before each of the host's packets (8.6.5).
-    pub pre: bool,
-    /// The endpoint's maximum packet in bytes.
-    pub max: u8,
-    /// What SETUP and OUT send.
-    pub payload: Option<(Toggle, ArrayVec<u8, 64>)>,
+pub enum Attempt {
+    /// SETUP, with setup data in DATA0 (8.5.3).
+    Setup {
+        /// Where it goes.
+        to: Destination,
+        /// The setup data (9.3).
+        bytes: [u8; 8],
+    },
+    /// OUT, with data (8.5.1).
+    Out {
+        /// Where it goes.
+        to: Destination,
+        /// DATA0 or DATA1.
+        toggle: Toggle,
+        /// The data, no more than the endpoint's maximum packet.
+        bytes: ArrayVec<u8, 64>,
+    },
+    /// IN: it asks for data (8.5.1).
+    In {
+        /// Where it goes.
+        to: Destination,
+    },
+}
+
+impl Attempt {
+    ghost use Rattle.usb_world.specs.PlainAttempts.{attempt_kind, destination_of};
+
+    /// The token that it begins with.
+    pub fn kind(&self) -> TokenKind
+        ensures { result ≡ attempt_kind self.now }
+    {
+        match self {
+            Attempt::Setup { .. } => TokenKind::SetupTok,
+            Attempt::Out { .. } => TokenKind::OutTok,
+            Attempt::In { .. } => TokenKind::InTok,
+        }
+    }
+
+    /// Where it goes.
+    pub fn destination(&self) -> Destination
+        ensures { result ≡ destination_of self.now }
+    {
+        match self {
+            Attempt::Setup { to, .. } | Attempt::Out { to, .. } | Attempt::In { to } => *to,
+        }
+    }
 }
 
 /// What the host got in an attempt.

@@ -1,4 +1,6 @@
 //! A test is a loop over rows: what a far end says, and what the bus before it asks and gives.
+ghost use Rattle.std.specs.Prelude.{◌≡◌};
+ghost use Rattle.usb_world.specs.PlainAttempts.{attempt_data};
 ghost use Rattle.usb_world.specs.Worlds.{IsAttempt};
 
 use arrayvec::ArrayVec;
@@ -6,8 +8,8 @@ use std::alloc::{AllocError, Global};
 use std::io;
 use std::io::{Error, ErrorKind, Read, Write};
 use std::test::Fail;
-use usb_bus::{Attempt, Bus, Outcome, Watched};
-use usb_packet::{Toggle, TokenKind};
+use usb_bus::{Attempt, Bus, Destination, Outcome, Watched};
+use usb_packet::{Speed, Toggle};
 use usb_request::feature::{C_PORT_CONNECTION, PORT_RESET};
 use usb_stream::{LiveFault, StreamBus};
 use usb_wire::{Answer, DataPacket, Said, WireFault, said_line};
@@ -34,7 +36,7 @@ const FAR: &str = "roots 2\n\
                    send 1.2 FF\n";
 
 const GIVEN: &str =
-    "roots 2; ACK; DATA1 1122; none; NAK; none; port 1 03011000; port 2 00010000; send 1.2 FF; told; ";
+    "roots 2; ACK; DATA1 1122; none; NAK; port 1 03011000; port 2 00010000; send 1.2 FF; told; ";
 
 /// What a far end says, how many questions may be asked, how many lines of the host go out, and why no more do.
 #[derive(Clone, Copy)]
@@ -130,55 +132,53 @@ struct Played {
     fault: Option<LiveFault>,
 }
 
-/// What the host sends in an attempt.
-fn data(toggle: Toggle, sent: &[u8]) -> (Toggle, ArrayVec<u8, 64>) {
-    let mut bytes = ArrayVec::new();
-    let _ = bytes.try_extend_from_slice(sent);
-    (toggle, bytes)
+/// An endpoint of the device at an address.
+fn to(address: u8, number: u8, speed: Speed, max: u8) -> Destination
+    ensures { result ≡ record { address = address; number = number; speed = speed; max = max } }
+{
+    Destination {
+        address,
+        number,
+        speed,
+        max,
+    }
 }
 
 /// SETUP of a full-speed device at address 0, with its setup data.
-fn setup(bytes: &[u8]) -> Attempt
-    ensures { IsAttempt result }
+fn setup(bytes: [u8; 8]) -> Attempt
+    ensures { IsAttempt (attempt_data result) }
 {
-    Attempt {
-        kind: TokenKind::SetupTok,
-        addr: 0,
-        ep: 0,
-        low: false,
-        pre: false,
-        max: 8,
-        payload: Some(data(Toggle::Zero, bytes)),
+    Attempt::Setup {
+        to: to(0, 0, Speed::Full, 8),
+        bytes,
     }
 }
 
 /// IN at low speed: of endpoint 1 below a hub, else of endpoint 0 at a root port.
 fn take(is_below: bool) -> Attempt
-    ensures { IsAttempt result }
+    ensures { IsAttempt (attempt_data result) }
 {
-    Attempt {
-        kind: TokenKind::InTok,
-        addr: if is_below { 5 } else { 0 },
-        ep: if is_below { 1 } else { 0 },
-        low: true,
-        pre: is_below,
-        max: if is_below { 8 } else { 1 },
-        payload: None,
+    if is_below {
+        Attempt::In {
+            to: to(5, 1, Speed::LowBelowHub, 8),
+        }
+    } else {
+        Attempt::In {
+            to: to(0, 0, Speed::Low, 1),
+        }
     }
 }
 
 /// OUT with two bytes.
 fn out() -> Attempt
-    ensures { IsAttempt result }
+    ensures { IsAttempt (attempt_data result) }
 {
-    Attempt {
-        kind: TokenKind::OutTok,
-        addr: 1,
-        ep: 2,
-        low: false,
-        pre: false,
-        max: 64,
-        payload: Some(data(Toggle::One, &[1, 2])),
+    let mut bytes = ArrayVec::new();
+    let _ = bytes.try_extend_from_slice(&[1, 2]);
+    Attempt::Out {
+        to: to(1, 2, Speed::Full, 64),
+        toggle: Toggle::One,
+        bytes,
     }
 }
 
@@ -188,7 +188,7 @@ fn make<R: Read + Drop, W: Write + Drop>(
     given: &mut String,
     attempt: &Attempt,
 ) -> Result<(), AllocError>
-    requires { IsAttempt attempt.now }
+    requires { IsAttempt (attempt_data attempt.now) }
 {
     match bus.attempt(attempt) {
         Ok(outcome) => push_outcome(given, outcome),
@@ -227,12 +227,10 @@ fn play<R: Read + Drop>(
     let mut given = String::new(alloc);
     let mut bus = StreamBus::open(Watched::new(reader), Watched::new(writer), limit);
     push_said(&mut given, &Said::Answered(Answer::Roots(bus.root_ports())))?;
-    make(&mut bus, &mut given, &setup(&[0x80, 6, 0, 1, 0, 0, 8, 0]))?;
+    make(&mut bus, &mut given, &setup([0x80, 6, 0, 1, 0, 0, 8, 0]))?;
     make(&mut bus, &mut given, &take(true))?;
     make(&mut bus, &mut given, &take(false))?;
     make(&mut bus, &mut given, &out())?;
-    // no line asks for this one: its setup data are one byte
-    make(&mut bus, &mut given, &setup(&[1]))?;
     bus.root_set(1, PORT_RESET);
     bus.root_set(3, PORT_RESET);
     bus.root_clear(2, C_PORT_CONNECTION);

@@ -4,6 +4,7 @@ ghost use Rattle.usb_port.specs.PortStates.{off, status_of};
 ghost use Rattle.usb_device.specs.HolderIndex.{IsIndexOf};
 ghost use Rattle.usb_device.specs.Tree.{row_of, changed, called};
 ghost use Rattle.usb_port.specs.Calls.{IsSetFeature, IsClearFeature};
+ghost use Rattle.usb_world.specs.PlainAttempts.{attempt_data};
 ghost use Rattle.usb_world.specs.Worlds.{Attempted, FitsMaximum, IsAttempt, roots_of};
 ghost use Rattle.usb_world.specs.Steps.{AttemptFails, SetsRoot, ClearsRoot, after, root_call};
 ghost use Rattle.usb_bus.specs.Traces.{Attempts, Spends};
@@ -33,16 +34,16 @@ impl<T: Trace> Bus for SimBus<T> {
     ghost ports = { λ bus. roots_of (world_of bus) };
 
     fn attempt(&mut self, attempt: &Attempt) -> Result<Outcome, BusFault>
-        requires { IsAttempt attempt.now }
-        ensures attempts { Attempts attempt.now (world_of self.old) (trace_of self.old) result
-            (world_of self.new) (trace_of self.new) }
+        requires { IsAttempt (attempt_data attempt.now) }
+        ensures attempts { Attempts (attempt_data attempt.now) (world_of self.old)
+            (trace_of self.old) result (world_of self.new) (trace_of self.new) }
         ensures spends { Spends (λ bus. (world_of bus).attempts) (λ bus. roots_of (world_of bus)) 1
             self.old self.new }
-        ensures fits { IfOk result (FitsMaximum attempt.now.max) }
+        ensures fits { IfOk result (FitsMaximum (attempt_data attempt.now).max) }
         ensures told { IfErr result (λ fault. (world_of self.new).fault ≡ Some fault) }
         ensures trace { result ≡ Err Failed → (world_of self.old).fault ≡ None
             → T.failed (tracer_of self.new) ≡ true }
-        ensures refuses { RefusesAttempt attempt.now self.old result self.new }
+        ensures refuses { RefusesAttempt (attempt_data attempt.now) self.old result self.new }
     {
         if let Some(fault) = self.fault {
             return Err(fault);
@@ -104,13 +105,14 @@ impl<T: Trace> SimBus<T> {
     /// The events that are due, and then an attempt and its line.
     #[tactic(auto, unfolding(usb_world::specs::Steps::at_attempt, usb_world::specs::Steps::with_attempt, usb_world::specs::Steps::outcome_in, usb_bus::specs::Lines::step_lines))]
     fn make_attempt(&mut self, attempt: &Attempt) -> Result<Outcome, BusFault>
-        requires attempt { IsAttempt attempt.now }
+        requires attempt { IsAttempt (attempt_data attempt.now) }
         requires sound { (world_of self.old).fault ≡ None }
         requires within { (world_of self.old).attempts < (world_of self.old).limit }
-        ensures made { AttemptMade attempt.now (world_of self.old) (trace_of self.old) result
-            (world_of self.new) (trace_of self.new) }
+        ensures made { AttemptMade (attempt_data attempt.now) (world_of self.old)
+            (trace_of self.old) result (world_of self.new) (trace_of self.new) }
         ensures trace { result ≡ Err Failed → T.failed (tracer_of self.new) ≡ true }
     {
+        let to = attempt.destination();
         self.take_due_events()?;
         self.shared |= self.holders.is_shared();
         let damage = damage_of(&self.damages, self.attempts + 1);
@@ -132,13 +134,9 @@ impl<T: Trace> SimBus<T> {
             .after_clearing(self.exchange.change_cleared)
             .counted(self.exchange.address_lost);
         self.tracer
-            .put_attempt(self.attempts, attempt.pre, &self.exchange)?;
+            .put_attempt(self.attempts, to.speed.has_pre(), &self.exchange)?;
         self.fault = None;
-        Ok(outcome_of(
-            &self.exchange.answer,
-            self.exchange.answer_mark,
-            attempt.max,
-        ))
+        Ok(outcome_of(&self.exchange.answer, self.exchange.answer_mark, to.max))
     }
 }
 

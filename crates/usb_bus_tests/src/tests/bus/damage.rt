@@ -2,11 +2,11 @@
 
 use super::plans::{GET_DEVICE, ONE_FUNCTION, SET_ADDRESS_5};
 use super::row::{joined, plan_text, went_otherwise};
-use super::step::Speed::Full;
 use super::step::{Step, told};
 use std::alloc::{AllocError, Global};
 use std::str;
 use std::test::Fail;
+use usb_packet::Speed::Full;
 use usb_sim::{Damage, Harm, SimBus, Tracer};
 use usb_testbus::{plugged, trace_of};
 

@@ -2,10 +2,10 @@
 
 use super::plans::{GET_DEVICE, HUB, SET_ADDRESS_1, SET_ADDRESS_5, SET_CONFIGURATION};
 use super::row::{Row, Told, joined, plan_text, row_went, went, went_otherwise};
-use super::step::Speed::{BehindPre, Full, Low};
 use super::step::Step;
 use std::alloc::Global;
 use std::test::Fail;
+use usb_packet::Speed::{Full, Low, LowBelowHub};
 use usb_sim::{Damage, Harm};
 
 const POWER_PORT_1: [u8; 8] = [0x23, 3, 8, 0, 1, 0, 0, 0];
@@ -44,10 +44,10 @@ pub(super) const TO_LOW_DEVICE: &[Told<'static>] = &[
     (Step::Asks(Full, 1, RESET_PORT_1), "data"),
     (Step::Reads(Full, 1, GET_PORT_1, 1), "ack"),
     (Step::Asks(Full, 1, [0x23, 1, 20, 0, 1, 0, 0, 0]), "data"),
-    (Step::Reads(BehindPre, 0, GET_DEVICE, 1), "ack"),
-    (Step::Asks(BehindPre, 0, [0, 5, 2, 0, 0, 0, 0, 0]), "data"),
+    (Step::Reads(LowBelowHub, 0, GET_DEVICE, 1), "ack"),
+    (Step::Asks(LowBelowHub, 0, [0, 5, 2, 0, 0, 0, 0, 0]), "data"),
     (
-        Step::Reads(BehindPre, 2, [0x80, 6, 0, 1, 0, 0, 18, 0], 3),
+        Step::Reads(LowBelowHub, 2, [0x80, 6, 0, 1, 0, 0, 18, 0], 3),
         "ack",
     ),
     (
@@ -141,11 +141,11 @@ plug 1.1 low
 /// A low-speed packet goes down behind PRE alone, and through an enabled port alone; the PRE of the first attempt here
 /// is lost.
 const WITHOUT_PRE: &[Told<'static>] = &[
-    (Step::Setup(BehindPre, 0, GET_DEVICE), "none"),
+    (Step::Setup(LowBelowHub, 0, GET_DEVICE), "none"),
     (Step::Setup(Low, 0, GET_DEVICE), "none"),
-    (Step::Setup(BehindPre, 0, GET_DEVICE), "ack"),
+    (Step::Setup(LowBelowHub, 0, GET_DEVICE), "ack"),
     (Step::Asks(Full, 1, DISABLE_PORT_1), "data"),
-    (Step::Setup(BehindPre, 0, GET_DEVICE), "none"),
+    (Step::Setup(LowBelowHub, 0, GET_DEVICE), "none"),
     (Step::Registers("1.1"), "Some((0, 0))"),
 ];
 
@@ -196,10 +196,10 @@ const ROWS: &[Row] = &[
         opening: OPENED,
         steps: &[
             (Step::Event, "changed"),
-            (Step::Setup(BehindPre, 0, GET_DEVICE), "ack"),
+            (Step::Setup(LowBelowHub, 0, GET_DEVICE), "ack"),
             (Step::Asks(Full, 1, POWER_PORT_2), "data"),
             (Step::Asks(Full, 1, RESET_PORT_2), "data"),
-            (Step::Setup(BehindPre, 0, GET_DEVICE), "none"),
+            (Step::Setup(LowBelowHub, 0, GET_DEVICE), "none"),
             (Step::Registers("1.2"), "Some((0, 0))"),
             (Step::Event, "changed"),
             (Step::Registers("1"), "None"),
@@ -208,7 +208,7 @@ const ROWS: &[Row] = &[
             (Step::Sink("1.1"), "None"),
             (Step::Registers("1.2"), "None"),
             (Step::Sink("1.2"), "None"),
-            (Step::Setup(BehindPre, 0, GET_DEVICE), "none"),
+            (Step::Setup(LowBelowHub, 0, GET_DEVICE), "none"),
         ],
         trace: &[
             OPENED_TRACE,
@@ -310,7 +310,7 @@ const LOST_ACKS: &[LostAck] = &[
 /// What a row's steps told otherwise than it wants, and then the trace.
 fn lost_ack(alloc: Global, row: &LostAck) -> Result<String, Fail> {
     let steps = [
-        (Step::Asks(BehindPre, 0, SET_ADDRESS_5), "data"),
+        (Step::Asks(LowBelowHub, 0, SET_ADDRESS_5), "data"),
         (Step::Counts, row.counts),
         (Step::Registers("1.1"), row.registers),
     ];
@@ -387,9 +387,9 @@ const TWO_LOST_ACKS: &[Damage] = &[
 fn between_otherwise(alloc: Global, row: &Between) -> Result<String, Fail> {
     let text = plan_text(alloc, HUB, TWO_LOST_ACKS)?;
     let steps = [
-        (Step::Asks(BehindPre, 0, SET_ADDRESS_5), "data"),
+        (Step::Asks(LowBelowHub, 0, SET_ADDRESS_5), "data"),
         (Step::Asks(Full, 1, row.request), row.told),
-        (Step::Asks(BehindPre, 0, SET_ADDRESS_5), "data"),
+        (Step::Asks(LowBelowHub, 0, SET_ADDRESS_5), "data"),
         (Step::Counts, row.counts),
     ];
     went_otherwise(alloc, text.as_str(), OPENED, &steps)

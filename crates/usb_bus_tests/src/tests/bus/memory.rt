@@ -2,10 +2,10 @@
 
 use super::plans::{BULK, ONE_PORT, SET_ADDRESS_1, SET_CONFIGURATION};
 use super::row::{Told, joined, otherwise};
-use super::step::Speed::Full;
 use super::step::{Step, told};
 use std::alloc::{AllocError, Global};
 use std::test::Fail;
+use usb_packet::Speed::Full;
 use usb_sim::{SimBus, Tracer};
 use usb_testbus::{bus_of, trace_of};
 

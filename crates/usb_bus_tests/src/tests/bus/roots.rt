@@ -4,10 +4,10 @@ use super::plans::{
     FUNCTION, GET_DEVICE, ONE_FUNCTION, ONE_PORT, PLUG, SET_ADDRESS_1, SET_CONFIGURATION, TWO_PORTS,
 };
 use super::row::{Row, Told, joined, row_went};
-use super::step::Speed::{BehindPre, Full};
 use super::step::Step;
 use std::alloc::Global;
 use std::test::Fail;
+use usb_packet::Speed::{Full, LowBelowHub};
 use usb_sim::{Damage, Harm};
 
 /// The function is plugged at port 1 and enumerated, and a line of report is written.
@@ -184,7 +184,7 @@ plug 2 fn
             (Step::Set(2, 8), ""),
             (Step::Setup(Full, 0, GET_DEVICE), "ack"),
             (Step::ShortIn(Full), "none"),
-            (Step::ShortIn(BehindPre), "none"),
+            (Step::ShortIn(LowBelowHub), "none"),
             (Step::Set(2, 4), ""),
             (Step::Setup(Full, 0, GET_DEVICE), "none"),
         ],
@@ -238,7 +238,7 @@ unplug 1
         steps: &[
             (Step::Event, "changed"),
             (Step::Reset(1), ""),
-            (Step::ShortIn(BehindPre), "none"),
+            (Step::ShortIn(LowBelowHub), "none"),
         ],
         trace: &["plug 1 fn\n1 PRE IN 0.0 [pre lost] / none\n"],
     },

@@ -2,20 +2,10 @@
 
 use arrayvec::ArrayVec;
 use std::alloc::{AllocError, Global};
-use usb_bus::{Attempt, Bus, BusFault, Outcome};
-use usb_packet::{Toggle, TokenKind};
+use usb_bus::{Attempt, Bus, BusFault, Destination, Outcome};
+use usb_packet::{Speed, Toggle};
 use usb_port::PortPath;
 use usb_sim::{Ask, SimBus, Trace};
-
-/// At which speed the host speaks.
-#[derive(Clone, Copy)]
-pub(super) enum Speed {
-    Full,
-    /// Low speed, without PRE.
-    Low,
-    /// Low speed, and PRE goes before each packet of the host.
-    BehindPre,
-}
 
 /// One step. An attempt goes to endpoint 0 of an address where no other is named.
 #[derive(Clone, Copy)]
@@ -120,7 +110,17 @@ fn asks<T: Trace>(
 fn whole(speed: Speed) -> u8 {
     match speed {
         Speed::Full => 64,
-        Speed::Low | Speed::BehindPre => 8,
+        Speed::Low | Speed::LowBelowHub => 8,
+    }
+}
+
+/// An endpoint of the device at an address.
+fn to(speed: Speed, addr: u8, ep: u8, max: u8) -> Destination {
+    Destination {
+        address: addr % 128,
+        number: ep % 16,
+        speed,
+        max: max.clamp(1, 64),
     }
 }
 
@@ -130,16 +130,9 @@ fn setup<T: Trace>(
     addr: u8,
     bytes: [u8; 8],
 ) -> Result<Outcome, BusFault> {
-    let mut payload = ArrayVec::new();
-    payload.try_extend_from_slice(&bytes).unwrap();
-    bus.attempt(&Attempt {
-        kind: TokenKind::SetupTok,
-        addr: addr % 128,
-        ep: 0,
-        low: !matches!(speed, Speed::Full),
-        pre: matches!(speed, Speed::BehindPre),
-        max: whole(speed).clamp(1, 64),
-        payload: Some((Toggle::Zero, payload)),
+    bus.attempt(&Attempt::Setup {
+        to: to(speed, addr, 0, whole(speed)),
+        bytes,
     })
 }
 
@@ -150,41 +143,27 @@ fn take<T: Trace>(
     ep: u8,
     max: u8,
 ) -> Result<Outcome, BusFault> {
-    bus.attempt(&Attempt {
-        kind: TokenKind::InTok,
-        addr: addr % 128,
-        ep: ep % 16,
-        low: !matches!(speed, Speed::Full),
-        pre: matches!(speed, Speed::BehindPre),
-        max: max.clamp(1, 64),
-        payload: None,
+    bus.attempt(&Attempt::In {
+        to: to(speed, addr, ep, max),
     })
 }
 
 fn out<T: Trace>(bus: &mut SimBus<T>, speed: Speed, addr: u8) -> Result<Outcome, BusFault> {
-    bus.attempt(&Attempt {
-        kind: TokenKind::OutTok,
-        addr: addr % 128,
-        ep: 0,
-        low: !matches!(speed, Speed::Full),
-        pre: matches!(speed, Speed::BehindPre),
-        max: whole(speed).clamp(1, 64),
-        payload: Some((Toggle::One, ArrayVec::new())),
+    bus.attempt(&Attempt::Out {
+        to: to(speed, addr, 0, whole(speed)),
+        toggle: Toggle::One,
+        bytes: ArrayVec::new(),
     })
 }
 
 /// OUT of two bytes at endpoint 2 of address 1.
 pub(super) fn bulk_out<T: Trace>(bus: &mut SimBus<T>) -> Result<Outcome, BusFault> {
-    let mut payload = ArrayVec::new();
-    payload.try_extend_from_slice(&[7, 8]).unwrap();
-    bus.attempt(&Attempt {
-        kind: TokenKind::OutTok,
-        addr: 1,
-        ep: 2,
-        low: false,
-        pre: false,
-        max: 8,
-        payload: Some((Toggle::Zero, payload)),
+    let mut bytes = ArrayVec::new();
+    bytes.try_extend_from_slice(&[7, 8]).unwrap();
+    bus.attempt(&Attempt::Out {
+        to: to(Speed::Full, 1, 2, 8),
+        toggle: Toggle::Zero,
+        bytes,
     })
 }
 

@@ -6,13 +6,13 @@ use super::hubs::{TO_LOW_DEVICE, TO_LOW_DEVICE_TRACE};
 use super::plans::{HUB, ONE_FUNCTION};
 use super::roots::{ENUMERATION, ENUMERATION_TRACE};
 use super::row::{Told, joined, otherwise};
-use super::step::Speed::Full;
 use super::step::Step;
 use super::watched::Frail;
 use std::alloc::{AllocError, Global};
 use std::str;
 use std::test::Fail;
 use usb_bus::Watched;
+use usb_packet::Speed::Full;
 use usb_sim::{SimBus, Trace};
 use usb_testbus::{bus_on, untraced_of};
 

@@ -1,11 +1,12 @@
 //! A bus around another one, with a hub at address 1 that tells a change until that is cleared, or for good.
 ghost use Rattle.std.specs.Prelude.{◌≡◌, false, Some, IfErr};
 ghost use Rattle.usb_bus.specs.Traces.{Spends};
+ghost use Rattle.usb_world.specs.PlainAttempts.{attempt_data};
 ghost use Rattle.usb_world.specs.Worlds.{FitsMaximum, IsAttempt};
 
 use arrayvec::ArrayVec;
 use usb_bus::{Attempt, Bus, BusFault, Outcome};
-use usb_packet::{Toggle, TokenKind};
+use usb_packet::Toggle;
 
 /// The hub's address: it is found first.
 const HUB: u8 = 1;
@@ -153,17 +154,15 @@ impl<B: Bus> QuirkBus<B> {
         }
     }
 
-    fn set_up(&mut self, attempt: &Attempt) -> Result<Outcome, BusFault>
-        requires { IsAttempt attempt.now }
+    fn set_up(&mut self, attempt: &Attempt, setup: &[u8]) -> Result<Outcome, BusFault>
+        requires { IsAttempt (attempt_data attempt.now) }
         ensures any_bus { Spends B.spent B.ports 1 self.old.bus self.new.bus
             × IfErr result (λ fault. B.failed self.new.bus ≡ Some fault) }
     {
-        if let Some((_, setup)) = &attempt.payload {
-            self.answers = self.answers(setup.as_slice());
-            self.disabled = self.disabled && setup.as_slice() != RESET.as_slice();
-            if setup.as_slice() == CONFIGURE.as_slice() {
-                self.next = Toggle::Zero;
-            }
+        self.answers = self.answers(setup);
+        self.disabled = self.disabled && setup != RESET.as_slice();
+        if setup == CONFIGURE.as_slice() {
+            self.next = Toggle::Zero;
         }
         match self.answers {
             Answers::Below | Answers::WithChange => self.bus.attempt(attempt),
@@ -173,7 +172,7 @@ impl<B: Bus> QuirkBus<B> {
 
     /// An IN of endpoint 0.
     fn give(&mut self, attempt: &Attempt) -> Result<Outcome, BusFault>
-        requires { IsAttempt attempt.now }
+        requires { IsAttempt (attempt_data attempt.now) }
         ensures any_bus { Spends B.spent B.ports 1 self.old.bus self.new.bus
             × IfErr result (λ fault. B.failed self.new.bus ≡ Some fault) }
     {
@@ -219,7 +218,7 @@ impl<B: Bus> QuirkBus<B> {
 
     /// An IN of the status pipe.
     fn poll(&mut self, attempt: &Attempt) -> Result<Outcome, BusFault>
-        requires { IsAttempt attempt.now }
+        requires { IsAttempt (attempt_data attempt.now) }
         ensures any_bus { Spends B.spent B.ports 1 self.old.bus self.new.bus
             × IfErr result (λ fault. B.failed self.new.bus ≡ Some fault) }
     {
@@ -245,15 +244,15 @@ impl<B: Bus> QuirkBus<B> {
 
     /// What comes of an attempt at the hub.
     fn answer(&mut self, attempt: &Attempt) -> Result<Outcome, BusFault>
-        requires { IsAttempt attempt.now }
+        requires { IsAttempt (attempt_data attempt.now) }
         ensures any_bus { Spends B.spent B.ports 1 self.old.bus self.new.bus
             × IfErr result (λ fault. B.failed self.new.bus ≡ Some fault) }
     {
-        match attempt.kind {
-            TokenKind::SetupTok => self.set_up(attempt),
-            TokenKind::InTok if attempt.ep == 1 => self.poll(attempt),
-            TokenKind::InTok => self.give(attempt),
-            TokenKind::OutTok => match self.answers {
+        match attempt {
+            Attempt::Setup { bytes, .. } => self.set_up(attempt, bytes.as_slice()),
+            Attempt::In { to } if to.number == 1 => self.poll(attempt),
+            Attempt::In { .. } => self.give(attempt),
+            Attempt::Out { .. } => match self.answers {
                 Answers::HubStatus => Ok(Outcome::Ack),
                 _ => self.bus.attempt(attempt),
             },
@@ -276,11 +275,11 @@ impl<B: Bus> Bus for QuirkBus<B> {
     ghost ports = { λ quirk. B.ports quirk.bus };
 
     fn attempt(&mut self, attempt: &Attempt) -> Result<Outcome, BusFault> {
-        if attempt.addr != HUB {
+        if attempt.destination().address != HUB {
             return self.bus.attempt(attempt);
         }
         let outcome = self.answer(attempt)?;
-        Ok(fitting(attempt.max, outcome))
+        Ok(fitting(attempt.destination().max, outcome))
     }
 
     fn root_ports(&self) -> u8 {

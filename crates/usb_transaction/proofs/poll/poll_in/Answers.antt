@@ -6,6 +6,7 @@ use Rattle.usb_transaction.proofs.LastOutcomes.{heard_as-nak, heard_stall}
 use Rattle.usb_transaction.proofs.TransactionTries.{read_fits, stands_error, stands_new}
 use Rattle.usb_transaction.proofs.TransactionTries.{stands_waited, told_busy, told_cut, told_moved}
 use Rattle.usb_transaction.proofs.TransactionTries.{told_silent, told_stalled, told_waiting}
+use Rattle.usb_transaction.proofs.TransactionTries.{went_last}
 use Rattle.usb_transaction.proofs.poll.poll_in.Goals as goal
 
 pub tries-init : goal.tries-init
@@ -84,3 +85,33 @@ returns-in-Err-clause-polls g c known = polls_in c.args.target c.args.ep c.args.
     c.requires.target.max_least (g.met.B.Bus.settled known c.args.bus.now) c.tries.invariant.0 (Err
     (Bus c.in-Err.fault)) (told_cut (c.tries.invariant.2 known) (rw
     c.attempt_of_in-attempt.ensures.value at (c.in-Err.ensures.attempts known))) tt
+
+pub returns-in-Moved-clause-steps : goal.returns-in-Moved-clause-steps
+returns-in-Moved-clause-steps g c known =
+    went_last (c.tries.invariant.2 known) c.attempt_of_in-attempt.ensures.fits
+    (c.in-Ok.ensures.attempts known)
+
+pub returns-in-NotReady-clause-steps : goal.returns-in-NotReady-clause-steps
+returns-in-NotReady-clause-steps g c known =
+    went_last (c.tries.invariant.2 known) c.attempt_of_in-attempt.ensures.fits
+    (c.in-Ok.ensures.attempts known)
+
+pub returns-in_err-wait-in-Repeat-clause-steps : goal.returns-in_err-wait-in-Repeat-clause-steps
+returns-in_err-wait-in-Repeat-clause-steps g c known =
+    went_last (c.tries.invariant.2 known) c.attempt_of_in-attempt.ensures.fits
+    (c.in-Ok.ensures.attempts known)
+
+pub returns-in-Refused-clause-steps : goal.returns-in-Refused-clause-steps
+returns-in-Refused-clause-steps g c known =
+    went_last (c.tries.invariant.2 known) c.attempt_of_in-attempt.ensures.fits
+    (c.in-Ok.ensures.attempts known)
+
+pub returns-in_err-error-in-Lost-clause-steps : goal.returns-in_err-error-in-Lost-clause-steps
+returns-in_err-error-in-Lost-clause-steps g c known =
+    went_last (c.tries.invariant.2 known) c.attempt_of_in-attempt.ensures.fits
+    (c.in-Ok.ensures.attempts known)
+
+pub returns-in-Err-clause-steps : goal.returns-in-Err-clause-steps
+returns-in-Err-clause-steps g c known =
+    went_last (c.tries.invariant.2 known) c.attempt_of_in-attempt.ensures.fits
+    (c.in-Err.ensures.attempts known)

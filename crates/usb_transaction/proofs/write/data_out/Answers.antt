@@ -5,7 +5,7 @@ use Rattle.usb_transaction.proofs.Calls.{sends_out}
 use Rattle.usb_transaction.proofs.LastOutcomes.{sent_last, sent_stall}
 use Rattle.usb_transaction.proofs.TransactionTries.{stands_error, stands_new, stands_waited}
 use Rattle.usb_transaction.proofs.TransactionTries.{told_busy, told_cut, told_moved, told_silent}
-use Rattle.usb_transaction.proofs.TransactionTries.{told_stalled}
+use Rattle.usb_transaction.proofs.TransactionTries.{told_stalled, went_last}
 use Rattle.usb_transaction.proofs.write.data_out.Goals as goal
 
 pub tries-init : goal.tries-init
@@ -75,3 +75,28 @@ returns-in-Err-clause-sends g c known =
     sends_out c.args.target c.args.ep c.args.toggle.now c.args.bytes.now _ _ (g.met.B.Bus.settled
     known c.args.bus.now) (Err (Bus c.in-Err.fault)) (told_cut (c.tries.invariant.2 known) (rw
     c.attempt_of_out-attempt.ensures.value at (c.in-Err.ensures.attempts known)))
+
+pub returns-in-Moved-clause-steps : goal.returns-in-Moved-clause-steps
+returns-in-Moved-clause-steps g c known =
+    went_last (c.tries.invariant.2 known) c.attempt_of_out-attempt.ensures.fits
+    (c.in-Ok.ensures.attempts known)
+
+pub returns-in_err-wait-in-NotReady-clause-steps : goal.returns-in_err-wait-in-NotReady-clause-steps
+returns-in_err-wait-in-NotReady-clause-steps g c known =
+    went_last (c.tries.invariant.2 known) c.attempt_of_out-attempt.ensures.fits
+    (c.in-Ok.ensures.attempts known)
+
+pub returns-in-Refused-clause-steps : goal.returns-in-Refused-clause-steps
+returns-in-Refused-clause-steps g c known =
+    went_last (c.tries.invariant.2 known) c.attempt_of_out-attempt.ensures.fits
+    (c.in-Ok.ensures.attempts known)
+
+pub returns-in_err-error-in-Lost-clause-steps : goal.returns-in_err-error-in-Lost-clause-steps
+returns-in_err-error-in-Lost-clause-steps g c known =
+    went_last (c.tries.invariant.2 known) c.attempt_of_out-attempt.ensures.fits
+    (c.in-Ok.ensures.attempts known)
+
+pub returns-in-Err-clause-steps : goal.returns-in-Err-clause-steps
+returns-in-Err-clause-steps g c known =
+    went_last (c.tries.invariant.2 known) c.attempt_of_out-attempt.ensures.fits
+    (c.in-Err.ensures.attempts known)

@@ -1,13 +1,14 @@
 use Rattle.std.proofs.Common.{◌+◌, None, refl, ap, sym, ◌∙◌}
 use Rattle.usb_device.proofs.Interface.{stopped_on_err}
-use Rattle.usb_world.specs.{marked_some, ack_if, Exchange, Whole}
+use Rattle.usb_world.specs.{marked_some, ack_if, Exchange, Whole, attempt_data}
 use Rattle.usb_world.proofs.attempts.Exchanges.{over_settled}
 use Rattle.usb_world.proofs.ways.OneWalk.{CutShort, Walked, walk_over, walk_cut, walked_made}
 use Rattle.usb_world.proofs.ways.OneWalk.{walked_kept, made_plugged, made_settled, cut_plugged}
 use Rattle.usb_world.proofs.exchange.exchange_whole.Goals as goal
 
 cut_short : (c : goal.After-from_residual)
-    → CutShort c.args.attempt.now c.args.roots.now c.attempt_at.new.self c.args.path.now
+    → CutShort (attempt_data c.args.attempt.now) c.args.roots.now c.attempt_at.new.self
+    c.args.path.now
     c.put_payload.new.payload
 cut_short c = record {
   payload = c.put_payload.ensures.value;
@@ -23,7 +24,7 @@ cut_short c = record {
 
 pub returns-in_err-attempt_at-clause-plugged : goal.returns-in_err-attempt_at-clause-plugged
 returns-in_err-attempt_at-clause-plugged c =
-    cut_plugged c.args.attempt.now _ _
+    cut_plugged (attempt_data c.args.attempt.now) _ _
     (walk_over _ _ _ _ _ c.requires.way c.requires.alone (cut_short c))
 
 pub returns-in_err-attempt_at-clause-settled : goal.returns-in_err-attempt_at-clause-settled
@@ -47,7 +48,8 @@ made c = record {
 }
 
 walked : (c : goal.After-keeps_address)
-    → Walked c.args.attempt.now c.args.roots.now c.attempt_at.new.self c.args.path.now (made c)
+    → Walked (attempt_data c.args.attempt.now) c.args.roots.now c.attempt_at.new.self
+    c.args.path.now (made c)
     c.attempt_at.new.heard c.attempt_at.new.side
 walked c = record {
   token = c.put_token.ensures.value;
@@ -66,7 +68,7 @@ walked c = record {
   reply =
       c.put_reply.ensures.value
       ∙ ap
-      (λ n. marked_some None (n + 1) c.args.attempt.now.pre
+      (λ n. marked_some None (n + 1) (attempt_data c.args.attempt.now).pre
       (ack_if c.attempt_at.new.side.acknowledged))
       c.answer_place-place.ensures.value;
   lost = refl;
@@ -75,12 +77,12 @@ walked c = record {
 
 pub returns-clause-plugged : goal.returns-clause-plugged
 returns-clause-plugged c =
-    made_plugged c.args.attempt.now _ _
+    made_plugged (attempt_data c.args.attempt.now) _ _
     (walked_made _ _ _ _ _ _ _ c.requires.way c.requires.alone (walked c)).ports
 
 pub returns-clause-settled : goal.returns-clause-settled
 returns-clause-settled c =
-    made_settled c.args.attempt.now c.args.roots.now _
+    made_settled (attempt_data c.args.attempt.now) c.args.roots.now _
     (walked_made _ _ _ _ _ _ _ c.requires.way c.requires.alone (walked c)).ports
 
 pub returns-clause-made : goal.returns-clause-made

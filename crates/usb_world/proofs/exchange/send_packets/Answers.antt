@@ -1,6 +1,7 @@
 use Rattle.std.proofs.Common.{◌∙◌, ◌+◌, Option, sym, subst, ap, ap₂}
 use Rattle.usb_device.specs.{Sent, both, heard_of}
 use Rattle.usb_world.specs.{harm_to, marked_some, answer_mark, clears_at, goes_out, Outgoing}
+use Rattle.usb_world.specs.{attempt_data}
 use Rattle.usb_world.specs.{IsStopped}
 use Rattle.usb_tree.specs.{after_sent, answers_to, IfOut, IsDataOut, IsAckOut}
 use Rattle.usb_world.proofs.attempts.Exchanges.{Makes, made_exchange, made_ports, plugged_further}
@@ -16,7 +17,7 @@ returns-clause-plugged c =
 
 pub returns-clause-made : goal.returns-clause-made
 returns-clause-made c =
-    let a = c.args.attempt.now in
+    let a = attempt_data c.args.attempt.now in
     let damage = c.args.damage in
     let makes : Makes a damage c.args.roots.now
     (record {
@@ -63,7 +64,7 @@ returns-clause-made c =
 
 pub returns-in_err-send-clause-stopped : goal.returns-in_err-send-clause-stopped
 returns-in_err-send-clause-stopped c =
-    let a = c.args.attempt.now in
+    let a = attempt_data c.args.attempt.now in
     let P : Option Sent → Type 0 = λ q. IsStopped q c.args.roots.now c.send.new.roots in
     absurd (token_not_stopped a c.args.damage c.put_token.new.token c.args.roots.now
     c.send.new.roots c.put_token.ensures.value
@@ -71,7 +72,7 @@ returns-in_err-send-clause-stopped c =
 
 pub returns-in_err-address_lost-clause-stopped : goal.returns-in_err-address_lost-clause-stopped
 returns-in_err-address_lost-clause-stopped c =
-    let a = c.args.attempt.now in
+    let a = attempt_data c.args.attempt.now in
     let n = c.answer_place-place.result + 1 in
     let reply = c.put_reply.ensures.value ∙ ap (λ o. marked_some c.args.damage n a.pre o)
     c.is_acknowledged-acknowledged.ensures in
@@ -82,7 +83,7 @@ returns-in_err-address_lost-clause-stopped c =
 
 pub clears_change-exchange-requires : goal.clears_change-exchange-requires
 clears_change-exchange-requires c =
-    let a = c.args.attempt.now in
+    let a = attempt_data c.args.attempt.now in
     alone_data _ _ _ c.send.ensures.alone
     (subst (IfOut IsDataOut) (sym (c.some_goes_out-data.ensures
     ∙ ap (goes_out a) c.put_payload.ensures.value))
@@ -90,7 +91,7 @@ clears_change-exchange-requires c =
 
 pub send-requires-2 : goal.send-requires-2
 send-requires-2 c =
-    let a = c.args.attempt.now in
+    let a = attempt_data c.args.attempt.now in
     alone_data _ _ _ c.send.ensures.alone
     (subst (IfOut IsDataOut) (sym (c.some_goes_out-data.ensures
     ∙ ap (goes_out a) c.put_payload.ensures.value))
@@ -98,7 +99,7 @@ send-requires-2 c =
 
 pub send_reply-requires-clause-alone : goal.send_reply-requires-clause-alone
 send_reply-requires-clause-alone c =
-    let a = c.args.attempt.now in
+    let a = attempt_data c.args.attempt.now in
     let n = c.answer_place-place.result + 1 in
     let reply = c.put_reply.ensures.value ∙ ap (λ o. marked_some c.args.damage n a.pre o)
     c.is_acknowledged-acknowledged.ensures in

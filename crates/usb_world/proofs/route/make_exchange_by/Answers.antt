@@ -1,20 +1,23 @@
 use Rattle.std.proofs.Common.{arith, length, ap, sym, ◌∙◌}
+use Rattle.usb_device.specs.{holder_in}
+use Rattle.usb_world.specs.{Destination, attempt_data}
 use Rattle.usb_world.proofs.ways.Routes.{way_by_index}
 use Rattle.usb_world.proofs.attempts.Silence.{nobody_there, silence_made}
 use Rattle.usb_world.proofs.route.make_exchange_by.Goals as goal
 
 pub returns-in-Nobody-clause-made : goal.returns-in-Nobody-clause-made
 returns-in-Nobody-clause-made c =
-    let n = c.args.attempt.now.addr in
-    silence_made c.args.attempt.now c.args.damage c.args.roots.now c.requires.settled
+    let n = (attempt_data c.args.attempt.now).addr in
+    silence_made (attempt_data c.args.attempt.now) c.args.damage c.args.roots.now c.requires.settled
     (nobody_there n c.args.roots.now
     (sym (c.requires.index.0 n (omega (arith, c.requires.attempt.addr_fits)))
+    ∙ ap (λ (d : Destination). holder_in c.args.holders.now d.address) (sym c.destination.ensures)
     ∙ sym c.holder.ensures ∙ c.in-Nobody.is)) c.make_silence.new.exchange
     c.make_silence.ensures
 
 pub exchange_at-requires : goal.exchange_at-requires
 exchange_at-requires c =
-    let n = c.args.attempt.now.addr in
+    let n = (attempt_data c.args.attempt.now).addr in
     record {
       attempt = c.requires.attempt;
       settled = c.requires.settled;
@@ -28,7 +31,7 @@ exchange_at-requires c =
 
 pub exchange_at_port-requires : goal.exchange_at_port-requires
 exchange_at_port-requires c =
-    let n = c.args.attempt.now.addr in
+    let n = (attempt_data c.args.attempt.now).addr in
     record {
       attempt = c.requires.attempt;
       settled = c.requires.settled;

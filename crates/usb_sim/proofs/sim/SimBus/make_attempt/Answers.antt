@@ -2,6 +2,7 @@ use Rattle.std.proofs.Common.{rules, ◌≡◌, ℕ, ◌+◌, ◌||◌, List, Bo
 use Rattle.std.proofs.Common.{ap, ◌∙◌, arith, length}
 use Rattle.usb_device.specs.{Ports, row_of}
 use Rattle.usb_world.specs.{Attempt, Damage, Exchange, damage_of, exchange_in, lost_in}
+use Rattle.usb_world.specs.{attempt_data}
 use Rattle.usb_world.specs.{AreOfDamages, counted, World, Consistent, IsCut, IsAttempt}
 use Rattle.usb_world.specs.{after_clearing}
 use Rattle.usb_world.specs.declared.losses.Losses.{Losses}
@@ -39,7 +40,7 @@ unfolding step_lines lines_between
 returns-clause-made g c =
     let w = world_of c.args.self.now in
     let mid = c.take_due_events.new.self in
-    let a = c.args.attempt.now in
+    let a = attempt_data c.args.attempt.now in
     let came = c.in_ok-take_due_events.ensures.came in
     let made = c.in_ok-make_exchange_by.ensures.made in
     let there = made_there a w (world_of mid) c.damage_of-damage.result
@@ -68,7 +69,7 @@ unfolding step_lines lines_between
 returns-in_err-put_attempt-clause-made g c =
     let w = world_of c.args.self.now in
     let mid = c.take_due_events.new.self in
-    let a = c.args.attempt.now in
+    let a = attempt_data c.args.attempt.now in
     let came = c.in_ok-take_due_events.ensures.came in
     let made = c.in_ok-make_exchange_by.ensures.made in
     let there = made_there a w (world_of mid) c.damage_of-damage.result
@@ -100,7 +101,7 @@ unfolding step_lines lines_between
 returns-in_err-make_exchange_by-clause-made g c =
     let w = world_of c.args.self.now in
     let mid = c.take_due_events.new.self in
-    let a = c.args.attempt.now in
+    let a = attempt_data c.args.attempt.now in
     let came = c.in_ok-take_due_events.ensures.came in
     let damage = c.damage_of-damage.ensures
     ∙ ap (λ (l : List Damage). damage_of l (mid.attempts + 1)) c.deref.ensures.value in
@@ -140,7 +141,7 @@ pub returns-in_err-take_due_events-clause-made : goal.returns-in_err-take_due_ev
 returns-in_err-take_due_events-clause-made g c =
     let w = world_of c.args.self.now in
     let v = world_of c.take_due_events.new.self in
-    let a = c.args.attempt.now in
+    let a = attempt_data c.args.attempt.now in
     let came = c.in_err-take_due_events.ensures.came in
     let same : v.attempts ≡ c.args.self.now.attempts =
     omega (arith, came.spends.later, came.spends.most) in
@@ -173,13 +174,14 @@ pub invariant_of-self-2-clause-sane : goal.invariant_of-self-2-clause-sane
 invariant_of-self-2-clause-sane g c = λ _.
     let mid = c.take_due_events.new.self in
     subst Consistent (sym c.in_ok-make_exchange_by.ensures.made.ports)
-    (sane_ports c.args.attempt.now c.damage_of-damage.result mid.roots
+    (sane_ports (attempt_data c.args.attempt.now) c.damage_of-damage.result mid.roots
     (mid.sane c.in_ok-take_due_events.ensures.came.told))
 
 pub invariant_of-self-2-clause-lost : goal.invariant_of-self-2-clause-lost
 invariant_of-self-2-clause-lost g c =
     let mid = c.take_due_events.new.self in
-    losses_made mid.damages.items mid.attempts c.args.attempt.now _ mid.roots _ mid.losses _ _
+    losses_made mid.damages.items mid.attempts (attempt_data c.args.attempt.now) _ mid.roots _
+    mid.losses _ _
     c.requires.attempt mid.settled (c.damage_of-damage.ensures
     ∙ ap (λ (l : List Damage). damage_of l (mid.attempts + 1)) c.deref.ensures.value)
     c.in_ok-make_exchange_by.ensures.made.made c.after_clearing.ensures c.counted-self.ensures
@@ -204,7 +206,8 @@ invariant_of-self-in-Break-branch-3 g c =
       few_attempts = mid.few_attempts;
       few_damages = mid.few_damages;
       named = mid.named;
-      lost = losses_made mid.damages.items mid.attempts c.args.attempt.now _ mid.roots _ mid.losses
+      lost = losses_made mid.damages.items mid.attempts (attempt_data c.args.attempt.now) _
+          mid.roots _ mid.losses
           _ _ c.requires.attempt mid.settled (c.damage_of-damage.ensures
           ∙ ap (λ (l : List Damage). damage_of l (mid.attempts + 1)) c.deref.ensures.value)
           c.in_ok-make_exchange_by.ensures.made.made c.after_clearing.ensures
