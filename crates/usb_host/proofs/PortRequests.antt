@@ -539,6 +539,7 @@ module _ {port : HubPort} {a b : HostState} where
             requested = record {
               goes = goes_wider went (omega arith);
               told = stuck_can port status stuck;
+              works = λ sound none. y.requested.works (x.requested.works none);
             };
             gains = change_on c (Err ParentLost) y.requested.goes.went;
             keeps = record {
