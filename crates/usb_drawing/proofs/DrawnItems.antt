@@ -19,7 +19,7 @@ use Rattle.usb_run.specs.Transcript.{Transcript}
 use Rattle.usb_serve.proofs.Interface.{ItemsNumbered, few_left, number_next, numbered_next}
 use Rattle.usb_run.proofs.Interface.{at_fault, knows_opened, limit_opened, makes_knows, over_next}
 use Rattle.usb_run.proofs.Interface.{appends_no_text, run_limit, run_lists_right, stopped_next}
-use Rattle.usb_run.proofs.Interface.{told_next, traced_runs_onward, unwritten_next}
+use Rattle.usb_run.proofs.Interface.{told_next, unwritten_next}
 use Rattle.usb_text.specs.{lines_text, written_lines}
 use Rattle.usb_drawing.specs.{Style, DrawnText, RunDrawn, drawn_item, drawn_items, drawn_lines}
 
@@ -106,7 +106,7 @@ run_drawn style plan before thrown first opens items k result now ends caused si
           ∙ limit_opened plan first opens;
       single = single;
       lists = run_lists_right plan opens.rules opens.paths Tree of_run never false first items k
-          result (traced_runs_onward opens.traced) ends;
+          result opens.traced ends;
       text = text;
     })
 

@@ -7,7 +7,8 @@ pub use Rattle.usb_enum.proofs.courses.Courses.{traced_in_order, traced_only_lat
 pub use Rattle.usb_enum.proofs.courses.Courses.{went_in_order, went_sound}
 pub use Rattle.usb_enum.proofs.courses.Damages.{went_three}
 pub use Rattle.usb_enum.proofs.devices.Frames.{ends_without_fault}
-pub use Rattle.usb_enum.proofs.courses.Losses.{course_later, few_before, step_later}
+pub use Rattle.usb_enum.proofs.courses.Losses.{IsWorse, course_later, few_before, step_later}
+pub use Rattle.usb_enum.proofs.courses.Losses.{worse_steps}
 pub use Rattle.usb_enum.proofs.devices.ReachedDevices.{disabled_known, pends_there, some_of}
 pub use Rattle.usb_enum.proofs.readings.Readings.{devices_then}
 pub use Rattle.usb_enum.proofs.refusals.Refusals.{each_joint}

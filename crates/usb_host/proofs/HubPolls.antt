@@ -2,21 +2,27 @@
 use Rattle.std.proofs.Common.{◌≡◌, ◌+◌, ◌≤◌, arith, refl, ℕ, List, Option, None, Some, Result, Ok}
 use Rattle.std.proofs.Common.{Err, IsErr, IsSome, ◌≢◌}
 use Rattle.arrayvec.specs.ArrayVec.{ArrayVec}
+use Rattle.usb_world.specs.{BusFault}
 use Rattle.usb_pipe.specs.{PipeFault}
+use Rattle.usb_pipe.specs.declared.fault.PipeFault.TheVariants.{Bus}
 use Rattle.usb_hub.specs.{NoHubFailed}
 use Rattle.usb_table.specs.{KeepsPolled, finding_at, hub_facts_at, GoesThrough, pipes_at}
 use Rattle.usb_table.specs.{PipesPolled}
 use Rattle.usb_host.specs.{Agrees, hub_poll_bound, told_bound, HubPaid, HostState, StaysOwned}
-use Rattle.usb_host.specs.{HostRuns, HostSteps, DropsOne, ServesHub, ServesTold, first_byte}
+use Rattle.usb_host.specs.{HostRuns, HostSteps, DropsOne, HubFails, ServesHub, ServesTold}
+use Rattle.usb_host.specs.{first_byte}
 use Rattle.usb_host.specs.{HostInvariant, table_in, HostFault, Round, Quiet, Worked, claims}
 use Rattle.usb_host.proofs.OwnedPorts.{dropped_hub_owned}
 use Rattle.usb_host.proofs.payments.HubPayments.{drop_paid_fails, drop_pays, poll_fails, poll_none}
 use Rattle.usb_host.proofs.payments.HubPayments.{tells_shows, told_fails, told_pays}
-use Rattle.usb_host.proofs.services.HubServices.{hub_tells, polls_lost, polls_quiet, polls_told}
+use Rattle.usb_host.proofs.services.CutPorts.{on_errors}
+use Rattle.usb_host.proofs.services.HubServices.{hub_tells, polls_cut, polls_failed, polls_lost}
+use Rattle.usb_host.proofs.services.HubServices.{polls_quiet, polls_told, polls_undropped}
 use Rattle.usb_host.proofs.services.HubServices.{told_of_ports}
 use Rattle.usb_host.proofs.StepSums.{host_goes_then, goes_wider}
 use Rattle.usb_host.proofs.devices.Owners.{single_then, stays_kept}
-use Rattle.usb_host.proofs.RoundParts.{hub_fails, hub_gone, hub_listed, hub_quiet, hub_told}
+use Rattle.usb_host.proofs.RoundParts.{hub_bulk, hub_droppable, hub_fails, hub_gone, hub_listed}
+use Rattle.usb_host.proofs.RoundParts.{hub_quiet, hub_stays, hub_told}
 use Rattle.usb_host.proofs.RoundParts.{part-fails, polled_hub_not_failed}
 use Rattle.usb_host.proofs.payments.Payments.{is_err-if_ok, pays_where}
 use Rattle.usb_host.proofs.knowledge.Soundness.{sound_kept}
@@ -30,10 +36,11 @@ module _ {hub : List ℕ} (a b : HostState) (agrees : Agrees a.entries a.address
   poll_goes = record { went = went; going = stopped }
 
   -- the bus made no more steps
-  pub poll_cut : {answer : Result (Option (ArrayVec ℕ)) PipeFault}
-      → KeepsPolled hub (table_in a) a.world answer (table_in b) b.world → (fault : HostFault)
-      → ServesHub hub a (Err fault) b
-  poll_cut keeps fault = record {
+  pub poll_cut : (why : BusFault) → PipesPolled (pipes_at hub (table_in a)) a.world (Err (Bus why))
+      (pipes_at hub (table_in b)) b.world
+      → KeepsPolled hub (table_in a) a.world (Err (Bus why)) (table_in b) b.world
+      → (fault : HostFault) → ServesHub hub a (Err fault) b
+  poll_cut why asks keeps fault = record {
     keeps = hub_fails refl (record {
       goes = goes_wider poll_goes (omega arith);
       owned = record {
@@ -42,6 +49,8 @@ module _ {hub : List ℕ} (a b : HostState) (agrees : Agrees a.entries a.address
       sound = tt;
     });
     polls = tt;
+    fails = λ i before. polls_failed hub a b same pool stopped went listed why asks
+        (hub_stays a b agrees same pool stopped went keeps through asks i before);
     pays = poll_fails hub a b agrees same pool went (Err fault) refl;
   }
 
@@ -59,6 +68,7 @@ module _ {hub : List ℕ} (a b : HostState) (agrees : Agrees a.entries a.address
           (pipes_at hub (table_in a)) (pipes_at hub (table_in b)) refl through.fits
           (rw none at asks);
       polls = polls_quiet hub a b same pool stopped went listed asks keeps none;
+      fails = tt;
       pays = poll_none hub a b agrees same pool went keeps
           (hub_tells hub a b same pool stopped went listed asks keeps);
     }
@@ -67,6 +77,9 @@ module _ {hub : List ℕ} (a b : HostState) (agrees : Agrees a.entries a.address
     module _ {packet : ArrayVec ℕ} {byte : ℕ} (is : got ≡ Some packet)
         (read : byte ≡ first_byte packet.items) (still : b.world.fault ≡ None)
         (d : HostState) where
+      told_sound : HostInvariant a → HostInvariant b
+      told_sound s = (sound_kept 768 hub _ a b agrees same went keeps.levels (λ _. refl)).sound s
+
       of_ports : HostInvariant a → byte ≢ 1
       of_ports s =
           told_of_ports hub a b same pool stopped went listed asks keeps packet is read
@@ -79,8 +92,8 @@ module _ {hub : List ℕ} (a b : HostState) (agrees : Agrees a.entries a.address
             (λ s. (y.ports (of_ports s)).part.sound);
         polls = polls_told hub a b same pool stopped went listed asks keeps packet byte d is read
             y.goes more y.holds
-            (λ s. (y.ports (of_ports s)).served
-            ((sound_kept 768 hub _ a b agrees same went keeps.levels (λ _. refl)).sound s));
+            (λ s. (y.ports (of_ports s)).served (told_sound s));
+        fails = tt;
         pays = pays_where (HubPaid hub)
             (λ s. told_pays hub a b agrees same pool went d told_bound y.goes.went byte (Ok got)
             refl keeps (y.ports (of_ports s)).pays
@@ -99,6 +112,10 @@ module _ {hub : List ℕ} (a b : HostState) (agrees : Agrees a.entries a.address
               sound = tt;
             }) e (omega arith));
         polls = is_err-if_ok other _ e;
+        fails = on_errors other (HostInvariant a → a.world.fault ≡ None → HubFails hub a d)
+            (λ s before. polls_cut hub a b same pool stopped went listed asks keeps packet byte is
+            read still (hub_bulk a b agrees same pool stopped went keeps through asks s still)
+            ((y.ports (of_ports s)).fails (told_sound s) still) s);
         pays = pays_where (HubPaid hub)
             (λ s. told_fails hub a b agrees same pool went d told_bound y.goes.went byte (Ok got)
             refl keeps (y.ports (of_ports s)).pays other e);
@@ -122,12 +139,14 @@ module _ {hub : List ℕ} (a b : HostState) (agrees : Agrees a.entries a.address
           y.goes y.owned y.sound;
       polls = polls_lost hub a b same pool stopped went listed why asks keeps d not_served y.goes
           more y.holds y.owned.lost;
+      fails = tt;
       pays = drop_pays hub a b agrees same pool went d y.goes.went keeps listed y.sound y.hubs;
     }
 
-    pub poll_undropped : {fault : HostFault} (other : Result Round HostFault) → IsErr other
+    pub poll_undropped : (a.world.fault ≡ None → b.world.fault ≡ None) → {fault : HostFault}
+        (other : Result Round HostFault) → IsErr other
         → DropsOne hub b (Err fault) d → ServesHub hub a other d
-    poll_undropped {fault = fault} other e y =
+    poll_undropped works {fault = fault} other e y =
         let there = rw (← same) at (hub_listed (finding_at hub a.entries) listed) in
         let polled = stays_kept a b same went.spends.roots keeps.levels.worlds.addresses in
         record {
@@ -138,5 +157,13 @@ module _ {hub : List ℕ} (a b : HostState) (agrees : Agrees a.entries a.address
                 sound = tt;
               }) e (omega arith));
           polls = is_err-if_ok other _ e;
+          fails = on_errors other (HostInvariant a → a.world.fault ≡ None → HubFails hub a d)
+              (λ i none. polls_undropped hub a b same pool stopped went listed why asks
+              (hub_bulk a b agrees same pool stopped went keeps through asks i (works none))
+              (record {
+                entries = y.cut;
+                bulk = y.bulk (hub_droppable a b agrees same pool stopped went keeps through asks
+                    listed i);
+              }));
           pays = drop_paid_fails hub a d went y.goes.went other e;
         }

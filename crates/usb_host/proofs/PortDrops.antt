@@ -1,5 +1,6 @@
 -- What is left where a hub is dropped.
-use Rattle.std.proofs.Common.{◌≡◌, ◌∙◌, ◌-◌, ◌*◌, ◌≤◌, arith, refl, ap, subst, true, false, Bool, ℕ}
+use Rattle.std.proofs.Common.{◌≡◌, ◌∙◌, ◌-◌, ◌*◌, ◌≤◌, arith, inl, inr, refl, sym, ap, subst, true}
+use Rattle.std.proofs.Common.{false, Bool, ℕ}
 use Rattle.std.proofs.Common.{List, length, Option, None, Some, Result, Ok, Err, IsErr, IsSome}
 use Rattle.std.proofs.Common.{IsSomeAnd}
 use Rattle.std.specs.BTreeMap.{insert_entry}
@@ -16,11 +17,13 @@ use Rattle.usb_backlog.proofs.Interface.{all_none, all_then}
 use Rattle.usb_enum.specs.{Lost, ParentLost}
 use Rattle.usb_enum.specs.declared.finding.Finding.TheVariants.{Refused}
 use Rattle.usb_enum.proofs.Interface.{devices_then, went_sound}
-use Rattle.usb_table.specs.{without, Table, entered, is_waiting}
-use Rattle.usb_host.specs.{drop_bound, HostState, Climbs, DisablesOnWay, Forgets, AddsNoWork}
+use Rattle.usb_table.specs.{without, Table, entered, has_at, is_waiting, pipes_at}
+use Rattle.usb_host.specs.{drop_bound, DropsHub, HostState, IsOwnedBut, Climbs, DisablesOnWay}
+use Rattle.usb_host.specs.{Forgets, AddsNoWork}
 use Rattle.usb_host.specs.{HostRuns, OnlyBusSteps, waiting, DropsOne, FinishesAt, CausesBut}
 use Rattle.usb_host.specs.{DropsSound, IsDroppable, IsFairTo, table_in, HostFault}
-use Rattle.usb_host.proofs.devices.BulkPipes.{bulk_none}
+use Rattle.usb_host.proofs.devices.BulkPipes.{bulk_none, stay_forgotten, stay_joined, stay_rests}
+use Rattle.usb_host.proofs.devices.BulkPipes.{stays_where}
 use Rattle.usb_host.proofs.devices.Causes.{lost_drops}
 use Rattle.usb_host.proofs.ParentPaths.{parent_length}
 use Rattle.usb_host.proofs.knowledge.DroppedHubs.{climb_caused, climb_sound, done_caused, if_err}
@@ -31,6 +34,7 @@ use Rattle.usb_host.proofs.entries.HubCounts.{hubs-dropped}
 use Rattle.usb_host.proofs.StepSums.{goes_forgotten, host_goes_none, host_goes_then}
 use Rattle.usb_host.proofs.devices.Plugs.{plugs_none}
 use Rattle.usb_host.proofs.services.ServedWork.{rests_holds}
+use Rattle.usb_host.proofs.services.CutPorts.{forgets_there}
 use Rattle.usb_host.proofs.services.Services.{loses_parent}
 use Rattle.usb_world.proofs.Interface.{way_parent}
 use Rattle.usb_host.proofs.devices.Owners.{but_above}
@@ -146,9 +150,14 @@ drop_untold hub {fault = fault} {a = a} {b = b} r x = record {
   goes = x.goes;
   holds = rests_holds a b x.goes r;
   hubs = tt;
-  owned = drop_not_done hub a (Err fault) b refl x.bares;
+  owned = owned;
   sound = not_dropped;
+  cut = forgets_there hub (inl (ap (λ (h : HostState). h.entries) r));
+  bulk = λ d. stays_where a b (stay_rests a b r x.devices (owned.ends d.but.owned));
 }
+  where
+    owned : DropsHub hub a (Err fault) b
+    owned = drop_not_done hub a (Err fault) b refl x.bares
 
 module _ {hub lost : List ℕ} {a b c : HostState} (d : HostState) (r : OnlyBusSteps a b)
     (x : Climbs hub a (Ok lost) b) (f : Forgets lost b c)
@@ -173,19 +182,32 @@ module _ {hub lost : List ℕ} {a b c : HostState} (d : HostState) (r : OnlyBusS
       ))
 
   -- there is no memory to list it as lost
-  pub drop_unlisted : (fault : HostFault) → d.entries ≡ c.entries → DropsOne hub a (Err fault) d
-  drop_unlisted fault same =
+  pub drop_unlisted : (fault : HostFault) → table_in d ≡ table_in c → DropsOne hub a (Err fault) d
+  drop_unlisted fault table =
+      let same = ap (λ (t : Table). t.entries) table in
       let world = drop_world ∙ ap (λ (h : HostState). h.world) f.others in
+      let single = λ (o : IsOwnedBut hub a). ap (λ (w : World). w.shared) world
+      ∙ (x.bares.bares o).single in
       record {
         goes = drop_goes;
         holds = drop_holds (omega (arith, ap waiting same));
         hubs = tt;
         owned = record {
           lost = tt;
-          ends = λ o. ap (λ (w : World). w.shared) world ∙ (x.bares.bares o).single;
+          ends = single;
           rooted = λ q at. tt;
         };
         sound = not_dropped;
+        cut = record {
+          on = lost;
+          way = x.bares.on;
+          left = inr (same ∙ f.rest ∙ ap (λ (h : HostState). without lost h.entries) r);
+        };
+        bulk = λ p. stays_where a d (stay_joined a b d
+            (stay_rests a b r x.devices (ap (λ (w : World). w.shared) (sym world)
+            ∙ single p.but.owned)) (stay_forgotten lost b d world (same ∙ f.rest)
+            (ap (has_at lost) same ∙ f.gone)
+            (λ y away. ap (pipes_at y) table ∙ f.pipes y away)));
       }
 
   pub drop_done : IsPath lost → table_in d ≡ entered lost (Refused Lost) (table_in c)
@@ -204,6 +226,8 @@ module _ {hub lost : List ℕ} {a b c : HostState} (d : HostState) (r : OnlyBusS
         owned = drops;
         sound = lost_drops lost b c d path.0 f.others f.rest f.pipes f.gone drop_world table hub a r
             x.goes.went.spends.onward x drops;
+        cut = tt;
+        bulk = λ p. tt;
       }
 
 -- A port was handled
@@ -217,6 +241,7 @@ finish_done path h = record {
     sound = λ p. p;
     backlog = λ p still. all_none h.world;
     bulk = λ p still. bulk_none h;
+    cut = λ p. tt;
     plugs = plugs_none h;
     caused = λ p fair q. q;
   };
@@ -242,12 +267,13 @@ finish_lost path {hub = hub} {a = a} {b = b} {result = result} above x =
         sound = λ p. x.sound.sound (at p);
         backlog = λ p. x.sound.backlog (at p);
         bulk = λ p. x.sound.bulk (at p);
+        cut = λ p. x.bulk (at p);
         plugs = x.sound.plugs;
         caused = λ p fair q.
             let e = rw above at q in
             x.sound.caused (at p) fair e.0 e.1;
       };
-      left = loses_parent path hub a.entries b.entries result above x.owned.lost;
+      left = loses_parent path hub a.entries b.entries result above x.owned.lost x.cut;
       fewer = λ is has. hubs_dropped result hub a b x.hubs (rw above at has);
     }
 

@@ -1,6 +1,6 @@
 -- What a look at a port leaves.
 use Rattle.std.proofs.Common.{◌≡◌, ◌∙◌, ◌⊎◌, ◌+◌, ◌≤◌, arith, inl, inr, ap, subst, true, false}
-use Rattle.std.proofs.Common.{Bool, ℕ, List, None, Result, Ok, Err, OnOk}
+use Rattle.std.proofs.Common.{Bool, ℕ, List, None, Result, Ok, Err, OnOk, OnErr}
 use Rattle.usb_port.specs.{PortStatus, path_cmp}
 use Rattle.usb_tree.proofs.Interface.{decided}
 use Rattle.usb_hub.specs.{Isolates, StillWorks}
@@ -13,13 +13,14 @@ use Rattle.usb_table.specs.{entered, Entries}
 use Rattle.usb_table.proofs.Interface.{known_port-without}
 use Rattle.usb_host.specs.Accounts.{Accounts}
 use Rattle.usb_host.specs.{PaysAtLook, hubs, clearing_bound, HostState, IsOwned, KeepsPort}
-use Rattle.usb_host.specs.{StaysOwned, claims, IsOpen, ServesSound, KeepsPlugs, Entered, Forgets}
+use Rattle.usb_host.specs.{StaysOwned, StaysWhere, claims, FindsSound, IsOpen, ServesSound}
+use Rattle.usb_host.specs.{KeepsPlugs, Entered, Forgets}
 use Rattle.usb_host.specs.{Gained, IsPortAt, Requested, ProgressOrLost, StandsAt, Waits, HostRuns}
 use Rattle.usb_host.specs.{HostSteps, OnlyBusSteps, waiting, ClearsError, ClearsPort, Discovers}
 use Rattle.usb_host.specs.{LookedOrLost, LooksAfterError, LooksAt, RenewsPort, HostInvariant}
 use Rattle.usb_host.specs.{Agrees, EntersFound, FindsAnew, table_in}
 use Rattle.usb_world.specs.{World}
-use Rattle.usb_host.proofs.devices.BulkPipes.{bulk_stays, bulk_then}
+use Rattle.usb_host.proofs.devices.BulkPipes.{bulk_stays, bulk_then, stays_where, where_joined}
 use Rattle.usb_host.proofs.devices.Causes.{cleared_caused, entered_finds, forgot_caused}
 use Rattle.usb_host.proofs.devices.Causes.{fault_none_back, unentered_finds, unfound_finds}
 use Rattle.usb_host.proofs.devices.Enumerations.{enumeration_goes}
@@ -70,11 +71,11 @@ module _ {path : List ℕ} {port : KnownPort} {a b : HostState} (s : StandsAt pa
   -- for what was found there is no memory
   pub discover_lost : {f : Finding}
       → Enumerates port.port a.addresses (tier_of path) port.supply a.world (Ok f) b.world
-      → b.entries ≡ a.entries → Discovers path port a (Err Memory) b
-  discover_lost {f = f} x entries = record {
+      → b.entries ≡ a.entries → b.pipes ≡ a.pipes → Discovers path port a (Err Memory) b
+  discover_lost {f = f} x entries pipes = record {
     requested = record { goes = found_goes; told = tt; works = λ sound. x.works };
     owned = found_lost b f x.addresses s away accounts entries went.spends.roots;
-    sound = unentered_finds s away accounts went f x;
+    sound = unentered_finds s away accounts went f x entries pipes;
     gave = tt;
   }
 
@@ -198,6 +199,7 @@ look_fails {path = path} port {a = a} {b = b} {fault = fault} s r x =
       sound = record {
         sound = cleared_lost s r went fault x.keeps told;
         bulk = λ i on still. bulk_stays a b (cleared_stay s r went x.keeps i);
+        cut = λ i. stays_where a b (cleared_stay s r went x.keeps i);
         plugs = λ i still. plugs_rests a b went r;
         caused = cleared_caused s r went fault x.keeps told;
       };
@@ -229,6 +231,7 @@ module _ {path : List ℕ} {port : KnownPort} {a b c : HostState} (s : StandsAt 
   bare_sound off = record {
     sound = λ i. forgot_sound s r look_went x.keeps f i off;
     bulk = λ i on still. bulk_stays a c (forgot_stay s r look_went x.keeps f i);
+    cut = λ i. tt;
     plugs = λ i still. plugs_forgot path a c look_goes.went r f.rest;
     caused = λ i fair caused.
         forgot_caused s r look_went c x.keeps f.others f.rest i
@@ -307,6 +310,14 @@ module _ {path : List ℕ} {port : KnownPort} {a b c : HostState} (s : StandsAt 
     }
     found_looked (Err fault) d e g o = found_failed path a c d fault look_left e
 
+    found_cut : (result : Result (Unit {0}) EnumFault) (d : HostState)
+        → FindsSound path c result d → HostInvariant a
+        → OnErr result (StaysWhere (d.world.fault ≡ None) a d)
+    found_cut (Ok done) d z i = tt
+    found_cut (Err fault) d z i =
+        where_joined a c d (λ still. tt) (stays_where {So = Unit {0}} a c (forgot_stay s r look_went
+        x.keeps f i)) (z.cut (look_opens i))
+
     module _ {result : Result (Unit {0}) EnumFault} (d : HostState)
         (e : Entered path c result d) (z : Discovers path port c result d) where
       found_sound : ServesSound path a result d
@@ -316,6 +327,7 @@ module _ {path : List ℕ} {port : KnownPort} {a b c : HostState} (s : StandsAt 
             bulk_then clearing_bound widest_enumeration a c d look_goes.went
             z.requested.goes.went still (bulk_stays a c (forgot_stay s r look_went x.keeps f i))
             (z.sound.bulk (look_opens i) goes still);
+        cut = λ i. found_cut result d z.sound i;
         plugs = λ i still. found_plugs result d z.requested.goes.went e i still;
         caused = λ i fair caused.
             let causes = forgot_caused s r look_went c x.keeps

@@ -1,6 +1,6 @@
 -- What the serving and the handling of a port leave.
 use Rattle.std.proofs.Common.{◌≡◌, ◌∙◌, ◌+◌, ◌*◌, ◌≤◌, arith, inr, refl, true, false, ℕ, List}
-use Rattle.std.proofs.Common.{Option, Result, Ok, Err, IsErr}
+use Rattle.std.proofs.Common.{Option, None, Result, Ok, Err, IsErr}
 use Rattle.usb_port.specs.{PortStatus}
 use Rattle.usb_address.proofs.Interface.{keeps_then}
 use Rattle.usb_pipe.specs.{write_bound}
@@ -13,7 +13,8 @@ use Rattle.usb_host.specs.{StandsNowhere, Waits, HostSteps, OnlyBusSteps, Clears
 use Rattle.usb_host.specs.{ShowsPort, TidiesPort, EndsAt, FinishesAt, HandlesPort, LooksAfterError}
 use Rattle.usb_host.specs.{LooksAt, LooksOnceMore, ServesOwn, ServesPort, HostInvariant, Part}
 use Rattle.usb_host.specs.{HostFault, Round, Quiet, Worked}
-use Rattle.usb_host.proofs.devices.BulkPipes.{bulk_stays, bulk_then, stay_joined}
+use Rattle.usb_host.proofs.devices.BulkPipes.{bulk_stays, bulk_then, stay_joined, stay_none}
+use Rattle.usb_host.proofs.devices.BulkPipes.{stays_where}
 use Rattle.usb_host.proofs.devices.Causes.{causes_rests, tidied_caused, watched_caused}
 use Rattle.usb_host.proofs.devices.Fairness.{fair_after, fair_before}
 use Rattle.usb_host.proofs.knowledge.FinishedPorts.{finished_sound}
@@ -35,6 +36,8 @@ use Rattle.usb_host.proofs.knowledge.ServedPorts.{rests_stands, tidied_port, tid
 use Rattle.usb_host.proofs.knowledge.ServedPorts.{watched_lost, watched_sound, watched_stay}
 use Rattle.usb_host.proofs.services.ServedWork.{looked_on, rests_holds, status_lost_on, tidied_on}
 use Rattle.usb_host.proofs.payments.ServePayments.{after_look, after_tidy, status_lost, told_there}
+use Rattle.usb_host.proofs.services.CutPorts.{cut_after, looked_left, on_errors, port_cut}
+use Rattle.usb_host.proofs.services.CutPorts.{served_left}
 use Rattle.usb_host.proofs.services.Services.{handled_at, handled_once, handles_at, serves_looked}
 use Rattle.usb_host.proofs.services.Services.{serves_tidied, status_failed}
 
@@ -55,6 +58,7 @@ serve_fails {path = path} port {a = a} {b = b} {fault = fault} s r x =
       sound = record {
         sound = watched_lost s r went fault watches told;
         bulk = λ i on still. bulk_stays a b (watched_stay s r went watches i);
+        cut = λ i. stays_where a b (watched_stay s r went watches i);
         plugs = λ i still. plugs_rests a b went r;
         caused = watched_caused s r went fault watches told;
       };
@@ -94,6 +98,8 @@ module _ {path : List ℕ} {port : KnownPort} {a b : HostState} (s : StandsAt pa
               bulk_then (read_bound 4) look_bound a b d shown_went then still (bulk_stays a b
               (watched_stay s r shown_went shown_watches i))
               (y.sound.bulk (shown_sound i) on still);
+          cut = λ i. cut_after _ d result (watched_stay s r shown_went shown_watches i)
+              (y.sound.cut (shown_sound i));
           plugs = λ i still.
               plugs_then (read_bound 4) look_bound a b d shown_went then still
               (plugs_rests a b shown_went r) (y.sound.plugs (shown_sound i) still);
@@ -141,6 +147,9 @@ module _ {path : List ℕ} {port : KnownPort} {a b : HostState} (s : StandsAt pa
       bulk = λ i on still.
           bulk_stays a d (stay_joined a b d (watched_stay s r shown_went shown_watches i)
           (tidied_stay settled_stands q settled_went (settled_tidies i).tidies (shown_sound i)));
+      cut = λ i. on_errors result _ (stays_where {So = d.world.fault ≡ None} a d (stay_joined a b d
+          (watched_stay s r shown_went shown_watches i)
+          (tidied_stay settled_stands q settled_went (settled_tidies i).tidies (shown_sound i))));
       plugs = λ i still.
           plugs_then (read_bound 4) (4 * write_bound) a b d shown_went settled_went still
           (plugs_rests a b shown_went r) (plugs_rests b d settled_went q);
@@ -194,6 +203,7 @@ module _ {path : List ℕ} {port : KnownPort} {a b : HostState} (s : StandsAt pa
       sound = record {
         sound = λ i. absurd (not_failed i);
         bulk = λ i. absurd (not_failed i);
+        cut = λ i. absurd (not_failed i);
         plugs = λ i. absurd (not_failed i);
         caused = λ i. absurd (not_failed i);
       };
@@ -217,6 +227,7 @@ finish_fails path h other single left = record {
     sound = λ p. tt;
     backlog = λ p. tt;
     bulk = λ p. tt;
+    cut = λ p. stays_where h h (stay_none h);
     plugs = tt;
     caused = λ p fair q. tt;
   };
@@ -249,6 +260,9 @@ module _ {path : List ℕ} {port : KnownPort} {a b d : HostState} (s : StandsAt 
     handled = handles_at path (IsDue a.world port.port) result a d
         (handled result served a b d ends y.holds x.on)
         (λ i. handled_at path served result a b d ends y.left (x.served i));
+    cut = port_cut path served result a b d y.goes.went ends y.left
+        (λ i. served_left path served a b (x.served i)) x.sound.cut
+        (λ i. y.drops.cut (x.sound.sound i));
     pays = handling_pays a b d s x.requested.goes.went y.goes.went served result ends
         x.requested.told x.sound x y;
   }
@@ -273,6 +287,7 @@ look_nowhere {path = path} {h = h} none waits = record {
   part = part-none;
   did = record { did = refl; some = λ r. absurd (waits_somewhere path h none waits r) };
   looked = λ s. absurd (waits_somewhere path h none waits s.rooted);
+  cut = tt;
 }
 
 module _ {path : List ℕ} {port : KnownPort} {a b d : HostState} (s : StandsAt path port a)
@@ -280,10 +295,13 @@ module _ {path : List ℕ} {port : KnownPort} {a b d : HostState} (s : StandsAt 
   pub look_once_fails : {fault : HostFault} (ends : EndsAs served (Err fault))
       → FinishesAt path served b (Err fault) d → LooksAt path port a served b
       → {other : Result Round HostFault} → IsErr other → LooksOnceMore path a other d
-  look_once_fails ends y x {other = other} e = record {
+  look_once_fails {fault = fault} ends y x {other = other} e = record {
     part = part-fails other (look_finished s ends y x) e (omega arith);
     did = is_err-if_ok other _ e;
     looked = is_err-if_ok other _ e;
+    cut = on_errors other _ (port_cut path served (Err fault) a b d y.goes.went ends y.left
+        (λ i. looked_left path served a b (x.looked i.owned)) x.sound.cut
+        (λ i. y.drops.cut (x.sound.sound i)));
   }
 
   pub look_once : EndsAs served (Ok tt) → FinishesAt path served b (Ok tt) d → Waits path a
@@ -295,4 +313,5 @@ module _ {path : List ℕ} {port : KnownPort} {a b d : HostState} (s : StandsAt 
       some = λ r is. cc is;
     };
     looked = λ i. (refl, handled_once path served a b d ends y.left (x.looked i.owned));
+    cut = tt;
   }

@@ -15,7 +15,8 @@ use Rattle.usb_host.specs.{LookedAgain, LooksAgain, LooksOnceMore, RootsServed, 
 use Rattle.usb_host.specs.{ServesEach, ServesHub, ServesHubs, ServesPorts, ServesRoots, bit_clear}
 use Rattle.usb_host.specs.{bit_set, next_hub, no_device, no_hub, no_root, none_yet, root_changed}
 use Rattle.usb_host.specs.{root_steady, HostInvariant, NoneWait, Part, HostFault, Round, Quiet}
-use Rattle.usb_host.specs.{Worked, hubs_most, handling_most}
+use Rattle.usb_host.specs.{Worked, hubs_most, handling_most, HubsFail, LooksFail, PortsFail}
+use Rattle.usb_host.specs.{RootsFail}
 use Rattle.usb_host.proofs.payments.HubPayments.{HubsSoFar, hubs_all, hubs_failed, hubs_next}
 use Rattle.usb_host.proofs.rests.IdleRounds.{none_next, none_shows}
 use Rattle.usb_host.proofs.StepSums.{did_holds, did_then, no_work_then, worked_after}
@@ -29,6 +30,7 @@ use Rattle.usb_host.proofs.rests.RestingRounds.{Polled, calm_then, none_waits, o
 use Rattle.usb_host.proofs.rests.RestingRounds.{polled_then, quiet_second}
 use Rattle.usb_host.proofs.entries.Roots.{on_failed}
 use Rattle.usb_host.proofs.payments.RoundPayments.{one_waits}
+use Rattle.usb_host.proofs.services.CutPorts.{on_errors}
 use Rattle.usb_host.proofs.services.RoundServices.{looked_then}
 use Rattle.usb_host.proofs.payments.ToldPayments.{RootsSoFar, ToldSoFar, root_shows, roots_failed}
 use Rattle.usb_host.proofs.payments.ToldPayments.{roots_next, told_all, told_clear, told_failed}
@@ -98,13 +100,24 @@ module _ {n : ℕ} {round : Round} {a b : HostState} (x : RootsHandled n round a
       idle = λ none. absurd (none_shows a b n (x.same (x.idle none)) none on);
     }
 
-    pub roots_cut : n ≤ 7 → {fault : HostFault} {other : Result Round HostFault} → IsErr other
+    pub roots_cut : n ≤ 7 → (a.world.fault ≡ None → b.world.fault ≡ None) → {fault : HostFault}
+        {other : Result Round HostFault} → IsErr other
         → HandlesPort (n ∷ []) ((root_port_at b.world n).connection_changed ≡ true) b (Err fault) d
         → ServesEach a other d
-    roots_cut most {other = other} e y = record {
+    roots_cut most works {other = other} e y = record {
       part = part-fails other (part-then {k = n * handling_bound} _ x.part y.part (omega arith)) e
           (omega arith);
       serves = is_err-if_ok other (λ r. ServesRoots r a d) e;
+      fails = on_errors other (HostInvariant a → a.world.fault ≡ None → RootsFail a d)
+          (λ i none. record {
+        number = n;
+        round = round;
+        mid = b;
+        served = x.served i;
+        changed = on;
+        bulk = x.part.sound.bulk i (works none);
+        cut = y.cut (x.part.sound.sound.sound i);
+      });
       pays = roots_failed n a b d x.part.goes.went y.part.goes.went x.part.sound x.pays y.pays other
           RootsPaid e;
       idle = λ none. absurd (none_shows a b n (x.same (x.idle none)) none on);
@@ -123,6 +136,7 @@ roots_end {n = n} round {a = a} {b = b} x most end = record {
     };
     served = λ s. subst (λ k. RootsServed k round a b) end (x.served s);
   };
+  fails = tt;
   pays = record { stops = x.pays.stops; pays = x.pays.pays };
   idle = λ none. (ap (λ (r : Round). Ok r) (x.idle none), x.same (x.idle none));
 }
@@ -168,13 +182,24 @@ module _ {hub : List ℕ} {bits n : ℕ} {a b : HostState} (x : PortsHandled hub
           x.part.goes.went y.part.goes.went x.part.sound x.pays round on y.pays;
     }
 
-    pub ports_cut : {fault : HostFault} {other : Result (Unit {0}) HostFault} → IsErr other
-        → HandlesNumber hub n b (Err fault) d → ServesPorts hub bits a other d
-    ports_cut {fault = fault} {other = other} e y = record {
+    pub ports_cut : (a.world.fault ≡ None → b.world.fault ≡ None) → {fault : HostFault}
+        {other : Result (Unit {0}) HostFault} → IsErr other
+        → has_bit bits n ≡ true → HandlesNumber hub n b (Err fault) d
+        → ServesPorts hub bits a other d
+    ports_cut works {fault = fault} {other = other} e on y = record {
       part = part-fails other (part-then {k = n * handling_bound} _ x.part y.part (omega arith)) e
           (omega arith);
       holds = on_failed other (AddsNoWork a d) e;
       served = on_failed other (HostInvariant a → ServedTold hub bits 8 a d) e;
+      fails = on_errors other (HostInvariant a → a.world.fault ≡ None
+          → PortsFail hub bits a d) (λ i none. record {
+        number = n;
+        mid = b;
+        served = x.served i;
+        told = on;
+        bulk = x.part.sound.bulk i (works none);
+        cut = y.cut (x.part.sound.sound.sound i);
+      });
       pays = told_failed ((n - 1) * handling_bound) handling_bound hub bits n least most a b d
           x.part.goes.went y.part.goes.went x.part.sound x.pays (Err fault) y.pays other
           (λ (c : Weights) done. ToldPaid hub bits c) e;
@@ -186,6 +211,7 @@ ports_end {hub = hub} bits {a = a} {b = b} x end = record {
   part = part-wider (Unit {0}) x.part (omega arith);
   holds = x.holds;
   served = λ s. subst (λ k. ServedTold hub bits k a b) end (x.served s);
+  fails = tt;
   pays = told_all a b (rw end at x.pays);
 }
 
@@ -242,15 +268,27 @@ module _ {last : Option (List ℕ)} {hub : List ℕ} {round : Round} {a b d : Ho
             (omega (arith, rank_rises last hub before path next.stands.after)) y.pays;
       }
 
-  pub hubs_cut : {fault : HostFault} {other : Result Round HostFault} → IsErr other
+  pub hubs_cut : (a.world.fault ≡ None → b.world.fault ≡ None) → {fault : HostFault}
+      {other : Result Round HostFault} → IsErr other
       → ServesHub hub b (Err fault) d → (a.entries ≡ [] → b ≡ a) → ServesHubs a other d
-  hubs_cut {other = other} e y idle = record {
+  hubs_cut works {other = other} e y idle = record {
     keeps = hubs_fail e (part-fails {k = hubs_bound} other
         (part-then {k = rank_after (Some hub) * hub_poll_bound} _ x.part y.keeps.part
         (rank_more hub_poll_bound last hub before path next.stands.after)) e
         (rank_within hub_poll_bound (rank_after (Some hub)) (rank_most hub path)));
     did = is_err-if_ok other (λ r. Did r a d) e;
     polls = is_err-if_ok other _ e;
+    fails = on_errors other (HostInvariant a → a.world.fault ≡ None → HubsFail a d)
+        (λ i none. record {
+      last = last;
+      round = round;
+      mid = b;
+      polled = x.polls i (works none);
+      hub = hub;
+      next = next;
+      bulk = x.part.sound.bulk i (works none);
+      fails = y.fails (x.part.sound.sound.sound i) (works none);
+    });
     pays = hubs_failed hub a b d x.part.goes.went y.keeps.part.goes.went x.part.sound x.pays y.pays
         other
         RoundPaid e;
@@ -272,6 +310,7 @@ hubs_all_handled last round {a = a} {b = b} x path none agrees idle = record {
   };
   did = x.did;
   polls = λ s still. record { last = last; polled = x.polls s still; all = none };
+  fails = tt;
   pays = hubs_all last round a b x.pays;
   idle = λ empty. (ap (λ (r : Round). Ok r) (idle empty).0, (idle empty).1);
 }
@@ -309,9 +348,10 @@ module _ {last : Option (List ℕ)} {path : List ℕ} {round : Round} {a b d : H
         looked_then last path round one a b d (x.looked s) waits after once.0 once.1;
   }
 
-  pub waiting_cut : {fault : HostFault} {other : Result Round HostFault} → IsErr other
+  pub waiting_cut : (a.world.fault ≡ None → b.world.fault ≡ None) → {fault : HostFault}
+      {other : Result Round HostFault} → IsErr other
       → LooksOnceMore path b (Err fault) d → (NoneWait a.entries → b ≡ a) → LooksAgain a other d
-  waiting_cut {other = other} e y idle = record {
+  waiting_cut works {other = other} e y idle = record {
     keeps = looks_fail e (part-fails {k = looks_bound} other
         (part-then {k = rank_after (Some path) * handling_bound} _ x.part y.part
         (rank_more handling_bound last path before is after)) e
@@ -319,6 +359,18 @@ module _ {last : Option (List ℕ)} {path : List ℕ} {round : Round} {a b d : H
         (λ none. one_waits (idle none) waits none);
     did = is_err-if_ok other (λ r. Did r a d) e;
     looked = is_err-if_ok other _ e;
+    fails = on_errors other (HostInvariant a → a.world.fault ≡ None → LooksFail a d)
+        (λ i none. record {
+      last = last;
+      round = round;
+      mid = b;
+      looked = x.looked i;
+      path = path;
+      waits = waits;
+      after = after;
+      bulk = x.part.sound.bulk i (works none);
+      cut = y.cut (x.part.sound.sound.sound i);
+    });
   }
 
 pub waiting_end : {last : Option (List ℕ)} {round : Round} {a b : HostState}
@@ -338,4 +390,5 @@ waiting_end {last = last} {round = round} x path agrees all idle = record {
   };
   did = x.did;
   looked = λ s. record { last = last; looked = x.looked s; all = all };
+  fails = tt;
 }

@@ -19,9 +19,10 @@ use Rattle.usb_table.specs.{PipesPolled}
 use Rattle.usb_host.specs.{Agrees, drop_bound, hub_poll_bound, hubs_bound, looks_bound, round_bound}
 use Rattle.usb_host.specs.{roots_bound, told_bound, KeepsBulk, HostState, StaysOwned, DropsHub}
 use Rattle.usb_host.specs.{table_in, HostSteps, HostRuns, either, HostInvariant, KeepsInvariant}
-use Rattle.usb_host.specs.{PartStays, DropsSound, Part, PartsKeep, RootsRest, HubKeeps, HubsKeep}
+use Rattle.usb_host.specs.{IsDroppable, PartStays, StaysWhere, DropsSound, Part, PartsKeep}
+use Rattle.usb_host.specs.{RootsRest, HubKeeps, HubsKeep}
 use Rattle.usb_host.specs.{LooksKeep, NoneWait, HostFault, Round, Worked, Quiet}
-use Rattle.usb_host.proofs.devices.BulkPipes.{bulk_stays, stay_polled}
+use Rattle.usb_host.proofs.devices.BulkPipes.{bulk_stays, where_polled, where_stays}
 use Rattle.usb_host.proofs.devices.Plugs.{plugs_kept}
 use Rattle.usb_host.proofs.OwnedPorts.{dropped_hub_owned}
 use Rattle.usb_host.proofs.devices.Owners.{single_then, stays_kept, stays_owned_none}
@@ -143,16 +144,18 @@ module _ {hub : List ℕ} {answer : Result (Option (ArrayVec ℕ)) PipeFault} (a
   sound : IsOk answer → KeepsInvariant a b
   sound ok = sound_kept 768 hub (IsOk answer) a b agrees same went keeps.levels (λ still. ok)
 
-  bulk : HostInvariant a → b.world.fault ≡ None → KeepsBulk a b
-  bulk s still =
-      let before = went_sound 768 a.world b.world went still in
-      bulk_stays a b (stay_polled hub a b answer through asks
-      (keeps.spares (s.owned.so before) (s.level before hub)))
+  pub hub_stays : HostInvariant a → a.world.fault ≡ None → StaysWhere (Unit {0}) a b
+  hub_stays s before = where_polled hub a b answer through asks
+      (λ so. keeps.spares (s.owned.so before) (s.level before hub))
+
+  pub hub_bulk : HostInvariant a → b.world.fault ≡ None → KeepsBulk a b
+  hub_bulk s still = bulk_stays a b (where_stays a b tt
+      (hub_stays s (went_sound 768 a.world b.world went still)))
 
   part : IsOk answer → PartStays a b
   part ok = record {
     sound = sound ok;
-    bulk = bulk;
+    bulk = hub_bulk;
     plugs = λ s still. plugs_kept a b went.spends.onward same;
   }
 
@@ -213,25 +216,29 @@ module _ {hub : List ℕ} {answer : Result (Option (ArrayVec ℕ)) PipeFault} (a
       pick (Some facts) at some false is =
           absurd (heard facts (hub_there hub a.entries facts at) is)
 
+  there : IsSome (hub_facts_at hub a.entries) → IsSome (finding_at hub b.entries)
+  there listed = rw same (hub_listed (finding_at hub a.entries) listed)
+
+  -- it may be dropped
+  pub hub_droppable : IsSome (hub_facts_at hub a.entries) → HostInvariant a → IsDroppable hub b
+  hub_droppable listed s = record {
+    listed = there listed;
+    but = but_kept 768 hub (IsOk answer) a b agrees same went keeps.levels s;
+    there = λ still. occupied_kept 768 hub (IsOk answer) a b agrees same went keeps.levels s
+        (there listed) still agrees_on;
+  }
+
   -- it did not answer, and was dropped
   pub hub_gone : (c : HostState) → (b.world.fault ≡ None → NoHubFailed answer → ⊥)
       → IsSome (hub_facts_at hub a.entries) → HostRuns drop_bound b c → DropsHub hub b (Ok tt) c
       → DropsSound hub b (Ok tt) c → HubKeeps hub a (Ok Worked) c
   hub_gone c failed listed q drops dropped =
-      let there : IsSome (finding_at hub b.entries) =
-      rw same (hub_listed (finding_at hub a.entries) listed) in
       record {
         part = record {
           goes = host_goes_then goes q (omega arith);
-          owned = dropped_hub_owned hub a c there polled drops;
-          sound = sound_dropped (Ok tt) 768 a b c goes q
-              (λ s. record {
-                listed = there;
-                but = but_kept 768 hub (IsOk answer) a b agrees same went keeps.levels s;
-                there = λ still.
-                    occupied_kept 768 hub (IsOk answer) a b agrees same went keeps.levels s there
-                    still agrees_on;
-              }) (caused_kept 768 hub (IsOk answer) a b agrees same went keeps.levels) bulk
+          owned = dropped_hub_owned hub a c (there listed) polled drops;
+          sound = sound_dropped (Ok tt) 768 a b c goes q (hub_droppable listed)
+              (caused_kept 768 hub (IsOk answer) a b agrees same went keeps.levels) hub_bulk
               (plugs_kept a b went.spends.onward same) dropped (pends failed listed);
         };
         calm = λ is. absurd (cc is);

@@ -1,4 +1,5 @@
 -- What is done at the ports.
+pub mod CutPorts
 pub mod HubServices
 pub mod RoundServices
 pub mod ServedWork

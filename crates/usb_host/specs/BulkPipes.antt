@@ -53,3 +53,18 @@ pub record RenewedAt (path : List ℕ) (device : Accepted) (old new : HostState)
 pub record KeepsBulk (old new : HostState) : Type 0 where
   pub each : (path : List ℕ) (device : Accepted) → accepted_device_at path new.entries ≡ Some device
       → StayedAt path device old new ⊎ RenewedAt path device old new
+
+-- When the host stopped
+
+-- an accepted device that is still listed was listed before, with the same bulk pipes; under this
+-- premise their endpoints are as they were
+pub record StayedWhere (So : Type 0) (path : List ℕ) (device : Accepted) (old new : HostState)
+    : Type 0 where
+  pub listed : accepted_device_at path old.entries ≡ Some device
+  pub pipes : SameBulk (pipes_at path (table_in old)) (pipes_at path (table_in new))
+  pub endpoints : So → EndpointsStayed path old.world new.world
+
+-- so it is of each
+pub record StaysWhere (So : Type 0) (old new : HostState) : Type 0 where
+  pub each : (path : List ℕ) (device : Accepted) → accepted_device_at path new.entries ≡ Some device
+      → StayedWhere So path device old new

@@ -1,5 +1,6 @@
 -- All that one call of a host tells, over a bus that does what its world does.
-use Rattle.std.specs.Prelude.{◌≡◌, ℕ, ◌*◌, false, List, length, Option, Result, IfErr, IfOk}
+use Rattle.std.specs.Prelude.{◌≡◌, ℕ, ◌*◌, List, length, true, false, Option, None, Result, IfErr}
+use Rattle.std.specs.Prelude.{IfOk, OnErr}
 use Rattle.std.specs.Global.{Vec}
 use Rattle.usb_world.specs.{World}
 use Rattle.usb_bus.specs.{Traced}
@@ -9,7 +10,7 @@ use Rattle.usb_host.specs.Budget.{RoundKeeps}
 use Rattle.usb_host.specs.HostStates.{HostState, opening_host}
 use Rattle.usb_host.specs.Ownership.{HostMapHolds}
 use Rattle.usb_host.specs.Progress.{HostSteps}
-use Rattle.usb_host.specs.Service.{DidParts}
+use Rattle.usb_host.specs.Service.{DidParts, PartsFail}
 use Rattle.usb_host.specs.Soundness.{HostInvariant, TransferKeeps, IsUnpowered}
 use Rattle.usb_host.specs.ToldFaults.{RoundFaultAllowed, StopsAsRound, StopsAsTransfer, HostWorks}
 use Rattle.usb_host.specs.ToldFaults.{TransferFaultAllowed}
@@ -26,6 +27,12 @@ pub record NewTells (w : World) (t : Option (List ℕ)) (host : HostState) : Typ
   pub owning : w.shared ≡ false → HostMapHolds host
   pub sound : w.shared ≡ false → HostInvariant host
 
+-- a round failed: this is what the host had done, and then it stopped
+pub record StopsIn (old new : HostState) : Type 0 where
+  pub left : HostState
+  pub fails : PartsFail old left
+  pub stops : new ≡ record left { stopped = true }
+
 -- `round`
 pub record RoundTells (old : HostState) (result : Result Round HostFault) (new : HostState)
     : Type 0 where
@@ -34,6 +41,8 @@ pub record RoundTells (old : HostState) (result : Result Round HostFault) (new :
   pub told : IfErr result (λ fault. RoundFaultAllowed fault new.world)
   pub works : HostWorks old result new
   pub did : IfOk result (λ round. DidParts round old new)
+  pub fails : OnErr result (old.stopped ≡ false → HostInvariant old → old.world.fault ≡ None
+      → StopsIn old new)
   pub keeps : RoundKeeps old result new
 
 -- a call for a transfer

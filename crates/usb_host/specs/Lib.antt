@@ -4,6 +4,7 @@ pub mod Backlog
 pub mod Bounds
 pub mod Budget
 pub mod BulkPipes
+pub mod Cuts
 pub mod Discoveries
 pub mod PortHandling
 pub mod HostCalls
@@ -32,10 +33,13 @@ pub use Budget.{ToldPaid, Weights, WorksOn, debt, event_weight, handling_most, h
 pub use Budget.{hubs_most, idle, look_weight, paid, poll_most, stray_weight, told_most}
 pub use Discoveries.{EntersFound, FindsAnew}
 pub use BulkPipes.{EndpointsBegan, EndpointsStayed, KeepsBulk, RenewedAt, SameBulk, StayedAt}
+pub use BulkPipes.{StayedWhere, StaysWhere}
+pub use Cuts.{CutAt, ForgetsOnWay, StaysOrForgets}
 pub use PortHandling.{ClearsChange, Climbs, Decides, Disabled, DisablesOnWay, DropsLost, FindsSound}
 pub use PortHandling.{HasWay, HoldsAt, InvariantAfterPort, IsDroppedAt, IsLost, IsOpen, LetsGoOn}
 pub use PortHandling.{PortCaused, RestElsewhere, ServesSound, Tidies, Watches}
-pub use HostCalls.{ClearTells, NewTells, ReceiveTells, RoundTells, SendTells, TransferTells}
+pub use HostCalls.{ClearTells, NewTells, ReceiveTells, RoundTells, SendTells, StopsIn}
+pub use HostCalls.{TransferTells}
 pub use HostStates.{BusCounts, Frees, HostState, counts_after, counts_of, opening_host, work}
 unfoldable pub use HostStates.{repowered}
 pub use Ownership.{BaresAbove, BaresPort, BaresUpward, DropsHub, FinishesPort, HasLost}
@@ -50,12 +54,14 @@ pub use Progress.{OnlyBusSteps, QuietKeeps}
 pub use Progress.{Remains, either, idle_work, waiting}
 pub use Service.{ClearsAndReads, ClearsTold, DidParts, Discovers, DoneWhere, DropsOne}
 pub use Service.{EachLookedAgain, EachPolled, EndsAt, FinishesAt, HandlesAt, HandlesBelow}
-pub use Service.{HandlesNumber, HandlesPort, HasHub, HubPolled, HubsPolled, LookedAgain, LookedAt}
-pub use Service.{LookedOnce, LookedOrLost, LooksAfterError, LooksAgain, LooksAt, LooksOnceMore}
-pub use Service.{LosesParent, NoneHears, PolledOnce, PollsHub, Renews, RenewsPort, RootsServed}
-pub use Service.{RoundParts, ServedAt, ServedBelow, ServedOrLost, ServedTold, ServesEach, ServesHub}
+pub use Service.{HandlesNumber, HandlesPort, HasHub, HubFails, HubPolled, HubsFail, HubsPolled}
+pub use Service.{LookedAgain, LookedAt, LookedOnce, LookedOrLost, LooksAfterError, LooksAgain}
+pub use Service.{LooksAt, LooksFail, LooksOnceMore, LosesParent, NoneHears, PolledOnce, PollsHub}
+pub use Service.{PortsFail, Renews, RenewsPort, RootsFail, RootsServed, PartsFail, RoundParts}
+pub use Service.{ServedAt, ServedBelow, ServedOrLost, ServedTold, ServesEach, ServesHub}
 pub use Service.{ServesHubs, ServesOwn, ServesPort, ServesPorts, ServesRoots, ServesTold}
-pub use Service.{StaysOrForgets, Tidied, TidiesTold, WentByParts, bit_clear, bit_set, first_byte}
+pub use Service.{Tidied, TidiesTold, WentByParts, bit_clear, bit_set, drop_failed, first_byte}
+pub use Service.{hubs_failed, looks_failed, poll_failed, port_failed, roots_failed}
 pub use Service.{looked_once, lost_once, next_device, next_hub, no_device, no_hub, no_root}
 pub use Service.{none_yet, not_heard, port_known, port_unknown, root_changed, root_steady}
 pub use Service.{told_none, told_some, was_looked_at, was_lost, was_tidied}

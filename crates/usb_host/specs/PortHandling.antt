@@ -1,7 +1,7 @@
 -- What the parts of a port's handling keep of what is known of ports and devices.
 use Rattle.usb_device.specs.{path_to}
 use Rattle.std.specs.Prelude.{◌≡◌, ◌⊎◌, ◌≤◌, ◌+◌, ◌*◌, ⊤, ℕ, List, [], ◌∷◌, ◌++◌, Bool, true, false}
-use Rattle.std.specs.Prelude.{None, Some, IsSomeAnd, Result, Ok, Err, Option, OnOk, IfOk}
+use Rattle.std.specs.Prelude.{None, Some, IsSomeAnd, Result, Ok, Err, Option, OnOk, OnErr, IfOk}
 use Rattle.usb_port.specs.{parent_of, PortStatus}
 use Rattle.usb_tree.specs.{has_power, pending, is_way}
 use Rattle.usb_world.specs.{LeavesPortAlone, SameDeviceOrPending, Course, World}
@@ -15,7 +15,7 @@ use Rattle.usb_enum.specs.{IsInOrder, CanFail, HasPlanWithin}
 use Rattle.usb_enum.specs.declared.finding.Finding.TheVariants.{Refused}
 use Rattle.usb_pipe.specs.{write_bound}
 use Rattle.usb_host.specs.Bounds.{drop_bound}
-use Rattle.usb_host.specs.BulkPipes.{KeepsBulk}
+use Rattle.usb_host.specs.BulkPipes.{KeepsBulk, StaysWhere}
 use Rattle.usb_host.specs.HostStates.{HostState}
 use Rattle.usb_host.specs.Plugs.{KeepsPlugs}
 use Rattle.usb_host.specs.Progress.{HostRuns}
@@ -133,6 +133,7 @@ pub record ServesSound (path : List ℕ) (old : HostState) (result : Result (Uni
     (new : HostState) : Type 0 where
   pub sound : HostInvariant old → InvariantAfterPort path result new
   pub bulk : HostInvariant old → LetsGoOn result → new.world.fault ≡ None → KeepsBulk old new
+  pub cut : HostInvariant old → OnErr result (StaysWhere (new.world.fault ≡ None) old new)
   pub plugs : HostInvariant old → new.world.fault ≡ None → KeepsPlugs old new
   pub caused : HostInvariant old → IsFairTo old.world new.world
       → RefusalsJustified old.world old.entries → PortCaused path result new
@@ -148,6 +149,7 @@ pub record FindsSound (path : List ℕ) (old : HostState) (result : Result (Unit
     (new : HostState) : Type 0 where
   pub sound : IsOpen path old → InvariantAfterPort path result new
   pub bulk : IsOpen path old → LetsGoOn result → new.world.fault ≡ None → KeepsBulk old new
+  pub cut : IsOpen path old → OnErr result (StaysWhere (new.world.fault ≡ None) old new)
   -- no more is left to do, but by events, where the ports of the device and the port's reset are
   -- marked
   pub backlog : IsOpen path old → new.world.fault ≡ None → KeepsFound path old.world new.world
@@ -167,6 +169,8 @@ pub record DropsLost (path : List ℕ) (served : Result (Unit {0}) EnumFault) (o
       → OnOk result (new.world.fault ≡ None → KeepsAll old.world new.world)
   pub bulk : InvariantAfterPort path served old
       → OnOk result (new.world.fault ≡ None → KeepsBulk old new)
+  pub cut : InvariantAfterPort path served old
+      → OnErr result (StaysWhere (new.world.fault ≡ None) old new)
   pub plugs : OnOk result (KeepsPlugs old new)
   pub caused : InvariantAfterPort path served old → IsFairTo old.world new.world
       → PortCaused path served old → OnOk result (RefusalsJustified new.world new.entries)

@@ -1,18 +1,19 @@
 -- What a round does, part by part (11.12): how each port was served, how each hub was polled, and
 -- in which order.
 use Rattle.std.specs.Prelude.{◌≡◌, ◌≢◌, ◌⊎◌, ◌≤◌, ◌+◌, ⊤, ℕ, List, [], ◌∷◌, ◌++◌, Bool, true, false}
-use Rattle.std.specs.Prelude.{Option, None, Some, Result, Ok, Err, OnOk, IfOk, IsSome, IsSomeAnd}
+use Rattle.std.specs.Prelude.{Option, None, Some, Result, Ok, Err, OnOk, OnErr, IfOk, MatchResult}
+use Rattle.std.specs.Prelude.{IsSome, IsSomeAnd}
 use Rattle.std.specs.BTreeMap.{insert_entry}
 use Rattle.arrayvec.specs.ArrayVec.{ArrayVec}
 use Rattle.usb_port.specs.{path_cmp, parent_of, IsPath, has_bit, PortCall, ClearEnable}
 use Rattle.usb_port.specs.{ClearConnectionChange, ClearEnableChange, ClearResetChange, PortStatus}
-use Rattle.usb_world.specs.{PlanData, World, changes, root_port_at, root_row, roots_of}
+use Rattle.usb_world.specs.{BusFault, PlanData, World, changes, root_port_at, root_row, roots_of}
 use Rattle.usb_address.specs.{AddressMap, MapHolds, WhileBusWorks}
 use Rattle.usb_transaction.specs.{NoThreeDamaged}
 use Rattle.usb_pipe.specs.{PipeFault, ByteTold}
+use Rattle.usb_pipe.specs.declared.fault.PipeFault.TheVariants as pipe
 use Rattle.usb_hub.specs.{HubPort, IsAt, PortCallDone, PortStatusAt}
-use Rattle.usb_enum.specs.{widest_enumeration, CanFail, EnumFault, ParentLost, Bus, Memory}
-use Rattle.usb_enum.specs.{Accepted, Finding}
+use Rattle.usb_enum.specs.{widest_enumeration, CanFail, EnumFault, ParentLost, Accepted, Finding}
 use Rattle.usb_table.specs.{Entries, Replaced, without, is_hub, is_waiting, accepted_device_at}
 use Rattle.usb_table.specs.{KnownPort, known_port, BitsOf, IsListening, ComesAfter, IsNext, IsLast}
 use Rattle.usb_table.specs.{hub_facts_at, pipes_at, PipesPolled}
@@ -23,6 +24,8 @@ use Rattle.usb_host.specs.Bounds.{serving_bound, told_bound}
 use Rattle.usb_host.specs.Budget.{Affords, HubPaid, NumberPaid, PaysPart, PaysRound, PortPaid}
 use Rattle.usb_host.specs.Budget.{RootsPaid, RoundPaid, ToldPaid, Weights, handling_most, hubs_most}
 use Rattle.usb_host.specs.Budget.{poll_most, told_most}
+use Rattle.usb_host.specs.BulkPipes.{KeepsBulk, StaysWhere}
+use Rattle.usb_host.specs.Cuts.{CutAt, ForgetsOnWay, StaysOrForgets}
 use Rattle.usb_host.specs.Discoveries.{EntersFound, FindsAnew}
 use Rattle.usb_host.specs.HostStates.{HostState}
 use Rattle.usb_host.specs.Ownership.{DropsHub, HasLost, IsOwned, KeepsOwned, KeepsPort}
@@ -30,8 +33,8 @@ use Rattle.usb_host.specs.PortHandling.{DropsLost, FindsSound, ServesSound}
 use Rattle.usb_host.specs.Ports.{Entered, Forgets, IsDue, Looked, Requested, ProgressOrLost, Waits}
 use Rattle.usb_host.specs.Progress.{AddsNoWork, HostProgress, Did, DidRound, HostRuns, Remains}
 use Rattle.usb_host.specs.Progress.{OnlyBusSteps, either}
-use Rattle.usb_host.specs.Soundness.{DropsSound, HubKeeps, HubsKeep, HostInvariant, LooksKeep, Part}
-use Rattle.usb_host.specs.Soundness.{PartsKeep, RootsRest}
+use Rattle.usb_host.specs.Soundness.{DropsSound, HubKeeps, HubsKeep, HostInvariant, IsDroppable}
+use Rattle.usb_host.specs.Soundness.{LooksKeep, Part, PartsKeep, RootsRest}
 use Rattle.usb_host.specs.Transfers.{table_in}
 use Rattle.usb_host.specs.declared.fault.HostFault.{HostFault}
 use Rattle.usb_host.specs.declared.host.Round.{Round}
@@ -205,6 +208,71 @@ pub record RoundParts (round : Round) (old new : HostState) : Type 0 where
   pub looked : EachLookedAgain looks second new
   pub is : round ≡ either (either roots hubs) looks
 
+-- A round that failed
+
+-- the changed root ports below one were served, and the host stopped while it served that one
+pub record RootsFail (old new : HostState) : Type 0 where
+  pub number : ℕ
+  pub round : Round
+  pub mid : HostState
+  pub served : RootsServed number round old mid
+  pub changed : (root_port_at mid.world number).connection_changed ≡ true
+  pub bulk : KeepsBulk old mid
+  pub cut : CutAt (number ∷ []) mid new
+
+-- the ports that a hub told, below one, were served, and the host stopped while it served that one
+pub record PortsFail (hub : List ℕ) (bits : ℕ) (old new : HostState) : Type 0 where
+  pub number : ℕ
+  pub mid : HostState
+  pub served : ServedTold hub bits number old mid
+  pub told : has_bit bits number ≡ true
+  pub bulk : KeepsBulk old mid
+  pub cut : CutAt (hub ++ (number ∷ [])) mid new
+
+-- the host stopped in the poll of a hub, which changes nothing that is known; or at one of the
+-- ports that the hub told; or while it dropped the hub, which had not answered
+pub data HubFails (hub : List ℕ) (old new : HostState) : Type 0 where
+  poll_failed : (fault : BusFault) → PolledOnce hub old (Err (pipe.Bus fault)) new
+      → StaysWhere (Unit {0}) old new → HubFails hub old new
+  port_failed : (packet : ArrayVec ℕ) (mid : HostState) → PolledOnce hub old (Ok (Some packet)) mid
+      → (byte : ByteTold (BitsOf hub old.world mid.world) packet.items)
+      → KeepsBulk old mid → PortsFail hub byte.bits mid new → HubFails hub old new
+  drop_failed : (fault : PipeFault) (mid : HostState) → PolledOnce hub old (Err fault) mid
+      → KeepsBulk old mid → CutAt hub mid new → HubFails hub old new
+
+-- the hubs before one were polled, and the host stopped at that one
+pub record HubsFail (old new : HostState) : Type 0 where
+  pub last : Option (List ℕ)
+  pub round : Round
+  pub mid : HostState
+  pub polled : HubsPolled last round old mid
+  pub hub : List ℕ
+  pub next : IsNext is_hub last mid.entries hub
+  pub bulk : KeepsBulk old mid
+  pub fails : HubFails hub mid new
+
+-- the waiting devices before one were looked at, and the host stopped at that one
+pub record LooksFail (old new : HostState) : Type 0 where
+  pub last : Option (List ℕ)
+  pub round : Round
+  pub mid : HostState
+  pub looked : LookedAgain last round old mid
+  pub path : List ℕ
+  pub waits : Waits path mid
+  pub after : ComesAfter last path
+  pub bulk : KeepsBulk old mid
+  pub cut : CutAt path mid new
+
+-- the host stopped in one of the three parts, and the parts before it were done
+pub data PartsFail (old new : HostState) : Type 0 where
+  roots_failed : RootsFail old new → PartsFail old new
+  hubs_failed : (roots : Round) (first : HostState)
+      → RootsServed (roots_of old.world + 1) roots old first
+      → KeepsBulk old first → HubsFail first new → PartsFail old new
+  looks_failed : (roots hubs : Round) (first second : HostState)
+      → RootsServed (roots_of old.world + 1) roots old first → EachPolled hubs first second
+      → KeepsBulk old second → LooksFail second new → PartsFail old new
+
 -- What the calls of a host tell of it, where it is as it knows
 
 -- the changes of a port that a status told were cleared
@@ -215,31 +283,23 @@ pub record TidiesTold (port : HubPort) (status : PortStatus) (old : HostState)
   pub clears : (f : AddressMap) (p : List ℕ) → IsAt f port p → WhileBusWorks (MapHolds f) old.world
       → OnOk result (ClearsTold p status old.world new.world)
 
--- what is known stays, or what was found at the port and below it is forgotten
-abbrev pub StaysOrForgets : List ℕ → Entries → Entries → Type 0
-StaysOrForgets path old new = (new ≡ old) ⊎ (new ≡ without path old)
-
--- a port was looked at, or its hub is lost
+-- a port was looked at, or its hub is lost, or the host stops
 abbrev pub LookedOrLost : List ℕ → HostState → Result (Unit {0}) EnumFault → HostState → Type 0
 LookedOrLost path old (Ok done) new = LookedAt path old new
-LookedOrLost path old (Err ParentLost) new = StaysOrForgets path old.entries new.entries
-LookedOrLost path old (Err (Bus fault)) new = ⊤
-LookedOrLost path old (Err Memory) new = ⊤
+LookedOrLost path old (Err fault) new = StaysOrForgets path old.entries new.entries
 
--- a port was served, or its hub is lost
+-- a port was served, or its hub is lost, or the host stops
 abbrev pub ServedOrLost : List ℕ → HostState → Result (Unit {0}) EnumFault → HostState → Type 0
 ServedOrLost path old (Ok done) new = ServedAt path old new
-ServedOrLost path old (Err ParentLost) new = StaysOrForgets path old.entries new.entries
-ServedOrLost path old (Err (Bus fault)) new = ⊤
-ServedOrLost path old (Err Memory) new = ⊤
+ServedOrLost path old (Err fault) new = StaysOrForgets path old.entries new.entries
 
 -- after a port was served nothing more is done, but where its hub is lost
 abbrev pub EndsAt : List ℕ → Result (Unit {0}) EnumFault → HostState → Result (Unit {0}) HostFault
     → HostState → Type 0
-EndsAt path (Ok done) old result new = new ≡ old
-EndsAt path (Err ParentLost) old result new = OnOk result (LosesParent path old.entries new.entries)
-EndsAt path (Err (Bus fault)) old result new = ⊤
-EndsAt path (Err Memory) old result new = ⊤
+EndsAt path (Err ParentLost) old result new =
+    MatchResult result (λ _. LosesParent path old.entries new.entries)
+    (λ _. ForgetsOnWay path old.entries new.entries)
+EndsAt path _ old result new = new ≡ old
 
 -- what is there was found
 pub record Discovers (path : List ℕ) (port : KnownPort) (old : HostState)
@@ -318,6 +378,9 @@ pub record DropsOne (hub : List ℕ) (old : HostState) (result : Result (Unit {0
       → hubs new.entries + 1 ≤ hubs old.entries)
   pub owned : DropsHub hub old result new
   pub sound : DropsSound hub old result new
+  pub cut : OnErr result (ForgetsOnWay hub old.entries new.entries)
+  pub bulk : IsDroppable hub old
+      → OnErr result (StaysWhere (new.world.fault ≡ None) old new)
 
 -- a port was handled; where it was due, the host got on
 pub record HandlesAt (path : List ℕ) (due : Type 0) (old new : HostState) : Type 0 where
@@ -329,6 +392,7 @@ pub record HandlesPort (path : List ℕ) (due : Type 0) (old : HostState)
     (result : Result (Unit {0}) HostFault) (new : HostState) : Type 0 where
   pub part : Part handling_bound old result new
   pub handled : OnOk result (HandlesAt path due old new)
+  pub cut : OnErr result (HostInvariant old → CutAt path old new)
   pub pays : PaysPart handling_most (λ c done. PortPaid c path) old result new
 
 -- a port of a hub was handled
@@ -342,6 +406,7 @@ pub record HandlesNumber (hub : List ℕ) (number : ℕ) (old : HostState)
     (result : Result Round HostFault) (new : HostState) : Type 0 where
   pub part : Part handling_bound old result new
   pub handled : IfOk result (λ round. HandlesBelow hub number round old new)
+  pub cut : OnErr result (HostInvariant old → CutAt (hub ++ (number ∷ [])) old new)
   pub pays : PaysPart handling_most (λ c. NumberPaid c hub number) old result new
 
 -- the ports of which a hub told were handled
@@ -350,6 +415,8 @@ pub record ServesPorts (hub : List ℕ) (bits : ℕ) (old : HostState)
   pub part : Part told_bound old result new
   pub holds : OnOk result (AddsNoWork old new)
   pub served : OnOk result (HostInvariant old → ServedTold hub bits 8 old new)
+  pub fails : OnErr result (HostInvariant old → old.world.fault ≡ None
+      → PortsFail hub bits old new)
   pub pays : PaysPart told_most (λ c done. ToldPaid hub bits c) old result new
 
 -- and where it told of itself alone, its own changes were cleared
@@ -366,6 +433,7 @@ pub record LooksOnceMore (path : List ℕ) (old : HostState) (result : Result Ro
   pub part : Part handling_bound old result new
   pub did : IfOk result (λ round. Looked round old new)
   pub looked : IfOk result (λ round. HostInvariant old → (round ≡ Worked) × LookedOnce path old new)
+  pub cut : OnErr result (HostInvariant old → CutAt path old new)
 
 -- each that waits, while an address is free
 pub record LooksAgain (old : HostState) (result : Result Round HostFault) (new : HostState)
@@ -373,6 +441,7 @@ pub record LooksAgain (old : HostState) (result : Result Round HostFault) (new :
   pub keeps : LooksKeep old result new
   pub did : IfOk result (λ round. Did round old new)
   pub looked : IfOk result (λ round. HostInvariant old → EachLookedAgain round old new)
+  pub fails : OnErr result (HostInvariant old → old.world.fault ≡ None → LooksFail old new)
 
 -- a hub was polled
 pub record PollsHub (hub : List ℕ) (round : Round) (old new : HostState) : Type 0 where
@@ -384,6 +453,7 @@ pub record ServesHub (hub : List ℕ) (old : HostState) (result : Result Round H
     (new : HostState) : Type 0 where
   pub keeps : HubKeeps hub old result new
   pub polls : IfOk result (λ round. PollsHub hub round old new)
+  pub fails : OnErr result (HostInvariant old → old.world.fault ≡ None → HubFails hub old new)
   pub pays : PaysPart poll_most (HubPaid hub) old result new
 
 -- each hub that is known was polled
@@ -393,6 +463,7 @@ pub record ServesHubs (old : HostState) (result : Result Round HostFault) (new :
     pub did : IfOk result (λ round. Did round old new)
     pub polls : IfOk result (λ round. HostInvariant old → new.world.fault ≡ None
         → EachPolled round old new)
+    pub fails : OnErr result (HostInvariant old → old.world.fault ≡ None → HubsFail old new)
     pub pays : PaysPart hubs_most RoundPaid old result new
     -- where nothing is listed, nothing is done
     pub idle : old.entries ≡ [] → (result ≡ Ok Quiet) × (new ≡ old)
@@ -405,6 +476,7 @@ pub record WentByParts (old : HostState) (result : Result Round HostFault) (new 
   pub none : result ≡ Ok Quiet → changes (root_row old.world) ≡ 0
   pub parts : IfOk result (λ round. HostInvariant old → new.world.fault ≡ None
       → RoundParts round old new)
+  pub fails : OnErr result (HostInvariant old → old.world.fault ≡ None → PartsFail old new)
   pub pays : (c : Weights) (plan : PlanData) → Affords c plan old → PaysRound c plan old result new
   -- where nothing is listed, and no root port had changed, nothing is done
   pub idle : old.entries ≡ [] → changes (root_row old.world) ≡ 0 → (result ≡ Ok Quiet) × (new ≡ old)
@@ -420,6 +492,7 @@ pub record ServesEach (old : HostState) (result : Result Round HostFault) (new :
   where
     pub part : Part roots_bound old result new
     pub serves : IfOk result (λ round. ServesRoots round old new)
+    pub fails : OnErr result (HostInvariant old → old.world.fault ≡ None → RootsFail old new)
     pub pays : PaysPart handling_most RootsPaid old result new
     -- where none had changed, nothing is done
     pub idle : changes (root_row old.world) ≡ 0 → (result ≡ Ok Quiet) × (new ≡ old)

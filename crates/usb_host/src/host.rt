@@ -155,7 +155,9 @@ impl<B: Bus> Host<B> {
     /// # Errors
     ///
     /// `Stopped` where an earlier call failed, and nothing happens. `Bus` where the bus makes no
-    /// more steps and `Memory` where memory was refused; the host then stops.
+    /// more steps and `Memory` where memory was refused; the host then stops. The parts of the round
+    /// up to one port or hub were done. Nothing is entered there, and at most what was known there, or
+    /// at a hub on its way, and below it is forgotten.
     pub fn round(&mut self) -> Result<Round, HostFault>
         ensures any_bus { HostSpends round_bound self.old self.new × (B.modelled ≡ false
             → IfErr result (λ fault. IsReportedLast fault self.new.counts.failed))

@@ -1,4 +1,5 @@
 -- What a course of steps keeps.
+pub mod DamagedLosses
 pub mod KnowledgeKept
 pub mod Ownership
 pub mod RoundEnds

@@ -2,9 +2,11 @@
 use Rattle.std.specs.Prelude.{◌≤◌, ⊤, List, All, Option, Some, is_ok}
 use Rattle.std.specs.List.{AllByRecursion}
 use Rattle.usb_world.specs.declared.event.Ask.{Ask}
-use Rattle.usb_world.specs.{Show, Send, Receive, Clear, PlanData, opening, World}
+use Rattle.usb_world.specs.{Show, Send, Receive, Clear, PlanData, AreOfDamages, AtMostTwoRunning}
+use Rattle.usb_world.specs.{World}
+use Rattle.usb_enum.specs.{FewLosses}
 use Rattle.usb_table.specs.{Delivered, Collected, Restarted, bytes_in, Lists, tree_after}
-use Rattle.usb_host.specs.{HostState, IsFairTo, table_in}
+use Rattle.usb_host.specs.{HostState, table_in}
 use Rattle.usb_run.specs.RunSegments.{Settled}
 use Rattle.usb_run.specs.declared.runs.Item.{Item}
 use Rattle.usb_run.specs.declared.runs.Item.TheVariants.{Listing, Sent, Received, Cleared}
@@ -33,9 +35,13 @@ IsListingOf plan (Sent path sent) = ⊤
 IsListingOf plan (Received path received) = ⊤
 IsListingOf plan (Cleared path cleared) = ⊤
 
--- each listing of a run is right where damage was fair up to its last world
-abbrev pub ListsRight : PlanData → List Item → World → Type 0
-ListsRight plan items last = IsFairTo (opening plan) last → AllByRecursion (IsListingOf plan) items
+-- each listing of a run is right, whether it stopped at a fault or not, where no three attempts
+-- running are damaged and no address was lost three times up to its last world; and there is a
+-- damage for each address that was
+pub record ListsRight (plan : PlanData) (items : List Item) (last : World) : Type 0 where
+  pub losses : AreOfDamages last.attempts plan.damages last.losses
+  pub right : AtMostTwoRunning plan.damages → FewLosses last
+      → AllByRecursion (IsListingOf plan) items
 
 -- Without a world
 

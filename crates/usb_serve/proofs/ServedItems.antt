@@ -23,7 +23,7 @@ use Rattle.usb_serve.specs.declared.serving.ServeFault.TheVariants as serve
 use Rattle.usb_text.specs.{bound_line, lines_text, written_lines}
 use Rattle.usb_run.specs.Transcript.{Transcript}
 use Rattle.usb_run.proofs.Interface.{at_fault, run_limit, knows_opened, limit_opened, makes_knows}
-use Rattle.usb_run.proofs.Interface.{puts_knows, run_lists_right, traced_runs_onward, cut_next}
+use Rattle.usb_run.proofs.Interface.{puts_knows, run_lists_right, cut_next}
 use Rattle.usb_run.proofs.Interface.{ends_failed, over_next, appends_no_text, stopped_next}
 use Rattle.usb_run.proofs.Interface.{told_next, unwritten_next}
 use Rattle.usb_serve.proofs.LineFaults.{is_write}
@@ -180,7 +180,7 @@ run_written plan before over h k result now opens at_work goes caused single tex
           ∙ limit_opened plan h opens;
       single = single;
       lists = run_lists_right plan opens.rules opens.paths Run of_run at_write false h so.items k
-          result (traced_runs_onward opens.traced) so.ends;
+          result opens.traced so.ends;
       text = text;
     })
 
@@ -267,7 +267,7 @@ tree_written plan before thrown first opens items k result now ends caused singl
           ∙ limit_opened plan first opens;
       single = single;
       lists = run_lists_right plan opens.rules opens.paths Tree of_run never false first items k
-          result (traced_runs_onward opens.traced) ends;
+          result opens.traced ends;
       text = text;
     })
 

@@ -89,6 +89,23 @@ later_steps = record {
   refused = λ w. later_same w (with_limit_told w) refl refl refl;
 }
 
+-- the worst stretch alone
+abbrev pub IsWorse : World → World → Type 0
+IsWorse w v = w.losses.worst ≤ v.losses.worst
+
+pub worse_steps : OverSteps AnyStep IsWorse
+worse_steps = let l : OverSteps AnyStep IsLater = later_steps in
+    record {
+      events = record {
+        same = λ w. (l.events.same w).worst;
+        joined = λ w m v x y. omega (arith, x, y);
+        came = λ e es w left. (l.events.came e es w left).worst;
+      };
+      made = λ a w made k. (l.made a w made k).worst;
+      root = λ c n w k. (l.root c n w k).worst;
+      refused = λ w. (l.refused w).worst;
+    }
+
 pub step_later : (s : Step) (w : World) → IsLater w (after s w)
 step_later s w = over_step (later_steps {K = AnyStep}) s w tt
 

@@ -23,6 +23,7 @@ use Rattle.usb_table.specs.{entered, pipes_at, PipesPolled}
 use Rattle.usb_table.proofs.Interface.{path_tied, pipes_at-entered, pipes_at-entered_elsewhere}
 use Rattle.usb_table.proofs.Interface.{spares-same, spares-stage, spares-then}
 use Rattle.usb_host.specs.{SameBulk, EndpointsStayed, EndpointsBegan, StayedAt, RenewedAt}
+use Rattle.usb_host.specs.{StaysWhere}
 use Rattle.usb_host.specs.{KeepsBulk, HostState, claims, HostSteps, OnlyBusSteps, table_in}
 use Rattle.usb_host.proofs.entries.Agreements.{lookup-insert_entry_elsewhere}
 use Rattle.usb_host.proofs.entries.EntryClaims.{lookup-insert_entry_here}
@@ -96,6 +97,15 @@ pub record AllStay (old new : HostState) : Type 0 where
   pub each : (path : List ℕ) (device : Accepted) → accepted_device_at path new.entries ≡ Some device
       → StayedAt path device old new
 
+pub stay_none : (h : HostState) → AllStay h h
+stay_none h = record {
+  each = λ path device at. record {
+    listed = at;
+    pipes = same_bulk refl;
+    endpoints = stayed_none path h.world {v = h.world} refl;
+  };
+}
+
 pub stay_joined : (a b c : HostState) → AllStay a b → AllStay b c → AllStay a c
 stay_joined a b c x y = record {
   each = λ path device at.
@@ -111,17 +121,32 @@ stay_joined a b c x y = record {
 pub bulk_stays : (a b : HostState) → AllStay a b → KeepsBulk a b
 bulk_stays a b x = record { each = λ path device at. inl (x.each path device at) }
 
+pub where_stays : {So : Type 0} (a b : HostState) → So → StaysWhere So a b → AllStay a b
+where_stays a b so x = record {
+  each = λ path device at. let y = x.each path device at in record {
+    listed = y.listed;
+    pipes = y.pipes;
+    endpoints = y.endpoints so;
+  };
+}
+
 -- entries and bulk pipes are as they were
-stay_same : {a b : HostState} → b.entries ≡ a.entries
+where_same : {So : Type 0} {a b : HostState} → b.entries ≡ a.entries
     → ((path : List ℕ) → SameBulk (pipes_at path (table_in a)) (pipes_at path (table_in b)))
-    → EachWas SparesBulk a.world b.world → AllStay a b
-stay_same same pipes each = record {
+    → (So → EachWas SparesBulk a.world b.world) → StaysWhere So a b
+where_same same pipes each = record {
   each = λ path device at. record {
     listed = ap (λ (es : Entries). accepted_device_at path es) (sym same) ∙ at;
     pipes = pipes path;
-    endpoints = λ x s is on stands. each x s on stands;
+    endpoints = λ so x s is on stands. each so x s on stands;
   };
 }
+
+stay_same : {a b : HostState} → b.entries ≡ a.entries
+    → ((path : List ℕ) → SameBulk (pipes_at path (table_in a)) (pipes_at path (table_in b)))
+    → EachWas SparesBulk a.world b.world → AllStay a b
+stay_same {a} {b} same pipes each =
+    where_stays a b tt (where_same {So = Unit {0}} same pipes (λ so. each))
 
 -- only the world goes on, and devices stay as they were
 pub stay_rests : (a b : HostState) → OnlyBusSteps a b → KeepsDevices a.world b.world
@@ -133,12 +158,12 @@ stay_rests a b r devices single =
     (devices.stays single))
 
 -- the hub at a path is polled
-pub stay_polled : (hub : List ℕ) (a b : HostState) (result : Result (Option (ArrayVec ℕ)) PipeFault)
-    → GoesThrough hub (table_in a) (table_in b)
+pub where_polled : {So : Type 0} (hub : List ℕ) (a b : HostState)
+    (result : Result (Option (ArrayVec ℕ)) PipeFault) → GoesThrough hub (table_in a) (table_in b)
     → PipesPolled (pipes_at hub (table_in a)) a.world result (pipes_at hub (table_in b)) b.world
-    → EachWas SparesBulk a.world b.world → AllStay a b
-stay_polled hub a b result goes polled each =
-    stay_same goes.entries (λ path. pick path (is_at (path_cmp hub) path) refl) each
+    → (So → EachWas SparesBulk a.world b.world) → StaysWhere So a b
+where_polled hub a b result goes polled each =
+    where_same goes.entries (λ path. pick path (is_at (path_cmp hub) path) refl) each
   where
     pick : (path : List ℕ) (tied : Bool) → is_at (path_cmp hub) path ≡ tied
         → SameBulk (pipes_at path (table_in a)) (pipes_at path (table_in b))
@@ -181,10 +206,37 @@ stay_forgotten first a b same rest gone pipes = record {
       };
 }
 
+-- Where the host stopped
+
+pub stays_where : {So : Type 0} (a b : HostState) → AllStay a b → StaysWhere So a b
+stays_where a b x = record {
+  each = λ path device at. let y = x.each path device at in record {
+    listed = y.listed;
+    pipes = y.pipes;
+    endpoints = λ so. y.endpoints;
+  };
+}
+
+pub where_joined : {So Then : Type 0} (a b c : HostState) → (Then → So) → StaysWhere So a b
+    → StaysWhere Then b c → StaysWhere Then a c
+where_joined a b c back x y = record {
+  each = λ path device at.
+      let late = y.each path device at in
+      let early = x.each path device late.listed in
+      record {
+        listed = early.listed;
+        pipes = bulk_joined early.pipes late.pipes;
+        endpoints = λ so.
+            stayed_joined path a.world b.world c.world (early.endpoints (back so))
+            (late.endpoints so);
+      };
+}
+
 -- nothing is entered at a path of which nothing was listed
-pub stay_unfound : (first : List ℕ) (a b : HostState) → b.entries ≡ a.entries → b.pipes ≡ a.pipes
-    → has_at first a.entries ≡ false → EachElsewhere first StaysAs a.world b.world → AllStay a b
-stay_unfound first a b same pipes_same gone each = record {
+pub where_unfound : {So : Type 0} (first : List ℕ) (a b : HostState) → b.entries ≡ a.entries
+    → b.pipes ≡ a.pipes → has_at first a.entries ≡ false
+    → (So → EachElsewhere first StaysAs a.world b.world) → StaysWhere So a b
+where_unfound first a b same pipes_same gone each = record {
   each = λ path device at.
       let listed : accepted_device_at path a.entries ≡ Some device =
       ap (λ (es : Entries). accepted_device_at path es) (sym same) ∙ at in
@@ -193,7 +245,7 @@ stay_unfound first a b same pipes_same gone each = record {
       record {
         listed = listed;
         pipes = same_bulk (ap (pipes_at path) table);
-        endpoints = stayed_elsewhere first path a.world b.world each
+        endpoints = λ so. stayed_elsewhere first path a.world b.world (each so)
             (listed_away first path a.entries gone listed);
       };
 }
@@ -299,14 +351,7 @@ module _ (first : List ℕ) (f : Finding) (a b : HostState)
 -- One part after another
 
 pub bulk_none : (h : HostState) → KeepsBulk h h
-bulk_none h = record {
-  each = λ path device at. inl
-      (record {
-        listed = at;
-        pipes = record { out = refl; into = refl };
-        endpoints = stayed_none path h.world {v = h.world} refl;
-      });
-}
+bulk_none h = bulk_stays h h (stay_none h)
 
 module _ (a b c : HostState) (first : Course AnyStep a.world b.world)
     (second : Course AnyStep b.world c.world) where

@@ -41,6 +41,7 @@ use Rattle.usb_host.proofs.devices.Enumerations.{askable_wide}
 use Rattle.usb_host.proofs.devices.Plugs.{plugs_lost}
 use Rattle.usb_host.proofs.knowledge.FoundDevices.{begins, found_only, supply_found, entered_bulk}
 use Rattle.usb_host.proofs.knowledge.FoundDevices.{entered_sound, unfound_bulk, unfound_sound}
+use Rattle.usb_host.proofs.knowledge.FoundDevices.{unfound_where}
 use Rattle.usb_host.proofs.OwnedPorts.{root_done}
 use Rattle.usb_host.proofs.knowledge.Places.{finding-none, causes_dropped, causes_found}
 use Rattle.usb_host.proofs.devices.Requests.{push-same_front}
@@ -322,6 +323,7 @@ module _ {n : ℕ} {path : List ℕ} {port : KnownPort} {a b : HostState} (s : S
     sound = λ o. entered_sound n path port a.addresses a b s gone accounts went o f e table keeps;
     bulk = λ o on still. entered_bulk n path port a.addresses a b s gone accounts went o f e table
         still;
+    cut = λ o. tt;
     backlog = λ o still. (found_only n path port a.addresses a b s gone accounts went o e
         still).backlog;
     few = λ o most plan. e.few.few (claims a.entries) path (askable_wide port.port s.askable)
@@ -332,10 +334,12 @@ module _ {n : ℕ} {path : List ℕ} {port : KnownPort} {a b : HostState} (s : S
 
   -- there was no memory to enter it
   pub unentered_finds : (f : Finding) → Enumerates port.port a.addresses (tier_of path) port.supply
-      a.world (Ok f) b.world → FindsSound path a (Err Memory) b
-  unentered_finds f e = record {
+      a.world (Ok f) b.world → b.entries ≡ a.entries → b.pipes ≡ a.pipes
+      → FindsSound path a (Err Memory) b
+  unentered_finds f e same pipes_same = record {
     sound = λ o. tt;
     bulk = λ o on. absurd on;
+    cut = λ o. unfound_where n path port a.addresses a b s gone accounts went o e same pipes_same;
     backlog = λ o still. (found_only n path port a.addresses a b s gone accounts went o e
         still).backlog;
     few = λ o most plan. e.few.few (claims a.entries) path (askable_wide port.port s.askable)
@@ -353,6 +357,7 @@ module _ {n : ℕ} {path : List ℕ} {port : KnownPort} {a b : HostState} (s : S
         pipes_same pool_same told keeps;
     bulk = λ o on still. unfound_bulk n path port a.addresses a b s gone accounts went o e same
         pipes_same still;
+    cut = λ o. unfound_where n path port a.addresses a b s gone accounts went o e same pipes_same;
     backlog = λ o still. (found_only n path port a.addresses a b s gone accounts went o e
         still).backlog;
     few = λ o most plan. e.few.few (claims a.entries) path (askable_wide port.port s.askable)

@@ -18,9 +18,9 @@ use Rattle.usb_table.specs.{hub_facts_in, tier_of, AllInSync, Table, entered}
 use Rattle.usb_host.specs.Accounts.{Accounts}
 use Rattle.usb_host.specs.{IsOpen, InvariantAfterPort, HostState, claims, KeepsPort, StandsAt}
 use Rattle.usb_host.specs.{HostSteps, PortsListed, KnownBut, DevicesAccurate, TruthfulBut}
-use Rattle.usb_host.specs.{IsAccurateAt, known_supply, KeepsBulk, table_in}
+use Rattle.usb_host.specs.{IsAccurateAt, known_supply, KeepsBulk, StaysWhere, table_in}
 use Rattle.usb_host.proofs.devices.BulkPipes.{bulk_entered, bulk_stays, accepted_device_of-some}
-use Rattle.usb_host.proofs.devices.BulkPipes.{stay_unfound}
+use Rattle.usb_host.proofs.devices.BulkPipes.{where_stays, where_unfound}
 use Rattle.usb_host.proofs.entries.Agreements.{known_entered, shorter_apart}
 use Rattle.usb_host.proofs.entries.EntryClaims.{claims_free, claims_taken, lookup-insert_entry_here}
 use Rattle.usb_host.proofs.devices.LevelPipes.{level_found, level_gone, level_but}
@@ -160,11 +160,18 @@ module _ (n : ℕ) (path : List ℕ) (port : KnownPort) (pool : Addresses) (a b 
       level = entered_level;
     }
 
+  -- nothing is entered
+  pub unfound_where : {result : Result Finding EnumFault}
+      → Enumerates port.port pool (tier_of path) port.supply a.world result b.world
+      → b.entries ≡ a.entries → b.pipes ≡ a.pipes → StaysWhere (b.world.fault ≡ None) a b
+  unfound_where e same pipes_same = where_unfound path a b same pipes_same gone
+      (λ still. (found_only e still).devices)
+
   pub unfound_bulk : {fault : EnumFault} → Enumerates port.port pool (tier_of path) port.supply
       a.world (Err fault) b.world → b.entries ≡ a.entries → b.pipes ≡ a.pipes → b.world.fault ≡ None
       → KeepsBulk a b
   unfound_bulk e same pipes_same still =
-      bulk_stays a b (stay_unfound path a b same pipes_same gone (found_only e still).devices)
+      bulk_stays a b (where_stays a b still (unfound_where e same pipes_same))
 
   -- nothing is entered: the hub is lost
   pub unfound_sound : (fault : EnumFault)

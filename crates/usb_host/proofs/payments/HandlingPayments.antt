@@ -18,7 +18,8 @@ use Rattle.usb_host.specs.{FindsNone, ServePaid, hubs, found, bare, tidied, calm
 use Rattle.usb_host.specs.{drop_bound, serving_bound, NumberPaid, Pays, PaysPart, PortPaid, Weights}
 use Rattle.usb_host.specs.{WorksOn, handling_most, hub_weight, paid, idle, HostState, ServesSound}
 use Rattle.usb_host.specs.{EndsAs, StandsAt, HostSteps, FinishesAt, HandlesBelow, HandlesNumber}
-use Rattle.usb_host.specs.{HandlesPort, HasHub, ServesPort, StaysOrForgets, port_known}
+use Rattle.usb_host.specs.{CutAt, HandlesPort, HasHub, HostInvariant, ServesPort, StaysOrForgets}
+use Rattle.usb_host.specs.{port_known}
 use Rattle.usb_host.specs.{port_unknown, HostFault, Round, Worked, Quiet}
 use Rattle.usb_host.proofs.ParentPaths.{parent_length}
 use Rattle.usb_host.proofs.RoundParts.{part-fails, part-none, part-wider}
@@ -27,6 +28,7 @@ use Rattle.usb_host.proofs.payments.Payments.{plain_costs, plain_pays, works_on-
 use Rattle.usb_host.proofs.payments.Payments.{works_on-ports}
 use Rattle.usb_host.proofs.knowledge.Places.{finding-kept}
 use Rattle.usb_host.proofs.PortLocations.{lost_above}
+use Rattle.usb_host.proofs.services.CutPorts.{on_errors}
 
 -- The hub of a port
 
@@ -190,6 +192,7 @@ number_handled p {a = a} {b = b} is on x = record {
     did = x.handled.advances on;
     served = λ s. port_known (rw is at (x.handled.served s));
   };
+  cut = tt;
   pays = record {
     stops = x.pays.stops;
     pays = λ c plan w still.
@@ -199,10 +202,13 @@ number_handled p {a = a} {b = b} is on x = record {
 
 pub number_stops : {hub : List ℕ} (number : ℕ) (p : List ℕ) {due : Type 0} {a b : HostState}
     {fault : HostFault} {other : Result Round HostFault} → IsErr other
-    → HandlesPort p due a (Err fault) b → HandlesNumber hub number a other b
-number_stops {hub = hub} number p {a = a} {b = b} {other = other} e x = record {
+    → p ≡ hub ++ number ∷ [] → HandlesPort p due a (Err fault) b
+    → HandlesNumber hub number a other b
+number_stops {hub = hub} number p {a = a} {b = b} {other = other} e is x = record {
   part = part-fails other x.part e (omega arith);
   handled = is_err-if_ok other (λ round. HandlesBelow hub number round a b) e;
+  cut = on_errors other (HostInvariant a → CutAt (hub ++ number ∷ []) a b)
+      (λ i. subst (λ (q : List ℕ). CutAt q a b) is (x.cut i));
   pays = pays_part_failed other (λ (c : Weights). NumberPaid c hub number) _ a b e x.pays;
 }
 
@@ -213,6 +219,7 @@ pub number_unknown : {hub : List ℕ} {number : ℕ} {h : HostState}
 number_unknown {h = h} unknown = record {
   part = part-none;
   handled = record { did = refl; served = λ s. port_unknown unknown refl };
+  cut = tt;
   pays = record {
     stops = λ c plan w. few_stop c (handling_most c) h h (omega arith) (omega arith);
     pays = λ c plan w still. (refl, unknown);

@@ -7,7 +7,7 @@ use Rattle.std.proofs.lemmas.Nat.{and_mask}
 use Rattle.usb_port.specs.{has_bit}
 use Rattle.arrayvec.specs.ArrayVec.{ArrayVec}
 use Rattle.usb_device.specs.{row_of}
-use Rattle.usb_world.specs.{World}
+use Rattle.usb_world.specs.{BusFault, World}
 use Rattle.usb_pipe.specs.{FaultAfter, ByteTold, PipeFault}
 use Rattle.usb_pipe.specs.declared.fault.PipeFault.TheVariants.{Stalled, Busy, NoAnswer, Broken}
 use Rattle.usb_pipe.specs.declared.fault.PipeFault.TheVariants.{Bus, Memory}
@@ -17,6 +17,8 @@ use Rattle.usb_enum.specs.{Accepted, HubFacts}
 use Rattle.usb_table.specs.{accepted_device_of, accepted_device_at, BitsOf, HubTold, KeepsPolled}
 use Rattle.usb_table.specs.{hub_facts_at, pipes_at, PipesPolled}
 use Rattle.usb_host.specs.{HostState, HasLost, AddsNoWork, HostProgress, HostRuns, HostSteps}
+use Rattle.usb_host.specs.{CutAt, HubFails, KeepsBulk, PortsFail, StaysWhere, drop_failed}
+use Rattle.usb_host.specs.{poll_failed, port_failed}
 use Rattle.usb_host.specs.{Remains, waiting, PolledOnce, PollsHub, ServedTold, first_byte}
 use Rattle.usb_host.specs.{not_heard, told_none, told_some, HostInvariant, table_in, Worked, Quiet}
 use Rattle.usb_host.proofs.rests.Polls.{hub_there}
@@ -120,6 +122,28 @@ module _ (hub : List ℕ) (a b : HostState) (same : b.entries ≡ a.entries)
           rw is at (hub_tells s (went_sound n b.world c.world goes.went still)).tells in
           told_some packet b (once is) t (rw (read ∙ ap first_byte t.is) at (served s));
     }
+
+    -- and the host stopped at one of the ports
+    pub polls_cut : (packet : ArrayVec ℕ) (byte : ℕ) {c : HostState} → got ≡ Some packet
+        → byte ≡ first_byte packet.items → b.world.fault ≡ None
+        → KeepsBulk a b → PortsFail hub byte b c → HostInvariant a → HubFails hub a c
+    polls_cut packet byte is read still bulk fails s =
+        let t : ByteTold (BitsOf hub a.world b.world) packet.items =
+        rw is at (hub_tells s still).tells in
+        port_failed packet b (once is) t bulk (rw (read ∙ ap first_byte t.is) at fails)
+
+  -- it did not answer, and the host stopped then, or as it was to be dropped
+  pub polls_failed : (fault : BusFault) → PipesPolled (pipes_at hub (table_in a)) a.world
+      (Err (Bus fault)) (pipes_at hub (table_in b)) b.world → StaysWhere (Unit {0}) a b
+      → HubFails hub a b
+  polls_failed fault polled stays = poll_failed fault (record { through = polled; remains = r })
+      stays
+
+  pub polls_undropped : (fault : PipeFault) → PipesPolled (pipes_at hub (table_in a)) a.world
+      (Err fault) (pipes_at hub (table_in b)) b.world → {c : HostState}
+      → KeepsBulk a b → CutAt hub b c → HubFails hub a c
+  polls_undropped fault polled bulk cut =
+      drop_failed fault b (record { through = polled; remains = r }) bulk cut
 
   -- it did not answer
   pub polls_lost : (fault : PipeFault) → PipesPolled (pipes_at hub (table_in a)) a.world (Err fault)

@@ -1,6 +1,6 @@
 -- How the parts of a round join as what was done in it.
 use Rattle.std.proofs.Common.{◌≡◌, ◌∙◌, ◌+◌, arith, refl, sym, ap, subst, Bool, false, List, ℕ}
-use Rattle.std.proofs.Common.{Option, Some, Result, Ok, Err, is_err, [], IfOk, IsErr}
+use Rattle.std.proofs.Common.{Option, None, Some, Result, Ok, Err, is_err, [], IfOk, IsErr, OnErr}
 use Rattle.usb_table.specs.{ComesAfter}
 use Rattle.usb_world.specs.{PlanData, changes, root_row}
 use Rattle.usb_enum.proofs.Interface.{went_sound}
@@ -8,7 +8,8 @@ use Rattle.usb_host.specs.{HostWorks}
 use Rattle.usb_host.specs.{hubs_bound, looks_bound, roots_bound, round_bound, Affords, PaysRound}
 use Rattle.usb_host.specs.{Weights, HostState, Waits, HostProgress, Did, Remains, either, DidParts}
 use Rattle.usb_host.specs.{LookedAgain, LookedOnce, LooksAgain, ServesEach, ServesHubs, WentByParts}
-use Rattle.usb_host.specs.{next_device, Part, HostFault, Round, Worked, Quiet}
+use Rattle.usb_host.specs.{next_device, Part, HostFault, HostInvariant, Round, PartsFail, StopsIn}
+use Rattle.usb_host.specs.{Worked, Quiet, hubs_failed, looks_failed, roots_failed}
 use Rattle.usb_host.proofs.rests.IdleRounds.{all_idle, hubs_idle, looks_idle, roots_idle}
 use Rattle.usb_host.proofs.StepSums.{did_then}
 use Rattle.usb_host.proofs.RoundParts.{part-fails, part-then, parts_fail, parts_keep}
@@ -33,13 +34,16 @@ looked_then last path before round a b c looked waits after is once =
 parts_failed : (result : Result Round HostFault) {a b : HostState} → IsErr result
     → Part round_bound a result b
     → ((c : Weights) (plan : PlanData) → Affords c plan a → PaysRound c plan a result b)
-    → (a.entries ≡ [] → changes (root_row a.world) ≡ 0 → ⊥) → WentByParts a result b
-parts_failed (Ok round) e part pays idle = absurd (cc e)
-parts_failed (Err fault) e part pays idle = record {
+    → (a.entries ≡ [] → changes (root_row a.world) ≡ 0 → ⊥) → (HostInvariant a
+    → a.world.fault ≡ None → PartsFail a b)
+    → WentByParts a result b
+parts_failed (Ok round) e part pays idle fails = absurd (cc e)
+parts_failed (Err fault) e part pays idle fails = record {
   keeps = parts_fail refl part;
   did = tt;
   none = λ is. absurd (cc is);
   parts = tt;
+  fails = fails;
   pays = pays;
   idle = λ entries none. absurd (idle entries none);
 }
@@ -51,9 +55,11 @@ module _ {a b : HostState} where
   parts_rootless {fault = fault} {other = other} e x =
       parts_failed other e (part-fails {k = round_bound} other x.part e (omega arith))
       (λ c plan w. roots_fail c plan a b other e x.pays w)
-      (λ entries none. roots_idle a entries none b fault x.idle)
+      (λ entries none. roots_idle a entries none b fault x.idle) 
+      (λ i none. roots_failed (x.fails i none))
 
-  module _ {roots : Round} (x : ServesEach a (Ok roots) b) {d : HostState} where
+  module _ {roots : Round} (x : ServesEach a (Ok roots) b)
+      (working : a.world.fault ≡ None → b.world.fault ≡ None) {d : HostState} where
     -- the hubs failed
     pub parts_hubless : {fault : HostFault} {other : Result Round HostFault} → IsErr other
         → ServesHubs b (Err fault) d → WentByParts a other d
@@ -64,8 +70,11 @@ module _ {a b : HostState} where
         (λ c plan w. hubs_fail a b x.part.goes.went x.part.sound x.pays d y.keeps.part.goes.went c
         plan other e y.pays w)
         (λ entries none. hubs_idle a entries none b roots x.idle d fault y.idle)
+        (λ i none. hubs_failed roots b (x.serves.served i) (x.part.sound.bulk i (working none))
+        (y.fails (x.part.sound.sound.sound i) (working none)))
 
-    module _ {hubs : Round} (y : ServesHubs b (Ok hubs) d) (f : HostState) where
+    module _ {hubs : Round} (y : ServesHubs b (Ok hubs) d)
+        (on : b.world.fault ≡ None → d.world.fault ≡ None) (f : HostState) where
       both_served : Part (roots_bound + hubs_bound) a (Ok hubs) d
       both_served = part-then (Ok hubs) x.part y.keeps.part (omega arith)
 
@@ -80,6 +89,11 @@ module _ {a b : HostState} where
           other e z.keeps w)
           (λ entries none. looks_idle a entries none b roots x.idle d hubs y.idle f fault
           z.keeps.idle)
+          (λ i none.
+          let still = on (working none) in
+          looks_failed roots hubs b d (x.serves.served i)
+          (y.polls (x.part.sound.sound.sound i) still) (both_served.sound.bulk i still)
+          (z.fails (both_served.sound.sound.sound i) still))
 
       -- all was done
       pub parts_made : {looks : Round} → LooksAgain d (Ok looks) f
@@ -107,6 +121,7 @@ module _ {a b : HostState} where
               looked = z.looked (y.keeps.part.sound.sound.sound before);
               is = refl;
             };
+        fails = tt;
         pays = λ c plan w.
             parts_pay a b x.part.goes.went x.part.sound x.pays d y.keeps.part.goes.went hubs
             y.keeps.part.sound y.pays looks_bound f
@@ -122,6 +137,17 @@ did_worked Quiet a b did is = absurd (cc is)
 did_quiet : (r : Round) (a b : HostState) → Did r a b → r ≡ Quiet → Remains a b
 did_quiet Worked a b did is = absurd (cc is)
 did_quiet Quiet a b did is = did
+
+-- one that failed stops
+pub parts_stopped : (result : Result Round HostFault) (a b : HostState) (stopped : Bool)
+    → stopped ≡ is_err result → WentByParts a result b → OnErr result (a.stopped ≡ false
+    → HostInvariant a → a.world.fault ≡ None → StopsIn a (record b { stopped = stopped }))
+parts_stopped (Ok round) a b stopped is went = tt
+parts_stopped (Err fault) a b stopped is went = λ going i none. record {
+  left = b;
+  fails = went.fails i none;
+  stops = ap (λ (x : Bool). record b { stopped = x }) is;
+}
 
 -- a host that has not stopped goes on
 pub parts_done : (result : Result Round HostFault) (a b : HostState) (stopped : Bool)

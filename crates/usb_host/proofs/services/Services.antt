@@ -1,7 +1,7 @@
 -- How the parts of a port's handling make up what was done at the port.
 use Rattle.std.proofs.Common.{◌≡◌, ◌∙◌, inl, inr, refl, sym, ap, arith, length, length-append, ◌<◌}
 use Rattle.std.proofs.Common.{◌≤◌, not, cond, Bool, true, false, ℕ, ◌+◌, List, [], ◌∷◌, ◌++◌, Some}
-use Rattle.std.proofs.Common.{Result, Ok, Err, OnOk}
+use Rattle.std.proofs.Common.{Result, Ok, Err, OnOk, OnErr, MatchResult}
 use Rattle.std.specs.BTreeMap.{insert_entry}
 use Rattle.usb_port.specs.{path_cmp, parent_of, port_on_hub, IsPath, IsPortNumber, is_reset}
 use Rattle.usb_port.specs.{PortCall, PortStatus}
@@ -16,7 +16,8 @@ use Rattle.usb_enum.specs.declared.finding.Finding.TheVariants.{Refused}
 use Rattle.usb_table.specs.{KnownPort, Entries, is_at_or_below, without}
 use Rattle.usb_host.specs.{HostState, claims, HasLost, IsOwned, Watches, EndsAs, StandsAt}
 use Rattle.usb_host.specs.{HostProgress, HostSteps, OnlyBusSteps, HostInvariant, DoneWhere, EndsAt}
-use Rattle.usb_host.specs.{HandlesAt, LookedOnce, LookedOrLost, LosesParent, Renews, ServedAt}
+use Rattle.usb_host.specs.{ForgetsOnWay, HandlesAt, LookedOnce, LookedOrLost, LosesParent, Renews}
+use Rattle.usb_host.specs.{ServedAt}
 use Rattle.usb_host.specs.{ServedOrLost, StaysOrForgets, TidiesTold, was_tidied, was_looked_at}
 use Rattle.usb_host.specs.{was_lost, looked_once, lost_once, HostFault}
 use Rattle.usb_host.proofs.OwnedPorts.{owned_rests}
@@ -100,12 +101,10 @@ module _ {path : List ℕ} {port : KnownPort} {a b : HostState} (s : StandsAt pa
 
   -- the hub was lost as it was asked for the status
   pub status_failed : (fault : EnumFault) → ServedOrLost path a (Err fault) b
-  status_failed ParentLost = inl stays
-  status_failed _ = tt
+  status_failed fault = inl stays
 
   pub cleared_failed : (fault : EnumFault) → LookedOrLost path a (Err fault) b
-  cleared_failed ParentLost = inl stays
-  cleared_failed _ = tt
+  cleared_failed fault = inl stays
 
   module _ {status : PortStatus} (x : Watches port.port a.world (Ok status) b.world) where
     told_now : PortStatusAt path status a.world b.world
@@ -126,23 +125,20 @@ module _ {path : List ℕ} {port : KnownPort} {a b : HostState} (s : StandsAt pa
       clears = t.clears (claims b.entries) path (stands_at-claim (rests_stands s r went)) owned_now;
       rests = host_rests_then a c r q;
     })
-    serves_tidied off (Err ParentLost) c q t =
+    serves_tidied off (Err fault) c q t =
         inl (ap (λ (h : HostState). h.entries) (host_rests_then a c r q))
-    serves_tidied off _ c q t = tt
 
     -- one was
     pub serves_looked : status.connection_changed ≡ true
         → (result : Result (Unit {0}) EnumFault) (c : HostState)
         → (IsOwned b → LookedOrLost path b result c) → ServedOrLost path a result c
     serves_looked on (Ok done) c x = was_looked_at status b told_now on r (x owned_now)
-    serves_looked on (Err ParentLost) c x = rw stays at (x owned_now)
-    serves_looked on _ c x = tt
+    serves_looked on (Err fault) c x = rw stays at (x owned_now)
 
--- the hub was lost after what stood there was forgotten
+-- what stood there was forgotten, and no more was done
 pub found_failed : (path : List ℕ) (a c d : HostState) (fault : EnumFault)
     → c.entries ≡ without path a.entries → d.entries ≡ c.entries → LookedOrLost path a (Err fault) d
-found_failed path a c d ParentLost gone same = inr (same ∙ gone)
-found_failed path a c d _ gone same = tt
+found_failed path a c d fault gone same = inr (same ∙ gone)
 
 -- A port was handled
 
@@ -169,12 +165,17 @@ pub handles_at : (path : List ℕ) (due : Type 0) (result : Result (Unit {0}) Ho
 handles_at path due (Ok done) a c x y = record { advances = x; served = y }
 handles_at path due (Err fault) a c x y = tt
 
--- a hub that was dropped is the port's own, or stands above it
+-- a hub that was dropped is the port's own, or stands above it; so does one that could not be
 pub loses_parent : (path hub : List ℕ) (old new : Entries) (result : Result (Unit {0}) HostFault)
     → parent_of path ≡ Some hub → OnOk result (HasLost hub old new)
-    → OnOk result (LosesParent path old new)
-loses_parent path hub old new (Ok done) above x = record { hub = hub; parent = above; loses = x }
-loses_parent path hub old new (Err fault) above x = tt
+    → OnErr result (ForgetsOnWay hub old new)
+    → MatchResult result (λ _. LosesParent path old new) (λ _. ForgetsOnWay path old new)
+loses_parent path hub old new (Ok done) above x y = record { hub = hub; parent = above; loses = x }
+loses_parent path hub old new (Err fault) above x y = record {
+  on = y.on;
+  way = way_trans y.on hub path y.way (way_parent path hub above);
+  left = y.left;
+}
 
 pub same_last : (q : List ℕ) {m n : ℕ} → q ++ m ∷ [] ≡ q ++ n ∷ [] → m ≡ n
 same_last [] e = cc e

@@ -1,19 +1,114 @@
--- As long as the bus is at work, what went over a run is a course of steps.
-use Rattle.std.proofs.Common.{◌≡◌, ℕ, List, Bool, Option, None, Some, Result, Ok, Err, ap, sym}
-use Rattle.std.proofs.Common.{subst}
+-- What holds over each step of a run holds over its parts. As long as the bus is at work, what went
+-- over a run is a course of steps; whether it is or not, address losses only grow.
+use Rattle.std.proofs.Common.{◌≡◌, arith, ℕ, List, Bool, Option, None, Some, Result, Ok, Err, ap}
+use Rattle.std.proofs.Common.{sym, subst, refl, is_some}
 use Rattle.usb_world.specs.declared.event.Ask.{Ask}
-use Rattle.usb_world.specs.{Attempt, BusFault, Outcome, AnyStep, Course, here, step, attempt}
-use Rattle.usb_world.specs.{root_call, event, after, World}
-use Rattle.usb_world.proofs.Interface.{course_joined}
+use Rattle.usb_world.specs.{Attempt, BusFault, Failed, Limit, Memory, Outcome, AnyStep}
+use Rattle.usb_world.specs.{Course, here, step, attempt, root_call, event, after, World}
+use Rattle.usb_world.proofs.Interface.{course_joined, over_step}
 use Rattle.usb_bus.specs.{Attempts, TakesEvent, Traced, still, attempted, called}
+use Rattle.usb_bus.proofs.Interface.{OverFaults, over_traced}
 use Rattle.usb_host.specs.{HostState}
 use Rattle.usb_run.specs.{Item, RunFault, Mode, Arrives, Comes, Ran, idle, silent, Reaches, Settles}
 use Rattle.usb_run.specs.{Makes, asked, last, RunStops, in_round, at_event, in_item, in_last}
-use Rattle.usb_run.specs.{AppendsText, CutsText, begun, told}
+use Rattle.usb_run.specs.{AppendsText, CutsText, RunsTo, StoppedRun, begun, behind, in_text}
+use Rattle.usb_run.specs.{on_the_way, told, unwritten}
 use Rattle.usb_run.specs.Transcript.{Transcript}
 use Rattle.usb_run.proofs.courses.RunParts.{Called, item_called, settles_called, stop_called}
 use Rattle.usb_run.proofs.courses.RunParts.{unsettled_called}
-use Rattle.usb_enum.proofs.Interface.{sound_before}
+use Rattle.usb_enum.proofs.Interface.{IsWorse, sound_before, worse_steps}
+
+-- Relations
+
+-- a relation that each world has to itself, that joins, and that holds over attempts and root
+-- calls, over an event, and where a line was not written whole
+pub record OverRuns (R : World → World → Type 0) : Type 0 where
+  pub same : (w : World) → R w w
+  pub joined : (w m v : World) → R w m → R m v → R w v
+  pub traced : (w v : World) {t s : Option (List ℕ)} → Traced w t v s → R w v
+  pub took : (w v : World) (result : Result (Option (Option Ask)) BusFault)
+      {t s : Option (List ℕ)} → TakesEvent w t result v s → R w v
+  pub cut : (w v : World) → v ≡ record w { fault = v.fault } → (v.fault ≡ None → v ≡ w) → R w v
+
+module _ {R : World → World → Type 0} (l : OverRuns R) where
+  over_called : {a b : HostState} → Called a b → R a.world b.world
+  over_called {a} {b} calls = l.traced a.world b.world calls.went.traced
+
+  over_comes : {a b : HostState} {result : Result (Option (Option Ask)) BusFault}
+      → Comes a result b → R a.world b.world
+  over_comes {a} {b} {result} comes = l.took a.world b.world result comes.takes
+
+  over_settles : {a b : HostState} → Settles a b → R a.world b.world
+  over_settles settles = over_called (settles_called settles)
+
+  over_arrives : {a b : HostState} {result : Result (Option (Option Ask)) BusFault}
+      → Arrives a result b → R a.world b.world
+  over_arrives {a} {b} arrives = l.joined a.world arrives.mid.world b.world
+      (over_settles arrives.settles) (over_comes arrives.comes)
+
+  over_ran : {a b : HostState} → Ran a b → R a.world b.world
+  over_ran {a} idle = l.same a.world
+  over_ran {a} (silent {h} {k} due before arrives is) =
+      l.joined a.world h.world k.world (over_ran before) (over_arrives arrives)
+
+  over_reaches : {a b : HostState} {result : Result (Option (Option Ask)) BusFault}
+      → Reaches a result b → R a.world b.world
+  over_reaches {a} {b} reaches = l.joined a.world reaches.behind.world b.world
+      (over_ran reaches.ran) (over_arrives reaches.arrives)
+
+  pub over_makes : {a b : HostState} {item : Item} {over : Bool} → Makes a item over b
+      → R a.world b.world
+  over_makes {a} (asked {item} {mid} {new} due reaches is right) =
+      l.joined a.world mid.world new.world (over_reaches reaches)
+      (over_called (item_called due (Some item) mid new is))
+  over_makes (last reaches settled) = over_reaches reaches
+
+  pub over_stops : {a b : HostState} {fault : RunFault} → RunStops a fault b → R a.world b.world
+  over_stops {a} (in_round {behind} {new} ran unsettled) =
+      l.joined a.world behind.world new.world (over_ran ran)
+      (over_called (unsettled_called unsettled))
+  over_stops (at_event fault reaches) = over_reaches reaches
+  over_stops {a} (in_item {mid} {new} {fault} due reaches stops) =
+      l.joined a.world mid.world new.world (over_reaches reaches)
+      (over_called (stop_called due fault mid new stops))
+  over_stops (in_last reaches) = over_reaches reaches
+
+  pub over_puts : {h k : HostState} {text : List ℕ} → AppendsText text h k → R h.world k.world
+  over_puts {h} puts = subst (R h.world) (sym (ap (λ (x : HostState). x.world) puts.rest))
+      (l.same h.world)
+
+  pub over_cuts : {h k : HostState} {text : List ℕ} → CutsText text h k → R h.world k.world
+  over_cuts {h} {k} cuts = l.cut h.world k.world (ap (λ (x : HostState). x.world) cuts.rest)
+      cuts.still
+
+  -- a run up to its last world
+  pub over_transcript : {mode : Mode} {was : Bool} {old : HostState} {items : List Item}
+      {over : Bool} {new : HostState} → Transcript mode was old items over new
+      → R old.world new.world
+  over_transcript {old = old} begun = l.same old.world
+  over_transcript {old = old} (told {h = h} {k = k} {new = new} t makes puts) =
+      l.joined old.world h.world new.world (over_transcript t)
+      (l.joined h.world k.world new.world (over_makes makes) (over_puts puts))
+
+  over_stopped : {mode : Mode} {IsOf : RunFault → Type 0} {IsCut : Type 0} {was : Bool}
+      {old : HostState} {items : List Item} {new : HostState}
+      → StoppedRun mode IsOf IsCut was old items new → R old.world new.world
+  over_stopped {old = old} (on_the_way {h = h} {new = new} of t stops) =
+      l.joined old.world h.world new.world (over_transcript t) (over_stops stops)
+  over_stopped {old = old} (unwritten {h = h} {new = new} whole t makes) =
+      l.joined old.world h.world new.world (over_transcript t) (over_makes makes)
+  over_stopped (behind whole t) = over_transcript t
+  over_stopped {old = old} (in_text {h = h} {k = k} {new = new} cut t makes cuts) =
+      l.joined old.world h.world new.world (over_transcript t)
+      (l.joined h.world k.world new.world (over_makes makes) (over_cuts cuts))
+
+  pub over_run : {A E : Type 0} (mode : Mode) (words : RunFault → E) (CutsAt : E → Type 0)
+      (was : Bool) (old : HostState) (items : List Item) (result : Result A E) (new : HostState)
+      → RunsTo mode words CutsAt was old items result new → R old.world new.world
+  over_run mode words CutsAt was old items (Ok done) new t = over_transcript t
+  over_run mode words CutsAt was old items (Err fault) new t = over_stopped t
+
+-- As long as the bus is at work
 
 -- the bus was at work, and these were its steps
 pub record Running (old new : World) : Type 0 where
@@ -66,66 +161,71 @@ takes_onward w v (Ok due) takes h =
     }
 takes_onward w v (Err fault) takes h = absurd (cc (h, takes.took.ends.told))
 
--- Parts of a run
+pub onward_runs : OverRuns RunsOnward
+onward_runs = record {
+  same = runs_onward_none;
+  joined = onward_then;
+  traced = λ w v traced. traced_runs_onward traced;
+  took = λ w v result takes. takes_onward w v result takes;
+  cut = λ w v rest still none. subst (RunsOnward w) (sym (still none)) (runs_onward_none w) none;
+}
 
 abbrev pub KeepsRunning : HostState → HostState → Type 0
 KeepsRunning old new = RunsOnward old.world new.world
 
 pub called_onward : {a b : HostState} → Called a b → KeepsRunning a b
-called_onward calls = traced_runs_onward calls.went.traced
+called_onward calls = over_called onward_runs calls
 
 pub comes_onward : {a b : HostState} {result : Result (Option (Option Ask)) BusFault}
     → Comes a result b → KeepsRunning a b
-comes_onward {a} {b} {result} comes = takes_onward a.world b.world result comes.takes
+comes_onward comes = over_comes onward_runs comes
 
 pub settles_onward : {a b : HostState} → Settles a b → KeepsRunning a b
-settles_onward settles = called_onward (settles_called settles)
-
-pub arrives_onward : {a b : HostState} {result : Result (Option (Option Ask)) BusFault}
-    → Arrives a result b → KeepsRunning a b
-arrives_onward {a} {b} arrives = onward_then a.world arrives.mid.world b.world
-    (settles_onward arrives.settles) (comes_onward arrives.comes)
-
-pub ran_onward : {a b : HostState} → Ran a b → KeepsRunning a b
-ran_onward {a} idle = runs_onward_none a.world
-ran_onward {a} (silent {h} {k} due before arrives is) =
-    onward_then a.world h.world k.world (ran_onward before) (arrives_onward arrives)
-
-pub reaches_onward : {a b : HostState} {result : Result (Option (Option Ask)) BusFault}
-    → Reaches a result b → KeepsRunning a b
-reaches_onward {a} {b} reaches = onward_then a.world reaches.behind.world b.world
-    (ran_onward reaches.ran) (arrives_onward reaches.arrives)
-
-pub makes_onward : {a b : HostState} {item : Item} {over : Bool} → Makes a item over b
-    → KeepsRunning a b
-makes_onward {a} (asked {item} {mid} {new} due reaches is right) =
-    onward_then a.world mid.world new.world (reaches_onward reaches)
-    (called_onward (item_called due (Some item) mid new is))
-makes_onward (last reaches settled) = reaches_onward reaches
-
-pub stops_onward : {a b : HostState} {fault : RunFault} → RunStops a fault b → KeepsRunning a b
-stops_onward {a} (in_round {behind} {new} ran unsettled) =
-    onward_then a.world behind.world new.world (ran_onward ran)
-    (called_onward (unsettled_called unsettled))
-stops_onward (at_event fault reaches) = reaches_onward reaches
-stops_onward {a} (in_item {mid} {new} {fault} due reaches stops) =
-    onward_then a.world mid.world new.world (reaches_onward reaches)
-    (called_onward (stop_called due fault mid new stops))
-stops_onward (in_last reaches) = reaches_onward reaches
+settles_onward settles = over_settles onward_runs settles
 
 pub puts_onward : {h k : HostState} {text : List ℕ} → AppendsText text h k → KeepsRunning h k
-puts_onward {h} puts = subst (RunsOnward h.world) (sym (ap (λ (x : HostState). x.world) puts.rest))
-    (runs_onward_none h.world)
+puts_onward puts = over_puts onward_runs puts
 
--- a run up to its last world
-pub transcript_onward : {mode : Mode} {was : Bool} {old : HostState} {items : List Item}
-    {over : Bool} {new : HostState} → Transcript mode was old items over new → KeepsRunning old new
-transcript_onward {old = old} begun = runs_onward_none old.world
-transcript_onward {old = old} (told {h = h} {k = k} {new = new} t makes puts) =
-    onward_then old.world h.world new.world (transcript_onward t)
-    (onward_then h.world k.world new.world (makes_onward makes) (puts_onward puts))
+-- Whatever became of the bus
 
--- where a line was not written whole, the bus told its fault
-pub cuts_onward : {h k : HostState} {text : List ℕ} → CutsText text h k → KeepsRunning h k
-cuts_onward {h} {k} cuts none = subst (RunsOnward h.world) (sym (cuts.still none))
-    (runs_onward_none h.world) none
+worse_faults : OverFaults IsWorse
+worse_faults = record {
+  steps = worse_steps;
+  cut = λ k w. omega arith;
+  told = λ fault w. omega arith;
+}
+
+worse_same : (w v : World) → v ≡ w → IsWorse w v
+worse_same w v same = subst (IsWorse w) (sym same) (omega arith)
+
+worse_told : (fault : BusFault) (w v : World) → v ≡ record w { fault = Some fault } → IsWorse w v
+worse_told fault w v same = subst (IsWorse w) (sym same) (omega arith)
+
+worse_event : (w : World) → IsWorse w (after event w)
+worse_event w = over_step worse_steps event w tt
+
+worse_took : (w v : World) (result : Result (Option (Option Ask)) BusFault)
+    {t s : Option (List ℕ)} → TakesEvent w t result v s → IsWorse w v
+worse_took w v (Ok due) takes = subst (IsWorse w) (sym takes.exact) (worse_event w)
+worse_took w v (Err fault) {t} {s} takes = split w.fault refl fault takes
+  where
+    failed : (fault : BusFault) → TakesEvent w t (Err fault) v s → w.fault ≡ None → IsWorse w v
+    failed Limit takes none = absurd (cc (ap is_some none, takes.limit refl))
+    failed Memory takes none = worse_told Memory w v (takes.kept refl none)
+    failed Failed takes none =
+        let came = worse_event w in
+        subst (IsWorse w) (sym (takes.cut refl none)) came
+
+    split : (x : Option BusFault) → w.fault ≡ x → (fault : BusFault)
+        → TakesEvent w t (Err fault) v s → IsWorse w v
+    split None e fault takes = failed fault takes e
+    split (Some before) e fault takes = worse_same w v (takes.took.again before e).1
+
+pub worse_runs : OverRuns IsWorse
+worse_runs = record {
+  same = λ w. omega arith;
+  joined = λ w m v x y. omega (arith, x, y);
+  traced = λ w v traced. over_traced worse_faults traced;
+  took = λ w v result takes. worse_took w v result takes;
+  cut = λ w v rest still. subst (IsWorse w) (sym rest) (omega arith);
+}

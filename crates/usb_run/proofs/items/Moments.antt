@@ -1,14 +1,21 @@
 -- What is right of the items of a plan's run.
 use Rattle.std.proofs.Common.{◌≡◌, ◌∙◌, refl, sym, ap, subst, true, false, length, List, [], ◌∷◌}
-use Rattle.std.proofs.Common.{Bool, Option, None, Some, Result, Ok, Err}
+use Rattle.std.proofs.Common.{Bool, Option, None, Some, Result, Ok, Err, arith, ℕ}
 use Rattle.std.specs.List.{AllByRecursion}
 use Rattle.usb_device.specs.{Spec, Ports}
 use Rattle.usb_world.specs.{Action, Show, Send, Receive, Clear, Event, BusFault, PlanData, IsPlan}
-use Rattle.usb_world.specs.{AtPorts, after, ask_of, event, event_taken, after_change, opening}
+use Rattle.usb_world.specs.{AtMostTwoRunning, AtPorts, after, ask_of, event, event_taken}
+use Rattle.usb_world.specs.{after_change, opening}
 use Rattle.usb_world.specs.{after_event, after_first_event, World}
 use Rattle.usb_world.specs.declared.event.Action.TheVariants as act
 use Rattle.usb_world.specs.declared.event.Ask.{Ask}
 use Rattle.usb_bus.specs.{next_due}
+use Rattle.usb_world.specs.{AreOfDamages, Damage}
+use Rattle.usb_world.proofs.Interface.{no_losses_yet}
+use Rattle.usb_address.proofs.Interface.{opening_settled}
+use Rattle.usb_bus.specs.{Traced}
+use Rattle.usb_enum.specs.{FewLosses}
+use Rattle.usb_enum.proofs.Interface.{IsWorse, course_later}
 use Rattle.usb_table.specs.{Delivered}
 use Rattle.usb_table.proofs.Interface.{lists_of_plan}
 use Rattle.usb_host.specs.{HostState, IsFairTo, table_in}
@@ -19,11 +26,12 @@ use Rattle.usb_run.specs.declared.runs.Item.TheVariants as item
 use Rattle.usb_run.specs.Transcript.{Transcript}
 use Rattle.usb_run.proofs.AskedCalls.{AskAnswered, silent, listed, sent, received, cleared}
 use Rattle.usb_run.proofs.AskedCalls.{answered}
-use Rattle.usb_run.proofs.courses.KnowledgeKept.{arrival_settled, fair_after, fair_before}
+use Rattle.usb_run.proofs.courses.KnowledgeKept.{arrival_settled}
 use Rattle.usb_run.proofs.courses.KnowledgeKept.{reaches_knows, reaches_running, reaches_still}
-use Rattle.usb_run.proofs.courses.RunCourses.{RunsOnward, cuts_onward, makes_onward}
-use Rattle.usb_run.proofs.courses.RunCourses.{runs_onward_none, onward_then, puts_onward}
-use Rattle.usb_run.proofs.courses.RunCourses.{stops_onward, transcript_onward}
+use Rattle.usb_run.proofs.courses.RunCourses.{RunsOnward, onward_runs, onward_then, over_cuts}
+use Rattle.usb_run.proofs.courses.RunCourses.{over_makes, over_puts, over_stops, over_transcript}
+use Rattle.usb_run.proofs.courses.DamagedLosses.{damages_runs}
+use Rattle.usb_run.proofs.courses.RunCourses.{over_run, traced_runs_onward, worse_runs}
 use Rattle.usb_run.proofs.items.ToldTransfers.{told_sent, told_received, told_cleared, count_done}
 
 -- What is asked changes nothing that is plugged
@@ -49,24 +57,6 @@ asked_calm : (ask : Ask) (w : World) → next_due w ≡ Some (Some ask)
     → (after event w).roots ≡ w.roots
 unfolding after
 asked_calm ask w e = taken_calm ask w.fault w e
-
--- a run that is over ended with the bus at work
-
-made_still : {h k : HostState} {made : Item} {over : Bool} → Makes h made over k → over ≡ true
-    → k.world.fault ≡ None
-made_still (asked due reaches is right) e = absurd (cc e)
-made_still (last reaches settled) e = reaches_still reaches
-
-over_still : {mode : Mode} {was : Bool} {old : HostState} {items : List Item} {over : Bool}
-    {new : HostState} → Transcript mode was old items over new → was ≡ false → over ≡ true
-    → new.world.fault ≡ None
-over_still begun was over = absurd (cc (was, over))
-over_still (told t makes puts) was over = ap (λ (x : HostState). x.world.fault) puts.rest
-    ∙ made_still makes over
-
-pub done_still : {mode : Mode} {old : HostState} {items : List Item} {new : HostState}
-    → Transcript mode false old items true new → new.world.fault ≡ None
-done_still t = over_still t refl refl
 
 -- What an item tells
 
@@ -119,87 +109,105 @@ item_right due made h mid k reaches is = right (answered due (Some made) mid k i
 -- Each listing is what is plugged
 
 module _ (plan : PlanData) (rules : IsPlan plan) (paths : AtPorts plan.events) (end : World)
-    (fair : IsFairTo (opening plan) end) where
+    (two : AtMostTwoRunning plan.damages) (few : FewLosses end) where
   -- a host that has settled on the way lists it
-  listing_right : (h : HostState) → RunsOnward (opening plan) h.world → RunsOnward h.world end
-      → Settled h → IsListingOf plan (listing_of h)
-  listing_right h before on settled =
-      let early = fair_before (opening plan) h.world end on fair in
-      let here = fair_after (opening plan) h.world h.world before early.still early in
-      lists_of_plan plan rules paths h.world (before early.still).course h.entries
-      (settled.matches here)
+  listing_right : (h : HostState) → RunsOnward (opening plan) h.world → h.world.fault ≡ None
+      → IsWorse h.world end → Settled h → IsListingOf plan (listing_of h)
+  listing_right h before still on settled =
+      let here : IsFairTo h.world h.world = record {
+        still = still;
+        few = subst AtMostTwoRunning (sym (course_later (before still).course).damages) two;
+        kept = omega (arith, on, few);
+      } in
+      lists_of_plan plan rules paths h.world (before still).course h.entries (settled.matches here)
 
   due_right : {due : Option Ask} (made : Item) (mid k : HostState)
-      → RunsOnward (opening plan) k.world
-      → RunsOnward k.world end → AskAnswered due (Some made) mid k → TellsRight due made mid k
-      → IsListingOf plan made
-  due_right made mid k before on (silent nothing same) right = absurd (cc nothing)
-  due_right made mid k before on (listed asks e same) right =
+      → RunsOnward (opening plan) k.world → mid.world.fault ≡ None → IsWorse k.world end
+      → AskAnswered due (Some made) mid k → TellsRight due made mid k → IsListingOf plan made
+  due_right made mid k before still on (silent nothing same) right = absurd (cc nothing)
+  due_right made mid k before still on (listed asks e same) right =
       let is : made ≡ listing_of k = cc e in
       let settled = subst (λ d. TellsRight d made mid k) asks right in
-      subst (IsListingOf plan) (sym is) (listing_right k before on settled)
-  due_right made mid k before on (sent path bytes answer asks e came) right =
+      let works = ap (λ (h : HostState). h.world.fault) same ∙ still in
+      subst (IsListingOf plan) (sym is) (listing_right k before works on settled)
+  due_right made mid k before still on (sent path bytes answer asks e came) right =
       let is : made ≡ item.Sent path (sent_count (length bytes) answer) = cc e in
       subst (IsListingOf plan) (sym is) tt
-  due_right made mid k before on (received path packets answer asks e came) right =
+  due_right made mid k before still on (received path packets answer asks e came) right =
       let is : made ≡ item.Received path answer = cc e in
       subst (IsListingOf plan) (sym is) tt
-  due_right made mid k before on (cleared path answer asks e came) right =
+  due_right made mid k before still on (cleared path answer asks e came) right =
       let is : made ≡ item.Cleared path answer = cc e in
       subst (IsListingOf plan) (sym is) tt
 
   made_right : {h k : HostState} {made : Item} {over : Bool} → RunsOnward (opening plan) h.world
-      → Makes h made over k → RunsOnward k.world end → IsListingOf plan made
+      → Makes h made over k → IsWorse k.world end → IsListingOf plan made
   made_right {h} {k} {made} before (asked {mid = mid} due reaches is right) on =
-      due_right made mid k (onward_then (opening plan) h.world k.world before
-      (makes_onward (asked {item = made} {mid = mid} {new = k} due reaches is right))) on
-      (answered due (Some made) mid k is) right
+      due_right made mid k (onward_then (opening plan) h.world k.world before (over_makes
+      onward_runs (asked {item = made} {mid = mid} {new = k} due reaches is right)))
+      (reaches_still reaches) on (answered due (Some made) mid k is) right
   made_right {h} {k} before (last reaches settled) on =
       listing_right k (onward_then (opening plan) h.world k.world before
-      (makes_onward (last {new = k} reaches settled))) on settled
+      (over_makes onward_runs (last {new = k} reaches settled))) (reaches_still reaches) on settled
 
   items_right : {mode : Mode} {was : Bool} {old : HostState} {items : List Item} {over : Bool}
       {new : HostState} → RunsOnward (opening plan) old.world
-      → Transcript mode was old items over new → RunsOnward new.world end
+      → Transcript mode was old items over new → IsWorse new.world end
       → AllByRecursion (IsListingOf plan) items
   items_right before begun on = tt
   items_right {old = old} before (told {h = h} {k = k} {new = new} t makes puts) on =
-      let here = onward_then (opening plan) old.world h.world before (transcript_onward t) in
-      let later = onward_then k.world new.world end (puts_onward puts) on in (
+      let here = onward_then (opening plan) old.world h.world before
+      (over_transcript onward_runs t) in
+      let later = worse_runs.joined k.world new.world end (over_puts worse_runs puts) on in (
         made_right here makes later,
-        items_right before t (onward_then h.world k.world end (makes_onward makes) later),
+        items_right before t
+            (worse_runs.joined h.world k.world end (over_makes worse_runs makes) later),
       )
 
   stopped_right : {mode : Mode} {IsOf : RunFault → Type 0} {IsCut : Type 0} {was : Bool}
       {old : HostState} {items : List Item} {new : HostState} → RunsOnward (opening plan) old.world
       → StoppedRun mode IsOf IsCut was old items new
-      → RunsOnward new.world end → AllByRecursion (IsListingOf plan) items
+      → IsWorse new.world end → AllByRecursion (IsListingOf plan) items
   stopped_right before (on_the_way {h = h} {new = new} of t stops) on =
-      items_right before t (onward_then h.world new.world end (stops_onward stops) on)
+      items_right before t
+      (worse_runs.joined h.world new.world end (over_stops worse_runs stops) on)
   stopped_right before (unwritten {h = h} {new = new} whole t makes) on =
-      items_right before t (onward_then h.world new.world end (makes_onward makes) on)
+      items_right before t
+      (worse_runs.joined h.world new.world end (over_makes worse_runs makes) on)
   stopped_right before (behind whole t) on = items_right before t on
   stopped_right {old = old} before (in_text {h = h} {k = k} {new = new} cut t makes cuts) on =
-      let here = onward_then (opening plan) old.world h.world before (transcript_onward t) in
-      let later = onward_then k.world new.world end (cuts_onward cuts) on in (
+      let here = onward_then (opening plan) old.world h.world before
+      (over_transcript onward_runs t) in
+      let later = worse_runs.joined k.world new.world end (over_cuts worse_runs cuts) on in (
         made_right here makes later,
-        items_right before t (onward_then h.world k.world end (makes_onward makes) later),
+        items_right before t
+            (worse_runs.joined h.world k.world end (over_makes worse_runs makes) later),
       )
 
   run_right : {A E : Type 0} (mode : Mode) (words : RunFault → E) (CutsAt : E → Type 0) (was : Bool)
       (old : HostState) (items : List Item) (new : HostState) (result : Result A E)
       → RunsOnward (opening plan) old.world
-      → RunsTo mode words CutsAt was old items result new → RunsOnward new.world end
+      → RunsTo mode words CutsAt was old items result new → IsWorse new.world end
       → AllByRecursion (IsListingOf plan) items
   run_right mode words CutsAt was old items new (Ok done) before t on = items_right before t on
   run_right mode words CutsAt was old items new (Err fault) before t on = stopped_right before t on
 
--- each listing of a run is right where damage is fair
+-- each listing of a run is right
 pub run_lists_right : {A E : Type 0} (plan : PlanData) → IsPlan plan → AtPorts plan.events
     → (mode : Mode) (words : RunFault → E) (CutsAt : E → Type 0) (was : Bool) (old : HostState)
     (items : List Item) (new : HostState) (result : Result A E)
-    → RunsOnward (opening plan) old.world → RunsTo mode words CutsAt was old items result new
-    → ListsRight plan items new.world
-run_lists_right plan rules paths mode words CutsAt was old items new result before t =
-    λ fair. run_right plan rules paths new.world fair mode words CutsAt was old items new result
-    before t (runs_onward_none new.world)
+    {t s : Option (List ℕ)} → Traced (opening plan) t old.world s
+    → RunsTo mode words CutsAt was old items result new → ListsRight plan items new.world
+run_lists_right plan rules paths mode words CutsAt was old items new result traced t =
+    let l = damages_runs plan.damages in
+    let all = l.joined (opening plan) old.world new.world
+    (l.traced (opening plan) old.world traced)
+    (over_run l mode words CutsAt was old items result new t) in
+    let lost = all.stays (λ none. opening_settled plan)
+    (record { same = refl; lost = no_losses_yet plan.damages }) in
+    record {
+      losses = subst (λ (ds : List Damage). AreOfDamages new.world.attempts ds new.world.losses)
+          lost.same lost.lost;
+      right = λ two few. run_right plan rules paths new.world two few mode words CutsAt was old
+          items new result (traced_runs_onward traced) t (worse_runs.same new.world);
+    }

@@ -18,8 +18,7 @@ use Rattle.usb_run.specs.Transcript.{Transcript}
 use Rattle.usb_run.proofs.endings.Causes.{at_fault, run_limit, untold_trace}
 use Rattle.usb_run.proofs.endings.Ends.{limit_opened}
 use Rattle.usb_run.proofs.courses.KnowledgeKept.{makes_knows}
-use Rattle.usb_run.proofs.items.Moments.{done_still, run_lists_right}
-use Rattle.usb_run.proofs.courses.RunCourses.{traced_runs_onward}
+use Rattle.usb_run.proofs.items.Moments.{run_lists_right}
 use Rattle.usb_run.proofs.courses.RunParts.{makes_spent, spent_then, within_limit}
 use Rattle.usb_run.proofs.items.Transcripts.{ends_failed, over_next, appends_no_text, stopped_next}
 use Rattle.usb_run.proofs.items.Transcripts.{told_next}
@@ -147,7 +146,7 @@ runs_opened plan before over h k result opens at_work finishes single untraced =
           ∙ limit_opened plan h opens;
       single = single;
       lists = run_lists_right plan opens.rules opens.paths Tree itself never false h so.items k
-          result (traced_runs_onward opens.traced) so.ends;
+          result opens.traced so.ends;
     }
 
 -- with what is told of it, where no line is made
@@ -171,11 +170,7 @@ runs_plugged : (plan : PlanData) (report : Report) → RunsWell plan (Ok report)
 runs_plugged plan report runs few = λ worst.
     let told = runs.finishes.report in
     reported (IsListingOf plan) report.items.items runs.finishes.items told.items_made
-    (runs.lists (record {
-      still = done_still runs.finishes.ends;
-      few = few;
-      kept = subst (λ n. n ≤ 2) told.worst worst;
-    }))
+    (runs.lists.right few (subst (λ n. n ≤ 2) told.worst worst))
 
 pub ends_plugged : (plan : PlanData) (result : Result Report RunFault) → EndsWell plan result
     → AtMostTwoRunning plan.damages → IfOk result (ListsPlugged plan)

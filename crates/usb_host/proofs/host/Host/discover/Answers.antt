@@ -52,7 +52,8 @@ returns-in_err-enter-clause-finds g c known =
     rw (← c.self.view_is, told.1, told.2) (discover_lost s away c.self.invariant.accounts
     (c.enumerate.ensures.steps known) refl
     (rw c.tier.ensures at (c.in_ok-finding.ensures.ends known))
-    (ap (λ (t : Table). t.entries) c.in_err-enter.ensures.err.0))
+    (ap (λ (t : Table). t.entries) c.in_err-enter.ensures.err.0)
+    (ap (λ (t : Table). t.pipes) c.in_err-enter.ensures.err.0))
 
 pub returns-clause-finds : goal.returns-clause-finds
 returns-clause-finds g c known =

@@ -49,8 +49,7 @@ returns-in_err-insert-clause-drops g c known =
       pipes = c.insert.new.self.pipes;
       addresses = c.self.inside.pool;
     }) c.self.view_is in
-    let same = ap (λ (t : Table). t.entries) c.in_err-insert.ensures.err ∙ ap
-    (λ (h : HostState). h.entries) c.self.view_is in
+    let same = c.in_err-insert.ensures.err ∙ ap (λ (h : HostState). table_in h) c.self.view_is in
     rw told.1 (drop_unlisted _ c.in_ok-lost.ensures.rests (c.in_ok-lost.ensures.climbs known)
     c.forget.ensures others told.0 same)
 

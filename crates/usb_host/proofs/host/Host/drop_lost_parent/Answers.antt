@@ -1,4 +1,4 @@
-use Rattle.std.proofs.Common.{◌≡◌, ◌∙◌, ap, sym, Err}
+use Rattle.std.proofs.Common.{◌≡◌, ◌∙◌, ap, refl, sym, Err}
 use Rattle.usb_port.specs.{parent_of}
 use Rattle.usb_enum.specs.{EnumFault, Bus, Memory, ParentLost}
 use Rattle.usb_host.proofs.PortDrops.{finish_done, finish_lost, no_parent}
@@ -14,14 +14,14 @@ returns-in-Err-Bus-clause-finishes g c known =
     let fault : c.in-Err-Bus.field-0 ≡ Bus c.in-Err-Bus.fault =
     rw c.in-Err-Bus.is at c.in-Err-Bus.field-0-is in
     rw (c.in-Err-Bus.is, fault) (finish_fails c.args.path.now c.args.self.now (λ is. absurd (cc is))
-    (λ single. single) tt)
+    (λ single. single) refl)
 
 pub returns-in-Err-Memory-clause-finishes : goal.returns-in-Err-Memory-clause-finishes
 returns-in-Err-Memory-clause-finishes g c known =
     let fault : c.in-Err-Memory.field-0 ≡ Memory =
     rw c.in-Err-Memory.is at c.in-Err-Memory.field-0-is in
     rw (c.in-Err-Memory.is, fault) (finish_fails c.args.path.now c.args.self.now
-    (λ is. absurd (cc is)) (λ single. single) tt)
+    (λ is. absurd (cc is)) (λ single. single) refl)
 
 pub returns-in-Some-clause-finishes : goal.returns-in-Some-clause-finishes
 returns-in-Some-clause-finishes g c known =

@@ -34,5 +34,7 @@ returns-clause-handles g c known =
 
 pub returns-in_err-service_port-clause-handles : goal.returns-in_err-service_port-clause-handles
 returns-in_err-service_port-clause-handles g c known =
+    let path = c.push.ensures.yes c.if-not-push.false ∙ ap (λ hub. hub ++ c.args.number ∷ [])
+    c.duplicate-path.ensures in
     number_stops c.args.number _
-    c.from_residual.ensures.0 (c.in_err-service_port.ensures.handles known)
+    c.from_residual.ensures.0 path (c.in_err-service_port.ensures.handles known)

@@ -50,7 +50,7 @@ pub returns-in_err-retry_one-clause-looks : goal.returns-in_err-retry_one-clause
 returns-in_err-retry_one-clause-looks g c known =
     let i = c.waiting.invariant in
     let some = c.in-Some.ensures.some in
-    waiting_cut (i.so known) i.path c.retry_one.ensures.path some.0 some.1
+    waiting_cut (i.so known) i.path c.retry_one.ensures.path some.0 some.1 (i.works known)
     c.from_residual.ensures.0 (c.in_err-retry_one.ensures.looks known) (λ none. (i.idle none).1)
 
 pub returns-clause-looks : goal.returns-clause-looks

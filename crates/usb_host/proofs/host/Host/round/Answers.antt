@@ -1,33 +1,41 @@
-use Rattle.std.proofs.Common.{arith, rules, ◌≡◌, ap, refl, sym, subst, ◌∙◌, IfOk}
+use Rattle.std.proofs.Common.{arith, rules, ◌≡◌, ap, refl, sym, subst, ◌∙◌, IfOk, OnErr, Bool}
+use Rattle.std.proofs.Common.{None, true, false}
 use Rattle.std.proofs.lemmas.Grind.{common_steps}
-use Rattle.usb_host.specs.{round_bound, HostState, RoundsSound, PaysRound, HostSteps, DidParts}
-use Rattle.usb_host.specs.{Quiet, HostWorks}
+use Rattle.usb_host.specs.{round_bound, HostInvariant, HostState, RoundsSound, PaysRound, HostSteps}
+use Rattle.usb_host.specs.{DidParts, HostWorks, Quiet, StopsIn}
 use Rattle.usb_host.proofs.payments.RoundPayments.{pays_stopped, stopped_pays}
 use Rattle.usb_host.proofs.rests.IdleRounds.{round_rests}
 use Rattle.usb_host.proofs.StepSums.{host_goes_none}
 use Rattle.usb_host.proofs.devices.Owners.{round_owning}
-use Rattle.usb_host.proofs.services.RoundServices.{parts_done}
+use Rattle.usb_host.proofs.services.RoundServices.{parts_done, parts_stopped}
 use Rattle.usb_host.proofs.knowledge.Soundness.{rounds_stopped}
 use Rattle.usb_host.proofs.BusCounts.{part_reported}
 use Rattle.usb_host.proofs.host.Host.round.Goals as goal
+
+no_stop : (b : Bool) {P : Type 0} → b ≡ true → b ≡ false → P
+no_stop b on off = absurd (cc (on, off))
 
 pub returns-then-self-clause-stopped : goal.returns-then-self-clause-stopped
 returns-then-self-clause-stopped g c = first_of (search rules, grind (arith, common_steps))
 
 pub returns-then-self-clause-tells : goal.returns-then-self-clause-tells
-returns-then-self-clause-tells g c known = record {
-  stopped = returns-then-self-clause-stopped g c;
-  went = (host_goes_none {n = round_bound} {h = c.args.self.now}).went;
-  told = tt;
-  works = λ sound none. none;
-  did = tt;
-  keeps = record {
-    owning = λ o. o;
-    sound = record { keeps = tt; rest = λ s is. absurd (cc is) };
-    pays = λ w plan x. stopped_pays w plan c.args.self.now;
-    rests = λ entries none. refl;
-  };
-}
+returns-then-self-clause-tells g c known =
+    let on : c.args.self.now.stopped ≡ true = ap (λ (h : HostState). h.stopped) (sym c.self.view_is)
+    ∙ c.if-self.true in
+    record {
+      stopped = returns-then-self-clause-stopped g c;
+      went = (host_goes_none {n = round_bound} {h = c.args.self.now}).went;
+      told = tt;
+      works = λ sound none. none;
+      did = tt;
+      fails = λ going. no_stop c.args.self.now.stopped on going;
+      keeps = record {
+        owning = λ o. o;
+        sound = record { keeps = tt; rest = λ s is. absurd (cc is) };
+        pays = λ w plan x. stopped_pays w plan c.args.self.now;
+        rests = λ entries none. refl;
+      };
+    }
 
 pub returns-clause-stopped : goal.returns-clause-stopped
 returns-clause-stopped g c = first_of (search rules, grind (arith, common_steps))
@@ -55,6 +63,9 @@ returns-clause-tells g c known =
       did = subst (λ (h : HostState). IfOk result
           (λ round. DidParts round a (record h { stopped = stopped }))) (sym c.self-2.view_is)
           (parts_done result a b stopped going value x (c.run_round-round.ensures.works known));
+      fails = subst (λ (h : HostState). OnErr result (a.stopped ≡ false → HostInvariant a
+          → a.world.fault ≡ None → StopsIn a (record h { stopped = stopped })))
+          (sym c.self-2.view_is) (parts_stopped result a b stopped value x);
       keeps = record {
         owning = round_owning result a b _ going (ap (λ (h : HostState). h.world) c.self-2.view_is)
             (ap (λ (h : HostState). h.entries) c.self-2.view_is) value x.keeps.part.owned;

@@ -11,19 +11,20 @@ returns-in_err-roots-clause-parts g c known =
 
 pub returns-in_err-hubs-clause-parts : goal.returns-in_err-hubs-clause-parts
 returns-in_err-hubs-clause-parts g c known =
-    parts_hubless (c.in_ok-roots.ensures.roots known)
+    parts_hubless (c.in_ok-roots.ensures.roots known) (c.in_ok-roots.ensures.works known)
     c.from_residual-in_err-hubs.ensures.0 (c.in_err-hubs.ensures.hubs known)
 
 pub returns-in_err-looks-clause-parts : goal.returns-in_err-looks-clause-parts
 returns-in_err-looks-clause-parts g c known =
-    parts_lookless (c.in_ok-roots.ensures.roots known) (c.in_ok-hubs.ensures.hubs known)
-    c.retry_waiting.new.self
+    parts_lookless (c.in_ok-roots.ensures.roots known) (c.in_ok-roots.ensures.works known)
+    (c.in_ok-hubs.ensures.hubs known) (c.in_ok-hubs.ensures.works known) c.retry_waiting.new.self
     c.from_residual-in_err-looks.ensures.0 (c.in_err-looks.ensures.looks known)
 
 pub returns-clause-parts : goal.returns-clause-parts
 returns-clause-parts g c known =
     rw (c.and-2.ensures, c.and.ensures) (parts_made (c.in_ok-roots.ensures.roots known)
-    (c.in_ok-hubs.ensures.hubs known) c.retry_waiting.new.self (c.in_ok-looks.ensures.looks known))
+    (c.in_ok-roots.ensures.works known) (c.in_ok-hubs.ensures.hubs known)
+    (c.in_ok-hubs.ensures.works known) c.retry_waiting.new.self (c.in_ok-looks.ensures.looks known))
 
 pub returns-clause-quiet : goal.returns-clause-quiet
 returns-clause-quiet g c is =

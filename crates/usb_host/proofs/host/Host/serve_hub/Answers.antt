@@ -48,7 +48,9 @@ returns-in-Err-Bus-clause-polls g c known =
     let p = c.poll.ensures in
     let listed = rw (← c.self.view_is) at c.requires in
     rw (← c.self.view_is) (poll_cut _ _ c.self.invariant p.through.entries refl refl
-    (p.polls known).went p.through listed (p.polls known).keeps _)
+    (p.polls known).went p.through listed c.in-Err-Bus.fault
+    (rw c.in-Err-Bus.field-0-is at (c.in-Err-Bus.ensures.polls known).polled)
+    (rw c.in-Err-Bus.field-0-is at (c.in-Err-Bus.ensures.polls known).keeps) _)
 
 pub returns-in_err-drop_hub-in-Err-clause-polls : goal.returns-in_err-drop_hub-in-Err-clause-polls
 returns-in_err-drop_hub-in-Err-clause-polls g c known =
@@ -56,8 +58,10 @@ returns-in_err-drop_hub-in-Err-clause-polls g c known =
     let listed = rw (← c.self.view_is) at c.requires in
     rw (← c.self.view_is) (poll_undropped _ _ c.self.invariant p.through.entries refl refl
     (p.polls known).went p.through listed (c.in-Err.ensures.polls known).polled
-    (c.in-Err.ensures.polls known).keeps c.drop_hub.new.self
-    c.from_residual-in_err-drop_hub-in-Err.result c.from_residual-in_err-drop_hub-in-Err.ensures.0
+    (c.in-Err.ensures.polls known).keeps c.drop_hub.new.self (other_works 0 c.in-Err.field-0 _ _
+    (λ fault is. first_of (search rules, grind (arith, common_steps)))
+    (c.in-Err.ensures.polls known).took) c.from_residual-in_err-drop_hub-in-Err.result
+    c.from_residual-in_err-drop_hub-in-Err.ensures.0
     (rw c.duplicate.ensures at (c.in_err-drop_hub-in-Err.ensures.drops known)))
 
 pub returns-in_ok-drop_hub-in-Err-clause-polls : goal.returns-in_ok-drop_hub-in-Err-clause-polls

@@ -53,7 +53,7 @@ hubs-preserved g c =
 pub returns-in_err-serve_hub-clause-hubs : goal.returns-in_err-serve_hub-clause-hubs
 returns-in_err-serve_hub-clause-hubs g c known =
     let i = c.hubs.invariant in
-    hubs_cut (i.so known) i.path c.serve_hub.ensures.path c.in-Some.ensures.some
+    hubs_cut (i.so known) i.path c.serve_hub.ensures.path c.in-Some.ensures.some (i.works known)
     c.from_residual.ensures.0 (c.in_err-serve_hub.ensures.polls known) (λ none. (i.idle none).1)
 
 pub returns-clause-hubs : goal.returns-clause-hubs

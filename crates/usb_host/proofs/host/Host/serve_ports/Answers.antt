@@ -38,8 +38,9 @@ ports-preserved g c =
 pub returns-in_err-handle_below-clause-serves : goal.returns-in_err-handle_below-clause-serves
 returns-in_err-handle_below-clause-serves g c known =
     ports_cut (c.ports.invariant.so known) (omega (arith, c.ports.auto.number))
-    (omega (arith, c.ports-test.true))
-    c.from_residual.ensures.0 (c.in_err-handle_below.ensures.handles known)
+    (omega (arith, c.ports-test.true)) (c.ports.invariant.works known)
+    c.from_residual.ensures.0 (bit_so c.args.bits c.ports.number c.if-bits-number-eq1.true)
+    (c.in_err-handle_below.ensures.handles known)
 
 pub returns-clause-serves : goal.returns-clause-serves
 returns-clause-serves g c known =

@@ -49,7 +49,8 @@ returns-in_err-handle_root-clause-roots g c known =
     roots_cut (c.ports.invariant.so known) (omega (arith, c.ports.auto.number))
     (sym (c.has_changed.ensures known) ∙ c.if-has_changed.true)
     (omega (arith, c.ports-test.true, c.root_ports-roots.ensures.most))
-    c.from_residual.ensures.0 (c.in_err-handle_root.ensures.handles known)
+    (c.ports.invariant.works known) c.from_residual.ensures.0
+    (c.in_err-handle_root.ensures.handles known)
 
 pub returns-clause-roots : goal.returns-clause-roots
 returns-clause-roots g c known =
