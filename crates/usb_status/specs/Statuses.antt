@@ -9,15 +9,15 @@ use Rattle.usb_text.specs.declared.line.LineFault.{LineFault}
 use Rattle.usb_text.specs.declared.line.LineFault.TheVariants as line
 use Rattle.usb_serve.specs.{ServeFault}
 use Rattle.usb_serve.specs.declared.serving.ServeFault.TheVariants as serve
-use Rattle.usb_pcap.specs.declared.capturing.PcapFault.{PcapFault}
+use Rattle.usb_pcap.specs.{PcapFault}
 use Rattle.usb_pcap.specs.declared.capturing.PcapFault.TheVariants as pcap
-use Rattle.usb_entry.specs.declared.fault.EntryFault.{EntryFault}
+use Rattle.usb_entry.specs.{EntryFault}
 use Rattle.usb_entry.specs.declared.fault.EntryFault.TheVariants as entry
-use Rattle.usb_far.specs.declared.fault.FarFault.{FarFault}
+use Rattle.usb_far.specs.{FarFault}
 use Rattle.usb_far.specs.declared.fault.FarFault.TheVariants as far
-use Rattle.usb_stream.specs.declared.fault.LiveFault.{LiveFault}
+use Rattle.usb_stream.specs.{LiveFault}
 use Rattle.usb_stream.specs.declared.fault.LiveFault.TheVariants as stream
-use Rattle.usb_live.specs.declared.end.LiveEnd.{LiveEnd}
+use Rattle.usb_live.specs.{LiveEnd}
 use Rattle.usb_live.specs.declared.end.LiveEnd.TheVariants as live
 use Rattle.usb_status.specs.declared.fault.Fault.{Fault}
 use Rattle.usb_status.specs.declared.fault.Fault.TheVariants as fault
