@@ -28,9 +28,9 @@ reads_run {result = result} plan r of_run = record {
 }
 
 -- a fault that is told before any run is none of the writer's
-pub unwritten_reader : {text : Option (List ℕ)} {failed : Bool} (mode : Mode) (fault : ServeFault)
+pub unwritten_reader : (text : Option (List ℕ)) {failed : Bool} (mode : Mode) (fault : ServeFault)
     → IsUnread text fault → MarksWriter mode (Err fault) failed
-unwritten_reader {text} mode fault why = record {
+unwritten_reader text mode fault why = record {
   write = λ is. absurd (subst (λ r. OnFault text r) is why);
   trace = λ is. absurd (subst (λ r. OnFault text r) is why);
   at_limit = λ is. absurd (subst (λ r. OnFault text r) is why);
@@ -79,7 +79,7 @@ failed_before mode text before now torn failed marked front =
       written = before;
       serves = record {
         reads = reads_before text torn;
-        writer = unwritten_reader mode (fault_before torn) none;
+        writer = unwritten_reader text mode (fault_before torn) none;
         served = unread (fault_before torn) refl none refl;
       };
       out = cut marked (ap Err (sym (write_before torn))) front;

@@ -149,11 +149,11 @@ impl<W: Write + Drop> Output<W> {
     pub(crate) fn put(&mut self, piece: &[u8]) -> Result<(), WriteFailed>
         ensures { PutsText (held W.contents) has_ended self.old result self.new piece.now }
     {
-        let mut rest = piece;
-        'parts: while !rest.is_empty() {
-            match self.take(rest) {
+        let mut gone = 0;
+        'parts: while gone < piece.len() {
+            match self.take(&piece[gone..]) {
                 Ok(0) => return Err(WriteFailed),
-                Ok(n) => rest = &rest[n..],
+                Ok(n) => gone += n,
                 Err(_) => return Err(WriteFailed),
             }
         }
@@ -165,11 +165,12 @@ impl<W: Write + Drop> Output<W> {
         ensures { PutsText (held W.contents) has_ended self.old result self.new
             (flat_map (λ p. p.now) pieces.now) }
     {
-        let Some((piece, rest)) = pieces.split_first() else {
-            return Ok(());
-        };
-        self.put(piece)?;
-        self.put_each(rest)
+        'pieces: for piece in pieces {
+            if let Err(failed) = self.put(piece) {
+                return Err(failed);
+            }
+        }
+        Ok(())
     }
 
     /// Takes the pieces of a line, in their order. If none may wait, the line goes out as one piece.
@@ -248,8 +249,9 @@ fn write_out<W: Write>(writer: &mut Watched<W>, bytes: &[u8]) -> usize
     let mut gone = 0;
     'parts: while gone < bytes.len() {
         match writer.write(&bytes[gone..]) {
-            Ok(0) | Err(_) => return gone,
+            Ok(0) => return gone,
             Ok(n) => gone += n,
+            Err(_) => return gone,
         }
     }
     gone

@@ -5,9 +5,11 @@ use Rattle.usb_serve.proofs.ServedThrough.{failed_before, through}
 use Rattle.usb_serve.proofs.serving.serve_through.Goals as goal
 
 pub returns-then-has_ended-clause-serves : goal.returns-then-has_ended-clause-serves
-returns-then-has_ended-clause-serves g c = failed_before _ _ _ _ _ _
-    (ap (λ (w : Watched g.row.W.Denot). has_failed w) (c.finish.ensures.ended c.if-has_ended.true)
-    ∙ c.if-has_ended.true) c.finish.ensures.front
+returns-then-has_ended-clause-serves g c =
+    let ended = sym c.has_ended.ensures ∙ c.if-has_ended.true in
+    failed_before _ _ _ _ _ _
+    (ap (λ (w : Watched g.row.W.Denot). has_failed w) (c.finish.ensures.ended ended) ∙ ended)
+    c.finish.ensures.front
 
 pub returns-clause-serves : goal.returns-clause-serves
 returns-clause-serves g c =

@@ -9,7 +9,7 @@ use Rattle.usb_serve.proofs.serving.serve_to.Goals as goal
 pub returns-in-Err-clause-serves : goal.returns-in-Err-clause-serves
 returns-in-Err-clause-serves g c = record {
   reads = reads_failed c.in-Err.fault c.in-Err.ensures.reads;
-  writer = unwritten_reader c.args.mode c.in-Err.fault c.in-Err.ensures.unread;
+  writer = unwritten_reader _ c.args.mode c.in-Err.fault c.in-Err.ensures.unread;
   served = unread c.in-Err.fault refl c.in-Err.ensures.unread refl;
 }
 
