@@ -6,6 +6,11 @@ use Rattle.usb_table.specs.{Entries}
 use Rattle.usb_drawing.specs.declared.art.Style.{Style}
 use Rattle.usb_drawing.specs.declared.art.Style.TheVariants.{Lines, Ascii}
 
+-- the style that is asked for, with the flag `--ascii` or without it
+abbrev pub style_of : Bool → Style
+style_of true = Ascii
+style_of false = Lines
+
 -- below a hub at a level: a line where the listing goes on at that level, else blanks; the line is
 -- U+2502 in UTF-8
 abbrev pub trunk : Style → Bool → List ℕ

@@ -5,7 +5,7 @@ pub mod Devices
 pub mod Drawings
 pub mod DrawnRuns
 -- the words of this crate, wherever one stands
-pub use Art.{branch, goes_on, is_beside, trunk, trunks}
+pub use Art.{branch, goes_on, is_beside, style_of, trunk, trunks}
 unfoldable pub use Art.{art}
 pub use Classes.{codes_of, ports_text}
 pub use Texts.{is_layout, is_pair, is_shown, labelled_text, shown_or_escaped, shown_unit}

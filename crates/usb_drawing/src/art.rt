@@ -15,6 +15,18 @@ pub enum Style {
     Ascii,
 }
 
+impl Style {
+    ghost use Rattle.std.specs.Prelude.{◌≡◌};
+    ghost use Rattle.usb_drawing.specs.Art.{style_of};
+
+    /// The style that is asked for, with the flag `--ascii` or without it.
+    pub fn of(ascii: bool) -> Style
+        ensures { result ≡ style_of ascii }
+    {
+        if ascii { Style::Ascii } else { Style::Lines }
+    }
+}
+
 /// Adds the art of the entry at a path, with these entries behind it.
 #[tactic(auto, unfolding(crate::specs::Art::art))]
 pub(crate) fn push_art(

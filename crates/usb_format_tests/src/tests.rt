@@ -2,3 +2,4 @@
 mod drawing;
 mod entry;
 mod pcap;
+mod status;

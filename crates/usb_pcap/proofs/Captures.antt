@@ -3,11 +3,12 @@ use Rattle.std.proofs.Common.{◌≡◌, ◌≢◌, ◌==◌, inl, inr, ℕ, ◌
 use Rattle.std.proofs.Common.{Bool, true, false, List, [], ◌∷◌, ◌++◌, length, take, drop, Option}
 use Rattle.std.proofs.Common.{Some, None, IfSome, Result, Ok, Err, get_or, is_err, OnOk, refl, sym}
 use Rattle.std.proofs.Common.{ap, subst, ◌∙◌, arith, append_assoc, append-nil, length-append}
-use Rattle.std.proofs.Common.{IsErrOf}
+use Rattle.std.proofs.Common.{IsErrOf, ◌&&◌, not}
 use Rattle.arrayvec.specs.ArrayVec.{ArrayVec}
 use Rattle.std.proofs.lemmas.List.{take_more, take-append-drop, length-take, take-append-le}
 use Rattle.std.proofs.lemmas.List.{take_all}
 use Rattle.std.proofs.lemmas.List.Elements.{All-nil, All-push}
+use Rattle.std.proofs.lemmas.List.Folds.{list_all-append}
 use Rattle.std.proofs.lemmas.Bool.{eqb-true, lt-ltb, ltb-true}
 use Rattle.std.proofs.lemmas.Bool.Decides.{nat_tests}
 use Rattle.std.proofs.KnownBytes.{Appends-trans, Consumes-trans}
@@ -18,7 +19,8 @@ use Rattle.usb_pcap.specs.{OpenLine, PcapFault, Read, Line as BadLine, TooLong, 
 use Rattle.usb_pcap.specs.{TracedAttempt, IsAttemptLine, fits_form, IsReport, has_form, plug_form}
 use Rattle.usb_pcap.specs.{report_forms, AreRecords, attempt_packets, header, Captures, ComesOf}
 use Rattle.usb_pcap.specs.{IsCapture, IsRunLine, IsTold, LineRecords, RecordsOf, RefusedLine}
-use Rattle.usb_pcap.specs.{StandsBehind, WroteFront, WroteLines, longest, next_number}
+use Rattle.usb_pcap.specs.{IsPlug, StandsBehind, WroteFront, WroteLines, is_control_byte, is_shown}
+use Rattle.usb_pcap.specs.{longest, next_number}
 use Rattle.usb_pcap.proofs.Forms.{is_report-complete, is_report-sound, no_plug, plug_taken}
 
 few_taken : (k : ℕ) (l : List ℕ) → length (take k l) < k → length l < k
@@ -56,8 +58,8 @@ taken_long k line front b e full =
     )
 
 pub stands_first : (w now : Option (List ℕ)) (s : OpenLine) → Appends w now header → s.number ≡ 1
-    → s.front.items ≡ [] → s.is_long ≡ false → StandsBehind w now [] s
-stands_first w now s h number front long = record {
+    → s.front.items ≡ [] → s.is_long ≡ false → s.is_shown ≡ true → StandsBehind w now [] s
+stands_first w now s h number front long shown = record {
   n = 0;
   front = [];
   line = [];
@@ -68,14 +70,27 @@ stands_first w now s h number front long = record {
   one = All-nil _;
   begins = front;
   long = long;
+  shown = shown;
   number = number;
 }
+
+-- one byte more
+shown_more : (line : List ℕ) (b : ℕ) (was : Bool) → was ≡ is_shown line
+    → (was && not (is_control_byte b)) ≡ is_shown (line ++ b ∷ [])
+shown_more line b was is = ap (λ s. s && not (is_control_byte b)) is
+    ∙ sym (list_all-append (λ c. not (is_control_byte c)) line (b ∷ [])
+    ∙ ap (λ x. is_shown line && x) (and_true (not (is_control_byte b))))
+  where
+    and_true : (x : Bool) → (x && true) ≡ x
+    and_true true = refl
+    and_true false = refl
 
 stands_on : (w now : Option (List ℕ)) (text : List ℕ) (b : ℕ) (s t : OpenLine) → b ≢ 10
     → (h : StandsBehind w now text s) → t.number ≡ s.number
     → t.front.items ≡ take longest (h.line ++ b ∷ [])
-    → t.is_long ≡ nat_lt longest (length (h.line ++ b ∷ [])) → StandsBehind w now (text ++ b ∷ []) t
-stands_on w now text b s t other h number begins long = record {
+    → t.is_long ≡ nat_lt longest (length (h.line ++ b ∷ []))
+    → t.is_shown ≡ (s.is_shown && not (is_control_byte b)) → StandsBehind w now (text ++ b ∷ []) t
+stands_on w now text b s t other h number begins long shown = record {
   n = h.n;
   front = h.front;
   line = h.line ++ b ∷ [];
@@ -86,41 +101,44 @@ stands_on w now text b s t other h number begins long = record {
   one = All-push (λ x. x ≢ 10) h.line b h.one other;
   begins = begins;
   long = long;
+  shown = shown ∙ shown_more h.line b s.is_shown h.shown;
   number = number ∙ h.number;
 }
 
 pub stands_more : (w now : Option (List ℕ)) (text : List ℕ) (b : ℕ) (s t : OpenLine) → b ≢ 10
     → StandsBehind w now text s → t.number ≡ s.number
     → length s.front.items < longest → t.front.items ≡ s.front.items ++ b ∷ []
-    → t.is_long ≡ s.is_long → StandsBehind w now (text ++ b ∷ []) t
-stands_more w now text b s t other h number room front long =
+    → t.is_long ≡ s.is_long → t.is_shown ≡ (s.is_shown && not (is_control_byte b))
+    → StandsBehind w now (text ++ b ∷ []) t
+stands_more w now text b s t other h number room front long shown =
     let more = taken_more longest h.line s.front.items b h.begins room in
-    stands_on w now text b s t other h number (front ∙ more.0) (long ∙ h.long ∙ more.1)
+    stands_on w now text b s t other h number (front ∙ more.0) (long ∙ h.long ∙ more.1) shown
 
 pub stands_long : (w now : Option (List ℕ)) (text : List ℕ) (b : ℕ) (s t : OpenLine) → b ≢ 10
     → StandsBehind w now text s → t.number ≡ s.number
     → length s.front.items ≡ longest → t.front.items ≡ s.front.items → t.is_long ≡ true
-    → StandsBehind w now (text ++ b ∷ []) t
-stands_long w now text b s t other h number full front long =
+    → t.is_shown ≡ (s.is_shown && not (is_control_byte b)) → StandsBehind w now (text ++ b ∷ []) t
+stands_long w now text b s t other h number full front long shown =
     let more = taken_long longest h.line s.front.items b h.begins full in
-    stands_on w now text b s t other h number (front ∙ more.0) (long ∙ sym more.1)
+    stands_on w now text b s t other h number (front ∙ more.0) (long ∙ sym more.1) shown
 
 -- the records of a line, by its first bytes
 abbrev TellsRecords : OpenLine → List ℕ → Type 0
 TellsRecords s records = (line : List ℕ) → s.front.items ≡ take longest line
-    → s.is_long ≡ nat_lt longest (length line) → LineRecords line records
+    → s.is_long ≡ nat_lt longest (length line) → s.is_shown ≡ is_shown line
+    → LineRecords line records
 
 -- the line is none of a run, by its first bytes
 abbrev Refuses : OpenLine → Type 0
 Refuses s = (line : List ℕ) → s.front.items ≡ take longest line
-    → s.is_long ≡ nat_lt longest (length line) → IsRunLine line → ⊥
+    → s.is_long ≡ nat_lt longest (length line) → s.is_shown ≡ is_shown line → IsRunLine line → ⊥
 
 capture_closed : (w now : Option (List ℕ)) (text records : List ℕ) (s : OpenLine)
     (h : StandsBehind w now text s) → TellsRecords s records
     → IsCapture (h.n + 1) (text ++ 10 ∷ []) (h.file ++ records)
 capture_closed w now text records s h tells =
     subst (λ t. IsCapture (h.n + 1) (t ++ 10 ∷ []) (h.file ++ records)) (sym h.split)
-    (IsCapture.line h.line records h.one (tells h.line h.begins h.long) h.captured)
+    (IsCapture.line h.line records h.one (tells h.line h.begins h.long h.shown) h.captured)
 
 next_number-next : (n k m : ℕ) → k ≡ next_number n → m ≡ min (k + 1) (2 ^ 64 - 1)
     → m ≡ next_number (n + 1)
@@ -129,8 +147,8 @@ next_number-next n k m e f = omega arith
 pub stands_closed : (w mid now : Option (List ℕ)) (text records : List ℕ) (s t : OpenLine)
     → StandsBehind w mid text s → TellsRecords s records
     → Appends mid now records → t.number ≡ min (s.number + 1) (2 ^ 64 - 1) → t.front.items ≡ []
-    → t.is_long ≡ false → StandsBehind w now (text ++ 10 ∷ []) t
-stands_closed w mid now text records s t h tells gone number front long = record {
+    → t.is_long ≡ false → t.is_shown ≡ true → StandsBehind w now (text ++ 10 ∷ []) t
+stands_closed w mid now text records s t h tells gone number front long shown = record {
   n = h.n + 1;
   front = text ++ 10 ∷ [];
   line = [];
@@ -141,6 +159,7 @@ stands_closed w mid now text records s t h tells gone number front long = record
   one = All-nil _;
   begins = front;
   long = long;
+  shown = shown;
   number = next_number-next h.n s.number t.number h.number number;
 }
 
@@ -173,7 +192,7 @@ went_refused w now text s h none = (
     file = h.file;
     split = ap (λ l. l ++ 10 ∷ []) h.split;
     one = h.one;
-    other = none h.line h.begins h.long;
+    other = none h.line h.begins h.long h.shown;
     captured = h.captured;
     gone = h.gone;
   },
@@ -317,9 +336,15 @@ told_records front line records none told =
     subst (λ l. LineRecords line l) (sym none) (LineRecords.told told)
 
 pub plug_records : (front line : List ℕ) (records : ArrayVec ℕ) → front ≡ take longest line
-    → fits_form plug_form front ≡ true → records.items ≡ [] → RecordsOf line (Some records)
-plug_records front line records e fit none =
-    told_records front line records none (inl (plug_taken front line e fit))
+    → (is_shown line && fits_form plug_form front) ≡ true → records.items ≡ []
+    → RecordsOf line (Some records)
+plug_records front line records e fits none =
+    let both = both_true (is_shown line) (fits_form plug_form front) fits in
+    told_records front line records none (inl (plug_taken front line e both.1, both.0))
+  where
+    both_true : (x y : Bool) → (x && y) ≡ true → (x ≡ true) × (y ≡ true)
+    both_true true y is = (refl, is)
+    both_true false y is = absurd (cc is)
 
 pub report_records : (front line : List ℕ) (is_long : Bool) (records : ArrayVec ℕ)
     → front ≡ take longest line → is_long ≡ nat_lt longest (length line) → is_long ≡ false
@@ -329,10 +354,17 @@ report_records front line is_long records e long short fit none =
     told_records front line records none
     (inr (few, subst IsReport (short_whole front line e few) (is_report-sound front fit)))
 
+-- no line of a plug, by its first bytes, or one with a control character
+no_shown_plug : (front line : List ℕ) → front ≡ take longest line
+    → (is_shown line && fits_form plug_form front) ≡ false → IsPlug line → is_shown line ≡ true → ⊥
+no_shown_plug front line e none plug shown =
+    no_plug front line e (ap (λ s. s && fits_form plug_form front) (sym shown) ∙ none) plug
+
 pub long_refused : (front line : List ℕ) (is_long : Bool) → front ≡ take longest line
-    → is_long ≡ nat_lt longest (length line) → is_long ≡ true → fits_form plug_form front ≡ false
-    → IsRunLine line → ⊥
-long_refused front line is_long e long fit none (inl (inl plug)) = no_plug front line e none plug
+    → is_long ≡ nat_lt longest (length line) → is_long ≡ true
+    → (is_shown line && fits_form plug_form front) ≡ false → IsRunLine line → ⊥
+long_refused front line is_long e long fit none (inl (inl (plug, shown))) =
+    no_shown_plug front line e none plug shown
 long_refused front line is_long e long fit none (inl (inr (few, report))) = let over =
     ltb-true longest (length line) (sym long ∙ fit) in absurd (omega arith)
 long_refused front line is_long e long fit none (inr (a, (few, of))) = let over =
@@ -352,10 +384,10 @@ attempt_records front line is_long a records e long short of made =
 
 pub none_refused : (front line : List ℕ) (is_long : Bool) → front ≡ take longest line
     → is_long ≡ nat_lt longest (length line) → is_long ≡ false
-    → fits_form plug_form front ≡ false → has_form report_forms front ≡ false
+    → (is_shown line && fits_form plug_form front) ≡ false → has_form report_forms front ≡ false
     → ((a : TracedAttempt) → IsAttemptLine front a → None ≡ Some a) → IsRunLine line → ⊥
-none_refused front line is_long e long short no_p no_r no_a (inl (inl plug)) =
-    no_plug front line e no_p plug
+none_refused front line is_long e long short no_p no_r no_a (inl (inl (plug, shown))) =
+    no_shown_plug front line e no_p plug shown
 none_refused front line is_long e long short no_p no_r no_a (inl (inr (few, report))) =
     let fit = is_report-complete front (subst IsReport (sym (short_whole front line e few)) report)
     in absurd (cc)

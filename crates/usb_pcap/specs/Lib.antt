@@ -25,7 +25,8 @@ pub use Grammar.{is_plain, piece_of}
 unfoldable pub use Grammar.{behind_item, behind_items, behind_piece, fits_form}
 pub use Report.{HasForm, IsPlug, IsReport, causes, failures, has_form, plug_form, report_forms}
 pub use Capture.{Captures, ComesOf, IsCapture, IsRunLine, IsTold, IsTraceLine, LineRecords, OpenEnd}
-pub use Capture.{RecordsOf, RefusedLine, StandsBehind, WroteFront, WroteLines, longest, next_number}
+pub use Capture.{RecordsOf, RefusedLine, StandsBehind, WroteFront, WroteLines, is_control_byte}
+pub use Capture.{is_shown, longest, next_number}
 pub use declared.attempt.TracedAttempt.{TracedAttempt}
 pub use declared.capturing.OpenLine.{OpenLine}
 pub use declared.capturing.PcapFault.{PcapFault}

@@ -11,7 +11,8 @@
 //!   `specs/Attempt.antt`); and the line of each such attempt is read as that attempt (`each`).
 //! - *Lines of no attempt*: a line is taken as one of an event, a listing, a transfer or a bound just where it is, from
 //!   its begin to its end, of one of sixteen forms (`specs/Report.antt`; what their pieces are is
-//!   `specs/Grammar.antt`). All but the line of a plug have at most 131,200 bytes (`longest`). That the lines which
+//!   `specs/Grammar.antt`). All but the line of a plug have at most 131,200 bytes (`longest`); that of a plug has no
+//!   control character of ASCII (`is_shown`), which a run writes as `\u` and its digits. That the lines which
 //!   usb_bus, usb_text and usb_serve print are of these forms is tested on the worked rows (`tools/pcap_rows`), not
 //!   proved.
 //! - *The file* (`capture`, `Captures` of `specs/Capture.antt`), of readers and writers whose bytes are known: where

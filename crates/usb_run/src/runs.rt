@@ -200,8 +200,10 @@ impl<W: Write> Runner<Tracer<W>> {
         ensures going { IfOk result (λ runner. runner.over ≡ false) }
         ensures back { IfErr result (λ e. e.1 ≡ writer) }
     {
-        let bus = SimBus::new(alloc, plan, writer)?;
-        Ok(Runner::with_bus(alloc, plan, bus))
+        match Runner::traced(alloc, plan, Tracer::new(writer)) {
+            Ok(runner) => Ok(runner),
+            Err((error, tracer)) => Err((error, tracer.into_writer())),
+        }
     }
 
     /// Gives the writer back.
@@ -230,6 +232,30 @@ impl Runner<Untraced> {
 }
 
 impl<T: Trace> Runner<T> {
+    /// The run before its first attempt, whose lines go to what has not failed yet.
+    ///
+    /// # Errors
+    /// Memory is refused; what the lines were to go to is handed back.
+    pub fn traced(alloc: Global, plan: &Plan, tracer: T) -> Result<Runner<T>, (AllocError, T)>
+        requires unfailed { T.failed tracer ≡ false }
+        ensures opened { IfOk result (λ runner. Opens plan.now (T.text tracer) runner.host) }
+        ensures begun { IfOk result (λ runner. IsBegun plan.now runner.host.world) }
+        ensures going { IfOk result (λ runner. runner.over ≡ false) }
+        ensures back { IfErr result (λ e. e.1 ≡ tracer) }
+    {
+        let bus = SimBus::traced(alloc, plan, tracer)?;
+        Ok(Runner::with_bus(alloc, plan, bus))
+    }
+
+    /// Gives back what the lines went to.
+    pub fn into_tracer(self) -> T
+        ensures trace { T.text result ≡ self.host.trace }
+        ensures failed { T.failed result ≡ tells_failure self.host.world.fault }
+    {
+        let Runner { host, over: _ } = self;
+        host.into_bus().into_tracer()
+    }
+
     /// The run of a plan before its first attempt, over the plan's bus.
     fn with_bus(alloc: Global, plan: &Plan, bus: SimBus<T>) -> Runner<T>
         requires { world_of bus ≡ opening plan.now }

@@ -1,13 +1,20 @@
 pub mod ServeResults
 pub mod ServedTranscripts
 pub mod ServedRuns
+pub mod ListingEnds
 pub mod Outputs
+pub mod OutputTraces
+pub mod ServedThrough
 -- the words of this crate, wherever one stands
 pub use ServeResults.{IsCausedInRun, IsCausedInTree, IsFaultOfRun, IsOfRun, MarksWriter}
 pub use ServeResults.{input_fault, report_fault}
 pub use ServedTranscripts.{RunEnds, at_write, of_run}
-pub use ServedRuns.{IsNoPlan, IsServed, IsServedThrough, IsUnopened, IsUnread, IsWritten}
-pub use ServedRuns.{NeverAtLimit, RunWritten, TellsWriter, TreeText, TreeWritten, of_plan, unread}
+pub use ServedRuns.{IsNoPlan, IsServed, IsUnopened, IsUnread, IsWritten}
+pub use ServedRuns.{NeverAtLimit, Reads, RunWritten, Serves, TreeText, TreeWritten, of_plan, unread}
+pub use ListingEnds.{IsListingEnd}
 pub use Outputs.{LeavesFront, buffered, has_ended, held, output_writer}
+pub use OutputTraces.{output_in}
+pub use ServedThrough.{LetsOut, ServesThrough, all, cut, writer_fault}
 pub use declared.output.Output.{Output}
+pub use declared.tracing.OutputTracer.{OutputTracer}
 pub use declared.serving.ServeFault.{ServeFault}

@@ -1,25 +1,26 @@
 -- Text that goes out through a buffer.
 use Rattle.std.specs.Prelude.{◌≡◌, ⊤, ℕ, List, ◌++◌, Option, None, Some, Bool}
-use Rattle.std.specs.Io.Buffered.{writer_buffer, writer_contents, writer_inner}
+use Rattle.std.specs.Io.KnownBytes.{append_known}
+use Rattle.usb_bus.specs.{Watched, inner_of, has_failed}
 use Rattle.usb_serve.specs.declared.output.Output.{Output}
 
--- the bytes that have gone out, and then those that wait, where they are known
-abbrev pub held : {W : Type 0} → (W → Option (List ℕ)) → Output W → Option (List ℕ)
-held contents output = writer_contents contents output.buffer
-
 -- where the bytes go out
-abbrev pub output_writer : {W : Type 0} → Output W → W
-output_writer output = writer_inner output.buffer
+abbrev pub output_writer : {W : Type 0} → Output W → Watched W
+output_writer output = output.writer
 
 -- the bytes that wait
 abbrev pub buffered : {W : Type 0} → Output W → List ℕ
-buffered output = writer_buffer output.buffer
+buffered output = output.waiting.items
 
--- a write has failed
+-- the bytes that have gone out, and then those that wait, where they are known
+abbrev pub held : {W : Type 0} → (W → Option (List ℕ)) → Output W → Option (List ℕ)
+held contents output = append_known (contents (inner_of (output_writer output))) (buffered output)
+
+-- a write or a flush of the writer has failed
 abbrev pub has_ended : {W : Type 0} → Output W → Bool
-has_ended output = output.has_ended
+has_ended output = has_failed (output_writer output)
 
--- of known bytes a front is left
+-- of known bytes a prefix is left
 abbrev pub LeavesFront : Option (List ℕ) → Option (List ℕ) → Type 0
 LeavesFront None new = ⊤
 LeavesFront (Some whole) None = ⊥

@@ -5,7 +5,8 @@ use Rattle.usb_world.specs.declared.types.BusFault.TheVariants as bus
 use Rattle.usb_serve.specs.declared.input.InputFault.{InputFault}
 use Rattle.usb_serve.specs.declared.input.InputFault.TheVariants as input
 use Rattle.usb_run.specs.declared.runs.RunFault.TheVariants as run
-use Rattle.usb_run.specs.{IsCaused}
+use Rattle.usb_run.specs.{IsCaused, Mode}
+use Rattle.usb_run.specs.declared.mode.Mode.TheVariants as modes
 use Rattle.usb_serve.specs.declared.serving.ServeFault.{ServeFault}
 use Rattle.usb_serve.specs.declared.serving.ServeFault.TheVariants.{Read, TooLong, Run, Write}
 use Rattle.usb_serve.specs.declared.serving.ServeFault.TheVariants.{Memory}
@@ -35,10 +36,12 @@ abbrev pub IsOfRun : Result (Unit {0}) ServeFault → Type 0
 IsOfRun (Ok done) = Unit {0}
 IsOfRun (Err fault) = IsFaultOfRun fault
 
--- where a writer is told to have failed it has, and where the limit was reached it has not
-pub record MarksWriter (result : Result (Unit {0}) ServeFault) (failed : Bool) : Type 0 where
+-- a writer is said to have failed only if it has, at the line of an attempt or an event only in mode
+-- Run, which alone has such lines; and if the limit was reached it has not
+pub record MarksWriter (mode : Mode) (result : Result (Unit {0}) ServeFault) (failed : Bool) :
+    Type 0 where
   pub write : IsErrOf result Write → failed ≡ true
-  pub trace : IsErrOf result (Run run.TraceFailed) → failed ≡ true
+  pub trace : IsErrOf result (Run run.TraceFailed) → (mode ≡ modes.Run) × (failed ≡ true)
   pub at_limit : IsErrOf result (Run run.LimitReached) → failed ≡ false
 
 -- a fault that is told in mode Run has its cause in the run's world

@@ -1,19 +1,18 @@
 -- Where a plan's run ends, and what serving a plan wrote of it.
-use Rattle.std.specs.Prelude.{◌≡◌, ◌≢◌, ◌≤◌, ⊤, ◌⊎◌, ℕ, List, [], ◌∷◌, ◌++◌, Option, true, false}
-use Rattle.std.specs.Prelude.{Result, Ok, Err, IfErr, IfSome, IsUtf8}
-use Rattle.std.specs.Io.KnownBytes.{Appends, Keeps}
+use Rattle.std.specs.Prelude.{◌≡◌, ◌≢◌, ◌<◌, ◌≤◌, ⊤, ◌⊎◌, ℕ, List, [], ◌∷◌, ◌++◌, length, Option}
+use Rattle.std.specs.Prelude.{Bool, true, false, Result, Ok, Err, IsErrOf, IfErr, IfSome, IsUtf8}
+use Rattle.std.specs.Io.KnownBytes.{Appends}
 use Rattle.usb_world.specs.{PlanData}
 use Rattle.usb_bus.specs.{AppendsFront}
 use Rattle.usb_host.specs.{HostState, plug_events}
 use Rattle.usb_plan.specs.{PlanFault, bound_of, spelled_plan}
 use Rattle.usb_plan.specs.declared.fault.PlanFault.TheVariants as plan
-use Rattle.usb_run.specs.{Item, LimitReached, Memory, TraceFailed, Mode, Tree, ListsRight, RunsTo}
+use Rattle.usb_run.specs.{Item, LimitReached, Memory, Mode, Tree, ListsRight, RunsTo}
 use Rattle.usb_run.specs.{items_text, never, Opens}
 use Rattle.usb_run.specs.declared.mode.Mode.TheVariants.{Run}
 use Rattle.usb_serve.specs.declared.serving.ServeFault.{ServeFault}
 use Rattle.usb_serve.specs.declared.serving.ServeFault.TheVariants as serve
-use Rattle.usb_serve.specs.Outputs.{LeavesFront}
-use Rattle.usb_serve.specs.ServeResults.{IsCausedInRun, IsCausedInTree, IsOfRun}
+use Rattle.usb_serve.specs.ServeResults.{IsCausedInRun, IsCausedInTree, IsOfRun, MarksWriter}
 use Rattle.usb_text.specs.{bound_line}
 use Rattle.usb_run.specs.Transcript.{Transcript}
 use Rattle.usb_serve.specs.ServedTranscripts.{at_write, of_run}
@@ -107,15 +106,17 @@ pub data IsServed (mode : Mode) (text before : Option (List ℕ))
       → IsWritten mode plan before result now → NeverAtLimit plan result
       → IsServed mode text before result now
 
--- a writer that failed is told
-abbrev pub TellsWriter : Result (Unit {0}) ServeFault → Type 0
-TellsWriter result = (result ≡ Err serve.Write) ⊎ (result ≡ Err (serve.Run TraceFailed))
+-- the fault of a reader is told exactly if it has failed, and a text is called too long only if it
+-- is
+pub record Reads {A : Type 0} (text : Option (List ℕ)) (result : Result A ServeFault)
+    (torn : Bool) : Type 0 where
+  pub read : IsErrOf result serve.Read → torn ≡ true
+  pub whole : result ≢ Err serve.Read → torn ≡ false
+  pub too_long : IsErrOf result serve.TooLong → IfSome text (λ t. 1048576 < length t)
 
--- what serving through a buffer wrote: all that serving wrote into it, or a front of that, and then
--- a writer that failed is told
-pub record IsServedThrough (mode : Mode) (text before : Option (List ℕ))
-    (result : Result (Unit {0}) ServeFault) (now : Option (List ℕ)) : Type 0 where
-  pub told : Result (Unit {0}) ServeFault
-  pub written : Option (List ℕ)
-  pub served : IsServed mode text before told written
-  pub out : ((result ≡ told) × Keeps written now) ⊎ (TellsWriter result × LeavesFront written now)
+-- all that serving a text says of its reader, its writer and what was written
+pub record Serves (mode : Mode) (text : Option (List ℕ)) (torn : Bool) (before : Option (List ℕ))
+    (result : Result (Unit {0}) ServeFault) (failed : Bool) (now : Option (List ℕ)) : Type 0 where
+  pub reads : Reads text result torn
+  pub writer : MarksWriter mode result failed
+  pub served : IsServed mode text before result now

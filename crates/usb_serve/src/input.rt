@@ -1,5 +1,5 @@
 //! The whole text of a reader, up to the limit.
-ghost use Rattle.std.specs.Prelude.{◌≡◌, ◌≢◌, ◌+◌, ◌≤◌, ◌<◌, Err, length, IfOk, IfSome, IsErrOf, true};
+ghost use Rattle.std.specs.Prelude.{◌≡◌, ◌≢◌, ◌+◌, ◌≤◌, ◌<◌, Err, length, IfOk, IfSome, IsErrOf, true, false};
 ghost use Rattle.std.specs.Io.KnownBytes.{Consumes};
 ghost use Rattle.usb_bus.specs.Watch.{inner_of, has_failed, calls_of};
 ghost use Rattle.usb_serve.specs.declared.input.InputFault.TheVariants.{Memory};
@@ -37,17 +37,21 @@ impl From<AllocError> for InputFault {
 /// Reads all there is, in at most one read more than the limit's bytes.
 ///
 /// # Errors
-/// Read where the reader failed, TooLong where there are more than the limit's bytes.
+/// Read if the reader failed, here or before; TooLong if there are more than the limit's bytes; Memory if memory was
+/// refused.
 pub fn read_text<R: Read>(alloc: Global, reader: &mut Watched<R>) -> Result<Vec<u8>, InputFault>
     ensures ok { IfOk result (λ text. (length text.items ≤ 1048576)
         × IfSome (R.remaining (inner_of reader.old)) (λ xs. text.items ≡ xs)) }
     ensures too_long { IsErrOf result InputFault.TooLong
         → IfSome (R.remaining (inner_of reader.old)) (λ xs. 1048576 < length xs) }
+    // Read is reported exactly if the reader has failed.
     ensures read { IsErrOf result InputFault.Read → has_failed reader.new ≡ true }
-    ensures unmarked { (result ≢ Err InputFault.Read)
-        → has_failed reader.new ≡ has_failed reader.old }
+    ensures unmarked { (result ≢ Err InputFault.Read) → has_failed reader.new ≡ false }
     ensures calls { calls_of reader.new ≤ calls_of reader.old + 1048577 }
 {
+    if reader.failed() {
+        return Err(InputFault::Read);
+    }
     let mut text = Vec::new(alloc);
     let mut piece = [0u8; 16_384];
     'pieces: loop {

@@ -1,12 +1,13 @@
 //! A plan's text in, the text of its run out.
-ghost use Rattle.std.specs.Prelude.{◌≡◌, ◌≢◌, ◌+◌, ◌<◌, ◌≤◌, ◌++◌, IsSome, Ok, Err, true, false, IsErrOf, IfErr, IfOk, IfSome, OnErr, OnOk, [], ◌∷◌, length};
+ghost use Rattle.std.specs.Prelude.{◌≡◌, ◌≢◌, ◌+◌, ◌<◌, ◌≤◌, ◌++◌, IsSome, Ok, Err, true, false, IsErrOf, IfErr, IfOk, IfSome, OnErr, OnOk, [], ◌∷◌};
 ghost use Rattle.std.specs.Io.KnownBytes.{Appends};
 ghost use Rattle.usb_bus.specs.Watch.{inner_of, has_failed, calls_of, AppendsFront};
 ghost use Rattle.usb_plan.specs.Plan.{spelled_plan};
 ghost use Rattle.usb_serve.specs.declared.serving.ServeFault.TheVariants as serve;
 ghost use Rattle.usb_serve.specs.Outputs.{held};
-ghost use Rattle.usb_serve.specs.ServedRuns.{IsUnread, IsServed, IsServedThrough, IsWritten, TellsWriter};
-ghost use Rattle.usb_serve.specs.ServeResults.{IsCausedInRun, IsOfRun, MarksWriter, input_fault, report_fault};
+ghost use Rattle.usb_serve.specs.ServedRuns.{IsUnread, IsWritten, Reads, Serves};
+ghost use Rattle.usb_serve.specs.ServedThrough.{ServesThrough, writer_fault};
+ghost use Rattle.usb_serve.specs.ServeResults.{IsCausedInRun, IsOfRun, input_fault, report_fault};
 ghost use Rattle.usb_text.specs.ListingLines.{written_lines};
 ghost use Rattle.usb_run.specs.ItemLines.{item_lines, number_of};
 ghost use Rattle.usb_run.specs.Run.{IsCaused, items_left};
@@ -17,14 +18,15 @@ ghost use Rattle.usb_serve.specs.ServedTranscripts.{RunEnds};
 use crate::answers::{cleared_line, received_line, sent_line};
 use crate::input::{InputFault, read_text};
 use crate::output::Output;
+use crate::tracing::OutputTracer;
 use std::alloc::{AllocError, Global};
 use std::io::{Read, Write};
 use std::str;
 use thiserror::Error;
-use usb_bus::{BusFault, Watched, WriteFailed, put_pieces};
+use usb_bus::{BusFault, Watched, WriteFailed};
 use usb_plan::{PlanFault, bound, read_plan};
 use usb_run::{Item, Mode, RunFault, Runner};
-use usb_sim::{Plan, Tracer, Untraced, untraced_fault};
+use usb_sim::{Plan, Trace, Tracer, Untraced, untraced_fault};
 use usb_text::{Lines, bound_line, listing_lines};
 
 /// Why a plan was not served to its end, in the order in which the reasons are told.
@@ -96,10 +98,10 @@ impl From<WriteFailed> for ServeFault {
 /// reached hold one address. A plan of at most 127 plugs whose limit is its bound never comes to its limit.
 ///
 /// # Errors
-/// Read where the reader failed, TooLong for a text over the limit, Plan for a text that is no plan,
-/// Run where the run ended early: LimitReached where the attempts made equal the plan's limit, TraceFailed where the
-/// writer failed in a line of trace; Write where the writer failed in a line of report, Memory where memory was
-/// refused.
+/// Read if the reader failed, TooLong for a text over the limit, Plan for a text that is no plan,
+/// Run if the run ended early: LimitReached if the attempts made equal the plan's limit, in mode Run TraceFailed if the
+/// writer failed at the line of an attempt or an event; Write if the writer failed in a line of report, Memory if
+/// memory was refused.
 pub fn serve<R: Read, W: Write>(
     alloc: Global,
     mode: Mode,
@@ -108,52 +110,44 @@ pub fn serve<R: Read, W: Write>(
 ) -> (Result<(), ServeFault>, Watched<W>)
     requires unfailed { has_failed writer ≡ false }
     ensures calls { calls_of reader.new ≤ calls_of reader.old + 1048577 }
-    ensures read { IsErrOf result.0 ServeFault.Read → has_failed reader.new ≡ true }
-    ensures too_long { IsErrOf result.0 ServeFault.TooLong →
-        IfSome (R.remaining (inner_of reader.old)) (λ text. 1048576 < length text) }
-    // Write and TraceFailed are told where the writer has failed, LimitReached where it has not.
-    ensures writer { MarksWriter result.0 (has_failed result.1) }
-    ensures served { IsServed mode (R.remaining (inner_of reader.old))
-        (W.contents (inner_of writer)) result.0 (W.contents (inner_of result.1)) }
+    ensures serves { Serves mode (R.remaining (inner_of reader.old)) (has_failed reader.new)
+        (W.contents (inner_of writer)) result.0 (has_failed result.1)
+        (W.contents (inner_of result.1)) }
 {
-    let plan = match plan_of(alloc, reader) {
-        Ok(plan) => plan,
-        Err(fault) => return (Err(fault), writer),
-    };
-    match mode {
-        Mode::Tree => serve_tree(alloc, &plan, writer),
-        Mode::Run => serve_run(alloc, &plan, writer),
-    }
+    let (result, tracer) = serve_to(alloc, mode, reader, Tracer::new(writer));
+    (result, tracer.into_writer())
 }
 
-/// Serves a plan to an output as `serve` does, lets out what waits then, and hands the writer back.
+/// Serves a plan to an output as `serve` does, lets out what waits then, and hands the writer back, with its mark.
 ///
-/// All that `serve` says is written has gone out, or a front of it where the writer failed.
+/// All that `serve` says is written has gone out, or a prefix of it if the writer failed. If it had failed before,
+/// nothing is read.
 ///
 /// # Errors
-/// Those of `serve`, and Write where the writer failed when what waited was let out.
+/// Those of `serve`; Write also if the writer failed before, or when what waited was let out.
 pub fn serve_through<R: Read, W: Write + Drop>(
     alloc: Global,
     mode: Mode,
     reader: &mut Watched<R>,
     output: Output<W>,
-) -> (Result<(), ServeFault>, W)
+) -> (Result<(), ServeFault>, Watched<W>)
     ensures calls { calls_of reader.new ≤ calls_of reader.old + 1048577 }
-    ensures read { IsErrOf result.0 ServeFault.Read → has_failed reader.new ≡ true }
-    ensures too_long { IsErrOf result.0 ServeFault.TooLong →
-        IfSome (R.remaining (inner_of reader.old)) (λ text. 1048576 < length text) }
-    ensures served { IsServedThrough mode (R.remaining (inner_of reader.old))
-        (held W.contents output) result.0 (W.contents result.1) }
+    ensures serves { ServesThrough mode (R.remaining (inner_of reader.old)) (has_failed reader.new)
+        (held W.contents output) result.0 (has_failed result.1)
+        (W.contents (inner_of result.1)) }
 {
-    let (told, writer) = serve(alloc, mode, reader, Watched::new(output));
-    let (out, writer) = writer.into_inner().finish();
+    if output.has_ended() {
+        return (Err(ServeFault::Write), output.finish().1);
+    }
+    let (told, tracer) = serve_to(alloc, mode, reader, OutputTracer::new(output));
+    let (out, writer) = tracer.into_output().finish();
     (ended(told, out), writer)
 }
 
 /// How serving ended, once what waited was let out.
 fn ended(told: Result<(), ServeFault>, out: Result<(), WriteFailed>) -> Result<(), ServeFault>
     ensures all { OnOk out (result ≡ told) }
-    ensures failed { OnErr out (TellsWriter result) }
+    ensures failed { OnErr out (result ≡ Err (writer_fault told)) }
 {
     match (out, told) {
         (Ok(()), _) | (Err(_), Err(ServeFault::Run(RunFault::TraceFailed))) => told,
@@ -161,16 +155,37 @@ fn ended(told: Result<(), ServeFault>, out: Result<(), WriteFailed>) -> Result<(
     }
 }
 
+/// Reads a plan, runs it, and lets this have what the mode asks for; it has not failed yet.
+fn serve_to<R: Read, T: Trace>(
+    alloc: Global,
+    mode: Mode,
+    reader: &mut Watched<R>,
+    tracer: T,
+) -> (Result<(), ServeFault>, T)
+    requires unfailed { T.failed tracer ≡ false }
+    ensures calls { calls_of reader.new ≤ calls_of reader.old + 1048577 }
+    ensures serves { Serves mode (R.remaining (inner_of reader.old)) (has_failed reader.new)
+        (T.text tracer) result.0 (T.failed result.1) (T.text result.1) }
+{
+    let plan = match plan_of(alloc, reader) {
+        Ok(plan) => plan,
+        Err(fault) => return (Err(fault), tracer),
+    };
+    match mode {
+        Mode::Tree => serve_tree(alloc, &plan, tracer),
+        Mode::Run => serve_run(alloc, &plan, tracer),
+    }
+}
+
 /// The plan that a reader's text spells.
 ///
 /// # Errors
-/// Read where the reader failed, TooLong for a text over the limit, Plan for a text that is no plan, Memory where
-/// memory was refused.
+/// Read if the reader failed, here or before; TooLong for a text over the limit, Plan for a text that is no plan,
+/// Memory if memory was refused.
 pub fn plan_of<R: Read>(alloc: Global, reader: &mut Watched<R>) -> Result<Plan, ServeFault>
     ensures calls { calls_of reader.new ≤ calls_of reader.old + 1048577 }
-    ensures read { IsErrOf result ServeFault.Read → has_failed reader.new ≡ true }
-    ensures too_long { IsErrOf result ServeFault.TooLong →
-        IfSome (R.remaining (inner_of reader.old)) (λ text. 1048576 < length text) }
+    // Read and TooLong are reported exactly if the reader has failed, and only for a long text.
+    ensures reads { Reads (R.remaining (inner_of reader.old)) result (has_failed reader.new) }
     ensures plan { IfOk result (λ plan. IfSome (R.remaining (inner_of reader.old))
         (λ text. spelled_plan text ≡ Ok plan)) }
     ensures unread { IfErr result (IsUnread (R.remaining (inner_of reader.old))) }
@@ -185,38 +200,32 @@ pub fn plan_of<R: Read>(alloc: Global, reader: &mut Watched<R>) -> Result<Plan, 
     }
 }
 
-fn serve_tree<W: Write>(
+fn serve_tree<T: Trace>(
     alloc: Global,
     plan: &Plan,
-    writer: Watched<W>,
-) -> (Result<(), ServeFault>, Watched<W>)
-    requires unfailed { has_failed writer ≡ false }
+    tracer: T,
+) -> (Result<(), ServeFault>, T)
+    requires unfailed { T.failed tracer ≡ false }
     ensures reader { IsOfRun result.0 }
-    ensures write { IsErrOf result.0 ServeFault.Write → has_failed result.1 ≡ true }
+    ensures write { IsErrOf result.0 ServeFault.Write → T.failed result.1 ≡ true }
     ensures at_limit { IsErrOf result.0 (ServeFault.Run RunFault.LimitReached)
-        → has_failed result.1 ≡ false }
+        → T.failed result.1 ≡ false }
     ensures untraced { result.0 ≢ Err (ServeFault.Run RunFault.TraceFailed) }
-    ensures written { IsWritten Mode.Tree plan.now
-        (W.contents (inner_of writer)) result.0 (W.contents (inner_of result.1)) }
+    ensures written { IsWritten Mode.Tree plan.now (T.text tracer) result.0 (T.text result.1) }
 {
-    let mut writer = writer;
-    let result = write_tree(alloc, plan, &mut writer);
-    (result, writer)
+    let mut tracer = tracer;
+    let result = write_tree(alloc, plan, &mut tracer);
+    (result, tracer)
 }
 
 /// Writes the lines of each item when it is made, and the bound behind the last.
-fn write_tree<W: Write>(
-    alloc: Global,
-    plan: &Plan,
-    writer: &mut Watched<W>,
-) -> Result<(), ServeFault>
+fn write_tree<T: Trace>(alloc: Global, plan: &Plan, writer: &mut T) -> Result<(), ServeFault>
     ensures reader { IsOfRun result }
-    ensures write { IsErrOf result ServeFault.Write → has_failed writer.new ≡ true }
+    ensures write { IsErrOf result ServeFault.Write → T.failed writer.new ≡ true }
     ensures unmarked { (result ≢ Err ServeFault.Write)
-        → has_failed writer.new ≡ has_failed writer.old }
+        → T.failed writer.new ≡ T.failed writer.old }
     ensures untraced { result ≢ Err (ServeFault.Run RunFault.TraceFailed) }
-    ensures written { IsWritten Mode.Tree plan.now
-        (W.contents (inner_of writer.old)) result (W.contents (inner_of writer.new)) }
+    ensures written { IsWritten Mode.Tree plan.now (T.text writer.old) result (T.text writer.new) }
 {
     let mut runner = match Runner::untraced(alloc, plan) {
         Ok(runner) => runner,
@@ -282,14 +291,13 @@ fn one_line(alloc: Global, line: Vec<u8>) -> Result<Lines, AllocError>
 /// Writes lines in their order.
 ///
 /// # Errors
-/// Write where the writer failed.
-pub fn write_lines<W: Write>(writer: &mut Watched<W>, lines: &[Vec<u8>]) -> Result<(), ServeFault>
-    ensures front { AppendsFront (W.contents (inner_of writer.old))
-        (W.contents (inner_of writer.new)) (written_lines lines.now) }
-    ensures ok { OnOk result (Appends (W.contents (inner_of writer.old))
-        (W.contents (inner_of writer.new)) (written_lines lines.now)) }
-    ensures write { OnErr result (has_failed writer.new ≡ true) }
-    ensures unmarked { OnOk result (has_failed writer.new ≡ has_failed writer.old) }
+/// Write if the writer failed.
+pub fn write_lines<T: Trace>(writer: &mut T, lines: &[Vec<u8>]) -> Result<(), ServeFault>
+    ensures front { AppendsFront (T.text writer.old) (T.text writer.new) (written_lines lines.now) }
+    ensures ok { OnOk result (Appends (T.text writer.old) (T.text writer.new)
+        (written_lines lines.now)) }
+    ensures write { OnErr result (T.failed writer.new ≡ true) }
+    ensures unmarked { OnOk result (T.failed writer.new ≡ T.failed writer.old) }
     ensures fault { IfErr result (λ fault. fault ≡ ServeFault.Write) }
 {
     'lines: for line in lines {
@@ -299,45 +307,39 @@ pub fn write_lines<W: Write>(writer: &mut Watched<W>, lines: &[Vec<u8>]) -> Resu
 }
 
 /// Writes a line, and a newline behind it.
-fn write_line<W: Write>(writer: &mut Watched<W>, line: &[u8]) -> Result<(), ServeFault>
-    ensures front { AppendsFront (W.contents (inner_of writer.old))
-        (W.contents (inner_of writer.new)) (line.now ++ 10 ∷ []) }
-    ensures ok { OnOk result (Appends (W.contents (inner_of writer.old))
-        (W.contents (inner_of writer.new)) (line.now ++ 10 ∷ [])) }
-    ensures write { OnErr result (has_failed writer.new ≡ true) }
-    ensures unmarked { OnOk result (has_failed writer.new ≡ has_failed writer.old) }
+fn write_line<T: Trace>(writer: &mut T, line: &[u8]) -> Result<(), ServeFault>
+    ensures front { AppendsFront (T.text writer.old) (T.text writer.new) (line.now ++ 10 ∷ []) }
+    ensures ok { OnOk result (Appends (T.text writer.old) (T.text writer.new)
+        (line.now ++ 10 ∷ [])) }
+    ensures write { OnErr result (T.failed writer.new ≡ true) }
+    ensures unmarked { OnOk result (T.failed writer.new ≡ T.failed writer.old) }
     ensures fault { IfErr result (λ fault. fault ≡ ServeFault.Write) }
 {
-    put_pieces(writer, &[line, b"\n"])?;
+    writer.put_pieces(&[line, b"\n"])?;
     Ok(())
 }
 
-fn serve_run<W: Write>(
-    alloc: Global,
-    plan: &Plan,
-    writer: Watched<W>,
-) -> (Result<(), ServeFault>, Watched<W>)
-    requires unfailed { has_failed writer ≡ false }
+fn serve_run<T: Trace>(alloc: Global, plan: &Plan, tracer: T) -> (Result<(), ServeFault>, T)
+    requires unfailed { T.failed tracer ≡ false }
     ensures reader { IsOfRun result.0 }
-    ensures write { IsErrOf result.0 ServeFault.Write → has_failed result.1 ≡ true }
+    ensures write { IsErrOf result.0 ServeFault.Write → T.failed result.1 ≡ true }
     ensures trace { IsErrOf result.0 (ServeFault.Run RunFault.TraceFailed)
-        → has_failed result.1 ≡ true }
+        → T.failed result.1 ≡ true }
     ensures at_limit { IsErrOf result.0 (ServeFault.Run RunFault.LimitReached)
-        → has_failed result.1 ≡ false }
-    ensures written { IsWritten Mode.Run plan.now
-        (W.contents (inner_of writer)) result.0 (W.contents (inner_of result.1)) }
+        → T.failed result.1 ≡ false }
+    ensures written { IsWritten Mode.Run plan.now (T.text tracer) result.0 (T.text result.1) }
 {
-    match Runner::new(alloc, plan, writer) {
+    match Runner::traced(alloc, plan, tracer) {
         Ok(mut runner) => {
             let result = trace_run(alloc, &mut runner);
-            (result, runner.into_writer())
+            (result, runner.into_tracer())
         }
-        Err((_, writer)) => (Err(ServeFault::Run(RunFault::Memory)), writer),
+        Err((_, tracer)) => (Err(ServeFault::Run(RunFault::Memory)), tracer),
     }
 }
 
 /// Runs to the end, with the lines of each item put into the trace when it is made.
-fn trace_run<W: Write>(alloc: Global, runner: &mut Runner<Tracer<W>>) -> Result<(), ServeFault>
+fn trace_run<T: Trace>(alloc: Global, runner: &mut Runner<T>) -> Result<(), ServeFault>
     ensures reader { IsOfRun result }
     ensures caused { IfErr result (λ fault. IsCausedInRun fault runner.new.host.world) }
     ensures ends { (runner.old.over ≡ false → Knows runner.old.host)
@@ -351,7 +353,7 @@ fn trace_run<W: Write>(alloc: Global, runner: &mut Runner<Tracer<W>>) -> Result<
     Ok(())
 }
 
-fn put_lines<W: Write>(runner: &mut Runner<Tracer<W>>, lines: &[Vec<u8>]) -> Result<(), ServeFault>
+fn put_lines<T: Trace>(runner: &mut Runner<T>, lines: &[Vec<u8>]) -> Result<(), ServeFault>
     ensures over { runner.new.over ≡ runner.old.over }
     ensures prints { Prints (written_lines lines.now) runner.old.host result runner.new.host }
     ensures reader { IsOfRun result }

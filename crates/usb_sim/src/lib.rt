@@ -14,7 +14,7 @@
 //! - A bus that makes no line of its trace (`SimBus::untraced`) meets all of this too, and its type says that it never
 //!   tells Failed (`untraced_fault`).
 //! - The trace of a `SimBus` has failed exactly where Failed was told, whatever was called on it, so each
-//!   Failed is of a write that failed in that call (`trace_fault`, `into_writer`).
+//!   Failed is of a write that failed in that call (`trace_fault`, `into_writer`, `into_tracer`).
 //! - A plug is one line of the trace, whatever its device's name holds (`plug_is_one_line`): the name is shown as
 //!   `shown_name` (`usb_bus/specs/Shown.antt`).
 #![tactic(auto)]
@@ -28,6 +28,7 @@ mod tracer;
 pub use laws::{plug_is_one_line, trace_fault, untraced_fault};
 pub use shown::ends_line;
 pub use sim::SimBus;
+pub use trace::{Line, push_attempt};
 pub use tracer::{Trace, Tracer, Untraced};
 pub use usb_world::{
     Action, Ask, Change, Damage, Damages, Event, Events, Exchange, Harm, Plan, SentBytes,

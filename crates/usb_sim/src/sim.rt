@@ -110,7 +110,7 @@ impl<W: Write> SimBus<Tracer<W>> {
         ensures writer { IfOk result (λ bus. writer_of bus ≡ writer) }
         ensures back { IfErr result (λ e. e.1 ≡ writer) }
     {
-        match SimBus::with_tracer(alloc, plan, Tracer::new(writer)) {
+        match SimBus::traced(alloc, plan, Tracer::new(writer)) {
             Ok(bus) => Ok(bus),
             Err((error, tracer)) => Err((error, tracer.into_writer())),
         }
@@ -121,8 +121,7 @@ impl<W: Write> SimBus<Tracer<W>> {
         ensures writer { result ≡ writer_of self }
         ensures failed { has_failed result ≡ tells_failure (world_of self).fault }
     {
-        let SimBus { tracer, .. } = self;
-        tracer.into_writer()
+        self.into_tracer().into_writer()
     }
 }
 
@@ -137,15 +136,21 @@ impl SimBus<Untraced> {
     pub fn untraced(alloc: Global, plan: &Plan) -> Result<SimBus<Untraced>, AllocError>
         ensures { IfOk result (λ bus. world_of bus ≡ opening plan.now) }
     {
-        SimBus::with_tracer(alloc, plan, Untraced).map_err(|(error, _)| error)
+        SimBus::traced(alloc, plan, Untraced).map_err(|(error, _)| error)
     }
 }
 
 impl<T: Trace> SimBus<T> {
     ghost use Rattle.usb_sim.specs.Sim.{world_of, tracer_of, device_at, registers_of};
 
+    /// The bus of a plan, before anything came: all ports are off. The lines of its trace go to this, which has not
+    /// failed yet.
+    ///
+    /// # Errors
+    ///
+    /// Memory is refused; what the lines were to go to is handed back.
     #[tactic(auto, using(usb_world::proofs::Interface::no_losses_yet))]
-    fn with_tracer(alloc: Global, plan: &Plan, tracer: T) -> Result<SimBus<T>, (AllocError, T)>
+    pub fn traced(alloc: Global, plan: &Plan, tracer: T) -> Result<SimBus<T>, (AllocError, T)>
         requires unfailed { T.failed tracer ≡ false }
         ensures world { IfOk result (λ bus. world_of bus ≡ opening plan.now) }
         ensures tracer { IfOk result (λ bus. tracer_of bus ≡ tracer) }
@@ -172,6 +177,15 @@ impl<T: Trace> SimBus<T> {
                 exchange: Exchange::blank(),
             }),
         }
+    }
+
+    /// Hands back what the lines of the trace went to. It has failed exactly where this is the fault that was told.
+    pub fn into_tracer(self) -> T
+        ensures tracer { result ≡ tracer_of self }
+        ensures failed { T.failed result ≡ tells_failure (world_of self).fault }
+    {
+        let SimBus { tracer, .. } = self;
+        tracer
     }
 
     /// How many events came.

@@ -7,11 +7,11 @@ use usb_packet::{push_decimal, push_packet};
 use usb_world::{Exchange, ExchangeAnswer, Mark, Outgoing};
 
 /// Room for the longest line of an attempt.
-pub(crate) type Line = ArrayString<700>;
+pub type Line = ArrayString<700>;
 
-/// An attempt's number and its packets, and the end of the line. `pre` says that PRE stands before each of the host's
-/// packets.
-pub(crate) fn push_attempt(line: &mut Line, number: u64, pre: bool, exchange: &Exchange)
+/// Writes an attempt's number, its packets and the end of the line into an empty line. `pre` says that PRE stands
+/// before each of the host's packets.
+pub fn push_attempt(line: &mut Line, number: u64, pre: bool, exchange: &Exchange)
     requires { line.old.bytes ≡ [] }
     ensures { line.new.bytes ≡ attempt_line number pre exchange.now ++ 10 ∷ [] }
 {

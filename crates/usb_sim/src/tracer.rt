@@ -52,7 +52,7 @@ impl<W> Tracer<W> {
     ghost use Rattle.usb_sim.specs.Tracer.{writer_in};
 
     /// Lines go to this writer.
-    pub(crate) fn new(writer: Watched<W>) -> Self
+    pub fn new(writer: Watched<W>) -> Self
         ensures { writer_in result ≡ writer }
     {
         Tracer {
@@ -62,7 +62,7 @@ impl<W> Tracer<W> {
     }
 
     /// Gives the writer back.
-    pub(crate) fn into_writer(self) -> Watched<W>
+    pub fn into_writer(self) -> Watched<W>
         ensures { result ≡ writer_in self }
     {
         let Tracer { writer, .. } = self;
@@ -88,6 +88,26 @@ impl<W: Write> Trace for Tracer<W> {
 
     fn put_pieces(&mut self, pieces: &[&[u8]]) -> Result<(), WriteFailed> {
         put_pieces(&mut self.writer, pieces)
+    }
+}
+
+/// A writer alone, for which each line of an attempt is made anew.
+impl<W: Write> Trace for Watched<W> {
+    ghost text = { known_text W.contents };
+
+    ghost failed = { has_failed };
+
+    fn put_attempt(
+        &mut self,
+        number: u64,
+        pre: bool,
+        exchange: &Exchange,
+    ) -> Result<(), WriteFailed> {
+        put_attempt(self, &mut Line::new(), number, pre, exchange)
+    }
+
+    fn put_pieces(&mut self, pieces: &[&[u8]]) -> Result<(), WriteFailed> {
+        put_pieces(self, pieces)
     }
 }
 

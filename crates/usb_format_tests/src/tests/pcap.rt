@@ -126,6 +126,8 @@ fn files_of_texts(rt: HostRuntime) -> Result<(), Fail> {
 const REPORTS: &[&str] = &[
     "plug 1 a",
     "plug 1.2.3.4.5.6.7 two words ",
+    "plug 1 a\\u0009b",
+    "plug 1 ma\u{f6}se",
     "unplug 7",
     "listing 0",
     "end",
@@ -154,6 +156,9 @@ const OTHERS: &[&str] = &[
     "plug 1 ",
     "plug 8 a",
     "plug 1. a",
+    "plug 1 a\tb",
+    "plug 1 \u{7f}",
+    "plug 1 a\r",
     "plug 1.1.1.1.1.1.1.1 a",
     "unplug 1 ",
     "unplug",
@@ -205,6 +210,7 @@ fn reports(rt: HostRuntime) -> Result<(), Fail> {
 fn long_lines(rt: HostRuntime) -> Result<(), Fail> {
     for (begin, piece, times, fault) in [
         ("plug 1 ", "n", 200_000u32, None),
+        ("plug 1 n", "\u{b}", 200_000, Some(PcapFault::Line(1))),
         ("1.2.3.4.5.6.7 config 7 ", "0A", 65_535, None),
         ("1 config 0 ", "0A", 66_000, Some(PcapFault::Line(1))),
         ("1 IN 0.0 / NAK", " ", 200_000, Some(PcapFault::Line(1))),

@@ -48,6 +48,33 @@ impl Write for Frail {
     }
 }
 
+/// A writer that keeps what it takes up to its next flush, one of whose flushes fails, behind so many. The flushes after
+/// that are as those before.
+#[derive(Drop)]
+pub(super) struct Late {
+    pub(super) flushed: Vec<u8>,
+    pub(super) kept: Vec<u8>,
+    pub(super) flushes_left: u64,
+}
+
+impl Write for Late {
+    fn write(&mut self, buf: &[u8]) -> io::Result<usize> {
+        self.kept.extend_from_slice(buf)?;
+        Ok(buf.len())
+    }
+
+    fn flush(&mut self) -> io::Result<()> {
+        let fails = self.flushes_left == 0;
+        self.flushes_left = self.flushes_left.wrapping_sub(1);
+        if fails {
+            return Err(Error::from(ErrorKind::Other));
+        }
+        self.flushed.extend_from_slice(self.kept.as_slice())?;
+        self.kept.clear();
+        Ok(())
+    }
+}
+
 /// A reader of so many bytes at once, one of whose calls fails, behind so many. The calls after that are as those
 /// before.
 #[derive(Drop)]

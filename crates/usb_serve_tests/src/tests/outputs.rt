@@ -1,8 +1,9 @@
 //! Writers behind a buffer that fail once: what went out of each row, and the fault that is told.
-use super::frail::{Frail, Trouble};
+use super::frail::{Frail, Late, Trouble};
 use super::rows::{ROWS, Row};
 use super::writers::{fault_in_line, text_of};
 use std::alloc::{AllocError, Global};
+use std::io::Write;
 use std::test::Fail;
 use usb_bus::Watched;
 use usb_run::{Mode, RunFault};
@@ -11,10 +12,12 @@ use usb_serve::{Output, ROOM, ServeFault, serve_through};
 /// More than any text of these rows has.
 const WHOLE: usize = 65_536;
 
-/// How serving through a buffer ended, how many bytes went out, and whether they are a front of the row's text.
+/// How serving through a buffer ended, the mark of its writer, how many bytes went out, and whether they are a front of
+/// the row's text.
 #[derive(Clone, Copy, Debug, PartialEq)]
 struct Outcome {
     ended: Result<(), ServeFault>,
+    is_marked: bool,
     taken: usize,
     is_front: bool,
 }
@@ -36,9 +39,11 @@ fn served(
     let output = Output::new(alloc, room, writer)?;
     let mut reader = Watched::new(row.plan.as_bytes());
     let (ended, writer) = serve_through(alloc, mode, &mut reader, output);
-    let taken = writer.taken;
+    let is_marked = writer.failed();
+    let taken = writer.into_inner().taken;
     Ok(Outcome {
         ended,
+        is_marked,
         taken: taken.len(),
         is_front: text_of(row, mode).as_bytes().starts_with(taken.as_slice()),
     })
@@ -67,17 +72,18 @@ fn lines_out(text: &str, calls: usize) -> usize {
         .unwrap_or(text.lines().count())
 }
 
-/// What is wanted where the writer fails in the call behind so many.
+/// What is wanted where the writer fails in the call behind so many, in the last line of a listing or at the end.
 fn wanted(row: &Row, mode: Mode, turn: usize) -> Outcome {
     let text = text_of(row, mode);
     let lines = lines_out(text, turn);
     let fails = bytes_of(text, lines) < text.len();
     Outcome {
         ended: if fails {
-            Err(fault_in_line(row, mode, lines_out(text, turn.saturating_add(1))))
+            Err(ServeFault::Write)
         } else {
             Ok(())
         },
+        is_marked: fails,
         taken: bytes_of(text, lines),
         is_front: true,
     }
@@ -121,6 +127,43 @@ fn each_listing_goes_out_at_once(rt: HostRuntime) -> Result<(), Fail> {
     Ok(())
 }
 
+/// What is wanted where nothing waits, and the writer fails in the line behind so many.
+fn wanted_in_line(row: &Row, mode: Mode, turn: usize) -> Outcome {
+    let text = text_of(row, mode);
+    let fails = turn < text.lines().count();
+    Outcome {
+        ended: if fails {
+            Err(fault_in_line(row, mode, turn))
+        } else {
+            Ok(())
+        },
+        is_marked: fails,
+        taken: bytes_of(text, turn),
+        is_front: true,
+    }
+}
+
+/// The first row and mode, and the line at which something else becomes of it where nothing waits.
+fn first_other_line(alloc: Global) -> Result<Option<(&'static str, Mode, usize)>, AllocError> {
+    for row in &ROWS {
+        for mode in [Mode::Run, Mode::Tree] {
+            for turn in 0..=text_of(row, mode).lines().count() {
+                let outcome = served(alloc, row, mode, 0, (Trouble::Fails, turn))?;
+                if outcome != wanted_in_line(row, mode, turn) {
+                    return Ok(Some((row.name, mode, turn)));
+                }
+            }
+        }
+    }
+    Ok(None)
+}
+
+#[test]
+fn each_line_goes_out_at_once_where_nothing_waits(rt: HostRuntime) -> Result<(), Fail> {
+    assert_eq!(rt; first_other_line(rt.alloc())?, None);
+    Ok(())
+}
+
 /// Whether all went out and nothing is told, or a front did and the writer is told to have failed.
 fn is_told(row: &Row, outcome: Outcome) -> bool {
     let is_whole = outcome.taken == row.run.len();
@@ -129,6 +172,7 @@ fn is_told(row: &Row, outcome: Outcome) -> bool {
         Err(ServeFault::Write | ServeFault::Run(RunFault::TraceFailed))
     );
     outcome.is_front
+        && outcome.is_marked != is_whole
         && (if is_whole {
             outcome.ended.is_ok()
         } else {
@@ -162,5 +206,82 @@ fn a_failed_write_is_told_with_any_room(rt: HostRuntime) -> Result<(), Fail> {
     for room in [0, 1, 10, 100, 1000] {
         assert_eq!(rt; first_untold(rt.alloc(), room)?, None, "room for {room}");
     }
+    Ok(())
+}
+
+/// What is served through a buffer to a writer that keeps what it takes up to its next flush. The flush behind so many
+/// fails.
+fn flushed(alloc: Global, row: &Row, mode: Mode, turn: usize) -> Result<Outcome, AllocError> {
+    let writer = Late {
+        flushed: Vec::new(alloc),
+        kept: Vec::new(alloc),
+        flushes_left: turn as u64,
+    };
+    let output = Output::new(alloc, ROOM, writer)?;
+    let mut reader = Watched::new(row.plan.as_bytes());
+    let (ended, writer) = serve_through(alloc, mode, &mut reader, output);
+    let is_marked = writer.failed();
+    let taken = writer.into_inner().flushed;
+    Ok(Outcome {
+        ended,
+        is_marked,
+        taken: taken.len(),
+        is_front: text_of(row, mode).as_bytes().starts_with(taken.as_slice()),
+    })
+}
+
+/// What is wanted where the flush behind so many fails: one is made behind each listing, and one at the end.
+fn wanted_flushed(row: &Row, mode: Mode, turn: usize) -> Outcome {
+    let text = text_of(row, mode);
+    let listings = text.lines().filter(|line| *line == "end").count();
+    let fails = turn <= listings;
+    Outcome {
+        ended: if fails {
+            Err(ServeFault::Write)
+        } else {
+            Ok(())
+        },
+        is_marked: fails,
+        taken: bytes_of(text, lines_out(text, turn)),
+        is_front: true,
+    }
+}
+
+/// The first row and mode, and the turn of a failed flush at which something else becomes of it.
+fn first_other_flushed(
+    alloc: Global,
+) -> Result<Option<(&'static str, Mode, usize)>, AllocError> {
+    for row in &ROWS {
+        for mode in [Mode::Run, Mode::Tree] {
+            for turn in 0..5usize {
+                if flushed(alloc, row, mode, turn)? != wanted_flushed(row, mode, turn) {
+                    return Ok(Some((row.name, mode, turn)));
+                }
+            }
+        }
+    }
+    Ok(None)
+}
+
+#[test]
+fn a_failed_flush_is_told(rt: HostRuntime) -> Result<(), Fail> {
+    assert_eq!(rt; first_other_flushed(rt.alloc())?, None);
+    Ok(())
+}
+
+/// A text that is no plan, and a writer that failed before: nothing is read of it.
+#[test]
+fn nothing_is_read_for_a_writer_that_has_failed(rt: HostRuntime) -> Result<(), Fail> {
+    let writer = Frail {
+        taken: Vec::new(rt.alloc()),
+        at_once: WHOLE,
+        writes_left: 0,
+        trouble: Trouble::Fails,
+    };
+    let mut output = Output::new(rt.alloc(), 0, writer)?;
+    assert!(rt; output.write(b"lost").is_err());
+    let mut reader = Watched::new("limit".as_bytes());
+    let (ended, writer) = serve_through(rt.alloc(), Mode::Run, &mut reader, output);
+    assert_eq!(rt; (ended, writer.failed(), reader.calls()), (Err(ServeFault::Write), true, 0));
     Ok(())
 }

@@ -1,25 +1,34 @@
-use Rattle.std.proofs.Common.{sym, ◌∙◌}
+use Rattle.std.proofs.Common.{◌≡◌, ◌∙◌, ◌&&◌, Bool, List, ℕ, ap, sym}
+use Rattle.usb_pcap.specs.{fits_form, is_shown, plug_form}
 use Rattle.usb_pcap.proofs.Captures.{attempt_records, long_refused, none_refused, plug_records}
 use Rattle.usb_pcap.proofs.Captures.{report_records}
 use Rattle.usb_pcap.proofs.capturing.line_records.Goals as goal
 
-pub returns-then-is_plug : goal.returns-then-is_plug
-returns-then-is_plug c = λ line e long. plug_records _ line _ e (sym c.is_plug.ensures
-    ∙ c.if-is_plug.true) c.new.ensures
+-- whether the whole line shows no control character is known by the mark
+marked : (line front : List ℕ) (shown result is : Bool) → shown ≡ is_shown line
+    → result ≡ (shown && fits_form plug_form front) → result ≡ is
+    → (is_shown line && fits_form plug_form front) ≡ is
+marked line front shown result is same made at =
+    ap (λ s. s && fits_form plug_form front) (sym same) ∙ sym made ∙ at
+
+pub returns-then-is_shown_plug : goal.returns-then-is_shown_plug
+returns-then-is_shown_plug c = λ line e long shown. plug_records _ line _ e
+    (marked line _ _ _ _ shown c.is_shown_plug.ensures c.if-is_shown_plug.true) c.new.ensures
 
 pub returns-then-is_long : goal.returns-then-is_long
-returns-then-is_long c = λ line e long. long_refused _ line _ e long c.if-is_long.true
-    (sym c.is_plug.ensures ∙ c.if-is_plug.false)
+returns-then-is_long c = λ line e long shown. long_refused _ line _ e long c.if-is_long.true
+    (marked line _ _ _ _ shown c.is_shown_plug.ensures c.if-is_shown_plug.false)
 
 pub returns-then-is_report : goal.returns-then-is_report
-returns-then-is_report c = λ line e long. report_records _ line _ _ e long c.if-is_long.false
+returns-then-is_report c = λ line e long shown. report_records _ line _ _ e long c.if-is_long.false
     (sym c.is_report.ensures ∙ c.if-is_report.true) c.new-then-is_report.ensures
 
 pub returns-in-Some : goal.returns-in-Some
-returns-in-Some c = λ line e long. attempt_records _ line _ _ _ e long c.if-is_long.false
+returns-in-Some c = λ line e long shown. attempt_records _ line _ _ _ e long c.if-is_long.false
     c.in-Some.ensures.found c.records_of.ensures
 
 pub returns-in-None : goal.returns-in-None
-returns-in-None c = λ line e long.
-    none_refused _ line _ e long c.if-is_long.false (sym c.is_plug.ensures ∙ c.if-is_plug.false)
+returns-in-None c = λ line e long shown.
+    none_refused _ line _ e long c.if-is_long.false
+    (marked line _ _ _ _ shown c.is_shown_plug.ensures c.if-is_shown_plug.false)
     (sym c.is_report.ensures ∙ c.if-is_report.false) c.in-None.ensures.each

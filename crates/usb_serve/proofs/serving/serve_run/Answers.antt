@@ -1,5 +1,4 @@
 use Rattle.std.proofs.Common.{ap}
-use Rattle.usb_bus.specs.{Watched, inner_of}
 use Rattle.usb_run.proofs.Interface.{knows_opened}
 use Rattle.usb_serve.proofs.ServedItems.{run_unopened, run_written}
 use Rattle.usb_serve.proofs.serving.serve_run.Goals as goal
@@ -11,8 +10,8 @@ returns-in-Ok-clause-written g c =
     (c.trace_run-result.ensures.ends (λ _. knows_opened c.args.plan.now c.in-Ok.runner.host
     c.in-Ok.ensures.opened)) c.trace_run-result.ensures.caused
     c.trace_run-result.new.runner.owning.single
-    c.into_writer.ensures.trace
+    c.into_tracer.ensures.trace
 
 pub returns-in-Err-clause-written : goal.returns-in-Err-clause-written
 returns-in-Err-clause-written g c = run_unopened c.args.plan.now _ _
-    (ap (λ (w : Watched g.row.W.Denot). g.W.Write.contents (inner_of w)) c.in-Err.ensures.back)
+    (ap g.T.Trace.text c.in-Err.ensures.back)

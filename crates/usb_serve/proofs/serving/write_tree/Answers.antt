@@ -1,6 +1,6 @@
 use Rattle.std.proofs.Common.{◌≡◌, ◌∙◌, [], ◌∷◌, ◌++◌, refl, subst, ap, Ok, IsErrAnd, OnOk, is_some}
 use Rattle.std.specs.Io.KnownBytes.{Appends}
-use Rattle.usb_bus.specs.{AppendsFront, inner_of}
+use Rattle.usb_bus.specs.{AppendsFront}
 use Rattle.usb_plan.specs.{bound_of}
 use Rattle.usb_text.specs.{bound_line}
 use Rattle.usb_run.specs.{Next}
@@ -120,8 +120,8 @@ returns-clause-written g c =
     let k = c.next_untraced.new.runner.host in
     let next = subst (λ x. Next c.items.runner.over c.items.runner.host (Ok x) on k) c.in_default.is
     (c.in_ok-item.ensures.next c.items.invariant.so_far.knows) in
-    let now = g.W.Write.contents (inner_of c.items.writer) in
-    let s = g.W.Write.contents (inner_of c.write_line.new.writer) in
+    let now = g.T.Trace.text c.items.writer in
+    let s = g.T.Trace.text c.write_line.new.writer in
     let line : c.as_slice-2.result.now ≡ bound_line (bound_of c.args.plan.now) =
     c.as_slice-2.ensures.value ∙ c.in_ok-line.ensures ∙ ap bound_line c.bound.ensures in
     tree_over c.items.invariant.so_far on k c.write_line.result s next

@@ -1,5 +1,4 @@
 use Rattle.std.proofs.Common.{◌≡◌}
-use Rattle.usb_bus.specs.{inner_of, has_failed}
 use Rattle.usb_run.specs.{items_left}
 use Rattle.usb_serve.proofs.ServedItems.{TreeSoFar}
 use Rattle.usb_serve.proofs.serving.write_tree.Given as goal
@@ -7,9 +6,9 @@ use Rattle.usb_serve.proofs.serving.write_tree.Given as goal
 -- the run so far, with the number of its last listing, and what is written
 abbrev pub invariant-items : goal.invariant-items
 invariant-items g l = record {
-  so_far : TreeSoFar l.plan (g.W.Write.contents (inner_of l.fn.writer)) l.number l.runner.over
-      l.runner.host (g.W.Write.contents (inner_of l.writer));
-  unmarked : has_failed l.writer ≡ has_failed l.fn.writer;
+  so_far : TreeSoFar l.plan (g.T.Trace.text l.fn.writer) l.number l.runner.over
+      l.runner.host (g.T.Trace.text l.writer);
+  unmarked : g.T.Trace.failed l.writer ≡ g.T.Trace.failed l.fn.writer;
 }
 
 -- items to come

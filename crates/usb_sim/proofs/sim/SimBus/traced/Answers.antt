@@ -5,7 +5,7 @@ use Rattle.usb_world.specs.{Consistent}
 use Rattle.usb_world.proofs.Interface.{new_long, sane_new_ports, settled_new}
 use Rattle.usb_bus.specs.{shown_names}
 use Rattle.usb_sim.proofs.Plans.{copies_come}
-use Rattle.usb_sim.proofs.sim.SimBus.with_tracer.Goals as goal
+use Rattle.usb_sim.proofs.sim.SimBus.traced.Goals as goal
 
 pub invariant_of-result-clause-planned : goal.invariant_of-result-clause-planned
 invariant_of-result-clause-planned g c =

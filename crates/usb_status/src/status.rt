@@ -1,0 +1,123 @@
+//! The program's exit status.
+ghost use Rattle.std.specs.Prelude.{◌≡◌};
+ghost use Rattle.usb_status.specs.Statuses.{device_status, exit_status, far_status, fault_status, line_status, live_status, pcap_status, serve_status};
+
+use crate::fault::Fault;
+use usb_bus::BusFault;
+use usb_entry::EntryFault;
+use usb_far::FarFault;
+use usb_live::{LiveEnd, LiveFault};
+use usb_pcap::PcapFault;
+use usb_plan::PlanFault;
+use usb_run::RunFault;
+use usb_serve::ServeFault;
+use usb_text::LineFault;
+
+/// All was done.
+const DONE: u8 = 0;
+
+/// A plan, a packet, a run's text, a device's descriptors, a line of a host or of a far end are refused.
+const REFUSED: u8 = 1;
+
+/// The words name no command.
+const WORDS: u8 = 2;
+
+/// The limit is reached.
+const LIMIT: u8 = 3;
+
+/// Memory, or input or output, failed.
+const FAILED: u8 = 4;
+
+/// The exit status of a program that ended so.
+pub fn exit_status(outcome: Result<(), Fault>) -> u8
+    ensures { result ≡ exit_status outcome }
+{
+    match outcome {
+        Ok(()) => DONE,
+        Err(fault) => fault_status(fault),
+    }
+}
+
+fn fault_status(fault: Fault) -> u8
+    ensures { result ≡ fault_status fault }
+{
+    match fault {
+        Fault::Words | Fault::NoText => WORDS,
+        Fault::LongDevice | Fault::Refused => REFUSED,
+        Fault::Line(why) => line_status(why),
+        Fault::Serve(why) => serve_status(why),
+        Fault::Pcap(why) => pcap_status(why),
+        Fault::Device(why) => device_status(why),
+        Fault::Far(_, why) => far_status(why),
+        Fault::Live(end) => live_status(end),
+    }
+}
+
+fn line_status(fault: LineFault) -> u8
+    ensures { result ≡ line_status fault }
+{
+    match fault {
+        LineFault::BadHex | LineFault::Packet(_) => REFUSED,
+        LineFault::Memory => FAILED,
+    }
+}
+
+fn serve_status(fault: ServeFault) -> u8
+    ensures { result ≡ serve_status fault }
+{
+    match fault {
+        ServeFault::Plan(PlanFault::Memory) => FAILED,
+        ServeFault::TooLong | ServeFault::Plan(_) => REFUSED,
+        ServeFault::Run(RunFault::LimitReached) => LIMIT,
+        ServeFault::Read | ServeFault::Run(_) | ServeFault::Write | ServeFault::Memory => FAILED,
+    }
+}
+
+fn pcap_status(fault: PcapFault) -> u8
+    ensures { result ≡ pcap_status fault }
+{
+    match fault {
+        PcapFault::Line(_) | PcapFault::TooLong => REFUSED,
+        PcapFault::Read | PcapFault::Write => FAILED,
+    }
+}
+
+fn device_status(fault: EntryFault) -> u8
+    ensures { result ≡ device_status fault }
+{
+    match fault {
+        EntryFault::Write | EntryFault::Memory => FAILED,
+        EntryFault::NoName
+        | EntryFault::Empty
+        | EntryFault::Device(_)
+        | EntryFault::TooMany
+        | EntryFault::Configuration(_, _)
+        | EntryFault::Missing(_)
+        | EntryFault::LeftOver(_) => REFUSED,
+    }
+}
+
+fn far_status(fault: FarFault) -> u8
+    ensures { result ≡ far_status fault }
+{
+    match fault {
+        FarFault::LineTooLong
+        | FarFault::BadCharacter
+        | FarFault::NoQuestion
+        | FarFault::BadNumber
+        | FarFault::LongSend => REFUSED,
+        FarFault::Bus(BusFault::Limit) => LIMIT,
+        FarFault::Read | FarFault::HostGone | FarFault::Bus(_) | FarFault::Write => FAILED,
+    }
+}
+
+fn live_status(end: LiveEnd) -> u8
+    ensures { result ≡ live_status end }
+{
+    match end {
+        LiveEnd::Line(_, LiveFault::Line(_) | LiveFault::TooManyPushes) => REFUSED,
+        LiveEnd::Line(_, LiveFault::LimitReached) | LiveEnd::Rounds(_) => LIMIT,
+        LiveEnd::Line(_, LiveFault::Read | LiveFault::Gone | LiveFault::Write) | LiveEnd::Memory =>
+            FAILED,
+    }
+}
