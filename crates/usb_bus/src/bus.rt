@@ -3,7 +3,7 @@ ghost use Rattle.usb_port.specs.PortStates.{status_of};
 ghost use Rattle.usb_port.specs.Calls.{IsSetFeature, IsClearFeature};
 ghost use Rattle.usb_world.specs.declared.types.BusFault.{BusFault as AFault};
 ghost use Rattle.usb_world.specs.PlainAttempts.{attempt_data};
-ghost use Rattle.usb_world.specs.Worlds.{World, IsAttempt, IsRootPort, FitsMaximum, root_port_at, roots_of};
+ghost use Rattle.usb_world.specs.Worlds.{World, IsAttempt, FitsMaximum, root_port_at, roots_of};
 ghost use Rattle.usb_world.specs.Steps.{WorldInvariant, SetsRoot, ClearsRoot};
 ghost use Rattle.usb_tree.specs.AttemptPackets.{IsSettled};
 ghost use Rattle.usb_bus.specs.Traces.{Attempts, Spends};
@@ -61,13 +61,15 @@ pub trait Bus {
 
     /// The status of a root port: wPortStatus and wPortChange (11.24.2.7).
     fn root_status(&self, port: u8) -> [u8; 4]
-        requires { modelled ≡ true → IsRootPort (world self.now) port }
+        requires least { 1 ≤ port }
+        requires most { port ≤ ports self.now }
         ensures { modelled ≡ true → result ≡ status_of (root_port_at (world self.now) port) };
 
     /// Sets a feature of a root port (11.24.2.13). PORT_RESET is over when the call returns: it is held for 50 ms, and
     /// 10 ms pass behind it (7.1.7.5).
     fn root_set(&mut self, port: u8, feature: u16)
-        requires port { modelled ≡ true → IsRootPort (world self.old) port }
+        requires least { 1 ≤ port }
+        requires most { port ≤ ports self.old }
         requires named { IsSetFeature feature }
         ensures call { modelled ≡ true → SetsRoot port feature (world self.old) (world self.new) }
         ensures silent { modelled ≡ true → trace self.new ≡ trace self.old }
@@ -75,7 +77,8 @@ pub trait Bus {
 
     /// Clears a feature of a root port (11.24.2.2).
     fn root_clear(&mut self, port: u8, feature: u16)
-        requires port { modelled ≡ true → IsRootPort (world self.old) port }
+        requires least { 1 ≤ port }
+        requires most { port ≤ ports self.old }
         requires named { IsClearFeature feature }
         ensures call { modelled ≡ true → ClearsRoot port feature (world self.old) (world self.new) }
         ensures silent { modelled ≡ true → trace self.new ≡ trace self.old }

@@ -13,6 +13,9 @@
 //! items (`Transcript`); `Runner::put_line` adds its line, or a front of it. So no body between a plan and its bus can
 //! write a line that no attempt made.
 //!
+//! **Over any bus**, modelled or not: an attempt adds at most one to `spent`, what it brings is at most the maximum, a
+//! fault that it reports is `failed`; root calls add none, and the number of root ports stays (*Spends*).
+//!
 //! - `put_piece` and `Watched`: what went out is a front of the piece, the mark is exact. A flush that fails sets the
 //!   mark; one is pending from a write that took bytes to a flush that succeeds.
 #![tactic(auto)]

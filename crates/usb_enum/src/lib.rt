@@ -4,7 +4,8 @@
 //! # What is proved
 //!
 //! What names a world or a trace is said of a bus that does what its world does (`modelled` of `usb_bus::Bus`). Over
-//! any bus: what a finding says of itself (`IsFound`, `usb_enum/specs/Findings.antt`) and which address it takes.
+//! any bus: what a finding says of itself (`IsFound`, `usb_enum/specs/Findings.antt`) and which address it takes; at
+//! most how many attempts are made, and that a fault of the bus is the one that it reported last.
 //!
 //! `enumerate` takes the least free address exactly where it accepts; a refused device leaves the pool as it was, and
 //! its port was disabled last of all; an accepted one has a good descriptor, as many configurations as it says, with

@@ -27,7 +27,8 @@ use crate::pool::{enter, release};
 use usb_bus::Bus;
 use usb_enum::{Cause, EnumFault, Finding, enumerate};
 use usb_hub::{
-    HubPort, PipeFault, PortStatus, clear_hub_changes, clear_port, clear_port_change, port_status,
+    HubPort, PipeFault, PortStatus, clear_hub_changes, clear_port, clear_port_change, has_root,
+    port_status,
 };
 use usb_port::PortPath;
 use usb_request::feature::{C_PORT_CONNECTION, C_PORT_ENABLE, C_PORT_RESET, PORT_ENABLE};
@@ -36,12 +37,15 @@ use usb_resources::supply;
 use usb_table::{KnownPort, address_of};
 
 impl<B: Bus> Host<B> {
-    /// Whether the connection of a root port has changed.
+    /// Whether the connection of a root port has changed; no if the bus has no such port.
     pub(crate) fn has_changed(&self, number: u8) -> bool
         requires { B.modelled ≡ true → IsRootPort self.now.world number }
         ensures { B.modelled ≡ true
             → result ≡ (root_port_at self.now.world number).connection_changed }
     {
+        if !has_root(&self.bus, number) {
+            return false;
+        }
         PortStatus::from_bytes(self.bus.root_status(number)).connection_changed
     }
 

@@ -68,6 +68,11 @@ pub asked_port : (modelled : Bool) (w : World) (port : HubPort) → modelled ≡
 asked_port modelled w (Root number) known asked = asked known
 asked_port modelled w (External hub port) known asked = asked
 
+-- so a root port that is asked is there
+pub asked-root : (modelled : Bool) (w : World) {port : HubPort} {number : ℕ} → port ≡ Root number
+    → IsAsked modelled w port → modelled ≡ true → IsRootPort w number
+asked-root modelled w is asked = subst (IsAsked modelled w) is asked
+
 pub is_asked_stays : (modelled : Bool) (n : ℕ) (port : HubPort) (old new : World)
     → (modelled ≡ true → AttemptsWithin n old new) → IsAsked modelled old port
     → IsAsked modelled new port

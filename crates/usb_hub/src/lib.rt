@@ -2,7 +2,8 @@
 //!
 //! # What is proved
 //!
-//! What a call tells is said of a bus that does what its world does (`modelled` of `usb_bus::Bus`).
+//! What a call tells is said of a bus that does what its world does (`modelled` of `usb_bus::Bus`). Over any bus: at
+//! most how many attempts it makes, and that a fault of the bus is the one that it reported last.
 //!
 //! Each typed call makes its own request, with the length, index, language, address or value that it was given, and
 //! says which stages that request went through (the *stages* of usb_pipe); it makes at most as many attempts as its
@@ -57,7 +58,7 @@ mod status;
 
 pub use changes::{clear_hub_changes, clear_port_change};
 pub use external::{clear_hub_port, hub_port_status, set_hub_port};
-pub use port::{HubPort, clear_port, port_status, set_port};
+pub use port::{HubPort, clear_port, has_root, port_status, set_port};
 pub use requests::{
     get_config, get_device, get_status, get_string, hub_descriptor, set_address, set_configuration,
 };

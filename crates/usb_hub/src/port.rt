@@ -1,7 +1,8 @@
 //! The ports of hubs, the root's among them.
-ghost use Rattle.std.specs.Prelude.{IfErr, ◌≡◌, true};
+ghost use Rattle.std.specs.Prelude.{IfErr, ◌≡◌, ◌≤◌, true};
 ghost use Rattle.usb_port.specs.Calls.{set_call, clear_call, IsSetFeature, IsClearFeature};
 ghost use Rattle.usb_bus.specs.Traces.{Spends, Steps};
+ghost use Rattle.usb_world.specs.Worlds.{IsRootPort};
 ghost use Rattle.usb_pipe.specs.Control.{BusToldIt, FaultAfter};
 ghost use Rattle.usb_hub.specs.Addresses.{KeepsAsked, KeepsSet, KeepsCleared};
 ghost use Rattle.usb_hub.specs.Moments.{ReadsPort, CommandsPort};
@@ -15,7 +16,8 @@ use usb_pipe::{Bus, Target};
 /// A port that devices are attached to.
 #[derive(Clone, Copy, Debug, PartialEq, Eq)]
 pub enum HubPort {
-    /// A port of the root, by its number from 1. It is a register of the bus, and never fails.
+    /// A port of the root, by its number from 1. It is a register of the bus, and never fails
+    /// if the bus has it.
     Root(u8),
     /// A port of a hub.
     External {
@@ -30,8 +32,8 @@ pub enum HubPort {
 ///
 /// # Errors
 ///
-/// None at a root port. At a hub's port those of `control_in`, and `Stalled` where the answer is not
-/// four bytes long.
+/// None at a root port that there is, and `Stalled` at another. At a hub's port those of
+/// `control_in`, and `Stalled` where the answer is not four bytes long.
 pub fn port_status<B: Bus>(
     alloc: Global,
     bus: &mut B,
@@ -49,7 +51,12 @@ pub fn port_status<B: Bus>(
         → KeepsAsked port (B.world bus.old) result (B.world bus.new) }
 {
     match port {
-        HubPort::Root(number) => Ok(PortStatus::from_bytes(bus.root_status(number))),
+        HubPort::Root(number) => {
+            if !has_root(bus, number) {
+                return Err(PipeFault::Stalled);
+            }
+            Ok(PortStatus::from_bytes(bus.root_status(number)))
+        }
         HubPort::External { hub, port } => hub_port_status(alloc, bus, hub, port),
     }
 }
@@ -58,8 +65,8 @@ pub fn port_status<B: Bus>(
 ///
 /// # Errors
 ///
-/// None at a root port. At a hub's port those of `control_none`; after `Busy` and `NoAnswer` the
-/// feature may be set.
+/// None at a root port that there is, and `Stalled` at another. At a hub's port those of
+/// `control_none`; after `Busy` and `NoAnswer` the feature may be set.
 #[tactic(auto, using(crate::proofs::AddressesKept::root_set_keeps, crate::proofs::AddressesKept::hub_set_keeps))]
 pub fn set_port<B: Bus>(bus: &mut B, port: HubPort, feature: u16) -> Result<(), PipeFault>
     requires port { IsAsked B.modelled (B.world bus.old) port }
@@ -80,6 +87,9 @@ pub fn set_port<B: Bus>(bus: &mut B, port: HubPort, feature: u16) -> Result<(), 
 {
     match port {
         HubPort::Root(number) => {
+            if !has_root(bus, number) {
+                return Err(PipeFault::Stalled);
+            }
             bus.root_set(number, feature);
             Ok(())
         }
@@ -91,8 +101,8 @@ pub fn set_port<B: Bus>(bus: &mut B, port: HubPort, feature: u16) -> Result<(), 
 ///
 /// # Errors
 ///
-/// None at a root port. At a hub's port those of `control_none`; after `Busy` and `NoAnswer` the
-/// feature may be cleared.
+/// None at a root port that there is, and `Stalled` at another. At a hub's port those of
+/// `control_none`; after `Busy` and `NoAnswer` the feature may be cleared.
 #[tactic(auto, using(crate::proofs::AddressesKept::hub_clear_keeps))]
 pub fn clear_port<B: Bus>(bus: &mut B, port: HubPort, feature: u16) -> Result<(), PipeFault>
     requires port { IsAsked B.modelled (B.world bus.old) port }
@@ -111,9 +121,20 @@ pub fn clear_port<B: Bus>(bus: &mut B, port: HubPort, feature: u16) -> Result<()
 {
     match port {
         HubPort::Root(number) => {
+            if !has_root(bus, number) {
+                return Err(PipeFault::Stalled);
+            }
             bus.root_clear(number, feature);
             Ok(())
         }
         HubPort::External { hub, port } => clear_hub_port(bus, hub, port, feature),
     }
+}
+
+/// Whether a bus has the root port of a number. A call at another one is none of the bus's.
+pub fn has_root<B: Bus>(bus: &B, number: u8) -> bool
+    ensures there { result ≡ true → (1 ≤ number) × (number ≤ B.ports bus.now) }
+    ensures known { B.modelled ≡ true → IsRootPort (B.world bus.now) number → result ≡ true }
+{
+    1 <= number && number <= bus.root_ports()
 }

@@ -6,8 +6,10 @@
 //!
 //! # What is proved
 //!
-//! What names a world or a trace is said of a bus that does what its world does (`modelled` of `usb_bus::Bus`); over
-//! any bus, that a pipe stays one to the same endpoint, with the same maximum.
+//! What names a world or a trace is said of a bus that does what its world does (`modelled` of `usb_bus::Bus`). Over any
+//! bus: a pipe stays one to the same endpoint, with the same maximum; the count of attempts below, and none on a broken
+//! pipe; at most wLength bytes of a control read, at most the maximum for each packet; a fault of the bus is the one
+//! that it reported last.
 //!
 //! Each call has, beside its count (`went`), one clause `transfer`: a record of `usb_pipe/specs/Transfers.antt`, whose
 //! fields say on each call, for every answer:

@@ -1,5 +1,5 @@
 -- A bus behind a stream of lines: what a question reads and writes, and what is kept of that.
-use Rattle.std.specs.Prelude.{◌≡◌, ◌≢◌, ◌⊎◌, ℕ, zero, suc, ◌+◌, ◌-◌, ◌^◌, min, ◌<◌, ◌≤◌, ◌&&◌, nat_le}
+use Rattle.std.specs.Prelude.{◌≡◌, ◌≢◌, ◌⊎◌, ℕ, zero, suc, ◌+◌, ◌-◌, ◌^◌, min, ◌<◌, ◌≤◌}
 use Rattle.std.specs.Prelude.{nat_lt, Bool, true, false, if◌then◌else◌, List, [], ◌∷◌, ◌++◌, length}
 use Rattle.std.specs.Prelude.{replicate, slice_index_or, slice_set, Option, Some, None, Result, Ok}
 use Rattle.std.specs.Prelude.{Err}
@@ -330,10 +330,9 @@ WritesLines lines before now old (Ok done) new = Flushes before lines now × (ne
 WritesLines lines before now old (Err f) new =
     FailsToFlush before lines now × (f ≡ Write) × (new ≡ record old { fault = Some Write })
 
--- as it was told last, 0 where there is no such port
+-- as it was told last
 abbrev pub kept_status : Kept → ℕ → List ℕ
-kept_status k port = if nat_lt 0 port && nat_le port 7 then slice_index_or k.statuses (port - 1) []
-    else 0 ∷ 0 ∷ 0 ∷ 0 ∷ []
+kept_status k port = slice_index_or k.statuses (port - 1) []
 
 -- before the hello all statuses are 0
 abbrev pub unasked : ℕ → Kept

@@ -101,13 +101,12 @@ impl<R: Read, W: Write> Bus for StreamBus<R, W> {
         self.roots
     }
 
-    /// The status of a root port as it was told last, 0 where there is no such port (11.24.2.7).
+    /// The status of a root port as it was told last (11.24.2.7).
     fn root_status(&self, port: u8) -> [u8; 4]
+        requires least { 1 ≤ port }
+        requires most { port ≤ (kept_of self.now).roots }
         ensures { result ≡ kept_status (kept_of self.now) port }
     {
-        if port < 1 || port > ROOTS {
-            return [0; 4];
-        }
         self.statuses[usize::from(port) - 1]
     }
 

@@ -2,6 +2,8 @@
 //!
 //! # What is proved
 //!
+//! Over any bus a call makes at most so many attempts, and a fault of the bus is the one that it reported last.
+//!
 //! Entries by rising path; `insert`, `take_at`, `entries`; `next_hub`, `next_waiting` give the next one and none else;
 //! `port_at` is the port as the entries have it; the two indexes name exactly the entries, and those that hold an
 //! address; the table shows its pipes by path: new ones at `insert`, those at a path to the accepted device there, and

@@ -9,8 +9,9 @@
 //!
 //! # What is proved
 //!
-//! What names a world or a trace is said of a bus that does what its world does (`modelled` of `usb_bus::Bus`); over
-//! any bus, that the toggle changes exactly where a packet was moved.
+//! What names a world or a trace is said of a bus that does what its world does (`modelled` of `usb_bus::Bus`). Over any
+//! bus: the toggle changes exactly where a packet was moved; at most so many attempts are made (`spent`); a packet that
+//! came is at most the maximum; a fault of the bus is the one that it reported last (`failed`).
 //!
 //! On each call, for every answer:
 //!

@@ -1,10 +1,9 @@
-use Rattle.std.proofs.Common.{◌≡◌, ◌∙◌, ◌-◌, ◌+◌, ℕ, ap, arith, length, length-set, refl, sym}
-use Rattle.std.proofs.Common.{subst}
+use Rattle.std.proofs.Common.{◌≡◌, ◌∙◌, ◌-◌, ◌+◌, ℕ, ap, arith, refl, sym, subst}
 use Rattle.usb_request.specs.{PORT_POWER}
-use Rattle.usb_world.specs.{World, root_row, roots_of}
+use Rattle.usb_world.specs.{World, roots_of}
 use Rattle.usb_bus.specs.{still, Traced}
 use Rattle.usb_bus.proofs.Interface.{traced_cleared, traced_set}
-use Rattle.usb_host.proofs.parts.Powers.{powered_none, powered_length, powers_one, powered_all}
+use Rattle.usb_host.proofs.parts.Powers.{powered_none, powers_one, powered_all}
 use Rattle.usb_host.proofs.parts.Powers.{powered_world}
 use Rattle.usb_host.proofs.entries.Agreements.{nested_none}
 use Rattle.usb_host.proofs.entries.RisingEntries.{rises_none}
@@ -17,25 +16,20 @@ use Rattle.usb_host.proofs.host.Host.new.Goals as goal
 
 pub ports-init : goal.ports-init
 ports-init g c = record {
+  ports = refl;
   powered = λ known. powered_none _;
   traced = λ known. still;
   silent = λ known. refl;
 }
 
-pub root_clear-requires-clause-port : goal.root_clear-requires-clause-port
-root_clear-requires-clause-port g c known =
-    let len = powered_length _ _ _ (c.ports.invariant.powered known) in (
-      c.ports.auto.port,
-      omega (arith, c.ports-test.true, c.root_ports-roots.ensures.count known),
-    )
+pub root_clear-requires-clause-most : goal.root_clear-requires-clause-most
+root_clear-requires-clause-most g c =
+    omega (arith, c.ports-test.true, c.root_ports-roots.ensures.ports, c.ports.invariant.ports)
 
-pub root_set-requires-clause-port : goal.root_set-requires-clause-port
-root_set-requires-clause-port g c known =
-    let len = powered_length _ _ _ (c.ports.invariant.powered known) in
-    let row = ap length (c.root_clear.ensures.call known).row ∙ length-set _ _ _ in (
-      c.ports.auto.port,
-      omega (arith, row, c.ports-test.true, c.root_ports-roots.ensures.count known),
-    )
+pub root_set-requires-clause-most : goal.root_set-requires-clause-most
+root_set-requires-clause-most g c =
+    omega (arith, c.ports-test.true, c.root_ports-roots.ensures.ports,
+    c.root_clear.ensures.unspent.1, c.ports.invariant.ports)
 
 pub ports-preserved : goal.ports-preserved
 ports-preserved g c =
@@ -43,6 +37,8 @@ ports-preserved g c =
     let port : ℕ = c.ports.port in
     let back : port ≡ (port + 1) - 1 = omega arith in
     record {
+      ports = c.root_set.ensures.unspent.1 ∙ c.root_clear.ensures.unspent.1
+          ∙ c.ports.invariant.ports;
       powered = λ known. powers_one w0 _ _ _ port c.ports.auto.port
           (c.ports.invariant.powered known) (c.root_clear.ensures.call known)
           (c.root_set.ensures.call known) ∙ ap (λ k. powered_world k w0) back;

@@ -5,6 +5,7 @@ use Rattle.usb_host.proofs.host.Host.new.Given as goal
 
 abbrev pub invariant-ports : goal.invariant-ports
 invariant-ports g l = record {
+  ports : g.B.Bus.ports l.bus ≡ g.B.Bus.ports l.initial.bus;
   powered : g.B.Bus.modelled ≡ true → g.B.Bus.world l.bus ≡ powered_world (l.port - 1)
       (g.B.Bus.world l.initial.bus);
   traced : g.B.Bus.modelled ≡ true → Traced (g.B.Bus.world l.initial.bus)

@@ -1,4 +1,4 @@
-use Rattle.std.proofs.Common.{refl, sym, ◌∙◌}
+use Rattle.std.proofs.Common.{sym, ◌∙◌}
 use Rattle.usb_sim.specs.{world_of}
 use Rattle.usb_world.proofs.Interface.{clear_ends, clear_none}
 use Rattle.usb_sim.proofs.sim.bus.SimBusBus.root_clear.Goals as goal
@@ -6,7 +6,7 @@ use Rattle.usb_sim.proofs.sim.bus.SimBusBus.root_clear.Goals as goal
 pub returns-in-Some-clause-call : goal.returns-in-Some-clause-call
 returns-in-Some-clause-call g c _ =
     clear_ends c.args.port c.args.feature (world_of c.args.self.now) (world_of c.call_root.new.self)
-    c.in-Some.call (c.requires.port refl) c.requires.named
+    c.in-Some.call (c.requires.least, c.requires.most) c.requires.named
     (sym c.in-Some.is ∙ c.of_clear.ensures) c.call_root.ensures.world
 
 pub returns-in_default-clause-call : goal.returns-in_default-clause-call
