@@ -408,25 +408,18 @@ tell_off rem con limit m u b old new st ow item text result bad spelled fits sho
     (kept_of new) item result bad c is fits shown so)) c
 
 -- the number of one listing more has room
-number_fits : (count n left limit : ℕ) (o : Owed) → is_nothing o ≡ false → count + owes o ≤ n
-    → n + left ≡ limit → limit < 2 ^ 64 → count + 1 < 2 ^ 64
-number_fits count n left limit owed.Nothing some few all bound = cc
-number_fits count n left limit owed.Listing some few all bound = omega (arith, few, all, bound)
-number_fits count n left limit (owed.Send path k) some few all bound =
-    omega (arith, few, all, bound)
-number_fits count n left limit (owed.Receive path) some few all bound =
-    omega (arith, few, all, bound)
-number_fits count n left limit (owed.Clear path) some few all bound =
-    omega (arith, few, all, bound)
+number_fits : (count n left limit owing : ℕ) → owing ≡ 1 → count + owing ≤ n → n + left ≡ limit
+    → limit < 2 ^ 64 → count + 1 < 2 ^ 64
+number_fits count n left limit owing one few all bound = omega (arith, one, few, all, bound)
 
 pub has_number : {st : Stage} {o : Owed} {limit m : ℕ} {u r : Pipe} {b w : OutPipe} {k : Kept}
-    → is_nothing o ≡ false → limit < 2 ^ 64 → ∥ CourseTo st o limit m u b r w k ∥₁
-    → m + 1 < 2 ^ 64
-has_number {st} {o} {limit} {m} some bound course =
+    (item : Item) → settles o item ≡ true → limit < 2 ^ 64
+    → ∥ CourseTo st o limit m u b r w k ∥₁ → m + 1 < 2 ^ 64
+has_number {st} {o} {limit} {m} {u} {r} {b} {w} {k} item fits bound course =
     elim (cases_lt (m + 1) (2 ^ 64)) [
       | inl less ↦ less
-      | inr more ↦ absurd (not_there course (λ c. let fits = number_fits m c.asked _ limit o some
-          c.numbered c.few bound in omega (arith, fits, more)))
+      | inr more ↦ absurd (not_there course (λ c. let less = number_fits m c.asked k.left limit
+          (owes o) (owes_one o item fits) c.numbered c.few bound in omega (arith, less, more)))
     ]
 
 -- ---- the hello

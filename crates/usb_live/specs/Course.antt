@@ -79,7 +79,7 @@ owes owed.Nothing = 0
 owes other = 1
 
 -- a listing is of entries that a host may hold: they rise by path, each is at a root port or at a
--- port of a hub that is listed, and no two have one address
+-- port of a hub that is listed, no two have one address, and accepted devices are whole
 abbrev pub IsShown : Item → Type 0
 IsShown (Listing entries taken) = (addresses : Addresses) × Agrees entries addresses
 IsShown other = ⊤

@@ -53,11 +53,11 @@ pub(crate) struct CourseBus<R: Read, W: Write, B: Begun> {
 impl<R: Read, W: Write, B: Begun> Bus for CourseBus<R, W, B> {
     ghost use Rattle.std.specs.Prelude.{◌≢◌, ◌≤◌, Some, Err, IfErr, IfOk};
     ghost use Rattle.usb_bus.specs.Traces.{Spends};
-    ghost use Rattle.usb_port.specs.Calls.{clear_call, set_call};
+    ghost use Rattle.usb_port.specs.Calls.{IsClearFeature, IsSetFeature, clear_call, set_call};
     ghost use Rattle.usb_stream.specs.Stream.{AttemptsByLine, Calls, bus_fault, kept_status, no_world, streams};
     ghost use Rattle.usb_stream.specs.declared.fault.LiveFault.{LiveFault as AFault};
     ghost use Rattle.usb_world.specs.PlainAttempts.{attempt_data};
-ghost use Rattle.usb_world.specs.Worlds.{FitsMaximum};
+    ghost use Rattle.usb_world.specs.Worlds.{FitsMaximum, IsAttempt};
 
     ghost modelled = { false };
 
@@ -72,6 +72,7 @@ ghost use Rattle.usb_world.specs.Worlds.{FitsMaximum};
     ghost ports = { λ bus. (kept_of bus.bus).roots };
 
     fn attempt(&mut self, attempt: &Attempt) -> Result<Outcome, BusFault>
+        requires { IsAttempt attempt.now }
         ensures again { (f : AFault) → (kept_of self.old.bus).fault ≡ Some f
             → (result ≡ Err (bus_fault f)) × (self.new.bus ≡ self.old.bus) }
         ensures asks { (kept_of self.old.bus).fault ≡ None → AttemptsByLine attempt.now
@@ -102,6 +103,7 @@ ghost use Rattle.usb_world.specs.Worlds.{FitsMaximum};
     }
 
     fn root_set(&mut self, port: u8, feature: u16)
+        requires { IsSetFeature feature }
         ensures again { (kept_of self.old.bus).fault ≢ None → self.new.bus ≡ self.old.bus }
         ensures asks { (kept_of self.old.bus).fault ≡ None → Calls port (set_call feature)
             (streams (unread_of R.remaining self.old.bus) (unread_of R.remaining self.new.bus)
@@ -114,6 +116,7 @@ ghost use Rattle.usb_world.specs.Worlds.{FitsMaximum};
     }
 
     fn root_clear(&mut self, port: u8, feature: u16)
+        requires { IsClearFeature feature }
         ensures again { (kept_of self.old.bus).fault ≢ None → self.new.bus ≡ self.old.bus }
         ensures asks { (kept_of self.old.bus).fault ≡ None → Calls port (clear_call feature)
             (streams (unread_of R.remaining self.old.bus) (unread_of R.remaining self.new.bus)

@@ -13,8 +13,8 @@
 //! An item is told only where it is owed (*settles*): a listing where one was wanted or the end was, a transfer at the
 //! path where that one was wanted, and a `send` that is done tells as many bytes as were to be sent. It is told once,
 //! and it is not asked again what is wanted before. Listings are numbered from 1 on; each is of entries that a host may
-//! hold (*IsShown*): they rise by path, each is at a root port or at a port of a hub that is listed, and no two have
-//! one address. The host asks over a bus that keeps its course in its type (`CourseBus`) and tells nothing that is not
+//! hold (*IsShown*, by *Agrees* of usb_host): they rise by path, each is at a root port or at a port of a hub that is
+//! listed, no two have one address, and each device that was accepted has good descriptors. The host asks over a bus that keeps its course in its type (`CourseBus`) and tells nothing that is not
 //! owed, so all of this holds whatever the host does. Each call of that bus says what `StreamBus` says of it.
 //!
 //! At most `limit` questions were asked. Behind a fault nothing was asked or told, and it is that fault that is told,

@@ -257,7 +257,7 @@ fn long_lines(rt: HostRuntime) -> Result<(), Fail> {
         (1024, false, LiveFault::Gone),
         (1025, false, LiveFault::Line(WireFault::LineTooLong)),
     ] {
-        let mut far = String::from_str(rt.alloc(), "roots 1\nok\n")?;
+        let mut far = String::from_str(rt.alloc(), "roots 1\nok\nok\n")?;
         for _ in 0..bytes {
             far.push('A')?;
         }
@@ -265,8 +265,8 @@ fn long_lines(rt: HostRuntime) -> Result<(), Fail> {
             far.push_str("\nend\n")?;
         }
         let played = play(rt.alloc(), far.as_bytes(), u64::MAX, 9);
-        assert_eq!(rt; played.ended, Err(LiveEnd::Line(3, fault)), "{bytes} bytes");
-        assert_eq!(rt; newlines(played.host.as_slice()), 3, "{bytes} bytes");
+        assert_eq!(rt; played.ended, Err(LiveEnd::Line(4, fault)), "{bytes} bytes");
+        assert_eq!(rt; newlines(played.host.as_slice()), 4, "{bytes} bytes");
     }
     Ok(())
 }
