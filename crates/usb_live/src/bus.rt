@@ -72,7 +72,7 @@ impl<R: Read, W: Write, B: Begun> Bus for CourseBus<R, W, B> {
     ghost ports = { λ bus. (kept_of bus.bus).roots };
 
     fn attempt(&mut self, attempt: &Attempt) -> Result<Outcome, BusFault>
-        requires { IsAttempt attempt.now }
+        requires { IsAttempt (attempt_data attempt.now) }
         ensures again { (f : AFault) → (kept_of self.old.bus).fault ≡ Some f
             → (result ≡ Err (bus_fault f)) × (self.new.bus ≡ self.old.bus) }
         ensures asks { (kept_of self.old.bus).fault ≡ None → AttemptsByLine attempt.now
@@ -97,6 +97,8 @@ impl<R: Read, W: Write, B: Begun> Bus for CourseBus<R, W, B> {
     }
 
     fn root_status(&self, port: u8) -> [u8; 4]
+        requires least { 1 ≤ port }
+        requires most { port ≤ (kept_of self.now.bus).roots }
         ensures { result ≡ kept_status (kept_of self.now.bus) port }
     {
         self.bus.root_status(port)
