@@ -2,7 +2,8 @@ use Rattle.std.proofs.Common.{rules, ◌≡◌, ℕ, ◌+◌, ◌||◌, List, Bo
 use Rattle.std.proofs.Common.{ap, ◌∙◌, arith, length}
 use Rattle.usb_device.specs.{Ports, row_of}
 use Rattle.usb_world.specs.{Attempt, Damage, Exchange, damage_of, exchange_in, lost_in}
-use Rattle.usb_world.specs.{attempt_data}
+use Rattle.usb_packet.specs.{speed_has_pre}
+use Rattle.usb_world.specs.{Destination, attempt_data, outcome_of}
 use Rattle.usb_world.specs.{AreOfDamages, counted, World, Consistent, IsCut, IsAttempt}
 use Rattle.usb_world.specs.{after_clearing}
 use Rattle.usb_world.specs.declared.losses.Losses.{Losses}
@@ -50,17 +51,22 @@ returns-clause-made g c =
     c.deref.ensures.value) made.made made.ports (c.counted-self.ensures
     ∙ ap (counted c.make_exchange_by.new.exchange.address_lost) c.after_clearing.ensures)
     (c.is_shared.ensures ∙ mid.indexed.1) in
+    let pre : c.has_pre.result ≡ a.pre = c.has_pre.ensures
+    ∙ ap (λ (d : Destination). speed_has_pre d.speed) c.destination-to.ensures in
     record {
       spends = search rules;
       one = search rules;
       fits = search rules;
       exact = there.exact;
       left = tt;
-      outcome = c.outcome_of.ensures.value ∙ there.outcome;
+      outcome = c.outcome_of.ensures.value
+          ∙ ap (λ (d : Destination). outcome_of c.make_exchange_by.new.exchange.answer
+          c.make_exchange_by.new.exchange.answer_mark d.max) c.destination-to.ensures
+          ∙ there.outcome;
       told = search rules;
       other = tt;
       text = subst (Appends _ _) there.lines (Appends-trans _ _ _ _ _ came.text
-          c.in_ok-put_attempt.ensures.ok);
+          (rw pre at c.in_ok-put_attempt.ensures.ok));
     }
 
 -- its line was not written
@@ -79,6 +85,8 @@ returns-in_err-put_attempt-clause-made g c =
     c.deref.ensures.value) made.made made.ports (c.counted-self.ensures
     ∙ ap (counted c.make_exchange_by.new.exchange.address_lost) c.after_clearing.ensures)
     (c.is_shared.ensures ∙ mid.indexed.1) in
+    let pre : c.has_pre.result ≡ a.pre = c.has_pre.ensures
+    ∙ ap (λ (d : Destination). speed_has_pre d.speed) c.destination-to.ensures in
     record {
       spends = search rules;
       one = search rules;
@@ -92,7 +100,7 @@ returns-in_err-put_attempt-clause-made g c =
       text = writes_line c.from_residual-in_err-put_attempt.result _ _ _
           c.from_residual-in_err-put_attempt.ensures.1
           (subst (AppendsFront _ _) there.lines (front_after_first _ _ _ _ _ came.text
-          c.put_attempt.ensures.front));
+          (rw pre at c.put_attempt.ensures.front)));
     }
 
 -- memory was refused while the host's data went
