@@ -110,14 +110,14 @@ module _ {n : ℕ} {round : Round} {a b : HostState} (x : RootsHandled n round a
       serves = is_err-if_ok other (λ r. ServesRoots r a d) e;
       fails = on_errors other (HostInvariant a → a.world.fault ≡ None → RootsFail a d)
           (λ i none. record {
-        number = n;
-        round = round;
-        mid = b;
-        served = x.served i;
-        changed = on;
-        bulk = x.part.sound.bulk i (works none);
-        cut = y.cut (x.part.sound.sound.sound i);
-      });
+            number = n;
+            round = round;
+            mid = b;
+            served = x.served i;
+            changed = on;
+            bulk = x.part.sound.bulk i (works none);
+            cut = y.cut (x.part.sound.sound.sound i);
+          });
       pays = roots_failed n a b d x.part.goes.went y.part.goes.went x.part.sound x.pays y.pays other
           RootsPaid e;
       idle = λ none. absurd (none_shows a b n (x.same (x.idle none)) none on);
@@ -193,13 +193,13 @@ module _ {hub : List ℕ} {bits n : ℕ} {a b : HostState} (x : PortsHandled hub
       served = on_failed other (HostInvariant a → ServedTold hub bits 8 a d) e;
       fails = on_errors other (HostInvariant a → a.world.fault ≡ None
           → PortsFail hub bits a d) (λ i none. record {
-        number = n;
-        mid = b;
-        served = x.served i;
-        told = on;
-        bulk = x.part.sound.bulk i (works none);
-        cut = y.cut (x.part.sound.sound.sound i);
-      });
+            number = n;
+            mid = b;
+            served = x.served i;
+            told = on;
+            bulk = x.part.sound.bulk i (works none);
+            cut = y.cut (x.part.sound.sound.sound i);
+          });
       pays = told_failed ((n - 1) * handling_bound) handling_bound hub bits n least most a b d
           x.part.goes.went y.part.goes.went x.part.sound x.pays (Err fault) y.pays other
           (λ (c : Weights) done. ToldPaid hub bits c) e;
@@ -280,15 +280,15 @@ module _ {last : Option (List ℕ)} {hub : List ℕ} {round : Round} {a b d : Ho
     polls = is_err-if_ok other _ e;
     fails = on_errors other (HostInvariant a → a.world.fault ≡ None → HubsFail a d)
         (λ i none. record {
-      last = last;
-      round = round;
-      mid = b;
-      polled = x.polls i (works none);
-      hub = hub;
-      next = next;
-      bulk = x.part.sound.bulk i (works none);
-      fails = y.fails (x.part.sound.sound.sound i) (works none);
-    });
+          last = last;
+          round = round;
+          mid = b;
+          polled = x.polls i (works none);
+          hub = hub;
+          next = next;
+          bulk = x.part.sound.bulk i (works none);
+          fails = y.fails (x.part.sound.sound.sound i) (works none);
+        });
     pays = hubs_failed hub a b d x.part.goes.went y.keeps.part.goes.went x.part.sound x.pays y.pays
         other
         RoundPaid e;
@@ -361,16 +361,16 @@ module _ {last : Option (List ℕ)} {path : List ℕ} {round : Round} {a b d : H
     looked = is_err-if_ok other _ e;
     fails = on_errors other (HostInvariant a → a.world.fault ≡ None → LooksFail a d)
         (λ i none. record {
-      last = last;
-      round = round;
-      mid = b;
-      looked = x.looked i;
-      path = path;
-      waits = waits;
-      after = after;
-      bulk = x.part.sound.bulk i (works none);
-      cut = y.cut (x.part.sound.sound.sound i);
-    });
+          last = last;
+          round = round;
+          mid = b;
+          looked = x.looked i;
+          path = path;
+          waits = waits;
+          after = after;
+          bulk = x.part.sound.bulk i (works none);
+          cut = y.cut (x.part.sound.sound.sound i);
+        });
   }
 
 pub waiting_end : {last : Option (List ℕ)} {round : Round} {a b : HostState}

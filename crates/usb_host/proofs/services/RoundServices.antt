@@ -55,7 +55,7 @@ module _ {a b : HostState} where
   parts_rootless {fault = fault} {other = other} e x =
       parts_failed other e (part-fails {k = round_bound} other x.part e (omega arith))
       (λ c plan w. roots_fail c plan a b other e x.pays w)
-      (λ entries none. roots_idle a entries none b fault x.idle) 
+      (λ entries none. roots_idle a entries none b fault x.idle)
       (λ i none. roots_failed (x.fails i none))
 
   module _ {roots : Round} (x : ServesEach a (Ok roots) b)

@@ -7,5 +7,8 @@ root_status-requires g c =
 
 pub returns-then-not-has_root : goal.returns-then-not-has_root
 returns-then-not-has_root g c known =
-    absurd (cc (c.if-not-has_root.true, c.has_root.ensures.known known
-    (rw (← c.self.view_is) at (c.requires known))))
+    absurd (cc (
+      c.if-not-has_root.true,
+      c.has_root.ensures.known known
+          (rw (← c.self.view_is) at (c.requires known)),
+    ))

@@ -28,8 +28,13 @@ root_clear-requires-clause-most g c =
 
 pub root_set-requires-clause-most : goal.root_set-requires-clause-most
 root_set-requires-clause-most g c =
-    omega (arith, c.ports-test.true, c.root_ports-roots.ensures.ports,
-    c.root_clear.ensures.unspent.1, c.ports.invariant.ports)
+    omega (
+      arith,
+      c.ports-test.true,
+      c.root_ports-roots.ensures.ports,
+      c.root_clear.ensures.unspent.1,
+      c.ports.invariant.ports,
+    )
 
 pub ports-preserved : goal.ports-preserved
 ports-preserved g c =
