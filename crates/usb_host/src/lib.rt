@@ -56,8 +56,8 @@
 //!   they were (`RenewedAt`). Each request to a port in a round attempts nothing but at endpoint 0, too (`PortStatusAt`,
 //!   `PortCallDone` of usb_hub).
 //! - What is entered at a port that was looked at is what one enumeration there gave, with all that usb_enum says of
-//!   it: a refusal names the request that ended so at a moment of the round, or what was read, whatever is damaged
-//!   (`LookedAt`, `FindsAnew`, `specs/Discoveries.antt`; `Enumerates.ended` of usb_enum).
+//!   it: a refusal names the request that ended so at a moment of the round, what was read, or that no address was
+//!   free, whatever is damaged (`LookedAt`, `FindsAnew`, `specs/Discoveries.antt`; `Enumerates.ended` of usb_enum).
 //! - What hubs tell and those of a world do not (`specs/Changes.antt`): a change of a port's suspend or over-current,
 //!   or of the hub itself, is cleared, and an accepted device whose port its hub has disabled on an error is found
 //!   anew. Over a world a host that knows what is so does none of it; what it does over such a hub is tested
