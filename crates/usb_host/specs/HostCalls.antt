@@ -11,7 +11,7 @@ use Rattle.usb_host.specs.HostStates.{HostState, opening_host}
 use Rattle.usb_host.specs.Ownership.{HostMapHolds}
 use Rattle.usb_host.specs.Progress.{HostSteps}
 use Rattle.usb_host.specs.Service.{DidParts, PartsFail}
-use Rattle.usb_host.specs.Soundness.{HostInvariant, TransferKeeps, IsUnpowered}
+use Rattle.usb_host.specs.Soundness.{HostInvariant, TransferKeeps}
 use Rattle.usb_host.specs.ToldFaults.{RoundFaultAllowed, StopsAsRound, StopsAsTransfer, HostWorks}
 use Rattle.usb_host.specs.ToldFaults.{TransferFaultAllowed}
 use Rattle.usb_host.specs.Transfers.{ClearedAt, ReceivedAt, SentAt}

@@ -43,8 +43,8 @@
 //!   status told one: that was cleared, the status was read again, what was known at the port and below it is
 //!   forgotten, and where a device is connected one finding is entered; or its hub, or one above it, is listed as lost
 //!   (`ServedAt`).
-//! - A round that fails did its parts in order up to one port, hub or waiting device, each part as a round that is done
-//!   does it, and stopped there (`PartsFail`, `specs/Service.antt`; `StopsIn`, `specs/HostCalls.antt`). It enters
+//! - A round that fails did its parts in order up to one port, hub or waiting device, each part as a round that is
+//!   done does it, and stopped there (`PartsFail`, `specs/Service.antt`; `StopsIn`, `specs/HostCalls.antt`). It enters
 //!   nothing there. It forgets at most what the host knew at that port, or at a hub on its way, and below it (`CutAt`,
 //!   `specs/Cuts.antt`); a poll that fails changes no entry. Each device that is still listed keeps its bulk pipes. Its
 //!   bulk endpoints are as they were if the bus still works; if the bus failed at a port, nothing is said of them.

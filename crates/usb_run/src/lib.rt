@@ -37,8 +37,8 @@
 //!   (`ListsPlugged`): of a plan with `AtMostTwoRunning` of its damages, and a report with a `worst_address_run` of at
 //!   most 2, each listing *Lists* what the events that had come have left plugged. `run` and `serve` say it of the run
 //!   that they made, with the losses up to its end (`ListsRight`). They say it too if a fault stopped the run. A caller
-//!   can check the losses in the plan: each takes one damage of an attempt that was made (`AreOfDamages`). `settle` says
-//!   of its own host that it lists what is plugged (`LeavesSettled`).
+//!   can check the losses in the plan: each takes one damage of an attempt that was made (`AreOfDamages`). `settle`
+//!   says of its own host that it lists what is plugged (`LeavesSettled`).
 //! - *What a run tells of a transfer is what devices did*, whatever is damaged (`TellsRight`, `specs/Moments.antt`).
 //!   Each device that is reached after it was reached before it; the one at the path did what is said below, and no
 //!   other changed. Told done it is only where the host knows an accepted device at the path (`TransfersAt`; this and

@@ -79,8 +79,8 @@ module _ (damages : List Damage) where
           → IsDamaged damages v
       at_work (Ok outcome) made none =
           subst (IsDamaged damages) (sym made.exact) (damaged_after a w fits (settled none) h)
-      at_work (Err Limit) made none =
-          subst (IsDamaged damages) (sym (made.fails none)) (damaged_after a w fits (settled none) h)
+      at_work (Err Limit) made none = subst (IsDamaged damages) (sym (made.fails none))
+          (damaged_after a w fits (settled none) h)
       at_work (Err Memory) made none =
           damaged_given_up a w Memory fits (settled none) (made.fails none) h
       at_work (Err Failed) made none =
