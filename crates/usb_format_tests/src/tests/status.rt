@@ -13,89 +13,81 @@ use usb_status::{Fault, checked, exit_status};
 use usb_text::{LineFault, PacketFault};
 
 /// A fault, its line and its exit status.
-struct Row {
-    fault: Fault,
-    line: &'static str,
-    status: u8,
-}
-
-const fn row(fault: Fault, line: &'static str, status: u8) -> Row {
-    Row { fault, line, status }
-}
+type Row = (Fault, &'static str, u8);
 
 const ROWS: [Row; 33] = [
-    row(
+    (
         Fault::NoText,
         "error: invalid UTF-8 was detected in one or more arguments",
         2,
     ),
-    row(Fault::Line(LineFault::BadHex), "packet: bad hex", 1),
-    row(Fault::Line(LineFault::Packet(PacketFault::Check)), "packet: check", 1),
-    row(Fault::Line(LineFault::Memory), "out of memory", 4),
-    row(Fault::Serve(ServeFault::Read), "read failed", 4),
-    row(Fault::Serve(ServeFault::TooLong), "plan too long", 1),
-    row(Fault::Serve(ServeFault::Plan(PlanFault::Syntax)), "plan: syntax", 1),
-    row(
+    (Fault::Line(LineFault::BadHex), "packet: bad hex", 1),
+    (Fault::Line(LineFault::Packet(PacketFault::Check)), "packet: check", 1),
+    (Fault::Line(LineFault::Memory), "out of memory", 4),
+    (Fault::Serve(ServeFault::Read), "read failed", 4),
+    (Fault::Serve(ServeFault::TooLong), "plan too long", 1),
+    (Fault::Serve(ServeFault::Plan(PlanFault::Syntax)), "plan: syntax", 1),
+    (
         Fault::Serve(ServeFault::Plan(PlanFault::PortTaken(Place::Event(2)))),
         "plan: event 2: port taken",
         1,
     ),
-    row(Fault::Serve(ServeFault::Plan(PlanFault::Memory)), "out of memory", 4),
-    row(Fault::Serve(ServeFault::Run(RunFault::LimitReached)), "limit reached", 3),
-    row(Fault::Serve(ServeFault::Run(RunFault::Memory)), "out of memory", 4),
-    row(Fault::Serve(ServeFault::Run(RunFault::TraceFailed)), "trace failed", 4),
-    row(Fault::Serve(ServeFault::Write), "write failed", 4),
-    row(Fault::Serve(ServeFault::Memory), "out of memory", 4),
-    row(Fault::Pcap(PcapFault::Read), "read failed", 4),
-    row(Fault::Pcap(PcapFault::Line(3)), "pcap: line 3", 1),
-    row(Fault::Pcap(PcapFault::TooLong), "pcap: text too long", 1),
-    row(Fault::Pcap(PcapFault::Write), "write failed", 4),
-    row(Fault::Device(EntryFault::NoName), "device: no name", 1),
-    row(
+    (Fault::Serve(ServeFault::Plan(PlanFault::Memory)), "out of memory", 4),
+    (Fault::Serve(ServeFault::Run(RunFault::LimitReached)), "limit reached", 3),
+    (Fault::Serve(ServeFault::Run(RunFault::Memory)), "out of memory", 4),
+    (Fault::Serve(ServeFault::Run(RunFault::TraceFailed)), "trace failed", 4),
+    (Fault::Serve(ServeFault::Write), "write failed", 4),
+    (Fault::Serve(ServeFault::Memory), "out of memory", 4),
+    (Fault::Pcap(PcapFault::Read), "read failed", 4),
+    (Fault::Pcap(PcapFault::Line(3)), "pcap: line 3", 1),
+    (Fault::Pcap(PcapFault::TooLong), "pcap: text too long", 1),
+    (Fault::Pcap(PcapFault::Write), "write failed", 4),
+    (Fault::Device(EntryFault::NoName), "device: no name", 1),
+    (
         Fault::Device(EntryFault::Missing(18)),
         "device: byte 18: configuration missing",
         1,
     ),
-    row(Fault::Device(EntryFault::Write), "write failed", 4),
-    row(Fault::LongDevice, "device: file too long", 1),
-    row(Fault::Far(2, FarFault::LineTooLong), "line 2: line too long", 1),
-    row(Fault::Far(2, FarFault::LongSend), "line 2: too much to send", 1),
-    row(Fault::Far(2, FarFault::HostGone), "line 2: host gone", 4),
-    row(
+    (Fault::Device(EntryFault::Write), "write failed", 4),
+    (Fault::LongDevice, "device: file too long", 1),
+    (Fault::Far(2, FarFault::LineTooLong), "line 2: line too long", 1),
+    (Fault::Far(2, FarFault::LongSend), "line 2: too much to send", 1),
+    (Fault::Far(2, FarFault::HostGone), "line 2: host gone", 4),
+    (
         Fault::Far(2, FarFault::Bus(BusFault::Limit)),
         "line 2: limit reached",
         3,
     ),
-    row(
+    (
         Fault::Far(2, FarFault::Bus(BusFault::Failed)),
         "line 2: trace failed",
         4,
     ),
-    row(
+    (
         Fault::Live(LiveEnd::Line(5, LiveFault::Line(WireFault::NoAnswer))),
         "line 5: no answer",
         1,
     ),
-    row(
+    (
         Fault::Live(LiveEnd::Line(5, LiveFault::TooManyPushes)),
         "line 5: too many port lines",
         1,
     ),
-    row(Fault::Live(LiveEnd::Line(5, LiveFault::Gone)), "line 5: far end gone", 4),
-    row(
+    (Fault::Live(LiveEnd::Line(5, LiveFault::Gone)), "line 5: far end gone", 4),
+    (
         Fault::Live(LiveEnd::Line(5, LiveFault::LimitReached)),
         "line 5: limit reached",
         3,
     ),
-    row(Fault::Live(LiveEnd::Rounds(5)), "line 5: limit reached", 3),
-    row(Fault::Live(LiveEnd::Memory), "out of memory", 4),
+    (Fault::Live(LiveEnd::Rounds(5)), "line 5: limit reached", 3),
+    (Fault::Live(LiveEnd::Memory), "out of memory", 4),
 ];
 
 #[test]
 fn each_fault_has_its_line_and_its_status(rt: HostRuntime) -> Result<(), Fail> {
-    for row in &ROWS {
-        let line = format!(in rt.alloc(); "{}", row.fault)?;
-        assert_eq!(rt; (line.as_str(), exit_status(Err(row.fault))), (row.line, row.status));
+    for (fault, line, status) in ROWS {
+        let told = format!(in rt.alloc(); "{fault}")?;
+        assert_eq!(rt; (told.as_str(), exit_status(Err(fault))), (line, status));
     }
     Ok(())
 }
