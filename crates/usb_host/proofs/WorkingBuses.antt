@@ -15,9 +15,8 @@ use Rattle.usb_hub.proofs.Interface.{failed_works}
 use Rattle.usb_table.specs.{TableFault, TransferFault, Pipes, Hub, Function, Absent, PipesPolled}
 use Rattle.usb_table.specs.{PipesThrough, PipesSent, PipesReceived, PipesCleared, PipeDid, NotTried}
 use Rattle.usb_table.specs.{ThroughIf, SentThrough, ReceivedThrough, ClearedBy, ClearedAfter}
-use Rattle.usb_table.specs.{ClearedIf, BulkPipes, table_answer, one_side}
+use Rattle.usb_table.specs.{ClearedIf, BulkPipes, table_answer, one_side, NoDevice, NoEndpoint}
 use Rattle.usb_table.specs.declared.fault.TableFault.TheVariants as table
-use Rattle.usb_table.specs.declared.fault.TransferFault.TheVariants.{NoDevice, NoEndpoint}
 use Rattle.usb_enum.specs.{EnumFault, EnumWorks, ParentLost, Bus, Memory}
 use Rattle.usb_host.specs.{EndsAs, HostFault, HostNotOfBus, HostState, HostWorks, host_told}
 
