@@ -91,7 +91,7 @@ module _ {hub : List ℕ} (a b : HostState) (agrees : Agrees a.entries a.address
         keeps = hub_told a b agrees same pool stopped went keeps through asks d refl y.goes y.owned
             (λ s. (y.ports (of_ports s)).part.sound);
         polls = polls_told hub a b same pool stopped went listed asks keeps packet byte d is read
-            y.goes more y.holds
+            y.goes more y.holds y.order
             (λ s. (y.ports (of_ports s)).served (told_sound s));
         fails = tt;
         pays = pays_where (HubPaid hub)

@@ -1,6 +1,6 @@
 -- What a look at a port leaves.
-use Rattle.std.proofs.Common.{◌≡◌, ◌∙◌, ◌⊎◌, ◌+◌, ◌≤◌, arith, inl, inr, ap, subst, true, false}
-use Rattle.std.proofs.Common.{Bool, ℕ, List, None, Result, Ok, Err, OnOk, OnErr}
+use Rattle.std.proofs.Common.{◌≡◌, ◌∙◌, ◌⊎◌, ◌+◌, ◌≤◌, arith, inl, inr, ap, refl, subst, true}
+use Rattle.std.proofs.Common.{false, Bool, ℕ, List, None, Result, Ok, Err, OnOk, OnErr}
 use Rattle.usb_port.specs.{PortStatus, path_cmp}
 use Rattle.usb_tree.proofs.Interface.{decided}
 use Rattle.usb_hub.specs.{Isolates, StillWorks}
@@ -18,7 +18,7 @@ use Rattle.usb_host.specs.{KeepsPlugs, Entered, Forgets}
 use Rattle.usb_host.specs.{Gained, IsPortAt, Requested, ProgressOrLost, StandsAt, Waits, HostRuns}
 use Rattle.usb_host.specs.{HostSteps, OnlyBusSteps, waiting, ClearsError, ClearsPort, Discovers}
 use Rattle.usb_host.specs.{LookedOrLost, LooksAfterError, LooksAt, RenewsPort, HostInvariant}
-use Rattle.usb_host.specs.{Agrees, EntersFound, FindsAnew, table_in}
+use Rattle.usb_host.specs.{Agrees, EntersFound, FindsAnew, first_failed, next_done, table_in}
 use Rattle.usb_world.specs.{World}
 use Rattle.usb_host.proofs.devices.BulkPipes.{bulk_stays, bulk_then, stays_where, where_joined}
 use Rattle.usb_host.proofs.devices.Causes.{cleared_caused, entered_finds, forgot_caused}
@@ -211,6 +211,7 @@ look_fails {path = path} port {a = a} {b = b} {fault = fault} s r x =
       };
       hubs = omega (arith, hubs-rest a r);
       looked = λ o. cleared_failed s r went o fault;
+      order = first_failed fault x refl;
     }
 
 -- it was, and what was there is forgotten
@@ -354,7 +355,7 @@ pub look_done : {path : List ℕ} {port : KnownPort} {a b d : HostState}
     (result : Result (Unit {0}) EnumFault) {status : PortStatus} → StandsAt path port a
     → OnlyBusSteps a b → ClearsPort port.port a (Ok status) b
     → RenewsPort path port status.connected b result d → LooksAt path port a result d
-look_done {path = path} {a = a} {d = d} result {status = status} s r x y = record {
+look_done {path = path} {a = a} {b = b} {d = d} result {status = status} s r x y = record {
   requested = renew_requested y r x.requested.goes x.requested.works (omega arith);
   on = renew_on y r x.requested.goes x.gains;
   owned = renew_owned y r x.requested.goes s x.keeps.bares;
@@ -370,6 +371,7 @@ look_done {path = path} {a = a} {d = d} result {status = status} s r x y = recor
   looked = cases (λ q h. IsOwned a → LookedOrLost path a q h)
       (λ on. found_looked s r x y.forgot on result d (y.entered on) (y.found on).gave)
       (bare_looked s r x y.forgot);
+  order = next_done status b x y;
 }
   where
     cases : (P : Result (Unit {0}) EnumFault → HostState → Type 0)
@@ -386,14 +388,16 @@ error_look_fails path port {a = a} {b = b} {fault = fault} r x = record {
   requested = requested-fails (Unit {0}) x.requested (omega arith);
   on = λ can. failed_on_way PortStatus a b fault r (x.gains can);
   owned = rests_keeps_port path a b r x.requested.goes.went.spends.roots x.bares;
+  order = first_failed fault x refl;
 }
 
 pub error_look_done : {path : List ℕ} {port : KnownPort} {a b d : HostState}
     {result : Result (Unit {0}) EnumFault} {status : PortStatus} → StandsAt path port a
     → OnlyBusSteps a b → ClearsError port.port a (Ok status) b
     → RenewsPort path port status.connected b result d → LooksAfterError path port a result d
-error_look_done s r x y = record {
+error_look_done {b = b} {status = status} s r x y = record {
   requested = renew_requested y r x.requested.goes x.requested.works (omega arith);
   on = λ can. renew_on y r x.requested.goes x.gains (inl can);
   owned = renew_owned y r x.requested.goes s x.bares;
+  order = next_done status b x y;
 }

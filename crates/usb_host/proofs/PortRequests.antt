@@ -3,6 +3,8 @@ use Rattle.std.proofs.Common.{◌≡◌, ◌∙◌, ◌⊎◌, ◌+◌, ◌*◌,
 use Rattle.std.proofs.Common.{true, false, Bool, ℕ, List, Some, Result, Ok, Err, IfErr, IfOk, OnOk}
 use Rattle.std.proofs.Common.{IsOk}
 use Rattle.usb_request.specs.{PORT_ENABLE, C_PORT_CONNECTION, C_PORT_ENABLE, C_PORT_RESET}
+use Rattle.usb_request.specs.declared.hub_feature.TheConstants.{C_PORT_OVER_CURRENT}
+use Rattle.usb_request.specs.declared.hub_feature.TheConstants.{C_PORT_SUSPEND}
 use Rattle.usb_port.specs.{clear_call, is_reset, PortCall, ClearConnectionChange, ClearEnable}
 use Rattle.usb_port.specs.{ClearEnableChange, ClearResetChange, PortStatus}
 use Rattle.usb_world.specs.{World, HasFault, AttemptsWithin, BusFault}
@@ -27,7 +29,8 @@ use Rattle.usb_host.specs.{HostState, BaresPort, ClearsChange, LetsGoOn, Tidies,
 use Rattle.usb_host.specs.{ProgressOnOk, IsDue, Requested, Shown, HostRuns, HostSteps, ClearsError}
 use Rattle.usb_host.specs.{ClearsFeature, ClearsOthers, ClearsOwn, ClearsPort, ClearsWhere}
 use Rattle.usb_host.specs.{SettlesPort, ShowsPort, TidiesPort, ClearsAndReads, ClearsTold}
-use Rattle.usb_host.specs.{DoneWhere, is_stuck}
+use Rattle.usb_host.specs.{ClearsBoth, ClearsReported, DisablesAfter, DoneWhere, first_failed}
+use Rattle.usb_host.specs.{is_stuck, next_done}
 use Rattle.usb_host.proofs.devices.Enumerations.{status_read_goes}
 use Rattle.usb_host.proofs.OwnedPorts.{bares_after}
 use Rattle.usb_host.proofs.StepSums.{goes_by, host_goes_none, host_goes_then, goes_wider}
@@ -160,49 +163,64 @@ other_can : (port : HubPort) (feature : ℕ) (old : World) (answer : Result (Uni
 other_can (Root number) feature old answer new x = inr (rw x.0 refl)
 other_can (External hub number) feature old answer new x = inl tt
 
-pub others_by : (port : HubPort) (feature : ℕ) (a b : HostState)
-    (answer : Result (Unit {0}) PipeFault) {result : Result (Unit {0}) EnumFault}
+pub others_by : {asked : Bool} (port : HubPort) (feature : ℕ) (a b : HostState)
+    (answer : Result (Unit {0}) PipeFault) {result : Result (Unit {0}) EnumFault} → asked ≡ true
     → HostSteps (order_bound port) a b → b.stopped ≡ a.stopped
     → IfErr answer (λ fault. FaultAfter 1 a.world fault b.world)
     → ClearsOfPort port feature a.world answer b.world → KeepsAddresses a.world b.world
     → KeepsDevices a.world b.world → result ≡ at_port answer
-    → ClearsOthers port write_bound a result b
-others_by port feature a b answer went same fault effect addresses devices is = record {
+    → ClearsOthers port write_bound (ClearsReported asked port feature) a result b
+others_by port feature a b answer asks went same fault effect addresses devices is = record {
   requested = requested_by b answer (goes_by {k = write_bound} a b went (order_most port) same)
       (other_can port feature a.world answer b.world effect) (bus_told answer a.world b.world fault)
       (port_change_works port feature answer a.world b.world effect) is;
   keeps = record { addresses = addresses; devices = devices };
+  clears = record {
+    so = λ so. record { answer = answer; is = is; cleared = effect };
+    not = λ e. absurd (cc (e, asks));
+  };
 }
 
-pub own_by : {hub : HubPort} (target : Target) (a b : HostState)
-    (answer : Result (Unit {0}) PipeFault) {result : Result (Unit {0}) EnumFault} → CanFail hub
-    → HostRuns (read_bound 4 + 2 * write_bound) a b
-    → ((f : BusFault) → answer ≡ Err (pipe.Bus f) → HasFault f b.world)
+pub own_by : (target : Target) (number : ℕ) (a b : HostState)
+    (answer : Result (Unit {0}) PipeFault) {result : Result (Unit {0}) EnumFault}
+    → HostRuns (read_bound 4 + 2 * write_bound) a b → ((f : BusFault) → answer ≡ Err (pipe.Bus f) → HasFault f b.world)
     → KeepsAddresses a.world b.world → ClearsOfHub target a.world answer b.world
-    → result ≡ at_port answer → ClearsOwn hub a result b
-own_by target a b answer can goes fault addresses cleared is = record {
-  requested = requested_by b answer goes (inl can) fault
+    → result ≡ at_port answer → ClearsOwn (External target number) a result b
+own_by target number a b answer goes fault addresses cleared is = record {
+  requested = requested_by b answer goes (inl tt) fault
       (hub_change_works target answer a.world b.world cleared) is;
   addresses = addresses;
+  clears = record { answer = answer; is = is; cleared = cleared };
 }
 
-pub others_none : {port : HubPort} {n : ℕ} {h : HostState} → ClearsOthers port n h (Ok tt) h
-others_none {h = h} = record {
+pub others_none : {asked : Bool} {port : HubPort} {feature n : ℕ} {h : HostState} → asked ≡ false
+    → ClearsOthers port n (ClearsReported asked port feature) h (Ok tt) h
+others_none {h = h} unasked = record {
   requested = requested-none tt;
   keeps = record { addresses = keeps_none h.world; devices = keeps_devices_none h.world };
+  clears = record { so = λ so. absurd (cc (so, unasked)); not = λ e. (refl, refl) };
 }
 
-pub others_fail : {port : HubPort} (k : ℕ) {m : ℕ} {a b : HostState} {fault : EnumFault}
-    → ClearsOthers port m a (Err fault) b → m ≤ k → ClearsOthers port k a (Err fault) b
-others_fail k x le = record { requested = requested-wider x.requested le; keeps = x.keeps }
+module _ {port : HubPort} (status : PortStatus) (k : ℕ) {m : ℕ} {a b : HostState} where
+  -- the suspend was not cleared
+  pub others_fail : {fault : EnumFault}
+      → ClearsOthers port m (ClearsReported status.suspend_changed port C_PORT_SUSPEND) a
+      (Err fault) b → m ≤ k → ClearsOthers port k (ClearsBoth port status) a (Err fault) b
+  others_fail {fault = fault} x le = record {
+    requested = requested-wider x.requested le;
+    keeps = x.keeps;
+    clears = first_failed fault x.clears refl;
+  }
 
-pub others_then : {port : HubPort} {k m n : ℕ} {a b c : HostState}
-    {result : Result (Unit {0}) EnumFault} → ClearsOthers port m a (Ok tt) b
-    → ClearsOthers port n b result c → m + n ≤ k → ClearsOthers port k a result c
-others_then x y le = record {
-  requested = requested-then x.requested y.requested le;
-  keeps = keeps_each_then x.keeps y.requested.goes.went y.keeps;
-}
+  pub others_then : {n : ℕ} {c : HostState} {result : Result (Unit {0}) EnumFault}
+      → ClearsOthers port m (ClearsReported status.suspend_changed port C_PORT_SUSPEND) a (Ok tt) b
+      → ClearsOthers port n (ClearsReported status.over_current_changed port C_PORT_OVER_CURRENT)
+      b result c → m + n ≤ k → ClearsOthers port k (ClearsBoth port status) a result c
+  others_then x y le = record {
+    requested = requested-then x.requested y.requested le;
+    keeps = keeps_each_then x.keeps y.requested.goes.went y.keeps;
+    clears = next_done tt b x.clears y.clears;
+  }
 
 -- That the host gets on
 
@@ -322,6 +340,7 @@ module _ {port : HubPort} (status : PortStatus) {a b : HostState} where
     requested = requested-wider (where_requested x) (omega arith);
     tidies = where_tidies enable clears_enable_change x;
     clears = record { reset = tt; calm = λ off none. x.not off; clears = λ f p at owned. tt };
+    order = first_failed _ x refl;
   }
 
   module _ (c : HostState)
@@ -364,6 +383,7 @@ module _ {port : HubPort} (status : PortStatus) {a b : HostState} where
             calm = λ off none. ((y.not none).0, (y.not none).1 ∙ (x.not off).1);
             clears = clears_told_by result y;
           };
+          order = next_done tt b x y;
         }
 
 -- and the others
@@ -374,19 +394,21 @@ settled_fails x = record {
   requested = requested-wider x.requested (omega arith);
   keeps = record { addresses = x.tidies.addresses; devices = x.tidies.devices };
   tidies = λ plain. x;
+  order = first_failed _ x refl;
 }
 
 pub port_settled : (port : HubPort) (status : PortStatus) {a b c : HostState}
     {result : Result (Unit {0}) EnumFault} → TidiesPort port status a (Ok tt) b
-    → ClearsOthers port (2 * write_bound) b result c
+    → ClearsOthers port (2 * write_bound) (ClearsBoth port status) b result c
     → (HasOnlyWorldChanges status → (result ≡ Ok tt) × (c ≡ b)) → SettlesPort port status a result c
-port_settled port status {a = a} x y none = record {
+port_settled port status {a = a} {b = b} x y none = record {
   requested = requested-then x.requested y.requested (omega arith);
   keeps = keeps_each_then (record { addresses = x.tidies.addresses; devices = x.tidies.devices })
       y.requested.goes.went y.keeps;
   tidies = λ plain.
       let rests = none plain in
       rw rests.0 (rw rests.1 x);
+  order = next_done tt b x y;
 }
 
 -- The change of connection
@@ -442,6 +464,7 @@ module _ {port : HubPort} {a b : HostState} where
     keeps = change_failed port a.world x.answer b.world fault x.is x.calls x.keeps;
     paid = tt;
     reads = λ f p at owned. tt;
+    order = first_failed fault x refl;
   }
 
   module _ (x : ClearsFeature port C_PORT_CONNECTION a (Ok tt) b) where
@@ -470,6 +493,7 @@ module _ {port : HubPort} {a b : HostState} where
       keeps = change_after c y.requested.goes.went (clears_untold (shows_watches y));
       paid = tt;
       reads = λ f p at owned. tt;
+      order = next_done tt b x (first_failed fault y refl);
     }
 
     module _ {c : HostState} (d : HostState) {status : PortStatus}
@@ -558,12 +582,28 @@ module _ {port : HubPort} {a b : HostState} where
             };
             paid = tt;
             reads = λ f p at owned. tt;
+            order = next_done tt b x (next_done status c y (record {
+              stuck = λ e. (refl, refl);
+              steady = λ calm. absurd (cc (stuck, calm));
+            }));
           }
 
-      pub change_cleared : {result : Result (Unit {0}) EnumFault}
+      last_asked : (result : Result (Unit {0}) EnumFault) → is_stuck port status ≡ false
+          → ClearsWhere status.enabled port PORT_ENABLE c result d
+          → DisablesAfter port status c (status_after status result) d
+      last_asked (Ok tt) calm z = record {
+        stuck = λ stuck. absurd (cc (stuck, calm));
+        steady = λ steady. next_done tt d z (refl, refl);
+      }
+      last_asked (Err fault) calm z = record {
+        stuck = λ stuck. absurd (cc (stuck, calm));
+        steady = λ steady. first_failed fault z refl;
+      }
+
+      pub change_cleared : is_stuck port status ≡ false → {result : Result (Unit {0}) EnumFault}
           → ClearsWhere status.enabled port PORT_ENABLE c result d
           → ClearsPort port a (status_after status result) d
-      change_cleared {result = result} z =
+      change_cleared calm {result = result} z =
           let last = where_requested z in
           let went = host_goes_then {k = read_bound 4 + write_bound}
           y.requested.goes last.goes (omega arith) in
@@ -592,6 +632,7 @@ module _ {port : HubPort} {a b : HostState} where
                   (all_none c.world)))
             ];
             reads = reads_by result z;
+            order = next_done tt b x (next_done status c y (last_asked result calm z));
           }
 
 -- The change of enable
@@ -606,6 +647,7 @@ module _ {port : HubPort} {a b : HostState} where
         (λ goes. order_gains port C_PORT_ENABLE x.answer can x.requested.goes.went.spends x.effect
         (subst LetsGoOn x.is (goes_as PortStatus (Unit {0}) fault goes)));
     bares = x.keeps.keeps;
+    order = first_failed fault x refl;
   }
 
   module _ (x : ClearsFeature port C_PORT_ENABLE a (Ok tt) b) where
@@ -624,6 +666,7 @@ module _ {port : HubPort} {a b : HostState} where
           y.requested (omega arith)) (omega arith);
       gains = error_on c (Err fault) y.requested.goes;
       bares = keeps_then a.world b.world c.world x.keeps.keeps y.keeps.keeps;
+      order = next_done tt b x (first_failed fault y refl);
     }
 
     module _ {c : HostState} (d : HostState) (y : ClearsFeature port PORT_ENABLE b (Ok tt) c) where
@@ -643,6 +686,7 @@ module _ {port : HubPort} {a b : HostState} where
           x.requested y.requested (omega arith) in
           record {
             requested = requested-then first z.requested (omega arith);
+            order = next_done tt b x (next_done tt c y z);
             gains = error_on d result (host_goes_then {k = write_bound + read_bound 4}
                 y.requested.goes z.requested.goes (omega arith));
             bares = bares_by result z.keeps.keeps;

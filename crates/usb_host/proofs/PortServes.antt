@@ -1,18 +1,20 @@
 -- What the serving and the handling of a port leave.
 use Rattle.std.proofs.Common.{◌≡◌, ◌∙◌, ◌+◌, ◌*◌, ◌≤◌, arith, inr, refl, true, false, ℕ, List}
-use Rattle.std.proofs.Common.{Option, None, Result, Ok, Err, IsErr}
+use Rattle.std.proofs.Common.{[], ◌∷◌, ◌++◌, None, Some, Result, Ok, Err, IsErr, OnOk}
 use Rattle.usb_port.specs.{PortStatus}
 use Rattle.usb_address.proofs.Interface.{keeps_then}
 use Rattle.usb_pipe.specs.{write_bound}
-use Rattle.usb_enum.specs.{read_bound, EnumFault, ParentLost, Accepted}
+use Rattle.usb_enum.specs.{read_bound, EnumFault, ParentLost, Bus, Memory}
 use Rattle.usb_enum.proofs.Interface.{went_sound}
-use Rattle.usb_table.specs.{KnownPort}
+use Rattle.usb_table.specs.{KnownPort, accepted_device_at, known_port}
 use Rattle.usb_host.specs.{hubs, drop_bound, handling_bound, look_bound, was_disabled, HostState}
 use Rattle.usb_host.specs.{KeepsPort, PortOwned, ServesSound, Watches, EndsAs, IsDue, StandsAt}
 use Rattle.usb_host.specs.{StandsNowhere, Waits, HostSteps, OnlyBusSteps, ClearsOwn, SettlesPort}
 use Rattle.usb_host.specs.{ShowsPort, TidiesPort, EndsAt, FinishesAt, HandlesPort, LooksAfterError}
 use Rattle.usb_host.specs.{LooksAt, LooksOnceMore, ServesOwn, ServesPort, HostInvariant, Part}
-use Rattle.usb_host.specs.{HostFault, Round, Quiet, Worked}
+use Rattle.usb_host.specs.{HostFault, DoneAt, OwnHandled, OwnServed, Round, Quiet, Worked, all_done}
+use Rattle.usb_host.specs.{at_connection, at_error, at_others, first_failed, hub_failed, next_done}
+use Rattle.usb_host.specs.{own_known}
 use Rattle.usb_host.proofs.devices.BulkPipes.{bulk_stays, bulk_then, stay_joined, stay_none}
 use Rattle.usb_host.proofs.devices.BulkPipes.{stays_where}
 use Rattle.usb_host.proofs.devices.Causes.{causes_rests, tidied_caused, watched_caused}
@@ -68,6 +70,7 @@ serve_fails {path = path} port {a = a} {b = b} {fault = fault} s r x =
       };
       hubs = omega (arith, hubs-rest a r);
       served = λ i. status_failed s r went i.owned fault;
+      order = first_failed fault x refl;
     }
 
 module _ {path : List ℕ} {port : KnownPort} {a b : HostState} (s : StandsAt path port a)
@@ -125,6 +128,7 @@ module _ {path : List ℕ} {port : KnownPort} {a b : HostState} (s : StandsAt pa
         served = λ i.
             serves_looked s r shown_went i.owned shown_watches
             changed result d y.looked;
+        order = next_done status b x (at_connection changed y);
       }
 
   -- none was
@@ -160,8 +164,9 @@ module _ {path : List ℕ} {port : KnownPort} {a b : HostState} (s : StandsAt pa
           (shown_watches.rests tt) i caused);
     }
 
-    pub serve_settled : ServesPort path port a result d
-    serve_settled = record {
+    pub serve_settled : was_disabled port.port status (accepted_device_at path b.entries) ≡ false
+        → ServesPort path port a result d
+    serve_settled calm = record {
       requested = requested-then x.requested y.requested (omega arith);
       on = λ due.
           tidied_on port.port a b d result status r q (shows_shown x) y.requested.goes steady due;
@@ -183,12 +188,15 @@ module _ {path : List ℕ} {port : KnownPort} {a b : HostState} (s : StandsAt pa
       served = λ i.
           serves_tidied s r shown_went i.owned shown_watches
           steady result d q (settled_tidies i).clears;
+      order = next_done status b x (at_others steady calm y q);
     }
 
   -- its hub has disabled it on an error: no hub of a world does
-  module _ (device : Option Accepted) (failed : was_disabled port.port status device ≡ true) where
+  module _ (steady : status.connection_changed ≡ false)
+      (failed : was_disabled port.port status (accepted_device_at path b.entries) ≡ true) where
     not_failed : HostInvariant a → ⊥
-    not_failed i = none_failed path port a s i status shown_watches device failed
+    not_failed i =
+        none_failed path port a s i status shown_watches (accepted_device_at path b.entries) failed
 
     pub serve_failed : {result : Result (Unit {0}) EnumFault} {d : HostState}
         → LooksAfterError path port b result d → hubs d.entries ≤ hubs b.entries + 1
@@ -196,9 +204,8 @@ module _ {path : List ℕ} {port : KnownPort} {a b : HostState} (s : StandsAt pa
     serve_failed {result = result} {d = d} y few = record {
       requested = requested-then x.requested y.requested (omega arith);
       on = λ due.
-          failed_served port.port a b d result status r x.requested.goes device
-          failed
-          y.on;
+          failed_served port.port a b d result status r x.requested.goes
+          (accepted_device_at path b.entries) failed y.on;
       owned = port_then (stays_rests a b r shown_went.spends.roots shown_watches.addresses) y.owned;
       sound = record {
         sound = λ i. absurd (not_failed i);
@@ -210,9 +217,23 @@ module _ {path : List ℕ} {port : KnownPort} {a b : HostState} (s : StandsAt pa
       pays = record { pays = λ i. absurd (not_failed i); few = λ i. absurd (not_failed i) };
       hubs = omega (arith, hubs-rest a r);
       served = λ i. absurd (not_failed i);
+      order = next_done status b x (at_error steady failed y);
     }
 
 -- Where its hub was lost, that was dropped
+
+done_by : (Does : KnownPort → HostState → Result (Unit {0}) EnumFault → HostState → Type 0)
+    (path : List ℕ) {port : KnownPort} (served : Result (Unit {0}) EnumFault)
+    (result : Result (Unit {0}) HostFault) (a b d : HostState)
+    → known_port path a.entries ≡ Some port → EndsAs served result
+    → EndsAt path served b result d → Does port a served b → OnOk result (DoneAt Does path a d)
+done_by Does path {port = port} (Ok tt) result a b d known ends left x =
+    rw ends (rw left (all_done port known x))
+done_by Does path {port = port} (Err ParentLost) (Ok tt) a b d known ends left x =
+    hub_failed port b known x left
+done_by Does path (Err ParentLost) (Err fault) a b d known ends left x = tt
+done_by Does path (Err (Bus fault)) result a b d known ends left x = rw ends tt
+done_by Does path (Err Memory) result a b d known ends left x = rw ends tt
 
 -- the host stopped as the port was served
 pub finish_fails : (path : List ℕ) {served : Result (Unit {0}) EnumFault} {fault : HostFault}
@@ -259,7 +280,8 @@ module _ {path : List ℕ} {port : KnownPort} {a b d : HostState} (s : StandsAt 
     part = finished_part x.requested.goes.went (omega arith) x.requested.goes.going x.owned x.sound;
     handled = handles_at path (IsDue a.world port.port) result a d
         (handled result served a b d ends y.holds x.on)
-        (λ i. handled_at path served result a b d ends y.left (x.served i));
+        (λ i. handled_at path served result a b d ends y.left (x.served i))
+        (done_by _ path served result a b d s.known ends y.left x.order);
     cut = port_cut path served result a b d y.goes.went ends y.left
         (λ i. served_left path served a b (x.served i)) x.sound.cut
         (λ i. y.drops.cut (x.sound.sound i));
@@ -268,7 +290,8 @@ module _ {path : List ℕ} {port : KnownPort} {a b d : HostState} (s : StandsAt 
   }
 
   -- the changes of a hub itself
-  pub own_finished : OnlyBusSteps a b → ClearsOwn port.port a served b → ServesOwn a result d
+  pub own_finished : OnlyBusSteps a b → ClearsOwn port.port a served b
+      → ServesOwn (OwnHandled path) a result d
   own_finished r x =
       let roots = x.requested.goes.went.spends.roots in
       record {
@@ -276,7 +299,23 @@ module _ {path : List ℕ} {port : KnownPort} {a b d : HostState} (s : StandsAt 
         holds = no_work_then a b d (rests_holds a b x.requested.goes r) y.holds;
         owned = port_finished path port a result d s roots
             (rests_keeps_port path a {result = served} b r roots x.addresses) y.drops.owned;
+        served = done_by _ path served result a b d s.known ends y.left (x, r);
       }
+
+-- so it is by way of the first port of a hub
+pub own_at : (hub : List ℕ) {a d : HostState} {result : Result (Unit {0}) HostFault}
+    → ServesOwn (OwnHandled (hub ++ (1 ∷ []))) a result d → ServesOwn (OwnServed hub) a result d
+own_at hub {a = a} {d = d} {result = result} x = record {
+  goes = x.goes;
+  holds = x.holds;
+  owned = x.owned;
+  served = served result x.served;
+}
+  where
+    served : (result : Result (Unit {0}) HostFault)
+        → OnOk result (OwnHandled (hub ++ (1 ∷ [])) a d) → OnOk result (OwnServed hub a d)
+    served (Ok tt) y = own_known y
+    served (Err fault) y = tt
 
 -- A second look
 
@@ -287,6 +326,7 @@ look_nowhere {path = path} {h = h} none waits = record {
   part = part-none;
   did = record { did = refl; some = λ r. absurd (waits_somewhere path h none waits r) };
   looked = λ s. absurd (waits_somewhere path h none waits s.rooted);
+  order = (none, refl);
   cut = tt;
 }
 
@@ -299,6 +339,7 @@ module _ {path : List ℕ} {port : KnownPort} {a b d : HostState} (s : StandsAt 
     part = part-fails other (look_finished s ends y x) e (omega arith);
     did = is_err-if_ok other _ e;
     looked = is_err-if_ok other _ e;
+    order = is_err-if_ok other _ e;
     cut = on_errors other _ (port_cut path served (Err fault) a b d y.goes.went ends y.left
         (λ i. looked_left path served a b (x.looked i.owned)) x.sound.cut
         (λ i. y.drops.cut (x.sound.sound i)));
@@ -313,5 +354,6 @@ module _ {path : List ℕ} {port : KnownPort} {a b d : HostState} (s : StandsAt 
       some = λ r is. cc is;
     };
     looked = λ i. (refl, handled_once path served a b d ends y.left (x.looked i.owned));
+    order = done_by _ path served (Ok tt) a b d s.known ends y.left x.order;
     cut = tt;
   }

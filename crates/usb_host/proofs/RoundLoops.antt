@@ -16,7 +16,9 @@ use Rattle.usb_host.specs.{ServesEach, ServesHub, ServesHubs, ServesPorts, Serve
 use Rattle.usb_host.specs.{bit_set, next_hub, no_device, no_hub, no_root, none_yet, root_changed}
 use Rattle.usb_host.specs.{root_steady, HostInvariant, NoneWait, Part, HostFault, Round, Quiet}
 use Rattle.usb_host.specs.{Worked, hubs_most, handling_most, HubsFail, LooksFail, PortsFail}
-use Rattle.usb_host.specs.{RootsFail}
+use Rattle.usb_host.specs.{RootsFail, BitsHandledSo, HubsAsked, RootsHandledSo, WaitingAsked}
+use Rattle.usb_host.specs.{bit_handled, bit_unset, bits_begun, hub_asked, hubs_begun}
+use Rattle.usb_host.specs.{root_handled, root_unchanged, roots_begun, waiting_begun, waiting_next}
 use Rattle.usb_host.proofs.payments.HubPayments.{HubsSoFar, hubs_all, hubs_failed, hubs_next}
 use Rattle.usb_host.proofs.rests.IdleRounds.{none_next, none_shows}
 use Rattle.usb_host.proofs.StepSums.{did_holds, did_then, no_work_then, worked_after}
@@ -46,6 +48,7 @@ pub record RootsHandled (n : ℕ) (round : Round) (a b : HostState) : Type 0 whe
   pub unchanged : round ≡ Quiet → (k : ℕ) → 1 ≤ k → k < n
       → (root_port_at a.world k).connection_changed ≡ false
   pub served : HostInvariant a → RootsServed n round a b
+  pub order : RootsHandledSo n round a b
   pub pays : RootsSoFar round a b
   pub idle : changes (root_row a.world) ≡ 0 → round ≡ Quiet
 
@@ -56,6 +59,7 @@ roots_begin h = record {
   same = λ quiet. refl;
   unchanged = λ quiet k least below. absurd (omega arith);
   served = λ s. no_root h;
+  order = roots_begun h;
   pays = record {
     stops = λ c plan w. few_stop c (handling_most c) h h (omega arith) (omega arith);
     pays = λ c plan w still. refl;
@@ -78,6 +82,7 @@ module _ {n : ℕ} {round : Round} {a b : HostState} (x : RootsHandled n round a
         below_more (λ k. 1 ≤ k → (root_port_at a.world k).connection_changed ≡ false) n
         (λ k lt first. x.unchanged quiet k first lt) (λ first. here) k below first;
     served = λ s. root_steady n round (x.served s) steady;
+    order = root_unchanged n round x.order steady;
     pays = x.pays;
     idle = x.idle;
   }
@@ -95,6 +100,7 @@ module _ {n : ℕ} {round : Round} {a b : HostState} (x : RootsHandled n round a
       unchanged = λ quiet. absurd (cc quiet);
       served = λ s.
           root_changed n round (x.served s) on (y.handled.served (x.part.sound.sound.sound s));
+      order = root_handled n round x.order on y.handled.order;
       pays = roots_next n a b d x.part.goes.went y.part.goes.went x.part.sound x.pays
           (root_shows b.world n least most on) y.pays;
       idle = λ none. absurd (none_shows a b n (x.same (x.idle none)) none on);
@@ -135,6 +141,7 @@ roots_end {n = n} round {a = a} {b = b} x most end = record {
       none = none_changed a.world n (omega arith) (x.unchanged quiet);
     };
     served = λ s. subst (λ k. RootsServed k round a b) end (x.served s);
+    order = subst (λ k. RootsHandledSo k round a b) end x.order;
   };
   fails = tt;
   pays = record { stops = x.pays.stops; pays = x.pays.pays };
@@ -148,6 +155,7 @@ pub record PortsHandled (hub : List ℕ) (bits n : ℕ) (a b : HostState) : Type
   pub part : Part {A = Unit {0}} ((n - 1) * handling_bound) a (Ok tt) b
   pub holds : AddsNoWork a b
   pub served : HostInvariant a → ServedTold hub bits n a b
+  pub order : BitsHandledSo hub bits n a b
   pub pays : ToldSoFar hub bits n a b
 
 pub ports_begin : {hub : List ℕ} {bits : ℕ} (h : HostState) → PortsHandled hub bits 1 h h
@@ -155,6 +163,7 @@ ports_begin h = record {
   part = part-none;
   holds = omega arith;
   served = λ s. none_yet h;
+  order = bits_begun h;
   pays = told_so_far_none h;
 }
 
@@ -166,6 +175,7 @@ module _ {hub : List ℕ} {bits n : ℕ} {a b : HostState} (x : PortsHandled hub
     part = part-wider (Unit {0}) x.part (omega arith);
     holds = x.holds;
     served = λ s. bit_clear n (x.served s) off;
+    order = bit_unset n x.order off;
     pays = told_clear bits n a b off x.pays;
   }
 
@@ -178,6 +188,7 @@ module _ {hub : List ℕ} {bits n : ℕ} {a b : HostState} (x : PortsHandled hub
           (part-wider (Unit {0}) {k = handling_bound} {y = tt} y.part (omega arith)) (omega arith);
       holds = no_work_then a b d x.holds (did_holds round b d y.part.goes y.handled.did);
       served = λ s. bit_set n (x.served s) on (y.handled.served (x.part.sound.sound.sound s));
+      order = bit_handled n x.order on y.handled.order;
       pays = told_next ((n - 1) * handling_bound) handling_bound hub bits n least most a b d
           x.part.goes.went y.part.goes.went x.part.sound x.pays round on y.pays;
     }
@@ -191,6 +202,7 @@ module _ {hub : List ℕ} {bits n : ℕ} {a b : HostState} (x : PortsHandled hub
           (omega arith);
       holds = on_failed other (AddsNoWork a d) e;
       served = on_failed other (HostInvariant a → ServedTold hub bits 8 a d) e;
+      order = on_failed other (BitsHandledSo hub bits 8 a d) e;
       fails = on_errors other (HostInvariant a → a.world.fault ≡ None
           → PortsFail hub bits a d) (λ i none. record {
             number = n;
@@ -211,6 +223,7 @@ ports_end {hub = hub} bits {a = a} {b = b} x end = record {
   part = part-wider (Unit {0}) x.part (omega arith);
   holds = x.holds;
   served = λ s. subst (λ k. ServedTold hub bits k a b) end (x.served s);
+  order = subst (λ k. BitsHandledSo hub bits k a b) end x.order;
   fails = tt;
   pays = told_all a b (rw end at x.pays);
 }
@@ -225,6 +238,7 @@ pub record HubsHandled (last : Option (List ℕ)) (round : Round) (a b : HostSta
   pub polled : HostInvariant a → round ≡ Quiet → b.world.fault ≡ None
       → b.world.taken ≡ a.world.taken → Polled last b
   pub polls : HostInvariant a → b.world.fault ≡ None → HubsPolled last round a b
+  pub order : HubsAsked last round a b
   pub pays : HubsSoFar last round a b
 
 pub hubs_begin : (h : HostState) → HubsHandled None Quiet h h
@@ -234,6 +248,7 @@ hubs_begin h = record {
   calm = λ quiet still x. here h.world;
   polled = λ s quiet still taken hub first. absurd (first tt);
   polls = λ s still. no_hub h;
+  order = hubs_begun h;
   pays = record {
     stops = λ c plan w. few_stop c (hubs_most c) h h (omega arith) (omega arith);
     pays = λ c plan w still. record { polls = 0; few = omega arith; paid = costs_none c 0 h };
@@ -264,6 +279,7 @@ module _ {last : Option (List ℕ)} {hub : List ℕ} {round : Round} {a b d : Ho
             next_hub last hub round one
             (x.polls s (went_sound hub_poll_bound b.world d.world second.went still)) next
             (y.polls.polled (x.part.sound.sound.sound s) still);
+        order = hub_asked last hub round one x.order next y.polls.order;
         pays = hubs_next hub a b d first.went second.went x.part.sound x.pays one
             (omega (arith, rank_rises last hub before path next.stands.after)) y.pays;
       }
@@ -278,6 +294,7 @@ module _ {last : Option (List ℕ)} {hub : List ℕ} {round : Round} {a b d : Ho
         (rank_within hub_poll_bound (rank_after (Some hub)) (rank_most hub path)));
     did = is_err-if_ok other (λ r. Did r a d) e;
     polls = is_err-if_ok other _ e;
+    order = is_err-if_ok other _ e;
     fails = on_errors other (HostInvariant a → a.world.fault ≡ None → HubsFail a d)
         (λ i none. record {
           last = last;
@@ -310,6 +327,7 @@ hubs_all_handled last round {a = a} {b = b} x path none agrees idle = record {
   };
   did = x.did;
   polls = λ s still. record { last = last; polled = x.polls s still; all = none };
+  order = record { last = last; asked = x.order; all = none };
   fails = tt;
   pays = hubs_all last round a b x.pays;
   idle = λ empty. (ap (λ (r : Round). Ok r) (idle empty).0, (idle empty).1);
@@ -323,6 +341,7 @@ pub record WaitingHandled (last : Option (List ℕ)) (round : Round) (a b : Host
   pub did : Did round a b
   pub none : IsRooted a → round ≡ Quiet → (b ≡ a) × (last ≡ None)
   pub looked : HostInvariant a → LookedAgain last round a b
+  pub order : WaitingAsked last round a b
 
 pub waiting_begin : (h : HostState) → WaitingHandled None Quiet h h
 waiting_begin h = record {
@@ -330,6 +349,7 @@ waiting_begin h = record {
   did = refl;
   none = λ r quiet. (refl, refl);
   looked = λ s. no_device h;
+  order = waiting_begun h;
 }
 
 module _ {last : Option (List ℕ)} {path : List ℕ} {round : Round} {a b d : HostState}
@@ -346,6 +366,7 @@ module _ {last : Option (List ℕ)} {path : List ℕ} {round : Round} {a b d : H
     looked = λ s.
         let once = y.looked (x.part.sound.sound.sound s) in
         looked_then last path round one a b d (x.looked s) waits after once.0 once.1;
+    order = waiting_next last path round one x.order waits after y.order;
   }
 
   pub waiting_cut : (a.world.fault ≡ None → b.world.fault ≡ None) → {fault : HostFault}
@@ -359,6 +380,7 @@ module _ {last : Option (List ℕ)} {path : List ℕ} {round : Round} {a b d : H
         (λ none. one_waits (idle none) waits none);
     did = is_err-if_ok other (λ r. Did r a d) e;
     looked = is_err-if_ok other _ e;
+    order = is_err-if_ok other _ e;
     fails = on_errors other (HostInvariant a → a.world.fault ≡ None → LooksFail a d)
         (λ i none. record {
           last = last;
@@ -390,5 +412,6 @@ waiting_end {last = last} {round = round} x path agrees all idle = record {
   };
   did = x.did;
   looked = λ s. record { last = last; looked = x.looked s; all = all };
+  order = record { last = last; looked = x.order; all = all };
   fails = tt;
 }

@@ -52,7 +52,7 @@ pub use Ports.{ProgressOnOk, ProgressOrLost, Requested, Shown, StandsAt, StandsN
 pub use Progress.{AddsNoWork, Did, DidRound, HostProgress, HostRuns, HostSpends, HostSteps}
 pub use Progress.{OnlyBusSteps, QuietKeeps}
 pub use Progress.{Remains, either, idle_work, waiting}
-pub use Service.{ClearsAndReads, ClearsTold, DidParts, Discovers, DoneWhere, DropsOne}
+pub use Service.{DidParts, Discovers, DropsOne}
 pub use Service.{EachLookedAgain, EachPolled, EndsAt, FinishesAt, HandlesAt, HandlesBelow}
 pub use Service.{HandlesNumber, HandlesPort, HasHub, HubFails, HubPolled, HubsFail, HubsPolled}
 pub use Service.{LookedAgain, LookedAt, LookedOnce, LookedOrLost, LooksAfterError, LooksAgain}
@@ -60,7 +60,15 @@ pub use Service.{LooksAt, LooksFail, LooksOnceMore, LosesParent, NoneHears, Poll
 pub use Service.{PortsFail, Renews, RenewsPort, RootsFail, RootsServed, PartsFail, RoundParts}
 pub use Service.{ServedAt, ServedBelow, ServedOrLost, ServedTold, ServesEach, ServesHub}
 pub use Service.{ServesHubs, ServesOwn, ServesPort, ServesPorts, ServesRoots, ServesTold}
-pub use Service.{Tidied, TidiesTold, WentByParts, bit_clear, bit_set, drop_failed, first_byte}
+pub use Service.{Tidied, WentByParts, bit_clear, bit_set, drop_failed, first_byte}
+pub use Service.{OwnHandled, OwnServed, ServesFor, all_done, at_connection, at_error, at_others}
+pub use Service.{hub_failed, own_known, own_unknown, DoneAt, BelowHandledSo, BitsHandledSo}
+pub use Service.{EachAsked, EachWaitingAsked, HandledSo, HubAsked, HubsAsked, LookedSo}
+pub use Service.{LooksInOrder, ReportHandled, RootsHandledSo, RoundOrder, WaitingAsked}
+pub use Service.{asked_failed, asked_none}
+pub use Service.{asked_some, below_known, below_unknown, bit_handled, bit_unset, bits_begun}
+pub use Service.{hub_asked, hubs_begun, own_reported, ports_reported, root_handled, root_unchanged}
+pub use Service.{roots_begun, waiting_begun, waiting_next}
 pub use Service.{hubs_failed, looks_failed, poll_failed, port_failed, roots_failed}
 pub use Service.{looked_once, lost_once, next_device, next_hub, no_device, no_hub, no_root}
 pub use Service.{none_yet, not_heard, port_known, port_unknown, root_changed, root_steady}
@@ -76,8 +84,11 @@ pub use ToldFaults.{StopsAsTransfer, TransferFaultAllowed, host_fault, host_told
 pub use ToldFaults.{is_last_fault, HostNotOfBus, HostWorks}
 pub use Transfers.{ClearedAt, MovesThrough, ReceivedAt, SentAt, table_in}
 pub use Changes.{HasOnlyWorldChanges, KeepsEach, is_stuck, was_disabled}
-pub use Requests.{ClearsError, ClearsFeature, ClearsOthers, ClearsOwn, ClearsPort, ClearsWhere}
-pub use Requests.{SettlesPort, ShowsPort, TidiesPort}
+pub use Requests.{AsksAndClears, ClearsAndAsks, ClearsAndReads, ClearsAndShows, ClearsBoth}
+pub use Requests.{ClearsChangeOf, DisablesAfter}
+pub use Requests.{ClearsError, ClearsFeature, ClearsHubOf, ClearsInTurn, ClearsOthers, ClearsOwn}
+pub use Requests.{ClearsPort, ClearsReported, ClearsTold, ClearsWhere, DoneWhere, InOrder}
+pub use Requests.{SettlesPort, ShowsPort, TidiesPort, TidiesTold, first_failed, next_done}
 pub use declared.fault.HostFault.{HostFault}
 pub use declared.fault.HostFault.TheVariants.{Bus}
 pub use declared.host.Round.{Round}

@@ -21,6 +21,7 @@ use Rattle.usb_resources.specs.{IsFull}
 use Rattle.usb_host.specs.Backlog.{hubs, ClearsReset, PaysAtLook, PaysAtServe, RestsCalm}
 use Rattle.usb_host.specs.Bounds.{drop_bound, handling_bound, look_bound, roots_bound}
 use Rattle.usb_host.specs.Bounds.{serving_bound, told_bound}
+use Rattle.usb_host.specs.Changes.{was_disabled}
 use Rattle.usb_host.specs.Budget.{Affords, HubPaid, NumberPaid, PaysPart, PaysRound, PortPaid}
 use Rattle.usb_host.specs.Budget.{RootsPaid, RoundPaid, ToldPaid, Weights, handling_most, hubs_most}
 use Rattle.usb_host.specs.Budget.{poll_most, told_most}
@@ -30,38 +31,19 @@ use Rattle.usb_host.specs.Discoveries.{EntersFound, FindsAnew}
 use Rattle.usb_host.specs.HostStates.{HostState}
 use Rattle.usb_host.specs.Ownership.{DropsHub, HasLost, IsOwned, KeepsOwned, KeepsPort}
 use Rattle.usb_host.specs.PortHandling.{DropsLost, FindsSound, ServesSound}
-use Rattle.usb_host.specs.Ports.{Entered, Forgets, IsDue, Looked, Requested, ProgressOrLost, Waits}
+use Rattle.usb_host.specs.Ports.{Entered, Forgets, IsDue, Looked, Requested, ProgressOrLost}
+use Rattle.usb_host.specs.Ports.{StandsNowhere, Waits}
 use Rattle.usb_host.specs.Progress.{AddsNoWork, HostProgress, Did, DidRound, HostRuns, Remains}
 use Rattle.usb_host.specs.Progress.{OnlyBusSteps, either}
 use Rattle.usb_host.specs.Soundness.{DropsSound, HubKeeps, HubsKeep, HostInvariant, IsDroppable}
 use Rattle.usb_host.specs.Soundness.{LooksKeep, Part, PartsKeep, RootsRest}
+use Rattle.usb_host.specs.Requests.{ClearsAndReads, ClearsError, ClearsOwn, ClearsPort, ClearsTold}
+use Rattle.usb_host.specs.Requests.{InOrder}
+use Rattle.usb_host.specs.Requests.{SettlesPort, ShowsPort}
 use Rattle.usb_host.specs.Transfers.{table_in}
 use Rattle.usb_host.specs.declared.fault.HostFault.{HostFault}
 use Rattle.usb_host.specs.declared.host.Round.{Round}
 use Rattle.usb_host.specs.declared.host.Round.TheVariants.{Worked, Quiet}
-
--- Requests to a port
-
--- a request was done at a port where it was asked for; where it was not, nothing was done
-abbrev pub DoneWhere : Bool → List ℕ → PortCall → World → World → Type 0
-DoneWhere true path call old new = PortCallDone path call old new
-DoneWhere false path call old new = new ≡ old
-
--- ClearPortFeature (11.24.2.2) for each change of enable and of reset that a status told, and for
--- no other
-pub record ClearsTold (path : List ℕ) (status : PortStatus) (old new : World) : Type 0 where
-  pub mid : World
-  pub enable : DoneWhere status.enable_changed path ClearEnableChange old mid
-  pub reset : DoneWhere status.reset_changed path ClearResetChange mid new
-
--- the change of connection was cleared, then the status was read, and a port that was enabled was
--- disabled
-pub record ClearsAndReads (path : List ℕ) (status : PortStatus) (old new : World) : Type 0 where
-  pub mid : World
-  pub cleared : PortCallDone path ClearConnectionChange old mid
-  pub now : World
-  pub told : PortStatusAt path status mid now
-  pub disabled : DoneWhere status.enabled path ClearEnable now new
 
 -- A port
 
@@ -275,14 +257,6 @@ pub data PartsFail (old new : HostState) : Type 0 where
 
 -- What the calls of a host tell of it, where it is as it knows
 
--- the changes of a port that a status told were cleared
-pub record TidiesTold (port : HubPort) (status : PortStatus) (old : HostState)
-    (result : Result (Unit {0}) EnumFault) (new : HostState) : Type 0 where
-  pub reset : OnOk result (status.reset_changed ≡ true → ClearsReset port old.world new.world)
-  pub calm : RestsCalm status old result new
-  pub clears : (f : AddressMap) (p : List ℕ) → IsAt f port p → WhileBusWorks (MapHolds f) old.world
-      → OnOk result (ClearsTold p status old.world new.world)
-
 -- a port was looked at, or its hub is lost, or the host stops
 abbrev pub LookedOrLost : List ℕ → HostState → Result (Unit {0}) EnumFault → HostState → Type 0
 LookedOrLost path old (Ok done) new = LookedAt path old new
@@ -329,6 +303,9 @@ pub record LooksAt (path : List ℕ) (port : KnownPort) (old : HostState)
   pub pays : PaysAtLook path old result new
   pub hubs : hubs new.entries ≤ hubs old.entries + 1
   pub looked : IsOwned old → LookedOrLost path old result new
+  -- whatever its hub is: the change was cleared, and what is there was found
+  pub order : InOrder (ClearsPort port.port) (λ status. RenewsPort path port status.connected) old
+      result new
 
 -- what one leaves after an error
 pub record LooksAfterError (path : List ℕ) (port : KnownPort) (old : HostState)
@@ -336,6 +313,23 @@ pub record LooksAfterError (path : List ℕ) (port : KnownPort) (old : HostState
   pub requested : Requested port.port look_bound old result new
   pub on : CanFail port.port → ProgressOrLost result old new
   pub owned : KeepsPort path old result new
+  pub order : InOrder (ClearsError port.port) (λ status. RenewsPort path port status.connected) old
+      result new
+
+-- what is done at a port for the status that was read: at a change of connection a look; at an
+-- error that its hub has disabled it on, a look after that; else each change is cleared, and what
+-- is known of the ports stays
+pub data ServesFor (path : List ℕ) (port : KnownPort) (status : PortStatus) (old : HostState)
+    (result : Result (Unit {0}) EnumFault) (new : HostState) : Type 0 where
+  at_connection : status.connection_changed ≡ true → LooksAt path port old result new
+      → ServesFor path port status old result new
+  at_error : status.connection_changed ≡ false
+      → was_disabled port.port status (accepted_device_at path old.entries) ≡ true
+      → LooksAfterError path port old result new → ServesFor path port status old result new
+  at_others : status.connection_changed ≡ false
+      → was_disabled port.port status (accepted_device_at path old.entries) ≡ false
+      → SettlesPort port.port status old result new → OnlyBusSteps old new
+      → ServesFor path port status old result new
 
 -- what the serving of a port leaves; where it was due, the host got on
 pub record ServesPort (path : List ℕ) (port : KnownPort) (old : HostState)
@@ -347,13 +341,133 @@ pub record ServesPort (path : List ℕ) (port : KnownPort) (old : HostState)
   pub pays : PaysAtServe path old result new
   pub hubs : hubs new.entries ≤ hubs old.entries + 1
   pub served : HostInvariant old → ServedOrLost path old result new
+  -- whatever its hub is: the status was read, and what it asks for was done
+  pub order : InOrder (ShowsPort port.port) (ServesFor path port) old result new
+
+-- What is done whatever hubs report: not only over the hubs of a world, as a host knows them
+
+-- this was done at the port of a path, that is known; or a request failed, and its hub, or one
+-- above that, is listed as lost
+pub data DoneAt (Does : KnownPort → HostState → Result (Unit {0}) EnumFault → HostState → Type 0)
+    (path : List ℕ) (old new : HostState) : Type 0 where
+  all_done : (port : KnownPort) → known_port path old.entries ≡ Some port
+      → Does port old (Ok tt) new → DoneAt Does path old new
+  hub_failed : (port : KnownPort) (mid : HostState) → known_port path old.entries ≡ Some port
+      → Does port old (Err ParentLost) mid → LosesParent path mid.entries new.entries
+      → DoneAt Does path old new
+
+-- a port was handled: its status was read, and what that asks for was done
+abbrev pub HandledSo : List ℕ → HostState → HostState → Type 0
+HandledSo path = DoneAt (λ port. InOrder (ShowsPort port.port) (ServesFor path port)) path
+
+-- a device that waits was looked at again
+abbrev pub LookedSo : List ℕ → HostState → HostState → Type 0
+LookedSo path =
+    DoneAt (λ port. InOrder (ClearsPort port.port)
+    (λ status. RenewsPort path port status.connected)) path
+
+-- by rising number, each root port below a number whose connection had changed was handled, and no
+-- other
+pub data RootsHandledSo : ℕ → Round → HostState → HostState → Type 0 where
+  roots_begun : (h : HostState) → RootsHandledSo 1 Quiet h h
+  root_handled : (n : ℕ) (round : Round) {old mid new : HostState}
+      → RootsHandledSo n round old mid → (root_port_at mid.world n).connection_changed ≡ true
+      → HandledSo (n ∷ []) mid new → RootsHandledSo (n + 1) Worked old new
+  root_unchanged : (n : ℕ) (round : Round) {old new : HostState} → RootsHandledSo n round old new
+      → (root_port_at new.world n).connection_changed ≡ false
+      → RootsHandledSo (n + 1) round old new
+
+-- a port of a hub was handled, where one that is known has that path; else nothing was done
+pub data BelowHandledSo (hub : List ℕ) (number : ℕ) (old new : HostState) : Type 0 where
+  below_known : HandledSo (hub ++ (number ∷ [])) old new → BelowHandledSo hub number old new
+  below_unknown : (IsPath (hub ++ (number ∷ [])) → known_port (hub ++ (number ∷ [])) old.entries
+      ≡ None) → new ≡ old → BelowHandledSo hub number old new
+
+-- by rising number, each port of a hub below a number whose bit is set was handled, and no other
+pub data BitsHandledSo (hub : List ℕ) (bits : ℕ) : ℕ → HostState → HostState → Type 0 where
+  bits_begun : (h : HostState) → BitsHandledSo hub bits 1 h h
+  bit_handled : (n : ℕ) {old mid new : HostState} → BitsHandledSo hub bits n old mid
+      → has_bit bits n ≡ true → BelowHandledSo hub n mid new
+      → BitsHandledSo hub bits (n + 1) old new
+  bit_unset : (n : ℕ) {old new : HostState} → BitsHandledSo hub bits n old new
+      → has_bit bits n ≡ false → BitsHandledSo hub bits (n + 1) old new
+
+-- the changes of the hub that has a port were cleared, by way of that port
+abbrev pub OwnHandled : List ℕ → HostState → HostState → Type 0
+OwnHandled = DoneAt (λ port old result new. ClearsOwn port.port old result new
+    × OnlyBusSteps old new)
+
+-- so it was of a hub, by way of its first port, where that is known; else nothing was done
+pub data OwnServed (hub : List ℕ) (old new : HostState) : Type 0 where
+  own_known : OwnHandled (hub ++ (1 ∷ [])) old new → OwnServed hub old new
+  own_unknown : (IsPath (hub ++ (1 ∷ [])) → known_port (hub ++ (1 ∷ [])) old.entries ≡ None)
+      → new ≡ old → OwnServed hub old new
+
+-- what a hub reported was handled: its own changes where it reports itself alone, else its ports
+pub data ReportHandled (hub : List ℕ) (bits : ℕ) (old new : HostState) : Type 0 where
+  own_reported : bits ≡ 1 → OwnServed hub old new → ReportHandled hub bits old new
+  ports_reported : bits ≢ 1 → BitsHandledSo hub bits 8 old new → ReportHandled hub bits old new
+
+-- a hub was polled: it answered that it has no change; or with bits, and what it reported was
+-- handled; or the poll failed, and it, or a hub above it, is listed as lost
+pub data HubAsked (hub : List ℕ) (old new : HostState) : Round → Type 0 where
+  asked_none : PolledOnce hub old (Ok None) new → HubAsked hub old new Quiet
+  asked_some : (packet : ArrayVec ℕ) (mid : HostState) → PolledOnce hub old (Ok (Some packet)) mid
+      → ReportHandled hub (first_byte packet.items) mid new → HubAsked hub old new Worked
+  asked_failed : (fault : PipeFault) (mid : HostState) → PolledOnce hub old (Err fault) mid
+      → HasLost hub mid.entries new.entries → HubAsked hub old new Worked
+
+-- hubs were polled up to a path, each the next one that was known, by rising path
+pub data HubsAsked : Option (List ℕ) → Round → HostState → HostState → Type 0 where
+  hubs_begun : (h : HostState) → HubsAsked None Quiet h h
+  hub_asked : (last : Option (List ℕ)) (hub : List ℕ) (before round : Round)
+      {old mid new : HostState} → HubsAsked last before old mid → IsNext is_hub last mid.entries hub
+      → HubAsked hub mid new round → HubsAsked (Some hub) (either before round) old new
+
+-- a device that waits was looked at, or its port is not known
+abbrev pub LooksInOrder : List ℕ → Round → HostState → HostState → Type 0
+LooksInOrder path Worked old new = LookedSo path old new
+LooksInOrder path Quiet old new = StandsNowhere path old × (new ≡ old)
+
+-- devices that wait were looked at up to a path, by rising path
+pub data WaitingAsked : Option (List ℕ) → Round → HostState → HostState → Type 0 where
+  waiting_begun : (h : HostState) → WaitingAsked None Quiet h h
+  waiting_next : (last : Option (List ℕ)) (path : List ℕ) (before round : Round)
+      {old mid new : HostState} → WaitingAsked last before old mid → Waits path mid
+      → ComesAfter last path → LooksInOrder path round mid new
+      → WaitingAsked (Some path) (either before round) old new
+
+-- each hub that is known, once
+pub record EachAsked (round : Round) (old new : HostState) : Type 0 where
+  pub last : Option (List ℕ)
+  pub asked : HubsAsked last round old new
+  pub all : IsLast is_hub last new.entries
+
+-- each device that waits, once, while an address is free
+pub record EachWaitingAsked (round : Round) (old new : HostState) : Type 0 where
+  pub last : Option (List ℕ)
+  pub looked : WaitingAsked last round old new
+  pub all : IsFull new.addresses ⊎ IsLast is_waiting last new.entries
+
+-- the root ports, then the hubs, then the devices that wait
+pub record RoundOrder (round : Round) (old new : HostState) : Type 0 where
+  pub roots : Round
+  pub first : HostState
+  pub handled : RootsHandledSo (roots_of old.world + 1) roots old first
+  pub hubs : Round
+  pub second : HostState
+  pub asked : EachAsked hubs first second
+  pub looks : Round
+  pub looked : EachWaitingAsked looks second new
+  pub is : round ≡ either (either roots hubs) looks
 
 -- the changes of a hub itself were cleared, or it was dropped
-pub record ServesOwn (old : HostState) (result : Result (Unit {0}) HostFault) (new : HostState)
-    : Type 0 where
+pub record ServesOwn (Served : HostState → HostState → Type 0) (old : HostState)
+    (result : Result (Unit {0}) HostFault) (new : HostState) : Type 0 where
   pub goes : HostRuns handling_bound old new
   pub holds : AddsNoWork old new
   pub owned : KeepsOwned old result new
+  pub served : OnOk result (Served old new)
 
 -- the hub of a port is listed
 abbrev pub HasHub : List ℕ → Entries → Type 0
@@ -386,6 +500,7 @@ pub record DropsOne (hub : List ℕ) (old : HostState) (result : Result (Unit {0
 pub record HandlesAt (path : List ℕ) (due : Type 0) (old new : HostState) : Type 0 where
   pub advances : due → HostProgress old new
   pub served : HostInvariant old → ServedAt path old new
+  pub order : HandledSo path old new
 
 -- and what that cost
 pub record HandlesPort (path : List ℕ) (due : Type 0) (old : HostState)
@@ -400,6 +515,7 @@ pub record HandlesBelow (hub : List ℕ) (number : ℕ) (round : Round) (old new
   where
     pub did : Did round old new
     pub served : HostInvariant old → ServedBelow hub number old new
+    pub order : BelowHandledSo hub number old new
 
 -- and what that cost
 pub record HandlesNumber (hub : List ℕ) (number : ℕ) (old : HostState)
@@ -415,6 +531,7 @@ pub record ServesPorts (hub : List ℕ) (bits : ℕ) (old : HostState)
   pub part : Part told_bound old result new
   pub holds : OnOk result (AddsNoWork old new)
   pub served : OnOk result (HostInvariant old → ServedTold hub bits 8 old new)
+  pub order : OnOk result (BitsHandledSo hub bits 8 old new)
   pub fails : OnErr result (HostInvariant old → old.world.fault ≡ None
       → PortsFail hub bits old new)
   pub pays : PaysPart told_most (λ c done. ToldPaid hub bits c) old result new
@@ -426,6 +543,7 @@ pub record ServesTold (hub : List ℕ) (bits : ℕ) (old : HostState)
   pub holds : OnOk result (AddsNoWork old new)
   pub owned : KeepsOwned old result new
   pub ports : bits ≢ 1 → ServesPorts hub bits old result new
+  pub order : OnOk result (ReportHandled hub bits old new)
 
 -- a device that waits was looked at again
 pub record LooksOnceMore (path : List ℕ) (old : HostState) (result : Result Round HostFault)
@@ -433,6 +551,7 @@ pub record LooksOnceMore (path : List ℕ) (old : HostState) (result : Result Ro
   pub part : Part handling_bound old result new
   pub did : IfOk result (λ round. Looked round old new)
   pub looked : IfOk result (λ round. HostInvariant old → (round ≡ Worked) × LookedOnce path old new)
+  pub order : IfOk result (λ round. LooksInOrder path round old new)
   pub cut : OnErr result (HostInvariant old → CutAt path old new)
 
 -- each that waits, while an address is free
@@ -441,12 +560,14 @@ pub record LooksAgain (old : HostState) (result : Result Round HostFault) (new :
   pub keeps : LooksKeep old result new
   pub did : IfOk result (λ round. Did round old new)
   pub looked : IfOk result (λ round. HostInvariant old → EachLookedAgain round old new)
+  pub order : IfOk result (λ round. EachWaitingAsked round old new)
   pub fails : OnErr result (HostInvariant old → old.world.fault ≡ None → LooksFail old new)
 
 -- a hub was polled
 pub record PollsHub (hub : List ℕ) (round : Round) (old new : HostState) : Type 0 where
   pub did : Did round old new
   pub polled : HostInvariant old → new.world.fault ≡ None → HubPolled hub old new round
+  pub order : HubAsked hub old new round
 
 -- and what that cost
 pub record ServesHub (hub : List ℕ) (old : HostState) (result : Result Round HostFault)
@@ -463,6 +584,7 @@ pub record ServesHubs (old : HostState) (result : Result Round HostFault) (new :
     pub did : IfOk result (λ round. Did round old new)
     pub polls : IfOk result (λ round. HostInvariant old → new.world.fault ≡ None
         → EachPolled round old new)
+    pub order : IfOk result (λ round. EachAsked round old new)
     pub fails : OnErr result (HostInvariant old → old.world.fault ≡ None → HubsFail old new)
     pub pays : PaysPart hubs_most RoundPaid old result new
     -- where nothing is listed, nothing is done
@@ -476,6 +598,7 @@ pub record WentByParts (old : HostState) (result : Result Round HostFault) (new 
   pub none : result ≡ Ok Quiet → changes (root_row old.world) ≡ 0
   pub parts : IfOk result (λ round. HostInvariant old → new.world.fault ≡ None
       → RoundParts round old new)
+  pub order : IfOk result (λ round. RoundOrder round old new)
   pub fails : OnErr result (HostInvariant old → old.world.fault ≡ None → PartsFail old new)
   pub pays : (c : Weights) (plan : PlanData) → Affords c plan old → PaysRound c plan old result new
   -- where nothing is listed, and no root port had changed, nothing is done
@@ -486,6 +609,7 @@ pub record ServesRoots (round : Round) (old new : HostState) : Type 0 where
   pub did : Did round old new
   pub none : round ≡ Quiet → RootsRest old new
   pub served : HostInvariant old → RootsServed (roots_of old.world + 1) round old new
+  pub order : RootsHandledSo (roots_of old.world + 1) round old new
 
 -- and what that cost
 pub record ServesEach (old : HostState) (result : Result Round HostFault) (new : HostState) : Type 0
@@ -501,3 +625,5 @@ pub record ServesEach (old : HostState) (result : Result Round HostFault) (new :
 pub record DidParts (round : Round) (old new : HostState) : Type 0 where
   pub did : DidRound round old new
   pub parts : HostInvariant old → old.world.fault ≡ None → RoundParts round old new
+  -- whatever its hubs report
+  pub order : RoundOrder round old new

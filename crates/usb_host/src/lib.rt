@@ -58,10 +58,14 @@
 //! - What is entered at a port that was looked at is what one enumeration there gave, with all that usb_enum says of
 //!   it: a refusal names the request that ended so at a moment of the round, what was read, or that no address was
 //!   free, whatever is damaged (`LookedAt`, `FindsAnew`, `specs/Discoveries.antt`; `Enumerates.ended` of usb_enum).
-//! - What hubs tell and those of a world do not (`specs/Changes.antt`): a change of a port's suspend or over-current,
-//!   or of the hub itself, is cleared, and an accepted device whose port its hub has disabled on an error is found
-//!   anew. Over a world a host that knows what is so does none of it; what it does over such a hub is tested
-//!   (`usb_host_tests`).
+//! - What hubs report and those of a world do not (`specs/Changes.antt`): a change of a port's suspend or over-current,
+//!   or of the hub itself, is cleared, each by the request for its own feature, and an accepted device whose port its
+//!   hub has disabled on an error is found anew. Over a world a host that knows what is so does none of it.
+//! - So a done round says, whatever its hubs report and whatever the host knows, what was asked at which port, in order:
+//!   the status of each root port that had changed, and of each known port that a polled hub reported. For what that
+//!   shows there was a look, a look after an error, or the clearing of each change. Where a hub reported itself alone,
+//!   its status was read and each change of its own cleared (`RoundOrder`, `ServesFor`, `ClearsOwn`,
+//!   `specs/Service.antt`, `Requests.antt`). What that does to such a hub is tested (`usb_host_tests`).
 //! - An event that comes through `bus_mut` leaves what the host knows so (`known_stays_at_events`).
 #![tactic(auto)]
 

@@ -17,8 +17,8 @@ ghost use Rattle.usb_host.specs.Ports.{IsPortAt, StandsNowhere, IsDue, Waits, Br
 ghost use Rattle.usb_enum.specs.Bounds.{read_bound, widest_enumeration};
 ghost use Rattle.usb_host.specs.Bounds.{clearing_bound, drop_bound, handling_bound, look_bound, serving_bound};
 ghost use Rattle.usb_host.specs.Progress.{HostSpends, OnlyBusSteps, QuietKeeps};
-ghost use Rattle.usb_host.specs.Requests.{ClearsError, ClearsFeature, ClearsOthers, ClearsOwn, ClearsPort, ClearsWhere, SettlesPort, ShowsPort, TidiesPort};
-ghost use Rattle.usb_host.specs.Service.{Discovers, DropsOne, FinishesAt, HandlesNumber, HandlesPort, LooksAfterError, LooksAt, LooksOnceMore, RenewsPort, ServesOwn, ServesPort};
+ghost use Rattle.usb_host.specs.Requests.{ClearsBoth, ClearsError, ClearsFeature, ClearsOthers, ClearsOwn, ClearsPort, ClearsReported, ClearsWhere, SettlesPort, ShowsPort, TidiesPort};
+ghost use Rattle.usb_host.specs.Service.{Discovers, DropsOne, FinishesAt, HandlesNumber, HandlesPort, LooksAfterError, LooksAt, LooksOnceMore, OwnHandled, OwnServed, RenewsPort, ServesOwn, ServesPort};
 ghost use Rattle.usb_host.specs.ToldFaults.{HostReported, PartFaultAllowed, HostWorks};
 
 use crate::HostFault;
@@ -94,7 +94,8 @@ impl<B: Bus> Host<B> {
         requires { IsPath hub.now }
         ensures spends { HostSpends handling_bound self.old self.new }
         ensures told { IfErr result (λ fault. PartFaultAllowed B.modelled fault self.new) }
-        ensures serves { B.modelled ≡ true → ServesOwn self.old result self.new }
+        ensures serves { B.modelled ≡ true
+            → ServesOwn (OwnServed hub.now) self.old result self.new }
         ensures works { B.modelled ≡ true → HostWorks self.old result self.new }
     {
         let mut path = hub.duplicate();
@@ -112,7 +113,8 @@ impl<B: Bus> Host<B> {
         requires { IsPortAt B.modelled path.now port self.old }
         ensures spends { HostSpends handling_bound self.old self.new }
         ensures told { IfErr result (λ fault. PartFaultAllowed B.modelled fault self.new) }
-        ensures serves { B.modelled ≡ true → ServesOwn self.old result self.new }
+        ensures serves { B.modelled ≡ true
+            → ServesOwn (OwnHandled path.now) self.old result self.new }
         ensures works { B.modelled ≡ true → HostWorks self.old result self.new }
     {
         let cleared = self.clear_own(port.port);
@@ -298,7 +300,8 @@ impl<B: Bus> Host<B> {
         ensures rests { OnlyBusSteps self.old self.new }
         ensures none { asked ≡ false → (result ≡ Ok tt) × (self.new ≡ self.old) }
         ensures clears { B.modelled ≡ true
-            → ClearsOthers port write_bound self.old result self.new }
+            → ClearsOthers port write_bound (ClearsReported asked port feature)
+            self.old result self.new }
     {
         if asked {
             at_port(clear_port_change(&mut self.bus, port, feature))
@@ -327,7 +330,8 @@ impl<B: Bus> Host<B> {
         ensures rests { OnlyBusSteps self.old self.new }
         ensures none { HasOnlyWorldChanges status → (result ≡ Ok tt) × (self.new ≡ self.old) }
         ensures clears { B.modelled ≡ true
-            → ClearsOthers port (2 * write_bound) self.old result self.new }
+            → ClearsOthers port (2 * write_bound) (ClearsBoth port status)
+            self.old result self.new }
     {
         self.clear_other(status.suspend_changed, port, C_PORT_SUSPEND)?;
         self.clear_other(status.over_current_changed, port, C_PORT_OVER_CURRENT)

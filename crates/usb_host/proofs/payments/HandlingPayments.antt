@@ -14,6 +14,7 @@ use Rattle.usb_enum.proofs.Interface.{went_sound}
 use Rattle.usb_table.specs.{KnownPort, Entries, without, is_below_hub, known_port, port_below}
 use Rattle.usb_table.specs.{finding_at, hub_facts_at, hub_facts_in}
 use Rattle.usb_table.proofs.Interface.{FoundPort, port_found-some}
+use Rattle.usb_host.specs.{below_known, below_unknown}
 use Rattle.usb_host.specs.{FindsNone, ServePaid, hubs, found, bare, tidied, calm, deciding_bound}
 use Rattle.usb_host.specs.{drop_bound, serving_bound, NumberPaid, Pays, PaysPart, PortPaid, Weights}
 use Rattle.usb_host.specs.{WorksOn, handling_most, hub_weight, paid, idle, HostState, ServesSound}
@@ -191,6 +192,7 @@ number_handled p {a = a} {b = b} is on x = record {
   handled = record {
     did = x.handled.advances on;
     served = λ s. port_known (rw is at (x.handled.served s));
+    order = below_known (rw is at x.handled.order);
   };
   cut = tt;
   pays = record {
@@ -218,7 +220,11 @@ pub number_unknown : {hub : List ℕ} {number : ℕ} {h : HostState}
     → HandlesNumber hub number h (Ok Quiet) h
 number_unknown {h = h} unknown = record {
   part = part-none;
-  handled = record { did = refl; served = λ s. port_unknown unknown refl };
+  handled = record {
+    did = refl;
+    served = λ s. port_unknown unknown refl;
+    order = below_unknown unknown refl;
+  };
   cut = tt;
   pays = record {
     stops = λ c plan w. few_stop c (handling_most c) h h (omega arith) (omega arith);

@@ -1,7 +1,7 @@
 -- How a poll of a hub, and what follows it, make up what was done at the hub.
 use Rattle.std.proofs.Common.{◌≡◌, ◌∙◌, refl, sym, ap, arith, Bool, true, false, ℕ, ◌+◌, ◌≤◌, ◌/◌}
 use Rattle.std.proofs.Common.{◌%◌, ◌^◌, ◌≢◌, bit_and, List, Option, None, Some, is_some, Ok, Err}
-use Rattle.std.proofs.Common.{IsSome}
+use Rattle.std.proofs.Common.{IsSome, OnOk, Result}
 use Rattle.std.proofs.lemmas.Bool.{eq-eqb, ne_eqb}
 use Rattle.std.proofs.lemmas.Nat.{and_mask}
 use Rattle.usb_port.specs.{has_bit}
@@ -16,6 +16,8 @@ use Rattle.usb_enum.proofs.Interface.{went_sound}
 use Rattle.usb_enum.specs.{Accepted, HubFacts}
 use Rattle.usb_table.specs.{accepted_device_of, accepted_device_at, BitsOf, HubTold, KeepsPolled}
 use Rattle.usb_table.specs.{hub_facts_at, pipes_at, PipesPolled}
+use Rattle.usb_host.specs.{BitsHandledSo, HostFault, OwnServed, ReportHandled, asked_failed}
+use Rattle.usb_host.specs.{asked_none, asked_some, own_reported, ports_reported}
 use Rattle.usb_host.specs.{HostState, HasLost, AddsNoWork, HostProgress, HostRuns, HostSteps}
 use Rattle.usb_host.specs.{CutAt, HubFails, KeepsBulk, PortsFail, StaysWhere, drop_failed}
 use Rattle.usb_host.specs.{poll_failed, port_failed}
@@ -110,17 +112,20 @@ module _ (hub : List ℕ) (a b : HostState) (same : b.entries ≡ a.entries)
     polls_quiet none = record {
       did = r;
       polled = λ s still. told_none (once none) (rw none at (hub_tells s still).tells);
+      order = asked_none (once none);
     }
 
     pub polls_told : (packet : ArrayVec ℕ) (byte : ℕ) {n : ℕ} (c : HostState) → got ≡ Some packet
         → byte ≡ first_byte packet.items → HostRuns n b c → a.world.attempts + 1 ≤ b.world.attempts
-        → AddsNoWork b c → (HostInvariant a → ServedTold hub byte 8 b c) → PollsHub hub Worked a c
-    polls_told packet byte {n = n} c is read goes more holds served = record {
+        → AddsNoWork b c → ReportHandled hub byte b c
+        → (HostInvariant a → ServedTold hub byte 8 b c) → PollsHub hub Worked a c
+    polls_told packet byte {n = n} c is read goes more holds report served = record {
       did = polled_on a b c r went more holds;
       polled = λ s still.
           let t : ByteTold (BitsOf hub a.world b.world) packet.items =
           rw is at (hub_tells s (went_sound n b.world c.world goes.went still)).tells in
           told_some packet b (once is) t (rw (read ∙ ap first_byte t.is) at (served s));
+      order = asked_some packet b (once is) (rw read at report);
     }
 
     -- and the host stopped at one of the ports
@@ -160,4 +165,19 @@ module _ (hub : List ℕ) (a b : HostState) (same : b.entries ≡ a.entries)
         not_heard fault b (record { through = polled; remains = r })
         (λ few device at heard. failed here (keeps.why (s.owned.so before) (s.level before hub) few
         device at (is_hub_at device at) heard)) loses;
+    order = asked_failed fault b (record { through = polled; remains = r }) loses;
   }
+
+-- What a hub reported is handled
+
+pub own_reports : (hub : List ℕ) (bits : ℕ) (result : Result (Unit {0}) HostFault)
+    (old new : HostState) → bits ≡ 1 → OnOk result (OwnServed hub old new)
+    → OnOk result (ReportHandled hub bits old new)
+own_reports hub bits (Ok done) old new is own = own_reported is own
+own_reports hub bits (Err fault) old new is own = tt
+
+pub ports_report : (hub : List ℕ) (bits : ℕ) (result : Result (Unit {0}) HostFault)
+    (old new : HostState) → bits ≢ 1 → OnOk result (BitsHandledSo hub bits 8 old new)
+    → OnOk result (ReportHandled hub bits old new)
+ports_report hub bits (Ok done) old new other ports = ports_reported other ports
+ports_report hub bits (Err fault) old new other ports = tt

@@ -43,6 +43,7 @@ parts_failed (Err fault) e part pays idle fails = record {
   did = tt;
   none = λ is. absurd (cc is);
   parts = tt;
+  order = tt;
   fails = fails;
   pays = pays;
   idle = λ entries none. absurd (idle entries none);
@@ -122,6 +123,17 @@ module _ {a b : HostState} where
               is = refl;
             };
         fails = tt;
+        order = record {
+          roots = roots;
+          first = b;
+          handled = x.serves.order;
+          hubs = hubs;
+          second = d;
+          asked = y.order;
+          looks = looks;
+          looked = z.order;
+          is = refl;
+        };
         pays = λ c plan w.
             parts_pay a b x.part.goes.went x.part.sound x.pays d y.keeps.part.goes.went hubs
             y.keeps.part.sound y.pays looks_bound f
@@ -163,5 +175,6 @@ parts_done (Ok round) a b stopped going is went works =
         rooted = went.keeps.part.owned.rooted;
       };
       parts = λ s still. went.parts s (works still);
+      order = went.order;
     })
 parts_done (Err fault) a b stopped going is went works = tt

@@ -14,6 +14,7 @@ use Rattle.usb_hub.specs.{HubPort, IsAt, CommandsPort, PortCallDone, PortStatusA
 use Rattle.usb_enum.specs.{EnumFault, ParentLost, Bus, Memory, Lost, Finding}
 use Rattle.usb_enum.specs.declared.finding.Finding.TheVariants.{Refused}
 use Rattle.usb_table.specs.{KnownPort, Entries, is_at_or_below, without}
+use Rattle.usb_host.specs.{HandledSo}
 use Rattle.usb_host.specs.{HostState, claims, HasLost, IsOwned, Watches, EndsAs, StandsAt}
 use Rattle.usb_host.specs.{HostProgress, HostSteps, OnlyBusSteps, HostInvariant, DoneWhere, EndsAt}
 use Rattle.usb_host.specs.{ForgetsOnWay, HandlesAt, LookedOnce, LookedOrLost, LosesParent, Renews}
@@ -161,9 +162,10 @@ handled_once path _ a b c ends left s = absurd (cc ends)
 
 pub handles_at : (path : List ℕ) (due : Type 0) (result : Result (Unit {0}) HostFault)
     (a c : HostState) → OnOk result (due → HostProgress a c)
-    → (HostInvariant a → OnOk result (ServedAt path a c)) → OnOk result (HandlesAt path due a c)
-handles_at path due (Ok done) a c x y = record { advances = x; served = y }
-handles_at path due (Err fault) a c x y = tt
+    → (HostInvariant a → OnOk result (ServedAt path a c)) → OnOk result (HandledSo path a c)
+    → OnOk result (HandlesAt path due a c)
+handles_at path due (Ok done) a c x y z = record { advances = x; served = y; order = z }
+handles_at path due (Err fault) a c x y z = tt
 
 -- a hub that was dropped is the port's own, or stands above it; so does one that could not be
 pub loses_parent : (path hub : List ℕ) (old new : Entries) (result : Result (Unit {0}) HostFault)

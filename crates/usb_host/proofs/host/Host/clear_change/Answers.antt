@@ -25,9 +25,11 @@ returns-in_err-clear_where-clause-clears g c known =
     let told = err_from_is_err_and c.from_residual-in_err-clear_where.result
     c.from_residual-in_err-clear_where.ensures.1 in
     rw (told.1, told.2) (change_cleared (c.in_ok-clear.ensures.clears known) c.clear_where.new.self
-    (c.in_ok-status.ensures.shows known) (c.in_err-clear_where.ensures.clears known))
+    (c.in_ok-status.ensures.shows known) (sym c.is_stuck.ensures ∙ c.if-is_stuck.false)
+    (c.in_err-clear_where.ensures.clears known))
 
 pub returns-clause-clears : goal.returns-clause-clears
 returns-clause-clears g c known =
     change_cleared (c.in_ok-clear.ensures.clears known) c.clear_where.new.self
-    (c.in_ok-status.ensures.shows known) (c.in_ok-clear_where.ensures.clears known)
+    (c.in_ok-status.ensures.shows known) (sym c.is_stuck.ensures ∙ c.if-is_stuck.false)
+    (c.in_ok-clear_where.ensures.clears known)

@@ -7,13 +7,13 @@ use Rattle.usb_host.proofs.host.Host.clear_others.Goals as goal
 pub returns-in_err-clear_other-clause-clears : goal.returns-in_err-clear_other-clause-clears
 returns-in_err-clear_other-clause-clears g c known =
     let told = err_from_is_err_and c.from_residual.result c.from_residual.ensures.1 in
-    rw (told.1, told.2) (others_fail (2 * write_bound) (c.in_err-clear_other.ensures.clears known)
-    (omega arith))
+    rw (told.1, told.2) (others_fail c.args.status (2 * write_bound)
+    (c.in_err-clear_other.ensures.clears known) (omega arith))
 
 pub returns-clause-clears : goal.returns-clause-clears
 returns-clause-clears g c known =
-    others_then (c.in_ok-clear_other.ensures.clears known) (c.clear_other-2.ensures.clears known)
-    (omega arith)
+    others_then c.args.status (2 * write_bound) (c.in_ok-clear_other.ensures.clears known)
+    (c.clear_other-2.ensures.clears known) (omega arith)
 
 pub returns-in_err-clear_other-clause-none : goal.returns-in_err-clear_other-clause-none
 returns-in_err-clear_other-clause-none g c plain =

@@ -12,12 +12,14 @@ pub returns-in-Root-clause-clears : goal.returns-in-Root-clause-clears
 returns-in-Root-clause-clears g c known = record {
   requested = requested-none tt;
   addresses = keeps_none c.args.self.now.world;
+  clears = rw c.in-Root.is (refl, refl);
 }
 
 pub returns-in-External-clause-clears : goal.returns-in-External-clause-clears
 returns-in-External-clause-clears g c known =
     let s = c.clear_hub_changes.ensures in
-    rw (c.in-External.is, ← c.self.view_is) (own_by _ _ _ c.clear_hub_changes.result tt
+    rw (c.in-External.is, ← c.self.view_is) (own_by c.in-External.hub c.in-External.port _ _
+    c.clear_hub_changes.result
     (goes_by _ _ (s.steps known) (omega (
       arith,
       status_most (External c.in-External.hub c.in-External.port)

@@ -31,7 +31,8 @@ returns-then-status-clause-serves g c known =
 pub returns-then-has_failed-clause-serves : goal.returns-then-has_failed-clause-serves
 returns-then-has_failed-clause-serves g c known =
     serve_failed (placed known c.requires) c.in_ok-status.ensures.rests
-    (c.in_ok-status.ensures.shows known) _ (sym c.has_failed.ensures ∙ c.if-has_failed.true)
+    (c.in_ok-status.ensures.shows known) c.if-status.false
+    (sym c.has_failed.ensures ∙ c.if-has_failed.true)
     (c.look_after_error.ensures.looks known)
     c.look_after_error.ensures.hubs
 
@@ -40,3 +41,4 @@ returns-else-has_failed-clause-serves g c known =
     serve_settled (placed known c.requires) c.in_ok-status.ensures.rests
     (c.in_ok-status.ensures.shows known) c.if-status.false
     c.settle.ensures.rests (c.settle.ensures.settles known)
+    (sym c.has_failed.ensures ∙ c.if-has_failed.false)
