@@ -6,7 +6,7 @@ ghost use Rattle.usb_world.specs.Worlds.{IsAttempt};
 ghost use Rattle.usb_far.specs.FarEnd.{attempt_of_in, destination_at, is_poll, attempt_of_out, outcome_answer, attempt_of_setup};
 
 use usb_bus::{Attempt, Destination, Outcome};
-use usb_packet::{Speed, TokenKind};
+use usb_packet::Speed;
 use usb_request::Setup;
 use usb_wire::{Answer, DataPacket, Endpoint};
 
@@ -61,12 +61,12 @@ fn destination(speed: Speed, endpoint: Endpoint, max: u8) -> Destination
 }
 
 /// Whether it is an IN that was answered by NAK.
-pub(crate) fn is_poll(kind: TokenKind, outcome: &Outcome) -> bool
-    ensures { result ≡ is_poll kind outcome.now }
+pub(crate) fn is_poll(attempt: &Attempt, outcome: &Outcome) -> bool
+    ensures { result ≡ is_poll (attempt_data attempt.now).kind outcome.now }
 {
-    match kind {
-        TokenKind::InTok => matches!(outcome, Outcome::Nak),
-        TokenKind::OutTok | TokenKind::SetupTok => false,
+    match attempt {
+        Attempt::In { .. } => matches!(outcome, Outcome::Nak),
+        Attempt::Setup { .. } | Attempt::Out { .. } => false,
     }
 }
 

@@ -120,7 +120,7 @@ impl<T: Trace> FarEnd<T> {
             Ok(outcome) => outcome,
             Err(fault) => return Err(FarFault::Bus(fault)),
         };
-        let poll = is_poll(attempt.kind(), &outcome);
+        let poll = is_poll(attempt, &outcome);
         self.came = came_in(poll, self.came, taken, self.bus.events_taken());
         Ok(answer_of(outcome))
     }
