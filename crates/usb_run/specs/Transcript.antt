@@ -5,7 +5,7 @@ use Rattle.std.specs.Io.KnownBytes.{Appends}
 use Rattle.usb_world.specs.declared.event.Ask.{Ask}
 use Rattle.usb_world.specs.{BusFault, PutLine}
 use Rattle.usb_bus.specs.{AppendsFront}
-use Rattle.usb_host.specs.{HostState, OnlyBusSteps}
+use Rattle.usb_host.specs.{HostState}
 use Rattle.usb_run.specs.declared.runs.Item.{Item}
 use Rattle.usb_run.specs.declared.runs.RunFault.{RunFault}
 use Rattle.usb_run.specs.declared.mode.Mode.{Mode}
@@ -93,7 +93,7 @@ pub record CutsText (text : List ℕ) (old new : HostState) : Type 0 where
 pub record PutsLine (line : List ℕ) (old : HostState) (result : Result (Unit {0}) BusFault)
     (new : HostState) : Type 0 where
   pub step : PutLine old.world result new.world
-  pub rests : OnlyBusSteps old new
+  pub rests : new ≡ record old { world = new.world; trace = new.trace }
   pub front : AppendsFront old.trace new.trace (line ++ 10 ∷ [])
   pub ok : OnOk result (Appends old.trace new.trace (line ++ 10 ∷ []))
   pub again : IsSome old.world.fault → new ≡ old

@@ -8,7 +8,7 @@ use Rattle.std.proofs.KnownBytes.{Appends-nil, Appends-trans}
 use Rattle.usb_bus.specs.{AppendsFront}
 use Rattle.usb_bus.proofs.Interface.{front_after}
 use Rattle.usb_world.specs.{World, BusFault}
-use Rattle.usb_host.specs.{HostState, OnlyBusSteps}
+use Rattle.usb_host.specs.{HostState}
 use Rattle.usb_run.specs.{Item, RunFault, Mode, CutsText, RunsTo, Next, AppendsText, StoppedRun}
 use Rattle.usb_run.specs.{RunStops, told, on_the_way, unwritten, in_text, shown}
 use Rattle.usb_run.specs.Transcript.{Transcript}
@@ -97,8 +97,8 @@ flat_map-take f (x ∷ vs) (suc i) v lt is = append_assoc (f x) (flat_map f (tak
 
 -- a text and a line behind it
 pub puts_line : {h k l : HostState} (text line more : List ℕ) → AppendsText text h k
-    → OnlyBusSteps k l → l.world ≡ k.world → Appends k.trace l.trace line → text ++ line ≡ more
-    → AppendsText more h l
+    → l ≡ record k { world = l.world; trace = l.trace } → l.world ≡ k.world
+    → Appends k.trace l.trace line → text ++ line ≡ more → AppendsText more h l
 puts_line {h} {k} {l} text line more puts rests same appends is = record {
   all = subst (Appends h.trace l.trace) is (Appends-trans h.trace k.trace l.trace text line puts.all
       appends);
@@ -108,7 +108,8 @@ puts_line {h} {k} {l} text line more puts rests same appends is = record {
 
 -- a text and a front of a line behind it
 pub cuts_line : {h k l : HostState} (text line rest all : List ℕ) (fault : BusFault)
-    → AppendsText text h k → OnlyBusSteps k l → l.world ≡ record k.world { fault = Some fault }
+    → AppendsText text h k → l ≡ record k { world = l.world; trace = l.trace }
+    → l.world ≡ record k.world { fault = Some fault }
     → AppendsFront k.trace l.trace line → all ≡ text ++ (line ++ rest) → CutsText all h l
 cuts_line {h} {k} {l} text line rest all fault puts rests fails front is =
     let kept : l.world ≡ record k.world { fault = l.world.fault } = fails
