@@ -48,11 +48,12 @@ impl<B: Bus> Bus for HaltingBus<B> {
     ghost ports = { λ halting. B.ports halting.bus };
 
     fn attempt(&mut self, attempt: &Attempt) -> Result<Outcome, BusFault> {
-        self.halted = self.attempts_left == 0;
-        if self.halted {
+        let Some(left) = self.attempts_left.checked_sub(1) else {
+            self.halted = true;
             return Err(BusFault::Failed);
-        }
-        self.attempts_left -= 1;
+        };
+        self.halted = false;
+        self.attempts_left = left;
         self.bus.attempt(attempt)
     }
 
