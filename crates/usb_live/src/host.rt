@@ -15,6 +15,9 @@ use usb_run::{Item, TransferFault, counted};
 use usb_serve::item_lines;
 use usb_wire::Answer;
 
+/// How many rounds in a row may have worked before it is asked what is wanted all the same.
+const BUSY_ROUNDS: u16 = 256;
+
 /// A host over a far end.
 type LiveHost<R, W, B> = Host<CourseBus<R, W, B>>;
 
@@ -55,17 +58,20 @@ fn course<R: Read + Drop, W: Write + Drop, B: Begun>(
     host.into_bus().finish(ran)
 }
 
-/// Rounds, and behind each quiet one what is wanted, until that is the end.
+/// Rounds, and after each quiet one, or after so many in a row that worked, what is wanted, until that is the end.
 fn run<R: Read + Drop, W: Write + Drop, B: Begun>(
     alloc: Global,
     host: &mut LiveHost<R, W, B>,
     limit: u64,
 ) -> Result<(), LiveEnd> {
-    // a round that worked has asked something, and so has each turn with a quiet one
+    let mut busy = 0u16;
+    // a round that worked has asked something, and so has each other turn
     'turns: for _ in 0..limit {
-        if round_of(host)? == Round::Worked {
+        if round_of(host)? == Round::Worked && busy < BUSY_ROUNDS {
+            busy += 1;
             continue 'turns;
         }
+        busy = 0;
         let answer = wanted(host)?;
         let is_end = matches!(answer, Answer::End);
         if let Some(item) = item_of(host, answer)? {
@@ -92,7 +98,9 @@ fn round_of<R: Read + Drop, W: Write + Drop, B: Begun>(
             None => Ok(round),
         },
         Err(HostFault::Bus(_)) => Err(bus_end(host)),
-        Err(HostFault::Stopped | HostFault::Transfer(_) | HostFault::Memory) => Err(LiveEnd::Memory),
+        Err(HostFault::Stopped | HostFault::Transfer(_) | HostFault::Memory) => Err(
+            LiveEnd::Memory,
+        ),
     }
 }
 

@@ -1,10 +1,9 @@
 //! A host before the far end that plays a plan, where each side sees of the other what that one has flushed.
 use std::alloc::{AllocError, Global};
 use std::cell::RefCell;
-use std::io;
 use std::io::{Error, ErrorKind, Read, Write};
-use std::mem;
 use std::test::Fail;
+use std::{io, mem};
 use usb_bus::Watched;
 use usb_far::{FarEnd, serve};
 use usb_live::live;

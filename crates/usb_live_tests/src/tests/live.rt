@@ -316,3 +316,21 @@ fn writes(rt: HostRuntime) -> Result<(), Fail> {
     }
     Ok(())
 }
+
+/// A port that never stops to report a change keeps the host busy, and it still asks what is wanted.
+#[test]
+fn busy(rt: HostRuntime) -> Result<(), Fail> {
+    let mut far = String::from_str(rt.alloc(), "roots 1\nok\nport 1 00010100\nok\n")?;
+    for wanted in ["show\n", "end\n"] {
+        for _ in 0..257u16 {
+            far.push_str("ok\n")?;
+        }
+        far.push_str(wanted)?;
+    }
+    let played = play(rt.alloc(), far.as_bytes(), u64::MAX, u64::MAX);
+    assert_eq!(rt; played.ended, Ok(()));
+    let host = str::from_utf8(played.host.as_slice())?;
+    assert!(rt; host.ends_with("wait\nlisting 2\nend\n"));
+    assert_eq!(rt; host.matches("wait\n").count(), 2);
+    Ok(())
+}
