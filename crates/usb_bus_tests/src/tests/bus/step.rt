@@ -1,4 +1,5 @@
 //! What a host does at a bus, step by step, and what each step tells.
+ghost use Rattle.std.specs.Prelude.{◌<◌, ◌≤◌};
 
 use arrayvec::ArrayVec;
 use std::alloc::{AllocError, Global};
@@ -115,7 +116,12 @@ fn whole(speed: Speed) -> u8 {
 }
 
 /// An endpoint of the device at an address.
-fn to(speed: Speed, addr: u8, ep: u8, max: u8) -> Destination {
+fn to(speed: Speed, addr: u8, ep: u8, max: u8) -> Destination
+    ensures address { result.address < 128 }
+    ensures number { result.number < 16 }
+    ensures least { 1 ≤ result.max }
+    ensures most { result.max ≤ 64 }
+{
     Destination {
         address: addr % 128,
         number: ep % 16,
@@ -161,7 +167,12 @@ pub(super) fn bulk_out<T: Trace>(bus: &mut SimBus<T>) -> Result<Outcome, BusFaul
     let mut bytes = ArrayVec::new();
     bytes.try_extend_from_slice(&[7, 8]).unwrap();
     bus.attempt(&Attempt::Out {
-        to: to(Speed::Full, 1, 2, 8),
+        to: Destination {
+            address: 1,
+            number: 2,
+            speed: Speed::Full,
+            max: 8,
+        },
         toggle: Toggle::Zero,
         bytes,
     })
