@@ -200,11 +200,7 @@ pub fn plan_of<R: Read>(alloc: Global, reader: &mut Watched<R>) -> Result<Plan, 
     }
 }
 
-fn serve_tree<T: Trace>(
-    alloc: Global,
-    plan: &Plan,
-    tracer: T,
-) -> (Result<(), ServeFault>, T)
+fn serve_tree<T: Trace>(alloc: Global, plan: &Plan, tracer: T) -> (Result<(), ServeFault>, T)
     requires unfailed { T.failed tracer ≡ false }
     ensures reader { IsOfRun result.0 }
     ensures write { IsErrOf result.0 ServeFault.Write → T.failed result.1 ≡ true }

@@ -114,8 +114,7 @@ status_asks port outcome old new read ends keeps =
         subst (λ w. TouchesNoPort old w × KeepsAll old w × ControlCourse old w)
         (sym read.same) (λ x. here old, all_none old, here old)
     by_port (External hub n) told none =
-        let sound = ends_without_fault 3 told.answer old new told.asked.ends none in
-        (
+        let sound = ends_without_fault 3 told.answer old new told.asked.ends none in (
           told.asked.rests sound,
           told.asked.backlog sound,
           queried_control hub _ told.answer old new told.asked sound,

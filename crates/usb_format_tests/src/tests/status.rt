@@ -22,20 +22,44 @@ const ROWS: [Row; 33] = [
         2,
     ),
     (Fault::Line(LineFault::BadHex), "packet: bad hex", 1),
-    (Fault::Line(LineFault::Packet(PacketFault::Check)), "packet: check", 1),
+    (
+        Fault::Line(LineFault::Packet(PacketFault::Check)),
+        "packet: check",
+        1,
+    ),
     (Fault::Line(LineFault::Memory), "out of memory", 4),
     (Fault::Serve(ServeFault::Read), "read failed", 4),
     (Fault::Serve(ServeFault::TooLong), "plan too long", 1),
-    (Fault::Serve(ServeFault::Plan(PlanFault::Syntax)), "plan: syntax", 1),
+    (
+        Fault::Serve(ServeFault::Plan(PlanFault::Syntax)),
+        "plan: syntax",
+        1,
+    ),
     (
         Fault::Serve(ServeFault::Plan(PlanFault::PortTaken(Place::Event(2)))),
         "plan: event 2: port taken",
         1,
     ),
-    (Fault::Serve(ServeFault::Plan(PlanFault::Memory)), "out of memory", 4),
-    (Fault::Serve(ServeFault::Run(RunFault::LimitReached)), "limit reached", 3),
-    (Fault::Serve(ServeFault::Run(RunFault::Memory)), "out of memory", 4),
-    (Fault::Serve(ServeFault::Run(RunFault::TraceFailed)), "trace failed", 4),
+    (
+        Fault::Serve(ServeFault::Plan(PlanFault::Memory)),
+        "out of memory",
+        4,
+    ),
+    (
+        Fault::Serve(ServeFault::Run(RunFault::LimitReached)),
+        "limit reached",
+        3,
+    ),
+    (
+        Fault::Serve(ServeFault::Run(RunFault::Memory)),
+        "out of memory",
+        4,
+    ),
+    (
+        Fault::Serve(ServeFault::Run(RunFault::TraceFailed)),
+        "trace failed",
+        4,
+    ),
     (Fault::Serve(ServeFault::Write), "write failed", 4),
     (Fault::Serve(ServeFault::Memory), "out of memory", 4),
     (Fault::Pcap(PcapFault::Read), "read failed", 4),
@@ -50,8 +74,16 @@ const ROWS: [Row; 33] = [
     ),
     (Fault::Device(EntryFault::Write), "write failed", 4),
     (Fault::LongDevice, "device: file too long", 1),
-    (Fault::Far(2, FarFault::LineTooLong), "line 2: line too long", 1),
-    (Fault::Far(2, FarFault::LongSend), "line 2: too much to send", 1),
+    (
+        Fault::Far(2, FarFault::LineTooLong),
+        "line 2: line too long",
+        1,
+    ),
+    (
+        Fault::Far(2, FarFault::LongSend),
+        "line 2: too much to send",
+        1,
+    ),
     (Fault::Far(2, FarFault::HostGone), "line 2: host gone", 4),
     (
         Fault::Far(2, FarFault::Bus(BusFault::Limit)),
@@ -73,7 +105,11 @@ const ROWS: [Row; 33] = [
         "line 5: too many port lines",
         1,
     ),
-    (Fault::Live(LiveEnd::Line(5, LiveFault::Gone)), "line 5: far end gone", 4),
+    (
+        Fault::Live(LiveEnd::Line(5, LiveFault::Gone)),
+        "line 5: far end gone",
+        4,
+    ),
     (
         Fault::Live(LiveEnd::Line(5, LiveFault::LimitReached)),
         "line 5: limit reached",
@@ -97,7 +133,10 @@ fn words_and_plans_that_are_refused_have_a_status(rt: HostRuntime) {
     assert_eq!(rt; exit_status(Ok(())), 0);
     assert_eq!(rt; exit_status(Err(Fault::Words)), 2);
     assert_eq!(rt; exit_status(checked(Ok(Verdict::Plan))), 0);
-    assert_eq!(rt; exit_status(checked(Ok(Verdict::Refused(PlanFault::Syntax)))), 1);
+    assert_eq!(rt;
+        exit_status(checked(Ok(Verdict::Refused(PlanFault::Syntax)))),
+        1
+    );
     assert_eq!(rt; exit_status(checked(Err(CheckFault::Write))), 4);
     assert_eq!(rt; exit_status(Err(Fault::from(AllocError))), 4);
 }

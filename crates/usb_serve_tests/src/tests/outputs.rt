@@ -248,9 +248,7 @@ fn wanted_flushed(row: &Row, mode: Mode, turn: usize) -> Outcome {
 }
 
 /// The first row and mode, and the turn of a failed flush at which something else becomes of it.
-fn first_other_flushed(
-    alloc: Global,
-) -> Result<Option<(&'static str, Mode, usize)>, AllocError> {
+fn first_other_flushed(alloc: Global) -> Result<Option<(&'static str, Mode, usize)>, AllocError> {
     for row in &ROWS {
         for mode in [Mode::Run, Mode::Tree] {
             for turn in 0..5usize {
@@ -282,6 +280,9 @@ fn nothing_is_read_for_a_writer_that_has_failed(rt: HostRuntime) -> Result<(), F
     assert!(rt; output.write(b"lost").is_err());
     let mut reader = Watched::new("limit".as_bytes());
     let (ended, writer) = serve_through(rt.alloc(), Mode::Run, &mut reader, output);
-    assert_eq!(rt; (ended, writer.failed(), reader.calls()), (Err(ServeFault::Write), true, 0));
+    assert_eq!(rt;
+        (ended, writer.failed(), reader.calls()),
+        (Err(ServeFault::Write), true, 0)
+    );
     Ok(())
 }

@@ -19,7 +19,7 @@ returns-clause-serves g c =
     let told = c.serve_to-told.result.0 in
     let kept = output_in c.serve_to-told.result.1 in
     let before : Serves c.args.mode text torn (held contents c.args.output) told (has_ended kept)
-        (held contents kept) =
+    (held contents kept) =
     subst (λ (o : Output g.row.W.Denot). Serves c.args.mode text torn (held contents o) told
     (has_ended kept) (held contents kept)) c.new.ensures c.serve_to-told.ensures.serves in
     through (subst (λ (o : Output g.row.W.Denot). Serves c.args.mode text torn
