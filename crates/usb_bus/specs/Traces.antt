@@ -1,5 +1,6 @@
 -- What went between two states of a bus: the steps of its world, and the text that they wrote.
-use Rattle.std.specs.Prelude.{◌≡◌, ◌≤◌, ◌+◌, ℕ, List, Option, None, Some, Result, Err, OnOk, IfOk, IsSome}
+use Rattle.std.specs.Prelude.{◌≡◌, ◌≤◌, ◌+◌, ℕ, List, Option, None, Some, Result, Err, OnOk, IfOk}
+use Rattle.std.specs.Prelude.{IsSome}
 use Rattle.usb_port.specs.{PortCall}
 use Rattle.usb_world.specs.{Attempt, BusFault, Limit, Memory, Failed, Outcome, World}
 use Rattle.usb_world.specs.{IsAttempt, Attempted, AttemptsWithin, AttemptFails, TookEvent, after}

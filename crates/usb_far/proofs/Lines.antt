@@ -224,7 +224,8 @@ only_bytes old new bytes one read played writer =
     record { unbroken = one; read = read; played = played; writer = writer }
 
 -- in a line of at most 1,024 bytes the reader failed, or the input ended
-pub not_read : (played : Played) (before behind : Pipe) (writer : OutPipe) (e : LineFault) (f : FarFault)
+pub not_read : (played : Played) (before behind : Pipe) (writer : OutPipe) (e : LineFault) (f :
+    FarFault)
     → f ≡ reading_fault e
     → IsNextLine before.bytes behind.bytes (Err e) → (e ≡ Read → behind.failed ≡ true)
     → (e ≢ Read → behind.failed ≡ before.failed)
@@ -240,7 +241,8 @@ not_read played before behind writer Cut f is front failed still =
     (still (λ (same : Cut ≡ Read). cc)) (inl front.ended))
 
 -- a long line that tells nothing
-pub too_long : (played : Played) (before behind : Pipe) (writer : OutPipe) (front : List ℕ) (more : ℕ)
+pub too_long : (played : Played) (before behind : Pipe) (writer : OutPipe) (front : List ℕ) (more :
+    ℕ)
     → length front ≡ 1024 → IsUnbroken (front ++ more ∷ [])
     → Consumes before.bytes behind.bytes (front ++ more ∷ []) → behind.failed ≡ before.failed
     → is_told played.far.phase front ≡ false
@@ -253,7 +255,8 @@ too_long played before behind writer front more full one read still other =
     (ap (is_told played.far.phase) first ∙ other) still
 
 -- one that tells something, of which the rest was not read
-pub long_front : (played : Played) (before mid behind : Pipe) (writer : OutPipe) (front rest : List ℕ)
+pub long_front : (played : Played) (before mid behind : Pipe) (writer : OutPipe) (front rest : List
+    ℕ)
     (more : ℕ) → length front ≡ 1024 → IsUnbroken (front ++ more ∷ [])
     → IsUnbroken rest → Consumes before.bytes mid.bytes (front ++ more ∷ [])
     → Consumes mid.bytes behind.bytes rest
@@ -271,7 +274,8 @@ may_go_on_longer : (phase : Phase) (front rest : List ℕ) (more : ℕ) → leng
 may_go_on_longer phase front rest more full told other =
     absurd (false≢true (sym other ∙ ap (is_told phase) (first_of_long front rest more full) ∙ told))
 
-pub not_skipped : (played : Played) (before mid behind : Pipe) (writer : OutPipe) (front : List ℕ) (more : ℕ)
+pub not_skipped : (played : Played) (before mid behind : Pipe) (writer : OutPipe) (front : List ℕ)
+    (more : ℕ)
     (e : LineFault) (f : FarFault) → f ≡ reading_fault e
     → length front ≡ 1024 → IsUnbroken (front ++ more ∷ [])
     → Consumes before.bytes mid.bytes (front ++ more ∷ []) → mid.failed ≡ before.failed

@@ -183,7 +183,8 @@ others_by port feature a b answer asks went same fault effect addresses devices 
 
 pub own_by : (target : Target) (number : ℕ) (a b : HostState)
     (answer : Result (Unit {0}) PipeFault) {result : Result (Unit {0}) EnumFault}
-    → HostRuns (read_bound 4 + 2 * write_bound) a b → ((f : BusFault) → answer ≡ Err (pipe.Bus f) → HasFault f b.world)
+    → HostRuns (read_bound 4 + 2 * write_bound) a b → ((f : BusFault) → answer ≡ Err (pipe.Bus f) →
+    HasFault f b.world)
     → KeepsAddresses a.world b.world → ClearsOfHub target a.world answer b.world
     → result ≡ at_port answer → ClearsOwn (External target number) a result b
 own_by target number a b answer goes fault addresses cleared is = record {

@@ -1,5 +1,6 @@
 -- After which transfers and polls the bus still works.
-use Rattle.std.proofs.Common.{◌≡◌, ◌*◌, ◌||◌, ℕ, Bool, true, false, List, Option, None, Some, length}
+use Rattle.std.proofs.Common.{◌≡◌, ◌*◌, ◌||◌, ℕ, Bool, true, false, List, Option, None, Some}
+use Rattle.std.proofs.Common.{length}
 use Rattle.std.proofs.Common.{Result, Ok, Err, MatchResult, IsErrAnd, ap, is_some, refl, subst, ◌∙◌}
 use Rattle.std.specs.Global.{Vec}
 use Rattle.std.specs.Int.{div_ceil}
@@ -101,7 +102,8 @@ untried_works : {A P : Type 0} (why : TransferFault) (pipes : P) (old : World)
     → NotTried why pipes old result left new → TableWorks old result new
 untried_works why pipes old result left new x = rw x.0 (λ sound. same_works old new x.2)
 
-if_works : {A : Type 0} (So : PipeDid A) → ((pipe : Bulk) (old : World) (result : Result A TableFault)
+if_works : {A : Type 0} (So : PipeDid A) → ((pipe : Bulk) (old : World) (result : Result A
+    TableFault)
     (left : Bulk) (new : World) → So pipe old result left new → TableWorks old result new)
     → (pipe : Option Bulk) (old : World) (result : Result A TableFault) (left : Option Bulk)
     (new : World) → ThroughIf So pipe old result left new → TableWorks old result new

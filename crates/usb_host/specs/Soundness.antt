@@ -131,7 +131,8 @@ pub record HostInvariant (h : HostState) : Type 0 where
   pub order : IsInOrder h.world
   pub known : h.world.fault ≡ None → PortsListed h.world h.entries
   pub truthful : h.world.fault ≡ None → DevicesAccurate h.world h.entries
-  pub level : h.world.fault ≡ None → AllInSync (table_in h) h.world  -- pipes are as far as their endpoints
+  -- pipes are as far as their endpoints
+  pub level : h.world.fault ≡ None → AllInSync (table_in h) h.world
 
 -- so it is but of the ports at a path and below it
 pub record IsSoundBut (path : List ℕ) (h : HostState) : Type 0 where

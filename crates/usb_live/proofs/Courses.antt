@@ -19,7 +19,8 @@ use Rattle.usb_stream.specs.{roots_if, streams, unasked, unread_of, written_of, 
 use Rattle.usb_stream.specs.{LiveFault}
 use Rattle.usb_live.specs.{LiveCourse, CourseTo, EndsBy, EndsLiveAs, IsShown, StandsAtStage, Lives}
 use Rattle.usb_live.specs.{is_nothing, is_wait, listed, owed_by, owed_left, owes, questions_in}
-use Rattle.usb_live.specs.{settles, stage_behind, stage_behind_answer, told_text, LiveEnd, Line, Memory, Rounds, Owed}
+use Rattle.usb_live.specs.{settles, stage_behind, stage_behind_answer, told_text, LiveEnd, Line}
+use Rattle.usb_live.specs.{Memory, Rounds, Owed}
 use Rattle.usb_live.specs.{Stage, Asks, EndWanted, Over}
 use Rattle.usb_live.specs.declared.owed.Owed.TheVariants as owed
 
@@ -97,7 +98,8 @@ asked_on r0 r1 w0 w1 j k q result c sound plain h =
 -- what is wanted was asked
 wanted_on : {st : Stage} {limit m : ℕ} {u : Pipe} {b : OutPipe} (r0 r1 : Pipe) (w0 w1 : OutPipe)
     (j k : Kept)
-    (result : Result Answer LiveFault) → CourseTo st owed.Nothing limit m u b r0 w0 j → j.fault ≡ None
+    (result : Result Answer LiveFault) → CourseTo st owed.Nothing limit m u b r0 w0 j → j.fault ≡
+    None
     → AsksOnce Wait (streams r0 r1 w0 w1) j result k
     → CourseTo Asks (owed_by result) limit m u b r1 w1 k
 wanted_on r0 r1 w0 w1 j k result c sound h =
@@ -155,7 +157,8 @@ by_fault {R} {W} rem con limit m u b old new st ow (Some f) is same on c =
     (kept_of x)) (sym (same f is)) (on_asks c)
 by_fault rem con limit m u b old new st ow None is same on c = on is
 
-pub attempt_on : {R W : Type 0} (rem : R → Option (List ℕ)) (con : W → Option (List ℕ)) (limit m : ℕ)
+pub attempt_on : {R W : Type 0} (rem : R → Option (List ℕ)) (con : W → Option (List ℕ)) (limit m :
+    ℕ)
     (u : Pipe) (b : OutPipe) (old new : StreamBus R W) (st : Stage)
     (ow : Owed) (a : Attempt) (result : Result Outcome BusFault)
     → ((f : LiveFault) → (kept_of old).fault ≡ Some f → (result ≡ Err (bus_fault f)) × (new ≡ old))
@@ -463,7 +466,8 @@ greeted_course {limit} u r b w mid result h =
       at = tt;
     }
 
-pub opens : {limit : ℕ} (u r : Pipe) (b w : OutPipe) (k : Kept) → SaysHello limit (streams u r b w) k
+pub opens : {limit : ℕ} (u r : Pipe) (b w : OutPipe) (k : Kept) → SaysHello limit (streams u r b w)
+    k
     → CourseTo Asks owed.Nothing limit 0 u b r w k
 opens {limit} u r b w k h = subst (λ (x : Kept). CourseTo Asks owed.Nothing limit 0 u b r w x)
     (sym h.kept) (greeted_course u r b w h.mid h.result h.asked)

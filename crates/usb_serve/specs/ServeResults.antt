@@ -36,7 +36,8 @@ abbrev pub IsOfRun : Result (Unit {0}) ServeFault → Type 0
 IsOfRun (Ok done) = Unit {0}
 IsOfRun (Err fault) = IsFaultOfRun fault
 
--- a writer is said to have failed only if it has, at the line of an attempt or an event only in mode
+-- a writer is said to have failed only if it has, at the line of an attempt or an event only in
+-- mode
 -- Run, which alone has such lines; and if the limit was reached it has not
 pub record MarksWriter (mode : Mode) (result : Result (Unit {0}) ServeFault) (failed : Bool) :
     Type 0 where

@@ -20,7 +20,8 @@ writer_fault (Err (serve.Run TraceFailed)) = serve.Run TraceFailed
 writer_fault (Err serve.Write) = serve.Write
 writer_fault (Err serve.Memory) = serve.Write
 
--- what waits in a buffer is let out: all goes out, and the result stays; or the writer has failed, a
+-- what waits in a buffer is let out: all goes out, and the result stays; or the writer has failed,
+-- a
 -- prefix has gone out, and that is told
 pub data LetsOut (told : Result (Unit {0}) ServeFault) (marked : Bool) (written : Option (List ℕ))
     (result : Result (Unit {0}) ServeFault) (failed : Bool) (now : Option (List ℕ)) : Type 0 where

@@ -1,4 +1,5 @@
--- The program's exit status: 0 all was done; 1 a text, a packet, descriptors or a line are refused; 2
+-- The program's exit status: 0 all was done; 1 a text, a packet, descriptors or a line are
+-- refused; 2
 -- the words name no command; 3 the limit is reached; 4 memory, or input or output, failed.
 use Rattle.std.specs.Prelude.{ℕ, Result, Ok, Err}
 use Rattle.usb_world.specs.{BusFault}

@@ -7,7 +7,8 @@ use Rattle.usb_lines.specs.{FailsToFlush, Flushes, OutPipe, Pipe, ReadLine, Read
 use Rattle.usb_wire.specs.{Answer, Changed, Answered, Asked, kind_asked, line_fault, Question}
 use Rattle.usb_wire.specs.{LineTooLong, WireFault}
 use Rattle.usb_stream.specs.{AnswerLinesRead, AskedWell, AsksNoMore, BadLine, CauseOfHearing}
-use Rattle.usb_stream.specs.{CauseOfLine, FailsOnce, HeardTooMany, HeardUpTo, IsUnheard, Kept, LimitReached, LiveFault}
+use Rattle.usb_stream.specs.{CauseOfLine, FailsOnce, HeardTooMany, HeardUpTo, IsUnheard, Kept}
+use Rattle.usb_stream.specs.{LimitReached, LiveFault}
 use Rattle.usb_stream.specs.{PushesRead, SaidLine, Says, StatusesRead, Write, asking, counted_on}
 use Rattle.usb_stream.specs.{streams}
 use Rattle.usb_stream.specs.declared.fault.LiveFault.TheVariants as fault

@@ -7,7 +7,8 @@ use Rattle.usb_hub.proofs.Ports.{asked-root, asked_port, port_cleared-root, clea
 use Rattle.usb_hub.proofs.port.clear_port.Goals as goal
 
 pub returns-else-not-has_root-clause-effect : goal.returns-else-not-has_root-clause-effect
-returns-else-not-has_root-clause-effect g c known = port_cleared-root c.args.port _ _ _ _ c.in-Root.is
+returns-else-not-has_root-clause-effect g c known = port_cleared-root c.args.port _ _ _ _
+    c.in-Root.is
     (asked_port g.B.Bus.modelled (g.B.Bus.world c.args.bus.now) c.args.port known c.requires.port)
     c.requires.named (c.root_clear.ensures.call known)
 
@@ -24,7 +25,8 @@ returns-in-External-clause-steps g c known =
     rw c.in-External.is (c.clear_hub_port.ensures.steps known)
 
 pub returns-else-not-has_root-clause-addresses : goal.returns-else-not-has_root-clause-addresses
-returns-else-not-has_root-clause-addresses g c known = root_clear_keeps_port c.args.port _ _ _ _ c.in-Root.is
+returns-else-not-has_root-clause-addresses g c known = root_clear_keeps_port c.args.port _ _ _ _
+    c.in-Root.is
     c.requires.named (c.root_clear.ensures.call known)
 
 pub returns-else-not-has_root-clause-ports : goal.returns-else-not-has_root-clause-ports

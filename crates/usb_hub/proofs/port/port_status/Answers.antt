@@ -26,7 +26,8 @@ returns-in-External-clause-addresses g c known =
     (c.hub_port_status.ensures.keeps known)
 
 pub returns-else-not-has_root-clause-told : goal.returns-else-not-has_root-clause-told
-returns-else-not-has_root-clause-told g c known = root_tells c.args.port c.in-Root.number _ _ _ c.in-Root.is
+returns-else-not-has_root-clause-told g c known = root_tells c.args.port c.in-Root.number _ _ _
+    c.in-Root.is
     (asked_port g.B.Bus.modelled (g.B.Bus.world c.args.bus.now) c.args.port known c.requires)
     (returns-else-not-has_root-clause-status g c known)
 

@@ -15,7 +15,8 @@ pub returns-else-not-has_root-clause-steps : goal.returns-else-not-has_root-clau
 returns-else-not-has_root-clause-steps g c known =
     let traced = traced_set _ _ c.requires.named still (c.root_set.ensures.call known)
     (c.root_set.ensures.silent known) in
-    set_went-root c.args.port _ _ _ _ _ _ c.in-Root.is (returns-else-not-has_root-clause-effect g c known)
+    set_went-root c.args.port _ _ _ _ _ _ c.in-Root.is (returns-else-not-has_root-clause-effect g c
+    known)
     traced
 
 pub returns-in-External-clause-steps : goal.returns-in-External-clause-steps

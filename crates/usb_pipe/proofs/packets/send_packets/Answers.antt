@@ -57,7 +57,12 @@ returns g c =
     let whole = λ (known : g.B.Bus.modelled ≡ true). all_sent c.args.target c.args.ep _
     c.args.bytes.now c.requires.target.max_least c.requires.some none
     (c.packets.invariant.1 known) in
-    record { any_bus = search rules; steps = λ known. (whole known).1; sent = λ known. (whole known).0 }
+    record {
+      any_bus = search rules;
+      steps = λ known. (whole known).1;
+      sent = λ known. (whole
+          known).0;
+    }
 
 pub returns-in_err-data_out : goal.returns-in_err-data_out
 returns-in_err-data_out g c =
@@ -69,4 +74,9 @@ returns-in_err-data_out g c =
     c.in_err-data_out.field-0.0 c.from_residual.result c.from_residual.ensures.0
     c.from_residual.ensures.1 (search rules)
     (c.in_err-data_out.ensures.sends known) c.in_err-data_out.ensures.toggle in
-    record { any_bus = search rules; steps = λ known. (front known).1; sent = λ known. (front known).0 }
+    record {
+      any_bus = search rules;
+      steps = λ known. (front known).1;
+      sent = λ known. (front
+          known).0;
+    }

@@ -23,7 +23,8 @@ loop-error-preserved g c = (
 pub returns-then-is_ack-clause-sets_up : goal.returns-then-is_ack-clause-sets_up
 returns-then-is_ack-clause-sets_up g c known =
     rw c.nothing.ensures (sets_up c.args.target c.args.bytes _ _ (search rules) (g.met.B.Bus.settled
-    known c.args.bus.now) (Ok []) (set_up_told c.loop-error-test.true (c.loop-error.invariant.1 known)
+    known c.args.bus.now) (Ok []) (set_up_told c.loop-error-test.true (c.loop-error.invariant.1
+    known)
     (rw c.attempt_of_setup-attempt.ensures.value at (c.in-Ok.ensures.attempts known)) (sym
     c.is_ack.ensures ∙ c.if-is_ack.true)) (λ e. e))
 
@@ -40,7 +41,8 @@ returns-clause-sets_up g c known =
 pub returns-in-Err-clause-sets_up : goal.returns-in-Err-clause-sets_up
 returns-in-Err-clause-sets_up g c known =
     sets_up c.args.target c.args.bytes _ _ (search rules) (g.met.B.Bus.settled known c.args.bus.now)
-    (Err (Bus c.in-Err.fault)) (set_up_cut c.loop-error-test.true (c.loop-error.invariant.1 known) (rw
+    (Err (Bus c.in-Err.fault)) (set_up_cut c.loop-error-test.true (c.loop-error.invariant.1 known)
+    (rw
     c.attempt_of_setup-attempt.ensures.value at (c.in-Err.ensures.attempts known))) (λ e. e)
 
 pub returns-then-is_ack-clause-steps : goal.returns-then-is_ack-clause-steps

@@ -8,7 +8,8 @@ unfolding marked_some
 returns-then-acknowledged-clause-value c =
     ap (λ x. Some x) c.marked.ensures.value
     ∙ ap (λ b. Some (marked c.args.damage c.args.place b Ack))
-    (c.has_pre.ensures ∙ ap (λ (d : Destination). speed_has_pre d.speed) c.destination-speed.ensures)
+    (c.has_pre.ensures ∙ ap (λ (d : Destination). speed_has_pre d.speed)
+    c.destination-speed.ensures)
     ∙ ap
     (λ b. marked_some c.args.damage c.args.place (attempt_data c.args.attempt.now).pre (ack_if b))
     (sym c.if-acknowledged.true)

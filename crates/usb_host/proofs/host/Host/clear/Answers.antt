@@ -15,7 +15,8 @@ pub returns-clause-spends : goal.returns-clause-spends
 returns-clause-spends g c =
     rw (← c.self.view_is) (counts_spend g.B.Bus.modelled (g.B.Bus.spent c.self.inside.bus)
     (g.B.Bus.spent c.clear_port.new.bus) (g.B.Bus.failed c.self.inside.bus)
-    (g.B.Bus.failed c.clear_port.new.bus) _ c.clear_port.ensures.any_bus.0.0 (order_most c.args.port))
+    (g.B.Bus.failed c.clear_port.new.bus) _ c.clear_port.ensures.any_bus.0.0 (order_most
+    c.args.port))
 
 pub returns-clause-told : goal.returns-clause-told
 returns-clause-told g c =

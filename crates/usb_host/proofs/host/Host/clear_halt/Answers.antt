@@ -24,7 +24,8 @@ returns-clause-tells g c known = record {
   stopped = first_of (search rules, grind (arith, common_steps));
   went = first_of (search rules, grind (arith, common_steps));
   told = first_of (search rules, grind (arith, common_steps));
-  works = rw (← c.self.view_is) (cleared_works _ _ _ _ c.clear_halt.result _ c.as_host_fault-cleared.ensures
+  works = rw (← c.self.view_is) (cleared_works _ _ _ _ c.clear_halt.result _
+      c.as_host_fault-cleared.ensures
       (c.clear_halt.ensures.clears known).did);
   did = first_of (search rules, grind (arith, common_steps));
   keeps = rw (← c.self.view_is) (transfer_kept _ _ _ _ _ c.self.invariant
@@ -38,5 +39,6 @@ returns-clause-any_bus g c = (
       (g.B.Bus.spent c.clear_halt.new.bus) (g.B.Bus.failed c.self.inside.bus)
       (g.B.Bus.failed c.clear_halt.new.bus) _ c.clear_halt.ensures.any_bus.0.0 (omega arith)),
   λ off. rw c.as_host_fault-cleared.ensures (counts_transfer (g.B.Bus.spent c.clear_halt.new.bus)
-      (g.B.Bus.failed c.clear_halt.new.bus) g.B.Bus.modelled c.clear_halt.result c.clear_halt.ensures.any_bus.1 off),
+      (g.B.Bus.failed c.clear_halt.new.bus) g.B.Bus.modelled c.clear_halt.result
+      c.clear_halt.ensures.any_bus.1 off),
 )

@@ -39,6 +39,7 @@ returns-in-External-clause-spends g c =
 
 pub returns-in-External-clause-told : goal.returns-in-External-clause-told
 returns-in-External-clause-told g c =
-    counts_told (g.B.Bus.spent c.clear_hub_changes.new.bus) (g.B.Bus.failed c.clear_hub_changes.new.bus)
+    counts_told (g.B.Bus.spent c.clear_hub_changes.new.bus) (g.B.Bus.failed
+    c.clear_hub_changes.new.bus)
     g.B.Bus.modelled c.at_port.result (rw c.at_port.ensures (ports_reported _ _
     c.clear_hub_changes.ensures.any_bus.1))

@@ -69,21 +69,24 @@ pub returns-in_err-finding-clause-spends : goal.returns-in_err-finding-clause-sp
 returns-in_err-finding-clause-spends g c =
     rw (← c.self.view_is) (counts_spend g.B.Bus.modelled (g.B.Bus.spent c.self.inside.bus)
     (g.B.Bus.spent c.enumerate.new.bus) (g.B.Bus.failed c.self.inside.bus)
-    (g.B.Bus.failed c.enumerate.new.bus) _ c.enumerate.ensures.any_bus.0.0 (enumeration_most c.args.port.port
+    (g.B.Bus.failed c.enumerate.new.bus) _ c.enumerate.ensures.any_bus.0.0 (enumeration_most
+    c.args.port.port
     (askable_wide c.args.port.port c.requires.port.askable)))
 
 pub returns-in_err-enter-clause-spends : goal.returns-in_err-enter-clause-spends
 returns-in_err-enter-clause-spends g c =
     rw (← c.self.view_is) (counts_spend g.B.Bus.modelled (g.B.Bus.spent c.self.inside.bus)
     (g.B.Bus.spent c.enumerate.new.bus) (g.B.Bus.failed c.self.inside.bus)
-    (g.B.Bus.failed c.enumerate.new.bus) _ c.enumerate.ensures.any_bus.0.0 (enumeration_most c.args.port.port
+    (g.B.Bus.failed c.enumerate.new.bus) _ c.enumerate.ensures.any_bus.0.0 (enumeration_most
+    c.args.port.port
     (askable_wide c.args.port.port c.requires.port.askable)))
 
 pub returns-clause-spends : goal.returns-clause-spends
 returns-clause-spends g c =
     rw (← c.self.view_is) (counts_spend g.B.Bus.modelled (g.B.Bus.spent c.self.inside.bus)
     (g.B.Bus.spent c.enumerate.new.bus) (g.B.Bus.failed c.self.inside.bus)
-    (g.B.Bus.failed c.enumerate.new.bus) _ c.enumerate.ensures.any_bus.0.0 (enumeration_most c.args.port.port
+    (g.B.Bus.failed c.enumerate.new.bus) _ c.enumerate.ensures.any_bus.0.0 (enumeration_most
+    c.args.port.port
     (askable_wide c.args.port.port c.requires.port.askable)))
 
 pub returns-in_err-finding-clause-told : goal.returns-in_err-finding-clause-told

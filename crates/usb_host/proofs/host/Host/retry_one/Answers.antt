@@ -48,5 +48,6 @@ pub returns-clause-works : goal.returns-clause-works
 returns-clause-works g c known =
     finished_works c.enumerate_again-looked.result (Ok tt) c.args.self.now
     c.enumerate_again-looked.new.self c.drop_lost_parent.new.self
-    c.in_ok-drop_lost_parent.ensures.ends (c.enumerate_again-looked.ensures.looks known).requested.works
+    c.in_ok-drop_lost_parent.ensures.ends (c.enumerate_again-looked.ensures.looks
+    known).requested.works
     (c.in_ok-drop_lost_parent.ensures.works known)

@@ -61,7 +61,8 @@ returns-clause-looks g c known =
 
 pub returns-in_err-retry_one-clause-spends : goal.returns-in_err-retry_one-clause-spends
 returns-in_err-retry_one-clause-spends g c =
-    let rises = rank_rises c.waiting.last c.in-Some.path c.waiting.invariant.path c.retry_one.ensures.path
+    let rises = rank_rises c.waiting.last c.in-Some.path c.waiting.invariant.path
+    c.retry_one.ensures.path
     c.in-Some.ensures.some.1 in
     omega (
       arith,

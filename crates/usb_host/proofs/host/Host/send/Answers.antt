@@ -24,7 +24,8 @@ returns-clause-tells g c known = record {
   stopped = first_of (search rules, grind (arith, common_steps));
   went = first_of (search rules, grind (arith, common_steps));
   told = first_of (search rules, grind (arith, common_steps));
-  works = rw (← c.self.view_is) (sent_works _ _ c.args.bytes.now _ _ c.send.result _ c.as_host_fault-sent.ensures
+  works = rw (← c.self.view_is) (sent_works _ _ c.args.bytes.now _ _ c.send.result _
+      c.as_host_fault-sent.ensures
       (c.send.ensures.sends known).did);
   did = first_of (search rules, grind (arith, common_steps));
   keeps = rw (← c.self.view_is) (transfer_kept _ _ _ _ _ c.self.invariant

@@ -78,42 +78,50 @@ returns-in_ok-drop_hub-in-Err-clause-polls g c known =
 
 pub returns-in-Ok-None-clause-spends : goal.returns-in-Ok-None-clause-spends
 returns-in-Ok-None-clause-spends g c =
-    let polled = counts_spend g.B.Bus.modelled (g.B.Bus.spent c.self.inside.bus) (g.B.Bus.spent c.poll.new.bus)
+    let polled = counts_spend g.B.Bus.modelled (g.B.Bus.spent c.self.inside.bus) (g.B.Bus.spent
+    c.poll.new.bus)
     (g.B.Bus.failed c.self.inside.bus) (g.B.Bus.failed c.poll.new.bus) 768
     c.poll.ensures.any_bus.0.0 (omega arith) in
     rw (← c.self.view_is) (omega (arith, polled))
 
-pub returns-in_ok-service_reported-in-Ok-Some-clause-spends : goal.returns-in_ok-service_reported-in-Ok-Some-clause-spends
+pub returns-in_ok-service_reported-in-Ok-Some-clause-spends :
+    goal.returns-in_ok-service_reported-in-Ok-Some-clause-spends
 returns-in_ok-service_reported-in-Ok-Some-clause-spends g c =
-    let polled = counts_spend g.B.Bus.modelled (g.B.Bus.spent c.self.inside.bus) (g.B.Bus.spent c.poll.new.bus)
+    let polled = counts_spend g.B.Bus.modelled (g.B.Bus.spent c.self.inside.bus) (g.B.Bus.spent
+    c.poll.new.bus)
     (g.B.Bus.failed c.self.inside.bus) (g.B.Bus.failed c.poll.new.bus) 768
     c.poll.ensures.any_bus.0.0 (omega arith) in
     rw (← c.self.view_is) (omega (arith, polled, c.service_reported.ensures.spends))
 
-pub returns-in_err-service_reported-in-Ok-Some-clause-spends : goal.returns-in_err-service_reported-in-Ok-Some-clause-spends
+pub returns-in_err-service_reported-in-Ok-Some-clause-spends :
+    goal.returns-in_err-service_reported-in-Ok-Some-clause-spends
 returns-in_err-service_reported-in-Ok-Some-clause-spends g c =
-    let polled = counts_spend g.B.Bus.modelled (g.B.Bus.spent c.self.inside.bus) (g.B.Bus.spent c.poll.new.bus)
+    let polled = counts_spend g.B.Bus.modelled (g.B.Bus.spent c.self.inside.bus) (g.B.Bus.spent
+    c.poll.new.bus)
     (g.B.Bus.failed c.self.inside.bus) (g.B.Bus.failed c.poll.new.bus) 768
     c.poll.ensures.any_bus.0.0 (omega arith) in
     rw (← c.self.view_is) (omega (arith, polled, c.service_reported.ensures.spends))
 
 pub returns-in-Err-Bus-clause-spends : goal.returns-in-Err-Bus-clause-spends
 returns-in-Err-Bus-clause-spends g c =
-    let polled = counts_spend g.B.Bus.modelled (g.B.Bus.spent c.self.inside.bus) (g.B.Bus.spent c.poll.new.bus)
+    let polled = counts_spend g.B.Bus.modelled (g.B.Bus.spent c.self.inside.bus) (g.B.Bus.spent
+    c.poll.new.bus)
     (g.B.Bus.failed c.self.inside.bus) (g.B.Bus.failed c.poll.new.bus) 768
     c.poll.ensures.any_bus.0.0 (omega arith) in
     rw (← c.self.view_is) (omega (arith, polled))
 
 pub returns-in_err-drop_hub-in-Err-clause-spends : goal.returns-in_err-drop_hub-in-Err-clause-spends
 returns-in_err-drop_hub-in-Err-clause-spends g c =
-    let polled = counts_spend g.B.Bus.modelled (g.B.Bus.spent c.self.inside.bus) (g.B.Bus.spent c.poll.new.bus)
+    let polled = counts_spend g.B.Bus.modelled (g.B.Bus.spent c.self.inside.bus) (g.B.Bus.spent
+    c.poll.new.bus)
     (g.B.Bus.failed c.self.inside.bus) (g.B.Bus.failed c.poll.new.bus) 768
     c.poll.ensures.any_bus.0.0 (omega arith) in
     rw (← c.self.view_is) (omega (arith, polled, c.drop_hub.ensures.spends))
 
 pub returns-in_ok-drop_hub-in-Err-clause-spends : goal.returns-in_ok-drop_hub-in-Err-clause-spends
 returns-in_ok-drop_hub-in-Err-clause-spends g c =
-    let polled = counts_spend g.B.Bus.modelled (g.B.Bus.spent c.self.inside.bus) (g.B.Bus.spent c.poll.new.bus)
+    let polled = counts_spend g.B.Bus.modelled (g.B.Bus.spent c.self.inside.bus) (g.B.Bus.spent
+    c.poll.new.bus)
     (g.B.Bus.failed c.self.inside.bus) (g.B.Bus.failed c.poll.new.bus) 768
     c.poll.ensures.any_bus.0.0 (omega arith) in
     rw (← c.self.view_is) (omega (arith, polled, c.drop_hub.ensures.spends))
@@ -130,7 +138,8 @@ pub returns-in-Ok-None-clause-quiet : goal.returns-in-Ok-None-clause-quiet
 returns-in-Ok-None-clause-quiet g c is =
     rw (← c.self.view_is) c.poll.ensures.through.entries
 
-pub returns-in_ok-service_reported-in-Ok-Some-clause-quiet : goal.returns-in_ok-service_reported-in-Ok-Some-clause-quiet
+pub returns-in_ok-service_reported-in-Ok-Some-clause-quiet :
+    goal.returns-in_ok-service_reported-in-Ok-Some-clause-quiet
 returns-in_ok-service_reported-in-Ok-Some-clause-quiet g c is =
     absurd (cc is)
 

@@ -16,7 +16,8 @@ pub returns-clause-spends : goal.returns-clause-spends
 returns-clause-spends g c =
     rw (← c.self.view_is) (counts_spend g.B.Bus.modelled (g.B.Bus.spent c.self.inside.bus)
     (g.B.Bus.spent c.port_status.new.bus) (g.B.Bus.failed c.self.inside.bus)
-    (g.B.Bus.failed c.port_status.new.bus) _ c.port_status.ensures.any_bus.0.0 (status_most c.args.port
+    (g.B.Bus.failed c.port_status.new.bus) _ c.port_status.ensures.any_bus.0.0 (status_most
+    c.args.port
     (askable_wide c.args.port c.requires.askable)))
 
 pub returns-clause-told : goal.returns-clause-told

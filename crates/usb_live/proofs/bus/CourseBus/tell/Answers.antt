@@ -10,7 +10,8 @@ invariant_of-self g c = rw (c.stage_behind-stage.ensures, c.number-number.ensure
   bounded = c.args.self.now.bounded;
   course = ∥∥₁_map c.args.self.now.course
       (λ x. tell_on g.R.Read.remaining g.W.Write.contents g.B.Begun.limit
-      c.args.self.now.listings g.B.Begun.unread g.B.Begun.before c.args.self.now.bus c.tell-told.new.self c.args.self.now.stage
+      c.args.self.now.listings g.B.Begun.unread g.B.Begun.before c.args.self.now.bus
+      c.tell-told.new.self c.args.self.now.stage
       c.args.self.now.owed c.args.item.now c.args.text.now c.tell-told.result
       (kept_of c.args.self.now.bus).fault (sym c.is_ok.ensures.value ∙ c.if-is_ok.true)
       c.requires.text c.requires.owed c.requires.shown refl c.tell-told.ensures.again
@@ -23,7 +24,8 @@ invariant_of-self-else-is_ok g c = record {
   bounded = c.args.self.now.bounded;
   course = ∥∥₁_map c.args.self.now.course
       (λ x. tell_off g.R.Read.remaining g.W.Write.contents g.B.Begun.limit
-      c.args.self.now.listings g.B.Begun.unread g.B.Begun.before c.args.self.now.bus c.tell-told.new.self c.args.self.now.stage
+      c.args.self.now.listings g.B.Begun.unread g.B.Begun.before c.args.self.now.bus
+      c.tell-told.new.self c.args.self.now.stage
       c.args.self.now.owed c.args.item.now c.args.text.now c.tell-told.result
       (sym c.is_ok.ensures.value ∙ c.if-is_ok.false) c.requires.text c.requires.owed
       c.requires.shown c.tell-told.ensures.again
