@@ -189,7 +189,7 @@ EndsBy fault lines left stage (Err Memory) = fault ≡ None
 -- of a private function: what a transfer came to, or that the host has stopped
 abbrev pub TellsTransfer : {A : Type 0} → Result A HostFault
     → Result (Result A TransferFault) LiveEnd → Type 0
-TellsTransfer answer (Ok told) = transfer_ended answer ≡ Ok told
+TellsTransfer answer (Ok came) = transfer_ended answer ≡ Ok came
 TellsTransfer answer (Err end) = is_err (transfer_ended answer) ≡ true
 
 -- a whole course: at most so many questions were asked
