@@ -86,7 +86,8 @@ asked_on : {st : Stage} {o : Owed} {limit m : ℕ} {u : Pipe} {b : OutPipe}
     → AsksOnce q (streams r0 r1 w0 w1) j result k → CourseTo Asks o limit m u b r1 w1 k
 asked_on r0 r1 w0 w1 j k q result c sound plain h =
     let fewer = left_behind q r0 r1 w0 w1 j result k h in
-    let (few, numbered) = (c.few, c.numbered) in
+    let few = c.few in
+    let numbered = c.numbered in
     record {
       asked = c.asked + questions_in result;
       course = LiveCourse.asked q result c.course sound plain h;
@@ -104,7 +105,8 @@ wanted_on : {st : Stage} {limit m : ℕ} {u : Pipe} {b : OutPipe} (r0 r1 : Pipe)
     → CourseTo Asks (owed_by result) limit m u b r1 w1 k
 wanted_on r0 r1 w0 w1 j k result c sound h =
     let fewer = left_behind Wait r0 r1 w0 w1 j result k h in
-    let (few, numbered) = (c.few, c.numbered) in
+    let few = c.few in
+    let numbered = c.numbered in
     record {
       asked = c.asked + questions_in result;
       course = LiveCourse.wanted result c.course sound h;

@@ -1,6 +1,6 @@
 use Rattle.std.proofs.Common.{◌∙◌, sym, ap, refl}
 use Rattle.std.proofs.Math.Logic.{∥∥₁_map}
-use Rattle.usb_bus.specs.{inner_of}
+use Rattle.usb_lines.specs.{pipe_of}
 use Rattle.usb_stream.specs.{kept_of}
 use Rattle.usb_live.proofs.Courses.{tell_off, tell_on}
 use Rattle.usb_live.proofs.bus.CourseBus.tell.Goals as goal
@@ -15,7 +15,7 @@ invariant_of-self g c = rw (c.stage_behind-stage.ensures, c.number-number.ensure
       c.args.self.now.owed c.args.item.now c.args.text.now c.tell-told.result
       (kept_of c.args.self.now.bus).fault (sym c.is_ok.ensures.value ∙ c.if-is_ok.true)
       c.requires.text c.requires.owed c.requires.shown refl c.tell-told.ensures.again
-      (ap (λ r. g.R.Read.remaining (inner_of r)) c.tell-told.ensures.reader)
+      (ap (pipe_of g.R.Read.remaining) c.tell-told.ensures.reader)
       c.tell-told.ensures.told x);
 })
 
@@ -29,6 +29,6 @@ invariant_of-self-else-is_ok g c = record {
       c.args.self.now.owed c.args.item.now c.args.text.now c.tell-told.result
       (sym c.is_ok.ensures.value ∙ c.if-is_ok.false) c.requires.text c.requires.owed
       c.requires.shown c.tell-told.ensures.again
-      (ap (λ r. g.R.Read.remaining (inner_of r)) c.tell-told.ensures.reader)
+      (ap (pipe_of g.R.Read.remaining) c.tell-told.ensures.reader)
       c.tell-told.ensures.told x);
 }
