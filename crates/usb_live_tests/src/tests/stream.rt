@@ -234,7 +234,8 @@ fn play<R: Read + Drop>(
     bus.root_set(1, PORT_RESET);
     bus.root_set(3, PORT_RESET);
     bus.root_clear(2, C_PORT_CONNECTION);
-    for number in [1, 2] {
+    let roots = bus.root_ports();
+    for number in 1..roots + 1 {
         let status = bus.root_status(number);
         push_said(&mut given, &Said::Changed { number, status })?;
     }
