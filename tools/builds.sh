@@ -69,9 +69,14 @@ name_builds() {
   checked=$kept/checked-$of
 }
 
+# Whether any executable is kept, of whatever sources.
+has_builds() {
+  compgen -G "$kept/*-*" >/dev/null
+}
+
 # Why there is no executable.
 why_none() {
-  if compgen -G "$kept/*-*" >/dev/null; then
+  if has_builds; then
     echo "the sources or the toolchain have changed"
   else
     echo "no build yet"

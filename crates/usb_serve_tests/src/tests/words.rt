@@ -93,6 +93,73 @@ Options:
   -h, --help       Print help
 ";
 
+const CHECK_HELP: &str = "\
+Tells what a plan holds, or what is wrong with it and where
+
+Usage: usbplan check <FILE>
+
+Arguments:
+  <FILE>  The plan's file; `-` is standard input
+
+Options:
+  -h, --help  Print help
+";
+
+const RUN_HELP: &str = "\
+Runs a plan, and prints each plug, each attempt and the devices that the host found
+
+Usage: usbplan run <FILE>
+
+Arguments:
+  <FILE>  The plan's file; `-` is standard input
+
+Options:
+  -h, --help  Print help
+";
+
+const PCAP_HELP: &str = "\
+Writes the packets of a run as a pcap file, for Wireshark
+
+Usage: usbplan pcap <FILE>
+
+Arguments:
+  <FILE>  What `run` wrote; `-` is standard input
+
+Options:
+  -h, --help  Print help
+";
+
+const FAR_HELP: &str = "\
+Answers a host, line by line, as the devices of a plan would
+
+Usage: usbplan far <FILE>
+
+Arguments:
+  <FILE>  The plan's file
+
+Options:
+  -h, --help  Print help
+";
+
+const LIVE_HELP: &str = "\
+Asks a far end on standard input and output, line by line, and tells it what the host found
+
+Usage: usbplan live [OPTIONS]
+
+Options:
+      --limit <N>  How many questions it asks at most [default: 9223372036854775807]
+  -h, --help       Print help
+";
+
+const HELP_HELP: &str = "\
+Print this message or the help of the given subcommand(s)
+
+Usage: usbplan help [COMMAND]...
+
+Arguments:
+  [COMMAND]...  Print help for the subcommand(s)
+";
+
 const EIGHT_PORTS: &str = "\
 error: invalid value '8' for '--ports <N>': 8 is not in 1..=7
 
@@ -133,7 +200,7 @@ For more information, try '--help'.
 ";
 
 /// Words, and what they ask for, or the text that is shown in its place.
-const WORDS: [(&[&str], &str); 25] = [
+const WORDS: [(&[&str], &str); 32] = [
     (&["packet", "2D0010"], "Packet(\"2D0010\")"),
     (&[], "Stdin"),
     (&["tree", "plan.toml"], "Tree(\"plan.toml\")"),
@@ -166,6 +233,13 @@ const WORDS: [(&[&str], &str); 25] = [
     (&["tree", "--help"], TREE_HELP),
     (&["draw", "--help"], DRAW_HELP),
     (&["device", "--help"], DEVICE_HELP),
+    (&["check", "--help"], CHECK_HELP),
+    (&["run", "--help"], RUN_HELP),
+    (&["pcap", "--help"], PCAP_HELP),
+    (&["far", "--help"], FAR_HELP),
+    (&["live", "--help"], LIVE_HELP),
+    (&["help", "help"], HELP_HELP),
+    (&["help", "tree"], TREE_HELP),
     (&["--help"], HELP),
     (&["--version"], "usbplan 0.2.0\n"),
 ];

@@ -1,0 +1,145 @@
+# shellcheck shell=bash disable=SC2154,SC2071
+# What `usbplan` answers to words alone while no program is built: help, version and wrong words, as the program itself
+# answers them. The texts of help are those of docs/help. The caller sets `here`, the top of the checkout.
+
+help=$here/docs/help
+
+# Writes a text of help, and ends as the program does.
+tell_help() {
+  cat "$help/$1.txt" || exit 4
+  exit 2
+}
+
+# Tells what is wrong with the words, how they go if a command is given, and ends.
+refuse_words() {
+  local what=$1 usage=${2-}
+  printf 'error: %s\n\n' "$what" >&2
+  [ -z "$usage" ] || printf '%s\n\n' "$usage" >&2
+  echo "For more information, try '--help'." >&2
+  exit 2
+}
+
+# How the words of a command go, as its help has it.
+usage_of() {
+  grep -m 1 '^Usage: ' "$help/$1.txt"
+}
+
+# Ends with the help that `help NAME..` asks for.
+help_with() {
+  [ $# -gt 0 ] || tell_help usbplan
+  is_command "$1" || [ "$1" = help ] || refuse_words "unrecognized subcommand '$1'" "$(usage_of usbplan)"
+  [ $# = 1 ] || refuse_words "unrecognized subcommand '$2'" "$(usage_of "$1")"
+  tell_help "$1"
+}
+
+is_command() {
+  [[ "$1" =~ ^(packet|check|tree|draw|run|pcap|device|far|live)$ ]]
+}
+
+# Ends where the value of an option is not one: a number of 64 bits, of `--ports` 1 to 7.
+check_value() {
+  local option=$1 value=$2 number why=
+  number=$(sed 's/^+//; s/^0*\([0-9]\)/\1/' <<<"$value")
+  if [ -z "$value" ]; then
+    why="cannot parse integer from empty string"
+  elif [[ ! "$number" =~ ^[0-9]+$ ]]; then
+    why="invalid digit found in string"
+  elif [ ${#number} -gt 20 ] || { [ ${#number} = 20 ] && [[ "$number" > 18446744073709551615 ]]; }; then
+    why="number too large to fit in target type"
+  elif [ "$option" = --ports ] && [[ ! "$number" =~ ^[1-7]$ ]]; then
+    why="$number is not in 1..=7"
+  fi
+  [ -z "$why" ] || refuse_words "invalid value '$value' for '$option <N>': $why"
+}
+
+# Tells that a command has no such option, and ends.
+refuse_option() {
+  local what="unexpected argument '$2' found"
+  [ "$1" = live ] || what+=$'\n\n'"  tip: to pass '$2' as a value, use '-- $2'"
+  refuse_words "$what" "$(usage_of "$1")"
+}
+
+# Ends where an option is given once more. Keeps in `given` how the option goes.
+check_option() {
+  local command=$1 option=$2
+  [ -z "$given" ] || refuse_words "the argument '$option' cannot be used multiple times" "$(usage_of "$command")"
+  given=$option
+}
+
+# Ends where a command's words are more than it has names for.
+check_room() {
+  local command=$1
+  shift
+  [ $# -le ${#names[@]} ] || {
+    shift ${#names[@]}
+    refuse_words "unexpected argument '$1' found" "$(usage_of "$command")"
+  }
+}
+
+# Ends where a command's words lack one.
+check_count() {
+  local command=$1 missing='' name
+  shift
+  for name in "${names[@]:$#}"; do
+    missing+=$'\n'"  $name"
+  done
+  [ -z "$missing" ] ||
+    refuse_words "the following required arguments were not provided:$missing" \
+      "$(usage_of "$command" | sed "s/\[OPTIONS\]/$given/; s/  / /")"
+}
+
+# Answers the words of a command where they ask for help or are wrong.
+check_command() {
+  local command=$1 given='' words=() names
+  mapfile -t names < <(sed -n 's/^  \(<[A-Z]*>\)  .*/\1/p' "$help/$1.txt")
+  shift
+  while [ $# -gt 0 ]; do
+    case "$command:$1" in
+      *:--)
+        shift
+        words+=("$@")
+        break
+        ;;
+      *:-h | *:--help) tell_help "$command" ;;
+      draw:--ascii) check_option draw --ascii ;;
+      device:--ports | live:--limit)
+        check_option "$command" "$1 <N>"
+        [[ $# -gt 1 && ! "$2" =~ ^(-h|--help|$1)$ ]] ||
+          refuse_words "a value is required for '$1 <N>' but none was supplied"
+        [[ "$2" != -?* ]] || refuse_option "$command" "$2"
+        check_value "$1" "$2"
+        shift
+        ;;
+      device:--ports=* | live:--limit=*)
+        check_option "$command" "${1%%=*} <N>"
+        check_value "${1%%=*}" "${1#*=}"
+        ;;
+      *:-?*) refuse_option "$command" "$1" ;;
+      *)
+        words+=("$1")
+        check_room "$command" "${words[@]}"
+        ;;
+    esac
+    shift
+  done
+  check_room "$command" "${words[@]}"
+  check_count "$command" "${words[@]}"
+}
+
+# Answers words that ask for no work of the program.
+answer_words() {
+  case "${1-}" in
+    '') ;;
+    -h | --help) tell_help usbplan ;;
+    -V | --version)
+      printf 'usbplan %s (%s)\n' "$(sed -n 's/^const VERSION: &str = "\(.*\)";/\1/p' "$here/crates/usb_words/src/words.rt")" "not built yet"
+      exit 2
+      ;;
+    help) shift && help_with "$@" ;;
+    -*) refuse_words "unexpected argument '$1' found" "$(usage_of usbplan)" ;;
+    *)
+      is_command "$1" || refuse_words "unrecognized subcommand '$1'" "$(usage_of usbplan)"
+      check_command "$@"
+      ;;
+  esac
+}
