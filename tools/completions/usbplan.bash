@@ -1,0 +1,31 @@
+# bash completion for usbplan
+_usbplan() {
+  local word=${COMP_WORDS[COMP_CWORD]} before=${COMP_WORDS[COMP_CWORD - 1]} options='--help'
+  COMPREPLY=()
+  if [ "$COMP_CWORD" = 1 ]; then
+    mapfile -t COMPREPLY < <(compgen -W 'packet check tree draw run pcap device far live help --help --version' -- "$word")
+    return
+  fi
+  case "${COMP_WORDS[1]}" in
+    help)
+      mapfile -t COMPREPLY < <(compgen -W 'packet check tree draw run pcap device far live help' -- "$word")
+      return
+      ;;
+    draw) options='--ascii --help' ;;
+    device) options='--ports --help' ;;
+    live) options='--limit --help' ;;
+  esac
+  case "$before" in
+    --ports) mapfile -t COMPREPLY < <(compgen -W '1 2 3 4 5 6 7' -- "$word") ;;
+    --limit) ;;
+    *)
+      if [[ "$word" == -* ]]; then
+        mapfile -t COMPREPLY < <(compgen -W "$options" -- "$word")
+      else
+        compopt -o filenames 2>/dev/null
+        mapfile -t COMPREPLY < <(compgen -f -- "$word")
+      fi
+      ;;
+  esac
+}
+complete -F _usbplan usbplan
