@@ -8,20 +8,18 @@ use Rattle.usb_hub.specs.{ToldBus, done_or_unknown, EndsAfter}
 -- where the bus gave up, it tells its fault
 pub told_bus : {A : Type 0} (least : ℕ) (old : World) (answer : Result A PipeFault)
     (fault : PipeFault) (new : World) → EndsAfter least old answer new → answer ≡ Err fault
-    → ToldBus (done_or_unknown (Err fault)) new
+    → ToldBus (Err fault) new
 told_bus least old (Ok x) fault new ends is told e = absurd (cc is)
-told_bus least old (Err why) (Bus given) new ends is told e =
-    let same : why ≡ Bus given = cc is in
-    let as_told : given ≡ told = cc e in
-    subst (λ (f : BusFault). HasFault f new) as_told
-    (subst (λ (f : PipeFault). FaultAfter 1 old f new) same ends)
-told_bus least old (Err why) fault new ends is told e = absurd (cc e)
+told_bus least old (Err why) fault new ends is told e =
+    let same : why ≡ Bus told = cc (is, e) in
+    subst (λ (f : PipeFault). FaultAfter 1 old f new) same ends
 
 pub told_done : (least : ℕ) (old : World) (answer : Result (Unit {0}) PipeFault) (new : World)
     → EndsAfter least old answer new → ToldBus (done_or_unknown answer) new
 told_done least old (Ok done) new ends told e = absurd (cc e)
-told_done least old (Err fault) new ends told e =
-    told_bus {A = Unit {0}} least old (Err fault) fault new ends refl told e
+told_done least old (Err (Bus given)) new ends told e =
+    told_bus {A = Unit {0}} least old (Err (Bus given)) (Bus given) new ends refl told e
+told_done least old (Err fault) new ends told e = absurd (cc e)
 
 -- and any other fault came after as many attempts
 pub done_fault_after : (least : ℕ) (old : World) (answer : Result (Unit {0}) PipeFault)

@@ -92,8 +92,7 @@ reported_works false hub feature result old new cleared sound none =
 pub hub_change_works : (hub : Target) (result : Result (Unit {0}) PipeFault) (old new : World)
     → ClearsOfHub hub old result new → WorksAfter result old new
 hub_change_works hub result old new (not_told fault read is) sound none =
-    failed_works (Unit {0}) 1 fault old new read.ends
-    (known_sound (Err fault) (subst IsNoBusFault is sound)) none
+    failed_works (Unit {0}) 1 fault old new read.ends (subst IsNoBusFault is sound) none
 hub_change_works hub result old new (told status mid read clears) sound none =
     by_each clears (ended_works 3 (Ok status) old mid read.ends tt none)
   where

@@ -1,5 +1,5 @@
--- What clears changes that ask for nothing else. A hub that does not know a feature answers STALL,
--- and has no such change.
+-- What clears changes that ask for nothing else. A hub that does not know a feature answers STALL
+-- to its clearing, and has no such change; the status each hub has to know.
 use Rattle.std.specs.Prelude.{◌≡◌, ℕ, List, Bool, true, false, slice_index, Result, Ok, Err}
 use Rattle.usb_request.specs.{C_HUB_LOCAL_POWER, C_HUB_OVER_CURRENT, Setup, get_hub_status}
 use Rattle.usb_request.specs.{clear_hub_feature, clear_port_feature}
@@ -64,11 +64,12 @@ pub data ClearsEach (status : HubStatus) (hub : Target) (old : World)
       → ClearsIfReported status.over_current_changed hub C_HUB_OVER_CURRENT mid result new
       → ClearsEach status hub old result new
 
--- a hub was asked for its status, and each change that it told was cleared
+-- a hub was asked for its status, and each change that it told was cleared; where it told none, that
+-- is the fault, also a STALL
 pub data ClearsOfHub (hub : Target) (old : World) (result : Result (Unit {0}) PipeFault)
     (new : World) : Type 0 where
   not_told : (fault : PipeFault) → ReadAs hub_status hub get_hub_status old (Err fault) new
-      → result ≡ done_or_unknown (Err fault) → ClearsOfHub hub old result new
+      → result ≡ Err fault → ClearsOfHub hub old result new
   told : (status : HubStatus) (mid : World)
       → ReadAs hub_status hub get_hub_status old (Ok status) mid
       → ClearsEach status hub mid result new → ClearsOfHub hub old result new

@@ -50,7 +50,8 @@ pub fn clear_port_change<B: Bus>(bus: &mut B, port: HubPort, feature: u16) -> Re
 ///
 /// # Errors
 ///
-/// Those of `control_in` and `control_none` but `Stalled`.
+/// Those of `control_in`, and `Stalled` where the status is not four bytes long: each hub has to
+/// give its status (11.24.2.6). Of a clearing those of `control_none` but `Stalled`.
 #[tactic(auto, using(usb_address::proofs::Interface::keeps_then, usb_bus::proofs::Interface::went_wider))]
 pub fn clear_hub_changes<B: Bus>(alloc: Global, bus: &mut B, hub: Target) -> Result<(), PipeFault>
     requires { IsTarget hub }
@@ -66,7 +67,7 @@ pub fn clear_hub_changes<B: Bus>(alloc: Global, bus: &mut B, hub: Target) -> Res
 {
     match own_status(alloc, bus, hub) {
         Ok(status) => clear_each(bus, hub, status),
-        Err(fault) => done_or_unknown(Err(fault)),
+        Err(fault) => Err(fault),
     }
 }
 

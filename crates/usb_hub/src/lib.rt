@@ -41,7 +41,8 @@
 //!   the course of `set_port`: within its count at a hub's port and with PORT_RESET at a root port, where PORT_POWER
 //!   may set a change of connection.
 //! - `clear_port_change`, `clear_hub_changes`: the requests were made, just for the changes that were told, and keep
-//!   all addresses; a STALL of one counts as done (`Clears`, `ClearsOfHub`).
+//!   all addresses; a STALL of a clearing counts as done, one of the hub's status is told (`ClearsOfPort`,
+//!   `ClearsOfHub`).
 //! - Calls at a hub's port fail only where three attempts running are damaged, or the hub is not reached, does not hear
 //!   its target, is not configured or has no such port (`HubServes`, `usb_hub/specs/CallFailures.antt`).
 //! - But for PORT_RESET, a call at a port leaves each device that is still reachable as it was, but for where its

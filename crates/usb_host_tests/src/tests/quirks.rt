@@ -1,5 +1,5 @@
-//! A hub with one device, which is listed, tells a change; the host clears it, or drops a hub that does not, and comes
-//! to rest.
+//! A hub with one device, which is listed, tells a change; the host clears it, or drops a hub that does not or refuses
+//! its status, and comes to rest. A device at another port stays listed.
 mod quirk;
 
 use quirk::{QuirkBus, Told};
@@ -9,7 +9,7 @@ use usb_enum::Finding;
 use usb_host::{Host, Round};
 use usb_port::PortPath;
 use usb_sim::{SimBus, Tracer};
-use usb_testbus::{bus_of, plan_text};
+use usb_testbus::bus_of;
 
 /// A hub of two ports that powers itself, and a function at its first port.
 pub(crate) const PLAN: &str = "[[device]]
@@ -35,6 +35,14 @@ device = \"fn\"
 after = 0
 ";
 
+/// A second such function at the other root port.
+const BESIDE: &str = "[[event]]
+do = \"plug\"
+path = \"2\"
+device = \"fn\"
+after = 0
+";
+
 struct Row {
     about: &'static str,
     tells: Told,
@@ -42,11 +50,14 @@ struct Row {
     told: &'static str,
 }
 
-/// Both devices are listed; the change was cleared, and the port passes packets on.
-const CLEARED: &str = "quiet, 1 device, 1.1 device; cleared 1, disabled false";
+/// All devices are listed; the change was cleared, and the port passes packets on.
+const CLEARED: &str = "quiet, 1 device, 1.1 device, 2 device; cleared 1, disabled false";
 
 /// The hub is dropped behind one try.
-const DROPPED: &str = "quiet, 1 lost; cleared 1, disabled false";
+const DROPPED: &str = "quiet, 1 lost, 2 device; cleared 1, disabled false";
+
+/// The hub is dropped with no try.
+const REFUSED: &str = "quiet, 1 lost, 2 device; cleared 0, disabled false";
 
 const ROWS: &[Row] = &[
     Row {
@@ -79,10 +90,15 @@ const ROWS: &[Row] = &[
         tells: Told::Stuck,
         told: DROPPED,
     },
+    Row {
+        about: "bit 0 of the status change, and GetHubStatus is answered by STALL",
+        tells: Told::Refused,
+        told: REFUSED,
+    },
 ];
 
-/// Before it both devices are listed.
-const BEFORE: &str = "quiet, 1 device, 1.1 device; ";
+/// Before it all devices are listed.
+const BEFORE: &str = "quiet, 1 device, 1.1 device, 2 device; ";
 
 type TestHost = Host<QuirkBus<SimBus<Tracer<Vec<u8>>>>>;
 
@@ -116,10 +132,11 @@ fn put_settled(text: &mut String, host: &mut TestHost) -> Result<(), Fail> {
 
 /// What is told before the change and after it, how often it was cleared, and whether the port is disabled at last.
 fn told(alloc: Global, row: &Row) -> Result<String, Fail> {
-    let plan = plan_text(alloc, 100_000, &[PLAN])?;
+    let plan = format!(in alloc; "limit = 100000\nroots = 2\n{PLAN}{BESIDE}")?;
     let mut bus = bus_of(alloc, plan.as_str())?;
-    bus.apply_next_event()?;
-    bus.apply_next_event()?;
+    for _ in 0..3 {
+        bus.apply_next_event()?;
+    }
     let mut host = Host::new(alloc, QuirkBus::new(bus));
     let mut text = String::new(alloc);
     put_settled(&mut text, &mut host)?;

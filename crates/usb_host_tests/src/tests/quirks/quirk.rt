@@ -28,6 +28,8 @@ pub(super) enum Told {
     Port(u8),
     /// Of the hub itself (11.24.2.6).
     Hub(u8),
+    /// Of the hub itself, which refuses its status.
+    Refused,
     /// Of the connection of port 1, and no clearing takes it away.
     Stuck,
 }
@@ -37,7 +39,7 @@ impl Told {
     fn bits(self) -> u8 {
         match self {
             Told::Port(_) | Told::Stuck => 2,
-            Told::Hub(_) => 1,
+            Told::Hub(_) | Told::Refused => 1,
         }
     }
 
@@ -47,7 +49,7 @@ impl Told {
             Told::Port(17) | Told::Hub(1) => 2,
             Told::Port(18) => 4,
             Told::Port(19) => 8,
-            Told::Port(_) | Told::Hub(_) | Told::Stuck => 1,
+            Told::Port(_) | Told::Hub(_) | Told::Refused | Told::Stuck => 1,
         }
     }
 
@@ -56,6 +58,7 @@ impl Told {
         match self {
             Told::Port(feature) => [0x23, 1, feature, 0, 1, 0, 0, 0],
             Told::Hub(feature) => [0x20, 1, feature, 0, 0, 0, 0, 0],
+            Told::Refused => [0x20, 1, 0, 0, 0, 0, 0, 0],
             Told::Stuck => [0x23, 1, 16, 0, 1, 0, 0, 0],
         }
     }
@@ -70,6 +73,8 @@ enum Answers {
     WithChange,
     /// This bus, with the status of the hub.
     HubStatus,
+    /// This bus, with a STALL.
+    Stalls,
     /// This bus, as it clears the change.
     Clears,
 }
@@ -143,7 +148,10 @@ impl<B: Bus> QuirkBus<B> {
     /// Who answers these setup data.
     fn answers(&self, setup: &[u8]) -> Answers {
         if setup == HUB_STATUS.as_slice() {
-            return Answers::HubStatus;
+            return match self.told {
+                Some(Told::Refused) => Answers::Stalls,
+                _ => Answers::HubStatus,
+            };
         }
         if setup == PORT_STATUS.as_slice() {
             return Answers::WithChange;
@@ -166,7 +174,7 @@ impl<B: Bus> QuirkBus<B> {
         }
         match self.answers {
             Answers::Below | Answers::WithChange => self.bus.attempt(attempt),
-            Answers::HubStatus | Answers::Clears => Ok(Outcome::Ack),
+            Answers::HubStatus | Answers::Stalls | Answers::Clears => Ok(Outcome::Ack),
         }
     }
 
@@ -187,6 +195,7 @@ impl<B: Bus> QuirkBus<B> {
                 Ok(self.with_change(outcome))
             }
             Answers::HubStatus => Ok(packet(Toggle::One, &[0, 0, change, 0])),
+            Answers::Stalls => Ok(Outcome::Stall),
             Answers::Clears => {
                 if self.told != Some(Told::Stuck) {
                     self.told = None;

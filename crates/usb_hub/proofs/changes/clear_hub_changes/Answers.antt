@@ -1,4 +1,4 @@
-use Rattle.std.proofs.Common.{subst}
+use Rattle.std.proofs.Common.{refl, subst}
 use Rattle.usb_request.specs.{get_hub_status}
 use Rattle.usb_bus.proofs.Interface.{went_then}
 use Rattle.usb_hub.specs.{hub_status, not_told, told, ReadAs}
@@ -7,8 +7,7 @@ use Rattle.usb_hub.proofs.changes.clear_hub_changes.Goals as goal
 
 pub returns-in-Err-clause-fault : goal.returns-in-Err-clause-fault
 returns-in-Err-clause-fault g c known =
-    rw c.done_or_unknown.ensures (told_bus 3 _ c.own_status.result _ _
-    (c.own_status.ensures.told known).ends c.in-Err.is)
+    told_bus 3 _ c.own_status.result _ _ (c.own_status.ensures.told known).ends c.in-Err.is
 
 pub returns-in-Ok-clause-cleared : goal.returns-in-Ok-clause-cleared
 returns-in-Ok-clause-cleared g c known =
@@ -21,7 +20,7 @@ pub returns-in-Err-clause-cleared : goal.returns-in-Err-clause-cleared
 returns-in-Err-clause-cleared g c known =
     not_told c.in-Err.fault (subst (λ r. ReadAs hub_status c.args.hub get_hub_status
     (g.B.Bus.world c.args.bus.now) r (g.B.Bus.world c.own_status.new.bus)) c.in-Err.is
-    (c.own_status.ensures.told known)) c.done_or_unknown.ensures
+    (c.own_status.ensures.told known)) refl
 
 pub returns-in-Ok-clause-steps : goal.returns-in-Ok-clause-steps
 returns-in-Ok-clause-steps g c known = went_then _ _ (c.own_status.ensures.steps known)
