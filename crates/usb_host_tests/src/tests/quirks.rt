@@ -1,5 +1,6 @@
 //! A hub with one device, which is listed, tells a change; the host clears it, or drops a hub that does not, and comes
-//! to rest.
+//! to rest. It does so too where a root port tells a change for good.
+mod held;
 mod quirk;
 
 use quirk::{QuirkBus, Told};
