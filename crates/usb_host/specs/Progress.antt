@@ -1,10 +1,11 @@
 -- That a round gets on.
-use Rattle.std.specs.Prelude.{◌≡◌, ℕ, ◌+◌, ◌*◌, ◌<◌, ◌≤◌, Result, IfOk}
+use Rattle.std.specs.Prelude.{◌≡◌, ℕ, ◌+◌, ◌*◌, ◌<◌, ◌≤◌, Bool, true, Result, IfOk}
 use Rattle.std.specs.List.{count_by}
 use Rattle.usb_world.specs.{root_row, changes}
 use Rattle.usb_bus.specs.{StepRun}
 use Rattle.usb_table.specs.{Entries, is_waiting}
 use Rattle.usb_host.specs.HostStates.{HostState, work}
+use Rattle.usb_host.specs.LeftPorts.{LeavesNoMore}
 use Rattle.usb_host.specs.Ownership.{IsRooted}
 use Rattle.usb_host.specs.declared.fault.HostFault.{HostFault}
 use Rattle.usb_host.specs.declared.host.Round.{Round}
@@ -33,6 +34,11 @@ abbrev pub OnlyBusSteps : HostState → HostState → Type 0
 OnlyBusSteps old new =
     new ≡ record old { world = new.world; trace = new.trace; counts = new.counts }
 
+-- nothing has changed but which root ports are left alone, and of a modelled bus none is
+pub record OnlyLeaves (modelled : Bool) (old new : HostState) : Type 0 where
+  pub only : new ≡ record old { counts = record old.counts { left = new.counts.left } }
+  pub none : modelled ≡ true → new ≡ old
+
 -- nothing that is known of the ports has changed; hubs may have been polled
 abbrev pub Remains : HostState → HostState → Type 0
 Remains old new = new ≡ record old {
@@ -55,9 +61,14 @@ pub record HostRuns (most : ℕ) (old new : HostState) : Type 0 where
   pub went : HostSteps most old new
   pub going : new.stopped ≡ old.stopped
 
--- over any bus: a part of a round that is quiet changed no entry
+-- no entry has changed, and no more root ports are left alone
+pub record StaysQuiet (old new : HostState) : Type 0 where
+  pub entries : new.entries ≡ old.entries
+  pub left : LeavesNoMore old.counts.left new.counts.left
+
+-- over any bus: so it is behind a part of a round that is quiet
 abbrev pub QuietKeeps : Result Round HostFault → HostState → HostState → Type 0
-QuietKeeps result old new = IfOk result (λ round. round ≡ Quiet → new.entries ≡ old.entries)
+QuietKeeps result old new = IfOk result (λ round. round ≡ Quiet → StaysQuiet old new)
 
 -- what a part of a round did
 abbrev pub Did : Round → HostState → HostState → Type 0

@@ -2,13 +2,14 @@
 ghost use Rattle.std.specs.Prelude.{◌≡◌, ◌*◌, [], length, true, false, IfOk, IfErr};
 ghost use Rattle.std.specs.Borrow.{Lends, sem};
 ghost use Rattle.usb_host.specs.Agreement.{Agrees};
-ghost use Rattle.usb_host.specs.HostCalls.{ClearTells, NewTells, ReceiveTells, RoundTells, SendTells};
+ghost use Rattle.usb_host.specs.HostCalls.{ClearTells, NewTells, ReceiveTells, RoundTells, RoundsAnyBus, SendTells, TransfersAnyBus};
 ghost use Rattle.usb_transaction.specs.Transactions.{transaction_bound};
-ghost use Rattle.usb_host.specs.Bounds.{clear_bound, round_bound};
+ghost use Rattle.usb_host.specs.Bounds.{clear_bound};
 ghost use Rattle.usb_host.specs.HostStates.{counts_after, counts_of};
-ghost use Rattle.usb_host.specs.Progress.{HostSpends, QuietKeeps};
-ghost use Rattle.usb_host.specs.ToldFaults.{IsReportedLast, StopsAsRound, StopsAsTransfer, host_told, is_final};
+ghost use Rattle.usb_host.specs.LeftPorts.{none_left};
+ghost use Rattle.usb_host.specs.ToldFaults.{StopsAsRound, StopsAsTransfer, host_told, is_final};
 
+use crate::left::LeftPorts;
 use crate::{HostFault, Tree};
 use std::alloc::Global;
 use std::marker::Model;
@@ -23,7 +24,8 @@ use usb_table::{DeviceTable, TableFault};
 pub enum Round {
     /// A port was handled, a hub told of a change, or one was dropped.
     Worked,
-    /// No root port had changed, and every hub answered that none of its ports had.
+    /// No root port had changed, but those that are left alone (`Host::round`), and every hub answered
+    /// that none of its ports had.
     Quiet,
 }
 
@@ -34,6 +36,7 @@ pub struct Host<B: Bus> {
     pub(crate) bus: B,
     pub(crate) pool: AddressPool,
     pub(crate) table: DeviceTable,
+    pub(crate) left: LeftPorts<B>,
     stopped: bool,
 }
 
@@ -52,7 +55,7 @@ impl<B: Bus> Model for Host<B> {
     ghost view = { λ h. record {
       world = B.world h.bus;
       trace = B.trace h.bus;
-      counts = counts_of B.modelled (B.spent h.bus) (B.failed h.bus);
+      counts = counts_of B.modelled (B.spent h.bus) (B.failed h.bus) h.left;
       entries = h.table.entries;
       pipes = h.table.pipes;
       addresses = h.pool;
@@ -69,7 +72,8 @@ impl<B: Bus> Host<B> {
     /// it again (11.24.2.2, 11.24.2.13): a device there is disabled, and told as plugged (11.5.1). So
     /// the bus may be one that another host had, also one that has stopped (`into_bus`).
     pub fn new(alloc: Global, bus: B) -> Host<B>
-        ensures any_bus { (result.entries ≡ []) × (result.stopped ≡ false) }
+        ensures any_bus { (result.entries ≡ []) × ((result.stopped ≡ false)
+            × (result.counts.left ≡ none_left)) }
         ensures tells { B.modelled ≡ true → NewTells (B.world bus) (B.trace bus) result }
     {
         let mut bus = bus;
@@ -83,6 +87,7 @@ impl<B: Bus> Host<B> {
             bus,
             pool: AddressPool::new(),
             table: DeviceTable::new(alloc),
+            left: LeftPorts::new(),
             stopped: false,
         }
     }
@@ -92,7 +97,8 @@ impl<B: Bus> Host<B> {
         ensures world { B.world result.now ≡ self.now.world }
         ensures trace { B.trace result.now ≡ self.now.trace }
         ensures counts { self.now.counts
-            ≡ counts_of B.modelled (B.spent result.now) (B.failed result.now) }
+            ≡ counts_of B.modelled (B.spent result.now) (B.failed result.now)
+            self.now.counts.left }
     {
         &self.bus
     }
@@ -118,13 +124,15 @@ impl<B: Bus> Host<B> {
     pub fn into_bus(self) -> B
         ensures world { B.world result ≡ self.world }
         ensures trace { B.trace result ≡ self.trace }
-        ensures counts { self.counts ≡ counts_of B.modelled (B.spent result) (B.failed result) }
+        ensures counts { self.counts
+            ≡ counts_of B.modelled (B.spent result) (B.failed result) self.counts.left }
     {
         let Host {
             alloc: _,
             bus,
             pool: _,
             table: _,
+            left: _,
             stopped: _,
         } = self;
         bus
@@ -152,6 +160,10 @@ impl<B: Bus> Host<B> {
     /// forgotten. So is one whose port is enabled and still tells the change of connection that was
     /// just cleared.
     ///
+    /// A root port that does so is handled once: what is there is found and stays listed. Then it is
+    /// left alone as long as it shows the status (11.24.2.7) that it shows behind that, each bit of
+    /// it, and counts as one without a change.
+    ///
     /// # Errors
     ///
     /// `Stopped` where an earlier call failed, and nothing happens. `Bus` where the bus makes no
@@ -159,9 +171,7 @@ impl<B: Bus> Host<B> {
     /// up to one port or hub were done. Nothing is entered there, and at most what was known there, or
     /// at a hub on its way, and below it is forgotten.
     pub fn round(&mut self) -> Result<Round, HostFault>
-        ensures any_bus { HostSpends round_bound self.old self.new × (B.modelled ≡ false
-            → IfErr result (λ fault. IsReportedLast fault self.new.counts.failed))
-            × QuietKeeps result self.old self.new }
+        ensures any_bus { RoundsAnyBus B.modelled self.old result self.new }
         ensures stopped { StopsAsRound self.old result self.new }
         ensures tells { B.modelled ≡ true → RoundTells self.old result self.new }
     {
@@ -182,9 +192,8 @@ impl<B: Bus> Host<B> {
     /// accepted is at the path, with `NoEndpoint` where it has no such endpoint or is a hub, else as
     /// `BulkPipe::send` tells it. `Bus` where the bus makes no more steps; the host then stops.
     pub fn send(&mut self, path: &PortPath, bytes: &[u8]) -> Result<(), HostFault>
-        ensures any_bus { HostSpends (transaction_bound * length bytes.now) self.old self.new
-            × (B.modelled ≡ false
-            → IfErr result (λ fault. IsReportedLast fault self.new.counts.failed)) }
+        ensures any_bus { TransfersAnyBus B.modelled (transaction_bound * length bytes.now)
+            self.old result self.new }
         ensures stopped { StopsAsTransfer self.old result self.new }
         ensures tells { B.modelled ≡ true → SendTells path.now bytes.now self.old result self.new }
     {
@@ -203,9 +212,8 @@ impl<B: Bus> Host<B> {
     ///
     /// As those of `send`, and `Memory` where the bytes find no room; the host then stops.
     pub fn receive(&mut self, path: &PortPath, packets: u16) -> Result<Vec<u8>, HostFault>
-        ensures any_bus { HostSpends (transaction_bound * packets) self.old self.new
-            × (B.modelled ≡ false
-            → IfErr result (λ fault. IsReportedLast fault self.new.counts.failed)) }
+        ensures any_bus { TransfersAnyBus B.modelled (transaction_bound * packets)
+            self.old result self.new }
         ensures stopped { StopsAsTransfer self.old result self.new }
         ensures tells { B.modelled ≡ true → ReceiveTells path.now packets self.old result self.new }
     {
@@ -224,9 +232,7 @@ impl<B: Bus> Host<B> {
     ///
     /// As those of `send`; `NoEndpoint` where the device has neither endpoint.
     pub fn clear_halt(&mut self, path: &PortPath) -> Result<(), HostFault>
-        ensures any_bus { HostSpends clear_bound self.old self.new
-            × (B.modelled ≡ false
-            → IfErr result (λ fault. IsReportedLast fault self.new.counts.failed)) }
+        ensures any_bus { TransfersAnyBus B.modelled clear_bound self.old result self.new }
         ensures stopped { StopsAsTransfer self.old result self.new }
         ensures tells { B.modelled ≡ true → ClearTells path.now self.old result self.new }
     {

@@ -5,11 +5,12 @@ use Rattle.usb_host.proofs.rests.RestingRounds.{next_listed}
 use Rattle.usb_host.proofs.RoundLoops.{hubs_begin, hubs_cut, hubs_all_handled, hubs_handled}
 use Rattle.usb_host.proofs.StepSums.{either_quiet}
 use Rattle.std.proofs.Common.{◌∙◌, sym}
+use Rattle.usb_host.proofs.LeftRoots.{quiet_none, quiet_then}
 use Rattle.usb_host.proofs.host.Host.serve_hubs.Goals as goal
 
 pub hubs-init : goal.hubs-init
 hubs-init g c = record {
-  quiet = λ is. refl;
+  quiet = λ is. quiet_none _;
   spends = omega arith;
   so = λ known. hubs_begin _;
   idle = λ none. (refl, refl);
@@ -22,38 +23,38 @@ serve_hub-requires g c = next_listed c.in-Some.ensures.some
 
 pub hubs-smaller : goal.hubs-smaller
 hubs-smaller g c =
-    let rises = rank_rises c.hubs.last c.in-Some.hub c.hubs.invariant.path c.serve_hub.ensures.path
+    let rises = rank_rises c.hubs.last c.in-Some.hub c.hubs.invariant.path c.numbers-numbers.ensures.path
     c.in-Some.ensures.some.stands.after in
-    omega (arith, rank_most c.in-Some.hub c.serve_hub.ensures.path)
+    omega (arith, rank_most c.in-Some.hub c.numbers-numbers.ensures.path)
 
 pub hubs-preserved : goal.hubs-preserved
 hubs-preserved g c =
     let i = c.hubs.invariant in
     let next = c.in-Some.ensures.some in
-    let rises = rank_rises c.hubs.last c.in-Some.hub i.path c.serve_hub.ensures.path
+    let rises = rank_rises c.hubs.last c.in-Some.hub i.path c.numbers-numbers.ensures.path
     c.in-Some.ensures.some.stands.after in
     record {
       quiet = λ is.
           let both = either_quiet _ _ (sym c.and-round.ensures ∙ is) in
-          c.in_ok-serve_hub.ensures.quiet both.1 ∙ i.quiet both.0;
+          quiet_then (i.quiet both.0) (c.in_ok-serve_hub.ensures.quiet both.1);
       spends = omega (
         arith,
         i.spends,
         rises,
-        rank_most c.in-Some.hub c.serve_hub.ensures.path,
+        rank_most c.in-Some.hub c.numbers-numbers.ensures.path,
         c.serve_hub.ensures.spends,
       );
       so = λ known. rw c.and-round.ensures (hubs_handled (i.so known) i.path
-          c.serve_hub.ensures.path next (c.in_ok-serve_hub.ensures.polls known));
+          c.numbers-numbers.ensures.path next (c.in_ok-serve_hub.ensures.polls known));
       idle = λ none. absurd (none_next (i.idle none).1 none next);
-      path = c.serve_hub.ensures.path;
+      path = c.numbers-numbers.ensures.path;
       works = λ known none. c.in_ok-serve_hub.ensures.works known (i.works known none);
     }
 
 pub returns-in_err-serve_hub-clause-hubs : goal.returns-in_err-serve_hub-clause-hubs
 returns-in_err-serve_hub-clause-hubs g c known =
     let i = c.hubs.invariant in
-    hubs_cut (i.so known) i.path c.serve_hub.ensures.path c.in-Some.ensures.some (i.works known)
+    hubs_cut (i.so known) i.path c.numbers-numbers.ensures.path c.in-Some.ensures.some (i.works known)
     c.from_residual.ensures.0 (c.in_err-serve_hub.ensures.polls known) (λ none. (i.idle none).1)
 
 pub returns-clause-hubs : goal.returns-clause-hubs
@@ -64,13 +65,13 @@ returns-clause-hubs g c known =
 
 pub returns-in_err-serve_hub-clause-spends : goal.returns-in_err-serve_hub-clause-spends
 returns-in_err-serve_hub-clause-spends g c =
-    let rises = rank_rises c.hubs.last c.in-Some.hub c.hubs.invariant.path c.serve_hub.ensures.path
+    let rises = rank_rises c.hubs.last c.in-Some.hub c.hubs.invariant.path c.numbers-numbers.ensures.path
     c.in-Some.ensures.some.stands.after in
     omega (
       arith,
       c.hubs.invariant.spends,
       rises,
-      rank_most c.in-Some.hub c.serve_hub.ensures.path,
+      rank_most c.in-Some.hub c.numbers-numbers.ensures.path,
       c.serve_hub.ensures.spends,
     )
 
