@@ -115,22 +115,22 @@ pub(crate) fn exchange_along(
     path: &[u8],
     port: u8,
     attempt: &Attempt,
-    damage: Option<Damage>,
+    damage: &Option<Damage>,
     exchange: &mut Exchange,
 ) -> Result<bool, AllocError>
     requires attempt { IsAttempt (attempt_data attempt.now) }
-    requires alone { AloneAt (token_out (attempt_data attempt.now) damage) roots.old path.now }
+    requires alone { AloneAt (token_out (attempt_data attempt.now) damage.now) roots.old path.now }
     ensures plugged { StaysPlugged roots.old roots.new }
     ensures settled { IsSettled roots.new }
-    ensures made { OnOk result (Exchanged (attempt_data attempt.now) damage roots.old roots.new
+    ensures made { OnOk result (Exchanged (attempt_data attempt.now) damage.now roots.old roots.new
         exchange.new) }
-    ensures cut { OnErr result (IsCut (attempt_data attempt.now) damage roots.old roots.new) }
+    ensures cut { OnErr result (IsCut (attempt_data attempt.now) damage.now roots.old roots.new) }
     ensures kept { IfOk result (λ kept. kept ≡ true
         → KeptAt (attempt_data attempt.now).addr port roots.old roots.new path.now) }
 {
     match damage {
         None if !is_whole(path) => exchange_whole(roots, path, port, attempt, exchange),
-        _ => exchange_by_packets(roots, path, port, attempt, damage, exchange),
+        _ => exchange_by_packets(roots, path, port, attempt, *damage, exchange),
     }
 }
 
@@ -297,12 +297,12 @@ fn send_packets(
 }
 
 /// Makes an attempt that no device hears: the host's token and its data go out, and nothing comes.
-pub(crate) fn make_silence(attempt: &Attempt, damage: Option<Damage>, exchange: &mut Exchange)
+pub(crate) fn make_silence(attempt: &Attempt, damage: &Option<Damage>, exchange: &mut Exchange)
     requires { IsAttempt (attempt_data attempt.now) }
-    ensures { exchange.new ≡ silent_exchange (attempt_data attempt.now) damage }
+    ensures { exchange.new ≡ silent_exchange (attempt_data attempt.now) damage.now }
 {
-    put_token(attempt, damage, &mut exchange.token);
-    put_payload(attempt, damage, &mut exchange.payload);
+    put_token(attempt, *damage, &mut exchange.token);
+    put_payload(attempt, *damage, &mut exchange.payload);
     exchange.answer = ExchangeAnswer::Nothing;
     exchange.answer_mark = Mark::Whole;
     exchange.reply = None;

@@ -36,7 +36,7 @@ pub fn make_exchange_by(
     roots: &mut Ports,
     holders: &mut Holders,
     attempt: &Attempt,
-    damage: Option<Damage>,
+    damage: &Option<Damage>,
     exchange: &mut Exchange,
 ) -> Result<(), AllocError>
     requires attempt { IsAttempt (attempt_data attempt.now) }
@@ -44,9 +44,9 @@ pub fn make_exchange_by(
     requires index { IsIndexOf holders.old roots.old }
     ensures plugged { StaysPlugged roots.old roots.new }
     ensures settled { IsSettled roots.new }
-    ensures made { OnOk result (Exchanged (attempt_data attempt.now) damage roots.old roots.new
+    ensures made { OnOk result (Exchanged (attempt_data attempt.now) damage.now roots.old roots.new
         exchange.new) }
-    ensures cut { OnErr result (IsCut (attempt_data attempt.now) damage roots.old roots.new) }
+    ensures cut { OnErr result (IsCut (attempt_data attempt.now) damage.now roots.old roots.new) }
     ensures index { IsIndexOf holders.new roots.new }
 {
     if let Holder::Nobody = holders.holder(attempt.destination().address) {
@@ -98,7 +98,7 @@ fn exchange_at(
     holders: &mut Holders,
     path: &[u8],
     attempt: &Attempt,
-    damage: Option<Damage>,
+    damage: &Option<Damage>,
     exchange: &mut Exchange,
 ) -> Result<(), AllocError>
     requires attempt { IsAttempt (attempt_data attempt.now) }
@@ -107,9 +107,9 @@ fn exchange_at(
     requires way { IsWayTo (attempt_data attempt.now).addr roots.old path.now }
     ensures plugged { StaysPlugged roots.old roots.new }
     ensures settled { IsSettled roots.new }
-    ensures made { OnOk result (Exchanged (attempt_data attempt.now) damage roots.old roots.new
+    ensures made { OnOk result (Exchanged (attempt_data attempt.now) damage.now roots.old roots.new
         exchange.new) }
-    ensures cut { OnErr result (IsCut (attempt_data attempt.now) damage roots.old roots.new) }
+    ensures cut { OnErr result (IsCut (attempt_data attempt.now) damage.now roots.old roots.new) }
     ensures index { IsIndexOf holders.new roots.new }
 {
     let forgotten = holders.forget(roots, path);
@@ -137,7 +137,7 @@ fn exchange_at_port(
     path: &[u8],
     port: u8,
     attempt: &Attempt,
-    damage: Option<Damage>,
+    damage: &Option<Damage>,
     exchange: &mut Exchange,
 ) -> Result<(), AllocError>
     requires attempt { IsAttempt (attempt_data attempt.now) }
@@ -147,9 +147,9 @@ fn exchange_at_port(
     requires most { length path.now ≤ 8 }
     ensures plugged { StaysPlugged roots.old roots.new }
     ensures settled { IsSettled roots.new }
-    ensures made { OnOk result (Exchanged (attempt_data attempt.now) damage roots.old roots.new
+    ensures made { OnOk result (Exchanged (attempt_data attempt.now) damage.now roots.old roots.new
         exchange.new) }
-    ensures cut { OnErr result (IsCut (attempt_data attempt.now) damage roots.old roots.new) }
+    ensures cut { OnErr result (IsCut (attempt_data attempt.now) damage.now roots.old roots.new) }
     ensures index { IsIndexOf holders.new roots.new }
 {
     let below = below(path, port);

@@ -11,7 +11,7 @@ use Rattle.usb_world.proofs.route.make_exchange_by.Goals as goal
 pub returns-in-Nobody-clause-made : goal.returns-in-Nobody-clause-made
 returns-in-Nobody-clause-made c =
     let n = (attempt_data c.args.attempt.now).addr in
-    silence_made (attempt_data c.args.attempt.now) c.args.damage c.args.roots.now c.requires.settled
+    silence_made (attempt_data c.args.attempt.now) c.args.damage.now c.args.roots.now c.requires.settled
     (nobody_there n c.args.roots.now
     (sym (c.requires.index.0 n (omega (arith, c.requires.attempt.addr_fits)))
     ∙ ap (λ (d : Destination). holder_in c.args.holders.now d.address) (sym c.destination.ensures)
@@ -56,7 +56,7 @@ exchange_along-made-requires c =
     record {
       attempt = c.requires.attempt;
       alone =
-          alone_token (attempt_data c.args.attempt.now) c.args.damage c.args.roots.now
+          alone_token (attempt_data c.args.attempt.now) c.args.damage.now c.args.roots.now
           c.way-way.result.now
           c.requires.settled
           (way_by_index n c.args.roots.now c.args.holders.now c.way-way.result.now
