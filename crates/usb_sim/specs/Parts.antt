@@ -1,7 +1,7 @@
 -- The parts of an attempt of a simulated bus: each event that is due, all of them, and the attempt
 -- behind them.
 use Rattle.std.specs.Prelude.{◌≡◌, ◌≢◌, ℕ, ◌+◌, List, Option, None, Some, Result, Ok, Err, OnOk}
-use Rattle.std.specs.Prelude.{OnErr, IfOk, IfErr, IsSome}
+use Rattle.std.specs.Prelude.{OnErr, IfOk, IfErr, IsSome, true}
 use Rattle.usb_world.specs.{Attempt, BusFault, Limit, Memory, Failed, Outcome, World}
 use Rattle.usb_world.specs.{AnswerFits, AttemptsWithin, to_come, Coming, Left, after, attempt}
 use Rattle.usb_world.specs.{fault_of, outcome_in, at_attempt, after_first_event, with_attempt}
@@ -53,10 +53,11 @@ pub record AttemptMade (a : Attempt) (old : World) (before : Option (List ℕ))
   pub other : IfErr result (λ f. f ≢ Limit)
   pub text : WritesText result before now (step_lines a old new)
 
--- an attempt that was refused at the limit left the trace as it was, and one behind a fault left
--- all
+-- what an attempt that told a fault leaves: at the limit the trace as it was, behind a fault all as
+-- it was, and where it is the first to tell Failed a trace that has failed
 pub record RefusesAttempt {T : Type 0} {g : Ghosts T} (a : Attempt) (old : SimBus T g)
     (result : Result Outcome BusFault) (new : SimBus T g) : Type 0 where
   pub limit : result ≡ Err Limit → (world_of new ≡ after (attempt a) (world_of old))
       × (tracer_of new ≡ tracer_of old)
   pub again : IsSome (world_of old).fault → new ≡ old
+  pub failed : result ≡ Err Failed → (world_of old).fault ≡ None → g.failed (tracer_of new) ≡ true

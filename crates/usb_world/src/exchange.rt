@@ -10,8 +10,9 @@ ghost use Rattle.usb_device.specs.Route.{address_by};
 ghost use Rattle.usb_world.specs.PlainAttempts.{attempt_data};
 ghost use Rattle.usb_world.specs.Worlds.{IsAttempt, FitsMaximum};
 ghost use Rattle.usb_world.specs.Wire.{has_its_bit, marked, marked_some};
-ghost use Rattle.usb_world.specs.declared.wire.Mark.TheVariants.{Flipped};
-ghost use Rattle.usb_world.specs.Exchanges.{ack_if, blank, token_of, payload_of, answer_place, answer_mark, reply_of, outcome_of, goes_out, token_out, payload_out, sent_as, is_lost, clears_at};
+ghost use Rattle.usb_world.specs.declared.wire.Mark.TheVariants.{Flipped, Whole};
+ghost use Rattle.usb_world.specs.declared.exchange.ExchangeAnswer.TheVariants.{One};
+ghost use Rattle.usb_world.specs.Exchanges.{ack_if, blank, token_of, payload_of, answer_place, answer_mark, reply_of, outcome_heard, outcome_of, goes_out, token_out, payload_out, sent_as, is_lost, clears_at};
 ghost use Rattle.usb_tree.specs.AttemptPackets.{IsSettled, after_sent};
 ghost use Rattle.usb_world.specs.ExchangeEffects.{StaysPlugged, PacketWent, PacketsWent, Exchanged};
 ghost use Rattle.usb_world.specs.CutPackets.{IsStopped};
@@ -114,22 +115,22 @@ pub(crate) fn exchange_along(
     path: &[u8],
     port: u8,
     attempt: &Attempt,
-    damage: Option<Damage>,
+    damage: &Option<Damage>,
     exchange: &mut Exchange,
 ) -> Result<bool, AllocError>
     requires attempt { IsAttempt (attempt_data attempt.now) }
-    requires alone { AloneAt (token_out (attempt_data attempt.now) damage) roots.old path.now }
+    requires alone { AloneAt (token_out (attempt_data attempt.now) damage.now) roots.old path.now }
     ensures plugged { StaysPlugged roots.old roots.new }
     ensures settled { IsSettled roots.new }
-    ensures made { OnOk result (Exchanged (attempt_data attempt.now) damage roots.old roots.new
+    ensures made { OnOk result (Exchanged (attempt_data attempt.now) damage.now roots.old roots.new
         exchange.new) }
-    ensures cut { OnErr result (IsCut (attempt_data attempt.now) damage roots.old roots.new) }
+    ensures cut { OnErr result (IsCut (attempt_data attempt.now) damage.now roots.old roots.new) }
     ensures kept { IfOk result (λ kept. kept ≡ true
         → KeptAt (attempt_data attempt.now).addr port roots.old roots.new path.now) }
 {
     match damage {
         None if !is_whole(path) => exchange_whole(roots, path, port, attempt, exchange),
-        _ => exchange_by_packets(roots, path, port, attempt, damage, exchange),
+        _ => exchange_by_packets(roots, path, port, attempt, *damage, exchange),
     }
 }
 
@@ -153,8 +154,8 @@ fn exchange_whole(
     ensures kept { IfOk result (λ kept. kept ≡ true
         → KeptAt (attempt_data attempt.now).addr port roots.old roots.new path.now) }
 {
-    put_token(attempt, None, &mut exchange.token);
-    put_payload(attempt, None, &mut exchange.payload);
+    put_whole_token(attempt, &mut exchange.token);
+    put_whole_payload(attempt, &mut exchange.payload);
     let mut heard = Hearing::nothing();
     let host = host_side(attempt);
     let data = some_goes_out(attempt, &exchange.payload);
@@ -296,12 +297,12 @@ fn send_packets(
 }
 
 /// Makes an attempt that no device hears: the host's token and its data go out, and nothing comes.
-pub(crate) fn make_silence(attempt: &Attempt, damage: Option<Damage>, exchange: &mut Exchange)
+pub(crate) fn make_silence(attempt: &Attempt, damage: &Option<Damage>, exchange: &mut Exchange)
     requires { IsAttempt (attempt_data attempt.now) }
-    ensures { exchange.new ≡ silent_exchange (attempt_data attempt.now) damage }
+    ensures { exchange.new ≡ silent_exchange (attempt_data attempt.now) damage.now }
 {
-    put_token(attempt, damage, &mut exchange.token);
-    put_payload(attempt, damage, &mut exchange.payload);
+    put_token(attempt, *damage, &mut exchange.token);
+    put_payload(attempt, *damage, &mut exchange.payload);
     exchange.answer = ExchangeAnswer::Nothing;
     exchange.answer_mark = Mark::Whole;
     exchange.reply = None;
@@ -517,6 +518,58 @@ fn put_token(attempt: &Attempt, damage: Option<Damage>, token: &mut Outgoing)
     token.mark = mark_of(harm_to(damage, 1), to.speed.has_pre(), &token.packet);
 }
 
+/// The token, where it is not damaged.
+#[tactic(auto, unfolding(crate::specs::Exchanges::token_of, crate::specs::Wire::marked, crate::specs::Wire::harm_to, crate::specs::Wire::mark_of))]
+fn put_whole_token(attempt: &Attempt, token: &mut Outgoing)
+    requires { IsAttempt (attempt_data attempt.now) }
+    ensures value { token.new ≡ marked None 1 (attempt_data attempt.now).pre
+        (token_of (attempt_data attempt.now)) }
+{
+    let to = attempt.destination();
+    token.packet = Packet::Token {
+        kind: attempt.kind(),
+        addr: to.address,
+        ep: to.number,
+    };
+    token.mark = Mark::Whole;
+}
+
+/// The host's data, where it sends some and they are not damaged.
+#[tactic(auto, unfolding(crate::specs::Exchanges::payload_of, crate::specs::Wire::marked_some, crate::specs::Wire::marked, crate::specs::Wire::harm_to, crate::specs::Wire::mark_of, crate::specs::Wire::has_its_bit))]
+fn put_whole_payload(attempt: &Attempt, payload: &mut Option<Outgoing>)
+    ensures value { payload.new ≡ marked_some None 2 (attempt_data attempt.now).pre
+        (payload_of (attempt_data attempt.now)) }
+    ensures fields { IfSome payload.new (λ s. HasFields s.packet) }
+    ensures bit { IfSome payload.new (λ s. has_its_bit s.mark s.packet ≡ true) }
+{
+    match attempt {
+        Attempt::Setup { to: _, bytes } => *payload = Some(whole_data(Toggle::Zero, bytes)),
+        Attempt::Out {
+            to: _,
+            toggle,
+            bytes,
+        } => *payload = Some(whole_data(*toggle, bytes.as_slice())),
+        Attempt::In { .. } => *payload = None,
+    }
+}
+
+/// A data packet of the host that is not damaged.
+fn whole_data(toggle: Toggle, bytes: &[u8]) -> Outgoing
+    requires { length bytes.now ≤ 64 }
+    ensures packet { result.packet ≡ packet.Payload toggle (record { items = bytes.now }) }
+    ensures fields { HasFields result.packet }
+    ensures mark { result.mark ≡ Whole }
+{
+    let packet = Packet::Payload {
+        toggle,
+        bytes: copied(bytes),
+    };
+    Outgoing {
+        packet,
+        mark: Mark::Whole,
+    }
+}
+
 /// The host's data as damage leaves them, where it sends some.
 #[tactic(auto, unfolding(crate::specs::Exchanges::payload_of, crate::specs::Wire::marked_some))]
 fn put_payload(attempt: &Attempt, damage: Option<Damage>, payload: &mut Option<Outgoing>)
@@ -607,16 +660,24 @@ pub fn outcome_of(answer: &ExchangeAnswer, mark: Mark, max: u8) -> Outcome
         return Outcome::Nothing;
     }
     match answer {
-        ExchangeAnswer::One(Packet::Payload { toggle, bytes }) => {
-            if bytes.len() <= usize::from(max) {
-                Outcome::Payload(*toggle, copied(bytes.as_slice()))
-            } else {
-                Outcome::Nothing
-            }
-        }
+        ExchangeAnswer::One(Packet::Payload { toggle, bytes }) => outcome_of_data(
+            *toggle, bytes, max,
+        ),
         ExchangeAnswer::One(Packet::Ack) => Outcome::Ack,
         ExchangeAnswer::One(Packet::Nak) => Outcome::Nak,
         ExchangeAnswer::One(Packet::Stall) => Outcome::Stall,
         _ => Outcome::Nothing,
+    }
+}
+
+/// The same of data.
+fn outcome_of_data(toggle: Toggle, bytes: &ArrayVec<u8, 64>, max: u8) -> Outcome
+    ensures value { result ≡ outcome_heard (One (packet.Payload toggle bytes.now)) max }
+    ensures fits { FitsMaximum max result }
+{
+    if bytes.len() <= usize::from(max) {
+        Outcome::Payload(toggle, copied(bytes.as_slice()))
+    } else {
+        Outcome::Nothing
     }
 }

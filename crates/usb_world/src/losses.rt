@@ -25,15 +25,6 @@ impl Losses {
         }
     }
 
-    /// One more where an address was lost.
-    pub fn counted(self, lost: bool) -> Self
-        requires all { self.all + 1 < 2 ^ 32 }
-        requires run { self.run + 1 < 2 ^ 32 }
-        ensures { result ≡ counted lost self }
-    {
-        if lost { self.one_more() } else { self }
-    }
-
     #[tactic(auto, unfolding(crate::specs::Losses::one_more))]
     fn one_more(self) -> Self
         requires all { self.all + 1 < 2 ^ 32 }
@@ -56,6 +47,21 @@ impl Losses {
             Losses { run: 0, ..self }
         } else {
             self
+        }
+    }
+
+    /// Counts what an attempt did: a new stretch where it cleared a change of connection, then one more where an address
+    /// was lost.
+    pub fn count(&mut self, cleared: bool, lost: bool)
+        requires all { self.old.all + 1 < 2 ^ 32 }
+        requires run { self.old.run + 1 < 2 ^ 32 }
+        ensures { self.new ≡ counted lost (after_clearing cleared self.old) }
+    {
+        if cleared {
+            self.run = 0;
+        }
+        if lost {
+            *self = self.one_more();
         }
     }
 }

@@ -1,5 +1,5 @@
 //! The way of an attempt: straight to the device that holds its address, where one does.
-ghost use Rattle.std.specs.Prelude.{◌≡◌, ◌≤◌, ◌++◌, ◌∷◌, [], length, OnOk, OnErr};
+ghost use Rattle.std.specs.Prelude.{◌≡◌, ◌≤◌, ◌++◌, ◌∷◌, [], length, true, IfOk, OnOk, OnErr};
 ghost use Rattle.usb_device.specs.HolderIndex.{IsIndexOf};
 ghost use Rattle.usb_world.specs.PlainAttempts.{attempt_data};
 ghost use Rattle.usb_world.specs.Worlds.{IsAttempt};
@@ -36,7 +36,7 @@ pub fn make_exchange_by(
     roots: &mut Ports,
     holders: &mut Holders,
     attempt: &Attempt,
-    damage: Option<Damage>,
+    damage: &Option<Damage>,
     exchange: &mut Exchange,
 ) -> Result<(), AllocError>
     requires attempt { IsAttempt (attempt_data attempt.now) }
@@ -44,23 +44,29 @@ pub fn make_exchange_by(
     requires index { IsIndexOf holders.old roots.old }
     ensures plugged { StaysPlugged roots.old roots.new }
     ensures settled { IsSettled roots.new }
-    ensures made { OnOk result (Exchanged (attempt_data attempt.now) damage roots.old roots.new
+    ensures made { OnOk result (Exchanged (attempt_data attempt.now) damage.now roots.old roots.new
         exchange.new) }
-    ensures cut { OnErr result (IsCut (attempt_data attempt.now) damage roots.old roots.new) }
+    ensures cut { OnErr result (IsCut (attempt_data attempt.now) damage.now roots.old roots.new) }
     ensures index { IsIndexOf holders.new roots.new }
 {
     if let Holder::Nobody = holders.holder(attempt.destination().address) {
         make_silence(attempt, damage, exchange);
         return Ok(());
     }
-    match change_of(attempt, roots, way(holders, attempt)) {
-        Change::Nothing => exchange_keeping(roots, holders, attempt, damage, exchange),
+    let way = way(holders, attempt);
+    match change_of(attempt, roots, way) {
+        Change::Nothing => {
+            let made = exchange_along(roots, way, 0, attempt, damage, exchange);
+            renew_unless_kept(&made, roots, holders);
+            let _ = made?;
+            Ok(())
+        }
         Change::AtDevice => {
-            let path = copied(way(holders, attempt));
+            let path = copied(way);
             exchange_at(roots, holders, path.as_slice(), attempt, damage, exchange)
         }
         Change::AtPort(port) => {
-            let path = copied(way(holders, attempt));
+            let path = copied(way);
             exchange_at_port(
                 roots,
                 holders,
@@ -74,36 +80,14 @@ pub fn make_exchange_by(
     }
 }
 
-/// Makes an attempt of which no change of the index is seen to come; where it may have changed, it
-/// is made anew.
-fn exchange_keeping(
-    roots: &mut Ports,
-    holders: &mut Holders,
-    attempt: &Attempt,
-    damage: Option<Damage>,
-    exchange: &mut Exchange,
-) -> Result<(), AllocError>
-    requires attempt { IsAttempt (attempt_data attempt.now) }
-    requires settled { IsSettled roots.old }
-    requires index { IsIndexOf holders.old roots.old }
-    ensures plugged { StaysPlugged roots.old roots.new }
-    ensures settled { IsSettled roots.new }
-    ensures made { OnOk result (Exchanged (attempt_data attempt.now) damage roots.old roots.new
-        exchange.new) }
-    ensures cut { OnErr result (IsCut (attempt_data attempt.now) damage roots.old roots.new) }
-    ensures index { IsIndexOf holders.new roots.new }
+/// Makes the index anew behind an attempt, unless that is known to have left it as it was.
+fn renew_unless_kept(made: &Result<bool, AllocError>, roots: &Ports, holders: &mut Holders)
+    requires { IfOk made.now (λ kept. kept ≡ true → IsIndexOf holders.old roots.now) }
+    ensures { IsIndexOf holders.new roots.now }
 {
-    let way = way(holders, attempt);
-    match exchange_along(roots, way, 0, attempt, damage, exchange) {
-        Ok(true) => Ok(()),
-        Ok(false) => {
-            holders.renew(roots);
-            Ok(())
-        }
-        Err(error) => {
-            holders.renew(roots);
-            Err(error)
-        }
+    match made {
+        Ok(true) => {}
+        Ok(false) | Err(_) => holders.renew(roots),
     }
 }
 
@@ -114,7 +98,7 @@ fn exchange_at(
     holders: &mut Holders,
     path: &[u8],
     attempt: &Attempt,
-    damage: Option<Damage>,
+    damage: &Option<Damage>,
     exchange: &mut Exchange,
 ) -> Result<(), AllocError>
     requires attempt { IsAttempt (attempt_data attempt.now) }
@@ -123,9 +107,9 @@ fn exchange_at(
     requires way { IsWayTo (attempt_data attempt.now).addr roots.old path.now }
     ensures plugged { StaysPlugged roots.old roots.new }
     ensures settled { IsSettled roots.new }
-    ensures made { OnOk result (Exchanged (attempt_data attempt.now) damage roots.old roots.new
+    ensures made { OnOk result (Exchanged (attempt_data attempt.now) damage.now roots.old roots.new
         exchange.new) }
-    ensures cut { OnErr result (IsCut (attempt_data attempt.now) damage roots.old roots.new) }
+    ensures cut { OnErr result (IsCut (attempt_data attempt.now) damage.now roots.old roots.new) }
     ensures index { IsIndexOf holders.new roots.new }
 {
     let forgotten = holders.forget(roots, path);
@@ -153,7 +137,7 @@ fn exchange_at_port(
     path: &[u8],
     port: u8,
     attempt: &Attempt,
-    damage: Option<Damage>,
+    damage: &Option<Damage>,
     exchange: &mut Exchange,
 ) -> Result<(), AllocError>
     requires attempt { IsAttempt (attempt_data attempt.now) }
@@ -163,9 +147,9 @@ fn exchange_at_port(
     requires most { length path.now ≤ 8 }
     ensures plugged { StaysPlugged roots.old roots.new }
     ensures settled { IsSettled roots.new }
-    ensures made { OnOk result (Exchanged (attempt_data attempt.now) damage roots.old roots.new
+    ensures made { OnOk result (Exchanged (attempt_data attempt.now) damage.now roots.old roots.new
         exchange.new) }
-    ensures cut { OnErr result (IsCut (attempt_data attempt.now) damage roots.old roots.new) }
+    ensures cut { OnErr result (IsCut (attempt_data attempt.now) damage.now roots.old roots.new) }
     ensures index { IsIndexOf holders.new roots.new }
 {
     let below = below(path, port);

@@ -41,8 +41,6 @@ impl<T: Trace> Bus for SimBus<T> {
             self.old self.new }
         ensures fits { IfOk result (FitsMaximum (attempt_data attempt.now).max) }
         ensures told { IfErr result (λ fault. (world_of self.new).fault ≡ Some fault) }
-        ensures trace { result ≡ Err Failed → (world_of self.old).fault ≡ None
-            → T.failed (tracer_of self.new) ≡ true }
         ensures refuses { RefusesAttempt (attempt_data attempt.now) self.old result self.new }
     {
         if let Some(fault) = self.fault {
@@ -123,16 +121,14 @@ impl<T: Trace> SimBus<T> {
             &mut self.roots,
             &mut self.holders,
             attempt,
-            damage,
+            &damage,
             &mut self.exchange,
         )?;
         // All went: only the line can fail.
         self.fault = Some(BusFault::Failed);
         self.attempts += 1;
-        self.losses = self
-            .losses
-            .after_clearing(self.exchange.change_cleared)
-            .counted(self.exchange.address_lost);
+        self.losses
+            .count(self.exchange.change_cleared, self.exchange.address_lost);
         self.tracer
             .put_attempt(self.attempts, to.speed.has_pre(), &self.exchange)?;
         self.fault = None;

@@ -9,9 +9,9 @@ use Rattle.usb_world.proofs.exchange.exchange_whole.Goals as goal
 cut_short : (c : goal.After-from_residual)
     → CutShort (attempt_data c.args.attempt.now) c.args.roots.now c.attempt_at.new.self
     c.args.path.now
-    c.put_payload.new.payload
+    c.put_whole_payload.new.payload
 cut_short c = record {
-  payload = c.put_payload.ensures.value;
+  payload = c.put_whole_payload.ensures.value;
   host = c.host_side-host.result;
   data_out = c.some_goes_out-data.result;
   deep = c.is_deep.result;
@@ -38,8 +38,8 @@ returns-in_err-attempt_at-clause-cut c =
 
 abbrev made : (c : goal.After-keeps_address) → Exchange
 made c = record {
-  token = c.put_token.new.token;
-  payload = c.put_payload.new.payload;
+  token = c.put_whole_token.new.token;
+  payload = c.put_whole_payload.new.payload;
   answer = c.put_answer.new.answer;
   answer_mark = Whole;
   reply = c.put_reply.new.reply;
@@ -52,8 +52,8 @@ walked : (c : goal.After-keeps_address)
     c.args.path.now (made c)
     c.attempt_at.new.heard c.attempt_at.new.side
 walked c = record {
-  token = c.put_token.ensures.value;
-  payload = c.put_payload.ensures.value;
+  token = c.put_whole_token.ensures.value;
+  payload = c.put_whole_payload.ensures.value;
   host = c.host_side-host.result;
   data_out = c.some_goes_out-data.result;
   deep = c.is_deep.result;

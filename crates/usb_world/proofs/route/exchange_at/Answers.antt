@@ -6,13 +6,13 @@ use Rattle.usb_world.proofs.route.exchange_at.Goals as goal
 
 pub exchange_along-requires-clause-alone : goal.exchange_along-requires-clause-alone
 exchange_along-requires-clause-alone c =
-    alone_token (attempt_data c.args.attempt.now) c.args.damage c.args.roots.now c.args.path.now
+    alone_token (attempt_data c.args.attempt.now) c.args.damage.now c.args.roots.now c.args.path.now
     c.requires.settled
     c.requires.way
 
 pub note-requires : goal.note-requires
 note-requires c =
-    index_beside (attempt_data c.args.attempt.now) c.args.damage c.forget-forgotten.new.self
+    index_beside (attempt_data c.args.attempt.now) c.args.damage.now c.forget-forgotten.new.self
     c.args.roots.now
     c.exchange_along.new.roots c.args.path.now
     (cc (c.is_whole.ensures, c.if-not-is_whole.true)) c.requires.settled c.requires.way

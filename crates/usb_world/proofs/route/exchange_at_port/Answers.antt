@@ -6,7 +6,7 @@ use Rattle.usb_world.proofs.route.exchange_at_port.Goals as goal
 
 pub exchange_along-requires-clause-alone : goal.exchange_along-requires-clause-alone
 exchange_along-requires-clause-alone c =
-    alone_token (attempt_data c.args.attempt.now) c.args.damage c.args.roots.now c.args.path.now
+    alone_token (attempt_data c.args.attempt.now) c.args.damage.now c.args.roots.now c.args.path.now
     c.requires.settled
     c.requires.way
 

@@ -10,7 +10,7 @@ use Rattle.usb_world.specs.declared.losses.Losses.{Losses}
 use Rattle.usb_sim.specs.{world_of}
 use Rattle.usb_bus.specs.{lines_between, step_lines, AppendsFront}
 use Rattle.usb_sim.proofs.Endings.{without_fault, left_at_event, left_at_packet, left_at_line}
-use Rattle.usb_world.proofs.Interface.{losses_after, losses_cleared, sane_ports, spends_wider}
+use Rattle.usb_world.proofs.Interface.{losses_after, sane_ports, spends_wider}
 use Rattle.usb_world.proofs.Interface.{until_most}
 use Rattle.usb_bus.proofs.Interface.{front_after_first}
 use Rattle.std.specs.Io.KnownBytes.{Appends}
@@ -20,21 +20,16 @@ use Rattle.usb_sim.proofs.Arrivals.{writes_memory}
 use Rattle.usb_tree.specs.{IsSettled}
 use Rattle.usb_sim.proofs.sim.SimBus.make_attempt.Goals as goal
 
-pub counted-self-requires-clause-all : goal.counted-self-requires-clause-all
-counted-self-requires-clause-all g c =
+pub count-requires-clause-all : goal.count-requires-clause-all
+count-requires-clause-all g c =
     let mid = c.take_due_events.new.self in
-    let P : Losses → Type 0 = λ l. AreOfDamages mid.attempts mid.damages.items l in
-    let lost = subst P (sym c.after_clearing.ensures)
-    (losses_cleared _ mid.attempts mid.damages.items mid.losses mid.lost) in
-    omega (arith, lost.all, until_most mid.damages.items mid.attempts, mid.few_damages)
+    omega (arith, mid.lost.all, until_most mid.damages.items mid.attempts, mid.few_damages)
 
-pub counted-self-requires-clause-run : goal.counted-self-requires-clause-run
-counted-self-requires-clause-run g c =
+pub count-requires-clause-run : goal.count-requires-clause-run
+count-requires-clause-run g c =
     let mid = c.take_due_events.new.self in
-    let P : Losses → Type 0 = λ l. AreOfDamages mid.attempts mid.damages.items l in
-    let lost = subst P (sym c.after_clearing.ensures)
-    (losses_cleared _ mid.attempts mid.damages.items mid.losses mid.lost) in
-    omega (arith, lost.run, lost.all, until_most mid.damages.items mid.attempts, mid.few_damages)
+    omega
+    (arith, mid.lost.run, mid.lost.all, until_most mid.damages.items mid.attempts, mid.few_damages)
 
 pub returns-clause-made : goal.returns-clause-made
 unfolding step_lines lines_between
@@ -45,11 +40,10 @@ returns-clause-made g c =
     let came = c.in_ok-take_due_events.ensures.came in
     let made = c.in_ok-make_exchange_by.ensures.made in
     let there = made_there a w (world_of mid) c.damage_of-damage.result
-    c.make_exchange_by.new.exchange c.make_exchange_by.new.roots c.counted-self.result
+    c.make_exchange_by.new.exchange c.make_exchange_by.new.roots c.count.new.self
     c.is_shared.result came.exact came.told (omega (arith, came.spends.later, came.spends.most))
     (c.damage_of-damage.ensures ∙ ap (λ (l : List Damage). damage_of l (mid.attempts + 1))
-    c.deref.ensures.value) made.made made.ports (c.counted-self.ensures
-    ∙ ap (counted c.make_exchange_by.new.exchange.address_lost) c.after_clearing.ensures)
+    c.deref.ensures.value) made.made made.ports c.count.ensures
     (c.is_shared.ensures ∙ mid.indexed.1) in
     let pre : c.has_pre.result ≡ a.pre = c.has_pre.ensures
     ∙ ap (λ (d : Destination). speed_has_pre d.speed) c.destination-to.ensures in
@@ -79,11 +73,10 @@ returns-in_err-put_attempt-clause-made g c =
     let came = c.in_ok-take_due_events.ensures.came in
     let made = c.in_ok-make_exchange_by.ensures.made in
     let there = made_there a w (world_of mid) c.damage_of-damage.result
-    c.make_exchange_by.new.exchange c.make_exchange_by.new.roots c.counted-self.result
+    c.make_exchange_by.new.exchange c.make_exchange_by.new.roots c.count.new.self
     c.is_shared.result came.exact came.told (omega (arith, came.spends.later, came.spends.most))
     (c.damage_of-damage.ensures ∙ ap (λ (l : List Damage). damage_of l (mid.attempts + 1))
-    c.deref.ensures.value) made.made made.ports (c.counted-self.ensures
-    ∙ ap (counted c.make_exchange_by.new.exchange.address_lost) c.after_clearing.ensures)
+    c.deref.ensures.value) made.made made.ports c.count.ensures
     (c.is_shared.ensures ∙ mid.indexed.1) in
     let pre : c.has_pre.result ≡ a.pre = c.has_pre.ensures
     ∙ ap (λ (d : Destination). speed_has_pre d.speed) c.destination-to.ensures in
@@ -168,14 +161,14 @@ returns-in_err-take_due_events-clause-made g c =
 
 -- the losses that damage made
 losses_made : (damages : List Damage) (n : ℕ) (a : Attempt) (d : Option Damage) (k : Ports)
-    (x : Exchange) (l m t : Losses) → IsAttempt a → IsSettled k → d ≡ damage_of damages (n + 1)
-    → x ≡ exchange_in a d k → m ≡ after_clearing x.change_cleared l → t ≡ counted x.address_lost m
+    (x : Exchange) (l t : Losses) → IsAttempt a → IsSettled k → d ≡ damage_of damages (n + 1)
+    → x ≡ exchange_in a d k → t ≡ counted x.address_lost (after_clearing x.change_cleared l)
     → AreOfDamages n damages l → AreOfDamages (n + 1) damages t
 unfolding exchange_in
-losses_made damages n a d k x l m t is settled ed ex em et h =
+losses_made damages n a d k x l t is settled ed ex et h =
     let lost : x.address_lost ≡ lost_in a (damage_of damages (n + 1)) k =
     ap (λ (y : Exchange). y.address_lost) ex ∙ ap (λ (o : Option Damage). lost_in a o k) ed in
-    subst (AreOfDamages (n + 1) damages) (sym (et ∙ ap (counted x.address_lost) em))
+    subst (AreOfDamages (n + 1) damages) (sym et)
     (losses_after damages n a k x.change_cleared x.address_lost l is settled lost h)
 
 pub invariant_of-self-2-clause-sane : goal.invariant_of-self-2-clause-sane
@@ -189,10 +182,10 @@ pub invariant_of-self-2-clause-lost : goal.invariant_of-self-2-clause-lost
 invariant_of-self-2-clause-lost g c =
     let mid = c.take_due_events.new.self in
     losses_made mid.damages.items mid.attempts (attempt_data c.args.attempt.now) _ mid.roots _
-    mid.losses _ _
+    mid.losses _
     c.requires.attempt mid.settled (c.damage_of-damage.ensures
     ∙ ap (λ (l : List Damage). damage_of l (mid.attempts + 1)) c.deref.ensures.value)
-    c.in_ok-make_exchange_by.ensures.made.made c.after_clearing.ensures c.counted-self.ensures
+    c.in_ok-make_exchange_by.ensures.made.made c.count.ensures
     mid.lost
 
 pub invariant_of-self-in-Break-branch-3 : goal.invariant_of-self-in-Break-branch-3
@@ -216,10 +209,10 @@ invariant_of-self-in-Break-branch-3 g c =
       named = mid.named;
       lost = losses_made mid.damages.items mid.attempts (attempt_data c.args.attempt.now) _
           mid.roots _ mid.losses
-          _ _ c.requires.attempt mid.settled (c.damage_of-damage.ensures
+          _ c.requires.attempt mid.settled (c.damage_of-damage.ensures
           ∙ ap (λ (l : List Damage). damage_of l (mid.attempts + 1)) c.deref.ensures.value)
-          c.in_ok-make_exchange_by.ensures.made.made c.after_clearing.ensures
-          c.counted-self.ensures mid.lost;
+          c.in_ok-make_exchange_by.ensures.made.made
+          c.count.ensures mid.lost;
       at_limit = λ e. absurd (cc e);
       marked = c.in_err-put_attempt.ensures.marked;
       indexed = c.in_ok-make_exchange_by.ensures.index;

@@ -18,6 +18,7 @@ returns-in-Some-clause-refuses g c = record {
     refl,
   );
   again = λ _. refl;
+  failed = λ _ none. absurd (cc (c.in-Some.is, none));
 }
 
 pub returns-then-self-clause-attempts : goal.returns-then-self-clause-attempts
@@ -33,6 +34,7 @@ returns-then-self-clause-refuses g c = record {
     refl,
   );
   again = search rules;
+  failed = λ e. absurd (cc e);
 }
 
 pub returns-clause-attempts : goal.returns-clause-attempts
@@ -45,4 +47,5 @@ pub returns-clause-refuses : goal.returns-clause-refuses
 returns-clause-refuses g c = record {
   limit = never_limit c.make_attempt.result c.make_attempt.ensures.made.other;
   again = search rules;
+  failed = λ e none. c.make_attempt.ensures.trace e;
 }
