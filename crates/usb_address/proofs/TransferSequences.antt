@@ -50,7 +50,7 @@ module _ (t : Target) (request : Setup) (old new : World) (g : BusFault) (e : ol
         failed (inr (inl x)) = absurd (cc (e, trail_sound x.set_up.trail))
         failed (inr (inr x)) = absurd (cc (e, trail_sound x.set_up.trail))
 
-    write_nothing : (result : Result (Unit {0}) PipeFault) → Writes t request old result new
+    pub write_nothing : (result : Result (Unit {0}) PipeFault) → Writes t request old result new
         → new ≡ old
     write_nothing (Ok done) x = absurd (cc (e, trail_sound x.set_up.trail))
     write_nothing (Err why) x = failed x

@@ -22,6 +22,7 @@ use Rattle.usb_address.proofs.Interface.{not_way, read_keeps, reads_other, reset
 use Rattle.usb_address.proofs.Interface.{root_resets, root_shut, same_setup, is_way-same_path}
 use Rattle.usb_address.proofs.Interface.{write_keeps, write_till}
 use Rattle.usb_hub.specs.{HubPort, Root, External, StaysAs, EachElsewhere, KeepsDevices, IsBelow}
+use Rattle.usb_hub.specs.{EachNamedElsewhere}
 use Rattle.usb_hub.specs.{IsClaimed, Resets, GivesAddress, KeepsAnswered, KeepsAsked, KeepsSet}
 use Rattle.usb_hub.specs.{KeepsCleared, PortRead, EndsAfter, ReadAs, Commanded}
 use Rattle.usb_hub.proofs.Devices.{not_reset, keeps_devices_none, port_status_keeps}
@@ -133,7 +134,7 @@ reset_elsewhere f p w only (inr o) j s apart on there zero_is =
 hub_resets : (hub : Target) (port : ℕ) (old : World) (result : Result (Unit {0}) PipeFault)
     (new : World) → Commanded hub (set_port_feature PORT_RESET port) old result new
     → Resets (External hub port) old new
-hub_resets hub port old result new ordered = record { resets = resets; others = others }
+hub_resets hub port old result new ordered = record { resets = resets; others = others; named = kept }
   where
     resets : (f : AddressMap) (p : List ℕ) → IsBelow f hub.addr port p
         → ((x : List ℕ) → f x ≡ Some 0 → is_way p x ≡ true) → WhileBusWorks (MapHolds f) old
@@ -150,13 +151,19 @@ hub_resets hub port old result new ordered = record { resets = resets; others = 
     named f p at only zero_is = false_true (sym (not_way at.hub port)
         ∙ subst (λ y. is_way y at.hub ≡ true) at.path (only at.hub (at.held ∙ ap Some zero_is)))
 
+    kept : (f : AddressMap) (p : List ℕ) → IsBelow f hub.addr port p
+        → ((x : List ℕ) → f x ≡ Some 0 → is_way p x ≡ true) → WhileBusWorks (MapHolds f) old
+        → EachNamedElsewhere p StaysAs old new
+    kept f p at only o j s apart on there =
+        reset_stays hub port old result new (named f p at only) ordered (resets f p at only
+        o).single j s on there
+
     others : (f : AddressMap) (p : List ℕ) → IsBelow f hub.addr port p
         → ((x : List ℕ) → f x ≡ Some 0 → is_way p x ≡ true) → WhileBusWorks (MapHolds f) old
         → new.fault ≡ None → EachElsewhere p StaysAs old new
     others f p at only o none j s apart on there =
-        let after_it = resets f p at only o in
-        reset_stays hub port old result new (named f p at only) ordered after_it.single j s on there
-        (reset_elsewhere f p new only (after_it.so none) j s apart on there)
+        kept f p at only o j s apart on there
+        (reset_elsewhere f p new only ((resets f p at only o).so none) j s apart on there)
 
 -- Root ports
 
@@ -247,6 +254,11 @@ root_set_keeps port number feature old new e sets = rw e (record {
         (sym (root_reset_is number feature old new sets is))
         (subst (λ p. EachElsewhere p StaysAs old (after (root_call SetReset number) old)) (sym at)
         (root_elsewhere SetReset number old));
+    named = λ f p at only o.
+        subst (λ w. EachNamedElsewhere p StaysAs old w)
+        (sym (root_reset_is number feature old new sets is))
+        (subst (λ p. EachNamedElsewhere p StaysAs old (after (root_call SetReset number) old))
+        (sym at) (λ j s apart on there has. root_elsewhere SetReset number old j s apart on there));
   };
 })
 

@@ -7,7 +7,7 @@ use Rattle.usb_request.specs.{PORT_OUT, SET_FEATURE, bytes_of, IsToHost, Setup}
 use Rattle.usb_port.specs.{PortCall, set_call}
 use Rattle.usb_device.specs.{Is, Location, path_to, State}
 use Rattle.usb_world.specs.{Attempt, Outcome, HolderIn, IsMade, IsSetup, AtPorts, Course, Step}
-use Rattle.usb_world.specs.{after, attempt, event, report, root_call, World}
+use Rattle.usb_world.specs.{after, attempt, World}
 use Rattle.usb_tree.specs.{IsSettled}
 use Rattle.usb_world.proofs.Interface.{Allows, course_joined, course_then, holder_or_nobody}
 use Rattle.usb_world.proofs.Interface.{made_of, settled_wider}

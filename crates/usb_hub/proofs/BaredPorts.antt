@@ -3,7 +3,7 @@ use Rattle.std.proofs.Common.{◌≡◌, ◌&&◌, ℕ, zero, suc, Bool, true, f
 use Rattle.std.proofs.Common.{Option, None, Some, option_map, Ok, refl, ap, sym, subst, ◌∙◌, IfSome}
 use Rattle.usb_request.specs.{PORT_ENABLE}
 use Rattle.usb_port.specs.{PortState, PortStatus, ClearEnable, clear_call, called_port}
-use Rattle.usb_device.specs.{Ports, ended, vacant, taken, port_of, place, port_at, reach, reach_at}
+use Rattle.usb_device.specs.{Ports, vacant, taken, port_of, place, port_at, reach, reach_at}
 use Rattle.usb_device.specs.{port_there}
 use Rattle.usb_tree.specs.{is_way}
 use Rattle.usb_world.specs.{after, World}

@@ -5,14 +5,14 @@ use Rattle.std.proofs.Common.{false, List, [], ◌∷◌, ◌++◌, Option, None
 use Rattle.std.proofs.Common.{sym, subst, ◌∙◌}
 use Rattle.std.proofs.lemmas.Option.{same_Some}
 use Rattle.usb_port.specs.{PortState, is_attached, powered_on, reset, PortStatus, PortCall}
-use Rattle.usb_port.specs.{SetPower, SetReset, ClearEnable, ClearPower, ClearConnectionChange}
-use Rattle.usb_port.specs.{ClearEnableChange, ClearResetChange, is_reset, called_port}
-use Rattle.usb_device.specs.{Ports, ended, vacant, taken, empty, full, port_of, reset_where, called}
+use Rattle.usb_port.specs.{SetPower, SetReset}
+use Rattle.usb_port.specs.{is_reset, called_port}
+use Rattle.usb_device.specs.{Ports, ended, vacant, taken, full, port_of, reset_where, called}
 use Rattle.usb_device.specs.{place, place_at, port_at, reach, reach_at, state_at, State, port_there}
 use Rattle.usb_device.specs.{state_there, Place}
 use Rattle.usb_world.specs.{Event, Attempt, step_keeps_pending, resets, spec_of, AsksNothing}
 use Rattle.usb_world.specs.{leaves_step, row_reached, LeavesPortAlone, SameAt, UnchangedOrPending}
-use Rattle.usb_world.specs.{Step, attempt, root_call, event, report, after, with_attempt}
+use Rattle.usb_world.specs.{Step, attempt, event, after, with_attempt}
 use Rattle.usb_world.specs.{at_attempt, after_due_events, after_event, is_due, Course, here, step}
 use Rattle.usb_world.specs.{World}
 use Rattle.usb_tree.specs.{has_power, pending, keeps_pending}

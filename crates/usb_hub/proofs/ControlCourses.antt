@@ -1,5 +1,5 @@
 -- A control transfer attempts nothing but at endpoint 0.
-use Rattle.std.proofs.Common.{◌≡◌, inl, inr, refl, sym, subst, ap, ℕ, Result}
+use Rattle.std.proofs.Common.{inl, inr, refl, sym, subst, ap, ℕ, Result}
 use Rattle.std.specs.Global.{Vec}
 use Rattle.usb_request.specs.{Setup}
 use Rattle.usb_world.specs.{World, Step, attempt}

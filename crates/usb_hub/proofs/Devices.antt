@@ -5,11 +5,10 @@ use Rattle.std.proofs.Common.{arith}
 use Rattle.usb_request.specs.{PORT_RESET, get_port_status, set_port_feature, clear_port_feature}
 use Rattle.usb_request.specs.{Setup}
 use Rattle.usb_port.specs.{PortState, status_in, PortStatus, PortCall, is_reset, set_call}
-use Rattle.usb_device.specs.{Registers, OnlyControl, OnlyStage, Outcome, stalled, takes_address}
-use Rattle.usb_device.specs.{takes_configuration, halts, unhalts, tells_port, calls_port, called_at}
+use Rattle.usb_device.specs.{Registers, OnlyControl, OnlyStage, Outcome, stalled}
+use Rattle.usb_device.specs.{calls_port, called_at}
 use Rattle.usb_device.specs.{outcome, port_named, State, begun, accepted, Spec, first_stage, ending}
 use Rattle.usb_device.specs.{Ports, Location, reach_on, state_on}
-use Rattle.usb_device.specs.Request.{answers}
 use Rattle.usb_world.specs.{is_harmless, Was, EachWas, root_call, after, World}
 use Rattle.usb_tree.specs.{address_of, is_way, same_number, call_resets, reset_if}
 use Rattle.usb_world.proofs.Interface.{call_reach, call_state, each_none, each_wider}

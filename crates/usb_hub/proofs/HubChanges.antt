@@ -1,6 +1,6 @@
 -- What is told where a change was cleared.
 use Rattle.std.proofs.Common.{◌≡◌, ℕ, Result, Ok, Err, refl, subst, IfErr}
-use Rattle.usb_world.specs.{BusFault, World, HasFault}
+use Rattle.usb_world.specs.{World}
 use Rattle.usb_pipe.specs.{FaultAfter, PipeFault}
 use Rattle.usb_pipe.specs.declared.fault.PipeFault.TheVariants.{Stalled, Bus}
 use Rattle.usb_hub.specs.{ToldBus, done_or_unknown, EndsAfter}

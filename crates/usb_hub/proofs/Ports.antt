@@ -7,7 +7,7 @@ use Rattle.usb_world.specs.{World, AttemptsWithin, IsRootPort, root_row, changes
 use Rattle.usb_world.specs.{ClearsRoot}
 use Rattle.usb_world.proofs.Interface.{RootCalled, change_most, changes-set, clears_change}
 use Rattle.usb_world.proofs.Interface.{clears_spend, resets_spend, root_called}
-use Rattle.usb_bus.specs.{Traced, StepRun}
+use Rattle.usb_bus.specs.{Traced, Steps}
 use Rattle.usb_hub.specs.{HubPort, Root, External, IsAsked, IsPort, order_bound, TakesNoTime}
 use Rattle.usb_hub.specs.{RootSet, RootCleared, SetSteps, PortSet, PortCleared}
 
@@ -94,17 +94,20 @@ port_cleared-root port number feature old new e is named row =
     rw e (root_cleared number feature old new (rw e at is) named row)
 
 -- and the course that such a call is
-pub set_went-root : (port : HubPort) (number feature : ℕ) (old new : World)
-    (before now : Option (List ℕ)) → port ≡ Root number → PortSet port feature old (Ok tt) new
-    → Traced old before new now → SetSteps port feature old before new now
-set_went-root port number feature old new before now e set traced =
+pub set_went-root : {S : Type 0} (world : S → World) (trace : S → Option (List ℕ)) (port : HubPort)
+    (number feature : ℕ) (old new : S) → port ≡ Root number
+    → PortSet port feature (world old) (Ok tt) (world new)
+    → Traced (world old) (trace old) (world new) (trace new)
+    → SetSteps world trace port feature (order_bound port) old new
+set_went-root world trace port number feature old new e set traced =
     rw e (traced, (rw e at set).resets)
 
 -- PORT_RESET's attempts, at each port
-pub reset_went : (port : HubPort) {old new : World} {before now : Option (List ℕ)}
-    → SetSteps port PORT_RESET old before new now → StepRun (order_bound port) old before new now
-reset_went (Root number) p = record { spends = p.1 refl; traced = p.0 }
-reset_went (External hub port) p = p
+pub reset_went : {S : Type 0} (world : S → World) (trace : S → Option (List ℕ)) (port : HubPort)
+    (old new : S) → SetSteps world trace port PORT_RESET (order_bound port) old new
+    → Steps world trace (order_bound port) old new
+reset_went world trace (Root number) old new p = record { spends = p.1 refl; traced = p.0 }
+reset_went world trace (External hub port) old new p = p
 
 pub cleared_spends-root : (port : HubPort) (number feature : ℕ) (old new : World)
     → port ≡ Root number → PortCleared port feature old (Ok tt) new

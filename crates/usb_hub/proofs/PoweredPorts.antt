@@ -4,11 +4,11 @@ use Rattle.std.proofs.Common.{◌≡◌, ℕ, zero, suc, ◌&&◌, ◌⊎◌, in
 use Rattle.std.proofs.Common.{◌∷◌, ◌++◌, Option, None, Some, option_map, refl, ap, sym, subst, ◌∙◌}
 use Rattle.std.proofs.lemmas.Option.{same_Some}
 use Rattle.usb_port.specs.{PortState, is_attached, speed_of, powered_on, SetPower}
-use Rattle.usb_device.specs.{State, Ports, ended, vacant, taken, empty, full, port_of, called}
+use Rattle.usb_device.specs.{State, Ports, vacant, taken, empty, full, port_of, called}
 use Rattle.usb_device.specs.{place, place_at, port_there, state_there, Place}
 use Rattle.usb_world.specs.{Attempt, NoReset, is_made, made_resets, resets, spec_of, row_reached}
 use Rattle.usb_world.specs.{StillSet, UnchangedOrPending, Consistent, ConsistentPlace, Step}
-use Rattle.usb_world.specs.{attempt, root_call, event, report, after, with_attempt, at_attempt}
+use Rattle.usb_world.specs.{attempt, after, with_attempt, at_attempt}
 use Rattle.usb_world.specs.{Course, here, step, WorldInvariant, World}
 use Rattle.usb_tree.specs.{has_power, pending}
 use Rattle.usb_world.proofs.Interface.{MadeOrNot, attempt_cases, between_after, between_course}

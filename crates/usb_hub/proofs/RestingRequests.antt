@@ -6,7 +6,7 @@ use Rattle.std.proofs.lemmas.Bool.Decides.{nat_tests}
 use Rattle.std.specs.Global.{Vec}
 use Rattle.usb_request.specs.{DEVICE_OUT, PORT_OUT, bytes_of, IsToHost, Setup}
 use Rattle.usb_world.specs.{Attempt, is_setup, asks_no_port, LeavesPortAlone, World, Step, attempt}
-use Rattle.usb_world.specs.{root_call, event, report, Course}
+use Rattle.usb_world.specs.{Course}
 use Rattle.usb_tree.specs.{IsSettled}
 use Rattle.usb_world.proofs.Interface.{course_then, data_asks_nothing, payload_asks_nothing}
 use Rattle.usb_world.proofs.Interface.{settled_wider}

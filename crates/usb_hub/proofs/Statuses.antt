@@ -1,11 +1,11 @@
 -- What a hub tells of its ports (11.24.2.7).
-use Rattle.std.proofs.Common.{◌≡◌, ℕ, zero, suc, ◌-◌, ◌⊎◌, inl, inr, List, [], slice_get, Option}
+use Rattle.std.proofs.Common.{◌≡◌, ℕ, suc, ◌-◌, ◌⊎◌, inl, inr, List, [], slice_get, Option}
 use Rattle.std.proofs.Common.{None, Some, refl, sym, subst, take, ap, true, ◌≤◌, ◌∙◌, arith}
 use Rattle.std.proofs.lemmas.Option.{same_Some}
 use Rattle.usb_port.specs.{PortState, status_of}
 use Rattle.usb_request.specs.{IsToHost, get_port_status}
 use Rattle.usb_device.specs.{Effect, Leaves, Registers, effect_of_request, outcome, port_named}
-use Rattle.usb_device.specs.{told_port, Spec, reading, reads_port, first_stage, Ports, ended}
+use Rattle.usb_device.specs.{told_port, Spec, reading, reads_port, first_stage, Ports}
 use Rattle.usb_device.specs.{vacant, taken, port_at, row_of, Location, State}
 use Rattle.usb_world.specs.{World, asks_no_port}
 use Rattle.usb_transaction.specs.{Target}

@@ -5,7 +5,7 @@ use Rattle.usb_request.specs.{PORT_ENABLE, PORT_RESET, PORT_POWER}
 use Rattle.usb_port.specs.{IsPath, IsPortNumber, PortStatus}
 use Rattle.usb_device.specs.{OnlyStage, State, Location, path_to, reach_on, state_on}
 use Rattle.usb_world.specs.{after_reset, after_taking, Relation, Was, EachWas, World}
-use Rattle.usb_tree.specs.{is_way}
+use Rattle.usb_tree.specs.{address_of, is_way}
 use Rattle.usb_pipe.specs.{PipeFault}
 use Rattle.usb_address.specs.{AddressMap, map_without, MapHolds, WhileBusWorks, KeepsAddresses}
 use Rattle.usb_hub.specs.declared.port.HubPort.{HubPort}
@@ -20,6 +20,11 @@ StaysAs x s v = OnlyStage s v
 abbrev pub EachElsewhere : List ℕ → Relation → World → World → Type 0
 EachElsewhere path R old new = (x : Location) (s : State) → is_way path (path_to x) ≡ false
     → reach_on new.roots x ≡ true → state_on new.roots x ≡ Some s → Was R old x s
+
+-- so it is of each such device that has an address
+abbrev pub EachNamedElsewhere : List ℕ → Relation → World → World → Type 0
+EachNamedElsewhere path R old new = (x : Location) (s : State) → is_way path (path_to x) ≡ false
+    → reach_on new.roots x ≡ true → state_on new.roots x ≡ Some s → address_of s ≢ 0 → Was R old x s
 
 -- where no address was held twice, each device that is reachable was so before, and stays as it was
 pub record KeepsDevices (old new : World) : Type 0 where
@@ -49,7 +54,8 @@ pub record Isolates (port : HubPort) (old new : World) : Type 0 where
 
 -- where address 0 is claimed at the port or below it alone: the device there has address 0, and
 -- none below it is reachable; or all have what they had.
--- As long as the bus is at work, devices elsewhere stay as they were.
+-- As long as the bus is at work, devices elsewhere stay as they were; also where it has given up,
+-- those that have an address do.
 pub record Resets (port : HubPort) (old new : World) : Type 0 where
   pub resets : (f : AddressMap) (p : List ℕ) → IsAt f port p
       → ((x : List ℕ) → f x ≡ Some 0 → is_way p x ≡ true) → WhileBusWorks (MapHolds f) old
@@ -57,6 +63,9 @@ pub record Resets (port : HubPort) (old new : World) : Type 0 where
   pub others : (f : AddressMap) (p : List ℕ) → IsAt f port p
       → ((x : List ℕ) → f x ≡ Some 0 → is_way p x ≡ true) → WhileBusWorks (MapHolds f) old
       → new.fault ≡ None → EachElsewhere p StaysAs old new
+  pub named : (f : AddressMap) (p : List ℕ) → IsAt f port p
+      → ((x : List ℕ) → f x ≡ Some 0 → is_way p x ≡ true) → WhileBusWorks (MapHolds f) old
+      → EachNamedElsewhere p StaysAs old new
 
 -- where a path alone claims the target's address, and none claims the new one beside it: the device
 -- there has the new one, or all have what they had

@@ -8,7 +8,7 @@ pub mod CallFailures
 pub mod Changes
 pub mod ControlSteps
 -- the words of this crate, wherever one stands
-pub use Addresses.{EachElsewhere, GivesAddress, IsAt, IsBelow, IsClaimed, Isolates, KeepsAnswered}
+pub use Addresses.{EachElsewhere, EachNamedElsewhere, GivesAddress, IsAt, IsBelow, IsClaimed, Isolates, KeepsAnswered}
 pub use Addresses.{KeepsAsked, KeepsCleared, KeepsDevices, KeepsSet, Resets, StaysAs}
 pub use GivenAnswers.{ConfigAsked, DeviceAsked, HasText, HubAsked, ReadAsked, ReadFailure}
 pub use GivenAnswers.{StatusAsked, StringAsked, TextAsked, config_given, device_given, hub_given}

@@ -5,7 +5,7 @@ use Rattle.usb_request.specs.{clear_port_feature}
 use Rattle.usb_port.specs.{IsPortNumber, seen, status_in, PortStatus}
 use Rattle.usb_world.specs.{World, IsRootPort, AttemptsWithin, root_row, roots_of, to_come}
 use Rattle.usb_world.specs.{root_port_at, changes, SetsRoot, ClearsRoot}
-use Rattle.usb_bus.specs.{Traced, StepRun}
+use Rattle.usb_bus.specs.{Traced, Steps}
 use Rattle.usb_transaction.specs.{IsTarget}
 use Rattle.usb_pipe.specs.{PipeFault, control_bound, write_bound}
 use Rattle.usb_hub.specs.declared.port.HubPort.{HubPort}
@@ -67,10 +67,12 @@ pub record RootCleared (number feature : ℕ) (old : World) (result : Result (Un
 
 -- the set of a port's feature as a course of the bus: PORT_RESET sets no C_PORT_CONNECTION of the
 -- root, PORT_POWER may
-abbrev pub SetSteps : HubPort → ℕ → World → Option (List ℕ) → World → Option (List ℕ) → Type 0
-SetSteps (Root number) feature old before new now = Traced old before new now
-    × (feature ≡ PORT_RESET → AttemptsWithin 0 old new)
-SetSteps (External hub port) feature old before new now = StepRun write_bound old before new now
+abbrev pub SetSteps : {S : Type 0} → (S → World) → (S → Option (List ℕ)) → HubPort → ℕ → ℕ → S → S
+    → Type 0
+SetSteps world trace (Root number) feature n old new =
+    Traced (world old) (trace old) (world new) (trace new)
+    × (feature ≡ PORT_RESET → AttemptsWithin n (world old) (world new))
+SetSteps world trace (External hub port) feature n old new = Steps world trace n old new
 
 abbrev pub PortRead : HubPort → World → Result PortStatus PipeFault → World → Type 0
 PortRead (Root number) old result new = RootRead number old result new

@@ -3,7 +3,8 @@ ghost use Rattle.std.specs.Prelude.{◌≡◌, ◌≤◌, true};
 ghost use Rattle.usb_transaction.specs.Transactions.{IsTarget};
 ghost use Rattle.usb_request.specs.Layout.{IsToHost, IsToDevice};
 ghost use Rattle.usb_pipe.specs.Control.{BusToldIt, control_bound, write_bound};
-ghost use Rattle.usb_bus.specs.Traces.{Spends, Steps};
+ghost use Rattle.usb_pipe.specs.Uses.{UsesBus};
+ghost use Rattle.usb_bus.specs.Traces.{Steps};
 ghost use Rattle.usb_address.specs.Ownership.{KeepsAddresses};
 ghost use Rattle.usb_hub.specs.Addresses.{KeepsAnswered};
 ghost use Rattle.usb_hub.specs.Requests.{Queried, ReadAs, Commanded};
@@ -26,10 +27,8 @@ pub(crate) fn ask<B: Bus>(
     requires target { IsTarget target }
     requires reads { IsToHost setup }
     requires some { 1 ≤ setup.length }
-    ensures any_bus { Spends B.spent B.ports (control_bound target.max setup.length) bus.old bus.new
-        × BusToldIt result (B.failed bus.new) }
-    ensures steps { B.modelled ≡ true
-        → Steps B.world B.trace (control_bound target.max setup.length) bus.old bus.new }
+    ensures uses { UsesBus B.modelled (Steps B.world B.trace) B.spent B.ports B.failed
+        (control_bound target.max setup.length) (BusToldIt result) bus.old bus.new }
     ensures asked { B.modelled ≡ true
         → Queried target setup (B.world bus.old) result (B.world bus.new) }
     ensures addresses { B.modelled ≡ true
@@ -53,10 +52,8 @@ pub(crate) fn ask_all<B: Bus, const N: usize>(
     requires reads { IsToHost setup }
     requires some { 1 ≤ setup.length }
     requires size { setup.length ≡ N }
-    ensures any_bus { Spends B.spent B.ports (control_bound target.max setup.length) bus.old bus.new
-        × BusToldIt result (B.failed bus.new) }
-    ensures steps { B.modelled ≡ true
-        → Steps B.world B.trace (control_bound target.max setup.length) bus.old bus.new }
+    ensures uses { UsesBus B.modelled (Steps B.world B.trace) B.spent B.ports B.failed
+        (control_bound target.max setup.length) (BusToldIt result) bus.old bus.new }
     ensures told { B.modelled ≡ true
         → ReadAs (λ bytes. bytes) target setup (B.world bus.old) result (B.world bus.new) }
     ensures keeps { B.modelled ≡ true → KeepsAddresses (B.world bus.old) (B.world bus.new) }
@@ -77,9 +74,8 @@ pub(crate) fn order<B: Bus>(bus: &mut B, target: Target, setup: Setup) -> Result
     requires target { IsTarget target }
     requires writes { IsToDevice setup }
     requires none { setup.length ≡ 0 }
-    ensures any_bus { Spends B.spent B.ports write_bound bus.old bus.new
-        × BusToldIt result (B.failed bus.new) }
-    ensures steps { B.modelled ≡ true → Steps B.world B.trace write_bound bus.old bus.new }
+    ensures uses { UsesBus B.modelled (Steps B.world B.trace) B.spent B.ports B.failed
+        write_bound (BusToldIt result) bus.old bus.new }
     ensures ordered { B.modelled ≡ true
         → Commanded target setup (B.world bus.old) result (B.world bus.new) }
 {

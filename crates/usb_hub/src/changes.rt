@@ -3,7 +3,8 @@
 ghost use Rattle.std.specs.Prelude.{◌+◌, ◌*◌, ◌≡◌, true, IfErr};
 ghost use Rattle.usb_transaction.specs.Transactions.{IsTarget};
 ghost use Rattle.usb_pipe.specs.Control.{BusToldIt, FaultAfter, control_bound, write_bound};
-ghost use Rattle.usb_bus.specs.Traces.{Spends, Steps};
+ghost use Rattle.usb_pipe.specs.Uses.{UsesBus};
+ghost use Rattle.usb_bus.specs.Traces.{Steps};
 ghost use Rattle.usb_address.specs.Ownership.{KeepsAddresses};
 ghost use Rattle.usb_hub.specs.Addresses.{KeepsDevices};
 ghost use Rattle.usb_request.specs.HubRequests.{get_hub_status};
@@ -27,9 +28,8 @@ use usb_request::hub_feature::{C_HUB_LOCAL_POWER, C_HUB_OVER_CURRENT};
 /// Those of `control_none` but `Stalled`.
 pub fn clear_port_change<B: Bus>(bus: &mut B, port: HubPort, feature: u16) -> Result<(), PipeFault>
     requires { IsAsked B.modelled (B.world bus.old) port }
-    ensures any_bus { Spends B.spent B.ports (order_bound port) bus.old bus.new
-        × BusToldIt result (B.failed bus.new) }
-    ensures steps { B.modelled ≡ true → Steps B.world B.trace (order_bound port) bus.old bus.new }
+    ensures uses { UsesBus B.modelled (Steps B.world B.trace) B.spent B.ports B.failed
+        (order_bound port) (BusToldIt result) bus.old bus.new }
     ensures fault { B.modelled ≡ true
         → IfErr result (λ fault. FaultAfter 1 (B.world bus.old) fault (B.world bus.new)) }
     ensures addresses { B.modelled ≡ true → KeepsAddresses (B.world bus.old) (B.world bus.new) }
@@ -55,11 +55,8 @@ pub fn clear_port_change<B: Bus>(bus: &mut B, port: HubPort, feature: u16) -> Re
 #[tactic(auto, using(usb_address::proofs::Interface::keeps_then, usb_bus::proofs::Interface::went_wider))]
 pub fn clear_hub_changes<B: Bus>(alloc: Global, bus: &mut B, hub: Target) -> Result<(), PipeFault>
     requires { IsTarget hub }
-    ensures any_bus { Spends B.spent B.ports
-        (control_bound hub.max 4 + 2 * write_bound) bus.old bus.new
-        × BusToldIt result (B.failed bus.new) }
-    ensures steps { B.modelled ≡ true
-        → Steps B.world B.trace (control_bound hub.max 4 + 2 * write_bound) bus.old bus.new }
+    ensures uses { UsesBus B.modelled (Steps B.world B.trace) B.spent B.ports B.failed
+        (control_bound hub.max 4 + 2 * write_bound) (BusToldIt result) bus.old bus.new }
     ensures fault { B.modelled ≡ true → ToldBus result (B.world bus.new) }
     ensures addresses { B.modelled ≡ true → KeepsAddresses (B.world bus.old) (B.world bus.new) }
     ensures cleared { B.modelled ≡ true
@@ -74,10 +71,8 @@ pub fn clear_hub_changes<B: Bus>(alloc: Global, bus: &mut B, hub: Target) -> Res
 /// The status of a hub itself (11.24.2.6).
 fn own_status<B: Bus>(alloc: Global, bus: &mut B, hub: Target) -> Result<HubStatus, PipeFault>
     requires { IsTarget hub }
-    ensures any_bus { Spends B.spent B.ports (control_bound hub.max 4) bus.old bus.new
-        × BusToldIt result (B.failed bus.new) }
-    ensures steps { B.modelled ≡ true
-        → Steps B.world B.trace (control_bound hub.max 4) bus.old bus.new }
+    ensures uses { UsesBus B.modelled (Steps B.world B.trace) B.spent B.ports B.failed
+        (control_bound hub.max 4) (BusToldIt result) bus.old bus.new }
     ensures told { B.modelled ≡ true
         → ReadAs hub_status hub get_hub_status (B.world bus.old) result (B.world bus.new) }
     ensures addresses { B.modelled ≡ true → KeepsAddresses (B.world bus.old) (B.world bus.new) }
@@ -90,9 +85,8 @@ fn own_status<B: Bus>(alloc: Global, bus: &mut B, hub: Target) -> Result<HubStat
 #[tactic(auto, using(usb_address::proofs::Interface::keeps_then, usb_bus::proofs::Interface::went_wider))]
 fn clear_each<B: Bus>(bus: &mut B, hub: Target, status: HubStatus) -> Result<(), PipeFault>
     requires { IsTarget hub }
-    ensures any_bus { Spends B.spent B.ports (2 * write_bound) bus.old bus.new
-        × BusToldIt result (B.failed bus.new) }
-    ensures steps { B.modelled ≡ true → Steps B.world B.trace (2 * write_bound) bus.old bus.new }
+    ensures uses { UsesBus B.modelled (Steps B.world B.trace) B.spent B.ports B.failed
+        (2 * write_bound) (BusToldIt result) bus.old bus.new }
     ensures fault { B.modelled ≡ true → ToldBus result (B.world bus.new) }
     ensures addresses { B.modelled ≡ true → KeepsAddresses (B.world bus.old) (B.world bus.new) }
     ensures cleared { B.modelled ≡ true
@@ -106,9 +100,8 @@ fn clear_each<B: Bus>(bus: &mut B, hub: Target, status: HubStatus) -> Result<(),
 #[tactic(auto, using(usb_address::proofs::Interface::keeps_none, usb_bus::proofs::Interface::went_wider, usb_bus::proofs::Interface::went_none))]
 fn clear_told<B: Bus>(bus: &mut B, hub: Target, told: bool, feature: u16) -> Result<(), PipeFault>
     requires { IsTarget hub }
-    ensures any_bus { Spends B.spent B.ports write_bound bus.old bus.new
-        × BusToldIt result (B.failed bus.new) }
-    ensures steps { B.modelled ≡ true → Steps B.world B.trace write_bound bus.old bus.new }
+    ensures uses { UsesBus B.modelled (Steps B.world B.trace) B.spent B.ports B.failed
+        write_bound (BusToldIt result) bus.old bus.new }
     ensures fault { B.modelled ≡ true → ToldBus result (B.world bus.new) }
     ensures addresses { B.modelled ≡ true → KeepsAddresses (B.world bus.old) (B.world bus.new) }
     ensures cleared { B.modelled ≡ true

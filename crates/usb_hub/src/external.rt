@@ -5,7 +5,8 @@ ghost use Rattle.usb_port.specs.Status.{status_in};
 ghost use Rattle.usb_request.specs.declared.feature.TheConstants.{PORT_RESET};
 ghost use Rattle.usb_request.specs.Requests.{get_port_status, set_port_feature as set_feature, clear_port_feature as clear_feature};
 ghost use Rattle.usb_pipe.specs.Control.{BusToldIt, control_bound, write_bound};
-ghost use Rattle.usb_bus.specs.Traces.{Spends, Steps};
+ghost use Rattle.usb_pipe.specs.Uses.{UsesBus};
+ghost use Rattle.usb_bus.specs.Traces.{Steps};
 ghost use Rattle.usb_address.specs.Ownership.{KeepsAddresses};
 ghost use Rattle.usb_hub.specs.Addresses.{KeepsDevices};
 ghost use Rattle.usb_hub.specs.Requests.{ReadAs, Commanded};
@@ -27,10 +28,8 @@ pub fn hub_port_status<B: Bus>(
     port: u8,
 ) -> Result<PortStatus, PipeFault>
     requires { IsTarget hub }
-    ensures any_bus { Spends B.spent B.ports (control_bound hub.max 4) bus.old bus.new
-        × BusToldIt result (B.failed bus.new) }
-    ensures steps { B.modelled ≡ true
-        → Steps B.world B.trace (control_bound hub.max 4) bus.old bus.new }
+    ensures uses { UsesBus B.modelled (Steps B.world B.trace) B.spent B.ports B.failed
+        (control_bound hub.max 4) (BusToldIt result) bus.old bus.new }
     ensures told { B.modelled ≡ true → ReadAs status_in hub (get_port_status port)
         (B.world bus.old) result (B.world bus.new) }
     ensures keeps { B.modelled ≡ true → KeepsAddresses (B.world bus.old) (B.world bus.new) }
@@ -53,9 +52,8 @@ pub fn set_hub_port<B: Bus>(
     feature: u16,
 ) -> Result<(), PipeFault>
     requires { IsTarget hub }
-    ensures any_bus { Spends B.spent B.ports write_bound bus.old bus.new
-        × BusToldIt result (B.failed bus.new) }
-    ensures steps { B.modelled ≡ true → Steps B.world B.trace write_bound bus.old bus.new }
+    ensures uses { UsesBus B.modelled (Steps B.world B.trace) B.spent B.ports B.failed
+        write_bound (BusToldIt result) bus.old bus.new }
     ensures ordered { B.modelled ≡ true → Commanded hub (set_feature feature port)
         (B.world bus.old) result (B.world bus.new) }
     ensures keeps { B.modelled ≡ true
@@ -79,9 +77,8 @@ pub fn clear_hub_port<B: Bus>(
     feature: u16,
 ) -> Result<(), PipeFault>
     requires { IsTarget hub }
-    ensures any_bus { Spends B.spent B.ports write_bound bus.old bus.new
-        × BusToldIt result (B.failed bus.new) }
-    ensures steps { B.modelled ≡ true → Steps B.world B.trace write_bound bus.old bus.new }
+    ensures uses { UsesBus B.modelled (Steps B.world B.trace) B.spent B.ports B.failed
+        write_bound (BusToldIt result) bus.old bus.new }
     ensures ordered { B.modelled ≡ true → Commanded hub (clear_feature feature port)
         (B.world bus.old) result (B.world bus.new) }
     ensures keeps { B.modelled ≡ true → KeepsAddresses (B.world bus.old) (B.world bus.new) }

@@ -3,7 +3,8 @@
 //! # What is proved
 //!
 //! What a call tells is said of a bus that does what its world does (`modelled` of `usb_bus::Bus`). Over any bus: at
-//! most how many attempts it makes, and that a fault of the bus is the one that it reported last.
+//! most how many attempts it makes, and that a fault of the bus is the one that it reported last. Each call says both in
+//! its clause `uses`, with the steps of a modelled bus (`usb_pipe/specs/Uses.antt`).
 //!
 //! Each typed call makes its own request, with the length, index, language, address or value that it was given, and
 //! says which stages that request went through (the *stages* of usb_pipe); it makes at most as many attempts as its
@@ -46,8 +47,8 @@
 //! - Calls at a hub's port fail only where three attempts running are damaged, or the hub is not reached, does not hear
 //!   its target, is not configured or has no such port (`HubServes`, `usb_hub/specs/CallFailures.antt`).
 //! - But for PORT_RESET, a call at a port leaves each device that is still reachable as it was, but for where its
-//!   transfer stands on endpoint 0 (`KeepsDevices`); PORT_RESET does so of each that is not at the port nor below it
-//!   (`Resets`).
+//!   transfer stands on endpoint 0 (`KeepsDevices`); PORT_RESET does so of each that is not at the port nor below it,
+//!   and where the bus gave up of each of these that has an address (`Resets`).
 #![tactic(auto)]
 
 mod asking;

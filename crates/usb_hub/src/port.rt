@@ -1,9 +1,10 @@
 //! The ports of hubs, the root's among them.
 ghost use Rattle.std.specs.Prelude.{IfErr, ◌≡◌, ◌≤◌, true};
 ghost use Rattle.usb_port.specs.Calls.{set_call, clear_call, IsSetFeature, IsClearFeature};
-ghost use Rattle.usb_bus.specs.Traces.{Spends, Steps};
+ghost use Rattle.usb_bus.specs.Traces.{Steps};
 ghost use Rattle.usb_world.specs.Worlds.{IsRootPort};
 ghost use Rattle.usb_pipe.specs.Control.{BusToldIt, FaultAfter};
+ghost use Rattle.usb_pipe.specs.Uses.{UsesBus};
 ghost use Rattle.usb_hub.specs.Addresses.{KeepsAsked, KeepsSet, KeepsCleared};
 ghost use Rattle.usb_hub.specs.Moments.{ReadsPort, CommandsPort};
 ghost use Rattle.usb_hub.specs.Port.{IsAsked, PortRead, SetSteps, PortSet, PortCleared, status_bound, order_bound};
@@ -40,9 +41,8 @@ pub fn port_status<B: Bus>(
     port: HubPort,
 ) -> Result<PortStatus, PipeFault>
     requires { IsAsked B.modelled (B.world bus.old) port }
-    ensures any_bus { Spends B.spent B.ports (status_bound port) bus.old bus.new
-        × BusToldIt result (B.failed bus.new) }
-    ensures steps { B.modelled ≡ true → Steps B.world B.trace (status_bound port) bus.old bus.new }
+    ensures uses { UsesBus B.modelled (Steps B.world B.trace) B.spent B.ports B.failed
+        (status_bound port) (BusToldIt result) bus.old bus.new }
     ensures fault { B.modelled ≡ true
         → IfErr result (λ fault. FaultAfter 1 (B.world bus.old) fault (B.world bus.new)) }
     ensures status { B.modelled ≡ true → PortRead port (B.world bus.old) result (B.world bus.new) }
@@ -72,10 +72,8 @@ pub fn set_port<B: Bus>(bus: &mut B, port: HubPort, feature: u16) -> Result<(), 
     requires port { IsAsked B.modelled (B.world bus.old) port }
     requires named { IsSetFeature feature }
     // PORT_POWER of a root port may set its C_PORT_CONNECTION.
-    ensures any_bus { Spends B.spent B.ports (order_bound port) bus.old bus.new
-        × BusToldIt result (B.failed bus.new) }
-    ensures steps { B.modelled ≡ true → SetSteps port feature (B.world bus.old) (B.trace bus.old)
-        (B.world bus.new) (B.trace bus.new) }
+    ensures uses { UsesBus B.modelled (SetSteps B.world B.trace port feature)
+        B.spent B.ports B.failed (order_bound port) (BusToldIt result) bus.old bus.new }
     ensures fault { B.modelled ≡ true
         → IfErr result (λ fault. FaultAfter 1 (B.world bus.old) fault (B.world bus.new)) }
     ensures effect { B.modelled ≡ true
@@ -107,9 +105,8 @@ pub fn set_port<B: Bus>(bus: &mut B, port: HubPort, feature: u16) -> Result<(), 
 pub fn clear_port<B: Bus>(bus: &mut B, port: HubPort, feature: u16) -> Result<(), PipeFault>
     requires port { IsAsked B.modelled (B.world bus.old) port }
     requires named { IsClearFeature feature }
-    ensures any_bus { Spends B.spent B.ports (order_bound port) bus.old bus.new
-        × BusToldIt result (B.failed bus.new) }
-    ensures steps { B.modelled ≡ true → Steps B.world B.trace (order_bound port) bus.old bus.new }
+    ensures uses { UsesBus B.modelled (Steps B.world B.trace) B.spent B.ports B.failed
+        (order_bound port) (BusToldIt result) bus.old bus.new }
     ensures fault { B.modelled ≡ true
         → IfErr result (λ fault. FaultAfter 1 (B.world bus.old) fault (B.world bus.new)) }
     ensures effect { B.modelled ≡ true

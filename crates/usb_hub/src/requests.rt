@@ -1,11 +1,12 @@
 //! The standard's requests to a device (9.4).
 ghost use Rattle.std.specs.Prelude.{◌≡◌, ◌≤◌, false, true};
-ghost use Rattle.usb_bus.specs.Traces.{Spends, Steps};
+ghost use Rattle.usb_bus.specs.Traces.{Steps};
 ghost use Rattle.usb_world.specs.Devices.{EachWas};
 ghost use Rattle.usb_request.specs.Codes.{HUB_LENGTH};
 ghost use Rattle.usb_transaction.specs.Transactions.{IsTarget};
 ghost use Rattle.usb_transaction.specs.Failures.{NoThreeDamaged};
 ghost use Rattle.usb_pipe.specs.Control.{BusToldIt, control_bound, write_bound};
+ghost use Rattle.usb_pipe.specs.Uses.{UsesBus};
 ghost use Rattle.usb_pipe.specs.Failures.{WriteFailure};
 ghost use Rattle.usb_request.specs.Requests.{get_device_descriptor, get_configuration_descriptor, get_string_descriptor, get_hub_descriptor, get_status as status_request, set_address as address_request, set_configuration as configuration_request};
 ghost use Rattle.usb_address.specs.Ownership.{KeepsAddresses};
@@ -33,10 +34,8 @@ pub fn get_device<B: Bus>(
 ) -> Result<Vec<u8>, PipeFault>
     requires target { IsTarget target }
     requires some { 1 ≤ length }
-    ensures any_bus { Spends B.spent B.ports (control_bound target.max length) bus.old bus.new
-        × BusToldIt result (B.failed bus.new) }
-    ensures steps { B.modelled ≡ true
-        → Steps B.world B.trace (control_bound target.max length) bus.old bus.new }
+    ensures uses { UsesBus B.modelled (Steps B.world B.trace) B.spent B.ports B.failed
+        (control_bound target.max length) (BusToldIt result) bus.old bus.new }
     ensures asked { B.modelled ≡ true → Queried target (get_device_descriptor length)
         (B.world bus.old) result (B.world bus.new) }
     ensures what { B.modelled ≡ true → (B.world bus.new).shared ≡ false
@@ -66,10 +65,8 @@ pub fn get_config<B: Bus>(
 ) -> Result<Vec<u8>, PipeFault>
     requires target { IsTarget target }
     requires some { 1 ≤ length }
-    ensures any_bus { Spends B.spent B.ports (control_bound target.max length) bus.old bus.new
-        × BusToldIt result (B.failed bus.new) }
-    ensures steps { B.modelled ≡ true
-        → Steps B.world B.trace (control_bound target.max length) bus.old bus.new }
+    ensures uses { UsesBus B.modelled (Steps B.world B.trace) B.spent B.ports B.failed
+        (control_bound target.max length) (BusToldIt result) bus.old bus.new }
     ensures asked { B.modelled ≡ true → Queried target (get_configuration_descriptor index length)
         (B.world bus.old) result (B.world bus.new) }
     ensures what { B.modelled ≡ true → (B.world bus.new).shared ≡ false
@@ -102,10 +99,8 @@ pub fn get_string<B: Bus>(
     language: u16,
 ) -> Result<Vec<u8>, PipeFault>
     requires target { IsTarget target }
-    ensures any_bus { Spends B.spent B.ports (control_bound target.max 255) bus.old bus.new
-        × BusToldIt result (B.failed bus.new) }
-    ensures steps { B.modelled ≡ true
-        → Steps B.world B.trace (control_bound target.max 255) bus.old bus.new }
+    ensures uses { UsesBus B.modelled (Steps B.world B.trace) B.spent B.ports B.failed
+        (control_bound target.max 255) (BusToldIt result) bus.old bus.new }
     ensures asked { B.modelled ≡ true → Queried target (get_string_descriptor index language)
         (B.world bus.old) result (B.world bus.new) }
     ensures what { B.modelled ≡ true → (B.world bus.new).shared ≡ false
@@ -135,10 +130,8 @@ pub fn hub_descriptor<B: Bus>(
     target: Target,
 ) -> Result<Vec<u8>, PipeFault>
     requires { IsTarget target }
-    ensures any_bus { Spends B.spent B.ports (control_bound target.max HUB_LENGTH) bus.old bus.new
-        × BusToldIt result (B.failed bus.new) }
-    ensures steps { B.modelled ≡ true
-        → Steps B.world B.trace (control_bound target.max HUB_LENGTH) bus.old bus.new }
+    ensures uses { UsesBus B.modelled (Steps B.world B.trace) B.spent B.ports B.failed
+        (control_bound target.max HUB_LENGTH) (BusToldIt result) bus.old bus.new }
     ensures asked { B.modelled ≡ true
         → Queried target get_hub_descriptor (B.world bus.old) result (B.world bus.new) }
     ensures what { B.modelled ≡ true → (B.world bus.new).shared ≡ false
@@ -162,10 +155,8 @@ pub fn get_status<B: Bus>(
     target: Target,
 ) -> Result<DeviceStatus, PipeFault>
     requires { IsTarget target }
-    ensures any_bus { Spends B.spent B.ports (control_bound target.max 2) bus.old bus.new
-        × BusToldIt result (B.failed bus.new) }
-    ensures steps { B.modelled ≡ true
-        → Steps B.world B.trace (control_bound target.max 2) bus.old bus.new }
+    ensures uses { UsesBus B.modelled (Steps B.world B.trace) B.spent B.ports B.failed
+        (control_bound target.max 2) (BusToldIt result) bus.old bus.new }
     ensures told { B.modelled ≡ true → ReadAs device_status target status_request
         (B.world bus.old) result (B.world bus.new) }
     ensures what { B.modelled ≡ true → (B.world bus.new).shared ≡ false
@@ -190,9 +181,8 @@ pub fn set_address<B: Bus>(bus: &mut B, target: Target, address: u8) -> Result<(
     requires target { IsTarget target }
     requires least { 1 ≤ address }
     requires most { address ≤ 127 }
-    ensures any_bus { Spends B.spent B.ports write_bound bus.old bus.new
-        × BusToldIt result (B.failed bus.new) }
-    ensures steps { B.modelled ≡ true → Steps B.world B.trace write_bound bus.old bus.new }
+    ensures uses { UsesBus B.modelled (Steps B.world B.trace) B.spent B.ports B.failed
+        write_bound (BusToldIt result) bus.old bus.new }
     ensures ordered { B.modelled ≡ true → Commanded target (address_request address)
         (B.world bus.old) result (B.world bus.new) }
     ensures what { B.modelled ≡ true → (B.world bus.new).shared ≡ false
@@ -216,9 +206,8 @@ pub fn set_address<B: Bus>(bus: &mut B, target: Target, address: u8) -> Result<(
 #[tactic(auto, using(crate::proofs::AddressesKept::configured, crate::proofs::Settings::configuration_asked, crate::proofs::Settings::configuration_why))]
 pub fn set_configuration<B: Bus>(bus: &mut B, target: Target, value: u8) -> Result<(), PipeFault>
     requires target { IsTarget target }
-    ensures any_bus { Spends B.spent B.ports write_bound bus.old bus.new
-        × BusToldIt result (B.failed bus.new) }
-    ensures steps { B.modelled ≡ true → Steps B.world B.trace write_bound bus.old bus.new }
+    ensures uses { UsesBus B.modelled (Steps B.world B.trace) B.spent B.ports B.failed
+        write_bound (BusToldIt result) bus.old bus.new }
     ensures ordered { B.modelled ≡ true → Commanded target (configuration_request value)
         (B.world bus.old) result (B.world bus.new) }
     ensures what { B.modelled ≡ true → (B.world bus.new).shared ≡ false

@@ -12,3 +12,4 @@ pub use Rattle.usb_pipe.proofs.ControlSteps.{never_three, transacted_ended, host
 pub use Rattle.usb_pipe.proofs.ControlTransfers.{is_some_byte, read_leaves, read_why, write_leaves}
 pub use Rattle.usb_pipe.proofs.ControlTransfers.{write_losses, write_why}
 pub use Rattle.usb_pipe.proofs.InterruptPolls.{poll_tells, polling_why}
+pub use Rattle.usb_pipe.proofs.Uses.{uses_as, uses_none, uses_then, uses_wider}

@@ -11,3 +11,4 @@ pub mod ControlTransfers
 pub mod Answerers
 pub mod BulkTransfers
 pub mod TransferLosses
+pub mod Uses

@@ -9,6 +9,7 @@ pub mod Leaves
 pub mod Failures
 pub mod Attempts
 pub mod Transfers
+pub mod Uses
 -- the words of this crate, wherever one stands
 pub use Control.{BusToldIt, FaultAfter, as_pipe_fault, ends_stage, write_bound}
 unfoldable pub use Control.{byte_bound, control_bound}
@@ -32,5 +33,6 @@ pub use Failures.{ControlReadFailure, PollingFailure, ReceiveFailure, SendFailur
 pub use Attempts.{IsOfTransfer, TransferAttempts}
 pub use Transfers.{BulkClear, BulkReceive, BulkSend, Completed, ControlRead, ControlWrite}
 pub use Transfers.{InterruptPoll, Undamaged, Unshared}
+pub use Uses.{UsesBus}
 pub use declared.condition.Condition.{Condition}
 pub use declared.fault.PipeFault.{PipeFault}

@@ -13,3 +13,10 @@ returns-clause-asked g c known = record {
   backlog = reads_backlog c.args.target c.args.setup c.control_in.result _ _ c.requires.reads
       (c.control_in.ensures.transfer known).settled (c.control_in.ensures.transfer known).stages;
 }
+
+pub returns-clause-uses : goal.returns-clause-uses
+returns-clause-uses g c = record {
+  spends = c.control_in.ensures.any_bus.0;
+  told = c.control_in.ensures.any_bus.1;
+  steps = c.control_in.ensures.steps;
+}

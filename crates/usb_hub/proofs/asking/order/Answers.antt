@@ -18,3 +18,10 @@ returns-clause-ordered g c known = record {
   elsewhere = order_elsewhere c.args.target c.args.setup c.control_none.result _ _
       (c.control_none.ensures.transfer known).stages;
 }
+
+pub returns-clause-uses : goal.returns-clause-uses
+returns-clause-uses g c = record {
+  spends = c.control_none.ensures.any_bus.0;
+  told = c.control_none.ensures.any_bus.1;
+  steps = c.control_none.ensures.steps;
+}

@@ -1,6 +1,6 @@
 use Rattle.std.proofs.Common.{arith, refl, subst}
 use Rattle.usb_request.specs.{C_HUB_LOCAL_POWER}
-use Rattle.usb_bus.proofs.Interface.{went_then, went_wider}
+use Rattle.usb_pipe.proofs.Interface.{uses_then, uses_wider}
 use Rattle.usb_hub.specs.{ClearsIfReported, both, first_failed}
 use Rattle.std.proofs.lemmas.Result.{err_from_is_err_and}
 use Rattle.usb_hub.proofs.changes.clear_each.Goals as goal
@@ -21,6 +21,6 @@ returns-clause-cleared g c known =
     c.in_ok-clear_told.was (c.clear_told.ensures.cleared known))
     (c.clear_told-2.ensures.cleared known)
 
-pub returns-clause-steps : goal.returns-clause-steps
-returns-clause-steps g c known = went_wider _ _ (went_then _ _ (c.clear_told.ensures.steps known)
-    (c.clear_told-2.ensures.steps known)) (omega arith)
+pub returns-clause-uses : goal.returns-clause-uses
+returns-clause-uses g c =
+    uses_wider (uses_then c.clear_told.ensures.uses c.clear_told-2.ensures.uses) (omega arith)

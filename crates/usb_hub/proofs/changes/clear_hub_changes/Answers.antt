@@ -1,6 +1,6 @@
 use Rattle.std.proofs.Common.{refl, subst}
 use Rattle.usb_request.specs.{get_hub_status}
-use Rattle.usb_bus.proofs.Interface.{went_then}
+use Rattle.usb_pipe.proofs.Interface.{uses_then}
 use Rattle.usb_hub.specs.{hub_status, not_told, told, ReadAs}
 use Rattle.usb_hub.proofs.HubChanges.{told_bus}
 use Rattle.usb_hub.proofs.changes.clear_hub_changes.Goals as goal
@@ -22,6 +22,5 @@ returns-in-Err-clause-cleared g c known =
     (g.B.Bus.world c.args.bus.now) r (g.B.Bus.world c.own_status.new.bus)) c.in-Err.is
     (c.own_status.ensures.told known)) refl
 
-pub returns-in-Ok-clause-steps : goal.returns-in-Ok-clause-steps
-returns-in-Ok-clause-steps g c known = went_then _ _ (c.own_status.ensures.steps known)
-    (c.clear_each.ensures.steps known)
+pub returns-in-Ok-clause-uses : goal.returns-in-Ok-clause-uses
+returns-in-Ok-clause-uses g c = uses_then c.own_status.ensures.uses c.clear_each.ensures.uses

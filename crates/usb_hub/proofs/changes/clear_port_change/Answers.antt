@@ -1,17 +1,13 @@
 use Rattle.std.proofs.Common.{refl}
-use Rattle.usb_bus.proofs.Interface.{went_none}
+use Rattle.usb_pipe.proofs.Interface.{uses_none}
 use Rattle.usb_hub.proofs.HubChanges.{done_fault_after}
 use Rattle.usb_hub.proofs.changes.clear_port_change.Goals as goal
 
-pub returns-in-Root-clause-steps : goal.returns-in-Root-clause-steps
-returns-in-Root-clause-steps g c known = rw c.in-Root.is went_none
+pub returns-in-Root-clause-uses : goal.returns-in-Root-clause-uses
+returns-in-Root-clause-uses g c = uses_none tt
 
 pub returns-in-Root-clause-cleared : goal.returns-in-Root-clause-cleared
 returns-in-Root-clause-cleared g c known = rw c.in-Root.is (refl, refl)
-
-pub returns-in-External-clause-steps : goal.returns-in-External-clause-steps
-returns-in-External-clause-steps g c known =
-    rw c.in-External.is (c.clear_hub_port-cleared.ensures.steps known)
 
 pub returns-in-External-clause-fault : goal.returns-in-External-clause-fault
 returns-in-External-clause-fault g c known =

@@ -1,4 +1,4 @@
-use Rattle.std.proofs.Common.{◌≡◌, rules, true}
+use Rattle.std.proofs.Common.{◌≡◌, arith, refl, true}
 use Rattle.usb_bus.specs.{still}
 use Rattle.usb_bus.proofs.Interface.{traced_cleared}
 use Rattle.usb_hub.proofs.Calls.{root_clears, hub_clears}
@@ -12,17 +12,20 @@ returns-else-not-has_root-clause-effect g c known = port_cleared-root c.args.por
     (asked_port g.B.Bus.modelled (g.B.Bus.world c.args.bus.now) c.args.port known c.requires.port)
     c.requires.named (c.root_clear.ensures.call known)
 
-pub returns-else-not-has_root-clause-steps : goal.returns-else-not-has_root-clause-steps
-returns-else-not-has_root-clause-steps g c known = record {
-  spends = cleared_spends-root c.args.port _ _ _ _ c.in-Root.is
-      (returns-else-not-has_root-clause-effect g c known);
-  traced = traced_cleared _ _ c.requires.named still (c.root_clear.ensures.call known)
-      (c.root_clear.ensures.silent known);
+pub returns-else-not-has_root-clause-uses : goal.returns-else-not-has_root-clause-uses
+returns-else-not-has_root-clause-uses g c = record {
+  spends = rw c.in-Root.is c.root_clear.ensures.unspent;
+  told = tt;
+  steps = λ known. record {
+    spends = cleared_spends-root c.args.port _ _ _ _ c.in-Root.is
+        (returns-else-not-has_root-clause-effect g c known);
+    traced = traced_cleared _ _ c.requires.named still (c.root_clear.ensures.call known)
+        (c.root_clear.ensures.silent known);
+  };
 }
 
-pub returns-in-External-clause-steps : goal.returns-in-External-clause-steps
-returns-in-External-clause-steps g c known =
-    rw c.in-External.is (c.clear_hub_port.ensures.steps known)
+pub returns-in-External-clause-uses : goal.returns-in-External-clause-uses
+returns-in-External-clause-uses g c = rw c.in-External.is c.clear_hub_port.ensures.uses
 
 pub returns-else-not-has_root-clause-addresses : goal.returns-else-not-has_root-clause-addresses
 returns-else-not-has_root-clause-addresses g c known = root_clear_keeps_port c.args.port _ _ _ _
@@ -47,8 +50,11 @@ returns-then-not-has_root g c =
     let there = λ (known : g.B.Bus.modelled ≡ true). c.has_root.ensures.known known (asked-root
     g.B.Bus.modelled (g.B.Bus.world c.args.bus.now) c.in-Root.is c.requires.port known) in
     record {
-      any_bus = search rules;
-      steps = λ known. absurd (cc (c.if-not-has_root.true, there known));
+      uses = record {
+        spends = (omega arith, refl);
+        told = tt;
+        steps = λ known. absurd (cc (c.if-not-has_root.true, there known));
+      };
       fault = λ known. absurd (cc (c.if-not-has_root.true, there known));
       effect = λ known. absurd (cc (c.if-not-has_root.true, there known));
       addresses = λ known. absurd (cc (c.if-not-has_root.true, there known));

@@ -1,16 +1,15 @@
-use Rattle.std.proofs.Common.{◌≡◌, rules, true}
-use Rattle.usb_bus.proofs.Interface.{went_none}
+use Rattle.std.proofs.Common.{◌≡◌, arith, refl, rules, true}
+use Rattle.usb_pipe.proofs.Interface.{uses_none}
 use Rattle.usb_hub.proofs.AddressesKept.{status_keeps, hub_status_keeps}
 use Rattle.usb_hub.proofs.Moments.{root_tells, hub_tells}
 use Rattle.usb_hub.proofs.Ports.{asked-root, asked_port}
 use Rattle.usb_hub.proofs.port.port_status.Goals as goal
 
-pub returns-else-not-has_root-clause-steps : goal.returns-else-not-has_root-clause-steps
-returns-else-not-has_root-clause-steps g c known = rw c.in-Root.is went_none
+pub returns-else-not-has_root-clause-uses : goal.returns-else-not-has_root-clause-uses
+returns-else-not-has_root-clause-uses g c = uses_none tt
 
-pub returns-in-External-clause-steps : goal.returns-in-External-clause-steps
-returns-in-External-clause-steps g c known =
-    rw c.in-External.is (c.hub_port_status.ensures.steps known)
+pub returns-in-External-clause-uses : goal.returns-in-External-clause-uses
+returns-in-External-clause-uses g c = rw c.in-External.is c.hub_port_status.ensures.uses
 
 pub returns-else-not-has_root-clause-status : goal.returns-else-not-has_root-clause-status
 returns-else-not-has_root-clause-status g c known = search rules
@@ -45,8 +44,11 @@ returns-then-not-has_root g c =
     let there = λ (known : g.B.Bus.modelled ≡ true). c.has_root.ensures.known known (asked-root
     g.B.Bus.modelled (g.B.Bus.world c.args.bus.now) c.in-Root.is c.requires known) in
     record {
-      any_bus = search rules;
-      steps = λ known. absurd (cc (c.if-not-has_root.true, there known));
+      uses = record {
+        spends = (omega arith, refl);
+        told = tt;
+        steps = λ known. absurd (cc (c.if-not-has_root.true, there known));
+      };
       fault = λ known. absurd (cc (c.if-not-has_root.true, there known));
       status = λ known. absurd (cc (c.if-not-has_root.true, there known));
       told = λ known. absurd (cc (c.if-not-has_root.true, there known));
