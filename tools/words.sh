@@ -128,11 +128,13 @@ check_command() {
 
 # Answers words that ask for no work of the program.
 answer_words() {
+  local version
   case "${1-}" in
     '') ;;
     -h | --help) tell_help usbplan ;;
     -V | --version)
-      printf 'usbplan %s (%s)\n' "$(sed -n 's/^const VERSION: &str = "\(.*\)";/\1/p' "$here/crates/usb_words/src/words.rt")" "not built yet"
+      version=$(sed -n 's/^const VERSION: &str = "\(.*\)";/\1/p' "$here/crates/usb_words/src/words.rt")
+      echo "usbplan $version (not built yet)"
       exit 2
       ;;
     help) shift && help_with "$@" ;;
